@@ -1,0 +1,164 @@
+-- Laws of the state that a table holds: what a load reads, and what a store changes.
+-- Assumes nothing.
+use Prim.Native.Nat.{ℕ, zero, suc, _+_, _*_, _≤_, _<_}
+use mathlib.Core.Path.{_≡_, refl, sym, ap, _∙_, subst}
+use mathlib.Core.List.{List, [], _∷_, _++_, map}
+use native.Mathlib.Nat.{add-zero}
+use native.Mathlib.Omega.{arith}
+use lib.ListN.{length, getD, set, List·getD-map, length-map}
+use Rattle.records.specs.declared.Peer.{Peer}
+use Rattle.records.specs.declared.TopicRecord.{TopicRecord}
+use Rattle.records.specs.Records.{State, noPeer, noTopic, joinedIn, codeIn, peerIn, topicIn, setClock, setJoined, setPeer, setTopic}
+use Rattle.cells.specs.Rows.{tab, span, put, rows}
+use Rattle.cells.specs.View.{joinedAt, codesAt, peersAt, peerCells, topicsAt, topicCells, placeCount, cellCount, peerOf, topicOf, peerFrom, topicFrom, cellsOfPeer, cellsOfTopic, stateOf, setCode}
+use Rattle.cells.proofs.RowLaws.{tab-getD, getD-rows, length-rows, rows-put-same, rows-put-before, rows-put-after, span-put-before, span-put-after, getD-put-before, getD-put-in, put-one, span-put-one, getD-span, length-span}
+
+pub map-set : {A B : Type 0} (f : A → B) (l : List A) (i : ℕ) (v : A) → map f (set l i v) ≡ set (map f l) i (f v)
+map-set f [] i v = refl
+map-set f (x ∷ xs) zero v = refl
+map-set f (x ∷ xs) (suc i) v = ap (λ r. f x ∷ r) (map-set f xs i v)
+
+-- ---- a load
+
+pub clock-load : (cells : List ℕ) → getD cells 0 0 ≡ stateOf cells .clock
+unfolding stateOf
+clock-load cells = refl
+
+pub joined-load : (cells : List ℕ) (t : ℕ) → t < 8 → getD cells (joinedAt + t) 0 ≡ joinedIn (stateOf cells) t
+unfolding stateOf joinedIn
+joined-load cells t h = sym (getD-span cells joinedAt 8 t h)
+
+pub code-load : (cells : List ℕ) (i : ℕ) → i < 147 → getD cells (codesAt + i) 0 ≡ codeIn (stateOf cells) i
+unfolding stateOf codeIn
+code-load cells i h = sym (getD-span cells codesAt 147 i h)
+
+pub peer-load : (cells : List ℕ) (s : ℕ) → s < 64 → peerFrom cells (peersAt + s * peerCells) ≡ peerIn (stateOf cells) s
+unfolding peerIn stateOf peerOf span
+peer-load cells s h =
+    let e : getD (map peerOf (rows cells peersAt peerCells 64)) s noPeer ≡ peerOf (span cells (peersAt + s * peerCells) peerCells) =
+    List·getD-map peerOf (rows cells peersAt peerCells 64) s [] ∙ ap peerOf (getD-rows cells peersAt peerCells 64 s h) in
+    sym (e ∙ rw add-zero)
+
+pub topic-load : (cells : List ℕ) (k : ℕ) → k < placeCount → topicFrom cells (topicsAt + k * topicCells) ≡ topicIn (stateOf cells) k
+unfolding topicIn stateOf topicOf span
+topic-load cells k h =
+    let e : getD (map topicOf (rows cells topicsAt topicCells placeCount)) k noTopic ≡ topicOf (span cells (topicsAt + k * topicCells) topicCells) =
+    List·getD-map topicOf (rows cells topicsAt topicCells placeCount) k [] ∙ ap topicOf (getD-rows cells topicsAt topicCells placeCount k h) in
+    sym (e ∙ rw add-zero)
+
+-- ---- a record, to cells and back
+
+eight :
+    (l : List ℕ) →
+    length l ≡ 8 →
+    getD l 0 0 ∷ getD l 1 0 ∷ getD l 2 0 ∷ getD l 3 0 ∷ getD l 4 0 ∷ getD l 5 0 ∷ getD l 6 0 ∷ getD l 7 0 ∷ [] ≡ l
+eight l e = subst (λ n. tab n (λ k. getD l k 0) ≡ l) e (tab-getD l 0)
+
+pub peer-back : (p : Peer) → length (p .backoff) ≡ 8 → peerOf (cellsOfPeer p) ≡ p
+unfolding peerOf cellsOfPeer
+peer-back p e =
+    λ i. record {
+      status = p .status;
+      id = p .id;
+      group = p .group;
+      outbound = p .outbound;
+      explicit = p .explicit;
+      version = p .version;
+      p5 = p .p5;
+      p7 = p .p7;
+      retain = p .retain;
+      backoff = eight (p .backoff) e i;
+    }
+
+pub topic-back : (t : TopicRecord) → topicOf (cellsOfTopic t) ≡ t
+unfolding topicOf cellsOfTopic
+topic-back t = refl
+
+pub peer-count : (p : Peer) → length (cellsOfPeer p) ≡ peerCells
+unfolding cellsOfPeer
+peer-count p = refl
+
+pub topic-count : (t : TopicRecord) → length (cellsOfTopic t) ≡ topicCells
+unfolding cellsOfTopic
+topic-count t = refl
+
+-- ---- a store
+
+module _ (cells : List ℕ) (size : length cells ≡ cellCount) where
+  pub clock-store : (n : ℕ) → stateOf (set cells 0 n) ≡ setClock (stateOf cells) n
+  unfolding stateOf setClock
+  clock-store n =
+      let f : 0 + length (n ∷ []) ≤ length cells = omega arith in
+      ap stateOf (sym (put-one cells 0 n (omega arith)))
+      ∙ λ i. record {
+        clock = getD-put-in cells 0 (n ∷ []) f 0 (omega arith) i;
+        joined = span-put-after cells 0 (n ∷ []) f joinedAt 8 (omega arith) i;
+        codes = span-put-after cells 0 (n ∷ []) f codesAt 147 (omega arith) i;
+        peers = ap (map peerOf) (rows-put-after cells peersAt peerCells 64 0 (n ∷ []) f (omega arith)) i;
+        topics = ap (map topicOf) (rows-put-after cells topicsAt topicCells placeCount 0 (n ∷ []) f (omega arith)) i;
+      }
+
+  pub joined-store : (t b : ℕ) → t < 8 → stateOf (set cells (joinedAt + t) b) ≡ setJoined (stateOf cells) t b
+  unfolding stateOf setJoined
+  joined-store t b h =
+      let f : (joinedAt + t) + length (b ∷ []) ≤ length cells = omega arith in
+      ap stateOf (sym (put-one cells (joinedAt + t) b (omega arith)))
+      ∙ λ i. record {
+        clock = getD-put-before cells (joinedAt + t) (b ∷ []) f 0 (omega arith) i;
+        joined = span-put-one cells joinedAt 8 t b h (omega arith) i;
+        codes = span-put-after cells (joinedAt + t) (b ∷ []) f codesAt 147 (omega arith) i;
+        peers = ap (map peerOf) (rows-put-after cells peersAt peerCells 64 (joinedAt + t) (b ∷ []) f (omega arith)) i;
+        topics = ap (map topicOf) (rows-put-after cells topicsAt topicCells placeCount (joinedAt + t) (b ∷ []) f (omega arith)) i;
+      }
+
+  pub code-store : (k c : ℕ) → k < 147 → stateOf (set cells (codesAt + k) c) ≡ setCode (stateOf cells) k c
+  unfolding stateOf setCode
+  code-store k c h =
+      let f : (codesAt + k) + length (c ∷ []) ≤ length cells = omega arith in
+      ap stateOf (sym (put-one cells (codesAt + k) c (omega arith)))
+      ∙ λ i. record {
+        clock = getD-put-before cells (codesAt + k) (c ∷ []) f 0 (omega arith) i;
+        joined = span-put-before cells (codesAt + k) (c ∷ []) f joinedAt 8 (omega arith) i;
+        codes = span-put-one cells codesAt 147 k c h (omega arith) i;
+        peers = ap (map peerOf) (rows-put-after cells peersAt peerCells 64 (codesAt + k) (c ∷ []) f (omega arith)) i;
+        topics = ap (map topicOf) (rows-put-after cells topicsAt topicCells placeCount (codesAt + k) (c ∷ []) f (omega arith)) i;
+      }
+
+  pub peer-store :
+      (s : ℕ) (p : Peer) →
+      s < 64 →
+      length (p .backoff) ≡ 8 →
+      stateOf (put cells (peersAt + s * peerCells) (cellsOfPeer p)) ≡ setPeer (stateOf cells) s p
+  unfolding stateOf setPeer
+  peer-store s p h e =
+      let n : length (cellsOfPeer p) ≡ peerCells = peer-count p in
+      let f : (peersAt + s * peerCells) + length (cellsOfPeer p) ≤ length cells = omega arith in
+      λ i. record {
+        clock = getD-put-before cells (peersAt + s * peerCells) (cellsOfPeer p) f 0 (omega arith) i;
+        joined = span-put-before cells (peersAt + s * peerCells) (cellsOfPeer p) f joinedAt 8 (omega arith) i;
+        codes = span-put-before cells (peersAt + s * peerCells) (cellsOfPeer p) f codesAt 147 (omega arith) i;
+        peers =
+          (ap (map peerOf) (rows-put-same cells peersAt peerCells 64 s (cellsOfPeer p) h n (omega arith))
+          ∙ map-set peerOf (rows cells peersAt peerCells 64) s (cellsOfPeer p)
+          ∙ ap (set (map peerOf (rows cells peersAt peerCells 64)) s) (peer-back p e)) i;
+        topics = ap (map topicOf) (rows-put-after cells topicsAt topicCells placeCount (peersAt + s * peerCells) (cellsOfPeer p) f (omega arith)) i;
+      }
+
+  pub topic-store :
+      (k : ℕ) (t : TopicRecord) →
+      k < placeCount →
+      stateOf (put cells (topicsAt + k * topicCells) (cellsOfTopic t)) ≡ setTopic (stateOf cells) k t
+  unfolding stateOf setTopic
+  topic-store k t h =
+      let n : length (cellsOfTopic t) ≡ topicCells = topic-count t in
+      let f : (topicsAt + k * topicCells) + length (cellsOfTopic t) ≤ length cells = omega arith in
+      λ i. record {
+        clock = getD-put-before cells (topicsAt + k * topicCells) (cellsOfTopic t) f 0 (omega arith) i;
+        joined = span-put-before cells (topicsAt + k * topicCells) (cellsOfTopic t) f joinedAt 8 (omega arith) i;
+        codes = span-put-before cells (topicsAt + k * topicCells) (cellsOfTopic t) f codesAt 147 (omega arith) i;
+        peers = ap (map peerOf) (rows-put-before cells peersAt peerCells 64 (topicsAt + k * topicCells) (cellsOfTopic t) f (omega arith)) i;
+        topics =
+          (ap (map topicOf) (rows-put-same cells topicsAt topicCells placeCount k (cellsOfTopic t) h n (omega arith))
+          ∙ map-set topicOf (rows cells topicsAt topicCells placeCount) k (cellsOfTopic t)
+          ∙ ap (set (map topicOf (rows cells topicsAt topicCells placeCount)) k) (topic-back t)) i;
+      }

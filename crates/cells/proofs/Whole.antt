@@ -1,0 +1,86 @@
+-- The state and the table determine each other.
+-- Assumes nothing.
+use Prim.Native.Nat.{ℕ, zero, suc, _+_, _*_, _≤_, _<_}
+use mathlib.Core.Path.{_≡_, refl, sym, ap, _∙_, subst}
+use mathlib.Core.List.{List, [], _∷_, _++_, map, append-assoc}
+use native.Mathlib.Nat.{suc-mul, zero-mul, add-zero, zero-add, add-assoc, add-comm}
+use native.Mathlib.Omega.{arith}
+use lib.ListN.{length, getD}
+use Rattle.cells.specs.Rows.{tab, span, rows, joins}
+use Rattle.cells.specs.View.{joinedAt, codesAt, peersAt, peerCells, topicsAt, topicCells, placeCount, cellCount, peerOf, topicOf, cellsOfPeer, cellsOfTopic, stateOf, cellsOf}
+use Rattle.cells.proofs.RowLaws.{tab-same, tab-getD}
+
+tab-append : {A : Type 0} (m n : ℕ) (f : ℕ → A) → tab m f ++ tab n (λ k. f (m + k)) ≡ tab (m + n) f
+tab-append zero n f = tab-same n (λ k. f (0 + k)) f (λ k h. ap f (zero-add k)) ∙ ap (λ k. tab k f) (sym (zero-add n))
+tab-append (suc m) n f =
+  let e : suc m + n ≡ suc (m + n) = omega arith in
+  ap (λ l. f zero ∷ (tab m (λ k. f (suc k)) ++ l)) (tab-same n (λ k. f (suc m + k)) (λ k. f (suc (m + k))) (λ k h. ap f (shift k)))
+  ∙ ap (λ l. f zero ∷ l) (tab-append m n (λ k. f (suc k)))
+  ∙ ap (λ k. tab k f) (sym e)
+  where
+    shift : (k : ℕ) → suc m + k ≡ suc (m + k)
+    shift k = omega arith
+
+pub span-append : (c : List ℕ) (at m n : ℕ) → span c at m ++ span c (at + m) n ≡ span c at (m + n)
+unfolding span
+span-append c at m n =
+  ap (λ l. tab m (λ k. getD c (at + k) 0) ++ l)
+    (tab-same n (λ k. getD c ((at + m) + k) 0) (λ k. getD c (at + (m + k)) 0) (λ k h. ap (λ i. getD c i 0) (add-assoc at m k)))
+  ∙ tab-append m n (λ k. getD c (at + k) 0)
+
+pub span-all : (c : List ℕ) → span c 0 (length c) ≡ c
+unfolding span
+span-all c = tab-same (length c) (λ k. getD c (0 + k) 0) (λ k. getD c k 0) (λ k h. ap (λ i. getD c i 0) (zero-add k)) ∙ tab-getD c 0
+
+-- the records of a region, one after the other, are the region's cells
+joins-rows : {A : Type 0} (g : List ℕ → A) (f : A → List ℕ) (c : List ℕ) (w : ℕ)
+  → ((at : ℕ) → f (g (span c at w)) ≡ span c at w)
+  → (o n : ℕ) → joins f (map g (rows c o w n)) ≡ span c o (n * w)
+unfolding joins rows span
+joins-rows g f c w back o zero = ap (λ k. span c o k) (sym (zero-mul w))
+joins-rows g f c w back o (suc n) =
+  ap (λ l. l ++ joins f (map g (tab n (λ i. span c (o + suc i * w) w)))) (back (o + 0 * w) ∙ ap (λ k. span c k w) first)
+  ∙ ap (λ l. span c o w ++ joins f (map g l)) (tab-same n (λ i. span c (o + suc i * w) w) (λ i. span c ((o + w) + i * w) w) (λ i h. ap (λ k. span c k w) (step i)))
+  ∙ ap (λ l. span c o w ++ l) (joins-rows g f c w back (o + w) n)
+  ∙ span-append c o w (n * w)
+  ∙ ap (λ k. span c o k) (add-comm w (n * w) ∙ sym (suc-mul n w))
+  where
+    first : o + 0 * w ≡ o
+    first = ap (λ k. o + k) (zero-mul w) ∙ add-zero o
+    step : (i : ℕ) → o + suc i * w ≡ (o + w) + i * w
+    step i = let e : suc i * w ≡ i * w + w = suc-mul i w in omega arith
+
+peer-cells : (c : List ℕ) (at : ℕ) → cellsOfPeer (peerOf (span c at peerCells)) ≡ span c at peerCells
+unfolding cellsOfPeer peerOf span
+peer-cells c at = refl
+
+topic-cells : (c : List ℕ) (at : ℕ) → cellsOfTopic (topicOf (span c at topicCells)) ≡ span c at topicCells
+unfolding cellsOfTopic topicOf span
+topic-cells c at = refl
+
+head : (c : List ℕ) → getD c 0 0 ∷ span c joinedAt 8 ≡ span c 0 codesAt
+unfolding span
+head c = refl
+
+-- a table of the right length is the cells of its state
+pub whole : (c : List ℕ) → length c ≡ cellCount → cellsOf (stateOf c) ≡ c
+unfolding cellsOf stateOf
+whole c e =
+    ap
+    (λ l. l ++ span c codesAt 147 ++ joins cellsOfPeer (map peerOf (rows c peersAt peerCells 64)) ++ joins cellsOfTopic (map topicOf (rows c topicsAt topicCells placeCount)))
+    (head c)
+    ∙ ap
+    (λ l. l ++ joins cellsOfPeer (map peerOf (rows c peersAt peerCells 64)) ++ joins cellsOfTopic (map topicOf (rows c topicsAt topicCells placeCount)))
+    (span-append c 0 codesAt 147)
+    ∙ ap
+    (λ l. span c 0 peersAt ++ l ++ joins cellsOfTopic (map topicOf (rows c topicsAt topicCells placeCount)))
+    (joins-rows peerOf cellsOfPeer c peerCells (peer-cells c) peersAt 64)
+    ∙ ap (λ l. span c 0 peersAt ++ span c peersAt 1088 ++ l) (joins-rows topicOf cellsOfTopic c topicCells (topic-cells c) topicsAt placeCount)
+    ∙ ap (λ l. l ++ span c topicsAt 4096) (span-append c 0 peersAt 1088)
+    ∙ span-append c 0 topicsAt 4096
+    ∙ ap (λ n. span c 0 n) (sym e)
+    ∙ span-all c
+
+-- the state fixes every cell
+pub determined : (a b : List ℕ) → length a ≡ cellCount → length b ≡ cellCount → stateOf a ≡ stateOf b → a ≡ b
+determined a b p q e = sym (whole a p) ∙ ap cellsOf e ∙ whole b q

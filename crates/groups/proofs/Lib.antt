@@ -1,0 +1,3 @@
+pub mod GroupLaws
+pub mod CodeLaws
+pub mod Bits
