@@ -2,7 +2,15 @@
 //! alone (quoted as "01" throughout), to be compared with the first by running.
 
 pub mod child;
-pub mod generate_params;
+pub mod coverage;
+pub mod demand3;
+pub mod event;
+pub mod generate;
 pub mod groups;
 pub mod params;
 pub mod random;
+pub mod replay;
+pub mod router;
+pub mod shrink;
+pub mod text;
+pub mod trace;

@@ -148,10 +148,16 @@ impl Params {
     /// 01, answer 9: the first index out of its limits; if none, 200 + the
     /// first joint rule broken.
     pub fn first_broken(&self) -> Option<usize> {
+        self.first_broken_but(None)
+    }
+
+    /// The same, but a waived rule counts as kept.
+    pub fn first_broken_but(&self, waived: Option<usize>) -> Option<usize> {
         let out_of_limits = (0..COUNT).find(|&index| !self.within_limits(index));
         out_of_limits.or_else(|| {
             let kept = self.joint_rules();
-            kept.iter().position(|&kept| !kept).map(|rule| FIRST_RULE + rule)
+            let broken = |&rule: &usize| !kept[rule] && Some(rule) != waived;
+            (0..kept.len()).find(broken).map(|rule| FIRST_RULE + rule)
         })
     }
 
@@ -228,9 +234,10 @@ pub fn read_prefix(bytes: &[u8]) -> Result<(Params, usize), Refusal> {
     Ok((params, length))
 }
 
-/// A bad number, or the end of the bytes where a number should start, are
-/// both answered with the place where that number starts.
-fn read_numbers(bytes: &[u8]) -> Result<(Params, usize), Refusal> {
+/// Reads 147 numbers, good or not, at the start of the bytes. A bad number, and
+/// the end of the bytes where a number should start, are both answered with
+/// the place where that number starts.
+pub fn read_numbers(bytes: &[u8]) -> Result<(Params, usize), Refusal> {
     let mut numbers = [0; COUNT];
     let mut place = 0;
     for number in &mut numbers {
@@ -252,4 +259,16 @@ pub fn write(params: &Params, buffer: &mut [u8]) -> Result<usize, Refusal> {
     let bytes = params.to_bytes();
     buffer[..bytes.len()].copy_from_slice(&bytes);
     Ok(bytes.len())
+}
+
+/// What `show_params_ref` prints: `N PLACE` for a refusal; otherwise
+/// `0 LENGTH`, then the numbers, one to a line.
+pub fn show(bytes: &[u8]) -> String {
+    match read(bytes) {
+        Err(Refusal { number, place }) => format!("{number} {place}\n"),
+        Ok((params, length)) => {
+            let numbers = params.numbers.map(|number| format!("{number}\n")).concat();
+            format!("0 {length}\n{numbers}")
+        }
+    }
 }

@@ -28,6 +28,15 @@ impl Random {
         low + (self.next() % span) as i64
     }
 
+    /// The same, but each limit itself comes up in a quarter of the cases.
+    pub fn often_an_end(&mut self, low: i64, high: i64) -> i64 {
+        match self.below(4) {
+            0 => low,
+            1 => high,
+            _ => self.between(low, high),
+        }
+    }
+
     /// True in `part` of `whole` cases.
     pub fn chance(&mut self, part: usize, whole: usize) -> bool {
         self.below(whole) < part

@@ -5,13 +5,15 @@ use mathlib.Core.Path.{_≡_, refl, sym, ap, _∙_, subst}
 use mathlib.Core.List.{List, [], _∷_, _++_, map}
 use native.Mathlib.Nat.{add-zero}
 use native.Mathlib.Omega.{arith}
-use lib.ListN.{length, getD, set, List·getD-map, length-map}
+use lib.ListN.{length, getD, set, take, drop, List·getD-map, List·getD-eq-default}
+use lib.Seq.{getD-set-same, getD-set-other}
+use Rattle.index.proofs.Flags.{by-order}
 use Rattle.records.specs.declared.Peer.{Peer}
 use Rattle.records.specs.declared.TopicRecord.{TopicRecord}
 use Rattle.records.specs.Records.{State, noPeer, noTopic, joinedIn, codeIn, peerIn, topicIn, setClock, setJoined, setPeer, setTopic}
 use Rattle.cells.specs.Rows.{tab, span, put, rows}
-use Rattle.cells.specs.View.{joinedAt, codesAt, peersAt, peerCells, topicsAt, topicCells, placeCount, cellCount, peerOf, topicOf, peerFrom, topicFrom, cellsOfPeer, cellsOfTopic, stateOf, setCode}
-use Rattle.cells.proofs.RowLaws.{tab-getD, getD-rows, length-rows, rows-put-same, rows-put-before, rows-put-after, span-put-before, span-put-after, getD-put-before, getD-put-in, put-one, span-put-one, getD-span, length-span}
+use Rattle.cells.specs.View.{joinedAt, codesAt, peersAt, peerCells, topicsAt, topicCells, placeCount, cellCount, peerOf, topicOf, peerFrom, topicFrom, cellsOfPeer, cellsOfTopic, stateOf, setCode, setCodes, zeroState}
+use Rattle.cells.proofs.RowLaws.{tab-getD, getD-rows, rows-put-same, rows-put-before, rows-put-after, span-put-before, span-put-after, getD-put-before, getD-put-in, put-one, span-put-one, span-put-same, span-part, getD-span, zero-span, zero-rows}
 
 pub map-set : {A B : Type 0} (f : A → B) (l : List A) (i : ℕ) (v : A) → map f (set l i v) ≡ set (map f l) i (f v)
 map-set f [] i v = refl
@@ -45,6 +47,10 @@ topic-load cells k h =
     let e : getD (map topicOf (rows cells topicsAt topicCells placeCount)) k noTopic ≡ topicOf (span cells (topicsAt + k * topicCells) topicCells) =
     List·getD-map topicOf (rows cells topicsAt topicCells placeCount) k [] ∙ ap topicOf (getD-rows cells topicsAt topicCells placeCount k h) in
     sym (e ∙ rw add-zero)
+
+pub codes-load : (cells : List ℕ) → length cells ≡ cellCount → take 147 (drop codesAt cells) ≡ stateOf cells .codes
+unfolding stateOf
+codes-load cells e = span-part cells codesAt 147 (omega arith)
 
 -- ---- a record, to cells and back
 
@@ -124,6 +130,19 @@ module _ (cells : List ℕ) (size : length cells ≡ cellCount) where
         topics = ap (map topicOf) (rows-put-after cells topicsAt topicCells placeCount (codesAt + k) (c ∷ []) f (omega arith)) i;
       }
 
+  pub codes-store :
+      (vs : List ℕ) → length vs ≡ 147 → stateOf (put cells codesAt vs) ≡ setCodes (stateOf cells) vs
+  unfolding stateOf setCodes
+  codes-store vs e =
+      let f : codesAt + length vs ≤ length cells = omega arith in
+      λ i. record {
+        clock = getD-put-before cells codesAt vs f 0 (omega arith) i;
+        joined = span-put-before cells codesAt vs f joinedAt 8 (omega arith) i;
+        codes = (ap (span (put cells codesAt vs) codesAt) (sym e) ∙ span-put-same cells codesAt vs f) i;
+        peers = ap (map peerOf) (rows-put-after cells peersAt peerCells 64 codesAt vs f (omega arith)) i;
+        topics = ap (map topicOf) (rows-put-after cells topicsAt topicCells placeCount codesAt vs f (omega arith)) i;
+      }
+
   pub peer-store :
       (s : ℕ) (p : Peer) →
       s < 64 →
@@ -138,9 +157,9 @@ module _ (cells : List ℕ) (size : length cells ≡ cellCount) where
         joined = span-put-before cells (peersAt + s * peerCells) (cellsOfPeer p) f joinedAt 8 (omega arith) i;
         codes = span-put-before cells (peersAt + s * peerCells) (cellsOfPeer p) f codesAt 147 (omega arith) i;
         peers =
-          (ap (map peerOf) (rows-put-same cells peersAt peerCells 64 s (cellsOfPeer p) h n (omega arith))
-          ∙ map-set peerOf (rows cells peersAt peerCells 64) s (cellsOfPeer p)
-          ∙ ap (set (map peerOf (rows cells peersAt peerCells 64)) s) (peer-back p e)) i;
+            (ap (map peerOf) (rows-put-same cells peersAt peerCells 64 s (cellsOfPeer p) h n (omega arith))
+            ∙ map-set peerOf (rows cells peersAt peerCells 64) s (cellsOfPeer p)
+            ∙ ap (set (map peerOf (rows cells peersAt peerCells 64)) s) (peer-back p e)) i;
         topics = ap (map topicOf) (rows-put-after cells topicsAt topicCells placeCount (peersAt + s * peerCells) (cellsOfPeer p) f (omega arith)) i;
       }
 
@@ -158,7 +177,44 @@ module _ (cells : List ℕ) (size : length cells ≡ cellCount) where
         codes = span-put-before cells (topicsAt + k * topicCells) (cellsOfTopic t) f codesAt 147 (omega arith) i;
         peers = ap (map peerOf) (rows-put-before cells peersAt peerCells 64 (topicsAt + k * topicCells) (cellsOfTopic t) f (omega arith)) i;
         topics =
-          (ap (map topicOf) (rows-put-same cells topicsAt topicCells placeCount k (cellsOfTopic t) h n (omega arith))
-          ∙ map-set topicOf (rows cells topicsAt topicCells placeCount) k (cellsOfTopic t)
-          ∙ ap (set (map topicOf (rows cells topicsAt topicCells placeCount)) k) (topic-back t)) i;
+            (ap (map topicOf) (rows-put-same cells topicsAt topicCells placeCount k (cellsOfTopic t) h n (omega arith))
+            ∙ map-set topicOf (rows cells topicsAt topicCells placeCount) k (cellsOfTopic t)
+            ∙ ap (set (map topicOf (rows cells topicsAt topicCells placeCount)) k) (topic-back t)) i;
       }
+
+-- ---- a table of zeros
+
+pub zero-state : (cells : List ℕ) → ((k : ℕ) → getD cells k 0 ≡ 0) → stateOf cells ≡ zeroState
+unfolding stateOf zeroState peerOf topicOf
+zero-state cells z =
+    λ i. record {
+      clock = z 0 i;
+      joined = zero-span cells z joinedAt 8 i;
+      codes = zero-span cells z codesAt 147 i;
+      peers = zero-rows cells z peerOf peersAt peerCells 64 i;
+      topics = zero-rows cells z topicOf topicsAt topicCells placeCount i;
+    }
+
+-- zeros up to k, and one more; zeros up to the end
+pub zero-more :
+    (cells : List ℕ) (k : ℕ) →
+    k < length cells →
+    ((j : ℕ) → j < k → getD cells j 0 ≡ 0) →
+    (j : ℕ) →
+    j < k + 1 →
+    getD (set cells k 0) j 0 ≡ 0
+zero-more cells k b z j h =
+    by-order
+    (getD (set cells k 0) j 0 ≡ 0)
+    j
+    k
+    (λ (l : j < k). getD-set-other cells k j 0 0 (λ e. omega arith) ∙ z j l)
+    (λ (l : k ≤ j).
+    let e : j ≡ k = omega arith in
+    rw e (getD-set-same cells k 0 0 b))
+
+pub zero-all :
+    (cells : List ℕ) (k : ℕ) → length cells ≤ k → ((j : ℕ) → j < k → getD cells j 0 ≡ 0) → stateOf cells ≡ zeroState
+zero-all cells k b z =
+    zero-state cells (λ j.
+    by-order (getD cells j 0 ≡ 0) j k (λ (l : j < k). z j l) (λ (l : k ≤ j). List·getD-eq-default cells 0 {n = j} (omega arith)))

@@ -4,10 +4,10 @@
 use Prim.Native.Nat.{ℕ, _+_, _*_}
 use mathlib.Core.List.{List, [], _∷_, _++_, map}
 use mathlib.Core.Path.{_≡_}
-use lib.ListN.{length, getD, set}
+use lib.ListN.{length, getD, set, replicate}
 use Rattle.records.specs.declared.Peer.{Peer}
 use Rattle.records.specs.declared.TopicRecord.{TopicRecord}
-use Rattle.records.specs.Records.{State, peerIn}
+use Rattle.records.specs.Records.{State, noPeer, noTopic, peerIn}
 use Rattle.cells.specs.Rows.{span, rows, joins}
 
 -- the regions: the clock (cell 0), the joined flags, the codes of the parameters, the peers, the topic records
@@ -50,7 +50,7 @@ peerOf r =
       p7 = getD r 7 0;
       retain = getD r 8 0;
       backoff =
-        getD r 9 0 ∷ getD r 10 0 ∷ getD r 11 0 ∷ getD r 12 0 ∷ getD r 13 0 ∷ getD r 14 0 ∷ getD r 15 0 ∷ getD r 16 0 ∷ [];
+          getD r 9 0 ∷ getD r 10 0 ∷ getD r 11 0 ∷ getD r 12 0 ∷ getD r 13 0 ∷ getD r 14 0 ∷ getD r 15 0 ∷ getD r 16 0 ∷ [];
     }
 
 unfoldable pub cellsOfPeer : Peer → List ℕ
@@ -105,15 +105,15 @@ peerFrom cells b =
       p7 = getD cells (b + 7) 0;
       retain = getD cells (b + 8) 0;
       backoff =
-        getD cells (b + 9) 0
-        ∷ getD cells (b + 10) 0
-        ∷ getD cells (b + 11) 0
-        ∷ getD cells (b + 12) 0
-        ∷ getD cells (b + 13) 0
-        ∷ getD cells (b + 14) 0
-        ∷ getD cells (b + 15) 0
-        ∷ getD cells (b + 16) 0
-        ∷ [];
+          getD cells (b + 9) 0
+          ∷ getD cells (b + 10) 0
+          ∷ getD cells (b + 11) 0
+          ∷ getD cells (b + 12) 0
+          ∷ getD cells (b + 13) 0
+          ∷ getD cells (b + 14) 0
+          ∷ getD cells (b + 15) 0
+          ∷ getD cells (b + 16) 0
+          ∷ [];
     }
 
 abbrev pub topicFrom : List ℕ → ℕ → TopicRecord
@@ -152,6 +152,21 @@ cellsOf st =
 unfoldable pub setCode : State → ℕ → ℕ → State
 setCode st i c =
     record { clock = st .clock; joined = st .joined; codes = set (st .codes) i c; peers = st .peers; topics = st .topics }
+
+unfoldable pub setCodes : State → List ℕ → State
+setCodes st codes =
+    record { clock = st .clock; joined = st .joined; codes = codes; peers = st .peers; topics = st .topics }
+
+-- the state of a table of zeros
+unfoldable pub zeroState : State
+zeroState =
+    record {
+      clock = 0;
+      joined = replicate 8 0;
+      codes = replicate 147 0;
+      peers = replicate 64 noPeer;
+      topics = replicate placeCount noTopic;
+    }
 
 -- a state of a table's sizes
 pub record Sized (st : State) : Type 0 where

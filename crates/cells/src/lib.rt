@@ -5,8 +5,7 @@ ghost use Prim.Native.Nat.{ℕ, _+_, _*_, _≤_, _<_};
 ghost use lib.ListN.{length};
 ghost use Rattle.records.specs.Records.{joinedIn, codeIn, peerIn, topicIn, setClock, setJoined, setPeer, setTopic};
 ghost use Rattle.cells.specs.Rows.{put};
-ghost use Rattle.cells.specs.View.{cellCount, peerFrom, topicFrom, stateOf, setCode};
-
+ghost use Rattle.cells.specs.View.{cellCount, peerFrom, topicFrom, stateOf, setCode, setCodes, zeroState};
 use records::Peer;
 use records::TopicRecord;
 
@@ -128,6 +127,32 @@ pub fn store_code(cells: &mut [u64], i: usize, code: u64)
     cells[CODES_AT + i] = code;
 }
 
+// The codes of the parameters, side by side.
+pub fn codes(cells: &[u64]) -> &[u64]
+    requires { ⌜ length (now cells) ≡ cellCount ⌝ }
+    ensures { λ r. ⌜ now r ≡ stateOf (now (cells .entry)) .codes ⌝ }
+{
+    &cells[CODES_AT..PEERS_AT]
+}
+
+pub fn store_codes(cells: &mut [u64], codes: &[u64])
+    requires { ⌜ (length (now cells) ≡ cellCount) × (length (now codes) ≡ 147) ⌝ }
+    ensures { λ r. ⌜ stateOf (now (cells .exit)) ≡ setCodes (stateOf (now (cells .entry))) (now (codes .entry)) ⌝ }
+{
+    write_row(cells, CODES_AT, codes);
+}
+
+// Makes every cell 0, whatever stood there.
+pub fn clear(cells: &mut [u64])
+    ensures { λ r. ⌜ stateOf (now (cells .exit)) ≡ zeroState ⌝ }
+{
+    let mut k: usize = 0;
+    while k < cells.len() {
+        cells[k] = 0;
+        k += 1;
+    }
+}
+
 // The peer's record in slot `slot`.
 pub fn load_peer(cells: &[u64], slot: usize) -> Peer
     requires { ⌜ (length (now cells) ≡ cellCount) × (slot < 64) ⌝ }
@@ -142,8 +167,23 @@ pub fn store_peer(cells: &mut [u64], slot: usize, p: Peer)
 {
     let ends = p.backoff;
     let row = [
-        p.status, p.id, p.group, p.outbound, p.explicit, p.version, p.p5, p.p7, p.retain,
-        ends[0], ends[1], ends[2], ends[3], ends[4], ends[5], ends[6], ends[7],
+        p.status,
+        p.id,
+        p.group,
+        p.outbound,
+        p.explicit,
+        p.version,
+        p.p5,
+        p.p7,
+        p.retain,
+        ends[0],
+        ends[1],
+        ends[2],
+        ends[3],
+        ends[4],
+        ends[5],
+        ends[6],
+        ends[7],
     ];
     write_row(cells, PEERS_AT + slot * PEER_CELLS, &row);
 }
@@ -160,7 +200,16 @@ pub fn store_topic(cells: &mut [u64], k: usize, t: TopicRecord)
     requires { ⌜ (length (now cells) ≡ cellCount) × (k < 512) ⌝ }
     ensures { λ r. ⌜ stateOf (now (cells .exit)) ≡ setTopic (stateOf (now (cells .entry))) k t ⌝ }
 {
-    let row = [t.p2, t.p3, t.p4, t.p3b, t.subscribed, t.member, t.graft, t.mesh];
+    let row = [
+        t.p2,
+        t.p3,
+        t.p4,
+        t.p3b,
+        t.subscribed,
+        t.member,
+        t.graft,
+        t.mesh,
+    ];
     write_row(cells, TOPICS_AT + k * TOPIC_CELLS, &row);
 }
 

@@ -48,9 +48,9 @@ same-length c = search needs
 returns : tie.Need-returns
 unfolding cellsOfPeer
 returns c =
-  let s = c .before .before .before .before .before .before .before in
-  let g : length (s .args .p .backoff) ≡ 8 = search needs in
-  ap stateOf (c .before .before .write-row .ensures) ∙ peer-store (s .args .cells .now) (s .pre .0) (s .args .slot) (s .args .p) (s .pre .1) g
+    let s = c .before .before .before .before .before .before .before in
+    let g : length (s .args .p .backoff) ≡ 8 = search needs in
+    ap stateOf (c .before .before .write-row .ensures) ∙ peer-store (s .args .cells .now) (s .pre .0) (s .args .slot) (s .args .p) (s .pre .1) g
 
 pub store-peer-spec : {M : Type 1} → statement M
 store-peer-spec =

@@ -41,14 +41,14 @@ loop-less c = omega arith
 
 loop-again : tie.Need-loop-again Inv-loop μ-loop
 loop-again c =
-  let b = c .before .before in
-  let a = b .before .args in
-  ( omega arith
-  , length-set (b .loop .cells) (a .at + b .loop .k) (getD (a .row .now) (b .loop .k) 0) ∙ b .loop .inv .1
-  , ap (λ l. set l (a .at + b .loop .k) (getD (a .row .now) (b .loop .k) 0)) (b .loop .inv .2)
-    ∙ paste-suc (a .cells .now) (a .at) (a .row .now) (b .loop .k) 0 (omega arith) (omega arith)
-    ∙ ap (paste (a .cells .now) (a .at) (a .row .now)) (sym (add-one (b .loop .k)))
-  )
+    let b = c .before .before in
+    let a = b .before .args in (
+      omega arith,
+      length-set (b .loop .cells) (a .at + b .loop .k) (getD (a .row .now) (b .loop .k) 0) ∙ b .loop .inv .1,
+      ap (λ l. set l (a .at + b .loop .k) (getD (a .row .now) (b .loop .k) 0)) (b .loop .inv .2)
+          ∙ paste-suc (a .cells .now) (a .at) (a .row .now) (b .loop .k) 0 (omega arith) (omega arith)
+          ∙ ap (paste (a .cells .now) (a .at) (a .row .now)) (sym (add-one (b .loop .k))),
+    )
 
 same-length : tie.Need-same-length Inv-loop μ-loop
 same-length c = c .before .loop .inv .1
@@ -56,9 +56,9 @@ same-length c = c .before .loop .inv .1
 returns : tie.Need-returns Inv-loop μ-loop
 unfolding put
 returns c =
-  let a = c .before .before .args in
-  let e : c .before .loop .k ≡ length (a .row .now) = omega arith in
-  c .before .loop .inv .2 ∙ ap (paste (a .cells .now) (a .at) (a .row .now)) e
+    let a = c .before .before .args in
+    let e : c .before .loop .k ≡ length (a .row .now) = omega arith in
+    c .before .loop .inv .2 ∙ ap (paste (a .cells .now) (a .at) (a .row .now)) e
 
 pub write-row-spec : {M : Type 1} → statement M
 write-row-spec =

@@ -1,0 +1,18 @@
+-- The ordinary parameters pass the check: the search is computed.
+-- Assumes nothing.
+use mathlib.Core.Path.{_≡_, refl}
+use lib.ListN.{length}
+use Rattle.index.specs.Index.{first, every}
+use Rattle.index.specs.declared.Found.the-variants.{Nothing}
+use Rattle.params.specs.Limits.{limits, limitAt, inLimits}
+use Rattle.params.specs.Joint.{capRule, joint, rule}
+use Rattle.params.specs.Check.{outside, broken, firstBroken}
+use Rattle.params.specs.Ordinary.{ordinaryNumbers}
+
+pub ordinary-accepted : firstBroken ordinaryNumbers ≡ Nothing
+unfolding firstBroken first every outside broken inLimits limitAt limits rule joint capRule ordinaryNumbers
+ordinary-accepted = refl
+
+pub ordinary-length : length ordinaryNumbers ≡ 147
+unfolding ordinaryNumbers
+ordinary-length = refl

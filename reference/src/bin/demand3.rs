@@ -1,0 +1,142 @@
+//! Random lists of calls on the reference router, with the mission's demand 3
+//! checked after every call: `demand3 [LISTS] [CALLS] [SEED] [--without-rule]`.
+//! The flag waives the joint rule D_score + D_out ≤ D, and then looks for a
+//! list that breaks the demand, to show what the rule is for.
+
+use reference::demand3::{checked_call, is_tight, Lent};
+use reference::event::Call;
+use reference::generate::calls::Caller;
+use reference::generate::traces;
+use reference::params::{general, Params};
+use reference::random::Random;
+use reference::router::{Router, ACTION_LIST};
+use reference::shrink::shrink_trace;
+use reference::text::{self, Line, Trace};
+use std::process::ExitCode;
+
+const LISTS: u64 = 1000;
+const CALLS: u64 = 500;
+const SEED: u64 = 20_261_115;
+const USAGE: &str = "usage: demand3 [LISTS] [CALLS] [SEED] [--without-rule]";
+
+/// The place of D_score + D_out ≤ D among the joint rules.
+const RULE: usize = 4;
+
+#[derive(Default)]
+struct Counts {
+    calls: u64,
+    heartbeats: u64,
+    tight: u64,
+}
+
+fn main() -> ExitCode {
+    let arguments: Vec<String> = std::env::args().skip(1).collect();
+    match check(&arguments) {
+        Ok(true) => ExitCode::SUCCESS,
+        Ok(false) => ExitCode::FAILURE,
+        Err(message) => {
+            eprintln!("demand3: {message}");
+            ExitCode::from(2)
+        }
+    }
+}
+
+fn check(arguments: &[String]) -> Result<bool, String> {
+    let waive = arguments.iter().any(|word| word == "--without-rule");
+    let numbers = arguments.iter().filter(|word| !word.starts_with("--"));
+    let numbers: Vec<u64> = numbers
+        .map(|word| word.parse().map_err(|_| USAGE.to_string()))
+        .collect::<Result<_, String>>()?;
+    let number = |place: usize, otherwise| numbers.get(place).copied().unwrap_or(otherwise);
+    let (lists, calls, seed) = (number(0, LISTS), number(1, CALLS), number(2, SEED));
+    println!("seed {seed}");
+    let mut random = Random::new(seed);
+    let mut counts = Counts::default();
+    for list in 0..lists {
+        let mut random = Random::new(random.next());
+        let fresh = fresh_router(waive, &mut random);
+        if let Err((calls, message)) = run_list(&fresh, calls, random, &mut counts) {
+            report(&fresh, calls);
+            println!("demand3: broken in list {list}: {message}");
+            return Ok(waive);
+        }
+    }
+    let Counts { calls, heartbeats, tight } = counts;
+    println!("heartbeats done {heartbeats}, calls that left D_hi + 2 inbound members {tight}");
+    println!("demand3: {lists} lists, {calls} calls, never broken");
+    Ok(!waive)
+}
+
+fn fresh_router(waive: bool, random: &mut Random) -> Router {
+    let mut params = traces::params(random);
+    if !waive {
+        return Router::new(params).expect("the parameters are good");
+    }
+    break_rule(&mut params, random);
+    let mut router = Router::unchecked(params);
+    router.waived_rule = Some(RULE);
+    router
+}
+
+/// D_score still is at most D, so that only the one rule is broken.
+fn break_rule(params: &mut Params, random: &mut Random) {
+    let d = params.general(general::D);
+    let d_out = params.general(general::D_OUT);
+    params.numbers[general::D_SCORE] = random.between((d - d_out + 1).min(d), d);
+}
+
+/// Makes random calls; gives the calls made if the demand breaks.
+fn run_list(
+    fresh: &Router,
+    calls: u64,
+    mut random: Random,
+    counts: &mut Counts,
+) -> Result<(), (Vec<Lent>, String)> {
+    let scene = traces::scene(calls as usize, &mut random, true);
+    let mut caller = Caller::new(fresh.clone(), scene, random);
+    caller.plan_opening();
+    let mut made = Vec::new();
+    for _ in 0..calls {
+        let event = caller.next_event();
+        let short = caller.random.chance(1, 100);
+        let list = if short { caller.random.below(ACTION_LIST) } else { ACTION_LIST };
+        let lent = Lent { event, list };
+        made.push(lent.clone());
+        match checked_call(&mut caller.router, &lent) {
+            Err(message) => return Err((made, message)),
+            Ok(answer) => {
+                let heartbeat = matches!(lent.event.call, Call::Heartbeat { .. });
+                counts.heartbeats += u64::from(heartbeat && answer.is_ok());
+                counts.tight += u64::from(is_tight(&caller.router));
+                counts.calls += 1;
+            }
+        }
+    }
+    Ok(())
+}
+
+/// Prints the shortest list found that breaks the demand. A call with a short
+/// action list changes nothing, so it is left out.
+fn report(fresh: &Router, mut calls: Vec<Lent>) {
+    calls.retain(|lent| lent.list == ACTION_LIST);
+    let lines = calls.into_iter().map(|lent| Line::Event(lent.event)).collect();
+    let trace = Trace { params: Some(fresh.params.clone()), lines };
+    let trace = shrink_trace(trace, |trace| breaks(fresh.waived_rule, trace));
+    print!("{}", text::print(&trace));
+}
+
+fn breaks(waived_rule: Option<usize>, trace: &Trace) -> bool {
+    let Some(params) = trace.params.clone() else { return false };
+    if params.first_broken_but(waived_rule).is_some() {
+        return false;
+    }
+    let mut router = Router::unchecked(params);
+    router.waived_rule = waived_rule;
+    trace.lines.iter().any(|line| match line {
+        Line::Event(event) => {
+            let lent = Lent { event: event.clone(), list: ACTION_LIST };
+            checked_call(&mut router, &lent).is_err()
+        }
+        Line::Bytes(_) => false,
+    })
+}

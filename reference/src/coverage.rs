@@ -1,0 +1,308 @@
+//! Counts what generated traces reach: each call with each answer, and the
+//! cases inside the rules. A run that misses one of them proves too little.
+
+use crate::event::{Call, Event, CALL_NAMES};
+use crate::params::{self, topic};
+use crate::router::{number, Answer, GraftCase, Place, Refusal, Router};
+use crate::trace::Options;
+use std::collections::BTreeMap;
+use std::fmt::Write;
+
+/// The answers that 01 permits to each call and a trace can reach, in the order
+/// of the calls' kinds. A trace lends long lists and true tables, so 8 and 12
+/// are out of its reach.
+const ANSWERS: [&[u32]; 13] = [
+    &[0, 1, 2, 4, 5, 6],
+    &[0, 1, 2, 3],
+    &[0, 1, 2, 11],
+    &[0, 1, 2, 11],
+    &[0, 1, 2, 3, 11],
+    &[0, 1, 2, 3, 11],
+    &[0, 1, 2, 3, 11],
+    &[0, 1, 2, 3, 11],
+    &[0, 1, 2, 3, 11],
+    &[0, 1, 2, 3],
+    &[0, 1, 2, 7, 11],
+    &[0, 1, 2],
+    &[0, 1, 2, 3],
+];
+
+const COLUMNS: [u32; 9] = [0, 1, 2, 3, 4, 5, 6, 7, 11];
+
+const HEARTBEAT: &str = "heartbeat";
+
+/// The cases that every run reaches.
+const CASES: [&str; 42] = [
+    "connect: fresh slot",
+    "connect: resumed record",
+    "connect: own record reclaimed",
+    "connect: other records reclaimed",
+    "disconnect: member",
+    "leave: PRUNEs",
+    "leave: P3b grows",
+    "unsubscribe: member",
+    "graft: NotJoined",
+    "graft: Graylisted",
+    "graft: AlreadyMember",
+    "graft: Explicit",
+    "graft: BackoffRunning",
+    "graft: NegativeScore",
+    "graft: NotSubscribed",
+    "graft: FullForInbound",
+    "graft: Accepted",
+    "graft: outbound into a full mesh",
+    "graft: P7 at its limit",
+    "prune: member",
+    "prune: not a member",
+    "prune: the old end is later",
+    "prune: 0 seconds",
+    "prune: over 3600 seconds",
+    "delivery: first, member",
+    "delivery: first, not a member",
+    "delivery: near-first, member",
+    "delivery: near-first, not a member",
+    "delivery: invalid",
+    "delivery: P2 at its cap",
+    "delivery: P3 at its cap",
+    "delivery: P4 at its limit",
+    "score: negative",
+    "score: positive",
+    "score: P6 counts",
+    "heartbeat: step 1 PRUNEs",
+    "heartbeat: step 2 grafts",
+    "heartbeat: step 3 PRUNEs",
+    "heartbeat: swaps",
+    "heartbeat: step 4 grafts",
+    "heartbeat: step 5 grafts",
+    "heartbeat: nothing to do",
+];
+
+#[derive(Default)]
+pub struct Coverage {
+    calls: BTreeMap<(u64, u32), usize>,
+    cases: BTreeMap<String, usize>,
+}
+
+impl Coverage {
+    /// Counts a call with its answer, and its cases if it was heard.
+    pub fn count_call(&mut self, event: &Event, answer: &Answer, cases: &[(String, usize)]) {
+        *self.calls.entry((event.call.kind(), number(answer))).or_default() += 1;
+        if matches!(answer, Ok(_) | Err(Refusal::Ignored)) {
+            for (case, times) in cases {
+                *self.cases.entry(case.clone()).or_default() += times;
+            }
+        }
+    }
+
+    /// Counts how the parameters of a trace are read.
+    pub fn count_params(&mut self, bytes: &[u8]) {
+        let answer = params::read_prefix(bytes).map_or_else(|refusal| refusal.number, |_| 0);
+        self.count_stop(&format!("parameters {answer}"));
+    }
+
+    pub fn count_stop(&mut self, what: &str) {
+        *self.cases.entry(format!("stop: {what}")).or_default() += 1;
+    }
+
+    /// What the run should have reached and did not.
+    pub fn missing(&self, options: Options) -> Vec<String> {
+        let wanted = |name: &str| options.heartbeat || !name.contains(HEARTBEAT);
+        let mut missing = Vec::new();
+        for (place, answers) in ANSWERS.iter().enumerate().filter(|(i, _)| wanted(CALL_NAMES[*i])) {
+            let reached = |answer| self.calls.contains_key(&(place as u64 + 1, answer));
+            let absent = answers.iter().filter(|&&answer| !reached(answer));
+            missing.extend(absent.map(|answer| format!("{} {answer}", CALL_NAMES[place])));
+        }
+        let cases = CASES.iter().map(|case| case.to_string()).chain(stops());
+        missing.extend(cases.filter(|case| wanted(case) && !self.cases.contains_key(case)));
+        missing
+    }
+
+    /// The counts as text.
+    pub fn table(&self) -> String {
+        let mut out = format!("{:12}", "answer");
+        for column in COLUMNS {
+            let _ = write!(out, "{column:>9}");
+        }
+        out.push('\n');
+        for (place, name) in CALL_NAMES.iter().enumerate() {
+            let _ = write!(out, "{name:12}");
+            for column in COLUMNS {
+                let count = self.calls.get(&(place as u64 + 1, column));
+                let shown = count.map_or("-".to_string(), usize::to_string);
+                let _ = write!(out, "{shown:>9}");
+            }
+            out.push('\n');
+        }
+        for (case, count) in &self.cases {
+            let _ = writeln!(out, "{case:40}{count:>9}");
+        }
+        out
+    }
+}
+
+/// The names of an event's numbers after kind and time, in the trace's order.
+fn argument_names(kind: u64) -> &'static [&'static str] {
+    match kind {
+        1 => &["id", "group", "flags", "name length", "name"],
+        2 | 13 => &["id"],
+        3 | 4 => &["topic"],
+        5..=7 => &["id", "topic"],
+        8 => &["id", "topic", "seconds"],
+        9 => &["id", "topic", "kind of delivery"],
+        10 => &["id", "value"],
+        11 => &["topic", "ask", "permutation"],
+        _ => &[],
+    }
+}
+
+/// What a piece of an event's bytes is.
+pub fn piece_name(call: &Call, place: usize) -> &'static str {
+    let names = argument_names(call.kind());
+    match place {
+        0 => "kind",
+        1 => "time",
+        _ => names[(place - 2).min(names.len() - 1)],
+    }
+}
+
+/// How bad bytes in one piece are counted.
+pub fn bad_bytes(call: &Call, place: usize) -> String {
+    match place {
+        0 => "bad kind".to_string(),
+        _ => format!("bad {} {}", call.name(), piece_name(call, place)),
+    }
+}
+
+/// Every way in which a trace can stop.
+fn stops() -> impl Iterator<Item = String> {
+    let fixed = ["parameters 9", "parameters 10", "unknown kind", "bad kind"];
+    let calls = CALL_NAMES.iter().zip(1..).flat_map(|(name, kind)| {
+        let pieces = ["time"].iter().chain(argument_names(kind));
+        pieces.map(move |piece| format!("bad {name} {piece}"))
+    });
+    fixed.map(str::to_string).into_iter().chain(calls).map(|stop| format!("stop: {stop}"))
+}
+
+/// The cases of an event that is about to be made, with how often each comes.
+pub fn cases(router: &Router, event: &Event) -> Vec<(String, usize)> {
+    if !event.in_range() || event.now < router.clock {
+        return Vec::new();
+    }
+    let facts = match event.call {
+        Call::Connect { id, .. } => connect_cases(router, id as u32, event.now),
+        Call::Leave { topic } => leave_cases(router, topic as usize),
+        Call::Heartbeat { .. } => return heartbeat_cases(router, event),
+        Call::Disconnect { id }
+        | Call::Unsubscribe { id, .. }
+        | Call::Graft { id, .. }
+        | Call::Prune { id, .. }
+        | Call::Delivery { id, .. }
+        | Call::Score { id } => match router.connected(id as u32) {
+            Ok(slot) => peer_cases(router, slot, event),
+            Err(_) => Vec::new(),
+        },
+        _ => Vec::new(),
+    };
+    let held = facts.into_iter().filter(|(_, holds)| *holds);
+    held.map(|(case, _)| (format!("{}: {case}", event.call.name()), 1)).collect()
+}
+
+type Facts = Vec<(String, bool)>;
+
+fn fact(case: &str, holds: bool) -> (String, bool) {
+    (case.to_string(), holds)
+}
+
+fn connect_cases(router: &Router, id: u32, now: u64) -> Facts {
+    let place = router.place_for(id, now);
+    let reclaimed = router.reclaimable_slots(now);
+    let own = |slot: &usize| router.peers[*slot].id == id;
+    vec![
+        fact("fresh slot", matches!(place, Some(Place::Fresh(_)))),
+        fact("resumed record", matches!(place, Some(Place::Resumed(_)))),
+        fact("own record reclaimed", reclaimed.iter().any(own)),
+        fact("other records reclaimed", !reclaimed.iter().all(own)),
+    ]
+}
+
+fn leave_cases(router: &Router, topic: usize) -> Facts {
+    let mesh = router.mesh(topic);
+    let fails = |&slot: &usize| router.score(slot) < 0 && router.p3(slot, topic) > 0;
+    vec![fact("PRUNEs", !mesh.is_empty()), fact("P3b grows", mesh.iter().any(fails))]
+}
+
+fn peer_cases(router: &Router, slot: usize, event: &Event) -> Facts {
+    let peer = &router.peers[slot];
+    match event.call {
+        Call::Disconnect { .. } => vec![fact("member", peer.topics.iter().any(|r| r.member))],
+        Call::Unsubscribe { topic, .. } => vec![fact("member", peer.topics[topic as usize].member)],
+        Call::Graft { topic, .. } => graft_cases(router, slot, topic as usize, event.now),
+        Call::Prune { topic, seconds, .. } => {
+            let end = peer.backoff_ends[topic as usize];
+            let member = peer.topics[topic as usize].member;
+            vec![
+                fact("member", member),
+                fact("not a member", !member),
+                fact("the old end is later", end > event.now + 1000 * seconds.clamp(1, 3600)),
+                fact("0 seconds", seconds == 0),
+                fact("over 3600 seconds", seconds > 3600),
+            ]
+        }
+        Call::Delivery { topic, kind, .. } => delivery_cases(router, slot, topic as usize, kind),
+        _ => vec![
+            fact("negative", router.score(slot) < 0),
+            fact("positive", router.score(slot) > 0),
+            fact("P6 counts", router.surplus(peer) > 0),
+        ],
+    }
+}
+
+fn graft_cases(router: &Router, slot: usize, topic: usize, now: u64) -> Facts {
+    let case = router.graft_case(now, slot, topic);
+    let peer = &router.peers[slot];
+    let full = router.mesh(topic).len() >= router.params.general(params::general::D_HI) as usize;
+    vec![
+        fact(&format!("{case:?}"), true),
+        fact("outbound into a full mesh", case == GraftCase::Accepted && full),
+        fact("P7 at its limit", case == GraftCase::BackoffRunning && peer.p7 == 1_000_000),
+    ]
+}
+
+fn delivery_cases(router: &Router, slot: usize, k: usize, kind: u64) -> Facts {
+    let record = &router.peers[slot].topics[k];
+    let member = record.member;
+    let cap = |place| router.params.topic(k, place);
+    vec![
+        fact("first, member", kind == 1 && member),
+        fact("first, not a member", kind == 1 && !member),
+        fact("near-first, member", kind == 2 && member),
+        fact("near-first, not a member", kind == 2 && !member),
+        fact("invalid", kind == 3),
+        fact("P2 at its cap", kind == 1 && record.p2 == cap(topic::P2_CAP)),
+        fact("P3 at its cap", kind < 3 && member && record.p3 == cap(topic::P3_CAP)),
+        fact("P4 at its limit", kind == 3 && record.p4 == 1_000_000),
+    ]
+}
+
+fn heartbeat_cases(router: &Router, event: &Event) -> Vec<(String, usize)> {
+    let Call::Heartbeat { topic, ask, ref permutation } = event.call else { return Vec::new() };
+    let topic = topic as usize;
+    // A damaged permutation names no slots to plan with; an ignored call has no steps.
+    if permutation.iter().any(|&slot| slot >= 64) || !router.joined[topic] {
+        return Vec::new();
+    }
+    let plan = router.heartbeat_plan(event.now, topic, ask == 1, permutation);
+    let acted = [
+        ("step 1 PRUNEs", plan.negative.len()),
+        ("step 2 grafts", plan.fill.len()),
+        ("step 3 PRUNEs", plan.surplus.len()),
+        ("swaps", plan.swaps),
+        ("step 4 grafts", plan.quota.len()),
+        ("step 5 grafts", plan.opportunistic.len()),
+    ];
+    let idle = acted.iter().all(|(_, count)| *count == 0);
+    let cases = acted.into_iter().chain([("nothing to do", usize::from(idle))]);
+    let reached = cases.filter(|(_, count)| *count > 0);
+    reached.map(|(case, count)| (format!("heartbeat: {case}"), count)).collect()
+}

@@ -1,0 +1,465 @@
+//! Random calls that know the router's state, so that they reach its corners.
+
+use crate::event::*;
+use crate::groups;
+use crate::params::{general, topic, TOPICS};
+use crate::random::Random;
+use crate::router::{Answer, Router, Status, ACTION_LIST};
+use crate::trace::{self, Options};
+use std::collections::VecDeque;
+
+const NAMES: [&[u8]; 2] = [b"/meshsub/1.0.0", b"/meshsub/1.1.0"];
+
+/// The ends of the ranges of ids, groups, topics, flags, kinds, asks, times and
+/// (as codes) P5, and the numbers one past them.
+const EDGES: [u64; 18] = [
+    0,
+    1,
+    2,
+    3,
+    4,
+    7,
+    8,
+    63,
+    u32::MAX as u64,
+    1 << 32,
+    (1 << 32) + 7,
+    LAST_TIME,
+    LAST_TIME + 1,
+    2 * P5_LIMIT as u64 - 1,
+    2 * P5_LIMIT as u64,
+    2 * P5_LIMIT as u64 + 1,
+    2 * P5_LIMIT as u64 + 2,
+    u64::MAX,
+];
+
+/// The size of a run: which ids come, in how many groups and topics.
+pub struct Scene {
+    pub ids: Vec<u64>,
+    pub groups: u64,
+    pub topics: usize,
+    /// Of four connections, how many are outbound.
+    pub outbound: usize,
+    /// Whether meshes are crowded over D_hi again and again.
+    pub crowding: bool,
+    pub heartbeat: bool,
+}
+
+/// Makes events and makes each on a router of its own as well.
+pub struct Caller {
+    pub router: Router,
+    pub random: Random,
+    scene: Scene,
+    /// Calls planned already, each with a wait before it. A heartbeat's
+    /// permutation is made only when its turn comes, since it looks at the mesh.
+    queue: VecDeque<(u64, Call)>,
+    gathering_next: bool,
+}
+
+impl Caller {
+    pub fn new(router: Router, scene: Scene, random: Random) -> Caller {
+        Caller { router, random, scene, queue: VecDeque::new(), gathering_next: false }
+    }
+
+    pub fn next_event(&mut self) -> Event {
+        if self.queue.is_empty() {
+            self.plan_more();
+        }
+        let planned = self.queue.pop_front();
+        let (wait, mut call) = planned.unwrap_or_else(|| (0, self.single_call()));
+        if let Call::Heartbeat { permutation, .. } = &mut call {
+            *permutation = self.permutation();
+        }
+        let now = match wait {
+            0 => self.next_time(),
+            _ => LAST_TIME.min(self.router.clock + wait),
+        };
+        let mut event = Event { now, call };
+        if self.random.chance(1, 40) {
+            self.spoil(&mut event);
+        }
+        event
+    }
+
+    /// Makes the event on the own router.
+    pub fn apply(&mut self, event: &Event) -> Answer {
+        self.router.call(event, &mut [0; ACTION_LIST])
+    }
+
+    /// Calls whose answers lay the tables open: every score, every mesh.
+    pub fn survey(&self) -> Vec<Event> {
+        let now = self.router.clock;
+        let scores = self.ids_of(Status::Connected).into_iter().map(|id| Call::Score { id });
+        let leaves = (0..TOPICS as u64).map(|topic| Call::Leave { topic });
+        let retained = self.ids_of(Status::Retained).into_iter();
+        let returns = retained.flat_map(|id| {
+            let name = NAMES[1].to_vec();
+            [Call::Connect { id, group: 0, flags: 0, name }, Call::Score { id }]
+        });
+        scores.chain(leaves).chain(returns).map(|call| Event { now, call }).collect()
+    }
+
+    // Times.
+
+    /// Mostly the clock or a little later; now and then just beside an instant
+    /// at which something ends, or a time to be refused.
+    fn next_time(&mut self) -> u64 {
+        let clock = self.router.clock;
+        let time = match self.random.below(400) {
+            0..=229 => clock,
+            230..=309 => clock + self.random.below(2000) as u64,
+            310..=379 => self.instant() + self.random.below(3) as u64,
+            380..=389 => clock.saturating_sub(1 + self.random.below(3) as u64),
+            _ => clock + self.random.below(100_000) as u64,
+        };
+        LAST_TIME.min(time)
+    }
+
+    /// One millisecond before a backoff or a retain period ends, or before a
+    /// member's P3 counts.
+    fn instant(&mut self) -> u64 {
+        let router = &self.router;
+        let mut instants = vec![router.clock + 1];
+        for peer in &router.peers {
+            instants.push(peer.retain_end);
+            instants.extend(peer.backoff_ends);
+            for (k, record) in peer.topics.iter().enumerate().filter(|(_, r)| r.member) {
+                let activation = router.params.topic(k, topic::ACTIVATION) as u64;
+                instants.push(record.graft_time + activation);
+            }
+        }
+        instants.retain(|&instant| instant > router.clock);
+        self.random.pick(&instants) - 1
+    }
+
+    // Arguments.
+
+    fn ids_of(&self, status: Status) -> Vec<u64> {
+        let peers = self.router.peers.iter().filter(|peer| peer.status == status);
+        peers.map(|peer| u64::from(peer.id)).collect()
+    }
+
+    fn id(&mut self) -> u64 {
+        let status = match self.random.below(20) {
+            0 => Status::Retained,
+            1 => return *self.random.pick(&self.scene.ids),
+            _ => Status::Connected,
+        };
+        let ids = self.ids_of(status);
+        if ids.is_empty() {
+            *self.random.pick(&self.scene.ids)
+        } else {
+            *self.random.pick(&ids)
+        }
+    }
+
+    fn topic(&mut self) -> u64 {
+        let joined: Vec<u64> =
+            (0..TOPICS as u64).filter(|&k| self.router.joined[k as usize]).collect();
+        match self.random.below(20) {
+            0 => self.random.below(TOPICS) as u64,
+            1..=9 if !joined.is_empty() => *self.random.pick(&joined),
+            _ => self.random.below(self.scene.topics) as u64,
+        }
+    }
+
+    fn flags(&mut self) -> u64 {
+        let outbound = self.random.chance(self.scene.outbound, 4);
+        let explicit = self.random.chance(1, 16);
+        u64::from(outbound) * OUTBOUND_FLAG + u64::from(explicit) * EXPLICIT_FLAG
+    }
+
+    fn group(&mut self) -> u64 {
+        let group = self.random.next() % self.scene.groups;
+        if group == 3 { u64::from(u32::MAX) } else { group }
+    }
+
+    fn name(&mut self) -> Vec<u8> {
+        let mut name = self.random.pick(&NAMES).to_vec();
+        if self.random.chance(1, 30) {
+            match self.random.below(6) {
+                0 => name = b"/meshsub/1.2.0".to_vec(),
+                1 => name.truncate(self.random.below(14)),
+                2 => name.push(0),
+                3 => name[self.random.below(14)] ^= 1 << self.random.below(8),
+                4 => name = self.random.bytes(64),
+                _ => name.extend(b"/meshsub/1.1.0"),
+            }
+        }
+        name
+    }
+
+    fn seconds(&mut self) -> u64 {
+        match self.random.below(10) {
+            0..=1 => 0,
+            2..=5 => 1 + self.random.below(5) as u64,
+            6..=7 => *self.random.pick(&[60, 3599, 3600, 3601]),
+            8 => self.random.of_any_width(),
+            _ => self.random.below(4000) as u64,
+        }
+    }
+
+    /// Any P5, or one that brings the score to a value that a rule asks about.
+    fn p5(&mut self, id: u64) -> i64 {
+        match self.random.below(8) {
+            0 => self.random.between(-P5_LIMIT, P5_LIMIT),
+            1 => *self.random.pick(&[-P5_LIMIT, P5_LIMIT, 0, 1, -1]),
+            2 => self.random.between(-100_000, 100_000),
+            _ => self.aimed_p5(id),
+        }
+    }
+
+    fn aimed_p5(&mut self, id: u64) -> i64 {
+        let router = &self.router;
+        let target = match self.random.below(6) {
+            0 => router.params.general(general::GRAYLIST_THRESHOLD) * 1_000_000,
+            1 => router.params.general(general::OPPORTUNISTIC_THRESHOLD) * 1_000_000,
+            2 => router.score(self.random.below(SLOTS)),
+            3 => self.random.between(0, 2_000_000_000),
+            _ => 0,
+        };
+        let beside = self.random.between(-1, 2);
+        (self.p5_for(id, target) + beside).clamp(-P5_LIMIT, P5_LIMIT)
+    }
+
+    /// The P5 that brings a peer's score near the target, if one can.
+    fn p5_for(&self, id: u64, target: i64) -> i64 {
+        let router = &self.router;
+        let Ok(slot) = router.connected(id as u32) else { return 0 };
+        let step = router.params.general(general::W5) * 1000;
+        let base = router.score(slot) - step * router.peers[slot].p5;
+        (target - base).div_euclid(step).clamp(-P5_LIMIT, P5_LIMIT)
+    }
+
+    /// Mostly a shuffle; sometimes one that sets outbound members last, so that
+    /// they are left out and swapped in; sometimes damaged.
+    fn permutation(&mut self) -> Box<Permutation> {
+        let mut permutation: Box<Permutation> = Box::new(std::array::from_fn(|slot| slot as u64));
+        let style = self.random.below(12);
+        if style > 0 {
+            self.random.shuffle(&mut permutation[..]);
+        }
+        if style > 6 {
+            permutation.sort_by_key(|&slot| self.router.peers[slot as usize].outbound);
+        }
+        if self.random.chance(1, 30) {
+            let place = self.random.below(SLOTS);
+            permutation[place] = match self.random.below(3) {
+                0 => SLOTS as u64,
+                1 => self.random.of_any_width(),
+                _ => permutation[(place + 1) % SLOTS],
+            };
+        }
+        permutation
+    }
+
+    // Calls.
+
+    fn single_call(&mut self) -> Call {
+        let (id, topic) = (self.id(), self.topic());
+        match self.random.below(100) {
+            0..=9 => self.connect_call(),
+            10..=13 => Call::Disconnect { id },
+            14..=16 => Call::Join { topic },
+            17 => Call::Leave { topic },
+            18..=26 => Call::Subscribe { id, topic },
+            27..=29 => Call::Unsubscribe { id, topic },
+            30..=45 => Call::Graft { id, topic },
+            46..=50 => Call::Prune { id, topic, seconds: self.seconds() },
+            51..=65 => Call::Delivery { id, topic, kind: self.random.below(3) as u64 + 1 },
+            66..=75 => Call::SetP5 { id, value: self.p5(id) },
+            76..=84 if self.scene.heartbeat => self.heartbeat_call(topic),
+            85..=88 => Call::Decay,
+            _ => Call::Score { id },
+        }
+    }
+
+    fn connect_call(&mut self) -> Call {
+        let id = *self.random.pick(&self.scene.ids);
+        self.connect_of(id)
+    }
+
+    fn connect_of(&mut self, id: u64) -> Call {
+        Call::Connect { id, group: self.group(), flags: self.flags(), name: self.name() }
+    }
+
+    fn heartbeat_call(&mut self, topic: u64) -> Call {
+        let ask = u64::from(self.random.chance(2, 3));
+        Call::Heartbeat { topic, ask, permutation: Box::new([0; SLOTS]) }
+    }
+
+    // Bursts: calls that belong together.
+
+    /// A full start: many peers come, and then gather in a topic. Some runs
+    /// start late, so that the last time is near.
+    pub fn plan_opening(&mut self) {
+        if self.random.chance(1, 12) {
+            let late = LAST_TIME - self.random.below(1_000_000) as u64;
+            self.queue.push_back((late, Call::Decay));
+        }
+        self.plan_arrival();
+        self.gathering_next = true;
+    }
+
+    fn plan_more(&mut self) {
+        let topic = self.topic();
+        let few = self.ids_of(Status::Connected).len() < self.scene.ids.len() / 3;
+        if std::mem::take(&mut self.gathering_next) {
+            self.plan_gathering(topic);
+        } else if few && self.random.chance(1, 4) {
+            self.plan_arrival();
+        } else if self.scene.crowding && self.random.chance(1, 4) {
+            self.plan_crowding(topic);
+        } else if self.random.chance(1, 8) {
+            self.plan_burst();
+        }
+    }
+
+    fn plan_burst(&mut self) {
+        let topic = self.topic();
+        match self.random.below(10) {
+            0 => self.plan_arrival(),
+            1 | 2 => self.plan_gathering(topic),
+            3 | 4 => self.plan_crowding(topic),
+            5 => self.plan_departure(),
+            6 | 7 => {
+                self.plan_judgement();
+                self.plan_heartbeats(topic);
+            }
+            8 => self.plan_traffic(topic),
+            _ => self.plan_scores(),
+        }
+    }
+
+    fn plan(&mut self, call: Call) {
+        self.queue.push_back((0, call));
+    }
+
+    fn plan_arrival(&mut self) {
+        let mut ids = self.scene.ids.clone();
+        self.random.shuffle(&mut ids);
+        ids.truncate(ids.len() - self.random.below(ids.len().div_ceil(2)));
+        for id in ids {
+            if self.router.connected(id as u32).is_err() || self.random.chance(1, 8) {
+                let call = self.connect_of(id);
+                self.plan(call);
+            }
+        }
+    }
+
+    /// Many peers come to a topic, and all or some ask to be grafted; outbound
+    /// peers often last, so that they pass D_hi. Then heartbeats.
+    fn plan_gathering(&mut self, topic: u64) {
+        let mut ids = self.ids_of(Status::Connected);
+        self.random.shuffle(&mut ids);
+        if self.random.chance(1, 2) {
+            ids.sort_by_key(|&id| self.is_outbound(id));
+        }
+        self.plan_for(&ids, |id| Call::Subscribe { id, topic });
+        self.plan(Call::Join { topic });
+        match self.random.below(4) {
+            0 => ids.clear(),
+            1 => ids.retain(|&id| !self.is_outbound(id)),
+            2 => ids.truncate(self.random.below(ids.len() + 1)),
+            _ => {}
+        }
+        self.plan_for(&ids, |id| Call::Graft { id, topic });
+        self.plan_heartbeats(topic);
+    }
+
+    fn plan_for(&mut self, ids: &[u64], call: impl Fn(u64) -> Call) {
+        self.queue.extend(ids.iter().map(|&id| (0, call(id))));
+    }
+
+    /// When backoffs are over, a mesh of few different scores is filled by
+    /// inbound peers, and then a few outbound ones pass D_hi.
+    fn plan_crowding(&mut self, topic: u64) {
+        let mut ids = self.ids_of(Status::Connected);
+        self.random.shuffle(&mut ids);
+        ids.sort_by_key(|&id| self.is_outbound(id));
+        let inbound = ids.partition_point(|&id| !self.is_outbound(id));
+        ids.truncate(inbound + self.random.below(5));
+        self.queue.push_back((25_000, Call::Decay));
+        self.plan(Call::Join { topic });
+        for &id in &ids {
+            let target = self.random.below(3) as i64 * 1_000_000_000;
+            let value = self.p5_for(id, target);
+            self.plan(Call::SetP5 { id, value });
+        }
+        self.plan_for(&ids, |id| Call::Subscribe { id, topic });
+        self.plan_for(&ids, |id| Call::Graft { id, topic });
+        self.plan_heartbeats(topic);
+    }
+
+    fn is_outbound(&self, id: u64) -> bool {
+        let slot = self.router.connected(id as u32);
+        slot.is_ok_and(|slot| self.router.peers[slot].outbound)
+    }
+
+    fn plan_heartbeats(&mut self, topic: u64) {
+        for _ in 0..=self.random.below(3) {
+            let call = match self.scene.heartbeat && self.random.chance(5, 6) {
+                true => self.heartbeat_call(topic),
+                false => Call::Decay,
+            };
+            self.plan(call);
+        }
+    }
+
+    fn plan_departure(&mut self) {
+        let mut ids = self.ids_of(Status::Connected);
+        self.random.shuffle(&mut ids);
+        let most = if self.random.chance(1, 4) { ids.len() } else { ids.len() / 3 };
+        ids.truncate(self.random.below(most + 1));
+        self.plan_for(&ids, |id| Call::Disconnect { id });
+    }
+
+    /// The host gives many peers a P5.
+    fn plan_judgement(&mut self) {
+        for id in self.ids_of(Status::Connected) {
+            if self.random.chance(2, 3) {
+                let value = self.p5(id);
+                self.plan(Call::SetP5 { id, value });
+            }
+        }
+    }
+
+    /// One peer sends much, up to the caps.
+    fn plan_traffic(&mut self, topic: u64) {
+        let id = self.id();
+        let kind = self.random.below(3) as u64 + 1;
+        for _ in 0..self.random.below(30) {
+            self.plan(Call::Delivery { id, topic, kind });
+        }
+        self.plan(Call::Decay);
+        self.plan(Call::Score { id });
+    }
+
+    fn plan_scores(&mut self) {
+        let ids = self.ids_of(Status::Connected);
+        self.plan_for(&ids, |id| Call::Score { id });
+    }
+
+    // Numbers at and past the ranges.
+
+    /// Puts such a number in the place of the time or of an argument.
+    fn spoil(&mut self, event: &mut Event) {
+        let mut pieces = trace::event_pieces(event);
+        // Further places are a permutation's, which has damage of its own.
+        let place = 1 + self.random.below(pieces.len().min(6) - 1);
+        let wide = self.random.of_any_width();
+        let number = if self.random.chance(1, 4) { wide } else { *self.random.pick(&EDGES) };
+        // A leap of the clock ends much that could still happen.
+        let leap = place == 1 && (self.router.clock..=LAST_TIME).contains(&number);
+        if leap && self.random.chance(15, 16) {
+            return;
+        }
+        pieces[place].clear();
+        groups::write_unsigned(number, &mut pieces[place]);
+        // A name's length may not fit now; such bytes are made elsewhere.
+        let read = trace::read_event(&pieces.concat(), Options { heartbeat: true });
+        if let Ok((spoilt, _)) = read {
+            *event = spoilt;
+        }
+    }
+}

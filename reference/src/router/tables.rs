@@ -1,0 +1,137 @@
+//! The records of peers, and the test that tables are a router's.
+
+use super::Router;
+use crate::event::{LAST_TIME, P5_LIMIT};
+use crate::params::{general, topic, TOPICS};
+
+/// P4 and P7 stop at 10^6 thousandths, P3b at 10^12 millionths.
+pub const P4_P7_LIMIT: i64 = 1_000_000;
+pub const P3B_LIMIT: i64 = 1_000_000_000_000;
+
+/// The latest ends of a backoff and of a retain period.
+const LAST_BACKOFF_END: u64 = LAST_TIME + 3_600_000;
+const LAST_RETAIN_END: u64 = LAST_TIME + 86_400_000;
+
+#[derive(Clone, Copy, PartialEq, Eq, Debug, Default)]
+pub enum Status {
+    #[default]
+    Empty,
+    Connected,
+    /// Kept for a while after a disconnect.
+    Retained,
+}
+
+#[derive(Clone, Copy, PartialEq, Eq, Debug, Default)]
+pub enum Version {
+    #[default]
+    V10,
+    V11,
+}
+
+/// A peer's record in one topic. P2, P3 and P4 count thousandths, P3b
+/// millionths.
+#[derive(Clone, PartialEq, Eq, Debug, Default)]
+pub struct TopicRecord {
+    pub subscribed: bool,
+    pub member: bool,
+    pub graft_time: u64,
+    pub mesh_time: u64,
+    pub p2: i64,
+    pub p3: i64,
+    pub p3b: i64,
+    pub p4: i64,
+}
+
+/// A peer's record; the default one is empty, all zero.
+#[derive(Clone, PartialEq, Eq, Debug, Default)]
+pub struct Peer {
+    pub status: Status,
+    pub id: u32,
+    pub group: u32,
+    pub outbound: bool,
+    pub explicit: bool,
+    pub version: Version,
+    pub p5: i64,
+    pub p7: i64,
+    pub retain_end: u64,
+    pub topics: [TopicRecord; TOPICS],
+    pub backoff_ends: [u64; TOPICS],
+}
+
+impl Peer {
+    pub fn leave_mesh(&mut self, topic: usize) {
+        let record = &mut self.topics[topic];
+        record.member = false;
+        record.graft_time = 0;
+        record.mesh_time = 0;
+    }
+
+    /// No later PRUNE shortens a backoff.
+    pub fn extend_backoff(&mut self, topic: usize, end: u64) {
+        let old = &mut self.backoff_ends[topic];
+        *old = end.max(*old);
+    }
+
+    pub fn backoff_running(&self, topic: usize, now: u64) -> bool {
+        now < self.backoff_ends[topic]
+    }
+
+    fn in_ranges(&self) -> bool {
+        let retain_limit = if self.status == Status::Retained { LAST_RETAIN_END } else { 0 };
+        self.id != 0
+            && (-P5_LIMIT..=P5_LIMIT).contains(&self.p5)
+            && (0..=P4_P7_LIMIT).contains(&self.p7)
+            && self.retain_end <= retain_limit
+            && self.backoff_ends.iter().all(|&end| end <= LAST_BACKOFF_END)
+    }
+}
+
+impl Router {
+    /// 01: "Tables are a router's if ...". Each call keeps this so.
+    pub fn is_valid(&self) -> bool {
+        let broken = self.params.first_broken_but(self.waived_rule);
+        broken.is_none()
+            && self.clock <= LAST_TIME
+            && self.ids_are_distinct()
+            && self.peers.iter().all(|peer| self.is_valid_peer(peer))
+    }
+
+    fn ids_are_distinct(&self) -> bool {
+        let mut ids: Vec<u32> = self.peers.iter().map(|peer| peer.id).collect();
+        ids.retain(|&id| id != 0);
+        ids.sort_unstable();
+        ids.windows(2).all(|pair| pair[0] != pair[1])
+    }
+
+    fn is_valid_peer(&self, peer: &Peer) -> bool {
+        if peer.status == Status::Empty {
+            return *peer == Peer::default();
+        }
+        peer.in_ranges() && (0..TOPICS).all(|k| self.is_valid_topic(peer, k))
+    }
+
+    fn is_valid_topic(&self, peer: &Peer, k: usize) -> bool {
+        let record = &peer.topics[k];
+        let connected = peer.status == Status::Connected;
+        let counters = (0..=self.params.topic(k, topic::P2_CAP)).contains(&record.p2)
+            && (0..=self.params.topic(k, topic::P3_CAP)).contains(&record.p3)
+            && (0..=P3B_LIMIT).contains(&record.p3b)
+            && (0..=P4_P7_LIMIT).contains(&record.p4);
+        let membership = if record.member {
+            connected && record.subscribed && !peer.explicit && self.joined[k]
+        } else {
+            record.graft_time == 0 && record.mesh_time == 0
+        };
+        // Each time is bounded first, so that their sum cannot overflow.
+        let times = record.graft_time <= self.clock
+            && record.mesh_time <= self.clock
+            && record.graft_time + record.mesh_time <= self.clock;
+        counters && membership && times && (connected || !record.subscribed)
+    }
+
+    /// 01: "a non-explicit peer scoring below graylist".
+    pub fn graylisted(&self, slot: usize) -> bool {
+        let threshold = self.params.general(general::GRAYLIST_THRESHOLD) * 1_000_000;
+        !self.peers[slot].explicit && self.score(slot) < threshold
+    }
+}

@@ -1,0 +1,450 @@
+//! Traces as text, for people. One event to a line, `#` starts a comment, and
+//! fields stand in a fixed order:
+//!
+//! ```text
+//! params ordinary                  # or: params none (no parameters at all)
+//! param D_hi 12                    # overrides a general number by name
+//! topic 0 weight 500               # overrides a topic's number by name
+//! connect time=5 id=7 group=1 inbound /meshsub/1.1.0
+//! connect time=5 id=8 group=1 outbound explicit /meshsub/1.0.0
+//! disconnect time=5 id=7
+//! join time=5 topic=0
+//! leave time=5 topic=0
+//! subscribe time=5 id=7 topic=0
+//! unsubscribe time=5 id=7 topic=0
+//! graft time=5 id=7 topic=0
+//! prune time=5 id=7 topic=0 seconds=60
+//! delivery time=5 id=7 topic=0 first      # or near-first, invalid
+//! p5 time=5 id=7 value=-1000
+//! heartbeat time=5 topic=0 opportunism=no permutation=9,4,...
+//! decay time=5
+//! score time=5 id=7
+//! bytes 0e 80 00                   # bytes as they are, event or not
+//! ```
+//!
+//! Numbers out of range can be written too: `flags=9` for the two words of a
+//! connect, `kind=9` for a delivery's, `opportunism=9`, and `hex:2f00` for a
+//! protocol name with odd bytes. A permutation's `...` stands for the slots not
+//! named yet, upward.
+
+use crate::event::{
+    Call, Event, Permutation, CALL_NAMES, EXPLICIT_FLAG, OUTBOUND_FLAG, SLOTS,
+};
+use crate::params::{self, field_at, Params, COUNT, GENERAL_COUNT, TOPICS, TOPIC_COUNT};
+use crate::trace::{self, Options};
+use std::fmt::Write;
+
+/// A trace as lines: its parameters, if it has any, then events or bytes.
+#[derive(Clone, PartialEq, Eq, Debug)]
+pub struct Trace {
+    pub params: Option<Params>,
+    pub lines: Vec<Line>,
+}
+
+#[derive(Clone, PartialEq, Eq, Debug)]
+pub enum Line {
+    Event(Event),
+    /// Bytes that are no event.
+    Bytes(Vec<u8>),
+}
+
+impl Line {
+    pub fn to_bytes(&self) -> Vec<u8> {
+        match self {
+            Line::Event(event) => trace::write_event(event),
+            Line::Bytes(bytes) => bytes.clone(),
+        }
+    }
+}
+
+impl Trace {
+    pub fn to_bytes(&self) -> Vec<u8> {
+        let mut out = self.params.as_ref().map_or(Vec::new(), Params::to_bytes);
+        for line in &self.lines {
+            out.extend(line.to_bytes());
+        }
+        out
+    }
+
+    /// Takes bytes apart; from where they are malformed on they stay bytes.
+    pub fn from_bytes(bytes: &[u8]) -> Trace {
+        let (params, mut rest) = match params::read_numbers(bytes) {
+            Ok((params, length)) => (Some(params), &bytes[length..]),
+            Err(_) => (None, bytes),
+        };
+        let mut lines = Vec::new();
+        while !rest.is_empty() {
+            let event = trace::read_event(rest, Options { heartbeat: true });
+            let (line, length) = match event {
+                Ok((event, length)) if params.is_some() => (Line::Event(event), length),
+                _ => (Line::Bytes(rest.to_vec()), rest.len()),
+            };
+            lines.push(line);
+            rest = &rest[length..];
+        }
+        Trace { params, lines }
+    }
+}
+
+// Printing.
+
+/// The whole trace as text.
+pub fn print(trace: &Trace) -> String {
+    let mut out = match &trace.params {
+        Some(params) => print_params(params),
+        None => "params none\n".to_string(),
+    };
+    for line in &trace.lines {
+        out.push_str(&print_line(line));
+        out.push('\n');
+    }
+    out
+}
+
+/// The ordinary parameters, and the numbers that differ from them.
+fn print_params(params: &Params) -> String {
+    let mut out = "params ordinary\n".to_string();
+    for (index, &value) in params.numbers.iter().enumerate() {
+        let field = field_at(index);
+        if value != field.ordinary {
+            let _ = match index.checked_sub(GENERAL_COUNT) {
+                None => writeln!(out, "param {} {value}", field.name),
+                Some(rest) => writeln!(out, "topic {} {} {value}", rest / TOPIC_COUNT, field.name),
+            };
+        }
+    }
+    out
+}
+
+/// One line, without its end.
+pub fn print_line(line: &Line) -> String {
+    match line {
+        Line::Bytes(bytes) => bytes.iter().fold("bytes".to_string(), |mut out, byte| {
+            let _ = write!(out, " {byte:02x}");
+            out
+        }),
+        Line::Event(event) => print_event(event),
+    }
+}
+
+fn print_event(Event { now, call }: &Event) -> String {
+    match call {
+        Call::Connect { id, group, flags, name } => format!(
+            "connect time={now} id={id} group={group} {} {}",
+            print_flags(*flags),
+            print_name(name)
+        ),
+        Call::Disconnect { id } => format!("disconnect time={now} id={id}"),
+        Call::Join { topic } => format!("join time={now} topic={topic}"),
+        Call::Leave { topic } => format!("leave time={now} topic={topic}"),
+        Call::Subscribe { id, topic } => format!("subscribe time={now} id={id} topic={topic}"),
+        Call::Unsubscribe { id, topic } => format!("unsubscribe time={now} id={id} topic={topic}"),
+        Call::Graft { id, topic } => format!("graft time={now} id={id} topic={topic}"),
+        Call::Prune { id, topic, seconds } => {
+            format!("prune time={now} id={id} topic={topic} seconds={seconds}")
+        }
+        Call::Delivery { id, topic, kind } => {
+            format!("delivery time={now} id={id} topic={topic} {}", print_kind(*kind))
+        }
+        Call::SetP5 { id, value } => format!("p5 time={now} id={id} value={value}"),
+        Call::Heartbeat { topic, ask, permutation } => format!(
+            "heartbeat time={now} topic={topic} opportunism={} permutation={}",
+            print_ask(*ask),
+            print_permutation(permutation)
+        ),
+        Call::Decay => format!("decay time={now}"),
+        Call::Score { id } => format!("score time={now} id={id}"),
+    }
+}
+
+fn print_flags(flags: u64) -> String {
+    match flags {
+        0 => "inbound".to_string(),
+        1 => "outbound".to_string(),
+        2 => "inbound explicit".to_string(),
+        3 => "outbound explicit".to_string(),
+        _ => format!("flags={flags}"),
+    }
+}
+
+/// A name that reads as one word is written as it is.
+fn print_name(name: &[u8]) -> String {
+    let plain = name.first() == Some(&b'/') && name.iter().all(u8::is_ascii_graphic);
+    if plain {
+        return String::from_utf8_lossy(name).into_owned();
+    }
+    name.iter().fold("hex:".to_string(), |mut out, byte| {
+        let _ = write!(out, "{byte:02x}");
+        out
+    })
+}
+
+const DELIVERY_KINDS: [&str; 3] = ["first", "near-first", "invalid"];
+
+fn print_kind(kind: u64) -> String {
+    match kind {
+        1..=3 => DELIVERY_KINDS[kind as usize - 1].to_string(),
+        _ => format!("kind={kind}"),
+    }
+}
+
+fn print_ask(ask: u64) -> String {
+    match ask {
+        0 => "no".to_string(),
+        1 => "yes".to_string(),
+        _ => ask.to_string(),
+    }
+}
+
+/// As few slots as the rest can be told from, and then `...`.
+fn print_permutation(permutation: &Permutation) -> String {
+    let told = (0..SLOTS).find(|&told| completed(&permutation[..told]) == permutation);
+    let named = &permutation[..told.unwrap_or(SLOTS)];
+    let mut words: Vec<String> = named.iter().map(u64::to_string).collect();
+    if told.is_some() {
+        words.push("...".to_string());
+    }
+    words.join(",")
+}
+
+/// The named slots, then the others upward.
+fn completed(named: &[u64]) -> Vec<u64> {
+    let others = (0..SLOTS as u64).filter(|slot| !named.contains(slot));
+    named.iter().copied().chain(others).collect()
+}
+
+// Parsing.
+
+/// What is wrong, and in which line (from 1 on).
+#[derive(Clone, PartialEq, Eq, Debug)]
+pub struct TextError {
+    pub line: usize,
+    pub message: String,
+}
+
+/// Reads a whole text.
+pub fn parse(text: &str) -> Result<Trace, TextError> {
+    let mut trace = Trace { params: None, lines: Vec::new() };
+    let mut started = false;
+    for (place, line) in text.lines().enumerate() {
+        let words: Vec<&str> =
+            line.split_whitespace().take_while(|word| !word.starts_with('#')).collect();
+        if words.is_empty() {
+            continue;
+        }
+        let error = |message| TextError { line: place + 1, message };
+        let rest = &mut Words { words: &words[1..] };
+        let parsed = if started {
+            parse_words(words[0], rest, &mut trace)
+        } else {
+            started = true;
+            parse_start(words[0], rest, &mut trace)
+        };
+        parsed.and_then(|()| rest.end()).map_err(error)?;
+    }
+    if started {
+        Ok(trace)
+    } else {
+        Err(TextError { line: 1, message: START.to_string() })
+    }
+}
+
+const START: &str = "a trace starts with `params ordinary` or `params none`";
+
+fn parse_start(word: &str, rest: &mut Words, trace: &mut Trace) -> Result<(), String> {
+    trace.params = match (word, rest.word()?) {
+        ("params", "ordinary") => Some(Params::ordinary()),
+        ("params", "none") => None,
+        _ => return Err(START.to_string()),
+    };
+    Ok(())
+}
+
+fn parse_words(word: &str, rest: &mut Words, trace: &mut Trace) -> Result<(), String> {
+    match word {
+        "param" => override_number(trace, None, rest),
+        "topic" => {
+            let topic = rest.number()?;
+            override_number(trace, Some(topic), rest)
+        }
+        "bytes" => {
+            trace.lines.push(Line::Bytes(rest.hex_bytes()?));
+            Ok(())
+        }
+        _ => {
+            trace.lines.push(Line::Event(parse_event(word, rest)?));
+            Ok(())
+        }
+    }
+}
+
+/// Parameters come before events in the bytes, so in the text as well.
+fn override_number(trace: &mut Trace, topic: Option<u64>, rest: &mut Words) -> Result<(), String> {
+    let name = rest.word()?;
+    let value: i64 = rest.number()?;
+    if !trace.lines.is_empty() {
+        return Err("parameters stand before the first event".to_string());
+    }
+    let params = trace.params.as_mut().ok_or("there are no parameters to override")?;
+    let range = match topic {
+        None => 0..GENERAL_COUNT,
+        Some(k) if k < TOPICS as u64 => params::topic_index(k as usize, 0)..COUNT,
+        Some(k) => return Err(format!("there is no topic {k}")),
+    };
+    let index = range.into_iter().find(|&index| field_at(index).name == name);
+    let index = index.ok_or_else(|| format!("no number is called {name}"))?;
+    params.numbers[index] = value;
+    Ok(())
+}
+
+fn parse_event(word: &str, rest: &mut Words) -> Result<Event, String> {
+    if !CALL_NAMES.contains(&word) {
+        return Err(format!("no event is called {word}"));
+    }
+    let now = rest.field("time")?;
+    Ok(Event { now, call: parse_call(word, rest)? })
+}
+
+fn parse_call(word: &str, rest: &mut Words) -> Result<Call, String> {
+    if let "join" | "leave" | "heartbeat" | "decay" = word {
+        return parse_topic_call(word, rest);
+    }
+    let id = rest.field("id")?;
+    Ok(match word {
+        "connect" => Call::Connect {
+            id,
+            group: rest.field("group")?,
+            flags: rest.flags()?,
+            name: rest.name()?,
+        },
+        "disconnect" => Call::Disconnect { id },
+        "subscribe" => Call::Subscribe { id, topic: rest.field("topic")? },
+        "unsubscribe" => Call::Unsubscribe { id, topic: rest.field("topic")? },
+        "graft" => Call::Graft { id, topic: rest.field("topic")? },
+        "prune" => {
+            Call::Prune { id, topic: rest.field("topic")?, seconds: rest.field("seconds")? }
+        }
+        "delivery" => Call::Delivery { id, topic: rest.field("topic")?, kind: rest.kind()? },
+        "p5" => Call::SetP5 { id, value: rest.field("value")? },
+        _ => Call::Score { id },
+    })
+}
+
+/// The calls that name no peer.
+fn parse_topic_call(word: &str, rest: &mut Words) -> Result<Call, String> {
+    if word == "decay" {
+        return Ok(Call::Decay);
+    }
+    let topic = rest.field("topic")?;
+    Ok(match word {
+        "join" => Call::Join { topic },
+        "leave" => Call::Leave { topic },
+        _ => Call::Heartbeat { topic, ask: rest.ask()?, permutation: rest.permutation()? },
+    })
+}
+
+/// The words of a line that are still to be read.
+struct Words<'a> {
+    words: &'a [&'a str],
+}
+
+impl<'a> Words<'a> {
+    fn word(&mut self) -> Result<&'a str, String> {
+        let (word, rest) = self.words.split_first().ok_or("the line is too short")?;
+        self.words = rest;
+        Ok(word)
+    }
+
+    fn end(&self) -> Result<(), String> {
+        self.words.first().map_or(Ok(()), |word| Err(format!("{word} is too much")))
+    }
+
+    fn number<T: std::str::FromStr>(&mut self) -> Result<T, String> {
+        parse_number(self.word()?)
+    }
+
+    /// What follows `name=`.
+    fn value(&mut self, name: &str) -> Result<&'a str, String> {
+        let word = self.word()?;
+        let value = word.strip_prefix(name).and_then(|rest| rest.strip_prefix('='));
+        value.ok_or_else(|| format!("{name}= is expected, not {word}"))
+    }
+
+    fn field<T: std::str::FromStr>(&mut self, name: &str) -> Result<T, String> {
+        parse_number(self.value(name)?)
+    }
+
+    fn flags(&mut self) -> Result<u64, String> {
+        let mut flags = match self.words.first() {
+            Some(&"inbound") => 0,
+            Some(&"outbound") => OUTBOUND_FLAG,
+            _ => return self.field("flags"),
+        };
+        self.word()?;
+        if self.words.first() == Some(&"explicit") {
+            self.word()?;
+            flags += EXPLICIT_FLAG;
+        }
+        Ok(flags)
+    }
+
+    fn name(&mut self) -> Result<Vec<u8>, String> {
+        let word = self.word()?;
+        match word.strip_prefix("hex:") {
+            Some(digits) => hex(digits),
+            None => Ok(word.as_bytes().to_vec()),
+        }
+    }
+
+    fn kind(&mut self) -> Result<u64, String> {
+        let word = self.words.first().copied().unwrap_or_default();
+        match DELIVERY_KINDS.iter().position(|&kind| kind == word) {
+            Some(place) => self.word().map(|_| place as u64 + 1),
+            None => self.field("kind"),
+        }
+    }
+
+    fn ask(&mut self) -> Result<u64, String> {
+        match self.value("opportunism")? {
+            "no" => Ok(0),
+            "yes" => Ok(1),
+            number => parse_number(number),
+        }
+    }
+
+    fn permutation(&mut self) -> Result<Box<Permutation>, String> {
+        let word = self.value("permutation")?;
+        let named = word.strip_suffix("...").unwrap_or(word);
+        let numbers = named.split_terminator(',').map(parse_number);
+        let mut slots = numbers.collect::<Result<Vec<u64>, String>>()?;
+        if named.len() < word.len() {
+            slots = completed(&slots);
+        }
+        let count = slots.len();
+        let slots = slots.into_boxed_slice().try_into();
+        slots.map_err(|_| format!("a permutation has {SLOTS} slots, not {count}"))
+    }
+
+    fn hex_bytes(&mut self) -> Result<Vec<u8>, String> {
+        let mut bytes = Vec::new();
+        while !self.words.is_empty() {
+            bytes.extend(hex(self.word()?)?);
+        }
+        Ok(bytes)
+    }
+}
+
+fn parse_number<T: std::str::FromStr>(word: &str) -> Result<T, String> {
+    word.parse().map_err(|_| format!("{word} is no number that fits here"))
+}
+
+fn hex(digits: &str) -> Result<Vec<u8>, String> {
+    let digit = |c: u8| (c as char).to_digit(16).ok_or(format!("{digits} is not hexadecimal"));
+    let pairs = digits.as_bytes().chunks(2);
+    pairs
+        .map(|pair| match *pair {
+            [high, low] => Ok((digit(high)? * 16 + digit(low)?) as u8),
+            _ => Err(format!("{digits} has half a byte")),
+        })
+        .collect()
+}

@@ -1,0 +1,240 @@
+//! The bench list of 01, the order of tests, and what refusals leave alone.
+
+use reference::event::{Call, Event, Permutation, LAST_TIME, SLOTS};
+use reference::generate::params::with;
+use reference::params::{general, topic, topic_index, Params};
+use reference::router::{number, Done, Router, Status, Version, ACTION_LIST, GRAFT, PRUNE};
+
+const V11: &[u8] = b"/meshsub/1.1.0";
+
+fn router(changes: &[(usize, i64)]) -> Router {
+    Router::new(with(&Params::ordinary(), changes)).expect("good parameters")
+}
+
+fn call(router: &mut Router, now: u64, call: Call) -> (u32, Vec<[u32; 3]>) {
+    let mut list = [77; ACTION_LIST + 3];
+    let answer = router.call(&Event { now, call }, &mut list);
+    let count = if let Ok(Done::Actions(count)) = answer { count } else { 0 };
+    assert!(list[3 * count..].iter().all(|&number| number == 77), "numbers past the actions");
+    let actions = list[..3 * count].chunks(3).map(|a| [a[0], a[1], a[2]]).collect();
+    (number(&answer), actions)
+}
+
+fn connect(id: u64, flags: u64) -> Call {
+    Call::Connect { id, group: id, flags, name: V11.to_vec() }
+}
+
+/// Connected peers that are subscribed to topic 0, which is joined.
+fn gathered(inbound: u64, outbound: u64) -> Router {
+    let mut router = router(&[]);
+    assert_eq!(call(&mut router, 0, Call::Join { topic: 0 }).0, 0);
+    for id in 1..=inbound + outbound {
+        let flags = u64::from(id > inbound);
+        assert_eq!(call(&mut router, 0, connect(id, flags)).0, 0);
+        assert_eq!(call(&mut router, 0, Call::Subscribe { id, topic: 0 }).0, 0);
+    }
+    router
+}
+
+fn identity() -> Box<Permutation> {
+    Box::new(std::array::from_fn(|slot| slot as u64))
+}
+
+fn heartbeat(topic: u64, ask: u64) -> Call {
+    Call::Heartbeat { topic, ask, permutation: identity() }
+}
+
+/// Members by decree; 01 lets a mesh pass D_hi only by outbound peers, so the
+/// bench list's meshes are set in the tables.
+fn make_members(router: &mut Router, slots: std::ops::Range<usize>) {
+    for slot in slots {
+        router.peers[slot].topics[0].member = true;
+    }
+    assert!(router.is_valid());
+}
+
+#[test]
+fn bench_decay() {
+    let mut router = router(&[(topic_index(0, topic::P4_DECAY), 970)]);
+    call(&mut router, 0, connect(1, 0));
+    router.peers[0].topics[0].p4 = 120_000;
+    assert_eq!(call(&mut router, 0, Call::Decay).0, 0);
+    assert_eq!(router.peers[0].topics[0].p4, 116_400);
+}
+
+#[test]
+fn bench_p3() {
+    let k = |place| topic_index(0, place);
+    let changes = [(k(topic::P3_THRESHOLD), 20_000), (k(topic::P3_CAP), 20_000), (k(topic::W1), 0)];
+    let mut router = router(&changes);
+    call(&mut router, 0, Call::Join { topic: 0 });
+    call(&mut router, 0, connect(1, 0));
+    call(&mut router, 0, Call::Subscribe { id: 1, topic: 0 });
+    call(&mut router, 0, Call::Graft { id: 1, topic: 0 });
+    router.peers[0].topics[0].p3 = 15_000;
+    router.clock = 120_001;
+    router.peers[0].topics[0].mesh_time = 120_001;
+    assert_eq!(router.score(0), -12_500_000_000);
+    router.peers[0].topics[0].mesh_time = 120_000;
+    assert_eq!(router.score(0), 0);
+}
+
+#[test]
+fn bench_backoff() {
+    let mut router = gathered(1, 0);
+    call(&mut router, 10_000, Call::Prune { id: 1, topic: 0, seconds: 60 });
+    assert!(router.peers[0].backoff_running(0, 69_999));
+    assert!(!router.peers[0].backoff_running(0, 70_000));
+    assert!(!router.is_candidate(0, 0, 69_999));
+    assert!(router.is_candidate(0, 0, 70_000));
+    call(&mut router, 11_000, Call::Prune { id: 1, topic: 0, seconds: 1 });
+    assert_eq!(router.peers[0].backoff_ends[0], 70_000, "a smaller PRUNE shortens nothing");
+}
+
+#[test]
+fn bench_graft_at_d_hi() {
+    let mut router = gathered(13, 1);
+    make_members(&mut router, 0..11);
+    assert_eq!(call(&mut router, 0, Call::Graft { id: 12, topic: 0 }), (0, vec![]));
+    assert_eq!(call(&mut router, 0, Call::Graft { id: 13, topic: 0 }), (0, vec![[PRUNE, 13, 60]]));
+    assert_eq!(call(&mut router, 0, Call::Graft { id: 14, topic: 0 }), (0, vec![]));
+    assert_eq!(router.mesh(0).len(), 13);
+}
+
+#[test]
+fn bench_over_d_hi_without_outbound() {
+    let mut router = gathered(13, 1);
+    make_members(&mut router, 0..13);
+    let (answer, actions) = call(&mut router, 0, heartbeat(0, 0));
+    let mut expected: Vec<[u32; 3]> = (7..=13).map(|id| [PRUNE, id, 60]).collect();
+    expected.push([GRAFT, 14, 0]);
+    assert_eq!((answer, actions), (0, expected));
+    assert_eq!(router.mesh(0).len(), 7);
+}
+
+#[test]
+fn bench_quota_over_d_hi() {
+    let mut router = gathered(12, 2);
+    make_members(&mut router, 0..12);
+    let (_, actions) = call(&mut router, 0, heartbeat(0, 0));
+    assert_eq!(actions, [[GRAFT, 13, 0], [GRAFT, 14, 0]]);
+    assert_eq!(router.mesh(0).len(), 14);
+}
+
+#[test]
+fn swap_spares_the_best() {
+    // Slots 0..12 are inbound, 12 and 13 outbound; D 6, D_score 4, D_out 2.
+    let mut router = gathered(12, 2);
+    make_members(&mut router, 0..14);
+    let (_, actions) = call(&mut router, 0, heartbeat(0, 0));
+    let pruned: Vec<u32> = actions.iter().map(|action| action[1]).collect();
+    assert_eq!(pruned, [5, 6, 7, 8, 9, 10, 11, 12]);
+}
+
+#[test]
+fn opportunism_takes_the_median_after_quota() {
+    let mut router = gathered(5, 2);
+    make_members(&mut router, 0..4);
+    for (slot, p5) in [(0, 0), (1, 0), (2, 100), (3, 100), (4, 50)] {
+        router.peers[slot].p5 = p5;
+    }
+    // The start's median is that of 100. The quota's two of 0 bring it down,
+    // and only then does peer 5 stand above it.
+    let (_, actions) = call(&mut router, 0, heartbeat(0, 1));
+    assert_eq!(actions, [[GRAFT, 6, 0], [GRAFT, 7, 0], [GRAFT, 5, 0]]);
+}
+
+#[test]
+fn cap_bounds_the_total() {
+    let mut router = router(&[]);
+    call(&mut router, 0, connect(1, 0));
+    for k in 0..8 {
+        router.peers[0].topics[k].p2 = 20_000;
+    }
+    // Eight topics of 10 points each pass the cap of 50. A topic's loss of 320
+    // is taken from all 80, not from a share.
+    assert_eq!(router.score(0), 50_000_000_000);
+    router.peers[0].topics[0].p4 = 8_000;
+    assert_eq!(router.score(0), (80 - 320) * 1_000_000_000);
+}
+
+#[test]
+fn order_of_tests() {
+    let mut router = gathered(1, 0);
+    router.clock = 100;
+    let answer = |router: &mut Router, now, call, list: usize| {
+        let before = router.clone();
+        let answer = number(&router.call(&Event { now, call }, &mut vec![0; list]));
+        assert_eq!(*router, before, "a refusal changes nothing");
+        answer
+    };
+    let damaged = |topic| {
+        let mut permutation = identity();
+        permutation[0] = 1;
+        Call::Heartbeat { topic, ask: 0, permutation }
+    };
+    let unknown = Call::Connect { id: 1, group: 0, flags: 0, name: b"/meshsub".to_vec() };
+    assert_eq!(answer(&mut router, LAST_TIME + 1, Call::Decay, 0), 2);
+    assert_eq!(answer(&mut router, 99, Call::Decay, ACTION_LIST - 1), 8);
+    assert_eq!(answer(&mut router, 99, damaged(0), ACTION_LIST), 1);
+    assert_eq!(answer(&mut router, 100, damaged(1), ACTION_LIST), 7);
+    assert_eq!(answer(&mut router, 100, unknown, ACTION_LIST), 6);
+    assert_eq!(answer(&mut router, 100, connect(1, 0), ACTION_LIST), 4);
+    assert_eq!(answer(&mut router, 100, Call::Graft { id: 9, topic: 5 }, ACTION_LIST), 3);
+    router.peers[0].retain_end = 1;
+    assert_eq!(answer(&mut router, LAST_TIME + 1, Call::Decay, 0), 12);
+}
+
+#[test]
+fn ignored_moves_the_clock() {
+    let mut router = gathered(1, 0);
+    let mut expected = router.clone();
+    expected.clock = 9;
+    assert_eq!(call(&mut router, 9, Call::Graft { id: 1, topic: 5 }).0, 11);
+    assert_eq!(router, expected);
+}
+
+#[test]
+fn slots_run_out_and_come_back() {
+    let mut router = router(&[(general::RETAIN, 10)]);
+    for id in 1..=SLOTS as u64 {
+        assert_eq!(call(&mut router, 0, connect(id, 0)).0, 0);
+    }
+    assert_eq!(call(&mut router, 0, connect(65, 0)).0, 5);
+    assert_eq!(call(&mut router, 0, Call::Disconnect { id: 9 }).0, 0);
+    assert_eq!(call(&mut router, 9_999, connect(65, 0)).0, 5);
+    assert_eq!(call(&mut router, 10_000, connect(65, 0)).0, 0);
+    assert_eq!(router.peers[8].id, 65);
+}
+
+#[test]
+fn resumed_record() {
+    let mut router = gathered(1, 0);
+    call(&mut router, 0, Call::SetP5 { id: 1, value: 5 });
+    call(&mut router, 0, Call::Graft { id: 1, topic: 0 });
+    call(&mut router, 0, Call::Delivery { id: 1, topic: 0, kind: 1 });
+    call(&mut router, 1, Call::Disconnect { id: 1 });
+    let retained = &router.peers[0];
+    assert_eq!((retained.status, retained.retain_end), (Status::Retained, 3_600_001));
+    assert_eq!(call(&mut router, 2, Call::Score { id: 1 }).0, 3);
+    let name = b"/meshsub/1.0.0".to_vec();
+    call(&mut router, 3, Call::Connect { id: 1, group: 8, flags: 3, name });
+    let peer = &router.peers[0];
+    assert_eq!((peer.status, peer.retain_end, peer.p5), (Status::Connected, 0, 5));
+    assert_eq!((peer.group, peer.outbound, peer.explicit), (8, true, true));
+    assert_eq!((peer.version, peer.topics[0].p2, peer.topics[0].p3), (Version::V10, 1000, 1000));
+    assert!(!peer.topics[0].subscribed && !peer.topics[0].member);
+}
+
+#[test]
+fn failure_is_punished_at_a_leave() {
+    let mut router = gathered(1, 0);
+    call(&mut router, 0, Call::Graft { id: 1, topic: 0 });
+    call(&mut router, 200_000, Call::Decay);
+    // P3 is (1000 - 0)² millionths, so the score is 1.5 points less 0.5.
+    assert_eq!(router.score(0), 1_000_000_000);
+    call(&mut router, 200_000, Call::SetP5 { id: 1, value: -2_000_000 });
+    assert_eq!(call(&mut router, 200_000, Call::Leave { topic: 0 }), (0, vec![[PRUNE, 1, 10]]));
+    assert_eq!(router.peers[0].topics[0].p3b, 1_000_000);
+    assert_eq!(router.peers[0].backoff_ends[0], 210_000);
+}

@@ -1,0 +1,122 @@
+//! The trace program's output, and the text form of traces.
+
+use reference::coverage::Coverage;
+use reference::generate::traces;
+use reference::params::Params;
+use reference::random::Random;
+use reference::text::{self, Trace};
+use reference::trace::{self, Options};
+
+const ALL: Options = Options { heartbeat: true };
+
+const WORKED_EXAMPLE: &str = "\
+params ordinary
+param w7 -10
+connect time=5 id=7 group=1 inbound /meshsub/1.1.0
+join time=5 topic=0
+subscribe time=5 id=7 topic=0
+heartbeat time=5 topic=0 opportunism=no permutation=...
+prune time=5 id=7 topic=0 seconds=60
+graft time=5 id=7 topic=0
+score time=5 id=7
+";
+
+const EXPECTED: &str = "\
+0 0
+0 0
+0 0
+0 1
+G 7
+0 0
+0 1
+P 7 60
+0 0
+S -10000000000
+";
+
+fn encoded(text: &str) -> Vec<u8> {
+    text::parse(text).expect("a good text").to_bytes()
+}
+
+fn run(text: &str) -> String {
+    trace::run(&encoded(text), ALL)
+}
+
+#[test]
+fn worked_example() {
+    assert_eq!(run(WORKED_EXAMPLE), EXPECTED);
+    let without = trace::run(&encoded(WORKED_EXAMPLE), Options { heartbeat: false });
+    assert_eq!(without, "0 0\n0 0\n0 0\n2 0\n");
+}
+
+#[test]
+fn bad_parameters_stop() {
+    assert_eq!(trace::run(&[], ALL), "10 0\n");
+    assert_eq!(run("params ordinary\nparam D_out 4\n"), "9 202\n");
+    assert_eq!(run("params ordinary\nparam w5 0\njoin time=0 topic=0\n"), "9 13\n");
+    assert_eq!(trace::run(&[2, 0x80], ALL), "10 1\n");
+    assert_eq!(trace::run(&Params::ordinary().to_bytes(), ALL), "");
+}
+
+#[test]
+fn bad_bytes_and_unknown_kinds_stop() {
+    let stops = |bytes: &str| run(&format!("params ordinary\nbytes {bytes}\n"));
+    assert_eq!(stops("0e"), "2 0\n");
+    assert_eq!(stops("00 80"), "2 0\n");
+    assert_eq!(stops("80 00"), "10 0\n");
+    assert_eq!(stops("0c"), "10 0\n");
+    assert_eq!(stops("0c 80 00"), "10 0\n");
+    assert_eq!(stops("0c 00 0c"), "0 0\n10 0\n");
+    let name = " 00".repeat(65);
+    assert_eq!(stops(&format!("01 00 01 00 00 41{name}")), "10 0\n");
+    assert_eq!(stops(&format!("01 00 01 00 00 40{}", &name[3..])), "6 0\n");
+    assert_eq!(stops("01 00 01 00 00 02 41"), "10 0\n");
+}
+
+#[test]
+fn wide_arguments_go_on() {
+    let text = "params ordinary
+join time=18446744073709551615 topic=0
+delivery time=0 id=1 topic=0 kind=4
+connect time=0 id=0 group=0 flags=4 hex:
+decay time=1099511627776
+";
+    assert_eq!(run(text), "2 0\n2 0\n2 0\n0 0\n");
+}
+
+#[test]
+fn text_errors_name_the_line() {
+    let line = |text: &str| text::parse(text).map_err(|error| error.line);
+    assert_eq!(line("# a comment\n\njoin time=0 topic=0\n"), Err(3));
+    assert_eq!(line("params ordinary\njoin time=0 topic=x\n"), Err(2));
+    assert_eq!(line("params ordinary\njoin time=0\n"), Err(2));
+    assert_eq!(line("params ordinary\nparam D_hi\n"), Err(2));
+    assert_eq!(line("params ordinary\ntopic 8 weight 1\n"), Err(2));
+    assert_eq!(line("params ordinary\ndecay time=0\nparam D_hi 12\n"), Err(3));
+    assert_eq!(line("params ordinary\ndecay time=0 more\n"), Err(2));
+    assert_eq!(line("params ordinary\nheartbeat time=0 topic=0 opportunism=no permutation=1\n"), Err(2));
+}
+
+#[test]
+fn decoding_undoes_encoding() {
+    let mut random = Random::new(5);
+    for _ in 0..150 {
+        let bytes = traces::trace(&mut random, ALL, &mut Coverage::default()).bytes;
+        let trace = Trace::from_bytes(&bytes);
+        assert_eq!(trace.to_bytes(), bytes);
+        assert_eq!(text::parse(&text::print(&trace)), Ok(trace));
+    }
+}
+
+#[test]
+fn sample_traces_are_readable() {
+    let directory = concat!(env!("CARGO_MANIFEST_DIR"), "/../traces");
+    let mut count = 0;
+    for entry in std::fs::read_dir(directory).expect("the sample traces") {
+        let text = std::fs::read_to_string(entry.unwrap().path()).unwrap();
+        let trace = text::parse(&text).expect("a good text");
+        assert_eq!(Trace::from_bytes(&trace.to_bytes()), trace);
+        count += 1;
+    }
+    assert!(count >= 4);
+}
