@@ -18,7 +18,7 @@ use Rattle.index.proofs.Flags.{leb-same}
 use Rattle.params.specs.Limits.{at, inLimits, limitAt, limits, fieldOf}
 use Rattle.params.specs.Joint.{joint, rule}
 use Rattle.params.specs.Check.{outside}
-use Rattle.params.proofs.LimitLaws.{between, gain-is}
+use Rattle.params.proofs.LimitLaws.{sides, gain-is}
 use Rattle.params.proofs.CheckLaws.{found-in}
 
 -- rule k, which is the n-th
@@ -29,15 +29,15 @@ module _ (xs : List ℤ) (ok : first 147 (outside xs) ≡ Nothing) where
   -- D_out, D_score and D are not negative
   d-is : pos (natAbs (at xs 1)) ≡ at xs 1
   unfolding limitAt limits
-  d-is = gain-is (limitAt (fieldOf 1) .low) (at xs 1) tt (between xs 1 (found-in xs ok 1 (lit< tt)) .0)
+  d-is = gain-is (limitAt (fieldOf 1) .low) (at xs 1) tt (sides xs 1 (found-in xs ok 1 (lit< tt)) .0)
 
   out-is : pos (natAbs (at xs 3)) ≡ at xs 3
   unfolding limitAt limits
-  out-is = gain-is (limitAt (fieldOf 3) .low) (at xs 3) tt (between xs 3 (found-in xs ok 3 (lit< tt)) .0)
+  out-is = gain-is (limitAt (fieldOf 3) .low) (at xs 3) tt (sides xs 3 (found-in xs ok 3 (lit< tt)) .0)
 
   score-is : pos (natAbs (at xs 4)) ≡ at xs 4
   unfolding limitAt limits
-  score-is = gain-is (limitAt (fieldOf 4) .low) (at xs 4) tt (between xs 4 (found-in xs ok 4 (lit< tt)) .0)
+  score-is = gain-is (limitAt (fieldOf 4) .low) (at xs 4) tt (sides xs 4 (found-in xs ok 4 (lit< tt)) .0)
 
   half : leb (2 * natAbs (at xs 3)) (natAbs (at xs 1)) ≡ rule xs 3
   unfolding rule joint

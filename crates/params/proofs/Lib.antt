@@ -5,4 +5,6 @@ pub mod ReadLaws
 pub mod WriteLaws
 pub mod RoundTrip
 pub mod OrdinaryLaws
+pub mod FieldLaws
+pub mod CodeRules
 pub mod ParamLaws

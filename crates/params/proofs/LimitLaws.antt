@@ -6,7 +6,7 @@ use mathlib.Core.Bool.{Bool, true, false, not, _&&_}
 use mathlib.Core.List.{List, [], _∷_}
 use native.Mathlib.Omega.{arith}
 use borrow.Author.Tests.{le-ltb}
-use lib.Dec.{T, ltb, leb, ltb→lt, leb→le}
+use lib.Dec.{T, ltb, leb, leb·zero, ltb→lt, leb→le}
 use lib.ListN.{getD}
 use lib.IntN.{ℤ, pos, negsuc, negℤ, natAbs}
 use lib.Signed.{leZ, mag}
@@ -16,7 +16,7 @@ use mir.Facts.{and-yes, toZ-ofZ, sfits-lit}
 use Rattle.index.proofs.Index.{both}
 use Rattle.groups.specs.Codes.{codeOf}
 use Rattle.params.specs.declared.Limit.{Limit}
-use Rattle.params.specs.Limits.{to, limits, fieldOf, limitAt, at, inLimits}
+use Rattle.params.specs.Limits.{to, limits, fieldOf, limitAt, at, lies, inLimits}
 use Rattle.params.specs.Check.{outside}
 
 -- the field of topic k's j-th number
@@ -27,9 +27,9 @@ pub yes : (b : Bool) → b ≡ true → T b
 yes b e = subst T (sym e) tt
 
 -- the two halves of being between the limits
-pub between : (xs : List ℤ) (i : ℕ) → inLimits xs i ≡ true → T (leZ (limitAt (fieldOf i) .low) (at xs i)) × T (leZ (at xs i) (limitAt (fieldOf i) .high))
+pub sides : (xs : List ℤ) (i : ℕ) → inLimits xs i ≡ true → T (leZ (limitAt (fieldOf i) .low) (at xs i)) × T (leZ (at xs i) (limitAt (fieldOf i) .high))
 unfolding inLimits
-between xs i e =
+sides xs i e =
     let h = both (leZ (limitAt (fieldOf i) .low) (at xs i)) (leZ (at xs i) (limitAt (fieldOf i) .high)) e in
     (yes (leZ (limitAt (fieldOf i) .low) (at xs i)) (h .0), yes (leZ (at xs i) (limitAt (fieldOf i) .high)) (h .1))
 
@@ -62,6 +62,17 @@ loss-is (pos (suc n)) (pos h) a b = absurd (omega (arith, leb→le h 0 a, leb→
 loss-is (pos (suc n)) (negsuc h) a b = absurd b
 loss-is (negsuc n) hi a b = refl
 
+-- the sign of a number above one that is not negative, and below one that is negative
+pub gain-sign : (lo x : ℤ) → T (leZ (pos 0) lo) → T (leZ lo x) → T (leZ (pos 0) x)
+gain-sign lo (pos n) a b = yes (leb 0 n) (leb·zero n)
+gain-sign (pos l) (negsuc n) a b = absurd b
+gain-sign (negsuc l) (negsuc n) a b = absurd a
+
+pub loss-sign : (x hi : ℤ) → T (leZ hi (negsuc 0)) → T (leZ x hi) → T (leZ x (negsuc 0))
+loss-sign (negsuc n) hi a b = yes (leb 0 n) (leb·zero n)
+loss-sign (pos n) (pos h) a b = absurd a
+loss-sign (pos n) (negsuc h) a b = absurd b
+
 code-le : (lo x hi : ℤ) → T (leZ lo x) → T (leZ x hi) → codeOf x ≤ codeOf lo + codeOf hi
 code-le lo (pos n) (pos h) a b = omega (arith, leb→le n h b)
 code-le lo (pos n) (negsuc h) a b = absurd b
@@ -89,7 +100,7 @@ small-codes f = row-at smallCodes limits (to (pos 0) (pos 0)) tt tt f
 pub code-few : (xs : List ℤ) (i : ℕ) → inLimits xs i ≡ true → codeOf (at xs i) < 34359738368
 code-few xs i e =
     let l = limitAt (fieldOf i) in
-    let h = between xs i e in
+    let h = sides xs i e in
     let s = and-yes (ltb (codeOf (l .low)) 2000000001) (ltb (codeOf (l .high)) 2000000001) (small-codes (fieldOf i)) in
     omega (arith, code-le (l .low) (at xs i) (l .high) (h .0) (h .1), ltb→lt (codeOf (l .low)) 2000000001 (s .0), ltb→lt (codeOf (l .high)) 2000000001 (s .1))
 
@@ -104,16 +115,19 @@ limit-fits f =
     let s = and-yes (ltb (mag (l .low)) (2 ^ 63)) (ltb (mag (l .high)) (2 ^ 63)) (row-at fitting limits (to (pos 0) (pos 0)) tt tt f) in
     (sfits-lit (s .0), sfits-lit (s .1))
 
-pub outside-is :
-    (xs : List ℤ) (i : ℕ) (l : Limit) (r : Bool) →
-    SFits w64 (at xs i) →
-    l ≡ limitAt (fieldOf i) →
-    r ≡ (leZ (toZ w64 (ofZ w64 (l .low))) (toZ w64 (ofZ w64 (at xs i))) && leZ (toZ w64 (ofZ w64 (at xs i))) (toZ w64 (ofZ w64 (l .high)))) →
-    not r ≡ outside xs i
+pub lies-is :
+    (x : ℤ) (f : ℕ) (l : Limit) (r : Bool) →
+    SFits w64 x →
+    l ≡ limitAt f →
+    r ≡ (leZ (toZ w64 (ofZ w64 (l .low))) (toZ w64 (ofZ w64 x)) && leZ (toZ w64 (ofZ w64 x)) (toZ w64 (ofZ w64 (l .high)))) →
+    r ≡ lies x (limitAt f)
+lies-is x f l r fx el e =
+    let d = limit-fits f in
+    rw (el, toZ-ofZ fx, toZ-ofZ (d .0), toZ-ofZ (d .1)) at e
+
+pub outside-is : (xs : List ℤ) (i : ℕ) (r : Bool) → r ≡ lies (at xs i) (limitAt (fieldOf i)) → not r ≡ outside xs i
 unfolding outside inLimits
-outside-is xs i l r fx el e =
-    let f = limit-fits (fieldOf i) in
-    ap not (rw (el, toZ-ofZ fx, toZ-ofZ (f .0), toZ-ofZ (f .1)) at e)
+outside-is xs i r e = ap not e
 
 pub code-is : (xs : List ℤ) (i u : ℕ) → SFits w64 (at xs i) → u ≡ codeOf (toZ w64 (ofZ w64 (at xs i))) → u ≡ codeOf (at xs i)
 code-is xs i u f e = rw (toZ-ofZ f) at e

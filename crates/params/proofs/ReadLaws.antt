@@ -3,13 +3,13 @@
 use Prim.Native.Nat.{ℕ, zero, suc, _+_, _-_, _<_, _≤_}
 use mathlib.Core.Path.{_≡_, refl, sym, ap, _∙_}
 use mathlib.Core.Bool.{Bool, true, false, not, cond}
-use mathlib.Core.List.{List, [], _∷_, _++_, append-assoc, append-nil, map, map-append}
+use mathlib.Core.List.{List, [], _∷_, _++_, append-assoc, append-nil}
 use native.Mathlib.Omega.{arith}
 use native.Mathlib.Numerals.{add-one}
 use borrow.Author.Tests.{lt-ltb, le-ltb, not-true, not-false}
 use lib.Dec.{ltb}
-use lib.ListN.{length, take, set, getD}
-use lib.Seq.{take-suc, take-suc-set, take-all}
+use lib.ListN.{length, take, set}
+use lib.Seq.{take-suc-set, take-all}
 use lib.IntN.{ℤ, pos}
 use Rattle.index.specs.declared.Found.{Found}
 use Rattle.index.specs.declared.Found.the-variants.{At, Nothing}
@@ -114,25 +114,3 @@ module _ (s : List ℕ) (p : Parsed) (e : outcome p ≡ parseFrom 147 s 0) where
   pub read-good : (r : Reading) → not (p .ok) ≡ false → length s ≤ p .place → r ≡ judgedBy (firstBroken (p .params .numbers)) (p .params .numbers) (p .place) → r ≡ readOf s
   unfolding readOf
   read-good r t h q = q ∙ rw (← good t, le-ltb (p .place) (length s) h)
-
--- ---- the numbers of the first i codes
-abbrev pub Decoded : List ℕ → ℕ → List ℤ → Type 0
-Decoded codes i xs = take i xs ≡ map numberOf (take i codes)
-
-pub decoded-more :
-    (codes : List ℕ) (i : ℕ) (xs : List ℤ) (v : ℤ) →
-    i < length codes →
-    i < length xs →
-    Decoded codes i xs →
-    v ≡ numberOf (getD codes i 0) →
-    Decoded codes (i + 1) (set xs i v)
-decoded-more codes i xs v h l d e =
-    rw (add-one i, take-suc-set xs i v l, take-suc codes i 0 h, map-append numberOf (take i codes) (getD codes i 0 ∷ []), d, e)
-
-pub decoded-all :
-    (codes : List ℕ) (i : ℕ) (xs : List ℤ) →
-    length codes ≤ i →
-    length xs ≤ i →
-    Decoded codes i xs →
-    xs ≡ map numberOf codes
-decoded-all codes i xs h l d = rw (take-all i codes h, take-all i xs l) at d

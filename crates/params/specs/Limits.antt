@@ -100,6 +100,9 @@ limitAt f = getD limits f (to (pos 0) (pos 0))
 abbrev pub at : List ℤ → ℕ → ℤ
 at xs i = getD xs i (pos 0)
 
+abbrev pub lies : ℤ → Limit → Bool
+lies x l = leZ (l .low) x && leZ x (l .high)
+
 -- "each number lies between its two limits"
 unfoldable pub inLimits : List ℤ → ℕ → Bool
-inLimits xs i = leZ (limitAt (fieldOf i) .low) (at xs i) && leZ (at xs i) (limitAt (fieldOf i) .high)
+inLimits xs i = lies (at xs i) (limitAt (fieldOf i))

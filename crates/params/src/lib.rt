@@ -1,20 +1,20 @@
 // The router's parameters (01, "The sheet"): 147 numbers, their limits and joint rules, and their form in bytes. The limits stand in one
-// table; the check, and through it the reader and the writer, goes by it. Another edition of the parameters changes a joint rule in `rule`
-// and in specs/Joint.antt.
+// table, by which the check goes, and through it the reader and the writer. Another edition of the parameters changes a row of the table, or
+// a joint rule in `keeps` and `codes_keep`, and the same line of specs/Limits.antt or specs/Joint.antt.
 use groups::Put;
 use groups::Read;
 use index::Found;
 ghost use mathlib.Core.Path.{_≡_};
-ghost use mathlib.Core.Bool.{_&&_};
+ghost use mathlib.Core.Bool.{true, _&&_};
+ghost use mathlib.Core.List.{map};
 ghost use Prim.Native.Nat.{ℕ, _+_, _≤_, _<_};
-ghost use lib.ListN.{getD, length};
-ghost use lib.IntN.{pos, natAbs};
+ghost use lib.ListN.{length};
+ghost use lib.IntN.{natAbs};
 ghost use lib.Seq.{sets};
 ghost use lib.Signed.{leZ, ltZ};
 ghost use Rattle.index.specs.Index.{first, every};
-ghost use mathlib.Core.List.{map};
 ghost use Rattle.groups.specs.Codes.{codeOf, numberOf};
-ghost use Rattle.params.specs.Limits.{fieldOf, limitAt, inLimits, at};
+ghost use Rattle.params.specs.Limits.{fieldOf, limitAt, lies, inLimits, at};
 ghost use Rattle.params.specs.Joint.{capRule, rule};
 ghost use Rattle.params.specs.Check.{outside, broken, firstBroken, acceptedCodes};
 ghost use Rattle.params.specs.Read.{parseFrom, outcome, refusal, judgedBy, readOf, frontOf};
@@ -44,25 +44,49 @@ const LIMITS: [Limit; 35] = [
     // unsubscribe backoff
     Limit { low: 1, high: 3600 },
     // retain seconds
-    Limit { low: 0, high: 86400 },
+    Limit {
+        low: 0,
+        high: 86400,
+    },
     // opportunistic threshold
-    Limit { low: 0, high: 1000000 },
+    Limit {
+        low: 0,
+        high: 1000000,
+    },
     // graylist threshold
-    Limit { low: -1000000000, high: -1 },
+    Limit {
+        low: -1000000000,
+        high: -1,
+    },
     // gossip threshold
-    Limit { low: -1000000000, high: -1 },
+    Limit {
+        low: -1000000000,
+        high: -1,
+    },
     // publish threshold
-    Limit { low: -1000000000, high: -1 },
+    Limit {
+        low: -1000000000,
+        high: -1,
+    },
     // topic cap
-    Limit { low: 0, high: 1000000000 },
+    Limit {
+        low: 0,
+        high: 1000000000,
+    },
     // w5
     Limit { low: 1, high: 100 },
     // w6
-    Limit { low: -100, high: -1 },
+    Limit {
+        low: -100,
+        high: -1,
+    },
     // P6 threshold
     Limit { low: 1, high: 64 },
     // w7
-    Limit { low: -100, high: -1 },
+    Limit {
+        low: -100,
+        high: -1,
+    },
     // P7 decay
     Limit { low: 1, high: 999 },
     // decay-to-zero
@@ -72,7 +96,10 @@ const LIMITS: [Limit; 35] = [
     // w1
     Limit { low: 0, high: 100 },
     // quantum
-    Limit { low: 1, high: 3600000 },
+    Limit {
+        low: 1,
+        high: 3600000,
+    },
     // P1 cap
     Limit { low: 0, high: 1000 },
     // w2
@@ -80,17 +107,29 @@ const LIMITS: [Limit; 35] = [
     // P2 decay
     Limit { low: 1, high: 999 },
     // P2 cap
-    Limit { low: 0, high: 1000000 },
+    Limit {
+        low: 0,
+        high: 1000000,
+    },
     // w3
     Limit { low: -100, high: 0 },
     // P3 decay
     Limit { low: 1, high: 999 },
     // P3 cap
-    Limit { low: 1, high: 1000000 },
+    Limit {
+        low: 1,
+        high: 1000000,
+    },
     // P3 threshold
-    Limit { low: 1, high: 1000000 },
+    Limit {
+        low: 1,
+        high: 1000000,
+    },
     // activation
-    Limit { low: 0, high: 3600000 },
+    Limit {
+        low: 0,
+        high: 3600000,
+    },
     // w3b
     Limit { low: -100, high: 0 },
     // P3b decay
@@ -133,6 +172,7 @@ struct Parsed {
     params: Params,
 }
 
+// The field of number i.
 fn field_of(i: usize) -> usize
     requires { ⌜ i < 147 ⌝ }
     ensures { λ r. ⌜ (r ≡ fieldOf i) × (r < 35) ⌝ }
@@ -140,6 +180,7 @@ fn field_of(i: usize) -> usize
     if i < 19 { i } else { 19 + (i - 19) % 16 }
 }
 
+// The limits of number i.
 fn limit_of(i: usize) -> Limit
     requires { ⌜ i < 147 ⌝ }
     ensures { λ r. ⌜ r ≡ limitAt (fieldOf i) ⌝ }
@@ -148,6 +189,7 @@ fn limit_of(i: usize) -> Limit
     LIMITS[f]
 }
 
+// Whether x lies between two limits.
 fn between(low: i64, x: i64, high: i64) -> bool
     ensures { λ r. ⌜ r ≡ (leZ low x && leZ x high) ⌝ }
 {
@@ -177,9 +219,7 @@ impl Params {
         }
         Found::Nothing
     }
-}
 
-impl Params {
     // The magnitude of number i.
     fn size(self, i: usize) -> u64
         requires { ⌜ i < 147 ⌝ }
@@ -188,6 +228,7 @@ impl Params {
         groups::magnitude(self.numbers[i])
     }
 
+    // Whether number i is at most number j.
     fn at_most(self, i: usize, j: usize) -> bool
         requires { ⌜ (i < 147) × (j < 147) ⌝ }
         ensures { λ r. ⌜ r ≡ leZ (at (self .numbers) i) (at (self .numbers) j) ⌝ }
@@ -197,6 +238,7 @@ impl Params {
         a <= b
     }
 
+    // Whether number i is below number j.
     fn below(self, i: usize, j: usize) -> bool
         requires { ⌜ (i < 147) × (j < 147) ⌝ }
         ensures { λ r. ⌜ r ≡ ltZ (at (self .numbers) i) (at (self .numbers) j) ⌝ }
@@ -227,23 +269,33 @@ impl Params {
         ensures { λ r. ⌜ r ≡ rule (self .numbers) k ⌝ }
     {
         match k {
+            // D_lo ≤ D
             0 => self.at_most(0, 1),
+            // D ≤ D_hi
             1 => self.at_most(1, 2),
+            // D_out < D_lo
             2 => self.below(3, 0),
+            // 2·D_out ≤ D
             3 => self.size(3) <= self.size(1) / 2,
+            // D_score + D_out ≤ D
             4 => {
                 let d = self.size(1);
-                let a = self.size(4);
-                if a <= d { self.size(3) <= d - a } else { false }
+                let score = self.size(4);
+                if score <= d {
+                    self.size(3) <= d - score
+                } else {
+                    false
+                }
             }
+            // publish ≤ gossip
             5 => self.at_most(11, 10),
+            // graylist < publish
             6 => self.below(9, 11),
+            // P3 cap ≥ P3 threshold
             _ => self.caps(),
         }
     }
-}
 
-impl Params {
     // The first joint rule that is broken.
     fn first_rule(self) -> Found
         requires { ⌜ first 147 (outside (self .numbers)) ≡ Found.Nothing ⌝ }
@@ -300,6 +352,7 @@ fn parse(s: &[u8]) -> Parsed
     }
 }
 
+// A refusal, with zeros for the parameters.
 fn refused(verdict: Verdict) -> Reading
     ensures { λ r. ⌜ r ≡ refusal verdict ⌝ }
 {
@@ -385,32 +438,76 @@ impl Params {
     }
 }
 
-// Whether 147 codes are those of parameters that pass the check.
+// Whether u is the code of a number between the limits of number i.
+fn code_lies(u: u64, i: usize) -> bool
+    requires { ⌜ i < 147 ⌝ }
+    ensures { λ r. ⌜ r ≡ lies (numberOf u) (limitAt (fieldOf i)) ⌝ }
+{
+    let l = limit_of(i);
+    between(l.low, groups::number_of(u), l.high)
+}
+
+// Whether 147 codes are those of numbers between their limits.
+fn codes_lie(codes: &[u64]) -> bool
+    requires { ⌜ length (now codes) ≡ 147 ⌝ }
+    ensures { λ r. ⌜ r ≡ every 147 (inLimits (map numberOf (now (codes .entry)))) ⌝ }
+{
+    let mut ok = true;
+    let mut i: usize = 0;
+    while i < 147 {
+        let b = code_lies(codes[i], i);
+        ok = ok & b;
+        i += 1;
+    }
+    ok
+}
+
+// Whether in every topic P3 cap is at least P3 threshold, of codes of numbers between their limits.
+fn codes_cap(codes: &[u64]) -> bool
+    requires { ⌜ (length (now codes) ≡ 147) × (every 147 (inLimits (map numberOf (now codes))) ≡ true) ⌝ }
+    ensures { λ r. ⌜ r ≡ every 8 (capRule (map numberOf (now (codes .entry)))) ⌝ }
+{
+    let mut ok = true;
+    let mut k: usize = 0;
+    while k < 8 {
+        let at = 19 + 16 * k;
+        let b = codes[at + 10] <= codes[at + 9];
+        ok = ok & b;
+        k += 1;
+    }
+    ok
+}
+
+// The joint rules, of codes of numbers between their limits, in the order of `keeps`. Two codes of one sign stand to each other as the
+// magnitudes do, so nothing is decoded.
+fn codes_keep(codes: &[u64]) -> bool
+    requires { ⌜ (length (now codes) ≡ 147) × (every 147 (inLimits (map numberOf (now codes))) ≡ true) ⌝ }
+    ensures { λ r. ⌜ r ≡ every 8 (rule (map numberOf (now (codes .entry)))) ⌝ }
+{
+    let caps = codes_cap(codes);
+    let d = codes[1];
+    let out = codes[3];
+    (codes[0] <= d)
+        & (d <= codes[2])
+        & (out < codes[0])
+        & (2 * out <= d)
+        & (codes[4] + out <= d)
+        & (codes[10] <= codes[11])
+        & (codes[11] < codes[9])
+        & caps
+}
+
+// Whether 147 codes are those of parameters that pass the check. Every call of a router asks this, so it has no early end.
 pub fn accepts_codes(codes: &[u64]) -> bool
     ensures { λ r. ⌜ r ≡ acceptedCodes (now (codes .entry)) ⌝ }
 {
     if codes.len() != 147 {
         return false;
     }
-    let p = from_codes(codes);
-    match p.first_broken() {
-        Found::At(_) => false,
-        Found::Nothing => true,
+    if !codes_lie(codes) {
+        return false;
     }
-}
-
-// The parameters of 147 codes.
-fn from_codes(codes: &[u64]) -> Params
-    requires { ⌜ length (now codes) ≡ 147 ⌝ }
-    ensures { λ r. ⌜ r .numbers ≡ map numberOf (now (codes .entry)) ⌝ }
-{
-    let mut numbers = [0i64; 147];
-    let mut i: usize = 0;
-    while i < 147 {
-        numbers[i] = groups::number_of(codes[i]);
-        i += 1;
-    }
-    Params { numbers }
+    codes_keep(codes)
 }
 
 impl Params {

@@ -1,6 +1,6 @@
 -- `params::accepts_codes` meets its contract. Assumes nothing.
 use borrow.Author.Needs.{needs}
-use Rattle.params.proofs.CheckLaws.{codes-short, codes-broken, codes-kept}
+use Rattle.params.proofs.CheckLaws.{codes-short, codes-outside, codes-within, codes-kept}
 use Rattle.params.proofs.accepts_codes.Statement.{statement}
 use Rattle.params.proofs.accepts_codes.Tie as tie
 
@@ -9,8 +9,6 @@ accepts-codes-spec =
     tie.close (tie.spec
     (λ c. codes-short _ (c .if1 .taken))
     (λ c κs. search needs)
-    (λ c κs. tt)
-    (λ c. search needs)
-    (λ c. search needs)
-    (λ c. codes-broken _ _ _ (c .before .before .before .before .if1 .left) (c .before .before .before .from-codes .ensures) (c .before .before .first-broken .ensures) _ (c .enum-told .given .1))
-    (λ c. codes-kept _ _ _ (c .before .before .before .before .if1 .left) (c .before .before .before .from-codes .ensures) (c .before .before .first-broken .ensures) (c .enum-told2 .given .1)))
+    (λ c. codes-outside _ (c .before .before .if1 .left) _ (c .before .codes-lie .ensures) (c .if2 .taken))
+    (λ c κs. (c .before .before .if1 .left, codes-within (c .before .before .before .before .args .codes .now) (c .before .before .if1 .left) _ (c .before .codes-lie .ensures) (c .if2 .left)))
+    (λ c. codes-kept _ (c .before .before .before .if1 .left) _ (c .before .before .codes-lie .ensures) _ (c .before .if2 .left) (c .codes-keep .ensures)))

@@ -40,14 +40,13 @@ put-spec =
     (λ c. omega arith)
     (λ c. let l = c .before .before .before .before .before .before .before .before .before .before .loop in
     let s = c .before .before .before .before .before .before .before .before .before .before .before .before in
-    let n : length (s .args .t1 .numbers) ≡ 147 = search needs in
-    (
+    let n : length (s .args .t1 .numbers) ≡ 147 = search needs in (
       omega arith,
       stands-more (s .args .t1 .numbers) (l .i) _ _ _ _ _ _ (c .before .before .before .before .before .before .before .before .before .loop-test .taken) (s .pre .1) (l .inv .1)
-      (sfits-of (c .before .before .before .before .before .before .before .before .code-of-arg .given))
-      (c .before .before .before .before .before .before .before .code-of .ensures)
-      (c .before .before .before .before .before .write-u64 .ensures)
-      _ (omega arith) (c .before .before .before .before .before .write-u64 .kept .0) (c .before .next .given .1),
+          (sfits-of (c .before .before .before .before .before .before .before .before .code-of-arg .given))
+          (c .before .before .before .before .before .before .before .code-of .ensures)
+          (c .before .before .before .before .before .write-u64 .ensures)
+          _ (omega arith) (c .before .before .before .before .before .write-u64 .kept .0) (c .before .next .given .1),
     ))
     (λ c. c .before .loop .inv .1 .same)
     (λ c. let l = c .before .loop in

@@ -1,0 +1,623 @@
+-- Laws of the effects: what each leaves alone, and what stands in each slot after it.
+-- Assumes nothing.
+use Prim.Native.Nat.{ℕ, _+_, _*_, _≤_, _<_, max}
+use native.Mathlib.Omega.{arith}
+use mathlib.Core.Path.{_≡_, refl, sym, ap, _∙_}
+use mathlib.Core.Logic.{_≢_}
+use mathlib.Core.Bool.{Bool, true, false, cond, not, _&&_}
+use mathlib.Core.List.{List}
+use lib.ListN.{length, getD, set, length-set}
+use lib.Seq.{getD-set-same, getD-set-other}
+use lib.Dec.{eqb, leb, ltb}
+use borrow.Author.Tests.{leb-true, ltb-false, eqb-true, not-true, ne-eqb}
+use Rattle.index.specs.Index.{every, first, count, one, iter}
+use Rattle.index.specs.declared.Found.the-variants.{At, Nothing}
+use Rattle.index.proofs.Index.{both, every-at, count-same, iter-keeps, first-passed}
+use Rattle.index.proofs.Flags.{by-test, cond-case}
+use Rattle.index.proofs.Lists.{set-case}
+use Rattle.records.specs.declared.Peer.{Peer}
+use Rattle.records.specs.declared.TopicRecord.{TopicRecord}
+use Rattle.records.specs.Records.{State, slotCount, topicCount, noPeer, noTopic, place, codeIn, joinedIn, peerIn, topicIn, setPeer, setTopic, isEmpty, isConnected, isRetained}
+use Rattle.cells.specs.View.{Sized}
+use Rattle.cells.proofs.StateLaws.{peer-same, peer-other, peer-case, topic-same, topic-other, topic-case, peer-after-topic, topic-after-peer, sized-peer, sized-topic}
+use Rattle.effects.specs.Effects.{withEnd, withP5, withP7, connectedAs, retainedTo, retainSeconds, endAfter, outOfMesh, intoMesh, withSubscribed, onPeer, onTopic, isMember, isSubscribed, meshSize, backoffRuns, pruned, leftTopic, departed, reclaimable, emptied, reclaimSlot, reclaimed}
+use Rattle.effects.proofs.Walks.{iter-kept, iter-before, iter-once, iter-still, count-change}
+
+-- ---- places of topic records
+
+pub place-below : (s t : ℕ) → s < 64 → t < 8 → place s t < 512
+place-below s t h k = omega arith
+
+-- topic records of two slots, and of two topics of a slot, stand apart
+pub place-slot : (s t u v : ℕ) → t < 8 → v < 8 → u ≢ s → place u v ≢ place s t
+place-slot s t u v h k n e = n (omega arith)
+
+pub place-topic : (s t v : ℕ) → v ≢ t → place s v ≢ place s t
+place-topic s t v n e = n (omega arith)
+
+-- ---- what stays: `Kept a b` says that b has a's clock, joined flags and codes
+
+pub record Kept (a b : State) : Type 0 where
+  pub clock : b .clock ≡ a .clock
+  pub joined : b .joined ≡ a .joined
+  pub codes : b .codes ≡ a .codes
+
+pub kept-code : {a b : State} → Kept a b → (i : ℕ) → codeIn b i ≡ codeIn a i
+unfolding codeIn
+kept-code k i = ap (λ (l : List ℕ). getD l i 0) (k .codes)
+
+pub kept-joined : {a b : State} → Kept a b → (t : ℕ) → joinedIn b t ≡ joinedIn a t
+unfolding joinedIn
+kept-joined k t = ap (λ (l : List ℕ). getD l t 0) (k .joined)
+
+pub kept-self : (st : State) → Kept st st
+kept-self st = record { clock = refl; joined = refl; codes = refl }
+
+pub kept-then : {a b c : State} → Kept a b → Kept b c → Kept a c
+kept-then p q =
+    record { clock = q .clock ∙ p .clock; joined = q .joined ∙ p .joined; codes = q .codes ∙ p .codes }
+
+pub kept-peer : (st : State) (s : ℕ) (p : Peer) → Kept st (setPeer st s p)
+unfolding setPeer
+kept-peer st s p = record { clock = refl; joined = refl; codes = refl }
+
+pub kept-topic : (st : State) (k : ℕ) (t : TopicRecord) → Kept st (setTopic st k t)
+unfolding setTopic
+kept-topic st k t = record { clock = refl; joined = refl; codes = refl }
+
+pub kept-iter :
+    (f : ℕ → State → State) (n : ℕ) (st : State) →
+    ((i : ℕ) (u : State) → Kept u (f i u)) →
+    Kept st (iter n f st)
+kept-iter f n st k = iter-keeps (λ u. Kept st u) f n st (kept-self st) (λ i u h e. kept-then e (k i u))
+
+pub kept-pruned : (st : State) (s t end : ℕ) → Kept st (pruned st s t end)
+unfolding pruned
+kept-pruned st s t end = kept-then (kept-topic st (place s t) _) (kept-peer _ s _)
+
+pub kept-left : (st : State) (s t : ℕ) → Kept st (leftTopic st s t)
+unfolding leftTopic
+kept-left st s t = kept-topic st (place s t) _
+
+pub kept-departed : (st : State) (s time : ℕ) → Kept st (departed st s time)
+unfolding departed
+kept-departed st s time =
+    kept-then (kept-iter (λ t u. leftTopic u s t) 8 st (λ t u. kept-left u s t)) (kept-peer _ s _)
+
+pub kept-emptied : (st : State) (s : ℕ) → Kept st (emptied st s)
+unfolding emptied
+kept-emptied st s =
+    kept-then
+    (kept-iter (λ t u. setTopic u (place s t) noTopic) 8 st (λ t u. kept-topic u (place s t) noTopic))
+    (kept-peer _ s noPeer)
+
+pub kept-reclaim : (time s : ℕ) (st : State) → Kept st (reclaimSlot time s st)
+unfolding reclaimSlot
+kept-reclaim time s st =
+    cond-case
+    (λ u. Kept st u)
+    (reclaimable (peerIn st s) time)
+    (emptied st s)
+    st
+    (λ h. kept-emptied st s)
+    (λ h. kept-self st)
+
+pub kept-reclaimed : (st : State) (time : ℕ) → Kept st (reclaimed st time)
+unfolding reclaimed
+kept-reclaimed st time = kept-iter (reclaimSlot time) 64 st (kept-reclaim time)
+
+-- ---- one record: what a change of it does not change is the same at every slot, in and out of the table
+
+pub on-peer :
+    {A : Type 0} (read : Peer → A) (st : State) (s : ℕ) (g : Peer → Peer) (u : ℕ) →
+    read (g (peerIn st s)) ≡ read (peerIn st s) →
+    read (peerIn (onPeer st s g) u) ≡ read (peerIn st u)
+on-peer read st s g u h =
+    peer-case
+    st
+    (λ p. read p ≡ read (peerIn st u))
+    s
+    (g (peerIn st s))
+    u
+    (λ e. h ∙ ap (λ (k : ℕ). read (peerIn st k)) (sym e))
+    refl
+
+pub on-topic :
+    {A : Type 0} (read : TopicRecord → A) (st : State) (s t : ℕ) (g : TopicRecord → TopicRecord) (k : ℕ) →
+    read (g (topicIn st (place s t))) ≡ read (topicIn st (place s t)) →
+    read (topicIn (onTopic st s t g) k) ≡ read (topicIn st k)
+on-topic read st s t g k h =
+    topic-case
+    st
+    (λ r. read r ≡ read (topicIn st k))
+    (place s t)
+    (g (topicIn st (place s t)))
+    k
+    (λ e. h ∙ ap (λ (i : ℕ). read (topicIn st i)) (sym e))
+    refl
+
+-- ---- the ends of a record's backoffs
+
+pub ends-with : (p : Peer) (t end : ℕ) → length (withEnd p t end .backoff) ≡ length (p .backoff)
+unfolding withEnd
+ends-with p t end = length-set (p .backoff) t (max (getD (p .backoff) t 0) end)
+
+pub end-same :
+    (p : Peer) (t end : ℕ) →
+    t < length (p .backoff) →
+    getD (withEnd p t end .backoff) t 0 ≡ max (getD (p .backoff) t 0) end
+unfolding withEnd
+end-same p t end h = getD-set-same (p .backoff) t (max (getD (p .backoff) t 0) end) 0 h
+
+pub end-other :
+    (p : Peer) (t end u : ℕ) → u ≢ t → getD (withEnd p t end .backoff) u 0 ≡ getD (p .backoff) u 0
+unfolding withEnd
+end-other p t end u n = getD-set-other (p .backoff) t u (max (getD (p .backoff) t 0) end) 0 n
+
+-- no end gets earlier
+pub end-later : (p : Peer) (t end u : ℕ) → getD (p .backoff) u 0 ≤ getD (withEnd p t end .backoff) u 0
+unfolding withEnd
+end-later p t end u =
+    set-case
+    (λ (e : ℕ). getD (p .backoff) u 0 ≤ e)
+    (p .backoff)
+    t
+    u
+    (max (getD (p .backoff) t 0) end)
+    0
+    (λ k. let e : getD (p .backoff) u 0 ≡ getD (p .backoff) t 0 = ap (λ (i : ℕ). getD (p .backoff) i 0) k in omega arith)
+    (omega arith)
+
+-- ---- sizes
+
+pub sized-on-peer :
+    (st : State) (s : ℕ) (g : Peer → Peer) →
+    Sized st →
+    length (g (peerIn st s) .backoff) ≡ length (peerIn st s .backoff) →
+    Sized (onPeer st s g)
+sized-on-peer st s g size e = sized-peer st size s (g (peerIn st s)) (e ∙ size .ends s)
+
+pub sized-pruned : (st : State) (s t end : ℕ) → Sized st → Sized (pruned st s t end)
+unfolding pruned
+sized-pruned st s t end size =
+    sized-on-peer
+    (onTopic st s t outOfMesh)
+    s
+    (λ p. withEnd p t end)
+    (sized-topic st size (place s t) (outOfMesh (topicIn st (place s t))))
+    (ends-with (peerIn (onTopic st s t outOfMesh) s) t end)
+
+pub sized-left : (st : State) (s t : ℕ) → Sized st → Sized (leftTopic st s t)
+unfolding leftTopic
+sized-left st s t size = sized-topic st size (place s t) _
+
+-- the topics that a disconnect leaves, one after the other
+abbrev leave : ℕ → ℕ → State → State
+leave s t u = leftTopic u s t
+
+-- and the topic records that `emptied` empties
+abbrev empty : ℕ → ℕ → State → State
+empty s t u = setTopic u (place s t) noTopic
+
+sized-leave : (st : State) (s n : ℕ) → Sized st → Sized (iter n (leave s) st)
+sized-leave st s n size = iter-keeps (λ u. Sized u) (leave s) n st size (λ t u h. sized-left u s t)
+
+sized-empty : (st : State) (s n : ℕ) → Sized st → Sized (iter n (empty s) st)
+sized-empty st s n size =
+    iter-keeps (λ u. Sized u) (empty s) n st size (λ t u h k. sized-topic u k (place s t) noTopic)
+
+pub sized-departed : (st : State) (s time : ℕ) → Sized st → Sized (departed st s time)
+unfolding departed retainedTo
+sized-departed st s time size =
+    sized-on-peer (iter 8 (leave s) st) s (λ p. retainedTo p (endAfter time (retainSeconds st))) (sized-leave st s 8 size) refl
+
+pub sized-emptied : (st : State) (s : ℕ) → Sized st → Sized (emptied st s)
+unfolding emptied
+sized-emptied st s size = sized-peer (iter 8 (empty s) st) (sized-empty st s 8 size) s noPeer refl
+
+pub sized-reclaim : (time s : ℕ) (st : State) → Sized st → Sized (reclaimSlot time s st)
+unfolding reclaimSlot
+sized-reclaim time s st size =
+    cond-case
+    (λ u. Sized u)
+    (reclaimable (peerIn st s) time)
+    (emptied st s)
+    st
+    (λ h. sized-emptied st s size)
+    (λ h. size)
+
+sized-walk : (st : State) (time n : ℕ) → Sized st → Sized (iter n (reclaimSlot time) st)
+sized-walk st time n size =
+    iter-keeps (λ u. Sized u) (reclaimSlot time) n st size (λ s u h. sized-reclaim time s u)
+
+pub sized-reclaimed : (st : State) (time : ℕ) → Sized st → Sized (reclaimed st time)
+unfolding reclaimed
+sized-reclaimed st time size = sized-walk st time 64 size
+
+-- ---- a PRUNE's effect, slot by slot
+
+module _ (st : State) (s t end : ℕ) where
+  pub pruned-other : (u : ℕ) → u ≢ s → peerIn (pruned st s t end) u ≡ peerIn st u
+  unfolding pruned
+  pruned-other u n = peer-other _ s _ u n ∙ peer-after-topic st (place s t) _ u
+
+  pub pruned-topic-other : (k : ℕ) → k ≢ place s t → topicIn (pruned st s t end) k ≡ topicIn st k
+  unfolding pruned
+  pruned-topic-other k n = topic-after-peer _ s _ k ∙ topic-other st (place s t) _ k n
+
+  -- what neither a backoff nor the mesh is
+  pub pruned-reads :
+      {A : Type 0} (read : Peer → A) (u : ℕ) →
+      ((p : Peer) → read (withEnd p t end) ≡ read p) →
+      read (peerIn (pruned st s t end) u) ≡ read (peerIn st u)
+  unfolding pruned
+  pruned-reads read u h =
+      on-peer read (onTopic st s t outOfMesh) s (λ p. withEnd p t end) u (h (peerIn (onTopic st s t outOfMesh) s))
+      ∙ ap read (peer-after-topic st (place s t) (outOfMesh (topicIn st (place s t))) u)
+
+  module _ (size : Sized st) (h : s < 64) where
+    pub pruned-same : peerIn (pruned st s t end) s ≡ withEnd (peerIn st s) t end
+    unfolding pruned
+    pruned-same =
+        let z : Sized (onTopic st s t outOfMesh) = sized-topic st size (place s t) _ in
+        let l : s < length (onTopic st s t outOfMesh .peers) = omega (arith, z .peers) in
+        peer-same (onTopic st s t outOfMesh) s _ l
+        ∙ ap (λ (p : Peer). withEnd p t end) (peer-after-topic st (place s t) _ s)
+
+    pub pruned-topic-same : t < 8 → topicIn (pruned st s t end) (place s t) ≡ outOfMesh (topicIn st (place s t))
+    unfolding pruned
+    pruned-topic-same k =
+        let l : place s t < length (st .topics) = omega (arith, size .topics) in
+        topic-after-peer _ s _ (place s t) ∙ topic-same st (place s t) _ l
+
+-- ---- members of a mesh
+
+module _ (st : State) (s t : ℕ) (g : TopicRecord → TopicRecord) where
+  pub member-apart : (u v : ℕ) → place u v ≢ place s t → isMember (onTopic st s t g) v u ≡ isMember st v u
+  unfolding isMember
+  member-apart u v n = ap (λ (r : TopicRecord). eqb (r .member) 1) (topic-other st (place s t) _ (place u v) n)
+
+  -- the mesh of another topic
+  pub mesh-apart : (v : ℕ) → t < 8 → v < 8 → v ≢ t → meshSize (onTopic st s t g) v ≡ meshSize st v
+  unfolding meshSize
+  mesh-apart v h k n =
+      count-same
+      (isMember (onTopic st s t g) v)
+      (isMember st v)
+      64
+      (λ u l. member-apart u v (λ (e : place u v ≡ place s t). n (omega arith)))
+
+  module _ (size : Sized st) (h : s < 64) (k : t < 8) where
+    pub member-on : isMember (onTopic st s t g) t s ≡ eqb (g (topicIn st (place s t)) .member) 1
+    unfolding isMember
+    member-on =
+        let l : place s t < length (st .topics) = omega (arith, size .topics) in
+        ap (λ (r : TopicRecord). eqb (r .member) 1) (topic-same st (place s t) _ l)
+
+    -- how the size of the mesh changes: by the slot itself
+    pub mesh-on :
+        meshSize (onTopic st s t g) t + one (isMember st t s)
+        ≡ meshSize st t + one (eqb (g (topicIn st (place s t)) .member) 1)
+    unfolding meshSize
+    mesh-on =
+        count-change
+        (isMember (onTopic st s t g) t)
+        (isMember st t)
+        s
+        64
+        h
+        (λ u l n. member-apart u t (place-slot s t u t k k n))
+        ∙ ap (λ (b : Bool). count 64 (isMember st t) + one b) member-on
+
+module _ (st : State) (s t : ℕ) (size : Sized st) (h : s < 64) (k : t < 8) where
+  pub member-in : (time : ℕ) → isMember (onTopic st s t (λ r. intoMesh r time)) t s ≡ true
+  unfolding intoMesh
+  member-in time = member-on st s t (λ r. intoMesh r time) size h k
+
+  pub member-out : isMember (onTopic st s t outOfMesh) t s ≡ false
+  unfolding outOfMesh
+  member-out = member-on st s t outOfMesh size h k
+
+  pub mesh-in :
+      (time : ℕ) → isMember st t s ≡ false → meshSize (onTopic st s t (λ r. intoMesh r time)) t ≡ meshSize st t + 1
+  unfolding intoMesh
+  mesh-in time e =
+      let a : meshSize (onTopic st s t (λ r. intoMesh r time)) t + one (isMember st t s) ≡ meshSize st t + 1 =
+      mesh-on st s t (λ r. intoMesh r time) size h k in
+      let b : one (isMember st t s) ≡ 0 = rw e in
+      omega arith
+
+  pub mesh-out : isMember st t s ≡ true → meshSize (onTopic st s t outOfMesh) t + 1 ≡ meshSize st t
+  unfolding outOfMesh
+  mesh-out e =
+      let a : meshSize (onTopic st s t outOfMesh) t + one (isMember st t s) ≡ meshSize st t + 0 =
+      mesh-on st s t outOfMesh size h k in
+      let b : one (isMember st t s) ≡ 1 = rw e in
+      omega arith
+
+-- a store of a peer's record moves no one in or out of a mesh
+pub member-peer : (st : State) (s : ℕ) (p : Peer) (u v : ℕ) → isMember (setPeer st s p) v u ≡ isMember st v u
+unfolding isMember
+member-peer st s p u v = ap (λ (r : TopicRecord). eqb (r .member) 1) (topic-after-peer st s p (place u v))
+
+pub mesh-peer : (st : State) (s : ℕ) (p : Peer) (v : ℕ) → meshSize (setPeer st s p) v ≡ meshSize st v
+unfolding meshSize
+mesh-peer st s p v =
+    count-same (isMember (setPeer st s p) v) (isMember st v) 64 (λ u l. member-peer st s p u v)
+
+module _ (st : State) (s t end : ℕ) where
+  pub pruned-apart : (u v : ℕ) → place u v ≢ place s t → isMember (pruned st s t end) v u ≡ isMember st v u
+  unfolding pruned
+  pruned-apart u v n = member-peer (onTopic st s t outOfMesh) s _ u v ∙ member-apart st s t outOfMesh u v n
+
+  module _ (size : Sized st) (h : s < 64) (k : t < 8) where
+    pub pruned-member : isMember (pruned st s t end) t s ≡ false
+    unfolding pruned
+    pruned-member = member-peer (onTopic st s t outOfMesh) s _ s t ∙ member-out st s t size h k
+
+    pub pruned-mesh : isMember st t s ≡ true → meshSize (pruned st s t end) t + 1 ≡ meshSize st t
+    unfolding pruned
+    pruned-mesh e =
+        ap (λ (n : ℕ). n + 1) (mesh-peer (onTopic st s t outOfMesh) s _ t) ∙ mesh-out st s t size h k e
+
+-- ---- the topic records of one slot, walked
+
+left-other : (s t : ℕ) (i : ℕ) (u : State) → i ≢ t → topicIn (leave s i u) (place s t) ≡ topicIn u (place s t)
+unfolding leftTopic
+left-other s t i u n = topic-other u (place s i) _ (place s t) (place-topic s i t (λ e. n (sym e)))
+
+empty-other : (s t : ℕ) (i : ℕ) (u : State) → i ≢ t → topicIn (empty s i u) (place s t) ≡ topicIn u (place s t)
+empty-other s t i u n = topic-other u (place s i) noTopic (place s t) (place-topic s i t (λ e. n (sym e)))
+
+-- ---- a disconnect, slot by slot
+
+module _ (st : State) (s time : ℕ) where
+  leave-peer : (u : ℕ) → peerIn (iter 8 (leave s) st) u ≡ peerIn st u
+  unfolding leftTopic
+  leave-peer u = iter-kept (λ v. peerIn v u) (leave s) 8 st (λ t v h. peer-after-topic v (place s t) _ u)
+
+  pub departed-other : (u : ℕ) → u ≢ s → peerIn (departed st s time) u ≡ peerIn st u
+  unfolding departed
+  departed-other u n = peer-other (iter 8 (leave s) st) s _ u n ∙ leave-peer u
+
+  pub departed-topic-other :
+      (u t : ℕ) → u ≢ s → t < 8 → topicIn (departed st s time) (place u t) ≡ topicIn st (place u t)
+  unfolding departed leftTopic
+  departed-topic-other u t n h =
+      topic-after-peer (iter 8 (leave s) st) s _ (place u t)
+      ∙ iter-kept
+      (λ v. topicIn v (place u t))
+      (leave s)
+      8
+      st
+      (λ i v l. topic-other v (place s i) _ (place u t) (place-slot s i u t l h n))
+
+  module _ (size : Sized st) (h : s < 64) where
+    pub departed-same : peerIn (departed st s time) s ≡ retainedTo (peerIn st s) (endAfter time (retainSeconds st))
+    unfolding departed
+    departed-same =
+        let z : Sized (iter 8 (leave s) st) = sized-leave st s 8 size in
+        let l : s < length (iter 8 (leave s) st .peers) = omega (arith, z .peers) in
+        peer-same (iter 8 (leave s) st) s _ l
+        ∙ ap (λ (p : Peer). retainedTo p (endAfter time (retainSeconds st))) (leave-peer s)
+
+    pub departed-topic :
+        (t : ℕ) → t < 8 → topicIn (departed st s time) (place s t) ≡ withSubscribed (outOfMesh (topicIn st (place s t))) 0
+    unfolding departed leftTopic
+    departed-topic t k =
+        let w = iter t (leave s) st in
+        let z : Sized w = sized-leave st s t size in
+        let l : place s t < length (w .topics) = omega (arith, z .topics) in
+        topic-after-peer (iter 8 (leave s) st) s _ (place s t)
+        ∙ iter-once (λ v. topicIn v (place s t)) (leave s) t (left-other s t) 8 st k
+        ∙ topic-same w (place s t) _ l
+        ∙ ap
+        (λ (r : TopicRecord). withSubscribed (outOfMesh r) 0)
+        (iter-before (λ v. topicIn v (place s t)) (leave s) t (left-other s t) t st (omega arith))
+
+    pub departed-member : (t : ℕ) → t < 8 → isMember (departed st s time) t s ≡ false
+    unfolding isMember withSubscribed outOfMesh
+    departed-member t k = ap (λ (r : TopicRecord). eqb (r .member) 1) (departed-topic t k)
+
+    pub departed-subscribed : (t : ℕ) → t < 8 → isSubscribed (departed st s time) t s ≡ false
+    unfolding withSubscribed
+    departed-subscribed t k = ap (λ (r : TopicRecord). eqb (r .subscribed) 1) (departed-topic t k)
+
+-- ---- an emptied slot
+
+module _ (st : State) (s : ℕ) where
+  pub emptied-other : (u : ℕ) → u ≢ s → peerIn (emptied st s) u ≡ peerIn st u
+  unfolding emptied
+  emptied-other u n =
+      peer-other (iter 8 (empty s) st) s noPeer u n
+      ∙ iter-kept (λ v. peerIn v u) (empty s) 8 st (λ t v h. peer-after-topic v (place s t) noTopic u)
+
+  pub emptied-topic-other : (u t : ℕ) → u ≢ s → t < 8 → topicIn (emptied st s) (place u t) ≡ topicIn st (place u t)
+  unfolding emptied
+  emptied-topic-other u t n h =
+      topic-after-peer (iter 8 (empty s) st) s noPeer (place u t)
+      ∙ iter-kept
+      (λ v. topicIn v (place u t))
+      (empty s)
+      8
+      st
+      (λ i v l. topic-other v (place s i) noTopic (place u t) (place-slot s i u t l h n))
+
+  module _ (size : Sized st) (h : s < 64) where
+    pub emptied-same : peerIn (emptied st s) s ≡ noPeer
+    unfolding emptied
+    emptied-same =
+        let z : Sized (iter 8 (empty s) st) = sized-empty st s 8 size in
+        let l : s < length (iter 8 (empty s) st .peers) = omega (arith, z .peers) in
+        peer-same (iter 8 (empty s) st) s noPeer l
+
+    pub emptied-topic : (t : ℕ) → t < 8 → topicIn (emptied st s) (place s t) ≡ noTopic
+    unfolding emptied
+    emptied-topic t k =
+        let w = iter t (empty s) st in
+        let z : Sized w = sized-empty st s t size in
+        let l : place s t < length (w .topics) = omega (arith, z .topics) in
+        topic-after-peer (iter 8 (empty s) st) s noPeer (place s t)
+        ∙ iter-once (λ v. topicIn v (place s t)) (empty s) t (empty-other s t) 8 st k
+        ∙ topic-same w (place s t) noTopic l
+
+-- ---- reclaiming one slot
+
+module _ (st : State) (s time : ℕ) where
+  pub reclaim-yes : reclaimable (peerIn st s) time ≡ true → reclaimSlot time s st ≡ emptied st s
+  unfolding reclaimSlot
+  reclaim-yes h = rw h
+
+  pub reclaim-no : reclaimable (peerIn st s) time ≡ false → reclaimSlot time s st ≡ st
+  unfolding reclaimSlot
+  reclaim-no h = rw h
+
+reclaim-other : (time u i : ℕ) (st : State) → i ≢ u → peerIn (reclaimSlot time i st) u ≡ peerIn st u
+unfolding reclaimSlot
+reclaim-other time u i st n =
+    cond-case
+    (λ v. peerIn v u ≡ peerIn st u)
+    (reclaimable (peerIn st i) time)
+    (emptied st i)
+    st
+    (λ h. emptied-other st i u (λ e. n (sym e)))
+    (λ h. refl)
+
+reclaim-topic-other :
+    (time u t : ℕ) →
+    t < 8 →
+    (i : ℕ) (st : State) →
+    i ≢ u →
+    topicIn (reclaimSlot time i st) (place u t) ≡ topicIn st (place u t)
+unfolding reclaimSlot
+reclaim-topic-other time u t k i st n =
+    cond-case
+    (λ v. topicIn v (place u t) ≡ topicIn st (place u t))
+    (reclaimable (peerIn st i) time)
+    (emptied st i)
+    st
+    (λ h. emptied-topic-other st i u t (λ e. n (sym e)) k)
+    (λ h. refl)
+
+reclaim-peer :
+    (st : State) (time s : ℕ) →
+    Sized st →
+    s < 64 →
+    peerIn (reclaimSlot time s st) s ≡ cond (reclaimable (peerIn st s) time) noPeer (peerIn st s)
+reclaim-peer st time s size h =
+    by-test
+    _
+    (reclaimable (peerIn st s) time)
+    (λ e. ap (λ v. peerIn v s) (reclaim-yes st s time e) ∙ emptied-same st s size h ∙ rw e)
+    (λ e. ap (λ v. peerIn v s) (reclaim-no st s time e) ∙ rw e)
+
+reclaim-topic :
+    (st : State) (time s t : ℕ) →
+    Sized st →
+    s < 64 →
+    t < 8 →
+    topicIn (reclaimSlot time s st) (place s t) ≡ cond (reclaimable (peerIn st s) time) noTopic (topicIn st (place s t))
+reclaim-topic st time s t size h k =
+    by-test
+    _
+    (reclaimable (peerIn st s) time)
+    (λ e. ap (λ v. topicIn v (place s t)) (reclaim-yes st s time e) ∙ emptied-topic st s size h t k ∙ rw e)
+    (λ e. ap (λ v. topicIn v (place s t)) (reclaim-no st s time e) ∙ rw e)
+
+-- ---- reclaiming every slot, slot by slot
+
+module _ (st : State) (time : ℕ) (size : Sized st) (s : ℕ) (h : s < 64) where
+  walk-peer : peerIn (iter s (reclaimSlot time) st) s ≡ peerIn st s
+  walk-peer = iter-before (λ v. peerIn v s) (reclaimSlot time) s (reclaim-other time s) s st (omega arith)
+
+  pub reclaimed-peer : peerIn (reclaimed st time) s ≡ cond (reclaimable (peerIn st s) time) noPeer (peerIn st s)
+  unfolding reclaimed
+  reclaimed-peer =
+      iter-once (λ v. peerIn v s) (reclaimSlot time) s (reclaim-other time s) 64 st h
+      ∙ reclaim-peer (iter s (reclaimSlot time) st) time s (sized-walk st time s size) h
+      ∙ ap (λ (p : Peer). cond (reclaimable p time) noPeer p) walk-peer
+
+  pub reclaimed-topic :
+      (t : ℕ) →
+      t < 8 →
+      topicIn (reclaimed st time) (place s t) ≡ cond (reclaimable (peerIn st s) time) noTopic (topicIn st (place s t))
+  unfolding reclaimed
+  reclaimed-topic t k =
+      let w = iter s (reclaimSlot time) st in
+      let r : topicIn w (place s t) ≡ topicIn st (place s t) =
+      iter-before (λ v. topicIn v (place s t)) (reclaimSlot time) s (reclaim-topic-other time s t k) s st (omega arith) in
+      iter-once (λ v. topicIn v (place s t)) (reclaimSlot time) s (reclaim-topic-other time s t k) 64 st h
+      ∙ reclaim-topic w time s t (sized-walk st time s size) h k
+      ∙ ap (λ (p : Peer). cond (reclaimable p time) noTopic (topicIn w (place s t))) walk-peer
+      ∙ ap (λ (x : TopicRecord). cond (reclaimable (peerIn st s) time) noTopic x) r
+
+  -- what is not reclaimable stays
+  pub reclaimed-stays : reclaimable (peerIn st s) time ≡ false → peerIn (reclaimed st time) s ≡ peerIn st s
+  reclaimed-stays e = reclaimed-peer ∙ rw e
+
+  pub reclaimed-topic-stays :
+      reclaimable (peerIn st s) time ≡ false →
+      (t : ℕ) →
+      t < 8 →
+      topicIn (reclaimed st time) (place s t) ≡ topicIn st (place s t)
+  reclaimed-topic-stays e t k = reclaimed-topic t k ∙ rw e
+
+-- ---- what a reclaimable record is
+
+module _ (p : Peer) (time : ℕ) (h : reclaimable p time ≡ true) where
+  early : (isRetained p && leb (p .retain) time ≡ true) × (every 8 (λ t. not (backoffRuns p t time)) ≡ true)
+  unfolding reclaimable
+  early = both (isRetained p && leb (p .retain) time) (every 8 (λ t. not (backoffRuns p t time))) h
+
+  pub reclaimable-retained : isRetained p ≡ true
+  reclaimable-retained = both (isRetained p) (leb (p .retain) time) (early .0) .0
+
+  pub reclaimable-end : p .retain ≤ time
+  reclaimable-end = leb-true (p .retain) time (both (isRetained p) (leb (p .retain) time) (early .0) .1)
+
+  pub reclaimable-over : (t : ℕ) → t < 8 → getD (p .backoff) t 0 ≤ time
+  reclaimable-over t k =
+      ltb-false
+      time
+      (getD (p .backoff) t 0)
+      (not-true (backoffRuns p t time) (every-at (λ i. not (backoffRuns p i time)) 8 t (early .1) k))
+
+-- a record that is not retained is not reclaimable
+pub reclaimable-not : (p : Peer) (time : ℕ) → isRetained p ≡ false → reclaimable p time ≡ false
+unfolding reclaimable
+reclaimable-not p time h = rw h
+
+pub reclaimable-connected : (p : Peer) (time : ℕ) → isConnected p ≡ true → reclaimable p time ≡ false
+reclaimable-connected p time h =
+    let e : p .status ≡ 1 = eqb-true _ _ h in
+    reclaimable-not p time (ne-eqb (p .status) 2 (λ k. omega arith))
+
+-- ---- connect: with nothing empty after reclaiming, nothing was reclaimed
+
+pub none-reclaimed :
+    (st : State) (time : ℕ) →
+    ((s : ℕ) → s < 64 → reclaimable (peerIn st s) time ≡ false) →
+    reclaimed st time ≡ st
+unfolding reclaimed
+none-reclaimed st time h = iter-still (reclaimSlot time) 64 st (λ s k. reclaim-no st s time (h s k))
+
+pub full-stays :
+    (st : State) (time : ℕ) →
+    Sized st →
+    first slotCount (λ s. isEmpty (peerIn (reclaimed st time) s)) ≡ Nothing →
+    reclaimed st time ≡ st
+full-stays st time size e = none-reclaimed st time not-one
+  where
+    not-one : (s : ℕ) → s < 64 → reclaimable (peerIn st s) time ≡ false
+    not-one s h =
+        by-test
+        _
+        (reclaimable (peerIn st s) time)
+        (λ r.
+        let p : isEmpty (peerIn (reclaimed st time) s) ≡ false =
+        first-passed (λ i. isEmpty (peerIn (reclaimed st time) i)) 64 e s h in
+        let n : peerIn (reclaimed st time) s ≡ noPeer = reclaimed-peer st time size s h ∙ rw r in
+        let q : isEmpty (peerIn (reclaimed st time) s) ≡ true = rw n in
+        let z : _≡_ {A = ℕ} 0 1 = cc in
+        absurd (omega arith))
+        (λ r. r)

@@ -1,0 +1,21 @@
+use Rattle.effects.specs.Actions.{numbersOf}
+use mathlib.Core.Path.{refl}
+use borrow.Author.Needs.{needs}
+use Rattle.effects.proofs.actions.put_prune.Statement.{statement}
+use Rattle.effects.proofs.actions.put_prune.Tie as tie
+
+returns : tie.Need-returns
+unfolding numbersOf
+returns c = (refl, cc)
+
+pub put-prune-spec : {M : Type 1} → statement M
+put-prune-spec =
+    tie.close
+    (tie.spec
+    (λ c. search needs)
+    (λ c. search needs)
+    (λ c κs. search needs)
+    (λ c κs. search needs)
+    (λ c. search needs)
+    (λ c. search needs)
+    returns)

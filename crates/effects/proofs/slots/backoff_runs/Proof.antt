@@ -1,0 +1,12 @@
+use borrow.Author.Needs.{needs}
+use Rattle.effects.proofs.slots.backoff_runs.Statement.{statement}
+use Rattle.effects.proofs.slots.backoff_runs.Tie as tie
+
+pub backoff-runs-spec : {M : Type 1} → statement M
+backoff-runs-spec =
+    tie.close
+    (tie.spec
+    (λ c κs. search needs)
+    (λ c. search needs)
+    (λ c. search needs)
+    (λ c. cc))

@@ -1,0 +1,134 @@
+// One slot of the table, in one topic.
+ghost use mathlib.Core.Path.{_≡_};
+ghost use Prim.Native.Nat.{_+_, _*_, _≤_, _<_};
+ghost use lib.ListN.{length};
+ghost use Rattle.records.specs.Records.{codeIn, peerIn};
+ghost use Rattle.cells.specs.View.{cellCount, stateOf};
+ghost use Rattle.effects.specs.Effects.{magnitude as magnitudeOf, withEnd, withP5, outOfMesh, intoMesh, withSubscribed, onPeer, onTopic, isJoined, isMember, isSubscribed, meshSize, backoffRuns, pruned};
+ghost use Rattle.index.specs.Index.{one};
+use crate::values::into_mesh;
+use crate::values::magnitude;
+use crate::values::out_of_mesh;
+use crate::values::with_end;
+use crate::values::with_p5;
+use crate::values::with_subscribed;
+use records::SLOTS;
+
+// A number of the parameters without its sign.
+pub fn load_size(table: &[u64], i: usize) -> u64
+    requires { ⌜ (length (now table) ≡ cellCount) × (i < 147) ⌝ }
+    ensures { λ r. ⌜ r ≡ magnitudeOf (codeIn (stateOf (now (table .entry))) i) ⌝ }
+{
+    magnitude(cells::load_code(table, i))
+}
+
+pub fn is_joined(table: &[u64], topic: usize) -> bool
+    requires { ⌜ (length (now table) ≡ cellCount) × (topic < 8) ⌝ }
+    ensures { λ r. ⌜ r ≡ isJoined (stateOf (now (table .entry))) topic ⌝ }
+{
+    cells::load_joined(table, topic) == 1
+}
+
+pub fn is_member(table: &[u64], topic: usize, slot: usize) -> bool
+    requires { ⌜ (length (now table) ≡ cellCount) × ((topic < 8) × (slot < 64)) ⌝ }
+    ensures { λ r. ⌜ r ≡ isMember (stateOf (now (table .entry))) topic slot ⌝ }
+{
+    cells::load_member(table, slot * 8 + topic) == 1
+}
+
+pub fn is_subscribed(table: &[u64], topic: usize, slot: usize) -> bool
+    requires { ⌜ (length (now table) ≡ cellCount) × ((topic < 8) × (slot < 64)) ⌝ }
+    ensures { λ r. ⌜ r ≡ isSubscribed (stateOf (now (table .entry))) topic slot ⌝ }
+{
+    cells::load_subscribed(table, slot * 8 + topic) == 1
+}
+
+// Whether the backoff of a slot in a topic is running.
+pub fn backoff_runs(table: &[u64], topic: usize, slot: usize, time: u64) -> bool
+    requires { ⌜ (length (now table) ≡ cellCount) × ((topic < 8) × (slot < 64)) ⌝ }
+    ensures { λ r. ⌜ r ≡ backoffRuns (peerIn (stateOf (now (table .entry))) slot) topic time ⌝ }
+{
+    let p = cells::load_peer(table, slot);
+    time < p.backoff[topic]
+}
+
+fn one_if(flag: bool) -> usize
+    ensures { λ r. ⌜ (r ≡ one flag) × (r ≤ 1) ⌝ }
+{
+    if flag { 1 } else { 0 }
+}
+
+// How many members the mesh of a topic has.
+pub fn mesh_size(table: &[u64], topic: usize) -> usize
+    requires { ⌜ (length (now table) ≡ cellCount) × (topic < 8) ⌝ }
+    ensures { λ r. ⌜ (r ≡ meshSize (stateOf (now (table .entry))) topic) × (r ≤ 64) ⌝ }
+{
+    let mut n: usize = 0;
+    let mut slot: usize = 0;
+    while slot < SLOTS {
+        n += one_if(is_member(table, topic, slot));
+        slot += 1;
+    }
+    n
+}
+
+// Out of the mesh.
+pub fn take_out(table: &mut [u64], topic: usize, slot: usize)
+    requires { ⌜ (length (now table) ≡ cellCount) × ((topic < 8) × (slot < 64)) ⌝ }
+    ensures { λ r. ⌜ stateOf (now (table .exit)) ≡ onTopic (stateOf (now (table .entry))) slot topic outOfMesh ⌝ }
+{
+    let r = cells::load_topic(table, slot * 8 + topic);
+    cells::store_topic(table, slot * 8 + topic, out_of_mesh(r));
+}
+
+// The backoff end at least `end`.
+pub fn delay(table: &mut [u64], topic: usize, slot: usize, end: u64)
+    requires { ⌜ (length (now table) ≡ cellCount) × ((topic < 8) × (slot < 64)) ⌝ }
+    ensures { λ r. ⌜ stateOf (now (table .exit)) ≡ onPeer (stateOf (now (table .entry))) slot (λ p. withEnd p topic end) ⌝ }
+{
+    let p = cells::load_peer(table, slot);
+    cells::store_peer(table, slot, with_end(p, topic, end));
+}
+
+// Out of the mesh, with a backoff.
+pub fn prune_slot(table: &mut [u64], topic: usize, slot: usize, end: u64)
+    requires { ⌜ (length (now table) ≡ cellCount) × ((topic < 8) × (slot < 64)) ⌝ }
+    ensures { λ r. ⌜ stateOf (now (table .exit)) ≡ pruned (stateOf (now (table .entry))) slot topic end ⌝ }
+{
+    take_out(table, topic, slot);
+    delay(table, topic, slot, end);
+}
+
+// Into the mesh.
+pub fn graft_slot(table: &mut [u64], topic: usize, slot: usize, time: u64)
+    requires { ⌜ (length (now table) ≡ cellCount) × ((topic < 8) × (slot < 64)) ⌝ }
+    ensures { λ r. ⌜ stateOf (now (table .exit)) ≡ onTopic (stateOf (now (table .entry))) slot topic (λ r. intoMesh r time) ⌝ }
+{
+    let r = cells::load_topic(table, slot * 8 + topic);
+    cells::store_topic(table, slot * 8 + topic, into_mesh(r, time));
+}
+
+pub fn subscribe_slot(table: &mut [u64], topic: usize, slot: usize)
+    requires { ⌜ (length (now table) ≡ cellCount) × ((topic < 8) × (slot < 64)) ⌝ }
+    ensures { λ r. ⌜ stateOf (now (table .exit)) ≡ onTopic (stateOf (now (table .entry))) slot topic (λ r. withSubscribed r 1) ⌝ }
+{
+    let r = cells::load_topic(table, slot * 8 + topic);
+    cells::store_topic(table, slot * 8 + topic, with_subscribed(r, 1));
+}
+
+// Out of the mesh, and not subscribed.
+pub fn unsubscribe_slot(table: &mut [u64], topic: usize, slot: usize)
+    requires { ⌜ (length (now table) ≡ cellCount) × ((topic < 8) × (slot < 64)) ⌝ }
+    ensures { λ r. ⌜ stateOf (now (table .exit)) ≡ onTopic (stateOf (now (table .entry))) slot topic (λ r. withSubscribed (outOfMesh r) 0) ⌝ }
+{
+    let r = cells::load_topic(table, slot * 8 + topic);
+    cells::store_topic(table, slot * 8 + topic, with_subscribed(out_of_mesh(r), 0));
+}
+
+pub fn rate_slot(table: &mut [u64], slot: usize, code: u64)
+    requires { ⌜ (length (now table) ≡ cellCount) × (slot < 64) ⌝ }
+    ensures { λ r. ⌜ stateOf (now (table .exit)) ≡ onPeer (stateOf (now (table .entry))) slot (λ p. withP5 p code) ⌝ }
+{
+    let p = cells::load_peer(table, slot);
+    cells::store_peer(table, slot, with_p5(p, code));
+}

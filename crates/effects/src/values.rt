@@ -1,0 +1,105 @@
+// Records by value, with other numbers.
+ghost use mathlib.Core.Path.{_≡_};
+ghost use Prim.Native.Nat.{_+_, _≤_, _<_, max};
+ghost use Rattle.effects.specs.Effects.{magnitude as magnitudeOf, endAfter, withEnd, withP5, withP7, connectedAs, retainedTo, outOfMesh, intoMesh, withSubscribed};
+use records::Peer;
+use records::TopicRecord;
+
+// The magnitude of a coded number; half the code rounded up, without a sum that could wrap.
+pub fn magnitude(code: u64) -> u64
+    ensures { λ r. ⌜ r ≡ magnitudeOf code ⌝ }
+{
+    code / 2 + code % 2
+}
+
+pub fn later(a: u64, b: u64) -> u64
+    ensures { λ r. ⌜ r ≡ max a b ⌝ }
+{
+    if a <= b { b } else { a }
+}
+
+// When a time of so many seconds ends.
+pub fn end_after(time: u64, seconds: u64) -> u64
+    requires { ⌜ (time ≤ 1099511627776) × (seconds ≤ 86400) ⌝ }
+    ensures { λ r. ⌜ (r ≡ endAfter time seconds) × (r ≤ time + 86400000) ⌝ }
+{
+    time + seconds * 1000
+}
+
+// The backoff end of a topic, at least `end`.
+pub fn with_end(p: Peer, topic: usize, end: u64) -> Peer
+    requires { ⌜ topic < 8 ⌝ }
+    ensures { λ r. ⌜ r ≡ withEnd p topic end ⌝ }
+{
+    let mut q = p;
+    q.backoff[topic] = later(p.backoff[topic], end);
+    q
+}
+
+pub fn with_p5(p: Peer, code: u64) -> Peer
+    ensures { λ r. ⌜ r ≡ withP5 p code ⌝ }
+{
+    let mut q = p;
+    q.p5 = code;
+    q
+}
+
+pub fn with_p7(p: Peer, count: u64) -> Peer
+    ensures { λ r. ⌜ r ≡ withP7 p count ⌝ }
+{
+    let mut q = p;
+    q.p7 = count;
+    q
+}
+
+// Flags: 1 outbound + 2 explicit.
+pub fn connected_as(p: Peer, id: u64, group: u64, flags: u64, version: u64) -> Peer
+    ensures { λ r. ⌜ r ≡ connectedAs p id group flags version ⌝ }
+{
+    let mut q = p;
+    q.status = 1;
+    q.id = id;
+    q.group = group;
+    q.outbound = flags % 2;
+    q.explicit = flags / 2;
+    q.version = version;
+    q.retain = 0;
+    q
+}
+
+pub fn retained_to(p: Peer, end: u64) -> Peer
+    ensures { λ r. ⌜ r ≡ retainedTo p end ⌝ }
+{
+    let mut q = p;
+    q.status = 2;
+    q.retain = end;
+    q
+}
+
+pub fn out_of_mesh(r: TopicRecord) -> TopicRecord
+    ensures { λ q. ⌜ q ≡ outOfMesh r ⌝ }
+{
+    let mut q = r;
+    q.member = 0;
+    q.graft = 0;
+    q.mesh = 0;
+    q
+}
+
+pub fn into_mesh(r: TopicRecord, time: u64) -> TopicRecord
+    ensures { λ q. ⌜ q ≡ intoMesh r time ⌝ }
+{
+    let mut q = r;
+    q.member = 1;
+    q.graft = time;
+    q.mesh = 0;
+    q
+}
+
+pub fn with_subscribed(r: TopicRecord, flag: u64) -> TopicRecord
+    ensures { λ q. ⌜ q ≡ withSubscribed r flag ⌝ }
+{
+    let mut q = r;
+    q.subscribed = flag;
+    q
+}

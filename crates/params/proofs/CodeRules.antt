@@ -1,0 +1,195 @@
+-- The joint rules, of codes: two codes of one sign stand to each other as the numbers' magnitudes do.
+-- Assumes nothing.
+use Prim.Native.Nat.{ℕ, suc, _+_, _*_, _/_, _<_, _≤_}
+use native.Mathlib.Numerals.{add-one}
+use mathlib.Core.Path.{_≡_, refl, sym, ap, ap₂, _∙_}
+use mathlib.Core.Bool.{Bool, true, false, _&&_}
+use mathlib.Core.List.{List, map}
+use native.Mathlib.Omega.{arith}
+use lib.Dec.{T, leb, ltb, lit<}
+use lib.ListN.{getD}
+use lib.IntN.{ℤ, pos, negsuc, _+ℤ_, _*ℤ_}
+use lib.Signed.{leZ, ltZ}
+use Rattle.index.specs.Index.{every}
+use Rattle.index.proofs.Flags.{leb-same}
+use Rattle.groups.specs.Codes.{codeOf, numberOf}
+use Rattle.params.specs.Limits.{limits, limitAt, fieldOf, at}
+use Rattle.params.specs.Joint.{place, capRule, joint, rule}
+use Rattle.params.proofs.LimitLaws.{topic-field}
+use Rattle.params.proofs.FieldLaws.{Within, code-at, gain-at, loss-at, most-of}
+
+-- ---- tests that are gathered in a flag
+pub every-and : (f : ℕ → Bool) (i : ℕ) (a b : Bool) → a ≡ every i f → b ≡ f i → (a && b) ≡ every (i + 1) f
+unfolding every
+every-and f i a b p q = rw (add-one i, p, q)
+
+pub every-start : (f : ℕ → Bool) → true ≡ every 0 f
+unfolding every
+every-start f = refl
+
+eight :
+    (f : ℕ → Bool) (a b c d e g h i : Bool) →
+    a ≡ f 0 →
+    b ≡ f 1 →
+    c ≡ f 2 →
+    d ≡ f 3 →
+    e ≡ f 4 →
+    g ≡ f 5 →
+    h ≡ f 6 →
+    i ≡ f 7 →
+    (a && b && c && d && e && g && h && i) ≡ every 8 f
+unfolding every
+eight f a b c d e g h i p0 p1 p2 p3 p4 p5 p6 p7 = rw (p0, p1, p2, p3, p4, p5, p6, p7)
+
+-- ---- numbers of one sign, by their codes
+abbrev Gain : ℤ → Type 0
+Gain x = T (leZ (pos 0) x)
+
+abbrev Loss : ℤ → Type 0
+Loss x = T (leZ x (negsuc 0))
+
+gain-le : (x y : ℤ) → Gain x → Gain y → leb (codeOf x) (codeOf y) ≡ leZ x y
+gain-le (pos a) (pos b) p q = leb-same (2 * a) (2 * b) a b (λ h. omega arith) (λ h. omega arith)
+gain-le (negsuc a) y p q = absurd p
+gain-le (pos a) (negsuc b) p q = absurd q
+
+gain-lt : (x y : ℤ) → Gain x → Gain y → ltb (codeOf x) (codeOf y) ≡ ltZ x y
+gain-lt (pos a) (pos b) p q = leb-same (suc (2 * a)) (2 * b) (suc a) b (λ h. omega arith) (λ h. omega arith)
+gain-lt (negsuc a) y p q = absurd p
+gain-lt (pos a) (negsuc b) p q = absurd q
+
+gain-twice : (x y : ℤ) → Gain x → Gain y → leb (2 * codeOf x) (codeOf y) ≡ leZ (pos 2 *ℤ x) y
+gain-twice (pos a) (pos b) p q = leb-same (2 * (2 * a)) (2 * b) (2 * a) b (λ h. omega arith) (λ h. omega arith)
+gain-twice (negsuc a) y p q = absurd p
+gain-twice (pos a) (negsuc b) p q = absurd q
+
+gain-sum : (x y z : ℤ) → Gain x → Gain y → Gain z → leb (codeOf x + codeOf y) (codeOf z) ≡ leZ (x +ℤ y) z
+gain-sum (pos a) (pos b) (pos c) p q r = leb-same (2 * a + 2 * b) (2 * c) (a + b) c (λ h. omega arith) (λ h. omega arith)
+gain-sum (negsuc a) y z p q r = absurd p
+gain-sum (pos a) (negsuc b) z p q r = absurd q
+gain-sum (pos a) (pos b) (negsuc c) p q r = absurd r
+
+loss-le : (x y : ℤ) → Loss x → Loss y → leb (codeOf y) (codeOf x) ≡ leZ x y
+loss-le (negsuc a) (negsuc b) p q = leb-same (2 * b + 1) (2 * a + 1) b a (λ h. omega arith) (λ h. omega arith)
+loss-le (pos a) y p q = absurd p
+loss-le (negsuc a) (pos b) p q = absurd q
+
+loss-lt : (x y : ℤ) → Loss x → Loss y → ltb (codeOf y) (codeOf x) ≡ ltZ x y
+loss-lt (negsuc a) (negsuc b) p q =
+    leb-same (suc (2 * b + 1)) (2 * a + 1) (suc b) a (λ h. omega arith) (λ h. omega arith)
+loss-lt (pos a) y p q = absurd p
+loss-lt (negsuc a) (pos b) p q = absurd q
+
+-- ---- each rule
+module _ (codes : List ℕ) (ok : Within codes) where
+  gain : (i : ℕ) → i < 147 → T (leZ (pos 0) (limitAt (fieldOf i) .low)) → Gain (at (map numberOf codes) i)
+  gain i h t = gain-at codes ok i h (fieldOf i) refl t
+
+  loss : (i : ℕ) → i < 147 → T (leZ (limitAt (fieldOf i) .high) (negsuc 0)) → Loss (at (map numberOf codes) i)
+  loss i h t = loss-at codes ok i h (fieldOf i) refl t
+
+  le-of :
+      (i j : ℕ) →
+      Gain (at (map numberOf codes) i) →
+      Gain (at (map numberOf codes) j) →
+      leb (getD codes i 0) (getD codes j 0) ≡ leZ (at (map numberOf codes) i) (at (map numberOf codes) j)
+  le-of i j p q =
+      ap₂ leb (code-at codes i) (code-at codes j) ∙ gain-le (at (map numberOf codes) i) (at (map numberOf codes) j) p q
+
+  -- D_lo ≤ D
+  pub le-lo : leb (getD codes 0 0) (getD codes 1 0) ≡ rule (map numberOf codes) 0
+  unfolding rule joint limitAt limits
+  le-lo = le-of 0 1 (gain 0 (lit< tt) tt) (gain 1 (lit< tt) tt)
+
+  -- D ≤ D_hi
+  pub le-hi : leb (getD codes 1 0) (getD codes 2 0) ≡ rule (map numberOf codes) 1
+  unfolding rule joint limitAt limits
+  le-hi = le-of 1 2 (gain 1 (lit< tt) tt) (gain 2 (lit< tt) tt)
+
+  -- D_out < D_lo
+  pub lt-lo : ltb (getD codes 3 0) (getD codes 0 0) ≡ rule (map numberOf codes) 2
+  unfolding rule joint limitAt limits
+  lt-lo =
+      ap₂ ltb (code-at codes 3) (code-at codes 0)
+      ∙ gain-lt (at (map numberOf codes) 3) (at (map numberOf codes) 0) (gain 3 (lit< tt) tt) (gain 0 (lit< tt) tt)
+
+  -- 2·D_out ≤ D
+  pub twice-out : leb (2 * getD codes 3 0) (getD codes 1 0) ≡ rule (map numberOf codes) 3
+  unfolding rule joint limitAt limits
+  twice-out =
+      ap₂ (λ (u v : ℕ). leb (2 * u) v) (code-at codes 3) (code-at codes 1)
+      ∙ gain-twice (at (map numberOf codes) 3) (at (map numberOf codes) 1) (gain 3 (lit< tt) tt) (gain 1 (lit< tt) tt)
+
+  -- D_score + D_out ≤ D
+  pub sum-out : leb (getD codes 4 0 + getD codes 3 0) (getD codes 1 0) ≡ rule (map numberOf codes) 4
+  unfolding rule joint limitAt limits
+  sum-out =
+      ap₂ leb (ap₂ (λ (u v : ℕ). u + v) (code-at codes 4) (code-at codes 3)) (code-at codes 1)
+      ∙ gain-sum (at (map numberOf codes) 4) (at (map numberOf codes) 3) (at (map numberOf codes) 1) (gain 4 (lit< tt) tt) (gain 3 (lit< tt) tt) (gain 1 (lit< tt) tt)
+
+  -- publish ≤ gossip, both negative
+  pub le-gossip : leb (getD codes 10 0) (getD codes 11 0) ≡ rule (map numberOf codes) 5
+  unfolding rule joint limitAt limits
+  le-gossip =
+      ap₂ leb (code-at codes 10) (code-at codes 11)
+      ∙ loss-le (at (map numberOf codes) 11) (at (map numberOf codes) 10) (loss 11 (lit< tt) tt) (loss 10 (lit< tt) tt)
+
+  -- graylist < publish, both negative
+  pub lt-publish : ltb (getD codes 11 0) (getD codes 9 0) ≡ rule (map numberOf codes) 6
+  unfolding rule joint limitAt limits
+  lt-publish =
+      ap₂ ltb (code-at codes 11) (code-at codes 9)
+      ∙ loss-lt (at (map numberOf codes) 9) (at (map numberOf codes) 11) (loss 9 (lit< tt) tt) (loss 11 (lit< tt) tt)
+
+  -- in topic k, P3 cap ≥ P3 threshold
+  pub cap-of : (k : ℕ) → k < 8 → leb (getD codes (place k 10) 0) (getD codes (place k 9) 0) ≡ capRule (map numberOf codes) k
+  unfolding capRule limitAt limits
+  cap-of k h =
+      le-of (place k 10) (place k 9)
+      (gain-at codes ok (place k 10) (omega arith) 29 (topic-field k 10 (lit< tt)) tt)
+      (gain-at codes ok (place k 9) (omega arith) 28 (topic-field k 9 (lit< tt)) tt)
+
+  pub caps-are : every 8 (capRule (map numberOf codes)) ≡ rule (map numberOf codes) 7
+  unfolding rule joint
+  caps-are = refl
+
+  -- the sums of `codes_keep` are small
+  pub out-small : getD codes 3 0 ≤ 48
+  unfolding limitAt limits
+  out-small = omega (arith, most-of codes ok 3 (lit< tt) 3 refl 24 tt)
+
+  pub score-small : getD codes 4 0 ≤ 96
+  unfolding limitAt limits
+  score-small = omega (arith, most-of codes ok 4 (lit< tt) 4 refl 48 tt)
+
+  -- the end of `codes_keep`
+  pub keep-all :
+      (caps : Bool) →
+      caps ≡ every 8 (capRule (map numberOf codes)) →
+      leb (getD codes 0 0) (getD codes 1 0)
+      && leb (getD codes 1 0) (getD codes 2 0)
+      && ltb (getD codes 3 0) (getD codes 0 0)
+      && leb (2 * getD codes 3 0) (getD codes 1 0)
+      && leb (getD codes 4 0 + getD codes 3 0) (getD codes 1 0)
+      && leb (getD codes 10 0) (getD codes 11 0)
+      && ltb (getD codes 11 0) (getD codes 9 0)
+      && caps
+      ≡ every 8 (rule (map numberOf codes))
+  keep-all caps e =
+      eight (rule (map numberOf codes))
+      (leb (getD codes 0 0) (getD codes 1 0))
+      (leb (getD codes 1 0) (getD codes 2 0))
+      (ltb (getD codes 3 0) (getD codes 0 0))
+      (leb (2 * getD codes 3 0) (getD codes 1 0))
+      (leb (getD codes 4 0 + getD codes 3 0) (getD codes 1 0))
+      (leb (getD codes 10 0) (getD codes 11 0))
+      (ltb (getD codes 11 0) (getD codes 9 0))
+      caps
+      le-lo
+      le-hi
+      lt-lo
+      twice-out
+      sum-out
+      le-gossip
+      lt-publish
+      (e ∙ caps-are)

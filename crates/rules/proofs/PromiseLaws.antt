@@ -1,0 +1,67 @@
+-- From what an inner function leaves to what a public call promises.
+-- Assumes nothing.
+use Prim.Native.Nat.{ℕ, _≤_, _<_}
+use mathlib.Core.Path.{_≡_, refl, sym, ap, _∙_}
+use mathlib.Core.Bool.{Bool, true, false}
+use mathlib.Core.List.{List, [], _∷_}
+use native.Mathlib.Omega.{arith}
+use lib.ListN.{length}
+use lib.Seq.{sets}
+use Rattle.cells.specs.View.{stateOf}
+use Rattle.records.specs.Records.{State, setClock}
+use Rattle.effects.specs.Actions.{Action, numbersOf}
+use Rattle.rules.specs.declared.Answer.{Answer}
+use Rattle.rules.specs.declared.Answer.the-variants.{Done, Ignored}
+use Rattle.rules.specs.declared.Gate.{Gate}
+use Rattle.rules.specs.declared.Gate.the-variants.{Pass, Refuse}
+use Rattle.rules.specs.Reply.{Reply, refuses, refused, ignored, done}
+use Rattle.rules.specs.Calls.{Call, timeOf, inRange}
+use Rattle.rules.specs.Step.{gateOf, through, effect, step}
+use Rattle.rules.specs.Promise.{Leaves, Gives, Follows}
+
+-- an answer that is no refusal: table and clock are the rules'
+pub leaves-moved :
+    (o : Reply) (r : Answer) (table table′ : List ℕ) →
+    r ≡ o .answer →
+    refuses (o .answer) ≡ false →
+    stateOf table′ ≡ o .state →
+    Leaves o r table table′
+leaves-moved o r table table′ a n s =
+    record {
+      answer = a;
+      state = s;
+      kept =
+          λ e.
+          let z : true ≡ false = sym e ∙ ap refuses a ∙ n in
+          let y : _≡_ {A = ℕ} 0 1 = cc in
+          absurd (omega arith);
+    }
+
+-- a refusal
+pub leaves-refused : (a : Answer) (table : List ℕ) → Leaves (refused a (stateOf table)) a table table
+leaves-refused a table = record { answer = refl; state = refl; kept = λ e. refl }
+
+-- no action: the lent list is as it was
+pub gives-quiet :
+    (o : Reply) (r : Answer) (table table′ list : List ℕ) →
+    o .actions ≡ [] →
+    Leaves o r table table′ →
+    Gives o r table table′ list list
+unfolding numbersOf
+gives-quiet o r table table′ list e l = record { leaves = l; actions = rw e }
+
+module _ (c : Call) (table list : List ℕ) where
+  pub follows-refused :
+      (a : Answer) →
+      gateOf (stateOf table) (inRange c) (length list) (timeOf c) ≡ Refuse a →
+      Follows c a table table list list
+  unfolding step numbersOf
+  follows-refused a g = rw g (record { leaves = leaves-refused a table; actions = refl })
+
+  pub follows-passed :
+      (r : Answer) (table′ list′ : List ℕ) →
+      gateOf (stateOf table) (inRange c) (length list) (timeOf c) ≡ Pass →
+      Gives (effect (stateOf table) c) r table table′ list list′ →
+      Follows c r table table′ list list′
+  unfolding step
+  follows-passed r table′ list′ g h = rw g h

@@ -1,0 +1,219 @@
+-- What each call answers and leaves: 01's order of tests once (12, 2, 8, 1, then 6, 7, 3, 4, 5, 11), then the effects case by case.
+use Prim.Native.Nat.{ℕ, _+_, _*_, min}
+use mathlib.Core.Bool.{Bool, true, false, cond, not, _&&_}
+use mathlib.Core.List.{List, [], _∷_}
+use lib.ListN.{getD, set}
+use lib.Dec.{eqb, leb, ltb}
+use lib.IntN.{ℤ, pos, _*ℤ_}
+use lib.Signed.{ltZ}
+use Rattle.index.specs.Index.{iter, gather}
+use Rattle.index.specs.declared.Found.{Found}
+use Rattle.index.specs.declared.Found.the-variants.{At, Nothing}
+use Rattle.groups.specs.Codes.{numberOf, codeOf}
+use Rattle.records.specs.declared.Peer.{Peer}
+use Rattle.records.specs.declared.TopicRecord.{TopicRecord}
+use Rattle.records.specs.Records.{State, slotCount, topicCount, codeIn, peerIn, topicIn, place, setClock, setPeer, setJoined, isConnected}
+use Rattle.table.specs.Valid.{valid}
+use Rattle.table.specs.Find.{findConnected, findRetained, lowestEmpty}
+use Rattle.table.specs.declared.Named.{Named}
+use Rattle.table.specs.declared.Named.the-variants.{Version, Unknown}
+use Rattle.table.specs.Name.{versionOf}
+use Rattle.score.specs.declared.TopicParams.{TopicParams}
+use Rattle.score.specs.Score.{scoreIn, topicParamsIn}
+use Rattle.score.specs.Counters.{countMost, raisedOf, firstOf, nearFirstOf, invalidOf, grownOf, fadedOf, decayedOf}
+use Rattle.rules.specs.declared.Answer.{Answer}
+use Rattle.rules.specs.declared.Answer.the-variants.{Done, Scored, Early, OutOfRange, NotConnected, AlreadyConnected, NoSlot, UnknownProtocol, ListShort, Ignored, NotRouter}
+use Rattle.rules.specs.declared.Gate.{Gate}
+use Rattle.rules.specs.declared.Gate.the-variants.{Pass, Refuse}
+use Rattle.effects.specs.Actions.{Action, pruneOf}
+use Rattle.rules.specs.Reply.{Reply, refused, ignored, done}
+use Rattle.effects.specs.Effects.{magnitude, highDegree, pruneBackoff, unsubscribeBackoff, withEnd, withP5, withP7, connectedAs, outOfMesh, intoMesh, withSubscribed, onPeer, onTopic, isJoined, isMember, isSubscribed, meshSize, backoffRuns, pruned, endAfter, departed, reclaimed}
+use Rattle.rules.specs.Calls.{Call, connect, disconnect, join, leave, subscribe, unsubscribe, graft, prune, deliver, rate, decay, score, timeOf, inRange}
+
+-- ---- the tests that every call begins with: 12, 2, 8, 1
+-- "action list under 192 numbers": three for each slot
+abbrev pub actionRoom : ℕ
+actionRoom = 3 * slotCount
+
+unfoldable pub gateOf : State → Bool → ℕ → ℕ → Gate
+gateOf st fine room time =
+    cond (valid st)
+    (cond fine
+    (cond (leb actionRoom room) (cond (leb (st .clock) time) Pass (Refuse Early)) (Refuse ListShort))
+    (Refuse OutOfRange))
+    (Refuse NotRouter)
+
+abbrev pub through : Gate → State → Reply → Reply
+through Pass st r = r
+through (Refuse a) st r = refused a st
+
+-- 3: "no connected record holds the id"
+abbrev pub onFound : Found → (ℕ → Reply) → Reply → Reply
+onFound (At s) f r = f s
+onFound Nothing f r = r
+
+abbrev pub ofPeer : State → ℕ → (ℕ → Reply) → Reply
+ofPeer st id f = onFound (findConnected st id) f (refused NotConnected st)
+
+-- ---- what a peer is worth
+unfoldable pub isNegative : State → ℕ → Bool
+isNegative st s = ltZ (scoreIn st s) (pos 0)
+
+-- "from a non-explicit peer scoring below graylist"; the threshold is in thousandths of a point
+unfoldable pub isGraylisted : State → ℕ → Bool
+isGraylisted st s = eqb (peerIn st s .explicit) 0 && ltZ (scoreIn st s) (numberOf (codeIn st 9) *ℤ pos 1000000)
+
+-- what GRAFT, PRUNE and delivery ask first: the topic is joined, and the peer not graylisted
+unfoldable pub isHeard : State → ℕ → ℕ → Bool
+isHeard st t s = isJoined st t && not (isGraylisted st s)
+
+-- ---- connect
+abbrev pub onVersion : Named → (ℕ → Reply) → Reply → Reply
+onVersion (Version v) f r = f v
+onVersion Unknown f r = r
+
+unfoldable pub connectAt : State → ℕ → ℕ → ℕ → ℕ → ℕ → ℕ → Reply
+connectAt st time id group flags version s =
+    done (onPeer st s (λ p. connectedAs p id group flags version)) time []
+
+-- "A retained id resumes its record [..]; another takes the lowest empty slot; 5 is given exactly if there is none." st is the state at
+-- the start, u the one with every reclaimable record emptied
+unfoldable pub connectIn : State → State → ℕ → ℕ → ℕ → ℕ → ℕ → Reply
+connectIn st u time id group flags version =
+    onFound (findRetained u id) (connectAt u time id group flags version)
+    (onFound (lowestEmpty u) (connectAt u time id group flags version) (refused NoSlot st))
+
+unfoldable pub connectReply : State → ℕ → ℕ → ℕ → ℕ → List ℕ → Reply
+connectReply st time id group flags name =
+    onVersion (versionOf name)
+    (λ version.
+    onFound (findConnected st id) (λ s. refused AlreadyConnected st)
+    (connectIn st (reclaimed st time) time id group flags version))
+    (refused UnknownProtocol st)
+
+-- ---- join and leave: "11 when already so"
+unfoldable pub joinReply : State → ℕ → ℕ → Reply
+joinReply st time t = cond (isJoined st t) (ignored st time) (done (setJoined st t 1) time [])
+
+-- a member that we PRUNE: "P3b grows by P3 as it stands when we PRUNE a member whose score is negative at the start of the call"; st is
+-- the state at the start
+unfoldable pub punished : State → ℕ → ℕ → State → State
+punished st t s u = cond (isNegative st s) (onTopic u s t (grownOf (topicParamsIn st t))) u
+
+-- "Leave PRUNEs every member by slot, with the unsubscribe backoff."
+unfoldable pub leaveSlot : State → ℕ → ℕ → ℕ → State → State
+leaveSlot st t end s u = cond (isMember st t s) (pruned (punished st t s u) s t end) u
+
+unfoldable pub leaveActions : State → ℕ → ℕ → List Action
+leaveActions st t n =
+    gather n (λ s. cond (isMember st t s) (pruneOf (peerIn st s) (unsubscribeBackoff st) ∷ []) [])
+
+unfoldable pub leaveReply : State → ℕ → ℕ → Reply
+leaveReply st time t =
+    cond (isJoined st t)
+    (done (setJoined (iter slotCount (leaveSlot st t (endAfter time (unsubscribeBackoff st))) st) t 0) time (leaveActions st t slotCount))
+    (ignored st time)
+
+-- ---- subscribe and unsubscribe: "A subscription is recorded in any topic; one that changes nothing is 0." "Unsubscribe takes a member
+-- out, with no action."
+unfoldable pub subscribeReply : State → ℕ → ℕ → ℕ → Reply
+subscribeReply st time t s =
+    cond (isGraylisted st s) (ignored st time) (done (onTopic st s t (λ r. withSubscribed r 1)) time [])
+
+unfoldable pub unsubscribeReply : State → ℕ → ℕ → ℕ → Reply
+unsubscribeReply st time t s =
+    cond (isGraylisted st s) (ignored st time) (done (onTopic st s t (λ r. withSubscribed (outOfMesh r) 0)) time [])
+
+-- ---- GRAFT in, "first that holds"
+-- with a PRUNE: "Each PRUNE here [..] sets the end to the later of old and now + prune backoff"
+unfoldable pub graftRefused : State → ℕ → ℕ → ℕ → Reply
+graftRefused st time t s =
+    done (onPeer st s (λ p. withEnd p t (endAfter time (pruneBackoff st)))) time
+    (pruneOf (peerIn st s) (pruneBackoff st) ∷ [])
+
+-- "mesh ≥ D_hi and inbound"
+unfoldable pub meshFull : State → ℕ → ℕ → Bool
+meshFull st t s = leb (highDegree st) (meshSize st t) && eqb (peerIn st s .outbound) 0
+
+-- "score negative, PRUNE; not subscribed, PRUNE; mesh ≥ D_hi and inbound, PRUNE; else member"
+unfoldable pub graftEnters : State → ℕ → ℕ → Bool
+graftEnters st t s = not (isNegative st s) && (isSubscribed st t s && not (meshFull st t s))
+
+unfoldable pub graftOpen : State → ℕ → ℕ → ℕ → Reply
+graftOpen st time t s =
+    cond (graftEnters st t s) (done (onTopic st s t (λ r. intoMesh r time)) time []) (graftRefused st time t s)
+
+-- "backoff running (now < end), PRUNE and P7 + 1000"
+unfoldable pub graftBackoff : State → ℕ → ℕ → ℕ → Reply
+graftBackoff st time t s =
+    cond (backoffRuns (peerIn st s) t time)
+    (graftRefused (onPeer st s (λ p. withP7 p (raisedOf (p .p7) countMost))) time t s)
+    (graftOpen st time t s)
+
+-- "already member, done; explicit, PRUNE"
+unfoldable pub graftHeard : State → ℕ → ℕ → ℕ → Reply
+graftHeard st time t s =
+    cond (isMember st t s) (done st time [])
+    (cond (eqb (peerIn st s .explicit) 1) (graftRefused st time t s) (graftBackoff st time t s))
+
+-- "not joined 11; graylisted 11"
+unfoldable pub graftReply : State → ℕ → ℕ → ℕ → Reply
+graftReply st time t s = cond (isHeard st t s) (graftHeard st time t s) (ignored st time)
+
+-- ---- PRUNE in: "backoff end = later of the old and now + given seconds (0 means prune backoff; above 3600 counts as 3600), member or not"
+unfoldable pub secondsOf : State → ℕ → ℕ
+secondsOf st seconds = cond (eqb seconds 0) (pruneBackoff st) (min seconds 3600)
+
+unfoldable pub pruneReply : State → ℕ → ℕ → ℕ → ℕ → Reply
+pruneReply st time t seconds s =
+    cond (isHeard st t s)
+    (done (pruned st s t (endAfter time (secondsOf st seconds))) time [])
+    (ignored st time)
+
+-- ---- delivery: "in a topic not joined 11"
+-- kinds: 1 first, 2 near-first, 3 invalid
+unfoldable pub deliveredOf : ℕ → TopicParams → TopicRecord → TopicRecord
+deliveredOf kind t r = cond (eqb kind 1) (firstOf t r) (cond (eqb kind 2) (nearFirstOf t r) (invalidOf r))
+
+unfoldable pub deliverReply : State → ℕ → ℕ → ℕ → ℕ → Reply
+deliverReply st time t kind s =
+    cond (isHeard st t s)
+    (done (onTopic st s t (deliveredOf kind (topicParamsIn st t))) time [])
+    (ignored st time)
+
+-- ---- decay, "connected peers only"
+-- decay-to-zero and P7's decay are the general numbers 18 and 17
+abbrev pub decayFloor : State → ℕ
+decayFloor st = magnitude (codeIn st 18)
+
+unfoldable pub decayTopic : ℕ → ℕ → ℕ → State → State
+decayTopic time s t st = onTopic st s t (decayedOf (topicParamsIn st t) (decayFloor st) time)
+
+unfoldable pub decayP7 : ℕ → State → State
+decayP7 s st = onPeer st s (λ p. withP7 p (fadedOf (decayFloor st) (magnitude (codeIn st 17)) (p .p7)))
+
+unfoldable pub decaySlot : ℕ → ℕ → State → State
+decaySlot time s st = cond (isConnected (peerIn st s)) (decayP7 s (iter topicCount (decayTopic time s) st)) st
+
+unfoldable pub decayReply : State → ℕ → Reply
+decayReply st time = done (iter slotCount (decaySlot time) st) time []
+
+-- ---- each call, from a state that passed the first tests
+unfoldable pub effect : State → Call → Reply
+effect st (connect time id group flags name) = connectReply st time id group flags name
+effect st (disconnect time id) = ofPeer st id (λ s. done (departed st s time) time [])
+effect st (join time t) = joinReply st time t
+effect st (leave time t) = leaveReply st time t
+effect st (subscribe time id t) = ofPeer st id (subscribeReply st time t)
+effect st (unsubscribe time id t) = ofPeer st id (unsubscribeReply st time t)
+effect st (graft time id t) = ofPeer st id (graftReply st time t)
+effect st (prune time id t seconds) = ofPeer st id (pruneReply st time t seconds)
+effect st (deliver time id t kind) = ofPeer st id (deliverReply st time t kind)
+effect st (rate time id p5) = ofPeer st id (λ s. done (onPeer st s (λ p. withP5 p (codeOf p5))) time [])
+effect st (decay time) = decayReply st time
+effect st (score time id) =
+    ofPeer st id (λ s. record { answer = Scored (scoreIn st s); state = setClock st time; actions = [] })
+
+-- every call: state, call, and how many numbers the lent list has room for
+unfoldable pub step : State → Call → ℕ → Reply
+step st c room = through (gateOf st (inRange c) room (timeOf c)) st (effect st c)

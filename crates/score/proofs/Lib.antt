@@ -1,0 +1,10 @@
+pub mod Differences
+pub mod PartLaws
+pub mod ShareLaws
+pub mod SumLaws
+pub mod BoundLaws
+pub mod CounterLaws
+pub mod InputLaws
+pub mod SlotLaws
+pub mod ScoreLaws
+pub mod Examples

@@ -1,0 +1,143 @@
+-- What the code computes of a router's state is worth 01's score, and the score depends on nothing but what 01 names.
+-- Assumes nothing.
+use Prim.Native.Nat.{ℕ, _+_, _*_, _/_, _<_, _≤_}
+use mathlib.Core.Path.{_≡_, refl, sym, ap, ap₂, _∙_}
+use native.Mathlib.Omega.{arith}
+use lib.IntN.{ℤ, pos, negℤ, natAbs}
+use Rattle.index.proofs.Index.{count-bound}
+use Rattle.groups.specs.Codes.{numberOf}
+use Rattle.params.specs.Joint.{place as topicPlace}
+use Rattle.records.specs.declared.Peer.{Peer}
+use Rattle.records.specs.Records.{State, topicCount, place, codeIn, peerIn, topicIn}
+use Rattle.score.specs.declared.ScoreParams.{ScoreParams}
+use Rattle.score.specs.declared.Balance.{Balance}
+use Rattle.score.specs.declared.Parts.{Parts}
+use Rattle.score.specs.Ranges.{ScoreParamsIn, TopicsIn, PartsIn, BalanceIn, ShareIn, scoreMost}
+use Rattle.score.specs.Parts.{part1Of, part2Of, part3Of, part3bOf, part4Of, surplusOf}
+use Rattle.score.specs.Formula.{topicSum, allTopics, scoreSum}
+use Rattle.score.specs.Sums.{worth, shareOf, sumOf, partsOf, totalOf}
+use Rattle.score.specs.Score.{paramIn, sizeIn, topicParamsIn, scoreParamsIn, sharesGroup, sharing, topicScore, scoreIn, shareAt, partsAt, balanceAt, Scores, Agree}
+use Rattle.score.proofs.InputLaws.{TopicSigns, SlotIn}
+use Rattle.score.proofs.ShareLaws.{share-is, sum-is, sum-done, topics-same}
+use Rattle.score.proofs.SumLaws.{total-is, score-size}
+use Rattle.score.proofs.BoundLaws.{share-in, sum-in, topics-in, parts-in, total-in}
+
+pub sharing-most : (st : State) (group : ℕ) → sharing st group ≤ 64
+unfolding sharing
+sharing-most st group = count-bound (sharesGroup st group) 64
+
+-- one topic
+topic-is : (st : State) (s t : ℕ) → TopicSigns st t → topicScore st s t ≡ worth (shareAt st s t)
+unfolding topicScore shareAt topicParamsIn
+topic-is st s t h =
+    rw (← h .weight, ← h .w1, ← h .w2, ← h .w3, ← h .w3b, ← h .w4)
+    (share-is (topicParamsIn st t) (topicIn st (place s t)))
+
+module _ (st : State) (s : ℕ) (h : SlotIn st s) where
+  share-at-in : (t : ℕ) → t < 8 → ShareIn (shareAt st s t)
+  unfolding shareAt
+  share-at-in t l = share-in (topicParamsIn st t) (h .params t l) (topicIn st (place s t)) (h .counters t l)
+
+  pub topics-are : TopicsIn (sumOf 8 (shareAt st s))
+  topics-are = topics-in (shareAt st s) share-at-in
+
+  -- the loop over the topics: the next share can be added, and the end
+  pub add-ready :
+      (t : ℕ) (a b : Balance) →
+      t < 8 →
+      a ≡ sumOf t (shareAt st s) →
+      ShareIn b →
+      BalanceIn a × BalanceIn b
+  add-ready t a b l e k =
+      let i = sum-in (shareAt st s) t (λ j m. share-at-in j (omega arith)) in (
+        rw e (record { gain = omega arith; loss = omega arith }),
+        record { gain = omega arith; loss = omega arith },
+      )
+
+  pub topics-done :
+      (t : ℕ) (a : Balance) →
+      t ≤ 8 →
+      8 ≤ t →
+      a ≡ sumOf t (shareAt st s) →
+      (a ≡ sumOf 8 (shareAt st s)) × TopicsIn a
+  topics-done t a l m e =
+      let f : a ≡ sumOf 8 (shareAt st s) = sum-done (shareAt st s) 8 t a l m e in
+      (f, rw f topics-are)
+
+  pub parts-are : PartsIn (partsAt st s)
+  unfolding partsAt
+  parts-are =
+      parts-in
+      (scoreParamsIn st)
+      (sumOf 8 (shareAt st s))
+      (peerIn st s .p5)
+      (sharing st (peerIn st s .group))
+      (peerIn st s .p7)
+      (h .general)
+      topics-are
+      (h .p5)
+      (sharing-most st (peerIn st s .group))
+      (h .p7)
+
+  -- what is loaded is ready for `sums::parts`, and what that gives
+  module _ (p : Peer) (g : ScoreParams) (b : Balance) (n : ℕ) (is-p : p ≡ peerIn st s) (is-g : g ≡ scoreParamsIn st) where
+    pub parts-ready :
+        TopicsIn b →
+        n ≤ 64 →
+        ScoreParamsIn g × (TopicsIn b × ((p .p5 ≤ 2000000000) × ((n ≤ 64) × (p .p7 ≤ 1000000))))
+    parts-ready i k = rw (is-g, is-p) (h .general, (i, (h .p5, (k, h .p7))))
+
+    pub parts-done :
+        (r : Parts) →
+        r ≡ partsOf g b (p .p5) n (p .p7) →
+        b ≡ sumOf 8 (shareAt st s) →
+        n ≡ sharing st (p .group) →
+        r ≡ partsAt st s
+    unfolding partsAt
+    parts-done r e is-b is-n = e ∙ rw (is-n, is-b, is-g, is-p)
+
+  pub balance-in : BalanceIn (balanceAt st s)
+  unfolding balanceAt
+  balance-in = total-in (partsAt st s) parts-are
+
+  -- the code's balance is worth 01's score
+  pub score-is : worth (balanceAt st s) ≡ scoreIn st s
+  unfolding scoreIn balanceAt partsAt scoreParamsIn
+  score-is =
+      let w = h .generalSigns in
+      let sums : allTopics 8 (topicScore st s) ≡ worth (sumOf 8 (shareAt st s)) =
+      sum-is (topicScore st s) (shareAt st s) 8 (λ t l. topic-is st s t (h .topicSigns t l)) in
+      rw (← w .w5, ← w .w6, ← w .w7, sums)
+      (sym
+      (total-is
+      (scoreParamsIn st)
+      (sumOf 8 (shareAt st s))
+      (peerIn st s .p5)
+      (sharing st (peerIn st s .group))
+      (peerIn st s .p7)))
+
+  -- "No score passes 2.6 × 10^18 either way."
+  pub score-most : natAbs (scoreIn st s) ≤ scoreMost
+  score-most = rw (← score-is) (score-size (balanceAt st s) balance-in)
+
+  pub scores : (q : Parts) (b : Balance) → q ≡ partsAt st s → b ≡ totalOf q → Scores st s b
+  unfolding balanceAt
+  scores q b p t =
+      let e : b ≡ balanceAt st s = t ∙ ap totalOf p in
+      record { is = e; score = ap worth e ∙ score-is; range = rw e balance-in }
+
+-- "One peer's score depends on its own record, the sheet, and the number of connected peers in its group, and on nothing else."
+module _ (st : State) (s : ℕ) (other : State) (u : ℕ) (h : Agree st s other u) where
+  params-same : (t : ℕ) → topicParamsIn st t ≡ topicParamsIn other t
+  unfolding topicParamsIn
+  params-same t = simp (h .codes)
+
+  topic-same : (t : ℕ) → t < topicCount → topicScore st s t ≡ topicScore other u t
+  unfolding topicScore
+  topic-same t l = rw (h .codes (topicPlace t 0), h .codes (topicPlace t 1), h .codes (topicPlace t 4), h .codes (topicPlace t 7), h .codes (topicPlace t 12), h .codes (topicPlace t 14), params-same t, h .topics t l)
+
+  pub score-depends : scoreIn st s ≡ scoreIn other u
+  unfolding scoreIn
+  score-depends =
+      let sums : allTopics 8 (topicScore st s) ≡ allTopics 8 (topicScore other u) = topics-same (topicScore st s) (topicScore other u) 8 topic-same in
+      rw (h .codes 12, h .codes 13, h .codes 14, h .codes 15, h .codes 16, h .p5, h .p7, h .sharing, sums)

@@ -1,0 +1,32 @@
+-- The score as 01 writes it, over signed numbers. The weights and P5 are given with their sign, the parts are those of Parts.antt.
+use Prim.Native.Nat.{ℕ, zero, suc, _*_}
+use mathlib.Core.Bool.{cond}
+use lib.Dec.{eqb}
+use lib.IntN.{ℤ, pos, _+ℤ_, _*ℤ_}
+use lib.Signed.{leZ}
+use Rattle.score.specs.Parts.{square}
+
+-- "The topic's sum is weight × (w1·P1 + w2·P2 + w3·P3 + w3b·P3b + w4·P4)."
+unfoldable pub topicSum : ℤ → ℤ → ℤ → ℤ → ℤ → ℤ → ℕ → ℕ → ℕ → ℕ → ℕ → ℤ
+topicSum weight w1 w2 w3 w3b w4 p1 p2 p3 p3b p4 =
+    weight *ℤ (w1 *ℤ pos p1 +ℤ w2 *ℤ pos p2 +ℤ w3 *ℤ pos p3 +ℤ w3b *ℤ pos p3b +ℤ w4 *ℤ pos p4)
+
+-- "All eight are added": the sums that f gives of the topics below n
+unfoldable pub allTopics : ℕ → (ℕ → ℤ) → ℤ
+allTopics zero f = pos 0
+allTopics (suc n) f = allTopics n f +ℤ f n
+
+abbrev pub minZ : ℤ → ℤ → ℤ
+minZ a b = cond (leZ a b) a b
+
+-- "a non-zero topic cap × 1,000,000 bounds that total from above only"
+unfoldable pub bounded : ℕ → ℤ → ℤ
+bounded cap total = cond (eqb cap 0) total (minZ total (pos (cap * 1000000)))
+
+-- "Then add w5 × P5 × 1000; w6 × surplus² × 10^9 ..; and w7 × P7 counter² × 1000."
+unfoldable pub scoreSum : ℕ → ℤ → ℤ → ℤ → ℤ → ℕ → ℤ → ℕ → ℤ
+scoreSum cap topics w5 p5 w6 surplus w7 p7 =
+    bounded cap topics
+    +ℤ w5 *ℤ p5 *ℤ pos 1000
+    +ℤ w6 *ℤ pos (square surplus) *ℤ pos 1000000000
+    +ℤ w7 *ℤ pos (square p7) *ℤ pos 1000

@@ -1,0 +1,119 @@
+-- A peer's score from the router's state: the parameters' own signed numbers, the peer's record, and the number of connected peers that
+-- share its group. `scoreIn` is 01's formula; `balanceAt` is what the code computes, and worth the same (proofs/ScoreLaws.antt).
+use Prim.Native.Nat.{ℕ, _+_, _*_, _/_, _<_}
+use mathlib.Core.Path.{_≡_}
+use mathlib.Core.Bool.{Bool, _&&_}
+use lib.Dec.{eqb}
+use lib.IntN.{ℤ}
+use Rattle.index.specs.Index.{count}
+use Rattle.groups.specs.Codes.{numberOf}
+use Rattle.params.specs.Joint.{place as topicPlace}
+use Rattle.records.specs.Records.{State, slotCount, topicCount, place, codeIn, peerIn, topicIn, isConnected}
+use Rattle.score.specs.declared.TopicParams.{TopicParams}
+use Rattle.score.specs.declared.ScoreParams.{ScoreParams}
+use Rattle.score.specs.declared.Balance.{Balance}
+use Rattle.score.specs.declared.Parts.{Parts}
+use Rattle.score.specs.Ranges.{BalanceIn}
+use Rattle.score.specs.Parts.{part1Of, part2Of, part3Of, part3bOf, part4Of, surplusOf}
+use Rattle.score.specs.Formula.{topicSum, allTopics, scoreSum}
+use Rattle.score.specs.Sums.{worth, shareOf, sumOf, partsOf, totalOf}
+
+-- parameter i with its sign, and its magnitude. Topic t's j-th parameter is at `topicPlace t j`.
+abbrev pub paramIn : State → ℕ → ℤ
+paramIn st i = numberOf (codeIn st i)
+
+abbrev pub sizeIn : State → ℕ → ℕ
+sizeIn st i = (codeIn st i + 1) / 2
+
+unfoldable pub topicParamsIn : State → ℕ → TopicParams
+topicParamsIn st t =
+    record {
+      weight = sizeIn st (topicPlace t 0);
+      w1 = sizeIn st (topicPlace t 1);
+      quantum = sizeIn st (topicPlace t 2);
+      cap1 = sizeIn st (topicPlace t 3);
+      w2 = sizeIn st (topicPlace t 4);
+      decay2 = sizeIn st (topicPlace t 5);
+      cap2 = sizeIn st (topicPlace t 6);
+      w3 = sizeIn st (topicPlace t 7);
+      decay3 = sizeIn st (topicPlace t 8);
+      cap3 = sizeIn st (topicPlace t 9);
+      threshold = sizeIn st (topicPlace t 10);
+      activation = sizeIn st (topicPlace t 11);
+      w3b = sizeIn st (topicPlace t 12);
+      decay3b = sizeIn st (topicPlace t 13);
+      w4 = sizeIn st (topicPlace t 14);
+      decay4 = sizeIn st (topicPlace t 15);
+    }
+
+-- topic cap, w5, w6, P6 threshold, w7
+unfoldable pub scoreParamsIn : State → ScoreParams
+scoreParamsIn st =
+    record { cap = sizeIn st 12; w5 = sizeIn st 13; w6 = sizeIn st 14; threshold = sizeIn st 15; w7 = sizeIn st 16 }
+
+-- "how many connected peers share its group, itself counted"
+unfoldable pub sharesGroup : State → ℕ → ℕ → Bool
+sharesGroup st group s = isConnected (peerIn st s) && eqb (peerIn st s .group) group
+
+unfoldable pub sharing : State → ℕ → ℕ
+sharing st group = count slotCount (sharesGroup st group)
+
+-- topic t's sum for the peer in slot s
+unfoldable pub topicScore : State → ℕ → ℕ → ℤ
+topicScore st s t =
+    topicSum
+    (paramIn st (topicPlace t 0))
+    (paramIn st (topicPlace t 1))
+    (paramIn st (topicPlace t 4))
+    (paramIn st (topicPlace t 7))
+    (paramIn st (topicPlace t 12))
+    (paramIn st (topicPlace t 14))
+    (part1Of (topicParamsIn st t) (topicIn st (place s t)))
+    (part2Of (topicIn st (place s t)))
+    (part3Of (topicParamsIn st t) (topicIn st (place s t)))
+    (part3bOf (topicIn st (place s t)))
+    (part4Of (topicIn st (place s t)))
+
+-- the score of the peer in slot s, in 10^-9 points
+unfoldable pub scoreIn : State → ℕ → ℤ
+scoreIn st s =
+    scoreSum
+    (sizeIn st 12)
+    (allTopics topicCount (topicScore st s))
+    (paramIn st 13)
+    (numberOf (peerIn st s .p5))
+    (paramIn st 14)
+    (surplusOf (sizeIn st 15) (sharing st (peerIn st s .group)))
+    (paramIn st 16)
+    (peerIn st s .p7)
+
+-- the same as what is gained and what is lost
+unfoldable pub shareAt : State → ℕ → ℕ → Balance
+shareAt st s t = shareOf (topicParamsIn st t) (topicIn st (place s t))
+
+unfoldable pub partsAt : State → ℕ → Parts
+partsAt st s =
+    partsOf
+    (scoreParamsIn st)
+    (sumOf topicCount (shareAt st s))
+    (peerIn st s .p5)
+    (sharing st (peerIn st s .group))
+    (peerIn st s .p7)
+
+unfoldable pub balanceAt : State → ℕ → Balance
+balanceAt st s = totalOf (partsAt st s)
+
+-- what a computed balance is
+pub record Scores (st : State) (s : ℕ) (b : Balance) : Type 0 where
+  pub is : b ≡ balanceAt st s
+  pub score : worth b ≡ scoreIn st s
+  pub range : BalanceIn b
+
+-- "One peer's score depends on its own record, the sheet, and the number of connected peers in its group": the peers in slot s of st and
+-- slot u of another state agree in these
+pub record Agree (st : State) (s : ℕ) (other : State) (u : ℕ) : Type 0 where
+  pub codes : (i : ℕ) → codeIn st i ≡ codeIn other i
+  pub topics : (t : ℕ) → t < topicCount → topicIn st (place s t) ≡ topicIn other (place u t)
+  pub p5 : peerIn st s .p5 ≡ peerIn other u .p5
+  pub p7 : peerIn st s .p7 ≡ peerIn other u .p7
+  pub sharing : sharing st (peerIn st s .group) ≡ sharing other (peerIn other u .group)

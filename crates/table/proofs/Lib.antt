@@ -1,0 +1,7 @@
+pub mod Conditions
+pub mod Loops
+pub mod FindLaws
+pub mod NameLaws
+pub mod ValidLaws
+pub mod Keeps
+pub mod FreshLaws

@@ -1,0 +1,60 @@
+-- What a loop that gathers a flag over indices computes, `every`, and what one that fills an array does, step by step.
+-- Assumes nothing.
+use Prim.Native.Nat.{ℕ, _+_, _<_, _≤_}
+use native.Mathlib.Nat.{le-antisymm}
+use native.Mathlib.Numerals.{add-one}
+use native.Mathlib.Omega.{arith}
+use mathlib.Core.Path.{_≡_, refl, _∙_}
+use mathlib.Core.Bool.{Bool, true, _&&_}
+use mathlib.Core.List.{List}
+use lib.ListN.{length, getD, set}
+use lib.Seq.{getD-set-same, getD-set-other}
+use Rattle.index.specs.Index.{every}
+use Rattle.index.proofs.Flags.{by-order}
+use Rattle.index.proofs.Index.{every-same}
+use Rattle.records.specs.Records.{State, peerIn}
+use Rattle.table.specs.Valid.{apart, newId}
+
+module _ (f : ℕ → Bool) where
+  pub flag-start : true ≡ every 0 f
+  unfolding every
+  flag-start = refl
+
+  pub flag-next : (i : ℕ) (ok b : Bool) → ok ≡ every i f → b ≡ f i → ok && b ≡ every (i + 1) f
+  unfolding every
+  flag-next i ok b p q = rw (add-one, p, q)
+
+  pub flag-end : (n i : ℕ) (ok : Bool) → i ≤ n → n ≤ i → ok ≡ every i f → ok ≡ every n f
+  flag-end n i ok l h p = rw (le-antisymm h l) p
+
+pub ruleset flag-loop = (flag-start, flag-next, flag-end)
+
+-- what a loop that fills an array from the front has done
+pub fill-more :
+    (f : ℕ → ℕ) (l : List ℕ) (i v : ℕ) →
+    i < length l →
+    ((k : ℕ) → k < i → getD l k 0 ≡ f k) →
+    v ≡ f i →
+    (k : ℕ) →
+    k < i + 1 →
+    getD (set l i v) k 0 ≡ f k
+fill-more f l i v b h e k m =
+    by-order
+    (getD (set l i v) k 0 ≡ f k)
+    k
+    i
+    (λ (n : k < i). getD-set-other l i k v 0 (λ z. omega arith) ∙ h k n)
+    (λ (n : i ≤ k).
+    let z : k ≡ i = omega arith in
+    rw z (getD-set-same l i v 0 b ∙ e))
+
+-- the ids of a state, compared in a copy
+pub new-ids-same :
+    (st : State) (ids : List ℕ) →
+    ((k : ℕ) → k < 64 → getD ids k 0 ≡ peerIn st k .id) →
+    every 64 (λ s. every s (λ k. apart (getD ids s 0) (getD ids k 0))) ≡ every 64 (newId st)
+unfolding newId
+new-ids-same st ids h =
+    every-same (λ s. every s (λ k. apart (getD ids s 0) (getD ids k 0))) (newId st) 64 (λ s b.
+    every-same (λ k. apart (getD ids s 0) (getD ids k 0)) (λ k. apart (peerIn st s .id) (peerIn st k .id)) s (λ k l.
+    rw (h s b, h k (omega arith))))

@@ -1,0 +1,11 @@
+use mathlib.Core.Path.{refl}
+use Rattle.table.specs.Valid.{apart}
+use Rattle.table.proofs.valid.apart.Statement.{statement}
+use Rattle.table.proofs.valid.apart.Tie as tie
+
+pub apart-spec : {M : Type 1} → statement M
+unfolding apart
+apart-spec =
+    tie.close
+    (tie.spec
+    (λ c. refl))

@@ -1,0 +1,28 @@
+use Prim.Native.Nat.{_≤_, _-_}
+use mathlib.Core.Path.{_≡_}
+use borrow.Author.Needs.{needs}
+use Rattle.index.specs.Index.{every}
+use Rattle.cells.specs.View.{stateOf}
+use Rattle.table.specs.Valid.{joinedOk}
+use Rattle.table.proofs.Loops.{flag-loop}
+use Rattle.table.proofs.valid.joined_ok.Statement.{statement}
+use Rattle.table.proofs.valid.joined_ok.Tie as tie
+
+abbrev Inv-loop : tie.InvT-loop
+Inv-loop table ok₀ t₀ ok t = (t ≤ 8) × (ok ≡ every t (joinedOk (stateOf table)))
+
+abbrev μ-loop : tie.MeasureT-loop
+μ-loop table ok₀ t₀ ok t = 8 - t
+
+pub joined-ok-spec : {M : Type 1} → statement M
+joined-ok-spec =
+    tie.close
+    (tie.spec
+    Inv-loop
+    μ-loop
+    (λ c. search (flag-loop, needs))
+    (λ c κs. search needs)
+    (λ c. search needs)
+    (λ c. search needs)
+    (λ c. search (flag-loop, needs))
+    (λ c. search (flag-loop, needs)))

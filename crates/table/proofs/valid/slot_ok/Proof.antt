@@ -1,0 +1,14 @@
+use borrow.Author.Needs.{needs}
+use Rattle.table.specs.Valid.{slotOk}
+use Rattle.table.proofs.valid.slot_ok.Statement.{statement}
+use Rattle.table.proofs.valid.slot_ok.Tie as tie
+
+pub slot-ok-spec : {M : Type 1} → statement M
+unfolding slotOk
+slot-ok-spec =
+    tie.close
+    (tie.spec
+    (λ c κs. search needs)
+    (λ c κs. search needs)
+    (λ c κs. search needs)
+    (λ c. cc))

@@ -1,0 +1,4 @@
+pub mod Valid
+pub mod Find
+pub mod Name
+pub mod Fresh

@@ -1,0 +1,167 @@
+-- When tables are a router's (01, answer 12: "Tables are a router's if .."), sentence by sentence. A change of a range or of a rule is made
+-- here and in src/valid.rt; proofs/ValidLaws.antt says the same in plain facts.
+use Prim.Native.Nat.{ℕ, _+_, _*_, _/_}
+use mathlib.Core.Bool.{Bool, _&&_, _||_, not}
+use lib.ListN.{getD}
+use lib.Dec.{eqb, leb}
+use Rattle.index.specs.Index.{every}
+use Rattle.params.specs.Check.{acceptedCodes}
+use Rattle.records.specs.declared.Peer.{Peer}
+use Rattle.records.specs.declared.TopicRecord.{TopicRecord}
+use Rattle.records.specs.Records.{State, slotCount, topicCount, place, codeIn, joinedIn, peerIn, topicIn, isEmpty, isRetained}
+
+-- "Times are milliseconds, 0 to 2^40."
+abbrev pub maxTime : ℕ
+maxTime = 1099511627776
+
+-- "backoff ends to 2^40 + 3,600,000, retain ends to 2^40 + 86,400,000"
+abbrev pub maxEnd : ℕ
+maxEnd = 1099515227776
+
+abbrev pub maxRetain : ℕ
+maxRetain = 1099598027776
+
+-- "Peer ids are 1 to 4,294,967,295"; "address group (32 bits)"
+abbrev pub maxId : ℕ
+maxId = 4294967295
+
+-- ---- a peer's record
+-- "every number is in its range": P5 is the code of a number up to 10^9 either way, so at most 2 * 10^9; "P4 and P7 stop at 10^6"
+unfoldable pub peerRanges : Peer → Bool
+peerRanges p =
+    leb (p .status) 2
+    && leb (p .id) maxId
+    && leb (p .group) maxId
+    && leb (p .outbound) 1
+    && leb (p .explicit) 1
+    && leb (p .version) 1
+    && leb (p .p5) 2000000000
+    && leb (p .p7) 1000000
+    && leb (p .retain) maxRetain
+
+-- each backoff end is at most m
+unfoldable pub endsUpTo : ℕ → Peer → Bool
+endsUpTo m p = every topicCount (λ t. leb (getD (p .backoff) t 0) m)
+
+-- an id is at least 1
+unfoldable pub idOk : Peer → Bool
+idOk p = isEmpty p || leb 1 (p .id)
+
+-- "empty records are all zero"
+unfoldable pub zeroPeer : Peer → Bool
+zeroPeer p =
+    eqb (p .id) 0
+    && eqb (p .group) 0
+    && eqb (p .outbound) 0
+    && eqb (p .explicit) 0
+    && eqb (p .version) 0
+    && eqb (p .p5) 0
+    && eqb (p .p7) 0
+    && eqb (p .retain) 0
+    && endsUpTo 0 p
+
+unfoldable pub emptyOk : Peer → Bool
+emptyOk p = not (isEmpty p) || zeroPeer p
+
+-- "a retain end (0 unless retained)"
+unfoldable pub retainOk : Peer → Bool
+retainOk p = isRetained p || eqb (p .retain) 0
+
+unfoldable pub peerOk : Peer → Bool
+peerOk p = peerRanges p && endsUpTo maxEnd p && idOk p && emptyOk p && retainOk p
+
+-- ---- what a record holds for one topic, by the status and the explicit flag of its peer, the topic's joined flag, the clock, and the caps
+-- "P2, P3 counters to their caps"; "P4 and P7 stop at 10^6, P3b at 10^12"
+unfoldable pub topicRanges : (cap2 cap3 : ℕ) → TopicRecord → Bool
+topicRanges cap2 cap3 t =
+    leb (t .p2) cap2
+    && leb (t .p3) cap3
+    && leb (t .p4) 1000000
+    && leb (t .p3b) 1000000000000
+    && leb (t .subscribed) 1
+    && leb (t .member) 1
+    && leb (t .graft) maxTime
+    && leb (t .mesh) maxTime
+
+-- "empty records are all zero"
+unfoldable pub zeroTopic : TopicRecord → Bool
+zeroTopic t =
+    eqb (t .p2) 0
+    && eqb (t .p3) 0
+    && eqb (t .p4) 0
+    && eqb (t .p3b) 0
+    && eqb (t .subscribed) 0
+    && eqb (t .member) 0
+    && eqb (t .graft) 0
+    && eqb (t .mesh) 0
+
+unfoldable pub emptyTopicOk : (status : ℕ) → TopicRecord → Bool
+emptyTopicOk status t = not (eqb status 0) || zeroTopic t
+
+-- "Graft and mesh time are 0 for a non-member."
+unfoldable pub outsideOk : TopicRecord → Bool
+outsideOk t = eqb (t .member) 1 || (eqb (t .graft) 0 && eqb (t .mesh) 0)
+
+-- "a retained record has no subscription and no membership"
+unfoldable pub retainedOk : (status : ℕ) → TopicRecord → Bool
+retainedOk status t = not (eqb status 2) || (eqb (t .subscribed) 0 && eqb (t .member) 0)
+
+-- "a member is connected, subscribed, not explicit, in a joined topic"
+unfoldable pub memberOk : (status explicit joined : ℕ) → TopicRecord → Bool
+memberOk status explicit joined t =
+    not (eqb (t .member) 1) || (eqb status 1 && eqb (t .subscribed) 1 && eqb explicit 0 && eqb joined 1)
+
+-- "graft time plus mesh time is at most the clock"
+unfoldable pub timesOk : (clock : ℕ) → TopicRecord → Bool
+timesOk clock t = leb (t .graft + t .mesh) clock
+
+unfoldable pub topicOk : (status explicit joined clock cap2 cap3 : ℕ) → TopicRecord → Bool
+topicOk status explicit joined clock cap2 cap3 t =
+    topicRanges cap2 cap3 t
+    && emptyTopicOk status t
+    && outsideOk t
+    && retainedOk status t
+    && memberOk status explicit joined t
+    && timesOk clock t
+
+-- ---- the tables, by slot and topic
+-- the magnitude of topic t's j-th parameter: "19 general, then 16 per topic"
+unfoldable pub topicParam : State → ℕ → ℕ → ℕ
+topicParam st t j = (codeIn st (19 + 16 * t + j) + 1) / 2
+
+-- P2 cap and P3 cap
+abbrev pub cap2 : State → ℕ → ℕ
+cap2 st t = topicParam st t 6
+
+abbrev pub cap3 : State → ℕ → ℕ
+cap3 st t = topicParam st t 9
+
+-- a joined flag is 0 or 1
+unfoldable pub joinedOk : State → ℕ → Bool
+joinedOk st t = leb (joinedIn st t) 1
+
+-- topic t of slot s, whose peer has this status and this explicit flag
+unfoldable pub topicOkAt : State → (s status explicit t : ℕ) → Bool
+topicOkAt st s status explicit t =
+    topicOk status explicit (joinedIn st t) (st .clock) (cap2 st t) (cap3 st t) (topicIn st (place s t))
+
+unfoldable pub slotOk : State → ℕ → Bool
+slotOk st s =
+    peerOk (peerIn st s) && every topicCount (topicOkAt st s (peerIn st s .status) (peerIn st s .explicit))
+
+-- "no id stands twice"; ids start at 1, so 0 is none
+unfoldable pub apart : ℕ → ℕ → Bool
+apart a b = not (eqb b a && not (eqb a 0))
+
+unfoldable pub newId : State → ℕ → Bool
+newId st s = every s (λ k. apart (peerIn st s .id) (peerIn st k .id))
+
+-- the tables are a router's
+unfoldable pub valid : State → Bool
+valid st =
+    -- "if the sheet passes 9"
+    acceptedCodes (st .codes)
+    && leb (st .clock) maxTime
+    && every topicCount (joinedOk st)
+    && every slotCount (slotOk st)
+    && every slotCount (newId st)

@@ -1,0 +1,300 @@
+// Test 12: whether a table is a router's. Every call pays for it, so the tests have no branches and each record is read once; the
+// definitions are specs/Valid.antt, in the same order.
+ghost use mathlib.Core.Path.{_≡_};
+ghost use Prim.Native.Nat.{ℕ, _+_, _*_, _/_, _≤_, _<_};
+ghost use lib.ListN.{length, getD};
+ghost use lib.Dec.{leb};
+ghost use Rattle.index.specs.Index.{every};
+ghost use Rattle.records.specs.Records.{peerIn};
+ghost use Rattle.cells.specs.View.{stateOf, cellCount};
+ghost use Rattle.table.specs.Valid.{peerRanges, endsUpTo, zeroPeer, peerOk, topicRanges, zeroTopic, memberOk, topicOk, topicParam, joinedOk, topicOkAt, slotOk, apart, newId, valid};
+use records::Peer;
+use records::SLOTS;
+use records::TOPICS;
+use records::TopicRecord;
+
+// The greatest time, backoff end, retain end, and id or group.
+pub const MAX_TIME: u64 = 1099511627776;
+
+pub const MAX_END: u64 = 1099515227776;
+
+pub const MAX_RETAIN: u64 = 1099598027776;
+
+pub const MAX_ID: u64 = 4294967295;
+
+// Where the numbers of topic 0 begin among the parameters, how many each topic has, and which of them are the caps of P2 and P3.
+const TOPIC_PARAMS: usize = 19;
+
+const PER_TOPIC: usize = 16;
+
+const P2_CAP: usize = 6;
+
+const P3_CAP: usize = 9;
+
+// Whether each number of a peer's record is in its range, but for the backoff ends.
+fn peer_ranges(p: Peer) -> bool
+    ensures { λ r. ⌜ r ≡ peerRanges p ⌝ }
+{
+    (p.status <= 2)
+        & (p.id <= MAX_ID)
+        & (p.group <= MAX_ID)
+        & (p.outbound <= 1)
+        & (p.explicit <= 1)
+        & (p.version <= 1)
+        & (p.p5 <= 2000000000)
+        & (p.p7 <= 1000000)
+        & (p.retain <= MAX_RETAIN)
+}
+
+// Whether each backoff end is at most m.
+fn ends_up_to(m: u64, p: Peer) -> bool
+    ensures { λ r. ⌜ r ≡ endsUpTo m p ⌝ }
+{
+    let b = p.backoff;
+    (b[0] <= m)
+        & (b[1] <= m)
+        & (b[2] <= m)
+        & (b[3] <= m)
+        & (b[4] <= m)
+        & (b[5] <= m)
+        & (b[6] <= m)
+        & (b[7] <= m)
+}
+
+// Whether a record is all zero, but for its status.
+fn zero_peer(p: Peer) -> bool
+    ensures { λ r. ⌜ r ≡ zeroPeer p ⌝ }
+{
+    let ends = ends_up_to(0, p);
+    (p.id == 0)
+        & (p.group == 0)
+        & (p.outbound == 0)
+        & (p.explicit == 0)
+        & (p.version == 0)
+        & (p.p5 == 0)
+        & (p.p7 == 0)
+        & (p.retain == 0)
+        & ends
+}
+
+fn peer_ok(p: Peer) -> bool
+    ensures { λ r. ⌜ r ≡ peerOk p ⌝ }
+{
+    let ranges = peer_ranges(p);
+    let ends = ends_up_to(MAX_END, p);
+    let zeros = zero_peer(p);
+    ranges
+        & ends
+        & ((p.status == 0) | (1 <= p.id))
+        & (!(p.status == 0) | zeros)
+        & ((p.status == 2) | (p.retain == 0))
+}
+
+// Whether each number that a record holds for a topic is in its range.
+fn topic_ranges(cap2: u64, cap3: u64, t: TopicRecord) -> bool
+    ensures { λ r. ⌜ r ≡ topicRanges cap2 cap3 t ⌝ }
+{
+    (t.p2 <= cap2)
+        & (t.p3 <= cap3)
+        & (t.p4 <= 1000000)
+        & (t.p3b <= 1000000000000)
+        & (t.subscribed <= 1)
+        & (t.member <= 1)
+        & (t.graft <= MAX_TIME)
+        & (t.mesh <= MAX_TIME)
+}
+
+fn zero_topic(t: TopicRecord) -> bool
+    ensures { λ r. ⌜ r ≡ zeroTopic t ⌝ }
+{
+    (t.p2 == 0)
+        & (t.p3 == 0)
+        & (t.p4 == 0)
+        & (t.p3b == 0)
+        & (t.subscribed == 0)
+        & (t.member == 0)
+        & (t.graft == 0)
+        & (t.mesh == 0)
+}
+
+// Whether a + b is at most c, with no sum that could wrap.
+fn sum_at_most(a: u64, b: u64, c: u64) -> bool
+    ensures { λ r. ⌜ r ≡ leb (a + b) c ⌝ }
+{
+    if a <= c { b <= c - a } else { false }
+}
+
+// Whether a member is connected, subscribed, not explicit, in a joined topic.
+fn member_ok(status: u64, explicit: u64, joined: u64, t: TopicRecord) -> bool
+    ensures { λ r. ⌜ r ≡ memberOk status explicit joined t ⌝ }
+{
+    !(t.member == 1) | ((status == 1) & (t.subscribed == 1) & (explicit == 0) & (joined == 1))
+}
+
+fn topic_ok(
+    status: u64,
+    explicit: u64,
+    joined: u64,
+    clock: u64,
+    cap2: u64,
+    cap3: u64,
+    t: TopicRecord,
+) -> bool
+    ensures { λ r. ⌜ r ≡ topicOk status explicit joined clock cap2 cap3 t ⌝ }
+{
+    let ranges = topic_ranges(cap2, cap3, t);
+    let zeros = zero_topic(t);
+    let member = member_ok(status, explicit, joined, t);
+    let times = sum_at_most(t.graft, t.mesh, clock);
+    ranges
+        & (!(status == 0) | zeros)
+        & ((t.member == 1) | ((t.graft == 0) & (t.mesh == 0)))
+        & (!(status == 2) | ((t.subscribed == 0) & (t.member == 0)))
+        & member
+        & times
+}
+
+// The magnitude of topic t's j-th parameter.
+fn topic_param(table: &[u64], t: usize, j: usize) -> u64
+    requires { ⌜ (length (now table) ≡ cellCount) × ((t < 8) × (j < 16)) ⌝ }
+    ensures { λ r. ⌜ r ≡ topicParam (stateOf (now (table .entry))) t j ⌝ }
+{
+    groups::code_size(cells::load_code(table, TOPIC_PARAMS + PER_TOPIC * t + j))
+}
+
+fn topic_at(table: &[u64], slot: usize, status: u64, explicit: u64, t: usize) -> bool
+    requires { ⌜ (length (now table) ≡ cellCount) × ((slot < 64) × (t < 8)) ⌝ }
+    ensures { λ r. ⌜ r ≡ topicOkAt (stateOf (now (table .entry))) slot status explicit t ⌝ }
+{
+    let joined = cells::load_joined(table, t);
+    let clock = cells::load_clock(table);
+    let cap2 = topic_param(table, t, P2_CAP);
+    let cap3 = topic_param(table, t, P3_CAP);
+    let r = cells::load_topic(table, slot * TOPICS + t);
+    topic_ok(status, explicit, joined, clock, cap2, cap3, r)
+}
+
+fn topics_ok(table: &[u64], slot: usize, status: u64, explicit: u64) -> bool
+    requires { ⌜ (length (now table) ≡ cellCount) × (slot < 64) ⌝ }
+    ensures { λ r. ⌜ r ≡ every 8 (topicOkAt (stateOf (now (table .entry))) slot status explicit) ⌝ }
+{
+    let mut ok = true;
+    let mut t: usize = 0;
+    while t < TOPICS {
+        ok = ok & topic_at(table, slot, status, explicit, t);
+        t += 1;
+    }
+    ok
+}
+
+fn slot_ok(table: &[u64], slot: usize) -> bool
+    requires { ⌜ (length (now table) ≡ cellCount) × (slot < 64) ⌝ }
+    ensures { λ r. ⌜ r ≡ slotOk (stateOf (now (table .entry))) slot ⌝ }
+{
+    let p = cells::load_peer(table, slot);
+    let peer = peer_ok(p);
+    let topics = topics_ok(table, slot, p.status, p.explicit);
+    peer & topics
+}
+
+fn slots_ok(table: &[u64]) -> bool
+    requires { ⌜ length (now table) ≡ cellCount ⌝ }
+    ensures { λ r. ⌜ r ≡ every 64 (slotOk (stateOf (now (table .entry)))) ⌝ }
+{
+    let mut ok = true;
+    let mut slot: usize = 0;
+    while slot < SLOTS {
+        ok = ok & slot_ok(table, slot);
+        slot += 1;
+    }
+    ok
+}
+
+fn joined_at(table: &[u64], t: usize) -> bool
+    requires { ⌜ (length (now table) ≡ cellCount) × (t < 8) ⌝ }
+    ensures { λ r. ⌜ r ≡ joinedOk (stateOf (now (table .entry))) t ⌝ }
+{
+    cells::load_joined(table, t) <= 1
+}
+
+fn joined_ok(table: &[u64]) -> bool
+    requires { ⌜ length (now table) ≡ cellCount ⌝ }
+    ensures { λ r. ⌜ r ≡ every 8 (joinedOk (stateOf (now (table .entry)))) ⌝ }
+{
+    let mut ok = true;
+    let mut t: usize = 0;
+    while t < TOPICS {
+        ok = ok & joined_at(table, t);
+        t += 1;
+    }
+    ok
+}
+
+// The ids by slot, side by side, so that they are compared fast.
+fn ids_of(table: &[u64]) -> [u64; 64]
+    requires { ⌜ length (now table) ≡ cellCount ⌝ }
+    ensures { λ r. ⌜ ((k : ℕ) → k < 64 → getD r k 0 ≡ peerIn (stateOf (now (table .entry))) k .id) ⌝ }
+{
+    let mut ids = [0u64; 64];
+    let mut slot: usize = 0;
+    while slot < SLOTS {
+        ids[slot] = cells::load_id(table, slot);
+        slot += 1;
+    }
+    ids
+}
+
+// Whether two ids differ, or are none.
+fn apart(a: u64, b: u64) -> bool
+    ensures { λ r. ⌜ r ≡ apart a b ⌝ }
+{
+    !((b == a) & !(a == 0))
+}
+
+// Whether the id in a slot stands in no lower slot.
+fn new_id(ids: [u64; 64], slot: usize) -> bool
+    requires { ⌜ slot < 64 ⌝ }
+    ensures { λ r. ⌜ r ≡ every slot (λ k. apart (getD ids slot 0) (getD ids k 0)) ⌝ }
+{
+    let id = ids[slot];
+    let mut ok = true;
+    let mut k: usize = 0;
+    while k < slot {
+        ok = ok & apart(id, ids[k]);
+        k += 1;
+    }
+    ok
+}
+
+fn new_ids(ids: [u64; 64]) -> bool
+    ensures { λ r. ⌜ r ≡ every 64 (λ s. every s (λ k. apart (getD ids s 0) (getD ids k 0))) ⌝ }
+{
+    let mut ok = true;
+    let mut slot: usize = 0;
+    while slot < SLOTS {
+        ok = ok & new_id(ids, slot);
+        slot += 1;
+    }
+    ok
+}
+
+fn ids_distinct(table: &[u64]) -> bool
+    requires { ⌜ length (now table) ≡ cellCount ⌝ }
+    ensures { λ r. ⌜ r ≡ every 64 (newId (stateOf (now (table .entry)))) ⌝ }
+{
+    let ids = ids_of(table);
+    new_ids(ids)
+}
+
+// Whether a table is a router's.
+pub fn is_router(table: &[u64]) -> bool
+    requires { ⌜ length (now table) ≡ cellCount ⌝ }
+    ensures { λ r. ⌜ r ≡ valid (stateOf (now (table .entry))) ⌝ }
+{
+    let params = params::accepts_codes(cells::codes(table));
+    let clock = cells::load_clock(table);
+    let joined = joined_ok(table);
+    let slots = slots_ok(table);
+    let ids = ids_distinct(table);
+    params & (clock <= MAX_TIME) & joined & slots & ids
+}
