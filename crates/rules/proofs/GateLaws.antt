@@ -35,15 +35,28 @@ module _ (st : State) (fine : Bool) (room time : ℕ) where
   unfolding gateOf
   gate-8 v f l = rw (v, f, lt-leb actionRoom room l)
 
+  -- `k` is the clock as it was read
   pub gate-1 :
-      valid st ≡ true → fine ≡ true → 192 ≤ room → time < st .clock → Refuse Early ≡ gateOf st fine room time
+      (k : ℕ) →
+      valid st ≡ true →
+      fine ≡ true →
+      192 ≤ room →
+      k ≡ st .clock →
+      time < k →
+      Refuse Early ≡ gateOf st fine room time
   unfolding gateOf
-  gate-1 v f l t = rw (v, f, le-leb actionRoom room l, lt-leb (st .clock) time t)
+  gate-1 k v f l e t = rw (v, f, le-leb actionRoom room l, lt-leb (st .clock) time (omega arith))
 
   pub gate-0 :
-      valid st ≡ true → fine ≡ true → 192 ≤ room → st .clock ≤ time → Pass ≡ gateOf st fine room time
+      (k : ℕ) →
+      valid st ≡ true →
+      fine ≡ true →
+      192 ≤ room →
+      k ≡ st .clock →
+      k ≤ time →
+      Pass ≡ gateOf st fine room time
   unfolding gateOf
-  gate-0 v f l t = rw (v, f, le-leb actionRoom room l, le-leb (st .clock) time t)
+  gate-0 k v f l e t = rw (v, f, le-leb actionRoom room l, le-leb (st .clock) time (omega arith))
 
   no-pass : {A : Type 0} (a : Answer) → Refuse a ≡ Pass → A
   no-pass a e = let z : _≡_ {A = ℕ} 0 1 = cc in absurd (omega arith)

@@ -1,0 +1,78 @@
+-- What a computed score says of a peer, and what is known of the parameters behind the gate.
+-- Assumes nothing.
+use Prim.Native.Nat.{ℕ, _+_, _*_, _≤_, _<_}
+use mathlib.Core.Path.{_≡_, refl, sym, ap, ap₂, _∙_}
+use mathlib.Core.Bool.{Bool, true, false, _&&_, not}
+use native.Mathlib.Omega.{arith}
+use lib.Dec.{eqb, lit<}
+use lib.IntN.{ℤ, pos, negℤ, _*ℤ_}
+use lib.Signed.{ltZ}
+use Rattle.groups.specs.Codes.{numberOf}
+use Rattle.records.specs.declared.Peer.{Peer}
+use Rattle.records.specs.Records.{State, codeIn, peerIn}
+use Rattle.params.specs.Limits.{limits, limitAt}
+use Rattle.params.proofs.FieldLaws.{loss-of}
+use Rattle.params.proofs.ParamLaws.{general, within}
+use Rattle.table.specs.Valid.{valid}
+use Rattle.table.proofs.ValidLaws.{Facts, valid-facts}
+use Rattle.score.specs.declared.Balance.{Balance}
+use Rattle.score.specs.Sums.{worth, negativeOf, belowOf}
+use Rattle.score.specs.Score.{scoreIn, Scores}
+use Rattle.score.proofs.Differences.{neg-times, diff-neg}
+use Rattle.score.proofs.SumLaws.{negative-is, below-is}
+use Rattle.effects.specs.Effects.{magnitude}
+use Rattle.rules.specs.Step.{isNegative, isGraylisted}
+
+-- the magnitudes of the general parameters that the calls compute with
+pub record Sizes (st : State) : Type 0 where
+  pub high : magnitude (codeIn st 2) ≤ 48
+  pub prune : magnitude (codeIn st 5) ≤ 3600
+  pub leave : magnitude (codeIn st 6) ≤ 3600
+  pub retain : magnitude (codeIn st 7) ≤ 86400
+  pub graylist : magnitude (codeIn st 9) ≤ 1000000000
+  pub fade : magnitude (codeIn st 17) ≤ 999
+  pub floor : magnitude (codeIn st 18) ≤ 1000
+
+pub sizes : (st : State) → valid st ≡ true → Sizes st
+unfolding codeIn
+sizes st v =
+    let g = general (st .codes) (valid-facts st v .params) in
+    record {
+      high = g .dHi-most;
+      prune = g .pruneBackoff-most;
+      leave = g .leaveBackoff-most;
+      retain = g .retain-most;
+      graylist = g .graylist-most;
+      fade = g .p7Decay-most;
+      floor = g .decayToZero-most;
+    }
+
+-- the graylist threshold, from its magnitude
+graylist-is :
+    (st : State) → valid st ≡ true →
+    numberOf (codeIn st 9) *ℤ pos 1000000 ≡ negℤ (pos (magnitude (codeIn st 9) * 1000000))
+unfolding codeIn limitAt limits
+graylist-is st v =
+    ap (λ (z : ℤ). z *ℤ pos 1000000)
+    (sym (loss-of (st .codes) (within (st .codes) (valid-facts st v .params)) 9 (lit< tt) 9 refl tt))
+    ∙ neg-times (magnitude (codeIn st 9)) 1000000
+    ∙ sym (diff-neg (magnitude (codeIn st 9) * 1000000))
+
+module _ (st : State) (s : ℕ) (b : Balance) (scores : Scores st s b) where
+  pub negative-of : (r : Bool) → r ≡ negativeOf b → r ≡ isNegative st s
+  unfolding isNegative
+  negative-of r e = e ∙ negative-is b ∙ ap (λ (z : ℤ). ltZ z (pos 0)) (scores .score)
+
+  pub graylisted-of :
+      valid st ≡ true → (p : Peer) (n : ℕ) (r : Bool) →
+      p ≡ peerIn st s →
+      n ≡ magnitude (codeIn st 9) →
+      r ≡ belowOf b n →
+      (eqb (p .explicit) 0 && r) ≡ isGraylisted st s
+  unfolding isGraylisted
+  graylisted-of v p n r ep en er =
+      ap₂ (λ (x : Peer) (y : Bool). eqb (x .explicit) 0 && y) ep
+      (er
+      ∙ ap (λ (m : ℕ). belowOf b m) en
+      ∙ below-is b (magnitude (codeIn st 9))
+      ∙ ap₂ (λ (x y : ℤ). ltZ x y) (scores .score) (sym (graylist-is st v)))

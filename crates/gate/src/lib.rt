@@ -1,0 +1,101 @@
+// The tests that every call begins with (12, 2, 8, 1), the two ends that move the clock, and what a peer's score says of it.
+ghost use mathlib.Core.Path.{_≡_};
+ghost use Prim.Native.Nat.{_<_};
+ghost use lib.ListN.{length};
+ghost use Rattle.records.specs.Records.{setClock};
+ghost use Rattle.cells.specs.View.{cellCount, stateOf};
+ghost use Rattle.rules.specs.Calls.{idOk, topicOk, timeOk};
+ghost use Rattle.rules.specs.Step.{gateOf, isNegative, isGraylisted, isHeard};
+ghost use Rattle.gate.specs.Ready.{Standing};
+use effects::slots::is_joined;
+use effects::slots::load_size;
+use rules::Answer;
+use rules::Gate;
+
+const MAX_TIME: u64 = 1099511627776;
+
+const MAX_ID: u64 = 4294967295;
+
+// How many numbers the lent list must have: three for each slot.
+const ACTION_ROOM: usize = 192;
+
+pub fn time_ok(time: u64) -> bool
+    ensures { λ r. ⌜ r ≡ timeOk time ⌝ }
+{
+    time <= MAX_TIME
+}
+
+pub fn id_ok(id: u64) -> bool
+    ensures { λ r. ⌜ r ≡ idOk id ⌝ }
+{
+    (1 <= id) & (id <= MAX_ID)
+}
+
+pub fn topic_ok(topic: u64) -> bool
+    ensures { λ r. ⌜ r ≡ topicOk topic ⌝ }
+{
+    topic <= 7
+}
+
+// `fine` says that each argument is in its range, and `room` how long the action list is.
+pub fn admit(table: &[u64], fine: bool, room: usize, time: u64) -> Gate
+    requires { ⌜ length (now table) ≡ cellCount ⌝ }
+    ensures { λ r. ⌜ r ≡ gateOf (stateOf (now (table .entry))) fine room time ⌝ }
+{
+    if !table::valid::is_router(table) {
+        return Gate::Refuse(Answer::NotRouter);
+    }
+    if !fine {
+        return Gate::Refuse(Answer::OutOfRange);
+    }
+    if room < ACTION_ROOM {
+        return Gate::Refuse(Answer::ListShort);
+    }
+    if time < cells::load_clock(table) {
+        return Gate::Refuse(Answer::Early);
+    }
+    Gate::Pass
+}
+
+// 0 with no action.
+pub fn finish(table: &mut [u64], time: u64) -> Answer
+    requires { ⌜ length (now table) ≡ cellCount ⌝ }
+    ensures { λ r. ⌜ (r ≡ Answer.Done 0) × (stateOf (now (table .exit)) ≡ setClock (stateOf (now (table .entry))) time) ⌝ }
+{
+    cells::store_clock(table, time);
+    Answer::Done(0)
+}
+
+// 11.
+pub fn ignore(table: &mut [u64], time: u64) -> Answer
+    requires { ⌜ length (now table) ≡ cellCount ⌝ }
+    ensures { λ r. ⌜ (r ≡ Answer.Ignored) × (stateOf (now (table .exit)) ≡ setClock (stateOf (now (table .entry))) time) ⌝ }
+{
+    cells::store_clock(table, time);
+    Answer::Ignored
+}
+
+pub fn is_negative(table: &[u64], slot: usize) -> bool
+    requires { ⌜ Standing (now table) × (slot < 64) ⌝ }
+    ensures { λ r. ⌜ r ≡ isNegative (stateOf (now (table .entry))) slot ⌝ }
+{
+    score::sums::is_negative(score::of_slot::score_of(table, slot))
+}
+
+// A non-explicit peer that scores below the graylist threshold (the general number 9).
+pub fn is_graylisted(table: &[u64], slot: usize) -> bool
+    requires { ⌜ Standing (now table) × (slot < 64) ⌝ }
+    ensures { λ r. ⌜ r ≡ isGraylisted (stateOf (now (table .entry))) slot ⌝ }
+{
+    let p = cells::load_peer(table, slot);
+    (p.explicit == 0)
+        & score::sums::is_below(score::of_slot::score_of(table, slot), load_size(table, 9))
+}
+
+// The topic is joined, and the peer not graylisted.
+pub fn is_heard(table: &[u64], topic: usize, slot: usize) -> bool
+    requires { ⌜ Standing (now table) × ((topic < 8) × (slot < 64)) ⌝ }
+    ensures { λ r. ⌜ r ≡ isHeard (stateOf (now (table .entry))) topic slot ⌝ }
+{
+    is_joined(table, topic) & !is_graylisted(table, slot)
+}
