@@ -3,6 +3,12 @@
 use std::io::{Read, Write};
 use std::process::{Child, Command, Stdio};
 
+/// A program that is not there is no difference.
+pub fn check(program: &str) -> Result<(), String> {
+    let found = std::fs::metadata(program).is_ok_and(|found| found.is_file());
+    found.then_some(()).ok_or_else(|| format!("{program}: no such program"))
+}
+
 /// What the program wrote; a program killed by a signal is told apart, so that
 /// a crash after right output is still seen.
 pub fn run(program: &str, input: &[u8]) -> Result<Vec<u8>, String> {
@@ -28,14 +34,16 @@ fn feed_and_read(child: &mut Child, input: &[u8]) -> Result<Vec<u8>, String> {
     let mut stdout = child.stdout.take().expect("stdout is piped");
     let mut output = Vec::new();
     // A program may stop before it has read all: a broken pipe is no fault.
-    let mut feed = move || drop(stdin.write_all(input));
+    let feed = move || {
+        let _ = stdin.write_all(input);
+        drop(stdin);
+    };
     let read = if input.len() <= PIPE {
         feed();
-        drop(feed);
         stdout.read_to_end(&mut output)
     } else {
         std::thread::scope(|scope| {
-            scope.spawn(move || feed());
+            scope.spawn(feed);
             stdout.read_to_end(&mut output)
         })
     };

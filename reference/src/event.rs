@@ -27,20 +27,57 @@ pub struct Event {
 
 #[derive(Clone, PartialEq, Eq, Debug)]
 pub enum Call {
-    Connect { id: u64, group: u64, flags: u64, name: Vec<u8> },
-    Disconnect { id: u64 },
-    Join { topic: u64 },
-    Leave { topic: u64 },
-    Subscribe { id: u64, topic: u64 },
-    Unsubscribe { id: u64, topic: u64 },
-    Graft { id: u64, topic: u64 },
-    Prune { id: u64, topic: u64, seconds: u64 },
-    Delivery { id: u64, topic: u64, kind: u64 },
-    SetP5 { id: u64, value: i64 },
+    Connect {
+        id: u64,
+        group: u64,
+        flags: u64,
+        name: Vec<u8>,
+    },
+    Disconnect {
+        id: u64,
+    },
+    Join {
+        topic: u64,
+    },
+    Leave {
+        topic: u64,
+    },
+    Subscribe {
+        id: u64,
+        topic: u64,
+    },
+    Unsubscribe {
+        id: u64,
+        topic: u64,
+    },
+    Graft {
+        id: u64,
+        topic: u64,
+    },
+    Prune {
+        id: u64,
+        topic: u64,
+        seconds: u64,
+    },
+    Delivery {
+        id: u64,
+        topic: u64,
+        kind: u64,
+    },
+    SetP5 {
+        id: u64,
+        value: i64,
+    },
     /// 01 calls it tidy: the heartbeat's work for one topic.
-    Heartbeat { topic: u64, ask: u64, permutation: Box<Permutation> },
+    Heartbeat {
+        topic: u64,
+        ask: u64,
+        permutation: Box<Permutation>,
+    },
     Decay,
-    Score { id: u64 },
+    Score {
+        id: u64,
+    },
 }
 
 /// The calls by name, in the order of the kinds' numbers from 1 on.

@@ -56,7 +56,7 @@ pub fn code_from_signed(n: i64) -> u64 {
 /// The number that a code stands for.
 pub fn signed_from_code(code: u64) -> i64 {
     let half = (code / 2) as i64;
-    if code % 2 == 0 {
+    if code.is_multiple_of(2) {
         half
     } else {
         -half - 1
@@ -103,7 +103,10 @@ mod tests {
         let mut bytes = vec![0xff; 9];
         bytes.push(0x02);
         assert_eq!(read_unsigned(&bytes), Err(Malformed));
-        assert_eq!(read_unsigned(&[0x80, 0x80, 0x80, 0x80, 0x80, 0x80, 0x80, 0x80, 0x80, 0x80, 0x01]), Err(Malformed));
+        assert_eq!(
+            read_unsigned(&[0x80, 0x80, 0x80, 0x80, 0x80, 0x80, 0x80, 0x80, 0x80, 0x80, 0x01]),
+            Err(Malformed)
+        );
     }
 
     #[test]

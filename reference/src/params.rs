@@ -171,8 +171,8 @@ impl Params {
     fn joint_rules(&self) -> [bool; 8] {
         use general::*;
         let g = |place| self.general(place);
-        let p3_caps = (0..TOPICS)
-            .all(|k| self.topic(k, topic::P3_CAP) >= self.topic(k, topic::P3_THRESHOLD));
+        let p3_caps =
+            (0..TOPICS).all(|k| self.topic(k, topic::P3_CAP) >= self.topic(k, topic::P3_THRESHOLD));
         [
             g(D_LO) <= g(D),
             g(D) <= g(D_HI),
@@ -241,8 +241,7 @@ pub fn read_numbers(bytes: &[u8]) -> Result<(Params, usize), Refusal> {
     let mut numbers = [0; COUNT];
     let mut place = 0;
     for number in &mut numbers {
-        let (value, length) =
-            groups::read_signed(&bytes[place..]).map_err(|_| malformed(place))?;
+        let (value, length) = groups::read_signed(&bytes[place..]).map_err(|_| malformed(place))?;
         *number = value;
         place += length;
     }

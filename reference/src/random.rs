@@ -9,7 +9,7 @@ impl Random {
         Random { state: seed }
     }
 
-    pub fn next(&mut self) -> u64 {
+    pub fn bits(&mut self) -> u64 {
         self.state = self.state.wrapping_add(0x9e37_79b9_7f4a_7c15);
         let mut z = self.state;
         z = (z ^ (z >> 30)).wrapping_mul(0xbf58_476d_1ce4_e5b9);
@@ -19,13 +19,13 @@ impl Random {
 
     /// A number under the bound, which is not 0.
     pub fn below(&mut self, bound: usize) -> usize {
-        (self.next() % bound as u64) as usize
+        (self.bits() % bound as u64) as usize
     }
 
     /// A number between two limits, both included.
     pub fn between(&mut self, low: i64, high: i64) -> i64 {
         let span = (high - low) as u64 + 1;
-        low + (self.next() % span) as i64
+        low + (self.bits() % span) as i64
     }
 
     /// The same, but each limit itself comes up in a quarter of the cases.
@@ -52,12 +52,12 @@ impl Random {
         if bits == 0 {
             0
         } else {
-            self.next() >> (64 - bits)
+            self.bits() >> (64 - bits)
         }
     }
 
     pub fn bytes(&mut self, length: usize) -> Vec<u8> {
-        (0..length).map(|_| self.next() as u8).collect()
+        (0..length).map(|_| self.bits() as u8).collect()
     }
 
     pub fn shuffle<T>(&mut self, items: &mut [T]) {

@@ -168,7 +168,14 @@ impl Router {
 
     /// PRUNEs a peer: out of the mesh, the backoff's end the later of the old
     /// and the new, and the action told with its seconds (01, "Actions").
-    fn send_prune(&mut self, slot: usize, topic: usize, now: u64, seconds: u64, actions: &mut Actions) {
+    fn send_prune(
+        &mut self,
+        slot: usize,
+        topic: usize,
+        now: u64,
+        seconds: u64,
+        actions: &mut Actions,
+    ) {
         let peer = &mut self.peers[slot];
         peer.leave_mesh(topic);
         peer.extend_backoff(topic, now + 1000 * seconds);

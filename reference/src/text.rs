@@ -27,9 +27,7 @@
 //! protocol name with odd bytes. A permutation's `...` stands for the slots not
 //! named yet, upward.
 
-use crate::event::{
-    Call, Event, Permutation, CALL_NAMES, EXPLICIT_FLAG, OUTBOUND_FLAG, SLOTS,
-};
+use crate::event::{Call, Event, Permutation, CALL_NAMES, EXPLICIT_FLAG, OUTBOUND_FLAG, SLOTS};
 use crate::params::{self, field_at, Params, COUNT, GENERAL_COUNT, TOPICS, TOPIC_COUNT};
 use crate::trace::{self, Options};
 use std::fmt::Write;
@@ -321,9 +319,7 @@ fn parse_call(word: &str, rest: &mut Words) -> Result<Call, String> {
         "subscribe" => Call::Subscribe { id, topic: rest.field("topic")? },
         "unsubscribe" => Call::Unsubscribe { id, topic: rest.field("topic")? },
         "graft" => Call::Graft { id, topic: rest.field("topic")? },
-        "prune" => {
-            Call::Prune { id, topic: rest.field("topic")?, seconds: rest.field("seconds")? }
-        }
+        "prune" => Call::Prune { id, topic: rest.field("topic")?, seconds: rest.field("seconds")? },
         "delivery" => Call::Delivery { id, topic: rest.field("topic")?, kind: rest.kind()? },
         "p5" => Call::SetP5 { id, value: rest.field("value")? },
         _ => Call::Score { id },

@@ -3,9 +3,8 @@
 use reference::generate::params::with;
 use reference::params::{self, general, Params, Refusal, COUNT};
 
-const EXPECTED_GENERAL: [i64; 19] = [
-    4, 6, 12, 2, 4, 60, 10, 3600, 1000, -40000, -10000, -20000, 50000, 1, -5, 16, -10, 970, 10,
-];
+const EXPECTED_GENERAL: [i64; 19] =
+    [4, 6, 12, 2, 4, 60, 10, 3600, 1000, -40000, -10000, -20000, 50000, 1, -5, 16, -10, 970, 10];
 const EXPECTED_TOPIC: [i64; 16] =
     [500, 1, 60000, 10, 1, 990, 20000, -1, 990, 4000, 1000, 120000, -1, 970, -10, 998];
 

@@ -94,7 +94,10 @@ fn text_errors_name_the_line() {
     assert_eq!(line("params ordinary\ntopic 8 weight 1\n"), Err(2));
     assert_eq!(line("params ordinary\ndecay time=0\nparam D_hi 12\n"), Err(3));
     assert_eq!(line("params ordinary\ndecay time=0 more\n"), Err(2));
-    assert_eq!(line("params ordinary\nheartbeat time=0 topic=0 opportunism=no permutation=1\n"), Err(2));
+    assert_eq!(
+        line("params ordinary\nheartbeat time=0 topic=0 opportunism=no permutation=1\n"),
+        Err(2)
+    );
 }
 
 #[test]

@@ -9,7 +9,7 @@ use lib.Seq.{getD-set-same, getD-set-other, set-getD, set-set, set-comm}
 use Rattle.index.proofs.Lists.{set-case}
 use Rattle.records.specs.declared.Peer.{Peer}
 use Rattle.records.specs.declared.TopicRecord.{TopicRecord}
-use Rattle.records.specs.Records.{State, noPeer, noTopic, joinedIn, codeIn, peerIn, topicIn, setClock, setJoined, setPeer, setTopic}
+use Rattle.records.specs.Records.{State, noPeer, noTopic, joinedIn, codeIn, peerIn, topicIn, setClock, setJoined, setPeer, setTopic, slotCount, topicCount, paramCount}
 use Rattle.cells.specs.Rows.{rows}
 use Rattle.cells.specs.View.{joinedAt, codesAt, peersAt, peerCells, topicsAt, topicCells, placeCount, peerOf, topicOf, stateOf, setCode, Sized}
 use Rattle.cells.proofs.RowLaws.{length-rows, length-span}
@@ -331,11 +331,11 @@ pub sized-of : (cells : List ℕ) → Sized (stateOf cells)
 unfolding stateOf peerIn
 sized-of cells =
     record {
-      joined = length-span cells joinedAt 8;
-      codes = length-span cells codesAt 147;
-      peers = length-map (rows cells peersAt peerCells 64) peerOf ∙ length-rows cells peersAt peerCells 64;
+      joined = length-span cells joinedAt topicCount;
+      codes = length-span cells codesAt paramCount;
+      peers = length-map (rows cells peersAt peerCells slotCount) peerOf ∙ length-rows cells peersAt peerCells slotCount;
       topics = length-map (rows cells topicsAt topicCells placeCount) topicOf ∙ length-rows cells topicsAt topicCells placeCount;
-      ends = map-ends (rows cells peersAt peerCells 64);
+      ends = map-ends (rows cells peersAt peerCells slotCount);
     }
 
 -- every reader after a store of another kind, for `simp`

@@ -10,7 +10,7 @@ use lib.Seq.{getD-set-same, getD-set-other}
 use Rattle.index.proofs.Flags.{by-order}
 use Rattle.records.specs.declared.Peer.{Peer}
 use Rattle.records.specs.declared.TopicRecord.{TopicRecord}
-use Rattle.records.specs.Records.{State, noPeer, noTopic, joinedIn, codeIn, peerIn, topicIn, setClock, setJoined, setPeer, setTopic}
+use Rattle.records.specs.Records.{State, noPeer, noTopic, joinedIn, codeIn, peerIn, topicIn, setClock, setJoined, setPeer, setTopic, slotCount, topicCount, paramCount}
 use Rattle.cells.specs.Rows.{tab, span, put, rows}
 use Rattle.cells.specs.View.{joinedAt, codesAt, peersAt, peerCells, topicsAt, topicCells, placeCount, cellCount, peerOf, topicOf, peerFrom, topicFrom, cellsOfPeer, cellsOfTopic, stateOf, setCode, setCodes, zeroState}
 use Rattle.cells.proofs.RowLaws.{tab-getD, getD-rows, rows-put-same, rows-put-before, rows-put-after, span-put-before, span-put-after, getD-put-before, getD-put-in, put-one, span-put-one, span-put-same, span-part, getD-span, zero-span, zero-rows}
@@ -26,19 +26,19 @@ pub clock-load : (cells : List ℕ) → getD cells 0 0 ≡ stateOf cells .clock
 unfolding stateOf
 clock-load cells = refl
 
-pub joined-load : (cells : List ℕ) (t : ℕ) → t < 8 → getD cells (joinedAt + t) 0 ≡ joinedIn (stateOf cells) t
+pub joined-load : (cells : List ℕ) (t : ℕ) → t < topicCount → getD cells (joinedAt + t) 0 ≡ joinedIn (stateOf cells) t
 unfolding stateOf joinedIn
-joined-load cells t h = sym (getD-span cells joinedAt 8 t h)
+joined-load cells t h = sym (getD-span cells joinedAt topicCount t h)
 
-pub code-load : (cells : List ℕ) (i : ℕ) → i < 147 → getD cells (codesAt + i) 0 ≡ codeIn (stateOf cells) i
+pub code-load : (cells : List ℕ) (i : ℕ) → i < paramCount → getD cells (codesAt + i) 0 ≡ codeIn (stateOf cells) i
 unfolding stateOf codeIn
-code-load cells i h = sym (getD-span cells codesAt 147 i h)
+code-load cells i h = sym (getD-span cells codesAt paramCount i h)
 
-pub peer-load : (cells : List ℕ) (s : ℕ) → s < 64 → peerFrom cells (peersAt + s * peerCells) ≡ peerIn (stateOf cells) s
+pub peer-load : (cells : List ℕ) (s : ℕ) → s < slotCount → peerFrom cells (peersAt + s * peerCells) ≡ peerIn (stateOf cells) s
 unfolding peerIn stateOf peerOf span
 peer-load cells s h =
-    let e : getD (map peerOf (rows cells peersAt peerCells 64)) s noPeer ≡ peerOf (span cells (peersAt + s * peerCells) peerCells) =
-    List·getD-map peerOf (rows cells peersAt peerCells 64) s [] ∙ ap peerOf (getD-rows cells peersAt peerCells 64 s h) in
+    let e : getD (map peerOf (rows cells peersAt peerCells slotCount)) s noPeer ≡ peerOf (span cells (peersAt + s * peerCells) peerCells) =
+    List·getD-map peerOf (rows cells peersAt peerCells slotCount) s [] ∙ ap peerOf (getD-rows cells peersAt peerCells slotCount s h) in
     sym (e ∙ rw add-zero)
 
 pub topic-load : (cells : List ℕ) (k : ℕ) → k < placeCount → topicFrom cells (topicsAt + k * topicCells) ≡ topicIn (stateOf cells) k
@@ -48,9 +48,9 @@ topic-load cells k h =
     List·getD-map topicOf (rows cells topicsAt topicCells placeCount) k [] ∙ ap topicOf (getD-rows cells topicsAt topicCells placeCount k h) in
     sym (e ∙ rw add-zero)
 
-pub codes-load : (cells : List ℕ) → length cells ≡ cellCount → take 147 (drop codesAt cells) ≡ stateOf cells .codes
+pub codes-load : (cells : List ℕ) → length cells ≡ cellCount → take paramCount (drop codesAt cells) ≡ stateOf cells .codes
 unfolding stateOf
-codes-load cells e = span-part cells codesAt 147 (omega arith)
+codes-load cells e = span-part cells codesAt paramCount (omega arith)
 
 -- ---- a record, to cells and back
 
@@ -98,54 +98,54 @@ module _ (cells : List ℕ) (size : length cells ≡ cellCount) where
       ap stateOf (sym (put-one cells 0 n (omega arith)))
       ∙ λ i. record {
         clock = getD-put-in cells 0 (n ∷ []) f 0 (omega arith) i;
-        joined = span-put-after cells 0 (n ∷ []) f joinedAt 8 (omega arith) i;
-        codes = span-put-after cells 0 (n ∷ []) f codesAt 147 (omega arith) i;
-        peers = ap (map peerOf) (rows-put-after cells peersAt peerCells 64 0 (n ∷ []) f (omega arith)) i;
+        joined = span-put-after cells 0 (n ∷ []) f joinedAt topicCount (omega arith) i;
+        codes = span-put-after cells 0 (n ∷ []) f codesAt paramCount (omega arith) i;
+        peers = ap (map peerOf) (rows-put-after cells peersAt peerCells slotCount 0 (n ∷ []) f (omega arith)) i;
         topics = ap (map topicOf) (rows-put-after cells topicsAt topicCells placeCount 0 (n ∷ []) f (omega arith)) i;
       }
 
-  pub joined-store : (t b : ℕ) → t < 8 → stateOf (set cells (joinedAt + t) b) ≡ setJoined (stateOf cells) t b
+  pub joined-store : (t b : ℕ) → t < topicCount → stateOf (set cells (joinedAt + t) b) ≡ setJoined (stateOf cells) t b
   unfolding stateOf setJoined
   joined-store t b h =
       let f : (joinedAt + t) + length (b ∷ []) ≤ length cells = omega arith in
       ap stateOf (sym (put-one cells (joinedAt + t) b (omega arith)))
       ∙ λ i. record {
         clock = getD-put-before cells (joinedAt + t) (b ∷ []) f 0 (omega arith) i;
-        joined = span-put-one cells joinedAt 8 t b h (omega arith) i;
-        codes = span-put-after cells (joinedAt + t) (b ∷ []) f codesAt 147 (omega arith) i;
-        peers = ap (map peerOf) (rows-put-after cells peersAt peerCells 64 (joinedAt + t) (b ∷ []) f (omega arith)) i;
+        joined = span-put-one cells joinedAt topicCount t b h (omega arith) i;
+        codes = span-put-after cells (joinedAt + t) (b ∷ []) f codesAt paramCount (omega arith) i;
+        peers = ap (map peerOf) (rows-put-after cells peersAt peerCells slotCount (joinedAt + t) (b ∷ []) f (omega arith)) i;
         topics = ap (map topicOf) (rows-put-after cells topicsAt topicCells placeCount (joinedAt + t) (b ∷ []) f (omega arith)) i;
       }
 
-  pub code-store : (k c : ℕ) → k < 147 → stateOf (set cells (codesAt + k) c) ≡ setCode (stateOf cells) k c
+  pub code-store : (k c : ℕ) → k < paramCount → stateOf (set cells (codesAt + k) c) ≡ setCode (stateOf cells) k c
   unfolding stateOf setCode
   code-store k c h =
       let f : (codesAt + k) + length (c ∷ []) ≤ length cells = omega arith in
       ap stateOf (sym (put-one cells (codesAt + k) c (omega arith)))
       ∙ λ i. record {
         clock = getD-put-before cells (codesAt + k) (c ∷ []) f 0 (omega arith) i;
-        joined = span-put-before cells (codesAt + k) (c ∷ []) f joinedAt 8 (omega arith) i;
-        codes = span-put-one cells codesAt 147 k c h (omega arith) i;
-        peers = ap (map peerOf) (rows-put-after cells peersAt peerCells 64 (codesAt + k) (c ∷ []) f (omega arith)) i;
+        joined = span-put-before cells (codesAt + k) (c ∷ []) f joinedAt topicCount (omega arith) i;
+        codes = span-put-one cells codesAt paramCount k c h (omega arith) i;
+        peers = ap (map peerOf) (rows-put-after cells peersAt peerCells slotCount (codesAt + k) (c ∷ []) f (omega arith)) i;
         topics = ap (map topicOf) (rows-put-after cells topicsAt topicCells placeCount (codesAt + k) (c ∷ []) f (omega arith)) i;
       }
 
   pub codes-store :
-      (vs : List ℕ) → length vs ≡ 147 → stateOf (put cells codesAt vs) ≡ setCodes (stateOf cells) vs
+      (vs : List ℕ) → length vs ≡ paramCount → stateOf (put cells codesAt vs) ≡ setCodes (stateOf cells) vs
   unfolding stateOf setCodes
   codes-store vs e =
       let f : codesAt + length vs ≤ length cells = omega arith in
       λ i. record {
         clock = getD-put-before cells codesAt vs f 0 (omega arith) i;
-        joined = span-put-before cells codesAt vs f joinedAt 8 (omega arith) i;
+        joined = span-put-before cells codesAt vs f joinedAt topicCount (omega arith) i;
         codes = (ap (span (put cells codesAt vs) codesAt) (sym e) ∙ span-put-same cells codesAt vs f) i;
-        peers = ap (map peerOf) (rows-put-after cells peersAt peerCells 64 codesAt vs f (omega arith)) i;
+        peers = ap (map peerOf) (rows-put-after cells peersAt peerCells slotCount codesAt vs f (omega arith)) i;
         topics = ap (map topicOf) (rows-put-after cells topicsAt topicCells placeCount codesAt vs f (omega arith)) i;
       }
 
   pub peer-store :
       (s : ℕ) (p : Peer) →
-      s < 64 →
+      s < slotCount →
       length (p .backoff) ≡ 8 →
       stateOf (put cells (peersAt + s * peerCells) (cellsOfPeer p)) ≡ setPeer (stateOf cells) s p
   unfolding stateOf setPeer
@@ -154,12 +154,12 @@ module _ (cells : List ℕ) (size : length cells ≡ cellCount) where
       let f : (peersAt + s * peerCells) + length (cellsOfPeer p) ≤ length cells = omega arith in
       λ i. record {
         clock = getD-put-before cells (peersAt + s * peerCells) (cellsOfPeer p) f 0 (omega arith) i;
-        joined = span-put-before cells (peersAt + s * peerCells) (cellsOfPeer p) f joinedAt 8 (omega arith) i;
-        codes = span-put-before cells (peersAt + s * peerCells) (cellsOfPeer p) f codesAt 147 (omega arith) i;
+        joined = span-put-before cells (peersAt + s * peerCells) (cellsOfPeer p) f joinedAt topicCount (omega arith) i;
+        codes = span-put-before cells (peersAt + s * peerCells) (cellsOfPeer p) f codesAt paramCount (omega arith) i;
         peers =
-            (ap (map peerOf) (rows-put-same cells peersAt peerCells 64 s (cellsOfPeer p) h n (omega arith))
-            ∙ map-set peerOf (rows cells peersAt peerCells 64) s (cellsOfPeer p)
-            ∙ ap (set (map peerOf (rows cells peersAt peerCells 64)) s) (peer-back p e)) i;
+            (ap (map peerOf) (rows-put-same cells peersAt peerCells slotCount s (cellsOfPeer p) h n (omega arith))
+            ∙ map-set peerOf (rows cells peersAt peerCells slotCount) s (cellsOfPeer p)
+            ∙ ap (set (map peerOf (rows cells peersAt peerCells slotCount)) s) (peer-back p e)) i;
         topics = ap (map topicOf) (rows-put-after cells topicsAt topicCells placeCount (peersAt + s * peerCells) (cellsOfPeer p) f (omega arith)) i;
       }
 
@@ -173,9 +173,9 @@ module _ (cells : List ℕ) (size : length cells ≡ cellCount) where
       let f : (topicsAt + k * topicCells) + length (cellsOfTopic t) ≤ length cells = omega arith in
       λ i. record {
         clock = getD-put-before cells (topicsAt + k * topicCells) (cellsOfTopic t) f 0 (omega arith) i;
-        joined = span-put-before cells (topicsAt + k * topicCells) (cellsOfTopic t) f joinedAt 8 (omega arith) i;
-        codes = span-put-before cells (topicsAt + k * topicCells) (cellsOfTopic t) f codesAt 147 (omega arith) i;
-        peers = ap (map peerOf) (rows-put-before cells peersAt peerCells 64 (topicsAt + k * topicCells) (cellsOfTopic t) f (omega arith)) i;
+        joined = span-put-before cells (topicsAt + k * topicCells) (cellsOfTopic t) f joinedAt topicCount (omega arith) i;
+        codes = span-put-before cells (topicsAt + k * topicCells) (cellsOfTopic t) f codesAt paramCount (omega arith) i;
+        peers = ap (map peerOf) (rows-put-before cells peersAt peerCells slotCount (topicsAt + k * topicCells) (cellsOfTopic t) f (omega arith)) i;
         topics =
             (ap (map topicOf) (rows-put-same cells topicsAt topicCells placeCount k (cellsOfTopic t) h n (omega arith))
             ∙ map-set topicOf (rows cells topicsAt topicCells placeCount) k (cellsOfTopic t)
@@ -189,9 +189,9 @@ unfolding stateOf zeroState peerOf topicOf
 zero-state cells z =
     λ i. record {
       clock = z 0 i;
-      joined = zero-span cells z joinedAt 8 i;
-      codes = zero-span cells z codesAt 147 i;
-      peers = zero-rows cells z peerOf peersAt peerCells 64 i;
+      joined = zero-span cells z joinedAt topicCount i;
+      codes = zero-span cells z codesAt paramCount i;
+      peers = zero-rows cells z peerOf peersAt peerCells slotCount i;
       topics = zero-rows cells z topicOf topicsAt topicCells placeCount i;
     }
 

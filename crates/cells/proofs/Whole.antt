@@ -8,7 +8,7 @@ use native.Mathlib.Omega.{arith}
 use lib.ListN.{length, getD, length-append}
 use Rattle.records.specs.declared.Peer.{Peer}
 use Rattle.records.specs.declared.TopicRecord.{TopicRecord}
-use Rattle.records.specs.Records.{State, noPeer, peerIn}
+use Rattle.records.specs.Records.{State, noPeer, peerIn, slotCount, topicCount, paramCount}
 use Rattle.cells.specs.Rows.{tab, span, rows, joins}
 use Rattle.cells.specs.View.{joinedAt, codesAt, peersAt, peerCells, topicsAt, topicCells, placeCount, cellCount, peerOf, topicOf, cellsOfPeer, cellsOfTopic, stateOf, cellsOf, Sized}
 use Rattle.cells.proofs.RowLaws.{tab-same, span-all, span-left, span-right, rows-left, rows-right, length-joins, rows-joins}
@@ -59,7 +59,7 @@ topic-cells : (c : List ℕ) (at : ℕ) → cellsOfTopic (topicOf (span c at top
 unfolding cellsOfTopic topicOf span
 topic-cells c at = refl
 
-head : (c : List ℕ) → getD c 0 0 ∷ span c joinedAt 8 ≡ span c 0 codesAt
+head : (c : List ℕ) → getD c 0 0 ∷ span c joinedAt topicCount ≡ span c 0 codesAt
 unfolding span
 head c = refl
 
@@ -68,17 +68,17 @@ pub whole : (c : List ℕ) → length c ≡ cellCount → cellsOf (stateOf c) �
 unfolding cellsOf stateOf
 whole c e =
     ap
-    (λ l. l ++ span c codesAt 147 ++ joins cellsOfPeer (map peerOf (rows c peersAt peerCells 64)) ++ joins cellsOfTopic (map topicOf (rows c topicsAt topicCells placeCount)))
+    (λ l. l ++ span c codesAt paramCount ++ joins cellsOfPeer (map peerOf (rows c peersAt peerCells slotCount)) ++ joins cellsOfTopic (map topicOf (rows c topicsAt topicCells placeCount)))
     (head c)
     ∙ ap
-    (λ l. l ++ joins cellsOfPeer (map peerOf (rows c peersAt peerCells 64)) ++ joins cellsOfTopic (map topicOf (rows c topicsAt topicCells placeCount)))
-    (span-append c 0 codesAt 147)
+    (λ l. l ++ joins cellsOfPeer (map peerOf (rows c peersAt peerCells slotCount)) ++ joins cellsOfTopic (map topicOf (rows c topicsAt topicCells placeCount)))
+    (span-append c 0 codesAt paramCount)
     ∙ ap
     (λ l. span c 0 peersAt ++ l ++ joins cellsOfTopic (map topicOf (rows c topicsAt topicCells placeCount)))
-    (joins-rows peerOf cellsOfPeer c peerCells (peer-cells c) peersAt 64)
-    ∙ ap (λ l. span c 0 peersAt ++ span c peersAt 1088 ++ l) (joins-rows topicOf cellsOfTopic c topicCells (topic-cells c) topicsAt placeCount)
-    ∙ ap (λ l. l ++ span c topicsAt 4096) (span-append c 0 peersAt 1088)
-    ∙ span-append c 0 topicsAt 4096
+    (joins-rows peerOf cellsOfPeer c peerCells (peer-cells c) peersAt slotCount)
+    ∙ ap (λ l. span c 0 peersAt ++ span c peersAt (slotCount * peerCells) ++ l) (joins-rows topicOf cellsOfTopic c topicCells (topic-cells c) topicsAt placeCount)
+    ∙ ap (λ l. l ++ span c topicsAt (placeCount * topicCells)) (span-append c 0 peersAt (slotCount * peerCells))
+    ∙ span-append c 0 topicsAt (placeCount * topicCells)
     ∙ ap (λ n. span c 0 n) (sym e)
     ∙ span-all c
 
@@ -126,24 +126,24 @@ module _ (st : State) (size : Sized st) where
       λ i. record {
         clock = st .clock;
         joined =
-            (span-left peered topics joinedAt 8 (omega (arith, peered-length))
-            ∙ span-left fronted peers joinedAt 8 (omega (arith, fronted-length))
-            ∙ span-left header (st .codes) joinedAt 8 (omega (arith, header-length))
+            (span-left peered topics joinedAt topicCount (omega (arith, peered-length))
+            ∙ span-left fronted peers joinedAt topicCount (omega (arith, fronted-length))
+            ∙ span-left header (st .codes) joinedAt topicCount (omega (arith, header-length))
             ∙ span-right (st .clock ∷ []) (st .joined) 0 8
             ∙ ap (span (st .joined) 0) (sym (size .joined))
             ∙ span-all (st .joined)) i;
         codes =
-            (span-left peered topics codesAt 147 (omega (arith, peered-length))
-            ∙ span-left fronted peers codesAt 147 (omega (arith, fronted-length))
-            ∙ ap (λ n. span fronted n 147) (sym (add-zero (length header) ∙ header-length))
-            ∙ span-right header (st .codes) 0 147
+            (span-left peered topics codesAt paramCount (omega (arith, peered-length))
+            ∙ span-left fronted peers codesAt paramCount (omega (arith, fronted-length))
+            ∙ ap (λ n. span fronted n paramCount) (sym (add-zero (length header) ∙ header-length))
+            ∙ span-right header (st .codes) 0 paramCount
             ∙ ap (span (st .codes) 0) (sym (size .codes))
             ∙ span-all (st .codes)) i;
         peers =
             (ap (map peerOf)
-            (rows-left peered topics peersAt peerCells 64 (omega (arith, peered-length))
-            ∙ ap (λ n. rows peered n peerCells 64) (sym (add-zero (length fronted) ∙ fronted-length))
-            ∙ rows-right fronted peers 0 peerCells 64
+            (rows-left peered topics peersAt peerCells slotCount (omega (arith, peered-length))
+            ∙ ap (λ n. rows peered n peerCells slotCount) (sym (add-zero (length fronted) ∙ fronted-length))
+            ∙ rows-right fronted peers 0 peerCells slotCount
             ∙ ap (rows peers 0 peerCells) (sym (size .peers))
             ∙ rows-joins cellsOfPeer peerCells peer-count (st .peers))
             ∙ peers-back (st .peers) (size .ends)) i;

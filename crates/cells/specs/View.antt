@@ -7,34 +7,34 @@ use mathlib.Core.Path.{_≡_}
 use lib.ListN.{length, getD, set, replicate}
 use Rattle.records.specs.declared.Peer.{Peer}
 use Rattle.records.specs.declared.TopicRecord.{TopicRecord}
-use Rattle.records.specs.Records.{State, noPeer, noTopic, peerIn}
+use Rattle.records.specs.Records.{State, slotCount, topicCount, paramCount, noPeer, noTopic, peerIn}
 use Rattle.cells.specs.Rows.{span, rows, joins}
 
--- the regions: the clock (cell 0), the joined flags, the codes of the parameters, the peers, the topic records
+-- the regions, one after the other: the clock (cell 0), the joined flags, the codes of the parameters, the peers, the topic records
 abbrev pub joinedAt : ℕ
 joinedAt = 1
 
 abbrev pub codesAt : ℕ
-codesAt = 9
+codesAt = joinedAt + topicCount
 
 abbrev pub peersAt : ℕ
-peersAt = 156
+peersAt = codesAt + paramCount
 
 abbrev pub peerCells : ℕ
 peerCells = 17
 
 abbrev pub topicsAt : ℕ
-topicsAt = 1244
+topicsAt = peersAt + slotCount * peerCells
 
 abbrev pub topicCells : ℕ
 topicCells = 8
 
--- how many cells a table has: 9 + 147 + 64 * 17 + 512 * 8
-abbrev pub cellCount : ℕ
-cellCount = 5340
-
 abbrev pub placeCount : ℕ
-placeCount = 512
+placeCount = slotCount * topicCount
+
+-- how many cells a table has: 5,340
+abbrev pub cellCount : ℕ
+cellCount = topicsAt + placeCount * topicCells
 
 -- the peer's record of a run of cells, and the cells of a peer's record
 unfoldable pub peerOf : List ℕ → Peer
@@ -134,9 +134,9 @@ unfoldable pub stateOf : List ℕ → State
 stateOf cells =
     record {
       clock = getD cells 0 0;
-      joined = span cells joinedAt 8;
-      codes = span cells codesAt 147;
-      peers = map peerOf (rows cells peersAt peerCells 64);
+      joined = span cells joinedAt topicCount;
+      codes = span cells codesAt paramCount;
+      peers = map peerOf (rows cells peersAt peerCells slotCount);
       topics = map topicOf (rows cells topicsAt topicCells placeCount);
     }
 
@@ -162,16 +162,16 @@ unfoldable pub zeroState : State
 zeroState =
     record {
       clock = 0;
-      joined = replicate 8 0;
-      codes = replicate 147 0;
-      peers = replicate 64 noPeer;
+      joined = replicate topicCount 0;
+      codes = replicate paramCount 0;
+      peers = replicate slotCount noPeer;
       topics = replicate placeCount noTopic;
     }
 
 -- a state of a table's sizes
 pub record Sized (st : State) : Type 0 where
-  pub joined : length (st .joined) ≡ 8
-  pub codes : length (st .codes) ≡ 147
-  pub peers : length (st .peers) ≡ 64
+  pub joined : length (st .joined) ≡ topicCount
+  pub codes : length (st .codes) ≡ paramCount
+  pub peers : length (st .peers) ≡ slotCount
   pub topics : length (st .topics) ≡ placeCount
-  pub ends : (s : ℕ) → length (peerIn st s .backoff) ≡ 8
+  pub ends : (s : ℕ) → length (peerIn st s .backoff) ≡ topicCount

@@ -3,26 +3,33 @@
 ghost use mathlib.Core.Path.{_≡_};
 ghost use Prim.Native.Nat.{ℕ, _+_, _*_, _≤_, _<_};
 ghost use lib.ListN.{length};
-ghost use Rattle.records.specs.Records.{joinedIn, codeIn, peerIn, topicIn, setClock, setJoined, setPeer, setTopic};
+ghost use Rattle.records.specs.Records.{joinedIn, codeIn, peerIn, topicIn, setClock, setJoined, setPeer, setTopic, slotCount, topicCount, paramCount};
 ghost use Rattle.cells.specs.Rows.{put};
-ghost use Rattle.cells.specs.View.{cellCount, peerFrom, topicFrom, stateOf, setCode, setCodes, zeroState};
+ghost use Rattle.cells.specs.View.{placeCount, cellCount, peerFrom, topicFrom, stateOf, setCode, setCodes, zeroState};
 use records::Peer;
+use records::SLOTS;
+use records::TOPICS;
 use records::TopicRecord;
 
-// How many numbers a table has. The clock is cell 0; the regions begin here, one record after the other.
-pub const CELLS: usize = 5340;
+// How many numbers the parameters are.
+pub const PARAMS: usize = 147;
 
+// Where the regions begin, one after the other: the clock is cell 0, then the joined flags, the codes of the parameters, the peers, the
+// topic records.
 const JOINED_AT: usize = 1;
 
-const CODES_AT: usize = 9;
+const CODES_AT: usize = JOINED_AT + TOPICS;
 
-const PEERS_AT: usize = 156;
+const PEERS_AT: usize = CODES_AT + PARAMS;
 
 const PEER_CELLS: usize = 17;
 
-const TOPICS_AT: usize = 1244;
+const TOPICS_AT: usize = PEERS_AT + SLOTS * PEER_CELLS;
 
 const TOPIC_CELLS: usize = 8;
+
+// How many numbers a table has.
+pub const CELLS: usize = TOPICS_AT + SLOTS * TOPICS * TOPIC_CELLS;
 
 // Copies `row` into the table from `at` on.
 pub fn write_row(cells: &mut [u64], at: usize, row: &[u64])
@@ -99,14 +106,14 @@ pub fn store_clock(cells: &mut [u64], time: u64)
 
 // 1 if topic `t` is joined, else 0.
 pub fn load_joined(cells: &[u64], t: usize) -> u64
-    requires { ⌜ (length (now cells) ≡ cellCount) × (t < 8) ⌝ }
+    requires { ⌜ (length (now cells) ≡ cellCount) × (t < topicCount) ⌝ }
     ensures { λ r. ⌜ r ≡ joinedIn (stateOf (now (cells .entry))) t ⌝ }
 {
     cells[JOINED_AT + t]
 }
 
 pub fn store_joined(cells: &mut [u64], t: usize, b: u64)
-    requires { ⌜ (length (now cells) ≡ cellCount) × (t < 8) ⌝ }
+    requires { ⌜ (length (now cells) ≡ cellCount) × (t < topicCount) ⌝ }
     ensures { λ r. ⌜ stateOf (now (cells .exit)) ≡ setJoined (stateOf (now (cells .entry))) t b ⌝ }
 {
     cells[JOINED_AT + t] = b;
@@ -114,14 +121,14 @@ pub fn store_joined(cells: &mut [u64], t: usize, b: u64)
 
 // The code of the parameters' number `i`.
 pub fn load_code(cells: &[u64], i: usize) -> u64
-    requires { ⌜ (length (now cells) ≡ cellCount) × (i < 147) ⌝ }
+    requires { ⌜ (length (now cells) ≡ cellCount) × (i < paramCount) ⌝ }
     ensures { λ r. ⌜ r ≡ codeIn (stateOf (now (cells .entry))) i ⌝ }
 {
     cells[CODES_AT + i]
 }
 
 pub fn store_code(cells: &mut [u64], i: usize, code: u64)
-    requires { ⌜ (length (now cells) ≡ cellCount) × (i < 147) ⌝ }
+    requires { ⌜ (length (now cells) ≡ cellCount) × (i < paramCount) ⌝ }
     ensures { λ r. ⌜ stateOf (now (cells .exit)) ≡ setCode (stateOf (now (cells .entry))) i code ⌝ }
 {
     cells[CODES_AT + i] = code;
@@ -136,7 +143,7 @@ pub fn codes(cells: &[u64]) -> &[u64]
 }
 
 pub fn store_codes(cells: &mut [u64], codes: &[u64])
-    requires { ⌜ (length (now cells) ≡ cellCount) × (length (now codes) ≡ 147) ⌝ }
+    requires { ⌜ (length (now cells) ≡ cellCount) × (length (now codes) ≡ paramCount) ⌝ }
     ensures { λ r. ⌜ stateOf (now (cells .exit)) ≡ setCodes (stateOf (now (cells .entry))) (now (codes .entry)) ⌝ }
 {
     write_row(cells, CODES_AT, codes);
@@ -155,14 +162,14 @@ pub fn clear(cells: &mut [u64])
 
 // The peer's record in slot `slot`.
 pub fn load_peer(cells: &[u64], slot: usize) -> Peer
-    requires { ⌜ (length (now cells) ≡ cellCount) × (slot < 64) ⌝ }
+    requires { ⌜ (length (now cells) ≡ cellCount) × (slot < slotCount) ⌝ }
     ensures { λ r. ⌜ r ≡ peerIn (stateOf (now (cells .entry))) slot ⌝ }
 {
     read_peer(cells, PEERS_AT + slot * PEER_CELLS)
 }
 
 pub fn store_peer(cells: &mut [u64], slot: usize, p: Peer)
-    requires { ⌜ (length (now cells) ≡ cellCount) × (slot < 64) ⌝ }
+    requires { ⌜ (length (now cells) ≡ cellCount) × (slot < slotCount) ⌝ }
     ensures { λ r. ⌜ stateOf (now (cells .exit)) ≡ setPeer (stateOf (now (cells .entry))) slot p ⌝ }
 {
     let ends = p.backoff;
@@ -190,14 +197,14 @@ pub fn store_peer(cells: &mut [u64], slot: usize, p: Peer)
 
 // The record of slot `k / 8` for topic `k % 8`.
 pub fn load_topic(cells: &[u64], k: usize) -> TopicRecord
-    requires { ⌜ (length (now cells) ≡ cellCount) × (k < 512) ⌝ }
+    requires { ⌜ (length (now cells) ≡ cellCount) × (k < placeCount) ⌝ }
     ensures { λ r. ⌜ r ≡ topicIn (stateOf (now (cells .entry))) k ⌝ }
 {
     read_topic(cells, TOPICS_AT + k * TOPIC_CELLS)
 }
 
 pub fn store_topic(cells: &mut [u64], k: usize, t: TopicRecord)
-    requires { ⌜ (length (now cells) ≡ cellCount) × (k < 512) ⌝ }
+    requires { ⌜ (length (now cells) ≡ cellCount) × (k < placeCount) ⌝ }
     ensures { λ r. ⌜ stateOf (now (cells .exit)) ≡ setTopic (stateOf (now (cells .entry))) k t ⌝ }
 {
     let row = [
@@ -215,42 +222,42 @@ pub fn store_topic(cells: &mut [u64], k: usize, t: TopicRecord)
 
 // One field of a record, for a loop that wants no more.
 pub fn load_status(cells: &[u64], slot: usize) -> u64
-    requires { ⌜ (length (now cells) ≡ cellCount) × (slot < 64) ⌝ }
+    requires { ⌜ (length (now cells) ≡ cellCount) × (slot < slotCount) ⌝ }
     ensures { λ r. ⌜ r ≡ peerIn (stateOf (now (cells .entry))) slot .status ⌝ }
 {
     cells[PEERS_AT + slot * PEER_CELLS]
 }
 
 pub fn load_id(cells: &[u64], slot: usize) -> u64
-    requires { ⌜ (length (now cells) ≡ cellCount) × (slot < 64) ⌝ }
+    requires { ⌜ (length (now cells) ≡ cellCount) × (slot < slotCount) ⌝ }
     ensures { λ r. ⌜ r ≡ peerIn (stateOf (now (cells .entry))) slot .id ⌝ }
 {
     cells[PEERS_AT + slot * PEER_CELLS + 1]
 }
 
 pub fn load_group(cells: &[u64], slot: usize) -> u64
-    requires { ⌜ (length (now cells) ≡ cellCount) × (slot < 64) ⌝ }
+    requires { ⌜ (length (now cells) ≡ cellCount) × (slot < slotCount) ⌝ }
     ensures { λ r. ⌜ r ≡ peerIn (stateOf (now (cells .entry))) slot .group ⌝ }
 {
     cells[PEERS_AT + slot * PEER_CELLS + 2]
 }
 
 pub fn load_subscribed(cells: &[u64], k: usize) -> u64
-    requires { ⌜ (length (now cells) ≡ cellCount) × (k < 512) ⌝ }
+    requires { ⌜ (length (now cells) ≡ cellCount) × (k < placeCount) ⌝ }
     ensures { λ r. ⌜ r ≡ topicIn (stateOf (now (cells .entry))) k .subscribed ⌝ }
 {
     cells[TOPICS_AT + k * TOPIC_CELLS + 4]
 }
 
 pub fn load_member(cells: &[u64], k: usize) -> u64
-    requires { ⌜ (length (now cells) ≡ cellCount) × (k < 512) ⌝ }
+    requires { ⌜ (length (now cells) ≡ cellCount) × (k < placeCount) ⌝ }
     ensures { λ r. ⌜ r ≡ topicIn (stateOf (now (cells .entry))) k .member ⌝ }
 {
     cells[TOPICS_AT + k * TOPIC_CELLS + 5]
 }
 
 // The clock of a lent table: a public call takes the table whole, so that its type fixes the length.
-pub fn clock(table: &[u64; 5340]) -> u64
+pub fn clock(table: &[u64; CELLS]) -> u64
     ensures { λ r. ⌜ r ≡ stateOf (now (table .entry)) .clock ⌝ }
 {
     load_clock(table)

@@ -1,26 +1,26 @@
 -- Laws of the effects: what each leaves alone, and what stands in each slot after it.
 -- Assumes nothing.
-use Prim.Native.Nat.{ℕ, _+_, _*_, _≤_, _<_, max}
+use Prim.Native.Nat.{ℕ, _+_, _≤_, _<_, max}
 use native.Mathlib.Omega.{arith}
 use mathlib.Core.Path.{_≡_, refl, sym, ap, _∙_}
 use mathlib.Core.Logic.{_≢_}
 use mathlib.Core.Bool.{Bool, true, false, cond, not, _&&_}
 use mathlib.Core.List.{List}
-use lib.ListN.{length, getD, set, length-set}
+use lib.ListN.{length, getD, length-set}
 use lib.Seq.{getD-set-same, getD-set-other}
-use lib.Dec.{eqb, leb, ltb}
+use lib.Dec.{eqb, leb}
 use borrow.Author.Tests.{leb-true, ltb-false, eqb-true, not-true, ne-eqb}
 use Rattle.index.specs.Index.{every, first, count, one, iter}
-use Rattle.index.specs.declared.Found.the-variants.{At, Nothing}
+use Rattle.index.specs.declared.Found.the-variants.{Nothing}
 use Rattle.index.proofs.Index.{both, every-at, count-same, iter-keeps, first-passed}
 use Rattle.index.proofs.Flags.{by-test, cond-case}
 use Rattle.index.proofs.Lists.{set-case}
 use Rattle.records.specs.declared.Peer.{Peer}
 use Rattle.records.specs.declared.TopicRecord.{TopicRecord}
-use Rattle.records.specs.Records.{State, slotCount, topicCount, noPeer, noTopic, place, codeIn, joinedIn, peerIn, topicIn, setPeer, setTopic, isEmpty, isConnected, isRetained}
+use Rattle.records.specs.Records.{State, slotCount, noPeer, noTopic, place, codeIn, joinedIn, peerIn, topicIn, setPeer, setTopic, isEmpty, isConnected, isRetained}
 use Rattle.cells.specs.View.{Sized}
 use Rattle.cells.proofs.StateLaws.{peer-same, peer-other, peer-case, topic-same, topic-other, topic-case, peer-after-topic, topic-after-peer, sized-peer, sized-topic}
-use Rattle.effects.specs.Effects.{withEnd, withP5, withP7, connectedAs, retainedTo, retainSeconds, endAfter, outOfMesh, intoMesh, withSubscribed, onPeer, onTopic, isMember, isSubscribed, meshSize, backoffRuns, pruned, leftTopic, departed, reclaimable, emptied, reclaimSlot, reclaimed}
+use Rattle.effects.specs.Effects.{withEnd, retainedTo, retainSeconds, endAfter, outOfMesh, intoMesh, withSubscribed, onPeer, onTopic, isMember, isSubscribed, meshSize, backoffRuns, pruned, leftTopic, departed, reclaimable, emptied, reclaimSlot, reclaimed}
 use Rattle.effects.proofs.Walks.{iter-kept, iter-before, iter-once, iter-still, count-change}
 
 -- ---- places of topic records
@@ -79,32 +79,23 @@ pub kept-left : (st : State) (s t : ℕ) → Kept st (leftTopic st s t)
 unfolding leftTopic
 kept-left st s t = kept-topic st (place s t) _
 
-pub kept-departed : (st : State) (s time : ℕ) → Kept st (departed st s time)
-unfolding departed
-kept-departed st s time =
-    kept-then (kept-iter (λ t u. leftTopic u s t) 8 st (λ t u. kept-left u s t)) (kept-peer _ s _)
+-- ---- one record loaded, changed and stored, as code does it
 
-pub kept-emptied : (st : State) (s : ℕ) → Kept st (emptied st s)
-unfolding emptied
-kept-emptied st s =
-    kept-then
-    (kept-iter (λ t u. setTopic u (place s t) noTopic) 8 st (λ t u. kept-topic u (place s t) noTopic))
-    (kept-peer _ s noPeer)
+pub stored-peer :
+    (st u : State) (s : ℕ) (p q : Peer) (g : Peer → Peer) →
+    p ≡ peerIn st s →
+    q ≡ g p →
+    u ≡ setPeer st s q →
+    u ≡ onPeer st s g
+stored-peer st u s p q g l e h = h ∙ ap (setPeer st s) (e ∙ ap g l)
 
-pub kept-reclaim : (time s : ℕ) (st : State) → Kept st (reclaimSlot time s st)
-unfolding reclaimSlot
-kept-reclaim time s st =
-    cond-case
-    (λ u. Kept st u)
-    (reclaimable (peerIn st s) time)
-    (emptied st s)
-    st
-    (λ h. kept-emptied st s)
-    (λ h. kept-self st)
-
-pub kept-reclaimed : (st : State) (time : ℕ) → Kept st (reclaimed st time)
-unfolding reclaimed
-kept-reclaimed st time = kept-iter (reclaimSlot time) 64 st (kept-reclaim time)
+pub stored-topic :
+    (st u : State) (s t : ℕ) (r q : TopicRecord) (g : TopicRecord → TopicRecord) →
+    r ≡ topicIn st (place s t) →
+    q ≡ g r →
+    u ≡ setTopic st (place s t) q →
+    u ≡ onTopic st s t g
+stored-topic st u s t r q g l e h = h ∙ ap (setTopic st (place s t)) (e ∙ ap g l)
 
 -- ---- one record: what a change of it does not change is the same at every slot, in and out of the table
 
@@ -191,29 +182,107 @@ pub sized-left : (st : State) (s t : ℕ) → Sized st → Sized (leftTopic st s
 unfolding leftTopic
 sized-left st s t size = sized-topic st size (place s t) _
 
--- the topics that a disconnect leaves, one after the other
-abbrev leave : ℕ → ℕ → State → State
-leave s t u = leftTopic u s t
+-- ---- every topic record of one slot changed by g, one topic after the other: what a disconnect and an emptied slot do
 
--- and the topic records that `emptied` empties
-abbrev empty : ℕ → ℕ → State → State
-empty s t u = setTopic u (place s t) noTopic
+abbrev pub walk : ℕ → (TopicRecord → TopicRecord) → ℕ → State → State
+walk s g t u = onTopic u s t g
 
-sized-leave : (st : State) (s n : ℕ) → Sized st → Sized (iter n (leave s) st)
-sized-leave st s n size = iter-keeps (λ u. Sized u) (leave s) n st size (λ t u h. sized-left u s t)
+module _ (s : ℕ) (g : TopicRecord → TopicRecord) (st : State) where
+  pub walk-kept : (n : ℕ) → Kept st (iter n (walk s g) st)
+  walk-kept n = kept-iter (walk s g) n st (λ t u. kept-topic u (place s t) (g (topicIn u (place s t))))
 
-sized-empty : (st : State) (s n : ℕ) → Sized st → Sized (iter n (empty s) st)
-sized-empty st s n size =
-    iter-keeps (λ u. Sized u) (empty s) n st size (λ t u h k. sized-topic u k (place s t) noTopic)
+  pub walk-sized : (n : ℕ) → Sized st → Sized (iter n (walk s g) st)
+  walk-sized n size =
+      iter-keeps
+      (λ u. Sized u)
+      (walk s g)
+      n
+      st
+      size
+      (λ t u h k. sized-topic u k (place s t) (g (topicIn u (place s t))))
+
+  pub walk-peer : (n u : ℕ) → peerIn (iter n (walk s g) st) u ≡ peerIn st u
+  walk-peer n u =
+      iter-kept
+      (λ v. peerIn v u)
+      (walk s g)
+      n
+      st
+      (λ t v h. peer-after-topic v (place s t) (g (topicIn v (place s t))) u)
+
+  -- another slot
+  pub walk-other : (u t : ℕ) → u ≢ s → t < 8 → topicIn (iter 8 (walk s g) st) (place u t) ≡ topicIn st (place u t)
+  walk-other u t n h =
+      iter-kept
+      (λ v. topicIn v (place u t))
+      (walk s g)
+      8
+      st
+      (λ i v l. topic-other v (place s i) (g (topicIn v (place s i))) (place u t) (place-slot s i u t l h n))
+
+  walk-apart : (t i : ℕ) (u : State) → i ≢ t → topicIn (walk s g i u) (place s t) ≡ topicIn u (place s t)
+  walk-apart t i u n =
+      topic-other u (place s i) (g (topicIn u (place s i))) (place s t) (place-topic s i t (λ e. n (sym e)))
+
+  pub walk-same :
+      Sized st →
+      s < 64 →
+      (t : ℕ) →
+      t < 8 →
+      topicIn (iter 8 (walk s g) st) (place s t) ≡ g (topicIn st (place s t))
+  walk-same size h t k =
+      let w = iter t (walk s g) st in
+      let z : Sized w = walk-sized t size in
+      let l : place s t < length (w .topics) = omega (arith, z .topics) in
+      iter-once (λ v. topicIn v (place s t)) (walk s g) t (walk-apart t) 8 st k
+      ∙ topic-same w (place s t) (g (topicIn w (place s t))) l
+      ∙ ap g (iter-before (λ v. topicIn v (place s t)) (walk s g) t (walk-apart t) t st (omega arith))
+
+-- ---- what stays after those two and after reclaiming, and sizes
+
+-- out of the mesh, and not subscribed
+abbrev gone : TopicRecord → TopicRecord
+gone r = withSubscribed (outOfMesh r) 0
+
+abbrev none : TopicRecord → TopicRecord
+none r = noTopic
+
+pub kept-departed : (st : State) (s time : ℕ) → Kept st (departed st s time)
+unfolding departed leftTopic
+kept-departed st s time = kept-then (walk-kept s gone st 8) (kept-peer (iter 8 (walk s gone) st) s _)
+
+pub kept-emptied : (st : State) (s : ℕ) → Kept st (emptied st s)
+unfolding emptied
+kept-emptied st s = kept-then (walk-kept s none st 8) (kept-peer (iter 8 (walk s none) st) s noPeer)
+
+pub kept-reclaim : (time s : ℕ) (st : State) → Kept st (reclaimSlot time s st)
+unfolding reclaimSlot
+kept-reclaim time s st =
+    cond-case
+    (λ u. Kept st u)
+    (reclaimable (peerIn st s) time)
+    (emptied st s)
+    st
+    (λ h. kept-emptied st s)
+    (λ h. kept-self st)
+
+pub kept-reclaimed : (st : State) (time : ℕ) → Kept st (reclaimed st time)
+unfolding reclaimed
+kept-reclaimed st time = kept-iter (reclaimSlot time) 64 st (kept-reclaim time)
 
 pub sized-departed : (st : State) (s time : ℕ) → Sized st → Sized (departed st s time)
-unfolding departed retainedTo
+unfolding departed leftTopic retainedTo
 sized-departed st s time size =
-    sized-on-peer (iter 8 (leave s) st) s (λ p. retainedTo p (endAfter time (retainSeconds st))) (sized-leave st s 8 size) refl
+    sized-on-peer
+    (iter 8 (walk s gone) st)
+    s
+    (λ p. retainedTo p (endAfter time (retainSeconds st)))
+    (walk-sized s gone st 8 size)
+    refl
 
 pub sized-emptied : (st : State) (s : ℕ) → Sized st → Sized (emptied st s)
 unfolding emptied
-sized-emptied st s size = sized-peer (iter 8 (empty s) st) (sized-empty st s 8 size) s noPeer refl
+sized-emptied st s size = sized-peer (iter 8 (walk s none) st) (walk-sized s none st 8 size) s noPeer refl
 
 pub sized-reclaim : (time s : ℕ) (st : State) → Sized st → Sized (reclaimSlot time s st)
 unfolding reclaimSlot
@@ -226,13 +295,13 @@ sized-reclaim time s st size =
     (λ h. sized-emptied st s size)
     (λ h. size)
 
-sized-walk : (st : State) (time n : ℕ) → Sized st → Sized (iter n (reclaimSlot time) st)
-sized-walk st time n size =
+sized-turns : (st : State) (time n : ℕ) → Sized st → Sized (iter n (reclaimSlot time) st)
+sized-turns st time n size =
     iter-keeps (λ u. Sized u) (reclaimSlot time) n st size (λ s u h. sized-reclaim time s u)
 
 pub sized-reclaimed : (st : State) (time : ℕ) → Sized st → Sized (reclaimed st time)
 unfolding reclaimed
-sized-reclaimed st time size = sized-walk st time 64 size
+sized-reclaimed st time size = sized-turns st time 64 size
 
 -- ---- a PRUNE's effect, slot by slot
 
@@ -360,60 +429,35 @@ module _ (st : State) (s t end : ℕ) where
     pruned-mesh e =
         ap (λ (n : ℕ). n + 1) (mesh-peer (onTopic st s t outOfMesh) s _ t) ∙ mesh-out st s t size h k e
 
--- ---- the topic records of one slot, walked
-
-left-other : (s t : ℕ) (i : ℕ) (u : State) → i ≢ t → topicIn (leave s i u) (place s t) ≡ topicIn u (place s t)
-unfolding leftTopic
-left-other s t i u n = topic-other u (place s i) _ (place s t) (place-topic s i t (λ e. n (sym e)))
-
-empty-other : (s t : ℕ) (i : ℕ) (u : State) → i ≢ t → topicIn (empty s i u) (place s t) ≡ topicIn u (place s t)
-empty-other s t i u n = topic-other u (place s i) noTopic (place s t) (place-topic s i t (λ e. n (sym e)))
-
 -- ---- a disconnect, slot by slot
 
 module _ (st : State) (s time : ℕ) where
-  leave-peer : (u : ℕ) → peerIn (iter 8 (leave s) st) u ≡ peerIn st u
-  unfolding leftTopic
-  leave-peer u = iter-kept (λ v. peerIn v u) (leave s) 8 st (λ t v h. peer-after-topic v (place s t) _ u)
-
   pub departed-other : (u : ℕ) → u ≢ s → peerIn (departed st s time) u ≡ peerIn st u
-  unfolding departed
-  departed-other u n = peer-other (iter 8 (leave s) st) s _ u n ∙ leave-peer u
+  unfolding departed leftTopic
+  departed-other u n = peer-other (iter 8 (walk s gone) st) s _ u n ∙ walk-peer s gone st 8 u
 
   pub departed-topic-other :
       (u t : ℕ) → u ≢ s → t < 8 → topicIn (departed st s time) (place u t) ≡ topicIn st (place u t)
   unfolding departed leftTopic
   departed-topic-other u t n h =
-      topic-after-peer (iter 8 (leave s) st) s _ (place u t)
-      ∙ iter-kept
-      (λ v. topicIn v (place u t))
-      (leave s)
-      8
-      st
-      (λ i v l. topic-other v (place s i) _ (place u t) (place-slot s i u t l h n))
+      topic-after-peer (iter 8 (walk s gone) st) s _ (place u t) ∙ walk-other s gone st u t n h
 
   module _ (size : Sized st) (h : s < 64) where
     pub departed-same : peerIn (departed st s time) s ≡ retainedTo (peerIn st s) (endAfter time (retainSeconds st))
-    unfolding departed
+    unfolding departed leftTopic
     departed-same =
-        let z : Sized (iter 8 (leave s) st) = sized-leave st s 8 size in
-        let l : s < length (iter 8 (leave s) st .peers) = omega (arith, z .peers) in
-        peer-same (iter 8 (leave s) st) s _ l
-        ∙ ap (λ (p : Peer). retainedTo p (endAfter time (retainSeconds st))) (leave-peer s)
+        let z : Sized (iter 8 (walk s gone) st) = walk-sized s gone st 8 size in
+        let l : s < length (iter 8 (walk s gone) st .peers) = omega (arith, z .peers) in
+        peer-same (iter 8 (walk s gone) st) s _ l
+        ∙ ap (λ (p : Peer). retainedTo p (endAfter time (retainSeconds st))) (walk-peer s gone st 8 s)
 
     pub departed-topic :
-        (t : ℕ) → t < 8 → topicIn (departed st s time) (place s t) ≡ withSubscribed (outOfMesh (topicIn st (place s t))) 0
+        (t : ℕ) →
+        t < 8 →
+        topicIn (departed st s time) (place s t) ≡ withSubscribed (outOfMesh (topicIn st (place s t))) 0
     unfolding departed leftTopic
     departed-topic t k =
-        let w = iter t (leave s) st in
-        let z : Sized w = sized-leave st s t size in
-        let l : place s t < length (w .topics) = omega (arith, z .topics) in
-        topic-after-peer (iter 8 (leave s) st) s _ (place s t)
-        ∙ iter-once (λ v. topicIn v (place s t)) (leave s) t (left-other s t) 8 st k
-        ∙ topic-same w (place s t) _ l
-        ∙ ap
-        (λ (r : TopicRecord). withSubscribed (outOfMesh r) 0)
-        (iter-before (λ v. topicIn v (place s t)) (leave s) t (left-other s t) t st (omega arith))
+        topic-after-peer (iter 8 (walk s gone) st) s _ (place s t) ∙ walk-same s gone st size h t k
 
     pub departed-member : (t : ℕ) → t < 8 → isMember (departed st s time) t s ≡ false
     unfolding isMember withSubscribed outOfMesh
@@ -428,38 +472,25 @@ module _ (st : State) (s time : ℕ) where
 module _ (st : State) (s : ℕ) where
   pub emptied-other : (u : ℕ) → u ≢ s → peerIn (emptied st s) u ≡ peerIn st u
   unfolding emptied
-  emptied-other u n =
-      peer-other (iter 8 (empty s) st) s noPeer u n
-      ∙ iter-kept (λ v. peerIn v u) (empty s) 8 st (λ t v h. peer-after-topic v (place s t) noTopic u)
+  emptied-other u n = peer-other (iter 8 (walk s none) st) s noPeer u n ∙ walk-peer s none st 8 u
 
   pub emptied-topic-other : (u t : ℕ) → u ≢ s → t < 8 → topicIn (emptied st s) (place u t) ≡ topicIn st (place u t)
   unfolding emptied
   emptied-topic-other u t n h =
-      topic-after-peer (iter 8 (empty s) st) s noPeer (place u t)
-      ∙ iter-kept
-      (λ v. topicIn v (place u t))
-      (empty s)
-      8
-      st
-      (λ i v l. topic-other v (place s i) noTopic (place u t) (place-slot s i u t l h n))
+      topic-after-peer (iter 8 (walk s none) st) s noPeer (place u t) ∙ walk-other s none st u t n h
 
   module _ (size : Sized st) (h : s < 64) where
     pub emptied-same : peerIn (emptied st s) s ≡ noPeer
     unfolding emptied
     emptied-same =
-        let z : Sized (iter 8 (empty s) st) = sized-empty st s 8 size in
-        let l : s < length (iter 8 (empty s) st .peers) = omega (arith, z .peers) in
-        peer-same (iter 8 (empty s) st) s noPeer l
+        let z : Sized (iter 8 (walk s none) st) = walk-sized s none st 8 size in
+        let l : s < length (iter 8 (walk s none) st .peers) = omega (arith, z .peers) in
+        peer-same (iter 8 (walk s none) st) s noPeer l
 
     pub emptied-topic : (t : ℕ) → t < 8 → topicIn (emptied st s) (place s t) ≡ noTopic
     unfolding emptied
     emptied-topic t k =
-        let w = iter t (empty s) st in
-        let z : Sized w = sized-empty st s t size in
-        let l : place s t < length (w .topics) = omega (arith, z .topics) in
-        topic-after-peer (iter 8 (empty s) st) s noPeer (place s t)
-        ∙ iter-once (λ v. topicIn v (place s t)) (empty s) t (empty-other s t) 8 st k
-        ∙ topic-same w (place s t) noTopic l
+        topic-after-peer (iter 8 (walk s none) st) s noPeer (place s t) ∙ walk-same s none st size h t k
 
 -- ---- reclaiming one slot
 
@@ -527,15 +558,15 @@ reclaim-topic st time s t size h k =
 -- ---- reclaiming every slot, slot by slot
 
 module _ (st : State) (time : ℕ) (size : Sized st) (s : ℕ) (h : s < 64) where
-  walk-peer : peerIn (iter s (reclaimSlot time) st) s ≡ peerIn st s
-  walk-peer = iter-before (λ v. peerIn v s) (reclaimSlot time) s (reclaim-other time s) s st (omega arith)
+  walked : peerIn (iter s (reclaimSlot time) st) s ≡ peerIn st s
+  walked = iter-before (λ v. peerIn v s) (reclaimSlot time) s (reclaim-other time s) s st (omega arith)
 
   pub reclaimed-peer : peerIn (reclaimed st time) s ≡ cond (reclaimable (peerIn st s) time) noPeer (peerIn st s)
   unfolding reclaimed
   reclaimed-peer =
       iter-once (λ v. peerIn v s) (reclaimSlot time) s (reclaim-other time s) 64 st h
-      ∙ reclaim-peer (iter s (reclaimSlot time) st) time s (sized-walk st time s size) h
-      ∙ ap (λ (p : Peer). cond (reclaimable p time) noPeer p) walk-peer
+      ∙ reclaim-peer (iter s (reclaimSlot time) st) time s (sized-turns st time s size) h
+      ∙ ap (λ (p : Peer). cond (reclaimable p time) noPeer p) walked
 
   pub reclaimed-topic :
       (t : ℕ) →
@@ -547,8 +578,8 @@ module _ (st : State) (time : ℕ) (size : Sized st) (s : ℕ) (h : s < 64) wher
       let r : topicIn w (place s t) ≡ topicIn st (place s t) =
       iter-before (λ v. topicIn v (place s t)) (reclaimSlot time) s (reclaim-topic-other time s t k) s st (omega arith) in
       iter-once (λ v. topicIn v (place s t)) (reclaimSlot time) s (reclaim-topic-other time s t k) 64 st h
-      ∙ reclaim-topic w time s t (sized-walk st time s size) h k
-      ∙ ap (λ (p : Peer). cond (reclaimable p time) noTopic (topicIn w (place s t))) walk-peer
+      ∙ reclaim-topic w time s t (sized-turns st time s size) h k
+      ∙ ap (λ (p : Peer). cond (reclaimable p time) noTopic (topicIn w (place s t))) walked
       ∙ ap (λ (x : TopicRecord). cond (reclaimable (peerIn st s) time) noTopic x) r
 
   -- what is not reclaimable stays

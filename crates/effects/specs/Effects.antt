@@ -1,15 +1,12 @@
 -- What the calls do to a record and to the state, in 01's words. Each changes what it names and nothing else.
-use Prim.Native.Nat.{ℕ, zero, suc, _+_, _*_, _/_, _%_, max, min}
-use mathlib.Core.Bool.{Bool, true, false, cond, not, _&&_}
-use mathlib.Core.List.{List, [], _∷_}
+use Prim.Native.Nat.{ℕ, _+_, _*_, _/_, _%_, max}
+use mathlib.Core.Bool.{Bool, cond, not, _&&_}
 use lib.ListN.{getD, set}
 use lib.Dec.{eqb, leb, ltb}
-use lib.IntN.{ℤ, pos}
-use lib.Signed.{ltZ}
 use Rattle.index.specs.Index.{every, count, iter}
 use Rattle.records.specs.declared.Peer.{Peer}
 use Rattle.records.specs.declared.TopicRecord.{TopicRecord}
-use Rattle.records.specs.Records.{State, slotCount, topicCount, noPeer, noTopic, place, codeIn, joinedIn, peerIn, topicIn, setPeer, setTopic, isConnected, isRetained}
+use Rattle.records.specs.Records.{State, slotCount, topicCount, noPeer, noTopic, place, codeIn, joinedIn, peerIn, topicIn, setPeer, setTopic, isRetained}
 
 -- ---- parameters that the rules use, as magnitudes (their signs are fixed by their limits); seconds unless said
 abbrev pub magnitude : ℕ → ℕ

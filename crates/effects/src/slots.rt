@@ -1,6 +1,6 @@
 // One slot of the table, in one topic.
 ghost use mathlib.Core.Path.{_≡_};
-ghost use Prim.Native.Nat.{_+_, _*_, _≤_, _<_};
+ghost use Prim.Native.Nat.{_≤_, _<_};
 ghost use lib.ListN.{length};
 ghost use Rattle.records.specs.Records.{codeIn, peerIn};
 ghost use Rattle.cells.specs.View.{cellCount, stateOf};

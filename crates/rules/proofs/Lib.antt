@@ -1,2 +1,3 @@
 pub mod GateLaws
 pub mod PromiseLaws
+pub mod StepLaws

@@ -1,16 +1,14 @@
 -- Deliveries, P3b's growth and decay keep every counter in its range, and a decay keeps graft time plus mesh time at the clock.
 -- Assumes nothing.
-use Prim.Native.Nat.{ℕ, _+_, _-_, _*_, _/_, _<_, _≤_, zero-le, min}
-use mathlib.Core.Path.{_≡_, refl}
-use mathlib.Core.Bool.{Bool, true, false, cond}
+use Prim.Native.Nat.{ℕ, _+_, _-_, _*_, _/_, _≤_, zero-le}
 use native.Mathlib.Omega.{arith}
-use native.Mathlib.Nat.{mul-le-mul, le-refl, mul-one}
+use native.Mathlib.Nat.{mul-le-mul, le-refl}
 use lib.Dec.{ltb}
 use Rattle.index.proofs.Flags.{cond-case}
 use Rattle.records.specs.declared.TopicRecord.{TopicRecord}
 use Rattle.score.specs.declared.TopicParams.{TopicParams}
 use Rattle.score.specs.Ranges.{TopicParamsIn, CountersIn, CountersWithin}
-use Rattle.score.specs.Parts.{isMember, part3Of}
+use Rattle.score.specs.Parts.{isMember}
 use Rattle.score.specs.Counters.{raisedOf, raised3Of, firstOf, nearFirstOf, invalidOf, grownOf, fadedOf, meshOf, decayedOf}
 
 -- what decays does not grow

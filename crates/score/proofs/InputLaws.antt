@@ -1,11 +1,11 @@
 -- What test 12 gives of the numbers that a score is made of: their ranges, and the signs of the weights.
 -- Assumes nothing.
-use Prim.Native.Nat.{ℕ, _+_, _*_, _/_, _<_, _≤_}
+use Prim.Native.Nat.{ℕ, _<_, _≤_}
 use mathlib.Core.Path.{_≡_, refl}
 use mathlib.Core.Bool.{true}
 use native.Mathlib.Omega.{arith}
 use lib.Dec.{lit<}
-use lib.IntN.{ℤ, pos, negℤ}
+use lib.IntN.{pos, negℤ}
 use Rattle.params.specs.Limits.{limits, limitAt}
 use Rattle.params.specs.Joint.{place as topicPlace}
 use Rattle.params.proofs.LimitLaws.{topic-field}
@@ -81,6 +81,18 @@ module _ (st : State) (ok : valid st ≡ true) where
         threshold = p .p6Threshold-least;
         w7 = p .w7-most;
       }
+
+  -- the graylist threshold, P7's factor and decay-to-zero
+  pub graylist-in : (sizeIn st 9 ≤ 1000000000) × (negℤ (pos (sizeIn st 9)) ≡ paramIn st 9)
+  unfolding codeIn limitAt limits
+  graylist-in = (
+    general (st .codes) (facts .params) .graylist-most,
+    loss-of (st .codes) (within (st .codes) (facts .params)) 9 (lit< tt) 9 refl tt,
+  )
+
+  pub decay-in : (sizeIn st 17 ≤ 999) × (sizeIn st 18 ≤ 1000)
+  unfolding codeIn
+  decay-in = let p = general (st .codes) (facts .params) in (p .p7Decay-most, p .decayToZero-most)
 
   topic-signs : (t : ℕ) → t < 8 → TopicSigns st t
   unfolding codeIn limitAt limits

@@ -1,25 +1,29 @@
 -- What the code computes of a router's state is worth 01's score, and the score depends on nothing but what 01 names.
 -- Assumes nothing.
-use Prim.Native.Nat.{ℕ, _+_, _*_, _/_, _<_, _≤_}
-use mathlib.Core.Path.{_≡_, refl, sym, ap, ap₂, _∙_}
+use Prim.Native.Nat.{ℕ, _*_, _<_, _≤_}
+use mathlib.Core.Path.{_≡_, sym, ap, ap₂, _∙_}
+use mathlib.Core.Bool.{true}
 use native.Mathlib.Omega.{arith}
-use lib.IntN.{ℤ, pos, negℤ, natAbs}
+use lib.IntN.{ℤ, pos, negℤ, natAbs, subℕ, _*ℤ_}
+use lib.Signed.{ltZ}
 use Rattle.index.proofs.Index.{count-bound}
 use Rattle.groups.specs.Codes.{numberOf}
 use Rattle.params.specs.Joint.{place as topicPlace}
 use Rattle.records.specs.declared.Peer.{Peer}
-use Rattle.records.specs.Records.{State, topicCount, place, codeIn, peerIn, topicIn}
+use Rattle.records.specs.Records.{State, topicCount, place, peerIn, topicIn}
+use Rattle.table.specs.Valid.{valid}
 use Rattle.score.specs.declared.ScoreParams.{ScoreParams}
 use Rattle.score.specs.declared.Balance.{Balance}
 use Rattle.score.specs.declared.Parts.{Parts}
 use Rattle.score.specs.Ranges.{ScoreParamsIn, TopicsIn, PartsIn, BalanceIn, ShareIn, scoreMost}
-use Rattle.score.specs.Parts.{part1Of, part2Of, part3Of, part3bOf, part4Of, surplusOf}
-use Rattle.score.specs.Formula.{topicSum, allTopics, scoreSum}
-use Rattle.score.specs.Sums.{worth, shareOf, sumOf, partsOf, totalOf}
+use Rattle.score.specs.Parts.{square, surplusOf}
+use Rattle.score.specs.Formula.{allTopics, bounded}
+use Rattle.score.specs.Sums.{worth, sumOf, partsOf, totalOf, negativeOf, belowOf}
 use Rattle.score.specs.Score.{paramIn, sizeIn, topicParamsIn, scoreParamsIn, sharesGroup, sharing, topicScore, scoreIn, shareAt, partsAt, balanceAt, Scores, Agree}
-use Rattle.score.proofs.InputLaws.{TopicSigns, SlotIn}
+use Rattle.score.proofs.InputLaws.{TopicSigns, SlotIn, graylist-in}
 use Rattle.score.proofs.ShareLaws.{share-is, sum-is, sum-done, topics-same}
-use Rattle.score.proofs.SumLaws.{total-is, score-size}
+use Rattle.score.proofs.SumLaws.{capped-is, p5-is, loss-is, total-is, score-size, negative-is, below-is}
+use Rattle.score.proofs.Differences.{diff-neg, neg-times}
 use Rattle.score.proofs.BoundLaws.{share-in, sum-in, topics-in, parts-in, total-in}
 
 pub sharing-most : (st : State) (group : ℕ) → sharing st group ≤ 64
@@ -32,6 +36,16 @@ unfolding topicScore shareAt topicParamsIn
 topic-is st s t h =
     rw (← h .weight, ← h .w1, ← h .w2, ← h .w3, ← h .w3b, ← h .w4)
     (share-is (topicParamsIn st t) (topicIn st (place s t)))
+
+-- the parts over signed numbers: the topics' total before the cap and after it, P5, P6 and P7
+pub record PartsWorth (st : State) (s : ℕ) (p : Parts) : Type 0 where
+  pub topics : worth (p .topics) ≡ allTopics topicCount (topicScore st s)
+  pub capped : worth (p .capped) ≡ bounded (sizeIn st 12) (allTopics topicCount (topicScore st s))
+  pub p5 : worth (p .p5) ≡ paramIn st 13 *ℤ numberOf (peerIn st s .p5) *ℤ pos 1000
+  pub p6 :
+      subℕ 0 (p .p6)
+      ≡ paramIn st 14 *ℤ pos (square (surplusOf (sizeIn st 15) (sharing st (peerIn st s .group)))) *ℤ pos 1000000000
+  pub p7 : subℕ 0 (p .p7) ≡ paramIn st 16 *ℤ pos (square (peerIn st s .p7)) *ℤ pos 1000
 
 module _ (st : State) (s : ℕ) (h : SlotIn st s) where
   share-at-in : (t : ℕ) → t < 8 → ShareIn (shareAt st s t)
@@ -100,13 +114,14 @@ module _ (st : State) (s : ℕ) (h : SlotIn st s) where
   unfolding balanceAt
   balance-in = total-in (partsAt st s) parts-are
 
+  sums : allTopics 8 (topicScore st s) ≡ worth (sumOf 8 (shareAt st s))
+  sums = sum-is (topicScore st s) (shareAt st s) 8 (λ t l. topic-is st s t (h .topicSigns t l))
+
   -- the code's balance is worth 01's score
   pub score-is : worth (balanceAt st s) ≡ scoreIn st s
   unfolding scoreIn balanceAt partsAt scoreParamsIn
   score-is =
       let w = h .generalSigns in
-      let sums : allTopics 8 (topicScore st s) ≡ worth (sumOf 8 (shareAt st s)) =
-      sum-is (topicScore st s) (shareAt st s) 8 (λ t l. topic-is st s t (h .topicSigns t l)) in
       rw (← w .w5, ← w .w6, ← w .w7, sums)
       (sym
       (total-is
@@ -120,11 +135,41 @@ module _ (st : State) (s : ℕ) (h : SlotIn st s) where
   pub score-most : natAbs (scoreIn st s) ≤ scoreMost
   score-most = rw (← score-is) (score-size (balanceAt st s) balance-in)
 
+  -- each part is worth its line of 01
+  pub parts-worth : PartsWorth st s (partsAt st s)
+  unfolding partsAt partsOf scoreParamsIn
+  parts-worth =
+      let w = h .generalSigns in
+      record {
+        topics = sym sums;
+        capped = sym (rw sums (capped-is (sizeIn st 12) (sumOf 8 (shareAt st s))));
+        p5 = sym (rw (← w .w5) (p5-is (sizeIn st 13) (peerIn st s .p5)));
+        p6 = sym (rw (← w .w6) (loss-is (sizeIn st 14) (square (surplusOf (sizeIn st 15) (sharing st (peerIn st s .group)))) 1000000000));
+        p7 = sym (rw (← w .w7) (loss-is (sizeIn st 16) (square (peerIn st s .p7)) 1000));
+      }
+
   pub scores : (q : Parts) (b : Balance) → q ≡ partsAt st s → b ≡ totalOf q → Scores st s b
   unfolding balanceAt
   scores q b p t =
       let e : b ≡ balanceAt st s = t ∙ ap totalOf p in
       record { is = e; score = ap worth e ∙ score-is; range = rw e balance-in }
+
+-- what the code tests of a balance, said of the score
+module _ (st : State) (s : ℕ) (b : Balance) (h : Scores st s b) where
+  pub score-negative : negativeOf b ≡ ltZ (scoreIn st s) (pos 0)
+  score-negative = negative-is b ∙ ap (λ (z : ℤ). ltZ z (pos 0)) (h .score)
+
+  -- the graylist threshold is the general number 9, in thousandths of a point
+  pub score-graylisted :
+      (n : ℕ) →
+      valid st ≡ true →
+      n ≡ sizeIn st 9 →
+      belowOf b n ≡ ltZ (scoreIn st s) (paramIn st 9 *ℤ pos 1000000)
+  score-graylisted n ok e =
+      below-is b n ∙ ap₂ ltZ (h .score) (threshold n (sizeIn st 9) e ∙ ap (λ (z : ℤ). z *ℤ pos 1000000) (graylist-in st ok .1))
+    where
+      threshold : (a c : ℕ) → a ≡ c → negℤ (pos (a * 1000000)) ≡ negℤ (pos c) *ℤ pos 1000000
+      threshold a c p = ap (λ (k : ℕ). negℤ (pos (k * 1000000))) p ∙ diff-neg (c * 1000000) ∙ sym (neg-times c 1000000)
 
 -- "One peer's score depends on its own record, the sheet, and the number of connected peers in its group, and on nothing else."
 module _ (st : State) (s : ℕ) (other : State) (u : ℕ) (h : Agree st s other u) where

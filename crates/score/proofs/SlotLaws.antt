@@ -1,9 +1,8 @@
 -- The loops over the slots that share a group and over the topics, as the code runs them.
 -- Assumes nothing.
 use Prim.Native.Nat.{ℕ, _+_, _≤_, _<_}
-use mathlib.Core.Path.{_≡_, refl, sym, ap, ap₂, _∙_}
+use mathlib.Core.Path.{_≡_, sym, ap, ap₂, _∙_}
 use mathlib.Core.Bool.{true, false, _&&_}
-use native.Mathlib.Omega.{arith}
 use lib.Dec.{eqb}
 use Rattle.index.specs.Index.{one, count}
 use Rattle.index.proofs.Index.{count-none, count-more, count-done}

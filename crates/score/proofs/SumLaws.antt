@@ -2,12 +2,12 @@
 -- Assumes nothing.
 use Prim.Native.Nat.{ℕ, suc, _+_, _-_, _*_, _/_, _%_, _<_, _≤_, min}
 use mathlib.Core.Path.{_≡_, refl, sym, ap, ap₂, _∙_}
-use mathlib.Core.Bool.{Bool, true, false, cond}
+use mathlib.Core.Bool.{cond}
 use native.Mathlib.Omega.{arith}
 use native.Mathlib.Nat.{add-zero, zero-add, mul-zero, mul-comm, mul-assoc, min-eq-left, min-eq-right}
 use borrow.Author.Tests.{leb-true, leb-false, eqb-true, eqb-false}
 use lib.Dec.{eqb, leb, ltb}
-use lib.IntN.{ℤ, pos, negsuc, negℤ, natAbs, subℕ, _+ℤ_, _*ℤ_}
+use lib.IntN.{ℤ, pos, negℤ, natAbs, subℕ, _+ℤ_, _*ℤ_}
 use lib.Signed.{leZ, ltZ}
 use Rattle.index.proofs.Flags.{by-test}
 use Rattle.groups.specs.Codes.{codeOf, numberOf}
@@ -121,6 +121,23 @@ module _ (a b : Balance) (h : BalanceIn a) (k : BalanceIn b) where
 
   pub offset-order-le : leb (offsetOf a) (offsetOf b) ≡ leZ (worth a) (worth b)
   offset-order-le = offset-le scoreMost (a .gain) (a .loss) (b .gain) (b .loss) (omega arith) (omega arith)
+
+-- and against a number of 10^-9 points that is not negative
+module _ (b : Balance) (k : ℕ) (h : BalanceIn b) where
+  up : scoreMost + k ≡ scoreMost + k - 0
+  up = omega arith
+
+  pub offset-below : ltb (offsetOf b) (scoreMost + k) ≡ ltZ (worth b) (pos k)
+  offset-below =
+      rw (diff-pos k)
+      (ap (λ (n : ℕ). ltb (offsetOf b) n) up
+      ∙ offset-lt scoreMost (b .gain) (b .loss) k 0 (omega arith) (omega arith))
+
+  pub offset-from : leb (scoreMost + k) (offsetOf b) ≡ leZ (pos k) (worth b)
+  offset-from =
+      rw (diff-pos k)
+      (ap (λ (n : ℕ). leb n (offsetOf b)) up
+      ∙ offset-le scoreMost k 0 (b .gain) (b .loss) (omega arith) (omega arith))
 
 pub negative-is : (b : Balance) → negativeOf b ≡ ltZ (worth b) (pos 0)
 negative-is b = rw (diff-pos 0, diff-ltZ (b .gain) (b .loss) 0 0, add-zero (b .gain), zero-add (b .loss))

@@ -48,9 +48,9 @@ pub fn first(t: TopicParams, r: TopicRecord) -> TopicRecord
 pub fn near_first(t: TopicParams, r: TopicRecord) -> TopicRecord
     ensures { λ q. ⌜ q ≡ nearFirstOf t r ⌝ }
 {
-    let mut q = r;
-    q.p3 = raised3(r.member, r.p3, t.cap3);
-    q
+    let mut near = r;
+    near.p3 = raised3(r.member, r.p3, t.cap3);
+    near
 }
 
 pub fn invalid(r: TopicRecord) -> TopicRecord

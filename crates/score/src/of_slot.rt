@@ -1,16 +1,16 @@
 // A peer's score from the lent table: the parameters as magnitudes, the sum over the topics, the peers that share a group, and the whole.
 // What a score depends on is specs/Score.antt.
 ghost use mathlib.Core.Path.{_≡_};
-ghost use Prim.Native.Nat.{ℕ, _+_, _*_, _<_, _≤_};
+ghost use Prim.Native.Nat.{_+_, _*_, _<_, _≤_};
 ghost use mathlib.Core.Bool.{true};
 ghost use lib.ListN.{length};
 ghost use Rattle.index.specs.Index.{one};
 ghost use Rattle.cells.specs.View.{cellCount, stateOf};
-ghost use Rattle.records.specs.Records.{topicCount, peerIn, topicIn, place};
+ghost use Rattle.records.specs.Records.{topicCount};
 ghost use Rattle.params.specs.Joint.{place as topicPlace};
 ghost use Rattle.table.specs.Valid.{valid};
 ghost use Rattle.score.specs.Ranges.{ShareIn, TopicsIn, PartsIn};
-ghost use Rattle.score.specs.Sums.{shareOf, sumOf};
+ghost use Rattle.score.specs.Sums.{sumOf};
 ghost use Rattle.score.specs.Score.{sizeIn, topicParamsIn, scoreParamsIn, sharesGroup, sharing, shareAt, partsAt, Scores};
 use crate::Balance;
 use crate::Parts;

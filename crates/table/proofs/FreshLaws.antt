@@ -19,7 +19,7 @@ use Rattle.index.proofs.Flags.{by-order}
 use Rattle.groups.specs.Codes.{codeOf, numberOf}
 use Rattle.groups.proofs.CodeLaws.{number-code}
 use Rattle.params.specs.Check.{firstBroken, acceptedCodes}
-use Rattle.records.specs.Records.{State, place, noPeer, noTopic, joinedIn, peerIn, topicIn}
+use Rattle.records.specs.Records.{State, place, noPeer, noTopic, joinedIn, peerIn, topicIn, slotCount, topicCount, paramCount}
 use Rattle.cells.specs.View.{placeCount, zeroState, setCodes, stateOf}
 use Rattle.table.specs.declared.Made.{Made}
 use Rattle.table.specs.declared.Made.the-variants.{Done, Broken}
@@ -34,9 +34,9 @@ code-of-given n v h e = e ∙ ap codeOf (toZ-ofZ h)
 -- the codes of all the numbers
 pub codes-all :
     (codes : List ℕ) (numbers : List ℤ) (i : ℕ) →
-    length codes ≡ 147 →
-    length numbers ≡ 147 →
-    147 ≤ i →
+    length codes ≡ paramCount →
+    length numbers ≡ paramCount →
+    paramCount ≤ i →
     ((k : ℕ) → k < i → getD codes k 0 ≡ codeOf (getD numbers k (pos 0))) →
     codes ≡ map codeOf numbers
 codes-all codes numbers i l m b h =
@@ -74,28 +74,28 @@ numbers-back : (numbers : List ℤ) → map numberOf (map codeOf numbers) ≡ nu
 numbers-back [] = refl
 numbers-back (n ∷ l) = λ i. number-code n i ∷ numbers-back l i
 
-accepted-back : (numbers : List ℤ) → length numbers ≡ 147 → firstBroken numbers ≡ Nothing → acceptedCodes (map codeOf numbers) ≡ true
+accepted-back : (numbers : List ℤ) → length numbers ≡ paramCount → firstBroken numbers ≡ Nothing → acceptedCodes (map codeOf numbers) ≡ true
 unfolding acceptedCodes
 accepted-back numbers l e =
-    let m : length (map codeOf numbers) ≡ 147 = length-map numbers codeOf ∙ l in
-    rw (eq-eqb (length (map codeOf numbers)) 147 m, numbers-back numbers, e)
+    let m : length (map codeOf numbers) ≡ paramCount = length-map numbers codeOf ∙ l in
+    rw (eq-eqb (length (map codeOf numbers)) paramCount m, numbers-back numbers, e)
 
 module _ (numbers : List ℤ) where
   fresh-joined : (t : ℕ) → joinedIn (freshState numbers) t ≡ 0
   unfolding joinedIn freshState
   fresh-joined t =
-      by-order (getD (replicate 8 0) t 0 ≡ 0) t 8 (λ (h : t < 8). getD-replicate 8 t 0 0 h) (λ (h : 8 ≤ t).
+      by-order (getD (replicate 8 0) t 0 ≡ 0) t 8 (λ (h : t < topicCount). getD-replicate 8 t 0 0 h) (λ (h : 8 ≤ t).
       List·getD-eq-default (replicate 8 0) 0 {n = t} (rw length-replicate h))
 
-  fresh-peer : (s : ℕ) → s < 64 → peerIn (freshState numbers) s ≡ noPeer
+  fresh-peer : (s : ℕ) → s < slotCount → peerIn (freshState numbers) s ≡ noPeer
   unfolding peerIn freshState
-  fresh-peer s h = getD-replicate 64 s noPeer noPeer h
+  fresh-peer s h = getD-replicate slotCount s noPeer noPeer h
 
-  fresh-topic : (s t : ℕ) → s < 64 → t < 8 → topicIn (freshState numbers) (place s t) ≡ noTopic
+  fresh-topic : (s t : ℕ) → s < slotCount → t < topicCount → topicIn (freshState numbers) (place s t) ≡ noTopic
   unfolding topicIn freshState
   fresh-topic s t h l = getD-replicate placeCount (place s t) noTopic noTopic (omega arith)
 
-  fresh-facts : length numbers ≡ 147 → firstBroken numbers ≡ Nothing → Facts (freshState numbers)
+  fresh-facts : length numbers ≡ paramCount → firstBroken numbers ≡ Nothing → Facts (freshState numbers)
   unfolding freshState
   fresh-facts l e =
       record {
@@ -108,5 +108,5 @@ module _ (numbers : List ℤ) where
       }
 
   -- the fresh state of parameters that pass the check is a router's
-  pub fresh-valid : length numbers ≡ 147 → firstBroken numbers ≡ Nothing → valid (freshState numbers) ≡ true
+  pub fresh-valid : length numbers ≡ paramCount → firstBroken numbers ≡ Nothing → valid (freshState numbers) ≡ true
   fresh-valid l e = facts-valid (freshState numbers) (fresh-facts l e)

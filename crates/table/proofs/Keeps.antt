@@ -9,7 +9,7 @@ use mathlib.Core.Logic.{_≢_}
 use Rattle.index.proofs.Flags.{by-order}
 use Rattle.records.specs.declared.Peer.{Peer}
 use Rattle.records.specs.declared.TopicRecord.{TopicRecord}
-use Rattle.records.specs.Records.{State, place, codeIn, joinedIn, peerIn, topicIn, setClock, setJoined, setPeer, setTopic}
+use Rattle.records.specs.Records.{State, place, codeIn, joinedIn, peerIn, topicIn, setClock, setJoined, setPeer, setTopic, slotCount, topicCount}
 use Rattle.cells.proofs.StateLaws.{peer-case, peer-other, topic-case, joined-case}
 use Rattle.table.specs.Valid.{maxTime, topicParam, cap2, cap3, valid}
 use Rattle.table.proofs.ValidLaws.{PeerFacts, TopicFacts, FitsAt, Facts, valid-facts, facts-valid}
@@ -57,8 +57,8 @@ pub ids-apart :
     (st : State) →
     Facts st →
     (s k : ℕ) →
-    s < 64 →
-    k < 64 →
+    s < slotCount →
+    k < slotCount →
     k ≢ s →
     peerIn st k .id ≡ peerIn st s .id →
     peerIn st s .id ≡ 0
@@ -97,8 +97,8 @@ module _ (st : State) (f : Facts st) where
   pub facts-peer :
       (s : ℕ) (p : Peer) →
       PeerFacts p →
-      ((t : ℕ) → t < 8 → FitsAt st s (p .status) (p .explicit) t) →
-      ((k : ℕ) → k < 64 → k ≢ s → peerIn st k .id ≡ p .id → p .id ≡ 0) →
+      ((t : ℕ) → t < topicCount → FitsAt st s (p .status) (p .explicit) t) →
+      ((k : ℕ) → k < slotCount → k ≢ s → peerIn st k .id ≡ p .id → p .id ≡ 0) →
       Facts (setPeer st s p)
   unfolding setPeer joinedIn topicIn codeIn topicParam
   facts-peer s p ok fits new =
@@ -133,10 +133,10 @@ module _ (st : State) (f : Facts st) where
   -- the same with the id that the slot holds already
   pub facts-same-id :
       (s : ℕ) (p : Peer) →
-      s < 64 →
+      s < slotCount →
       p .id ≡ peerIn st s .id →
       PeerFacts p →
-      ((t : ℕ) → t < 8 → FitsAt st s (p .status) (p .explicit) t) →
+      ((t : ℕ) → t < topicCount → FitsAt st s (p .status) (p .explicit) t) →
       Facts (setPeer st s p)
   facts-same-id s p h e ok fits =
       facts-peer s p ok fits (λ k l n q. e ∙ ids-apart st f s k h l n (q ∙ e))
@@ -146,13 +146,13 @@ module _ (st : State) (f : Facts st) where
       (s : ℕ) (p : Peer) →
       p .id ≡ 0 →
       PeerFacts p →
-      ((t : ℕ) → t < 8 → FitsAt st s (p .status) (p .explicit) t) →
+      ((t : ℕ) → t < topicCount → FitsAt st s (p .status) (p .explicit) t) →
       Facts (setPeer st s p)
   facts-empty s p e ok fits = facts-peer s p ok fits (λ k l n q. e)
 
   pub facts-topic :
       (s t : ℕ) (r : TopicRecord) →
-      t < 8 →
+      t < topicCount →
       TopicFacts (peerIn st s .status) (peerIn st s .explicit) (joinedIn st t) (st .clock) (cap2 st t) (cap3 st t) r →
       Facts (setTopic st (place s t) r)
   unfolding setTopic joinedIn peerIn codeIn topicParam
@@ -182,7 +182,7 @@ module _ (st : State) (f : Facts st) where
   pub facts-joined :
       (t b : ℕ) →
       b ≤ 1 →
-      ((s : ℕ) → s < 64 → topicIn st (place s t) .member ≡ 1 → b ≡ 1) →
+      ((s : ℕ) → s < slotCount → topicIn st (place s t) .member ≡ 1 → b ≡ 1) →
       Facts (setJoined st t b)
   unfolding setJoined peerIn topicIn codeIn topicParam
   facts-joined t b small stays =
@@ -223,14 +223,14 @@ module _ (st : State) (v : valid st ≡ true) where
   pub valid-peer :
       (s : ℕ) (p : Peer) →
       PeerFacts p →
-      ((t : ℕ) → t < 8 → FitsAt st s (p .status) (p .explicit) t) →
-      ((k : ℕ) → k < 64 → k ≢ s → peerIn st k .id ≡ p .id → p .id ≡ 0) →
+      ((t : ℕ) → t < topicCount → FitsAt st s (p .status) (p .explicit) t) →
+      ((k : ℕ) → k < slotCount → k ≢ s → peerIn st k .id ≡ p .id → p .id ≡ 0) →
       valid (setPeer st s p) ≡ true
   valid-peer s p ok fits new = facts-valid (setPeer st s p) (facts-peer st (valid-facts st v) s p ok fits new)
 
   pub valid-topic :
       (s t : ℕ) (r : TopicRecord) →
-      t < 8 →
+      t < topicCount →
       TopicFacts (peerIn st s .status) (peerIn st s .explicit) (joinedIn st t) (st .clock) (cap2 st t) (cap3 st t) r →
       valid (setTopic st (place s t) r) ≡ true
   valid-topic s t r b ok = facts-valid (setTopic st (place s t) r) (facts-topic st (valid-facts st v) s t r b ok)
@@ -238,6 +238,6 @@ module _ (st : State) (v : valid st ≡ true) where
   pub valid-joined :
       (t b : ℕ) →
       b ≤ 1 →
-      ((s : ℕ) → s < 64 → topicIn st (place s t) .member ≡ 1 → b ≡ 1) →
+      ((s : ℕ) → s < slotCount → topicIn st (place s t) .member ≡ 1 → b ≡ 1) →
       valid (setJoined st t b) ≡ true
   valid-joined t b small stays = facts-valid (setJoined st t b) (facts-joined st (valid-facts st v) t b small stays)

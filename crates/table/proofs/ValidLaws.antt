@@ -1,22 +1,26 @@
 -- Test 12 in plain facts: what `valid` says of each number by slot and topic (`Facts`), and that the facts are `valid`.
 -- Assumes nothing.
-use Prim.Native.Nat.{ℕ, _+_, _*_, _<_, _≤_}
+use Prim.Native.Nat.{ℕ, _+_, _*_, _/_, _<_, _≤_}
 use native.Mathlib.Omega.{arith}
 use mathlib.Core.Path.{_≡_, refl, sym, ap, _∙_}
 use mathlib.Core.Bool.{Bool, true, false, not, _&&_, _||_}
 use mathlib.Core.List.{List}
 use lib.ListN.{length, getD}
 use lib.Seq.{ext-getD}
+use lib.IntN.{natAbs}
 use lib.Dec.{eqb, leb}
 use borrow.Author.Tests.{le-leb, leb-true, eq-eqb, ne-eqb, eqb-true, eqb-false, not-true, not-false}
 use Rattle.index.specs.Index.{every}
 use Rattle.index.proofs.Index.{both, every-at, every-by}
 use Rattle.index.proofs.Flags.{all5, not-yes, by-test}
+use Rattle.groups.specs.Codes.{numberOf}
+use Rattle.groups.proofs.CodeLaws.{code-size}
 use Rattle.params.specs.Check.{acceptedCodes}
+use Rattle.params.proofs.ParamLaws.{topic}
 use Rattle.records.specs.declared.Peer.{Peer}
 use Rattle.records.specs.declared.TopicRecord.{TopicRecord}
-use Rattle.records.specs.Records.{State, place, noPeer, noTopic, joinedIn, peerIn, topicIn, isEmpty, isRetained}
-use Rattle.table.specs.Valid.{maxTime, maxEnd, maxRetain, maxId, peerRanges, endsUpTo, idOk, zeroPeer, emptyOk, retainOk, peerOk, topicRanges, zeroTopic, emptyTopicOk, outsideOk, retainedOk, memberOk, timesOk, topicOk, cap2, cap3, joinedOk, topicOkAt, slotOk, apart, newId, valid}
+use Rattle.records.specs.Records.{State, place, noPeer, noTopic, codeIn, joinedIn, peerIn, topicIn, isEmpty, isRetained, slotCount, topicCount}
+use Rattle.table.specs.Valid.{maxTime, maxEnd, maxRetain, maxId, peerRanges, endsUpTo, idOk, zeroPeer, emptyOk, retainOk, peerOk, topicRanges, zeroTopic, emptyTopicOk, outsideOk, retainedOk, memberOk, timesOk, topicOk, topicParam, cap2, cap3, joinedOk, topicOkAt, slotOk, apart, newId, valid}
 use Rattle.table.proofs.Conditions.{all4, all6, all8, all9, then, then-by, else, else-by}
 
 -- ---- a peer's record
@@ -30,17 +34,17 @@ pub record PeerFacts (p : Peer) : Type 0 where
   pub p5 : p .p5 ≤ 2000000000
   pub p7 : p .p7 ≤ 1000000
   pub retain : p .retain ≤ maxRetain
-  pub ends : (t : ℕ) → t < 8 → getD (p .backoff) t 0 ≤ maxEnd
+  pub ends : (t : ℕ) → t < topicCount → getD (p .backoff) t 0 ≤ maxEnd
   pub used : (p .status ≡ 0 → ⊥) → 1 ≤ p .id
   pub empty : p .status ≡ 0 → zeroPeer p ≡ true
   pub over : (p .status ≡ 2 → ⊥) → p .retain ≡ 0
 
-pub ends-at : (m : ℕ) (p : Peer) → endsUpTo m p ≡ true → (t : ℕ) → t < 8 → getD (p .backoff) t 0 ≤ m
+pub ends-at : (m : ℕ) (p : Peer) → endsUpTo m p ≡ true → (t : ℕ) → t < topicCount → getD (p .backoff) t 0 ≤ m
 unfolding endsUpTo
 ends-at m p e t h =
     leb-true (getD (p .backoff) t 0) m (every-at (λ k. leb (getD (p .backoff) k 0) m) 8 t e h)
 
-pub ends-by : (m : ℕ) (p : Peer) → ((t : ℕ) → t < 8 → getD (p .backoff) t 0 ≤ m) → endsUpTo m p ≡ true
+pub ends-by : (m : ℕ) (p : Peer) → ((t : ℕ) → t < topicCount → getD (p .backoff) t 0 ≤ m) → endsUpTo m p ≡ true
 unfolding endsUpTo
 ends-by m p h =
     every-by (λ k. leb (getD (p .backoff) k 0) m) 8 (λ t b. le-leb (getD (p .backoff) t 0) m (h t b))
@@ -101,7 +105,7 @@ peer-holds p f =
       g,
     )
 
-none-zero : (t : ℕ) → t < 8 → getD (noPeer .backoff) t 0 ≡ 0
+none-zero : (t : ℕ) → t < topicCount → getD (noPeer .backoff) t 0 ≡ 0
 unfolding every
 none-zero t h =
     eqb-true (getD (noPeer .backoff) t 0) 0 (every-at (λ k. eqb (getD (noPeer .backoff) k 0) 0) 8 t refl h)
@@ -315,10 +319,10 @@ FitsAt st s status explicit t =
 pub record Facts (st : State) : Type 0 where
   pub params : acceptedCodes (st .codes) ≡ true
   pub clock : st .clock ≤ maxTime
-  pub joined : (t : ℕ) → t < 8 → joinedIn st t ≤ 1
-  pub peer : (s : ℕ) → s < 64 → PeerFacts (peerIn st s)
-  pub topic : (s t : ℕ) → s < 64 → t < 8 → FitsAt st s (peerIn st s .status) (peerIn st s .explicit) t
-  pub ids : (s k : ℕ) → s < 64 → k < s → peerIn st k .id ≡ peerIn st s .id → peerIn st s .id ≡ 0
+  pub joined : (t : ℕ) → t < topicCount → joinedIn st t ≤ 1
+  pub peer : (s : ℕ) → s < slotCount → PeerFacts (peerIn st s)
+  pub topic : (s t : ℕ) → s < slotCount → t < topicCount → FitsAt st s (peerIn st s .status) (peerIn st s .explicit) t
+  pub ids : (s k : ℕ) → s < slotCount → k < s → peerIn st k .id ≡ peerIn st s .id → peerIn st s .id ≡ 0
 
 apart-is : (a b : ℕ) → apart a b ≡ true → b ≡ a → a ≡ 0
 unfolding apart
@@ -341,13 +345,13 @@ apart-by a b h =
 pub valid-facts : (st : State) → valid st ≡ true → Facts st
 unfolding valid joinedOk slotOk topicOkAt newId
 valid-facts st e =
-    let q = all5 (acceptedCodes (st .codes)) (leb (st .clock) maxTime) (every 8 (joinedOk st)) (every 64 (slotOk st)) (every 64 (newId st)) e in
+    let q = all5 (acceptedCodes (st .codes)) (leb (st .clock) maxTime) (every topicCount (joinedOk st)) (every slotCount (slotOk st)) (every slotCount (newId st)) e in
     let slot :
     (s : ℕ) →
-    s < 64 →
+    s < slotCount →
     (peerOk (peerIn st s) ≡ true)
-    × (every 8 (topicOkAt st s (peerIn st s .status) (peerIn st s .explicit)) ≡ true) =
-    λ s h. both (peerOk (peerIn st s)) (every 8 (topicOkAt st s (peerIn st s .status) (peerIn st s .explicit))) (every-at (slotOk st) 64 s (q .3) h) in
+    × (every topicCount (topicOkAt st s (peerIn st s .status) (peerIn st s .explicit)) ≡ true) =
+    λ s h. both (peerOk (peerIn st s)) (every topicCount (topicOkAt st s (peerIn st s .status) (peerIn st s .explicit))) (every-at (slotOk st) slotCount s (q .3) h) in
     record {
       params = q .0;
       clock = leb-true (st .clock) maxTime (q .1);
@@ -358,19 +362,33 @@ valid-facts st e =
           (every-at (topicOkAt st s (peerIn st s .status) (peerIn st s .explicit)) 8 t (slot s h .1) k);
       ids = λ s k h l.
           apart-is (peerIn st s .id) (peerIn st k .id)
-          (every-at (λ j. apart (peerIn st s .id) (peerIn st j .id)) s k (every-at (newId st) 64 s (q .4) h) l);
+          (every-at (λ j. apart (peerIn st s .id) (peerIn st j .id)) s k (every-at (newId st) slotCount s (q .4) h) l);
     }
 
 pub facts-valid : (st : State) → Facts st → valid st ≡ true
 unfolding valid joinedOk slotOk topicOkAt newId
 facts-valid st f =
-    let j : every 8 (joinedOk st) ≡ true = every-by (joinedOk st) 8 (λ t h. le-leb (joinedIn st t) 1 (f .joined t h)) in
-    let topics : (s : ℕ) → s < 64 → every 8 (topicOkAt st s (peerIn st s .status) (peerIn st s .explicit)) ≡ true =
+    let j : every topicCount (joinedOk st) ≡ true = every-by (joinedOk st) 8 (λ t h. le-leb (joinedIn st t) 1 (f .joined t h)) in
+    let topics : (s : ℕ) → s < slotCount → every topicCount (topicOkAt st s (peerIn st s .status) (peerIn st s .explicit)) ≡ true =
     λ s h. every-by (topicOkAt st s (peerIn st s .status) (peerIn st s .explicit)) 8 (λ t k.
     topic-holds (peerIn st s .status) (peerIn st s .explicit) (joinedIn st t) (st .clock) (cap2 st t) (cap3 st t) (topicIn st (place s t)) (f .topic s t h k)) in
-    let p : every 64 (slotOk st) ≡ true =
-    every-by (slotOk st) 64 (λ s h. rw (peer-holds (peerIn st s) (f .peer s h), topics s h)) in
-    let i : every 64 (newId st) ≡ true =
-    every-by (newId st) 64 (λ s h.
+    let p : every slotCount (slotOk st) ≡ true =
+    every-by (slotOk st) slotCount (λ s h. rw (peer-holds (peerIn st s) (f .peer s h), topics s h)) in
+    let i : every slotCount (newId st) ≡ true =
+    every-by (newId st) slotCount (λ s h.
     every-by (λ j. apart (peerIn st s .id) (peerIn st j .id)) s (λ k l. apart-by (peerIn st s .id) (peerIn st k .id) (f .ids s k h l))) in
     rw (f .params, le-leb (st .clock) maxTime (f .clock), j, p, i)
+
+-- ---- what the parameters add
+-- a cap is at most 10^6, and so are the counters
+pub cap2-most : (st : State) → Facts st → (t : ℕ) → t < topicCount → cap2 st t ≤ 1000000
+unfolding topicParam codeIn
+cap2-most st f t h = topic (st .codes) (f .params) t h .p2Cap-most
+
+pub cap3-most : (st : State) → Facts st → (t : ℕ) → t < topicCount → cap3 st t ≤ 1000000
+unfolding topicParam codeIn
+cap3-most st f t h = topic (st .codes) (f .params) t h .p3Cap-most
+
+-- P5 lies within 10^9 either way
+pub p5-size : (p : Peer) → PeerFacts p → natAbs (numberOf (p .p5)) ≤ 1000000000
+p5-size p f = rw (code-size (p .p5)) (omega (arith, f .p5))

@@ -3,7 +3,7 @@ ghost use mathlib.Core.Path.{_≡_};
 ghost use Prim.Native.Nat.{_<_};
 ghost use lib.ListN.{length};
 ghost use Rattle.index.specs.Index.{first};
-ghost use Rattle.records.specs.Records.{peerIn, isEmpty};
+ghost use Rattle.records.specs.Records.{peerIn, isEmpty, slotCount};
 ghost use Rattle.cells.specs.View.{stateOf, cellCount};
 ghost use Rattle.table.specs.Find.{holds, findConnected, findRetained, lowestEmpty};
 use index::Found;
@@ -11,7 +11,7 @@ use records::SLOTS;
 
 // Whether the record in a slot has this status and holds the id.
 fn holds(table: &[u64], status: u64, id: u64, slot: usize) -> bool
-    requires { ⌜ (length (now table) ≡ cellCount) × (slot < 64) ⌝ }
+    requires { ⌜ (length (now table) ≡ cellCount) × (slot < slotCount) ⌝ }
     ensures { λ r. ⌜ r ≡ holds (stateOf (now (table .entry))) status id slot ⌝ }
 {
     let own = cells::load_status(table, slot);
@@ -21,7 +21,7 @@ fn holds(table: &[u64], status: u64, id: u64, slot: usize) -> bool
 
 fn find(table: &[u64], status: u64, id: u64) -> Found
     requires { ⌜ length (now table) ≡ cellCount ⌝ }
-    ensures { λ r. ⌜ r ≡ first 64 (holds (stateOf (now (table .entry))) status id) ⌝ }
+    ensures { λ r. ⌜ r ≡ first slotCount (holds (stateOf (now (table .entry))) status id) ⌝ }
 {
     let mut slot: usize = 0;
     while slot < SLOTS {
@@ -50,7 +50,7 @@ pub fn find_retained(table: &[u64], id: u64) -> Found
 }
 
 fn is_empty(table: &[u64], slot: usize) -> bool
-    requires { ⌜ (length (now table) ≡ cellCount) × (slot < 64) ⌝ }
+    requires { ⌜ (length (now table) ≡ cellCount) × (slot < slotCount) ⌝ }
     ensures { λ r. ⌜ r ≡ isEmpty (peerIn (stateOf (now (table .entry))) slot) ⌝ }
 {
     cells::load_status(table, slot) == 0
@@ -61,14 +61,14 @@ pub fn lowest_empty(table: &[u64]) -> Found
     requires { ⌜ length (now table) ≡ cellCount ⌝ }
     ensures { λ r. ⌜ r ≡ lowestEmpty (stateOf (now (table .entry))) ⌝ }
 {
-    let mut slot: usize = 0;
+    let mut lowest: usize = 0;
     loop {
-        if SLOTS <= slot {
+        if SLOTS <= lowest {
             break Found::Nothing;
         }
-        if is_empty(table, slot) {
-            break Found::At(slot);
+        if is_empty(table, lowest) {
+            break Found::At(lowest);
         }
-        slot += 1;
+        lowest += 1;
     }
 }

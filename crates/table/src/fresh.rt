@@ -6,16 +6,17 @@ ghost use Rattle.groups.specs.Codes.{codeOf};
 ghost use Rattle.cells.specs.View.{cellCount, stateOf};
 ghost use Rattle.table.specs.Fresh.{freshState, Makes};
 use crate::Made;
+use cells::PARAMS;
 use index::Found;
 use params::Params;
 
 // The codes of the parameters.
-fn codes_of(params: Params) -> [u64; 147]
+fn codes_of(params: Params) -> [u64; PARAMS]
     ensures { λ r. ⌜ r ≡ map codeOf (params .numbers) ⌝ }
 {
-    let mut codes = [0u64; 147];
+    let mut codes = [0u64; PARAMS];
     let mut i: usize = 0;
-    while i < 147 {
+    while i < PARAMS {
         codes[i] = groups::code_of(params.numbers[i]);
         i += 1;
     }

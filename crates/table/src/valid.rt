@@ -5,7 +5,7 @@ ghost use Prim.Native.Nat.{ℕ, _+_, _*_, _/_, _≤_, _<_};
 ghost use lib.ListN.{length, getD};
 ghost use lib.Dec.{leb};
 ghost use Rattle.index.specs.Index.{every};
-ghost use Rattle.records.specs.Records.{peerIn};
+ghost use Rattle.records.specs.Records.{peerIn, slotCount, topicCount};
 ghost use Rattle.cells.specs.View.{stateOf, cellCount};
 ghost use Rattle.table.specs.Valid.{peerRanges, endsUpTo, zeroPeer, peerOk, topicRanges, zeroTopic, memberOk, topicOk, topicParam, joinedOk, topicOkAt, slotOk, apart, newId, valid};
 use records::Peer;
@@ -156,14 +156,14 @@ fn topic_ok(
 
 // The magnitude of topic t's j-th parameter.
 fn topic_param(table: &[u64], t: usize, j: usize) -> u64
-    requires { ⌜ (length (now table) ≡ cellCount) × ((t < 8) × (j < 16)) ⌝ }
+    requires { ⌜ (length (now table) ≡ cellCount) × ((t < topicCount) × (j < 16)) ⌝ }
     ensures { λ r. ⌜ r ≡ topicParam (stateOf (now (table .entry))) t j ⌝ }
 {
     groups::code_size(cells::load_code(table, TOPIC_PARAMS + PER_TOPIC * t + j))
 }
 
 fn topic_at(table: &[u64], slot: usize, status: u64, explicit: u64, t: usize) -> bool
-    requires { ⌜ (length (now table) ≡ cellCount) × ((slot < 64) × (t < 8)) ⌝ }
+    requires { ⌜ (length (now table) ≡ cellCount) × ((slot < slotCount) × (t < topicCount)) ⌝ }
     ensures { λ r. ⌜ r ≡ topicOkAt (stateOf (now (table .entry))) slot status explicit t ⌝ }
 {
     let joined = cells::load_joined(table, t);
@@ -175,8 +175,8 @@ fn topic_at(table: &[u64], slot: usize, status: u64, explicit: u64, t: usize) ->
 }
 
 fn topics_ok(table: &[u64], slot: usize, status: u64, explicit: u64) -> bool
-    requires { ⌜ (length (now table) ≡ cellCount) × (slot < 64) ⌝ }
-    ensures { λ r. ⌜ r ≡ every 8 (topicOkAt (stateOf (now (table .entry))) slot status explicit) ⌝ }
+    requires { ⌜ (length (now table) ≡ cellCount) × (slot < slotCount) ⌝ }
+    ensures { λ r. ⌜ r ≡ every topicCount (topicOkAt (stateOf (now (table .entry))) slot status explicit) ⌝ }
 {
     let mut ok = true;
     let mut t: usize = 0;
@@ -188,7 +188,7 @@ fn topics_ok(table: &[u64], slot: usize, status: u64, explicit: u64) -> bool
 }
 
 fn slot_ok(table: &[u64], slot: usize) -> bool
-    requires { ⌜ (length (now table) ≡ cellCount) × (slot < 64) ⌝ }
+    requires { ⌜ (length (now table) ≡ cellCount) × (slot < slotCount) ⌝ }
     ensures { λ r. ⌜ r ≡ slotOk (stateOf (now (table .entry))) slot ⌝ }
 {
     let p = cells::load_peer(table, slot);
@@ -199,7 +199,7 @@ fn slot_ok(table: &[u64], slot: usize) -> bool
 
 fn slots_ok(table: &[u64]) -> bool
     requires { ⌜ length (now table) ≡ cellCount ⌝ }
-    ensures { λ r. ⌜ r ≡ every 64 (slotOk (stateOf (now (table .entry)))) ⌝ }
+    ensures { λ r. ⌜ r ≡ every slotCount (slotOk (stateOf (now (table .entry)))) ⌝ }
 {
     let mut ok = true;
     let mut slot: usize = 0;
@@ -211,7 +211,7 @@ fn slots_ok(table: &[u64]) -> bool
 }
 
 fn joined_at(table: &[u64], t: usize) -> bool
-    requires { ⌜ (length (now table) ≡ cellCount) × (t < 8) ⌝ }
+    requires { ⌜ (length (now table) ≡ cellCount) × (t < topicCount) ⌝ }
     ensures { λ r. ⌜ r ≡ joinedOk (stateOf (now (table .entry))) t ⌝ }
 {
     cells::load_joined(table, t) <= 1
@@ -219,7 +219,7 @@ fn joined_at(table: &[u64], t: usize) -> bool
 
 fn joined_ok(table: &[u64]) -> bool
     requires { ⌜ length (now table) ≡ cellCount ⌝ }
-    ensures { λ r. ⌜ r ≡ every 8 (joinedOk (stateOf (now (table .entry)))) ⌝ }
+    ensures { λ r. ⌜ r ≡ every topicCount (joinedOk (stateOf (now (table .entry)))) ⌝ }
 {
     let mut ok = true;
     let mut t: usize = 0;
@@ -231,11 +231,11 @@ fn joined_ok(table: &[u64]) -> bool
 }
 
 // The ids by slot, side by side, so that they are compared fast.
-fn ids_of(table: &[u64]) -> [u64; 64]
+fn ids_of(table: &[u64]) -> [u64; SLOTS]
     requires { ⌜ length (now table) ≡ cellCount ⌝ }
-    ensures { λ r. ⌜ ((k : ℕ) → k < 64 → getD r k 0 ≡ peerIn (stateOf (now (table .entry))) k .id) ⌝ }
+    ensures { λ r. ⌜ ((k : ℕ) → k < slotCount → getD r k 0 ≡ peerIn (stateOf (now (table .entry))) k .id) ⌝ }
 {
-    let mut ids = [0u64; 64];
+    let mut ids = [0u64; SLOTS];
     let mut slot: usize = 0;
     while slot < SLOTS {
         ids[slot] = cells::load_id(table, slot);
@@ -252,8 +252,8 @@ fn apart(a: u64, b: u64) -> bool
 }
 
 // Whether the id in a slot stands in no lower slot.
-fn new_id(ids: [u64; 64], slot: usize) -> bool
-    requires { ⌜ slot < 64 ⌝ }
+fn new_id(ids: [u64; SLOTS], slot: usize) -> bool
+    requires { ⌜ slot < slotCount ⌝ }
     ensures { λ r. ⌜ r ≡ every slot (λ k. apart (getD ids slot 0) (getD ids k 0)) ⌝ }
 {
     let id = ids[slot];
@@ -266,8 +266,8 @@ fn new_id(ids: [u64; 64], slot: usize) -> bool
     ok
 }
 
-fn new_ids(ids: [u64; 64]) -> bool
-    ensures { λ r. ⌜ r ≡ every 64 (λ s. every s (λ k. apart (getD ids s 0) (getD ids k 0))) ⌝ }
+fn new_ids(ids: [u64; SLOTS]) -> bool
+    ensures { λ r. ⌜ r ≡ every slotCount (λ s. every s (λ k. apart (getD ids s 0) (getD ids k 0))) ⌝ }
 {
     let mut ok = true;
     let mut slot: usize = 0;
@@ -280,7 +280,7 @@ fn new_ids(ids: [u64; 64]) -> bool
 
 fn ids_distinct(table: &[u64]) -> bool
     requires { ⌜ length (now table) ≡ cellCount ⌝ }
-    ensures { λ r. ⌜ r ≡ every 64 (newId (stateOf (now (table .entry)))) ⌝ }
+    ensures { λ r. ⌜ r ≡ every slotCount (newId (stateOf (now (table .entry)))) ⌝ }
 {
     let ids = ids_of(table);
     new_ids(ids)

@@ -1,8 +1,8 @@
 //! Compares the first program's reading of parameters with the reference:
 //! `compare_params FIRST-PROGRAM [COUNT] [SEED]`.
 
-use reference::random::Random;
 use reference::generate::params as generate_params;
+use reference::random::Random;
 use reference::{child, params};
 use std::collections::{BTreeMap, BTreeSet};
 use std::process::ExitCode;
@@ -32,6 +32,7 @@ fn compare(arguments: &[String]) -> Result<bool, String> {
     let program = arguments.first().ok_or("usage: compare_params FIRST-PROGRAM [COUNT] [SEED]")?;
     let count = number(arguments.get(1), COUNT as u64)? as usize;
     let seed = number(arguments.get(2), SEED)?;
+    child::check(program)?;
     println!("seed {seed}");
     let inputs = generate_params::inputs(count, &mut Random::new(seed));
     let mut kinds = BTreeMap::new();

@@ -2,13 +2,13 @@
 //! `compare_traces FIRST-PROGRAM [TRACES] [EVENTS-AT-LEAST] [SEED]
 //! [--without-heartbeat]`.
 
+use reference::child;
 use reference::coverage::Coverage;
 use reference::generate::traces;
 use reference::random::Random;
 use reference::shrink::shrink_trace;
 use reference::text::{self, Trace};
 use reference::trace::{self, Options};
-use reference::child;
 use std::process::ExitCode;
 
 const TRACES: u64 = 3000;
@@ -46,6 +46,7 @@ fn compare(arguments: &[String]) -> Result<bool, String> {
     let (least_traces, least_events) = (number(1, TRACES)?, number(2, EVENTS)?);
     let seed = number(3, SEED)?;
     let options = Options { heartbeat: flags.is_empty() };
+    child::check(program)?;
     println!("seed {seed}");
     let mut random = Random::new(seed);
     let mut coverage = Coverage::default();

@@ -53,7 +53,7 @@ fn check(arguments: &[String]) -> Result<bool, String> {
     let mut random = Random::new(seed);
     let mut counts = Counts::default();
     for list in 0..lists {
-        let mut random = Random::new(random.next());
+        let mut random = Random::new(random.bits());
         let fresh = fresh_router(waive, &mut random);
         if let Err((calls, message)) = run_list(&fresh, calls, random, &mut counts) {
             report(&fresh, calls);

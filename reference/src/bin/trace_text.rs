@@ -29,6 +29,7 @@ fn output(words: &[&str]) -> Result<Vec<u8>, String> {
         ["encode"] => Ok(read_text()?.to_bytes()),
         ["decode"] => Ok(text::print(&Trace::from_bytes(&read_stdin()?)).into_bytes()),
         ["replay", program] => {
+            child::check(program)?;
             let trace = read_text()?;
             let printed = child::run(program, &trace.to_bytes())?;
             Ok(replay::columns(&trace, &String::from_utf8_lossy(&printed)).into_bytes())

@@ -170,8 +170,12 @@ impl Caller {
     }
 
     fn group(&mut self) -> u64 {
-        let group = self.random.next() % self.scene.groups;
-        if group == 3 { u64::from(u32::MAX) } else { group }
+        let group = self.random.bits() % self.scene.groups;
+        if group == 3 {
+            u64::from(u32::MAX)
+        } else {
+            group
+        }
     }
 
     fn name(&mut self) -> Vec<u8> {
@@ -321,7 +325,8 @@ impl Caller {
             0 => self.plan_arrival(),
             1 | 2 => self.plan_gathering(topic),
             3 | 4 => self.plan_crowding(topic),
-            5 => self.plan_departure(),
+            5 if self.random.chance(1, 2) => self.plan_departure(),
+            5 => self.plan_return(topic),
             6 | 7 => {
                 self.plan_judgement();
                 self.plan_heartbeats(topic);
@@ -412,6 +417,21 @@ impl Caller {
         let most = if self.random.chance(1, 4) { ids.len() } else { ids.len() / 3 };
         ids.truncate(self.random.below(most + 1));
         self.plan_for(&ids, |id| Call::Disconnect { id });
+    }
+
+    /// One peer goes, comes back, and enters the mesh again; its score then
+    /// tells what its record kept.
+    fn plan_return(&mut self, topic: u64) {
+        let id = self.id();
+        let away = 1 + self.random.below(20_000) as u64;
+        let connect = self.connect_of(id);
+        self.plan(Call::Disconnect { id });
+        self.queue.push_back((away, connect));
+        self.plan(Call::Score { id });
+        self.plan(Call::Subscribe { id, topic });
+        self.queue.push_back((25_000, Call::Graft { id, topic }));
+        self.queue.push_back((5_000, Call::Decay));
+        self.plan(Call::Score { id });
     }
 
     /// The host gives many peers a P5.

@@ -18,7 +18,7 @@ pub struct Generated {
 
 /// One trace; what it reaches is counted.
 pub fn trace(random: &mut Random, options: Options, coverage: &mut Coverage) -> Generated {
-    let mut random = Random::new(random.next());
+    let mut random = Random::new(random.bits());
     match random.below(160) {
         0..=3 => bad_params(&mut random, coverage),
         4 => limits(&mut random, options, coverage),
@@ -30,7 +30,7 @@ fn ordinary_trace(mut random: Random, options: Options, coverage: &mut Coverage)
     let params = params(&mut random);
     let length = length(&mut random);
     let scene = scene(length, &mut random, options.heartbeat);
-    let end = Random::new(random.next());
+    let end = Random::new(random.bits());
     let router = Router::new(params.clone()).expect("the parameters are good");
     let mut run = Run::new(Caller::new(router, scene, random), coverage);
     if run.caller.random.chance(2, 3) {
@@ -153,7 +153,8 @@ fn lively_topic(params: &mut Params, k: usize, random: &mut Random) {
         }
     }
     for place in [P2_DECAY, P3_DECAY, P4_DECAY] {
-        params.numbers[topic_index(k, place)] = random.between(500, field_at(topic_index(k, place)).high);
+        params.numbers[topic_index(k, place)] =
+            random.between(500, field_at(topic_index(k, place)).high);
     }
 }
 
@@ -188,8 +189,8 @@ fn ids(count: usize, random: &mut Random) -> Vec<u64> {
 fn length(random: &mut Random) -> usize {
     match random.below(20) {
         0 => 1000,
-        1..=4 => 200 + random.below(500),
-        _ => 1 + random.below(200),
+        1..=3 => 200 + random.below(400),
+        _ => 1 + random.below(160),
     }
 }
 
@@ -204,7 +205,7 @@ fn limits(random: &mut Random, options: Options, coverage: &mut Coverage) -> Gen
     params.numbers[general::W7] = -1;
     let router = Router::new(params.clone()).expect("the parameters are good");
     let scene = scene(0, random, options.heartbeat);
-    let mut run = Run::new(Caller::new(router, scene, Random::new(random.next())), coverage);
+    let mut run = Run::new(Caller::new(router, scene, Random::new(random.bits())), coverage);
     let explicit = random.chance(1, 2);
     let flags = if explicit { 2 } else { random.below(2) as u64 };
     let name = b"/meshsub/1.1.0".to_vec();
@@ -223,7 +224,7 @@ fn limits(random: &mut Random, options: Options, coverage: &mut Coverage) -> Gen
             run.push(Event { now: count, call: Call::Score { id } });
         }
     }
-    run.finish(params, Random::new(random.next()), options)
+    run.finish(params, Random::new(random.bits()), options)
 }
 
 /// Parameters that are mostly refused, with bytes after them all the same.
@@ -277,7 +278,7 @@ fn damage(pieces: &mut Vec<Vec<u8>>, place: usize, name: &str, random: &mut Rand
         0 => pieces.truncate(place),
         1 => {
             pieces.truncate(place);
-            pieces.push(vec![0x80 | random.next() as u8; groups_before_end]);
+            pieces.push(vec![0x80 | random.bits() as u8; groups_before_end]);
         }
         2 => generate_params::overlong(&mut pieces[place], random),
         3 if name == "name length" => {

@@ -53,7 +53,8 @@ impl Router {
     ) -> Result<(), Refusal> {
         let slot = self.connected(id)?;
         refuse_if(!self.joined[topic] || self.graylisted(slot), Refusal::Ignored)?;
-        let seconds = if seconds == 0 { self.prune_backoff() } else { seconds.min(LONGEST_BACKOFF) };
+        let seconds =
+            if seconds == 0 { self.prune_backoff() } else { seconds.min(LONGEST_BACKOFF) };
         let peer = &mut self.peers[slot];
         peer.leave_mesh(topic);
         peer.extend_backoff(topic, now + 1000 * seconds);
@@ -103,7 +104,13 @@ impl Router {
     }
 
     /// Takes a candidate into the mesh and tells it.
-    pub(super) fn send_graft(&mut self, slot: usize, topic: usize, now: u64, actions: &mut Actions) {
+    pub(super) fn send_graft(
+        &mut self,
+        slot: usize,
+        topic: usize,
+        now: u64,
+        actions: &mut Actions,
+    ) {
         self.enter_mesh(slot, topic, now);
         actions.push([GRAFT, self.peers[slot].id, 0]);
     }

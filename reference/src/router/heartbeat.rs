@@ -129,12 +129,12 @@ impl Start<'_> {
         self.candidates.iter().copied().filter(|slot| !mesh.contains(slot))
     }
 
-    /// 1. "PRUNE negative members."
+    /// Step 1: "PRUNE negative members."
     fn negative(&self, mesh: &BTreeSet<usize>) -> Vec<usize> {
         mesh.iter().copied().filter(|&slot| self.scores[slot] < 0).collect()
     }
 
-    /// 2. "Under D_lo: graft candidates in draw order up to D."
+    /// Step 2: "Under D_lo: graft candidates in draw order up to D."
     fn fill(&self, mesh: &BTreeSet<usize>) -> Vec<usize> {
         if mesh.len() >= self.general(general::D_LO) {
             return Vec::new();
@@ -143,7 +143,7 @@ impl Start<'_> {
         self.candidates_outside(mesh).take(missing).collect()
     }
 
-    /// 3. "Over D_hi: keep the D_score best (ties in draw order), then others
+    /// Step 3: "Over D_hi: keep the D_score best (ties in draw order), then others
     /// in draw order to make D. ... PRUNE the rest." With it, how many swaps.
     fn surplus(&self, mesh: &BTreeSet<usize>) -> (Vec<usize>, usize) {
         if mesh.len() <= self.general(general::D_HI) {
@@ -152,6 +152,7 @@ impl Start<'_> {
         let best = self.best(mesh);
         let mut others: Vec<usize> = self.order.clone();
         others.retain(|slot| mesh.contains(slot) && !best.contains(slot));
+        // D_score passes D only where the rule against it is waived.
         let room = self.general(general::D).saturating_sub(best.len());
         let mut left_out = others.split_off(room);
         let swaps = self.swap_for_quota(&best, &mut others, &mut left_out);
@@ -175,8 +176,8 @@ impl Start<'_> {
     fn swap_for_quota(
         &self,
         best: &[usize],
-        others: &mut Vec<usize>,
-        left_out: &mut Vec<usize>,
+        others: &mut [usize],
+        left_out: &mut [usize],
     ) -> usize {
         let kept = best.iter().chain(others.iter());
         let outbound = kept.filter(|&&slot| self.outbound(slot)).count();
@@ -191,7 +192,7 @@ impl Start<'_> {
         swaps
     }
 
-    /// 4. "Under D_out outbound: graft outbound candidates not yet grafted, in
+    /// Step 4: "Under D_out outbound: graft outbound candidates not yet grafted, in
     /// draw order, until D_out or none is left."
     fn quota(&self, mesh: &BTreeSet<usize>) -> Vec<usize> {
         let outbound = mesh.iter().filter(|&&slot| self.outbound(slot)).count();
@@ -200,11 +201,10 @@ impl Start<'_> {
         candidates.take(missing).collect()
     }
 
-    /// 5. "Mesh ≥ 2 and median < threshold: graft up to 2 candidates not yet
+    /// Step 5: "Mesh ≥ 2 and median < threshold: graft up to 2 candidates not yet
     /// grafted with scores above the median, in draw order."
     fn opportunistic(&self, mesh: &BTreeSet<usize>) -> Vec<usize> {
-        let threshold =
-            self.router.params.general(general::OPPORTUNISTIC_THRESHOLD) * 1_000_000;
+        let threshold = self.router.params.general(general::OPPORTUNISTIC_THRESHOLD) * 1_000_000;
         if mesh.len() < 2 || self.median(mesh) >= threshold {
             return Vec::new();
         }

@@ -23,6 +23,4 @@ put-head-spec =
     (λ c κs. omega (arith, sizes (c .before .before .before .before .before .before .before .before .before .before)))
     (λ c κs. omega (arith, sizes (c .before .before .before .before .before .before .before .before .before .before .before .before .before .before)))
     (λ c. search needs)
-    (λ c.
-    let s = head-stored _ _ _ _ _ _ _ _ _ _ _ (c .before .before .before .before .before .before .before .before .before .before .before .before .before .before .put-decimal .ensures) (c .before .before .before .before .before .before .before .before .before .before .put-byte .ensures) (c .before .before .before .before .before .before .put-decimal2 .ensures) (c .before .before .put-byte2 .ensures) in
-    (s, omega (arith, sizes (c .before .before .before .before .before .before .before .before .before .before .before .before .before .before .before .before .before)))))
+    (λ c. (search (head-stored, needs), omega (arith, sizes (c .before .before .before .before .before .before .before .before .before .before .before .before .before .before .before .before .before)))))

@@ -1,4 +1,4 @@
-use borrow.Author.Tests.{ne-eqb}
+use borrow.Author.Tests.{eq-eqb, ne-eqb}
 use Rattle.effects.proofs.actions.told.Statement.{statement}
 use Rattle.effects.proofs.actions.told.Tie as tie
 
@@ -9,5 +9,5 @@ pub told-spec : {M : Type 1} → statement M
 told-spec =
     tie.close
     (tie.spec
-    (λ c. cc)
+    (λ c. rw (eq-eqb _ _ (c .if1 .taken)))
     returns-2)

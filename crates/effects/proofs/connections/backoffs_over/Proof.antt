@@ -1,5 +1,5 @@
 -- `effects::connections::backoffs_over`: the backoffs below t are over.
-use Rattle.index.proofs.Kit.{ℕ, _≤_, _-_, _≡_, true, not, sym, ap, _∙_, arith, needs, every}
+use Rattle.index.proofs.Kit.{ℕ, _≤_, _-_, _≡_, true, not, ap, arith, needs, every}
 use Rattle.index.proofs.Index.{every-none, every-more, every-out, every-in}
 use borrow.Author.Tests.{lt-ltb, le-ltb}
 use lib.ListN.{getD}

@@ -1,11 +1,17 @@
-use borrow.Author.Needs.{needs}
+use mathlib.Core.Path.{ap, _∙_}
+use Rattle.records.specs.Records.{State, noPeer, setPeer}
 use Rattle.effects.specs.Effects.{emptied}
+use borrow.Author.Needs.{needs}
 use Rattle.effects.proofs.connections.empty_slot.Statement.{statement}
 use Rattle.effects.proofs.connections.empty_slot.Tie as tie
 
 returns : tie.Need-returns
 unfolding emptied
-returns c = cc
+returns c =
+    let s = c .before .before .before .before .before .before .before .before .before .before .args .slot in
+    c .before .before .store-peer .ensures
+    ∙ ap (setPeer _ s) (c .before .before .before .empty-peer .ensures)
+    ∙ ap (λ (v : State). setPeer v s noPeer) (c .before .before .before .before .before .before .before .empty-topics .ensures)
 
 pub empty-slot-spec : {M : Type 1} → statement M
 empty-slot-spec =

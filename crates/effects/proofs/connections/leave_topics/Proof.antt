@@ -1,5 +1,5 @@
 -- `effects::connections::leave_topics`: after t turns the state has left the topics below t.
-use Rattle.index.proofs.Kit.{ℕ, _≤_, _-_, _≡_, sym, ap, _∙_, arith, needs, iter}
+use Rattle.index.proofs.Kit.{ℕ, _≤_, _-_, _≡_, sym, _∙_, arith, needs, iter}
 use Rattle.index.proofs.Index.{iter-none, iter-more, iter-done}
 use lib.ListN.{length}
 use Rattle.cells.specs.View.{cellCount, stateOf}

@@ -1,5 +1,5 @@
 -- `effects::connections::reclaim`: after `slot` turns the slots below it are reclaimed.
-use Rattle.index.proofs.Kit.{ℕ, _≤_, _-_, _≡_, sym, _∙_, arith, needs, iter}
+use Rattle.index.proofs.Kit.{_≤_, _-_, _≡_, sym, _∙_, arith, needs, iter}
 use Rattle.index.proofs.Index.{iter-none, iter-more, iter-done}
 use lib.ListN.{length}
 use Rattle.cells.specs.View.{cellCount, stateOf}

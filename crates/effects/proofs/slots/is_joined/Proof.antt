@@ -2,9 +2,12 @@ use borrow.Author.Needs.{needs}
 use Rattle.effects.proofs.slots.is_joined.Statement.{statement}
 use Rattle.effects.proofs.slots.is_joined.Tie as tie
 
+returns : tie.Need-returns
+returns c = rw (c .load-joined .ensures)
+
 pub is-joined-spec : {M : Type 1} → statement M
 is-joined-spec =
     tie.close
     (tie.spec
     (λ c κs. search needs)
-    (λ c. cc))
+    returns)

@@ -5,7 +5,7 @@ use Rattle.effects.proofs.slots.is_member.Tie as tie
 
 returns : tie.Need-returns
 unfolding isMember
-returns c = cc
+returns c = rw (c .load-member .ensures)
 
 pub is-member-spec : {M : Type 1} → statement M
 is-member-spec =

@@ -1,6 +1,6 @@
 -- `effects::slots::mesh_size`: after `slot` turns n is the count below `slot`.
-use Rattle.index.proofs.Kit.{ℕ, _≤_, _-_, _≡_, sym, ap, _∙_, arith, needs, count}
-use Rattle.index.proofs.Index.{count-none, count-more, count-done, count-bound}
+use Rattle.index.proofs.Kit.{ℕ, _≤_, _-_, _≡_, sym, ap, _∙_, arith, needs, count, one}
+use Rattle.index.proofs.Index.{count-none, count-more, count-done}
 use Prim.Native.Nat.{_+_}
 use Rattle.cells.specs.View.{stateOf}
 use Rattle.effects.specs.Effects.{isMember, meshSize}
@@ -18,7 +18,7 @@ loop-again c =
     let l = c .before .before .before .loop in
     let f = isMember (stateOf (c .before .before .before .before .before .args .table .now)) (c .before .before .before .before .before .args .topic) in (
       omega arith,
-      ap (λ (k : ℕ). l .n + k) (c .one-if .ensures .0 ∙ ap Rattle.index.specs.Index.one (c .before .is-member .ensures)) ∙ count-more f (l .slot) (l .n) (l .inv .1),
+      ap (λ (k : ℕ). l .n + k) (c .one-if .ensures .0 ∙ ap one (c .before .is-member .ensures)) ∙ count-more f (l .slot) (l .n) (l .inv .1),
       omega arith,
     )
 

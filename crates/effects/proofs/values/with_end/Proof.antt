@@ -5,7 +5,7 @@ use Rattle.effects.proofs.values.with_end.Tie as tie
 
 returns : tie.Need-returns
 unfolding withEnd
-returns c = cc
+returns c = rw (c .later .ensures)
 
 pub with-end-spec : {M : Type 1} → statement M
 with-end-spec =

@@ -1,6 +1,5 @@
 -- `score::of_slot::shares` meets its contract. Assumes nothing.
 use borrow.Author.Needs.{needs}
-use mathlib.Core.Path.{ap}
 use Rattle.score.proofs.SlotLaws.{shares-yes, shares-no}
 use Rattle.score.proofs.of_slot.shares.Statement.{statement}
 use Rattle.score.proofs.of_slot.shares.Tie as tie

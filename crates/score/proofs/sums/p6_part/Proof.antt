@@ -1,9 +1,6 @@
 -- `score::sums::p6_part` meets its contract. Assumes nothing.
 use native.Mathlib.Omega.{arith}
 use borrow.Author.Needs.{needs}
-use mathlib.Core.Path.{_∙_, ap}
-use Prim.Native.Nat.{ℕ, _*_}
-use Rattle.score.specs.Parts.{square}
 use Rattle.score.proofs.sums.p6_part.Statement.{statement}
 use Rattle.score.proofs.sums.p6_part.Tie as tie
 

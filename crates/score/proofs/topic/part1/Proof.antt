@@ -2,7 +2,7 @@
 use Prim.Native.Nat.{ℕ, _*_}
 use native.Mathlib.Omega.{arith}
 use borrow.Author.Needs.{needs}
-use mathlib.Core.Path.{_≡_, ap, _∙_}
+use mathlib.Core.Path.{ap, _∙_}
 use Rattle.score.proofs.PartLaws.{part1-member, part1-other}
 use Rattle.score.proofs.topic.part1.Statement.{statement}
 use Rattle.score.proofs.topic.part1.Tie as tie

@@ -1,7 +1,7 @@
 -- `score::topic::part3` meets its contract. Assumes nothing.
 use native.Mathlib.Omega.{arith}
 use borrow.Author.Needs.{needs}
-use mathlib.Core.Path.{_≡_, ap, _∙_}
+use mathlib.Core.Path.{ap, _∙_}
 use Rattle.score.specs.Parts.{square}
 use Rattle.score.proofs.PartLaws.{part3-short, part3-none}
 use Rattle.score.proofs.topic.part3.Statement.{statement}

@@ -4,13 +4,14 @@ use Rattle.index.specs.declared.Found.the-variants.{Nothing}
 use Rattle.cells.specs.View.{stateOf}
 use Rattle.table.specs.Find.{holds}
 use Rattle.table.proofs.find.find.Statement.{statement}
+use Rattle.records.specs.Records.{slotCount}
 use Rattle.table.proofs.find.find.Tie as tie
 
 abbrev Inv-loop : tie.InvT-loop
-Inv-loop table status id slot₀ slot = (slot ≤ 64) × (first slot (holds (stateOf table) status id) ≡ Nothing)
+Inv-loop table status id slot₀ slot = (slot ≤ slotCount) × (first slot (holds (stateOf table) status id) ≡ Nothing)
 
 abbrev μ-loop : tie.MeasureT-loop
-μ-loop table status id slot₀ slot = 64 - slot
+μ-loop table status id slot₀ slot = slotCount - slot
 
 pub find-spec : {M : Type 1} → statement M
 find-spec =

@@ -1,17 +1,17 @@
 use Rattle.index.proofs.Kit.{_≤_, _-_, _≡_, first}
 use Rattle.index.proofs.Auto.{auto}
 use Rattle.index.specs.declared.Found.the-variants.{Nothing}
-use Rattle.records.specs.Records.{peerIn, isEmpty}
+use Rattle.records.specs.Records.{peerIn, isEmpty, slotCount}
 use Rattle.cells.specs.View.{stateOf}
 use Rattle.table.specs.Find.{lowestEmpty}
 use Rattle.table.proofs.find.lowest_empty.Statement.{statement}
 use Rattle.table.proofs.find.lowest_empty.Tie as tie
 
 abbrev Inv-loop : tie.InvT-loop
-Inv-loop table slot₀ slot = (slot ≤ 64) × (first slot (λ s. isEmpty (peerIn (stateOf table) s)) ≡ Nothing)
+Inv-loop table slot₀ slot = (slot ≤ slotCount) × (first slot (λ s. isEmpty (peerIn (stateOf table) s)) ≡ Nothing)
 
 abbrev μ-loop : tie.MeasureT-loop
-μ-loop table slot₀ slot = 64 - slot
+μ-loop table slot₀ slot = slotCount - slot
 
 pub lowest-empty-spec : {M : Type 1} → statement M
 unfolding lowestEmpty

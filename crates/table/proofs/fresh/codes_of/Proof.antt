@@ -9,13 +9,14 @@ use Rattle.groups.specs.Codes.{codeOf}
 use Rattle.table.proofs.Loops.{fill-more}
 use Rattle.table.proofs.FreshLaws.{code-of-given, codes-all}
 use Rattle.table.proofs.fresh.codes_of.Statement.{statement}
+use Rattle.records.specs.Records.{paramCount}
 use Rattle.table.proofs.fresh.codes_of.Tie as tie
 
 abbrev Inv-loop : tie.InvT-loop
-Inv-loop params codes₀ i₀ codes i = (i ≤ 147) × (length codes ≡ 147) × ((k : ℕ) → k < i → getD codes k 0 ≡ codeOf (getD (params .numbers) k (pos 0)))
+Inv-loop params codes₀ i₀ codes i = (i ≤ paramCount) × (length codes ≡ paramCount) × ((k : ℕ) → k < i → getD codes k 0 ≡ codeOf (getD (params .numbers) k (pos 0)))
 
 abbrev μ-loop : tie.MeasureT-loop
-μ-loop params codes₀ i₀ codes i = 147 - i
+μ-loop params codes₀ i₀ codes i = paramCount - i
 
 pub codes-of-spec : {M : Type 1} → statement M
 codes-of-spec =
@@ -35,5 +36,5 @@ codes-of-spec =
     let l = c .before .before .before .loop in
     (omega arith, simp length-set (l .inv .1), fill-more (λ k. codeOf (getD (c .before .before .before .before .args .t1 .numbers) k (pos 0))) (l .codes) (l .i) (c .code-of .result) (omega arith) (l .inv .2) (code-of-given (getD (c .before .before .before .before .args .t1 .numbers) (l .i) (pos 0)) (c .code-of .result) (sfits-of (c .before .code-of-arg .given)) (c .code-of .ensures))))
     (λ c.
-    let n : length (c .before .before .args .t1 .numbers) ≡ 147 = search needs in
+    let n : length (c .before .before .args .t1 .numbers) ≡ paramCount = search needs in
     codes-all (c .before .loop .codes) (c .before .before .args .t1 .numbers) (c .before .loop .i) (c .before .loop .inv .1) n (omega arith) (c .before .loop .inv .2)))

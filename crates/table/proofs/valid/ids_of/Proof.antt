@@ -4,17 +4,17 @@ use native.Mathlib.Nat.{not-suc-le-zero}
 use native.Mathlib.Omega.{arith}
 use borrow.Author.Needs.{needs}
 use lib.ListN.{length, getD, length-set}
-use Rattle.records.specs.Records.{peerIn}
+use Rattle.records.specs.Records.{peerIn, slotCount}
 use Rattle.cells.specs.View.{stateOf}
 use Rattle.table.proofs.Loops.{fill-more}
 use Rattle.table.proofs.valid.ids_of.Statement.{statement}
 use Rattle.table.proofs.valid.ids_of.Tie as tie
 
 abbrev Inv-loop : tie.InvT-loop
-Inv-loop table ids₀ slot₀ ids slot = (slot ≤ 64) × (length ids ≡ 64) × ((k : ℕ) → k < slot → getD ids k 0 ≡ peerIn (stateOf table) k .id)
+Inv-loop table ids₀ slot₀ ids slot = (slot ≤ slotCount) × (length ids ≡ slotCount) × ((k : ℕ) → k < slot → getD ids k 0 ≡ peerIn (stateOf table) k .id)
 
 abbrev μ-loop : tie.MeasureT-loop
-μ-loop table ids₀ slot₀ ids slot = 64 - slot
+μ-loop table ids₀ slot₀ ids slot = slotCount - slot
 
 pub ids-of-spec : {M : Type 1} → statement M
 ids-of-spec =

@@ -6,10 +6,11 @@ use Rattle.cells.specs.View.{stateOf}
 use Rattle.table.specs.Valid.{joinedOk}
 use Rattle.table.proofs.Loops.{flag-loop}
 use Rattle.table.proofs.valid.joined_ok.Statement.{statement}
+use Rattle.records.specs.Records.{topicCount}
 use Rattle.table.proofs.valid.joined_ok.Tie as tie
 
 abbrev Inv-loop : tie.InvT-loop
-Inv-loop table ok₀ t₀ ok t = (t ≤ 8) × (ok ≡ every t (joinedOk (stateOf table)))
+Inv-loop table ok₀ t₀ ok t = (t ≤ topicCount) × (ok ≡ every t (joinedOk (stateOf table)))
 
 abbrev μ-loop : tie.MeasureT-loop
 μ-loop table ok₀ t₀ ok t = 8 - t

@@ -6,13 +6,14 @@ use Rattle.cells.specs.View.{stateOf}
 use Rattle.table.specs.Valid.{slotOk}
 use Rattle.table.proofs.Loops.{flag-loop}
 use Rattle.table.proofs.valid.slots_ok.Statement.{statement}
+use Rattle.records.specs.Records.{slotCount}
 use Rattle.table.proofs.valid.slots_ok.Tie as tie
 
 abbrev Inv-loop : tie.InvT-loop
-Inv-loop table ok₀ slot₀ ok slot = (slot ≤ 64) × (ok ≡ every slot (slotOk (stateOf table)))
+Inv-loop table ok₀ slot₀ ok slot = (slot ≤ slotCount) × (ok ≡ every slot (slotOk (stateOf table)))
 
 abbrev μ-loop : tie.MeasureT-loop
-μ-loop table ok₀ slot₀ ok slot = 64 - slot
+μ-loop table ok₀ slot₀ ok slot = slotCount - slot
 
 pub slots-ok-spec : {M : Type 1} → statement M
 slots-ok-spec =

@@ -6,10 +6,11 @@ use Rattle.cells.specs.View.{stateOf}
 use Rattle.table.specs.Valid.{topicOkAt}
 use Rattle.table.proofs.Loops.{flag-loop}
 use Rattle.table.proofs.valid.topics_ok.Statement.{statement}
+use Rattle.records.specs.Records.{topicCount}
 use Rattle.table.proofs.valid.topics_ok.Tie as tie
 
 abbrev Inv-loop : tie.InvT-loop
-Inv-loop table slot status explicit ok₀ t₀ ok t = (t ≤ 8) × (ok ≡ every t (topicOkAt (stateOf table) slot status explicit))
+Inv-loop table slot status explicit ok₀ t₀ ok t = (t ≤ topicCount) × (ok ≡ every t (topicOkAt (stateOf table) slot status explicit))
 
 abbrev μ-loop : tie.MeasureT-loop
 μ-loop table slot status explicit ok₀ t₀ ok t = 8 - t

@@ -1,0 +1,5 @@
+pub mod StepLaws
+pub mod MaintenanceLaws
+pub mod Bound
+pub mod ActionLaws
+pub mod Examples

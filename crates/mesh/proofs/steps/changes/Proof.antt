@@ -1,0 +1,16 @@
+-- `mesh::steps::changes` meets its contract.
+-- Assumes nothing.
+use Rattle.mesh.proofs.StepLaws.{changes-are}
+use Rattle.mesh.proofs.steps.changes.Statement.{statement}
+use Rattle.mesh.proofs.steps.changes.Tie as tie
+
+returns : tie.Need-returns
+returns c =
+    let c₄ = c .before .before .before .before in
+    let s = c₄ .before .before .before .before .before .before .args in
+    changes-are (s .start) (s .m) (c₄ .without .ensures) (c .before .before .before .without2 .ensures) (c .before .before .without3 .ensures)
+    (c .before .without4 .ensures)
+    (c .without5 .ensures)
+
+pub changes-spec : {M : Type 1} → statement M
+changes-spec = tie.close (tie.spec (λ c κs. tt) (λ c κs. tt) (λ c κs. tt) (λ c κs. tt) (λ c κs. tt) returns)

@@ -1,0 +1,52 @@
+-- `sets::over` meets its contract. The loop builds the set from the front.
+-- Assumes nothing.
+use Prim.Native.Nat.{_-_}
+use native.Mathlib.Omega.{arith}
+use borrow.Author.Needs.{needs}
+use mathlib.Core.Path.{_≡_, refl, _∙_}
+use mathlib.Core.Bool.{false}
+use lib.ListN.{length, getD}
+use lib.Dec.{ltb}
+use Rattle.records.specs.Records.{slotCount}
+use Rattle.sets.specs.Sets.{above}
+use Rattle.sets.proofs.Loops.{Built, built-none, built-more, built-done}
+use Rattle.sets.proofs.WalkLaws.{above-at, above-length}
+use Rattle.sets.proofs.over.Statement.{statement}
+use Rattle.sets.proofs.over.Tie as tie
+
+abbrev Inv-loop : tie.InvT-loop
+Inv-loop x scores r₀ i₀ r i = (length scores ≡ slotCount) × Built false (λ k. ltb x (getD scores k 0)) slotCount i r
+
+abbrev μ-loop : tie.MeasureT-loop
+μ-loop x scores r₀ i₀ r i = slotCount - i
+
+loop-holds : tie.Need-loop-holds Inv-loop μ-loop
+loop-holds c = (search needs, built-none _ _ _ _ refl)
+
+loop-again : tie.Need-loop-again Inv-loop μ-loop
+loop-again c =
+    let l = c .before .loop in
+    (l .inv .0, built-more _ _ _ (l .i) (l .r) _ (omega arith) (l .inv .1) refl)
+
+returns : tie.Need-returns Inv-loop μ-loop
+returns c =
+    let a = c .before .before .args in
+    let l = c .before .loop in
+    built-done _ _ _ (l .i) (l .r) (above (a .x) (a .t2)) (omega arith) (l .inv .1)
+    (above-length (a .x) (a .t2) ∙ l .inv .0)
+    (λ k h. above-at (a .x) (a .t2) k (let e = l .inv .0 in omega arith))
+
+pub over-spec : {M : Type 1} → statement M
+over-spec =
+    tie.close
+    (tie.spec
+    Inv-loop
+    μ-loop
+    loop-holds
+    (λ c. omega arith)
+    (λ c. omega arith)
+    (λ c. omega arith)
+    (λ c. omega arith)
+    (λ c. omega arith)
+    loop-again
+    returns)

@@ -1,0 +1,62 @@
+-- `sets::walks::best` meets its contract. The loop has the rest of the walk still to do.
+-- Assumes nothing.
+use Prim.Native.Nat.{ℕ, _+_, _-_, _≤_, _<_}
+use native.Mathlib.Omega.{arith}
+use borrow.Author.Needs.{needs}
+use mathlib.Core.Path.{_≡_, refl, sym, ap, _∙_}
+use mathlib.Core.Bool.{true, false}
+use mathlib.Core.Logic.{⊎-elim}
+use lib.ListN.{length, drop}
+use Rattle.records.specs.Records.{slotCount}
+use Rattle.sets.specs.Sets.{top}
+use Rattle.sets.proofs.WalkLaws.{top-step, top-end}
+use Rattle.sets.proofs.walks.best.Statement.{statement}
+use Rattle.sets.proofs.walks.best.Tie as tie
+
+abbrev Inv-loop : tie.InvT-loop
+Inv-loop scores p order best₀ i₀ best i =
+    (i ≤ slotCount) × (top slotCount scores p (drop i order) best ≡ top slotCount scores p order slotCount) × (length order ≡ slotCount)
+
+abbrev μ-loop : tie.MeasureT-loop
+μ-loop scores p order best₀ i₀ best i = slotCount - i
+
+loop-again : tie.Need-loop-again Inv-loop μ-loop
+loop-again c =
+    let a = c .before .before .before .before .args in
+    let l = c .before .before .before .loop in
+    let rest : ℕ → ℕ = λ s. top slotCount (a .scores) (a .p) (drop (l .i + 1) (a .t3)) s in
+    let lt : l .i < length (a .t3) = omega arith in
+    let e = c .before .beats .ensures in
+    ⊎-elim
+    (λ w. (
+      omega arith,
+      ap rest (w .1) ∙ sym (top-step (a .p) (a .t3) (l .i) lt true slotCount (a .scores) (l .best) (sym e ∙ w .0 .taken)) ∙ l .inv .1,
+      l .inv .2,
+    ))
+    (λ w. (
+      omega arith,
+      ap rest (w .1) ∙ sym (top-step (a .p) (a .t3) (l .i) lt false slotCount (a .scores) (l .best) (sym e ∙ w .0 .left)) ∙ l .inv .1,
+      l .inv .2,
+    ))
+    (c .if1 .came)
+
+returns : tie.Need-returns Inv-loop μ-loop
+returns c =
+    let a = c .before .before .args in
+    let l = c .before .loop in
+    sym (top-end (a .p) (a .t3) (l .i) (omega arith) slotCount (a .scores) (l .best)) ∙ l .inv .1
+
+pub best-spec : {M : Type 1} → statement M
+best-spec =
+    tie.close
+    (tie.spec
+    Inv-loop
+    μ-loop
+    (λ c. (search needs, refl, search needs))
+    (λ c. omega arith)
+    (λ c. omega arith)
+    (λ c κs. tt)
+    (λ c. omega arith)
+    (λ c. omega arith)
+    loop-again
+    returns)

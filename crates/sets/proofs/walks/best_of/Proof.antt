@@ -1,0 +1,73 @@
+-- `sets::walks::best_of` meets its contract. The loop has the best that are left still to take.
+-- Assumes nothing.
+use Prim.Native.Nat.{ℕ, _-_}
+use native.Mathlib.Omega.{arith}
+use mathlib.Core.Path.{_≡_, refl, sym, ap, _∙_}
+use mathlib.Core.Bool.{Bool, true, false}
+use mathlib.Core.List.{List}
+use lib.ListN.{length, set, length-set, replicate}
+use lib.Seq.{set-out}
+use Rattle.records.specs.Records.{slotCount}
+use Rattle.sets.specs.Sets.{top, bests}
+use Rattle.sets.proofs.WalkLaws.{bests-step, bests-end}
+use Rattle.sets.proofs.walks.best_of.Statement.{statement}
+use Rattle.sets.proofs.walks.best_of.Tie as tie
+
+abbrev Inv-loop : tie.InvT-loop
+Inv-loop k scores m order b₀ left₀ b left =
+    (bests slotCount scores m order left b ≡ bests slotCount scores m order k (replicate slotCount false))
+    × (length b ≡ slotCount)
+
+abbrev μ-loop : tie.MeasureT-loop
+μ-loop k scores m order b₀ left₀ b left = left
+
+loop-again : tie.Need-loop-again Inv-loop μ-loop
+loop-again c =
+    let a = c .before .before .before .before .before .args in
+    let l = c .before .before .before .before .loop in
+    let rest : List Bool → List Bool = bests slotCount (a .scores) (a .m) (a .order) (l .left - 1) in
+    let e = c .before .best .ensures
+    ∙ ap (λ (p : List Bool). top slotCount (a .scores) p (a .order) slotCount) (c .before .before .without .ensures) in (
+      ap (λ (s : ℕ). rest (set (l .b) s true)) e
+          ∙ sym (bests-step slotCount (a .scores) (a .m) (a .order) (l .left) (l .b) (omega arith))
+          ∙ l .inv .0,
+      length-set (l .b) (c .before .best .result) true ∙ l .inv .1,
+    )
+
+loop-again-2 : tie.Need-loop-again-2 Inv-loop μ-loop
+loop-again-2 c =
+    let a = c .before .before .before .before .before .args in
+    let l = c .before .before .before .before .loop in
+    let rest : List Bool → List Bool = bests slotCount (a .scores) (a .m) (a .order) (l .left - 1) in
+    let s = c .before .best .result in
+    let e = c .before .best .ensures
+    ∙ ap (λ (p : List Bool). top slotCount (a .scores) p (a .order) slotCount) (c .before .before .without .ensures) in (
+      ap rest (sym (set-out (l .b) s true (omega arith)))
+          ∙ ap (λ (s : ℕ). rest (set (l .b) s true)) e
+          ∙ sym (bests-step slotCount (a .scores) (a .m) (a .order) (l .left) (l .b) (omega arith))
+          ∙ l .inv .0,
+      l .inv .1,
+    )
+
+returns : tie.Need-returns Inv-loop μ-loop
+returns c =
+    let a = c .before .before .args in
+    let l = c .before .loop in
+    sym (bests-end slotCount (a .scores) (a .m) (a .order) (l .left) (l .b) (omega arith)) ∙ l .inv .0
+
+pub best-of-spec : {M : Type 1} → statement M
+best-of-spec =
+    tie.close
+    (tie.spec
+    Inv-loop
+    μ-loop
+    (λ c. (refl, refl))
+    (λ c. omega arith)
+    (λ c κs. tt)
+    (λ c κs. tt)
+    (λ c. c .if1 .taken)
+    (λ c. omega arith)
+    loop-again
+    (λ c. omega arith)
+    loop-again-2
+    returns)

@@ -1,0 +1,62 @@
+-- `sets::walks::last_of` meets its contract. The loop has the rest of the walk still to do.
+-- Assumes nothing.
+use Prim.Native.Nat.{ℕ, _+_, _-_, _≤_, _<_}
+use native.Mathlib.Omega.{arith}
+use borrow.Author.Needs.{needs}
+use mathlib.Core.Path.{_≡_, refl, sym, ap, _∙_}
+use mathlib.Core.Bool.{true, false}
+use mathlib.Core.Logic.{⊎-elim}
+use lib.ListN.{length, drop}
+use Rattle.records.specs.Records.{slotCount}
+use Rattle.sets.specs.Sets.{lastOf}
+use Rattle.sets.proofs.WalkLaws.{last-step, last-end}
+use Rattle.sets.proofs.walks.last_of.Statement.{statement}
+use Rattle.sets.proofs.walks.last_of.Tie as tie
+
+abbrev Inv-loop : tie.InvT-loop
+Inv-loop p order last₀ i₀ last i =
+    (i ≤ slotCount) × (lastOf p (drop i order) last ≡ lastOf p order slotCount) × (length order ≡ slotCount)
+
+abbrev μ-loop : tie.MeasureT-loop
+μ-loop p order last₀ i₀ last i = slotCount - i
+
+loop-again : tie.Need-loop-again Inv-loop μ-loop
+loop-again c =
+    let a = c .before .before .before .before .args in
+    let l = c .before .before .before .loop in
+    let rest : ℕ → ℕ = λ s. lastOf (a .p) (drop (l .i + 1) (a .t2)) s in
+    let lt : l .i < length (a .t2) = omega arith in
+    let e = c .before .has .ensures in
+    ⊎-elim
+    (λ w. (
+      omega arith,
+      ap rest (w .1) ∙ sym (last-step (a .p) (a .t2) (l .i) lt true (l .last) (sym e ∙ w .0 .taken)) ∙ l .inv .1,
+      l .inv .2,
+    ))
+    (λ w. (
+      omega arith,
+      ap rest (w .1) ∙ sym (last-step (a .p) (a .t2) (l .i) lt false (l .last) (sym e ∙ w .0 .left)) ∙ l .inv .1,
+      l .inv .2,
+    ))
+    (c .if1 .came)
+
+returns : tie.Need-returns Inv-loop μ-loop
+returns c =
+    let a = c .before .before .args in
+    let l = c .before .loop in
+    sym (last-end (a .p) (a .t2) (l .i) (omega arith) (l .last)) ∙ l .inv .1
+
+pub last-of-spec : {M : Type 1} → statement M
+last-of-spec =
+    tie.close
+    (tie.spec
+    Inv-loop
+    μ-loop
+    (λ c. (search needs, refl, search needs))
+    (λ c. omega arith)
+    (λ c. omega arith)
+    (λ c κs. tt)
+    (λ c. omega arith)
+    (λ c. omega arith)
+    loop-again
+    returns)

@@ -1,0 +1,100 @@
+-- `sets::walks::swapped` meets its contract. The loop has the swaps that are left still to make.
+-- Assumes nothing.
+use Prim.Native.Nat.{_-_, _≤_, _<_}
+use native.Mathlib.Omega.{arith}
+use mathlib.Core.Path.{_≡_, refl, sym, ap, _∙_}
+use Rattle.records.specs.Records.{slotCount}
+use Rattle.sets.specs.Sets.{size, both, comers, swapTo}
+use Rattle.sets.proofs.WalkLaws.{swap-end, swap-enough, swap-none, swap-go}
+use Rattle.sets.proofs.SwapLaws.{comers-is, once-is}
+use Rattle.sets.proofs.walks.swapped.Statement.{statement}
+use Rattle.sets.proofs.walks.swapped.Tie as tie
+
+abbrev Inv-loop : tie.InvT-loop
+Inv-loop out outbound order m b r₀ left₀ r left =
+    swapTo slotCount out outbound order m b left r ≡ swapTo slotCount out outbound order m b left₀ r₀
+
+abbrev μ-loop : tie.MeasureT-loop
+μ-loop out outbound order m b r₀ left₀ r left = left
+
+returns : tie.Need-returns Inv-loop μ-loop
+returns c =
+    let h = c .before .before .before .before .before .before in
+    let a = h .before .args in
+    let l = h .loop in
+    let e = ap size (c .before .before .meet2 .ensures) in
+    let n = c .before .count .ensures in
+    let enough : a .out ≤ size (both (l .r) (a .outbound)) = omega arith in
+    sym (swap-enough slotCount (a .out) (a .outbound) (a .order) (a .m) (a .b) (l .left) (l .r) enough) ∙ l .inv
+
+returns-2 : tie.Need-returns-2 Inv-loop μ-loop
+returns-2 c =
+    let h = c .before .before .before .before .before .before .before .before in
+    let a = h .before .args in
+    let l = h .loop in
+    let m = c .before .before .before .before .before .before .meet .ensures in
+    let w = c .before .before .before .before .before .without .ensures in
+    let e = ap size (comers-is slotCount (a .out) (a .outbound) (a .order) (a .m) (a .b) (l .r) m w) in
+    let n = c .before .count2 .ensures in
+    let z : size (comers slotCount (a .out) (a .outbound) (a .order) (a .m) (a .b) (l .r)) ≡ 0 = omega arith in
+    sym (swap-none slotCount (a .out) (a .outbound) (a .order) (a .m) (a .b) (l .left) (l .r) z) ∙ l .inv
+
+loop-again : tie.Need-loop-again Inv-loop μ-loop
+loop-again c =
+    let c₅ = c .before .before .before .before .before in
+    let c₉ = c₅ .before .before .before .before in
+    let c₁₂ = c₉ .before .before .before in
+    let h = c₁₂ .before .before in
+    let a = h .before .args in
+    let l = h .loop in
+    let m = c₁₂ .meet .ensures in
+    let w = c₉ .before .before .without .ensures in
+    let e₁ = ap size (c₉ .before .meet2 .ensures) in
+    let n₁ = c₉ .count .ensures in
+    let few : size (both (l .r) (a .outbound)) < a .out = let f = c₅ .before .before .before .if1 .left in omega arith in
+    let e₂ = ap size (comers-is slotCount (a .out) (a .outbound) (a .order) (a .m) (a .b) (l .r) m w) in
+    let n₂ = c₅ .before .before .count2 .ensures in
+    let some : 0 < size (comers slotCount (a .out) (a .outbound) (a .order) (a .m) (a .b) (l .r)) =
+    let f = c₅ .before .if2 .left in
+    omega arith in
+    let once =
+    once-is slotCount (a .out) (a .outbound) (a .order) (a .m) (a .b) (l .r) m w (c₅ .without2 .ensures)
+    (c .before .before .before .before .without3 .ensures)
+    (c .before .before .before .last-of .ensures)
+    (c .before .before .with .ensures)
+    (c .before .first-of .ensures)
+    (c .with2 .ensures) in
+    ap (swapTo slotCount (a .out) (a .outbound) (a .order) (a .m) (a .b) (l .left - 1)) once
+    ∙ sym (swap-go slotCount (a .out) (a .outbound) (a .order) (a .m) (a .b) (l .left) (l .r) (omega arith) few some)
+    ∙ l .inv
+
+returns-3 : tie.Need-returns-3 Inv-loop μ-loop
+returns-3 c =
+    let a = c .before .before .args in
+    let l = c .before .loop in
+    sym (swap-end slotCount (a .out) (a .outbound) (a .order) (a .m) (a .b) (l .left) (l .r) (omega arith)) ∙ l .inv
+
+pub swapped-spec : {M : Type 1} → statement M
+swapped-spec =
+    tie.close
+    (tie.spec
+    Inv-loop
+    μ-loop
+    (λ c. refl)
+    (λ c κs. tt)
+    (λ c κs. tt)
+    (λ c κs. tt)
+    (λ c κs. tt)
+    returns
+    (λ c κs. tt)
+    returns-2
+    (λ c κs. tt)
+    (λ c κs. tt)
+    (λ c κs. tt)
+    (λ c κs. tt)
+    (λ c κs. tt)
+    (λ c κs. tt)
+    (λ c. omega arith)
+    (λ c. omega arith)
+    loop-again
+    returns-3)

@@ -1,0 +1,132 @@
+// Walks along an order of slots: putting slots in, the first, the last and the best of a set, the swaps of step 3.
+ghost use mathlib.Core.Path.{_≡_};
+ghost use mathlib.Core.Bool.{_&&_, false};
+ghost use lib.ListN.{replicate};
+ghost use Rattle.records.specs.Records.{slotCount};
+ghost use Rattle.sets.specs.Sets.{at, takes, fill, better, top, bests, firstOf, lastOf, swapTo};
+use crate::count;
+use crate::has;
+use crate::meet;
+use crate::number_at;
+use crate::with;
+use crate::without;
+use records::SLOTS;
+
+// Whether the slot s is put in: there is room, it is in p and not yet in m.
+pub fn wanted(p: [bool; SLOTS], room: u64, m: [bool; SLOTS], s: u64) -> bool
+    ensures { λ r. ⌜ r ≡ takes p room m s ⌝ }
+{
+    (0 < room) & (has(p, s) & !has(m, s))
+}
+
+// Puts in, in the order, the first k slots of p that are not in m.
+pub fn put_in(p: [bool; SLOTS], k: u64, order: [u64; SLOTS], m: [bool; SLOTS]) -> [bool; SLOTS]
+    ensures { λ r. ⌜ r ≡ fill p k order m ⌝ }
+{
+    let mut r = m;
+    let mut room = k;
+    for i in 0..SLOTS {
+        let s = order[i];
+        if wanted(p, room, r, s) {
+            r[s as usize] = true;
+            room -= 1;
+        }
+    }
+    r
+}
+
+// The first slot of p in the order; SLOTS for none.
+pub fn first_of(p: [bool; SLOTS], order: [u64; SLOTS]) -> u64
+    ensures { λ r. ⌜ r ≡ firstOf p order slotCount ⌝ }
+{
+    for i in 0..SLOTS {
+        let s = order[i];
+        if has(p, s) {
+            return s;
+        }
+    }
+    SLOTS as u64
+}
+
+// The last slot of p in the order; SLOTS for none.
+pub fn last_of(p: [bool; SLOTS], order: [u64; SLOTS]) -> u64
+    ensures { λ r. ⌜ r ≡ lastOf p order slotCount ⌝ }
+{
+    let mut last = SLOTS as u64;
+    for i in 0..SLOTS {
+        let next = order[i];
+        if has(p, next) {
+            last = next;
+        }
+    }
+    last
+}
+
+// Whether s comes before best among the slots of p.
+pub fn beats(scores: [u64; SLOTS], p: [bool; SLOTS], best: u64, s: u64) -> bool
+    ensures { λ r. ⌜ r ≡ (at p s && better slotCount scores best s) ⌝ }
+{
+    has(p, s) & ((SLOTS as u64 <= best) | (number_at(scores, best) < number_at(scores, s)))
+}
+
+// The best of p, the first in the order of the highest score; SLOTS for none.
+pub fn best(scores: [u64; SLOTS], p: [bool; SLOTS], order: [u64; SLOTS]) -> u64
+    ensures { λ r. ⌜ r ≡ top slotCount scores p order slotCount ⌝ }
+{
+    let mut best = SLOTS as u64;
+    for i in 0..SLOTS {
+        let s = order[i];
+        if beats(scores, p, best, s) {
+            best = s;
+        }
+    }
+    best
+}
+
+// The k best of m.
+pub fn best_of(k: u64, scores: [u64; SLOTS], m: [bool; SLOTS], order: [u64; SLOTS]) -> [bool; SLOTS]
+    ensures { λ r. ⌜ r ≡ bests slotCount scores m order k (replicate slotCount false) ⌝ }
+{
+    let mut b = [false; SLOTS];
+    let mut left = k;
+    while 0 < left {
+        left -= 1;
+        let s = best(scores, without(m, b), order);
+        if s < SLOTS as u64 {
+            b[s as usize] = true;
+        }
+    }
+    b
+}
+
+// Step 3's swaps of the keepers k of the mesh m, whose best are b, until out of them are outbound or none is left.
+pub fn swapped(
+    out: u64,
+    outbound: [bool; SLOTS],
+    order: [u64; SLOTS],
+    m: [bool; SLOTS],
+    b: [bool; SLOTS],
+    k: [bool; SLOTS],
+) -> [bool; SLOTS]
+    ensures { λ r. ⌜ r ≡ swapTo slotCount out outbound order m b out k ⌝ }
+{
+    let mut r = k;
+    let mut left = out;
+    while 0 < left {
+        let comers = without(meet(m, outbound), r);
+        if out <= count(meet(r, outbound)) {
+            return r;
+        }
+        if count(comers) == 0 {
+            return r;
+        }
+        let goers = without(without(r, outbound), b);
+        r = with(
+            with(r, last_of(goers, order), false),
+            first_of(comers, order),
+            true,
+        );
+        left -= 1;
+    }
+    r
+}
