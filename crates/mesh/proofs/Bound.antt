@@ -34,6 +34,7 @@ use Rattle.mesh.specs.Maintenance.{
 }
 use Rattle.mesh.specs.declared.Degrees.{Degrees}
 use Rattle.mesh.specs.declared.View.{View}
+use Rattle.mesh.specs.declared.Meshes.{Meshes}
 use Rattle.sets.proofs.WalkLaws.{at-below, except-at, except-length}
 use Rattle.sets.proofs.CountLaws.{size-mono, size-set-le, set-drops, fill-upper}
 use Rattle.sets.proofs.SetLaws.{both-left, size-diff, size-apart}
@@ -109,6 +110,19 @@ on-length k p d h =
     let l = inOrder-length d p h in
     omega arith
 
+-- the steps change at most n slots
+record Few (n : ℕ) (start : List Bool) (m : Meshes) : Type 0 where
+  second : length (m .second) ≡ n
+  fourth : length (m .fourth) ≡ n
+  fifth : length (m .fifth) ≡ n
+  all :
+      size (except start (m .first))
+      + size (except (m .second) (m .first))
+      + size (except (m .second) (m .third))
+      + size (except (m .fourth) (m .third))
+      + size (except (m .fifth) (m .fourth))
+      ≤ n
+
 module _
     (n : ℕ) (t : Degrees) (v : View) (ru : Rules t) (w : Whole n v)
     (apart : (s : ℕ) → at (v .members) s ≡ true → at (v .candidates) s ≡ true → ⊥) where
@@ -142,18 +156,8 @@ module _
       let q = halves (at r s) (not (at a s)) (sym (except-at r a s) ∙ e) in
       ⊎-elim (λ b. absurd (false≢true (ap not (sym b) ∙ q .1))) (λ b. b) (h s (q .0))
 
-  changes :
-      let m₁ = mesh1 v in
-      let m₂ = mesh2 t v m₁ in
-      let m₃ = mesh3 n t v m₂ in
-      let m₄ = mesh4 t v m₃ in
-      let m₅ = mesh5 t v m₄ in
-      size (except (v .members) m₁)
-      + size (except m₂ m₁)
-      + size (except m₂ m₃)
-      + size (except m₄ m₃)
-      + size (except m₅ m₄)
-      ≤ n
+  changes : Few n (v .members) (meshes n t v)
+  unfolding meshes
   changes =
       let m₁ = mesh1 v in
       let l₁ = len1 n t v ru w in
@@ -177,16 +181,23 @@ module _
       let late : (s : ℕ) → at m₅ s ≡ true → (at m₃ s ≡ true) ⊎ (at (v .candidates) s ≡ true) = λ s x.
       ⊎-elim (λ y. a₄ .only s y) (λ y. inr y) (a₅ .only s x) in
       let c₃ = size-mono (except m₅ m₃) (v .candidates) (more m₃ m₅ late) in
-      ⊎-elim
-      (λ e. let q = ap size e in omega arith)
-      (λ e.
-      let q = ap size e in
-      let d₇ = size-diff m₁ m₅
-      (λ s x. up s (subst (λ (l : List Bool). at l s ≡ true) (sym e) (a₂ .sub s x))) in
-      let c₁ = size-mono (except m₅ m₁) (v .candidates)
-      (more m₁ m₅ (λ s x. ⊎-elim (λ y. a₂ .only s (k₃ .only s y)) (λ y. inr y) (late s x))) in
-      omega arith)
-      (idle m₁)
+      record {
+        second = a₂ .len;
+        fourth = a₄ .len;
+        fifth = a₅ .len;
+        all =
+            ⊎-elim
+            (λ e. let q = ap size e in omega arith)
+            (λ e.
+            let q = ap size e in
+            let d₇ =
+            size-diff m₁ m₅ (λ s x. up s (subst (λ (l : List Bool). at l s ≡ true) (sym e) (a₂ .sub s x))) in
+            let c₁ =
+            size-mono (except m₅ m₁) (v .candidates)
+            (more m₁ m₅ (λ s x. ⊎-elim (λ y. a₂ .only s (k₃ .only s y)) (λ y. inr y) (late s x))) in
+            omega arith)
+            (idle m₁);
+      }
 
   -- by slot, and in the order of the permutation
   by-slot : (p : List Bool) → length (actionsOn 2 p (ascending 0 n)) ≤ size p
@@ -202,24 +213,16 @@ module _
 
   -- at most one action a slot
   pub actions-length : length (actionsOf n (v .permutation) (changesOf (v .members) (meshes n t v))) ≤ n
-  unfolding actionsOf changesOf meshes
+  unfolding actionsOf changesOf
   actions-length =
-      let m₁ = mesh1 v in
-      let l₁ = len1 n t v ru w in
-      let a₂ = adds2 n t v ru w m₁ l₁ in
-      let m₂ = mesh2 t v m₁ in
-      let k₃ = keeps3 n t v ru w m₂ (a₂ .len) in
-      let m₃ = mesh3 n t v m₂ in
-      let a₄ = adds4 n t v ru w m₃ (k₃ .len) in
-      let m₄ = mesh4 t v m₃ in
-      let a₅ = adds5 n t v ru w m₄ (a₄ .len) in
-      let m₅ = mesh5 t v m₄ in
-      let b = changes in
-      let p₁ = by-slot (except (v .members) m₁) in
-      let g₂ = by-order (except m₂ m₁) (except-length m₂ m₁ ∙ a₂ .len) in
-      let p₃ = by-slot (except m₂ m₃) in
-      let g₄ = by-order (except m₄ m₃) (except-length m₄ m₃ ∙ a₄ .len) in
-      let g₅ = by-order (except m₅ m₄) (except-length m₅ m₄ ∙ a₅ .len) in
+      let m = meshes n t v in
+      let f = changes in
+      let sum = f .all in
+      let p₁ = by-slot (except (v .members) (m .first)) in
+      let g₂ = by-order (except (m .second) (m .first)) (except-length (m .second) (m .first) ∙ f .second) in
+      let p₃ = by-slot (except (m .second) (m .third)) in
+      let g₄ = by-order (except (m .fourth) (m .third)) (except-length (m .fourth) (m .third) ∙ f .fourth) in
+      let g₅ = by-order (except (m .fifth) (m .fourth)) (except-length (m .fifth) (m .fourth) ∙ f .fifth) in
       simp length-append (omega arith)
 
   -- a list of three numbers a slot is room enough

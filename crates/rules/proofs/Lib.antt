@@ -1,3 +1,9 @@
 pub mod GateLaws
 pub mod PromiseLaws
 pub mod StepLaws
+pub mod KeepsRecord
+pub mod KeepsState
+pub mod KeepsTopic
+pub mod KeepsPeer
+pub mod KeepsDecay
+pub mod Keeps

@@ -2,3 +2,4 @@ pub mod Reply
 pub mod Calls
 pub mod Step
 pub mod Promise
+pub mod Kept

@@ -7,7 +7,7 @@ use native.Mathlib.Omega.{arith}
 use mathlib.Core.Path.{_≡_, refl, sym, ap, ap₂, _∙_}
 use mathlib.Core.Bool.{Bool, true, false, not, cond, _&&_, false≢true}
 use mathlib.Core.Logic.{_⊎_, inl, inr, ⊎-elim}
-use mathlib.Core.List.{List, [], _∷_}
+use mathlib.Core.List.{List, [], _∷_, map}
 use lib.ListN.{length, getD, drop, drop-of-length-le}
 use lib.Dec.{ltb, leb}
 use borrow.Author.Tests.{lt-ltb, le-ltb, le-leb, lt-leb, ltb-true, leb-true, leb-false}
@@ -17,26 +17,36 @@ use Rattle.sets.specs.Sets.{at, size, except, from, above, insert, sort,
 use Rattle.sets.proofs.Loops.{drop-step}
 use Rattle.sets.proofs.CountLaws.{In}
 
--- how many elements are below x, and how many are not above x
-abbrev pub lower : ℕ → List ℕ → ℕ
-lower x [] = zero
-lower x (y ∷ l) = cond (ltb y x) (suc (lower x l)) (lower x l)
+-- how many elements pass a test
+abbrev passing : (ℕ → Bool) → List ℕ → ℕ
+passing f [] = zero
+passing f (y ∷ l) = cond (f y) (suc (passing f l)) (passing f l)
 
-abbrev pub upto : ℕ → List ℕ → ℕ
-upto x [] = zero
-upto x (y ∷ l) = cond (leb y x) (suc (upto x l)) (upto x l)
+passing-cons :
+    (f : ℕ → Bool) (y : ℕ) (l : List ℕ) (t : Bool) →
+    f y ≡ t →
+    passing f (y ∷ l) ≡ cond t (suc (passing f l)) (passing f l)
+passing-cons f y l t e = ap (λ (b : Bool). cond b (suc (passing f l)) (passing f l)) e
 
-lower-in : (x y : ℕ) (l : List ℕ) → y < x → lower x (y ∷ l) ≡ suc (lower x l)
-lower-in x y l h = ap (λ (b : Bool). cond b (suc (lower x l)) (lower x l)) (lt-ltb y x h)
+-- how many are below x, and how many are not above x
+abbrev lower : ℕ → List ℕ → ℕ
+lower x = passing (λ y. ltb y x)
 
-lower-out : (x y : ℕ) (l : List ℕ) → x ≤ y → lower x (y ∷ l) ≡ lower x l
-lower-out x y l h = ap (λ (b : Bool). cond b (suc (lower x l)) (lower x l)) (le-ltb y x h)
+abbrev upto : ℕ → List ℕ → ℕ
+upto x = passing (λ y. leb y x)
 
-upto-in : (x y : ℕ) (l : List ℕ) → y ≤ x → upto x (y ∷ l) ≡ suc (upto x l)
-upto-in x y l h = ap (λ (b : Bool). cond b (suc (upto x l)) (upto x l)) (le-leb y x h)
+module _ (x y : ℕ) (l : List ℕ) where
+  lower-in : y < x → lower x (y ∷ l) ≡ suc (lower x l)
+  lower-in h = passing-cons (λ z. ltb z x) y l true (lt-ltb y x h)
 
-upto-out : (x y : ℕ) (l : List ℕ) → x < y → upto x (y ∷ l) ≡ upto x l
-upto-out x y l h = ap (λ (b : Bool). cond b (suc (upto x l)) (upto x l)) (lt-leb y x h)
+  lower-out : x ≤ y → lower x (y ∷ l) ≡ lower x l
+  lower-out h = passing-cons (λ z. ltb z x) y l false (le-ltb y x h)
+
+  upto-in : y ≤ x → upto x (y ∷ l) ≡ suc (upto x l)
+  upto-in h = passing-cons (λ z. leb z x) y l true (le-leb y x h)
+
+  upto-out : x < y → upto x (y ∷ l) ≡ upto x l
+  upto-out h = passing-cons (λ z. leb z x) y l false (lt-leb y x h)
 
 -- ---- a count of a list that is the sum over its elements is the same of the sorted list
 module _ (μ : List ℕ → ℕ) (w : ℕ → ℕ) (one : (y : ℕ) (l : List ℕ) → μ (y ∷ l) ≡ w y + μ l) where
@@ -62,25 +72,12 @@ module _ (μ : List ℕ → ℕ) (w : ℕ → ℕ) (one : (y : ℕ) (l : List �
       let c = sort-count l in
       omega arith
 
-lower-one : (x y : ℕ) (l : List ℕ) → lower x (y ∷ l) ≡ cond (ltb y x) 1 0 + lower x l
-lower-one x y l = go (ltb y x)
+sort-passing : (f : ℕ → Bool) (l : List ℕ) → passing f (sort l) ≡ passing f l
+sort-passing f l = sort-count (passing f) (λ y. cond (f y) 1 0) (λ y k. one (f y) (passing f k)) l
   where
-    go : (b : Bool) → cond b (suc (lower x l)) (lower x l) ≡ cond b 1 0 + lower x l
-    go true = omega arith
-    go false = omega arith
-
-upto-one : (x y : ℕ) (l : List ℕ) → upto x (y ∷ l) ≡ cond (leb y x) 1 0 + upto x l
-upto-one x y l = go (leb y x)
-  where
-    go : (b : Bool) → cond b (suc (upto x l)) (upto x l) ≡ cond b 1 0 + upto x l
-    go true = omega arith
-    go false = omega arith
-
-sort-lower : (x : ℕ) (l : List ℕ) → lower x (sort l) ≡ lower x l
-sort-lower x l = sort-count (lower x) (λ y. cond (ltb y x) 1 0) (lower-one x) l
-
-sort-upto : (x : ℕ) (l : List ℕ) → upto x (sort l) ≡ upto x l
-sort-upto x l = sort-count (upto x) (λ y. cond (leb y x) 1 0) (upto-one x) l
+    one : (b : Bool) (n : ℕ) → cond b (suc n) n ≡ cond b 1 0 + n
+    one true n = omega arith
+    one false n = omega arith
 
 sort-length : (l : List ℕ) → length (sort l) ≡ length l
 sort-length l = sort-count length (λ y. 1) (λ y k. omega arith) l
@@ -129,14 +126,16 @@ getD-mem [] k h = absurd (not-suc-le-zero h)
 getD-mem (x ∷ l) zero h = inl refl
 getD-mem (x ∷ l) (suc k) h = inr (getD-mem l k (le-of-suc-le-suc h))
 
--- nothing of a sorted list is below its head
+none-passing : (f : ℕ → Bool) (l : List ℕ) → ((z : ℕ) → In z l → f z ≡ false) → passing f l ≡ 0
+none-passing f [] h = refl
+none-passing f (y ∷ l) h = passing-cons f y l false (h y (inl refl)) ∙ none-passing f l (λ z i. h z (inr i))
+
+-- nothing of a sorted list is below its head, and none is up to what is below it
 none-lower : (x : ℕ) (l : List ℕ) → ((z : ℕ) → In z l → x ≤ z) → lower x l ≡ 0
-none-lower x [] h = refl
-none-lower x (y ∷ l) h = lower-out x y l (h y (inl refl)) ∙ none-lower x l (λ z i. h z (inr i))
+none-lower x l h = none-passing (λ y. ltb y x) l (λ z i. le-ltb z x (h z i))
 
 none-upto : (x : ℕ) (l : List ℕ) → ((z : ℕ) → In z l → x < z) → upto x l ≡ 0
-none-upto x [] h = refl
-none-upto x (y ∷ l) h = upto-out x y l (h y (inl refl)) ∙ none-upto x l (λ z i. h z (inr i))
+none-upto x l h = none-passing (λ y. leb y x) l (λ z i. lt-leb z x (h z i))
 
 -- the element at k has at most k below it and more than k not above it
 at-counts : (l : List ℕ) → Sorted l → (k : ℕ) → k < length l → (lower (getD l k 0) l ≤ k) × (k < upto (getD l k 0) l)
@@ -206,35 +205,38 @@ unfolding size
 size-cons true m = refl
 size-cons false m = refl
 
-pub lower-size :
+-- the members whose score a test does not choose, counted
+unchosen :
+    (g f : ℕ → Bool) →
+    ((v : ℕ) → not (g v) ≡ f v) →
+    (m : List Bool) (sc : List ℕ) →
+    length m ≡ length sc →
+    size (except m (map g sc)) ≡ passing f (scoresOf m sc)
+unfolding size except scoresOf
+unchosen g f h [] sc e = refl
+unchosen g f h (true ∷ m) [] e = let z : ⊥ = omega arith in absurd z
+unchosen g f h (false ∷ m) [] e = let z : ⊥ = omega arith in absurd z
+unchosen g f h (true ∷ m) (v ∷ sc) e =
+    ap (λ (b : Bool). size (b ∷ except m (map g sc))) (h v)
+    ∙ size-cons (f v) (except m (map g sc))
+    ∙ ap (λ (k : ℕ). cond (f v) (suc k) k) (unchosen g f h m sc (suc-inj e))
+unchosen g f h (false ∷ m) (v ∷ sc) e = unchosen g f h m sc (suc-inj e)
+
+lower-size :
     (x : ℕ) (m : List Bool) (sc : List ℕ) →
     length m ≡ length sc →
     size (except m (from x sc)) ≡ lower x (scoresOf m sc)
-unfolding size except from scoresOf
-lower-size x [] sc e = refl
-lower-size x (true ∷ m) [] e = let z : ⊥ = omega arith in absurd z
-lower-size x (false ∷ m) [] e = let z : ⊥ = omega arith in absurd z
-lower-size x (true ∷ m) (v ∷ sc) e =
-    ap (λ (b : Bool). size (b ∷ except m (from x sc))) (not-leb x v)
-    ∙ size-cons (ltb v x) (except m (from x sc))
-    ∙ ap (λ (k : ℕ). cond (ltb v x) (suc k) k) (lower-size x m sc (suc-inj e))
-lower-size x (false ∷ m) (v ∷ sc) e = lower-size x m sc (suc-inj e)
+unfolding from
+lower-size x = unchosen (leb x) (λ y. ltb y x) (not-leb x)
 
-pub upto-size :
+upto-size :
     (x : ℕ) (m : List Bool) (sc : List ℕ) →
     length m ≡ length sc →
     size (except m (above x sc)) ≡ upto x (scoresOf m sc)
-unfolding size except above scoresOf
-upto-size x [] sc e = refl
-upto-size x (true ∷ m) [] e = let z : ⊥ = omega arith in absurd z
-upto-size x (false ∷ m) [] e = let z : ⊥ = omega arith in absurd z
-upto-size x (true ∷ m) (v ∷ sc) e =
-    ap (λ (b : Bool). size (b ∷ except m (above x sc))) (not-ltb x v)
-    ∙ size-cons (leb v x) (except m (above x sc))
-    ∙ ap (λ (k : ℕ). cond (leb v x) (suc k) k) (upto-size x m sc (suc-inj e))
-upto-size x (false ∷ m) (v ∷ sc) e = upto-size x m sc (suc-inj e)
+unfolding above
+upto-size x = unchosen (ltb x) (λ y. leb y x) (not-ltb x)
 
-pub scores-length : (m : List Bool) (sc : List ℕ) → length m ≡ length sc → length (scoresOf m sc) ≡ size m
+scores-length : (m : List Bool) (sc : List ℕ) → length m ≡ length sc → length (scoresOf m sc) ≡ size m
 unfolding size scoresOf
 scores-length [] sc e = refl
 scores-length (true ∷ m) [] e = let z : ⊥ = omega arith in absurd z
@@ -266,7 +268,9 @@ found-middle k M S (true ∷ m) (v ∷ sc) x i e =
     (λ t. ap (λ (b : Bool). isMiddle (cond b v (searchMiddle k M S m sc)) k M S) t ∙ t)
     (λ t.
     ap (λ (b : Bool). isMiddle (cond b v (searchMiddle k M S m sc)) k M S) t
-    ∙ ⊎-elim (λ q. absurd (false≢true (sym t ∙ sym (ap (λ (y : ℕ). isMiddle y k M S) q) ∙ e))) (λ j. found-middle k M S m sc x j e) i)
+    ∙ ⊎-elim (λ q. absurd (false≢true (sym t ∙ sym (ap (λ (y : ℕ). isMiddle y k M S) q) ∙ e)))
+    (λ j. found-middle k M S m sc x j e)
+    i)
 found-middle k M S (false ∷ m) (v ∷ sc) x i e = found-middle k M S m sc x i e
 
 -- so it finds the element at k of the sorted scores
@@ -284,22 +288,25 @@ middle-sorted k m sc e h =
     let c = at-counts s so k len in
     let a = lower-size x m sc e in
     let b = upto-size x m sc e in
-    let a′ = sort-lower x l in
-    let b′ = sort-upto x l in
+    let a′ = sort-passing (λ z. ltb z x) l in
+    let b′ = sort-passing (λ z. leb z x) l in
     let t : isMiddle x k m sc ≡ true =
     ap (λ (z : Bool). z && ltb k (size (except m (above x sc)))) (le-leb (size (except m (from x sc))) k (omega arith))
     ∙ lt-ltb k (size (except m (above x sc))) (omega arith) in
     let f = found-middle k m sc m sc x (sort-mem l x (getD-mem s k len)) t in
     let y = searchMiddle k m sc m sc in
-    let p = leb-true (size (except m (from y sc))) k (halves (leb (size (except m (from y sc))) k) (ltb k (size (except m (above y sc)))) f .0) in
-    let q = ltb-true k (size (except m (above y sc))) (halves (leb (size (except m (from y sc))) k) (ltb k (size (except m (above y sc)))) f .1) in
+    let r = halves (leb (size (except m (from y sc))) k) (ltb k (size (except m (above y sc)))) f in
+    let p = leb-true (size (except m (from y sc))) k (r .0) in
+    let q = ltb-true k (size (except m (above y sc))) (r .1) in
     let u = lower-size y m sc e in
     let w = upto-size y m sc e in
-    let u′ = sort-lower y l in
-    let w′ = sort-upto y l in
+    let u′ = sort-passing (λ z. ltb z y) l in
+    let w′ = sort-passing (λ z. leb z y) l in
     sym (only-at s so k y (omega arith) (omega arith))
 
-module _ (k : ℕ) (M : List Bool) (S : List ℕ) (m : List Bool) (sc : List ℕ) (i : ℕ) (hm : i < length m) (hs : i < length sc) where
+module _
+    (k : ℕ) (M : List Bool) (S : List ℕ) (m : List Bool) (sc : List ℕ) (i : ℕ)
+    (hm : i < length m) (hs : i < length sc) where
   middle-step :
       searchMiddle k M S (drop i m) (drop i sc)
       ≡ cond (at m i && isMiddle (getD sc i 0) k M S) (getD sc i 0) (searchMiddle k M S (drop (i + 1) m) (drop (i + 1) sc))

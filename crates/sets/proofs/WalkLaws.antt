@@ -6,11 +6,11 @@ use native.Mathlib.Omega.{arith}
 use mathlib.Core.Path.{_≡_, refl, sym, ap, _∙_}
 use mathlib.Core.Bool.{Bool, true, false, not, cond, _&&_, and-true, and-false, false≢true}
 use mathlib.Core.List.{List, [], _∷_}
-use lib.ListN.{length, getD, set, drop, drop-of-length-le}
+use lib.ListN.{length, getD, set, drop, drop-of-length-le, length-map}
 use lib.Dec.{ltb, leb}
 use borrow.Author.Tests.{lt-ltb, le-ltb, ltb-true}
 use Rattle.index.proofs.Index.{both as halves}
-use Rattle.sets.proofs.Loops.{drop-step}
+use Rattle.sets.proofs.Loops.{drop-step, map-at}
 use Rattle.sets.specs.Sets.{
   at,
   size,
@@ -70,25 +70,19 @@ except-length (x ∷ a) (y ∷ b) = ap suc (except-length a b)
 
 pub from-at : (x : ℕ) (sc : List ℕ) (k : ℕ) → k < length sc → at (from x sc) k ≡ leb x (getD sc k 0)
 unfolding from
-from-at x [] k h = absurd (not-suc-le-zero h)
-from-at x (v ∷ sc) zero h = refl
-from-at x (v ∷ sc) (suc k) h = from-at x sc k (le-of-suc-le-suc h)
+from-at x sc k h = map-at (leb x) sc k 0 false h
 
 pub from-length : (x : ℕ) (sc : List ℕ) → length (from x sc) ≡ length sc
 unfolding from
-from-length x [] = refl
-from-length x (v ∷ sc) = ap suc (from-length x sc)
+from-length x sc = length-map sc (leb x)
 
 pub above-at : (x : ℕ) (sc : List ℕ) (k : ℕ) → k < length sc → at (above x sc) k ≡ ltb x (getD sc k 0)
 unfolding above
-above-at x [] k h = absurd (not-suc-le-zero h)
-above-at x (v ∷ sc) zero h = refl
-above-at x (v ∷ sc) (suc k) h = above-at x sc k (le-of-suc-le-suc h)
+above-at x sc k h = map-at (ltb x) sc k 0 false h
 
 pub above-length : (x : ℕ) (sc : List ℕ) → length (above x sc) ≡ length sc
 unfolding above
-above-length x [] = refl
-above-length x (v ∷ sc) = ap suc (above-length x sc)
+above-length x sc = length-map sc (ltb x)
 
 -- ---- counting
 pub size-step :

@@ -3,7 +3,7 @@
 use Prim.Native.Nat.{ℕ, zero, suc, _-_}
 use mathlib.Core.Path.{_≡_}
 use mathlib.Core.Bool.{Bool, true, false, not, cond, _&&_, _||_}
-use mathlib.Core.List.{List, [], _∷_}
+use mathlib.Core.List.{List, [], _∷_, map}
 use lib.ListN.{length, getD, set}
 use lib.Dec.{ltb, leb, eqb}
 use Rattle.index.specs.Index.{every}
@@ -36,12 +36,10 @@ except (x ∷ a) (y ∷ b) = (x && not y) ∷ except a b
 
 -- the slots whose score is at least x, and those whose score is above x
 unfoldable pub from : ℕ → List ℕ → List Bool
-from x [] = []
-from x (v ∷ scores) = leb x v ∷ from x scores
+from x scores = map (leb x) scores
 
 unfoldable pub above : ℕ → List ℕ → List Bool
-above x [] = []
-above x (v ∷ scores) = ltb x v ∷ above x scores
+above x scores = map (ltb x) scores
 
 -- An order is a list of slots: the slot that stands first comes first. How often s stands in it
 unfoldable pub occurs : ℕ → List ℕ → ℕ

@@ -1,0 +1,4 @@
+pub mod CallLaws
+pub mod EndLaws
+pub mod PruneLaws
+pub mod GraftLaws

@@ -1,0 +1,129 @@
+// Leave, one of 01's calls: every member of the topic is pruned, by slot.
+ghost use mathlib.Core.Path.{_≡_};
+ghost use mathlib.Core.Bool.{false};
+ghost use Prim.Native.Nat.{ℕ, _+_, _<_, _≤_};
+ghost use lib.ListN.{length, getD};
+ghost use Rattle.cells.specs.View.{stateOf};
+ghost use Rattle.rules.specs.Calls.{leave as Calls·leave};
+ghost use Rattle.rules.specs.Step.{leaveReply, isNegative};
+ghost use Rattle.rules.specs.Promise.{Gives, Follows};
+ghost use Rattle.gate.specs.Ready.{Standing, Ready};
+ghost use Rattle.leaving.specs.Slots.{grownIf, Turn, Turned, Walk, Walked};
+use effects::actions::put_prune;
+use effects::slots::is_joined;
+use effects::slots::is_member;
+use effects::slots::load_size;
+use effects::slots::prune_slot;
+use effects::values::end_after;
+use gate::admit;
+use gate::ignore;
+use gate::is_negative;
+use gate::time_ok;
+use gate::topic_ok;
+use records::SLOTS;
+use rules::Answer;
+use rules::Gate;
+
+// Which slots score below zero; taken before anything changes, since the rule speaks of the call's start.
+fn negatives(table: &[u64]) -> [bool; 64]
+    requires { ⌜ Standing (now table) ⌝ }
+    ensures { λ r. ⌜ ((s : ℕ) → s < 64 → getD r s false ≡ isNegative (stateOf (now (table .entry))) s) ⌝ }
+{
+    let mut flags = [false; 64];
+    let mut slot: usize = 0;
+    while slot < SLOTS {
+        flags[slot] = is_negative(table, slot);
+        slot += 1;
+    }
+    flags
+}
+
+// A member that we PRUNE: its P3b grows where its score was negative at the start.
+fn punish(table: &mut [u64], topic: usize, slot: usize, negative: bool)
+    requires { ⌜ Turn (now table) topic slot ⌝ }
+    ensures { λ r. ⌜ stateOf (now (table .exit)) ≡ grownIf negative topic slot (stateOf (now (table .entry))) ⌝ }
+{
+    if negative {
+        let r = cells::load_topic(table, slot * 8 + topic);
+        let t = score::of_slot::load_params(table, topic);
+        cells::store_topic(table, slot * 8 + topic, score::counters::grown(t, r));
+    }
+}
+
+// PRUNEs a slot if it is a member, and writes its action at `at`; the place after it.
+fn leave_slot(
+    table: &mut [u64],
+    actions: &mut [u32],
+    at: usize,
+    topic: usize,
+    slot: usize,
+    end: u64,
+    seconds: u64,
+    negative: bool,
+) -> usize
+    requires { ⌜ Turn (now table) topic slot × ((at + 3 ≤ length (now actions)) × (seconds ≤ 4294967295)) ⌝ }
+    ensures { λ r. ⌜ Turned (stateOf (now (table .entry))) negative topic end seconds slot (now (table .exit)) (now (actions .entry)) (now (actions .exit)) at r ⌝ }
+{
+    if !is_member(table, topic, slot) {
+        return at;
+    }
+    punish(table, topic, slot, negative);
+    let p = cells::load_peer(table, slot);
+    prune_slot(table, topic, slot, end);
+    put_prune(actions, at, p, seconds)
+}
+
+// PRUNEs every member by slot; how many numbers were written.
+fn leave_slots(
+    table: &mut [u64],
+    actions: &mut [u32],
+    topic: usize,
+    end: u64,
+    seconds: u64,
+    negative: [bool; 64],
+) -> usize
+    requires { ⌜ Walk (now table) topic seconds negative (now actions) ⌝ }
+    ensures { λ r. ⌜ Walked (stateOf (now (table .entry))) topic end (now (table .exit)) (now (actions .entry)) (now (actions .exit)) r ⌝ }
+{
+    let mut at: usize = 0;
+    let mut slot: usize = 0;
+    while slot < SLOTS {
+        let flag = negative[slot];
+        at = leave_slot(table, actions, at, topic, slot, end, seconds, flag);
+        slot += 1;
+    }
+    at
+}
+
+fn leave_from(table: &mut [u64], time: u64, topic: usize, actions: &mut [u32]) -> Answer
+    requires { ⌜ Ready (now table) time × ((topic < 8) × (192 ≤ length (now actions))) ⌝ }
+    ensures { λ r. ⌜ Gives (leaveReply (stateOf (now (table .entry))) time topic) r (now (table .entry)) (now (table .exit)) (now (actions .entry)) (now (actions .exit)) ⌝ }
+{
+    if !is_joined(table, topic) {
+        return ignore(table, time);
+    }
+    let negative = negatives(table);
+    let seconds = load_size(table, 6);
+    let n = leave_slots(
+        table,
+        actions,
+        topic,
+        end_after(time, seconds),
+        seconds,
+        negative,
+    );
+    cells::store_joined(table, topic, 0);
+    cells::store_clock(table, time);
+    Answer::Done(n / 3)
+}
+
+// We leave a topic.
+pub fn leave(table: &mut [u64; 5340], time: u64, topic: u64, actions: &mut [u32]) -> Answer
+    ensures { λ r. ⌜ Follows (Calls·leave time topic) r (now (table .entry)) (now (table .exit)) (now (actions .entry)) (now (actions .exit)) ⌝ }
+{
+    let fine = time_ok(time) & topic_ok(topic);
+    match admit(table, fine, actions.len(), time) {
+        Gate::Refuse(a) => a,
+        Gate::Pass => leave_from(table, time, topic as usize, actions),
+    }
+}

@@ -1,0 +1,187 @@
+-- What the four calls come to at each of their ends.
+-- Assumes nothing.
+use Prim.Native.Nat.{ℕ, _<_}
+use mathlib.Core.Path.{_≡_, refl, sym, ap, ap₂, _∙_}
+use mathlib.Core.Bool.{Bool, _&&_}
+use mathlib.Core.List.{List, []}
+use lib.Dec.{leb}
+use lib.ListN.{length}
+use lib.IntN.{ℤ, natAbs}
+use mir.Val.{SFits, toZ, ofZ}
+use mir.Syntax.{w64}
+use mir.Facts.{toZ-ofZ}
+use Rattle.index.specs.declared.Found.{Found}
+use Rattle.index.specs.declared.Found.the-variants.{At, Nothing}
+use Rattle.index.specs.Index.{iter}
+use Rattle.index.proofs.Index.{first-is}
+use Rattle.records.specs.Records.{State, peerIn, isEmpty}
+use Rattle.cells.specs.View.{cellCount, stateOf, Sized}
+use Rattle.cells.proofs.StateLaws.{sized-of}
+use Rattle.cells.proofs.Whole.{determined}
+use Rattle.table.specs.Find.{holds, findConnected, findRetained, lowestEmpty}
+use Rattle.table.specs.declared.Named.{Named}
+use Rattle.table.specs.declared.Named.the-variants.{Version, Unknown}
+use Rattle.table.specs.Name.{versionOf}
+use Rattle.effects.specs.Effects.{onPeer, retainSeconds, retainedTo, endAfter, leftTopic, departed, reclaimed}
+use Rattle.effects.proofs.EffectLaws.{full-stays}
+use Rattle.rules.specs.declared.Answer.{Answer}
+use Rattle.rules.specs.declared.Answer.the-variants.{NoSlot, UnknownProtocol, AlreadyConnected}
+use Rattle.rules.specs.Reply.{Reply}
+use Rattle.rules.specs.Calls.{connect, disconnect, rate, score, idOk}
+use Rattle.rules.specs.Step.{effect, onVersion, connectAt, connectIn, connectReply}
+use Rattle.rules.specs.Promise.{Leaves}
+use Rattle.rules.proofs.PromiseLaws.{leaves-moved, leaves-refused}
+use Rattle.peers.proofs.AnswerLaws.{quiet-found, quiet-peer}
+
+-- ---- no action
+
+module _ (st : State) (time id : ℕ) where
+  pub quiet-disconnect : effect st (disconnect time id) .actions ≡ []
+  unfolding effect
+  quiet-disconnect = quiet-peer st id _ (λ s. refl)
+
+  pub quiet-rate : (p5 : ℤ) → effect st (rate time id p5) .actions ≡ []
+  unfolding effect
+  quiet-rate p5 = quiet-peer st id _ (λ s. refl)
+
+  pub quiet-score : effect st (score time id) .actions ≡ []
+  unfolding effect
+  quiet-score = quiet-peer st id _ (λ s. refl)
+
+-- ---- ranges of the arguments, as the code tests them
+
+-- a signed number comes back from its bits as it was
+pub p5-range :
+    (p5 : ℤ) (a b : Bool) (id : ℕ) →
+    SFits w64 p5 →
+    a ≡ idOk id →
+    b ≡ leb (natAbs (toZ w64 (ofZ w64 p5))) 1000000000 →
+    a && b ≡ idOk id && leb (natAbs p5) 1000000000
+p5-range p5 a b id f p q = ap₂ (λ (x y : Bool). x && y) p (rw (toZ-ofZ f) at q)
+
+pub connect-range :
+    (id group flags : ℕ) (a : Bool) →
+    a ≡ idOk id →
+    a && (leb group 4294967295 && leb flags 3) ≡ idOk id && (leb group 4294967295 && leb flags 3)
+connect-range id group flags a p = ap (λ (x : Bool). x && (leb group 4294967295 && leb flags 3)) p
+
+-- ---- disconnect: the end of the retain period, as it is computed
+
+pub departed-is :
+    (st u : State) (s time seconds end : ℕ) →
+    seconds ≡ retainSeconds st →
+    end ≡ endAfter time seconds →
+    u ≡ onPeer (iter 8 (λ t v. leftTopic v s t) st) s (λ p. retainedTo p end) →
+    u ≡ departed st s time
+unfolding departed
+departed-is st u s time seconds end p q e =
+    e
+    ∙ ap (λ (n : ℕ). onPeer (iter 8 (λ t v. leftTopic v s t) st) s (λ p. retainedTo p n))
+    (q ∙ ap (λ (n : ℕ). endAfter time n) p)
+
+-- ---- connect, once the name and the id are tested: `mid` is the table after reclaiming
+
+pub retained-below : (st : State) (id s : ℕ) (r : Found) → r ≡ findRetained st id → r ≡ At s → s < 64
+unfolding findRetained
+retained-below st id s r e g = first-is (holds st 2 id) 64 s (sym e ∙ g) .0
+
+pub empty-below : (st : State) (s : ℕ) (r : Found) → r ≡ lowestEmpty st → r ≡ At s → s < 64
+unfolding lowestEmpty
+empty-below st s r e g = first-is (λ i. isEmpty (peerIn st i)) 64 s (sym e ∙ g) .0
+
+full-as : (st : State) (time : ℕ) → Sized st → lowestEmpty (reclaimed st time) ≡ Nothing → reclaimed st time ≡ st
+unfolding lowestEmpty
+full-as st time size e = full-stays st time size e
+
+module _ (table mid : List ℕ) (time id group flags version : ℕ) (e : stateOf mid ≡ reclaimed (stateOf table) time) where
+  abbrev known : Reply
+  known = connectIn (stateOf table) (reclaimed (stateOf table) time) time id group flags version
+
+  -- what the record's slot leaves is no refusal, so it is the same from either table
+  pub connect-moved :
+      (s : ℕ) (a : Answer) (table′ : List ℕ) →
+      Leaves (connectAt (stateOf mid) time id group flags version s) a mid table′ →
+      Leaves (connectAt (stateOf mid) time id group flags version s) a table table′
+  unfolding connectAt
+  connect-moved s a table′ l = leaves-moved _ a table table′ (l .answer) refl (l .state)
+
+  module _ (r : Found) (p : r ≡ findRetained (stateOf mid) id) where
+    pub connect-retained :
+        (s : ℕ) (a : Answer) (table′ : List ℕ) →
+        r ≡ At s →
+        Leaves (connectAt (stateOf mid) time id group flags version s) a mid table′ →
+        Leaves known a table table′
+    unfolding connectIn
+    connect-retained s a table′ g l = rw (← e, ← p, g) (connect-moved s a table′ l)
+
+    module _ (n : r ≡ Nothing) (f : Found) (q : f ≡ lowestEmpty (stateOf mid)) where
+      pub connect-empty :
+          (s : ℕ) (a : Answer) (table′ : List ℕ) →
+          f ≡ At s →
+          Leaves (connectAt (stateOf mid) time id group flags version s) a mid table′ →
+          Leaves known a table table′
+      unfolding connectIn
+      connect-empty s a table′ g l = rw (← e, ← p, n, ← q, g) (connect-moved s a table′ l)
+
+      -- nothing empty after reclaiming: nothing was reclaimed, and no cell changed
+      pub connect-full :
+          length table ≡ cellCount →
+          length mid ≡ cellCount →
+          f ≡ Nothing →
+          Leaves known NoSlot table mid
+      unfolding connectIn
+      connect-full lt lm g =
+          let m : mid ≡ table = determined mid table lm lt (e ∙ full-as (stateOf table) time (sized-of table) (sym (ap lowestEmpty e) ∙ sym q ∙ g)) in
+          rw (← e, ← p, n, ← q, g) (record { answer = refl; state = ap stateOf m; kept = λ _. m })
+
+-- ---- connect: tests 6 and 4
+
+module _ (table name : List ℕ) (time id group flags : ℕ) (n : Named) (e : n ≡ versionOf name) where
+  abbrev reply : Reply
+  reply = connectReply (stateOf table) time id group flags name
+
+  pub connect-unknown : n ≡ Unknown → Leaves reply UnknownProtocol table table
+  unfolding connectReply
+  connect-unknown g = rw (← e, g) (leaves-refused UnknownProtocol table)
+
+  module _ (version : ℕ) (g : n ≡ Version version) (f : Found) (p : f ≡ findConnected (stateOf table) id) where
+    pub connect-already : (s : ℕ) → f ≡ At s → Leaves reply AlreadyConnected table table
+    unfolding connectReply
+    connect-already s h = rw (← e, g, ← p, h) (leaves-refused AlreadyConnected table)
+
+    pub connect-new :
+        (a : Answer) (table′ : List ℕ) →
+        f ≡ Nothing →
+        Leaves (connectIn (stateOf table) (reclaimed (stateOf table) time) time id group flags version) a table table′ →
+        Leaves reply a table table′
+    unfolding connectReply
+    connect-new a table′ h l = rw (← e, g, ← p, h) l
+
+-- ---- connect gives no action
+
+quiet-version :
+    (n : Named) (f : ℕ → Reply) (o : Reply) →
+    ((v : ℕ) → f v .actions ≡ []) →
+    o .actions ≡ [] →
+    onVersion n f o .actions ≡ []
+quiet-version (Version v) f o h k = h v
+quiet-version Unknown f o h k = k
+
+quiet-at : (st : State) (time id group flags version s : ℕ) → connectAt st time id group flags version s .actions ≡ []
+unfolding connectAt
+quiet-at st time id group flags version s = refl
+
+quiet-in : (st u : State) (time id group flags version : ℕ) → connectIn st u time id group flags version .actions ≡ []
+unfolding connectIn
+quiet-in st u time id group flags version =
+    quiet-found (findRetained u id) (connectAt u time id group flags version) _ (quiet-at u time id group flags version)
+    (quiet-found (lowestEmpty u) (connectAt u time id group flags version) _ (quiet-at u time id group flags version) refl)
+
+pub quiet-connect :
+    (st : State) (time id group flags : ℕ) (name : List ℕ) →
+    effect st (connect time id group flags name) .actions ≡ []
+unfolding effect connectReply
+quiet-connect st time id group flags name =
+    quiet-version (versionOf name) _ _
+    (λ v. quiet-found (findConnected st id) _ _ (λ s. refl) (quiet-in st (reclaimed st time) time id group flags v))
+    refl

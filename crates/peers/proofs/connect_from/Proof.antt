@@ -1,0 +1,35 @@
+-- `peers::connect_from` meets its contract.
+-- Assumes nothing.
+use borrow.Author.Needs.{needs}
+use Rattle.peers.proofs.PeerLaws.{connect-unknown, connect-already, connect-new}
+use Rattle.peers.proofs.connect_from.Statement.{statement}
+use Rattle.peers.proofs.connect_from.Tie as tie
+
+returns : tie.Need-returns
+returns c = connect-unknown _ _ _ _ _ _ _ (c .before .before .version-of .ensures) (c .enum-told .given .1)
+
+returns-2 : tie.Need-returns-2
+returns-2 c =
+    connect-already _ _ _ _ _ _ _ (c .before .before .before .before .before .before .before .version-of .ensures) _ (c .before .before .before .before .before .version .given .1) _ (search) _ (c .enum-told2 .given .1)
+
+returns-3 : tie.Need-returns-3
+returns-3 c =
+    connect-new _ _ _ _ _ _ _ (c .before .before .before .before .before .before .before .before .before .before .before .version-of .ensures) _ (c .before .before .before .before .before .before .before .before .before .version .given .1) _ (search) _ _
+    (c .before .before .before .before .enum-told3 .given .1) (c .before .before .connect-known .ensures)
+
+pub connect-from-spec : {M : Type 1} → statement M
+connect-from-spec =
+    tie.close
+    (tie.spec
+    (λ c κs. search needs)
+    (λ c. search needs)
+    (λ c. search needs)
+    returns
+    (λ c κs. search needs)
+    (λ c. search needs)
+    (λ c. search needs)
+    returns-2
+    (λ c. search needs)
+    (λ c κs. search needs)
+    (λ c. search needs)
+    returns-3)

@@ -1,0 +1,45 @@
+-- `peers::rate_from` meets its contract.
+-- Assumes nothing.
+use mathlib.Core.Path.{ap, _∙_}
+use Prim.Native.Nat.{ℕ}
+use native.Mathlib.Omega.{arith}
+use borrow.Author.Needs.{needs}
+use mir.Facts.{toZ-ofZ}
+use Rattle.cells.specs.View.{stateOf}
+use Rattle.effects.specs.Effects.{onPeer, withP5}
+use Rattle.rules.specs.Step.{effect}
+use Rattle.rules.proofs.StepLaws.{found-below, peer-none, peer-at}
+use Rattle.peers.proofs.AnswerLaws.{done-after}
+use Rattle.peers.proofs.rate_from.Statement.{statement}
+use Rattle.peers.proofs.rate_from.Tie as tie
+
+returns : tie.Need-returns
+unfolding effect
+returns c = peer-none _ _ _ _ (search) (c .enum-told .given .1)
+
+rate-slot-requires : tie.Need-rate-slot-requires
+rate-slot-requires c κs =
+    (c .before .before .before .before .before .before .before .before .pre .standing .size, omega (arith, found-below (stateOf (c .before .before .before .before .before .before .before .before .args .table .now)) (c .before .before .before .before .before .before .before .before .args .id) _ _ (search) (c .before .before .before .slot .given .1)))
+
+returns-2 : tie.Need-returns-2
+unfolding effect
+returns-2 c =
+    let start = c .before .before .before .before .before .before .before .before .before .before .before .before .before .before .before in
+    let k = c .before .before .before .before .before .before .before .before .before .before in
+    let e = c .before .before .before .before .before .before .rate-slot .ensures ∙ ap (λ (n : ℕ). onPeer (stateOf (start .args .table .now)) (k .slot .given .0 .0) (λ p. withP5 p n)) (rw (toZ-ofZ (start .fits .p5)) at (c .before .before .before .before .before .before .before .code-of .ensures)) in
+    peer-at _ _ _ _ (search) _ _ _ (k .slot .given .1) (done-after _ _ _ _ _ _ e (c .before .before .finish .ensures))
+
+pub rate-from-spec : {M : Type 1} → statement M
+rate-from-spec =
+    tie.close
+    (tie.spec
+    (λ c κs. search needs)
+    (λ c. search needs)
+    (λ c. search needs)
+    (λ c. search needs)
+    returns
+    (λ c κs. search needs)
+    rate-slot-requires
+    (λ c κs. search needs)
+    (λ c. search needs)
+    returns-2)

@@ -1,0 +1,181 @@
+// Connect, disconnect, setting P5, and the score: four of 01's calls. Each takes the lent table, a time, its arguments as wide numbers and a
+// lent action list, asks nothing of its caller, and promises the rules' reply (crate rules).
+ghost use mathlib.Core.Path.{_≡_};
+ghost use Prim.Native.Nat.{_<_};
+ghost use lib.ListN.{length};
+ghost use lib.Dec.{leb};
+ghost use lib.IntN.{natAbs};
+ghost use Rattle.cells.specs.View.{cellCount, stateOf};
+ghost use Rattle.rules.specs.Calls.{connect as Calls·connect, disconnect as Calls·disconnect, rate as Calls·rate, score as Calls·score};
+ghost use Rattle.rules.specs.Step.{effect, connectIn, connectAt, connectReply};
+ghost use Rattle.effects.specs.Effects.{reclaimed};
+ghost use Rattle.rules.specs.Promise.{Leaves, Follows};
+ghost use Rattle.gate.specs.Ready.{Ready};
+use effects::connections::connect_slot;
+use effects::connections::reclaim;
+use effects::connections::retain_slot;
+use effects::slots::load_size;
+use effects::slots::rate_slot;
+use effects::values::end_after;
+use gate::admit;
+use gate::finish;
+use gate::id_ok;
+use gate::time_ok;
+use index::Found;
+use rules::Answer;
+use rules::Gate;
+use table::Named;
+use table::find::find_connected;
+
+// A record in a slot becomes a connected one.
+fn connect_at(
+    table: &mut [u64],
+    time: u64,
+    id: u64,
+    group: u64,
+    flags: u64,
+    version: u64,
+    slot: usize,
+) -> Answer
+    requires { ⌜ (length (now table) ≡ cellCount) × (slot < 64) ⌝ }
+    ensures { λ r. ⌜ Leaves (connectAt (stateOf (now (table .entry))) time id group flags version slot) r (now (table .entry)) (now (table .exit)) ⌝ }
+{
+    connect_slot(table, slot, id, group, flags, version);
+    finish(table, time)
+}
+
+// A retained id resumes its record; another takes the lowest empty slot. Where none is empty after reclaiming, nothing was reclaimed.
+fn connect_known(
+    table: &mut [u64],
+    time: u64,
+    id: u64,
+    group: u64,
+    flags: u64,
+    version: u64,
+) -> Answer
+    requires { ⌜ Ready (now table) time ⌝ }
+    ensures { λ r. ⌜ Leaves (connectIn (stateOf (now (table .entry))) (reclaimed (stateOf (now (table .entry))) time) time id group flags version) r (now (table .entry)) (now (table .exit)) ⌝ }
+{
+    reclaim(table, time);
+    if let Found::At(slot) = table::find::find_retained(table, id) {
+        return connect_at(table, time, id, group, flags, version, slot);
+    }
+    let Found::At(slot) = table::find::lowest_empty(table) else {
+        return Answer::NoSlot;
+    };
+    connect_at(table, time, id, group, flags, version, slot)
+}
+
+// Tests 6 and 4.
+fn connect_from(
+    table: &mut [u64],
+    time: u64,
+    id: u64,
+    group: u64,
+    flags: u64,
+    name: &[u8],
+) -> Answer
+    requires { ⌜ Ready (now table) time ⌝ }
+    ensures { λ r. ⌜ Leaves (connectReply (stateOf (now (table .entry))) time id group flags (now (name .entry))) r (now (table .entry)) (now (table .exit)) ⌝ }
+{
+    let Named::Version(version) = table::name::version_of(name) else {
+        return Answer::UnknownProtocol;
+    };
+    if let Found::At(_) = find_connected(table, id) {
+        return Answer::AlreadyConnected;
+    }
+    connect_known(table, time, id, group, flags, version)
+}
+
+// A connection is there: flags are 1 outbound + 2 explicit, and the name is the protocol's.
+pub fn connect(
+    table: &mut [u64; 5340],
+    time: u64,
+    id: u64,
+    group: u64,
+    flags: u64,
+    name: &[u8],
+    actions: &mut [u32],
+) -> Answer
+    ensures { λ r. ⌜ Follows (Calls·connect time id group flags (now (name .entry))) r (now (table .entry)) (now (table .exit)) (now (actions .entry)) (now (actions .exit)) ⌝ }
+{
+    let fine = time_ok(time) & (id_ok(id) & ((group <= 4294967295) & (flags <= 3)));
+    match admit(table, fine, actions.len(), time) {
+        Gate::Refuse(a) => a,
+        Gate::Pass => connect_from(table, time, id, group, flags, name),
+    }
+}
+
+fn disconnect_from(table: &mut [u64], time: u64, id: u64) -> Answer
+    requires { ⌜ Ready (now table) time ⌝ }
+    ensures { λ r. ⌜ Leaves (effect (stateOf (now (table .entry))) (Calls·disconnect time id)) r (now (table .entry)) (now (table .exit)) ⌝ }
+{
+    let Found::At(slot) = find_connected(table, id) else {
+        return Answer::NotConnected;
+    };
+    retain_slot(table, slot, end_after(time, load_size(table, 7)));
+    finish(table, time)
+}
+
+// A connection is gone.
+pub fn disconnect(table: &mut [u64; 5340], time: u64, id: u64, actions: &mut [u32]) -> Answer
+    ensures { λ r. ⌜ Follows (Calls·disconnect time id) r (now (table .entry)) (now (table .exit)) (now (actions .entry)) (now (actions .exit)) ⌝ }
+{
+    let fine = time_ok(time) & id_ok(id);
+    match admit(table, fine, actions.len(), time) {
+        Gate::Refuse(a) => a,
+        Gate::Pass => disconnect_from(table, time, id),
+    }
+}
+
+// Whether P5 is within 10^9 millionths of zero.
+fn p5_ok(p5: i64) -> bool
+    ensures { λ r. ⌜ r ≡ leb (natAbs p5) 1000000000 ⌝ }
+{
+    groups::magnitude(p5) <= 1000000000
+}
+
+fn rate_from(table: &mut [u64], time: u64, id: u64, p5: i64) -> Answer
+    requires { ⌜ Ready (now table) time ⌝ }
+    ensures { λ r. ⌜ Leaves (effect (stateOf (now (table .entry))) (Calls·rate time id p5)) r (now (table .entry)) (now (table .exit)) ⌝ }
+{
+    let Found::At(slot) = find_connected(table, id) else {
+        return Answer::NotConnected;
+    };
+    rate_slot(table, slot, groups::code_of(p5));
+    finish(table, time)
+}
+
+// The host sets a peer's P5.
+pub fn rate(table: &mut [u64; 5340], time: u64, id: u64, p5: i64, actions: &mut [u32]) -> Answer
+    ensures { λ r. ⌜ Follows (Calls·rate time id p5) r (now (table .entry)) (now (table .exit)) (now (actions .entry)) (now (actions .exit)) ⌝ }
+{
+    let fine = time_ok(time) & (id_ok(id) & p5_ok(p5));
+    match admit(table, fine, actions.len(), time) {
+        Gate::Refuse(a) => a,
+        Gate::Pass => rate_from(table, time, id, p5),
+    }
+}
+
+fn score_from(table: &mut [u64], time: u64, id: u64) -> Answer
+    requires { ⌜ Ready (now table) time ⌝ }
+    ensures { λ r. ⌜ Leaves (effect (stateOf (now (table .entry))) (Calls·score time id)) r (now (table .entry)) (now (table .exit)) ⌝ }
+{
+    let Found::At(slot) = find_connected(table, id) else {
+        return Answer::NotConnected;
+    };
+    let z = score::sums::signed(score::of_slot::score_of(table, slot));
+    cells::store_clock(table, time);
+    Answer::Scored(z)
+}
+
+// A peer's score, in 10^-9 points.
+pub fn score(table: &mut [u64; 5340], time: u64, id: u64, actions: &mut [u32]) -> Answer
+    ensures { λ r. ⌜ Follows (Calls·score time id) r (now (table .entry)) (now (table .exit)) (now (actions .entry)) (now (actions .exit)) ⌝ }
+{
+    let fine = time_ok(time) & id_ok(id);
+    match admit(table, fine, actions.len(), time) {
+        Gate::Refuse(a) => a,
+        Gate::Pass => score_from(table, time, id),
+    }
+}

@@ -1,0 +1,198 @@
+-- "Each call keeps this so": join, leave, subscribe, unsubscribe, GRAFT, PRUNE.
+-- Assumes nothing.
+use Prim.Native.Nat.{ℕ, _<_, _≤_, min}
+use native.Mathlib.Omega.{arith}
+use mathlib.Core.Path.{_≡_, refl, sym, _∙_}
+use mathlib.Core.Logic.{_≢_}
+use mathlib.Core.Bool.{true, false, not, _&&_}
+use mathlib.Core.List.{[]}
+use lib.Dec.{eqb}
+use borrow.Author.Tests.{eqb-true, eqb-false}
+use Rattle.index.specs.Index.{iter}
+use Rattle.index.proofs.Index.{both, iter-keeps}
+use Rattle.index.proofs.Flags.{by-test, cond-case}
+use Rattle.records.specs.declared.Peer.{Peer}
+use Rattle.records.specs.Records.{State, place, joinedIn, peerIn, topicIn, setJoined}
+use Rattle.table.specs.Valid.{maxEnd}
+use Rattle.score.specs.Counters.{countMost, raisedOf, grownOf}
+use Rattle.score.specs.Score.{topicParamsIn}
+use Rattle.effects.specs.Effects.{withEnd, withP7, onPeer, onTopic, isJoined, isMember, isSubscribed, backoffRuns, pruned, endAfter, pruneBackoff, unsubscribeBackoff}
+use Rattle.effects.proofs.Walks.{iter-before, iter-once}
+use Rattle.effects.proofs.EffectLaws.{on-peer, place-slot, member-apart, pruned-apart, pruned-member, pruned-reads}
+use Rattle.rules.specs.Reply.{ignored, done}
+use Rattle.rules.specs.Step.{isNegative, isGraylisted, isHeard, joinReply, punished, leaveSlot, leaveReply, subscribeReply, unsubscribeReply, graftRefused, graftEnters, meshFull, graftOpen, graftBackoff, graftHeard, graftReply, secondsOf, pruneReply}
+use Rattle.rules.proofs.KeepsRecord.{topic-left, topic-subscribed, topic-in, topic-counted}
+use Rattle.rules.proofs.KeepsState.{Router, RouterAt, Fits, router-end, latest, peer-of, topic-of, end-most, prune-most, leave-most, router-topic, router-joined, router-backoff, router-p7, router-pruned, Walked, walk-none, walk-topic, either}
+
+-- what a heard call knows of its topic
+heard-joined : (st : State) (t s : ℕ) → isHeard st t s ≡ true → joinedIn st t ≡ 1
+unfolding isHeard
+heard-joined st t s e = eqb-true (joinedIn st t) 1 (both (isJoined st t) (not (isGraylisted st s)) e .0)
+
+module _ (time : ℕ) (st : State) (g : RouterAt time st) (t : ℕ) (k : t < 8) where
+  pub keeps-join : Router (joinReply st time t .state)
+  unfolding joinReply
+  keeps-join =
+      either (isJoined st t) (ignored st time) _
+      (λ e. router-end time st g)
+      (λ e. router-end time (setJoined st t 1) (router-joined time st g t 1 (omega arith) (λ s h m. refl)))
+
+  module _ (s : ℕ) (h : s < 64) (on : peerIn st s .status ≡ 1) where
+    fits : Fits time st s t (topicIn st (place s t))
+    fits = topic-of time st g s t h k
+
+    pub keeps-subscribe : Router (subscribeReply st time t s .state)
+    unfolding subscribeReply
+    keeps-subscribe =
+        either (isGraylisted st s) (ignored st time) _
+        (λ e. router-end time st g)
+        (λ e. router-end time _ (router-topic time st g s t _ k (topic-subscribed _ _ _ _ _ _ (topicIn st (place s t)) fits on)))
+
+    pub keeps-unsubscribe : Router (unsubscribeReply st time t s .state)
+    unfolding unsubscribeReply
+    keeps-unsubscribe =
+        either (isGraylisted st s) (ignored st time) _
+        (λ e. router-end time st g)
+        (λ e. router-end time _ (router-topic time st g s t _ k (topic-left _ _ _ _ _ _ (topicIn st (place s t)) fits)))
+
+    seconds-most : (seconds : ℕ) → secondsOf st seconds ≤ 3600
+    unfolding secondsOf
+    seconds-most seconds =
+        cond-case (λ (n : ℕ). n ≤ 3600) (eqb seconds 0) (pruneBackoff st) (min seconds 3600)
+        (λ e. prune-most time st g)
+        (λ e. omega arith)
+
+    pub keeps-prune : (seconds : ℕ) → Router (pruneReply st time t seconds s .state)
+    unfolding pruneReply
+    keeps-prune seconds =
+        either (isHeard st t s) _ (ignored st time)
+        (λ e.
+        router-end time _
+        (router-pruned time st g s t (endAfter time (secondsOf st seconds)) h k on (end-most time st g (secondsOf st seconds) (seconds-most seconds))))
+        (λ e. router-end time st g)
+
+    -- ---- GRAFT
+    keeps-refused : Router (graftRefused st time t s .state)
+    unfolding graftRefused
+    keeps-refused =
+        router-end time _
+        (router-backoff time st g s h on t (endAfter time (pruneBackoff st)) k (end-most time st g (pruneBackoff st) (prune-most time st g)))
+
+    keeps-open : peerIn st s .explicit ≡ 0 → joinedIn st t ≡ 1 → Router (graftOpen st time t s .state)
+    unfolding graftOpen graftEnters
+    keeps-open x j =
+        either (graftEnters st t s) _ (graftRefused st time t s)
+        (λ e.
+        let a = both (not (isNegative st s)) (isSubscribed st t s && not (meshFull st t s)) e .1 in
+        let b = both (isSubscribed st t s) (not (meshFull st t s)) a .0 in
+        router-end time _
+        (router-topic time st g s t _ k
+        (topic-in _ _ _ _ _ _ (topicIn st (place s t)) fits on (latest time st g) (eqb-true (topicIn st (place s t) .subscribed) 1 b) x j)))
+        (λ e. keeps-refused)
+
+module _ (time : ℕ) (st : State) (g : RouterAt time st) (t : ℕ) (k : t < 8) (s : ℕ) (h : s < 64) (on : peerIn st s .status ≡ 1) where
+  keeps-backoff : peerIn st s .explicit ≡ 0 → joinedIn st t ≡ 1 → Router (graftBackoff st time t s .state)
+  unfolding graftBackoff withP7
+  keeps-backoff x j =
+      let n = raisedOf (peerIn st s .p7) countMost in
+      let u : RouterAt time (onPeer st s (λ p. withP7 p n)) = router-p7 time st g s h on n (omega arith) in
+      either (backoffRuns (peerIn st s) t time) _ (graftOpen st time t s)
+      (λ e.
+      keeps-refused time (onPeer st s (λ p. withP7 p n)) u t k s h (on-peer (λ (p : Peer). p .status) st s (λ p. withP7 p n) s refl ∙ on))
+      (λ e. keeps-open time st g t k s h on x j)
+
+  keeps-heard : joinedIn st t ≡ 1 → Router (graftHeard st time t s .state)
+  unfolding graftHeard
+  keeps-heard j =
+      either (isMember st t s) (done st time []) _
+      (λ e. router-end time st g)
+      (λ e.
+      either (eqb (peerIn st s .explicit) 1) (graftRefused st time t s) (graftBackoff st time t s)
+      (λ x. keeps-refused time st g t k s h on)
+      (λ x. keeps-backoff (not-explicit (peerIn st s .explicit) (peer-of time st g s h .explicit) (eqb-false _ _ x)) j))
+    where
+      not-explicit : (n : ℕ) → n ≤ 1 → (n ≡ 1 → ⊥) → n ≡ 0
+      not-explicit n b z = omega (arith, z)
+
+  pub keeps-graft : Router (graftReply st time t s .state)
+  unfolding graftReply
+  keeps-graft =
+      either (isHeard st t s) (graftHeard st time t s) (ignored st time)
+      (λ e. keeps-heard (heard-joined st t s e))
+      (λ e. router-end time st g)
+
+-- ---- leave: every member by slot
+module _ (time : ℕ) (st : State) (g : RouterAt time st) (t : ℕ) (k : t < 8) (end : ℕ) (b : end ≤ maxEnd) where
+  member-on : (s : ℕ) → s < 64 → isMember st t s ≡ true → peerIn st s .status ≡ 1
+  unfolding isMember
+  member-on s h m = topic-of time st g s t h k .inside (eqb-true (topicIn st (place s t) .member) 1 m) .0
+
+  walk-punished :
+      (s : ℕ) (u : State) → s < 64 → peerIn st s .status ≡ 1 → Walked time st u → Walked time st (punished st t s u)
+  unfolding punished grownOf
+  walk-punished s u h on w =
+      cond-case (λ (v : State). Walked time st v) (isNegative st s) (onTopic u s t (grownOf (topicParamsIn st t))) u
+      (λ e.
+      let r = topicIn u (place s t) in
+      let f : Fits time u s t r = topic-of time u (w .at) s t h k in
+      walk-topic time st u w s t _ k
+      (topic-counted _ _ _ _ _ _ r f (w .status s ∙ on) (r .p2) (r .p3) (r .p4) _ (f .p2) (f .p3) (f .p4) (omega arith) (latest time u (w .at))))
+      (λ e. w)
+
+  walk-pruned :
+      (s : ℕ) (u : State) → s < 64 → peerIn st s .status ≡ 1 → Walked time st u → Walked time st (pruned u s t end)
+  unfolding withEnd
+  walk-pruned s u h on w =
+      record {
+        at = router-pruned time u (w .at) s t end h k (w .status s ∙ on) b;
+        status = λ i. pruned-reads u s t end (λ (p : Peer). p .status) i (λ p. refl) ∙ w .status i;
+      }
+
+  walk-slot : (s : ℕ) (u : State) → s < 64 → Walked time st u → Walked time st (leaveSlot st t end s u)
+  unfolding leaveSlot
+  walk-slot s u h w =
+      cond-case (λ (v : State). Walked time st v) (isMember st t s) (pruned (punished st t s u) s t end) u
+      (λ m. let on = member-on s h m in walk-pruned s (punished st t s u) h on (walk-punished s u h on w))
+      (λ m. w)
+
+  walked : (n : ℕ) → n ≤ 64 → Walked time st (iter n (leaveSlot st t end) st)
+  walked n l =
+      iter-keeps (λ (v : State). Walked time st v) (leaveSlot st t end) n st (walk-none time st g)
+      (λ s u h. walk-slot s u (omega arith))
+
+  -- no member is left
+  leave-other : (s i : ℕ) (u : State) → i ≢ s → isMember (leaveSlot st t end i u) t s ≡ isMember u t s
+  unfolding leaveSlot punished
+  leave-other s i u n =
+      let apart = place-slot i t s t k k (λ e. n (sym e)) in
+      cond-case (λ (v : State). isMember v t s ≡ isMember u t s) (isMember st t i) (pruned (punished st t i u) i t end) u
+      (λ m.
+      pruned-apart (punished st t i u) i t end s t apart
+      ∙ cond-case (λ (v : State). isMember v t s ≡ isMember u t s) (isNegative st i) (onTopic u i t (grownOf (topicParamsIn st t))) u
+      (λ e. member-apart u i t (grownOf (topicParamsIn st t)) s t apart)
+      (λ e. refl))
+      (λ m. refl)
+
+  none-left : (s : ℕ) → s < 64 → isMember (iter 64 (leaveSlot st t end) st) t s ≡ false
+  unfolding leaveSlot
+  none-left s h =
+      let w = iter s (leaveSlot st t end) st in
+      iter-once (λ (v : State). isMember v t s) (leaveSlot st t end) s (leave-other s) 64 st h
+      ∙ by-test (isMember (leaveSlot st t end s w) t s ≡ false) (isMember st t s)
+      (λ m.
+      rw m
+      (pruned-member (punished st t s w) s t end (walk-punished s w h (member-on s h m) (walked s (omega arith)) .at .size) h k))
+      (λ m. rw m (iter-before (λ (v : State). isMember v t s) (leaveSlot st t end) s (leave-other s) s st (omega arith) ∙ m))
+
+pub keeps-leave : (time : ℕ) (st : State) → RouterAt time st → (t : ℕ) → t < 8 → Router (leaveReply st time t .state)
+unfolding leaveReply isMember
+keeps-leave time st g t k =
+    let end = endAfter time (unsubscribeBackoff st) in
+    let b : end ≤ maxEnd = end-most time st g (unsubscribeBackoff st) (leave-most time st g) in
+    let w = iter 64 (leaveSlot st t end) st in
+    either (isJoined st t) _ (ignored st time)
+    (λ e.
+    router-end time (setJoined w t 0)
+    (router-joined time w (walked time st g t k end b 64 (omega arith) .at) t 0 (omega arith) (λ s h m.
+    absurd (eqb-false (topicIn w (place s t) .member) 1 (none-left time st g t k end b s h) m))))
+    (λ e. router-end time st g)

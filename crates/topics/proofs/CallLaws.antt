@@ -1,0 +1,93 @@
+-- From the gate's word to what a public call promises and what its inner function may rely on: one law for every call.
+-- Assumes nothing.
+use Prim.Native.Nat.{ℕ, _≤_, _<_}
+use mathlib.Core.Path.{_≡_, sym, ap, ap₂, _∙_}
+use mathlib.Core.Bool.{Bool, true, _&&_}
+use mathlib.Core.List.{List, []}
+use native.Mathlib.Omega.{arith}
+use borrow.Author.Tests.{leb-true}
+use lib.ListN.{length}
+use Rattle.index.proofs.Index.{both}
+use Rattle.cells.specs.View.{cellCount, stateOf}
+use Rattle.table.specs.Valid.{maxTime}
+use Rattle.rules.specs.declared.Answer.{Answer}
+use Rattle.rules.specs.declared.Gate.{Gate}
+use Rattle.rules.specs.declared.Gate.the-variants.{Pass, Refuse}
+use Rattle.rules.specs.Calls.{Call, timeOf, timeOk, idOk, topicOk, argumentsOk, inRange}
+use Rattle.rules.specs.Step.{gateOf, effect}
+use Rattle.rules.specs.Promise.{Leaves, Gives, Follows}
+use Rattle.rules.proofs.GateLaws.{Passed, gate-passed}
+use Rattle.rules.proofs.PromiseLaws.{gives-quiet, follows-refused, follows-passed}
+use Rattle.gate.specs.Ready.{Ready}
+
+-- what the gate was asked is the call's range: a and b are what the code computes of its time and of its other arguments
+pub call-word :
+    (c : Call) (table list : List ℕ) (a b : Bool) (g : Gate) →
+    a ≡ timeOk (timeOf c) →
+    b ≡ argumentsOk c →
+    g ≡ gateOf (stateOf table) (a && b) (length list) (timeOf c) →
+    g ≡ gateOf (stateOf table) (inRange c) (length list) (timeOf c)
+unfolding inRange
+call-word c table list a b g ea eb eg =
+    eg ∙ ap (λ (f : Bool). gateOf (stateOf table) f (length list) (timeOf c)) (ap₂ _&&_ ea eb)
+
+-- a call in range has its time and its other arguments in range
+ranges : (c : Call) → inRange c ≡ true → (timeOf c ≤ maxTime) × (argumentsOk c ≡ true)
+unfolding inRange
+ranges c e =
+    let h = both (timeOk (timeOf c)) (argumentsOk c) e in
+    (leb-true (timeOf c) maxTime (h .0), h .1)
+
+-- what the inner function of a call may rely on
+pub record Behind (c : Call) (table list : List ℕ) : Type 0 where
+  pub ready : Ready table (timeOf c)
+  pub fine : argumentsOk c ≡ true
+  pub room : 192 ≤ length list
+
+-- g is the gate's word
+module _
+    (c : Call)
+    (table list : List ℕ)
+    (g : Gate)
+    (word : g ≡ gateOf (stateOf table) (inRange c) (length list) (timeOf c))
+  where
+    pub call-refused : (x : Answer) → g ≡ Refuse x → Follows c x table table list list
+    call-refused x e = follows-refused c table list x (sym word ∙ e)
+
+    module _ (e : g ≡ Pass) where
+      passed : Passed (stateOf table) (inRange c) (length list) (timeOf c)
+      passed = gate-passed (stateOf table) (inRange c) (length list) (timeOf c) (sym word ∙ e)
+
+      pub call-behind : length table ≡ cellCount → Behind c table list
+      call-behind l =
+          record {
+            ready =
+                record {
+                  standing = record { size = l; router = passed .router };
+                  clock = passed .clock;
+                  latest = ranges c (passed .ranges) .0;
+                };
+            fine = ranges c (passed .ranges) .1;
+            room = passed .size;
+          }
+
+      pub call-passed :
+          (r : Answer) (table′ list′ : List ℕ) →
+          Gives (effect (stateOf table) c) r table table′ list list′ →
+          Follows c r table table′ list list′
+      call-passed r table′ list′ h = follows-passed c table list r table′ list′ (sym word ∙ e) h
+
+      -- a call that gives no action
+      pub call-quiet :
+          (r : Answer) (table′ : List ℕ) →
+          effect (stateOf table) c .actions ≡ [] →
+          Leaves (effect (stateOf table) c) r table table′ →
+          Follows c r table table′ list list
+      call-quiet r table′ q h = call-passed r table′ list (gives-quiet (effect (stateOf table) c) r table table′ list q h)
+
+-- the arguments of a call that names a topic, or a peer and a topic
+pub topic-below : (t : ℕ) → topicOk t ≡ true → t < 8
+topic-below t e = let h : t ≤ 7 = leb-true t 7 e in omega arith
+
+pub both-fine : (id t : ℕ) → idOk id && topicOk t ≡ true → t < 8
+both-fine id t e = topic-below t (both (idOk id) (topicOk t) e .1)
