@@ -1,4 +1,18 @@
-// What a host calls over the table that it lends; its type fixes the length, so nothing is asked of the caller.
+// What a host calls. Every call takes the table that the host lends (its type fixes the length), a time, its arguments as wide numbers and a
+// lent action list, asks nothing of its caller, and promises the rules' reply (crate rules): answer, table, clock and action list, for all
+// input. The calls themselves stand in the crates below.
+pub use control::graft;
+pub use control::prune;
+pub use deliveries::decay;
+pub use deliveries::deliver;
+pub use leaving::leave;
+pub use peers::connect;
+pub use peers::disconnect;
+pub use peers::rate;
+pub use peers::score;
+pub use topics::join;
+pub use topics::subscribe;
+pub use topics::unsubscribe;
 ghost use mathlib.Core.Path.{_≡_};
 ghost use Rattle.cells.specs.View.{stateOf};
 ghost use Rattle.table.specs.Valid.{valid};

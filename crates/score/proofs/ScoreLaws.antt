@@ -1,16 +1,20 @@
 -- What the code computes of a router's state is worth 01's score, and the score depends on nothing but what 01 names.
 -- Assumes nothing.
-use Prim.Native.Nat.{ℕ, _*_, _<_, _≤_}
-use mathlib.Core.Path.{_≡_, sym, ap, ap₂, _∙_}
-use mathlib.Core.Bool.{true}
+use Prim.Native.Nat.{ℕ, zero, suc, _*_, _<_, _≤_}
+use native.Mathlib.Nat.{not-suc-le-zero, eq-or-lt-of-le, le-of-suc-le-suc}
+use mathlib.Core.Path.{_≡_, refl, sym, ap, ap₂, _∙_}
+use mathlib.Core.Bool.{Bool, true}
+use mathlib.Core.Logic.{⊎-elim}
+use borrow.Author.Tests.{eq-eqb}
 use native.Mathlib.Omega.{arith}
 use lib.IntN.{ℤ, pos, negℤ, natAbs, subℕ, _*ℤ_}
 use lib.Signed.{ltZ}
+use Rattle.index.specs.Index.{count}
 use Rattle.index.proofs.Index.{count-bound}
 use Rattle.groups.specs.Codes.{numberOf}
 use Rattle.params.specs.Joint.{place as topicPlace}
 use Rattle.records.specs.declared.Peer.{Peer}
-use Rattle.records.specs.Records.{State, topicCount, place, peerIn, topicIn}
+use Rattle.records.specs.Records.{State, topicCount, place, peerIn, topicIn, isConnected}
 use Rattle.table.specs.Valid.{valid}
 use Rattle.score.specs.declared.ScoreParams.{ScoreParams}
 use Rattle.score.specs.declared.Balance.{Balance}
@@ -20,7 +24,7 @@ use Rattle.score.specs.Parts.{square, surplusOf}
 use Rattle.score.specs.Formula.{allTopics, bounded}
 use Rattle.score.specs.Sums.{worth, sumOf, partsOf, totalOf, negativeOf, belowOf}
 use Rattle.score.specs.Score.{paramIn, sizeIn, topicParamsIn, scoreParamsIn, sharesGroup, sharing, topicScore, scoreIn, shareAt, partsAt, balanceAt, Scores, Agree}
-use Rattle.score.proofs.InputLaws.{TopicSigns, SlotIn, graylist-in}
+use Rattle.score.proofs.InputLaws.{TopicSigns, SlotIn, slot-in, graylist-in}
 use Rattle.score.proofs.ShareLaws.{share-is, sum-is, sum-done, topics-same}
 use Rattle.score.proofs.SumLaws.{capped-is, p5-is, loss-is, total-is, score-size, negative-is, below-is}
 use Rattle.score.proofs.Differences.{diff-neg, neg-times}
@@ -29,6 +33,25 @@ use Rattle.score.proofs.BoundLaws.{share-in, sum-in, topics-in, parts-i
 pub sharing-most : (st : State) (group : ℕ) → sharing st group ≤ 64
 unfolding sharing
 sharing-most st group = count-bound (sharesGroup st group) 64
+
+-- "itself counted"
+some : (f : ℕ → Bool) (n i : ℕ) → i < n → f i ≡ true → 1 ≤ count n f
+unfolding count
+some f zero i h e = absurd (not-suc-le-zero h)
+some f (suc n) i h e =
+    ⊎-elim
+    (λ q. rw (← q, e) (omega arith))
+    (λ l. omega (arith, some f n i l e))
+    (eq-or-lt-of-le (le-of-suc-le-suc h))
+
+pub sharing-itself :
+    (st : State) (s : ℕ) →
+    s < 64 →
+    isConnected (peerIn st s) ≡ true →
+    1 ≤ sharing st (peerIn st s .group)
+unfolding sharing sharesGroup
+sharing-itself st s h e =
+    some (sharesGroup st (peerIn st s .group)) 64 s h (rw (e, eq-eqb (peerIn st s .group) (peerIn st s .group) refl))
 
 -- one topic
 topic-is : (st : State) (s t : ℕ) → TopicSigns st t → topicScore st s t ≡ worth (shareAt st s t)
@@ -153,6 +176,14 @@ module _ (st : State) (s : ℕ) (h : SlotIn st s) where
   scores q b p t =
       let e : b ≡ balanceAt st s = t ∙ ap totalOf p in
       record { is = e; score = ap worth e ∙ score-is; range = rw e balance-in }
+
+-- of a router's state: the code's balance is worth 01's score, and "no score passes 2.6 × 10^18 either way"
+module _ (st : State) (ok : valid st ≡ true) (s : ℕ) (h : s < 64) where
+  pub router-score : worth (balanceAt st s) ≡ scoreIn st s
+  router-score = score-is st s (slot-in st ok s h)
+
+  pub router-score-most : natAbs (scoreIn st s) ≤ scoreMost
+  router-score-most = score-most st s (slot-in st ok s h)
 
 -- what the code tests of a balance, said of the score
 module _ (st : State) (s : ℕ) (b : Balance) (h : Scores st s b) where

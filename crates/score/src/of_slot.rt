@@ -22,7 +22,7 @@ use records::SLOTS;
 use records::TOPICS;
 
 // The magnitude of parameter i.
-pub fn load_size(table: &[u64], i: usize) -> u64
+fn load_size(table: &[u64], i: usize) -> u64
     requires { ⌜ (length (now table) ≡ cellCount) × (i < 147) ⌝ }
     ensures { λ r. ⌜ r ≡ sizeIn (stateOf (now (table .entry))) i ⌝ }
 {

@@ -20,16 +20,20 @@ use Rattle.rules.proofs.GateLaws.{Passed, gate-passed}
 use Rattle.rules.proofs.PromiseLaws.{gives-quiet, follows-refused, follows-passed}
 use Rattle.gate.specs.Ready.{Ready}
 
+-- g is the gate's word on the call c
+pub record Word (c : Call) (table list : List ℕ) (g : Gate) : Type 0 where
+  pub is : g ≡ gateOf (stateOf table) (inRange c) (length list) (timeOf c)
+
 -- what the gate was asked is the call's range: a and b are what the code computes of its time and of its other arguments
 pub call-word :
     (c : Call) (table list : List ℕ) (a b : Bool) (g : Gate) →
     a ≡ timeOk (timeOf c) →
     b ≡ argumentsOk c →
     g ≡ gateOf (stateOf table) (a && b) (length list) (timeOf c) →
-    g ≡ gateOf (stateOf table) (inRange c) (length list) (timeOf c)
+    Word c table list g
 unfolding inRange
 call-word c table list a b g ea eb eg =
-    eg ∙ ap (λ (f : Bool). gateOf (stateOf table) f (length list) (timeOf c)) (ap₂ _&&_ ea eb)
+    record { is = eg ∙ ap (λ (f : Bool). gateOf (stateOf table) f (length list) (timeOf c)) (ap₂ _&&_ ea eb) }
 
 -- a call in range has its time and its other arguments in range
 ranges : (c : Call) → inRange c ≡ true → (timeOf c ≤ maxTime) × (argumentsOk c ≡ true)
@@ -44,46 +48,39 @@ pub record Behind (c : Call) (table list : List ℕ) : Type 0 where
   pub fine : argumentsOk c ≡ true
   pub room : 192 ≤ length list
 
--- g is the gate's word
-module _
-    (c : Call)
-    (table list : List ℕ)
-    (g : Gate)
-    (word : g ≡ gateOf (stateOf table) (inRange c) (length list) (timeOf c))
-  where
-    pub call-refused : (x : Answer) → g ≡ Refuse x → Follows c x table table list list
-    call-refused x e = follows-refused c table list x (sym word ∙ e)
+module _ {c : Call} {table list : List ℕ} {g : Gate} (word : Word c table list g) where
+  pub call-refused : {x : Answer} → g ≡ Refuse x → Follows c x table table list list
+  call-refused {x} e = follows-refused c table list x (sym (word .is) ∙ e)
 
-    module _ (e : g ≡ Pass) where
-      passed : Passed (stateOf table) (inRange c) (length list) (timeOf c)
-      passed = gate-passed (stateOf table) (inRange c) (length list) (timeOf c) (sym word ∙ e)
+  module _ (e : g ≡ Pass) where
+    pub call-behind : length table ≡ cellCount → Behind c table list
+    call-behind l =
+        let p : Passed (stateOf table) (inRange c) (length list) (timeOf c) =
+        gate-passed (stateOf table) (inRange c) (length list) (timeOf c) (sym (word .is) ∙ e) in
+        record {
+          ready =
+              record {
+                standing = record { size = l; router = p .router };
+                clock = p .clock;
+                latest = ranges c (p .ranges) .0;
+              };
+          fine = ranges c (p .ranges) .1;
+          room = p .size;
+        }
 
-      pub call-behind : length table ≡ cellCount → Behind c table list
-      call-behind l =
-          record {
-            ready =
-                record {
-                  standing = record { size = l; router = passed .router };
-                  clock = passed .clock;
-                  latest = ranges c (passed .ranges) .0;
-                };
-            fine = ranges c (passed .ranges) .1;
-            room = passed .size;
-          }
+    pub call-passed :
+        {r : Answer} {table′ list′ : List ℕ} →
+        Gives (effect (stateOf table) c) r table table′ list list′ →
+        Follows c r table table′ list list′
+    call-passed {r} {table′} {list′} h = follows-passed c table list r table′ list′ (sym (word .is) ∙ e) h
 
-      pub call-passed :
-          (r : Answer) (table′ list′ : List ℕ) →
-          Gives (effect (stateOf table) c) r table table′ list list′ →
-          Follows c r table table′ list list′
-      call-passed r table′ list′ h = follows-passed c table list r table′ list′ (sym word ∙ e) h
-
-      -- a call that gives no action
-      pub call-quiet :
-          (r : Answer) (table′ : List ℕ) →
-          effect (stateOf table) c .actions ≡ [] →
-          Leaves (effect (stateOf table) c) r table table′ →
-          Follows c r table table′ list list
-      call-quiet r table′ q h = call-passed r table′ list (gives-quiet (effect (stateOf table) c) r table table′ list q h)
+    -- a call that gives no action
+    pub call-quiet :
+        {r : Answer} {table′ : List ℕ} →
+        effect (stateOf table) c .actions ≡ [] →
+        Leaves (effect (stateOf table) c) r table table′ →
+        Follows c r table table′ list list
+    call-quiet {r} {table′} q h = call-passed (gives-quiet (effect (stateOf table) c) r table table′ list q h)
 
 -- the arguments of a call that names a topic, or a peer and a topic
 pub topic-below : (t : ℕ) → topicOk t ≡ true → t < 8

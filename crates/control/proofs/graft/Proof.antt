@@ -29,17 +29,26 @@ graft-from-requires : tie.Need-graft-from-requires
 graft-from-requires c κs =
     let g = c .before .before .before .before in
     let a = g .before .before .before .before .before .before .before .args in
-    let e = c .before .before .enum-told .given .1 in
-    (call-ready (call g) (a .table .now) (a .actions .now) _ (word g) e (search needs), (both-fine (a .id) (a .topic) (call-fine (call g) (a .table .now) (a .actions .now) _ (word g) e), call-room (call g) (a .table .now) (a .actions .now) _ (word g) e))
+    let e = c .before .before .enum-told .given .1 in (
+      call-ready (call g) (a .table .now) (a .actions .now) _ (word g) e (search needs),
+      (
+        both-fine (a .id) (a .topic) (call-fine (call g) (a .table .now) (a .actions .now) _ (word g) e),
+        call-room (call g) (a .table .now) (a .actions .now) _ (word g) e,
+      ),
+    )
 
 returns : tie.Need-returns
-returns c = let g = c .before .before .before in let a = g .before .before .before .before .before .before .before .args in call-refused (call g) (a .table .now) (a .actions .now) _ (word g) _ (c .before .a .given .1)
+returns c =
+    let g = c .before .before .before in
+    let a = g .before .before .before .before .before .before .before .args in
+    call-refused (call g) (a .table .now) (a .actions .now) _ (word g) _ (c .before .a .given .1)
 
 returns-2 : tie.Need-returns-2
 returns-2 c =
     let g = c .before .before .before .before .before .before .before in
     let a = g .before .before .before .before .before .before .before .args in
-    call-passed (call g) (a .table .now) (a .actions .now) _ (word g) (c .before .before .before .before .before .enum-told .given .1) _ _ _ (c .before .before .graft-from .ensures)
+    call-passed (call g) (a .table .now) (a .actions .now) _ (word g) (c .before .before .before .before .before .enum-told .given .1) _ _ _
+    (c .before .before .graft-from .ensures)
 
 pub graft-spec : {M : Type 1} → statement M
 graft-spec =

@@ -22,7 +22,8 @@ refuse-graft-requires c κs =
 returns : tie.Need-returns
 unfolding graftBackoff
 returns c =
-    gives-then _ _ _ _ _ _ _ _ (yes (c .before .before .before .before .before .before .before .before .before .before .before .before .backoff-runs .ensures) (c .before .before .before .before .before .before .before .before .before .before .before .if1 .taken))
+    let h = c .before .before .before .before .before .before .before .before .before .before .before in
+    gives-then _ _ _ _ _ _ _ _ (yes (h .before .backoff-runs .ensures) (h .if1 .taken))
     (refused-from _ _ _ _ _ _ _ _ _ _ (c .before .before .before .before .before .before .before .before .before .raise-p7 .ensures) (c .before .before .before .before .refuse-graft .ensures))
 
 graft-open-requires : tie.Need-graft-open-requires
@@ -30,7 +31,9 @@ graft-open-requires c κs = c .before .before .before .before .before .before .b
 
 returns-2 : tie.Need-returns-2
 unfolding graftBackoff
-returns-2 c = gives-else _ _ _ _ _ _ _ _ (no (c .before .before .before .before .before .before .before .before .backoff-runs .ensures) (c .before .before .before .before .before .before .before .if1 .left)) (c .before .before .before .before .graft-open .ensures)
+returns-2 c =
+    let h = c .before .before .before .before .before .before .before in
+    gives-else _ _ _ _ _ _ _ _ (no (h .before .backoff-runs .ensures) (h .if1 .left)) (c .before .before .before .before .graft-open .ensures)
 
 pub graft-backoff-spec : {M : Type 1} → statement M
 graft-backoff-spec =

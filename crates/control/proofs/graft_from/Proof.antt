@@ -17,18 +17,23 @@ returns c = peer-none-gives _ _ _ _ (c .before .before .find-connected .ensures)
 
 is-heard-requires : tie.Need-is-heard-requires
 is-heard-requires c κs =
-    (c .before .before .before .before .before .before .before .before .pre .0 .standing, (c .before .before .before .before .before .before .before .before .pre .1 .0, found-below _ _ _ _ (c .before .before .before .before .find-connected .ensures) (c .before .before .slot .given .1)))
+    let k = c .before .before in
+    let p = k .before .before .before .before .before .before .pre in
+    (p .0 .standing, (p .1 .0, found-below _ _ _ _ (k .before .before .find-connected .ensures) (k .slot .given .1)))
 
 graft-heard-requires : tie.Need-graft-heard-requires
 graft-heard-requires c κs =
-    let p = c .before .before .before .before .before .before .before .before .before .before .before .before .pre in
-    (p .0, (p .1 .0, (found-below _ _ _ _ (c .before .before .before .before .before .before .before .before .find-connected .ensures) (c .before .before .before .before .before .before .slot .given .1), p .1 .1)))
+    let k = c .before .before .before .before .before .before in
+    let p = k .before .before .before .before .before .before .pre in
+    (p .0, (p .1 .0, (found-below _ _ _ _ (k .before .before .find-connected .ensures) (k .slot .given .1), p .1 .1)))
 
 returns-2 : tie.Need-returns-2
 unfolding effect graftReply
 returns-2 c =
-    peer-at-gives _ _ _ _ (c .before .before .before .before .before .before .before .before .before .before .before .before .before .find-connected .ensures) _ _ _ _ _ (c .before .before .before .before .before .before .before .before .before .before .before .slot .given .1)
-    (gives-then _ _ _ _ _ _ _ _ (yes (c .before .before .before .before .before .before .before .before .is-heard .ensures) (c .before .before .before .before .before .before .before .if1 .taken)) (c .before .before .before .before .graft-heard .ensures))
+    let h = c .before .before .before .before .before .before .before in
+    let k = h .before .before .before .before in
+    peer-at-gives _ _ _ _ (k .before .before .find-connected .ensures) _ _ _ _ _ (k .slot .given .1)
+    (gives-then _ _ _ _ _ _ _ _ (yes (h .before .is-heard .ensures) (h .if1 .taken)) (c .before .before .before .before .graft-heard .ensures))
 
 ignore-requires : tie.Need-ignore-requires
 ignore-requires c κs = c .before .before .before .before .before .before .before .before .before .before .before .pre .0 .standing .size
@@ -36,8 +41,11 @@ ignore-requires c κs = c .before .before .before .before .before .before .befor
 returns-3 : tie.Need-returns-3
 unfolding effect graftReply
 returns-3 c =
-    peer-at-gives _ _ _ _ (c .before .before .before .before .before .before .before .before .before .before .find-connected .ensures) _ _ _ _ _ (c .before .before .before .before .before .before .before .before .slot .given .1)
-    (gives-else _ _ _ _ _ _ _ _ (no (c .before .before .before .before .before .is-heard .ensures) (c .before .before .before .before .if1 .left)) (gives-ignored _ _ _ _ _ (c .before .before .ignore .ensures)))
+    let h = c .before .before .before .before in
+    let k = h .before .before .before .before in
+    peer-at-gives _ _ _ _ (k .before .before .find-connected .ensures) _ _ _ _ _ (k .slot .given .1)
+    (gives-else _ _ _ _ _ _ _ _ (no (h .before .is-heard .ensures) (h .if1 .left))
+    (gives-ignored _ _ _ _ _ (c .before .before .ignore .ensures)))
 
 pub graft-from-spec : {M : Type 1} → statement M
 graft-from-spec =

@@ -19,7 +19,9 @@ finish-requires c κs = c .before .before .before .before .before .before .pre .
 returns : tie.Need-returns
 unfolding graftHeard
 returns c =
-    gives-then _ _ _ _ _ _ _ _ (yes (c .before .before .before .before .before .is-member .ensures) (c .before .before .before .before .if1 .taken)) (gives-done _ _ _ _ _ _ _ refl (c .before .before .finish .ensures))
+    let h = c .before .before .before .before in
+    gives-then _ _ _ _ _ _ _ _ (yes (h .before .is-member .ensures) (h .if1 .taken))
+    (gives-done _ _ _ _ _ _ _ refl (c .before .before .finish .ensures))
 
 load-peer-requires : tie.Need-load-peer-requires
 load-peer-requires c κs = let p = c .before .before .before .before .before .before .pre in (p .0 .standing .size, p .1 .1 .0)
@@ -30,8 +32,11 @@ refuse-graft-requires c κs = let p = c .before .before .before .before .before 
 returns-2 : tie.Need-returns-2
 unfolding graftHeard
 returns-2 c =
-    gives-else _ _ _ _ _ _ _ _ (no (c .before .before .before .before .before .before .before .before .before .before .before .before .is-member .ensures) (c .before .before .before .before .before .before .before .before .before .before .before .if1 .left))
-    (gives-then _ _ _ _ _ _ _ _ (explicit-yes _ _ _ (c .before .before .before .before .before .before .before .before .before .load-peer .ensures) (c .before .before .before .before .before .before .before .if2 .taken)) (c .before .before .before .before .refuse-graft .ensures))
+    let k = c .before .before .before .before .before .before .before in
+    let h = k .before .before .before .before in
+    gives-else _ _ _ _ _ _ _ _ (no (h .before .is-member .ensures) (h .if1 .left))
+    (gives-then _ _ _ _ _ _ _ _ (explicit-yes _ _ _ (k .before .before .load-peer .ensures) (k .if2 .taken))
+    (c .before .before .before .before .refuse-graft .ensures))
 
 graft-backoff-requires : tie.Need-graft-backoff-requires
 graft-backoff-requires c κs = c .before .before .before .before .before .before .before .before .before .before .before .pre
@@ -39,8 +44,11 @@ graft-backoff-requires c κs = c .before .before .before .before .before .before
 returns-3 : tie.Need-returns-3
 unfolding graftHeard
 returns-3 c =
-    gives-else _ _ _ _ _ _ _ _ (no (c .before .before .before .before .before .before .before .before .before .before .before .before .is-member .ensures) (c .before .before .before .before .before .before .before .before .before .before .before .if1 .left))
-    (gives-else _ _ _ _ _ _ _ _ (explicit-no _ _ _ (c .before .before .before .before .before .before .before .before .before .load-peer .ensures) (c .before .before .before .before .before .before .before .if2 .left)) (c .before .before .before .before .graft-backoff .ensures))
+    let k = c .before .before .before .before .before .before .before in
+    let h = k .before .before .before .before in
+    gives-else _ _ _ _ _ _ _ _ (no (h .before .is-member .ensures) (h .if1 .left))
+    (gives-else _ _ _ _ _ _ _ _ (explicit-no _ _ _ (k .before .before .load-peer .ensures) (k .if2 .left))
+    (c .before .before .before .before .graft-backoff .ensures))
 
 pub graft-heard-spec : {M : Type 1} → statement M
 graft-heard-spec =

@@ -18,7 +18,8 @@ graft-slot-requires c κs = let p = c .before .before .before .before .before .b
 returns : tie.Need-returns
 unfolding graftOpen
 returns c =
-    gives-then _ _ _ _ _ _ _ _ (yes (c .before .before .before .before .before .before .before .before .before .graft-enters .ensures) (c .before .before .before .before .before .before .before .before .if1 .taken))
+    let h = c .before .before .before .before .before .before .before .before in
+    gives-then _ _ _ _ _ _ _ _ (yes (h .before .graft-enters .ensures) (h .if1 .taken))
     (gives-done _ _ _ _ _ _ _ (c .before .before .before .before .before .before .graft-slot .ensures) (c .before .before .finish .ensures))
 
 refuse-graft-requires : tie.Need-refuse-graft-requires
@@ -26,7 +27,9 @@ refuse-graft-requires c κs = let p = c .before .before .before .before .before 
 
 returns-2 : tie.Need-returns-2
 unfolding graftOpen
-returns-2 c = gives-else _ _ _ _ _ _ _ _ (no (c .before .before .before .before .before .before .before .before .graft-enters .ensures) (c .before .before .before .before .before .before .before .if1 .left)) (c .before .before .before .before .refuse-graft .ensures)
+returns-2 c =
+    let h = c .before .before .before .before .before .before .before in
+    gives-else _ _ _ _ _ _ _ _ (no (h .before .graft-enters .ensures) (h .if1 .left)) (c .before .before .before .before .refuse-graft .ensures)
 
 pub graft-open-spec : {M : Type 1} → statement M
 graft-open-spec =

@@ -19,7 +19,9 @@ returns c = peer-none _ _ _ _ (c .before .before .find-connected .ensures) (c .e
 
 is-heard-requires : tie.Need-is-heard-requires
 is-heard-requires c κs =
-    (c .before .before .before .before .before .before .before .pre .0 .standing, (c .before .before .before .before .before .before .before .pre .1, found-below _ _ _ _ (c .before .before .before .before .find-connected .ensures) (c .before .before .slot .given .1)))
+    let k = c .before .before in
+    let p = k .before .before .before .before .before .pre in
+    (p .0 .standing, (p .1, found-below _ _ _ _ (k .before .before .find-connected .ensures) (k .slot .given .1)))
 
 seconds-of-requires : tie.Need-seconds-of-requires
 seconds-of-requires c κs = c .before .before .before .before .before .before .before .before .before .before .before .pre .0 .standing
@@ -29,14 +31,20 @@ end-after-requires c κs = (c .before .before .before .before .before .before .b
 
 prune-slot-requires : tie.Need-prune-slot-requires
 prune-slot-requires c κs =
-    (c .before .before .before .before .before .before .before .before .before .before .before .before .before .pre .0 .standing .size, (c .before .before .before .before .before .before .before .before .before .before .before .before .before .pre .1, found-below _ _ _ _ (c .before .before .before .before .before .before .before .before .before .before .find-connected .ensures) (c .before .before .before .before .before .before .before .before .slot .given .1)))
+    let k = c .before .before .before .before .before .before .before .before in
+    let p = k .before .before .before .before .before .pre in
+    (p .0 .standing .size, (p .1, found-below _ _ _ _ (k .before .before .find-connected .ensures) (k .slot .given .1)))
 
 returns-2 : tie.Need-returns-2
 unfolding effect pruneReply
 returns-2 c =
-    let u = pruned-is _ _ _ _ _ _ _ _ (c .before .before .before .before .before .before .before .before .seconds-of .ensures .0) (c .before .before .before .before .before .before .before .end-after .ensures .0) (c .before .before .before .before .before .before .prune-slot .ensures) in
-    peer-at _ _ _ _ (c .before .before .before .before .before .before .before .before .before .before .before .before .before .before .before .before .before .find-connected .ensures) _ _ _ (c .before .before .before .before .before .before .before .before .before .before .before .before .before .before .before .slot .given .1)
-    (leaves-then _ _ _ _ _ _ (yes (c .before .before .before .before .before .before .before .before .before .before .before .before .is-heard .ensures) (c .before .before .before .before .before .before .before .before .before .before .before .if1 .taken))
+    let m = c .before .before .before .before .before .before in
+    let h = m .before .before .before .before .before in
+    let k = h .before .before .before .before in
+    let u =
+    pruned-is _ _ _ _ _ _ _ _ (m .before .before .seconds-of .ensures .0) (m .before .end-after .ensures .0) (m .prune-slot .ensures) in
+    peer-at _ _ _ _ (k .before .before .find-connected .ensures) _ _ _ (k .slot .given .1)
+    (leaves-then _ _ _ _ _ _ (yes (h .before .is-heard .ensures) (h .if1 .taken))
     (leaves-done _ _ _ _ _ _ u (c .before .before .finish .ensures)))
 
 ignore-requires : tie.Need-ignore-requires
@@ -45,8 +53,11 @@ ignore-requires c κs = c .before .before .before .before .before .before .befor
 returns-3 : tie.Need-returns-3
 unfolding effect pruneReply
 returns-3 c =
-    peer-at _ _ _ _ (c .before .before .before .before .before .before .before .before .before .before .find-connected .ensures) _ _ _ (c .before .before .before .before .before .before .before .before .slot .given .1)
-    (leaves-else _ _ _ _ _ _ (no (c .before .before .before .before .before .is-heard .ensures) (c .before .before .before .before .if1 .left)) (leaves-ignored _ _ _ _ (c .before .before .ignore .ensures)))
+    let h = c .before .before .before .before in
+    let k = h .before .before .before .before in
+    peer-at _ _ _ _ (k .before .before .find-connected .ensures) _ _ _ (k .slot .given .1)
+    (leaves-else _ _ _ _ _ _ (no (h .before .is-heard .ensures) (h .if1 .left))
+    (leaves-ignored _ _ _ _ (c .before .before .ignore .ensures)))
 
 pub prune-from-spec : {M : Type 1} → statement M
 prune-from-spec =

@@ -6,7 +6,9 @@ use Rattle.control.proofs.raise_p7.Statement.{statement}
 use Rattle.control.proofs.raise_p7.Tie as tie
 
 returns : tie.Need-returns
-returns c = raised-is _ _ _ _ _ _ (c .before .before .before .before .before .before .load-peer .ensures) (c .before .before .before .before .raised .ensures) (c .before .before .before .with-p7 .ensures) (c .before .before .store-peer .ensures)
+returns c =
+    let m = c .before .before in
+    raised-is _ _ _ _ _ _ (m .before .before .before .before .load-peer .ensures) (m .before .before .raised .ensures) (m .before .with-p7 .ensures) (m .store-peer .ensures)
 
 pub raise-p7-spec : {M : Type 1} → statement M
 raise-p7-spec =

@@ -7,24 +7,34 @@ use Rattle.control.proofs.refuse_graft.Statement.{statement}
 use Rattle.control.proofs.refuse_graft.Tie as tie
 
 load-peer-requires : tie.Need-load-peer-requires
-load-peer-requires c κs = (c .before .before .before .pre .0 .size, c .before .before .before .pre .1 .1 .0)
+load-peer-requires c κs = let p = c .before .before .before .pre in (p .0 .size, p .1 .1 .0)
 
 load-size-requires : tie.Need-load-size-requires
 load-size-requires c κs = (c .before .before .before .before .before .pre .0 .size, omega arith)
 
 put-prune-requires : tie.Need-put-prune-requires
 put-prune-requires c κs =
-    let p = c .before .before .before .before .before .before .before .pre in
-    (omega (arith, p .1 .1 .1), (rw (c .before .before .before .load-peer .ensures) (p .0 .id), omega (arith, c .before .load-size .ensures, p .0 .backoff)))
+    let p = c .before .before .before .before .before .before .before .pre in (
+      omega (arith, p .1 .1 .1),
+      (rw (c .before .before .before .load-peer .ensures) (p .0 .id), omega (arith, c .before .load-size .ensures, p .0 .backoff)),
+    )
 
 end-after-requires : tie.Need-end-after-requires
-end-after-requires c κs = let p = c .before .before .before .before .before .before .before .before .before .before .before .pre in (p .0 .latest, omega (arith, c .before .before .before .before .before .load-size .ensures, p .0 .backoff))
+end-after-requires c κs =
+    let p = c .before .before .before .before .before .before .before .before .before .before .before .pre in (p .0 .latest, omega (arith, c .before .before .before .before .before .load-size .ensures, p .0 .backoff))
 
 delay-requires : tie.Need-delay-requires
 delay-requires c κs = let p = c .before .before .before .before .before .before .before .before .before .before .before .before .pre in (p .0 .size, (p .1 .0, p .1 .1 .0))
 
 returns : tie.Need-returns
-returns c = refused-graft _ _ _ _ _ _ _ _ _ _ _ (c .before .before .before .before .before .before .before .before .before .before .before .before .before .before .before .load-peer .ensures) (c .before .before .before .before .before .before .before .before .before .before .before .before .before .load-size .ensures) (c .before .before .before .before .before .before .before .before .before .before .before .put-prune .ensures .1) (c .before .before .before .before .before .before .before .end-after .ensures .0) (c .before .before .before .before .before .before .delay .ensures) (c .before .before .store-clock .ensures)
+returns c =
+    let m = c .before .before .before .before .before .before in
+    let w = m .before .before .before .before .before in
+    refused-graft _ _ _ _ _ _ _ _ _ _ _ (w .before .before .before .before .load-peer .ensures) (w .before .before .load-size .ensures)
+    (w .put-prune .ensures .1)
+    (m .before .end-after .ensures .0)
+    (m .delay .ensures)
+    (c .before .before .store-clock .ensures)
 
 pub refuse-graft-spec : {M : Type 1} → statement M
 refuse-graft-spec =

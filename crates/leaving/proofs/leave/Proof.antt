@@ -2,33 +2,32 @@
 use borrow.Author.Needs.{needs}
 use Rattle.rules.specs.Calls.{leave}
 use Rattle.rules.specs.Step.{effect}
-use Rattle.topics.proofs.CallLaws.{call-word, call-refused, call-behind, call-passed, topic-below}
+use Rattle.topics.proofs.CallLaws.{Word, call-word, call-refused, call-behind, call-passed, topic-below}
 use Rattle.leaving.proofs.leave.Statement.{statement}
 use Rattle.leaving.proofs.leave.Tie as tie
 
+abbrev start : tie.After-admit → tie.Start
+start g = g .before .before .before .before .before .before
+
+word :
+    (g : tie.After-admit) →
+    Word (leave (start g .args .time) (start g .args .topic)) (start g .args .table .now) (start g .args .actions .now) (g .admit .result)
+word g =
+    call-word (leave (start g .args .time) (start g .args .topic)) _ _ _ _ _ (g .before .before .before .before .time-ok .ensures) (g .before .before .before .topic-ok .ensures) (g .admit .ensures)
+
 leave-from-requires : tie.Need-leave-from-requires
 leave-from-requires c κs =
-    let g = c .before .before .before .before in
-    let s = g .before .before .before .before .before .before in
-    let w = call-word (leave (s .args .time) (s .args .topic)) (s .args .table .now) (s .args .actions .now) _ _ _ (g .before .before .before .before .time-ok .ensures) (g .before .before .before .topic-ok .ensures) (g .admit .ensures) in
-    let b = call-behind (leave (s .args .time) (s .args .topic)) (s .args .table .now) (s .args .actions .now) _ w (c .before .before .enum-told .given .1) (search needs) in
-    (b .ready, (topic-below (s .args .topic) (b .fine), b .room))
+    let b = call-behind (word (c .before .before .before .before)) (c .before .before .enum-told .given .1) (search needs) in
+    (b .ready, (topic-below _ (b .fine), b .room))
 
 returns : tie.Need-returns
-returns c =
-    let g = c .before .before .before in
-    let s = g .before .before .before .before .before .before in
-    let w = call-word (leave (s .args .time) (s .args .topic)) (s .args .table .now) (s .args .actions .now) _ _ _ (g .before .before .before .before .time-ok .ensures) (g .before .before .before .topic-ok .ensures) (g .admit .ensures) in
-    call-refused (leave (s .args .time) (s .args .topic)) (s .args .table .now) (s .args .actions .now) _ w _ (c .before .a .given .1)
+returns c = call-refused (word (c .before .before .before)) (c .before .a .given .1)
 
 returns-2 : tie.Need-returns-2
 unfolding effect
 returns-2 c =
     let l = c .before .before in
-    let g = l .before .before .before .before .before in
-    let s = g .before .before .before .before .before .before in
-    let w = call-word (leave (s .args .time) (s .args .topic)) (s .args .table .now) (s .args .actions .now) _ _ _ (g .before .before .before .before .time-ok .ensures) (g .before .before .before .topic-ok .ensures) (g .admit .ensures) in
-    call-passed (leave (s .args .time) (s .args .topic)) (s .args .table .now) (s .args .actions .now) _ w (l .before .before .before .enum-told .given .1) _ _ _ (l .leave-from .ensures)
+    call-passed (word (l .before .before .before .before .before)) (l .before .before .before .enum-told .given .1) (l .leave-from .ensures)
 
 pub leave-spec : {M : Type 1} → statement M
 leave-spec =

@@ -4,33 +4,32 @@ use mathlib.Core.Path.{ap₂}
 use mathlib.Core.Bool.{_&&_}
 use Rattle.rules.specs.Calls.{subscribe}
 use Rattle.rules.specs.Step.{effect}
-use Rattle.topics.proofs.CallLaws.{call-word, call-refused, call-behind, call-quiet, both-fine}
+use Rattle.topics.proofs.CallLaws.{Word, call-word, call-refused, call-behind, call-quiet, both-fine}
 use Rattle.topics.proofs.ReplyLaws.{quiet-subscribe}
 use Rattle.topics.proofs.subscribe.Statement.{statement}
 use Rattle.topics.proofs.subscribe.Tie as tie
 
+abbrev start : tie.After-admit → tie.Start
+start g = g .before .before .before .before .before .before .before
+
+word :
+    (g : tie.After-admit) →
+    Word (subscribe (start g .args .time) (start g .args .id) (start g .args .topic)) (start g .args .table .now) (start g .args .actions .now) (g .admit .result)
+word g =
+    call-word (subscribe (start g .args .time) (start g .args .id) (start g .args .topic)) _ _ _ _ _ (g .before .before .before .before .before .time-ok .ensures) (ap₂ _&&_ (g .before .before .before .before .id-ok .ensures) (g .before .before .before .topic-ok .ensures)) (g .admit .ensures)
+
 subscribe-from-requires : tie.Need-subscribe-from-requires
 subscribe-from-requires c κs =
-    let g = c .before .before .before in
-    let s = g .before .before .before .before .before .before .before in
-    let w = call-word (subscribe (s .args .time) (s .args .id) (s .args .topic)) (s .args .table .now) (s .args .actions .now) _ _ _ (g .before .before .before .before .before .time-ok .ensures) (ap₂ _&&_ (g .before .before .before .before .id-ok .ensures) (g .before .before .before .topic-ok .ensures)) (g .admit .ensures) in
-    let b = call-behind (subscribe (s .args .time) (s .args .id) (s .args .topic)) (s .args .table .now) (s .args .actions .now) _ w (c .before .enum-told .given .1) (search needs) in
-    (b .ready, both-fine (s .args .id) (s .args .topic) (b .fine))
+    let b = call-behind (word (c .before .before .before)) (c .before .enum-told .given .1) (search needs) in
+    (b .ready, both-fine (start (c .before .before .before) .args .id) _ (b .fine))
 
 returns : tie.Need-returns
-returns c =
-    let g = c .before .before .before in
-    let s = g .before .before .before .before .before .before .before in
-    let w = call-word (subscribe (s .args .time) (s .args .id) (s .args .topic)) (s .args .table .now) (s .args .actions .now) _ _ _ (g .before .before .before .before .before .time-ok .ensures) (ap₂ _&&_ (g .before .before .before .before .id-ok .ensures) (g .before .before .before .topic-ok .ensures)) (g .admit .ensures) in
-    call-refused (subscribe (s .args .time) (s .args .id) (s .args .topic)) (s .args .table .now) (s .args .actions .now) _ w _ (c .before .a .given .1)
+returns c = call-refused (word (c .before .before .before)) (c .before .a .given .1)
 
 returns-2 : tie.Need-returns-2
 unfolding effect
 returns-2 c =
-    let g = c .before .before .before .before in
-    let s = g .before .before .before .before .before .before .before in
-    let w = call-word (subscribe (s .args .time) (s .args .id) (s .args .topic)) (s .args .table .now) (s .args .actions .now) _ _ _ (g .before .before .before .before .before .time-ok .ensures) (ap₂ _&&_ (g .before .before .before .before .id-ok .ensures) (g .before .before .before .topic-ok .ensures)) (g .admit .ensures) in
-    call-quiet (subscribe (s .args .time) (s .args .id) (s .args .topic)) (s .args .table .now) (s .args .actions .now) _ w (c .before .before .enum-told .given .1) _ _ (quiet-subscribe _ (s .args .time) (s .args .id) (s .args .topic)) (c .subscribe-from .ensures)
+    call-quiet (word (c .before .before .before .before)) (c .before .before .enum-told .given .1) (quiet-subscribe _ _ _ _) (c .subscribe-from .ensures)
 
 pub subscribe-spec : {M : Type 1} → statement M
 subscribe-spec =

@@ -4,33 +4,32 @@ use mathlib.Core.Path.{ap₂}
 use mathlib.Core.Bool.{_&&_}
 use Rattle.rules.specs.Calls.{unsubscribe}
 use Rattle.rules.specs.Step.{effect}
-use Rattle.topics.proofs.CallLaws.{call-word, call-refused, call-behind, call-quiet, both-fine}
+use Rattle.topics.proofs.CallLaws.{Word, call-word, call-refused, call-behind, call-quiet, both-fine}
 use Rattle.topics.proofs.ReplyLaws.{quiet-unsubscribe}
 use Rattle.topics.proofs.unsubscribe.Statement.{statement}
 use Rattle.topics.proofs.unsubscribe.Tie as tie
 
+abbrev start : tie.After-admit → tie.Start
+start g = g .before .before .before .before .before .before .before
+
+word :
+    (g : tie.After-admit) →
+    Word (unsubscribe (start g .args .time) (start g .args .id) (start g .args .topic)) (start g .args .table .now) (start g .args .actions .now) (g .admit .result)
+word g =
+    call-word (unsubscribe (start g .args .time) (start g .args .id) (start g .args .topic)) _ _ _ _ _ (g .before .before .before .before .before .time-ok .ensures) (ap₂ _&&_ (g .before .before .before .before .id-ok .ensures) (g .before .before .before .topic-ok .ensures)) (g .admit .ensures)
+
 unsubscribe-from-requires : tie.Need-unsubscribe-from-requires
 unsubscribe-from-requires c κs =
-    let g = c .before .before .before in
-    let s = g .before .before .before .before .before .before .before in
-    let w = call-word (unsubscribe (s .args .time) (s .args .id) (s .args .topic)) (s .args .table .now) (s .args .actions .now) _ _ _ (g .before .before .before .before .before .time-ok .ensures) (ap₂ _&&_ (g .before .before .before .before .id-ok .ensures) (g .before .before .before .topic-ok .ensures)) (g .admit .ensures) in
-    let b = call-behind (unsubscribe (s .args .time) (s .args .id) (s .args .topic)) (s .args .table .now) (s .args .actions .now) _ w (c .before .enum-told .given .1) (search needs) in
-    (b .ready, both-fine (s .args .id) (s .args .topic) (b .fine))
+    let b = call-behind (word (c .before .before .before)) (c .before .enum-told .given .1) (search needs) in
+    (b .ready, both-fine (start (c .before .before .before) .args .id) _ (b .fine))
 
 returns : tie.Need-returns
-returns c =
-    let g = c .before .before .before in
-    let s = g .before .before .before .before .before .before .before in
-    let w = call-word (unsubscribe (s .args .time) (s .args .id) (s .args .topic)) (s .args .table .now) (s .args .actions .now) _ _ _ (g .before .before .before .before .before .time-ok .ensures) (ap₂ _&&_ (g .before .before .before .before .id-ok .ensures) (g .before .before .before .topic-ok .ensures)) (g .admit .ensures) in
-    call-refused (unsubscribe (s .args .time) (s .args .id) (s .args .topic)) (s .args .table .now) (s .args .actions .now) _ w _ (c .before .a .given .1)
+returns c = call-refused (word (c .before .before .before)) (c .before .a .given .1)
 
 returns-2 : tie.Need-returns-2
 unfolding effect
 returns-2 c =
-    let g = c .before .before .before .before in
-    let s = g .before .before .before .before .before .before .before in
-    let w = call-word (unsubscribe (s .args .time) (s .args .id) (s .args .topic)) (s .args .table .now) (s .args .actions .now) _ _ _ (g .before .before .before .before .before .time-ok .ensures) (ap₂ _&&_ (g .before .before .before .before .id-ok .ensures) (g .before .before .before .topic-ok .ensures)) (g .admit .ensures) in
-    call-quiet (unsubscribe (s .args .time) (s .args .id) (s .args .topic)) (s .args .table .now) (s .args .actions .now) _ w (c .before .before .enum-told .given .1) _ _ (quiet-unsubscribe _ (s .args .time) (s .args .id) (s .args .topic)) (c .unsubscribe-from .ensures)
+    call-quiet (word (c .before .before .before .before)) (c .before .before .enum-told .given .1) (quiet-unsubscribe _ _ _ _) (c .unsubscribe-from .ensures)
 
 pub unsubscribe-spec : {M : Type 1} → statement M
 unsubscribe-spec =

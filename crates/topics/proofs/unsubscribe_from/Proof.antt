@@ -1,4 +1,5 @@
 -- `topics::unsubscribe_from`: 3, 11 of a graylisted peer, else the record and the clock.
+use native.Mathlib.Omega.{arith}
 use borrow.Author.Needs.{needs}
 use Rattle.rules.specs.Step.{effect, unsubscribeReply}
 use Rattle.rules.proofs.StepLaws.{found-below, peer-none, peer-at}
@@ -28,7 +29,7 @@ unsubscribe-slot-requires : tie.Need-unsubscribe-slot-requires
 unsubscribe-slot-requires c κs =
     let m = c .before .before .before .before .before in
     let p = m .before .before .before .before .before .pre in
-    (p .0 .standing .size, (p .1, found-below _ _ _ _ (m .before .before .find-connected .ensures) (m .slot .given .1)))
+    (p .0 .standing .size, (omega (arith, p .1), found-below _ _ _ _ (m .before .before .find-connected .ensures) (m .slot .given .1)))
 
 returns-3 : tie.Need-returns-3
 unfolding effect unsubscribeReply

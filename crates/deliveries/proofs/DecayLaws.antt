@@ -1,0 +1,198 @@
+-- A decay, record by record: what it relies on is kept from each record to the next, and its steps are the rules'.
+-- Assumes nothing.
+use Prim.Native.Nat.{ℕ, _*_, _<_, _≤_}
+use mathlib.Core.Path.{_≡_, ap, _∙_}
+use mathlib.Core.Bool.{Bool, true, false, _&&_}
+use mathlib.Core.List.{List}
+use native.Mathlib.Omega.{arith}
+use lib.Dec.{eqb}
+use Rattle.index.specs.Index.{iter}
+use Rattle.index.proofs.Index.{iter-keeps}
+use Rattle.index.proofs.Flags.{cond-case}
+use Rattle.records.specs.declared.Peer.{Peer}
+use Rattle.records.specs.declared.TopicRecord.{TopicRecord}
+use Rattle.records.specs.Records.{State, place, codeIn, peerIn, topicIn, setPeer, setTopic, setClock, isConnected}
+use Rattle.cells.proofs.StateLaws.{peer-case, topic-case}
+use Rattle.cells.specs.View.{stateOf}
+use Rattle.table.specs.Valid.{valid}
+use Rattle.score.specs.declared.TopicParams.{TopicParams}
+use Rattle.score.specs.Ranges.{TopicParamsIn, CountersIn}
+use Rattle.score.specs.Score.{topicParamsIn}
+use Rattle.score.specs.Counters.{fadedOf, decayedOf}
+use Rattle.score.proofs.CounterLaws.{faded-less}
+use Rattle.score.proofs.InputLaws.{params-in, slot-in}
+use Rattle.effects.specs.Effects.{magnitude, withP7}
+use Rattle.gate.proofs.StandingLaws.{sizes}
+use Rattle.rules.specs.declared.Answer.{Answer}
+use Rattle.rules.specs.declared.Answer.the-variants.{Done}
+use Rattle.rules.specs.declared.Gate.{Gate}
+use Rattle.rules.specs.Step.{gateOf, decayFloor, decayTopic, decayP7, decaySlot, decayReply}
+use Rattle.rules.specs.Promise.{Leaves}
+use Rattle.peers.proofs.AnswerLaws.{done-after}
+use Rattle.deliveries.specs.Decays.{Decays}
+
+-- behind the gate
+pub decays-of : (st : State) → valid st ≡ true → Decays st
+decays-of st v =
+    record {
+      params = params-in st v;
+      floor = sizes st v .floor;
+      factor = sizes st v .fade;
+      counters = λ s t h l. slot-in st v s h .counters t l;
+      p7 = λ s h. slot-in st v s h .p7;
+    }
+
+-- ---- what is relied on is kept
+
+-- no counter grows
+decayed-in :
+    (t : TopicParams) (floor time : ℕ) (r : TopicRecord) →
+    TopicParamsIn t →
+    CountersIn r →
+    CountersIn (decayedOf t floor time r)
+unfolding decayedOf
+decayed-in t floor time r h k =
+    record {
+      p2 = omega (arith, faded-less floor (t .decay2) (r .p2) (omega arith));
+      p3 = omega (arith, faded-less floor (t .decay3) (r .p3) (omega arith));
+      p4 = omega (arith, faded-less floor (t .decay4) (r .p4) (omega arith));
+      p3b = omega (arith, faded-less (floor * 1000) (t .decay3b) (r .p3b) (omega arith));
+    }
+
+module _ (st : State) (d : Decays st) where
+  kept-topic : (time s t : ℕ) → s < 64 → t < 8 → Decays (decayTopic time s t st)
+  unfolding decayTopic setTopic topicParamsIn codeIn peerIn
+  kept-topic time s t h l =
+      record {
+        params = d .params;
+        floor = d .floor;
+        factor = d .factor;
+        counters = λ u v a b.
+            topic-case
+            st
+            CountersIn
+            (place s t)
+            (decayedOf (topicParamsIn st t) (decayFloor st) time (topicIn st (place s t)))
+            (place u v)
+            (λ e. decayed-in (topicParamsIn st t) (decayFloor st) time (topicIn st (place s t)) (d .params t l) (d .counters s t h l))
+            (d .counters u v a b);
+        p7 = d .p7;
+      }
+
+  kept-p7 : (s : ℕ) → s < 64 → Decays (decayP7 s st)
+  unfolding decayP7 withP7 setPeer topicParamsIn codeIn topicIn
+  kept-p7 s h =
+      record {
+        params = d .params;
+        floor = d .floor;
+        factor = d .factor;
+        counters = d .counters;
+        p7 = λ u a.
+            peer-case
+            st
+            (λ (p : Peer). p .p7 ≤ 1000000)
+            s
+            (withP7 (peerIn st s) (fadedOf (decayFloor st) (magnitude (codeIn st 17)) (peerIn st s .p7)))
+            u
+            (λ e.
+            let f = d .factor in
+            omega (arith, faded-less (decayFloor st) (magnitude (codeIn st 17)) (peerIn st s .p7) (omega arith), d .p7 s h))
+            (d .p7 u a);
+      }
+
+kept-topics : (st : State) → Decays st → (time s n : ℕ) → s < 64 → n ≤ 8 → Decays (iter n (decayTopic time s) st)
+kept-topics st d time s n h b =
+    iter-keeps Decays (decayTopic time s) n st d (λ t u l k. kept-topic u k time s t h (omega arith))
+
+kept-slot : (st : State) → Decays st → (time s : ℕ) → s < 64 → Decays (decaySlot time s st)
+unfolding decaySlot
+kept-slot st d time s h =
+    cond-case
+    Decays
+    (isConnected (peerIn st s))
+    (decayP7 s (iter 8 (decayTopic time s) st))
+    st
+    (λ e. kept-p7 (iter 8 (decayTopic time s) st) (kept-topics st d time s 8 h (omega arith)) s h)
+    (λ e. d)
+
+kept-slots : (st : State) → Decays st → (time n : ℕ) → n ≤ 64 → Decays (iter n (decaySlot time) st)
+kept-slots st d time n b =
+    iter-keeps Decays (decaySlot time) n st d (λ s u l k. kept-slot u k time s (omega arith))
+
+-- on the way
+pub at-topic :
+    (st u : State) (time s n : ℕ) → Decays st → s < 64 → n ≤ 8 → u ≡ iter n (decayTopic time s) st → Decays u
+at-topic st u time s n d h b e = rw e (kept-topics st d time s n h b)
+
+pub at-slot : (st u : State) (time n : ℕ) → Decays st → n ≤ 64 → u ≡ iter n (decaySlot time) st → Decays u
+at-slot st u time n d b e = rw e (kept-slots st d time n b)
+
+-- ---- one record, as it is computed: what is loaded is what the state holds
+
+module _ (st : State) (time s t floor : ℕ) (p : TopicParams) (r : TopicRecord) where
+  module _ (er : r ≡ topicIn st (place s t)) (ep : p ≡ topicParamsIn st t) (ef : floor ≡ decayFloor st) where
+    pub topic-ready : Decays st → s < 64 → t < 8 → TopicParamsIn p × (CountersIn r × (floor ≤ 1000))
+    topic-ready d h l = (rw ep (d .params t l), (rw er (d .counters s t h l), omega (arith, d .floor)))
+
+    pub topic-decayed :
+        (q : TopicRecord) (u : State) →
+        q ≡ decayedOf p floor time r →
+        u ≡ setTopic st (place s t) q →
+        u ≡ decayTopic time s t st
+    unfolding decayTopic
+    topic-decayed q u eq eu = cc
+
+module _ (st : State) (s floor factor x : ℕ) (p q : Peer) (u : State) where
+  pub p7-decayed :
+      p ≡ peerIn st s →
+      floor ≡ decayFloor st →
+      factor ≡ magnitude (codeIn st 17) →
+      x ≡ fadedOf floor factor (p .p7) →
+      q ≡ withP7 p x →
+      u ≡ setPeer st s q →
+      u ≡ decayP7 s st
+  unfolding decayP7
+  p7-decayed ep ef eg ex eq eu = cc
+
+pub p7-ready :
+    (st : State) (s factor : ℕ) (p : Peer) →
+    Decays st →
+    s < 64 →
+    p ≡ peerIn st s →
+    factor ≡ magnitude (codeIn st 17) →
+    (factor ≤ 1000) × (p .p7 ≤ 1000000000000)
+p7-ready st s factor p d h ep ef =
+    let x : p .p7 ≡ peerIn st s .p7 = ap (λ (q : Peer). q .p7) ep in
+    (omega (arith, d .factor), omega (arith, d .p7 s h))
+
+-- ---- one slot
+
+module _ (st : State) (time s status : ℕ) (e : status ≡ peerIn st s .status) where
+  pub slot-connected :
+      (v u : State) →
+      eqb status 1 ≡ true →
+      v ≡ iter 8 (decayTopic time s) st →
+      u ≡ decayP7 s v →
+      u ≡ decaySlot time s st
+  unfolding decaySlot
+  slot-connected v u g ev eu = eu ∙ ap (decayP7 s) ev ∙ rw (← e, g)
+
+  pub slot-other : eqb status 1 ≡ false → st ≡ decaySlot time s st
+  unfolding decaySlot
+  slot-other g = rw (← e, g)
+
+-- ---- the call: its one argument is the time
+
+pub time-alone :
+    (st : State) (a : Bool) (room time : ℕ) (g : Gate) → g ≡ gateOf st a room time → g ≡ gateOf st (a && true) room time
+time-alone st true room time g e = e
+time-alone st false room time g e = e
+
+-- all slots decayed, and the clock moved
+pub decay-done :
+    (table mid table′ : List ℕ) (time : ℕ) (a : Answer) →
+    stateOf mid ≡ iter 64 (decaySlot time) (stateOf table) →
+    (a ≡ Done 0) × (stateOf table′ ≡ setClock (stateOf mid) time) →
+    Leaves (decayReply (stateOf table) time) a table table′
+unfolding decayReply
+decay-done table mid table′ time a e f = done-after _ time a table mid table′ e f

@@ -1,0 +1,103 @@
+-- What a delivery comes to at each of its ends.
+-- Assumes nothing.
+use Prim.Native.Nat.{ℕ, _≤_, _<_}
+use mathlib.Core.Path.{_≡_, refl, sym, ap₂, _∙_}
+use mathlib.Core.Bool.{Bool, true, false, _&&_}
+use mathlib.Core.List.{List, []}
+use native.Mathlib.Omega.{arith}
+use borrow.Author.Tests.{leb-true}
+use lib.Dec.{eqb, leb}
+use Rattle.index.proofs.Index.{both}
+use Rattle.index.proofs.Flags.{cond-case}
+use Rattle.records.specs.declared.TopicRecord.{TopicRecord}
+use Rattle.records.specs.Records.{State, place, topicIn, setTopic, setClock}
+use Rattle.cells.specs.View.{stateOf}
+use Rattle.score.specs.declared.TopicParams.{TopicParams}
+use Rattle.score.specs.Score.{topicParamsIn}
+use Rattle.score.specs.Counters.{firstOf, nearFirstOf, invalidOf}
+use Rattle.effects.specs.Effects.{onTopic}
+use Rattle.rules.specs.declared.Answer.{Answer}
+use Rattle.rules.specs.declared.Answer.the-variants.{Done, Ignored}
+use Rattle.rules.specs.Reply.{Reply, ignored}
+use Rattle.rules.specs.Calls.{deliver, decay, idOk, topicOk}
+use Rattle.rules.specs.Step.{effect, isHeard, deliveredOf, deliverReply, decayReply}
+use Rattle.rules.specs.Promise.{Leaves}
+use Rattle.rules.proofs.PromiseLaws.{leaves-moved}
+use Rattle.rules.proofs.StepLaws.{leaves-then, leaves-else}
+use Rattle.peers.proofs.AnswerLaws.{quiet-peer, done-after}
+
+-- ---- the kinds
+
+module _ (kind : ℕ) (t : TopicParams) (r q : TopicRecord) where
+  pub delivered-first : eqb kind 1 ≡ true → q ≡ firstOf t r → q ≡ deliveredOf kind t r
+  unfolding deliveredOf
+  delivered-first a e = rw a e
+
+  pub delivered-near : eqb kind 1 ≡ false → eqb kind 2 ≡ true → q ≡ nearFirstOf t r → q ≡ deliveredOf kind t r
+  unfolding deliveredOf
+  delivered-near a b e = rw (a, b) e
+
+  pub delivered-invalid : eqb kind 1 ≡ false → eqb kind 2 ≡ false → q ≡ invalidOf r → q ≡ deliveredOf kind t r
+  unfolding deliveredOf
+  delivered-invalid a b e = rw (a, b) e
+
+-- ---- a delivery that is heard, and one that is not
+
+pub slot-delivered :
+    (st u : State) (t s kind : ℕ) (p : TopicParams) (r q : TopicRecord) →
+    r ≡ topicIn st (place s t) →
+    p ≡ topicParamsIn st t →
+    q ≡ deliveredOf kind p r →
+    u ≡ setTopic st (place s t) q →
+    u ≡ onTopic st s t (deliveredOf kind (topicParamsIn st t))
+slot-delivered st u t s kind p r q er ep eq eu = cc
+
+module _ (table : List ℕ) (time t kind s : ℕ) (a : Answer) (table′ : List ℕ) (heard : Bool) (e : heard ≡ isHeard (stateOf table) t s) where
+  pub deliver-heard :
+      (mid : List ℕ) →
+      heard ≡ true →
+      stateOf mid ≡ onTopic (stateOf table) s t (deliveredOf kind (topicParamsIn (stateOf table) t)) →
+      (a ≡ Done 0) × (stateOf table′ ≡ setClock (stateOf mid) time) →
+      Leaves (deliverReply (stateOf table) time t kind s) a table table′
+  unfolding deliverReply
+  deliver-heard mid h u f =
+      leaves-then (isHeard (stateOf table) t s) _ _ a table table′ (sym e ∙ h) (done-after _ time a table mid table′ u f)
+
+  pub deliver-ignored :
+      heard ≡ false →
+      (a ≡ Ignored) × (stateOf table′ ≡ setClock (stateOf table) time) →
+      Leaves (deliverReply (stateOf table) time t kind s) a table table′
+  unfolding deliverReply
+  deliver-ignored h f =
+      leaves-else (isHeard (stateOf table) t s) _ _ a table table′ (sym e ∙ h)
+      (leaves-moved (ignored (stateOf table) time) a table table′ (f .0) refl (f .1))
+
+-- ---- no action
+
+quiet-reply : (st : State) (time t kind s : ℕ) → deliverReply st time t kind s .actions ≡ []
+unfolding deliverReply
+quiet-reply st time t kind s =
+    cond-case (λ (o : Reply). o .actions ≡ []) (isHeard st t s) _ _ (λ h. refl) (λ h. refl)
+
+pub quiet-deliver : (st : State) (time id t kind : ℕ) → effect st (deliver time id t kind) .actions ≡ []
+unfolding effect
+quiet-deliver st time id t kind = quiet-peer st id _ (quiet-reply st time t kind)
+
+pub quiet-decay : (st : State) (time : ℕ) → effect st (decay time) .actions ≡ []
+unfolding effect decayReply
+quiet-decay st time = refl
+
+-- ---- ranges of the arguments
+
+pub deliver-range :
+    (id t kind : ℕ) (a b : Bool) →
+    a ≡ idOk id →
+    b ≡ topicOk t →
+    (a && b) && (leb 1 kind && leb kind 3) ≡ idOk id && topicOk t && (leb 1 kind && leb kind 3)
+deliver-range id t kind a b p q = ap₂ (λ (x y : Bool). x && y && (leb 1 kind && leb kind 3)) p q
+
+pub topic-below : (id t kind : ℕ) → idOk id && topicOk t && (leb 1 kind && leb kind 3) ≡ true → t < 8
+topic-below id t kind e =
+    let h : t ≤ 7 =
+    leb-true t 7 (both (idOk id) (topicOk t) (both (idOk id && topicOk t) (leb 1 kind && leb kind 3) e .0) .1) in
+    omega arith

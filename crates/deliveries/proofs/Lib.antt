@@ -1,0 +1,2 @@
+pub mod DeliverLaws
+pub mod DecayLaws

@@ -1,0 +1,160 @@
+// Deliveries and decay: two of 01's calls. Each takes the lent table, a time, its arguments as wide numbers and a lent action list, asks
+// nothing of its caller, and promises the rules' reply (crate rules).
+ghost use mathlib.Core.Path.{_≡_};
+ghost use Prim.Native.Nat.{_<_};
+ghost use lib.ListN.{length};
+ghost use Rattle.index.specs.Index.{iter};
+ghost use Rattle.cells.specs.View.{cellCount, stateOf};
+ghost use Rattle.score.specs.Score.{topicParamsIn};
+ghost use Rattle.effects.specs.Effects.{onTopic};
+ghost use Rattle.rules.specs.Calls.{deliver as Calls·deliver, decay as Calls·decay};
+ghost use Rattle.rules.specs.Step.{effect, deliveredOf, decayTopic, decayP7, decaySlot, decayReply};
+ghost use Rattle.rules.specs.Promise.{Leaves, Follows};
+ghost use Rattle.gate.specs.Ready.{Ready};
+ghost use Rattle.deliveries.specs.Decays.{Decays};
+use effects::slots::load_size;
+use effects::values::with_p7;
+use gate::admit;
+use gate::finish;
+use gate::id_ok;
+use gate::ignore;
+use gate::is_heard;
+use gate::time_ok;
+use gate::topic_ok;
+use index::Found;
+use records::SLOTS;
+use records::TOPICS;
+use records::TopicRecord;
+use rules::Answer;
+use rules::Gate;
+use score::TopicParams;
+use table::find::find_connected;
+
+// Kinds: 1 first, 2 near-first, 3 invalid.
+fn delivered(kind: u64, t: TopicParams, r: TopicRecord) -> TopicRecord
+    ensures { λ q. ⌜ q ≡ deliveredOf kind t r ⌝ }
+{
+    if kind == 1 {
+        return score::counters::first(t, r);
+    }
+    if kind == 2 {
+        return score::counters::near_first(t, r);
+    }
+    score::counters::invalid(r)
+}
+
+// The counters of a slot in a topic, after one delivery.
+fn deliver_slot(table: &mut [u64], topic: usize, slot: usize, kind: u64)
+    requires { ⌜ (length (now table) ≡ cellCount) × ((topic < 8) × (slot < 64)) ⌝ }
+    ensures { λ r. ⌜ stateOf (now (table .exit)) ≡ onTopic (stateOf (now (table .entry))) slot topic (deliveredOf kind (topicParamsIn (stateOf (now (table .entry))) topic)) ⌝ }
+{
+    let r = cells::load_topic(table, slot * 8 + topic);
+    let t = score::of_slot::load_params(table, topic);
+    cells::store_topic(table, slot * 8 + topic, delivered(kind, t, r));
+}
+
+fn deliver_from(table: &mut [u64], time: u64, id: u64, topic: usize, kind: u64) -> Answer
+    requires { ⌜ Ready (now table) time × (topic < 8) ⌝ }
+    ensures { λ r. ⌜ Leaves (effect (stateOf (now (table .entry))) (Calls·deliver time id topic kind)) r (now (table .entry)) (now (table .exit)) ⌝ }
+{
+    let Found::At(slot) = find_connected(table, id) else {
+        return Answer::NotConnected;
+    };
+    if is_heard(table, topic, slot) {
+        deliver_slot(table, topic, slot, kind);
+        return finish(table, time);
+    }
+    ignore(table, time)
+}
+
+// A peer delivers a message.
+pub fn deliver(
+    table: &mut [u64; 5340],
+    time: u64,
+    id: u64,
+    topic: u64,
+    kind: u64,
+    actions: &mut [u32],
+) -> Answer
+    ensures { λ r. ⌜ Follows (Calls·deliver time id topic kind) r (now (table .entry)) (now (table .exit)) (now (actions .entry)) (now (actions .exit)) ⌝ }
+{
+    let fine = time_ok(time) & ((id_ok(id) & topic_ok(topic)) & ((1 <= kind) & (kind <= 3)));
+    match admit(table, fine, actions.len(), time) {
+        Gate::Refuse(a) => a,
+        Gate::Pass => deliver_from(table, time, id, topic as usize, kind),
+    }
+}
+
+// The counters of one topic record, and a member's mesh time.
+fn decay_topic(table: &mut [u64], time: u64, slot: usize, topic: usize)
+    requires { ⌜ (length (now table) ≡ cellCount) × (Decays (stateOf (now table)) × ((slot < 64) × (topic < 8))) ⌝ }
+    ensures { λ r. ⌜ stateOf (now (table .exit)) ≡ decayTopic time slot topic (stateOf (now (table .entry))) ⌝ }
+{
+    let r = cells::load_topic(table, slot * 8 + topic);
+    let t = score::of_slot::load_params(table, topic);
+    cells::store_topic(
+        table,
+        slot * 8 + topic,
+        score::counters::decayed(t, load_size(table, 18), time, r),
+    );
+}
+
+fn decay_topics(table: &mut [u64], time: u64, slot: usize)
+    requires { ⌜ (length (now table) ≡ cellCount) × (Decays (stateOf (now table)) × (slot < 64)) ⌝ }
+    ensures { λ r. ⌜ stateOf (now (table .exit)) ≡ iter 8 (decayTopic time slot) (stateOf (now (table .entry))) ⌝ }
+{
+    let mut topic: usize = 0;
+    while topic < TOPICS {
+        decay_topic(table, time, slot, topic);
+        topic += 1;
+    }
+}
+
+fn decay_p7(table: &mut [u64], slot: usize)
+    requires { ⌜ (length (now table) ≡ cellCount) × (Decays (stateOf (now table)) × (slot < 64)) ⌝ }
+    ensures { λ r. ⌜ stateOf (now (table .exit)) ≡ decayP7 slot (stateOf (now (table .entry))) ⌝ }
+{
+    let p = cells::load_peer(table, slot);
+    cells::store_peer(
+        table,
+        slot,
+        with_p7(
+            p,
+            score::counters::faded(load_size(table, 18), load_size(table, 17), p.p7),
+        ),
+    );
+}
+
+// Connected peers only.
+fn decay_slot(table: &mut [u64], time: u64, slot: usize)
+    requires { ⌜ (length (now table) ≡ cellCount) × (Decays (stateOf (now table)) × (slot < 64)) ⌝ }
+    ensures { λ r. ⌜ stateOf (now (table .exit)) ≡ decaySlot time slot (stateOf (now (table .entry))) ⌝ }
+{
+    if cells::load_status(table, slot) == 1 {
+        decay_topics(table, time, slot);
+        decay_p7(table, slot);
+    }
+}
+
+fn decay_from(table: &mut [u64], time: u64) -> Answer
+    requires { ⌜ Ready (now table) time ⌝ }
+    ensures { λ r. ⌜ Leaves (decayReply (stateOf (now (table .entry))) time) r (now (table .entry)) (now (table .exit)) ⌝ }
+{
+    let mut slot: usize = 0;
+    while slot < SLOTS {
+        decay_slot(table, time, slot);
+        slot += 1;
+    }
+    finish(table, time)
+}
+
+// The counters fade, and the members' mesh times are brought up to date.
+pub fn decay(table: &mut [u64; 5340], time: u64, actions: &mut [u32]) -> Answer
+    ensures { λ r. ⌜ Follows (Calls·decay time) r (now (table .entry)) (now (table .exit)) (now (actions .entry)) (now (actions .exit)) ⌝ }
+{
+    let fine = time_ok(time);
+    match admit(table, fine, actions.len(), time) {
+        Gate::Refuse(a) => a,
+        Gate::Pass => decay_from(table, time),
+    }
+}
