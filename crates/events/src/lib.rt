@@ -1,0 +1,11 @@
+// A trace's events (01, "The trace program"): their numbers read from a window of bytes, and a reply in text. The event as a whole is crate
+// replay, the program that moves the bytes crate trace.
+pub mod lines;
+pub mod reading;
+
+// Where the numbers end, or the place of the first that cannot be read.
+pub struct Readings {
+    pub ok: bool,
+    pub place: usize,
+    pub values: [u64; 5],
+}

@@ -1,0 +1,115 @@
+// A reply in text. The text itself is fixed in specs/Lines.antt; the caller shows that there is room: 42 bytes for two numbers, 44 for an
+// action, 24 for a score.
+use rules::Answer;
+use text::put_byte;
+use text::put_decimal;
+use text::put_signed;
+ghost use mathlib.Core.Path.{_≡_};
+ghost use mathlib.Core.List.{[], _∷_};
+ghost use Prim.Native.Nat.{_+_, _*_, _≤_};
+ghost use lib.ListN.{length};
+ghost use Rattle.text.specs.Text.{Stored};
+ghost use Rattle.rules.specs.Reply.{numberOf, actionsOf};
+ghost use Rattle.events.specs.Lines.{space, pairLine, actionLine, actionsText, scoreLine, replyText};
+
+// 01's number of an answer.
+pub fn number_of(a: Answer) -> u64
+    ensures { λ r. ⌜ r ≡ numberOf a ⌝ }
+{
+    match a {
+        Answer::Done(_) => 0,
+        Answer::Scored(_) => 0,
+        Answer::Early => 1,
+        Answer::OutOfRange => 2,
+        Answer::NotConnected => 3,
+        Answer::AlreadyConnected => 4,
+        Answer::NoSlot => 5,
+        Answer::UnknownProtocol => 6,
+        Answer::NotPermutation => 7,
+        Answer::ListShort => 8,
+        Answer::Ignored => 11,
+        Answer::NotRouter => 12,
+    }
+}
+
+// How many actions it has.
+pub fn actions_of(a: Answer) -> usize
+    ensures { λ r. ⌜ r ≡ actionsOf a ⌝ }
+{
+    if let Answer::Done(n) = a { n } else { 0 }
+}
+
+// Two numbers on a line; the place after it.
+pub fn put_pair(out: &mut [u8], at: usize, a: u64, b: u64) -> usize
+    requires { ⌜ at + 42 ≤ length (now out) ⌝ }
+    ensures { λ r. ⌜ Stored (now (out .entry)) at (pairLine a b) r (now (out .exit)) × (r ≤ at + 42) ⌝ }
+{
+    let mut k = put_decimal(out, at, a);
+    k = put_byte(out, k, b' ');
+    k = put_decimal(out, k, b);
+    put_byte(out, k, b'\n')
+}
+
+fn put_letter(out: &mut [u8], at: usize, letter: u8) -> usize
+    requires { ⌜ at + 2 ≤ length (now out) ⌝ }
+    ensures { λ r. ⌜ Stored (now (out .entry)) at (letter ∷ space ∷ []) r (now (out .exit)) ⌝ }
+{
+    let k = put_byte(out, at, letter);
+    put_byte(out, k, b' ')
+}
+
+// "G id" or "P id seconds".
+pub fn put_action(out: &mut [u8], at: usize, kind: u32, id: u32, seconds: u32) -> usize
+    requires { ⌜ at + 44 ≤ length (now out) ⌝ }
+    ensures { λ r. ⌜ Stored (now (out .entry)) at (actionLine kind id seconds) r (now (out .exit)) × (r ≤ at + 44) ⌝ }
+{
+    if kind == 1 {
+        let mut k = put_letter(out, at, b'G');
+        k = put_decimal(out, k, id as u64);
+        return put_byte(out, k, b'\n');
+    }
+    let k = put_letter(out, at, b'P');
+    put_pair(out, k, id as u64, seconds as u64)
+}
+
+pub fn put_actions(out: &mut [u8], at: usize, actions: &[u32], n: usize) -> usize
+    requires { ⌜ (at + 44 * n ≤ length (now out)) × (3 * n ≤ length (now actions)) ⌝ }
+    ensures { λ r. ⌜ Stored (now (out .entry)) at (actionsText n (now (actions .entry))) r (now (out .exit)) × (r ≤ at + 44 * n) ⌝ }
+{
+    let mut k = at;
+    let mut i: usize = 0;
+    while i < n {
+        k = put_action(
+            out,
+            k,
+            actions[3 * i],
+            actions[3 * i + 1],
+            actions[3 * i + 2],
+        );
+        i += 1;
+    }
+    k
+}
+
+pub fn put_score(out: &mut [u8], at: usize, a: Answer) -> usize
+    requires { ⌜ at + 24 ≤ length (now out) ⌝ }
+    ensures { λ r. ⌜ Stored (now (out .entry)) at (scoreLine a) r (now (out .exit)) × (r ≤ at + 24) ⌝ }
+{
+    let Answer::Scored(z) = a else {
+        return at;
+    };
+    let mut k = put_letter(out, at, b'S');
+    k = put_signed(out, k, z);
+    put_byte(out, k, b'\n')
+}
+
+// Answer and action count, then one line an action or score.
+pub fn put_reply(out: &mut [u8], a: Answer, actions: &[u32]) -> usize
+    requires { ⌜ (4096 ≤ length (now out)) × (actionsOf a ≤ 64) × (192 ≤ length (now actions)) ⌝ }
+    ensures { λ r. ⌜ Stored (now (out .entry)) 0 (replyText a (now (actions .entry))) r (now (out .exit)) × (r ≤ 4096) ⌝ }
+{
+    let n = actions_of(a);
+    let mut k = put_pair(out, 0, number_of(a), n as u64);
+    k = put_actions(out, k, actions, n);
+    put_score(out, k, a)
+}
