@@ -7,3 +7,4 @@ pub mod KeepsTopic
 pub mod KeepsPeer
 pub mod KeepsDecay
 pub mod Keeps
+pub mod Examples

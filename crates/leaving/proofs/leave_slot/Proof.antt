@@ -15,7 +15,7 @@ put-prune-requires c κs =
     let m = l .before .before .before .before in
     let s = m .before .before .before .before .before .before .before in
     let i = grown-id _ _ _ _ _ _ (m .punish .ensures) (l .load-peer .ensures) in
-    (s .pre .1 .0, (omega (arith, i, s .pre .0 .id), s .pre .1 .1))
+    (s .pre .1 .0, (omega (arith, i, s .pre .0 .id), omega (arith, s .pre .1 .1)))
 
 returns-2 : tie.Need-returns-2
 returns-2 c =

@@ -20,7 +20,7 @@ punish-spec =
     (λ c. omega arith)
     (λ c. omega arith)
     (λ c κs. let p = c .before .before .before .pre in (p .size, omega (arith, p .topic, p .slot)))
-    (λ c κs. let p = c .before .before .before .before .before .pre in (p .size, p .topic))
+    (λ c κs. let p = c .before .before .before .before .before .pre in (p .size, omega (arith, p .topic)))
     (λ c. omega arith)
     (λ c. omega arith)
     (λ c κs. rw (c .before .load-params .ensures) (c .before .before .before .before .before .before .before .pre .threshold))
