@@ -1,0 +1,146 @@
+-- Every reply counts its actions, and gives at most one for each slot.
+-- Assumes nothing.
+use Prim.Native.Nat.{ℕ, zero, suc, _+_, _*_, _≤_}
+use mathlib.Core.Path.{_≡_, refl, sym, ap, _∙_}
+use mathlib.Core.Bool.{Bool, true, false, cond}
+use mathlib.Core.List.{List, [], _∷_, _++_}
+use native.Mathlib.Omega.{arith}
+use lib.Dec.{eqb, leb}
+use lib.ListN.{length, length-append}
+use Rattle.index.specs.Index.{gather}
+use Rattle.index.specs.declared.Found.{Found}
+use Rattle.index.specs.declared.Found.the-variants.{At, Nothing}
+use Rattle.index.proofs.Flags.{cond-case}
+use Rattle.records.specs.Records.{State, slotCount, peerIn}
+use Rattle.table.specs.Valid.{valid}
+use Rattle.table.specs.Find.{findConnected, findRetained, lowestEmpty}
+use Rattle.table.specs.declared.Named.{Named}
+use Rattle.table.specs.declared.Named.the-variants.{Version, Unknown}
+use Rattle.table.specs.Name.{versionOf}
+use Rattle.effects.specs.Actions.{Action, pruneOf}
+use Rattle.effects.specs.Effects.{isJoined, isMember, backoffRuns, unsubscribeBackoff, reclaimed}
+use Rattle.rules.specs.declared.Answer.{Answer}
+use Rattle.rules.specs.declared.Gate.{Gate}
+use Rattle.rules.specs.declared.Gate.the-variants.{Pass, Refuse}
+use Rattle.rules.specs.declared.Answer.the-variants.{Early, OutOfRange, NotConnected, AlreadyConnected, NoSlot, UnknownProtocol, ListShort, NotRouter}
+use Rattle.rules.specs.Reply.{Reply, actionsOf, refused, ignored, done}
+use Rattle.rules.specs.Calls.{Call, connect, disconnect, join, leave, subscribe, unsubscribe, graft, prune, deliver, rate, decay, score, timeOf, inRange}
+use Rattle.rules.specs.Step.{actionRoom, isGraylisted, isHeard, graftEnters, gateOf, through, onFound, ofPeer, onVersion, connectAt, connectIn, connectReply, joinReply, leaveActions, leaveReply, subscribeReply, unsubscribeReply, graftRefused, graftOpen, graftBackoff, graftHeard, graftReply, pruneReply, deliverReply, decayReply, effect, step}
+
+pub record Counted (o : Reply) : Type 0 where
+  pub counts : actionsOf (o .answer) ≡ length (o .actions)
+  pub few : length (o .actions) ≤ 64
+
+-- ---- the shapes of replies
+counted-refused : (a : Answer) (st : State) → actionsOf a ≡ 0 → Counted (refused a st)
+counted-refused a st e = record { counts = e; few = omega arith }
+
+counted-ignored : (st : State) (time : ℕ) → Counted (ignored st time)
+counted-ignored st time = record { counts = refl; few = omega arith }
+
+counted-done : (st : State) (time : ℕ) (acts : List Action) → length acts ≤ 64 → Counted (done st time acts)
+counted-done st time acts h = record { counts = refl; few = h }
+
+counted-quiet : (st : State) (time : ℕ) → Counted (done st time [])
+counted-quiet st time = counted-done st time [] (omega arith)
+
+counted-cond : (b : Bool) (o q : Reply) → Counted o → Counted q → Counted (cond b o q)
+counted-cond b o q h k = cond-case Counted b o q (λ e. h) (λ e. k)
+
+counted-found :
+    (r : Found) (f : ℕ → Reply) (q : Reply) → ((s : ℕ) → Counted (f s)) → Counted q → Counted (onFound r f q)
+counted-found (At s) f q h k = h s
+counted-found Nothing f q h k = k
+
+counted-peer : (st : State) (id : ℕ) (f : ℕ → Reply) → ((s : ℕ) → Counted (f s)) → Counted (ofPeer st id f)
+counted-peer st id f h = counted-found (findConnected st id) f _ h (counted-refused NotConnected st refl)
+
+counted-version :
+    (r : Named) (f : ℕ → Reply) (q : Reply) → ((v : ℕ) → Counted (f v)) → Counted q → Counted (onVersion r f q)
+counted-version (Version v) f q h k = h v
+counted-version Unknown f q h k = k
+
+-- ---- the replies
+counted-connect : (st : State) (time id group flags : ℕ) (name : List ℕ) → Counted (connectReply st time id group flags name)
+unfolding connectReply connectIn connectAt
+counted-connect st time id group flags name =
+    counted-version (versionOf name) _ _
+    (λ v.
+    counted-found (findConnected st id) _ _ (λ s. counted-refused AlreadyConnected st refl)
+    (counted-found (findRetained (reclaimed st time) id) _ _ (λ s. counted-quiet _ time)
+    (counted-found (lowestEmpty (reclaimed st time)) _ _ (λ s. counted-quiet _ time) (counted-refused NoSlot st refl))))
+    (counted-refused UnknownProtocol st refl)
+
+-- at most one of each
+gather-few :
+    (f : ℕ → List Action) (n : ℕ) → ((s : ℕ) → length (f s) ≤ 1) → length (gather n f) ≤ n
+unfolding gather
+gather-few f zero h = omega arith
+gather-few f (suc n) h = omega (arith, length-append (gather n f) (f n), gather-few f n h, h n)
+
+leave-few : (st : State) (t n : ℕ) → length (leaveActions st t n) ≤ n
+unfolding leaveActions
+leave-few st t n =
+    gather-few _ n
+    (λ s.
+    cond-case (λ (l : List Action). length l ≤ 1) (isMember st t s) (pruneOf (peerIn st s) (unsubscribeBackoff st) ∷ []) []
+    (λ e. omega arith)
+    (λ e. omega arith))
+
+counted-leave : (st : State) (time t : ℕ) → Counted (leaveReply st time t)
+unfolding leaveReply
+counted-leave st time t =
+    counted-cond (isJoined st t) _ _ (counted-done _ time (leaveActions st t slotCount) (leave-few st t 64)) (counted-ignored st time)
+
+counted-prune-back : (st : State) (time t s : ℕ) → Counted (graftRefused st time t s)
+unfolding graftRefused
+counted-prune-back st time t s = counted-done _ time _ (omega arith)
+
+counted-graft : (st : State) (time t s : ℕ) → Counted (graftReply st time t s)
+unfolding graftReply graftHeard graftBackoff graftOpen
+counted-graft st time t s =
+    counted-cond (isHeard st t s) _ _
+    (counted-cond (isMember st t s) _ _ (counted-quiet st time)
+    (counted-cond (eqb (peerIn st s .explicit) 1) _ _ (counted-prune-back st time t s)
+    (counted-cond (backoffRuns (peerIn st s) t time) _ _ (counted-prune-back _ time t s)
+    (counted-cond (graftEnters st t s) _ _ (counted-quiet _ time) (counted-prune-back st time t s)))))
+    (counted-ignored st time)
+
+counted-effect : (st : State) (c : Call) → Counted (effect st c)
+unfolding effect joinReply subscribeReply unsubscribeReply pruneReply deliverReply decayReply
+counted-effect st (connect time id group flags name) = counted-connect st time id group flags name
+counted-effect st (disconnect time id) = counted-peer st id _ (λ s. counted-quiet _ time)
+counted-effect st (join time t) = counted-cond (isJoined st t) _ _ (counted-ignored st time) (counted-quiet _ time)
+counted-effect st (leave time t) = counted-leave st time t
+counted-effect st (subscribe time id t) =
+    counted-peer st id _ (λ s. counted-cond (isGraylisted st s) _ _ (counted-ignored st time) (counted-quiet _ time))
+counted-effect st (unsubscribe time id t) =
+    counted-peer st id _ (λ s. counted-cond (isGraylisted st s) _ _ (counted-ignored st time) (counted-quiet _ time))
+counted-effect st (graft time id t) = counted-peer st id _ (λ s. counted-graft st time t s)
+counted-effect st (prune time id t seconds) =
+    counted-peer st id _ (λ s. counted-cond (isHeard st t s) _ _ (counted-quiet _ time) (counted-ignored st time))
+counted-effect st (deliver time id t kind) =
+    counted-peer st id _ (λ s. counted-cond (isHeard st t s) _ _ (counted-quiet _ time) (counted-ignored st time))
+counted-effect st (rate time id p5) = counted-peer st id _ (λ s. counted-quiet _ time)
+counted-effect st (decay time) = counted-quiet _ time
+counted-effect st (score time id) = counted-peer st id _ (λ s. record { counts = refl; few = omega arith })
+
+-- the gate's answers have no action
+counted-gate :
+    (v f r t : Bool) (st : State) (o : Reply) →
+    Counted o →
+    Counted
+    (through
+    (cond v (cond f (cond r (cond t Pass (Refuse Early)) (Refuse ListShort)) (Refuse OutOfRange)) (Refuse NotRouter))
+    st
+    o)
+counted-gate false f r t st o h = counted-refused NotRouter st refl
+counted-gate true false r t st o h = counted-refused OutOfRange st refl
+counted-gate true true false t st o h = counted-refused ListShort st refl
+counted-gate true true true false st o h = counted-refused Early st refl
+counted-gate true true true true st o h = h
+
+pub counted : (st : State) (c : Call) (room : ℕ) → Counted (step st c room)
+unfolding step gateOf
+counted st c room =
+    counted-gate (valid st) (inRange c) (leb actionRoom room) (leb (st .clock) (timeOf c)) st (effect st c) (counted-effect st c)

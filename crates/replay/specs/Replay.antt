@@ -1,0 +1,64 @@
+-- What one event of a trace does to the table and to the lent buffer.
+use Prim.Native.Nat.{ℕ, _≤_}
+use mathlib.Core.Path.{_≡_}
+use mathlib.Core.Bool.{cond}
+use mathlib.Core.List.{List}
+use lib.Dec.{ltb}
+use lib.ListN.{length}
+use lib.Seq.{sets}
+use Rattle.records.specs.Records.{State}
+use Rattle.cells.specs.View.{stateOf}
+use Rattle.rules.specs.Reply.{Reply}
+use Rattle.rules.specs.Calls.{Call}
+use Rattle.rules.specs.Step.{step, actionRoom}
+use Rattle.replay.specs.declared.Replayed.{Replayed}
+use Rattle.replay.specs.declared.Replayed.the-variants.{Called, Stopped, Short, Full}
+use Rattle.events.specs.Reading.{Event, event, unknown, malformed, short, eventAt}
+use Rattle.events.specs.Lines.{pairLine, linesOf}
+
+-- the answer, the state that is left, and the buffer's bytes
+pub record Outcome : Type 0 where
+  pub answer : Replayed
+  pub state : State
+  pub bytes : List ℕ
+
+-- an event's reply, printed at the start of the buffer
+abbrev pub printed : Reply → ℕ → List ℕ → Outcome
+printed o next out =
+    record { answer = Called next (length (linesOf o)); state = o .state; bytes = sets out 0 (linesOf o) }
+
+-- "print [..] and stop"
+abbrev pub stopped : State → ℕ → List ℕ → Outcome
+stopped st n out =
+    record { answer = Stopped (length (pairLine n 0)); state = st; bytes = sets out 0 (pairLine n 0) }
+
+abbrev pub replayEvent : State → List ℕ → Event → Outcome
+replayEvent st out (event c next) = printed (step st c actionRoom) next out
+replayEvent st out unknown = stopped st 2 out
+replayEvent st out malformed = stopped st 10 out
+replayEvent st out short = record { answer = Short; state = st; bytes = out }
+
+-- how many bytes one event may print: 64 actions of at most 44 bytes, and two lines
+abbrev pub lineRoom : ℕ
+lineRoom = 4096
+
+unfoldable pub replayOf : State → List ℕ → ℕ → List ℕ → Outcome
+replayOf st s at out =
+    cond (ltb (length out) lineRoom)
+    (record { answer = Full; state = st; bytes = out })
+    (replayEvent st out (eventAt s at))
+
+-- how many bytes were printed
+abbrev pub printedBy : Replayed → ℕ
+printedBy (Called next n) = n
+printedBy (Stopped n) = n
+printedBy Short = 0
+printedBy Full = 0
+
+-- what a replay promises: r is the answer, table′ and out′ are what stands in the table and in the buffer after it
+pub record Replays (o : Outcome) (r : Replayed) (table′ out′ : List ℕ) : Type 0 where
+  pub answer : r ≡ o .answer
+  pub state : stateOf table′ ≡ o .state
+  pub bytes : out′ ≡ o .bytes
+  -- so much room is enough
+  pub room : printedBy r ≤ lineRoom
