@@ -1,4 +1,2 @@
-pub mod CallLaws
-pub mod EndLaws
 pub mod PruneLaws
 pub mod GraftLaws

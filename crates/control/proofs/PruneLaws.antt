@@ -13,7 +13,7 @@ use Rattle.gate.proofs.StandingLaws.{sizes}
 use Rattle.rules.specs.Calls.{prune}
 use Rattle.rules.specs.Reply.{ignored, done}
 use Rattle.rules.specs.Step.{effect, isHeard, pruneReply, secondsOf}
-use Rattle.control.proofs.EndLaws.{quiet-cond, quiet-peer}
+use Rattle.rules.proofs.EndLaws.{quiet-cond, quiet-peer}
 
 module _ (st : State) (seconds : ℕ) where
   pub seconds-none :

@@ -28,7 +28,7 @@ use Rattle.rules.specs.declared.Answer.the-variants.{Done}
 use Rattle.rules.specs.declared.Gate.{Gate}
 use Rattle.rules.specs.Step.{gateOf, decayFloor, decayTopic, decayP7, decaySlot, decayReply}
 use Rattle.rules.specs.Promise.{Leaves}
-use Rattle.peers.proofs.AnswerLaws.{done-after}
+use Rattle.rules.proofs.EndLaws.{leaves-done}
 use Rattle.deliveries.specs.Decays.{Decays}
 
 -- behind the gate
@@ -195,4 +195,4 @@ pub decay-done :
     (a ≡ Done 0) × (stateOf table′ ≡ setClock (stateOf mid) time) →
     Leaves (decayReply (stateOf table) time) a table table′
 unfolding decayReply
-decay-done table mid table′ time a e f = done-after _ time a table mid table′ e f
+decay-done table mid table′ time a e f = leaves-done table mid table′ _ time a e f

@@ -24,7 +24,7 @@ use Rattle.rules.specs.Step.{effect, isHeard, deliveredOf, deliverReply, decayR
 use Rattle.rules.specs.Promise.{Leaves}
 use Rattle.rules.proofs.PromiseLaws.{leaves-moved}
 use Rattle.rules.proofs.StepLaws.{leaves-then, leaves-else}
-use Rattle.peers.proofs.AnswerLaws.{quiet-peer, done-after}
+use Rattle.rules.proofs.EndLaws.{quiet-peer, leaves-done}
 
 -- ---- the kinds
 
@@ -61,7 +61,7 @@ module _ (table : List ℕ) (time t kind s : ℕ) (a : Answer) (table′ : List 
       Leaves (deliverReply (stateOf table) time t kind s) a table table′
   unfolding deliverReply
   deliver-heard mid h u f =
-      leaves-then (isHeard (stateOf table) t s) _ _ a table table′ (sym e ∙ h) (done-after _ time a table mid table′ u f)
+      leaves-then (isHeard (stateOf table) t s) _ _ a table table′ (sym e ∙ h) (leaves-done table mid table′ _ time a u f)
 
   pub deliver-ignored :
       heard ≡ false →

@@ -35,7 +35,7 @@ use Rattle.rules.specs.Step.{isNegative, punished, leaveSlot, leaveActions, lea
 use Rattle.rules.specs.Promise.{Gives}
 use Rattle.rules.proofs.PromiseLaws.{leaves-moved, gives-quiet}
 use Rattle.rules.proofs.StepLaws.{gives-then, gives-else}
-use Rattle.topics.proofs.ReplyLaws.{leaves-ignored}
+use Rattle.rules.proofs.EndLaws.{leaves-ignored}
 use Rattle.gate.proofs.StandingLaws.{sizes}
 use Rattle.leaving.specs.Slots.{grownIf, leftIf, actionIf, Turn, Turned, Walk, Walked}
 

@@ -31,7 +31,7 @@ use Rattle.rules.specs.Calls.{connect, disconnect, rate, score, idOk}
 use Rattle.rules.specs.Step.{effect, onVersion, connectAt, connectIn, connectReply}
 use Rattle.rules.specs.Promise.{Leaves}
 use Rattle.rules.proofs.PromiseLaws.{leaves-moved, leaves-refused}
-use Rattle.peers.proofs.AnswerLaws.{quiet-found, quiet-peer}
+use Rattle.rules.proofs.EndLaws.{quiet-found, quiet-peer}
 
 -- ---- no action
 

@@ -8,3 +8,4 @@ pub mod KeepsPeer
 pub mod KeepsDecay
 pub mod Keeps
 pub mod Examples
+pub mod EndLaws

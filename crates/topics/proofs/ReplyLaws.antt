@@ -1,39 +1,20 @@
 -- The two ends of a call that gives no action: 11, and 0.
 -- Assumes nothing.
 use Prim.Native.Nat.{ℕ}
-use mathlib.Core.Path.{_≡_, refl, ap, _∙_}
+use mathlib.Core.Path.{_≡_, refl}
 use mathlib.Core.Bool.{Bool, true, false, cond}
 use mathlib.Core.List.{List, []}
-use Rattle.index.specs.declared.Found.{Found}
-use Rattle.index.specs.declared.Found.the-variants.{At, Nothing}
-use Rattle.index.proofs.Flags.{yes, no, cond-case}
+use Rattle.index.proofs.Flags.{yes, no}
 use Rattle.records.specs.Records.{State, setClock, setJoined}
 use Rattle.cells.specs.View.{stateOf}
-use Rattle.table.specs.Find.{findConnected}
 use Rattle.effects.specs.Effects.{isJoined, onTopic, withSubscribed, outOfMesh}
 use Rattle.rules.specs.declared.Answer.{Answer}
-use Rattle.rules.specs.declared.Answer.the-variants.{Done, NotConnected, Ignored}
-use Rattle.rules.specs.Reply.{Reply, refused, ignored, done}
+use Rattle.rules.specs.declared.Answer.the-variants.{Done, Ignored}
+use Rattle.rules.specs.Reply.{ignored, done}
 use Rattle.rules.specs.Calls.{join, subscribe, unsubscribe}
-use Rattle.rules.specs.Step.{ofPeer, onFound, effect, isGraylisted, joinReply, subscribeReply, unsubscribeReply}
+use Rattle.rules.specs.Step.{effect, isGraylisted, joinReply, subscribeReply, unsubscribeReply}
 use Rattle.rules.specs.Promise.{Leaves}
-use Rattle.rules.proofs.PromiseLaws.{leaves-moved}
-
--- only the clock moved
-pub leaves-ignored :
-    (table table′ : List ℕ) (time : ℕ) (a : Answer) →
-    (a ≡ Ignored) × (stateOf table′ ≡ setClock (stateOf table) time) →
-    Leaves (ignored (stateOf table) time) a table table′
-leaves-ignored table table′ time a h = leaves-moved (ignored (stateOf table) time) a table table′ (h .0) refl (h .1)
-
--- the state is u, in the table `mid`, and then the clock moved
-pub leaves-done :
-    (table mid table′ : List ℕ) (u : State) (time : ℕ) (a : Answer) →
-    stateOf mid ≡ u →
-    (a ≡ Done 0) × (stateOf table′ ≡ setClock (stateOf mid) time) →
-    Leaves (done u time []) a table table′
-leaves-done table mid table′ u time a e h =
-    leaves-moved (done u time []) a table table′ (h .0) refl (h .1 ∙ ap (λ (v : State). setClock v time) e)
+use Rattle.rules.proofs.EndLaws.{leaves-ignored, leaves-done, quiet-cond, quiet-peer}
 
 -- "11 if t, else 0": t is the rule's test, and f what the code computed of it
 module _ (table mid table′ : List ℕ) (u : State) (time : ℕ) (t f : Bool) (a : Answer) (e : f ≡ t) where
@@ -53,15 +34,7 @@ module _ (table mid table′ : List ℕ) (u : State) (time : ℕ) (t f : Bool) (
 -- ---- none of these calls gives an action
 quiet-test : (t : Bool) (st u : State) (time : ℕ) → cond t (ignored st time) (done u time []) .actions ≡ []
 quiet-test t st u time =
-    cond-case (λ (r : Reply). r .actions ≡ []) t (ignored st time) (done u time []) (λ e. refl) (λ e. refl)
-
--- a call of a peer, if no slot's reply has an action
-quiet-peer : (st : State) (id : ℕ) (f : ℕ → Reply) → ((s : ℕ) → f s .actions ≡ []) → ofPeer st id f .actions ≡ []
-quiet-peer st id f h = go (findConnected st id)
-  where
-    go : (r : Found) → onFound r f (refused NotConnected st) .actions ≡ []
-    go (At s) = h s
-    go Nothing = refl
+    quiet-cond t (ignored st time) (done u time []) refl refl
 
 pub quiet-join : (st : State) (time t : ℕ) → effect st (join time t) .actions ≡ []
 unfolding effect joinReply

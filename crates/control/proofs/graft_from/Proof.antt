@@ -4,7 +4,7 @@ use borrow.Author.Needs.{needs}
 use Rattle.index.proofs.Flags.{yes, no}
 use Rattle.rules.specs.Step.{effect, graftReply}
 use Rattle.rules.proofs.StepLaws.{found-below, peer-none-gives, peer-at-gives, gives-then, gives-else}
-use Rattle.control.proofs.EndLaws.{gives-ignored}
+use Rattle.rules.proofs.EndLaws.{gives-ignored}
 use Rattle.control.proofs.graft_from.Statement.{statement}
 use Rattle.control.proofs.graft_from.Tie as tie
 

@@ -5,7 +5,7 @@ use mathlib.Core.Path.{refl}
 use Rattle.index.proofs.Flags.{yes, no}
 use Rattle.rules.specs.Step.{graftHeard}
 use Rattle.rules.proofs.StepLaws.{gives-then, gives-else}
-use Rattle.control.proofs.EndLaws.{gives-done}
+use Rattle.rules.proofs.EndLaws.{gives-done}
 use Rattle.control.proofs.GraftLaws.{refusable-of, explicit-yes, explicit-no}
 use Rattle.control.proofs.graft_heard.Statement.{statement}
 use Rattle.control.proofs.graft_heard.Tie as tie

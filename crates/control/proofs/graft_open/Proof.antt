@@ -4,7 +4,7 @@ use borrow.Author.Needs.{needs}
 use Rattle.index.proofs.Flags.{yes, no}
 use Rattle.rules.specs.Step.{graftOpen}
 use Rattle.rules.proofs.StepLaws.{gives-then, gives-else}
-use Rattle.control.proofs.EndLaws.{gives-done}
+use Rattle.rules.proofs.EndLaws.{gives-done}
 use Rattle.control.proofs.GraftLaws.{refusable-of}
 use Rattle.control.proofs.graft_open.Statement.{statement}
 use Rattle.control.proofs.graft_open.Tie as tie

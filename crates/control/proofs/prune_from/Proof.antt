@@ -5,7 +5,7 @@ use native.Mathlib.Omega.{arith}
 use Rattle.index.proofs.Flags.{yes, no}
 use Rattle.rules.specs.Step.{effect, pruneReply}
 use Rattle.rules.proofs.StepLaws.{found-below, peer-none, peer-at, leaves-then, leaves-else}
-use Rattle.control.proofs.EndLaws.{leaves-ignored, leaves-done}
+use Rattle.rules.proofs.EndLaws.{leaves-ignored, leaves-done}
 use Rattle.control.proofs.PruneLaws.{pruned-is}
 use Rattle.control.proofs.prune_from.Statement.{statement}
 use Rattle.control.proofs.prune_from.Tie as tie

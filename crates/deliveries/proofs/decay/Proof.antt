@@ -4,30 +4,37 @@ use mathlib.Core.Path.{refl}
 use borrow.Author.Needs.{needs}
 use Rattle.rules.specs.Calls.{decay}
 use Rattle.rules.specs.Step.{effect}
-use Rattle.peers.proofs.AnswerLaws.{ready-of, refused-call, quiet-call}
+use Rattle.gate.proofs.CallLaws.{Word, call-word, call-refused, call-behind, call-quiet}
 use Rattle.deliveries.proofs.DeliverLaws.{quiet-decay}
 use Rattle.deliveries.proofs.DecayLaws.{time-alone}
 use Rattle.deliveries.proofs.decay.Statement.{statement}
 use Rattle.deliveries.proofs.decay.Tie as tie
 
+abbrev start : tie.After-admit → tie.Start
+start g = g .before .before .before .before .before
+
+-- the gate's word on the call
+word :
+    (g : tie.After-admit) →
+    Word (decay (start g .args .time)) (start g .args .table .now) (start g .args .actions .now) (g .admit .result)
+word g =
+    call-word (decay (start g .args .time)) _ _ _ _ _ (g .before .before .before .time-ok .ensures)
+    refl
+    (time-alone _ _ _ _ _ (g .admit .ensures))
+
 decay-from-requires : tie.Need-decay-from-requires
 decay-from-requires c κs =
-    let a = c .before .before .before .before .before .before .before .before .args in
-    ready-of (decay (a .time)) _ (a .actions .now) _ _ _ (c .before .before .before .before .before .before .time-ok .ensures) refl
-    (time-alone _ _ _ _ _ (c .before .before .before .admit .ensures)) (search needs) (c .before .enum-told .given .1)
+    let b = call-behind (word (c .before .before .before)) (c .before .enum-told .given .1) (search needs) in
+    b .ready
 
 returns : tie.Need-returns
-returns c =
-    let a = c .before .before .before .before .before .before .before .before .args in
-    refused-call (decay (a .time)) _ _ _ _ _ (c .before .before .before .before .before .before .time-ok .ensures) refl
-    (time-alone _ _ _ _ _ (c .before .before .before .admit .ensures)) _ (c .before .a .given .1)
+returns c = call-refused (word (c .before .before .before)) (c .before .a .given .1)
 
 returns-2 : tie.Need-returns-2
 unfolding effect
 returns-2 c =
-    let a = c .before .before .before .before .before .before .before .before .before .args in
-    quiet-call (decay (a .time)) _ _ _ _ _ (c .before .before .before .before .before .before .before .time-ok .ensures) refl
-    (time-alone _ _ _ _ _ (c .before .before .before .before .admit .ensures)) _ _ (quiet-decay _ _) (c .before .before .enum-told .given .1) (c .decay-from .ensures)
+    call-quiet (word (c .before .before .before .before)) (c .before .before .enum-told .given .1) (quiet-decay _ _)
+    (c .decay-from .ensures)
 
 pub decay-spec : {M : Type 1} → statement M
 decay-spec =

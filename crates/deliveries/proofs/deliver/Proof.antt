@@ -2,34 +2,35 @@
 -- Assumes nothing.
 use borrow.Author.Needs.{needs}
 use Rattle.rules.specs.Calls.{deliver}
-use Rattle.peers.proofs.AnswerLaws.{ready-of, arguments-of, refused-call, quiet-call}
+use Rattle.gate.proofs.CallLaws.{Word, call-word, call-refused, call-behind, call-quiet}
 use Rattle.deliveries.proofs.DeliverLaws.{deliver-range, topic-below, quiet-deliver}
 use Rattle.deliveries.proofs.deliver.Statement.{statement}
 use Rattle.deliveries.proofs.deliver.Tie as tie
 
+abbrev start : tie.After-admit → tie.Start
+start g = g .before .before .before .before .before .before .before
+
+-- the gate's word on the call
+word :
+    (g : tie.After-admit) →
+    Word (deliver (start g .args .time) (start g .args .id) (start g .args .topic) (start g .args .kind)) (start g .args .table .now) (start g .args .actions .now) (g .admit .result)
+word g =
+    call-word (deliver (start g .args .time) (start g .args .id) (start g .args .topic) (start g .args .kind)) _ _ _ _ _ (g .before .before .before .before .before .time-ok .ensures)
+    (deliver-range (start g .args .id) (start g .args .topic) (start g .args .kind) _ _ (g .before .before .before .before .id-ok .ensures) (g .before .before .before .topic-ok .ensures))
+    (g .admit .ensures)
+
 deliver-from-requires : tie.Need-deliver-from-requires
 deliver-from-requires c κs =
-    let a = c .before .before .before .before .before .before .before .before .before .before .args in
-    let call = deliver (a .time) (a .id) (a .topic) (a .kind) in
-    let fine = deliver-range (a .id) (a .topic) (a .kind) _ _ (c .before .before .before .before .before .before .before .id-ok .ensures) (c .before .before .before .before .before .before .topic-ok .ensures) in (
-      ready-of call _ (a .actions .now) _ _ _ (c .before .before .before .before .before .before .before .before .time-ok .ensures) fine (c .before .before .before .admit .ensures) (search needs) (c .before .enum-told .given .1),
-      topic-below (a .id) (a .topic) (a .kind)
-          (arguments-of call (a .table .now) (a .actions .now) _ _ _ (c .before .before .before .before .before .before .before .before .time-ok .ensures) fine (c .before .before .before .admit .ensures) (c .before .enum-told .given .1)),
-    )
+    let b = call-behind (word (c .before .before .before)) (c .before .enum-told .given .1) (search needs) in
+    (b .ready, topic-below (start (c .before .before .before) .args .id) _ (start (c .before .before .before) .args .kind) (b .fine))
 
 returns : tie.Need-returns
-returns c =
-    let a = c .before .before .before .before .before .before .before .before .before .before .args in
-    refused-call (deliver (a .time) (a .id) (a .topic) (a .kind)) _ _ _ _ _ (c .before .before .before .before .before .before .before .before .time-ok .ensures)
-    (deliver-range (a .id) (a .topic) (a .kind) _ _ (c .before .before .before .before .before .before .before .id-ok .ensures) (c .before .before .before .before .before .before .topic-ok .ensures))
-    (c .before .before .before .admit .ensures) _ (c .before .a .given .1)
+returns c = call-refused (word (c .before .before .before)) (c .before .a .given .1)
 
 returns-2 : tie.Need-returns-2
 returns-2 c =
-    let a = c .before .before .before .before .before .before .before .before .before .before .before .args in
-    quiet-call (deliver (a .time) (a .id) (a .topic) (a .kind)) _ _ _ _ _ (c .before .before .before .before .before .before .before .before .before .time-ok .ensures)
-    (deliver-range (a .id) (a .topic) (a .kind) _ _ (c .before .before .before .before .before .before .before .before .id-ok .ensures) (c .before .before .before .before .before .before .before .topic-ok .ensures))
-    (c .before .before .before .before .admit .ensures) _ _ (quiet-deliver _ _ _ _ _) (c .before .before .enum-told .given .1) (c .deliver-from .ensures)
+    call-quiet (word (c .before .before .before .before)) (c .before .before .enum-told .given .1) (quiet-deliver _ _ _ _ _)
+    (c .deliver-from .ensures)
 
 pub deliver-spec : {M : Type 1} → statement M
 deliver-spec =

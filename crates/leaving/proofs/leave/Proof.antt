@@ -2,7 +2,7 @@
 use borrow.Author.Needs.{needs}
 use Rattle.rules.specs.Calls.{leave}
 use Rattle.rules.specs.Step.{effect}
-use Rattle.topics.proofs.CallLaws.{Word, call-word, call-refused, call-behind, call-passed, topic-below}
+use Rattle.gate.proofs.CallLaws.{Word, call-word, call-refused, call-behind, call-passed, topic-below}
 use Rattle.leaving.proofs.leave.Statement.{statement}
 use Rattle.leaving.proofs.leave.Tie as tie
 

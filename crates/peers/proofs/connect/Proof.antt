@@ -3,32 +3,36 @@
 use borrow.Author.Needs.{needs}
 use Rattle.rules.specs.Calls.{connect}
 use Rattle.rules.specs.Step.{effect}
-use Rattle.peers.proofs.AnswerLaws.{ready-of, refused-call, quiet-call}
+use Rattle.gate.proofs.CallLaws.{Word, call-word, call-refused, call-behind, call-quiet}
 use Rattle.peers.proofs.PeerLaws.{connect-range, quiet-connect}
 use Rattle.peers.proofs.connect.Statement.{statement}
 use Rattle.peers.proofs.connect.Tie as tie
 
+abbrev start : tie.After-admit → tie.Start
+start g = g .before .before .before .before .before .before .before
+
+-- the gate's word on the call
+word :
+    (g : tie.After-admit) →
+    Word (connect (start g .args .time) (start g .args .id) (start g .args .group) (start g .args .flags) (start g .args .name .now)) (start g .args .table .now) (start g .args .actions .now) (g .admit .result)
+word g =
+    call-word (connect (start g .args .time) (start g .args .id) (start g .args .group) (start g .args .flags) (start g .args .name .now)) _ _ _ _ _ (g .before .before .before .before .time-ok .ensures)
+    (connect-range (start g .args .id) (start g .args .group) (start g .args .flags) _ (g .before .before .before .id-ok .ensures))
+    (g .admit .ensures)
+
 connect-from-requires : tie.Need-connect-from-requires
 connect-from-requires c κs =
-    let a = c .before .before .before .before .before .before .before .before .before .before .args in
-    ready-of (connect (a .time) (a .id) (a .group) (a .flags) (a .name .now)) _ (a .actions .now) _ _ _ (c .before .before .before .before .before .before .before .time-ok .ensures)
-    (connect-range (a .id) (a .group) (a .flags) _ (c .before .before .before .before .before .before .id-ok .ensures))
-    (c .before .before .before .admit .ensures) (search needs) (c .before .enum-told .given .1)
+    let b = call-behind (word (c .before .before .before)) (c .before .enum-told .given .1) (search needs) in
+    b .ready
 
 returns : tie.Need-returns
-returns c =
-    let a = c .before .before .before .before .before .before .before .before .before .before .args in
-    refused-call (connect (a .time) (a .id) (a .group) (a .flags) (a .name .now)) _ _ _ _ _ (c .before .before .before .before .before .before .before .time-ok .ensures)
-    (connect-range (a .id) (a .group) (a .flags) _ (c .before .before .before .before .before .before .id-ok .ensures))
-    (c .before .before .before .admit .ensures) _ (c .before .a .given .1)
+returns c = call-refused (word (c .before .before .before)) (c .before .a .given .1)
 
 returns-2 : tie.Need-returns-2
 unfolding effect
 returns-2 c =
-    let a = c .before .before .before .before .before .before .before .before .before .before .before .args in
-    quiet-call (connect (a .time) (a .id) (a .group) (a .flags) (a .name .now)) _ _ _ _ _ (c .before .before .before .before .before .before .before .before .time-ok .ensures)
-    (connect-range (a .id) (a .group) (a .flags) _ (c .before .before .before .before .before .before .before .id-ok .ensures))
-    (c .before .before .before .before .admit .ensures) _ _ (quiet-connect _ _ _ _ _ _) (c .before .before .enum-told .given .1) (c .connect-from .ensures)
+    call-quiet (word (c .before .before .before .before)) (c .before .before .enum-told .given .1) (quiet-connect _ _ _ _ _ _)
+    (c .connect-from .ensures)
 
 pub connect-spec : {M : Type 1} → statement M
 connect-spec =

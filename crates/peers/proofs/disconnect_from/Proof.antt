@@ -6,7 +6,7 @@ use Rattle.gate.proofs.StandingLaws.{sizes}
 use Rattle.cells.specs.View.{stateOf}
 use Rattle.rules.specs.Step.{effect}
 use Rattle.rules.proofs.StepLaws.{found-below, peer-none, peer-at}
-use Rattle.peers.proofs.AnswerLaws.{done-after}
+use Rattle.rules.proofs.EndLaws.{leaves-done}
 use Rattle.peers.proofs.PeerLaws.{departed-is}
 use Rattle.peers.proofs.disconnect_from.Statement.{statement}
 use Rattle.peers.proofs.disconnect_from.Tie as tie
@@ -30,7 +30,7 @@ unfolding effect
 returns-2 c =
     let e = departed-is _ _ _ _ _ _ (c .before .before .before .before .before .before .before .before .load-size .ensures) (c .before .before .before .before .before .before .before .end-after .ensures .0) (c .before .before .before .before .before .before .retain-slot .ensures) in
     peer-at _ _ _ _ (search) _ _ _ (c .before .before .before .before .before .before .before .before .before .before .before .before .slot .given .1)
-    (done-after _ _ _ _ _ _ e (c .before .before .finish .ensures))
+    (leaves-done _ _ _ _ _ _ e (c .before .before .finish .ensures))
 
 pub disconnect-from-spec : {M : Type 1} → statement M
 disconnect-from-spec =

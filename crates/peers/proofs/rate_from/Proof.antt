@@ -9,7 +9,7 @@ use Rattle.cells.specs.View.{stateOf}
 use Rattle.effects.specs.Effects.{onPeer, withP5}
 use Rattle.rules.specs.Step.{effect}
 use Rattle.rules.proofs.StepLaws.{found-below, peer-none, peer-at}
-use Rattle.peers.proofs.AnswerLaws.{done-after}
+use Rattle.rules.proofs.EndLaws.{leaves-done}
 use Rattle.peers.proofs.rate_from.Statement.{statement}
 use Rattle.peers.proofs.rate_from.Tie as tie
 
@@ -27,7 +27,7 @@ returns-2 c =
     let start = c .before .before .before .before .before .before .before .before .before .before .before .before .before .before .before in
     let k = c .before .before .before .before .before .before .before .before .before .before in
     let e = c .before .before .before .before .before .before .rate-slot .ensures ∙ ap (λ (n : ℕ). onPeer (stateOf (start .args .table .now)) (k .slot .given .0 .0) (λ p. withP5 p n)) (rw (toZ-ofZ (start .fits .p5)) at (c .before .before .before .before .before .before .before .code-of .ensures)) in
-    peer-at _ _ _ _ (search) _ _ _ (k .slot .given .1) (done-after _ _ _ _ _ _ e (c .before .before .finish .ensures))
+    peer-at _ _ _ _ (search) _ _ _ (k .slot .given .1) (leaves-done _ _ _ _ _ _ e (c .before .before .finish .ensures))
 
 pub rate-from-spec : {M : Type 1} → statement M
 rate-from-spec =

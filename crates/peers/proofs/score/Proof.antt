@@ -2,28 +2,35 @@
 -- Assumes nothing.
 use borrow.Author.Needs.{needs}
 use Rattle.rules.specs.Calls.{score}
-use Rattle.peers.proofs.AnswerLaws.{ready-of, refused-call, quiet-call}
+use Rattle.gate.proofs.CallLaws.{Word, call-word, call-refused, call-behind, call-quiet}
 use Rattle.peers.proofs.PeerLaws.{quiet-score}
 use Rattle.peers.proofs.score.Statement.{statement}
 use Rattle.peers.proofs.score.Tie as tie
 
+abbrev start : tie.After-admit → tie.Start
+start g = g .before .before .before .before .before .before
+
+-- the gate's word on the call
+word :
+    (g : tie.After-admit) →
+    Word (score (start g .args .time) (start g .args .id)) (start g .args .table .now) (start g .args .actions .now) (g .admit .result)
+word g =
+    call-word (score (start g .args .time) (start g .args .id)) _ _ _ _ _ (g .before .before .before .before .time-ok .ensures)
+    (g .before .before .before .id-ok .ensures)
+    (g .admit .ensures)
+
 score-from-requires : tie.Need-score-from-requires
 score-from-requires c κs =
-    let a = c .before .before .before .before .before .before .before .before .before .args in
-    ready-of (score (a .time) (a .id)) _ (a .actions .now) _ _ _ (c .before .before .before .before .before .before .before .time-ok .ensures) (c .before .before .before .before .before .before .id-ok .ensures)
-    (c .before .before .before .admit .ensures) (search needs) (c .before .enum-told .given .1)
+    let b = call-behind (word (c .before .before .before)) (c .before .enum-told .given .1) (search needs) in
+    b .ready
 
 returns : tie.Need-returns
-returns c =
-    let a = c .before .before .before .before .before .before .before .before .before .args in
-    refused-call (score (a .time) (a .id)) _ _ _ _ _ (c .before .before .before .before .before .before .before .time-ok .ensures) (c .before .before .before .before .before .before .id-ok .ensures)
-    (c .before .before .before .admit .ensures) _ (c .before .a .given .1)
+returns c = call-refused (word (c .before .before .before)) (c .before .a .given .1)
 
 returns-2 : tie.Need-returns-2
 returns-2 c =
-    let a = c .before .before .before .before .before .before .before .before .before .before .args in
-    quiet-call (score (a .time) (a .id)) _ _ _ _ _ (c .before .before .before .before .before .before .before .before .time-ok .ensures) (c .before .before .before .before .before .before .before .id-ok .ensures)
-    (c .before .before .before .before .admit .ensures) _ _ (quiet-score _ _ _) (c .before .before .enum-told .given .1) (c .score-from .ensures)
+    call-quiet (word (c .before .before .before .before)) (c .before .before .enum-told .given .1) (quiet-score _ _ _)
+    (c .score-from .ensures)
 
 pub score-spec : {M : Type 1} → statement M
 score-spec =

@@ -2,7 +2,7 @@
 use borrow.Author.Needs.{needs}
 use Rattle.rules.specs.Calls.{join}
 use Rattle.rules.specs.Step.{effect}
-use Rattle.topics.proofs.CallLaws.{Word, call-word, call-refused, call-behind, call-quiet, topic-below}
+use Rattle.gate.proofs.CallLaws.{Word, call-word, call-refused, call-behind, call-quiet, topic-below}
 use Rattle.topics.proofs.ReplyLaws.{quiet-join}
 use Rattle.topics.proofs.join.Statement.{statement}
 use Rattle.topics.proofs.join.Tie as tie

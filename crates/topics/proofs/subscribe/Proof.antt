@@ -4,7 +4,7 @@ use mathlib.Core.Path.{ap₂}
 use mathlib.Core.Bool.{_&&_}
 use Rattle.rules.specs.Calls.{subscribe}
 use Rattle.rules.specs.Step.{effect}
-use Rattle.topics.proofs.CallLaws.{Word, call-word, call-refused, call-behind, call-quiet, both-fine}
+use Rattle.gate.proofs.CallLaws.{Word, call-word, call-refused, call-behind, call-quiet, both-fine}
 use Rattle.topics.proofs.ReplyLaws.{quiet-subscribe}
 use Rattle.topics.proofs.subscribe.Statement.{statement}
 use Rattle.topics.proofs.subscribe.Tie as tie

@@ -52,9 +52,14 @@ gives-done table mid table′ list u time a e h =
 pub quiet-cond : (t : Bool) (o q : Reply) → o .actions ≡ [] → q .actions ≡ [] → cond t o q .actions ≡ []
 quiet-cond t o q h k = cond-case (λ (r : Reply). r .actions ≡ []) t o q (λ e. h) (λ e. k)
 
+-- a reply that goes by a search has no action if neither way has
+pub quiet-found :
+    (r : Found) (f : ℕ → Reply) (o : Reply) →
+    ((s : ℕ) → f s .actions ≡ []) →
+    o .actions ≡ [] →
+    onFound r f o .actions ≡ []
+quiet-found (At s) f o h k = h s
+quiet-found Nothing f o h k = k
+
 pub quiet-peer : (st : State) (id : ℕ) (f : ℕ → Reply) → ((s : ℕ) → f s .actions ≡ []) → ofPeer st id f .actions ≡ []
-quiet-peer st id f h = go (findConnected st id)
-  where
-    go : (r : Found) → onFound r f (refused NotConnected st) .actions ≡ []
-    go (At s) = h s
-    go Nothing = refl
+quiet-peer st id f h = quiet-found (findConnected st id) f _ h refl
