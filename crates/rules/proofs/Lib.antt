@@ -6,6 +6,5 @@ pub mod KeepsState
 pub mod KeepsTopic
 pub mod KeepsPeer
 pub mod KeepsDecay
-pub mod Keeps
 pub mod Examples
 pub mod EndLaws

@@ -25,6 +25,8 @@ pub data Call : Type 0 where
   deliver : ℕ → ℕ → ℕ → ℕ → Call
   -- id, P5
   rate : ℕ → ℕ → ℤ → Call
+  -- 01's tidy: topic, whether opportunism is asked for (1 yes, 0 no), draw
+  heartbeat : ℕ → ℕ → ℕ → List ℕ → Call
   decay : ℕ → Call
   -- id
   score : ℕ → ℕ → Call
@@ -40,6 +42,7 @@ timeOf (graft time id t) = time
 timeOf (prune time id t seconds) = time
 timeOf (deliver time id t kind) = time
 timeOf (rate time id p5) = time
+timeOf (heartbeat time t ask order) = time
 timeOf (decay time) = time
 timeOf (score time id) = time
 
@@ -55,7 +58,7 @@ topicOk t = leb t 7
 abbrev pub timeOk : ℕ → Bool
 timeOk time = leb time maxTime
 
--- what each call asks besides the time; a PRUNE's seconds have no range
+-- what each call asks besides the time; a PRUNE's seconds have no range, and a draw has its own number (7)
 abbrev pub argumentsOk : Call → Bool
 argumentsOk (connect time id group flags name) = idOk id && (leb group 4294967295 && leb flags 3)
 argumentsOk (disconnect time id) = idOk id
@@ -67,6 +70,7 @@ argumentsOk (graft time id t) = idOk id && topicOk t
 argumentsOk (prune time id t seconds) = idOk id && topicOk t
 argumentsOk (deliver time id t kind) = idOk id && topicOk t && (leb 1 kind && leb kind 3)
 argumentsOk (rate time id p5) = idOk id && leb (natAbs p5) 1000000000
+argumentsOk (heartbeat time t ask order) = topicOk t && leb ask 1
 argumentsOk (decay time) = true
 argumentsOk (score time id) = idOk id
 

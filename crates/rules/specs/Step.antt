@@ -1,10 +1,10 @@
 -- What each call answers and leaves: 01's order of tests once (12, 2, 8, 1, then 6, 7, 3, 4, 5, 11), then the effects case by case.
 use Prim.Native.Nat.{ℕ, _+_, _*_, min}
 use mathlib.Core.Bool.{Bool, true, false, cond, not, _&&_}
-use mathlib.Core.List.{List, [], _∷_}
+use mathlib.Core.List.{List, [], _∷_, map}
 use lib.ListN.{getD, set}
 use lib.Dec.{eqb, leb, ltb}
-use lib.IntN.{ℤ, pos, _*ℤ_}
+use lib.IntN.{ℤ, pos, natAbs, _+ℤ_, _*ℤ_}
 use lib.Signed.{ltZ}
 use Rattle.index.specs.Index.{iter, gather}
 use Rattle.index.specs.declared.Found.{Found}
@@ -21,14 +21,19 @@ use Rattle.table.specs.Name.{versionOf}
 use Rattle.score.specs.declared.TopicParams.{TopicParams}
 use Rattle.score.specs.Score.{scoreIn, topicParamsIn}
 use Rattle.score.specs.Counters.{countMost, raisedOf, firstOf, nearFirstOf, invalidOf, grownOf, fadedOf, decayedOf}
+use Rattle.sets.specs.Sets.{bySlot, at, isPermutation}
+use Rattle.mesh.specs.declared.Degrees.{Degrees}
+use Rattle.mesh.specs.declared.View.{View}
+use Rattle.mesh.specs.declared.Meshes.{Meshes}
+use Rattle.mesh.specs.Maintenance.{Action as Told, zeroScore, meshes, changesOf, actionsOf}
 use Rattle.rules.specs.declared.Answer.{Answer}
-use Rattle.rules.specs.declared.Answer.the-variants.{Done, Scored, Early, OutOfRange, NotConnected, AlreadyConnected, NoSlot, UnknownProtocol, ListShort, Ignored, NotRouter}
+use Rattle.rules.specs.declared.Answer.the-variants.{Done, Scored, Early, OutOfRange, NotConnected, AlreadyConnected, NoSlot, UnknownProtocol, NotPermutation, ListShort, Ignored, NotRouter}
 use Rattle.rules.specs.declared.Gate.{Gate}
 use Rattle.rules.specs.declared.Gate.the-variants.{Pass, Refuse}
 use Rattle.effects.specs.Actions.{Action, pruneOf}
 use Rattle.rules.specs.Reply.{Reply, refused, ignored, done}
 use Rattle.effects.specs.Effects.{magnitude, highDegree, pruneBackoff, unsubscribeBackoff, withEnd, withP5, withP7, connectedAs, outOfMesh, intoMesh, withSubscribed, onPeer, onTopic, isJoined, isMember, isSubscribed, meshSize, backoffRuns, pruned, endAfter, departed, reclaimed}
-use Rattle.rules.specs.Calls.{Call, connect, disconnect, join, leave, subscribe, unsubscribe, graft, prune, deliver, rate, decay, score, timeOf, inRange}
+use Rattle.rules.specs.Calls.{Call, connect, disconnect, join, leave, subscribe, unsubscribe, graft, prune, deliver, rate, heartbeat, decay, score, timeOf, inRange}
 
 -- ---- the tests that every call begins with: 12, 2, 8, 1
 -- "action list under 192 numbers": three for each slot
@@ -181,6 +186,82 @@ deliverReply st time t kind s =
     (done (onTopic st s t (deliveredOf kind (topicParamsIn st t))) time [])
     (ignored st time)
 
+-- ---- heartbeat, 01's tidy: "with a draw and a yes or no for opportunism; topic not joined: 11"
+-- "A candidate is connected, subscribed, not explicit, not a member, score ≥ 0, backoff not running."
+unfoldable pub isCandidate : State → ℕ → ℕ → ℕ → Bool
+isCandidate st time t s =
+    isConnected (peerIn st s)
+    && (isSubscribed st t s
+    && (eqb (peerIn st s .explicit) 0
+    && (not (isMember st t s) && (not (isNegative st s) && not (backoffRuns (peerIn st s) t time)))))
+
+-- a score as maintenance takes it: moved up by 2.6 × 10^18, which no score passes, so that none is negative
+unfoldable pub heightIn : State → ℕ → ℕ
+heightIn st s = natAbs (pos zeroScore +ℤ scoreIn st s)
+
+-- D_lo, D, D_hi, D_out, D_score, and the opportunistic threshold, in thousandths of a point, as a score is taken
+unfoldable pub degreesIn : State → Degrees
+degreesIn st =
+    record {
+      lo = magnitude (codeIn st 0);
+      d = magnitude (codeIn st 1);
+      hi = highDegree st;
+      out = magnitude (codeIn st 3);
+      score = magnitude (codeIn st 4);
+      threshold = zeroScore + magnitude (codeIn st 8) * 1000000;
+    }
+
+-- "Scores and candidates are those at the start"
+unfoldable pub viewIn : State → ℕ → ℕ → ℕ → List ℕ → View
+viewIn st time t ask order =
+    record {
+      members = bySlot slotCount (isMember st t);
+      candidates = bySlot slotCount (isCandidate st time t);
+      outbound = bySlot slotCount (λ s. eqb (peerIn st s .outbound) 1);
+      scores = bySlot slotCount (heightIn st);
+      permutation = order;
+      ask = eqb ask 1;
+    }
+
+-- the meshes that the five steps leave
+unfoldable pub meshesIn : State → ℕ → ℕ → ℕ → List ℕ → Meshes
+meshesIn st time t ask order = meshes slotCount (degreesIn st) (viewIn st time t ask order)
+
+-- what becomes of slot s, from the state at the start and the mesh that is left: a member that is not in it was PRUNEd ("Each PRUNE here and
+-- in a tidy sets the end to the later of old and now + prune backoff"), and one that is in it and was none is grafted
+unfoldable pub settleSlot : State → ℕ → ℕ → List Bool → ℕ → State → State
+settleSlot st time t mesh s u =
+    cond (isMember st t s)
+    (cond (at mesh s) u (pruned (punished st t s u) s t (endAfter time (pruneBackoff st))))
+    (cond (at mesh s) (onTopic u s t (λ r. intoMesh r time)) u)
+
+-- the action of a kind on the peer in a slot, with "the sheet's prune [..] backoff in seconds (0 for GRAFT and for a 1.0.0 peer)"
+abbrev pub toldIn : State → ℕ → ℕ
+toldIn st s = cond (eqb (peerIn st s .version) 0) 0 (pruneBackoff st)
+
+abbrev pub actionIn : State → Told → Action
+actionIn st a =
+    record {
+      kind = a .kind;
+      id = peerIn st (a .slot) .id;
+      seconds = cond (eqb (a .kind) 2) (toldIn st (a .slot)) 0;
+    }
+
+unfoldable pub heartbeatActions : State → ℕ → List ℕ → Meshes → List Action
+heartbeatActions st t order m =
+    map (actionIn st) (actionsOf slotCount order (changesOf (bySlot slotCount (isMember st t)) m))
+
+unfoldable pub heartbeatReply : State → ℕ → ℕ → ℕ → List ℕ → Reply
+heartbeatReply st time t ask order =
+    cond (isPermutation slotCount order)
+    (cond (isJoined st t)
+    (done
+    (iter slotCount (settleSlot st time t (meshesIn st time t ask order .fifth)) st)
+    time
+    (heartbeatActions st t order (meshesIn st time t ask order)))
+    (ignored st time))
+    (refused NotPermutation st)
+
 -- ---- decay, "connected peers only"
 -- decay-to-zero and P7's decay are the general numbers 18 and 17
 abbrev pub decayFloor : State → ℕ
@@ -210,6 +291,7 @@ effect st (graft time id t) = ofPeer st id (graftReply st time t)
 effect st (prune time id t seconds) = ofPeer st id (pruneReply st time t seconds)
 effect st (deliver time id t kind) = ofPeer st id (deliverReply st time t kind)
 effect st (rate time id p5) = ofPeer st id (λ s. done (onPeer st s (λ p. withP5 p (codeOf p5))) time [])
+effect st (heartbeat time t ask order) = heartbeatReply st time t ask order
 effect st (decay time) = decayReply st time
 effect st (score time id) =
     ofPeer st id (λ s. record { answer = Scored (scoreIn st s); state = setClock st time; actions = [] })

@@ -6,7 +6,11 @@ use mathlib.Core.Bool.{Bool, true, false, not, cond, _&&_, _||_}
 use mathlib.Core.List.{List, [], _∷_, map}
 use lib.ListN.{length, getD, set}
 use lib.Dec.{ltb, leb, eqb}
-use Rattle.index.specs.Index.{every}
+use Rattle.index.specs.Index.{every, gather}
+
+-- what f gives of each slot below n, in a list by slot
+unfoldable pub bySlot : {A : Type 0} → ℕ → (ℕ → A) → List A
+bySlot n f = gather n (λ s. f s ∷ [])
 
 -- A set has a Bool for each slot. Is slot s in the set m? Past its end, no.
 abbrev pub at : List Bool → ℕ → Bool
