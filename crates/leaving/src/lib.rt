@@ -39,7 +39,7 @@ fn negatives(table: &[u64]) -> [bool; 64]
 }
 
 // A member that we PRUNE: its P3b grows where its score was negative at the start.
-fn punish(table: &mut [u64], topic: usize, slot: usize, negative: bool)
+pub fn punish(table: &mut [u64], topic: usize, slot: usize, negative: bool)
     requires { ⌜ Turn (now table) topic slot ⌝ }
     ensures { λ r. ⌜ stateOf (now (table .exit)) ≡ grownIf negative topic slot (stateOf (now (table .entry))) ⌝ }
 {

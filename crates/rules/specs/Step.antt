@@ -251,15 +251,19 @@ unfoldable pub heartbeatActions : State → ℕ → List ℕ → Meshes → List
 heartbeatActions st t order m =
     map (actionIn st) (actionsOf slotCount order (changesOf (bySlot slotCount (isMember st t)) m))
 
+-- the reply of a joined topic
+unfoldable pub maintainedReply : State → ℕ → ℕ → ℕ → List ℕ → Reply
+maintainedReply st time t ask order =
+    done
+    (iter slotCount (settleSlot st time t (meshesIn st time t ask order .fifth)) st)
+    time
+    (heartbeatActions st t order (meshesIn st time t ask order))
+
+-- 7 before 11
 unfoldable pub heartbeatReply : State → ℕ → ℕ → ℕ → List ℕ → Reply
 heartbeatReply st time t ask order =
     cond (isPermutation slotCount order)
-    (cond (isJoined st t)
-    (done
-    (iter slotCount (settleSlot st time t (meshesIn st time t ask order .fifth)) st)
-    time
-    (heartbeatActions st t order (meshesIn st time t ask order)))
-    (ignored st time))
+    (cond (isJoined st t) (maintainedReply st time t ask order) (ignored st time))
     (refused NotPermutation st)
 
 -- ---- decay, "connected peers only"

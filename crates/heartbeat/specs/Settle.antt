@@ -1,0 +1,28 @@
+-- One turn of the walk that writes a mesh back, from the state as it stands at that turn. The rules' own words, which go by the call's start,
+-- are `settleSlot` of crate rules; that the two agree is proved (proofs/SettleLaws.antt).
+use Prim.Native.Nat.{ℕ, _<_}
+use mathlib.Core.Path.{_≡_}
+use mathlib.Core.Bool.{Bool, cond}
+use mathlib.Core.List.{List}
+use Rattle.records.specs.Records.{State, slotCount}
+use Rattle.cells.specs.View.{stateOf}
+use Rattle.sets.specs.Sets.{bySlot}
+use Rattle.effects.specs.Effects.{onTopic, intoMesh, isMember, pruned, endAfter, pruneBackoff}
+use Rattle.rules.specs.Step.{heightIn}
+use Rattle.gate.specs.Ready.{Standing}
+use Rattle.leaving.specs.Slots.{grownIf}
+
+-- slot s in topic t, from whether it was a member, whether it stays or comes in, and whether its score was negative
+unfoldable pub settledIf : Bool → Bool → Bool → ℕ → ℕ → ℕ → ℕ → State → State
+settledIf was stays negative t time end s u =
+    cond was
+    (cond stays u (pruned (grownIf negative t s u) s t end))
+    (cond stays (onTopic u s t (λ r. intoMesh r time)) u)
+
+-- what the walk relies on: the members and the scores are those of the table it starts from
+pub record Settle (table : List ℕ) (t time end : ℕ) (members : List Bool) (scores : List ℕ) : Type 0 where
+  pub standing : Standing table
+  pub topic : t < 8
+  pub backoff : end ≡ endAfter time (pruneBackoff (stateOf table))
+  pub was : members ≡ bySlot slotCount (isMember (stateOf table) t)
+  pub heights : scores ≡ bySlot slotCount (heightIn (stateOf table))

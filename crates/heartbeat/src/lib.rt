@@ -1,0 +1,118 @@
+// The heartbeat's work for one topic (01's tidy), one of 01's calls: what maintenance sees is taken from the table once, into arrays by slot;
+// crate mesh makes of it the meshes that the five steps leave; the last of them and the actions are written back once.
+pub mod seen;
+pub mod settle;
+
+ghost use mathlib.Core.Path.{_≡_};
+ghost use mathlib.Core.Bool.{true};
+ghost use Prim.Native.Nat.{_≤_, _<_};
+ghost use lib.Dec.{leb};
+ghost use lib.ListN.{length};
+ghost use Rattle.records.specs.Records.{slotCount};
+ghost use Rattle.cells.specs.View.{stateOf};
+ghost use Rattle.sets.specs.Sets.{isPermutation};
+ghost use Rattle.rules.specs.Calls.{heartbeat as Calls·heartbeat};
+ghost use Rattle.rules.specs.Step.{heartbeatReply, maintainedReply};
+ghost use Rattle.rules.specs.Promise.{Gives, Follows};
+ghost use Rattle.gate.specs.Ready.{Ready};
+use crate::seen::degrees;
+use crate::seen::ids;
+use crate::seen::told;
+use crate::seen::view;
+use crate::settle::settle;
+use effects::slots::is_joined;
+use effects::slots::load_size;
+use effects::values::end_after;
+use gate::admit;
+use gate::ignore;
+use gate::time_ok;
+use gate::topic_ok;
+use mesh::actions::write_actions;
+use mesh::steps::changes;
+use mesh::steps::maintain;
+use rules::Answer;
+use rules::Gate;
+use sets::permutation::copied;
+use sets::permutation::is_permutation;
+
+// A joined topic's mesh, maintained.
+fn maintain_topic(
+    table: &mut [u64],
+    time: u64,
+    topic: usize,
+    ask: u64,
+    order: [u64; 64],
+    actions: &mut [u32],
+) -> Answer
+    requires { ⌜ Ready (now table) time × ((topic < 8) × ((192 ≤ length (now actions)) × (isPermutation slotCount order ≡ true))) ⌝ }
+    ensures { λ r. ⌜ Gives (maintainedReply (stateOf (now (table .entry))) time topic ask order) r (now (table .entry)) (now (table .exit)) (now (actions .entry)) (now (actions .exit)) ⌝ }
+{
+    let v = view(table, time, topic, ask, order);
+    let m = maintain(degrees(table), v);
+    let members = v.members;
+    let scores = v.scores;
+    let seconds = load_size(table, 5);
+    let n = write_actions(
+        actions,
+        changes(members, m),
+        order,
+        ids(table),
+        told(table, seconds),
+    );
+    settle(
+        table,
+        topic,
+        time,
+        end_after(time, seconds),
+        members,
+        m.fifth,
+        scores,
+    );
+    cells::store_clock(table, time);
+    Answer::Done(n)
+}
+
+fn heartbeat_from(
+    table: &mut [u64],
+    time: u64,
+    topic: usize,
+    ask: u64,
+    permutation: &[u64],
+    actions: &mut [u32],
+) -> Answer
+    requires { ⌜ Ready (now table) time × ((topic < 8) × (192 ≤ length (now actions))) ⌝ }
+    ensures { λ r. ⌜ Gives (heartbeatReply (stateOf (now (table .entry))) time topic ask (now (permutation .entry))) r (now (table .entry)) (now (table .exit)) (now (actions .entry)) (now (actions .exit)) ⌝ }
+{
+    if !is_permutation(permutation) {
+        return Answer::NotPermutation;
+    }
+    if !is_joined(table, topic) {
+        return ignore(table, time);
+    }
+    maintain_topic(table, time, topic, ask, copied(permutation), actions)
+}
+
+// Whether opportunism is asked for: 0 or 1.
+fn ask_ok(ask: u64) -> bool
+    ensures { λ r. ⌜ r ≡ leb ask 1 ⌝ }
+{
+    ask <= 1
+}
+
+// The mesh of a topic is maintained, with a permutation of the slots, and opportunistic grafts where `ask` is 1.
+pub fn heartbeat(
+    table: &mut [u64; 5340],
+    time: u64,
+    topic: u64,
+    ask: u64,
+    permutation: &[u64],
+    actions: &mut [u32],
+) -> Answer
+    ensures { λ r. ⌜ Follows (Calls·heartbeat time topic ask (now (permutation .entry))) r (now (table .entry)) (now (table .exit)) (now (actions .entry)) (now (actions .exit)) ⌝ }
+{
+    let fine = time_ok(time) & (topic_ok(topic) & ask_ok(ask));
+    match admit(table, fine, actions.len(), time) {
+        Gate::Refuse(a) => a,
+        Gate::Pass => heartbeat_from(table, time, topic as usize, ask, permutation, actions),
+    }
+}

@@ -1,0 +1,138 @@
+// What maintenance sees of a table, by slot, and the numbers of the peers that its actions name. Everything is as at the call's start.
+ghost use mathlib.Core.Path.{_≡_};
+ghost use Prim.Native.Nat.{_≤_, _<_};
+ghost use mathlib.Core.Bool.{cond};
+ghost use lib.Dec.{eqb};
+ghost use lib.ListN.{length};
+ghost use Rattle.records.specs.Records.{slotCount, peerIn};
+ghost use Rattle.cells.specs.View.{cellCount, stateOf};
+ghost use Rattle.sets.specs.Sets.{bySlot};
+ghost use Rattle.effects.specs.Effects.{isMember};
+ghost use Rattle.rules.specs.Step.{isCandidate, heightIn, degreesIn, viewIn};
+ghost use Rattle.gate.specs.Ready.{Standing};
+use effects::slots::is_member;
+use effects::slots::load_size;
+use mesh::Degrees;
+use mesh::View;
+use mesh::ZERO_SCORE;
+use records::SLOTS;
+
+// The members of a topic's mesh.
+pub fn members(table: &[u64], topic: usize) -> [bool; SLOTS]
+    requires { ⌜ (length (now table) ≡ cellCount) × (topic < 8) ⌝ }
+    ensures { λ r. ⌜ r ≡ bySlot slotCount (isMember (stateOf (now (table .entry))) topic) ⌝ }
+{
+    let mut r = [false; SLOTS];
+    for s in 0..SLOTS {
+        r[s] = is_member(table, topic, s);
+    }
+    r
+}
+
+// The peers whose connection we opened.
+pub fn outbound(table: &[u64]) -> [bool; SLOTS]
+    requires { ⌜ length (now table) ≡ cellCount ⌝ }
+    ensures { λ r. ⌜ r ≡ bySlot slotCount (λ s. eqb (peerIn (stateOf (now (table .entry))) s .outbound) 1) ⌝ }
+{
+    let mut r = [false; SLOTS];
+    for s in 0..SLOTS {
+        let p = cells::load_peer(table, s);
+        r[s] = p.outbound == 1;
+    }
+    r
+}
+
+// The scores, moved up so that none is negative.
+pub fn scores(table: &[u64]) -> [u64; SLOTS]
+    requires { ⌜ Standing (now table) ⌝ }
+    ensures { λ r. ⌜ r ≡ bySlot slotCount (heightIn (stateOf (now (table .entry)))) ⌝ }
+{
+    let mut r = [0; SLOTS];
+    for s in 0..SLOTS {
+        r[s] = score::sums::offset(score::of_slot::score_of(table, s));
+    }
+    r
+}
+
+// Whether the peer in a slot, with this score, may be grafted.
+pub fn is_candidate(table: &[u64], time: u64, topic: usize, slot: usize, score: u64) -> bool
+    requires { ⌜ Standing (now table) × ((topic < 8) × ((slot < 64) × (score ≡ heightIn (stateOf (now table)) slot))) ⌝ }
+    ensures { λ r. ⌜ r ≡ isCandidate (stateOf (now (table .entry))) time topic slot ⌝ }
+{
+    let p = cells::load_peer(table, slot);
+    let r = cells::load_topic(table, slot * 8 + topic);
+    (p.status == 1)
+        & ((r.subscribed == 1)
+            & ((p.explicit == 0)
+                & (!(r.member == 1) & ((ZERO_SCORE <= score) & !(time < p.backoff[topic])))))
+}
+
+// The candidates of a topic.
+pub fn candidates(table: &[u64], time: u64, topic: usize, scores: [u64; SLOTS]) -> [bool; SLOTS]
+    requires { ⌜ Standing (now table) × ((topic < 8) × (scores ≡ bySlot slotCount (heightIn (stateOf (now table))))) ⌝ }
+    ensures { λ r. ⌜ r ≡ bySlot slotCount (isCandidate (stateOf (now (table .entry))) time topic) ⌝ }
+{
+    let mut r = [false; SLOTS];
+    for s in 0..SLOTS {
+        r[s] = is_candidate(table, time, topic, s, scores[s]);
+    }
+    r
+}
+
+// The ids of the peers.
+pub fn ids(table: &[u64]) -> [u64; SLOTS]
+    requires { ⌜ length (now table) ≡ cellCount ⌝ }
+    ensures { λ r. ⌜ r ≡ bySlot slotCount (λ s. peerIn (stateOf (now (table .entry))) s .id) ⌝ }
+{
+    let mut r = [0; SLOTS];
+    for s in 0..SLOTS {
+        r[s] = cells::load_id(table, s);
+    }
+    r
+}
+
+// The seconds that each peer is told of a backoff: none at version 1.0.0.
+pub fn told(table: &[u64], seconds: u64) -> [u64; SLOTS]
+    requires { ⌜ length (now table) ≡ cellCount ⌝ }
+    ensures { λ r. ⌜ r ≡ bySlot slotCount (λ s. cond (eqb (peerIn (stateOf (now (table .entry))) s .version) 0) 0 seconds) ⌝ }
+{
+    let mut r = [0; SLOTS];
+    for s in 0..SLOTS {
+        let p = cells::load_peer(table, s);
+        if p.version != 0 {
+            r[s] = seconds;
+        }
+    }
+    r
+}
+
+// The parameters that maintenance goes by.
+pub fn degrees(table: &[u64]) -> Degrees
+    requires { ⌜ Standing (now table) ⌝ }
+    ensures { λ r. ⌜ r ≡ degreesIn (stateOf (now (table .entry))) ⌝ }
+{
+    Degrees {
+        lo: load_size(table, 0),
+        d: load_size(table, 1),
+        hi: load_size(table, 2),
+        out: load_size(table, 3),
+        score: load_size(table, 4),
+        threshold: ZERO_SCORE + load_size(table, 8) * 1000000,
+    }
+}
+
+// All that maintenance sees.
+pub fn view(table: &[u64], time: u64, topic: usize, ask: u64, order: [u64; SLOTS]) -> View
+    requires { ⌜ Standing (now table) × (topic < 8) ⌝ }
+    ensures { λ r. ⌜ r ≡ viewIn (stateOf (now (table .entry))) time topic ask order ⌝ }
+{
+    let heights = scores(table);
+    View {
+        members: members(table, topic),
+        candidates: candidates(table, time, topic, heights),
+        outbound: outbound(table),
+        scores: heights,
+        permutation: order,
+        ask: ask == 1,
+    }
+}
