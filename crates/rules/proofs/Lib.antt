@@ -1,6 +1,8 @@
 pub mod GateLaws
 pub mod PromiseLaws
 pub mod StepLaws
+pub mod PunishedLaws
+pub mod HeartbeatLaws
 pub mod KeepsRecord
 pub mod KeepsState
 pub mod KeepsTopic
