@@ -123,11 +123,11 @@ module _ (time : ℕ) (st : State) (g : RouterAt time st) (t : ℕ) (k : t < 8) 
 
 -- ---- leave: every member by slot
 module _ (time : ℕ) (st : State) (g : RouterAt time st) (t : ℕ) (k : t < 8) (end : ℕ) (b : end ≤ maxEnd) where
-  member-on : (s : ℕ) → s < 64 → isMember st t s ≡ true → peerIn st s .status ≡ 1
+  pub member-on : (s : ℕ) → s < 64 → isMember st t s ≡ true → peerIn st s .status ≡ 1
   unfolding isMember
   member-on s h m = topic-of time st g s t h k .inside (eqb-true (topicIn st (place s t) .member) 1 m) .0
 
-  walk-punished :
+  pub walk-punished :
       (s : ℕ) (u : State) → s < 64 → peerIn st s .status ≡ 1 → Walked time st u → Walked time st (punished st t s u)
   unfolding punished grownOf
   walk-punished s u h on w =
@@ -139,7 +139,7 @@ module _ (time : ℕ) (st : State) (g : RouterAt time st) (t : ℕ) (k : t < 8) 
       (topic-counted _ _ _ _ _ _ r f (w .status s ∙ on) (r .p2) (r .p3) (r .p4) _ (f .p2) (f .p3) (f .p4) (omega arith) (latest time u (w .at))))
       (λ e. w)
 
-  walk-pruned :
+  pub walk-pruned :
       (s : ℕ) (u : State) → s < 64 → peerIn st s .status ≡ 1 → Walked time st u → Walked time st (pruned u s t end)
   unfolding withEnd
   walk-pruned s u h on w =

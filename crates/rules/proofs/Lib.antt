@@ -8,5 +8,7 @@ pub mod KeepsState
 pub mod KeepsTopic
 pub mod KeepsPeer
 pub mod KeepsDecay
+pub mod KeepsHeartbeat
+pub mod Keeps
 pub mod Examples
 pub mod EndLaws
