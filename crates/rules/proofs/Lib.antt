@@ -10,5 +10,4 @@ pub mod KeepsPeer
 pub mod KeepsDecay
 pub mod KeepsHeartbeat
 pub mod Keeps
-pub mod Examples
 pub mod EndLaws
