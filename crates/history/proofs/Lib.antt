@@ -1,3 +1,5 @@
 pub mod Fewer
 pub mod Frames
 pub mod Standing
+pub mod Replies
+pub mod Connect
