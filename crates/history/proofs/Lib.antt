@@ -3,3 +3,4 @@ pub mod Frames
 pub mod Standing
 pub mod Replies
 pub mod Connect
+pub mod Graft
