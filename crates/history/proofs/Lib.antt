@@ -4,3 +4,4 @@ pub mod Standing
 pub mod Replies
 pub mod Connect
 pub mod Graft
+pub mod Heartbeat
