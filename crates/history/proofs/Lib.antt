@@ -5,3 +5,4 @@ pub mod Replies
 pub mod Connect
 pub mod Graft
 pub mod Heartbeat
+pub mod Demand3
