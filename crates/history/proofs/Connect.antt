@@ -1,6 +1,6 @@
 -- Connect: a slot that was empty or retained, and so in no mesh, gets the direction that the call said; no other connected peer has its id.
 -- Assumes nothing.
-use Prim.Native.Nat.{ℕ, _+_, _%_, _<_}
+use Prim.Native.Nat.{ℕ, _%_, _<_}
 use native.Mathlib.Omega.{arith}
 use mathlib.Core.Path.{_≡_, refl, sym, ap, _∙_}
 use mathlib.Core.Bool.{Bool, true, false, cond, _&&_}
@@ -18,13 +18,12 @@ use Rattle.table.specs.declared.Named.the-variants.{Version, Unknown}
 use Rattle.table.specs.Name.{versionOf}
 use Rattle.table.specs.Find.{findConnected, findRetained, lowestEmpty}
 use Rattle.table.proofs.FindLaws.{retained-at, empty-at, none-connected}
-use Rattle.effects.specs.Effects.{connectedAs, isMember, onPeer, reclaimed}
+use Rattle.effects.specs.Effects.{connectedAs, isMember, reclaimed}
 use Rattle.effects.proofs.EffectLaws.{member-peer, reclaimed-stays, reclaimable-connected}
 use Rattle.rules.specs.declared.Answer.the-variants.{AlreadyConnected, NoSlot, UnknownProtocol}
 use Rattle.rules.specs.Reply.{Reply, refused}
-use Rattle.rules.specs.Calls.{Call, connect}
+use Rattle.rules.specs.Calls.{connect}
 use Rattle.rules.specs.Step.{onFound, onVersion, connectAt, connectIn, connectReply}
-use Rattle.history.specs.Lists.{heard}
 use Rattle.history.proofs.Fewer.{Fewer, fewer-clock}
 use Rattle.history.proofs.Frames.{fewer-reclaimed}
 use Rattle.history.proofs.Standing.{Standing, member-connected, inbounds-less, fewer-member}

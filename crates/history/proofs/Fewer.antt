@@ -1,7 +1,7 @@
 -- What most calls leave: nobody is connected who was not, with the direction that he had, and nobody comes into a mesh.
 -- Assumes nothing.
 use Prim.Native.Nat.{ℕ, _<_}
-use mathlib.Core.Path.{_≡_, refl, ap, _∙_}
+use mathlib.Core.Path.{_≡_, refl, _∙_}
 use mathlib.Core.Bool.{Bool, cond}
 use Rattle.index.specs.Index.{iter}
 use Rattle.index.proofs.Index.{iter-keeps}

@@ -9,26 +9,26 @@ use mathlib.Core.List.{List, []}
 use lib.Dec.{eqb, leb}
 use lib.IntN.{ℤ}
 use borrow.Author.Tests.{eqb-true, eqb-false, eq-eqb, leb-false, not-true}
-use Rattle.index.specs.Index.{count, one}
+use Rattle.index.specs.Index.{one}
 use Rattle.index.proofs.Index.{both, one-le}
 use Rattle.index.proofs.Flags.{by-test, cond-case}
 use Rattle.records.specs.declared.Peer.{Peer}
-use Rattle.records.specs.Records.{State, place, peerIn, topicIn, setClock, setTopic}
+use Rattle.records.specs.Records.{State, place, peerIn, topicIn, setClock}
 use Rattle.cells.specs.View.{Sized}
 use Rattle.cells.proofs.StateLaws.{peer-after-clock, peer-after-topic, codes-after-clock, codes-after-topic}
 use Rattle.table.specs.Valid.{valid}
 use Rattle.table.proofs.ValidLaws.{valid-facts}
-use Rattle.effects.specs.Effects.{highDegree, intoMesh, onPeer, onTopic, isMember, isSubscribed, meshSize, backoffRuns, withP7}
+use Rattle.effects.specs.Effects.{highDegree, intoMesh, onTopic, isMember, isSubscribed, meshSize, backoffRuns}
 use Rattle.effects.proofs.Walks.{count-change}
 use Rattle.effects.proofs.EffectLaws.{place-slot, member-apart}
 use Rattle.score.specs.Counters.{countMost, raisedOf}
-use Rattle.rules.specs.Reply.{Reply, ignored, done}
+use Rattle.rules.specs.Reply.{ignored, done}
 use Rattle.rules.specs.Step.{isNegative, isHeard, meshFull, graftEnters, graftRefused, graftOpen, graftBackoff, graftHeard, graftReply}
 use Rattle.history.specs.Demand3.{dHi}
-use Rattle.history.proofs.Fewer.{Fewer, fewer-clock}
+use Rattle.history.proofs.Fewer.{Fewer}
 use Rattle.history.proofs.Frames.{fewer-still, fewer-refused, fewer-running}
-use Rattle.history.proofs.Standing.{Standing, isInbound, inbounds, inbounds-less, inbounds-most, fewer-member, degree-is}
-use Rattle.history.proofs.Replies.{after-fewer}
+use Rattle.history.proofs.Standing.{Standing, isInbound, inbounds, inbounds-less, inbounds-most, degree-is}
+use Rattle.history.proofs.Replies.{Stays, after-fewer}
 
 module _
     (params : List ℤ)
@@ -39,9 +39,6 @@ module _
     (k : t < 8)
     (l : s < 64)
   where
-    abbrev Here : Reply → Type 0
-    Here r = Sized (r .state) → valid (r .state) ≡ true → Standing params dir (r .state)
-
     -- ---- the peer is taken in
     abbrev u : State
     u = onTopic st s t (λ r. intoMesh r time)
@@ -65,7 +62,7 @@ module _
         inbounds-less st left v (λ i c m.
         (sym (same-member v i (λ (e : place i v ≡ place s t). n (omega arith))) ∙ m, ap (λ (p : Peer). p .outbound) (same-peer i)))
 
-    module _ (new : isMember st t s ≡ false) (e : graftEnters st t s ≡ true) where
+    module _ (e : graftEnters st t s ≡ true) where
       -- an inbound peer found room
       room : eqb (peerIn st s .outbound) 1 ≡ false → meshSize st t < dHi params
       unfolding graftEnters meshFull
@@ -76,7 +73,8 @@ module _
           let f = valid-facts st (h .router) .peer s l .outbound in
           let z : eqb (peerIn st s .outbound) 0 ≡ true =
           eq-eqb (peerIn st s .outbound) 0 (let n = eqb-false (peerIn st s .outbound) 1 o in omega (arith, n)) in
-          let g : leb (highDegree st) (meshSize st t) ≡ false = first-no (leb (highDegree st) (meshSize st t)) (eqb (peerIn st s .outbound) 0) full z in
+          let g : leb (highDegree st) (meshSize st t) ≡ false =
+          first-no (leb (highDegree st) (meshSize st t)) (eqb (peerIn st s .outbound) 0) full z in
           omega (arith, leb-false (highDegree st) (meshSize st t) g, degree-is st params (h .codes) 2)
         where
           first-no : (a b : Bool) → a && b ≡ false → b ≡ true → a ≡ false
@@ -95,7 +93,7 @@ module _
           omega arith)
           (λ o. omega (arith, room o, inbounds-most st t, one-le (isInbound left t s)))
 
-      taken : Here (done u time [])
+      taken : Stays params dir (done u time [])
       taken size v =
           record {
             size = size;
@@ -112,33 +110,33 @@ module _
     less : (x : State) → Fewer st x → Sized x → valid x ≡ true → Standing params dir x
     less x f = after-fewer params dir st h x f
 
-    opened : isMember st t s ≡ false → Here (graftOpen st time t s)
+    opened : Stays params dir (graftOpen st time t s)
     unfolding graftOpen
-    opened new =
-        cond-case Here (graftEnters st t s) (done u time []) (graftRefused st time t s)
-        (λ e. taken new e)
+    opened =
+        cond-case (Stays params dir) (graftEnters st t s) (done u time []) (graftRefused st time t s)
+        (λ e. taken e)
         (λ e. less _ (fewer-refused st time t s))
 
-    backed : isMember st t s ≡ false → Here (graftBackoff st time t s)
+    backed : Stays params dir (graftBackoff st time t s)
     unfolding graftBackoff
-    backed new =
-        cond-case Here (backoffRuns (peerIn st s) t time) _ (graftOpen st time t s)
+    backed =
+        cond-case (Stays params dir) (backoffRuns (peerIn st s) t time) _ (graftOpen st time t s)
         (λ e. less _ (fewer-running st time t s (raisedOf (peerIn st s .p7) countMost)))
-        (λ e. opened new)
+        (λ e. opened)
 
-    heard : Here (graftHeard st time t s)
+    heard : Stays params dir (graftHeard st time t s)
     unfolding graftHeard
     heard =
-        cond-case Here (isMember st t s) (done st time []) _
+        cond-case (Stays params dir) (isMember st t s) (done st time []) _
         (λ m. less _ (fewer-still st time))
         (λ m.
-        cond-case Here (eqb (peerIn st s .explicit) 1) (graftRefused st time t s) (graftBackoff st time t s)
+        cond-case (Stays params dir) (eqb (peerIn st s .explicit) 1) (graftRefused st time t s) (graftBackoff st time t s)
         (λ e. less _ (fewer-refused st time t s))
-        (λ e. backed m))
+        (λ e. backed))
 
-    pub stands-graft : Here (graftReply st time t s)
+    pub stands-graft : Stays params dir (graftReply st time t s)
     unfolding graftReply
     stands-graft =
-        cond-case Here (isHeard st t s) (graftHeard st time t s) (ignored st time)
+        cond-case (Stays params dir) (isHeard st t s) (graftHeard st time t s) (ignored st time)
         (λ e. heard)
         (λ e. less _ (fewer-still st time))

@@ -20,23 +20,23 @@ use Rattle.cells.specs.View.{Sized}
 use Rattle.cells.proofs.StateLaws.{peer-after-clock, codes-after-clock}
 use Rattle.table.specs.Valid.{valid}
 use Rattle.effects.specs.Effects.{isJoined, isMember, withEnd}
-use Rattle.sets.specs.Sets.{bySlot, at, size, both, except, isPermutation}
+use Rattle.sets.specs.Sets.{at, size, isPermutation}
 use Rattle.sets.proofs.SetLaws.{both-left, both-right, both-in}
 use Rattle.sets.proofs.SlotLaws.{slots-length, slots-at, slots-in, size-count, both-count, except-count}
 use Rattle.mesh.specs.declared.View.{View}
 use Rattle.mesh.specs.Maintenance.{goods, Maintained, InPool as OfPool}
 use Rattle.rules.specs.declared.Answer.the-variants.{NotPermutation}
 use Rattle.rules.specs.Reply.{Reply, numberOf, refused, ignored}
-use Rattle.rules.specs.Step.{isNegative, isCandidate, degreesIn, viewIn, meshesIn, settleSlot, heartbeatActions, maintainedReply, heartbeatReply}
+use Rattle.rules.specs.Step.{isNegative, isCandidate, degreesIn, viewIn, meshesIn, settleSlot, maintainedReply, heartbeatReply}
 use Rattle.rules.proofs.HeartbeatLaws.{candidate-connected, view-goods, view-kept, mesh-length, settled-kept, settled-peer, settled-else, settled-member}
 use Rattle.history.specs.Demand3.{dLo, dHi, dOut, InPool}
-use Rattle.history.proofs.Fewer.{Fewer, fewer-self, fewer-clock}
+use Rattle.history.proofs.Fewer.{fewer-self}
 use Rattle.history.proofs.Frames.{fewer-still}
 use Rattle.history.proofs.Standing.{Standing, isInbound, inbounds, inbounds-less, member-connected, degree-is}
-use Rattle.history.proofs.Replies.{after-fewer}
+use Rattle.history.proofs.Replies.{Stays, after-fewer}
 
 -- what demand 3 says of the topic after a heartbeat: st is the state at its start, u the one that it left
-pub record Swept (params : List ℤ) (dir : ℕ → Bool) (st u : State) (time t : ℕ) : Type 0 where
+pub record TidiedIn (params : List ℤ) (dir : ℕ → Bool) (st u : State) (time t : ℕ) : Type 0 where
   pub good : (s : ℕ) → s < slotCount → isMember u t s ≡ true → isNegative st s ≡ false
   pub outs :
       (dOut params ≤ count slotCount (λ s. isMember u t s && dir (peerIn u s .id))) ⊎
@@ -127,10 +127,11 @@ module _
     of-view s l p =
         ⊎-elim
         (λ b.
-        inl
-        (slots-in (isMember st t) 64 s (both-left (view .members) (goods view) s b) .1,
-        not-true (isNegative st s)
-        (sym (view-goods st time t ask order (h .router) s l) ∙ both-right (view .members) (goods view) s b)))
+        inl (
+          slots-in (isMember st t) 64 s (both-left (view .members) (goods view) s b) .1,
+          not-true (isNegative st s)
+              (sym (view-goods st time t ask order (h .router) s l) ∙ both-right (view .members) (goods view) s b),
+        ))
         (λ c. inr (slots-in (isCandidate st time t) 64 s c .1))
         p
 
@@ -179,8 +180,8 @@ module _
           }
 
       -- ---- the topic that was maintained
-      swept-good : (s : ℕ) → s < 64 → isMember left t s ≡ true → isNegative st s ≡ false
-      swept-good s l m =
+      tidied-good : (s : ℕ) → s < 64 → isMember left t s ≡ true → isNegative st s ≡ false
+      tidied-good s l m =
           not-true (isNegative st s)
           (sym (view-goods st time t ask order (h .router) s l) ∙ kept .only s (sym (member-here s l) ∙ m))
 
@@ -191,10 +192,10 @@ module _
           (λ m. rw (member-here s l, m) (directed s l (of-view s l (kept .pool s m))))
           (λ m. rw (member-here s l, m))
 
-      swept-outs :
+      tidied-outs :
           (dOut params ≤ count 64 (λ s. isMember left t s && dir (peerIn left s .id))) ⊎
           ((s : ℕ) → s < 64 → InPool st time t s → dir (peerIn left s .id) ≡ true → isMember left t s ≡ true)
-      swept-outs =
+      tidied-outs =
           ⊎-elim
           (λ b.
           let c = count-same (λ s. at mesh s && at (view .outbound) s) (λ s. isMember left t s && dir (peerIn left s .id)) 64 outbound-same in
@@ -202,10 +203,10 @@ module _
           (λ f. inr (λ s l p o. member-here s l ∙ f s (to-view s l p) (directed s l p ∙ o)))
           (kept .outs)
 
-      swept-enough :
+      tidied-enough :
           (dLo params ≤ count 64 (isMember left t)) ⊎
           ((s : ℕ) → s < 64 → InPool st time t s → isMember left t s ≡ true)
-      swept-enough =
+      tidied-enough =
           ⊎-elim
           (λ b.
           let c = count-same (isMember left t) (at mesh) 64 member-here in
@@ -213,33 +214,30 @@ module _
           (λ f. inr (λ s l p. member-here s l ∙ f s (to-view s l p)))
           (kept .lower)
 
-      swept : Swept params dir st left time t
-      swept = record { good = swept-good; outs = swept-outs; enough = swept-enough }
+      tidied-in : TidiedIn params dir st left time t
+      tidied-in = record { good = tidied-good; outs = tidied-outs; enough = tidied-enough }
 
     -- ---- every end
-    abbrev Here : Reply → Type 0
-    Here r = Sized (r .state) → valid (r .state) ≡ true → Standing params dir (r .state)
-
-    pub stands-heartbeat : Here (heartbeatReply st time t ask order)
+    pub stands-heartbeat : Stays params dir (heartbeatReply st time t ask order)
     unfolding heartbeatReply maintainedReply
     stands-heartbeat =
-        cond-case Here (isPermutation slotCount order) _ (refused NotPermutation st)
+        cond-case (Stays params dir) (isPermutation slotCount order) _ (refused NotPermutation st)
         (λ right.
-        cond-case Here (isJoined st t) (maintainedReply st time t ask order) (ignored st time)
+        cond-case (Stays params dir) (isJoined st t) (maintainedReply st time t ask order) (ignored st time)
         (λ j. stands right)
         (λ j. after-fewer params dir st h _ (fewer-still st time)))
         (λ wrong. after-fewer params dir st h st (fewer-self st))
 
     -- 0 means that the topic was maintained
     abbrev Done : Reply → Type 0
-    Done r = numberOf (r .answer) ≡ 0 → Swept params dir st (r .state) time t
+    Done r = numberOf (r .answer) ≡ 0 → TidiedIn params dir st (r .state) time t
 
-    pub swept-heartbeat : Done (heartbeatReply st time t ask order)
+    pub tidied-heartbeat : Done (heartbeatReply st time t ask order)
     unfolding heartbeatReply maintainedReply
-    swept-heartbeat =
+    tidied-heartbeat =
         cond-case Done (isPermutation slotCount order) _ (refused NotPermutation st)
         (λ right.
         cond-case Done (isJoined st t) (maintainedReply st time t ask order) (ignored st time)
-        (λ j zero. swept right)
+        (λ j zero. tidied-in right)
         (λ j zero. absurd (omega arith)))
         (λ wrong zero. absurd (omega arith))

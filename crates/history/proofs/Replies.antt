@@ -3,7 +3,7 @@
 use Prim.Native.Nat.{ℕ, _%_, _<_}
 use native.Mathlib.Omega.{arith}
 use mathlib.Core.Path.{_≡_, refl, ap, _∙_}
-use mathlib.Core.Bool.{Bool, true, false, cond, _&&_, and-false}
+use mathlib.Core.Bool.{Bool, true, false, cond, and-false}
 use mathlib.Core.List.{List}
 use lib.Dec.{eqb, leb}
 use lib.IntN.{ℤ}
@@ -36,6 +36,10 @@ abbrev pub After : List ℤ → (ℕ → Bool) → Call → Reply → Type 0
 After params dir c r =
     Sized (r .state) → valid (r .state) ≡ true → Standing params (heardOf c (r .answer) dir) (r .state)
 
+-- the same of a call that says no direction
+abbrev pub Stays : List ℤ → (ℕ → Bool) → Reply → Type 0
+Stays params dir r = Sized (r .state) → valid (r .state) ≡ true → Standing params dir (r .state)
+
 -- no call that is refused says a direction
 unheard : (c : Call) (peer : ℕ) (was : Bool) → heard c false peer was ≡ was
 unheard (connect time id group flags name) peer was =
@@ -59,7 +63,6 @@ module _ (params : List ℤ) (dir : ℕ → Bool) (st : State) (h : Standing par
       stands-fewer params dir (heardOf c a dir) st st h (fewer-self st) (λ peer.
       ap (λ (b : Bool). heard c b peer (dir peer)) e ∙ unheard c peer (dir peer))
 
-  -- a call that says no direction
   pub after-fewer : (u : State) → Fewer st u → Sized u → valid u ≡ true → Standing params dir u
   after-fewer u f = stands-fewer params dir dir st u h f (λ peer. refl)
 

@@ -1,7 +1,7 @@
 -- The invariant of demand 3: what stands after every list of calls, for the parameters and for the directions that the list's connects said.
 -- It holds of a fresh router, and stays where nobody comes (Fewer).
 -- Assumes nothing.
-use Prim.Native.Nat.{ℕ, zero, suc, _+_, _/_, _<_, _≤_}
+use Prim.Native.Nat.{ℕ, zero, suc, _+_, _<_, _≤_}
 use native.Mathlib.Omega.{arith}
 use mathlib.Core.Path.{_≡_, refl, sym, ap, _∙_}
 use mathlib.Core.Bool.{Bool, true, false, not, _&&_}
@@ -11,9 +11,8 @@ use lib.IntN.{ℤ, pos, negsuc, natAbs}
 use lib.ListN.{length, getD, replicate, length-map, length-replicate, getD-replicate, List·getD-map, List·getD-eq-default}
 use borrow.Author.Tests.{eqb-true, eq-eqb}
 use Rattle.index.specs.Index.{count, one}
-use Rattle.index.specs.declared.Found.the-variants.{Nothing}
 use Rattle.index.proofs.Index.{both}
-use Rattle.index.proofs.Flags.{by-test, by-order}
+use Rattle.index.proofs.Flags.{by-order}
 use Rattle.groups.specs.Codes.{codeOf}
 use Rattle.params.specs.Limits.{at}
 use Rattle.records.specs.declared.Peer.{Peer}
@@ -22,7 +21,7 @@ use Rattle.records.specs.Records.{State, slotCount, noPeer, noTopic, place, cod
 use Rattle.cells.specs.View.{Sized}
 use Rattle.table.specs.Valid.{valid}
 use Rattle.table.specs.Fresh.{freshState}
-use Rattle.table.proofs.ValidLaws.{Facts, valid-facts}
+use Rattle.table.proofs.ValidLaws.{valid-facts}
 use Rattle.table.proofs.FreshLaws.{fresh-valid}
 use Rattle.effects.specs.Effects.{magnitude, isMember}
 use Rattle.history.specs.Demand3.{Accepted, dHi}
