@@ -141,7 +141,7 @@ module _ (st : State) (t : ℕ) (k : t < 8) where
     walk-codes : (i : ℕ) → iter i (leaveSlot st t end) st .codes ≡ st .codes
     walk-codes i = kept-iter (leaveSlot st t end) i st turn-kept .codes
 
-params-same : (a b : State) (t : ℕ) → b .codes ≡ a .codes → topicParamsIn b t ≡ topicParamsIn a t
+pub params-same : (a b : State) (t : ℕ) → b .codes ≡ a .codes → topicParamsIn b t ≡ topicParamsIn a t
 unfolding topicParamsIn codeIn
 params-same a b t e = rw e
 
