@@ -59,9 +59,9 @@ numbersOr (Accepted n) read stood = read
 numbersOr (Malformed place) read stood = stood
 numbersOr (Broken i) read stood = stood
 
-pub record HostsRead (bytes : List ℕ) (r : ℕ) (numbers numbers′ : List ℤ) : Type 0 where
+pub record HostsRead (bytes : List ℕ) (r : ℕ) (lent lent′ : List ℤ) : Type 0 where
   pub answer : r ≡ packed (verdictNumber (readOf bytes .verdict)) (verdictValue (readOf bytes .verdict))
-  pub numbers : numbers′ ≡ numbersOr (readOf bytes .verdict) (readOf bytes .params .numbers) numbers
+  pub numbers : lent′ ≡ numbersOr (readOf bytes .verdict) (readOf bytes .params .numbers) lent
 
 pub record HostsWrite (numbers : List ℤ) (r : ℕ) (buf buf′ : List ℕ) : Type 0 where
   pub answer : r ≡ packed (writtenNumber (writeOf numbers buf .answer)) (writtenValue (writeOf numbers buf .answer))

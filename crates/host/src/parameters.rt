@@ -29,7 +29,8 @@ pub extern "C" fn hivepadlet_read(bytes: &[u8], numbers: &mut [i64; 147]) -> u64
     let reading = params::read(bytes);
     let all = reading.params;
     let values = all.numbers;
-    match reading.verdict {
+    let verdict = reading.verdict;
+    match verdict {
         Verdict::Accepted(n) => {
             *numbers = values;
             packed(0, n as u64)
@@ -39,17 +40,24 @@ pub extern "C" fn hivepadlet_read(bytes: &[u8], numbers: &mut [i64; 147]) -> u64
     }
 }
 
+// Writes parameters given by value, of which it is known that they are 147.
+fn put(all: Params, buffer: &mut [u8]) -> u64
+    ensures { λ r. ⌜ HostsWrite (all .numbers) r (now (buffer .entry)) (now (buffer .exit)) ⌝ }
+{
+    match all.write(buffer) {
+        Written::Done(n) => packed(0, n as u64),
+        Written::Short => packed(8, 0),
+        Written::Outside(i) => packed(9, i as u64),
+    }
+}
+
 // Writes the parameters to the start of a buffer: 0 with the length, 8, or 9 with the index or rule.
 #[no_mangle]
 pub extern "C" fn hivepadlet_write(numbers: &[i64; 147], buffer: &mut [u8]) -> u64
     ensures { λ r. ⌜ HostsWrite (now (numbers .entry)) r (now (buffer .entry)) (now (buffer .exit)) ⌝ }
 {
     let all = Params { numbers: *numbers };
-    match all.write(buffer) {
-        Written::Done(n) => packed(0, n as u64),
-        Written::Short => packed(8, 0),
-        Written::Outside(i) => packed(9, i as u64),
-    }
+    put(all, buffer)
 }
 
 // Makes a fresh router: 0, or 9 with the index or rule.

@@ -30,6 +30,7 @@ use Rattle.rules.specs.Reply.{Reply, actionsOf}
 use Rattle.rules.specs.Calls.{Call, connect, disconnect, join, leave, subscribe, unsubscribe, graft, prune, deliver, rate, decay, score}
 use Rattle.rules.specs.Step.{step, actionRoom}
 use Rattle.rules.specs.Promise.{Leaves, Gives, Follows}
+use Rattle.rules.proofs.CountLaws.{Counted, counted}
 use Rattle.events.specs.declared.Readings.{Readings}
 use Rattle.events.specs.Reading.{Numbers, numbers, broken, numbersFrom, outcome, arity, callOf, Event, event, unknown, malformed, short, cutShort, unread, named, ofNumbers, ofKind, eventAt}
 use Rattle.events.specs.Lines.{pairLine, linesOf, replyText}
@@ -37,7 +38,6 @@ use Rattle.events.proofs.LineLaws.{lines-are}
 use Rattle.replay.specs.declared.Replayed.{Replayed}
 use Rattle.replay.specs.declared.Replayed.the-variants.{Called, Stopped, Short, Full}
 use Rattle.replay.specs.Replay.{Outcome, printed, stopped, replayEvent, replayOf, Replays}
-use Rattle.replay.proofs.CountLaws.{Counted, counted}
 
 -- ---- numbers past those that were read are 0
 take-same :

@@ -11,3 +11,4 @@ pub mod KeepsDecay
 pub mod KeepsHeartbeat
 pub mod Keeps
 pub mod EndLaws
+pub mod CountLaws
