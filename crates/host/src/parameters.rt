@@ -16,8 +16,8 @@ use table::Made;
 pub extern "C" fn hivepadlet_ordinary(numbers: &mut [i64; 147])
     ensures { λ r. ⌜ now (numbers .exit) ≡ ordinaryNumbers ⌝ }
 {
-    let all = Params::ordinary();
-    let values = all.numbers;
+    let ordinary = Params::ordinary();
+    let values = ordinary.numbers;
     *numbers = values;
 }
 

@@ -1,0 +1,305 @@
+/*
+ * hivepadlet.h: a gossipsub v1.1 mesh router for firmware.
+ *
+ * The router keeps the score of every peer, its backoffs, and who is in the mesh of each topic. It opens no socket, reads no
+ * clock, makes no random number and allocates nothing: you tell it what happened and when, it tells you what to send. Link
+ * libhost.a (x86-64, written by `rt staticlib host`); it needs memcpy and memset, and nothing else.
+ *
+ *     static uint64_t table[HIVEPADLET_CELLS];
+ *     static uint32_t actions[HIVEPADLET_ACTION_NUMBERS];
+ *     int64_t numbers[HIVEPADLET_NUMBERS];
+ *
+ *     hivepadlet_ordinary(numbers);
+ *     hivepadlet_fresh(numbers, table);
+ *     uint64_t r = hivepadlet_join(table, time, 0, actions, HIVEPADLET_ACTION_NUMBERS);
+ *     if (hivepadlet_number(r) == HIVEPADLET_DONE) ...
+ *
+ * examples/three_hubs.c is a whole host.
+ *
+ * WHAT EVERY CALL PROMISES
+ *
+ * No call needs a check before it. Every number, name, permutation, list length and table content is taken: what is bad is
+ * refused by a number (below), and a call that refuses changes nothing, neither the table nor the list. A call that is
+ * ignored (11) moves the router's clock and nothing else. Every call ends, and none traps.
+ *
+ * MEMORY
+ *
+ * All memory is yours, and is lent for the length of one call; nothing is kept between calls but what stands in the table.
+ *
+ * - The table, HIVEPADLET_CELLS numbers of 64 bits (42,720 bytes), is the whole router. Any number of routers may stand side
+ *   by side, one table each. A table may be copied, saved and restored as bytes on the same machine. Only the calls write it;
+ *   one that was damaged is refused (12).
+ * - The action list is HIVEPADLET_ACTION_NUMBERS numbers of 32 bits, or more; under that, a call refuses (8). A call writes its
+ *   actions from the start of the list and leaves the numbers past them as they were. One list may serve all calls.
+ * - Lengths count elements, not bytes.
+ *
+ * What C cannot tell a call, you owe: a pointer is aligned, is not NULL (also where its length is 0), points to as much memory
+ * as its type and length say, and what a call writes overlaps nothing else that it is given. Calls on one table must not
+ * overlap in time, from two threads or from an interrupt. Calls on different tables may.
+ *
+ * WHAT COMES BACK
+ *
+ * One number of 64 bits: the answer's number in its low 8 bits (hivepadlet_number), and above it the value that goes with the
+ * answer (hivepadlet_value), 0 where the table below names none. HIVEPADLET_DONE is 0, so `r & 255` is 0 for success.
+ *
+ * A call makes its tests in the order 12, 2, 8, 1, 6, 7, 3, 4, 5, 11, those that can concern it, and answers the first that
+ * fails; hivepadlet_read in the order 10, 9; hivepadlet_write 8, 9; hivepadlet_fresh 9.
+ *
+ * TIMES AND UNITS
+ *
+ * - Times are milliseconds, 0 to HIVEPADLET_MAX_TIME, of a clock of yours that never goes back (1). The router's clock is the
+ *   time of the last call that answered 0 or 11; that of a fresh router is 0.
+ * - Peer ids are yours: 1 to 4294967295, one for each peer, the same when the peer comes back. Topics are 0 to 7.
+ * - A score is a whole number of 10^-9 points, never beyond 2.6 * 10^18 either way.
+ *
+ * ACTIONS
+ *
+ * An action is three numbers of the list: its kind (1 GRAFT, 2 PRUNE), the peer's id, and the seconds of backoff to send with a
+ * PRUNE (0 for a GRAFT, and for a /meshsub/1.0.0 peer, whose PRUNE has no such field). The topic is that of the call. Send them
+ * in order: the router has already changed its mesh and its backoffs accordingly. An answer 0 has the number of actions as its
+ * value. Only hivepadlet_leave, hivepadlet_graft and hivepadlet_heartbeat give any, at most one for each peer.
+ *
+ * To know along whom to pass a topic's messages, keep a note of its mesh: a peer is in after a GRAFT sent, and after a GRAFT from
+ * it that is answered 0 with no action; it is out after a PRUNE in either direction, its unsubscribing and its disconnecting.
+ *
+ * WHEN TO CALL
+ *
+ * Each time something happens, the call of that name. And by a timer of yours: hivepadlet_heartbeat for each joined topic, and
+ * hivepadlet_decay; the ordinary parameters are meant for one of each a second.
+ */
+#ifndef HIVEPADLET_H
+#define HIVEPADLET_H
+
+#include <stddef.h>
+#include <stdint.h>
+
+#ifdef __cplusplus
+extern "C" {
+#endif
+
+/* ---- sizes */
+
+#define HIVEPADLET_CELLS 5340           /* numbers of a table */
+#define HIVEPADLET_NUMBERS 147          /* numbers of the parameters */
+#define HIVEPADLET_ACTION_NUMBERS 192   /* numbers of an action list: three for each slot */
+#define HIVEPADLET_PARAMETER_BYTES 735  /* bytes that written parameters may take */
+#define HIVEPADLET_SLOTS 64             /* peers that a router holds, and numbers of a permutation */
+#define HIVEPADLET_TOPICS 8
+
+#define HIVEPADLET_MAX_TIME (UINT64_C(1) << 40) /* milliseconds */
+#define HIVEPADLET_POINT INT64_C(1000000000)    /* one point of a score */
+
+/* ---- the answers' numbers, and the value that goes with each */
+
+enum hivepadlet_answer {
+    HIVEPADLET_DONE = 0,              /* done; of a call the number of actions, of reading and writing the number of bytes */
+    HIVEPADLET_EARLY = 1,             /* the time is before the router's clock */
+    HIVEPADLET_OUT_OF_RANGE = 2,      /* time, id, group, flags, topic, kind, ask or P5 outside its range */
+    HIVEPADLET_NOT_CONNECTED = 3,     /* no connected peer has the id */
+    HIVEPADLET_ALREADY_CONNECTED = 4, /* connect of a connected id */
+    HIVEPADLET_NO_SLOT = 5,           /* all 64 slots are taken, and none can be reclaimed yet */
+    HIVEPADLET_UNKNOWN_PROTOCOL = 6,  /* the protocol name is neither of the two */
+    HIVEPADLET_NOT_PERMUTATION = 7,   /* not each of 0 to 63 once */
+    HIVEPADLET_LIST_SHORT = 8,        /* action list under 192 numbers; in writing parameters, buffer under 735 bytes */
+    HIVEPADLET_BROKEN = 9,            /* a parameter outside its limits: its index; or a joint rule broken: 200 + the rule */
+    HIVEPADLET_MALFORMED = 10,        /* bytes that are no parameters: the place where the first bad number begins, or the
+                                         first byte left over, or the length where the bytes end too soon */
+    HIVEPADLET_IGNORED = 11,          /* ignored: only the clock moved */
+    HIVEPADLET_NOT_ROUTER = 12        /* the table is no router's: damaged, or never made by hivepadlet_fresh */
+};
+
+static inline unsigned hivepadlet_number(uint64_t r)
+{
+    return (unsigned)(r & 255);
+}
+
+static inline uint32_t hivepadlet_value(uint64_t r)
+{
+    return (uint32_t)(r >> 8);
+}
+
+/* ---- the actions that a call wrote: i counts them from 0 */
+
+enum hivepadlet_action {
+    HIVEPADLET_GRAFT = 1,
+    HIVEPADLET_PRUNE = 2
+};
+
+static inline uint32_t hivepadlet_action_kind(const uint32_t *actions, size_t i)
+{
+    return actions[3 * i];
+}
+
+static inline uint32_t hivepadlet_action_peer(const uint32_t *actions, size_t i)
+{
+    return actions[3 * i + 1];
+}
+
+static inline uint32_t hivepadlet_action_seconds(const uint32_t *actions, size_t i)
+{
+    return actions[3 * i + 2];
+}
+
+/* ---- the parameters: 147 numbers, 19 general ones and 16 for each topic, each within its limits (9: its index)
+ *
+ * Thresholds, caps and the counters they are compared with are thousandths: 1000 is one point, or one message. Decays are
+ * thousandths by which a counter is multiplied at each hivepadlet_decay. */
+
+enum hivepadlet_general {
+    HIVEPADLET_D_LO = 0,                     /* 1..48: a mesh under it is filled up to D */
+    HIVEPADLET_D = 1,                        /* 1..48 */
+    HIVEPADLET_D_HI = 2,                     /* 1..48: a mesh over it is cut to D */
+    HIVEPADLET_D_OUT = 3,                    /* 0..24: peers in a mesh whose connection we opened */
+    HIVEPADLET_D_SCORE = 4,                  /* 0..48: the best that a cut keeps */
+    HIVEPADLET_PRUNE_BACKOFF = 5,            /* 1..3600 seconds */
+    HIVEPADLET_UNSUBSCRIBE_BACKOFF = 6,      /* 1..3600 seconds */
+    HIVEPADLET_RETAIN = 7,                   /* 0..86400 seconds for which the record of a disconnected peer stands */
+    HIVEPADLET_OPPORTUNISTIC_THRESHOLD = 8,  /* 0..10^6 */
+    HIVEPADLET_GRAYLIST_THRESHOLD = 9,       /* -10^9..-1: below it a peer is not heard */
+    HIVEPADLET_GOSSIP_THRESHOLD = 10,        /* -10^9..-1: for the host's own use */
+    HIVEPADLET_PUBLISH_THRESHOLD = 11,       /* -10^9..-1: for the host's own use */
+    HIVEPADLET_TOPIC_CAP = 12,               /* 0..10^9: most that all topics together add to a score; 0 is none */
+    HIVEPADLET_W5 = 13,                      /* 1..100: weight of P5, the host's own points */
+    HIVEPADLET_W6 = 14,                      /* -100..-1: weight of P6, peers that share an address group */
+    HIVEPADLET_P6_THRESHOLD = 15,            /* 1..64 peers that may share a group freely */
+    HIVEPADLET_W7 = 16,                      /* -100..-1: weight of P7, GRAFTs during a backoff */
+    HIVEPADLET_P7_DECAY = 17,                /* 1..999 */
+    HIVEPADLET_DECAY_TO_ZERO = 18            /* 0..1000: a counter below it becomes 0 */
+};
+
+enum hivepadlet_of_topic {
+    HIVEPADLET_WEIGHT = 0,        /* 0..1000 thousandths */
+    HIVEPADLET_W1 = 1,            /* 0..100: weight of P1, time in the mesh */
+    HIVEPADLET_P1_QUANTUM = 2,    /* 1..3600000 ms */
+    HIVEPADLET_P1_CAP = 3,        /* 0..1000 */
+    HIVEPADLET_W2 = 4,            /* 0..100: weight of P2, first deliveries */
+    HIVEPADLET_P2_DECAY = 5,      /* 1..999 */
+    HIVEPADLET_P2_CAP = 6,        /* 0..10^6 */
+    HIVEPADLET_W3 = 7,            /* -100..0: weight of P3, too few deliveries of a mesh member */
+    HIVEPADLET_P3_DECAY = 8,      /* 1..999 */
+    HIVEPADLET_P3_CAP = 9,        /* 1..10^6 */
+    HIVEPADLET_P3_THRESHOLD = 10, /* 1..10^6 */
+    HIVEPADLET_P3_ACTIVATION = 11, /* 0..3600000 ms in the mesh before P3 counts */
+    HIVEPADLET_W3B = 12,          /* -100..0: weight of P3b, the deficit of a member that was pruned */
+    HIVEPADLET_P3B_DECAY = 13,    /* 1..999 */
+    HIVEPADLET_W4 = 14,           /* -100..0: weight of P4, invalid messages */
+    HIVEPADLET_P4_DECAY = 15      /* 1..999 */
+};
+
+/* the index of a topic's number, as HIVEPADLET_OF_TOPIC(0, HIVEPADLET_W4) */
+#define HIVEPADLET_OF_TOPIC(topic, field) (19 + 16 * (topic) + (field))
+
+/* the joint rules, in the order in which they are tested (9: 200 + the rule) */
+enum hivepadlet_rule {
+    HIVEPADLET_RULE_LO_D = 0,           /* D_lo <= D */
+    HIVEPADLET_RULE_D_HI = 1,           /* D <= D_hi */
+    HIVEPADLET_RULE_OUT_LO = 2,         /* D_out < D_lo */
+    HIVEPADLET_RULE_OUT_D = 3,          /* 2 * D_out <= D */
+    HIVEPADLET_RULE_SCORE_OUT_D = 4,    /* D_score + D_out <= D */
+    HIVEPADLET_RULE_PUBLISH_GOSSIP = 5, /* publish <= gossip */
+    HIVEPADLET_RULE_GRAYLIST_PUBLISH = 6, /* graylist < publish */
+    HIVEPADLET_RULE_P3_CAP = 7          /* P3 cap >= P3 threshold, in every topic */
+};
+
+/* Writes the ordinary parameters, which are accepted: D_lo 4, D 6, D_hi 12, D_out 2, D_score 4, backoffs 60 and 10 s. */
+void hivepadlet_ordinary(int64_t numbers[HIVEPADLET_NUMBERS]);
+
+/* Reads parameters from bytes, all of them. 0 with the length, or 10, or 9; the numbers are written with 0 alone. */
+uint64_t hivepadlet_read(const uint8_t *bytes, size_t length, int64_t numbers[HIVEPADLET_NUMBERS]);
+
+/* Writes parameters to the start of a buffer of at least HIVEPADLET_PARAMETER_BYTES. 0 with the length, or 8, or 9. What is
+ * read from these bytes is the same numbers; the bytes past them stand. */
+uint64_t hivepadlet_write(const int64_t numbers[HIVEPADLET_NUMBERS], uint8_t *buffer, size_t length);
+
+/* ---- the router */
+
+/* Makes a fresh router, whatever stood in the table: clock 0, no topic joined, no peer. 0 or 9. */
+uint64_t hivepadlet_fresh(const int64_t numbers[HIVEPADLET_NUMBERS], uint64_t table[HIVEPADLET_CELLS]);
+
+/* 1 if the table is a router's, else 0. Every call makes this test itself. */
+uint32_t hivepadlet_is_router(const uint64_t table[HIVEPADLET_CELLS]);
+
+/* ---- what happens to peers */
+
+enum hivepadlet_flag {
+    HIVEPADLET_OUTBOUND = 1, /* we opened the connection */
+    HIVEPADLET_EXPLICIT = 2  /* a peer that we are told to keep: never in a mesh, never graylisted */
+};
+
+/* A peer connects. group: its address group, any 32-bit number, as the first bytes of its address. flags: the sum of the above.
+ * name: the protocol it speaks, "/meshsub/1.0.0" or "/meshsub/1.1.0", with no closing zero. A peer that comes back while its
+ * record stands finds its counters and backoffs again. 0, or 6, 4, 5. */
+uint64_t hivepadlet_connect(uint64_t table[HIVEPADLET_CELLS], uint64_t time, uint64_t id, uint64_t group, uint64_t flags,
+                            const uint8_t *name, size_t name_length, uint32_t *actions, size_t actions_length);
+
+/* A peer disconnects: it leaves every mesh and loses its subscriptions; its record stands for the retain seconds, and as long
+ * as a backoff runs. 0, or 3. */
+uint64_t hivepadlet_disconnect(uint64_t table[HIVEPADLET_CELLS], uint64_t time, uint64_t id, uint32_t *actions,
+                               size_t actions_length);
+
+/* Sets P5 of a peer, the host's own points: millionths of a point, -10^9 to 10^9. 0, or 3. */
+uint64_t hivepadlet_rate(uint64_t table[HIVEPADLET_CELLS], uint64_t time, uint64_t id, int64_t p5, uint32_t *actions,
+                         size_t actions_length);
+
+/* The score of a peer, written to *score with the answer 0 alone. 0, or 3. */
+uint64_t hivepadlet_score(uint64_t table[HIVEPADLET_CELLS], uint64_t time, uint64_t id, int64_t *score, uint32_t *actions,
+                          size_t actions_length);
+
+/* ---- what we do in a topic */
+
+/* We join a topic. Its mesh is empty until a heartbeat or a GRAFT. 0, or 11 where it is joined already. */
+uint64_t hivepadlet_join(uint64_t table[HIVEPADLET_CELLS], uint64_t time, uint64_t topic, uint32_t *actions,
+                         size_t actions_length);
+
+/* We leave a topic: a PRUNE to every member, with the unsubscribe backoff. 0, or 11 where it is not joined. */
+uint64_t hivepadlet_leave(uint64_t table[HIVEPADLET_CELLS], uint64_t time, uint64_t topic, uint32_t *actions,
+                          size_t actions_length);
+
+/* The heartbeat's work for one topic: negative members go, a mesh under D_lo or over D_hi is brought to D, D_out outbound
+ * peers are seen to; and where ask is 1 (else 0), a mesh whose median score is poor takes in up to two better peers. The caller
+ * decides how often to ask; once a minute is usual.
+ * permutation: each of 0 to 63 once (permutation_length 64), drawn anew for each call from random numbers that no peer can
+ * foresee. Where several peers will do, the one whose slot comes first in it is taken. 0, or 7, or 11 where the topic is not
+ * joined. */
+uint64_t hivepadlet_heartbeat(uint64_t table[HIVEPADLET_CELLS], uint64_t time, uint64_t topic, uint64_t ask,
+                              const uint64_t *permutation, size_t permutation_length, uint32_t *actions,
+                              size_t actions_length);
+
+/* Counters fade, and the mesh time of members is brought up to now. 0. */
+uint64_t hivepadlet_decay(uint64_t table[HIVEPADLET_CELLS], uint64_t time, uint32_t *actions, size_t actions_length);
+
+/* ---- what comes from peers: each is 11 from a peer below the graylist threshold, and 3 where the id is not connected */
+
+/* A peer subscribes to a topic, joined by us or not. 0, also where it had done so. */
+uint64_t hivepadlet_subscribe(uint64_t table[HIVEPADLET_CELLS], uint64_t time, uint64_t id, uint64_t topic, uint32_t *actions,
+                              size_t actions_length);
+
+/* A peer unsubscribes, and is out of the topic's mesh with no PRUNE. 0. */
+uint64_t hivepadlet_unsubscribe(uint64_t table[HIVEPADLET_CELLS], uint64_t time, uint64_t id, uint64_t topic,
+                                uint32_t *actions, size_t actions_length);
+
+/* A GRAFT came in. 0: with no action the peer is in the mesh; with one, a PRUNE, it is not, and its backoff runs anew. A GRAFT
+ * during a backoff costs the peer points (P7). 11 also where the topic is not joined. */
+uint64_t hivepadlet_graft(uint64_t table[HIVEPADLET_CELLS], uint64_t time, uint64_t id, uint64_t topic, uint32_t *actions,
+                          size_t actions_length);
+
+/* A PRUNE came in, with the seconds of its backoff: 0 where it had none, any number else (above 3600 counts as 3600). The peer
+ * is out of the mesh, and is sent no GRAFT before the backoff is over. 0, or 11 also where the topic is not joined. */
+uint64_t hivepadlet_prune(uint64_t table[HIVEPADLET_CELLS], uint64_t time, uint64_t id, uint64_t topic, uint64_t seconds,
+                          uint32_t *actions, size_t actions_length);
+
+enum hivepadlet_delivery {
+    HIVEPADLET_FIRST = 1,      /* a valid message that no other peer had brought */
+    HIVEPADLET_NEAR_FIRST = 2, /* a valid one that another had brought a moment before */
+    HIVEPADLET_INVALID = 3     /* a message that the host found invalid */
+};
+
+/* A message came in from a peer. 0, or 11 also where the topic is not joined. */
+uint64_t hivepadlet_deliver(uint64_t table[HIVEPADLET_CELLS], uint64_t time, uint64_t id, uint64_t topic, uint64_t kind,
+                            uint32_t *actions, size_t actions_length);
+
+#ifdef __cplusplus
+}
+#endif
+
+#endif /* HIVEPADLET_H */

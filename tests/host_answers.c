@@ -1,0 +1,164 @@
+/*
+ * Every number of the header, asked for once through the C ABI, and what a refusal leaves: the table and the action list as they
+ * were. Prints each check that fails, and at the end how many passed.
+ */
+#include "hivepadlet.h"
+
+#include <stdio.h>
+#include <string.h>
+
+static uint64_t table[HIVEPADLET_CELLS];
+static uint64_t before[HIVEPADLET_CELLS];
+static uint32_t actions[HIVEPADLET_ACTION_NUMBERS];
+static int64_t numbers[HIVEPADLET_NUMBERS];
+static uint64_t permutation[HIVEPADLET_SLOTS];
+static unsigned passed, failed;
+
+#define LIST actions, HIVEPADLET_ACTION_NUMBERS
+#define NAME (const uint8_t *)"/meshsub/1.1.0", 14
+#define NAME_2 (const uint8_t *)"/meshsub/1.2.0", 14
+#define NAME_0 (const uint8_t *)"/meshsub/1.1.0", 0
+
+static void check(const char *what, int holds)
+{
+    if (holds) {
+        passed++;
+    } else {
+        failed++;
+        printf("host: %s\n", what);
+    }
+}
+
+static void answers(const char *what, uint64_t r, unsigned number, uint32_t value)
+{
+    check(what, hivepadlet_number(r) == number && hivepadlet_value(r) == value);
+}
+
+/* notes what stands, and marks the list */
+static void stands(void)
+{
+    memcpy(before, table, sizeof table);
+    memset(actions, 0xA5, sizeof actions);
+}
+
+/* a refusal: its number, and nothing changed since `stands` */
+static void refuses(const char *what, uint64_t r, unsigned number)
+{
+    int untouched = memcmp(before, table, sizeof table) == 0;
+    for (size_t i = 0; i < HIVEPADLET_ACTION_NUMBERS; i++) {
+        untouched = untouched && actions[i] == 0xA5A5A5A5u;
+    }
+    answers(what, r, number, 0);
+    check(what, untouched);
+}
+
+static void parameters(void)
+{
+    uint8_t bytes[HIVEPADLET_PARAMETER_BYTES + 1];
+    int64_t read[HIVEPADLET_NUMBERS] = { 0 };
+    hivepadlet_ordinary(numbers);
+    check("the ordinary D is 6", numbers[HIVEPADLET_D] == 6);
+    check("topic 7's last number is 998", numbers[HIVEPADLET_OF_TOPIC(7, HIVEPADLET_P4_DECAY)] == 998);
+    answers("a buffer of 734 bytes", hivepadlet_write(numbers, bytes, 734), HIVEPADLET_LIST_SHORT, 0);
+    uint64_t r = hivepadlet_write(numbers, bytes, sizeof bytes);
+    uint32_t length = hivepadlet_value(r);
+    answers("parameters written", r, HIVEPADLET_DONE, length);
+    answers("the last byte cut off", hivepadlet_read(bytes, length - 1, read), HIVEPADLET_MALFORMED, length - 2);
+    answers("a byte left over", hivepadlet_read(bytes, length + 1, read), HIVEPADLET_MALFORMED, length);
+    check("a refused reading writes nothing", read[HIVEPADLET_D] == 0);
+    answers("parameters read", hivepadlet_read(bytes, length, read), HIVEPADLET_DONE, length);
+    check("what was written is read", memcmp(numbers, read, sizeof numbers) == 0);
+    read[HIVEPADLET_D] = 49;
+    answers("D 49", hivepadlet_write(read, bytes, sizeof bytes), HIVEPADLET_BROKEN, HIVEPADLET_D);
+    read[HIVEPADLET_D] = 3;
+    answers("D_lo over D", hivepadlet_fresh(read, table), HIVEPADLET_BROKEN, 200 + HIVEPADLET_RULE_LO_D);
+    check("no router's table", hivepadlet_is_router(table) == 0);
+    answers("a fresh router", hivepadlet_fresh(numbers, table), HIVEPADLET_DONE, 0);
+    check("a router's table", hivepadlet_is_router(table) == 1);
+}
+
+static void refusals(void)
+{
+    answers("join", hivepadlet_join(table, 5, 0, LIST), HIVEPADLET_DONE, 0);
+    answers("connect", hivepadlet_connect(table, 5, 7, 1, 0, NAME, LIST), HIVEPADLET_DONE, 0);
+    stands();
+    refuses("an early time", hivepadlet_decay(table, 4, LIST), HIVEPADLET_EARLY);
+    refuses("topic 8", hivepadlet_leave(table, 5, 8, LIST), HIVEPADLET_OUT_OF_RANGE);
+    refuses("P5 past its range", hivepadlet_rate(table, 5, 7, -1000000001, LIST), HIVEPADLET_OUT_OF_RANGE);
+    refuses("flags 4", hivepadlet_connect(table, 5, 9, 1, 4, NAME, LIST), HIVEPADLET_OUT_OF_RANGE);
+    refuses("kind 4", hivepadlet_deliver(table, 5, 7, 0, 4, LIST), HIVEPADLET_OUT_OF_RANGE);
+    refuses("an unknown id", hivepadlet_disconnect(table, 5, 8, LIST), HIVEPADLET_NOT_CONNECTED);
+    refuses("a connected id", hivepadlet_connect(table, 5, 7, 1, 0, NAME, LIST), HIVEPADLET_ALREADY_CONNECTED);
+    refuses("an unknown name", hivepadlet_connect(table, 5, 9, 1, 0, NAME_2, LIST), HIVEPADLET_UNKNOWN_PROTOCOL);
+    refuses("no name", hivepadlet_connect(table, 5, 9, 1, 0, NAME_0, LIST), HIVEPADLET_UNKNOWN_PROTOCOL);
+    refuses("no permutation", hivepadlet_heartbeat(table, 5, 0, 0, permutation, 64, LIST), HIVEPADLET_NOT_PERMUTATION);
+    refuses("191 numbers", hivepadlet_decay(table, 5, actions, 191), HIVEPADLET_LIST_SHORT);
+    int64_t score = 42;
+    refuses("the score of nobody", hivepadlet_score(table, 5, 8, &score, LIST), HIVEPADLET_NOT_CONNECTED);
+    check("a refused score leaves the number", score == 42);
+}
+
+/* 11 moves the clock and nothing else; 12 is the answer to a damaged table */
+static void ignored_and_damaged(void)
+{
+    unsigned changed = 0;
+    stands();
+    answers("joined already", hivepadlet_join(table, 6, 0, LIST), HIVEPADLET_IGNORED, 0);
+    for (size_t i = 0; i < HIVEPADLET_CELLS; i++) {
+        changed += before[i] != table[i];
+    }
+    check("11 changes one number, the clock", changed == 1);
+    stands();
+    refuses("a time before it", hivepadlet_decay(table, 5, LIST), HIVEPADLET_EARLY);
+    table[HIVEPADLET_CELLS - 1] = UINT64_MAX;
+    stands();
+    refuses("a damaged table", hivepadlet_decay(table, 6, LIST), HIVEPADLET_NOT_ROUTER);
+    table[HIVEPADLET_CELLS - 1] = 0;
+}
+
+/* the paper's worked example: heartbeat, PRUNE, GRAFT during the backoff, score */
+static void example(void)
+{
+    int64_t score = 0;
+    for (uint64_t i = 0; i < HIVEPADLET_SLOTS; i++) {
+        permutation[i] = i;
+    }
+    answers("subscribe", hivepadlet_subscribe(table, 6, 7, 0, LIST), HIVEPADLET_DONE, 0);
+    answers("heartbeat", hivepadlet_heartbeat(table, 6, 0, 0, permutation, HIVEPADLET_SLOTS, LIST), HIVEPADLET_DONE, 1);
+    check("GRAFT 7", hivepadlet_action_kind(actions, 0) == HIVEPADLET_GRAFT && hivepadlet_action_peer(actions, 0) == 7 &&
+                         hivepadlet_action_seconds(actions, 0) == 0);
+    answers("PRUNE in", hivepadlet_prune(table, 6, 7, 0, 60, LIST), HIVEPADLET_DONE, 0);
+    answers("GRAFT in", hivepadlet_graft(table, 6, 7, 0, LIST), HIVEPADLET_DONE, 1);
+    check("PRUNE 7 60", hivepadlet_action_kind(actions, 0) == HIVEPADLET_PRUNE && hivepadlet_action_peer(actions, 0) == 7 &&
+                            hivepadlet_action_seconds(actions, 0) == 60);
+    answers("score", hivepadlet_score(table, 6, 7, &score, LIST), HIVEPADLET_DONE, 0);
+    check("ten points off", score == -10 * HIVEPADLET_POINT);
+    answers("P5", hivepadlet_rate(table, 6, 7, 2500000, LIST), HIVEPADLET_DONE, 0);
+    answers("score with P5", hivepadlet_score(table, 6, 7, &score, LIST), HIVEPADLET_DONE, 0);
+    check("two and a half points more", score == -7500000000);
+    answers("unsubscribe", hivepadlet_unsubscribe(table, 6, 7, 0, LIST), HIVEPADLET_DONE, 0);
+    answers("disconnect", hivepadlet_disconnect(table, 6, 7, LIST), HIVEPADLET_DONE, 0);
+}
+
+/* 7 is retained, so 63 others fit */
+static void full(void)
+{
+    uint64_t r = 0;
+    for (uint64_t id = 100; id < 100 + HIVEPADLET_SLOTS - 1; id++) {
+        r |= hivepadlet_connect(table, 6, id, id, HIVEPADLET_OUTBOUND, NAME, LIST);
+    }
+    answers("63 peers", r, HIVEPADLET_DONE, 0);
+    stands();
+    refuses("one more", hivepadlet_connect(table, 6, 99, 0, 0, NAME, LIST), HIVEPADLET_NO_SLOT);
+}
+
+int main(void)
+{
+    parameters();
+    refusals();
+    ignored_and_damaged();
+    example();
+    full();
+    printf("%u passed, %u failed\n", passed, failed);
+    return failed != 0;
+}
