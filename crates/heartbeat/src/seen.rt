@@ -1,6 +1,6 @@
 // What maintenance sees of a table, by slot, and the numbers of the peers that its actions name. Everything is as at the call's start.
 ghost use mathlib.Core.Path.{_≡_};
-ghost use Prim.Native.Nat.{_≤_, _<_};
+ghost use Prim.Native.Nat.{_<_};
 ghost use mathlib.Core.Bool.{cond};
 ghost use lib.Dec.{eqb};
 ghost use lib.ListN.{length};
