@@ -35,7 +35,7 @@ fn deliver_slot(table: &mut [u64], topic: usize, slot: usize, kind: u64)
     ensures { λ r. ⌜ stateOf (now (table .exit)) ≡ onTopic (stateOf (now (table .entry))) slot topic (deliveredOf kind (topicParamsIn (stateOf (now (table .entry))) topic)) ⌝ }
 {
     let r = cells::load_topic(table, slot * 8 + topic);
-    let t = score::of_slot::load_params(table, topic);
+    let t = peer_score::load_params(table, topic);
     cells::store_topic(table, slot * 8 + topic, credited(r, t, kind));
 }
 
@@ -77,7 +77,7 @@ fn decay_topic(table: &mut [u64], time: u64, slot: usize, topic: usize)
     ensures { λ r. ⌜ stateOf (now (table .exit)) ≡ decayTopic time slot topic (stateOf (now (table .entry))) ⌝ }
 {
     let r = cells::load_topic(table, slot * 8 + topic);
-    let t = score::of_slot::load_params(table, topic);
+    let t = peer_score::load_params(table, topic);
     cells::store_topic(
         table,
         slot * 8 + topic,

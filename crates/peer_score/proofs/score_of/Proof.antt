@@ -1,9 +1,9 @@
--- `score::of_slot::score_of` meets its contract. Assumes nothing.
+-- `peer_score::score_of` meets its contract. Assumes nothing.
 use borrow.Author.Needs.{needs}
 use Rattle.score.proofs.InputLaws.{slot-in}
 use Rattle.score.proofs.ScoreLaws.{scores}
-use Rattle.score.proofs.of_slot.score_of.Statement.{statement}
-use Rattle.score.proofs.of_slot.score_of.Tie as tie
+use Rattle.peer_score.proofs.score_of.Statement.{statement}
+use Rattle.peer_score.proofs.score_of.Tie as tie
 
 pub score-of-spec : {M : Type 1} → statement M
 score-of-spec =

@@ -1,8 +1,8 @@
--- `score::of_slot::load_general` meets its contract. Assumes nothing.
+-- `peer_score::load_general` meets its contract. Assumes nothing.
 use native.Mathlib.Omega.{arith}
 use Rattle.score.specs.Score.{scoreParamsIn}
-use Rattle.score.proofs.of_slot.load_general.Statement.{statement}
-use Rattle.score.proofs.of_slot.load_general.Tie as tie
+use Rattle.peer_score.proofs.load_general.Statement.{statement}
+use Rattle.peer_score.proofs.load_general.Tie as tie
 
 returns : tie.Need-returns
 unfolding scoreParamsIn

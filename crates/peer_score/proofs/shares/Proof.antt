@@ -1,8 +1,8 @@
--- `score::of_slot::shares` meets its contract. Assumes nothing.
+-- `peer_score::shares` meets its contract. Assumes nothing.
 use borrow.Author.Needs.{needs}
 use Rattle.score.proofs.SlotLaws.{shares-yes, shares-no}
-use Rattle.score.proofs.of_slot.shares.Statement.{statement}
-use Rattle.score.proofs.of_slot.shares.Tie as tie
+use Rattle.peer_score.proofs.shares.Statement.{statement}
+use Rattle.peer_score.proofs.shares.Tie as tie
 
 pub shares-spec : {M : Type 1} → statement M
 shares-spec =

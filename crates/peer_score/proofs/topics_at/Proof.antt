@@ -1,16 +1,16 @@
--- `score::of_slot::topics_at` meets its contract. The invariant: the sum is that of the topics passed. Assumes nothing.
+-- `peer_score::topics_at` meets its contract. The invariant: the sum is that of the topics passed. Assumes nothing.
 use Prim.Native.Nat.{_≤_, _-_}
 use mathlib.Core.Path.{_≡_, _∙_}
 use native.Mathlib.Omega.{arith}
 use borrow.Author.Needs.{needs}
 use Rattle.cells.specs.View.{stateOf}
 use Rattle.score.specs.Sums.{sumOf}
 use Rattle.score.specs.Score.{shareAt}
 use Rattle.score.proofs.ShareLaws.{sum-none, sum-more}
 use Rattle.score.proofs.InputLaws.{slot-in}
 use Rattle.score.proofs.ScoreLaws.{add-ready, topics-done}
-use Rattle.score.proofs.of_slot.topics_at.Statement.{statement}
-use Rattle.score.proofs.of_slot.topics_at.Tie as tie
+use Rattle.peer_score.proofs.topics_at.Statement.{statement}
+use Rattle.peer_score.proofs.topics_at.Tie as tie
 
 abbrev Inv-loop : tie.InvT-loop
 Inv-loop table slot sum₀ t₀ sum t = (t ≤ 8) × (sum ≡ sumOf t (shareAt (stateOf table) slot))

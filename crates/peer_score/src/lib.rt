@@ -9,25 +9,18 @@ ghost use Rattle.cells.specs.View.{cellCount, stateOf};
 ghost use Rattle.records.specs.Records.{topicCount};
 ghost use Rattle.params.specs.Joint.{place as topicPlace};
 ghost use Rattle.table.specs.Valid.{valid};
 ghost use Rattle.score.specs.Ranges.{ShareIn, TopicsIn, PartsIn};
 ghost use Rattle.score.specs.Sums.{sumOf};
 ghost use Rattle.score.specs.Score.{sizeIn, topicParamsIn, scoreParamsIn, sharesGroup, sharing, shareAt, partsAt, Scores};
-use crate::Balance;
-use crate::Parts;
-use crate::ScoreParams;
-use crate::TopicParams;
-use crate::sums;
-use crate::topic;
+use effects::slots::load_size;
 use records::SLOTS;
 use records::TOPICS;
-
-// The magnitude of parameter i.
-fn load_size(table: &[u64], i: usize) -> u64
-    requires { ⌜ (length (now table) ≡ cellCount) × (i < 147) ⌝ }
-    ensures { λ r. ⌜ r ≡ sizeIn (stateOf (now (table .entry))) i ⌝ }
-{
-    groups::code_size(cells::load_code(table, i))
-}
+use score::Balance;
+use score::Parts;
+use score::ScoreParams;
+use score::TopicParams;
+use score::sums;
+use score::topic;
 
 // Topic t's j-th parameter.
 fn load_param(table: &[u64], t: usize, j: usize) -> u64

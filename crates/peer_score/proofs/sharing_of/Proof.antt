@@ -1,14 +1,14 @@
--- `score::of_slot::sharing_of` meets its contract. The invariant: n counts the slots passed. Assumes nothing.
+-- `peer_score::sharing_of` meets its contract. The invariant: n counts the slots passed. Assumes nothing.
 use Prim.Native.Nat.{_≤_, _-_}
 use mathlib.Core.Path.{_≡_}
 use native.Mathlib.Omega.{arith}
 use borrow.Author.Needs.{needs}
 use Rattle.index.specs.Index.{count}
 use Rattle.cells.specs.View.{stateOf}
 use Rattle.score.specs.Score.{sharesGroup}
 use Rattle.score.proofs.SlotLaws.{sharing-none, sharing-more, sharing-done}
-use Rattle.score.proofs.of_slot.sharing_of.Statement.{statement}
-use Rattle.score.proofs.of_slot.sharing_of.Tie as tie
+use Rattle.peer_score.proofs.sharing_of.Statement.{statement}
+use Rattle.peer_score.proofs.sharing_of.Tie as tie
 
 abbrev Inv-loop : tie.InvT-loop
 Inv-loop table group n₀ slot₀ n slot = (slot ≤ 64) × ((n ≤ slot) × (n ≡ count slot (sharesGroup (stateOf table) group)))

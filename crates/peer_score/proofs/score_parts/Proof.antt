@@ -1,9 +1,9 @@
--- `score::of_slot::score_parts` meets its contract. Assumes nothing.
+-- `peer_score::score_parts` meets its contract. Assumes nothing.
 use borrow.Author.Needs.{needs}
 use Rattle.score.proofs.InputLaws.{slot-in}
 use Rattle.score.proofs.ScoreLaws.{parts-ready, parts-done}
-use Rattle.score.proofs.of_slot.score_parts.Statement.{statement}
-use Rattle.score.proofs.of_slot.score_parts.Tie as tie
+use Rattle.peer_score.proofs.score_parts.Statement.{statement}
+use Rattle.peer_score.proofs.score_parts.Tie as tie
 
 parts-requires : tie.Need-parts-requires
 parts-requires c κs =

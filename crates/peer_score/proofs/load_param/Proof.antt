@@ -1,7 +1,7 @@
--- `score::of_slot::load_param` meets its contract. Assumes nothing.
+-- `peer_score::load_param` meets its contract. Assumes nothing.
 use native.Mathlib.Omega.{arith}
-use Rattle.score.proofs.of_slot.load_param.Statement.{statement}
-use Rattle.score.proofs.of_slot.load_param.Tie as tie
+use Rattle.peer_score.proofs.load_param.Statement.{statement}
+use Rattle.peer_score.proofs.load_param.Tie as tie
 
 pub load-param-spec : {M : Type 1} → statement M
 load-param-spec =

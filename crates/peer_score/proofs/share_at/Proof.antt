@@ -1,10 +1,10 @@
--- `score::of_slot::share_at` meets its contract. Assumes nothing.
+-- `peer_score::share_at` meets its contract. Assumes nothing.
 use native.Mathlib.Omega.{arith}
 use borrow.Author.Needs.{needs}
 use Rattle.score.proofs.InputLaws.{slot-in}
 use Rattle.score.proofs.SlotLaws.{share-ready, share-is-at}
-use Rattle.score.proofs.of_slot.share_at.Statement.{statement}
-use Rattle.score.proofs.of_slot.share_at.Tie as tie
+use Rattle.peer_score.proofs.share_at.Statement.{statement}
+use Rattle.peer_score.proofs.share_at.Tie as tie
 
 pub share-at-spec : {M : Type 1} → statement M
 share-at-spec =

@@ -1,13 +1,13 @@
--- `score::of_slot::load_params` meets its contract. Assumes nothing.
+-- `peer_score::load_params` meets its contract. Assumes nothing.
 use Prim.Native.Nat.{ℕ}
 use mathlib.Core.Path.{_≡_}
 use native.Mathlib.Omega.{arith}
 use lib.Dec.{lit<}
 use Rattle.params.specs.Joint.{place as topicPlace}
 use Rattle.records.specs.Records.{State}
 use Rattle.score.specs.Score.{sizeIn, topicParamsIn}
-use Rattle.score.proofs.of_slot.load_params.Statement.{statement}
-use Rattle.score.proofs.of_slot.load_params.Tie as tie
+use Rattle.peer_score.proofs.load_params.Statement.{statement}
+use Rattle.peer_score.proofs.load_params.Tie as tie
 
 -- the record of sixteen loaded numbers, over plain variables
 made :
