@@ -1,16 +1,18 @@
--- `replay::replay_kind`: a number that cannot be read, a connect, or another call.
+-- `replay::perform_kind`: a number that cannot be read, a connect, or another call.
 use borrow.Author.Needs.{needs}
+use native.Mathlib.Omega.{arith}
 use mathlib.Core.Path.{refl}
 use Rattle.index.proofs.Flags.{failed, passed}
+use Rattle.events.proofs.ReadingLaws.{arity-most}
 use Rattle.replay.proofs.ReplayLaws.{kind-unread, kind-connect, kind-other}
-use Rattle.replay.proofs.replay_kind.Statement.{statement}
-use Rattle.replay.proofs.replay_kind.Tie as tie
+use Rattle.replay.proofs.perform_kind.Statement.{statement}
+use Rattle.replay.proofs.perform_kind.Tie as tie
 
 returns : tie.Need-returns
 returns c =
-    let u = c .before .before .before .before .before .before .read-numbers in
-    let s = c .before .before .before .before .before .before .before .before .before in
-    kind-unread _ (s .args .kind) _ _ (u .result) (u .ensures .0) _ _ _ _ (failed refl (c .before .before .before .before .if1 .taken)) (c .before .before .unread .ensures _)
+    let u = c .before .before .before .read-numbers in
+    let s = c .before .before .before .before .before .before in
+    kind-unread _ (s .args .kind) _ _ (u .result) (u .ensures .0) _ _ _ (failed refl (c .before .if1 .taken)) (c .unread .ensures)
 
 returns-2 : tie.Need-returns-2
 returns-2 c =
@@ -18,26 +20,22 @@ returns-2 c =
     let s = c .before .before .before .before .before .before .before .before .before .before .before .before in
     kind-connect _ (s .args .kind) _ _ (u .result) (u .ensures .0) (u .ensures .1) (passed refl (c .before .before .before .before .before .before .before .if1 .left)) _ _ _ _ _ (c .before .before .before .before .before .if2 .taken) (c .before .before .connect .ensures)
 
-other-requires : tie.Need-other-requires
-other-requires c κs = (c .before .before .if2 .left, search needs)
-
 returns-3 : tie.Need-returns-3
 returns-3 c =
     let u = c .before .before .before .before .before .before .before .before .before .read-numbers in
     let s = c .before .before .before .before .before .before .before .before .before .before .before .before in
-    kind-other _ (s .args .kind) _ _ (u .result) (u .ensures .0) (u .ensures .1) (passed refl (c .before .before .before .before .before .before .before .if1 .left)) _ _ _ _ _ (c .before .before .before .before .before .if2 .left) (c .before .before .other .ensures)
+    kind-other _ (s .args .kind) _ _ (u .result) (u .ensures .0) (u .ensures .1) (passed refl (c .before .before .before .before .before .before .before .if1 .left)) _ _ _ _ _ (s .pre) (search needs) (c .before .before .before .before .before .if2 .left) (c .before .before .call .ensures)
 
-pub replay-kind-spec : {M : Type 1} → statement M
-replay-kind-spec =
+pub perform-kind-spec : {M : Type 1} → statement M
+perform-kind-spec =
     tie.close
     (tie.spec
-    (λ c κs. c .before .before .pre .0)
-    (λ c κs. search needs)
-    (λ c. search needs)
+    (λ c κs. let h = c .before .before .pre in omega (arith, arity-most (c .before .before .args .kind)))
+    (λ c κs. tt)
     returns
-    (λ c κs. search needs)
+    (λ c κs. tt)
     (λ c. search needs)
     returns-2
-    other-requires
+    (λ c κs. c .before .before .if2 .left)
     (λ c. search needs)
     returns-3)
