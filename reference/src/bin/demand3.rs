@@ -92,7 +92,7 @@ fn run_list(
     mut random: Random,
     counts: &mut Counts,
 ) -> Result<(), (Vec<Lent>, String)> {
-    let scene = traces::scene(calls as usize, &mut random, true);
+    let scene = traces::scene(calls as usize, &mut random);
     let mut caller = Caller::new(fresh.clone(), scene, random);
     caller.plan_opening();
     let mut made = Vec::new();
