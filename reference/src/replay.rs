@@ -32,11 +32,16 @@ pub struct Printed {
 
 /// Every event's line with its answer and, below each other, its actions.
 pub fn columns(trace: &Trace, output: &str) -> String {
-    let mut printed = printed(output).into_iter();
+    let mut printed = printed(output).into_iter().peekable();
     let events: Vec<String> = trace.lines.iter().map(print_line).collect();
     let lengths = events.iter().map(String::len).filter(|&length| length <= WIDEST);
     let width = lengths.max().unwrap_or(0);
     let mut out = String::new();
+    let refused = trace.params.as_ref().is_none_or(|params| params.check().is_err());
+    if let Some(Printed { answer, .. }) = printed.next_if(|_| refused) {
+        let number = answer.split(' ').next().unwrap_or_default();
+        let _ = writeln!(out, "{:width$}  {answer} {}", "(parameters)", meaning(number));
+    }
     for (event, line) in events.iter().zip(&trace.lines) {
         let (answer, details) = match printed.next() {
             Some(printed) => (describe(&printed.answer, line), printed.lines),
