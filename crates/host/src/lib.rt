@@ -1,20 +1,16 @@
-// What a host links (C ABI), over memory that it lends. So far test 12 alone, which the benchmark times.
+// What a host links (C ABI), over memory that it lends. include/hivepadlet.h says the same to a reader of C. Every function is thin: its
+// promise (specs/Host.antt) is that of the call below, with the answer as one number. None asks anything of its caller.
+pub mod calls;
+pub mod parameters;
+
 ghost use mathlib.Core.Path.{_≡_};
-ghost use Rattle.index.specs.Index.{one};
-ghost use Rattle.cells.specs.View.{stateOf};
-ghost use Rattle.table.specs.Valid.{valid};
+ghost use Prim.Native.Nat.{_≤_};
+ghost use Rattle.host.specs.Host.{packed as packedOf};
 
-// 1 if the table is a router's, else 0.
-#[no_mangle]
-pub extern "C" fn hivepadlet_is_router(table: &[u64; 5340]) -> u32
-    ensures { λ r. ⌜ r ≡ one (valid (stateOf (now (table .entry)))) ⌝ }
+// 01's number in the low byte, the value above it.
+pub fn packed(number: u64, value: u64) -> u64
+    requires { ⌜ (number ≤ 255) × (value ≤ 4294967295) ⌝ }
+    ensures { λ r. ⌜ r ≡ packedOf number value ⌝ }
 {
-    let flag = router::is_router(table);
-    number(flag)
-}
-
-fn number(flag: bool) -> u32
-    ensures { λ r. ⌜ r ≡ one flag ⌝ }
-{
-    if flag { 1 } else { 0 }
+    number + 256 * value
 }

@@ -1,7 +1,7 @@
 -- Leave's walk: what a turn leaves of the other slots, so that a turn from the state as it stands is the rules' turn, which goes by the
 -- state at the start; and the list of actions, turn by turn.
 -- Assumes nothing.
-use Prim.Native.Nat.{ℕ, zero, suc, _+_, _*_, _/_, _≤_, _<_}
+use Prim.Native.Nat.{ℕ, _+_, _*_, _/_, _≤_, _<_}
 use native.Mathlib.Omega.{arith}
 use mathlib.Core.Path.{_≡_, refl, sym, ap, ap₂, _∙_}
 use mathlib.Core.Logic.{_≢_}
@@ -36,6 +36,7 @@ use Rattle.rules.specs.Promise.{Gives}
 use Rattle.rules.proofs.PunishedLaws.{punished-peer, punished-apart, punished-kept}
 use Rattle.rules.proofs.PromiseLaws.{leaves-moved, gives-quiet}
 use Rattle.rules.proofs.StepLaws.{gives-then, gives-else}
+use Rattle.rules.proofs.CountLaws.{actions-short}
 use Rattle.rules.proofs.EndLaws.{leaves-ignored}
 use Rattle.gate.proofs.StandingLaws.{sizes}
 use Rattle.leaving.specs.Slots.{grownIf, leftIf, actionIf, Turn, Turned, Walk, Walked}
@@ -138,26 +139,6 @@ numbers-join :
 numbers-join list a b at e =
     let z : at ≡ 0 + length (numbersOf a) = omega (arith, numbers-length a) in
     rw z (sym (ap (sets list 0) (numbers-append a b) ∙ sets-append list 0 (numbersOf a) (numbersOf b)))
-
--- at most one action a slot
-gather-short :
-    {A : Type 0} (f : ℕ → List A) (n : ℕ) → ((i : ℕ) → length (f i) ≤ 1) → length (gather n f) ≤ n
-unfolding gather
-gather-short f zero h = omega arith
-gather-short f (suc n) h = omega (arith, length-append (gather n f) (f n), gather-short f n h, h n)
-
-pub actions-short : (st : State) (t n : ℕ) → length (leaveActions st t n) ≤ n
-unfolding leaveActions
-actions-short st t n =
-    gather-short _ n
-    (λ i.
-    cond-case
-    (λ (l : List Action). length l ≤ 1)
-    (isMember st t i)
-    (pruneOf (peerIn st i) (unsubscribeBackoff st) ∷ [])
-    []
-    (λ e. omega arith)
-    (λ e. omega arith))
 
 pub actions-none : (st : State) (t : ℕ) → leaveActions st t 0 ≡ []
 unfolding leaveActions gather

@@ -4,6 +4,7 @@ pub mod JointLaws
 pub mod ReadLaws
 pub mod WriteLaws
 pub mod RoundTrip
+pub mod PlaceLaws
 pub mod OrdinaryLaws
 pub mod FieldLaws
 pub mod CodeRules

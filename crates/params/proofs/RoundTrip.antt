@@ -104,6 +104,9 @@ module _ (xs : List ℤ) (n147 : length xs ≡ 147) (ok : firstBroken xs ≡ Not
   small : Small xs
   small i h = accepted-few xs ok i (omega arith)
 
+  pub bytes-most : length (bytesOf xs) ≤ 735
+  bytes-most = omega (arith, bytes-few xs small)
+
   parse-written : parseFrom 147 (bytesOf xs) 0 ≡ numbers xs (length (bytesOf xs))
   parse-written = rw (n147, append-nil (bytesOf xs), zero-add (length (bytesOf xs))) at (read-back xs [] [] small)
 
@@ -126,7 +129,7 @@ module _ (xs : List ℤ) (n147 : length xs ≡ 147) (ok : firstBroken xs ≡ Not
   written-is buf h =
       rw (le-ltb (length buf) 735 h, ok)
       (ap (λ (l : List ℕ). record { answer = Done (length (bytesOf xs)); bytes = l })
-      (sets-eq (bytesOf xs) buf 0 (omega (arith, bytes-few xs small)) ∙ rw (zero-add (length (bytesOf xs)))))
+      (sets-eq (bytesOf xs) buf 0 (omega (arith, bytes-most)) ∙ rw (zero-add (length (bytesOf xs)))))
 
 -- what a write that was done had before it
 done-is : (xs : List ℤ) (buf : List ℕ) (n : ℕ) → writeOf xs buf .answer ≡ Done n → (735 ≤ length buf) × (firstBroken xs ≡ Nothing)

@@ -30,6 +30,7 @@ use Rattle.rules.specs.Reply.{Reply, actionsOf}
 use Rattle.rules.specs.Calls.{Call, connect, disconnect, join, leave, subscribe, unsubscribe, graft, prune, deliver, rate, heartbeat, decay, score}
 use Rattle.rules.specs.Step.{step}
 use Rattle.rules.specs.Promise.{Follows}
+use Rattle.rules.proofs.CountLaws.{Counted, counted}
 use Rattle.events.specs.declared.Readings.{Readings}
 use Rattle.events.specs.Reading.{numbers, broken, numbersFrom, outcome, arities, arity, callOf, Event, event, unknown, malformed, short, cutShort, unread, named, ofNumbers, ofKind, eventAt}
 use Rattle.events.specs.Lines.{pairLine, linesOf, replyText}
@@ -39,7 +40,6 @@ use Rattle.replay.specs.declared.Performed.the-variants.{Answered, Unkno
 use Rattle.replay.specs.declared.Replayed.{Replayed}
 use Rattle.replay.specs.declared.Replayed.the-variants.{Called, Stopped, Short, Full}
 use Rattle.replay.specs.Replay.{idle, performEvent, Performs, stopped, replayEvent, replayOf, Replays}
-use Rattle.replay.proofs.CountLaws.{Counted, counted}
 
 -- ---- the call of the numbers that were read is the call of the array that holds them: its numbers past them are 0
 module _ (n : ℕ) (v : List ℕ) (z : (k : ℕ) → n ≤ k → getD v k 0 ≡ 0) where

@@ -12,3 +12,4 @@ pub mod KeepsDecay
 pub mod KeepsHeartbeat
 pub mod Keeps
 pub mod EndLaws
+pub mod CountLaws

@@ -1,15 +1,17 @@
 -- Every reply counts its actions, and gives at most one for each slot.
 -- Assumes nothing.
-use Prim.Native.Nat.{ℕ, _≤_}
-use mathlib.Core.Path.{_≡_, refl}
+use Prim.Native.Nat.{ℕ, zero, suc, _≤_}
+use mathlib.Core.Path.{_≡_, refl, ap}
 use mathlib.Core.Bool.{Bool, true, false, cond}
-use mathlib.Core.List.{List, []}
+use mathlib.Core.List.{List, [], _∷_}
 use native.Mathlib.Omega.{arith}
 use lib.Dec.{eqb, leb}
-use lib.ListN.{length, length-map}
+use lib.ListN.{length, length-append, length-map}
+use Rattle.index.specs.Index.{gather}
 use Rattle.index.specs.declared.Found.{Found}
 use Rattle.index.specs.declared.Found.the-variants.{At, Nothing}
 use Rattle.index.proofs.Flags.{cond-case}
+use Rattle.cells.specs.View.{stateOf}
 use Rattle.records.specs.Records.{State, slotCount, peerIn}
 use Rattle.sets.specs.Sets.{bySlot, isPermutation}
 use Rattle.mesh.specs.Maintenance.{changesOf, actionsOf as toldActions}
@@ -18,16 +20,16 @@ use Rattle.table.specs.Find.{findConnected, findRetained, lowestEmpty}
 use Rattle.table.specs.declared.Named.{Named}
 use Rattle.table.specs.declared.Named.the-variants.{Version, Unknown}
 use Rattle.table.specs.Name.{versionOf}
-use Rattle.effects.specs.Actions.{Action}
-use Rattle.effects.specs.Effects.{isJoined, isMember, backoffRuns, reclaimed}
+use Rattle.effects.specs.Actions.{Action, pruneOf}
+use Rattle.effects.specs.Effects.{isJoined, isMember, backoffRuns, unsubscribeBackoff, reclaimed}
 use Rattle.rules.specs.declared.Answer.{Answer}
 use Rattle.rules.specs.declared.Gate.the-variants.{Pass, Refuse}
 use Rattle.rules.specs.declared.Answer.the-variants.{Early, OutOfRange, NotConnected, AlreadyConnected, NoSlot, UnknownProtocol, NotPermutation, ListShort, NotRouter}
 use Rattle.rules.specs.Reply.{Reply, actionsOf, refused, ignored, done}
 use Rattle.rules.specs.Calls.{Call, connect, disconnect, join, leave, subscribe, unsubscribe, graft, prune, deliver, rate, heartbeat, decay, score, timeOf, inRange}
 use Rattle.rules.specs.Step.{actionRoom, isGraylisted, isHeard, graftEnters, gateOf, through, onFound, ofPeer, onVersion, connectAt, connectIn, connectReply, joinReply, leaveActions, leaveReply, subscribeReply, unsubscribeReply, graftRefused, graftOpen, graftBackoff, graftHeard, graftReply, pruneReply, deliverReply, viewIn, meshesIn, actionIn, heartbeatActions, maintainedReply, heartbeatReply, decayReply, effect, step}
+use Rattle.rules.specs.Promise.{Follows}
 use Rattle.rules.proofs.HeartbeatLaws.{told-few}
-use Rattle.leaving.proofs.LeaveLaws.{actions-short}
 
 pub record Counted (o : Reply) : Type 0 where
   pub counts : actionsOf (o .answer) ≡ length (o .actions)
@@ -72,6 +74,26 @@ counted-connect st time id group flags name =
     (counted-found (findRetained (reclaimed st time) id) _ _ (λ s. counted-quiet _ time)
     (counted-found (lowestEmpty (reclaimed st time)) _ _ (λ s. counted-quiet _ time) (counted-refused NoSlot st refl))))
     (counted-refused UnknownProtocol st refl)
+
+-- a leave has at most one action a slot
+gather-short :
+    {A : Type 0} (f : ℕ → List A) (n : ℕ) → ((i : ℕ) → length (f i) ≤ 1) → length (gather n f) ≤ n
+unfolding gather
+gather-short f zero h = omega arith
+gather-short f (suc n) h = omega (arith, length-append (gather n f) (f n), gather-short f n h, h n)
+
+pub actions-short : (st : State) (t n : ℕ) → length (leaveActions st t n) ≤ n
+unfolding leaveActions
+actions-short st t n =
+    gather-short _ n
+    (λ i.
+    cond-case
+    (λ (l : List Action). length l ≤ 1)
+    (isMember st t i)
+    (pruneOf (peerIn st i) (unsubscribeBackoff st) ∷ [])
+    []
+    (λ e. omega arith)
+    (λ e. omega arith))
 
 counted-leave : (st : State) (time t : ℕ) → Counted (leaveReply st time t)
 unfolding leaveReply
@@ -152,3 +174,11 @@ pub counted : (st : State) (c : Call) (room : ℕ) → Counted (step st c room)
 unfolding step gateOf
 counted st c room =
     counted-gate (valid st) (inRange c) (leb actionRoom room) (leb (st .clock) (timeOf c)) st (effect st c) (counted-effect st c)
+
+-- of a call that keeps its promise
+pub few-actions :
+    (c : Call) (r : Answer) (table table′ list list′ : List ℕ) → Follows c r table table′ list list′ → actionsOf r ≤ 64
+few-actions c r table table′ list list′ f =
+    let k = counted (stateOf table) c (length list) in
+    let e : actionsOf r ≡ actionsOf (step (stateOf table) c (length list) .answer) = ap actionsOf (f .leaves .answer) in
+    omega (arith, e, k .counts, k .few)

@@ -2,8 +2,8 @@
 use borrow.Author.Needs.{needs}
 use mathlib.Core.Path.{ap, _∙_}
 use Rattle.index.specs.Index.{one}
-use Rattle.host.proofs.hivepadlet_is_router.Statement.{statement}
-use Rattle.host.proofs.hivepadlet_is_router.Tie as tie
+use Rattle.host.proofs.parameters.hivepadlet_is_router.Statement.{statement}
+use Rattle.host.proofs.parameters.hivepadlet_is_router.Tie as tie
 
 pub hivepadlet-is-router-spec : {M : Type 1} → statement M
 hivepadlet-is-router-spec =

@@ -1,0 +1,8 @@
+-- `host::hivepadlet_ordinary` meets its contract. Assumes nothing.
+use borrow.Author.Needs.{needs}
+use Rattle.host.proofs.parameters.hivepadlet_ordinary.Statement.{statement}
+use Rattle.host.proofs.parameters.hivepadlet_ordinary.Tie as tie
+
+pub hivepadlet-ordinary-spec : {M : Type 1} → statement M
+hivepadlet-ordinary-spec =
+    tie.close (tie.spec (λ c κs. search needs) (λ c. c .before .ordinary .ensures))

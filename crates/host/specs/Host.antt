@@ -1,0 +1,74 @@
+-- What a host gets of each function of the C ABI: the promise of the call below, with the answer as one number.
+use Prim.Native.Nat.{ℕ, _+_, _*_}
+use mathlib.Core.Path.{_≡_}
+use mathlib.Core.Bool.{true}
+use mathlib.Core.List.{List}
+use lib.ListN.{length}
+use lib.Seq.{sets}
+use lib.IntN.{ℤ}
+use Rattle.cells.specs.View.{stateOf}
+use Rattle.index.specs.declared.Found.{Found}
+use Rattle.index.specs.declared.Found.the-variants.{At, Nothing}
+use Rattle.params.specs.declared.Reading.{Reading}
+use Rattle.params.specs.declared.Verdict.{Verdict}
+use Rattle.params.specs.declared.Verdict.the-variants.{Accepted, Malformed, Broken}
+use Rattle.params.specs.Check.{firstBroken}
+use Rattle.params.specs.Read.{readOf, verdictNumber, verdictValue}
+use Rattle.params.specs.Write.{writeOf, writtenNumber, writtenValue}
+use Rattle.table.specs.Fresh.{madeOf, leftBy, madeNumber, madeValue}
+use Rattle.effects.specs.Actions.{numbersOf}
+use Rattle.rules.specs.declared.Answer.{Answer}
+use Rattle.rules.specs.declared.Answer.the-variants.{Done, Scored, Early, OutOfRange, NotConnected, AlreadyConnected, NoSlot, UnknownProtocol, NotPermutation, ListShort, Ignored, NotRouter}
+use Rattle.rules.specs.Reply.{numberOf, actionsOf, refuses}
+use Rattle.rules.specs.Calls.{Call}
+use Rattle.rules.specs.Step.{step}
+
+-- 01's number in the low byte, and the value that goes with it (action count, length, place) above it
+abbrev pub packed : ℕ → ℕ → ℕ
+packed number value = number + 256 * value
+
+abbrev pub answerCode : Answer → ℕ
+answerCode a = packed (numberOf a) (actionsOf a)
+
+-- ---- a call: r is what comes back; table and list are what stood in the lent memory, table′ and list′ what stands there after it
+pub record Hosts (c : Call) (r : ℕ) (table table′ list list′ : List ℕ) : Type 0 where
+  pub answer : r ≡ answerCode (step (stateOf table) c (length list) .answer)
+  pub state : stateOf table′ ≡ step (stateOf table) c (length list) .state
+  pub kept : refuses (step (stateOf table) c (length list) .answer) ≡ true → table′ ≡ table
+  pub actions : list′ ≡ sets list 0 (numbersOf (step (stateOf table) c (length list) .actions))
+
+-- the lent number of a score: written by an accepted score call alone
+abbrev pub scoreOr : Answer → ℤ → ℤ
+scoreOr (Done n) z = z
+scoreOr (Scored x) z = x
+scoreOr Early z = z
+scoreOr OutOfRange z = z
+scoreOr NotConnected z = z
+scoreOr AlreadyConnected z = z
+scoreOr NoSlot z = z
+scoreOr UnknownProtocol z = z
+scoreOr NotPermutation z = z
+scoreOr ListShort z = z
+scoreOr Ignored z = z
+scoreOr NotRouter z = z
+
+-- ---- the parameters
+-- reading: the lent numbers are written where the bytes are accepted, and stand where they are refused
+abbrev pub numbersOr : Verdict → List ℤ → List ℤ → List ℤ
+numbersOr (Accepted n) read stood = read
+numbersOr (Malformed place) read stood = stood
+numbersOr (Broken i) read stood = stood
+
+pub record HostsRead (bytes : List ℕ) (r : ℕ) (lent lent′ : List ℤ) : Type 0 where
+  pub answer : r ≡ packed (verdictNumber (readOf bytes .verdict)) (verdictValue (readOf bytes .verdict))
+  pub numbers : lent′ ≡ numbersOr (readOf bytes .verdict) (readOf bytes .params .numbers) lent
+
+pub record HostsWrite (numbers : List ℤ) (r : ℕ) (buf buf′ : List ℕ) : Type 0 where
+  pub answer : r ≡ packed (writtenNumber (writeOf numbers buf .answer)) (writtenValue (writeOf numbers buf .answer))
+  pub bytes : buf′ ≡ writeOf numbers buf .bytes
+
+-- a fresh router: every cell written, or none
+pub record HostsFresh (numbers : List ℤ) (r : ℕ) (table table′ : List ℕ) : Type 0 where
+  pub answer : r ≡ packed (madeNumber (madeOf (firstBroken numbers))) (madeValue (madeOf (firstBroken numbers)))
+  pub state : stateOf table′ ≡ leftBy (firstBroken numbers) numbers (stateOf table)
+  pub kept : (i : ℕ) → firstBroken numbers ≡ At i → table′ ≡ table

@@ -1,0 +1,222 @@
+// 01's thirteen calls. Each takes the table, a time, its arguments and a lent action list; what comes back is one number.
+ghost use mathlib.Core.Path.{_≡_};
+ghost use Prim.Native.Nat.{_≤_};
+ghost use lib.ListN.{length};
+ghost use Rattle.cells.specs.View.{stateOf};
+ghost use Rattle.rules.specs.Calls.{connect as Calls·connect, decay as Calls·decay, deliver as Calls·deliver, disconnect as Calls·disconnect, graft as Calls·graft, heartbeat as Calls·heartbeat, join as Calls·join, leave as Calls·leave, prune as Calls·prune, rate as Calls·rate, score as Calls·score, subscribe as Calls·subscribe, unsubscribe as Calls·unsubscribe};
+ghost use Rattle.rules.specs.Reply.{actionsOf};
+ghost use Rattle.rules.specs.Step.{step};
+ghost use Rattle.host.specs.Host.{answerCode, scoreOr as scoreOrOf, Hosts};
+use crate::packed;
+use rules::Answer;
+
+// An answer as one number.
+fn code(a: Answer) -> u64
+    requires { ⌜ actionsOf a ≤ 64 ⌝ }
+    ensures { λ r. ⌜ r ≡ answerCode a ⌝ }
+{
+    match a {
+        Answer::Done(n) => packed(0, n as u64),
+        Answer::Scored(_) => packed(0, 0),
+        Answer::Early => packed(1, 0),
+        Answer::OutOfRange => packed(2, 0),
+        Answer::NotConnected => packed(3, 0),
+        Answer::AlreadyConnected => packed(4, 0),
+        Answer::NoSlot => packed(5, 0),
+        Answer::UnknownProtocol => packed(6, 0),
+        Answer::NotPermutation => packed(7, 0),
+        Answer::ListShort => packed(8, 0),
+        Answer::Ignored => packed(11, 0),
+        Answer::NotRouter => packed(12, 0),
+    }
+}
+
+// A peer connects. Flags: 1 outbound + 2 explicit.
+#[no_mangle]
+pub extern "C" fn hivepadlet_connect(
+    table: &mut [u64; 5340],
+    time: u64,
+    id: u64,
+    group: u64,
+    flags: u64,
+    name: &[u8],
+    actions: &mut [u32],
+) -> u64
+    ensures { λ r. ⌜ Hosts (Calls·connect time id group flags (now (name .entry))) r (now (table .entry)) (now (table .exit)) (now (actions .entry)) (now (actions .exit)) ⌝ }
+{
+    code(router::connect(table, time, id, group, flags, name, actions))
+}
+
+// A peer disconnects.
+#[no_mangle]
+pub extern "C" fn hivepadlet_disconnect(
+    table: &mut [u64; 5340],
+    time: u64,
+    id: u64,
+    actions: &mut [u32],
+) -> u64
+    ensures { λ r. ⌜ Hosts (Calls·disconnect time id) r (now (table .entry)) (now (table .exit)) (now (actions .entry)) (now (actions .exit)) ⌝ }
+{
+    code(router::disconnect(table, time, id, actions))
+}
+
+// We join a topic.
+#[no_mangle]
+pub extern "C" fn hivepadlet_join(
+    table: &mut [u64; 5340],
+    time: u64,
+    topic: u64,
+    actions: &mut [u32],
+) -> u64
+    ensures { λ r. ⌜ Hosts (Calls·join time topic) r (now (table .entry)) (now (table .exit)) (now (actions .entry)) (now (actions .exit)) ⌝ }
+{
+    code(router::join(table, time, topic, actions))
+}
+
+// We leave a topic.
+#[no_mangle]
+pub extern "C" fn hivepadlet_leave(
+    table: &mut [u64; 5340],
+    time: u64,
+    topic: u64,
+    actions: &mut [u32],
+) -> u64
+    ensures { λ r. ⌜ Hosts (Calls·leave time topic) r (now (table .entry)) (now (table .exit)) (now (actions .entry)) (now (actions .exit)) ⌝ }
+{
+    code(router::leave(table, time, topic, actions))
+}
+
+// A peer subscribes to a topic.
+#[no_mangle]
+pub extern "C" fn hivepadlet_subscribe(
+    table: &mut [u64; 5340],
+    time: u64,
+    id: u64,
+    topic: u64,
+    actions: &mut [u32],
+) -> u64
+    ensures { λ r. ⌜ Hosts (Calls·subscribe time id topic) r (now (table .entry)) (now (table .exit)) (now (actions .entry)) (now (actions .exit)) ⌝ }
+{
+    code(router::subscribe(table, time, id, topic, actions))
+}
+
+// A peer unsubscribes from a topic.
+#[no_mangle]
+pub extern "C" fn hivepadlet_unsubscribe(
+    table: &mut [u64; 5340],
+    time: u64,
+    id: u64,
+    topic: u64,
+    actions: &mut [u32],
+) -> u64
+    ensures { λ r. ⌜ Hosts (Calls·unsubscribe time id topic) r (now (table .entry)) (now (table .exit)) (now (actions .entry)) (now (actions .exit)) ⌝ }
+{
+    code(router::unsubscribe(table, time, id, topic, actions))
+}
+
+// A GRAFT came in.
+#[no_mangle]
+pub extern "C" fn hivepadlet_graft(
+    table: &mut [u64; 5340],
+    time: u64,
+    id: u64,
+    topic: u64,
+    actions: &mut [u32],
+) -> u64
+    ensures { λ r. ⌜ Hosts (Calls·graft time id topic) r (now (table .entry)) (now (table .exit)) (now (actions .entry)) (now (actions .exit)) ⌝ }
+{
+    code(router::graft(table, time, id, topic, actions))
+}
+
+// A PRUNE came in, with the seconds of its backoff.
+#[no_mangle]
+pub extern "C" fn hivepadlet_prune(
+    table: &mut [u64; 5340],
+    time: u64,
+    id: u64,
+    topic: u64,
+    seconds: u64,
+    actions: &mut [u32],
+) -> u64
+    ensures { λ r. ⌜ Hosts (Calls·prune time id topic seconds) r (now (table .entry)) (now (table .exit)) (now (actions .entry)) (now (actions .exit)) ⌝ }
+{
+    code(router::prune(table, time, id, topic, seconds, actions))
+}
+
+// A delivery: 1 first, 2 near-first, 3 invalid.
+#[no_mangle]
+pub extern "C" fn hivepadlet_deliver(
+    table: &mut [u64; 5340],
+    time: u64,
+    id: u64,
+    topic: u64,
+    kind: u64,
+    actions: &mut [u32],
+) -> u64
+    ensures { λ r. ⌜ Hosts (Calls·deliver time id topic kind) r (now (table .entry)) (now (table .exit)) (now (actions .entry)) (now (actions .exit)) ⌝ }
+{
+    code(router::deliver(table, time, id, topic, kind, actions))
+}
+
+// Sets P5 of a peer.
+#[no_mangle]
+pub extern "C" fn hivepadlet_rate(
+    table: &mut [u64; 5340],
+    time: u64,
+    id: u64,
+    p5: i64,
+    actions: &mut [u32],
+) -> u64
+    ensures { λ r. ⌜ Hosts (Calls·rate time id p5) r (now (table .entry)) (now (table .exit)) (now (actions .entry)) (now (actions .exit)) ⌝ }
+{
+    code(router::rate(table, time, id, p5, actions))
+}
+
+// The heartbeat's work for one topic, with a permutation of the slots, and opportunism where `ask` is 1.
+#[no_mangle]
+pub extern "C" fn hivepadlet_heartbeat(
+    table: &mut [u64; 5340],
+    time: u64,
+    topic: u64,
+    ask: u64,
+    permutation: &[u64],
+    actions: &mut [u32],
+) -> u64
+    ensures { λ r. ⌜ Hosts (Calls·heartbeat time topic ask (now (permutation .entry))) r (now (table .entry)) (now (table .exit)) (now (actions .entry)) (now (actions .exit)) ⌝ }
+{
+    code(router::heartbeat(table, time, topic, ask, permutation, actions))
+}
+
+// The counters decay.
+#[no_mangle]
+pub extern "C" fn hivepadlet_decay(table: &mut [u64; 5340], time: u64, actions: &mut [u32]) -> u64
+    ensures { λ r. ⌜ Hosts (Calls·decay time) r (now (table .entry)) (now (table .exit)) (now (actions .entry)) (now (actions .exit)) ⌝ }
+{
+    code(router::decay(table, time, actions))
+}
+
+// The score in an answer, or what stood there.
+fn score_or(a: Answer, stood: i64) -> i64
+    ensures { λ r. ⌜ r ≡ scoreOrOf a stood ⌝ }
+{
+    match a {
+        Answer::Scored(z) => z,
+        _ => stood,
+    }
+}
+
+// The score of a peer, through a lent number that stands where the call is refused.
+#[no_mangle]
+pub extern "C" fn hivepadlet_score(
+    table: &mut [u64; 5340],
+    time: u64,
+    id: u64,
+    score: &mut i64,
+    actions: &mut [u32],
+) -> u64
+    ensures { λ r. ⌜ Hosts (Calls·score time id) r (now (table .entry)) (now (table .exit)) (now (actions .entry)) (now (actions .exit)) × (now (score .exit) ≡ scoreOrOf (step (stateOf (now (table .entry))) (Calls·score time id) (length (now (actions .entry))) .answer) (now (score .entry))) ⌝ }
+{
+    let a = router::score(table, time, id, actions);
+    *score = score_or(a, *score);
+    code(a)
+}
