@@ -1,10 +1,11 @@
 //! Counts what generated traces reach: each call with each answer, and the
 //! cases inside the rules. A run that misses one of them proves too little.
 
+mod heartbeat;
+
 use crate::event::{Call, Event, CALL_NAMES};
 use crate::params::{self, topic};
 use crate::router::{number, Answer, GraftCase, Place, Refusal, Router};
-use crate::trace::Options;
 use std::collections::BTreeMap;
 use std::fmt::Write;
 
@@ -29,10 +30,8 @@ const ANSWERS: [&[u32]; 13] = [
 
 const COLUMNS: [u32; 9] = [0, 1, 2, 3, 4, 5, 6, 7, 11];
 
-const HEARTBEAT: &str = "heartbeat";
-
 /// The cases that every run reaches.
-const CASES: [&str; 42] = [
+const CASES: [&str; 35] = [
     "connect: fresh slot",
     "connect: resumed record",
     "connect: own record reclaimed",
@@ -68,13 +67,6 @@ const CASES: [&str; 42] = [
     "score: negative",
     "score: positive",
     "score: P6 counts",
-    "heartbeat: step 1 PRUNEs",
-    "heartbeat: step 2 grafts",
-    "heartbeat: step 3 PRUNEs",
-    "heartbeat: swaps",
-    "heartbeat: step 4 grafts",
-    "heartbeat: step 5 grafts",
-    "heartbeat: nothing to do",
 ];
 
 #[derive(Default)]
@@ -84,12 +76,14 @@ pub struct Coverage {
 }
 
 impl Coverage {
-    /// Counts a call with its answer, and its cases if it was heard.
-    pub fn count_call(&mut self, event: &Event, answer: &Answer, cases: &[(String, usize)]) {
+    /// Counts a call with its answer, and its cases if it was heard; those of a
+    /// heartbeat tell refusals as well.
+    pub fn count_call(&mut self, event: &Event, answer: &Answer, cases: &[String]) {
         *self.calls.entry((event.call.kind(), number(answer))).or_default() += 1;
-        if matches!(answer, Ok(_) | Err(Refusal::Ignored)) {
-            for (case, times) in cases {
-                *self.cases.entry(case.clone()).or_default() += times;
+        let heard = matches!(answer, Ok(_) | Err(Refusal::Ignored));
+        if heard || matches!(event.call, Call::Heartbeat { .. }) {
+            for case in cases {
+                *self.cases.entry(case.clone()).or_default() += 1;
             }
         }
     }
@@ -105,17 +99,24 @@ impl Coverage {
     }
 
     /// What the run should have reached and did not.
-    pub fn missing(&self, options: Options) -> Vec<String> {
-        let wanted = |name: &str| options.heartbeat || !name.contains(HEARTBEAT);
+    pub fn missing(&self) -> Vec<String> {
         let mut missing = Vec::new();
-        for (place, answers) in ANSWERS.iter().enumerate().filter(|(i, _)| wanted(CALL_NAMES[*i])) {
+        for (place, answers) in ANSWERS.iter().enumerate() {
             let reached = |answer| self.calls.contains_key(&(place as u64 + 1, answer));
             let absent = answers.iter().filter(|&&answer| !reached(answer));
             missing.extend(absent.map(|answer| format!("{} {answer}", CALL_NAMES[place])));
         }
-        let cases = CASES.iter().map(|case| case.to_string()).chain(stops());
-        missing.extend(cases.filter(|case| wanted(case) && !self.cases.contains_key(case)));
+        missing.extend(wanted_cases().filter(|case| !self.cases.contains_key(case)));
         missing
+    }
+
+    /// Answers that 01 does not permit to a call.
+    pub fn not_permitted(&self) -> Vec<String> {
+        let permitted = |kind: u64, answer| ANSWERS[kind as usize - 1].contains(&answer);
+        let strange = self.calls.keys().filter(|(kind, answer)| !permitted(*kind, *answer));
+        strange
+            .map(|(kind, answer)| format!("{} {answer}", CALL_NAMES[*kind as usize - 1]))
+            .collect()
     }
 
     /// The counts as text.
@@ -134,11 +135,20 @@ impl Coverage {
             }
             out.push('\n');
         }
-        for (case, count) in &self.cases {
-            let _ = writeln!(out, "{case:40}{count:>9}");
+        let mut cases = self.cases.clone();
+        for case in wanted_cases() {
+            cases.entry(case).or_default();
+        }
+        for (case, count) in &cases {
+            let _ = writeln!(out, "{case:62}{count:>9}");
         }
         out
     }
+}
+
+fn wanted_cases() -> impl Iterator<Item = String> {
+    let heartbeats = heartbeat::CASES.iter().map(|case| format!("heartbeat: {case}"));
+    CASES.iter().map(|case| case.to_string()).chain(heartbeats).chain(stops())
 }
 
 /// The names of an event's numbers after kind and time, in the trace's order.
@@ -184,15 +194,18 @@ fn stops() -> impl Iterator<Item = String> {
     fixed.map(str::to_string).into_iter().chain(calls).map(|stop| format!("stop: {stop}"))
 }
 
-/// The cases of an event that is about to be made, with how often each comes.
-pub fn cases(router: &Router, event: &Event) -> Vec<(String, usize)> {
+/// The cases of an event that is about to be made.
+pub fn cases(router: &Router, event: &Event) -> Vec<String> {
+    if matches!(event.call, Call::Heartbeat { .. }) {
+        let cases = heartbeat::cases(router, event);
+        return cases.into_iter().map(|case| format!("heartbeat: {case}")).collect();
+    }
     if !event.in_range() || event.now < router.clock {
         return Vec::new();
     }
     let facts = match event.call {
         Call::Connect { id, .. } => connect_cases(router, id as u32, event.now),
         Call::Leave { topic } => leave_cases(router, topic as usize),
-        Call::Heartbeat { .. } => return heartbeat_cases(router, event),
         Call::Disconnect { id }
         | Call::Unsubscribe { id, .. }
         | Call::Graft { id, .. }
@@ -205,7 +218,7 @@ pub fn cases(router: &Router, event: &Event) -> Vec<(String, usize)> {
         _ => Vec::new(),
     };
     let held = facts.into_iter().filter(|(_, holds)| *holds);
-    held.map(|(case, _)| (format!("{}: {case}", event.call.name()), 1)).collect()
+    held.map(|(case, _)| format!("{}: {case}", event.call.name())).collect()
 }
 
 type Facts = Vec<(String, bool)>;
@@ -283,26 +296,4 @@ fn delivery_cases(router: &Router, slot: usize, k: usize, kind: u64) -> Facts {
         fact("P3 at its cap", kind < 3 && member && record.p3 == cap(topic::P3_CAP)),
         fact("P4 at its limit", kind == 3 && record.p4 == 1_000_000),
     ]
-}
-
-fn heartbeat_cases(router: &Router, event: &Event) -> Vec<(String, usize)> {
-    let Call::Heartbeat { topic, ask, ref permutation } = event.call else { return Vec::new() };
-    let topic = topic as usize;
-    // A damaged permutation names no slots to plan with; an ignored call has no steps.
-    if permutation.iter().any(|&slot| slot >= 64) || !router.joined[topic] {
-        return Vec::new();
-    }
-    let plan = router.heartbeat_plan(event.now, topic, ask == 1, permutation);
-    let acted = [
-        ("step 1 PRUNEs", plan.negative.len()),
-        ("step 2 grafts", plan.fill.len()),
-        ("step 3 PRUNEs", plan.surplus.len()),
-        ("swaps", plan.swaps),
-        ("step 4 grafts", plan.quota.len()),
-        ("step 5 grafts", plan.opportunistic.len()),
-    ];
-    let idle = acted.iter().all(|(_, count)| *count == 0);
-    let cases = acted.into_iter().chain([("nothing to do", usize::from(idle))]);
-    let reached = cases.filter(|(_, count)| *count > 0);
-    reached.map(|(case, count)| (format!("heartbeat: {case}"), count)).collect()
 }

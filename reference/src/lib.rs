@@ -14,3 +14,4 @@ pub mod router;
 pub mod shrink;
 pub mod text;
 pub mod trace;
+pub mod watch;

@@ -25,23 +25,29 @@ fn meaning(number: &str) -> &'static str {
 }
 
 /// One answer's line, and the lines of its actions or its score.
-struct Printed {
-    answer: String,
-    details: Vec<String>,
+pub struct Printed {
+    pub answer: String,
+    pub lines: Vec<String>,
 }
 
 /// Every event's line with its answer and, below each other, its actions.
 pub fn columns(trace: &Trace, output: &str) -> String {
-    let mut printed = printed(output).into_iter();
+    let mut printed = printed(output).into_iter().peekable();
     let events: Vec<String> = trace.lines.iter().map(print_line).collect();
     let lengths = events.iter().map(String::len).filter(|&length| length <= WIDEST);
     let width = lengths.max().unwrap_or(0);
     let mut out = String::new();
+    let refused = trace.params.as_ref().is_none_or(|params| params.check().is_err());
+    if let Some(Printed { answer, .. }) = printed.next_if(|_| refused) {
+        let number = answer.split(' ').next().unwrap_or_default();
+        let _ = writeln!(out, "{:width$}  {answer} {}", "(parameters)", meaning(number));
+    }
     for (event, line) in events.iter().zip(&trace.lines) {
         let (answer, details) = match printed.next() {
-            Some(printed) => (describe(&printed.answer, line), printed.details),
+            Some(printed) => (describe(&printed.answer, line), printed.lines),
             None => ("-".to_string(), Vec::new()),
         };
+        let details: Vec<String> = details.iter().map(|line| with_points(line)).collect();
         let first = details.first().map_or("", String::as_str);
         let row = format!("{event:width$}  {answer:20}  {first}");
         let _ = writeln!(out, "{}", row.trim_end());
@@ -64,13 +70,13 @@ fn describe(answer: &str, line: &Line) -> String {
 }
 
 /// The printed lines, grouped by answer.
-fn printed(output: &str) -> Vec<Printed> {
+pub fn printed(output: &str) -> Vec<Printed> {
     let mut groups: Vec<Printed> = Vec::new();
     for line in output.lines() {
         let is_answer = line.starts_with(|c: char| c.is_ascii_digit());
         match groups.last_mut() {
-            Some(last) if !is_answer => last.details.push(with_points(line)),
-            _ => groups.push(Printed { answer: line.to_string(), details: Vec::new() }),
+            Some(last) if !is_answer => last.lines.push(line.to_string()),
+            _ => groups.push(Printed { answer: line.to_string(), lines: Vec::new() }),
         }
     }
     groups

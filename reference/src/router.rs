@@ -9,7 +9,7 @@ mod tables;
 
 pub use connection::Place;
 pub use control::GraftCase;
-pub use heartbeat::Plan;
+pub use heartbeat::{is_permutation, Plan};
 pub use tables::{Peer, Status, TopicRecord, Version};
 
 use crate::event::{Call, Event, SLOTS};

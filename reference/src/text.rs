@@ -29,7 +29,7 @@
 
 use crate::event::{Call, Event, Permutation, CALL_NAMES, EXPLICIT_FLAG, OUTBOUND_FLAG, SLOTS};
 use crate::params::{self, field_at, Params, COUNT, GENERAL_COUNT, TOPICS, TOPIC_COUNT};
-use crate::trace::{self, Options};
+use crate::trace;
 use std::fmt::Write;
 
 /// A trace as lines: its parameters, if it has any, then events or bytes.
@@ -72,7 +72,7 @@ impl Trace {
         };
         let mut lines = Vec::new();
         while !rest.is_empty() {
-            let event = trace::read_event(rest, Options { heartbeat: true });
+            let event = trace::read_event(rest);
             let (line, length) = match event {
                 Ok((event, length)) if params.is_some() => (Line::Event(event), length),
                 _ => (Line::Bytes(rest.to_vec()), rest.len()),

@@ -3,7 +3,7 @@
 
 use crate::event::{Call, Event, Permutation, SLOTS};
 use crate::groups;
-use crate::params::{self, Params};
+use crate::params;
 use crate::router::{number, Answer, Done, Router, ACTION_LIST, GRAFT};
 use std::fmt::Write;
 
@@ -17,27 +17,21 @@ pub enum Stop {
     UnknownKind,
 }
 
-/// Kind 11 can be left out: then it is unknown.
-#[derive(Clone, Copy, PartialEq, Eq, Debug)]
-pub struct Options {
-    pub heartbeat: bool,
-}
-
 /// Runs a whole trace; gives what the trace program prints.
-pub fn run(bytes: &[u8], options: Options) -> String {
+pub fn run(bytes: &[u8]) -> String {
     let (params, length) = match params::read_prefix(bytes) {
         Ok(read) => read,
         Err(refusal) => return format!("{} {}\n", refusal.number, refusal.place),
     };
-    run_events(params, &bytes[length..], options)
+    run_events(Router::unchecked(params), &bytes[length..])
 }
 
-fn run_events(params: Params, mut rest: &[u8], options: Options) -> String {
-    let mut router = Router::new(params).expect("the parameters were checked");
+/// Runs the events alone, on a fresh router whose parameters were read already.
+pub fn run_events(mut router: Router, mut rest: &[u8]) -> String {
     let mut list = [0; ACTION_LIST];
     let mut out = String::new();
     while !rest.is_empty() {
-        match read_event(rest, options) {
+        match read_event(rest) {
             Ok((event, length)) => {
                 let answer = router.call(&event, &mut list);
                 out.push_str(&lines(&answer, &list));
@@ -78,11 +72,10 @@ pub fn stop_line(stop: Stop) -> &'static str {
 
 /// Reads one event, whole, with the count of bytes it took. Its kind is judged
 /// as soon as it is read.
-pub fn read_event(bytes: &[u8], options: Options) -> Result<(Event, usize), Stop> {
+pub fn read_event(bytes: &[u8]) -> Result<(Event, usize), Stop> {
     let mut reader = Reader { rest: bytes };
     let kind = reader.unsigned()?;
-    let known = (1..=13).contains(&kind) && (kind != 11 || options.heartbeat);
-    if !known {
+    if !(1..=13).contains(&kind) {
         return Err(Stop::UnknownKind);
     }
     let now = reader.unsigned()?;

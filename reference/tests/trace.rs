@@ -5,9 +5,7 @@ use reference::generate::traces;
 use reference::params::Params;
 use reference::random::Random;
 use reference::text::{self, Trace};
-use reference::trace::{self, Options};
-
-const ALL: Options = Options { heartbeat: true };
+use reference::trace;
 
 const WORKED_EXAMPLE: &str = "\
 params ordinary
@@ -39,23 +37,21 @@ fn encoded(text: &str) -> Vec<u8> {
 }
 
 fn run(text: &str) -> String {
-    trace::run(&encoded(text), ALL)
+    trace::run(&encoded(text))
 }
 
 #[test]
 fn worked_example() {
     assert_eq!(run(WORKED_EXAMPLE), EXPECTED);
-    let without = trace::run(&encoded(WORKED_EXAMPLE), Options { heartbeat: false });
-    assert_eq!(without, "0 0\n0 0\n0 0\n2 0\n");
 }
 
 #[test]
 fn bad_parameters_stop() {
-    assert_eq!(trace::run(&[], ALL), "10 0\n");
+    assert_eq!(trace::run(&[]), "10 0\n");
     assert_eq!(run("params ordinary\nparam D_out 4\n"), "9 202\n");
     assert_eq!(run("params ordinary\nparam w5 0\njoin time=0 topic=0\n"), "9 13\n");
-    assert_eq!(trace::run(&[2, 0x80], ALL), "10 1\n");
-    assert_eq!(trace::run(&Params::ordinary().to_bytes(), ALL), "");
+    assert_eq!(trace::run(&[2, 0x80]), "10 1\n");
+    assert_eq!(trace::run(&Params::ordinary().to_bytes()), "");
 }
 
 #[test]
@@ -104,7 +100,7 @@ fn text_errors_name_the_line() {
 fn decoding_undoes_encoding() {
     let mut random = Random::new(5);
     for _ in 0..150 {
-        let bytes = traces::trace(&mut random, ALL, &mut Coverage::default()).bytes;
+        let bytes = traces::trace(&mut random, &mut Coverage::default()).bytes;
         let trace = Trace::from_bytes(&bytes);
         assert_eq!(trace.to_bytes(), bytes);
         assert_eq!(text::parse(&text::print(&trace)), Ok(trace));
@@ -116,10 +112,14 @@ fn sample_traces_are_readable() {
     let directory = concat!(env!("CARGO_MANIFEST_DIR"), "/../traces");
     let mut count = 0;
     for entry in std::fs::read_dir(directory).expect("the sample traces") {
-        let text = std::fs::read_to_string(entry.unwrap().path()).unwrap();
+        let path = entry.unwrap().path();
+        if path.extension().is_none_or(|end| end != "txt") {
+            continue;
+        }
+        let text = std::fs::read_to_string(path).unwrap();
         let trace = text::parse(&text).expect("a good text");
         assert_eq!(Trace::from_bytes(&trace.to_bytes()), trace);
         count += 1;
     }
-    assert!(count >= 4);
+    assert!(count >= 11);
 }

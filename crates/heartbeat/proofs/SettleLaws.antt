@@ -154,20 +154,21 @@ module _
 
     -- what it leaves
     pub settling-more :
-        (table′ : List ℕ) →
+        (table′ : List ℕ) (was stays negative : Bool) →
+        was ≡ getD members i false →
+        stays ≡ getD mesh i false →
+        negative ≡ ltb (getD scores i 0) zeroScore →
         length table′ ≡ length table →
-        stateOf table′
-        ≡ settledIf (getD members i false) (getD mesh i false) (ltb (getD scores i 0) zeroScore) t time end i (stateOf table) →
+        stateOf table′ ≡ settledIf was stays negative t time end i (stateOf table) →
         Settling (stateOf table₀) time t mesh (i + 1) table′
-    settling-more table′ l e =
+    settling-more table′ was stays negative ew es en l e =
         let st = stateOf table₀ in
         record {
           low = omega arith;
           size = l ∙ now .size;
           state =
               iter-more (settleSlot st time t mesh) st i (stateOf table) (stateOf table′) (now .state)
-              (e
-              ∙ as-settled st (stateOf table) t time end i mesh (getD members i false) (getD mesh i false) (ltb (getD scores i 0) zeroScore) as-was refl as-negative as-params (walk .backoff));
+              (e ∙ as-settled st (stateOf table) t time end i mesh was stays negative (ew ∙ as-was) es (en ∙ as-negative) as-params (walk .backoff));
         }
 
 pub settling-done :

@@ -49,7 +49,7 @@ pub fn scores(table: &[u64]) -> [u64; SLOTS]
 {
     let mut r = [0; SLOTS];
     for s in 0..SLOTS {
-        r[s] = score::sums::offset(score::of_slot::score_of(table, s));
+        r[s] = score::sums::offset(peer_score::score_of(table, s));
     }
     r
 }

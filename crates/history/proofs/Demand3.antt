@@ -18,24 +18,17 @@ use Rattle.effects.specs.Effects.{isJoined, isMember}
 use Rattle.rules.specs.Reply.{Reply, numberOf}
 use Rattle.rules.specs.Calls.{Call, connect, disconnect, join, leave, subscribe, unsubscribe, graft, prune, deliver, rate, heartbeat, decay, score, timeOf, idOk, topicOk, timeOk, argumentsOk, inRange}
 use Rattle.rules.specs.Step.{ofPeer, effect, step}
+use Rattle.rules.proofs.CaseLaws.{topic-in, arguments, by-peer, by-gate}
 use Rattle.rules.proofs.Keeps.{keeps, keeps-sizes}
 use Rattle.history.specs.Lists.{Made, after, answered, outbound}
 use Rattle.history.specs.Demand3.{Accepted, member, outboundAt, members, outboundMembers, inboundMembers, Tidied, Demand3}
 use Rattle.history.proofs.Fewer.{Fewer, fewer-self}
 use Rattle.history.proofs.Frames.{fewer-still, fewer-disconnect, fewer-join, fewer-leave, fewer-rate, fewer-decay, fewer-subscribe, fewer-unsubscribe, fewer-prune, fewer-deliver}
 use Rattle.history.proofs.Standing.{Standing, isInbound, inbounds, member-connected, stands-fresh}
-use Rattle.history.proofs.Replies.{heardOf, After, Stays, after-refused, after-fewer, by-peer, by-gate}
+use Rattle.history.proofs.Replies.{heardOf, After, Stays, after-refused, after-fewer}
 use Rattle.history.proofs.Connect.{stands-connect}
 use Rattle.history.proofs.Graft.{stands-graft}
 use Rattle.history.proofs.Heartbeat.{TidiedIn, stands-heartbeat, tidied-heartbeat}
-
--- ---- what the ranges say
-topic-in : (t : ℕ) → topicOk t ≡ true → t < 8
-topic-in t e = omega (arith, leb-true t 7 e)
-
-arguments : (c : Call) → inRange c ≡ true → argumentsOk c ≡ true
-unfolding inRange
-arguments c e = both (timeOk (timeOf c)) (argumentsOk c) e .1
 
 -- ---- one call
 module _ (params : List ℤ) (dir : ℕ → Bool) (st : State) (h : Standing params dir st) where

@@ -1,8 +1,7 @@
 -- "Each call keeps this so": every call, from the laws of each (KeepsTopic, KeepsPeer, KeepsDecay, KeepsHeartbeat).
 -- Assumes nothing.
 use Prim.Native.Nat.{ℕ, _<_}
-use native.Mathlib.Omega.{arith}
-use mathlib.Core.Path.{_≡_, refl}
+use mathlib.Core.Path.{_≡_}
 use mathlib.Core.Bool.{true, _&&_}
 use lib.Dec.{leb}
 use lib.IntN.{natAbs}
@@ -11,12 +10,12 @@ use Rattle.index.proofs.Index.{both}
 use Rattle.records.specs.Records.{State}
 use Rattle.cells.specs.View.{Sized}
 use Rattle.table.specs.Valid.{maxTime, valid}
-use Rattle.rules.specs.declared.Gate.{Gate}
-use Rattle.rules.specs.declared.Gate.the-variants.{Pass, Refuse}
 use Rattle.rules.specs.Calls.{Call, connect, disconnect, join, leave, subscribe, unsubscribe, graft, prune, deliver, rate, heartbeat, decay, score, timeOf, idOk, topicOk, timeOk, argumentsOk, inRange}
-use Rattle.rules.specs.Step.{gateOf, through, effect, step}
+use Rattle.rules.specs.Reply.{Reply}
+use Rattle.rules.specs.Step.{effect, step}
 use Rattle.rules.specs.Kept.{KeepsRouter, KeepsSizes}
-use Rattle.rules.proofs.GateLaws.{gate-passed}
+use Rattle.rules.proofs.GateLaws.{Passed}
+use Rattle.rules.proofs.CaseLaws.{topic-in, by-gate}
 use Rattle.rules.proofs.KeepsState.{Router, RouterAt, router-start, router-end, of-peer}
 use Rattle.rules.proofs.KeepsTopic.{keeps-join, keeps-leave, keeps-subscribe, keeps-unsubscribe, keeps-graft, keeps-prune}
 use Rattle.rules.proofs.KeepsPeer.{keeps-connect, keeps-disconnect, keeps-rate}
@@ -24,9 +23,6 @@ use Rattle.rules.proofs.KeepsDecay.{keeps-deliver, keeps-decay}
 use Rattle.rules.proofs.KeepsHeartbeat.{keeps-heartbeat}
 
 -- ---- what the ranges say
-topic-in : (t : ℕ) → topicOk t ≡ true → t < 8
-topic-in t e = omega (arith, leb-true t 7 e)
-
 -- of an id and a topic
 topic-of-both : (id t : ℕ) → idOk id && topicOk t ≡ true → t < 8
 topic-of-both id t e = topic-in t (both (idOk id) (topicOk t) e .1)
@@ -67,32 +63,19 @@ module _ (st : State) (router : Router st) where
 passed-router :
     (st : State) (c : Call) (room : ℕ) →
     Sized st →
-    gateOf st (inRange c) room (timeOf c) ≡ Pass →
+    Passed st (inRange c) room (timeOf c) →
     Router (effect st c .state)
 unfolding inRange
-passed-router st c room size e =
-    let p = gate-passed st (inRange c) room (timeOf c) e in
+passed-router st c room size p =
     let q = both (timeOk (timeOf c)) (argumentsOk c) (p .ranges) in
     keeps-effect st (record { size = size; router = p .router }) c
     (router-start (timeOf c) st size (p .router) (p .clock) (leb-true (timeOf c) maxTime (q .0)))
     (q .1)
 
--- what holds of the state handed in and of what the rules make of it behind the gate holds of what the call leaves
-by-gate :
-    (P : State → Type 0) (st : State) (c : Call) (room : ℕ) →
-    P st →
-    (gateOf st (inRange c) room (timeOf c) ≡ Pass → P (effect st c .state)) →
-    P (step st c room .state)
-unfolding step
-by-gate P st c room h f = go (gateOf st (inRange c) room (timeOf c)) refl
-  where
-    go :
-        (r : Gate) → gateOf st (inRange c) room (timeOf c) ≡ r → P (through r st (effect st c) .state)
-    go Pass e = f e
-    go (Refuse a) e = h
-
 pub keeps : KeepsRouter
-keeps st c room size v = by-gate (λ (u : State). valid u ≡ true) st c room v (λ e. passed-router st c room size e .router)
+keeps st c room size v =
+    by-gate (λ (r : Reply). valid (r .state) ≡ true) st c room (λ a e. v) (λ p. passed-router st c room size p .router)
 
 pub keeps-sizes : KeepsSizes
-keeps-sizes st c room size = by-gate (λ (u : State). Sized u) st c room size (λ e. passed-router st c room size e .size)
+keeps-sizes st c room size =
+    by-gate (λ (r : Reply). Sized (r .state)) st c room (λ a e. size) (λ p. passed-router st c room size p .size)

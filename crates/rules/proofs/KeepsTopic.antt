@@ -21,6 +21,7 @@ use Rattle.effects.proofs.Walks.{iter-before, iter-once}
 use Rattle.effects.proofs.EffectLaws.{on-peer, place-slot, member-apart, pruned-apart, pruned-member, pruned-reads}
 use Rattle.rules.specs.Reply.{ignored, done}
 use Rattle.rules.specs.Step.{isNegative, isGraylisted, isHeard, joinReply, punished, leaveSlot, leaveReply, subscribeReply, unsubscribeReply, graftRefused, graftEnters, meshFull, graftOpen, graftBackoff, graftHeard, graftReply, secondsOf, pruneReply}
+use Rattle.rules.proofs.PunishedLaws.{punished-apart}
 use Rattle.rules.proofs.KeepsRecord.{topic-left, topic-subscribed, topic-in, topic-counted}
 use Rattle.rules.proofs.KeepsState.{Router, RouterAt, Fits, router-end, latest, peer-of, topic-of, end-most, prune-most, leave-most, router-topic, router-joined, router-backoff, router-p7, router-pruned, Walked, walk-none, walk-topic, either}
 
@@ -168,9 +169,7 @@ module _ (time : ℕ) (st : State) (g : RouterAt time st) (t : ℕ) (k : t < 8) 
       cond-case (λ (v : State). isMember v t s ≡ isMember u t s) (isMember st t i) (pruned (punished st t i u) i t end) u
       (λ m.
       pruned-apart (punished st t i u) i t end s t apart
-      ∙ cond-case (λ (v : State). isMember v t s ≡ isMember u t s) (isNegative st i) (onTopic u i t (grownOf (topicParamsIn st t))) u
-      (λ e. member-apart u i t (grownOf (topicParamsIn st t)) s t apart)
-      (λ e. refl))
+      ∙ punished-apart st t i u s t apart)
       (λ m. refl)
 
   none-left : (s : ℕ) → s < 64 → isMember (iter 64 (leaveSlot st t end) st) t s ≡ false

@@ -1,6 +1,7 @@
 pub mod GateLaws
 pub mod PromiseLaws
 pub mod StepLaws
+pub mod CaseLaws
 pub mod PunishedLaws
 pub mod HeartbeatLaws
 pub mod KeepsRecord

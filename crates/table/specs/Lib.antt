@@ -1,4 +1,5 @@
 pub mod Valid
+pub mod Order
 pub mod Find
 pub mod Name
 pub mod Fresh

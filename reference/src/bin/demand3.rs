@@ -3,13 +3,13 @@
 //! The flag waives the joint rule D_score + D_out ≤ D, and then looks for a
 //! list that breaks the demand, to show what the rule is for.
 
-use reference::demand3::{checked_call, is_tight, Lent};
+use reference::demand3::{checked_call, inbound, is_tight, Lent};
 use reference::event::Call;
 use reference::generate::calls::Caller;
 use reference::generate::traces;
 use reference::params::{general, Params};
 use reference::random::Random;
-use reference::router::{Router, ACTION_LIST};
+use reference::router::{Answer, Router, ACTION_LIST};
 use reference::shrink::shrink_trace;
 use reference::text::{self, Line, Trace};
 use std::process::ExitCode;
@@ -22,11 +22,34 @@ const USAGE: &str = "usage: demand3 [LISTS] [CALLS] [SEED] [--without-rule]";
 /// The place of D_score + D_out ≤ D among the joint rules.
 const RULE: usize = 4;
 
+/// What the lists reached; a run that misses one of them shows too little.
 #[derive(Default)]
 struct Counts {
     calls: u64,
     heartbeats: u64,
+    /// Calls that left a mesh with D_hi + 2 inbound members.
     tight: u64,
+    /// Heartbeats that left fewer than D_out outbound members.
+    few_outbound: u64,
+    /// Heartbeats that left fewer than D_lo members.
+    few: u64,
+}
+
+impl Counts {
+    fn count(&mut self, router: &Router, call: &Call, answer: &Answer) {
+        self.calls += 1;
+        self.tight += u64::from(is_tight(router));
+        let Call::Heartbeat { topic, .. } = *call else { return };
+        if answer.is_ok() {
+            let topic = topic as usize;
+            let members = router.mesh(topic).len();
+            let outbound = members - inbound(router, topic);
+            let number = |place| router.params.general(place) as usize;
+            self.heartbeats += 1;
+            self.few_outbound += u64::from(outbound < number(general::D_OUT));
+            self.few += u64::from(members < number(general::D_LO));
+        }
+    }
 }
 
 fn main() -> ExitCode {
@@ -61,10 +84,13 @@ fn check(arguments: &[String]) -> Result<bool, String> {
             return Ok(waive);
         }
     }
-    let Counts { calls, heartbeats, tight } = counts;
-    println!("heartbeats done {heartbeats}, calls that left D_hi + 2 inbound members {tight}");
+    let Counts { calls, heartbeats, tight, few_outbound, few } = counts;
+    println!("calls that left D_hi + 2 inbound members {tight}");
+    println!("heartbeats done {heartbeats}");
+    println!("heartbeats that left fewer than D_out outbound members {few_outbound}");
+    println!("heartbeats that left fewer than D_lo members {few}");
     println!("demand3: {lists} lists, {calls} calls, never broken");
-    Ok(!waive)
+    Ok(!waive && [tight, few_outbound, few].iter().all(|&count| count > 0))
 }
 
 fn fresh_router(waive: bool, random: &mut Random) -> Router {
@@ -92,7 +118,7 @@ fn run_list(
     mut random: Random,
     counts: &mut Counts,
 ) -> Result<(), (Vec<Lent>, String)> {
-    let scene = traces::scene(calls as usize, &mut random, true);
+    let scene = traces::scene(calls as usize, &mut random);
     let mut caller = Caller::new(fresh.clone(), scene, random);
     caller.plan_opening();
     let mut made = Vec::new();
@@ -104,12 +130,7 @@ fn run_list(
         made.push(lent.clone());
         match checked_call(&mut caller.router, &lent) {
             Err(message) => return Err((made, message)),
-            Ok(answer) => {
-                let heartbeat = matches!(lent.event.call, Call::Heartbeat { .. });
-                counts.heartbeats += u64::from(heartbeat && answer.is_ok());
-                counts.tight += u64::from(is_tight(&caller.router));
-                counts.calls += 1;
-            }
+            Ok(answer) => counts.count(&caller.router, &lent.event.call, &answer),
         }
     }
     Ok(())

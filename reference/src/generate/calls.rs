@@ -5,7 +5,7 @@ use crate::groups;
 use crate::params::{general, topic, TOPICS};
 use crate::random::Random;
 use crate::router::{Answer, Router, Status, ACTION_LIST};
-use crate::trace::{self, Options};
+use crate::trace;
 use std::collections::VecDeque;
 
 const NAMES: [&[u8]; 2] = [b"/meshsub/1.0.0", b"/meshsub/1.1.0"];
@@ -42,7 +42,6 @@ pub struct Scene {
     pub outbound: usize,
     /// Whether meshes are crowded over D_hi again and again.
     pub crowding: bool,
-    pub heartbeat: bool,
 }
 
 /// Makes events and makes each on a router of its own as well.
@@ -163,6 +162,14 @@ impl Caller {
         }
     }
 
+    /// The joined topic with the most subscribers, where a heartbeat has most to do.
+    fn busiest_topic(&self) -> u64 {
+        let subscribers =
+            |k: usize| self.router.peers.iter().filter(|peer| peer.topics[k].subscribed).count();
+        let joined = (0..TOPICS).filter(|&k| self.router.joined[k]);
+        joined.max_by_key(|&k| subscribers(k)).unwrap_or(0) as u64
+    }
+
     fn flags(&mut self) -> u64 {
         let outbound = self.random.chance(self.scene.outbound, 4);
         let explicit = self.random.chance(1, 16);
@@ -272,7 +279,10 @@ impl Caller {
             46..=50 => Call::Prune { id, topic, seconds: self.seconds() },
             51..=65 => Call::Delivery { id, topic, kind: self.random.below(3) as u64 + 1 },
             66..=75 => Call::SetP5 { id, value: self.p5(id) },
-            76..=84 if self.scene.heartbeat => self.heartbeat_call(topic),
+            76..=84 => {
+                let topic = if self.random.chance(1, 2) { self.busiest_topic() } else { topic };
+                self.heartbeat_call(topic)
+            }
             85..=88 => Call::Decay,
             _ => Call::Score { id },
         }
@@ -340,7 +350,7 @@ impl Caller {
         self.queue.push_back((0, call));
     }
 
-    fn plan_arrival(&mut self) {
+    pub fn plan_arrival(&mut self) {
         let mut ids = self.scene.ids.clone();
         self.random.shuffle(&mut ids);
         ids.truncate(ids.len() - self.random.below(ids.len().div_ceil(2)));
@@ -377,7 +387,8 @@ impl Caller {
     }
 
     /// When backoffs are over, a mesh of few different scores is filled by
-    /// inbound peers, and then a few outbound ones pass D_hi.
+    /// inbound peers, and then a few outbound ones pass D_hi; others of them may
+    /// stay candidates.
     fn plan_crowding(&mut self, topic: u64) {
         let mut ids = self.ids_of(Status::Connected);
         self.random.shuffle(&mut ids);
@@ -392,6 +403,9 @@ impl Caller {
             self.plan(Call::SetP5 { id, value });
         }
         self.plan_for(&ids, |id| Call::Subscribe { id, topic });
+        if self.random.chance(1, 2) {
+            ids.truncate(inbound + self.random.below(2));
+        }
         self.plan_for(&ids, |id| Call::Graft { id, topic });
         self.plan_heartbeats(topic);
     }
@@ -401,14 +415,79 @@ impl Caller {
         slot.is_ok_and(|slot| self.router.peers[slot].outbound)
     }
 
+    /// Heartbeats, now and then a decay, with something to do for most of them.
     fn plan_heartbeats(&mut self, topic: u64) {
-        for _ in 0..=self.random.below(3) {
-            let call = match self.scene.heartbeat && self.random.chance(5, 6) {
+        for round in 0..=self.random.below(5) {
+            if round > 0 && self.random.chance(3, 4) {
+                self.plan_disturbance(topic);
+            }
+            let call = match self.random.chance(5, 6) {
                 true => self.heartbeat_call(topic),
                 false => Call::Decay,
             };
             self.plan(call);
         }
+    }
+
+    /// Backoffs end, a few peers get another P5, and a few ask for the mesh,
+    /// often outbound ones alone, which pass D_hi.
+    fn plan_disturbance(&mut self, topic: u64) {
+        if self.random.chance(1, 2) {
+            let wait = 1 + self.random.below(70_000) as u64;
+            self.queue.push_back((wait, Call::Decay));
+        }
+        let mut ids = self.ids_of(Status::Connected);
+        self.random.shuffle(&mut ids);
+        let judged = self.random.below(6).min(ids.len());
+        for &id in &ids[..judged] {
+            let value = self.p5(id);
+            self.plan(Call::SetP5 { id, value });
+        }
+        self.random.shuffle(&mut ids);
+        if self.random.chance(1, 2) {
+            ids.retain(|&id| self.is_outbound(id));
+        }
+        ids.truncate(self.random.below(6));
+        self.plan_for(&ids, |id| Call::Subscribe { id, topic });
+        self.plan_for(&ids, |id| Call::Graft { id, topic });
+    }
+
+    /// One round of a mesh whose scores are P5 and P7 alone: backoffs mostly end,
+    /// few different scores are given, often the outbound members go, inbound
+    /// peers and then some outbound ones ask for the mesh, and a heartbeat or two
+    /// follow.
+    pub fn plan_round(&mut self, topic: u64) {
+        let wait = if self.random.chance(4, 5) { 60_000 } else { 1 };
+        self.queue.push_back((wait, Call::Decay));
+        let mut ids = self.ids_of(Status::Connected);
+        self.random.shuffle(&mut ids);
+        let threshold = self.router.params.general(general::OPPORTUNISTIC_THRESHOLD) * 1_000_000;
+        let targets = [0, 0, 1_000_000_000, 2_000_000_000, threshold, threshold - 1000, -1000];
+        for &id in &ids {
+            let target = *self.random.pick(&targets);
+            if self.random.chance(1, 3) {
+                let value = self.p5_for(id, target);
+                self.plan(Call::SetP5 { id, value });
+            }
+        }
+        ids.sort_by_key(|&id| self.is_outbound(id));
+        let inbound = ids.partition_point(|&id| !self.is_outbound(id));
+        if self.random.chance(1, 2) {
+            self.plan_for(&ids[inbound..], |id| Call::Unsubscribe { id, topic });
+        }
+        let mut asking = ids[..self.random.below(inbound + 1)].to_vec();
+        asking.extend(ids[inbound..].iter().take(self.random.below(4)));
+        self.plan_for(&ids, |id| Call::Subscribe { id, topic });
+        self.plan_for(&asking, |id| Call::Graft { id, topic });
+        for _ in 0..=self.random.below(2) {
+            let call = self.heartbeat_call(topic);
+            self.plan(call);
+        }
+    }
+
+    /// Whether nothing is planned any more.
+    pub fn is_idle(&self) -> bool {
+        self.queue.is_empty()
     }
 
     fn plan_departure(&mut self) {
@@ -477,7 +556,7 @@ impl Caller {
         pieces[place].clear();
         groups::write_unsigned(number, &mut pieces[place]);
         // A name's length may not fit now; such bytes are made elsewhere.
-        let read = trace::read_event(&pieces.concat(), Options { heartbeat: true });
+        let read = trace::read_event(&pieces.concat());
         if let Ok((spoilt, _)) = read {
             *event = spoilt;
         }

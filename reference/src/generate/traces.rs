@@ -8,7 +8,7 @@ use crate::groups;
 use crate::params::{field_at, general, topic, topic_index, Params, TOPICS};
 use crate::random::Random;
 use crate::router::Router;
-use crate::trace::{self, Options};
+use crate::trace;
 
 /// A trace as bytes, and how many whole events it has.
 pub struct Generated {
@@ -17,19 +17,20 @@ pub struct Generated {
 }
 
 /// One trace; what it reaches is counted.
-pub fn trace(random: &mut Random, options: Options, coverage: &mut Coverage) -> Generated {
+pub fn trace(random: &mut Random, coverage: &mut Coverage) -> Generated {
     let mut random = Random::new(random.bits());
     match random.below(160) {
         0..=3 => bad_params(&mut random, coverage),
-        4 => limits(&mut random, options, coverage),
-        _ => ordinary_trace(random, options, coverage),
+        4 => limits(&mut random, coverage),
+        5..=20 => mesh_rounds(random, coverage),
+        _ => ordinary_trace(random, coverage),
     }
 }
 
-fn ordinary_trace(mut random: Random, options: Options, coverage: &mut Coverage) -> Generated {
+fn ordinary_trace(mut random: Random, coverage: &mut Coverage) -> Generated {
     let params = params(&mut random);
     let length = length(&mut random);
-    let scene = scene(length, &mut random, options.heartbeat);
+    let scene = scene(length, &mut random);
     let end = Random::new(random.bits());
     let router = Router::new(params.clone()).expect("the parameters are good");
     let mut run = Run::new(Caller::new(router, scene, random), coverage);
@@ -43,7 +44,7 @@ fn ordinary_trace(mut random: Random, options: Options, coverage: &mut Coverage)
     for event in run.caller.survey() {
         run.push(event);
     }
-    run.finish(params, end, options)
+    run.finish(params, end)
 }
 
 /// A trace on its way: each event is made on the caller's router and counted.
@@ -65,12 +66,19 @@ impl<'a> Run<'a> {
         self.events.push(event);
     }
 
-    fn finish(self, params: Params, mut random: Random, options: Options) -> Generated {
+    fn push_planned(&mut self) {
+        while !self.caller.is_idle() {
+            let event = self.caller.next_event();
+            self.push(event);
+        }
+    }
+
+    fn finish(self, params: Params, mut random: Random) -> Generated {
         let mut bytes = params.to_bytes();
         bytes.extend(self.events.iter().flat_map(trace::write_event));
         if random.chance(3, 4) {
             let event = event_of_any_kind(&self.events, &mut random);
-            bytes.extend(damaged_end(event, &mut random, options, self.coverage));
+            bytes.extend(damaged_end(event, &mut random, self.coverage));
         }
         Generated { bytes, events: self.events.len() }
     }
@@ -99,7 +107,7 @@ pub fn params(random: &mut Random) -> Params {
 /// Narrower choices than the limits, so that a short run meets every rule.
 fn lively(mut params: Params, random: &mut Random) -> Params {
     use general::*;
-    let d = random.often_an_end(2, 6);
+    let d = random.often_an_end(2, 8);
     let d_lo = random.between(1, d);
     let most_out = (d_lo - 1).min(d / 2);
     let d_out = random.often_an_end(most_out.min(1), most_out);
@@ -159,7 +167,7 @@ fn lively_topic(params: &mut Params, k: usize, random: &mut Random) {
 }
 
 /// A short run has few peers, so that they still come to something.
-pub fn scene(length: usize, random: &mut Random, heartbeat: bool) -> Scene {
+pub fn scene(length: usize, random: &mut Random) -> Scene {
     let count = match random.below(6) {
         0 => 1 + random.below(6),
         1 | 2 if length > 300 => SLOTS + random.below(20),
@@ -173,7 +181,6 @@ pub fn scene(length: usize, random: &mut Random, heartbeat: bool) -> Scene {
         topics: 1 + random.below(topics),
         outbound: *random.pick(&[0, 1, 1, 1, 2, 2, 3, 4]),
         crowding: random.chance(1, 3),
-        heartbeat,
     }
 }
 
@@ -196,15 +203,48 @@ fn length(random: &mut Random) -> usize {
 
 // Special traces.
 
+/// Rounds of one topic's mesh, in which every step of the heartbeat has much to
+/// do: no topic has a weight and no group a surplus, so that nobody's score falls
+/// for long.
+fn mesh_rounds(mut random: Random, coverage: &mut Coverage) -> Generated {
+    let mut params = lively(Params::ordinary(), &mut random);
+    let d = params.general(general::D);
+    let d_out = random.between(0, (d - 1).min(d / 2));
+    params.numbers[general::D_LO] = random.often_an_end(d_out + 1, d);
+    params.numbers[general::D_OUT] = d_out;
+    params.numbers[general::D_SCORE] = random.often_an_end(0, d - d_out);
+    params.numbers[general::P6_THRESHOLD] = field_at(general::P6_THRESHOLD).high;
+    for k in 0..TOPICS {
+        params.numbers[topic_index(k, topic::WEIGHT)] = 0;
+    }
+    let router = Router::new(params.clone()).expect("the parameters are good");
+    let mut scene = scene(300, &mut random);
+    scene.outbound = 1 + random.below(2);
+    let end = Random::new(random.bits());
+    let topic = random.below(TOPICS) as u64;
+    let mut run = Run::new(Caller::new(router, scene, random), coverage);
+    run.push(Event { now: 0, call: Call::Join { topic } });
+    run.caller.plan_arrival();
+    run.push_planned();
+    for _ in 0..10 {
+        run.caller.plan_round(topic);
+        run.push_planned();
+    }
+    for event in run.caller.survey() {
+        run.push(event);
+    }
+    run.finish(params, end)
+}
+
 /// Counters driven to their limits, which takes a thousand events each: P4 by
 /// an explicit peer, who is never graylisted, and P7 where no score is under
 /// the graylist threshold.
-fn limits(random: &mut Random, options: Options, coverage: &mut Coverage) -> Generated {
+fn limits(random: &mut Random, coverage: &mut Coverage) -> Generated {
     let mut params = Params::ordinary();
     params.numbers[general::GRAYLIST_THRESHOLD] = field_at(general::GRAYLIST_THRESHOLD).low;
     params.numbers[general::W7] = -1;
     let router = Router::new(params.clone()).expect("the parameters are good");
-    let scene = scene(0, random, options.heartbeat);
+    let scene = scene(0, random);
     let mut run = Run::new(Caller::new(router, scene, Random::new(random.bits())), coverage);
     let explicit = random.chance(1, 2);
     let flags = if explicit { 2 } else { random.below(2) as u64 };
@@ -224,7 +264,7 @@ fn limits(random: &mut Random, options: Options, coverage: &mut Coverage) -> Gen
             run.push(Event { now: count, call: Call::Score { id } });
         }
     }
-    run.finish(params, Random::new(random.bits()), options)
+    run.finish(params, Random::new(random.bits()))
 }
 
 /// Parameters that are mostly refused, with bytes after them all the same.
@@ -242,15 +282,10 @@ fn bad_params(random: &mut Random, coverage: &mut Coverage) -> Generated {
 // Damaged ends.
 
 /// Bytes that stop the run: an unknown kind, or an event damaged in one place.
-fn damaged_end(
-    event: &Event,
-    random: &mut Random,
-    options: Options,
-    coverage: &mut Coverage,
-) -> Vec<u8> {
+fn damaged_end(event: &Event, random: &mut Random, coverage: &mut Coverage) -> Vec<u8> {
     if random.chance(1, 8) {
         coverage.count_stop("unknown kind");
-        return unknown_kind(random, options);
+        return unknown_kind(random);
     }
     let mut pieces = trace::event_pieces(event);
     let place = random.below(pieces.len().min(7));
@@ -264,7 +299,7 @@ fn damaged_end(
         damage(&mut pieces, place, name, random);
     }
     let bytes = pieces.concat();
-    let stopped = trace::read_event(&bytes, Options { heartbeat: true }).is_err();
+    let stopped = trace::read_event(&bytes).is_err();
     if stopped && !bytes.is_empty() {
         coverage.count_stop(&coverage::bad_bytes(&event.call, place));
     }
@@ -292,11 +327,10 @@ fn damage(pieces: &mut Vec<Vec<u8>>, place: usize, name: &str, random: &mut Rand
 }
 
 /// A kind that is none; more bytes follow, which nobody reads.
-fn unknown_kind(random: &mut Random, options: Options) -> Vec<u8> {
+fn unknown_kind(random: &mut Random) -> Vec<u8> {
     let kind = match random.below(4) {
         0 => 0,
         1 => 14,
-        2 if !options.heartbeat => 11,
         _ => 14 + (random.of_any_width() >> 1),
     };
     let mut bytes = Vec::new();

@@ -16,13 +16,16 @@ pub struct Plan {
     pub negative: Vec<usize>,
     /// Step 2 grafts when the mesh is under D_lo.
     pub fill: Vec<usize>,
-    /// Step 3 PRUNEs when the mesh is over D_hi, after so many swaps.
+    /// Step 3 PRUNEs when the mesh is over D_hi, after swaps of a keeper for a
+    /// left-out outbound member.
     pub surplus: Vec<usize>,
-    pub swaps: usize,
+    pub swaps: Vec<(usize, usize)>,
     /// Step 4 grafts for the quota of outbound peers.
     pub quota: Vec<usize>,
     /// Step 5 grafts for a better median.
     pub opportunistic: Vec<usize>,
+    /// The median that step 5 saw, if it was asked and the mesh had two members.
+    pub median: Option<i64>,
 }
 
 /// "Scores and candidates are those at the start."
@@ -81,8 +84,10 @@ impl Router {
         mesh.retain(|slot| !plan.surplus.contains(slot));
         plan.quota = start.quota(&mesh);
         mesh.extend(&plan.quota);
-        if opportunism {
-            plan.opportunistic = start.opportunistic(&mesh);
+        if opportunism && mesh.len() >= 2 {
+            let median = start.median(&mesh);
+            plan.opportunistic = start.opportunistic(&mesh, median);
+            plan.median = Some(median);
         }
         plan
     }
@@ -96,6 +101,11 @@ impl Router {
             order,
             scores: (0..SLOTS).map(|slot| self.score(slot)).collect(),
         }
+    }
+
+    /// The threshold of step 5 as a score.
+    pub fn opportunistic_threshold(&self) -> i64 {
+        self.params.general(general::OPPORTUNISTIC_THRESHOLD) * 1_000_000
     }
 
     /// 01: "A candidate is connected, subscribed, not explicit, not a member,
@@ -144,10 +154,10 @@ impl Start<'_> {
     }
 
     /// Step 3: "Over D_hi: keep the D_score best (ties in draw order), then others
-    /// in draw order to make D. ... PRUNE the rest." With it, how many swaps.
-    fn surplus(&self, mesh: &BTreeSet<usize>) -> (Vec<usize>, usize) {
+    /// in draw order to make D. ... PRUNE the rest." With it, the swaps.
+    fn surplus(&self, mesh: &BTreeSet<usize>) -> (Vec<usize>, Vec<(usize, usize)>) {
         if mesh.len() <= self.general(general::D_HI) {
-            return (Vec::new(), 0);
+            return (Vec::new(), Vec::new());
         }
         let best = self.best(mesh);
         let mut others: Vec<usize> = self.order.clone();
@@ -178,16 +188,16 @@ impl Start<'_> {
         best: &[usize],
         others: &mut [usize],
         left_out: &mut [usize],
-    ) -> usize {
+    ) -> Vec<(usize, usize)> {
         let kept = best.iter().chain(others.iter());
         let outbound = kept.filter(|&&slot| self.outbound(slot)).count();
-        let mut swaps = 0;
-        while outbound + swaps < self.general(general::D_OUT) {
+        let mut swaps = Vec::new();
+        while outbound + swaps.len() < self.general(general::D_OUT) {
             let goes = others.iter().rposition(|&slot| !self.outbound(slot));
             let comes = left_out.iter().position(|&slot| self.outbound(slot));
             let (Some(goes), Some(comes)) = (goes, comes) else { break };
+            swaps.push((others[goes], left_out[comes]));
             std::mem::swap(&mut others[goes], &mut left_out[comes]);
-            swaps += 1;
         }
         swaps
     }
@@ -203,12 +213,11 @@ impl Start<'_> {
 
     /// Step 5: "Mesh ≥ 2 and median < threshold: graft up to 2 candidates not yet
     /// grafted with scores above the median, in draw order."
-    fn opportunistic(&self, mesh: &BTreeSet<usize>) -> Vec<usize> {
-        let threshold = self.router.params.general(general::OPPORTUNISTIC_THRESHOLD) * 1_000_000;
-        if mesh.len() < 2 || self.median(mesh) >= threshold {
+    fn opportunistic(&self, mesh: &BTreeSet<usize>, median: i64) -> Vec<usize> {
+        if median >= self.router.opportunistic_threshold() {
             return Vec::new();
         }
-        let better = |slot: &usize| self.scores[*slot] > self.median(mesh);
+        let better = |slot: &usize| self.scores[*slot] > median;
         self.candidates_outside(mesh).filter(better).take(OPPORTUNISTIC_GRAFTS).collect()
     }
 
@@ -221,7 +230,7 @@ impl Start<'_> {
 }
 
 /// 01, answer 7: "draw not each of 0..63 once".
-fn is_permutation(permutation: &Permutation) -> bool {
+pub fn is_permutation(permutation: &Permutation) -> bool {
     let mut sorted = *permutation;
     sorted.sort_unstable();
     sorted.iter().enumerate().all(|(place, &slot)| slot == place as u64)

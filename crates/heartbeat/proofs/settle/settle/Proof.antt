@@ -1,5 +1,5 @@
 -- `heartbeat::settle::settle`: before each turn the walk stands where the rules' walk does (`Settling`).
-use Rattle.index.proofs.Kit.{_-_, sym, _∙_, arith}
+use Rattle.index.proofs.Kit.{_-_, refl, sym, _∙_, arith}
 use Rattle.cells.specs.View.{stateOf}
 use Rattle.heartbeat.proofs.SettleLaws.{Settling, settling-none, settling-ready, settling-more, settling-done}
 use Rattle.heartbeat.proofs.settle.settle.Statement.{statement}
@@ -24,7 +24,7 @@ loop-again c =
     let b = k .before .before in
     let l = b .before .loop in
     let s = b .before .before .before in
-    settling-more (s .args .table .now) _ _ _ _ _ (s .pre) _ (l .slot) (b .loop-test .taken) (l .table) (l .inv) _ (k .settle-slot .kept .0) (k .settle-slot .ensures)
+    settling-more (s .args .table .now) _ _ _ _ _ (s .pre) _ (l .slot) (b .loop-test .taken) (l .table) (l .inv) _ _ _ _ refl refl refl (k .settle-slot .kept .0) (k .settle-slot .ensures)
 
 pub settle-spec : {M : Type 1} → statement M
 settle-spec =

@@ -1,0 +1,252 @@
+//! The cases of a heartbeat: which steps act, and where a step's limits decide.
+
+use crate::event::{Call, Event, Permutation, SLOTS};
+use crate::params::general;
+use crate::router::{is_permutation, Plan, Router};
+use std::cmp::Reverse;
+
+/// The cases that every run reaches. Each is counted once a heartbeat.
+pub const CASES: [&str; 29] = [
+    "ask over 1",
+    "permutation: a slot twice",
+    "permutation: a number over 63",
+    "permutation: bad, and the topic not joined",
+    "topic not joined",
+    "step 1 prunes",
+    "step 1 adds to P3b",
+    "step 2 grafts",
+    "step 2 stops at D",
+    "step 2 ends for want of candidates",
+    "step 3 cuts",
+    "step 3 has equal scores at the edge of the best",
+    "step 3 swaps",
+    "step 3 swaps more than once",
+    "step 3 swaps past an outbound keeper",
+    "step 3 ends for want of outbound members",
+    "step 4 grafts",
+    "step 4 stops at D_out",
+    "step 4 ends for want of outbound candidates",
+    "step 4 grafts after a cut",
+    "step 5 grafts one",
+    "step 5 grafts two",
+    "step 5 leaves a third that is better",
+    "step 5 leaves one at the median",
+    "step 5 decides by another median than the start's",
+    "asked: mesh under two",
+    "asked: median at or over the threshold",
+    "asked: median at the threshold",
+    "nothing to do",
+];
+
+type Facts = Vec<(&'static str, bool)>;
+
+/// The cases that an event, if it is a heartbeat, is about to meet.
+pub fn cases(router: &Router, event: &Event) -> Vec<&'static str> {
+    let facts = facts(router, event);
+    facts.into_iter().filter(|(_, holds)| *holds).map(|(case, _)| case).collect()
+}
+
+/// In the order of the tests 2, 1, 7, 11.
+fn facts(router: &Router, event: &Event) -> Facts {
+    let Call::Heartbeat { topic, ask, ref permutation } = event.call else { return Vec::new() };
+    if !event.in_range() {
+        let answered = Call::Heartbeat { topic, ask: 0, permutation: permutation.clone() };
+        let else_in_range = Event { now: event.now, call: answered }.in_range();
+        return vec![("ask over 1", else_in_range)];
+    }
+    let joined = router.joined[topic as usize];
+    if event.now < router.clock {
+        Vec::new()
+    } else if !is_permutation(permutation) {
+        let over = permutation.iter().any(|&slot| slot >= SLOTS as u64);
+        vec![
+            ("permutation: a slot twice", !over),
+            ("permutation: a number over 63", over),
+            ("permutation: bad, and the topic not joined", !joined),
+        ]
+    } else if joined {
+        Seen::new(router, event.now, topic as usize, ask == 1, permutation).facts()
+    } else {
+        vec![("topic not joined", true)]
+    }
+}
+
+/// A heartbeat that will be answered by 0: its plan, and what its start holds.
+struct Seen<'a> {
+    router: &'a Router,
+    topic: usize,
+    asked: bool,
+    plan: Plan,
+    scores: Vec<i64>,
+    /// All slots, and the candidates, in the permutation's order.
+    order: Vec<usize>,
+    candidates: Vec<usize>,
+    members: Vec<usize>,
+}
+
+impl Seen<'_> {
+    fn new<'a>(
+        router: &'a Router,
+        now: u64,
+        topic: usize,
+        asked: bool,
+        permutation: &Permutation,
+    ) -> Seen<'a> {
+        let order: Vec<usize> = permutation.iter().map(|&slot| slot as usize).collect();
+        let is_candidate = |slot: &usize| router.is_candidate(*slot, topic, now);
+        Seen {
+            router,
+            topic,
+            asked,
+            plan: router.heartbeat_plan(now, topic, asked, permutation),
+            scores: (0..SLOTS).map(|slot| router.score(slot)).collect(),
+            candidates: order.iter().copied().filter(is_candidate).collect(),
+            order,
+            members: router.mesh(topic),
+        }
+    }
+
+    fn facts(&self) -> Facts {
+        let steps = [self.first_steps(), self.third_step(), self.fourth_step(), self.fifth_step()];
+        let mut facts = steps.concat();
+        facts.push(("nothing to do", self.pruned() + self.grafted().count() == 0));
+        facts
+    }
+
+    fn general(&self, place: usize) -> usize {
+        self.router.params.general(place) as usize
+    }
+
+    fn outbound(&self, slots: &[usize]) -> usize {
+        slots.iter().filter(|&&slot| self.router.peers[slot].outbound).count()
+    }
+
+    fn pruned(&self) -> usize {
+        self.plan.negative.len() + self.plan.surplus.len()
+    }
+
+    /// All that the heartbeat grafts, in its order.
+    fn grafted(&self) -> impl Iterator<Item = &usize> {
+        self.plan.fill.iter().chain(&self.plan.quota).chain(&self.plan.opportunistic)
+    }
+
+    /// The mesh that step 3 sees when it acts, since step 2 then did not.
+    fn after_first(&self) -> Vec<usize> {
+        let stays = |slot: &usize| !self.plan.negative.contains(slot);
+        self.members.iter().copied().filter(stays).collect()
+    }
+
+    fn after_third(&self) -> Vec<usize> {
+        let mut mesh = self.after_first();
+        mesh.extend(&self.plan.fill);
+        mesh.retain(|slot| !self.plan.surplus.contains(slot));
+        mesh
+    }
+
+    fn first_steps(&self) -> Facts {
+        let fails = |&slot: &usize| self.router.p3(slot, self.topic) > 0;
+        let left = self.after_first().len();
+        let filled = left + self.plan.fill.len();
+        let grafts = !self.plan.fill.is_empty();
+        let more = self.candidates.len() > self.plan.fill.len();
+        let d = self.general(general::D);
+        vec![
+            ("step 1 prunes", !self.plan.negative.is_empty()),
+            ("step 1 adds to P3b", self.plan.negative.iter().any(fails)),
+            ("step 2 grafts", grafts),
+            ("step 2 stops at D", grafts && filled == d && more),
+            (
+                "step 2 ends for want of candidates",
+                left < self.general(general::D_LO) && filled < d,
+            ),
+        ]
+    }
+
+    fn third_step(&self) -> Facts {
+        if self.plan.surplus.is_empty() {
+            return Vec::new();
+        }
+        let place = |slot: &usize| self.order.iter().position(|other| other == slot);
+        let mut ranked = self.after_first();
+        ranked.sort_by_key(|slot| (Reverse(self.scores[*slot]), place(slot)));
+        let others = ranked.split_off(self.general(general::D_SCORE));
+        let tie = ranked.last().is_some_and(|&last| self.scores[last] == self.scores[others[0]]);
+        let kept = self.after_third();
+        let swaps = &self.plan.swaps;
+        let passed = |goes: usize| {
+            let comes = |slot| swaps.iter().any(|&(_, comes)| comes == slot);
+            let later = |slot: &usize| place(slot) > place(&goes) && self.outbound(&[*slot]) == 1;
+            others.iter().any(|slot| kept.contains(slot) && !comes(*slot) && later(slot))
+        };
+        vec![
+            ("step 3 cuts", true),
+            ("step 3 has equal scores at the edge of the best", tie),
+            ("step 3 swaps", !swaps.is_empty()),
+            ("step 3 swaps more than once", swaps.len() > 1),
+            ("step 3 swaps past an outbound keeper", swaps.iter().any(|&(goes, _)| passed(goes))),
+            (
+                "step 3 ends for want of outbound members",
+                self.outbound(&kept) < self.general(general::D_OUT),
+            ),
+        ]
+    }
+
+    fn fourth_step(&self) -> Facts {
+        let grafts = !self.plan.quota.is_empty();
+        let d_out = self.general(general::D_OUT);
+        let before = self.after_third();
+        let missing = d_out.saturating_sub(self.outbound(&before));
+        let free = self.candidates.iter().filter(|slot| !before.contains(slot));
+        let free: Vec<usize> = free.copied().collect();
+        vec![
+            ("step 4 grafts", grafts),
+            ("step 4 stops at D_out", grafts && self.outbound(&free) > missing),
+            ("step 4 ends for want of outbound candidates", self.plan.quota.len() < missing),
+            ("step 4 grafts after a cut", grafts && !self.plan.surplus.is_empty()),
+        ]
+    }
+
+    fn fifth_step(&self) -> Facts {
+        if !self.asked {
+            return Vec::new();
+        }
+        let Some(median) = self.plan.median else { return vec![("asked: mesh under two", true)] };
+        let threshold = self.router.opportunistic_threshold();
+        let low = median < threshold;
+        let free = self.free_for_fifth();
+        let better = free.iter().filter(|&&slot| self.scores[slot] > median).count();
+        let at_median = free.iter().any(|&slot| self.scores[slot] == median);
+        let grafts = self.plan.opportunistic.len();
+        vec![
+            ("step 5 grafts one", grafts == 1),
+            ("step 5 grafts two", grafts == 2),
+            ("step 5 leaves a third that is better", low && better > 2),
+            ("step 5 leaves one at the median", low && grafts > 0 && at_median),
+            (
+                "step 5 decides by another median than the start's",
+                self.by_starts_median(&free) != self.plan.opportunistic,
+            ),
+            ("asked: median at or over the threshold", !low),
+            ("asked: median at the threshold", median == threshold),
+        ]
+    }
+
+    /// The candidates that no step before the fifth has grafted.
+    fn free_for_fifth(&self) -> Vec<usize> {
+        let taken = |slot: &usize| self.plan.fill.contains(slot) || self.plan.quota.contains(slot);
+        self.candidates.iter().copied().filter(|slot| !taken(slot)).collect()
+    }
+
+    /// What step 5 would graft by the slip that 01 names: the median of the mesh
+    /// at the start.
+    fn by_starts_median(&self, free: &[usize]) -> Vec<usize> {
+        let mut scores: Vec<i64> = self.members.iter().map(|&slot| self.scores[slot]).collect();
+        scores.sort_unstable();
+        let Some(&median) = scores.get(scores.len() / 2) else { return Vec::new() };
+        if scores.len() < 2 || median >= self.router.opportunistic_threshold() {
+            return Vec::new();
+        }
+        let better = free.iter().filter(|&&slot| self.scores[slot] > median);
+        better.copied().take(2).collect()
+    }
+}
