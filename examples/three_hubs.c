@@ -112,6 +112,7 @@ static uint64_t id_of(int hub)
     return (uint64_t)hub + 1;
 }
 
+/* a full inbox loses what comes, as a cable would */
 static void send(int from, int to, enum kind kind, uint64_t number)
 {
     struct hub *h = &hubs[to];

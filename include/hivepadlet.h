@@ -28,7 +28,7 @@
  *
  * - The table, HIVEPADLET_CELLS numbers of 64 bits (42,720 bytes), is the whole router. Any number of routers may stand side
  *   by side, one table each. A table may be copied, saved and restored as bytes on the same machine. Only the calls write it;
- *   one that was damaged is refused (12).
+ *   one that damage made no router's is refused (12).
  * - The action list is HIVEPADLET_ACTION_NUMBERS numbers of 32 bits, or more; under that, a call refuses (8). A call writes its
  *   actions from the start of the list and leaves the numbers past them as they were. One list may serve all calls.
  * - Lengths count elements, not bytes.
@@ -59,8 +59,9 @@
  * in order: the router has already changed its mesh and its backoffs accordingly. An answer 0 has the number of actions as its
  * value. Only hivepadlet_leave, hivepadlet_graft and hivepadlet_heartbeat give any, at most one for each peer.
  *
- * To know along whom to pass a topic's messages, keep a note of its mesh: a peer is in after a GRAFT sent, and after a GRAFT from
- * it that is answered 0 with no action; it is out after a PRUNE in either direction, its unsubscribing and its disconnecting.
+ * To know along whom to pass a topic's messages, keep a note of its mesh: a peer is in after a GRAFT sent, and after a GRAFT
+ * from it that is answered 0 with no action; it is out after a PRUNE in either direction, its unsubscribing and its
+ * disconnecting.
  *
  * WHEN TO CALL
  *
@@ -142,7 +143,7 @@ static inline uint32_t hivepadlet_action_seconds(const uint32_t *actions, size_t
 
 /* ---- the parameters: 147 numbers, 19 general ones and 16 for each topic, each within its limits (9: its index)
  *
- * Thresholds, caps and the counters they are compared with are thousandths: 1000 is one point, or one message. Decays are
+ * Where nothing else is said, thresholds and caps are thousandths, of a point or of a message: 1000 is one. Decays are
  * thousandths by which a counter is multiplied at each hivepadlet_decay. */
 
 enum hivepadlet_general {
@@ -171,7 +172,7 @@ enum hivepadlet_of_topic {
     HIVEPADLET_WEIGHT = 0,        /* 0..1000 thousandths */
     HIVEPADLET_W1 = 1,            /* 0..100: weight of P1, time in the mesh */
     HIVEPADLET_P1_QUANTUM = 2,    /* 1..3600000 ms */
-    HIVEPADLET_P1_CAP = 3,        /* 0..1000 */
+    HIVEPADLET_P1_CAP = 3,        /* 0..1000 quanta */
     HIVEPADLET_W2 = 4,            /* 0..100: weight of P2, first deliveries */
     HIVEPADLET_P2_DECAY = 5,      /* 1..999 */
     HIVEPADLET_P2_CAP = 6,        /* 0..10^6 */
@@ -179,7 +180,7 @@ enum hivepadlet_of_topic {
     HIVEPADLET_P3_DECAY = 8,      /* 1..999 */
     HIVEPADLET_P3_CAP = 9,        /* 1..10^6 */
     HIVEPADLET_P3_THRESHOLD = 10, /* 1..10^6 */
-    HIVEPADLET_P3_ACTIVATION = 11, /* 0..3600000 ms in the mesh before P3 counts */
+    HIVEPADLET_P3_ACTIVATION = 11, /* 0..3600000 ms in the mesh, past which P3 counts */
     HIVEPADLET_W3B = 12,          /* -100..0: weight of P3b, the deficit of a member that was pruned */
     HIVEPADLET_P3B_DECAY = 13,    /* 1..999 */
     HIVEPADLET_W4 = 14,           /* -100..0: weight of P4, invalid messages */

@@ -1,6 +1,6 @@
 /*
- * Every number of the header, asked for once through the C ABI, and what a refusal leaves: the table and the action list as they
- * were. Prints each check that fails, and at the end how many passed.
+ * Every number of the header, asked for once through the C ABI, and what a refusal leaves: the table and the action list as
+ * they were. Prints each check that fails, and at the end how many passed.
  */
 #include "hivepadlet.h"
 
