@@ -60,8 +60,8 @@ impl Recorder {
     }
 
     fn connect(&mut self, id: u64) {
-        let flags = if id % 4 == 0 { OUTBOUND_FLAG } else { 0 };
-        let name = if id % 5 == 0 { b"/meshsub/1.0.0" } else { b"/meshsub/1.1.0" };
+        let flags = if id.is_multiple_of(4) { OUTBOUND_FLAG } else { 0 };
+        let name = if id.is_multiple_of(5) { b"/meshsub/1.0.0" } else { b"/meshsub/1.1.0" };
         self.push(Call::Connect { id, group: id / 4, flags, name: name.to_vec() });
         for topic in 0..TOPICS as u64 {
             self.push(Call::Subscribe { id, topic });
