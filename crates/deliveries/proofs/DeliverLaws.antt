@@ -6,15 +6,19 @@ use mathlib.Core.Bool.{Bool, true, false, _&&_}
 use mathlib.Core.List.{List, []}
 use native.Mathlib.Omega.{arith}
 use borrow.Author.Tests.{leb-true}
-use lib.Dec.{eqb, leb}
+use lib.Dec.{leb}
 use Rattle.index.proofs.Index.{both}
 use Rattle.index.proofs.Flags.{cond-case}
 use Rattle.records.specs.declared.TopicRecord.{TopicRecord}
 use Rattle.records.specs.Records.{State, place, topicIn, setTopic, setClock}
 use Rattle.cells.specs.View.{stateOf}
+use Rattle.table.specs.Valid.{valid}
 use Rattle.score.specs.declared.TopicParams.{TopicParams}
 use Rattle.score.specs.Score.{topicParamsIn}
-use Rattle.score.specs.Counters.{firstOf, nearFirstOf, invalidOf}
+use Rattle.score.specs.Ranges.{CountersWithin}
+use Rattle.score.proofs.InputLaws.{counters-within}
+use Rattle.credits.specs.Credits.{creditedOf}
+use Rattle.credits.proofs.CreditLaws.{credited-is}
 use Rattle.effects.specs.Effects.{onTopic}
 use Rattle.rules.specs.declared.Answer.{Answer}
 use Rattle.rules.specs.declared.Answer.the-variants.{Done, Ignored}
@@ -26,31 +30,27 @@ use Rattle.rules.proofs.PromiseLaws.{leaves-moved}
 use Rattle.rules.proofs.StepLaws.{leaves-then, leaves-else}
 use Rattle.rules.proofs.EndLaws.{quiet-peer, leaves-done}
 
--- ---- the kinds
+-- ---- what is credited is what the rules deliver
 
-module _ (kind : ℕ) (t : TopicParams) (r q : TopicRecord) where
-  pub delivered-first : eqb kind 1 ≡ true → q ≡ firstOf t r → q ≡ deliveredOf kind t r
-  unfolding deliveredOf
-  delivered-first a e = rw a e
-
-  pub delivered-near : eqb kind 1 ≡ false → eqb kind 2 ≡ true → q ≡ nearFirstOf t r → q ≡ deliveredOf kind t r
-  unfolding deliveredOf
-  delivered-near a b e = rw (a, b) e
-
-  pub delivered-invalid : eqb kind 1 ≡ false → eqb kind 2 ≡ false → q ≡ invalidOf r → q ≡ deliveredOf kind t r
-  unfolding deliveredOf
-  delivered-invalid a b e = rw (a, b) e
-
--- ---- a delivery that is heard, and one that is not
+credited-delivers :
+    (t : TopicParams) (r : TopicRecord) → CountersWithin t r → (kind : ℕ) → creditedOf kind t r ≡ deliveredOf kind t r
+unfolding deliveredOf
+credited-delivers t r k kind = credited-is t r k kind
 
 pub slot-delivered :
     (st u : State) (t s kind : ℕ) (p : TopicParams) (r q : TopicRecord) →
+    valid st ≡ true →
+    t < 8 →
+    s < 64 →
     r ≡ topicIn st (place s t) →
     p ≡ topicParamsIn st t →
-    q ≡ deliveredOf kind p r →
+    q ≡ creditedOf kind p r →
     u ≡ setTopic st (place s t) q →
     u ≡ onTopic st s t (deliveredOf kind (topicParamsIn st t))
-slot-delivered st u t s kind p r q er ep eq eu = cc
+slot-delivered st u t s kind p r q v l h er ep eq eu =
+    let e = credited-delivers (topicParamsIn st t) (topicIn st (place s t)) (counters-within st v s h t l) kind in cc
+
+-- ---- a delivery that is heard, and one that is not
 
 module _ (table : List ℕ) (time t kind s : ℕ) (a : Answer) (table′ : List ℕ) (heard : Bool) (e : heard ≡ isHeard (stateOf table) t s) where
   pub deliver-heard :

@@ -1,2 +1,3 @@
 pub mod DeliverLaws
 pub mod DecayLaws
+pub mod OneRecord

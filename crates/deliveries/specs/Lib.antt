@@ -1,1 +1,2 @@
 pub mod Decays
+pub mod OneRecord

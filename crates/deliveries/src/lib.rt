@@ -10,8 +10,9 @@ ghost use Rattle.effects.specs.Effects.{onTopic};
 ghost use Rattle.rules.specs.Calls.{deliver as Calls·deliver, decay as Calls·decay};
 ghost use Rattle.rules.specs.Step.{effect, deliveredOf, decayTopic, decayP7, decaySlot, decayReply};
 ghost use Rattle.rules.specs.Promise.{Leaves, Follows};
-ghost use Rattle.gate.specs.Ready.{Ready};
+ghost use Rattle.gate.specs.Ready.{Standing, Ready};
 ghost use Rattle.deliveries.specs.Decays.{Decays};
+use credits::credited;
 use effects::slots::load_size;
 use effects::values::with_p7;
 use gate::admit;
@@ -24,33 +25,18 @@ use gate::topic_ok;
 use index::Found;
 use records::SLOTS;
 use records::TOPICS;
-use records::TopicRecord;
 use rules::Answer;
 use rules::Gate;
-use score::TopicParams;
 use table::find::find_connected;
 
-// Kinds: 1 first, 2 near-first, 3 invalid.
-fn delivered(kind: u64, t: TopicParams, r: TopicRecord) -> TopicRecord
-    ensures { λ q. ⌜ q ≡ deliveredOf kind t r ⌝ }
-{
-    if kind == 1 {
-        return score::counters::first(t, r);
-    }
-    if kind == 2 {
-        return score::counters::near_first(t, r);
-    }
-    score::counters::invalid(r)
-}
-
-// The counters of a slot in a topic, after one delivery.
+// The counters of a slot in a topic, after one delivery. Kinds: 1 first, 2 near-first, 3 invalid.
 fn deliver_slot(table: &mut [u64], topic: usize, slot: usize, kind: u64)
-    requires { ⌜ (length (now table) ≡ cellCount) × ((topic < 8) × (slot < 64)) ⌝ }
+    requires { ⌜ Standing (now table) × ((topic < 8) × (slot < 64)) ⌝ }
     ensures { λ r. ⌜ stateOf (now (table .exit)) ≡ onTopic (stateOf (now (table .entry))) slot topic (deliveredOf kind (topicParamsIn (stateOf (now (table .entry))) topic)) ⌝ }
 {
     let r = cells::load_topic(table, slot * 8 + topic);
-    let t = score::of_slot::load_params(table, topic);
-    cells::store_topic(table, slot * 8 + topic, delivered(kind, t, r));
+    let t = peer_score::load_params(table, topic);
+    cells::store_topic(table, slot * 8 + topic, credited(r, t, kind));
 }
 
 fn deliver_from(table: &mut [u64], time: u64, id: u64, topic: usize, kind: u64) -> Answer
@@ -91,7 +77,7 @@ fn decay_topic(table: &mut [u64], time: u64, slot: usize, topic: usize)
     ensures { λ r. ⌜ stateOf (now (table .exit)) ≡ decayTopic time slot topic (stateOf (now (table .entry))) ⌝ }
 {
     let r = cells::load_topic(table, slot * 8 + topic);
-    let t = score::of_slot::load_params(table, topic);
+    let t = peer_score::load_params(table, topic);
     cells::store_topic(
         table,
         slot * 8 + topic,

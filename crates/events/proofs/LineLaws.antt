@@ -8,9 +8,9 @@ use mathlib.Core.List.{List, [], _∷_, _++_, append-assoc, append-nil}
 use native.Mathlib.Omega.{arith}
 use native.Mathlib.Nat.{zero-add}
 use lib.Dec.{eqb}
-use lib.ListN.{length, getD, drop, length-append}
+use lib.ListN.{length, drop}
 use lib.Seq.{sets, sets-eq}
-use lib.IntN.{ℤ, natAbs}
+use lib.IntN.{ℤ}
 use lib.Signed.{natAbs-le}
 use denote.Enum.Declared.{tagOf}
 use types.Run.{OneOf, miss}
@@ -20,9 +20,8 @@ use mir.Facts.{toZ-ofZ}
 use Rattle.index.specs.Index.{gather}
 use Rattle.index.proofs.Index.{gather-none, gather-more}
 use Rattle.text.specs.Text.{decimal, signedText, Stored}
-use Rattle.text.proofs.TextLaws.{decimal-length, signed-length, stored-then, stored-same}
+use Rattle.text.proofs.TextLaws.{decimal-length, signed-length, stored-then}
 use Rattle.effects.specs.Actions.{Action, numbersOf}
-use Rattle.effects.proofs.ActionLaws.{numbers-length}
 use Rattle.rules.proofs.Answer.{the-type}
 use Rattle.rules.specs.declared.Answer.{Answer}
 use Rattle.rules.specs.declared.Answer.the-variants.{Done, Scored, Early, OutOfRange, NotConnected, AlreadyConnected, NoSlot, UnknownProtocol, NotPermutation, ListShort, Ignored, NotRouter}

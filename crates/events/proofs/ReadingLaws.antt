@@ -2,16 +2,16 @@
 -- Assumes nothing.
 use Prim.Native.Nat.{ℕ, zero, suc, _+_, _-_, _<_, _≤_}
 use mathlib.Core.Path.{_≡_, refl, sym, ap, _∙_}
-use mathlib.Core.Bool.{Bool, true, false, cond, _&&_}
+use mathlib.Core.Bool.{Bool, true, false, _&&_}
 use mathlib.Core.List.{List, [], _∷_, _++_, append-assoc, append-nil}
 use native.Mathlib.Omega.{arith}
 use native.Mathlib.Numerals.{add-one}
-use borrow.Author.Tests.{lt-ltb, le-ltb, le-leb, lt-leb}
-use lib.Dec.{ltb, leb}
-use lib.ListN.{length, take, set, getD, List·getD-eq-default}
+use borrow.Author.Tests.{lt-ltb, le-ltb, lt-leb}
+use lib.Dec.{leb}
+use lib.ListN.{length, take, set, getD, replicate, List·getD-eq-default}
 use lib.Seq.{take-suc-set, getD-set-other}
 use Rattle.index.specs.Index.{every}
-use Rattle.index.proofs.Index.{every-none, every-fails, every-by}
+use Rattle.index.proofs.Index.{every-none, every-fails}
 use Rattle.groups.specs.Groups.{readAt}
 use Rattle.groups.specs.declared.Read.{Read}
 use Rattle.groups.specs.declared.Read.the-variants.{Number, Bad}
@@ -88,13 +88,10 @@ after-all N s from i us at h inv =
     ap (λ (k : ℕ). numbers (take k us) at) h ∙ ap (λ (l : List ℕ). numbers l at) (sym (append-nil (take i us))) ∙ g
 
 -- the array's numbers past those that were read are 0
-pub zeros-none : (k : ℕ) → _≡_ {A = ℕ} (getD (0 ∷ 0 ∷ 0 ∷ 0 ∷ 0 ∷ []) k 0) 0
-zeros-none zero = refl
-zeros-none (suc zero) = refl
-zeros-none (suc (suc zero)) = refl
-zeros-none (suc (suc (suc zero))) = refl
-zeros-none (suc (suc (suc (suc zero)))) = refl
-zeros-none (suc (suc (suc (suc (suc k))))) = refl
+pub zeros-none : (n k : ℕ) → _≡_ {A = ℕ} (getD (replicate n 0) k 0) 0
+zeros-none zero k = refl
+zeros-none (suc n) zero = refl
+zeros-none (suc n) (suc k) = zeros-none n k
 
 pub zeros-more :
     (us : List ℕ) (i u : ℕ) →
@@ -134,7 +131,7 @@ pub short-all :
 unfolding cutShort
 short-all s at h e = rw (lt-ltb (length s - at) 10 h) (sym e)
 
--- ---- how many numbers a kind has: at most five, and none past the table
+-- ---- how many numbers a kind has: at most 67, and none past the table
 abbrev upTo : ℕ → List ℕ → Bool
 upTo m [] = true
 upTo m (x ∷ l) = leb x m && upTo m l
@@ -144,9 +141,9 @@ few m [] t k = omega arith
 few m (x ∷ l) t zero = leb→le x m (and-yes (leb x m) (upTo m l) t .0)
 few m (x ∷ l) t (suc k) = few m l (and-yes (leb x m) (upTo m l) t .1) k
 
-pub arity-most : (kind : ℕ) → arity kind ≤ 5
+pub arity-most : (kind : ℕ) → arity kind ≤ 67
 unfolding arity arities
-arity-most kind = few 5 arities tt kind
+arity-most kind = few 67 arities tt kind
 
 pub arity-past : (kind : ℕ) → 14 ≤ kind → 0 ≡ arity kind
 unfolding arity arities

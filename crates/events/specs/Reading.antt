@@ -1,6 +1,6 @@
 -- Events of a trace (01, "The trace program"): "events as unsigned groups (P5 signed): kind, now, arguments".
 use Prim.Native.Nat.{ℕ, zero, suc, _+_, _-_}
-use mathlib.Core.Bool.{Bool, true, false, cond, _&&_}
+use mathlib.Core.Bool.{Bool, cond, _&&_}
 use mathlib.Core.List.{List, [], _∷_}
 use lib.Dec.{eqb, leb, ltb}
 use lib.ListN.{length, getD, take, drop}
@@ -10,7 +10,7 @@ use Rattle.groups.specs.Codes.{numberOf}
 use Rattle.groups.specs.declared.Read.{Read}
 use Rattle.groups.specs.declared.Read.the-variants.{Number, Bad}
 use Rattle.events.specs.declared.Readings.{Readings}
-use Rattle.rules.specs.Calls.{Call, connect, disconnect, join, leave, subscribe, unsubscribe, graft, prune, deliver, rate, decay, score}
+use Rattle.rules.specs.Calls.{Call, connect, disconnect, join, leave, subscribe, unsubscribe, graft, prune, deliver, rate, heartbeat, decay, score}
 
 -- ---- numbers one after the other
 -- the numbers and the place after them, or the place of the first that cannot be read
@@ -41,15 +41,15 @@ cutShort s at = ltb (length s - at) 10 && every (length s - at) (λ k. leb 128 (
 
 -- ---- one event
 -- how many numbers follow the kind, the time counted: "1 connect id group flags name-length name-bytes; 2 disconnect id; 3 join, 4 leave
--- topic; 5 subscribe, 6 unsubscribe id topic; 7 GRAFT id topic; 8 PRUNE id topic seconds; 9 delivery id topic kind; 10 P5 id value; [..]
--- 12 decay; 13 score id"; 0 for an unknown kind
+-- topic; 5 subscribe, 6 unsubscribe id topic; 7 GRAFT id topic; 8 PRUNE id topic seconds; 9 delivery id topic kind; 10 P5 id value;
+-- 11 tidy topic ask draw; 12 decay; 13 score id"; a draw has 64 numbers; 0 for an unknown kind
 unfoldable pub arities : List ℕ
-arities = 0 ∷ 5 ∷ 2 ∷ 2 ∷ 2 ∷ 3 ∷ 3 ∷ 3 ∷ 4 ∷ 4 ∷ 3 ∷ 0 ∷ 1 ∷ 2 ∷ []
+arities = 0 ∷ 5 ∷ 2 ∷ 2 ∷ 2 ∷ 3 ∷ 3 ∷ 3 ∷ 4 ∷ 4 ∷ 3 ∷ 67 ∷ 1 ∷ 2 ∷ []
 
 unfoldable pub arity : ℕ → ℕ
 arity kind = getD arities kind 0
 
--- the call of a kind, from its numbers and, of a connect, the name
+-- the call of a kind, from its numbers and, of a connect, the name; a tidy's draw is what follows topic and ask
 unfoldable pub callOf : ℕ → List ℕ → List ℕ → Call
 callOf kind us name =
     let time : ℕ = getD us 0 0 in
@@ -66,7 +66,8 @@ callOf kind us name =
     (cond (eqb kind 8) (prune time a b c)
     (cond (eqb kind 9) (deliver time a b c)
     (cond (eqb kind 10) (rate time a (numberOf b))
-    (cond (eqb kind 12) (decay time) (score time a)))))))))))
+    (cond (eqb kind 11) (heartbeat time a b (drop 3 us))
+    (cond (eqb kind 12) (decay time) (score time a))))))))))))
 
 -- what stands at a place
 pub data Event : Type 0 where

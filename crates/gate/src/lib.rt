@@ -79,7 +79,7 @@ pub fn is_negative(table: &[u64], slot: usize) -> bool
     requires { ⌜ Standing (now table) × (slot < 64) ⌝ }
     ensures { λ r. ⌜ r ≡ isNegative (stateOf (now (table .entry))) slot ⌝ }
 {
-    score::sums::is_negative(score::of_slot::score_of(table, slot))
+    score::sums::is_negative(peer_score::score_of(table, slot))
 }
 
 // A non-explicit peer that scores below the graylist threshold (the general number 9).
@@ -89,7 +89,7 @@ pub fn is_graylisted(table: &[u64], slot: usize) -> bool
 {
     let p = cells::load_peer(table, slot);
     (p.explicit == 0)
-        & score::sums::is_below(score::of_slot::score_of(table, slot), load_size(table, 9))
+        & score::sums::is_below(peer_score::score_of(table, slot), load_size(table, 9))
 }
 
 // The topic is joined, and the peer not graylisted.

@@ -51,6 +51,7 @@ fn maintain_topic(
     let m = maintain(degrees(table), v);
     let members = v.members;
     let scores = v.scores;
+    let mesh = m.fifth;
     let seconds = load_size(table, 5);
     let n = write_actions(
         actions,
@@ -65,7 +66,7 @@ fn maintain_topic(
         time,
         end_after(time, seconds),
         members,
-        m.fifth,
+        mesh,
         scores,
     );
     cells::store_clock(table, time);

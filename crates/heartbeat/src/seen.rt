@@ -1,6 +1,6 @@
 // What maintenance sees of a table, by slot, and the numbers of the peers that its actions name. Everything is as at the call's start.
 ghost use mathlib.Core.Path.{_≡_};
-ghost use Prim.Native.Nat.{_≤_, _<_};
+ghost use Prim.Native.Nat.{_<_};
 ghost use mathlib.Core.Bool.{cond};
 ghost use lib.Dec.{eqb};
 ghost use lib.ListN.{length};
@@ -49,7 +49,7 @@ pub fn scores(table: &[u64]) -> [u64; SLOTS]
 {
     let mut r = [0; SLOTS];
     for s in 0..SLOTS {
-        r[s] = score::sums::offset(score::of_slot::score_of(table, s));
+        r[s] = score::sums::offset(peer_score::score_of(table, s));
     }
     r
 }

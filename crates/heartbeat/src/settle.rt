@@ -1,7 +1,5 @@
 // The mesh that maintenance leaves, written back: who was PRUNEd goes out with a backoff, who was grafted comes in.
 ghost use mathlib.Core.Path.{_≡_};
-ghost use Prim.Native.Nat.{_≤_, _<_};
-ghost use lib.ListN.{length};
 ghost use Rattle.index.specs.Index.{iter};
 ghost use Rattle.records.specs.Records.{slotCount};
 ghost use Rattle.cells.specs.View.{stateOf};

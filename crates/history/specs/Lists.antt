@@ -1,5 +1,5 @@
 -- Lists of calls, the last call first: what a whole list leaves, what each call was answered, and which way a peer was connected.
--- A later call joins the list by its constructor (crate rules, specs/Calls.antt); nothing here names one but connect.
+-- A later call joins the list by its constructor (crate rules, specs/Calls.antt) and by a line of `heard`.
 use Prim.Native.Nat.{ℕ, _%_}
 use mathlib.Core.Bool.{Bool, false, cond, _&&_}
 use mathlib.Core.List.{List, [], _∷_}

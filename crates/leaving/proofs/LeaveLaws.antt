@@ -33,6 +33,7 @@ use Rattle.rules.specs.declared.Answer.the-variants.{Done, Ignored}
 use Rattle.rules.specs.Reply.{ignored, done}
 use Rattle.rules.specs.Step.{isNegative, punished, leaveSlot, leaveActions, leaveReply}
 use Rattle.rules.specs.Promise.{Gives}
+use Rattle.rules.proofs.PunishedLaws.{punished-peer, punished-apart, punished-kept}
 use Rattle.rules.proofs.PromiseLaws.{leaves-moved, gives-quiet}
 use Rattle.rules.proofs.StepLaws.{gives-then, gives-else}
 use Rattle.rules.proofs.EndLaws.{leaves-ignored}
@@ -61,39 +62,6 @@ flags-more f l i v b h e k m =
 -- ---- the rules' turn at slot i, seen from another slot j
 
 module _ (st : State) (t : ℕ) (k : t < 8) where
-  punished-peer : (i : ℕ) (u : State) (j : ℕ) → peerIn (punished st t i u) j ≡ peerIn u j
-  unfolding punished
-  punished-peer i u j =
-      cond-case
-      (λ (v : State). peerIn v j ≡ peerIn u j)
-      (isNegative st i)
-      (onTopic u i t (grownOf (topicParamsIn st t)))
-      u
-      (λ e. peer-after-topic u (place i t) _ j)
-      (λ e. refl)
-
-  punished-member : (i : ℕ) (u : State) (j : ℕ) → j ≢ i → isMember (punished st t i u) t j ≡ isMember u t j
-  unfolding punished
-  punished-member i u j n =
-      cond-case
-      (λ (v : State). isMember v t j ≡ isMember u t j)
-      (isNegative st i)
-      (onTopic u i t (grownOf (topicParamsIn st t)))
-      u
-      (λ e. member-apart u i t (grownOf (topicParamsIn st t)) j t (place-slot i t j t k k n))
-      (λ e. refl)
-
-  punished-kept : (i : ℕ) (u : State) → Kept u (punished st t i u)
-  unfolding punished
-  punished-kept i u =
-      cond-case
-      (λ (v : State). Kept u v)
-      (isNegative st i)
-      (onTopic u i t (grownOf (topicParamsIn st t)))
-      u
-      (λ e. kept-topic u (place i t) _)
-      (λ e. kept-self u)
-
   module _ (end : ℕ) where
     turn-peer : (j i : ℕ) (u : State) → i ≢ j → peerIn (leaveSlot st t end i u) j ≡ peerIn u j
     unfolding leaveSlot
@@ -103,7 +71,7 @@ module _ (st : State) (t : ℕ) (k : t < 8) where
         (isMember st t i)
         (pruned (punished st t i u) i t end)
         u
-        (λ e. pruned-other (punished st t i u) i t end j (λ z. n (sym z)) ∙ punished-peer i u j)
+        (λ e. pruned-other (punished st t i u) i t end j (λ z. n (sym z)) ∙ punished-peer st t i u j)
         (λ e. refl)
 
     turn-member : (j i : ℕ) (u : State) → i ≢ j → isMember (leaveSlot st t end i u) t j ≡ isMember u t j
@@ -116,7 +84,7 @@ module _ (st : State) (t : ℕ) (k : t < 8) where
         u
         (λ e.
         pruned-apart (punished st t i u) i t end j t (place-slot i t j t k k (λ z. n (sym z)))
-        ∙ punished-member i u j (λ z. n (sym z)))
+        ∙ punished-apart st t i u j t (place-slot i t j t k k (λ z. n (sym z))))
         (λ e. refl)
 
     turn-kept : (i : ℕ) (u : State) → Kept u (leaveSlot st t end i u)
@@ -127,7 +95,7 @@ module _ (st : State) (t : ℕ) (k : t < 8) where
         (isMember st t i)
         (pruned (punished st t i u) i t end)
         u
-        (λ e. kept-then (punished-kept i u) (kept-pruned (punished st t i u) i t end))
+        (λ e. kept-then (punished-kept st t i u) (kept-pruned (punished st t i u) i t end))
         (λ e. kept-self u)
 
     -- ---- the state before turn i: slot i is as it was at the start
@@ -141,7 +109,7 @@ module _ (st : State) (t : ℕ) (k : t < 8) where
     walk-codes : (i : ℕ) → iter i (leaveSlot st t end) st .codes ≡ st .codes
     walk-codes i = kept-iter (leaveSlot st t end) i st turn-kept .codes
 
-params-same : (a b : State) (t : ℕ) → b .codes ≡ a .codes → topicParamsIn b t ≡ topicParamsIn a t
+pub params-same : (a b : State) (t : ℕ) → b .codes ≡ a .codes → topicParamsIn b t ≡ topicParamsIn a t
 unfolding topicParamsIn codeIn
 params-same a b t e = rw e
 

@@ -45,7 +45,7 @@ pub fn punish(table: &mut [u64], topic: usize, slot: usize, negative: bool)
 {
     if negative {
         let r = cells::load_topic(table, slot * 8 + topic);
-        let t = score::of_slot::load_params(table, topic);
+        let t = peer_score::load_params(table, topic);
         cells::store_topic(table, slot * 8 + topic, score::counters::grown(t, r));
     }
 }

@@ -2,4 +2,3 @@ pub mod StepLaws
 pub mod MaintenanceLaws
 pub mod Bound
 pub mod ActionLaws
-pub mod Examples

@@ -115,6 +115,15 @@ limit-fits f =
     let s = and-yes (ltb (mag (l .low)) (2 ^ 63)) (ltb (mag (l .high)) (2 ^ 63)) (row-at fitting limits (to (pos 0) (pos 0)) tt tt f) in
     (sfits-lit (s .0), sfits-lit (s .1))
 
+pub lies-between :
+    (x : ℤ) (l : Limit) (r : Bool) →
+    SFits w64 x →
+    SFits w64 (l .low) →
+    SFits w64 (l .high) →
+    r ≡ (leZ (toZ w64 (ofZ w64 (l .low))) (toZ w64 (ofZ w64 x)) && leZ (toZ w64 (ofZ w64 x)) (toZ w64 (ofZ w64 (l .high)))) →
+    r ≡ lies x l
+lies-between x l r fx low high e = rw (toZ-ofZ fx, toZ-ofZ low, toZ-ofZ high) at e
+
 pub lies-is :
     (x : ℤ) (f : ℕ) (l : Limit) (r : Bool) →
     SFits w64 x →
@@ -123,7 +132,18 @@ pub lies-is :
     r ≡ lies x (limitAt f)
 lies-is x f l r fx el e =
     let d = limit-fits f in
-    rw (el, toZ-ofZ fx, toZ-ofZ (d .0), toZ-ofZ (d .1)) at e
+    lies-between x l r fx (rw el (d .0)) (rw el (d .1)) e ∙ ap (lies x) el
+
+-- the limits of a field, taken from the table
+pub lies-at :
+    (x : ℤ) (f i : ℕ) (l : Limit) (r : Bool) →
+    l ≡ limitAt f →
+    f ≡ fieldOf i →
+    r ≡ (leZ (toZ w64 (ofZ w64 (l .low))) x && leZ x (toZ w64 (ofZ w64 (l .high)))) →
+    r ≡ lies x (limitAt (fieldOf i))
+lies-at x f i l r el ef e =
+    let d = limit-fits f in
+    (rw (el, toZ-ofZ (d .0), toZ-ofZ (d .1)) at e) ∙ ap (λ (k : ℕ). lies x (limitAt k)) ef
 
 pub outside-is : (xs : List ℤ) (i : ℕ) (r : Bool) → r ≡ lies (at xs i) (limitAt (fieldOf i)) → not r ≡ outside xs i
 unfolding outside inLimits

@@ -438,24 +438,25 @@ impl Params {
     }
 }
 
-// Whether u is the code of a number between the limits of number i.
-fn code_lies(u: u64, i: usize) -> bool
-    requires { ⌜ i < 147 ⌝ }
-    ensures { λ r. ⌜ r ≡ lies (numberOf u) (limitAt (fieldOf i)) ⌝ }
+// Whether u is the code of a number between two limits.
+fn code_lies(u: u64, low: i64, high: i64) -> bool
+    ensures { λ r. ⌜ r ≡ (leZ low (numberOf u) && leZ (numberOf u) high) ⌝ }
 {
-    let l = limit_of(i);
-    between(l.low, groups::number_of(u), l.high)
+    between(low, groups::number_of(u), high)
 }
 
-// Whether 147 codes are those of numbers between their limits.
+// Whether 147 codes are those of numbers between their limits. The table is taken once: a constant is built anew at each use.
 fn codes_lie(codes: &[u64]) -> bool
     requires { ⌜ length (now codes) ≡ 147 ⌝ }
     ensures { λ r. ⌜ r ≡ every 147 (inLimits (map numberOf (now (codes .entry)))) ⌝ }
 {
+    let limits = LIMITS;
     let mut ok = true;
     let mut i: usize = 0;
     while i < 147 {
-        let b = code_lies(codes[i], i);
+        let f = field_of(i);
+        let l = limits[f];
+        let b = code_lies(codes[i], l.low, l.high);
         ok = ok & b;
         i += 1;
     }

@@ -164,7 +164,7 @@ fn score_from(table: &mut [u64], time: u64, id: u64) -> Answer
     let Found::At(slot) = find_connected(table, id) else {
         return Answer::NotConnected;
     };
-    let z = score::sums::signed(score::of_slot::score_of(table, slot));
+    let z = score::sums::signed(peer_score::score_of(table, slot));
     cells::store_clock(table, time);
     Answer::Scored(z)
 }

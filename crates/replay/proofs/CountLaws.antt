@@ -1,31 +1,33 @@
 -- Every reply counts its actions, and gives at most one for each slot.
 -- Assumes nothing.
-use Prim.Native.Nat.{ℕ, zero, suc, _+_, _*_, _≤_}
-use mathlib.Core.Path.{_≡_, refl, sym, ap, _∙_}
+use Prim.Native.Nat.{ℕ, _≤_}
+use mathlib.Core.Path.{_≡_, refl}
 use mathlib.Core.Bool.{Bool, true, false, cond}
-use mathlib.Core.List.{List, [], _∷_, _++_}
+use mathlib.Core.List.{List, []}
 use native.Mathlib.Omega.{arith}
 use lib.Dec.{eqb, leb}
-use lib.ListN.{length, length-append}
-use Rattle.index.specs.Index.{gather}
+use lib.ListN.{length, length-map}
 use Rattle.index.specs.declared.Found.{Found}
 use Rattle.index.specs.declared.Found.the-variants.{At, Nothing}
 use Rattle.index.proofs.Flags.{cond-case}
 use Rattle.records.specs.Records.{State, slotCount, peerIn}
+use Rattle.sets.specs.Sets.{bySlot, isPermutation}
+use Rattle.mesh.specs.Maintenance.{changesOf, actionsOf as toldActions}
 use Rattle.table.specs.Valid.{valid}
 use Rattle.table.specs.Find.{findConnected, findRetained, lowestEmpty}
 use Rattle.table.specs.declared.Named.{Named}
 use Rattle.table.specs.declared.Named.the-variants.{Version, Unknown}
 use Rattle.table.specs.Name.{versionOf}
-use Rattle.effects.specs.Actions.{Action, pruneOf}
-use Rattle.effects.specs.Effects.{isJoined, isMember, backoffRuns, unsubscribeBackoff, reclaimed}
+use Rattle.effects.specs.Actions.{Action}
+use Rattle.effects.specs.Effects.{isJoined, isMember, backoffRuns, reclaimed}
 use Rattle.rules.specs.declared.Answer.{Answer}
-use Rattle.rules.specs.declared.Gate.{Gate}
 use Rattle.rules.specs.declared.Gate.the-variants.{Pass, Refuse}
-use Rattle.rules.specs.declared.Answer.the-variants.{Early, OutOfRange, NotConnected, AlreadyConnected, NoSlot, UnknownProtocol, ListShort, NotRouter}
+use Rattle.rules.specs.declared.Answer.the-variants.{Early, OutOfRange, NotConnected, AlreadyConnected, NoSlot, UnknownProtocol, NotPermutation, ListShort, NotRouter}
 use Rattle.rules.specs.Reply.{Reply, actionsOf, refused, ignored, done}
-use Rattle.rules.specs.Calls.{Call, connect, disconnect, join, leave, subscribe, unsubscribe, graft, prune, deliver, rate, decay, score, timeOf, inRange}
-use Rattle.rules.specs.Step.{actionRoom, isGraylisted, isHeard, graftEnters, gateOf, through, onFound, ofPeer, onVersion, connectAt, connectIn, connectReply, joinReply, leaveActions, leaveReply, subscribeReply, unsubscribeReply, graftRefused, graftOpen, graftBackoff, graftHeard, graftReply, pruneReply, deliverReply, decayReply, effect, step}
+use Rattle.rules.specs.Calls.{Call, connect, disconnect, join, leave, subscribe, unsubscribe, graft, prune, deliver, rate, heartbeat, decay, score, timeOf, inRange}
+use Rattle.rules.specs.Step.{actionRoom, isGraylisted, isHeard, graftEnters, gateOf, through, onFound, ofPeer, onVersion, connectAt, connectIn, connectReply, joinReply, leaveActions, leaveReply, subscribeReply, unsubscribeReply, graftRefused, graftOpen, graftBackoff, graftHeard, graftReply, pruneReply, deliverReply, viewIn, meshesIn, actionIn, heartbeatActions, maintainedReply, heartbeatReply, decayReply, effect, step}
+use Rattle.rules.proofs.HeartbeatLaws.{told-few}
+use Rattle.leaving.proofs.LeaveLaws.{actions-short}
 
 pub record Counted (o : Reply) : Type 0 where
   pub counts : actionsOf (o .answer) ≡ length (o .actions)
@@ -71,26 +73,10 @@ counted-connect st time id group flags name =
     (counted-found (lowestEmpty (reclaimed st time)) _ _ (λ s. counted-quiet _ time) (counted-refused NoSlot st refl))))
     (counted-refused UnknownProtocol st refl)
 
--- at most one of each
-gather-few :
-    (f : ℕ → List Action) (n : ℕ) → ((s : ℕ) → length (f s) ≤ 1) → length (gather n f) ≤ n
-unfolding gather
-gather-few f zero h = omega arith
-gather-few f (suc n) h = omega (arith, length-append (gather n f) (f n), gather-few f n h, h n)
-
-leave-few : (st : State) (t n : ℕ) → length (leaveActions st t n) ≤ n
-unfolding leaveActions
-leave-few st t n =
-    gather-few _ n
-    (λ s.
-    cond-case (λ (l : List Action). length l ≤ 1) (isMember st t s) (pruneOf (peerIn st s) (unsubscribeBackoff st) ∷ []) []
-    (λ e. omega arith)
-    (λ e. omega arith))
-
 counted-leave : (st : State) (time t : ℕ) → Counted (leaveReply st time t)
 unfolding leaveReply
 counted-leave st time t =
-    counted-cond (isJoined st t) _ _ (counted-done _ time (leaveActions st t slotCount) (leave-few st t 64)) (counted-ignored st time)
+    counted-cond (isJoined st t) _ _ (counted-done _ time (leaveActions st t slotCount) (actions-short st t 64)) (counted-ignored st time)
 
 counted-prune-back : (st : State) (time t s : ℕ) → Counted (graftRefused st time t s)
 unfolding graftRefused
@@ -106,29 +92,51 @@ counted-graft st time t s =
     (counted-cond (graftEnters st t s) _ _ (counted-quiet _ time) (counted-prune-back st time t s)))))
     (counted-ignored st time)
 
-counted-effect : (st : State) (c : Call) → Counted (effect st c)
-unfolding effect joinReply subscribeReply unsubscribeReply pruneReply deliverReply decayReply
-counted-effect st (connect time id group flags name) = counted-connect st time id group flags name
-counted-effect st (disconnect time id) = counted-peer st id _ (λ s. counted-quiet _ time)
-counted-effect st (join time t) = counted-cond (isJoined st t) _ _ (counted-ignored st time) (counted-quiet _ time)
-counted-effect st (leave time t) = counted-leave st time t
-counted-effect st (subscribe time id t) =
-    counted-peer st id _ (λ s. counted-cond (isGraylisted st s) _ _ (counted-ignored st time) (counted-quiet _ time))
-counted-effect st (unsubscribe time id t) =
-    counted-peer st id _ (λ s. counted-cond (isGraylisted st s) _ _ (counted-ignored st time) (counted-quiet _ time))
-counted-effect st (graft time id t) = counted-peer st id _ (λ s. counted-graft st time t s)
-counted-effect st (prune time id t seconds) =
-    counted-peer st id _ (λ s. counted-cond (isHeard st t s) _ _ (counted-quiet _ time) (counted-ignored st time))
-counted-effect st (deliver time id t kind) =
-    counted-peer st id _ (λ s. counted-cond (isHeard st t s) _ _ (counted-quiet _ time) (counted-ignored st time))
-counted-effect st (rate time id p5) = counted-peer st id _ (λ s. counted-quiet _ time)
-counted-effect st (decay time) = counted-quiet _ time
-counted-effect st (score time id) = counted-peer st id _ (λ s. record { counts = refl; few = omega arith })
+-- at most one action a slot, of a state that is a router's
+heartbeat-few :
+    (st : State) (time t ask : ℕ) (order : List ℕ) →
+    valid st ≡ true →
+    isPermutation slotCount order ≡ true →
+    length (heartbeatActions st t order (meshesIn st time t ask order)) ≤ 64
+unfolding heartbeatActions viewIn
+heartbeat-few st time t ask order ok right =
+    let acts = toldActions slotCount order (changesOf (bySlot slotCount (isMember st t)) (meshesIn st time t ask order)) in
+    omega (arith, length-map acts (actionIn st), told-few st time t ask order ok right)
 
--- the gate's answers have no action
+counted-heartbeat : (st : State) (time t ask : ℕ) (order : List ℕ) → valid st ≡ true → Counted (heartbeatReply st time t ask order)
+unfolding heartbeatReply maintainedReply
+counted-heartbeat st time t ask order ok =
+    cond-case Counted (isPermutation slotCount order) _ _
+    (λ right.
+    counted-cond (isJoined st t) _ _
+    (counted-done _ time (heartbeatActions st t order (meshesIn st time t ask order)) (heartbeat-few st time t ask order ok right))
+    (counted-ignored st time))
+    (λ wrong. counted-refused NotPermutation st refl)
+
+counted-effect : (st : State) (c : Call) → valid st ≡ true → Counted (effect st c)
+unfolding effect joinReply subscribeReply unsubscribeReply pruneReply deliverReply decayReply
+counted-effect st (connect time id group flags name) ok = counted-connect st time id group flags name
+counted-effect st (disconnect time id) ok = counted-peer st id _ (λ s. counted-quiet _ time)
+counted-effect st (join time t) ok = counted-cond (isJoined st t) _ _ (counted-ignored st time) (counted-quiet _ time)
+counted-effect st (leave time t) ok = counted-leave st time t
+counted-effect st (subscribe time id t) ok =
+    counted-peer st id _ (λ s. counted-cond (isGraylisted st s) _ _ (counted-ignored st time) (counted-quiet _ time))
+counted-effect st (unsubscribe time id t) ok =
+    counted-peer st id _ (λ s. counted-cond (isGraylisted st s) _ _ (counted-ignored st time) (counted-quiet _ time))
+counted-effect st (graft time id t) ok = counted-peer st id _ (λ s. counted-graft st time t s)
+counted-effect st (prune time id t seconds) ok =
+    counted-peer st id _ (λ s. counted-cond (isHeard st t s) _ _ (counted-quiet _ time) (counted-ignored st time))
+counted-effect st (deliver time id t kind) ok =
+    counted-peer st id _ (λ s. counted-cond (isHeard st t s) _ _ (counted-quiet _ time) (counted-ignored st time))
+counted-effect st (rate time id p5) ok = counted-peer st id _ (λ s. counted-quiet _ time)
+counted-effect st (heartbeat time t ask order) ok = counted-heartbeat st time t ask order ok
+counted-effect st (decay time) ok = counted-quiet _ time
+counted-effect st (score time id) ok = counted-peer st id _ (λ s. record { counts = refl; few = omega arith })
+
+-- the gate's answers have no action, and it lets a router's state pass alone
 counted-gate :
     (v f r t : Bool) (st : State) (o : Reply) →
-    Counted o →
+    (v ≡ true → Counted o) →
     Counted
     (through
     (cond v (cond f (cond r (cond t Pass (Refuse Early)) (Refuse ListShort)) (Refuse OutOfRange)) (Refuse NotRouter))
@@ -138,7 +146,7 @@ counted-gate false f r t st o h = counted-refused NotRouter st refl
 counted-gate true false r t st o h = counted-refused OutOfRange st refl
 counted-gate true true false t st o h = counted-refused ListShort st refl
 counted-gate true true true false st o h = counted-refused Early st refl
-counted-gate true true true true st o h = h
+counted-gate true true true true st o h = h refl
 
 pub counted : (st : State) (c : Call) (room : ℕ) → Counted (step st c room)
 unfolding step gateOf

@@ -1,21 +1,51 @@
--- What one event of a trace does to the table and to the lent buffer.
+-- What one event of a trace does to the table, to the lent action list and to the lent buffer.
 use Prim.Native.Nat.{ℕ, _≤_}
 use mathlib.Core.Path.{_≡_}
 use mathlib.Core.Bool.{cond}
-use mathlib.Core.List.{List}
+use mathlib.Core.List.{List, []}
 use lib.Dec.{ltb}
 use lib.ListN.{length}
 use lib.Seq.{sets}
 use Rattle.records.specs.Records.{State}
 use Rattle.cells.specs.View.{stateOf}
+use Rattle.effects.specs.Actions.{Action, numbersOf}
 use Rattle.rules.specs.Reply.{Reply}
-use Rattle.rules.specs.Calls.{Call}
 use Rattle.rules.specs.Step.{step, actionRoom}
+use Rattle.replay.specs.declared.Performed.{Performed}
+use Rattle.replay.specs.declared.Performed.the-variants.{Answered, Unknown, Malformed, CutShort}
 use Rattle.replay.specs.declared.Replayed.{Replayed}
 use Rattle.replay.specs.declared.Replayed.the-variants.{Called, Stopped, Short, Full}
 use Rattle.events.specs.Reading.{Event, event, unknown, malformed, short, eventAt}
 use Rattle.events.specs.Lines.{pairLine, linesOf}
 
+-- ---- the event's call
+-- the answer, the state that is left, and the actions for the lent list
+pub record Performance : Type 0 where
+  pub answer : Performed
+  pub state : State
+  pub actions : List Action
+
+-- the rules' reply to the event's call
+abbrev pub ofReply : Reply → ℕ → Performance
+ofReply o next = record { answer = Answered next (o .answer); state = o .state; actions = o .actions }
+
+-- no call is made
+abbrev pub idle : State → Performed → Performance
+idle st r = record { answer = r; state = st; actions = [] }
+
+unfoldable pub performEvent : State → ℕ → Event → Performance
+performEvent st room (event c next) = ofReply (step st c room) next
+performEvent st room unknown = idle st Unknown
+performEvent st room malformed = idle st Malformed
+performEvent st room short = idle st CutShort
+
+-- what is promised: r is the answer, list is what stood in the lent list, table′ and list′ are what stands in the table and in the list after it
+pub record Performs (o : Performance) (r : Performed) (table′ list list′ : List ℕ) : Type 0 where
+  pub answer : r ≡ o .answer
+  pub state : stateOf table′ ≡ o .state
+  pub actions : list′ ≡ sets list 0 (numbersOf (o .actions))
+
+-- ---- the same, printed
 -- the answer, the state that is left, and the buffer's bytes
 pub record Outcome : Type 0 where
   pub answer : Replayed

@@ -1,13 +1,14 @@
 // One event of a trace: read from a window of bytes, called on the lent table, and answered in text in a lent buffer.
 ghost use mathlib.Core.Path.{_≡_};
 ghost use mathlib.Core.Logic.{_≢_};
-ghost use mathlib.Core.List.{List, []};
-ghost use Prim.Native.Nat.{ℕ, _≤_};
+ghost use mathlib.Core.Bool.{cond};
+ghost use mathlib.Core.List.{[]};
 ghost use lib.ListN.{length};
 ghost use Rattle.cells.specs.View.{stateOf};
 ghost use Rattle.rules.specs.Promise.{Follows};
-ghost use Rattle.events.specs.Reading.{event, callOf, unread as unreadAt, named, ofNumbers, numbersFrom};
-ghost use Rattle.replay.specs.Replay.{Replays, stopped, replayEvent, replayOf};
+ghost use Rattle.events.specs.Reading.{arity as arityOf, callOf, cutShort, named, ofNumbers, numbersFrom, eventAt};
+ghost use Rattle.replay.specs.declared.Performed.the-variants.{Malformed, CutShort};
+ghost use Rattle.replay.specs.Replay.{performEvent, Performs, Replays, replayOf};
 use events::lines::put_pair;
 use events::lines::put_reply;
 use events::reading::arity;
@@ -19,7 +20,19 @@ use rules::Answer;
 // How many bytes one event may print.
 const LINE_ROOM: usize = 4096;
 
-// What became of one event.
+// What became of one event's call.
+pub enum Performed {
+    // it was made: the place after the event, and the answer
+    Answered(usize, Answer),
+    // the kind is not known
+    Unknown,
+    // no further bytes make it an event
+    Malformed,
+    // the bytes end inside the event
+    CutShort,
+}
+
+// What became of one event that is printed.
 pub enum Replayed {
     // it was called: the place after it, and how many bytes were printed
     Called(usize, usize),
@@ -32,8 +45,8 @@ pub enum Replayed {
 }
 
 // The calls that come from peers, and decay and score.
-fn call_peer(table: &mut [u64; 5340], kind: u64, v: [u64; 5], actions: &mut [u32]) -> Answer
-    requires { ⌜ (kind ≢ 1) × ((kind ≢ 3) × ((kind ≢ 4) × ((kind ≢ 5) × (kind ≢ 6)))) ⌝ }
+fn call_peer(table: &mut [u64; 5340], kind: u64, v: [u64; 67], actions: &mut [u32]) -> Answer
+    requires { ⌜ (kind ≢ 1) × ((kind ≢ 3) × ((kind ≢ 4) × ((kind ≢ 5) × ((kind ≢ 6) × (kind ≢ 11))))) ⌝ }
     ensures { λ r. ⌜ Follows (callOf kind v []) r (now (table .entry)) (now (table .exit)) (now (actions .entry)) (now (actions .exit)) ⌝ }
 {
     let time = v[0];
@@ -52,7 +65,7 @@ fn call_peer(table: &mut [u64; 5340], kind: u64, v: [u64; 5], actions: &mut [u32
 }
 
 // Every call but connect.
-fn call(table: &mut [u64; 5340], kind: u64, v: [u64; 5], actions: &mut [u32]) -> Answer
+fn call(table: &mut [u64; 5340], kind: u64, v: [u64; 67], actions: &mut [u32]) -> Answer
     requires { ⌜ kind ≢ 1 ⌝ }
     ensures { λ r. ⌜ Follows (callOf kind v []) r (now (table .entry)) (now (table .exit)) (now (actions .entry)) (now (actions .exit)) ⌝ }
 {
@@ -64,97 +77,98 @@ fn call(table: &mut [u64; 5340], kind: u64, v: [u64; 5], actions: &mut [u32]) ->
         4 => router::leave(table, time, a, actions),
         5 => router::subscribe(table, time, a, b, actions),
         6 => router::unsubscribe(table, time, a, b, actions),
+        11 => router::heartbeat(table, time, a, b, &v[3..67], actions),
         _ => call_peer(table, kind, v, actions),
     }
 }
 
-// The trace stops with a number. No table is touched: this holds of every table.
-fn stop(out: &mut [u8], n: u64) -> Replayed
-    requires { ⌜ 4096 ≤ length (now out) ⌝ }
-    ensures { λ r. ⌜ ((table : List ℕ) → Replays (stopped (stateOf table) n (now (out .entry))) r table (now (out .exit))) ⌝ }
-{
-    Replayed::Stopped(put_pair(out, 0, n, 0))
-}
-
-// A number that cannot be read: with more bytes it may be whole, or it is malformed. No table is touched.
-fn unread(s: &[u8], at: usize, out: &mut [u8]) -> Replayed
-    requires { ⌜ 4096 ≤ length (now out) ⌝ }
-    ensures { λ r. ⌜ ((table : List ℕ) → Replays (replayEvent (stateOf table) (now (out .entry)) (unreadAt (now (s .entry)) at)) r table (now (out .exit))) ⌝ }
+// A number that cannot be read: with more bytes it may be whole, or it is malformed.
+fn unread(s: &[u8], at: usize) -> Performed
+    ensures { λ r. ⌜ r ≡ cond (cutShort (now (s .entry)) at) CutShort Malformed ⌝ }
 {
     if cut_short(s, at) {
-        return Replayed::Short;
+        return Performed::CutShort;
     }
-    stop(out, 10)
+    Performed::Malformed
 }
 
 // A connect, whose name follows its numbers.
-fn connect(table: &mut [u64; 5340], s: &[u8], v: [u64; 5], at: usize, out: &mut [u8]) -> Replayed
-    requires { ⌜ 4096 ≤ length (now out) ⌝ }
-    ensures { λ r. ⌜ Replays (replayEvent (stateOf (now (table .entry))) (now (out .entry)) (named (now (s .entry)) v at)) r (now (table .exit)) (now (out .exit)) ⌝ }
+fn connect(
+    table: &mut [u64; 5340],
+    s: &[u8],
+    v: [u64; 67],
+    at: usize,
+    actions: &mut [u32],
+) -> Performed
+    ensures { λ r. ⌜ Performs (performEvent (stateOf (now (table .entry))) (length (now (actions .entry))) (named (now (s .entry)) v at)) r (now (table .exit)) (now (actions .entry)) (now (actions .exit)) ⌝ }
 {
     let size = v[4];
     if 64 < size {
-        return stop(out, 10);
+        return Performed::Malformed;
     }
     let n = size as usize;
     if s.len() < at {
-        return Replayed::Short;
+        return Performed::CutShort;
     }
     if s.len() - at < n {
-        return Replayed::Short;
+        return Performed::CutShort;
     }
-    let mut actions = [0u32; 192];
     let next = at + n;
-    let a = router::connect(table, v[0], v[1], v[2], v[3], &s[at..next], &mut actions);
-    Replayed::Called(next, put_reply(out, a, &actions))
-}
-
-fn other(table: &mut [u64; 5340], kind: u64, v: [u64; 5], next: usize, out: &mut [u8]) -> Replayed
-    requires { ⌜ (kind ≢ 1) × (4096 ≤ length (now out)) ⌝ }
-    ensures { λ r. ⌜ Replays (replayEvent (stateOf (now (table .entry))) (now (out .entry)) (event (callOf kind v []) next)) r (now (table .exit)) (now (out .exit)) ⌝ }
-{
-    let mut actions = [0u32; 192];
-    let a = call(table, kind, v, &mut actions);
-    Replayed::Called(next, put_reply(out, a, &actions))
+    let a = router::connect(table, v[0], v[1], v[2], v[3], &s[at..next], actions);
+    Performed::Answered(next, a)
 }
 
 // The event of a known kind whose n numbers start at a place.
-fn replay_kind(
+fn perform_kind(
     table: &mut [u64; 5340],
     s: &[u8],
     kind: u64,
     at: usize,
     n: usize,
-    out: &mut [u8],
-) -> Replayed
-    requires { ⌜ (n ≤ 5) × (4096 ≤ length (now out)) ⌝ }
-    ensures { λ r. ⌜ Replays (replayEvent (stateOf (now (table .entry))) (now (out .entry)) (ofNumbers (now (s .entry)) kind (numbersFrom n (now (s .entry)) at))) r (now (table .exit)) (now (out .exit)) ⌝ }
+    actions: &mut [u32],
+) -> Performed
+    requires { ⌜ n ≡ arityOf kind ⌝ }
+    ensures { λ r. ⌜ Performs (performEvent (stateOf (now (table .entry))) (length (now (actions .entry))) (ofNumbers (now (s .entry)) kind (numbersFrom n (now (s .entry)) at))) r (now (table .exit)) (now (actions .entry)) (now (actions .exit)) ⌝ }
 {
     let us = read_numbers(s, at, n);
     let place = us.place;
     if !us.ok {
-        return unread(s, place, out);
+        return unread(s, place);
     }
     let v = us.values;
     if kind == 1 {
-        return connect(table, s, v, place, out);
+        return connect(table, s, v, place, actions);
     }
-    other(table, kind, v, place, out)
+    Performed::Answered(place, call(table, kind, v, actions))
 }
 
-// The event at a place.
+// The call of the event at a place.
+pub fn perform(table: &mut [u64; 5340], s: &[u8], at: usize, actions: &mut [u32]) -> Performed
+    ensures { λ r. ⌜ Performs (performEvent (stateOf (now (table .entry))) (length (now (actions .entry))) (eventAt (now (s .entry)) at)) r (now (table .exit)) (now (actions .entry)) (now (actions .exit)) ⌝ }
+{
+    let Read::Number(kind, next) = groups::read_u64(s, at) else {
+        return unread(s, at);
+    };
+    let n = arity(kind);
+    if n == 0 {
+        return Performed::Unknown;
+    }
+    perform_kind(table, s, kind, next, n, actions)
+}
+
+// The event at a place, called and printed.
 pub fn replay(table: &mut [u64; 5340], s: &[u8], at: usize, out: &mut [u8]) -> Replayed
     ensures { λ r. ⌜ Replays (replayOf (stateOf (now (table .entry))) (now (s .entry)) at (now (out .entry))) r (now (table .exit)) (now (out .exit)) ⌝ }
 {
     if out.len() < LINE_ROOM {
         return Replayed::Full;
     }
-    let Read::Number(kind, next) = groups::read_u64(s, at) else {
-        return unread(s, at, out);
-    };
-    let n = arity(kind);
-    if n == 0 {
-        return stop(out, 2);
+    let mut actions = [0u32; 192];
+    let done = perform(table, s, at, &mut actions);
+    match done {
+        Performed::Answered(next, a) => Replayed::Called(next, put_reply(out, a, &actions)),
+        Performed::Unknown => Replayed::Stopped(put_pair(out, 0, 2, 0)),
+        Performed::Malformed => Replayed::Stopped(put_pair(out, 0, 10, 0)),
+        Performed::CutShort => Replayed::Short,
     }
-    replay_kind(table, s, kind, next, n, out)
 }

@@ -5,6 +5,7 @@ pub use control::graft;
 pub use control::prune;
 pub use deliveries::decay;
 pub use deliveries::deliver;
+pub use heartbeat::heartbeat;
 pub use leaving::leave;
 pub use peers::connect;
 pub use peers::disconnect;

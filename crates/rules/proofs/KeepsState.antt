@@ -7,8 +7,6 @@ use mathlib.Core.Path.{_≡_, refl, ap, _∙_}
 use mathlib.Core.Bool.{Bool, true, false, cond}
 use mathlib.Core.Logic.{_≢_}
 use lib.ListN.{length}
-use Rattle.index.specs.declared.Found.{Found}
-use Rattle.index.specs.declared.Found.the-variants.{At, Nothing}
 use Rattle.index.proofs.Flags.{cond-case}
 use Rattle.records.specs.declared.Peer.{Peer}
 use Rattle.records.specs.declared.TopicRecord.{TopicRecord}
@@ -17,15 +15,13 @@ use Rattle.cells.specs.View.{Sized}
 use Rattle.cells.proofs.StateLaws.{sized-clock, sized-joined, sized-peer, sized-topic, peer-after-topic}
 use Rattle.params.proofs.ParamLaws.{General, general}
 use Rattle.table.specs.Valid.{maxTime, maxEnd, maxRetain, topicParam, cap2, cap3, valid}
-use Rattle.table.specs.Find.{findConnected}
 use Rattle.table.proofs.ValidLaws.{PeerFacts, TopicFacts, Facts, valid-facts, facts-valid}
 use Rattle.table.proofs.Keeps.{ids-apart, facts-clock, facts-peer, facts-topic, facts-joined}
-use Rattle.table.proofs.FindLaws.{connected-at}
 use Rattle.effects.specs.Effects.{withEnd, withP7, onPeer, outOfMesh, pruned, endAfter, pruneBackoff, unsubscribeBackoff, retainSeconds}
 use Rattle.effects.proofs.EffectLaws.{ends-with}
-use Rattle.rules.specs.declared.Answer.the-variants.{NotConnected}
-use Rattle.rules.specs.Reply.{Reply, refused}
-use Rattle.rules.specs.Step.{ofPeer, onFound}
+use Rattle.rules.specs.Reply.{Reply}
+use Rattle.rules.specs.Step.{ofPeer}
+use Rattle.rules.proofs.CaseLaws.{by-peer}
 use Rattle.rules.proofs.KeepsRecord.{topic-out, peer-end, peer-p7}
 
 -- what a call has to leave; every table's state has the sizes
@@ -216,8 +212,4 @@ pub of-peer :
     Router st →
     ((s : ℕ) → s < 64 → peerIn st s .status ≡ 1 → Router (f s .state)) →
     Router (ofPeer st id f .state)
-of-peer st id f v h = go (findConnected st id) refl
-  where
-    go : (r : Found) → findConnected st id ≡ r → Router (onFound r f (refused NotConnected st) .state)
-    go (At s) e = let q = connected-at st id s e in h s (q .0) (q .1)
-    go Nothing e = v
+of-peer st id f v h = by-peer (λ (r : Reply). Router (r .state)) st id f v h

@@ -21,6 +21,7 @@ use Rattle.effects.proofs.Walks.{iter-before, iter-once}
 use Rattle.effects.proofs.EffectLaws.{on-peer, place-slot, member-apart, pruned-apart, pruned-member, pruned-reads}
 use Rattle.rules.specs.Reply.{ignored, done}
 use Rattle.rules.specs.Step.{isNegative, isGraylisted, isHeard, joinReply, punished, leaveSlot, leaveReply, subscribeReply, unsubscribeReply, graftRefused, graftEnters, meshFull, graftOpen, graftBackoff, graftHeard, graftReply, secondsOf, pruneReply}
+use Rattle.rules.proofs.PunishedLaws.{punished-apart}
 use Rattle.rules.proofs.KeepsRecord.{topic-left, topic-subscribed, topic-in, topic-counted}
 use Rattle.rules.proofs.KeepsState.{Router, RouterAt, Fits, router-end, latest, peer-of, topic-of, end-most, prune-most, leave-most, router-topic, router-joined, router-backoff, router-p7, router-pruned, Walked, walk-none, walk-topic, either}
 
@@ -123,11 +124,11 @@ module _ (time : ℕ) (st : State) (g : RouterAt time st) (t : ℕ) (k : t < 8) 
 
 -- ---- leave: every member by slot
 module _ (time : ℕ) (st : State) (g : RouterAt time st) (t : ℕ) (k : t < 8) (end : ℕ) (b : end ≤ maxEnd) where
-  member-on : (s : ℕ) → s < 64 → isMember st t s ≡ true → peerIn st s .status ≡ 1
+  pub member-on : (s : ℕ) → s < 64 → isMember st t s ≡ true → peerIn st s .status ≡ 1
   unfolding isMember
   member-on s h m = topic-of time st g s t h k .inside (eqb-true (topicIn st (place s t) .member) 1 m) .0
 
-  walk-punished :
+  pub walk-punished :
       (s : ℕ) (u : State) → s < 64 → peerIn st s .status ≡ 1 → Walked time st u → Walked time st (punished st t s u)
   unfolding punished grownOf
   walk-punished s u h on w =
@@ -139,7 +140,7 @@ module _ (time : ℕ) (st : State) (g : RouterAt time st) (t : ℕ) (k : t < 8) 
       (topic-counted _ _ _ _ _ _ r f (w .status s ∙ on) (r .p2) (r .p3) (r .p4) _ (f .p2) (f .p3) (f .p4) (omega arith) (latest time u (w .at))))
       (λ e. w)
 
-  walk-pruned :
+  pub walk-pruned :
       (s : ℕ) (u : State) → s < 64 → peerIn st s .status ≡ 1 → Walked time st u → Walked time st (pruned u s t end)
   unfolding withEnd
   walk-pruned s u h on w =
@@ -168,9 +169,7 @@ module _ (time : ℕ) (st : State) (g : RouterAt time st) (t : ℕ) (k : t < 8) 
       cond-case (λ (v : State). isMember v t s ≡ isMember u t s) (isMember st t i) (pruned (punished st t i u) i t end) u
       (λ m.
       pruned-apart (punished st t i u) i t end s t apart
-      ∙ cond-case (λ (v : State). isMember v t s ≡ isMember u t s) (isNegative st i) (onTopic u i t (grownOf (topicParamsIn st t))) u
-      (λ e. member-apart u i t (grownOf (topicParamsIn st t)) s t apart)
-      (λ e. refl))
+      ∙ punished-apart st t i u s t apart)
       (λ m. refl)
 
   none-left : (s : ℕ) → s < 64 → isMember (iter 64 (leaveSlot st t end) st) t s ≡ false

@@ -1,10 +1,14 @@
 pub mod GateLaws
 pub mod PromiseLaws
 pub mod StepLaws
+pub mod CaseLaws
+pub mod PunishedLaws
+pub mod HeartbeatLaws
 pub mod KeepsRecord
 pub mod KeepsState
 pub mod KeepsTopic
 pub mod KeepsPeer
 pub mod KeepsDecay
-pub mod Examples
+pub mod KeepsHeartbeat
+pub mod Keeps
 pub mod EndLaws

@@ -7,4 +7,3 @@ pub mod CounterLaws
 pub mod InputLaws
 pub mod SlotLaws
 pub mod ScoreLaws
-pub mod Examples

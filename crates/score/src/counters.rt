@@ -1,10 +1,8 @@
-// Deliveries, P3b's growth and decay, on one record by value (specs/Counters.antt).
+// Growth and decay of counters, on one record by value (specs/Counters.antt). What a delivery adds is crate credits.
 ghost use mathlib.Core.Path.{_≡_};
 ghost use Prim.Native.Nat.{_+_, _*_, _<_, _≤_, _/_, min};
-ghost use mathlib.Core.Bool.{cond};
-ghost use lib.Dec.{eqb};
 ghost use Rattle.score.specs.Ranges.{TopicParamsIn, CountersIn};
-ghost use Rattle.score.specs.Counters.{raisedOf, firstOf, nearFirstOf, invalidOf, grownOf, fadedOf, meshOf, decayedOf};
+ghost use Rattle.score.specs.Counters.{raisedOf, grownOf, fadedOf, meshOf, decayedOf};
 use crate::TopicParams;
 use crate::topic::excess;
 use crate::topic::part3;
@@ -22,43 +20,11 @@ fn sum_to(most: u64, x: u64, step: u64) -> u64
     most
 }
 
-// A counter after 1000 thousandths more. P7's most is 10^6, as P4's.
+// A counter after 1000 thousandths more. P7's most is 10^6.
 pub fn raised(x: u64, most: u64) -> u64
     ensures { λ r. ⌜ r ≡ raisedOf x most ⌝ }
 {
     sum_to(most, x, 1000)
-}
-
-// P3's counter of a peer, of which only a member's rises.
-fn raised3(member: u64, x: u64, cap: u64) -> u64
-    ensures { λ r. ⌜ r ≡ cond (eqb member 1) (raisedOf x cap) x ⌝ }
-{
-    if member == 1 { raised(x, cap) } else { x }
-}
-
-pub fn first(t: TopicParams, r: TopicRecord) -> TopicRecord
-    ensures { λ q. ⌜ q ≡ firstOf t r ⌝ }
-{
-    let mut q = r;
-    q.p2 = raised(r.p2, t.cap2);
-    q.p3 = raised3(r.member, r.p3, t.cap3);
-    q
-}
-
-pub fn near_first(t: TopicParams, r: TopicRecord) -> TopicRecord
-    ensures { λ q. ⌜ q ≡ nearFirstOf t r ⌝ }
-{
-    let mut near = r;
-    near.p3 = raised3(r.member, r.p3, t.cap3);
-    near
-}
-
-pub fn invalid(r: TopicRecord) -> TopicRecord
-    ensures { λ q. ⌜ q ≡ invalidOf r ⌝ }
-{
-    let mut q = r;
-    q.p4 = raised(r.p4, 1000000);
-    q
 }
 
 // A PRUNE of a member with a negative score: P3b grows by P3 as it stands.

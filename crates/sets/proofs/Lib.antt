@@ -5,3 +5,4 @@ pub mod SetLaws
 pub mod PermutationLaws
 pub mod SwapLaws
 pub mod MedianLaws
+pub mod SlotLaws

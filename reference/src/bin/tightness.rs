@@ -17,9 +17,10 @@ const TRACES: &str = "traces";
 
 /// What a list shows, said as it was reached, or why it was not.
 type Shown = Result<String, String>;
+type Shows = fn(&Watch) -> Shown;
 
 /// A trace that both programs accept, and what it shows.
-const LISTS: [(&str, fn(&Watch) -> Shown); 4] = [
+const LISTS: [(&str, Shows); 4] = [
     ("inbound_crowd", most_inbound),
     ("few_outbound", few_outbound),
     ("small_pool", small_pool),
@@ -67,7 +68,7 @@ fn main() -> ExitCode {
 }
 
 /// A list in both programs, which print the same and keep demand 3.
-fn accepted(program: &str, folder: &str, name: &str, shows: fn(&Watch) -> Shown) -> Shown {
+fn accepted(program: &str, folder: &str, name: &str, shows: Shows) -> Shown {
     let trace = watch::with_scores(&read(folder, name)?);
     let printed = printed_by_both(program, &trace)?;
     let watch = watch::follow(&trace, &printed)?;

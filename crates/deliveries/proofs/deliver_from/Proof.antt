@@ -21,7 +21,7 @@ is-heard-requires c κs =
 deliver-slot-requires : tie.Need-deliver-slot-requires
 deliver-slot-requires c κs =
     let start = c .before .before .before .before .before .before .before .before .before .before in
-    (start .pre .0 .standing .size, (start .pre .1, omega (arith, found-below _ _ _ _ (c .before .before .before .before .before .before .before .find-connected .ensures) (c .before .before .before .before .before .slot .given .1))))
+    (start .pre .0 .standing, (start .pre .1, omega (arith, found-below _ _ _ _ (c .before .before .before .before .before .before .before .find-connected .ensures) (c .before .before .before .before .before .slot .given .1))))
 
 returns-2 : tie.Need-returns-2
 unfolding effect

@@ -6,7 +6,7 @@ use Rattle.gate.proofs.is_negative.Statement.{statement}
 use Rattle.gate.proofs.is_negative.Tie as tie
 use Rattle.gate.proofs.is_negative.Reads as reads
 use Rattle.gate.proofs.is_negative.Lts as lts
-use Rattle.score.proofs.of_slot.score_of.Reads as score-of-reads
+use Rattle.peer_score.proofs.score_of.Reads as score-of-reads
 use Rattle.score.proofs.sums.is_negative.Reads as is-negative-reads
 
 -- src/lib.rt:82:30

@@ -1,13 +1,13 @@
 -- `replay::call`: each arm is the call of its kind.
 use borrow.Author.Needs.{needs}
-use Rattle.replay.proofs.ReplayLaws.{follows-as, call-3, call-4, call-5, call-6}
+use Rattle.replay.proofs.ReplayLaws.{follows-as, call-3, call-4, call-5, call-6, call-11}
 use Rattle.replay.proofs.call.Statement.{statement}
 use Rattle.replay.proofs.call.Tie as tie
 
 call-peer-requires : tie.Need-call-peer-requires
 call-peer-requires c κs =
     let r = c .before .before .match .rest in
-    (c .before .before .before .before .pre, (r .0 .0 .0 .1, (r .0 .0 .1, (r .0 .1, r .1))))
+    (c .before .before .before .before .pre, (r .0 .0 .0 .0 .1, (r .0 .0 .0 .1, (r .0 .0 .1, (r .0 .1, r .1)))))
 
 returns : tie.Need-returns
 returns c =
@@ -30,7 +30,12 @@ returns-4 c =
     follows-as _ _ _ _ _ _ _ (call-6 (s .args .kind) (s .args .t3) (c .before .before .before .before .before .match .keys4)) (c .before .before .unsubscribe .ensures)
 
 returns-5 : tie.Need-returns-5
-returns-5 c = c .before .before .call-peer .ensures
+returns-5 c =
+    let s = c .before .before .before .before .before .before .before .before .before in
+    follows-as _ _ _ _ _ _ _ (call-11 (s .args .kind) (s .args .t3) (search needs) (c .before .before .before .before .before .before .before .match .keys5)) (c .before .before .heartbeat .ensures)
+
+returns-6 : tie.Need-returns-6
+returns-6 c = c .before .before .call-peer .ensures
 
 pub call-spec : {M : Type 1} → statement M
 call-spec =
@@ -43,6 +48,10 @@ call-spec =
     (λ c κs. tt)
     (λ c κs. tt)
     (λ c κs. tt)
+    (λ c. search needs)
+    (λ c. search needs)
+    (λ c. search needs)
+    (λ c κs. tt)
     call-peer-requires
     (λ c. search needs)
     returns
@@ -53,4 +62,6 @@ call-spec =
     (λ c. search needs)
     returns-4
     (λ c. search needs)
-    returns-5)
+    returns-5
+    (λ c. search needs)
+    returns-6)

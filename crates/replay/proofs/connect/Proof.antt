@@ -1,13 +1,12 @@
 -- `replay::connect`: too long a name, two ways of being short, or the call.
 use borrow.Author.Needs.{needs}
 use native.Mathlib.Omega.{arith}
-use mathlib.Core.Path.{refl}
-use Rattle.replay.proofs.ReplayLaws.{few-actions, connect-long, connect-short, connect-called}
+use Rattle.replay.proofs.ReplayLaws.{connect-long, connect-short, connect-called}
 use Rattle.replay.proofs.connect.Statement.{statement}
 use Rattle.replay.proofs.connect.Tie as tie
 
 returns : tie.Need-returns
-returns c = connect-long _ _ _ _ _ _ _ (c .before .before .before .before .if1 .taken) (c .before .before .stop .ensures _)
+returns c = connect-long _ _ _ _ _ (c .if1 .taken)
 
 returns-2 : tie.Need-returns-2
 returns-2 c =
@@ -20,21 +19,16 @@ returns-3 c =
     let g = c .before .if2 .left in
     connect-short _ _ _ _ _ (c .before .before .if1 .left) (omega arith)
 
-put-reply-requires : tie.Need-put-reply-requires
-put-reply-requires c κs = (search needs, few-actions _ _ _ _ _ _ (c .before .before .before .connect .ensures), search needs)
-
 returns-4 : tie.Need-returns-4
 returns-4 c =
-    let h = c .before .before .before .before .before .before .before .before .before .before .if3 .left in
-    let g = c .before .before .before .before .before .before .before .before .before .before .before .if2 .left in
-    connect-called _ _ _ _ _ _ _ _ _ _ _ (c .before .before .before .before .before .before .before .before .before .before .before .before .if1 .left) (omega arith) refl (c .before .before .before .before .before .before .connect .ensures) (c .before .before .put-reply .ensures)
+    let h = c .before .before .before .before .before .before .if3 .left in
+    let g = c .before .before .before .before .before .before .before .if2 .left in
+    connect-called _ _ _ _ _ _ _ _ (c .before .before .before .before .before .before .before .before .if1 .left) (omega arith) (c .before .before .connect .ensures)
 
 pub connect-spec : {M : Type 1} → statement M
 connect-spec =
     tie.close
     (tie.spec
-    (λ c. search needs)
-    (λ c κs. search needs)
     (λ c. search needs)
     returns
     returns-2
@@ -48,9 +42,6 @@ connect-spec =
     (λ c. search needs)
     (λ c. search needs)
     (λ c. search needs)
-    (λ c. search needs)
     (λ c κs. tt)
-    (λ c. search needs)
-    put-reply-requires
     (λ c. search needs)
     returns-4)

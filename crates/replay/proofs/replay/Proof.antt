@@ -1,43 +1,60 @@
--- `replay::replay`: no room, no kind, an unknown one, or the event.
+-- `replay::replay`: no room, or what became of the event's call, printed.
 use borrow.Author.Needs.{needs}
-use Rattle.replay.proofs.ReplayLaws.{replay-full, replay-bad, replay-unknown, replay-known}
+use mathlib.Core.Path.{refl}
+use Rattle.replay.proofs.ReplayLaws.{few-actions, event-called, event-unknown, event-malformed, event-short, replay-event, replay-full}
 use Rattle.replay.proofs.replay.Statement.{statement}
 use Rattle.replay.proofs.replay.Tie as tie
 
 returns : tie.Need-returns
 returns c = replay-full _ _ _ _ (c .if1 .taken)
 
+put-reply-requires : tie.Need-put-reply-requires
+put-reply-requires c κs =
+    (search needs, few-actions _ _ _ _ _ _ (c .before .before .before .before .before .before .perform .ensures) _ _ (c .before .before .before .done .given .1), search needs)
+
 returns-2 : tie.Need-returns-2
-returns-2 c = replay-bad _ _ _ _ _ _ _ _ (c .before .before .before .before .before .before .before .if1 .left) (c .before .before .before .before .before .before .read-u64 .ensures) (c .before .before .before .before .enum-told .given .1) (c .before .before .unread .ensures _)
+returns-2 c =
+    let p = c .before .before .before .before .before .before .before .before .before .perform in
+    replay-event _ _ _ _ _ _ _ (c .before .before .before .before .before .before .before .before .before .before .before .before .if1 .left)
+    (event-called _ _ _ _ _ _ (p .ensures) _ _ _ _ _ refl (c .before .before .before .before .before .before .done .given .1) (c .before .before .put-reply .ensures))
 
 returns-3 : tie.Need-returns-3
 returns-3 c =
-    replay-unknown _ _ _ _ _ _ _ _ (c .before .before .before .before .before .before .before .before .before .before .if1 .left) (c .before .before .before .before .before .before .before .before .before .read-u64 .ensures) _ _ _ (c .before .before .before .before .before .before .before .kind .given .1) (c .before .before .before .before .before .arity .ensures .0) (c .before .before .before .before .if2 .taken)
-    (c .before .before .stop .ensures _)
-
-replay-kind-requires : tie.Need-replay-kind-requires
-replay-kind-requires c κs = (c .before .before .before .arity .ensures .1, search needs)
+    let p = c .before .before .before .before .before .before .before .perform in
+    replay-event _ _ _ _ _ _ _ (c .before .before .before .before .before .before .before .before .before .before .if1 .left)
+    (event-unknown _ _ _ _ _ _ (p .ensures) _ _ _ (c .before .before .before .before .enum-told .given .1) (c .before .before .put-pair .ensures))
 
 returns-4 : tie.Need-returns-4
 returns-4 c =
-    replay-known _ _ _ _ _ _ _ _ (c .before .before .before .before .before .before .before .before .before .before .before .if1 .left) (c .before .before .before .before .before .before .before .before .before .before .read-u64 .ensures) _ _ _ (c .before .before .before .before .before .before .before .before .kind .given .1) (c .before .before .before .before .before .before .arity .ensures .0) (c .before .before .before .before .before .if2 .left)
-    (c .before .before .replay-kind .ensures)
+    let p = c .before .before .before .before .before .before .before .perform in
+    replay-event _ _ _ _ _ _ _ (c .before .before .before .before .before .before .before .before .before .before .if1 .left)
+    (event-malformed _ _ _ _ _ _ (p .ensures) _ _ _ (c .before .before .before .before .enum-told2 .given .1) (c .before .before .put-pair2 .ensures))
+
+returns-5 : tie.Need-returns-5
+returns-5 c =
+    let p = c .before .before .before .perform in
+    replay-event _ _ _ _ _ _ _ (c .before .before .before .before .before .before .if1 .left)
+    (event-short _ _ _ _ _ _ (p .ensures) _ (c .enum-told3 .given .1))
 
 pub replay-spec : {M : Type 1} → statement M
 replay-spec =
     tie.close
     (tie.spec
     returns
+    (λ c. search needs)
     (λ c κs. tt)
     (λ c. search needs)
     (λ c. search needs)
+    put-reply-requires
+    (λ c. search needs)
     (λ c κs. search needs)
+    (λ c. search needs)
+    (λ c κs. search needs)
+    (λ c. search needs)
     (λ c. search needs)
     returns-2
-    (λ c κs. tt)
-    (λ c κs. search needs)
     (λ c. search needs)
     returns-3
-    replay-kind-requires
     (λ c. search needs)
-    returns-4)
+    returns-4
+    returns-5)

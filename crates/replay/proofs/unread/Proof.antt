@@ -1,21 +1,15 @@
 -- `replay::unread`: short, or malformed.
-use borrow.Author.Needs.{needs}
-use Rattle.replay.proofs.ReplayLaws.{unread-short, unread-malformed}
+use mathlib.Core.Bool.{Bool, cond}
+use mathlib.Core.Path.{sym, ap, _∙_}
+use Rattle.replay.specs.declared.Performed.the-variants.{Malformed, CutShort}
 use Rattle.replay.proofs.unread.Statement.{statement}
 use Rattle.replay.proofs.unread.Tie as tie
 
 returns : tie.Need-returns
-returns c = λ table. unread-short _ _ _ (c .before .cut-short .ensures) table _ (c .if1 .taken)
+returns c = ap (λ (b : Bool). cond b CutShort Malformed) (sym (c .if1 .taken) ∙ c .before .cut-short .ensures)
 
 returns-2 : tie.Need-returns-2
-returns-2 c = λ table. unread-malformed _ _ _ (c .before .before .before .before .before .cut-short .ensures) table _ _ _ (c .before .before .before .before .if1 .left) (c .before .before .stop .ensures table)
+returns-2 c = ap (λ (b : Bool). cond b CutShort Malformed) (sym (c .if1 .left) ∙ c .before .cut-short .ensures)
 
 pub unread-spec : {M : Type 1} → statement M
-unread-spec =
-    tie.close
-    (tie.spec
-    (λ c κs. tt)
-    returns
-    (λ c κs. search needs)
-    (λ c. search needs)
-    returns-2)
+unread-spec = tie.close (tie.spec (λ c κs. tt) returns returns-2)

@@ -1,0 +1,54 @@
+-- The worked examples, by computation.
+-- Assumes nothing.
+use mathlib.Core.Path.{refl}
+use Rattle.index.specs.Index.{every, count, iter, gather}
+use Rattle.records.specs.Records.{codeIn, joinedIn, peerIn, topicIn, setPeer, setTopic, setClock}
+use Rattle.effects.specs.Effects.{withEnd, outOfMesh, intoMesh, pruned, isMember, meshSize}
+use Rattle.score.specs.Parts.{part1Of, part3Of}
+use Rattle.score.specs.Formula.{topicSum, allTopics, bounded, scoreSum}
+use Rattle.score.specs.Score.{scoreIn, topicScore, topicParamsIn, sharesGroup, sharing}
+use Rattle.score.specs.Counters.{fadedOf}
+use Rattle.sets.specs.Sets.{
+  bySlot,
+  size,
+  both,
+  except,
+  from,
+  occurs,
+  isPermutation,
+  ascending,
+  inOrder,
+  fill,
+  top,
+  bests,
+  firstOf,
+  lastOf,
+  swapOnce,
+  swapTo,
+}
+use Rattle.mesh.specs.Maintenance.{mesh1, mesh2, theBest, keepers, swapped, mesh3, mesh4, mesh5, meshes, changesOf, actionsOn, actionsOf}
+use Rattle.rules.specs.Step.{isNegative, isGraylisted, isHeard, secondsOf, pruneReply, meshFull, graftEnters, isCandidate, heightIn, degreesIn, viewIn, meshesIn, punished, settleSlot, heartbeatActions, maintainedReply, heartbeatReply}
+use Rattle.examples.specs.Table.{lonely, short, shortSum, peer, inTopic, peers, topics, crowd, tidied, Examples}
+
+pub examples : Examples
+unfolding fadedOf topicSum part1Of part3Of lonely short shortSum peer inTopic peers topics crowd tidied
+    pruneReply secondsOf pruned withEnd outOfMesh intoMesh isHeard isGraylisted isNegative scoreIn topicScore topicParamsIn sharesGroup sharing
+    allTopics bounded scoreSum graftEnters meshFull meshSize isMember count every iter gather codeIn joinedIn peerIn topicIn setPeer setTopic setClock
+    isCandidate heightIn degreesIn viewIn meshesIn punished settleSlot heartbeatActions maintainedReply heartbeatReply
+    bySlot size both except from occurs isPermutation ascending inOrder fill top bests firstOf lastOf swapOnce swapTo
+    mesh1 mesh2 theBest keepers swapped mesh3 mesh4 mesh5 meshes changesOf actionsOn actionsOf
+examples =
+    record {
+      decays = refl;
+      decaysToo = refl;
+      deficit = refl;
+      atActivation = refl;
+      running = refl;
+      over = refl;
+      inboundAt11 = refl;
+      inboundAt12 = refl;
+      outboundAt12 = refl;
+      thirteen = refl;
+      thirteenMesh = refl;
+      twelveMesh = refl;
+    }

@@ -1,0 +1,3 @@
+pub mod SeenLaws
+pub mod SettleLaws
+pub mod ReplyLaws

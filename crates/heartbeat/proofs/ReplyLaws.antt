@@ -1,0 +1,231 @@
+-- The reply of a heartbeat: the maintained mesh and its actions as the rules have them, and the call's three ends.
+-- Assumes nothing.
+use Prim.Native.Nat.{ℕ, _≤_, _<_}
+use native.Mathlib.Omega.{arith}
+use mathlib.Core.Path.{_≡_, refl, sym, ap, ap₂, _∙_}
+use mathlib.Core.Bool.{Bool, true, false, not, cond}
+use mathlib.Core.List.{List, [], _∷_, map}
+use lib.ListN.{length, getD, length-map, List·getD-eq-default}
+use lib.Seq.{sets}
+use lib.Dec.{eqb}
+use Rattle.index.specs.Index.{iter}
+use Rattle.index.proofs.Flags.{by-order, cond-case, failed, passed}
+use Rattle.records.specs.declared.Peer.{Peer}
+use Rattle.records.specs.Records.{State, slotCount, noPeer, peerIn, setClock}
+use Rattle.cells.specs.View.{stateOf, Sized}
+use Rattle.table.specs.Valid.{valid}
+use Rattle.table.proofs.ValidLaws.{valid-facts}
+use Rattle.sets.specs.Sets.{bySlot, isPermutation}
+use Rattle.sets.proofs.SlotLaws.{slots-at, slots-past, slots-all}
+use Rattle.mesh.specs.declared.View.{View}
+use Rattle.mesh.specs.declared.Meshes.{Meshes}
+use Rattle.mesh.specs.declared.Changes.{Changes}
+use Rattle.mesh.specs.Maintenance.{Action as Told, meshes, changesOf, actionsOf, numbersOf as numbersIn, Writable, Written}
+use Rattle.effects.specs.Actions.{numbersOf}
+use Rattle.effects.specs.Effects.{isJoined, isMember, endAfter, pruneBackoff}
+use Rattle.rules.specs.declared.Answer.{Answer}
+use Rattle.rules.specs.declared.Answer.the-variants.{Done, NotPermutation, Ignored}
+use Rattle.rules.specs.Reply.{refused, ignored, done}
+use Rattle.rules.specs.Step.{degreesIn, viewIn, meshesIn, settleSlot, toldIn, actionIn, heartbeatActions, maintainedReply, heartbeatReply}
+use Rattle.rules.specs.Promise.{Gives}
+use Rattle.rules.proofs.PromiseLaws.{leaves-moved, leaves-refused, gives-quiet}
+use Rattle.rules.proofs.StepLaws.{gives-then, gives-else}
+use Rattle.rules.proofs.EndLaws.{gives-ignored}
+use Rattle.rules.proofs.HeartbeatLaws.{told-few}
+use Rattle.gate.specs.Ready.{Standing}
+use Rattle.gate.proofs.StandingLaws.{sizes}
+use Rattle.heartbeat.specs.Settle.{Settle}
+
+-- ---- the numbers of the actions
+
+-- past the last slot no peer stands
+none-past : (st : State) → Sized st → (s : ℕ) → 64 ≤ s → peerIn st s ≡ noPeer
+unfolding peerIn
+none-past st size s h = let l = size .peers in List·getD-eq-default (st .peers) noPeer (omega arith)
+
+module _ (st : State) (size : Sized st) where
+  id-at : (s : ℕ) → getD (bySlot slotCount (λ k. peerIn st k .id)) s 0 ≡ peerIn st s .id
+  id-at = slots-all 0 (λ k. peerIn st k .id) 64 (λ s h. ap (λ (p : Peer). p .id) (none-past st size s h))
+
+  told-at : (s : ℕ) → getD (bySlot slotCount (toldIn st)) s 0 ≡ toldIn st s
+  told-at =
+      slots-all 0 (toldIn st) 64
+      (λ s h. ap (λ (p : Peer). cond (eqb (p .version) 0) 0 (pruneBackoff st)) (none-past st size s h))
+
+  numbers-same :
+      (x : List Told) →
+      numbersIn (bySlot slotCount (λ k. peerIn st k .id)) (bySlot slotCount (toldIn st)) x ≡ numbersOf (map (actionIn st) x)
+  unfolding numbersIn numbersOf
+  numbers-same [] = refl
+  numbers-same (a ∷ x) = rw (id-at (a .slot), told-at (a .slot), numbers-same x)
+
+-- a bound of what stands in each slot
+slots-most : (f : ℕ → ℕ) (b : ℕ) → ((s : ℕ) → s < 64 → f s ≤ b) → (s : ℕ) → getD (bySlot slotCount f) s 0 ≤ b
+slots-most f b h s =
+    by-order (getD (bySlot slotCount f) s 0 ≤ b) s 64
+    (λ k. rw (slots-at 0 f 64 s k) (h s k))
+    (λ k. rw (slots-past 0 f 64 s k) (omega arith))
+
+-- ---- a joined topic
+
+-- what is computed of the state st before anything is written
+pub record Computed
+    (st : State) (time t ask : ℕ) (order : List ℕ) (v : View) (m : Meshes) (c : Changes) (ids told : List ℕ) (seconds : ℕ)
+    : Type 0 where
+  pub view : v ≡ viewIn st time t ask order
+  pub steps : m ≡ meshes slotCount (degreesIn st) v
+  pub changes : c ≡ changesOf (v .members) m
+  pub backoff : seconds ≡ pruneBackoff st
+  pub id : ids ≡ bySlot slotCount (λ s. peerIn st s .id)
+  pub wait : told ≡ bySlot slotCount (λ s. cond (eqb (peerIn st s .version) 0) 0 seconds)
+
+module _
+    (st : State) (time t ask : ℕ) (order : List ℕ) (v : View) (m : Meshes) (c : Changes) (ids told : List ℕ) (seconds : ℕ)
+    (k : Computed st time t ask order v m c ids told seconds)
+  where
+    meshes-are : m ≡ meshesIn st time t ask order
+    unfolding meshesIn
+    meshes-are = k .steps ∙ ap (meshes slotCount (degreesIn st)) (k .view)
+
+    members-are : v .members ≡ bySlot slotCount (isMember st t)
+    unfolding viewIn
+    members-are = ap (λ (w : View). w .members) (k .view)
+
+    changes-are : c ≡ changesOf (bySlot slotCount (isMember st t)) (meshesIn st time t ask order)
+    changes-are = k .changes ∙ ap₂ changesOf members-are meshes-are
+
+    told-are : told ≡ bySlot slotCount (toldIn st)
+    told-are =
+        k .wait
+        ∙ ap (λ (n : ℕ). bySlot slotCount (λ s. cond (eqb (peerIn st s .version) 0) 0 n)) (k .backoff)
+
+    few : valid st ≡ true → isPermutation slotCount order ≡ true → length (actionsOf slotCount order c) ≤ 64
+    unfolding viewIn
+    few ok right = rw changes-are (told-few st time t ask order ok right)
+
+    -- the actions fit the lent list, and their numbers its width
+    pub writable :
+        (list : List ℕ) →
+        valid st ≡ true →
+        isPermutation slotCount order ≡ true →
+        192 ≤ length list →
+        Writable list ids told (length (actionsOf slotCount order c))
+    writable list ok right room =
+        let n = few ok right in
+        let b : seconds ≤ 3600 = rw (k .backoff) (sizes st ok .prune) in
+        record {
+          room = omega arith;
+          narrow-ids = rw (k .id) (slots-most (λ s. peerIn st s .id) 4294967295 (λ s h. valid-facts st ok .peer s h .id));
+          narrow-seconds =
+              rw (k .wait)
+              (slots-most (λ s. cond (eqb (peerIn st s .version) 0) 0 seconds) 4294967295
+              (λ s h.
+              cond-case (λ (x : ℕ). x ≤ 4294967295) (eqb (peerIn st s .version) 0) 0 seconds
+              (λ e. omega arith)
+              (λ e. omega arith)));
+        }
+
+    -- the same numbers as the rules'
+    written-numbers :
+        Sized st →
+        numbersIn ids told (actionsOf slotCount order c)
+        ≡ numbersOf (heartbeatActions st t order (meshesIn st time t ask order))
+    unfolding heartbeatActions
+    written-numbers size =
+        rw (k .id, told-are, changes-are)
+        (numbers-same st size
+        (actionsOf slotCount order (changesOf (bySlot slotCount (isMember st t)) (meshesIn st time t ask order))))
+
+    written-count :
+        length (actionsOf slotCount order c) ≡ length (heartbeatActions st t order (meshesIn st time t ask order))
+    unfolding heartbeatActions
+    written-count =
+        ap (λ (x : Changes). length (actionsOf slotCount order x)) changes-are
+        ∙ sym
+        (length-map
+        (actionsOf slotCount order (changesOf (bySlot slotCount (isMember st t)) (meshesIn st time t ask order)))
+        (actionIn st))
+
+    -- what the walk relies on
+    pub settles :
+        (table : List ℕ) (end : ℕ) →
+        st ≡ stateOf table →
+        Standing table →
+        t < 8 →
+        end ≡ endAfter time seconds →
+        Settle table t time end (v .members) (v .scores)
+    unfolding viewIn
+    settles table end e standing topic ends =
+        record {
+          standing = standing;
+          topic = topic;
+          backoff = rw (← e) (ends ∙ ap (endAfter time) (k .backoff));
+          was = rw (← e) (ap (λ (w : View). w .members) (k .view));
+          heights = rw (← e) (ap (λ (w : View). w .scores) (k .view));
+        }
+
+    -- `mid` is the table after the walk
+    pub maintained-gives :
+        (table mid table′ list list′ : List ℕ) (n : ℕ) →
+        Sized st →
+        Written ids told (actionsOf slotCount order c) list 0 list′ n →
+        stateOf mid ≡ iter slotCount (settleSlot st time t (m .fifth)) st →
+        stateOf table′ ≡ setClock (stateOf mid) time →
+        Gives (maintainedReply st time t ask order) (Done n) table table′ list list′
+    unfolding maintainedReply
+    maintained-gives table mid table′ list list′ n size w em et =
+        let f = meshesIn st time t ask order in
+        let acts = heartbeatActions st t order f in
+        let o = done (iter slotCount (settleSlot st time t (f .fifth)) st) time acts in
+        let q : n ≡ length (actionsOf slotCount order c) = omega (arith, w .many) in
+        record {
+          leaves =
+              leaves-moved o (Done n) table table′ (ap Done (q ∙ written-count)) refl
+              (et
+              ∙ ap
+              (λ (u : State). setClock u time)
+              (em ∙ ap (λ (x : Meshes). iter slotCount (settleSlot st time t (x .fifth)) st) meshes-are));
+          actions = w .list ∙ ap (sets list 0) (written-numbers size);
+        }
+
+-- ---- the call's three ends: 7, 11, and the maintained mesh
+
+module _
+    (table list : List ℕ) (time t ask : ℕ) (order : List ℕ)
+    (right : Bool)
+    (e : right ≡ isPermutation slotCount order)
+  where
+    pub heartbeat-refused :
+        not right ≡ true → Gives (heartbeatReply (stateOf table) time t ask order) NotPermutation table table list list
+    unfolding heartbeatReply
+    heartbeat-refused g =
+        gives-else (isPermutation slotCount order) _ (refused NotPermutation (stateOf table)) NotPermutation table table list list
+        (failed e g)
+        (gives-quiet (refused NotPermutation (stateOf table)) NotPermutation table table list refl
+        (leaves-refused NotPermutation table))
+
+    module _ (g : not right ≡ false) (joined : Bool) (j : joined ≡ isJoined (stateOf table) t) (table′ : List ℕ) where
+      pub heartbeat-ignored :
+          (r : Answer) →
+          not joined ≡ true →
+          (r ≡ Ignored) × (stateOf table′ ≡ setClock (stateOf table) time) →
+          Gives (heartbeatReply (stateOf table) time t ask order) r table table′ list list
+      unfolding heartbeatReply
+      heartbeat-ignored r n h =
+          gives-then (isPermutation slotCount order) _ (refused NotPermutation (stateOf table)) r table table′ list list (passed e g)
+          (gives-else (isJoined (stateOf table) t) (maintainedReply (stateOf table) time t ask order) (ignored (stateOf table) time) r table table′ list list
+          (failed j n)
+          (gives-ignored table table′ list time r h))
+
+      pub heartbeat-done :
+          (r : Answer) (list′ copy : List ℕ) →
+          not joined ≡ false →
+          copy ≡ order →
+          Gives (maintainedReply (stateOf table) time t ask copy) r table table′ list list′ →
+          Gives (heartbeatReply (stateOf table) time t ask order) r table table′ list list′
+      unfolding heartbeatReply
+      heartbeat-done r list′ copy n c h =
+          gives-then (isPermutation slotCount order) _ (refused NotPermutation (stateOf table)) r table table′ list list′ (passed e g)
+          (gives-then (isJoined (stateOf table) t) (maintainedReply (stateOf table) time t ask order) (ignored (stateOf table) time) r table table′ list list′
+          (passed j n)
+          (rw (← c) h))

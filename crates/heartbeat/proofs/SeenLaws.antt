@@ -1,0 +1,135 @@
+-- What maintenance sees: a candidate by the numbers loaded, and the records of the degrees and of the view.
+-- Assumes nothing.
+use Prim.Native.Nat.{ℕ, _+_, _*_, _≤_, _<_}
+use native.Mathlib.Omega.{arith}
+use mathlib.Core.Path.{_≡_, refl, sym, ap, _∙_}
+use mathlib.Core.Bool.{Bool, true, not, cond, _&&_}
+use mathlib.Core.List.{List}
+use lib.ListN.{length, getD, set, replicate, length-replicate, getD-replicate, List·getD-eq-default}
+use lib.Seq.{getD-set-other, set-getD}
+use lib.Dec.{eqb, leb, ltb}
+use borrow.Author.Tests.{eq-eqb, ne-eqb}
+use Rattle.index.proofs.Flags.{by-order}
+use Rattle.records.specs.declared.Peer.{Peer}
+use Rattle.records.specs.declared.TopicRecord.{TopicRecord}
+use Rattle.records.specs.Records.{State, slotCount, place, codeIn, peerIn, topicIn}
+use Rattle.params.proofs.ParamLaws.{general}
+use Rattle.table.specs.Valid.{valid}
+use Rattle.table.proofs.ValidLaws.{valid-facts}
+use Rattle.sets.specs.Sets.{bySlot}
+use Rattle.sets.proofs.Loops.{Built, built-none, built-more}
+use Rattle.sets.proofs.SlotLaws.{slots-at}
+use Rattle.mesh.specs.declared.Degrees.{Degrees}
+use Rattle.mesh.specs.declared.View.{View}
+use Rattle.mesh.specs.Maintenance.{zeroScore}
+use Rattle.effects.specs.Effects.{magnitude, isMember}
+use Rattle.rules.specs.Step.{isNegative, isCandidate, heightIn, degreesIn, viewIn}
+use Rattle.rules.proofs.HeartbeatLaws.{height-good}
+
+-- a candidate, from its records and its score
+pub candidate-is :
+    (st : State) (time t s score : ℕ) (p : Peer) (r : TopicRecord) →
+    valid st ≡ true →
+    s < 64 →
+    p ≡ peerIn st s →
+    r ≡ topicIn st (place s t) →
+    score ≡ heightIn st s →
+    eqb (p .status) 1
+    && (eqb (r .subscribed) 1
+    && (eqb (p .explicit) 0
+    && (not (eqb (r .member) 1) && (leb zeroScore score && not (ltb time (getD (p .backoff) t 0))))))
+    ≡ isCandidate st time t s
+unfolding isCandidate isMember
+candidate-is st time t s score p r v h ep er es =
+    let g : leb zeroScore score ≡ not (isNegative st s) = ap (leb zeroScore) es ∙ height-good st v s h in
+    rw (ep, er, g)
+
+-- the score of a slot, in the array of the scores
+pub score-at :
+    (st : State) (scores : List ℕ) (s : ℕ) →
+    s < 64 →
+    scores ≡ bySlot slotCount (heightIn st) →
+    getD scores s 0 ≡ heightIn st s
+score-at st scores s h e = ap (λ (l : List ℕ). getD l s 0) e ∙ slots-at 0 (heightIn st) 64 s h
+
+-- the opportunistic threshold is at most 1000 points, so that the sum with it does not overflow
+pub opportunistic : (st : State) → valid st ≡ true → magnitude (codeIn st 8) ≤ 1000000
+unfolding codeIn
+opportunistic st v = general (st .codes) (valid-facts st v .params) .opportunistic-most
+
+pub degrees-are :
+    (st : State) (lo d hi out score x : ℕ) →
+    lo ≡ magnitude (codeIn st 0) →
+    d ≡ magnitude (codeIn st 1) →
+    hi ≡ magnitude (codeIn st 2) →
+    out ≡ magnitude (codeIn st 3) →
+    score ≡ magnitude (codeIn st 4) →
+    x ≡ magnitude (codeIn st 8) →
+    _≡_ {A = Degrees} (record { lo = lo; d = d; hi = hi; out = out; score = score; threshold = zeroScore + x * 1000000 }) (degreesIn st)
+unfolding degreesIn
+degrees-are st lo d hi out score x el ed eh eo es ex =
+    λ i. record { lo = el i; d = ed i; hi = eh i; out = eo i; score = es i; threshold = zeroScore + ex i * 1000000 }
+
+pub view-is :
+    (st : State) (time t ask : ℕ) (order scores : List ℕ) (members candidates outbound : List Bool) →
+    scores ≡ bySlot slotCount (heightIn st) →
+    members ≡ bySlot slotCount (isMember st t) →
+    candidates ≡ bySlot slotCount (isCandidate st time t) →
+    outbound ≡ bySlot slotCount (λ s. eqb (peerIn st s .outbound) 1) →
+    _≡_ {A = View}
+    (record {
+      members = members;
+      candidates = candidates;
+      outbound = outbound;
+      scores = scores;
+      permutation = order;
+      ask = eqb ask 1;
+    })
+    (viewIn st time t ask order)
+unfolding viewIn
+view-is st time t ask order scores members candidates outbound es em ec eo =
+    λ i. record { members = em i; candidates = ec i; outbound = eo i; scores = es i; permutation = order; ask = eqb ask 1 }
+
+-- ---- the seconds that each peer is told: a turn that stores nothing leaves 0
+
+pub record Telling (f : ℕ → ℕ) (i : ℕ) (r : List ℕ) : Type 0 where
+  pub built : Built 0 f 64 i r
+  pub rest : (k : ℕ) → i ≤ k → getD r k 0 ≡ 0
+
+module _ (f : ℕ → ℕ) where
+  pub telling-none : Telling f 0 (replicate 64 0)
+  telling-none =
+      let zeros : List ℕ = replicate 64 0 in
+      let z : ℕ = 0 in
+      let l : length zeros ≡ 64 = length-replicate 64 z in
+      record {
+        built = built-none 0 f 64 zeros l;
+        rest =
+            λ k h.
+            by-order
+            (getD zeros k 0 ≡ 0)
+            k
+            64
+            (λ b. getD-replicate 64 k z z b)
+            (λ b. List·getD-eq-default zeros z {n = k} (omega arith));
+      }
+
+  module _ (i : ℕ) (r r′ : List ℕ) (h : i < 64) (t : Telling f i r) where
+    pub telling-put : r′ ≡ set r i (f i) → Telling f (i + 1) r′
+    telling-put e =
+        rw e
+        (record {
+          built = built-more 0 f 64 i r (f i) h (t .built) refl;
+          rest = λ k l. getD-set-other r i k (f i) 0 (λ z. omega arith) ∙ t .rest k (omega arith);
+        })
+
+    pub telling-past : r′ ≡ r → f i ≡ 0 → Telling f (i + 1) r′
+    telling-past e z =
+        telling-put (e ∙ sym (ap (set r i) (z ∙ sym (t .rest i (omega arith))) ∙ set-getD r i 0))
+
+module _ (st : State) (s seconds : ℕ) (p : Peer) (e : p ≡ peerIn st s) where
+  pub told-yes : (p .version ≡ 0 → ⊥) → seconds ≡ cond (eqb (peerIn st s .version) 0) 0 seconds
+  told-yes n = rw (← e, ne-eqb (p .version) 0 n)
+
+  pub told-no : p .version ≡ 0 → cond (eqb (peerIn st s .version) 0) 0 seconds ≡ 0
+  told-no z = rw (← e, eq-eqb (p .version) 0 z)

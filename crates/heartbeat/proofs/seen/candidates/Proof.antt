@@ -1,0 +1,42 @@
+-- `heartbeat::seen::candidates`: the loop builds the set from the front.
+use Rattle.index.proofs.Kit.{_-_, refl, arith, false}
+use Rattle.records.specs.Records.{slotCount}
+use Rattle.cells.specs.View.{stateOf}
+use Rattle.sets.proofs.Loops.{Built, built-none, built-more}
+use Rattle.sets.proofs.SlotLaws.{slots-built}
+use Rattle.rules.specs.Step.{isCandidate}
+use Rattle.heartbeat.proofs.SeenLaws.{score-at}
+use Rattle.heartbeat.proofs.seen.candidates.Statement.{statement}
+use Rattle.heartbeat.proofs.seen.candidates.Tie as tie
+
+abbrev Inv-loop : tie.InvT-loop
+Inv-loop table time topic scores r₀ s₀ r s = Built false (isCandidate (stateOf table) time topic) slotCount s r
+
+abbrev μ-loop : tie.MeasureT-loop
+μ-loop table time topic scores r₀ s₀ r s = slotCount - s
+
+is-candidate-requires : tie.Need-is-candidate-requires Inv-loop μ-loop
+is-candidate-requires c κs =
+    let p = c .before .before .before .pre in
+    (p .0, (p .1 .0, (omega arith, score-at _ _ (c .before .loop .s) (omega arith) (p .1 .1))))
+
+loop-again : tie.Need-loop-again Inv-loop μ-loop
+loop-again c =
+    let l = c .before .before .loop in
+    built-more _ _ _ (l .s) (l .r) _ (omega arith) (l .inv) (c .is-candidate .ensures)
+
+pub candidates-spec : {M : Type 1} → statement M
+candidates-spec =
+    tie.close
+    (tie.spec
+    Inv-loop
+    μ-loop
+    (λ c. built-none _ _ _ _ refl)
+    (λ c. omega arith)
+    (λ c. omega arith)
+    is-candidate-requires
+    (λ c. omega arith)
+    (λ c. omega arith)
+    (λ c. omega arith)
+    loop-again
+    (λ c. let l = c .before .loop in slots-built _ _ _ (l .s) (l .r) (omega arith) (l .inv)))

@@ -1,0 +1,24 @@
+-- `heartbeat::seen::is_candidate`: the rules' conjunction, of the numbers loaded.
+use native.Mathlib.Omega.{arith}
+use Rattle.heartbeat.proofs.SeenLaws.{candidate-is}
+use Rattle.heartbeat.proofs.seen.is_candidate.Statement.{statement}
+use Rattle.heartbeat.proofs.seen.is_candidate.Tie as tie
+
+returns : tie.Need-returns
+returns c =
+    let t = c .before .before .before in
+    let p = t .before in
+    let s = p .before .before .pre in
+    candidate-is _ _ _ _ _ _ _ (s .0 .router) (s .1 .1 .0) (p .load-peer .ensures) (t .load-topic .ensures) (s .1 .1 .1)
+
+pub is-candidate-spec : {M : Type 1} → statement M
+is-candidate-spec =
+    tie.close
+    (tie.spec
+    (λ c κs. let s = c .before .pre in (s .0 .size, s .1 .1 .0))
+    (λ c. omega arith)
+    (λ c. omega arith)
+    (λ c κs. let s = c .before .before .pre in (s .0 .size, omega (arith, s .1 .0, s .1 .1 .0)))
+    (λ c. omega arith)
+    (λ c. omega arith)
+    returns)

@@ -1,0 +1,34 @@
+-- `heartbeat::seen::members`: the loop builds the set from the front.
+use Rattle.index.proofs.Kit.{_-_, refl, arith, false}
+use Rattle.records.specs.Records.{slotCount}
+use Rattle.cells.specs.View.{stateOf}
+use Rattle.sets.proofs.Loops.{Built, built-none, built-more}
+use Rattle.sets.proofs.SlotLaws.{slots-built}
+use Rattle.effects.specs.Effects.{isMember}
+use Rattle.heartbeat.proofs.seen.members.Statement.{statement}
+use Rattle.heartbeat.proofs.seen.members.Tie as tie
+
+abbrev Inv-loop : tie.InvT-loop
+Inv-loop table topic r₀ s₀ r s = Built false (isMember (stateOf table) topic) slotCount s r
+
+abbrev μ-loop : tie.MeasureT-loop
+μ-loop table topic r₀ s₀ r s = slotCount - s
+
+loop-again : tie.Need-loop-again Inv-loop μ-loop
+loop-again c =
+    let l = c .before .before .loop in
+    built-more _ _ _ (l .s) (l .r) _ (omega arith) (l .inv) (c .is-member .ensures)
+
+pub members-spec : {M : Type 1} → statement M
+members-spec =
+    tie.close
+    (tie.spec
+    Inv-loop
+    μ-loop
+    (λ c. built-none _ _ _ _ refl)
+    (λ c κs. let p = c .before .before .before .pre in (p .0, (p .1, omega arith)))
+    (λ c. omega arith)
+    (λ c. omega arith)
+    (λ c. omega arith)
+    loop-again
+    (λ c. let l = c .before .loop in slots-built _ _ _ (l .s) (l .r) (omega arith) (l .inv)))

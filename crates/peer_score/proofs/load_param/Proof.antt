@@ -1,0 +1,13 @@
+-- `peer_score::load_param` meets its contract. Assumes nothing.
+use native.Mathlib.Omega.{arith}
+use Rattle.peer_score.proofs.load_param.Statement.{statement}
+use Rattle.peer_score.proofs.load_param.Tie as tie
+
+pub load-param-spec : {M : Type 1} → statement M
+load-param-spec =
+    tie.close (tie.spec
+    (λ c. omega arith)
+    (λ c. omega arith)
+    (λ c. omega arith)
+    (λ c κs. omega arith)
+    (λ c. c .load-size .ensures))

@@ -1,0 +1,13 @@
+-- `peer_score::shares` meets its contract. Assumes nothing.
+use borrow.Author.Needs.{needs}
+use Rattle.score.proofs.SlotLaws.{shares-yes, shares-no}
+use Rattle.peer_score.proofs.shares.Statement.{statement}
+use Rattle.peer_score.proofs.shares.Tie as tie
+
+pub shares-spec : {M : Type 1} → statement M
+shares-spec =
+    tie.close (tie.spec
+    (λ c κs. search needs)
+    (λ c κs. search needs)
+    (λ c. (shares-yes _ _ _ _ _ (c .before .before .load-status .ensures) (c .before .load-group .ensures) (c .if1 .taken), search needs))
+    (λ c. (shares-no _ _ _ _ _ (c .before .before .load-status .ensures) (c .before .load-group .ensures) (c .if1 .left), search needs)))

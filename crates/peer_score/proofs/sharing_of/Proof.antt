@@ -1,0 +1,30 @@
+-- `peer_score::sharing_of` meets its contract. The invariant: n counts the slots passed. Assumes nothing.
+use Prim.Native.Nat.{_≤_, _-_}
+use mathlib.Core.Path.{_≡_}
+use native.Mathlib.Omega.{arith}
+use borrow.Author.Needs.{needs}
+use Rattle.index.specs.Index.{count}
+use Rattle.cells.specs.View.{stateOf}
+use Rattle.score.specs.Score.{sharesGroup}
+use Rattle.score.proofs.SlotLaws.{sharing-none, sharing-more, sharing-done}
+use Rattle.peer_score.proofs.sharing_of.Statement.{statement}
+use Rattle.peer_score.proofs.sharing_of.Tie as tie
+
+abbrev Inv-loop : tie.InvT-loop
+Inv-loop table group n₀ slot₀ n slot = (slot ≤ 64) × ((n ≤ slot) × (n ≡ count slot (sharesGroup (stateOf table) group)))
+
+abbrev μ-loop : tie.MeasureT-loop
+μ-loop table group n₀ slot₀ n slot = 64 - slot
+
+pub sharing-of-spec : {M : Type 1} → statement M
+sharing-of-spec =
+    tie.close (tie.spec
+    Inv-loop
+    μ-loop
+    (λ c. (search needs, (search needs, sharing-none _ _)))
+    (λ c κs. omega arith)
+    (λ c. omega arith)
+    (λ c. omega arith)
+    (λ c. omega arith)
+    (λ c. (omega arith, (omega arith, sharing-more _ _ _ _ _ (c .before .before .loop .inv .1 .1) (c .shares .ensures .0))))
+    (λ c. let l = c .before .loop in (sharing-done _ _ _ _ (l .inv .0) (c .loop-test .left) (l .inv .1 .1), omega arith)))

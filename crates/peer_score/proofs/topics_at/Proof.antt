@@ -1,0 +1,46 @@
+-- `peer_score::topics_at` meets its contract. The invariant: the sum is that of the topics passed. Assumes nothing.
+use Prim.Native.Nat.{_≤_, _-_}
+use mathlib.Core.Path.{_≡_, _∙_}
+use native.Mathlib.Omega.{arith}
+use borrow.Author.Needs.{needs}
+use Rattle.cells.specs.View.{stateOf}
+use Rattle.score.specs.Sums.{sumOf}
+use Rattle.score.specs.Score.{shareAt}
+use Rattle.score.proofs.ShareLaws.{sum-none, sum-more}
+use Rattle.score.proofs.InputLaws.{slot-in}
+use Rattle.score.proofs.ScoreLaws.{add-ready, topics-done}
+use Rattle.peer_score.proofs.topics_at.Statement.{statement}
+use Rattle.peer_score.proofs.topics_at.Tie as tie
+
+abbrev Inv-loop : tie.InvT-loop
+Inv-loop table slot sum₀ t₀ sum t = (t ≤ 8) × (sum ≡ sumOf t (shareAt (stateOf table) slot))
+
+abbrev μ-loop : tie.MeasureT-loop
+μ-loop table slot sum₀ t₀ sum t = 8 - t
+
+pub topics-at-spec : {M : Type 1} → statement M
+topics-at-spec =
+    tie.close (tie.spec
+    Inv-loop
+    μ-loop
+    (λ c. (search needs, sum-none _))
+    (λ c κs. let p = c .before .before .before .pre in (p .0, (p .1 .0, (p .1 .1, c .loop-test .taken))))
+    (λ c κs.
+    let p = c .before .before .before .before .pre .1 in
+    add-ready _ _
+    (slot-in _ (p .0) _ (p .1))
+    _ _ _
+    (c .before .loop-test .taken)
+    (c .before .before .loop .inv .1)
+    (c .share-at .ensures .1))
+    (λ c. omega arith)
+    (λ c. omega arith)
+    (λ c. (
+      omega arith,
+      c .add .ensures
+          ∙ sum-more _ _ _ _ (c .before .before .before .loop .inv .1) (c .before .share-at .ensures .0),
+    ))
+    (λ c.
+    let l = c .before .loop in
+    let p = c .before .before .before .pre .1 in
+    topics-done _ _ (slot-in _ (p .0) _ (p .1)) _ _ (l .inv .0) (c .loop-test .left) (l .inv .1)))

@@ -1,0 +1,147 @@
+// A peer's score from the lent table: the parameters as magnitudes, the sum over the topics, the peers that share a group, and the whole.
+// What a score depends on is specs/Score.antt.
+ghost use mathlib.Core.Path.{_≡_};
+ghost use Prim.Native.Nat.{_+_, _*_, _<_, _≤_};
+ghost use mathlib.Core.Bool.{true};
+ghost use lib.ListN.{length};
+ghost use Rattle.index.specs.Index.{one};
+ghost use Rattle.cells.specs.View.{cellCount, stateOf};
+ghost use Rattle.records.specs.Records.{topicCount};
+ghost use Rattle.params.specs.Joint.{place as topicPlace};
+ghost use Rattle.table.specs.Valid.{valid};
+ghost use Rattle.score.specs.Ranges.{ShareIn, TopicsIn, PartsIn};
+ghost use Rattle.score.specs.Sums.{sumOf};
+ghost use Rattle.score.specs.Score.{sizeIn, topicParamsIn, scoreParamsIn, sharesGroup, sharing, shareAt, partsAt, Scores};
+use effects::slots::load_size;
+use records::SLOTS;
+use records::TOPICS;
+use score::Balance;
+use score::Parts;
+use score::ScoreParams;
+use score::TopicParams;
+use score::sums;
+use score::topic;
+
+// Topic t's j-th parameter.
+fn load_param(table: &[u64], t: usize, j: usize) -> u64
+    requires { ⌜ (length (now table) ≡ cellCount) × ((t < 8) × (j < 16)) ⌝ }
+    ensures { λ r. ⌜ r ≡ sizeIn (stateOf (now (table .entry))) (topicPlace t j) ⌝ }
+{
+    load_size(table, 19 + 16 * t + j)
+}
+
+// Topic t's parameters.
+pub fn load_params(table: &[u64], t: usize) -> TopicParams
+    requires { ⌜ (length (now table) ≡ cellCount) × (t < 8) ⌝ }
+    ensures { λ r. ⌜ r ≡ topicParamsIn (stateOf (now (table .entry))) t ⌝ }
+{
+    TopicParams {
+        weight: load_param(table, t, 0),
+        w1: load_param(table, t, 1),
+        quantum: load_param(table, t, 2),
+        cap1: load_param(table, t, 3),
+        w2: load_param(table, t, 4),
+        decay2: load_param(table, t, 5),
+        cap2: load_param(table, t, 6),
+        w3: load_param(table, t, 7),
+        decay3: load_param(table, t, 8),
+        cap3: load_param(table, t, 9),
+        threshold: load_param(table, t, 10),
+        activation: load_param(table, t, 11),
+        w3b: load_param(table, t, 12),
+        decay3b: load_param(table, t, 13),
+        w4: load_param(table, t, 14),
+        decay4: load_param(table, t, 15),
+    }
+}
+
+// The general parameters that a score takes.
+fn load_general(table: &[u64]) -> ScoreParams
+    requires { ⌜ length (now table) ≡ cellCount ⌝ }
+    ensures { λ r. ⌜ r ≡ scoreParamsIn (stateOf (now (table .entry))) ⌝ }
+{
+    ScoreParams {
+        cap: load_size(table, 12),
+        w5: load_size(table, 13),
+        w6: load_size(table, 14),
+        threshold: load_size(table, 15),
+        w7: load_size(table, 16),
+    }
+}
+
+// Whether the peer in a slot is connected and of the group: 1 or 0.
+fn shares(table: &[u64], group: u64, slot: usize) -> u64
+    requires { ⌜ (length (now table) ≡ cellCount) × (slot < 64) ⌝ }
+    ensures { λ r. ⌜ (r ≡ one (sharesGroup (stateOf (now (table .entry))) group slot)) × (r ≤ 1) ⌝ }
+{
+    let status = cells::load_status(table, slot);
+    let other = cells::load_group(table, slot);
+    if (status == 1) & (other == group) {
+        1
+    } else {
+        0
+    }
+}
+
+// How many connected peers are of the group.
+fn sharing_of(table: &[u64], group: u64) -> u64
+    requires { ⌜ length (now table) ≡ cellCount ⌝ }
+    ensures { λ r. ⌜ (r ≡ sharing (stateOf (now (table .entry))) group) × (r ≤ 64) ⌝ }
+{
+    let mut n: u64 = 0;
+    let mut slot: usize = 0;
+    while slot < SLOTS {
+        n += shares(table, group, slot);
+        slot += 1;
+    }
+    n
+}
+
+// One topic's share of the score of the peer in a slot.
+fn share_at(table: &[u64], slot: usize, t: usize) -> Balance
+    requires { ⌜ (length (now table) ≡ cellCount) × ((valid (stateOf (now table)) ≡ true) × ((slot < 64) × (t < 8))) ⌝ }
+    ensures { λ r. ⌜ (r ≡ shareAt (stateOf (now (table .entry))) slot t) × ShareIn r ⌝ }
+{
+    topic::share(
+        load_params(table, t),
+        cells::load_topic(table, slot * 8 + t),
+    )
+}
+
+// The shares of all topics, added.
+fn topics_at(table: &[u64], slot: usize) -> Balance
+    requires { ⌜ (length (now table) ≡ cellCount) × ((valid (stateOf (now table)) ≡ true) × (slot < 64)) ⌝ }
+    ensures { λ r. ⌜ (r ≡ sumOf topicCount (shareAt (stateOf (now (table .entry))) slot)) × TopicsIn r ⌝ }
+{
+    let mut sum = Balance { gain: 0, loss: 0 };
+    let mut t: usize = 0;
+    while t < TOPICS {
+        sum = sums::add(sum, share_at(table, slot, t));
+        t += 1;
+    }
+    sum
+}
+
+// The parts of the score of the peer in a slot.
+pub fn score_parts(table: &[u64], slot: usize) -> Parts
+    requires { ⌜ (length (now table) ≡ cellCount) × ((valid (stateOf (now table)) ≡ true) × (slot < 64)) ⌝ }
+    ensures { λ r. ⌜ (r ≡ partsAt (stateOf (now (table .entry))) slot) × PartsIn r ⌝ }
+{
+    let p = cells::load_peer(table, slot);
+    let together = sharing_of(table, p.group);
+    sums::parts(
+        load_general(table),
+        topics_at(table, slot),
+        p.p5,
+        together,
+        p.p7,
+    )
+}
+
+// The score of the peer in a slot.
+pub fn score_of(table: &[u64], slot: usize) -> Balance
+    requires { ⌜ (length (now table) ≡ cellCount) × ((valid (stateOf (now table)) ≡ true) × (slot < 64)) ⌝ }
+    ensures { λ r. ⌜ Scores (stateOf (now (table .entry))) slot r ⌝ }
+{
+    sums::total(score_parts(table, slot))
+}
