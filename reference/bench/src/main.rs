@@ -1,120 +1,135 @@
-//! Times test 12 ("the tables handed in are no router's") on a router with 64
-//! connected peers: the proved library against the second program's own test.
+//! Times the plain router, and where HIVEPADLET_LIB names the proved library's
+//! folder the proved one beside it, on one recorded load in one process. Times are
+//! nanoseconds; each event's is the best of many rounds, so that the state, the
+//! arguments and the answer are the same for both.
 
-use reference::groups;
-use reference::params::Params;
-use reference::router::{Peer, Router, Status, TopicRecord, Version};
+use bench::load::{load, Load};
+use bench::plain;
+use reference::event::{Event, CALL_NAMES};
+use reference::router::{number, Answer, Router, ACTION_LIST};
 use std::hint::black_box;
 use std::time::Instant;
 
-/// The lent table's length, and where its regions begin (crate cells).
-const CELLS: usize = 5340;
-const JOINED: usize = 1;
-const CODES: usize = 9;
-const PEERS: usize = 156;
-const PEER_CELLS: usize = 17;
-const RECORDS: usize = 1244;
-const RECORD_CELLS: usize = 8;
+#[cfg(proved)]
+mod proved;
 
-const ROUNDS: u32 = 20_000;
+const ROUNDS: usize = 200;
 
-extern "C" {
-    fn hivepadlet_is_router(table: *const u64) -> u32;
+/// A router that is timed: made anew for each round, by copying. The action list is
+/// not cleared between calls.
+trait Timed: Clone {
+    fn call(&mut self, event: &Event, list: &mut [u32]) -> Answer;
 }
 
-/// The proved test; the pointer is that of a whole table.
-fn is_router(table: &[u64; CELLS]) -> bool {
-    unsafe { hivepadlet_is_router(table.as_ptr()) == 1 }
+impl Timed for Box<plain::Router> {
+    fn call(&mut self, event: &Event, list: &mut [u32]) -> Answer {
+        plain::Router::call(self, event, list)
+    }
 }
 
-/// 64 connected peers with counters in every topic; six are members of each mesh.
-fn full_router() -> Router {
-    let mut router = Router::new(Params::ordinary()).expect("the ordinary parameters are accepted");
-    router.clock = 100_000;
-    router.joined = [true; 8];
-    for (slot, peer) in router.peers.iter_mut().enumerate() {
-        let member = slot < 6;
-        let record = TopicRecord {
-            subscribed: true,
-            member,
-            graft_time: if member { 1000 } else { 0 },
-            mesh_time: if member { 50 } else { 0 },
-            p2: 1000,
-            p3: 500,
-            p3b: 9,
-            p4: 3,
-        };
-        *peer = Peer {
-            status: Status::Connected,
-            id: slot as u32 + 1,
-            group: slot as u32 / 4,
-            outbound: slot % 2 == 1,
-            version: Version::V11,
-            topics: std::array::from_fn(|_| record.clone()),
-            backoff_ends: [5000; 8],
-            ..Peer::default()
-        };
-    }
-    router
-}
-
-/// The same state as the numbers of a lent table.
-fn table_of(router: &Router) -> Box<[u64; CELLS]> {
-    let mut table = Box::new([0; CELLS]);
-    table[0] = router.clock;
-    for topic in 0..8 {
-        table[JOINED + topic] = u64::from(router.joined[topic]);
-    }
-    for (i, &number) in router.params.numbers.iter().enumerate() {
-        table[CODES + i] = groups::code_from_signed(number);
-    }
-    for (slot, peer) in router.peers.iter().enumerate() {
-        let cells = &mut table[PEERS + slot * PEER_CELLS..][..PEER_CELLS];
-        cells[0] = peer.status as u64;
-        cells[1] = u64::from(peer.id);
-        cells[2] = u64::from(peer.group);
-        cells[3] = u64::from(peer.outbound);
-        cells[4] = u64::from(peer.explicit);
-        cells[5] = peer.version as u64;
-        cells[6] = groups::code_from_signed(peer.p5);
-        cells[7] = peer.p7 as u64;
-        cells[8] = peer.retain_end;
-        cells[9..].copy_from_slice(&peer.backoff_ends);
-        for (topic, record) in peer.topics.iter().enumerate() {
-            let cells = &mut table[RECORDS + (slot * 8 + topic) * RECORD_CELLS..][..RECORD_CELLS];
-            cells[0] = record.p2 as u64;
-            cells[1] = record.p3 as u64;
-            cells[2] = record.p4 as u64;
-            cells[3] = record.p3b as u64;
-            cells[4] = u64::from(record.subscribed);
-            cells[5] = u64::from(record.member);
-            cells[6] = record.graft_time;
-            cells[7] = record.mesh_time;
+/// The best nanoseconds of each event.
+fn best_times(filled: &impl Timed, events: &[Event]) -> Vec<u64> {
+    let mut best = vec![u64::MAX; events.len()];
+    let mut list = [0; ACTION_LIST];
+    for _ in 0..ROUNDS {
+        let mut router = filled.clone();
+        for (event, best) in events.iter().zip(&mut best) {
+            let start = Instant::now();
+            let answer = router.call(black_box(event), &mut list);
+            let time = start.elapsed().as_nanos() as u64;
+            black_box(&answer);
+            *best = time.min(*best);
         }
-    }
-    table
-}
-
-/// The nanoseconds of one run of `test`, the best of five rounds.
-fn time(mut test: impl FnMut() -> bool) -> f64 {
-    let mut best = f64::INFINITY;
-    for _ in 0..5 {
-        let start = Instant::now();
-        for _ in 0..ROUNDS {
-            assert!(test(), "the table is a router's");
-        }
-        best = best.min(start.elapsed().as_nanos() as f64 / f64::from(ROUNDS));
     }
     best
 }
 
+/// What reading the clock twice takes at best.
+fn clock_time() -> u64 {
+    let once = |_| Instant::now().elapsed().as_nanos() as u64;
+    (0..100_000).map(once).min().unwrap_or(0)
+}
+
+/// The router after the opening, every answer and action checked against the
+/// second program's, and then those of the timed events as well.
+fn filled<T: Timed>(fresh: T, load: &Load) -> T {
+    let mut second = Router::new(load.params.clone()).expect("accepted parameters");
+    let mut router = fresh;
+    let mut check = |router: &mut T, event: &Event| {
+        let (mut expected, mut got) = ([0; ACTION_LIST], [0; ACTION_LIST]);
+        assert_eq!(router.call(event, &mut got), second.call(event, &mut expected), "{event:?}");
+        assert_eq!(got, expected, "{event:?}");
+    };
+    load.opening.iter().for_each(|event| check(&mut router, event));
+    let filled = router.clone();
+    load.events.iter().for_each(|event| check(&mut router, event));
+    filled
+}
+
+/// The mean of the best times, by kind of call.
+fn means(events: &[Event], times: &[u64], clock: u64) -> Vec<f64> {
+    let mean = |kind: u64| {
+        let own = events.iter().zip(times).filter(|(event, _)| event.call.kind() == kind);
+        let own: Vec<u64> = own.map(|(_, time)| time.saturating_sub(clock)).collect();
+        own.iter().sum::<u64>() as f64 / own.len() as f64
+    };
+    (1..=CALL_NAMES.len() as u64).map(mean).collect()
+}
+
+/// How many events of a kind the load has, and how many are answered by 0.
+fn counts(load: &Load) -> Vec<(usize, usize)> {
+    let mut router = Router::new(load.params.clone()).expect("accepted parameters");
+    let mut counts = vec![(0, 0); CALL_NAMES.len()];
+    let mut list = [0; ACTION_LIST];
+    for event in &load.opening {
+        let _ = router.call(event, &mut list);
+    }
+    for event in &load.events {
+        let (all, done) = &mut counts[event.call.kind() as usize - 1];
+        *all += 1;
+        *done += usize::from(number(&router.call(event, &mut list)) == 0);
+    }
+    counts
+}
+
 fn main() {
-    let router = full_router();
-    let table = table_of(&router);
-    let ours = time(|| is_router(black_box(&table)));
-    let plain = time(|| black_box(&router).is_valid());
-    let mut damaged = table.clone();
-    damaged[PEERS + 1] = damaged[PEERS + PEER_CELLS + 1];
-    assert!(!is_router(&damaged), "an id that stands twice is no router's");
-    println!("test 12 at 64 connected peers: proved {ours:.0} ns, plain Rust {plain:.0} ns, ratio {:.2}", ours / plain);
+    let load = load();
+    let clock = clock_time();
+    let plain = filled(plain::Router::new(&load.params), &load);
+    let plain_times = means(&load.events, &best_times(&plain, &load.events), clock);
+    #[cfg(proved)]
+    let proved = filled(proved::Router::new(&load.params), &load);
+    #[cfg(proved)]
+    let proved_times = Some(means(&load.events, &best_times(&proved, &load.events), clock));
+    #[cfg(not(proved))]
+    let proved_times: Option<Vec<f64>> = None;
+    println!("64 connected peers, nanoseconds a call, test 12 included");
+    println!(
+        "{:12}{:>8}{:>8}{:>9}{:>9}{:>7}",
+        "call", "events", "done", "plain", "proved", "ratio"
+    );
+    for (place, (name, (all, done))) in CALL_NAMES.iter().zip(counts(&load)).enumerate() {
+        let plain = plain_times[place];
+        let (proved, ratio) = match &proved_times {
+            Some(times) => (format!("{:.0}", times[place]), format!("{:.2}", times[place] / plain)),
+            None => ("-".to_string(), "-".to_string()),
+        };
+        println!("{name:12}{all:>8}{done:>8}{plain:>9.0}{proved:>9}{ratio:>7}");
+    }
+    println!("test 12 alone: plain {:.0} ns", time(|| black_box(&plain).is_valid()));
+    #[cfg(proved)]
+    println!("test 12 alone: proved {:.0} ns", time(|| black_box(&proved).is_valid()));
+}
+
+/// The nanoseconds of one run of `test`, the best of many short rounds.
+fn time(mut test: impl FnMut() -> bool) -> f64 {
+    const RUNS: u32 = 100;
+    let round = |_| {
+        let start = Instant::now();
+        for _ in 0..RUNS {
+            assert!(test(), "the table is a router's");
+        }
+        start.elapsed().as_nanos() as f64 / f64::from(RUNS)
+    };
+    (0..2000).map(round).fold(f64::INFINITY, f64::min)
 }

@@ -1,0 +1,130 @@
+//! The load that is timed: a fixed list of calls on a router with 64 connected
+//! peers, in which each of the thirteen calls comes hundreds of times and nearly
+//! all are answered by 0. The second program is the guide while it is recorded.
+
+use reference::event::{Call, Event, Permutation, OUTBOUND_FLAG, SLOTS};
+use reference::params::{Params, TOPICS};
+use reference::random::Random;
+use reference::router::{Router, ACTION_LIST};
+
+const ROUNDS: u64 = 250;
+
+pub struct Load {
+    pub params: Params,
+    /// The calls that fill the router.
+    pub opening: Vec<Event>,
+    /// The calls that are timed.
+    pub events: Vec<Event>,
+}
+
+struct Recorder {
+    router: Router,
+    random: Random,
+    now: u64,
+    events: Vec<Event>,
+}
+
+/// The recorded load, always the same.
+pub fn load() -> Load {
+    let params = Params::ordinary();
+    let router = Router::new(params.clone()).expect("the ordinary parameters are accepted");
+    let mut recorder = Recorder { router, random: Random::new(64), now: 0, events: Vec::new() };
+    recorder.open();
+    let opening = std::mem::take(&mut recorder.events);
+    for round in 0..ROUNDS {
+        recorder.now += 1000;
+        recorder.round(round);
+    }
+    Load { params, opening, events: recorder.events }
+}
+
+impl Recorder {
+    fn push(&mut self, call: Call) {
+        let event = Event { now: self.now, call };
+        let _ = self.router.call(&event, &mut [0; ACTION_LIST]);
+        self.events.push(event);
+    }
+
+    /// Peers 1 to 64, four to a group, every fourth outbound, all subscribed to all
+    /// topics; meshes are filled by a heartbeat each.
+    fn open(&mut self) {
+        for id in 1..=SLOTS as u64 {
+            self.connect(id);
+        }
+        for topic in 0..TOPICS as u64 {
+            self.push(Call::Join { topic });
+            self.heartbeat(topic);
+        }
+        self.now = 60_000;
+        self.push(Call::Decay);
+    }
+
+    fn connect(&mut self, id: u64) {
+        let flags = if id.is_multiple_of(4) { OUTBOUND_FLAG } else { 0 };
+        let name = if id.is_multiple_of(5) { b"/meshsub/1.0.0" } else { b"/meshsub/1.1.0" };
+        self.push(Call::Connect { id, group: id / 4, flags, name: name.to_vec() });
+        for topic in 0..TOPICS as u64 {
+            self.push(Call::Subscribe { id, topic });
+        }
+    }
+
+    fn heartbeat(&mut self, topic: u64) {
+        let mut permutation: Box<Permutation> = Box::new(std::array::from_fn(|slot| slot as u64));
+        self.random.shuffle(&mut permutation[..]);
+        self.push(Call::Heartbeat { topic, ask: self.now / 1000 % 2, permutation });
+    }
+
+    fn id(&mut self) -> u64 {
+        1 + self.random.below(SLOTS) as u64
+    }
+
+    /// A topic other than the last, which is left and joined in every round.
+    fn topic(&mut self) -> u64 {
+        self.random.below(TOPICS - 1) as u64
+    }
+
+    fn round(&mut self, round: u64) {
+        let (gone, quiet, other) = (self.id(), self.id(), self.topic());
+        self.push(Call::Disconnect { id: gone });
+        self.connect(gone);
+        self.push(Call::Unsubscribe { id: quiet, topic: other });
+        self.push(Call::Subscribe { id: quiet, topic: other });
+        let last = TOPICS as u64 - 1;
+        self.heartbeat(last);
+        self.push(Call::Leave { topic: last });
+        self.push(Call::Join { topic: last });
+        for _ in 0..3 {
+            self.traffic();
+        }
+        self.heartbeat(round % last);
+        let (id, value) = (self.id(), self.random.between(-500_000, 2_000_000));
+        self.push(Call::SetP5 { id, value });
+        let id = self.id();
+        self.push(Call::Score { id });
+        self.push(Call::Decay);
+    }
+
+    /// A GRAFT that is accepted, a few deliveries of a member, and its PRUNE.
+    fn traffic(&mut self) {
+        let topic = self.topic();
+        let k = topic as usize;
+        let is_candidate = |slot: &usize| self.router.is_candidate(*slot, k, self.now);
+        let candidates: Vec<usize> = (0..SLOTS).filter(is_candidate).collect();
+        if !candidates.is_empty() {
+            let id = 1 + *self.random.pick(&candidates) as u64;
+            self.push(Call::Graft { id, topic });
+        }
+        let mesh = self.router.mesh(k);
+        if !mesh.is_empty() {
+            let id = 1 + *self.random.pick(&mesh) as u64;
+            for kind in [1, 1, 2] {
+                self.push(Call::Delivery { id, topic, kind });
+            }
+            self.push(Call::Prune { id, topic, seconds: 5 });
+        }
+        if self.random.chance(1, 8) {
+            let id = self.id();
+            self.push(Call::Delivery { id, topic, kind: 3 });
+        }
+    }
+}

@@ -1,0 +1,144 @@
+//! The plain router against the second program: every answer, every action, and
+//! the state that each call leaves.
+
+use bench::plain;
+use reference::coverage::Coverage;
+use reference::generate::traces;
+use reference::params::{Params, TOPICS};
+use reference::random::Random;
+use reference::router::{Peer, Router, Status, TopicRecord, Version, ACTION_LIST};
+use reference::text::{Line, Trace};
+
+const TRACES: usize = 300;
+
+/// Bit k as topic k says.
+fn bits(says: impl Fn(usize) -> bool) -> u8 {
+    (0..TOPICS).filter(|&k| says(k)).fold(0, |bits, k| bits | 1 << k)
+}
+
+fn plain_topics(records: &[TopicRecord; TOPICS]) -> plain::Topics {
+    plain::Topics {
+        graft_times: std::array::from_fn(|k| records[k].graft_time),
+        mesh_times: std::array::from_fn(|k| records[k].mesh_time),
+        p3b: std::array::from_fn(|k| records[k].p3b as u64),
+        p2: std::array::from_fn(|k| records[k].p2 as u32),
+        p3: std::array::from_fn(|k| records[k].p3 as u32),
+        p4: std::array::from_fn(|k| records[k].p4 as u32),
+        subscribed: bits(|k| records[k].subscribed),
+        member: bits(|k| records[k].member),
+    }
+}
+
+fn plain_peer(peer: &Peer) -> plain::Peer {
+    plain::Peer {
+        id: peer.id,
+        group: peer.group,
+        p5: peer.p5 as i32,
+        p7: peer.p7 as u32,
+        status: match peer.status {
+            Status::Empty => plain::Status::Empty,
+            Status::Connected => plain::Status::Connected,
+            Status::Retained => plain::Status::Retained,
+        },
+        outbound: peer.outbound,
+        explicit: peer.explicit,
+        v11: peer.version == Version::V11,
+        retain_end: peer.retain_end,
+        backoff_ends: peer.backoff_ends,
+        topics: plain_topics(&peer.topics),
+    }
+}
+
+fn plain_of(router: &Router) -> Box<plain::Router> {
+    let mut plain = plain::Router::new(&router.params);
+    plain.clock = router.clock;
+    plain.joined = bits(|k| router.joined[k]);
+    for (slot, peer) in router.peers.iter().enumerate() {
+        plain.peers[slot] = plain_peer(peer);
+    }
+    plain
+}
+
+/// The routers of a random trace, after each of its events.
+fn each_event(random: &mut Random, mut check: impl FnMut(&Router, &mut plain::Router)) {
+    let bytes = traces::trace(random, &mut Coverage::default()).bytes;
+    let trace = Trace::from_bytes(&bytes);
+    let Some(params) = trace.params.filter(|params| params.check().is_ok()) else { return };
+    let mut second = Router::unchecked(params.clone());
+    let mut plain = plain::Router::new(&params);
+    for line in &trace.lines {
+        let Line::Event(event) = line else { break };
+        let room = if random.chance(1, 50) { random.below(ACTION_LIST) } else { ACTION_LIST };
+        let (mut expected, mut got) = (vec![7; room], vec![7; room]);
+        assert_eq!(plain.call(event, &mut got), second.call(event, &mut expected), "{event:?}");
+        assert_eq!(got, expected, "{event:?}");
+        check(&second, &mut plain);
+    }
+}
+
+#[test]
+fn same_answers_and_states() {
+    let mut random = Random::new(64);
+    for _ in 0..TRACES {
+        each_event(&mut random, |second, plain| assert_eq!(*plain, *plain_of(second)));
+    }
+}
+
+/// Puts a number into one field of the second program's tables, within what the
+/// plain router's narrower types hold.
+fn damage(router: &mut Router, random: &mut Random) {
+    let slot = random.below(64);
+    let other = router.peers[random.below(64)].id;
+    let clock = router.clock;
+    let time = *random.pick(&[0, 1, clock, clock + 1, 1 << 40, (1 << 40) + 1, u64::MAX]);
+    let counter = *random.pick(&[0, 1, 1000, 1_000_000, 1_000_001]);
+    let index = random.below(147);
+    let peer = &mut router.peers[slot];
+    let record = &mut peer.topics[random.below(8)];
+    match random.below(17) {
+        0 => record.p2 = counter,
+        1 => record.p3 = counter,
+        2 => record.p4 = counter,
+        3 => record.p3b = *random.pick(&[0, 1, 1_000_000_000_000, 1_000_000_000_001]),
+        4 => record.member ^= true,
+        5 => record.subscribed ^= true,
+        6 => record.graft_time = time,
+        7 => record.mesh_time = time,
+        8 => peer.id = *random.pick(&[0, other]),
+        9 => peer.p5 = *random.pick(&[0, 1_000_000_000, 1_000_000_001, -1_000_000_001]),
+        10 => peer.p7 = counter,
+        11 => peer.retain_end = time.min((1 << 40) + 86_400_001),
+        12 => {
+            peer.backoff_ends[3] = *random.pick(&[0, (1 << 40) + 3_600_000, (1 << 40) + 3_600_001])
+        }
+        13 => peer.explicit ^= true,
+        14 => router.joined[random.below(8)] ^= true,
+        15 => router.clock = time,
+        _ => router.params.numbers[index] += random.between(-2, 2),
+    }
+}
+
+#[test]
+fn same_test_12() {
+    let mut random = Random::new(12);
+    let mut damages = Random::new(13);
+    let (mut valid, mut broken) = (0, 0);
+    for _ in 0..TRACES / 3 {
+        each_event(&mut random, |second, _| {
+            if !damages.chance(1, 10) {
+                return;
+            }
+            let mut damaged = second.clone();
+            damage(&mut damaged, &mut damages);
+            let expected = damaged.is_valid();
+            assert_eq!(plain_of(&damaged).is_valid(), expected);
+            *(if expected { &mut valid } else { &mut broken }) += 1;
+        });
+    }
+    assert!(valid > 100 && broken > 100, "{valid} still a router's, {broken} not");
+}
+
+#[test]
+fn ordinary_is_valid() {
+    assert!(plain::Router::new(&Params::ordinary()).is_valid());
+}
