@@ -29,21 +29,6 @@ use Rattle.rules.specs.Reply.{Reply, numberOf, actionsOf}
 use Rattle.events.specs.Lines.{space, newline, pairLine, actionLine, actionLines, scoreLine, linesOf, actionAt, actionsText, replyText}
 
 -- ---- the answers of the other variants, as an `else` tells them
-pub no-actions :
-    (a : Answer) → OneOf (1 ∷ 2 ∷ 3 ∷ 4 ∷ 5 ∷ 6 ∷ 7 ∷ 8 ∷ 9 ∷ 10 ∷ 11 ∷ []) (tagOf the-type a) → 0 ≡ actionsOf a
-no-actions (Done n) h = absurd (miss (1 ∷ 2 ∷ 3 ∷ 4 ∷ 5 ∷ 6 ∷ 7 ∷ 8 ∷ 9 ∷ 10 ∷ 11 ∷ []) 0 tt h)
-no-actions (Scored z) h = refl
-no-actions Early h = refl
-no-actions OutOfRange h = refl
-no-actions NotConnected h = refl
-no-actions AlreadyConnected h = refl
-no-actions NoSlot h = refl
-no-actions UnknownProtocol h = refl
-no-actions NotPermutation h = refl
-no-actions ListShort h = refl
-no-actions Ignored h = refl
-no-actions NotRouter h = refl
-
 pub no-score :
     (a : Answer) → OneOf (0 ∷ 2 ∷ 3 ∷ 4 ∷ 5 ∷ 6 ∷ 7 ∷ 8 ∷ 9 ∷ 10 ∷ 11 ∷ []) (tagOf the-type a) → scoreLine a ≡ []
 no-score (Done n) h = refl

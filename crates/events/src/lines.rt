@@ -1,5 +1,7 @@
 // A reply in text. The text itself is fixed in specs/Lines.antt; the caller shows that there is room: 42 bytes for two numbers, 44 for an
 // action, 24 for a score.
+use answers::actions_of;
+use answers::number_of;
 use rules::Answer;
 use text::put_byte;
 use text::put_decimal;
@@ -9,35 +11,8 @@ ghost use mathlib.Core.List.{[], _∷_};
 ghost use Prim.Native.Nat.{_+_, _*_, _≤_};
 ghost use lib.ListN.{length};
 ghost use Rattle.text.specs.Text.{Stored};
-ghost use Rattle.rules.specs.Reply.{numberOf, actionsOf};
+ghost use Rattle.rules.specs.Reply.{actionsOf};
 ghost use Rattle.events.specs.Lines.{space, pairLine, actionLine, actionsText, scoreLine, replyText};
-
-// 01's number of an answer.
-pub fn number_of(a: Answer) -> u64
-    ensures { λ r. ⌜ r ≡ numberOf a ⌝ }
-{
-    match a {
-        Answer::Done(_) => 0,
-        Answer::Scored(_) => 0,
-        Answer::Early => 1,
-        Answer::OutOfRange => 2,
-        Answer::NotConnected => 3,
-        Answer::AlreadyConnected => 4,
-        Answer::NoSlot => 5,
-        Answer::UnknownProtocol => 6,
-        Answer::NotPermutation => 7,
-        Answer::ListShort => 8,
-        Answer::Ignored => 11,
-        Answer::NotRouter => 12,
-    }
-}
-
-// How many actions it has.
-pub fn actions_of(a: Answer) -> usize
-    ensures { λ r. ⌜ r ≡ actionsOf a ⌝ }
-{
-    if let Answer::Done(n) = a { n } else { 0 }
-}
 
 // Two numbers on a line; the place after it.
 pub fn put_pair(out: &mut [u8], at: usize, a: u64, b: u64) -> usize

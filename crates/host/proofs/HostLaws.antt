@@ -29,7 +29,8 @@ use Rattle.rules.specs.Calls.{Call}
 use Rattle.rules.specs.Step.{step}
 use Rattle.rules.specs.Promise.{Follows}
 use Rattle.rules.proofs.Answer.{the-type}
-use Rattle.host.specs.Host.{packed, answerCode, Hosts, scoreOr, numbersOr, HostsRead, HostsWrite, HostsFresh}
+use Rattle.answers.specs.Answers.{packed, answerCode, scoreOr}
+use Rattle.host.specs.Host.{Hosts, numbersOr, HostsRead, HostsWrite, HostsFresh}
 
 -- ---- the thirteen calls
 module _ (c : Call) {a : Answer} {table table′ list list′ : List ℕ} (f : Follows c a table table′ list list′) where
@@ -44,32 +45,6 @@ module _ (c : Call) {a : Answer} {table table′ list list′ : List ℕ} (f : F
 
   pub scored : (z z′ : ℤ) → z′ ≡ scoreOr a z → z′ ≡ scoreOr (step (stateOf table) c (length list) .answer) z
   scored z z′ e = e ∙ ap (λ (b : Answer). scoreOr b z) (f .leaves .answer)
-
--- ---- an answer as one number, variant by variant
-pub code-is : (a b : Answer) (r : ℕ) → r ≡ answerCode b → a ≡ b → r ≡ answerCode a
-code-is a b r e t = e ∙ sym (ap answerCode t)
-
-pub count-fits : (a : Answer) (n : ℕ) → actionsOf a ≤ 64 → a ≡ Done n → n ≤ 4294967295
-count-fits a n h t = omega (arith, h, ap actionsOf t)
-
-pub score-is : (a : Answer) (x z : ℤ) → a ≡ Scored x → x ≡ scoreOr a z
-score-is a x z t = sym (ap (λ (b : Answer). scoreOr b z) t)
-
--- the answers that are no score, as the last arm tells them
-pub no-score :
-    (a : Answer) (z : ℤ) → OneOf (0 ∷ 2 ∷ 3 ∷ 4 ∷ 5 ∷ 6 ∷ 7 ∷ 8 ∷ 9 ∷ 10 ∷ 11 ∷ []) (tagOf the-type a) → z ≡ scoreOr a z
-no-score (Done n) z h = refl
-no-score (Scored x) z h = absurd (miss (0 ∷ 2 ∷ 3 ∷ 4 ∷ 5 ∷ 6 ∷ 7 ∷ 8 ∷ 9 ∷ 10 ∷ 11 ∷ []) 1 tt h)
-no-score Early z h = refl
-no-score OutOfRange z h = refl
-no-score NotConnected z h = refl
-no-score AlreadyConnected z h = refl
-no-score NoSlot z h = refl
-no-score UnknownProtocol z h = refl
-no-score NotPermutation z h = refl
-no-score ListShort z h = refl
-no-score Ignored z h = refl
-no-score NotRouter z h = refl
 
 -- ---- reading
 module _ (bytes : List ℕ) (q : Reading) (v : Verdict) (e : q ≡ readOf bytes) (t : q .verdict ≡ v) where

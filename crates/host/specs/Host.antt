@@ -17,18 +17,10 @@ use Rattle.params.specs.Read.{readOf, verdictNumber, verdictValue}
 use Rattle.params.specs.Write.{writeOf, writtenNumber, writtenValue}
 use Rattle.table.specs.Fresh.{madeOf, leftBy, madeNumber, madeValue}
 use Rattle.effects.specs.Actions.{numbersOf}
-use Rattle.rules.specs.declared.Answer.{Answer}
-use Rattle.rules.specs.declared.Answer.the-variants.{Done, Scored, Early, OutOfRange, NotConnected, AlreadyConnected, NoSlot, UnknownProtocol, NotPermutation, ListShort, Ignored, NotRouter}
-use Rattle.rules.specs.Reply.{numberOf, actionsOf, refuses}
+use Rattle.answers.specs.Answers.{packed, answerCode}
+use Rattle.rules.specs.Reply.{refuses}
 use Rattle.rules.specs.Calls.{Call}
 use Rattle.rules.specs.Step.{step}
-
--- 01's number in the low byte, and the value that goes with it (action count, length, place) above it
-abbrev pub packed : ℕ → ℕ → ℕ
-packed number value = number + 256 * value
-
-abbrev pub answerCode : Answer → ℕ
-answerCode a = packed (numberOf a) (actionsOf a)
 
 -- ---- a call: r is what comes back; table and list are what stood in the lent memory, table′ and list′ what stands there after it
 pub record Hosts (c : Call) (r : ℕ) (table table′ list list′ : List ℕ) : Type 0 where
@@ -36,21 +28,6 @@ pub record Hosts (c : Call) (r : ℕ) (table table′ list list′ : List ℕ) :
   pub state : stateOf table′ ≡ step (stateOf table) c (length list) .state
   pub kept : refuses (step (stateOf table) c (length list) .answer) ≡ true → table′ ≡ table
   pub actions : list′ ≡ sets list 0 (numbersOf (step (stateOf table) c (length list) .actions))
-
--- the lent number of a score: written by an accepted score call alone
-abbrev pub scoreOr : Answer → ℤ → ℤ
-scoreOr (Done n) z = z
-scoreOr (Scored x) z = x
-scoreOr Early z = z
-scoreOr OutOfRange z = z
-scoreOr NotConnected z = z
-scoreOr AlreadyConnected z = z
-scoreOr NoSlot z = z
-scoreOr UnknownProtocol z = z
-scoreOr NotPermutation z = z
-scoreOr ListShort z = z
-scoreOr Ignored z = z
-scoreOr NotRouter z = z
 
 -- ---- the parameters
 -- reading: the lent numbers are written where the bytes are accepted, and stand where they are refused

@@ -4,32 +4,11 @@ ghost use Prim.Native.Nat.{_≤_};
 ghost use lib.ListN.{length};
 ghost use Rattle.cells.specs.View.{stateOf};
 ghost use Rattle.rules.specs.Calls.{connect as Calls·connect, decay as Calls·decay, deliver as Calls·deliver, disconnect as Calls·disconnect, graft as Calls·graft, heartbeat as Calls·heartbeat, join as Calls·join, leave as Calls·leave, prune as Calls·prune, rate as Calls·rate, score as Calls·score, subscribe as Calls·subscribe, unsubscribe as Calls·unsubscribe};
-ghost use Rattle.rules.specs.Reply.{actionsOf};
 ghost use Rattle.rules.specs.Step.{step};
-ghost use Rattle.host.specs.Host.{answerCode, scoreOr as scoreOrOf, Hosts};
-use crate::packed;
-use rules::Answer;
-
-// An answer as one number.
-fn code(a: Answer) -> u64
-    requires { ⌜ actionsOf a ≤ 64 ⌝ }
-    ensures { λ r. ⌜ r ≡ answerCode a ⌝ }
-{
-    match a {
-        Answer::Done(n) => packed(0, n as u64),
-        Answer::Scored(_) => packed(0, 0),
-        Answer::Early => packed(1, 0),
-        Answer::OutOfRange => packed(2, 0),
-        Answer::NotConnected => packed(3, 0),
-        Answer::AlreadyConnected => packed(4, 0),
-        Answer::NoSlot => packed(5, 0),
-        Answer::UnknownProtocol => packed(6, 0),
-        Answer::NotPermutation => packed(7, 0),
-        Answer::ListShort => packed(8, 0),
-        Answer::Ignored => packed(11, 0),
-        Answer::NotRouter => packed(12, 0),
-    }
-}
+ghost use Rattle.answers.specs.Answers.{scoreOr as scoreOrOf};
+ghost use Rattle.host.specs.Host.{Hosts};
+use answers::code;
+use answers::score_or;
 
 // A peer connects. Flags: 1 outbound + 2 explicit.
 #[no_mangle]
@@ -193,16 +172,6 @@ pub extern "C" fn hivepadlet_decay(table: &mut [u64; 5340], time: u64, actions: 
     ensures { λ r. ⌜ Hosts (Calls·decay time) r (now (table .entry)) (now (table .exit)) (now (actions .entry)) (now (actions .exit)) ⌝ }
 {
     code(router::decay(table, time, actions))
-}
-
-// The score in an answer, or what stood there.
-fn score_or(a: Answer, stood: i64) -> i64
-    ensures { λ r. ⌜ r ≡ scoreOrOf a stood ⌝ }
-{
-    match a {
-        Answer::Scored(z) => z,
-        _ => stood,
-    }
 }
 
 // The score of a peer, through a lent number that stands where the call is refused.

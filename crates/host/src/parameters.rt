@@ -5,7 +5,7 @@ ghost use Rattle.index.specs.Index.{one};
 ghost use Rattle.params.specs.Ordinary.{ordinaryNumbers};
 ghost use Rattle.table.specs.Valid.{valid};
 ghost use Rattle.host.specs.Host.{HostsRead, HostsWrite, HostsFresh};
-use crate::packed;
+use answers::packed;
 use params::Params;
 use params::Verdict;
 use params::Written;

@@ -1,12 +1,12 @@
--- `host::score_or` meets its contract. Assumes nothing.
+-- `answers::score_or` meets its contract. Assumes nothing.
 use borrow.Author.Needs.{needs, sfits-of}
 use mir.Syntax.{w64}
 use mir.Val.{SFits}
 use mir.Facts.{toZ-ofZ}
 use mathlib.Core.Path.{_∙_}
-use Rattle.host.proofs.HostLaws.{score-is, no-score}
-use Rattle.host.proofs.calls.score_or.Statement.{statement}
-use Rattle.host.proofs.calls.score_or.Tie as tie
+use Rattle.answers.proofs.AnswerLaws.{score-is, no-score}
+use Rattle.answers.proofs.score_or.Statement.{statement}
+use Rattle.answers.proofs.score_or.Tie as tie
 
 pub score-or-spec : {M : Type 1} → statement M
 score-or-spec =

@@ -1,9 +1,0 @@
--- `events::lines::actions_of` meets its contract. Assumes nothing.
-use borrow.Author.Needs.{needs}
-use Rattle.events.proofs.LineLaws.{no-actions}
-use Rattle.events.proofs.lines.actions_of.Statement.{statement}
-use Rattle.events.proofs.lines.actions_of.Tie as tie
-
-pub actions-of-spec : {M : Type 1} → statement M
-actions-of-spec =
-    tie.close (tie.spec (λ c. search needs) (λ c. search needs) (λ c. no-actions (c .before .args .a) (c .match .keys2)))
