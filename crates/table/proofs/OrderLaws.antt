@@ -2,13 +2,14 @@
 -- Assumes nothing.
 use Prim.Native.Nat.{ℕ, _+_, _≤_, _<_}
 use native.Mathlib.Omega.{arith}
-use mathlib.Core.Path.{_≡_, refl, sym, ap, _∙_}
+use mathlib.Core.Path.{_≡_, refl, sym, ap, ap₂, _∙_}
 use mathlib.Core.Bool.{Bool, true, false, not, _&&_, _||_}
 use lib.Dec.{eqb, leb}
 use borrow.Author.Tests.{eqb-true, ne-eqb, le-leb, lt-leb}
 use Rattle.index.proofs.Flags.{by-test}
+use Rattle.records.specs.declared.Peer.{Peer}
 use Rattle.records.specs.declared.TopicRecord.{TopicRecord}
-use Rattle.table.specs.Valid.{maxTime, topicRanges, emptyTopicOk, outsideOk, retainedOk, memberOk, timesOk, topicOk}
+use Rattle.table.specs.Valid.{maxTime, maxEnd, peerRanges, endsUpTo, idOk, emptyOk, retainOk, peerOk, topicRanges, emptyTopicOk, outsideOk, retainedOk, memberOk, timesOk, topicOk}
 use Rattle.table.specs.Order.{counterRanges, flagRanges, restOk}
 
 -- ---- the ranges, one after the other
@@ -110,3 +111,23 @@ module _ (status explicit joined clock cap2 cap3 : ℕ) (t : TopicRecord) where
             (λ b. rw (on, z, a, b) refl))
             (λ a. rw (on, z, a) refl)
             ∙ rest
+
+-- ---- a connected peer's record
+pub connected-is :
+    (p : Peer) (r e : Bool) →
+    p .status ≡ 1 →
+    r ≡ peerRanges p →
+    e ≡ endsUpTo maxEnd p →
+    r && e && (leb 1 (p .id) && eqb (p .retain) 0) ≡ peerOk p
+unfolding peerOk idOk emptyOk retainOk
+connected-is p r e on er ee =
+    let z : peerOk p ≡ peerRanges p && endsUpTo maxEnd p && leb 1 (p .id) && true && eqb (p .retain) 0 = rw on refl in
+    ap₂ (λ (a b : Bool). a && b && (leb 1 (p .id) && eqb (p .retain) 0)) er ee
+    ∙ turn (peerRanges p) (endsUpTo maxEnd p) (leb 1 (p .id)) (eqb (p .retain) 0)
+    ∙ sym z
+  where
+    turn : (a b c d : Bool) → a && b && (c && d) ≡ a && b && c && true && d
+    turn false b c d = refl
+    turn true false c d = refl
+    turn true true false d = refl
+    turn true true true d = refl

@@ -78,11 +78,15 @@ fn zero_peer(p: Peer) -> bool
         & ends
 }
 
+// A connected peer's record is asked no more than concerns it.
 fn peer_ok(p: Peer) -> bool
     ensures { λ r. ⌜ r ≡ peerOk p ⌝ }
 {
     let ranges = peer_ranges(p);
     let ends = ends_up_to(MAX_END, p);
+    if p.status == 1 {
+        return ranges & ends & ((1 <= p.id) & (p.retain == 0));
+    }
     let zeros = zero_peer(p);
     ranges
         & ends
@@ -297,13 +301,14 @@ fn new_id(ids: [u64; SLOTS], slot: usize) -> bool
     ensures { λ r. ⌜ r ≡ every slot (λ k. apart (getD ids slot 0) (getD ids k 0)) ⌝ }
 {
     let id = ids[slot];
-    let mut ok = true;
     let mut k: usize = 0;
     while k < slot {
-        ok = ok & apart(id, ids[k]);
+        if !apart(id, ids[k]) {
+            return false;
+        }
         k += 1;
     }
-    ok
+    true
 }
 
 fn new_ids(ids: [u64; SLOTS]) -> bool
