@@ -139,7 +139,7 @@ fn graft_from(table: &mut [u64], time: u64, id: u64, topic: usize, actions: &mut
     requires { ⌜ Ready (now table) time × ((topic < 8) × (192 ≤ length (now actions))) ⌝ }
     ensures { λ r. ⌜ Gives (effect (stateOf (now (table .entry))) (Calls·graft time id topic)) r (now (table .entry)) (now (table .exit)) (now (actions .entry)) (now (actions .exit)) ⌝ }
 {
-    let Found::At(slot) = table::find::find_connected(table, id) else {
+    let Found::At(slot) = lookup::find::find_connected(table, id) else {
         return Answer::NotConnected;
     };
     if is_heard(table, topic, slot) {
@@ -174,7 +174,7 @@ fn prune_from(table: &mut [u64], time: u64, id: u64, topic: usize, seconds: u64)
     requires { ⌜ Ready (now table) time × (topic < 8) ⌝ }
     ensures { λ r. ⌜ Leaves (effect (stateOf (now (table .entry))) (Calls·prune time id topic seconds)) r (now (table .entry)) (now (table .exit)) ⌝ }
 {
-    let Found::At(slot) = table::find::find_connected(table, id) else {
+    let Found::At(slot) = lookup::find::find_connected(table, id) else {
         return Answer::NotConnected;
     };
     if is_heard(table, topic, slot) {

@@ -12,7 +12,7 @@ use Rattle.records.specs.declared.TopicRecord.{TopicRecord}
 use Rattle.records.specs.Records.{State, place, topicIn, setClock, setTopic}
 use Rattle.cells.specs.View.{stateOf}
 use Rattle.cells.proofs.StateLaws.{topic-other, topic-case}
-use Rattle.table.specs.Find.{findConnected}
+use Rattle.lookup.specs.Find.{findConnected}
 use Rattle.score.specs.declared.TopicParams.{TopicParams}
 use Rattle.score.specs.Counters.{withCounters, firstOf, nearFirstOf, invalidOf}
 use Rattle.score.specs.Score.{topicParamsIn}

@@ -7,7 +7,7 @@ use lib.ListN.{length}
 use Rattle.index.specs.declared.Found.the-variants.{At}
 use Rattle.records.specs.Records.{State, place, topicIn}
 use Rattle.cells.specs.View.{stateOf}
-use Rattle.table.specs.Find.{findConnected}
+use Rattle.lookup.specs.Find.{findConnected}
 use Rattle.score.specs.Counters.{withCounters}
 use Rattle.rules.specs.declared.Answer.{Answer}
 use Rattle.rules.specs.Calls.{deliver}

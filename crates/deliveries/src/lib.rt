@@ -23,11 +23,11 @@ use gate::is_heard;
 use gate::time_ok;
 use gate::topic_ok;
 use index::Found;
+use lookup::find::find_connected;
 use records::SLOTS;
 use records::TOPICS;
 use rules::Answer;
 use rules::Gate;
-use table::find::find_connected;
 
 // The counters of a slot in a topic, after one delivery. Kinds: 1 first, 2 near-first, 3 invalid.
 fn deliver_slot(table: &mut [u64], topic: usize, slot: usize, kind: u64)

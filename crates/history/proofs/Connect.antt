@@ -13,11 +13,11 @@ use Rattle.index.specs.declared.Found.the-variants.{At, Nothing}
 use Rattle.records.specs.declared.Peer.{Peer}
 use Rattle.records.specs.Records.{State, peerIn, setClock, setPeer}
 use Rattle.cells.proofs.StateLaws.{peer-case, peer-other, peer-after-clock, codes-after-clock, codes-after-peer}
-use Rattle.table.specs.declared.Named.{Named}
-use Rattle.table.specs.declared.Named.the-variants.{Version, Unknown}
-use Rattle.table.specs.Name.{versionOf}
-use Rattle.table.specs.Find.{findConnected, findRetained, lowestEmpty}
-use Rattle.table.proofs.FindLaws.{retained-at, empty-at, none-connected}
+use Rattle.lookup.specs.declared.Named.{Named}
+use Rattle.lookup.specs.declared.Named.the-variants.{Version, Unknown}
+use Rattle.lookup.specs.Name.{versionOf}
+use Rattle.lookup.specs.Find.{findConnected, findRetained, lowestEmpty}
+use Rattle.lookup.proofs.FindLaws.{retained-at, empty-at, none-connected}
 use Rattle.effects.specs.Effects.{connectedAs, isMember, reclaimed}
 use Rattle.effects.proofs.EffectLaws.{member-peer, reclaimed-stays, reclaimable-connected}
 use Rattle.rules.specs.declared.Answer.the-variants.{AlreadyConnected, NoSlot, UnknownProtocol}

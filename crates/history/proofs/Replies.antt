@@ -13,8 +13,8 @@ use Rattle.index.proofs.Flags.{by-test}
 use Rattle.records.specs.Records.{State, peerIn}
 use Rattle.cells.specs.View.{Sized}
 use Rattle.table.specs.Valid.{valid}
-use Rattle.table.specs.Find.{findConnected}
-use Rattle.table.proofs.FindLaws.{connected-at}
+use Rattle.lookup.specs.Find.{findConnected}
+use Rattle.lookup.proofs.FindLaws.{connected-at}
 use Rattle.rules.specs.declared.Answer.{Answer}
 use Rattle.rules.specs.declared.Answer.the-variants.{NotConnected, NotRouter, OutOfRange, ListShort, Early}
 use Rattle.rules.specs.declared.Gate.{Gate}

@@ -20,9 +20,9 @@ use Rattle.records.specs.declared.TopicRecord.{TopicRecord}
 use Rattle.records.specs.Records.{State, slotCount, noPeer, noTopic, place, codeIn, peerIn, topicIn}
 use Rattle.cells.specs.View.{Sized}
 use Rattle.table.specs.Valid.{valid}
-use Rattle.table.specs.Fresh.{freshState}
+use Rattle.lookup.specs.Fresh.{freshState}
 use Rattle.table.proofs.ValidLaws.{valid-facts}
-use Rattle.table.proofs.FreshLaws.{fresh-valid}
+use Rattle.lookup.proofs.FreshLaws.{fresh-valid}
 use Rattle.effects.specs.Effects.{magnitude, isMember}
 use Rattle.history.specs.Demand3.{Accepted, dHi}
 use Rattle.history.proofs.Fewer.{Fewer}

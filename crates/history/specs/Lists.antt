@@ -6,7 +6,7 @@ use mathlib.Core.List.{List, [], _∷_}
 use lib.IntN.{ℤ}
 use lib.Dec.{eqb}
 use Rattle.records.specs.Records.{State}
-use Rattle.table.specs.Fresh.{freshState}
+use Rattle.lookup.specs.Fresh.{freshState}
 use Rattle.rules.specs.Reply.{numberOf}
 use Rattle.rules.specs.Calls.{Call, connect, disconnect, join, leave, subscribe, unsubscribe, graft, prune, deliver, rate, heartbeat, decay, score}
 use Rattle.rules.specs.Step.{step}

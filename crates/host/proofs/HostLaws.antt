@@ -19,9 +19,9 @@ use Rattle.params.specs.Read.{readOf, verdictNumber, verdictValue}
 use Rattle.params.specs.Write.{writeOf, writtenNumber, writtenValue}
 use Rattle.params.proofs.PlaceLaws.{broken-most, read-most, write-most}
 use Rattle.params.proofs.WriteLaws.{Wrote}
-use Rattle.table.specs.declared.Made.{Made}
-use Rattle.table.specs.declared.Made.the-variants.{Broken}
-use Rattle.table.specs.Fresh.{madeOf, madeNumber, madeValue, Makes}
+use Rattle.lookup.specs.declared.Made.{Made}
+use Rattle.lookup.specs.declared.Made.the-variants.{Broken}
+use Rattle.lookup.specs.Fresh.{madeOf, madeNumber, madeValue, Makes}
 use Rattle.rules.specs.declared.Answer.{Answer}
 use Rattle.rules.specs.declared.Answer.the-variants.{Done, Scored, Early, OutOfRange, NotConnected, AlreadyConnected, NoSlot, UnknownProtocol, NotPermutation, ListShort, Ignored, NotRouter}
 use Rattle.rules.specs.Reply.{actionsOf, refuses}

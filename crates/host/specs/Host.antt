@@ -15,7 +15,7 @@ use Rattle.params.specs.declared.Verdict.the-variants.{Accepted, Malformed, Bro
 use Rattle.params.specs.Check.{firstBroken}
 use Rattle.params.specs.Read.{readOf, verdictNumber, verdictValue}
 use Rattle.params.specs.Write.{writeOf, writtenNumber, writtenValue}
-use Rattle.table.specs.Fresh.{madeOf, leftBy, madeNumber, madeValue}
+use Rattle.lookup.specs.Fresh.{madeOf, leftBy, madeNumber, madeValue}
 use Rattle.effects.specs.Actions.{numbersOf}
 use Rattle.answers.specs.Answers.{packed, answerCode}
 use Rattle.rules.specs.Reply.{refuses}

@@ -6,10 +6,10 @@ ghost use Rattle.params.specs.Ordinary.{ordinaryNumbers};
 ghost use Rattle.table.specs.Valid.{valid};
 ghost use Rattle.host.specs.Host.{HostsRead, HostsWrite, HostsFresh};
 use answers::packed;
+use lookup::Made;
 use params::Params;
 use params::Verdict;
 use params::Written;
-use table::Made;
 
 // The ordinary parameters.
 #[no_mangle]

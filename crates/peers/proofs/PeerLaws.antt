@@ -18,10 +18,10 @@ use Rattle.records.specs.Records.{State, peerIn, isEmpty}
 use Rattle.cells.specs.View.{cellCount, stateOf, Sized}
 use Rattle.cells.proofs.StateLaws.{sized-of}
 use Rattle.cells.proofs.Whole.{determined}
-use Rattle.table.specs.Find.{holds, findConnected, findRetained, lowestEmpty}
-use Rattle.table.specs.declared.Named.{Named}
-use Rattle.table.specs.declared.Named.the-variants.{Version, Unknown}
-use Rattle.table.specs.Name.{versionOf}
+use Rattle.lookup.specs.Find.{holds, findConnected, findRetained, lowestEmpty}
+use Rattle.lookup.specs.declared.Named.{Named}
+use Rattle.lookup.specs.declared.Named.the-variants.{Version, Unknown}
+use Rattle.lookup.specs.Name.{versionOf}
 use Rattle.effects.specs.Effects.{onPeer, retainSeconds, retainedTo, endAfter, leftTopic, departed, reclaimed}
 use Rattle.effects.proofs.EffectLaws.{full-stays}
 use Rattle.rules.specs.declared.Answer.{Answer}

@@ -22,10 +22,10 @@ use gate::finish;
 use gate::id_ok;
 use gate::time_ok;
 use index::Found;
+use lookup::Named;
+use lookup::find::find_connected;
 use rules::Answer;
 use rules::Gate;
-use table::Named;
-use table::find::find_connected;
 
 // A record in a slot becomes a connected one.
 fn connect_at(
@@ -57,10 +57,10 @@ fn connect_known(
     ensures { λ r. ⌜ Leaves (connectIn (stateOf (now (table .entry))) (reclaimed (stateOf (now (table .entry))) time) time id group flags version) r (now (table .entry)) (now (table .exit)) ⌝ }
 {
     reclaim(table, time);
-    if let Found::At(slot) = table::find::find_retained(table, id) {
+    if let Found::At(slot) = lookup::find::find_retained(table, id) {
         return connect_at(table, time, id, group, flags, version, slot);
     }
-    let Found::At(slot) = table::find::lowest_empty(table) else {
+    let Found::At(slot) = lookup::find::lowest_empty(table) else {
         return Answer::NoSlot;
     };
     connect_at(table, time, id, group, flags, version, slot)
@@ -78,7 +78,7 @@ fn connect_from(
     requires { ⌜ Ready (now table) time ⌝ }
     ensures { λ r. ⌜ Leaves (connectReply (stateOf (now (table .entry))) time id group flags (now (name .entry))) r (now (table .entry)) (now (table .exit)) ⌝ }
 {
-    let Named::Version(version) = table::name::version_of(name) else {
+    let Named::Version(version) = lookup::name::version_of(name) else {
         return Answer::UnknownProtocol;
     };
     if let Found::At(_) = find_connected(table, id) {

@@ -18,9 +18,9 @@ use Rattle.groups.proofs.GroupLaws.{readAt-end}
 use Rattle.params.specs.Check.{firstBroken}
 use Rattle.records.specs.Records.{State, paramCount}
 use Rattle.cells.specs.View.{stateOf}
-use Rattle.table.specs.declared.Made.{Made as Fresh}
-use Rattle.table.specs.declared.Made.the-variants.{Done, Broken}
-use Rattle.table.specs.Fresh.{freshState, madeOf, leftBy, Makes}
+use Rattle.lookup.specs.declared.Made.{Made as Fresh}
+use Rattle.lookup.specs.declared.Made.the-variants.{Done, Broken}
+use Rattle.lookup.specs.Fresh.{freshState, madeOf, leftBy, Makes}
 use Rattle.rules.specs.declared.Answer.{Answer}
 use Rattle.rules.specs.Step.{step, actionRoom}
 use Rattle.events.specs.Reading.{Event, event, unknown, malformed, short, cutShort, eventAt}

@@ -1,9 +1,9 @@
 // A whole recorded list of calls, run on a fresh router: the events of a trace's bytes, one after the other. Its promise joins the calls to
 // demand 3: the table that is left is the rules' state after the list, of which demand 3 holds.
 ghost use Rattle.recorded.specs.Recorded.{Runs};
+use lookup::Made;
 use params::Params;
 use replay::Performed;
-use table::Made;
 
 // What came of a recorded list.
 pub enum Recorded {

@@ -17,15 +17,15 @@ pub use topics::unsubscribe;
 ghost use mathlib.Core.Path.{_≡_};
 ghost use Rattle.cells.specs.View.{stateOf};
 ghost use Rattle.table.specs.Valid.{valid};
-ghost use Rattle.table.specs.Fresh.{Makes};
+ghost use Rattle.lookup.specs.Fresh.{Makes};
+use lookup::Made;
 use params::Params;
-use table::Made;
 
 // Makes a fresh router: 9 with its place and the table unchanged, or every cell written.
 pub fn fresh(all: Params, table: &mut [u64; 5340]) -> Made
     ensures { λ r. ⌜ Makes (all .numbers) r (now (table .entry)) (now (table .exit)) ⌝ }
 {
-    table::fresh::fresh(all, table)
+    lookup::fresh::fresh(all, table)
 }
 
 // Test 12: whether the table is a router's.

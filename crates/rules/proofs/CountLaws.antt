@@ -16,10 +16,10 @@ use Rattle.records.specs.Records.{State, slotCount, peerIn}
 use Rattle.sets.specs.Sets.{bySlot, isPermutation}
 use Rattle.mesh.specs.Maintenance.{changesOf, actionsOf as toldActions}
 use Rattle.table.specs.Valid.{valid}
-use Rattle.table.specs.Find.{findConnected, findRetained, lowestEmpty}
-use Rattle.table.specs.declared.Named.{Named}
-use Rattle.table.specs.declared.Named.the-variants.{Version, Unknown}
-use Rattle.table.specs.Name.{versionOf}
+use Rattle.lookup.specs.Find.{findConnected, findRetained, lowestEmpty}
+use Rattle.lookup.specs.declared.Named.{Named}
+use Rattle.lookup.specs.declared.Named.the-variants.{Version, Unknown}
+use Rattle.lookup.specs.Name.{versionOf}
 use Rattle.effects.specs.Actions.{Action, pruneOf}
 use Rattle.effects.specs.Effects.{isJoined, isMember, backoffRuns, unsubscribeBackoff, reclaimed}
 use Rattle.rules.specs.declared.Answer.{Answer}

@@ -9,7 +9,7 @@ use Rattle.index.specs.declared.Found.the-variants.{At, Nothing}
 use Rattle.index.proofs.Flags.{cond-case}
 use Rattle.records.specs.Records.{State, setClock}
 use Rattle.cells.specs.View.{stateOf}
-use Rattle.table.specs.Find.{findConnected}
+use Rattle.lookup.specs.Find.{findConnected}
 use Rattle.rules.specs.declared.Answer.{Answer}
 use Rattle.rules.specs.declared.Answer.the-variants.{Done, NotConnected, Ignored}
 use Rattle.rules.specs.Reply.{Reply, refused, ignored, done}

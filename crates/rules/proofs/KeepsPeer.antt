@@ -17,12 +17,12 @@ use Rattle.records.specs.declared.TopicRecord.{TopicRecord}
 use Rattle.records.specs.Records.{State, noPeer, noTopic, place, joinedIn, peerIn, topicIn, setPeer, setTopic}
 use Rattle.cells.proofs.StateLaws.{topic-after-peer}
 use Rattle.table.specs.Valid.{maxId}
-use Rattle.table.specs.Find.{findConnected, findRetained, lowestEmpty}
-use Rattle.table.specs.declared.Named.{Named}
-use Rattle.table.specs.declared.Named.the-variants.{Version, Unknown}
-use Rattle.table.specs.Name.{versionOf}
-use Rattle.table.proofs.NameLaws.{version-small}
-use Rattle.table.proofs.FindLaws.{retained-at, empty-at, none-connected, none-retained}
+use Rattle.lookup.specs.Find.{findConnected, findRetained, lowestEmpty}
+use Rattle.lookup.specs.declared.Named.{Named}
+use Rattle.lookup.specs.declared.Named.the-variants.{Version, Unknown}
+use Rattle.lookup.specs.Name.{versionOf}
+use Rattle.lookup.proofs.NameLaws.{version-small}
+use Rattle.lookup.proofs.FindLaws.{retained-at, empty-at, none-connected, none-retained}
 use Rattle.table.proofs.ValidLaws.{no-peer, no-topic, zero-is}
 use Rattle.effects.specs.Effects.{withP5, connectedAs, retainedTo, withSubscribed, outOfMesh, leftTopic, departed, endAfter, retainSeconds, reclaimable, emptied, reclaimSlot, reclaimed, onPeer}
 use Rattle.effects.proofs.EffectLaws.{departed-topic, emptied-topic, reclaimed-peer}

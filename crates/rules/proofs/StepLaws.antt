@@ -9,7 +9,7 @@ use Rattle.index.specs.declared.Found.the-variants.{At, Nothing}
 use Rattle.index.proofs.Index.{first-is}
 use Rattle.records.specs.Records.{State}
 use Rattle.cells.specs.View.{stateOf}
-use Rattle.table.specs.Find.{holds, findConnected}
+use Rattle.lookup.specs.Find.{holds, findConnected}
 use Rattle.rules.specs.declared.Answer.{Answer}
 use Rattle.rules.specs.declared.Answer.the-variants.{NotConnected}
 use Rattle.rules.specs.Reply.{Reply, refused}

@@ -14,10 +14,10 @@ use Rattle.records.specs.declared.Peer.{Peer}
 use Rattle.records.specs.declared.TopicRecord.{TopicRecord}
 use Rattle.records.specs.Records.{State, slotCount, topicCount, codeIn, peerIn, topicIn, place, setClock, setPeer, setJoined, isConnected}
 use Rattle.table.specs.Valid.{valid}
-use Rattle.table.specs.Find.{findConnected, findRetained, lowestEmpty}
-use Rattle.table.specs.declared.Named.{Named}
-use Rattle.table.specs.declared.Named.the-variants.{Version, Unknown}
-use Rattle.table.specs.Name.{versionOf}
+use Rattle.lookup.specs.Find.{findConnected, findRetained, lowestEmpty}
+use Rattle.lookup.specs.declared.Named.{Named}
+use Rattle.lookup.specs.declared.Named.the-variants.{Version, Unknown}
+use Rattle.lookup.specs.Name.{versionOf}
 use Rattle.score.specs.declared.TopicParams.{TopicParams}
 use Rattle.score.specs.Score.{scoreIn, topicParamsIn}
 use Rattle.score.specs.Counters.{countMost, raisedOf, firstOf, nearFirstOf, invalidOf, grownOf, fadedOf, decayedOf}

@@ -1,5 +1,2 @@
 pub mod Valid
 pub mod Order
-pub mod Find
-pub mod Name
-pub mod Fresh

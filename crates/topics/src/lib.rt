@@ -45,7 +45,7 @@ fn subscribe_from(table: &mut [u64], time: u64, id: u64, topic: usize) -> Answer
     requires { ⌜ Ready (now table) time × (topic < 8) ⌝ }
     ensures { λ r. ⌜ Leaves (effect (stateOf (now (table .entry))) (Calls·subscribe time id topic)) r (now (table .entry)) (now (table .exit)) ⌝ }
 {
-    let Found::At(slot) = table::find::find_connected(table, id) else {
+    let Found::At(slot) = lookup::find::find_connected(table, id) else {
         return Answer::NotConnected;
     };
     if is_graylisted(table, slot) {
@@ -76,7 +76,7 @@ fn unsubscribe_from(table: &mut [u64], time: u64, id: u64, topic: usize) -> Answ
     requires { ⌜ Ready (now table) time × (topic < 8) ⌝ }
     ensures { λ r. ⌜ Leaves (effect (stateOf (now (table .entry))) (Calls·unsubscribe time id topic)) r (now (table .entry)) (now (table .exit)) ⌝ }
 {
-    let Found::At(slot) = table::find::find_connected(table, id) else {
+    let Found::At(slot) = lookup::find::find_connected(table, id) else {
         return Answer::NotConnected;
     };
     if is_graylisted(table, slot) {

@@ -7,7 +7,7 @@ use native.Mathlib.Omega.{arith}
 use lib.ListN.{length}
 use lib.IntN.{ℤ}
 use Rattle.cells.specs.View.{stateOf}
-use Rattle.table.specs.Fresh.{freshState}
+use Rattle.lookup.specs.Fresh.{freshState}
 use Rattle.recorded.proofs.RecordedLaws.{Going, going-none, going-more, ran-all, ran-stopped, accepted, begins, run-refused}
 use Rattle.recorded.proofs.run.Statement.{statement}
 use Rattle.recorded.proofs.run.Tie as tie

@@ -1,0 +1,112 @@
+-- Laws of a fresh router: its codes, the ends of `fresh`, and that it is a router's.
+-- Assumes nothing.
+use Prim.Native.Nat.{ℕ, _+_, _*_, _<_, _≤_}
+use mathlib.Core.Path.{_≡_, refl, sym, ap, _∙_}
+use mathlib.Core.Bool.{true}
+use mathlib.Core.List.{List, [], _∷_, map}
+use native.Mathlib.Omega.{arith}
+use borrow.Author.Tests.{eq-eqb}
+use mir.Syntax.{w64}
+use mir.Val.{SFits, toZ, ofZ}
+use mir.Facts.{toZ-ofZ}
+use lib.Dec.{eqb}
+use lib.ListN.{length, getD, replicate, length-map, length-replicate, getD-replicate, List·getD-map, List·getD-eq-default}
+use lib.Seq.{ext-getD}
+use lib.IntN.{ℤ, pos}
+use Rattle.index.specs.declared.Found.{Found}
+use Rattle.index.specs.declared.Found.the-variants.{At, Nothing}
+use Rattle.index.proofs.Flags.{by-order}
+use Rattle.groups.specs.Codes.{codeOf, numberOf}
+use Rattle.groups.proofs.CodeLaws.{number-code}
+use Rattle.params.specs.Check.{firstBroken, acceptedCodes}
+use Rattle.records.specs.Records.{State, place, noPeer, noTopic, joinedIn, peerIn, topicIn, slotCount, topicCount, paramCount}
+use Rattle.cells.specs.View.{placeCount, zeroState, setCodes, stateOf}
+use Rattle.lookup.specs.declared.Made.{Made}
+use Rattle.lookup.specs.declared.Made.the-variants.{Done, Broken}
+use Rattle.lookup.specs.Fresh.{freshState, madeOf, leftBy, Makes}
+use Rattle.table.specs.Valid.{valid}
+use Rattle.table.proofs.ValidLaws.{Facts, no-peer, no-topic, facts-valid}
+
+-- the code of a number that a call was given
+pub code-of-given : (n : ℤ) (v : ℕ) → SFits w64 n → v ≡ codeOf (toZ w64 (ofZ w64 n)) → v ≡ codeOf n
+code-of-given n v h e = e ∙ ap codeOf (toZ-ofZ h)
+
+-- the codes of all the numbers
+pub codes-all :
+    (codes : List ℕ) (numbers : List ℤ) (i : ℕ) →
+    length codes ≡ paramCount →
+    length numbers ≡ paramCount →
+    paramCount ≤ i →
+    ((k : ℕ) → k < i → getD codes k 0 ≡ codeOf (getD numbers k (pos 0))) →
+    codes ≡ map codeOf numbers
+codes-all codes numbers i l m b h =
+    ext-getD 0 codes (map codeOf numbers) (l ∙ sym (length-map numbers codeOf ∙ m)) (λ k n. h k (omega arith) ∙ sym (List·getD-map codeOf numbers k (pos 0)))
+
+-- a cleared table with the codes of the parameters is a fresh router's
+pub fresh-codes : (numbers : List ℤ) → setCodes zeroState (map codeOf numbers) ≡ freshState numbers
+unfolding setCodes zeroState freshState
+fresh-codes numbers = refl
+
+pub filled :
+    (numbers : List ℤ) (codes : List ℕ) (st st′ : State) →
+    st′ ≡ setCodes st codes →
+    st ≡ zeroState →
+    codes ≡ map codeOf numbers →
+    st′ ≡ freshState numbers
+filled numbers codes st st′ p q r = p ∙ ap (λ (u : State). setCodes u codes) q ∙ ap (setCodes zeroState) r ∙ fresh-codes numbers
+
+-- ---- the ends of `fresh`
+module _ (numbers : List ℤ) (table : List ℕ) (f : Found) (e : f ≡ firstBroken numbers) where
+  pub fresh-broken : (i : ℕ) → f ≡ At i → Makes numbers (Broken i) table table
+  fresh-broken i t =
+      record { answer = rw (← e, t); state = rw (← e, t); kept = λ j q. refl }
+
+  pub fresh-made : (table′ : List ℕ) → f ≡ Nothing → stateOf table′ ≡ freshState numbers → Makes numbers Done table table′
+  fresh-made table′ t s =
+      record {
+        answer = rw (← e, t);
+        state = rw (← e, t) s;
+        kept = λ j q. let z : _≡_ {A = ℕ} 0 1 = cc in absurd (omega arith);
+      }
+
+-- ---- a fresh router is a router's
+numbers-back : (numbers : List ℤ) → map numberOf (map codeOf numbers) ≡ numbers
+numbers-back [] = refl
+numbers-back (n ∷ l) = λ i. number-code n i ∷ numbers-back l i
+
+accepted-back : (numbers : List ℤ) → length numbers ≡ paramCount → firstBroken numbers ≡ Nothing → acceptedCodes (map codeOf numbers) ≡ true
+unfolding acceptedCodes
+accepted-back numbers l e =
+    let m : length (map codeOf numbers) ≡ paramCount = length-map numbers codeOf ∙ l in
+    rw (eq-eqb (length (map codeOf numbers)) paramCount m, numbers-back numbers, e)
+
+module _ (numbers : List ℤ) where
+  fresh-joined : (t : ℕ) → joinedIn (freshState numbers) t ≡ 0
+  unfolding joinedIn freshState
+  fresh-joined t =
+      by-order (getD (replicate 8 0) t 0 ≡ 0) t 8 (λ (h : t < topicCount). getD-replicate 8 t 0 0 h) (λ (h : 8 ≤ t).
+      List·getD-eq-default (replicate 8 0) 0 {n = t} (rw length-replicate h))
+
+  fresh-peer : (s : ℕ) → s < slotCount → peerIn (freshState numbers) s ≡ noPeer
+  unfolding peerIn freshState
+  fresh-peer s h = getD-replicate slotCount s noPeer noPeer h
+
+  fresh-topic : (s t : ℕ) → s < slotCount → t < topicCount → topicIn (freshState numbers) (place s t) ≡ noTopic
+  unfolding topicIn freshState
+  fresh-topic s t h l = getD-replicate placeCount (place s t) noTopic noTopic (omega arith)
+
+  fresh-facts : length numbers ≡ paramCount → firstBroken numbers ≡ Nothing → Facts (freshState numbers)
+  unfolding freshState
+  fresh-facts l e =
+      record {
+        params = accepted-back numbers l e;
+        clock = omega arith;
+        joined = λ t h. rw (fresh-joined t) (omega arith);
+        peer = λ s h. rw (fresh-peer s h) no-peer;
+        topic = λ s t h k. rw (fresh-topic s t h k) (no-topic _ _ _ _ _ _);
+        ids = λ s k h b q. rw (fresh-peer s h);
+      }
+
+  -- the fresh state of parameters that pass the check is a router's
+  pub fresh-valid : length numbers ≡ paramCount → firstBroken numbers ≡ Nothing → valid (freshState numbers) ≡ true
+  fresh-valid l e = facts-valid (freshState numbers) (fresh-facts l e)

@@ -1,0 +1,13 @@
+use borrow.Author.Needs.{needs}
+use Rattle.lookup.specs.Name.{meshsub}
+use Rattle.lookup.proofs.name.is_first.Statement.{statement}
+use Rattle.lookup.proofs.name.is_first.Tie as tie
+
+pub is-first-spec : {M : Type 1} → statement M
+unfolding meshsub
+is-first-spec =
+    tie.close
+    (tie.spec
+    (λ c. search needs)
+    (λ c κs. search needs)
+    (λ c. c .same-bytes .ensures))
