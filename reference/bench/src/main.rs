@@ -10,9 +10,11 @@ use reference::router::{number, Answer, Router, ACTION_LIST};
 use std::hint::black_box;
 use std::time::Instant;
 
+mod count;
 #[cfg(proved)]
 mod proved;
 
+/// How many rounds are timed where no number is given.
 const ROUNDS: usize = 200;
 
 /// A router that is timed: made anew for each round, by copying. The action list is
@@ -28,10 +30,10 @@ impl Timed for Box<plain::Router> {
 }
 
 /// The best nanoseconds of each event.
-fn best_times(filled: &impl Timed, events: &[Event]) -> Vec<u64> {
+fn best_times(filled: &impl Timed, events: &[Event], rounds: usize) -> Vec<u64> {
     let mut best = vec![u64::MAX; events.len()];
     let mut list = [0; ACTION_LIST];
-    for _ in 0..ROUNDS {
+    for _ in 0..rounds {
         let mut router = filled.clone();
         for (event, best) in events.iter().zip(&mut best) {
             let start = Instant::now();
@@ -93,32 +95,44 @@ fn counts(load: &Load) -> Vec<(usize, usize)> {
 }
 
 fn main() {
+    let words: Vec<String> = std::env::args().skip(1).collect();
+    match words.iter().map(String::as_str).collect::<Vec<_>>()[..] {
+        [] => print_times(ROUNDS),
+        ["--instructions"] => count::print_instructions(&load()),
+        ["--only", kind, which] => count::only(&load(), kind.parse().expect("a kind"), which),
+        [rounds] => print_times(rounds.parse().expect("a number of rounds")),
+        _ => panic!("usage: bench [ROUNDS | --instructions]"),
+    }
+}
+
+fn print_times(rounds: usize) {
     let load = load();
     let clock = clock_time();
     let plain = filled(plain::Router::new(&load.params), &load);
-    let plain_times = means(&load.events, &best_times(&plain, &load.events), clock);
+    let plain_times = means(&load.events, &best_times(&plain, &load.events, rounds), clock);
+    let plain_test = time(|| black_box(&plain).is_valid());
     #[cfg(proved)]
-    let proved = filled(proved::Router::new(&load.params), &load);
-    #[cfg(proved)]
-    let proved_times = Some(means(&load.events, &best_times(&proved, &load.events), clock));
+    let (proved_times, proved_test) = {
+        let proved = filled(proved::Router::new(&load.params), &load);
+        let times = means(&load.events, &best_times(&proved, &load.events, rounds), clock);
+        (times, time(|| black_box(&proved).is_valid()))
+    };
     #[cfg(not(proved))]
-    let proved_times: Option<Vec<f64>> = None;
-    println!("64 connected peers, nanoseconds a call, test 12 included");
+    let (proved_times, proved_test) = (vec![f64::NAN; CALL_NAMES.len()], f64::NAN);
+    println!("64 connected peers, nanoseconds a call, test 12 included; its share of the proved call in the last column");
     println!(
-        "{:12}{:>8}{:>8}{:>9}{:>9}{:>7}",
-        "call", "events", "done", "plain", "proved", "ratio"
+        "{:12}{:>8}{:>8}{:>9}{:>9}{:>7}{:>9}",
+        "call", "events", "done", "plain", "proved", "ratio", "test 12"
     );
     for (place, (name, (all, done))) in CALL_NAMES.iter().zip(counts(&load)).enumerate() {
-        let plain = plain_times[place];
-        let (proved, ratio) = match &proved_times {
-            Some(times) => (format!("{:.0}", times[place]), format!("{:.2}", times[place] / plain)),
-            None => ("-".to_string(), "-".to_string()),
-        };
-        println!("{name:12}{all:>8}{done:>8}{plain:>9.0}{proved:>9}{ratio:>7}");
+        let (plain, proved) = (plain_times[place], proved_times[place]);
+        let (ratio, share) = (proved / plain, 100.0 * proved_test / proved);
+        println!("{name:12}{all:>8}{done:>8}{plain:>9.0}{proved:>9.0}{ratio:>7.2}{share:>8.0}%");
     }
-    println!("test 12 alone: plain {:.0} ns", time(|| black_box(&plain).is_valid()));
-    #[cfg(proved)]
-    println!("test 12 alone: proved {:.0} ns", time(|| black_box(&proved).is_valid()));
+    let ratio = proved_test / plain_test;
+    println!(
+        "test 12 alone: plain {plain_test:.0} ns, proved {proved_test:.0} ns, ratio {ratio:.2}"
+    );
 }
 
 /// The nanoseconds of one run of `test`, the best of many short rounds.

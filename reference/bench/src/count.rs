@@ -1,0 +1,88 @@
+//! Instructions instead of times: they are the same in every run. Each kind of call
+//! is run under valgrind's callgrind, which counts what `measured_plain` or
+//! `measured_proved` takes.
+
+use crate::{counts, filled, Timed};
+use bench::load::Load;
+use bench::plain;
+use reference::event::{Event, CALL_NAMES};
+use reference::router::{Answer, ACTION_LIST};
+use std::process::Command;
+
+#[cfg(proved)]
+use crate::proved;
+
+/// A call of the plain router that is counted.
+#[no_mangle]
+#[inline(never)]
+fn measured_plain(router: &mut Box<plain::Router>, event: &Event, list: &mut [u32]) -> Answer {
+    Timed::call(router, event, list)
+}
+
+/// A call of the proved library that is counted.
+#[cfg(proved)]
+#[no_mangle]
+#[inline(never)]
+fn measured_proved(router: &mut proved::Router, event: &Event, list: &mut [u32]) -> Answer {
+    router.call(event, list)
+}
+
+/// Every event is called, those of the kind by the function that is counted.
+fn run<T: Timed>(
+    load: &Load,
+    mut router: T,
+    kind: u64,
+    measured: fn(&mut T, &Event, &mut [u32]) -> Answer,
+) {
+    let mut list = [0; ACTION_LIST];
+    for event in load.opening.iter().chain(&load.events) {
+        let counted = event.call.kind() == kind
+            && !load.opening.iter().any(|other| std::ptr::eq(other, event));
+        let _ = if counted {
+            measured(&mut router, event, &mut list)
+        } else {
+            router.call(event, &mut list)
+        };
+    }
+}
+
+/// What callgrind runs.
+pub fn only(load: &Load, kind: u64, which: &str) {
+    match which {
+        "plain" => run(load, plain::Router::new(&load.params), kind, measured_plain),
+        #[cfg(proved)]
+        "proved" => run(load, proved::Router::new(&load.params), kind, measured_proved),
+        _ => panic!("plain or proved"),
+    }
+}
+
+/// The instructions that callgrind counts in this program's own run of one kind.
+fn collected(kind: u64, which: &str) -> Option<u64> {
+    let own = std::env::current_exe().ok()?;
+    let output = Command::new("valgrind")
+        .args(["--tool=callgrind", "--callgrind-out-file=/dev/null"])
+        .arg(format!("--toggle-collect=measured_{which}"))
+        .arg(own)
+        .args(["--only", &kind.to_string(), which])
+        .output()
+        .ok()?;
+    let text = String::from_utf8_lossy(&output.stderr).into_owned();
+    let line = text.lines().find(|line| line.contains("Collected"))?;
+    line.rsplit(' ').next()?.parse().ok()
+}
+
+pub fn print_instructions(load: &Load) {
+    let _ = filled(plain::Router::new(&load.params), load);
+    println!("64 connected peers, instructions a call, test 12 included");
+    println!("{:12}{:>9}{:>9}{:>7}", "call", "plain", "proved", "ratio");
+    for (place, (name, (all, _))) in CALL_NAMES.iter().zip(counts(load)).enumerate() {
+        let kind = place as u64 + 1;
+        let (Some(plain), Some(proved)) = (collected(kind, "plain"), collected(kind, "proved"))
+        else {
+            println!("valgrind is missing on this machine, or the proved library is");
+            return;
+        };
+        let (plain, proved) = (plain as f64 / all as f64, proved as f64 / all as f64);
+        println!("{name:12}{plain:>9.0}{proved:>9.0}{:>7.2}", proved / plain);
+    }
+}
