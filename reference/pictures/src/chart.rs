@@ -11,7 +11,7 @@ const WIDTH: Tenths = px(1120);
 const MARGIN: Tenths = px(16);
 /// Time goes from the one to the other.
 const LEFT: Tenths = px(222);
-const RIGHT: Tenths = px(1032);
+const RIGHT: Tenths = px(1022);
 
 /// From one line of words to the next.
 const LINE: Tenths = px(17);
@@ -69,7 +69,7 @@ const LOOKS: [Look; 6] = [
     look(State::Inbound, "member, inbound", "#56b4e9", 9),
     look(State::Connected, "connected, no member", "#aaaaaa", 3),
     look(State::Backoff, "pruned, backoff runs", "#e69f00", 6),
-    look(State::Below, "kept out, score below zero", "#993d00", 4),
+    look(State::Below, "score below zero", "#993d00", 4),
     look(State::Retained, "gone, record kept", "#555555", 0),
 ];
 
