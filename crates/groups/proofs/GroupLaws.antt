@@ -8,7 +8,7 @@ use mathlib.Core.List.{List, [], _∷_, _++_}
 use native.Mathlib.Omega.{arith}
 use native.Mathlib.Nat.{le-refl, pow-suc}
 use native.Mathlib.Numerals.{add-one}
-use borrow.Author.Tests.{lt-ltb, le-ltb, ltb-true, ltb-false, le-leb, lt-leb, leb-true, leb-false, ne-eqb}
+use borrow.Author.Tests.{lt-ltb, le-ltb, ltb-true, ltb-false, le-leb, lt-leb, leb-true, leb-false, eqb-false, ne-eqb}
 use lib.Dec.{ltb, leb, eqb, eqb·suc-zero}
 use lib.ListN.{length, set, drop, take, getD, drop-of-length-le}
 use lib.Seq.{drop-cons, sets, set-comm, drop-append-seam, getD-drop, drop-drop}
@@ -138,6 +138,21 @@ pub afterMore-near : (top b v next : ℕ) (r : Read) → r ≡ Number v next →
 afterMore-near top b v next r e z h = rw (e, ne-eqb v 0 z, le-leb (v * 128 + (b - 128)) top h)
 
 -- the two ends of `read_up_to`
+-- a byte with its top bit set begins no number below 128
+pub after-small : (top b : ℕ) (r : Read) → top < 128 → afterMore top b r ≡ Bad
+after-small top b Bad h = refl
+after-small top b (Number v next) h =
+    by-test
+    (afterMore top b (Number v next) ≡ Bad)
+    (eqb v 0)
+    (λ t. rw t)
+    (λ t. let n : v ≡ 0 → ⊥ = eqb-false v 0 t in sym (afterMore-far top b v next (Number v next) refl n (omega arith)))
+
+pub small-is : (top at low : ℕ) (s : List ℕ) → low ≡ getD s at 0 → at < length s → 128 ≤ low → top < 128 → Bad ≡ readAt top s at
+small-is top at low s e i h k =
+    let b : 128 ≤ getD s at 0 = omega arith in
+    sym (readAt-more top s at i b ∙ after-small top (getD s at 0) (readAt (top / 128) s (at + 1)) k)
+
 pub last-is : (top at low : ℕ) (s : List ℕ) (r : Read) → r ≡ lastGroup top low (at + 1) → low ≡ getD s at 0 → at < length s → low < 128 → r ≡ readAt top s at
 last-is top at low s r e b h l = e ∙ ap (λ (x : ℕ). lastGroup top x (at + 1)) b ∙ sym (readAt-last top s at h (omega arith))
 

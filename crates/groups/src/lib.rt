@@ -60,7 +60,8 @@ fn after_more(rest: Read, low: u64, top: u64) -> Read
     }
 }
 
-// The number up to `top` that stands at `at`.
+// The number up to `top` that stands at `at`. It ends where no further group can be within `top`, so its depth is that of the width, however
+// many bytes follow.
 fn read_up_to(s: &[u8], at: usize, top: u64) -> Read
     ensures { λ r. ⌜ r ≡ readAt top (now (s .entry)) at ⌝ }
 {
@@ -70,6 +71,9 @@ fn read_up_to(s: &[u8], at: usize, top: u64) -> Read
     let low = wide(s[at]);
     if low < 128 {
         return last_group(low, at + 1, top);
+    }
+    if top < 128 {
+        return Read::Bad;
     }
     after_more(read_up_to(s, at + 1, top / 128), low, top)
 }

@@ -7,7 +7,6 @@ use mathlib.Core.Bool.{Bool, cond}
 use mathlib.Core.List.{List, [], _∷_}
 use native.Mathlib.Omega.{arith}
 use native.Mathlib.Nat.{pow-suc}
-use borrow.Author.Tests.{eqb-false}
 use lib.Dec.{ltb, leb, eqb}
 use lib.ListN.{length, getD}
 use lib.IntN.{ℤ}
@@ -20,7 +19,7 @@ use Rattle.groups.specs.Groups.{readAt, afterMore, lastGroup}
 use Rattle.groups.specs.Codes.{numberOf}
 use Rattle.groups.specs.declared.Read.{Read}
 use Rattle.groups.specs.declared.Read.the-variants.{Number, Bad}
-use Rattle.groups.proofs.GroupLaws.{readAt-end, last-is, more-is, afterMore-far}
+use Rattle.groups.proofs.GroupLaws.{readAt-end, last-is, more-is, after-small}
 use Rattle.params.specs.Check.{outside, broken, asRule, firstBroken}
 use Rattle.params.specs.Read.{Parse, numbers, malformed, then, step, parseFrom, ending, judgedBy, judged, readOf, verdictValue}
 use Rattle.params.specs.Write.{writeBy, writeOf, writtenValue}
@@ -31,16 +30,6 @@ use Rattle.params.proofs.RoundTrip.{bytes-most}
 -- nothing is both
 no : {P : Type 0} (u next : ℕ) → Bad ≡ Number u next → P
 no u next e = let z : _≡_ {A = ℕ} 0 1 = cc in absurd (omega arith)
-
--- a byte with its top bit set begins no number below 128
-pub after-small : (top b : ℕ) (r : Read) → top < 128 → afterMore top b r ≡ Bad
-after-small top b Bad h = refl
-after-small top b (Number v next) h =
-    by-test
-    (afterMore top b (Number v next) ≡ Bad)
-    (eqb v 0)
-    (λ t. rw t)
-    (λ t. let n : v ≡ 0 → ⊥ = eqb-false v 0 t in sym (afterMore-far top b v next (Number v next) refl n (omega arith)))
 
 -- the three ways in which a number begins
 pub by-byte :

@@ -6,7 +6,7 @@ use native.Mathlib.Omega.{arith}
 use borrow.Author.Needs.{needs}
 use borrow.Fn.Kinds.{In}
 use borrow.Fn.PlainCycle.{Measures, is, falls, and}
-use Rattle.groups.proofs.GroupLaws.{readAt-end, last-is, more-is}
+use Rattle.groups.proofs.GroupLaws.{readAt-end, last-is, more-is, small-is}
 use Rattle.groups.proofs.read_up_to.Reads as read-up-to
 use Rattle.groups.proofs.read_up_to.Kinds as read-up-to-kinds
 use Rattle.groups.proofs.+read_up_to.Lts-read_up_to as read-up-to-lts
@@ -36,7 +36,8 @@ pub +read-up-to-spec : {M : Type 1} → statement M
     (λ c. omega arith)
     (λ c κs. tt)
     (λ c. last-is _ _ _ _ _ (c .last-group .ensures) (c .before .before .wide .ensures) (omega arith) (omega arith))
+    (λ c. small-is _ _ _ _ (c .before .before .wide .ensures) (omega arith) (omega arith) (omega arith))
     (λ c. omega arith)
     (λ c κs. (omega arith, tt))
-    (λ c κs. (omega arith, omega (arith, c .before .before .wide .ensures, c .before .before .before .shared-slice-known2 .given (c .before .before .before .before .before .before .args .at))))
-    (λ c. more-is _ _ _ _ _ _ (c .after-more .ensures) (c .before .read-up-to .ensures) (c .before .before .before .wide .ensures) (omega arith) (omega arith))
+    (λ c κs. (omega arith, omega (arith, c .before .before .before .wide .ensures, c .before .before .before .before .shared-slice-known2 .given (c .before .before .before .before .before .before .before .args .at))))
+    (λ c. more-is _ _ _ _ _ _ (c .after-more .ensures) (c .before .read-up-to .ensures) (c .before .before .before .before .wide .ensures) (omega arith) (omega arith))
