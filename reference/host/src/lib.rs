@@ -1,0 +1,19 @@
+//! The in-process comparison: the proved library, by its C functions, and the second program's router
+//! get the same calls; answers, action lists and every cell of the table must be the same after each.
+
+pub mod cells;
+pub mod counts;
+pub mod damage;
+pub mod edges;
+pub mod lent;
+pub mod library;
+#[cfg(not(feature = "stand_in"))]
+pub mod linked;
+pub mod made;
+pub mod pair;
+pub mod parameters;
+pub mod report;
+pub mod request;
+pub mod runs;
+pub mod stand_in;
+pub mod swept;

@@ -1,0 +1,43 @@
+//! What the comparison asks of the library: its C functions, each with slices in the place of pointers
+//! and lengths.
+
+use crate::cells::Cells;
+use crate::request::Request;
+use reference::params::COUNT;
+
+pub type Numbers = [i64; COUNT];
+
+pub trait Library {
+    /// Makes one of the thirteen calls. The answer's number is the low eight bits of what comes back, the
+    /// count of actions stands above it; the score goes to the lent number.
+    fn call(&self, request: &Request, table: &mut Cells, score: &mut i64, list: &mut [u32]) -> u64;
+
+    fn ordinary(&self, numbers: &mut Numbers);
+
+    /// 0 with the length, 9 with the index or rule, 10 with the place.
+    fn read(&self, bytes: &[u8], numbers: &mut Numbers) -> u64;
+
+    /// 0 with the length, 8, or 9 with the index or rule.
+    fn write(&self, numbers: &Numbers, buffer: &mut [u8]) -> u64;
+
+    /// 0, or 9 with the index or rule.
+    fn fresh(&self, numbers: &Numbers, table: &mut Cells) -> u64;
+
+    /// 1 if the table is a router's, else 0.
+    fn is_router(&self, table: &Cells) -> u32;
+}
+
+/// A number of 01's table and the value that goes with it, as one number.
+pub fn packed(number: u32, value: usize) -> u64 {
+    u64::from(number) + 256 * value as u64
+}
+
+/// The number of 01's table.
+pub fn number(result: u64) -> u32 {
+    (result % 256) as u32
+}
+
+/// The value that goes with it.
+pub fn value(result: u64) -> u64 {
+    result / 256
+}

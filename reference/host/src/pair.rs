@@ -1,0 +1,206 @@
+//! The two sides of one call: the library with its lent memory, and the second program's router.
+
+use crate::cells::{self, Cells, Spot, CELLS, CLOCK};
+use crate::lent::Lent;
+use crate::library::{number, value, Library};
+use crate::request::Request;
+use crate::stand_in::code;
+use reference::router::{Answer, Done, Router};
+
+/// Of many cells that differ, so many are told.
+const SHOWN: usize = 12;
+
+/// What differs, a line each.
+#[derive(Clone, PartialEq, Eq, Debug)]
+pub struct Difference(pub Vec<String>);
+
+/// The library's table between calls, and room for comparing.
+pub struct Pair<'a, L> {
+    library: &'a L,
+    table: Lent<u64>,
+    list: Lent<u32>,
+    /// The table before the call; after it, by the second program.
+    before: Box<Cells>,
+    expected: Box<Cells>,
+    /// The second program's list.
+    other_list: Vec<u32>,
+    made: u64,
+}
+
+/// What the library gave back for one call.
+struct Given {
+    result: u64,
+    score: i64,
+    /// What stood in the lent number before.
+    score_before: i64,
+}
+
+impl<'a, L: Library> Pair<'a, L> {
+    pub fn new(library: &'a L, start: &Router) -> Pair<'a, L> {
+        let mut pair = Pair {
+            library,
+            table: Lent::new(CELLS, 0),
+            list: Lent::default(),
+            before: Box::new([0; CELLS]),
+            expected: Box::new([0; CELLS]),
+            other_list: Vec::new(),
+            made: 0,
+        };
+        pair.load(&cells::table_of(start));
+        pair
+    }
+
+    /// Goes on from another table.
+    pub fn load(&mut self, cells: &Cells) {
+        self.table.lent_mut().copy_from_slice(cells);
+        self.before.copy_from_slice(cells);
+    }
+
+    pub fn table(&self) -> &Cells {
+        self.table.lent().try_into().expect("a table has its cells")
+    }
+
+    /// Makes a call on both sides. The router is the second program's, and holds the state of the table.
+    pub fn make(&mut self, router: &mut Router, request: &Request) -> Result<Answer, Difference> {
+        let given = self.make_here(request);
+        let answer = router.call(&request.event, &mut self.other_list);
+        cells::write(router, &mut self.expected);
+        let mut found = Vec::new();
+        self.compare_answer(&given, &answer, &mut found);
+        self.compare_list(&mut found);
+        self.compare_table(&mut found);
+        self.judge(request, &given, &mut found);
+        // What a refusal left was found unchanged.
+        if matches!(number(given.result), 0 | 11) {
+            self.before.copy_from_slice(self.table.lent());
+        }
+        if found.is_empty() {
+            Ok(answer)
+        } else {
+            Err(Difference(found))
+        }
+    }
+
+    /// Makes a call of a table that is no router's: 12 is due, and no change.
+    pub fn refuse(&mut self, request: &Request) -> Result<(), Difference> {
+        let given = self.make_here(request);
+        let mut found = Vec::new();
+        if given.result != 12 {
+            found.push(format!("answer: library {}, due 12", shown(given.result)));
+        }
+        self.judge(request, &given, &mut found);
+        if found.is_empty() {
+            Ok(())
+        } else {
+            Err(Difference(found))
+        }
+    }
+
+    /// The library's own test 12.
+    pub fn is_router(&self) -> Result<bool, Difference> {
+        match self.library.is_router(self.table()) {
+            0 => Ok(false),
+            1 => Ok(true),
+            other => Err(Difference(vec![format!("is_router: {other}, neither 0 nor 1")])),
+        }
+    }
+
+    /// 01: "Each call keeps this so".
+    pub fn keeps_a_router(&self) -> Result<(), Difference> {
+        match self.is_router()? {
+            true => Ok(()),
+            false => Err(Difference(vec!["is_router: 0 of a table that a call left".to_string()])),
+        }
+    }
+
+    fn make_here(&mut self, request: &Request) -> Given {
+        self.made += 1;
+        self.list.refill(request.list, self.made);
+        self.other_list.clear();
+        self.other_list.extend_from_slice(self.list.lent());
+        let score_before = !(self.made as i64);
+        let mut score = score_before;
+        let table = self.table.lent_mut().try_into().expect("a table has its cells");
+        let result = self.library.call(request, table, &mut score, self.list.lent_mut());
+        Given { result, score, score_before }
+    }
+
+    fn compare_answer(&self, given: &Given, answer: &Answer, found: &mut Vec<String>) {
+        let due = code(answer);
+        if given.result != due {
+            let (library, second) = (shown(given.result), shown(due));
+            found.push(format!("answer: library {library}, second program {second}"));
+        }
+        let score = match *answer {
+            Ok(Done::Score(score)) => score,
+            _ => given.score_before,
+        };
+        if given.score != score {
+            found.push(format!("score: library {}, due {score}", given.score));
+        }
+    }
+
+    fn compare_list(&self, found: &mut Vec<String>) {
+        if self.list.lent() != self.other_list {
+            let pairs = self.list.lent().iter().zip(&self.other_list).enumerate();
+            let (place, (library, second)) =
+                pairs.into_iter().find(|(_, (a, b))| a != b).expect("the lengths are the same");
+            found.push(format!(
+                "action list, number {place}: library {library}, second program {second}"
+            ));
+        }
+    }
+
+    fn compare_table(&self, found: &mut Vec<String>) {
+        if *self.table() == *self.expected {
+            return;
+        }
+        let differ: Vec<usize> =
+            (0..CELLS).filter(|&cell| self.table()[cell] != self.expected[cell]).collect();
+        for &cell in differ.iter().take(SHOWN) {
+            let (library, second) = (self.table()[cell], self.expected[cell]);
+            let (spot, before) = (Spot::of(cell), self.before[cell]);
+            found.push(format!(
+                "cell {cell}, {spot}: library {library}, second program {second}, before {before}"
+            ));
+        }
+        found.push(format!("{} cells differ", differ.len()));
+    }
+
+    /// What the library owes whatever the second program says: nothing written outside of what is lent; a
+    /// refusal changes nothing, an ignored call the clock alone; the list past the actions stands.
+    fn judge(&self, request: &Request, given: &Given, found: &mut Vec<String>) {
+        let (number, count) = (number(given.result), value(given.result) as usize);
+        let mut owe = |holds: bool, what: &str| {
+            if !holds {
+                found.push(what.to_string());
+            }
+        };
+        owe(self.table.guards_stand(), "the library wrote outside of the table");
+        owe(self.list.guards_stand(), "the library wrote outside of the action list");
+        owe(
+            self.list.stands_from(if number == 0 { 3 * count } else { 0 }),
+            "the library changed the list past its actions",
+        );
+        let changed_from = |cell: usize| self.table()[cell..] != self.before[cell..];
+        match number {
+            0 => {}
+            11 => {
+                owe(!changed_from(CLOCK + 1), "an ignored call changed more than the clock");
+                owe(
+                    self.table()[CLOCK] == request.event.now,
+                    "an ignored call's clock is not its time",
+                );
+            }
+            _ => {
+                owe(!changed_from(0), "a refused call changed the table");
+                owe(given.score == given.score_before, "a refused call changed the score");
+            }
+        }
+    }
+}
+
+/// A result as number and value.
+fn shown(result: u64) -> String {
+    format!("{} {}", number(result), value(result))
+}

@@ -1,0 +1,72 @@
+//! The second program in the place of the library, by the same functions: with it the comparison runs
+//! where there is no libhost.a, and its tests set faults into it.
+
+use crate::cells::{self, Cells};
+use crate::library::{packed, Library, Numbers};
+use crate::request::Request;
+use reference::params::{self, Params};
+use reference::router::{number, Answer, Done, Refusal, Router};
+
+pub struct StandIn;
+
+/// An answer as the library gives it; a score goes another way.
+pub fn code(answer: &Answer) -> u64 {
+    match answer {
+        Ok(Done::Actions(count)) => packed(0, *count),
+        _ => packed(number(answer), 0),
+    }
+}
+
+fn code_of_refusal(refusal: params::Refusal) -> u64 {
+    packed(refusal.number, refusal.place)
+}
+
+impl Library for StandIn {
+    fn call(&self, request: &Request, table: &mut Cells, score: &mut i64, list: &mut [u32]) -> u64 {
+        let Some(mut router) = cells::router_of(table) else {
+            return code(&Err(Refusal::NotARouter));
+        };
+        let answer = router.call(&request.event, list);
+        if let Ok(Done::Score(given)) = answer {
+            *score = given;
+        }
+        // The tables of a router that is none may hold what no cell can.
+        if answer != Err(Refusal::NotARouter) {
+            cells::write(&router, table);
+        }
+        code(&answer)
+    }
+
+    fn ordinary(&self, numbers: &mut Numbers) {
+        *numbers = Params::ordinary().numbers;
+    }
+
+    fn read(&self, bytes: &[u8], numbers: &mut Numbers) -> u64 {
+        match params::read(bytes) {
+            Ok((params, length)) => {
+                *numbers = params.numbers;
+                packed(0, length)
+            }
+            Err(refusal) => code_of_refusal(refusal),
+        }
+    }
+
+    fn write(&self, numbers: &Numbers, buffer: &mut [u8]) -> u64 {
+        let params = Params { numbers: *numbers };
+        params::write(&params, buffer).map_or_else(code_of_refusal, |length| packed(0, length))
+    }
+
+    fn fresh(&self, numbers: &Numbers, table: &mut Cells) -> u64 {
+        match Router::new(Params { numbers: *numbers }) {
+            Ok(router) => {
+                cells::write(&router, table);
+                packed(0, 0)
+            }
+            Err(refusal) => code_of_refusal(refusal),
+        }
+    }
+
+    fn is_router(&self, table: &Cells) -> u32 {
+        u32::from(cells::router_of(table).is_some_and(|router| router.is_valid()))
+    }
+}

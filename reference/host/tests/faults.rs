@@ -1,0 +1,650 @@
+//! The comparison notices faults: each is set into the stand-in, and the part that is to find it does. The
+//! stand-in without a fault shows no difference.
+
+use host_compare::cells::{
+    self, peer, peer_cell, record, record_cell, Cells, CELLS, CLOCK, JOINED,
+};
+use host_compare::counts::Counts;
+use host_compare::library::{packed, Library, Numbers};
+use host_compare::request::Request;
+use host_compare::stand_in::StandIn;
+use host_compare::{edges, made, parameters, report, runs, swept};
+use reference::event::{Call, LAST_TIME, P5_LIMIT, SLOTS};
+use reference::params::{general, topic, topic_index, COUNT};
+use reference::random::Random;
+use reference::router::{Router, ACTION_LIST};
+
+type CallOf = fn(&Request, &mut Cells, &mut i64, &mut [u32]) -> u64;
+
+/// The stand-in with some functions replaced.
+struct Faulty {
+    call: CallOf,
+    ordinary: fn(&mut Numbers),
+    read: fn(&[u8], &mut Numbers) -> u64,
+    write: fn(&Numbers, &mut [u8]) -> u64,
+    fresh: fn(&Numbers, &mut Cells) -> u64,
+    is_router: fn(&Cells) -> u32,
+}
+
+impl Library for Faulty {
+    fn call(&self, r: &Request, table: &mut Cells, score: &mut i64, list: &mut [u32]) -> u64 {
+        (self.call)(r, table, score, list)
+    }
+    fn ordinary(&self, numbers: &mut Numbers) {
+        (self.ordinary)(numbers)
+    }
+    fn read(&self, bytes: &[u8], numbers: &mut Numbers) -> u64 {
+        (self.read)(bytes, numbers)
+    }
+    fn write(&self, numbers: &Numbers, buffer: &mut [u8]) -> u64 {
+        (self.write)(numbers, buffer)
+    }
+    fn fresh(&self, numbers: &Numbers, table: &mut Cells) -> u64 {
+        (self.fresh)(numbers, table)
+    }
+    fn is_router(&self, table: &Cells) -> u32 {
+        (self.is_router)(table)
+    }
+}
+
+const SOUND: Faulty = Faulty {
+    call: |request, table, score, list| StandIn.call(request, table, score, list),
+    ordinary: |numbers| StandIn.ordinary(numbers),
+    read: |bytes, numbers| StandIn.read(bytes, numbers),
+    write: |numbers, buffer| StandIn.write(numbers, buffer),
+    fresh: |numbers, table| StandIn.fresh(numbers, table),
+    is_router: |table| StandIn.is_router(table),
+};
+
+fn with_call(call: CallOf) -> Faulty {
+    Faulty { call, ..SOUND }
+}
+
+// The parts of the comparison, small.
+
+fn run(library: &Faulty, calls: u64) -> Option<Box<runs::Failure>> {
+    let mut counts = Counts::default();
+    runs::compare(library, calls, 8, &mut Random::new(3), &mut counts).err()
+}
+
+fn states() -> Vec<Router> {
+    let mut random = Random::new(4);
+    (0..13).map(|_| made::router(&mut random)).collect()
+}
+
+fn edges_differ(library: &Faulty) -> bool {
+    edges::compare(library, &states(), &mut Random::new(5), &mut Counts::default()).is_err()
+}
+
+fn tables_differ(library: &Faulty) -> bool {
+    swept::compare(library, &states(), &mut Random::new(6), &mut Counts::default()).is_err()
+}
+
+fn parameters_differ(library: &Faulty) -> bool {
+    let mut counts = Counts::default();
+    parameters::compare(library, 4000, usize::MAX, &mut Random::new(7), &mut counts).is_err()
+}
+
+fn each_is_seen(faults: &[(&str, Faulty)], differs: impl Fn(&Faulty) -> bool) {
+    for (name, faulty) in faults {
+        assert!(differs(faulty), "not noticed: {name}");
+    }
+}
+
+#[test]
+fn without_a_fault_there_is_no_difference() {
+    assert!(run(&SOUND, 30_000).is_none());
+    assert!(!edges_differ(&SOUND));
+    assert!(!tables_differ(&SOUND));
+    assert!(!parameters_differ(&SOUND));
+}
+
+/// The call on a table that was changed before, the change undone after.
+fn with_number(
+    request: &Request,
+    table: &mut Cells,
+    score: &mut i64,
+    list: &mut [u32],
+    (index, step): (usize, u64),
+) -> u64 {
+    let cell = cells::CODES + index;
+    let before = table[cell];
+    table[cell] += 2 * step;
+    if StandIn.is_router(table) == 0 {
+        table[cell] = before;
+    }
+    let result = StandIn.call(request, table, score, list);
+    table[cell] = before;
+    result
+}
+
+#[test]
+fn wrong_answers_lists_and_tables_are_seen() {
+    let faults: [(&str, Faulty); 14] = [
+        (
+            "11 in the place of 3",
+            with_call(|request, table, score, list| {
+                match StandIn.call(request, table, score, list) {
+                    3 => 11,
+                    other => other,
+                }
+            }),
+        ),
+        (
+            "one action too many told",
+            with_call(|request, table, score, list| {
+                let result = StandIn.call(request, table, score, list);
+                if result > 255 {
+                    result + 256
+                } else {
+                    result
+                }
+            }),
+        ),
+        (
+            "a refusal writes the list",
+            with_call(|request, table, score, list| {
+                let result = StandIn.call(request, table, score, list);
+                if let (1, Some(last)) = (result, list.last_mut()) {
+                    *last = 0;
+                }
+                result
+            }),
+        ),
+        (
+            "the list past the actions is cleared",
+            with_call(|request, table, score, list| {
+                let result = StandIn.call(request, table, score, list);
+                if result > 255 {
+                    list[3 * (result / 256) as usize..].fill(0);
+                }
+                result
+            }),
+        ),
+        (
+            "two actions change places",
+            with_call(|request, table, score, list| {
+                let result = StandIn.call(request, table, score, list);
+                if result == packed(0, 2) {
+                    list[..6].rotate_left(3);
+                }
+                result
+            }),
+        ),
+        (
+            "a refusal moves the clock",
+            with_call(|request, table, score, list| {
+                let result = StandIn.call(request, table, score, list);
+                if result == 3 {
+                    table[CLOCK] = request.event.now;
+                }
+                result
+            }),
+        ),
+        (
+            "an ignored call leaves the clock",
+            with_call(|request, table, score, list| {
+                let clock = table[CLOCK];
+                let result = StandIn.call(request, table, score, list);
+                if result == 11 {
+                    table[CLOCK] = clock;
+                }
+                result
+            }),
+        ),
+        (
+            "a refused score writes the number",
+            with_call(|request, table, score, list| {
+                let result = StandIn.call(request, table, score, list);
+                if result == 3 {
+                    *score = 0;
+                }
+                result
+            }),
+        ),
+        (
+            "a negative score is one off",
+            with_call(|request, table, score, list| {
+                let before = *score;
+                let result = StandIn.call(request, table, score, list);
+                if *score != before && *score < 0 {
+                    *score += 1;
+                }
+                result
+            }),
+        ),
+        (
+            "one backoff end of one slot stands",
+            with_call(|request, table, score, list| {
+                let cell = peer_cell(40, peer::BACKOFF_ENDS);
+                let before = table[cell];
+                let result = StandIn.call(request, table, score, list);
+                if table[peer_cell(40, peer::STATUS)] == 1 {
+                    table[cell] = before;
+                }
+                result
+            }),
+        ),
+        (
+            "a list of 191 numbers is taken",
+            with_call(|request, table, score, list| {
+                if list.len() != ACTION_LIST - 1 {
+                    return StandIn.call(request, table, score, list);
+                }
+                let mut longer = [0; ACTION_LIST];
+                longer[..list.len()].copy_from_slice(list);
+                let result = StandIn.call(request, table, score, &mut longer);
+                list.copy_from_slice(&longer[..ACTION_LIST - 1]);
+                result
+            }),
+        ),
+        (
+            "a permutation is read by its first 64 numbers",
+            with_call(|request, table, score, list| {
+                let mut event = request.event.clone();
+                if let Call::Heartbeat { permutation, .. } = &mut event.call {
+                    if let Some(slots) = request.permutation(&permutation.clone()).get(..SLOTS) {
+                        permutation.copy_from_slice(slots);
+                    }
+                }
+                StandIn.call(&Request::plain(event), table, score, list)
+            }),
+        ),
+        (
+            "a protocol name is read by its first 14 bytes",
+            with_call(|request, table, score, list| {
+                let mut request = request.clone();
+                if let Call::Connect { name, .. } = &mut request.event.call {
+                    name.truncate(14);
+                }
+                StandIn.call(&request, table, score, list)
+            }),
+        ),
+        (
+            "D_hi is one more",
+            with_call(|request, table, score, list| {
+                with_number(request, table, score, list, (general::D_HI, 1))
+            }),
+        ),
+    ];
+    each_is_seen(&faults, |faulty| run(faulty, 60_000).is_some());
+}
+
+#[test]
+fn numbers_taken_for_others_are_seen() {
+    let faults = [
+        (
+            "a topic is read by eight bits",
+            with_call(|request, table, score, list| {
+                let mut request = request.clone();
+                if let Call::Join { topic } = &mut request.event.call {
+                    *topic %= 256;
+                }
+                StandIn.call(&request, table, score, list)
+            }),
+        ),
+        (
+            "an id is read by 32 bits",
+            with_call(|request, table, score, list| {
+                let mut request = request.clone();
+                if let Call::Disconnect { id } = &mut request.event.call {
+                    *id %= 1 << 32;
+                }
+                StandIn.call(&request, table, score, list)
+            }),
+        ),
+        (
+            "seconds are read by 32 bits",
+            with_call(|request, table, score, list| {
+                let mut request = request.clone();
+                if let Call::Prune { seconds, .. } = &mut request.event.call {
+                    *seconds %= 1 << 32;
+                }
+                StandIn.call(&request, table, score, list)
+            }),
+        ),
+        (
+            "a P5 one past its range is the last in it",
+            with_call(|request, table, score, list| {
+                let mut request = request.clone();
+                if let Call::SetP5 { value, .. } = &mut request.event.call {
+                    if *value == P5_LIMIT + 1 {
+                        *value = P5_LIMIT;
+                    }
+                }
+                StandIn.call(&request, table, score, list)
+            }),
+        ),
+        (
+            "a short list is told before a number out of its range",
+            with_call(|request, table, score, list| {
+                match StandIn.call(request, table, score, list) {
+                    2 if list.len() < ACTION_LIST => 8,
+                    other => other,
+                }
+            }),
+        ),
+    ];
+    each_is_seen(&faults, edges_differ);
+}
+
+// A test 12 that does not see something: it takes the table for one that was put right before.
+
+fn blind(right: fn(&mut Cells), table: &mut Cells) -> bool {
+    let mut better = *table;
+    right(&mut better);
+    let taken = StandIn.is_router(table) == 0 && StandIn.is_router(&better) == 1;
+    if taken {
+        *table = better;
+    }
+    taken
+}
+
+macro_rules! blind_to {
+    ($right:expr) => {
+        Faulty {
+            call: |request, table, score, list| {
+                blind($right, table);
+                StandIn.call(request, table, score, list)
+            },
+            is_router: |table| {
+                let mut table = *table;
+                blind($right, &mut table);
+                StandIn.is_router(&table)
+            },
+            ..SOUND
+        }
+    };
+}
+
+fn each_slot(table: &mut Cells, change: impl Fn(&mut Cells, usize)) {
+    for slot in 0..SLOTS {
+        change(table, slot);
+    }
+}
+
+fn each_record(table: &mut Cells, change: impl Fn(&mut Cells, usize, usize)) {
+    for place in 0..8 * SLOTS {
+        change(table, place / 8, place % 8);
+    }
+}
+
+#[test]
+fn a_test_12_that_misses_something_is_seen() {
+    let faults = [
+        ("the clock", blind_to!(|table| table[CLOCK] = table[CLOCK].min(LAST_TIME))),
+        (
+            "joined flags",
+            blind_to!(|table| table[JOINED..JOINED + 8].iter_mut().for_each(|f| *f = (*f).min(1))),
+        ),
+        (
+            "the last parameter",
+            blind_to!(|table| {
+                let cell = cells::CODES + COUNT - 1;
+                table[cell] = table[cell].min(2 * 999);
+            }),
+        ),
+        (
+            "the seventh joint rule",
+            blind_to!(|table| {
+                for k in 0..8 {
+                    let cell = cells::CODES + topic_index(k, topic::P3_CAP);
+                    let threshold = cells::CODES + topic_index(k, topic::P3_THRESHOLD);
+                    table[cell] = table[cell].max(table[threshold]);
+                }
+            }),
+        ),
+        (
+            "groups",
+            blind_to!(
+                |table| each_slot(table, |t, slot| t[peer_cell(slot, peer::GROUP)] %= 1 << 32)
+            ),
+        ),
+        (
+            "retain ends of connected records",
+            blind_to!(|table| each_slot(table, |t, slot| {
+                if t[peer_cell(slot, peer::STATUS)] == 1 {
+                    t[peer_cell(slot, peer::RETAIN_END)] = 0;
+                }
+            })),
+        ),
+        (
+            "ids that stand twice",
+            blind_to!(|table| each_slot(table, |t, slot| {
+                let ids: Vec<u64> = (0..slot).map(|other| t[peer_cell(other, peer::ID)]).collect();
+                let cell = peer_cell(slot, peer::ID);
+                if t[cell] != 0 && ids.contains(&t[cell]) {
+                    t[cell] = 1_000_000 + slot as u64;
+                }
+            })),
+        ),
+        (
+            "members that are not subscribed",
+            blind_to!(|table| each_record(table, |t, slot, k| {
+                if t[record_cell(slot, k, record::MEMBER)] == 1 {
+                    t[record_cell(slot, k, record::SUBSCRIBED)] = 1;
+                }
+            })),
+        ),
+        (
+            "graft times of non-members",
+            blind_to!(|table| each_record(table, |t, slot, k| {
+                if t[record_cell(slot, k, record::MEMBER)] == 0 {
+                    t[record_cell(slot, k, record::GRAFT)] = 0;
+                }
+            })),
+        ),
+        (
+            "sums of graft and mesh time that do not fit",
+            blind_to!(|table| each_record(table, |t, slot, k| {
+                let (graft, mesh) =
+                    (record_cell(slot, k, record::GRAFT), record_cell(slot, k, record::MESH));
+                if t[graft].checked_add(t[mesh]).is_none() {
+                    t[graft] = 0;
+                    t[mesh] = 0;
+                }
+            })),
+        ),
+        (
+            "the last cell",
+            blind_to!(|table| {
+                if table[record_cell(63, 7, record::MEMBER)] == 0 {
+                    table[CELLS - 1] = 0;
+                }
+            }),
+        ),
+    ];
+    each_is_seen(&faults, tables_differ);
+}
+
+#[test]
+fn a_test_12_that_refuses_too_much_is_seen() {
+    let strict: Faulty = Faulty {
+        call: |request, table, score, list| {
+            if table[CLOCK] == LAST_TIME {
+                return 12;
+            }
+            StandIn.call(request, table, score, list)
+        },
+        ..SOUND
+    };
+    assert!(run(&strict, 60_000).is_some());
+}
+
+#[test]
+fn wrong_refusals_of_damaged_tables_are_seen() {
+    let faults = [
+        (
+            "2 is told before 12",
+            with_call(|request, table, score, list| {
+                if request.event.now > LAST_TIME {
+                    return 2;
+                }
+                StandIn.call(request, table, score, list)
+            }),
+        ),
+        (
+            "8 is told before 12",
+            with_call(|request, table, score, list| {
+                if list.len() < ACTION_LIST {
+                    return 8;
+                }
+                StandIn.call(request, table, score, list)
+            }),
+        ),
+        (
+            "12 changes the table",
+            with_call(|request, table, score, list| {
+                let result = StandIn.call(request, table, score, list);
+                if result == 12 {
+                    table[CELLS - 1] ^= 1;
+                }
+                result
+            }),
+        ),
+        (
+            "12 changes the list",
+            with_call(|request, table, score, list| {
+                let result = StandIn.call(request, table, score, list);
+                if result == 12 && !list.is_empty() {
+                    list[0] ^= 1;
+                }
+                result
+            }),
+        ),
+        ("is_router always says so", Faulty { is_router: |_| 1, ..SOUND }),
+        ("is_router never says so", Faulty { is_router: |_| 0, ..SOUND }),
+        ("is_router says another number", Faulty { is_router: |_| 2, ..SOUND }),
+    ];
+    each_is_seen(&faults, tables_differ);
+}
+
+#[test]
+fn wrong_parameters_are_seen() {
+    let faults = [
+        (
+            "the ordinary ones",
+            Faulty {
+                ordinary: |numbers| {
+                    StandIn.ordinary(numbers);
+                    numbers[COUNT - 1] -= 1;
+                },
+                ..SOUND
+            },
+        ),
+        (
+            "a place is one off",
+            Faulty {
+                read: |bytes, numbers| match StandIn.read(bytes, numbers) {
+                    result if result % 256 == 10 => result + 256,
+                    result => result,
+                },
+                ..SOUND
+            },
+        ),
+        (
+            "refused numbers are given all the same",
+            Faulty {
+                read: |bytes, numbers| {
+                    let result = StandIn.read(bytes, numbers);
+                    if result % 256 == 9 {
+                        numbers[0] = 0;
+                    }
+                    result
+                },
+                ..SOUND
+            },
+        ),
+        (
+            "a buffer of 734 bytes is taken",
+            Faulty {
+                write: |numbers, buffer| {
+                    let mut longer = [0; 735];
+                    let length = buffer.len();
+                    if length != 734 {
+                        return StandIn.write(numbers, buffer);
+                    }
+                    let result = StandIn.write(numbers, &mut longer);
+                    buffer.copy_from_slice(&longer[..length]);
+                    result
+                },
+                ..SOUND
+            },
+        ),
+        (
+            "bytes past what is written are cleared",
+            Faulty {
+                write: |numbers, buffer| {
+                    let result = StandIn.write(numbers, buffer);
+                    if result % 256 == 0 {
+                        buffer[(result / 256) as usize..].fill(0);
+                    }
+                    result
+                },
+                ..SOUND
+            },
+        ),
+        (
+            "refused parameters are written",
+            Faulty {
+                write: |numbers, buffer| {
+                    let result = StandIn.write(numbers, buffer);
+                    if result % 256 == 9 {
+                        buffer[0] ^= 1;
+                    }
+                    result
+                },
+                ..SOUND
+            },
+        ),
+        (
+            "a fresh table keeps a cell",
+            Faulty {
+                fresh: |numbers, table| {
+                    let before = table[CELLS - 1];
+                    let result = StandIn.fresh(numbers, table);
+                    table[CELLS - 1] = before;
+                    result
+                },
+                ..SOUND
+            },
+        ),
+        (
+            "refused parameters clear the table",
+            Faulty {
+                fresh: |numbers, table| {
+                    let result = StandIn.fresh(numbers, table);
+                    if result != 0 {
+                        *table = [0; CELLS];
+                    }
+                    result
+                },
+                ..SOUND
+            },
+        ),
+    ];
+    each_is_seen(&faults, parameters_differ);
+}
+
+#[test]
+fn a_difference_is_told_by_few_calls() {
+    // A peer's P7 grows by 1001.
+    let faulty = with_call(|request, table, score, list| {
+        let before = *table;
+        let result = StandIn.call(request, table, score, list);
+        for slot in 0..SLOTS {
+            let cell = peer_cell(slot, peer::P7);
+            if table[cell] > before[cell] {
+                table[cell] += 1;
+            }
+        }
+        result
+    });
+    let failure = run(&faulty, 60_000).expect("the fault is noticed");
+    let told = report::of_run(&faulty, &failure);
+    assert!(told.contains("P7: library 1001, second program 1000, before 0"), "{told}");
+    let shortest = told.split("the shortest list").nth(1).expect("a shorter list is told");
+    let calls = shortest.lines().filter(|line| line.contains("time=")).count();
+    // Connect, join, PRUNE and GRAFT would do; the shrinking may stop a little before.
+    assert!((1..=10).contains(&calls) && calls < failure.run.requests.len(), "{told}");
+}
