@@ -5,13 +5,13 @@ use Prim.Native.Nat.{ℕ, _+_, _*_, _/_, _≤_, _<_}
 use native.Mathlib.Omega.{arith}
 use mathlib.Core.Path.{_≡_, refl, sym, ap, ap₂, _∙_}
 use mathlib.Core.Logic.{_≢_}
-use mathlib.Core.Bool.{Bool, true, false, not, cond}
+use mathlib.Core.Bool.{Bool, true, false, not, cond, _&&_}
 use mathlib.Core.List.{List, [], _∷_, _++_}
 use lib.ListN.{length, getD, set, length-append}
 use lib.Seq.{sets, length-sets, getD-set-same, getD-set-other}
 use Rattle.index.specs.Index.{iter, gather}
 use Rattle.index.proofs.Index.{iter-more, gather-more}
-use Rattle.index.proofs.Flags.{by-order, cond-case, failed, passed}
+use Rattle.index.proofs.Flags.{by-order, by-test, cond-case, failed, passed}
 use Rattle.index.proofs.Lists.{sets-append}
 use Rattle.records.specs.declared.Peer.{Peer}
 use Rattle.records.specs.declared.TopicRecord.{TopicRecord}
@@ -59,6 +59,13 @@ flags-more f l i v b h e k m =
     (λ (n : i ≤ k).
     let z : k ≡ i = omega arith in
     rw z (getD-set-same l i v false b ∙ e))
+
+-- a flag that goes with another
+pub no-member : (m n : Bool) → m ≡ false → false ≡ m && n
+no-member m n e = rw e
+
+pub of-member : (m n r : Bool) → m ≡ true → r ≡ n → r ≡ m && n
+of-member m n r e f = rw e f
 
 -- ---- the rules' turn at slot i, seen from another slot j
 
@@ -236,10 +243,13 @@ module _ (st : State) (t end : ℕ) (k : t < 8) (i : ℕ) (u : State) (w : u ≡
   pub as-params : topicParamsIn u t ≡ topicParamsIn st t
   as-params = params-same st u t (ap (λ (v : State). v .codes) w ∙ walk-codes st t k end i)
 
-  as-turn : (f : Bool) → f ≡ isNegative st i → leftIf f t end i u ≡ leaveSlot st t end i u
+  as-turn : (f : Bool) → f ≡ isMember st t i && isNegative st i → leftIf f t end i u ≡ leaveSlot st t end i u
   unfolding leftIf grownIf leaveSlot punished
   as-turn f e =
-      same-turn u i t end f (isNegative st i) (isMember u t i) (isMember st t i) (topicParamsIn u t) (topicParamsIn st t) e as-member as-params
+      by-test (leftIf f t end i u ≡ leaveSlot st t end i u) (isMember st t i)
+      (λ m.
+      same-turn u i t end f (isNegative st i) (isMember u t i) (isMember st t i) (topicParamsIn u t) (topicParamsIn st t) (e ∙ rw m) as-member as-params)
+      (λ m. rw (as-member, m) refl)
 
   as-actions : (seconds : ℕ) → seconds ≡ unsubscribeBackoff st → leaveActions st t (i + 1) ≡ leaveActions st t i ++ actionIf u t seconds i
   unfolding leaveActions actionIf

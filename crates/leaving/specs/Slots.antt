@@ -2,7 +2,7 @@
 -- `leaveSlot` and `leaveActions` of crate rules; that the two agree is proved (proofs/LeaveLaws.antt).
 use Prim.Native.Nat.{ℕ, _+_, _*_, _≤_, _<_}
 use mathlib.Core.Path.{_≡_}
-use mathlib.Core.Bool.{Bool, false, cond}
+use mathlib.Core.Bool.{Bool, false, cond, _&&_}
 use mathlib.Core.List.{List, [], _∷_}
 use lib.ListN.{length, getD}
 use lib.Seq.{sets}
@@ -42,12 +42,12 @@ pub record Turned (u : State) (negative : Bool) (t end seconds s : ℕ) (table�
   pub actions : list′ ≡ sets list at (numbersOf (actionIf u t seconds s))
   pub after : next ≡ at + 3 * length (actionIf u t seconds s)
 
--- what the walk relies on; the flags say which slots score below zero at the start
+-- what the walk relies on; the flags say which members score below zero at the start
 pub record Walk (table : List ℕ) (t seconds : ℕ) (flags : List Bool) (list : List ℕ) : Type 0 where
   pub standing : Standing table
   pub topic : t < 8
   pub backoff : seconds ≡ unsubscribeBackoff (stateOf table)
-  pub negatives : (s : ℕ) → s < 64 → getD flags s false ≡ isNegative (stateOf table) s
+  pub negatives : (s : ℕ) → s < 64 → getD flags s false ≡ (isMember (stateOf table) t s && isNegative (stateOf table) s)
   pub room : 192 ≤ length list
 
 -- what it leaves: n numbers were written

@@ -1,9 +1,10 @@
 // Leave, one of 01's calls: every member of the topic is pruned, by slot.
 ghost use mathlib.Core.Path.{_≡_};
-ghost use mathlib.Core.Bool.{false};
+ghost use mathlib.Core.Bool.{false, _&&_};
 ghost use Prim.Native.Nat.{ℕ, _+_, _<_, _≤_};
 ghost use lib.ListN.{length, getD};
 ghost use Rattle.cells.specs.View.{stateOf};
+ghost use Rattle.effects.specs.Effects.{isMember};
 ghost use Rattle.rules.specs.Calls.{leave as Calls·leave};
 ghost use Rattle.rules.specs.Step.{leaveReply, isNegative};
 ghost use Rattle.rules.specs.Promise.{Gives, Follows};
@@ -24,15 +25,26 @@ use records::SLOTS;
 use rules::Answer;
 use rules::Gate;
 
-// Which slots score below zero; taken before anything changes, since the rule speaks of the call's start.
-fn negatives(table: &[u64]) -> [bool; 64]
-    requires { ⌜ Standing (now table) ⌝ }
-    ensures { λ r. ⌜ ((s : ℕ) → s < 64 → getD r s false ≡ isNegative (stateOf (now (table .entry))) s) ⌝ }
+// Whether a slot is a member that scores below zero: nobody else's score is taken.
+fn is_negative_member(table: &[u64], topic: usize, slot: usize) -> bool
+    requires { ⌜ Standing (now table) × ((topic < 8) × (slot < 64)) ⌝ }
+    ensures { λ r. ⌜ r ≡ (isMember (stateOf (now (table .entry))) topic slot && isNegative (stateOf (now (table .entry))) slot) ⌝ }
+{
+    if !is_member(table, topic, slot) {
+        return false;
+    }
+    is_negative(table, slot)
+}
+
+// Which members score below zero; taken before anything changes, since the rule speaks of the call's start.
+fn negatives(table: &[u64], topic: usize) -> [bool; 64]
+    requires { ⌜ Standing (now table) × (topic < 8) ⌝ }
+    ensures { λ r. ⌜ ((s : ℕ) → s < 64 → getD r s false ≡ (isMember (stateOf (now (table .entry))) topic s && isNegative (stateOf (now (table .entry))) s)) ⌝ }
 {
     let mut flags = [false; 64];
     let mut slot: usize = 0;
     while slot < SLOTS {
-        flags[slot] = is_negative(table, slot);
+        flags[slot] = is_negative_member(table, topic, slot);
         slot += 1;
     }
     flags
@@ -102,7 +114,7 @@ fn leave_from(table: &mut [u64], time: u64, topic: usize, actions: &mut [u32]) -
     if !is_joined(table, topic) {
         return ignore(table, time);
     }
-    let negative = negatives(table);
+    let negative = negatives(table, topic);
     let seconds = load_size(table, 6);
     let n = leave_slots(
         table,

@@ -50,7 +50,7 @@ leave-from-spec =
     (λ c κs. search needs)
     (λ c. search needs)
     returns
-    (λ c κs. c .before .before .before .before .before .before .pre .0 .standing)
+    (λ c κs. let p = c .before .before .before .before .before .before .pre in (p .0 .standing, p .1 .0))
     (λ c κs. search needs)
     end-after-requires
     leave-slots-requires
