@@ -2,4 +2,5 @@ pub mod Conditions
 pub mod Loops
 pub mod ValidLaws
 pub mod OrderLaws
+pub mod IdLaws
 pub mod Keeps

@@ -3,14 +3,18 @@
 use Prim.Native.Nat.{ℕ, _+_, _≤_, _<_}
 use native.Mathlib.Omega.{arith}
 use mathlib.Core.Path.{_≡_, refl, sym, ap, ap₂, _∙_}
-use mathlib.Core.Bool.{Bool, true, false, not, _&&_, _||_}
+use mathlib.Core.Bool.{Bool, true, false, not, _&&_, _||_, and-false}
 use lib.Dec.{eqb, leb}
-use borrow.Author.Tests.{eqb-true, ne-eqb, le-leb, lt-leb}
+use borrow.Author.Tests.{eqb-true, le-leb, lt-leb, leb-true}
+use Rattle.index.specs.Index.{every}
+use Rattle.index.proofs.Index.{both}
 use Rattle.index.proofs.Flags.{by-test}
+use Rattle.records.specs.Records.{State, topicCount, place, joinedIn, peerIn, topicIn}
 use Rattle.records.specs.declared.Peer.{Peer}
 use Rattle.records.specs.declared.TopicRecord.{TopicRecord}
-use Rattle.table.specs.Valid.{maxTime, maxEnd, peerRanges, endsUpTo, idOk, emptyOk, retainOk, peerOk, topicRanges, emptyTopicOk, outsideOk, retainedOk, memberOk, timesOk, topicOk}
-use Rattle.table.specs.Order.{counterRanges, flagRanges, restOk}
+use Rattle.table.specs.Valid.{maxTime, maxEnd, peerRanges, endsUpTo, idOk, emptyOk, retainOk, peerOk, topicRanges, emptyTopicOk, outsideOk, retainedOk, memberOk, timesOk, topicOk, topicOkAt, cap2, cap3, slotOk}
+use Rattle.table.specs.Order.{counterRanges, flagRanges, outsideFlags, restOk}
+use Rattle.table.proofs.Conditions.{all4}
 
 -- ---- the ranges, one after the other
 module _ (cap2 cap3 : ℕ) (t : TopicRecord) where
@@ -47,6 +51,15 @@ module _ (t : TopicRecord) where
   unfolding flagRanges
   mesh-last a b c = rw (le-leb (t .subscribed) 1 a, le-leb (t .member) 1 b, le-leb (t .graft) maxTime c)
 
+module _ (t : TopicRecord) where
+  pub outside-over : 1 < t .subscribed → false ≡ outsideFlags t
+  unfolding outsideFlags
+  outside-over h = rw (lt-leb (t .subscribed) 1 h)
+
+  pub outside-last : t .subscribed ≤ 1 → eqb (t .graft) 0 && eqb (t .mesh) 0 ≡ outsideFlags t
+  unfolding outsideFlags
+  outside-last h = rw (le-leb (t .subscribed) 1 h)
+
 -- ---- all of them
 eight : (a b c d e f g h : Bool) → a && b && c && d && e && f && g && h ≡ (a && b && c && d) && (e && f && g && h)
 eight false b c d e f g h = refl
@@ -76,58 +89,96 @@ module _ (status explicit joined clock cap2 cap3 : ℕ) (t : TopicRecord) where
     pub flags-fail : flagRanges t ≡ false → false ≡ topicOk status explicit joined clock cap2 cap3 t
     flags-fail e = sym (parts ∙ rw (c, e))
 
-    module _ (f : flagRanges t ≡ true) where
-      rest : restOk status explicit joined clock t ≡ topicOk status explicit joined clock cap2 cap3 t
-      rest = sym (parts ∙ rw (c, f))
+    pub rest-is : flagRanges t ≡ true → (r : Bool) → r ≡ restOk status explicit joined clock t → r ≡ topicOk status explicit joined clock cap2 cap3 t
+    rest-is f r e = e ∙ sym (parts ∙ rw (c, f))
 
-      pub rest-is : (r : Bool) → r ≡ restOk status explicit joined clock t → r ≡ topicOk status explicit joined clock cap2 cap3 t
-      rest-is r e = e ∙ rest
+-- ---- a connected peer's record for a topic, whose counters are in their ranges
+module _ (explicit joined clock cap2 cap3 : ℕ) (t : TopicRecord) (c : counterRanges cap2 cap3 t ≡ true) where
+  left : flagRanges t && restOk 1 explicit joined clock t ≡ topicOk 1 explicit joined clock cap2 cap3 t
+  left = sym (parts 1 explicit joined clock cap2 cap3 t ∙ rw c)
 
-      module _ (on : status ≡ 1) where
-        pub member-is :
-            (m s : Bool) →
-            t .member ≡ 1 →
-            m ≡ memberOk status explicit joined t →
-            s ≡ leb (t .graft + t .mesh) clock →
-            m && s ≡ topicOk status explicit joined clock cap2 cap3 t
-        unfolding restOk emptyTopicOk outsideOk retainedOk timesOk
-        member-is m s e em es =
-            let z : restOk status explicit joined clock t ≡ memberOk status explicit joined t && leb (t .graft + t .mesh) clock = rw (on, e) refl in
-            rw (em, es) (sym z ∙ rest)
+  -- outside the mesh
+  pub outside-is : t .member ≡ 0 → (r : Bool) → r ≡ outsideFlags t → r ≡ topicOk 1 explicit joined clock cap2 cap3 t
+  unfolding outsideFlags flagRanges restOk emptyTopicOk outsideOk retainedOk memberOk timesOk
+  outside-is e r er =
+      let P : Type 0 = outsideFlags t ≡ flagRanges t && restOk 1 explicit joined clock t in
+      er
+      ∙ by-test P (leb (t .subscribed) 1)
+      (λ s.
+      by-test P (eqb (t .graft) 0 && eqb (t .mesh) 0)
+      (λ z.
+      let w = both (eqb (t .graft) 0) (eqb (t .mesh) 0) z in
+      let x = eqb-true (t .graft) 0 (w .0) in
+      let y = eqb-true (t .mesh) 0 (w .1) in
+      rw (s, w .0, w .1, e, le-leb (t .graft) maxTime (omega arith), le-leb (t .mesh) maxTime (omega arith), le-leb (t .graft + t .mesh) clock (omega arith)) refl)
+      (λ z.
+      let f : restOk 1 explicit joined clock t ≡ false = rw (e, z) refl in
+      let o : outsideFlags t ≡ false = rw (s, z) refl in
+      o ∙ sym (ap (λ (b : Bool). flagRanges t && b) f ∙ and-false (flagRanges t))))
+      (λ s. rw s refl)
+      ∙ left
 
-        pub outside-is :
-            (t .member ≡ 1 → ⊥) → eqb (t .graft) 0 && eqb (t .mesh) 0 ≡ topicOk status explicit joined clock cap2 cap3 t
-        unfolding restOk emptyTopicOk outsideOk retainedOk memberOk timesOk
-        outside-is n =
-            let z : eqb (t .member) 1 ≡ false = ne-eqb (t .member) 1 n in
-            let P : Type 0 = eqb (t .graft) 0 && eqb (t .mesh) 0 ≡ restOk status explicit joined clock t in
-            by-test P (eqb (t .graft) 0)
-            (λ a.
-            by-test P (eqb (t .mesh) 0)
-            (λ b.
-            let x = eqb-true (t .graft) 0 a in
-            let y = eqb-true (t .mesh) 0 b in
-            rw (on, z, a, b, le-leb (t .graft + t .mesh) clock (omega arith)) refl)
-            (λ b. rw (on, z, a, b) refl))
-            (λ a. rw (on, z, a) refl)
-            ∙ rest
+  -- in it
+  pub member-is :
+      (t .member ≡ 0 → ⊥) →
+      flagRanges t ≡ true →
+      (m s : Bool) →
+      m ≡ memberOk 1 explicit joined t →
+      s ≡ leb (t .graft + t .mesh) clock →
+      m && s ≡ topicOk 1 explicit joined clock cap2 cap3 t
+  unfolding restOk emptyTopicOk outsideOk retainedOk timesOk flagRanges
+  member-is n f m s em es =
+      let q = all4 (leb (t .subscribed) 1) (leb (t .member) 1) (leb (t .graft) maxTime) (leb (t .mesh) maxTime) f in
+      let l = leb-true (t .member) 1 (q .1) in
+      let e : t .member ≡ 1 = omega arith in
+      let z : restOk 1 explicit joined clock t ≡ memberOk 1 explicit joined t && leb (t .graft + t .mesh) clock = rw e refl in
+      rw (em, es) (sym z ∙ sym (rw f refl) ∙ left)
 
 -- ---- a connected peer's record
-pub connected-is :
-    (p : Peer) (r e : Bool) →
-    p .status ≡ 1 →
-    r ≡ peerRanges p →
-    e ≡ endsUpTo maxEnd p →
-    r && e && (leb 1 (p .id) && eqb (p .retain) 0) ≡ peerOk p
-unfolding peerOk idOk emptyOk retainOk
-connected-is p r e on er ee =
-    let z : peerOk p ≡ peerRanges p && endsUpTo maxEnd p && leb 1 (p .id) && true && eqb (p .retain) 0 = rw on refl in
-    ap₂ (λ (a b : Bool). a && b && (leb 1 (p .id) && eqb (p .retain) 0)) er ee
-    ∙ turn (peerRanges p) (endsUpTo maxEnd p) (leb 1 (p .id)) (eqb (p .retain) 0)
-    ∙ sym z
-  where
-    turn : (a b c d : Bool) → a && b && (c && d) ≡ a && b && c && true && d
-    turn false b c d = refl
-    turn true false c d = refl
-    turn true true false d = refl
-    turn true true true d = refl
+module _ (p : Peer) where
+  pub ranges-fail : peerRanges p ≡ false → false ≡ peerOk p
+  unfolding peerOk
+  ranges-fail e = rw e refl
+
+  pub ends-fail : peerRanges p ≡ true → endsUpTo maxEnd p ≡ false → false ≡ peerOk p
+  unfolding peerOk
+  ends-fail a e = rw (a, e) refl
+
+  pub connected-is :
+      p .status ≡ 1 → peerRanges p ≡ true → endsUpTo maxEnd p ≡ true → leb 1 (p .id) && eqb (p .retain) 0 ≡ peerOk p
+  unfolding peerOk idOk emptyOk retainOk
+  connected-is on a e =
+      let z : peerOk p ≡ leb 1 (p .id) && true && eqb (p .retain) 0 = rw (a, e, on) refl in
+      turn (leb 1 (p .id)) (eqb (p .retain) 0) ∙ sym z
+    where
+      turn : (a b : Bool) → a && b ≡ a && true && b
+      turn false b = refl
+      turn true b = refl
+
+-- ---- a slot
+module _ (st : State) (s : ℕ) where
+  pub topic-told :
+      (explicit t joined clock c2 c3 : ℕ) (u : TopicRecord) (r : Bool) →
+      r ≡ topicOk 1 explicit joined clock c2 c3 u →
+      joined ≡ joinedIn st t →
+      clock ≡ st .clock →
+      c2 ≡ cap2 st t →
+      c3 ≡ cap3 st t →
+      u ≡ topicIn st (place s t) →
+      r ≡ topicOkAt st s 1 explicit t
+  unfolding topicOkAt
+  topic-told explicit t joined clock c2 c3 u r e ej ec e2 e3 eu = e ∙ rw (ej, ec, e2, e3, eu) refl
+
+  pub peer-fails : peerOk (peerIn st s) ≡ false → false ≡ slotOk st s
+  unfolding slotOk
+  peer-fails e = rw e refl
+
+  pub topics-are :
+      peerIn st s .status ≡ 1 →
+      peerOk (peerIn st s) ≡ true →
+      (b : Bool) →
+      b ≡ every topicCount (topicOkAt st s 1 (peerIn st s .explicit)) →
+      b ≡ slotOk st s
+  unfolding slotOk
+  topics-are on e b eb =
+      eb ∙ ap (λ (x : ℕ). every topicCount (topicOkAt st s x (peerIn st s .explicit))) (sym on) ∙ sym (rw e refl)

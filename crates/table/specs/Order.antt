@@ -1,10 +1,14 @@
 -- The parts of test 12's tests of a topic record in the order in which the code asks them. No rule stands here: each is a part of a
 -- definition of Valid.antt, and together they are `topicOk` (proofs/OrderLaws.antt).
-use Prim.Native.Nat.{ℕ}
-use mathlib.Core.Bool.{Bool, _&&_}
-use lib.Dec.{leb}
+use Prim.Native.Nat.{ℕ, _<_, _%_}
+use mathlib.Core.Path.{_≡_}
+use mathlib.Core.Bool.{Bool, true, false, _&&_}
+use mathlib.Core.List.{List}
+use lib.Dec.{leb, eqb}
+use lib.ListN.{getD}
 use Rattle.records.specs.declared.TopicRecord.{TopicRecord}
-use Rattle.table.specs.Valid.{maxTime, emptyTopicOk, outsideOk, retainedOk, memberOk, timesOk}
+use Rattle.records.specs.Records.{State, topicCount}
+use Rattle.table.specs.Valid.{maxTime, emptyTopicOk, outsideOk, retainedOk, memberOk, timesOk, cap2, cap3}
 
 -- the ranges of the counters, and of the flags and times
 unfoldable pub counterRanges : (cap2 cap3 : ℕ) → TopicRecord → Bool
@@ -13,7 +17,20 @@ counterRanges cap2 cap3 t = leb (t .p2) cap2 && leb (t .p3) cap3 && leb (t .p4) 
 unfoldable pub flagRanges : TopicRecord → Bool
 flagRanges t = leb (t .subscribed) 1 && leb (t .member) 1 && leb (t .graft) maxTime && leb (t .mesh) maxTime
 
+-- what is left to ask of a record outside the mesh: its times are 0, so they need no range
+unfoldable pub outsideFlags : TopicRecord → Bool
+outsideFlags t = leb (t .subscribed) 1 && (eqb (t .graft) 0 && eqb (t .mesh) 0)
+
 -- all but the ranges
 unfoldable pub restOk : (status explicit joined clock : ℕ) → TopicRecord → Bool
 restOk status explicit joined clock t =
     emptyTopicOk status t && outsideOk t && retainedOk status t && memberOk status explicit joined t && timesOk clock t
+
+-- the caps of P2 and P3, by topic
+pub record Caps (st : State) (caps2 caps3 : List ℕ) : Type 0 where
+  pub p2 : (t : ℕ) → t < topicCount → getD caps2 t 0 ≡ cap2 st t
+  pub p3 : (t : ℕ) → t < topicCount → getD caps3 t 0 ≡ cap3 st t
+
+-- how many buckets the ids fall into
+abbrev pub bucketCount : ℕ
+bucketCount = 512

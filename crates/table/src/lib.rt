@@ -1,2 +1,3 @@
 // A router's lent table as a whole: whether it is a router's (test 12).
+pub mod ids;
 pub mod valid;

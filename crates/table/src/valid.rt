@@ -1,14 +1,16 @@
-// Test 12: whether a table is a router's. Every call pays for it: each record is read once, and what most records are is asked first. The
-// definitions are specs/Valid.antt, in 01's order, and specs/Order.antt.
+// Test 12: whether a table is a router's. Every call pays for it, so what most records are is asked first, and a test that fails ends all: no
+// test of a router's table fails, and a branch that is never taken costs less than a flag. The definitions are specs/Valid.antt, in 01's
+// order, and specs/Order.antt.
 ghost use mathlib.Core.Path.{_≡_};
-ghost use Prim.Native.Nat.{ℕ, _+_, _*_, _/_, _≤_, _<_};
+ghost use Prim.Native.Nat.{ℕ, _+_, _<_};
 ghost use lib.ListN.{length, getD};
 ghost use lib.Dec.{leb};
 ghost use Rattle.index.specs.Index.{every};
 ghost use Rattle.records.specs.Records.{peerIn, slotCount, topicCount};
 ghost use Rattle.cells.specs.View.{stateOf, cellCount};
-ghost use Rattle.table.specs.Order.{counterRanges, flagRanges, restOk};
-ghost use Rattle.table.specs.Valid.{peerRanges, endsUpTo, zeroPeer, peerOk, zeroTopic, memberOk, topicOk, topicParam, joinedOk, topicOkAt, slotOk, apart, newId, valid};
+ghost use Rattle.table.specs.Order.{counterRanges, flagRanges, outsideFlags, restOk, Caps};
+ghost use Rattle.table.specs.Valid.{peerRanges, endsUpTo, zeroPeer, peerOk, zeroTopic, memberOk, topicOk, topicParam, joinedOk, topicOkAt, slotOk, valid};
+use crate::ids::ids_distinct;
 use records::Peer;
 use records::SLOTS;
 use records::TOPICS;
@@ -78,15 +80,26 @@ fn zero_peer(p: Peer) -> bool
         & ends
 }
 
-// A connected peer's record is asked no more than concerns it.
+// A connected peer's record.
+fn connected_ok(p: Peer) -> bool
+    requires { ⌜ p .status ≡ 1 ⌝ }
+    ensures { λ r. ⌜ r ≡ peerOk p ⌝ }
+{
+    if !peer_ranges(p) {
+        return false;
+    }
+    if !ends_up_to(MAX_END, p) {
+        return false;
+    }
+    (1 <= p.id) & (p.retain == 0)
+}
+
+// Any record.
 fn peer_ok(p: Peer) -> bool
     ensures { λ r. ⌜ r ≡ peerOk p ⌝ }
 {
     let ranges = peer_ranges(p);
     let ends = ends_up_to(MAX_END, p);
-    if p.status == 1 {
-        return ranges & ends & ((1 <= p.id) & (p.retain == 0));
-    }
     let zeros = zero_peer(p);
     ranges
         & ends
@@ -95,8 +108,7 @@ fn peer_ok(p: Peer) -> bool
         & ((p.status == 2) | (p.retain == 0))
 }
 
-// Whether the counters that a record holds for a topic are in their ranges. A test that fails ends it: no test of a router's table fails,
-// and a branch that is never taken costs less than a flag.
+// Whether the counters that a record holds for a topic are in their ranges.
 fn counter_ranges(cap2: u64, cap3: u64, t: TopicRecord) -> bool
     ensures { λ r. ⌜ r ≡ counterRanges cap2 cap3 t ⌝ }
 {
@@ -169,7 +181,42 @@ fn rest_ok(status: u64, explicit: u64, joined: u64, clock: u64, t: TopicRecord) 
         & times
 }
 
-// The ranges first, then what is left to ask of a connected peer, a member or not.
+// What is asked of a record outside the mesh besides the counters' ranges.
+fn outside_flags(t: TopicRecord) -> bool
+    ensures { λ r. ⌜ r ≡ outsideFlags t ⌝ }
+{
+    if 1 < t.subscribed {
+        return false;
+    }
+    (t.graft == 0) & (t.mesh == 0)
+}
+
+// A connected peer's record for a topic: outside the mesh, as most are, or in it.
+fn connected_topic_ok(
+    explicit: u64,
+    joined: u64,
+    clock: u64,
+    cap2: u64,
+    cap3: u64,
+    t: TopicRecord,
+) -> bool
+    ensures { λ r. ⌜ r ≡ topicOk 1 explicit joined clock cap2 cap3 t ⌝ }
+{
+    if !counter_ranges(cap2, cap3, t) {
+        return false;
+    }
+    if t.member == 0 {
+        return outside_flags(t);
+    }
+    if !flag_ranges(t) {
+        return false;
+    }
+    let member = member_ok(1, explicit, joined, t);
+    let times = sum_at_most(t.graft, t.mesh, clock);
+    member & times
+}
+
+// Any record for a topic.
 fn topic_ok(
     status: u64,
     explicit: u64,
@@ -187,15 +234,7 @@ fn topic_ok(
     if !flag_ranges(t) {
         return false;
     }
-    if status != 1 {
-        return rest_ok(status, explicit, joined, clock, t);
-    }
-    if t.member == 1 {
-        let member = member_ok(status, explicit, joined, t);
-        let times = sum_at_most(t.graft, t.mesh, clock);
-        return member & times;
-    }
-    (t.graft == 0) & (t.mesh == 0)
+    rest_ok(status, explicit, joined, clock, t)
 }
 
 // The magnitude of topic t's j-th parameter.
@@ -231,7 +270,55 @@ fn topics_ok(table: &[u64], slot: usize, status: u64, explicit: u64) -> bool
     ok
 }
 
-fn slot_ok(table: &[u64], slot: usize) -> bool
+// One of the caps of each topic, taken once for all slots.
+fn caps(table: &[u64], j: usize) -> [u64; TOPICS]
+    requires { ⌜ (length (now table) ≡ cellCount) × (j < 16) ⌝ }
+    ensures { λ r. ⌜ ((t : ℕ) → t < topicCount → getD r t 0 ≡ topicParam (stateOf (now (table .entry))) t j) ⌝ }
+{
+    let mut r = [0u64; TOPICS];
+    let mut t: usize = 0;
+    while t < TOPICS {
+        r[t] = topic_param(table, t, j);
+        t += 1;
+    }
+    r
+}
+
+fn connected_topics(
+    table: &[u64],
+    caps2: &[u64; TOPICS],
+    caps3: &[u64; TOPICS],
+    slot: usize,
+    explicit: u64,
+) -> bool
+    requires { ⌜ (length (now table) ≡ cellCount) × ((slot < slotCount) × Caps (stateOf (now table)) (now caps2) (now caps3)) ⌝ }
+    ensures { λ r. ⌜ r ≡ every topicCount (topicOkAt (stateOf (now (table .entry))) slot 1 explicit) ⌝ }
+{
+    let clock = cells::load_clock(table);
+    let mut t: usize = 0;
+    while t < TOPICS {
+        let joined = cells::load_joined(table, t);
+        let r = cells::load_topic(table, slot * TOPICS + t);
+        if !connected_topic_ok(explicit, joined, clock, caps2[t], caps3[t], r) {
+            return false;
+        }
+        t += 1;
+    }
+    true
+}
+
+fn connected_slot(table: &[u64], caps2: &[u64; TOPICS], caps3: &[u64; TOPICS], slot: usize) -> bool
+    requires { ⌜ (length (now table) ≡ cellCount) × ((slot < slotCount) × (Caps (stateOf (now table)) (now caps2) (now caps3) × (peerIn (stateOf (now table)) slot .status ≡ 1))) ⌝ }
+    ensures { λ r. ⌜ r ≡ slotOk (stateOf (now (table .entry))) slot ⌝ }
+{
+    let p = cells::load_peer(table, slot);
+    if !connected_ok(p) {
+        return false;
+    }
+    connected_topics(table, caps2, caps3, slot, p.explicit)
+}
+
+fn other_slot(table: &[u64], slot: usize) -> bool
     requires { ⌜ (length (now table) ≡ cellCount) × (slot < slotCount) ⌝ }
     ensures { λ r. ⌜ r ≡ slotOk (stateOf (now (table .entry))) slot ⌝ }
 {
@@ -241,17 +328,31 @@ fn slot_ok(table: &[u64], slot: usize) -> bool
     peer & topics
 }
 
+fn slot_ok(table: &[u64], caps2: &[u64; TOPICS], caps3: &[u64; TOPICS], slot: usize) -> bool
+    requires { ⌜ (length (now table) ≡ cellCount) × ((slot < slotCount) × Caps (stateOf (now table)) (now caps2) (now caps3)) ⌝ }
+    ensures { λ r. ⌜ r ≡ slotOk (stateOf (now (table .entry))) slot ⌝ }
+{
+    let status = cells::load_status(table, slot);
+    if status == 1 {
+        return connected_slot(table, caps2, caps3, slot);
+    }
+    other_slot(table, slot)
+}
+
 fn slots_ok(table: &[u64]) -> bool
     requires { ⌜ length (now table) ≡ cellCount ⌝ }
     ensures { λ r. ⌜ r ≡ every slotCount (slotOk (stateOf (now (table .entry)))) ⌝ }
 {
-    let mut ok = true;
+    let caps2 = caps(table, P2_CAP);
+    let caps3 = caps(table, P3_CAP);
     let mut slot: usize = 0;
     while slot < SLOTS {
-        ok = ok & slot_ok(table, slot);
+        if !slot_ok(table, &caps2, &caps3, slot) {
+            return false;
+        }
         slot += 1;
     }
-    ok
+    true
 }
 
 fn joined_at(table: &[u64], t: usize) -> bool
@@ -272,63 +373,6 @@ fn joined_ok(table: &[u64]) -> bool
         t += 1;
     }
     ok
-}
-
-// The ids by slot, side by side, so that they are compared fast.
-fn ids_of(table: &[u64]) -> [u64; SLOTS]
-    requires { ⌜ length (now table) ≡ cellCount ⌝ }
-    ensures { λ r. ⌜ ((k : ℕ) → k < slotCount → getD r k 0 ≡ peerIn (stateOf (now (table .entry))) k .id) ⌝ }
-{
-    let mut ids = [0u64; SLOTS];
-    let mut slot: usize = 0;
-    while slot < SLOTS {
-        ids[slot] = cells::load_id(table, slot);
-        slot += 1;
-    }
-    ids
-}
-
-// Whether two ids differ, or are none.
-fn apart(a: u64, b: u64) -> bool
-    ensures { λ r. ⌜ r ≡ apart a b ⌝ }
-{
-    !((b == a) & !(a == 0))
-}
-
-// Whether the id in a slot stands in no lower slot.
-fn new_id(ids: [u64; SLOTS], slot: usize) -> bool
-    requires { ⌜ slot < slotCount ⌝ }
-    ensures { λ r. ⌜ r ≡ every slot (λ k. apart (getD ids slot 0) (getD ids k 0)) ⌝ }
-{
-    let id = ids[slot];
-    let mut k: usize = 0;
-    while k < slot {
-        if !apart(id, ids[k]) {
-            return false;
-        }
-        k += 1;
-    }
-    true
-}
-
-fn new_ids(ids: [u64; SLOTS]) -> bool
-    ensures { λ r. ⌜ r ≡ every slotCount (λ s. every s (λ k. apart (getD ids s 0) (getD ids k 0))) ⌝ }
-{
-    let mut ok = true;
-    let mut slot: usize = 0;
-    while slot < SLOTS {
-        ok = ok & new_id(ids, slot);
-        slot += 1;
-    }
-    ok
-}
-
-fn ids_distinct(table: &[u64]) -> bool
-    requires { ⌜ length (now table) ≡ cellCount ⌝ }
-    ensures { λ r. ⌜ r ≡ every slotCount (newId (stateOf (now (table .entry)))) ⌝ }
-{
-    let ids = ids_of(table);
-    new_ids(ids)
 }
 
 // Whether a table is a router's.

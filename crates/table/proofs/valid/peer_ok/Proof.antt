@@ -1,7 +1,5 @@
--- `table::valid::peer_ok`: a connected peer's record first. Assumes nothing.
 use borrow.Author.Needs.{needs}
 use Rattle.table.specs.Valid.{idOk, emptyOk, retainOk, peerOk}
-use Rattle.table.proofs.OrderLaws.{connected-is}
 use Rattle.table.proofs.valid.peer_ok.Statement.{statement}
 use Rattle.table.proofs.valid.peer_ok.Tie as tie
 
@@ -12,8 +10,5 @@ peer-ok-spec =
     (tie.spec
     (λ c κs. search needs)
     (λ c κs. search needs)
-    (λ c.
-    let m = c .before .before .before .before in
-    connected-is _ _ _ (c .before .before .if1 .taken) (m .before .peer-ranges .ensures) (m .ends-up-to .ensures))
     (λ c κs. search needs)
     (λ c. cc))

@@ -1,19 +1,29 @@
+-- `table::valid::slots_ok`: after s turns the slots below s are right. Assumes nothing.
 use Prim.Native.Nat.{_≤_, _-_}
 use mathlib.Core.Path.{_≡_}
+use mathlib.Core.Bool.{true}
+use native.Mathlib.Omega.{arith}
 use borrow.Author.Needs.{needs}
 use Rattle.index.specs.Index.{every}
+use Rattle.index.proofs.Index.{every-loop}
+use Rattle.index.proofs.Flags.{flags}
+use Rattle.records.specs.Records.{slotCount}
 use Rattle.cells.specs.View.{stateOf}
 use Rattle.table.specs.Valid.{slotOk}
-use Rattle.table.proofs.Loops.{flag-loop}
 use Rattle.table.proofs.valid.slots_ok.Statement.{statement}
-use Rattle.records.specs.Records.{slotCount}
 use Rattle.table.proofs.valid.slots_ok.Tie as tie
 
 abbrev Inv-loop : tie.InvT-loop
-Inv-loop table ok₀ slot₀ ok slot = (slot ≤ slotCount) × (ok ≡ every slot (slotOk (stateOf table)))
+Inv-loop table caps2 caps3 slot₀ slot = (slot ≤ slotCount) × (every slot (slotOk (stateOf table)) ≡ true)
 
 abbrev μ-loop : tie.MeasureT-loop
-μ-loop table ok₀ slot₀ ok slot = slotCount - slot
+μ-loop table caps2 caps3 slot₀ slot = slotCount - slot
+
+slot-ok-requires : tie.Need-slot-ok-requires Inv-loop μ-loop
+slot-ok-requires c κs =
+    let l = c .before .before .before in
+    let k = l .before in
+    (k .before .before .before .pre, (omega arith, record { p2 = k .before .caps .ensures; p3 = k .caps2 .ensures }))
 
 pub slots-ok-spec : {M : Type 1} → statement M
 slots-ok-spec =
@@ -21,9 +31,12 @@ slots-ok-spec =
     (tie.spec
     Inv-loop
     μ-loop
-    (λ c. search (flag-loop, needs))
     (λ c κs. search needs)
+    (λ c κs. search needs)
+    (λ c. search (every-loop, needs))
+    slot-ok-requires
+    (λ c. search (every-loop, flags, needs))
     (λ c. search needs)
     (λ c. search needs)
-    (λ c. search (flag-loop, needs))
-    (λ c. search (flag-loop, needs)))
+    (λ c. search (every-loop, flags, needs))
+    (λ c. search (every-loop, needs)))

@@ -1,7 +1,7 @@
--- `table::valid::topic_ok`: the ranges, then by status and membership. Assumes nothing.
+-- `table::valid::topic_ok`: the ranges, then the rest. Assumes nothing.
 use borrow.Author.Needs.{needs}
 use Rattle.index.proofs.Flags.{failed, passed}
-use Rattle.table.proofs.OrderLaws.{counters-fail, flags-fail, rest-is, member-is, outside-is}
+use Rattle.table.proofs.OrderLaws.{counters-fail, flags-fail, rest-is}
 use Rattle.table.proofs.valid.topic_ok.Statement.{statement}
 use Rattle.table.proofs.valid.topic_ok.Tie as tie
 
@@ -12,25 +12,9 @@ returns-2 c =
 
 returns-3 : tie.Need-returns-3
 returns-3 c =
-    let j = c .before .before in
+    let j = c .before in
     let i = j .before .before in
     rest-is _ _ _ _ _ _ _ (passed (i .before .counter-ranges .ensures) (i .if1 .left)) (passed (j .before .flag-ranges .ensures) (j .if2 .left)) _ (c .rest-ok .ensures)
-
-returns-4 : tie.Need-returns-4
-returns-4 c =
-    let m = c .before .before in
-    let k = m .before .before in
-    let j = k .before in
-    let i = j .before .before in
-    member-is _ _ _ _ _ _ _ (passed (i .before .counter-ranges .ensures) (i .if1 .left)) (passed (j .before .flag-ranges .ensures) (j .if2 .left)) (k .if3 .left) _ _ (m .if4 .taken) (c .before .member-ok .ensures) (c .sum-at-most .ensures)
-
-returns-5 : tie.Need-returns-5
-returns-5 c =
-    let m = c .before .before in
-    let k = m .before .before in
-    let j = k .before in
-    let i = j .before .before in
-    outside-is _ _ _ _ _ _ _ (passed (i .before .counter-ranges .ensures) (i .if1 .left)) (passed (j .before .flag-ranges .ensures) (j .if2 .left)) (k .if3 .left) (m .if4 .left)
 
 pub topic-ok-spec : {M : Type 1} → statement M
 topic-ok-spec =
@@ -41,8 +25,4 @@ topic-ok-spec =
     (λ c κs. search needs)
     returns-2
     (λ c κs. search needs)
-    returns-3
-    (λ c κs. search needs)
-    (λ c κs. search needs)
-    returns-4
-    returns-5)
+    returns-3)

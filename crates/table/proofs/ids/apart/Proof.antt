@@ -1,7 +1,7 @@
 use mathlib.Core.Path.{refl}
 use Rattle.table.specs.Valid.{apart}
-use Rattle.table.proofs.valid.apart.Statement.{statement}
-use Rattle.table.proofs.valid.apart.Tie as tie
+use Rattle.table.proofs.ids.apart.Statement.{statement}
+use Rattle.table.proofs.ids.apart.Tie as tie
 
 pub apart-spec : {M : Type 1} → statement M
 unfolding apart

@@ -4,20 +4,21 @@ use native.Mathlib.Nat.{not-suc-le-zero}
 use native.Mathlib.Omega.{arith}
 use borrow.Author.Needs.{needs}
 use lib.ListN.{length, getD, length-set}
-use Rattle.records.specs.Records.{peerIn, slotCount}
+use Rattle.records.specs.Records.{topicCount}
 use Rattle.cells.specs.View.{stateOf}
+use Rattle.table.specs.Valid.{topicParam}
 use Rattle.table.proofs.Loops.{fill-more}
-use Rattle.table.proofs.valid.ids_of.Statement.{statement}
-use Rattle.table.proofs.valid.ids_of.Tie as tie
+use Rattle.table.proofs.valid.caps.Statement.{statement}
+use Rattle.table.proofs.valid.caps.Tie as tie
 
 abbrev Inv-loop : tie.InvT-loop
-Inv-loop table ids₀ slot₀ ids slot = (slot ≤ slotCount) × (length ids ≡ slotCount) × ((k : ℕ) → k < slot → getD ids k 0 ≡ peerIn (stateOf table) k .id)
+Inv-loop table j r₀ t₀ r t = (t ≤ topicCount) × (length r ≡ topicCount) × ((k : ℕ) → k < t → getD r k 0 ≡ topicParam (stateOf table) k j)
 
 abbrev μ-loop : tie.MeasureT-loop
-μ-loop table ids₀ slot₀ ids slot = slotCount - slot
+μ-loop table j r₀ t₀ r t = topicCount - t
 
-pub ids-of-spec : {M : Type 1} → statement M
-ids-of-spec =
+pub caps-spec : {M : Type 1} → statement M
+caps-spec =
     tie.close
     (tie.spec
     Inv-loop
@@ -30,5 +31,6 @@ ids-of-spec =
     (λ c. search needs)
     (λ c.
     let l = c .before .before .loop in
-    (omega arith, simp length-set (l .inv .1), fill-more (λ k. peerIn (stateOf (c .before .before .before .before .args .table .now)) k .id) (l .ids) (l .slot) (c .load-id .result) (omega arith) (l .inv .2) (c .load-id .ensures)))
+    let s = c .before .before .before .before in
+    (omega arith, simp length-set (l .inv .1), fill-more (λ k. topicParam (stateOf (s .args .table .now)) k (s .args .j)) (l .r) (l .t) (c .topic-param .result) (omega arith) (l .inv .2) (c .topic-param .ensures)))
     (λ c k h. c .before .loop .inv .2 k (omega arith)))
