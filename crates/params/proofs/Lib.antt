@@ -1,4 +1,5 @@
 pub mod LimitLaws
+pub mod RowLaws
 pub mod CheckLaws
 pub mod JointLaws
 pub mod ReadLaws

@@ -5,3 +5,4 @@ pub mod Read
 pub mod Write
 pub mod Ordinary
 pub mod RoundTrip
+pub mod Rows

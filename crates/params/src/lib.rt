@@ -15,6 +15,7 @@ ghost use lib.Signed.{leZ, ltZ};
 ghost use Rattle.index.specs.Index.{first, every};
 ghost use Rattle.groups.specs.Codes.{codeOf, numberOf};
 ghost use Rattle.params.specs.Limits.{fieldOf, limitAt, lies, inLimits, at};
+ghost use Rattle.params.specs.Rows.{Row};
 ghost use Rattle.params.specs.Joint.{capRule, rule};
 ghost use Rattle.params.specs.Check.{outside, broken, firstBroken, acceptedCodes};
 ghost use Rattle.params.specs.Read.{parseFrom, outcome, refusal, judgedBy, readOf, frontOf};
@@ -445,22 +446,41 @@ fn code_lies(u: u64, low: i64, high: i64) -> bool
     between(low, groups::number_of(u), high)
 }
 
-// Whether 147 codes are those of numbers between their limits. The table is taken once: a constant is built anew at each use.
+// Whether the n codes from `at` on are those of numbers between the limits of the fields from `field` on. The table is taken once: a constant
+// is built anew at each use.
+fn row_lies(codes: &[u64], at: usize, field: usize, n: usize) -> bool
+    requires { ⌜ (length (now codes) ≡ 147) × Row at field n ⌝ }
+    ensures { λ r. ⌜ r ≡ every n (λ j. inLimits (map numberOf (now (codes .entry))) (at + j)) ⌝ }
+{
+    let limits = LIMITS;
+    let mut j: usize = 0;
+    while j < n {
+        let l = limits[field + j];
+        if !code_lies(codes[at + j], l.low, l.high) {
+            return false;
+        }
+        j += 1;
+    }
+    true
+}
+
+// Whether 147 codes are those of numbers between their limits: the general ones, then topic by topic, so that the limits of a row are the same
+// numbers each time.
 fn codes_lie(codes: &[u64]) -> bool
     requires { ⌜ length (now codes) ≡ 147 ⌝ }
     ensures { λ r. ⌜ r ≡ every 147 (inLimits (map numberOf (now (codes .entry)))) ⌝ }
 {
-    let limits = LIMITS;
-    let mut ok = true;
-    let mut i: usize = 0;
-    while i < 147 {
-        let f = field_of(i);
-        let l = limits[f];
-        let b = code_lies(codes[i], l.low, l.high);
-        ok = ok & b;
-        i += 1;
+    if !row_lies(codes, 0, 0, 19) {
+        return false;
     }
-    ok
+    let mut k: usize = 0;
+    while k < 8 {
+        if !row_lies(codes, 19 + 16 * k, 19, 16) {
+            return false;
+        }
+        k += 1;
+    }
+    true
 }
 
 // Whether in every topic P3 cap is at least P3 threshold, of codes of numbers between their limits.
@@ -498,7 +518,7 @@ fn codes_keep(codes: &[u64]) -> bool
         & caps
 }
 
-// Whether 147 codes are those of parameters that pass the check. Every call of a router asks this, so it has no early end.
+// Whether 147 codes are those of parameters that pass the check. Every call of a router asks this.
 pub fn accepts_codes(codes: &[u64]) -> bool
     ensures { λ r. ⌜ r ≡ acceptedCodes (now (codes .entry)) ⌝ }
 {

@@ -33,4 +33,4 @@ pub record Caps (st : State) (caps2 caps3 : List ℕ) : Type 0 where
 
 -- how many buckets the ids fall into
 abbrev pub bucketCount : ℕ
-bucketCount = 512
+bucketCount = 1024

@@ -12,7 +12,7 @@ ghost use Rattle.table.specs.Valid.{apart, newId};
 use records::SLOTS;
 
 // How many buckets there are. Any number will do; a power of two is divided by at no cost.
-const BUCKETS: usize = 512;
+const BUCKETS: usize = 1024;
 
 // Whether two ids differ, or are none.
 fn apart(a: u64, b: u64) -> bool

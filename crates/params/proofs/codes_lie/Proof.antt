@@ -1,48 +1,51 @@
--- `params::codes_lie` meets its contract. Assumes nothing.
-use Rattle.index.proofs.Kit.{_≤_, _-_, _≡_, arith, every}
+-- `params::codes_lie`: the general numbers, then after k turns those of the topics below k. Assumes nothing.
+use Rattle.index.proofs.Kit.{_+_, _*_, _≤_, _-_, _≡_, arith, every, true}
 use borrow.Author.Needs.{needs}
-use mathlib.Core.Path.{refl}
 use mathlib.Core.List.{map}
-use lib.ListN.{getD}
+use Rattle.index.proofs.Index.{every-loop, every-more, every-done}
+use Rattle.index.proofs.Flags.{failed, passed}
 use Rattle.groups.specs.Codes.{numberOf}
-use Rattle.params.specs.Limits.{inLimits, limits, limitAt}
-use Rattle.params.proofs.FieldLaws.{code-in}
-use Rattle.params.proofs.LimitLaws.{lies-at}
-use Rattle.params.proofs.CodeRules.{every-start, every-and}
+use Rattle.params.specs.Limits.{inLimits}
+use Rattle.params.proofs.RowLaws.{general-row, topic-row, topic, row-fails, rows-hold}
 use Rattle.params.proofs.codes_lie.Statement.{statement}
 use Rattle.params.proofs.codes_lie.Tie as tie
 
 abbrev Inv-loop : tie.InvT-loop
-Inv-loop codes table ok₀ i₀ ok i = (i ≤ 147) × (ok ≡ every i (inLimits (map numberOf codes)))
+Inv-loop codes k₀ k = (k ≤ 8) × (every k (topic (inLimits (map numberOf codes))) ≡ true)
 
 abbrev μ-loop : tie.MeasureT-loop
-μ-loop codes table ok₀ i₀ ok i = 147 - i
+μ-loop codes k₀ k = 8 - k
+
+returns-2 : tie.Need-returns-2 Inv-loop μ-loop
+returns-2 c =
+    let k = c .before .before .before .loop .k in
+    row-fails (inLimits (map numberOf (c .before .before .before .before .before .before .before .args .codes .now))) (19 + 16 * k) 16 (omega arith) (failed (c .before .row-lies2 .ensures) (c .if2 .taken))
 
 loop-again : tie.Need-loop-again Inv-loop μ-loop
-unfolding limitAt limits
 loop-again c =
-    let f = c .before .before .before .before .before in
-    let l = f .before .before .loop in
-    let codes = f .before .before .before .before .args .codes .now in (
-      omega arith,
-      every-and _ _ _ _ (l .inv .1)
-          (code-in codes (l .i) _
-          (lies-at (numberOf (getD codes (l .i) 0)) (f .field-of .result) (l .i) (limitAt (f .field-of .result)) _ refl (f .field-of .ensures .0) (c .code-lies .ensures))),
-    )
+    let l = c .before .before .before .loop in
+    (omega arith, every-more _ _ (l .inv .1) (passed (c .before .row-lies2 .ensures) (c .if2 .left)))
+
+returns-3 : tie.Need-returns-3 Inv-loop μ-loop
+returns-3 c =
+    let i = c .before .before in
+    let l = c .before .loop in
+    rows-hold (inLimits (map numberOf (i .before .before .before .args .codes .now))) (passed (i .before .row-lies .ensures) (i .if1 .left)) (every-done _ 8 (l .k) (omega arith) (omega arith) (l .inv .1))
 
 pub codes-lie-spec : {M : Type 1} → statement M
 codes-lie-spec =
-    tie.close (tie.spec
+    tie.close
+    (tie.spec
     Inv-loop
     μ-loop
-    (λ c. (search needs, every-start _))
-    (λ c κs. omega arith)
-    (λ c. omega arith)
-    (λ c. let e = c .field-of .ensures .1 in omega arith)
-    (λ c. omega arith)
-    (λ c. omega arith)
-    (λ c κs. search needs)
+    (λ c κs. (c .before .pre, general-row))
+    (λ c. row-fails (inLimits (map numberOf (c .before .before .before .args .codes .now))) 0 19 (omega arith) (failed (c .before .row-lies .ensures) (c .if1 .taken)))
+    (λ c. search (every-loop, needs))
     (λ c. omega arith)
     (λ c. omega arith)
+    (λ c κs. (c .before .before .before .before .before .pre, topic-row _ (c .loop-test .taken)))
+    returns-2
+    (λ c. search needs)
+    (λ c. search needs)
     loop-again
-    (λ c. let l = c .before .loop in let e : l .i ≡ 147 = omega arith in rw e at (l .inv .1)))
+    returns-3)
