@@ -5,7 +5,7 @@ use mathlib.Core.Path.{_≡_, refl, sym, ap, _∙_, subst}
 use mathlib.Core.Bool.{Bool, true, false, not, _&&_}
 use mathlib.Core.List.{List, [], _∷_}
 use native.Mathlib.Omega.{arith}
-use borrow.Author.Tests.{le-ltb}
+use borrow.Author.Tests.{lt-ltb, le-ltb}
 use lib.Dec.{T, ltb, leb, leb·zero, ltb→lt, leb→le}
 use lib.ListN.{getD}
 use lib.IntN.{ℤ, pos, negsuc, negℤ, natAbs}
@@ -19,7 +19,10 @@ use Rattle.params.specs.declared.Limit.{Limit}
 use Rattle.params.specs.Limits.{to, limits, fieldOf, limitAt, at, lies, inLimits}
 use Rattle.params.specs.Check.{outside}
 
--- the field of topic k's j-th number
+-- the field of a general number, and of topic k's j-th
+pub general-field : (i : ℕ) → i < 19 → fieldOf i ≡ i
+general-field i h = rw (lt-ltb i 19 h) refl
+
 pub topic-field : (k j : ℕ) → j < 16 → fieldOf (19 + 16 * k + j) ≡ 19 + j
 topic-field k j h = rw (le-ltb (19 + 16 * k + j) 19 (omega arith)) (omega arith)
 

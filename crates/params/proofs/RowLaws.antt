@@ -1,50 +1,70 @@
--- The 147 numbers as rows: 19 general ones, then 16 for each of 8 topics. A test of every number is a test of every number of every row.
+-- The 147 numbers as 19 general ones and, field by field, those of the 8 topics: a test of every number is a test of all of these.
 -- Assumes nothing.
 use Prim.Native.Nat.{ℕ, _+_, _-_, _*_, _/_, _%_, _<_, _≤_}
 use native.Mathlib.Omega.{arith}
 use mathlib.Core.Path.{_≡_, refl, sym, ap, _∙_}
-use mathlib.Core.Bool.{Bool, true, false}
-use borrow.Author.Tests.{lt-ltb}
+use mathlib.Core.Bool.{Bool, true, false, _&&_}
+use mathlib.Core.List.{List, map}
+use lib.ListN.{getD}
+use lib.IntN.{ℤ}
+use lib.Signed.{leZ}
+use mir.Syntax.{w64}
+use mir.Val.{toZ, ofZ}
 use Rattle.index.specs.Index.{every}
-use Rattle.index.proofs.Index.{every-at, every-by}
+use Rattle.index.proofs.Index.{every-at, every-by, every-same}
 use Rattle.index.proofs.Flags.{by-test, by-order}
-use Rattle.params.specs.Limits.{fieldOf}
-use Rattle.params.specs.Rows.{Row}
-use Rattle.params.proofs.LimitLaws.{topic-field}
+use Rattle.groups.specs.Codes.{numberOf}
+use Rattle.params.specs.declared.Limit.{Limit}
+use Rattle.params.specs.Limits.{limitAt, inLimits}
+use Rattle.params.proofs.LimitLaws.{topic-field, lies-at}
+use Rattle.params.proofs.FieldLaws.{code-in}
 
-pub general-row : Row 0 0 19
-general-row = record { inside = omega arith; fields = omega arith; each = λ j h. let z : 0 + j ≡ j = omega arith in rw (z, lt-ltb j 19 h) refl }
-
-pub topic-row : (k : ℕ) → k < 8 → Row (19 + 16 * k) 19 16
-topic-row k h = record { inside = omega arith; fields = omega arith; each = λ j l. topic-field k j l }
+-- the j-th number of every topic
+pub field-is :
+    (codes : List ℕ) (j : ℕ) (l : Limit) →
+    j < 16 →
+    l ≡ limitAt (19 + j) →
+    every 8 (λ k.
+    let x = numberOf (getD codes (19 + 16 * k + j) 0) in
+    leZ (toZ w64 (ofZ w64 (l .low))) x && leZ x (toZ w64 (ofZ w64 (l .high))))
+    ≡ every 8 (λ k. inLimits (map numberOf codes) (19 + 16 * k + j))
+field-is codes j l h e =
+    every-same _ (λ k. inLimits (map numberOf codes) (19 + 16 * k + j)) 8 (λ k b.
+    let i = 19 + 16 * k + j in
+    code-in codes i _ (lies-at (numberOf (getD codes i 0)) (19 + j) i l _ e (sym (topic-field k j h)) refl))
 
 module _ (f : ℕ → Bool) where
-  -- a row that fails
-  pub row-fails : (s n : ℕ) → s + n ≤ 147 → every n (λ j. f (s + j)) ≡ false → false ≡ every 147 f
-  row-fails s n h e =
+  -- number j of topic k, by field
+  abbrev pub field : ℕ → Bool
+  field j = every 8 (λ k. f (19 + 16 * k + j))
+
+  pub general-fails : every 19 f ≡ false → false ≡ every 147 f
+  general-fails e =
       by-test
       (false ≡ every 147 f)
       (every 147 f)
-      (λ a.
-      let b : every n (λ j. f (s + j)) ≡ true = every-by (λ j. f (s + j)) n (λ j l. every-at f 147 (s + j) a (omega arith)) in
-      sym e ∙ b ∙ sym a)
+      (λ a. sym e ∙ every-by f 19 (λ i l. every-at f 147 i a (omega arith)) ∙ sym a)
       (λ a. sym a)
 
-  -- all rows
-  abbrev pub topic : ℕ → Bool
-  topic k = every 16 (λ j. f (19 + 16 * k + j))
-
-  pub rows-hold : every 19 (λ j. f (0 + j)) ≡ true → every 8 topic ≡ true → true ≡ every 147 f
-  rows-hold g t =
-      sym (every-by f 147 (λ i h.
+  pub fields-are : every 19 f ≡ true → (r : Bool) → r ≡ every 16 field → r ≡ every 147 f
+  fields-are g r e =
+      e
+      ∙ by-test
+      (every 16 field ≡ every 147 f)
+      (every 16 field)
+      (λ t.
+      t
+      ∙ sym (every-by f 147 (λ i h.
       by-order (f i ≡ true) i 19
-      (λ (l : i < 19).
-      let z : i ≡ 0 + i = omega arith in
-      ap f z ∙ every-at (λ j. f (0 + j)) 19 i g l)
+      (λ (l : i < 19). every-at f 19 i g l)
       (λ (l : 19 ≤ i).
       let k : ℕ = (i - 19) / 16 in
       let j : ℕ = (i - 19) % 16 in
-      let e : 19 + 16 * k + j ≡ i = omega arith in
-      let lk : k < 8 = omega arith in
-      let lj : j < 16 = omega arith in
-      ap f (sym e) ∙ every-at (λ m. f (19 + 16 * k + m)) 16 j (every-at topic 8 k t lk) lj)))
+      let z : 19 + 16 * k + j ≡ i = omega arith in
+      ap f (sym z) ∙ every-at (λ m. f (19 + 16 * m + j)) 8 k (every-at field 16 j t (omega arith)) (omega arith)))))
+      (λ t.
+      by-test
+      (every 16 field ≡ every 147 f)
+      (every 147 f)
+      (λ a. every-by field 16 (λ j lj. every-by (λ k. f (19 + 16 * k + j)) 8 (λ k lk. every-at f 147 (19 + 16 * k + j) a (omega arith))) ∙ sym a)
+      (λ a. t ∙ sym a))

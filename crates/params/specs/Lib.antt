@@ -5,4 +5,3 @@ pub mod Read
 pub mod Write
 pub mod Ordinary
 pub mod RoundTrip
-pub mod Rows

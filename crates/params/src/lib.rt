@@ -7,15 +7,14 @@ use index::Found;
 ghost use mathlib.Core.Path.{_≡_};
 ghost use mathlib.Core.Bool.{true, _&&_};
 ghost use mathlib.Core.List.{map};
-ghost use Prim.Native.Nat.{ℕ, _+_, _≤_, _<_};
-ghost use lib.ListN.{length};
+ghost use Prim.Native.Nat.{ℕ, _+_, _*_, _≤_, _<_};
+ghost use lib.ListN.{length, getD};
 ghost use lib.IntN.{natAbs};
 ghost use lib.Seq.{sets};
 ghost use lib.Signed.{leZ, ltZ};
 ghost use Rattle.index.specs.Index.{first, every};
 ghost use Rattle.groups.specs.Codes.{codeOf, numberOf};
-ghost use Rattle.params.specs.Limits.{fieldOf, limitAt, lies, inLimits, at};
-ghost use Rattle.params.specs.Rows.{Row};
+ghost use Rattle.params.specs.Limits.{to, fieldOf, limitAt, lies, inLimits, at};
 ghost use Rattle.params.specs.Joint.{capRule, rule};
 ghost use Rattle.params.specs.Check.{outside, broken, firstBroken, acceptedCodes};
 ghost use Rattle.params.specs.Read.{parseFrom, outcome, refusal, judgedBy, readOf, frontOf};
@@ -446,17 +445,48 @@ fn code_lies(u: u64, low: i64, high: i64) -> bool
     between(low, groups::number_of(u), high)
 }
 
-// Whether the n codes from `at` on are those of numbers between the limits of the fields from `field` on. The table is taken once: a constant
-// is built anew at each use.
-fn row_lies(codes: &[u64], at: usize, field: usize, n: usize) -> bool
-    requires { ⌜ (length (now codes) ≡ 147) × Row at field n ⌝ }
-    ensures { λ r. ⌜ r ≡ every n (λ j. inLimits (map numberOf (now (codes .entry))) (at + j)) ⌝ }
+// Whether the codes of the general numbers lie between their limits. The table is taken once: a constant is built anew at each use.
+fn general_lie(codes: &[u64]) -> bool
+    requires { ⌜ length (now codes) ≡ 147 ⌝ }
+    ensures { λ r. ⌜ r ≡ every 19 (inLimits (map numberOf (now (codes .entry)))) ⌝ }
+{
+    let limits = LIMITS;
+    let mut i: usize = 0;
+    while i < 19 {
+        let l = limits[i];
+        if !code_lies(codes[i], l.low, l.high) {
+            return false;
+        }
+        i += 1;
+    }
+    true
+}
+
+// Whether the j-th number of every topic lies between two limits.
+fn field_lies(codes: &[u64], j: usize, low: i64, high: i64) -> bool
+    requires { ⌜ (length (now codes) ≡ 147) × (j < 16) ⌝ }
+    ensures { λ r. ⌜ r ≡ every 8 (λ k. lies (numberOf (getD (now (codes .entry)) (19 + 16 * k + j) 0)) (to low high)) ⌝ }
+{
+    let mut k: usize = 0;
+    while k < 8 {
+        if !code_lies(codes[19 + 16 * k + j], low, high) {
+            return false;
+        }
+        k += 1;
+    }
+    true
+}
+
+// Whether the numbers of the topics do, field by field: so a field's limits are loaded once.
+fn fields_lie(codes: &[u64]) -> bool
+    requires { ⌜ length (now codes) ≡ 147 ⌝ }
+    ensures { λ r. ⌜ r ≡ every 16 (λ j. every 8 (λ k. inLimits (map numberOf (now (codes .entry))) (19 + 16 * k + j))) ⌝ }
 {
     let limits = LIMITS;
     let mut j: usize = 0;
-    while j < n {
-        let l = limits[field + j];
-        if !code_lies(codes[at + j], l.low, l.high) {
+    while j < 16 {
+        let l = limits[19 + j];
+        if !field_lies(codes, j, l.low, l.high) {
             return false;
         }
         j += 1;
@@ -464,23 +494,15 @@ fn row_lies(codes: &[u64], at: usize, field: usize, n: usize) -> bool
     true
 }
 
-// Whether 147 codes are those of numbers between their limits: the general ones, then topic by topic, so that the limits of a row are the same
-// numbers each time.
+// Whether 147 codes are those of numbers between their limits.
 fn codes_lie(codes: &[u64]) -> bool
     requires { ⌜ length (now codes) ≡ 147 ⌝ }
     ensures { λ r. ⌜ r ≡ every 147 (inLimits (map numberOf (now (codes .entry)))) ⌝ }
 {
-    if !row_lies(codes, 0, 0, 19) {
+    if !general_lie(codes) {
         return false;
     }
-    let mut k: usize = 0;
-    while k < 8 {
-        if !row_lies(codes, 19 + 16 * k, 19, 16) {
-            return false;
-        }
-        k += 1;
-    }
-    true
+    fields_lie(codes)
 }
 
 // Whether in every topic P3 cap is at least P3 threshold, of codes of numbers between their limits.

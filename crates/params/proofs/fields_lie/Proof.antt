@@ -1,0 +1,46 @@
+-- `params::fields_lie`: after j turns the topics' first j numbers are between their limits. Assumes nothing.
+use Rattle.index.proofs.Kit.{_+_, _≤_, _-_, _≡_, arith, every, true}
+use borrow.Author.Needs.{needs}
+use mathlib.Core.Path.{refl, _∙_}
+use mathlib.Core.List.{map}
+use Rattle.index.proofs.Index.{every-loop, every-more, every-out}
+use Rattle.index.proofs.Flags.{failed, passed}
+use Rattle.groups.specs.Codes.{numberOf}
+use Rattle.params.specs.Limits.{inLimits, limits, limitAt}
+use Rattle.params.proofs.RowLaws.{field, field-is}
+use Rattle.params.proofs.fields_lie.Statement.{statement}
+use Rattle.params.proofs.fields_lie.Tie as tie
+
+abbrev Inv-loop : tie.InvT-loop
+Inv-loop codes table j₀ j = (j ≤ 16) × (every j (field (inLimits (map numberOf codes))) ≡ true)
+
+abbrev μ-loop : tie.MeasureT-loop
+μ-loop codes table j₀ j = 16 - j
+
+-- the field at hand
+told :
+    (g : tie.After-field-lies Inv-loop μ-loop) →
+    let l = g .before .before .before .before .before in
+    g .field-lies .result ≡ field (inLimits (map numberOf (l .before .before .args .codes .now))) (l .loop .j)
+unfolding limitAt limits
+told g =
+    let l = g .before .before .before .before .before in
+    let j = l .loop .j in
+    g .field-lies .ensures ∙ field-is (l .before .before .args .codes .now) j (limitAt (19 + j)) (g .before .before .before .before .loop-test .taken) refl
+
+pub fields-lie-spec : {M : Type 1} → statement M
+fields-lie-spec =
+    tie.close
+    (tie.spec
+    Inv-loop
+    μ-loop
+    (λ c. search (every-loop, needs))
+    (λ c. omega arith)
+    (λ c. omega arith)
+    (λ c. omega arith)
+    (λ c κs. search needs)
+    (λ c. every-out _ _ _ (omega arith) (failed (told (c .before)) (c .if1 .taken)))
+    (λ c. search needs)
+    (λ c. search needs)
+    (λ c. (omega arith, every-more _ _ (c .before .before .before .before .before .before .loop .inv .1) (passed (told (c .before)) (c .if1 .left))))
+    (λ c. search (every-loop, needs)))
