@@ -11,9 +11,6 @@ use lib.ListN.{length, getD, set}
 use lib.Seq.{getD-set-same, getD-set-other}
 use Rattle.index.specs.Index.{every}
 use Rattle.index.proofs.Flags.{by-order}
-use Rattle.index.proofs.Index.{every-same}
-use Rattle.records.specs.Records.{State, peerIn, slotCount}
-use Rattle.table.specs.Valid.{apart, newId}
 
 module _ (f : ℕ → Bool) where
   pub flag-start : true ≡ every 0 f
@@ -47,14 +44,3 @@ fill-more f l i v b h e k m =
     (λ (n : i ≤ k).
     let z : k ≡ i = omega arith in
     rw z (getD-set-same l i v 0 b ∙ e))
-
--- the ids of a state, compared in a copy
-pub new-ids-same :
-    (st : State) (ids : List ℕ) →
-    ((k : ℕ) → k < slotCount → getD ids k 0 ≡ peerIn st k .id) →
-    every slotCount (λ s. every s (λ k. apart (getD ids s 0) (getD ids k 0))) ≡ every slotCount (newId st)
-unfolding newId
-new-ids-same st ids h =
-    every-same (λ s. every s (λ k. apart (getD ids s 0) (getD ids k 0))) (newId st) slotCount (λ s b.
-    every-same (λ k. apart (getD ids s 0) (getD ids k 0)) (λ k. apart (peerIn st s .id) (peerIn st k .id)) s (λ k l.
-    rw (h s b, h k (omega arith))))
