@@ -2,7 +2,6 @@
 -- Assumes nothing.
 use mathlib.Core.Path.{ap, _∙_}
 use Prim.Native.Nat.{ℕ}
-use native.Mathlib.Omega.{arith}
 use borrow.Author.Needs.{needs}
 use mir.Facts.{toZ-ofZ}
 use Rattle.cells.specs.View.{stateOf}
@@ -15,11 +14,7 @@ use Rattle.peers.proofs.rate_from.Tie as tie
 
 returns : tie.Need-returns
 unfolding effect
-returns c = peer-none _ _ _ _ (search) (c .enum-told .given .1)
-
-rate-slot-requires : tie.Need-rate-slot-requires
-rate-slot-requires c κs =
-    (c .before .before .before .before .before .before .before .before .pre .standing .size, omega (arith, found-below (stateOf (c .before .before .before .before .before .before .before .before .args .table .now)) (c .before .before .before .before .before .before .before .before .args .id) _ _ (search) (c .before .before .before .slot .given .1)))
+returns c = search peer-none
 
 returns-2 : tie.Need-returns-2
 unfolding effect
@@ -39,7 +34,7 @@ rate-from-spec =
     (λ c. search needs)
     returns
     (λ c κs. search needs)
-    rate-slot-requires
+    (λ c κs. (search needs, search found-below))
     (λ c κs. search needs)
     (λ c. search needs)
     returns-2)

@@ -20,9 +20,6 @@ change-from-requires c κs =
     let g = c .before .before .before in
     change-behind _ (start g .args .id) _ (start g .args .on) (word g) (c .before .enum-told .given .1) (search needs)
 
-returns : tie.Need-returns
-returns c = call-refused (word (c .before .before .before)) (c .before .a .given .1)
-
 returns-2 : tie.Need-returns-2
 returns-2 c =
     let g = c .before .before .before .before in
@@ -39,5 +36,5 @@ change-spec =
     (λ c. search needs)
     (λ c. search needs)
     change-from-requires
-    returns
+    (λ c. call-refused (word (c .before .before .before)) (c .before .a .given .1))
     returns-2)

@@ -7,18 +7,11 @@ use Rattle.topics.proofs.join_from.Tie as tie
 
 returns : tie.Need-returns
 unfolding joinReply
-returns c =
-    let i = c .before .before in
-    let t = i .before .before in
-    else-ignored _ (i .before .before .before .before .before .before .args .table .now) _ _ _ _ _ _ (t .before .is-joined .ensures) (t .if1 .taken) (i .ignore .ensures)
+returns c = search else-ignored
 
 returns-2 : tie.Need-returns-2
 unfolding joinReply
-returns-2 c =
-    let f = c .before .before in
-    let s = f .before .before .before .before in
-    let t = s .before .before in
-    else-done _ _ _ _ _ _ _ _ (t .before .is-joined .ensures) (t .if1 .left) (s .store-joined .ensures) (f .finish .ensures)
+returns-2 c = search else-done
 
 pub join-from-spec : {M : Type 1} → statement M
 join-from-spec =
