@@ -13,15 +13,8 @@ refuse-graft-requires c κs =
     let p = c .before .before .before .before .before .before .before .before .before .before .before .pre in
     (refusable-raised _ _ _ _ (p .0) (p .1 .1 .0) (search needs) (c .before .before .before .before .raise-p7 .ensures), p .1)
 
-returns : tie.Need-returns
-unfolding graftBackoff
-returns c = search (gives-then, refused-from, yes)
-
-returns-2 : tie.Need-returns-2
-unfolding graftBackoff
-returns-2 c = search (gives-else, no)
-
 pub graft-backoff-spec : {M : Type 1} → statement M
+unfolding graftBackoff
 graft-backoff-spec =
     tie.close
     (tie.spec
@@ -30,8 +23,8 @@ graft-backoff-spec =
     refuse-graft-requires
     (λ c. search needs)
     (λ c. search needs)
-    returns
+    (λ c. search (gives-then, refused-from, yes))
     (λ c κs. search needs)
     (λ c. search needs)
     (λ c. search needs)
-    returns-2)
+    (λ c. search (gives-else, no)))

@@ -8,19 +8,8 @@ use Rattle.rules.proofs.EndLaws.{gives-ignored}
 use Rattle.control.proofs.graft_from.Statement.{statement}
 use Rattle.control.proofs.graft_from.Tie as tie
 
-returns : tie.Need-returns
-unfolding effect
-returns c = search peer-none-gives
-
-returns-2 : tie.Need-returns-2
-unfolding effect graftReply
-returns-2 c = search (peer-at-gives, gives-then, yes)
-
-returns-3 : tie.Need-returns-3
-unfolding effect graftReply
-returns-3 c = search (peer-at-gives, gives-else, gives-ignored, no)
-
 pub graft-from-spec : {M : Type 1} → statement M
+unfolding effect graftReply
 graft-from-spec =
     tie.close
     (tie.spec
@@ -28,12 +17,12 @@ graft-from-spec =
     (λ c. search needs)
     (λ c. search needs)
     (λ c. search needs)
-    returns
+    (λ c. search peer-none-gives)
     (λ c κs. (search needs, (search needs, search found-below)))
     (λ c κs. (search needs, (search needs, (search found-below, search needs))))
     (λ c. search needs)
     (λ c. search needs)
-    returns-2
+    (λ c. search (peer-at-gives, gives-then, yes))
     (λ c κs. search needs)
     (λ c. search needs)
-    returns-3)
+    (λ c. search (peer-at-gives, gives-else, gives-ignored, no)))

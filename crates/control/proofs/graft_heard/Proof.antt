@@ -20,15 +20,8 @@ returns c =
 refuse-graft-requires : tie.Need-refuse-graft-requires
 refuse-graft-requires c κs = let p = c .before .before .before .before .before .before .before .before .before .before .before .pre in (refusable-of _ _ _ (p .0) (p .1 .1 .0), p .1)
 
-returns-2 : tie.Need-returns-2
-unfolding graftHeard
-returns-2 c = search (gives-else, gives-then, explicit-yes, no)
-
-returns-3 : tie.Need-returns-3
-unfolding graftHeard
-returns-3 c = search (gives-else, explicit-no, no)
-
 pub graft-heard-spec : {M : Type 1} → statement M
+unfolding graftHeard
 graft-heard-spec =
     tie.close
     (tie.spec
@@ -40,8 +33,8 @@ graft-heard-spec =
     refuse-graft-requires
     (λ c. search needs)
     (λ c. search needs)
-    returns-2
+    (λ c. search (gives-else, gives-then, explicit-yes, no))
     (λ c κs. search needs)
     (λ c. search needs)
     (λ c. search needs)
-    returns-3)
+    (λ c. search (gives-else, explicit-no, no)))

@@ -9,18 +9,11 @@ use Rattle.control.proofs.GraftLaws.{refusable-of}
 use Rattle.control.proofs.graft_open.Statement.{statement}
 use Rattle.control.proofs.graft_open.Tie as tie
 
-returns : tie.Need-returns
-unfolding graftOpen
-returns c = search (gives-then, gives-done, yes)
-
 refuse-graft-requires : tie.Need-refuse-graft-requires
 refuse-graft-requires c κs = let p = c .before .before .before .before .before .before .before .pre in (refusable-of _ _ _ (p .0) (p .1 .1 .0), p .1)
 
-returns-2 : tie.Need-returns-2
-unfolding graftOpen
-returns-2 c = search (gives-else, no)
-
 pub graft-open-spec : {M : Type 1} → statement M
+unfolding graftOpen
 graft-open-spec =
     tie.close
     (tie.spec
@@ -28,8 +21,8 @@ graft-open-spec =
     (λ c κs. search needs)
     (λ c κs. search needs)
     (λ c. search needs)
-    returns
+    (λ c. search (gives-then, gives-done, yes))
     refuse-graft-requires
     (λ c. search needs)
     (λ c. search needs)
-    returns-2)
+    (λ c. search (gives-else, no)))

@@ -9,10 +9,6 @@ use Rattle.control.proofs.PruneLaws.{pruned-is}
 use Rattle.control.proofs.prune_from.Statement.{statement}
 use Rattle.control.proofs.prune_from.Tie as tie
 
-returns : tie.Need-returns
-unfolding effect
-returns c = search peer-none
-
 returns-2 : tie.Need-returns-2
 unfolding effect pruneReply
 returns-2 c =
@@ -21,11 +17,8 @@ returns-2 c =
     pruned-is _ _ _ _ _ _ _ _ (m .before .before .seconds-of .ensures .0) (m .before .end-after .ensures .0) (m .prune-slot .ensures) in
     search (peer-at, leaves-then, leaves-done, yes)
 
-returns-3 : tie.Need-returns-3
-unfolding effect pruneReply
-returns-3 c = search (peer-at, leaves-else, leaves-ignored, no)
-
 pub prune-from-spec : {M : Type 1} → statement M
+unfolding effect pruneReply
 prune-from-spec =
     tie.close
     (tie.spec
@@ -33,7 +26,7 @@ prune-from-spec =
     (λ c. search needs)
     (λ c. search needs)
     (λ c. search needs)
-    returns
+    (λ c. search peer-none)
     (λ c κs. (search needs, (search needs, search found-below)))
     (λ c κs. search needs)
     (λ c κs. search needs)
@@ -43,4 +36,4 @@ prune-from-spec =
     returns-2
     (λ c κs. search needs)
     (λ c. search needs)
-    returns-3)
+    (λ c. search (peer-at, leaves-else, leaves-ignored, no)))

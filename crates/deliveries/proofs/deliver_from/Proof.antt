@@ -8,19 +8,8 @@ use Rattle.deliveries.proofs.DeliverLaws.{deliver-heard, deliver-ignore
 use Rattle.deliveries.proofs.deliver_from.Statement.{statement}
 use Rattle.deliveries.proofs.deliver_from.Tie as tie
 
-returns : tie.Need-returns
-unfolding effect
-returns c = search peer-none
-
-returns-2 : tie.Need-returns-2
-unfolding effect
-returns-2 c = search (peer-at, deliver-heard)
-
-returns-3 : tie.Need-returns-3
-unfolding effect
-returns-3 c = search (peer-at, deliver-ignored)
-
 pub deliver-from-spec : {M : Type 1} → statement M
+unfolding effect
 deliver-from-spec =
     tie.close
     (tie.spec
@@ -28,12 +17,12 @@ deliver-from-spec =
     (λ c. search needs)
     (λ c. search needs)
     (λ c. search needs)
-    returns
+    (λ c. search peer-none)
     (λ c κs. (search needs, (search needs, search found-below)))
     (λ c κs. (search needs, (search needs, search found-below)))
     (λ c κs. c .before .before .before .deliver-slot .kept .0 ∙ c .before .before .before .before .before .before .before .before .before .before .before .before .before .before .pre .0 .standing .size)
     (λ c. search needs)
-    returns-2
+    (λ c. search (peer-at, deliver-heard))
     (λ c κs. search needs)
     (λ c. search needs)
-    returns-3)
+    (λ c. search (peer-at, deliver-ignored)))

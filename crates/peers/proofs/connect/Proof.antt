@@ -7,11 +7,8 @@ use Rattle.peers.proofs.PeerLaws.{connect-range, quiet-connect}
 use Rattle.peers.proofs.connect.Statement.{statement}
 use Rattle.peers.proofs.connect.Tie as tie
 
-returns-2 : tie.Need-returns-2
-unfolding effect
-returns-2 c = search (call-ends, connect-range, quiet-connect)
-
 pub connect-spec : {M : Type 1} → statement M
+unfolding effect
 connect-spec =
     tie.close
     (tie.spec
@@ -22,4 +19,4 @@ connect-spec =
     (λ c. search needs)
     (λ c κs. search (call-ends, needs))
     (λ c. search (call-ends, connect-range))
-    returns-2)
+    (λ c. search (call-ends, connect-range, quiet-connect)))

@@ -10,10 +10,6 @@ use Rattle.peers.proofs.PeerLaws.{departed-is}
 use Rattle.peers.proofs.disconnect_from.Statement.{statement}
 use Rattle.peers.proofs.disconnect_from.Tie as tie
 
-returns : tie.Need-returns
-unfolding effect
-returns c = search peer-none
-
 end-after-requires : tie.Need-end-after-requires
 end-after-requires c κs =
     let ready = c .before .before .before .before .before .before .before .before .before .pre in
@@ -29,6 +25,7 @@ returns-2 c =
     search (peer-at, leaves-done)
 
 pub disconnect-from-spec : {M : Type 1} → statement M
+unfolding effect
 disconnect-from-spec =
     tie.close
     (tie.spec
@@ -36,7 +33,7 @@ disconnect-from-spec =
     (λ c. search needs)
     (λ c. search needs)
     (λ c. search needs)
-    returns
+    (λ c. search peer-none)
     (λ c κs. search needs)
     end-after-requires
     (λ c κs. (search needs, search found-below))

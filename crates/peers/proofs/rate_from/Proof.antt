@@ -12,10 +12,6 @@ use Rattle.rules.proofs.EndLaws.{leaves-done}
 use Rattle.peers.proofs.rate_from.Statement.{statement}
 use Rattle.peers.proofs.rate_from.Tie as tie
 
-returns : tie.Need-returns
-unfolding effect
-returns c = search peer-none
-
 returns-2 : tie.Need-returns-2
 unfolding effect
 returns-2 c =
@@ -25,6 +21,7 @@ returns-2 c =
     peer-at _ _ _ _ (search) _ _ _ (k .slot .given .1) (leaves-done _ _ _ _ _ _ e (c .before .before .finish .ensures))
 
 pub rate-from-spec : {M : Type 1} → statement M
+unfolding effect
 rate-from-spec =
     tie.close
     (tie.spec
@@ -32,7 +29,7 @@ rate-from-spec =
     (λ c. search needs)
     (λ c. search needs)
     (λ c. search needs)
-    returns
+    (λ c. search peer-none)
     (λ c κs. search needs)
     (λ c κs. (search needs, search found-below))
     (λ c κs. search needs)

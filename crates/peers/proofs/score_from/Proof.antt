@@ -10,10 +10,6 @@ use Rattle.rules.proofs.StepLaws.{found-below, peer-none, peer-at}
 use Rattle.peers.proofs.score_from.Statement.{statement}
 use Rattle.peers.proofs.score_from.Tie as tie
 
-returns : tie.Need-returns
-unfolding effect
-returns c = search peer-none
-
 returns-2 : tie.Need-returns-2
 unfolding effect
 returns-2 c =
@@ -22,6 +18,7 @@ returns-2 c =
     (leaves-moved _ _ _ _ (ap Scored e) refl (c .before .before .store-clock .ensures))
 
 pub score-from-spec : {M : Type 1} → statement M
+unfolding effect
 score-from-spec =
     tie.close
     (tie.spec
@@ -29,7 +26,7 @@ score-from-spec =
     (λ c. search needs)
     (λ c. search needs)
     (λ c. search needs)
-    returns
+    (λ c. search peer-none)
     (λ c κs. (search needs, (search needs, search found-below)))
     (λ c κs. search needs)
     (λ c κs. search needs)

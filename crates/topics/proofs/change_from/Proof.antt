@@ -6,15 +6,8 @@ use Rattle.topics.proofs.ReplyLaws.{else-ignored, else-done}
 use Rattle.topics.proofs.change_from.Statement.{statement}
 use Rattle.topics.proofs.change_from.Tie as tie
 
-returns-2 : tie.Need-returns-2
-unfolding changeReply
-returns-2 c = search (peer-at, else-ignored)
-
-returns-3 : tie.Need-returns-3
-unfolding changeReply
-returns-3 c = search (peer-at, else-done)
-
 pub change-from-spec : {M : Type 1} → statement M
+unfolding changeReply
 change-from-spec =
     tie.close
     (tie.spec
@@ -26,8 +19,8 @@ change-from-spec =
     (λ c κs. (search needs, search found-below))
     (λ c κs. search needs)
     (λ c. search needs)
-    returns-2
+    (λ c. search (peer-at, else-ignored))
     (λ c κs. (search needs, (search needs, search found-below)))
     (λ c κs. search needs)
     (λ c. search needs)
-    returns-3)
+    (λ c. search (peer-at, else-done)))

@@ -6,11 +6,8 @@ use Rattle.topics.proofs.ReplyLaws.{quiet-join}
 use Rattle.topics.proofs.join.Statement.{statement}
 use Rattle.topics.proofs.join.Tie as tie
 
-returns-2 : tie.Need-returns-2
-unfolding effect
-returns-2 c = search (call-ends, quiet-join)
-
 pub join-spec : {M : Type 1} → statement M
+unfolding effect
 join-spec =
     tie.close
     (tie.spec
@@ -21,4 +18,4 @@ join-spec =
     (λ c. search needs)
     (λ c κs. (search (call-ends, needs), search call-ends))
     (λ c. search call-ends)
-    returns-2)
+    (λ c. search (call-ends, quiet-join)))

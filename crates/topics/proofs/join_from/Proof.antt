@@ -5,23 +5,16 @@ use Rattle.topics.proofs.ReplyLaws.{else-ignored, else-done}
 use Rattle.topics.proofs.join_from.Statement.{statement}
 use Rattle.topics.proofs.join_from.Tie as tie
 
-returns : tie.Need-returns
-unfolding joinReply
-returns c = search else-ignored
-
-returns-2 : tie.Need-returns-2
-unfolding joinReply
-returns-2 c = search else-done
-
 pub join-from-spec : {M : Type 1} → statement M
+unfolding joinReply
 join-from-spec =
     tie.close
     (tie.spec
     (λ c κs. search needs)
     (λ c κs. search needs)
     (λ c. search needs)
-    returns
+    (λ c. search else-ignored)
     (λ c κs. search needs)
     (λ c κs. search needs)
     (λ c. search needs)
-    returns-2)
+    (λ c. search else-done))
