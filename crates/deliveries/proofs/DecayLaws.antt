@@ -25,7 +25,7 @@ use Rattle.score.proofs.InputLaws.{params-in, slot-in}
 use Rattle.effects.specs.Effects.{magnitude, withP7}
 use Rattle.gate.specs.Ready.{Ready}
 use Rattle.gate.proofs.StandingLaws.{sizes}
-use Rattle.gate.proofs.CallLaws.{gate-refuses, gate-ready, gate-quiet}
+use Rattle.gate.proofs.CallLaws.{gate-refusal, gate-ready, gate-quiet}
 use Rattle.rules.specs.declared.Answer.{Answer}
 use Rattle.rules.specs.declared.Answer.the-variants.{Done}
 use Rattle.rules.specs.declared.Gate.{Gate}
@@ -202,7 +202,7 @@ module _
     (eg : g ≡ gateOf (stateOf table) a (length list) time)
   where
     pub decay-refuses : (x : Answer) → g ≡ Refuse x → Follows (decay time) x table table list list
-    decay-refuses = gate-refuses (decay time) table list a true g ea refl (time-alone _ a _ time g eg)
+    decay-refuses = gate-refusal (decay time) table list a true g ea refl (time-alone _ a _ time g eg)
 
     pub decay-ready : g ≡ Pass → length table ≡ cellCount → Ready table time
     decay-ready e = gate-ready table a true (length list) time g (time-alone _ a _ time g eg) e ea

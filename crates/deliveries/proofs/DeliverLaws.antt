@@ -29,7 +29,8 @@ use Rattle.rules.specs.Promise.{Leaves}
 use Rattle.rules.proofs.PromiseLaws.{leaves-moved}
 use Rattle.rules.proofs.StepLaws.{leaves-then, leaves-else}
 use Rattle.rules.proofs.EndLaws.{quiet-peer, leaves-done}
-use Rattle.gate.proofs.CallLaws.{topic-below, gate-fine}
+use Rattle.rules.proofs.CaseLaws.{topic-in}
+use Rattle.gate.proofs.CallLaws.{gate-fine}
 
 -- ---- what is credited is what the rules deliver
 
@@ -101,4 +102,4 @@ pub deliver-topic :
     d ≡ topicOk t →
     t < 8
 deliver-topic table a b d k room time g eg e t ed =
-    topic-below t (sym ed ∙ both b d (both (b && d) k (gate-fine table a (b && d && k) room time g eg e) .0) .1)
+    topic-in t (sym ed ∙ both b d (both (b && d) k (gate-fine table a (b && d && k) room time g eg e) .0) .1)

@@ -4,7 +4,6 @@ use Prim.Native.Nat.{ℕ, _≤_, _<_}
 use mathlib.Core.Path.{_≡_, sym, ap, ap₂, _∙_}
 use mathlib.Core.Bool.{Bool, true, _&&_}
 use mathlib.Core.List.{List, []}
-use native.Mathlib.Omega.{arith}
 use borrow.Author.Tests.{leb-true}
 use lib.ListN.{length}
 use Rattle.index.proofs.Index.{both}
@@ -16,6 +15,7 @@ use Rattle.rules.specs.declared.Gate.the-variants.{Pass, Refuse}
 use Rattle.rules.specs.Calls.{Call, timeOf, timeOk, idOk, topicOk, argumentsOk, inRange}
 use Rattle.rules.specs.Step.{gateOf, effect}
 use Rattle.rules.specs.Promise.{Leaves, Gives, Follows}
+use Rattle.rules.proofs.CaseLaws.{topic-in}
 use Rattle.rules.proofs.GateLaws.{Passed, gate-passed}
 use Rattle.rules.proofs.PromiseLaws.{gives-quiet, follows-refused, follows-passed}
 use Rattle.gate.specs.Ready.{Ready}
@@ -82,12 +82,9 @@ module _ {c : Call} {table list : List ℕ} {g : Gate} (word : Word c table list
         Follows c r table table′ list list
     call-quiet {r} {table′} q h = call-passed (gives-quiet (effect (stateOf table) c) r table table′ list q h)
 
--- the arguments of a call that names a topic, or a peer and a topic
+-- the topic of a call that names one
 pub topic-below : (t : ℕ) → topicOk t ≡ true → t < 8
-topic-below t e = let h : t ≤ 7 = leb-true t 7 e in omega arith
-
-pub both-fine : (id t : ℕ) → idOk id && topicOk t ≡ true → t < 8
-both-fine id t e = topic-below t (both (idOk id) (topicOk t) e .1)
+topic-below = topic-in
 
 -- ---- the same in the form in which a search finds it, from what the code's tests and `admit` ensure
 module _
@@ -99,8 +96,8 @@ module _
     (eb : b ≡ argumentsOk c)
     (eg : g ≡ gateOf (stateOf table) (a && b) (length list) (timeOf c))
   where
-    pub gate-refuses : (x : Answer) → g ≡ Refuse x → Follows c x table table list list
-    gate-refuses x e = call-refused (call-word c table list a b g ea eb eg) e
+    pub gate-refusal : (x : Answer) → g ≡ Refuse x → Follows c x table table list list
+    gate-refusal x e = call-refused (call-word c table list a b g ea eb eg) e
 
     module _ (e : g ≡ Pass) (r : Answer) (table′ : List ℕ) where
       pub gate-gives :
@@ -140,7 +137,7 @@ module _
         }
 
     pub gate-topic : (t : ℕ) → b ≡ topicOk t → t < 8
-    gate-topic t eb = topic-below t (sym eb ∙ gate-fine)
+    gate-topic t eb = topic-in t (sym eb ∙ gate-fine)
 
 -- a topic behind another argument
 pub gate-topic-2 :
@@ -151,10 +148,10 @@ pub gate-topic-2 :
     d ≡ topicOk t →
     t < 8
 gate-topic-2 table a b d room time g eg e t ed =
-    topic-below t (sym ed ∙ both b d (gate-fine table a (b && d) room time g eg e) .1)
+    topic-in t (sym ed ∙ both b d (gate-fine table a (b && d) room time g eg e) .1)
 
 -- the range of a peer's id and a topic
 pub ids-topics : (id t : ℕ) (a b : Bool) → a ≡ idOk id → b ≡ topicOk t → a && b ≡ idOk id && topicOk t
 ids-topics id t a b ea eb = ap₂ _&&_ ea eb
 
-pub ruleset call-ends = (gate-refuses, gate-gives, gate-quiet, gate-ready, gate-room, gate-topic, gate-topic-2, ids-topics)
+pub ruleset call-ends = (gate-refusal, gate-gives, gate-quiet, gate-ready, gate-room, gate-topic, gate-topic-2, ids-topics)

@@ -18,8 +18,9 @@ use Rattle.rules.specs.Calls.{join, subscribe, unsubscribe, timeOk, idOk, topic
 use Rattle.rules.specs.Step.{gateOf, effect, ofPeer, isGraylisted, joinReply, subscribeReply, unsubscribeReply}
 use Rattle.rules.specs.Promise.{Leaves, Follows}
 use Rattle.rules.proofs.EndLaws.{leaves-ignored, leaves-done, quiet-cond, quiet-peer}
+use Rattle.rules.proofs.CaseLaws.{topic-of-both}
 use Rattle.gate.specs.Ready.{Ready}
-use Rattle.gate.proofs.CallLaws.{Word, Behind, call-word, call-behind, call-quiet, both-fine}
+use Rattle.gate.proofs.CallLaws.{Word, Behind, call-word, call-behind, call-quiet}
 use Rattle.topics.specs.Change.{change, changed, changeReply}
 
 -- "11 if t, else 0": t is the rule's test, and f what the code computed of it
@@ -55,8 +56,8 @@ module _ (time id t : ℕ) where
   change-effect false st = refl
 
   ready-in : (on : Bool) {table list : List ℕ} → Behind (change on time id t) table list → Ready table time × (t < 8)
-  ready-in true b = (b .ready, both-fine id t (b .fine))
-  ready-in false b = (b .ready, both-fine id t (b .fine))
+  ready-in true b = (b .ready, topic-of-both id t (b .fine))
+  ready-in false b = (b .ready, topic-of-both id t (b .fine))
 
   -- the gate's word, and what is behind it
   pub change-word :

@@ -5,18 +5,10 @@ use Rattle.replay.proofs.ReplayLaws.{follows-as, follows-kind, call-11}
 use Rattle.replay.proofs.call.Statement.{statement}
 use Rattle.replay.proofs.call.Tie as tie
 
-call-peer-requires : tie.Need-call-peer-requires
-call-peer-requires c κs =
-    let r = c .before .before .match .rest in
-    (c .before .before .before .before .pre, (r .0 .0 .0 .0 .1, (r .0 .0 .0 .1, (r .0 .0 .1, (r .0 .1, r .1)))))
-
 returns-5 : tie.Need-returns-5
 returns-5 c =
     let s = c .before .before .before .before .before .before .before .before .before in
     follows-as _ _ _ _ _ _ _ (call-11 (s .args .kind) (s .args .t3) (search needs) (c .before .before .before .before .before .before .before .match .keys5)) (c .before .before .heartbeat .ensures)
-
-returns-6 : tie.Need-returns-6
-returns-6 c = c .before .before .call-peer .ensures
 
 pub call-spec : {M : Type 1} → statement M
 unfolding callOf
@@ -34,7 +26,7 @@ call-spec =
     (λ c. search needs)
     (λ c. search needs)
     (λ c κs. tt)
-    call-peer-requires
+    (λ c κs. search needs)
     (λ c. search needs)
     (λ c. search follows-kind)
     (λ c. search needs)
@@ -46,4 +38,4 @@ call-spec =
     (λ c. search needs)
     returns-5
     (λ c. search needs)
-    returns-6)
+    (λ c. c .before .before .call-peer .ensures))
