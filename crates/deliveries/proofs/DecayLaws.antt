@@ -1,11 +1,12 @@
 -- A decay, record by record: what it relies on is kept from each record to the next, and its steps are the rules'.
 -- Assumes nothing.
 use Prim.Native.Nat.{ℕ, _*_, _<_, _≤_}
-use mathlib.Core.Path.{_≡_, ap, _∙_}
+use mathlib.Core.Path.{_≡_, refl, ap, _∙_}
 use mathlib.Core.Bool.{Bool, true, false, _&&_}
 use mathlib.Core.List.{List}
 use native.Mathlib.Omega.{arith}
 use lib.Dec.{eqb}
+use lib.ListN.{length}
 use Rattle.index.specs.Index.{iter}
 use Rattle.index.proofs.Index.{iter-keeps}
 use Rattle.index.proofs.Flags.{cond-case}
@@ -13,7 +14,7 @@ use Rattle.records.specs.declared.Peer.{Peer}
 use Rattle.records.specs.declared.TopicRecord.{TopicRecord}
 use Rattle.records.specs.Records.{State, place, codeIn, peerIn, topicIn, setPeer, setTopic, setClock, isConnected}
 use Rattle.cells.proofs.StateLaws.{peer-case, topic-case}
-use Rattle.cells.specs.View.{stateOf}
+use Rattle.cells.specs.View.{cellCount, stateOf}
 use Rattle.table.specs.Valid.{valid}
 use Rattle.score.specs.declared.TopicParams.{TopicParams}
 use Rattle.score.specs.Ranges.{TopicParamsIn, CountersIn}
@@ -22,12 +23,16 @@ use Rattle.score.specs.Counters.{fadedOf, decayedOf}
 use Rattle.score.proofs.CounterLaws.{faded-less}
 use Rattle.score.proofs.InputLaws.{params-in, slot-in}
 use Rattle.effects.specs.Effects.{magnitude, withP7}
+use Rattle.gate.specs.Ready.{Ready}
 use Rattle.gate.proofs.StandingLaws.{sizes}
+use Rattle.gate.proofs.CallLaws.{gate-refusal, gate-ready, gate-quiet}
 use Rattle.rules.specs.declared.Answer.{Answer}
 use Rattle.rules.specs.declared.Answer.the-variants.{Done}
 use Rattle.rules.specs.declared.Gate.{Gate}
-use Rattle.rules.specs.Step.{gateOf, decayFloor, decayTopic, decayP7, decaySlot, decayReply}
-use Rattle.rules.specs.Promise.{Leaves}
+use Rattle.rules.specs.declared.Gate.the-variants.{Pass, Refuse}
+use Rattle.rules.specs.Calls.{decay, timeOk}
+use Rattle.rules.specs.Step.{gateOf, effect, decayFloor, decayTopic, decayP7, decaySlot, decayReply}
+use Rattle.rules.specs.Promise.{Leaves, Follows}
 use Rattle.rules.proofs.EndLaws.{leaves-done}
 use Rattle.deliveries.specs.Decays.{Decays}
 
@@ -183,10 +188,32 @@ module _ (st : State) (time s status : ℕ) (e : status ≡ peerIn st s .status)
 
 -- ---- the call: its one argument is the time
 
-pub time-alone :
+time-alone :
     (st : State) (a : Bool) (room time : ℕ) (g : Gate) → g ≡ gateOf st a room time → g ≡ gateOf st (a && true) room time
 time-alone st true room time g e = e
 time-alone st false room time g e = e
+
+module _
+    (table list : List ℕ)
+    (a : Bool)
+    (time : ℕ)
+    (g : Gate)
+    (ea : a ≡ timeOk time)
+    (eg : g ≡ gateOf (stateOf table) a (length list) time)
+  where
+    pub decay-refuses : (x : Answer) → g ≡ Refuse x → Follows (decay time) x table table list list
+    decay-refuses = gate-refusal (decay time) table list a true g ea refl (time-alone _ a _ time g eg)
+
+    pub decay-ready : g ≡ Pass → length table ≡ cellCount → Ready table time
+    decay-ready e = gate-ready table a true (length list) time g (time-alone _ a _ time g eg) e ea
+
+    pub decay-quiet :
+        g ≡ Pass →
+        (r : Answer) (table′ : List ℕ) →
+        Leaves (decayReply (stateOf table) time) r table table′ →
+        Follows (decay time) r table table′ list list
+    unfolding effect decayReply
+    decay-quiet e r table′ l = gate-quiet (decay time) table list a true g ea refl (time-alone _ a _ time g eg) e r table′ refl l
 
 -- all slots decayed, and the clock moved
 pub decay-done :

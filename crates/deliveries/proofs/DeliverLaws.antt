@@ -1,11 +1,9 @@
 -- What a delivery comes to at each of its ends.
 -- Assumes nothing.
-use Prim.Native.Nat.{ℕ, _≤_, _<_}
+use Prim.Native.Nat.{ℕ, _<_}
 use mathlib.Core.Path.{_≡_, refl, sym, ap₂, _∙_}
 use mathlib.Core.Bool.{Bool, true, false, _&&_}
 use mathlib.Core.List.{List, []}
-use native.Mathlib.Omega.{arith}
-use borrow.Author.Tests.{leb-true}
 use lib.Dec.{leb}
 use Rattle.index.proofs.Index.{both}
 use Rattle.index.proofs.Flags.{cond-case}
@@ -23,12 +21,16 @@ use Rattle.effects.specs.Effects.{onTopic}
 use Rattle.rules.specs.declared.Answer.{Answer}
 use Rattle.rules.specs.declared.Answer.the-variants.{Done, Ignored}
 use Rattle.rules.specs.Reply.{Reply, ignored}
-use Rattle.rules.specs.Calls.{deliver, decay, idOk, topicOk}
-use Rattle.rules.specs.Step.{effect, isHeard, deliveredOf, deliverReply, decayReply}
+use Rattle.rules.specs.Calls.{deliver, idOk, topicOk}
+use Rattle.rules.specs.declared.Gate.{Gate}
+use Rattle.rules.specs.declared.Gate.the-variants.{Pass}
+use Rattle.rules.specs.Step.{gateOf, effect, isHeard, deliveredOf, deliverReply}
 use Rattle.rules.specs.Promise.{Leaves}
 use Rattle.rules.proofs.PromiseLaws.{leaves-moved}
 use Rattle.rules.proofs.StepLaws.{leaves-then, leaves-else}
 use Rattle.rules.proofs.EndLaws.{quiet-peer, leaves-done}
+use Rattle.rules.proofs.CaseLaws.{topic-in}
+use Rattle.gate.proofs.CallLaws.{gate-fine}
 
 -- ---- what is credited is what the rules deliver
 
@@ -83,10 +85,6 @@ pub quiet-deliver : (st : State) (time id t kind : ℕ) → effect st (deliver t
 unfolding effect
 quiet-deliver st time id t kind = quiet-peer st id _ (quiet-reply st time t kind)
 
-pub quiet-decay : (st : State) (time : ℕ) → effect st (decay time) .actions ≡ []
-unfolding effect decayReply
-quiet-decay st time = refl
-
 -- ---- ranges of the arguments
 
 pub deliver-range :
@@ -96,8 +94,12 @@ pub deliver-range :
     (a && b) && (leb 1 kind && leb kind 3) ≡ idOk id && topicOk t && (leb 1 kind && leb kind 3)
 deliver-range id t kind a b p q = ap₂ (λ (x y : Bool). x && y && (leb 1 kind && leb kind 3)) p q
 
-pub topic-below : (id t kind : ℕ) → idOk id && topicOk t && (leb 1 kind && leb kind 3) ≡ true → t < 8
-topic-below id t kind e =
-    let h : t ≤ 7 =
-    leb-true t 7 (both (idOk id) (topicOk t) (both (idOk id && topicOk t) (leb 1 kind && leb kind 3) e .0) .1) in
-    omega arith
+pub deliver-topic :
+    (table : List ℕ) (a b d k : Bool) (room time : ℕ) (g : Gate) →
+    g ≡ gateOf (stateOf table) (a && (b && d && k)) room time →
+    g ≡ Pass →
+    (t : ℕ) →
+    d ≡ topicOk t →
+    t < 8
+deliver-topic table a b d k room time g eg e t ed =
+    topic-in t (sym ed ∙ both b d (both (b && d) k (gate-fine table a (b && d && k) room time g eg e) .0) .1)

@@ -1,10 +1,10 @@
 -- Laws of a reply's text: how its parts are stored one after the other, and that the numbers of the lent list print what the reply has.
 -- Assumes nothing.
 use Prim.{tt}
-use Prim.Native.Nat.{ℕ, zero, suc, _+_, _*_, _<_, _≤_}
+use Prim.Native.Nat.{ℕ, suc, _+_, _*_, _<_, _≤_}
 use mathlib.Core.Bool.{true, false}
-use mathlib.Core.Path.{_≡_, refl, sym, ap, _∙_}
-use mathlib.Core.List.{List, [], _∷_, _++_, append-assoc, append-nil}
+use mathlib.Core.Path.{_≡_, refl, ap, _∙_}
+use mathlib.Core.List.{List, [], _∷_, _++_}
 use native.Mathlib.Omega.{arith}
 use native.Mathlib.Nat.{zero-add}
 use lib.Dec.{eqb}
@@ -18,7 +18,7 @@ use mir.Syntax.{w64}
 use mir.Val.{SFits, toZ, ofZ}
 use mir.Facts.{toZ-ofZ}
 use Rattle.index.specs.Index.{gather}
-use Rattle.index.proofs.Index.{gather-none, gather-more}
+use Rattle.index.proofs.Index.{gather-none, gather-more, gather-same, gather-first}
 use Rattle.text.specs.Text.{decimal, signedText, Stored}
 use Rattle.text.proofs.TextLaws.{decimal-length, signed-length, stored-then}
 use Rattle.effects.specs.Actions.{Action, numbersOf}
@@ -161,19 +161,6 @@ reply-stored a l b₀ b₁ b₂ b₃ m n p₁ p₂ p₃ d e s t u =
     rw (← d, ← e) (stored-then b₀ 0 p₂ (pairLine m n ++ actionsText n l) b₂ p₃ (scoreLine a) b₃ v u)
 
 -- ---- what the list's numbers print
--- lists gathered of functions that agree
-gather-same : (n : ℕ) (f g : ℕ → List ℕ) → ((i : ℕ) → f i ≡ g i) → gather n f ≡ gather n g
-unfolding gather
-gather-same zero f g h = refl
-gather-same (suc n) f g h = rw (gather-same n f g h, h n)
-
--- the first of those gathered, and the others
-gather-first : (n : ℕ) (f : ℕ → List ℕ) → gather (suc n) f ≡ f 0 ++ gather n (λ i. f (suc i))
-unfolding gather
-gather-first zero f = sym (append-nil (f 0))
-gather-first (suc n) f =
-    ap (λ (l : List ℕ). l ++ f (suc n)) (gather-first n f) ∙ append-assoc (f 0) (gather n (λ i. f (suc i))) (f (suc n))
-
 -- the lines of the actions behind the first
 action-next : (a b c : ℕ) (l : List ℕ) (i : ℕ) → actionAt (a ∷ b ∷ c ∷ l) (suc i) ≡ actionAt l i
 action-next a b c l i =

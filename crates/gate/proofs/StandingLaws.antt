@@ -1,9 +1,8 @@
 -- What a computed score says of a peer, and what is known of the parameters behind the gate.
 -- Assumes nothing.
-use Prim.Native.Nat.{ℕ, _+_, _*_, _≤_, _<_}
+use Prim.Native.Nat.{ℕ, _*_, _≤_, _<_}
 use mathlib.Core.Path.{_≡_, refl, sym, ap, ap₂, _∙_}
-use mathlib.Core.Bool.{Bool, true, false, _&&_, not}
-use native.Mathlib.Omega.{arith}
+use mathlib.Core.Bool.{Bool, true, _&&_}
 use lib.Dec.{eqb, lit<}
 use lib.IntN.{ℤ, pos, negℤ, _*ℤ_}
 use lib.Signed.{ltZ}
@@ -14,10 +13,10 @@ use Rattle.params.specs.Limits.{limits, limitAt}
 use Rattle.params.proofs.FieldLaws.{loss-of}
 use Rattle.params.proofs.ParamLaws.{general, within}
 use Rattle.table.specs.Valid.{valid}
-use Rattle.table.proofs.ValidLaws.{Facts, valid-facts}
+use Rattle.table.proofs.ValidLaws.{valid-facts}
 use Rattle.score.specs.declared.Balance.{Balance}
-use Rattle.score.specs.Sums.{worth, negativeOf, belowOf}
-use Rattle.score.specs.Score.{scoreIn, Scores}
+use Rattle.score.specs.Sums.{negativeOf, belowOf}
+use Rattle.score.specs.Score.{Scores}
 use Rattle.score.proofs.Differences.{neg-times, diff-neg}
 use Rattle.score.proofs.SumLaws.{negative-is, below-is}
 use Rattle.effects.specs.Effects.{magnitude}

@@ -8,7 +8,7 @@ use mathlib.Core.List.{List, [], _∷_}
 use lib.Dec.{eqb, leb}
 use lib.IntN.{ℤ}
 use lib.ListN.{List·getD-eq-default}
-use borrow.Author.Tests.{eqb-true, eqb-false, leb-true}
+use borrow.Author.Tests.{eqb-true, eqb-false}
 use Rattle.index.proofs.Index.{both, count-same}
 use Rattle.index.proofs.Flags.{by-test, by-order}
 use Rattle.records.specs.Records.{State, peerIn, joinedIn}
@@ -16,9 +16,9 @@ use Rattle.cells.specs.View.{Sized}
 use Rattle.table.specs.Valid.{valid}
 use Rattle.effects.specs.Effects.{isJoined, isMember}
 use Rattle.rules.specs.Reply.{Reply, numberOf}
-use Rattle.rules.specs.Calls.{Call, connect, disconnect, join, leave, subscribe, unsubscribe, graft, prune, deliver, rate, heartbeat, decay, score, timeOf, idOk, topicOk, timeOk, argumentsOk, inRange}
+use Rattle.rules.specs.Calls.{Call, connect, disconnect, join, leave, subscribe, unsubscribe, graft, prune, deliver, rate, heartbeat, decay, score, topicOk, argumentsOk}
 use Rattle.rules.specs.Step.{ofPeer, effect, step}
-use Rattle.rules.proofs.CaseLaws.{topic-in, arguments, by-peer, by-gate}
+use Rattle.rules.proofs.CaseLaws.{topic-in, topic-of-both, arguments, by-peer, by-gate}
 use Rattle.rules.proofs.Keeps.{keeps, keeps-sizes}
 use Rattle.history.specs.Lists.{Made, after, answered, outbound}
 use Rattle.history.specs.Demand3.{Accepted, member, outboundAt, members, outboundMembers, inboundMembers, Tidied, Demand3}
@@ -49,7 +49,7 @@ module _ (params : List ℤ) (dir : ℕ → Bool) (st : State) (h : Standing par
   stands-effect (unsubscribe time id t) a = of-peer id _ (fewer-unsubscribe st time t)
   stands-effect (graft time id t) a =
       by-peer (Stays params dir) st id _ (less st (fewer-self st)) (λ s l on.
-      stands-graft params dir st h time t s (topic-in t (both (idOk id) (topicOk t) a .1)) l)
+      stands-graft params dir st h time t s (topic-of-both id t a) l)
   stands-effect (prune time id t seconds) a = of-peer id _ (λ s. fewer-prune st time t s seconds)
   stands-effect (deliver time id t kind) a = of-peer id _ (λ s. fewer-deliver st time t s kind)
   stands-effect (rate time id p5) a = of-peer id _ (fewer-rate st time p5)

@@ -1,28 +1,17 @@
 -- What stands after a reply: the invariant with the directions as the call changed them. A refusal, and a reply that leaves nobody new.
 -- Assumes nothing.
-use Prim.Native.Nat.{ℕ, _%_, _<_}
-use native.Mathlib.Omega.{arith}
+use Prim.Native.Nat.{ℕ, _%_}
 use mathlib.Core.Path.{_≡_, refl, ap, _∙_}
 use mathlib.Core.Bool.{Bool, true, false, cond, and-false}
 use mathlib.Core.List.{List}
-use lib.Dec.{eqb, leb}
+use lib.Dec.{eqb}
 use lib.IntN.{ℤ}
-use Rattle.index.specs.declared.Found.{Found}
-use Rattle.index.specs.declared.Found.the-variants.{At, Nothing}
-use Rattle.index.proofs.Flags.{by-test}
-use Rattle.records.specs.Records.{State, peerIn}
+use Rattle.records.specs.Records.{State}
 use Rattle.cells.specs.View.{Sized}
 use Rattle.table.specs.Valid.{valid}
-use Rattle.lookup.specs.Find.{findConnected}
-use Rattle.lookup.proofs.FindLaws.{connected-at}
 use Rattle.rules.specs.declared.Answer.{Answer}
-use Rattle.rules.specs.declared.Answer.the-variants.{NotConnected, NotRouter, OutOfRange, ListShort, Early}
-use Rattle.rules.specs.declared.Gate.{Gate}
-use Rattle.rules.specs.declared.Gate.the-variants.{Pass, Refuse}
 use Rattle.rules.specs.Reply.{Reply, numberOf, refused}
-use Rattle.rules.specs.Calls.{Call, connect, disconnect, join, leave, subscribe, unsubscribe, graft, prune, deliver, rate, heartbeat, decay, score, timeOf, inRange}
-use Rattle.rules.specs.Step.{gateOf, through, actionRoom, onFound, ofPeer, effect, step}
-use Rattle.rules.proofs.GateLaws.{Passed, gate-passed}
+use Rattle.rules.specs.Calls.{Call, connect, disconnect, join, leave, subscribe, unsubscribe, graft, prune, deliver, rate, heartbeat, decay, score}
 use Rattle.history.specs.Lists.{heard}
 use Rattle.history.proofs.Fewer.{Fewer, fewer-self}
 use Rattle.history.proofs.Standing.{Standing, stands-fewer}

@@ -10,8 +10,8 @@ use lib.Dec.{eqb}
 use lib.IntN.{ℤ, pos, negsuc, natAbs}
 use lib.ListN.{length, getD, replicate, length-map, length-replicate, getD-replicate, List·getD-map, List·getD-eq-default}
 use borrow.Author.Tests.{eqb-true, eq-eqb}
-use Rattle.index.specs.Index.{count, one}
-use Rattle.index.proofs.Index.{both}
+use Rattle.index.specs.Index.{count}
+use Rattle.index.proofs.Index.{both, count-less}
 use Rattle.index.proofs.Flags.{by-order}
 use Rattle.groups.specs.Codes.{codeOf}
 use Rattle.params.specs.Limits.{at}
@@ -42,19 +42,6 @@ pub record Standing (params : List ℤ) (dir : ℕ → Bool) (st : State) : Type
   -- a connected peer's flag is its direction
   pub tied : (s : ℕ) → s < 64 → peerIn st s .status ≡ 1 → eqb (peerIn st s .outbound) 1 ≡ dir (peerIn st s .id)
   pub few : (t : ℕ) → t < 8 → inbounds st t ≤ dHi params + 2
-
--- ---- counts
-pub count-less :
-    (f g : ℕ → Bool) (n : ℕ) → ((i : ℕ) → i < n → f i ≡ true → g i ≡ true) → count n f ≤ count n g
-unfolding count
-count-less f g zero h = omega arith
-count-less f g (suc n) h =
-    let l : count n f ≤ count n g = count-less f g n (λ i b. h i (omega arith)) in
-    go (f n) refl l
-  where
-    go : (b : Bool) → f n ≡ b → count n f ≤ count n g → count n f + one b ≤ count n g + one (g n)
-    go true e l = rw (h n (omega arith) e) (omega arith)
-    go false e l = omega arith
 
 -- ---- what the tables say of members
 -- "a member is connected"

@@ -6,6 +6,8 @@ use mathlib.Core.List.{List}
 use lib.ListN.{length}
 use lib.Seq.{sets}
 use lib.IntN.{ℤ}
+use denote.Ref.{RefT, now}
+use denote.Triple.Both.{Both}
 use Rattle.cells.specs.View.{stateOf}
 use Rattle.index.specs.declared.Found.{Found}
 use Rattle.index.specs.declared.Found.the-variants.{At, Nothing}
@@ -28,6 +30,13 @@ pub record Hosts (c : Call) (r : ℕ) (table table′ list list′ : List ℕ) :
   pub state : stateOf table′ ≡ step (stateOf table) c (length list) .state
   pub kept : refuses (step (stateOf table) c (length list) .answer) ≡ true → table′ ≡ table
   pub actions : list′ ≡ sets list 0 (numbersOf (step (stateOf table) c (length list) .actions))
+
+-- the same of memory that is lent by `&mut`, which has a content at the call's entry and one at its exit
+abbrev pub Lent : Type 0
+Lent = Both (RefT (List ℕ)) (RefT (List ℕ))
+
+abbrev pub HostsLent : Call → ℕ → Lent → Lent → Type 0
+HostsLent c r table list = Hosts c r (now (table .entry)) (now (table .exit)) (now (list .entry)) (now (list .exit))
 
 -- ---- the parameters
 -- reading: the lent numbers are written where the bytes are accepted, and stand where they are refused

@@ -6,7 +6,7 @@ ghost use Rattle.cells.specs.View.{stateOf};
 ghost use Rattle.rules.specs.Calls.{connect as Calls·connect, decay as Calls·decay, deliver as Calls·deliver, disconnect as Calls·disconnect, graft as Calls·graft, heartbeat as Calls·heartbeat, join as Calls·join, leave as Calls·leave, prune as Calls·prune, rate as Calls·rate, score as Calls·score, subscribe as Calls·subscribe, unsubscribe as Calls·unsubscribe};
 ghost use Rattle.rules.specs.Step.{step};
 ghost use Rattle.answers.specs.Answers.{scoreOr as scoreOrOf};
-ghost use Rattle.host.specs.Host.{Hosts};
+ghost use Rattle.host.specs.Host.{HostsLent};
 use answers::code;
 use answers::score_or;
 
@@ -21,7 +21,7 @@ pub extern "C" fn hivepadlet_connect(
     name: &[u8],
     actions: &mut [u32],
 ) -> u64
-    ensures { λ r. ⌜ Hosts (Calls·connect time id group flags (now (name .entry))) r (now (table .entry)) (now (table .exit)) (now (actions .entry)) (now (actions .exit)) ⌝ }
+    ensures { λ r. ⌜ HostsLent (Calls·connect time id group flags (now (name .entry))) r table actions ⌝ }
 {
     code(router::connect(table, time, id, group, flags, name, actions))
 }
@@ -34,7 +34,7 @@ pub extern "C" fn hivepadlet_disconnect(
     id: u64,
     actions: &mut [u32],
 ) -> u64
-    ensures { λ r. ⌜ Hosts (Calls·disconnect time id) r (now (table .entry)) (now (table .exit)) (now (actions .entry)) (now (actions .exit)) ⌝ }
+    ensures { λ r. ⌜ HostsLent (Calls·disconnect time id) r table actions ⌝ }
 {
     code(router::disconnect(table, time, id, actions))
 }
@@ -47,7 +47,7 @@ pub extern "C" fn hivepadlet_join(
     topic: u64,
     actions: &mut [u32],
 ) -> u64
-    ensures { λ r. ⌜ Hosts (Calls·join time topic) r (now (table .entry)) (now (table .exit)) (now (actions .entry)) (now (actions .exit)) ⌝ }
+    ensures { λ r. ⌜ HostsLent (Calls·join time topic) r table actions ⌝ }
 {
     code(router::join(table, time, topic, actions))
 }
@@ -60,7 +60,7 @@ pub extern "C" fn hivepadlet_leave(
     topic: u64,
     actions: &mut [u32],
 ) -> u64
-    ensures { λ r. ⌜ Hosts (Calls·leave time topic) r (now (table .entry)) (now (table .exit)) (now (actions .entry)) (now (actions .exit)) ⌝ }
+    ensures { λ r. ⌜ HostsLent (Calls·leave time topic) r table actions ⌝ }
 {
     code(router::leave(table, time, topic, actions))
 }
@@ -74,7 +74,7 @@ pub extern "C" fn hivepadlet_subscribe(
     topic: u64,
     actions: &mut [u32],
 ) -> u64
-    ensures { λ r. ⌜ Hosts (Calls·subscribe time id topic) r (now (table .entry)) (now (table .exit)) (now (actions .entry)) (now (actions .exit)) ⌝ }
+    ensures { λ r. ⌜ HostsLent (Calls·subscribe time id topic) r table actions ⌝ }
 {
     code(router::subscribe(table, time, id, topic, actions))
 }
@@ -88,7 +88,7 @@ pub extern "C" fn hivepadlet_unsubscribe(
     topic: u64,
     actions: &mut [u32],
 ) -> u64
-    ensures { λ r. ⌜ Hosts (Calls·unsubscribe time id topic) r (now (table .entry)) (now (table .exit)) (now (actions .entry)) (now (actions .exit)) ⌝ }
+    ensures { λ r. ⌜ HostsLent (Calls·unsubscribe time id topic) r table actions ⌝ }
 {
     code(router::unsubscribe(table, time, id, topic, actions))
 }
@@ -102,7 +102,7 @@ pub extern "C" fn hivepadlet_graft(
     topic: u64,
     actions: &mut [u32],
 ) -> u64
-    ensures { λ r. ⌜ Hosts (Calls·graft time id topic) r (now (table .entry)) (now (table .exit)) (now (actions .entry)) (now (actions .exit)) ⌝ }
+    ensures { λ r. ⌜ HostsLent (Calls·graft time id topic) r table actions ⌝ }
 {
     code(router::graft(table, time, id, topic, actions))
 }
@@ -117,7 +117,7 @@ pub extern "C" fn hivepadlet_prune(
     seconds: u64,
     actions: &mut [u32],
 ) -> u64
-    ensures { λ r. ⌜ Hosts (Calls·prune time id topic seconds) r (now (table .entry)) (now (table .exit)) (now (actions .entry)) (now (actions .exit)) ⌝ }
+    ensures { λ r. ⌜ HostsLent (Calls·prune time id topic seconds) r table actions ⌝ }
 {
     code(router::prune(table, time, id, topic, seconds, actions))
 }
@@ -132,7 +132,7 @@ pub extern "C" fn hivepadlet_deliver(
     kind: u64,
     actions: &mut [u32],
 ) -> u64
-    ensures { λ r. ⌜ Hosts (Calls·deliver time id topic kind) r (now (table .entry)) (now (table .exit)) (now (actions .entry)) (now (actions .exit)) ⌝ }
+    ensures { λ r. ⌜ HostsLent (Calls·deliver time id topic kind) r table actions ⌝ }
 {
     code(router::deliver(table, time, id, topic, kind, actions))
 }
@@ -146,7 +146,7 @@ pub extern "C" fn hivepadlet_rate(
     p5: i64,
     actions: &mut [u32],
 ) -> u64
-    ensures { λ r. ⌜ Hosts (Calls·rate time id p5) r (now (table .entry)) (now (table .exit)) (now (actions .entry)) (now (actions .exit)) ⌝ }
+    ensures { λ r. ⌜ HostsLent (Calls·rate time id p5) r table actions ⌝ }
 {
     code(router::rate(table, time, id, p5, actions))
 }
@@ -161,7 +161,7 @@ pub extern "C" fn hivepadlet_heartbeat(
     permutation: &[u64],
     actions: &mut [u32],
 ) -> u64
-    ensures { λ r. ⌜ Hosts (Calls·heartbeat time topic ask (now (permutation .entry))) r (now (table .entry)) (now (table .exit)) (now (actions .entry)) (now (actions .exit)) ⌝ }
+    ensures { λ r. ⌜ HostsLent (Calls·heartbeat time topic ask (now (permutation .entry))) r table actions ⌝ }
 {
     code(router::heartbeat(table, time, topic, ask, permutation, actions))
 }
@@ -169,7 +169,7 @@ pub extern "C" fn hivepadlet_heartbeat(
 // The counters decay.
 #[no_mangle]
 pub extern "C" fn hivepadlet_decay(table: &mut [u64; 5340], time: u64, actions: &mut [u32]) -> u64
-    ensures { λ r. ⌜ Hosts (Calls·decay time) r (now (table .entry)) (now (table .exit)) (now (actions .entry)) (now (actions .exit)) ⌝ }
+    ensures { λ r. ⌜ HostsLent (Calls·decay time) r table actions ⌝ }
 {
     code(router::decay(table, time, actions))
 }
@@ -183,7 +183,7 @@ pub extern "C" fn hivepadlet_score(
     score: &mut i64,
     actions: &mut [u32],
 ) -> u64
-    ensures { λ r. ⌜ Hosts (Calls·score time id) r (now (table .entry)) (now (table .exit)) (now (actions .entry)) (now (actions .exit)) × (now (score .exit) ≡ scoreOrOf (step (stateOf (now (table .entry))) (Calls·score time id) (length (now (actions .entry))) .answer) (now (score .entry))) ⌝ }
+    ensures { λ r. ⌜ HostsLent (Calls·score time id) r table actions × (now (score .exit) ≡ scoreOrOf (step (stateOf (now (table .entry))) (Calls·score time id) (length (now (actions .entry))) .answer) (now (score .entry))) ⌝ }
 {
     let a = router::score(table, time, id, actions);
     *score = score_or(a, *score);

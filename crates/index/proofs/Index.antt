@@ -4,13 +4,14 @@ use Prim.Native.Nat.{ℕ, zero, suc, _+_, _<_, _≤_}
 use native.Mathlib.Nat.{le-antisymm, not-suc-le-zero, eq-or-lt-of-le, le-of-suc-le-suc}
 use native.Mathlib.Numerals.{add-one}
 use native.Mathlib.Omega.{arith}
-use mathlib.Core.Path.{_≡_, refl, sym, ap, _∙_, subst}
+use mathlib.Core.Path.{_≡_, refl, sym, ap, _∙_}
 use mathlib.Core.Logic.{⊎-elim}
-use mathlib.Core.Bool.{Bool, true, false, _&&_, cond, and-false}
+use mathlib.Core.Bool.{Bool, true, false, _&&_, and-false}
 use Rattle.index.specs.declared.Found.{Found}
 use Rattle.index.specs.declared.Found.the-variants.{At, Nothing}
-use mathlib.Core.List.{List, [], _++_}
-use Rattle.index.specs.Index.{every, first, orElse, one, count, iter, gather}
+use mathlib.Core.List.{List, [], _++_, append-assoc, append-nil}
+use lib.ListN.{length, length-append}
+use Rattle.index.specs.Index.{every, first, one, count, iter, gather}
 
 -- the two halves of a conjunction that holds
 pub both : (a b : Bool) → a && b ≡ true → (a ≡ true) × (b ≡ true)
@@ -168,11 +169,44 @@ module _ {A : Type 0} (f : ℕ → List A) where
   unfolding gather
   gather-more i = rw add-one
 
+-- lists gathered of functions that agree
+pub gather-same : {A : Type 0} (n : ℕ) (f g : ℕ → List A) → ((i : ℕ) → f i ≡ g i) → gather n f ≡ gather n g
+unfolding gather
+gather-same zero f g h = refl
+gather-same (suc n) f g h = rw (gather-same n f g h, h n)
+
+-- the first of those gathered, and the others
+pub gather-first : {A : Type 0} (n : ℕ) (f : ℕ → List A) → gather (suc n) f ≡ f 0 ++ gather n (λ i. f (suc i))
+unfolding gather
+gather-first zero f = sym (append-nil (f 0))
+gather-first {A} (suc n) f =
+    ap (λ (l : List A). l ++ f (suc n)) (gather-first n f) ∙ append-assoc (f 0) (gather n (λ i. f (suc i))) (f (suc n))
+
+-- lists of at most one element each
+pub gather-short :
+    {A : Type 0} (f : ℕ → List A) (n : ℕ) → ((i : ℕ) → length (f i) ≤ 1) → length (gather n f) ≤ n
+unfolding gather
+gather-short f zero h = omega arith
+gather-short f (suc n) h = omega (arith, length-append (gather n f) (f n), gather-short f n h, h n)
+
 -- two tests that agree below n have the same count there
 pub count-same : (f g : ℕ → Bool) (n : ℕ) → ((i : ℕ) → i < n → f i ≡ g i) → count n f ≡ count n g
 unfolding count
 count-same f g zero h = refl
 count-same f g (suc n) h = rw (count-same f g n (λ i l. h i (omega arith)), h n (omega arith))
+
+-- a test that holds wherever another does counts no less
+pub count-less :
+    (f g : ℕ → Bool) (n : ℕ) → ((i : ℕ) → i < n → f i ≡ true → g i ≡ true) → count n f ≤ count n g
+unfolding count
+count-less f g zero h = omega arith
+count-less f g (suc n) h =
+    let l : count n f ≤ count n g = count-less f g n (λ i b. h i (omega arith)) in
+    go (f n) refl l
+  where
+    go : (b : Bool) → f n ≡ b → count n f ≤ count n g → count n f + one b ≤ count n g + one (g n)
+    go true e l = rw (h n (omega arith) e) (omega arith)
+    go false e l = omega arith
 
 pub every-same : (f g : ℕ → Bool) (n : ℕ) → ((i : ℕ) → i < n → f i ≡ g i) → every n f ≡ every n g
 unfolding every

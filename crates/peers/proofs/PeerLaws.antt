@@ -59,6 +59,13 @@ pub p5-range :
     a && b ≡ idOk id && leb (natAbs p5) 1000000000
 p5-range p5 a b id f p q = ap₂ (λ (x y : Bool). x && y) p (rw (toZ-ofZ f) at q)
 
+pub rate-leaves :
+    (table table′ : List ℕ) (time id : ℕ) (p5 : ℤ) (a : Answer) →
+    SFits w64 p5 →
+    Leaves (effect (stateOf table) (rate time id (toZ w64 (ofZ w64 p5)))) a table table′ →
+    Leaves (effect (stateOf table) (rate time id p5)) a table table′
+rate-leaves table table′ time id p5 a f l = rw (toZ-ofZ f) at l
+
 pub connect-range :
     (id group flags : ℕ) (a : Bool) →
     a ≡ idOk id →

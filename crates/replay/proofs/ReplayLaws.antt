@@ -68,38 +68,6 @@ module _ (n : ℕ) (v : List ℕ) (z : (k : ℕ) → n ≤ k → getD v k 0 ≡ 
 
 -- ---- which call a kind is
 module _ (kind : ℕ) (v : List ℕ) where
-  pub call-2 : kind ≡ 2 → callOf kind v [] ≡ disconnect (getD v 0 0) (getD v 1 0)
-  unfolding callOf
-  call-2 e = rw e
-
-  pub call-3 : kind ≡ 3 → callOf kind v [] ≡ join (getD v 0 0) (getD v 1 0)
-  unfolding callOf
-  call-3 e = rw e
-
-  pub call-4 : kind ≡ 4 → callOf kind v [] ≡ leave (getD v 0 0) (getD v 1 0)
-  unfolding callOf
-  call-4 e = rw e
-
-  pub call-5 : kind ≡ 5 → callOf kind v [] ≡ subscribe (getD v 0 0) (getD v 1 0) (getD v 2 0)
-  unfolding callOf
-  call-5 e = rw e
-
-  pub call-6 : kind ≡ 6 → callOf kind v [] ≡ unsubscribe (getD v 0 0) (getD v 1 0) (getD v 2 0)
-  unfolding callOf
-  call-6 e = rw e
-
-  pub call-7 : kind ≡ 7 → callOf kind v [] ≡ graft (getD v 0 0) (getD v 1 0) (getD v 2 0)
-  unfolding callOf
-  call-7 e = rw e
-
-  pub call-8 : kind ≡ 8 → callOf kind v [] ≡ prune (getD v 0 0) (getD v 1 0) (getD v 2 0) (getD v 3 0)
-  unfolding callOf
-  call-8 e = rw e
-
-  pub call-9 : kind ≡ 9 → callOf kind v [] ≡ deliver (getD v 0 0) (getD v 1 0) (getD v 2 0) (getD v 3 0)
-  unfolding callOf
-  call-9 e = rw e
-
   -- z is what the code computed of P5's number; the call reads it back from its bits
   pub call-10 :
       (z : ℤ) →
@@ -116,10 +84,6 @@ module _ (kind : ℕ) (v : List ℕ) where
   unfolding callOf
   call-11 l e = rw (e, take-all 64 (drop 3 v) (omega (arith, length-drop 3 v)))
 
-  pub call-12 : kind ≡ 12 → callOf kind v [] ≡ decay (getD v 0 0)
-  unfolding callOf
-  call-12 e = rw e
-
   pub call-score :
       kind ≢ 1 → kind ≢ 2 → kind ≢ 3 → kind ≢ 4 → kind ≢ 5 → kind ≢ 6 → kind ≢ 7 → kind ≢ 8 → kind ≢ 9 → kind ≢ 10 → kind ≢ 11 → kind ≢ 12 →
       callOf kind v [] ≡ score (getD v 0 0) (getD v 1 0)
@@ -135,6 +99,14 @@ pub follows-as :
     Follows d r table table′ list list′ →
     Follows c r table table′ list list′
 follows-as c d r table table′ list list′ e f = rw e f
+
+-- the kind is known, and with it the call
+pub follows-kind :
+    (kind n : ℕ) (v : List ℕ) (r : Answer) (table table′ list list′ : List ℕ) →
+    kind ≡ n →
+    Follows (callOf n v []) r table table′ list list′ →
+    Follows (callOf kind v []) r table table′ list list′
+follows-kind kind n v r table table′ list list′ e f = rw e f
 
 -- ---- one event
 -- its call was made

@@ -3,7 +3,7 @@
 use Prim.Native.Nat.{ℕ, _<_}
 use native.Mathlib.Omega.{arith}
 use mathlib.Core.Path.{_≡_, refl}
-use mathlib.Core.Bool.{Bool, true, false}
+use mathlib.Core.Bool.{Bool, true, false, _&&_}
 use lib.Dec.{eqb, leb}
 use borrow.Author.Tests.{leb-true}
 use Rattle.index.specs.declared.Found.{Found}
@@ -19,13 +19,17 @@ use Rattle.rules.specs.declared.Answer.the-variants.{NotConnected, NotRo
 use Rattle.rules.specs.declared.Gate.{Gate}
 use Rattle.rules.specs.declared.Gate.the-variants.{Pass, Refuse}
 use Rattle.rules.specs.Reply.{Reply, numberOf, refused}
-use Rattle.rules.specs.Calls.{Call, timeOf, topicOk, timeOk, argumentsOk, inRange}
+use Rattle.rules.specs.Calls.{Call, timeOf, idOk, topicOk, timeOk, argumentsOk, inRange}
 use Rattle.rules.specs.Step.{gateOf, through, actionRoom, onFound, ofPeer, effect, step}
 use Rattle.rules.proofs.GateLaws.{Passed, gate-passed}
 
 -- ---- what the ranges say
 pub topic-in : (t : ℕ) → topicOk t ≡ true → t < 8
 topic-in t e = omega (arith, leb-true t 7 e)
+
+-- of an id and a topic
+pub topic-of-both : (id t : ℕ) → idOk id && topicOk t ≡ true → t < 8
+topic-of-both id t e = topic-in t (both (idOk id) (topicOk t) e .1)
 
 pub arguments : (c : Call) → inRange c ≡ true → argumentsOk c ≡ true
 unfolding inRange

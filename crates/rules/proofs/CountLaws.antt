@@ -1,15 +1,15 @@
 -- Every reply counts its actions, and gives at most one for each slot.
 -- Assumes nothing.
-use Prim.Native.Nat.{ℕ, zero, suc, _≤_}
+use Prim.Native.Nat.{ℕ, _≤_}
 use mathlib.Core.Path.{_≡_, refl, ap}
 use mathlib.Core.Bool.{Bool, true, false, cond}
 use mathlib.Core.List.{List, [], _∷_}
 use native.Mathlib.Omega.{arith}
 use lib.Dec.{eqb, leb}
-use lib.ListN.{length, length-append, length-map}
-use Rattle.index.specs.Index.{gather}
+use lib.ListN.{length, length-map}
 use Rattle.index.specs.declared.Found.{Found}
 use Rattle.index.specs.declared.Found.the-variants.{At, Nothing}
+use Rattle.index.proofs.Index.{gather-short}
 use Rattle.index.proofs.Flags.{cond-case}
 use Rattle.cells.specs.View.{stateOf}
 use Rattle.records.specs.Records.{State, slotCount, peerIn}
@@ -76,12 +76,6 @@ counted-connect st time id group flags name =
     (counted-refused UnknownProtocol st refl)
 
 -- a leave has at most one action a slot
-gather-short :
-    {A : Type 0} (f : ℕ → List A) (n : ℕ) → ((i : ℕ) → length (f i) ≤ 1) → length (gather n f) ≤ n
-unfolding gather
-gather-short f zero h = omega arith
-gather-short f (suc n) h = omega (arith, length-append (gather n f) (f n), gather-short f n h, h n)
-
 pub actions-short : (st : State) (t n : ℕ) → length (leaveActions st t n) ≤ n
 unfolding leaveActions
 actions-short st t n =

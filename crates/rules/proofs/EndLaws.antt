@@ -11,8 +11,8 @@ use Rattle.records.specs.Records.{State, setClock}
 use Rattle.cells.specs.View.{stateOf}
 use Rattle.lookup.specs.Find.{findConnected}
 use Rattle.rules.specs.declared.Answer.{Answer}
-use Rattle.rules.specs.declared.Answer.the-variants.{Done, NotConnected, Ignored}
-use Rattle.rules.specs.Reply.{Reply, refused, ignored, done}
+use Rattle.rules.specs.declared.Answer.the-variants.{Done, Ignored}
+use Rattle.rules.specs.Reply.{Reply, ignored, done}
 use Rattle.rules.specs.Step.{ofPeer, onFound}
 use Rattle.rules.specs.Promise.{Leaves, Gives}
 use Rattle.rules.proofs.PromiseLaws.{leaves-moved, gives-quiet}

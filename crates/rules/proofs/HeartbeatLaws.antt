@@ -1,14 +1,14 @@
 -- The heartbeat's definitions: what the view holds, what maintenance makes of it, how many actions it has, and what the walk that writes the
 -- mesh back leaves of each slot.
 -- Assumes nothing.
-use Prim.Native.Nat.{ℕ, _+_, _-_, _*_, _≤_, _<_}
+use Prim.Native.Nat.{ℕ, _+_, _-_, _≤_, _<_}
 use native.Mathlib.Omega.{arith}
 use mathlib.Core.Path.{_≡_, refl, sym, ap, _∙_}
 use mathlib.Core.Logic.{_≢_}
-use mathlib.Core.Bool.{Bool, true, false, not, cond, _&&_, false≢true}
+use mathlib.Core.Bool.{Bool, true, false, not, false≢true}
 use mathlib.Core.List.{List}
 use lib.ListN.{length}
-use lib.Dec.{eqb, leb, ltb}
+use lib.Dec.{eqb, leb}
 use lib.IntN.{ℤ, pos, negsuc, natAbs, subℕ, _+ℤ_}
 use lib.Signed.{leZ, ltZ}
 use borrow.Author.Tests.{le-leb, le-ltb}
@@ -16,31 +16,26 @@ use Rattle.index.specs.Index.{iter}
 use Rattle.index.proofs.Index.{both, iter-keeps}
 use Rattle.index.proofs.Flags.{by-test, cond-case}
 use Rattle.records.specs.declared.Peer.{Peer}
-use Rattle.records.specs.declared.TopicRecord.{TopicRecord}
-use Rattle.records.specs.Records.{State, slotCount, place, codeIn, peerIn, topicIn, isConnected}
-use Rattle.params.proofs.ParamLaws.{Joints, joints}
+use Rattle.records.specs.Records.{State, slotCount, place, codeIn, peerIn, isConnected}
+use Rattle.params.proofs.ParamLaws.{joints}
 use Rattle.cells.specs.View.{Sized}
 use Rattle.cells.proofs.StateLaws.{peer-after-topic, sized-topic}
 use Rattle.table.specs.Valid.{valid}
 use Rattle.table.proofs.ValidLaws.{valid-facts}
-use Rattle.score.specs.declared.TopicParams.{TopicParams}
 use Rattle.score.specs.declared.Balance.{Balance}
-use Rattle.score.specs.Ranges.{scoreMost, BalanceIn}
-use Rattle.score.specs.Sums.{worth, offsetOf, negativeOf}
-use Rattle.score.specs.Score.{scoreIn, balanceAt, topicParamsIn, Scores}
-use Rattle.score.specs.Counters.{grownOf}
+use Rattle.score.specs.Ranges.{scoreMost}
+use Rattle.score.specs.Sums.{worth, offsetOf}
+use Rattle.score.specs.Score.{scoreIn, balanceAt, Scores}
 use Rattle.score.proofs.Differences.{diff-ge, diff-add, diff-pos}
 use Rattle.score.proofs.SumLaws.{offset-from}
 use Rattle.score.proofs.InputLaws.{slot-in}
 use Rattle.score.proofs.ScoreLaws.{balance-in, score-is}
-use Rattle.effects.specs.Effects.{magnitude, withEnd, onTopic, isMember, isSubscribed, backoffRuns, intoMesh, pruned, endAfter, pruneBackoff}
+use Rattle.effects.specs.Effects.{withEnd, onTopic, isMember, isSubscribed, intoMesh, pruned, endAfter, pruneBackoff}
 use Rattle.effects.proofs.Walks.{iter-kept, iter-before, iter-once}
-use Rattle.effects.proofs.EffectLaws.{Kept, kept-self, kept-then, kept-topic, kept-pruned, kept-iter, sized-pruned, place-slot, place-topic, pruned-reads, pruned-apart, pruned-member, member-apart, member-in}
-use Rattle.sets.specs.Sets.{bySlot, at, Sub, from, isPermutation}
+use Rattle.effects.proofs.EffectLaws.{Kept, kept-self, kept-then, kept-topic, kept-pruned, kept-iter, sized-pruned, place-slot, pruned-reads, pruned-apart, pruned-member, member-apart, member-in}
+use Rattle.sets.specs.Sets.{bySlot, at, Sub, isPermutation}
 use Rattle.sets.proofs.SlotLaws.{slots-length, slots-at, slots-in}
 use Rattle.sets.proofs.WalkLaws.{from-at}
-use Rattle.mesh.specs.declared.Degrees.{Degrees}
-use Rattle.mesh.specs.declared.View.{View}
 use Rattle.mesh.specs.Maintenance.{zeroScore, goods, changesOf, actionsOf, Rules, Whole, Maintained}
 use Rattle.mesh.proofs.MaintenanceLaws.{maintained-keeps, maintained-length}
 use Rattle.mesh.proofs.Bound.{actions-length}

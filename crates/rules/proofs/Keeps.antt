@@ -1,6 +1,6 @@
 -- "Each call keeps this so": every call, from the laws of each (KeepsTopic, KeepsPeer, KeepsDecay, KeepsHeartbeat).
 -- Assumes nothing.
-use Prim.Native.Nat.{ℕ, _<_}
+use Prim.Native.Nat.{ℕ}
 use mathlib.Core.Path.{_≡_}
 use mathlib.Core.Bool.{true, _&&_}
 use lib.Dec.{leb}
@@ -12,20 +12,15 @@ use Rattle.cells.specs.View.{Sized}
 use Rattle.table.specs.Valid.{maxTime, valid}
 use Rattle.rules.specs.Calls.{Call, connect, disconnect, join, leave, subscribe, unsubscribe, graft, prune, deliver, rate, heartbeat, decay, score, timeOf, idOk, topicOk, timeOk, argumentsOk, inRange}
 use Rattle.rules.specs.Reply.{Reply}
-use Rattle.rules.specs.Step.{effect, step}
+use Rattle.rules.specs.Step.{effect}
 use Rattle.rules.specs.Kept.{KeepsRouter, KeepsSizes}
 use Rattle.rules.proofs.GateLaws.{Passed}
-use Rattle.rules.proofs.CaseLaws.{topic-in, by-gate}
+use Rattle.rules.proofs.CaseLaws.{topic-in, topic-of-both, by-gate}
 use Rattle.rules.proofs.KeepsState.{Router, RouterAt, router-start, router-end, of-peer}
 use Rattle.rules.proofs.KeepsTopic.{keeps-join, keeps-leave, keeps-subscribe, keeps-unsubscribe, keeps-graft, keeps-prune}
 use Rattle.rules.proofs.KeepsPeer.{keeps-connect, keeps-disconnect, keeps-rate}
 use Rattle.rules.proofs.KeepsDecay.{keeps-deliver, keeps-decay}
 use Rattle.rules.proofs.KeepsHeartbeat.{keeps-heartbeat}
-
--- ---- what the ranges say
--- of an id and a topic
-topic-of-both : (id t : ℕ) → idOk id && topicOk t ≡ true → t < 8
-topic-of-both id t e = topic-in t (both (idOk id) (topicOk t) e .1)
 
 -- ---- behind the gate
 module _ (st : State) (router : Router st) where

@@ -1,12 +1,10 @@
 -- "Each call keeps this so": the heartbeat. A slot that comes in was a candidate, so it is connected, subscribed and not explicit.
 -- Assumes nothing.
 use Prim.Native.Nat.{ℕ, _<_, _≤_}
-use native.Mathlib.Omega.{arith}
 use mathlib.Core.Path.{_≡_, refl, sym, ap, _∙_}
 use mathlib.Core.Logic.{⊎-elim}
 use mathlib.Core.Bool.{Bool, true, false, false≢true}
 use mathlib.Core.List.{List}
-use lib.Dec.{eqb}
 use borrow.Author.Tests.{eqb-true}
 use Rattle.index.specs.Index.{iter}
 use Rattle.index.proofs.Index.{iter-keeps}

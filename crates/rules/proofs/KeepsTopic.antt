@@ -18,7 +18,7 @@ use Rattle.score.specs.Counters.{countMost, raisedOf, grownOf}
 use Rattle.score.specs.Score.{topicParamsIn}
 use Rattle.effects.specs.Effects.{withEnd, withP7, onPeer, onTopic, isJoined, isMember, isSubscribed, backoffRuns, pruned, endAfter, pruneBackoff, unsubscribeBackoff}
 use Rattle.effects.proofs.Walks.{iter-before, iter-once}
-use Rattle.effects.proofs.EffectLaws.{on-peer, place-slot, member-apart, pruned-apart, pruned-member, pruned-reads}
+use Rattle.effects.proofs.EffectLaws.{on-peer, place-slot, pruned-apart, pruned-member, pruned-reads}
 use Rattle.rules.specs.Reply.{ignored, done}
 use Rattle.rules.specs.Step.{isNegative, isGraylisted, isHeard, joinReply, punished, leaveSlot, leaveReply, subscribeReply, unsubscribeReply, graftRefused, graftEnters, meshFull, graftOpen, graftBackoff, graftHeard, graftReply, secondsOf, pruneReply}
 use Rattle.rules.proofs.PunishedLaws.{punished-apart}

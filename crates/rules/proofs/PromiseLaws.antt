@@ -1,22 +1,18 @@
 -- From what an inner function leaves to what a public call promises.
 -- Assumes nothing.
-use Prim.Native.Nat.{ℕ, _≤_, _<_}
+use Prim.Native.Nat.{ℕ}
 use mathlib.Core.Path.{_≡_, refl, sym, ap, _∙_}
-use mathlib.Core.Bool.{Bool, true, false}
-use mathlib.Core.List.{List, [], _∷_}
+use mathlib.Core.Bool.{true, false}
+use mathlib.Core.List.{List, []}
 use native.Mathlib.Omega.{arith}
 use lib.ListN.{length}
-use lib.Seq.{sets}
 use Rattle.cells.specs.View.{stateOf}
-use Rattle.records.specs.Records.{State, setClock}
-use Rattle.effects.specs.Actions.{Action, numbersOf}
+use Rattle.effects.specs.Actions.{numbersOf}
 use Rattle.rules.specs.declared.Answer.{Answer}
-use Rattle.rules.specs.declared.Answer.the-variants.{Done, Ignored}
-use Rattle.rules.specs.declared.Gate.{Gate}
 use Rattle.rules.specs.declared.Gate.the-variants.{Pass, Refuse}
-use Rattle.rules.specs.Reply.{Reply, refuses, refused, ignored, done}
+use Rattle.rules.specs.Reply.{Reply, refuses, refused}
 use Rattle.rules.specs.Calls.{Call, timeOf, inRange}
-use Rattle.rules.specs.Step.{gateOf, through, effect, step}
+use Rattle.rules.specs.Step.{gateOf, effect, step}
 use Rattle.rules.specs.Promise.{Leaves, Gives, Follows}
 
 -- an answer that is no refusal: table and clock are the rules'

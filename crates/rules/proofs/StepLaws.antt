@@ -1,9 +1,9 @@
 -- What the rules come to once a test is known, in the form in which the returns of the calls ask it.
 -- Assumes nothing.
 use Prim.Native.Nat.{ℕ, _<_}
-use mathlib.Core.Path.{_≡_, refl, sym, ap, _∙_}
+use mathlib.Core.Path.{_≡_, refl, sym, _∙_}
 use mathlib.Core.Bool.{Bool, true, false, cond}
-use mathlib.Core.List.{List, []}
+use mathlib.Core.List.{List}
 use Rattle.index.specs.declared.Found.{Found}
 use Rattle.index.specs.declared.Found.the-variants.{At, Nothing}
 use Rattle.index.proofs.Index.{first-is}
@@ -12,7 +12,7 @@ use Rattle.cells.specs.View.{stateOf}
 use Rattle.lookup.specs.Find.{holds, findConnected}
 use Rattle.rules.specs.declared.Answer.{Answer}
 use Rattle.rules.specs.declared.Answer.the-variants.{NotConnected}
-use Rattle.rules.specs.Reply.{Reply, refused}
+use Rattle.rules.specs.Reply.{Reply}
 use Rattle.rules.specs.Step.{ofPeer}
 use Rattle.rules.specs.Promise.{Leaves, Gives}
 use Rattle.rules.proofs.PromiseLaws.{leaves-refused, gives-quiet}

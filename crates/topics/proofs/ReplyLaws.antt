@@ -1,20 +1,27 @@
 -- The two ends of a call that gives no action: 11, and 0.
 -- Assumes nothing.
-use Prim.Native.Nat.{ℕ}
-use mathlib.Core.Path.{_≡_, refl}
-use mathlib.Core.Bool.{Bool, true, false, cond}
+use Prim.Native.Nat.{ℕ, _<_}
+use mathlib.Core.Path.{_≡_, refl, ap, ap₂, _∙_}
+use mathlib.Core.Bool.{Bool, true, false, cond, _&&_}
 use mathlib.Core.List.{List, []}
+use lib.ListN.{length}
 use Rattle.index.proofs.Flags.{yes, no}
 use Rattle.records.specs.Records.{State, setClock, setJoined}
-use Rattle.cells.specs.View.{stateOf}
+use Rattle.cells.specs.View.{cellCount, stateOf}
 use Rattle.effects.specs.Effects.{isJoined, onTopic, withSubscribed, outOfMesh}
 use Rattle.rules.specs.declared.Answer.{Answer}
 use Rattle.rules.specs.declared.Answer.the-variants.{Done, Ignored}
-use Rattle.rules.specs.Reply.{ignored, done}
-use Rattle.rules.specs.Calls.{join, subscribe, unsubscribe}
-use Rattle.rules.specs.Step.{effect, isGraylisted, joinReply, subscribeReply, unsubscribeReply}
-use Rattle.rules.specs.Promise.{Leaves}
+use Rattle.rules.specs.declared.Gate.{Gate}
+use Rattle.rules.specs.declared.Gate.the-variants.{Pass}
+use Rattle.rules.specs.Reply.{Reply, ignored, done}
+use Rattle.rules.specs.Calls.{join, subscribe, unsubscribe, timeOk, idOk, topicOk}
+use Rattle.rules.specs.Step.{gateOf, effect, ofPeer, isGraylisted, joinReply, subscribeReply, unsubscribeReply}
+use Rattle.rules.specs.Promise.{Leaves, Follows}
 use Rattle.rules.proofs.EndLaws.{leaves-ignored, leaves-done, quiet-cond, quiet-peer}
+use Rattle.rules.proofs.CaseLaws.{topic-of-both}
+use Rattle.gate.specs.Ready.{Ready}
+use Rattle.gate.proofs.CallLaws.{Word, Behind, call-word, call-behind, call-quiet}
+use Rattle.topics.specs.Change.{change, changed, changeReply}
 
 -- "11 if t, else 0": t is the rule's test, and f what the code computed of it
 module _ (table mid table′ : List ℕ) (u : State) (time : ℕ) (t f : Bool) (a : Answer) (e : f ≡ t) where
@@ -40,14 +47,49 @@ pub quiet-join : (st : State) (time t : ℕ) → effect st (join time t) .action
 unfolding effect joinReply
 quiet-join st time t = quiet-test (isJoined st t) st (setJoined st t 1) time
 
-pub quiet-subscribe : (st : State) (time id t : ℕ) → effect st (subscribe time id t) .actions ≡ []
-unfolding effect subscribeReply
-quiet-subscribe st time id t =
-    quiet-peer st id (subscribeReply st time t)
-    (λ s. quiet-test (isGraylisted st s) st (onTopic st s t (λ r. withSubscribed r 1)) time)
+-- ---- subscribe and unsubscribe, which differ by a flag
+module _ (time id t : ℕ) where
+  change-effect :
+      (on : Bool) (st : State) → effect st (change on time id t) ≡ ofPeer st id (changeReply on st time t)
+  unfolding effect subscribeReply unsubscribeReply changeReply
+  change-effect true st = refl
+  change-effect false st = refl
 
-pub quiet-unsubscribe : (st : State) (time id t : ℕ) → effect st (unsubscribe time id t) .actions ≡ []
-unfolding effect unsubscribeReply
-quiet-unsubscribe st time id t =
-    quiet-peer st id (unsubscribeReply st time t)
-    (λ s. quiet-test (isGraylisted st s) st (onTopic st s t (λ r. withSubscribed (outOfMesh r) 0)) time)
+  ready-in : (on : Bool) {table list : List ℕ} → Behind (change on time id t) table list → Ready table time × (t < 8)
+  ready-in true b = (b .ready, topic-of-both id t (b .fine))
+  ready-in false b = (b .ready, topic-of-both id t (b .fine))
+
+  -- the gate's word, and what is behind it
+  pub change-word :
+      (on : Bool) (table list : List ℕ) (a b d : Bool) (g : Gate) →
+      a ≡ timeOk time →
+      b ≡ idOk id →
+      d ≡ topicOk t →
+      g ≡ gateOf (stateOf table) (a && (b && d)) (length list) time →
+      Word (change on time id t) table list g
+  change-word true table list a b d g ea eb ed eg = call-word (subscribe time id t) table list a (b && d) g ea (ap₂ _&&_ eb ed) eg
+  change-word false table list a b d g ea eb ed eg = call-word (unsubscribe time id t) table list a (b && d) g ea (ap₂ _&&_ eb ed) eg
+
+  module _ (on : Bool) {table list : List ℕ} {g : Gate} (w : Word (change on time id t) table list g) (p : g ≡ Pass) where
+    pub change-behind : length table ≡ cellCount → Ready table time × (t < 8)
+    change-behind l = ready-in on (call-behind w p l)
+
+    pub change-follows :
+        {a : Answer} {table′ : List ℕ} →
+        Leaves (ofPeer (stateOf table) id (changeReply on (stateOf table) time t)) a table table′ →
+        Follows (change on time id t) a table table′ list list
+    unfolding changeReply
+    change-follows {a} {table′} l =
+        let e = change-effect on (stateOf table) in
+        let q =
+        quiet-peer (stateOf table) id (changeReply on (stateOf table) time t)
+        (λ s. quiet-test (isGraylisted (stateOf table) s) (stateOf table) (onTopic (stateOf table) s t (changed on)) time) in
+        call-quiet w p (ap (λ (r : Reply). r .actions) e ∙ q) (rw e l)
+
+-- what the store of either flag leaves
+module _ (st u : State) (s t : ℕ) (on : Bool) where
+  pub changed-on : on ≡ true → u ≡ onTopic st s t (λ r. withSubscribed r 1) → u ≡ onTopic st s t (changed on)
+  changed-on g e = rw g e
+
+  pub changed-off : on ≡ false → u ≡ onTopic st s t (λ r. withSubscribed (outOfMesh r) 0) → u ≡ onTopic st s t (changed on)
+  changed-off g e = rw g e

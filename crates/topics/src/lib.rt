@@ -1,10 +1,14 @@
 // Join, subscribe and unsubscribe: three of 01's calls.
+ghost use mathlib.Core.Path.{_≡_};
 ghost use Prim.Native.Nat.{_<_};
-ghost use Rattle.cells.specs.View.{stateOf};
+ghost use lib.ListN.{length};
+ghost use Rattle.cells.specs.View.{cellCount, stateOf};
+ghost use Rattle.effects.specs.Effects.{onTopic};
 ghost use Rattle.rules.specs.Calls.{join as Calls·join, subscribe as Calls·subscribe, unsubscribe as Calls·unsubscribe};
-ghost use Rattle.rules.specs.Step.{effect, joinReply};
+ghost use Rattle.rules.specs.Step.{joinReply, ofPeer};
 ghost use Rattle.rules.specs.Promise.{Leaves, Follows};
 ghost use Rattle.gate.specs.Ready.{Ready};
+ghost use Rattle.topics.specs.Change.{change as Calls·change, changed, changeReply};
 use effects::slots::is_joined;
 use effects::slots::subscribe_slot;
 use effects::slots::unsubscribe_slot;
@@ -41,9 +45,21 @@ pub fn join(table: &mut [u64; 5340], time: u64, topic: u64, actions: &mut [u32])
     }
 }
 
-fn subscribe_from(table: &mut [u64], time: u64, id: u64, topic: usize) -> Answer
+// `on` is a subscription; else the peer leaves the mesh too.
+fn change_slot(table: &mut [u64], topic: usize, slot: usize, on: bool)
+    requires { ⌜ (length (now table) ≡ cellCount) × ((topic < 8) × (slot < 64)) ⌝ }
+    ensures { λ r. ⌜ stateOf (now (table .exit)) ≡ onTopic (stateOf (now (table .entry))) slot topic (changed on) ⌝ }
+{
+    if on {
+        subscribe_slot(table, topic, slot);
+    } else {
+        unsubscribe_slot(table, topic, slot);
+    }
+}
+
+fn change_from(table: &mut [u64], time: u64, id: u64, topic: usize, on: bool) -> Answer
     requires { ⌜ Ready (now table) time × (topic < 8) ⌝ }
-    ensures { λ r. ⌜ Leaves (effect (stateOf (now (table .entry))) (Calls·subscribe time id topic)) r (now (table .entry)) (now (table .exit)) ⌝ }
+    ensures { λ r. ⌜ Leaves (ofPeer (stateOf (now (table .entry))) id (changeReply on (stateOf (now (table .entry))) time topic)) r (now (table .entry)) (now (table .exit)) ⌝ }
 {
     let Found::At(slot) = lookup::find::find_connected(table, id) else {
         return Answer::NotConnected;
@@ -51,8 +67,25 @@ fn subscribe_from(table: &mut [u64], time: u64, id: u64, topic: usize) -> Answer
     if is_graylisted(table, slot) {
         return ignore(table, time);
     }
-    subscribe_slot(table, topic, slot);
+    change_slot(table, topic, slot, on);
     finish(table, time)
+}
+
+fn change(
+    table: &mut [u64; 5340],
+    time: u64,
+    id: u64,
+    topic: u64,
+    on: bool,
+    actions: &mut [u32],
+) -> Answer
+    ensures { λ r. ⌜ Follows (Calls·change on time id topic) r (now (table .entry)) (now (table .exit)) (now (actions .entry)) (now (actions .exit)) ⌝ }
+{
+    let fine = time_ok(time) & (id_ok(id) & topic_ok(topic));
+    match admit(table, fine, actions.len(), time) {
+        Gate::Refuse(a) => a,
+        Gate::Pass => change_from(table, time, id, topic as usize, on),
+    }
 }
 
 // A peer subscribes.
@@ -65,25 +98,7 @@ pub fn subscribe(
 ) -> Answer
     ensures { λ r. ⌜ Follows (Calls·subscribe time id topic) r (now (table .entry)) (now (table .exit)) (now (actions .entry)) (now (actions .exit)) ⌝ }
 {
-    let fine = time_ok(time) & (id_ok(id) & topic_ok(topic));
-    match admit(table, fine, actions.len(), time) {
-        Gate::Refuse(a) => a,
-        Gate::Pass => subscribe_from(table, time, id, topic as usize),
-    }
-}
-
-fn unsubscribe_from(table: &mut [u64], time: u64, id: u64, topic: usize) -> Answer
-    requires { ⌜ Ready (now table) time × (topic < 8) ⌝ }
-    ensures { λ r. ⌜ Leaves (effect (stateOf (now (table .entry))) (Calls·unsubscribe time id topic)) r (now (table .entry)) (now (table .exit)) ⌝ }
-{
-    let Found::At(slot) = lookup::find::find_connected(table, id) else {
-        return Answer::NotConnected;
-    };
-    if is_graylisted(table, slot) {
-        return ignore(table, time);
-    }
-    unsubscribe_slot(table, topic, slot);
-    finish(table, time)
+    change(table, time, id, topic, true, actions)
 }
 
 // A peer unsubscribes.
@@ -96,9 +111,5 @@ pub fn unsubscribe(
 ) -> Answer
     ensures { λ r. ⌜ Follows (Calls·unsubscribe time id topic) r (now (table .entry)) (now (table .exit)) (now (actions .entry)) (now (actions .exit)) ⌝ }
 {
-    let fine = time_ok(time) & (id_ok(id) & topic_ok(topic));
-    match admit(table, fine, actions.len(), time) {
-        Gate::Refuse(a) => a,
-        Gate::Pass => unsubscribe_from(table, time, id, topic as usize),
-    }
+    change(table, time, id, topic, false, actions)
 }

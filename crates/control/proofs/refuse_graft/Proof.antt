@@ -6,25 +6,12 @@ use Rattle.control.proofs.GraftLaws.{refused-graft}
 use Rattle.control.proofs.refuse_graft.Statement.{statement}
 use Rattle.control.proofs.refuse_graft.Tie as tie
 
-load-peer-requires : tie.Need-load-peer-requires
-load-peer-requires c κs = let p = c .before .before .before .pre in (p .0 .size, p .1 .1 .0)
-
-load-size-requires : tie.Need-load-size-requires
-load-size-requires c κs = (c .before .before .before .before .before .pre .0 .size, omega arith)
-
 put-prune-requires : tie.Need-put-prune-requires
 put-prune-requires c κs =
     let p = c .before .before .before .before .before .before .before .pre in (
       omega (arith, p .1 .1 .1),
       (rw (c .before .before .before .load-peer .ensures) (p .0 .id), omega (arith, c .before .load-size .ensures, p .0 .backoff)),
     )
-
-end-after-requires : tie.Need-end-after-requires
-end-after-requires c κs =
-    let p = c .before .before .before .before .before .before .before .before .before .before .before .pre in (p .0 .latest, omega (arith, c .before .before .before .before .before .load-size .ensures, p .0 .backoff))
-
-delay-requires : tie.Need-delay-requires
-delay-requires c κs = let p = c .before .before .before .before .before .before .before .before .before .before .before .before .pre in (p .0 .size, (p .1 .0, p .1 .1 .0))
 
 returns : tie.Need-returns
 returns c =
@@ -40,11 +27,11 @@ pub refuse-graft-spec : {M : Type 1} → statement M
 refuse-graft-spec =
     tie.close
     (tie.spec
-    load-peer-requires
-    load-size-requires
+    (λ c κs. search needs)
+    (λ c κs. search needs)
     put-prune-requires
-    end-after-requires
-    delay-requires
+    (λ c κs. search needs)
+    (λ c κs. search needs)
     (λ c κs. search needs)
     (λ c. search needs)
     (λ c. search needs)

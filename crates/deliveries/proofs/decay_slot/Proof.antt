@@ -18,9 +18,6 @@ returns : tie.Need-returns
 returns c =
     slot-connected _ _ _ _ (c .before .before .before .before .before .before .before .before .before .load-status .ensures) _ _ (eq-eqb _ _ (c .before .before .before .before .before .before .before .before .if1 .taken)) (c .before .before .before .before .before .before .decay-topics .ensures) (c .before .before .decay-p7 .ensures)
 
-returns-2 : tie.Need-returns-2
-returns-2 c = slot-other _ _ _ _ (c .before .load-status .ensures) (ne-eqb _ _ (c .if1 .left))
-
 pub decay-slot-spec : {M : Type 1} → statement M
 decay-slot-spec =
     tie.close
@@ -31,4 +28,4 @@ decay-slot-spec =
     (λ c. search needs)
     returns
     (λ c. search needs)
-    returns-2)
+    (λ c. slot-other _ _ _ _ (c .before .load-status .ensures) (ne-eqb _ _ (c .if1 .left))))

@@ -5,9 +5,6 @@ use Rattle.peers.proofs.PeerLaws.{connect-unknown, connect-already, con
 use Rattle.peers.proofs.connect_from.Statement.{statement}
 use Rattle.peers.proofs.connect_from.Tie as tie
 
-returns : tie.Need-returns
-returns c = connect-unknown _ _ _ _ _ _ _ (c .before .before .version-of .ensures) (c .enum-told .given .1)
-
 returns-2 : tie.Need-returns-2
 returns-2 c =
     connect-already _ _ _ _ _ _ _ (c .before .before .before .before .before .before .before .version-of .ensures) _ (c .before .before .before .before .before .version .given .1) _ (search) _ (c .enum-told2 .given .1)
@@ -24,7 +21,7 @@ connect-from-spec =
     (λ c κs. search needs)
     (λ c. search needs)
     (λ c. search needs)
-    returns
+    (λ c. connect-unknown _ _ _ _ _ _ _ (c .before .before .version-of .ensures) (c .enum-told .given .1))
     (λ c κs. search needs)
     (λ c. search needs)
     (λ c. search needs)

@@ -2,7 +2,6 @@
 -- Assumes nothing.
 use mathlib.Core.Path.{ap, _∙_}
 use Prim.Native.Nat.{ℕ}
-use native.Mathlib.Omega.{arith}
 use borrow.Author.Needs.{needs}
 use mir.Facts.{toZ-ofZ}
 use Rattle.cells.specs.View.{stateOf}
@@ -13,14 +12,6 @@ use Rattle.rules.proofs.EndLaws.{leaves-done}
 use Rattle.peers.proofs.rate_from.Statement.{statement}
 use Rattle.peers.proofs.rate_from.Tie as tie
 
-returns : tie.Need-returns
-unfolding effect
-returns c = peer-none _ _ _ _ (search) (c .enum-told .given .1)
-
-rate-slot-requires : tie.Need-rate-slot-requires
-rate-slot-requires c κs =
-    (c .before .before .before .before .before .before .before .before .pre .standing .size, omega (arith, found-below (stateOf (c .before .before .before .before .before .before .before .before .args .table .now)) (c .before .before .before .before .before .before .before .before .args .id) _ _ (search) (c .before .before .before .slot .given .1)))
-
 returns-2 : tie.Need-returns-2
 unfolding effect
 returns-2 c =
@@ -30,6 +21,7 @@ returns-2 c =
     peer-at _ _ _ _ (search) _ _ _ (k .slot .given .1) (leaves-done _ _ _ _ _ _ e (c .before .before .finish .ensures))
 
 pub rate-from-spec : {M : Type 1} → statement M
+unfolding effect
 rate-from-spec =
     tie.close
     (tie.spec
@@ -37,9 +29,9 @@ rate-from-spec =
     (λ c. search needs)
     (λ c. search needs)
     (λ c. search needs)
-    returns
+    (λ c. search peer-none)
     (λ c κs. search needs)
-    rate-slot-requires
+    (λ c κs. (search needs, search found-below))
     (λ c κs. search needs)
     (λ c. search needs)
     returns-2)

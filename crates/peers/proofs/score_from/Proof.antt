@@ -1,25 +1,14 @@
 -- `peers::score_from` meets its contract.
 -- Assumes nothing.
 use mathlib.Core.Path.{refl, ap, _∙_}
-use native.Mathlib.Omega.{arith}
 use borrow.Author.Needs.{needs, sfits-of}
 use mir.Facts.{toZ-ofZ}
 use Rattle.rules.specs.declared.Answer.the-variants.{Scored}
-use Rattle.cells.specs.View.{stateOf}
 use Rattle.rules.specs.Step.{effect}
 use Rattle.rules.proofs.PromiseLaws.{leaves-moved}
 use Rattle.rules.proofs.StepLaws.{found-below, peer-none, peer-at}
 use Rattle.peers.proofs.score_from.Statement.{statement}
 use Rattle.peers.proofs.score_from.Tie as tie
-
-returns : tie.Need-returns
-unfolding effect
-returns c = peer-none _ _ _ _ (search) (c .enum-told .given .1)
-
-score-of-requires : tie.Need-score-of-requires
-score-of-requires c κs =
-    let standing = c .before .before .before .before .before .before .before .pre .standing in
-    (standing .size, (standing .router, omega (arith, found-below (stateOf (c .before .before .before .before .before .before .before .args .table .now)) (c .before .before .before .before .before .before .before .args .id) _ _ (search) (c .before .before .slot .given .1))))
 
 returns-2 : tie.Need-returns-2
 unfolding effect
@@ -29,6 +18,7 @@ returns-2 c =
     (leaves-moved _ _ _ _ (ap Scored e) refl (c .before .before .store-clock .ensures))
 
 pub score-from-spec : {M : Type 1} → statement M
+unfolding effect
 score-from-spec =
     tie.close
     (tie.spec
@@ -36,8 +26,8 @@ score-from-spec =
     (λ c. search needs)
     (λ c. search needs)
     (λ c. search needs)
-    returns
-    score-of-requires
+    (λ c. search peer-none)
+    (λ c κs. (search needs, (search needs, search found-below)))
     (λ c κs. search needs)
     (λ c κs. search needs)
     (λ c. search needs)

@@ -5,9 +5,6 @@ use Rattle.replay.proofs.ReplayLaws.{connect-long, connect-short, conne
 use Rattle.replay.proofs.connect.Statement.{statement}
 use Rattle.replay.proofs.connect.Tie as tie
 
-returns : tie.Need-returns
-returns c = connect-long _ _ _ _ _ (c .if1 .taken)
-
 returns-2 : tie.Need-returns-2
 returns-2 c =
     let h = c .if2 .taken in
@@ -30,7 +27,7 @@ connect-spec =
     tie.close
     (tie.spec
     (λ c. search needs)
-    returns
+    (λ c. connect-long _ _ _ _ _ (c .if1 .taken))
     returns-2
     (λ c. search needs)
     returns-3

@@ -5,9 +5,6 @@ use Rattle.replay.proofs.ReplayLaws.{few-actions, event-called, event-u
 use Rattle.replay.proofs.replay.Statement.{statement}
 use Rattle.replay.proofs.replay.Tie as tie
 
-returns : tie.Need-returns
-returns c = replay-full _ _ _ _ (c .if1 .taken)
-
 put-reply-requires : tie.Need-put-reply-requires
 put-reply-requires c κs =
     (search needs, few-actions _ _ _ _ _ _ (c .before .before .before .before .before .before .perform .ensures) _ _ (c .before .before .before .done .given .1), search needs)
@@ -40,7 +37,7 @@ pub replay-spec : {M : Type 1} → statement M
 replay-spec =
     tie.close
     (tie.spec
-    returns
+    (λ c. replay-full _ _ _ _ (c .if1 .taken))
     (λ c. search needs)
     (λ c κs. tt)
     (λ c. search needs)
