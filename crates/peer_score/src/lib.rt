@@ -74,9 +74,11 @@ fn shares(table: &[u64], group: u64, slot: usize) -> u64
     requires { ⌜ (length (now table) ≡ cellCount) × (slot < 64) ⌝ }
     ensures { λ r. ⌜ (r ≡ one (sharesGroup (stateOf (now (table .entry))) group slot)) × (r ≤ 1) ⌝ }
 {
-    let status = cells::load_status(table, slot);
     let other = cells::load_group(table, slot);
-    if (status == 1) & (other == group) {
+    if other != group {
+        return 0;
+    }
+    if cells::load_status(table, slot) == 1 {
         1
     } else {
         0
