@@ -1,11 +1,11 @@
 -- A decay, record by record: what it relies on is kept from each record to the next, and its steps are the rules'.
 -- Assumes nothing.
-use Prim.Native.Nat.{ℕ, _*_, _/_, _<_, _≤_}
-use mathlib.Core.Path.{_≡_, refl, sym, ap, _∙_}
+use Prim.Native.Nat.{ℕ, _*_, _<_, _≤_}
+use mathlib.Core.Path.{_≡_, sym, ap, _∙_}
 use mathlib.Core.Bool.{Bool, true, false, _&&_}
 use mathlib.Core.List.{List}
 use native.Mathlib.Omega.{arith}
-use lib.Dec.{eqb, ltb}
+use lib.Dec.{eqb}
 use borrow.Author.Tests.{eqb-true, not-true}
 use Rattle.index.specs.Index.{iter}
 use Rattle.index.proofs.Index.{both, iter-keeps}
@@ -20,7 +20,7 @@ use Rattle.score.specs.declared.TopicParams.{TopicParams}
 use Rattle.score.specs.Ranges.{TopicParamsIn, CountersIn}
 use Rattle.score.specs.Score.{topicParamsIn}
 use Rattle.score.specs.Counters.{fadedOf, meshOf, decayedOf}
-use Rattle.score.proofs.CounterLaws.{faded-less}
+use Rattle.score.proofs.CounterLaws.{faded-less, faded-nothing}
 use Rattle.score.proofs.InputLaws.{params-in, slot-in}
 use Rattle.effects.specs.Effects.{magnitude, withP7}
 use Rattle.gate.proofs.StandingLaws.{sizes}
@@ -144,10 +144,6 @@ module _ (st : State) (time s t floor : ℕ) (p : TopicParams) (r : TopicRecord)
     topic-decayed q u eq eu = cc
 
 -- nothing fades to nothing, so an idle record stays
-faded-nothing : (floor factor : ℕ) → fadedOf floor factor 0 ≡ 0
-unfolding fadedOf
-faded-nothing floor factor = cond-case (λ (y : ℕ). y ≡ 0) (ltb (0 * factor / 1000) floor) 0 (0 * factor / 1000) (λ e. refl) (λ e. omega arith)
-
 idle-stays : (t : TopicParams) (floor time : ℕ) (r : TopicRecord) → isIdle r ≡ true → decayedOf t floor time r ≡ r
 unfolding decayedOf meshOf isIdle
 idle-stays t floor time r e =

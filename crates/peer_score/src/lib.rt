@@ -56,7 +56,7 @@ pub fn load_params(table: &[u64], t: usize) -> TopicParams
 }
 
 // The general parameters that a score takes.
-fn load_general(table: &[u64]) -> ScoreParams
+pub fn load_general(table: &[u64]) -> ScoreParams
     requires { ⌜ length (now table) ≡ cellCount ⌝ }
     ensures { λ r. ⌜ r ≡ scoreParamsIn (stateOf (now (table .entry))) ⌝ }
 {
