@@ -1,26 +1,27 @@
 -- A decay, record by record: what it relies on is kept from each record to the next, and its steps are the rules'.
 -- Assumes nothing.
 use Prim.Native.Nat.{ℕ, _*_, _<_, _≤_}
-use mathlib.Core.Path.{_≡_, refl, ap, _∙_}
+use mathlib.Core.Path.{_≡_, refl, sym, ap, _∙_}
 use mathlib.Core.Bool.{Bool, true, false, _&&_}
 use mathlib.Core.List.{List}
 use native.Mathlib.Omega.{arith}
 use lib.Dec.{eqb}
 use lib.ListN.{length}
+use borrow.Author.Tests.{eqb-true, not-true}
 use Rattle.index.specs.Index.{iter}
-use Rattle.index.proofs.Index.{iter-keeps}
+use Rattle.index.proofs.Index.{both, iter-keeps}
 use Rattle.index.proofs.Flags.{cond-case}
 use Rattle.records.specs.declared.Peer.{Peer}
 use Rattle.records.specs.declared.TopicRecord.{TopicRecord}
 use Rattle.records.specs.Records.{State, place, codeIn, peerIn, topicIn, setPeer, setTopic, setClock, isConnected}
-use Rattle.cells.proofs.StateLaws.{peer-case, topic-case}
+use Rattle.cells.proofs.StateLaws.{peer-case, topic-case, topic-again}
 use Rattle.cells.specs.View.{cellCount, stateOf}
 use Rattle.table.specs.Valid.{valid}
 use Rattle.score.specs.declared.TopicParams.{TopicParams}
 use Rattle.score.specs.Ranges.{TopicParamsIn, CountersIn}
 use Rattle.score.specs.Score.{topicParamsIn}
-use Rattle.score.specs.Counters.{fadedOf, decayedOf}
-use Rattle.score.proofs.CounterLaws.{faded-less}
+use Rattle.score.specs.Counters.{fadedOf, meshOf, decayedOf}
+use Rattle.score.proofs.CounterLaws.{faded-less, faded-nothing}
 use Rattle.score.proofs.InputLaws.{params-in, slot-in}
 use Rattle.effects.specs.Effects.{magnitude, withP7}
 use Rattle.gate.specs.Ready.{Ready}
@@ -34,7 +35,7 @@ use Rattle.rules.specs.Calls.{decay, timeOk}
 use Rattle.rules.specs.Step.{gateOf, effect, decayFloor, decayTopic, decayP7, decaySlot, decayReply}
 use Rattle.rules.specs.Promise.{Leaves, Follows}
 use Rattle.rules.proofs.EndLaws.{leaves-done}
-use Rattle.deliveries.specs.Decays.{Decays}
+use Rattle.deliveries.specs.Decays.{Decays, isIdle}
 
 -- behind the gate
 pub decays-of : (st : State) → valid st ≡ true → Decays st
@@ -146,6 +147,31 @@ module _ (st : State) (time s t floor : ℕ) (p : TopicParams) (r : TopicRecord)
         u ≡ decayTopic time s t st
     unfolding decayTopic
     topic-decayed q u eq eu = cc
+
+-- nothing fades to nothing, so an idle record stays
+idle-stays : (t : TopicParams) (floor time : ℕ) (r : TopicRecord) → isIdle r ≡ true → decayedOf t floor time r ≡ r
+unfolding decayedOf meshOf isIdle
+idle-stays t floor time r e =
+    let a = both (eqb (r .p2) 0) _ e in
+    let b = both (eqb (r .p3) 0) _ (a .1) in
+    let c = both (eqb (r .p4) 0) _ (b .1) in
+    let d = both (eqb (r .p3b) 0) _ (c .1) in
+    let p2 = eqb-true (r .p2) 0 (a .0) in
+    let p3 = eqb-true (r .p3) 0 (b .0) in
+    let p4 = eqb-true (r .p4) 0 (c .0) in
+    let p3b = eqb-true (r .p3b) 0 (d .0) in
+    rw (not-true (eqb (r .member) 1) (d .1), p2, p3, p4, p3b, faded-nothing floor (t .decay2), faded-nothing floor (t .decay3), faded-nothing floor (t .decay4), faded-nothing (floor * 1000) (t .decay3b))
+
+pub topic-idle :
+    (st : State) (time s t : ℕ) (r : TopicRecord) →
+    r ≡ topicIn st (place s t) →
+    isIdle r ≡ true →
+    st ≡ decayTopic time s t st
+unfolding decayTopic
+topic-idle st time s t r er e =
+    sym
+    (ap (setTopic st (place s t)) (idle-stays (topicParamsIn st t) (decayFloor st) time (topicIn st (place s t)) (rw (← er) e))
+    ∙ topic-again st (place s t))
 
 module _ (st : State) (s floor factor x : ℕ) (p q : Peer) (u : State) where
   pub p7-decayed :

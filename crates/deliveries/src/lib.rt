@@ -11,7 +11,7 @@ ghost use Rattle.rules.specs.Calls.{deliver as Calls·deliver, decay as Calls·
 ghost use Rattle.rules.specs.Step.{effect, deliveredOf, decayTopic, decayP7, decaySlot, decayReply};
 ghost use Rattle.rules.specs.Promise.{Leaves, Follows};
 ghost use Rattle.gate.specs.Ready.{Standing, Ready};
-ghost use Rattle.deliveries.specs.Decays.{Decays};
+ghost use Rattle.deliveries.specs.Decays.{Decays, isIdle};
 use credits::credited;
 use effects::slots::load_size;
 use effects::values::with_p7;
@@ -26,6 +26,7 @@ use index::Found;
 use lookup::find::find_connected;
 use records::SLOTS;
 use records::TOPICS;
+use records::TopicRecord;
 use rules::Answer;
 use rules::Gate;
 
@@ -71,12 +72,22 @@ pub fn deliver(
     }
 }
 
+// Whether a record has nothing to fade, as most have: few peers are members of a mesh or break a rule.
+fn is_idle(r: TopicRecord) -> bool
+    ensures { λ b. ⌜ b ≡ isIdle r ⌝ }
+{
+    (r.p2 == 0) & ((r.p3 == 0) & ((r.p4 == 0) & ((r.p3b == 0) & !(r.member == 1))))
+}
+
 // The counters of one topic record, and a member's mesh time.
 fn decay_topic(table: &mut [u64], time: u64, slot: usize, topic: usize)
     requires { ⌜ (length (now table) ≡ cellCount) × (Decays (stateOf (now table)) × ((slot < 64) × (topic < 8))) ⌝ }
     ensures { λ r. ⌜ stateOf (now (table .exit)) ≡ decayTopic time slot topic (stateOf (now (table .entry))) ⌝ }
 {
     let r = cells::load_topic(table, slot * 8 + topic);
+    if is_idle(r) {
+        return;
+    }
     let t = peer_score::load_params(table, topic);
     cells::store_topic(
         table,

@@ -1,3 +1,4 @@
+pub mod ScoresLaws
 pub mod SeenLaws
 pub mod SettleLaws
 pub mod ReplyLaws

@@ -10,6 +10,7 @@ ghost use Rattle.sets.specs.Sets.{bySlot};
 ghost use Rattle.effects.specs.Effects.{isMember};
 ghost use Rattle.rules.specs.Step.{isCandidate, heightIn, degreesIn, viewIn};
 ghost use Rattle.gate.specs.Ready.{Standing};
+use crate::scores::scores;
 use effects::slots::is_member;
 use effects::slots::load_size;
 use mesh::Degrees;
@@ -38,18 +39,6 @@ pub fn outbound(table: &[u64]) -> [bool; SLOTS]
     for s in 0..SLOTS {
         let p = cells::load_peer(table, s);
         r[s] = p.outbound == 1;
-    }
-    r
-}
-
-// The scores, moved up so that none is negative.
-pub fn scores(table: &[u64]) -> [u64; SLOTS]
-    requires { ⌜ Standing (now table) ⌝ }
-    ensures { λ r. ⌜ r ≡ bySlot slotCount (heightIn (stateOf (now (table .entry)))) ⌝ }
-{
-    let mut r = [0; SLOTS];
-    for s in 0..SLOTS {
-        r[s] = score::sums::offset(peer_score::score_of(table, s));
     }
     r
 }

@@ -1,16 +1,16 @@
 -- Laws of the actions as numbers in a list: one action written, a run of them, and the runs of the five steps one after the other.
 -- Assumes nothing.
-use Prim.Native.Nat.{ℕ, suc, _+_, _*_, _≤_, _<_}
+use Prim.Native.Nat.{ℕ, zero, suc, _+_, _*_, _≤_, _<_}
 use native.Mathlib.Omega.{arith}
 use mathlib.Core.Path.{_≡_, refl, sym, ap, ap₂, _∙_, subst}
-use mathlib.Core.Bool.{Bool, true, false}
+use mathlib.Core.Bool.{Bool, true, false, false≢true}
 use mathlib.Core.List.{List, [], _∷_, _++_, map}
 use lib.ListN.{length, getD, drop, length-append}
 use lib.Seq.{sets, length-sets}
 use lib.Dec.{eqb}
 use Rattle.index.proofs.Flags.{cond-case}
 use Rattle.index.proofs.Lists.{sets-append}
-use Rattle.sets.specs.Sets.{at, ascending}
+use Rattle.sets.specs.Sets.{at, size, inOrder, ascending}
 use Rattle.mesh.specs.Maintenance.{Action, action, actionsOn, actionsOf, secondsOf, numbersOf, Narrow, Writable, Written}
 use Rattle.mesh.specs.declared.Changes.{Changes}
 use Rattle.sets.proofs.WalkLaws.{inOrder-step, inOrder-end}
@@ -67,6 +67,34 @@ module _ (k : ℕ) (p : List Bool) (d : List ℕ) (i : ℕ) where
   pub acts-end : length d ≤ i → actionsOn k p (drop i d) ≡ []
   unfolding actionsOn
   acts-end h = ap (map (action k)) (inOrder-end p d i h)
+
+-- of an empty set there is nothing to do
+some : (p : List Bool) (s : ℕ) → at p s ≡ true → 1 ≤ size p
+unfolding size
+some [] s e = absurd (false≢true e)
+some (true ∷ p) s e = omega arith
+some (false ∷ p) zero e = absurd (false≢true e)
+some (false ∷ p) (suc s) e = some p s e
+
+none-in : (p : List Bool) (d : List ℕ) → size p ≡ 0 → inOrder p d ≡ []
+unfolding inOrder
+none-in p [] e = refl
+none-in p (s ∷ d) e =
+    cond-case
+    (λ (l : List ℕ). l ≡ [])
+    (at p s)
+    (s ∷ inOrder p d)
+    (inOrder p d)
+    (λ t. absurd (omega (arith, some p s t, e)))
+    (λ t. none-in p d e)
+
+pub written-none :
+    (k : ℕ) (p : List Bool) (d ids seconds l : List ℕ) (n : ℕ) →
+    size p ≡ 0 →
+    Written ids seconds (actionsOn k p d) l n l n
+unfolding actionsOn
+written-none k p d ids seconds l n e =
+    rw (none-in p d e) (record { many = omega arith; list = sym (numbers-none ids seconds l (3 * n)) })
 
 -- ---- one run of actions after another
 pub written-more :

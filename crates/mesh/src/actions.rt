@@ -8,6 +8,7 @@ ghost use Rattle.records.specs.Records.{slotCount};
 ghost use Rattle.mesh.specs.Maintenance.{actionsOn, actionsOf, secondsOf, Writable, Written};
 use crate::Changes;
 use records::SLOTS;
+use sets::count;
 use sets::has;
 use sets::number_at;
 use sets::permutation::by_slot;
@@ -18,8 +19,8 @@ pub const GRAFT: u32 = 1;
 pub const PRUNE: u32 = 2;
 
 // An action's seconds: those of the slot for a PRUNE, 0 for a GRAFT.
-pub fn seconds_of(kind: u32, seconds: [u64; SLOTS], s: u64) -> u64
-    ensures { λ r. ⌜ r ≡ secondsOf kind seconds s ⌝ }
+pub fn seconds_of(kind: u32, seconds: &[u64], s: u64) -> u64
+    ensures { λ r. ⌜ r ≡ secondsOf kind (now (seconds .entry)) s ⌝ }
 {
     if kind == PRUNE {
         number_at(seconds, s)
@@ -42,7 +43,7 @@ pub fn put(actions: &mut [u32], n: usize, kind: u32, id: u64, seconds: u64)
 }
 
 // Writes, after n others, an action of the kind for each slot of p, in the order; and counts them all.
-pub fn write(
+fn write_walk(
     actions: &mut [u32],
     n: usize,
     kind: u32,
@@ -57,18 +58,37 @@ pub fn write(
     let mut k = n;
     for i in 0..SLOTS {
         let s = order[i];
-        if has(p, s) {
+        if has(&p, s) {
             put(
                 actions,
                 k,
                 kind,
-                number_at(ids, s),
-                seconds_of(kind, seconds, s),
+                number_at(&ids, s),
+                seconds_of(kind, &seconds, s),
             );
             k += 1;
         }
     }
     k
+}
+
+// The same; a step that changes nothing, as most do, takes no walk.
+pub fn write(
+    actions: &mut [u32],
+    n: usize,
+    kind: u32,
+    p: [bool; SLOTS],
+    order: [u64; SLOTS],
+    ids: [u64; SLOTS],
+    seconds: [u64; SLOTS],
+) -> usize
+    requires { ⌜ Writable (now actions) ids seconds (n + length (actionsOn kind p order)) ⌝ }
+    ensures { λ r. ⌜ Written ids seconds (actionsOn kind p order) (now (actions .entry)) n (now (actions .exit)) r ⌝ }
+{
+    if count(p) == 0 {
+        return n;
+    }
+    write_walk(actions, n, kind, p, order, ids, seconds)
 }
 
 // Writes the actions of a maintenance, by step, and counts them. The numbers past them stand.

@@ -56,7 +56,7 @@ pub fn load_params(table: &[u64], t: usize) -> TopicParams
 }
 
 // The general parameters that a score takes.
-fn load_general(table: &[u64]) -> ScoreParams
+pub fn load_general(table: &[u64]) -> ScoreParams
     requires { ⌜ length (now table) ≡ cellCount ⌝ }
     ensures { λ r. ⌜ r ≡ scoreParamsIn (stateOf (now (table .entry))) ⌝ }
 {
@@ -74,9 +74,11 @@ fn shares(table: &[u64], group: u64, slot: usize) -> u64
     requires { ⌜ (length (now table) ≡ cellCount) × (slot < 64) ⌝ }
     ensures { λ r. ⌜ (r ≡ one (sharesGroup (stateOf (now (table .entry))) group slot)) × (r ≤ 1) ⌝ }
 {
-    let status = cells::load_status(table, slot);
     let other = cells::load_group(table, slot);
-    if (status == 1) & (other == group) {
+    if other != group {
+        return 0;
+    }
+    if cells::load_status(table, slot) == 1 {
         1
     } else {
         0

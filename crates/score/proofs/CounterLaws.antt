@@ -2,6 +2,7 @@
 -- Assumes nothing.
 use Prim.Native.Nat.{ℕ, _+_, _-_, _*_, _/_, _≤_, zero-le}
 use native.Mathlib.Omega.{arith}
+use mathlib.Core.Path.{_≡_, refl}
 use native.Mathlib.Nat.{mul-le-mul, le-refl}
 use lib.Dec.{ltb}
 use Rattle.index.proofs.Flags.{cond-case}
@@ -24,6 +25,18 @@ faded-less floor factor x h =
     (x * factor / 1000)
     (λ _. zero-le)
     (λ _. q)
+
+-- nothing fades to nothing
+pub faded-nothing : (floor factor : ℕ) → fadedOf floor factor 0 ≡ 0
+unfolding fadedOf
+faded-nothing floor factor =
+    cond-case
+    (λ (n : ℕ). n ≡ 0)
+    (ltb (0 * factor / 1000) floor)
+    0
+    (0 * factor / 1000)
+    (λ _. refl)
+    (λ _. omega arith)
 
 module _ (t : TopicParams) (r : TopicRecord) where
   pub within-in : TopicParamsIn t → CountersWithin t r → CountersIn r

@@ -29,3 +29,7 @@ module _ (t : TopicParams) (r : TopicRecord) where
       0 ≡ part3Of t r
   unfolding part3Of
   part3-none e = rw e
+
+  pub part3-other : (r .member ≡ 1 → ⊥) → 0 ≡ part3Of t r
+  unfolding part3Of
+  part3-other n = rw (ne-eqb (r .member) 1 n)

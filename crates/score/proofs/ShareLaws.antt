@@ -13,6 +13,7 @@ use Rattle.score.specs.Parts.{part1Of, part2Of, part3Of, part3bOf, part4
 use Rattle.score.specs.Formula.{topicSum, allTopics}
 use Rattle.score.specs.Sums.{worth, shareOf, noBalance, addOf, sumOf}
 use Rattle.score.proofs.Differences.{diff-pos, diff-add, diff-scale, neg-times}
+use Rattle.score.proofs.PartLaws.{part1-other, part3-other}
 
 -- the formula at signed weights of these sizes, the last three negative
 pub share-is :
@@ -43,6 +44,22 @@ share-is t r =
       diff-scale,
     )
     (ap₂ (λ (g l : ℕ). subℕ (t .weight * g) (t .weight * l)) (omega arith) (omega arith))
+
+-- outside the mesh P1 and P3 are 0, and are left out
+pub share-other :
+    (t : TopicParams) (r : TopicRecord) (a b c d g l : ℕ) →
+    (r .member ≡ 1 → ⊥) →
+    a ≡ t .w2 * part2Of r →
+    b ≡ t .w3b * part3bOf r →
+    c ≡ part4Of r →
+    d ≡ t .w4 * c →
+    g ≡ t .weight * a →
+    l ≡ t .weight * (b + d) →
+    _≡_ {A = Balance} (record { gain = g; loss = l }) (shareOf t r)
+unfolding shareOf
+share-other t r a b c d g l n ea eb ec ed eg el =
+    rw (← part1-other t r n, ← part3-other t r n, eg, el, ed, ec, ea, eb)
+    (ap₂ (λ (x y : ℕ). record { gain = t .weight * x; loss = t .weight * y }) (omega arith) (omega arith))
 
 pub add-is : (a b : Balance) → worth a +ℤ worth b ≡ worth (addOf a b)
 add-is a b = diff-add (a .gain) (a .loss) (b .gain) (b .loss)

@@ -37,11 +37,14 @@ pub fn grown(t: TopicParams, r: TopicRecord) -> TopicRecord
     q
 }
 
-// A counter after one decay, of P7 too.
+// A counter after one decay, of P7 too. Most are 0, and are not multiplied.
 pub fn faded(floor: u64, factor: u64, x: u64) -> u64
     requires { ⌜ (factor ≤ 1000) × (x ≤ 1000000000000) ⌝ }
     ensures { λ r. ⌜ r ≡ fadedOf floor factor x ⌝ }
 {
+    if x == 0 {
+        return 0;
+    }
     let y = scaled(factor, x);
     if y < floor { 0 } else { y }
 }

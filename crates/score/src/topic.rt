@@ -66,8 +66,8 @@ pub fn part3(t: TopicParams, r: TopicRecord) -> u64
     }
 }
 
-// weight × (w1·P1 + w2·P2) gained, and weight × (w3·P3 + w3b·P3b + w4·P4) lost.
-pub fn share(t: TopicParams, r: TopicRecord) -> Balance
+// Of a member, weight × (w1·P1 + w2·P2) is gained, and weight × (w3·P3 + w3b·P3b + w4·P4) lost.
+fn member_share(t: TopicParams, r: TopicRecord) -> Balance
     requires { ⌜ TopicParamsIn t × CountersIn r ⌝ }
     ensures { λ b. ⌜ (b ≡ shareOf t r) × ShareIn b ⌝ }
 {
@@ -76,5 +76,30 @@ pub fn share(t: TopicParams, r: TopicRecord) -> Balance
     Balance {
         gain: weighted(t.weight, gain),
         loss: weighted(t.weight, loss),
+    }
+}
+
+// Of another peer, P1 and P3 are 0.
+fn other_share(t: TopicParams, r: TopicRecord) -> Balance
+    requires { ⌜ TopicParamsIn t × (CountersIn r × (r .member ≡ 1 → ⊥)) ⌝ }
+    ensures { λ b. ⌜ (b ≡ shareOf t r) × ShareIn b ⌝ }
+{
+    let gain = term(t.w2, r.p2 * 1000);
+    let loss = term(t.w3b, r.p3b) + term(t.w4, squared(r.p4));
+    Balance {
+        gain: weighted(t.weight, gain),
+        loss: weighted(t.weight, loss),
+    }
+}
+
+// One topic's share. Most peers are members of few meshes, so that the shorter sum is the usual one.
+pub fn share(t: TopicParams, r: TopicRecord) -> Balance
+    requires { ⌜ TopicParamsIn t × CountersIn r ⌝ }
+    ensures { λ b. ⌜ (b ≡ shareOf t r) × ShareIn b ⌝ }
+{
+    if r.member == 1 {
+        member_share(t, r)
+    } else {
+        other_share(t, r)
     }
 }

@@ -1,5 +1,6 @@
 // Sets of slots, as an array with a flag for each slot, and what mesh maintenance makes of them: walks along an order, the test of a permutation,
-// the median of a set's scores. Everything above goes by these functions and not by the form of a set.
+// the median of a set's scores. Everything above goes by these functions and not by the form of a set. What a walk asks at every turn takes
+// its array by reference, so that no turn copies it.
 ghost use mathlib.Core.Path.{_≡_};
 ghost use Prim.Native.Nat.{_-_};
 ghost use lib.ListN.{getD, set};
@@ -68,10 +69,10 @@ pub fn over(x: u64, scores: [u64; SLOTS]) -> [bool; SLOTS]
 }
 
 // Whether the slot s is in the set; past its end, no.
-pub fn has(m: [bool; SLOTS], s: u64) -> bool
-    ensures { λ r. ⌜ r ≡ at m s ⌝ }
+pub fn has(m: &[bool], s: u64) -> bool
+    ensures { λ r. ⌜ r ≡ at (now (m .entry)) s ⌝ }
 {
-    if s < SLOTS as u64 {
+    if s < m.len() as u64 {
         m[s as usize]
     } else {
         false
@@ -90,10 +91,10 @@ pub fn with(m: [bool; SLOTS], s: u64, b: bool) -> [bool; SLOTS]
 }
 
 // The number by slot at s; past the end, 0.
-pub fn number_at(numbers: [u64; SLOTS], s: u64) -> u64
-    ensures { λ r. ⌜ r ≡ getD numbers s 0 ⌝ }
+pub fn number_at(numbers: &[u64], s: u64) -> u64
+    ensures { λ r. ⌜ r ≡ getD (now (numbers .entry)) s 0 ⌝ }
 {
-    if s < SLOTS as u64 {
+    if s < numbers.len() as u64 {
         numbers[s as usize]
     } else {
         0

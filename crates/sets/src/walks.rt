@@ -13,8 +13,8 @@ use crate::without;
 use records::SLOTS;
 
 // Whether the slot s is put in: there is room, it is in p and not yet in m.
-pub fn wanted(p: [bool; SLOTS], room: u64, m: [bool; SLOTS], s: u64) -> bool
-    ensures { λ r. ⌜ r ≡ takes p room m s ⌝ }
+pub fn wanted(p: &[bool], room: u64, m: &[bool], s: u64) -> bool
+    ensures { λ r. ⌜ r ≡ takes (now (p .entry)) room (now (m .entry)) s ⌝ }
 {
     (0 < room) & (has(p, s) & !has(m, s))
 }
@@ -26,8 +26,11 @@ pub fn put_in(p: [bool; SLOTS], k: u64, order: [u64; SLOTS], m: [bool; SLOTS]) -
     let mut r = m;
     let mut room = k;
     for i in 0..SLOTS {
+        if room == 0 {
+            return r;
+        }
         let s = order[i];
-        if wanted(p, room, r, s) {
+        if wanted(&p, room, &r, s) {
             r[s as usize] = true;
             room -= 1;
         }
@@ -41,7 +44,7 @@ pub fn first_of(p: [bool; SLOTS], order: [u64; SLOTS]) -> u64
 {
     for i in 0..SLOTS {
         let s = order[i];
-        if has(p, s) {
+        if has(&p, s) {
             return s;
         }
     }
@@ -55,7 +58,7 @@ pub fn last_of(p: [bool; SLOTS], order: [u64; SLOTS]) -> u64
     let mut last = SLOTS as u64;
     for i in 0..SLOTS {
         let next = order[i];
-        if has(p, next) {
+        if has(&p, next) {
             last = next;
         }
     }
@@ -63,8 +66,8 @@ pub fn last_of(p: [bool; SLOTS], order: [u64; SLOTS]) -> u64
 }
 
 // Whether s comes before best among the slots of p.
-pub fn beats(scores: [u64; SLOTS], p: [bool; SLOTS], best: u64, s: u64) -> bool
-    ensures { λ r. ⌜ r ≡ (at p s && better slotCount scores best s) ⌝ }
+pub fn beats(scores: &[u64], p: &[bool], best: u64, s: u64) -> bool
+    ensures { λ r. ⌜ r ≡ (at (now (p .entry)) s && better slotCount (now (scores .entry)) best s) ⌝ }
 {
     has(p, s) & ((SLOTS as u64 <= best) | (number_at(scores, best) < number_at(scores, s)))
 }
@@ -76,7 +79,7 @@ pub fn best(scores: [u64; SLOTS], p: [bool; SLOTS], order: [u64; SLOTS]) -> u64
     let mut best = SLOTS as u64;
     for i in 0..SLOTS {
         let s = order[i];
-        if beats(scores, p, best, s) {
+        if beats(&scores, &p, best, s) {
             best = s;
         }
     }

@@ -8,7 +8,7 @@ use Rattle.sets.proofs.has.Statement.{statement}
 use Rattle.sets.proofs.has.Tie as tie
 
 returns-2 : tie.Need-returns-2
-returns-2 c = let a = c .before .args in sym (at-past (a .t1) (a .s) (omega arith))
+returns-2 c = let a = c .before .args in sym (at-past (a .m .now) (a .s) (omega arith))
 
 pub has-spec : {M : Type 1} → statement M
 has-spec = tie.close (tie.spec (λ c. search needs) (λ c. search needs) returns-2)

@@ -1,127 +1,20 @@
--- `mesh::actions::write` meets its contract. The loop has the rest of the walk still to write.
+-- `mesh::actions::write` meets its contract: an empty set, or the walk.
 -- Assumes nothing.
-use Prim.Native.Nat.{ℕ, _+_, _*_, _-_, _≤_, _<_}
-use native.Mathlib.Omega.{arith}
 use borrow.Author.Needs.{needs}
-use mathlib.Core.Path.{_≡_, refl, sym, ap, ap₂, _∙_}
-use mathlib.Core.List.{List, [], _∷_}
-use mathlib.Core.Logic.{⊎-elim}
-use lib.ListN.{length, drop, getD}
-use lib.Seq.{sets, length-sets}
-use Rattle.records.specs.Records.{slotCount}
-use Rattle.mesh.specs.Maintenance.{Action, actionsOn, secondsOf, numbersOf}
-use Rattle.mesh.proofs.ActionLaws.{seconds-narrow, numbers-none, numbers-cons, acts-in, acts-out, acts-end}
+use mathlib.Core.Path.{sym, _∙_}
+use Rattle.mesh.proofs.ActionLaws.{written-none}
 use Rattle.mesh.proofs.actions.write.Statement.{statement}
 use Rattle.mesh.proofs.actions.write.Tie as tie
 
-abbrev Inv-loop : tie.InvT-loop
-Inv-loop actions₀ n kind p ids seconds order k₀ i₀ actions k i =
-    (i ≤ slotCount)
-    × (length order ≡ slotCount)
-    × (length actions ≡ length actions₀)
-    × (k + length (actionsOn kind p (drop i order)) ≡ n + length (actionsOn kind p order))
-    × (sets actions (3 * k) (numbersOf ids seconds (actionsOn kind p (drop i order)))
-    ≡ sets actions₀ (3 * n) (numbersOf ids seconds (actionsOn kind p order)))
-
-abbrev μ-loop : tie.MeasureT-loop
-μ-loop actions₀ n kind p ids seconds order k₀ i₀ actions k i = slotCount - i
-
-put-requires : tie.Need-put-requires Inv-loop μ-loop
-put-requires c κs =
-    let c₃ = c .before .before .before in
-    let b = c₃ .before .before .before .before .before in
-    let a = b .args in
-    let l = c₃ .before .before .before .loop in
-    let s = getD (a .t5) (l .i) 0 in
-    let e =
-    ap length (acts-in (a .kind) (a .p) (a .t5) (l .i) (omega arith) (sym (c₃ .before .has .ensures) ∙ c₃ .if1 .taken)) in
-    let room = b .pre .room in
-    let id = c .before .number-at .ensures in
-    let id-fits = b .pre .narrow-ids s in
-    let sec = c .seconds-of .ensures in
-    let sec-fits = seconds-narrow (a .kind) (a .seconds) s (b .pre .narrow-seconds) in
-    (omega arith, (omega arith, omega arith))
-
-add-k : tie.Need-add-k Inv-loop μ-loop
-add-k c =
-    let c₆ = c .before .before .before .before .before .before in
-    let b = c₆ .before .before .before .before .before in
-    let a = b .args in
-    let l = c₆ .before .before .before .loop in
-    let e =
-    ap length (acts-in (a .kind) (a .p) (a .t5) (l .i) (omega arith) (sym (c₆ .before .has .ensures) ∙ c₆ .if1 .taken)) in
-    let room = b .pre .room in
-    omega arith
-
-loop-again : tie.Need-loop-again Inv-loop μ-loop
-loop-again c =
-    let b = c .before .before .before .before .before in
-    let a = b .args in
-    let l = c .before .before .before .loop in
-    let s = getD (a .t5) (l .i) 0 in
-    let lt : l .i < length (a .t5) = omega arith in
-    let rest = actionsOn (a .kind) (a .p) (drop (l .i + 1) (a .t5)) in
-    let more : List ℕ → ℕ → List ℕ = λ x k. sets x (3 * k) (numbersOf (a .ids) (a .seconds) rest) in
-    let whole : List Action → List ℕ = λ x. sets (l .actions) (3 * l .k) (numbersOf (a .ids) (a .seconds) x) in
-    let three : ℕ → ℕ → List ℕ = λ x y. sets (l .actions) (3 * l .k) (a .kind ∷ x ∷ y ∷ []) in
-    ⊎-elim
-    (λ w.
-    let e = acts-in (a .kind) (a .p) (a .t5) (l .i) lt (sym (c .before .has .ensures) ∙ w .0 .taken) in
-    let n = ap length e in
-    let put = w .7 ∙ w .4 .ensures ∙ ap₂ three (w .2 .ensures) (w .3 .ensures) in (
-      omega arith,
-      l .inv .1,
-      ap length put
-          ∙ length-sets (l .actions) (3 * l .k) (a .kind ∷ getD (a .ids) s 0 ∷ secondsOf (a .kind) (a .seconds) s ∷ [])
-          ∙ l .inv .2,
-      omega arith,
-      ap₂ more put (w .8)
-          ∙ sym (ap whole e ∙ numbers-cons (a .ids) (a .seconds) (l .actions) (l .k) (a .kind) s rest)
-          ∙ l .inv .4,
-    ))
-    (λ w.
-    let e = acts-out (a .kind) (a .p) (a .t5) (l .i) lt (sym (c .before .has .ensures) ∙ w .0 .left) in
-    let n = ap length e in (
-      omega arith,
-      l .inv .1,
-      ap length (w .1) ∙ l .inv .2,
-      omega arith,
-      ap₂ more (w .1) (w .2) ∙ sym (ap whole e) ∙ l .inv .4,
-    ))
-    (c .if1 .came)
-
-returns : tie.Need-returns Inv-loop μ-loop
-returns c =
-    let b = c .before .before .before in
-    let a = b .args in
-    let l = c .before .loop in
-    let e = acts-end (a .kind) (a .p) (a .t5) (l .i) (omega arith) in
-    let n = ap length e in
-    record {
-      many = omega arith;
-      list =
-          sym
-          (ap (λ (x : List Action). sets (l .actions) (3 * l .k) (numbersOf (a .ids) (a .seconds) x)) e
-          ∙ numbers-none (a .ids) (a .seconds) (l .actions) (3 * l .k))
-          ∙ l .inv .4;
-    }
+returns : tie.Need-returns
+returns c = written-none _ _ _ _ _ _ _ (sym (c .before .count .ensures) ∙ c .if1 .taken)
 
 pub write-spec : {M : Type 1} → statement M
 write-spec =
     tie.close
     (tie.spec
-    Inv-loop
-    μ-loop
-    (λ c. (search needs, search needs, refl, refl, refl))
-    (λ c. omega arith)
-    (λ c. omega arith)
-    (λ c κs. tt)
-    (λ c κs. tt)
-    (λ c κs. tt)
-    put-requires
-    add-k
-    (λ c. omega arith)
-    (λ c. omega arith)
-    loop-again
-    (λ c. c .before .loop .inv .2)
-    returns)
+    (λ c κs. search needs)
+    returns
+    (λ c κs. search needs)
+    (λ c. search needs)
+    (λ c. search needs))

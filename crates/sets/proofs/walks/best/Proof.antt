@@ -22,20 +22,20 @@ abbrev μ-loop : tie.MeasureT-loop
 
 loop-again : tie.Need-loop-again Inv-loop μ-loop
 loop-again c =
-    let a = c .before .before .before .before .args in
-    let l = c .before .before .before .loop in
-    let rest : ℕ → ℕ = λ s. top slotCount (a .scores) (a .p) (drop (l .i + 1) (a .t3)) s in
+    let a = c .before .before .before .before .before .before .args in
+    let l = c .before .before .before .before .before .loop in
+    let rest : ℕ → ℕ = λ s. top slotCount (a .t1) (a .t2) (drop (l .i + 1) (a .t3)) s in
     let lt : l .i < length (a .t3) = omega arith in
     let e = c .before .beats .ensures in
     ⊎-elim
     (λ w. (
       omega arith,
-      ap rest (w .1) ∙ sym (top-step (a .p) (a .t3) (l .i) lt true slotCount (a .scores) (l .best) (sym e ∙ w .0 .taken)) ∙ l .inv .1,
+      ap rest (w .1) ∙ sym (top-step (a .t2) (a .t3) (l .i) lt true slotCount (a .t1) (l .best) (sym e ∙ w .0 .taken)) ∙ l .inv .1,
       l .inv .2,
     ))
     (λ w. (
       omega arith,
-      ap rest (w .1) ∙ sym (top-step (a .p) (a .t3) (l .i) lt false slotCount (a .scores) (l .best) (sym e ∙ w .0 .left)) ∙ l .inv .1,
+      ap rest (w .1) ∙ sym (top-step (a .t2) (a .t3) (l .i) lt false slotCount (a .t1) (l .best) (sym e ∙ w .0 .left)) ∙ l .inv .1,
       l .inv .2,
     ))
     (c .if1 .came)
@@ -44,7 +44,7 @@ returns : tie.Need-returns Inv-loop μ-loop
 returns c =
     let a = c .before .before .args in
     let l = c .before .loop in
-    sym (top-end (a .p) (a .t3) (l .i) (omega arith) slotCount (a .scores) (l .best)) ∙ l .inv .1
+    sym (top-end (a .t2) (a .t3) (l .i) (omega arith) slotCount (a .t1) (l .best)) ∙ l .inv .1
 
 pub best-spec : {M : Type 1} → statement M
 best-spec =
@@ -55,6 +55,8 @@ best-spec =
     (λ c. (search needs, refl, search needs))
     (λ c. omega arith)
     (λ c. omega arith)
+    (λ c. search needs)
+    (λ c. search needs)
     (λ c κs. tt)
     (λ c. omega arith)
     (λ c. omega arith)

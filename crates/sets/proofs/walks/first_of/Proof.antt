@@ -21,18 +21,18 @@ abbrev μ-loop : tie.MeasureT-loop
 
 returns : tie.Need-returns Inv-loop μ-loop
 returns c =
-    let a = c .before .before .before .before .args in
-    let l = c .before .before .before .loop in
-    sym (first-step (a .p) (a .t2) (l .i) (omega arith) true slotCount (sym (c .before .has .ensures) ∙ c .if1 .taken))
+    let a = c .before .before .before .before .before .args in
+    let l = c .before .before .before .before .loop in
+    sym (first-step (a .t1) (a .t2) (l .i) (omega arith) true slotCount (sym (c .before .has .ensures) ∙ c .if1 .taken))
     ∙ l .inv .1
 
 loop-again : tie.Need-loop-again Inv-loop μ-loop
 loop-again c =
-    let a = c .before .before .before .before .args in
-    let l = c .before .before .before .loop in
+    let a = c .before .before .before .before .before .args in
+    let l = c .before .before .before .before .loop in
     let e = sym (c .before .has .ensures) ∙ c .if1 .left in (
       omega arith,
-      sym (first-step (a .p) (a .t2) (l .i) (omega arith) false slotCount e) ∙ l .inv .1,
+      sym (first-step (a .t1) (a .t2) (l .i) (omega arith) false slotCount e) ∙ l .inv .1,
       l .inv .2,
     )
 
@@ -40,7 +40,7 @@ returns-2 : tie.Need-returns-2 Inv-loop μ-loop
 returns-2 c =
     let a = c .before .before .args in
     let l = c .before .loop in
-    sym (first-end (a .p) (a .t2) (l .i) (omega arith) slotCount) ∙ l .inv .1
+    sym (first-end (a .t1) (a .t2) (l .i) (omega arith) slotCount) ∙ l .inv .1
 
 pub first-of-spec : {M : Type 1} → statement M
 first-of-spec =
@@ -51,6 +51,7 @@ first-of-spec =
     (λ c. (search needs, refl, search needs))
     (λ c. omega arith)
     (λ c. omega arith)
+    (λ c. search needs)
     (λ c κs. tt)
     returns
     (λ c. omega arith)

@@ -22,20 +22,20 @@ abbrev μ-loop : tie.MeasureT-loop
 
 loop-again : tie.Need-loop-again Inv-loop μ-loop
 loop-again c =
-    let a = c .before .before .before .before .args in
-    let l = c .before .before .before .loop in
-    let rest : ℕ → ℕ = λ s. lastOf (a .p) (drop (l .i + 1) (a .t2)) s in
+    let a = c .before .before .before .before .before .args in
+    let l = c .before .before .before .before .loop in
+    let rest : ℕ → ℕ = λ s. lastOf (a .t1) (drop (l .i + 1) (a .t2)) s in
     let lt : l .i < length (a .t2) = omega arith in
     let e = c .before .has .ensures in
     ⊎-elim
     (λ w. (
       omega arith,
-      ap rest (w .1) ∙ sym (last-step (a .p) (a .t2) (l .i) lt true (l .last) (sym e ∙ w .0 .taken)) ∙ l .inv .1,
+      ap rest (w .1) ∙ sym (last-step (a .t1) (a .t2) (l .i) lt true (l .last) (sym e ∙ w .0 .taken)) ∙ l .inv .1,
       l .inv .2,
     ))
     (λ w. (
       omega arith,
-      ap rest (w .1) ∙ sym (last-step (a .p) (a .t2) (l .i) lt false (l .last) (sym e ∙ w .0 .left)) ∙ l .inv .1,
+      ap rest (w .1) ∙ sym (last-step (a .t1) (a .t2) (l .i) lt false (l .last) (sym e ∙ w .0 .left)) ∙ l .inv .1,
       l .inv .2,
     ))
     (c .if1 .came)
@@ -44,7 +44,7 @@ returns : tie.Need-returns Inv-loop μ-loop
 returns c =
     let a = c .before .before .args in
     let l = c .before .loop in
-    sym (last-end (a .p) (a .t2) (l .i) (omega arith) (l .last)) ∙ l .inv .1
+    sym (last-end (a .t1) (a .t2) (l .i) (omega arith) (l .last)) ∙ l .inv .1
 
 pub last-of-spec : {M : Type 1} → statement M
 last-of-spec =
@@ -55,6 +55,7 @@ last-of-spec =
     (λ c. (search needs, refl, search needs))
     (λ c. omega arith)
     (λ c. omega arith)
+    (λ c. search needs)
     (λ c κs. tt)
     (λ c. omega arith)
     (λ c. omega arith)

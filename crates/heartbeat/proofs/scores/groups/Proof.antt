@@ -1,0 +1,43 @@
+-- `heartbeat::scores::groups`: the loop builds the array from the front.
+use Rattle.index.proofs.Kit.{_-_, refl, arith}
+use Rattle.records.specs.Records.{slotCount, peerIn}
+use Rattle.cells.specs.View.{stateOf}
+use Rattle.sets.proofs.Loops.{Built, built-none, built-more}
+use Rattle.sets.proofs.SlotLaws.{slots-built}
+use Rattle.heartbeat.proofs.ScoresLaws.{group-fits}
+use Rattle.heartbeat.proofs.scores.groups.Statement.{statement}
+use Rattle.heartbeat.proofs.scores.groups.Tie as tie
+
+abbrev Inv-loop : tie.InvT-loop
+Inv-loop table r₀ s₀ r s = Built 0 (λ k. peerIn (stateOf table) k .group) slotCount s r
+
+abbrev μ-loop : tie.MeasureT-loop
+μ-loop table r₀ s₀ r s = slotCount - s
+
+cast-r : tie.Need-cast-r Inv-loop μ-loop
+cast-r c =
+    let l = c .before .before in
+    let fits = group-fits _ (l .before .before .pre .router) (l .loop .s) (omega arith) in
+    let e = c .load-group .ensures in
+    omega (arith, fits, e)
+
+loop-again : tie.Need-loop-again Inv-loop μ-loop
+loop-again c =
+    let l = c .before .before .loop in
+    built-more _ _ _ (l .s) (l .r) _ (omega arith) (l .inv) (c .load-group .ensures)
+
+pub groups-spec : {M : Type 1} → statement M
+groups-spec =
+    tie.close
+    (tie.spec
+    Inv-loop
+    μ-loop
+    (λ c. built-none _ _ _ _ refl)
+    (λ c κs. (c .before .before .before .pre .size, omega arith))
+    cast-r
+    (λ c. omega arith)
+    (λ c. omega arith)
+    (λ c. omega arith)
+    (λ c. omega arith)
+    loop-again
+    (λ c. let l = c .before .loop in slots-built _ _ _ (l .s) (l .r) (omega arith) (l .inv)))

@@ -1,0 +1,68 @@
+-- `heartbeat::scores::scores`: the loop builds the array from the front.
+use Rattle.index.proofs.Kit.{_-_, refl, arith}
+use Rattle.records.specs.Records.{slotCount}
+use Rattle.cells.specs.View.{stateOf}
+use Rattle.sets.proofs.Loops.{Built, built-none, built-more}
+use Rattle.sets.proofs.SlotLaws.{slots-built}
+use Rattle.rules.specs.Step.{heightIn}
+use Rattle.heartbeat.proofs.ScoresLaws.{sharing-along, sum-at}
+use Rattle.heartbeat.proofs.scores.scores.Statement.{statement}
+use Rattle.heartbeat.proofs.scores.scores.Tie as tie
+
+abbrev Inv-loop : tie.InvT-loop
+Inv-loop table g sums on names r₀ s₀ r s = Built 0 (heightIn (stateOf table)) slotCount s r
+
+abbrev μ-loop : tie.MeasureT-loop
+μ-loop table g sums on names r₀ s₀ r s = slotCount - s
+
+height-requires : tie.Need-height-requires Inv-loop μ-loop
+height-requires c κs =
+    let l = c .before .before .before .before .before in
+    let s = l .loop .s in
+    let h = c .before .before .before .before .loop-test .taken in
+    let n = l .before in
+    let o = n .before in
+    let t = o .before in
+    let g = t .before in (
+      g .before .before .pre,
+      (
+        h,
+        (
+          g .load-general .ensures,
+          (
+            sum-at _ 8 s _ h (t .topics .ensures),
+            sharing-along _ _ _ s _ h (o .connected .ensures) (n .groups .ensures) (c .sharing-of .ensures),
+          ),
+        ),
+      ),
+    )
+
+loop-again : tie.Need-loop-again Inv-loop μ-loop
+loop-again c =
+    let l = c .before .before .before .before .before .before .loop in
+    built-more _ _ _ (l .s) (l .r) _ (omega arith) (l .inv) (c .height .ensures)
+
+pub scores-spec : {M : Type 1} → statement M
+scores-spec =
+    tie.close
+    (tie.spec
+    Inv-loop
+    μ-loop
+    (λ c κs. c .before .pre .size)
+    (λ c κs. c .before .before .pre)
+    (λ c κs. c .before .before .before .pre .size)
+    (λ c κs. c .before .before .before .before .pre)
+    (λ c. built-none _ _ _ _ refl)
+    (λ c. omega arith)
+    (λ c. omega arith)
+    (λ c. omega arith)
+    (λ c. omega arith)
+    (λ c κs. tt)
+    (λ c. omega arith)
+    height-requires
+    (λ c. omega arith)
+    (λ c. omega arith)
+    (λ c. omega arith)
+    (λ c. omega arith)
+    loop-again
+    (λ c. let l = c .before .loop in slots-built _ _ _ (l .s) (l .r) (omega arith) (l .inv)))

@@ -1,0 +1,119 @@
+// The scores of all slots, as at the call's start. What the slots share is taken once: each topic's parameters, and the groups, in narrow
+// numbers side by side, so that several are compared at once.
+ghost use mathlib.Core.Path.{_≡_};
+ghost use mathlib.Core.Bool.{_&&_};
+ghost use Prim.Native.Nat.{_+_, _<_, _≤_};
+ghost use lib.Dec.{eqb};
+ghost use lib.ListN.{length, getD};
+ghost use Rattle.index.specs.Index.{count};
+ghost use Rattle.records.specs.Records.{slotCount, peerIn, isConnected};
+ghost use Rattle.cells.specs.View.{cellCount, stateOf};
+ghost use Rattle.score.specs.Sums.{sumOf};
+ghost use Rattle.score.specs.Score.{shareAt, sharing, scoreParamsIn};
+ghost use Rattle.sets.specs.Sets.{at, bySlot};
+ghost use Rattle.rules.specs.Step.{heightIn};
+ghost use Rattle.gate.specs.Ready.{Standing};
+use peer_score::load_general;
+use peer_score::load_params;
+use records::SLOTS;
+use records::TOPICS;
+use score::Balance;
+use score::ScoreParams;
+use score::sums;
+use score::topic::share;
+
+// Who is connected.
+fn connected(table: &[u64]) -> [bool; SLOTS]
+    requires { ⌜ length (now table) ≡ cellCount ⌝ }
+    ensures { λ r. ⌜ r ≡ bySlot slotCount (λ s. isConnected (peerIn (stateOf (now (table .entry))) s)) ⌝ }
+{
+    let mut r = [false; SLOTS];
+    for s in 0..SLOTS {
+        r[s] = cells::load_status(table, s) == 1;
+    }
+    r
+}
+
+// The groups.
+fn groups(table: &[u64]) -> [u32; SLOTS]
+    requires { ⌜ Standing (now table) ⌝ }
+    ensures { λ r. ⌜ r ≡ bySlot slotCount (λ s. peerIn (stateOf (now (table .entry))) s .group) ⌝ }
+{
+    let mut r: [u32; SLOTS] = [0; SLOTS];
+    for s in 0..SLOTS {
+        let group = cells::load_group(table, s);
+        r[s] = group as u32;
+    }
+    r
+}
+
+// How many of those connected are of the group.
+fn sharing_of(connected: &[bool; SLOTS], groups: &[u32; SLOTS], group: u32) -> u32
+    ensures { λ r. ⌜ r ≡ count slotCount (λ s. at (now (connected .entry)) s && eqb (getD (now (groups .entry)) s 0) group) ⌝ }
+{
+    let mut n: u32 = 0;
+    for s in 0..SLOTS {
+        if connected[s] & (groups[s] == group) {
+            n += 1;
+        }
+    }
+    n
+}
+
+// The sums of the topics before this one, with its shares.
+fn add_topic(table: &[u64], topic: usize, before: [Balance; SLOTS]) -> [Balance; SLOTS]
+    requires { ⌜ Standing (now table) × ((topic < 8) × (before ≡ bySlot slotCount (λ s. sumOf topic (shareAt (stateOf (now table)) s)))) ⌝ }
+    ensures { λ r. ⌜ r ≡ bySlot slotCount (λ s. sumOf (topic + 1) (shareAt (stateOf (now (table .entry))) s)) ⌝ }
+{
+    let params = load_params(table, topic);
+    let mut r = before;
+    for s in 0..SLOTS {
+        let b = before[s];
+        r[s] = sums::add(b, share(params, cells::load_topic(table, s * 8 + topic)));
+    }
+    r
+}
+
+// The shares of all topics, added.
+fn topics(table: &[u64]) -> [Balance; SLOTS]
+    requires { ⌜ Standing (now table) ⌝ }
+    ensures { λ r. ⌜ r ≡ bySlot slotCount (λ s. sumOf 8 (shareAt (stateOf (now (table .entry))) s)) ⌝ }
+{
+    let none = Balance { gain: 0, loss: 0 };
+    let mut r = [none; SLOTS];
+    let mut t: usize = 0;
+    while t < TOPICS {
+        let next = add_topic(table, t, r);
+        r = next;
+        t += 1;
+    }
+    r
+}
+
+// The score of the peer in a slot, moved up so that none is negative.
+fn height(table: &[u64], slot: usize, g: ScoreParams, topics: Balance, together: u64) -> u64
+    requires { ⌜ Standing (now table) × ((slot < 64) × ((g ≡ scoreParamsIn (stateOf (now table))) × ((topics ≡ sumOf 8 (shareAt (stateOf (now table)) slot)) × (together ≡ sharing (stateOf (now table)) (peerIn (stateOf (now table)) slot .group))))) ⌝ }
+    ensures { λ r. ⌜ r ≡ heightIn (stateOf (now (table .entry))) slot ⌝ }
+{
+    let p = cells::load_peer(table, slot);
+    sums::offset(sums::total(sums::parts(g, topics, p.p5, together, p.p7)))
+}
+
+// The scores.
+pub fn scores(table: &[u64]) -> [u64; SLOTS]
+    requires { ⌜ Standing (now table) ⌝ }
+    ensures { λ r. ⌜ r ≡ bySlot slotCount (heightIn (stateOf (now (table .entry)))) ⌝ }
+{
+    let g = load_general(table);
+    let sums = topics(table);
+    let on = connected(table);
+    let names = groups(table);
+    let mut r = [0; SLOTS];
+    for s in 0..SLOTS {
+        let topics = sums[s];
+        let group = names[s];
+        let together = sharing_of(&on, &names, group) as u64;
+        r[s] = height(table, s, g, topics, together);
+    }
+    r
+}
