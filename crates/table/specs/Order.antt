@@ -1,5 +1,5 @@
--- The parts of test 12's tests of a topic record in the order in which the code asks them. No rule stands here: each is a part of a
--- definition of Valid.antt, and together they are `topicOk` (proofs/OrderLaws.antt).
+-- The parts of test 12's tests of a topic record in the order in which the code asks them, and what its walks rely on. No rule stands here:
+-- each test is a part of a definition of Valid.antt, and together they are `topicOk` (proofs/OrderLaws.antt).
 use Prim.Native.Nat.{ℕ, _<_, _%_}
 use mathlib.Core.Path.{_≡_}
 use mathlib.Core.Bool.{Bool, true, false, _&&_}
