@@ -26,6 +26,11 @@ general-field i h = rw (lt-ltb i 19 h) refl
 pub topic-field : (k j : ℕ) → j < 16 → fieldOf (19 + 16 * k + j) ≡ 19 + j
 topic-field k j h = rw (le-ltb (19 + 16 * k + j) 19 (omega arith)) (omega arith)
 
+-- a row of the table
+pub limit-in : (t : List Limit) (f : ℕ) → t ≡ limits → getD t f (to (pos 0) (pos 0)) ≡ limitAt f
+unfolding limitAt
+limit-in t f e = ap (λ (u : List Limit). getD u f (to (pos 0) (pos 0))) e
+
 pub yes : (b : Bool) → b ≡ true → T b
 yes b e = subst T (sym e) tt
 

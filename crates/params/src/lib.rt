@@ -14,7 +14,7 @@ ghost use lib.Seq.{sets};
 ghost use lib.Signed.{leZ, ltZ};
 ghost use Rattle.index.specs.Index.{first, every};
 ghost use Rattle.groups.specs.Codes.{codeOf, numberOf};
-ghost use Rattle.params.specs.Limits.{to, fieldOf, limitAt, lies, inLimits, at};
+ghost use Rattle.params.specs.Limits.{to, limits, fieldOf, limitAt, lies, inLimits, at};
 ghost use Rattle.params.specs.Joint.{capRule, rule};
 ghost use Rattle.params.specs.Check.{outside, broken, firstBroken, acceptedCodes};
 ghost use Rattle.params.specs.Read.{parseFrom, outcome, refusal, judgedBy, readOf, frontOf};
@@ -180,13 +180,21 @@ fn field_of(i: usize) -> usize
     if i < 19 { i } else { 19 + (i - 19) % 16 }
 }
 
+// The table, taken by a call: the code that takes a constant is proved row by row, and so in one place.
+fn limits() -> [Limit; 35]
+    ensures { λ r. ⌜ r ≡ limits ⌝ }
+{
+    LIMITS
+}
+
 // The limits of number i.
 fn limit_of(i: usize) -> Limit
     requires { ⌜ i < 147 ⌝ }
     ensures { λ r. ⌜ r ≡ limitAt (fieldOf i) ⌝ }
 {
     let f = field_of(i);
-    LIMITS[f]
+    let table = limits();
+    table[f]
 }
 
 // Whether x lies between two limits.
@@ -445,15 +453,15 @@ fn code_lies(u: u64, low: i64, high: i64) -> bool
     between(low, groups::number_of(u), high)
 }
 
-// Whether the codes of the general numbers lie between their limits. The table is taken once: a constant is built anew at each use.
+// Whether the codes of the general numbers lie between their limits. The table is taken once: it is built anew at each use.
 fn general_lie(codes: &[u64]) -> bool
     requires { ⌜ length (now codes) ≡ 147 ⌝ }
     ensures { λ r. ⌜ r ≡ every 19 (inLimits (map numberOf (now (codes .entry)))) ⌝ }
 {
-    let limits = LIMITS;
+    let table = limits();
     let mut i: usize = 0;
     while i < 19 {
-        let l = limits[i];
+        let l = table[i];
         if !code_lies(codes[i], l.low, l.high) {
             return false;
         }
@@ -482,10 +490,10 @@ fn fields_lie(codes: &[u64]) -> bool
     requires { ⌜ length (now codes) ≡ 147 ⌝ }
     ensures { λ r. ⌜ r ≡ every 16 (λ j. every 8 (λ k. inLimits (map numberOf (now (codes .entry))) (19 + 16 * k + j))) ⌝ }
 {
-    let limits = LIMITS;
+    let table = limits();
     let mut j: usize = 0;
     while j < 16 {
-        let l = limits[19 + j];
+        let l = table[19 + j];
         if !field_lies(codes, j, l.low, l.high) {
             return false;
         }

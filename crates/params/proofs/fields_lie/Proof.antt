@@ -1,12 +1,13 @@
 -- `params::fields_lie`: after j turns the topics' first j numbers are between their limits. Assumes nothing.
 use Rattle.index.proofs.Kit.{_+_, _≤_, _-_, _≡_, arith, every, true}
 use borrow.Author.Needs.{needs}
-use mathlib.Core.Path.{refl, _∙_}
+use mathlib.Core.Path.{_∙_}
 use mathlib.Core.List.{map}
 use Rattle.index.proofs.Index.{every-loop, every-more, every-out}
 use Rattle.index.proofs.Flags.{failed, passed}
 use Rattle.groups.specs.Codes.{numberOf}
-use Rattle.params.specs.Limits.{inLimits, limits, limitAt}
+use Rattle.params.specs.Limits.{inLimits}
+use Rattle.params.proofs.LimitLaws.{limit-in}
 use Rattle.params.proofs.RowLaws.{field, field-is}
 use Rattle.params.proofs.fields_lie.Statement.{statement}
 use Rattle.params.proofs.fields_lie.Tie as tie
@@ -21,12 +22,11 @@ abbrev μ-loop : tie.MeasureT-loop
 told :
     (g : tie.After-field-lies Inv-loop μ-loop) →
     let l = g .before .before .before .before .before in
-    g .field-lies .result ≡ field (inLimits (map numberOf (l .before .before .args .codes .now))) (l .loop .j)
-unfolding limitAt limits
+    g .field-lies .result ≡ field (inLimits (map numberOf (l .before .before .before .args .codes .now))) (l .loop .j)
 told g =
     let l = g .before .before .before .before .before in
     let j = l .loop .j in
-    g .field-lies .ensures ∙ field-is (l .before .before .args .codes .now) j (limitAt (19 + j)) (g .before .before .before .before .loop-test .taken) refl
+    g .field-lies .ensures ∙ field-is (l .before .before .before .args .codes .now) j _ (g .before .before .before .before .loop-test .taken) (limit-in _ (19 + j) (l .before .limits .ensures))
 
 pub fields-lie-spec : {M : Type 1} → statement M
 fields-lie-spec =
@@ -34,6 +34,7 @@ fields-lie-spec =
     (tie.spec
     Inv-loop
     μ-loop
+    (λ c κs. search needs)
     (λ c. search (every-loop, needs))
     (λ c. omega arith)
     (λ c. omega arith)

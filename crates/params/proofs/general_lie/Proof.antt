@@ -2,15 +2,15 @@
 use Rattle.index.proofs.Kit.{_≤_, _-_, _≡_, arith, every, true}
 use borrow.Author.Needs.{needs}
 use borrow.Author.Tests.{lt-ltb}
-use mathlib.Core.Path.{refl, sym}
+use mathlib.Core.Path.{sym}
 use mathlib.Core.List.{map}
 use lib.ListN.{getD}
 use Rattle.index.proofs.Index.{every-loop, every-more, every-out}
 use Rattle.index.proofs.Flags.{failed, passed}
 use Rattle.groups.specs.Codes.{numberOf}
-use Rattle.params.specs.Limits.{inLimits, limits, limitAt}
+use Rattle.params.specs.Limits.{inLimits}
 use Rattle.params.proofs.FieldLaws.{code-in}
-use Rattle.params.proofs.LimitLaws.{general-field, lies-at}
+use Rattle.params.proofs.LimitLaws.{general-field, limit-in, lies-at}
 use Rattle.params.proofs.general_lie.Statement.{statement}
 use Rattle.params.proofs.general_lie.Tie as tie
 
@@ -24,14 +24,13 @@ abbrev μ-loop : tie.MeasureT-loop
 told :
     (g : tie.After-code-lies Inv-loop μ-loop) →
     let l = g .before .before .before .before .before .before in
-    g .code-lies .result ≡ inLimits (map numberOf (l .before .before .args .codes .now)) (l .loop .i)
-unfolding limitAt limits
+    g .code-lies .result ≡ inLimits (map numberOf (l .before .before .before .args .codes .now)) (l .loop .i)
 told g =
     let l = g .before .before .before .before .before .before in
     let i = l .loop .i in
-    let codes = l .before .before .args .codes .now in
+    let codes = l .before .before .before .args .codes .now in
     let h = g .before .before .before .before .before .loop-test .taken in
-    code-in codes i _ (lies-at (numberOf (getD codes i 0)) i i (limitAt i) _ refl (sym (general-field i h)) (g .code-lies .ensures))
+    code-in codes i _ (lies-at (numberOf (getD codes i 0)) i i _ _ (limit-in _ i (l .before .limits .ensures)) (sym (general-field i h)) (g .code-lies .ensures))
 
 pub general-lie-spec : {M : Type 1} → statement M
 general-lie-spec =
@@ -39,6 +38,7 @@ general-lie-spec =
     (tie.spec
     Inv-loop
     μ-loop
+    (λ c κs. search needs)
     (λ c. search (every-loop, needs))
     (λ c. omega arith)
     (λ c. omega arith)
