@@ -8,6 +8,12 @@ use Rattle.index.proofs.Index.{both}
 use Rattle.index.proofs.Flags.{all5}
 
 -- the parts of a conjunction that holds
+pub all3 : (a b c : Bool) → a && b && c ≡ true → (a ≡ true) × (b ≡ true) × (c ≡ true)
+all3 a b c p =
+    let q = both (a && b) c p in
+    let r = both a b (q .0) in
+    (r .0, r .1, q .1)
+
 pub all4 : (a b c d : Bool) → a && b && c && d ≡ true → (a ≡ true) × (b ≡ true) × (c ≡ true) × (d ≡ true)
 all4 a b c d p =
     let q = both (a && b && c) d p in

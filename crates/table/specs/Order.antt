@@ -7,8 +7,8 @@ use mathlib.Core.List.{List}
 use lib.Dec.{leb, eqb}
 use lib.ListN.{getD}
 use Rattle.records.specs.declared.TopicRecord.{TopicRecord}
-use Rattle.records.specs.Records.{State, topicCount}
-use Rattle.table.specs.Valid.{maxTime, emptyTopicOk, outsideOk, retainedOk, memberOk, timesOk, cap2, cap3}
+use Rattle.records.specs.Records.{State, topicCount, place, topicIn}
+use Rattle.table.specs.Valid.{maxTime, zeroTopic, emptyTopicOk, outsideOk, retainedOk, memberOk, timesOk, cap2, cap3}
 
 -- the ranges of the counters, and of the flags and times
 unfoldable pub counterRanges : (cap2 cap3 : ℕ) → TopicRecord → Bool
@@ -17,14 +17,22 @@ counterRanges cap2 cap3 t = leb (t .p2) cap2 && leb (t .p3) cap3 && leb (t .p4) 
 unfoldable pub flagRanges : TopicRecord → Bool
 flagRanges t = leb (t .subscribed) 1 && leb (t .member) 1 && leb (t .graft) maxTime && leb (t .mesh) maxTime
 
--- what is left to ask of a record outside the mesh: its times are 0, so they need no range
-unfoldable pub outsideFlags : TopicRecord → Bool
-outsideFlags t = leb (t .subscribed) 1 && (eqb (t .graft) 0 && eqb (t .mesh) 0)
-
 -- all but the ranges
 unfoldable pub restOk : (status explicit joined clock : ℕ) → TopicRecord → Bool
 restOk status explicit joined clock t =
     emptyTopicOk status t && outsideOk t && retainedOk status t && memberOk status explicit joined t && timesOk clock t
+
+-- the ranges that depend on no parameter, of what most records hold little of
+unfoldable pub smallOk : TopicRecord → Bool
+smallOk t = leb (t .p4) 1000000 && leb (t .p3b) 1000000000000 && leb (t .subscribed) 1
+
+-- of a slot's record for every topic
+abbrev pub Small : State → ℕ → Type 0
+Small st s = (t : ℕ) → t < topicCount → smallOk (topicIn st (place s t)) ≡ true
+
+-- topic t of an empty slot
+unfoldable pub zeroTopicAt : State → (s t : ℕ) → Bool
+zeroTopicAt st s t = zeroTopic (topicIn st (place s t))
 
 -- the caps of P2 and P3, by topic
 pub record Caps (st : State) (caps2 caps3 : List ℕ) : Type 0 where

@@ -12,5 +12,9 @@ slot-ok-spec =
     let s = c .before .before .before in
     (s .pre .0, (s .pre .1 .0, (s .pre .1 .1, sym (c .before .load-status .ensures) ∙ c .if1 .taken))))
     (λ c. search needs)
+    (λ c κs.
+    let s = c .before .before .before .before in
+    (s .pre .0, (s .pre .1 .0, sym (c .before .before .load-status .ensures) ∙ c .if2 .taken)))
+    (λ c. search needs)
     (λ c κs. search needs)
     (λ c. search needs))

@@ -1,6 +1,6 @@
--- `table::valid::connected_topics`: after t turns the records of the topics below t are right. Assumes nothing.
+-- `table::valid::small_topics`: after t turns the records of the topics below t are right. Assumes nothing.
 use Prim.Native.Nat.{_≤_, _-_}
-use mathlib.Core.Path.{_≡_}
+use mathlib.Core.Path.{_≡_, ap, _∙_}
 use mathlib.Core.Bool.{true}
 use native.Mathlib.Omega.{arith}
 use borrow.Author.Needs.{needs}
@@ -10,9 +10,10 @@ use Rattle.index.proofs.Flags.{failed, passed}
 use Rattle.records.specs.Records.{topicCount}
 use Rattle.cells.specs.View.{stateOf}
 use Rattle.table.specs.Valid.{topicOkAt}
+use Rattle.table.specs.Order.{smallOk}
 use Rattle.table.proofs.OrderLaws.{topic-told}
-use Rattle.table.proofs.valid.connected_topics.Statement.{statement}
-use Rattle.table.proofs.valid.connected_topics.Tie as tie
+use Rattle.table.proofs.valid.small_topics.Statement.{statement}
+use Rattle.table.proofs.valid.small_topics.Tie as tie
 
 abbrev Inv-loop : tie.InvT-loop
 Inv-loop table caps2 caps3 slot explicit clock t₀ t = (t ≤ topicCount) × (every t (topicOkAt (stateOf table) slot 1 explicit) ≡ true)
@@ -22,16 +23,16 @@ abbrev μ-loop : tie.MeasureT-loop
 
 -- the record of the topic at hand
 told :
-    (g : tie.After-connected-topic-ok Inv-loop μ-loop) →
+    (g : tie.After-small-topic-ok Inv-loop μ-loop) →
     let l = g .before .before .before .before .before .before in
     let s = l .before .before .before in
-    g .connected-topic-ok .result ≡ topicOkAt (stateOf (s .args .table .now)) (s .args .slot) 1 (s .args .explicit) (l .loop .t)
+    g .small-topic-ok .result ≡ topicOkAt (stateOf (s .args .table .now)) (s .args .slot) 1 (s .args .explicit) (l .loop .t)
 told g =
     let t = g .before .before .before in
     let s = t .before .before .before .before .before .before in
-    topic-told _ _ _ _ _ _ _ _ _ _ (g .connected-topic-ok .ensures) (t .before .load-joined .ensures) (t .before .before .before .before .load-clock .ensures)
-    (s .pre .1 .1 .p2 _ (omega arith))
-    (s .pre .1 .1 .p3 _ (omega arith))
+    topic-told _ _ _ _ _ _ _ _ _ _ (g .small-topic-ok .ensures) (t .before .load-joined .ensures) (t .before .before .before .before .load-clock .ensures)
+    (s .pre .1 .1 .0 .p2 _ (omega arith))
+    (s .pre .1 .1 .0 .p3 _ (omega arith))
     (t .load-topic .ensures)
 
 returns : tie.Need-returns Inv-loop μ-loop
@@ -41,8 +42,8 @@ loop-again : tie.Need-loop-again Inv-loop μ-loop
 loop-again c =
     (omega arith, every-more _ _ (c .before .before .before .before .before .before .before .loop .inv .1) (passed (told (c .before)) (c .if1 .left)))
 
-pub connected-topics-spec : {M : Type 1} → statement M
-connected-topics-spec =
+pub small-topics-spec : {M : Type 1} → statement M
+small-topics-spec =
     tie.close
     (tie.spec
     Inv-loop
@@ -57,7 +58,9 @@ connected-topics-spec =
     (λ c. search needs)
     (λ c. search needs)
     (λ c. search needs)
-    (λ c κs. search needs)
+    (λ c κs.
+    let t = c .before .before in
+    ap smallOk (t .load-topic .ensures) ∙ t .before .before .before .before .before .before .pre .1 .1 .1 _ (omega arith))
     returns
     (λ c. search needs)
     (λ c. search needs)
