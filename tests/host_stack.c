@@ -1,0 +1,123 @@
+/*
+ * How much stack each call takes: it is made on a stack that was filled with a mark, and the bytes that lost it are counted. The
+ * proofs do not speak of the stack, so this is measured; a call that takes more than MOST fails the test.
+ */
+#define _XOPEN_SOURCE 700 /* for ucontext.h */
+#include "hivepadlet.h"
+
+#include <stdio.h>
+#include <string.h>
+#include <ucontext.h>
+
+enum { SIZE = 1 << 18, MOST = 1 << 14, MARK = 0xa5, PEERS = 50 };
+
+static _Alignas(64) uint8_t stack[SIZE];
+static ucontext_t home, there;
+static uint64_t table[HIVEPADLET_CELLS], fresh_table[HIVEPADLET_CELLS];
+static uint32_t actions[HIVEPADLET_ACTION_NUMBERS];
+static int64_t numbers[HIVEPADLET_NUMBERS], score;
+static uint64_t permutation[HIVEPADLET_SLOTS];
+static uint8_t bytes[HIVEPADLET_PARAMETER_BYTES];
+static uint64_t answer;
+
+#define LIST actions, HIVEPADLET_ACTION_NUMBERS
+#define NAME (const uint8_t *)"/meshsub/1.1.0", 14
+
+static void nothing(void) { answer = 0; }
+static void connect(void) { answer = hivepadlet_connect(table, 1, PEERS + 1, 1, 1, NAME, LIST); }
+static void subscribe(void) { answer = hivepadlet_subscribe(table, 1, PEERS + 1, 0, LIST); }
+static void graft(void) { answer = hivepadlet_graft(table, 1, PEERS + 1, 0, LIST); }
+static void deliver(void) { answer = hivepadlet_deliver(table, 1, PEERS + 1, 0, 1, LIST); }
+static void prune(void) { answer = hivepadlet_prune(table, 1, PEERS + 1, 0, 60, LIST); }
+static void unsubscribe(void) { answer = hivepadlet_unsubscribe(table, 1, PEERS + 1, 0, LIST); }
+static void rate(void) { answer = hivepadlet_rate(table, 1, PEERS + 1, 5, LIST); }
+static void scored(void) { answer = hivepadlet_score(table, 1, PEERS + 1, &score, LIST); }
+static void disconnect(void) { answer = hivepadlet_disconnect(table, 1, PEERS + 1, LIST); }
+static void join(void) { answer = hivepadlet_join(table, 1, 1, LIST); }
+static void heartbeat(void) { answer = hivepadlet_heartbeat(table, 1, 0, 1, permutation, HIVEPADLET_SLOTS, LIST); }
+static void decay(void) { answer = hivepadlet_decay(table, 1, LIST); }
+static void leave(void) { answer = hivepadlet_leave(table, 1, 0, LIST); }
+static void is_router(void) { answer = hivepadlet_is_router(table) ? 0 : HIVEPADLET_NOT_ROUTER; }
+static void fresh(void) { answer = hivepadlet_fresh(numbers, fresh_table); }
+static void written(void) { answer = hivepadlet_write(numbers, bytes, sizeof bytes); }
+static void read_back(void) { answer = hivepadlet_read(bytes, hivepadlet_value(answer), numbers); }
+
+static const struct {
+    const char *name;
+    void (*call)(void);
+} calls[] = {
+    {"nothing", nothing},
+    {"connect", connect},
+    {"subscribe", subscribe},
+    {"GRAFT in", graft},
+    {"delivery", deliver},
+    {"PRUNE in", prune},
+    {"GRAFT too early", graft},
+    {"unsubscribe", unsubscribe},
+    {"setting P5", rate},
+    {"score", scored},
+    {"disconnect", disconnect},
+    {"join", join},
+    {"heartbeat", heartbeat},
+    {"decay", decay},
+    {"leave", leave},
+    {"test 12", is_router},
+    {"a fresh router", fresh},
+    {"parameters written", written},
+    {"parameters read", read_back},
+};
+
+/* a router with a mesh far over D_hi, so that a heartbeat has all to do */
+static void prepare(void)
+{
+    uint64_t id;
+
+    hivepadlet_ordinary(numbers);
+    hivepadlet_fresh(numbers, table);
+    hivepadlet_join(table, 0, 0, LIST);
+    for (id = 1; id <= PEERS; id++) {
+        hivepadlet_connect(table, 0, id, id, 1, NAME, LIST);
+        hivepadlet_subscribe(table, 0, id, 0, LIST);
+        hivepadlet_graft(table, 0, id, 0, LIST);
+    }
+    for (id = 0; id < HIVEPADLET_SLOTS; id++)
+        permutation[id] = HIVEPADLET_SLOTS - 1 - id;
+}
+
+/* the bytes of stack that a call takes, with what making it takes */
+static size_t taken(void (*call)(void))
+{
+    size_t left = 0;
+
+    memset(stack, MARK, SIZE);
+    getcontext(&there);
+    there.uc_stack.ss_sp = stack;
+    there.uc_stack.ss_size = SIZE;
+    there.uc_link = &home;
+    makecontext(&there, call, 0);
+    swapcontext(&home, &there);
+    while (left < SIZE && stack[left] == MARK)
+        left++;
+    return SIZE - left;
+}
+
+int main(void)
+{
+    size_t k, used, own = 0, failed = 0;
+
+    prepare();
+    for (k = 0; k < sizeof calls / sizeof calls[0]; k++) {
+        used = taken(calls[k].call);
+        if (k == 0) {
+            own = used;
+            continue;
+        }
+        used -= own;
+        printf("%-20s%6zu bytes of stack\n", calls[k].name, used);
+        if (hivepadlet_number(answer) != HIVEPADLET_DONE || used > MOST) {
+            printf("%s: answer %u, %zu bytes\n", calls[k].name, hivepadlet_number(answer), used);
+            failed++;
+        }
+    }
+    return failed != 0;
+}
