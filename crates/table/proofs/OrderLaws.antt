@@ -9,16 +9,17 @@ use mathlib.Core.Bool.{Bool, true, false, not, _&&_, _||_, and-false}
 use lib.Dec.{eqb, leb, leb·zero}
 use lib.ListN.{getD}
 use lib.Bits.{bitOr, or-add-and, and-le-l, and-le-r}
-use borrow.Author.Tests.{eqb-true, le-leb, lt-leb, leb-true}
+use borrow.Author.Tests.{eqb-true, eqb-false, le-leb, lt-leb, leb-true}
 use Rattle.index.specs.Index.{every}
-use Rattle.index.proofs.Index.{every-at, every-by, every-same}
+use Rattle.index.proofs.Index.{both, every-at, every-by, every-same}
 use Rattle.index.proofs.Flags.{by-test, by-order}
-use Rattle.records.specs.Records.{State, topicCount, place, joinedIn, peerIn, topicIn}
+use Rattle.params.specs.Check.{acceptedCodes}
+use Rattle.records.specs.Records.{State, slotCount, topicCount, place, joinedIn, peerIn, topicIn}
 use Rattle.records.specs.declared.Peer.{Peer}
 use Rattle.records.specs.declared.TopicRecord.{TopicRecord}
-use Rattle.table.specs.Valid.{maxTime, maxEnd, peerRanges, endsUpTo, idOk, zeroPeer, emptyOk, retainOk, peerOk, zeroTopic, topicRanges, emptyTopicOk, outsideOk, retainedOk, memberOk, timesOk, topicOk, topicOkAt, cap2, cap3, slotOk}
+use Rattle.table.specs.Valid.{maxTime, maxEnd, peerRanges, endsUpTo, idOk, zeroPeer, emptyOk, retainOk, peerOk, zeroTopic, topicRanges, emptyTopicOk, outsideOk, retainedOk, memberOk, timesOk, topicOk, topicOkAt, cap2, cap3, joinedOk, slotOk, newId, valid}
 use Rattle.table.specs.Order.{counterRanges, flagRanges, restOk, smallOk, Small, zeroTopicAt}
-use Rattle.table.proofs.Conditions.{all3, all8, all9}
+use Rattle.table.proofs.Conditions.{all3, all4, all8, all9}
 
 -- ---- the ranges, one after the other
 module _ (cap2 cap3 : ℕ) (t : TopicRecord) where
@@ -118,30 +119,95 @@ module _ (f : ℕ → ℕ) where
       rw e (in-right (union f n) (f n)))
 
 -- ---- a connected peer's record for a topic, with the ranges of `smallOk`
+-- a test of `restOk` that fails
+second : (a c d e : Bool) → a && false && c && d && e ≡ false
+second true c d e = refl
+second false c d e = refl
+
+fourth : (a b c e : Bool) → a && b && c && false && e ≡ false
+fourth true true true e = refl
+fourth true true false e = refl
+fourth true false c e = refl
+fourth false b c e = refl
+
 module _ (explicit joined clock cap2 cap3 : ℕ) (t : TopicRecord) where
+  rest-fails : restOk 1 explicit joined clock t ≡ false → false ≡ topicOk 1 explicit joined clock cap2 cap3 t
+  rest-fails e = sym (parts 1 explicit joined clock cap2 cap3 t ∙ rw e (and-false (counterRanges cap2 cap3 t && flagRanges t)))
+
   pub p2-fails : cap2 < t .p2 → false ≡ topicOk 1 explicit joined clock cap2 cap3 t
   p2-fails h = counters-fail 1 explicit joined clock cap2 cap3 t (sym (p2-over cap2 cap3 t h))
 
   pub p3-fails : t .p2 ≤ cap2 → cap3 < t .p3 → false ≡ topicOk 1 explicit joined clock cap2 cap3 t
   p3-fails a h = counters-fail 1 explicit joined clock cap2 cap3 t (sym (p3-over cap2 cap3 t a h))
 
-  -- outside the mesh
-  pub outside-is :
-      smallOk t ≡ true →
-      t .p2 ≤ cap2 →
-      t .p3 ≤ cap3 →
-      bitOr (bitOr (t .member) (t .graft)) (t .mesh) ≡ 0 →
-      true ≡ topicOk 1 explicit joined clock cap2 cap3 t
-  unfolding smallOk counterRanges flagRanges restOk emptyTopicOk outsideOk retainedOk memberOk timesOk
-  outside-is small a b z =
-      let q = all3 (leb (t .p4) 1000000) (leb (t .p3b) 1000000000000) (leb (t .subscribed) 1) small in
-      let l = in-left (bitOr (t .member) (t .graft)) (t .mesh) in
-      let em : t .member ≡ 0 = omega (arith, in-left (t .member) (t .graft), l, z) in
-      let eg : t .graft ≡ 0 = omega (arith, in-right (t .member) (t .graft), l, z) in
-      let es : t .mesh ≡ 0 = omega (arith, in-right (bitOr (t .member) (t .graft)) (t .mesh), z) in
-      let c : counterRanges cap2 cap3 t ≡ true = rw (le-leb (t .p2) cap2 a, le-leb (t .p3) cap3 b, q .0, q .1) refl in
-      let f : flagRanges t ≡ true = rw (q .2, em, eg, es) refl in
-      rest-is 1 explicit joined clock cap2 cap3 t c f true (rw (em, eg, es, leb·zero clock) refl)
+  module _ (small : smallOk t ≡ true) (a : t .p2 ≤ cap2) (b : t .p3 ≤ cap3) where
+    known : (counterRanges cap2 cap3 t ≡ true) × (leb (t .subscribed) 1 ≡ true)
+    unfolding smallOk counterRanges
+    known =
+        let q = all3 (leb (t .p4) 1000000) (leb (t .p3b) 1000000000000) (leb (t .subscribed) 1) small in
+        (rw (le-leb (t .p2) cap2 a, le-leb (t .p3) cap3 b, q .0, q .1) refl, q .2)
+
+    -- outside the mesh
+    pub outside-is : bitOr (bitOr (t .member) (t .graft)) (t .mesh) ≡ 0 → true ≡ topicOk 1 explicit joined clock cap2 cap3 t
+    unfolding flagRanges restOk emptyTopicOk outsideOk retainedOk memberOk timesOk
+    outside-is z =
+        let l = in-left (bitOr (t .member) (t .graft)) (t .mesh) in
+        let em : t .member ≡ 0 = omega (arith, in-left (t .member) (t .graft), l, z) in
+        let eg : t .graft ≡ 0 = omega (arith, in-right (t .member) (t .graft), l, z) in
+        let es : t .mesh ≡ 0 = omega (arith, in-right (bitOr (t .member) (t .graft)) (t .mesh), z) in
+        let f : flagRanges t ≡ true = rw (known .1, em, eg, es) refl in
+        rest-is 1 explicit joined clock cap2 cap3 t (known .0) f true (rw (em, eg, es, leb·zero clock) refl)
+
+    -- in it
+    pub inside-is :
+        clock ≤ maxTime →
+        eqb (t .member) 1 && eqb (t .subscribed) 1 && eqb explicit 0 && eqb joined 1 ≡ true →
+        (r : Bool) →
+        r ≡ leb (t .graft + t .mesh) clock →
+        r ≡ topicOk 1 explicit joined clock cap2 cap3 t
+    unfolding flagRanges restOk emptyTopicOk outsideOk retainedOk memberOk timesOk
+    inside-is l e r er =
+        let q = all4 (eqb (t .member) 1) (eqb (t .subscribed) 1) (eqb explicit 0) (eqb joined 1) e in
+        let P : Type 0 = leb (t .graft + t .mesh) clock ≡ topicOk 1 explicit joined clock cap2 cap3 t in
+        let rest : restOk 1 explicit joined clock t ≡ leb (t .graft + t .mesh) clock = rw (q .0, q .1, q .2, q .3) refl in
+        er
+        ∙ by-test P (leb (t .graft + t .mesh) clock)
+        (λ y.
+        let h = leb-true (t .graft + t .mesh) clock y in
+        let f : flagRanges t ≡ true = rw (known .1, eqb-true (t .member) 1 (q .0), le-leb (t .graft) maxTime (omega arith), le-leb (t .mesh) maxTime (omega arith)) refl in
+        rest-is 1 explicit joined clock cap2 cap3 t (known .0) f (leb (t .graft + t .mesh) clock) (sym rest))
+        (λ n. n ∙ rest-fails (rest ∙ n))
+
+  -- neither: times without membership, or a member that may not be one
+  pub neither :
+      (bitOr (bitOr (t .member) (t .graft)) (t .mesh) ≡ 0 → ⊥) →
+      eqb (t .member) 1 && eqb (t .subscribed) 1 && eqb explicit 0 && eqb joined 1 ≡ false →
+      false ≡ topicOk 1 explicit joined clock cap2 cap3 t
+  unfolding flagRanges restOk outsideOk memberOk
+  neither n e =
+      let P : Type 0 = false ≡ topicOk 1 explicit joined clock cap2 cap3 t in
+      by-test P (eqb (t .member) 1)
+      (λ m.
+      let f : memberOk 1 explicit joined t ≡ false = rw m (sym (rw m refl) ∙ e) in
+      rest-fails (rw f (fourth (emptyTopicOk 1 t) (outsideOk t) (retainedOk 1 t) (timesOk clock t))))
+      (λ m.
+      by-test P (eqb (t .graft) 0 && eqb (t .mesh) 0)
+      (λ z.
+      let w = both (eqb (t .graft) 0) (eqb (t .mesh) 0) z in
+      let x = eqb-true (t .graft) 0 (w .0) in
+      let y = eqb-true (t .mesh) 0 (w .1) in
+      by-test P (leb (t .member) 1)
+      (λ o.
+      let l = leb-true (t .member) 1 o in
+      let d = eqb-false (t .member) 1 m in
+      let em : t .member ≡ 0 = omega arith in
+      absurd (n (rw (em, x, y) refl)))
+      (λ o.
+      let f : flagRanges t ≡ false = rw o (ap (λ (b : Bool). b && leb (t .graft) maxTime && leb (t .mesh) maxTime) (and-false (leb (t .subscribed) 1))) in
+      sym (parts 1 explicit joined clock cap2 cap3 t ∙ rw f (ap (λ (b : Bool). b && restOk 1 explicit joined clock t) (and-false (counterRanges cap2 cap3 t))))))
+      (λ z.
+      let f : outsideOk t ≡ false = rw (m, z) refl in
+      rest-fails (rw f (second (emptyTopicOk 1 t) (retainedOk 1 t) (memberOk 1 explicit joined t) (timesOk clock t)))))
 
 -- the three kinds of a slot, each by the union of its bits
 module _ (st : State) (s : ℕ) where
@@ -149,39 +215,39 @@ module _ (st : State) (s : ℕ) where
       (n a b c : ℕ) →
       topicCount ≤ n →
       n ≤ topicCount →
+      union (λ t. getD (peerIn st s .backoff) t 0) 8 ≤ maxEnd →
       a ≡ union (λ k. topicIn st (place s k) .p4) n →
       b ≡ union (λ k. topicIn st (place s k) .p3b) n →
       c ≡ union (λ k. topicIn st (place s k) .subscribed) n →
       leb a 1000000 && leb b 1000000000000 && leb c 1 ≡ true →
       Small st s
-  unfolding smallOk
-  small-all n a b c l m ea eb ec e t h =
+  unfolding smallOk endsUpTo
+  small-all n a b c l m ends ea eb ec e =
       let q = all3 (leb a 1000000) (leb b 1000000000000) (leb c 1) e in
-      let r = topicIn st (place s t) in
       let x = leb-true a 1000000 (q .0) in
       let y = leb-true b 1000000000000 (q .1) in
       let z = leb-true c 1 (q .2) in
-      let i : t < n = omega arith in
-      let u = under-union (λ k. topicIn st (place s k) .p4) n t i in
-      let v = under-union (λ k. topicIn st (place s k) .p3b) n t i in
-      let w = under-union (λ k. topicIn st (place s k) .subscribed) n t i in
-      rw (le-leb (r .p4) 1000000 (omega arith), le-leb (r .p3b) 1000000000000 (omega arith), le-leb (r .subscribed) 1 (omega arith)) refl
+      record {
+        ends = every-by (λ t. leb (getD (peerIn st s .backoff) t 0) maxEnd) 8 (λ t h. le-leb _ maxEnd (le-trans (under-union (λ k. getD (peerIn st s .backoff) k 0) 8 t h) ends));
+        topics = λ t h.
+            let r = topicIn st (place s t) in
+            let i : t < n = omega arith in
+            let u = under-union (λ k. topicIn st (place s k) .p4) n t i in
+            let v = under-union (λ k. topicIn st (place s k) .p3b) n t i in
+            let w = under-union (λ k. topicIn st (place s k) .subscribed) n t i in
+            rw (le-leb (r .p4) 1000000 (omega arith), le-leb (r .p3b) 1000000000000 (omega arith), le-leb (r .subscribed) 1 (omega arith)) refl;
+      }
 
 -- ---- a connected peer's record
 module _ (p : Peer) where
-  pub ends-in : union (λ t. getD (p .backoff) t 0) 8 ≤ maxEnd → true ≡ endsUpTo maxEnd p
-  unfolding endsUpTo
-  ends-in l =
-      sym (every-by (λ t. leb (getD (p .backoff) t 0) maxEnd) 8 (λ t h. le-leb _ maxEnd (le-trans (under-union (λ k. getD (p .backoff) k 0) 8 t h) l)))
-
   module _ (on : p .status ≡ 1) where
-    known : (idOk p ≡ leb 1 (p .id)) × (emptyOk p ≡ true) × (retainOk p ≡ eqb (p .retain) 0)
+    parts-on : (idOk p ≡ leb 1 (p .id)) × (emptyOk p ≡ true) × (retainOk p ≡ eqb (p .retain) 0)
     unfolding idOk emptyOk retainOk
-    known = (rw on refl, rw on refl, rw on refl)
+    parts-on = (rw on refl, rw on refl, rw on refl)
 
     turned : peerOk p ≡ ((leb 1 (p .id) && eqb (p .retain) 0) && endsUpTo maxEnd p) && peerRanges p
     unfolding peerOk
-    turned = rw (known .0, known .1, known .2) (turn (peerRanges p) (endsUpTo maxEnd p) (leb 1 (p .id)) (eqb (p .retain) 0))
+    turned = rw (parts-on .0, parts-on .1, parts-on .2) (turn (peerRanges p) (endsUpTo maxEnd p) (leb 1 (p .id)) (eqb (p .retain) 0))
       where
         turn : (a b c d : Bool) → a && b && c && true && d ≡ ((c && d) && b) && a
         turn true true true true = refl
@@ -194,9 +260,6 @@ module _ (p : Peer) where
 
     pub id-fails : leb 1 (p .id) && eqb (p .retain) 0 ≡ false → false ≡ peerOk p
     id-fails e = sym (turned ∙ rw e refl)
-
-    pub ends-fail : leb 1 (p .id) && eqb (p .retain) 0 ≡ true → endsUpTo maxEnd p ≡ false → false ≡ peerOk p
-    ends-fail a e = sym (turned ∙ rw (a, e) refl)
 
     pub ranges-are : leb 1 (p .id) && eqb (p .retain) 0 ≡ true → endsUpTo maxEnd p ≡ true → (r : Bool) → r ≡ peerRanges p → r ≡ peerOk p
     ranges-are a e r er = er ∙ sym (turned ∙ rw (a, e) refl)
@@ -290,3 +353,25 @@ module _ (st : State) (s : ℕ) where
 
   pub zero-fails : peerIn st s .status ≡ 0 → zeroPeer (peerIn st s) ≡ false → false ≡ slotOk st s
   zero-fails none e = peer-fails (zero-is (peerIn st s) none ∙ e)
+
+-- ---- the tables, the clock asked first
+module _ (st : State) where
+  pub clock-fails : maxTime < st .clock → false ≡ valid st
+  unfolding valid
+  clock-fails h =
+      sym (rw (lt-leb (st .clock) maxTime h) (second (acceptedCodes (st .codes)) (every topicCount (joinedOk st)) (every slotCount (slotOk st)) (every slotCount (newId st))))
+
+  pub clock-passes :
+      st .clock ≤ maxTime →
+      (p j s i : Bool) →
+      p ≡ acceptedCodes (st .codes) →
+      j ≡ every topicCount (joinedOk st) →
+      s ≡ every slotCount (slotOk st) →
+      i ≡ every slotCount (newId st) →
+      p && j && s && i ≡ valid st
+  unfolding valid
+  clock-passes h p j s i ep ej es ei = rw (ep, ej, es, ei, le-leb (st .clock) maxTime h) (pass (acceptedCodes (st .codes)) _ _ _)
+    where
+      pass : (p j s i : Bool) → p && j && s && i ≡ p && true && j && s && i
+      pass true j s i = refl
+      pass false j s i = refl

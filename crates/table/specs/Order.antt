@@ -7,8 +7,8 @@ use mathlib.Core.List.{List}
 use lib.Dec.{leb, eqb}
 use lib.ListN.{getD}
 use Rattle.records.specs.declared.TopicRecord.{TopicRecord}
-use Rattle.records.specs.Records.{State, topicCount, place, topicIn}
-use Rattle.table.specs.Valid.{maxTime, zeroTopic, emptyTopicOk, outsideOk, retainedOk, memberOk, timesOk, cap2, cap3}
+use Rattle.records.specs.Records.{State, topicCount, place, peerIn, topicIn}
+use Rattle.table.specs.Valid.{maxTime, maxEnd, endsUpTo, zeroTopic, emptyTopicOk, outsideOk, retainedOk, memberOk, timesOk, cap2, cap3}
 
 -- the ranges of the counters, and of the flags and times
 unfoldable pub counterRanges : (cap2 cap3 : ℕ) → TopicRecord → Bool
@@ -26,9 +26,10 @@ restOk status explicit joined clock t =
 unfoldable pub smallOk : TopicRecord → Bool
 smallOk t = leb (t .p4) 1000000 && leb (t .p3b) 1000000000000 && leb (t .subscribed) 1
 
--- of a slot's record for every topic
-abbrev pub Small : State → ℕ → Type 0
-Small st s = (t : ℕ) → t < topicCount → smallOk (topicIn st (place s t)) ≡ true
+-- of a slot: its backoff ends, and its record for every topic
+pub record Small (st : State) (s : ℕ) : Type 0 where
+  pub ends : endsUpTo maxEnd (peerIn st s) ≡ true
+  pub topics : (t : ℕ) → t < topicCount → smallOk (topicIn st (place s t)) ≡ true
 
 -- topic t of an empty slot
 unfoldable pub zeroTopicAt : State → (s t : ℕ) → Bool

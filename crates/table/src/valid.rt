@@ -3,14 +3,14 @@
 // definitions are specs/Valid.antt, in 01's order, and specs/Order.antt.
 ghost use mathlib.Core.Path.{_≡_};
 ghost use mathlib.Core.Bool.{true};
-ghost use Prim.Native.Nat.{ℕ, _+_, _<_};
+ghost use Prim.Native.Nat.{ℕ, _+_, _<_, _≤_};
 ghost use lib.ListN.{length, getD};
 ghost use lib.Dec.{leb};
 ghost use Rattle.index.specs.Index.{every};
 ghost use Rattle.records.specs.Records.{peerIn, slotCount, topicCount};
 ghost use Rattle.cells.specs.View.{stateOf, cellCount};
 ghost use Rattle.table.specs.Order.{counterRanges, flagRanges, restOk, smallOk, Small, zeroTopicAt, Caps};
-ghost use Rattle.table.specs.Valid.{maxEnd, peerRanges, endsUpTo, zeroPeer, peerOk, zeroTopic, memberOk, topicOk, topicParam, joinedOk, topicOkAt, slotOk, valid};
+ghost use Rattle.table.specs.Valid.{maxTime, maxEnd, peerRanges, endsUpTo, zeroPeer, peerOk, zeroTopic, memberOk, topicOk, topicParam, joinedOk, topicOkAt, slotOk, valid};
 use crate::ids::ids_distinct;
 use records::Peer;
 use records::SLOTS;
@@ -81,27 +81,12 @@ fn zero_peer(p: Peer) -> bool
         & ends
 }
 
-// Whether each backoff end is at most the greatest. No number is above the union of its bits with others', and that is nearly always small
-// enough, so one test does for eight.
-fn ends_ok(p: Peer) -> bool
-    ensures { λ r. ⌜ r ≡ endsUpTo maxEnd p ⌝ }
-{
-    let b = p.backoff;
-    if (b[0] | b[1] | b[2] | b[3] | b[4] | b[5] | b[6] | b[7]) <= MAX_END {
-        return true;
-    }
-    ends_up_to(MAX_END, p)
-}
-
-// A connected peer's record.
+// A connected peer's record, its backoff ends apart.
 fn connected_ok(p: Peer) -> bool
-    requires { ⌜ p .status ≡ 1 ⌝ }
+    requires { ⌜ (p .status ≡ 1) × (endsUpTo maxEnd p ≡ true) ⌝ }
     ensures { λ r. ⌜ r ≡ peerOk p ⌝ }
 {
     if !((1 <= p.id) & (p.retain == 0)) {
-        return false;
-    }
-    if !ends_ok(p) {
         return false;
     }
     peer_ranges(p)
@@ -215,8 +200,8 @@ fn topic_ok(
     rest_ok(status, explicit, joined, clock, t)
 }
 
-// A connected peer's record for a topic, where the ranges that depend on nothing are known (`is_small`): outside the mesh, as most are, the
-// caps are all that is left to ask.
+// A connected peer's record for a topic, where the ranges that depend on no parameter are known (`is_small`): outside the mesh, as most are,
+// the caps are all that is left to ask.
 fn small_topic_ok(
     explicit: u64,
     joined: u64,
@@ -225,7 +210,7 @@ fn small_topic_ok(
     cap3: u64,
     t: TopicRecord,
 ) -> bool
-    requires { ⌜ smallOk t ≡ true ⌝ }
+    requires { ⌜ (smallOk t ≡ true) × (clock ≤ maxTime) ⌝ }
     ensures { λ r. ⌜ r ≡ topicOk 1 explicit joined clock cap2 cap3 t ⌝ }
 {
     if cap2 < t.p2 {
@@ -237,7 +222,10 @@ fn small_topic_ok(
     if (t.member | t.graft | t.mesh) == 0 {
         return true;
     }
-    topic_ok(1, explicit, joined, clock, cap2, cap3, t)
+    if !((t.member == 1) & (t.subscribed == 1) & (explicit == 0) & (joined == 1)) {
+        return false;
+    }
+    sum_at_most(t.graft, t.mesh, clock)
 }
 
 // The magnitude of topic t's j-th parameter.
@@ -287,11 +275,17 @@ fn caps(table: &[u64], j: usize) -> [u64; TOPICS]
     r
 }
 
-// Whether the counters of P4 and P3b and the subscribed flags of a slot are surely in their ranges, each kind by the union of its bits.
+// Whether the backoff ends, the counters of P4 and P3b and the subscribed flags of a slot are surely in their ranges. No number is above the
+// union of its bits with others', and that is nearly always small enough, so that one test does for eight numbers.
 fn is_small(table: &[u64], slot: usize) -> bool
     requires { ⌜ (length (now table) ≡ cellCount) × (slot < slotCount) ⌝ }
     ensures { λ r. ⌜ (r ≡ true → Small (stateOf (now (table .entry))) slot) ⌝ }
 {
+    let p = cells::load_peer(table, slot);
+    let b = p.backoff;
+    if MAX_END < (b[0] | b[1] | b[2] | b[3] | b[4] | b[5] | b[6] | b[7]) {
+        return false;
+    }
     let mut p4: u64 = 0;
     let mut p3b: u64 = 0;
     let mut subscribed: u64 = 0;
@@ -313,7 +307,7 @@ fn small_topics(
     slot: usize,
     explicit: u64,
 ) -> bool
-    requires { ⌜ (length (now table) ≡ cellCount) × ((slot < slotCount) × (Caps (stateOf (now table)) (now caps2) (now caps3) × Small (stateOf (now table)) slot)) ⌝ }
+    requires { ⌜ (length (now table) ≡ cellCount) × ((slot < slotCount) × (Caps (stateOf (now table)) (now caps2) (now caps3) × (Small (stateOf (now table)) slot × (stateOf (now table) .clock ≤ maxTime)))) ⌝ }
     ensures { λ r. ⌜ r ≡ every topicCount (topicOkAt (stateOf (now (table .entry))) slot 1 explicit) ⌝ }
 {
     let clock = cells::load_clock(table);
@@ -329,18 +323,29 @@ fn small_topics(
     true
 }
 
-fn connected_slot(table: &[u64], caps2: &[u64; TOPICS], caps3: &[u64; TOPICS], slot: usize) -> bool
-    requires { ⌜ (length (now table) ≡ cellCount) × ((slot < slotCount) × (Caps (stateOf (now table)) (now caps2) (now caps3) × (peerIn (stateOf (now table)) slot .status ≡ 1))) ⌝ }
+// Any slot.
+fn other_slot(table: &[u64], slot: usize) -> bool
+    requires { ⌜ (length (now table) ≡ cellCount) × (slot < slotCount) ⌝ }
     ensures { λ r. ⌜ r ≡ slotOk (stateOf (now (table .entry))) slot ⌝ }
 {
+    let p = cells::load_peer(table, slot);
+    let peer = peer_ok(p);
+    let topics = topics_ok(table, slot, p.status, p.explicit);
+    peer & topics
+}
+
+fn connected_slot(table: &[u64], caps2: &[u64; TOPICS], caps3: &[u64; TOPICS], slot: usize) -> bool
+    requires { ⌜ (length (now table) ≡ cellCount) × ((slot < slotCount) × (Caps (stateOf (now table)) (now caps2) (now caps3) × ((stateOf (now table) .clock ≤ maxTime) × (peerIn (stateOf (now table)) slot .status ≡ 1)))) ⌝ }
+    ensures { λ r. ⌜ r ≡ slotOk (stateOf (now (table .entry))) slot ⌝ }
+{
+    if !is_small(table, slot) {
+        return other_slot(table, slot);
+    }
     let p = cells::load_peer(table, slot);
     if !connected_ok(p) {
         return false;
     }
-    if is_small(table, slot) {
-        return small_topics(table, caps2, caps3, slot, p.explicit);
-    }
-    topics_ok(table, slot, 1, p.explicit)
+    small_topics(table, caps2, caps3, slot, p.explicit)
 }
 
 fn zero_topics(table: &[u64], slot: usize) -> bool
@@ -368,19 +373,8 @@ fn empty_slot(table: &[u64], slot: usize) -> bool
     zero_topics(table, slot)
 }
 
-// Any slot.
-fn other_slot(table: &[u64], slot: usize) -> bool
-    requires { ⌜ (length (now table) ≡ cellCount) × (slot < slotCount) ⌝ }
-    ensures { λ r. ⌜ r ≡ slotOk (stateOf (now (table .entry))) slot ⌝ }
-{
-    let p = cells::load_peer(table, slot);
-    let peer = peer_ok(p);
-    let topics = topics_ok(table, slot, p.status, p.explicit);
-    peer & topics
-}
-
 fn slot_ok(table: &[u64], caps2: &[u64; TOPICS], caps3: &[u64; TOPICS], slot: usize) -> bool
-    requires { ⌜ (length (now table) ≡ cellCount) × ((slot < slotCount) × Caps (stateOf (now table)) (now caps2) (now caps3)) ⌝ }
+    requires { ⌜ (length (now table) ≡ cellCount) × ((slot < slotCount) × (Caps (stateOf (now table)) (now caps2) (now caps3) × (stateOf (now table) .clock ≤ maxTime))) ⌝ }
     ensures { λ r. ⌜ r ≡ slotOk (stateOf (now (table .entry))) slot ⌝ }
 {
     let status = cells::load_status(table, slot);
@@ -394,7 +388,7 @@ fn slot_ok(table: &[u64], caps2: &[u64; TOPICS], caps3: &[u64; TOPICS], slot: us
 }
 
 fn slots_ok(table: &[u64]) -> bool
-    requires { ⌜ length (now table) ≡ cellCount ⌝ }
+    requires { ⌜ (length (now table) ≡ cellCount) × (stateOf (now table) .clock ≤ maxTime) ⌝ }
     ensures { λ r. ⌜ r ≡ every slotCount (slotOk (stateOf (now (table .entry)))) ⌝ }
 {
     let caps2 = caps(table, P2_CAP);
@@ -434,10 +428,12 @@ pub fn is_router(table: &[u64]) -> bool
     requires { ⌜ length (now table) ≡ cellCount ⌝ }
     ensures { λ r. ⌜ r ≡ valid (stateOf (now (table .entry))) ⌝ }
 {
+    if MAX_TIME < cells::load_clock(table) {
+        return false;
+    }
     let params = params::accepts_codes(cells::codes(table));
-    let clock = cells::load_clock(table);
     let joined = joined_ok(table);
     let slots = slots_ok(table);
     let ids = ids_distinct(table);
-    params & (clock <= MAX_TIME) & joined & slots & ids
+    params & joined & slots & ids
 }

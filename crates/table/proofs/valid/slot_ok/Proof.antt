@@ -10,7 +10,7 @@ slot-ok-spec =
     (λ c κs. search needs)
     (λ c κs.
     let s = c .before .before .before in
-    (s .pre .0, (s .pre .1 .0, (s .pre .1 .1, sym (c .before .load-status .ensures) ∙ c .if1 .taken))))
+    (s .pre .0, (s .pre .1 .0, (s .pre .1 .1 .0, (s .pre .1 .1 .1, sym (c .before .load-status .ensures) ∙ c .if1 .taken)))))
     (λ c. search needs)
     (λ c κs.
     let s = c .before .before .before .before in

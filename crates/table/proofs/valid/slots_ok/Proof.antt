@@ -23,7 +23,8 @@ slot-ok-requires : tie.Need-slot-ok-requires Inv-loop μ-loop
 slot-ok-requires c κs =
     let l = c .before .before .before in
     let k = l .before in
-    (k .before .before .before .pre, (omega arith, record { p2 = k .before .caps .ensures; p3 = k .caps2 .ensures }))
+    let s = k .before .before .before in
+    (s .pre .0, (omega arith, (record { p2 = k .before .caps .ensures; p3 = k .caps2 .ensures }, s .pre .1)))
 
 pub slots-ok-spec : {M : Type 1} → statement M
 slots-ok-spec =

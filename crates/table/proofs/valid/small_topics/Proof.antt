@@ -1,6 +1,6 @@
 -- `table::valid::small_topics`: after t turns the records of the topics below t are right. Assumes nothing.
-use Prim.Native.Nat.{_≤_, _-_}
-use mathlib.Core.Path.{_≡_, ap, _∙_}
+use Prim.Native.Nat.{ℕ, _≤_, _-_}
+use mathlib.Core.Path.{_≡_, sym, ap, subst, _∙_}
 use mathlib.Core.Bool.{true}
 use native.Mathlib.Omega.{arith}
 use borrow.Author.Needs.{needs}
@@ -9,7 +9,7 @@ use Rattle.index.proofs.Index.{every-loop, every-more, every-out}
 use Rattle.index.proofs.Flags.{failed, passed}
 use Rattle.records.specs.Records.{topicCount}
 use Rattle.cells.specs.View.{stateOf}
-use Rattle.table.specs.Valid.{topicOkAt}
+use Rattle.table.specs.Valid.{maxTime, topicOkAt}
 use Rattle.table.specs.Order.{smallOk}
 use Rattle.table.proofs.OrderLaws.{topic-told}
 use Rattle.table.proofs.valid.small_topics.Statement.{statement}
@@ -60,7 +60,10 @@ small-topics-spec =
     (λ c. search needs)
     (λ c κs.
     let t = c .before .before in
-    ap smallOk (t .load-topic .ensures) ∙ t .before .before .before .before .before .before .pre .1 .1 .1 _ (omega arith))
+    let s = t .before .before .before .before .before .before in (
+      ap smallOk (t .load-topic .ensures) ∙ s .pre .1 .1 .1 .0 .topics _ (omega arith),
+      subst (λ (n : ℕ). n ≤ maxTime) (sym (t .before .before .before .before .load-clock .ensures)) (s .pre .1 .1 .1 .1),
+    ))
     returns
     (λ c. search needs)
     (λ c. search needs)
