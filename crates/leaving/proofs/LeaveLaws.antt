@@ -7,11 +7,11 @@ use mathlib.Core.Path.{_≡_, refl, sym, ap, ap₂, _∙_}
 use mathlib.Core.Logic.{_≢_}
 use mathlib.Core.Bool.{Bool, true, false, cond, _&&_}
 use mathlib.Core.List.{List, [], _∷_, _++_}
-use lib.ListN.{length, getD, set, length-append}
-use lib.Seq.{sets, length-sets, getD-set-same, getD-set-other}
+use lib.ListN.{length, getD, length-append}
+use lib.Seq.{sets, length-sets}
 use Rattle.index.specs.Index.{iter, gather}
 use Rattle.index.proofs.Index.{iter-more, gather-more}
-use Rattle.index.proofs.Flags.{by-order, by-test, cond-case}
+use Rattle.index.proofs.Flags.{by-test, cond-case}
 use Rattle.index.proofs.Lists.{sets-append}
 use Rattle.records.specs.declared.Peer.{Peer}
 use Rattle.records.specs.declared.TopicRecord.{TopicRecord}
@@ -37,25 +37,6 @@ use Rattle.rules.proofs.PromiseLaws.{leaves-moved}
 use Rattle.rules.proofs.CountLaws.{actions-short}
 use Rattle.gate.proofs.StandingLaws.{sizes}
 use Rattle.leaving.specs.Slots.{grownIf, leftIf, actionIf, Turn, Turned, Walk, Walked}
-
--- an array of flags, filled from the front
-pub flags-more :
-    (f : ℕ → Bool) (l : List Bool) (i : ℕ) (v : Bool) →
-    i < length l →
-    ((k : ℕ) → k < i → getD l k false ≡ f k) →
-    v ≡ f i →
-    (k : ℕ) →
-    k < i + 1 →
-    getD (set l i v) k false ≡ f k
-flags-more f l i v b h e k m =
-    by-order
-    (getD (set l i v) k false ≡ f k)
-    k
-    i
-    (λ (n : k < i). getD-set-other l i k v false (λ z. omega arith) ∙ h k n)
-    (λ (n : i ≤ k).
-    let z : k ≡ i = omega arith in
-    rw z (getD-set-same l i v false b ∙ e))
 
 -- a flag that goes with another
 pub no-member : (m n : Bool) → m ≡ false → false ≡ m && n

@@ -1,6 +1,5 @@
 -- `sets::median::few_below` meets its contract.
 -- Assumes nothing.
-use mathlib.Core.Path.{_≡_}
 use Rattle.sets.proofs.median.few_below.Statement.{statement}
 use Rattle.sets.proofs.median.few_below.Tie as tie
 
