@@ -20,73 +20,8 @@ use Rattle.rules.proofs.GateLaws.{Passed, gate-passed}
 use Rattle.rules.proofs.PromiseLaws.{gives-quiet, follows-refused, follows-passed}
 use Rattle.gate.specs.Ready.{Ready}
 
--- g is the gate's word on the call c
-pub record Word (c : Call) (table list : List ℕ) (g : Gate) : Type 0 where
-  pub is : g ≡ gateOf (stateOf table) (inRange c) (length list) (timeOf c)
-
--- what the gate was asked is the call's range: a and b are what the code computes of its time and of its other arguments
-pub call-word :
-    (c : Call) (table list : List ℕ) (a b : Bool) (g : Gate) →
-    a ≡ timeOk (timeOf c) →
-    b ≡ argumentsOk c →
-    g ≡ gateOf (stateOf table) (a && b) (length list) (timeOf c) →
-    Word c table list g
-unfolding inRange
-call-word c table list a b g ea eb eg =
-    record { is = eg ∙ ap (λ (f : Bool). gateOf (stateOf table) f (length list) (timeOf c)) (ap₂ _&&_ ea eb) }
-
--- a call in range has its time and its other arguments in range
-ranges : (c : Call) → inRange c ≡ true → (timeOf c ≤ maxTime) × (argumentsOk c ≡ true)
-unfolding inRange
-ranges c e =
-    let h = both (timeOk (timeOf c)) (argumentsOk c) e in
-    (leb-true (timeOf c) maxTime (h .0), h .1)
-
--- what the inner function of a call may rely on
-pub record Behind (c : Call) (table list : List ℕ) : Type 0 where
-  pub ready : Ready table (timeOf c)
-  pub fine : argumentsOk c ≡ true
-  pub room : 192 ≤ length list
-
-module _ {c : Call} {table list : List ℕ} {g : Gate} (word : Word c table list g) where
-  pub call-refused : {x : Answer} → g ≡ Refuse x → Follows c x table table list list
-  call-refused {x} e = follows-refused c table list x (sym (word .is) ∙ e)
-
-  module _ (e : g ≡ Pass) where
-    pub call-behind : length table ≡ cellCount → Behind c table list
-    call-behind l =
-        let p : Passed (stateOf table) (inRange c) (length list) (timeOf c) =
-        gate-passed (stateOf table) (inRange c) (length list) (timeOf c) (sym (word .is) ∙ e) in
-        record {
-          ready =
-              record {
-                standing = record { size = l; router = p .router };
-                clock = p .clock;
-                latest = ranges c (p .ranges) .0;
-              };
-          fine = ranges c (p .ranges) .1;
-          room = p .size;
-        }
-
-    pub call-passed :
-        {r : Answer} {table′ list′ : List ℕ} →
-        Gives (effect (stateOf table) c) r table table′ list list′ →
-        Follows c r table table′ list list′
-    call-passed {r} {table′} {list′} h = follows-passed c table list r table′ list′ (sym (word .is) ∙ e) h
-
-    -- a call that gives no action
-    pub call-quiet :
-        {r : Answer} {table′ : List ℕ} →
-        effect (stateOf table) c .actions ≡ [] →
-        Leaves (effect (stateOf table) c) r table table′ →
-        Follows c r table table′ list list
-    call-quiet {r} {table′} q h = call-passed (gives-quiet (effect (stateOf table) c) r table table′ list q h)
-
--- the topic of a call that names one
-pub topic-below : (t : ℕ) → topicOk t ≡ true → t < 8
-topic-below = topic-in
-
--- ---- the same in the form in which a search finds it, from what the code's tests and `admit` ensure
+-- ---- in the form in which a search finds it: a and b are what the code computes of the call's time and of its other arguments, and g is what
+-- `admit` says of them
 module _
     (c : Call)
     (table list : List ℕ)
@@ -96,21 +31,27 @@ module _
     (eb : b ≡ argumentsOk c)
     (eg : g ≡ gateOf (stateOf table) (a && b) (length list) (timeOf c))
   where
+    -- what the gate was asked is the call's range
+    word : g ≡ gateOf (stateOf table) (inRange c) (length list) (timeOf c)
+    unfolding inRange
+    word = eg ∙ ap (λ (f : Bool). gateOf (stateOf table) f (length list) (timeOf c)) (ap₂ _&&_ ea eb)
+
     pub gate-refusal : (x : Answer) → g ≡ Refuse x → Follows c x table table list list
-    gate-refusal x e = call-refused (call-word c table list a b g ea eb eg) e
+    gate-refusal x e = follows-refused c table list x (sym word ∙ e)
 
     module _ (e : g ≡ Pass) (r : Answer) (table′ : List ℕ) where
       pub gate-gives :
           (list′ : List ℕ) → Gives (effect (stateOf table) c) r table table′ list list′ → Follows c r table table′ list list′
-      gate-gives list′ h = call-passed (call-word c table list a b g ea eb eg) e h
+      gate-gives list′ h = follows-passed c table list r table′ list′ (sym word ∙ e) h
 
+      -- a call that gives no action
       pub gate-quiet :
           effect (stateOf table) c .actions ≡ [] →
           Leaves (effect (stateOf table) c) r table table′ →
           Follows c r table table′ list list
-      gate-quiet q h = call-quiet (call-word c table list a b g ea eb eg) e q h
+      gate-quiet q h = gate-gives list (gives-quiet (effect (stateOf table) c) r table table′ list q h)
 
--- a and b are what the code computes of the time and of the rest
+-- ---- what the inner function of a call may rely on
 module _
     (table : List ℕ)
     (a b : Bool)

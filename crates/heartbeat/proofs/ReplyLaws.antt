@@ -3,13 +3,14 @@
 use Prim.Native.Nat.{ℕ, _≤_, _<_}
 use native.Mathlib.Omega.{arith}
 use mathlib.Core.Path.{_≡_, refl, sym, ap, ap₂, _∙_}
-use mathlib.Core.Bool.{Bool, true, false, not, cond}
+use mathlib.Core.Bool.{Bool, true, cond, _&&_}
 use mathlib.Core.List.{List, [], _∷_, map}
 use lib.ListN.{length, getD, length-map, List·getD-eq-default}
 use lib.Seq.{sets}
-use lib.Dec.{eqb}
+use lib.Dec.{eqb, leb}
 use Rattle.index.specs.Index.{iter}
-use Rattle.index.proofs.Flags.{by-order, cond-case, failed, passed}
+use Rattle.index.proofs.Index.{both}
+use Rattle.index.proofs.Flags.{by-order, cond-case}
 use Rattle.records.specs.declared.Peer.{Peer}
 use Rattle.records.specs.Records.{State, slotCount, noPeer, peerIn, setClock}
 use Rattle.cells.specs.View.{stateOf, Sized}
@@ -22,17 +23,20 @@ use Rattle.mesh.specs.declared.Meshes.{Meshes}
 use Rattle.mesh.specs.declared.Changes.{Changes}
 use Rattle.mesh.specs.Maintenance.{Action as Told, meshes, changesOf, actionsOf, numbersOf as numbersIn, Writable, Written}
 use Rattle.effects.specs.Actions.{numbersOf}
-use Rattle.effects.specs.Effects.{isJoined, isMember, endAfter, pruneBackoff}
+use Rattle.effects.specs.Effects.{isMember, endAfter, pruneBackoff}
 use Rattle.rules.specs.declared.Answer.{Answer}
-use Rattle.rules.specs.declared.Answer.the-variants.{Done, NotPermutation, Ignored}
-use Rattle.rules.specs.Reply.{refused, ignored, done}
-use Rattle.rules.specs.Step.{degreesIn, viewIn, meshesIn, settleSlot, toldIn, actionIn, heartbeatActions, maintainedReply, heartbeatReply}
+use Rattle.rules.specs.declared.Answer.the-variants.{Done}
+use Rattle.rules.specs.declared.Gate.{Gate}
+use Rattle.rules.specs.declared.Gate.the-variants.{Pass}
+use Rattle.rules.specs.Calls.{topicOk}
+use Rattle.rules.specs.Reply.{done}
+use Rattle.rules.specs.Step.{gateOf, degreesIn, viewIn, meshesIn, settleSlot, toldIn, actionIn, heartbeatActions, maintainedReply}
 use Rattle.rules.specs.Promise.{Gives}
-use Rattle.rules.proofs.PromiseLaws.{leaves-moved, leaves-refused, gives-quiet}
-use Rattle.rules.proofs.StepLaws.{gives-then, gives-else}
-use Rattle.rules.proofs.EndLaws.{gives-ignored}
+use Rattle.rules.proofs.CaseLaws.{topic-in}
+use Rattle.rules.proofs.PromiseLaws.{leaves-moved}
 use Rattle.rules.proofs.HeartbeatLaws.{told-few}
 use Rattle.gate.specs.Ready.{Standing}
+use Rattle.gate.proofs.CallLaws.{gate-fine}
 use Rattle.gate.proofs.StandingLaws.{sizes}
 use Rattle.heartbeat.specs.Settle.{Settle}
 
@@ -188,44 +192,27 @@ module _
           actions = w .list ∙ ap (sets list 0) (written-numbers size);
         }
 
--- ---- the call's three ends: 7, 11, and the maintained mesh
+-- ---- the permutation as it was copied
+module _ (order copy : List ℕ) (e : copy ≡ order) where
+  pub permutation-copied : isPermutation slotCount order ≡ true → isPermutation slotCount copy ≡ true
+  permutation-copied p = rw e p
 
-module _
-    (table list : List ℕ) (time t ask : ℕ) (order : List ℕ)
-    (right : Bool)
-    (e : right ≡ isPermutation slotCount order)
-  where
-    pub heartbeat-refused :
-        not right ≡ true → Gives (heartbeatReply (stateOf table) time t ask order) NotPermutation table table list list
-    unfolding heartbeatReply
-    heartbeat-refused g =
-        gives-else (isPermutation slotCount order) _ (refused NotPermutation (stateOf table)) NotPermutation table table list list
-        (failed e g)
-        (gives-quiet (refused NotPermutation (stateOf table)) NotPermutation table table list refl
-        (leaves-refused NotPermutation table))
+  pub gives-copied :
+      (st : State) (time t ask : ℕ) (r : Answer) (table table′ list list′ : List ℕ) →
+      Gives (maintainedReply st time t ask copy) r table table′ list list′ →
+      Gives (maintainedReply st time t ask order) r table table′ list list′
+  gives-copied st time t ask r table table′ list list′ h = rw (← e) h
 
-    module _ (g : not right ≡ false) (joined : Bool) (j : joined ≡ isJoined (stateOf table) t) (table′ : List ℕ) where
-      pub heartbeat-ignored :
-          (r : Answer) →
-          not joined ≡ true →
-          (r ≡ Ignored) × (stateOf table′ ≡ setClock (stateOf table) time) →
-          Gives (heartbeatReply (stateOf table) time t ask order) r table table′ list list
-      unfolding heartbeatReply
-      heartbeat-ignored r n h =
-          gives-then (isPermutation slotCount order) _ (refused NotPermutation (stateOf table)) r table table′ list list (passed e g)
-          (gives-else (isJoined (stateOf table) t) (maintainedReply (stateOf table) time t ask order) (ignored (stateOf table) time) r table table′ list list
-          (failed j n)
-          (gives-ignored table table′ list time r h))
+-- ---- the ranges that the call asks: of the topic, and of opportunism
+pub heartbeat-range : (t ask : ℕ) (b d : Bool) → b ≡ topicOk t → d ≡ leb ask 1 → b && d ≡ topicOk t && leb ask 1
+heartbeat-range t ask b d eb ed = ap₂ _&&_ eb ed
 
-      pub heartbeat-done :
-          (r : Answer) (list′ copy : List ℕ) →
-          not joined ≡ false →
-          copy ≡ order →
-          Gives (maintainedReply (stateOf table) time t ask copy) r table table′ list list′ →
-          Gives (heartbeatReply (stateOf table) time t ask order) r table table′ list list′
-      unfolding heartbeatReply
-      heartbeat-done r list′ copy n c h =
-          gives-then (isPermutation slotCount order) _ (refused NotPermutation (stateOf table)) r table table′ list list′ (passed e g)
-          (gives-then (isJoined (stateOf table) t) (maintainedReply (stateOf table) time t ask order) (ignored (stateOf table) time) r table table′ list list′
-          (passed j n)
-          (rw (← c) h))
+pub heartbeat-topic :
+    (table : List ℕ) (a b d : Bool) (room time : ℕ) (g : Gate) →
+    g ≡ gateOf (stateOf table) (a && (b && d)) room time →
+    g ≡ Pass →
+    (t : ℕ) →
+    b ≡ topicOk t →
+    t < 8
+heartbeat-topic table a b d room time g eg e t eb =
+    topic-in t (sym eb ∙ both b d (gate-fine table a (b && d) room time g eg e) .0)

@@ -17,7 +17,7 @@ use Rattle.params.proofs.ParamLaws.{general}
 use Rattle.table.specs.Valid.{valid}
 use Rattle.table.proofs.ValidLaws.{valid-facts}
 use Rattle.sets.specs.Sets.{bySlot}
-use Rattle.sets.proofs.Loops.{Built, built-none, built-more}
+use Rattle.index.proofs.Lists.{Built, built-none, built-more}
 use Rattle.sets.proofs.SlotLaws.{slots-at}
 use Rattle.mesh.specs.declared.Degrees.{Degrees}
 use Rattle.mesh.specs.declared.View.{View}

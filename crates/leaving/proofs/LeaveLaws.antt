@@ -5,13 +5,13 @@ use Prim.Native.Nat.{ℕ, _+_, _*_, _/_, _≤_, _<_}
 use native.Mathlib.Omega.{arith}
 use mathlib.Core.Path.{_≡_, refl, sym, ap, ap₂, _∙_}
 use mathlib.Core.Logic.{_≢_}
-use mathlib.Core.Bool.{Bool, true, false, not, cond, _&&_}
+use mathlib.Core.Bool.{Bool, true, false, cond, _&&_}
 use mathlib.Core.List.{List, [], _∷_, _++_}
-use lib.ListN.{length, getD, set, length-append}
-use lib.Seq.{sets, length-sets, getD-set-same, getD-set-other}
+use lib.ListN.{length, getD, length-append}
+use lib.Seq.{sets, length-sets}
 use Rattle.index.specs.Index.{iter, gather}
 use Rattle.index.proofs.Index.{iter-more, gather-more}
-use Rattle.index.proofs.Flags.{by-order, by-test, cond-case, failed, passed}
+use Rattle.index.proofs.Flags.{by-test, cond-case}
 use Rattle.index.proofs.Lists.{sets-append}
 use Rattle.records.specs.declared.Peer.{Peer}
 use Rattle.records.specs.declared.TopicRecord.{TopicRecord}
@@ -24,41 +24,19 @@ use Rattle.score.specs.Score.{topicParamsIn}
 use Rattle.score.specs.Counters.{grownOf}
 use Rattle.score.proofs.InputLaws.{params-in}
 use Rattle.effects.specs.Actions.{Action, pruneOf, numbersOf}
-use Rattle.effects.specs.Effects.{onTopic, isJoined, isMember, pruned, endAfter, unsubscribeBackoff}
+use Rattle.effects.specs.Effects.{onTopic, isMember, pruned, endAfter, unsubscribeBackoff}
 use Rattle.effects.proofs.Walks.{iter-before}
 use Rattle.effects.proofs.ActionLaws.{numbers-append, numbers-length}
-use Rattle.effects.proofs.EffectLaws.{Kept, kept-self, kept-then, kept-topic, kept-pruned, kept-iter, place-slot, pruned-other, pruned-apart, member-apart}
-use Rattle.rules.specs.declared.Answer.{Answer}
-use Rattle.rules.specs.declared.Answer.the-variants.{Done, Ignored}
-use Rattle.rules.specs.Reply.{ignored, done}
-use Rattle.rules.specs.Step.{isNegative, punished, leaveSlot, leaveActions, leaveReply}
+use Rattle.effects.proofs.EffectLaws.{Kept, kept-self, kept-then, kept-pruned, kept-iter, place-slot, pruned-other, pruned-apart}
+use Rattle.rules.specs.declared.Answer.the-variants.{Done}
+use Rattle.rules.specs.Reply.{done}
+use Rattle.rules.specs.Step.{isNegative, punished, leaveSlot, leaveActions}
 use Rattle.rules.specs.Promise.{Gives}
 use Rattle.rules.proofs.PunishedLaws.{punished-peer, punished-apart, punished-kept}
-use Rattle.rules.proofs.PromiseLaws.{leaves-moved, gives-quiet}
-use Rattle.rules.proofs.StepLaws.{gives-then, gives-else}
+use Rattle.rules.proofs.PromiseLaws.{leaves-moved}
 use Rattle.rules.proofs.CountLaws.{actions-short}
-use Rattle.rules.proofs.EndLaws.{leaves-ignored}
 use Rattle.gate.proofs.StandingLaws.{sizes}
 use Rattle.leaving.specs.Slots.{grownIf, leftIf, actionIf, Turn, Turned, Walk, Walked}
-
--- an array of flags, filled from the front
-pub flags-more :
-    (f : ℕ → Bool) (l : List Bool) (i : ℕ) (v : Bool) →
-    i < length l →
-    ((k : ℕ) → k < i → getD l k false ≡ f k) →
-    v ≡ f i →
-    (k : ℕ) →
-    k < i + 1 →
-    getD (set l i v) k false ≡ f k
-flags-more f l i v b h e k m =
-    by-order
-    (getD (set l i v) k false ≡ f k)
-    k
-    i
-    (λ (n : k < i). getD-set-other l i k v false (λ z. omega arith) ∙ h k n)
-    (λ (n : i ≤ k).
-    let z : k ≡ i = omega arith in
-    rw z (getD-set-same l i v false b ∙ e))
 
 -- a flag that goes with another
 pub no-member : (m n : Bool) → m ≡ false → false ≡ m && n
@@ -318,43 +296,35 @@ walking-done st start t end i table list at h k now =
     let n : Walking st start t end 64 table list at = rw e at now in
     record { state = n .state; actions = n .actions; count = n .place }
 
--- ---- the call's two ends
+-- ---- the end of a call that leaves
 
 third : (n k : ℕ) → n ≡ 3 * k → n / 3 ≡ k
 third n k e = omega arith
 
-module _ (table table′ list : List ℕ) (time t : ℕ) (f : Bool) (e : f ≡ isJoined (stateOf table) t) where
-  pub leave-ignored :
-      (r : Answer) →
-      not f ≡ true →
-      (r ≡ Ignored) × (stateOf table′ ≡ setClock (stateOf table) time) →
-      Gives (leaveReply (stateOf table) time t) r table table′ list list
-  unfolding leaveReply
-  leave-ignored r g h =
-      gives-else (isJoined (stateOf table) t) _ (ignored (stateOf table) time) r table table′ list list (failed e g)
-      (gives-quiet (ignored (stateOf table) time) r table table′ list refl (leaves-ignored table table′ time r h))
-
-  -- `mid` is the table after the walk, `out` the one after the flag
-  pub leave-done :
-      (mid out list′ : List ℕ) (seconds end n : ℕ) →
-      not f ≡ false →
-      seconds ≡ unsubscribeBackoff (stateOf table) →
-      end ≡ endAfter time seconds →
-      Walked (stateOf table) t end mid list list′ n →
-      stateOf out ≡ setJoined (stateOf mid) t 0 →
-      stateOf table′ ≡ setClock (stateOf out) time →
-      Gives (leaveReply (stateOf table) time t) (Done (n / 3)) table table′ list list′
-  unfolding leaveReply
-  leave-done mid out list′ seconds end n g es ee w ej ek =
-      let st = stateOf table in
-      let z : end ≡ endAfter time (unsubscribeBackoff st) = ee ∙ ap (endAfter time) es in
-      let v : Walked st t (endAfter time (unsubscribeBackoff st)) mid list list′ n = rw z at w in
-      let o =
-      done (setJoined (iter slotCount (leaveSlot st t (endAfter time (unsubscribeBackoff st))) st) t 0) time (leaveActions st t slotCount) in
-      gives-then (isJoined st t) o (ignored st time) (Done (n / 3)) table table′ list list′ (passed e g)
-      (record {
-        leaves =
-            leaves-moved o (Done (n / 3)) table table′ (ap Done (third n _ (v .count))) refl
-            (ek ∙ ap (λ (x : State). setClock x time) (ej ∙ ap (λ (x : State). setJoined x t 0) (v .state)));
-        actions = v .actions;
-      })
+-- `mid` is the table after the walk, `out` the one after the flag
+pub gives-left :
+    (table mid out table′ list list′ : List ℕ) (time t seconds end n : ℕ) →
+    seconds ≡ unsubscribeBackoff (stateOf table) →
+    end ≡ endAfter time seconds →
+    Walked (stateOf table) t end mid list list′ n →
+    stateOf out ≡ setJoined (stateOf mid) t 0 →
+    stateOf table′ ≡ setClock (stateOf out) time →
+    Gives
+    (done (setJoined (iter slotCount (leaveSlot (stateOf table) t (endAfter time (unsubscribeBackoff (stateOf table)))) (stateOf table)) t 0) time (leaveActions (stateOf table) t slotCount))
+    (Done (n / 3))
+    table
+    table′
+    list
+    list′
+gives-left table mid out table′ list list′ time t seconds end n es ee w ej ek =
+    let st = stateOf table in
+    let z : end ≡ endAfter time (unsubscribeBackoff st) = ee ∙ ap (endAfter time) es in
+    let v : Walked st t (endAfter time (unsubscribeBackoff st)) mid list list′ n = rw z at w in
+    let o =
+    done (setJoined (iter slotCount (leaveSlot st t (endAfter time (unsubscribeBackoff st))) st) t 0) time (leaveActions st t slotCount) in
+    record {
+      leaves =
+          leaves-moved o (Done (n / 3)) table table′ (ap Done (third n _ (v .count))) refl
+          (ek ∙ ap (λ (x : State). setClock x time) (ej ∙ ap (λ (x : State). setJoined x t 0) (v .state)));
+      actions = v .actions;
+    }

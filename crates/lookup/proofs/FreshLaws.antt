@@ -1,7 +1,7 @@
 -- Laws of a fresh router: its codes, the ends of `fresh`, and that it is a router's.
 -- Assumes nothing.
-use Prim.Native.Nat.{ℕ, _+_, _*_, _<_, _≤_}
-use mathlib.Core.Path.{_≡_, refl, sym, ap, _∙_}
+use Prim.Native.Nat.{ℕ, _<_, _≤_}
+use mathlib.Core.Path.{_≡_, refl, ap, _∙_}
 use mathlib.Core.Bool.{true}
 use mathlib.Core.List.{List, [], _∷_, map}
 use native.Mathlib.Omega.{arith}
@@ -9,10 +9,8 @@ use borrow.Author.Tests.{eq-eqb}
 use mir.Syntax.{w64}
 use mir.Val.{SFits, toZ, ofZ}
 use mir.Facts.{toZ-ofZ}
-use lib.Dec.{eqb}
-use lib.ListN.{length, getD, replicate, length-map, length-replicate, getD-replicate, List·getD-map, List·getD-eq-default}
-use lib.Seq.{ext-getD}
-use lib.IntN.{ℤ, pos}
+use lib.ListN.{length, getD, replicate, length-map, length-replicate, getD-replicate, List·getD-eq-default}
+use lib.IntN.{ℤ}
 use Rattle.index.specs.declared.Found.{Found}
 use Rattle.index.specs.declared.Found.the-variants.{At, Nothing}
 use Rattle.index.proofs.Flags.{by-order}
@@ -21,26 +19,14 @@ use Rattle.groups.proofs.CodeLaws.{number-code}
 use Rattle.params.specs.Check.{firstBroken, acceptedCodes}
 use Rattle.records.specs.Records.{State, place, noPeer, noTopic, joinedIn, peerIn, topicIn, slotCount, topicCount, paramCount}
 use Rattle.cells.specs.View.{placeCount, zeroState, setCodes, stateOf}
-use Rattle.lookup.specs.declared.Made.{Made}
 use Rattle.lookup.specs.declared.Made.the-variants.{Done, Broken}
-use Rattle.lookup.specs.Fresh.{freshState, madeOf, leftBy, Makes}
+use Rattle.lookup.specs.Fresh.{freshState, Makes}
 use Rattle.table.specs.Valid.{valid}
 use Rattle.table.proofs.ValidLaws.{Facts, no-peer, no-topic, facts-valid}
 
 -- the code of a number that a call was given
 pub code-of-given : (n : ℤ) (v : ℕ) → SFits w64 n → v ≡ codeOf (toZ w64 (ofZ w64 n)) → v ≡ codeOf n
 code-of-given n v h e = e ∙ ap codeOf (toZ-ofZ h)
-
--- the codes of all the numbers
-pub codes-all :
-    (codes : List ℕ) (numbers : List ℤ) (i : ℕ) →
-    length codes ≡ paramCount →
-    length numbers ≡ paramCount →
-    paramCount ≤ i →
-    ((k : ℕ) → k < i → getD codes k 0 ≡ codeOf (getD numbers k (pos 0))) →
-    codes ≡ map codeOf numbers
-codes-all codes numbers i l m b h =
-    ext-getD 0 codes (map codeOf numbers) (l ∙ sym (length-map numbers codeOf ∙ m)) (λ k n. h k (omega arith) ∙ sym (List·getD-map codeOf numbers k (pos 0)))
 
 -- a cleared table with the codes of the parameters is a fresh router's
 pub fresh-codes : (numbers : List ℤ) → setCodes zeroState (map codeOf numbers) ≡ freshState numbers

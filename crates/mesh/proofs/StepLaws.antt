@@ -1,13 +1,14 @@
 -- The code's steps over plain values: what each call ensures, put together as the definition of the step.
 -- Assumes nothing.
-use Prim.Native.Nat.{ℕ, _-_, _/_, _≤_, _<_}
+use Prim.Native.Nat.{ℕ, _+_, _-_, _/_, _≤_, _<_}
 use mathlib.Core.Path.{_≡_}
 use mathlib.Core.Bool.{Bool, true, false, _&&_, and-false}
 use mathlib.Core.List.{List}
 use lib.ListN.{replicate, getD}
 use lib.Dec.{leb}
 use borrow.Author.Tests.{lt-ltb, le-ltb, le-leb, lt-leb}
-use Rattle.sets.specs.Sets.{size, both, except, from, above, fill, bests, swapTo, sort, scoresOf}
+use Rattle.sets.specs.Sets.{size, both, except, from, fill, bests, swapTo, sort, scoresOf}
+use Rattle.sets.proofs.WalkLaws.{above-is}
 use Rattle.mesh.specs.Maintenance.{zeroScore, mesh1, mesh2, theBest, keepers, swapped, mesh3, mesh4, median, mesh5, meshes, changesOf}
 use Rattle.mesh.specs.declared.Degrees.{Degrees}
 use Rattle.mesh.specs.declared.View.{View}
@@ -93,7 +94,7 @@ module _ (t : Degrees) (v : View) (m : List Bool) where
       x ≡ getD (sort (scoresOf m (v .scores))) (n / 2) 0 →
       x < t .threshold →
       {a p r : List Bool} →
-      a ≡ above x (v .scores) →
+      a ≡ from (x + 1) (v .scores) →
       p ≡ both (v .candidates) a →
       r ≡ fill p 2 (v .permutation) m →
       r ≡ mesh5 t v m
@@ -101,6 +102,7 @@ module _ (t : Degrees) (v : View) (m : List Bool) where
   mesh5-low ask {n} {x} en two ex h ea ep er =
       let e = lt-ltb x (t .threshold) h in
       let f = le-leb 2 n two in
+      let g = above-is x (v .scores) in
       cc
 
 -- ---- all five

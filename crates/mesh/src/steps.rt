@@ -13,7 +13,6 @@ use sets::count;
 use sets::median::middle;
 use sets::meet;
 use sets::minus;
-use sets::over;
 use sets::walks::best_of;
 use sets::walks::put_in;
 use sets::walks::swapped;
@@ -91,7 +90,8 @@ pub fn step5(t: Degrees, v: View, m: [bool; SLOTS]) -> [bool; SLOTS]
     }
     let candidates = v.candidates;
     let permutation = v.permutation;
-    put_in(meet(candidates, over(median, scores)), 2, permutation, m)
+    let higher = at_least(median + 1, scores);
+    put_in(meet(candidates, higher), 2, permutation, m)
 }
 
 // The mesh that each step leaves.

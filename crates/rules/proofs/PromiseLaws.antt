@@ -46,13 +46,16 @@ pub gives-quiet :
 unfolding numbersOf
 gives-quiet o r table table′ list e l = record { leaves = l; actions = rw e }
 
+pub gives-refused : (a : Answer) (table list : List ℕ) → Gives (refused a (stateOf table)) a table table list list
+gives-refused a table list = gives-quiet (refused a (stateOf table)) a table table list refl (leaves-refused a table)
+
 module _ (c : Call) (table list : List ℕ) where
   pub follows-refused :
       (a : Answer) →
       gateOf (stateOf table) (inRange c) (length list) (timeOf c) ≡ Refuse a →
       Follows c a table table list list
-  unfolding step numbersOf
-  follows-refused a g = rw g (record { leaves = leaves-refused a table; actions = refl })
+  unfolding step
+  follows-refused a g = rw g (gives-refused a table list)
 
   pub follows-passed :
       (r : Answer) (table′ list′ : List ℕ) →

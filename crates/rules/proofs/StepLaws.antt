@@ -1,7 +1,7 @@
 -- What the rules come to once a test is known, in the form in which the returns of the calls ask it.
 -- Assumes nothing.
 use Prim.Native.Nat.{ℕ, _<_}
-use mathlib.Core.Path.{_≡_, refl, sym, _∙_}
+use mathlib.Core.Path.{_≡_, sym, _∙_}
 use mathlib.Core.Bool.{Bool, true, false, cond}
 use mathlib.Core.List.{List}
 use Rattle.index.specs.declared.Found.{Found}
@@ -15,7 +15,7 @@ use Rattle.rules.specs.declared.Answer.the-variants.{NotConnected}
 use Rattle.rules.specs.Reply.{Reply}
 use Rattle.rules.specs.Step.{ofPeer}
 use Rattle.rules.specs.Promise.{Leaves, Gives}
-use Rattle.rules.proofs.PromiseLaws.{leaves-refused, gives-quiet}
+use Rattle.rules.proofs.PromiseLaws.{leaves-refused, gives-refused}
 
 -- a found slot is one of the table's
 pub found-below : (st : State) (id s : ℕ) (r : Found) → r ≡ findConnected st id → r ≡ At s → s < 64
@@ -28,7 +28,7 @@ module _ (table : List ℕ) (id : ℕ) (f : ℕ → Reply) (r : Found) (e : r �
   peer-none g = rw (← e, g) (leaves-refused NotConnected table)
 
   pub peer-none-gives : (list : List ℕ) → r ≡ Nothing → Gives (ofPeer (stateOf table) id f) NotConnected table table list list
-  peer-none-gives list g = rw (← e, g) (gives-quiet _ NotConnected table table list refl (leaves-refused NotConnected table))
+  peer-none-gives list g = rw (← e, g) (gives-refused NotConnected table list)
 
   pub peer-at :
       (s : ℕ) (a : Answer) (table′ : List ℕ) →

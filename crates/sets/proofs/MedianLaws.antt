@@ -1,52 +1,34 @@
--- The element at index k of a sorted list is the one with at most k elements below it and more than k not above it; so the median of a set's
--- scores is found by counting, with no sorting.
+-- The element at index k of a sorted list is the greatest that has at most k elements below it; so the median of a set's scores is found by
+-- counting, with no sorting.
 -- Assumes nothing.
 use Prim.Native.Nat.{ℕ, zero, suc, _+_, _≤_, _<_}
 use native.Mathlib.Nat.{not-suc-le-zero, le-of-suc-le-suc, suc-inj}
 use native.Mathlib.Omega.{arith}
-use mathlib.Core.Path.{_≡_, refl, sym, ap, ap₂, _∙_}
+use mathlib.Core.Path.{_≡_, refl, sym, ap, _∙_, subst}
 use mathlib.Core.Bool.{Bool, true, false, not, cond, _&&_, false≢true}
 use mathlib.Core.Logic.{_⊎_, inl, inr, ⊎-elim}
-use mathlib.Core.List.{List, [], _∷_, map}
-use lib.ListN.{length, getD, drop, drop-of-length-le}
+use mathlib.Core.List.{List, [], _∷_}
+use lib.ListN.{length, getD}
 use lib.Dec.{ltb, leb}
-use borrow.Author.Tests.{lt-ltb, le-ltb, le-leb, lt-leb, ltb-true, leb-true, leb-false}
+use borrow.Author.Tests.{lt-ltb, le-ltb, le-leb, lt-leb, ltb-true, ltb-false, leb-true, leb-false}
+use borrow.Author.Count.{below-more}
 use Rattle.index.proofs.Index.{both as halves}
 use Rattle.index.proofs.Flags.{by-test, by-order}
-use Rattle.sets.specs.Sets.{at, size, except, from, above, insert, sort, scoresOf}
-use Rattle.sets.proofs.Loops.{drop-step}
+use Rattle.sets.specs.Sets.{at, size, except, from, insert, sort, scoresOf}
+use Rattle.sets.proofs.WalkLaws.{at-below}
 use Rattle.sets.proofs.CountLaws.{In}
 
--- how many elements pass a test
-abbrev passing : (ℕ → Bool) → List ℕ → ℕ
-passing f [] = zero
-passing f (y ∷ l) = cond (f y) (suc (passing f l)) (passing f l)
-
-passing-cons :
-    (f : ℕ → Bool) (y : ℕ) (l : List ℕ) (t : Bool) →
-    f y ≡ t →
-    passing f (y ∷ l) ≡ cond t (suc (passing f l)) (passing f l)
-passing-cons f y l t e = ap (λ (b : Bool). cond b (suc (passing f l)) (passing f l)) e
-
--- how many are below x, and how many are not above x
+-- how many elements are below x
 abbrev lower : ℕ → List ℕ → ℕ
-lower x = passing (λ y. ltb y x)
-
-abbrev upto : ℕ → List ℕ → ℕ
-upto x = passing (λ y. leb y x)
+lower x [] = zero
+lower x (y ∷ l) = cond (ltb y x) (suc (lower x l)) (lower x l)
 
 module _ (x y : ℕ) (l : List ℕ) where
   lower-in : y < x → lower x (y ∷ l) ≡ suc (lower x l)
-  lower-in h = passing-cons (λ z. ltb z x) y l true (lt-ltb y x h)
+  lower-in h = rw (lt-ltb y x h)
 
   lower-out : x ≤ y → lower x (y ∷ l) ≡ lower x l
-  lower-out h = passing-cons (λ z. ltb z x) y l false (le-ltb y x h)
-
-  upto-in : y ≤ x → upto x (y ∷ l) ≡ suc (upto x l)
-  upto-in h = passing-cons (λ z. leb z x) y l true (le-leb y x h)
-
-  upto-out : x < y → upto x (y ∷ l) ≡ upto x l
-  upto-out h = passing-cons (λ z. leb z x) y l false (lt-leb y x h)
+  lower-out h = rw (le-ltb y x h)
 
 -- ---- a count of a list that is the sum over its elements is the same of the sorted list
 module _ (μ : List ℕ → ℕ) (w : ℕ → ℕ) (one : (y : ℕ) (l : List ℕ) → μ (y ∷ l) ≡ w y + μ l) where
@@ -72,8 +54,8 @@ module _ (μ : List ℕ → ℕ) (w : ℕ → ℕ) (one : (y : ℕ) (l : List �
       let c = sort-count l in
       omega arith
 
-sort-passing : (f : ℕ → Bool) (l : List ℕ) → passing f (sort l) ≡ passing f l
-sort-passing f l = sort-count (passing f) (λ y. cond (f y) 1 0) (λ y k. one (f y) (passing f k)) l
+sort-lower : (x : ℕ) (l : List ℕ) → lower x (sort l) ≡ lower x l
+sort-lower x l = sort-count (lower x) (λ y. cond (ltb y x) 1 0) (λ y k. one (ltb y x) (lower x k)) l
   where
     one : (b : Bool) (n : ℕ) → cond b (suc n) n ≡ cond b 1 0 + n
     one true n = omega arith
@@ -126,115 +108,56 @@ getD-mem [] k h = absurd (not-suc-le-zero h)
 getD-mem (x ∷ l) zero h = inl refl
 getD-mem (x ∷ l) (suc k) h = inr (getD-mem l k (le-of-suc-le-suc h))
 
-none-passing : (f : ℕ → Bool) (l : List ℕ) → ((z : ℕ) → In z l → f z ≡ false) → passing f l ≡ 0
-none-passing f [] h = refl
-none-passing f (y ∷ l) h = passing-cons f y l false (h y (inl refl)) ∙ none-passing f l (λ z i. h z (inr i))
-
--- nothing of a sorted list is below its head, and none is up to what is below it
 none-lower : (x : ℕ) (l : List ℕ) → ((z : ℕ) → In z l → x ≤ z) → lower x l ≡ 0
-none-lower x l h = none-passing (λ y. ltb y x) l (λ z i. le-ltb z x (h z i))
+none-lower x [] h = refl
+none-lower x (y ∷ l) h = lower-out x y l (h y (inl refl)) ∙ none-lower x l (λ z i. h z (inr i))
 
-none-upto : (x : ℕ) (l : List ℕ) → ((z : ℕ) → In z l → x < z) → upto x l ≡ 0
-none-upto x l h = none-passing (λ y. leb y x) l (λ z i. lt-leb z x (h z i))
-
--- the element at k has at most k below it and more than k not above it
-at-counts : (l : List ℕ) → Sorted l → (k : ℕ) → k < length l → (lower (getD l k 0) l ≤ k) × (k < upto (getD l k 0) l)
-at-counts [] s k h = absurd (not-suc-le-zero h)
-at-counts (x ∷ l) s zero h =
-    let a = lower-out x x l (omega arith) in
-    let b = none-lower x l (s .0) in
-    let c = upto-in x x l (omega arith) in
-    (omega arith, omega arith)
-at-counts (x ∷ l) s (suc k) h =
+-- the element at k has at most k below it, and what is greater has more than k
+at-lower : (l : List ℕ) → Sorted l → (k : ℕ) → k < length l → lower (getD l k 0) l ≤ k
+at-lower [] s k h = absurd (not-suc-le-zero h)
+at-lower (x ∷ l) s zero h = omega (arith, lower-out x x l (omega arith), none-lower x l (s .0))
+at-lower (x ∷ l) s (suc k) h =
     let v = getD l k 0 in
-    let lt : k < length l = le-of-suc-le-suc h in
-    let ih = at-counts l (s .1) k lt in
-    let xv = s .0 v (getD-mem l k lt) in
-    let u = upto-in v x l xv in
-    let lo : lower v (x ∷ l) ≤ suc (lower v l) =
+    let ih = at-lower l (s .1) k (le-of-suc-le-suc h) in
     by-order _ x v
     (λ p. let e = lower-in v x l p in omega arith)
-    (λ p. let e = lower-out v x l p in omega arith) in
-    (omega arith, omega arith)
+    (λ p. let e = lower-out v x l p in omega arith)
 
--- and it is the only one
-only-at : (l : List ℕ) → Sorted l → (k x : ℕ) → lower x l ≤ k → k < upto x l → getD l k 0 ≡ x
-only-at [] s k x a b = absurd (not-suc-le-zero b)
-only-at (y ∷ l) s zero x a b =
-    by-order _ y x
-    (λ p. let e = lower-in x y l p in let z : ⊥ = omega arith in absurd z)
-    (λ p.
-    by-order _ x y
-    (λ q.
-    let e = upto-out x y l q in
-    let n = none-upto x l (λ z i. let r = s .0 z i in omega arith) in
-    let z : ⊥ = omega arith in
-    absurd z)
-    (λ q. omega arith))
-only-at (y ∷ l) s (suc k) x a b =
-    by-order _ y x
-    (λ p.
-    let e = lower-in x y l p in
-    let u = upto-in x y l (omega arith) in
-    only-at l (s .1) k x (omega arith) (omega arith))
-    (λ p.
-    by-order _ x y
-    (λ q.
-    let e = upto-out x y l q in
-    let n = none-upto x l (λ z i. let r = s .0 z i in omega arith) in
-    let z : ⊥ = omega arith in
-    absurd z)
-    (λ q.
-    let u = upto-in x y l q in
-    let n = none-lower x l (λ z i. let r = s .0 z i in omega arith) in
-    only-at l (s .1) k x (omega arith) (omega arith)))
+past-lower : (l : List ℕ) → Sorted l → (k y : ℕ) → k < length l → getD l k 0 < y → k < lower y l
+past-lower [] s k y h p = absurd (not-suc-le-zero h)
+past-lower (x ∷ l) s zero y h p = omega (arith, lower-in y x l p)
+past-lower (x ∷ l) s (suc k) y h p =
+    let lt : k < length l = le-of-suc-le-suc h in
+    let ih = past-lower l (s .1) k y lt p in
+    let xv = s .0 (getD l k 0) (getD-mem l k lt) in
+    omega (arith, lower-in y x l (omega arith))
 
 -- ---- on sets of slots
+
 not-leb : (x v : ℕ) → not (leb x v) ≡ ltb v x
 not-leb x v = by-order _ v x
     (λ p. ap not (lt-leb x v p) ∙ sym (lt-ltb v x p))
     (λ p. ap not (le-leb x v p) ∙ sym (le-ltb v x p))
-
-not-ltb : (x v : ℕ) → not (ltb x v) ≡ leb v x
-not-ltb x v = by-order _ x v
-    (λ p. ap not (lt-ltb x v p) ∙ sym (lt-leb v x p))
-    (λ p. ap not (le-ltb x v p) ∙ sym (le-leb v x p))
 
 size-cons : (b : Bool) (m : List Bool) → size (b ∷ m) ≡ cond b (suc (size m)) (size m)
 unfolding size
 size-cons true m = refl
 size-cons false m = refl
 
--- the members whose score a test does not choose, counted
-unchosen :
-    (g f : ℕ → Bool) →
-    ((v : ℕ) → not (g v) ≡ f v) →
-    (m : List Bool) (sc : List ℕ) →
-    length m ≡ length sc →
-    size (except m (map g sc)) ≡ passing f (scoresOf m sc)
-unfolding size except scoresOf
-unchosen g f h [] sc e = refl
-unchosen g f h (true ∷ m) [] e = let z : ⊥ = omega arith in absurd z
-unchosen g f h (false ∷ m) [] e = let z : ⊥ = omega arith in absurd z
-unchosen g f h (true ∷ m) (v ∷ sc) e =
-    ap (λ (b : Bool). size (b ∷ except m (map g sc))) (h v)
-    ∙ size-cons (f v) (except m (map g sc))
-    ∙ ap (λ (k : ℕ). cond (f v) (suc k) k) (unchosen g f h m sc (suc-inj e))
-unchosen g f h (false ∷ m) (v ∷ sc) e = unchosen g f h m sc (suc-inj e)
-
+-- the members whose score is below x, counted
 lower-size :
     (x : ℕ) (m : List Bool) (sc : List ℕ) →
     length m ≡ length sc →
     size (except m (from x sc)) ≡ lower x (scoresOf m sc)
-unfolding from
-lower-size x = unchosen (leb x) (λ y. ltb y x) (not-leb x)
-
-upto-size :
-    (x : ℕ) (m : List Bool) (sc : List ℕ) →
-    length m ≡ length sc →
-    size (except m (above x sc)) ≡ upto x (scoresOf m sc)
-unfolding above
-upto-size x = unchosen (ltb x) (λ y. leb y x) (not-ltb x)
+unfolding size except scoresOf from
+lower-size x [] sc e = refl
+lower-size x (true ∷ m) [] e = let z : ⊥ = omega arith in absurd z
+lower-size x (false ∷ m) [] e = let z : ⊥ = omega arith in absurd z
+lower-size x (true ∷ m) (v ∷ sc) e =
+    ap (λ (b : Bool). size (b ∷ except m (from x sc))) (not-leb x v)
+    ∙ size-cons (ltb v x) (except m (from x sc))
+    ∙ ap (λ (k : ℕ). cond (ltb v x) (suc k) k) (lower-size x m sc (suc-inj e))
+lower-size x (false ∷ m) (v ∷ sc) e = lower-size x m sc (suc-inj e)
 
 scores-length : (m : List Bool) (sc : List ℕ) → length m ≡ length sc → length (scoresOf m sc) ≡ size m
 unfolding size scoresOf
@@ -244,102 +167,94 @@ scores-length (false ∷ m) [] e = let z : ⊥ = omega arith in absurd z
 scores-length (true ∷ m) (v ∷ sc) e = ap suc (scores-length m sc (suc-inj e))
 scores-length (false ∷ m) (v ∷ sc) e = scores-length m sc (suc-inj e)
 
--- x has at most k members' scores below it, and more than k not above it
-abbrev pub isMiddle : ℕ → ℕ → List Bool → List ℕ → Bool
-isMiddle x k m sc = leb (size (except m (from x sc))) k && ltb k (size (except m (above x sc)))
-
--- the first such score of a member, by slot
-abbrev pub searchMiddle : ℕ → List Bool → List ℕ → List Bool → List ℕ → ℕ
-searchMiddle k M S [] sc = 0
-searchMiddle k M S (b ∷ m) [] = 0
-searchMiddle k M S (b ∷ m) (v ∷ sc) = cond (b && isMiddle v k M S) v (searchMiddle k M S m sc)
-
--- where some member's score is such a one, the search finds one
-found-middle :
-    (k : ℕ) (M : List Bool) (S : List ℕ) (m : List Bool) (sc : List ℕ) (x : ℕ) →
+-- what holds of each member's score holds of each of these scores
+scores-all :
+    (P : ℕ → Type 0) (m : List Bool) (sc : List ℕ) →
+    ((j : ℕ) → at m j ≡ true → P (getD sc j 0)) →
+    (x : ℕ) →
     In x (scoresOf m sc) →
-    isMiddle x k M S ≡ true →
-    isMiddle (searchMiddle k M S m sc) k M S ≡ true
+    P x
 unfolding scoresOf
-found-middle k M S [] sc x i e = absurd i
-found-middle k M S (b ∷ m) [] x i e = absurd i
-found-middle k M S (true ∷ m) (v ∷ sc) x i e =
-    by-test _ (isMiddle v k M S)
-    (λ t. ap (λ (b : Bool). isMiddle (cond b v (searchMiddle k M S m sc)) k M S) t ∙ t)
-    (λ t.
-    ap (λ (b : Bool). isMiddle (cond b v (searchMiddle k M S m sc)) k M S) t
-    ∙ ⊎-elim (λ q. absurd (false≢true (sym t ∙ sym (ap (λ (y : ℕ). isMiddle y k M S) q) ∙ e)))
-    (λ j. found-middle k M S m sc x j e)
-    i)
-found-middle k M S (false ∷ m) (v ∷ sc) x i e = found-middle k M S m sc x i e
+scores-all P [] sc h x i = absurd i
+scores-all P (b ∷ m) [] h x i = absurd i
+scores-all P (true ∷ m) (v ∷ sc) h x i =
+    ⊎-elim (λ q. subst P (sym q) (h 0 refl)) (scores-all P m sc (λ j. h (suc j)) x) i
+scores-all P (false ∷ m) (v ∷ sc) h x i = scores-all P m sc (λ j. h (suc j)) x i
 
--- so it finds the element at k of the sorted scores
-pub middle-sorted :
-    (k : ℕ) (m : List Bool) (sc : List ℕ) →
-    length m ≡ length sc →
-    k < size m →
-    searchMiddle k m sc m sc ≡ getD (sort (scoresOf m sc)) k 0
-middle-sorted k m sc e h =
-    let l = scoresOf m sc in
-    let s = sort l in
-    let so = sort-sorted l in
-    let len : k < length s = let a = sort-length l in let b = scores-length m sc e in omega arith in
-    let x = getD s k 0 in
-    let c = at-counts s so k len in
-    let a = lower-size x m sc e in
-    let b = upto-size x m sc e in
-    let a′ = sort-passing (λ z. ltb z x) l in
-    let b′ = sort-passing (λ z. leb z x) l in
-    let t : isMiddle x k m sc ≡ true =
-    ap (λ (z : Bool). z && ltb k (size (except m (above x sc)))) (le-leb (size (except m (from x sc))) k (omega arith))
-    ∙ lt-ltb k (size (except m (above x sc))) (omega arith) in
-    let f = found-middle k m sc m sc x (sort-mem l x (getD-mem s k len)) t in
-    let y = searchMiddle k m sc m sc in
-    let r = halves (leb (size (except m (from y sc))) k) (ltb k (size (except m (above y sc)))) f in
-    let p = leb-true (size (except m (from y sc))) k (r .0) in
-    let q = ltb-true k (size (except m (above y sc))) (r .1) in
-    let u = lower-size y m sc e in
-    let w = upto-size y m sc e in
-    let u′ = sort-passing (λ z. ltb z y) l in
-    let w′ = sort-passing (λ z. leb z y) l in
-    sym (only-at s so k y (omega arith) (omega arith))
+-- at most k of the members' scores are below x
+abbrev pub few : ℕ → List Bool → List ℕ → ℕ → Bool
+few k m sc x = leb (size (except m (from x sc))) k
 
-module _
-    (k : ℕ) (M : List Bool) (S : List ℕ) (m : List Bool) (sc : List ℕ) (i : ℕ)
-    (hm : i < length m) (hs : i < length sc) where
-  middle-step :
-      searchMiddle k M S (drop i m) (drop i sc)
-      ≡ cond (at m i && isMiddle (getD sc i 0) k M S) (getD sc i 0) (searchMiddle k M S (drop (i + 1) m) (drop (i + 1) sc))
-  middle-step = ap₂ (λ (a : List Bool) (b : List ℕ). searchMiddle k M S a b) (drop-step false m i hm) (drop-step 0 sc i hs)
+-- What the search keeps before slot i: r has few below it, and of the members' scores passed that have few below them none is above r.
+pub record Kept (k : ℕ) (m : List Bool) (sc : List ℕ) (i r : ℕ) : Type 0 where
+  pub low : few k m sc r ≡ true
+  pub most : (j : ℕ) → j < i → at m j ≡ true → few k m sc (getD sc j 0) ≡ true → getD sc j 0 ≤ r
 
-  pub middle-take :
-      at m i ≡ true →
-      isMiddle (getD sc i 0) k M S ≡ true →
-      searchMiddle k M S (drop i m) (drop i sc) ≡ getD sc i 0
-  middle-take a b =
-      middle-step
-      ∙ ap (λ (z : Bool). cond z (getD sc i 0) (searchMiddle k M S (drop (i + 1) m) (drop (i + 1) sc)))
-      (ap (λ (z : Bool). z && isMiddle (getD sc i 0) k M S) a ∙ b)
+module _ (k : ℕ) (m : List Bool) (sc : List ℕ) (len : length m ≡ length sc) where
+  pub kept-none : Kept k m sc 0 0
+  kept-none =
+      record {
+        low = le-leb _ k (omega (arith, lower-size 0 m sc len, none-lower 0 (scoresOf m sc) (λ z i. omega arith)));
+        most = λ j h. absurd (not-suc-le-zero h);
+      }
 
-  pub middle-skip :
-      (at m i && isMiddle (getD sc i 0) k M S) ≡ false →
-      searchMiddle k M S (drop i m) (drop i sc) ≡ searchMiddle k M S (drop (i + 1) m) (drop (i + 1) sc)
-  middle-skip a = middle-step ∙ ap (λ (z : Bool). cond z (getD sc i 0) (searchMiddle k M S (drop (i + 1) m) (drop (i + 1) sc))) a
+  -- at the end it is the element at k of the sorted scores
+  pub kept-all : k < size m → (i r : ℕ) → length m ≤ i → Kept k m sc i r → r ≡ getD (sort (scoresOf m sc)) k 0
+  kept-all h i r end b =
+      let l = scoresOf m sc in
+      let s = sort l in
+      let x = getD s k 0 in
+      let lt : k < length s = omega (arith, sort-length l, scores-length m sc len) in
+      let few-x : few k m sc x ≡ true =
+      le-leb _ k (omega (arith, lower-size x m sc len, sort-lower x l, at-lower s (sort-sorted l) k lt)) in
+      let up : x ≤ r =
+      scores-all (λ (z : ℕ). few k m sc z ≡ true → z ≤ r) m sc
+      (λ j a. let p = at-below m j a in b .most j (omega arith) a)
+      x
+      (sort-mem l x (getD-mem s k lt))
+      few-x in
+      by-order _ x r
+      (λ p.
+      let z : ⊥ =
+      omega (
+        arith,
+        leb-true _ k (b .low),
+        lower-size r m sc len,
+        sort-lower r l,
+        past-lower s (sort-sorted l) k r lt p,
+      ) in
+      absurd z)
+      (λ p. omega arith)
 
-pub middle-end :
-    (k : ℕ) (M : List Bool) (S : List ℕ) (m : List Bool) (sc : List ℕ) (i : ℕ) →
-    length m ≤ i →
-    searchMiddle k M S (drop i m) (drop i sc) ≡ 0
-middle-end k M S m sc i h = ap (λ (a : List Bool). searchMiddle k M S a (drop i sc)) (drop-of-length-le m {i = i} h)
+-- one turn, at slot i: its score is no member's or not above r; or too many are below it; or it is taken
+module _ (k : ℕ) (m : List Bool) (sc : List ℕ) (i r q : ℕ) (b : Kept k m sc i r) where
+  more :
+      few k m sc q ≡ true →
+      r ≤ q →
+      (at m i ≡ true → few k m sc (getD sc i 0) ≡ true → getD sc i 0 ≤ q) →
+      Kept k m sc (i + 1) q
+  more f h here =
+      record {
+        low = f;
+        most =
+            below-more (λ (j : ℕ). at m j ≡ true → few k m sc (getD sc j 0) ≡ true → getD sc j 0 ≤ q) i
+            (λ j lt a e. let p = b .most j lt a e in omega arith)
+            here;
+      }
 
--- the test as the code makes it
-pub isMiddle-is :
-    (x k : ℕ) (m : List Bool) (sc : List ℕ) {f w g u : List Bool} {a b : ℕ} →
-    f ≡ from x sc →
-    w ≡ except m f →
-    a ≡ size w →
-    g ≡ above x sc →
-    u ≡ except m g →
-    b ≡ size u →
-    (leb a k && ltb k b) ≡ isMiddle x k m sc
-isMiddle-is x k m sc ef ew ea eg eu eb = cc
+  pub kept-passed : q ≡ r → (at m i && ltb r (getD sc i 0)) ≡ false → Kept k m sc (i + 1) q
+  kept-passed e t =
+      more (rw e (b .low)) (omega arith)
+      (λ a f. rw e (ltb-false r (getD sc i 0) (sym (ap (λ (z : Bool). z && ltb r (getD sc i 0)) a) ∙ t)))
+
+  pub kept-many : q ≡ r → few k m sc (getD sc i 0) ≡ false → Kept k m sc (i + 1) q
+  kept-many e t = more (rw e (b .low)) (omega arith) (λ a f. absurd (false≢true (sym t ∙ f)))
+
+  pub kept-taken :
+      q ≡ getD sc i 0 →
+      (at m i && ltb r (getD sc i 0)) ≡ true →
+      few k m sc (getD sc i 0) ≡ true →
+      Kept k m sc (i + 1) q
+  kept-taken e t f =
+      let h = ltb-true r (getD sc i 0) (halves (at m i) (ltb r (getD sc i 0)) t .1) in
+      more (rw e f) (omega arith) (λ a u. omega arith)

@@ -12,7 +12,7 @@ use Rattle.index.specs.Index.{count, gather, one}
 use Rattle.index.proofs.Index.{count-same}
 use Rattle.index.proofs.Flags.{by-order}
 use Rattle.sets.specs.Sets.{bySlot, at, size, both, except}
-use Rattle.sets.proofs.Loops.{Built, built-done}
+use Rattle.index.proofs.Lists.{Built, built-done}
 use Rattle.sets.proofs.WalkLaws.{both-at, both-length, except-at, except-length}
 
 pub slots-length : {A : Type 0} (n : ℕ) (f : ℕ → A) → length (bySlot n f) ≡ n

@@ -3,13 +3,14 @@
 use Prim.Native.Nat.{ℕ, zero, suc, _+_, _-_, _≤_, _<_}
 use native.Mathlib.Nat.{not-suc-le-zero, le-of-suc-le-suc, suc-inj, suc-ne-zero}
 use native.Mathlib.Omega.{arith}
-use mathlib.Core.Path.{_≡_, refl, sym, ap, _∙_}
+use mathlib.Core.Path.{_≡_, refl, sym, ap, ap₂, _∙_}
 use mathlib.Core.Bool.{Bool, true, false, not, cond, _&&_, and-true, and-false, false≢true}
 use mathlib.Core.List.{List, [], _∷_}
 use lib.ListN.{length, getD, set, drop, drop-of-length-le, length-map}
 use lib.Dec.{ltb, leb}
-use borrow.Author.Tests.{lt-ltb, le-ltb, ltb-true}
+use borrow.Author.Tests.{lt-ltb, le-ltb, le-leb, lt-leb, ltb-true}
 use Rattle.index.proofs.Index.{both as halves}
+use Rattle.index.proofs.Flags.{by-order}
 use Rattle.sets.proofs.Loops.{drop-step, map-at}
 use Rattle.sets.specs.Sets.{
   at,
@@ -76,13 +77,16 @@ pub from-length : (x : ℕ) (sc : List ℕ) → length (from x sc) ≡ length sc
 unfolding from
 from-length x sc = length-map sc (leb x)
 
-pub above-at : (x : ℕ) (sc : List ℕ) (k : ℕ) → k < length sc → at (above x sc) k ≡ ltb x (getD sc k 0)
-unfolding above
-above-at x sc k h = map-at (ltb x) sc k 0 false h
-
-pub above-length : (x : ℕ) (sc : List ℕ) → length (above x sc) ≡ length sc
-unfolding above
-above-length x sc = length-map sc (ltb x)
+-- above x is from the number after x
+pub above-is : (x : ℕ) (sc : List ℕ) → above x sc ≡ from (x + 1) sc
+unfolding above from
+above-is x [] = refl
+above-is x (y ∷ sc) = ap₂ (λ (b : Bool) (l : List Bool). b ∷ l) (test x y) (above-is x sc)
+  where
+    test : (x y : ℕ) → ltb x y ≡ leb (x + 1) y
+    test x y = by-order _ x y
+        (λ h. lt-ltb x y h ∙ sym (le-leb (x + 1) y (omega arith)))
+        (λ h. le-ltb x y h ∙ sym (lt-leb (x + 1) y (omega arith)))
 
 -- ---- counting
 pub size-step :

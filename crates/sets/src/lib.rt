@@ -4,7 +4,7 @@
 ghost use mathlib.Core.Path.{_≡_};
 ghost use Prim.Native.Nat.{_-_};
 ghost use lib.ListN.{getD, set};
-ghost use Rattle.sets.specs.Sets.{at, size, both, except, from, above};
+ghost use Rattle.sets.specs.Sets.{at, size, both, except, from};
 use records::SLOTS;
 
 pub mod median;
@@ -53,17 +53,6 @@ pub fn at_least(x: u64, scores: [u64; SLOTS]) -> [bool; SLOTS]
     let mut r = [false; SLOTS];
     for i in 0..SLOTS {
         r[i] = x <= scores[i];
-    }
-    r
-}
-
-// The slots whose score is above x.
-pub fn over(x: u64, scores: [u64; SLOTS]) -> [bool; SLOTS]
-    ensures { λ r. ⌜ r ≡ above x scores ⌝ }
-{
-    let mut r = [false; SLOTS];
-    for i in 0..SLOTS {
-        r[i] = x < scores[i];
     }
     r
 }

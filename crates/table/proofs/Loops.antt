@@ -4,13 +4,12 @@ use Prim.Native.Nat.{ℕ, _+_, _<_, _≤_}
 use native.Mathlib.Nat.{le-antisymm}
 use native.Mathlib.Numerals.{add-one}
 use native.Mathlib.Omega.{arith}
-use mathlib.Core.Path.{_≡_, refl, _∙_}
+use mathlib.Core.Path.{_≡_, refl}
 use mathlib.Core.Bool.{Bool, true, _&&_}
 use mathlib.Core.List.{List}
 use lib.ListN.{length, getD, set}
-use lib.Seq.{getD-set-same, getD-set-other}
 use Rattle.index.specs.Index.{every}
-use Rattle.index.proofs.Flags.{by-order}
+use Rattle.index.proofs.Lists.{built-more}
 
 module _ (f : ℕ → Bool) where
   pub flag-start : true ≡ every 0 f
@@ -35,12 +34,5 @@ pub fill-more :
     (k : ℕ) →
     k < i + 1 →
     getD (set l i v) k 0 ≡ f k
-fill-more f l i v b h e k m =
-    by-order
-    (getD (set l i v) k 0 ≡ f k)
-    k
-    i
-    (λ (n : k < i). getD-set-other l i k v 0 (λ z. omega arith) ∙ h k n)
-    (λ (n : i ≤ k).
-    let z : k ≡ i = omega arith in
-    rw z (getD-set-same l i v 0 b ∙ e))
+fill-more f l i v b h e =
+    built-more 0 f (length l) i l v b (record { low = omega arith; len = refl; below = h }) e .below

@@ -1,26 +1,24 @@
 -- The two ends of a call that gives no action: 11, and 0.
 -- Assumes nothing.
-use Prim.Native.Nat.{ℕ, _<_}
+use Prim.Native.Nat.{ℕ}
 use mathlib.Core.Path.{_≡_, refl, ap, ap₂, _∙_}
 use mathlib.Core.Bool.{Bool, true, false, cond, _&&_}
 use mathlib.Core.List.{List, []}
 use lib.ListN.{length}
 use Rattle.index.proofs.Flags.{yes, no}
 use Rattle.records.specs.Records.{State, setClock, setJoined}
-use Rattle.cells.specs.View.{cellCount, stateOf}
+use Rattle.cells.specs.View.{stateOf}
 use Rattle.effects.specs.Effects.{isJoined, onTopic, withSubscribed, outOfMesh}
 use Rattle.rules.specs.declared.Answer.{Answer}
 use Rattle.rules.specs.declared.Answer.the-variants.{Done, Ignored}
 use Rattle.rules.specs.declared.Gate.{Gate}
-use Rattle.rules.specs.declared.Gate.the-variants.{Pass}
+use Rattle.rules.specs.declared.Gate.the-variants.{Pass, Refuse}
 use Rattle.rules.specs.Reply.{Reply, ignored, done}
-use Rattle.rules.specs.Calls.{join, subscribe, unsubscribe, timeOk, idOk, topicOk}
+use Rattle.rules.specs.Calls.{join, timeOf, timeOk, idOk, topicOk, argumentsOk}
 use Rattle.rules.specs.Step.{gateOf, effect, ofPeer, isGraylisted, joinReply, subscribeReply, unsubscribeReply}
 use Rattle.rules.specs.Promise.{Leaves, Follows}
 use Rattle.rules.proofs.EndLaws.{leaves-ignored, leaves-done, quiet-cond, quiet-peer}
-use Rattle.rules.proofs.CaseLaws.{topic-of-both}
-use Rattle.gate.specs.Ready.{Ready}
-use Rattle.gate.proofs.CallLaws.{Word, Behind, call-word, call-behind, call-quiet}
+use Rattle.gate.proofs.CallLaws.{gate-refusal, gate-quiet}
 use Rattle.topics.specs.Change.{change, changed, changeReply}
 
 -- "11 if t, else 0": t is the rule's test, and f what the code computed of it
@@ -55,36 +53,47 @@ module _ (time id t : ℕ) where
   change-effect true st = refl
   change-effect false st = refl
 
-  ready-in : (on : Bool) {table list : List ℕ} → Behind (change on time id t) table list → Ready table time × (t < 8)
-  ready-in true b = (b .ready, topic-of-both id t (b .fine))
-  ready-in false b = (b .ready, topic-of-both id t (b .fine))
+  change-time : (on : Bool) → time ≡ timeOf (change on time id t)
+  change-time true = refl
+  change-time false = refl
 
-  -- the gate's word, and what is behind it
-  pub change-word :
-      (on : Bool) (table list : List ℕ) (a b d : Bool) (g : Gate) →
-      a ≡ timeOk time →
-      b ≡ idOk id →
-      d ≡ topicOk t →
-      g ≡ gateOf (stateOf table) (a && (b && d)) (length list) time →
-      Word (change on time id t) table list g
-  change-word true table list a b d g ea eb ed eg = call-word (subscribe time id t) table list a (b && d) g ea (ap₂ _&&_ eb ed) eg
-  change-word false table list a b d g ea eb ed eg = call-word (unsubscribe time id t) table list a (b && d) g ea (ap₂ _&&_ eb ed) eg
+  change-range : (on : Bool) → (idOk id && topicOk t) ≡ argumentsOk (change on time id t)
+  change-range true = refl
+  change-range false = refl
 
-  module _ (on : Bool) {table list : List ℕ} {g : Gate} (w : Word (change on time id t) table list g) (p : g ≡ Pass) where
-    pub change-behind : length table ≡ cellCount → Ready table time × (t < 8)
-    change-behind l = ready-in on (call-behind w p l)
+  module _
+      (on : Bool)
+      (table list : List ℕ)
+      (a b d : Bool)
+      (g : Gate)
+      (ea : a ≡ timeOk time)
+      (eb : b ≡ idOk id)
+      (ed : d ≡ topicOk t)
+      (eg : g ≡ gateOf (stateOf table) (a && (b && d)) (length list) time)
+    where
+      pub change-refusal : (x : Answer) → g ≡ Refuse x → Follows (change on time id t) x table table list list
+      change-refusal =
+          gate-refusal (change on time id t) table list a (b && d) g (ea ∙ ap timeOk (change-time on))
+          (ap₂ _&&_ eb ed ∙ change-range on)
+          (eg ∙ ap (gateOf (stateOf table) (a && (b && d)) (length list)) (change-time on))
 
-    pub change-follows :
-        {a : Answer} {table′ : List ℕ} →
-        Leaves (ofPeer (stateOf table) id (changeReply on (stateOf table) time t)) a table table′ →
-        Follows (change on time id t) a table table′ list list
-    unfolding changeReply
-    change-follows {a} {table′} l =
-        let e = change-effect on (stateOf table) in
-        let q =
-        quiet-peer (stateOf table) id (changeReply on (stateOf table) time t)
-        (λ s. quiet-test (isGraylisted (stateOf table) s) (stateOf table) (onTopic (stateOf table) s t (changed on)) time) in
-        call-quiet w p (ap (λ (r : Reply). r .actions) e ∙ q) (rw e l)
+      pub change-follows :
+          g ≡ Pass →
+          (r : Answer) (table′ : List ℕ) →
+          Leaves (ofPeer (stateOf table) id (changeReply on (stateOf table) time t)) r table table′ →
+          Follows (change on time id t) r table table′ list list
+      unfolding changeReply
+      change-follows p r table′ l =
+          let e = change-effect on (stateOf table) in
+          let q =
+          quiet-peer (stateOf table) id (changeReply on (stateOf table) time t)
+          (λ s. quiet-test (isGraylisted (stateOf table) s) (stateOf table) (onTopic (stateOf table) s t (changed on)) time) in
+          gate-quiet (change on time id t) table list a (b && d) g (ea ∙ ap timeOk (change-time on))
+          (ap₂ _&&_ eb ed ∙ change-range on)
+          (eg ∙ ap (gateOf (stateOf table) (a && (b && d)) (length list)) (change-time on))
+          p r table′
+          (ap (λ (o : Reply). o .actions) e ∙ q)
+          (rw e l)
 
 -- what the store of either flag leaves
 module _ (st u : State) (s t : ℕ) (on : Bool) where

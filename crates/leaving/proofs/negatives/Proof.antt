@@ -1,18 +1,16 @@
--- `leaving::negatives`: after `slot` turns the flags below it are set.
-use Rattle.index.proofs.Kit.{ℕ, _≤_, _<_, _-_, _≡_, refl, arith, false}
-use native.Mathlib.Nat.{not-suc-le-zero}
-use lib.ListN.{length, getD, length-set}
-use Rattle.cells.specs.View.{stateOf}
+-- `leaving::negatives`: the loop builds the flags from the front.
+use Rattle.index.proofs.Kit.{_-_, refl, arith, false}
 use mathlib.Core.Bool.{_&&_}
+use Rattle.index.proofs.Lists.{Built, built-none, built-more}
+use Rattle.cells.specs.View.{stateOf}
 use Rattle.effects.specs.Effects.{isMember}
 use Rattle.rules.specs.Step.{isNegative}
-use Rattle.leaving.proofs.LeaveLaws.{flags-more}
 use Rattle.leaving.proofs.negatives.Statement.{statement}
 use Rattle.leaving.proofs.negatives.Tie as tie
 
 abbrev Inv-loop : tie.InvT-loop
 Inv-loop table topic flags₀ slot₀ flags slot =
-    (slot ≤ 64) × (length flags ≡ 64) × ((k : ℕ) → k < slot → getD flags k false ≡ (isMember (stateOf table) topic k && isNegative (stateOf table) k))
+    Built false (λ s. isMember (stateOf table) topic s && isNegative (stateOf table) s) 64 slot flags
 
 abbrev μ-loop : tie.MeasureT-loop
 μ-loop table topic flags₀ slot₀ flags slot = 64 - slot
@@ -23,16 +21,12 @@ negatives-spec =
     (tie.spec
     Inv-loop
     μ-loop
-    (λ c. (omega arith, refl, λ k h. absurd (not-suc-le-zero h)))
+    (λ c. built-none _ _ _ _ refl)
     (λ c κs. let p = c .before .before .before .pre in (p .0, (p .1, omega arith)))
     (λ c. omega arith)
     (λ c. omega arith)
     (λ c. omega arith)
     (λ c.
-    let l = c .before .before .loop in (
-      omega arith,
-      simp length-set (l .inv .1),
-      let s = c .before .before .before .before in
-          flags-more (λ k. isMember (stateOf (s .args .table .now)) (s .args .topic) k && isNegative (stateOf (s .args .table .now)) k) (l .flags) (l .slot) (c .is-negative-member .result) (omega arith) (l .inv .2) (c .is-negative-member .ensures),
-    ))
-    (λ c k h. c .before .loop .inv .2 k (omega arith)))
+    let l = c .before .before .loop in
+    built-more _ _ _ (l .slot) (l .flags) _ (omega arith) (l .inv) (c .is-negative-member .ensures))
+    (λ c k h. c .before .loop .inv .below k (omega arith)))

@@ -9,7 +9,7 @@ use lib.ListN.{length, getD}
 use lib.Dec.{leb}
 use Rattle.records.specs.Records.{slotCount}
 use Rattle.sets.specs.Sets.{from}
-use Rattle.sets.proofs.Loops.{Built, built-none, built-more, built-done}
+use Rattle.index.proofs.Lists.{Built, built-none, built-more, built-done}
 use Rattle.sets.proofs.WalkLaws.{from-at, from-length}
 use Rattle.sets.proofs.at_least.Statement.{statement}
 use Rattle.sets.proofs.at_least.Tie as tie

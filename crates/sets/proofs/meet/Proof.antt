@@ -8,7 +8,7 @@ use mathlib.Core.Bool.{false, _&&_}
 use lib.ListN.{length}
 use Rattle.records.specs.Records.{slotCount}
 use Rattle.sets.specs.Sets.{at, both}
-use Rattle.sets.proofs.Loops.{Built, built-none, built-more, built-done}
+use Rattle.index.proofs.Lists.{Built, built-none, built-more, built-done}
 use Rattle.sets.proofs.WalkLaws.{both-at, both-length}
 use Rattle.sets.proofs.meet.Statement.{statement}
 use Rattle.sets.proofs.meet.Tie as tie

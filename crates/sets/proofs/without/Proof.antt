@@ -8,7 +8,7 @@ use mathlib.Core.Bool.{false, not, _&&_}
 use lib.ListN.{length}
 use Rattle.records.specs.Records.{slotCount}
 use Rattle.sets.specs.Sets.{at, except}
-use Rattle.sets.proofs.Loops.{Built, built-none, built-more, built-done}
+use Rattle.index.proofs.Lists.{Built, built-none, built-more, built-done}
 use Rattle.sets.proofs.WalkLaws.{except-at, except-length}
 use Rattle.sets.proofs.without.Statement.{statement}
 use Rattle.sets.proofs.without.Tie as tie

@@ -9,7 +9,7 @@ use Rattle.score.proofs.InputLaws.{slot-in}
 use Rattle.score.proofs.ShareLaws.{sum-more}
 use Rattle.score.proofs.SlotLaws.{share-ready, share-is-at}
 use Rattle.score.proofs.ScoreLaws.{add-ready}
-use Rattle.sets.proofs.Loops.{Built, built-none, built-more}
+use Rattle.index.proofs.Lists.{Built, built-none, built-more}
 use Rattle.sets.proofs.SlotLaws.{slots-built, slots-length}
 use Rattle.heartbeat.proofs.ScoresLaws.{sum-at}
 use Rattle.heartbeat.proofs.scores.add_topic.Statement.{statement}

@@ -3,7 +3,7 @@ use Rattle.index.proofs.Kit.{_-_, refl, ap, arith, ℕ, false}
 use lib.Dec.{eqb}
 use Rattle.records.specs.Records.{slotCount, peerIn, isConnected}
 use Rattle.cells.specs.View.{stateOf}
-use Rattle.sets.proofs.Loops.{Built, built-none, built-more}
+use Rattle.index.proofs.Lists.{Built, built-none, built-more}
 use Rattle.sets.proofs.SlotLaws.{slots-built}
 use Rattle.heartbeat.proofs.scores.connected.Statement.{statement}
 use Rattle.heartbeat.proofs.scores.connected.Tie as tie

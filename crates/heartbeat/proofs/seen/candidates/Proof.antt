@@ -2,7 +2,7 @@
 use Rattle.index.proofs.Kit.{_-_, refl, arith, false}
 use Rattle.records.specs.Records.{slotCount}
 use Rattle.cells.specs.View.{stateOf}
-use Rattle.sets.proofs.Loops.{Built, built-none, built-more}
+use Rattle.index.proofs.Lists.{Built, built-none, built-more}
 use Rattle.sets.proofs.SlotLaws.{slots-built}
 use Rattle.rules.specs.Step.{isCandidate}
 use Rattle.heartbeat.proofs.SeenLaws.{score-at}

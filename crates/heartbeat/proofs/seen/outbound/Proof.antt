@@ -4,7 +4,7 @@ use lib.Dec.{eqb}
 use Rattle.records.specs.declared.Peer.{Peer}
 use Rattle.records.specs.Records.{slotCount, peerIn}
 use Rattle.cells.specs.View.{stateOf}
-use Rattle.sets.proofs.Loops.{Built, built-none, built-more}
+use Rattle.index.proofs.Lists.{Built, built-none, built-more}
 use Rattle.sets.proofs.SlotLaws.{slots-built}
 use Rattle.heartbeat.proofs.seen.outbound.Statement.{statement}
 use Rattle.heartbeat.proofs.seen.outbound.Tie as tie

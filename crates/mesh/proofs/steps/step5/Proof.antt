@@ -1,5 +1,6 @@
 -- `mesh::steps::step5` meets its contract.
 -- Assumes nothing.
+use native.Mathlib.Omega.{arith}
 use borrow.Author.Needs.{needs}
 use borrow.Author.Tests.{not-true, not-false}
 use Rattle.mesh.proofs.StepLaws.{mesh5-unasked, mesh5-few, mesh5-high, mesh5-low}
@@ -31,7 +32,7 @@ returns-4 c =
     mesh5-low (s .t) (s .v) (s .m) (not-false (s .v .ask) (c₉ .before .if1 .left)) (c₉ .count .ensures) (c₈ .if2 .left)
     (c₅ .before .middle .ensures)
     (c₅ .if3 .left)
-    (c .before .before .over .ensures)
+    (c .before .before .at-least .ensures)
     (c .before .meet .ensures)
     (c .put-in .ensures)
 
@@ -44,6 +45,7 @@ step5-spec =
     returns-2
     (λ c κs. search needs)
     returns-3
+    (λ c. omega arith)
     (λ c κs. tt)
     (λ c κs. tt)
     (λ c κs. tt)

@@ -5,7 +5,7 @@ use native.Mathlib.Omega.{arith}
 use mathlib.Core.Path.{refl}
 use Rattle.records.specs.Records.{slotCount}
 use Rattle.sets.specs.Sets.{ascending}
-use Rattle.sets.proofs.Loops.{Built, built-none, built-more, built-done}
+use Rattle.index.proofs.Lists.{Built, built-none, built-more, built-done}
 use Rattle.sets.proofs.PermutationLaws.{ascending-length, ascending-at}
 use Rattle.sets.proofs.permutation.by_slot.Statement.{statement}
 use Rattle.sets.proofs.permutation.by_slot.Tie as tie

@@ -6,7 +6,7 @@ use borrow.Author.Needs.{needs}
 use mathlib.Core.Path.{_≡_, refl}
 use lib.ListN.{length, getD}
 use Rattle.records.specs.Records.{slotCount}
-use Rattle.sets.proofs.Loops.{Built, built-none, built-more, built-done}
+use Rattle.index.proofs.Lists.{Built, built-none, built-more, built-done}
 use Rattle.sets.proofs.permutation.copied.Statement.{statement}
 use Rattle.sets.proofs.permutation.copied.Tie as tie
 
