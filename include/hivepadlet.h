@@ -63,8 +63,8 @@
  * value. Only hivepadlet_leave, hivepadlet_graft and hivepadlet_heartbeat give any, at most one for each peer.
  *
  * To know along whom to pass a topic's messages, keep a note of its mesh: a peer is in after a GRAFT sent, and after a GRAFT
- * from it that is answered 0 with no action; it is out after a PRUNE in either direction, its unsubscribing and its
- * disconnecting.
+ * from it that is answered 0 with no action; it is out after a PRUNE sent, and after a PRUNE from it, its unsubscribing or its
+ * disconnecting that is answered 0 (one answered 11 leaves it in).
  *
  * WHEN TO CALL
  *
