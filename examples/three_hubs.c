@@ -30,7 +30,7 @@ struct hub {
     bool deaf;      /* throws every PRUNE away */
     bool joined;    /* the topic */
     bool linked[HUBS];
-    bool mesh[HUBS]; /* the host's note of the topic's mesh, kept by the actions: notices go along it */
+    bool mesh[HUBS]; /* the host's note of the topic's mesh, kept by actions and answers: notices go along it */
     struct message inbox[INBOX];
     size_t waiting;
     uint64_t table[HIVEPADLET_CELLS];
@@ -154,6 +154,15 @@ static uint32_t carry(int hub, uint64_t r)
     return hivepadlet_value(r);
 }
 
+/* the same of a call by which a peer goes: where it is done, the peer is out of the mesh; one that is ignored leaves it in */
+static void let_go(int hub, int peer, uint64_t r)
+{
+    carry(hub, r);
+    if (hivepadlet_number(r) == HIVEPADLET_DONE) {
+        hubs[hub].mesh[peer] = false;
+    }
+}
+
 /* ---- a message that arrives is a call */
 
 static void take_graft(int hub, int peer)
@@ -172,8 +181,7 @@ static void take_prune(int hub, int peer, uint64_t seconds)
     if (h->deaf) {
         return;
     }
-    carry(hub, hivepadlet_prune(h->table, now, id_of(peer), TOPIC, seconds, h->actions, HIVEPADLET_ACTION_NUMBERS));
-    h->mesh[peer] = false;
+    let_go(hub, peer, hivepadlet_prune(h->table, now, id_of(peer), TOPIC, seconds, h->actions, HIVEPADLET_ACTION_NUMBERS));
 }
 
 static void take(int hub, struct message m)
@@ -184,8 +192,8 @@ static void take(int hub, struct message m)
         carry(hub, hivepadlet_subscribe(h->table, now, id_of(m.from), TOPIC, h->actions, HIVEPADLET_ACTION_NUMBERS));
         break;
     case UNSUBSCRIBE:
-        carry(hub, hivepadlet_unsubscribe(h->table, now, id_of(m.from), TOPIC, h->actions, HIVEPADLET_ACTION_NUMBERS));
-        h->mesh[m.from] = false;
+        let_go(hub, m.from,
+               hivepadlet_unsubscribe(h->table, now, id_of(m.from), TOPIC, h->actions, HIVEPADLET_ACTION_NUMBERS));
         break;
     case GRAFT:
         take_graft(hub, m.from);
@@ -245,8 +253,7 @@ static void hang_up(int hub, int peer)
 {
     struct hub *h = &hubs[hub];
     h->linked[peer] = false;
-    h->mesh[peer] = false;
-    carry(hub, hivepadlet_disconnect(h->table, now, id_of(peer), h->actions, HIVEPADLET_ACTION_NUMBERS));
+    let_go(hub, peer, hivepadlet_disconnect(h->table, now, id_of(peer), h->actions, HIVEPADLET_ACTION_NUMBERS));
 }
 
 static void join(int hub)

@@ -63,8 +63,8 @@
  * value. Only hivepadlet_leave, hivepadlet_graft and hivepadlet_heartbeat give any, at most one for each peer.
  *
  * To know along whom to pass a topic's messages, keep a note of its mesh: a peer is in after a GRAFT sent, and after a GRAFT
- * from it that is answered 0 with no action; it is out after a PRUNE in either direction, its unsubscribing and its
- * disconnecting.
+ * from it that is answered 0 with no action; it is out after a PRUNE sent, and after a PRUNE from it, its unsubscribing or its
+ * disconnecting that is answered 0 (one answered 11 leaves it in).
  *
  * WHEN TO CALL
  *
@@ -106,8 +106,9 @@ enum hivepadlet_answer {
     HIVEPADLET_NOT_PERMUTATION = 7,   /* not each of 0 to 63 once */
     HIVEPADLET_LIST_SHORT = 8,        /* action list under 192 numbers; in writing parameters, buffer under 735 bytes */
     HIVEPADLET_BROKEN = 9,            /* a parameter outside its limits: its index; or a joint rule broken: 200 + the rule */
-    HIVEPADLET_MALFORMED = 10,        /* bytes that are no parameters: the place where the first bad number begins, or the
-                                         first byte left over, or the length where the bytes end too soon */
+    HIVEPADLET_MALFORMED = 10,        /* bytes that are no parameters: the place where the first bad number begins, also where
+                                         the bytes end inside it; or the first byte left over; or the length if the bytes end
+                                         between numbers */
     HIVEPADLET_IGNORED = 11,          /* ignored: only the clock moved */
     HIVEPADLET_NOT_ROUTER = 12        /* the table is no router's: damaged, or never made by hivepadlet_fresh */
 };

@@ -116,6 +116,21 @@ static void ignored_and_damaged(void)
     table[HIVEPADLET_CELLS - 1] = 0;
 }
 
+/* a member below the graylist threshold: its PRUNE and its unsubscribing are ignored and leave it in, so a leave prunes it */
+static void graylisted(void)
+{
+    answers("join of topic 1", hivepadlet_join(table, 6, 1, LIST), HIVEPADLET_DONE, 0);
+    answers("subscribe to topic 1", hivepadlet_subscribe(table, 6, 7, 1, LIST), HIVEPADLET_DONE, 0);
+    answers("GRAFT in topic 1", hivepadlet_graft(table, 6, 7, 1, LIST), HIVEPADLET_DONE, 0);
+    answers("P5 of -41 points", hivepadlet_rate(table, 6, 7, -41000000, LIST), HIVEPADLET_DONE, 0);
+    answers("PRUNE of a graylisted peer", hivepadlet_prune(table, 6, 7, 1, 60, LIST), HIVEPADLET_IGNORED, 0);
+    answers("its unsubscribing", hivepadlet_unsubscribe(table, 6, 7, 1, LIST), HIVEPADLET_IGNORED, 0);
+    answers("P5 of 0", hivepadlet_rate(table, 6, 7, 0, LIST), HIVEPADLET_DONE, 0);
+    answers("leave with one member", hivepadlet_leave(table, 6, 1, LIST), HIVEPADLET_DONE, 1);
+    check("PRUNE 7 10", hivepadlet_action_kind(actions, 0) == HIVEPADLET_PRUNE && hivepadlet_action_peer(actions, 0) == 7 &&
+                            hivepadlet_action_seconds(actions, 0) == 10);
+}
+
 /* the paper's worked example: heartbeat, PRUNE, GRAFT during the backoff, score */
 static void example(void)
 {
@@ -157,6 +172,7 @@ int main(void)
     parameters();
     refusals();
     ignored_and_damaged();
+    graylisted();
     example();
     full();
     printf("%u passed, %u failed\n", passed, failed);
