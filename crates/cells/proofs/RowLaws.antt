@@ -155,6 +155,20 @@ rows-put-same cells o w n i vs h e fits =
       | no l ↦ span-put-after cells (o + i * w) vs f (o + k * w) w (omega (arith, stride i k w (omega arith)))
     ])
 
+-- one cell of record i is replaced, and no other
+pub rows-put-cell : (cells : List ℕ) (o w n i j v : ℕ) → i < n → j < w → o + n * w ≤ length cells
+    → rows (put cells (o + i * w + j) (v ∷ [])) o w n ≡ set (rows cells o w n) i (set (span cells (o + i * w) w) j v)
+unfolding rows
+rows-put-cell cells o w n i j v h l fits =
+    let b : i * w + w ≤ n * w = stride i n w h in
+    let f : (o + i * w + j) + length (v ∷ []) ≤ length cells = omega arith in
+    tab-set n (λ k. span cells (o + k * w) w) (λ k. span (put cells (o + i * w + j) (v ∷ [])) (o + k * w) w) i (set (span cells (o + i * w) w) j v)
+    (span-put-one cells (o + i * w) w j v l (omega arith))
+    (λ k hk ne. elim (decLt k i) [
+      | yes m ↦ span-put-before cells (o + i * w + j) (v ∷ []) f (o + k * w) w (omega (arith, stride k i w m))
+      | no m ↦ span-put-after cells (o + i * w + j) (v ∷ []) f (o + k * w) w (omega (arith, stride i k w (omega arith)))
+    ])
+
 -- a store before or after the region leaves it
 pub rows-put-before : (cells : List ℕ) (o w n at : ℕ) (vs : List ℕ) → at + length vs ≤ length cells → o + n * w ≤ at
     → rows (put cells at vs) o w n ≡ rows cells o w n

@@ -11,7 +11,7 @@ use Rattle.records.specs.declared.Peer.{Peer}
 use Rattle.records.specs.declared.TopicRecord.{TopicRecord}
 use Rattle.records.specs.Records.{State, noPeer, noTopic, joinedIn, codeIn, peerIn, topicIn, setClock, setJoined, setPeer, setTopic, slotCount, topicCount, paramCount}
 use Rattle.cells.specs.Rows.{rows}
-use Rattle.cells.specs.View.{joinedAt, codesAt, peersAt, peerCells, topicsAt, topicCells, placeCount, peerOf, topicOf, stateOf, setCode, Sized}
+use Rattle.cells.specs.View.{joinedAt, codesAt, peersAt, peerCells, topicsAt, topicCells, placeCount, peerOf, topicOf, stateOf, Sized}
 use Rattle.cells.proofs.RowLaws.{length-rows, length-span}
 
 module _ (st : State) where
@@ -24,10 +24,6 @@ module _ (st : State) where
   pub joined-same : (t b : ℕ) → t < length (st .joined) → joinedIn (setJoined st t b) t ≡ b
   unfolding joinedIn setJoined
   joined-same t b h = getD-set-same (st .joined) t b 0 h
-
-  pub code-same : (i c : ℕ) → i < length (st .codes) → codeIn (setCode st i c) i ≡ c
-  unfolding codeIn setCode
-  code-same i c h = getD-set-same (st .codes) i c 0 h
 
   pub peer-same : (s : ℕ) (p : Peer) → s < length (st .peers) → peerIn (setPeer st s p) s ≡ p
   unfolding peerIn setPeer
@@ -42,10 +38,6 @@ module _ (st : State) where
   pub joined-other : (t b u : ℕ) → u ≢ t → joinedIn (setJoined st t b) u ≡ joinedIn st u
   unfolding joinedIn setJoined
   joined-other t b u h = getD-set-other (st .joined) t u b 0 h
-
-  pub code-other : (i c j : ℕ) → j ≢ i → codeIn (setCode st i c) j ≡ codeIn st j
-  unfolding codeIn setCode
-  code-other i c j h = getD-set-other (st .codes) i j c 0 h
 
   pub peer-other : (s : ℕ) (p : Peer) (u : ℕ) → u ≢ s → peerIn (setPeer st s p) u ≡ peerIn st u
   unfolding peerIn setPeer
@@ -64,14 +56,6 @@ module _ (st : State) where
       P (joinedIn (setJoined st t b) u)
   unfolding joinedIn setJoined
   joined-case P t b u h o = set-case P (st .joined) t u b 0 h o
-
-  pub code-case :
-      (P : ℕ → Type 0) (i c j : ℕ) →
-      (j ≡ i → P c) →
-      P (codeIn st j) →
-      P (codeIn (setCode st i c) j)
-  unfolding codeIn setCode
-  code-case P i c j h o = set-case P (st .codes) i j c 0 h o
 
   pub peer-case :
       (P : Peer → Type 0) (s : ℕ) (p : Peer) (u : ℕ) →
@@ -94,10 +78,6 @@ module _ (st : State) where
   pub clock-after-joined : (t b : ℕ) → setJoined st t b .clock ≡ st .clock
   unfolding setJoined
   clock-after-joined t b = refl
-
-  pub clock-after-code : (i c : ℕ) → setCode st i c .clock ≡ st .clock
-  unfolding setCode
-  clock-after-code i c = refl
 
   pub clock-after-peer : (s : ℕ) (p : Peer) → setPeer st s p .clock ≡ st .clock
   unfolding setPeer
@@ -126,10 +106,6 @@ module _ (st : State) where
   pub joined-after-clock : (n : ℕ) (x : ℕ) → joinedIn (setClock st n) x ≡ joinedIn st x
   unfolding joinedIn setClock
   joined-after-clock n x = refl
-
-  pub joined-after-code : (i c : ℕ) (x : ℕ) → joinedIn (setCode st i c) x ≡ joinedIn st x
-  unfolding joinedIn setCode
-  joined-after-code i c x = refl
 
   pub joined-after-peer : (s : ℕ) (p : Peer) (x : ℕ) → joinedIn (setPeer st s p) x ≡ joinedIn st x
   unfolding joinedIn setPeer
@@ -163,10 +139,6 @@ module _ (st : State) where
   unfolding peerIn setJoined
   peer-after-joined t b x = refl
 
-  pub peer-after-code : (i c : ℕ) (x : ℕ) → peerIn (setCode st i c) x ≡ peerIn st x
-  unfolding peerIn setCode
-  peer-after-code i c x = refl
-
   pub peer-after-topic : (k : ℕ) (t : TopicRecord) (x : ℕ) → peerIn (setTopic st k t) x ≡ peerIn st x
   unfolding peerIn setTopic
   peer-after-topic k t x = refl
@@ -178,10 +150,6 @@ module _ (st : State) where
   pub topic-after-joined : (t b : ℕ) (x : ℕ) → topicIn (setJoined st t b) x ≡ topicIn st x
   unfolding topicIn setJoined
   topic-after-joined t b x = refl
-
-  pub topic-after-code : (i c : ℕ) (x : ℕ) → topicIn (setCode st i c) x ≡ topicIn st x
-  unfolding topicIn setCode
-  topic-after-code i c x = refl
 
   pub topic-after-peer : (s : ℕ) (p : Peer) (x : ℕ) → topicIn (setPeer st s p) x ≡ topicIn st x
   unfolding topicIn setPeer
@@ -284,17 +252,6 @@ module _ (st : State) where
           ends = size .ends;
         }
 
-    pub sized-code : (i c : ℕ) → Sized (setCode st i c)
-    unfolding setCode peerIn
-    sized-code i c =
-        record {
-          joined = size .joined;
-          codes = length-set (st .codes) i c ∙ size .codes;
-          peers = size .peers;
-          topics = size .topics;
-          ends = size .ends;
-        }
-
     pub sized-peer : (s : ℕ) (p : Peer) → length (p .backoff) ≡ 8 → Sized (setPeer st s p)
     unfolding setPeer peerIn
     sized-peer s p e =
@@ -341,7 +298,6 @@ sized-of cells =
 -- every reader after a store of another kind, for `simp`
 pub ruleset reads = (
   clock-after-joined,
-  clock-after-code,
   clock-after-peer,
   clock-after-topic,
   codes-after-clock,
@@ -349,7 +305,6 @@ pub ruleset reads = (
   codes-after-peer,
   codes-after-topic,
   joined-after-clock,
-  joined-after-code,
   joined-after-peer,
   joined-after-topic,
   code-after-clock,
@@ -358,10 +313,8 @@ pub ruleset reads = (
   code-after-topic,
   peer-after-clock,
   peer-after-joined,
-  peer-after-code,
   peer-after-topic,
   topic-after-clock,
   topic-after-joined,
-  topic-after-code,
   topic-after-peer,
 )

@@ -12,8 +12,8 @@ use Rattle.records.specs.declared.Peer.{Peer}
 use Rattle.records.specs.declared.TopicRecord.{TopicRecord}
 use Rattle.records.specs.Records.{State, noPeer, noTopic, joinedIn, codeIn, peerIn, topicIn, setClock, setJoined, setPeer, setTopic, slotCount, topicCount, paramCount}
 use Rattle.cells.specs.Rows.{tab, span, put, rows}
-use Rattle.cells.specs.View.{joinedAt, codesAt, peersAt, peerCells, topicsAt, topicCells, placeCount, cellCount, peerOf, topicOf, peerFrom, topicFrom, cellsOfPeer, cellsOfTopic, stateOf, setCode, setCodes, zeroState}
-use Rattle.cells.proofs.RowLaws.{tab-getD, getD-rows, rows-put-same, rows-put-before, rows-put-after, span-put-before, span-put-after, getD-put-before, getD-put-in, put-one, span-put-one, span-put-same, span-part, getD-span, zero-span, zero-rows}
+use Rattle.cells.specs.View.{joinedAt, codesAt, peersAt, peerCells, topicsAt, topicCells, placeCount, cellCount, peerOf, topicOf, peerFrom, topicFrom, cellsOfPeer, cellsOfTopic, stateOf, setEnd, setCodes, zeroState}
+use Rattle.cells.proofs.RowLaws.{tab-getD, getD-rows, stride, rows-put-same, rows-put-cell, rows-put-before, rows-put-after, span-put-before, span-put-after, getD-put-before, getD-put-in, put-one, span-put-one, span-put-same, span-part, getD-span, zero-span, zero-rows}
 
 pub map-set : {A B : Type 0} (f : A → B) (l : List A) (i : ℕ) (v : A) → map f (set l i v) ≡ set (map f l) i (f v)
 map-set f [] i v = refl
@@ -34,12 +34,15 @@ pub code-load : (cells : List ℕ) (i : ℕ) → i < paramCount → getD cells (
 unfolding stateOf codeIn
 code-load cells i h = sym (getD-span cells codesAt paramCount i h)
 
+-- the cells of a slot
+row-of : (cells : List ℕ) (s : ℕ) → s < slotCount → peerOf (span cells (peersAt + s * peerCells) peerCells) ≡ peerIn (stateOf cells) s
+unfolding peerIn stateOf peerOf
+row-of cells s h =
+    sym (List·getD-map peerOf (rows cells peersAt peerCells slotCount) s [] ∙ ap peerOf (getD-rows cells peersAt peerCells slotCount s h))
+
 pub peer-load : (cells : List ℕ) (s : ℕ) → s < slotCount → peerFrom cells (peersAt + s * peerCells) ≡ peerIn (stateOf cells) s
-unfolding peerIn stateOf peerOf span
-peer-load cells s h =
-    let e : getD (map peerOf (rows cells peersAt peerCells slotCount)) s noPeer ≡ peerOf (span cells (peersAt + s * peerCells) peerCells) =
-    List·getD-map peerOf (rows cells peersAt peerCells slotCount) s [] ∙ ap peerOf (getD-rows cells peersAt peerCells slotCount s h) in
-    sym (e ∙ rw add-zero)
+unfolding peerOf span
+peer-load cells s h = sym (rw add-zero refl) ∙ row-of cells s h
 
 pub topic-load : (cells : List ℕ) (k : ℕ) → k < placeCount → topicFrom cells (topicsAt + k * topicCells) ≡ topicIn (stateOf cells) k
 unfolding topicIn stateOf topicOf span
@@ -88,6 +91,22 @@ pub topic-count : (t : TopicRecord) → length (cellsOfTopic t) ≡ topicCells
 unfolding cellsOfTopic
 topic-count t = refl
 
+-- a backoff end is a cell of its row
+end-of-row :
+    (cells : List ℕ) (b t end : ℕ) →
+    t < topicCount →
+    peerOf (set (span cells b peerCells) (9 + t) end) ≡ setEnd (peerOf (span cells b peerCells)) t end
+unfolding peerOf span setEnd
+end-of-row cells b zero end h = refl
+end-of-row cells b (suc zero) end h = refl
+end-of-row cells b (suc (suc zero)) end h = refl
+end-of-row cells b (suc (suc (suc zero))) end h = refl
+end-of-row cells b (suc (suc (suc (suc zero)))) end h = refl
+end-of-row cells b (suc (suc (suc (suc (suc zero))))) end h = refl
+end-of-row cells b (suc (suc (suc (suc (suc (suc zero)))))) end h = refl
+end-of-row cells b (suc (suc (suc (suc (suc (suc (suc zero))))))) end h = refl
+end-of-row cells b (suc (suc (suc (suc (suc (suc (suc (suc t)))))))) end h = absurd (omega arith)
+
 -- ---- a store
 
 module _ (cells : List ℕ) (size : length cells ≡ cellCount) where
@@ -115,19 +134,6 @@ module _ (cells : List ℕ) (size : length cells ≡ cellCount) where
         codes = span-put-after cells (joinedAt + t) (b ∷ []) f codesAt paramCount (omega arith) i;
         peers = ap (map peerOf) (rows-put-after cells peersAt peerCells slotCount (joinedAt + t) (b ∷ []) f (omega arith)) i;
         topics = ap (map topicOf) (rows-put-after cells topicsAt topicCells placeCount (joinedAt + t) (b ∷ []) f (omega arith)) i;
-      }
-
-  pub code-store : (k c : ℕ) → k < paramCount → stateOf (set cells (codesAt + k) c) ≡ setCode (stateOf cells) k c
-  unfolding stateOf setCode
-  code-store k c h =
-      let f : (codesAt + k) + length (c ∷ []) ≤ length cells = omega arith in
-      ap stateOf (sym (put-one cells (codesAt + k) c (omega arith)))
-      ∙ λ i. record {
-        clock = getD-put-before cells (codesAt + k) (c ∷ []) f 0 (omega arith) i;
-        joined = span-put-before cells (codesAt + k) (c ∷ []) f joinedAt topicCount (omega arith) i;
-        codes = span-put-one cells codesAt paramCount k c h (omega arith) i;
-        peers = ap (map peerOf) (rows-put-after cells peersAt peerCells slotCount (codesAt + k) (c ∷ []) f (omega arith)) i;
-        topics = ap (map topicOf) (rows-put-after cells topicsAt topicCells placeCount (codesAt + k) (c ∷ []) f (omega arith)) i;
       }
 
   pub codes-store :
@@ -161,6 +167,30 @@ module _ (cells : List ℕ) (size : length cells ≡ cellCount) where
             ∙ map-set peerOf (rows cells peersAt peerCells slotCount) s (cellsOfPeer p)
             ∙ ap (set (map peerOf (rows cells peersAt peerCells slotCount)) s) (peer-back p e)) i;
         topics = ap (map topicOf) (rows-put-after cells topicsAt topicCells placeCount (peersAt + s * peerCells) (cellsOfPeer p) f (omega arith)) i;
+      }
+
+  pub end-store :
+      (s t end : ℕ) →
+      s < slotCount →
+      t < topicCount →
+      stateOf (set cells (peersAt + s * peerCells + (9 + t)) end) ≡ setPeer (stateOf cells) s (setEnd (peerIn (stateOf cells) s) t end)
+  unfolding stateOf setPeer peerIn
+  end-store s t end h l =
+      let b : s * peerCells + peerCells ≤ slotCount * peerCells = stride s slotCount peerCells h in
+      let at = peersAt + s * peerCells + (9 + t) in
+      let f : at + length (end ∷ []) ≤ length cells = omega arith in
+      let row = span cells (peersAt + s * peerCells) peerCells in
+      ap stateOf (sym (put-one cells at end (omega arith)))
+      ∙ λ i. record {
+        clock = getD-put-before cells at (end ∷ []) f 0 (omega arith) i;
+        joined = span-put-before cells at (end ∷ []) f joinedAt topicCount (omega arith) i;
+        codes = span-put-before cells at (end ∷ []) f codesAt paramCount (omega arith) i;
+        peers =
+            (ap (map peerOf) (rows-put-cell cells peersAt peerCells slotCount s (9 + t) end h (omega arith) (omega arith))
+            ∙ map-set peerOf (rows cells peersAt peerCells slotCount) s (set row (9 + t) end)
+            ∙ ap (set (map peerOf (rows cells peersAt peerCells slotCount)) s)
+            (end-of-row cells (peersAt + s * peerCells) t end l ∙ ap (λ (p : Peer). setEnd p t end) (row-of cells s h))) i;
+        topics = ap (map topicOf) (rows-put-after cells topicsAt topicCells placeCount at (end ∷ []) f (omega arith)) i;
       }
 
   pub topic-store :

@@ -74,6 +74,22 @@ cellsOfPeer p =
     ∷ getD (p .backoff) 7 0
     ∷ []
 
+-- a peer's record with another backoff end for topic t
+unfoldable pub setEnd : Peer → ℕ → ℕ → Peer
+setEnd p t end =
+    record {
+      status = p .status;
+      id = p .id;
+      group = p .group;
+      outbound = p .outbound;
+      explicit = p .explicit;
+      version = p .version;
+      p5 = p .p5;
+      p7 = p .p7;
+      retain = p .retain;
+      backoff = set (p .backoff) t end;
+    }
+
 unfoldable pub topicOf : List ℕ → TopicRecord
 topicOf r =
     record {
@@ -148,11 +164,7 @@ cellsOf st =
     ++ joins cellsOfPeer (st .peers)
     ++ joins cellsOfTopic (st .topics)
 
--- the state with another code of the parameters' number i: what making a fresh router writes
-unfoldable pub setCode : State → ℕ → ℕ → State
-setCode st i c =
-    record { clock = st .clock; joined = st .joined; codes = set (st .codes) i c; peers = st .peers; topics = st .topics }
-
+-- the state with other codes of the parameters: what making a fresh router writes
 unfoldable pub setCodes : State → List ℕ → State
 setCodes st codes =
     record { clock = st .clock; joined = st .joined; codes = codes; peers = st .peers; topics = st .topics }

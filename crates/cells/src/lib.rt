@@ -5,7 +5,7 @@ ghost use Prim.Native.Nat.{ℕ, _+_, _*_, _≤_, _<_};
 ghost use lib.ListN.{length};
 ghost use Rattle.records.specs.Records.{joinedIn, codeIn, peerIn, topicIn, setClock, setJoined, setPeer, setTopic, slotCount, topicCount, paramCount};
 ghost use Rattle.cells.specs.Rows.{put};
-ghost use Rattle.cells.specs.View.{placeCount, cellCount, peerFrom, topicFrom, stateOf, setCode, setCodes, zeroState};
+ghost use Rattle.cells.specs.View.{placeCount, cellCount, peerFrom, topicFrom, stateOf, setEnd, setCodes, zeroState};
 use records::Peer;
 use records::SLOTS;
 use records::TOPICS;
@@ -23,6 +23,9 @@ const CODES_AT: usize = JOINED_AT + TOPICS;
 const PEERS_AT: usize = CODES_AT + PARAMS;
 
 const PEER_CELLS: usize = 17;
+
+// Where its backoff ends begin in a peer's record.
+const ENDS_AT: usize = 9;
 
 const TOPICS_AT: usize = PEERS_AT + SLOTS * PEER_CELLS;
 
@@ -127,13 +130,6 @@ pub fn load_code(cells: &[u64], i: usize) -> u64
     cells[CODES_AT + i]
 }
 
-pub fn store_code(cells: &mut [u64], i: usize, code: u64)
-    requires { ⌜ (length (now cells) ≡ cellCount) × (i < paramCount) ⌝ }
-    ensures { λ r. ⌜ stateOf (now (cells .exit)) ≡ setCode (stateOf (now (cells .entry))) i code ⌝ }
-{
-    cells[CODES_AT + i] = code;
-}
-
 // The codes of the parameters, side by side.
 pub fn codes(cells: &[u64]) -> &[u64]
     requires { ⌜ length (now cells) ≡ cellCount ⌝ }
@@ -193,6 +189,15 @@ pub fn store_peer(cells: &mut [u64], slot: usize, p: Peer)
         ends[7],
     ];
     write_row(cells, PEERS_AT + slot * PEER_CELLS, &row);
+}
+
+// One backoff end of the record in a slot, and nothing else of it: a record that is stored whole right after one end was replaced in it waits
+// for that store.
+pub fn store_end(cells: &mut [u64], slot: usize, t: usize, end: u64)
+    requires { ⌜ (length (now cells) ≡ cellCount) × ((slot < slotCount) × (t < topicCount)) ⌝ }
+    ensures { λ r. ⌜ stateOf (now (cells .exit)) ≡ setPeer (stateOf (now (cells .entry))) slot (setEnd (peerIn (stateOf (now (cells .entry))) slot) t end) ⌝ }
+{
+    cells[PEERS_AT + slot * PEER_CELLS + (ENDS_AT + t)] = end;
 }
 
 // The record of slot `k / 8` for topic `k % 8`.

@@ -18,7 +18,7 @@ use Rattle.index.proofs.Lists.{set-case}
 use Rattle.records.specs.declared.Peer.{Peer}
 use Rattle.records.specs.declared.TopicRecord.{TopicRecord}
 use Rattle.records.specs.Records.{State, slotCount, noPeer, noTopic, place, codeIn, joinedIn, peerIn, topicIn, setPeer, setTopic, isEmpty, isConnected, isRetained}
-use Rattle.cells.specs.View.{Sized}
+use Rattle.cells.specs.View.{Sized, setEnd}
 use Rattle.cells.proofs.StateLaws.{peer-same, peer-other, peer-case, topic-same, topic-other, topic-case, peer-after-topic, topic-after-peer, sized-peer, sized-topic}
 use Rattle.effects.specs.Effects.{withEnd, retainedTo, retainSeconds, endAfter, outOfMesh, intoMesh, withSubscribed, onPeer, onTopic, isMember, isSubscribed, meshSize, backoffRuns, pruned, leftTopic, departed, reclaimable, emptied, reclaimSlot, reclaimed}
 use Rattle.effects.proofs.Walks.{iter-kept, iter-before, iter-once, iter-still, count-change}
@@ -144,6 +144,25 @@ pub end-other :
     (p : Peer) (t end u : ℕ) → u ≢ t → getD (withEnd p t end .backoff) u 0 ≡ getD (p .backoff) u 0
 unfolding withEnd
 end-other p t end u n = getD-set-other (p .backoff) t u (max (getD (p .backoff) t 0) end) 0 n
+
+replaced : (p : Peer) (t end : ℕ) → t < length (p .backoff) → setEnd p t (getD (withEnd p t end .backoff) t 0) ≡ withEnd p t end
+unfolding setEnd withEnd
+replaced p t end h = rw (getD-set-same (p .backoff) t (max (getD (p .backoff) t 0) end) 0 h) refl
+
+-- the later end alone is stored
+pub stored-end :
+    (st u : State) (s t end : ℕ) (p q : Peer) →
+    t < length (p .backoff) →
+    p ≡ peerIn st s →
+    q ≡ withEnd p t end →
+    u ≡ setPeer st s (setEnd (peerIn st s) t (getD (q .backoff) t 0)) →
+    u ≡ onPeer st s (λ (r : Peer). withEnd r t end)
+stored-end st u s t end p q h l e stored =
+    stored
+    ∙ ap (λ (r : Peer). setPeer st s (setEnd r t (getD (q .backoff) t 0))) (sym l)
+    ∙ ap (λ (r : Peer). setPeer st s (setEnd p t (getD (r .backoff) t 0))) e
+    ∙ ap (setPeer st s) (replaced p t end h)
+    ∙ ap (λ (r : Peer). setPeer st s (withEnd r t end)) l
 
 -- no end gets earlier
 pub end-later : (p : Peer) (t end u : ℕ) → getD (p .backoff) u 0 ≤ getD (withEnd p t end .backoff) u 0

@@ -11,9 +11,6 @@ pub record Action : Type 0 where
   pub id : ℕ
   pub seconds : ℕ
 
-abbrev pub graftOf : Peer → Action
-graftOf p = record { kind = 1; id = p .id; seconds = 0 }
-
 abbrev pub pruneOf : Peer → ℕ → Action
 pruneOf p seconds = record { kind = 2; id = p .id; seconds = cond (eqb (p .version) 0) 0 seconds }
 

@@ -6,7 +6,7 @@ ghost use Prim.Native.Nat.{_+_, _≤_};
 ghost use lib.Dec.{eqb};
 ghost use lib.ListN.{length};
 ghost use lib.Seq.{sets};
-ghost use Rattle.effects.specs.Actions.{graftOf, pruneOf, numbersOf};
+ghost use Rattle.effects.specs.Actions.{pruneOf, numbersOf};
 use records::Peer;
 
 // The seconds that a peer is told: none at version 1.0.0.
@@ -23,16 +23,6 @@ fn put_numbers(actions: &mut [u32], at: usize, kind: u32, id: u32, seconds: u32)
     actions[at] = kind;
     actions[at + 1] = id;
     actions[at + 2] = seconds;
-}
-
-// A GRAFT of a peer, and the place after it.
-pub fn put_graft(actions: &mut [u32], at: usize, p: Peer) -> usize
-    requires { ⌜ (at + 3 ≤ length (now actions)) × (p .id ≤ 4294967295) ⌝ }
-    ensures { λ r. ⌜ (r ≡ at + 3) × (now (actions .exit) ≡ sets (now (actions .entry)) at (numbersOf (graftOf p ∷ []))) ⌝ }
-{
-    let id = p.id as u32;
-    put_numbers(actions, at, 1, id, 0);
-    at + 3
 }
 
 // A PRUNE of a peer, and the place after it.

@@ -86,8 +86,8 @@ pub fn delay(table: &mut [u64], topic: usize, slot: usize, end: u64)
     requires { ⌜ (length (now table) ≡ cellCount) × ((topic < 8) × (slot < 64)) ⌝ }
     ensures { λ r. ⌜ stateOf (now (table .exit)) ≡ onPeer (stateOf (now (table .entry))) slot (λ p. withEnd p topic end) ⌝ }
 {
-    let p = cells::load_peer(table, slot);
-    cells::store_peer(table, slot, with_end(p, topic, end));
+    let p = with_end(cells::load_peer(table, slot), topic, end);
+    cells::store_end(table, slot, topic, p.backoff[topic]);
 }
 
 // Out of the mesh, with a backoff.

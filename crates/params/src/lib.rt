@@ -180,7 +180,7 @@ fn field_of(i: usize) -> usize
     if i < 19 { i } else { 19 + (i - 19) % 16 }
 }
 
-// The table, taken by a call: the code that takes a constant is proved row by row, and so in one place.
+// The table whole, for those who walk along it: it is built anew at each use, and taken once.
 fn limits() -> [Limit; 35]
     ensures { λ r. ⌜ r ≡ limits ⌝ }
 {
@@ -193,8 +193,7 @@ fn limit_of(i: usize) -> Limit
     ensures { λ r. ⌜ r ≡ limitAt (fieldOf i) ⌝ }
 {
     let f = field_of(i);
-    let table = limits();
-    table[f]
+    LIMITS[f]
 }
 
 // Whether x lies between two limits.
@@ -453,7 +452,7 @@ fn code_lies(u: u64, low: i64, high: i64) -> bool
     between(low, groups::number_of(u), high)
 }
 
-// Whether the codes of the general numbers lie between their limits. The table is taken once: it is built anew at each use.
+// Whether the codes of the general numbers lie between their limits.
 fn general_lie(codes: &[u64]) -> bool
     requires { ⌜ length (now codes) ≡ 147 ⌝ }
     ensures { λ r. ⌜ r ≡ every 19 (inLimits (map numberOf (now (codes .entry)))) ⌝ }

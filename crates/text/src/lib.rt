@@ -1,4 +1,4 @@
-// Numbers and bytes as ASCII text, stored in a lent buffer from a place on. Each function answers the place after what it stored.
+// Numbers as ASCII text, stored in a lent buffer from a place on. Each function answers the place after what it stored.
 // An inner layer of the programs: the caller shows that there is room. The text itself is fixed in specs/Text.antt.
 ghost use mathlib.Core.List.{[], _∷_};
 ghost use Prim.Native.Nat.{_+_, _≤_};
@@ -12,19 +12,6 @@ pub fn put_byte(buf: &mut [u8], at: usize, b: u8) -> usize
 {
     buf[at] = b;
     at + 1
-}
-
-// The bytes of s.
-pub fn put_bytes(buf: &mut [u8], at: usize, s: &[u8]) -> usize
-    requires { ⌜ at + length (now s) ≤ length (now buf) ⌝ }
-    ensures { λ r. ⌜ Stored (now (buf .entry)) at (now (s .entry)) r (now (buf .exit)) ⌝ }
-{
-    let mut i = 0;
-    while i < s.len() {
-        buf[at + i] = s[i];
-        i += 1;
-    }
-    at + i
 }
 
 // The digits of n.
