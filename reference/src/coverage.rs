@@ -1,7 +1,10 @@
 //! Counts what generated traces reach: each call with each answer, and the
 //! cases inside the rules. A run that misses one of them proves too little.
 
+mod answers;
 mod heartbeat;
+
+pub use answers::Answers;
 
 use crate::event::{Call, Event, CALL_NAMES};
 use crate::params::{self, topic};
@@ -9,26 +12,9 @@ use crate::router::{number, Answer, GraftCase, Place, Refusal, Router};
 use std::collections::BTreeMap;
 use std::fmt::Write;
 
-/// The answers that 01 permits to each call and a trace can reach, in the order
-/// of the calls' kinds. A trace lends long lists and true tables, so 8 and 12
-/// are out of its reach.
-const ANSWERS: [&[u32]; 13] = [
-    &[0, 1, 2, 4, 5, 6],
-    &[0, 1, 2, 3],
-    &[0, 1, 2, 11],
-    &[0, 1, 2, 11],
-    &[0, 1, 2, 3, 11],
-    &[0, 1, 2, 3, 11],
-    &[0, 1, 2, 3, 11],
-    &[0, 1, 2, 3, 11],
-    &[0, 1, 2, 3, 11],
-    &[0, 1, 2, 3],
-    &[0, 1, 2, 7, 11],
-    &[0, 1, 2],
-    &[0, 1, 2, 3],
-];
-
-const COLUMNS: [u32; 9] = [0, 1, 2, 3, 4, 5, 6, 7, 11];
+/// The answers within a trace's reach. It lends long lists and true tables, so
+/// 8 and 12 are not.
+const REACHABLE: [u32; 9] = [0, 1, 2, 3, 4, 5, 6, 7, 11];
 
 /// The cases that every run reaches.
 const CASES: [&str; 35] = [
@@ -71,7 +57,7 @@ const CASES: [&str; 35] = [
 
 #[derive(Default)]
 pub struct Coverage {
-    calls: BTreeMap<(u64, u32), usize>,
+    answers: Answers,
     cases: BTreeMap<String, usize>,
 }
 
@@ -79,7 +65,7 @@ impl Coverage {
     /// Counts a call with its answer, and its cases if it was heard; those of a
     /// heartbeat tell refusals as well.
     pub fn count_call(&mut self, event: &Event, answer: &Answer, cases: &[String]) {
-        *self.calls.entry((event.call.kind(), number(answer))).or_default() += 1;
+        self.answers.count(event.call.kind(), number(answer));
         let heard = matches!(answer, Ok(_) | Err(Refusal::Ignored));
         if heard || matches!(event.call, Call::Heartbeat { .. }) {
             for case in cases {
@@ -100,41 +86,19 @@ impl Coverage {
 
     /// What the run should have reached and did not.
     pub fn missing(&self) -> Vec<String> {
-        let mut missing = Vec::new();
-        for (place, answers) in ANSWERS.iter().enumerate() {
-            let reached = |answer| self.calls.contains_key(&(place as u64 + 1, answer));
-            let absent = answers.iter().filter(|&&answer| !reached(answer));
-            missing.extend(absent.map(|answer| format!("{} {answer}", CALL_NAMES[place])));
-        }
+        let mut missing = self.answers.missing(&REACHABLE);
         missing.extend(wanted_cases().filter(|case| !self.cases.contains_key(case)));
         missing
     }
 
     /// Answers that 01 does not permit to a call.
     pub fn not_permitted(&self) -> Vec<String> {
-        let permitted = |kind: u64, answer| ANSWERS[kind as usize - 1].contains(&answer);
-        let strange = self.calls.keys().filter(|(kind, answer)| !permitted(*kind, *answer));
-        strange
-            .map(|(kind, answer)| format!("{} {answer}", CALL_NAMES[*kind as usize - 1]))
-            .collect()
+        self.answers.not_permitted(&REACHABLE)
     }
 
     /// The counts as text.
     pub fn table(&self) -> String {
-        let mut out = format!("{:12}", "answer");
-        for column in COLUMNS {
-            let _ = write!(out, "{column:>9}");
-        }
-        out.push('\n');
-        for (place, name) in CALL_NAMES.iter().enumerate() {
-            let _ = write!(out, "{name:12}");
-            for column in COLUMNS {
-                let count = self.calls.get(&(place as u64 + 1, column));
-                let shown = count.map_or("-".to_string(), usize::to_string);
-                let _ = write!(out, "{shown:>9}");
-            }
-            out.push('\n');
-        }
+        let mut out = self.answers.table(&REACHABLE);
         let mut cases = self.cases.clone();
         for case in wanted_cases() {
             cases.entry(case).or_default();

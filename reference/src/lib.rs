@@ -2,6 +2,7 @@
 //! alone (quoted as "01" throughout), to be compared with the first by running.
 
 pub mod child;
+pub mod command;
 pub mod coverage;
 pub mod demand3;
 pub mod event;

@@ -1,66 +1,18 @@
-//! The layout of the lent table (crate cells), and the second program's router written to it and read
-//! from it. A signed number stands as its code: 2n, or -2n-1 when negative.
+//! The cells of the lent table by name, and the second program's router written to them and read from
+//! them. A signed number stands as its code: 2n, or -2n-1 when negative.
 
-use reference::event::SLOTS;
+pub use hivepadlet::cells::*;
+
 use reference::groups::{code_from_signed, signed_from_code};
-use reference::params::{field_at, Params, COUNT, GENERAL_COUNT, TOPICS, TOPIC_COUNT};
+use reference::params::{field_at, Params, GENERAL_COUNT, TOPICS, TOPIC_COUNT};
 use reference::router::{Peer, Router, Status, TopicRecord, Version};
 use std::fmt;
-
-/// How many numbers a table has, and where its regions begin.
-pub const CELLS: usize = 5340;
-pub const CLOCK: usize = 0;
-pub const JOINED: usize = 1;
-pub const CODES: usize = JOINED + TOPICS;
-pub const PEERS: usize = CODES + COUNT;
-pub const PEER_CELLS: usize = 17;
-pub const RECORDS: usize = PEERS + SLOTS * PEER_CELLS;
-pub const RECORD_CELLS: usize = 8;
-
-const _: () = assert!(RECORDS + SLOTS * TOPICS * RECORD_CELLS == CELLS);
-
-pub type Cells = [u64; CELLS];
-
-/// The cells of a peer's record, counted from its first.
-pub mod peer {
-    pub const STATUS: usize = 0;
-    pub const ID: usize = 1;
-    pub const GROUP: usize = 2;
-    pub const OUTBOUND: usize = 3;
-    pub const EXPLICIT: usize = 4;
-    pub const VERSION: usize = 5;
-    pub const P5: usize = 6;
-    pub const P7: usize = 7;
-    pub const RETAIN_END: usize = 8;
-    /// One end for each topic, to the record's last cell.
-    pub const BACKOFF_ENDS: usize = 9;
-}
-
-/// The cells of a topic record, counted from its first.
-pub mod record {
-    pub const P2: usize = 0;
-    pub const P3: usize = 1;
-    pub const P4: usize = 2;
-    pub const P3B: usize = 3;
-    pub const SUBSCRIBED: usize = 4;
-    pub const MEMBER: usize = 5;
-    pub const GRAFT: usize = 6;
-    pub const MESH: usize = 7;
-}
 
 const PEER_NAMES: [&str; 9] =
     ["status", "id", "group", "outbound", "explicit", "version", "P5 code", "P7", "retain end"];
 
 const RECORD_NAMES: [&str; RECORD_CELLS] =
     ["P2", "P3", "P4", "P3b", "subscribed", "member", "graft time", "mesh time"];
-
-pub fn peer_cell(slot: usize, field: usize) -> usize {
-    PEERS + slot * PEER_CELLS + field
-}
-
-pub fn record_cell(slot: usize, topic: usize, field: usize) -> usize {
-    RECORDS + (slot * TOPICS + topic) * RECORD_CELLS + field
-}
 
 /// What a cell holds.
 #[derive(Clone, Copy, PartialEq, Eq, Debug)]

@@ -3,37 +3,21 @@
 use crate::library::{number, value};
 use crate::request::{Request, LONG_LISTS, ODD_PERMUTATIONS, SHORT_LISTS};
 use crate::stand_in::code;
-use reference::coverage::Coverage;
+use reference::coverage::{Answers, Coverage};
 use reference::event::{CALL_NAMES, SLOTS};
 use reference::router::{Answer, Done, ACTION_LIST};
 use std::collections::BTreeMap;
 use std::fmt::Write;
 
-/// The answers that 01 permits to each call, in the order of the calls' kinds.
-const ANSWERS: [&[u32]; 13] = [
-    &[0, 1, 2, 4, 5, 6, 8, 12],
-    &[0, 1, 2, 3, 8, 12],
-    &[0, 1, 2, 8, 11, 12],
-    &[0, 1, 2, 8, 11, 12],
-    &[0, 1, 2, 3, 8, 11, 12],
-    &[0, 1, 2, 3, 8, 11, 12],
-    &[0, 1, 2, 3, 8, 11, 12],
-    &[0, 1, 2, 3, 8, 11, 12],
-    &[0, 1, 2, 3, 8, 11, 12],
-    &[0, 1, 2, 3, 8, 12],
-    &[0, 1, 2, 7, 8, 11, 12],
-    &[0, 1, 2, 8, 12],
-    &[0, 1, 2, 3, 8, 12],
-];
-
-const COLUMNS: [u32; 11] = [0, 1, 2, 3, 4, 5, 6, 7, 8, 11, 12];
+/// Every answer to a call is within reach here.
+const REACHABLE: [u32; 11] = [0, 1, 2, 3, 4, 5, 6, 7, 8, 11, 12];
 
 /// Calls that fill the shortest list to its end.
 const FULL_LISTS: [&str; 2] = ["leave", "heartbeat"];
 
 #[derive(Default)]
 pub struct Counts {
-    calls: BTreeMap<(u64, u32), u64>,
+    answers: Answers,
     made: u64,
     /// By kind and length of the list: refused for it where it is short, done where it is not.
     lists: BTreeMap<(u64, usize), u64>,
@@ -74,7 +58,7 @@ impl Counts {
 
     /// A call and its answer alone.
     pub fn count_answer(&mut self, request: &Request, number: u32) {
-        *self.calls.entry((request.event.call.kind(), number)).or_default() += 1;
+        self.answers.count(request.event.call.kind(), number);
     }
 
     pub fn calls_made(&self) -> u64 {
@@ -91,7 +75,7 @@ impl Counts {
 
     /// What should have been reached and was not; `wanted` are names.
     pub fn missing(&self, wanted: impl IntoIterator<Item = String>) -> Vec<String> {
-        let mut missing = self.missing_answers();
+        let mut missing = self.answers.missing(&REACHABLE);
         missing.extend(self.missing_lists());
         let lengths = ODD_PERMUTATIONS.iter().chain(&[SLOTS]);
         let absent = lengths.filter(|length| !self.permutations.contains_key(length));
@@ -101,15 +85,6 @@ impl Counts {
         missing.extend(cases(&self.coverage.missing()));
         missing.extend(wanted.into_iter().filter(|what| self.of(what) == 0));
         missing
-    }
-
-    fn missing_answers(&self) -> Vec<String> {
-        let wanted = CALL_NAMES.iter().zip(1..).zip(ANSWERS);
-        let pairs = wanted.flat_map(|((name, kind), answers)| {
-            answers.iter().map(move |&answer| (name, kind, answer))
-        });
-        let absent = pairs.filter(|(_, kind, answer)| !self.calls.contains_key(&(*kind, *answer)));
-        absent.map(|(name, _, answer)| format!("{name} {answer}")).collect()
     }
 
     fn missing_lists(&self) -> Vec<String> {
@@ -124,29 +99,12 @@ impl Counts {
 
     /// Answers that 01 does not permit to a call.
     pub fn not_permitted(&self) -> Vec<String> {
-        let permitted = |kind: u64, answer| ANSWERS[kind as usize - 1].contains(&answer);
-        let strange = self.calls.keys().filter(|(kind, answer)| !permitted(*kind, *answer));
-        strange
-            .map(|(kind, answer)| format!("{} {answer}", CALL_NAMES[*kind as usize - 1]))
-            .collect()
+        self.answers.not_permitted(&REACHABLE)
     }
 
     /// The counts as text.
     pub fn table(&self) -> String {
-        let mut out = format!("{:12}", "answer");
-        for column in COLUMNS {
-            let _ = write!(out, "{column:>9}");
-        }
-        out.push('\n');
-        for (name, kind) in CALL_NAMES.iter().zip(1..) {
-            let _ = write!(out, "{name:12}");
-            for column in COLUMNS {
-                let count = self.calls.get(&(kind, column));
-                let shown = count.map_or("-".to_string(), u64::to_string);
-                let _ = write!(out, "{shown:>9}");
-            }
-            out.push('\n');
-        }
+        let mut out = self.answers.table(&REACHABLE);
         self.write_lengths(&mut out);
         for line in cases(&self.coverage.table().lines().map(str::to_string).collect::<Vec<_>>()) {
             let _ = writeln!(out, "{line}");

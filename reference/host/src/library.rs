@@ -1,11 +1,10 @@
 //! What the comparison asks of the library: its C functions, each with slices in the place of pointers
 //! and lengths.
 
+pub use hivepadlet::{number, packed, value, Numbers};
+
 use crate::cells::Cells;
 use crate::request::Request;
-use reference::params::COUNT;
-
-pub type Numbers = [i64; COUNT];
 
 pub trait Library {
     /// Makes one of the thirteen calls. The answer's number is the low eight bits of what comes back, the
@@ -25,19 +24,4 @@ pub trait Library {
 
     /// 1 if the table is a router's, else 0.
     fn is_router(&self, table: &Cells) -> u32;
-}
-
-/// A number of 01's table and the value that goes with it, as one number.
-pub fn packed(number: u32, value: usize) -> u64 {
-    u64::from(number) + 256 * value as u64
-}
-
-/// The number of 01's table.
-pub fn number(result: u64) -> u32 {
-    (result % 256) as u32
-}
-
-/// The value that goes with it.
-pub fn value(result: u64) -> u64 {
-    result / 256
 }

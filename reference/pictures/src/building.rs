@@ -1,7 +1,9 @@
 //! The hubs that both scenes share: a building whose hubs pass each other's
 //! news on. Hub 1 is the one that is watched.
 
+use crate::chart::Band;
 use crate::network::{Conduct, Network, Step, SECOND};
+use crate::router::Numbers;
 use std::collections::BTreeSet;
 use std::ops::RangeInclusive;
 
@@ -11,8 +13,8 @@ pub const WATCHED: u32 = 1;
 pub const HUBS: u32 = 21;
 
 /// Those that the watched hub connects to, and those that connect to it.
-pub const OPENED: RangeInclusive<u32> = 2..=8;
-pub const OPENING: RangeInclusive<u32> = 9..=15;
+const OPENED: RangeInclusive<u32> = 2..=8;
+const OPENING: RangeInclusive<u32> = 9..=15;
 
 /// Six hubs share a floor, and a floor an address group.
 const FLOOR: u32 = 6;
@@ -25,14 +27,25 @@ const CONNECTIONS: usize = 4;
 const APART: u64 = 200;
 pub const WATCHED_FROM: u64 = 8 * SECOND;
 
-/// Adds the hubs and their connections.
-pub fn build(network: &mut Network) {
+/// The building's hubs and their connections.
+pub fn network(numbers: Numbers, seed: u64) -> Network {
+    let mut network = Network::new(numbers, seed, WATCHED);
     for id in 1..=HUBS {
         network.add(id, id / FLOOR, Conduct::Honest, switched_on(id));
     }
-    for (from, to) in connections(network) {
+    for (from, to) in connections(&mut network) {
         network.at(switched_on(from).max(switched_on(to)), Step::Open(from, to));
     }
+    network
+}
+
+/// The rows of the building's hubs that the watched one is connected to.
+pub fn bands() -> [Band; 2] {
+    let rows = |ids: RangeInclusive<u32>| ids.map(|id| (id, format!("hub {id}"))).collect();
+    [
+        Band { heading: &["Building:", "we connected to", "them (outbound)"], rows: rows(OPENED) },
+        Band { heading: &["Building:", "they connected to", "us (inbound)"], rows: rows(OPENING) },
+    ]
 }
 
 fn switched_on(id: u32) -> u64 {

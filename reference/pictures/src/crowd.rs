@@ -1,11 +1,11 @@
 //! A crowd of cheap hubs connects to one hub of a building, and each wants to
 //! be in its mesh.
 
-use crate::building::{self, HUBS, OPENED, OPENING, WATCHED};
+use crate::building::{self, HUBS, WATCHED};
 use crate::chart::{Band, Chart, Mark, Scale};
 use crate::history::{History, State};
-use crate::network::{Conduct, Network, Step, MINUTE, SECOND};
-use crate::router::{self, Numbers};
+use crate::network::{Conduct, Step, MINUTE, SECOND};
+use crate::router::Numbers;
 use crate::scene::{fact, Fact, Scene};
 use crate::svg::px;
 use reference::params::general;
@@ -32,15 +32,11 @@ const GROUP: u32 = 1000;
 const DARK: RangeInclusive<u32> = 2..=6;
 
 pub fn scene() -> Scene {
-    let numbers = router::ordinary();
-    let history = run(numbers);
-    let facts = facts(&history, &numbers);
-    Scene { file: "crowd.svg", svg: chart().draw(&history, &numbers), facts }
+    Scene::new("crowd.svg", run, &chart(), facts)
 }
 
 fn run(numbers: Numbers) -> History {
-    let mut network = Network::new(numbers, SEED, WATCHED);
-    building::build(&mut network);
+    let mut network = building::network(numbers, SEED);
     let hubs: Vec<u32> = (1..=HUBS).collect();
     building::talk(&mut network, &hubs, 10 * SECOND, OUTAGE, 1);
     let lit: Vec<u32> = hubs.into_iter().filter(|id| !DARK.contains(id)).collect();
@@ -67,11 +63,9 @@ fn run(numbers: Numbers) -> History {
 }
 
 fn chart() -> Chart {
-    let named = |ids: RangeInclusive<u32>, name: &str, before: u32| {
-        ids.map(|id| (id, format!("{name} {}", id - before))).collect()
-    };
-    let hubs = |ids| named(ids, "hub", 0);
-    let cheap = |ids| named(ids, "cheap", SILENT.start() - 1);
+    let name = |id| format!("cheap {}", id - SILENT.start() + 1);
+    let cheap = |ids: RangeInclusive<u32>| ids.map(|id| (id, name(id))).collect();
+    let [outbound, inbound] = building::bands();
     Chart {
         title: "A crowd of cheap inbound hubs arrives",
         words: &[
@@ -88,14 +82,8 @@ fn chart() -> Chart {
             Mark { time: OUTAGE, words: "five hubs that we connected to lose power" },
         ],
         bands: vec![
-            Band {
-                heading: &["Building:", "we connected to", "them (outbound)"],
-                rows: hubs(OPENED),
-            },
-            Band {
-                heading: &["Building:", "they connected to", "us (inbound)"],
-                rows: hubs(OPENING),
-            },
+            outbound,
+            inbound,
             Band { heading: &["Crowd:", "silent, and", "patient"], rows: cheap(SILENT) },
             Band { heading: &["Crowd:", "send invalid", "messages"], rows: cheap(SPOILERS) },
             Band { heading: &["Crowd:", "send GRAFT all", "the time"], rows: cheap(PUSHY) },

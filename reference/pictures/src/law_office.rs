@@ -1,14 +1,13 @@
 //! The law office's three hubs go dark for an evening and return.
 
-use crate::building::{self, HUBS, OPENED, OPENING, WATCHED, WATCHED_FROM};
+use crate::building::{self, HUBS, WATCHED, WATCHED_FROM};
 use crate::chart::{Band, Chart, Closer, Mark, Scale};
 use crate::history::{History, State};
 use crate::network::{Conduct, Network, Step, MINUTE, SECOND};
-use crate::router::{self, Numbers};
+use crate::router::Numbers;
 use crate::scene::{fact, Fact, Scene};
 use crate::svg::px;
 use reference::params::general;
-use std::ops::RangeInclusive;
 
 const SEED: u64 = 4;
 const DARK: u64 = 5 * MINUTE;
@@ -31,15 +30,11 @@ const AWAY: u64 = 4 * SECOND;
 const SOON: u64 = 2 * SECOND;
 
 pub fn scene() -> Scene {
-    let numbers = router::ordinary();
-    let history = run(numbers);
-    let facts = facts(&history, &numbers);
-    Scene { file: "law_office.svg", svg: chart().draw(&history, &numbers), facts }
+    Scene::new("law_office.svg", run, &chart(), facts)
 }
 
 fn run(numbers: Numbers) -> History {
-    let mut network = Network::new(numbers, SEED, WATCHED);
-    building::build(&mut network);
+    let mut network = building::network(numbers, SEED);
     for id in LAW {
         network.add(id, GROUP, Conduct::Honest, WATCHED_FROM);
         network.at(DARK, Step::CutOff(id));
@@ -80,8 +75,8 @@ fn restart(network: &mut Network) {
 }
 
 fn chart() -> Chart {
-    let hubs = |ids: RangeInclusive<u32>| ids.map(|id| (id, format!("hub {id}"))).collect();
     let law = LAW.iter().zip(1..).map(|(&id, place)| (id, format!("law office {place}"))).collect();
+    let [outbound, inbound] = building::bands();
     Chart {
         title: "The law office's three hubs go dark for an evening and return",
         words: &[
@@ -98,17 +93,7 @@ fn chart() -> Chart {
             Mark { time: RETURN, words: "its three hubs return" },
             Mark { time: RESTART, words: "the third is restarted" },
         ],
-        bands: vec![
-            Band { heading: &["Law office"], rows: law },
-            Band {
-                heading: &["Building:", "we connected to", "them (outbound)"],
-                rows: hubs(OPENED),
-            },
-            Band {
-                heading: &["Building:", "they connected to", "us (inbound)"],
-                rows: hubs(OPENING),
-            },
-        ],
+        bands: vec![Band { heading: &["Law office"], rows: law }, outbound, inbound],
         row: px(15),
     }
 }

@@ -3,11 +3,11 @@
 
 use reference::generate::params as generate_params;
 use reference::random::Random;
-use reference::{child, params};
+use reference::{child, command, params};
 use std::collections::{BTreeMap, BTreeSet};
 use std::process::ExitCode;
 
-const COUNT: usize = 24_000;
+const COUNT: u64 = 24_000;
 const SEED: u64 = 20_261_115;
 
 /// Answer 9 names one of 147 numbers or of eight rules; a run meets them all.
@@ -17,21 +17,16 @@ const PLACES: usize = params::COUNT + 8;
 const SHOWN: usize = 2000;
 
 fn main() -> ExitCode {
-    let arguments: Vec<String> = std::env::args().skip(1).collect();
-    match compare(&arguments) {
-        Ok(true) => ExitCode::SUCCESS,
-        Ok(false) => ExitCode::FAILURE,
-        Err(message) => {
-            eprintln!("compare_params: {message}");
-            ExitCode::from(2)
-        }
-    }
+    command::run("compare_params", compare)
 }
 
 fn compare(arguments: &[String]) -> Result<bool, String> {
     let program = arguments.first().ok_or("usage: compare_params FIRST-PROGRAM [COUNT] [SEED]")?;
-    let count = number(arguments.get(1), COUNT as u64)? as usize;
-    let seed = number(arguments.get(2), SEED)?;
+    let number = |place: usize, otherwise| {
+        command::number(arguments, place, otherwise)
+            .ok_or_else(|| format!("{} is no whole number", arguments[place]))
+    };
+    let (count, seed) = (number(1, COUNT)? as usize, number(2, SEED)?);
     child::check(program)?;
     println!("seed {seed}");
     let inputs = generate_params::inputs(count, &mut Random::new(seed));
@@ -56,12 +51,6 @@ fn compare(arguments: &[String]) -> Result<bool, String> {
     println!("places of answer 9: {} of {PLACES}", broken.len());
     println!("compare_params: {} inputs, 0 differences", inputs.len());
     Ok(broken.len() == PLACES)
-}
-
-fn number(argument: Option<&String>, otherwise: u64) -> Result<u64, String> {
-    argument.map_or(Ok(otherwise), |text| {
-        text.parse().map_err(|_| format!("{text} is no whole number"))
-    })
 }
 
 /// The answer's number: the first word of the output.

@@ -1,13 +1,12 @@
 //! Compares the first program's answers to random traces with the reference:
 //! `compare_traces FIRST-PROGRAM [TRACES] [EVENTS-AT-LEAST] [SEED]`.
 
-use reference::child;
 use reference::coverage::Coverage;
 use reference::generate::traces;
 use reference::random::Random;
 use reference::shrink::shrink_trace;
 use reference::text::{self, Trace};
-use reference::trace;
+use reference::{child, command, trace};
 use std::process::ExitCode;
 
 const TRACES: u64 = 3000;
@@ -19,15 +18,7 @@ const USAGE: &str = "usage: compare_traces FIRST-PROGRAM [TRACES] [EVENTS-AT-LEA
 const SHOWN: usize = 40;
 
 fn main() -> ExitCode {
-    let arguments: Vec<String> = std::env::args().skip(1).collect();
-    match compare(&arguments) {
-        Ok(true) => ExitCode::SUCCESS,
-        Ok(false) => ExitCode::FAILURE,
-        Err(message) => {
-            eprintln!("compare_traces: {message}");
-            ExitCode::from(2)
-        }
-    }
+    command::run("compare_traces", compare)
 }
 
 fn compare(arguments: &[String]) -> Result<bool, String> {
@@ -35,10 +26,7 @@ fn compare(arguments: &[String]) -> Result<bool, String> {
         return Err(USAGE.to_string());
     }
     let program = arguments.first().ok_or(USAGE)?;
-    let number = |place: usize, otherwise| match arguments.get(place) {
-        None => Ok(otherwise),
-        Some(word) => word.parse::<u64>().map_err(|_| USAGE.to_string()),
-    };
+    let number = |place, otherwise| command::number(arguments, place, otherwise).ok_or(USAGE);
     let (least_traces, least_events) = (number(1, TRACES)?, number(2, EVENTS)?);
     let seed = number(3, SEED)?;
     child::check(program)?;

@@ -3,6 +3,7 @@
 //! The flag waives the joint rule D_score + D_out ≤ D, and then looks for a
 //! list that breaks the demand, to show what the rule is for.
 
+use reference::command;
 use reference::demand3::{checked_call, inbound, is_tight, Lent};
 use reference::event::Call;
 use reference::generate::calls::Caller;
@@ -53,15 +54,7 @@ impl Counts {
 }
 
 fn main() -> ExitCode {
-    let arguments: Vec<String> = std::env::args().skip(1).collect();
-    match check(&arguments) {
-        Ok(true) => ExitCode::SUCCESS,
-        Ok(false) => ExitCode::FAILURE,
-        Err(message) => {
-            eprintln!("demand3: {message}");
-            ExitCode::from(2)
-        }
-    }
+    command::run("demand3", check)
 }
 
 fn check(arguments: &[String]) -> Result<bool, String> {

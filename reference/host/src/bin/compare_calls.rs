@@ -4,6 +4,7 @@
 use host_compare::counts::Counts;
 use host_compare::library::Library;
 use host_compare::{edges, made, parameters, report, runs, swept};
+use reference::command;
 use reference::random::Random;
 use std::process::ExitCode;
 
@@ -25,10 +26,7 @@ const MADE: usize = 16;
 
 fn main() -> ExitCode {
     let arguments: Vec<String> = std::env::args().skip(1).collect();
-    let number = |place: usize, otherwise| match arguments.get(place) {
-        None => Some(otherwise),
-        Some(word) => word.parse::<u64>().ok(),
-    };
+    let number = |place, otherwise| command::number(&arguments, place, otherwise);
     let numbers = (number(0, CALLS), number(1, SEED), number(2, u64::MAX));
     let ((Some(calls), Some(seed), Some(longest)), ..=3) = (numbers, arguments.len()) else {
         eprintln!("{USAGE}");
