@@ -159,7 +159,7 @@ module _ (n : ℕ) (t : Degrees) (v : View) (ru : Rules t) (w : Whole n v) where
       upper-keepers =
           let h = fill-upper m size size-set-le (v .permutation) (t .d - size b) b in
           let l = size-best in
-          let a = ru .score-d in
+          let a = ru .score-out-d in
           omega arith
 
       lower-keepers : t .d ≤ size k
@@ -179,6 +179,7 @@ module _ (n : ℕ) (t : Degrees) (v : View) (ru : Rules t) (w : Whole n v) where
           swapped-keeps n (t .out) (v .outbound) (v .permutation) m b (w .outbound) lm (w .permutation) (t .out) k
           len-keepers
           sub-keepers
+          (let l = size-best in let a = ru .score-out-d in let e = lower-keepers in omega arith)
           (omega arith)
 
       over-keeps : Keeps n t v m (swapped n t v m b)

@@ -150,7 +150,7 @@ pub record Written (ids seconds : List ℕ) (x : List Action) (l : List ℕ) (n 
 pub record Rules (t : Degrees) : Type 0 where
   pub lo-d : t .lo ≤ t .d
   pub d-hi : t .d ≤ t .hi
-  pub score-d : t .score ≤ t .d
+  pub score-out-d : t .score + t .out ≤ t .d
 
 pub record Whole (n : ℕ) (v : View) : Type 0 where
   pub members : length (v .members) ≡ n

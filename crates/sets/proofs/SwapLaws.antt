@@ -16,7 +16,7 @@ use Rattle.index.proofs.Flags.{by-test}
 use Rattle.sets.specs.Sets.{at, Sub, size, both, except, isPermutation, firstOf, lastOf, goers, comers, swapOnce, swapTo}
 use Rattle.sets.proofs.WalkLaws.{at-below, except-at, both-length}
 use Rattle.sets.proofs.CountLaws.{In, size-mono, size-unset-ge, down-except, flat-except, set-only, set-drops}
-use Rattle.sets.proofs.SetLaws.{both-left, both-right, both-in, except-left, grow-outs, grow-size}
+use Rattle.sets.proofs.SetLaws.{both-left, both-right, both-in, size-split, except-left, grow-outs, grow-size}
 use Rattle.sets.proofs.PermutationLaws.{permutation-mem}
 
 last-in : (p : List Bool) (r : List ℕ) (cur : ℕ) → (lastOf p r cur ≡ cur) ⊎ (at p (lastOf p r cur) ≡ true)
@@ -54,6 +54,15 @@ none-in [] h s = refl
 none-in (true ∷ p) h s = absurd (not-suc-le-zero h)
 none-in (false ∷ p) h zero = refl
 none-in (false ∷ p) h (suc s) = none-in p h s
+
+-- A keeper is one of the best, outbound, or one that can go.
+pub keepers-count :
+    (outs b k : List Bool) → size k ≤ size b + size (both k outs) + size (except (except k outs) b)
+keepers-count outs b k =
+    let o = size-split k outs in
+    let i = size-split (except k outs) b in
+    let s = size-mono (both (except k outs) b) b (both-right (except k outs) b) in
+    omega arith
 
 -- what the swaps make of k
 pub record Swapped (n out : ℕ) (outs m k r : List Bool) : Type 0 where
@@ -146,17 +155,23 @@ module _
     unfolding swapOnce
     once-only s e = ⊎-elim (λ h. sub s (set-drops k x s h)) (λ q. ap (at m) q ∙ both-left m outs y y-in) (set-only k₁ y s e)
 
+  -- With `out` keepers beside the best there is one to go while fewer than `out` are outbound.
   pub swapped-keeps :
       (f : ℕ) (k : List Bool) →
       length k ≡ n →
       Sub k m →
+      size b + out ≤ size k →
       out ≤ size (both k outs) + f →
       Swapped n out outs m k (swapTo n out outs order m b f k)
   unfolding swapTo
-  swapped-keeps zero k lk sub h = record { len = lk; only = sub; size-ge = omega arith; inbound = omega arith; outs-in = inl (omega arith) }
-  swapped-keeps (suc f) k lk sub h =
+  swapped-keeps zero k lk sub room h =
+      record { len = lk; only = sub; size-ge = omega arith; inbound = omega arith; outs-in = inl (omega arith) }
+  swapped-keeps (suc f) k lk sub room h =
       go (ltb (size (both k outs)) out) refl (ltb 0 (size (comers n out outs order m b k))) refl
+      (ltb 0 (size (goers n out outs order m b k)))
+      refl
       (λ l. swapped-keeps f (swapOnce n out outs order m b k) (once-len k lk sub l) (once-only k lk sub l)
+      (let z = no-less k lk sub l in omega arith)
       (let o = one-more k lk sub l in omega arith))
     where
       k′ : List Bool
@@ -167,20 +182,28 @@ module _
           → ltb (size (both k outs)) out ≡ c
           → (d : Bool)
           → ltb 0 (size (comers n out outs order m b k)) ≡ d
+          → (g : Bool)
+          → ltb 0 (size (goers n out outs order m b k)) ≡ g
           → (0 < size (comers n out outs order m b k) → Swapped n out outs m k′ (swapTo n out outs order m b f k′))
-          → Swapped n out outs m k (cond (c && d) (swapTo n out outs order m b f k′) k)
-      go true e true g ih =
-          let l = ltb-true 0 (size (comers n out outs order m b k)) g in
-          let r = ih l in
+          → Swapped n out outs m k (cond (c && d && g) (swapTo n out outs order m b f k′) k)
+      go true e true l true q ih =
+          let l′ = ltb-true 0 (size (comers n out outs order m b k)) l in
+          let r = ih l′ in
           record {
             len = r .len;
             only = r .only;
-            size-ge = let a = r .size-ge in let z = no-less k lk sub l in omega arith;
-            inbound = let a = r .inbound in let z = inbound-less k lk sub l in omega arith;
+            size-ge = let a = r .size-ge in let z = no-less k lk sub l′ in omega arith;
+            inbound = let a = r .inbound in let z = inbound-less k lk sub l′ in omega arith;
             outs-in = r .outs-in;
           }
-      go true e false g ih =
-          let z = none-in (comers n out outs order m b k) (ltb-false 0 (size (comers n out outs order m b k)) g) in
+      go true e true l false q ih =
+          let few = ltb-true (size (both k outs)) out e in
+          let none = ltb-false 0 (size (goers n out outs order m b k)) q in
+          let c = keepers-count outs b k in
+          let z : ⊥ = omega arith in
+          absurd z
+      go true e false l g q ih =
+          let z = none-in (comers n out outs order m b k) (ltb-false 0 (size (comers n out outs order m b k)) l) in
           record {
             len = lk;
             only = sub;
@@ -194,10 +217,17 @@ module _
                 (false≢true
                 (sym (z s) ∙ except-at (both m outs) k s ∙ ap (λ (q : Bool). q && not (at k s)) i ∙ ap not y′))));
           }
-      go false e d g ih =
+      go false e d l g q ih =
           record { len = lk; only = sub; size-ge = omega arith; inbound = omega arith; outs-in = inl (ltb-false (size (both k outs)) out e) }
 
 -- ---- one swap as the code makes it
+pub goers-is :
+    (n out : ℕ) (outs : List Bool) (order : List ℕ) (m b k : List Bool) {g₁ g : List Bool} →
+    g₁ ≡ except k outs →
+    g ≡ except g₁ b →
+    g ≡ goers n out outs order m b k
+goers-is n out outs order m b k e₁ eg = cc
+
 module _
     (n out : ℕ) (outs : List Bool) (order : List ℕ) (m b k : List Bool) {mo c : List Bool}
     (emo : mo ≡ both m outs) (ec : c ≡ except mo k) where

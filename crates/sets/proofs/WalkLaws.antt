@@ -27,6 +27,7 @@ use Rattle.sets.specs.Sets.{
   bests,
   firstOf,
   lastOf,
+  goers,
   comers,
   swapOnce,
   swapTo,
@@ -203,7 +204,7 @@ module _ (n : ℕ) (sc : List ℕ) (m : List Bool) (d : List ℕ) (k : ℕ) (b :
   unfolding bests
   bests-end h = let e : k ≡ 0 = omega arith in ap (λ (j : ℕ). bests n sc m d j b) e
 
--- ---- the swaps: none are left, enough are outbound, none comes in, and one more swap
+-- ---- the swaps: none are left, enough are outbound, none comes in, none goes out, and one more swap
 module _ (n out : ℕ) (outs : List Bool) (d : List ℕ) (m b : List Bool) where
   pub swap-end : (f : ℕ) (k : List Bool) → f ≤ 0 → swapTo n out outs d m b f k ≡ k
   unfolding swapTo
@@ -213,32 +214,36 @@ module _ (n out : ℕ) (outs : List Bool) (d : List ℕ) (m b : List Bool) where
   pub swap-enough : (f : ℕ) (k : List Bool) → out ≤ size (both k outs) → swapTo n out outs d m b f k ≡ k
   unfolding swapTo
   swap-enough zero k h = refl
-  swap-enough (suc f) k h =
-      let r = swapTo n out outs d m b f (swapOnce n out outs d m b k) in
-      ap (λ (t : Bool). cond (t && ltb 0 (size (comers n out outs d m b k))) r k)
-      (le-ltb (size (both k outs)) out h)
+  swap-enough (suc f) k h = rw (le-ltb (size (both k outs)) out h)
 
   pub swap-none :
       (f : ℕ) (k : List Bool) → size (comers n out outs d m b k) ≡ 0 → swapTo n out outs d m b f k ≡ k
   unfolding swapTo
   swap-none zero k h = refl
   swap-none (suc f) k h =
-      let r = swapTo n out outs d m b f (swapOnce n out outs d m b k) in
       let z : size (comers n out outs d m b k) ≤ 0 = omega arith in
-      ap (λ (t : Bool). cond (ltb (size (both k outs)) out && t) r k)
-      (le-ltb 0 (size (comers n out outs d m b k)) z)
-      ∙ ap (λ (t : Bool). cond t r k) (and-false (ltb (size (both k outs)) out))
+      rw (le-ltb 0 (size (comers n out outs d m b k)) z, and-false (ltb (size (both k outs)) out))
+
+  pub swap-kept :
+      (f : ℕ) (k : List Bool) → size (goers n out outs d m b k) ≡ 0 → swapTo n out outs d m b f k ≡ k
+  unfolding swapTo
+  swap-kept zero k h = refl
+  swap-kept (suc f) k h =
+      let z : size (goers n out outs d m b k) ≤ 0 = omega arith in
+      rw (le-ltb 0 (size (goers n out outs d m b k)) z, and-false)
 
   pub swap-go :
       (f : ℕ) (k : List Bool) →
       0 < f →
       size (both k outs) < out →
       0 < size (comers n out outs d m b k) →
+      0 < size (goers n out outs d m b k) →
       swapTo n out outs d m b f k ≡ swapTo n out outs d m b (f - 1) (swapOnce n out outs d m b k)
   unfolding swapTo
-  swap-go f k h a c =
-      let r = swapTo n out outs d m b (f - 1) (swapOnce n out outs d m b k) in
+  swap-go f k h a c g =
       ap (λ (j : ℕ). swapTo n out outs d m b j k) (pred-suc f h)
-      ∙ ap (λ (t : Bool). cond (t && ltb 0 (size (comers n out outs d m b k))) r k)
-      (lt-ltb (size (both k outs)) out a)
-      ∙ ap (λ (t : Bool). cond t r k) (lt-ltb 0 (size (comers n out outs d m b k)) c)
+      ∙ rw (
+        lt-ltb (size (both k outs)) out a,
+        lt-ltb 0 (size (comers n out outs d m b k)) c,
+        lt-ltb 0 (size (goers n out outs d m b k)) g,
+      )

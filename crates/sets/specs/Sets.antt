@@ -107,11 +107,13 @@ module _ (n out : ℕ) (outbound : List Bool) (order : List ℕ) (m b : List Boo
   unfoldable pub swapOnce : List Bool → List Bool
   swapOnce k = set (set k (lastOf (goers k) order n) false) (firstOf (comers k) order n) true
 
-  -- at most f swaps
+  -- at most f swaps, each while one can come and one can go
   unfoldable pub swapTo : ℕ → List Bool → List Bool
   swapTo zero k = k
   swapTo (suc f) k =
-      cond (ltb (size (both k outbound)) out && ltb 0 (size (comers k))) (swapTo f (swapOnce k)) k
+      cond (ltb (size (both k outbound)) out && ltb 0 (size (comers k)) && ltb 0 (size (goers k)))
+      (swapTo f (swapOnce k))
+      k
 
 -- sorted upward
 unfoldable pub insert : ℕ → List ℕ → List ℕ

@@ -124,6 +124,9 @@ pub fn swapped(
             return r;
         }
         let goers = without(without(r, outbound), b);
+        if count(goers) == 0 {
+            return r;
+        }
         r = with(
             with(r, last_of(goers, order), false),
             first_of(comers, order),
