@@ -28,10 +28,10 @@ use Rattle.sets.specs.Sets.{
 }
 use Rattle.mesh.specs.Maintenance.{mesh1, mesh2, theBest, keepers, swapped, mesh3, mesh4, mesh5, meshes, changesOf, actionsOn, actionsOf}
 use Rattle.rules.specs.Step.{isNegative, isGraylisted, isHeard, secondsOf, pruneReply, meshFull, graftEnters, isCandidate, heightIn, degreesIn, viewIn, meshesIn, punished, settleSlot, heartbeatActions, maintainedReply, heartbeatReply}
-use Rattle.examples.specs.Table.{lonely, short, shortSum, peer, inTopic, peers, topics, crowd, tidied, Examples}
+use Rattle.examples.specs.Table.{lonely, short, shortSum, peer, inTopic, peers, topics, crowd, maintained, Examples}
 
 pub examples : Examples
-unfolding fadedOf topicSum part1Of part3Of lonely short shortSum peer inTopic peers topics crowd tidied
+unfolding fadedOf topicSum part1Of part3Of lonely short shortSum peer inTopic peers topics crowd maintained
     pruneReply secondsOf pruned withEnd outOfMesh intoMesh isHeard isGraylisted isNegative scoreIn topicScore topicParamsIn sharesGroup sharing
     allTopics bounded scoreSum graftEnters meshFull meshSize isMember count every iter gather codeIn joinedIn peerIn topicIn setPeer setTopic setClock
     isCandidate heightIn degreesIn viewIn meshesIn punished settleSlot heartbeatActions maintainedReply heartbeatReply

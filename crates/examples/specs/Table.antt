@@ -96,9 +96,9 @@ crowd members others outbound =
       topics = topics members 1 ++ topics others 0;
     }
 
--- a tidy of it, drawn by slot, with no opportunism
-unfoldable pub tidied : ℕ → ℕ → Reply
-tidied members others = heartbeatReply (crowd members others 1) 0 0 0 (ascending 0 slotCount)
+-- a heartbeat (01's tidy) of it, drawn by slot, with no opportunism
+unfoldable pub maintained : ℕ → ℕ → Reply
+maintained members others = heartbeatReply (crowd members others 1) 0 0 0 (ascending 0 slotCount)
 
 -- an action's kind and the id it names
 abbrev pub told : Action → ℕ × ℕ
@@ -121,8 +121,8 @@ pub record Examples : Type 0 where
   pub outboundAt12 : graftEnters (crowd 12 1 1) 0 12 ≡ true
   -- "13 inbound members, one outbound candidate: 7 PRUNEs, one GRAFT, mesh 7."
   pub thirteen :
-      map told (tidied 13 1 .actions)
+      map told (maintained 13 1 .actions)
       ≡ (2, 7) ∷ (2, 8) ∷ (2, 9) ∷ (2, 10) ∷ (2, 11) ∷ (2, 12) ∷ (2, 13) ∷ (1, 101) ∷ []
-  pub thirteenMesh : meshSize (tidied 13 1 .state) 0 ≡ 7
+  pub thirteenMesh : meshSize (maintained 13 1 .state) 0 ≡ 7
   -- "12 inbound members, two outbound candidates: mesh 14."
-  pub twelveMesh : meshSize (tidied 12 2 .state) 0 ≡ 14
+  pub twelveMesh : meshSize (maintained 12 2 .state) 0 ≡ 14
