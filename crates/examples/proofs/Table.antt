@@ -1,8 +1,9 @@
 -- The worked examples, by computation.
 -- Assumes nothing.
 use mathlib.Core.Path.{refl}
-use Rattle.index.specs.Index.{every, count, iter, gather}
+use Rattle.index.specs.Index.{every, first, count, iter, gather}
 use Rattle.records.specs.Records.{codeIn, joinedIn, peerIn, topicIn, setPeer, setTopic, setClock}
+use Rattle.lookup.specs.Find.{holds, findConnected}
 use Rattle.effects.specs.Effects.{withEnd, outOfMesh, intoMesh, pruned, isMember, meshSize}
 use Rattle.score.specs.Parts.{part1Of, part3Of}
 use Rattle.score.specs.Formula.{topicSum, allTopics, bounded, scoreSum}
@@ -27,14 +28,15 @@ use Rattle.sets.specs.Sets.{
   swapTo,
 }
 use Rattle.mesh.specs.Maintenance.{mesh1, mesh2, theBest, keepers, swapped, mesh3, mesh4, mesh5, meshes, changesOf, actionsOn, actionsOf}
-use Rattle.rules.specs.Step.{isNegative, isGraylisted, isHeard, secondsOf, pruneReply, meshFull, graftEnters, isCandidate, heightIn, degreesIn, viewIn, meshesIn, punished, settleSlot, heartbeatActions, maintainedReply, heartbeatReply}
-use Rattle.examples.specs.Table.{lonely, short, shortSum, peer, inTopic, peers, topics, crowd, tidied, Examples}
+use Rattle.rules.specs.Step.{isNegative, isGraylisted, isHeard, secondsOf, pruneReply, graftRefused, meshFull, graftEnters, graftOpen, graftBackoff, graftHeard, graftReply, isCandidate, heightIn, degreesIn, viewIn, meshesIn, punished, settleSlot, heartbeatActions, maintainedReply, heartbeatReply, effect}
+use Rattle.examples.specs.Table.{lonely, short, shortSum, peer, inTopic, peers, topics, crowd, prunedFor60, grafted, maintained, Examples}
 
 pub examples : Examples
-unfolding fadedOf topicSum part1Of part3Of lonely short shortSum peer inTopic peers topics crowd tidied
+unfolding fadedOf topicSum part1Of part3Of lonely short shortSum peer inTopic peers topics crowd prunedFor60 grafted maintained
     pruneReply secondsOf pruned withEnd outOfMesh intoMesh isHeard isGraylisted isNegative scoreIn topicScore topicParamsIn sharesGroup sharing
-    allTopics bounded scoreSum graftEnters meshFull meshSize isMember count every iter gather codeIn joinedIn peerIn topicIn setPeer setTopic setClock
-    isCandidate heightIn degreesIn viewIn meshesIn punished settleSlot heartbeatActions maintainedReply heartbeatReply
+    allTopics bounded scoreSum graftRefused graftEnters graftOpen graftBackoff graftHeard graftReply meshFull meshSize isMember
+    holds findConnected count every first iter gather codeIn joinedIn peerIn topicIn setPeer setTopic setClock
+    isCandidate heightIn degreesIn viewIn meshesIn punished settleSlot heartbeatActions maintainedReply heartbeatReply effect
     bySlot size both except from occurs isPermutation ascending inOrder fill top bests firstOf lastOf swapOnce swapTo
     mesh1 mesh2 theBest keepers swapped mesh3 mesh4 mesh5 meshes changesOf actionsOn actionsOf
 examples =
@@ -45,9 +47,9 @@ examples =
       atActivation = refl;
       running = refl;
       over = refl;
-      inboundAt11 = refl;
-      inboundAt12 = refl;
-      outboundAt12 = refl;
+      inboundAt11 = (refl, refl);
+      inboundAt12 = (refl, refl);
+      outboundAt12 = (refl, refl);
       thirteen = refl;
       thirteenMesh = refl;
       twelveMesh = refl;

@@ -1,14 +1,13 @@
 -- 01's bench list, the lines marked [p], in one table: what the definitions of the rules give. To be changed with 01's list alone.
-use Prim.Native.Nat.{ℕ, zero, suc, _+_, _-_, _*_}
+use Prim.Native.Nat.{ℕ, zero, suc}
 use mathlib.Core.Path.{_≡_}
-use mathlib.Core.Bool.{Bool, true, false}
+use mathlib.Core.Bool.{true, false}
 use mathlib.Core.List.{List, [], _∷_, _++_, map}
 use lib.ListN.{replicate}
 use lib.IntN.{ℤ, pos, negsuc}
-use Rattle.index.specs.Index.{count}
 use Rattle.records.specs.declared.Peer.{Peer}
 use Rattle.records.specs.declared.TopicRecord.{TopicRecord}
-use Rattle.records.specs.Records.{State, slotCount, noPeer, noTopic, peerIn}
+use Rattle.records.specs.Records.{State, slotCount, noTopic, peerIn}
 use Rattle.score.specs.declared.TopicParams.{TopicParams}
 use Rattle.score.specs.Parts.{part1Of, part2Of, part3Of, part3bOf, part4Of}
 use Rattle.score.specs.Formula.{topicSum}
@@ -17,7 +16,8 @@ use Rattle.effects.specs.Actions.{Action}
 use Rattle.effects.specs.Effects.{backoffRuns, meshSize}
 use Rattle.sets.specs.Sets.{ascending}
 use Rattle.rules.specs.Reply.{Reply}
-use Rattle.rules.specs.Step.{pruneReply, graftEnters, heartbeatReply}
+use Rattle.rules.specs.Calls.{graft, prune, heartbeat}
+use Rattle.rules.specs.Step.{effect}
 
 -- ---- a topic with weight 500, w3 -1, threshold 20000 and activation 10, all other weights 0, and a member of it with counter 15000
 unfoldable pub lonely : TopicParams
@@ -55,7 +55,7 @@ shortSum mesh =
     (part3bOf (short mesh))
     (part4Of (short mesh))
 
--- ---- a router that has joined topic 0, where all scores are 0, with D_lo 4, D 6, D_hi 12, D_out 2, D_score 4 and prune backoff 60
+-- ---- a made-up state that has joined topic 0, where all scores are 0, with D_lo 4, D 6, D_hi 12, D_out 2, D_score 4 and prune backoff 60
 unfoldable pub peer : ℕ → ℕ → Peer
 peer id outbound =
     record {
@@ -84,8 +84,9 @@ unfoldable pub topics : ℕ → ℕ → List TopicRecord
 topics zero member = []
 topics (suc n) member = inTopic member ∷ replicate 7 noTopic ++ topics n member
 
--- as many inbound members, in the first slots, and then as many subscribed peers of a direction that are none. The codes of the parameters are
--- 2n, or -2n - 1; those that stand as 0 are not used at score 0.
+-- as many inbound members, in the first slots, with ids from 1 on, and then as many subscribed peers of a direction that are none, with ids from
+-- 101 on. The codes of the parameters are 2n, or -2n - 1; those that stand as 0 are not used at score 0. It is no router's table, for it has few
+-- codes and no empty records: test 12 would refuse it, and the calls are taken behind the first tests (`effect`).
 unfoldable pub crowd : ℕ → ℕ → ℕ → State
 crowd members others outbound =
     record {
@@ -96,9 +97,17 @@ crowd members others outbound =
       topics = topics members 1 ++ topics others 0;
     }
 
--- a tidy of it, drawn by slot, with no opportunism
-unfoldable pub tidied : ℕ → ℕ → Reply
-tidied members others = heartbeatReply (crowd members others 1) 0 0 0 (ascending 0 slotCount)
+-- a PRUNE at 10,000 for 60 s from the one member
+unfoldable pub prunedFor60 : State
+prunedFor60 = effect (crowd 1 0 0) (prune 10000 1 0 60) .state
+
+-- a GRAFT from a peer of a direction, at as many members
+unfoldable pub grafted : ℕ → ℕ → Reply
+grafted members outbound = effect (crowd members 1 outbound) (graft 0 101 0)
+
+-- a heartbeat (01's tidy), drawn by slot, with no opportunism, at as many members and outbound candidates
+unfoldable pub maintained : ℕ → ℕ → Reply
+maintained members others = effect (crowd members others 1) (heartbeat 0 0 0 (ascending 0 slotCount))
 
 -- an action's kind and the id it names
 abbrev pub told : Action → ℕ × ℕ
@@ -113,16 +122,16 @@ pub record Examples : Type 0 where
   pub deficit : shortSum 11 ≡ negsuc 12499999999
   pub atActivation : shortSum 10 ≡ pos 0
   -- "PRUNE at 10,000 for 60 s: running at 69,999, over at 70,000."
-  pub running : backoffRuns (peerIn (pruneReply (crowd 1 0 0) 10000 0 60 0 .state) 0) 0 69999 ≡ true
-  pub over : backoffRuns (peerIn (pruneReply (crowd 1 0 0) 10000 0 60 0 .state) 0) 0 70000 ≡ false
-  -- "D_hi 12: an inbound GRAFT enters at 11, not at 12; an outbound one enters at 12."
-  pub inboundAt11 : graftEnters (crowd 11 1 0) 0 11 ≡ true
-  pub inboundAt12 : graftEnters (crowd 12 1 0) 0 12 ≡ false
-  pub outboundAt12 : graftEnters (crowd 12 1 1) 0 12 ≡ true
+  pub running : backoffRuns (peerIn prunedFor60 0) 0 69999 ≡ true
+  pub over : backoffRuns (peerIn prunedFor60 0) 0 70000 ≡ false
+  -- "D_hi 12: an inbound GRAFT enters at 11, not at 12; an outbound one enters at 12.": the mesh after it, and what the peer is told
+  pub inboundAt11 : (meshSize (grafted 11 0 .state) 0 ≡ 12) × (map told (grafted 11 0 .actions) ≡ [])
+  pub inboundAt12 : (meshSize (grafted 12 0 .state) 0 ≡ 12) × (map told (grafted 12 0 .actions) ≡ (2, 101) ∷ [])
+  pub outboundAt12 : (meshSize (grafted 12 1 .state) 0 ≡ 13) × (map told (grafted 12 1 .actions) ≡ [])
   -- "13 inbound members, one outbound candidate: 7 PRUNEs, one GRAFT, mesh 7."
   pub thirteen :
-      map told (tidied 13 1 .actions)
+      map told (maintained 13 1 .actions)
       ≡ (2, 7) ∷ (2, 8) ∷ (2, 9) ∷ (2, 10) ∷ (2, 11) ∷ (2, 12) ∷ (2, 13) ∷ (1, 101) ∷ []
-  pub thirteenMesh : meshSize (tidied 13 1 .state) 0 ≡ 7
+  pub thirteenMesh : meshSize (maintained 13 1 .state) 0 ≡ 7
   -- "12 inbound members, two outbound candidates: mesh 14."
-  pub twelveMesh : meshSize (tidied 12 2 .state) 0 ≡ 14
+  pub twelveMesh : meshSize (maintained 12 2 .state) 0 ≡ 14

@@ -21,14 +21,14 @@ use Rattle.rules.specs.Step.{ofPeer, effect, step}
 use Rattle.rules.proofs.CaseLaws.{topic-in, topic-of-both, arguments, by-peer, by-gate}
 use Rattle.rules.proofs.Keeps.{keeps, keeps-sizes}
 use Rattle.history.specs.Lists.{Made, after, answered, outbound}
-use Rattle.history.specs.Demand3.{Accepted, member, outboundAt, members, outboundMembers, inboundMembers, Tidied, Demand3}
+use Rattle.history.specs.Demand3.{Accepted, member, outboundAt, members, outboundMembers, inboundMembers, Maintained, Demand3}
 use Rattle.history.proofs.Fewer.{Fewer, fewer-self}
 use Rattle.history.proofs.Frames.{fewer-still, fewer-disconnect, fewer-join, fewer-leave, fewer-rate, fewer-decay, fewer-subscribe, fewer-unsubscribe, fewer-prune, fewer-deliver}
 use Rattle.history.proofs.Standing.{Standing, isInbound, inbounds, member-connected, stands-fresh}
 use Rattle.history.proofs.Replies.{heardOf, After, Stays, after-refused, after-fewer}
 use Rattle.history.proofs.Connect.{stands-connect}
 use Rattle.history.proofs.Graft.{stands-graft}
-use Rattle.history.proofs.Heartbeat.{TidiedIn, stands-heartbeat, tidied-heartbeat}
+use Rattle.history.proofs.Heartbeat.{MaintainedIn, stands-heartbeat, maintained-heartbeat}
 
 -- ---- one call
 module _ (params : List ℤ) (dir : ℕ → Bool) (st : State) (h : Standing params dir st) where
@@ -67,19 +67,19 @@ module _ (params : List ℤ) (dir : ℕ → Bool) (st : State) (h : Standing par
       (keeps st c room (h .size) (h .router))
 
   -- a heartbeat that was answered 0
-  tidied-step :
+  maintained-step :
       (time t ask room : ℕ) (order : List ℕ) →
       numberOf (step st (heartbeat time t ask order) room .answer) ≡ 0 →
-      TidiedIn params dir st (step st (heartbeat time t ask order) room .state) time t
+      MaintainedIn params dir st (step st (heartbeat time t ask order) room .state) time t
   unfolding effect
-  tidied-step time t ask room order =
-      by-gate (λ (r : Reply). numberOf (r .answer) ≡ 0 → TidiedIn params dir st (r .state) time t) st
+  maintained-step time t ask room order =
+      by-gate (λ (r : Reply). numberOf (r .answer) ≡ 0 → MaintainedIn params dir st (r .state) time t) st
       (heartbeat time t ask order)
       room
       (λ a e zero. absurd (eqb-false (numberOf a) 0 e zero))
       (λ p.
       let a = arguments (heartbeat time t ask order) (p .ranges) in
-      tidied-heartbeat params dir st h time t ask order (topic-in t (both (topicOk t) (leb ask 1) a .0)))
+      maintained-heartbeat params dir st h time t ask order (topic-in t (both (topicOk t) (leb ask 1) a .0)))
 
 -- ---- every list of calls
 module _ (params : List ℤ) (ok : Accepted params) where
@@ -110,7 +110,7 @@ module _ (params : List ℤ) (ok : Accepted params) where
       (calls : List Made) (t s : ℕ) →
       t < 8 →
       s < 64 →
-      member params calls t s && not (outboundAt params calls t s) ≡ isInbound (after params calls) t s
+      member params calls t s && not (outboundAt params calls s) ≡ isInbound (after params calls) t s
   inbound-same calls t s k l =
       by-test _ (isMember (after params calls) t s)
       (λ m.
@@ -122,19 +122,19 @@ module _ (params : List ℤ) (ok : Accepted params) where
   unfolding inboundMembers inbounds
   inbound-count calls t k =
       count-same
-      (λ s. member params calls t s && not (outboundAt params calls t s))
+      (λ s. member params calls t s && not (outboundAt params calls s))
       (isInbound (after params calls) t)
       64
       (λ s l. inbound-same calls t s k l)
 
   -- ---- after a heartbeat
-  tidied-last :
+  maintained-last :
       (time t ask room : ℕ) (order : List ℕ) (before : List Made) →
       answered params (record { call = heartbeat time t ask order; room = room }) before ≡ 0 →
-      Tidied params (record { call = heartbeat time t ask order; room = room } ∷ before) before time t
+      Maintained params (record { call = heartbeat time t ask order; room = room } ∷ before) before time t
   unfolding after outbound answered members outboundMembers
-  tidied-last time t ask room order before zero =
-      let w = tidied-step params (outbound params before) (after params before) (standing before) time t ask room order zero in
+  maintained-last time t ask room order before zero =
+      let w = maintained-step params (outbound params before) (after params before) (standing before) time t ask room order zero in
       record { good = w .good; outs = w .outs; enough = w .enough }
 
 pub demand3 : Demand3
@@ -143,5 +143,5 @@ demand3 params calls ok =
       inbound = λ t j.
           let k = joined-below params ok calls t j in
           omega (arith, inbound-count params ok calls t k, standing params ok calls .few t k);
-      tidied = λ time t ask room order before e zero. rw e (tidied-last params ok time t ask room order before zero);
+      maintained = λ time t ask room order before e zero. rw e (maintained-last params ok time t ask room order before zero);
     }

@@ -1,5 +1,5 @@
--- Heartbeat: the topic's mesh becomes the one that maintenance leaves, and what `Maintained` says of that list by slot is said here of the
--- state, with each peer's direction; the other topics stay.
+-- Heartbeat: the topic's mesh becomes the one that maintenance leaves, and what `Maintained` (crate mesh) says of that list by slot is
+-- said here of the state, with each peer's direction; the other topics stay.
 -- Assumes nothing.
 use Prim.Native.Nat.{ℕ, _+_, _<_, _≤_}
 use native.Mathlib.Omega.{arith}
@@ -36,7 +36,7 @@ use Rattle.history.proofs.Standing.{Standing, isInbound, inbounds, inbo
 use Rattle.history.proofs.Replies.{Stays, after-fewer}
 
 -- what demand 3 says of the topic after a heartbeat: st is the state at its start, u the one that it left
-pub record TidiedIn (params : List ℤ) (dir : ℕ → Bool) (st u : State) (time t : ℕ) : Type 0 where
+pub record MaintainedIn (params : List ℤ) (dir : ℕ → Bool) (st u : State) (time t : ℕ) : Type 0 where
   pub good : (s : ℕ) → s < slotCount → isMember u t s ≡ true → isNegative st s ≡ false
   pub outs :
       (dOut params ≤ count slotCount (λ s. isMember u t s && dir (peerIn u s .id))) ⊎
@@ -180,8 +180,8 @@ module _
           }
 
       -- ---- the topic that was maintained
-      tidied-good : (s : ℕ) → s < 64 → isMember left t s ≡ true → isNegative st s ≡ false
-      tidied-good s l m =
+      maintained-good : (s : ℕ) → s < 64 → isMember left t s ≡ true → isNegative st s ≡ false
+      maintained-good s l m =
           not-true (isNegative st s)
           (sym (view-goods st time t ask order (h .router) s l) ∙ kept .only s (sym (member-here s l) ∙ m))
 
@@ -192,10 +192,10 @@ module _
           (λ m. rw (member-here s l, m) (directed s l (of-view s l (kept .pool s m))))
           (λ m. rw (member-here s l, m))
 
-      tidied-outs :
+      maintained-outs :
           (dOut params ≤ count 64 (λ s. isMember left t s && dir (peerIn left s .id))) ⊎
           ((s : ℕ) → s < 64 → InPool st time t s → dir (peerIn left s .id) ≡ true → isMember left t s ≡ true)
-      tidied-outs =
+      maintained-outs =
           ⊎-elim
           (λ b.
           let c = count-same (λ s. at mesh s && at (view .outbound) s) (λ s. isMember left t s && dir (peerIn left s .id)) 64 outbound-same in
@@ -203,10 +203,10 @@ module _
           (λ f. inr (λ s l p o. member-here s l ∙ f s (to-view s l p) (directed s l p ∙ o)))
           (kept .outs)
 
-      tidied-enough :
+      maintained-enough :
           (dLo params ≤ count 64 (isMember left t)) ⊎
           ((s : ℕ) → s < 64 → InPool st time t s → isMember left t s ≡ true)
-      tidied-enough =
+      maintained-enough =
           ⊎-elim
           (λ b.
           let c = count-same (isMember left t) (at mesh) 64 member-here in
@@ -214,8 +214,8 @@ module _
           (λ f. inr (λ s l p. member-here s l ∙ f s (to-view s l p)))
           (kept .lower)
 
-      tidied-in : TidiedIn params dir st left time t
-      tidied-in = record { good = tidied-good; outs = tidied-outs; enough = tidied-enough }
+      maintained-in : MaintainedIn params dir st left time t
+      maintained-in = record { good = maintained-good; outs = maintained-outs; enough = maintained-enough }
 
     -- ---- every end
     pub stands-heartbeat : Stays params dir (heartbeatReply st time t ask order)
@@ -230,14 +230,14 @@ module _
 
     -- 0 means that the topic was maintained
     abbrev Done : Reply → Type 0
-    Done r = numberOf (r .answer) ≡ 0 → TidiedIn params dir st (r .state) time t
+    Done r = numberOf (r .answer) ≡ 0 → MaintainedIn params dir st (r .state) time t
 
-    pub tidied-heartbeat : Done (heartbeatReply st time t ask order)
+    pub maintained-heartbeat : Done (heartbeatReply st time t ask order)
     unfolding heartbeatReply maintainedReply
-    tidied-heartbeat =
+    maintained-heartbeat =
         cond-case Done (isPermutation slotCount order) _ (refused NotPermutation st)
         (λ right.
         cond-case Done (isJoined st t) (maintainedReply st time t ask order) (ignored st time)
-        (λ j zero. tidied-in right)
+        (λ j zero. maintained-in right)
         (λ j zero. absurd (omega arith)))
         (λ wrong zero. absurd (omega arith))

@@ -6,3 +6,4 @@ pub mod Connect
 pub mod Graft
 pub mod Heartbeat
 pub mod Demand3
+pub mod Played

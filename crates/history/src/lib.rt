@@ -1,1 +1,2 @@
-// Lists of calls, and demand 3 about every one of them: statements in specs/, proofs in proofs/. No code stands here.
+// Lists of calls, demand 3 about every one of them, and the program's calls as such lists: statements in specs/, proofs in proofs/. No code
+// stands here.

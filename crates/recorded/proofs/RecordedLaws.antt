@@ -86,9 +86,6 @@ module _ (params : List ℤ) (s : List ℕ) (at calls : ℕ) (table table′ lis
 holds : (params : List ℤ) (s : List ℕ) → length params ≡ paramCount → firstBroken params ≡ Nothing → Holds params (recordingOf s .calls)
 holds params s l e = demand3 params (recordingOf s .calls) (record { size = l; passes = e })
 
-no-cell : {A : Type 0} (at calls i : ℕ) → Ran at calls ≡ Refused i → A
-no-cell at calls i e = let z : _≡_ {A = ℕ} 0 1 = cc in absurd (omega arith)
-
 -- the calls made are all
 ran :
     (params : List ℤ) (s : List ℕ) (at calls : ℕ) (start table table′ : List ℕ) →
@@ -103,7 +100,7 @@ ran params s at calls start table table′ l n g e k =
     record {
       answer = rw (n, q) (ap (Ran at) (sym (g .many)));
       state = rw (n, q) (k ∙ g .state);
-      kept = λ i f. no-cell at calls i f;
+      kept = λ f. absurd (omega arith);
       demand3 = holds params s l;
     }
 
@@ -184,7 +181,7 @@ module _ (params : List ℤ) (r : Fresh) (table table′ : List ℕ) (m : Makes 
   run-refused s i l e =
       let f = breaks (firstBroken params) r i (m .answer) e in
       let k = m .kept i e in
-      record { answer = rw f; state = rw f (ap stateOf k); kept = λ j g. k; demand3 = holds params s l }
+      record { answer = rw f; state = rw f (ap stateOf k); kept = λ g. k; demand3 = holds params s l }
 
 -- ---- the list is all that stands in the bytes
 past-end : (s : List ℕ) (at : ℕ) → length s ≤ at → isEvent (eventAt s at) ≡ false

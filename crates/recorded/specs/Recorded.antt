@@ -49,7 +49,7 @@ isEvent short = false
 abbrev pub All : Type 0
 All = (s : List ℕ) → isEvent (eventAt s (recordingOf s .place)) ≡ false
 
--- 9 with its place, or the place after the last event and how many calls were made
+-- refused parameters with their place, or the whole list
 abbrev pub answerOf : Found → Recording → Recorded
 answerOf (At i) q = Refused i
 answerOf Nothing q = Ran (q .place) (length (q .calls))
@@ -58,11 +58,21 @@ abbrev pub leftOf : Found → List ℤ → Recording → State → State
 leftOf (At i) params q st = st
 leftOf Nothing params q st = after params (q .calls)
 
+-- 01's number of an answer, and the values that go with it: 9 with the first index or 200 + the first rule; 0 with the place after the last event
+-- and how many calls were made
+abbrev pub recordedNumber : Recorded → ℕ
+recordedNumber (Refused i) = 9
+recordedNumber (Ran place calls) = 0
+
+abbrev pub recordedValues : Recorded → List ℕ
+recordedValues (Refused i) = i ∷ []
+recordedValues (Ran place calls) = place ∷ calls ∷ []
+
 -- what a run promises: r is the answer, table what stood there and table′ what stands there after it
 pub record Runs (params : List ℤ) (s : List ℕ) (r : Recorded) (table table′ : List ℕ) : Type 0 where
   pub answer : r ≡ answerOf (firstBroken params) (recordingOf s)
   -- the table holds the rules' state after the whole list; refused parameters change no cell
   pub state : stateOf table′ ≡ leftOf (firstBroken params) params (recordingOf s) (stateOf table)
-  pub kept : (i : ℕ) → r ≡ Refused i → table′ ≡ table
+  pub kept : recordedNumber r ≡ 9 → table′ ≡ table
   -- and demand 3 holds of the list
   pub demand3 : firstBroken params ≡ Nothing → Holds params (recordingOf s .calls)

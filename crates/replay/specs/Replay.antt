@@ -9,7 +9,7 @@ use lib.Seq.{sets}
 use Rattle.records.specs.Records.{State}
 use Rattle.cells.specs.View.{stateOf}
 use Rattle.effects.specs.Actions.{Action, numbersOf}
-use Rattle.rules.specs.Reply.{Reply}
+use Rattle.rules.specs.Reply.{Reply, numberOf}
 use Rattle.rules.specs.Step.{step, actionRoom}
 use Rattle.replay.specs.declared.Performed.{Performed}
 use Rattle.replay.specs.declared.Performed.the-variants.{Answered, Unknown, Malformed, CutShort}
@@ -39,6 +39,14 @@ performEvent st room unknown = idle st Unknown
 performEvent st room malformed = idle st Malformed
 performEvent st room short = idle st CutShort
 
+-- 01's number of an answer: "bad bytes or a name-length over 64 print 10 0, an unknown kind 2 0"; an event that is cut short is bad where no
+-- bytes follow
+abbrev pub performedNumber : Performed → ℕ
+performedNumber (Answered next a) = numberOf a
+performedNumber Unknown = 2
+performedNumber Malformed = 10
+performedNumber CutShort = 10
+
 -- what is promised: r is the answer, list is what stood in the lent list, table′ and list′ are what stands in the table and in the list after it
 pub record Performs (o : Performance) (r : Performed) (table′ list list′ : List ℕ) : Type 0 where
   pub answer : r ≡ o .answer
@@ -64,8 +72,8 @@ stopped st n out =
 
 abbrev pub replayEvent : State → List ℕ → Event → Outcome
 replayEvent st out (event c next) = printed (step st c actionRoom) next out
-replayEvent st out unknown = stopped st 2 out
-replayEvent st out malformed = stopped st 10 out
+replayEvent st out unknown = stopped st (performedNumber Unknown) out
+replayEvent st out malformed = stopped st (performedNumber Malformed) out
 replayEvent st out short = record { answer = Short; state = st; bytes = out }
 
 -- how many bytes one event may print: 64 actions of at most 44 bytes, and two lines

@@ -1,12 +1,13 @@
--- Every reply counts its actions, and gives at most one for each slot.
+-- Every reply counts its actions, and gives at most one for each slot; so they fit the lent list.
 -- Assumes nothing.
-use Prim.Native.Nat.{ℕ, _≤_}
-use mathlib.Core.Path.{_≡_, refl, ap}
+use Prim.Native.Nat.{ℕ, _+_, _*_, _≤_}
+use mathlib.Core.Path.{_≡_, refl, ap, _∙_}
 use mathlib.Core.Bool.{Bool, true, false, cond}
-use mathlib.Core.List.{List, [], _∷_}
+use mathlib.Core.List.{List, [], _∷_, _++_}
 use native.Mathlib.Omega.{arith}
 use lib.Dec.{eqb, leb}
-use lib.ListN.{length, length-map}
+use lib.ListN.{length, length-map, drop}
+use lib.Seq.{sets-eq}
 use Rattle.index.specs.declared.Found.{Found}
 use Rattle.index.specs.declared.Found.the-variants.{At, Nothing}
 use Rattle.index.proofs.Index.{gather-short}
@@ -20,7 +21,8 @@ use Rattle.lookup.specs.Find.{findConnected, findRetained, lowestEmpty}
 use Rattle.lookup.specs.declared.Named.{Named}
 use Rattle.lookup.specs.declared.Named.the-variants.{Version, Unknown}
 use Rattle.lookup.specs.Name.{versionOf}
-use Rattle.effects.specs.Actions.{Action, pruneOf}
+use Rattle.effects.specs.Actions.{Action, pruneOf, numbersOf}
+use Rattle.effects.proofs.ActionLaws.{numbers-length}
 use Rattle.effects.specs.Effects.{isJoined, isMember, backoffRuns, unsubscribeBackoff, reclaimed}
 use Rattle.rules.specs.declared.Answer.{Answer}
 use Rattle.rules.specs.declared.Gate.the-variants.{Pass, Refuse}
@@ -29,6 +31,8 @@ use Rattle.rules.specs.Reply.{Reply, actionsOf, refused, ignored, done}
 use Rattle.rules.specs.Calls.{Call, connect, disconnect, join, leave, subscribe, unsubscribe, graft, prune, deliver, rate, heartbeat, decay, score, timeOf, inRange}
 use Rattle.rules.specs.Step.{actionRoom, isGraylisted, isHeard, graftEnters, gateOf, through, onFound, ofPeer, onVersion, connectAt, connectIn, connectReply, joinReply, leaveActions, leaveReply, subscribeReply, unsubscribeReply, graftRefused, graftOpen, graftBackoff, graftHeard, graftReply, pruneReply, deliverReply, viewIn, meshesIn, actionIn, heartbeatActions, maintainedReply, heartbeatReply, decayReply, effect, step}
 use Rattle.rules.specs.Promise.{Follows}
+use Rattle.rules.specs.Kept.{FitsList, WritesAll}
+use Rattle.rules.proofs.CaseLaws.{by-gate}
 use Rattle.rules.proofs.HeartbeatLaws.{told-few}
 
 pub record Counted (o : Reply) : Type 0 where
@@ -176,3 +180,22 @@ few-actions c r table table′ list list′ f =
     let k = counted (stateOf table) c (length list) in
     let e : actionsOf r ≡ actionsOf (step (stateOf table) c (length list) .answer) = ap actionsOf (f .leaves .answer) in
     omega (arith, e, k .counts, k .few)
+
+-- ---- behind test 8 the list has room for 64 actions; before it there is none
+pub fits : FitsList
+unfolding numbersOf
+fits st c room =
+    by-gate (λ (r : Reply). Counted r → length (numbersOf (r .actions)) ≤ room) st c room
+    (λ a e k. omega arith)
+    (λ p k. omega (arith, p .size, k .few, numbers-length (effect st c .actions)))
+    (counted st c room)
+
+pub writes-all : WritesAll
+writes-all c r table table′ list list′ f =
+    let o = step (stateOf table) c (length list) in
+    let k = counted (stateOf table) c (length list) in
+    let e : actionsOf r ≡ actionsOf (o .answer) = ap actionsOf (f .leaves .answer) in
+    let n : 0 + length (numbersOf (o .actions)) ≡ 3 * actionsOf r = omega (arith, numbers-length (o .actions), k .counts) in
+    f .actions
+    ∙ sets-eq (numbersOf (o .actions)) list 0 (omega (arith, fits (stateOf table) c (length list)))
+    ∙ ap (λ (i : ℕ). numbersOf (o .actions) ++ drop i list) n

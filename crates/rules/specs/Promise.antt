@@ -20,7 +20,7 @@ pub record Leaves (o : Reply) (r : Answer) (table table′ : List ℕ) : Type 0 
   pub state : stateOf table′ ≡ o .state
   pub kept : refuses r ≡ true → table′ ≡ table
 
--- the same with the lent list: it begins with the rules' actions, and the numbers past them are unchanged
+-- the same with the lent list: it begins with the rules' actions, which fit it (specs/Kept.antt), and the numbers past them are unchanged
 pub record Gives (o : Reply) (r : Answer) (table table′ list list′ : List ℕ) : Type 0 where
   pub leaves : Leaves o r table table′
   pub actions : list′ ≡ sets list 0 (numbersOf (o .actions))
