@@ -10,6 +10,7 @@ ghost use Rattle.score.specs.Counters.{countMost, raisedOf};
 ghost use Rattle.effects.specs.Effects.{withP7, onPeer};
 ghost use Rattle.gate.specs.Ready.{Standing, Ready};
 ghost use Rattle.control.specs.Refusable.{Refusable};
+use cells::CELLS;
 use effects::actions::put_prune;
 use effects::slots::backoff_runs;
 use effects::slots::delay;
@@ -149,7 +150,13 @@ fn graft_from(table: &mut [u64], time: u64, id: u64, topic: usize, actions: &mut
 }
 
 // A GRAFT comes in.
-pub fn graft(table: &mut [u64; 5340], time: u64, id: u64, topic: u64, actions: &mut [u32]) -> Answer
+pub fn graft(
+    table: &mut [u64; CELLS],
+    time: u64,
+    id: u64,
+    topic: u64,
+    actions: &mut [u32],
+) -> Answer
     ensures { λ r. ⌜ Follows (Calls·graft time id topic) r (now (table .entry)) (now (table .exit)) (now (actions .entry)) (now (actions .exit)) ⌝ }
 {
     let fine = time_ok(time) & (id_ok(id) & topic_ok(topic));
@@ -191,7 +198,7 @@ fn prune_from(table: &mut [u64], time: u64, id: u64, topic: usize, seconds: u64)
 
 // A PRUNE comes in.
 pub fn prune(
-    table: &mut [u64; 5340],
+    table: &mut [u64; CELLS],
     time: u64,
     id: u64,
     topic: u64,

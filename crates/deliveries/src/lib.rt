@@ -12,6 +12,7 @@ ghost use Rattle.rules.specs.Step.{effect, deliveredOf, decayTopic, decayP7, de
 ghost use Rattle.rules.specs.Promise.{Leaves, Follows};
 ghost use Rattle.gate.specs.Ready.{Standing, Ready};
 ghost use Rattle.deliveries.specs.Decays.{Decays, isIdle};
+use cells::CELLS;
 use credits::credited;
 use effects::slots::load_size;
 use effects::values::with_p7;
@@ -56,7 +57,7 @@ fn deliver_from(table: &mut [u64], time: u64, id: u64, topic: usize, kind: u64) 
 
 // A peer delivers a message.
 pub fn deliver(
-    table: &mut [u64; 5340],
+    table: &mut [u64; CELLS],
     time: u64,
     id: u64,
     topic: u64,
@@ -146,7 +147,7 @@ fn decay_from(table: &mut [u64], time: u64) -> Answer
 }
 
 // The counters fade, and the members' mesh times are brought up to date.
-pub fn decay(table: &mut [u64; 5340], time: u64, actions: &mut [u32]) -> Answer
+pub fn decay(table: &mut [u64; CELLS], time: u64, actions: &mut [u32]) -> Answer
     ensures { λ r. ⌜ Follows (Calls·decay time) r (now (table .entry)) (now (table .exit)) (now (actions .entry)) (now (actions .exit)) ⌝ }
 {
     let fine = time_ok(time);

@@ -11,10 +11,8 @@ use effects::slots::is_joined;
 use effects::slots::load_size;
 use rules::Answer;
 use rules::Gate;
-
-const MAX_TIME: u64 = 1099511627776;
-
-const MAX_ID: u64 = 4294967295;
+use table::valid::MAX_ID;
+use table::valid::MAX_TIME;
 
 // How many numbers the lent list must have: three for each slot.
 const ACTION_ROOM: usize = 192;

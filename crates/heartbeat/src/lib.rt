@@ -21,6 +21,7 @@ use crate::seen::ids;
 use crate::seen::told;
 use crate::seen::view;
 use crate::settle::settle;
+use cells::CELLS;
 use effects::slots::is_joined;
 use effects::slots::load_size;
 use effects::values::end_after;
@@ -103,7 +104,7 @@ fn ask_ok(ask: u64) -> bool
 
 // The mesh of a topic is maintained, with a permutation of the slots, and opportunistic grafts where `ask` is 1.
 pub fn heartbeat(
-    table: &mut [u64; 5340],
+    table: &mut [u64; CELLS],
     time: u64,
     topic: u64,
     ask: u64,

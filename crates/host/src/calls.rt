@@ -9,11 +9,12 @@ ghost use Rattle.answers.specs.Answers.{scoreOr as scoreOrOf};
 ghost use Rattle.host.specs.Host.{HostsLent};
 use answers::code;
 use answers::score_or;
+use cells::CELLS;
 
 // A peer connects. Flags: 1 outbound + 2 explicit.
 #[no_mangle]
 pub extern "C" fn hivepadlet_connect(
-    table: &mut [u64; 5340],
+    table: &mut [u64; CELLS],
     time: u64,
     id: u64,
     group: u64,
@@ -29,7 +30,7 @@ pub extern "C" fn hivepadlet_connect(
 // A peer disconnects.
 #[no_mangle]
 pub extern "C" fn hivepadlet_disconnect(
-    table: &mut [u64; 5340],
+    table: &mut [u64; CELLS],
     time: u64,
     id: u64,
     actions: &mut [u32],
@@ -42,7 +43,7 @@ pub extern "C" fn hivepadlet_disconnect(
 // We join a topic.
 #[no_mangle]
 pub extern "C" fn hivepadlet_join(
-    table: &mut [u64; 5340],
+    table: &mut [u64; CELLS],
     time: u64,
     topic: u64,
     actions: &mut [u32],
@@ -55,7 +56,7 @@ pub extern "C" fn hivepadlet_join(
 // We leave a topic.
 #[no_mangle]
 pub extern "C" fn hivepadlet_leave(
-    table: &mut [u64; 5340],
+    table: &mut [u64; CELLS],
     time: u64,
     topic: u64,
     actions: &mut [u32],
@@ -68,7 +69,7 @@ pub extern "C" fn hivepadlet_leave(
 // A peer subscribes to a topic.
 #[no_mangle]
 pub extern "C" fn hivepadlet_subscribe(
-    table: &mut [u64; 5340],
+    table: &mut [u64; CELLS],
     time: u64,
     id: u64,
     topic: u64,
@@ -82,7 +83,7 @@ pub extern "C" fn hivepadlet_subscribe(
 // A peer unsubscribes from a topic.
 #[no_mangle]
 pub extern "C" fn hivepadlet_unsubscribe(
-    table: &mut [u64; 5340],
+    table: &mut [u64; CELLS],
     time: u64,
     id: u64,
     topic: u64,
@@ -96,7 +97,7 @@ pub extern "C" fn hivepadlet_unsubscribe(
 // A GRAFT came in.
 #[no_mangle]
 pub extern "C" fn hivepadlet_graft(
-    table: &mut [u64; 5340],
+    table: &mut [u64; CELLS],
     time: u64,
     id: u64,
     topic: u64,
@@ -110,7 +111,7 @@ pub extern "C" fn hivepadlet_graft(
 // A PRUNE came in, with the seconds of its backoff.
 #[no_mangle]
 pub extern "C" fn hivepadlet_prune(
-    table: &mut [u64; 5340],
+    table: &mut [u64; CELLS],
     time: u64,
     id: u64,
     topic: u64,
@@ -125,7 +126,7 @@ pub extern "C" fn hivepadlet_prune(
 // A delivery: 1 first, 2 near-first, 3 invalid.
 #[no_mangle]
 pub extern "C" fn hivepadlet_deliver(
-    table: &mut [u64; 5340],
+    table: &mut [u64; CELLS],
     time: u64,
     id: u64,
     topic: u64,
@@ -140,7 +141,7 @@ pub extern "C" fn hivepadlet_deliver(
 // Sets P5 of a peer.
 #[no_mangle]
 pub extern "C" fn hivepadlet_rate(
-    table: &mut [u64; 5340],
+    table: &mut [u64; CELLS],
     time: u64,
     id: u64,
     p5: i64,
@@ -154,7 +155,7 @@ pub extern "C" fn hivepadlet_rate(
 // The heartbeat's work for one topic, with a permutation of the slots, and opportunism where `ask` is 1.
 #[no_mangle]
 pub extern "C" fn hivepadlet_heartbeat(
-    table: &mut [u64; 5340],
+    table: &mut [u64; CELLS],
     time: u64,
     topic: u64,
     ask: u64,
@@ -168,7 +169,7 @@ pub extern "C" fn hivepadlet_heartbeat(
 
 // The counters decay.
 #[no_mangle]
-pub extern "C" fn hivepadlet_decay(table: &mut [u64; 5340], time: u64, actions: &mut [u32]) -> u64
+pub extern "C" fn hivepadlet_decay(table: &mut [u64; CELLS], time: u64, actions: &mut [u32]) -> u64
     ensures { λ r. ⌜ HostsLent (Calls·decay time) r table actions ⌝ }
 {
     code(router::decay(table, time, actions))
@@ -177,7 +178,7 @@ pub extern "C" fn hivepadlet_decay(table: &mut [u64; 5340], time: u64, actions: 
 // The score of a peer, through a lent number that stands where the call is refused.
 #[no_mangle]
 pub extern "C" fn hivepadlet_score(
-    table: &mut [u64; 5340],
+    table: &mut [u64; CELLS],
     time: u64,
     id: u64,
     score: &mut i64,

@@ -6,6 +6,7 @@ ghost use Rattle.params.specs.Ordinary.{ordinaryNumbers};
 ghost use Rattle.table.specs.Valid.{valid};
 ghost use Rattle.host.specs.Host.{HostsRead, HostsWrite, HostsFresh};
 use answers::packed;
+use cells::CELLS;
 use lookup::Made;
 use params::Params;
 use params::Verdict;
@@ -62,7 +63,7 @@ pub extern "C" fn hivepadlet_write(numbers: &[i64; 147], buffer: &mut [u8]) -> u
 
 // Makes a fresh router: 0, or 9 with the index or rule.
 #[no_mangle]
-pub extern "C" fn hivepadlet_fresh(numbers: &[i64; 147], table: &mut [u64; 5340]) -> u64
+pub extern "C" fn hivepadlet_fresh(numbers: &[i64; 147], table: &mut [u64; CELLS]) -> u64
     ensures { λ r. ⌜ HostsFresh (now (numbers .entry)) r (now (table .entry)) (now (table .exit)) ⌝ }
 {
     let all = Params { numbers: *numbers };
@@ -80,7 +81,7 @@ fn number(flag: bool) -> u32
 
 // Test 12: 1 if the table is a router's, else 0.
 #[no_mangle]
-pub extern "C" fn hivepadlet_is_router(table: &[u64; 5340]) -> u32
+pub extern "C" fn hivepadlet_is_router(table: &[u64; CELLS]) -> u32
     ensures { λ r. ⌜ r ≡ one (valid (stateOf (now (table .entry)))) ⌝ }
 {
     let flag = router::is_router(table);

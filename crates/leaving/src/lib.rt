@@ -10,6 +10,7 @@ ghost use Rattle.rules.specs.Step.{leaveReply, isNegative};
 ghost use Rattle.rules.specs.Promise.{Gives, Follows};
 ghost use Rattle.gate.specs.Ready.{Standing, Ready};
 ghost use Rattle.leaving.specs.Slots.{grownIf, Turn, Turned, Walk, Walked};
+use cells::CELLS;
 use effects::actions::put_prune;
 use effects::slots::is_joined;
 use effects::slots::is_member;
@@ -130,7 +131,7 @@ fn leave_from(table: &mut [u64], time: u64, topic: usize, actions: &mut [u32]) -
 }
 
 // We leave a topic.
-pub fn leave(table: &mut [u64; 5340], time: u64, topic: u64, actions: &mut [u32]) -> Answer
+pub fn leave(table: &mut [u64; CELLS], time: u64, topic: u64, actions: &mut [u32]) -> Answer
     ensures { λ r. ⌜ Follows (Calls·leave time topic) r (now (table .entry)) (now (table .exit)) (now (actions .entry)) (now (actions .exit)) ⌝ }
 {
     let fine = time_ok(time) & topic_ok(topic);

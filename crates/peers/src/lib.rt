@@ -11,6 +11,7 @@ ghost use Rattle.rules.specs.Step.{effect, connectIn, connectAt, connectReply};
 ghost use Rattle.effects.specs.Effects.{reclaimed};
 ghost use Rattle.rules.specs.Promise.{Leaves, Follows};
 ghost use Rattle.gate.specs.Ready.{Ready};
+use cells::CELLS;
 use effects::connections::connect_slot;
 use effects::connections::reclaim;
 use effects::connections::retain_slot;
@@ -26,6 +27,7 @@ use lookup::Named;
 use lookup::find::find_connected;
 use rules::Answer;
 use rules::Gate;
+use table::valid::MAX_ID;
 
 // A record in a slot becomes a connected one.
 fn connect_at(
@@ -89,7 +91,7 @@ fn connect_from(
 
 // A connection is there: flags are 1 outbound + 2 explicit, and the name is the protocol's.
 pub fn connect(
-    table: &mut [u64; 5340],
+    table: &mut [u64; CELLS],
     time: u64,
     id: u64,
     group: u64,
@@ -99,7 +101,7 @@ pub fn connect(
 ) -> Answer
     ensures { λ r. ⌜ Follows (Calls·connect time id group flags (now (name .entry))) r (now (table .entry)) (now (table .exit)) (now (actions .entry)) (now (actions .exit)) ⌝ }
 {
-    let fine = time_ok(time) & (id_ok(id) & ((group <= 4294967295) & (flags <= 3)));
+    let fine = time_ok(time) & (id_ok(id) & ((group <= MAX_ID) & (flags <= 3)));
     match admit(table, fine, actions.len(), time) {
         Gate::Refuse(a) => a,
         Gate::Pass => connect_from(table, time, id, group, flags, name),
@@ -118,7 +120,7 @@ fn disconnect_from(table: &mut [u64], time: u64, id: u64) -> Answer
 }
 
 // A connection is gone.
-pub fn disconnect(table: &mut [u64; 5340], time: u64, id: u64, actions: &mut [u32]) -> Answer
+pub fn disconnect(table: &mut [u64; CELLS], time: u64, id: u64, actions: &mut [u32]) -> Answer
     ensures { λ r. ⌜ Follows (Calls·disconnect time id) r (now (table .entry)) (now (table .exit)) (now (actions .entry)) (now (actions .exit)) ⌝ }
 {
     let fine = time_ok(time) & id_ok(id);
@@ -147,7 +149,7 @@ fn rate_from(table: &mut [u64], time: u64, id: u64, p5: i64) -> Answer
 }
 
 // The host sets a peer's P5.
-pub fn rate(table: &mut [u64; 5340], time: u64, id: u64, p5: i64, actions: &mut [u32]) -> Answer
+pub fn rate(table: &mut [u64; CELLS], time: u64, id: u64, p5: i64, actions: &mut [u32]) -> Answer
     ensures { λ r. ⌜ Follows (Calls·rate time id p5) r (now (table .entry)) (now (table .exit)) (now (actions .entry)) (now (actions .exit)) ⌝ }
 {
     let fine = time_ok(time) & (id_ok(id) & p5_ok(p5));
@@ -170,7 +172,7 @@ fn score_from(table: &mut [u64], time: u64, id: u64) -> Answer
 }
 
 // A peer's score, in 10^-9 points.
-pub fn score(table: &mut [u64; 5340], time: u64, id: u64, actions: &mut [u32]) -> Answer
+pub fn score(table: &mut [u64; CELLS], time: u64, id: u64, actions: &mut [u32]) -> Answer
     ensures { λ r. ⌜ Follows (Calls·score time id) r (now (table .entry)) (now (table .exit)) (now (actions .entry)) (now (actions .exit)) ⌝ }
 {
     let fine = time_ok(time) & id_ok(id);

@@ -1,6 +1,7 @@
 // A whole recorded list of calls, run on a fresh router: the events of a trace's bytes, one after the other. Its promise joins the calls to
 // demand 3: the table that is left is the rules' state after the list, of which demand 3 holds.
 ghost use Rattle.recorded.specs.Recorded.{Runs};
+use cells::CELLS;
 use lookup::Made;
 use params::Params;
 use replay::Performed;
@@ -15,7 +16,7 @@ pub enum Recorded {
 
 // Makes a fresh router with these parameters, and calls the events of the bytes, up to the first that is unknown, malformed or cut short.
 // Each takes a byte at least, so there are no more of them than bytes.
-pub fn run(params: Params, s: &[u8], table: &mut [u64; 5340]) -> Recorded
+pub fn run(params: Params, s: &[u8], table: &mut [u64; CELLS]) -> Recorded
     ensures { λ r. ⌜ Runs (params .numbers) (now (s .entry)) r (now (table .entry)) (now (table .exit)) ⌝ }
 {
     if let Made::Broken(i) = router::fresh(params, table) {

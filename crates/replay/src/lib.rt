@@ -9,6 +9,7 @@ ghost use Rattle.rules.specs.Promise.{Follows};
 ghost use Rattle.events.specs.Reading.{arity as arityOf, callOf, cutShort, named, ofNumbers, numbersFrom, eventAt};
 ghost use Rattle.replay.specs.declared.Performed.the-variants.{Malformed, CutShort};
 ghost use Rattle.replay.specs.Replay.{performEvent, Performs, Replays, replayOf};
+use cells::CELLS;
 use events::lines::put_pair;
 use events::lines::put_reply;
 use events::reading::arity;
@@ -45,7 +46,7 @@ pub enum Replayed {
 }
 
 // The calls that come from peers, and decay and score.
-fn call_peer(table: &mut [u64; 5340], kind: u64, v: [u64; 67], actions: &mut [u32]) -> Answer
+fn call_peer(table: &mut [u64; CELLS], kind: u64, v: [u64; 67], actions: &mut [u32]) -> Answer
     requires { ⌜ (kind ≢ 1) × ((kind ≢ 3) × ((kind ≢ 4) × ((kind ≢ 5) × ((kind ≢ 6) × (kind ≢ 11))))) ⌝ }
     ensures { λ r. ⌜ Follows (callOf kind v []) r (now (table .entry)) (now (table .exit)) (now (actions .entry)) (now (actions .exit)) ⌝ }
 {
@@ -65,7 +66,7 @@ fn call_peer(table: &mut [u64; 5340], kind: u64, v: [u64; 67], actions: &mut [u3
 }
 
 // Every call but connect.
-fn call(table: &mut [u64; 5340], kind: u64, v: [u64; 67], actions: &mut [u32]) -> Answer
+fn call(table: &mut [u64; CELLS], kind: u64, v: [u64; 67], actions: &mut [u32]) -> Answer
     requires { ⌜ kind ≢ 1 ⌝ }
     ensures { λ r. ⌜ Follows (callOf kind v []) r (now (table .entry)) (now (table .exit)) (now (actions .entry)) (now (actions .exit)) ⌝ }
 {
@@ -94,7 +95,7 @@ fn unread(s: &[u8], at: usize) -> Performed
 
 // A connect, whose name follows its numbers.
 fn connect(
-    table: &mut [u64; 5340],
+    table: &mut [u64; CELLS],
     s: &[u8],
     v: [u64; 67],
     at: usize,
@@ -120,7 +121,7 @@ fn connect(
 
 // The event of a known kind whose n numbers start at a place.
 fn perform_kind(
-    table: &mut [u64; 5340],
+    table: &mut [u64; CELLS],
     s: &[u8],
     kind: u64,
     at: usize,
@@ -143,7 +144,7 @@ fn perform_kind(
 }
 
 // The call of the event at a place.
-pub fn perform(table: &mut [u64; 5340], s: &[u8], at: usize, actions: &mut [u32]) -> Performed
+pub fn perform(table: &mut [u64; CELLS], s: &[u8], at: usize, actions: &mut [u32]) -> Performed
     ensures { λ r. ⌜ Performs (performEvent (stateOf (now (table .entry))) (length (now (actions .entry))) (eventAt (now (s .entry)) at)) r (now (table .exit)) (now (actions .entry)) (now (actions .exit)) ⌝ }
 {
     let Read::Number(kind, next) = groups::read_u64(s, at) else {
@@ -157,7 +158,7 @@ pub fn perform(table: &mut [u64; 5340], s: &[u8], at: usize, actions: &mut [u32]
 }
 
 // The event at a place, called and printed.
-pub fn replay(table: &mut [u64; 5340], s: &[u8], at: usize, out: &mut [u8]) -> Replayed
+pub fn replay(table: &mut [u64; CELLS], s: &[u8], at: usize, out: &mut [u8]) -> Replayed
     ensures { λ r. ⌜ Replays (replayOf (stateOf (now (table .entry))) (now (s .entry)) at (now (out .entry))) r (now (table .exit)) (now (out .exit)) ⌝ }
 {
     if out.len() < LINE_ROOM {

@@ -18,18 +18,19 @@ ghost use mathlib.Core.Path.{_≡_};
 ghost use Rattle.cells.specs.View.{stateOf};
 ghost use Rattle.table.specs.Valid.{valid};
 ghost use Rattle.lookup.specs.Fresh.{Makes};
+use cells::CELLS;
 use lookup::Made;
 use params::Params;
 
 // Makes a fresh router: 9 with its place and the table unchanged, or every cell written.
-pub fn fresh(all: Params, table: &mut [u64; 5340]) -> Made
+pub fn fresh(all: Params, table: &mut [u64; CELLS]) -> Made
     ensures { λ r. ⌜ Makes (all .numbers) r (now (table .entry)) (now (table .exit)) ⌝ }
 {
     lookup::fresh::fresh(all, table)
 }
 
 // Test 12: whether the table is a router's.
-pub fn is_router(table: &[u64; 5340]) -> bool
+pub fn is_router(table: &[u64; CELLS]) -> bool
     ensures { λ r. ⌜ r ≡ valid (stateOf (now (table .entry))) ⌝ }
 {
     table::valid::is_router(table)

@@ -9,6 +9,7 @@ ghost use Rattle.rules.specs.Step.{joinReply, ofPeer};
 ghost use Rattle.rules.specs.Promise.{Leaves, Follows};
 ghost use Rattle.gate.specs.Ready.{Ready};
 ghost use Rattle.topics.specs.Change.{change as Calls·change, changed, changeReply};
+use cells::CELLS;
 use effects::slots::is_joined;
 use effects::slots::subscribe_slot;
 use effects::slots::unsubscribe_slot;
@@ -35,7 +36,7 @@ fn join_from(table: &mut [u64], time: u64, topic: usize) -> Answer
 }
 
 // We join a topic.
-pub fn join(table: &mut [u64; 5340], time: u64, topic: u64, actions: &mut [u32]) -> Answer
+pub fn join(table: &mut [u64; CELLS], time: u64, topic: u64, actions: &mut [u32]) -> Answer
     ensures { λ r. ⌜ Follows (Calls·join time topic) r (now (table .entry)) (now (table .exit)) (now (actions .entry)) (now (actions .exit)) ⌝ }
 {
     let fine = time_ok(time) & topic_ok(topic);
@@ -72,7 +73,7 @@ fn change_from(table: &mut [u64], time: u64, id: u64, topic: usize, on: bool) ->
 }
 
 fn change(
-    table: &mut [u64; 5340],
+    table: &mut [u64; CELLS],
     time: u64,
     id: u64,
     topic: u64,
@@ -90,7 +91,7 @@ fn change(
 
 // A peer subscribes.
 pub fn subscribe(
-    table: &mut [u64; 5340],
+    table: &mut [u64; CELLS],
     time: u64,
     id: u64,
     topic: u64,
@@ -103,7 +104,7 @@ pub fn subscribe(
 
 // A peer unsubscribes.
 pub fn unsubscribe(
-    table: &mut [u64; 5340],
+    table: &mut [u64; CELLS],
     time: u64,
     id: u64,
     topic: u64,

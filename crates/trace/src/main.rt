@@ -4,6 +4,7 @@
 ghost use Prim.Native.Nat.{_≤_};
 ghost use mathlib.Core.Path.{_≡_};
 ghost use lib.ListN.{length};
+use cells::CELLS;
 use libc::STDIN_FILENO;
 use libc::STDOUT_FILENO;
 use params::Verdict;
@@ -87,7 +88,7 @@ fn stop(out: &mut [u8], w: Window, a: u64, b: u64) -> Window
 }
 
 // Reads the parameters; `at` moves past them once they are whole.
-fn read_params(table: &mut [u64; 5340], buf: &mut [u8], out: &mut [u8], w: Window) -> Window
+fn read_params(table: &mut [u64; CELLS], buf: &mut [u8], out: &mut [u8], w: Window) -> Window
     requires { ⌜ (w .end ≤ length (now buf)) × (4096 ≤ length (now out)) ⌝ }
     ensures { λ r. ⌜ r .end ≤ length (now (buf .entry)) ⌝ }
 {
@@ -117,7 +118,7 @@ fn say(out: &[u8], n: usize) {
 }
 
 // One event, or more bytes.
-fn turn(table: &mut [u64; 5340], buf: &mut [u8], out: &mut [u8], w: Window) -> Window
+fn turn(table: &mut [u64; CELLS], buf: &mut [u8], out: &mut [u8], w: Window) -> Window
     requires { ⌜ (w .end ≤ length (now buf)) × (4096 ≤ length (now out)) ⌝ }
     ensures { λ r. ⌜ r .end ≤ length (now (buf .entry)) ⌝ }
 {
@@ -156,7 +157,7 @@ fn more(buf: &mut [u8], out: &mut [u8], w: Window) -> Window
 fn main() {
     let mut space = io::large_buffer();
     let mut page = io::buffer();
-    let mut table = [0u64; 5340];
+    let mut table = [0u64; CELLS];
     let mut w = Window {
         at: 0,
         end: 0,
