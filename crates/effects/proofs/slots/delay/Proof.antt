@@ -1,14 +1,7 @@
-use Rattle.effects.specs.Effects.{withEnd}
-use Rattle.effects.proofs.EffectLaws.{stored-peer}
+-- `effects::slots::delay`: the record loaded, changed and stored.
 use borrow.Author.Needs.{needs}
 use Rattle.effects.proofs.slots.delay.Statement.{statement}
 use Rattle.effects.proofs.slots.delay.Tie as tie
-
-returns : tie.Need-returns
-returns c =
-    let b = c .before .before in
-    let a = c .before .before .before .before .before .before .before .before .args in
-    stored-peer _ _ _ _ _ (λ p. withEnd p (a .topic) (a .end)) (b .before .before .before .load-peer .ensures) (b .before .with-end .ensures) (b .store-peer .ensures)
 
 pub delay-spec : {M : Type 1} → statement M
 delay-spec =
@@ -18,4 +11,4 @@ delay-spec =
     (λ c κs. search needs)
     (λ c κs. search needs)
     (λ c. search needs)
-    returns)
+    (λ c. cc))
