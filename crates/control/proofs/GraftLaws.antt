@@ -2,25 +2,25 @@
 -- Assumes nothing.
 use Prim.Native.Nat.{ℕ, _<_}
 use mathlib.Core.Path.{_≡_, refl, sym, ap, ap₂, _∙_}
-use mathlib.Core.Bool.{Bool, true, false, not, _&&_}
+use mathlib.Core.Bool.{true, false}
 use mathlib.Core.List.{List, [], _∷_}
 use native.Mathlib.Omega.{arith}
 use lib.ListN.{length}
 use lib.Seq.{sets}
-use lib.Dec.{eqb, leb}
+use lib.Dec.{eqb}
 use borrow.Author.Tests.{eq-eqb, ne-eqb}
 use Rattle.records.specs.declared.Peer.{Peer}
-use Rattle.records.specs.Records.{State, codeIn, peerIn, setPeer, setClock}
+use Rattle.records.specs.Records.{State, peerIn, setClock}
 use Rattle.cells.specs.View.{cellCount, stateOf}
 use Rattle.cells.proofs.StateLaws.{code-after-peer}
 use Rattle.table.proofs.ValidLaws.{valid-facts}
 use Rattle.score.specs.Counters.{countMost, raisedOf}
 use Rattle.effects.specs.Actions.{pruneOf, numbersOf}
-use Rattle.effects.specs.Effects.{magnitude, pruneBackoff, withEnd, withP7, onPeer, isSubscribed, meshSize, endAfter}
+use Rattle.effects.specs.Effects.{magnitude, pruneBackoff, withEnd, withP7, onPeer, endAfter}
 use Rattle.effects.proofs.EffectLaws.{on-peer}
 use Rattle.rules.specs.declared.Answer.{Answer}
 use Rattle.rules.specs.declared.Answer.the-variants.{Done}
-use Rattle.rules.specs.Step.{isNegative, graftRefused, meshFull, graftEnters}
+use Rattle.rules.specs.Step.{graftRefused}
 use Rattle.rules.specs.Promise.{Gives}
 use Rattle.rules.proofs.PromiseLaws.{leaves-moved}
 use Rattle.gate.specs.Ready.{Ready}
@@ -28,26 +28,6 @@ use Rattle.gate.proofs.StandingLaws.{sizes}
 use Rattle.control.specs.Refusable.{Refusable}
 
 -- ---- the tests
-
-pub full-of :
-    (st : State) (t s : ℕ) (p : Peer) (most size : ℕ) →
-    p ≡ peerIn st s →
-    most ≡ magnitude (codeIn st 2) →
-    size ≡ meshSize st t →
-    leb most size && eqb (p .outbound) 0 ≡ meshFull st t s
-unfolding meshFull
-full-of st t s p most size ep em es =
-    ap₂ (λ (x y : Bool). x && y) (ap₂ leb em es) (ap (λ (q : Peer). eqb (q .outbound) 0) ep)
-
-pub enters-of :
-    (st : State) (t s : ℕ) (a b c : Bool) →
-    a ≡ isNegative st s →
-    b ≡ isSubscribed st t s →
-    c ≡ meshFull st t s →
-    not a && (b && not c) ≡ graftEnters st t s
-unfolding graftEnters
-enters-of st t s a b c ea eb ec =
-    ap₂ (λ (x y : Bool). not x && y) ea (ap₂ (λ (x y : Bool). x && not y) eb ec)
 
 module _ (st : State) (s : ℕ) (p : Peer) (e : p ≡ peerIn st s) where
   pub explicit-yes : p .explicit ≡ 1 → eqb (peerIn st s .explicit) 1 ≡ true
@@ -60,16 +40,6 @@ module _ (st : State) (s : ℕ) (p : Peer) (e : p ≡ peerIn st s) where
 
 abbrev raise : Peer → Peer
 raise p = withP7 p (raisedOf (p .p7) countMost)
-
-pub raised-is :
-    (st u : State) (s n : ℕ) (p q : Peer) →
-    p ≡ peerIn st s →
-    n ≡ raisedOf (p .p7) countMost →
-    q ≡ withP7 p n →
-    u ≡ setPeer st s q →
-    u ≡ onPeer st s (λ x. withP7 x (raisedOf (x .p7) countMost))
-raised-is st u s n p q ep en eq eu =
-    eu ∙ ap (setPeer st s) (eq ∙ ap (withP7 p) en ∙ ap (λ (x : Peer). raise x) ep)
 
 -- ---- what the refusal may rely on: behind the gate, and after P7 grew
 

@@ -79,24 +79,6 @@ pub kept-left : (st : State) (s t : ℕ) → Kept st (leftTopic st s t)
 unfolding leftTopic
 kept-left st s t = kept-topic st (place s t) _
 
--- ---- one record loaded, changed and stored, as code does it
-
-pub stored-peer :
-    (st u : State) (s : ℕ) (p q : Peer) (g : Peer → Peer) →
-    p ≡ peerIn st s →
-    q ≡ g p →
-    u ≡ setPeer st s q →
-    u ≡ onPeer st s g
-stored-peer st u s p q g l e h = h ∙ ap (setPeer st s) (e ∙ ap g l)
-
-pub stored-topic :
-    (st u : State) (s t : ℕ) (r q : TopicRecord) (g : TopicRecord → TopicRecord) →
-    r ≡ topicIn st (place s t) →
-    q ≡ g r →
-    u ≡ setTopic st (place s t) q →
-    u ≡ onTopic st s t g
-stored-topic st u s t r q g l e h = h ∙ ap (setTopic st (place s t)) (e ∙ ap g l)
-
 -- ---- one record: what a change of it does not change is the same at every slot, in and out of the table
 
 pub on-peer :

@@ -10,11 +10,12 @@ use lib.IntN.{ℤ, natAbs}
 use mir.Val.{SFits, toZ, ofZ}
 use mir.Syntax.{w64}
 use mir.Facts.{toZ-ofZ}
+use Rattle.groups.specs.Codes.{codeOf}
 use Rattle.index.specs.declared.Found.{Found}
 use Rattle.index.specs.declared.Found.the-variants.{At, Nothing}
 use Rattle.index.specs.Index.{iter}
 use Rattle.index.proofs.Index.{first-is}
-use Rattle.records.specs.Records.{State, peerIn, isEmpty}
+use Rattle.records.specs.Records.{State, peerIn, isEmpty, setClock}
 use Rattle.cells.specs.View.{cellCount, stateOf, Sized}
 use Rattle.cells.proofs.StateLaws.{sized-of}
 use Rattle.cells.proofs.Whole.{determined}
@@ -22,16 +23,16 @@ use Rattle.lookup.specs.Find.{holds, findConnected, findRetained, lowestEmpty}
 use Rattle.lookup.specs.declared.Named.{Named}
 use Rattle.lookup.specs.declared.Named.the-variants.{Version, Unknown}
 use Rattle.lookup.specs.Name.{versionOf}
-use Rattle.effects.specs.Effects.{onPeer, retainSeconds, retainedTo, endAfter, leftTopic, departed, reclaimed}
+use Rattle.effects.specs.Effects.{onPeer, withP5, retainSeconds, retainedTo, endAfter, leftTopic, departed, reclaimed}
 use Rattle.effects.proofs.EffectLaws.{full-stays}
 use Rattle.rules.specs.declared.Answer.{Answer}
-use Rattle.rules.specs.declared.Answer.the-variants.{NoSlot, UnknownProtocol, AlreadyConnected}
-use Rattle.rules.specs.Reply.{Reply}
+use Rattle.rules.specs.declared.Answer.the-variants.{Done, NoSlot, UnknownProtocol, AlreadyConnected}
+use Rattle.rules.specs.Reply.{Reply, done}
 use Rattle.rules.specs.Calls.{connect, disconnect, rate, score, idOk}
 use Rattle.rules.specs.Step.{effect, onVersion, connectAt, connectIn, connectReply}
 use Rattle.rules.specs.Promise.{Leaves}
 use Rattle.rules.proofs.PromiseLaws.{leaves-moved, leaves-refused}
-use Rattle.rules.proofs.EndLaws.{quiet-found, quiet-peer}
+use Rattle.rules.proofs.EndLaws.{leaves-done, quiet-found, quiet-peer}
 
 -- ---- no action
 
@@ -72,19 +73,36 @@ pub connect-range :
     a && (leb group 4294967295 && leb flags 3) ≡ idOk id && (leb group 4294967295 && leb flags 3)
 connect-range id group flags a p = ap (λ (x : Bool). x && (leb group 4294967295 && leb flags 3)) p
 
--- ---- disconnect: the end of the retain period, as it is computed
+-- ---- 0, of a call that changes one record: `mid` is the table before the clock moved
+module _
+    (table mid table′ : List ℕ) (s time : ℕ) (a : Answer)
+    (h : (a ≡ Done 0) × (stateOf table′ ≡ setClock (stateOf mid) time)) where
+  -- P5, by its code as it is computed
+  pub rated-done :
+      (code : ℕ) (p5 : ℤ) →
+      SFits w64 p5 →
+      code ≡ codeOf (toZ w64 (ofZ w64 p5)) →
+      stateOf mid ≡ onPeer (stateOf table) s (λ p. withP5 p code) →
+      Leaves (done (onPeer (stateOf table) s (λ p. withP5 p (codeOf p5))) time []) a table table′
+  rated-done code p5 f e g =
+      leaves-done table mid table′ _ time a
+      (g ∙ ap (λ (n : ℕ). onPeer (stateOf table) s (λ p. withP5 p n)) (rw (toZ-ofZ f) at e))
+      h
 
-pub departed-is :
-    (st u : State) (s time seconds end : ℕ) →
-    seconds ≡ retainSeconds st →
-    end ≡ endAfter time seconds →
-    u ≡ onPeer (iter 8 (λ t v. leftTopic v s t) st) s (λ p. retainedTo p end) →
-    u ≡ departed st s time
-unfolding departed
-departed-is st u s time seconds end p q e =
-    e
-    ∙ ap (λ (n : ℕ). onPeer (iter 8 (λ t v. leftTopic v s t) st) s (λ p. retainedTo p n))
-    (q ∙ ap (λ (n : ℕ). endAfter time n) p)
+  -- disconnect: the end of the retain period, as it is computed
+  pub departed-done :
+      (seconds end : ℕ) →
+      seconds ≡ retainSeconds (stateOf table) →
+      end ≡ endAfter time seconds →
+      stateOf mid ≡ onPeer (iter 8 (λ t v. leftTopic v s t) (stateOf table)) s (λ p. retainedTo p end) →
+      Leaves (done (departed (stateOf table) s time) time []) a table table′
+  unfolding departed
+  departed-done seconds end p q g =
+      leaves-done table mid table′ _ time a
+      (g
+      ∙ ap (λ (n : ℕ). onPeer (iter 8 (λ t v. leftTopic v s t) (stateOf table)) s (λ p. retainedTo p n))
+      (q ∙ ap (endAfter time) p))
+      h
 
 -- ---- connect, once the name and the id are tested: `mid` is the table after reclaiming
 

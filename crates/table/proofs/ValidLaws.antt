@@ -1,10 +1,9 @@
 -- Test 12 in plain facts: what `valid` says of each number by slot and topic (`Facts`), and that the facts are `valid`.
 -- Assumes nothing.
-use Prim.Native.Nat.{ℕ, _+_, _*_, _/_, _<_, _≤_}
+use Prim.Native.Nat.{ℕ, _+_, _<_, _≤_}
 use native.Mathlib.Omega.{arith}
-use mathlib.Core.Path.{_≡_, refl, sym, ap, _∙_}
-use mathlib.Core.Bool.{Bool, true, false, not, _&&_, _||_}
-use mathlib.Core.List.{List}
+use mathlib.Core.Path.{_≡_, refl, ap}
+use mathlib.Core.Bool.{Bool, true, false, not, _&&_}
 use lib.ListN.{length, getD}
 use lib.Seq.{ext-getD}
 use lib.IntN.{natAbs}
@@ -12,7 +11,7 @@ use lib.Dec.{eqb, leb}
 use borrow.Author.Tests.{le-leb, leb-true, eq-eqb, ne-eqb, eqb-true, eqb-false, not-true, not-false}
 use Rattle.index.specs.Index.{every}
 use Rattle.index.proofs.Index.{both, every-at, every-by}
-use Rattle.index.proofs.Flags.{all5, not-yes, by-test}
+use Rattle.index.proofs.Flags.{all5, by-test}
 use Rattle.groups.specs.Codes.{numberOf}
 use Rattle.groups.proofs.CodeLaws.{code-size}
 use Rattle.params.specs.Check.{acceptedCodes}
@@ -52,19 +51,8 @@ ends-by m p h =
 pub peer-facts : (p : Peer) → peerOk p ≡ true → PeerFacts p
 unfolding peerOk peerRanges idOk emptyOk retainOk
 peer-facts p e =
-    let q = all5 (peerRanges p) (endsUpTo maxEnd p) (idOk p) (emptyOk p) (retainOk p) e in
-    let r =
-    all9
-    (leb (p .status) 2)
-    (leb (p .id) maxId)
-    (leb (p .group) maxId)
-    (leb (p .outbound) 1)
-    (leb (p .explicit) 1)
-    (leb (p .version) 1)
-    (leb (p .p5) 2000000000)
-    (leb (p .p7) 1000000)
-    (leb (p .retain) maxRetain)
-    (q .0) in
+    let q = all5 _ _ _ _ _ e in
+    let r = all9 _ _ _ _ _ _ _ _ _ (q .0) in
     record {
       status = leb-true (p .status) 2 (r .0);
       id = leb-true (p .id) maxId (r .1);
@@ -179,17 +167,7 @@ pub record TopicFacts (status explicit joined clock cap2 cap3 : ℕ) (t : TopicR
 zero-topic-is : (t : TopicRecord) → zeroTopic t ≡ true → t ≡ noTopic
 unfolding zeroTopic
 zero-topic-is t e =
-    let r =
-    all8
-    (eqb (t .p2) 0)
-    (eqb (t .p3) 0)
-    (eqb (t .p4) 0)
-    (eqb (t .p3b) 0)
-    (eqb (t .subscribed) 0)
-    (eqb (t .member) 0)
-    (eqb (t .graft) 0)
-    (eqb (t .mesh) 0)
-    e in
+    let r = all8 _ _ _ _ _ _ _ _ e in
     λ i. record {
       p2 = eqb-true (t .p2) 0 (r .0) i;
       p3 = eqb-true (t .p3) 0 (r .1) i;
@@ -210,26 +188,8 @@ module _ (status explicit joined clock c2 c3 : ℕ) where
       (t : TopicRecord) → topicOk status explicit joined clock c2 c3 t ≡ true → TopicFacts status explicit joined clock c2 c3 t
   unfolding topicOk topicRanges emptyTopicOk outsideOk retainedOk memberOk timesOk
   topic-facts t e =
-      let q =
-      all6
-      (topicRanges c2 c3 t)
-      (emptyTopicOk status t)
-      (outsideOk t)
-      (retainedOk status t)
-      (memberOk status explicit joined t)
-      (timesOk clock t)
-      e in
-      let r =
-      all8
-      (leb (t .p2) c2)
-      (leb (t .p3) c3)
-      (leb (t .p4) 1000000)
-      (leb (t .p3b) 1000000000000)
-      (leb (t .subscribed) 1)
-      (leb (t .member) 1)
-      (leb (t .graft) maxTime)
-      (leb (t .mesh) maxTime)
-      (q .0) in
+      let q = all6 _ _ _ _ _ _ e in
+      let r = all8 _ _ _ _ _ _ _ _ (q .0) in
       record {
         p2 = leb-true (t .p2) c2 (r .0);
         p3 = leb-true (t .p3) c3 (r .1);
@@ -345,7 +305,7 @@ apart-by a b h =
 pub valid-facts : (st : State) → valid st ≡ true → Facts st
 unfolding valid joinedOk slotOk topicOkAt newId
 valid-facts st e =
-    let q = all5 (acceptedCodes (st .codes)) (leb (st .clock) maxTime) (every topicCount (joinedOk st)) (every slotCount (slotOk st)) (every slotCount (newId st)) e in
+    let q = all5 _ _ _ _ _ e in
     let slot :
     (s : ℕ) →
     s < slotCount →

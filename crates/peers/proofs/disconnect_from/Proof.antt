@@ -1,12 +1,11 @@
--- `peers::disconnect_from` meets its contract.
+-- `peers::disconnect_from`: 3, or the record retained and the clock.
 -- Assumes nothing.
 use native.Mathlib.Omega.{arith}
 use borrow.Author.Needs.{needs}
 use Rattle.gate.proofs.StandingLaws.{sizes}
 use Rattle.rules.specs.Step.{effect}
 use Rattle.rules.proofs.StepLaws.{found-below, peer-none, peer-at}
-use Rattle.rules.proofs.EndLaws.{leaves-done}
-use Rattle.peers.proofs.PeerLaws.{departed-is}
+use Rattle.peers.proofs.PeerLaws.{departed-done}
 use Rattle.peers.proofs.disconnect_from.Statement.{statement}
 use Rattle.peers.proofs.disconnect_from.Tie as tie
 
@@ -15,14 +14,6 @@ end-after-requires c κs =
     let ready = c .before .before .before .before .before .before .before .before .before .pre in
     let most = sizes _ (ready .standing .router) in
     (ready .latest, omega (arith, c .load-size .ensures))
-
-returns-2 : tie.Need-returns-2
-unfolding effect
-returns-2 c =
-    let m = c .before .before .before .before .before .before in
-    let u =
-    departed-is _ _ _ _ _ _ (m .before .before .load-size .ensures) (m .before .end-after .ensures .0) (m .retain-slot .ensures) in
-    search (peer-at, leaves-done)
 
 pub disconnect-from-spec : {M : Type 1} → statement M
 unfolding effect
@@ -39,4 +30,4 @@ disconnect-from-spec =
     (λ c κs. (search needs, search found-below))
     (λ c κs. search needs)
     (λ c. search needs)
-    returns-2)
+    (λ c. search (peer-at, departed-done)))

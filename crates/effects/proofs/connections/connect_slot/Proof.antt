@@ -1,14 +1,7 @@
-use Rattle.effects.specs.Effects.{connectedAs}
-use Rattle.effects.proofs.EffectLaws.{stored-peer}
+-- `effects::connections::connect_slot`: the record loaded, changed and stored.
 use borrow.Author.Needs.{needs}
 use Rattle.effects.proofs.connections.connect_slot.Statement.{statement}
 use Rattle.effects.proofs.connections.connect_slot.Tie as tie
-
-returns : tie.Need-returns
-returns c =
-    let b = c .before .before in
-    let a = c .before .before .before .before .before .before .before .before .args in
-    stored-peer _ _ _ _ _ (λ p. connectedAs p (a .id) (a .group) (a .flags) (a .version)) (b .before .before .before .load-peer .ensures) (b .before .connected-as .ensures) (b .store-peer .ensures)
 
 pub connect-slot-spec : {M : Type 1} → statement M
 connect-slot-spec =
@@ -18,4 +11,4 @@ connect-slot-spec =
     (λ c κs. search needs)
     (λ c κs. search needs)
     (λ c. search needs)
-    returns)
+    (λ c. cc))

@@ -1,3 +1,4 @@
+-- `effects::connections::reclaim_slot`: the record goes if it may be reclaimed.
 use mathlib.Core.Path.{sym, ap, _∙_}
 use borrow.Author.Needs.{needs}
 use Rattle.index.proofs.Flags.{yes, no}

@@ -1,14 +1,7 @@
-use Rattle.effects.specs.Effects.{intoMesh}
-use Rattle.effects.proofs.EffectLaws.{stored-topic}
+-- `effects::slots::graft_slot`: the topic record loaded, changed and stored.
 use borrow.Author.Needs.{needs}
 use Rattle.effects.proofs.slots.graft_slot.Statement.{statement}
 use Rattle.effects.proofs.slots.graft_slot.Tie as tie
-
-returns : tie.Need-returns
-returns c =
-    let b = c .before .before in
-    let a = c .before .before .before .before .before .before .before .before .args in
-    stored-topic _ _ _ _ _ _ (λ r. intoMesh r (a .time)) (b .before .before .before .load-topic .ensures) (b .before .into-mesh .ensures) (b .store-topic .ensures)
 
 pub graft-slot-spec : {M : Type 1} → statement M
 graft-slot-spec =
@@ -22,4 +15,4 @@ graft-slot-spec =
     (λ c κs. search needs)
     (λ c κs. search needs)
     (λ c. search needs)
-    returns)
+    (λ c. cc))
