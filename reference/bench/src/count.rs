@@ -1,6 +1,6 @@
-//! Instructions instead of times: they are the same in every run. Each kind of call
-//! is run under valgrind's callgrind, which counts what `measured_plain` or
-//! `measured_proved` takes.
+//! Instructions and conditional branches instead of times: they are the same in every
+//! run. Each kind of call is run under valgrind's callgrind, which counts what
+//! `measured_plain` or `measured_proved` takes.
 
 use crate::{counts, filled, Timed};
 use bench::load::Load;
@@ -56,11 +56,17 @@ pub fn only(load: &Load, kind: u64, which: &str) {
     }
 }
 
-/// The instructions that callgrind counts in this program's own run of one kind.
-fn collected(kind: u64, which: &str) -> Option<u64> {
+/// What a call takes in the mean.
+struct Cost {
+    instructions: f64,
+    branches: f64,
+}
+
+/// What callgrind counts in this program's own run of one kind, `calls` of them.
+fn collected(kind: u64, which: &str, calls: usize) -> Option<Cost> {
     let own = std::env::current_exe().ok()?;
     let output = Command::new("valgrind")
-        .args(["--tool=callgrind", "--callgrind-out-file=/dev/null"])
+        .args(["--tool=callgrind", "--branch-sim=yes", "--callgrind-out-file=/dev/null"])
         .arg(format!("--toggle-collect=measured_{which}"))
         .arg(own)
         .args(["--only", &kind.to_string(), which])
@@ -68,21 +74,33 @@ fn collected(kind: u64, which: &str) -> Option<u64> {
         .ok()?;
     let text = String::from_utf8_lossy(&output.stderr).into_owned();
     let line = text.lines().find(|line| line.contains("Collected"))?;
-    line.rsplit(' ').next()?.parse().ok()
+    let mut counts = line.rsplit(':').next()?.split_whitespace().map(str::parse::<f64>);
+    let mut mean = || Some(counts.next()?.ok()? / calls as f64);
+    Some(Cost { instructions: mean()?, branches: mean()? })
 }
 
 pub fn print_instructions(load: &Load) {
     let _ = filled(plain::Router::new(&load.params), load);
-    println!("64 connected peers, instructions a call, test 12 included");
-    println!("{:12}{:>9}{:>9}{:>7}", "call", "plain", "proved", "ratio");
+    println!("64 connected peers, instructions and conditional branches a call, test 12 included");
+    println!(
+        "{:12}{:>9}{:>9}{:>7}{:>10}{:>9}{:>7}",
+        "call", "plain", "proved", "ratio", "branches:", "proved", "ratio"
+    );
     for (place, (name, (all, _))) in CALL_NAMES.iter().zip(counts(load)).enumerate() {
         let kind = place as u64 + 1;
-        let (Some(plain), Some(proved)) = (collected(kind, "plain"), collected(kind, "proved"))
-        else {
+        let of = |which| collected(kind, which, all);
+        let (Some(plain), Some(proved)) = (of("plain"), of("proved")) else {
             println!("valgrind is missing on this machine, or the proved library is");
             return;
         };
-        let (plain, proved) = (plain as f64 / all as f64, proved as f64 / all as f64);
-        println!("{name:12}{plain:>9.0}{proved:>9.0}{:>7.2}", proved / plain);
+        println!(
+            "{name:12}{:>9.0}{:>9.0}{:>7.2}{:>10.0}{:>9.0}{:>7.2}",
+            plain.instructions,
+            proved.instructions,
+            proved.instructions / plain.instructions,
+            plain.branches,
+            proved.branches,
+            proved.branches / plain.branches
+        );
     }
 }
