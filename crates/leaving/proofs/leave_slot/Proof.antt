@@ -6,9 +6,6 @@ use Rattle.leaving.proofs.LeaveLaws.{grown-id, turned-past, turned-out}
 use Rattle.leaving.proofs.leave_slot.Statement.{statement}
 use Rattle.leaving.proofs.leave_slot.Tie as tie
 
-returns : tie.Need-returns
-returns c = turned-past _ _ _ _ _ _ _ _ (failed (c .before .is-member .ensures) (c .if1 .taken))
-
 put-prune-requires : tie.Need-put-prune-requires
 put-prune-requires c κs =
     let l = c .before .before .before .before .before in
@@ -17,26 +14,17 @@ put-prune-requires c κs =
     let i = grown-id _ _ _ _ _ _ (m .punish .ensures) (l .load-peer .ensures) in
     (s .pre .1 .0, (omega (arith, i, s .pre .0 .id), omega (arith, s .pre .1 .1)))
 
-returns-2 : tie.Need-returns-2
-returns-2 c =
-    let p = c .before .before in
-    let o = p .before .before .before .before in
-    let l = o .before .before in
-    let m = l .before .before .before .before in
-    let t = m .before .before in
-    turned-out _ _ _ _ _ _ _ _ _ _ _ _ _ (passed (t .before .is-member .ensures) (t .if1 .left)) (m .punish .ensures) (l .load-peer .ensures) (o .prune-slot .ensures) (p .put-prune .ensures)
-
 pub leave-slot-spec : {M : Type 1} → statement M
 leave-slot-spec =
     tie.close
     (tie.spec
     (λ c κs. search needs)
     (λ c. search needs)
-    returns
+    (λ c. search (turned-past, failed))
     (λ c κs. search needs)
     (λ c κs. search needs)
     (λ c κs. search needs)
     put-prune-requires
     (λ c. search needs)
     (λ c. search needs)
-    returns-2)
+    (λ c. search (turned-out, passed)))

@@ -4,15 +4,6 @@ use Rattle.leaving.proofs.LeaveLaws.{grown-then, grown-else}
 use Rattle.leaving.proofs.punish.Statement.{statement}
 use Rattle.leaving.proofs.punish.Tie as tie
 
-returns : tie.Need-returns
-returns c =
-    let s = c .before .before in
-    let g = s .before in
-    let p = g .before .before in
-    let l = p .before .before in
-    let t = l .before .before in
-    grown-then _ _ _ _ _ _ _ _ (t .if1 .taken) (l .load-topic .ensures) (p .load-params .ensures) (g .grown .ensures) (s .store-topic .ensures)
-
 pub punish-spec : {M : Type 1} → statement M
 punish-spec =
     tie.close
@@ -26,5 +17,5 @@ punish-spec =
     (λ c κs. rw (c .before .load-params .ensures) (c .before .before .before .before .before .before .before .pre .threshold))
     (λ c κs. let p = c .before .before .before .before .before .before .before .before .pre in (p .size, omega (arith, p .topic, p .slot)))
     (λ c. c .before .before .store-topic .kept .0)
-    returns
-    (λ c. grown-else _ _ _ _ (c .if1 .left)))
+    (λ c. search grown-then)
+    (λ c. search grown-else))
