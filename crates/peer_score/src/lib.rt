@@ -69,16 +69,15 @@ pub fn load_general(table: &[u64]) -> ScoreParams
     }
 }
 
-// Whether the peer in a slot is connected and of the group: 1 or 0.
+// Whether the peer in a slot is connected and of the group: 1 or 0. Both are asked of every slot: which groups are the same cannot be guessed,
+// and a branch that is guessed wrong costs more than the second test.
 fn shares(table: &[u64], group: u64, slot: usize) -> u64
     requires { ⌜ (length (now table) ≡ cellCount) × (slot < 64) ⌝ }
     ensures { λ r. ⌜ (r ≡ one (sharesGroup (stateOf (now (table .entry))) group slot)) × (r ≤ 1) ⌝ }
 {
+    let status = cells::load_status(table, slot);
     let other = cells::load_group(table, slot);
-    if other != group {
-        return 0;
-    }
-    if cells::load_status(table, slot) == 1 {
+    if (status == 1) & (other == group) {
         1
     } else {
         0

@@ -1,11 +1,11 @@
 -- The loops over the slots that share a group and over the topics, as the code runs them.
 -- Assumes nothing.
 use Prim.Native.Nat.{ℕ, _+_, _≤_, _<_}
-use mathlib.Core.Path.{_≡_, sym, ap, ap₂, _∙_}
-use borrow.Author.Tests.{eq-eqb, ne-eqb}
+use mathlib.Core.Path.{_≡_, refl, sym, ap, ap₂, _∙_}
+use mathlib.Core.Bool.{Bool, _&&_}
+use lib.Dec.{eqb}
 use Rattle.index.specs.Index.{one, count}
 use Rattle.index.proofs.Index.{count-none, count-more, count-done}
-use Rattle.index.proofs.Flags.{by-test}
 use Rattle.records.specs.declared.TopicRecord.{TopicRecord}
 use Rattle.records.specs.Records.{State, place, peerIn, topicIn, isConnected}
 use Rattle.score.specs.declared.TopicParams.{TopicParams}
@@ -16,20 +16,17 @@ use Rattle.score.specs.Score.{topicParamsIn, sharesGroup, sharing, share
 use Rattle.score.proofs.InputLaws.{SlotIn}
 
 module _ (st : State) (group : ℕ) where
-  -- 1 or 0 for a slot of which the group is loaded, and then the status
-  pub shares-apart : (slot other : ℕ) → other ≡ peerIn st slot .group → (other ≡ group → ⊥) → 0 ≡ one (sharesGroup st group slot)
+  -- 1 or 0 for a slot of which status and group are loaded
+  pub shares-is :
+      (slot status other : ℕ) (b : Bool) →
+      status ≡ peerIn st slot .status →
+      other ≡ peerIn st slot .group →
+      eqb status 1 && eqb other group ≡ b →
+      one b ≡ one (sharesGroup st group slot)
   unfolding sharesGroup
-  shares-apart slot other q n =
-      rw (← q, ne-eqb other group n) (by-test _ (isConnected (peerIn st slot)) (λ e. rw e) (λ e. rw e))
-
-  module _ (slot other status : ℕ) (q : other ≡ peerIn st slot .group) (g : other ≡ group) (p : status ≡ peerIn st slot .status) where
-    pub shares-yes : status ≡ 1 → 1 ≡ one (sharesGroup st group slot)
-    unfolding sharesGroup
-    shares-yes e = rw (← p, ← q, eq-eqb status 1 e, eq-eqb other group g)
-
-    pub shares-no : (status ≡ 1 → ⊥) → 0 ≡ one (sharesGroup st group slot)
-    unfolding sharesGroup
-    shares-no n = rw (← p, ne-eqb status 1 n)
+  shares-is slot status other b p q e =
+      let h : eqb status 1 && eqb other group ≡ eqb (peerIn st slot .status) 1 && eqb (peerIn st slot .group) group = rw (p, q) refl in
+      ap one (sym e ∙ h)
 
   pub sharing-none : 0 ≡ count 0 (sharesGroup st group)
   sharing-none = sym (count-none (sharesGroup st group))
