@@ -1,6 +1,7 @@
-//! Instructions and conditional branches instead of times: they are the same in every
-//! run. Each kind of call is run under valgrind's callgrind, which counts what
-//! `measured_plain` or `measured_proved` takes.
+//! What a call takes besides time, the same in every run: instructions, conditional
+//! branches, and by a simple model of a processor how many of them are guessed wrong
+//! and how many loads miss the first cache. Each kind of call is run under valgrind's
+//! callgrind, which counts what `measured_plain` or `measured_proved` takes.
 
 use crate::{counts, filled, Timed};
 use bench::load::Load;
@@ -56,17 +57,27 @@ pub fn only(load: &Load, kind: u64, which: &str) {
     }
 }
 
+/// The caches of the model: a first one of 32 KiB for code and of 48 KiB for data, and
+/// a second one of 2 MiB.
+const CACHES: [&str; 4] =
+    ["--cache-sim=yes", "--I1=32768,8,64", "--D1=49152,12,64", "--LL=2097152,16,64"];
+
 /// What a call takes in the mean.
 struct Cost {
     instructions: f64,
     branches: f64,
+    wrong: f64,
+    misses: f64,
 }
 
-/// What callgrind counts in this program's own run of one kind, `calls` of them.
+/// What callgrind counts in this program's own run of one kind, `calls` of them. The
+/// columns of its line: instructions, reads, writes, misses of the first cache (code,
+/// reads, writes), misses of the last (the same), branches, those guessed wrong.
 fn collected(kind: u64, which: &str, calls: usize) -> Option<Cost> {
     let own = std::env::current_exe().ok()?;
     let output = Command::new("valgrind")
-        .args(["--tool=callgrind", "--branch-sim=yes", "--callgrind-out-file=/dev/null"])
+        .args(["--tool=callgrind", "--callgrind-out-file=/dev/null", "--branch-sim=yes"])
+        .args(CACHES)
         .arg(format!("--toggle-collect=measured_{which}"))
         .arg(own)
         .args(["--only", &kind.to_string(), which])
@@ -74,17 +85,19 @@ fn collected(kind: u64, which: &str, calls: usize) -> Option<Cost> {
         .ok()?;
     let text = String::from_utf8_lossy(&output.stderr).into_owned();
     let line = text.lines().find(|line| line.contains("Collected"))?;
-    let mut counts = line.rsplit(':').next()?.split_whitespace().map(str::parse::<f64>);
-    let mut mean = || Some(counts.next()?.ok()? / calls as f64);
-    Some(Cost { instructions: mean()?, branches: mean()? })
+    let columns: Option<Vec<f64>> =
+        line.rsplit(':').next()?.split_whitespace().map(|word| word.parse().ok()).collect();
+    let columns = columns?;
+    let mean = |place: usize| Some(columns.get(place)? / calls as f64);
+    Some(Cost { instructions: mean(0)?, misses: mean(4)?, branches: mean(9)?, wrong: mean(10)? })
 }
 
 pub fn print_instructions(load: &Load) {
     let _ = filled(plain::Router::new(&load.params), load);
-    println!("64 connected peers, instructions and conditional branches a call, test 12 included");
+    println!("64 connected peers; a call with test 12, plain and proved");
     println!(
-        "{:12}{:>9}{:>9}{:>7}{:>10}{:>9}{:>7}",
-        "call", "plain", "proved", "ratio", "branches:", "proved", "ratio"
+        "{:12}{:>25}{:>16}{:>12}{:>12}",
+        "call", "instructions, ratio", "branches", "wrong", "misses"
     );
     for (place, (name, (all, _))) in CALL_NAMES.iter().zip(counts(load)).enumerate() {
         let kind = place as u64 + 1;
@@ -94,13 +107,16 @@ pub fn print_instructions(load: &Load) {
             return;
         };
         println!(
-            "{name:12}{:>9.0}{:>9.0}{:>7.2}{:>10.0}{:>9.0}{:>7.2}",
+            "{name:12}{:>9.0}{:>9.0}{:>7.2}{:>8.0}{:>8.0}{:>6.0}{:>6.0}{:>6.0}{:>6.0}",
             plain.instructions,
             proved.instructions,
             proved.instructions / plain.instructions,
             plain.branches,
             proved.branches,
-            proved.branches / plain.branches
+            plain.wrong,
+            proved.wrong,
+            plain.misses,
+            proved.misses
         );
     }
 }
