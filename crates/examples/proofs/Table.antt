@@ -26,6 +26,8 @@ use Rattle.sets.specs.Sets.{
   lastOf,
   swapOnce,
   swapTo,
+  bottom,
+  goer,
 }
 use Rattle.mesh.specs.Maintenance.{mesh1, mesh2, theBest, keepers, swapped, mesh3, mesh4, mesh5, meshes, changesOf, actionsOn, actionsOf}
 use Rattle.rules.specs.Step.{isNegative, isGraylisted, isHeard, secondsOf, pruneReply, graftRefused, meshFull, graftEnters, graftOpen, graftBackoff, graftHeard, graftReply, isCandidate, heightIn, degreesIn, viewIn, meshesIn, punished, settleSlot, heartbeatActions, maintainedReply, heartbeatReply, effect}
@@ -37,7 +39,7 @@ unfolding fadedOf topicSum part1Of part3Of lonely short shortSum peer inTopic pe
     allTopics bounded scoreSum graftRefused graftEnters graftOpen graftBackoff graftHeard graftReply meshFull meshSize isMember
     holds findConnected count every first iter gather codeIn joinedIn peerIn topicIn setPeer setTopic setClock
     isCandidate heightIn degreesIn viewIn meshesIn punished settleSlot heartbeatActions maintainedReply heartbeatReply effect
-    bySlot size both except from occurs isPermutation ascending inOrder fill top bests firstOf lastOf swapOnce swapTo
+    bySlot size both except from occurs isPermutation ascending inOrder fill top bests bottom goer firstOf lastOf swapOnce swapTo
     mesh1 mesh2 theBest keepers swapped mesh3 mesh4 mesh5 meshes changesOf actionsOn actionsOf
 examples =
     record {

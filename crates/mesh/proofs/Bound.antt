@@ -1,6 +1,6 @@
 -- A maintenance has at most one action for each slot.
 -- Assumes nothing.
-use Prim.Native.Nat.{ℕ, zero, suc, _+_, _-_, _*_, _≤_}
+use Prim.Native.Nat.{ℕ, _+_, _-_, _*_, _≤_}
 use native.Mathlib.Omega.{arith}
 use mathlib.Core.Path.{_≡_, refl, sym, ap, _∙_, subst}
 use mathlib.Core.Bool.{Bool, true, false, not, cond, false≢true}
@@ -13,43 +13,17 @@ use borrow.Author.Tests.{ltb-true, le-ltb}
 use Rattle.index.proofs.Index.{both as halves}
 use Rattle.index.proofs.Flags.{by-test, cond-case}
 use Rattle.sets.specs.Sets.{at, Sub, size, except, occurs, ascending, inOrder, fill}
-use Rattle.mesh.specs.Maintenance.{
-  goods,
-  mesh1,
-  mesh2,
-  theBest,
-  swapped,
-  mesh3,
-  mesh4,
-  mesh5,
-  meshes,
-  changesOf,
-  action,
-  actionsOn,
-  actionsOf,
-  Narrow,
-  Writable,
-  Rules,
-  Whole,
-}
+use Rattle.mesh.specs.Maintenance.{goods, mesh1, mesh2, theBest, swapped, mesh3, mesh4, mesh5, meshes, changesOf, action, actionsOn, actionsOf, Narrow, Writable, Rules, Whole}
 use Rattle.mesh.specs.declared.Degrees.{Degrees}
 use Rattle.mesh.specs.declared.View.{View}
 use Rattle.mesh.specs.declared.Meshes.{Meshes}
 use Rattle.sets.proofs.WalkLaws.{at-below, except-at, except-length}
 use Rattle.sets.proofs.CountLaws.{size-mono, size-set-le, set-drops, fill-upper}
-use Rattle.sets.proofs.SetLaws.{both-left, size-diff, size-apart}
+use Rattle.sets.proofs.SetLaws.{both-left, size-diff, size-apart, size-unset}
 use Rattle.sets.proofs.PermutationLaws.{occurs-self, occurs-tail, permutation-once, ascending-once}
 use Rattle.mesh.proofs.MaintenanceLaws.{len1, adds2, keeps3, adds4, adds5}
 
 -- ---- how many slots of a set an order gives
-size-unset : (m : List Bool) (s : ℕ) → at m s ≡ true → size m ≡ suc (size (set m s false))
-unfolding size
-size-unset [] s e = absurd (false≢true e)
-size-unset (true ∷ m) zero e = refl
-size-unset (false ∷ m) zero e = absurd (false≢true e)
-size-unset (true ∷ m) (suc s) e = ap suc (size-unset m s e)
-size-unset (false ∷ m) (suc s) e = size-unset m s e
-
 pub inOrder-cons :
     (p : List Bool) (x : ℕ) (r : List ℕ) (t : Bool) →
     at p x ≡ t →

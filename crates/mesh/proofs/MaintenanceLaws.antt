@@ -121,48 +121,48 @@ module _ (n : ℕ) (t : Degrees) (v : View) (ru : Rules t) (w : Whole n v) where
 
     -- 3
     module _ (over : t .hi < size m) where
-      abbrev b : List Bool
+      abbrev pub b : List Bool
       b = theBest n t v m
 
-      abbrev k : List Bool
+      abbrev pub k : List Bool
       k = keepers t v m b
 
-      len-best : length b ≡ n
+      pub len-best : length b ≡ n
       unfolding theBest
       len-best =
           bests-length n (v .scores) m (v .permutation) (t .score) (replicate n false) ∙ length-replicate n false
 
-      size-best : size b ≤ t .score
+      pub size-best : size b ≤ t .score
       unfolding theBest
       size-best =
           let h = bests-upper n (v .scores) m (v .permutation) (t .score) (replicate n false) in
           let z = size-none n in
           omega arith
 
-      sub-best : Sub b m
+      pub sub-best : Sub b m
       unfolding theBest
       sub-best =
           bests-only n (v .scores) m (v .permutation) (t .score) (replicate n false) (length-replicate n false)
           (λ s e. absurd (false≢true (sym (at-none n s) ∙ e)))
 
-      len-keepers : length k ≡ n
+      pub len-keepers : length k ≡ n
       unfolding keepers
       len-keepers = fill-length m (v .permutation) (t .d - size b) b ∙ len-best
 
-      sub-keepers : Sub k m
+      pub sub-keepers : Sub k m
       unfolding keepers
       sub-keepers s e =
           ⊎-elim (λ h. sub-best s h) (λ h. h) (fill-only m (v .permutation) (t .d - size b) b s e)
 
-      upper-keepers : size k ≤ t .d
+      pub upper-keepers : size k ≤ t .d
       unfolding keepers
       upper-keepers =
           let h = fill-upper m size size-set-le (v .permutation) (t .d - size b) b in
           let l = size-best in
-          let a = ru .score-out-d in
+          let a = ru .score-d in
           omega arith
 
-      lower-keepers : t .d ≤ size k
+      pub lower-keepers : t .d ≤ size k
       unfolding keepers
       lower-keepers =
           ⊎-elim
@@ -176,10 +176,10 @@ module _ (n : ℕ) (t : Degrees) (v : View) (ru : Rules t) (w : Whole n v) where
       swaps-keep : Swapped n (t .out) (v .outbound) m k (swapped n t v m b)
       unfolding swapped
       swaps-keep =
-          swapped-keeps n (t .out) (v .outbound) (v .permutation) m b (w .outbound) lm (w .permutation) (t .out) k
+          swapped-keeps n (t .out) (v .scores) (v .outbound) (v .permutation) m b (w .outbound) lm (w .permutation) (t .out) k
           len-keepers
           sub-keepers
-          (let l = size-best in let a = ru .score-out-d in let e = lower-keepers in omega arith)
+          (let a = ru .out-d in let e = lower-keepers in omega arith)
           (omega arith)
 
       over-keeps : Keeps n t v m (swapped n t v m b)

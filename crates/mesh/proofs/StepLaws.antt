@@ -48,7 +48,7 @@ module _ (t : Degrees) (v : View) (m : List Bool) {n : ℕ} (en : n ≡ size m) 
       room ≡ t .d - nb →
       {k r : List Bool} →
       k ≡ fill m room (v .permutation) b →
-      r ≡ swapTo slots (t .out) (v .outbound) (v .permutation) m b (t .out) k →
+      r ≡ swapTo slots (t .out) (v .scores) (v .outbound) (v .permutation) m b (t .out) k →
       r ≡ mesh3 slots t v m
   unfolding mesh3 swapped keepers theBest
   mesh3-over slots h eb enb er ek err = let e = lt-ltb (t .hi) n h in cc

@@ -48,7 +48,7 @@ mesh2 t v m = cond (ltb (size m) (t .lo)) (fill (v .candidates) (t .d - size m) 
 
 -- "3. Over D_hi: keep the D_score best (ties in draw order), then others in draw order to make D. If fewer than D_out kept are outbound, swap:
 -- out goes the last drawn inbound keeper of the non-best, in comes the first left-out outbound in draw order, until D_out or none is left. PRUNE
--- the rest."
+-- the rest." In edition 2 of the parameters, once no drawn one is left, the lowest of the best goes (crate sets, `goer`).
 unfoldable pub theBest : ℕ → Degrees → View → List Bool → List Bool
 theBest n t v m = bests n (v .scores) m (v .permutation) (t .score) (replicate n false)
 
@@ -57,7 +57,7 @@ keepers t v m best = fill m (t .d - size best) (v .permutation) best
 
 unfoldable pub swapped : ℕ → Degrees → View → List Bool → List Bool → List Bool
 swapped n t v m best =
-    swapTo n (t .out) (v .outbound) (v .permutation) m best (t .out) (keepers t v m best)
+    swapTo n (t .out) (v .scores) (v .outbound) (v .permutation) m best (t .out) (keepers t v m best)
 
 unfoldable pub mesh3 : ℕ → Degrees → View → List Bool → List Bool
 mesh3 n t v m = cond (ltb (t .hi) (size m)) (swapped n t v m (theBest n t v m)) m
@@ -145,12 +145,13 @@ pub record Written (ids seconds : List ℕ) (x : List Action) (l : List ℕ) (n 
   pub many : m ≡ n + length x
   pub list : r ≡ sets l (3 * n) (numbersOf ids seconds x)
 
--- What the claims below ask: the joint rules on the degrees, no stronger than 01's, and a view that is whole: lists by slot, a right permutation,
+-- What the claims below ask: joint rules on the degrees that both editions' give (01's score + out ≤ d; edition 2's score ≤ d and out < lo), and a view that is whole: lists by slot, a right permutation,
 -- and candidates whose score is not negative.
 pub record Rules (t : Degrees) : Type 0 where
   pub lo-d : t .lo ≤ t .d
   pub d-hi : t .d ≤ t .hi
-  pub score-out-d : t .score + t .out ≤ t .d
+  pub score-d : t .score ≤ t .d
+  pub out-d : t .out ≤ t .d
 
 pub record Whole (n : ℕ) (v : View) : Type 0 where
   pub members : length (v .members) ≡ n

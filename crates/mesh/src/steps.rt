@@ -55,7 +55,7 @@ pub fn step3(t: Degrees, v: View, m: [bool; SLOTS]) -> [bool; SLOTS]
     let permutation = v.permutation;
     let best = best_of(t.score, scores, m, permutation);
     let keepers = put_in(m, minus(t.d, count(best)), permutation, best);
-    swapped(t.out, outbound, permutation, m, best, keepers)
+    swapped(t.out, scores, outbound, permutation, m, best, keepers)
 }
 
 // 4. Under out outbound: outbound candidates.

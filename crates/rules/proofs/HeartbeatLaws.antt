@@ -81,7 +81,8 @@ module _ (st : State) (ok : valid st ≡ true) where
   unfolding degreesIn codeIn
   degrees-rules =
       let j = joints (st .codes) (valid-facts st ok .params) in
-      record { lo-d = j .lo-d; d-hi = j .d-hi; score-out-d = j .score-out }
+      let q = j .score-out in
+      record { lo-d = j .lo-d; d-hi = j .d-hi; score-d = omega arith; out-d = omega arith }
 
 -- ---- candidates
 module _ (st : State) (time t s : ℕ) where

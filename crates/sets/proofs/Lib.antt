@@ -3,6 +3,8 @@ pub mod WalkLaws
 pub mod CountLaws
 pub mod SetLaws
 pub mod PermutationLaws
+pub mod PickLaws
+pub mod BestLaws
 pub mod SwapLaws
 pub mod MedianLaws
 pub mod SlotLaws

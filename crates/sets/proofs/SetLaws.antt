@@ -3,10 +3,11 @@
 use Prim.Native.Nat.{ℕ, zero, suc, _+_, _≤_, _<_}
 use native.Mathlib.Nat.{not-suc-le-zero, le-of-suc-le-suc, suc-inj}
 use native.Mathlib.Omega.{arith}
-use mathlib.Core.Path.{_≡_, refl, sym, ap, _∙_}
-use mathlib.Core.Bool.{Bool, true, false, not, _&&_}
+use mathlib.Core.Path.{_≡_, refl, sym, ap, ap₂, _∙_}
+use mathlib.Core.Bool.{Bool, true, false, not, _&&_, false≢true}
 use mathlib.Core.List.{List, [], _∷_}
 use lib.ListN.{length, set, replicate}
+use borrow.Author.Tests.{not-true}
 use Rattle.index.proofs.Index.{both as halves}
 use Rattle.sets.specs.Sets.{at, Sub, size, both, except}
 use Rattle.sets.proofs.WalkLaws.{at-below, both-at, except-at}
@@ -107,3 +108,26 @@ size-apart (true ∷ a) (true ∷ b) e h = absurd (h 0 refl refl)
 size-apart (true ∷ a) (false ∷ b) e h = let i = size-apart a b (suc-inj e) (λ s p q. h (suc s) p q) in omega arith
 size-apart (false ∷ a) (true ∷ b) e h = let i = size-apart a b (suc-inj e) (λ s p q. h (suc s) p q) in omega arith
 size-apart (false ∷ a) (false ∷ b) e h = let i = size-apart a b (suc-inj e) (λ s p q. h (suc s) p q) in omega arith
+
+-- ---- one slot of a set
+-- a set that is not empty has a slot
+pub some : (p : List Bool) → 0 < size p → (s : ℕ) × (at p s ≡ true)
+unfolding size
+some [] h = absurd (not-suc-le-zero h)
+some (true ∷ p) h = (0, refl)
+some (false ∷ p) h = let r = some p h in (suc (r .0), r .1)
+
+-- one slot less
+pub size-unset : (m : List Bool) (s : ℕ) → at m s ≡ true → size m ≡ suc (size (set m s false))
+unfolding size
+size-unset [] s e = absurd (false≢true e)
+size-unset (true ∷ m) zero e = refl
+size-unset (false ∷ m) zero e = absurd (false≢true e)
+size-unset (true ∷ m) (suc s) e = ap suc (size-unset m s e)
+size-unset (false ∷ m) (suc s) e = size-unset m s e
+
+pub except-in : (a o : List Bool) (s : ℕ) → at a s ≡ true → at o s ≡ false → at (except a o) s ≡ true
+except-in a o s p q = except-at a o s ∙ ap₂ (λ (x y : Bool). x && not y) p q
+
+pub except-out : (a o : List Bool) (s : ℕ) → at (except a o) s ≡ true → at o s ≡ false
+except-out a o s e = not-true (at o s) (halves (at a s) (not (at o s)) (sym (except-at a o s) ∙ e) .1)

@@ -25,9 +25,11 @@ use Rattle.sets.specs.Sets.{
   better,
   top,
   bests,
+  worse,
+  bottom,
+  goer,
   firstOf,
   lastOf,
-  goers,
   comers,
   swapOnce,
   swapTo,
@@ -173,6 +175,15 @@ module _ (p : List Bool) (d : List ℕ) (i : ℕ) (h : i < length d) (t : Bool) 
       ap (λ (l : List ℕ). top n sc p l best) (drop-step 0 d i h)
       ∙ ap (λ (b : Bool). top n sc p (drop (i + 1) d) (cond b (getD d i 0) best)) e
 
+  pub bottom-step :
+      (n : ℕ) (sc : List ℕ) (low : ℕ) →
+      (at p (getD d i 0) && worse n sc low (getD d i 0)) ≡ t →
+      bottom n sc p (drop i d) low ≡ bottom n sc p (drop (i + 1) d) (cond t (getD d i 0) low)
+  unfolding bottom
+  bottom-step n sc low e =
+      ap (λ (l : List ℕ). bottom n sc p l low) (drop-step 0 d i h)
+      ∙ ap (λ (b : Bool). bottom n sc p (drop (i + 1) d) (cond b (getD d i 0) low)) e
+
 module _ (p : List Bool) (d : List ℕ) (i : ℕ) (h : length d ≤ i) where
   pub inOrder-end : inOrder p (drop i d) ≡ []
   unfolding inOrder
@@ -190,6 +201,24 @@ module _ (p : List Bool) (d : List ℕ) (i : ℕ) (h : length d ≤ i) where
   unfolding top
   top-end n sc best = rw (drop-of-length-le d {i = i} h)
 
+  pub bottom-end : (n : ℕ) (sc : List ℕ) (low : ℕ) → bottom n sc p (drop i d) low ≡ low
+  unfolding bottom
+  bottom-end n sc low = rw (drop-of-length-le d {i = i} h)
+
+-- ---- who goes
+module _ (n : ℕ) (sc d : List ℕ) (b p : List Bool) {q : List Bool} (e : q ≡ except p b) {k : ℕ} (c : k ≡ size q) where
+  pub goer-lowest : {r : ℕ} → k ≡ 0 → r ≡ bottom n sc p d n → r ≡ goer n sc d b p
+  unfolding goer
+  goer-lowest z er =
+      let h : size (except p b) ≤ 0 = let s = ap size e in omega arith in
+      er ∙ rw (le-ltb 0 (size (except p b)) h)
+
+  pub goer-last : {r : ℕ} → (k ≡ 0 → ⊥) → r ≡ lastOf q d n → r ≡ goer n sc d b p
+  unfolding goer
+  goer-last z er =
+      let h : 0 < size (except p b) = let s = ap size e in omega arith in
+      er ∙ ap (λ (l : List Bool). lastOf l d n) e ∙ rw (lt-ltb 0 (size (except p b)) h)
+
 -- ---- counting down
 pred-suc : (k : ℕ) → 0 < k → k ≡ suc (k - 1)
 pred-suc k h = omega arith
@@ -205,45 +234,45 @@ module _ (n : ℕ) (sc : List ℕ) (m : List Bool) (d : List ℕ) (k : ℕ) (b :
   bests-end h = let e : k ≡ 0 = omega arith in ap (λ (j : ℕ). bests n sc m d j b) e
 
 -- ---- the swaps: none are left, enough are outbound, none comes in, none goes out, and one more swap
-module _ (n out : ℕ) (outs : List Bool) (d : List ℕ) (m b : List Bool) where
-  pub swap-end : (f : ℕ) (k : List Bool) → f ≤ 0 → swapTo n out outs d m b f k ≡ k
+module _ (n out : ℕ) (sc : List ℕ) (outs : List Bool) (d : List ℕ) (m b : List Bool) where
+  pub swap-end : (f : ℕ) (k : List Bool) → f ≤ 0 → swapTo n out sc outs d m b f k ≡ k
   unfolding swapTo
   swap-end zero k h = refl
   swap-end (suc f) k h = absurd (not-suc-le-zero h)
 
-  pub swap-enough : (f : ℕ) (k : List Bool) → out ≤ size (both k outs) → swapTo n out outs d m b f k ≡ k
+  pub swap-enough : (f : ℕ) (k : List Bool) → out ≤ size (both k outs) → swapTo n out sc outs d m b f k ≡ k
   unfolding swapTo
   swap-enough zero k h = refl
   swap-enough (suc f) k h = rw (le-ltb (size (both k outs)) out h)
 
   pub swap-none :
-      (f : ℕ) (k : List Bool) → size (comers n out outs d m b k) ≡ 0 → swapTo n out outs d m b f k ≡ k
+      (f : ℕ) (k : List Bool) → size (comers n out sc outs d m b k) ≡ 0 → swapTo n out sc outs d m b f k ≡ k
   unfolding swapTo
   swap-none zero k h = refl
   swap-none (suc f) k h =
-      let z : size (comers n out outs d m b k) ≤ 0 = omega arith in
-      rw (le-ltb 0 (size (comers n out outs d m b k)) z, and-false (ltb (size (both k outs)) out))
+      let z : size (comers n out sc outs d m b k) ≤ 0 = omega arith in
+      rw (le-ltb 0 (size (comers n out sc outs d m b k)) z, and-false (ltb (size (both k outs)) out))
 
   pub swap-kept :
-      (f : ℕ) (k : List Bool) → size (goers n out outs d m b k) ≡ 0 → swapTo n out outs d m b f k ≡ k
+      (f : ℕ) (k : List Bool) → size (except k outs) ≡ 0 → swapTo n out sc outs d m b f k ≡ k
   unfolding swapTo
   swap-kept zero k h = refl
   swap-kept (suc f) k h =
-      let z : size (goers n out outs d m b k) ≤ 0 = omega arith in
-      rw (le-ltb 0 (size (goers n out outs d m b k)) z, and-false)
+      let z : size (except k outs) ≤ 0 = omega arith in
+      rw (le-ltb 0 (size (except k outs)) z, and-false)
 
   pub swap-go :
       (f : ℕ) (k : List Bool) →
       0 < f →
       size (both k outs) < out →
-      0 < size (comers n out outs d m b k) →
-      0 < size (goers n out outs d m b k) →
-      swapTo n out outs d m b f k ≡ swapTo n out outs d m b (f - 1) (swapOnce n out outs d m b k)
+      0 < size (comers n out sc outs d m b k) →
+      0 < size (except k outs) →
+      swapTo n out sc outs d m b f k ≡ swapTo n out sc outs d m b (f - 1) (swapOnce n out sc outs d m b k)
   unfolding swapTo
   swap-go f k h a c g =
-      ap (λ (j : ℕ). swapTo n out outs d m b j k) (pred-suc f h)
+      ap (λ (j : ℕ). swapTo n out sc outs d m b j k) (pred-suc f h)
       ∙ rw (
         lt-ltb (size (both k outs)) out a,
-        lt-ltb 0 (size (comers n out outs d m b k)) c,
-        lt-ltb 0 (size (goers n out outs d m b k)) g,
+        lt-ltb 0 (size (comers n out sc outs d m b k)) c,
+        lt-ltb 0 (size (except k outs)) g,
       )

@@ -85,6 +85,14 @@ unfoldable pub bests : ℕ → List ℕ → List Bool → List ℕ → ℕ → L
 bests n scores m order zero b = b
 bests n scores m order (suc k) b = bests n scores m order k (set b (top n scores (except m b) order n) true)
 
+-- The lowest of p: of those with the lowest score the last in the order. n stands for none.
+abbrev pub worse : ℕ → List ℕ → ℕ → ℕ → Bool
+worse n scores low s = leb n low || leb (getD scores s 0) (getD scores low 0)
+
+unfoldable pub bottom : ℕ → List ℕ → List Bool → List ℕ → ℕ → ℕ
+bottom n scores p [] low = low
+bottom n scores p (s ∷ r) low = bottom n scores p r (cond (at p s && worse n scores low s) s low)
+
 -- the first and the last slot of p in the order; n for none
 unfoldable pub firstOf : List Bool → List ℕ → ℕ → ℕ
 firstOf p [] n = n
@@ -94,24 +102,27 @@ unfoldable pub lastOf : List Bool → List ℕ → ℕ → ℕ
 lastOf p [] n = n
 lastOf p (s ∷ r) n = lastOf p r (cond (at p s) s n)
 
--- The swap of step 3: "out goes the last drawn inbound keeper of the non-best, in comes the first left-out outbound in draw order, until D_out
--- or none is left". The keepers are k, of the mesh m, whose best are b.
-module _ (n out : ℕ) (outbound : List Bool) (order : List ℕ) (m b : List Bool) where
-  -- the inbound keepers of the non-best, and the left-out outbound
-  abbrev pub goers : List Bool → List Bool
-  goers k = except (except k outbound) b
+-- Who goes in a swap, of the inbound keepers p whose best are b: "first [..] inbound keepers that were drawn, last drawn first, then inbound ones
+-- among the best, lowest score first, of equals the later drawn" (order 14). 01 has the first half alone: under its rules on the degrees a drawn one
+-- is always left (proofs/SwapLaws.antt, `drawn-left`).
+unfoldable pub goer : ℕ → List ℕ → List ℕ → List Bool → List Bool → ℕ
+goer n scores order b p =
+    cond (ltb 0 (size (except p b))) (lastOf (except p b) order n) (bottom n scores p order n)
 
+-- The swap of step 3: "in comes the first left-out outbound in draw order, until D_out or none is left". The keepers are k, of the mesh m.
+module _ (n out : ℕ) (scores : List ℕ) (outbound : List Bool) (order : List ℕ) (m b : List Bool) where
+  -- the left-out outbound
   abbrev pub comers : List Bool → List Bool
   comers k = except (both m outbound) k
 
   unfoldable pub swapOnce : List Bool → List Bool
-  swapOnce k = set (set k (lastOf (goers k) order n) false) (firstOf (comers k) order n) true
+  swapOnce k = set (set k (goer n scores order b (except k outbound)) false) (firstOf (comers k) order n) true
 
   -- at most f swaps, each while one can come and one can go
   unfoldable pub swapTo : ℕ → List Bool → List Bool
   swapTo zero k = k
   swapTo (suc f) k =
-      cond (ltb (size (both k outbound)) out && ltb 0 (size (comers k)) && ltb 0 (size (goers k)))
+      cond (ltb (size (both k outbound)) out && ltb 0 (size (comers k)) && ltb 0 (size (except k outbound)))
       (swapTo f (swapOnce k))
       k
 

@@ -3,7 +3,7 @@ ghost use mathlib.Core.Path.{_≡_};
 ghost use mathlib.Core.Bool.{_&&_, false};
 ghost use lib.ListN.{replicate};
 ghost use Rattle.records.specs.Records.{slotCount};
-ghost use Rattle.sets.specs.Sets.{at, takes, fill, better, top, bests, firstOf, lastOf, swapTo};
+ghost use Rattle.sets.specs.Sets.{at, takes, fill, better, top, bests, worse, bottom, goer, firstOf, lastOf, swapTo};
 use crate::count;
 use crate::has;
 use crate::meet;
@@ -102,16 +102,49 @@ pub fn best_of(k: u64, scores: [u64; SLOTS], m: [bool; SLOTS], order: [u64; SLOT
     b
 }
 
+// Whether s comes after low among the slots of p: its score is no higher.
+pub fn sinks(scores: &[u64], p: &[bool], low: u64, s: u64) -> bool
+    ensures { λ r. ⌜ r ≡ (at (now (p .entry)) s && worse slotCount (now (scores .entry)) low s) ⌝ }
+{
+    has(p, s) & ((SLOTS as u64 <= low) | (number_at(scores, s) <= number_at(scores, low)))
+}
+
+// The lowest of p, the last in the order of the lowest score; SLOTS for none.
+pub fn lowest(scores: [u64; SLOTS], p: [bool; SLOTS], order: [u64; SLOTS]) -> u64
+    ensures { λ r. ⌜ r ≡ bottom slotCount scores p order slotCount ⌝ }
+{
+    let mut low = SLOTS as u64;
+    for i in 0..SLOTS {
+        let s = order[i];
+        if sinks(&scores, &p, low, s) {
+            low = s;
+        }
+    }
+    low
+}
+
+// Who goes in a swap, of the inbound keepers p whose best are b: the last drawn of the others; if there is none, the lowest.
+pub fn leaver(scores: [u64; SLOTS], order: [u64; SLOTS], b: [bool; SLOTS], p: [bool; SLOTS]) -> u64
+    ensures { λ r. ⌜ r ≡ goer slotCount scores order b p ⌝ }
+{
+    let drawn = without(p, b);
+    if count(drawn) == 0 {
+        return lowest(scores, p, order);
+    }
+    last_of(drawn, order)
+}
+
 // Step 3's swaps of the keepers k of the mesh m, whose best are b, until out of them are outbound or none is left.
 pub fn swapped(
     out: u64,
+    scores: [u64; SLOTS],
     outbound: [bool; SLOTS],
     order: [u64; SLOTS],
     m: [bool; SLOTS],
     b: [bool; SLOTS],
     k: [bool; SLOTS],
 ) -> [bool; SLOTS]
-    ensures { λ r. ⌜ r ≡ swapTo slotCount out outbound order m b out k ⌝ }
+    ensures { λ r. ⌜ r ≡ swapTo slotCount out scores outbound order m b out k ⌝ }
 {
     let mut r = k;
     let mut left = out;
@@ -123,12 +156,12 @@ pub fn swapped(
         if count(comers) == 0 {
             return r;
         }
-        let goers = without(without(r, outbound), b);
-        if count(goers) == 0 {
+        let inbound = without(r, outbound);
+        if count(inbound) == 0 {
             return r;
         }
         r = with(
-            with(r, last_of(goers, order), false),
+            with(r, leaver(scores, order, b, inbound), false),
             first_of(comers, order),
             true,
         );

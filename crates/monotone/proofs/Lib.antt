@@ -1,0 +1,2 @@
+pub mod StepThree
+pub mod Place
