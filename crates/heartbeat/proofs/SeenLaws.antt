@@ -1,15 +1,15 @@
 -- What maintenance sees: a candidate by the numbers loaded, and the records of the degrees and of the view.
 -- Assumes nothing.
-use Prim.Native.Nat.{ℕ, _+_, _*_, _≤_, _<_}
+use Prim.Native.Nat.{ℕ, _+_, _-_, _*_, _≤_, _<_}
 use native.Mathlib.Omega.{arith}
 use mathlib.Core.Path.{_≡_, refl, sym, ap, _∙_}
-use mathlib.Core.Bool.{Bool, true, not, cond, _&&_}
+use mathlib.Core.Bool.{Bool, true, false, not, cond, _&&_}
 use mathlib.Core.List.{List}
 use lib.ListN.{length, getD, set, replicate, length-replicate, getD-replicate, List·getD-eq-default}
 use lib.Seq.{getD-set-other, set-getD}
 use lib.Dec.{eqb, leb, ltb}
-use borrow.Author.Tests.{eq-eqb, ne-eqb}
-use Rattle.index.proofs.Flags.{by-order}
+use borrow.Author.Tests.{eq-eqb, ne-eqb, lt-leb}
+use Rattle.index.proofs.Flags.{by-order, leb-same}
 use Rattle.records.specs.declared.Peer.{Peer}
 use Rattle.records.specs.declared.TopicRecord.{TopicRecord}
 use Rattle.records.specs.Records.{State, slotCount, place, codeIn, peerIn, topicIn}
@@ -23,12 +23,23 @@ use Rattle.mesh.specs.declared.Degrees.{Degrees}
 use Rattle.mesh.specs.declared.View.{View}
 use Rattle.mesh.specs.Maintenance.{zeroScore}
 use Rattle.effects.specs.Effects.{magnitude, isMember}
-use Rattle.rules.specs.Step.{isNegative, isCandidate, heightIn, degreesIn, viewIn}
+use Rattle.rules.specs.Step.{pastSlack, isNegative, isCandidate, heightIn, degreesIn, viewIn}
 use Rattle.rules.proofs.HeartbeatLaws.{height-good}
+
+-- a backoff that is past, with the slack
+pub slack-never : (end time : ℕ) → end ≡ 0 → true ≡ pastSlack end time
+slack-never end time e = sym (rw (eq-eqb end 0 e))
+
+pub slack-early : (end time : ℕ) → (end ≡ 0 → ⊥) → time < 1000 → false ≡ pastSlack end time
+slack-early end time n h = sym (rw (ne-eqb end 0 n, lt-leb (end + 1000) time (omega arith)))
+
+pub slack-is : (end time : ℕ) → (end ≡ 0 → ⊥) → 1000 ≤ time → leb end (time - 1000) ≡ pastSlack end time
+slack-is end time n h = rw (ne-eqb end 0 n) (leb-same end (time - 1000) (end + 1000) time (λ l. omega arith) (λ l. omega arith))
 
 -- a candidate, from its records and its score
 pub candidate-is :
-    (st : State) (time t s score : ℕ) (p : Peer) (r : TopicRecord) →
+    (st : State) (time t s score : ℕ) (p : Peer) (r : TopicRecord) (free : Bool) →
+    free ≡ pastSlack (getD (p .backoff) t 0) time →
     valid st ≡ true →
     s < 64 →
     p ≡ peerIn st s →
@@ -37,12 +48,12 @@ pub candidate-is :
     eqb (p .status) 1
     && (eqb (r .subscribed) 1
     && (eqb (p .explicit) 0
-    && (not (eqb (r .member) 1) && (leb zeroScore score && not (ltb time (getD (p .backoff) t 0))))))
+    && (not (eqb (r .member) 1) && (leb zeroScore score && free))))
     ≡ isCandidate st time t s
 unfolding isCandidate isMember
-candidate-is st time t s score p r v h ep er es =
+candidate-is st time t s score p r free ef v h ep er es =
     let g : leb zeroScore score ≡ not (isNegative st s) = ap (leb zeroScore) es ∙ height-good st v s h in
-    rw (ep, er, g)
+    rw (ef, ep, er, g)
 
 -- the score of a slot, in the array of the scores
 pub score-at :

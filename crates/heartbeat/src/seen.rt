@@ -8,7 +8,7 @@ ghost use Rattle.records.specs.Records.{slotCount, peerIn};
 ghost use Rattle.cells.specs.View.{cellCount, stateOf};
 ghost use Rattle.sets.specs.Sets.{bySlot};
 ghost use Rattle.effects.specs.Effects.{isMember};
-ghost use Rattle.rules.specs.Step.{isCandidate, heightIn, degreesIn, viewIn};
+ghost use Rattle.rules.specs.Step.{pastSlack, isCandidate, heightIn, degreesIn, viewIn};
 ghost use Rattle.gate.specs.Ready.{Standing};
 use crate::scores::scores;
 use effects::slots::is_member;
@@ -43,6 +43,22 @@ pub fn outbound(table: &[u64]) -> [bool; SLOTS]
     r
 }
 
+// How long after a backoff's end we send no GRAFT of ours: the neighbour may count it from a later moment.
+const GRAFT_SLACK: u64 = 1000;
+
+// Whether a backoff and its slack are over, or it was never set.
+fn past_slack(end: u64, time: u64) -> bool
+    ensures { λ r. ⌜ r ≡ pastSlack end time ⌝ }
+{
+    if end == 0 {
+        return true;
+    }
+    if time < GRAFT_SLACK {
+        return false;
+    }
+    end <= time - GRAFT_SLACK
+}
+
 // Whether the peer in a slot, with this score, may be grafted.
 pub fn is_candidate(table: &[u64], time: u64, topic: usize, slot: usize, score: u64) -> bool
     requires { ⌜ Standing (now table) × ((topic < 8) × ((slot < 64) × (score ≡ heightIn (stateOf (now table)) slot))) ⌝ }
@@ -50,10 +66,10 @@ pub fn is_candidate(table: &[u64], time: u64, topic: usize, slot: usize, score: 
 {
     let p = cells::load_peer(table, slot);
     let r = cells::load_topic(table, slot * 8 + topic);
+    let free = past_slack(p.backoff[topic], time);
     (p.status == 1)
         & ((r.subscribed == 1)
-            & ((p.explicit == 0)
-                & (!(r.member == 1) & ((ZERO_SCORE <= score) & !(time < p.backoff[topic])))))
+            & ((p.explicit == 0) & (!(r.member == 1) & ((ZERO_SCORE <= score) & free))))
 }
 
 // The candidates of a topic.

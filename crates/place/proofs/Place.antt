@@ -17,7 +17,7 @@ use Rattle.records.specs.Records.{State, slotCount, codeIn, peerIn, topicIn, pl
 use Rattle.cells.specs.View.{Sized, stateOf}
 use Rattle.cells.proofs.StateLaws.{sized-of, sized-peer, topic-after-peer, joined-after-peer, clock-after-peer}
 use Rattle.table.specs.Valid.{valid}
-use Rattle.effects.specs.Effects.{withP5, isMember, isSubscribed, isJoined, backoffRuns}
+use Rattle.effects.specs.Effects.{withP5, isMember, isSubscribed, isJoined}
 use Rattle.sets.specs.Sets.{bySlot, at, isPermutation}
 use Rattle.sets.proofs.SlotLaws.{slots-at, slots-past}
 use Rattle.mesh.specs.Maintenance.{meshes}
@@ -28,7 +28,7 @@ use Rattle.rules.specs.declared.Gate.the-variants.{Pass, Refuse}
 use Rattle.rules.specs.declared.Answer.the-variants.{NotPermutation}
 use Rattle.rules.specs.Reply.{refused, ignored}
 use Rattle.rules.specs.Calls.{heartbeat, inRange, topicOk}
-use Rattle.rules.specs.Step.{isNegative, isCandidate, heightIn, degreesIn, viewIn, meshesIn, maintainedReply, heartbeatReply, gateOf, through, effect, step}
+use Rattle.rules.specs.Step.{pastSlack, isNegative, isCandidate, heightIn, degreesIn, viewIn, meshesIn, maintainedReply, heartbeatReply, gateOf, through, effect, step}
 use Rattle.rules.proofs.GateLaws.{gate-passed}
 use Rattle.rules.proofs.CaseLaws.{arguments, topic-in}
 use Rattle.rules.proofs.HeartbeatLaws.{candidate-good, degrees-rules, view-apart, view-whole, settled-member}
@@ -62,11 +62,11 @@ module _
       (time t s : ℕ) → isNegative u s ≡ isNegative st s → isCandidate u time t s ≡ isCandidate st time t s
   unfolding isCandidate withP5
   candidate-same time t s n =
-      ap (λ (b : Bool). isConnected (peerIn u s) && (isSubscribed u t s && (eqb (peerIn u s .explicit) 0 && (not (isMember u t s) && (not b && not (backoffRuns (peerIn u s) t time)))))) n
-      ∙ ap (λ (b : Bool). isConnected (peerIn u s) && (isSubscribed u t s && (eqb (peerIn u s .explicit) 0 && (not b && (not (isNegative st s) && not (backoffRuns (peerIn u s) t time)))))) (member-same st x code t s)
-      ∙ ap (λ (r : _). isConnected (peerIn u s) && (eqb (r .subscribed) 1 && (eqb (peerIn u s .explicit) 0 && (not (isMember st t s) && (not (isNegative st s) && not (backoffRuns (peerIn u s) t time)))))) (topic-after-peer st x (withP5 (peerIn st x) code) (place s t))
+      ap (λ (b : Bool). isConnected (peerIn u s) && (isSubscribed u t s && (eqb (peerIn u s .explicit) 0 && (not (isMember u t s) && (not b && pastSlack (getD (peerIn u s .backoff) t 0) time))))) n
+      ∙ ap (λ (b : Bool). isConnected (peerIn u s) && (isSubscribed u t s && (eqb (peerIn u s .explicit) 0 && (not b && (not (isNegative st s) && pastSlack (getD (peerIn u s .backoff) t 0) time))))) (member-same st x code t s)
+      ∙ ap (λ (r : _). isConnected (peerIn u s) && (eqb (r .subscribed) 1 && (eqb (peerIn u s .explicit) 0 && (not (isMember st t s) && (not (isNegative st s) && pastSlack (getD (peerIn u s .backoff) t 0) time))))) (topic-after-peer st x (withP5 (peerIn st x) code) (place s t))
       ∙ reads st x code
-      (λ (p : Peer). isConnected p && (isSubscribed st t s && (eqb (p .explicit) 0 && (not (isMember st t s) && (not (isNegative st s) && not (backoffRuns p t time))))))
+      (λ (p : Peer). isConnected p && (isSubscribed st t s && (eqb (p .explicit) 0 && (not (isMember st t s) && (not (isNegative st s) && pastSlack (getD (p .backoff) t 0) time)))))
       (λ p. refl)
       s
 

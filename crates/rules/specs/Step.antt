@@ -1,6 +1,6 @@
 -- What each call answers and leaves: 01's order of tests once (12, 2, 8, 1, then 6, 7, 3, 4, 5, 11), then the effects case by case.
 use Prim.Native.Nat.{ℕ, _+_, _*_, min}
-use mathlib.Core.Bool.{Bool, true, false, cond, not, _&&_}
+use mathlib.Core.Bool.{Bool, true, false, cond, not, _&&_, _||_}
 use mathlib.Core.List.{List, [], _∷_, map}
 use lib.ListN.{getD, set}
 use lib.Dec.{eqb, leb, ltb}
@@ -188,12 +188,19 @@ deliverReply st time t kind s =
 
 -- ---- heartbeat, 01's tidy: "with a draw and a yes or no for opportunism; topic not joined: 11"
 -- "A candidate is connected, subscribed, not explicit, not a member, score ≥ 0, backoff not running."
+-- 02, order 3, in place of the last: "A candidate now needs now ≥ backoff end + 1000 ms, or an end of 0 (never set)."
+abbrev pub graftSlack : ℕ
+graftSlack = 1000
+
+abbrev pub pastSlack : ℕ → ℕ → Bool
+pastSlack end time = eqb end 0 || leb (end + graftSlack) time
+
 unfoldable pub isCandidate : State → ℕ → ℕ → ℕ → Bool
 isCandidate st time t s =
     isConnected (peerIn st s)
     && (isSubscribed st t s
     && (eqb (peerIn st s .explicit) 0
-    && (not (isMember st t s) && (not (isNegative st s) && not (backoffRuns (peerIn st s) t time)))))
+    && (not (isMember st t s) && (not (isNegative st s) && pastSlack (getD (peerIn st s .backoff) t 0) time))))
 
 -- a score as maintenance takes it: moved up by 2.6 × 10^18, which no score passes, so that none is negative
 unfoldable pub heightIn : State → ℕ → ℕ

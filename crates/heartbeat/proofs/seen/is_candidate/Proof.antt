@@ -6,10 +6,11 @@ use Rattle.heartbeat.proofs.seen.is_candidate.Tie as tie
 
 returns : tie.Need-returns
 returns c =
-    let t = c .before .before .before in
+    let f = c .before .before in
+    let t = f .before .before in
     let p = t .before in
     let s = p .before .before .pre in
-    candidate-is _ _ _ _ _ _ _ (s .0 .router) (s .1 .1 .0) (p .load-peer .ensures) (t .load-topic .ensures) (s .1 .1 .1)
+    candidate-is _ _ _ _ _ _ _ _ (f .past-slack .ensures) (s .0 .router) (s .1 .1 .0) (p .load-peer .ensures) (t .load-topic .ensures) (s .1 .1 .1)
 
 pub is-candidate-spec : {M : Type 1} → statement M
 is-candidate-spec =
@@ -21,4 +22,5 @@ is-candidate-spec =
     (λ c κs. let s = c .before .before .pre in (s .0 .size, omega (arith, s .1 .0, s .1 .1 .0)))
     (λ c. omega arith)
     (λ c. omega arith)
+    (λ c κs. tt)
     returns)
