@@ -285,9 +285,9 @@ static void publish(int hub, enum hivepadlet_delivery found)
 
 static int64_t score_of(int hub, int peer)
 {
-    int64_t score = 0;
-    carry(hub, hivepadlet_score(hubs[hub].table, now, id_of(peer), &score, hubs[hub].actions, HIVEPADLET_ACTION_NUMBERS));
-    return score;
+    int64_t why[HIVEPADLET_WHY_NUMBERS] = { 0 };
+    carry(hub, hivepadlet_score(hubs[hub].table, now, id_of(peer), why, hubs[hub].actions, HIVEPADLET_ACTION_NUMBERS));
+    return why[HIVEPADLET_WHY_SCORE];
 }
 
 /* ---- the timer: a second passes; then each hub's counters decay, and the meshes are maintained */

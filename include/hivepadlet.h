@@ -53,7 +53,7 @@
  * - Times are milliseconds, 0 to HIVEPADLET_MAX_TIME, of a clock of yours that never goes back (1). The router's clock is the
  *   time of the last call that answered 0 or 11; that of a fresh router is 0.
  * - Peer ids are yours: 1 to 4294967295, one for each peer, the same when the peer comes back. Topics are 0 to 7.
- * - A score is a whole number of 10^-9 points, never beyond 2.6 * 10^18 either way.
+ * - A score, and each of its parts, is a whole number of 10^-9 points, never beyond 2.6 * 10^18 either way.
  *
  * ACTIONS
  *
@@ -89,9 +89,21 @@ extern "C" {
 #define HIVEPADLET_PARAMETER_BYTES 735  /* bytes that written parameters may take */
 #define HIVEPADLET_SLOTS 64             /* peers that a router holds, and numbers of a permutation */
 #define HIVEPADLET_TOPICS 8
+#define HIVEPADLET_WHY_NUMBERS 6        /* numbers of a score: its five parts, and the score */
 
 #define HIVEPADLET_MAX_TIME (UINT64_C(1) << 40) /* milliseconds */
 #define HIVEPADLET_POINT INT64_C(1000000000)    /* one point of a score */
+
+/* ---- a score and its parts, each in 10^-9 points; the score is the sum of the four before it */
+
+enum hivepadlet_why {
+    HIVEPADLET_WHY_TOPICS = 0, /* what all topics add, before the topic cap */
+    HIVEPADLET_WHY_CAPPED = 1, /* the same, bounded by the topic cap */
+    HIVEPADLET_WHY_P5 = 2,     /* the host's own points */
+    HIVEPADLET_WHY_P6 = 3,     /* peers that share an address group */
+    HIVEPADLET_WHY_P7 = 4,     /* GRAFTs during a backoff */
+    HIVEPADLET_WHY_SCORE = 5
+};
 
 /* ---- the answers' numbers, and the value that goes with each */
 
@@ -246,9 +258,9 @@ uint64_t hivepadlet_disconnect(uint64_t table[HIVEPADLET_CELLS], uint64_t time, 
 uint64_t hivepadlet_rate(uint64_t table[HIVEPADLET_CELLS], uint64_t time, uint64_t id, int64_t p5, uint32_t *actions,
                          size_t actions_length);
 
-/* The score of a peer, written to *score with the answer 0 alone. 0, or 3. */
-uint64_t hivepadlet_score(uint64_t table[HIVEPADLET_CELLS], uint64_t time, uint64_t id, int64_t *score, uint32_t *actions,
-                          size_t actions_length);
+/* The score of a peer and why it is what it is, six numbers by enum hivepadlet_why, written with the answer 0 alone. 0, or 3. */
+uint64_t hivepadlet_score(uint64_t table[HIVEPADLET_CELLS], uint64_t time, uint64_t id, int64_t why[HIVEPADLET_WHY_NUMBERS],
+                          uint32_t *actions, size_t actions_length);
 
 /* ---- what we do in a topic */
 

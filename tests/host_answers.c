@@ -93,9 +93,11 @@ static void refusals(void)
     refuses("no name", hivepadlet_connect(table, 5, 9, 1, 0, NAME_0, LIST), HIVEPADLET_UNKNOWN_PROTOCOL);
     refuses("no permutation", hivepadlet_heartbeat(table, 5, 0, 0, permutation, 64, LIST), HIVEPADLET_NOT_PERMUTATION);
     refuses("191 numbers", hivepadlet_decay(table, 5, actions, 191), HIVEPADLET_LIST_SHORT);
-    int64_t score = 42;
-    refuses("the score of nobody", hivepadlet_score(table, 5, 8, &score, LIST), HIVEPADLET_NOT_CONNECTED);
-    check("a refused score leaves the number", score == 42);
+    int64_t why[HIVEPADLET_WHY_NUMBERS] = { 41, 42, 43, 44, 45, 46 };
+    refuses("the score of nobody", hivepadlet_score(table, 5, 8, why, LIST), HIVEPADLET_NOT_CONNECTED);
+    for (int i = 0; i < HIVEPADLET_WHY_NUMBERS; i++) {
+        check("a refused score leaves the numbers", why[i] == 41 + i);
+    }
 }
 
 /* 11 moves the clock and nothing else; 12 is the answer to a damaged table */
@@ -134,7 +136,7 @@ static void graylisted(void)
 /* the paper's worked example: heartbeat, PRUNE, GRAFT during the backoff, score */
 static void example(void)
 {
-    int64_t score = 0;
+    int64_t why[HIVEPADLET_WHY_NUMBERS] = { 1, 1, 1, 1, 1, 1 };
     for (uint64_t i = 0; i < HIVEPADLET_SLOTS; i++) {
         permutation[i] = i;
     }
@@ -146,11 +148,15 @@ static void example(void)
     answers("GRAFT in", hivepadlet_graft(table, 6, 7, 0, LIST), HIVEPADLET_DONE, 1);
     check("PRUNE 7 60", hivepadlet_action_kind(actions, 0) == HIVEPADLET_PRUNE && hivepadlet_action_peer(actions, 0) == 7 &&
                             hivepadlet_action_seconds(actions, 0) == 60);
-    answers("score", hivepadlet_score(table, 6, 7, &score, LIST), HIVEPADLET_DONE, 0);
-    check("ten points off", score == -10 * HIVEPADLET_POINT);
+    answers("score", hivepadlet_score(table, 6, 7, why, LIST), HIVEPADLET_DONE, 0);
+    check("ten points off", why[HIVEPADLET_WHY_SCORE] == -10 * HIVEPADLET_POINT);
+    check("for P7", why[HIVEPADLET_WHY_P7] == -10 * HIVEPADLET_POINT);
+    check("nothing for the topics", why[HIVEPADLET_WHY_TOPICS] == 0 && why[HIVEPADLET_WHY_CAPPED] == 0);
+    check("nothing for P5 and P6", why[HIVEPADLET_WHY_P5] == 0 && why[HIVEPADLET_WHY_P6] == 0);
     answers("P5", hivepadlet_rate(table, 6, 7, 2500000, LIST), HIVEPADLET_DONE, 0);
-    answers("score with P5", hivepadlet_score(table, 6, 7, &score, LIST), HIVEPADLET_DONE, 0);
-    check("two and a half points more", score == -7500000000);
+    answers("score with P5", hivepadlet_score(table, 6, 7, why, LIST), HIVEPADLET_DONE, 0);
+    check("two and a half points more", why[HIVEPADLET_WHY_SCORE] == -7500000000);
+    check("for P5", why[HIVEPADLET_WHY_P5] == 2500000000);
     answers("unsubscribe", hivepadlet_unsubscribe(table, 6, 7, 0, LIST), HIVEPADLET_DONE, 0);
     answers("disconnect", hivepadlet_disconnect(table, 6, 7, LIST), HIVEPADLET_DONE, 0);
 }

@@ -15,7 +15,7 @@ static _Alignas(64) uint8_t stack[SIZE];
 static ucontext_t home, there;
 static uint64_t table[HIVEPADLET_CELLS], fresh_table[HIVEPADLET_CELLS];
 static uint32_t actions[HIVEPADLET_ACTION_NUMBERS];
-static int64_t numbers[HIVEPADLET_NUMBERS], score;
+static int64_t numbers[HIVEPADLET_NUMBERS], why[HIVEPADLET_WHY_NUMBERS];
 static uint64_t permutation[HIVEPADLET_SLOTS];
 static uint8_t bytes[HIVEPADLET_PARAMETER_BYTES];
 static uint64_t answer;
@@ -31,7 +31,7 @@ static void deliver(void) { answer = hivepadlet_deliver(table, 1, PEERS + 1, 0, 
 static void prune(void) { answer = hivepadlet_prune(table, 1, PEERS + 1, 0, 60, LIST); }
 static void unsubscribe(void) { answer = hivepadlet_unsubscribe(table, 1, PEERS + 1, 0, LIST); }
 static void rate(void) { answer = hivepadlet_rate(table, 1, PEERS + 1, 5, LIST); }
-static void scored(void) { answer = hivepadlet_score(table, 1, PEERS + 1, &score, LIST); }
+static void scored(void) { answer = hivepadlet_score(table, 1, PEERS + 1, why, LIST); }
 static void disconnect(void) { answer = hivepadlet_disconnect(table, 1, PEERS + 1, LIST); }
 static void join(void) { answer = hivepadlet_join(table, 1, 1, LIST); }
 static void heartbeat(void) { answer = hivepadlet_heartbeat(table, 1, 0, 1, permutation, HIVEPADLET_SLOTS, LIST); }

@@ -3,19 +3,20 @@
 use Prim.Native.Nat.{ℕ, _≤_}
 use native.Mathlib.Omega.{arith}
 use mathlib.Core.Path.{_≡_, refl, sym, ap}
-use mathlib.Core.List.{[], _∷_}
+use mathlib.Core.List.{List, [], _∷_}
 use lib.IntN.{ℤ}
 use denote.Enum.Declared.{tagOf}
 use types.Run.{OneOf, miss}
+use Rattle.score.specs.declared.Why.{Why}
 use Rattle.rules.specs.declared.Answer.{Answer}
 use Rattle.rules.specs.declared.Answer.the-variants.{Done, Scored, Early, OutOfRange, NotConnected, AlreadyConnected, NoSlot, UnknownProtocol, NotPermutation, ListShort, Ignored, NotRouter}
 use Rattle.rules.specs.Reply.{numberOf, actionsOf}
 use Rattle.rules.proofs.Answer.{the-type}
-use Rattle.answers.specs.Answers.{scoreOr}
+use Rattle.answers.specs.Answers.{whyNumbers, whyOr}
 
 pub number-most : (a : Answer) → numberOf a ≤ 255
 number-most (Done n) = omega arith
-number-most (Scored z) = omega arith
+number-most (Scored w) = omega arith
 number-most Early = omega arith
 number-most OutOfRange = omega arith
 number-most NotConnected = omega arith
@@ -31,7 +32,7 @@ number-most NotRouter = omega arith
 pub no-actions :
     (a : Answer) → OneOf (1 ∷ 2 ∷ 3 ∷ 4 ∷ 5 ∷ 6 ∷ 7 ∷ 8 ∷ 9 ∷ 10 ∷ 11 ∷ []) (tagOf the-type a) → 0 ≡ actionsOf a
 no-actions (Done n) h = absurd (miss (1 ∷ 2 ∷ 3 ∷ 4 ∷ 5 ∷ 6 ∷ 7 ∷ 8 ∷ 9 ∷ 10 ∷ 11 ∷ []) 0 tt h)
-no-actions (Scored z) h = refl
+no-actions (Scored w) h = refl
 no-actions Early h = refl
 no-actions OutOfRange h = refl
 no-actions NotConnected h = refl
@@ -43,21 +44,21 @@ no-actions ListShort h = refl
 no-actions Ignored h = refl
 no-actions NotRouter h = refl
 
-pub score-is : (a : Answer) (x z : ℤ) → a ≡ Scored x → x ≡ scoreOr a z
-score-is a x z t = sym (ap (λ (b : Answer). scoreOr b z) t)
+pub score-is : (a : Answer) (w : Why) (l : List ℤ) → a ≡ Scored w → whyNumbers w ≡ whyOr a l
+score-is a w l t = sym (ap (λ (b : Answer). whyOr b l) t)
 
 -- the answers that are no score, as the last arm tells them
 pub no-score :
-    (a : Answer) (z : ℤ) → OneOf (0 ∷ 2 ∷ 3 ∷ 4 ∷ 5 ∷ 6 ∷ 7 ∷ 8 ∷ 9 ∷ 10 ∷ 11 ∷ []) (tagOf the-type a) → z ≡ scoreOr a z
-no-score (Done n) z h = refl
-no-score (Scored x) z h = absurd (miss (0 ∷ 2 ∷ 3 ∷ 4 ∷ 5 ∷ 6 ∷ 7 ∷ 8 ∷ 9 ∷ 10 ∷ 11 ∷ []) 1 tt h)
-no-score Early z h = refl
-no-score OutOfRange z h = refl
-no-score NotConnected z h = refl
-no-score AlreadyConnected z h = refl
-no-score NoSlot z h = refl
-no-score UnknownProtocol z h = refl
-no-score NotPermutation z h = refl
-no-score ListShort z h = refl
-no-score Ignored z h = refl
-no-score NotRouter z h = refl
+    (a : Answer) (l : List ℤ) → OneOf (0 ∷ 2 ∷ 3 ∷ 4 ∷ 5 ∷ 6 ∷ 7 ∷ 8 ∷ 9 ∷ 10 ∷ 11 ∷ []) (tagOf the-type a) → l ≡ whyOr a l
+no-score (Done n) l h = refl
+no-score (Scored w) l h = absurd (miss (0 ∷ 2 ∷ 3 ∷ 4 ∷ 5 ∷ 6 ∷ 7 ∷ 8 ∷ 9 ∷ 10 ∷ 11 ∷ []) 1 tt h)
+no-score Early l h = refl
+no-score OutOfRange l h = refl
+no-score NotConnected l h = refl
+no-score AlreadyConnected l h = refl
+no-score NoSlot l h = refl
+no-score UnknownProtocol l h = refl
+no-score NotPermutation l h = refl
+no-score ListShort l h = refl
+no-score Ignored l h = refl
+no-score NotRouter l h = refl

@@ -1,9 +1,10 @@
-// What an answer is outside: 01's number of it, how many actions it has, both as one number for a host, and its score.
+// What an answer is outside: 01's number of it, how many actions it has, both as one number for a host, and its score with the parts.
 ghost use mathlib.Core.Path.{_≡_};
 ghost use Prim.Native.Nat.{_≤_};
 ghost use Rattle.rules.specs.Reply.{numberOf, actionsOf};
-ghost use Rattle.answers.specs.Answers.{packed as packedOf, answerCode, scoreOr};
+ghost use Rattle.answers.specs.Answers.{packed as packedOf, answerCode, whyNumbers, whyOr};
 use rules::Answer;
+use score::Why;
 
 // 01's number of an answer.
 pub fn number_of(a: Answer) -> u64
@@ -48,12 +49,25 @@ pub fn code(a: Answer) -> u64
     packed(number_of(a), actions_of(a) as u64)
 }
 
-// The score in an answer, or what stood there.
-pub fn score_or(a: Answer, stood: i64) -> i64
-    ensures { λ r. ⌜ r ≡ scoreOr a stood ⌝ }
+// A score's five parts, then the score.
+fn why_numbers(w: Why) -> [i64; 6]
+    ensures { λ r. ⌜ r ≡ whyNumbers w ⌝ }
+{
+    let topics = w.topics;
+    let capped = w.capped;
+    let p5 = w.p5;
+    let p6 = w.p6;
+    let p7 = w.p7;
+    let score = w.score;
+    [topics, capped, p5, p6, p7, score]
+}
+
+// The score's parts and the score in an answer, or what stood there.
+pub fn why_or(a: Answer, stood: [i64; 6]) -> [i64; 6]
+    ensures { λ r. ⌜ r ≡ whyOr a stood ⌝ }
 {
     match a {
-        Answer::Scored(z) => z,
+        Answer::Scored(w) => why_numbers(w),
         _ => stood,
     }
 }

@@ -22,17 +22,18 @@ use Rattle.index.proofs.Index.{gather-none, gather-more, gather-same, gather-fi
 use Rattle.text.specs.Text.{decimal, signedText, Stored}
 use Rattle.text.proofs.TextLaws.{decimal-length, signed-length, stored-then}
 use Rattle.effects.specs.Actions.{Action, numbersOf}
+use Rattle.score.specs.declared.Why.{Why}
 use Rattle.rules.proofs.Answer.{the-type}
 use Rattle.rules.specs.declared.Answer.{Answer}
 use Rattle.rules.specs.declared.Answer.the-variants.{Done, Scored, Early, OutOfRange, NotConnected, AlreadyConnected, NoSlot, UnknownProtocol, NotPermutation, ListShort, Ignored, NotRouter}
 use Rattle.rules.specs.Reply.{Reply, numberOf, actionsOf}
-use Rattle.events.specs.Lines.{space, newline, pairLine, actionLine, actionLines, scoreLine, linesOf, actionAt, actionsText, replyText}
+use Rattle.events.specs.Lines.{space, newline, pairLine, actionLine, actionLines, partText, threeText, whyLine, scoreLine, linesOf, actionAt, actionsText, replyText}
 
 -- ---- the answers of the other variants, as an `else` tells them
 pub no-score :
     (a : Answer) → OneOf (0 ∷ 2 ∷ 3 ∷ 4 ∷ 5 ∷ 6 ∷ 7 ∷ 8 ∷ 9 ∷ 10 ∷ 11 ∷ []) (tagOf the-type a) → scoreLine a ≡ []
 no-score (Done n) h = refl
-no-score (Scored z) h = absurd (miss (0 ∷ 2 ∷ 3 ∷ 4 ∷ 5 ∷ 6 ∷ 7 ∷ 8 ∷ 9 ∷ 10 ∷ 11 ∷ []) 1 tt h)
+no-score (Scored w) h = absurd (miss (0 ∷ 2 ∷ 3 ∷ 4 ∷ 5 ∷ 6 ∷ 7 ∷ 8 ∷ 9 ∷ 10 ∷ 11 ∷ []) 1 tt h)
 no-score Early h = refl
 no-score OutOfRange h = refl
 no-score NotConnected h = refl
@@ -108,21 +109,70 @@ prune-stored kind id seconds at b₀ b₁ b₂ p₁ p₂ e s t =
 pub fits-length : (z : ℤ) → SFits w64 z → length (signedText z) ≤ 21
 fits-length z f = signed-length z (omega (arith, natAbs-le z (f .sfits)))
 
--- a score: its letter, the number as read back from its bits, the end of the line
-pub score-stored :
-    (a : Answer) (z : ℤ) (at : ℕ) (b₀ b₁ b₂ b₃ : List ℕ) (p₁ p₂ p₃ : ℕ) →
-    a ≡ Scored z →
+-- a number, read back from its bits, and the byte after it
+pub part-stored :
+    (z : ℤ) (c at : ℕ) (b₀ b₁ b₂ : List ℕ) (p₁ p₂ : ℕ) →
     SFits w64 z →
+    Stored b₀ at (signedText (toZ w64 (ofZ w64 z))) p₁ b₁ →
+    Stored b₁ p₁ (c ∷ []) p₂ b₂ →
+    Stored b₀ at (partText z c) p₂ b₂ × (p₂ ≤ at + 22)
+part-stored z c at b₀ b₁ b₂ p₁ p₂ f s t =
+    let s' : Stored b₀ at (signedText z) p₁ b₁ = rw (toZ-ofZ f) at s in
+    (stored-then b₀ at p₁ (signedText z) b₁ p₂ (c ∷ []) b₂ s' t, omega (arith, fits-length z f, s' .0, t .0))
+
+pub three-stored :
+    (x y z : ℤ) (c at : ℕ) (b₀ b₁ b₂ b₃ : List ℕ) (p₁ p₂ p₃ : ℕ) →
+    SFits w64 x →
+    SFits w64 y →
+    SFits w64 z →
+    Stored b₀ at (partText (toZ w64 (ofZ w64 x)) space) p₁ b₁ × (p₁ ≤ at + 22) →
+    Stored b₁ p₁ (partText (toZ w64 (ofZ w64 y)) space) p₂ b₂ × (p₂ ≤ p₁ + 22) →
+    Stored b₂ p₂ (partText (toZ w64 (ofZ w64 z)) c) p₃ b₃ × (p₃ ≤ p₂ + 22) →
+    Stored b₀ at (threeText x y z c) p₃ b₃ × (p₃ ≤ at + 66)
+unfolding threeText
+three-stored x y z c at b₀ b₁ b₂ b₃ p₁ p₂ p₃ f g h s t u =
+    let s' : Stored b₀ at (partText x space) p₁ b₁ = rw (toZ-ofZ f) at (s .0) in
+    let t' : Stored b₁ p₁ (partText y space) p₂ b₂ = rw (toZ-ofZ g) at (t .0) in
+    let u' : Stored b₂ p₂ (partText z c) p₃ b₃ = rw (toZ-ofZ h) at (u .0) in
+    let v = stored-then b₀ at p₁ (partText x space) b₁ p₂ (partText y space) b₂ s' t' in (
+      stored-then b₀ at p₂ (partText x space ++ partText y space) b₂ p₃ (partText z c) b₃ v u',
+      omega (arith, s .1, t .1, u .1),
+    )
+
+-- every number of a score has 64 bits
+pub record WhyFits (w : Why) : Type 0 where
+  pub topics : SFits w64 (w .topics)
+  pub capped : SFits w64 (w .capped)
+  pub p5 : SFits w64 (w .p5)
+  pub p6 : SFits w64 (w .p6)
+  pub p7 : SFits w64 (w .p7)
+  pub score : SFits w64 (w .score)
+
+-- a score: its letter, then two times three numbers
+pub why-stored :
+    (w : Why) (at : ℕ) (b₀ b₁ b₂ b₃ : List ℕ) (p₁ p₂ p₃ : ℕ) →
+    WhyFits w →
     Stored b₀ at (83 ∷ space ∷ []) p₁ b₁ →
-    Stored b₁ p₁ (signedText (toZ w64 (ofZ w64 z))) p₂ b₂ →
-    Stored b₂ p₂ (newline ∷ []) p₃ b₃ →
-    Stored b₀ at (scoreLine a) p₃ b₃ × (p₃ ≤ at + 24)
-score-stored a z at b₀ b₁ b₂ b₃ p₁ p₂ p₃ e f s t u =
-    let t' : Stored b₁ p₁ (signedText z) p₂ b₂ = rw (toZ-ofZ f) at t in
-    let v = stored-then b₀ at p₁ (83 ∷ space ∷ []) b₁ p₂ (signedText z) b₂ s t' in
-    rw
-    e
-    (stored-then b₀ at p₂ (83 ∷ space ∷ signedText z) b₂ p₃ (newline ∷ []) b₃ v u, omega (arith, fits-length z f, s .0, t' .0, u .0))
+    Stored b₁ p₁ (threeText (toZ w64 (ofZ w64 (w .topics))) (toZ w64 (ofZ w64 (w .capped))) (toZ w64 (ofZ w64 (w .p5))) space) p₂ b₂
+    × (p₂ ≤ p₁ + 66) →
+    Stored b₂ p₂ (threeText (toZ w64 (ofZ w64 (w .p6))) (toZ w64 (ofZ w64 (w .p7))) (toZ w64 (ofZ w64 (w .score))) newline) p₃ b₃
+    × (p₃ ≤ p₂ + 66) →
+    Stored b₀ at (whyLine w) p₃ b₃ × (p₃ ≤ at + 134)
+unfolding whyLine
+why-stored w at b₀ b₁ b₂ b₃ p₁ p₂ p₃ f s t u =
+    let x : List ℕ = threeText (w .topics) (w .capped) (w .p5) space in
+    let y : List ℕ = threeText (w .p6) (w .p7) (w .score) newline in
+    let t' : Stored b₁ p₁ x p₂ b₂ = rw (toZ-ofZ (f .topics), toZ-ofZ (f .capped), toZ-ofZ (f .p5)) at (t .0) in
+    let u' : Stored b₂ p₂ y p₃ b₃ = rw (toZ-ofZ (f .p6), toZ-ofZ (f .p7), toZ-ofZ (f .score)) at (u .0) in
+    let v = stored-then b₀ at p₁ (83 ∷ space ∷ []) b₁ p₂ x b₂ s t' in
+    (stored-then b₀ at p₂ ((83 ∷ space ∷ []) ++ x) b₂ p₃ y b₃ v u', omega (arith, s .0, t .1, u .1))
+
+pub score-stored :
+    (a : Answer) (w : Why) (at : ℕ) (b₀ b₁ : List ℕ) (p : ℕ) →
+    a ≡ Scored w →
+    Stored b₀ at (whyLine w) p b₁ × (p ≤ at + 134) →
+    Stored b₀ at (scoreLine a) p b₁ × (p ≤ at + 134)
+score-stored a w at b₀ b₁ p e s = rw e s
 
 -- ---- the lines of the first i actions
 pub actions-none : (l : List ℕ) (at : ℕ) (b : List ℕ) → Stored b at (actionsText 0 l) at b

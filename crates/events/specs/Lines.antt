@@ -4,9 +4,11 @@ use mathlib.Core.Bool.{cond}
 use mathlib.Core.List.{List, [], _∷_, _++_}
 use lib.Dec.{eqb}
 use lib.ListN.{getD}
+use lib.IntN.{ℤ}
 use Rattle.index.specs.Index.{gather}
 use Rattle.text.specs.Text.{decimal, signedText}
 use Rattle.effects.specs.Actions.{Action}
+use Rattle.score.specs.declared.Why.{Why}
 use Rattle.rules.specs.declared.Answer.{Answer}
 use Rattle.rules.specs.declared.Answer.the-variants.{Done, Scored, Early, OutOfRange, NotConnected, AlreadyConnected, NoSlot, UnknownProtocol, NotPermutation, ListShort, Ignored, NotRouter}
 use Rattle.rules.specs.Reply.{Reply, numberOf, actionsOf}
@@ -33,10 +35,25 @@ unfoldable pub actionLines : List Action → List ℕ
 actionLines [] = []
 actionLines (a ∷ l) = actionLine (a .kind) (a .id) (a .seconds) ++ actionLines l
 
--- "S -10000000000", of a score alone
+-- a number with its sign, and the byte after it
+abbrev pub partText : ℤ → ℕ → List ℕ
+partText z c = signedText z ++ (c ∷ [])
+
+-- three numbers with spaces between them, and the byte after them
+unfoldable pub threeText : ℤ → ℤ → ℤ → ℕ → List ℕ
+threeText x y z c = partText x space ++ partText y space ++ partText z c
+
+-- "S 0 0 0 0 -10000000000 -10000000000" (02, order 5: "The trace prints the five after S, then the score")
+unfoldable pub whyLine : Why → List ℕ
+whyLine w =
+    (83 ∷ space ∷ [])
+    ++ threeText (w .topics) (w .capped) (w .p5) space
+    ++ threeText (w .p6) (w .p7) (w .score) newline
+
+-- of a score alone
 abbrev pub scoreLine : Answer → List ℕ
 scoreLine (Done n) = []
-scoreLine (Scored z) = 83 ∷ space ∷ signedText z ++ (newline ∷ [])
+scoreLine (Scored w) = whyLine w
 scoreLine Early = []
 scoreLine OutOfRange = []
 scoreLine NotConnected = []

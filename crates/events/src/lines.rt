@@ -1,8 +1,9 @@
 // A reply in text. The text itself is fixed in specs/Lines.antt; the caller shows that there is room: 42 bytes for two numbers, 44 for an
-// action, 24 for a score.
+// action, 134 for a score.
 use answers::actions_of;
 use answers::number_of;
 use rules::Answer;
+use score::Why;
 use text::put_byte;
 use text::put_decimal;
 use text::put_signed;
@@ -12,7 +13,7 @@ ghost use Prim.Native.Nat.{_+_, _*_, _≤_};
 ghost use lib.ListN.{length};
 ghost use Rattle.text.specs.Text.{Stored};
 ghost use Rattle.rules.specs.Reply.{actionsOf};
-ghost use Rattle.events.specs.Lines.{space, pairLine, actionLine, actionsText, scoreLine, replyText};
+ghost use Rattle.events.specs.Lines.{space, pairLine, actionLine, actionsText, partText, threeText, whyLine, scoreLine, replyText};
 
 // Two numbers on a line; the place after it.
 pub fn put_pair(out: &mut [u8], at: usize, a: u64, b: u64) -> usize
@@ -66,16 +67,43 @@ pub fn put_actions(out: &mut [u8], at: usize, actions: &[u32], n: usize) -> usiz
     k
 }
 
-pub fn put_score(out: &mut [u8], at: usize, a: Answer) -> usize
-    requires { ⌜ at + 24 ≤ length (now out) ⌝ }
-    ensures { λ r. ⌜ Stored (now (out .entry)) at (scoreLine a) r (now (out .exit)) × (r ≤ at + 24) ⌝ }
+// A number with its sign, and the byte after it.
+fn put_part(out: &mut [u8], at: usize, n: i64, after: u8) -> usize
+    requires { ⌜ at + 22 ≤ length (now out) ⌝ }
+    ensures { λ r. ⌜ Stored (now (out .entry)) at (partText n after) r (now (out .exit)) × (r ≤ at + 22) ⌝ }
 {
-    let Answer::Scored(z) = a else {
+    let k = put_signed(out, at, n);
+    put_byte(out, k, after)
+}
+
+// Three numbers with spaces between them, and the byte after them.
+fn put_three(out: &mut [u8], at: usize, a: i64, b: i64, c: i64, after: u8) -> usize
+    requires { ⌜ at + 66 ≤ length (now out) ⌝ }
+    ensures { λ r. ⌜ Stored (now (out .entry)) at (threeText a b c after) r (now (out .exit)) × (r ≤ at + 66) ⌝ }
+{
+    let mut k = put_part(out, at, a, b' ');
+    k = put_part(out, k, b, b' ');
+    put_part(out, k, c, after)
+}
+
+// "S topics capped p5 p6 p7 score".
+fn put_why(out: &mut [u8], at: usize, w: Why) -> usize
+    requires { ⌜ at + 134 ≤ length (now out) ⌝ }
+    ensures { λ r. ⌜ Stored (now (out .entry)) at (whyLine w) r (now (out .exit)) × (r ≤ at + 134) ⌝ }
+{
+    let mut k = put_letter(out, at, b'S');
+    k = put_three(out, k, w.topics, w.capped, w.p5, b' ');
+    put_three(out, k, w.p6, w.p7, w.score, b'\n')
+}
+
+pub fn put_score(out: &mut [u8], at: usize, a: Answer) -> usize
+    requires { ⌜ at + 134 ≤ length (now out) ⌝ }
+    ensures { λ r. ⌜ Stored (now (out .entry)) at (scoreLine a) r (now (out .exit)) × (r ≤ at + 134) ⌝ }
+{
+    let Answer::Scored(w) = a else {
         return at;
     };
-    let mut k = put_letter(out, at, b'S');
-    k = put_signed(out, k, z);
-    put_byte(out, k, b'\n')
+    put_why(out, at, w)
 }
 
 // Answer and action count, then one line an action or score.

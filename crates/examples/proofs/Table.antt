@@ -6,8 +6,8 @@ use Rattle.records.specs.Records.{codeIn, joinedIn, peerIn, topicIn, setPeer, s
 use Rattle.lookup.specs.Find.{holds, findConnected}
 use Rattle.effects.specs.Effects.{withEnd, outOfMesh, intoMesh, pruned, isMember, meshSize}
 use Rattle.score.specs.Parts.{part1Of, part3Of}
-use Rattle.score.specs.Formula.{topicSum, allTopics, bounded, scoreSum}
-use Rattle.score.specs.Score.{scoreIn, topicScore, topicParamsIn, sharesGroup, sharing}
+use Rattle.score.specs.Formula.{topicSum, allTopics, bounded, whyOf}
+use Rattle.score.specs.Score.{whyIn, scoreIn, topicScore, topicParamsIn, sharesGroup, sharing}
 use Rattle.score.specs.Counters.{fadedOf}
 use Rattle.sets.specs.Sets.{
   bySlot,
@@ -36,7 +36,7 @@ use Rattle.examples.specs.Table.{lonely, short, shortSum, peer, inTopic,
 pub examples : Examples
 unfolding fadedOf topicSum part1Of part3Of lonely short shortSum peer inTopic peers topics crowd prunedFor60 grafted maintained
     pruneReply secondsOf pruned withEnd outOfMesh intoMesh isHeard isGraylisted isNegative scoreIn topicScore topicParamsIn sharesGroup sharing
-    allTopics bounded scoreSum graftRefused graftEnters graftOpen graftBackoff graftHeard graftReply meshFull meshSize isMember
+    allTopics bounded whyOf whyIn graftRefused graftEnters graftOpen graftBackoff graftHeard graftReply meshFull meshSize isMember
     holds findConnected count every first iter gather codeIn joinedIn peerIn topicIn setPeer setTopic setClock
     isCandidate heightIn degreesIn viewIn meshesIn punished settleSlot heartbeatActions maintainedReply heartbeatReply effect
     bySlot size both except from occurs isPermutation ascending inOrder fill top bests bottom goer firstOf lastOf swapOnce swapTo

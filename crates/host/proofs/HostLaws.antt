@@ -29,7 +29,7 @@ use Rattle.rules.specs.Calls.{Call}
 use Rattle.rules.specs.Step.{step}
 use Rattle.rules.specs.Promise.{Follows}
 use Rattle.rules.proofs.Answer.{the-type}
-use Rattle.answers.specs.Answers.{packed, answerCode, scoreOr}
+use Rattle.answers.specs.Answers.{packed, answerCode, whyOr}
 use Rattle.host.specs.Host.{Hosts, numbersOr, HostsRead, HostsWrite, HostsFresh}
 
 -- ---- the thirteen calls
@@ -43,8 +43,8 @@ module _ (c : Call) {a : Answer} {table table′ list list′ : List ℕ} (f : F
         actions = f .actions;
       }
 
-  pub scored : (z z′ : ℤ) → z′ ≡ scoreOr a z → z′ ≡ scoreOr (step (stateOf table) c (length list) .answer) z
-  scored z z′ e = e ∙ ap (λ (b : Answer). scoreOr b z) (f .leaves .answer)
+  pub scored : (l l′ : List ℤ) → l′ ≡ whyOr a l → l′ ≡ whyOr (step (stateOf table) c (length list) .answer) l
+  scored l l′ e = e ∙ ap (λ (b : Answer). whyOr b l) (f .leaves .answer)
 
 -- ---- reading
 module _ (bytes : List ℕ) (q : Reading) (v : Verdict) (e : q ≡ readOf bytes) (t : q .verdict ≡ v) where

@@ -5,10 +5,10 @@ ghost use lib.ListN.{length};
 ghost use Rattle.cells.specs.View.{stateOf};
 ghost use Rattle.rules.specs.Calls.{connect as Calls·connect, decay as Calls·decay, deliver as Calls·deliver, disconnect as Calls·disconnect, graft as Calls·graft, heartbeat as Calls·heartbeat, join as Calls·join, leave as Calls·leave, prune as Calls·prune, rate as Calls·rate, score as Calls·score, subscribe as Calls·subscribe, unsubscribe as Calls·unsubscribe};
 ghost use Rattle.rules.specs.Step.{step};
-ghost use Rattle.answers.specs.Answers.{scoreOr as scoreOrOf};
+ghost use Rattle.answers.specs.Answers.{whyOr as whyOrOf};
 ghost use Rattle.host.specs.Host.{HostsLent};
 use answers::code;
-use answers::score_or;
+use answers::why_or;
 use cells::CELLS;
 
 // A peer connects. Flags: 1 outbound + 2 explicit.
@@ -175,18 +175,20 @@ pub extern "C" fn hivepadlet_decay(table: &mut [u64; CELLS], time: u64, actions:
     code(router::decay(table, time, actions))
 }
 
-// The score of a peer, through a lent number that stands where the call is refused.
+// The score of a peer through six lent numbers, which stand where the call is refused: the topics' total before its cap and after it, the parts
+// of P5, P6 and P7, and the score, which the last four of these add up to.
 #[no_mangle]
 pub extern "C" fn hivepadlet_score(
     table: &mut [u64; CELLS],
     time: u64,
     id: u64,
-    score: &mut i64,
+    why: &mut [i64; 6],
     actions: &mut [u32],
 ) -> u64
-    ensures { λ r. ⌜ HostsLent (Calls·score time id) r table actions × (now (score .exit) ≡ scoreOrOf (step (stateOf (now (table .entry))) (Calls·score time id) (length (now (actions .entry))) .answer) (now (score .entry))) ⌝ }
+    ensures { λ r. ⌜ HostsLent (Calls·score time id) r table actions × (now (why .exit) ≡ whyOrOf (step (stateOf (now (table .entry))) (Calls·score time id) (length (now (actions .entry))) .answer) (now (why .entry))) ⌝ }
 {
     let a = router::score(table, time, id, actions);
-    *score = score_or(a, *score);
+    let stood = *why;
+    *why = why_or(a, stood);
     code(a)
 }

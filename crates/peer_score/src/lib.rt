@@ -11,7 +11,7 @@ ghost use Rattle.params.specs.Joint.{place as topicPlace};
 ghost use Rattle.table.specs.Valid.{valid};
 ghost use Rattle.score.specs.Ranges.{ShareIn, TopicsIn, PartsIn};
 ghost use Rattle.score.specs.Sums.{sumOf};
-ghost use Rattle.score.specs.Score.{sizeIn, topicParamsIn, scoreParamsIn, sharesGroup, sharing, shareAt, partsAt, Scores};
+ghost use Rattle.score.specs.Score.{sizeIn, topicParamsIn, scoreParamsIn, sharesGroup, sharing, shareAt, partsAt, whyIn, Scores};
 use effects::slots::load_size;
 use records::SLOTS;
 use records::TOPICS;
@@ -19,6 +19,7 @@ use score::Balance;
 use score::Parts;
 use score::ScoreParams;
 use score::TopicParams;
+use score::Why;
 use score::sums;
 use score::topic;
 
@@ -137,6 +138,14 @@ pub fn score_parts(table: &[u64], slot: usize) -> Parts
         together,
         p.p7,
     )
+}
+
+// The score of the peer in a slot and its parts, as the host gets them.
+pub fn why_of(table: &[u64], slot: usize) -> Why
+    requires { ⌜ (length (now table) ≡ cellCount) × ((valid (stateOf (now table)) ≡ true) × (slot < 64)) ⌝ }
+    ensures { λ r. ⌜ r ≡ whyIn (stateOf (now (table .entry))) slot ⌝ }
+{
+    sums::why(score_parts(table, slot))
 }
 
 // The score of the peer in a slot.

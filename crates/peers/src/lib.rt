@@ -166,12 +166,12 @@ fn score_from(table: &mut [u64], time: u64, id: u64) -> Answer
     let Found::At(slot) = find_connected(table, id) else {
         return Answer::NotConnected;
     };
-    let z = score::sums::signed(peer_score::score_of(table, slot));
+    let w = peer_score::why_of(table, slot);
     cells::store_clock(table, time);
-    Answer::Scored(z)
+    Answer::Scored(w)
 }
 
-// A peer's score, in 10^-9 points.
+// A peer's score and its parts, in 10^-9 points.
 pub fn score(table: &mut [u64; CELLS], time: u64, id: u64, actions: &mut [u32]) -> Answer
     ensures { λ r. ⌜ Follows (Calls·score time id) r (now (table .entry)) (now (table .exit)) (now (actions .entry)) (now (actions .exit)) ⌝ }
 {

@@ -11,7 +11,7 @@ use Rattle.rules.specs.declared.Answer.the-variants.{Done, Scored, Early
 -- 01's number of an answer
 abbrev pub numberOf : Answer → ℕ
 numberOf (Done n) = 0
-numberOf (Scored z) = 0
+numberOf (Scored w) = 0
 numberOf Early = 1
 numberOf OutOfRange = 2
 numberOf NotConnected = 3
@@ -26,7 +26,7 @@ numberOf NotRouter = 12
 -- the number of actions, which the trace prints behind it
 abbrev pub actionsOf : Answer → ℕ
 actionsOf (Done n) = n
-actionsOf (Scored z) = 0
+actionsOf (Scored w) = 0
 actionsOf Early = 0
 actionsOf OutOfRange = 0
 actionsOf NotConnected = 0
@@ -41,7 +41,7 @@ actionsOf NotRouter = 0
 -- the answers that leave everything as it was: all but 0 and 11
 abbrev pub refuses : Answer → Bool
 refuses (Done n) = false
-refuses (Scored z) = false
+refuses (Scored w) = false
 refuses Early = true
 refuses OutOfRange = true
 refuses NotConnected = true

@@ -19,7 +19,7 @@ use Rattle.lookup.specs.declared.Named.{Named}
 use Rattle.lookup.specs.declared.Named.the-variants.{Version, Unknown}
 use Rattle.lookup.specs.Name.{versionOf}
 use Rattle.score.specs.declared.TopicParams.{TopicParams}
-use Rattle.score.specs.Score.{scoreIn, topicParamsIn}
+use Rattle.score.specs.Score.{whyIn, scoreIn, topicParamsIn}
 use Rattle.score.specs.Counters.{countMost, raisedOf, firstOf, nearFirstOf, invalidOf, grownOf, fadedOf, decayedOf}
 use Rattle.sets.specs.Sets.{bySlot, at, isPermutation}
 use Rattle.mesh.specs.declared.Degrees.{Degrees}
@@ -305,7 +305,7 @@ effect st (rate time id p5) = ofPeer st id (λ s. done (onPeer st s (λ p. withP
 effect st (heartbeat time t ask order) = heartbeatReply st time t ask order
 effect st (decay time) = decayReply st time
 effect st (score time id) =
-    ofPeer st id (λ s. record { answer = Scored (scoreIn st s); state = setClock st time; actions = [] })
+    ofPeer st id (λ s. record { answer = Scored (whyIn st s); state = setClock st time; actions = [] })
 
 -- every call: state, call, and how many numbers the lent list has room for
 unfoldable pub step : State → Call → ℕ → Reply

@@ -1,12 +1,13 @@
 // The rules of 01 as definitions (specs/): one data type of calls, and what each call answers and leaves. The code that keeps to them is
 // crate router. Here stand only the types that both speak of.
+use score::Why;
 
 // What a call answers. A definition (specs/Reply.antt) gives 01's number and values of each.
 pub enum Answer {
     // 0: done, with the number of actions
     Done(usize),
-    // 0 of a score call, with the score
-    Scored(i64),
+    // 0 of a score call, with the score and its parts
+    Scored(Why),
     // 1: the time is earlier than the last accepted one
     Early,
     // 2: an argument is outside its range

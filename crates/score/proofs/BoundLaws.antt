@@ -121,6 +121,7 @@ module _ (g : ScoreParams) (b : Balance) (code sharing p7 : ℕ) where
       let six = mul-le-mul (h .w6) (mul-le-mul over over) in
       let seven = mul-le-mul (h .w7) (mul-le-mul p p) in
       record {
+        topics = i;
         capped = capped-in (g .cap) b i;
         gain5 = five .0;
         loss5 = five .1;

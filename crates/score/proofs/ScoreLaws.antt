@@ -7,7 +7,7 @@ use mathlib.Core.Bool.{Bool, true}
 use mathlib.Core.Logic.{⊎-elim}
 use borrow.Author.Tests.{eq-eqb}
 use native.Mathlib.Omega.{arith}
-use lib.IntN.{ℤ, pos, negℤ, natAbs, subℕ, _*ℤ_}
+use lib.IntN.{ℤ, pos, negℤ, natAbs, subℕ, _+ℤ_, _*ℤ_}
 use lib.Signed.{ltZ}
 use Rattle.index.specs.Index.{count}
 use Rattle.index.proofs.Index.{count-bound}
@@ -19,14 +19,15 @@ use Rattle.table.specs.Valid.{valid}
 use Rattle.score.specs.declared.ScoreParams.{ScoreParams}
 use Rattle.score.specs.declared.Balance.{Balance}
 use Rattle.score.specs.declared.Parts.{Parts}
+use Rattle.score.specs.declared.Why.{Why}
 use Rattle.score.specs.Ranges.{ScoreParamsIn, TopicsIn, PartsIn, BalanceIn, ShareIn, scoreMost}
 use Rattle.score.specs.Parts.{square, surplusOf}
-use Rattle.score.specs.Formula.{allTopics, bounded}
-use Rattle.score.specs.Sums.{worth, sumOf, partsOf, totalOf, negativeOf, belowOf}
-use Rattle.score.specs.Score.{paramIn, sizeIn, topicParamsIn, scoreParamsIn, sharesGroup, sharing, topicScore, scoreIn, shareAt, partsAt, balanceAt, Scores, Agree}
+use Rattle.score.specs.Formula.{allTopics, bounded, whyOf}
+use Rattle.score.specs.Sums.{worth, sumOf, partsOf, totalOf, toldOf, negativeOf, belowOf}
+use Rattle.score.specs.Score.{paramIn, sizeIn, topicParamsIn, scoreParamsIn, sharesGroup, sharing, topicScore, whyIn, scoreIn, shareAt, partsAt, balanceAt, Scores, Agree}
 use Rattle.score.proofs.InputLaws.{TopicSigns, SlotIn, slot-in, graylist-in}
 use Rattle.score.proofs.ShareLaws.{share-is, sum-is, sum-done, topics-same}
-use Rattle.score.proofs.SumLaws.{capped-is, p5-is, loss-is, total-is, score-size, negative-is, below-is}
+use Rattle.score.proofs.SumLaws.{same-why, capped-is, p5-is, loss-is, total-is, score-size, negative-is, below-is}
 use Rattle.score.proofs.Differences.{diff-neg, neg-times}
 use Rattle.score.proofs.BoundLaws.{share-in, sum-in, topics-in, parts-in, total-in}
 
@@ -142,7 +143,7 @@ module _ (st : State) (s : ℕ) (h : SlotIn st s) where
 
   -- the code's balance is worth 01's score
   pub score-is : worth (balanceAt st s) ≡ scoreIn st s
-  unfolding scoreIn balanceAt partsAt scoreParamsIn
+  unfolding scoreIn whyIn whyOf balanceAt totalOf partsAt scoreParamsIn
   score-is =
       let w = h .generalSigns in
       rw (← w .w5, ← w .w6, ← w .w7, sums)
@@ -171,11 +172,24 @@ module _ (st : State) (s : ℕ) (h : SlotIn st s) where
         p7 = sym (rw (← w .w7) (loss-is (sizeIn st 16) (square (peerIn st s .p7)) 1000));
       }
 
+  -- what the code tells of the parts is 01's formula with its parts
+  pub told-is : toldOf (partsAt st s) ≡ whyIn st s
+  unfolding toldOf whyIn whyOf scoreIn balanceAt
+  told-is =
+      let w = parts-worth in
+      same-why (w .topics) (w .capped) (w .p5) (w .p6) (w .p7) score-is
+
   pub scores : (q : Parts) (b : Balance) → q ≡ partsAt st s → b ≡ totalOf q → Scores st s b
   unfolding balanceAt
   scores q b p t =
       let e : b ≡ balanceAt st s = t ∙ ap totalOf p in
       record { is = e; score = ap worth e ∙ score-is; range = rw e balance-in }
+
+-- "the last four's sum being the score" (02, order 5)
+pub why-sum :
+    (st : State) (s : ℕ) → scoreIn st s ≡ whyIn st s .capped +ℤ whyIn st s .p5 +ℤ whyIn st s .p6 +ℤ whyIn st s .p7
+unfolding scoreIn whyIn whyOf
+why-sum st s = refl
 
 -- of a router's state: the code's balance is worth 01's score, and "no score passes 2.6 × 10^18 either way"
 module _ (st : State) (ok : valid st ≡ true) (s : ℕ) (h : s < 64) where
@@ -212,8 +226,12 @@ module _ (st : State) (s : ℕ) (other : State) (u : ℕ) (h : Agree st s other 
   unfolding topicScore
   topic-same t l = rw (h .codes (topicPlace t 0), h .codes (topicPlace t 1), h .codes (topicPlace t 4), h .codes (topicPlace t 7), h .codes (topicPlace t 12), h .codes (topicPlace t 14), params-same t, h .topics t l)
 
-  pub score-depends : scoreIn st s ≡ scoreIn other u
-  unfolding scoreIn
-  score-depends =
+  pub why-depends : whyIn st s ≡ whyIn other u
+  unfolding whyIn
+  why-depends =
       let sums : allTopics 8 (topicScore st s) ≡ allTopics 8 (topicScore other u) = topics-same (topicScore st s) (topicScore other u) 8 topic-same in
       rw (h .codes 12, h .codes 13, h .codes 14, h .codes 15, h .codes 16, h .p5, h .p7, h .sharing, sums)
+
+  pub score-depends : scoreIn st s ≡ scoreIn other u
+  unfolding scoreIn
+  score-depends = ap (λ (w : Why). w .score) why-depends

@@ -13,11 +13,27 @@ use Rattle.index.proofs.Flags.{by-test}
 use Rattle.groups.specs.Codes.{codeOf, numberOf}
 use Rattle.score.specs.declared.Balance.{Balance}
 use Rattle.score.specs.declared.ScoreParams.{ScoreParams}
+use Rattle.score.specs.declared.Why.{Why}
 use Rattle.score.specs.Ranges.{scoreMost, BalanceIn}
 use Rattle.score.specs.Parts.{square, surplusOf}
-use Rattle.score.specs.Formula.{minZ, bounded, scoreSum}
+use Rattle.score.specs.Formula.{minZ, bounded, whyOf}
 use Rattle.score.specs.Sums.{worth, cappedOf, p5Of, p6Of, p7Of, partsOf, totalOf, offsetOf, negativeOf, belowOf}
 use Rattle.score.proofs.Differences.{diff-lt, diff-ge, diff-pos, diff-neg, diff-add, diff-same, diff-times, diff-le, diff-ltZ, neg-times, offset-lt, offset-le, diff-size}
+
+-- six numbers that are the same make the same
+abbrev pub whyFrom : ℤ → ℤ → ℤ → ℤ → ℤ → ℤ → Why
+whyFrom a b c d e f = record { topics = a; capped = b; p5 = c; p6 = d; p7 = e; score = f }
+
+pub same-why :
+    {a b c d e f a′ b′ c′ d′ e′ f′ : ℤ} →
+    a ≡ a′ →
+    b ≡ b′ →
+    c ≡ c′ →
+    d ≡ d′ →
+    e ≡ e′ →
+    f ≡ f′ →
+    whyFrom a b c d e f ≡ whyFrom a′ b′ c′ d′ e′ f′
+same-why p q r s t u = cc
 
 -- the code of a score, by its sign
 pub lost-code : (b : Balance) → b .gain < b .loss → (b .loss - b .gain) * 2 - 1 ≡ codeOf (worth b)
@@ -73,7 +89,7 @@ p5-is w code =
 -- the whole score: 01's formula at the topics' total, P5, the surplus and P7
 pub total-is :
     (g : ScoreParams) (b : Balance) (code sharing p7 : ℕ) →
-    scoreSum
+    whyOf
     (g .cap)
     (worth b)
     (pos (g .w5))
@@ -82,8 +98,9 @@ pub total-is :
     (surplusOf (g .threshold) sharing)
     (negℤ (pos (g .w7)))
     p7
+    .score
     ≡ worth (totalOf (partsOf g b code sharing p7))
-unfolding scoreSum totalOf partsOf
+unfolding whyOf totalOf partsOf
 total-is g b code sharing p7 =
     ap₂
     (λ (x y : ℤ). x +ℤ y)

@@ -4,6 +4,7 @@ use mathlib.Core.Bool.{cond}
 use lib.Dec.{eqb}
 use lib.IntN.{ℤ, pos, _+ℤ_, _*ℤ_}
 use lib.Signed.{leZ}
+use Rattle.score.specs.declared.Why.{Why}
 use Rattle.score.specs.Parts.{square}
 
 -- "The topic's sum is weight × (w1·P1 + w2·P2 + w3·P3 + w3b·P3b + w4·P4)."
@@ -23,10 +24,19 @@ minZ a b = cond (leZ a b) a b
 unfoldable pub bounded : ℕ → ℤ → ℤ
 bounded cap total = cond (eqb cap 0) total (minZ total (pos (cap * 1000000)))
 
--- "Then add w5 × P5 × 1000; w6 × surplus² × 10^9 ..; and w7 × P7 counter² × 1000."
-unfoldable pub scoreSum : ℕ → ℤ → ℤ → ℤ → ℤ → ℕ → ℤ → ℕ → ℤ
-scoreSum cap topics w5 p5 w6 surplus w7 p7 =
-    bounded cap topics
-    +ℤ w5 *ℤ p5 *ℤ pos 1000
-    +ℤ w6 *ℤ pos (square surplus) *ℤ pos 1000000000
-    +ℤ w7 *ℤ pos (square p7) *ℤ pos 1000
+-- "Then add w5 × P5 × 1000; w6 × surplus² × 10^9 ..; and w7 × P7 counter² × 1000." (01); "the topic total before its cap, the total after
+-- it, and the three general parts, the last four's sum being the score" (02, order 5)
+unfoldable pub whyOf : ℕ → ℤ → ℤ → ℤ → ℤ → ℕ → ℤ → ℕ → Why
+whyOf cap topics w5 p5 w6 surplus w7 p7 =
+    let capped : ℤ = bounded cap topics in
+    let five : ℤ = w5 *ℤ p5 *ℤ pos 1000 in
+    let six : ℤ = w6 *ℤ pos (square surplus) *ℤ pos 1000000000 in
+    let seven : ℤ = w7 *ℤ pos (square p7) *ℤ pos 1000 in
+    record {
+      topics = topics;
+      capped = capped;
+      p5 = five;
+      p6 = six;
+      p7 = seven;
+      score = capped +ℤ five +ℤ six +ℤ seven;
+    }

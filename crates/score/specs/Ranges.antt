@@ -55,6 +55,7 @@ pub record TopicsIn (b : Balance) : Type 0 where
   pub loss : b .loss ≤ 2400000000000000000
 
 pub record PartsIn (p : Parts) : Type 0 where
+  pub topics : TopicsIn (p .topics)
   pub capped : TopicsIn (p .capped)
   pub gain5 : p .p5 .gain ≤ 100000000000000
   pub loss5 : p .p5 .loss ≤ 100000000000000

@@ -1,5 +1,5 @@
 -- A peer's score from the router's state: the parameters' own signed numbers, the peer's record, and the number of connected peers that
--- share its group. `scoreIn` is 01's formula; `balanceAt` is what the code computes, and worth the same (proofs/ScoreLaws.antt).
+-- share its group. `whyIn` is 01's formula with its parts, `scoreIn` its score; `balanceAt` is what the code computes, and worth the same (proofs/ScoreLaws.antt).
 use Prim.Native.Nat.{ℕ, _+_, _/_, _<_}
 use mathlib.Core.Path.{_≡_}
 use mathlib.Core.Bool.{Bool, _&&_}
@@ -13,9 +13,10 @@ use Rattle.score.specs.declared.TopicParams.{TopicParams}
 use Rattle.score.specs.declared.ScoreParams.{ScoreParams}
 use Rattle.score.specs.declared.Balance.{Balance}
 use Rattle.score.specs.declared.Parts.{Parts}
+use Rattle.score.specs.declared.Why.{Why}
 use Rattle.score.specs.Ranges.{BalanceIn}
 use Rattle.score.specs.Parts.{part1Of, part2Of, part3Of, part3bOf, part4Of, surplusOf}
-use Rattle.score.specs.Formula.{topicSum, allTopics, scoreSum}
+use Rattle.score.specs.Formula.{topicSum, allTopics, whyOf}
 use Rattle.score.specs.Sums.{worth, shareOf, sumOf, partsOf, totalOf}
 
 -- parameter i with its sign, and its magnitude. Topic t's j-th parameter is at `topicPlace t j`.
@@ -74,10 +75,10 @@ topicScore st s t =
     (part3bOf (topicIn st (place s t)))
     (part4Of (topicIn st (place s t)))
 
--- the score of the peer in slot s, in 10^-9 points
-unfoldable pub scoreIn : State → ℕ → ℤ
-scoreIn st s =
-    scoreSum
+-- the score of the peer in slot s and its parts, in 10^-9 points
+unfoldable pub whyIn : State → ℕ → Why
+whyIn st s =
+    whyOf
     (sizeIn st 12)
     (allTopics topicCount (topicScore st s))
     (paramIn st 13)
@@ -86,6 +87,10 @@ scoreIn st s =
     (surplusOf (sizeIn st 15) (sharing st (peerIn st s .group)))
     (paramIn st 16)
     (peerIn st s .p7)
+
+-- "All score work takes it from this answer."
+unfoldable pub scoreIn : State → ℕ → ℤ
+scoreIn st s = whyIn st s .score
 
 -- the same as what is gained and what is lost
 unfoldable pub shareAt : State → ℕ → ℕ → Balance

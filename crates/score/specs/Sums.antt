@@ -9,6 +9,7 @@ use Rattle.score.specs.declared.TopicParams.{TopicParams}
 use Rattle.score.specs.declared.ScoreParams.{ScoreParams}
 use Rattle.score.specs.declared.Balance.{Balance}
 use Rattle.score.specs.declared.Parts.{Parts}
+use Rattle.score.specs.declared.Why.{Why}
 use Rattle.score.specs.Ranges.{scoreMost}
 use Rattle.score.specs.Parts.{square, part1Of, part2Of, part3Of, part3bOf, part4Of, surplusOf}
 
@@ -66,6 +67,18 @@ partsOf g topics code sharing p7 =
 unfoldable pub totalOf : Parts → Balance
 totalOf p =
     record { gain = p .capped .gain + p .p5 .gain; loss = p .capped .loss + p .p5 .loss + p .p6 + p .p7 }
+
+-- the parts and the score as the host gets them
+unfoldable pub toldOf : Parts → Why
+toldOf p =
+    record {
+      topics = worth (p .topics);
+      capped = worth (p .capped);
+      p5 = worth (p .p5);
+      p6 = subℕ 0 (p .p6);
+      p7 = subℕ 0 (p .p7);
+      score = worth (totalOf p);
+    }
 
 -- a score moved up so that none is negative: an unsigned number in the same order
 abbrev pub offsetOf : Balance → ℕ

@@ -1,13 +1,15 @@
 // Balances: sums, the topic cap, the parts of P5, P6 and P7, the whole score, and how a score is compared and returned.
 ghost use mathlib.Core.Path.{_≡_};
 ghost use Prim.Native.Nat.{_+_, _*_, _≤_};
+ghost use lib.IntN.{subℕ};
 ghost use Rattle.groups.specs.Codes.{codeOf};
 ghost use Rattle.score.specs.Ranges.{ScoreParamsIn, TopicsIn, PartsIn, BalanceIn};
 ghost use Rattle.score.specs.Parts.{square};
-ghost use Rattle.score.specs.Sums.{worth, addOf, cappedOf, p5Of, p6Of, p7Of, partsOf, totalOf, offsetOf, negativeOf, belowOf};
+ghost use Rattle.score.specs.Sums.{worth, addOf, cappedOf, p5Of, p6Of, p7Of, partsOf, totalOf, offsetOf, negativeOf, belowOf, toldOf};
 use crate::Balance;
 use crate::Parts;
 use crate::ScoreParams;
+use crate::Why;
 use crate::topic::excess;
 use crate::topic::least;
 use crate::topic::squared;
@@ -121,7 +123,7 @@ pub fn is_below(b: Balance, thousandths: u64) -> bool
     b.gain + thousandths * 1000000 < b.loss
 }
 
-// The score as the host gets it.
+// A balance as the host gets it.
 pub fn signed(b: Balance) -> i64
     requires { ⌜ BalanceIn b ⌝ }
     ensures { λ r. ⌜ r ≡ worth b ⌝ }
@@ -129,7 +131,30 @@ pub fn signed(b: Balance) -> i64
     groups::number_of(code(b))
 }
 
-// The score's code: 2n, or -2n - 1.
+// What is taken away, as the host gets it.
+fn lost(n: u64) -> i64
+    requires { ⌜ n ≤ 100000000000000000 ⌝ }
+    ensures { λ r. ⌜ r ≡ subℕ 0 n ⌝ }
+{
+    signed(Balance { gain: 0, loss: n })
+}
+
+// The parts and the score as the host gets them.
+pub fn why(p: Parts) -> Why
+    requires { ⌜ PartsIn p ⌝ }
+    ensures { λ r. ⌜ r ≡ toldOf p ⌝ }
+{
+    Why {
+        topics: signed(p.topics),
+        capped: signed(p.capped),
+        p5: signed(p.p5),
+        p6: lost(p.p6),
+        p7: lost(p.p7),
+        score: signed(total(p)),
+    }
+}
+
+// A balance's code: 2n, or -2n - 1.
 fn code(b: Balance) -> u64
     requires { ⌜ BalanceIn b ⌝ }
     ensures { λ r. ⌜ r ≡ codeOf (worth b) ⌝ }

@@ -1,8 +1,7 @@
 -- `peers::score_from` meets its contract.
 -- Assumes nothing.
-use mathlib.Core.Path.{refl, ap, _∙_}
-use borrow.Author.Needs.{needs, sfits-of}
-use mir.Facts.{toZ-ofZ}
+use mathlib.Core.Path.{refl, ap}
+use borrow.Author.Needs.{needs}
 use Rattle.rules.specs.declared.Answer.the-variants.{Scored}
 use Rattle.rules.specs.Step.{effect}
 use Rattle.rules.proofs.PromiseLaws.{leaves-moved}
@@ -13,9 +12,8 @@ use Rattle.peers.proofs.score_from.Tie as tie
 returns-2 : tie.Need-returns-2
 unfolding effect
 returns-2 c =
-    let e = toZ-ofZ (sfits-of (c .before .before .before .before .signed .ok)) ∙ c .before .before .before .before .signed .ensures ∙ c .before .before .before .before .before .score-of .ensures .score in
-    peer-at _ _ _ _ (search) _ _ _ (c .before .before .before .before .before .before .before .before .slot .given .1)
-    (leaves-moved _ _ _ _ (ap Scored e) refl (c .before .before .store-clock .ensures))
+    peer-at _ _ _ _ (search) _ _ _ (c .before .before .before .before .before .before .before .slot .given .1)
+    (leaves-moved _ _ _ _ (ap Scored (c .before .before .before .before .why-of .ensures)) refl (c .before .before .store-clock .ensures))
 
 pub score-from-spec : {M : Type 1} → statement M
 unfolding effect
@@ -28,7 +26,6 @@ score-from-spec =
     (λ c. search needs)
     (λ c. search peer-none)
     (λ c κs. (search needs, (search needs, search found-below)))
-    (λ c κs. search needs)
     (λ c κs. search needs)
     (λ c. search needs)
     returns-2)
