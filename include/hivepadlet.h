@@ -94,15 +94,17 @@ extern "C" {
 #define HIVEPADLET_MAX_TIME (UINT64_C(1) << 40) /* milliseconds */
 #define HIVEPADLET_POINT INT64_C(1000000000)    /* one point of a score */
 
-/* ---- a score and its parts, each in 10^-9 points; the score is the sum of the four before it */
+/* ---- why a score is what it is: five parts, then the score, which is the sum of the four before it; all in 10^-9 points */
 
 enum hivepadlet_why {
-    HIVEPADLET_WHY_TOPICS = 0, /* what all topics add, before the topic cap */
-    HIVEPADLET_WHY_CAPPED = 1, /* the same, bounded by the topic cap */
-    HIVEPADLET_WHY_P5 = 2,     /* the host's own points */
-    HIVEPADLET_WHY_P6 = 3,     /* peers that share an address group */
-    HIVEPADLET_WHY_P7 = 4,     /* GRAFTs during a backoff */
-    HIVEPADLET_WHY_SCORE = 5
+    HIVEPADLET_WHY_TOPICS = 0, /* all topics together, before the topic cap: time in the mesh (P1) and first deliveries (P2) raise
+                                  it; too few deliveries of a mesh member (P3), the same when it was pruned (P3b) and invalid
+                                  messages (P4) lower it */
+    HIVEPADLET_WHY_CAPPED = 1, /* the same, cut to the topic cap where it is above it: what counts in the score */
+    HIVEPADLET_WHY_P5 = 2,     /* the host's own points for the peer (hivepadlet_rate) times W5 */
+    HIVEPADLET_WHY_P6 = 3,     /* never above 0: more connected peers of its address group than P6_THRESHOLD */
+    HIVEPADLET_WHY_P7 = 4,     /* never above 0: GRAFTs that it sent during a backoff */
+    HIVEPADLET_WHY_SCORE = 5   /* below 0 the peer is put out of every mesh; below GRAYLIST_THRESHOLD it is not heard */
 };
 
 /* ---- the answers' numbers, and the value that goes with each */
@@ -301,7 +303,7 @@ uint64_t hivepadlet_graft(uint64_t table[HIVEPADLET_CELLS], uint64_t time, uint6
                           size_t actions_length);
 
 /* A PRUNE came in, with the seconds of its backoff: 0 where it had none, any number else (above 3600 counts as 3600). The peer
- * is out of the mesh, and is sent no GRAFT before the backoff is over. 0, or 11 also where the topic is not joined. */
+ * is out of the mesh, and is sent no GRAFT before the backoff is over by a second. 0, or 11 also where the topic is not joined. */
 uint64_t hivepadlet_prune(uint64_t table[HIVEPADLET_CELLS], uint64_t time, uint64_t id, uint64_t topic, uint64_t seconds,
                           uint32_t *actions, size_t actions_length);
 
