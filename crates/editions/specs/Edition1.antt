@@ -1,5 +1,5 @@
 -- Step 3 as 01 has it, for the law that edition 1's parameters keep it (proofs/EditionOne.antt).
--- Definitions only; generic in the slot count n.
+-- Over any slot count n.
 use Prim.Native.Nat.{ℕ, zero, suc}
 use mathlib.Core.Bool.{Bool, true, false, cond, _&&_}
 use mathlib.Core.List.{List}

@@ -3,7 +3,6 @@
 use Prim.Native.Nat.{ℕ}
 use mathlib.Core.Path.{_≡_}
 use mathlib.Core.Bool.{Bool, true, false}
-use mathlib.Core.List.{[], _∷_}
 use lib.ListN.{set}
 use Rattle.records.specs.Records.{State, slotCount}
 use Rattle.effects.specs.Effects.{onPeer, withP5, isMember}

@@ -1,9 +1,9 @@
 -- Laws of the actions as numbers in a list: one action written, a run of them, and the runs of the five steps one after the other.
 -- Assumes nothing.
-use Prim.Native.Nat.{ℕ, zero, suc, _+_, _*_, _≤_, _<_}
+use Prim.Native.Nat.{ℕ, suc, _+_, _*_, _≤_, _<_}
 use native.Mathlib.Omega.{arith}
 use mathlib.Core.Path.{_≡_, refl, sym, ap, ap₂, _∙_, subst}
-use mathlib.Core.Bool.{Bool, true, false, false≢true}
+use mathlib.Core.Bool.{Bool, true, false}
 use mathlib.Core.List.{List, [], _∷_, _++_, map}
 use lib.ListN.{length, getD, drop, length-append}
 use lib.Seq.{sets, length-sets}
@@ -13,6 +13,7 @@ use Rattle.index.proofs.Lists.{sets-append}
 use Rattle.sets.specs.Sets.{at, size, inOrder, ascending}
 use Rattle.mesh.specs.Maintenance.{Action, action, actionsOn, actionsOf, secondsOf, numbersOf, Narrow, Writable, Written}
 use Rattle.mesh.specs.declared.Changes.{Changes}
+use Rattle.sets.proofs.SetLaws.{size-unset}
 use Rattle.sets.proofs.WalkLaws.{inOrder-step, inOrder-end}
 
 pub seconds-narrow : (k : ℕ) (seconds : List ℕ) (s : ℕ) → Narrow seconds → secondsOf k seconds s ≤ 4294967295
@@ -69,13 +70,6 @@ module _ (k : ℕ) (p : List Bool) (d : List ℕ) (i : ℕ) where
   acts-end h = ap (map (action k)) (inOrder-end p d i h)
 
 -- of an empty set there is nothing to do
-some : (p : List Bool) (s : ℕ) → at p s ≡ true → 1 ≤ size p
-unfolding size
-some [] s e = absurd (false≢true e)
-some (true ∷ p) s e = omega arith
-some (false ∷ p) zero e = absurd (false≢true e)
-some (false ∷ p) (suc s) e = some p s e
-
 none-in : (p : List Bool) (d : List ℕ) → size p ≡ 0 → inOrder p d ≡ []
 unfolding inOrder
 none-in p [] e = refl
@@ -85,7 +79,7 @@ none-in p (s ∷ d) e =
     (at p s)
     (s ∷ inOrder p d)
     (inOrder p d)
-    (λ t. absurd (omega (arith, some p s t, e)))
+    (λ t. absurd (omega (arith, size-unset p s t, e)))
     (λ t. none-in p d e)
 
 pub written-none :

@@ -1,6 +1,6 @@
 -- A maintenance has at most one action for each slot.
 -- Assumes nothing.
-use Prim.Native.Nat.{ℕ, _+_, _-_, _*_, _≤_}
+use Prim.Native.Nat.{ℕ, _+_, _-_, _*_, _≤_, _<_}
 use native.Mathlib.Omega.{arith}
 use mathlib.Core.Path.{_≡_, refl, sym, ap, _∙_, subst}
 use mathlib.Core.Bool.{Bool, true, false, not, cond, false≢true}
@@ -9,11 +9,11 @@ use mathlib.Core.List.{List, [], _∷_}
 use lib.ListN.{length, set, length-append, length-map}
 use lib.Seq.{getD-set-other}
 use lib.Dec.{ltb}
-use borrow.Author.Tests.{ltb-true, le-ltb}
+use borrow.Author.Tests.{ltb-true}
 use Rattle.index.proofs.Index.{both as halves}
 use Rattle.index.proofs.Flags.{by-test, cond-case}
 use Rattle.sets.specs.Sets.{at, Sub, size, except, occurs, ascending, inOrder, fill}
-use Rattle.mesh.specs.Maintenance.{goods, mesh1, mesh2, theBest, swapped, mesh3, mesh4, mesh5, meshes, changesOf, action, actionsOn, actionsOf, Narrow, Writable, Rules, Whole}
+use Rattle.mesh.specs.Maintenance.{goods, mesh1, mesh2, mesh3, mesh4, mesh5, meshes, changesOf, action, actionsOn, actionsOf, Narrow, Writable, Rules, Whole}
 use Rattle.mesh.specs.declared.Degrees.{Degrees}
 use Rattle.mesh.specs.declared.View.{View}
 use Rattle.mesh.specs.declared.Meshes.{Meshes}
@@ -97,25 +97,39 @@ record Few (n : ℕ) (start : List Bool) (m : Meshes) : Type 0 where
       + size (except (m .fifth) (m .fourth))
       ≤ n
 
+-- step 2 leaves at most D_hi members or changes nothing, and step 3 changes nothing at D_hi members or fewer
+pub two-small :
+    (t : Degrees) (v : View) → Rules t → (m : List Bool) → (mesh2 t v m ≡ m) ⊎ (size (mesh2 t v m) ≤ t .hi)
+unfolding mesh2
+two-small t v ru m =
+    cond-case (λ r. (r ≡ m) ⊎ (size r ≤ t .hi)) (ltb (size m) (t .lo))
+    (fill (v .candidates) (t .d - size m) (v .permutation) m)
+    m
+    (λ e.
+    let l = ltb-true (size m) (t .lo) e in
+    let u = fill-upper (v .candidates) size size-set-le (v .permutation) (t .d - size m) m in
+    let a = ru .lo-d in
+    let c = ru .d-hi in
+    inr (omega arith))
+    (λ e. inl refl)
+
+pub three-idle : (n : ℕ) (t : Degrees) (v : View) (m : List Bool) → (mesh3 n t v m ≡ m) ⊎ (t .hi < size m)
+unfolding mesh3
+three-idle n t v m =
+    cond-case (λ r. (r ≡ m) ⊎ (t .hi < size m)) (ltb (t .hi) (size m)) _ m
+    (λ e. inr (ltb-true (t .hi) (size m) e))
+    (λ e. inl refl)
+
 module _
     (n : ℕ) (t : Degrees) (v : View) (ru : Rules t) (w : Whole n v)
     (apart : (s : ℕ) → at (v .members) s ≡ true → at (v .candidates) s ≡ true → ⊥) where
   -- step 2 or step 3 changes nothing
   idle : (m : List Bool) → (mesh2 t v m ≡ m) ⊎ (mesh3 n t v (mesh2 t v m) ≡ mesh2 t v m)
-  unfolding mesh2 mesh3
   idle m =
-      let f = fill (v .candidates) (t .d - size m) (v .permutation) m in
-      cond-case (λ r. (r ≡ m) ⊎ (mesh3 n t v r ≡ r)) (ltb (size m) (t .lo))
-      (fill (v .candidates) (t .d - size m) (v .permutation) m)
-      m
-      (λ e.
-      let l = ltb-true (size m) (t .lo) e in
-      let u = fill-upper (v .candidates) size size-set-le (v .permutation) (t .d - size m) m in
-      let a = ru .lo-d in
-      let c = ru .d-hi in
-      let small : size f ≤ t .hi = omega arith in
-      inr (ap (λ (b : Bool). cond b (swapped n t v f (theBest n t v f)) f) (le-ltb (t .hi) (size f) small)))
-      (λ e. inl refl)
+      ⊎-elim
+      (λ e. inl e)
+      (λ small. ⊎-elim (λ e. inr e) (λ over. absurd (omega arith)) (three-idle n t v (mesh2 t v m)))
+      (two-small t v ru m)
 
   sub1 : Sub (mesh1 v) (v .members)
   unfolding mesh1

@@ -48,7 +48,7 @@ mesh2 t v m = cond (ltb (size m) (t .lo)) (fill (v .candidates) (t .d - size m) 
 
 -- "3. Over D_hi: keep the D_score best (ties in draw order), then others in draw order to make D. If fewer than D_out kept are outbound, swap:
 -- out goes the last drawn inbound keeper of the non-best, in comes the first left-out outbound in draw order, until D_out or none is left. PRUNE
--- the rest." In edition 2 of the parameters, once no drawn one is left, the lowest of the best goes (crate sets, `goer`).
+-- the rest." Where no drawn one is left the lowest of the best goes (`goer`, sets/Sets), as order 14 has it; under 01's rules that never happens.
 unfoldable pub theBest : ℕ → Degrees → View → List Bool → List Bool
 theBest n t v m = bests n (v .scores) m (v .permutation) (t .score) (replicate n false)
 
@@ -145,8 +145,8 @@ pub record Written (ids seconds : List ℕ) (x : List Action) (l : List ℕ) (n 
   pub many : m ≡ n + length x
   pub list : r ≡ sets l (3 * n) (numbersOf ids seconds x)
 
--- What the claims below ask: joint rules on the degrees that both editions' give (01's score + out ≤ d; edition 2's score ≤ d and out < lo), and a view that is whole: lists by slot, a right permutation,
--- and candidates whose score is not negative.
+-- What the claims below ask: rules on the degrees that 01's joint rules give, and order 14's too (01's score + out ≤ d, or score ≤ d with
+-- out < lo), and a view that is whole: lists by slot, a right permutation, and candidates whose score is not negative.
 pub record Rules (t : Degrees) : Type 0 where
   pub lo-d : t .lo ≤ t .d
   pub d-hi : t .d ≤ t .hi

@@ -1,25 +1,27 @@
--- Order 13, of the five steps: a better score never loses the place.
+-- A better score never loses the place, of the five steps (02, order 13). A slot that ends as a member is good in both views, so steps 1 and 2
+-- leave the same mesh. Is it not in it, all later steps agree; is it in it, only step 3 can take it out, and there it is kept (StepThree).
 -- Assumes nothing.
-use Prim.Native.Nat.{ℕ, suc, _+_, _-_, _/_, _≤_, _<_}
+use Prim.Native.Nat.{ℕ, suc, _+_, _-_, _/_, _≤_}
 use native.Mathlib.Nat.{suc-inj}
 use native.Mathlib.Omega.{arith}
 use mathlib.Core.Path.{_≡_, refl, sym, ap, ap₂, _∙_, subst}
 use mathlib.Core.Bool.{Bool, true, false, cond, _&&_, false≢true}
-use mathlib.Core.Logic.{_⊎_, inl, inr, ⊎-elim}
+use mathlib.Core.Logic.{_⊎_, ⊎-elim}
 use mathlib.Core.List.{List, [], _∷_}
 use lib.ListN.{length, getD}
 use lib.Seq.{ext-getD}
 use lib.Dec.{ltb, leb, eqb}
-use borrow.Author.Tests.{ltb-true, le-leb, leb-true, eqb-true, eqb-false}
-use Rattle.index.proofs.Flags.{by-test, by-order, cond-case}
+use borrow.Author.Tests.{le-leb, leb-true, eqb-true, eqb-false}
+use Rattle.index.proofs.Flags.{by-test, by-order}
 use Rattle.sets.specs.Sets.{at, Sub, size, both, from, above, fill, scoresOf, sort}
 use Rattle.sets.proofs.WalkLaws.{at-below, at-past, from-at, from-length, above-is}
-use Rattle.sets.proofs.CountLaws.{size-set-le, fill-only, fill-upper}
+use Rattle.sets.proofs.CountLaws.{fill-only}
 use Rattle.sets.proofs.SetLaws.{both-left, both-right}
 use Rattle.mesh.specs.Maintenance.{zeroScore, goods, mesh1, mesh2, mesh3, mesh4, median, mesh5, meshes, maintained, Rules}
 use Rattle.mesh.specs.declared.Degrees.{Degrees}
 use Rattle.mesh.specs.declared.View.{View}
 use Rattle.monotone.specs.Better.{Better}
+use Rattle.mesh.proofs.Bound.{two-small, three-idle}
 use Rattle.mesh.proofs.MaintenanceLaws.{Adds, Keeps, len1, adds2, keeps3, adds4, adds5, maintained-keeps}
 use Rattle.monotone.proofs.StepThree.{again, kept3, same3}
 
@@ -76,29 +78,6 @@ same-scores (false ∷ m) (v ∷ sc) (u ∷ sc′) l h = same-scores m sc sc′ 
 mesh1-left : (v : View) → Sub (mesh1 v) (v .members)
 unfolding mesh1
 mesh1-left v = both-left (v .members) (goods v)
-
--- step 2 grafts to D at the most, so that step 3 has nothing to do after it
-two-small :
-    (t : Degrees) (v : View) → Rules t → (m : List Bool) → (mesh2 t v m ≡ m) ⊎ (size (mesh2 t v m) ≤ t .hi)
-unfolding mesh2
-two-small t v ru m =
-    cond-case (λ r. (r ≡ m) ⊎ (size r ≤ t .hi)) (ltb (size m) (t .lo))
-    (fill (v .candidates) (t .d - size m) (v .permutation) m)
-    m
-    (λ e.
-    let l = ltb-true (size m) (t .lo) e in
-    let u = fill-upper (v .candidates) size size-set-le (v .permutation) (t .d - size m) m in
-    let a = ru .lo-d in
-    let c = ru .d-hi in
-    inr (omega arith))
-    (λ e. inl refl)
-
-three-idle : (n : ℕ) (t : Degrees) (v : View) (m : List Bool) → (mesh3 n t v m ≡ m) ⊎ (t .hi < size m)
-unfolding mesh3
-three-idle n t v m =
-    cond-case (λ r. (r ≡ m) ⊎ (t .hi < size m)) (ltb (t .hi) (size m)) _ m
-    (λ e. inr (ltb-true (t .hi) (size m) e))
-    (λ e. inl refl)
 
 module _
     (n : ℕ) (t : Degrees) (v : View) (sc′ : List ℕ) (c′ : List Bool) (ru : Rules t) (x : ℕ) (be : Better n x v (again v sc′ c′))

@@ -1,4 +1,5 @@
--- Step 3 where one slot's score rises: a slot that it keeps is kept.
+-- Step 3 where one slot's score rises: if it kept the slot it still does. The best are the same, and then so are all swaps; or the slot is new
+-- among them, and since it stayed before, fewer swaps are needed than there are drawn inbound keepers, so that none of the best goes.
 -- Assumes nothing.
 use Prim.Native.Nat.{ℕ, _-_, _≤_, _<_}
 use native.Mathlib.Omega.{arith}

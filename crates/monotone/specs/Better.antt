@@ -1,5 +1,4 @@
--- Order 13: "A better score never loses the place."
--- Definitions only; generic in the slot count n.
+-- Two routers alike but for one peer's score, as mesh maintenance sees them (02, order 13). Over any slot count n.
 use Prim.Native.Nat.{ℕ, _≤_, _<_}
 use mathlib.Core.Path.{_≡_}
 use mathlib.Core.Bool.{true}

@@ -1,5 +1,5 @@
 -- The best by comparing every pair: "keep the D_score best (ties in draw order)". What the choice by picks is proved to give (order 2).
--- Definitions only; generic in the slot count n.
+-- Over any slot count n.
 use Prim.Native.Nat.{ℕ}
 use mathlib.Core.Bool.{Bool, false, not, _&&_, _||_}
 use mathlib.Core.List.{List, [], _∷_}

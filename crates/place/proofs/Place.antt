@@ -1,4 +1,5 @@
--- Order 13: the two views of a heartbeat, the meshes that are left, and the states.
+-- A better score never loses the place, of the calls (02, order 13): two states alike but for one P5 give two views alike but for one score, so
+-- what holds of the five steps holds of the mesh that a heartbeat writes back.
 -- Assumes nothing.
 use Prim.Native.Nat.{ℕ, _<_}
 use native.Mathlib.Omega.{arith}
@@ -57,16 +58,23 @@ module _
   abbrev u : State
   u = st′ st x code
 
-  -- a candidate asks for nothing else that P5 has a part in
+  -- a candidate by its record, its two flags and the sign of its score: P5 has a part in the last alone
+  abbrev grafts : ℕ → ℕ → Peer → Bool → Bool → Bool → Bool
+  grafts time t p subscribed member negative =
+      isConnected p
+      && (subscribed
+      && (eqb (p .explicit) 0 && (not member && (not negative && pastSlack (getD (p .backoff) t 0) time))))
+
   candidate-same :
       (time t s : ℕ) → isNegative u s ≡ isNegative st s → isCandidate u time t s ≡ isCandidate st time t s
   unfolding isCandidate withP5
   candidate-same time t s n =
-      ap (λ (b : Bool). isConnected (peerIn u s) && (isSubscribed u t s && (eqb (peerIn u s .explicit) 0 && (not (isMember u t s) && (not b && pastSlack (getD (peerIn u s .backoff) t 0) time))))) n
-      ∙ ap (λ (b : Bool). isConnected (peerIn u s) && (isSubscribed u t s && (eqb (peerIn u s .explicit) 0 && (not b && (not (isNegative st s) && pastSlack (getD (peerIn u s .backoff) t 0) time))))) (member-same st x code t s)
-      ∙ ap (λ (r : _). isConnected (peerIn u s) && (eqb (r .subscribed) 1 && (eqb (peerIn u s .explicit) 0 && (not (isMember st t s) && (not (isNegative st s) && pastSlack (getD (peerIn u s .backoff) t 0) time))))) (topic-after-peer st x (withP5 (peerIn st x) code) (place s t))
+      ap (grafts time t (peerIn u s) (isSubscribed u t s) (isMember u t s)) n
+      ∙ ap (λ (b : Bool). grafts time t (peerIn u s) (isSubscribed u t s) b (isNegative st s)) (member-same st x code t s)
+      ∙ ap (λ (r : _). grafts time t (peerIn u s) (eqb (r .subscribed) 1) (isMember st t s) (isNegative st s))
+      (topic-after-peer st x (withP5 (peerIn st x) code) (place s t))
       ∙ reads st x code
-      (λ (p : Peer). isConnected p && (isSubscribed st t s && (eqb (p .explicit) 0 && (not (isMember st t s) && (not (isNegative st s) && pastSlack (getD (p .backoff) t 0) time)))))
+      (λ (p : Peer). grafts time t p (isSubscribed st t s) (isMember st t s) (isNegative st s))
       (λ p. refl)
       s
 

@@ -1,5 +1,5 @@
--- The swaps of step 3, for both editions of the sheet: what they make of the keepers; who is never taken out; and that edition 1's swaps are the
--- same.
+-- The swaps of step 3: what they make of the keepers, and who is never taken out. A swap brings in an outbound member and takes out an inbound
+-- keeper, so that the size stays and the outbound count rises by one; each law is an induction on the swaps that are left.
 -- Assumes nothing.
 use Prim.Native.Nat.{ℕ, zero, suc, _+_, _≤_, _<_}
 use native.Mathlib.Omega.{arith}
