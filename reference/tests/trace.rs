@@ -176,5 +176,5 @@ fn sample_traces_are_readable() {
         assert_eq!(Trace::from_bytes(&trace.to_bytes()), trace);
         count += 1;
     }
-    assert!(count >= 11);
+    assert!(count >= 16);
 }
