@@ -8,7 +8,7 @@ pub use answers::Answers;
 
 use crate::event::{Call, Event, CALL_NAMES};
 use crate::params::{self, topic};
-use crate::router::{number, Answer, GraftCase, Place, Refusal, Router};
+use crate::router::{number, Answer, GraftCase, Place, Refusal, Router, Why};
 use std::collections::BTreeMap;
 use std::fmt::Write;
 
@@ -17,11 +17,12 @@ use std::fmt::Write;
 const REACHABLE: [u32; 9] = [0, 1, 2, 3, 4, 5, 6, 7, 11];
 
 /// The cases that every run reaches.
-const CASES: [&str; 35] = [
+const CASES: [&str; 41] = [
     "connect: fresh slot",
     "connect: resumed record",
     "connect: own record reclaimed",
     "connect: other records reclaimed",
+    "connect: a record reclaimed in a backoff's slack",
     "disconnect: member",
     "leave: PRUNEs",
     "leave: P3b grows",
@@ -36,6 +37,7 @@ const CASES: [&str; 35] = [
     "graft: FullForInbound",
     "graft: Accepted",
     "graft: outbound into a full mesh",
+    "graft: accepted in the slack",
     "graft: P7 at its limit",
     "prune: member",
     "prune: not a member",
@@ -53,7 +55,14 @@ const CASES: [&str; 35] = [
     "score: negative",
     "score: positive",
     "score: P6 counts",
+    "score: the cap cuts",
+    "score: P5 counts",
+    "score: P7 counts",
+    "score: every part counts",
 ];
+
+/// What only a table made by hand reaches.
+const MADE_CASE: &str = heartbeat::EARLY_END;
 
 #[derive(Default)]
 pub struct Coverage {
@@ -88,6 +97,14 @@ impl Coverage {
     pub fn missing(&self) -> Vec<String> {
         let mut missing = self.answers.missing(&REACHABLE);
         missing.extend(wanted_cases().filter(|case| !self.cases.contains_key(case)));
+        missing
+    }
+
+    /// The same, with what only a table made by hand reaches.
+    pub fn missing_with_made(&self) -> Vec<String> {
+        let mut missing = self.missing();
+        let made = format!("heartbeat: {MADE_CASE}");
+        missing.extend(Some(made).filter(|case| !self.cases.contains_key(case)));
         missing
     }
 
@@ -195,11 +212,14 @@ fn connect_cases(router: &Router, id: u32, now: u64) -> Facts {
     let place = router.place_for(id, now);
     let reclaimed = router.reclaimable_slots(now);
     let own = |slot: &usize| router.peers[*slot].id == id;
+    let ends = |slot: usize| router.peers[slot].backoff_ends.iter();
+    let in_slack = |slot: &usize| ends(*slot).any(|&end| heartbeat::in_slack(end, now));
     vec![
         fact("fresh slot", matches!(place, Some(Place::Fresh(_)))),
         fact("resumed record", matches!(place, Some(Place::Resumed(_)))),
         fact("own record reclaimed", reclaimed.iter().any(own)),
         fact("other records reclaimed", !reclaimed.iter().all(own)),
+        fact("a record reclaimed in a backoff's slack", reclaimed.iter().any(in_slack)),
     ]
 }
 
@@ -227,21 +247,32 @@ fn peer_cases(router: &Router, slot: usize, event: &Event) -> Facts {
             ]
         }
         Call::Delivery { topic, kind, .. } => delivery_cases(router, slot, topic as usize, kind),
-        _ => vec![
-            fact("negative", router.score(slot) < 0),
-            fact("positive", router.score(slot) > 0),
-            fact("P6 counts", router.surplus(peer) > 0),
-        ],
+        _ => score_cases(&router.why(slot)),
     }
+}
+
+fn score_cases(why: &Why) -> Facts {
+    let Why { total, capped, p5, p6, p7 } = *why;
+    vec![
+        fact("negative", why.score() < 0),
+        fact("positive", why.score() > 0),
+        fact("P6 counts", p6 < 0),
+        fact("the cap cuts", capped < total),
+        fact("P5 counts", p5 != 0),
+        fact("P7 counts", p7 < 0),
+        fact("every part counts", capped < total && p5 != 0 && p6 < 0 && p7 < 0),
+    ]
 }
 
 fn graft_cases(router: &Router, slot: usize, topic: usize, now: u64) -> Facts {
     let case = router.graft_case(now, slot, topic);
     let peer = &router.peers[slot];
+    let slack = heartbeat::in_slack(peer.backoff_ends[topic], now);
     let full = router.mesh(topic).len() >= router.params.general(params::general::D_HI) as usize;
     vec![
         fact(&format!("{case:?}"), true),
         fact("outbound into a full mesh", case == GraftCase::Accepted && full),
+        fact("accepted in the slack", case == GraftCase::Accepted && slack),
         fact("P7 at its limit", case == GraftCase::BackoffRunning && peer.p7 == 1_000_000),
     ]
 }

@@ -47,7 +47,7 @@ pub fn columns(trace: &Trace, output: &str) -> String {
             Some(printed) => (describe(&printed.answer, line), printed.lines),
             None => ("-".to_string(), Vec::new()),
         };
-        let details: Vec<String> = details.iter().map(|line| with_points(line)).collect();
+        let details: Vec<String> = details.iter().flat_map(|line| in_words(line)).collect();
         let first = details.first().map_or("", String::as_str);
         let row = format!("{event:width$}  {answer:20}  {first}");
         let _ = writeln!(out, "{}", row.trim_end());
@@ -82,13 +82,57 @@ pub fn printed(output: &str) -> Vec<Printed> {
     groups
 }
 
-/// A score, which is counted in 10^-9 points, is shown in points as well.
-fn with_points(line: &str) -> String {
-    let score = line.strip_prefix("S ").and_then(|number| number.parse::<i64>().ok());
-    let Some(score) = score else { return line.to_string() };
-    let sign = if score < 0 { "-" } else { "" };
-    let size = score.unsigned_abs();
-    let points = format!("{sign}{}.{:09}", size / 1_000_000_000, size % 1_000_000_000);
-    let points = points.trim_end_matches('0').trim_end_matches('.');
-    format!("{line} ({points} points)")
+/// The numbers of a score's line: its parts, and the score.
+pub fn score_numbers(line: &str) -> Option<[i64; 6]> {
+    let words = line.strip_prefix("S ")?.split(' ');
+    let numbers: Option<Vec<i64>> = words.map(|word| word.parse().ok()).collect();
+    numbers?.try_into().ok()
+}
+
+/// A printed line for people: of a score the points, which parts hold it below zero,
+/// and then all parts.
+fn in_words(line: &str) -> Vec<String> {
+    let Some(numbers) = score_numbers(line) else { return vec![line.to_string()] };
+    let [total, capped, p5, p6, p7, score] = numbers;
+    let parts =
+        [("topics", capped), ("application", p5), ("address group", p6), ("behaviour penalty", p7)];
+    let told = |(name, part): (&str, i64)| match name {
+        "topics" => format!("{name} {} (before the cap {})", points(part), points(total)),
+        _ => format!("{name} {}", points(part)),
+    };
+    let verdict =
+        if score < 0 { format!(", below zero by its {}", losses(&parts)) } else { String::new() };
+    vec![format!("score {} points{verdict}", points(score)), parts.map(told).join(", ")]
+}
+
+/// The parts that cost points, the dearest first.
+fn losses(parts: &[(&str, i64)]) -> String {
+    let mut losses: Vec<(&str, i64)> =
+        parts.iter().copied().filter(|(_, part)| *part < 0).collect();
+    losses.sort_by_key(|&(_, part)| part);
+    losses.iter().map(|(name, _)| *name).collect::<Vec<_>>().join(", then its ")
+}
+
+/// A number of 10^-9 points in points, with the digits that it needs and at least one.
+fn points(number: i64) -> String {
+    let sign = if number < 0 { "-" } else { "" };
+    let size = number.unsigned_abs();
+    let fraction = format!("{:09}", size % 1_000_000_000);
+    let digits = fraction.trim_end_matches('0');
+    let digits = if digits.is_empty() { "0" } else { digits };
+    format!("{sign}{}.{digits}", size / 1_000_000_000)
+}
+
+#[cfg(test)]
+mod tests {
+    use super::*;
+
+    #[test]
+    fn points_in_words() {
+        assert_eq!(points(0), "0.0");
+        assert_eq!(points(-10_000_000_000), "-10.0");
+        assert_eq!(points(3_985_000_000), "3.985");
+        assert_eq!(points(-1), "-0.000000001");
+        assert_eq!(points(-2_400_000_000_000_000_000), "-2400000000.0");
+    }
 }

@@ -10,7 +10,8 @@ mod tables;
 pub use connection::Place;
 pub use control::GraftCase;
 pub use heartbeat::{is_permutation, Plan};
-pub use tables::{Peer, Status, TopicRecord, Version};
+pub use score::Why;
+pub use tables::{Peer, Status, TopicRecord, Version, GRAFT_SLACK};
 
 use crate::event::{Call, Event, SLOTS};
 use crate::params::{self, general, Params, TOPICS};
@@ -41,7 +42,7 @@ pub enum Refusal {
 #[derive(Clone, Copy, PartialEq, Eq, Debug)]
 pub enum Done {
     Actions(usize),
-    Score(i64),
+    Score(Why),
 }
 
 pub type Answer = Result<Done, Refusal>;
@@ -134,7 +135,7 @@ impl Router {
             }
             Call::Score { id } => {
                 let slot = self.connected(id as u32)?;
-                return Ok(Some(Done::Score(self.score(slot))));
+                return Ok(Some(Done::Score(self.why(slot))));
             }
         }?;
         Ok(None)

@@ -1,5 +1,6 @@
 //! 01, "The trace program": parameters, then events, as bytes; one line an
-//! answer, an action or a score.
+//! answer, an action or a score (order 5 of 02: "The trace prints the five after S,
+//! then the score").
 
 use crate::event::{Call, Event, Permutation, SLOTS};
 use crate::groups;
@@ -46,7 +47,7 @@ pub fn run_events(mut router: Router, mut rest: &[u8]) -> String {
     out
 }
 
-/// An answer's line, and those of its actions or its score.
+/// An answer's line, and those of its actions or of its score with its parts.
 pub fn lines(answer: &Answer, list: &[u32]) -> String {
     let mut out = String::new();
     let count = if let Ok(Done::Actions(count)) = answer { *count } else { 0 };
@@ -57,8 +58,8 @@ pub fn lines(answer: &Answer, list: &[u32]) -> String {
             _ => writeln!(out, "P {} {}", action[1], action[2]),
         };
     }
-    if let Ok(Done::Score(score)) = answer {
-        let _ = writeln!(out, "S {score}");
+    if let Ok(Done::Score(why)) = answer {
+        let _ = writeln!(out, "S {}", why.numbers().map(|number| number.to_string()).join(" "));
     }
     out
 }

@@ -4,7 +4,8 @@
 
 use crate::event::{Call, Event, EXPLICIT_FLAG, OUTBOUND_FLAG};
 use crate::params::{general, Params, TOPICS};
-use crate::replay::{printed, Printed};
+use crate::replay::{self, printed, Printed};
+use crate::router::GRAFT_SLACK;
 use crate::text::{Line, Trace};
 use std::collections::BTreeMap;
 
@@ -121,9 +122,9 @@ impl Watch {
             }
             Call::Heartbeat { topic, .. } => self.heartbeat(topic, now, printed)?,
             Call::Score { id } => {
-                let line = printed.lines.first().and_then(|line| line.strip_prefix("S "));
-                let score = line.and_then(|number| number.parse().ok());
-                self.peer(id)?.score = Some(score.ok_or("a score without its line")?);
+                let why = printed.lines.first().and_then(|line| replay::score_numbers(line));
+                let [.., score] = why.ok_or("a score without its line")?;
+                self.peer(id)?.score = Some(score);
             }
             Call::Delivery { .. } | Call::SetP5 { .. } | Call::Decay => {}
         }
@@ -196,7 +197,8 @@ impl Watch {
         let mut pool = Vec::new();
         for (&id, peer) in self.peers.iter().filter(|(_, peer)| peer.connected) {
             let score = peer.score.ok_or_else(|| format!("the score of {id} was not asked"))?;
-            let free = now >= peer.backoff_ends[topic];
+            let end = peer.backoff_ends[topic];
+            let free = end == 0 || now >= end + GRAFT_SLACK;
             let candidate = peer.subscribed[topic] && !peer.explicit && free;
             match score >= 0 {
                 true if peer.member[topic] || candidate => pool.push(id),

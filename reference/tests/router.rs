@@ -85,10 +85,65 @@ fn bench_backoff() {
     call(&mut router, 10_000, Call::Prune { id: 1, topic: 0, seconds: 60 });
     assert!(router.peers[0].backoff_running(0, 69_999));
     assert!(!router.peers[0].backoff_running(0, 70_000));
-    assert!(!router.is_candidate(0, 0, 69_999));
-    assert!(router.is_candidate(0, 0, 70_000));
     call(&mut router, 11_000, Call::Prune { id: 1, topic: 0, seconds: 1 });
     assert_eq!(router.peers[0].backoff_ends[0], 70_000, "a smaller PRUNE shortens nothing");
+}
+
+#[test]
+fn our_own_graft_waits_a_second() {
+    // PRUNEd by peer 1 at 10,000 for 60 s: the end is 70,000, a candidate from 71,000.
+    let mut pruned = gathered(1, 0);
+    call(&mut pruned, 10_000, Call::Prune { id: 1, topic: 0, seconds: 60 });
+    for (now, grafts) in [(69_999, 0), (70_000, 0), (70_999, 0), (71_000, 1), (71_001, 1)] {
+        let mut router = pruned.clone();
+        assert_eq!(router.is_candidate(0, 0, now), grafts == 1, "at {now}");
+        let (answer, actions) = call(&mut router, now, heartbeat(0, 0));
+        assert_eq!((answer, actions.len()), (0, grafts), "at {now}");
+    }
+    // An incoming GRAFT goes by the end alone.
+    let mut router = pruned.clone();
+    assert_eq!(call(&mut router, 70_000, Call::Graft { id: 1, topic: 0 }), (0, vec![]));
+    assert_eq!(router.mesh(0), [0]);
+}
+
+#[test]
+fn an_end_of_0_has_no_slack() {
+    let mut router = gathered(1, 0);
+    assert!(router.is_candidate(0, 0, 0), "never set, at time 0");
+    // No call leaves an end of 1 to 999, but a router's table may hold one.
+    router.peers[0].backoff_ends[0] = 1;
+    assert!(router.is_valid());
+    assert!(!router.is_candidate(0, 0, 999) && !router.is_candidate(0, 0, 1000));
+    assert!(router.is_candidate(0, 0, 1001));
+}
+
+#[test]
+fn slack_in_the_quota_and_in_opportunism() {
+    // Four inbound members of 0 points, an outbound peer and an inbound one of 1 point, both with a
+    // backoff until 70,000 in topic 0.
+    let mut router = gathered(5, 1);
+    make_members(&mut router, 0..4);
+    for slot in [4, 5] {
+        router.peers[slot].p5 = 1_000_000;
+        router.peers[slot].backoff_ends[0] = 70_000;
+    }
+    let mut at = |now| call(&mut router, now, heartbeat(0, 1)).1;
+    assert!(at(70_999).is_empty());
+    // Step 4 grafts 6; five members of 0, 0, 0, 0, 1 have the median 0, and 5 is above it.
+    assert_eq!(at(71_000), [[GRAFT, 6, 0], [GRAFT, 5, 0]]);
+}
+
+#[test]
+fn records_are_emptied_by_the_end_alone() {
+    let mut router = router(&[(general::RETAIN, 1)]);
+    call(&mut router, 0, connect(1, 0));
+    call(&mut router, 0, Call::Join { topic: 0 });
+    call(&mut router, 0, Call::Prune { id: 1, topic: 0, seconds: 60 });
+    call(&mut router, 0, Call::Disconnect { id: 1 });
+    call(&mut router, 59_999, connect(2, 0));
+    assert_eq!(router.peers[0].id, 1);
+    call(&mut router, 60_000, connect(3, 0));
+    assert_eq!((router.peers[0].id, router.peers[1].id), (3, 2));
 }
 
 #[test]
@@ -156,6 +211,39 @@ fn cap_bounds_the_total() {
     assert_eq!(router.score(0), 50_000_000_000);
     router.peers[0].topics[0].p4 = 8_000;
     assert_eq!(router.score(0), (80 - 320) * 1_000_000_000);
+}
+
+#[test]
+fn a_score_says_its_parts() {
+    let mut router = router(&[(general::P6_THRESHOLD, 1), (general::W5, 2)]);
+    for id in [19, 20, 21] {
+        let name = V11.to_vec();
+        call(&mut router, 0, Call::Connect { id, group: 9, flags: 0, name });
+    }
+    for k in 0..8 {
+        router.peers[0].topics[k].p2 = 20_000;
+    }
+    router.peers[0].p5 = -7_000_000;
+    router.peers[0].p7 = 3_000;
+    // Eight topics of 500 * 20,000 * 1000 are 80 points, cut to the cap of 50. P5: 2 * -7 points. Three
+    // share the group, two above the threshold: -5 * 2^2. P7: -10 * 3^2.
+    let points = [80, 50, -14, -20, -90, 50 - 14 - 20 - 90];
+    let why = router.why(0);
+    assert_eq!(why.numbers(), points.map(|points: i64| points * 1_000_000_000));
+    assert_eq!((why.score(), router.score(0)), (-74_000_000_000, -74_000_000_000));
+    let mut list = [77; ACTION_LIST];
+    let asked = Event { now: 0, call: Call::Score { id: 19 } };
+    assert_eq!(router.call(&asked, &mut list), Ok(Done::Score(why)));
+    // The others have their group alone.
+    assert_eq!(router.why(1).numbers(), [0, 0, 0, -20, 0, -20].map(|p: i64| p * 1_000_000_000));
+    // A loss is not capped, and no cap cuts nothing.
+    router.peers[0].topics[0].p4 = 8_000;
+    let why = router.why(0);
+    assert_eq!((why.total, why.capped), (-240_000_000_000, -240_000_000_000));
+    router.peers[0].topics[0].p4 = 0;
+    router.params.numbers[general::TOPIC_CAP] = 0;
+    let why = router.why(0);
+    assert_eq!((why.total, why.capped), (80_000_000_000, 80_000_000_000));
 }
 
 #[test]

@@ -4,6 +4,7 @@ use reference::coverage::Coverage;
 use reference::generate::traces;
 use reference::params::Params;
 use reference::random::Random;
+use reference::replay;
 use reference::text::{self, Trace};
 use reference::trace;
 
@@ -29,8 +30,10 @@ G 7
 0 1
 P 7 60
 0 0
-S -10000000000
+S 0 0 0 0 -10000000000 -10000000000
 ";
+
+const SCORE: &str = "S 0 0 0 0 -10000000000 -10000000000";
 
 fn encoded(text: &str) -> Vec<u8> {
     text::parse(text).expect("a good text").to_bytes()
@@ -43,6 +46,58 @@ fn run(text: &str) -> String {
 #[test]
 fn worked_example() {
     assert_eq!(run(WORKED_EXAMPLE), EXPECTED);
+}
+
+#[test]
+fn a_score_prints_its_parts() {
+    // A first delivery is 0.5 points, an invalid one -5; the cap of 0.1 points cuts the first alone. P5 is
+    // 0.25 points, and the second peer of the group makes a surplus of 1: -5.
+    let text = "params ordinary
+param topic_cap 100
+param P6_threshold 1
+connect time=0 id=1 group=1 inbound /meshsub/1.1.0
+connect time=0 id=2 group=1 inbound /meshsub/1.1.0
+join time=0 topic=0
+delivery time=0 id=1 topic=0 first
+p5 time=0 id=1 value=250000
+score time=0 id=1
+delivery time=0 id=1 topic=0 invalid
+score time=0 id=1
+score time=0 id=3
+";
+    let expected = "0 0
+0 0
+0 0
+0 0
+0 0
+0 0
+S 500000000 100000000 250000000 -5000000000 0 -4650000000
+0 0
+0 0
+S -4500000000 -4500000000 250000000 -5000000000 0 -9250000000
+3 0
+";
+    assert_eq!(run(text), expected);
+}
+
+#[test]
+fn a_score_in_words() {
+    let trace = text::parse(WORKED_EXAMPLE).expect("a good text");
+    let columns = replay::columns(&trace, EXPECTED);
+    let words: Vec<&str> = columns.lines().rev().take(2).map(|line| line.trim_start()).collect();
+    let parts = "topics 0.0 (before the cap 0.0), application 0.0, address group 0.0, \
+                 behaviour penalty -10.0";
+    assert_eq!(words[0], parts);
+    assert!(words[1].starts_with("score time=5 id=7"));
+    assert!(words[1].ends_with("  score -10.0 points, below zero by its behaviour penalty"));
+    let other = "S 80000000000 50000000000 -1000000000 -45000000000 -10000000000 -6000000000";
+    let columns = replay::columns(&trace, &EXPECTED.replace(SCORE, other));
+    let losses = "address group, then its behaviour penalty, then its application";
+    assert!(columns.contains(&format!("score -6.0 points, below zero by its {losses}\n")));
+    assert!(columns.ends_with(
+        "topics 50.0 (before the cap 80.0), application -1.0, address group -45.0, \
+         behaviour penalty -10.0\n"
+    ));
 }
 
 #[test]
@@ -121,5 +176,5 @@ fn sample_traces_are_readable() {
         assert_eq!(Trace::from_bytes(&trace.to_bytes()), trace);
         count += 1;
     }
-    assert!(count >= 11);
+    assert!(count >= 16);
 }

@@ -5,7 +5,7 @@ use hivepadlet::cells::{Cells, CELLS};
 use hivepadlet::{number, value};
 use reference::event::{Call, Event};
 use reference::params::Params;
-use reference::router::{Answer, Done, Refusal};
+use reference::router::{Answer, Done, Refusal, Why};
 
 /// A router of the library: a lent table.
 #[derive(Clone)]
@@ -29,18 +29,25 @@ impl Router {
 
 impl Timed for Router {
     fn call(&mut self, event: &Event, list: &mut [u32]) -> Answer {
-        let mut score = 0;
-        let result = hivepadlet::call(&mut self.table, event, &mut score, list);
-        let score = matches!(event.call, Call::Score { .. }).then_some(score);
-        answer_of(result, score)
+        let mut why = [0; 6];
+        let result = hivepadlet::call(&mut self.table, event, &mut why, list);
+        let why = matches!(event.call, Call::Score { .. }).then(|| parts(&why));
+        answer_of(result, why)
     }
 }
 
-fn answer_of(result: u64, score: Option<i64>) -> Answer {
+/// The parts of a score, the sum of which is checked.
+fn parts(&[total, capped, p5, p6, p7, score]: &hivepadlet::Why) -> Why {
+    let why = Why { total, capped, p5, p6, p7 };
+    assert_eq!(why.score(), score, "a score is the sum of its parts");
+    why
+}
+
+fn answer_of(result: u64, why: Option<Why>) -> Answer {
     Err(match number(result) {
         0 => {
             let actions = Done::Actions(value(result) as usize);
-            return Ok(score.map_or(actions, Done::Score));
+            return Ok(why.map_or(actions, Done::Score));
         }
         1 => Refusal::ClockBack,
         2 => Refusal::OutOfRange,

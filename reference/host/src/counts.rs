@@ -50,7 +50,8 @@ impl Counts {
         if value(result) == SLOTS as u64 && request.list == ACTION_LIST {
             *self.full_lists.entry(request.event.call.name()).or_default() += 1;
         }
-        if let Ok(Done::Score(score)) = *answer {
+        if let Ok(Done::Score(why)) = *answer {
+            let score = why.score();
             self.lowest_score = self.lowest_score.min(score);
             self.highest_score = self.highest_score.max(score);
         }
@@ -82,7 +83,7 @@ impl Counts {
         missing.extend(absent.map(|length| format!("permutation of {length} numbers")));
         let absent = FULL_LISTS.iter().filter(|name| !self.full_lists.contains_key(*name));
         missing.extend(absent.map(|name| format!("{name} with 64 actions in 192 numbers")));
-        missing.extend(cases(&self.coverage.missing()));
+        missing.extend(cases(&self.coverage.missing_with_made()));
         missing.extend(wanted.into_iter().filter(|what| self.of(what) == 0));
         missing
     }

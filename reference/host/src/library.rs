@@ -1,15 +1,15 @@
 //! What the comparison asks of the library: its C functions, each with slices in the place of pointers
 //! and lengths.
 
-pub use hivepadlet::{number, packed, value, Numbers};
+pub use hivepadlet::{number, packed, value, Numbers, Why};
 
 use crate::cells::Cells;
 use crate::request::Request;
 
 pub trait Library {
     /// Makes one of the thirteen calls. The answer's number is the low eight bits of what comes back, the
-    /// count of actions stands above it; the score goes to the lent number.
-    fn call(&self, request: &Request, table: &mut Cells, score: &mut i64, list: &mut [u32]) -> u64;
+    /// count of actions stands above it; a score and its parts go to the lent numbers.
+    fn call(&self, request: &Request, table: &mut Cells, why: &mut Why, list: &mut [u32]) -> u64;
 
     fn ordinary(&self, numbers: &mut Numbers);
 

@@ -1,21 +1,21 @@
 //! The proved library, libhost.a.
 
 use crate::cells::Cells;
-use crate::library::{Library, Numbers};
+use crate::library::{Library, Numbers, Why};
 use crate::request::Request;
 use reference::event::Call;
 
 pub struct Linked;
 
 impl Library for Linked {
-    fn call(&self, request: &Request, table: &mut Cells, score: &mut i64, list: &mut [u32]) -> u64 {
+    fn call(&self, request: &Request, table: &mut Cells, why: &mut Why, list: &mut [u32]) -> u64 {
         let event = &request.event;
         match event.call {
             Call::Heartbeat { topic, ask, ref permutation } => {
                 let slots = request.permutation(permutation);
                 hivepadlet::heartbeat(table, event.now, topic, ask, slots, list)
             }
-            _ => hivepadlet::call(table, event, score, list),
+            _ => hivepadlet::call(table, event, why, list),
         }
     }
 

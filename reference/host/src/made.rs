@@ -128,13 +128,14 @@ fn counter(limit: i64, random: &mut Random) -> i64 {
     }
 }
 
-/// Over, running, or as late as can be.
+/// Over, running, or as late as can be; under 1000, where no call leaves an end, as well.
 fn end(clock: u64, limit: u64, random: &mut Random) -> u64 {
-    match random.below(5) {
+    match random.below(6) {
         0 => 0,
         1 => limit,
         2 => clock.min(limit),
         3 => limit.min(clock + random.below(60_000) as u64),
+        4 => limit.min(1 + random.below(999) as u64),
         _ => random.bits() % (limit + 1),
     }
 }
@@ -198,6 +199,33 @@ pub fn extreme(lowest: bool) -> Router {
             p5: sign * P5_LIMIT,
             p7: limit(P4_P7_LIMIT),
             topics: std::array::from_fn(|_| record.clone()),
+            ..Peer::default()
+        };
+    }
+    assert!(router.is_valid(), "made tables are a router's");
+    router
+}
+
+/// A router in its first second, some of its backoff ends under 1000, where no call leaves one.
+pub fn early(random: &mut Random) -> Router {
+    let params = traces::params(random);
+    let mut router = Router::new(params).expect("the parameters are good");
+    router.clock = random.below(1000) as u64;
+    router.joined = [true; TOPICS];
+    let filled = 4 + random.below(20);
+    for (slot, peer) in router.peers.iter_mut().take(filled).enumerate() {
+        let record = TopicRecord { subscribed: true, ..TopicRecord::default() };
+        *peer = Peer {
+            status: Status::Connected,
+            id: slot as u32 + 1,
+            group: slot as u32,
+            outbound: random.chance(1, 2),
+            version: Version::V11,
+            p5: random.between(0, 3) * 1_000_000,
+            topics: std::array::from_fn(|_| record.clone()),
+            backoff_ends: std::array::from_fn(|_| {
+                random.below(1000) as u64 * random.below(2) as u64
+            }),
             ..Peer::default()
         };
     }

@@ -5,10 +5,16 @@ use crate::lent::Lent;
 use crate::library::{number, value, Library};
 use crate::request::Request;
 use crate::stand_in::code;
+use reference::event::Call;
 use reference::router::{Answer, Done, Router};
 
 /// Of many cells that differ, so many are told.
 const SHOWN: usize = 12;
+
+/// A score is lent so many numbers, and what each of them is.
+const WHY: usize = PARTS.len();
+const PARTS: [&str; 6] =
+    ["topics before the cap", "topics after it", "P5", "P6", "P7", "the score itself"];
 
 /// What differs, a line each.
 #[derive(Clone, PartialEq, Eq, Debug)]
@@ -19,6 +25,8 @@ pub struct Pair<'a, L> {
     library: &'a L,
     table: Lent<u64>,
     list: Lent<u32>,
+    /// A score and its parts.
+    why: Lent<i64>,
     /// The table before the call; after it, by the second program.
     before: Box<Cells>,
     expected: Box<Cells>,
@@ -27,20 +35,13 @@ pub struct Pair<'a, L> {
     made: u64,
 }
 
-/// What the library gave back for one call.
-struct Given {
-    result: u64,
-    score: i64,
-    /// What stood in the lent number before.
-    score_before: i64,
-}
-
 impl<'a, L: Library> Pair<'a, L> {
     pub fn new(library: &'a L, start: &Router) -> Pair<'a, L> {
         let mut pair = Pair {
             library,
             table: Lent::new(CELLS, 0),
             list: Lent::default(),
+            why: Lent::default(),
             before: Box::new([0; CELLS]),
             expected: Box::new([0; CELLS]),
             other_list: Vec::new(),
@@ -62,16 +63,16 @@ impl<'a, L: Library> Pair<'a, L> {
 
     /// Makes a call on both sides. The router is the second program's, and holds the state of the table.
     pub fn make(&mut self, router: &mut Router, request: &Request) -> Result<Answer, Difference> {
-        let given = self.make_here(request);
+        let result = self.make_here(request);
         let answer = router.call(&request.event, &mut self.other_list);
         cells::write(router, &mut self.expected);
         let mut found = Vec::new();
-        self.compare_answer(&given, &answer, &mut found);
+        self.compare_answer(result, &answer, &mut found);
         self.compare_list(&mut found);
         self.compare_table(&mut found);
-        self.judge(request, &given, &mut found);
+        self.judge(request, result, &mut found);
         // What a refusal left was found unchanged.
-        if matches!(number(given.result), 0 | 11) {
+        if matches!(number(result), 0 | 11) {
             self.before.copy_from_slice(self.table.lent());
         }
         if found.is_empty() {
@@ -83,12 +84,12 @@ impl<'a, L: Library> Pair<'a, L> {
 
     /// Makes a call of a table that is no router's: 12 is due, and no change.
     pub fn refuse(&mut self, request: &Request) -> Result<(), Difference> {
-        let given = self.make_here(request);
+        let result = self.make_here(request);
         let mut found = Vec::new();
-        if given.result != 12 {
-            found.push(format!("answer: library {}, due 12", shown(given.result)));
+        if result != 12 {
+            found.push(format!("answer: library {}, due 12", shown(result)));
         }
-        self.judge(request, &given, &mut found);
+        self.judge(request, result, &mut found);
         if found.is_empty() {
             Ok(())
         } else {
@@ -113,30 +114,29 @@ impl<'a, L: Library> Pair<'a, L> {
         }
     }
 
-    fn make_here(&mut self, request: &Request) -> Given {
+    /// Makes a call on the library's side; gives what came back.
+    fn make_here(&mut self, request: &Request) -> u64 {
         self.made += 1;
         self.list.refill(request.list, self.made);
+        self.why.refill(WHY, self.made);
         self.other_list.clear();
         self.other_list.extend_from_slice(self.list.lent());
-        let score_before = !(self.made as i64);
-        let mut score = score_before;
         let table = self.table.lent_mut().try_into().expect("a table has its cells");
-        let result = self.library.call(request, table, &mut score, self.list.lent_mut());
-        Given { result, score, score_before }
+        let why = self.why.lent_mut().try_into().expect("six numbers are lent");
+        self.library.call(request, table, why, self.list.lent_mut())
     }
 
-    fn compare_answer(&self, given: &Given, answer: &Answer, found: &mut Vec<String>) {
+    fn compare_answer(&self, result: u64, answer: &Answer, found: &mut Vec<String>) {
         let due = code(answer);
-        if given.result != due {
-            let (library, second) = (shown(given.result), shown(due));
+        if result != due {
+            let (library, second) = (shown(result), shown(due));
             found.push(format!("answer: library {library}, second program {second}"));
         }
-        let score = match *answer {
-            Ok(Done::Score(score)) => score,
-            _ => given.score_before,
-        };
-        if given.score != score {
-            found.push(format!("score: library {}, due {score}", given.score));
+        let Ok(Done::Score(why)) = *answer else { return };
+        for (place, (library, due)) in self.why.lent().iter().zip(why.numbers()).enumerate() {
+            if *library != due {
+                found.push(format!("score, {}: library {library}, due {due}", PARTS[place]));
+            }
         }
     }
 
@@ -168,9 +168,10 @@ impl<'a, L: Library> Pair<'a, L> {
     }
 
     /// What the library owes whatever the second program says: nothing written outside of what is lent; a
-    /// refusal changes nothing, an ignored call the clock alone; the list past the actions stands.
-    fn judge(&self, request: &Request, given: &Given, found: &mut Vec<String>) {
-        let (number, count) = (number(given.result), value(given.result) as usize);
+    /// refusal changes nothing, an ignored call the clock alone; the list past the actions stands, and the
+    /// score's numbers of every call but an accepted score.
+    fn judge(&self, request: &Request, result: u64, found: &mut Vec<String>) {
+        let (number, count) = (number(result), value(result) as usize);
         let mut owe = |holds: bool, what: &str| {
             if !holds {
                 found.push(what.to_string());
@@ -182,6 +183,9 @@ impl<'a, L: Library> Pair<'a, L> {
             self.list.stands_from(if number == 0 { 3 * count } else { 0 }),
             "the library changed the list past its actions",
         );
+        let scored = number == 0 && matches!(request.event.call, Call::Score { .. });
+        owe(self.why.guards_stand(), "the library wrote outside of the score's numbers");
+        owe(scored || self.why.stands_from(0), "a call that gives no score changed its numbers");
         let changed_from = |cell: usize| self.table()[cell..] != self.before[cell..];
         match number {
             0 => {}
@@ -194,7 +198,6 @@ impl<'a, L: Library> Pair<'a, L> {
             }
             _ => {
                 owe(!changed_from(0), "a refused call changed the table");
-                owe(given.score == given.score_before, "a refused call changed the score");
             }
         }
     }

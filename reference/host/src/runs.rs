@@ -116,7 +116,8 @@ fn source(random: &mut Random) -> Source {
         0 => limits(random),
         1 => crowd(random),
         2..=6 => rounds(random),
-        7..=14 => from_made(random),
+        7..=12 => from_made(random),
+        13 | 14 => early(random),
         15 => {
             let lowest = random.chance(1, 2);
             with_script(made::extreme(lowest), VecDeque::new(), 100, random)
@@ -223,6 +224,21 @@ fn limits(mut random: Random) -> Source {
         script.push_back(Request::at(1003, Call::Score { id }));
     }
     with_script(fresh(params), script, 200, random)
+}
+
+/// Heartbeats of the first two seconds, over backoff ends under 1000.
+fn early(mut random: Random) -> Source {
+    let router = made::early(&mut random);
+    let mut now = router.clock;
+    let mut script = VecDeque::new();
+    while now < 2000 {
+        let (topic, ask) = (random.below(TOPICS) as u64, random.below(2) as u64);
+        let mut permutation = Box::new(std::array::from_fn(|slot| slot as u64));
+        random.shuffle(&mut permutation[..]);
+        script.push_back(Request::at(now, Call::Heartbeat { topic, ask, permutation }));
+        now += 1 + random.below(300) as u64;
+    }
+    with_script(router, script, 50, random)
 }
 
 /// 64 outbound members: a leave, and a heartbeat of which none is wanted any more, give 64 actions each,

@@ -2,7 +2,7 @@
 //! where there is no libhost.a, and its tests set faults into it.
 
 use crate::cells::{self, Cells};
-use crate::library::{packed, Library, Numbers};
+use crate::library::{packed, Library, Numbers, Why};
 use crate::request::Request;
 use reference::params::{self, Params};
 use reference::router::{number, Answer, Done, Refusal, Router};
@@ -22,13 +22,13 @@ fn code_of_refusal(refusal: params::Refusal) -> u64 {
 }
 
 impl Library for StandIn {
-    fn call(&self, request: &Request, table: &mut Cells, score: &mut i64, list: &mut [u32]) -> u64 {
+    fn call(&self, request: &Request, table: &mut Cells, why: &mut Why, list: &mut [u32]) -> u64 {
         let Some(mut router) = cells::router_of(table) else {
             return code(&Err(Refusal::NotARouter));
         };
         let answer = router.call(&request.event, list);
         if let Ok(Done::Score(given)) = answer {
-            *score = given;
+            *why = given.numbers();
         }
         // The tables of a router that is none may hold what no cell can.
         if answer != Err(Refusal::NotARouter) {

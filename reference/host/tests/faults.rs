@@ -5,7 +5,7 @@ use host_compare::cells::{
     self, peer, peer_cell, record, record_cell, Cells, CELLS, CLOCK, JOINED,
 };
 use host_compare::counts::Counts;
-use host_compare::library::{packed, Library, Numbers};
+use host_compare::library::{packed, Library, Numbers, Why};
 use host_compare::request::Request;
 use host_compare::stand_in::StandIn;
 use host_compare::{edges, made, parameters, report, runs, swept};
@@ -14,7 +14,7 @@ use reference::params::{general, topic, topic_index, COUNT};
 use reference::random::Random;
 use reference::router::{Router, ACTION_LIST};
 
-type CallOf = fn(&Request, &mut Cells, &mut i64, &mut [u32]) -> u64;
+type CallOf = fn(&Request, &mut Cells, &mut Why, &mut [u32]) -> u64;
 
 /// The stand-in with some functions replaced.
 struct Faulty {
@@ -27,8 +27,8 @@ struct Faulty {
 }
 
 impl Library for Faulty {
-    fn call(&self, r: &Request, table: &mut Cells, score: &mut i64, list: &mut [u32]) -> u64 {
-        (self.call)(r, table, score, list)
+    fn call(&self, r: &Request, table: &mut Cells, why: &mut Why, list: &mut [u32]) -> u64 {
+        (self.call)(r, table, why, list)
     }
     fn ordinary(&self, numbers: &mut Numbers) {
         (self.ordinary)(numbers)
@@ -48,7 +48,7 @@ impl Library for Faulty {
 }
 
 const SOUND: Faulty = Faulty {
-    call: |request, table, score, list| StandIn.call(request, table, score, list),
+    call: |request, table, why, list| StandIn.call(request, table, why, list),
     ordinary: |numbers| StandIn.ordinary(numbers),
     read: |bytes, numbers| StandIn.read(bytes, numbers),
     write: |numbers, buffer| StandIn.write(numbers, buffer),
@@ -103,7 +103,7 @@ fn without_a_fault_there_is_no_difference() {
 fn with_number(
     request: &Request,
     table: &mut Cells,
-    score: &mut i64,
+    why: &mut Why,
     list: &mut [u32],
     (index, step): (usize, u64),
 ) -> u64 {
@@ -113,27 +113,25 @@ fn with_number(
     if StandIn.is_router(table) == 0 {
         table[cell] = before;
     }
-    let result = StandIn.call(request, table, score, list);
+    let result = StandIn.call(request, table, why, list);
     table[cell] = before;
     result
 }
 
 #[test]
 fn wrong_answers_lists_and_tables_are_seen() {
-    let faults: [(&str, Faulty); 14] = [
+    let faults: [(&str, Faulty); 12] = [
         (
             "11 in the place of 3",
-            with_call(|request, table, score, list| {
-                match StandIn.call(request, table, score, list) {
-                    3 => 11,
-                    other => other,
-                }
+            with_call(|request, table, why, list| match StandIn.call(request, table, why, list) {
+                3 => 11,
+                other => other,
             }),
         ),
         (
             "one action too many told",
-            with_call(|request, table, score, list| {
-                let result = StandIn.call(request, table, score, list);
+            with_call(|request, table, why, list| {
+                let result = StandIn.call(request, table, why, list);
                 if result > 255 {
                     result + 256
                 } else {
@@ -143,8 +141,8 @@ fn wrong_answers_lists_and_tables_are_seen() {
         ),
         (
             "a refusal writes the list",
-            with_call(|request, table, score, list| {
-                let result = StandIn.call(request, table, score, list);
+            with_call(|request, table, why, list| {
+                let result = StandIn.call(request, table, why, list);
                 if let (1, Some(last)) = (result, list.last_mut()) {
                     *last = 0;
                 }
@@ -153,8 +151,8 @@ fn wrong_answers_lists_and_tables_are_seen() {
         ),
         (
             "the list past the actions is cleared",
-            with_call(|request, table, score, list| {
-                let result = StandIn.call(request, table, score, list);
+            with_call(|request, table, why, list| {
+                let result = StandIn.call(request, table, why, list);
                 if result > 255 {
                     list[3 * (result / 256) as usize..].fill(0);
                 }
@@ -163,8 +161,8 @@ fn wrong_answers_lists_and_tables_are_seen() {
         ),
         (
             "two actions change places",
-            with_call(|request, table, score, list| {
-                let result = StandIn.call(request, table, score, list);
+            with_call(|request, table, why, list| {
+                let result = StandIn.call(request, table, why, list);
                 if result == packed(0, 2) {
                     list[..6].rotate_left(3);
                 }
@@ -173,8 +171,8 @@ fn wrong_answers_lists_and_tables_are_seen() {
         ),
         (
             "a refusal moves the clock",
-            with_call(|request, table, score, list| {
-                let result = StandIn.call(request, table, score, list);
+            with_call(|request, table, why, list| {
+                let result = StandIn.call(request, table, why, list);
                 if result == 3 {
                     table[CLOCK] = request.event.now;
                 }
@@ -183,9 +181,9 @@ fn wrong_answers_lists_and_tables_are_seen() {
         ),
         (
             "an ignored call leaves the clock",
-            with_call(|request, table, score, list| {
+            with_call(|request, table, why, list| {
                 let clock = table[CLOCK];
-                let result = StandIn.call(request, table, score, list);
+                let result = StandIn.call(request, table, why, list);
                 if result == 11 {
                     table[CLOCK] = clock;
                 }
@@ -193,32 +191,11 @@ fn wrong_answers_lists_and_tables_are_seen() {
             }),
         ),
         (
-            "a refused score writes the number",
-            with_call(|request, table, score, list| {
-                let result = StandIn.call(request, table, score, list);
-                if result == 3 {
-                    *score = 0;
-                }
-                result
-            }),
-        ),
-        (
-            "a negative score is one off",
-            with_call(|request, table, score, list| {
-                let before = *score;
-                let result = StandIn.call(request, table, score, list);
-                if *score != before && *score < 0 {
-                    *score += 1;
-                }
-                result
-            }),
-        ),
-        (
             "one backoff end of one slot stands",
-            with_call(|request, table, score, list| {
+            with_call(|request, table, why, list| {
                 let cell = peer_cell(40, peer::BACKOFF_ENDS);
                 let before = table[cell];
-                let result = StandIn.call(request, table, score, list);
+                let result = StandIn.call(request, table, why, list);
                 if table[peer_cell(40, peer::STATUS)] == 1 {
                     table[cell] = before;
                 }
@@ -227,47 +204,206 @@ fn wrong_answers_lists_and_tables_are_seen() {
         ),
         (
             "a list of 191 numbers is taken",
-            with_call(|request, table, score, list| {
+            with_call(|request, table, why, list| {
                 if list.len() != ACTION_LIST - 1 {
-                    return StandIn.call(request, table, score, list);
+                    return StandIn.call(request, table, why, list);
                 }
                 let mut longer = [0; ACTION_LIST];
                 longer[..list.len()].copy_from_slice(list);
-                let result = StandIn.call(request, table, score, &mut longer);
+                let result = StandIn.call(request, table, why, &mut longer);
                 list.copy_from_slice(&longer[..ACTION_LIST - 1]);
                 result
             }),
         ),
         (
             "a permutation is read by its first 64 numbers",
-            with_call(|request, table, score, list| {
+            with_call(|request, table, why, list| {
                 let mut event = request.event.clone();
                 if let Call::Heartbeat { permutation, .. } = &mut event.call {
                     if let Some(slots) = request.permutation(&permutation.clone()).get(..SLOTS) {
                         permutation.copy_from_slice(slots);
                     }
                 }
-                StandIn.call(&Request::plain(event), table, score, list)
+                StandIn.call(&Request::plain(event), table, why, list)
             }),
         ),
         (
             "a protocol name is read by its first 14 bytes",
-            with_call(|request, table, score, list| {
+            with_call(|request, table, why, list| {
                 let mut request = request.clone();
                 if let Call::Connect { name, .. } = &mut request.event.call {
                     name.truncate(14);
                 }
-                StandIn.call(&request, table, score, list)
+                StandIn.call(&request, table, why, list)
             }),
         ),
         (
             "D_hi is one more",
-            with_call(|request, table, score, list| {
-                with_number(request, table, score, list, (general::D_HI, 1))
+            with_call(|request, table, why, list| {
+                with_number(request, table, why, list, (general::D_HI, 1))
             }),
         ),
     ];
     each_is_seen(&faults, |faulty| run(faulty, 60_000).is_some());
+}
+
+/// Whether a call gave a score.
+fn is_scored(request: &Request, result: u64) -> bool {
+    result == 0 && matches!(request.event.call, Call::Score { .. })
+}
+
+/// The stand-in with the numbers of each score changed.
+macro_rules! with_score {
+    ($change:expr) => {
+        with_call(|request, table, why, list| {
+            let result = StandIn.call(request, table, why, list);
+            if is_scored(request, result) {
+                let change: fn(&mut Why) = $change;
+                change(why);
+            }
+            result
+        })
+    };
+}
+
+#[test]
+fn wrong_scores_are_seen() {
+    let faults = [
+        (
+            "a refused score writes a number",
+            with_call(|request, table, why, list| {
+                let result = StandIn.call(request, table, why, list);
+                if result == 3 {
+                    why[4] = 0;
+                }
+                result
+            }),
+        ),
+        (
+            "another call than the score writes its numbers",
+            with_call(|request, table, why, list| {
+                let result = StandIn.call(request, table, why, list);
+                if matches!(request.event.call, Call::Decay) {
+                    why[0] = 0;
+                }
+                result
+            }),
+        ),
+        (
+            "the score is told without its parts",
+            with_call(|request, table, why, list| {
+                let before = *why;
+                let result = StandIn.call(request, table, why, list);
+                why[..5].copy_from_slice(&before[..5]);
+                result
+            }),
+        ),
+        (
+            "a negative score is one off",
+            with_score!(|why| {
+                if why[5] < 0 {
+                    why[5] += 1;
+                }
+            }),
+        ),
+        ("the parts are turned round", with_score!(|why| why[..5].reverse())),
+        ("the totals before and after the cap change places", with_score!(|why| why.swap(0, 1))),
+        ("P5 and P6 change places", with_score!(|why| why.swap(2, 3))),
+        ("P6 and P7 change places", with_score!(|why| why.swap(3, 4))),
+        ("the total is told after its cap both times", with_score!(|why| why[0] = why[1])),
+        (
+            "the score is the sum with the total before its cap",
+            with_score!(|why| why[5] += why[0] - why[1]),
+        ),
+    ];
+    each_is_seen(&faults, |faulty| run(faulty, 60_000).is_some());
+}
+
+/// The cell of a slot's backoff end in a topic.
+fn end_cell(slot: usize, topic: u64) -> usize {
+    peer_cell(slot, peer::BACKOFF_ENDS + (topic % 8) as usize)
+}
+
+/// The call on a table in which a topic's backoff ends are changed before, by the time; those that the call
+/// leaves as they are become the old ones again.
+fn with_ends(
+    (request, topic): (&Request, u64),
+    table: &mut Cells,
+    why: &mut Why,
+    list: &mut [u32],
+    other: fn(u64, u64) -> u64,
+) -> u64 {
+    let before = *table;
+    let mut changed = *table;
+    for slot in (0..SLOTS).filter(|&slot| before[peer_cell(slot, peer::STATUS)] == 1) {
+        let cell = end_cell(slot, topic);
+        changed[cell] = other(before[cell], request.event.now);
+    }
+    if StandIn.is_router(&changed) == 0 {
+        return StandIn.call(request, table, why, list);
+    }
+    *table = changed;
+    let result = StandIn.call(request, table, why, list);
+    for cell in (0..SLOTS).map(|slot| end_cell(slot, topic)) {
+        if table[cell] == changed[cell] {
+            table[cell] = before[cell];
+        }
+    }
+    result
+}
+
+/// The stand-in whose heartbeats, or incoming GRAFTs, see other backoff ends.
+macro_rules! with_ends_in {
+    ($call:ident, $other:expr) => {
+        with_call(|request, table, why, list| match request.event.call {
+            Call::$call { topic, .. } => with_ends((request, topic), table, why, list, $other),
+            _ => StandIn.call(request, table, why, list),
+        })
+    };
+}
+
+/// Order 3's wait after a backoff, in milliseconds.
+const SLACK: u64 = 1000;
+
+fn in_slack(end: u64, now: u64) -> bool {
+    end > 0 && (end..end + SLACK).contains(&now)
+}
+
+#[test]
+fn a_wrong_wait_after_a_backoff_is_seen() {
+    let faults = [
+        (
+            "our own GRAFT does not wait",
+            with_ends_in!(Heartbeat, |end, now| if in_slack(end, now) { 0 } else { end }),
+        ),
+        (
+            "our own GRAFT waits a millisecond too long",
+            with_ends_in!(Heartbeat, |end, now| end + u64::from(end > 0 && now == end + SLACK)),
+        ),
+        (
+            "our own GRAFT waits a millisecond too short",
+            with_ends_in!(Heartbeat, |end, now| {
+                if end > 0 && now + 1 == end + SLACK {
+                    0
+                } else {
+                    end
+                }
+            }),
+        ),
+        (
+            "our own GRAFT waits in the first second",
+            with_ends_in!(Heartbeat, |end, now| if now < SLACK { end.max(1) } else { end }),
+        ),
+        (
+            "an end under 1000 counts as none",
+            with_ends_in!(Heartbeat, |end, now| if end < SLACK && end <= now { 0 } else { end }),
+        ),
+        (
+            "an incoming GRAFT waits as our own",
+            with_ends_in!(Graft, |end, now| if in_slack(end, now) { end + SLACK } else { end }),
+        ),
+    ];
+    each_is_seen(&faults, |faulty| run(faulty, 200_000).is_some());
 }
 
 #[test]
@@ -275,53 +411,51 @@ fn numbers_taken_for_others_are_seen() {
     let faults = [
         (
             "a topic is read by eight bits",
-            with_call(|request, table, score, list| {
+            with_call(|request, table, why, list| {
                 let mut request = request.clone();
                 if let Call::Join { topic } = &mut request.event.call {
                     *topic %= 256;
                 }
-                StandIn.call(&request, table, score, list)
+                StandIn.call(&request, table, why, list)
             }),
         ),
         (
             "an id is read by 32 bits",
-            with_call(|request, table, score, list| {
+            with_call(|request, table, why, list| {
                 let mut request = request.clone();
                 if let Call::Disconnect { id } = &mut request.event.call {
                     *id %= 1 << 32;
                 }
-                StandIn.call(&request, table, score, list)
+                StandIn.call(&request, table, why, list)
             }),
         ),
         (
             "seconds are read by 32 bits",
-            with_call(|request, table, score, list| {
+            with_call(|request, table, why, list| {
                 let mut request = request.clone();
                 if let Call::Prune { seconds, .. } = &mut request.event.call {
                     *seconds %= 1 << 32;
                 }
-                StandIn.call(&request, table, score, list)
+                StandIn.call(&request, table, why, list)
             }),
         ),
         (
             "a P5 one past its range is the last in it",
-            with_call(|request, table, score, list| {
+            with_call(|request, table, why, list| {
                 let mut request = request.clone();
                 if let Call::SetP5 { value, .. } = &mut request.event.call {
                     if *value == P5_LIMIT + 1 {
                         *value = P5_LIMIT;
                     }
                 }
-                StandIn.call(&request, table, score, list)
+                StandIn.call(&request, table, why, list)
             }),
         ),
         (
             "a short list is told before a number out of its range",
-            with_call(|request, table, score, list| {
-                match StandIn.call(request, table, score, list) {
-                    2 if list.len() < ACTION_LIST => 8,
-                    other => other,
-                }
+            with_call(|request, table, why, list| match StandIn.call(request, table, why, list) {
+                2 if list.len() < ACTION_LIST => 8,
+                other => other,
             }),
         ),
     ];
@@ -343,9 +477,9 @@ fn blind(right: fn(&mut Cells), table: &mut Cells) -> bool {
 macro_rules! blind_to {
     ($right:expr) => {
         Faulty {
-            call: |request, table, score, list| {
+            call: |request, table, why, list| {
                 blind($right, table);
-                StandIn.call(request, table, score, list)
+                StandIn.call(request, table, why, list)
             },
             is_router: |table| {
                 let mut table = *table;
@@ -460,11 +594,11 @@ fn a_test_12_that_misses_something_is_seen() {
 #[test]
 fn a_test_12_that_refuses_too_much_is_seen() {
     let strict: Faulty = Faulty {
-        call: |request, table, score, list| {
+        call: |request, table, why, list| {
             if table[CLOCK] == LAST_TIME {
                 return 12;
             }
-            StandIn.call(request, table, score, list)
+            StandIn.call(request, table, why, list)
         },
         ..SOUND
     };
@@ -476,26 +610,26 @@ fn wrong_refusals_of_damaged_tables_are_seen() {
     let faults = [
         (
             "2 is told before 12",
-            with_call(|request, table, score, list| {
+            with_call(|request, table, why, list| {
                 if request.event.now > LAST_TIME {
                     return 2;
                 }
-                StandIn.call(request, table, score, list)
+                StandIn.call(request, table, why, list)
             }),
         ),
         (
             "8 is told before 12",
-            with_call(|request, table, score, list| {
+            with_call(|request, table, why, list| {
                 if list.len() < ACTION_LIST {
                     return 8;
                 }
-                StandIn.call(request, table, score, list)
+                StandIn.call(request, table, why, list)
             }),
         ),
         (
             "12 changes the table",
-            with_call(|request, table, score, list| {
-                let result = StandIn.call(request, table, score, list);
+            with_call(|request, table, why, list| {
+                let result = StandIn.call(request, table, why, list);
                 if result == 12 {
                     table[CELLS - 1] ^= 1;
                 }
@@ -504,8 +638,8 @@ fn wrong_refusals_of_damaged_tables_are_seen() {
         ),
         (
             "12 changes the list",
-            with_call(|request, table, score, list| {
-                let result = StandIn.call(request, table, score, list);
+            with_call(|request, table, why, list| {
+                let result = StandIn.call(request, table, why, list);
                 if result == 12 && !list.is_empty() {
                     list[0] ^= 1;
                 }
@@ -629,9 +763,9 @@ fn wrong_parameters_are_seen() {
 #[test]
 fn a_difference_is_told_by_few_calls() {
     // A peer's P7 grows by 1001.
-    let faulty = with_call(|request, table, score, list| {
+    let faulty = with_call(|request, table, why, list| {
         let before = *table;
-        let result = StandIn.call(request, table, score, list);
+        let result = StandIn.call(request, table, why, list);
         for slot in 0..SLOTS {
             let cell = peer_cell(slot, peer::P7);
             if table[cell] > before[cell] {

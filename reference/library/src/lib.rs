@@ -13,6 +13,10 @@ use reference::params::COUNT;
 /// The parameters.
 pub type Numbers = [i64; COUNT];
 
+/// The parts of a score and then the score, in 10^-9 points: topics before the cap, topics after it, P5, P6,
+/// P7, score.
+pub type Why = [i64; 6];
+
 /// A number of 01's table and the value that goes with it, as one number.
 pub fn packed(number: u32, value: usize) -> u64 {
     u64::from(number) + 256 * value as u64

@@ -2,7 +2,7 @@
 //! pointers and lengths.
 
 use crate::cells::Cells;
-use crate::Numbers;
+use crate::{Numbers, Why};
 use reference::event::{Call, Event};
 
 /// Declares the calls on a table, each by its own arguments; the others are the same in all.
@@ -24,7 +24,7 @@ declare_calls! {
     hivepadlet_connect(id: u64, group: u64, flags: u64, name: *const u8, name_length: usize);
     hivepadlet_disconnect(id: u64);
     hivepadlet_rate(id: u64, p5: i64);
-    hivepadlet_score(id: u64, score: &mut i64);
+    hivepadlet_score(id: u64, why: &mut Why);
     hivepadlet_join(topic: u64);
     hivepadlet_leave(topic: u64);
     hivepadlet_heartbeat(topic: u64, ask: u64, permutation: *const u64, permutation_length: usize);
@@ -48,8 +48,8 @@ extern "C" {
 // of as much memory as is said, for no overlap with what is written, and for one call at a time on a table.
 // References and slices, empty ones too, give all of it.
 
-/// Makes an event's call. A score goes to the lent number, with the answer 0 alone.
-pub fn call(table: &mut Cells, event: &Event, score: &mut i64, actions: &mut [u32]) -> u64 {
+/// Makes an event's call. A score and its parts go to the lent numbers, with the answer 0 alone.
+pub fn call(table: &mut Cells, event: &Event, why: &mut Why, actions: &mut [u32]) -> u64 {
     let now = event.now;
     let (list, length) = (actions.as_mut_ptr(), actions.len());
     unsafe {
@@ -79,7 +79,7 @@ pub fn call(table: &mut Cells, event: &Event, score: &mut i64, actions: &mut [u3
                 heartbeat(table, now, topic, ask, &permutation[..], actions)
             }
             Call::Decay => hivepadlet_decay(table, now, list, length),
-            Call::Score { id } => hivepadlet_score(table, now, id, score, list, length),
+            Call::Score { id } => hivepadlet_score(table, now, id, why, list, length),
         }
     }
 }

@@ -4,7 +4,7 @@
 pub use hivepadlet::Numbers;
 
 use hivepadlet::cells::{peer, peer_cell, record, record_cell, Cells, CELLS};
-use hivepadlet::{number, value};
+use hivepadlet::{number, value, Why};
 use reference::event::{Call, Event, OUTBOUND_FLAG, SLOTS};
 use reference::params::COUNT;
 use reference::router::{ACTION_LIST, GRAFT, PRUNE};
@@ -116,7 +116,8 @@ impl Router {
 
     /// A connected peer's score, in 10^-9 points.
     pub fn score(&mut self, time: u64, id: u32) -> i64 {
-        self.answer(time, Call::Score { id: u64::from(id) }).1
+        let [.., score] = self.answer(time, Call::Score { id: u64::from(id) }).1;
+        score
     }
 
     /// The peers that the table has a record of, by slot.
@@ -151,12 +152,12 @@ impl Router {
         self.answer(now, call).0
     }
 
-    /// A call's actions, and the score that only one call gives.
-    fn answer(&mut self, now: u64, call: Call) -> (Vec<Action>, i64) {
-        let mut score = 0;
+    /// A call's actions, and the score with its parts that only one call gives.
+    fn answer(&mut self, now: u64, call: Call) -> (Vec<Action>, Why) {
+        let mut why = [0; 6];
         let event = Event { now, call };
-        let result = hivepadlet::call(&mut self.table, &event, &mut score, &mut self.list);
-        (self.actions(result), score)
+        let result = hivepadlet::call(&mut self.table, &event, &mut why, &mut self.list);
+        (self.actions(result), why)
     }
 
     /// The actions of an answer. A refusal would be a fault of the simulation,

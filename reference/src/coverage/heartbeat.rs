@@ -2,11 +2,11 @@
 
 use crate::event::{Call, Event, Permutation, SLOTS};
 use crate::params::general;
-use crate::router::{is_permutation, Plan, Router};
+use crate::router::{is_permutation, Plan, Router, GRAFT_SLACK};
 use std::cmp::Reverse;
 
 /// The cases that every run reaches. Each is counted once a heartbeat.
-pub const CASES: [&str; 29] = [
+pub const CASES: [&str; 38] = [
     "ask over 1",
     "permutation: a slot twice",
     "permutation: a number over 63",
@@ -36,7 +36,19 @@ pub const CASES: [&str; 29] = [
     "asked: median at or over the threshold",
     "asked: median at the threshold",
     "nothing to do",
+    "step 2 goes without one for its slack alone",
+    "step 4 goes without one for its slack alone",
+    "step 5 goes without one for its slack alone",
+    "the slack keeps one out at its backoff's end",
+    "the slack keeps one out in its last millisecond",
+    "step 2 grafts one as its slack ends",
+    "step 4 grafts one as its slack ends",
+    "step 5 grafts one as its slack ends",
+    "grafts one without a backoff in the first second",
 ];
+
+/// No call leaves an end of 1 to 999, but a router's table may hold one.
+pub const EARLY_END: &str = "the slack keeps one out whose end is under 1000";
 
 type Facts = Vec<(&'static str, bool)>;
 
@@ -71,12 +83,39 @@ fn facts(router: &Router, event: &Event) -> Facts {
     }
 }
 
+/// All that a plan grafts, in its order.
+fn grafted_by(plan: &Plan) -> Vec<usize> {
+    [&plan.fill[..], &plan.quota, &plan.opportunistic].concat()
+}
+
+/// Is a backoff over, and our own GRAFT still to wait?
+pub fn in_slack(end: u64, now: u64) -> bool {
+    end > 0 && (end..end + GRAFT_SLACK).contains(&now)
+}
+
+/// The router with the backoffs forgotten for which our own GRAFT still waits, if there are any.
+fn without_slack(router: &Router, now: u64, topic: usize) -> Option<Router> {
+    let waits = |slot: &usize| in_slack(router.peers[*slot].backoff_ends[topic], now);
+    let waiting: Vec<usize> = (0..SLOTS).filter(waits).collect();
+    if waiting.is_empty() {
+        return None;
+    }
+    let mut hasty = router.clone();
+    for slot in waiting {
+        hasty.peers[slot].backoff_ends[topic] = 0;
+    }
+    Some(hasty)
+}
+
 /// A heartbeat that will be answered by 0: its plan, and what its start holds.
 struct Seen<'a> {
     router: &'a Router,
+    now: u64,
     topic: usize,
     asked: bool,
     plan: Plan,
+    /// The plan that would be, did our own GRAFT not wait after a backoff.
+    hasty: Plan,
     scores: Vec<i64>,
     /// All slots, and the candidates, in the permutation's order.
     order: Vec<usize>,
@@ -94,11 +133,18 @@ impl Seen<'_> {
     ) -> Seen<'a> {
         let order: Vec<usize> = permutation.iter().map(|&slot| slot as usize).collect();
         let is_candidate = |slot: &usize| router.is_candidate(*slot, topic, now);
+        let plan = router.heartbeat_plan(now, topic, asked, permutation);
+        let hasty = match without_slack(router, now, topic) {
+            Some(router) => router.heartbeat_plan(now, topic, asked, permutation),
+            None => plan.clone(),
+        };
         Seen {
             router,
+            now,
             topic,
             asked,
-            plan: router.heartbeat_plan(now, topic, asked, permutation),
+            plan,
+            hasty,
             scores: (0..SLOTS).map(|slot| router.score(slot)).collect(),
             candidates: order.iter().copied().filter(is_candidate).collect(),
             order,
@@ -107,9 +153,15 @@ impl Seen<'_> {
     }
 
     fn facts(&self) -> Facts {
-        let steps = [self.first_steps(), self.third_step(), self.fourth_step(), self.fifth_step()];
+        let steps = [
+            self.first_steps(),
+            self.third_step(),
+            self.fourth_step(),
+            self.fifth_step(),
+            self.slack(),
+        ];
         let mut facts = steps.concat();
-        facts.push(("nothing to do", self.pruned() + self.grafted().count() == 0));
+        facts.push(("nothing to do", self.pruned() + grafted_by(&self.plan).len() == 0));
         facts
     }
 
@@ -123,11 +175,6 @@ impl Seen<'_> {
 
     fn pruned(&self) -> usize {
         self.plan.negative.len() + self.plan.surplus.len()
-    }
-
-    /// All that the heartbeat grafts, in its order.
-    fn grafted(&self) -> impl Iterator<Item = &usize> {
-        self.plan.fill.iter().chain(&self.plan.quota).chain(&self.plan.opportunistic)
     }
 
     /// The mesh that step 3 sees when it acts, since step 2 then did not.
@@ -228,6 +275,37 @@ impl Seen<'_> {
             ),
             ("asked: median at or over the threshold", !low),
             ("asked: median at the threshold", median == threshold),
+        ]
+    }
+
+    /// Where a backoff is over and our own GRAFT still waits, or waits no more.
+    fn slack(&self) -> Facts {
+        let end = |slot: usize| self.router.peers[slot].backoff_ends[self.topic];
+        let held = |slot: usize| in_slack(end(slot), self.now);
+        let ends = |slot: usize| end(slot) > 0 && self.now == end(slot) + GRAFT_SLACK;
+        let any = |slots: &[usize], fits: &dyn Fn(usize) -> bool| slots.iter().any(|&s| fits(s));
+        let hasty = grafted_by(&self.hasty);
+        let (plan, early) = (&self.plan, &self.hasty);
+        vec![
+            ("step 2 goes without one for its slack alone", any(&early.fill, &held)),
+            ("step 4 goes without one for its slack alone", any(&early.quota, &held)),
+            ("step 5 goes without one for its slack alone", any(&early.opportunistic, &held)),
+            (
+                "the slack keeps one out at its backoff's end",
+                any(&hasty, &|slot| held(slot) && self.now == end(slot)),
+            ),
+            (
+                "the slack keeps one out in its last millisecond",
+                any(&hasty, &|slot| held(slot) && self.now + 1 == end(slot) + GRAFT_SLACK),
+            ),
+            ("step 2 grafts one as its slack ends", any(&plan.fill, &ends)),
+            ("step 4 grafts one as its slack ends", any(&plan.quota, &ends)),
+            ("step 5 grafts one as its slack ends", any(&plan.opportunistic, &ends)),
+            (
+                "grafts one without a backoff in the first second",
+                self.now < GRAFT_SLACK && any(&grafted_by(plan), &|slot| end(slot) == 0),
+            ),
+            (EARLY_END, any(&hasty, &|slot| held(slot) && end(slot) < GRAFT_SLACK)),
         ]
     }
 

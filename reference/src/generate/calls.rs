@@ -4,7 +4,7 @@ use crate::event::*;
 use crate::groups;
 use crate::params::{general, topic, TOPICS};
 use crate::random::Random;
-use crate::router::{Answer, Router, Status, ACTION_LIST};
+use crate::router::{Answer, Router, Status, ACTION_LIST, GRAFT_SLACK};
 use crate::trace;
 use std::collections::VecDeque;
 
@@ -33,6 +33,9 @@ const EDGES: [u64; 18] = [
     u64::MAX,
 ];
 
+/// A backoff that ends within so many milliseconds is waited for.
+const SOON: u64 = 70_000;
+
 /// The size of a run: which ids come, in how many groups and topics.
 pub struct Scene {
     pub ids: Vec<u64>,
@@ -42,6 +45,8 @@ pub struct Scene {
     pub outbound: usize,
     /// Whether meshes are crowded over D_hi again and again.
     pub crowding: bool,
+    /// Whether much happens in the first second, in which an end of 0 has no slack.
+    pub slow_start: bool,
 }
 
 /// Makes events and makes each on a router of its own as well.
@@ -69,8 +74,11 @@ impl Caller {
         if let Call::Heartbeat { permutation, .. } = &mut call {
             *permutation = self.permutation();
         }
-        let now = match wait {
-            0 => self.next_time(),
+        let now = match (wait, &call) {
+            (0, &Call::Heartbeat { topic, .. }) if self.random.chance(1, 4) => {
+                self.time_beside_slack(topic as usize)
+            }
+            (0, _) => self.next_time(),
             _ => LAST_TIME.min(self.router.clock + wait),
         };
         let mut event = Event { now, call };
@@ -104,6 +112,9 @@ impl Caller {
     /// at which something ends, or a time to be refused.
     fn next_time(&mut self) -> u64 {
         let clock = self.router.clock;
+        if self.scene.slow_start && clock < GRAFT_SLACK && self.random.chance(19, 20) {
+            return clock + self.random.below(10) as u64;
+        }
         let time = match self.random.below(400) {
             0..=229 => clock,
             230..=309 => clock + self.random.below(2000) as u64,
@@ -129,6 +140,25 @@ impl Caller {
         }
         instants.retain(|&instant| instant > router.clock);
         self.random.pick(&instants) - 1
+    }
+
+    /// A heartbeat's time beside the instant at which our own GRAFT may go out again
+    /// to a subscribed peer, or beside the end of the backoff before it.
+    fn time_beside_slack(&mut self, topic: usize) -> u64 {
+        let clock = self.router.clock;
+        let waits = self.router.peers.iter().filter(|peer| {
+            let record = &peer.topics[topic];
+            record.subscribed && !record.member && peer.backoff_ends[topic] > 0
+        });
+        let ends: Vec<u64> = waits.map(|peer| peer.backoff_ends[topic]).collect();
+        let soon = |end: &u64| (clock..clock + SOON).contains(&(end + GRAFT_SLACK));
+        let ends: Vec<u64> = ends.into_iter().filter(soon).collect();
+        if ends.is_empty() {
+            return self.next_time();
+        }
+        let beside = [0, 1, 500, GRAFT_SLACK - 1, GRAFT_SLACK, GRAFT_SLACK, GRAFT_SLACK + 1];
+        let time = self.random.pick(&ends) + self.random.pick(&beside);
+        time.clamp(clock, LAST_TIME)
     }
 
     // Arguments.
@@ -331,7 +361,7 @@ impl Caller {
 
     fn plan_burst(&mut self) {
         let topic = self.topic();
-        match self.random.below(10) {
+        match self.random.below(13) {
             0 => self.plan_arrival(),
             1 | 2 => self.plan_gathering(topic),
             3 | 4 => self.plan_crowding(topic),
@@ -342,7 +372,9 @@ impl Caller {
                 self.plan_heartbeats(topic);
             }
             8 => self.plan_traffic(topic),
-            _ => self.plan_scores(),
+            9 => self.plan_scores(),
+            10 => self.plan_every_part(topic),
+            _ => self.plan_short_backoffs(topic),
         }
     }
 
@@ -483,6 +515,9 @@ impl Caller {
             let call = self.heartbeat_call(topic);
             self.plan(call);
         }
+        if self.random.chance(1, 2) {
+            self.plan_short_backoffs(topic);
+        }
     }
 
     /// Whether nothing is planned any more.
@@ -532,6 +567,44 @@ impl Caller {
         }
         self.plan(Call::Decay);
         self.plan(Call::Score { id });
+    }
+
+    /// One peer delivers first, is rated by the host and sends a GRAFT in its backoff:
+    /// much of what a score is made of.
+    fn plan_every_part(&mut self, topic: u64) {
+        let id = self.id();
+        self.plan(Call::Join { topic });
+        let value = self.random.between(1, P5_LIMIT);
+        self.plan(Call::SetP5 { id, value });
+        for _ in 0..self.random.below(12) {
+            self.plan(Call::Delivery { id, topic, kind: 1 });
+        }
+        self.plan(Call::Prune { id, topic, seconds: 60 });
+        self.plan(Call::Graft { id, topic });
+        self.plan(Call::Score { id });
+    }
+
+    /// Some peers, often outbound ones alone, send a PRUNE of a few seconds, and
+    /// heartbeats want them back.
+    fn plan_short_backoffs(&mut self, topic: u64) {
+        let mut ids = self.ids_of(Status::Connected);
+        self.random.shuffle(&mut ids);
+        if self.random.chance(2, 3) {
+            ids.retain(|&id| self.is_outbound(id));
+        }
+        ids.truncate(1 + self.random.below(6));
+        let seconds = 1 + self.random.below(3) as u64;
+        for &id in &ids {
+            let target = self.random.between(0, 2) * 1_000_000_000;
+            let value = self.p5_for(id, target);
+            self.plan(Call::SetP5 { id, value });
+        }
+        self.plan_for(&ids, |id| Call::Subscribe { id, topic });
+        self.plan_for(&ids, |id| Call::Prune { id, topic, seconds });
+        for _ in 0..=self.random.below(3) {
+            let call = self.heartbeat_call(topic);
+            self.plan(call);
+        }
     }
 
     fn plan_scores(&mut self) {

@@ -181,6 +181,7 @@ pub fn scene(length: usize, random: &mut Random) -> Scene {
         topics: 1 + random.below(topics),
         outbound: *random.pick(&[0, 1, 1, 1, 2, 2, 3, 4]),
         crowding: random.chance(1, 3),
+        slow_start: random.chance(1, 4),
     }
 }
 

@@ -109,7 +109,8 @@ impl Router {
     }
 
     /// 01: "A candidate is connected, subscribed, not explicit, not a member,
-    /// score ≥ 0, backoff not running".
+    /// score ≥ 0, backoff not running"; order 3 of 02 puts its slack in the place
+    /// of the last.
     pub fn is_candidate(&self, slot: usize, topic: usize, now: u64) -> bool {
         let peer = &self.peers[slot];
         let record = &peer.topics[topic];
@@ -118,7 +119,7 @@ impl Router {
             && !peer.explicit
             && !record.member
             && self.score(slot) >= 0
-            && !peer.backoff_running(topic, now)
+            && peer.slack_over(topic, now)
     }
 }
 

@@ -1,5 +1,5 @@
-//! 01, "Scores, without rounding": scores, deliveries and decay. A score is a
-//! whole number of 10^-9 points.
+//! 01, "Scores, without rounding", and order 5 of 02, "Say why": scores and their
+//! parts, deliveries and decay. A score is a whole number of 10^-9 points.
 
 use super::tables::{P3B_LIMIT, P4_P7_LIMIT};
 use super::{Peer, Refusal, Router, Status, TopicRecord};
@@ -8,20 +8,51 @@ use crate::params::{general, topic, Params, TOPICS};
 /// A delivery adds one whole message to a counter of thousandths.
 pub const MESSAGE: i64 = 1000;
 
+/// Order 5 of 02: "the topic total before its cap, the total after it, and the
+/// three general parts", each in 10^-9 points.
+#[derive(Clone, Copy, PartialEq, Eq, Debug, Default)]
+pub struct Why {
+    pub total: i64,
+    pub capped: i64,
+    pub p5: i64,
+    pub p6: i64,
+    pub p7: i64,
+}
+
+impl Why {
+    /// "The last four's sum being the score."
+    pub fn score(&self) -> i64 {
+        self.capped + self.p5 + self.p6 + self.p7
+    }
+
+    /// "The five ..., then the score", as the trace and the C ABI have them.
+    pub fn numbers(&self) -> [i64; 6] {
+        [self.total, self.capped, self.p5, self.p6, self.p7, self.score()]
+    }
+}
+
 impl Router {
-    /// The score of a record, which depends on it, the parameters, and how
-    /// many connected peers its group has.
+    /// The score of a record; "all score work takes it from this answer".
     pub fn score(&self, slot: usize) -> i64 {
+        self.why(slot).score()
+    }
+
+    /// The parts of a record's score, which depends on it, the parameters, and how
+    /// many connected peers its group has.
+    pub fn why(&self, slot: usize) -> Why {
         let peer = &self.peers[slot];
         let g = |place| i128::from(self.params.general(place));
-        let topics = (0..TOPICS).map(|k| topic_score(&self.params, k, &peer.topics[k])).sum();
+        let total = (0..TOPICS).map(|k| topic_score(&self.params, k, &peer.topics[k])).sum();
         let surplus = i128::from(self.surplus(peer));
         let p7 = i128::from(peer.p7);
-        let score = capped(topics, g(general::TOPIC_CAP) * 1_000_000)
-            + g(general::W5) * i128::from(peer.p5) * 1000
-            + g(general::W6) * surplus * surplus * 1_000_000_000
-            + g(general::W7) * p7 * p7 * 1000;
-        i64::try_from(score).expect("no score passes 2.6 * 10^18")
+        let part = |part| i64::try_from(part).expect("no part passes 2.6 * 10^18");
+        Why {
+            total: part(total),
+            capped: part(capped(total, g(general::TOPIC_CAP) * 1_000_000)),
+            p5: part(g(general::W5) * i128::from(peer.p5) * 1000),
+            p6: part(g(general::W6) * surplus * surplus * 1_000_000_000),
+            p7: part(g(general::W7) * p7 * p7 * 1000),
+        }
     }
 
     /// P6: how many connected peers share the group, above the threshold.

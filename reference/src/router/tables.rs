@@ -8,6 +8,9 @@ use crate::params::{general, topic, TOPICS};
 pub const P4_P7_LIMIT: i64 = 1_000_000;
 pub const P3B_LIMIT: i64 = 1_000_000_000_000;
 
+/// Our own GRAFT waits so many milliseconds after a backoff's end.
+pub const GRAFT_SLACK: u64 = 1000;
+
 /// The latest ends of a backoff and of a retain period.
 const LAST_BACKOFF_END: u64 = LAST_TIME + 3_600_000;
 const LAST_RETAIN_END: u64 = LAST_TIME + 86_400_000;
@@ -74,6 +77,14 @@ impl Peer {
 
     pub fn backoff_running(&self, topic: usize, now: u64) -> bool {
         now < self.backoff_ends[topic]
+    }
+
+    /// Order 3 of 02: "A candidate now needs now ≥ backoff end + 1000 ms, or an end
+    /// of 0 (never set). Incoming GRAFTs and the emptying of records still go by
+    /// the end alone."
+    pub fn slack_over(&self, topic: usize, now: u64) -> bool {
+        let end = self.backoff_ends[topic];
+        end == 0 || now >= end + GRAFT_SLACK
     }
 
     fn in_ranges(&self) -> bool {

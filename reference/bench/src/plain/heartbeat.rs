@@ -3,7 +3,7 @@
 use super::{is_topic, Actions, Router, Status};
 use reference::event::{Permutation, SLOTS};
 use reference::params::general;
-use reference::router::{Answer, Refusal};
+use reference::router::{Answer, Refusal, GRAFT_SLACK};
 
 /// What the start of the heartbeat fixes.
 struct Start {
@@ -83,8 +83,10 @@ impl Router {
             if peer.status != Status::Connected || !peer.is_subscribed(k) || peer.explicit {
                 continue;
             }
-            let score = self.score_among(peer, sharing[slot]);
-            let candidate = !member & (score >= 0) & (now >= peer.backoff_ends[k]);
+            let score = self.why_among(peer, sharing[slot]).score();
+            let end = peer.backoff_ends[k];
+            let free = (end == 0) | (now >= end + GRAFT_SLACK);
+            let candidate = !member & (score >= 0) & free;
             start.scores[slot] = score;
             start.members |= u64::from(member) << slot;
             start.candidates |= u64::from(candidate) << slot;

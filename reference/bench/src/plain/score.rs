@@ -4,7 +4,7 @@
 use super::{is_id, is_topic, Peer, Router, Status, Topics};
 use reference::event::P5_LIMIT;
 use reference::params::{general, topic, TOPICS, TOPIC_COUNT};
-use reference::router::{Answer, Done};
+use reference::router::{Answer, Done, Why};
 
 const P4_P7_LIMIT: u32 = 1_000_000;
 const P3B_LIMIT: u64 = 1_000_000_000_000;
@@ -23,7 +23,7 @@ impl Router {
         self.admit(is_id(id), now, list)?;
         let slot = self.connected(id)?;
         self.clock = now;
-        Ok(Done::Score(self.score_of(slot)))
+        Ok(Done::Score(self.why(slot)))
     }
 
     pub fn set_p5(&mut self, now: u64, id: u64, value: i64, list: &mut [u32]) -> Answer {
@@ -35,28 +35,32 @@ impl Router {
     }
 
     pub(super) fn score_of(&self, slot: usize) -> i64 {
+        self.why(slot).score()
+    }
+
+    fn why(&self, slot: usize) -> Why {
         let peer = &self.peers[slot];
         let shares = |other: &Peer| other.group == peer.group && other.status == Status::Connected;
         let sharing = self.peers.iter().map(|other| i64::from(shares(other))).sum();
-        self.score_among(peer, sharing)
+        self.why_among(peer, sharing)
     }
 
-    /// The score of a peer that so many connected ones share the group with.
-    pub(super) fn score_among(&self, peer: &Peer, sharing: i64) -> i64 {
-        let mut topics = 0;
+    /// The parts of the score of a peer that so many connected ones share the group with.
+    pub(super) fn why_among(&self, peer: &Peer, sharing: i64) -> Why {
+        let mut total = 0;
         for k in 0..TOPICS {
-            topics += topic_score(self.topic(k), &peer.topics, k);
+            total += topic_score(self.topic(k), &peer.topics, k);
         }
         let cap = self.general(general::TOPIC_CAP) * 1_000_000;
-        if cap != 0 {
-            topics = topics.min(cap);
-        }
         let surplus = (sharing - self.general(general::P6_THRESHOLD)).max(0);
         let p7 = i64::from(peer.p7);
-        topics
-            + self.general(general::W5) * i64::from(peer.p5) * 1000
-            + self.general(general::W6) * surplus * surplus * 1_000_000_000
-            + self.general(general::W7) * p7 * p7 * 1000
+        Why {
+            total,
+            capped: if cap == 0 { total } else { total.min(cap) },
+            p5: self.general(general::W5) * i64::from(peer.p5) * 1000,
+            p6: self.general(general::W6) * surplus * surplus * 1_000_000_000,
+            p7: self.general(general::W7) * p7 * p7 * 1000,
+        }
     }
 
     fn factors(&self) -> Factors {
