@@ -87,9 +87,9 @@ pub fn best_of(k: u64, scores: [u64; SLOTS], m: [bool; SLOTS], order: [u64; SLOT
     ensures { λ r. ⌜ r ≡ bests slotCount scores m order k (replicate slotCount false) ⌝ }
 {
     let mut b = [false; SLOTS];
-    let mut left = k;
-    while 0 < left {
-        left -= 1;
+    let mut picks = k;
+    while 0 < picks {
+        picks -= 1;
         let rest = without(m, b);
         let s = best(&scores, &rest, &order);
         if s < SLOTS as u64 {

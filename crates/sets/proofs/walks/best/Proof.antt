@@ -3,13 +3,12 @@
 use Prim.Native.Nat.{ℕ, _+_, _-_, _≤_, _<_}
 use native.Mathlib.Omega.{arith}
 use mathlib.Core.Path.{_≡_, refl, sym, ap, _∙_}
-use mathlib.Core.Bool.{true, false, _&&_, _||_}
+use mathlib.Core.Bool.{true, false}
 use mathlib.Core.Logic.{⊎-elim}
 use lib.ListN.{length, getD, drop}
-use lib.Dec.{leb, ltb}
 use Rattle.records.specs.Records.{slotCount}
-use Rattle.sets.specs.Sets.{at, better, top}
-use Rattle.sets.proofs.WalkLaws.{top-step, top-end}
+use Rattle.sets.specs.Sets.{top}
+use Rattle.sets.proofs.WalkLaws.{beats-by, top-step, top-end}
 use Rattle.sets.proofs.walks.best.Statement.{statement}
 use Rattle.sets.proofs.walks.best.Tie as tie
 
@@ -34,19 +33,18 @@ loop-again c =
     let score = c .before .before .number-at2 in
     let rest : ℕ → ℕ = top slotCount scores p (drop (l .i + 1) order) in
     let lt : l .i < length order = omega arith in
-    let e : ((c .before .has .result) && (leb slotCount (l .best) || ltb (l .high) (score .result))) ≡ (at p s && better slotCount scores (l .best) s) =
-    cc in
+    let e = beats-by slotCount scores p (l .best) s (c .before .has .ensures) (score .ensures) (l .inv .3) in
     ⊎-elim
     (λ w. (
       omega arith,
       refl,
-      ap rest (w .1) ∙ sym (top-step p order (l .i) lt true slotCount scores (l .best) (sym e ∙ w .0 .taken)) ∙ l .inv .2,
+      ap rest (w .1) ∙ sym (top-step p order (l .i) lt true slotCount scores (l .best) (e ∙ w .0 .taken)) ∙ l .inv .2,
       w .2 ∙ score .ensures ∙ ap (λ (k : ℕ). getD scores k 0) (sym (w .1)),
     ))
     (λ w. (
       omega arith,
       refl,
-      ap rest (w .1) ∙ sym (top-step p order (l .i) lt false slotCount scores (l .best) (sym e ∙ w .0 .left)) ∙ l .inv .2,
+      ap rest (w .1) ∙ sym (top-step p order (l .i) lt false slotCount scores (l .best) (e ∙ w .0 .left)) ∙ l .inv .2,
       w .2 ∙ l .inv .3 ∙ ap (λ (k : ℕ). getD scores k 0) (sym (w .1)),
     ))
     (c .if1 .came)
