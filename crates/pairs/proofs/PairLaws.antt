@@ -43,7 +43,7 @@ earlier-not (s ∷ r) a c e f =
 
 module _ (sc : List ℕ) where
   higher : (r : List ℕ) (a c : ℕ) → getD sc c 0 < getD sc a 0 → ahead sc r a c ≡ true
-  higher r a c h = ap (λ (z : Bool). z || (eqb (getD sc a 0) (getD sc c 0) && earlier r a c)) (lt-ltb (getD sc c 0) (getD sc a 0) h)
+  higher r a c h = rw (lt-ltb (getD sc c 0) (getD sc a 0) h)
 
   level : (r : List ℕ) (a c : ℕ) → getD sc a 0 ≡ getD sc c 0 → earlier r a c ≡ true → ahead sc r a c ≡ true
   level r a c e f =
@@ -335,17 +335,14 @@ module _ (n : ℕ) (sc : List ℕ) (m : List Bool) (order : List ℕ) (lm : leng
     pub bests-pairs : bests n sc m order k (replicate n false) ≡ byPairs n sc m order k
     unfolding byPairs
     bests-pairs =
-        let f : ℕ → Bool = λ s. at m s && ltb (rank n sc m order s) k in
-        ext-getD false b (bySlot n f) (lb ∙ sym (slots-length n f))
+        ext-getD false b (byPairs n sc m order k) (lb ∙ sym (slots-length n _))
         (λ s h.
         let q = lb in
         sym
-        (slots-at false f n s (omega arith)
+        (slots-at false _ n s (omega arith)
         ∙ by-test _ (at m s)
         (λ a.
         by-test _ (at b s)
-        (λ e. ap₂ (λ (y z : Bool). y && z) a (lt-ltb (rank n sc m order s) k (few s e)) ∙ sym e)
-        (λ e. ap₂ (λ (y z : Bool). y && z) a (le-ltb (rank n sc m order s) k (many s a e)) ∙ sym e))
-        (λ a.
-        ap (λ (y : Bool). y && ltb (rank n sc m order s) k) a
-        ∙ by-test _ (at b s) (λ e. absurd (false≢true (sym a ∙ sub s e))) (λ e. sym e))))
+        (λ e. rw (a, lt-ltb (rank n sc m order s) k (few s e)) (sym e))
+        (λ e. rw (a, le-ltb (rank n sc m order s) k (many s a e)) (sym e)))
+        (λ a. rw a (by-test _ (at b s) (λ e. absurd (false≢true (sym a ∙ sub s e))) (λ e. sym e)))))
