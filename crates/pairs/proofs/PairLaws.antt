@@ -12,7 +12,7 @@ use lib.Dec.{ltb, leb, eqb}
 use borrow.Author.Tests.{lt-ltb, le-ltb, ltb-true, le-leb, leb-true, eq-eqb, ne-eqb, eqb-true, not-true}
 use Rattle.index.proofs.Index.{both as halves, count-less}
 use Rattle.index.proofs.Flags.{by-test, by-order, cond-case}
-use Rattle.sets.specs.Sets.{bySlot, at, Sub, size, except, occurs, isPermutation, better, top, bests}
+use Rattle.sets.specs.Sets.{at, Sub, size, except, occurs, isPermutation, better, top, bests}
 use Rattle.sets.proofs.WalkLaws.{at-below, except-at, except-length}
 use Rattle.sets.proofs.CountLaws.{In, size-set-true, at-set-same, set-keeps, set-only, bests-upper, bests-length, bests-only}
 use Rattle.sets.proofs.SetLaws.{at-none, size-none, size-unset}
