@@ -11,17 +11,16 @@ use lib.ListN.{length, getD, set, length-set, replicate, length-replicate}
 use lib.Seq.{ext-getD, set-out, getD-set-other}
 use lib.Dec.{ltb, leb, eqb}
 use borrow.Author.Tests.{lt-ltb, le-ltb, ltb-true, le-leb, leb-true, eq-eqb, ne-eqb, eqb-true, not-true}
-use Rattle.index.specs.Index.{count}
 use Rattle.index.proofs.Index.{both as halves, count-less}
 use Rattle.index.proofs.Flags.{by-test, by-order, cond-case}
-use Rattle.sets.specs.Sets.{bySlot, at, Sub, size, except, occurs, isPermutation, better, top, bests}
+use Rattle.sets.specs.Sets.{at, Sub, size, except, occurs, isPermutation, better, top, bests}
 use Rattle.sets.proofs.WalkLaws.{at-below, except-at, except-length}
 use Rattle.sets.proofs.CountLaws.{In, size-set-true, at-set-same, set-keeps, set-only, bests-upper, bests-length, bests-only}
 use Rattle.sets.proofs.SetLaws.{at-none, size-none, size-unset}
 use Rattle.sets.proofs.PickLaws.{or-right}
 use Rattle.sets.proofs.SlotLaws.{slots-length, slots-at, size-count}
 use Rattle.sets.proofs.PermutationLaws.{occurs-self, occurs-tail, permutation-once, permutation-mem}
-use Rattle.pairs.specs.Pairs.{earlier, ahead, byPairs}
+use Rattle.pairs.specs.Pairs.{earlier, ahead, rank, byPairs}
 
 or-case : (a b : Bool) → a || b ≡ true → (a ≡ true) ⊎ (b ≡ true)
 or-case true b e = inl refl
@@ -45,7 +44,7 @@ earlier-not (s ∷ r) a c e f =
 
 module _ (sc : List ℕ) where
   higher : (r : List ℕ) (a c : ℕ) → getD sc c 0 < getD sc a 0 → ahead sc r a c ≡ true
-  higher r a c h = ap (λ (z : Bool). z || (eqb (getD sc a 0) (getD sc c 0) && earlier r a c)) (lt-ltb (getD sc c 0) (getD sc a 0) h)
+  higher r a c h = rw (lt-ltb (getD sc c 0) (getD sc a 0) h)
 
   level : (r : List ℕ) (a c : ℕ) → getD sc a 0 ≡ getD sc c 0 → earlier r a c ≡ true → ahead sc r a c ≡ true
   level r a c e f =
@@ -295,9 +294,6 @@ module _ (n : ℕ) (sc : List ℕ) (m : List Bool) (order : List ℕ) (lm : leng
     abbrev b : List Bool
     b = bests n sc m order k (replicate n false)
 
-    abbrev rank : ℕ → ℕ
-    rank s = count n (λ a. at m a && ahead sc order a s)
-
     lb : length b ≡ n
     lb = bests-length n sc m order k (replicate n false) ∙ length-replicate n false
 
@@ -308,7 +304,7 @@ module _ (n : ℕ) (sc : List ℕ) (m : List Bool) (order : List ℕ) (lm : leng
     sub = bests-only n sc m order k (replicate n false) (length-replicate n false) (λ s e. absurd (false≢true (sym (at-none n s) ∙ e)))
 
     -- before one of the best come others of the best alone
-    few : (s : ℕ) → at b s ≡ true → rank s < k
+    few : (s : ℕ) → at b s ≡ true → rank n sc m order s < k
     few s e =
         let z = size-none n in
         let most = bests-upper n sc m order k (replicate n false) in
@@ -325,7 +321,7 @@ module _ (n : ℕ) (sc : List ℕ) (m : List Bool) (order : List ℕ) (lm : leng
         omega arith
 
     -- before another member come all of the best
-    many : (s : ℕ) → at m s ≡ true → at b s ≡ false → k ≤ rank s
+    many : (s : ℕ) → at m s ≡ true → at b s ≡ false → k ≤ rank n sc m order s
     many s a e =
         let z = size-none n in
         ⊎-elim
@@ -340,17 +336,14 @@ module _ (n : ℕ) (sc : List ℕ) (m : List Bool) (order : List ℕ) (lm : leng
     pub bests-pairs : bests n sc m order k (replicate n false) ≡ byPairs n sc m order k
     unfolding byPairs
     bests-pairs =
-        let f : ℕ → Bool = λ s. at m s && ltb (rank s) k in
-        ext-getD false b (bySlot n f) (lb ∙ sym (slots-length n f))
+        ext-getD false b (byPairs n sc m order k) (lb ∙ sym (slots-length n _))
         (λ s h.
         let q = lb in
         sym
-        (slots-at false f n s (omega arith)
+        (slots-at false _ n s (omega arith)
         ∙ by-test _ (at m s)
         (λ a.
         by-test _ (at b s)
-        (λ e. ap₂ (λ (y z : Bool). y && z) a (lt-ltb (rank s) k (few s e)) ∙ sym e)
-        (λ e. ap₂ (λ (y z : Bool). y && z) a (le-ltb (rank s) k (many s a e)) ∙ sym e))
-        (λ a.
-        ap (λ (y : Bool). y && ltb (rank s) k) a
-        ∙ by-test _ (at b s) (λ e. absurd (false≢true (sym a ∙ sub s e))) (λ e. sym e))))
+        (λ e. rw (a, lt-ltb (rank n sc m order s) k (few s e)) (sym e))
+        (λ e. rw (a, le-ltb (rank n sc m order s) k (many s a e)) (sym e)))
+        (λ a. rw a (by-test _ (at b s) (λ e. absurd (false≢true (sym a ∙ sub s e))) (λ e. sym e)))))

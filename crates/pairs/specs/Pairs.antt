@@ -1,7 +1,7 @@
 -- The best by comparing every pair: "keep the D_score best (ties in draw order)". What the choice by picks is proved to give (order 2).
 -- Over any slot count n.
-use Prim.Native.Nat.{ℕ}
-use mathlib.Core.Bool.{Bool, false, not, _&&_, _||_}
+use Prim.Native.Nat.{ℕ, suc}
+use mathlib.Core.Bool.{Bool, false, not, cond, _&&_, _||_}
 use mathlib.Core.List.{List, [], _∷_}
 use lib.ListN.{getD}
 use lib.Dec.{ltb, eqb}
@@ -18,7 +18,21 @@ abbrev pub ahead : List ℕ → List ℕ → ℕ → ℕ → Bool
 ahead scores order a c =
     ltb (getD scores c 0) (getD scores a 0) || (eqb (getD scores a 0) (getD scores c 0) && earlier order a c)
 
+-- how many slots of m come before s
+abbrev pub rank : ℕ → List ℕ → List Bool → List ℕ → ℕ → ℕ
+rank n scores m order s = count n (λ a. at m a && ahead scores order a s)
+
 -- the slots of m before which fewer than k others come
 unfoldable pub byPairs : ℕ → List ℕ → List Bool → List ℕ → ℕ → List Bool
-byPairs n scores m order k =
-    bySlot n (λ s. at m s && ltb (count n (λ a. at m a && ahead scores order a s)) k)
+byPairs n scores m order k = bySlot n (λ s. at m s && ltb (rank n scores m order s) k)
+
+-- ---- what the code goes by (proofs/PlaceLaws.antt: the same order, the same rank)
+-- where s stands in the order first; its length if nowhere
+unfoldable pub place : List ℕ → ℕ → ℕ
+place [] s = 0
+place (x ∷ r) s = cond (eqb x s) 0 (suc (place r s))
+
+-- how many slots of m come before one with this score at this place
+abbrev pub rankBy : ℕ → List ℕ → List Bool → List ℕ → ℕ → ℕ → ℕ
+rankBy n scores m places score place =
+    count n (λ a. at m a && (ltb score (getD scores a 0) || (eqb (getD scores a 0) score && ltb (getD places a 0) place)))

@@ -4,7 +4,7 @@ use Prim.Native.Nat.{ℕ, zero, suc, _+_, _-_, _≤_, _<_}
 use native.Mathlib.Nat.{not-suc-le-zero, le-of-suc-le-suc, suc-inj, suc-ne-zero}
 use native.Mathlib.Omega.{arith}
 use mathlib.Core.Path.{_≡_, refl, sym, ap, ap₂, _∙_}
-use mathlib.Core.Bool.{Bool, true, false, not, cond, _&&_, and-true, and-false, false≢true}
+use mathlib.Core.Bool.{Bool, true, false, not, cond, _&&_, _||_, and-true, and-false, false≢true}
 use mathlib.Core.List.{List, [], _∷_}
 use lib.ListN.{length, getD, set, drop, drop-of-length-le, length-map}
 use lib.Dec.{ltb, leb}
@@ -204,6 +204,15 @@ module _ (p : List Bool) (d : List ℕ) (i : ℕ) (h : length d ≤ i) where
   pub bottom-end : (n : ℕ) (sc : List ℕ) (low : ℕ) → bottom n sc p (drop i d) low ≡ low
   unfolding bottom
   bottom-end n sc low = rw (drop-of-length-le d {i = i} h)
+
+-- whether a slot is better, by the scores of the two
+pub beats-by :
+    (n : ℕ) (sc : List ℕ) (p : List Bool) (best s : ℕ) {h : Bool} {score high : ℕ} →
+    h ≡ at p s →
+    score ≡ getD sc s 0 →
+    high ≡ getD sc best 0 →
+    (at p s && better n sc best s) ≡ (h && (leb n best || ltb high score))
+beats-by n sc p best s e f g = cc
 
 -- ---- who goes
 module _ (n : ℕ) (sc d : List ℕ) (b p : List Bool) {q : List Bool} (e : q ≡ except p b) {k : ℕ} (c : k ≡ size q) where

@@ -3,7 +3,7 @@ ghost use mathlib.Core.Path.{_≡_};
 ghost use mathlib.Core.Bool.{_&&_, false};
 ghost use lib.ListN.{replicate};
 ghost use Rattle.records.specs.Records.{slotCount};
-ghost use Rattle.sets.specs.Sets.{at, takes, fill, better, top, bests, worse, bottom, goer, firstOf, lastOf, swapTo};
+ghost use Rattle.sets.specs.Sets.{at, takes, fill, top, bests, worse, bottom, goer, firstOf, lastOf, swapTo};
 use crate::count;
 use crate::has;
 use crate::meet;
@@ -65,22 +65,18 @@ pub fn last_of(p: [bool; SLOTS], order: [u64; SLOTS]) -> u64
     last
 }
 
-// Whether s comes before best among the slots of p.
-pub fn beats(scores: &[u64], p: &[bool], best: u64, s: u64) -> bool
-    ensures { λ r. ⌜ r ≡ (at (now (p .entry)) s && better slotCount (now (scores .entry)) best s) ⌝ }
-{
-    has(p, s) & ((SLOTS as u64 <= best) | (number_at(scores, best) < number_at(scores, s)))
-}
-
-// The best of p, the first in the order of the highest score; SLOTS for none.
-pub fn best(scores: [u64; SLOTS], p: [bool; SLOTS], order: [u64; SLOTS]) -> u64
-    ensures { λ r. ⌜ r ≡ top slotCount scores p order slotCount ⌝ }
+// The best of p, the first in the order of the highest score; SLOTS for none. The best one's score is kept beside it.
+pub fn best(scores: &[u64], p: &[bool], order: &[u64]) -> u64
+    ensures { λ r. ⌜ r ≡ top slotCount (now (scores .entry)) (now (p .entry)) (now (order .entry)) slotCount ⌝ }
 {
     let mut best = SLOTS as u64;
-    for i in 0..SLOTS {
+    let mut high = number_at(scores, best);
+    for i in 0..order.len() {
         let s = order[i];
-        if beats(&scores, &p, best, s) {
+        let score = number_at(scores, s);
+        if has(p, s) & ((SLOTS as u64 <= best) | (high < score)) {
             best = s;
+            high = score;
         }
     }
     best
@@ -91,10 +87,11 @@ pub fn best_of(k: u64, scores: [u64; SLOTS], m: [bool; SLOTS], order: [u64; SLOT
     ensures { λ r. ⌜ r ≡ bests slotCount scores m order k (replicate slotCount false) ⌝ }
 {
     let mut b = [false; SLOTS];
-    let mut left = k;
-    while 0 < left {
-        left -= 1;
-        let s = best(scores, without(m, b), order);
+    let mut picks = k;
+    while 0 < picks {
+        picks -= 1;
+        let rest = without(m, b);
+        let s = best(&scores, &rest, &order);
         if s < SLOTS as u64 {
             b[s as usize] = true;
         }

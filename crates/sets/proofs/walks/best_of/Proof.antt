@@ -2,6 +2,7 @@
 -- Assumes nothing.
 use Prim.Native.Nat.{ℕ, _-_}
 use native.Mathlib.Omega.{arith}
+use borrow.Author.Needs.{needs}
 use mathlib.Core.Path.{_≡_, refl, sym, ap, _∙_}
 use mathlib.Core.Bool.{Bool, true, false}
 use mathlib.Core.List.{List}
@@ -14,37 +15,39 @@ use Rattle.sets.proofs.walks.best_of.Statement.{statement}
 use Rattle.sets.proofs.walks.best_of.Tie as tie
 
 abbrev Inv-loop : tie.InvT-loop
-Inv-loop k scores m order b₀ left₀ b left =
-    (bests slotCount scores m order left b ≡ bests slotCount scores m order k (replicate slotCount false))
+Inv-loop k m scores order b₀ picks₀ b picks =
+    (bests slotCount scores m order picks b ≡ bests slotCount scores m order k (replicate slotCount false))
     × (length b ≡ slotCount)
 
 abbrev μ-loop : tie.MeasureT-loop
-μ-loop k scores m order b₀ left₀ b left = left
+μ-loop k m scores order b₀ picks₀ b picks = picks
 
 loop-again : tie.Need-loop-again Inv-loop μ-loop
 loop-again c =
-    let a = c .before .before .before .before .before .args in
-    let l = c .before .before .before .before .loop in
-    let rest : List Bool → List Bool = bests slotCount (a .scores) (a .m) (a .order) (l .left - 1) in
+    let w = c .before .before .before .before .before in
+    let l = w .before .before .loop in
+    let a = w .before .before .before .args in
+    let rest : List Bool → List Bool = bests slotCount (a .t2) (a .m) (a .t4) (l .picks - 1) in
     let e = c .before .best .ensures
-    ∙ ap (λ (p : List Bool). top slotCount (a .scores) p (a .order) slotCount) (c .before .before .without .ensures) in (
+    ∙ ap (λ (p : List Bool). top slotCount (a .t2) p (a .t4) slotCount) (w .without .ensures) in (
       ap (λ (s : ℕ). rest (set (l .b) s true)) e
-          ∙ sym (bests-step slotCount (a .scores) (a .m) (a .order) (l .left) (l .b) (omega arith))
+          ∙ sym (bests-step slotCount (a .t2) (a .m) (a .t4) (l .picks) (l .b) (omega arith))
           ∙ l .inv .0,
       length-set (l .b) (c .before .best .result) true ∙ l .inv .1,
     )
 
 loop-again-2 : tie.Need-loop-again-2 Inv-loop μ-loop
 loop-again-2 c =
-    let a = c .before .before .before .before .before .args in
-    let l = c .before .before .before .before .loop in
-    let rest : List Bool → List Bool = bests slotCount (a .scores) (a .m) (a .order) (l .left - 1) in
+    let w = c .before .before .before .before .before in
+    let l = w .before .before .loop in
+    let a = w .before .before .before .args in
+    let rest : List Bool → List Bool = bests slotCount (a .t2) (a .m) (a .t4) (l .picks - 1) in
     let s = c .before .best .result in
     let e = c .before .best .ensures
-    ∙ ap (λ (p : List Bool). top slotCount (a .scores) p (a .order) slotCount) (c .before .before .without .ensures) in (
+    ∙ ap (λ (p : List Bool). top slotCount (a .t2) p (a .t4) slotCount) (w .without .ensures) in (
       ap rest (sym (set-out (l .b) s true (omega arith)))
           ∙ ap (λ (s : ℕ). rest (set (l .b) s true)) e
-          ∙ sym (bests-step slotCount (a .scores) (a .m) (a .order) (l .left) (l .b) (omega arith))
+          ∙ sym (bests-step slotCount (a .t2) (a .m) (a .t4) (l .picks) (l .b) (omega arith))
           ∙ l .inv .0,
       l .inv .1,
     )
@@ -53,7 +56,7 @@ returns : tie.Need-returns Inv-loop μ-loop
 returns c =
     let a = c .before .before .args in
     let l = c .before .loop in
-    sym (bests-end slotCount (a .scores) (a .m) (a .order) (l .left) (l .b) (omega arith)) ∙ l .inv .0
+    sym (bests-end slotCount (a .t2) (a .m) (a .t4) (l .picks) (l .b) (omega arith)) ∙ l .inv .0
 
 pub best-of-spec : {M : Type 1} → statement M
 best-of-spec =
@@ -64,6 +67,9 @@ best-of-spec =
     (λ c. (refl, refl))
     (λ c. omega arith)
     (λ c κs. tt)
+    (λ c. search needs)
+    (λ c. search needs)
+    (λ c. search needs)
     (λ c κs. tt)
     (λ c. c .if1 .taken)
     (λ c. omega arith)

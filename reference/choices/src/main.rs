@@ -1,0 +1,177 @@
+//! Times the two proved choices of the best: by picking the best remaining one, as mesh
+//! maintenance does, and by comparing every pair. All slots are members in what is
+//! timed; ties are frequent. Before that both are compared with each other and with a
+//! plain sort, for sets of members of every size too.
+
+use reference::random::Random;
+use std::cmp::Reverse;
+use std::hint::black_box;
+use std::process::Command;
+use std::time::Instant;
+
+const SLOTS: usize = 64;
+/// How many are chosen in what is timed: D_score as in the ordinary parameters, and its limit.
+const CHOSEN: [u64; 2] = [4, 48];
+const CASES: usize = 500;
+const ROUNDS: usize = 400;
+
+type Numbers = [u64; SLOTS];
+type Flags = [bool; SLOTS];
+
+extern "C" {
+    fn choices_by_picks(
+        k: u64,
+        scores: &Numbers,
+        members: &Flags,
+        order: &Numbers,
+        kept: &mut Flags,
+    );
+    fn choices_by_pairs(
+        k: u64,
+        scores: &Numbers,
+        members: &Flags,
+        order: &Numbers,
+        kept: &mut Flags,
+    );
+}
+
+struct Case {
+    scores: Numbers,
+    members: Flags,
+    order: Numbers,
+}
+
+#[derive(Clone, Copy)]
+enum Way {
+    Picks,
+    Pairs,
+}
+
+impl Way {
+    fn name(self) -> &'static str {
+        match self {
+            Way::Picks => "picks",
+            Way::Pairs => "pairs",
+        }
+    }
+
+    fn choose(self, k: u64, case: &Case) -> Flags {
+        let mut kept = [false; SLOTS];
+        let Case { scores, members, order } = case;
+        // SAFETY: references to whole arrays, and `kept` overlaps none of them; every flag is 0 or 1.
+        unsafe {
+            match self {
+                Way::Picks => choices_by_picks(k, scores, members, order, &mut kept),
+                Way::Pairs => choices_by_pairs(k, scores, members, order, &mut kept),
+            }
+        }
+        kept
+    }
+}
+
+/// Scores below a bound, from all alike to hardly any, and a permutation.
+fn case(random: &mut Random, members: Flags) -> Case {
+    let bound = *random.pick(&[1, 2, 5, 20, 64, 1_000, u64::MAX]);
+    let scores = std::array::from_fn(|_| random.bits() % bound);
+    let mut order: Numbers = std::array::from_fn(|slot| slot as u64);
+    for place in (1..SLOTS).rev() {
+        order.swap(place, random.below(place + 1));
+    }
+    Case { scores, members, order }
+}
+
+fn full_cases() -> Vec<Case> {
+    let mut random = Random::new(2);
+    (0..CASES).map(|_| case(&mut random, [true; SLOTS])).collect()
+}
+
+/// The best by sorting: higher scores first, of equals the earlier in the order.
+fn sorted(k: u64, case: &Case) -> Flags {
+    let mut line: Vec<usize> = case.order.iter().map(|&slot| slot as usize).collect();
+    line.retain(|&slot| case.members[slot]);
+    line.sort_by_key(|&slot| Reverse(case.scores[slot]));
+    let mut kept = [false; SLOTS];
+    line.iter().take(k as usize).for_each(|&slot| kept[slot] = true);
+    kept
+}
+
+/// Both choices against the sort; how many were compared.
+fn compare(full: &[Case]) -> usize {
+    let mut random = Random::new(3);
+    let fewer = |_| {
+        let of = random.below(SLOTS + 1);
+        let members = std::array::from_fn(|_| random.chance(of, SLOTS));
+        case(&mut random, members)
+    };
+    let fewer: Vec<Case> = (0..CASES).map(fewer).collect();
+    let mut compared = 0;
+    for case in full.iter().chain(&fewer) {
+        for k in [0, 1, 4, 12, 48, 63, 64, 65] {
+            let expected = sorted(k, case);
+            assert_eq!(Way::Picks.choose(k, case), expected, "by picks, {k}");
+            assert_eq!(Way::Pairs.choose(k, case), expected, "by pairs, {k}");
+            compared += 1;
+        }
+    }
+    compared
+}
+
+/// Nanoseconds a choice: the mean over the cases, in the best round.
+fn time(way: Way, k: u64, cases: &[Case]) -> f64 {
+    let round = |_| {
+        let start = Instant::now();
+        for case in cases {
+            black_box(way.choose(black_box(k), black_box(case)));
+        }
+        start.elapsed().as_nanos() as f64 / cases.len() as f64
+    };
+    (0..ROUNDS).map(round).fold(f64::INFINITY, f64::min)
+}
+
+/// Instructions a choice, as valgrind's callgrind counts them in this program's own run.
+fn instructions(way: Way, k: u64, cases: usize) -> Option<f64> {
+    let name = way.name();
+    let output = Command::new("valgrind")
+        .args(["--tool=callgrind", "--callgrind-out-file=/dev/null"])
+        .arg(format!("--toggle-collect=choices_by_{name}"))
+        .arg(std::env::current_exe().ok()?)
+        .args(["--only", &k.to_string(), name])
+        .output()
+        .ok()?;
+    let text = String::from_utf8_lossy(&output.stderr).into_owned();
+    let line = text.lines().find(|line| line.contains("Collected"))?;
+    let all: f64 = line.rsplit(':').next()?.trim().parse().ok()?;
+    Some(all / cases as f64)
+}
+
+fn print(unit: &str, mut cost: impl FnMut(Way, u64) -> Option<f64>) {
+    println!("the best of 64 members, {unit} a choice");
+    println!("{:12}{:>9}{:>9}{:>8}", "D_score", "picks", "pairs", "factor");
+    for k in CHOSEN {
+        let (Some(picks), Some(pairs)) = (cost(Way::Picks, k), cost(Way::Pairs, k)) else {
+            println!("valgrind is missing on this machine");
+            return;
+        };
+        println!("{k:<12}{picks:>9.0}{pairs:>9.0}{:>8.2}", pairs / picks);
+    }
+}
+
+fn main() {
+    let cases = full_cases();
+    let words: Vec<String> = std::env::args().skip(1).collect();
+    match words.iter().map(String::as_str).collect::<Vec<_>>()[..] {
+        ["--only", k, name] => {
+            let k = k.parse().expect("a number");
+            let way = if name == "picks" { Way::Picks } else { Way::Pairs };
+            cases.iter().for_each(|case| _ = black_box(way.choose(k, case)));
+        }
+        ["--instructions"] => {
+            compare(&cases);
+            print("instructions", |way, k| instructions(way, k, cases.len()));
+        }
+        _ => {
+            println!("{} choices compared with a sort", compare(&cases));
+            print("nanoseconds", |way, k| Some(time(way, k, &cases)));
+        }
+    }
+}
