@@ -1,2 +1,3 @@
 pub mod StepThree
 pub mod Place
+pub mod BestFirst

@@ -14,16 +14,16 @@ scores = 7 ∷ 9 ∷ 9 ∷ 7 ∷ 7 ∷ []
 unfoldable pub members : List Bool
 members = true ∷ true ∷ false ∷ true ∷ true ∷ []
 
--- the draw
-unfoldable pub draw : List ℕ
-draw = 3 ∷ 4 ∷ 1 ∷ 2 ∷ 0 ∷ []
+-- the order in which they are drawn
+unfoldable pub permutation : List ℕ
+permutation = 3 ∷ 4 ∷ 1 ∷ 2 ∷ 0 ∷ []
 
 pub record Examples : Type 0 where
-  pub none : byPairs 5 scores members draw 0 ≡ replicate 5 false
+  pub none : byPairs 5 scores members permutation 0 ≡ replicate 5 false
   -- with D_score 2, 1 is kept, and of the tie 3, which is drawn first; with 3 also 4
-  pub two : byPairs 5 scores members draw 2 ≡ false ∷ true ∷ false ∷ true ∷ false ∷ []
-  pub three : byPairs 5 scores members draw 3 ≡ false ∷ true ∷ false ∷ true ∷ true ∷ []
+  pub two : byPairs 5 scores members permutation 2 ≡ false ∷ true ∷ false ∷ true ∷ false ∷ []
+  pub three : byPairs 5 scores members permutation 3 ≡ false ∷ true ∷ false ∷ true ∷ true ∷ []
   -- there are four members
-  pub all : byPairs 5 scores members draw 5 ≡ members
+  pub all : byPairs 5 scores members permutation 5 ≡ members
   -- picked one after the other
-  pub picked : bests 5 scores members draw 2 (replicate 5 false) ≡ false ∷ true ∷ false ∷ true ∷ false ∷ []
+  pub picked : bests 5 scores members permutation 2 (replicate 5 false) ≡ false ∷ true ∷ false ∷ true ∷ false ∷ []
