@@ -3,10 +3,11 @@
 
 use bench::plain;
 use reference::coverage::Coverage;
+use reference::event::{Call, Event};
 use reference::generate::traces;
 use reference::params::{Params, TOPICS};
 use reference::random::Random;
-use reference::router::{Peer, Router, Status, TopicRecord, Version, ACTION_LIST};
+use reference::router::{Answer, Done, Peer, Router, Status, TopicRecord, Version, ACTION_LIST};
 use reference::text::{Line, Trace};
 
 const TRACES: usize = 300;
@@ -141,4 +142,28 @@ fn same_test_12() {
 #[test]
 fn ordinary_is_valid() {
     assert!(plain::Router::new(&Params::ordinary()).is_valid());
+}
+
+/// The plain router's GRAFTs in one heartbeat of topic 0 with one subscribed peer, by its backoff's end.
+fn grafts(end: u64, now: u64) -> Answer {
+    let mut second = Router::new(Params::ordinary()).expect("good parameters");
+    second.joined[0] = true;
+    let record = TopicRecord { subscribed: true, ..TopicRecord::default() };
+    second.peers[0] = Peer { status: Status::Connected, id: 7, ..Peer::default() };
+    second.peers[0].topics[0] = record;
+    second.peers[0].backoff_ends[0] = end;
+    let permutation = Box::new(std::array::from_fn(|slot| slot as u64));
+    let event = Event { now, call: Call::Heartbeat { topic: 0, ask: 0, permutation } };
+    plain_of(&second).call(&event, &mut [0; ACTION_LIST])
+}
+
+#[test]
+fn our_own_graft_waits_a_second() {
+    let waits = Ok(Done::Actions(0));
+    let goes_out = Ok(Done::Actions(1));
+    for (now, answer) in [(69_999, waits), (70_000, waits), (70_999, waits), (71_000, goes_out)] {
+        assert_eq!(grafts(70_000, now), answer, "at {now}");
+    }
+    assert_eq!((grafts(1, 1000), grafts(1, 1001)), (waits, goes_out));
+    assert_eq!((grafts(0, 0), grafts(0, 999)), (goes_out, goes_out), "never set");
 }

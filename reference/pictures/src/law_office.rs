@@ -8,6 +8,7 @@ use crate::router::Numbers;
 use crate::scene::{fact, Fact, Scene};
 use crate::svg::px;
 use reference::params::general;
+use reference::router::GRAFT_SLACK;
 
 const SEED: u64 = 4;
 const DARK: u64 = 5 * MINUTE;
@@ -82,8 +83,8 @@ fn chart() -> Chart {
         words: &[
             "The mesh of one hub in the same building. The three return within the hour for which \
              their records are kept, and each is a",
-            "member again within two seconds. One that is restarted later waits until the backoff \
-             of its own leaving is over.",
+            "member again within two seconds. One that is restarted later waits until a second \
+             after the backoff of its own leaving.",
         ],
         scale: Scale::new(&[(DARK, 4), (RETURN, 2), (END, 5)]),
         closer: Some(Closer { from: DARK, to: RETURN, words: "fifty minutes, drawn closer" }),
@@ -116,10 +117,10 @@ fn facts(history: &History, numbers: &Numbers) -> Vec<Fact> {
             LAW.iter().all(|&id| member(id, RETURN + SOON)),
         ),
         fact(
-            "the one that is restarted is no member while its backoff runs",
-            !history.ever_member(RESTARTED, RESTART + SECOND, over),
+            "the one that is restarted is no member while its backoff runs, nor a second longer",
+            !history.ever_member(RESTARTED, RESTART + SECOND, over + GRAFT_SLACK),
         ),
-        fact("and is one two seconds later", member(RESTARTED, over + SOON)),
+        fact("and is one two seconds after it", member(RESTARTED, over + SOON)),
         fact(
             "each heartbeat from the first minute on leaves D_lo members or more",
             settled.all(|beat| beat.1.total() >= least),
