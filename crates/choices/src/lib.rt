@@ -19,7 +19,9 @@ pub extern "C" fn choices_by_picks(
     order: &[u64; SLOTS],
     kept: &mut [bool; SLOTS],
 )
-    ensures { λ r. ⌜ now (kept .exit) ≡ bests slotCount (now (scores .entry)) (now (members .entry)) (now (order .entry)) k (replicate slotCount false) ⌝ }
+    ensures { λ r.
+        ⌜ now (kept .exit)
+        ≡ bests slotCount (now (scores .entry)) (now (members .entry)) (now (order .entry)) k (replicate slotCount false) ⌝ }
 {
     *kept = best_of(k, *scores, *members, *order);
 }

@@ -128,7 +128,12 @@ module _ (sc : List ℕ) where
         ((getD sc cur 0 < getD sc t 0) × (at p t ≡ true) × First r t)
 
     -- s was taken
-    taken : (s : ℕ) (r : List ℕ) (t : ℕ) → Once (s ∷ r) → at p s ≡ true → Walked r s t → (getD sc s 0 ≤ getD sc t 0) × (at p t ≡ true) × First (s ∷ r) t
+    taken :
+        (s : ℕ) (r : List ℕ) (t : ℕ) →
+        Once (s ∷ r) →
+        at p s ≡ true →
+        Walked r s t →
+        (getD sc s 0 ≤ getD sc t 0) × (at p t ≡ true) × First (s ∷ r) t
     taken s r t o a w =
         ⊎-elim
         (λ h. (
@@ -176,7 +181,11 @@ module _ (sc : List ℕ) where
         ⊎-elim
         (λ h. inl (
           h .0,
-          λ c b i. ⊎-elim (λ q. let z = flat (ap (at p) (sym q) ∙ b) in let k = ap (λ (k : ℕ). getD sc k 0) q in omega arith) (λ j. h .1 c b j) i,
+          λ c b i.
+              ⊎-elim
+              (λ q. let z = flat (ap (at p) (sym q) ∙ b) in let k = ap (λ (k : ℕ). getD sc k 0) q in omega arith)
+              (λ j. h .1 c b j)
+              i,
         ))
         (λ h. inr (
           h .0,
