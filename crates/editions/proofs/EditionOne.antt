@@ -11,11 +11,9 @@ use borrow.Author.Tests.{ltb-true, lt-ltb}
 use Rattle.sets.specs.Sets.{Sub, size, both, except, isPermutation, comers, goer, swapOnce, swapTo}
 use Rattle.sets.proofs.SwapLaws.{drawn-left, once-len, once-only, no-less}
 use Rattle.sets.proofs.SetLaws.{size-split}
-use Rattle.mesh.specs.Maintenance.{theBest, keepers, swapped, mesh3, Rules, Whole}
-use Rattle.mesh.specs.declared.Degrees.{Degrees}
-use Rattle.mesh.specs.declared.View.{View}
+use Rattle.mesh.specs.Maintenance.{theBest, keepers, swapped, mesh3}
 use Rattle.mesh.proofs.MaintenanceLaws.{size-best, len-keepers, sub-keepers, lower-keepers}
-use Rattle.editions.specs.Edition1.{swapOnce as swapOnce₁, swapTo as swapTo₁, mesh3 as mesh3₁}
+use Rattle.editions.specs.Edition1.{swapOnce as swapOnce₁, swapTo as swapTo₁, mesh3 as mesh3₁, AsIn01}
 
 module _
     (n out : ℕ) (sc : List ℕ) (outs : List Bool) (order : List ℕ) (m b : List Bool)
@@ -63,14 +61,7 @@ module _
           (ap (swapTo₁ n out outs order m b f) (same-once k drawn) ∙ ih (ltb-true 0 (size (comers n out sc outs order m b k)) ec) leave)
 
 -- D_score + D_out ≤ D: 01's rule
-pub mesh3-one :
-    (n : ℕ) (t : Degrees) (v : View) →
-    Rules t →
-    t .score + t .out ≤ t .d →
-    Whole n v →
-    (m : List Bool) →
-    length m ≡ n →
-    mesh3₁ n t v m ≡ mesh3 n t v m
+pub mesh3-one : AsIn01
 unfolding mesh3 mesh3₁ swapped
 mesh3-one n t v ru one w m lm = go (ltb (t .hi) (size m)) refl
   where

@@ -1,12 +1,12 @@
--- Step 3 as 01 has it, for the law that edition 1's parameters keep it (proofs/EditionOne.antt).
--- Over any slot count n.
-use Prim.Native.Nat.{ℕ, zero, suc}
+-- Step 3 in 01's own words, and the statement that under 01's rule on D_score it is step 3 as crate mesh has it. Over any slot count n.
+use Prim.Native.Nat.{ℕ, zero, suc, _+_, _≤_}
+use mathlib.Core.Path.{_≡_}
 use mathlib.Core.Bool.{Bool, true, false, cond, _&&_}
 use mathlib.Core.List.{List}
-use lib.ListN.{set}
+use lib.ListN.{length, set}
 use lib.Dec.{ltb}
 use Rattle.sets.specs.Sets.{size, both, except, firstOf, lastOf}
-use Rattle.mesh.specs.Maintenance.{theBest, keepers}
+use Rattle.mesh.specs.Maintenance.{theBest, keepers, mesh3 as stepThree, Rules, Whole}
 use Rattle.mesh.specs.declared.Degrees.{Degrees}
 use Rattle.mesh.specs.declared.View.{View}
 
@@ -31,3 +31,14 @@ mesh3 n t v m =
     cond (ltb (t .hi) (size m))
     (swapTo n (t .out) (v .outbound) (v .permutation) m (theBest n t v m) (t .out) (keepers t v m (theBest n t v m)))
     m
+
+-- under 01's joint rule "D_score + D_out ≤ D" both are the same, of every mesh
+abbrev pub AsIn01 : Type 0
+AsIn01 =
+    (n : ℕ) (t : Degrees) (v : View) →
+    Rules t →
+    t .score + t .out ≤ t .d →
+    Whole n v →
+    (m : List Bool) →
+    length m ≡ n →
+    mesh3 n t v m ≡ stepThree n t v m
