@@ -7,11 +7,12 @@ import subprocess
 import sys
 from collections import Counter
 
-from make import ABSENT, NAME_BYTES, TOPICS, compose, damage, make_lists, make_names, make_words, sized_words, table
+from make import ABSENT, TOPICS, compose, damage, make_lists, make_names, make_words, sized_words, table
 from walk import DIALECTS, KINDS, LONGEST, walk
 
-WRITTEN, DAMAGED, COMPOSED, OURS = 3000, 4000, 8000, 3000  # messages: of each implementation, damaged of each, composed, of ours
+WRITTEN, DAMAGED, COMPOSED, OURS = 2000, 3000, 6000, 1500  # messages: of each implementation, damaged of each, composed, of ours
 PER_NAMES = 50  # messages for one set of names
+MOST = [1, 2, 3, 4] * 10 + [100]  # subscriptions, GRAFTs and PRUNEs of a message
 PEER = 7
 UNKNOWN_TOPIC = 11
 MALFORMED = 10
@@ -106,6 +107,14 @@ def explain(data, names, kinds, theirs):
     return needed
 
 
+def outcome(name, mine, theirs):
+    if mine == theirs:
+        return "both refuse" if mine is None else "both read the same"
+    if mine is None or theirs is None:
+        return f"{'ours' if mine is None else name} alone refuses"
+    return "read otherwise"
+
+
 def judge(what, messages, ours):
     """all four readers on all messages: ours as order 1 asks, theirs as their dialects say, and each difference by its kinds"""
     check(f"{what}: ours reads as order 1 asks", [
@@ -119,27 +128,28 @@ def judge(what, messages, ours):
             if theirs != walk(data, kinds)[0]:
                 faults.append((data.hex(), name, words, "the walk", walk(data, kinds)))
             theirs = ours_of(theirs, names)
-            if mine == theirs:
-                tally[name]["both refuse" if mine is None else "the same entries"] += 1
-            else:
-                tally[name]["a difference"] += 1
+            tally[name][outcome(name, mine, theirs)] += 1
+            if mine != theirs:
                 found[name].update(explain(data, names, kinds, theirs))
         check(f"{what}: {name} reads the same, but for its kinds of difference", faults)
 
 
-def with_names(count, utf8):
-    """so many times a set of names, each for some messages"""
+def with_names(count, share):
+    """so many times whether names are UTF-8, that share of them, and a set of names, each for some messages"""
     for i in range(count):
         if i % PER_NAMES == 0:
+            utf8 = rng.random() < share
             names = make_names(rng, utf8)
-        yield names
+        yield utf8, names
 
 
 def written_by(name):
     """messages that an implementation writes, and their names; ours and the others read what was put in"""
-    utf8 = name != "gogo"  # the others take strings of UTF-8 alone
-    names = list(with_names(WRITTEN, utf8))
-    said = [make_words(rng, n, utf8, most=rng.choice([2, 5, 5, 5, 100])) for n in names]
+    share = 0.5 if name == "gogo" else 1  # the others write strings of UTF-8 alone
+    names, said = [], []
+    for utf8, n in with_names(WRITTEN, share):
+        names.append(n)
+        said.append(make_words(rng, n, utf8, rng.choice(MOST)))
     for size in range(LONGEST - 5, LONGEST + 6):
         names.append([b"a"] + [b""] * (TOPICS - 1))
         said.append(sized_words(size))
@@ -166,7 +176,7 @@ def damaged(name, messages):
 
 def composed():
     """messages composed field by field, of all that a message may hold"""
-    messages = [(compose(rng, "rpc", names), names) for names in with_names(COMPOSED, False)]
+    messages = [(compose(rng, "rpc", names), names) for _, names in with_names(COMPOSED, 0.8)]
     judge(f"{COMPOSED} composed messages", messages, read_ours(messages))
 
 
@@ -183,7 +193,7 @@ def written_by_ours(utf8, readers, writers):
     """what ours writes: others read what was to be said, and write the same bytes"""
     kind = "UTF-8" if utf8 else "any bytes"
     what = f"{OURS} messages that ours writes, names of {kind}"
-    names = list(with_names(OURS, utf8))
+    names = [n for _, n in with_names(OURS, utf8)]
     lists = [make_lists(rng, n) for n in names]
     said = [words_of(changes, actions, n) for (changes, actions), n in zip(lists, names)]
     wanted = run("gogo", ["write"], said)
@@ -219,7 +229,7 @@ written_by_ours(True, DIALECTS, DIALECTS)
 written_by_ours(False, ["gogo", "protoc"], ["gogo"])
 
 for implementation, kinds in DIALECTS.items():
-    print(f"{implementation}: " + ", ".join(f"{count} {outcome}" for outcome, count in sorted(tally[implementation].items())))
+    print(f"{implementation}: " + ", ".join(f"{case} {count}" for case, count in sorted(tally[implementation].items())))
     for kind in kinds:
         print(f"    {found[implementation][kind]:6} {kind}: {implementation} {KINDS[kind]}")
     check(f"{implementation}: every kind of difference was seen", [(kind,) for kind in kinds if not found[implementation][kind]])

@@ -135,7 +135,7 @@ def varint(rng, value):
         value >>= 7
     out.append(value)
     kind = rng.random()
-    if kind < 0.1 and len(out) < 10:
+    if kind < 0.06 and len(out) < 10:
         longer = rng.randint(len(out) + 1, 11 if kind < 0.01 else 10)
         out[-1] |= 128
         out += bytes([128] * (longer - len(out) - 1)) + b"\0"
