@@ -150,9 +150,9 @@ def written_by(name):
     for utf8, n in with_names(WRITTEN, share):
         names.append(n)
         said.append(make_words(rng, n, utf8, rng.choice(MOST)))
-    for size in range(LONGEST - 5, LONGEST + 6):
+    for words in [sized_words(size) for size in range(LONGEST - 5, LONGEST + 6)] + [" ".join(["sub,-,-"] * (LONGEST // 2))]:
         names.append([b"a"] + [b""] * (TOPICS - 1))
-        said.append(sized_words(size))
+        said.append(words)
     messages = [(bytes.fromhex(line), n) for line, n in zip(run(name, ["write"], said), names)]
     ours = read_ours(messages)
     check(f"{len(said)} messages that {name} writes: ours reads what was put in", [
@@ -231,7 +231,8 @@ written_by_ours(False, ["gogo", "protoc"], ["gogo"])
 for implementation, kinds in DIALECTS.items():
     print(f"{implementation}: " + ", ".join(f"{case} {count}" for case, count in sorted(tally[implementation].items())))
     for kind in kinds:
-        print(f"    {found[implementation][kind]:6} {kind}: {implementation} {KINDS[kind]}")
+        does, asked = KINDS[kind]
+        print(f"    {found[implementation][kind]:6} {kind}: {implementation} {does}; order 1: {asked}")
     check(f"{implementation}: every kind of difference was seen", [(kind,) for kind in kinds if not found[implementation][kind]])
 print(f"{passed} passed, {failed} failed")
 sys.exit(failed != 0)

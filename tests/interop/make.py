@@ -191,7 +191,7 @@ def compose_field(rng, kind, names, field, wire):
         contents = rng.randbytes(rng.randint(0, 8))
     length = len(contents)
     if rng.random() < 0.03:
-        length += rng.choice([1, -1, 1 << 32, 3 << 40, 1 << 63])
+        length += rng.choice([1, -1, 1 << 32, 3 << 40, 1 << 63, -length - rng.randint(1, 20)])
     return front + varint(rng, length & BITS_64) + contents
 
 

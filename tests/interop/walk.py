@@ -8,23 +8,23 @@ BITS_32 = (1 << 32) - 1
 BITS_64 = (1 << 64) - 1
 VARINT, FIXED_64, LENGTH, GROUP, GROUP_END, FIXED_32 = range(6)
 
-# what an implementation does, where order 1 asks something else
+# what an implementation does, and the words of order 1 that ask something else
 KINDS = {
-    "any length": "reads messages over 16,384 bytes",
-    "65 bits": "drops the bits above 64 of a tenth byte",
-    "tag of 32 bits": "cuts a tag to 32 bits, so that a high field number becomes a low one",
-    "field of 32 bits": "cuts a field number to 32 bits, and refuses it where the sign bit is set",
-    "length of 32 bits": "cuts the length of a known field to 32 bits",
-    "bool of 32 bits": "cuts a bool to 32 bits, so that 2^32 is false",
-    "five bytes": "refuses a tag or a length of more than five bytes",
-    "field 0": "skips a field of number 0",
-    "other wire type": "refuses a known field of another wire type",
-    "group": "skips a group from its begin to its end of the same number",
-    "loose group": "skips a group to its end, whatever the numbers of its fields",
-    "contents": "reads what order 1 skips: publish, ihave, iwant, idontwant, peers",
-    "required": "refuses a publish without its required topic",
-    "UTF-8": "refuses a string that is not UTF-8",
-    "last control": "takes the last control field, and does not join them",
+    "any length": ("reads messages over 16,384 bytes", "A message over 16,384 bytes gives 10"),
+    "65 bits": ("drops the bits above 64 of a tenth byte", "up to ten bytes and 64 bits"),
+    "tag of 32 bits": ("cuts a tag to 32 bits, so that a high field number becomes a low one", "Unknown fields are skipped"),
+    "field of 32 bits": ("cuts a field number to 32 bits, and refuses one whose sign bit is set", "Unknown fields are skipped"),
+    "length of 32 bits": ("cuts the length of a known field to 32 bits", "up to ten bytes and 64 bits"),
+    "bool of 32 bits": ("cuts a bool to 32 bits, so that 2^32 is false", "a subscribe above 0 is 1"),
+    "five bytes": ("refuses a tag or a length of more than five bytes", "Numbers may be overlong here, up to ten bytes"),
+    "field 0": ("skips a field of number 0", "Malformed bytes (field 0 too) give 10"),
+    "other wire type": ("refuses a known field of another wire type", "known ones of another wire type, are skipped"),
+    "group": ("skips a group up to its end of the same number", "Malformed bytes (wire types other than 0, 1, 2 and 5 too) give 10"),
+    "loose group": ("skips a group up to its end of any number", "Malformed bytes (wire types other than 0, 1, 2 and 5 too) give 10"),
+    "contents": ("reads publish, ihave, iwant, peers and idontwant", "skipped; unknown fields are skipped"),
+    "required": ("refuses a publish without its required topic", "publish 2 skipped"),
+    "UTF-8": ("refuses a string that is not UTF-8", "Topic names of 1 to 64 bytes"),
+    "last control": ("takes the last control field alone", "Entries of a repeated control field are joined"),
 }
 
 DIALECTS = {
