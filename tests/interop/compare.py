@@ -26,7 +26,10 @@ passed = failed = 0
 
 def run(program, argument, lines):
     """what a program prints, a line for each line given to it"""
-    command = [sys.executable, "-B", os.path.join(os.path.dirname(__file__), "protoc.py")] if program == "protoc" else [os.path.join(folder, program)]
+    if program == "protoc":
+        command = [sys.executable, "-B", os.path.join(os.path.dirname(__file__), "protoc.py")]
+    else:
+        command = [os.path.join(folder, program)]
     given = "".join(line + "\n" for line in lines)
     with open(os.path.join(folder, program + ".log"), "a", encoding="utf-8") as log:
         done = subprocess.run(command + argument, input=given, stdout=subprocess.PIPE, stderr=log, text=True, check=True,

@@ -1,4 +1,5 @@
-"""Messages for the comparison, from a seed: names of topics, what is to be said (in words, README.md), damage, and messages composed byte by byte."""
+"""Messages for the comparison, from a seed: names of topics, what is to be said (in the words of README.md), damage, and messages composed
+field by field."""
 
 from walk import BITS_64, FIXED_32, FIXED_64, GROUP, GROUP_END, LENGTH, SCHEMA, VARINT, WIRE_TYPES
 

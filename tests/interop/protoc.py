@@ -1,5 +1,5 @@
-"""Google's protobuf in C++ through its Python: `protoc.py write` turns lines of words into lines of hex, `protoc.py read` the other way round.
-README.md describes the words. rpc_pb2 is generated from rpc.proto by protoc."""
+"""Google's protobuf in C++ through its Python: `protoc.py write` turns lines of words into lines of hex, `protoc.py read` the other way
+round. README.md describes the words. rpc_pb2 is generated from rpc.proto by protoc."""
 
 import sys
 import warnings

@@ -50,7 +50,10 @@ fn from_words(line: &str) -> Rpc<'static> {
         }
         let control = rpc.control.as_mut();
         match w[0] {
-            "sub" => rpc.subscriptions.push(SubOpts { subscribe: present(w[1]).map(|word| word == "1"), topic: to_string(w[2]) }),
+            "sub" => rpc.subscriptions.push(SubOpts {
+                subscribe: present(w[1]).map(|word| word == "1"),
+                topic: to_string(w[2]),
+            }),
             "publish" => rpc.publish.push(Message {
                 from: to_string(w[1]),
                 data: to_bytes(w[2]),
@@ -59,7 +62,9 @@ fn from_words(line: &str) -> Rpc<'static> {
                 signature: to_bytes(w[5]),
                 key: to_bytes(w[6]),
             }),
-            "ihave" => control.unwrap().ihave.push(IHave { topic: to_string(w[1]), ids: to_list(&w[2..]) }),
+            "ihave" => {
+                control.unwrap().ihave.push(IHave { topic: to_string(w[1]), ids: to_list(&w[2..]) })
+            }
             "iwant" => control.unwrap().iwant.push(IWant { ids: to_list(&w[1..]) }),
             "graft" => control.unwrap().graft.push(Graft { topic: to_string(w[1]) }),
             "prune" => control.unwrap().prune.push(Prune {
@@ -111,17 +116,30 @@ fn to_words(rpc: &Rpc) -> String {
     }
     for m in &rpc.publish {
         let topic = hex(m.topic.as_bytes());
-        let words = [of_string(&m.from), of_bytes(&m.data), of_bytes(&m.seqno), topic, of_bytes(&m.signature), of_bytes(&m.key)];
+        let words = [
+            of_string(&m.from),
+            of_bytes(&m.data),
+            of_bytes(&m.seqno),
+            topic,
+            of_bytes(&m.signature),
+            of_bytes(&m.key),
+        ];
         items.push(said("publish", &words));
     }
     if let Some(control) = &rpc.control {
         let id = |id: &Cow<[u8]>| hex(id);
         items.push("control".into());
-        items.extend(control.ihave.iter().map(|c| item("ihave", &[of_string(&c.topic)], &c.ids, id)));
+        items.extend(
+            control.ihave.iter().map(|c| item("ihave", &[of_string(&c.topic)], &c.ids, id)),
+        );
         items.extend(control.iwant.iter().map(|c| item("iwant", &[], &c.ids, id)));
         items.extend(control.graft.iter().map(|c| said("graft", &[of_string(&c.topic)])));
         let peer = |peer: &PeerInfo| format!("{}/{}", of_bytes(&peer.id), of_bytes(&peer.record));
-        items.extend(control.prune.iter().map(|c| item("prune", &[of_string(&c.topic), of_number(c.backoff)], &c.peers, peer)));
+        items.extend(
+            control.prune.iter().map(|c| {
+                item("prune", &[of_string(&c.topic), of_number(c.backoff)], &c.peers, peer)
+            }),
+        );
         items.extend(control.idontwant.iter().map(|c| item("idontwant", &[], &c.ids, id)));
     }
     items.join(" ")
@@ -136,7 +154,8 @@ fn write(line: &str) -> String {
 /// a panic of the reader, an addition that overflows, is a refusal too
 fn read(line: &str) -> String {
     let bytes = unhex(line);
-    let words = || Rpc::from_reader(&mut BytesReader::from_bytes(&bytes), &bytes).map(|rpc| to_words(&rpc));
+    let words =
+        || Rpc::from_reader(&mut BytesReader::from_bytes(&bytes), &bytes).map(|rpc| to_words(&rpc));
     std::panic::catch_unwind(words).ok().and_then(Result::ok).unwrap_or(REFUSED.into())
 }
 

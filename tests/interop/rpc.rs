@@ -10,7 +10,7 @@ type Text<'a> = Cow<'a, str>;
 
 /// A message: each field's name, type, tag, reader of one value into the field, size of the field, and writer of the field.
 macro_rules! message {
-    ($name:ident { $($field:ident: $kind:ident $(($inner:ident))? = $tag:literal,)* }) => {
+    ($name:ident { $($field:ident: $kind:ident $(($inner:ident))? = $tag:literal),* $(,)? }) => {
         #[derive(Default)]
         pub struct $name<'a> { $(pub $field: field!(type $kind $($inner)?),)* }
 
@@ -79,18 +79,30 @@ macro_rules! field {
     (write repeated $w:ident $tag:literal $f:expr) => { for m in &$f { $w.write_with_tag($tag, |w| w.write_message(m))?; } };
 }
 
-message!(Rpc { subscriptions: repeated(SubOpts) = 10, publish: repeated(Message) = 18, control: message(Control) = 26, });
-message!(SubOpts { subscribe: bool = 8, topic: string = 18, });
+message!(Rpc {
+    subscriptions: repeated(SubOpts) = 10,
+    publish: repeated(Message) = 18,
+    control: message(Control) = 26,
+});
+message!(SubOpts { subscribe: bool = 8, topic: string = 18 });
 message!(Message {
-    from: string = 10, data: bytes = 18, seqno: bytes = 26, topic: required_string = 34, signature: bytes = 42, key: bytes = 50,
+    from: string = 10,
+    data: bytes = 18,
+    seqno: bytes = 26,
+    topic: required_string = 34,
+    signature: bytes = 42,
+    key: bytes = 50,
 });
 message!(Control {
-    ihave: repeated(IHave) = 10, iwant: repeated(IWant) = 18, graft: repeated(Graft) = 26, prune: repeated(Prune) = 34,
+    ihave: repeated(IHave) = 10,
+    iwant: repeated(IWant) = 18,
+    graft: repeated(Graft) = 26,
+    prune: repeated(Prune) = 34,
     idontwant: repeated(IDontWant) = 42,
 });
-message!(IHave { topic: string = 10, ids: repeated_bytes = 18, });
-message!(IWant { ids: repeated_bytes = 10, });
-message!(Graft { topic: string = 10, });
-message!(Prune { topic: string = 10, peers: repeated(PeerInfo) = 18, backoff: uint64 = 24, });
-message!(PeerInfo { id: bytes = 10, record: bytes = 18, });
-message!(IDontWant { ids: repeated_bytes = 10, });
+message!(IHave { topic: string = 10, ids: repeated_bytes = 18 });
+message!(IWant { ids: repeated_bytes = 10 });
+message!(Graft { topic: string = 10 });
+message!(Prune { topic: string = 10, peers: repeated(PeerInfo) = 18, backoff: uint64 = 24 });
+message!(PeerInfo { id: bytes = 10, record: bytes = 18 });
+message!(IDontWant { ids: repeated_bytes = 10 });

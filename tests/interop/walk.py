@@ -29,7 +29,8 @@ KINDS = {
 
 DIALECTS = {
     "gogo": ("any length", "65 bits", "field of 32 bits", "other wire type", "loose group", "contents", "required"),
-    "quick": ("any length", "65 bits", "tag of 32 bits", "length of 32 bits", "bool of 32 bits", "field 0", "contents", "UTF-8", "last control"),
+    "quick": ("any length", "65 bits", "tag of 32 bits", "length of 32 bits", "bool of 32 bits", "field 0", "contents", "UTF-8",
+              "last control"),
     "protoc": ("any length", "65 bits", "tag of 32 bits", "five bytes", "group", "contents"),
 }
 
