@@ -92,7 +92,7 @@ static void read_message(const char *text)
         }
         entries[i] = NUMBER_MARK;
     }
-    printf(changed ? " changed" : "");
+    fputs(changed ? " changed" : "", stdout);
 }
 
 static void write_message(char *text)
@@ -132,7 +132,7 @@ static void write_message(char *text)
             changed |= buffer[i] != BYTE_MARK;
         }
     }
-    printf(changed ? " changed" : "");
+    fputs(changed ? " changed" : "", stdout);
 }
 
 int main(void)
