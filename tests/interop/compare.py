@@ -7,7 +7,7 @@ import subprocess
 import sys
 from collections import Counter
 
-from make import ABSENT, TOPICS, compose, damage, make_lists, make_names, make_words, sized_words, table
+from make import ABSENT, LONGEST_LISTS, LONGEST_NAMES, TOPICS, compose, damage, make_lists, make_names, make_words, sized_words, table
 from walk import DIALECTS, KINDS, LONGEST, walk
 
 WRITTEN, DAMAGED, COMPOSED, OURS = 2000, 3000, 6000, 1500  # messages: of each implementation, damaged of each, composed, of ours
@@ -17,7 +17,7 @@ PEER = 7
 UNKNOWN_TOPIC = 11
 MALFORMED = 10
 NO_ROOM = 13
-FEW = 5  # failures of a check that are shown
+FEW, WIDE = 5, 2000  # failures of a check that are shown, and how much of each
 
 folder = sys.argv[1]
 rng = random.Random(int(sys.argv[2]) if len(sys.argv) > 2 else 1)
@@ -46,7 +46,7 @@ def check(what, faults):
         failed += 1
         print(f"FAILED: {what}: {len(faults)} times")
         for fault in faults[:FEW]:
-            print("   ", *fault)
+            print("   ", *fault if len(str(fault)) < WIDE else (str(fault)[:WIDE], ".."))
     else:
         passed += 1
         print(f"ok: {what}")
@@ -101,7 +101,7 @@ def read_ours(messages):
 # what is said, and read
 
 def explain(data, names, kinds, theirs):
-    """the fewest kinds of a dialect with which the walk says what they say"""
+    """kinds of a dialect with which the walk says what they say, and without any of them not"""
     needed = list(kinds)
     for kind in kinds:
         fewer = [k for k in needed if k != kind]
@@ -198,6 +198,8 @@ def written_by_ours(utf8, readers, writers):
     what = f"{OURS} messages that ours writes, names of {kind}"
     names = [n for _, n in with_names(OURS, utf8)]
     lists = [make_lists(rng, n) for n in names]
+    names.append(LONGEST_NAMES)
+    lists.append(LONGEST_LISTS)
     said = [words_of(changes, actions, n) for (changes, actions), n in zip(lists, names)]
     wanted = run("gogo", ["write"], said)
     lines = []

@@ -7,6 +7,10 @@ TOPICS = 8
 NAME_BYTES = 64
 ABSENT = "-"
 
+# what makes the longest message that ours writes: pairs (join, topic), and (kind, seconds, topic)
+LONGEST_NAMES = [bytes([65 + topic]) * NAME_BYTES for topic in range(TOPICS)]
+LONGEST_LISTS = [(1, topic) for topic in range(TOPICS)], [(2, 3600, topic) for topic in range(TOPICS)] * 8
+
 
 def text(rng, length, utf8):
     """a name of so many bytes"""
