@@ -40,12 +40,12 @@ def run(program, argument, lines):
 
 
 def check(what, faults):
-    """counts a check, and shows the first faults"""
+    """counts a check, and shows the shortest faults"""
     global passed, failed
     if faults:
         failed += 1
         print(f"FAILED: {what}: {len(faults)} times")
-        for fault in faults[:FEW]:
+        for fault in sorted(faults, key=lambda fault: len(str(fault)))[:FEW]:
             print("   ", *fault if len(str(fault)) < WIDE else (str(fault)[:WIDE], ".."))
     else:
         passed += 1
