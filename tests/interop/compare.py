@@ -194,12 +194,11 @@ def words_of(changes, actions, names):
 
 def written_by_ours(utf8, readers, writers):
     """what ours writes: others read what was to be said, and write the same bytes"""
-    kind = "UTF-8" if utf8 else "any bytes"
-    what = f"{OURS} messages that ours writes, names of {kind}"
     names = [n for _, n in with_names(OURS, utf8)]
     lists = [make_lists(rng, n) for n in names]
     names.append(LONGEST_NAMES)
     lists.append(LONGEST_LISTS)
+    what = f"{len(lists)} messages that ours writes, names of {'UTF-8' if utf8 else 'any bytes'}"
     said = [words_of(changes, actions, n) for (changes, actions), n in zip(lists, names)]
     wanted = run("gogo", ["write"], said)
     lines = []
