@@ -1,7 +1,9 @@
 //! Gossipsub's RPC as bytes: the topics' names, the reader and the writer. Written from
 //! 02's orders 1 and 4, sentence by sentence; clear, not fast.
 
+pub mod census;
 mod field;
+pub mod holder;
 mod names;
 mod reader;
 mod writer;

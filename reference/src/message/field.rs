@@ -47,12 +47,13 @@ pub struct Broken {
 pub enum Content<'a> {
     Number(u64),
     Bytes(Inside<'a>),
-    /// Four or eight bytes, which no field that we know has.
-    Fixed,
+    /// So many bytes, four or eight, which no field that we know has.
+    Fixed(usize),
 }
 
 pub struct Field<'a> {
     pub number: u64,
+    pub wire_type: u64,
     pub content: Content<'a>,
 }
 
@@ -87,6 +88,11 @@ impl<'a> Fields<'a> {
         Fields { until: message, place: 0, level: 0 }
     }
 
+    /// Where the next field begins.
+    pub fn place(&self) -> usize {
+        self.place
+    }
+
     /// The next field, none at the end.
     pub fn next_field(&mut self) -> Result<Option<Field<'a>>, Broken> {
         let (place, level) = (self.place, self.level);
@@ -107,7 +113,7 @@ impl<'a> Fields<'a> {
             wire::NUMBER => Content::Number(self.number(Part::Value)?),
             wire::EIGHT_BYTES => {
                 self.skip(8, wire_type)?;
-                Content::Fixed
+                Content::Fixed(8)
             }
             wire::LENGTH => {
                 let length = self.number(Part::Length)?;
@@ -118,11 +124,11 @@ impl<'a> Fields<'a> {
             }
             wire::FOUR_BYTES => {
                 self.skip(4, wire_type)?;
-                Content::Fixed
+                Content::Fixed(4)
             }
             other => return Err(Reason::WireType(other)),
         };
-        Ok(Field { number, content })
+        Ok(Field { number, wire_type, content })
     }
 
     /// Groups of seven bits, low first, top bit set on all but the last.

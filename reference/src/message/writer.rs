@@ -106,7 +106,7 @@ impl Lists {
             wrong_if(!is_topic, Wrong::ActionTopic);
             wrong_if(is_topic && names.name(topic).is_none(), Wrong::ActionTopicUnnamed);
         }
-        wrong_if(self.changes.len() % 2 != 0, Wrong::HalfAChange);
+        wrong_if(!self.changes.len().is_multiple_of(2), Wrong::HalfAChange);
         wrong_if(self.changes.len() / 2 > MOST_CHANGES, Wrong::TooManyChanges);
         for change in self.changes.chunks_exact(2) {
             let (kind, topic) = (change[0], change[1]);
