@@ -6,6 +6,7 @@ mod field;
 pub mod holder;
 mod names;
 mod reader;
+pub mod tree;
 mod writer;
 
 pub use field::{Broken, Part, Reason, LEVELS};

@@ -93,6 +93,11 @@ impl<'a> Fields<'a> {
         self.place
     }
 
+    /// The bytes from a place up to the end.
+    pub fn from(&self, place: usize) -> &'a [u8] {
+        &self.until[place..]
+    }
+
     /// The next field, none at the end.
     pub fn next_field(&mut self) -> Result<Option<Field<'a>>, Broken> {
         let (place, level) = (self.place, self.level);

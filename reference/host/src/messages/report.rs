@@ -2,6 +2,7 @@
 
 use super::library::MessageLibrary;
 use super::runs::{again, Failure, Subject};
+use reference::message::tree::shrink_message;
 use reference::message::{Lists, Names, NamesTable, ENTRY_LIST, LONGEST_WRITTEN, NAME_ROW};
 use reference::params::TOPICS;
 use reference::shrink::shrink;
@@ -59,13 +60,16 @@ fn shrunk<L: MessageLibrary>(
         let mut attempt = |change: &dyn Fn(&mut [u8])| {
             let mut other = table;
             change(&mut other[NAME_ROW * topic..][..NAME_ROW]);
-            if fails(&other, &subject) {
+            let still = fails(&other, &subject);
+            if still {
                 table = other;
             }
+            still
         };
-        attempt(&|row| row.fill(0));
-        attempt(&|row| row[0] = 1);
-        attempt(&|row| row[1..].fill(b'a' + topic as u8));
+        if !attempt(&|row| row.fill(0)) {
+            attempt(&|row| row[0] = 1);
+            attempt(&|row| row[1..].fill(b'a' + topic as u8));
+        }
     }
     (table, subject)
 }
@@ -81,7 +85,7 @@ fn shrunk_message(
         Subject::Read { message, room, then_written }
     };
     let room = if fails(&of(&message, ENTRY_LIST)) { ENTRY_LIST } else { room };
-    let mut message = shrink(message, |message| fails(&of(message, room)));
+    let mut message = shrink_message(message, |message| fails(&of(message, room)));
     for place in 0..message.len() {
         let byte = message[place];
         let plainer = [0, 1, byte & 0x7f].into_iter().filter(|&other| other < byte);
