@@ -61,6 +61,18 @@ pub fn every_cut(bytes: &[u8]) -> impl Iterator<Item = Input> + '_ {
     (0..bytes.len()).map(|length| Input { kind: "cut short", bytes: bytes[..length].to_vec() })
 }
 
+/// Messages of no byte and of one, and all two bytes as a message and in each field that holds
+/// fields.
+pub fn every_short() -> impl Iterator<Item = Input> {
+    const FRONTS: [&[u8]; 5] =
+        [&[], &[0x0a, 0x02], &[0x1a, 0x02], &[0x1a, 0x04, 0x1a, 0x02], &[0x1a, 0x04, 0x22, 0x02]];
+    let pairs = (0..=u16::MAX).map(u16::to_le_bytes);
+    let in_fronts = pairs.flat_map(|pair| FRONTS.map(|front| [front, &pair].concat()));
+    let single = (0..=u8::MAX).map(|byte| vec![byte]);
+    let all = [Vec::new()].into_iter().chain(single).chain(in_fronts);
+    all.map(|bytes| Input { kind: "short", bytes })
+}
+
 /// Bytes that were never a message: any, or those that tags, lengths and ends are made of.
 pub fn noise(random: &mut Random) -> Input {
     const LIKELY: [u8; 16] = [

@@ -13,7 +13,7 @@ use host_compare::stand_in::StandIn as Tested;
 
 const COUNT: u64 = 200_000;
 const SEED: u64 = 20_261_115;
-const USAGE: &str = "usage: compare_messages [COUNT] [SEED] [names | read | write]";
+const USAGE: &str = "usage: compare_messages [COUNT] [SEED] [names | read | short | write]";
 
 fn main() -> ExitCode {
     command::run("compare_messages", run)
@@ -53,6 +53,7 @@ fn total(part: &str, count: u64) -> String {
     let what = match part {
         "names" => "tables of names",
         "read" => "messages read",
+        "short" => "short ones",
         _ => "lists written",
     };
     format!("{count} {what}")

@@ -18,6 +18,7 @@ pub struct Reached {
 /// The parts of a comparison.
 pub const NAMES: &str = "names";
 pub const READ: &str = "read";
+pub const SHORT: &str = "short";
 pub const WRITE: &str = "write";
 
 const FULL: &str = "read: 8192 entries";
@@ -80,6 +81,7 @@ fn wanted(part: &str) -> Vec<String> {
             kinds.chain([0, 2].map(|number| answer(NAMES, number))).collect()
         }
         READ => wanted_of_reading(),
+        SHORT => [0, 10].map(|number| answer(READ, number)).to_vec(),
         _ => {
             let mut wanted = vec![ALL_BUT_ONE.to_string()];
             wanted.extend([0, 2, 13].map(|number| answer(WRITE, number)));

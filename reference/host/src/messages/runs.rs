@@ -1,7 +1,7 @@
 //! The runs: tables of names, messages of every kind, lists to be written.
 
 use super::library::MessageLibrary;
-use super::reached::{Reached, NAMES, READ, WRITE};
+use super::reached::{Reached, NAMES, READ, SHORT, WRITE};
 use super::sides::Sides;
 use crate::pair::Difference;
 use reference::generate::messages::Input;
@@ -15,7 +15,7 @@ use reference::random::Random;
 use reference::router::PRUNE;
 
 /// The parts that can be compared, in this order.
-pub const PARTS: [&str; 3] = [NAMES, READ, WRITE];
+pub const PARTS: [&str; 4] = [NAMES, READ, SHORT, WRITE];
 
 /// Lengths of lists that are refused, and of longer ones that are not.
 pub const SHORT_LISTS: [usize; 6] = [0, 1, 3, 24_573, 24_574, 24_575];
@@ -27,6 +27,9 @@ pub const BUFFERS: [&str; 6] =
 
 /// One table of names serves so many messages or lists.
 const SAME_NAMES: u64 = 8;
+
+/// Of so many tables of names one is refused by set-up.
+const BAD_NAMES: usize = 8;
 
 /// Every so-many-th good message is cut at every length, and as often a long one is read.
 const CUT_OR_LONG: u64 = 200;
@@ -73,6 +76,7 @@ pub fn compare<L: MessageLibrary>(
         match *part {
             NAMES => runs.all_names(count)?,
             READ => runs.all_messages(count)?,
+            SHORT => runs.all_short()?,
             _ => runs.all_lists(count)?,
         }
         told.push((part.to_string(), runs.place));
@@ -101,7 +105,7 @@ pub fn again<L: MessageLibrary>(
             let written = sides.write(table, lists, *length);
             written
                 .and_then(|written| match written {
-                    Ok(message) => sides.read_back(table, &message, &lists.entries()),
+                    Ok(message) => read_back(&mut sides, table, &message, lists),
                     Err(_) => Ok(()),
                 })
                 .err()
@@ -115,13 +119,26 @@ fn write_read<L: MessageLibrary>(
     table: &NamesTable,
     message: &[u8],
 ) -> Result<(), Difference> {
-    let names = Names::of_table(table);
+    let Ok(names) = check_names(table) else { return Ok(()) };
     let Ok(entries) = entries(&names, message) else { return Ok(()) };
     let lists = Lists::of_entries(&entries, u32::MAX);
     let Some(lists) = lists.filter(|lists| lists.wrongs(&names).is_empty()) else { return Ok(()) };
     match sides.write(table, &lists, LONGEST_WRITTEN)? {
         Ok(written) => sides.read_back(table, &written, &entries),
         Err(_) => Err(Difference(vec!["entries that were read are not written".to_string()])),
+    }
+}
+
+/// What was written is read back, with names that set-up takes.
+fn read_back<L: MessageLibrary>(
+    sides: &mut Sides<L>,
+    table: &NamesTable,
+    message: &[u8],
+    lists: &Lists,
+) -> Result<(), Difference> {
+    match check_names(table) {
+        Ok(_) => sides.read_back(table, message, &lists.entries()),
+        Err(_) => Ok(()),
     }
 }
 
@@ -183,6 +200,19 @@ impl<L: MessageLibrary> Runs<'_, L> {
         Ok(())
     }
 
+    /// With names of one byte, so that some are known.
+    fn all_short(&mut self) -> Result<(), Box<Failure>> {
+        let mut table = [0; NAMES_BYTES];
+        for topic in 0..TOPICS {
+            table[NAME_ROW * topic..][..2].copy_from_slice(&[1, topic as u8]);
+        }
+        let names = Names::of_table(&table);
+        for input in messages::every_short() {
+            self.message(&names, &table, &input, ENTRY_LIST)?;
+        }
+        Ok(())
+    }
+
     /// A message cut everywhere, a long one, and some input with lists of other lengths.
     fn cuts_and_long(
         &mut self,
@@ -205,9 +235,12 @@ impl<L: MessageLibrary> Runs<'_, L> {
         self.message(names, table, &long, room)
     }
 
+    /// Names, at times those that set-up refuses: a row with a length over 64 has no name then, and
+    /// of two names alike the first counts.
     fn some_names(&mut self) -> (NamesTable, Names) {
-        let table = names::good(self.random).table;
-        (table, check_names(&table).expect("good names"))
+        let bad = self.random.below(BAD_NAMES) == 0;
+        let table = if bad { names::bad(self.random) } else { names::good(self.random) }.table;
+        (table, Names::of_table(&table))
     }
 
     fn message(
@@ -289,7 +322,7 @@ impl<L: MessageLibrary> Runs<'_, L> {
         let given = given.map_err(|found| self.failure(kind, table, subject(), found))?;
         self.reached.count_write(names, lists, (length, told), &given);
         if let Ok(message) = given {
-            let found = self.sides.read_back(table, &message, &lists.entries());
+            let found = read_back(&mut self.sides, table, &message, lists);
             found.map_err(|found| self.failure(kind, table, subject(), found))?;
         }
         Ok(())
