@@ -1,7 +1,7 @@
 //! The comparison of messages notices faults: each is set into the stand-in. The stand-in without a fault
 //! shows no difference.
 
-use host_compare::library::packed;
+use host_compare::library::{number, packed, value};
 use host_compare::messages::{compare, report, Failure, MessageLibrary, Reached};
 use host_compare::stand_in::StandIn;
 use reference::message::{
@@ -120,10 +120,10 @@ fn read_and(
     names: &NamesTable,
     message: &[u8],
     entries: &mut [u64],
-    change: impl Fn(u64, u64) -> Option<(u32, usize)>,
+    change: impl Fn(u32, u64) -> Option<(u32, usize)>,
 ) -> u64 {
     let result = StandIn.read_message(names, message, entries);
-    change(result % 256, result / 256).map_or(result, |(number, value)| packed(number, value))
+    change(number(result), value(result)).map_or(result, |(number, value)| packed(number, value))
 }
 
 #[test]
@@ -151,7 +151,7 @@ fn wrong_answers_and_places_are_seen() {
                     (10, [0x1a, length, inside @ ..]) if *length as usize > inside.len() => {
                         let whole = [&[0x1a, inside.len() as u8], inside].concat();
                         let inner = StandIn.read_message(names, &whole, &mut entries.to_vec());
-                        if inner % 256 == 10 {
+                        if number(inner) == 10 {
                             inner
                         } else {
                             result
@@ -181,7 +181,7 @@ fn wrong_answers_and_places_are_seen() {
             "10 before 8",
             with_read(|names, message, entries| {
                 let long = StandIn.read_message(names, message, &mut vec![0; ENTRY_LIST]);
-                if long % 256 == 10 {
+                if number(long) == 10 {
                     long
                 } else {
                     StandIn.read_message(names, message, entries)
@@ -221,8 +221,8 @@ fn read_entries(
     change: impl Fn(&mut [u64]),
 ) -> u64 {
     let result = StandIn.read_message(names, message, entries);
-    if result % 256 == 0 {
-        change(&mut entries[..3 * (result / 256) as usize]);
+    if number(result) == 0 {
+        change(&mut entries[..3 * value(result) as usize]);
     }
     result
 }
@@ -298,7 +298,7 @@ fn a_touched_list_is_seen() {
             "malformed bytes leave their entries",
             with_read(|names, message, entries| {
                 let result = StandIn.read_message(names, message, entries);
-                if let (10, Some(first)) = (result % 256, entries.first_mut()) {
+                if let (10, Some(first)) = (number(result), entries.first_mut()) {
                     *first = 0;
                 }
                 result
@@ -308,7 +308,7 @@ fn a_touched_list_is_seen() {
             "a short list is written",
             with_read(|names, message, entries| {
                 let result = StandIn.read_message(names, message, entries);
-                if let (8, Some(last)) = (result % 256, entries.last_mut()) {
+                if let (8, Some(last)) = (number(result), entries.last_mut()) {
                     *last ^= 1;
                 }
                 result
@@ -318,8 +318,8 @@ fn a_touched_list_is_seen() {
             "the number past the entries is cleared",
             with_read(|names, message, entries| {
                 let result = StandIn.read_message(names, message, entries);
-                if result % 256 == 0 {
-                    if let Some(next) = entries.get_mut(3 * (result / 256) as usize) {
+                if number(result) == 0 {
+                    if let Some(next) = entries.get_mut(3 * value(result) as usize) {
                         *next = 0;
                     }
                 }
@@ -330,7 +330,7 @@ fn a_touched_list_is_seen() {
             "the list's last number is cleared",
             with_read(|names, message, entries| {
                 let result = StandIn.read_message(names, message, entries);
-                if result % 256 == 0 && result / 256 < 8192 {
+                if number(result) == 0 && value(result) < 8192 {
                     entries[ENTRY_LIST - 1] = 0;
                 }
                 result
@@ -494,8 +494,8 @@ fn wrong_bytes_and_touched_buffers_are_seen() {
             "the buffer past the message is cleared",
             with_write(|names, lists, buffer| {
                 let result = StandIn.write_message(names, lists, buffer);
-                if result % 256 == 0 {
-                    buffer[(result / 256) as usize..].fill(0);
+                if number(result) == 0 {
+                    buffer[value(result) as usize..].fill(0);
                 }
                 result
             }),
@@ -504,7 +504,7 @@ fn wrong_bytes_and_touched_buffers_are_seen() {
             "actions as listed, PRUNEs among GRAFTs",
             with_write(|names, lists, buffer| {
                 let result = StandIn.write_message(names, lists, buffer);
-                if result % 256 == 0 {
+                if number(result) == 0 {
                     let mut entries = lists.entries();
                     let changes = lists.changes.len() / 2;
                     for (place, action) in lists.actions.chunks(3).enumerate() {
@@ -540,7 +540,7 @@ fn a_difference_is_told_by_few_bytes() {
     // Lists of one action are told by it alone.
     let faulty = with_write(|names, lists, buffer| {
         let result = StandIn.write_message(names, lists, buffer);
-        if result % 256 == 0 && lists.actions.iter().skip(2).step_by(3).any(|&n| n == 128) {
+        if number(result) == 0 && lists.actions.iter().skip(2).step_by(3).any(|&n| n == 128) {
             buffer[0] ^= 1;
         }
         result

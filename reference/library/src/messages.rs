@@ -37,9 +37,7 @@ pub fn names(names: &NamesTable) -> u64 {
 /// 0 with the number of entries, 8, or 10 with the place.
 pub fn read_message(names: &NamesTable, message: &[u8], entries: &mut [u64]) -> u64 {
     let (bytes, length) = (message.as_ptr(), message.len());
-    unsafe {
-        hivepadlet_read_message(names, bytes, length, entries.as_mut_ptr(), entries.len())
-    }
+    unsafe { hivepadlet_read_message(names, bytes, length, entries.as_mut_ptr(), entries.len()) }
 }
 
 /// 0 with the length of the message, 2, or 13.
