@@ -15,10 +15,9 @@ mod tag {
     pub const BACKOFF: u64 = 3 << 3;
 }
 
-/// A place in the bytes up to which everything was read.
+/// The bytes that were not read yet.
 struct Cursor<'a> {
-    bytes: &'a [u8],
-    at: usize,
+    rest: &'a [u8],
 }
 
 /// What stands behind a tag.
@@ -29,15 +28,11 @@ enum Value<'a> {
 }
 
 impl<'a> Cursor<'a> {
-    fn new(bytes: &'a [u8]) -> Cursor<'a> {
-        Cursor { bytes, at: 0 }
-    }
-
     #[inline(always)]
     fn number(&mut self) -> Option<u64> {
-        match self.bytes.get(self.at) {
-            Some(&byte) if byte < 0x80 => {
-                self.at += 1;
+        match *self.rest {
+            [byte, ref rest @ ..] if byte < 0x80 => {
+                self.rest = rest;
                 Some(u64::from(byte))
             }
             _ => self.long_number(),
@@ -47,20 +42,25 @@ impl<'a> Cursor<'a> {
     #[inline(never)]
     fn long_number(&mut self) -> Option<u64> {
         let mut value = 0;
-        for (place, &byte) in self.bytes[self.at..].iter().take(10).enumerate() {
-            value |= u64::from(byte & 0x7f) << (7 * place);
+        let mut shift = 0;
+        for (place, &byte) in self.rest.iter().enumerate() {
+            value |= u64::from(byte & 0x7f) << shift;
             if byte < 0x80 {
-                self.at += place + 1;
-                return (place < 9 || byte < 2).then_some(value);
+                self.rest = &self.rest[place + 1..];
+                return (shift < 63 || byte < 2).then_some(value);
             }
+            if shift == 63 {
+                return None;
+            }
+            shift += 7;
         }
         None
     }
 
     #[inline(always)]
     fn take(&mut self, length: usize) -> Option<&'a [u8]> {
-        let bytes = self.bytes[self.at..].get(..length)?;
-        self.at += length;
+        let (bytes, rest) = self.rest.split_at_checked(length)?;
+        self.rest = rest;
         Some(bytes)
     }
 
@@ -89,10 +89,6 @@ impl<'a> Cursor<'a> {
         };
         Some((tag, value))
     }
-
-    fn is_done(&self) -> bool {
-        self.at == self.bytes.len()
-    }
 }
 
 /// How many entries of each kind there are.
@@ -103,20 +99,27 @@ struct Counts {
     prunes: usize,
 }
 
-/// Tests a message, and counts its entries; or the place of the broken field.
-fn check(message: &[u8]) -> Result<Counts, usize> {
+/// A broken field: so many bytes are left from its tag on, up to the end of what holds it.
+struct Left(usize);
+
+/// What holds the fields has so many bytes behind it.
+fn deeper(cursor: &Cursor, found: Result<(), Left>) -> Result<(), Left> {
+    found.map_err(|Left(left)| Left(left + cursor.rest.len()))
+}
+
+/// Tests a message, and counts its entries.
+fn check(message: &[u8]) -> Result<Counts, Left> {
     let mut counts = Counts::default();
-    let mut cursor = Cursor::new(message);
-    while !cursor.is_done() {
-        let from = cursor.at;
-        match cursor.field().ok_or(from)? {
+    let mut cursor = Cursor { rest: message };
+    while !cursor.rest.is_empty() {
+        let left = cursor.rest.len();
+        match cursor.field().ok_or(Left(left))? {
             (tag::SUBSCRIPTION, Value::Bytes(inside)) => {
-                check_fields(inside).map_err(|place| cursor.at - inside.len() + place)?;
+                deeper(&cursor, check_fields(inside))?;
                 counts.subscriptions += 1;
             }
             (tag::CONTROL, Value::Bytes(inside)) => {
-                check_control(inside, &mut counts)
-                    .map_err(|place| cursor.at - inside.len() + place)?;
+                deeper(&cursor, check_control(inside, &mut counts))?;
             }
             _ => {}
         }
@@ -124,27 +127,28 @@ fn check(message: &[u8]) -> Result<Counts, usize> {
     Ok(counts)
 }
 
-fn check_control(bytes: &[u8], counts: &mut Counts) -> Result<(), usize> {
-    let mut cursor = Cursor::new(bytes);
-    while !cursor.is_done() {
-        let from = cursor.at;
-        let (tag, value) = cursor.field().ok_or(from)?;
+fn check_control(bytes: &[u8], counts: &mut Counts) -> Result<(), Left> {
+    let mut cursor = Cursor { rest: bytes };
+    while !cursor.rest.is_empty() {
+        let left = cursor.rest.len();
+        let (tag, value) = cursor.field().ok_or(Left(left))?;
         let Value::Bytes(inside) = value else { continue };
         match tag {
             tag::GRAFT => counts.grafts += 1,
             tag::PRUNE => counts.prunes += 1,
             _ => continue,
         }
-        check_fields(inside).map_err(|place| cursor.at - inside.len() + place)?;
+        deeper(&cursor, check_fields(inside))?;
     }
     Ok(())
 }
 
-fn check_fields(bytes: &[u8]) -> Result<(), usize> {
-    let mut cursor = Cursor::new(bytes);
-    while !cursor.is_done() {
-        let from = cursor.at;
-        cursor.field().ok_or(from)?;
+#[inline(always)]
+fn check_fields(bytes: &[u8]) -> Result<(), Left> {
+    let mut cursor = Cursor { rest: bytes };
+    while !cursor.rest.is_empty() {
+        let left = cursor.rest.len();
+        cursor.field().ok_or(Left(left))?;
     }
     Ok(())
 }
@@ -159,9 +163,12 @@ pub fn read_message(names: &NamesTable, message: &[u8], entries: &mut [u64]) -> 
     }
     let counts = match check(message) {
         Ok(counts) => counts,
-        Err(place) => return packed(10, place),
+        Err(Left(left)) => return packed(10, message.len() - left),
     };
     let Counts { subscriptions, grafts, prunes } = counts;
+    if subscriptions + grafts + prunes == 0 {
+        return packed(0, 0);
+    }
     let (first, rest) = entries.split_at_mut(3 * subscriptions);
     let (second, rest) = rest.split_at_mut(3 * grafts);
     let mut lists = Lists {
@@ -187,8 +194,8 @@ struct Lists<'a> {
 /// Each field of bytes that were tested.
 #[inline(always)]
 fn each_field<'a>(bytes: &'a [u8], mut take: impl FnMut(u64, Value<'a>)) {
-    let mut cursor = Cursor::new(bytes);
-    while !cursor.is_done() {
+    let mut cursor = Cursor { rest: bytes };
+    while !cursor.rest.is_empty() {
         let Some((tag, value)) = cursor.field() else { return };
         take(tag, value);
     }
