@@ -8,6 +8,7 @@ pub mod demand3;
 pub mod event;
 pub mod generate;
 pub mod groups;
+pub mod message;
 pub mod params;
 pub mod random;
 pub mod replay;

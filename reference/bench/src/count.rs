@@ -63,24 +63,42 @@ const CACHES: [&str; 4] =
     ["--cache-sim=yes", "--I1=32768,8,64", "--D1=49152,12,64", "--LL=2097152,16,64"];
 
 /// What a call takes in the mean.
-struct Cost {
+pub struct Cost {
     instructions: f64,
     branches: f64,
     wrong: f64,
     misses: f64,
 }
 
-/// What callgrind counts in this program's own run of one kind, `calls` of them. The
-/// columns of its line: instructions, reads, writes, misses of the first cache (code,
-/// reads, writes), misses of the last (the same), branches, those guessed wrong.
-fn collected(kind: u64, which: &str, calls: usize) -> Option<Cost> {
+impl Cost {
+    /// The columns of a table: this beside another.
+    pub fn beside(&self, proved: &Cost) -> String {
+        format!(
+            "{:>9.0}{:>9.0}{:>7.2}{:>8.0}{:>8.0}{:>6.0}{:>6.0}{:>6.0}{:>6.0}",
+            self.instructions,
+            proved.instructions,
+            proved.instructions / self.instructions,
+            self.branches,
+            proved.branches,
+            self.wrong,
+            proved.wrong,
+            self.misses,
+            proved.misses
+        )
+    }
+}
+
+/// What callgrind counts in one function while this program runs with these words, `calls`
+/// of them. The columns of its line: instructions, reads, writes, misses of the first cache
+/// (code, reads, writes), misses of the last (the same), branches, those guessed wrong.
+pub fn collected(words: &[&str], function: &str, calls: usize) -> Option<Cost> {
     let own = std::env::current_exe().ok()?;
     let output = Command::new("valgrind")
         .args(["--tool=callgrind", "--callgrind-out-file=/dev/null", "--branch-sim=yes"])
         .args(CACHES)
-        .arg(format!("--toggle-collect=measured_{which}"))
+        .arg(format!("--toggle-collect={function}"))
         .arg(own)
-        .args(["--only", &kind.to_string(), which])
+        .args(words)
         .output()
         .ok()?;
     let text = String::from_utf8_lossy(&output.stderr).into_owned();
@@ -92,6 +110,10 @@ fn collected(kind: u64, which: &str, calls: usize) -> Option<Cost> {
     Some(Cost { instructions: mean(0)?, misses: mean(4)?, branches: mean(9)?, wrong: mean(10)? })
 }
 
+pub fn print_missing() {
+    println!("valgrind is missing on this machine, or the proved library is");
+}
+
 pub fn print_instructions(load: &Load) {
     let _ = filled(plain::Router::new(&load.params), load);
     println!("64 connected peers; a call with test 12, plain and proved");
@@ -100,23 +122,12 @@ pub fn print_instructions(load: &Load) {
         "call", "instructions, ratio", "branches", "wrong", "misses"
     );
     for (place, (name, (all, _))) in CALL_NAMES.iter().zip(counts(load)).enumerate() {
-        let kind = place as u64 + 1;
-        let of = |which| collected(kind, which, all);
+        let kind = (place + 1).to_string();
+        let of =
+            |which: &str| collected(&["--only", &kind, which], &format!("measured_{which}"), all);
         let (Some(plain), Some(proved)) = (of("plain"), of("proved")) else {
-            println!("valgrind is missing on this machine, or the proved library is");
-            return;
+            return print_missing();
         };
-        println!(
-            "{name:12}{:>9.0}{:>9.0}{:>7.2}{:>8.0}{:>8.0}{:>6.0}{:>6.0}{:>6.0}{:>6.0}",
-            plain.instructions,
-            proved.instructions,
-            proved.instructions / plain.instructions,
-            plain.branches,
-            proved.branches,
-            plain.wrong,
-            proved.wrong,
-            plain.misses,
-            proved.misses
-        );
+        println!("{name:12}{}", plain.beside(&proved));
     }
 }

@@ -11,6 +11,7 @@ use std::hint::black_box;
 use std::time::Instant;
 
 mod count;
+mod messages;
 #[cfg(proved)]
 mod proved;
 
@@ -97,12 +98,23 @@ fn counts(load: &Load) -> Vec<(usize, usize)> {
 fn main() {
     let words: Vec<String> = std::env::args().skip(1).collect();
     match words.iter().map(String::as_str).collect::<Vec<_>>()[..] {
-        [] => print_times(ROUNDS),
-        ["--instructions"] => count::print_instructions(&load()),
+        [] => print_all_times(ROUNDS),
+        ["--instructions"] => {
+            count::print_instructions(&load());
+            println!();
+            messages::print_instructions();
+        }
         ["--only", kind, which] => count::only(&load(), kind.parse().expect("a kind"), which),
-        [rounds] => print_times(rounds.parse().expect("a number of rounds")),
+        ["--only-message", place, which] => messages::only(place.parse().expect("a place"), which),
+        [rounds] => print_all_times(rounds.parse().expect("a number of rounds")),
         _ => panic!("usage: bench [ROUNDS | --instructions]"),
     }
+}
+
+fn print_all_times(rounds: usize) {
+    print_times(rounds);
+    println!();
+    messages::print_times(rounds);
 }
 
 fn print_times(rounds: usize) {

@@ -60,6 +60,13 @@ impl<T: Pattern> Lent<T> {
         self.buffer.extend((0..length + 2 * GUARD).map(|place| T::at(salt, place)));
     }
 
+    /// The pattern again from the start up to a place.
+    pub fn restore(&mut self, place: usize) {
+        for place in GUARD..GUARD + place {
+            self.buffer[place] = T::at(self.salt, place);
+        }
+    }
+
     pub fn lent(&self) -> &[T] {
         &self.buffer[GUARD..GUARD + self.length]
     }
@@ -97,5 +104,15 @@ mod tests {
             assert_eq!(lent.guards_stand(), inside);
             assert_eq!(lent.stands_from(0), !inside);
         }
+    }
+
+    #[test]
+    fn what_is_restored_is_the_pattern() {
+        let mut lent: Lent<u64> = Lent::new(10, 3);
+        lent.lent_mut()[..4].fill(0);
+        lent.restore(3);
+        assert!(!lent.stands_from(3));
+        lent.restore(4);
+        assert!(lent.stands_from(0) && lent.guards_stand());
     }
 }

@@ -10,6 +10,7 @@ pub mod library;
 #[cfg(not(feature = "stand_in"))]
 pub mod linked;
 pub mod made;
+pub mod messages;
 pub mod pair;
 pub mod parameters;
 pub mod report;

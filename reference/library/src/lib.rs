@@ -4,6 +4,8 @@
 pub mod cells;
 #[cfg(linked)]
 mod linked;
+#[cfg(linked)]
+pub mod messages;
 
 #[cfg(linked)]
 pub use linked::{call, fresh, heartbeat, is_router, ordinary, read, write};
