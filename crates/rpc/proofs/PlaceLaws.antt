@@ -16,8 +16,8 @@ use Rattle.fields.specs.declared.Part.{Part}
 use Rattle.fields.specs.declared.Field.the-variants.{Whole}
 use Rattle.fields.proofs.FieldLaws.{field-placed}
 use Rattle.fields.proofs.WalkLaws.{over-place}
-use Rattle.rpc.specs.Messages.{Item, itemOf, itemAt, byRole, roleOf, inside, rpcAt}
-use Rattle.rpc.specs.Reading.{Reading, answered, readOf, answerValue}
+use Rattle.rpc.specs.Messages.{Item, rpc, itemOf, itemAt, byRole, roleOf, inside, rpcAt}
+use Rattle.rpc.specs.Reading.{messageBytes, listNumbers, Reading, answered, readOf, answerValue}
 use Rattle.rpc.specs.Room.{PlaceInside}
 use Rattle.rpc.specs.declared.Role.{Role}
 use Rattle.rpc.specs.declared.Role.the-variants.{Skipped, Name, Value, Inner, Entry}
@@ -61,19 +61,19 @@ inside-place (suc d) kind s at p q f e =
     (λ k i. below (entry-place k S (p .start) q i)) e
 
 pub place-inside : PlaceInside
-place-inside s q e = over-place (inside 2 8 s) s (inside-place 2 8 s) 0 q e
+place-inside s q e = over-place (inside 2 rpc s) s (inside-place 2 rpc s) 0 q e
 
 -- ---- the number that goes with an answer
-answered-most : (names s list : List ℕ) (x : Items Item) → rpcAt s 0 ≡ x → length s ≤ 16384 → answerValue (answered names s list x .answer) ≤ 16384
-answered-most names s list (items xs) e h = omega (arith, message-few 2 8 s 0 xs e)
+answered-most : (names s list : List ℕ) (x : Items Item) → rpcAt s 0 ≡ x → length s ≤ messageBytes → answerValue (answered names s list x .answer) ≤ messageBytes
+answered-most names s list (items xs) e h = omega (arith, message-few 2 rpc s 0 xs e)
 answered-most names s list (broken q) e h = omega (arith, place-inside s q e)
 
-pub read-most : (names s list : List ℕ) → answerValue (readOf names s list .answer) ≤ 16384
+pub read-most : (names s list : List ℕ) → answerValue (readOf names s list .answer) ≤ messageBytes
 unfolding readOf
 read-most names s list =
-    by-test (answerValue (readOf names s list .answer) ≤ 16384) (ltb (length list) 24576)
+    by-test (answerValue (readOf names s list .answer) ≤ messageBytes) (ltb (length list) listNumbers)
     (λ t. rw t (omega arith))
     (λ t.
-    by-test (answerValue (readOf names s list .answer) ≤ 16384) (ltb 16384 (length s))
+    by-test (answerValue (readOf names s list .answer) ≤ messageBytes) (ltb messageBytes (length s))
     (λ u. rw (t, u) (omega arith))
-    (λ u. rw (t, u) (answered-most names s list (rpcAt s 0) refl (ltb-false 16384 (length s) u))))
+    (λ u. rw (t, u) (answered-most names s list (rpcAt s 0) refl (ltb-false messageBytes (length s) u))))
