@@ -1,0 +1,24 @@
+-- `host::hivepadlet_read_message` meets its contract. Assumes nothing.
+use borrow.Author.Needs.{needs}
+use native.Mathlib.Omega.{arith}
+use Rattle.host.proofs.MessageLaws.{message-fits, hosts-message}
+use Rattle.host.proofs.messages.hivepadlet_read_message.Statement.{statement}
+use Rattle.host.proofs.messages.hivepadlet_read_message.Tie as tie
+
+pub hivepadlet-read-message-spec : {M : Type 1} → statement M
+hivepadlet-read-message-spec =
+    tie.close
+    (tie.spec
+    (λ c κs. search needs)
+    (λ c. search needs)
+    (λ c κs. (omega arith, message-fits _ _ _ _ _ _ (c .before .before .before .before .before .read .ensures) (c .before .n .given .1)))
+    (λ c. search needs)
+    (λ c κs. search needs)
+    (λ c. search needs)
+    (λ c κs. (omega arith, message-fits _ _ _ _ _ _ (c .before .before .before .before .before .read .ensures) (c .before .place .given .1)))
+    (λ c. search needs)
+    (λ c. hosts-message _ _ _ _ _ _ (c .before .before .before .before .before .before .read .ensures) (c .before .before .n .given .1) _ (c .packed .ensures))
+    (λ c. search needs)
+    (λ c. hosts-message _ _ _ _ _ _ (c .before .before .before .before .before .read .ensures) (c .before .enum-told .given .1) _ (c .packed2 .ensures))
+    (λ c. search needs)
+    (λ c. hosts-message _ _ _ _ _ _ (c .before .before .before .before .before .before .read .ensures) (c .before .before .place .given .1) _ (c .packed3 .ensures)))

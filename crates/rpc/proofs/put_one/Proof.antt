@@ -1,0 +1,16 @@
+-- `rpc::put_one` meets its contract. Assumes nothing.
+use borrow.Author.Needs.{needs}
+use native.Mathlib.Omega.{arith}
+use Rattle.rpc.proofs.ListLaws.{entry-puts}
+use Rattle.rpc.proofs.put_one.Statement.{statement}
+use Rattle.rpc.proofs.put_one.Tie as tie
+
+pub put-one-spec : {M : Type 1} → statement M
+put-one-spec =
+    tie.close (tie.spec
+    (λ c κs. search needs)
+    (λ c κs. search needs)
+    (λ c κs. search needs)
+    (λ c κs. search needs)
+    (λ c. search needs)
+    (λ c. entry-puts _ _ _ _ _ _ _ _ _ _ _ (c .before .before .before .before .before .before .held-in .ensures) (c .before .before .before .before .before .topic-in .ensures) (c .before .before .before .value-of .ensures) (c .before .before .put-entry .ensures)))
