@@ -12,7 +12,12 @@ use Rattle.rpc.proofs.PlaceLaws.{read-most}
 use Rattle.host.specs.Messages.{namesNumber, HostsMessage}
 
 -- ---- names
-pub names-told : (r : ℕ) (flag accepted b : Bool) → flag ≡ accepted → flag ≡ b → r ≡ packed (namesNumber b) 0 → r ≡ packed (namesNumber accepted) 0
+pub names-told :
+    (r : ℕ) (flag accepted b : Bool) →
+    flag ≡ accepted →
+    flag ≡ b →
+    r ≡ packed (namesNumber b) 0 →
+    r ≡ packed (namesNumber accepted) 0
 names-told r flag accepted b e t p = p ∙ ap (λ (x : Bool). packed (namesNumber x) 0) (sym t ∙ e)
 
 -- ---- a message
