@@ -89,6 +89,9 @@ extern "C" {
 #define HIVEPADLET_PARAMETER_BYTES 735  /* bytes that written parameters may take */
 #define HIVEPADLET_SLOTS 64             /* peers that a router holds, and numbers of a permutation */
 #define HIVEPADLET_TOPICS 8
+#define HIVEPADLET_NAMES_BYTES 520      /* topic names: for each of the 8 topics a length (0: no name, 1 to 64) and 64 bytes */
+#define HIVEPADLET_MESSAGE_BYTES 16384  /* the longest message that is read */
+#define HIVEPADLET_ENTRY_NUMBERS 24576  /* numbers of a list of entries: three for each of 8,192 */
 
 #define HIVEPADLET_MAX_TIME (UINT64_C(1) << 40) /* milliseconds */
 #define HIVEPADLET_POINT INT64_C(1000000000)    /* one point of a score */
@@ -302,6 +305,20 @@ enum hivepadlet_delivery {
 /* A message came in from a peer. 0, or 11 also where the topic is not joined. */
 uint64_t hivepadlet_deliver(uint64_t table[HIVEPADLET_CELLS], uint64_t time, uint64_t id, uint64_t topic, uint64_t kind,
                             uint32_t *actions, size_t actions_length);
+
+/* ---- messages of peers, as they come from the wire: no table, no time, no action list */
+
+/* Tests the names of the topics, once at set-up: 0, or 2 (a length over 64, or two names alike). Name k is topic k's; the bytes
+ * of a row past its length are not looked at. */
+uint64_t hivepadlet_names(const uint8_t names[HIVEPADLET_NAMES_BYTES]);
+
+/* Reads an RPC of gossipsub v1.0 or v1.1. 0 with the number of entries, 8 (a list under HIVEPADLET_ENTRY_NUMBERS), or 10 with the
+ * place of the broken field, tested in the order 8, 10. The list is written with 0 alone, and stands past the entries.
+ * An entry is three numbers: its kind (0 subscription, 1 GRAFT, 2 PRUNE), its topic (0 to 7, or 11 where the name is absent or
+ * unknown), and its value (a subscription 1, or 0 to unsubscribe; a GRAFT 0; a PRUNE the seconds of its backoff, 0 where it has
+ * none). Subscriptions come first, then GRAFTs, then PRUNEs, each in the order of the message. An entry with topic 11 is no call. */
+uint64_t hivepadlet_read_message(const uint8_t names[HIVEPADLET_NAMES_BYTES], const uint8_t *message, size_t length,
+                                 uint64_t *entries, size_t entries_length);
 
 #ifdef __cplusplus
 }
