@@ -1,8 +1,7 @@
 -- The place of a broken field lies in the message, at every level; so what the reader answers is small.
 -- Assumes nothing.
-use Prim.Native.Nat.{ℕ, zero, suc, _+_, _*_, _<_, _≤_}
-use mathlib.Core.Path.{_≡_, refl, sym, ap, _∙_}
-use mathlib.Core.Bool.{cond}
+use Prim.Native.Nat.{ℕ, zero, suc, _<_, _≤_}
+use mathlib.Core.Path.{_≡_, refl, ap}
 use mathlib.Core.List.{List, []}
 use native.Mathlib.Omega.{arith}
 use borrow.Author.Tests.{ltb-false}
@@ -17,7 +16,7 @@ use Rattle.fields.specs.declared.Field.the-variants.{Whole}
 use Rattle.fields.proofs.FieldLaws.{field-placed}
 use Rattle.fields.proofs.WalkLaws.{over-place}
 use Rattle.rpc.specs.Messages.{Item, rpc, itemOf, itemAt, byRole, roleOf, inside, rpcAt}
-use Rattle.rpc.specs.Reading.{messageBytes, listNumbers, Reading, answered, readOf, answerValue}
+use Rattle.rpc.specs.Reading.{messageBytes, listNumbers, answered, readOf, answerValue}
 use Rattle.rpc.specs.Room.{PlaceInside}
 use Rattle.rpc.specs.declared.Role.{Role}
 use Rattle.rpc.specs.declared.Role.the-variants.{Skipped, Name, Value, Inner, Entry}

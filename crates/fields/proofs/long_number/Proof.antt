@@ -1,7 +1,6 @@
 -- `fields::long_number` meets its contract: going back from the last byte, what was read is the number from the place on.
 -- Assumes nothing.
 use Prim.Native.Nat.{_-_}
-use borrow.Author.Needs.{needs}
 use native.Mathlib.Omega.{arith}
 use Rattle.fields.proofs.NumberLaws.{without-end, Joining, joining-start, joining-byte, joining-more, joining-far, joining-all}
 use Rattle.fields.proofs.long_number.Statement.{statement}

@@ -1,6 +1,5 @@
 -- `rpc::put_one` meets its contract. Assumes nothing.
 use borrow.Author.Needs.{needs}
-use native.Mathlib.Omega.{arith}
 use Rattle.rpc.proofs.ListLaws.{entry-puts}
 use Rattle.rpc.proofs.put_one.Statement.{statement}
 use Rattle.rpc.proofs.put_one.Tie as tie
