@@ -1,7 +1,7 @@
 -- From what the reader of messages promises to what a host gets: the answer as one number.
 -- Assumes nothing.
 use Prim.Native.Nat.{ℕ, _≤_}
-use mathlib.Core.Bool.{Bool, true, false}
+use mathlib.Core.Bool.{Bool}
 use mathlib.Core.Path.{_≡_, sym, ap, _∙_}
 use mathlib.Core.List.{List}
 use native.Mathlib.Omega.{arith}
@@ -12,7 +12,12 @@ use Rattle.rpc.proofs.PlaceLaws.{read-most}
 use Rattle.host.specs.Messages.{namesNumber, HostsMessage}
 
 -- ---- names
-pub names-told : (r : ℕ) (flag accepted b : Bool) → flag ≡ accepted → flag ≡ b → r ≡ packed (namesNumber b) 0 → r ≡ packed (namesNumber accepted) 0
+pub names-told :
+    (r : ℕ) (flag accepted b : Bool) →
+    flag ≡ accepted →
+    flag ≡ b →
+    r ≡ packed (namesNumber b) 0 →
+    r ≡ packed (namesNumber accepted) 0
 names-told r flag accepted b e t p = p ∙ ap (λ (x : Bool). packed (namesNumber x) 0) (sym t ∙ e)
 
 -- ---- a message

@@ -5,10 +5,11 @@ ghost use Rattle.host.specs.Messages.{namesNumber, HostsMessage};
 ghost use Rattle.rpc.specs.Names.{namesOk};
 use answers::packed;
 use rpc::Answer;
+use rpc::NAMES_BYTES;
 
 // Tests the names of topics, eight rows of a length and 64 bytes: 0, or 2.
 #[no_mangle]
-pub extern "C" fn hivepadlet_names(names: &[u8; 520]) -> u64
+pub extern "C" fn hivepadlet_names(names: &[u8; NAMES_BYTES]) -> u64
     ensures { λ r. ⌜ r ≡ packedOf (namesNumber (namesOk (now (names .entry)))) 0 ⌝ }
 {
     if rpc::names_ok(names) {
@@ -21,7 +22,7 @@ pub extern "C" fn hivepadlet_names(names: &[u8; 520]) -> u64
 // Reads an RPC into a lent list, three numbers an entry: 0 with the number of entries, 8, or 10 with the place.
 #[no_mangle]
 pub extern "C" fn hivepadlet_read_message(
-    names: &[u8; 520],
+    names: &[u8; NAMES_BYTES],
     message: &[u8],
     entries: &mut [u64],
 ) -> u64

@@ -5,7 +5,7 @@ use mathlib.Core.Path.{_≡_, refl, sym, ap, _∙_}
 use mathlib.Core.Bool.{Bool, true, false, _&&_, cond}
 use mathlib.Core.List.{List, [], _∷_, _++_, append-assoc}
 use native.Mathlib.Omega.{arith}
-use borrow.Author.Tests.{eqb-true, eqb-false, eq-eqb, ne-eqb}
+use borrow.Author.Tests.{eqb-true, eq-eqb, ne-eqb}
 use lib.Dec.{eqb}
 use lib.ListN.{length, length-append}
 use Rattle.index.specs.Index.{one}
@@ -51,7 +51,9 @@ one-few k = go (eqb k subscription) refl (eqb k graft) refl (eqb k prune) refl
 abbrev pub allKinds : List Item → ℕ
 allKinds xs = length (only subscription xs) + length (only graft xs) + length (only prune xs)
 
-kinds-more : (x : Item) (xs : List Item) → allKinds (x ∷ xs) ≡ one (eqb (x .kind) subscription) + one (eqb (x .kind) graft) + one (eqb (x .kind) prune) + allKinds xs
+kinds-more :
+    (x : Item) (xs : List Item) →
+    allKinds (x ∷ xs) ≡ one (eqb (x .kind) subscription) + one (eqb (x .kind) graft) + one (eqb (x .kind) prune) + allKinds xs
 kinds-more x xs =
     let a = only-lengths subscription (x ∷ []) xs in
     let b = only-lengths graft (x ∷ []) xs in
@@ -150,7 +152,13 @@ kindIn Value = 0
 
 by-rows :
     (a b c d e f g h i : Bool) →
-    kindIn (cond a (Entry subscription) (cond b (Inner control) (cond c (Entry graft) (cond d (Entry prune) (cond e Value (cond f Name (cond g Name (cond h Name (cond i Value Skipped))))))))) ≤ 2
+    kindIn
+    (cond a (Entry subscription)
+    (cond b (Inner control)
+    (cond c (Entry graft)
+    (cond d (Entry prune)
+    (cond e Value (cond f Name (cond g Name (cond h Name (cond i Value Skipped)))))))))
+    ≤ 2
 by-rows true b c d e f g h i = omega arith
 by-rows false true c d e f g h i = omega arith
 by-rows false false true d e f g h i = omega arith

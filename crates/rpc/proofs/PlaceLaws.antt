@@ -1,8 +1,7 @@
 -- The place of a broken field lies in the message, at every level; so what the reader answers is small.
 -- Assumes nothing.
-use Prim.Native.Nat.{ℕ, zero, suc, _+_, _*_, _<_, _≤_}
-use mathlib.Core.Path.{_≡_, refl, sym, ap, _∙_}
-use mathlib.Core.Bool.{cond}
+use Prim.Native.Nat.{ℕ, zero, suc, _<_, _≤_}
+use mathlib.Core.Path.{_≡_, refl, ap}
 use mathlib.Core.List.{List, []}
 use native.Mathlib.Omega.{arith}
 use borrow.Author.Tests.{ltb-false}
@@ -17,7 +16,7 @@ use Rattle.fields.specs.declared.Field.the-variants.{Whole}
 use Rattle.fields.proofs.FieldLaws.{field-placed}
 use Rattle.fields.proofs.WalkLaws.{over-place}
 use Rattle.rpc.specs.Messages.{Item, rpc, itemOf, itemAt, byRole, roleOf, inside, rpcAt}
-use Rattle.rpc.specs.Reading.{messageBytes, listNumbers, Reading, answered, readOf, answerValue}
+use Rattle.rpc.specs.Reading.{messageBytes, listNumbers, answered, readOf, answerValue}
 use Rattle.rpc.specs.Room.{PlaceInside}
 use Rattle.rpc.specs.declared.Role.{Role}
 use Rattle.rpc.specs.declared.Role.the-variants.{Skipped, Name, Value, Inner, Entry}
@@ -26,7 +25,11 @@ use Rattle.rpc.proofs.CheckLaws.{message-few}
 fields-place : (s : List ℕ) (at q : ℕ) → fieldsOf s at ≡ broken q → q < length s
 fields-place s at q e = over-place itself s (λ a p b f g. let z : _≡_ {A = ℕ} 0 1 = cc in absurd (omega arith)) at q e
 
-item-place : (kind : ℕ) (s : List ℕ) (x : Items Part) (q : ℕ) → ((b : ℕ) → x ≡ broken b → b < length s) → itemOf kind x ≡ broken q → q < length s
+item-place :
+    (kind : ℕ) (s : List ℕ) (x : Items Part) (q : ℕ) →
+    ((b : ℕ) → x ≡ broken b → b < length s) →
+    itemOf kind x ≡ broken q →
+    q < length s
 item-place kind s (items ps) q f e = let z : _≡_ {A = ℕ} 0 1 = cc in absurd (omega arith)
 item-place kind s (broken b) q f e = let z : b ≡ q = cc in f q (ap broken z)
 
@@ -64,7 +67,11 @@ pub place-inside : PlaceInside
 place-inside s q e = over-place (inside 2 rpc s) s (inside-place 2 rpc s) 0 q e
 
 -- ---- the number that goes with an answer
-answered-most : (names s list : List ℕ) (x : Items Item) → rpcAt s 0 ≡ x → length s ≤ messageBytes → answerValue (answered names s list x .answer) ≤ messageBytes
+answered-most :
+    (names s list : List ℕ) (x : Items Item) →
+    rpcAt s 0 ≡ x →
+    length s ≤ messageBytes →
+    answerValue (answered names s list x .answer) ≤ messageBytes
 answered-most names s list (items xs) e h = omega (arith, message-few 2 rpc s 0 xs e)
 answered-most names s list (broken q) e h = omega (arith, place-inside s q e)
 

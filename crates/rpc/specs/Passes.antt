@@ -19,6 +19,10 @@ use Rattle.rpc.specs.declared.Counts.{Counts}
 use Rattle.rpc.specs.declared.Count.{Count}
 use Rattle.rpc.specs.declared.Count.the-variants.{Entries, Cut}
 
+-- counts stay below it; nothing depends on its size but that no sum overflows
+abbrev pub countLimit : ℕ
+countLimit = 900000
+
 -- ---- the first pass
 abbrev pub checked : {A : Type 0} → Items A → Check
 checked (items xs) = Whole

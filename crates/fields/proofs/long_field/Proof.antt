@@ -1,6 +1,5 @@
 -- `fields::long_field` meets its contract. Assumes nothing.
 use borrow.Author.Needs.{needs}
-use native.Mathlib.Omega.{arith}
 use Rattle.fields.proofs.FieldLaws.{tag-bad, tag-zero, tag-whole, tag-place}
 use Rattle.fields.proofs.long_field.Statement.{statement}
 use Rattle.fields.proofs.long_field.Tie as tie

@@ -1,6 +1,6 @@
--- `fields::long_number` meets its contract: from the last byte to the first, what was read is the number from the place on. Assumes nothing.
+-- `fields::long_number` meets its contract: going back from the last byte, what was read is the number from the place on.
+-- Assumes nothing.
 use Prim.Native.Nat.{_-_}
-use borrow.Author.Needs.{needs}
 use native.Mathlib.Omega.{arith}
 use Rattle.fields.proofs.NumberLaws.{without-end, Joining, joining-start, joining-byte, joining-more, joining-far, joining-all}
 use Rattle.fields.proofs.long_number.Statement.{statement}
@@ -33,5 +33,9 @@ long-number-spec =
     let e = c .wide2 .ensures in
     (omega arith, (omega arith, omega arith)))
     (λ c. omega arith)
-    (λ c. joining-more _ _ _ _ _ (c .before .before .before .before .before .loop .inv) (c .before .before .before .before .loop-test .taken) _ _ (c .before .wide2 .ensures) (c .joined .ensures))
+    (λ c.
+    let w = c .before .before .before .before .before .loop .inv in
+    let t = c .before .before .before .before .loop-test .taken in
+    let y = c .before .wide2 .ensures in
+    joining-more _ _ _ _ _ w t _ _ y (c .joined .ensures))
     (λ c. joining-all _ _ _ _ _ (c .before .loop .inv) (c .loop-test .left)))

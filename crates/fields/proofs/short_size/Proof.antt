@@ -1,5 +1,4 @@
 -- `fields::short_size` meets its contract. Assumes nothing.
-use borrow.Author.Needs.{needs}
 use Rattle.fields.proofs.FieldLaws.{size-part, size-none}
 use Rattle.fields.proofs.short_size.Statement.{statement}
 use Rattle.fields.proofs.short_size.Tie as tie

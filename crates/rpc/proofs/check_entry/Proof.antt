@@ -12,5 +12,8 @@ check-entry-spec =
     (λ c. search needs)
     (λ c κs. omega arith)
     (λ c. search needs)
-    (λ c. entry-whole _ _ _ _ _ (c .before .before .before .check-fields .ensures) _ (c .before .enum-told .given .1) (c .one-more .ensures))
+    (λ c.
+    let e = c .before .before .before .check-fields .ensures in
+    let u = c .before .enum-told .given .1 in
+    entry-whole _ _ _ _ _ e _ u (c .one-more .ensures))
     (λ c. entry-torn _ _ _ _ _ (c .before .before .before .check-fields .ensures) _ (c .before .q .given .1)))

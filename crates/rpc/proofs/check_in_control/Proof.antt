@@ -16,7 +16,10 @@ check-in-control-spec =
     (λ c. search needs)
     (λ c. search needs)
     (λ c. search needs)
-    (λ c. inside-entry _ _ _ _ _ (c .before .before .before .before .before .role-of .ensures) 1 _ _ (λ z. omega (arith, z)) (c .before .before .before .k .given .1) (c .check-entry .ensures))
+    (λ c.
+    let ρ = c .before .before .before .before .before .role-of .ensures in
+    let k = c .before .before .before .k .given .1 in
+    inside-entry _ _ _ _ _ ρ 1 _ _ (λ z. omega (arith, z)) k (c .check-entry .ensures))
     (λ c. no-level _ _ _ _ _ (c .enum-told .given .1) (c .before .before .role-of .ensures) _)
     (λ c. inside-skipped _ _ _ _ _ (c .before .before .role-of .ensures) 1 (λ z. omega (arith, z)) (c .enum-told2 .given .1))
     (λ c. inside-name _ _ _ _ _ (c .before .before .role-of .ensures) 1 (λ z. omega (arith, z)) (c .enum-told3 .given .1))

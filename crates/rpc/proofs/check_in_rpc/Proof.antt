@@ -20,8 +20,14 @@ check-in-rpc-spec =
     (λ c. search needs)
     (λ c. search needs)
     (λ c. search needs)
-    (λ c. inside-entry _ _ _ _ _ (c .before .before .before .before .before .role-of .ensures) 2 _ _ (λ z. omega (arith, z)) (c .before .before .before .k .given .1) (c .check-entry .ensures))
-    (λ c. inside-control _ _ _ _ _ (c .before .before .enum-told .given .1) (c .before .before .before .before .role-of .ensures) _ (c .check-control .ensures))
+    (λ c.
+    let ρ = c .before .before .before .before .before .role-of .ensures in
+    let k = c .before .before .before .k .given .1 in
+    inside-entry _ _ _ _ _ ρ 2 _ _ (λ z. omega (arith, z)) k (c .check-entry .ensures))
+    (λ c.
+    let u = c .before .before .enum-told .given .1 in
+    let ρ = c .before .before .before .before .role-of .ensures in
+    inside-control _ _ _ _ _ u ρ _ (c .check-control .ensures))
     (λ c. inside-skipped _ _ _ _ _ (c .before .before .role-of .ensures) 2 (λ z. omega (arith, z)) (c .enum-told2 .given .1))
     (λ c. inside-name _ _ _ _ _ (c .before .before .role-of .ensures) 2 (λ z. omega (arith, z)) (c .enum-told3 .given .1))
     (λ c. inside-value _ _ _ _ _ (c .before .before .role-of .ensures) 2 (λ z. omega (arith, z)) (c .enum-told4 .given .1)))

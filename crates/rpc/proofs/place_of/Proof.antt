@@ -1,6 +1,4 @@
 -- `rpc::place_of` meets its contract. Assumes nothing.
-use borrow.Author.Needs.{needs}
-use native.Mathlib.Omega.{arith}
 use Rattle.rpc.proofs.KindLaws.{place-first, place-second, place-third}
 use Rattle.rpc.proofs.place_of.Statement.{statement}
 use Rattle.rpc.proofs.place_of.Tie as tie

@@ -1,5 +1,4 @@
 -- `rpc::plus` meets its contract. Assumes nothing.
-use borrow.Author.Needs.{needs}
 use native.Mathlib.Omega.{arith}
 use Rattle.rpc.proofs.KindLaws.{plus-yes, plus-no}
 use Rattle.rpc.proofs.plus.Statement.{statement}

@@ -23,7 +23,12 @@ put-in-control-spec =
     (λ c. search needs)
     (λ c. search needs)
     (λ c. search needs)
-    (λ c. adds-entry _ _ _ _ _ _ _ _ (c .before .before .before .before .before .before .before .before .before .before .role-of .ensures) 1 1 _ _ _ _ (λ z. omega (arith, z)) (omega arith) (c .before .before .before .before .before .before .before .before .k .given .1) (c .before .before .before .before .place-of .ensures) (c .before .before .before .put-one .ensures) (c .one-more .ensures))
+    (λ c.
+    let ρ = c .before .before .before .before .before .before .before .before .before .before .role-of .ensures in
+    let k = c .before .before .before .before .before .before .before .before .k .given .1 in
+    let at = c .before .before .before .before .place-of .ensures in
+    let o = c .before .before .before .put-one .ensures in
+    adds-entry _ _ _ _ _ _ _ _ ρ 1 1 _ _ _ _ (λ z. omega (arith, z)) (omega arith) k at o (c .one-more .ensures))
     (λ c. adds-no-level _ _ _ _ _ _ _ _ 1 (c .before .before .role-of .ensures) (c .enum-told .given .1))
     (λ c. adds-skipped _ _ _ _ _ _ _ _ (c .before .before .role-of .ensures) 1 1 (λ z. omega (arith, z)) (c .enum-told2 .given .1))
     (λ c. adds-name _ _ _ _ _ _ _ _ (c .before .before .role-of .ensures) 1 1 (λ z. omega (arith, z)) (c .enum-told3 .given .1))

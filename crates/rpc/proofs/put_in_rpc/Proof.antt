@@ -27,9 +27,19 @@ put-in-rpc-spec =
     (λ c. search needs)
     (λ c. search needs)
     (λ c. search needs)
-    (λ c. adds-entry _ _ _ _ _ _ _ _ (c .before .before .before .before .before .before .before .before .before .before .role-of .ensures) 2 _ _ _ _ _ (λ z. omega (arith, z)) (omega arith) (c .before .before .before .before .before .before .before .before .k .given .1) (c .before .before .before .before .place-of .ensures) (c .before .before .before .put-one .ensures) (c .one-more .ensures))
+    (λ c.
+    let ρ = c .before .before .before .before .before .before .before .before .before .before .role-of .ensures in
+    let k = c .before .before .before .before .before .before .before .before .k .given .1 in
+    let at = c .before .before .before .before .place-of .ensures in
+    let o = c .before .before .before .put-one .ensures in
+    adds-entry _ _ _ _ _ _ _ _ ρ 2 _ _ _ _ _ (λ z. omega (arith, z)) (omega arith) k at o (c .one-more .ensures))
     (λ c. search needs)
-    (λ c. adds-control _ _ _ _ _ _ _ _ _ (c .before .before .before .before .before .before .before .before .before .before .before .pre .1 .1 .0) (c .before .before .before .before .before .before .before .role-of .ensures) (c .before .before .before .before .before .enum-told .given .1) (c .before .before .put-control .ensures))
+    (λ c.
+    let q = c .before .before .before .before .before .before .before .before .before .before .before .pre .1 .1 .0 in
+    let ρ = c .before .before .before .before .before .before .before .role-of .ensures in
+    let u = c .before .before .before .before .before .enum-told .given .1 in
+    let o = c .before .before .put-control .ensures in
+    adds-control _ _ _ _ _ _ _ _ _ q ρ u o)
     (λ c. adds-skipped _ _ _ _ _ _ _ _ (c .before .before .role-of .ensures) 2 _ (λ z. omega (arith, z)) (c .enum-told2 .given .1))
     (λ c. adds-name _ _ _ _ _ _ _ _ (c .before .before .role-of .ensures) 2 _ (λ z. omega (arith, z)) (c .enum-told3 .given .1))
     (λ c. adds-value _ _ _ _ _ _ _ _ (c .before .before .role-of .ensures) 2 _ (λ z. omega (arith, z)) (c .enum-told4 .given .1)))

@@ -1,6 +1,5 @@
 -- `rpc::put_one` meets its contract. Assumes nothing.
 use borrow.Author.Needs.{needs}
-use native.Mathlib.Omega.{arith}
 use Rattle.rpc.proofs.ListLaws.{entry-puts}
 use Rattle.rpc.proofs.put_one.Statement.{statement}
 use Rattle.rpc.proofs.put_one.Tie as tie
@@ -13,4 +12,9 @@ put-one-spec =
     (λ c κs. search needs)
     (λ c κs. search needs)
     (λ c. search needs)
-    (λ c. entry-puts _ _ _ _ _ _ _ _ _ _ _ (c .before .before .before .before .before .before .held-in .ensures) (c .before .before .before .before .before .topic-in .ensures) (c .before .before .before .value-of .ensures) (c .before .before .put-entry .ensures)))
+    (λ c.
+    let h = c .before .before .before .before .before .before .held-in .ensures in
+    let t = c .before .before .before .before .before .topic-in .ensures in
+    let v = c .before .before .before .value-of .ensures in
+    let o = c .before .before .put-entry .ensures in
+    entry-puts _ _ _ _ _ _ _ _ _ _ _ h t v o))

@@ -29,23 +29,29 @@ put-rpc-spec =
     (λ c. search needs)
     (λ c. search needs)
     (λ c. c .before .before .before .before .loop .inv .0)
-    (λ c. gathering-bad _ _ _ _ _ _ _ _ _ _ (c .before .before .before .before .loop .inv .1 .1 .1) (c .before .before .before .loop-test .taken) _ (c .before .before .field-at .ensures) (c .enum-told .given .1))
+    (λ c.
+    let w = c .before .before .before .before .loop .inv .1 .1 .1 in
+    let t = c .before .before .before .loop-test .taken in
+    let f = c .before .before .field-at .ensures in
+    gathering-bad _ _ _ _ _ _ _ _ _ _ w t _ f (c .enum-told .given .1))
     (λ c κs.
     let i = read-placed _ _ _ _ (c .before .before .before .before .field-at .ensures) (c .before .before .p .given .1) in
     let q = c .before .before .before .before .before .before .before .before .before .before .pre in
     (q .0, (i .order, (i .high, omega arith))))
-    (λ c. read-falls _ _ _ _ (c .before .before .before .before .before .before .before .field-at .ensures) (c .before .before .before .before .before .p .given .1) (c .before .before .before .before .before .before .before .before .loop-test .taken))
     (λ c.
-    let q = read-placed _ _ _ _ (c .before .before .before .before .before .before .before .field-at .ensures) (c .before .before .before .before .before .p .given .1) in
-    let d = q .two in (
-      c .before .before .put-in-rpc .kept .1 .1 .1 .0 ∙ c .before .before .before .before .before .before .before .before .before .loop .inv .0,
-      (
-        q .high,
-        (
-          omega arith,
-          gathering-more _ _ _ _ _ _ _ _ _ _ (c .before .before .before .before .before .before .before .before .before .loop .inv .1 .1 .1) (c .before .before .before .before .before .before .before .before .loop-test .taken) _ (c .before .before .before .before .before .before .before .field-at .ensures) _ _ _ (c .before .before .before .before .before .p .given .1) (c .before .before .put-in-rpc .ensures .0),
-        ),
-      ),
-    ))
+    let f = c .before .before .before .before .before .before .before .field-at .ensures in
+    let g = c .before .before .before .before .before .p .given .1 in
+    let t = c .before .before .before .before .before .before .before .before .loop-test .taken in
+    read-falls _ _ _ _ f g t)
+    (λ c.
+    let w = c .before .before .before .before .before .before .before .before .before .loop .inv in
+    let t = c .before .before .before .before .before .before .before .before .loop-test .taken in
+    let f = c .before .before .before .before .before .before .before .field-at .ensures in
+    let g = c .before .before .before .before .before .p .given .1 in
+    let o = c .before .before .put-in-rpc in
+    let e = o .ensures in
+    let q = read-placed _ _ _ _ f g in
+    let d = q .two in
+    (o .kept .1 .1 .1 .0 ∙ w .0, (q .high, (omega arith, gathering-more _ _ _ _ _ _ _ _ _ _ (w .1 .1 .1) t _ f _ _ _ g (e .0)))))
     (λ c. c .before .loop .inv .0)
     (λ c. gathering-all _ _ _ _ _ _ _ _ _ _ (c .before .loop .inv .1 .1 .1) (c .loop-test .left)))

@@ -1,6 +1,5 @@
 -- `host::hivepadlet_names` meets its contract. Assumes nothing.
 use borrow.Author.Needs.{needs}
-use native.Mathlib.Omega.{arith}
 use Rattle.host.proofs.MessageLaws.{names-told}
 use Rattle.host.proofs.messages.hivepadlet_names.Statement.{statement}
 use Rattle.host.proofs.messages.hivepadlet_names.Tie as tie

@@ -15,10 +15,22 @@ hivepadlet-read-message-spec =
     (λ c. search needs)
     (λ c κs. search needs)
     (λ c. search needs)
-    (λ c κs. (omega arith, message-fits _ _ _ _ _ _ (c .before .before .before .before .before .read .ensures) (c .before .place .given .1)))
+    (λ c κs.
+    let e = c .before .before .before .before .before .read .ensures in
+    let p = c .before .place .given .1 in
+    (omega arith, message-fits _ _ _ _ _ _ e p))
     (λ c. search needs)
-    (λ c. hosts-message _ _ _ _ _ _ (c .before .before .before .before .before .before .read .ensures) (c .before .before .n .given .1) _ (c .packed .ensures))
+    (λ c.
+    let e = c .before .before .before .before .before .before .read .ensures in
+    let n = c .before .before .n .given .1 in
+    hosts-message _ _ _ _ _ _ e n _ (c .packed .ensures))
     (λ c. search needs)
-    (λ c. hosts-message _ _ _ _ _ _ (c .before .before .before .before .before .read .ensures) (c .before .enum-told .given .1) _ (c .packed2 .ensures))
+    (λ c.
+    let e = c .before .before .before .before .before .read .ensures in
+    let u = c .before .enum-told .given .1 in
+    hosts-message _ _ _ _ _ _ e u _ (c .packed2 .ensures))
     (λ c. search needs)
-    (λ c. hosts-message _ _ _ _ _ _ (c .before .before .before .before .before .before .read .ensures) (c .before .before .place .given .1) _ (c .packed3 .ensures)))
+    (λ c.
+    let e = c .before .before .before .before .before .before .read .ensures in
+    let p = c .before .before .place .given .1 in
+    hosts-message _ _ _ _ _ _ e p _ (c .packed3 .ensures)))
