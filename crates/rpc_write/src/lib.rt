@@ -53,7 +53,11 @@ const BACKOFF: u64 = 3;
 
 pub const MOST_SECONDS: u64 = 3600;
 
-pub const MOST_ENTRIES: usize = 72;
+pub const MOST_ACTIONS: usize = 64;
+
+pub const MOST_CHANGES: usize = 8;
+
+pub const MOST_ENTRIES: usize = MOST_CHANGES + MOST_ACTIONS;
 
 // ---- numbers
 
