@@ -406,23 +406,30 @@ module _ (names list : List ℕ) (n : ℕ) where
 abbrev pub okAt : List ℕ → List ℕ → ℕ → Bool
 okAt names list i = entryOk names (getD list (3 * i) 0) (getD list (3 * i + 1) 0) (getD list (3 * i + 2) 0)
 
-small : (k v : ℕ) (a : Bool) → a && ((eqb k 0 && leb v 1) || (eqb k 1 && eqb v 0) || (eqb k 2 && leb v 3600)) ≡ true → v < 16384
-small k v a e =
-    go (eqb k 0) (eqb k 1) (eqb k 2) (leb v 1) refl (eqb v 0) refl (leb v 3600) refl
-    (both a ((eqb k 0 && leb v 1) || (eqb k 1 && eqb v 0) || (eqb k 2 && leb v 3600)) e .1)
-  where
-    go : (x y z l : Bool) → leb v 1 ≡ l → (m : Bool) → eqb v 0 ≡ m → (o : Bool) → leb v 3600 ≡ o → ((x && l) || (y && m) || (z && o)) ≡ true → v < 16384
-    go x y z true p m q o r e = omega (arith, leb-true v 1 p)
-    go x y z false p true q o r e = omega (arith, eqb-true v 0 q)
-    go x y z false p false q true r e = omega (arith, leb-true v 3600 r)
-    go true true true false p false q false r e = let z : _≡_ {A = ℕ} 0 1 = cc in absurd (omega arith)
-    go true true false false p false q false r e = let z : _≡_ {A = ℕ} 0 1 = cc in absurd (omega arith)
-    go true false true false p false q false r e = let z : _≡_ {A = ℕ} 0 1 = cc in absurd (omega arith)
-    go true false false false p false q false r e = let z : _≡_ {A = ℕ} 0 1 = cc in absurd (omega arith)
-    go false true true false p false q false r e = let z : _≡_ {A = ℕ} 0 1 = cc in absurd (omega arith)
-    go false true false false p false q false r e = let z : _≡_ {A = ℕ} 0 1 = cc in absurd (omega arith)
-    go false false true false p false q false r e = let z : _≡_ {A = ℕ} 0 1 = cc in absurd (omega arith)
-    go false false false false p false q false r e = let z : _≡_ {A = ℕ} 0 1 = cc in absurd (omega arith)
+-- the kinds, and the values that go with them
+pub data Fits : ℕ → ℕ → Type 0 where
+  sub : {v : ℕ} → v ≤ 1 → Fits 0 v
+  graft : Fits 1 0
+  prune : {v : ℕ} → v ≤ 3600 → Fits 2 v
+
+either : {P : Type 0} (a b : Bool) → (a ≡ true → P) → (b ≡ true → P) → (a || b) ≡ true → P
+either true b f g e = f refl
+either false b f g e = g e
+
+pub fits : (names : List ℕ) (kind topic v : ℕ) → entryOk names kind topic v ≡ true → Fits kind v
+unfolding entryOk
+fits names kind topic v e =
+    either ((eqb kind 0 && leb v 1) || (eqb kind 1 && eqb v 0)) (eqb kind 2 && leb v 3600)
+    (either (eqb kind 0 && leb v 1) (eqb kind 1 && eqb v 0)
+    (λ a. let b = both (eqb kind 0) (leb v 1) a in rw (eqb-true kind 0 (b .0)) (sub (leb-true v 1 (b .1))))
+    (λ a. let b = both (eqb kind 1) (eqb v 0) a in rw (eqb-true kind 1 (b .0), eqb-true v 0 (b .1)) graft))
+    (λ a. let b = both (eqb kind 2) (leb v 3600) a in rw (eqb-true kind 2 (b .0)) (prune (leb-true v 3600 (b .1))))
+    (both (ltb 0 (nameSize names topic)) ((eqb kind 0 && leb v 1) || (eqb kind 1 && eqb v 0) || (eqb kind 2 && leb v 3600)) e .1)
+
+small : (kind v : ℕ) → Fits kind v → v < 16384
+small kind v (sub h) = omega arith
+small kind v graft = omega arith
+small kind v (prune h) = omega arith
 
 pub record Good (names list : List ℕ) (n : ℕ) : Type 0 where
   pub few : n ≤ 72
@@ -431,7 +438,7 @@ pub record Good (names list : List ℕ) (n : ℕ) : Type 0 where
   pub little : (i : ℕ) → i < n → getD list (3 * i + 2) 0 < 16384
 
 pub good : (names list : List ℕ) (n : ℕ) → listOk names list n ≡ true → Good names list n
-unfolding listOk entryOk
+unfolding listOk
 good names list n e =
     let p = both (leb n 72) (leb (3 * n) (length list) && every n (okAt names list)) e in
     let q = both (leb (3 * n) (length list)) (every n (okAt names list)) (p .1) in
@@ -439,7 +446,9 @@ good names list n e =
       few = leb-true n 72 (p .0);
       room = leb-true (3 * n) (length list) (q .0);
       each = λ i h. every-at (okAt names list) n i (q .1) h;
-      little = λ i h. small (getD list (3 * i) 0) (getD list (3 * i + 2) 0) (ltb 0 (nameSize names (getD list (3 * i + 1) 0))) (every-at (okAt names list) n i (q .1) h);
+      little =
+          λ i h.
+          small (getD list (3 * i) 0) (getD list (3 * i + 2) 0) (fits names (getD list (3 * i) 0) (getD list (3 * i + 1) 0) (getD list (3 * i + 2) 0) (every-at (okAt names list) n i (q .1) h));
     }
 
 -- ---- the ends of `list_ok`

@@ -128,6 +128,17 @@ writeOf names list n buf =
     (record { answer = Done (length (messageOf names list n)); bytes = sets buf 0 (messageOf names list n) }))
     (record { answer = NotList; bytes = buf })
 
+-- ---- the answer's number, and the value that goes with it
+abbrev pub wroteNumber : Wrote → ℕ
+wroteNumber (Done n) = 0
+wroteNumber NotList = 2
+wroteNumber Short = 13
+
+abbrev pub wroteValue : Wrote → ℕ
+wroteValue (Done n) = n
+wroteValue NotList = 0
+wroteValue Short = 0
+
 -- ---- what the code's parts promise
 -- `bytes` stand in the buffer from `at` on, as far as it goes, all else is as it was, and `next` is the place after them
 abbrev pub Stored : List ℕ → ℕ → List ℕ → ℕ → List ℕ → Type 0
