@@ -33,7 +33,7 @@ part-one : (number : ℕ) (c : List ℕ) → number < 15 → length c < 128 → 
 part-one number c h l =
     omega (arith, part-length number c, size-one (8 * number + 2) (omega arith) .0, size-one (length c) l .0)
 
-pub part-long : (number : ℕ) (c : List ℕ) → number < 15 → length c < 16384 → length (partField number c) ≤ length c + 3
+part-long : (number : ℕ) (c : List ℕ) → number < 15 → length c < 16384 → length (partField number c) ≤ length c + 3
 part-long number c h l =
     omega (arith, part-length number c, size-one (8 * number + 2) (omega arith) .0, number-long (length c) l)
 
@@ -49,7 +49,7 @@ name-short names topic =
     (λ t. rw (← e, t) (omega arith))
 
 -- ---- an entry's message; a subscription's is one byte shorter than the longest
-entry-long : (names : List ℕ) (kind topic v : ℕ) → Fits kind v → length (entryBytes names kind topic v) + one (eqb kind 0) ≤ 69
+pub entry-long : (names : List ℕ) (kind topic v : ℕ) → Fits kind v → length (entryBytes names kind topic v) + one (eqb kind 0) ≤ 69
 unfolding entryBytes
 entry-long names kind topic v (sub h) =
     let N = nameOf names topic in
@@ -85,7 +85,7 @@ one-long names own topic v (prune h) =
 abbrev pub isSub : List ℕ → ℕ → Bool
 isSub list i = eqb (getD list (3 * i) 0) 0
 
-all-long :
+pub all-long :
     (names list : List ℕ) (n : ℕ) →
     ((i : ℕ) → i < n → okAt names list i ≡ true) →
     length (gather n (bytesAt names list 0 1)) + length (gather n (bytesAt names list 1 3)) + length (gather n (bytesAt names list 2 4)) + count n (isSub list) ≤ 71 * n

@@ -59,7 +59,7 @@ size-two n h l = (rw (two-bytes n h l), omega arith)
 
 -- ---- bytes past the end are not stored
 -- one byte for each index: as many as there are, and those past the end are not stored
-singles : (f : ℕ → ℕ) (n : ℕ) → length (gather n (λ i. f i ∷ [])) ≡ n
+pub singles : (f : ℕ → ℕ) (n : ℕ) → length (gather n (λ i. f i ∷ [])) ≡ n
 unfolding gather
 singles f zero = refl
 singles f (suc n) = omega (arith, length-append (gather n (λ i. f i ∷ [])) (f n ∷ []), singles f n)
