@@ -103,15 +103,15 @@ fn value_size(number: u64, v: u64) -> usize
     number_size(8 * number) + number_size(v)
 }
 
-fn put_value(buf: &mut [u8], at: usize, number: u64, v: u64) -> usize
-    requires { ⌜ (number < 16) × ((v < 16384) × (at < 999000)) ⌝ }
-    ensures { λ r. ⌜ Stored (now (buf .entry)) at (valueField number v) r (now (buf .exit)) × (r ≤ at + 4) ⌝ }
+fn put_value(buf: &mut [u8], at: usize, number: u64, value: u64) -> usize
+    requires { ⌜ (number < 16) × ((value < 16384) × (at < 999000)) ⌝ }
+    ensures { λ r. ⌜ Stored (now (buf .entry)) at (valueField number value) r (now (buf .exit)) × (r ≤ at + 4) ⌝ }
 {
-    if v == 0 {
+    if value == 0 {
         return at;
     }
     let a = put_number(buf, at, 8 * number);
-    put_number(buf, a, v)
+    put_number(buf, a, value)
 }
 
 // A field of wire type 2, whose content has so many bytes.
@@ -333,15 +333,15 @@ fn put_control_field(
     names: &[u8; NAMES],
     list: &[u64],
     n: usize,
-    control: usize,
+    size: usize,
 ) -> usize
-    requires { ⌜ (listOk (now names) (now list) n ≡ true) × ((control ≡ length (controlBytes (now names) (now list) n)) × ((control ≤ 11520) × (at < 500000))) ⌝ }
+    requires { ⌜ (listOk (now names) (now list) n ≡ true) × ((size ≡ length (controlBytes (now names) (now list) n)) × ((size ≤ 11520) × (at < 500000))) ⌝ }
     ensures { λ r. ⌜ Stored (now (buf .entry)) at (controlField (controlBytes (now (names .entry)) (now (list .entry)) n)) r (now (buf .exit)) × (r ≤ at + 11524) ⌝ }
 {
-    if control == 0 {
+    if size == 0 {
         return at;
     }
-    let a = put_head(buf, at, CONTROL, control);
+    let a = put_head(buf, at, CONTROL, size);
     put_control(buf, a, names, list, n)
 }
 
