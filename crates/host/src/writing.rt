@@ -2,13 +2,13 @@
 ghost use mathlib.Core.Path.{_≡_};
 ghost use Rattle.host.specs.Writing.{HostsWriteMessage};
 use answers::packed;
-use rpc_write::NAMES;
+use rpc::NAMES_BYTES;
 use rpc_write::Wrote;
 
 // Writes an RPC of an action list for one peer with a topic beside each action, and of joins and leaves: 0 with the length, 2, or 13.
 #[no_mangle]
 pub extern "C" fn hivepadlet_write_message(
-    names: &[u8; NAMES],
+    names: &[u8; NAMES_BYTES],
     actions: &[u32],
     topics: &[u64],
     changes: &[u64],

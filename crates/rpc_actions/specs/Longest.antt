@@ -6,7 +6,9 @@ use mathlib.Core.Bool.{true}
 use mathlib.Core.List.{List, [], _∷_}
 use lib.ListN.{length}
 use Rattle.index.specs.Index.{gather}
-use Rattle.rpc_write.specs.Writing.{prune, mostSeconds, mostActions, mostChanges, topics, nameBytes, messageOf, listOk, wroteValue}
+use Rattle.rpc.specs.Messages.{prune}
+use Rattle.rpc.specs.Reading.{topics, nameBytes}
+use Rattle.rpc_write.specs.Writing.{mostSeconds, mostActions, mostChanges, messageOf, listOk, wroteValue}
 use Rattle.rpc_actions.specs.Actions.{actionsOk, changesOk, entriesOf, entryCount, writeActionsOf}
 
 abbrev pub longest : ℕ

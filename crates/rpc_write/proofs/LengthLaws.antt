@@ -11,7 +11,8 @@ use lib.ListN.{length, getD, length-append}
 use Rattle.index.specs.Index.{gather, count, one}
 use Rattle.index.proofs.Flags.{by-test, by-order}
 use Rattle.groups.specs.Groups.{encode}
-use Rattle.rpc_write.specs.Writing.{row, partSize, valueField, partField, nameSize, nameOf, entryBytes, oneBytes, kindBytes, controlBytes, controlField, messageOf, listOk}
+use Rattle.rpc.specs.Reading.{rowBytes}
+use Rattle.rpc_write.specs.Writing.{partSize, valueField, partField, nameSize, nameOf, entryBytes, oneBytes, kindBytes, controlBytes, controlField, messageOf, listOk}
 use Rattle.rpc_write.proofs.WriteLaws.{size-one, size-two, value-zero, part-length, name-length, bytesAt, okAt, Good, good, Fits, sub, graft, prune, fits}
 use borrow.Author.Tests.{leb-true}
 
@@ -43,8 +44,8 @@ name-short names topic =
     let e = name-length names topic in
     by-test (length (nameOf names topic) ≤ 64) (ltb topic 8)
     (λ t.
-    by-test (length (nameOf names topic) ≤ 64) (leb (getD names (row * topic) 0) 64)
-    (λ u. rw (← e, t, u) (leb-true (getD names (row * topic) 0) 64 u))
+    by-test (length (nameOf names topic) ≤ 64) (leb (getD names (rowBytes * topic) 0) 64)
+    (λ u. rw (← e, t, u) (leb-true (getD names (rowBytes * topic) 0) 64 u))
     (λ u. rw (← e, t, u) (omega arith)))
     (λ t. rw (← e, t) (omega arith))
 

@@ -16,7 +16,8 @@ use Rattle.index.proofs.Flags.{by-order}
 use Rattle.index.proofs.Lists.{sets-append}
 use Rattle.groups.specs.Groups.{encode}
 use Rattle.groups.proofs.GroupLaws.{encode-last, encode-more}
-use Rattle.rpc_write.specs.Writing.{row, Stored, Fitting, partSize, valueField, headBytes, partField, nameSize, nameByte, nameOf, early, late, nameNumber, entryBytes, oneBytes, kindBytes, controlBytes, controlField, messageOf, entryOk, listOk, Writing, writeOf}
+use Rattle.rpc.specs.Reading.{rowBytes}
+use Rattle.rpc_write.specs.Writing.{Stored, Fitting, partSize, valueField, headBytes, partField, nameSize, nameByte, nameOf, early, late, nameNumber, entryBytes, oneBytes, kindBytes, controlBytes, controlField, messageOf, entryOk, listOk, Writing, writeOf}
 use Rattle.rpc_write.specs.declared.Wrote.{Wrote}
 use Rattle.rpc_write.specs.declared.Wrote.the-variants.{Done, NotList, Short}
 
@@ -101,17 +102,17 @@ fits-some end at size h l = record { some = omega arith; room = omega arith; mos
 -- ---- names
 module _ (names : List ℕ) (topic : ℕ) where
   module _ (h : topic < 8) where
-    pub size-is : (size : ℕ) → size ≡ getD names (row * topic) 0 → size ≤ 64 → (size ≡ nameSize names topic) × (size ≤ 64)
+    pub size-is : (size : ℕ) → size ≡ getD names (rowBytes * topic) 0 → size ≤ 64 → (size ≡ nameSize names topic) × (size ≤ 64)
     unfolding nameSize
     size-is size e l =
-        let m : getD names (row * topic) 0 ≤ 64 = omega arith in
-        (e ∙ rw (lt-ltb topic 8 h, le-leb (getD names (row * topic) 0) 64 m), l)
+        let m : getD names (rowBytes * topic) 0 ≤ 64 = omega arith in
+        (e ∙ rw (lt-ltb topic 8 h, le-leb (getD names (rowBytes * topic) 0) 64 m), l)
 
-    pub size-long : (size : ℕ) → size ≡ getD names (row * topic) 0 → 64 < size → (0 ≡ nameSize names topic) × (0 ≤ 64)
+    pub size-long : (size : ℕ) → size ≡ getD names (rowBytes * topic) 0 → 64 < size → (0 ≡ nameSize names topic) × (0 ≤ 64)
     unfolding nameSize
     size-long size e l =
-        let m : 64 < getD names (row * topic) 0 = omega arith in
-        (rw (lt-ltb topic 8 h, lt-leb (getD names (row * topic) 0) 64 m), omega arith)
+        let m : 64 < getD names (rowBytes * topic) 0 = omega arith in
+        (rw (lt-ltb topic 8 h, lt-leb (getD names (rowBytes * topic) 0) 64 m), omega arith)
 
   pub size-far : 8 ≤ topic → (0 ≡ nameSize names topic) × (0 ≤ 64)
   unfolding nameSize
@@ -124,7 +125,7 @@ module _ (names : List ℕ) (topic : ℕ) where
   -- how long a name is
   pub name-length : nameSize names topic ≡ length (nameOf names topic)
   unfolding nameOf
-  name-length = sym (singles (λ i. getD names (row * topic + 1 + i) 0) (nameSize names topic))
+  name-length = sym (singles (λ i. getD names (rowBytes * topic + 1 + i) 0) (nameSize names topic))
 
   -- the copy: none of its bytes, one more, all
   abbrev pub Copied : List ℕ → ℕ → ℕ → List ℕ → Type 0
@@ -133,10 +134,10 @@ module _ (names : List ℕ) (topic : ℕ) where
   pub name-none : (b : List ℕ) (at : ℕ) → Copied b at 0 b
   name-none b at = (refl, rw (gather-none (nameByte names topic)))
 
-  pub name-more : (b : List ℕ) (at i : ℕ) (out : List ℕ) → Copied b at i out → Copied b at (i + 1) (set out (at + i) (getD names (row * topic + 1 + i) 0))
+  pub name-more : (b : List ℕ) (at i : ℕ) (out : List ℕ) → Copied b at i out → Copied b at (i + 1) (set out (at + i) (getD names (rowBytes * topic + 1 + i) 0))
   name-more b at i out e =
-      let x = getD names (row * topic + 1 + i) 0 in
-      (length-set out (at + i) x ∙ e .0, one-more (λ k. getD names (row * topic + 1 + k) 0) b at i out (set out (at + i) x) (e .1) refl)
+      let x = getD names (rowBytes * topic + 1 + i) 0 in
+      (length-set out (at + i) x ∙ e .0, one-more (λ k. getD names (rowBytes * topic + 1 + k) 0) b at i out (set out (at + i) x) (e .1) refl)
 
   pub name-all :
       (b : List ℕ) (at i n size : ℕ) (out : List ℕ) →
@@ -150,9 +151,9 @@ module _ (names : List ℕ) (topic : ℕ) where
   name-all b at i n size out z t l h q =
       let B = nameByte names topic in
       let j : i ≡ n = omega arith in
-      let k : at + size ≡ at + length (gather size B) = omega (arith, singles (λ k. getD names (row * topic + 1 + k) 0) size) in
+      let k : at + size ≡ at + length (gather size B) = omega (arith, singles (λ k. getD names (rowBytes * topic + 1 + k) 0) size) in
       let e : out ≡ sets b at (gather size B) =
-      q .1 ∙ ap (λ (x : ℕ). sets b at (gather x B)) j ∙ fitted (λ k. getD names (row * topic + 1 + k) 0) b at n size t in
+      q .1 ∙ ap (λ (x : ℕ). sets b at (gather x B)) j ∙ fitted (λ k. getD names (rowBytes * topic + 1 + k) 0) b at n size t in
       (rw (← z .0) (k, e), omega (arith, z .1))
 
 -- ---- fields

@@ -9,20 +9,12 @@ use lib.ListN.{length, getD}
 use lib.Seq.{sets}
 use Rattle.index.specs.Index.{every, gather}
 use Rattle.groups.specs.Groups.{encode}
+use Rattle.rpc.specs.Messages.{subscription, graft, prune}
+use Rattle.rpc.specs.Reading.{topics, nameBytes, rowBytes}
 use Rattle.rpc_write.specs.declared.Wrote.{Wrote}
 use Rattle.rpc_write.specs.declared.Wrote.the-variants.{Done, NotList, Short}
 
 -- ---- numbers by name
--- kinds of entries, in the reader's order
-abbrev pub subscription : ℕ
-subscription = 0
-
-abbrev pub graft : ℕ
-graft = 1
-
-abbrev pub prune : ℕ
-prune = 2
-
 -- "PRUNE [..] backoff [..] in seconds", of 01's form: 1..3600 in the parameters, 0 where there is none
 abbrev pub mostSeconds : ℕ
 mostSeconds = 3600
@@ -47,21 +39,12 @@ unfoldable pub partField : ℕ → List ℕ → List ℕ
 partField number content = encode (8 * number + 2) ++ (encode (length content) ++ content)
 
 -- ---- topics' names: eight rows of a length (0: no name) and 64 bytes
-abbrev pub topics : ℕ
-topics = 8
-
-abbrev pub nameBytes : ℕ
-nameBytes = 64
-
-abbrev pub row : ℕ
-row = 65
-
 unfoldable pub nameSize : List ℕ → ℕ → ℕ
 nameSize names topic =
-    cond (ltb topic topics) (cond (leb (getD names (row * topic) 0) nameBytes) (getD names (row * topic) 0) 0) 0
+    cond (ltb topic topics) (cond (leb (getD names (rowBytes * topic) 0) nameBytes) (getD names (rowBytes * topic) 0) 0) 0
 
 abbrev pub nameByte : List ℕ → ℕ → ℕ → List ℕ
-nameByte names topic i = getD names (row * topic + 1 + i) 0 ∷ []
+nameByte names topic i = getD names (rowBytes * topic + 1 + i) 0 ∷ []
 
 unfoldable pub nameOf : List ℕ → ℕ → List ℕ
 nameOf names topic = gather (nameSize names topic) (nameByte names topic)

@@ -8,6 +8,12 @@ ghost use Prim.Native.Nat.{_+_, _*_, _≤_, _<_};
 ghost use lib.ListN.{length, set};
 ghost use Rattle.groups.specs.Groups.{encode};
 ghost use Rattle.rpc_write.specs.Writing.{Stored, Fitting, partSize, nameSize, nameOf, valueField, partField, headBytes, early, late, nameNumber, entryBytes, oneBytes, kindBytes, controlBytes, controlField, messageOf, entryOk, listOk, writeOf};
+use rpc::GRAFT;
+use rpc::NAME_BYTES;
+use rpc::NAMES_BYTES;
+use rpc::PRUNE;
+use rpc::ROW_BYTES;
+use rpc::SUBSCRIPTION;
 
 pub enum Wrote {
     // How many bytes were written.
@@ -18,21 +24,7 @@ pub enum Wrote {
     Short,
 }
 
-// Kinds of entries, in the order in which they are written.
-pub const SUBSCRIPTION: u64 = 0;
-
-pub const GRAFT: u64 = 1;
-
-pub const PRUNE: u64 = 2;
-
-// Names of topics: rows of a length and as many bytes as a name may have.
-const TOPICS: u64 = 8;
-
-const NAME_BYTES: usize = 64;
-
-const ROW: usize = NAME_BYTES + 1;
-
-pub const NAMES: usize = 520;
+const TOPICS: u64 = rpc::TOPICS as u64;
 
 // Numbers of fields: of an RPC, of its control message, of a subscription, of a GRAFT or PRUNE.
 const SUBSCRIPTIONS: u64 = 1;
@@ -139,11 +131,11 @@ fn wide(x: u8) -> usize
     x as usize
 }
 
-fn name_size(names: &[u8; NAMES], topic: u64) -> usize
+fn name_size(names: &[u8; NAMES_BYTES], topic: u64) -> usize
     ensures { λ r. ⌜ (r ≡ nameSize (now (names .entry)) topic) × (r ≤ 64) ⌝ }
 {
     if topic < TOPICS {
-        let row = ROW * topic as usize;
+        let row = ROW_BYTES * topic as usize;
         let size = wide(names[row]);
         if size <= NAME_BYTES {
             return size;
@@ -162,7 +154,7 @@ fn fitting(end: usize, at: usize, size: usize) -> usize
     if size <= end - at { size } else { end - at }
 }
 
-fn put_name(buf: &mut [u8], at: usize, names: &[u8; NAMES], topic: u64) -> usize
+fn put_name(buf: &mut [u8], at: usize, names: &[u8; NAMES_BYTES], topic: u64) -> usize
     requires { ⌜ at < 1000000 ⌝ }
     ensures { λ r. ⌜ Stored (now (buf .entry)) at (nameOf (now (names .entry)) topic) r (now (buf .exit)) × (r ≤ at + 64) ⌝ }
 {
@@ -170,7 +162,7 @@ fn put_name(buf: &mut [u8], at: usize, names: &[u8; NAMES], topic: u64) -> usize
     if TOPICS <= topic {
         return at;
     }
-    let row = ROW * topic as usize + 1;
+    let row = ROW_BYTES * topic as usize + 1;
     let n = fitting(buf.len(), at, size);
     let mut i: usize = 0;
     while i < n {
@@ -180,7 +172,7 @@ fn put_name(buf: &mut [u8], at: usize, names: &[u8; NAMES], topic: u64) -> usize
     at + size
 }
 
-fn put_named(buf: &mut [u8], at: usize, number: u64, names: &[u8; NAMES], topic: u64) -> usize
+fn put_named(buf: &mut [u8], at: usize, number: u64, names: &[u8; NAMES_BYTES], topic: u64) -> usize
     requires { ⌜ (number < 16) × (at < 990000) ⌝ }
     ensures { λ r. ⌜ Stored (now (buf .entry)) at (partField number (nameOf (now (names .entry)) topic)) r (now (buf .exit)) × (r ≤ at + 68) ⌝ }
 {
@@ -212,7 +204,7 @@ fn name_number(kind: u64) -> u64
     }
 }
 
-fn entry_size(names: &[u8; NAMES], kind: u64, topic: u64, v: u64) -> usize
+fn entry_size(names: &[u8; NAMES_BYTES], kind: u64, topic: u64, v: u64) -> usize
     requires { ⌜ v < 16384 ⌝ }
     ensures { λ r. ⌜ (r ≡ length (entryBytes (now (names .entry)) kind topic v)) × (r ≤ 76) ⌝ }
 {
@@ -222,7 +214,14 @@ fn entry_size(names: &[u8; NAMES], kind: u64, topic: u64, v: u64) -> usize
     a + b + c
 }
 
-fn put_entry(buf: &mut [u8], at: usize, names: &[u8; NAMES], kind: u64, topic: u64, v: u64) -> usize
+fn put_entry(
+    buf: &mut [u8],
+    at: usize,
+    names: &[u8; NAMES_BYTES],
+    kind: u64,
+    topic: u64,
+    v: u64,
+) -> usize
     requires { ⌜ (v < 16384) × (at < 900000) ⌝ }
     ensures { λ r. ⌜ Stored (now (buf .entry)) at (entryBytes (now (names .entry)) kind topic v) r (now (buf .exit)) × (r ≤ at + 76) ⌝ }
 {
@@ -233,7 +232,14 @@ fn put_entry(buf: &mut [u8], at: usize, names: &[u8; NAMES], kind: u64, topic: u
 
 // ---- an entry as a field, if it is of the kind
 
-fn one_size(names: &[u8; NAMES], own: u64, topic: u64, v: u64, kind: u64, number: u64) -> usize
+fn one_size(
+    names: &[u8; NAMES_BYTES],
+    own: u64,
+    topic: u64,
+    v: u64,
+    kind: u64,
+    number: u64,
+) -> usize
     requires { ⌜ (v < 16384) × (number < 16) ⌝ }
     ensures { λ r. ⌜ (r ≡ length (oneBytes (now (names .entry)) own topic v kind number)) × (r ≤ 80) ⌝ }
 {
@@ -246,7 +252,7 @@ fn one_size(names: &[u8; NAMES], own: u64, topic: u64, v: u64, kind: u64, number
 fn put_one(
     buf: &mut [u8],
     at: usize,
-    names: &[u8; NAMES],
+    names: &[u8; NAMES_BYTES],
     own: u64,
     topic: u64,
     v: u64,
@@ -265,7 +271,7 @@ fn put_one(
 
 // ---- the entries of a kind, one after the other
 
-fn kind_size(names: &[u8; NAMES], list: &[u64], n: usize, kind: u64, number: u64) -> usize
+fn kind_size(names: &[u8; NAMES_BYTES], list: &[u64], n: usize, kind: u64, number: u64) -> usize
     requires { ⌜ (listOk (now names) (now list) n ≡ true) × (number < 16) ⌝ }
     ensures { λ r. ⌜ (r ≡ length (kindBytes (now (names .entry)) (now (list .entry)) n kind number)) × (r ≤ 5760) ⌝ }
 {
@@ -282,7 +288,7 @@ fn kind_size(names: &[u8; NAMES], list: &[u64], n: usize, kind: u64, number: u64
 fn put_kind(
     buf: &mut [u8],
     at: usize,
-    names: &[u8; NAMES],
+    names: &[u8; NAMES_BYTES],
     list: &[u64],
     n: usize,
     kind: u64,
@@ -312,14 +318,20 @@ fn put_kind(
 
 // ---- the control message, and one field that holds it or none
 
-fn control_size(names: &[u8; NAMES], list: &[u64], n: usize) -> usize
+fn control_size(names: &[u8; NAMES_BYTES], list: &[u64], n: usize) -> usize
     requires { ⌜ listOk (now names) (now list) n ≡ true ⌝ }
     ensures { λ r. ⌜ (r ≡ length (controlBytes (now (names .entry)) (now (list .entry)) n)) × (r ≤ 11520) ⌝ }
 {
     kind_size(names, list, n, GRAFT, GRAFTS) + kind_size(names, list, n, PRUNE, PRUNES)
 }
 
-fn put_control(buf: &mut [u8], at: usize, names: &[u8; NAMES], list: &[u64], n: usize) -> usize
+fn put_control(
+    buf: &mut [u8],
+    at: usize,
+    names: &[u8; NAMES_BYTES],
+    list: &[u64],
+    n: usize,
+) -> usize
     requires { ⌜ (listOk (now names) (now list) n ≡ true) × (at < 600000) ⌝ }
     ensures { λ r. ⌜ Stored (now (buf .entry)) at (controlBytes (now (names .entry)) (now (list .entry)) n) r (now (buf .exit)) × (r ≤ at + 11520) ⌝ }
 {
@@ -330,7 +342,7 @@ fn put_control(buf: &mut [u8], at: usize, names: &[u8; NAMES], list: &[u64], n: 
 fn put_control_field(
     buf: &mut [u8],
     at: usize,
-    names: &[u8; NAMES],
+    names: &[u8; NAMES_BYTES],
     list: &[u64],
     n: usize,
     size: usize,
@@ -347,7 +359,7 @@ fn put_control_field(
 
 // ---- the message, given the length of its control message
 
-fn message_size(names: &[u8; NAMES], list: &[u64], n: usize, control: usize) -> usize
+fn message_size(names: &[u8; NAMES_BYTES], list: &[u64], n: usize, control: usize) -> usize
     requires { ⌜ (listOk (now names) (now list) n ≡ true) × ((control ≡ length (controlBytes (now names) (now list) n)) × (control ≤ 11520)) ⌝ }
     ensures { λ r. ⌜ r ≡ length (messageOf (now (names .entry)) (now (list .entry)) n) ⌝ }
 {
@@ -358,7 +370,13 @@ fn message_size(names: &[u8; NAMES], list: &[u64], n: usize, control: usize) -> 
     a + part_size(CONTROL, control)
 }
 
-fn put_message(buf: &mut [u8], names: &[u8; NAMES], list: &[u64], n: usize, control: usize) -> usize
+fn put_message(
+    buf: &mut [u8],
+    names: &[u8; NAMES_BYTES],
+    list: &[u64],
+    n: usize,
+    control: usize,
+) -> usize
     requires { ⌜ (listOk (now names) (now list) n ≡ true) × ((control ≡ length (controlBytes (now names) (now list) n)) × (control ≤ 11520)) ⌝ }
     ensures { λ r. ⌜ Stored (now (buf .entry)) 0 (messageOf (now (names .entry)) (now (list .entry)) n) r (now (buf .exit)) ⌝ }
 {
@@ -368,7 +386,7 @@ fn put_message(buf: &mut [u8], names: &[u8; NAMES], list: &[u64], n: usize, cont
 
 // ---- what is written
 
-fn entry_ok(names: &[u8; NAMES], kind: u64, topic: u64, v: u64) -> bool
+fn entry_ok(names: &[u8; NAMES_BYTES], kind: u64, topic: u64, v: u64) -> bool
     ensures { λ r. ⌜ r ≡ entryOk (now (names .entry)) kind topic v ⌝ }
 {
     let size = name_size(names, topic);
@@ -378,7 +396,7 @@ fn entry_ok(names: &[u8; NAMES], kind: u64, topic: u64, v: u64) -> bool
             | ((kind == PRUNE) & (v <= MOST_SECONDS)))
 }
 
-fn list_ok(names: &[u8; NAMES], list: &[u64], n: usize) -> bool
+fn list_ok(names: &[u8; NAMES_BYTES], list: &[u64], n: usize) -> bool
     ensures { λ r. ⌜ r ≡ listOk (now (names .entry)) (now (list .entry)) n ⌝ }
 {
     if MOST_ENTRIES < n {
@@ -399,7 +417,7 @@ fn list_ok(names: &[u8; NAMES], list: &[u64], n: usize) -> bool
 }
 
 // Writes the first n entries of a list, or says why not and leaves the buffer.
-pub fn write(names: &[u8; NAMES], list: &[u64], n: usize, buf: &mut [u8]) -> Wrote
+pub fn write(names: &[u8; NAMES_BYTES], list: &[u64], n: usize, buf: &mut [u8]) -> Wrote
     ensures { λ r. ⌜ (r ≡ writeOf (now (names .entry)) (now (list .entry)) n (now (buf .entry)) .answer) × (now (buf .exit) ≡ writeOf (now (names .entry)) (now (list .entry)) n (now (buf .entry)) .bytes) ⌝ }
 {
     if !list_ok(names, list, n) {
