@@ -2,22 +2,21 @@
 -- room, so the buffer begins with the message.
 -- Assumes nothing.
 use Prim.Native.Nat.{ℕ, _+_, _≤_}
-use mathlib.Core.Path.{_≡_, refl, sym, ap, _∙_}
-use mathlib.Core.Bool.{Bool, true, false, _&&_, cond}
-use mathlib.Core.List.{List, [], _∷_, _++_}
+use mathlib.Core.Path.{_≡_, sym, ap, _∙_}
+use mathlib.Core.Bool.{true, _&&_}
+use mathlib.Core.List.{List}
 use native.Mathlib.Omega.{arith}
 use borrow.Author.Tests.{ltb-false, le-ltb}
 use lib.Dec.{ltb}
 use lib.ListN.{length, take, drop}
 use lib.Seq.{sets, sets-eq, take-append-seam}
 use Rattle.index.proofs.Flags.{by-test}
-use Rattle.rpc.specs.Reading.{isNamed, readOf}
-use Rattle.rpc.specs.Names.{rowOk, namesOk}
+use Rattle.rpc.specs.Reading.{readOf}
 use Rattle.rpc_write.specs.declared.Wrote.{Wrote}
 use Rattle.rpc_write.specs.declared.Wrote.the-variants.{Done, NotList, Short}
 use Rattle.rpc_write.specs.Writing.{Writing, listOk, messageOf, writeOf, wroteNumber, wroteValue}
 use Rattle.rpc_actions.specs.Actions.{actionsOk, changesOk, entriesOf, entryCount, writeActionsOf}
-use Rattle.round_trip.specs.RoundTrip.{inOrder, CallReadsBack, CallWritesAgain}
+use Rattle.round_trip.specs.RoundTrip.{CallReadsBack, CallWritesAgain}
 use Rattle.round_trip.proofs.Triples.{order-ok, writes-again}
 use Rattle.round_trip.proofs.RoundTrip.{reads-back}
 

@@ -1,15 +1,15 @@
 -- No message is longer: each of at most 72 entries takes at most 71 bytes, and each join or leave, at most 8 of them, at most 70.
 -- Assumes nothing.
 use Prim.Native.Nat.{ℕ, zero, suc, _+_, _-_, _*_, _/_, _<_, _≤_}
-use mathlib.Core.Path.{_≡_, refl, sym, ap, _∙_}
-use mathlib.Core.Bool.{Bool, true, false, _&&_, cond}
-use mathlib.Core.List.{List, [], _∷_, _++_}
+use mathlib.Core.Path.{_≡_, refl, ap, _∙_}
+use mathlib.Core.Bool.{Bool, true, _&&_}
+use mathlib.Core.List.{List, [], _++_}
 use native.Mathlib.Omega.{arith}
-use borrow.Author.Tests.{leb-true, lt-ltb, le-ltb}
+use borrow.Author.Tests.{leb-true}
 use lib.Dec.{eqb, leb, ltb}
-use lib.ListN.{length, getD, length-append, List·getD-append}
+use lib.ListN.{length, getD, List·getD-append}
 use lib.Seq.{getD-append-add}
-use Rattle.index.specs.Index.{every, first, count, one, gather}
+use Rattle.index.specs.Index.{every, count, one, gather}
 use Rattle.index.proofs.Index.{both}
 use Rattle.index.proofs.Flags.{by-test, by-order}
 use Rattle.groups.specs.Groups.{encode, groups}

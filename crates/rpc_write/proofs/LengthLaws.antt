@@ -1,19 +1,18 @@
 -- How long a message is: a subscription takes at most 70 bytes, a GRAFT or PRUNE at most 71, and the control field three more.
 -- Assumes nothing.
 use Prim.Native.Nat.{ℕ, zero, suc, _+_, _*_, _<_, _≤_}
-use mathlib.Core.Path.{_≡_, refl, sym, ap, _∙_}
-use mathlib.Core.Bool.{Bool, true, false, cond}
-use mathlib.Core.List.{List, [], _∷_, _++_, append-nil}
+use mathlib.Core.Path.{_≡_, refl}
+use mathlib.Core.Bool.{Bool, true}
+use mathlib.Core.List.{List, _++_, append-nil}
 use native.Mathlib.Omega.{arith}
-use borrow.Author.Tests.{eqb-true}
 use lib.Dec.{eqb, ltb, leb}
 use lib.ListN.{length, getD, length-append}
 use Rattle.index.specs.Index.{gather, count, one}
 use Rattle.index.proofs.Flags.{by-test, by-order}
 use Rattle.groups.specs.Groups.{encode}
 use Rattle.rpc.specs.Reading.{rowBytes}
-use Rattle.rpc_write.specs.Writing.{partSize, valueField, partField, nameSize, nameOf, entryBytes, oneBytes, kindBytes, controlBytes, controlField, messageOf, listOk}
-use Rattle.rpc_write.proofs.WriteLaws.{size-one, size-two, value-zero, part-length, name-length, bytesAt, okAt, Good, good, Fits, sub, graft, prune, fits}
+use Rattle.rpc_write.specs.Writing.{valueField, partField, nameSize, nameOf, entryBytes, oneBytes, kindBytes, controlBytes, controlField, messageOf, listOk}
+use Rattle.rpc_write.proofs.WriteLaws.{size-one, size-two, value-zero, part-length, name-length, bytesAt, okAt, good, Fits, sub, graft, prune, fits}
 use borrow.Author.Tests.{leb-true}
 
 -- ---- numbers and fields

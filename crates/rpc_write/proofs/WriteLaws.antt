@@ -2,7 +2,7 @@
 -- Assumes nothing.
 use Prim.Native.Nat.{ℕ, zero, suc, _+_, _-_, _*_, _/_, _%_, _<_, _≤_}
 use mathlib.Core.Path.{_≡_, refl, sym, ap, _∙_}
-use mathlib.Core.Bool.{Bool, true, false, not, _&&_, _||_, cond}
+use mathlib.Core.Bool.{Bool, true, false, _&&_, _||_}
 use mathlib.Core.List.{List, [], _∷_, _++_, append-assoc, append-nil}
 use native.Mathlib.Omega.{arith}
 use native.Mathlib.Numerals.{add-one}
@@ -17,7 +17,7 @@ use Rattle.index.proofs.Lists.{sets-append}
 use Rattle.groups.specs.Groups.{encode}
 use Rattle.groups.proofs.GroupLaws.{encode-last, encode-more}
 use Rattle.rpc.specs.Reading.{rowBytes}
-use Rattle.rpc_write.specs.Writing.{Stored, Fitting, partSize, valueField, headBytes, partField, nameSize, nameByte, nameOf, early, late, nameNumber, entryBytes, oneBytes, kindBytes, controlBytes, controlField, messageOf, entryOk, listOk, Writing, writeOf}
+use Rattle.rpc_write.specs.Writing.{Stored, Fitting, partSize, valueField, headBytes, partField, nameSize, nameByte, nameOf, early, late, nameNumber, entryBytes, oneBytes, kindBytes, controlBytes, controlField, messageOf, entryOk, listOk, writeOf}
 use Rattle.rpc_write.specs.declared.Wrote.{Wrote}
 use Rattle.rpc_write.specs.declared.Wrote.the-variants.{Done, NotList, Short}
 

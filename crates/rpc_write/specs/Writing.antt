@@ -1,6 +1,6 @@
 -- An RPC written from a list of entries (02, order 4), three numbers each, as order 1's reader lists them: kind, topic, value. "fields in
 -- ascending order, one control field or none, shortest numbers, absent rather than zero."
-use Prim.Native.Nat.{ℕ, zero, suc, _+_, _-_, _*_, _≤_, _<_}
+use Prim.Native.Nat.{ℕ, _+_, _-_, _*_, _≤_, _<_}
 use mathlib.Core.Path.{_≡_}
 use mathlib.Core.Bool.{Bool, _&&_, _||_, cond}
 use mathlib.Core.List.{List, [], _∷_, _++_}

@@ -3,7 +3,6 @@
 // byte past the end of the buffer is not stored, so that no function here asks for room: `write` has made sure of it.
 ghost use mathlib.Core.Path.{_≡_};
 ghost use mathlib.Core.Bool.{true};
-ghost use mathlib.Core.List.{_++_};
 ghost use Prim.Native.Nat.{_+_, _*_, _≤_, _<_};
 ghost use lib.ListN.{length, set};
 ghost use Rattle.groups.specs.Groups.{encode};

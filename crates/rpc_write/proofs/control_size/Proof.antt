@@ -1,5 +1,4 @@
 -- `rpc_write::control_size` meets its contract. Assumes nothing.
-use borrow.Author.Needs.{needs}
 use native.Mathlib.Omega.{arith}
 use Rattle.rpc_write.proofs.WriteLaws.{control-length}
 use Rattle.rpc_write.proofs.control_size.Statement.{statement}

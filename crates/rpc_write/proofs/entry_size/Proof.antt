@@ -1,6 +1,5 @@
 -- `rpc_write::entry_size` meets its contract. Assumes nothing.
 use borrow.Author.Needs.{needs}
-use native.Mathlib.Omega.{arith}
 use Rattle.rpc_write.proofs.WriteLaws.{entry-length}
 use Rattle.rpc_write.proofs.entry_size.Statement.{statement}
 use Rattle.rpc_write.proofs.entry_size.Tie as tie

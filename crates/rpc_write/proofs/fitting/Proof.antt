@@ -1,6 +1,5 @@
 -- `rpc_write::fitting` meets its contract. Assumes nothing.
 use borrow.Author.Needs.{needs}
-use native.Mathlib.Omega.{arith}
 use Rattle.rpc_write.proofs.WriteLaws.{fits-none, fits-all, fits-some}
 use Rattle.rpc_write.proofs.fitting.Statement.{statement}
 use Rattle.rpc_write.proofs.fitting.Tie as tie

@@ -1,5 +1,4 @@
 -- `rpc_write::kind_size` meets its contract. Assumes nothing.
-use borrow.Author.Needs.{needs}
 use native.Mathlib.Omega.{arith}
 use Rattle.rpc_write.proofs.WriteLaws.{good, bytesAt, length-none, length-more, length-all}
 use Prim.Native.Nat.{_-_, _*_, _≤_}

@@ -1,5 +1,4 @@
 -- `rpc_write::message_size` meets its contract. Assumes nothing.
-use borrow.Author.Needs.{needs}
 use native.Mathlib.Omega.{arith}
 use Rattle.rpc_write.proofs.WriteLaws.{no-control, with-control}
 use Rattle.rpc_write.proofs.message_size.Statement.{statement}

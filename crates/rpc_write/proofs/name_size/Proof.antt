@@ -1,6 +1,5 @@
 -- `rpc_write::name_size` meets its contract. Assumes nothing.
 use borrow.Author.Needs.{needs}
-use native.Mathlib.Omega.{arith}
 use Rattle.rpc_write.proofs.WriteLaws.{size-is, size-long, size-far}
 use Rattle.rpc_write.proofs.name_size.Statement.{statement}
 use Rattle.rpc_write.proofs.name_size.Tie as tie

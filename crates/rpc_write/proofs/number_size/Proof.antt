@@ -1,6 +1,4 @@
 -- `rpc_write::number_size` meets its contract. Assumes nothing.
-use borrow.Author.Needs.{needs}
-use native.Mathlib.Omega.{arith}
 use Rattle.rpc_write.proofs.WriteLaws.{size-one, size-two}
 use Rattle.rpc_write.proofs.number_size.Statement.{statement}
 use Rattle.rpc_write.proofs.number_size.Tie as tie

@@ -1,6 +1,5 @@
 -- `rpc_write::put_head` meets its contract. Assumes nothing.
 use borrow.Author.Needs.{needs}
-use native.Mathlib.Omega.{arith}
 use Rattle.rpc_write.proofs.WriteLaws.{head-stored}
 use Rattle.rpc_write.proofs.put_head.Statement.{statement}
 use Rattle.rpc_write.proofs.put_head.Tie as tie

@@ -3,8 +3,7 @@ use Prim.Native.Nat.{_+_, _-_, _*_, _≤_}
 use lib.ListN.{length}
 use Rattle.index.specs.Index.{gather}
 use Rattle.rpc_write.specs.Writing.{Stored}
-use mathlib.Core.Path.{_≡_, refl, sym, _∙_}
-use borrow.Author.Needs.{needs}
+use mathlib.Core.Path.{_≡_, refl, _∙_}
 use native.Mathlib.Omega.{arith}
 use Rattle.rpc_write.proofs.WriteLaws.{good, bytesAt, kind-none, kind-more, kind-all}
 use Rattle.rpc_write.proofs.put_kind.Statement.{statement}

@@ -1,6 +1,5 @@
 -- `rpc_write::put_one` meets its contract. Assumes nothing.
 use borrow.Author.Needs.{needs}
-use native.Mathlib.Omega.{arith}
 use Rattle.rpc_write.proofs.WriteLaws.{one-other, one-stored}
 use Rattle.rpc_write.proofs.put_one.Statement.{statement}
 use Rattle.rpc_write.proofs.put_one.Tie as tie

@@ -1,6 +1,5 @@
 -- `rpc_write::value_size` meets its contract. Assumes nothing.
 use borrow.Author.Needs.{needs}
-use native.Mathlib.Omega.{arith}
 use Rattle.rpc_write.proofs.WriteLaws.{value-zero, value-size}
 use Rattle.rpc_write.proofs.value_size.Statement.{statement}
 use Rattle.rpc_write.proofs.value_size.Tie as tie

@@ -1,6 +1,5 @@
 -- `rpc_write::write` meets its contract. Assumes nothing.
 use borrow.Author.Needs.{needs}
-use native.Mathlib.Omega.{arith}
 use Rattle.rpc_write.proofs.WriteLaws.{writes-not, writes-short, writes-done}
 use Rattle.index.proofs.Flags.{failed, passed}
 use Rattle.rpc_write.proofs.write.Statement.{statement}
