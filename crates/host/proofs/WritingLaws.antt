@@ -13,7 +13,8 @@ use Rattle.host.specs.Writing.{HostsWriteMessage}
 
 module _
     (names actions topics changes buf out : List ℕ) (a v : Wrote)
-    (e : (a ≡ writeActionsOf names actions topics changes buf .answer) × (out ≡ writeActionsOf names actions topics changes buf .bytes)) (t : a ≡ v)
+    (e : (a ≡ writeActionsOf names actions topics changes buf .answer) ×
+    (out ≡ writeActionsOf names actions topics changes buf .bytes)) (t : a ≡ v)
   where
     answer-is : v ≡ writeActionsOf names actions topics changes buf .answer
     answer-is = sym t ∙ e .0

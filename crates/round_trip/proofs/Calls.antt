@@ -25,7 +25,8 @@ front : (buf m : List ℕ) → length m ≤ length buf → take (length m) (sets
 front buf m h =
     ap (take (length m)) (sets-eq m buf 0 (omega arith)) ∙ take-append-seam m (drop (0 + length m) buf)
 
-module _ (names actions topics changes buf : List ℕ) (size : ℕ) (e : writeActionsOf names actions topics changes buf .answer ≡ Done size) where
+module _ (names actions topics changes buf : List ℕ) (size : ℕ)
+    (e : writeActionsOf names actions topics changes buf .answer ≡ Done size) where
   abbrev L : List ℕ
   L = entriesOf actions topics changes
 

@@ -13,7 +13,8 @@ use Rattle.index.specs.Index.{every, count, one, gather}
 use Rattle.index.proofs.Index.{both}
 use Rattle.index.proofs.Flags.{by-test, by-order}
 use Rattle.groups.specs.Groups.{encode, groups}
-use Rattle.rpc_write.specs.Writing.{valueField, partField, nameSize, nameOf, entryBytes, oneBytes, kindBytes, controlBytes, controlField, entryOk, messageOf, listOk, writeOf, wroteValue}
+use Rattle.rpc_write.specs.Writing.{valueField, partField, nameSize, nameOf, entryBytes, oneBytes, kindBytes, controlBytes, controlField}
+use Rattle.rpc_write.specs.Writing.{entryOk, messageOf, listOk, writeOf, wroteValue}
 use Rattle.rpc_write.proofs.LengthLaws.{isSub, message-long}
 use Rattle.rpc_actions.specs.Actions.{actionsOk, changesOk, changeAt, actionAt, entriesOf, entryCount, writeActionsOf}
 use Rattle.rpc_actions.specs.Longest.{longest, Longest, AnswersLongest, Reached}
@@ -49,7 +50,8 @@ module _ (actions topics changes : List ℕ) where
       let A = gather (length changes / 2) (changeAt changes) in
       let B = gather (length topics) (actionAt actions topics) in
       let l : length A ≡ 3 * (length changes / 2) = gather-length (changeAt changes) (λ i. refl) [] 0 (length changes / 2) in
-      ap (λ (x : ℕ). eqb x 0) (List·getD-append A B 0 (3 * i) (omega arith) ∙ first-of (changeAt changes) (λ i. refl) (length changes / 2) i h)
+      ap (λ (x : ℕ). eqb x 0)
+      (List·getD-append A B 0 (3 * i) (omega arith) ∙ first-of (changeAt changes) (λ i. refl) (length changes / 2) i h)
 
 few : (changes : List ℕ) → changesOk changes ≡ true → length changes / 2 ≤ 8
 unfolding changesOk
@@ -81,7 +83,8 @@ write-most names actions topics changes buf =
     (λ u.
     by-test P (ltb (length buf) (length (messageOf names L n)))
     (λ v. rw (t, u, v) (omega arith))
-    (λ v. rw (t, u, v) (longest-message names actions topics changes (both (actionsOk actions topics) (changesOk changes) t .0) (both (actionsOk actions topics) (changesOk changes) t .1) u)))
+    (λ v. rw (t, u, v) (longest-message names actions topics changes (both (actionsOk actions topics) (changesOk changes) t .0)
+    (both (actionsOk actions topics) (changesOk changes) t .1) u)))
     (λ u. rw (t, u) (omega arith)))
     (λ t. rw t (omega arith))
 

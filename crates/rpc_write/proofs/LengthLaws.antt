@@ -11,8 +11,10 @@ use Rattle.index.specs.Index.{gather, count, one}
 use Rattle.index.proofs.Flags.{by-test, by-order}
 use Rattle.groups.specs.Groups.{encode}
 use Rattle.rpc.specs.Reading.{rowBytes}
-use Rattle.rpc_write.specs.Writing.{valueField, partField, nameSize, nameOf, entryBytes, oneBytes, kindBytes, controlBytes, controlField, messageOf, listOk}
-use Rattle.rpc_write.proofs.WriteLaws.{size-one, size-two, value-zero, part-length, name-length, bytesAt, okAt, good, Fits, sub, graft, prune, fits}
+use Rattle.rpc_write.specs.Writing.{valueField, partField, nameSize, nameOf, entryBytes, oneBytes, kindBytes, controlBytes}
+use Rattle.rpc_write.specs.Writing.{controlField, messageOf, listOk}
+use Rattle.rpc_write.proofs.WriteLaws.{size-one, size-two, value-zero, part-length, name-length, bytesAt, okAt, good, Fits, sub}
+use Rattle.rpc_write.proofs.WriteLaws.{graft, prune, fits}
 use borrow.Author.Tests.{leb-true}
 
 -- ---- numbers and fields
@@ -54,15 +56,36 @@ unfolding entryBytes
 entry-long names kind topic v (sub h) =
     let N = nameOf names topic in
     let n = name-short names topic in
-    omega (arith, length-append (valueField 1 v) (partField 2 N ++ valueField 3 0), length-append (partField 2 N) (valueField 3 0), value-long 1 v 1 (omega arith) (omega (arith, size-one v (omega arith) .0)), part-one 2 N (omega arith) (omega arith), value-zero 3 0 refl .0)
+    omega (
+      arith,
+      length-append (valueField 1 v) (partField 2 N ++ valueField 3 0),
+      length-append (partField 2 N) (valueField 3 0),
+      value-long 1 v 1 (omega arith) (omega (arith, size-one v (omega arith) .0)),
+      part-one 2 N (omega arith) (omega arith),
+      value-zero 3 0 refl .0,
+    )
 entry-long names kind topic v graft =
     let N = nameOf names topic in
     let n = name-short names topic in
-    omega (arith, length-append (valueField 1 0) (partField 1 N ++ valueField 3 0), length-append (partField 1 N) (valueField 3 0), value-zero 1 0 refl .0, part-one 1 N (omega arith) (omega arith), value-zero 3 0 refl .0)
+    omega (
+      arith,
+      length-append (valueField 1 0) (partField 1 N ++ valueField 3 0),
+      length-append (partField 1 N) (valueField 3 0),
+      value-zero 1 0 refl .0,
+      part-one 1 N (omega arith) (omega arith),
+      value-zero 3 0 refl .0,
+    )
 entry-long names kind topic v (prune h) =
     let N = nameOf names topic in
     let n = name-short names topic in
-    omega (arith, length-append (valueField 1 0) (partField 1 N ++ valueField 3 v), length-append (partField 1 N) (valueField 3 v), value-zero 1 0 refl .0, part-one 1 N (omega arith) (omega arith), value-long 3 v 2 (omega arith) (number-long v (omega arith)))
+    omega (
+      arith,
+      length-append (valueField 1 0) (partField 1 N ++ valueField 3 v),
+      length-append (partField 1 N) (valueField 3 v),
+      value-zero 1 0 refl .0,
+      part-one 1 N (omega arith) (omega arith),
+      value-long 3 v 2 (omega arith) (number-long v (omega arith)),
+    )
 
 -- ---- as a field: an entry is of one kind only
 abbrev allKinds : List ℕ → ℕ → ℕ → ℕ → ℕ
@@ -88,7 +111,8 @@ isSub list i = eqb (getD list (3 * i) 0) 0
 pub all-long :
     (names list : List ℕ) (n : ℕ) →
     ((i : ℕ) → i < n → okAt names list i ≡ true) →
-    length (gather n (bytesAt names list 0 1)) + length (gather n (bytesAt names list 1 3)) + length (gather n (bytesAt names list 2 4)) + count n (isSub list) ≤ 71 * n
+    length (gather n (bytesAt names list 0 1)) + length (gather n (bytesAt names list 1 3)) + length
+    (gather n (bytesAt names list 2 4)) + count n (isSub list) ≤ 71 * n
 unfolding gather count
 all-long names list zero o = omega arith
 all-long names list (suc n) o =
@@ -105,7 +129,8 @@ all-long names list (suc n) o =
     )
 
 -- ---- the message
-pub message-long : (names list : List ℕ) (n : ℕ) → listOk names list n ≡ true → length (messageOf names list n) + count n (isSub list) ≤ 71 * n + 3
+pub message-long : (names list : List ℕ) (n : ℕ) → listOk names list n ≡ true → length (messageOf names list n) + count n
+    (isSub list) ≤ 71 * n + 3
 unfolding messageOf controlField controlBytes kindBytes
 message-long names list n ok =
     let g = good names list n ok in

@@ -17,7 +17,9 @@ use Rattle.index.proofs.Lists.{sets-append}
 use Rattle.groups.specs.Groups.{encode}
 use Rattle.groups.proofs.GroupLaws.{encode-last, encode-more}
 use Rattle.rpc.specs.Reading.{rowBytes}
-use Rattle.rpc_write.specs.Writing.{Stored, Fitting, partSize, valueField, headBytes, partField, nameSize, nameByte, nameOf, early, late, nameNumber, entryBytes, oneBytes, kindBytes, controlBytes, controlField, messageOf, entryOk, listOk, writeOf}
+use Rattle.rpc_write.specs.Writing.{Stored, Fitting, partSize, valueField, headBytes, partField, nameSize, nameByte, nameOf, early}
+use Rattle.rpc_write.specs.Writing.{late, nameNumber, entryBytes, oneBytes, kindBytes, controlBytes, controlField, messageOf}
+use Rattle.rpc_write.specs.Writing.{entryOk, listOk, writeOf}
 use Rattle.rpc_write.specs.declared.Wrote.{Wrote}
 use Rattle.rpc_write.specs.declared.Wrote.the-variants.{Done, NotList, Short}
 
@@ -37,7 +39,8 @@ pub stored-same : (b : List ℕ) (at p : ℕ) (xs ys c : List ℕ) → xs ≡ ys
 stored-same b at p xs ys c e s = rw e at s
 
 -- ---- numbers
-pub number-one : (b : List ℕ) (at n : ℕ) (out : List ℕ) → n < 128 → out ≡ set b at n → Stored b at (encode n) (at + 1) out × (at + 1 ≤ at + 2)
+pub number-one : (b : List ℕ) (at n : ℕ) (out : List ℕ) → n < 128 → out ≡ set b at n → Stored b at (encode n) (at + 1) out ×
+    (at + 1 ≤ at + 2)
 number-one b at n out h e = let q = encode-last n h in (rw q (refl, e), omega arith)
 
 two-bytes : (n : ℕ) → 128 ≤ n → n < 16384 → encode n ≡ (n % 128 + 128) ∷ (n / 128) ∷ []
@@ -66,7 +69,8 @@ singles f zero = refl
 singles f (suc n) = omega (arith, length-append (gather n (λ i. f i ∷ [])) (f n ∷ []), singles f n)
 
 module _ (f : ℕ → ℕ) (b : List ℕ) (at : ℕ) where
-  pub one-more : (i : ℕ) (c d : List ℕ) → c ≡ sets b at (gather i (λ k. f k ∷ [])) → d ≡ set c (at + i) (f i) → d ≡ sets b at (gather (i + 1) (λ k. f k ∷ []))
+  pub one-more : (i : ℕ) (c d : List ℕ) → c ≡ sets b at (gather i (λ k. f k ∷ [])) → d ≡ set c (at + i) (f i) → d ≡ sets b at
+      (gather (i + 1) (λ k. f k ∷ []))
   one-more i c d e g =
       let l = gather i (λ k. f k ∷ []) in
       g ∙ rw (gather-more (λ k. f k ∷ []) i, sets-append b at l (f i ∷ []), singles f i, ← e)
@@ -134,10 +138,14 @@ module _ (names : List ℕ) (topic : ℕ) where
   pub name-none : (b : List ℕ) (at : ℕ) → Copied b at 0 b
   name-none b at = (refl, rw (gather-none (nameByte names topic)))
 
-  pub name-more : (b : List ℕ) (at i : ℕ) (out : List ℕ) → Copied b at i out → Copied b at (i + 1) (set out (at + i) (getD names (rowBytes * topic + 1 + i) 0))
+  pub name-more : (b : List ℕ) (at i : ℕ) (out : List ℕ) → Copied b at i out → Copied b at (i + 1)
+      (set out (at + i) (getD names (rowBytes * topic + 1 + i) 0))
   name-more b at i out e =
-      let x = getD names (rowBytes * topic + 1 + i) 0 in
-      (length-set out (at + i) x ∙ e .0, one-more (λ k. getD names (rowBytes * topic + 1 + k) 0) b at i out (set out (at + i) x) (e .1) refl)
+      let x = getD names (rowBytes * topic + 1 + i) 0 in (
+        length-set out (at + i) x ∙ e .0,
+        one-more (λ k. getD names (rowBytes * topic + 1 + k) 0) b at i out (set out (at + i) x)
+            (e .1) refl,
+      )
 
   pub name-all :
       (b : List ℕ) (at i n size : ℕ) (out : List ℕ) →
@@ -171,7 +179,8 @@ unfolding valueField
 value-some b at number v p a q out n s t =
     rw (ne-eqb v 0 n) (stored-then b at p (encode (8 * number)) a q (encode v) out (s .0) (t .0), omega (arith, s .1, t .1))
 
-pub value-size : (number v a b : ℕ) → (v ≡ 0 → ⊥) → (a ≡ length (encode (8 * number))) × (a ≤ 2) → (b ≡ length (encode v)) × (b ≤ 2) → (a + b ≡ length (valueField number v)) × (a + b ≤ 4)
+pub value-size : (number v a b : ℕ) → (v ≡ 0 → ⊥) → (a ≡ length (encode (8 * number))) × (a ≤ 2) → (b ≡ length (encode v)) ×
+    (b ≤ 2) → (a + b ≡ length (valueField number v)) × (a + b ≤ 4)
 unfolding valueField
 value-size number v a b n s t =
     (rw (ne-eqb v 0 n) (omega (arith, s .0, t .0, length-append (encode (8 * number)) (encode v))), omega (arith, s .1, t .1))
@@ -205,7 +214,8 @@ pub part-stored :
 unfolding partField headBytes
 part-stored b at number size content p a q out e s t =
     let s′ : Stored b at (encode (8 * number + 2) ++ encode (length content)) p a = rw e at s in
-    stored-same b at q ((encode (8 * number + 2) ++ encode (length content)) ++ content) (encode (8 * number + 2) ++ (encode (length content) ++ content)) out
+    stored-same b at q ((encode (8 * number + 2) ++ encode (length content)) ++ content)
+    (encode (8 * number + 2) ++ (encode (length content) ++ content)) out
     (append-assoc (encode (8 * number + 2)) (encode (length content)) content)
     (stored-then b at p (encode (8 * number + 2) ++ encode (length content)) a q content out s′ t)
 
@@ -249,7 +259,8 @@ entry-length names kind topic v e m l size a b d ee em el z s t u =
       omega (arith, s .1, t .1, u .1, z .1),
     )
 
-pub one-none : (names : List ℕ) (own topic v kind number : ℕ) → (own ≡ kind → ⊥) → (0 ≡ length (oneBytes names own topic v kind number)) × (0 ≤ 80)
+pub one-none : (names : List ℕ) (own topic v kind number : ℕ) → (own ≡ kind → ⊥) →
+    (0 ≡ length (oneBytes names own topic v kind number)) × (0 ≤ 80)
 unfolding oneBytes
 one-none names own topic v kind number n = (rw (ne-eqb own kind n), omega arith)
 
@@ -265,7 +276,8 @@ one-length names own topic v kind number size r e z t = (
   omega (arith, z .1, t .1),
 )
 
-pub one-other : (names b : List ℕ) (at own topic v kind number : ℕ) → (own ≡ kind → ⊥) → Stored b at (oneBytes names own topic v kind number) at b × (at ≤ at + 80)
+pub one-other : (names b : List ℕ) (at own topic v kind number : ℕ) → (own ≡ kind → ⊥) → Stored b at
+    (oneBytes names own topic v kind number) at b × (at ≤ at + 80)
 unfolding oneBytes
 one-other names b at own topic v kind number n = rw (ne-eqb own kind n) (stored-none b at, omega arith)
 
@@ -360,7 +372,8 @@ unfolding controlBytes
 control-stored names list n b at p a q out s t =
     (stored-then b at p (kindBytes names list n 1 3) a q (kindBytes names list n 2 4) out (s .0) (t .0), omega (arith, s .1, t .1))
 
-pub field-none : (b : List ℕ) (at size : ℕ) (content : List ℕ) → size ≡ length content → size ≡ 0 → Stored b at (controlField content) at b × (at ≤ at + 11524)
+pub field-none : (b : List ℕ) (at size : ℕ) (content : List ℕ) → size ≡ length content → size ≡ 0 → Stored b at
+    (controlField content) at b × (at ≤ at + 11524)
 unfolding controlField
 field-none b at size content z e = rw (eq-eqb (length content) 0 (sym z ∙ e)) (stored-none b at, omega arith)
 
@@ -449,7 +462,9 @@ good names list n e =
       each = λ i h. every-at (okAt names list) n i (q .1) h;
       little =
           λ i h.
-          small (getD list (3 * i) 0) (getD list (3 * i + 2) 0) (fits names (getD list (3 * i) 0) (getD list (3 * i + 1) 0) (getD list (3 * i + 2) 0) (every-at (okAt names list) n i (q .1) h));
+          small (getD list (3 * i) 0) (getD list (3 * i + 2) 0)
+          (fits names (getD list (3 * i) 0) (getD list (3 * i + 1) 0) (getD list (3 * i + 2) 0)
+          (every-at (okAt names list) n i (q .1) h));
     }
 
 -- ---- the ends of `list_ok`
@@ -486,13 +501,15 @@ module _ (names list : List ℕ) (n : ℕ) (buf : List ℕ) where
     unfolding writeOf
     writes-short h = let t = lt-ltb (length buf) (length (messageOf names list n)) h in (rw (e, t), rw (e, t))
 
-    pub writes-done : (k : ℕ) (out : List ℕ) → length (messageOf names list n) ≤ length buf → Stored buf 0 (messageOf names list n) k out → Writes names list n buf (Done k) out
+    pub writes-done : (k : ℕ) (out : List ℕ) → length (messageOf names list n) ≤ length buf → Stored buf 0
+        (messageOf names list n) k out → Writes names list n buf (Done k) out
     unfolding writeOf
     writes-done k out h s =
         let t = le-ltb (length buf) (length (messageOf names list n)) h in
         let z : k ≡ length (messageOf names list n) = omega (arith, s .0) in
         (rw (e, t, z), rw (e, t) (s .1))
 
-pub entry-is : (names : List ℕ) (kind topic v size : ℕ) → size ≡ nameSize names topic → ltb 0 size && ((eqb kind 0 && leb v 1) || (eqb kind 1 && eqb v 0) || (eqb kind 2 && leb v 3600)) ≡ entryOk names kind topic v
+pub entry-is : (names : List ℕ) (kind topic v size : ℕ) → size ≡ nameSize names topic → ltb 0 size &&
+    ((eqb kind 0 && leb v 1) || (eqb kind 1 && eqb v 0) || (eqb kind 2 && leb v 3600)) ≡ entryOk names kind topic v
 unfolding entryOk
 entry-is names kind topic v size e = rw e

@@ -16,4 +16,7 @@ entry-size-spec =
     (λ c κs. search needs)
     (λ c. search needs)
     (λ c. search needs)
-    (λ c. entry-length _ _ _ _ _ _ _ _ _ _ _ (c .before .before .before .before .before .before .early-value .ensures) (c .before .before .before .before .name-number .ensures .0) (c .before .late-value .ensures) (c .before .before .before .name-size .ensures) (c .before .before .before .before .before .value-size .ensures) (c .before .before .part-size .ensures) (c .value-size2 .ensures)))
+    (λ c. entry-length _ _ _ _ _ _ _ _ _ _ _ (c .before .before .before .before .before .before .early-value .ensures)
+    (c .before .before .before .before .name-number .ensures .0) (c .before .late-value .ensures)
+    (c .before .before .before .name-size .ensures) (c .before .before .before .before .before .value-size .ensures)
+    (c .before .before .part-size .ensures) (c .value-size2 .ensures)))

@@ -30,9 +30,21 @@ kind-size-spec =
     (λ c. let g = good _ _ _ (c .before .before .before .before .before .pre .0) in omega arith)
     (λ c. let g = good _ _ _ (c .before .before .before .before .before .pre .0) in omega arith)
     (λ c. let g = good _ _ _ (c .before .before .before .before .before .before .pre .0) in omega arith)
-    (λ c κs. let g = good _ _ _ (c .before .before .before .before .before .before .pre .0) in (g .little _ (c .before .before .before .loop-test .taken), c .before .before .before .before .before .before .pre .1))
-    (λ c. let g = good _ _ _ (c .before .before .before .before .before .before .before .pre .0) in omega (arith, c .one-size .ensures .1, c .before .before .before .before .before .loop .inv .1 .0))
+    (λ c κs. let g = good _ _ _ (c .before .before .before .before .before .before .pre .0) in
+    (g .little _ (c .before .before .before .loop-test .taken), c .before .before .before .before .before .before .pre .1))
+    (λ c. let g = good _ _ _ (c .before .before .before .before .before .before .before .pre .0) in omega
+    (arith, c .one-size .ensures .1, c .before .before .before .before .before .loop .inv .1 .0))
     (λ c. omega arith)
     (λ c. omega arith)
-    (λ c. let l = c .before .before .before .before .before .loop in let a = c .before .before .before .before .before .before .before .args in (omega arith, (omega (arith, c .one-size .ensures .1, l .inv .1 .0), length-more (a .names .now) (a .list .now) (a .kind) (a .number) _ _ _ (l .inv .1 .1) (c .one-size .ensures .0))))
-    (λ c. let g = good _ _ _ (c .before .before .before .pre .0) in let l = c .before .loop in let a = c .before .before .before .args in length-all (a .names .now) (a .list .now) (a .kind) (a .number) _ _ _ (l .inv .0) (c .loop-test .left) (g .few) (l .inv .1 .0) (l .inv .1 .1)))
+    (λ c. let l = c .before .before .before .before .before .loop in let a =
+    c .before .before .before .before .before .before .before .args in (
+      omega arith,
+      (
+        omega (arith, c .one-size .ensures .1, l .inv .1 .0),
+        length-more (a .names .now) (a .list .now) (a .kind)
+            (a .number) _ _ _ (l .inv .1 .1) (c .one-size .ensures .0),
+      ),
+    ))
+    (λ c. let g = good _ _ _ (c .before .before .before .pre .0) in let l = c .before .loop in let a =
+    c .before .before .before .args in length-all (a .names .now) (a .list .now) (a .kind) (a .number) _ _ _ (l .inv .0)
+    (c .loop-test .left) (g .few) (l .inv .1 .0) (l .inv .1 .1)))

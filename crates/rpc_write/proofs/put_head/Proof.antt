@@ -12,4 +12,5 @@ put-head-spec =
     (λ c κs. search needs)
     (λ c κs. search needs)
     (λ c. search needs)
-    (λ c. head-stored _ _ _ _ _ _ _ _ (c .before .before .before .before .before .before .put-number .ensures) (c .before .before .put-number2 .ensures)))
+    (λ c. head-stored _ _ _ _ _ _ _ _ (c .before .before .before .before .before .before .put-number .ensures)
+    (c .before .before .put-number2 .ensures)))

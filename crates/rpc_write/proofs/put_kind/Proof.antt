@@ -22,7 +22,8 @@ put-kind-spec =
     tie.close (tie.spec
     Inv-loop
     μ-loop
-    (λ c. let a = c .before .before .args in (omega arith, (refl, (omega arith, kind-none (a .names .now) (a .list .now) (a .kind) (a .number) (a .buf .now) (a .at)))))
+    (λ c. let a = c .before .before .args in
+    (omega arith, (refl, (omega arith, kind-none (a .names .now) (a .list .now) (a .kind) (a .number) (a .buf .now) (a .at)))))
     (λ c. let g = good _ _ _ (c .before .before .before .before .pre .0) in omega arith)
     (λ c. let g = good _ _ _ (c .before .before .before .before .before .pre .0) in omega arith)
     (λ c. let g = good _ _ _ (c .before .before .before .before .before .before .pre .0) in omega arith)
@@ -33,8 +34,10 @@ put-kind-spec =
     (λ c. let g = good _ _ _ (c .before .before .before .before .before .before .before .pre .0) in omega arith)
     (λ c. let g = good _ _ _ (c .before .before .before .before .before .before .before .before .pre .0) in omega arith)
     (λ c κs.
-    let g = good _ _ _ (c .before .before .before .before .before .before .before .before .pre .0) in
-    (g .little _ (c .before .before .before .before .loop-test .taken), (c .before .before .before .before .before .before .before .before .pre .1 .0, omega arith)))
+    let g = good _ _ _ (c .before .before .before .before .before .before .before .before .pre .0) in (
+      g .little _ (c .before .before .before .before .loop-test .taken),
+      (c .before .before .before .before .before .before .before .before .pre .1 .0, omega arith),
+    ))
     (λ c. omega arith)
     (λ c. omega arith)
     (λ c.
@@ -43,11 +46,16 @@ put-kind-spec =
       omega arith,
       (
         c .before .before .put-one .kept .0 ∙ l .inv .1 .0,
-        (omega (arith, c .before .before .put-one .ensures .1), kind-more (a .names .now) (a .list .now) (a .kind) (a .number) (a .buf .now) (a .at) (l .i) _ _ _ _ (l .inv .1 .1 .1) (c .before .before .put-one .ensures .0)),
+        (
+          omega (arith, c .before .before .put-one .ensures .1),
+          kind-more (a .names .now) (a .list .now) (a .kind) (a .number)
+              (a .buf .now) (a .at) (l .i) _ _ _ _ (l .inv .1 .1 .1) (c .before .before .put-one .ensures .0),
+        ),
       ),
     ))
     (λ c. c .before .loop .inv .1 .0)
     (λ c.
     let g = good _ _ _ (c .before .before .before .before .pre .0) in
     let a = c .before .before .before .before .args in
-    kind-all (a .names .now) (a .list .now) (a .kind) (a .number) (a .buf .now) (a .at) _ _ _ _ (c .before .loop .inv .0) (c .loop-test .left) (g .few) (c .before .loop .inv .1 .1 .0) (c .before .loop .inv .1 .1 .1)))
+    kind-all (a .names .now) (a .list .now) (a .kind) (a .number) (a .buf .now) (a .at) _ _ _ _ (c .before .loop .inv .0)
+    (c .loop-test .left) (g .few) (c .before .loop .inv .1 .1 .0) (c .before .loop .inv .1 .1 .1)))

@@ -26,11 +26,18 @@ put-name-spec =
     (λ c. let a = c .before .before .before .before .args in (omega arith, name-none (a .names .now) (a .topic) (a .buf .now) (a .at)))
     (λ c. omega (arith, c .before .before .before .before .name-size .ensures .1, c .before .before .fitting .ensures .some))
     (λ c. omega (arith, c .before .before .before .before .name-size .ensures .1, c .before .before .fitting .ensures .some))
-    (λ c. omega (arith, c .before .before .before .before .before .name-size .ensures .1, c .before .before .before .fitting .ensures .some))
+    (λ c. omega (
+      arith,
+      c .before .before .before .before .before .name-size .ensures .1,
+      c .before .before .before .fitting .ensures .some,
+    ))
     (λ c. omega (arith, c .before .before .loop .inv .1 .0, c .before .before .before .fitting .ensures .room))
     (λ c. omega arith)
     (λ c. omega arith)
-    (λ c. let l = c .before .before .loop in let a = c .before .before .before .before .before .before .before .args in (omega arith, name-more (a .names .now) (a .topic) (a .buf .now) (a .at) (l .i) (l .buf) (l .inv .1)))
+    (λ c. let l = c .before .before .loop in let a = c .before .before .before .before .before .before .before .args in
+    (omega arith, name-more (a .names .now) (a .topic) (a .buf .now) (a .at) (l .i) (l .buf) (l .inv .1)))
     (λ c. omega (arith, c .before .before .before .before .name-size .ensures .1))
     (λ c. c .before .loop .inv .1 .0)
-    (λ c. let l = c .before .loop in let a = c .before .before .before .before .before .before .args in name-all (a .names .now) (a .topic) (a .buf .now) (a .at) _ _ _ _ (c .before .before .before .before .name-size .ensures) (c .before .before .fitting .ensures) (l .inv .0) (c .loop-test .left) (l .inv .1)))
+    (λ c. let l = c .before .loop in let a = c .before .before .before .before .before .before .args in name-all (a .names .now)
+    (a .topic) (a .buf .now) (a .at) _ _ _ _ (c .before .before .before .before .name-size .ensures)
+    (c .before .before .fitting .ensures) (l .inv .0) (c .loop-test .left) (l .inv .1)))

@@ -13,4 +13,9 @@ put-named-spec =
     (λ c κs. search needs)
     (λ c κs. search needs)
     (λ c. search needs)
-    (λ c. let z = c .before .before .before .before .before .before .before .name-size .ensures in (part-stored _ _ _ _ _ _ _ _ _ (z .0 ∙ name-length _ _) (c .before .before .before .before .before .before .put-head .ensures .0) (c .before .before .put-name .ensures .0), omega (arith, c .before .before .before .before .before .before .put-head .ensures .1, c .before .before .put-name .ensures .1))))
+    (λ c. let z = c .before .before .before .before .before .before .before .name-size .ensures in (
+      part-stored _ _ _ _ _ _ _ _ _ (z .0 ∙ name-length _ _)
+          (c .before .before .before .before .before .before .put-head .ensures .0) (c .before .before .put-name .ensures .0),
+      omega
+          (arith, c .before .before .before .before .before .before .put-head .ensures .1, c .before .before .put-name .ensures .1),
+    )))

@@ -12,4 +12,7 @@ put-one-spec =
     (λ c κs. search needs)
     (λ c κs. search needs)
     (λ c. search needs)
-    (λ c. one-stored _ _ _ _ _ _ _ _ _ _ _ _ _ (c .before .before .before .before .before .before .before .before .before .if1 .left) (c .before .before .before .before .before .before .before .entry-size .ensures) (c .before .before .before .before .before .before .put-head .ensures) (c .before .before .put-entry .ensures)))
+    (λ c. one-stored _ _ _ _ _ _ _ _ _ _ _ _ _
+    (c .before .before .before .before .before .before .before .before .before .if1 .left)
+    (c .before .before .before .before .before .before .before .entry-size .ensures)
+    (c .before .before .before .before .before .before .put-head .ensures) (c .before .before .put-entry .ensures)))
