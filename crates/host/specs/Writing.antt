@@ -3,12 +3,18 @@ use Prim.Native.Nat.{ℕ}
 use mathlib.Core.Path.{_≡_}
 use mathlib.Core.List.{List}
 use Rattle.answers.specs.Answers.{packed}
-use Rattle.rpc_write.specs.Writing.{wroteNumber, wroteValue}
+use denote.Ref.{now}
+use Rattle.rpc_write.specs.Writing.{Writing, wroteNumber, wroteValue, Lent}
 use Rattle.rpc_actions.specs.Actions.{writeActionsOf}
 
--- buf is what stood in the lent buffer, buf′ what stands there after the call
-pub record HostsWriteMessage (names actions topics changes : List ℕ) (r : ℕ) (buf buf′ : List ℕ) : Type 0 where
-  pub answer :
-      r
-      ≡ packed (wroteNumber (writeActionsOf names actions topics changes buf .answer)) (wroteValue (writeActionsOf names actions topics changes buf .answer))
-  pub bytes : buf′ ≡ writeActionsOf names actions topics changes buf .bytes
+-- what the writer's definition says, as one number and a buffer; buf′ is what stands in the lent buffer after the call
+pub record HostsWritten (w : Writing) (r : ℕ) (buf′ : List ℕ) : Type 0 where
+  pub answer : r ≡ packed (wroteNumber (w .answer)) (wroteValue (w .answer))
+  pub bytes : buf′ ≡ w .bytes
+
+abbrev pub HostsWriteMessage : Lent → Lent → Lent → Lent → ℕ → Lent → Type 0
+HostsWriteMessage names actions topics changes r buf =
+    HostsWritten
+    (writeActionsOf (now (names .entry)) (now (actions .entry)) (now (topics .entry)) (now (changes .entry)) (now (buf .entry)))
+    r
+    (now (buf .exit))

@@ -1,5 +1,4 @@
 // The writer of an RPC (02, order 4).
-ghost use mathlib.Core.Path.{_≡_};
 ghost use Rattle.host.specs.Writing.{HostsWriteMessage};
 use answers::packed;
 use rpc::NAMES_BYTES;
@@ -14,7 +13,7 @@ pub extern "C" fn hivepadlet_write_message(
     changes: &[u64],
     buffer: &mut [u8],
 ) -> u64
-    ensures { λ r. ⌜ HostsWriteMessage (now (names .entry)) (now (actions .entry)) (now (topics .entry)) (now (changes .entry)) r (now (buffer .entry)) (now (buffer .exit)) ⌝ }
+    ensures { λ r. ⌜ HostsWriteMessage names actions topics changes r buffer ⌝ }
 {
     match rpc_actions::write(names, actions, topics, changes, buffer) {
         Wrote::Done(n) => packed(0, n as u64),

@@ -1,5 +1,5 @@
--- The longest message that is written: 8 joins of topics with names of 64 bytes, 70 bytes each, 64 PRUNEs of 3600 seconds, 71 bytes each, and
--- the control field's tag and length, 3 bytes.
+-- The longest message that is written: 8 joins of topics with names of 64 bytes, 70 bytes each, 64 PRUNEs of 3600 seconds, 71 bytes each,
+-- and the control field's tag and length, 3 bytes.
 use Prim.Native.Nat.{ℕ, _≤_}
 use mathlib.Core.Path.{_≡_}
 use mathlib.Core.Bool.{true}

@@ -7,6 +7,8 @@ use mathlib.Core.List.{List, [], _∷_, _++_}
 use lib.Dec.{eqb, leb, ltb}
 use lib.ListN.{length, getD}
 use lib.Seq.{sets}
+use denote.Ref.{RefT, now}
+use denote.Triple.Both.{Both}
 use Rattle.index.specs.Index.{every, gather}
 use Rattle.groups.specs.Groups.{encode}
 use Rattle.rpc.specs.Messages.{subscription, graft, prune}
@@ -126,6 +128,19 @@ wroteValue Short = 0
 -- `bytes` stand in the buffer from `at` on, as far as it goes, all else is as it was, and `next` is the place after them
 abbrev pub Stored : List ℕ → ℕ → List ℕ → ℕ → List ℕ → Type 0
 Stored buf at bytes next out = (next ≡ at + length bytes) × (out ≡ sets buf at bytes)
+
+-- the same of a buffer lent by `&mut`, which has a content at the call's entry and one at its exit; they are at most so many
+abbrev pub Lent : Type 0
+Lent = Both (RefT (List ℕ)) (RefT (List ℕ))
+
+abbrev pub Puts : Lent → ℕ → List ℕ → ℕ → ℕ → Type 0
+Puts buf at bytes most next = Stored (now (buf .entry)) at bytes next (now (buf .exit)) × (next ≤ at + most)
+
+abbrev pub Writes : Writing → Wrote → Lent → Type 0
+Writes w r buf = (r ≡ w .answer) × (now (buf .exit) ≡ w .bytes)
+
+abbrev pub ControlSize : List ℕ → List ℕ → ℕ → ℕ → Type 0
+ControlSize names list n size = (size ≡ length (controlBytes names list n)) × (size ≤ 11520)
 
 -- how many bytes a field of wire type 2 has
 abbrev pub partSize : ℕ → ℕ → ℕ

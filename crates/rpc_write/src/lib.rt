@@ -1,12 +1,13 @@
-// Writing gossipsub's RPC (02, order 4). An entry is three numbers, as crate rpc reads them: its kind, its topic, its value. The definitions
-// are specs/Writing.antt. Lengths are computed first, inner ones before outer ones and each once; then everything is stored front to back. A
-// byte past the end of the buffer is not stored, so that no function here asks for room: `write` has made sure of it.
+// Writing gossipsub's RPC (02, order 4). An entry is three numbers, as crate rpc reads them: its kind, its topic, its value. The
+// definitions are specs/Writing.antt. Lengths are computed first, inner ones before outer ones and each once; then everything is stored
+// front to back. A byte past the end of the buffer is not stored, so that no function here asks for room: `write` has made sure of it.
 ghost use mathlib.Core.Path.{_≡_};
 ghost use mathlib.Core.Bool.{true};
 ghost use Prim.Native.Nat.{_+_, _*_, _≤_, _<_};
 ghost use lib.ListN.{length, set};
 ghost use Rattle.groups.specs.Groups.{encode};
-ghost use Rattle.rpc_write.specs.Writing.{Stored, Fitting, partSize, nameSize, nameOf, valueField, partField, headBytes, early, late, nameNumber, entryBytes, oneBytes, kindBytes, controlBytes, controlField, messageOf, entryOk, listOk, writeOf};
+ghost use Rattle.rpc_write.specs.Writing.{Stored, Fitting, partSize, nameSize, nameOf, valueField, partField, headBytes, early, late, nameNumber, entryBytes};
+ghost use Rattle.rpc_write.specs.Writing.{oneBytes, kindBytes, controlBytes, controlField, messageOf, entryOk, listOk, writeOf, Puts, ControlSize, Writes};
 use rpc::GRAFT;
 use rpc::NAME_BYTES;
 use rpc::NAMES_BYTES;
@@ -70,7 +71,7 @@ fn put(buf: &mut [u8], i: usize, b: u8)
 
 fn put_number(buf: &mut [u8], at: usize, n: u64) -> usize
     requires { ⌜ (n < 16384) × (at < 1000000) ⌝ }
-    ensures { λ r. ⌜ Stored (now (buf .entry)) at (encode n) r (now (buf .exit)) × (r ≤ at + 2) ⌝ }
+    ensures { λ r. ⌜ Puts buf at (encode n) 2 r ⌝ }
 {
     if n < 128 {
         put(buf, at, n as u8);
@@ -96,7 +97,7 @@ fn value_size(number: u64, v: u64) -> usize
 
 fn put_value(buf: &mut [u8], at: usize, number: u64, value: u64) -> usize
     requires { ⌜ (number < 16) × ((value < 16384) × (at < 999000)) ⌝ }
-    ensures { λ r. ⌜ Stored (now (buf .entry)) at (valueField number value) r (now (buf .exit)) × (r ≤ at + 4) ⌝ }
+    ensures { λ r. ⌜ Puts buf at (valueField number value) 4 r ⌝ }
 {
     if value == 0 {
         return at;
@@ -116,7 +117,7 @@ fn part_size(number: u64, size: usize) -> usize
 // What stands before the content: the tag, and the content's length.
 fn put_head(buf: &mut [u8], at: usize, number: u64, size: usize) -> usize
     requires { ⌜ (number < 16) × ((size < 16384) × (at < 999000)) ⌝ }
-    ensures { λ r. ⌜ Stored (now (buf .entry)) at (headBytes number size) r (now (buf .exit)) × (r ≤ at + 4) ⌝ }
+    ensures { λ r. ⌜ Puts buf at (headBytes number size) 4 r ⌝ }
 {
     let a = put_number(buf, at, 8 * number + 2);
     put_number(buf, a, size as u64)
@@ -155,7 +156,7 @@ fn fitting(end: usize, at: usize, size: usize) -> usize
 
 fn put_name(buf: &mut [u8], at: usize, names: &[u8; NAMES_BYTES], topic: u64) -> usize
     requires { ⌜ at < 1000000 ⌝ }
-    ensures { λ r. ⌜ Stored (now (buf .entry)) at (nameOf (now (names .entry)) topic) r (now (buf .exit)) × (r ≤ at + 64) ⌝ }
+    ensures { λ r. ⌜ Puts buf at (nameOf (now (names .entry)) topic) 64 r ⌝ }
 {
     let size = name_size(names, topic);
     if TOPICS <= topic {
@@ -173,7 +174,7 @@ fn put_name(buf: &mut [u8], at: usize, names: &[u8; NAMES_BYTES], topic: u64) ->
 
 fn put_named(buf: &mut [u8], at: usize, number: u64, names: &[u8; NAMES_BYTES], topic: u64) -> usize
     requires { ⌜ (number < 16) × (at < 990000) ⌝ }
-    ensures { λ r. ⌜ Stored (now (buf .entry)) at (partField number (nameOf (now (names .entry)) topic)) r (now (buf .exit)) × (r ≤ at + 68) ⌝ }
+    ensures { λ r. ⌜ Puts buf at (partField number (nameOf (now (names .entry)) topic)) 68 r ⌝ }
 {
     let a = put_head(buf, at, number, name_size(names, topic));
     put_name(buf, a, names, topic)
@@ -222,7 +223,7 @@ fn put_entry(
     v: u64,
 ) -> usize
     requires { ⌜ (v < 16384) × (at < 900000) ⌝ }
-    ensures { λ r. ⌜ Stored (now (buf .entry)) at (entryBytes (now (names .entry)) kind topic v) r (now (buf .exit)) × (r ≤ at + 76) ⌝ }
+    ensures { λ r. ⌜ Puts buf at (entryBytes (now (names .entry)) kind topic v) 76 r ⌝ }
 {
     let a = put_value(buf, at, SUBSCRIBE, early_value(kind, v));
     let b = put_named(buf, a, name_number(kind), names, topic);
@@ -259,7 +260,7 @@ fn put_one(
     number: u64,
 ) -> usize
     requires { ⌜ (v < 16384) × ((number < 16) × (at < 800000)) ⌝ }
-    ensures { λ r. ⌜ Stored (now (buf .entry)) at (oneBytes (now (names .entry)) own topic v kind number) r (now (buf .exit)) × (r ≤ at + 80) ⌝ }
+    ensures { λ r. ⌜ Puts buf at (oneBytes (now (names .entry)) own topic v kind number) 80 r ⌝ }
 {
     if own != kind {
         return at;
@@ -294,7 +295,7 @@ fn put_kind(
     number: u64,
 ) -> usize
     requires { ⌜ (listOk (now names) (now list) n ≡ true) × ((number < 16) × (at < 700000)) ⌝ }
-    ensures { λ r. ⌜ Stored (now (buf .entry)) at (kindBytes (now (names .entry)) (now (list .entry)) n kind number) r (now (buf .exit)) × (r ≤ at + 5760) ⌝ }
+    ensures { λ r. ⌜ Puts buf at (kindBytes (now (names .entry)) (now (list .entry)) n kind number) 5760 r ⌝ }
 {
     let mut place = at;
     let mut i: usize = 0;
@@ -319,7 +320,7 @@ fn put_kind(
 
 fn control_size(names: &[u8; NAMES_BYTES], list: &[u64], n: usize) -> usize
     requires { ⌜ listOk (now names) (now list) n ≡ true ⌝ }
-    ensures { λ r. ⌜ (r ≡ length (controlBytes (now (names .entry)) (now (list .entry)) n)) × (r ≤ 11520) ⌝ }
+    ensures { λ r. ⌜ ControlSize (now (names .entry)) (now (list .entry)) n r ⌝ }
 {
     kind_size(names, list, n, GRAFT, GRAFTS) + kind_size(names, list, n, PRUNE, PRUNES)
 }
@@ -332,7 +333,7 @@ fn put_control(
     n: usize,
 ) -> usize
     requires { ⌜ (listOk (now names) (now list) n ≡ true) × (at < 600000) ⌝ }
-    ensures { λ r. ⌜ Stored (now (buf .entry)) at (controlBytes (now (names .entry)) (now (list .entry)) n) r (now (buf .exit)) × (r ≤ at + 11520) ⌝ }
+    ensures { λ r. ⌜ Puts buf at (controlBytes (now (names .entry)) (now (list .entry)) n) 11520 r ⌝ }
 {
     let a = put_kind(buf, at, names, list, n, GRAFT, GRAFTS);
     put_kind(buf, a, names, list, n, PRUNE, PRUNES)
@@ -346,8 +347,8 @@ fn put_control_field(
     n: usize,
     size: usize,
 ) -> usize
-    requires { ⌜ (listOk (now names) (now list) n ≡ true) × ((size ≡ length (controlBytes (now names) (now list) n)) × ((size ≤ 11520) × (at < 500000))) ⌝ }
-    ensures { λ r. ⌜ Stored (now (buf .entry)) at (controlField (controlBytes (now (names .entry)) (now (list .entry)) n)) r (now (buf .exit)) × (r ≤ at + 11524) ⌝ }
+    requires { ⌜ (listOk (now names) (now list) n ≡ true) × (ControlSize (now names) (now list) n size × (at < 500000)) ⌝ }
+    ensures { λ r. ⌜ Puts buf at (controlField (controlBytes (now (names .entry)) (now (list .entry)) n)) 11524 r ⌝ }
 {
     if size == 0 {
         return at;
@@ -359,7 +360,7 @@ fn put_control_field(
 // ---- the message, given the length of its control message
 
 fn message_size(names: &[u8; NAMES_BYTES], list: &[u64], n: usize, control: usize) -> usize
-    requires { ⌜ (listOk (now names) (now list) n ≡ true) × ((control ≡ length (controlBytes (now names) (now list) n)) × (control ≤ 11520)) ⌝ }
+    requires { ⌜ (listOk (now names) (now list) n ≡ true) × ControlSize (now names) (now list) n control ⌝ }
     ensures { λ r. ⌜ r ≡ length (messageOf (now (names .entry)) (now (list .entry)) n) ⌝ }
 {
     let a = kind_size(names, list, n, SUBSCRIPTION, SUBSCRIPTIONS);
@@ -376,7 +377,7 @@ fn put_message(
     n: usize,
     control: usize,
 ) -> usize
-    requires { ⌜ (listOk (now names) (now list) n ≡ true) × ((control ≡ length (controlBytes (now names) (now list) n)) × (control ≤ 11520)) ⌝ }
+    requires { ⌜ (listOk (now names) (now list) n ≡ true) × ControlSize (now names) (now list) n control ⌝ }
     ensures { λ r. ⌜ Stored (now (buf .entry)) 0 (messageOf (now (names .entry)) (now (list .entry)) n) r (now (buf .exit)) ⌝ }
 {
     let a = put_kind(buf, 0, names, list, n, SUBSCRIPTION, SUBSCRIPTIONS);
@@ -417,7 +418,7 @@ fn list_ok(names: &[u8; NAMES_BYTES], list: &[u64], n: usize) -> bool
 
 // Writes the first n entries of a list, or says why not and leaves the buffer.
 pub fn write(names: &[u8; NAMES_BYTES], list: &[u64], n: usize, buf: &mut [u8]) -> Wrote
-    ensures { λ r. ⌜ (r ≡ writeOf (now (names .entry)) (now (list .entry)) n (now (buf .entry)) .answer) × (now (buf .exit) ≡ writeOf (now (names .entry)) (now (list .entry)) n (now (buf .entry)) .bytes) ⌝ }
+    ensures { λ r. ⌜ Writes (writeOf (now (names .entry)) (now (list .entry)) n (now (buf .entry))) r buf ⌝ }
 {
     if !list_ok(names, list, n) {
         return Wrote::NotList;
