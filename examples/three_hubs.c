@@ -1,27 +1,29 @@
 /*
  * Three hubs in one process: an example host of the router.
  *
- * Each hub has a table, an action list and an inbox of its own; a cable is a copy into the other's inbox. Clock and random
- * numbers are the host's. The host carries: every action of a call becomes a message, every message that arrives a call.
+ * Each hub has a table, an action list and an inbox of its own; a cable is a copy of bytes into the other's inbox. Clock and
+ * random numbers are the host's. The host carries: every action of a call is written as a message, and every entry of a message
+ * that arrives becomes a call.
  *
- * The story has three parts: a mesh forms; a bad hub is thrown out and kept out; an honest one goes away and comes back. It
- * prints the same lines every time: three_hubs.expected has them, and says why each is right.
+ * The story has four parts: what goes over a cable; a mesh forms; a bad hub is thrown out and kept out; an honest one goes away
+ * and comes back. It prints the same lines every time: three_hubs.expected has them, and says why each is right.
  */
 #include "hivepadlet.h"
 
 #include <inttypes.h>
 #include <stdbool.h>
 #include <stdio.h>
+#include <string.h>
 
 enum { LOBBY, FOURTH, CHEAP, HUBS };
-enum { TOPIC = 0, INBOX = 64 };
+enum { TOPIC = 0, INBOX = 64, MOST_BYTES = 64 };
 
-enum kind { SUBSCRIBE, UNSUBSCRIBE, GRAFT, PRUNE, NOTICE };
-
+/* what a cable carries: a notice, that is a message of the topic, or the bytes of an RPC, which the library writes and reads */
 struct message {
     int from;
-    enum kind kind;
-    uint64_t number; /* the seconds of a PRUNE; of a notice, what the receiver finds it to be */
+    uint64_t notice; /* what the receiver finds it to be; 0 where it is an RPC */
+    size_t length;
+    uint8_t bytes[MOST_BYTES];
 };
 
 struct hub {
@@ -44,6 +46,8 @@ static struct hub hubs[HUBS] = {
 };
 
 static uint64_t now; /* milliseconds */
+static uint8_t names[HIVEPADLET_NAMES_BYTES];
+static uint64_t entries[HIVEPADLET_ENTRY_NUMBERS]; /* of the message that is being read */
 
 /* ---- what is printed */
 
@@ -113,18 +117,37 @@ static uint64_t id_of(int hub)
 }
 
 /* a full inbox loses what comes, as a cable would */
-static void send(int from, int to, enum kind kind, uint64_t number)
+static void send(int to, struct message m)
 {
     struct hub *h = &hubs[to];
-    if (hubs[from].linked[to] && h->waiting < INBOX) {
-        h->inbox[h->waiting++] = (struct message){ from, kind, number };
+    if (hubs[m.from].linked[to] && h->waiting < INBOX) {
+        h->inbox[h->waiting++] = m;
     }
 }
 
-static void send_all(int from, enum kind kind)
+/* an RPC of one action of a call, three numbers, in the topic */
+static struct message action_message(int from, const uint32_t *action)
+{
+    static const uint64_t topic[] = { TOPIC };
+    struct message m = { .from = from };
+    m.length = hivepadlet_value(hivepadlet_write_message(names, action, 3, topic, 1, topic, 0, m.bytes, MOST_BYTES));
+    return m;
+}
+
+/* an RPC that tells of our join (1) or leave (0) */
+static struct message change_message(int from, uint64_t join)
+{
+    const uint64_t change[] = { join, TOPIC };
+    static const uint32_t none[1];
+    struct message m = { .from = from };
+    m.length = hivepadlet_value(hivepadlet_write_message(names, none, 0, change, 0, change, 2, m.bytes, MOST_BYTES));
+    return m;
+}
+
+static void send_change(int from, uint64_t join)
 {
     for (int to = 0; to < HUBS; to++) {
-        send(from, to, kind, 0);
+        send(to, change_message(from, join));
     }
 }
 
@@ -149,7 +172,7 @@ static uint32_t carry(int hub, uint64_t r)
             printf("%6.3f  %-6s  sends PRUNE to %s, backoff %" PRIu32 " s\n", (double)now / 1000, h->name, hubs[peer].name,
                    seconds);
         }
-        send(hub, peer, graft ? GRAFT : PRUNE, seconds);
+        send(peer, action_message(hub, h->actions + 3 * i));
     }
     return hivepadlet_value(r);
 }
@@ -163,7 +186,17 @@ static void let_go(int hub, int peer, uint64_t r)
     }
 }
 
-/* ---- a message that arrives is a call */
+/* ---- every entry of a message that arrives is a call */
+
+static void take_subscription(int hub, int peer, bool subscribes)
+{
+    struct hub *h = &hubs[hub];
+    if (subscribes) {
+        carry(hub, hivepadlet_subscribe(h->table, now, id_of(peer), TOPIC, h->actions, HIVEPADLET_ACTION_NUMBERS));
+    } else {
+        let_go(hub, peer, hivepadlet_unsubscribe(h->table, now, id_of(peer), TOPIC, h->actions, HIVEPADLET_ACTION_NUMBERS));
+    }
+}
 
 static void take_graft(int hub, int peer)
 {
@@ -184,26 +217,39 @@ static void take_prune(int hub, int peer, uint64_t seconds)
     let_go(hub, peer, hivepadlet_prune(h->table, now, id_of(peer), TOPIC, seconds, h->actions, HIVEPADLET_ACTION_NUMBERS));
 }
 
-static void take(int hub, struct message m)
+static void take_entry(int hub, int peer, uint32_t i)
+{
+    uint64_t value = hivepadlet_entry_value(entries, i);
+    if (hivepadlet_entry_topic(entries, i) != TOPIC) {
+        return;
+    }
+    switch (hivepadlet_entry_kind(entries, i)) {
+    case HIVEPADLET_SUBSCRIPTION:
+        take_subscription(hub, peer, value == 1);
+        break;
+    case HIVEPADLET_GRAFT:
+        take_graft(hub, peer);
+        break;
+    case HIVEPADLET_PRUNE:
+        take_prune(hub, peer, value);
+        break;
+    }
+}
+
+static void take(int hub, const struct message *m)
 {
     struct hub *h = &hubs[hub];
-    switch (m.kind) {
-    case SUBSCRIBE:
-        carry(hub, hivepadlet_subscribe(h->table, now, id_of(m.from), TOPIC, h->actions, HIVEPADLET_ACTION_NUMBERS));
-        break;
-    case UNSUBSCRIBE:
-        let_go(hub, m.from,
-               hivepadlet_unsubscribe(h->table, now, id_of(m.from), TOPIC, h->actions, HIVEPADLET_ACTION_NUMBERS));
-        break;
-    case GRAFT:
-        take_graft(hub, m.from);
-        break;
-    case PRUNE:
-        take_prune(hub, m.from, m.number);
-        break;
-    case NOTICE:
-        carry(hub, hivepadlet_deliver(h->table, now, id_of(m.from), TOPIC, m.number, h->actions, HIVEPADLET_ACTION_NUMBERS));
-        break;
+    if (m->notice != 0) {
+        carry(hub, hivepadlet_deliver(h->table, now, id_of(m->from), TOPIC, m->notice, h->actions, HIVEPADLET_ACTION_NUMBERS));
+        return;
+    }
+    uint64_t r = hivepadlet_read_message(names, m->bytes, m->length, entries, HIVEPADLET_ENTRY_NUMBERS);
+    if (hivepadlet_number(r) != HIVEPADLET_DONE) {
+        say(hub, "cannot read what comes from ", hubs[m->from].name, "");
+        return;
+    }
+    for (uint32_t i = 0; i < hivepadlet_value(r); i++) {
+        take_entry(hub, m->from, i);
     }
 }
 
@@ -217,7 +263,7 @@ static void take_all(void)
             struct hub *h = &hubs[hub];
             for (size_t i = 0; i < h->waiting; i++) {
                 any = true;
-                take(hub, h->inbox[i]); /* a hub sends nothing to itself, so its inbox stands meanwhile */
+                take(hub, &h->inbox[i]); /* a hub sends nothing to itself, so its inbox stands meanwhile */
             }
             h->waiting = 0;
         }
@@ -242,10 +288,10 @@ static void dial(int hub, int peer)
     connect_end(hub, peer, HIVEPADLET_OUTBOUND);
     connect_end(peer, hub, 0);
     if (hubs[hub].joined) {
-        send(hub, peer, SUBSCRIBE, 0);
+        send(peer, change_message(hub, 1));
     }
     if (hubs[peer].joined) {
-        send(peer, hub, SUBSCRIBE, 0);
+        send(hub, change_message(peer, 1));
     }
 }
 
@@ -261,7 +307,7 @@ static void join(int hub)
     say(hub, "joins the topic", "", "");
     carry(hub, hivepadlet_join(hubs[hub].table, now, TOPIC, hubs[hub].actions, HIVEPADLET_ACTION_NUMBERS));
     hubs[hub].joined = true;
-    send_all(hub, SUBSCRIBE);
+    send_change(hub, 1);
 }
 
 static void leave(int hub)
@@ -269,7 +315,7 @@ static void leave(int hub)
     say(hub, "leaves the topic", "", "");
     carry(hub, hivepadlet_leave(hubs[hub].table, now, TOPIC, hubs[hub].actions, HIVEPADLET_ACTION_NUMBERS));
     hubs[hub].joined = false;
-    send_all(hub, UNSUBSCRIBE);
+    send_change(hub, 0);
 }
 
 /* a notice to every hub in the mesh; all are linked to each other, so nobody passes it on */
@@ -277,7 +323,7 @@ static void publish(int hub, enum hivepadlet_delivery found)
 {
     for (int peer = 0; peer < HUBS; peer++) {
         if (hubs[hub].mesh[peer]) {
-            send(hub, peer, NOTICE, found);
+            send(peer, (struct message){ .from = hub, .notice = found });
         }
     }
     take_all();
@@ -320,7 +366,13 @@ static void until(uint64_t time)
 
 static bool make_hubs(void)
 {
+    static const char name[] = "notices";
     int64_t numbers[HIVEPADLET_NUMBERS];
+    names[65 * TOPIC] = sizeof name - 1;
+    memcpy(names + 65 * TOPIC + 1, name, sizeof name - 1);
+    if (hivepadlet_number(hivepadlet_names(names)) != HIVEPADLET_DONE) {
+        return false;
+    }
     hivepadlet_ordinary(numbers);
     for (int hub = 0; hub < HUBS; hub++) {
         uint64_t r = hivepadlet_fresh(numbers, hubs[hub].table);
@@ -329,6 +381,25 @@ static bool make_hubs(void)
         }
     }
     return true;
+}
+
+static void show(const char *what, struct message m)
+{
+    printf("%-16s", what);
+    for (size_t i = 0; i < m.length; i++) {
+        printf(" %02X", m.bytes[i]);
+    }
+    printf("\n");
+}
+
+static void messages(void)
+{
+    static const uint32_t graft[] = { HIVEPADLET_GRAFT, 1, 0 }, prune[] = { HIVEPADLET_PRUNE, 1, 60 };
+    printf("What goes over a cable.\n");
+    show("a join", change_message(LOBBY, 1));
+    show("a leave", change_message(LOBBY, 0));
+    show("GRAFT", action_message(LOBBY, graft));
+    show("PRUNE, 60 s", action_message(LOBBY, prune));
 }
 
 static void mesh_forms(void)
@@ -363,10 +434,11 @@ static void bad_hub(void)
     }
     say_meshes();
     static const uint64_t waits[] = { 5000, 5000, 1000 };
+    const uint32_t graft[] = { HIVEPADLET_GRAFT, (uint32_t)id_of(LOBBY), 0 };
     for (int i = 0; i < 3; i++) {
         until(now + waits[i]);
         say(CHEAP, "sends GRAFT to ", hubs[LOBBY].name, " all the same");
-        send(CHEAP, LOBBY, GRAFT, 0);
+        send(LOBBY, action_message(CHEAP, graft));
         take_all();
         say_score(LOBBY, CHEAP, score_of(LOBBY, CHEAP));
     }
@@ -400,10 +472,11 @@ static void honest_hub(void)
 int main(void)
 {
     if (!make_hubs()) {
-        printf("the parameters are refused\n");
+        printf("the parameters or the topic's name are refused\n");
         return 1;
     }
     now = 1000;
+    messages();
     mesh_forms();
     bad_hub();
     honest_hub();

@@ -46,7 +46,8 @@
  * answer (hivepadlet_value), 0 where the table below names none. HIVEPADLET_DONE is 0, so `r & 255` is 0 for success.
  *
  * A call makes its tests in the order 12, 2, 8, 1, 6, 7, 3, 4, 5, 11, those that can concern it, and answers the first that
- * fails; hivepadlet_read in the order 10, 9; hivepadlet_write 8, 9; hivepadlet_fresh 9.
+ * fails; hivepadlet_read in the order 10, 9; hivepadlet_write 8, 9; hivepadlet_fresh 9; hivepadlet_read_message 8, 10;
+ * hivepadlet_write_message 2, 13.
  *
  * TIMES AND UNITS
  *
@@ -90,6 +91,10 @@ extern "C" {
 #define HIVEPADLET_SLOTS 64             /* peers that a router holds, and numbers of a permutation */
 #define HIVEPADLET_TOPICS 8
 #define HIVEPADLET_WHY_NUMBERS 6        /* numbers of a score: its five parts, and the score */
+#define HIVEPADLET_NAMES_BYTES 520      /* topic names: for each topic a length (0: no name, 1 to 64) and 64 bytes */
+#define HIVEPADLET_MESSAGE_BYTES 16384  /* the longest message that is read */
+#define HIVEPADLET_ENTRY_NUMBERS 24576  /* numbers of a list of entries: three for each of 8,192 */
+#define HIVEPADLET_WRITTEN_BYTES 5107   /* the longest message that is written */
 
 #define HIVEPADLET_MAX_TIME (UINT64_C(1) << 40) /* milliseconds */
 #define HIVEPADLET_POINT INT64_C(1000000000)    /* one point of a score */
@@ -110,21 +115,26 @@ enum hivepadlet_why {
 /* ---- the answers' numbers, and the value that goes with each */
 
 enum hivepadlet_answer {
-    HIVEPADLET_DONE = 0,              /* done; of a call the number of actions, of reading and writing the number of bytes */
+    HIVEPADLET_DONE = 0,              /* done; of a call the number of actions, of reading and writing the number of bytes, of
+                                         reading a message the number of entries */
     HIVEPADLET_EARLY = 1,             /* the time is before the router's clock */
-    HIVEPADLET_OUT_OF_RANGE = 2,      /* time, id, group, flags, topic, kind, ask or P5 outside its range */
+    HIVEPADLET_OUT_OF_RANGE = 2,      /* time, id, group, flags, topic, kind, ask or P5 outside its range; topic names that
+                                         cannot be, or a list that is no message's */
     HIVEPADLET_NOT_CONNECTED = 3,     /* no connected peer has the id */
     HIVEPADLET_ALREADY_CONNECTED = 4, /* connect of a connected id */
     HIVEPADLET_NO_SLOT = 5,           /* all 64 slots are taken, and none can be reclaimed yet */
     HIVEPADLET_UNKNOWN_PROTOCOL = 6,  /* the protocol name is neither of the two */
     HIVEPADLET_NOT_PERMUTATION = 7,   /* not each of 0 to 63 once */
-    HIVEPADLET_LIST_SHORT = 8,        /* action list under 192 numbers; in writing parameters, buffer under 735 bytes */
+    HIVEPADLET_LIST_SHORT = 8,        /* action list under 192 numbers; list of entries under 24,576; in writing parameters,
+                                         buffer under 735 bytes */
     HIVEPADLET_BROKEN = 9,            /* a parameter outside its limits: its index; or a joint rule broken: 200 + the rule */
     HIVEPADLET_MALFORMED = 10,        /* bytes that are no parameters: the place where the first bad number begins, also where
                                          the bytes end inside it; or the first byte left over; or the length if the bytes end
-                                         between numbers */
+                                         between numbers. Of a message: where the innermost broken field begins, the first
+                                         from the front; 16384 where it is longer */
     HIVEPADLET_IGNORED = 11,          /* ignored: only the clock moved */
-    HIVEPADLET_NOT_ROUTER = 12        /* the table is no router's: damaged, or never made by hivepadlet_fresh */
+    HIVEPADLET_NOT_ROUTER = 12,       /* the table is no router's: damaged, or never made by hivepadlet_fresh */
+    HIVEPADLET_NO_ROOM = 13           /* in writing a message, a buffer shorter than it */
 };
 
 static inline unsigned hivepadlet_number(uint64_t r)
@@ -316,6 +326,78 @@ enum hivepadlet_delivery {
 /* A message came in from a peer. 0, or 11 also where the topic is not joined. */
 uint64_t hivepadlet_deliver(uint64_t table[HIVEPADLET_CELLS], uint64_t time, uint64_t id, uint64_t topic, uint64_t kind,
                             uint32_t *actions, size_t actions_length);
+
+/* ---- messages: the bytes that peers send each other, gossipsub's RPC as protobuf
+ *
+ * These three functions know no table and no clock. What they read and write of an RPC are subscriptions, GRAFTs and PRUNEs; the
+ * messages of topics (publish), IHAVE and IWANT, which stand in the same bytes, are skipped.
+ *
+ * Peers name a topic by bytes. Topic k's name stands in row k of the names: names[65 * k] is its length, 1 to 64, or 0 where the
+ * topic has none; its bytes follow. Test the names once, at set-up:
+ *
+ *     static uint8_t names[HIVEPADLET_NAMES_BYTES];
+ *     names[0] = 7;
+ *     memcpy(names + 1, "notices", 7);
+ *     if (hivepadlet_number(hivepadlet_names(names)) != HIVEPADLET_DONE) ...
+ *
+ * A message that comes in is read into a list of entries, subscriptions first, then GRAFTs, then PRUNEs. Each is a call:
+ *
+ *     uint64_t r = hivepadlet_read_message(names, message, length, entries, HIVEPADLET_ENTRY_NUMBERS);
+ *     for (uint32_t i = 0; hivepadlet_number(r) == HIVEPADLET_DONE && i < hivepadlet_value(r); i++) {
+ *         uint64_t topic = hivepadlet_entry_topic(entries, i);
+ *         uint64_t value = hivepadlet_entry_value(entries, i);
+ *         if (topic == HIVEPADLET_IGNORED)
+ *             continue;
+ *         switch (hivepadlet_entry_kind(entries, i)) {
+ *         case HIVEPADLET_SUBSCRIPTION:
+ *             if (value == 1) hivepadlet_subscribe(table, time, id, topic, ...); else hivepadlet_unsubscribe(...);
+ *             break;
+ *         case HIVEPADLET_GRAFT: hivepadlet_graft(table, time, id, topic, ...); break;
+ *         case HIVEPADLET_PRUNE: hivepadlet_prune(table, time, id, topic, value, ...); break;
+ *         }
+ *     }
+ *
+ * and carry out the actions of each call before the next: they share the action list. */
+
+/* Tests names: 0, or 2 where a length is over 64 or two names are alike. The bytes of a row past its name are not looked at. */
+uint64_t hivepadlet_names(const uint8_t names[HIVEPADLET_NAMES_BYTES]);
+
+/* the kinds of entries: this one, HIVEPADLET_GRAFT and HIVEPADLET_PRUNE */
+enum hivepadlet_entry {
+    HIVEPADLET_SUBSCRIPTION = 0
+};
+
+static inline uint64_t hivepadlet_entry_kind(const uint64_t *entries, size_t i)
+{
+    return entries[3 * i];
+}
+
+/* 0 to 7, or HIVEPADLET_IGNORED where the entry names no topic of ours */
+static inline uint64_t hivepadlet_entry_topic(const uint64_t *entries, size_t i)
+{
+    return entries[3 * i + 1];
+}
+
+/* of a subscription 1, or 0 for the end of one; of a GRAFT 0; of a PRUNE the seconds of its backoff, 0 where it has none */
+static inline uint64_t hivepadlet_entry_value(const uint64_t *entries, size_t i)
+{
+    return entries[3 * i + 2];
+}
+
+/* Reads a message into a list of at least HIVEPADLET_ENTRY_NUMBERS numbers. 0 with the number of entries, or 8, or 10 with the
+ * place. The list is written with 0 alone, and the numbers past the entries stand. */
+uint64_t hivepadlet_read_message(const uint8_t names[HIVEPADLET_NAMES_BYTES], const uint8_t *message, size_t length,
+                                 uint64_t *entries, size_t entries_length);
+
+/* Writes one message for one peer to the start of a buffer; HIVEPADLET_WRITTEN_BYTES are always enough.
+ * actions: at most 64 as the calls write them, all with the same peer's id; topics: the topic of each, so that actions_length is
+ * 3 * topics_length. changes: at most 8 of our own joins and leaves, pairs of 1 (join) or 0 (leave) and a topic. Every topic has a
+ * name. 0 with the length of the message, 0 for empty lists; or 2 for any other list; or 13. The buffer is written with 0 alone,
+ * and the bytes past the message stand. What is read from these bytes is the joins and leaves, then the GRAFTs, then the PRUNEs,
+ * each in their order. */
+uint64_t hivepadlet_write_message(const uint8_t names[HIVEPADLET_NAMES_BYTES], const uint32_t *actions, size_t actions_length,
+                                  const uint64_t *topics, size_t topics_length, const uint64_t *changes, size_t changes_length,
+                                  uint8_t *buffer, size_t length);
 
 #ifdef __cplusplus
 }

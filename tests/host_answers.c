@@ -1,6 +1,6 @@
 /*
- * Every number of the header, asked for once through the C ABI, and what a refusal leaves: the table and the action list as
- * they were. Prints each check that fails, and at the end how many passed.
+ * Every number of the header, asked for once through the C ABI, and what a refusal leaves: the table and the action list, or the
+ * buffer and the list of entries, as they were. Prints each check that fails, and at the end how many passed.
  */
 #include "hivepadlet.h"
 
@@ -12,6 +12,8 @@ static uint64_t before[HIVEPADLET_CELLS];
 static uint32_t actions[HIVEPADLET_ACTION_NUMBERS];
 static int64_t numbers[HIVEPADLET_NUMBERS];
 static uint64_t permutation[HIVEPADLET_SLOTS];
+static uint8_t names[HIVEPADLET_NAMES_BYTES];
+static uint8_t buffer[64];
 static unsigned passed, failed;
 
 #define LIST actions, HIVEPADLET_ACTION_NUMBERS
@@ -173,6 +175,75 @@ static void full(void)
     refuses("one more", hivepadlet_connect(table, 6, 99, 0, 0, NAME, LIST), HIVEPADLET_NO_SLOT);
 }
 
+/* names, the reader and the writer of messages: a join of topic 1 and a PRUNE of 60 s in topic 0 go out and come back */
+static void names_tested(void)
+{
+    names[0] = 5;
+    memcpy(names + 1, "alpha", 5);
+    names[65] = 4;
+    memcpy(names + 66, "beta", 4);
+    answers("names", hivepadlet_names(names), HIVEPADLET_DONE, 0);
+    names[130] = 65;
+    answers("a name of 65 bytes", hivepadlet_names(names), HIVEPADLET_OUT_OF_RANGE, 0);
+    names[130] = 4;
+    memcpy(names + 131, "beta", 4);
+    answers("two names alike", hivepadlet_names(names), HIVEPADLET_OUT_OF_RANGE, 0);
+    names[130] = 0;
+    answers("a row without a name", hivepadlet_names(names), HIVEPADLET_DONE, 0);
+}
+
+/* field 1, a subscription: subscribe 1, topic beta; field 3, control: a PRUNE of topic alpha with a backoff of 60 s */
+static const uint8_t rpc[] = { 0x0A, 0x08, 0x08, 0x01, 0x12, 0x04, 'b', 'e', 't', 'a', 0x1A, 0x0B, 0x22, 0x09,
+                               0x0A, 0x05, 'a', 'l', 'p', 'h', 'a', 0x18, 0x3C };
+
+static uint64_t write_rpc(uint32_t first_id, uint64_t topic, size_t length)
+{
+    const uint32_t list[] = { HIVEPADLET_PRUNE, first_id, 60 };
+    const uint64_t topics[] = { topic }, changes[] = { 1, 1 };
+    memset(buffer, 0xA5, sizeof buffer);
+    return hivepadlet_write_message(names, list, 3, topics, 1, changes, 2, buffer, length);
+}
+
+static int buffer_stands(size_t from)
+{
+    int stands = 1;
+    for (size_t i = from; i < sizeof buffer; i++) {
+        stands = stands && buffer[i] == 0xA5;
+    }
+    return stands;
+}
+
+static void messages_written(void)
+{
+    answers("a message", write_rpc(7, 0, sizeof rpc), HIVEPADLET_DONE, sizeof rpc);
+    check("its bytes", memcmp(buffer, rpc, sizeof rpc) == 0);
+    check("the bytes past it stand", buffer_stands(sizeof rpc));
+    answers("a buffer one byte short", write_rpc(7, 0, sizeof rpc - 1), HIVEPADLET_NO_ROOM, 0);
+    check("13 leaves the buffer", buffer_stands(0));
+    answers("a topic without a name", write_rpc(7, 2, 0), HIVEPADLET_OUT_OF_RANGE, 0);
+    answers("no topic", write_rpc(7, 8, 0), HIVEPADLET_OUT_OF_RANGE, 0);
+    answers("id 0, before 13", write_rpc(0, 0, 0), HIVEPADLET_OUT_OF_RANGE, 0);
+    check("2 leaves the buffer", buffer_stands(0));
+    answers("empty lists", hivepadlet_write_message(names, actions, 0, permutation, 0, permutation, 0, buffer, 0), HIVEPADLET_DONE, 0);
+}
+
+static void messages_read(void)
+{
+    static uint64_t entries[HIVEPADLET_ENTRY_NUMBERS];
+    static const uint64_t want[] = { HIVEPADLET_SUBSCRIPTION, 1, 1, HIVEPADLET_PRUNE, 0, 60, 0 };
+    answers("a short list of entries", hivepadlet_read_message(names, rpc, sizeof rpc, entries, HIVEPADLET_ENTRY_NUMBERS - 1),
+            HIVEPADLET_LIST_SHORT, 0);
+    answers("a byte cut off", hivepadlet_read_message(names, rpc, sizeof rpc - 1, entries, HIVEPADLET_ENTRY_NUMBERS),
+            HIVEPADLET_MALFORMED, 10);
+    check("a refused message writes nothing", entries[0] == 0 && entries[1] == 0 && entries[2] == 0);
+    answers("a message read", hivepadlet_read_message(names, rpc, sizeof rpc, entries, HIVEPADLET_ENTRY_NUMBERS), HIVEPADLET_DONE, 2);
+    check("its entries", memcmp(entries, want, sizeof want) == 0);
+    names[0] = 0;
+    answers("a name that is not ours", hivepadlet_read_message(names, rpc, sizeof rpc, entries, HIVEPADLET_ENTRY_NUMBERS),
+            HIVEPADLET_DONE, 2);
+    check("11 for that entry", hivepadlet_entry_topic(entries, 1) == HIVEPADLET_IGNORED && hivepadlet_entry_value(entries, 1) == 60);
+}
+
 int main(void)
 {
     parameters();
@@ -181,6 +252,9 @@ int main(void)
     graylisted();
     example();
     full();
+    names_tested();
+    messages_written();
+    messages_read();
     printf("%u passed, %u failed\n", passed, failed);
     return failed != 0;
 }

@@ -18,6 +18,9 @@ static uint32_t actions[HIVEPADLET_ACTION_NUMBERS];
 static int64_t numbers[HIVEPADLET_NUMBERS], why[HIVEPADLET_WHY_NUMBERS];
 static uint64_t permutation[HIVEPADLET_SLOTS];
 static uint8_t bytes[HIVEPADLET_PARAMETER_BYTES];
+static uint8_t names[HIVEPADLET_NAMES_BYTES], rpc[HIVEPADLET_WRITTEN_BYTES];
+static uint32_t prunes[HIVEPADLET_ACTION_NUMBERS];
+static uint64_t topics[HIVEPADLET_SLOTS], joins[2 * HIVEPADLET_TOPICS], entries[HIVEPADLET_ENTRY_NUMBERS];
 static uint64_t answer;
 
 #define LIST actions, HIVEPADLET_ACTION_NUMBERS
@@ -40,6 +43,16 @@ static void leave(void) { answer = hivepadlet_leave(table, 1, 0, LIST); }
 static void is_router(void) { answer = hivepadlet_is_router(table) ? 0 : HIVEPADLET_NOT_ROUTER; }
 static void fresh(void) { answer = hivepadlet_fresh(numbers, fresh_table); }
 static void written(void) { answer = hivepadlet_write(numbers, bytes, sizeof bytes); }
+static void tests_names(void) { answer = hivepadlet_names(names); }
+static void message(void)
+{
+    answer = hivepadlet_write_message(names, prunes, HIVEPADLET_ACTION_NUMBERS, topics, HIVEPADLET_SLOTS, joins, 2 * HIVEPADLET_TOPICS,
+                                      rpc, sizeof rpc);
+}
+static void message_read(void)
+{
+    answer = hivepadlet_read_message(names, rpc, hivepadlet_value(answer), entries, HIVEPADLET_ENTRY_NUMBERS);
+}
 static void read_back(void) { answer = hivepadlet_read(bytes, hivepadlet_value(answer), numbers); }
 
 static const struct {
@@ -65,7 +78,29 @@ static const struct {
     {"a fresh router", fresh},
     {"parameters written", written},
     {"parameters read", read_back},
+    {"names", tests_names},
+    {"a message written", message},
+    {"a message read", message_read},
 };
+
+/* the longest message: a PRUNE to every slot, a join of every topic, names of 64 bytes */
+static void prepare_message(void)
+{
+    uint8_t k, i;
+
+    for (k = 0; k < HIVEPADLET_TOPICS; k++) {
+        memset(names + 65 * k, k, 65);
+        names[65 * k] = 64;
+        joins[2 * k] = 1;
+        joins[2 * k + 1] = k;
+    }
+    for (i = 0; i < HIVEPADLET_SLOTS; i++) {
+        prunes[3 * i] = HIVEPADLET_PRUNE;
+        prunes[3 * i + 1] = 1;
+        prunes[3 * i + 2] = 3600;
+        topics[i] = i % HIVEPADLET_TOPICS;
+    }
+}
 
 /* a router with a mesh far over D_hi, so that a heartbeat has all to do */
 static void prepare(void)
@@ -82,6 +117,7 @@ static void prepare(void)
     }
     for (id = 0; id < HIVEPADLET_SLOTS; id++)
         permutation[id] = HIVEPADLET_SLOTS - 1 - id;
+    prepare_message();
 }
 
 /* the bytes of stack that a call takes, with what making it takes */

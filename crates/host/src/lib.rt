@@ -3,3 +3,4 @@
 pub mod calls;
 pub mod messages;
 pub mod parameters;
+pub mod writing;
