@@ -13,12 +13,10 @@ use Rattle.index.specs.Index.{one}
 use Rattle.index.specs.declared.Found.{Found}
 use Rattle.index.specs.declared.Found.the-variants.{At, Nothing}
 use Rattle.index.proofs.Index.{both}
-use Rattle.index.proofs.Flags.{by-order, cond-case}
+use Rattle.index.proofs.Flags.{cond-case}
 use Rattle.groups.specs.Codes.{codeOf}
 use Rattle.records.specs.declared.TopicRecord.{TopicRecord}
-use Rattle.lookup.specs.Fresh.{freshState}
-use lib.ListN.{replicate, length-replicate, getD-replicate, List·getD-eq-default}
-use Rattle.records.specs.Records.{State, noTopic, slotCount, place, peerIn, topicIn}
+use Rattle.records.specs.Records.{State, slotCount, place, peerIn}
 use Rattle.cells.specs.View.{Sized}
 use Rattle.table.specs.Valid.{valid}
 use Rattle.table.proofs.ValidLaws.{valid-facts}
@@ -34,7 +32,7 @@ use Rattle.rules.specs.Step.{onFound, ofPeer, maintainedReply, heartbeatReply, 
 use Rattle.rules.proofs.CaseLaws.{topic-in, topic-of-both, arguments, by-gate}
 use Rattle.history.specs.Lists.{Made, after}
 use Rattle.history.specs.Demand3.{Accepted}
-use Rattle.history.proofs.Standing.{member-connected}
+use Rattle.history.proofs.Standing.{member-connected, fresh-topic}
 use Rattle.history.proofs.Demand3.{standing}
 use Rattle.history.specs.Played.{made}
 use Rattle.history.proofs.Played.{agrees}
@@ -148,16 +146,11 @@ module _ (params : List ℤ) (st : State) (size : Sized st) (ok : valid st ≡ t
 
 -- ---- every list of calls
 module _ (params : List ℤ) (fine : Accepted params) where
-  fresh-out : (k : ℕ) → topicIn (freshState params) k .member ≡ 0
-  unfolding topicIn freshState
-  fresh-out k =
-      by-order _ k 512
-      (λ l. ap (λ (r : TopicRecord). r .member) (getD-replicate 512 k noTopic noTopic l))
-      (λ l. ap (λ (r : TopicRecord). r .member) (List·getD-eq-default (replicate 512 noTopic) noTopic {n = k} (rw length-replicate l)))
-
   outs : (calls : List Made) → Out (after params calls)
   unfolding after
-  outs [] = λ s t h k m. absurd (omega (arith, fresh-out (place s t), m))
+  outs [] = λ s t h k m.
+      let z = ap (λ (r : TopicRecord). r .member) (fresh-topic params (place s t)) in
+      absurd (omega (arith, z, m))
   outs (c ∷ before) = out-step (after params before) (c .call) (c .room) (outs before)
 
   held : (calls : List Made) (id t : ℕ) → t < 8 → Held (shutUntil params calls id t) (after params calls) id t

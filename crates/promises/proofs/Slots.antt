@@ -4,23 +4,23 @@
 use Prim.Native.Nat.{ℕ, zero, suc, _+_, _-_, _≤_, _<_}
 use native.Mathlib.Omega.{arith}
 use mathlib.Core.Path.{_≡_, refl, sym, ap, _∙_}
-use mathlib.Core.Logic.{_⊎_, inl, inr, ⊎-elim}
+use mathlib.Core.Logic.{_⊎_, ⊎-elim}
 use mathlib.Core.Bool.{Bool, true, false, cond, not, _&&_}
 use mathlib.Core.List.{List, [], _∷_, _++_, map}
-use lib.Dec.{eqb, ltb}
+use lib.Dec.{eqb}
 use lib.ListN.{length}
-use borrow.Author.Tests.{eqb-true, eqb-false, eq-eqb, ne-eqb, ltb-true, le-ltb}
+use borrow.Author.Tests.{eqb-true, eqb-false, eq-eqb, ne-eqb}
 use Rattle.index.specs.Index.{one}
 use Rattle.index.proofs.Flags.{by-test, cond-case}
-use Rattle.sets.specs.Sets.{at, size, except, occurs, ascending, inOrder, fill}
+use Rattle.sets.specs.Sets.{at, except, occurs, ascending, inOrder}
 use Rattle.sets.proofs.WalkLaws.{except-at, except-length, at-past}
-use Rattle.sets.proofs.CountLaws.{size-set-le, fill-upper}
 use Rattle.sets.proofs.SetLaws.{both-left}
 use Rattle.sets.proofs.PermutationLaws.{permutation-once}
 use Rattle.mesh.specs.declared.Degrees.{Degrees}
 use Rattle.mesh.specs.declared.View.{View}
 use Rattle.mesh.specs.declared.Meshes.{Meshes}
-use Rattle.mesh.specs.Maintenance.{goods, mesh1, mesh2, theBest, swapped, mesh3, mesh4, mesh5, meshes, changesOf, Action, action, actionsOn, actionsOf, Rules, Whole}
+use Rattle.mesh.specs.Maintenance.{goods, mesh1, mesh2, mesh3, mesh4, mesh5, meshes, changesOf, Action, action, actionsOn, actionsOf, Rules, Whole}
+use Rattle.mesh.proofs.Bound.{idle}
 use Rattle.mesh.proofs.MaintenanceLaws.{len1, adds2, keeps3, adds4, adds5}
 
 -- how many actions of kind k go to slot s
@@ -147,23 +147,6 @@ gap a b s = ap one (except-at a b s) ∙ minus (at a s) (at b s)
 module _
     (n : ℕ) (t : Degrees) (v : View) (ru : Rules t) (w : Whole n v)
     (apart : (s : ℕ) → at (v .members) s ≡ true → at (v .candidates) s ≡ true → ⊥) where
-  -- step 2 or step 3 changes nothing
-  idle : (m : List Bool) → (mesh2 t v m ≡ m) ⊎ (mesh3 n t v (mesh2 t v m) ≡ mesh2 t v m)
-  unfolding mesh2 mesh3
-  idle m =
-      let f = fill (v .candidates) (t .d - size m) (v .permutation) m in
-      cond-case (λ r. (r ≡ m) ⊎ (mesh3 n t v r ≡ r)) (ltb (size m) (t .lo))
-      (fill (v .candidates) (t .d - size m) (v .permutation) m)
-      m
-      (λ e.
-      let l = ltb-true (size m) (t .lo) e in
-      let u = fill-upper (v .candidates) size size-set-le (v .permutation) (t .d - size m) m in
-      let a = ru .lo-d in
-      let c = ru .d-hi in
-      let small : size f ≤ t .hi = omega arith in
-      inr (ap (λ (b : Bool). cond b (swapped n t v f (theBest n t v f)) f) (le-ltb (t .hi) (size f) small)))
-      (λ e. inl refl)
-
   sub1 : (s : ℕ) → at (mesh1 v) s ≡ true → at (v .members) s ≡ true
   unfolding mesh1
   sub1 = both-left (v .members) (goods v)
@@ -211,7 +194,7 @@ module _
       (λ (e : m₃ ≡ m₂).
       let q : one (at m₃ s) ≡ one (at m₂ s) = ap (λ (m : List Bool). one (at m s)) e in
       record { grafts = omega arith; prunes = omega arith })
-      (idle m₁)
+      (idle n t v ru w apart m₁)
 
   abbrev m : Meshes
   m = meshes n t v

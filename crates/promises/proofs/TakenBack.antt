@@ -6,16 +6,12 @@ use mathlib.Core.Path.{_≡_, refl, sym, ap, _∙_}
 use mathlib.Core.Logic.{inl, inr, ⊎-elim}
 use mathlib.Core.Bool.{true, false, and-false, false≢true}
 use mathlib.Core.List.{[], _∷_}
-use Prim.{tt}
-use lib.Dec.{eqb, leb, lit<}
+use lib.Dec.{eqb, leb}
 use lib.IntN.{ℤ, pos, negsuc, negℤ, _*ℤ_}
 use lib.Signed.{ltZ}
 use Rattle.groups.specs.Codes.{numberOf as signed}
-use Rattle.params.specs.Limits.{limits, limitAt}
-use Rattle.params.proofs.FieldLaws.{loss-of}
-use Rattle.params.proofs.ParamLaws.{general, within}
+use Rattle.params.proofs.ParamLaws.{general}
 use Rattle.score.specs.Score.{scoreIn}
-use Rattle.score.proofs.Differences.{neg-times, diff-neg}
 use borrow.Author.Tests.{eqb-false, eq-eqb, ne-eqb, le-leb, lt-leb, le-ltb}
 use Rattle.index.specs.declared.Found.the-variants.{At}
 use Rattle.index.proofs.Flags.{cond-case}
@@ -34,6 +30,7 @@ use Rattle.effects.proofs.EffectLaws.{member-in, member-peer}
 use Rattle.rules.specs.Reply.{Reply, numberOf, ignored, done}
 use Rattle.rules.specs.Calls.{graft, inRange}
 use Rattle.rules.specs.Step.{isNegative, isGraylisted, isHeard, meshFull, graftEnters, graftRefused, graftOpen, graftBackoff, graftHeard, graftReply, effect, step}
+use Rattle.gate.proofs.StandingLaws.{graylist-is}
 use Rattle.rules.proofs.GateLaws.{gate-0}
 use Rattle.rules.proofs.CaseLaws.{topic-of-both, arguments, by-gate}
 use Rattle.promises.specs.Ends.{endIn}
@@ -44,16 +41,6 @@ unfolding setClock isMember topicIn
 clocked u time t s = refl
 
 -- ---- a score of zero or more is not graylisted: the threshold is below zero
-graylist-is :
-    (st : State) → valid st ≡ true →
-    signed (codeIn st 9) *ℤ pos 1000000 ≡ negℤ (pos (magnitude (codeIn st 9) * 1000000))
-unfolding codeIn limitAt limits
-graylist-is st v =
-    ap (λ (z : ℤ). z *ℤ pos 1000000)
-    (sym (loss-of (st .codes) (within (st .codes) (valid-facts st v .params)) 9 (lit< tt) 9 refl tt))
-    ∙ neg-times (magnitude (codeIn st 9)) 1000000
-    ∙ sym (diff-neg (magnitude (codeIn st 9) * 1000000))
-
 graylist-some : (st : State) → valid st ≡ true → 1 ≤ magnitude (codeIn st 9)
 unfolding codeIn
 graylist-some st v = general (st .codes) (valid-facts st v .params) .graylist-least

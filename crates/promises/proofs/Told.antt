@@ -92,7 +92,15 @@ module _ (st : State) where
       let w = someone k id l (λ y. n (omega (arith, y, z))) in
       (w .0, λ y. w .1 (omega (arith, y)), w .2))
 
--- ---- a reply with no action that moves nobody
+-- ---- tests counted as 0 or 1
+none : (b : Bool) → one (b && false) ≡ 0
+none true = refl
+none false = refl
+
+all : (b : Bool) → one (b && true) ≡ one b
+all true = refl
+all false = refl
+
 same-none : (m : Bool) → 0 ≡ one (m && not m)
 same-none true = refl
 same-none false = refl
@@ -101,6 +109,7 @@ same-none′ : (m : Bool) → 0 ≡ one (not m && m)
 same-none′ true = refl
 same-none′ false = refl
 
+-- ---- a reply with no action that moves nobody
 told-refused : (st : State) (t : ℕ) (a : Answer) → Told st t (refused a st)
 unfolding times
 told-refused st t a =
@@ -243,10 +252,6 @@ module _ (st : State) (t : ℕ) where
   no-graft id (suc n) =
       let z : one (isMember st t n && (eqb 2 1 && eqb (peerIn st n .id) id)) ≡ 0 = none (isMember st t n) in
       omega (arith, more-times 1 id n, no-graft id n, z)
-    where
-      none : (b : Bool) → one (b && false) ≡ 0
-      none true = refl
-      none false = refl
 
   module _ (s : ℕ) (one-slot : (x : ℕ) → peerIn st x .id ≡ peerIn st s .id → x ≡ s) where
     before-slot : (n : ℕ) → n ≤ s → times 2 (peerIn st s .id) (leaveActions st t n) ≡ 0
@@ -256,10 +261,6 @@ module _ (st : State) (t : ℕ) where
         let q : eqb (peerIn st n .id) (peerIn st s .id) ≡ false = ne-eqb _ _ (λ e. omega (arith, one-slot n e, h)) in
         let z : one (isMember st t n && (eqb 2 2 && eqb (peerIn st n .id) (peerIn st s .id))) ≡ 0 = rw q (none (isMember st t n)) in
         omega (arith, more-times 2 (peerIn st s .id) n, before-slot n (omega arith), z)
-      where
-        none : (b : Bool) → one (b && false) ≡ 0
-        none true = refl
-        none false = refl
 
     after-slot : (n : ℕ) → s < n → times 2 (peerIn st s .id) (leaveActions st t n) ≡ one (isMember st t s)
     after-slot zero h = absurd (not-suc-le-zero h)
@@ -275,14 +276,6 @@ module _ (st : State) (t : ℕ) where
         ne-eqb _ _ (λ z. eqb-false n s e (one-slot n z)) in
         let z : one (isMember st t n && (eqb 2 2 && eqb (peerIn st n .id) (peerIn st s .id))) ≡ 0 = rw q (none (isMember st t n)) in
         omega (arith, more-times 2 (peerIn st s .id) n, after-slot n (let w = eqb-false n s e in omega (arith, w, h)), z))
-      where
-        none : (b : Bool) → one (b && false) ≡ 0
-        none true = refl
-        none false = refl
-
-        all : (b : Bool) → one (b && true) ≡ one b
-        all true = refl
-        all false = refl
 
   pub leave-someone :
       (k id n : ℕ) →
@@ -354,14 +347,6 @@ module _ (st : State) (size : Sized st) (ok : valid st ≡ true) (time t : ℕ) 
             (w .0, w .1, member-connected st ok t (w .0) k (w .1) (w .2), w .3);
       })
       (λ j. told-ignored st t time)
-    where
-      none : (b : Bool) → one (b && false) ≡ 0
-      none true = refl
-      none false = refl
-
-      all : (b : Bool) → one (b && true) ≡ one b
-      all true = refl
-      all false = refl
 
 pub told-is-done : ToldIsDone
 unfolding effect
