@@ -309,7 +309,7 @@ module _ (st : State) (t end : ℕ) where
       (λ m. sized-pruned (punished st t i u) i t end (punished-sized st t i u z))
       (λ m. z)
 
-  leave-out : t < 8 → Sized st → (s : ℕ) → s < 64 → isMember (iter 64 (leaveSlot st t end) st) t s ≡ false
+  pub leave-out : t < 8 → Sized st → (s : ℕ) → s < 64 → isMember (iter 64 (leaveSlot st t end) st) t s ≡ false
   unfolding leaveSlot
   leave-out k z s h =
       let w = iter s (leaveSlot st t end) st in
