@@ -77,7 +77,7 @@ module _ (params : List ℤ) (st : State) (codes : st .codes ≡ map codeOf para
   abbrev Deaf : ℕ → Type 0
   Deaf t = (joinedIn st t ≢ 1) ⊎ Graylisted params st s
 
-  deaf : (t : ℕ) → isHeard st t s ≡ false → Deaf t
+  pub deaf : (t : ℕ) → isHeard st t s ≡ false → Deaf t
   unfolding isHeard
   deaf t e =
       by-test _ (isJoined st t)
@@ -87,7 +87,7 @@ module _ (params : List ℤ) (st : State) (codes : st .codes ≡ map codeOf para
       (λ g. let a : isHeard st t s ≡ true = rw (j, g) in absurd (false≢true (sym e ∙ a))))
       (λ j. inl (eqb-false (joinedIn st t) 1 j))
 
-  not-deaf : (t : ℕ) → isHeard st t s ≡ true → Deaf t → ⊥
+  pub not-deaf : (t : ℕ) → isHeard st t s ≡ true → Deaf t → ⊥
   unfolding isHeard
   not-deaf t e d =
       let q = both (isJoined st t) (not (isGraylisted st s)) e in

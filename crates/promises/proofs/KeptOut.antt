@@ -65,19 +65,19 @@ refused-shuts params st (heartbeat time u ask order) a e id t k = quiet time _ (
 refused-shuts params st (decay time) a e id t k = held-zero st id t
 refused-shuts params st (score time p) a e id t k = held-zero st id t
 
-module _ (params : List ℤ) (st : State) (size : Sized st) (ok : valid st ≡ true) (codes : st .codes ≡ map codeOf params) where
-  -- 3, or the slot that holds the id
-  by-id :
-      (P : Reply → Type 0) (id : ℕ) (f : ℕ → Reply) →
-      P (refused NotConnected st) →
-      ((s : ℕ) → s < 64 → peerIn st s .status ≡ 1 → peerIn st s .id ≡ id → P (f s)) →
-      P (ofPeer st id f)
-  by-id P id f none some = go (findConnected st id) refl
-    where
-      go : (r : Found) → findConnected st id ≡ r → P (onFound r f (refused NotConnected st))
-      go (At s) e = let q = connected-at st id s e in some s (q .0) (q .1) (q .2)
-      go Nothing e = none
+-- 3, or the slot that holds the id
+pub by-id :
+    (st : State) (P : Reply → Type 0) (id : ℕ) (f : ℕ → Reply) →
+    P (refused NotConnected st) →
+    ((s : ℕ) → s < 64 → peerIn st s .status ≡ 1 → peerIn st s .id ≡ id → P (f s)) →
+    P (ofPeer st id f)
+by-id st P id f none some = go (findConnected st id) refl
+  where
+    go : (r : Found) → findConnected st id ≡ r → P (onFound r f (refused NotConnected st))
+    go (At s) e = let q = connected-at st id s e in some s (q .0) (q .1) (q .2)
+    go Nothing e = none
 
+module _ (params : List ℤ) (st : State) (size : Sized st) (ok : valid st ≡ true) (codes : st .codes ≡ map codeOf params) where
   effect-shuts : (c : Call) → argumentsOk c ≡ true → Shuts params c (effect st c)
   unfolding effect shutBy
   effect-shuts (connect time p group flags name) a = λ id t k. held-zero _ id t
@@ -87,10 +87,10 @@ module _ (params : List ℤ) (st : State) (size : Sized st) (ok : valid st ≡ t
   effect-shuts (subscribe time p u) a = λ id t k. held-zero _ id t
   effect-shuts (unsubscribe time p u) a = λ id t k. held-zero _ id t
   effect-shuts (graft time p u) a =
-      by-id (Shuts params (graft time p u)) p _ (refused-shuts params st (graft time p u) NotConnected refl) (λ s h on e.
+      by-id st (Shuts params (graft time p u)) p _ (refused-shuts params st (graft time p u) NotConnected refl) (λ s h on e.
       graft-shuts params st size codes time u s h (topic-of-both p u a) (λ z. omega (arith, z, on)))
   effect-shuts (prune time p u seconds) a =
-      by-id (Shuts params (prune time p u seconds)) p _ (refused-shuts params st (prune time p u seconds) NotConnected refl) (λ s h on e.
+      by-id st (Shuts params (prune time p u seconds)) p _ (refused-shuts params st (prune time p u seconds) NotConnected refl) (λ s h on e.
       prune-shuts params st size codes time p u seconds s h (topic-of-both p u a) (λ z. omega (arith, z, on)) e)
   effect-shuts (deliver time p u kind) a = λ id t k. held-zero _ id t
   effect-shuts (rate time p p5) a = λ id t k. held-zero _ id t
