@@ -8,7 +8,7 @@ use mathlib.Core.Logic.{_≢_}
 use mathlib.Core.Bool.{Bool, true, false, cond, not, _&&_}
 use mathlib.Core.List.{List, map}
 use lib.Dec.{eqb, leb, ltb}
-use lib.IntN.{ℤ, pos}
+use lib.IntN.{ℤ}
 use Rattle.index.specs.Index.{iter}
 use Rattle.index.proofs.Index.{both, iter-keeps}
 use Rattle.index.proofs.Flags.{by-test, cond-case}
@@ -17,10 +17,9 @@ use Rattle.records.specs.declared.TopicRecord.{TopicRecord}
 use Rattle.records.specs.Records.{State, slotCount, place, topicIn, setClock, setJoined}
 use Rattle.cells.specs.View.{Sized}
 use Rattle.cells.proofs.StateLaws.{topic-same, topic-other}
-use Rattle.table.specs.Valid.{valid}
 use Rattle.score.specs.Counters.{grownOf}
 use Rattle.score.specs.Parts.{part3Of}
-use Rattle.score.specs.Score.{scoreIn, topicParamsIn}
+use Rattle.score.specs.Score.{topicParamsIn}
 use Rattle.sets.specs.Sets.{at, isPermutation}
 use Rattle.effects.specs.Effects.{unsubscribeBackoff, pruneBackoff, outOfMesh, intoMesh, onTopic, isJoined, isMember, pruned, endAfter}
 use Rattle.effects.proofs.Walks.{iter-kept, iter-once, iter-before}
@@ -28,7 +27,7 @@ use Rattle.effects.proofs.EffectLaws.{place-slot, pruned-topic-other, pruned-to
 use Rattle.rules.specs.declared.Answer.the-variants.{NotPermutation}
 use Rattle.rules.specs.Reply.{Reply, refused, ignored}
 use Rattle.rules.specs.Calls.{leave, heartbeat, topicOk}
-use Rattle.rules.specs.Step.{isNegative, punished, leaveSlot, leaveReply, meshesIn, settleSlot, maintainedReply, heartbeatReply, effect, step}
+use Rattle.rules.specs.Step.{isNegative, punished, leaveSlot, leaveReply, meshesIn, settleSlot, maintainedReply, heartbeatReply, effect}
 use Rattle.rules.proofs.CaseLaws.{topic-in, arguments, by-gate}
 use Rattle.rules.proofs.PunishedLaws.{punished-sized}
 use Rattle.rules.proofs.HeartbeatLaws.{settled-sized, settled-member}

@@ -1,8 +1,7 @@
 -- The degrees are the sheet's numbers, field by field, and step 5 is one choice by three tests.
 -- Assumes nothing.
 use Prim.Native.Nat.{ℕ, _+_, _*_, _≤_, _<_}
-use native.Mathlib.Omega.{arith}
-use mathlib.Core.Path.{_≡_, refl, ap, _∙_}
+use mathlib.Core.Path.{_≡_, ap, _∙_}
 use mathlib.Core.Logic.{_≢_, _⊎_, ⊎-elim}
 use mathlib.Core.Bool.{Bool, true, false, cond, _&&_, and-false}
 use mathlib.Core.List.{List, map}
@@ -19,7 +18,7 @@ use Rattle.rules.specs.Step.{isCandidate, heightIn, degreesIn, viewIn, meshesIn
 use Rattle.history.specs.Lists.{after}
 use Rattle.history.proofs.Standing.{degree-is}
 use Rattle.history.proofs.Demand3.{standing}
-use Rattle.promises.specs.Opportunism.{opportunistic, sheetDegrees, middle, Fifth, Opportunism}
+use Rattle.promises.specs.Opportunism.{opportunistic, sheetDegrees, Fifth, Opportunism}
 
 module _ (params : List ℤ) (st : State) (codes : st .codes ≡ map codeOf params) where
   degrees-are : degreesIn st ≡ sheetDegrees params

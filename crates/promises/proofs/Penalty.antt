@@ -4,7 +4,7 @@ use Prim.Native.Nat.{ℕ, _+_, _≤_, _<_, min}
 use native.Mathlib.Omega.{arith}
 use mathlib.Core.Path.{_≡_, refl, sym, ap, _∙_}
 use mathlib.Core.Logic.{_≢_, _⊎_, inl, inr, ⊎-elim}
-use mathlib.Core.Bool.{Bool, true, false, cond, not, _&&_, false≢true}
+use mathlib.Core.Bool.{Bool, true, cond, not}
 use mathlib.Core.List.{List, [], map}
 use lib.Dec.{eqb}
 use lib.IntN.{ℤ}
@@ -31,7 +31,7 @@ use Rattle.lookup.proofs.FindLaws.{connected-is}
 use Rattle.score.specs.Counters.{countMost, raisedOf, decayedOf}
 use Rattle.score.specs.Score.{topicParamsIn}
 use Rattle.score.proofs.CounterLaws.{faded-less}
-use Rattle.effects.specs.Effects.{magnitude, pruneBackoff, unsubscribeBackoff, withEnd, withP5, withP7, connectedAs, retainedTo, outOfMesh, intoMesh, withSubscribed, onPeer, onTopic, isJoined, isMember, backoffRuns, pruned, endAfter, leftTopic, departed, reclaimable, emptied, reclaimSlot, reclaimed}
+use Rattle.effects.specs.Effects.{magnitude, unsubscribeBackoff, withEnd, withP5, withP7, connectedAs, retainedTo, outOfMesh, intoMesh, withSubscribed, onPeer, onTopic, isJoined, isMember, backoffRuns, pruned, endAfter, leftTopic, departed, reclaimable, emptied, reclaimSlot, reclaimed}
 use Rattle.sets.specs.Sets.{at, isPermutation}
 use Rattle.rules.specs.declared.Answer.the-variants.{NotPermutation}
 use Rattle.rules.specs.Reply.{Reply, refused, ignored, done}
@@ -44,8 +44,7 @@ use Rattle.gate.proofs.StandingLaws.{sizes}
 use Rattle.history.specs.Lists.{after}
 use Rattle.history.proofs.Demand3.{standing}
 use Rattle.promises.specs.Numbers.{Admitted}
-use Rattle.promises.specs.Ignored.{Graylisted}
-use Rattle.promises.specs.Penalty.{TooEarly, p7In, Penalty, P7Rises}
+use Rattle.promises.specs.Penalty.{TooEarly, p7In, P7Rises}
 use Rattle.promises.proofs.Ignored.{deaf, not-deaf}
 use Rattle.promises.proofs.KeptOut.{by-id}
 
@@ -288,14 +287,19 @@ module _ (params : List ℤ) (st : State) (codes : st .codes ≡ map codeOf para
       by-test _ (eqb s i)
       (λ q.
       let z : s ≡ i = eqb-true s i q in
-      inr (rw z (time, t, e, record {
-        connected = on;
-        joined = eqb-true (joinedIn st t) 1 (both (isJoined st t) (not (isGraylisted st i)) heard .0);
-        heard = λ g. not-deaf params st codes i t heard (inr g);
-        out = m;
-        plain = eqb-false (peerIn st i .explicit) 1 x;
-        runs = ltb-true _ _ b;
-      })))
+      inr (rw z (
+        time,
+        t,
+        e,
+        record {
+          connected = on;
+          joined = eqb-true (joinedIn st t) 1 (both (isJoined st t) (not (isGraylisted st i)) heard .0);
+          heard = λ g. not-deaf params st codes i t heard (inr g);
+          out = m;
+          plain = eqb-false (peerIn st i .explicit) 1 x;
+          runs = ltb-true _ _ b;
+        },
+      )))
       (λ q. inl (omega (arith, raised-other time t i (raisedOf (p7In st i) countMost) s (eqb-false s i q)))))
       (λ b.
       cond-case Only (graftEnters st t i) _ (graftRefused st time t i)
