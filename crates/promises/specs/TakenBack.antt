@@ -3,15 +3,16 @@
 use Prim.Native.Nat.{ℕ, _≤_, _<_}
 use mathlib.Core.Path.{_≡_}
 use mathlib.Core.Logic.{_⊎_}
-use mathlib.Core.Bool.{true, false}
+use mathlib.Core.Bool.{true, false, cond}
 use mathlib.Core.List.{[], _∷_}
+use lib.Dec.{eqb}
 use lib.IntN.{pos}
 use lib.Signed.{ltZ}
 use Rattle.records.specs.Records.{State, slotCount, topicCount, place, peerIn, topicIn, joinedIn}
 use Rattle.cells.specs.View.{Sized}
 use Rattle.table.specs.Valid.{maxTime, valid}
 use Rattle.score.specs.Score.{scoreIn}
-use Rattle.effects.specs.Actions.{pruneOf}
+use Rattle.effects.specs.Actions.{Action}
 use Rattle.effects.specs.Effects.{highDegree, pruneBackoff, meshSize, isMember}
 use Rattle.rules.specs.Reply.{Reply, numberOf}
 use Rattle.rules.specs.Calls.{graft}
@@ -46,12 +47,17 @@ TakenBack =
     MayReturn st time t s →
     IsIn t s (step st (graft time (peerIn st s .id) t) room)
 
+-- a PRUNE: "2 PRUNE, peer id, the sheet's prune [..] backoff in seconds (0 [..] for a 1.0.0 peer)"
+abbrev pub toldOut : State → ℕ → Action
+toldOut st s =
+    record { kind = 2; id = peerIn st s .id; seconds = cond (eqb (peerIn st s .version) 0) 0 (pruneBackoff st) }
+
 -- a GRAFT that was answered 0: in, and nothing said; or out, and one PRUNE to that peer
 pub record InOrTold (st : State) (t s : ℕ) (r : Reply) : Type 0 where
   pub either :
       numberOf (r .answer) ≡ 0 →
       ((isMember (r .state) t s ≡ true) × (r .actions ≡ []))
-      ⊎ ((isMember (r .state) t s ≡ false) × (r .actions ≡ pruneOf (peerIn st s) (pruneBackoff st) ∷ []))
+      ⊎ ((isMember (r .state) t s ≡ false) × (r .actions ≡ toldOut st s ∷ []))
 
 abbrev pub GraftAnswered : Type 0
 GraftAnswered =
