@@ -16,14 +16,19 @@ use Rattle.index.proofs.Flags.{by-test, by-order, cond-case}
 use Rattle.groups.specs.Codes.{codeOf}
 use Rattle.records.specs.declared.Peer.{Peer}
 use Rattle.records.specs.declared.TopicRecord.{TopicRecord}
-use Rattle.records.specs.Records.{State, noPeer, noTopic, place, codeIn, peerIn, topicIn, setClock, setJoined, setPeer, setTopic, isConnected}
+use Rattle.records.specs.Records.{State, noPeer, noTopic, place, codeIn, peerIn, topicIn, setClock, setJoined, setPeer, setTopic}
+use Rattle.records.specs.Records.{isConnected}
 use Rattle.cells.proofs.StateLaws.{peer-case, topic-case, topic-same, peer-after-topic, topic-after-peer}
 use Rattle.score.specs.Counters.{firstOf, nearFirstOf, invalidOf, grownOf, fadedOf, decayedOf}
 use Rattle.score.specs.Score.{topicParamsIn}
-use Rattle.effects.specs.Effects.{magnitude, unsubscribeBackoff, pruneBackoff, withEnd, withP5, withP7, retainedTo, connectedAs, outOfMesh, withSubscribed, onPeer, onTopic, isJoined, isMember, pruned, endAfter, leftTopic, departed, reclaimable, emptied, reclaimSlot, reclaimed}
+use Rattle.effects.specs.Effects.{magnitude, unsubscribeBackoff, pruneBackoff, withEnd, withP5, withP7, retainedTo, connectedAs, outOfMesh}
+use Rattle.effects.specs.Effects.{withSubscribed, onPeer, onTopic, isJoined, isMember, pruned, endAfter, leftTopic, departed, reclaimable}
+use Rattle.effects.specs.Effects.{emptied, reclaimSlot, reclaimed}
 use Rattle.effects.proofs.EffectLaws.{end-other}
 use Rattle.rules.specs.Reply.{Reply, ignored, done}
-use Rattle.rules.specs.Step.{isNegative, isGraylisted, isHeard, joinReply, punished, leaveSlot, leaveReply, subscribeReply, unsubscribeReply, graftRefused, secondsOf, pruneReply, deliveredOf, deliverReply, decayFloor, decayTopic, decayP7, decaySlot, decayReply}
+use Rattle.rules.specs.Step.{isNegative, isGraylisted, isHeard, joinReply, punished, leaveSlot, leaveReply, subscribeReply}
+use Rattle.rules.specs.Step.{unsubscribeReply, graftRefused, secondsOf, pruneReply, deliveredOf, deliverReply, decayFloor, decayTopic}
+use Rattle.rules.specs.Step.{decayP7, decaySlot, decayReply}
 use Rattle.promises.specs.Ends.{endIn}
 
 pub record Since (st u : State) (s t : ℕ) : Type 0 where
@@ -278,7 +283,8 @@ module _ (st : State) (time : ℕ) where
     unfolding deliveredOf firstOf nearFirstOf invalidOf
     delivered kind r =
         let x = topicParamsIn st t in
-        cond-case (λ (q : TopicRecord). (q .member ≡ r .member) × (q .graft ≡ r .graft)) (eqb kind 1) (firstOf x r) _ (λ e. (refl, refl)) (λ e.
+        cond-case (λ (q : TopicRecord). (q .member ≡ r .member) × (q .graft ≡ r .graft)) (eqb kind 1) (firstOf x r) _ (λ e. (refl, refl))
+        (λ e.
         cond-case (λ (q : TopicRecord). (q .member ≡ r .member) × (q .graft ≡ r .graft)) (eqb kind 2) (nearFirstOf x r) (invalidOf r)
         (λ f. (refl, refl)) (λ f. (refl, refl)))
 

@@ -1,4 +1,5 @@
--- Deliveries: one store, read at its place and elsewhere. Decay: only the turns of a slot touch its records, and each sees the record of the start.
+-- Deliveries: one store, read at its place and elsewhere. Decay: only the turns of a slot touch its records, and each sees the record of
+-- the start.
 -- Assumes nothing.
 use Prim.Native.Nat.{ℕ, _+_, _*_, _≤_, _<_, min}
 use native.Mathlib.Omega.{arith}
@@ -19,11 +20,13 @@ use Rattle.records.specs.declared.Peer.{Peer}
 use Rattle.records.specs.declared.TopicRecord.{TopicRecord}
 use Rattle.records.specs.Records.{State, noTopic, place, codeIn, peerIn, topicIn, setClock, isConnected}
 use Rattle.cells.specs.View.{Sized}
-use Rattle.cells.proofs.StateLaws.{topic-same, topic-other, topic-after-peer, topic-after-clock, peer-same, peer-other, peer-after-topic, peer-after-clock, joined-after-topic, joined-after-clock, code-after-topic, code-after-clock, codes-after-topic, codes-after-peer, sized-topic, sized-peer}
+use Rattle.cells.proofs.StateLaws.{topic-same, topic-other, topic-after-peer, topic-after-clock, peer-same, peer-other, peer-after-topic}
+use Rattle.cells.proofs.StateLaws.{peer-after-clock, joined-after-topic, joined-after-clock, code-after-topic, code-after-clock}
+use Rattle.cells.proofs.StateLaws.{codes-after-topic, codes-after-peer, sized-topic, sized-peer}
 use Rattle.table.proofs.ValidLaws.{valid-facts}
 use Rattle.lookup.specs.Find.{findConnected}
 use Rattle.lookup.proofs.FindLaws.{connected-is}
-use Rattle.score.specs.Counters.{raised3Of, firstOf, nearFirstOf, invalidOf, fadedOf, meshOf, decayedOf}
+use Rattle.score.specs.Counters.{withCounters, raised3Of, firstOf, nearFirstOf, invalidOf, fadedOf, meshOf, decayedOf}
 use Rattle.score.specs.Score.{topicParamsIn}
 use Rattle.effects.specs.Effects.{magnitude, withP7, onTopic}
 use Rattle.effects.proofs.Walks.{iter-kept, iter-once, iter-before}
@@ -35,12 +38,15 @@ use Rattle.rules.proofs.CaseLaws.{topic-in, arguments, by-gate}
 use Rattle.history.specs.Lists.{after}
 use Rattle.history.proofs.Standing.{degree-is}
 use Rattle.history.proofs.Demand3.{standing}
-use Rattle.promises.specs.Counters.{Counted, Delivered, Deliveries, fades, toZero, Faded, Decayed, Decay}
+use Rattle.promises.specs.Counters.{SamePlace, Counted, Delivered, Deliveries, fades, toZero, Faded, Decayed, Decay}
 
 -- ---- one record by the sheet's numbers, in any state that holds the sheet
 module _ (params : List ℤ) (st : State) (codes : st .codes ≡ map codeOf params) (t : ℕ) (r : TopicRecord) where
   number : (j : ℕ) → magnitude (codeIn st (19 + 16 * t + j)) ≡ natAbs (at params (19 + 16 * t + j))
   number j = degree-is st params codes (19 + 16 * t + j)
+
+  placed : (p2 p3 p4 p3b mesh : ℕ) → SamePlace r (withCounters r p2 p3 p4 p3b mesh)
+  placed p2 p3 p4 p3b mesh = record { subscribed = refl; member = refl; graft = refl }
 
   raised3 : raised3Of (topicParamsIn st t) r ≡ cond (eqb (r .member) 1) (min (r .p3 + 1000) (natAbs (at params (19 + 16 * t + 9)))) (r .p3)
   unfolding raised3Of topicParamsIn
@@ -59,18 +65,18 @@ module _ (params : List ℤ) (st : State) (codes : st .codes ≡ map codeOf para
         p4 = refl;
         p3b = refl;
         mesh = refl;
-        same = record { subscribed = refl; member = refl; graft = refl };
+        same = placed _ _ _ _ _;
       }))
       (λ e.
       by-test _ (eqb kind 2)
       (λ f.
       let z : kind ≡ 2 = eqb-true kind 2 f in
-      rw z (record { p2 = refl; p3 = raised3; p4 = refl; p3b = refl; mesh = refl; same = record { subscribed = refl; member = refl; graft = refl } }))
+      rw z (record { p2 = refl; p3 = raised3; p4 = refl; p3b = refl; mesh = refl; same = placed _ _ _ _ _ }))
       (λ f.
       let x = eqb-false kind 1 e in
       let y = eqb-false kind 2 f in
       let z : kind ≡ 3 = omega (arith, x, y, l, h) in
-      rw z (record { p2 = refl; p3 = refl; p4 = refl; p3b = refl; mesh = refl; same = record { subscribed = refl; member = refl; graft = refl } })))
+      rw z (record { p2 = refl; p3 = refl; p4 = refl; p3b = refl; mesh = refl; same = placed _ _ _ _ _ })))
 
   fades-is : (floor factor x a b : ℕ) → floor ≡ a → factor ≡ b → fadedOf floor factor x ≡ fades a b x
   unfolding fadedOf
@@ -86,7 +92,7 @@ module _ (params : List ℤ) (st : State) (codes : st .codes ≡ map codeOf para
         p3b = fades-is _ _ (r .p3b) _ _ (ap (λ (n : ℕ). n * 1000) floor) (number 13);
         p4 = fades-is _ _ (r .p4) _ _ floor (number 15);
         mesh = refl;
-        same = record { subscribed = refl; member = refl; graft = refl };
+        same = placed _ _ _ _ _;
       }
 
 -- ---- a delivery
@@ -188,7 +194,8 @@ module _ (params : List ℤ) (time : ℕ) where
   topic-apart s t i u n = topic-other u (place s i) _ (place s t) (place-topic s i t (λ e. n (sym e)))
 
   turn-topic :
-      (s t : ℕ) (u : State) → s < 64 → t < 8 → Good u → Faded params time t (topicIn u (place s t)) (topicIn (iter 8 (decayTopic time s) u) (place s t))
+      (s t : ℕ) (u : State) → s < 64 → t < 8 → Good u →
+      Faded params time t (topicIn u (place s t)) (topicIn (iter 8 (decayTopic time s) u) (place s t))
   unfolding decayTopic
   turn-topic s t u h k g =
       let f = decayTopic time s in
@@ -203,11 +210,14 @@ module _ (params : List ℤ) (time : ℕ) where
       ∙ ap (decayedOf (topicParamsIn v t) (decayFloor v) time) before in
       rw e (faded params v (w .codes) t r time)
 
-  turn-p7 : (s : ℕ) (u : State) → s < 64 → Good u → peerIn (decayP7 s u) s .p7 ≡ fades (toZero params) (natAbs (at params 17)) (peerIn u s .p7)
+  turn-p7 :
+      (s : ℕ) (u : State) → s < 64 → Good u →
+      peerIn (decayP7 s u) s .p7 ≡ fades (toZero params) (natAbs (at params 17)) (peerIn u s .p7)
   unfolding decayP7 withP7
   turn-p7 s u h g =
       ap (λ (p : Peer). p .p7) (peer-same u s _ (omega (arith, g .sized .peers, h)))
-      ∙ fades-is params u (g .codes) 0 noTopic _ _ (peerIn u s .p7) _ _ (degree-is u params (g .codes) 18) (degree-is u params (g .codes) 17)
+      ∙ fades-is params u (g .codes) 0 noTopic _ _ (peerIn u s .p7) _ _
+      (degree-is u params (g .codes) 18) (degree-is u params (g .codes) 17)
 
   module _ (st : State) (g : Good st) where
     abbrev walk : ℕ → State

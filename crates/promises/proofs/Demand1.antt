@@ -1,4 +1,5 @@
--- Demand 1, reply by reply.
+-- Demand 1: every reply behind the gate is a refusal, an `ignored` or a `done`, and each of the three is so by its definition; of the
+-- program, what a promise fixes of the state fixes every cell.
 -- Assumes nothing.
 use Prim.Native.Nat.{ℕ}
 use native.Mathlib.Omega.{arith}
@@ -25,11 +26,16 @@ use Rattle.sets.specs.Sets.{isPermutation}
 use Rattle.effects.specs.Actions.{Action, numbersOf}
 use Rattle.effects.specs.Effects.{isJoined, isMember, backoffRuns, reclaimed}
 use Rattle.rules.specs.declared.Answer.{Answer}
-use Rattle.rules.specs.declared.Answer.the-variants.{Done, Scored, Early, OutOfRange, NotConnected, AlreadyConnected, NoSlot, UnknownProtocol, NotPermutation, ListShort, Ignored, NotRouter}
+use Rattle.rules.specs.declared.Answer.the-variants.{Done, Scored, Early, OutOfRange, NotConnected, AlreadyConnected, NoSlot}
+use Rattle.rules.specs.declared.Answer.the-variants.{UnknownProtocol, NotPermutation, ListShort, Ignored, NotRouter}
 use Rattle.rules.specs.declared.Gate.the-variants.{Pass, Refuse}
 use Rattle.rules.specs.Reply.{Reply, numberOf, refuses, refused, ignored, done}
-use Rattle.rules.specs.Calls.{Call, connect, disconnect, join, leave, subscribe, unsubscribe, graft, prune, deliver, rate, heartbeat, decay, score, timeOf, inRange}
-use Rattle.rules.specs.Step.{actionRoom, isGraylisted, isHeard, graftEnters, gateOf, through, onFound, ofPeer, onVersion, connectAt, connectIn, connectReply, joinReply, leaveActions, leaveReply, subscribeReply, unsubscribeReply, graftRefused, graftOpen, graftBackoff, graftHeard, graftReply, pruneReply, deliverReply, maintainedReply, heartbeatReply, decayReply, effect, step}
+use Rattle.rules.specs.Calls.{Call, connect, disconnect, join, leave, subscribe, unsubscribe, graft, prune, deliver, rate, heartbeat, decay}
+use Rattle.rules.specs.Calls.{score, timeOf, inRange}
+use Rattle.rules.specs.Step.{actionRoom, isGraylisted, isHeard, graftEnters, gateOf, through, onFound, ofPeer, onVersion, connectAt}
+use Rattle.rules.specs.Step.{connectIn, connectReply, joinReply, leaveActions, leaveReply, subscribeReply, unsubscribeReply, graftRefused}
+use Rattle.rules.specs.Step.{graftOpen, graftBackoff, graftHeard, graftReply, pruneReply, deliverReply, maintainedReply, heartbeatReply}
+use Rattle.rules.specs.Step.{decayReply, effect, step}
 use Rattle.promises.specs.Demand1.{Untouched, Demand1, ProgramDemand1}
 
 module _ (st : State) (time : ℕ) where

@@ -1,5 +1,5 @@
--- P3b of one place, through the walk of a leave or a heartbeat: only the turn of its own slot touches it, and that turn sees the record of the
--- start.
+-- P3b of one place, through the walk of a leave or a heartbeat: only the turn of its own slot touches it, and that turn sees the record
+-- of the start.
 -- Assumes nothing.
 use Prim.Native.Nat.{ℕ, _+_, _-_, _*_, _<_, min}
 use native.Mathlib.Omega.{arith}
@@ -102,7 +102,10 @@ module _ (params : List ℤ) (st : State) (codes : st .codes ≡ map codeOf para
         (λ m. out-other i end u j n)
         (λ m. refl)
 
-    left-p3b : (s : ℕ) → s < 64 → topicIn (iter 64 (leaveSlot st t end) st) (place s t) .p3b ≡ cond (isMember st t s && isNegative st s) (grown s) (was s)
+    abbrev Left : ℕ → State → Type 0
+    Left s w = topicIn w (place s t) .p3b ≡ cond (isMember st t s && isNegative st s) (grown s) (was s)
+
+    left-p3b : (s : ℕ) → s < 64 → Left s (iter 64 (leaveSlot st t end) st)
     unfolding leaveSlot
     left-p3b s h =
         let w = iter s (leaveSlot st t end) st in
@@ -112,7 +115,7 @@ module _ (params : List ℤ) (st : State) (codes : st .codes ≡ map codeOf para
         iter-before (λ u. topicIn u (place s t)) (leaveSlot st t end) s others s st (omega arith) in
         let zw : Sized w = iter-keeps (λ (u : State). Sized u) (leaveSlot st t end) s st size (λ i u l. leave-sized st t end i u) in
         ap (λ (r : TopicRecord). r .p3b) (iter-once (λ u. topicIn u (place s t)) (leaveSlot st t end) s others 64 st h)
-        ∙ by-test (topicIn (leaveSlot st t end s w) (place s t) .p3b ≡ cond (isMember st t s && isNegative st s) (grown s) (was s)) (isMember st t s)
+        ∙ by-test (Left s (leaveSlot st t end s w)) (isMember st t s)
         (λ m. rw m (out-same s end w zw h k before))
         (λ m. rw m (ap (λ (r : TopicRecord). r .p3b) before))
 
@@ -127,7 +130,8 @@ module _ (params : List ℤ) (st : State) (codes : st .codes ≡ map codeOf para
         record {
           grows = λ s h.
               left-p3b s h
-              ∙ ap (λ (b : Bool). cond (isMember st t s && (not b && isNegative st s)) (grown s) (was s)) (sym (leave-out st t end k size s h));
+              ∙ ap (λ (b : Bool). cond (isMember st t s && (not b && isNegative st s)) (grown s) (was s))
+              (sym (leave-out st t end k size s h));
           stays = λ s v l n. ap (λ (r : TopicRecord). r .p3b) (left-topic s v l n);
         }
 

@@ -27,8 +27,10 @@ use Rattle.lookup.specs.Find.{findConnected}
 use Rattle.lookup.proofs.FindLaws.{connected-at, none-connected, connected-is}
 use Rattle.effects.specs.Effects.{isJoined, isMember, backoffRuns}
 use Rattle.rules.specs.Reply.{Reply, numberOf, refused, ignored, done}
-use Rattle.rules.specs.Calls.{Call, connect, disconnect, join, leave, subscribe, unsubscribe, graft, prune, deliver, rate, heartbeat, decay, score}
-use Rattle.rules.specs.Step.{onFound, ofPeer, joinReply, leaveReply, decayReply, isGraylisted, isHeard, subscribeReply, unsubscribeReply, graftEnters, graftRefused, graftOpen, graftBackoff, graftHeard, graftReply, pruneReply, deliverReply, effect}
+use Rattle.rules.specs.Calls.{Call, connect, disconnect, join, leave, subscribe, unsubscribe, graft, prune, deliver, rate, heartbeat, decay}
+use Rattle.rules.specs.Calls.{score}
+use Rattle.rules.specs.Step.{onFound, ofPeer, joinReply, leaveReply, decayReply, isGraylisted, isHeard, subscribeReply, unsubscribeReply}
+use Rattle.rules.specs.Step.{graftEnters, graftRefused, graftOpen, graftBackoff, graftHeard, graftReply, pruneReply, deliverReply, effect}
 use Rattle.history.specs.Lists.{after}
 use Rattle.history.proofs.Demand3.{standing}
 use Rattle.promises.specs.Ignored.{Graylisted, Sender, Words11, Row11, Row0}

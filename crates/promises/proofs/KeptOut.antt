@@ -1,4 +1,5 @@
--- Kept out, over every list of calls.
+-- Kept out, over every list of calls: what a call shuts is held in the state it leaves, every later call keeps it held, and of a member it
+-- is over, since its own backoff ended when it came in.
 -- Assumes nothing.
 use Prim.Native.Nat.{ℕ, _+_, _≤_, _<_}
 use native.Mathlib.Omega.{arith}
@@ -27,7 +28,8 @@ use Rattle.effects.specs.Effects.{isJoined, isMember}
 use Rattle.rules.specs.declared.Answer.{Answer}
 use Rattle.rules.specs.declared.Answer.the-variants.{NotConnected, NotPermutation}
 use Rattle.rules.specs.Reply.{Reply, numberOf, refused, ignored}
-use Rattle.rules.specs.Calls.{Call, connect, disconnect, join, leave, subscribe, unsubscribe, graft, prune, deliver, rate, heartbeat, decay, score, topicOk, argumentsOk}
+use Rattle.rules.specs.Calls.{Call, connect, disconnect, join, leave, subscribe, unsubscribe, graft, prune, deliver, rate, heartbeat, decay}
+use Rattle.rules.specs.Calls.{score, topicOk, argumentsOk}
 use Rattle.rules.specs.Step.{onFound, ofPeer, maintainedReply, heartbeatReply, meshesIn, effect, step}
 use Rattle.rules.proofs.CaseLaws.{topic-in, topic-of-both, arguments, by-gate}
 use Rattle.history.specs.Lists.{Made, after}
@@ -41,7 +43,8 @@ use Rattle.promises.specs.Told.{times}
 use Rattle.promises.specs.KeptOut.{shutBy, shutUntil, KeptOutOf, KeptOut, ProgramKeptOut}
 use Rattle.promises.proofs.Members.{Out, out-step, candidate-past, new-candidate}
 use Rattle.promises.proofs.Told.{id-is, left-member, told-maintained}
-use Rattle.promises.proofs.Shut.{Held, held-zero, held-max, held-hold, hold-effect, Shuts, quiet, graft-shuts, leave-shuts, heartbeat-shuts, prune-shuts}
+use Rattle.promises.proofs.Shut.{Held, held-zero, held-max, held-hold, hold-effect, Shuts, quiet, graft-shuts, leave-shuts}
+use Rattle.promises.proofs.Shut.{heartbeat-shuts, prune-shuts}
 
 -- ---- one call
 -- a refusal shuts nothing

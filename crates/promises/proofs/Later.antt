@@ -22,7 +22,8 @@ use Rattle.cells.specs.View.{Sized}
 use Rattle.cells.proofs.StateLaws.{peer-case, peer-same, peer-after-topic, peer-after-clock, peer-after-joined}
 use Rattle.score.specs.Counters.{grownOf, fadedOf}
 use Rattle.score.specs.Score.{topicParamsIn}
-use Rattle.effects.specs.Effects.{magnitude, pruneBackoff, withEnd, withP5, withP7, retainedTo, outOfMesh, intoMesh, onPeer, onTopic, isMember, pruned, endAfter, leftTopic, departed}
+use Rattle.effects.specs.Effects.{magnitude, pruneBackoff, withEnd, withP5, withP7, retainedTo, outOfMesh, intoMesh, onPeer, onTopic}
+use Rattle.effects.specs.Effects.{isMember, pruned, endAfter, leftTopic, departed}
 use Rattle.effects.proofs.EffectLaws.{end-later, end-same, pruned-same}
 use Rattle.sets.specs.Sets.{at}
 use Rattle.rules.specs.Step.{isNegative, punished, leaveSlot, graftRefused, decayFloor, decayTopic, decayP7, decaySlot, settleSlot}

@@ -1,4 +1,5 @@
--- No member's backoff runs: it ended when he came in, or before. Call by call, and after every list of calls.
+-- No member's backoff runs: it ended when he came in, or before. Most calls take nobody in and lengthen no member's backoff (`Calmer`);
+-- GRAFT in and the heartbeat take in only whom the test of the backoff let through.
 -- Assumes nothing.
 use Prim.Native.Nat.{ℕ, _+_, _≤_, _<_}
 use native.Mathlib.Omega.{arith}
@@ -24,20 +25,27 @@ use Rattle.lookup.specs.declared.Named.the-variants.{Version, Unknown}
 use Rattle.lookup.specs.Name.{versionOf}
 use Rattle.lookup.specs.Find.{findConnected, findRetained, lowestEmpty}
 use Rattle.score.specs.Counters.{countMost, raisedOf}
-use Rattle.effects.specs.Effects.{pruneBackoff, connectedAs, intoMesh, onPeer, onTopic, isJoined, isMember, isSubscribed, backoffRuns, pruned, endAfter, reclaimed}
+use Rattle.effects.specs.Effects.{pruneBackoff, connectedAs, intoMesh, onPeer, onTopic, isJoined, isMember, isSubscribed, backoffRuns}
+use Rattle.effects.specs.Effects.{pruned, endAfter, reclaimed}
 use Rattle.effects.proofs.EffectLaws.{pruned-other}
 use Rattle.sets.specs.Sets.{at, isPermutation}
 use Rattle.sets.proofs.SetLaws.{both-left}
 use Rattle.sets.proofs.SlotLaws.{slots-in}
 use Rattle.rules.specs.declared.Answer.the-variants.{NotPermutation}
 use Rattle.rules.specs.Reply.{Reply, refused, ignored, done}
-use Rattle.rules.specs.Calls.{Call, connect, disconnect, join, leave, subscribe, unsubscribe, graft, prune, deliver, rate, heartbeat, decay, score, topicOk, argumentsOk}
-use Rattle.rules.specs.Step.{isNegative, isHeard, isCandidate, onFound, onVersion, ofPeer, connectAt, connectIn, connectReply, graftEnters, graftRefused, graftOpen, graftBackoff, graftHeard, graftReply, viewIn, meshesIn, punished, settleSlot, maintainedReply, heartbeatReply, effect, step}
+use Rattle.rules.specs.Calls.{Call, connect, disconnect, join, leave, subscribe, unsubscribe, graft, prune, deliver, rate, heartbeat, decay}
+use Rattle.rules.specs.Calls.{score, topicOk, argumentsOk}
+use Rattle.rules.specs.Step.{isNegative, isHeard, isCandidate, onFound, onVersion, ofPeer, connectAt, connectIn, connectReply, graftEnters}
+use Rattle.rules.specs.Step.{graftRefused, graftOpen, graftBackoff, graftHeard, graftReply, viewIn, meshesIn, punished, settleSlot}
+use Rattle.rules.specs.Step.{maintainedReply, heartbeatReply, effect, step}
 use Rattle.rules.proofs.HeartbeatLaws.{view-kept}
 use Rattle.rules.proofs.PunishedLaws.{punished-peer}
 use Rattle.rules.proofs.CaseLaws.{topic-in, topic-of-both, arguments, by-peer, by-gate}
 use Rattle.promises.specs.Ends.{endIn}
-use Rattle.promises.proofs.Calmer.{Calmer, calmer-then, calmer-clock, calmer-moved, calmer-connected, calmer-punished, calmer-pruned, calmer-still, calmer-disconnect, calmer-join, calmer-leave, calmer-subscribe, calmer-unsubscribe, calmer-prune, calmer-deliver, calmer-rate, calmer-decay, calmer-refused, calmer-running, calmer-reclaimed}
+use Rattle.promises.proofs.Calmer.{Calmer, calmer-then, calmer-clock, calmer-moved, calmer-connected, calmer-punished, calmer-pruned}
+use Rattle.promises.proofs.Calmer.{calmer-still, calmer-disconnect, calmer-join, calmer-leave, calmer-subscribe, calmer-unsubscribe}
+use Rattle.promises.proofs.Calmer.{calmer-prune, calmer-deliver, calmer-rate, calmer-decay, calmer-refused, calmer-running}
+use Rattle.promises.proofs.Calmer.{calmer-reclaimed}
 
 abbrev pub Out : State → Type 0
 Out st = (s t : ℕ) → s < 64 → t < 8 → topicIn st (place s t) .member ≡ 1 → endIn st s t ≤ topicIn st (place s t) .graft

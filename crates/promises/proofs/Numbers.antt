@@ -30,11 +30,16 @@ use Rattle.lookup.specs.Name.{meshsub, sameBytes, versionOf}
 use Rattle.sets.specs.Sets.{isPermutation}
 use Rattle.effects.specs.Effects.{isJoined, isMember, backoffRuns, reclaimable, reclaimed}
 use Rattle.rules.specs.declared.Answer.{Answer}
-use Rattle.rules.specs.declared.Answer.the-variants.{Done, Scored, Early, OutOfRange, NotConnected, AlreadyConnected, NoSlot, UnknownProtocol, NotPermutation, ListShort, Ignored, NotRouter}
+use Rattle.rules.specs.declared.Answer.the-variants.{Done, Scored, Early, OutOfRange, NotConnected, AlreadyConnected, NoSlot}
+use Rattle.rules.specs.declared.Answer.the-variants.{UnknownProtocol, NotPermutation, ListShort, Ignored, NotRouter}
 use Rattle.rules.specs.Reply.{Reply, numberOf, refused, ignored, done}
-use Rattle.rules.specs.Calls.{Call, connect, disconnect, join, leave, subscribe, unsubscribe, graft, prune, deliver, rate, heartbeat, decay, score, timeOf, inRange}
-use Rattle.rules.specs.Step.{actionRoom, isGraylisted, isHeard, graftEnters, gateOf, onFound, ofPeer, onVersion, connectAt, connectIn, connectReply, joinReply, leaveReply, subscribeReply, unsubscribeReply, graftRefused, graftOpen, graftBackoff, graftHeard, graftReply, pruneReply, deliverReply, maintainedReply, heartbeatReply, decayReply, effect, step}
-use Rattle.promises.specs.Numbers.{Connected, Missing, Admitted, Rows, FirstRows, Words3, Row3, Words7, Row7, Known, Strange, Words6, Row6, Words4, Row4, Held, Words5, Row5}
+use Rattle.rules.specs.Calls.{Call, connect, disconnect, join, leave, subscribe, unsubscribe, graft, prune, deliver, rate, heartbeat, decay}
+use Rattle.rules.specs.Calls.{score, timeOf, inRange}
+use Rattle.rules.specs.Step.{actionRoom, isGraylisted, isHeard, graftEnters, gateOf, onFound, ofPeer, onVersion, connectAt, connectIn}
+use Rattle.rules.specs.Step.{connectReply, joinReply, leaveReply, subscribeReply, unsubscribeReply, graftRefused, graftOpen, graftBackoff}
+use Rattle.rules.specs.Step.{graftHeard, graftReply, pruneReply, deliverReply, maintainedReply, heartbeatReply, decayReply, effect, step}
+use Rattle.promises.specs.Numbers.{Connected, Missing, Admitted, Rows, FirstRows, Words3, Row3, Words7, Row7, Known, Strange, Words6}
+use Rattle.promises.specs.Numbers.{Row6, Words4, Row4, Held, Words5, Row5}
 
 -- ---- what is answered behind the gate: 0 or 11 (fine), or 3 to 7
 abbrev fine : Answer → Bool
@@ -472,10 +477,13 @@ module _ (st : State) where
   behind (join time t) = of-none (join time t) (λ x. x) (λ x. x) (λ x. x) (λ x. x) _ (fine-join time t) (λ x. x)
   behind (leave time t) = of-none (leave time t) (λ x. x) (λ x. x) (λ x. x) (λ x. x) _ (fine-leave time t) (λ x. x)
   behind (subscribe time id t) = of-peer (subscribe time id t) (λ x. x) (λ x. x) (λ x. x) (λ x. x) id _ (fine-subscribe time t) (λ x. x)
-  behind (unsubscribe time id t) = of-peer (unsubscribe time id t) (λ x. x) (λ x. x) (λ x. x) (λ x. x) id _ (fine-unsubscribe time t) (λ x. x)
+  behind (unsubscribe time id t) =
+      of-peer (unsubscribe time id t) (λ x. x) (λ x. x) (λ x. x) (λ x. x) id _ (fine-unsubscribe time t) (λ x. x)
   behind (graft time id t) = of-peer (graft time id t) (λ x. x) (λ x. x) (λ x. x) (λ x. x) id _ (fine-graft st time t) (λ x. x)
-  behind (prune time id t seconds) = of-peer (prune time id t seconds) (λ x. x) (λ x. x) (λ x. x) (λ x. x) id _ (fine-prune time t seconds) (λ x. x)
-  behind (deliver time id t kind) = of-peer (deliver time id t kind) (λ x. x) (λ x. x) (λ x. x) (λ x. x) id _ (fine-deliver time t kind) (λ x. x)
+  behind (prune time id t seconds) =
+      of-peer (prune time id t seconds) (λ x. x) (λ x. x) (λ x. x) (λ x. x) id _ (fine-prune time t seconds) (λ x. x)
+  behind (deliver time id t kind) =
+      of-peer (deliver time id t kind) (λ x. x) (λ x. x) (λ x. x) (λ x. x) id _ (fine-deliver time t kind) (λ x. x)
   behind (rate time id p5) = of-peer (rate time id p5) (λ x. x) (λ x. x) (λ x. x) (λ x. x) id _ (λ s. refl) (λ x. x)
   behind (heartbeat time t ask order) =
       let n = heartbeat-not st time t ask order in

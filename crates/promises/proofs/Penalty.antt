@@ -18,9 +18,11 @@ use Rattle.groups.specs.Codes.{codeOf}
 use Rattle.records.specs.declared.Peer.{Peer}
 use Rattle.records.specs.declared.TopicRecord.{TopicRecord}
 use lib.ListN.{length}
-use Rattle.records.specs.Records.{State, noPeer, noTopic, slotCount, place, codeIn, peerIn, joinedIn, setClock, setJoined, setPeer, setTopic, isConnected}
+use Rattle.records.specs.Records.{State, noPeer, noTopic, slotCount, place, codeIn, peerIn, joinedIn, setClock, setJoined, setPeer}
+use Rattle.records.specs.Records.{setTopic, isConnected}
 use Rattle.cells.specs.View.{Sized}
-use Rattle.cells.proofs.StateLaws.{peer-case, peer-same, peer-other, peer-after-clock, peer-after-joined, peer-after-topic, code-after-peer, code-after-topic, sized-peer}
+use Rattle.cells.proofs.StateLaws.{peer-case, peer-same, peer-other, peer-after-clock, peer-after-joined, peer-after-topic, code-after-peer}
+use Rattle.cells.proofs.StateLaws.{code-after-topic, sized-peer}
 use Rattle.table.specs.Valid.{valid}
 use Rattle.table.proofs.ValidLaws.{valid-facts}
 use Rattle.lookup.specs.declared.Named.{Named}
@@ -31,12 +33,18 @@ use Rattle.lookup.proofs.FindLaws.{connected-is}
 use Rattle.score.specs.Counters.{countMost, raisedOf, decayedOf}
 use Rattle.score.specs.Score.{topicParamsIn}
 use Rattle.score.proofs.CounterLaws.{faded-less}
-use Rattle.effects.specs.Effects.{magnitude, unsubscribeBackoff, withEnd, withP5, withP7, connectedAs, retainedTo, outOfMesh, intoMesh, withSubscribed, onPeer, onTopic, isJoined, isMember, backoffRuns, pruned, endAfter, leftTopic, departed, reclaimable, emptied, reclaimSlot, reclaimed}
+use Rattle.effects.specs.Effects.{magnitude, unsubscribeBackoff, withEnd, withP5, withP7, connectedAs, retainedTo, outOfMesh, intoMesh}
+use Rattle.effects.specs.Effects.{withSubscribed, onPeer, onTopic, isJoined, isMember, backoffRuns, pruned, endAfter, leftTopic, departed}
+use Rattle.effects.specs.Effects.{reclaimable, emptied, reclaimSlot, reclaimed}
 use Rattle.sets.specs.Sets.{at, isPermutation}
 use Rattle.rules.specs.declared.Answer.the-variants.{NotPermutation}
 use Rattle.rules.specs.Reply.{Reply, refused, ignored, done}
-use Rattle.rules.specs.Calls.{Call, connect, disconnect, join, leave, subscribe, unsubscribe, graft, prune, deliver, rate, heartbeat, decay, score, timeOf, inRange}
-use Rattle.rules.specs.Step.{isGraylisted, isHeard, onFound, onVersion, ofPeer, connectAt, connectIn, connectReply, joinReply, punished, leaveSlot, leaveReply, subscribeReply, unsubscribeReply, graftEnters, graftRefused, graftOpen, graftBackoff, graftHeard, graftReply, pruneReply, deliveredOf, deliverReply, meshesIn, settleSlot, maintainedReply, heartbeatReply, decayFloor, decayTopic, decayP7, decaySlot, decayReply, effect, step}
+use Rattle.rules.specs.Calls.{Call, connect, disconnect, join, leave, subscribe, unsubscribe, graft, prune, deliver, rate, heartbeat, decay}
+use Rattle.rules.specs.Calls.{score, timeOf, inRange}
+use Rattle.rules.specs.Step.{isGraylisted, isHeard, onFound, onVersion, ofPeer, connectAt, connectIn, connectReply, joinReply, punished}
+use Rattle.rules.specs.Step.{leaveSlot, leaveReply, subscribeReply, unsubscribeReply, graftEnters, graftRefused, graftOpen, graftBackoff}
+use Rattle.rules.specs.Step.{graftHeard, graftReply, pruneReply, deliveredOf, deliverReply, meshesIn, settleSlot, maintainedReply}
+use Rattle.rules.specs.Step.{heartbeatReply, decayFloor, decayTopic, decayP7, decaySlot, decayReply, effect, step}
 use Rattle.rules.proofs.CaseLaws.{by-peer, by-gate}
 use Rattle.rules.proofs.GateLaws.{gate-0}
 use Rattle.rules.proofs.PunishedLaws.{punished-peer}
@@ -135,7 +143,8 @@ module _ (st : State) (ok : valid st ≡ true) (time : ℕ) where
   faded-topics i u w =
       iter-keeps Faded (decayTopic time i) 8 u w (λ t v l x.
       record {
-        milder = milder-then st v (decayTopic time i t v) (x .milder) (milder-topic v i t (decayedOf (topicParamsIn v t) (decayFloor v) time));
+        milder =
+            milder-then st v (decayTopic time i t v) (x .milder) (milder-topic v i t (decayedOf (topicParamsIn v t) (decayFloor v) time));
         code = code-after-topic v (place i t) _ 17 ∙ x .code;
       })
 

@@ -1,4 +1,4 @@
--- The seconds that the PRUNEs of a leave and of a heartbeat tell.
+-- The seconds that a leave and a heartbeat tell: an action is made from the peer of its slot, and no other connected slot has its id.
 -- Assumes nothing.
 use Prim.{tt}
 use Prim.Native.Nat.{ℕ, zero, suc, _<_}
@@ -21,7 +21,8 @@ use Rattle.mesh.specs.Maintenance.{Action as Tell, changesOf, actionsOf}
 use Rattle.rules.specs.declared.Answer.the-variants.{NotPermutation}
 use Rattle.rules.specs.Reply.{Reply, refused, ignored}
 use Rattle.rules.specs.Calls.{leave, heartbeat}
-use Rattle.rules.specs.Step.{toldIn, actionIn, leaveActions, leaveReply, meshesIn, heartbeatActions, maintainedReply, heartbeatReply, effect}
+use Rattle.rules.specs.Step.{toldIn, actionIn, leaveActions, leaveReply, meshesIn, heartbeatActions, maintainedReply, heartbeatReply}
+use Rattle.rules.specs.Step.{effect}
 use Rattle.rules.proofs.CaseLaws.{by-gate}
 use Rattle.history.specs.Lists.{after}
 use Rattle.history.proofs.Standing.{degree-is}
@@ -79,7 +80,8 @@ module _ (st : State) (size : Sized st) (ok : valid st ≡ true) where
   heartbeat-seconds time t ask seconds order e =
       cond-case (λ (r : Reply). Each (Seconds st seconds) (r .actions)) (isPermutation slotCount order) _ (refused NotPermutation st)
       (λ right.
-      cond-case (λ (r : Reply). Each (Seconds st seconds) (r .actions)) (isJoined st t) (maintainedReply st time t ask order) (ignored st time)
+      cond-case (λ (r : Reply). Each (Seconds st seconds) (r .actions)) (isJoined st t) (maintainedReply st time t ask order)
+      (ignored st time)
       (λ j. each-map seconds e (actionsOf slotCount order (changesOf (bySlot slotCount (isMember st t)) (meshesIn st time t ask order))))
       (λ j. tt))
       (λ wrong. tt)

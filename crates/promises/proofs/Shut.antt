@@ -27,18 +27,25 @@ use Rattle.lookup.specs.Find.{findConnected, findRetained, lowestEmpty}
 use Rattle.lookup.proofs.FindLaws.{retained-at, empty-at}
 use Rattle.score.specs.Counters.{countMost, raisedOf}
 use Rattle.sets.specs.Sets.{at, isPermutation}
-use Rattle.effects.specs.Effects.{unsubscribeBackoff, pruneBackoff, withEnd, withP7, connectedAs, onPeer, onTopic, intoMesh, isJoined, isMember, backoffRuns, pruned, endAfter, reclaimable, reclaimed}
+use Rattle.effects.specs.Effects.{unsubscribeBackoff, pruneBackoff, withEnd, withP7, connectedAs, onPeer, onTopic, intoMesh, isJoined}
+use Rattle.effects.specs.Effects.{isMember, backoffRuns, pruned, endAfter, reclaimable, reclaimed}
 use Rattle.effects.proofs.EffectLaws.{reclaimed-stays, reclaimable-over, sized-on-peer, sized-pruned}
 use Rattle.rules.specs.declared.Answer.the-variants.{NotPermutation}
 use Rattle.rules.specs.Reply.{Reply, numberOf, refused, ignored, done}
-use Rattle.rules.specs.Calls.{Call, connect, disconnect, join, leave, subscribe, unsubscribe, graft, prune, deliver, rate, heartbeat, decay, score, timeOf}
-use Rattle.rules.specs.Step.{isGraylisted, isHeard, onFound, onVersion, ofPeer, connectAt, connectIn, connectReply, joinReply, leaveSlot, leaveActions, leaveReply, subscribeReply, unsubscribeReply, graftEnters, graftRefused, graftOpen, graftBackoff, graftHeard, graftReply, secondsOf, pruneReply, deliverReply, meshesIn, punished, settleSlot, maintainedReply, heartbeatReply, decayReply, effect}
+use Rattle.rules.specs.Calls.{Call, connect, disconnect, join, leave, subscribe, unsubscribe, graft, prune, deliver, rate, heartbeat, decay}
+use Rattle.rules.specs.Calls.{score, timeOf}
+use Rattle.rules.specs.Step.{isGraylisted, isHeard, onFound, onVersion, ofPeer, connectAt, connectIn, connectReply, joinReply, leaveSlot}
+use Rattle.rules.specs.Step.{leaveActions, leaveReply, subscribeReply, unsubscribeReply, graftEnters, graftRefused, graftOpen, graftBackoff}
+use Rattle.rules.specs.Step.{graftHeard, graftReply, secondsOf, pruneReply, deliverReply, meshesIn, punished, settleSlot, maintainedReply}
+use Rattle.rules.specs.Step.{heartbeatReply, decayReply, effect}
 use Rattle.rules.proofs.PunishedLaws.{punished-sized}
 use Rattle.history.proofs.Standing.{degree-is, member-connected}
 use Rattle.promises.specs.Ends.{endIn}
 use Rattle.promises.specs.Told.{times}
 use Rattle.promises.specs.KeptOut.{pruneSeconds, leaveSeconds, told, shutBy}
-use Rattle.promises.proofs.Later.{LaterAt, Later, later-self, later-then, later-clock, later-joined, later-peer, later-iter, later-pruned, later-settled, later-left, later-moved, later-still, later-disconnect, later-leave, later-rate, later-decay, later-on, later-refused, later-running, end-set, end-pruned, end-walked}
+use Rattle.promises.proofs.Later.{LaterAt, Later, later-self, later-then, later-clock, later-joined, later-peer, later-iter}
+use Rattle.promises.proofs.Later.{later-pruned, later-settled, later-left, later-moved, later-still, later-disconnect, later-leave}
+use Rattle.promises.proofs.Later.{later-rate, later-decay, later-on, later-refused, later-running, end-set, end-pruned, end-walked}
 use Rattle.promises.proofs.Told.{leave-someone, leave-sized, left-member, told-maintained}
 
 -- ---- an end that is kept: it is over, or stands in the record of the peer with the id
@@ -150,7 +157,8 @@ module _ (st : State) (time : ℕ) (c : st .clock ≤ time) where
       (either (isMember st t s) _ _ still
       (either (eqb (peerIn st s .explicit) 1) _ _ (back st t s (later-refused st time t s))
       (either (backoffRuns (peerIn st s) t time) _ _
-      (back (onPeer st s (λ p. withP7 p (raisedOf (p .p7) countMost))) t s (later-running st time t s (raisedOf (peerIn st s .p7) countMost)))
+      (back (onPeer st s (λ p. withP7 p (raisedOf (p .p7) countMost))) t s
+      (later-running st time t s (raisedOf (peerIn st s .p7) countMost)))
       (either (graftEnters st t s) _ _
       (hold-moved (onTopic st s t (λ r. intoMesh r time)) (later-on st time (place s t) (intoMesh (topicIn st (place s t)) time)))
       (back st t s (later-refused st time t s))))))
@@ -356,7 +364,8 @@ module _ (params : List ℤ) (st : State) (size : Sized st) (codes : st .codes �
         later-left-state
 
     maintained-shuts : (id t : ℕ) → t < 8 →
-        Held (told time (pruneSeconds params) (maintainedReply st time u ask order) u id t) (maintainedReply st time u ask order .state) id t
+        Held (told time (pruneSeconds params) (maintainedReply st time u ask order) u id t)
+        (maintainedReply st time u ask order .state) id t
     maintained-shuts id t b =
         let r = maintainedReply st time u ask order in
         let same : pruneBackoff st ≡ pruneSeconds params = degree-is st params codes 5 in
@@ -382,9 +391,11 @@ module _ (params : List ℤ) (st : State) (size : Sized st) (codes : st .codes �
       Held (told time (pruneSeconds params) (heartbeatReply st time u ask order) u id t) (heartbeatReply st time u ask order .state) id t
   unfolding heartbeatReply
   heartbeat-shuts time u ask order ok k id t b =
-      cond-case (λ (r : Reply). Held (told time (pruneSeconds params) r u id t) (r .state) id t) (isPermutation slotCount order) _ (refused NotPermutation st)
+      cond-case (λ (r : Reply). Held (told time (pruneSeconds params) r u id t) (r .state) id t) (isPermutation slotCount order) _
+      (refused NotPermutation st)
       (λ right.
-      cond-case (λ (r : Reply). Held (told time (pruneSeconds params) r u id t) (r .state) id t) (isJoined st u) (maintainedReply st time u ask order) (ignored st time)
+      cond-case (λ (r : Reply). Held (told time (pruneSeconds params) r u id t) (r .state) id t) (isJoined st u)
+      (maintainedReply st time u ask order) (ignored st time)
       (λ j. maintained-shuts time u ask order ok k right id t b)
       (λ j. quiet time (pruneSeconds params) (ignored st time) u id t refl))
       (λ wrong. quiet time (pruneSeconds params) (refused NotPermutation st) u id t refl)

@@ -1,5 +1,5 @@
--- A maintenance's actions, slot by slot: one GRAFT for who is in the mesh that is left and was not in the one at the start, one PRUNE for who
--- was and is not.
+-- A maintenance's actions, slot by slot: one GRAFT for who is in the mesh that is left and was not in the one at the start, one PRUNE for
+-- who was and is not. The steps' sets at a slot are numbers, 0 or 1, and the sums are linear.
 -- Assumes nothing.
 use Prim.Native.Nat.{ℕ, zero, suc, _+_, _-_, _≤_, _<_}
 use native.Mathlib.Omega.{arith}
@@ -19,9 +19,10 @@ use Rattle.sets.proofs.PermutationLaws.{permutation-once}
 use Rattle.mesh.specs.declared.Degrees.{Degrees}
 use Rattle.mesh.specs.declared.View.{View}
 use Rattle.mesh.specs.declared.Meshes.{Meshes}
-use Rattle.mesh.specs.Maintenance.{goods, mesh1, mesh2, mesh3, mesh4, mesh5, meshes, changesOf, Action, action, actionsOn, actionsOf, Rules, Whole}
+use Rattle.mesh.specs.Maintenance.{goods, mesh1, meshes, changesOf, Action, action, actionsOn, actionsOf, Rules}
+use Rattle.mesh.specs.Maintenance.{Whole}
 use Rattle.mesh.proofs.Bound.{idle}
-use Rattle.mesh.proofs.MaintenanceLaws.{len1, adds2, keeps3, adds4, adds5}
+use Rattle.mesh.proofs.MaintenanceLaws.{Adds, Keeps, len1, adds2, keeps3, adds4, adds5}
 
 -- how many actions of kind k go to slot s
 unfoldable pub timesAt : ℕ → ℕ → List Action → ℕ
@@ -151,6 +152,24 @@ module _
   unfolding mesh1
   sub1 = both-left (v .members) (goods v)
 
+  abbrev m : Meshes
+  m = meshes n t v
+
+  -- what each step makes of the mesh before it
+  record Steps : Type 0 where
+    two : Adds n v (m .first) (m .second)
+    three : Keeps n t v (m .second) (m .third)
+    four : Adds n v (m .third) (m .fourth)
+    five : Adds n v (m .fourth) (m .fifth)
+
+  steps : Steps
+  unfolding meshes
+  steps =
+      let k₂ = adds2 n t v ru w (m .first) (len1 n t v ru w) in
+      let k₃ = keeps3 n t v ru w (m .second) (k₂ .len) in
+      let k₄ = adds4 n t v ru w (m .third) (k₃ .len) in
+      record { two = k₂; three = k₃; four = k₄; five = adds5 n t v ru w (m .fourth) (k₄ .len) }
+
   -- the steps' sets at one slot, as numbers
   record Numbers (a₀ a₁ a₂ a₃ a₄ a₅ : ℕ) : Type 0 where
     grafts : (a₂ - a₁) + (a₄ - a₃) + (a₅ - a₄) ≡ a₅ - a₀
@@ -167,24 +186,20 @@ module _
       (one (at (meshes n t v .fifth) s))
   unfolding meshes
   numbers s =
-      let m₁ = mesh1 v in
-      let k₁ = adds2 n t v ru w m₁ (len1 n t v ru w) in
-      let m₂ = mesh2 t v m₁ in
-      let k₂ = keeps3 n t v ru w m₂ (k₁ .len) in
-      let m₃ = mesh3 n t v m₂ in
-      let k₃ = adds4 n t v ru w m₃ (k₂ .len) in
-      let m₄ = mesh4 t v m₃ in
-      let k₄ = adds5 n t v ru w m₄ (k₃ .len) in
-      let m₅ = mesh5 t v m₄ in
+      let m₁ = m .first in
+      let m₂ = m .second in
+      let m₃ = m .third in
+      let m₄ = m .fourth in
+      let m₅ = m .fifth in
       let c = at (v .candidates) s in
       let f₁ = less (at m₁ s) (at (v .members) s) (sub1 s) in
-      let f₂ = less (at m₁ s) (at m₂ s) (k₁ .sub s) in
-      let f₃ = less-or (at m₂ s) (at m₁ s) c (k₁ .only s) in
-      let f₄ = less (at m₃ s) (at m₂ s) (k₂ .only s) in
-      let f₅ = less (at m₃ s) (at m₄ s) (k₃ .sub s) in
-      let f₆ = less-or (at m₄ s) (at m₃ s) c (k₃ .only s) in
-      let f₇ = less (at m₄ s) (at m₅ s) (k₄ .sub s) in
-      let f₈ = less-or (at m₅ s) (at m₄ s) c (k₄ .only s) in
+      let f₂ = less (at m₁ s) (at m₂ s) (steps .two .sub s) in
+      let f₃ = less-or (at m₂ s) (at m₁ s) c (steps .two .only s) in
+      let f₄ = less (at m₃ s) (at m₂ s) (steps .three .only s) in
+      let f₅ = less (at m₃ s) (at m₄ s) (steps .four .sub s) in
+      let f₆ = less-or (at m₄ s) (at m₃ s) c (steps .four .only s) in
+      let f₇ = less (at m₄ s) (at m₅ s) (steps .five .sub s) in
+      let f₈ = less-or (at m₅ s) (at m₄ s) c (steps .five .only s) in
       let f₉ = not-both (at (v .members) s) c (apart s) in
       let g = most (at m₅ s) in
       ⊎-elim
@@ -195,9 +210,6 @@ module _
       let q : one (at m₃ s) ≡ one (at m₂ s) = ap (λ (m : List Bool). one (at m s)) e in
       record { grafts = omega arith; prunes = omega arith })
       (idle n t v ru w apart m₁)
-
-  abbrev m : Meshes
-  m = meshes n t v
 
   split : (s k : ℕ) →
       timesAt k s (actionsOf n (v .permutation) (changesOf (v .members) m))
@@ -211,22 +223,12 @@ module _
 
   -- past the slots there is nothing
   pub past-at : (s k : ℕ) → n ≤ s → timesAt k s (actionsOf n (v .permutation) (changesOf (v .members) m)) ≡ 0
-  unfolding meshes
   past-at s k h =
-      let m₁ = mesh1 v in
-      let k₁ = adds2 n t v ru w m₁ (len1 n t v ru w) in
-      let m₂ = mesh2 t v m₁ in
-      let k₂ = keeps3 n t v ru w m₂ (k₁ .len) in
-      let m₃ = mesh3 n t v m₂ in
-      let k₃ = adds4 n t v ru w m₃ (k₂ .len) in
-      let m₄ = mesh4 t v m₃ in
-      let k₄ = adds5 n t v ru w m₄ (k₃ .len) in
-      let m₅ = mesh5 t v m₄ in
-      let c₁ = on-absent k 2 (except (v .members) m₁) (ascending 0 n) s (outside (v .members) m₁ (w .members)) in
-      let c₂ = on-absent k 1 (except m₂ m₁) (v .permutation) s (outside m₂ m₁ (k₁ .len)) in
-      let c₃ = on-absent k 2 (except m₂ m₃) (ascending 0 n) s (outside m₂ m₃ (k₁ .len)) in
-      let c₄ = on-absent k 1 (except m₄ m₃) (v .permutation) s (outside m₄ m₃ (k₃ .len)) in
-      let c₅ = on-absent k 1 (except m₅ m₄) (v .permutation) s (outside m₅ m₄ (k₄ .len)) in
+      let c₁ = on-absent k 2 (except (v .members) (m .first)) (ascending 0 n) s (outside (v .members) (m .first) (w .members)) in
+      let c₂ = on-absent k 1 (except (m .second) (m .first)) (v .permutation) s (outside (m .second) (m .first) (steps .two .len)) in
+      let c₃ = on-absent k 2 (except (m .second) (m .third)) (ascending 0 n) s (outside (m .second) (m .third) (steps .two .len)) in
+      let c₄ = on-absent k 1 (except (m .fourth) (m .third)) (v .permutation) s (outside (m .fourth) (m .third) (steps .four .len)) in
+      let c₅ = on-absent k 1 (except (m .fifth) (m .fourth)) (v .permutation) s (outside (m .fifth) (m .fourth) (steps .five .len)) in
       omega (arith, split s k, c₁, c₂, c₃, c₄, c₅)
     where
       outside : (a b : List Bool) → length a ≡ n → at (except a b) s ≡ false

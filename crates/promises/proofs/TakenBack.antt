@@ -1,4 +1,4 @@
--- GRAFT in: who may return is in, and who is not let in is told.
+-- GRAFT in, test by test: who may return passes each of them, and who fails one of the later ones is told by its PRUNE.
 -- Assumes nothing.
 use Prim.Native.Nat.{ℕ, zero, suc, _*_, _≤_, _<_}
 use native.Mathlib.Omega.{arith}
@@ -25,11 +25,13 @@ use Rattle.lookup.specs.Find.{findConnected}
 use Rattle.lookup.proofs.FindLaws.{connected-is}
 use Rattle.score.specs.Counters.{countMost, raisedOf}
 use Rattle.effects.specs.Actions.{pruneOf}
-use Rattle.effects.specs.Effects.{magnitude, highDegree, pruneBackoff, withEnd, withP7, intoMesh, onPeer, onTopic, isMember, meshSize, backoffRuns, endAfter}
+use Rattle.effects.specs.Effects.{magnitude, highDegree, pruneBackoff, withEnd, withP7, intoMesh, onPeer, onTopic, isMember, meshSize}
+use Rattle.effects.specs.Effects.{backoffRuns, endAfter}
 use Rattle.effects.proofs.EffectLaws.{member-in, member-peer}
 use Rattle.rules.specs.Reply.{Reply, numberOf, ignored, done}
 use Rattle.rules.specs.Calls.{graft, inRange}
-use Rattle.rules.specs.Step.{isNegative, isGraylisted, isHeard, meshFull, graftEnters, graftRefused, graftOpen, graftBackoff, graftHeard, graftReply, effect, step}
+use Rattle.rules.specs.Step.{isNegative, isGraylisted, isHeard, meshFull, graftEnters, graftRefused, graftOpen, graftBackoff, graftHeard}
+use Rattle.rules.specs.Step.{graftReply, effect, step}
 use Rattle.gate.proofs.StandingLaws.{graylist-is}
 use Rattle.rules.proofs.GateLaws.{gate-0}
 use Rattle.rules.proofs.CaseLaws.{topic-of-both, arguments, by-gate}

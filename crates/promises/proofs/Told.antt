@@ -1,4 +1,5 @@
--- What a reply's actions tell is what was done: heartbeat and leave.
+-- What a reply's actions tell is what was done: heartbeat by slot, from the sets of its five steps, and leave by its walk; an id is one
+-- slot's.
 -- Assumes nothing.
 use Prim.Native.Nat.{ℕ, zero, suc, _+_, _≤_, _<_}
 use native.Mathlib.Omega.{arith}
@@ -30,7 +31,8 @@ use Rattle.rules.specs.declared.Answer.{Answer}
 use Rattle.rules.specs.declared.Answer.the-variants.{NotPermutation}
 use Rattle.rules.specs.Reply.{Reply, refused, ignored}
 use Rattle.rules.specs.Calls.{leave, heartbeat, topicOk}
-use Rattle.rules.specs.Step.{punished, leaveSlot, leaveActions, leaveReply, actionIn, degreesIn, viewIn, meshesIn, heartbeatActions, maintainedReply, heartbeatReply, effect}
+use Rattle.rules.specs.Step.{punished, leaveSlot, leaveActions, leaveReply, actionIn, degreesIn, viewIn, meshesIn, heartbeatActions}
+use Rattle.rules.specs.Step.{maintainedReply, heartbeatReply, effect}
 use Rattle.rules.proofs.CaseLaws.{topic-in, arguments, by-gate}
 use Rattle.rules.proofs.HeartbeatLaws.{candidate-connected, view-apart, view-whole, degrees-rules, settled-member}
 use Rattle.rules.proofs.PunishedLaws.{punished-apart, punished-sized}
@@ -338,7 +340,9 @@ module _ (st : State) (size : Sized st) (ok : valid st ≡ true) (time t : ℕ) 
       record {
         grafts = λ s h on.
             no-graft st t (peerIn st s .id) 64
-            ∙ sym (ap (λ (b : Bool). one (not (isMember st t s) && b)) (gone u 0 s ∙ leave-out st t end k size s h) ∙ none (not (isMember st t s)));
+            ∙ sym
+            (ap (λ (b : Bool). one (not (isMember st t s) && b)) (gone u 0 s ∙ leave-out st t end k size s h)
+            ∙ none (not (isMember st t s)));
         prunes = λ s h on.
             after-slot st t s (id-is st size ok s h (λ z. omega (arith, on, z))) 64 h
             ∙ sym (ap (λ (b : Bool). one (isMember st t s && not b)) (gone u 0 s ∙ leave-out st t end k size s h) ∙ all (isMember st t s));

@@ -23,8 +23,8 @@ pub record SamePlace (r q : TopicRecord) : Type 0 where
   pub graft : q .graft ≡ r .graft
 
 -- ---- deliveries: kind 1 first, 2 near-first, 3 invalid; numbers 6 and 9 of a topic are the caps of P2 and P3
--- "first adds 1000 to P2 (to its cap), and for a member also to P3 (to its cap); near-first does the P3 part alone; invalid adds 1000 to P4. P4
--- and P7 stop at 10^6"
+-- "first adds 1000 to P2 (to its cap), and for a member also to P3 (to its cap); near-first does the P3 part alone; invalid adds 1000 to
+-- P4. P4 and P7 stop at 10^6"
 pub record Counted (params : List ℤ) (t kind : ℕ) (r q : TopicRecord) : Type 0 where
   pub p2 : q .p2 ≡ cond (eqb kind 1) (min (r .p2 + 1000) (topicNumber params t 6)) (r .p2)
   pub p3 : q .p3 ≡ cond (not (eqb kind 3) && eqb (r .member) 1) (min (r .p3 + 1000) (topicNumber params t 9)) (r .p3)

@@ -1,6 +1,6 @@
 -- "thrown out at once and kept out": over every list of calls, whom a backoff keeps out of a mesh. No member's backoff runs, nobody is told
--- GRAFT while his backoff runs, and who was told PRUNE, or told it us, is no member before that PRUNE's time is over, though he disconnect and
--- return in between.
+-- GRAFT before a second after his backoff, and who was told PRUNE, or told it us, is no member before that PRUNE's time is over, though he
+-- disconnect and return in between.
 use Prim.Native.Nat.{ℕ, _+_, _≤_, _<_, max, min}
 use mathlib.Core.Path.{_≡_}
 use mathlib.Core.Logic.{_≢_, _⊎_}
@@ -13,7 +13,8 @@ use Rattle.records.specs.Records.{slotCount, topicCount, place, peerIn, topicIn
 use Rattle.cells.specs.View.{stateOf}
 use Rattle.effects.specs.Effects.{isMember, endAfter}
 use Rattle.rules.specs.Reply.{Reply, numberOf}
-use Rattle.rules.specs.Calls.{Call, connect, disconnect, join, leave, subscribe, unsubscribe, graft, prune, deliver, rate, heartbeat, decay, score}
+use Rattle.rules.specs.Calls.{Call, connect, disconnect, join, leave, subscribe, unsubscribe, graft, prune, deliver, rate, heartbeat, decay}
+use Rattle.rules.specs.Calls.{score}
 use Rattle.rules.specs.Step.{step}
 use Rattle.history.specs.Lists.{Made, after}
 use Rattle.history.specs.Demand3.{Accepted}

@@ -11,7 +11,8 @@ use Rattle.table.specs.Valid.{valid}
 use Rattle.sets.specs.Sets.{isPermutation}
 use Rattle.lookup.specs.Name.{meshsub}
 use Rattle.rules.specs.Reply.{numberOf}
-use Rattle.rules.specs.Calls.{Call, connect, disconnect, join, leave, subscribe, unsubscribe, graft, prune, deliver, rate, heartbeat, decay, score, timeOf, inRange}
+use Rattle.rules.specs.Calls.{Call, connect, disconnect, join, leave, subscribe, unsubscribe, graft, prune, deliver, rate, heartbeat, decay}
+use Rattle.rules.specs.Calls.{score, timeOf, inRange}
 use Rattle.rules.specs.Step.{step}
 use Rattle.promises.specs.Ends.{endIn}
 

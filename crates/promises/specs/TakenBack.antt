@@ -1,5 +1,5 @@
--- The law office: "wants them taken back into every neighbour's mesh the moment they return". Whom the published rules let in is let in by his
--- first GRAFT; and whoever sends a GRAFT that is answered 0 is a member afterwards, or is told so by a PRUNE.
+-- The law office: "wants them taken back into every neighbour's mesh the moment they return". Whom the published rules let in is let in by
+-- his first GRAFT; and whoever sends a GRAFT that is answered 0 is a member afterwards, or is told so by a PRUNE.
 use Prim.Native.Nat.{ℕ, _≤_, _<_}
 use mathlib.Core.Path.{_≡_}
 use mathlib.Core.Logic.{_⊎_}
