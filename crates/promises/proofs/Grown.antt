@@ -78,17 +78,17 @@ module _ (params : List ℤ) (st : State) (codes : st .codes ≡ map codeOf para
         (λ n. rw n (ap (λ (r : TopicRecord). r .p3b) e))
 
   -- ---- where nobody moved
-  same-member : (s : ℕ) (m : Bool) → cond (m && (not m && isNegative st s)) (grown s) (was s) ≡ was s
-  same-member s true = refl
-  same-member s false = refl
+  same-member : (m n : Bool) (x y : ℕ) → cond (m && (not m && n)) x y ≡ y
+  same-member true n x y = refl
+  same-member false n x y = refl
 
   grown-still : (time : ℕ) → Grown params t st (setClock st time)
   unfolding isMember isNegative setClock topicIn
-  grown-still time = record { grows = λ s h. sym (same-member s (isMember st t s)); stays = λ s v l n. refl }
+  grown-still time = record { grows = λ s h. sym (same-member (isMember st t s) _ _ _); stays = λ s v l n. refl }
 
   grown-self : Grown params t st st
   unfolding isNegative
-  grown-self = record { grows = λ s h. sym (same-member s (isMember st t s)); stays = λ s v l n. refl }
+  grown-self = record { grows = λ s h. sym (same-member (isMember st t s) _ _ _); stays = λ s v l n. refl }
 
   -- ---- leave
   module _ (size : Sized st) (k : t < 8) (time : ℕ) where

@@ -45,18 +45,18 @@ number-is st params e i =
     ∙ number-code (at params i)
 
 module _ (params : List ℤ) (st : State) (codes : st .codes ≡ map codeOf params) (s : ℕ) where
-  gray-yes : isGraylisted st s ≡ true → Graylisted params st s
-  unfolding isGraylisted
-  gray-yes e =
-      let q = both (eqb (peerIn st s .explicit) 0) _ e in
-      record { plain = eqb-true _ _ (q .0); below = rw (← (number-is st params codes 9)) (q .1) }
-
   gray-no : isGraylisted st s ≡ false → Graylisted params st s → ⊥
   unfolding isGraylisted
   gray-no e g =
       let a : isGraylisted st s ≡ true =
       rw (eq-eqb _ _ (g .plain), number-is st params codes 9) (g .below) in
       false≢true (sym e ∙ a)
+
+  gray-yes : isGraylisted st s ≡ true → Graylisted params st s
+  unfolding isGraylisted
+  gray-yes e =
+      let q = both (eqb (peerIn st s .explicit) 0) _ e in
+      record { plain = eqb-true _ _ (q .0); below = rw (← (number-is st params codes 9)) (q .1) }
 
   -- ---- heard, or not
   abbrev Is : Type 0 → Reply → Type 0
