@@ -47,7 +47,7 @@ sizes st v =
     }
 
 -- the graylist threshold, from its magnitude
-graylist-is :
+pub graylist-is :
     (st : State) → valid st ≡ true →
     numberOf (codeIn st 9) *ℤ pos 1000000 ≡ negℤ (pos (magnitude (codeIn st 9) * 1000000))
 unfolding codeIn limitAt limits

@@ -129,7 +129,7 @@ module _ (params : List ℤ) where
   unfolding peerIn freshState
   fresh-peer s = always slotCount s noPeer
 
-  fresh-topic : (k : ℕ) → topicIn (freshState params) k ≡ noTopic
+  pub fresh-topic : (k : ℕ) → topicIn (freshState params) k ≡ noTopic
   unfolding topicIn freshState
   fresh-topic k = always 512 k noTopic
 

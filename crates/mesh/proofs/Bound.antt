@@ -124,7 +124,7 @@ module _
     (n : ℕ) (t : Degrees) (v : View) (ru : Rules t) (w : Whole n v)
     (apart : (s : ℕ) → at (v .members) s ≡ true → at (v .candidates) s ≡ true → ⊥) where
   -- step 2 or step 3 changes nothing
-  idle : (m : List Bool) → (mesh2 t v m ≡ m) ⊎ (mesh3 n t v (mesh2 t v m) ≡ mesh2 t v m)
+  pub idle : (m : List Bool) → (mesh2 t v m ≡ m) ⊎ (mesh3 n t v (mesh2 t v m) ≡ mesh2 t v m)
   idle m =
       ⊎-elim
       (λ e. inl e)

@@ -1,0 +1,186 @@
+-- Demand 1: every reply behind the gate is a refusal, an `ignored` or a `done`, and each of the three is so by its definition; of the
+-- program, what a promise fixes of the state fixes every cell.
+-- Assumes nothing.
+use Prim.Native.Nat.{ℕ}
+use native.Mathlib.Omega.{arith}
+use mathlib.Core.Path.{_≡_, refl, sym, ap, _∙_}
+use mathlib.Core.Logic.{_≢_}
+use mathlib.Core.Bool.{Bool, true, false, cond}
+use mathlib.Core.List.{List, []}
+use lib.Dec.{eqb, leb}
+use lib.ListN.{length, set, length-set}
+use lib.Seq.{sets}
+use Rattle.index.specs.declared.Found.{Found}
+use Rattle.index.specs.declared.Found.the-variants.{At, Nothing}
+use Rattle.index.proofs.Flags.{cond-case}
+use Rattle.records.specs.Records.{State, slotCount, peerIn, setClock}
+use Rattle.cells.specs.View.{stateOf, cellCount}
+use Rattle.cells.proofs.Whole.{determined}
+use Rattle.cells.proofs.ViewLaws.{clock-store}
+use Rattle.table.specs.Valid.{valid}
+use Rattle.lookup.specs.Find.{findConnected, findRetained, lowestEmpty}
+use Rattle.lookup.specs.declared.Named.{Named}
+use Rattle.lookup.specs.declared.Named.the-variants.{Version, Unknown}
+use Rattle.lookup.specs.Name.{versionOf}
+use Rattle.sets.specs.Sets.{isPermutation}
+use Rattle.effects.specs.Actions.{Action, numbersOf}
+use Rattle.effects.specs.Effects.{isJoined, isMember, backoffRuns, reclaimed}
+use Rattle.rules.specs.declared.Answer.{Answer}
+use Rattle.rules.specs.declared.Answer.the-variants.{Done, Scored, Early, OutOfRange, NotConnected, AlreadyConnected, NoSlot}
+use Rattle.rules.specs.declared.Answer.the-variants.{UnknownProtocol, NotPermutation, ListShort, Ignored, NotRouter}
+use Rattle.rules.specs.declared.Gate.the-variants.{Pass, Refuse}
+use Rattle.rules.specs.Reply.{Reply, numberOf, refuses, refused, ignored, done}
+use Rattle.rules.specs.Calls.{Call, connect, disconnect, join, leave, subscribe, unsubscribe, graft, prune, deliver, rate, heartbeat, decay}
+use Rattle.rules.specs.Calls.{score, timeOf, inRange}
+use Rattle.rules.specs.Step.{actionRoom, isGraylisted, isHeard, graftEnters, gateOf, through, onFound, ofPeer, onVersion, connectAt}
+use Rattle.rules.specs.Step.{connectIn, connectReply, joinReply, leaveActions, leaveReply, subscribeReply, unsubscribeReply, graftRefused}
+use Rattle.rules.specs.Step.{graftOpen, graftBackoff, graftHeard, graftReply, pruneReply, deliverReply, maintainedReply, heartbeatReply}
+use Rattle.rules.specs.Step.{decayReply, effect, step}
+use Rattle.promises.specs.Demand1.{Untouched, Demand1, ProgramDemand1}
+
+module _ (st : State) (time : ℕ) where
+  abbrev Un : Reply → Type 0
+  Un r = Untouched st time r
+
+  -- ---- the shapes of replies
+  un-refused : (a : Answer) → numberOf a ≢ 11 → Un (refused a st)
+  un-refused a n = record { refused = λ x y. (refl, refl); ignored = λ e. absurd (n e) }
+
+  un-ignored : Un (ignored st time)
+  un-ignored = record { refused = λ x y. absurd (y refl); ignored = λ e. (refl, refl) }
+
+  un-done : (u : State) (acts : List Action) → Un (done u time acts)
+  un-done u acts = record { refused = λ x y. absurd (x refl); ignored = λ e. absurd (omega arith) }
+
+  un-cond : (b : Bool) (o q : Reply) → Un o → Un q → Un (cond b o q)
+  un-cond b o q h k = cond-case Un b o q (λ e. h) (λ e. k)
+
+  un-found : (r : Found) (f : ℕ → Reply) (q : Reply) → ((s : ℕ) → Un (f s)) → Un q → Un (onFound r f q)
+  un-found (At s) f q h k = h s
+  un-found Nothing f q h k = k
+
+  un-peer : (id : ℕ) (f : ℕ → Reply) → ((s : ℕ) → Un (f s)) → Un (ofPeer st id f)
+  un-peer id f h = un-found (findConnected st id) f _ h (un-refused NotConnected (λ e. omega arith))
+
+  un-version : (r : Named) (f : ℕ → Reply) (q : Reply) → ((v : ℕ) → Un (f v)) → Un q → Un (onVersion r f q)
+  un-version (Version v) f q h k = h v
+  un-version Unknown f q h k = k
+
+  -- ---- the replies
+  un-connect : (id group flags : ℕ) (name : List ℕ) → Un (connectReply st time id group flags name)
+  unfolding connectReply connectIn connectAt
+  un-connect id group flags name =
+      un-version (versionOf name) _ _
+      (λ v.
+      un-found (findConnected st id) _ _ (λ s. un-refused AlreadyConnected (λ e. omega arith))
+      (un-found (findRetained (reclaimed st time) id) _ _ (λ s. un-done _ [])
+      (un-found (lowestEmpty (reclaimed st time)) _ _ (λ s. un-done _ []) (un-refused NoSlot (λ e. omega arith)))))
+      (un-refused UnknownProtocol (λ e. omega arith))
+
+  un-back : (u : State) (t s : ℕ) → Un (graftRefused u time t s)
+  unfolding graftRefused
+  un-back u t s = un-done _ _
+
+  un-graft : (t s : ℕ) → Un (graftReply st time t s)
+  unfolding graftReply graftHeard graftBackoff graftOpen
+  un-graft t s =
+      un-cond (isHeard st t s) _ _
+      (un-cond (isMember st t s) _ _ (un-done st [])
+      (un-cond (eqb (peerIn st s .explicit) 1) _ _ (un-back st t s)
+      (un-cond (backoffRuns (peerIn st s) t time) _ _ (un-back _ t s)
+      (un-cond (graftEnters st t s) _ _ (un-done _ []) (un-back st t s)))))
+      un-ignored
+
+  un-maintained : (t ask : ℕ) (order : List ℕ) → Un (maintainedReply st time t ask order)
+  unfolding maintainedReply
+  un-maintained t ask order = un-done _ _
+
+  un-heartbeat : (t ask : ℕ) (order : List ℕ) → Un (heartbeatReply st time t ask order)
+  unfolding heartbeatReply
+  un-heartbeat t ask order =
+      un-cond (isPermutation slotCount order) _ _
+      (un-cond (isJoined st t) _ _ (un-maintained t ask order) un-ignored)
+      (un-refused NotPermutation (λ e. omega arith))
+
+un-effect : (st : State) (c : Call) → Untouched st (timeOf c) (effect st c)
+unfolding effect joinReply leaveReply subscribeReply unsubscribeReply pruneReply deliverReply decayReply
+un-effect st (connect time id group flags name) = un-connect st time id group flags name
+un-effect st (disconnect time id) = un-peer st time id _ (λ s. un-done st time _ [])
+un-effect st (join time t) = un-cond st time (isJoined st t) _ _ (un-ignored st time) (un-done st time _ [])
+un-effect st (leave time t) = un-cond st time (isJoined st t) _ _ (un-done st time _ (leaveActions st t slotCount)) (un-ignored st time)
+un-effect st (subscribe time id t) =
+    un-peer st time id _ (λ s. un-cond st time (isGraylisted st s) _ _ (un-ignored st time) (un-done st time _ []))
+un-effect st (unsubscribe time id t) =
+    un-peer st time id _ (λ s. un-cond st time (isGraylisted st s) _ _ (un-ignored st time) (un-done st time _ []))
+un-effect st (graft time id t) = un-peer st time id _ (λ s. un-graft st time t s)
+un-effect st (prune time id t seconds) =
+    un-peer st time id _ (λ s. un-cond st time (isHeard st t s) _ _ (un-done st time _ []) (un-ignored st time))
+un-effect st (deliver time id t kind) =
+    un-peer st time id _ (λ s. un-cond st time (isHeard st t s) _ _ (un-done st time _ []) (un-ignored st time))
+un-effect st (rate time id p5) = un-peer st time id _ (λ s. un-done st time _ [])
+un-effect st (heartbeat time t ask order) = un-heartbeat st time t ask order
+un-effect st (decay time) = un-done st time _ []
+un-effect st (score time id) =
+    un-peer st time id _ (λ s. record { refused = λ x y. absurd (x refl); ignored = λ e. absurd (omega arith) })
+
+-- ---- 12, 2, 8, 1
+un-gate :
+    (v f r k : Bool) (st : State) (time : ℕ) (o : Reply) →
+    Untouched st time o →
+    Untouched st time
+    (through
+    (cond v (cond f (cond r (cond k Pass (Refuse Early)) (Refuse ListShort)) (Refuse OutOfRange)) (Refuse NotRouter))
+    st
+    o)
+un-gate false f r k st time o h = un-refused st time NotRouter (λ e. omega arith)
+un-gate true false r k st time o h = un-refused st time OutOfRange (λ e. omega arith)
+un-gate true true false k st time o h = un-refused st time ListShort (λ e. omega arith)
+un-gate true true true false st time o h = un-refused st time Early (λ e. omega arith)
+un-gate true true true true st time o h = h
+
+pub demand1 : Demand1
+unfolding step gateOf
+demand1 st c room =
+    un-gate (valid st) (inRange c) (leb actionRoom room) (leb (st .clock) (timeOf c)) st (timeOf c) (effect st c) (un-effect st c)
+
+-- ---- the program
+refuses-by : (r : Answer) → numberOf r ≢ 0 → numberOf r ≢ 11 → refuses r ≡ true
+refuses-by (Done n) x y = absurd (x refl)
+refuses-by (Scored z) x y = absurd (x refl)
+refuses-by Early x y = refl
+refuses-by OutOfRange x y = refl
+refuses-by NotConnected x y = refl
+refuses-by AlreadyConnected x y = refl
+refuses-by NoSlot x y = refl
+refuses-by UnknownProtocol x y = refl
+refuses-by NotPermutation x y = refl
+refuses-by ListShort x y = refl
+refuses-by Ignored x y = absurd (y refl)
+refuses-by NotRouter x y = refl
+
+same-list : (list list′ : List ℕ) (acts : List Action) → list′ ≡ sets list 0 (numbersOf acts) → acts ≡ [] → list′ ≡ list
+unfolding numbersOf
+same-list list list′ acts e z = e ∙ rw z
+
+pub program-demand1 : ProgramDemand1
+program-demand1 c r table table′ list list′ f =
+    let o = step (stateOf table) c (length list) in
+    let u = demand1 (stateOf table) c (length list) in
+    let n : numberOf r ≡ numberOf (o .answer) = ap numberOf (f .leaves .answer) in
+    record {
+      refused = λ x y.
+          let w = u .refused (λ e. x (n ∙ e)) (λ e. y (n ∙ e)) in
+          (f .leaves .kept (refuses-by r x y), same-list list list′ (o .actions) (f .actions) (w .1));
+      ignored = λ e.
+          let w = u .ignored (sym n ∙ e) in
+          (moved (w .0), same-list list list′ (o .actions) (f .actions) (w .1));
+    }
+  where
+    moved :
+        step (stateOf table) c (length list) .state ≡ setClock (stateOf table) (timeOf c) →
+        length table ≡ cellCount →
+        length table′ ≡ cellCount →
+        table′ ≡ set table 0 (timeOf c)
+    moved e l l′ =
+        determined table′ (set table 0 (timeOf c)) l′ (length-set table 0 (timeOf c) ∙ l)
+        (f .leaves .state ∙ e ∙ sym (clock-store table l (timeOf c)))

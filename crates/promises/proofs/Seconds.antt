@@ -1,0 +1,101 @@
+-- The seconds that a leave and a heartbeat tell: an action is made from the peer of its slot, and no other connected slot has its id.
+-- Assumes nothing.
+use Prim.{tt}
+use Prim.Native.Nat.{ℕ, zero, suc, _<_}
+use native.Mathlib.Omega.{arith}
+use mathlib.Core.Path.{_≡_, sym, ap, _∙_}
+use mathlib.Core.Bool.{true, cond}
+use mathlib.Core.List.{List, [], _∷_, _++_, map}
+use lib.Dec.{eqb}
+use lib.IntN.{natAbs}
+use Rattle.index.specs.Index.{gather}
+use Rattle.index.proofs.Flags.{cond-case}
+use Rattle.params.specs.Limits.{at}
+use Rattle.records.specs.Records.{State, slotCount, peerIn}
+use Rattle.cells.specs.View.{Sized}
+use Rattle.table.specs.Valid.{valid}
+use Rattle.effects.specs.Actions.{Action, pruneOf}
+use Rattle.effects.specs.Effects.{pruneBackoff, unsubscribeBackoff, isJoined, isMember}
+use Rattle.sets.specs.Sets.{bySlot, isPermutation}
+use Rattle.mesh.specs.Maintenance.{Action as Tell, changesOf, actionsOf}
+use Rattle.rules.specs.declared.Answer.the-variants.{NotPermutation}
+use Rattle.rules.specs.Reply.{Reply, refused, ignored}
+use Rattle.rules.specs.Calls.{leave, heartbeat}
+use Rattle.rules.specs.Step.{toldIn, actionIn, leaveActions, leaveReply, meshesIn, heartbeatActions, maintainedReply, heartbeatReply}
+use Rattle.rules.specs.Step.{effect}
+use Rattle.rules.proofs.CaseLaws.{by-gate}
+use Rattle.history.specs.Lists.{after}
+use Rattle.history.proofs.Standing.{degree-is}
+use Rattle.history.proofs.Demand3.{standing}
+use Rattle.promises.specs.Told.{Each, Seconds, ToldSeconds}
+use Rattle.promises.proofs.Told.{id-is}
+
+each-append : (P : Action → Type 0) (x y : List Action) → Each P x → Each P y → Each P (x ++ y)
+unfolding Each
+each-append P [] y h k = k
+each-append P (a ∷ x) y h k = (h .0, each-append P x y (h .1) k)
+
+module _ (st : State) (size : Sized st) (ok : valid st ≡ true) where
+  -- an action on the peer of slot x is one to the peer with its id
+  same-slot : (x s : ℕ) → s < 64 → peerIn st s .status ≡ 1 → peerIn st s .id ≡ peerIn st x .id → x ≡ s
+  same-slot x s h on e = id-is st size ok s h (λ z. omega (arith, z, on)) x (sym e)
+
+  each-map : (seconds : ℕ) → pruneBackoff st ≡ seconds → (l : List Tell) → Each (Seconds st seconds) (map (actionIn st) l)
+  unfolding Each
+  each-map seconds e [] = tt
+  each-map seconds e (a ∷ l) = (
+    λ s h on q.
+        let w = same-slot (a .slot) s h on q in
+        ap (λ (x : ℕ). cond (eqb (a .kind) 2) (toldIn st x) 0) w
+        ∙ ap (λ (n : ℕ). cond (eqb (a .kind) 2) (cond (eqb (peerIn st s .version) 0) 0 n) 0) e,
+    each-map seconds e l,
+  )
+
+  each-leave : (t seconds : ℕ) → unsubscribeBackoff st ≡ seconds → (n : ℕ) → Each (Seconds st seconds) (leaveActions st t n)
+  unfolding Each leaveActions gather
+  each-leave t seconds e zero = tt
+  each-leave t seconds e (suc n) =
+      each-append (Seconds st seconds) (gather n (λ i. cond (isMember st t i) (pruneOf (peerIn st i) (unsubscribeBackoff st) ∷ []) [])) _
+      (each-leave t seconds e n)
+      (cond-case (Each (Seconds st seconds)) (isMember st t n) (pruneOf (peerIn st n) (unsubscribeBackoff st) ∷ []) []
+      (λ m. (
+        λ s h on q.
+            let w = same-slot n s h on q in
+            ap (λ (x : ℕ). cond (eqb (peerIn st x .version) 0) 0 (unsubscribeBackoff st)) w
+            ∙ ap (λ (k : ℕ). cond (eqb (peerIn st s .version) 0) 0 k) e,
+        tt,
+      ))
+      (λ m. tt))
+
+  leave-seconds : (time t seconds : ℕ) → unsubscribeBackoff st ≡ seconds → Each (Seconds st seconds) (leaveReply st time t .actions)
+  unfolding leaveReply Each
+  leave-seconds time t seconds e =
+      cond-case (λ (r : Reply). Each (Seconds st seconds) (r .actions)) (isJoined st t) _ (ignored st time)
+      (λ j. each-leave t seconds e 64)
+      (λ j. tt)
+
+  heartbeat-seconds : (time t ask seconds : ℕ) (order : List ℕ) → pruneBackoff st ≡ seconds →
+      Each (Seconds st seconds) (heartbeatReply st time t ask order .actions)
+  unfolding heartbeatReply maintainedReply heartbeatActions Each
+  heartbeat-seconds time t ask seconds order e =
+      cond-case (λ (r : Reply). Each (Seconds st seconds) (r .actions)) (isPermutation slotCount order) _ (refused NotPermutation st)
+      (λ right.
+      cond-case (λ (r : Reply). Each (Seconds st seconds) (r .actions)) (isJoined st t) (maintainedReply st time t ask order)
+      (ignored st time)
+      (λ j. each-map seconds e (actionsOf slotCount order (changesOf (bySlot slotCount (isMember st t)) (meshesIn st time t ask order))))
+      (λ j. tt))
+      (λ wrong. tt)
+
+pub told-seconds : ToldSeconds
+unfolding effect Each
+told-seconds params calls fine time t room =
+    let st = after params calls in
+    let w = standing params fine calls in (
+      by-gate (λ (r : Reply). Each (Seconds st (natAbs (at params 6))) (r .actions)) st (leave time t) room
+          (λ a e. tt)
+          (λ p. leave-seconds st (w .size) (w .router) time t (natAbs (at params 6)) (degree-is st params (w .codes) 6)),
+      λ ask order.
+          by-gate (λ (r : Reply). Each (Seconds st (natAbs (at params 5))) (r .actions)) st (heartbeat time t ask order) room
+          (λ a e. tt)
+          (λ p. heartbeat-seconds st (w .size) (w .router) time t ask (natAbs (at params 5)) order (degree-is st params (w .codes) 5)),
+    )

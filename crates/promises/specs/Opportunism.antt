@@ -1,0 +1,56 @@
+-- A heartbeat's numbers, from the sheet's own, and step 5 by them.
+use Prim.Native.Nat.{ℕ, _+_, _*_, _≤_, _<_}
+use mathlib.Core.Path.{_≡_}
+use mathlib.Core.Logic.{_≢_, _⊎_}
+use mathlib.Core.List.{List}
+use lib.IntN.{ℤ, natAbs}
+use Rattle.params.specs.Limits.{at}
+use Rattle.records.specs.Records.{State, slotCount}
+use Rattle.sets.specs.Sets.{size, bySlot, both, above, fill}
+use Rattle.mesh.specs.declared.Degrees.{Degrees}
+use Rattle.mesh.specs.declared.Meshes.{Meshes}
+use Rattle.mesh.specs.Maintenance.{zeroScore, median}
+use Rattle.rules.specs.Step.{isCandidate, heightIn, degreesIn, meshesIn}
+use Rattle.history.specs.Lists.{Made, after}
+use Rattle.history.specs.Demand3.{Accepted}
+
+-- "General, index 0 on: D_lo, D, D_hi [..]; D_out [..]; D_score [..]; opportunistic threshold [..] in thousandths of a point" (index 8).
+-- Scores are moved up by 2.6 × 10^18 here, as maintenance takes them.
+abbrev pub opportunistic : List ℤ → ℕ
+opportunistic params = zeroScore + natAbs (at params 8) * 1000000
+
+abbrev pub sheetDegrees : List ℤ → Degrees
+sheetDegrees params =
+    record {
+      lo = natAbs (at params 0);
+      d = natAbs (at params 1);
+      hi = natAbs (at params 2);
+      out = natAbs (at params 3);
+      score = natAbs (at params 4);
+      threshold = opportunistic params;
+    }
+
+-- "The median of n sorted upward", of the mesh that step 4 left
+abbrev pub middle : State → Meshes → ℕ
+middle st m = median (m .fourth) (bySlot slotCount (heightIn st))
+
+-- "5. If asked, mesh ≥ 2 and median < threshold: graft up to 2 candidates not yet grafted with scores above the median, in draw order."
+pub record Fifth (params : List ℤ) (st : State) (time t ask : ℕ) (order : List ℕ) (m : Meshes) : Type 0 where
+  pub still : (ask ≢ 1) ⊎ ((size (m .fourth) < 2) ⊎ (opportunistic params ≤ middle st m)) → m .fifth ≡ m .fourth
+  pub grafts :
+      ask ≡ 1 →
+      2 ≤ size (m .fourth) →
+      middle st m < opportunistic params →
+      m .fifth
+      ≡ fill
+      (both (bySlot slotCount (isCandidate st time t)) (above (middle st m) (bySlot slotCount (heightIn st))))
+      2
+      order
+      (m .fourth)
+
+pub record FromSheet (params : List ℤ) (st : State) : Type 0 where
+  pub degrees : degreesIn st ≡ sheetDegrees params
+  pub fifth : (time t ask : ℕ) (order : List ℕ) → Fifth params st time t ask order (meshesIn st time t ask order)
+
+abbrev pub Opportunism : Type 0
+Opportunism = (params : List ℤ) (calls : List Made) → Accepted params → FromSheet params (after params calls)
