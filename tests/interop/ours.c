@@ -13,17 +13,6 @@
 #include <stdlib.h>
 #include <string.h>
 
-#ifndef HIVEPADLET_MESSAGE_BYTES
-#define HIVEPADLET_NAMES_BYTES 520
-#define HIVEPADLET_ENTRY_NUMBERS 24576
-uint64_t hivepadlet_names(const uint8_t names[HIVEPADLET_NAMES_BYTES]);
-uint64_t hivepadlet_read_message(const uint8_t names[HIVEPADLET_NAMES_BYTES], const uint8_t *message, size_t length, uint64_t *entries,
-                                 size_t entries_length);
-uint64_t hivepadlet_write_message(const uint8_t names[HIVEPADLET_NAMES_BYTES], const uint32_t *actions, size_t actions_length,
-                                  const uint64_t *topics, size_t topics_length, const uint64_t *changes, size_t changes_length,
-                                  uint8_t *buffer, size_t length);
-#endif
-
 #define LINE_BYTES (1 << 18)
 #define ROOM_BYTES 8192
 #define ITEMS 100

@@ -18,10 +18,10 @@ use Rattle.rules.specs.Step.{isCandidate, heightIn, degreesIn, viewIn, meshesIn
 use Rattle.history.specs.Lists.{after}
 use Rattle.history.proofs.Standing.{degree-is}
 use Rattle.history.proofs.Demand3.{standing}
-use Rattle.promises.specs.Opportunism.{opportunistic, sheetDegrees, Fifth, Opportunism}
+use Rattle.promises.specs.Opportunism.{opportunistic, degreesOf, Fifth, Opportunism}
 
 module _ (params : List ℤ) (st : State) (codes : st .codes ≡ map codeOf params) where
-  degrees-are : degreesIn st ≡ sheetDegrees params
+  degrees-are : degreesIn st ≡ degreesOf params
   unfolding degreesIn
   degrees-are = λ i. record {
     lo = degree-is st params codes 0 i;

@@ -14,7 +14,7 @@ use Rattle.rules.specs.Calls.{deliver, decay}
 use Rattle.rules.specs.Step.{step}
 use Rattle.history.specs.Lists.{Made, after}
 use Rattle.history.specs.Demand3.{Accepted}
-use Rattle.promises.specs.Sheet.{topicNumber}
+use Rattle.promises.specs.Parameters.{topicNumber}
 
 -- what neither deliveries nor decay alter
 pub record SamePlace (r q : TopicRecord) : Type 0 where

@@ -16,7 +16,7 @@ use Rattle.rules.specs.Calls.{leave, heartbeat}
 use Rattle.rules.specs.Step.{step}
 use Rattle.history.specs.Lists.{Made, after}
 use Rattle.history.specs.Demand3.{Accepted}
-use Rattle.promises.specs.Sheet.{topicNumber}
+use Rattle.promises.specs.Parameters.{topicNumber}
 
 -- "P3 = (threshold - counter)² for a member with mesh time > activation and counter < threshold, else 0": numbers 10 and 11 of a topic
 abbrev pub p3Of : List ℤ → ℕ → TopicRecord → ℕ

@@ -19,8 +19,8 @@ use Rattle.history.specs.Demand3.{Accepted}
 abbrev pub opportunistic : List ℤ → ℕ
 opportunistic params = zeroScore + natAbs (at params 8) * 1000000
 
-abbrev pub sheetDegrees : List ℤ → Degrees
-sheetDegrees params =
+abbrev pub degreesOf : List ℤ → Degrees
+degreesOf params =
     record {
       lo = natAbs (at params 0);
       d = natAbs (at params 1);
@@ -49,7 +49,7 @@ pub record Fifth (params : List ℤ) (st : State) (time t ask : ℕ) (order : Li
       (m .fourth)
 
 pub record FromSheet (params : List ℤ) (st : State) : Type 0 where
-  pub degrees : degreesIn st ≡ sheetDegrees params
+  pub degrees : degreesIn st ≡ degreesOf params
   pub fifth : (time t ask : ℕ) (order : List ℕ) → Fifth params st time t ask order (meshesIn st time t ask order)
 
 abbrev pub Opportunism : Type 0
