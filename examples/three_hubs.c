@@ -13,6 +13,7 @@
 #include <inttypes.h>
 #include <stdbool.h>
 #include <stdio.h>
+#include <stdlib.h>
 #include <string.h>
 
 enum { LOBBY, FOURTH, CHEAP, HUBS };
@@ -125,12 +126,23 @@ static void send(int to, struct message m)
     }
 }
 
+/* the length of a message that was written; this host lends enough room and sends nothing but its own calls' actions, so a refusal is a
+ * mistake of its own */
+static size_t written(uint64_t r)
+{
+    if (hivepadlet_number(r) != HIVEPADLET_DONE) {
+        fprintf(stderr, "a message was refused: %u\n", hivepadlet_number(r));
+        exit(1);
+    }
+    return hivepadlet_value(r);
+}
+
 /* an RPC of one action of a call, three numbers, in the topic */
 static struct message action_message(int from, const uint32_t *action)
 {
     static const uint64_t topic[] = { TOPIC };
     struct message m = { .from = from };
-    m.length = hivepadlet_value(hivepadlet_write_message(names, action, 3, topic, 1, topic, 0, m.bytes, MOST_BYTES));
+    m.length = written(hivepadlet_write_message(names, action, 3, topic, 1, topic, 0, m.bytes, MOST_BYTES));
     return m;
 }
 
@@ -140,7 +152,7 @@ static struct message change_message(int from, uint64_t join)
     const uint64_t change[] = { join, TOPIC };
     static const uint32_t none[1];
     struct message m = { .from = from };
-    m.length = hivepadlet_value(hivepadlet_write_message(names, none, 0, change, 0, change, 2, m.bytes, MOST_BYTES));
+    m.length = written(hivepadlet_write_message(names, none, 0, change, 0, change, 2, m.bytes, MOST_BYTES));
     return m;
 }
 

@@ -46,8 +46,8 @@
  * answer (hivepadlet_value), 0 where the table below names none. HIVEPADLET_DONE is 0, so `r & 255` is 0 for success.
  *
  * A call makes its tests in the order 12, 2, 8, 1, 6, 7, 3, 4, 5, 11, those that can concern it, and answers the first that
- * fails; hivepadlet_read in the order 10, 9; hivepadlet_write 8, 9; hivepadlet_fresh 9; hivepadlet_read_message 8, 10;
- * hivepadlet_write_message 2, 13.
+ * fails; hivepadlet_read in the order 10, 9; hivepadlet_write 8, 9; hivepadlet_fresh 9; hivepadlet_names 2;
+ * hivepadlet_read_message 8, 10; hivepadlet_write_message 2, 13.
  *
  * TIMES AND UNITS
  *
@@ -132,7 +132,8 @@ enum hivepadlet_answer {
                                          the bytes end inside it; or the first byte left over; or the length if the bytes end
                                          between numbers. Of a message: where the innermost broken field begins, the first
                                          from the front; 16384 where it is longer */
-    HIVEPADLET_IGNORED = 11,          /* ignored: only the clock moved */
+    HIVEPADLET_IGNORED = 11,          /* ignored: only the clock moved. In the place of an entry's topic: no topic of ours, and no
+                                         clock */
     HIVEPADLET_NOT_ROUTER = 12,       /* the table is no router's: damaged, or never made by hivepadlet_fresh */
     HIVEPADLET_NO_ROOM = 13           /* in writing a message, a buffer shorter than it */
 };
@@ -286,7 +287,8 @@ uint64_t hivepadlet_leave(uint64_t table[HIVEPADLET_CELLS], uint64_t time, uint6
 
 /* The heartbeat's work for one topic: negative members go, a mesh under D_lo or over D_hi is brought to D, D_out outbound
  * peers are seen to; and where ask is 1 (else 0), a mesh whose median score is poor takes in up to two better peers. The caller
- * decides how often to ask; once a minute is usual.
+ * decides how often to ask; once a minute is usual. A peer that had a backoff in the topic is sent a GRAFT from a second after
+ * its end on, so that a neighbour whose clock is a little late does not count it as one during the backoff.
  * permutation: each of 0 to 63 once (permutation_length 64), drawn anew for each call from random numbers that no peer can
  * foresee. Where several peers will do, the one whose slot comes first in it is taken. 0, or 7, or 11 where the topic is not
  * joined. */
