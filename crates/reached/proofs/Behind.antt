@@ -1,11 +1,10 @@
 -- What a list of calls reaches, computed without the first tests: after every list the tables are a router's (crate history), so a call
 -- that is in range and not early passes them, and its reply is its effect.
 -- Assumes nothing.
-use Prim.Native.Nat.{ℕ, _≤_}
 use native.Mathlib.Omega.{arith}
 use mathlib.Core.Path.{_≡_, refl, sym, ap, ap₂, _∙_}
 use mathlib.Core.Bool.{Bool, true, _&&_}
-use mathlib.Core.List.{List, [], _∷_}
+use mathlib.Core.List.{List, [], _∷_, _++_}
 use lib.Dec.{leb}
 use borrow.Author.Tests.{leb-true}
 use Rattle.index.proofs.Index.{both}
@@ -82,6 +81,18 @@ replies-given before (c ∷ rest) e =
     let n = next before c (q .0) in
     ap₂ _∷_ (reply-effect before c (q .0)) (replies-given (lent c ∷ before) rest (rw n (q .1)) ∙ ap (λ (st : State). given st rest) n)
 
+-- a list with one call more at its end
+pub passes-last :
+    (st : State) (calls : List Call) (c : Call) →
+    passes st (calls ++ c ∷ []) ≡ true →
+    (passes st calls ≡ true) × (passes-one (left st calls) c ≡ true)
+unfolding passes left
+passes-last st [] c e = (refl, both (passes-one st c) true e .0)
+passes-last st (x ∷ calls) c e =
+    let w = both (passes-one st x) (passes (effect st x .state) (calls ++ c ∷ [])) e in
+    let v = passes-last (effect st x .state) calls c (w .1) in
+    (rw (w .0) (v .0), v .1)
+
 -- ---- from a fresh router
 abbrev pub start : State
 start = freshState ordinaryNumbers
@@ -95,8 +106,10 @@ module _ (calls : List Call) (e : passes start calls ≡ true) where
   unfolding after
   replies-start = replies-given [] calls e
 
-  pub asked-effect : (c : Call) → passes-one (left start calls) c ≡ true → asked calls c ≡ effect (left start calls) c
-  unfolding asked after
-  asked-effect c o =
-      let n : at (behind [] calls) ≡ left start calls = behind-left [] calls e in
-      reply-effect (behind [] calls) c (rw n o) ∙ ap (λ (st : State). effect st c) n
+pub asked-effect :
+    (calls : List Call) (c : Call) → passes start (calls ++ c ∷ []) ≡ true → asked calls c ≡ effect (left start calls) c
+unfolding asked after
+asked-effect calls c e =
+    let w = passes-last start calls c e in
+    let n : at (behind [] calls) ≡ left start calls = behind-left [] calls (w .0) in
+    reply-effect (behind [] calls) c (rw n (w .1)) ∙ ap (λ (st : State). effect st c) n

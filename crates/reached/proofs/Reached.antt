@@ -1,7 +1,8 @@
 -- The reached examples, by computation of the effects of their calls (Behind).
 -- Assumes nothing.
 use Prim.Native.Nat.{ℕ}
-use mathlib.Core.Path.{refl, ap}
+use mathlib.Core.Path.{_≡_, refl, ap}
+use mathlib.Core.Bool.{true}
 use mathlib.Core.List.{List, [], _∷_, _++_, map}
 use Rattle.index.specs.Index.{every, first, count, iter, gather}
 use Rattle.params.specs.Ordinary.{ordinaryNumbers}
@@ -116,7 +117,7 @@ use Rattle.reached.specs.Reached.{
   prunedFor60,
   Reached,
 }
-use Rattle.reached.proofs.Behind.{passes, left, given, reached-left, replies-start, asked-effect}
+use Rattle.reached.proofs.Behind.{passes, left, given, passes-last, start, reached-left, replies-start, asked-effect}
 
 abbrev meshAfter : Reply → ℕ
 meshAfter r = meshSize (r .state) 0
@@ -139,19 +140,21 @@ unfolding passes left given refusals membersIn mixed worked come enter bring ele
     heartbeatActions maintainedReply heartbeatReply effect
 table =
     let all = replies-start worked refl in
-    let at13 = reached-left thirteen refl in
-    let at60 = reached-left prunedFor60 refl in
-    let early = asked-effect prunedFor60 refl (graft 69999 45 0) refl in
-    let late = asked-effect prunedFor60 refl (graft 70000 45 0) refl in
-    let in11 = asked-effect (eleven ++ come 0 (101 ∷ [])) refl (graft 10000 101 0) refl in
-    let in12 = asked-effect (twelve ++ come 0 (101 ∷ [])) refl (graft 10000 101 0) refl in
-    let out12 = asked-effect (twelve ++ come 1 (101 ∷ [])) refl (graft 10000 101 0) refl in
-    let kept13 = asked-effect (thirteen ++ come 1 (101 ∷ [])) refl (heartbeat 10000 0 0 mixed) refl in
-    let kept12 = asked-effect (twelve ++ come 1 (101 ∷ 102 ∷ [])) refl (heartbeat 10000 0 0 mixed) refl in
+    let pass13 : passes start thirteen ≡ true = refl in
+    let at13 = reached-left thirteen pass13 in
+    let pass60 : passes start (prunedFor60 ++ graft 69999 45 0 ∷ []) ≡ true = refl in
+    let at60 = reached-left prunedFor60 (passes-last start prunedFor60 (graft 69999 45 0) pass60 .0) in
+    let early = asked-effect prunedFor60 (graft 69999 45 0) pass60 in
+    let late = asked-effect prunedFor60 (graft 70000 45 0) refl in
+    let in11 = asked-effect (eleven ++ come 0 (101 ∷ [])) (graft 10000 101 0) refl in
+    let in12 = asked-effect (twelve ++ come 0 (101 ∷ [])) (graft 10000 101 0) refl in
+    let out12 = asked-effect (twelve ++ come 1 (101 ∷ [])) (graft 10000 101 0) refl in
+    let kept13 = asked-effect (thirteen ++ come 1 (101 ∷ [])) (heartbeat 10000 0 0 mixed) refl in
+    let kept12 = asked-effect (twelve ++ come 1 (101 ∷ 102 ∷ [])) (heartbeat 10000 0 0 mixed) refl in
     record {
       workedAnswers = ap (map answerOf) all;
       workedActions = ap (map toldIn) all;
-      heard = ap refusals (replies-start thirteen refl);
+      heard = ap refusals (replies-start thirteen pass13);
       members = ap membersIn at13;
       scores = ap (λ (st : State). bySlot 13 (scoreIn st)) at13;
       running = ap (λ (st : State). backoffRuns (peerIn st 2) 0 69999) at60;

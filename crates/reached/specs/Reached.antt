@@ -5,7 +5,7 @@ use Prim.Native.Nat.{ℕ, _+_, _*_, _%_}
 use mathlib.Core.Path.{_≡_}
 use mathlib.Core.Bool.{true, false, cond}
 use mathlib.Core.List.{List, [], _∷_, _++_, map}
-use lib.IntN.{ℤ, pos, negsuc}
+use lib.IntN.{pos, negsuc}
 use Rattle.index.specs.Index.{gather}
 use Rattle.params.specs.Ordinary.{ordinaryNumbers}
 use Rattle.records.specs.Records.{State, slotCount, peerIn}
