@@ -1,4 +1,5 @@
 -- 01's bench list, the lines marked [p], in one table: what the definitions of the rules give. To be changed with 01's list alone.
+-- Crate reached has the lines that run calls once more, from states that calls reach.
 use Prim.Native.Nat.{ℕ, zero, suc}
 use mathlib.Core.Path.{_≡_}
 use mathlib.Core.Bool.{true, false}

@@ -1,0 +1,72 @@
+-- What 01 and 02 say of every score beside its formula (crate score, specs/Formula.antt and specs/Score.antt). To be changed with it.
+use Prim.Native.Nat.{ℕ, _*_, _<_, _≤_}
+use mathlib.Core.Path.{_≡_}
+use mathlib.Core.Bool.{true, false}
+use lib.IntN.{pos, natAbs, _+ℤ_}
+use lib.Signed.{leZ}
+use Rattle.records.specs.Records.{State, slotCount, topicCount, place, codeIn, peerIn, topicIn}
+use Rattle.table.specs.Valid.{valid}
+use Rattle.score.specs.declared.Why.{Why}
+use Rattle.score.specs.Score.{sizeIn, sharing, whyIn, scoreIn}
+
+-- "No score passes 2.6 × 10^18 either way.": in no router's state, of no slot
+abbrev pub NoScorePasses : Type 0
+NoScorePasses =
+    (st : State) (s : ℕ) → valid st ≡ true → s < slotCount → natAbs (scoreIn st s) ≤ 2600000000000000000
+
+-- nor does a part: each has a bound of its own, by the ranges of the parameters and counters
+pub record PartsWithin (w : Why) : Type 0 where
+  -- 8 topics × 1000 × 100 × 3 × 10^12
+  pub topics : natAbs (w .topics) ≤ 2400000000000000000
+  pub capped : natAbs (w .capped) ≤ 2400000000000000000
+  -- 100 × 10^9 × 1000; 100 × 63² × 10^9; 100 × 10^12 × 1000
+  pub p5 : natAbs (w .p5) ≤ 100000000000000
+  pub p6 : natAbs (w .p6) ≤ 396900000000000
+  pub p7 : natAbs (w .p7) ≤ 100000000000000000
+
+abbrev pub NoPartPasses : Type 0
+NoPartPasses = (st : State) (s : ℕ) → valid st ≡ true → s < slotCount → PartsWithin (whyIn st s)
+
+-- "One peer's score depends on its own record, the sheet, and the number of connected peers in its group, and on nothing else.": the peer
+-- in slot s of a state and the one in slot u of another, of any two states
+abbrev pub DependsOnNothingElse : Type 0
+DependsOnNothingElse =
+    (st : State) (s : ℕ) (other : State) (u : ℕ) →
+    -- the sheet
+    ((i : ℕ) → codeIn st i ≡ codeIn other i) →
+    -- its own record: P5, the P7 counter, and what it holds for each topic
+    peerIn st s .p5 ≡ peerIn other u .p5 →
+    peerIn st s .p7 ≡ peerIn other u .p7 →
+    ((t : ℕ) → t < topicCount → topicIn st (place s t) ≡ topicIn other (place u t)) →
+    -- the number of connected peers in its group
+    sharing st (peerIn st s .group) ≡ sharing other (peerIn other u .group) →
+    -- the score, and each of its parts
+    (scoreIn st s ≡ scoreIn other u) × (whyIn st s ≡ whyIn other u)
+
+-- "the last four's sum being the score" (02, order 5)
+abbrev pub LastFourAdd : Type 0
+LastFourAdd =
+    (st : State) (s : ℕ) →
+    scoreIn st s ≡ whyIn st s .capped +ℤ whyIn st s .p5 +ℤ whyIn st s .p6 +ℤ whyIn st s .p7
+
+-- "a non-zero topic cap × 1,000,000 bounds that total from above only"; the cap is the general number 12
+pub record CapsFromAbove (st : State) (s : ℕ) : Type 0 where
+  -- a cap of 0 is none
+  pub none : sizeIn st 12 ≡ 0 → whyIn st s .capped ≡ whyIn st s .topics
+  -- a total that is no more than the cap stays as it is, however low
+  pub below : leZ (whyIn st s .topics) (pos (sizeIn st 12 * 1000000)) ≡ true → whyIn st s .capped ≡ whyIn st s .topics
+  -- a higher one becomes the cap
+  pub above :
+      0 < sizeIn st 12 →
+      leZ (whyIn st s .topics) (pos (sizeIn st 12 * 1000000)) ≡ false →
+      whyIn st s .capped ≡ pos (sizeIn st 12 * 1000000)
+
+abbrev pub BoundsFromAboveOnly : Type 0
+BoundsFromAboveOnly = (st : State) (s : ℕ) → CapsFromAbove st s
+
+pub record ScoreClaims : Type 0 where
+  pub most : NoScorePasses
+  pub parts : NoPartPasses
+  pub depends : DependsOnNothingElse
+  pub sum : LastFourAdd
+  pub cap : BoundsFromAboveOnly
