@@ -16,7 +16,7 @@ use Rattle.rpc_write.specs.declared.Wrote.{Wrote}
 use Rattle.rpc_write.specs.declared.Wrote.the-variants.{Done, NotList, Short}
 use Rattle.rpc_write.specs.Writing.{Writing, listOk, messageOf, writeOf, wroteNumber, wroteValue}
 use Rattle.rpc_actions.specs.Actions.{actionsOk, changesOk, entriesOf, entryCount, writeActionsOf}
-use Rattle.round_trip.specs.RoundTrip.{CallReadsBack, CallWritesAgain}
+use Rattle.round_trip.specs.RoundTrip.{inOrder, CallReadsBack}
 use Rattle.round_trip.proofs.Triples.{order-ok, writes-again}
 use Rattle.round_trip.proofs.RoundTrip.{reads-back}
 
@@ -33,7 +33,7 @@ module _ (names actions topics changes buf : List ℕ) (size : ℕ)
   abbrev n : ℕ
   n = entryCount topics changes
 
-  record Accepted : Type 0 where
+  pub record Accepted : Type 0 where
     pub call : writeActionsOf names actions topics changes buf ≡ writeOf names L n buf
     pub ok : listOk names L n ≡ true
     pub room : length (messageOf names L n) ≤ length buf
@@ -42,7 +42,7 @@ module _ (names actions topics changes buf : List ℕ) (size : ℕ)
   not-done : (a : Wrote) → writeActionsOf names actions topics changes buf .answer ≡ a → (wroteNumber a ≡ 0 → ⊥) → Accepted
   not-done a f h = absurd (h (ap wroteNumber (sym f ∙ e)))
 
-  accepted : Accepted
+  pub accepted : Accepted
   unfolding writeActionsOf writeOf
   accepted =
       by-test Accepted (actionsOk actions topics && changesOk changes)
@@ -77,9 +77,14 @@ call-reads-back names actions topics changes buf lent size set e h =
     ap (λ (x : List ℕ). readOf names x lent) (left names actions topics changes buf size e)
     ∙ reads-back names (entriesOf actions topics changes) lent (entryCount topics changes) set (a .ok) h
 
-pub call-writes-again : CallWritesAgain
+-- the entries in order 1's order, written again
+pub order-again :
+    (names actions topics changes buf : List ℕ) (size : ℕ) →
+    writeActionsOf names actions topics changes buf .answer ≡ Done size →
+    writeOf names (inOrder (entriesOf actions topics changes) (entryCount topics changes)) (entryCount topics changes) buf
+    ≡ writeActionsOf names actions topics changes buf
 unfolding writeOf
-call-writes-again names actions topics changes buf size e =
+order-again names actions topics changes buf size e =
     let a = accepted names actions topics changes buf size e in
     let l = entriesOf actions topics changes in
     let k = entryCount topics changes in
