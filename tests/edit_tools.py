@@ -1,7 +1,7 @@
 """What the scripts over edits share: an edit's parts, its text put in, and a copy of the tree in which an edit is tried.
 
-An edit has a line `# what the wrong program would do`, and after each `file:` line pairs of lines `old:` and `new:`. Each pair is put into the
-text that the one before left, as `rt must-fail` does.
+An edit has a line `# what the wrong program would do`, and after each `file:` line pairs of lines `old:` and `new:`. Each pair is put into
+the text that the one before left, as `rt must-fail` does.
 """
 import os
 import re
@@ -59,7 +59,7 @@ def copied(copy):
 
 
 def tried(copy, crate, pairs, checked):
-    """What a check says of the crate `checked` with the pairs put into `crate`, whose files are put back after it; or why it was not tried."""
+    """What a check of the crate `checked` says with the pairs put into `crate`, whose files are put back; or why it was not tried."""
     texts, why = edited(os.path.join(copy, "crates", crate), pairs)
     if why:
         return "", why
