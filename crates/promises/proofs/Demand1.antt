@@ -173,7 +173,7 @@ program-demand1 c r table table′ list list′ f =
           (f .leaves .kept (refuses-by r x y), same-list list list′ (o .actions) (f .actions) (w .1));
       ignored = λ e.
           let w = u .ignored (sym n ∙ e) in
-          (moved (w .0), same-list list list′ (o .actions) (f .actions) (w .1));
+          (λ l l′. moved (w .0) l (omega (arith, l′)), same-list list list′ (o .actions) (f .actions) (w .1));
     }
   where
     moved :

@@ -28,13 +28,12 @@ use Rattle.rules.specs.declared.Answer.the-variants.{NotPermutation}
 use Rattle.rules.specs.Reply.{Reply, refused, ignored}
 use Rattle.rules.specs.Calls.{leave, heartbeat, topicOk}
 use Rattle.rules.specs.Step.{isNegative, punished, leaveSlot, leaveReply, meshesIn, settleSlot, maintainedReply, heartbeatReply, effect}
+use Rattle.rules.specs.Step.{step}
 use Rattle.rules.proofs.CaseLaws.{topic-in, arguments, by-gate}
 use Rattle.rules.proofs.PunishedLaws.{punished-sized}
 use Rattle.rules.proofs.HeartbeatLaws.{settled-sized, settled-member}
-use Rattle.history.specs.Lists.{after}
 use Rattle.history.proofs.Standing.{degree-is}
-use Rattle.history.proofs.Demand3.{standing}
-use Rattle.promises.specs.Grown.{p3Of, Grown, P3bGrows}
+use Rattle.promises.specs.Grown.{p3Of, Grown}
 use Rattle.promises.proofs.Told.{leave-sized, leave-out}
 
 module _ (params : List ℤ) (st : State) (codes : st .codes ≡ map codeOf params) (t : ℕ) where
@@ -213,18 +212,21 @@ module _ (params : List ℤ) (st : State) (codes : st .codes ≡ map codeOf para
       (λ j. grown-still time))
       (λ wrong. grown-self)
 
-pub p3b-grows : P3bGrows
-unfolding effect
-p3b-grows params calls fine time t room =
-    let st = after params calls in
-    let w = standing params fine calls in (
+-- ---- leave and heartbeat, through the gate
+module _ (params : List ℤ) (st : State) (codes : st .codes ≡ map codeOf params) (size : Sized st) where
+  pub grown-by-leave : (time t room : ℕ) → Grown params t st (step st (leave time t) room .state)
+  unfolding effect
+  grown-by-leave time t room =
       by-gate (λ (r : Reply). Grown params t st (r .state)) st (leave time t) room
-          (λ a e. grown-self params st (w .codes) t)
-          (λ p. grown-leave params st (w .codes) t (w .size) (topic-in t (arguments (leave time t) (p .ranges))) time),
-      λ ask order.
-          by-gate (λ (r : Reply). Grown params t st (r .state)) st (heartbeat time t ask order) room
-          (λ a e. grown-self params st (w .codes) t)
-          (λ p.
-          grown-heartbeat params st (w .codes) t (w .size)
-          (topic-in t (both (topicOk t) (leb ask 1) (arguments (heartbeat time t ask order) (p .ranges)) .0)) time ask order),
-    )
+      (λ a e. grown-self params st codes t)
+      (λ p. grown-leave params st codes t size (topic-in t (arguments (leave time t) (p .ranges))) time)
+
+  pub grown-by-heartbeat :
+      (time t ask room : ℕ) (order : List ℕ) → Grown params t st (step st (heartbeat time t ask order) room .state)
+  unfolding effect
+  grown-by-heartbeat time t ask room order =
+      by-gate (λ (r : Reply). Grown params t st (r .state)) st (heartbeat time t ask order) room
+      (λ a e. grown-self params st codes t)
+      (λ p.
+      grown-heartbeat params st codes t size
+      (topic-in t (both (topicOk t) (leb ask 1) (arguments (heartbeat time t ask order) (p .ranges)) .0)) time ask order)

@@ -1,9 +1,10 @@
--- The seconds that a leave and a heartbeat tell: an action is made from the peer of its slot, and no other connected slot has its id.
+-- The seconds that a leave, a heartbeat and a refused GRAFT tell: an action is made from the peer of its slot, and no other connected slot
+-- has its id.
 -- Assumes nothing.
 use Prim.{tt}
 use Prim.Native.Nat.{ℕ, zero, suc, _<_}
 use native.Mathlib.Omega.{arith}
-use mathlib.Core.Path.{_≡_, sym, ap, _∙_}
+use mathlib.Core.Path.{_≡_, refl, sym, ap, ap₂, _∙_}
 use mathlib.Core.Bool.{true, cond}
 use mathlib.Core.List.{List, [], _∷_, _++_, map}
 use lib.Dec.{eqb}
@@ -11,19 +12,22 @@ use lib.IntN.{natAbs}
 use Rattle.index.specs.Index.{gather}
 use Rattle.index.proofs.Flags.{cond-case}
 use Rattle.params.specs.Limits.{at}
-use Rattle.records.specs.Records.{State, slotCount, peerIn}
+use Rattle.records.specs.declared.Peer.{Peer}
+use Rattle.records.specs.Records.{State, slotCount, peerIn, setPeer}
 use Rattle.cells.specs.View.{Sized}
+use Rattle.cells.proofs.StateLaws.{peer-same, code-after-peer}
 use Rattle.table.specs.Valid.{valid}
 use Rattle.effects.specs.Actions.{Action, pruneOf}
-use Rattle.effects.specs.Effects.{pruneBackoff, unsubscribeBackoff, isJoined, isMember}
+use Rattle.score.specs.Counters.{countMost, raisedOf}
+use Rattle.effects.specs.Effects.{pruneBackoff, unsubscribeBackoff, withP7, isJoined, isMember, backoffRuns}
 use Rattle.sets.specs.Sets.{bySlot, isPermutation}
 use Rattle.mesh.specs.Maintenance.{Action as Tell, changesOf, actionsOf}
 use Rattle.rules.specs.declared.Answer.the-variants.{NotPermutation}
-use Rattle.rules.specs.Reply.{Reply, refused, ignored}
-use Rattle.rules.specs.Calls.{leave, heartbeat}
+use Rattle.rules.specs.Reply.{Reply, refused, ignored, done}
+use Rattle.rules.specs.Calls.{leave, graft, heartbeat}
 use Rattle.rules.specs.Step.{toldIn, actionIn, leaveActions, leaveReply, meshesIn, heartbeatActions, maintainedReply, heartbeatReply}
-use Rattle.rules.specs.Step.{effect}
-use Rattle.rules.proofs.CaseLaws.{by-gate}
+use Rattle.rules.specs.Step.{isHeard, graftEnters, graftRefused, graftOpen, graftBackoff, graftHeard, graftReply, effect}
+use Rattle.rules.proofs.CaseLaws.{by-peer, by-gate}
 use Rattle.history.specs.Lists.{after}
 use Rattle.history.proofs.Standing.{degree-is}
 use Rattle.history.proofs.Demand3.{standing}
@@ -86,6 +90,46 @@ module _ (st : State) (size : Sized st) (ok : valid st ≡ true) where
       (λ j. tt))
       (λ wrong. tt)
 
+  -- ---- GRAFT in: u is the state whose P7 was raised before the PRUNE, or st itself
+  module _ (time t i seconds : ℕ) (e : pruneBackoff st ≡ seconds) where
+    refused-seconds :
+        (u : State) →
+        peerIn u i .id ≡ peerIn st i .id →
+        peerIn u i .version ≡ peerIn st i .version →
+        pruneBackoff u ≡ pruneBackoff st →
+        Each (Seconds st seconds) (graftRefused u time t i .actions)
+    unfolding graftRefused Each
+    refused-seconds u id version backoff = (
+      λ s h on q.
+          let w = same-slot i s h on (q ∙ id) in
+          ap₂ (λ (v n : ℕ). cond (eqb v 0) 0 n) (version ∙ ap (λ (x : ℕ). peerIn st x .version) w) (backoff ∙ e),
+      tt,
+    )
+
+    early-seconds : (n : ℕ) → i < 64 → Each (Seconds st seconds) (graftRefused (setPeer st i (withP7 (peerIn st i) n)) time t i .actions)
+    unfolding withP7
+    early-seconds n h =
+        let p = withP7 (peerIn st i) n in
+        let same : peerIn (setPeer st i p) i ≡ p = peer-same st i p (omega (arith, size .peers, h)) in
+        refused-seconds (setPeer st i p) (ap (λ (x : Peer). x .id) same) (ap (λ (x : Peer). x .version) same)
+        (rw (code-after-peer st i p 5))
+
+    graft-seconds : i < 64 → Each (Seconds st seconds) (graftReply st time t i .actions)
+    unfolding graftReply graftHeard graftBackoff graftOpen Each
+    graft-seconds h =
+        let P : Reply → Type 0 = λ r. Each (Seconds st seconds) (r .actions) in
+        let told = refused-seconds st refl refl refl in
+        cond-case P (isHeard st t i) _ (ignored st time)
+        (λ j.
+        cond-case P (isMember st t i) (done st time []) _ (λ m. tt)
+        (λ m.
+        cond-case P (eqb (peerIn st i .explicit) 1) (graftRefused st time t i) _ (λ x. told)
+        (λ x.
+        cond-case P (backoffRuns (peerIn st i) t time) (graftRefused _ time t i) _
+        (λ b. early-seconds (raisedOf (peerIn st i .p7) countMost) h)
+        (λ b. cond-case P (graftEnters st t i) _ (graftRefused st time t i) (λ g. tt) (λ g. told)))))
+        (λ j. tt)
+
 pub told-seconds : ToldSeconds
 unfolding effect Each
 told-seconds params calls fine time t room =
@@ -98,4 +142,10 @@ told-seconds params calls fine time t room =
           by-gate (λ (r : Reply). Each (Seconds st (natAbs (at params 5))) (r .actions)) st (heartbeat time t ask order) room
           (λ a e. tt)
           (λ p. heartbeat-seconds st (w .size) (w .router) time t ask (natAbs (at params 5)) order (degree-is st params (w .codes) 5)),
+      λ id.
+          by-gate (λ (r : Reply). Each (Seconds st (natAbs (at params 5))) (r .actions)) st (graft time id t) room
+          (λ a e. tt)
+          (λ p.
+          by-peer (λ (r : Reply). Each (Seconds st (natAbs (at params 5))) (r .actions)) st id _ tt (λ s h on.
+          graft-seconds st (w .size) (w .router) time t s (natAbs (at params 5)) (degree-is st params (w .codes) 5) h)),
     )

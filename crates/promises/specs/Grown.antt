@@ -1,18 +1,18 @@
 -- "P3b grows by P3 as it stands when we PRUNE a member whose score is negative at the start of the call." Members are PRUNEd by leave and
--- heartbeat alone; P3's numbers are the sheet's own.
-use Prim.Native.Nat.{ℕ, _+_, _-_, _*_, _<_, min}
+-- heartbeat alone, and no other call raises P3b; P3's numbers are the sheet's own.
+use Prim.Native.Nat.{ℕ, _+_, _-_, _*_, _≤_, _<_, min}
 use mathlib.Core.Path.{_≡_}
-use mathlib.Core.Logic.{_≢_}
+use mathlib.Core.Logic.{_≢_, _⊎_}
 use mathlib.Core.Bool.{cond, not, _&&_}
 use mathlib.Core.List.{List}
 use lib.Dec.{eqb, ltb}
 use lib.IntN.{ℤ, pos}
 use lib.Signed.{ltZ}
 use Rattle.records.specs.declared.TopicRecord.{TopicRecord}
-use Rattle.records.specs.Records.{State, slotCount, topicCount, place, topicIn}
+use Rattle.records.specs.Records.{State, slotCount, topicCount, place, peerIn, topicIn}
 use Rattle.effects.specs.Effects.{isMember}
 use Rattle.score.specs.Score.{scoreIn}
-use Rattle.rules.specs.Calls.{leave, heartbeat}
+use Rattle.rules.specs.Calls.{Call, connect, leave, heartbeat}
 use Rattle.rules.specs.Step.{step}
 use Rattle.history.specs.Lists.{Made, after}
 use Rattle.history.specs.Demand3.{Accepted}
@@ -40,11 +40,31 @@ pub record Grown (params : List ℤ) (t : ℕ) (st u : State) : Type 0 where
   -- and in no other topic
   pub stays : (s v : ℕ) → v < topicCount → v ≢ t → topicIn u (place s v) .p3b ≡ topicIn st (place s v) .p3b
 
+-- the P3b counter of slot s in topic t
+abbrev pub p3bIn : State → ℕ → ℕ → ℕ
+p3bIn st s t = topicIn st (place s t) .p3b
+
+-- a call from st to u that leaves it higher is a leave or a heartbeat of its topic
+abbrev pub OnlyByPrune : Call → State → State → ℕ → ℕ → Type 0
+OnlyByPrune c st u s t =
+    (p3bIn u s t ≤ p3bIn st s t)
+    ⊎ ((time : ℕ) × (c ≡ leave time t))
+    ⊎ ((time : ℕ) × (ask : ℕ) × (order : List ℕ) × (c ≡ heartbeat time t ask order))
+
+-- what the calls do to P3b, from st
+pub record Deficits (params : List ℤ) (st : State) : Type 0 where
+  pub left : (time t room : ℕ) → Grown params t st (step st (leave time t) room .state)
+  pub maintained :
+      (time t ask room : ℕ) (order : List ℕ) → Grown params t st (step st (heartbeat time t ask order) room .state)
+  -- no other call raises it
+  pub only : (c : Call) (room s t : ℕ) → s < slotCount → t < topicCount → OnlyByPrune c st (step st c room .state) s t
+  -- a record that a connect makes anew has none: its slot holds another id than before
+  pub anew :
+      (time id group flags room s t : ℕ) (name : List ℕ) →
+      s < slotCount →
+      t < topicCount →
+      peerIn (step st (connect time id group flags name) room .state) s .id ≢ peerIn st s .id →
+      p3bIn (step st (connect time id group flags name) room .state) s t ≡ 0
+
 abbrev pub P3bGrows : Type 0
-P3bGrows =
-    (params : List ℤ) (calls : List Made) →
-    Accepted params →
-    (time t room : ℕ) →
-    Grown params t (after params calls) (step (after params calls) (leave time t) room .state)
-    × ((ask : ℕ) (order : List ℕ) →
-    Grown params t (after params calls) (step (after params calls) (heartbeat time t ask order) room .state))
+P3bGrows = (params : List ℤ) (calls : List Made) → Accepted params → Deficits params (after params calls)

@@ -1,10 +1,12 @@
 -- 01's table of numbers, row by row and apart from the order in which the rules test: a number is answered exactly if its row's words
 -- hold, and the rows that are tested before it do not. Of every state, call and room. 11 and 0 are in Ignored.
-use Prim.Native.Nat.{ℕ, _≤_, _<_}
+use Prim.Native.Nat.{ℕ, _^_, _≤_, _<_}
 use mathlib.Core.Path.{_≡_}
 use mathlib.Core.Logic.{_≢_, _⊎_, _↔_}
 use mathlib.Core.Bool.{true, false}
 use mathlib.Core.List.{List}
+use lib.IntN.{ℤ, pos, negℤ}
+use lib.Signed.{ltZ}
 use Rattle.records.specs.Records.{State, slotCount, topicCount, peerIn}
 use Rattle.cells.specs.View.{Sized}
 use Rattle.table.specs.Valid.{valid}
@@ -42,6 +44,59 @@ pub record Rows (st : State) (c : Call) (room : ℕ) (n : ℕ) : Type 0 where
 
 abbrev pub FirstRows : Type 0
 FirstRows = (st : State) (c : Call) (room : ℕ) → Rows st c room (numberOf (step st c room .answer))
+
+-- ---- 2: the ranges in 01's words, call by call
+-- "Times are milliseconds, 0 to 2^40."
+abbrev pub TimeIn : ℕ → Type 0
+TimeIn time = time ≤ 2 ^ 40
+
+-- "Peer ids are 1 to 4,294,967,295."
+abbrev pub IdIn : ℕ → Type 0
+IdIn id = (1 ≤ id) × (id ≤ 4294967295)
+
+-- "8 topics (0 to 7)"
+abbrev pub TopicIn : ℕ → Type 0
+TopicIn t = t ≤ 7
+
+-- "address group (32 bits)"
+abbrev pub GroupIn : ℕ → Type 0
+GroupIn group = group < 2 ^ 32
+
+-- "flags (1 outbound + 2 explicit)"
+abbrev pub FlagsIn : ℕ → Type 0
+FlagsIn flags = flags ≤ 3
+
+-- "kind (1 first, 2 near-first, 3 invalid)"
+abbrev pub KindIn : ℕ → Type 0
+KindIn kind = (1 ≤ kind) × (kind ≤ 3)
+
+-- "a yes or no for opportunism"
+abbrev pub AskIn : ℕ → Type 0
+AskIn ask = ask ≤ 1
+
+-- "P5 is set by the host, ±10^9 millionths": neither below the one end nor above the other
+abbrev pub P5In : ℤ → Type 0
+P5In p5 = (ltZ p5 (negℤ (pos 1000000000)) ≡ false) × (ltZ (pos 1000000000) p5 ≡ false)
+
+-- what each call asks besides its time; a PRUNE's seconds have no range, a name and a draw have numbers of their own (6, 7)
+abbrev pub ArgumentsIn : Call → Type 0
+ArgumentsIn (connect time id group flags name) = IdIn id × GroupIn group × FlagsIn flags
+ArgumentsIn (disconnect time id) = IdIn id
+ArgumentsIn (join time t) = TopicIn t
+ArgumentsIn (leave time t) = TopicIn t
+ArgumentsIn (subscribe time id t) = IdIn id × TopicIn t
+ArgumentsIn (unsubscribe time id t) = IdIn id × TopicIn t
+ArgumentsIn (graft time id t) = IdIn id × TopicIn t
+ArgumentsIn (prune time id t seconds) = IdIn id × TopicIn t
+ArgumentsIn (deliver time id t kind) = IdIn id × TopicIn t × KindIn kind
+ArgumentsIn (rate time id p5) = IdIn id × P5In p5
+ArgumentsIn (heartbeat time t ask order) = TopicIn t × AskIn ask
+ArgumentsIn (decay time) = Unit
+ArgumentsIn (score time id) = IdIn id
+
+-- `inRange`, which the rows above name, is these ranges
+abbrev pub Ranges : Type 0
+Ranges = (c : Call) → (inRange c ≡ true) ↔ (TimeIn (timeOf c) × ArgumentsIn c)
 
 -- ---- 3, of each call that names a peer and is no connect; the others are never answered 3
 abbrev pub Names : Call → (ℕ → Type 0) → Type 0

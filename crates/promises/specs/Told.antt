@@ -14,7 +14,7 @@ use Rattle.cells.specs.View.{Sized}
 use Rattle.effects.specs.Actions.{Action}
 use Rattle.effects.specs.Effects.{isMember}
 use Rattle.rules.specs.Reply.{Reply}
-use Rattle.rules.specs.Calls.{leave, heartbeat}
+use Rattle.rules.specs.Calls.{leave, graft, heartbeat}
 use Rattle.rules.specs.Step.{step}
 use Rattle.history.specs.Lists.{Made, after}
 use Rattle.history.specs.Demand3.{Accepted}
@@ -74,3 +74,4 @@ ToldSeconds =
     Each (Seconds (after params calls) (natAbs (at params 6))) (step (after params calls) (leave time t) room .actions)
     × ((ask : ℕ) (order : List ℕ) →
     Each (Seconds (after params calls) (natAbs (at params 5))) (step (after params calls) (heartbeat time t ask order) room .actions))
+    × ((id : ℕ) → Each (Seconds (after params calls) (natAbs (at params 5))) (step (after params calls) (graft time id t) room .actions))
