@@ -11,9 +11,9 @@ use lib.Dec.{eqb}
 use borrow.Author.Tests.{eq-eqb, ne-eqb}
 use Rattle.records.specs.declared.Peer.{Peer}
 use Rattle.records.specs.Records.{State, peerIn, setClock}
-use Rattle.cells.specs.View.{cellCount, stateOf}
-use Rattle.cells.proofs.StateLaws.{code-after-peer}
-use Rattle.table.proofs.ValidLaws.{valid-facts}
+use Rattle.layout.specs.View.{cellCount, stateOf}
+use Rattle.layout.proofs.StateLaws.{code-after-peer}
+use Rattle.validity.proofs.ValidLaws.{valid-facts}
 use Rattle.score.specs.Counters.{countMost, raisedOf}
 use Rattle.effects.specs.Actions.{pruneOf, numbersOf}
 use Rattle.effects.specs.Effects.{magnitude, pruneBackoff, withEnd, withP7, onPeer, endAfter}

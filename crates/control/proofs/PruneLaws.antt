@@ -8,7 +8,7 @@ use native.Mathlib.Omega.{arith}
 use borrow.Author.Tests.{ne-eqb}
 use Rattle.records.specs.Records.{State, codeIn}
 use Rattle.effects.specs.Effects.{magnitude, pruned, endAfter}
-use Rattle.table.specs.Valid.{valid}
+use Rattle.validity.specs.Valid.{valid}
 use Rattle.gate.proofs.StandingLaws.{sizes}
 use Rattle.rules.specs.Calls.{prune}
 use Rattle.rules.specs.Reply.{ignored, done}

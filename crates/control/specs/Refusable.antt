@@ -4,8 +4,8 @@ use mathlib.Core.Path.{_≡_}
 use mathlib.Core.List.{List}
 use lib.ListN.{length}
 use Rattle.records.specs.Records.{peerIn}
-use Rattle.cells.specs.View.{cellCount, stateOf}
-use Rattle.table.specs.Valid.{maxTime, maxId}
+use Rattle.layout.specs.View.{cellCount, stateOf}
+use Rattle.validity.specs.Valid.{maxTime, maxId}
 use Rattle.effects.specs.Effects.{pruneBackoff}
 
 -- the numbers of a PRUNE of the slot have 32 bits, and the end of its backoff does not wrap

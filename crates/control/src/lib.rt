@@ -2,7 +2,7 @@
 ghost use mathlib.Core.Path.{_≡_};
 ghost use Prim.Native.Nat.{_<_, _≤_};
 ghost use lib.ListN.{length};
-ghost use Rattle.cells.specs.View.{cellCount, stateOf};
+ghost use Rattle.layout.specs.View.{cellCount, stateOf};
 ghost use Rattle.rules.specs.Calls.{graft as Calls·graft, prune as Calls·prune};
 ghost use Rattle.rules.specs.Step.{effect, graftRefused, meshFull, graftEnters, graftOpen, graftBackoff, graftHeard, secondsOf};
 ghost use Rattle.rules.specs.Promise.{Leaves, Gives, Follows};
@@ -10,7 +10,7 @@ ghost use Rattle.score.specs.Counters.{countMost, raisedOf};
 ghost use Rattle.effects.specs.Effects.{withP7, onPeer};
 ghost use Rattle.gate.specs.Ready.{Standing, Ready};
 ghost use Rattle.control.specs.Refusable.{Refusable};
-use cells::CELLS;
+use layout::CELLS;
 use effects::actions::put_prune;
 use effects::slots::backoff_runs;
 use effects::slots::delay;
@@ -45,11 +45,11 @@ fn refuse_graft(
     requires { ⌜ Refusable (now table) time slot × ((topic < 8) × ((slot < 64) × (192 ≤ length (now actions)))) ⌝ }
     ensures { λ r. ⌜ Gives (graftRefused (stateOf (now (table .entry))) time topic slot) r (now (table .entry)) (now (table .exit)) (now (actions .entry)) (now (actions .exit)) ⌝ }
 {
-    let p = cells::load_peer(table, slot);
+    let p = layout::load_peer(table, slot);
     let seconds = load_size(table, 5);
     put_prune(actions, 0, p, seconds);
     delay(table, topic, slot, end_after(time, seconds));
-    cells::store_clock(table, time);
+    layout::store_clock(table, time);
     Answer::Done(1)
 }
 
@@ -58,7 +58,7 @@ fn mesh_full(table: &[u64], topic: usize, slot: usize) -> bool
     requires { ⌜ (length (now table) ≡ cellCount) × ((topic < 8) × (slot < 64)) ⌝ }
     ensures { λ r. ⌜ r ≡ meshFull (stateOf (now (table .entry))) topic slot ⌝ }
 {
-    let p = cells::load_peer(table, slot);
+    let p = layout::load_peer(table, slot);
     (load_size(table, 2) <= mesh_size(table, topic) as u64) & (p.outbound == 0)
 }
 
@@ -91,8 +91,8 @@ fn raise_p7(table: &mut [u64], slot: usize)
     requires { ⌜ (length (now table) ≡ cellCount) × (slot < 64) ⌝ }
     ensures { λ r. ⌜ stateOf (now (table .exit)) ≡ onPeer (stateOf (now (table .entry))) slot (λ p. withP7 p (raisedOf (p .p7) countMost)) ⌝ }
 {
-    let p = cells::load_peer(table, slot);
-    cells::store_peer(
+    let p = layout::load_peer(table, slot);
+    layout::store_peer(
         table,
         slot,
         with_p7(p, score::counters::raised(p.p7, 1000000)),
@@ -129,7 +129,7 @@ fn graft_heard(
     if is_member(table, topic, slot) {
         return finish(table, time);
     }
-    let p = cells::load_peer(table, slot);
+    let p = layout::load_peer(table, slot);
     if p.explicit == 1 {
         return refuse_graft(table, time, topic, slot, actions);
     }

@@ -14,9 +14,9 @@ use Rattle.index.proofs.Flags.{cond-case}
 use Rattle.records.specs.declared.Peer.{Peer}
 use Rattle.records.specs.declared.TopicRecord.{TopicRecord}
 use Rattle.records.specs.Records.{State, place, codeIn, peerIn, topicIn, setPeer, setTopic, setClock, isConnected}
-use Rattle.cells.proofs.StateLaws.{peer-case, topic-case, topic-again}
-use Rattle.cells.specs.View.{cellCount, stateOf}
-use Rattle.table.specs.Valid.{valid}
+use Rattle.layout.proofs.StateLaws.{peer-case, topic-case, topic-again}
+use Rattle.layout.specs.View.{cellCount, stateOf}
+use Rattle.validity.specs.Valid.{valid}
 use Rattle.score.specs.declared.TopicParams.{TopicParams}
 use Rattle.score.specs.Ranges.{TopicParamsIn, CountersIn}
 use Rattle.score.specs.Score.{topicParamsIn}

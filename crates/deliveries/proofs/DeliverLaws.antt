@@ -9,8 +9,8 @@ use Rattle.index.proofs.Index.{both}
 use Rattle.index.proofs.Flags.{cond-case}
 use Rattle.records.specs.declared.TopicRecord.{TopicRecord}
 use Rattle.records.specs.Records.{State, place, topicIn, setTopic, setClock}
-use Rattle.cells.specs.View.{stateOf}
-use Rattle.table.specs.Valid.{valid}
+use Rattle.layout.specs.View.{stateOf}
+use Rattle.validity.specs.Valid.{valid}
 use Rattle.score.specs.declared.TopicParams.{TopicParams}
 use Rattle.score.specs.Score.{topicParamsIn}
 use Rattle.score.specs.Ranges.{CountersWithin}

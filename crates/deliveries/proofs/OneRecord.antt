@@ -10,8 +10,8 @@ use Rattle.index.specs.declared.Found.the-variants.{At, Nothing}
 use Rattle.index.proofs.Flags.{cond-case}
 use Rattle.records.specs.declared.TopicRecord.{TopicRecord}
 use Rattle.records.specs.Records.{State, place, topicIn, setClock, setTopic}
-use Rattle.cells.specs.View.{stateOf}
-use Rattle.cells.proofs.StateLaws.{topic-other, topic-case}
+use Rattle.layout.specs.View.{stateOf}
+use Rattle.layout.proofs.StateLaws.{topic-other, topic-case}
 use Rattle.lookup.specs.Find.{findConnected}
 use Rattle.score.specs.declared.TopicParams.{TopicParams}
 use Rattle.score.specs.Counters.{withCounters, firstOf, nearFirstOf, invalidOf}

@@ -6,7 +6,7 @@ use mathlib.Core.List.{List}
 use lib.ListN.{length}
 use Rattle.index.specs.declared.Found.the-variants.{At}
 use Rattle.records.specs.Records.{State, place, topicIn}
-use Rattle.cells.specs.View.{stateOf}
+use Rattle.layout.specs.View.{stateOf}
 use Rattle.lookup.specs.Find.{findConnected}
 use Rattle.score.specs.Counters.{withCounters}
 use Rattle.rules.specs.declared.Answer.{Answer}

@@ -4,7 +4,7 @@ ghost use mathlib.Core.Path.{_≡_};
 ghost use Prim.Native.Nat.{_<_};
 ghost use lib.ListN.{length};
 ghost use Rattle.index.specs.Index.{iter};
-ghost use Rattle.cells.specs.View.{cellCount, stateOf};
+ghost use Rattle.layout.specs.View.{cellCount, stateOf};
 ghost use Rattle.score.specs.Score.{topicParamsIn};
 ghost use Rattle.effects.specs.Effects.{onTopic};
 ghost use Rattle.rules.specs.Calls.{deliver as Calls·deliver, decay as Calls·decay};
@@ -12,7 +12,7 @@ ghost use Rattle.rules.specs.Step.{effect, deliveredOf, decayTopic, decayP7, de
 ghost use Rattle.rules.specs.Promise.{Leaves, Follows};
 ghost use Rattle.gate.specs.Ready.{Standing, Ready};
 ghost use Rattle.deliveries.specs.Decays.{Decays, isIdle};
-use cells::CELLS;
+use layout::CELLS;
 use credits::credited;
 use effects::slots::load_size;
 use effects::values::with_p7;
@@ -36,9 +36,9 @@ fn deliver_slot(table: &mut [u64], topic: usize, slot: usize, kind: u64)
     requires { ⌜ Standing (now table) × ((topic < 8) × (slot < 64)) ⌝ }
     ensures { λ r. ⌜ stateOf (now (table .exit)) ≡ onTopic (stateOf (now (table .entry))) slot topic (deliveredOf kind (topicParamsIn (stateOf (now (table .entry))) topic)) ⌝ }
 {
-    let r = cells::load_topic(table, slot * 8 + topic);
+    let r = layout::load_topic(table, slot * 8 + topic);
     let t = peer_score::load_params(table, topic);
-    cells::store_topic(table, slot * 8 + topic, credited(r, t, kind));
+    layout::store_topic(table, slot * 8 + topic, credited(r, t, kind));
 }
 
 fn deliver_from(table: &mut [u64], time: u64, id: u64, topic: usize, kind: u64) -> Answer
@@ -85,12 +85,12 @@ fn decay_topic(table: &mut [u64], time: u64, slot: usize, topic: usize)
     requires { ⌜ (length (now table) ≡ cellCount) × (Decays (stateOf (now table)) × ((slot < 64) × (topic < 8))) ⌝ }
     ensures { λ r. ⌜ stateOf (now (table .exit)) ≡ decayTopic time slot topic (stateOf (now (table .entry))) ⌝ }
 {
-    let r = cells::load_topic(table, slot * 8 + topic);
+    let r = layout::load_topic(table, slot * 8 + topic);
     if is_idle(r) {
         return;
     }
     let t = peer_score::load_params(table, topic);
-    cells::store_topic(
+    layout::store_topic(
         table,
         slot * 8 + topic,
         score::counters::decayed(t, load_size(table, 18), time, r),
@@ -112,8 +112,8 @@ fn decay_p7(table: &mut [u64], slot: usize)
     requires { ⌜ (length (now table) ≡ cellCount) × (Decays (stateOf (now table)) × (slot < 64)) ⌝ }
     ensures { λ r. ⌜ stateOf (now (table .exit)) ≡ decayP7 slot (stateOf (now (table .entry))) ⌝ }
 {
-    let p = cells::load_peer(table, slot);
-    cells::store_peer(
+    let p = layout::load_peer(table, slot);
+    layout::store_peer(
         table,
         slot,
         with_p7(
@@ -128,7 +128,7 @@ fn decay_slot(table: &mut [u64], time: u64, slot: usize)
     requires { ⌜ (length (now table) ≡ cellCount) × (Decays (stateOf (now table)) × (slot < 64)) ⌝ }
     ensures { λ r. ⌜ stateOf (now (table .exit)) ≡ decaySlot time slot (stateOf (now (table .entry))) ⌝ }
 {
-    if cells::load_status(table, slot) == 1 {
+    if layout::load_status(table, slot) == 1 {
         decay_topics(table, time, slot);
         decay_p7(table, slot);
     }

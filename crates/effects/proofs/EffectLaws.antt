@@ -18,8 +18,8 @@ use Rattle.index.proofs.Lists.{set-case}
 use Rattle.records.specs.declared.Peer.{Peer}
 use Rattle.records.specs.declared.TopicRecord.{TopicRecord}
 use Rattle.records.specs.Records.{State, slotCount, noPeer, noTopic, place, codeIn, joinedIn, peerIn, topicIn, setPeer, setTopic, isEmpty, isConnected, isRetained}
-use Rattle.cells.specs.View.{Sized, setEnd}
-use Rattle.cells.proofs.StateLaws.{peer-same, peer-other, peer-case, topic-same, topic-other, topic-case, peer-after-topic, topic-after-peer, sized-peer, sized-topic}
+use Rattle.layout.specs.View.{Sized, setEnd}
+use Rattle.layout.proofs.StateLaws.{peer-same, peer-other, peer-case, topic-same, topic-other, topic-case, peer-after-topic, topic-after-peer, sized-peer, sized-topic}
 use Rattle.effects.specs.Effects.{withEnd, retainedTo, retainSeconds, endAfter, outOfMesh, intoMesh, withSubscribed, onPeer, onTopic, isMember, isSubscribed, meshSize, backoffRuns, pruned, leftTopic, departed, reclaimable, emptied, reclaimSlot, reclaimed}
 use Rattle.effects.proofs.Walks.{iter-kept, iter-before, iter-once, iter-still, count-change}
 

@@ -5,7 +5,7 @@ ghost use Prim.Native.Nat.{_<_};
 ghost use lib.ListN.{length};
 ghost use Rattle.index.specs.Index.{every, iter};
 ghost use Rattle.records.specs.Records.{noPeer, noTopic, place, setTopic};
-ghost use Rattle.cells.specs.View.{cellCount, stateOf};
+ghost use Rattle.layout.specs.View.{cellCount, stateOf};
 ghost use Rattle.effects.specs.Effects.{backoffRuns, onPeer, connectedAs, retainedTo, leftTopic, reclaimable as reclaimableOf, emptied, reclaimSlot, reclaimed};
 use crate::slots::unsubscribe_slot;
 use crate::values::connected_as;
@@ -20,8 +20,8 @@ pub fn connect_slot(table: &mut [u64], slot: usize, id: u64, group: u64, flags: 
     requires { ⌜ (length (now table) ≡ cellCount) × (slot < 64) ⌝ }
     ensures { λ r. ⌜ stateOf (now (table .exit)) ≡ onPeer (stateOf (now (table .entry))) slot (λ p. connectedAs p id group flags version) ⌝ }
 {
-    let p = cells::load_peer(table, slot);
-    cells::store_peer(table, slot, connected_as(p, id, group, flags, version));
+    let p = layout::load_peer(table, slot);
+    layout::store_peer(table, slot, connected_as(p, id, group, flags, version));
 }
 
 // Out of every mesh, with no subscription.
@@ -42,8 +42,8 @@ pub fn retain_slot(table: &mut [u64], slot: usize, end: u64)
     ensures { λ r. ⌜ stateOf (now (table .exit)) ≡ onPeer (iter 8 (λ t u. leftTopic u slot t) (stateOf (now (table .entry)))) slot (λ p. retainedTo p end) ⌝ }
 {
     leave_topics(table, slot);
-    let p = cells::load_peer(table, slot);
-    cells::store_peer(table, slot, retained_to(p, end));
+    let p = layout::load_peer(table, slot);
+    layout::store_peer(table, slot, retained_to(p, end));
 }
 
 // Whether all eight backoffs are over.
@@ -107,7 +107,7 @@ fn empty_topics(table: &mut [u64], slot: usize)
 {
     let mut t: usize = 0;
     while t < TOPICS {
-        cells::store_topic(table, slot * 8 + t, empty_topic());
+        layout::store_topic(table, slot * 8 + t, empty_topic());
         t += 1;
     }
 }
@@ -118,7 +118,7 @@ fn empty_slot(table: &mut [u64], slot: usize)
     ensures { λ r. ⌜ stateOf (now (table .exit)) ≡ emptied (stateOf (now (table .entry))) slot ⌝ }
 {
     empty_topics(table, slot);
-    cells::store_peer(table, slot, empty_peer());
+    layout::store_peer(table, slot, empty_peer());
 }
 
 // Empties a slot if its record is reclaimable.
@@ -126,7 +126,7 @@ fn reclaim_slot(table: &mut [u64], slot: usize, time: u64)
     requires { ⌜ (length (now table) ≡ cellCount) × (slot < 64) ⌝ }
     ensures { λ r. ⌜ stateOf (now (table .exit)) ≡ reclaimSlot time slot (stateOf (now (table .entry))) ⌝ }
 {
-    let p = cells::load_peer(table, slot);
+    let p = layout::load_peer(table, slot);
     if reclaimable(p, time) {
         empty_slot(table, slot);
     }

@@ -3,7 +3,7 @@ ghost use mathlib.Core.Path.{_≡_};
 ghost use Prim.Native.Nat.{_≤_, _<_};
 ghost use lib.ListN.{length};
 ghost use Rattle.records.specs.Records.{codeIn, peerIn};
-ghost use Rattle.cells.specs.View.{cellCount, stateOf};
+ghost use Rattle.layout.specs.View.{cellCount, stateOf};
 ghost use Rattle.effects.specs.Effects.{magnitude as magnitudeOf, withEnd, withP5, outOfMesh, intoMesh, withSubscribed, onPeer, onTopic, isJoined, isMember, isSubscribed, meshSize, backoffRuns, pruned};
 ghost use Rattle.index.specs.Index.{one};
 use crate::values::into_mesh;
@@ -19,28 +19,28 @@ pub fn load_size(table: &[u64], i: usize) -> u64
     requires { ⌜ (length (now table) ≡ cellCount) × (i < 147) ⌝ }
     ensures { λ r. ⌜ r ≡ magnitudeOf (codeIn (stateOf (now (table .entry))) i) ⌝ }
 {
-    magnitude(cells::load_code(table, i))
+    magnitude(layout::load_code(table, i))
 }
 
 pub fn is_joined(table: &[u64], topic: usize) -> bool
     requires { ⌜ (length (now table) ≡ cellCount) × (topic < 8) ⌝ }
     ensures { λ r. ⌜ r ≡ isJoined (stateOf (now (table .entry))) topic ⌝ }
 {
-    cells::load_joined(table, topic) == 1
+    layout::load_joined(table, topic) == 1
 }
 
 pub fn is_member(table: &[u64], topic: usize, slot: usize) -> bool
     requires { ⌜ (length (now table) ≡ cellCount) × ((topic < 8) × (slot < 64)) ⌝ }
     ensures { λ r. ⌜ r ≡ isMember (stateOf (now (table .entry))) topic slot ⌝ }
 {
-    cells::load_member(table, slot * 8 + topic) == 1
+    layout::load_member(table, slot * 8 + topic) == 1
 }
 
 pub fn is_subscribed(table: &[u64], topic: usize, slot: usize) -> bool
     requires { ⌜ (length (now table) ≡ cellCount) × ((topic < 8) × (slot < 64)) ⌝ }
     ensures { λ r. ⌜ r ≡ isSubscribed (stateOf (now (table .entry))) topic slot ⌝ }
 {
-    cells::load_subscribed(table, slot * 8 + topic) == 1
+    layout::load_subscribed(table, slot * 8 + topic) == 1
 }
 
 // Whether the backoff of a slot in a topic is running.
@@ -48,7 +48,7 @@ pub fn backoff_runs(table: &[u64], topic: usize, slot: usize, time: u64) -> bool
     requires { ⌜ (length (now table) ≡ cellCount) × ((topic < 8) × (slot < 64)) ⌝ }
     ensures { λ r. ⌜ r ≡ backoffRuns (peerIn (stateOf (now (table .entry))) slot) topic time ⌝ }
 {
-    let p = cells::load_peer(table, slot);
+    let p = layout::load_peer(table, slot);
     time < p.backoff[topic]
 }
 
@@ -77,8 +77,8 @@ pub fn take_out(table: &mut [u64], topic: usize, slot: usize)
     requires { ⌜ (length (now table) ≡ cellCount) × ((topic < 8) × (slot < 64)) ⌝ }
     ensures { λ r. ⌜ stateOf (now (table .exit)) ≡ onTopic (stateOf (now (table .entry))) slot topic outOfMesh ⌝ }
 {
-    let r = cells::load_topic(table, slot * 8 + topic);
-    cells::store_topic(table, slot * 8 + topic, out_of_mesh(r));
+    let r = layout::load_topic(table, slot * 8 + topic);
+    layout::store_topic(table, slot * 8 + topic, out_of_mesh(r));
 }
 
 // The backoff end at least `end`.
@@ -86,8 +86,8 @@ pub fn delay(table: &mut [u64], topic: usize, slot: usize, end: u64)
     requires { ⌜ (length (now table) ≡ cellCount) × ((topic < 8) × (slot < 64)) ⌝ }
     ensures { λ r. ⌜ stateOf (now (table .exit)) ≡ onPeer (stateOf (now (table .entry))) slot (λ p. withEnd p topic end) ⌝ }
 {
-    let p = with_end(cells::load_peer(table, slot), topic, end);
-    cells::store_end(table, slot, topic, p.backoff[topic]);
+    let p = with_end(layout::load_peer(table, slot), topic, end);
+    layout::store_end(table, slot, topic, p.backoff[topic]);
 }
 
 // Out of the mesh, with a backoff.
@@ -104,16 +104,16 @@ pub fn graft_slot(table: &mut [u64], topic: usize, slot: usize, time: u64)
     requires { ⌜ (length (now table) ≡ cellCount) × ((topic < 8) × (slot < 64)) ⌝ }
     ensures { λ r. ⌜ stateOf (now (table .exit)) ≡ onTopic (stateOf (now (table .entry))) slot topic (λ r. intoMesh r time) ⌝ }
 {
-    let r = cells::load_topic(table, slot * 8 + topic);
-    cells::store_topic(table, slot * 8 + topic, into_mesh(r, time));
+    let r = layout::load_topic(table, slot * 8 + topic);
+    layout::store_topic(table, slot * 8 + topic, into_mesh(r, time));
 }
 
 pub fn subscribe_slot(table: &mut [u64], topic: usize, slot: usize)
     requires { ⌜ (length (now table) ≡ cellCount) × ((topic < 8) × (slot < 64)) ⌝ }
     ensures { λ r. ⌜ stateOf (now (table .exit)) ≡ onTopic (stateOf (now (table .entry))) slot topic (λ r. withSubscribed r 1) ⌝ }
 {
-    let r = cells::load_topic(table, slot * 8 + topic);
-    cells::store_topic(table, slot * 8 + topic, with_subscribed(r, 1));
+    let r = layout::load_topic(table, slot * 8 + topic);
+    layout::store_topic(table, slot * 8 + topic, with_subscribed(r, 1));
 }
 
 // Out of the mesh, and not subscribed.
@@ -121,14 +121,14 @@ pub fn unsubscribe_slot(table: &mut [u64], topic: usize, slot: usize)
     requires { ⌜ (length (now table) ≡ cellCount) × ((topic < 8) × (slot < 64)) ⌝ }
     ensures { λ r. ⌜ stateOf (now (table .exit)) ≡ onTopic (stateOf (now (table .entry))) slot topic (λ r. withSubscribed (outOfMesh r) 0) ⌝ }
 {
-    let r = cells::load_topic(table, slot * 8 + topic);
-    cells::store_topic(table, slot * 8 + topic, with_subscribed(out_of_mesh(r), 0));
+    let r = layout::load_topic(table, slot * 8 + topic);
+    layout::store_topic(table, slot * 8 + topic, with_subscribed(out_of_mesh(r), 0));
 }
 
 pub fn rate_slot(table: &mut [u64], slot: usize, code: u64)
     requires { ⌜ (length (now table) ≡ cellCount) × (slot < 64) ⌝ }
     ensures { λ r. ⌜ stateOf (now (table .exit)) ≡ onPeer (stateOf (now (table .entry))) slot (λ p. withP5 p code) ⌝ }
 {
-    let p = cells::load_peer(table, slot);
-    cells::store_peer(table, slot, with_p5(p, code));
+    let p = layout::load_peer(table, slot);
+    layout::store_peer(table, slot, with_p5(p, code));
 }

@@ -7,8 +7,8 @@ use mathlib.Core.List.{List, []}
 use borrow.Author.Tests.{leb-true}
 use lib.ListN.{length}
 use Rattle.index.proofs.Index.{both}
-use Rattle.cells.specs.View.{cellCount, stateOf}
-use Rattle.table.specs.Valid.{maxTime}
+use Rattle.layout.specs.View.{cellCount, stateOf}
+use Rattle.validity.specs.Valid.{maxTime}
 use Rattle.rules.specs.declared.Answer.{Answer}
 use Rattle.rules.specs.declared.Gate.{Gate}
 use Rattle.rules.specs.declared.Gate.the-variants.{Pass, Refuse}

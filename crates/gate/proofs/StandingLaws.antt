@@ -6,14 +6,14 @@ use mathlib.Core.Bool.{Bool, true, _&&_}
 use lib.Dec.{eqb, lit<}
 use lib.IntN.{ℤ, pos, negℤ, _*ℤ_}
 use lib.Signed.{ltZ}
-use Rattle.groups.specs.Codes.{numberOf}
+use Rattle.varint.specs.Codes.{numberOf}
 use Rattle.records.specs.declared.Peer.{Peer}
 use Rattle.records.specs.Records.{State, codeIn, peerIn}
 use Rattle.params.specs.Limits.{limits, limitAt}
 use Rattle.params.proofs.FieldLaws.{loss-of}
 use Rattle.params.proofs.ParamLaws.{general, within}
-use Rattle.table.specs.Valid.{valid}
-use Rattle.table.proofs.ValidLaws.{valid-facts}
+use Rattle.validity.specs.Valid.{valid}
+use Rattle.validity.proofs.ValidLaws.{valid-facts}
 use Rattle.score.specs.declared.Balance.{Balance}
 use Rattle.score.specs.Sums.{negativeOf, belowOf}
 use Rattle.score.specs.Score.{Scores}

@@ -4,8 +4,8 @@ use mathlib.Core.Path.{_≡_}
 use mathlib.Core.Bool.{true}
 use mathlib.Core.List.{List}
 use lib.ListN.{length}
-use Rattle.cells.specs.View.{cellCount, stateOf}
-use Rattle.table.specs.Valid.{valid, maxTime}
+use Rattle.layout.specs.View.{cellCount, stateOf}
+use Rattle.validity.specs.Valid.{valid, maxTime}
 
 -- a router's table
 pub record Standing (table : List ℕ) : Type 0 where

@@ -3,7 +3,7 @@ ghost use mathlib.Core.Path.{_≡_};
 ghost use Prim.Native.Nat.{_<_};
 ghost use lib.ListN.{length};
 ghost use Rattle.records.specs.Records.{setClock};
-ghost use Rattle.cells.specs.View.{cellCount, stateOf};
+ghost use Rattle.layout.specs.View.{cellCount, stateOf};
 ghost use Rattle.rules.specs.Calls.{idOk, topicOk, timeOk};
 ghost use Rattle.rules.specs.Step.{gateOf, isNegative, isGraylisted, isHeard};
 ghost use Rattle.gate.specs.Ready.{Standing};
@@ -11,8 +11,8 @@ use effects::slots::is_joined;
 use effects::slots::load_size;
 use rules::Answer;
 use rules::Gate;
-use table::valid::MAX_ID;
-use table::valid::MAX_TIME;
+use validity::valid::MAX_ID;
+use validity::valid::MAX_TIME;
 
 // How many numbers the lent list must have: three for each slot.
 const ACTION_ROOM: usize = 192;
@@ -40,7 +40,7 @@ pub fn admit(table: &[u64], fine: bool, room: usize, time: u64) -> Gate
     requires { ⌜ length (now table) ≡ cellCount ⌝ }
     ensures { λ r. ⌜ r ≡ gateOf (stateOf (now (table .entry))) fine room time ⌝ }
 {
-    if !table::valid::is_router(table) {
+    if !validity::valid::is_router(table) {
         return Gate::Refuse(Answer::NotRouter);
     }
     if !fine {
@@ -49,7 +49,7 @@ pub fn admit(table: &[u64], fine: bool, room: usize, time: u64) -> Gate
     if room < ACTION_ROOM {
         return Gate::Refuse(Answer::ListShort);
     }
-    if time < cells::load_clock(table) {
+    if time < layout::load_clock(table) {
         return Gate::Refuse(Answer::Early);
     }
     Gate::Pass
@@ -60,7 +60,7 @@ pub fn finish(table: &mut [u64], time: u64) -> Answer
     requires { ⌜ length (now table) ≡ cellCount ⌝ }
     ensures { λ r. ⌜ (r ≡ Answer.Done 0) × (stateOf (now (table .exit)) ≡ setClock (stateOf (now (table .entry))) time) ⌝ }
 {
-    cells::store_clock(table, time);
+    layout::store_clock(table, time);
     Answer::Done(0)
 }
 
@@ -69,7 +69,7 @@ pub fn ignore(table: &mut [u64], time: u64) -> Answer
     requires { ⌜ length (now table) ≡ cellCount ⌝ }
     ensures { λ r. ⌜ (r ≡ Answer.Ignored) × (stateOf (now (table .exit)) ≡ setClock (stateOf (now (table .entry))) time) ⌝ }
 {
-    cells::store_clock(table, time);
+    layout::store_clock(table, time);
     Answer::Ignored
 }
 
@@ -85,7 +85,7 @@ pub fn is_graylisted(table: &[u64], slot: usize) -> bool
     requires { ⌜ Standing (now table) × (slot < 64) ⌝ }
     ensures { λ r. ⌜ r ≡ isGraylisted (stateOf (now (table .entry))) slot ⌝ }
 {
-    let p = cells::load_peer(table, slot);
+    let p = layout::load_peer(table, slot);
     (p.explicit == 0)
         & score::sums::is_below(peer_score::score_of(table, slot), load_size(table, 9))
 }

@@ -13,9 +13,9 @@ use Rattle.index.proofs.Index.{both}
 use Rattle.index.proofs.Flags.{by-order, cond-case}
 use Rattle.records.specs.declared.Peer.{Peer}
 use Rattle.records.specs.Records.{State, slotCount, noPeer, peerIn, setClock}
-use Rattle.cells.specs.View.{stateOf, Sized}
-use Rattle.table.specs.Valid.{valid}
-use Rattle.table.proofs.ValidLaws.{valid-facts}
+use Rattle.layout.specs.View.{stateOf, Sized}
+use Rattle.validity.specs.Valid.{valid}
+use Rattle.validity.proofs.ValidLaws.{valid-facts}
 use Rattle.sets.specs.Sets.{bySlot, isPermutation}
 use Rattle.sets.proofs.SlotLaws.{slots-at, slots-past, slots-all}
 use Rattle.mesh.specs.declared.View.{View}

@@ -12,8 +12,8 @@ use Rattle.index.specs.Index.{count, one, gather}
 use Rattle.index.proofs.Index.{count-more, count-same}
 use Rattle.records.specs.declared.Peer.{Peer}
 use Rattle.records.specs.Records.{State, slotCount, peerIn, isConnected}
-use Rattle.table.specs.Valid.{valid}
-use Rattle.table.proofs.ValidLaws.{valid-facts}
+use Rattle.validity.specs.Valid.{valid}
+use Rattle.validity.proofs.ValidLaws.{valid-facts}
 use Rattle.score.specs.declared.ScoreParams.{ScoreParams}
 use Rattle.score.specs.declared.Balance.{Balance}
 use Rattle.score.specs.declared.Parts.{Parts}

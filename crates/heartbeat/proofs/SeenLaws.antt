@@ -14,8 +14,8 @@ use Rattle.records.specs.declared.Peer.{Peer}
 use Rattle.records.specs.declared.TopicRecord.{TopicRecord}
 use Rattle.records.specs.Records.{State, slotCount, place, codeIn, peerIn, topicIn}
 use Rattle.params.proofs.ParamLaws.{general}
-use Rattle.table.specs.Valid.{valid}
-use Rattle.table.proofs.ValidLaws.{valid-facts}
+use Rattle.validity.specs.Valid.{valid}
+use Rattle.validity.proofs.ValidLaws.{valid-facts}
 use Rattle.sets.specs.Sets.{bySlot}
 use Rattle.index.proofs.Lists.{Built, built-none, built-more}
 use Rattle.sets.proofs.SlotLaws.{slots-at}

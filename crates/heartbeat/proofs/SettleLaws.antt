@@ -12,8 +12,8 @@ use Rattle.index.specs.Index.{iter}
 use Rattle.index.proofs.Index.{iter-more}
 use Rattle.records.specs.declared.Peer.{Peer}
 use Rattle.records.specs.Records.{State, slotCount, peerIn}
-use Rattle.cells.specs.View.{cellCount, stateOf}
-use Rattle.table.proofs.ValidLaws.{valid-facts}
+use Rattle.layout.specs.View.{cellCount, stateOf}
+use Rattle.validity.proofs.ValidLaws.{valid-facts}
 use Rattle.score.specs.declared.TopicParams.{TopicParams}
 use Rattle.score.specs.Score.{topicParamsIn}
 use Rattle.score.specs.Counters.{grownOf}

@@ -5,7 +5,7 @@ use mathlib.Core.Path.{_≡_}
 use mathlib.Core.Bool.{Bool, cond}
 use mathlib.Core.List.{List}
 use Rattle.records.specs.Records.{State, slotCount}
-use Rattle.cells.specs.View.{stateOf}
+use Rattle.layout.specs.View.{stateOf}
 use Rattle.sets.specs.Sets.{bySlot}
 use Rattle.effects.specs.Effects.{onTopic, intoMesh, isMember, pruned, endAfter, pruneBackoff}
 use Rattle.rules.specs.Step.{heightIn}

@@ -10,7 +10,7 @@ ghost use Prim.Native.Nat.{_≤_, _<_};
 ghost use lib.Dec.{leb};
 ghost use lib.ListN.{length};
 ghost use Rattle.records.specs.Records.{slotCount};
-ghost use Rattle.cells.specs.View.{stateOf};
+ghost use Rattle.layout.specs.View.{stateOf};
 ghost use Rattle.sets.specs.Sets.{isPermutation};
 ghost use Rattle.rules.specs.Calls.{heartbeat as Calls·heartbeat};
 ghost use Rattle.rules.specs.Step.{heartbeatReply, maintainedReply};
@@ -21,7 +21,7 @@ use crate::seen::ids;
 use crate::seen::told;
 use crate::seen::view;
 use crate::settle::settle;
-use cells::CELLS;
+use layout::CELLS;
 use effects::slots::is_joined;
 use effects::slots::load_size;
 use effects::values::end_after;
@@ -71,7 +71,7 @@ fn maintain_topic(
         mesh,
         scores,
     );
-    cells::store_clock(table, time);
+    layout::store_clock(table, time);
     Answer::Done(n)
 }
 

@@ -7,7 +7,7 @@ ghost use lib.Dec.{eqb};
 ghost use lib.ListN.{length, getD};
 ghost use Rattle.index.specs.Index.{count};
 ghost use Rattle.records.specs.Records.{slotCount, peerIn, isConnected};
-ghost use Rattle.cells.specs.View.{cellCount, stateOf};
+ghost use Rattle.layout.specs.View.{cellCount, stateOf};
 ghost use Rattle.score.specs.Sums.{sumOf};
 ghost use Rattle.score.specs.Score.{shareAt, sharing, scoreParamsIn};
 ghost use Rattle.sets.specs.Sets.{at, bySlot};
@@ -29,7 +29,7 @@ fn connected(table: &[u64]) -> [bool; SLOTS]
 {
     let mut r = [false; SLOTS];
     for s in 0..SLOTS {
-        r[s] = cells::load_status(table, s) == 1;
+        r[s] = layout::load_status(table, s) == 1;
     }
     r
 }
@@ -41,7 +41,7 @@ fn groups(table: &[u64]) -> [u32; SLOTS]
 {
     let mut r: [u32; SLOTS] = [0; SLOTS];
     for s in 0..SLOTS {
-        let group = cells::load_group(table, s);
+        let group = layout::load_group(table, s);
         r[s] = group as u32;
     }
     r
@@ -69,7 +69,7 @@ fn add_topic(table: &[u64], topic: usize, before: [Balance; SLOTS]) -> [Balance;
     let mut r = before;
     for s in 0..SLOTS {
         let b = before[s];
-        r[s] = sums::add(b, share(params, cells::load_topic(table, s * 8 + topic)));
+        r[s] = sums::add(b, share(params, layout::load_topic(table, s * 8 + topic)));
     }
     r
 }
@@ -95,7 +95,7 @@ fn height(table: &[u64], slot: usize, g: ScoreParams, topics: Balance, together:
     requires { ⌜ Standing (now table) × ((slot < 64) × ((g ≡ scoreParamsIn (stateOf (now table))) × ((topics ≡ sumOf 8 (shareAt (stateOf (now table)) slot)) × (together ≡ sharing (stateOf (now table)) (peerIn (stateOf (now table)) slot .group))))) ⌝ }
     ensures { λ r. ⌜ r ≡ heightIn (stateOf (now (table .entry))) slot ⌝ }
 {
-    let p = cells::load_peer(table, slot);
+    let p = layout::load_peer(table, slot);
     sums::offset(sums::total(sums::parts(g, topics, p.p5, together, p.p7)))
 }
 

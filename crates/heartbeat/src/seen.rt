@@ -5,7 +5,7 @@ ghost use mathlib.Core.Bool.{cond};
 ghost use lib.Dec.{eqb};
 ghost use lib.ListN.{length};
 ghost use Rattle.records.specs.Records.{slotCount, peerIn};
-ghost use Rattle.cells.specs.View.{cellCount, stateOf};
+ghost use Rattle.layout.specs.View.{cellCount, stateOf};
 ghost use Rattle.sets.specs.Sets.{bySlot};
 ghost use Rattle.effects.specs.Effects.{isMember};
 ghost use Rattle.rules.specs.Step.{pastSlack, isCandidate, heightIn, degreesIn, viewIn};
@@ -37,7 +37,7 @@ pub fn outbound(table: &[u64]) -> [bool; SLOTS]
 {
     let mut r = [false; SLOTS];
     for s in 0..SLOTS {
-        let p = cells::load_peer(table, s);
+        let p = layout::load_peer(table, s);
         r[s] = p.outbound == 1;
     }
     r
@@ -64,8 +64,8 @@ pub fn is_candidate(table: &[u64], time: u64, topic: usize, slot: usize, score: 
     requires { ⌜ Standing (now table) × ((topic < 8) × ((slot < 64) × (score ≡ heightIn (stateOf (now table)) slot))) ⌝ }
     ensures { λ r. ⌜ r ≡ isCandidate (stateOf (now (table .entry))) time topic slot ⌝ }
 {
-    let p = cells::load_peer(table, slot);
-    let r = cells::load_topic(table, slot * 8 + topic);
+    let p = layout::load_peer(table, slot);
+    let r = layout::load_topic(table, slot * 8 + topic);
     let free = past_slack(p.backoff[topic], time);
     (p.status == 1)
         & ((r.subscribed == 1)
@@ -91,7 +91,7 @@ pub fn ids(table: &[u64]) -> [u64; SLOTS]
 {
     let mut r = [0; SLOTS];
     for s in 0..SLOTS {
-        r[s] = cells::load_id(table, s);
+        r[s] = layout::load_id(table, s);
     }
     r
 }
@@ -103,7 +103,7 @@ pub fn told(table: &[u64], seconds: u64) -> [u64; SLOTS]
 {
     let mut r = [0; SLOTS];
     for s in 0..SLOTS {
-        let p = cells::load_peer(table, s);
+        let p = layout::load_peer(table, s);
         if p.version != 0 {
             r[s] = seconds;
         }

@@ -2,7 +2,7 @@
 ghost use mathlib.Core.Path.{_≡_};
 ghost use Rattle.index.specs.Index.{iter};
 ghost use Rattle.records.specs.Records.{slotCount};
-ghost use Rattle.cells.specs.View.{stateOf};
+ghost use Rattle.layout.specs.View.{stateOf};
 ghost use Rattle.rules.specs.Step.{settleSlot};
 ghost use Rattle.leaving.specs.Slots.{Turn};
 ghost use Rattle.heartbeat.specs.Settle.{settledIf, Settle};

@@ -8,7 +8,7 @@ use lib.Seq.{sets}
 use lib.IntN.{ℤ}
 use denote.Ref.{RefT, now}
 use denote.Triple.Both.{Both}
-use Rattle.cells.specs.View.{stateOf}
+use Rattle.layout.specs.View.{stateOf}
 use Rattle.index.specs.declared.Found.{Found}
 use Rattle.index.specs.declared.Found.the-variants.{At, Nothing}
 use Rattle.params.specs.declared.Reading.{Reading}

@@ -2,14 +2,14 @@
 ghost use mathlib.Core.Path.{_≡_};
 ghost use Prim.Native.Nat.{_≤_};
 ghost use lib.ListN.{length};
-ghost use Rattle.cells.specs.View.{stateOf};
+ghost use Rattle.layout.specs.View.{stateOf};
 ghost use Rattle.rules.specs.Calls.{connect as Calls·connect, decay as Calls·decay, deliver as Calls·deliver, disconnect as Calls·disconnect, graft as Calls·graft, heartbeat as Calls·heartbeat, join as Calls·join, leave as Calls·leave, prune as Calls·prune, rate as Calls·rate, score as Calls·score, subscribe as Calls·subscribe, unsubscribe as Calls·unsubscribe};
 ghost use Rattle.rules.specs.Step.{step};
 ghost use Rattle.answers.specs.Answers.{whyOr as whyOrOf};
 ghost use Rattle.host.specs.Host.{HostsLent};
 use answers::code;
 use answers::why_or;
-use cells::CELLS;
+use layout::CELLS;
 
 // A peer connects. Flags: 1 outbound + 2 explicit.
 #[no_mangle]

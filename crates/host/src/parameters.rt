@@ -1,12 +1,12 @@
 // The parameters as an array of 147 numbers, read from bytes and written to bytes, and a fresh router made of them.
 ghost use mathlib.Core.Path.{_≡_};
-ghost use Rattle.cells.specs.View.{stateOf};
+ghost use Rattle.layout.specs.View.{stateOf};
 ghost use Rattle.index.specs.Index.{one};
 ghost use Rattle.params.specs.Ordinary.{ordinaryNumbers};
-ghost use Rattle.table.specs.Valid.{valid};
+ghost use Rattle.validity.specs.Valid.{valid};
 ghost use Rattle.host.specs.Host.{HostsRead, HostsWrite, HostsFresh};
 use answers::packed;
-use cells::CELLS;
+use layout::CELLS;
 use lookup::Made;
 use params::Params;
 use params::Verdict;

@@ -16,9 +16,9 @@ use Rattle.index.proofs.Lists.{sets-append}
 use Rattle.records.specs.declared.Peer.{Peer}
 use Rattle.records.specs.declared.TopicRecord.{TopicRecord}
 use Rattle.records.specs.Records.{State, slotCount, place, codeIn, peerIn, topicIn, setClock, setJoined, setTopic}
-use Rattle.cells.specs.View.{cellCount, stateOf}
-use Rattle.cells.proofs.StateLaws.{peer-after-topic}
-use Rattle.table.proofs.ValidLaws.{valid-facts}
+use Rattle.layout.specs.View.{cellCount, stateOf}
+use Rattle.layout.proofs.StateLaws.{peer-after-topic}
+use Rattle.validity.proofs.ValidLaws.{valid-facts}
 use Rattle.score.specs.declared.TopicParams.{TopicParams}
 use Rattle.score.specs.Score.{topicParamsIn}
 use Rattle.score.specs.Counters.{grownOf}

@@ -8,7 +8,7 @@ use lib.ListN.{length, getD}
 use lib.Seq.{sets}
 use Rattle.index.specs.Index.{iter}
 use Rattle.records.specs.Records.{State, slotCount, peerIn}
-use Rattle.cells.specs.View.{cellCount, stateOf}
+use Rattle.layout.specs.View.{cellCount, stateOf}
 use Rattle.score.specs.Score.{topicParamsIn}
 use Rattle.score.specs.Counters.{grownOf}
 use Rattle.effects.specs.Actions.{Action, pruneOf, numbersOf}

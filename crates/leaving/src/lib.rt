@@ -3,14 +3,14 @@ ghost use mathlib.Core.Path.{_≡_};
 ghost use mathlib.Core.Bool.{false, _&&_};
 ghost use Prim.Native.Nat.{ℕ, _+_, _<_, _≤_};
 ghost use lib.ListN.{length, getD};
-ghost use Rattle.cells.specs.View.{stateOf};
+ghost use Rattle.layout.specs.View.{stateOf};
 ghost use Rattle.effects.specs.Effects.{isMember};
 ghost use Rattle.rules.specs.Calls.{leave as Calls·leave};
 ghost use Rattle.rules.specs.Step.{leaveReply, isNegative};
 ghost use Rattle.rules.specs.Promise.{Gives, Follows};
 ghost use Rattle.gate.specs.Ready.{Standing, Ready};
 ghost use Rattle.leaving.specs.Slots.{grownIf, Turn, Turned, Walk, Walked};
-use cells::CELLS;
+use layout::CELLS;
 use effects::actions::put_prune;
 use effects::slots::is_joined;
 use effects::slots::is_member;
@@ -57,9 +57,9 @@ pub fn punish(table: &mut [u64], topic: usize, slot: usize, negative: bool)
     ensures { λ r. ⌜ stateOf (now (table .exit)) ≡ grownIf negative topic slot (stateOf (now (table .entry))) ⌝ }
 {
     if negative {
-        let r = cells::load_topic(table, slot * 8 + topic);
+        let r = layout::load_topic(table, slot * 8 + topic);
         let t = peer_score::load_params(table, topic);
-        cells::store_topic(table, slot * 8 + topic, score::counters::grown(t, r));
+        layout::store_topic(table, slot * 8 + topic, score::counters::grown(t, r));
     }
 }
 
@@ -81,7 +81,7 @@ fn leave_slot(
         return at;
     }
     punish(table, topic, slot, negative);
-    let p = cells::load_peer(table, slot);
+    let p = layout::load_peer(table, slot);
     prune_slot(table, topic, slot, end);
     put_prune(actions, at, p, seconds)
 }
@@ -125,8 +125,8 @@ fn leave_from(table: &mut [u64], time: u64, topic: usize, actions: &mut [u32]) -
         seconds,
         negative,
     );
-    cells::store_joined(table, topic, 0);
-    cells::store_clock(table, time);
+    layout::store_joined(table, topic, 0);
+    layout::store_clock(table, time);
     Answer::Done(n / 3)
 }
 

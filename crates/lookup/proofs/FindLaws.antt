@@ -13,8 +13,8 @@ use Rattle.index.proofs.Index.{both, first-is, first-passed}
 use Rattle.index.proofs.Flags.{by-test}
 use Rattle.records.specs.Records.{State, peerIn, isEmpty, slotCount}
 use Rattle.lookup.specs.Find.{holds, findConnected, findRetained, lowestEmpty}
-use Rattle.table.proofs.ValidLaws.{Facts}
-use Rattle.table.proofs.Keeps.{ids-apart}
+use Rattle.validity.proofs.ValidLaws.{Facts}
+use Rattle.validity.proofs.Keeps.{ids-apart}
 
 module _ (st : State) where
   -- what a found slot holds

@@ -14,15 +14,15 @@ use lib.IntN.{ℤ}
 use Rattle.index.specs.declared.Found.{Found}
 use Rattle.index.specs.declared.Found.the-variants.{At, Nothing}
 use Rattle.index.proofs.Flags.{by-order}
-use Rattle.groups.specs.Codes.{codeOf, numberOf}
-use Rattle.groups.proofs.CodeLaws.{number-code}
+use Rattle.varint.specs.Codes.{codeOf, numberOf}
+use Rattle.varint.proofs.CodeLaws.{number-code}
 use Rattle.params.specs.Check.{firstBroken, acceptedCodes}
 use Rattle.records.specs.Records.{State, place, noPeer, noTopic, joinedIn, peerIn, topicIn, slotCount, topicCount, paramCount}
-use Rattle.cells.specs.View.{placeCount, zeroState, setCodes, stateOf}
+use Rattle.layout.specs.View.{placeCount, zeroState, setCodes, stateOf}
 use Rattle.lookup.specs.declared.Made.the-variants.{Done, Broken}
 use Rattle.lookup.specs.Fresh.{freshState, Makes}
-use Rattle.table.specs.Valid.{valid}
-use Rattle.table.proofs.ValidLaws.{Facts, no-peer, no-topic, facts-valid}
+use Rattle.validity.specs.Valid.{valid}
+use Rattle.validity.proofs.ValidLaws.{Facts, no-peer, no-topic, facts-valid}
 
 -- the code of a number that a call was given
 pub code-of-given : (n : ℤ) (v : ℕ) → SFits w64 n → v ≡ codeOf (toZ w64 (ofZ w64 n)) → v ≡ codeOf n

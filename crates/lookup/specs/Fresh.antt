@@ -7,10 +7,10 @@ use lib.ListN.{replicate}
 use lib.IntN.{ℤ}
 use Rattle.index.specs.declared.Found.{Found}
 use Rattle.index.specs.declared.Found.the-variants.{At, Nothing}
-use Rattle.groups.specs.Codes.{codeOf}
+use Rattle.varint.specs.Codes.{codeOf}
 use Rattle.params.specs.Check.{firstBroken}
 use Rattle.records.specs.Records.{State, slotCount, topicCount, noPeer, noTopic}
-use Rattle.cells.specs.View.{placeCount, stateOf}
+use Rattle.layout.specs.View.{placeCount, stateOf}
 use Rattle.lookup.specs.declared.Made.{Made}
 use Rattle.lookup.specs.declared.Made.the-variants.{Done, Broken}
 

@@ -4,7 +4,7 @@ ghost use Prim.Native.Nat.{_<_};
 ghost use lib.ListN.{length};
 ghost use Rattle.index.specs.Index.{first};
 ghost use Rattle.records.specs.Records.{peerIn, isEmpty, slotCount};
-ghost use Rattle.cells.specs.View.{stateOf, cellCount};
+ghost use Rattle.layout.specs.View.{stateOf, cellCount};
 ghost use Rattle.lookup.specs.Find.{holds, findConnected, findRetained, lowestEmpty};
 use index::Found;
 use records::SLOTS;
@@ -14,8 +14,8 @@ fn holds(table: &[u64], status: u64, id: u64, slot: usize) -> bool
     requires { ⌜ (length (now table) ≡ cellCount) × (slot < slotCount) ⌝ }
     ensures { λ r. ⌜ r ≡ holds (stateOf (now (table .entry))) status id slot ⌝ }
 {
-    let own = cells::load_status(table, slot);
-    let held = cells::load_id(table, slot);
+    let own = layout::load_status(table, slot);
+    let held = layout::load_id(table, slot);
     (own == status) & (held == id)
 }
 
@@ -53,7 +53,7 @@ fn is_empty(table: &[u64], slot: usize) -> bool
     requires { ⌜ (length (now table) ≡ cellCount) × (slot < slotCount) ⌝ }
     ensures { λ r. ⌜ r ≡ isEmpty (peerIn (stateOf (now (table .entry))) slot) ⌝ }
 {
-    cells::load_status(table, slot) == 0
+    layout::load_status(table, slot) == 0
 }
 
 // The lowest empty slot.

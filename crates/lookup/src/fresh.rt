@@ -2,11 +2,11 @@
 ghost use mathlib.Core.Path.{_≡_};
 ghost use mathlib.Core.List.{map};
 ghost use lib.ListN.{length};
-ghost use Rattle.groups.specs.Codes.{codeOf};
-ghost use Rattle.cells.specs.View.{cellCount, stateOf};
+ghost use Rattle.varint.specs.Codes.{codeOf};
+ghost use Rattle.layout.specs.View.{cellCount, stateOf};
 ghost use Rattle.lookup.specs.Fresh.{freshState, Makes};
 use crate::Made;
-use cells::PARAMS;
+use layout::PARAMS;
 use index::Found;
 use params::Params;
 
@@ -17,7 +17,7 @@ fn codes_of(params: Params) -> [u64; PARAMS]
     let mut codes = [0u64; PARAMS];
     let mut i: usize = 0;
     while i < PARAMS {
-        codes[i] = groups::code_of(params.numbers[i]);
+        codes[i] = varint::code_of(params.numbers[i]);
         i += 1;
     }
     codes
@@ -29,8 +29,8 @@ fn fill(params: Params, table: &mut [u64])
     ensures { λ r. ⌜ stateOf (now (table .exit)) ≡ freshState (params .numbers) ⌝ }
 {
     let codes = codes_of(params);
-    cells::clear(table);
-    cells::store_codes(table, &codes);
+    layout::clear(table);
+    layout::store_codes(table, &codes);
 }
 
 // Makes the table a fresh router's with these parameters, if they pass the check.

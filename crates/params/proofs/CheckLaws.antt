@@ -13,7 +13,7 @@ use Rattle.index.specs.Index.{first, every, orElse}
 use Rattle.index.specs.declared.Found.{Found}
 use Rattle.index.specs.declared.Found.the-variants.{At, Nothing}
 use Rattle.index.proofs.Index.{both, first-passed, first-is}
-use Rattle.groups.specs.Codes.{numberOf}
+use Rattle.varint.specs.Codes.{numberOf}
 use Rattle.params.specs.Limits.{inLimits}
 use Rattle.params.specs.Joint.{rule}
 use Rattle.params.specs.Check.{outside, broken, asRule, firstBroken, isNothing, acceptedCodes}

@@ -12,7 +12,7 @@ use lib.IntN.{ℤ, pos, negsuc, _+ℤ_, _*ℤ_}
 use lib.Signed.{leZ, ltZ}
 use Rattle.index.specs.Index.{every}
 use Rattle.index.proofs.Flags.{leb-same}
-use Rattle.groups.specs.Codes.{codeOf, numberOf}
+use Rattle.varint.specs.Codes.{codeOf, numberOf}
 use Rattle.params.specs.Limits.{limits, limitAt, fieldOf, at}
 use Rattle.params.specs.Joint.{place, capRule, joint, rule}
 use Rattle.params.proofs.LimitLaws.{topic-field}

@@ -13,8 +13,8 @@ use lib.Signed.{leZ}
 use mir.Facts.{and-yes}
 use Rattle.index.specs.Index.{every}
 use Rattle.index.proofs.Index.{every-at}
-use Rattle.groups.specs.Codes.{codeOf, numberOf}
-use Rattle.groups.proofs.CodeLaws.{code-size, code-number}
+use Rattle.varint.specs.Codes.{codeOf, numberOf}
+use Rattle.varint.proofs.CodeLaws.{code-size, code-number}
 use Rattle.params.specs.Limits.{limitAt, fieldOf, at, lies, inLimits}
 use Rattle.params.proofs.LimitLaws.{sides, size-most, size-above, size-below, gain-is, loss-is, gain-sign, loss-sign}
 

@@ -14,7 +14,7 @@ use mir.Syntax.{w64}
 use mir.Val.{SFits, toZ, ofZ}
 use mir.Facts.{and-yes, toZ-ofZ, sfits-lit}
 use Rattle.index.proofs.Index.{both}
-use Rattle.groups.specs.Codes.{codeOf}
+use Rattle.varint.specs.Codes.{codeOf}
 use Rattle.params.specs.declared.Limit.{Limit}
 use Rattle.params.specs.Limits.{to, limits, fieldOf, limitAt, at, lies, inLimits}
 use Rattle.params.specs.Check.{outside}

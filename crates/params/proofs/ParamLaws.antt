@@ -11,7 +11,7 @@ use lib.Dec.{leb, lit<}
 use lib.ListN.{getD}
 use Rattle.index.specs.Index.{every}
 use Rattle.index.proofs.Index.{every-at}
-use Rattle.groups.specs.Codes.{numberOf}
+use Rattle.varint.specs.Codes.{numberOf}
 use Rattle.params.specs.Limits.{limits, limitAt}
 use Rattle.params.specs.Joint.{place, capRule, rule}
 use Rattle.params.specs.Check.{acceptedCodes}

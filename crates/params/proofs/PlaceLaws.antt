@@ -15,11 +15,11 @@ use Rattle.index.specs.declared.Found.{Found}
 use Rattle.index.specs.declared.Found.the-variants.{At, Nothing}
 use Rattle.index.proofs.Index.{first-is}
 use Rattle.index.proofs.Flags.{by-test, by-order, cond-case}
-use Rattle.groups.specs.Groups.{readAt, afterMore, lastGroup}
-use Rattle.groups.specs.Codes.{numberOf}
-use Rattle.groups.specs.declared.Read.{Read}
-use Rattle.groups.specs.declared.Read.the-variants.{Number, Bad}
-use Rattle.groups.proofs.GroupLaws.{readAt-end, last-is, more-is, after-small}
+use Rattle.varint.specs.Groups.{readAt, afterMore, lastGroup}
+use Rattle.varint.specs.Codes.{numberOf}
+use Rattle.varint.specs.declared.Read.{Read}
+use Rattle.varint.specs.declared.Read.the-variants.{Number, Bad}
+use Rattle.varint.proofs.GroupLaws.{readAt-end, last-is, more-is, after-small}
 use Rattle.params.specs.Check.{outside, broken, asRule, firstBroken}
 use Rattle.params.specs.Read.{Parse, numbers, malformed, then, step, parseFrom, ending, judgedBy, judged, readOf, verdictValue}
 use Rattle.params.specs.Write.{writeBy, writeOf, writtenValue}

@@ -14,12 +14,12 @@ use lib.IntN.{ℤ, pos}
 use Rattle.index.specs.declared.Found.{Found}
 use Rattle.index.specs.declared.Found.the-variants.{At, Nothing}
 use Rattle.index.proofs.Flags.{by-test}
-use Rattle.groups.specs.Groups.{readAt, encode}
-use Rattle.groups.specs.Codes.{codeOf, numberOf}
-use Rattle.groups.specs.declared.Read.{Read}
-use Rattle.groups.specs.declared.Read.the-variants.{Number, Bad}
-use Rattle.groups.proofs.GroupLaws.{readAt-encode, readAt-written, Front, length-le}
-use Rattle.groups.proofs.CodeLaws.{number-code, code-number}
+use Rattle.varint.specs.Groups.{readAt, encode}
+use Rattle.varint.specs.Codes.{codeOf, numberOf}
+use Rattle.varint.specs.declared.Read.{Read}
+use Rattle.varint.specs.declared.Read.the-variants.{Number, Bad}
+use Rattle.varint.proofs.GroupLaws.{readAt-encode, readAt-written, Front, length-le}
+use Rattle.varint.proofs.CodeLaws.{number-code, code-number}
 use Rattle.params.specs.Limits.{at}
 use Rattle.params.specs.Check.{firstBroken}
 use Rattle.params.specs.Read.{Parse, numbers, malformed, then, step, parseFrom, ending, refusal, judgedBy, judged, readOf, frontOf}

@@ -13,7 +13,7 @@ use mir.Val.{toZ, ofZ}
 use Rattle.index.specs.Index.{every}
 use Rattle.index.proofs.Index.{every-at, every-by, every-same}
 use Rattle.index.proofs.Flags.{by-test, by-order}
-use Rattle.groups.specs.Codes.{numberOf}
+use Rattle.varint.specs.Codes.{numberOf}
 use Rattle.params.specs.declared.Limit.{Limit}
 use Rattle.params.specs.Limits.{limitAt, inLimits}
 use Rattle.params.proofs.LimitLaws.{topic-field, lies-at}

@@ -17,11 +17,11 @@ use mir.Val.{SFits, toZ, ofZ}
 use Rattle.index.specs.declared.Found.{Found}
 use Rattle.index.specs.declared.Found.the-variants.{At, Nothing}
 use Rattle.index.proofs.Lists.{sets-append}
-use Rattle.groups.specs.Groups.{encode, putOf}
-use Rattle.groups.specs.Codes.{codeOf}
-use Rattle.groups.specs.declared.Put.{Put}
-use Rattle.groups.specs.declared.Put.the-variants.{Next, Full}
-use Rattle.groups.proofs.GroupLaws.{length-le, Left, put-fits, put-next, put-full}
+use Rattle.varint.specs.Groups.{encode, putOf}
+use Rattle.varint.specs.Codes.{codeOf}
+use Rattle.varint.specs.declared.Put.{Put}
+use Rattle.varint.specs.declared.Put.the-variants.{Next, Full}
+use Rattle.varint.proofs.GroupLaws.{length-le, Left, put-fits, put-next, put-full}
 use Rattle.params.specs.Limits.{at}
 use Rattle.params.specs.Check.{firstBroken}
 use Rattle.params.specs.Write.{bytesOf, Writing, writeBy, writeOf}

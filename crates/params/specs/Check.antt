@@ -8,7 +8,7 @@ use lib.IntN.{ℤ}
 use Rattle.index.specs.Index.{first, orElse}
 use Rattle.index.specs.declared.Found.{Found}
 use Rattle.index.specs.declared.Found.the-variants.{At, Nothing}
-use Rattle.groups.specs.Codes.{numberOf}
+use Rattle.varint.specs.Codes.{numberOf}
 use Rattle.params.specs.Limits.{inLimits}
 use Rattle.params.specs.Joint.{rule}
 

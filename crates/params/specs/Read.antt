@@ -7,10 +7,10 @@ use lib.ListN.{length, replicate}
 use lib.IntN.{ℤ, pos}
 use Rattle.index.specs.declared.Found.{Found}
 use Rattle.index.specs.declared.Found.the-variants.{At, Nothing}
-use Rattle.groups.specs.Groups.{readAt}
-use Rattle.groups.specs.Codes.{numberOf}
-use Rattle.groups.specs.declared.Read.{Read}
-use Rattle.groups.specs.declared.Read.the-variants.{Number, Bad}
+use Rattle.varint.specs.Groups.{readAt}
+use Rattle.varint.specs.Codes.{numberOf}
+use Rattle.varint.specs.declared.Read.{Read}
+use Rattle.varint.specs.declared.Read.the-variants.{Number, Bad}
 use Rattle.params.specs.Check.{firstBroken}
 use Rattle.params.specs.declared.Verdict.{Verdict}
 use Rattle.params.specs.declared.Verdict.the-variants.{Accepted, Malformed, Broken}

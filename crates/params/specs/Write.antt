@@ -8,8 +8,8 @@ use lib.Seq.{sets}
 use lib.IntN.{ℤ}
 use Rattle.index.specs.declared.Found.{Found}
 use Rattle.index.specs.declared.Found.the-variants.{At, Nothing}
-use Rattle.groups.specs.Groups.{encode}
-use Rattle.groups.specs.Codes.{codeOf}
+use Rattle.varint.specs.Groups.{encode}
+use Rattle.varint.specs.Codes.{codeOf}
 use Rattle.params.specs.Check.{firstBroken}
 use Rattle.params.specs.declared.Written.{Written}
 use Rattle.params.specs.declared.Written.the-variants.{Done, Short, Outside}

@@ -1,8 +1,8 @@
 // The router's parameters (01, "The sheet"): 147 numbers, their limits and joint rules, and their form in bytes. The limits stand in one
 // table, by which the check goes, and through it the reader and the writer. Another edition of the parameters changes a row of the table, or
 // a joint rule in `keeps` and `codes_keep`, and the same line of specs/Limits.antt or specs/Joint.antt.
-use groups::Put;
-use groups::Read;
+use varint::Put;
+use varint::Read;
 use index::Found;
 ghost use mathlib.Core.Path.{_≡_};
 ghost use mathlib.Core.Bool.{true, _&&_};
@@ -13,7 +13,7 @@ ghost use lib.IntN.{natAbs};
 ghost use lib.Seq.{sets};
 ghost use lib.Signed.{leZ, ltZ};
 ghost use Rattle.index.specs.Index.{first, every};
-ghost use Rattle.groups.specs.Codes.{codeOf, numberOf};
+ghost use Rattle.varint.specs.Codes.{codeOf, numberOf};
 ghost use Rattle.params.specs.Limits.{to, limits, fieldOf, limitAt, lies, inLimits, at};
 ghost use Rattle.params.specs.Joint.{capRule, rule};
 ghost use Rattle.params.specs.Check.{outside, broken, firstBroken, acceptedCodes};
@@ -232,7 +232,7 @@ impl Params {
         requires { ⌜ i < 147 ⌝ }
         ensures { λ r. ⌜ r ≡ natAbs (at (self .numbers) i) ⌝ }
     {
-        groups::magnitude(self.numbers[i])
+        varint::magnitude(self.numbers[i])
     }
 
     // Whether number i is at most number j.
@@ -340,14 +340,14 @@ fn parse(s: &[u8]) -> Parsed
     let mut at: usize = 0;
     let mut i: usize = 0;
     while i < 147 {
-        let Read::Number(u, next) = groups::read_u64(s, at) else {
+        let Read::Number(u, next) = varint::read_u64(s, at) else {
             return Parsed {
                 ok: false,
                 place: at,
                 params: Params { numbers },
             };
         };
-        let v = groups::number_of(u);
+        let v = varint::number_of(u);
         numbers[i] = v;
         at = next;
         i += 1;
@@ -421,8 +421,8 @@ impl Params {
         let mut at: usize = 0;
         let mut i: usize = 0;
         while i < 147 {
-            let u = groups::code_of(self.numbers[i]);
-            let Put::Next(next) = groups::write_u64(buf, at, u) else {
+            let u = varint::code_of(self.numbers[i]);
+            let Put::Next(next) = varint::write_u64(buf, at, u) else {
                 return at;
             };
             at = next;
@@ -449,7 +449,7 @@ impl Params {
 fn code_lies(u: u64, low: i64, high: i64) -> bool
     ensures { λ r. ⌜ r ≡ (leZ low (numberOf u) && leZ (numberOf u) high) ⌝ }
 {
-    between(low, groups::number_of(u), high)
+    between(low, varint::number_of(u), high)
 }
 
 // Whether the codes of the general numbers lie between their limits.

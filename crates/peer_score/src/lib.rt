@@ -5,10 +5,10 @@ ghost use Prim.Native.Nat.{_+_, _*_, _<_, _≤_};
 ghost use mathlib.Core.Bool.{true};
 ghost use lib.ListN.{length};
 ghost use Rattle.index.specs.Index.{one};
-ghost use Rattle.cells.specs.View.{cellCount, stateOf};
+ghost use Rattle.layout.specs.View.{cellCount, stateOf};
 ghost use Rattle.records.specs.Records.{topicCount};
 ghost use Rattle.params.specs.Joint.{place as topicPlace};
-ghost use Rattle.table.specs.Valid.{valid};
+ghost use Rattle.validity.specs.Valid.{valid};
 ghost use Rattle.score.specs.Ranges.{ShareIn, TopicsIn, PartsIn};
 ghost use Rattle.score.specs.Sums.{sumOf};
 ghost use Rattle.score.specs.Score.{sizeIn, topicParamsIn, scoreParamsIn, sharesGroup, sharing, shareAt, partsAt, whyIn, Scores};
@@ -76,8 +76,8 @@ fn shares(table: &[u64], group: u64, slot: usize) -> u64
     requires { ⌜ (length (now table) ≡ cellCount) × (slot < 64) ⌝ }
     ensures { λ r. ⌜ (r ≡ one (sharesGroup (stateOf (now (table .entry))) group slot)) × (r ≤ 1) ⌝ }
 {
-    let status = cells::load_status(table, slot);
-    let other = cells::load_group(table, slot);
+    let status = layout::load_status(table, slot);
+    let other = layout::load_group(table, slot);
     if (status == 1) & (other == group) {
         1
     } else {
@@ -106,7 +106,7 @@ fn share_at(table: &[u64], slot: usize, t: usize) -> Balance
 {
     topic::share(
         load_params(table, t),
-        cells::load_topic(table, slot * 8 + t),
+        layout::load_topic(table, slot * 8 + t),
     )
 }
 
@@ -129,7 +129,7 @@ pub fn score_parts(table: &[u64], slot: usize) -> Parts
     requires { ⌜ (length (now table) ≡ cellCount) × ((valid (stateOf (now table)) ≡ true) × (slot < 64)) ⌝ }
     ensures { λ r. ⌜ (r ≡ partsAt (stateOf (now (table .entry))) slot) × PartsIn r ⌝ }
 {
-    let p = cells::load_peer(table, slot);
+    let p = layout::load_peer(table, slot);
     let together = sharing_of(table, p.group);
     sums::parts(
         load_general(table),

@@ -10,15 +10,15 @@ use lib.IntN.{ℤ, natAbs}
 use mir.Val.{SFits, toZ, ofZ}
 use mir.Syntax.{w64}
 use mir.Facts.{toZ-ofZ}
-use Rattle.groups.specs.Codes.{codeOf}
+use Rattle.varint.specs.Codes.{codeOf}
 use Rattle.index.specs.declared.Found.{Found}
 use Rattle.index.specs.declared.Found.the-variants.{At, Nothing}
 use Rattle.index.specs.Index.{iter}
 use Rattle.index.proofs.Index.{first-is}
 use Rattle.records.specs.Records.{State, peerIn, isEmpty, setClock}
-use Rattle.cells.specs.View.{cellCount, stateOf, Sized}
-use Rattle.cells.proofs.StateLaws.{sized-of}
-use Rattle.cells.proofs.Whole.{determined}
+use Rattle.layout.specs.View.{cellCount, stateOf, Sized}
+use Rattle.layout.proofs.StateLaws.{sized-of}
+use Rattle.layout.proofs.Whole.{determined}
 use Rattle.lookup.specs.Find.{holds, findConnected, findRetained, lowestEmpty}
 use Rattle.lookup.specs.declared.Named.{Named}
 use Rattle.lookup.specs.declared.Named.the-variants.{Version, Unknown}

@@ -5,13 +5,13 @@ ghost use Prim.Native.Nat.{_<_};
 ghost use lib.ListN.{length};
 ghost use lib.Dec.{leb};
 ghost use lib.IntN.{natAbs};
-ghost use Rattle.cells.specs.View.{cellCount, stateOf};
+ghost use Rattle.layout.specs.View.{cellCount, stateOf};
 ghost use Rattle.rules.specs.Calls.{connect as Calls·connect, disconnect as Calls·disconnect, rate as Calls·rate, score as Calls·score};
 ghost use Rattle.rules.specs.Step.{effect, connectIn, connectAt, connectReply};
 ghost use Rattle.effects.specs.Effects.{reclaimed};
 ghost use Rattle.rules.specs.Promise.{Leaves, Follows};
 ghost use Rattle.gate.specs.Ready.{Ready};
-use cells::CELLS;
+use layout::CELLS;
 use effects::connections::connect_slot;
 use effects::connections::reclaim;
 use effects::connections::retain_slot;
@@ -27,7 +27,7 @@ use lookup::Named;
 use lookup::find::find_connected;
 use rules::Answer;
 use rules::Gate;
-use table::valid::MAX_ID;
+use validity::valid::MAX_ID;
 
 // A record in a slot becomes a connected one.
 fn connect_at(
@@ -134,7 +134,7 @@ pub fn disconnect(table: &mut [u64; CELLS], time: u64, id: u64, actions: &mut [u
 fn p5_ok(p5: i64) -> bool
     ensures { λ r. ⌜ r ≡ leb (natAbs p5) 1000000000 ⌝ }
 {
-    groups::magnitude(p5) <= 1000000000
+    varint::magnitude(p5) <= 1000000000
 }
 
 fn rate_from(table: &mut [u64], time: u64, id: u64, p5: i64) -> Answer
@@ -144,7 +144,7 @@ fn rate_from(table: &mut [u64], time: u64, id: u64, p5: i64) -> Answer
     let Found::At(slot) = find_connected(table, id) else {
         return Answer::NotConnected;
     };
-    rate_slot(table, slot, groups::code_of(p5));
+    rate_slot(table, slot, varint::code_of(p5));
     finish(table, time)
 }
 
@@ -167,7 +167,7 @@ fn score_from(table: &mut [u64], time: u64, id: u64) -> Answer
         return Answer::NotConnected;
     };
     let w = peer_score::why_of(table, slot);
-    cells::store_clock(table, time);
+    layout::store_clock(table, time);
     Answer::Scored(w)
 }
 

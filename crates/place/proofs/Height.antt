@@ -10,12 +10,12 @@ use lib.IntN.{ℤ, pos, natAbs, _+ℤ_}
 use lib.Signed.{leZ, ltZ}
 use borrow.Author.Tests.{leb-true, le-leb, eqb-true, eqb-false, not-true}
 use Rattle.index.proofs.Index.{count-same}
-use Rattle.groups.specs.Codes.{numberOf, signedOf}
+use Rattle.varint.specs.Codes.{numberOf, signedOf}
 use Rattle.records.specs.declared.Peer.{Peer}
 use Rattle.records.specs.Records.{State, slotCount, codeIn, peerIn, topicIn, place, setPeer, isConnected}
-use Rattle.cells.specs.View.{Sized}
-use Rattle.cells.proofs.StateLaws.{peer-same, peer-other, peer-case, code-after-peer, topic-after-peer}
-use Rattle.table.specs.Valid.{valid}
+use Rattle.layout.specs.View.{Sized}
+use Rattle.layout.proofs.StateLaws.{peer-same, peer-other, peer-case, code-after-peer, topic-after-peer}
+use Rattle.validity.specs.Valid.{valid}
 use Rattle.score.specs.declared.Balance.{Balance}
 use Rattle.score.specs.Ranges.{scoreMost}
 use Rattle.score.specs.Sums.{p5Of, partsOf, totalOf, sumOf, offsetOf}

@@ -12,12 +12,12 @@ use lib.Signed.{leZ}
 use borrow.Author.Tests.{not-true}
 use Rattle.index.proofs.Index.{both, gather-same}
 use Rattle.index.proofs.Flags.{by-order}
-use Rattle.groups.specs.Codes.{numberOf}
+use Rattle.varint.specs.Codes.{numberOf}
 use Rattle.records.specs.declared.Peer.{Peer}
 use Rattle.records.specs.Records.{State, slotCount, codeIn, peerIn, topicIn, place, setPeer, setClock, isConnected}
-use Rattle.cells.specs.View.{Sized, stateOf}
-use Rattle.cells.proofs.StateLaws.{sized-of, sized-peer, topic-after-peer, joined-after-peer, clock-after-peer}
-use Rattle.table.specs.Valid.{valid}
+use Rattle.layout.specs.View.{Sized, stateOf}
+use Rattle.layout.proofs.StateLaws.{sized-of, sized-peer, topic-after-peer, joined-after-peer, clock-after-peer}
+use Rattle.validity.specs.Valid.{valid}
 use Rattle.effects.specs.Effects.{withP5, isMember, isSubscribed, isJoined}
 use Rattle.sets.specs.Sets.{bySlot, at, isPermutation}
 use Rattle.sets.proofs.SlotLaws.{slots-at, slots-past}

@@ -14,16 +14,16 @@ use Rattle.index.specs.Index.{iter}
 use Rattle.index.specs.declared.Found.the-variants.{At}
 use Rattle.index.proofs.Index.{both, iter-keeps}
 use Rattle.index.proofs.Flags.{by-test, cond-case}
-use Rattle.groups.specs.Codes.{codeOf}
+use Rattle.varint.specs.Codes.{codeOf}
 use Rattle.params.specs.Limits.{at}
 use Rattle.records.specs.declared.Peer.{Peer}
 use Rattle.records.specs.declared.TopicRecord.{TopicRecord}
 use Rattle.records.specs.Records.{State, noTopic, place, codeIn, peerIn, topicIn, setClock, isConnected}
-use Rattle.cells.specs.View.{Sized}
-use Rattle.cells.proofs.StateLaws.{topic-same, topic-other, topic-after-peer, topic-after-clock, peer-same, peer-other, peer-after-topic}
-use Rattle.cells.proofs.StateLaws.{peer-after-clock, joined-after-topic, joined-after-clock, code-after-topic, code-after-clock}
-use Rattle.cells.proofs.StateLaws.{codes-after-topic, codes-after-peer, sized-topic, sized-peer}
-use Rattle.table.proofs.ValidLaws.{valid-facts}
+use Rattle.layout.specs.View.{Sized}
+use Rattle.layout.proofs.StateLaws.{topic-same, topic-other, topic-after-peer, topic-after-clock, peer-same, peer-other, peer-after-topic}
+use Rattle.layout.proofs.StateLaws.{peer-after-clock, joined-after-topic, joined-after-clock, code-after-topic, code-after-clock}
+use Rattle.layout.proofs.StateLaws.{codes-after-topic, codes-after-peer, sized-topic, sized-peer}
+use Rattle.validity.proofs.ValidLaws.{valid-facts}
 use Rattle.lookup.specs.Find.{findConnected}
 use Rattle.lookup.proofs.FindLaws.{connected-is}
 use Rattle.score.specs.Counters.{withCounters, raised3Of, firstOf, nearFirstOf, invalidOf, fadedOf, meshOf, decayedOf}
@@ -35,9 +35,9 @@ use Rattle.rules.specs.Reply.{Reply, numberOf, ignored}
 use Rattle.rules.specs.Calls.{deliver, decay, idOk, topicOk}
 use Rattle.rules.specs.Step.{isHeard, deliveredOf, deliverReply, decayFloor, decayTopic, decayP7, decaySlot, decayReply, effect}
 use Rattle.rules.proofs.CaseLaws.{topic-in, arguments, by-gate}
-use Rattle.history.specs.Lists.{after}
-use Rattle.history.proofs.Standing.{degree-is}
-use Rattle.history.proofs.Demand3.{standing}
+use Rattle.call_lists.specs.Lists.{after}
+use Rattle.call_lists.proofs.Standing.{degree-is}
+use Rattle.call_lists.proofs.Demand3.{standing}
 use Rattle.promises.specs.Counters.{SamePlace, Counted, Delivered, Deliveries, fades, toZero, Faded, Decayed, Decay}
 
 -- ---- one record by the sheet's numbers, in any state that holds the sheet

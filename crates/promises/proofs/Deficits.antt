@@ -16,16 +16,16 @@ use Rattle.index.specs.declared.Found.{Found}
 use Rattle.index.specs.declared.Found.the-variants.{At, Nothing}
 use Rattle.index.proofs.Index.{iter-keeps}
 use Rattle.index.proofs.Flags.{by-test, cond-case}
-use Rattle.groups.specs.Codes.{codeOf}
+use Rattle.varint.specs.Codes.{codeOf}
 use Rattle.records.specs.declared.Peer.{Peer}
 use Rattle.records.specs.declared.TopicRecord.{TopicRecord}
 use Rattle.records.specs.Records.{State, noPeer, noTopic, place, codeIn, peerIn, topicIn, setClock, setJoined, setPeer, setTopic}
 use Rattle.records.specs.Records.{isConnected}
-use Rattle.cells.specs.View.{Sized}
-use Rattle.cells.proofs.StateLaws.{topic-case, topic-after-clock, topic-after-joined, topic-after-peer, codes-after-peer, codes-after-topic}
-use Rattle.cells.proofs.StateLaws.{peer-same, peer-other, peer-after-clock}
-use Rattle.table.specs.Valid.{valid}
-use Rattle.table.proofs.ValidLaws.{valid-facts}
+use Rattle.layout.specs.View.{Sized}
+use Rattle.layout.proofs.StateLaws.{topic-case, topic-after-clock, topic-after-joined, topic-after-peer, codes-after-peer, codes-after-topic}
+use Rattle.layout.proofs.StateLaws.{peer-same, peer-other, peer-after-clock}
+use Rattle.validity.specs.Valid.{valid}
+use Rattle.validity.proofs.ValidLaws.{valid-facts}
 use Rattle.lookup.specs.declared.Named.{Named}
 use Rattle.lookup.specs.declared.Named.the-variants.{Version, Unknown}
 use Rattle.lookup.specs.Name.{versionOf}
@@ -47,8 +47,8 @@ use Rattle.rules.specs.Step.{isGraylisted, isHeard, onFound, onVersion, ofPeer,
 use Rattle.rules.specs.Step.{subscribeReply, unsubscribeReply, graftEnters, graftRefused, graftOpen, graftBackoff, graftHeard, graftReply}
 use Rattle.rules.specs.Step.{pruneReply, deliveredOf, deliverReply, decayFloor, decayTopic, decayP7, decaySlot, decayReply, effect, step}
 use Rattle.rules.proofs.CaseLaws.{by-gate}
-use Rattle.history.specs.Lists.{after}
-use Rattle.history.proofs.Demand3.{standing}
+use Rattle.call_lists.specs.Lists.{after}
+use Rattle.call_lists.proofs.Demand3.{standing}
 use Rattle.promises.specs.Grown.{p3bIn, OnlyByPrune, P3bGrows}
 use Rattle.promises.proofs.Grown.{grown-by-leave, grown-by-heartbeat}
 

@@ -14,10 +14,10 @@ use Rattle.index.specs.declared.Found.{Found}
 use Rattle.index.specs.declared.Found.the-variants.{At, Nothing}
 use Rattle.index.proofs.Flags.{cond-case}
 use Rattle.records.specs.Records.{State, slotCount, peerIn, setClock}
-use Rattle.cells.specs.View.{stateOf, cellCount}
-use Rattle.cells.proofs.Whole.{determined}
-use Rattle.cells.proofs.ViewLaws.{clock-store}
-use Rattle.table.specs.Valid.{valid}
+use Rattle.layout.specs.View.{stateOf, cellCount}
+use Rattle.layout.proofs.Whole.{determined}
+use Rattle.layout.proofs.ViewLaws.{clock-store}
+use Rattle.validity.specs.Valid.{valid}
 use Rattle.lookup.specs.Find.{findConnected, findRetained, lowestEmpty}
 use Rattle.lookup.specs.declared.Named.{Named}
 use Rattle.lookup.specs.declared.Named.the-variants.{Version, Unknown}

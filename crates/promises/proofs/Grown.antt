@@ -12,11 +12,11 @@ use lib.IntN.{ℤ}
 use Rattle.index.specs.Index.{iter}
 use Rattle.index.proofs.Index.{both, iter-keeps}
 use Rattle.index.proofs.Flags.{by-test, cond-case}
-use Rattle.groups.specs.Codes.{codeOf}
+use Rattle.varint.specs.Codes.{codeOf}
 use Rattle.records.specs.declared.TopicRecord.{TopicRecord}
 use Rattle.records.specs.Records.{State, slotCount, place, topicIn, setClock, setJoined}
-use Rattle.cells.specs.View.{Sized}
-use Rattle.cells.proofs.StateLaws.{topic-same, topic-other}
+use Rattle.layout.specs.View.{Sized}
+use Rattle.layout.proofs.StateLaws.{topic-same, topic-other}
 use Rattle.score.specs.Counters.{grownOf}
 use Rattle.score.specs.Parts.{part3Of}
 use Rattle.score.specs.Score.{topicParamsIn}
@@ -32,7 +32,7 @@ use Rattle.rules.specs.Step.{step}
 use Rattle.rules.proofs.CaseLaws.{topic-in, arguments, by-gate}
 use Rattle.rules.proofs.PunishedLaws.{punished-sized}
 use Rattle.rules.proofs.HeartbeatLaws.{settled-sized, settled-member}
-use Rattle.history.proofs.Standing.{degree-is}
+use Rattle.call_lists.proofs.Standing.{degree-is}
 use Rattle.promises.specs.Grown.{p3Of, Grown}
 use Rattle.promises.proofs.Told.{leave-sized, leave-out}
 

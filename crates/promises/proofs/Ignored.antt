@@ -14,15 +14,15 @@ use borrow.Author.Tests.{eqb-true, eqb-false, eq-eqb}
 use Rattle.index.specs.declared.Found.{Found}
 use Rattle.index.specs.declared.Found.the-variants.{At, Nothing}
 use Rattle.rules.specs.declared.Answer.the-variants.{NotConnected}
-use Rattle.table.specs.Valid.{valid}
+use Rattle.validity.specs.Valid.{valid}
 use Rattle.rules.proofs.CaseLaws.{by-peer}
 use Rattle.index.proofs.Index.{both}
 use Rattle.index.proofs.Flags.{by-test, cond-case}
-use Rattle.groups.specs.Codes.{codeOf, numberOf as signed}
-use Rattle.groups.proofs.CodeLaws.{number-code}
+use Rattle.varint.specs.Codes.{codeOf, numberOf as signed}
+use Rattle.varint.proofs.CodeLaws.{number-code}
 use Rattle.params.specs.Limits.{at}
 use Rattle.records.specs.Records.{State, codeIn, peerIn, joinedIn}
-use Rattle.table.proofs.ValidLaws.{valid-facts}
+use Rattle.validity.proofs.ValidLaws.{valid-facts}
 use Rattle.lookup.specs.Find.{findConnected}
 use Rattle.lookup.proofs.FindLaws.{connected-at, none-connected, connected-is}
 use Rattle.effects.specs.Effects.{isJoined, isMember, backoffRuns}
@@ -31,8 +31,8 @@ use Rattle.rules.specs.Calls.{Call, connect, disconnect, join, leave, subscribe
 use Rattle.rules.specs.Calls.{score}
 use Rattle.rules.specs.Step.{onFound, ofPeer, joinReply, leaveReply, decayReply, isGraylisted, isHeard, subscribeReply, unsubscribeReply}
 use Rattle.rules.specs.Step.{graftEnters, graftRefused, graftOpen, graftBackoff, graftHeard, graftReply, pruneReply, deliverReply, effect}
-use Rattle.history.specs.Lists.{after}
-use Rattle.history.proofs.Demand3.{standing}
+use Rattle.call_lists.specs.Lists.{after}
+use Rattle.call_lists.proofs.Demand3.{standing}
 use Rattle.promises.specs.Ignored.{Graylisted, Sender, Words11, Row11, Row0}
 use Rattle.promises.proofs.Numbers.{iff-yes, iff-no, late-connect, heartbeat-11, behind, else-done, row-behind}
 

@@ -15,12 +15,12 @@ use Rattle.index.specs.declared.Found.{Found}
 use Rattle.index.specs.declared.Found.the-variants.{At, Nothing}
 use Rattle.index.proofs.Index.{both}
 use Rattle.index.proofs.Flags.{cond-case}
-use Rattle.groups.specs.Codes.{codeOf}
+use Rattle.varint.specs.Codes.{codeOf}
 use Rattle.records.specs.declared.TopicRecord.{TopicRecord}
 use Rattle.records.specs.Records.{State, slotCount, place, peerIn}
-use Rattle.cells.specs.View.{Sized}
-use Rattle.table.specs.Valid.{valid}
-use Rattle.table.proofs.ValidLaws.{valid-facts}
+use Rattle.layout.specs.View.{Sized}
+use Rattle.validity.specs.Valid.{valid}
+use Rattle.validity.proofs.ValidLaws.{valid-facts}
 use Rattle.lookup.specs.Find.{findConnected}
 use Rattle.lookup.proofs.FindLaws.{connected-at}
 use Rattle.sets.specs.Sets.{at, isPermutation}
@@ -32,12 +32,12 @@ use Rattle.rules.specs.Calls.{Call, connect, disconnect, join, leave, subscribe
 use Rattle.rules.specs.Calls.{score, topicOk, argumentsOk}
 use Rattle.rules.specs.Step.{onFound, ofPeer, maintainedReply, heartbeatReply, meshesIn, effect, step}
 use Rattle.rules.proofs.CaseLaws.{topic-in, topic-of-both, arguments, by-gate}
-use Rattle.history.specs.Lists.{Made, after}
-use Rattle.history.specs.Demand3.{Accepted}
-use Rattle.history.proofs.Standing.{member-connected, fresh-topic}
-use Rattle.history.proofs.Demand3.{standing}
-use Rattle.history.specs.Played.{made}
-use Rattle.history.proofs.Played.{agrees}
+use Rattle.call_lists.specs.Lists.{Made, after}
+use Rattle.call_lists.specs.Demand3.{Accepted}
+use Rattle.call_lists.proofs.Standing.{member-connected, fresh-topic}
+use Rattle.call_lists.proofs.Demand3.{standing}
+use Rattle.call_lists.specs.Played.{made}
+use Rattle.call_lists.proofs.Played.{agrees}
 use Rattle.promises.specs.Ends.{endIn}
 use Rattle.promises.specs.Told.{times}
 use Rattle.promises.specs.KeptOut.{shutBy, shutUntil, KeptOutOf, KeptOut, ProgramKeptOut}

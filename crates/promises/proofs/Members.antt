@@ -18,8 +18,8 @@ use Rattle.index.proofs.Flags.{by-test, cond-case}
 use Rattle.records.specs.declared.Peer.{Peer}
 use Rattle.records.specs.declared.TopicRecord.{TopicRecord}
 use Rattle.records.specs.Records.{State, slotCount, place, peerIn, topicIn, setClock, isConnected}
-use Rattle.cells.proofs.StateLaws.{topic-case, peer-after-topic}
-use Rattle.table.specs.Valid.{valid}
+use Rattle.layout.proofs.StateLaws.{topic-case, peer-after-topic}
+use Rattle.validity.specs.Valid.{valid}
 use Rattle.lookup.specs.declared.Named.{Named}
 use Rattle.lookup.specs.declared.Named.the-variants.{Version, Unknown}
 use Rattle.lookup.specs.Name.{versionOf}

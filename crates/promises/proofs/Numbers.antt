@@ -13,15 +13,15 @@ use lib.ListN.{getD}
 use Rattle.index.specs.Index.{every}
 use Rattle.index.proofs.Index.{every-by}
 use Rattle.records.specs.declared.Peer.{Peer}
-use Rattle.cells.specs.View.{Sized}
-use Rattle.table.proofs.ValidLaws.{valid-facts}
+use Rattle.layout.specs.View.{Sized}
+use Rattle.validity.proofs.ValidLaws.{valid-facts}
 use Rattle.lookup.proofs.NameLaws.{same-bytes, same-self, first-name, second-name}
 use Rattle.effects.proofs.EffectLaws.{reclaimed-peer, reclaimable-retained, reclaimable-end, reclaimable-over, none-reclaimed, full-stays}
 use Rattle.index.specs.declared.Found.{Found}
 use Rattle.index.specs.declared.Found.the-variants.{At, Nothing}
 use Rattle.index.proofs.Flags.{by-test, cond-case}
 use Rattle.records.specs.Records.{State, noPeer, slotCount, peerIn, joinedIn}
-use Rattle.table.specs.Valid.{valid}
+use Rattle.validity.specs.Valid.{valid}
 use Rattle.lookup.specs.Find.{findConnected, findRetained, lowestEmpty}
 use Rattle.lookup.proofs.FindLaws.{connected-at, retained-at, empty-at, none-connected, none-retained, none-empty}
 use Rattle.lookup.specs.declared.Named.{Named}

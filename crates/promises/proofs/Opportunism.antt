@@ -8,16 +8,16 @@ use mathlib.Core.List.{List, map}
 use lib.Dec.{eqb, leb, ltb}
 use lib.IntN.{ℤ}
 use borrow.Author.Tests.{eq-eqb, ne-eqb, le-leb, lt-leb, lt-ltb, le-ltb}
-use Rattle.groups.specs.Codes.{codeOf}
+use Rattle.varint.specs.Codes.{codeOf}
 use Rattle.records.specs.Records.{State, slotCount}
 use Rattle.sets.specs.Sets.{size, bySlot, both, above, fill}
 use Rattle.mesh.specs.declared.Degrees.{Degrees}
 use Rattle.mesh.specs.declared.Meshes.{Meshes}
 use Rattle.mesh.specs.Maintenance.{zeroScore, median, mesh5, meshes}
 use Rattle.rules.specs.Step.{isCandidate, heightIn, degreesIn, viewIn, meshesIn}
-use Rattle.history.specs.Lists.{after}
-use Rattle.history.proofs.Standing.{degree-is}
-use Rattle.history.proofs.Demand3.{standing}
+use Rattle.call_lists.specs.Lists.{after}
+use Rattle.call_lists.proofs.Standing.{degree-is}
+use Rattle.call_lists.proofs.Demand3.{standing}
 use Rattle.promises.specs.Opportunism.{opportunistic, degreesOf, Fifth, Opportunism}
 
 module _ (params : List ℤ) (st : State) (codes : st .codes ≡ map codeOf params) where

@@ -14,17 +14,17 @@ use Rattle.index.specs.declared.Found.{Found}
 use Rattle.index.specs.declared.Found.the-variants.{At, Nothing}
 use Rattle.index.proofs.Index.{both, iter-keeps}
 use Rattle.index.proofs.Flags.{by-test, cond-case}
-use Rattle.groups.specs.Codes.{codeOf}
+use Rattle.varint.specs.Codes.{codeOf}
 use Rattle.records.specs.declared.Peer.{Peer}
 use Rattle.records.specs.declared.TopicRecord.{TopicRecord}
 use lib.ListN.{length}
 use Rattle.records.specs.Records.{State, noPeer, noTopic, slotCount, place, codeIn, peerIn, joinedIn, setClock, setJoined, setPeer}
 use Rattle.records.specs.Records.{setTopic, isConnected}
-use Rattle.cells.specs.View.{Sized}
-use Rattle.cells.proofs.StateLaws.{peer-case, peer-same, peer-other, peer-after-clock, peer-after-joined, peer-after-topic, code-after-peer}
-use Rattle.cells.proofs.StateLaws.{code-after-topic, sized-peer}
-use Rattle.table.specs.Valid.{valid}
-use Rattle.table.proofs.ValidLaws.{valid-facts}
+use Rattle.layout.specs.View.{Sized}
+use Rattle.layout.proofs.StateLaws.{peer-case, peer-same, peer-other, peer-after-clock, peer-after-joined, peer-after-topic, code-after-peer}
+use Rattle.layout.proofs.StateLaws.{code-after-topic, sized-peer}
+use Rattle.validity.specs.Valid.{valid}
+use Rattle.validity.proofs.ValidLaws.{valid-facts}
 use Rattle.lookup.specs.declared.Named.{Named}
 use Rattle.lookup.specs.declared.Named.the-variants.{Version, Unknown}
 use Rattle.lookup.specs.Name.{versionOf}
@@ -49,8 +49,8 @@ use Rattle.rules.proofs.CaseLaws.{by-peer, by-gate}
 use Rattle.rules.proofs.GateLaws.{gate-0}
 use Rattle.rules.proofs.PunishedLaws.{punished-peer}
 use Rattle.gate.proofs.StandingLaws.{sizes}
-use Rattle.history.specs.Lists.{after}
-use Rattle.history.proofs.Demand3.{standing}
+use Rattle.call_lists.specs.Lists.{after}
+use Rattle.call_lists.proofs.Demand3.{standing}
 use Rattle.promises.specs.Numbers.{Admitted}
 use Rattle.promises.specs.Penalty.{TooEarly, p7In, P7Rises}
 use Rattle.promises.proofs.Ignored.{deaf, not-deaf}

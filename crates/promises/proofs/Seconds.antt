@@ -14,9 +14,9 @@ use Rattle.index.proofs.Flags.{cond-case}
 use Rattle.params.specs.Limits.{at}
 use Rattle.records.specs.declared.Peer.{Peer}
 use Rattle.records.specs.Records.{State, slotCount, peerIn, setPeer}
-use Rattle.cells.specs.View.{Sized}
-use Rattle.cells.proofs.StateLaws.{peer-same, code-after-peer}
-use Rattle.table.specs.Valid.{valid}
+use Rattle.layout.specs.View.{Sized}
+use Rattle.layout.proofs.StateLaws.{peer-same, code-after-peer}
+use Rattle.validity.specs.Valid.{valid}
 use Rattle.effects.specs.Actions.{Action, pruneOf}
 use Rattle.score.specs.Counters.{countMost, raisedOf}
 use Rattle.effects.specs.Effects.{pruneBackoff, unsubscribeBackoff, withP7, isJoined, isMember, backoffRuns}
@@ -28,9 +28,9 @@ use Rattle.rules.specs.Calls.{leave, graft, heartbeat}
 use Rattle.rules.specs.Step.{toldIn, actionIn, leaveActions, leaveReply, meshesIn, heartbeatActions, maintainedReply, heartbeatReply}
 use Rattle.rules.specs.Step.{isHeard, graftEnters, graftRefused, graftOpen, graftBackoff, graftHeard, graftReply, effect}
 use Rattle.rules.proofs.CaseLaws.{by-peer, by-gate}
-use Rattle.history.specs.Lists.{after}
-use Rattle.history.proofs.Standing.{degree-is}
-use Rattle.history.proofs.Demand3.{standing}
+use Rattle.call_lists.specs.Lists.{after}
+use Rattle.call_lists.proofs.Standing.{degree-is}
+use Rattle.call_lists.proofs.Demand3.{standing}
 use Rattle.promises.specs.Told.{Each, Seconds, ToldSeconds}
 use Rattle.promises.proofs.Told.{id-is}
 

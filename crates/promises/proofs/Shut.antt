@@ -14,12 +14,12 @@ use Rattle.index.specs.declared.Found.{Found}
 use Rattle.index.specs.declared.Found.the-variants.{At, Nothing}
 use Rattle.index.proofs.Index.{both}
 use Rattle.index.proofs.Flags.{by-test, by-order, cond-case}
-use Rattle.groups.specs.Codes.{codeOf}
+use Rattle.varint.specs.Codes.{codeOf}
 use Rattle.records.specs.declared.Peer.{Peer}
 use Rattle.records.specs.Records.{State, slotCount, place, peerIn, topicIn, setClock, setJoined, setPeer}
-use Rattle.cells.specs.View.{Sized}
-use Rattle.cells.proofs.StateLaws.{codes-after-peer, peer-same, sized-topic}
-use Rattle.table.specs.Valid.{valid}
+use Rattle.layout.specs.View.{Sized}
+use Rattle.layout.proofs.StateLaws.{codes-after-peer, peer-same, sized-topic}
+use Rattle.validity.specs.Valid.{valid}
 use Rattle.lookup.specs.declared.Named.{Named}
 use Rattle.lookup.specs.declared.Named.the-variants.{Version, Unknown}
 use Rattle.lookup.specs.Name.{versionOf}
@@ -39,7 +39,7 @@ use Rattle.rules.specs.Step.{leaveActions, leaveReply, subscribeReply, unsubscr
 use Rattle.rules.specs.Step.{graftHeard, graftReply, secondsOf, pruneReply, deliverReply, meshesIn, punished, settleSlot, maintainedReply}
 use Rattle.rules.specs.Step.{heartbeatReply, decayReply, effect}
 use Rattle.rules.proofs.PunishedLaws.{punished-sized}
-use Rattle.history.proofs.Standing.{degree-is, member-connected}
+use Rattle.call_lists.proofs.Standing.{degree-is, member-connected}
 use Rattle.promises.specs.Ends.{endIn}
 use Rattle.promises.specs.Told.{times}
 use Rattle.promises.specs.KeptOut.{pruneSeconds, leaveSeconds, told, shutBy}

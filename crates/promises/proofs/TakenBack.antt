@@ -9,7 +9,7 @@ use mathlib.Core.List.{[], _∷_}
 use lib.Dec.{eqb, leb}
 use lib.IntN.{ℤ, pos, negsuc, negℤ, _*ℤ_}
 use lib.Signed.{ltZ}
-use Rattle.groups.specs.Codes.{numberOf as signed}
+use Rattle.varint.specs.Codes.{numberOf as signed}
 use Rattle.params.proofs.ParamLaws.{general}
 use Rattle.score.specs.Score.{scoreIn}
 use borrow.Author.Tests.{eqb-false, eq-eqb, ne-eqb, le-leb, lt-leb, le-ltb}
@@ -17,10 +17,10 @@ use Rattle.index.specs.declared.Found.the-variants.{At}
 use Rattle.index.proofs.Flags.{cond-case}
 use Rattle.records.specs.declared.Peer.{Peer}
 use Rattle.records.specs.Records.{State, codeIn, peerIn, topicIn, setClock, setPeer}
-use Rattle.cells.specs.View.{Sized}
-use Rattle.cells.proofs.StateLaws.{peer-same, code-after-peer}
-use Rattle.table.specs.Valid.{maxTime, valid}
-use Rattle.table.proofs.ValidLaws.{valid-facts}
+use Rattle.layout.specs.View.{Sized}
+use Rattle.layout.proofs.StateLaws.{peer-same, code-after-peer}
+use Rattle.validity.specs.Valid.{maxTime, valid}
+use Rattle.validity.proofs.ValidLaws.{valid-facts}
 use Rattle.lookup.specs.Find.{findConnected}
 use Rattle.lookup.proofs.FindLaws.{connected-is}
 use Rattle.score.specs.Counters.{countMost, raisedOf}

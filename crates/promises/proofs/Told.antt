@@ -16,10 +16,10 @@ use Rattle.index.proofs.Index.{both, iter-keeps}
 use Rattle.index.proofs.Flags.{by-test, by-order, cond-case}
 use Rattle.records.specs.declared.Peer.{Peer}
 use Rattle.records.specs.Records.{State, slotCount, noPeer, place, peerIn, topicIn, setClock, setJoined}
-use Rattle.cells.specs.View.{Sized}
-use Rattle.table.specs.Valid.{valid}
-use Rattle.table.proofs.ValidLaws.{valid-facts}
-use Rattle.table.proofs.Keeps.{ids-apart}
+use Rattle.layout.specs.View.{Sized}
+use Rattle.validity.specs.Valid.{valid}
+use Rattle.validity.proofs.ValidLaws.{valid-facts}
+use Rattle.validity.proofs.Keeps.{ids-apart}
 use Rattle.effects.specs.Actions.{Action, pruneOf}
 use Rattle.effects.specs.Effects.{isJoined, isMember, unsubscribeBackoff, pruned, endAfter}
 use Rattle.effects.proofs.Walks.{iter-once, iter-before}
@@ -36,7 +36,7 @@ use Rattle.rules.specs.Step.{maintainedReply, heartbeatReply, effect}
 use Rattle.rules.proofs.CaseLaws.{topic-in, arguments, by-gate}
 use Rattle.rules.proofs.HeartbeatLaws.{candidate-connected, view-apart, view-whole, degrees-rules, settled-member}
 use Rattle.rules.proofs.PunishedLaws.{punished-apart, punished-sized}
-use Rattle.history.proofs.Standing.{member-connected}
+use Rattle.call_lists.proofs.Standing.{member-connected}
 use Rattle.promises.specs.Told.{times, Told, ToldIsDone}
 use Rattle.promises.proofs.Slots.{timesAt, grafts-at, prunes-at, others-at, past-at}
 use Rattle.promises.proofs.Members.{new-candidate}

@@ -12,8 +12,8 @@ use Rattle.records.specs.Records.{State, slotCount, topicCount, place, joinedIn
 use Rattle.rules.specs.Reply.{numberOf}
 use Rattle.rules.specs.Calls.{deliver, decay}
 use Rattle.rules.specs.Step.{step}
-use Rattle.history.specs.Lists.{Made, after}
-use Rattle.history.specs.Demand3.{Accepted}
+use Rattle.call_lists.specs.Lists.{Made, after}
+use Rattle.call_lists.specs.Demand3.{Accepted}
 use Rattle.promises.specs.Parameters.{topicNumber}
 
 -- what neither deliveries nor decay alter

@@ -14,8 +14,8 @@ use Rattle.effects.specs.Effects.{isMember}
 use Rattle.score.specs.Score.{scoreIn}
 use Rattle.rules.specs.Calls.{Call, connect, leave, heartbeat}
 use Rattle.rules.specs.Step.{step}
-use Rattle.history.specs.Lists.{Made, after}
-use Rattle.history.specs.Demand3.{Accepted}
+use Rattle.call_lists.specs.Lists.{Made, after}
+use Rattle.call_lists.specs.Demand3.{Accepted}
 use Rattle.promises.specs.Parameters.{topicNumber}
 
 -- "P3 = (threshold - counter)² for a member with mesh time > activation and counter < threshold, else 0": numbers 10 and 11 of a topic

@@ -10,15 +10,15 @@ use lib.Dec.{eqb, ltb}
 use lib.IntN.{ℤ, natAbs}
 use Rattle.params.specs.Limits.{at}
 use Rattle.records.specs.Records.{slotCount, topicCount, place, peerIn, topicIn}
-use Rattle.cells.specs.View.{stateOf}
+use Rattle.layout.specs.View.{stateOf}
 use Rattle.effects.specs.Effects.{isMember, endAfter}
 use Rattle.rules.specs.Reply.{Reply, numberOf}
 use Rattle.rules.specs.Calls.{Call, connect, disconnect, join, leave, subscribe, unsubscribe, graft, prune, deliver, rate, heartbeat, decay}
 use Rattle.rules.specs.Calls.{score}
 use Rattle.rules.specs.Step.{step}
-use Rattle.history.specs.Lists.{Made, after}
-use Rattle.history.specs.Demand3.{Accepted}
-use Rattle.history.specs.Played.{Called, made, Played}
+use Rattle.call_lists.specs.Lists.{Made, after}
+use Rattle.call_lists.specs.Demand3.{Accepted}
+use Rattle.call_lists.specs.Played.{Called, made, Played}
 use Rattle.promises.specs.Ends.{endIn}
 use Rattle.promises.specs.Told.{times}
 

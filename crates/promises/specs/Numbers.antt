@@ -8,8 +8,8 @@ use mathlib.Core.List.{List}
 use lib.IntN.{ℤ, pos, negℤ}
 use lib.Signed.{ltZ}
 use Rattle.records.specs.Records.{State, slotCount, topicCount, peerIn}
-use Rattle.cells.specs.View.{Sized}
-use Rattle.table.specs.Valid.{valid}
+use Rattle.layout.specs.View.{Sized}
+use Rattle.validity.specs.Valid.{valid}
 use Rattle.sets.specs.Sets.{isPermutation}
 use Rattle.lookup.specs.Name.{meshsub}
 use Rattle.rules.specs.Reply.{numberOf}

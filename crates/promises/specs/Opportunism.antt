@@ -11,8 +11,8 @@ use Rattle.mesh.specs.declared.Degrees.{Degrees}
 use Rattle.mesh.specs.declared.Meshes.{Meshes}
 use Rattle.mesh.specs.Maintenance.{zeroScore, median}
 use Rattle.rules.specs.Step.{isCandidate, heightIn, degreesIn, meshesIn}
-use Rattle.history.specs.Lists.{Made, after}
-use Rattle.history.specs.Demand3.{Accepted}
+use Rattle.call_lists.specs.Lists.{Made, after}
+use Rattle.call_lists.specs.Demand3.{Accepted}
 
 -- "General, index 0 on: D_lo, D, D_hi [..]; D_out [..]; D_score [..]; opportunistic threshold [..] in thousandths of a point" (index 8).
 -- Scores are moved up by 2.6 × 10^18 here, as maintenance takes them.

@@ -9,8 +9,8 @@ use Rattle.records.specs.Records.{State, slotCount, peerIn, joinedIn}
 use Rattle.effects.specs.Effects.{isMember}
 use Rattle.rules.specs.Calls.{Call, graft}
 use Rattle.rules.specs.Step.{step}
-use Rattle.history.specs.Lists.{Made, after}
-use Rattle.history.specs.Demand3.{Accepted}
+use Rattle.call_lists.specs.Lists.{Made, after}
+use Rattle.call_lists.specs.Demand3.{Accepted}
 use Rattle.promises.specs.Ends.{endIn}
 use Rattle.promises.specs.Numbers.{Admitted}
 use Rattle.promises.specs.Ignored.{Graylisted}

@@ -9,8 +9,8 @@ use lib.Dec.{eqb}
 use lib.IntN.{pos}
 use lib.Signed.{ltZ}
 use Rattle.records.specs.Records.{State, slotCount, topicCount, place, peerIn, topicIn, joinedIn}
-use Rattle.cells.specs.View.{Sized}
-use Rattle.table.specs.Valid.{maxTime, valid}
+use Rattle.layout.specs.View.{Sized}
+use Rattle.validity.specs.Valid.{maxTime, valid}
 use Rattle.score.specs.Score.{scoreIn}
 use Rattle.effects.specs.Actions.{Action}
 use Rattle.effects.specs.Effects.{highDegree, pruneBackoff, meshSize, isMember}

@@ -10,14 +10,14 @@ use lib.IntN.{ℤ, natAbs}
 use Rattle.index.specs.Index.{one}
 use Rattle.params.specs.Limits.{at}
 use Rattle.records.specs.Records.{State, slotCount, peerIn}
-use Rattle.cells.specs.View.{Sized}
+use Rattle.layout.specs.View.{Sized}
 use Rattle.effects.specs.Actions.{Action}
 use Rattle.effects.specs.Effects.{isMember}
 use Rattle.rules.specs.Reply.{Reply}
 use Rattle.rules.specs.Calls.{leave, graft, heartbeat}
 use Rattle.rules.specs.Step.{step}
-use Rattle.history.specs.Lists.{Made, after}
-use Rattle.history.specs.Demand3.{Accepted}
+use Rattle.call_lists.specs.Lists.{Made, after}
+use Rattle.call_lists.specs.Demand3.{Accepted}
 
 -- how many actions of a kind (1 GRAFT, 2 PRUNE) go to an id
 unfoldable pub times : ℕ → ℕ → List Action → ℕ

@@ -1,4 +1,4 @@
--- What a list of calls reaches, computed without the first tests: after every list the tables are a router's (crate history), so a call
+-- What a list of calls reaches, computed without the first tests: after every list the tables are a router's (crate call_lists), so a call
 -- that is in range and not early passes them, and its reply is its effect.
 -- Assumes nothing.
 use native.Mathlib.Omega.{arith}
@@ -17,9 +17,9 @@ use Rattle.rules.specs.Reply.{Reply}
 use Rattle.rules.specs.Calls.{Call, timeOf, inRange}
 use Rattle.rules.specs.Step.{actionRoom, through, effect, step}
 use Rattle.rules.proofs.GateLaws.{gate-0}
-use Rattle.history.specs.Lists.{Made, after}
-use Rattle.history.specs.Demand3.{Accepted}
-use Rattle.history.proofs.Demand3.{standing}
+use Rattle.call_lists.specs.Lists.{Made, after}
+use Rattle.call_lists.specs.Demand3.{Accepted}
+use Rattle.call_lists.proofs.Demand3.{standing}
 use Rattle.reached.specs.Reached.{lent, behind, reply, replies, reached, asked}
 
 -- the tests 2 and 1 along a list of calls, and what their effects leave and give

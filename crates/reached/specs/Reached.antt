@@ -19,9 +19,9 @@ use Rattle.rules.specs.declared.Answer.the-variants.{Done, Scored}
 use Rattle.rules.specs.Reply.{Reply, numberOf}
 use Rattle.rules.specs.Calls.{Call, connect, join, subscribe, graft, prune, deliver, rate, heartbeat, score}
 use Rattle.rules.specs.Step.{actionRoom, step}
-use Rattle.history.specs.Lists.{Made, after}
+use Rattle.call_lists.specs.Lists.{Made, after}
 
--- ---- lists of calls, the first call first, each lent an action list of 192 numbers. Crate history has them the last call first
+-- ---- lists of calls, the first call first, each lent an action list of 192 numbers. Crate call_lists has them the last call first
 abbrev pub lent : Call → Made
 lent c = record { call = c; room = actionRoom }
 

@@ -1,5 +1,5 @@
 // The records that the router holds (01, "What the router holds"). Every field is a number, and a flag is 0 or 1, so that an empty record
-// is all zeros. A new field changes the layout (crate cells), test 12 (crate table) and the `with..` definitions of specs/Records.antt.
+// is all zeros. A new field changes the layout (crate layout), test 12 (crate validity) and the `with..` definitions of specs/Records.antt.
 
 // How many peers the router holds, and how many topics.
 pub const SLOTS: usize = 64;
@@ -19,7 +19,7 @@ pub struct Peer {
     pub explicit: u64,
     // 0 for /meshsub/1.0.0, 1 for /meshsub/1.1.0
     pub version: u64,
-    // the score that the host sets, as the code of a signed number (crate groups)
+    // the score that the host sets, as the code of a signed number (crate varint)
     pub p5: u64,
     // the counter of P7
     pub p7: u64,

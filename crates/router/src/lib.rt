@@ -15,10 +15,10 @@ pub use topics::join;
 pub use topics::subscribe;
 pub use topics::unsubscribe;
 ghost use mathlib.Core.Path.{_≡_};
-ghost use Rattle.cells.specs.View.{stateOf};
-ghost use Rattle.table.specs.Valid.{valid};
+ghost use Rattle.layout.specs.View.{stateOf};
+ghost use Rattle.validity.specs.Valid.{valid};
 ghost use Rattle.lookup.specs.Fresh.{Makes};
-use cells::CELLS;
+use layout::CELLS;
 use lookup::Made;
 use params::Params;
 
@@ -33,5 +33,5 @@ pub fn fresh(all: Params, table: &mut [u64; CELLS]) -> Made
 pub fn is_router(table: &[u64; CELLS]) -> bool
     ensures { λ r. ⌜ r ≡ valid (stateOf (now (table .entry))) ⌝ }
 {
-    table::valid::is_router(table)
+    validity::valid::is_router(table)
 }

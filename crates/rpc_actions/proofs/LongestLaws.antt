@@ -12,7 +12,7 @@ use lib.Seq.{getD-append-add}
 use Rattle.index.specs.Index.{every, count, one, gather}
 use Rattle.index.proofs.Index.{both}
 use Rattle.index.proofs.Flags.{by-test, by-order}
-use Rattle.groups.specs.Groups.{encode, groups}
+use Rattle.varint.specs.Groups.{encode, groups}
 use Rattle.rpc_write.specs.Writing.{valueField, partField, nameSize, nameOf, entryBytes, oneBytes, kindBytes, controlBytes, controlField}
 use Rattle.rpc_write.specs.Writing.{entryOk, messageOf, listOk, writeOf, wroteValue}
 use Rattle.rpc_write.proofs.LengthLaws.{isSub, message-long}

@@ -9,7 +9,7 @@ use lib.Dec.{eqb, ltb, leb}
 use lib.ListN.{length, getD, length-append}
 use Rattle.index.specs.Index.{gather, count, one}
 use Rattle.index.proofs.Flags.{by-test, by-order}
-use Rattle.groups.specs.Groups.{encode}
+use Rattle.varint.specs.Groups.{encode}
 use Rattle.rpc.specs.Reading.{rowBytes}
 use Rattle.rpc_write.specs.Writing.{valueField, partField, nameSize, nameOf, entryBytes, oneBytes, kindBytes, controlBytes}
 use Rattle.rpc_write.specs.Writing.{controlField, messageOf, listOk}

@@ -14,8 +14,8 @@ use Rattle.index.specs.Index.{every, gather}
 use Rattle.index.proofs.Index.{both, every-at, every-fails, every-done, gather-none, gather-more}
 use Rattle.index.proofs.Flags.{by-order}
 use Rattle.index.proofs.Lists.{sets-append}
-use Rattle.groups.specs.Groups.{encode}
-use Rattle.groups.proofs.GroupLaws.{encode-last, encode-more}
+use Rattle.varint.specs.Groups.{encode}
+use Rattle.varint.proofs.GroupLaws.{encode-last, encode-more}
 use Rattle.rpc.specs.Reading.{rowBytes}
 use Rattle.rpc_write.specs.Writing.{Stored, Fitting, partSize, valueField, headBytes, partField, nameSize, nameByte, nameOf, early}
 use Rattle.rpc_write.specs.Writing.{late, nameNumber, entryBytes, oneBytes, kindBytes, controlBytes, controlField, messageOf}

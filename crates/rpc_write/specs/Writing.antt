@@ -10,7 +10,7 @@ use lib.Seq.{sets}
 use denote.Ref.{RefT, now}
 use denote.Triple.Both.{Both}
 use Rattle.index.specs.Index.{every, gather}
-use Rattle.groups.specs.Groups.{encode}
+use Rattle.varint.specs.Groups.{encode}
 use Rattle.rpc.specs.Messages.{subscription, graft, prune}
 use Rattle.rpc.specs.Reading.{topics, nameBytes, rowBytes}
 use Rattle.rpc_write.specs.declared.Wrote.{Wrote}

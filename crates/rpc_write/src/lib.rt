@@ -5,7 +5,7 @@ ghost use mathlib.Core.Path.{_≡_};
 ghost use mathlib.Core.Bool.{true};
 ghost use Prim.Native.Nat.{_+_, _*_, _≤_, _<_};
 ghost use lib.ListN.{length, set};
-ghost use Rattle.groups.specs.Groups.{encode};
+ghost use Rattle.varint.specs.Groups.{encode};
 ghost use Rattle.rpc_write.specs.Writing.{Stored, Fitting, partSize, nameSize, nameOf, valueField, partField, headBytes};
 ghost use Rattle.rpc_write.specs.Writing.{early, late, nameNumber, entryBytes, oneBytes, kindBytes, controlBytes, controlField};
 ghost use Rattle.rpc_write.specs.Writing.{messageOf, entryOk, listOk, writeOf, Puts, ControlSize, Writes};

@@ -8,7 +8,7 @@ use borrow.Author.Tests.{le-leb, lt-leb, leb-true}
 use lib.Dec.{leb}
 use Rattle.index.proofs.Flags.{by-test}
 use Rattle.records.specs.Records.{State}
-use Rattle.table.specs.Valid.{valid}
+use Rattle.validity.specs.Valid.{valid}
 use Rattle.rules.specs.declared.Answer.{Answer}
 use Rattle.rules.specs.declared.Answer.the-variants.{Early, OutOfRange, ListShort, NotRouter}
 use Rattle.rules.specs.declared.Gate.the-variants.{Pass, Refuse}

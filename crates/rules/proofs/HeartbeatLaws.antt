@@ -18,10 +18,10 @@ use Rattle.index.proofs.Flags.{by-test, cond-case}
 use Rattle.records.specs.declared.Peer.{Peer}
 use Rattle.records.specs.Records.{State, slotCount, place, codeIn, peerIn, isConnected}
 use Rattle.params.proofs.ParamLaws.{joints}
-use Rattle.cells.specs.View.{Sized}
-use Rattle.cells.proofs.StateLaws.{peer-after-topic, sized-topic}
-use Rattle.table.specs.Valid.{valid}
-use Rattle.table.proofs.ValidLaws.{valid-facts}
+use Rattle.layout.specs.View.{Sized}
+use Rattle.layout.proofs.StateLaws.{peer-after-topic, sized-topic}
+use Rattle.validity.specs.Valid.{valid}
+use Rattle.validity.proofs.ValidLaws.{valid-facts}
 use Rattle.score.specs.declared.Balance.{Balance}
 use Rattle.score.specs.Ranges.{scoreMost}
 use Rattle.score.specs.Sums.{worth, offsetOf}

@@ -8,8 +8,8 @@ use lib.IntN.{natAbs}
 use borrow.Author.Tests.{leb-true}
 use Rattle.index.proofs.Index.{both}
 use Rattle.records.specs.Records.{State}
-use Rattle.cells.specs.View.{Sized}
-use Rattle.table.specs.Valid.{maxTime, valid}
+use Rattle.layout.specs.View.{Sized}
+use Rattle.validity.specs.Valid.{maxTime, valid}
 use Rattle.rules.specs.Calls.{Call, connect, disconnect, join, leave, subscribe, unsubscribe, graft, prune, deliver, rate, heartbeat, decay, score, timeOf, idOk, topicOk, timeOk, argumentsOk, inRange}
 use Rattle.rules.specs.Reply.{Reply}
 use Rattle.rules.specs.Step.{effect}

@@ -10,7 +10,7 @@ use Rattle.index.proofs.Index.{iter-keeps}
 use Rattle.index.proofs.Flags.{cond-case}
 use Rattle.records.specs.declared.TopicRecord.{TopicRecord}
 use Rattle.records.specs.Records.{State, place, codeIn, peerIn, topicIn, setClock, isConnected}
-use Rattle.table.specs.Valid.{topicParam}
+use Rattle.validity.specs.Valid.{topicParam}
 use Rattle.score.specs.declared.TopicParams.{TopicParams}
 use Rattle.score.specs.Ranges.{TopicParamsIn, CountersWithin}
 use Rattle.score.specs.Counters.{withCounters, firstOf, nearFirstOf, invalidOf, fadedOf, meshOf, decayedOf}

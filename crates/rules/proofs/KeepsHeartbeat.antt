@@ -12,8 +12,8 @@ use Rattle.index.proofs.Flags.{cond-case}
 use Rattle.records.specs.declared.Peer.{Peer}
 use Rattle.records.specs.declared.TopicRecord.{TopicRecord}
 use Rattle.records.specs.Records.{State, slotCount, place, joinedIn, peerIn, topicIn}
-use Rattle.cells.proofs.StateLaws.{peer-after-topic, topic-after-peer}
-use Rattle.table.specs.Valid.{maxEnd, valid}
+use Rattle.layout.proofs.StateLaws.{peer-after-topic, topic-after-peer}
+use Rattle.validity.specs.Valid.{maxEnd, valid}
 use Rattle.score.specs.Score.{topicParamsIn}
 use Rattle.score.specs.Counters.{grownOf}
 use Rattle.effects.specs.Effects.{withEnd, outOfMesh, intoMesh, onTopic, isJoined, isMember, pruned, endAfter, pruneBackoff}

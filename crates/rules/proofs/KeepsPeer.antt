@@ -11,19 +11,19 @@ use Rattle.index.specs.declared.Found.{Found}
 use Rattle.index.specs.declared.Found.the-variants.{At, Nothing}
 use Rattle.index.proofs.Index.{iter-keeps}
 use Rattle.index.proofs.Flags.{by-test, cond-case}
-use Rattle.groups.specs.Codes.{codeOf}
+use Rattle.varint.specs.Codes.{codeOf}
 use Rattle.records.specs.declared.Peer.{Peer}
 use Rattle.records.specs.declared.TopicRecord.{TopicRecord}
 use Rattle.records.specs.Records.{State, noPeer, noTopic, place, joinedIn, peerIn, topicIn, setPeer, setTopic}
-use Rattle.cells.proofs.StateLaws.{topic-after-peer}
-use Rattle.table.specs.Valid.{maxId}
+use Rattle.layout.proofs.StateLaws.{topic-after-peer}
+use Rattle.validity.specs.Valid.{maxId}
 use Rattle.lookup.specs.Find.{findConnected, findRetained, lowestEmpty}
 use Rattle.lookup.specs.declared.Named.{Named}
 use Rattle.lookup.specs.declared.Named.the-variants.{Version, Unknown}
 use Rattle.lookup.specs.Name.{versionOf}
 use Rattle.lookup.proofs.NameLaws.{version-small}
 use Rattle.lookup.proofs.FindLaws.{retained-at, empty-at, none-connected, none-retained}
-use Rattle.table.proofs.ValidLaws.{no-peer, no-topic, zero-is}
+use Rattle.validity.proofs.ValidLaws.{no-peer, no-topic, zero-is}
 use Rattle.effects.specs.Effects.{withP5, connectedAs, retainedTo, withSubscribed, outOfMesh, leftTopic, departed, endAfter, retainSeconds, reclaimable, emptied, reclaimSlot, reclaimed, onPeer}
 use Rattle.effects.proofs.EffectLaws.{departed-topic, emptied-topic, reclaimed-peer}
 use Rattle.rules.specs.declared.Answer.the-variants.{NoSlot, AlreadyConnected, UnknownProtocol}

@@ -7,12 +7,12 @@ use mathlib.Core.List.{List}
 use lib.ListN.{getD, set}
 use lib.IntN.{ℤ, pos, negsuc, natAbs}
 use Rattle.index.proofs.Lists.{set-case}
-use Rattle.groups.specs.Codes.{codeOf}
+use Rattle.varint.specs.Codes.{codeOf}
 use Rattle.records.specs.declared.Peer.{Peer}
 use Rattle.records.specs.declared.TopicRecord.{TopicRecord}
 use Rattle.records.specs.Records.{noTopic}
-use Rattle.table.specs.Valid.{maxTime, maxEnd, maxRetain, maxId}
-use Rattle.table.proofs.ValidLaws.{PeerFacts, TopicFacts}
+use Rattle.validity.specs.Valid.{maxTime, maxEnd, maxRetain, maxId}
+use Rattle.validity.proofs.ValidLaws.{PeerFacts, TopicFacts}
 use Rattle.score.specs.Counters.{withCounters}
 use Rattle.effects.specs.Effects.{withEnd, withP5, withP7, connectedAs, retainedTo, outOfMesh, intoMesh, withSubscribed}
 

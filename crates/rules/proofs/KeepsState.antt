@@ -11,12 +11,12 @@ use Rattle.index.proofs.Flags.{cond-case}
 use Rattle.records.specs.declared.Peer.{Peer}
 use Rattle.records.specs.declared.TopicRecord.{TopicRecord}
 use Rattle.records.specs.Records.{State, place, codeIn, joinedIn, peerIn, topicIn, setClock, setJoined, setPeer, setTopic}
-use Rattle.cells.specs.View.{Sized}
-use Rattle.cells.proofs.StateLaws.{sized-clock, sized-joined, sized-peer, sized-topic, peer-after-topic}
+use Rattle.layout.specs.View.{Sized}
+use Rattle.layout.proofs.StateLaws.{sized-clock, sized-joined, sized-peer, sized-topic, peer-after-topic}
 use Rattle.params.proofs.ParamLaws.{General, general}
-use Rattle.table.specs.Valid.{maxTime, maxEnd, maxRetain, topicParam, cap2, cap3, valid}
-use Rattle.table.proofs.ValidLaws.{PeerFacts, TopicFacts, Facts, valid-facts, facts-valid}
-use Rattle.table.proofs.Keeps.{ids-apart, facts-clock, facts-peer, facts-topic, facts-joined}
+use Rattle.validity.specs.Valid.{maxTime, maxEnd, maxRetain, topicParam, cap2, cap3, valid}
+use Rattle.validity.proofs.ValidLaws.{PeerFacts, TopicFacts, Facts, valid-facts, facts-valid}
+use Rattle.validity.proofs.Keeps.{ids-apart, facts-clock, facts-peer, facts-topic, facts-joined}
 use Rattle.effects.specs.Effects.{withEnd, withP7, onPeer, outOfMesh, pruned, endAfter, pruneBackoff, unsubscribeBackoff, retainSeconds}
 use Rattle.effects.proofs.EffectLaws.{ends-with}
 use Rattle.rules.specs.Reply.{Reply}

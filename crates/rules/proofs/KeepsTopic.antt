@@ -13,7 +13,7 @@ use Rattle.index.proofs.Index.{both, iter-keeps}
 use Rattle.index.proofs.Flags.{by-test, cond-case}
 use Rattle.records.specs.declared.Peer.{Peer}
 use Rattle.records.specs.Records.{State, place, joinedIn, peerIn, topicIn, setJoined}
-use Rattle.table.specs.Valid.{maxEnd}
+use Rattle.validity.specs.Valid.{maxEnd}
 use Rattle.score.specs.Counters.{countMost, raisedOf, grownOf}
 use Rattle.score.specs.Score.{topicParamsIn}
 use Rattle.effects.specs.Effects.{withEnd, withP7, onPeer, onTopic, isJoined, isMember, isSubscribed, backoffRuns, pruned, endAfter, pruneBackoff, unsubscribeBackoff}

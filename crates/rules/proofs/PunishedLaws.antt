@@ -5,8 +5,8 @@ use mathlib.Core.Path.{_≡_, refl}
 use mathlib.Core.Logic.{_≢_}
 use Rattle.index.proofs.Flags.{cond-case}
 use Rattle.records.specs.Records.{State, place, peerIn}
-use Rattle.cells.specs.View.{Sized}
-use Rattle.cells.proofs.StateLaws.{peer-after-topic, sized-topic}
+use Rattle.layout.specs.View.{Sized}
+use Rattle.layout.proofs.StateLaws.{peer-after-topic, sized-topic}
 use Rattle.score.specs.Score.{topicParamsIn}
 use Rattle.score.specs.Counters.{grownOf}
 use Rattle.effects.specs.Effects.{onTopic, isMember}

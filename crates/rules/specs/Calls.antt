@@ -4,7 +4,7 @@ use mathlib.Core.Bool.{Bool, true, _&&_}
 use mathlib.Core.List.{List}
 use lib.Dec.{leb}
 use lib.IntN.{ℤ, natAbs}
-use Rattle.table.specs.Valid.{maxTime}
+use Rattle.validity.specs.Valid.{maxTime}
 
 -- time first, then the arguments as in 01's trace
 pub data Call : Type 0 where

@@ -6,8 +6,8 @@ use mathlib.Core.Bool.{true}
 use mathlib.Core.List.{List, _++_}
 use lib.ListN.{length, drop}
 use Rattle.records.specs.Records.{State}
-use Rattle.cells.specs.View.{Sized, stateOf}
-use Rattle.table.specs.Valid.{valid}
+use Rattle.layout.specs.View.{Sized, stateOf}
+use Rattle.validity.specs.Valid.{valid}
 use Rattle.effects.specs.Actions.{numbersOf}
 use Rattle.rules.specs.declared.Answer.{Answer}
 use Rattle.rules.specs.Reply.{actionsOf}

@@ -5,7 +5,7 @@ use mathlib.Core.Bool.{true}
 use mathlib.Core.List.{List}
 use lib.ListN.{length}
 use lib.Seq.{sets}
-use Rattle.cells.specs.View.{stateOf}
+use Rattle.layout.specs.View.{stateOf}
 use Rattle.effects.specs.Actions.{numbersOf}
 use Rattle.rules.specs.declared.Answer.{Answer}
 use Rattle.rules.specs.Reply.{Reply, refuses}

@@ -12,8 +12,8 @@ use Rattle.params.proofs.LimitLaws.{topic-field}
 use Rattle.params.proofs.FieldLaws.{gain-of, loss-of}
 use Rattle.params.proofs.ParamLaws.{within, general, topic}
 use Rattle.records.specs.Records.{State, topicCount, place, codeIn, peerIn, topicIn}
-use Rattle.table.specs.Valid.{topicParam, valid}
-use Rattle.table.proofs.ValidLaws.{Facts, valid-facts}
+use Rattle.validity.specs.Valid.{topicParam, valid}
+use Rattle.validity.proofs.ValidLaws.{Facts, valid-facts}
 use Rattle.score.specs.Ranges.{TopicParamsIn, ScoreParamsIn, CountersIn, CountersWithin}
 use Rattle.score.specs.Score.{paramIn, sizeIn, topicParamsIn, scoreParamsIn}
 use Rattle.score.proofs.CounterLaws.{within-in}

@@ -11,11 +11,11 @@ use lib.IntN.{ℤ, pos, negℤ, natAbs, subℕ, _+ℤ_, _*ℤ_}
 use lib.Signed.{ltZ}
 use Rattle.index.specs.Index.{count}
 use Rattle.index.proofs.Index.{count-bound}
-use Rattle.groups.specs.Codes.{numberOf}
+use Rattle.varint.specs.Codes.{numberOf}
 use Rattle.params.specs.Joint.{place as topicPlace}
 use Rattle.records.specs.declared.Peer.{Peer}
 use Rattle.records.specs.Records.{State, topicCount, place, peerIn, topicIn, isConnected}
-use Rattle.table.specs.Valid.{valid}
+use Rattle.validity.specs.Valid.{valid}
 use Rattle.score.specs.declared.ScoreParams.{ScoreParams}
 use Rattle.score.specs.declared.Balance.{Balance}
 use Rattle.score.specs.declared.Parts.{Parts}

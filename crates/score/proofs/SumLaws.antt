@@ -10,7 +10,7 @@ use lib.Dec.{eqb, leb, ltb}
 use lib.IntN.{ℤ, pos, negℤ, natAbs, subℕ, _+ℤ_, _*ℤ_}
 use lib.Signed.{leZ, ltZ}
 use Rattle.index.proofs.Flags.{by-test}
-use Rattle.groups.specs.Codes.{codeOf, numberOf}
+use Rattle.varint.specs.Codes.{codeOf, numberOf}
 use Rattle.score.specs.declared.Balance.{Balance}
 use Rattle.score.specs.declared.ScoreParams.{ScoreParams}
 use Rattle.score.specs.declared.Why.{Why}

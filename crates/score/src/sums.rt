@@ -2,7 +2,7 @@
 ghost use mathlib.Core.Path.{_≡_};
 ghost use Prim.Native.Nat.{_+_, _*_, _≤_};
 ghost use lib.IntN.{subℕ};
-ghost use Rattle.groups.specs.Codes.{codeOf};
+ghost use Rattle.varint.specs.Codes.{codeOf};
 ghost use Rattle.score.specs.Ranges.{ScoreParamsIn, TopicsIn, PartsIn, BalanceIn};
 ghost use Rattle.score.specs.Parts.{square};
 ghost use Rattle.score.specs.Sums.{worth, addOf, cappedOf, p5Of, p6Of, p7Of, partsOf, totalOf, offsetOf, negativeOf, belowOf, toldOf};
@@ -45,7 +45,7 @@ pub fn p5_part(w5: u64, code: u64) -> Balance
     requires { ⌜ (w5 ≤ 100) × (code ≤ 2000000000) ⌝ }
     ensures { λ r. ⌜ (r ≡ p5Of w5 code) × ((r .gain ≤ 100000000000000) × (r .loss ≤ 100000000000000)) ⌝ }
 {
-    let n = term(w5, groups::code_size(code) * 1000);
+    let n = term(w5, varint::code_size(code) * 1000);
     if code % 2 == 1 {
         Balance { gain: 0, loss: n }
     } else {
@@ -128,7 +128,7 @@ pub fn signed(b: Balance) -> i64
     requires { ⌜ BalanceIn b ⌝ }
     ensures { λ r. ⌜ r ≡ worth b ⌝ }
 {
-    groups::number_of(code(b))
+    varint::number_of(code(b))
 }
 
 // What is taken away, as the host gets it.

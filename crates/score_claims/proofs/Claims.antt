@@ -10,7 +10,7 @@ use lib.Signed.{leZ}
 use borrow.Author.Tests.{eq-eqb, ne-eqb}
 use Rattle.index.proofs.Flags.{by-test}
 use Rattle.records.specs.Records.{State}
-use Rattle.table.specs.Valid.{valid}
+use Rattle.validity.specs.Valid.{valid}
 use Rattle.score.specs.Formula.{bounded, whyOf}
 use Rattle.score.specs.Sums.{toldOf}
 use Rattle.score.specs.Score.{whyIn, Agree}

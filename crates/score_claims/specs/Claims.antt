@@ -5,7 +5,7 @@ use mathlib.Core.Bool.{true, false}
 use lib.IntN.{pos, natAbs, _+ℤ_}
 use lib.Signed.{leZ}
 use Rattle.records.specs.Records.{State, slotCount, topicCount, place, codeIn, peerIn, topicIn}
-use Rattle.table.specs.Valid.{valid}
+use Rattle.validity.specs.Valid.{valid}
 use Rattle.score.specs.declared.Why.{Why}
 use Rattle.score.specs.Score.{sizeIn, sharing, whyIn, scoreIn}
 

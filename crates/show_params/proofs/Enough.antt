@@ -11,13 +11,13 @@ use lib.Dec.{ltb}
 use lib.ListN.{length, take, getD, length-take}
 use lib.Seq.{getD-take}
 use Rattle.index.proofs.Flags.{by-order}
-use Rattle.groups.specs.Groups.{readAt, afterMore}
-use Rattle.groups.specs.Codes.{numberOf}
-use Rattle.groups.specs.declared.Read.{Read}
-use Rattle.groups.specs.declared.Read.the-variants.{Number, Bad}
-use Rattle.groups.proofs.GroupLaws.{readAt-end}
+use Rattle.varint.specs.Groups.{readAt, afterMore}
+use Rattle.varint.specs.Codes.{numberOf}
+use Rattle.varint.specs.declared.Read.{Read}
+use Rattle.varint.specs.declared.Read.the-variants.{Number, Bad}
+use Rattle.varint.proofs.GroupLaws.{readAt-end}
 use Rattle.params.specs.Read.{Parse, numbers, malformed, then, step, parseFrom, ending, judged, readOf}
-use Rattle.groups.proofs.GroupLaws.{after-small}
+use Rattle.varint.proofs.GroupLaws.{after-small}
 use Rattle.params.proofs.PlaceLaws.{by-byte, read-last, read-more, next-near, placeOf, parse-place}
 
 -- ---- a number below 128 ^ suc k takes at most suc k bytes, so what stands m bytes or more from the front does not matter

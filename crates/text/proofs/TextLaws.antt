@@ -15,7 +15,7 @@ use lib.IntN.{ℤ, pos, negsuc, natAbs}
 use mir.Syntax.{w64}
 use mir.Val.{SFits, toZ, ofZ}
 use mir.Facts.{toZ-ofZ}
-use Rattle.groups.specs.Codes.{negative}
+use Rattle.varint.specs.Codes.{negative}
 use Rattle.index.proofs.Flags.{by-order}
 use Rattle.index.proofs.Lists.{sets-append}
 use Rattle.text.specs.Text.{digits, decimal, signedText, Stored}

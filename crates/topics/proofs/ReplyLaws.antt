@@ -7,7 +7,7 @@ use mathlib.Core.List.{List, []}
 use lib.ListN.{length}
 use Rattle.index.proofs.Flags.{yes, no}
 use Rattle.records.specs.Records.{State, setClock, setJoined}
-use Rattle.cells.specs.View.{stateOf}
+use Rattle.layout.specs.View.{stateOf}
 use Rattle.effects.specs.Effects.{isJoined, onTopic, withSubscribed, outOfMesh}
 use Rattle.rules.specs.declared.Answer.{Answer}
 use Rattle.rules.specs.declared.Answer.the-variants.{Done, Ignored}

@@ -2,14 +2,14 @@
 ghost use mathlib.Core.Path.{_≡_};
 ghost use Prim.Native.Nat.{_<_};
 ghost use lib.ListN.{length};
-ghost use Rattle.cells.specs.View.{cellCount, stateOf};
+ghost use Rattle.layout.specs.View.{cellCount, stateOf};
 ghost use Rattle.effects.specs.Effects.{onTopic};
 ghost use Rattle.rules.specs.Calls.{join as Calls·join, subscribe as Calls·subscribe, unsubscribe as Calls·unsubscribe};
 ghost use Rattle.rules.specs.Step.{joinReply, ofPeer};
 ghost use Rattle.rules.specs.Promise.{Leaves, Follows};
 ghost use Rattle.gate.specs.Ready.{Ready};
 ghost use Rattle.topics.specs.Change.{change as Calls·change, changed, changeReply};
-use cells::CELLS;
+use layout::CELLS;
 use effects::slots::is_joined;
 use effects::slots::subscribe_slot;
 use effects::slots::unsubscribe_slot;
@@ -31,7 +31,7 @@ fn join_from(table: &mut [u64], time: u64, topic: usize) -> Answer
     if is_joined(table, topic) {
         return ignore(table, time);
     }
-    cells::store_joined(table, topic, 1);
+    layout::store_joined(table, topic, 1);
     finish(table, time)
 }
 

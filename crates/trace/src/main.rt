@@ -1,14 +1,14 @@
-// The trace program: parameters and events on standard input, answers on standard output. The work is crate events; here bytes are moved,
+// The trace program: parameters and events on standard input, answers on standard output. The work is crate trace_events; here bytes are moved,
 // through a window of 65,536 of them, so that a trace may be of any length. Each event is answered as soon as its bytes are there.
 // Every function is proved to be safe and to end; the contracts say that the window's end lies in the buffer.
 ghost use Prim.Native.Nat.{_≤_};
 ghost use mathlib.Core.Path.{_≡_};
 ghost use lib.ListN.{length};
-use cells::CELLS;
+use layout::CELLS;
 use libc::STDIN_FILENO;
 use libc::STDOUT_FILENO;
 use params::Verdict;
-use replay::Replayed;
+use trace_step::Replayed;
 
 // The bytes of the window from `at` to `end` are still to be read; `more` is false once the input has ended, and `open` once the trace has
 // stopped.
@@ -82,7 +82,7 @@ fn stop(out: &mut [u8], w: Window, a: u64, b: u64) -> Window
     requires { ⌜ 4096 ≤ length (now out) ⌝ }
     ensures { λ r. ⌜ r .end ≡ w .end ⌝ }
 {
-    let n = events::lines::put_pair(out, 0, a, b);
+    let n = trace_events::lines::put_pair(out, 0, a, b);
     io::write_all(STDOUT_FILENO, &out[..n]);
     w.closed()
 }
@@ -101,7 +101,7 @@ fn read_params(table: &mut [u64; CELLS], buf: &mut [u8], out: &mut [u8], w: Wind
             w.moved(next)
         }
         Verdict::Malformed(place) => {
-            if w.more & events::reading::cut_short(&buf[..end], place) {
+            if w.more & trace_events::reading::cut_short(&buf[..end], place) {
                 return refill(buf, w);
             }
             stop(out, w, 10, place as u64)
@@ -127,7 +127,7 @@ fn turn(table: &mut [u64; CELLS], buf: &mut [u8], out: &mut [u8], w: Window) -> 
     if (at == end) & !w.more {
         return w.closed();
     }
-    let done = replay::replay(table, &buf[..end], at, out);
+    let done = trace_step::replay(table, &buf[..end], at, out);
     match done {
         Replayed::Called(next, n) => {
             say(out, n);

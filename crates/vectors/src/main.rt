@@ -1,7 +1,7 @@
 // The papers' vectors for seven-bit groups and signed numbers, printed: the bytes of some numbers, and what some bytes read as. What should
 // stand there is in the file stdout, written by hand from the papers.
-use groups::Put;
-use groups::Read;
+use varint::Put;
+use varint::Read;
 use libc::STDOUT_FILENO;
 
 fn end_line() {
@@ -24,7 +24,7 @@ fn print_bytes(buf: [u8; 10], n: usize) {
 fn print_groups(n: u64) {
     let mut buf = [0u8; 10];
     let part: &mut [u8] = &mut buf;
-    let put = groups::write_u64(part, 0, n);
+    let put = varint::write_u64(part, 0, n);
     match put {
         Put::Next(k) => print_bytes(buf, k),
         Put::Full => end_line(),
@@ -33,7 +33,7 @@ fn print_groups(n: u64) {
 
 // What bytes read as: the number and the place after it, or `bad`.
 fn print_reading(s: &[u8]) {
-    let read = groups::read_u64(s, 0);
+    let read = varint::read_u64(s, 0);
     match read {
         Read::Number(n, next) => {
             io::print_decimal(STDOUT_FILENO, n);
@@ -51,10 +51,10 @@ fn main() {
     print_groups(300);
     print_groups(0);
     print_groups(u64::MAX);
-    print_groups(groups::code_of(-1));
-    print_groups(groups::code_of(1));
-    print_groups(groups::code_of(0));
-    print_groups(groups::code_of(i64::MIN));
+    print_groups(varint::code_of(-1));
+    print_groups(varint::code_of(1));
+    print_groups(varint::code_of(0));
+    print_groups(varint::code_of(i64::MIN));
     print_reading(b"\xAC\x02");
     print_reading(b"\x80\x00");
     print_reading(b"\x00");

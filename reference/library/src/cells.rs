@@ -1,4 +1,4 @@
-//! The layout of the lent table (crate cells).
+//! The layout of the lent table (crate layout).
 
 use reference::event::SLOTS;
 use reference::params::{COUNT, TOPICS};

@@ -7,8 +7,8 @@ use Rattle.gate.proofs.admit.Statement.{statement}
 use Rattle.gate.proofs.admit.Tie as tie
 use Rattle.gate.proofs.admit.Reads as reads
 use Rattle.gate.proofs.admit.Lts as lts
-use Rattle.cells.proofs.load_clock.Reads as load-clock-reads
-use Rattle.table.proofs.valid.is_router.Reads as is-router-reads
+use Rattle.layout.proofs.load_clock.Reads as load-clock-reads
+use Rattle.validity.proofs.valid.is_router.Reads as is-router-reads
 
 -- src/lib.rt:45:9
 is-router-requires : tie.Need-is-router-requires

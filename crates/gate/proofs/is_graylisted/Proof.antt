@@ -6,7 +6,7 @@ use Rattle.gate.proofs.is_graylisted.Statement.{statement}
 use Rattle.gate.proofs.is_graylisted.Tie as tie
 use Rattle.gate.proofs.is_graylisted.Reads as reads
 use Rattle.gate.proofs.is_graylisted.Lts as lts
-use Rattle.cells.proofs.load_peer.Reads as load-peer-reads
+use Rattle.layout.proofs.load_peer.Reads as load-peer-reads
 use Rattle.effects.proofs.slots.load_size.Reads as load-size-reads
 use Rattle.peer_score.proofs.score_of.Reads as score-of-reads
 use Rattle.score.proofs.sums.is_below.Reads as is-below-reads

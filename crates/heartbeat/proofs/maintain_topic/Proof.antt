@@ -3,8 +3,8 @@ use Rattle.index.proofs.Kit.{refl, ap, _∙_, arith}
 use Rattle.mesh.specs.declared.Degrees.{Degrees}
 use Rattle.mesh.specs.Maintenance.{meshes}
 use Rattle.records.specs.Records.{slotCount}
-use Rattle.cells.specs.View.{stateOf}
-use Rattle.cells.proofs.StateLaws.{sized-of}
+use Rattle.layout.specs.View.{stateOf}
+use Rattle.layout.proofs.StateLaws.{sized-of}
 use Rattle.gate.proofs.StandingLaws.{sizes}
 use Rattle.heartbeat.proofs.ReplyLaws.{Computed, writable, settles, maintained-gives}
 use Rattle.heartbeat.proofs.maintain_topic.Statement.{statement}

@@ -1,6 +1,6 @@
 -- `leaving::leave_slots`: before each turn the walk stands where the rules' walk does (`Walking`).
 use Rattle.index.proofs.Kit.{_≤_, _-_, refl, sym, _∙_, arith}
-use Rattle.cells.specs.View.{stateOf}
+use Rattle.layout.specs.View.{stateOf}
 use Rattle.leaving.proofs.LeaveLaws.{Walking, walking-length, walking-none, walking-ready, walking-more, walking-done}
 use Rattle.leaving.proofs.leave_slots.Statement.{statement}
 use Rattle.leaving.proofs.leave_slots.Tie as tie

@@ -2,7 +2,7 @@
 use Rattle.index.proofs.Kit.{_-_, refl, arith, false}
 use mathlib.Core.Bool.{_&&_}
 use Rattle.index.proofs.Lists.{Built, built-none, built-more}
-use Rattle.cells.specs.View.{stateOf}
+use Rattle.layout.specs.View.{stateOf}
 use Rattle.effects.specs.Effects.{isMember}
 use Rattle.rules.specs.Step.{isNegative}
 use Rattle.leaving.proofs.negatives.Statement.{statement}

@@ -2,7 +2,7 @@
 use Rattle.index.proofs.Kit.{_≤_, _-_, _≡_, arith, every}
 use borrow.Author.Needs.{needs}
 use mathlib.Core.List.{map}
-use Rattle.groups.specs.Codes.{numberOf}
+use Rattle.varint.specs.Codes.{numberOf}
 use Rattle.params.specs.Joint.{capRule}
 use Rattle.params.proofs.CodeRules.{every-start, every-and, cap-of}
 use Rattle.params.proofs.codes_cap.Statement.{statement}

@@ -2,7 +2,7 @@
 use borrow.Author.Needs.{needs}
 use mathlib.Core.List.{map}
 use Rattle.index.proofs.Flags.{failed, passed}
-use Rattle.groups.specs.Codes.{numberOf}
+use Rattle.varint.specs.Codes.{numberOf}
 use Rattle.params.specs.Limits.{inLimits}
 use Rattle.params.proofs.RowLaws.{general-fails, fields-are}
 use Rattle.params.proofs.codes_lie.Statement.{statement}

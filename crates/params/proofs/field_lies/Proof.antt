@@ -7,7 +7,7 @@ use mir.Val.{toZ}
 use mir.Facts.{toZ-ofZ}
 use Rattle.index.proofs.Index.{every-loop, every-more, every-out, every-in}
 use Rattle.index.proofs.Flags.{failed, passed}
-use Rattle.groups.specs.Codes.{numberOf}
+use Rattle.varint.specs.Codes.{numberOf}
 use Rattle.params.specs.Limits.{to, lies}
 use Rattle.params.proofs.field_lies.Statement.{statement}
 use Rattle.params.proofs.field_lies.Tie as tie

@@ -5,7 +5,7 @@ use mathlib.Core.Path.{_∙_}
 use mathlib.Core.List.{map}
 use Rattle.index.proofs.Index.{every-loop, every-more, every-out}
 use Rattle.index.proofs.Flags.{failed, passed}
-use Rattle.groups.specs.Codes.{numberOf}
+use Rattle.varint.specs.Codes.{numberOf}
 use Rattle.params.specs.Limits.{inLimits}
 use Rattle.params.proofs.LimitLaws.{limit-in}
 use Rattle.params.proofs.RowLaws.{field, field-is}

@@ -7,7 +7,7 @@ use mathlib.Core.List.{map}
 use lib.ListN.{getD}
 use Rattle.index.proofs.Index.{every-loop, every-more, every-out}
 use Rattle.index.proofs.Flags.{failed, passed}
-use Rattle.groups.specs.Codes.{numberOf}
+use Rattle.varint.specs.Codes.{numberOf}
 use Rattle.params.specs.Limits.{inLimits}
 use Rattle.params.proofs.FieldLaws.{code-in}
 use Rattle.params.proofs.LimitLaws.{general-field, limit-in, lies-at}

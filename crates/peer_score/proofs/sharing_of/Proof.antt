@@ -4,7 +4,7 @@ use mathlib.Core.Path.{_≡_}
 use native.Mathlib.Omega.{arith}
 use borrow.Author.Needs.{needs}
 use Rattle.index.specs.Index.{count}
-use Rattle.cells.specs.View.{stateOf}
+use Rattle.layout.specs.View.{stateOf}
 use Rattle.score.specs.Score.{sharesGroup}
 use Rattle.score.proofs.SlotLaws.{sharing-none, sharing-more, sharing-done}
 use Rattle.peer_score.proofs.sharing_of.Statement.{statement}

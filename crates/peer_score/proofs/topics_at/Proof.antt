@@ -3,7 +3,7 @@ use Prim.Native.Nat.{_≤_, _-_}
 use mathlib.Core.Path.{_≡_, _∙_}
 use native.Mathlib.Omega.{arith}
 use borrow.Author.Needs.{needs}
-use Rattle.cells.specs.View.{stateOf}
+use Rattle.layout.specs.View.{stateOf}
 use Rattle.score.specs.Sums.{sumOf}
 use Rattle.score.specs.Score.{shareAt}
 use Rattle.score.proofs.ShareLaws.{sum-none, sum-more}

@@ -2,7 +2,7 @@
 use Rattle.index.proofs.Kit.{ℕ, _≤_, _-_, _≡_, sym, ap, _∙_, arith, needs, iter}
 use Rattle.index.proofs.Index.{iter-none, iter-more, iter-done}
 use lib.ListN.{length}
-use Rattle.cells.specs.View.{cellCount, stateOf}
+use Rattle.layout.specs.View.{cellCount, stateOf}
 use Rattle.records.specs.Records.{State, setTopic, place, noTopic}
 use Rattle.effects.proofs.connections.empty_topics.Statement.{statement}
 use Rattle.effects.proofs.connections.empty_topics.Tie as tie

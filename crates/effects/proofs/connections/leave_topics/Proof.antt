@@ -2,7 +2,7 @@
 use Rattle.index.proofs.Kit.{ℕ, _≤_, _-_, _≡_, sym, _∙_, arith, needs, iter}
 use Rattle.index.proofs.Index.{iter-none, iter-more, iter-done}
 use lib.ListN.{length}
-use Rattle.cells.specs.View.{cellCount, stateOf}
+use Rattle.layout.specs.View.{cellCount, stateOf}
 use Rattle.records.specs.Records.{State}
 use Rattle.effects.specs.Effects.{leftTopic}
 use Rattle.effects.proofs.connections.leave_topics.Statement.{statement}

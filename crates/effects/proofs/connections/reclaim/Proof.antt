@@ -2,7 +2,7 @@
 use Rattle.index.proofs.Kit.{_≤_, _-_, _≡_, sym, _∙_, arith, needs, iter}
 use Rattle.index.proofs.Index.{iter-none, iter-more, iter-done}
 use lib.ListN.{length}
-use Rattle.cells.specs.View.{cellCount, stateOf}
+use Rattle.layout.specs.View.{cellCount, stateOf}
 use Rattle.effects.specs.Effects.{reclaimSlot, reclaimed}
 use Rattle.effects.proofs.connections.reclaim.Statement.{statement}
 use Rattle.effects.proofs.connections.reclaim.Tie as tie

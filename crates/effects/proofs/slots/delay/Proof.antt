@@ -2,7 +2,7 @@ use mathlib.Core.Path.{_≡_, ap, _∙_}
 use native.Mathlib.Omega.{arith}
 use lib.ListN.{length}
 use Rattle.records.specs.declared.Peer.{Peer}
-use Rattle.cells.proofs.StateLaws.{sized-of}
+use Rattle.layout.proofs.StateLaws.{sized-of}
 use Rattle.effects.proofs.EffectLaws.{stored-end}
 use borrow.Author.Needs.{needs}
 use Rattle.effects.proofs.slots.delay.Statement.{statement}

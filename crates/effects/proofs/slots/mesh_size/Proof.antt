@@ -2,7 +2,7 @@
 use Rattle.index.proofs.Kit.{ℕ, _≤_, _-_, _≡_, sym, ap, _∙_, arith, needs, count, one}
 use Rattle.index.proofs.Index.{count-none, count-more, count-done}
 use Prim.Native.Nat.{_+_}
-use Rattle.cells.specs.View.{stateOf}
+use Rattle.layout.specs.View.{stateOf}
 use Rattle.effects.specs.Effects.{isMember, meshSize}
 use Rattle.effects.proofs.slots.mesh_size.Statement.{statement}
 use Rattle.effects.proofs.slots.mesh_size.Tie as tie

@@ -2,7 +2,7 @@
 use Rattle.index.proofs.Kit.{_+_, _-_, ap, _∙_, arith}
 use lib.ListN.{length}
 use Rattle.records.specs.Records.{slotCount}
-use Rattle.cells.specs.View.{stateOf}
+use Rattle.layout.specs.View.{stateOf}
 use Rattle.score.specs.Sums.{noBalance, sumOf}
 use Rattle.score.specs.Score.{shareAt}
 use Rattle.score.proofs.InputLaws.{slot-in}

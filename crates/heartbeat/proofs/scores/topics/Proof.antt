@@ -1,6 +1,6 @@
 -- `heartbeat::scores::topics`: after t turns the topics below t are added.
 use Rattle.index.proofs.Kit.{_-_, _≤_, _≡_, arith}
-use Rattle.cells.specs.View.{stateOf}
+use Rattle.layout.specs.View.{stateOf}
 use Rattle.heartbeat.proofs.ScoresLaws.{sums, sums-none, sums-done}
 use Rattle.heartbeat.proofs.scores.topics.Statement.{statement}
 use Rattle.heartbeat.proofs.scores.topics.Tie as tie

@@ -3,7 +3,7 @@ use Rattle.index.proofs.Kit.{_-_, refl, ap, arith, false}
 use lib.Dec.{eqb}
 use Rattle.records.specs.declared.Peer.{Peer}
 use Rattle.records.specs.Records.{slotCount, peerIn}
-use Rattle.cells.specs.View.{stateOf}
+use Rattle.layout.specs.View.{stateOf}
 use Rattle.index.proofs.Lists.{Built, built-none, built-more}
 use Rattle.sets.proofs.SlotLaws.{slots-built}
 use Rattle.heartbeat.proofs.seen.outbound.Statement.{statement}

@@ -5,7 +5,7 @@ use mathlib.Core.Bool.{cond}
 use lib.ListN.{set}
 use lib.Dec.{eqb}
 use Rattle.records.specs.Records.{slotCount, peerIn}
-use Rattle.cells.specs.View.{stateOf}
+use Rattle.layout.specs.View.{stateOf}
 use Rattle.sets.proofs.SlotLaws.{slots-built}
 use Rattle.heartbeat.proofs.SeenLaws.{Telling, telling-none, telling-put, telling-past, told-yes, told-no}
 use Rattle.heartbeat.proofs.seen.told.Statement.{statement}

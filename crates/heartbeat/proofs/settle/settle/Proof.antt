@@ -1,6 +1,6 @@
 -- `heartbeat::settle::settle`: before each turn the walk stands where the rules' walk does (`Settling`).
 use Rattle.index.proofs.Kit.{_-_, refl, sym, _∙_, arith}
-use Rattle.cells.specs.View.{stateOf}
+use Rattle.layout.specs.View.{stateOf}
 use Rattle.heartbeat.proofs.SettleLaws.{Settling, settling-none, settling-ready, settling-more, settling-done}
 use Rattle.heartbeat.proofs.settle.settle.Statement.{statement}
 use Rattle.heartbeat.proofs.settle.settle.Tie as tie

@@ -1,7 +1,7 @@
 use Rattle.index.proofs.Kit.{_≤_, _-_, _≡_, first}
 use Rattle.index.proofs.Auto.{auto}
 use Rattle.index.specs.declared.Found.the-variants.{Nothing}
-use Rattle.cells.specs.View.{stateOf}
+use Rattle.layout.specs.View.{stateOf}
 use Rattle.lookup.specs.Find.{holds}
 use Rattle.lookup.proofs.find.find.Statement.{statement}
 use Rattle.records.specs.Records.{slotCount}

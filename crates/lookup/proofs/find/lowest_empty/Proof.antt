@@ -2,7 +2,7 @@ use Rattle.index.proofs.Kit.{_≤_, _-_, _≡_, first}
 use Rattle.index.proofs.Auto.{auto}
 use Rattle.index.specs.declared.Found.the-variants.{Nothing}
 use Rattle.records.specs.Records.{peerIn, isEmpty, slotCount}
-use Rattle.cells.specs.View.{stateOf}
+use Rattle.layout.specs.View.{stateOf}
 use Rattle.lookup.specs.Find.{lowestEmpty}
 use Rattle.lookup.proofs.find.lowest_empty.Statement.{statement}
 use Rattle.lookup.proofs.find.lowest_empty.Tie as tie

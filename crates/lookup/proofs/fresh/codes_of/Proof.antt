@@ -7,7 +7,7 @@ use borrow.Author.Needs.{needs, sfits-of}
 use lib.ListN.{length, getD, length-map, List·getD-map}
 use lib.IntN.{pos}
 use Rattle.index.proofs.Lists.{Built, built-none, built-more, built-done}
-use Rattle.groups.specs.Codes.{codeOf}
+use Rattle.varint.specs.Codes.{codeOf}
 use Rattle.records.specs.Records.{paramCount}
 use Rattle.lookup.proofs.FreshLaws.{code-of-given}
 use Rattle.lookup.proofs.fresh.codes_of.Statement.{statement}

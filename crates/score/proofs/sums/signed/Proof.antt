@@ -3,8 +3,8 @@ use borrow.Author.Needs.{needs}
 use borrow.Author.Needs.{sfits-of}
 use mathlib.Core.Path.{ap, _∙_}
 use mir.Facts.{toZ-ofZ}
-use Rattle.groups.specs.Codes.{numberOf}
-use Rattle.groups.proofs.CodeLaws.{number-code}
+use Rattle.varint.specs.Codes.{numberOf}
+use Rattle.varint.proofs.CodeLaws.{number-code}
 use Rattle.score.proofs.sums.signed.Statement.{statement}
 use Rattle.score.proofs.sums.signed.Tie as tie
 

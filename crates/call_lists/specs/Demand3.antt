@@ -1,0 +1,88 @@
+-- Demand 3 of the mission, over every list of calls. docs/ARCHITECTURE.md has the mission's words beside each line.
+use Prim.Native.Nat.{ℕ, _+_, _≤_, _<_}
+use mathlib.Core.Path.{_≡_}
+use mathlib.Core.Logic.{_⊎_}
+use mathlib.Core.Bool.{Bool, true, false, not, _&&_}
+use mathlib.Core.List.{List, _∷_}
+use lib.IntN.{ℤ, natAbs}
+use lib.ListN.{length}
+use Rattle.index.specs.Index.{count}
+use Rattle.index.specs.declared.Found.the-variants.{Nothing}
+use Rattle.params.specs.Limits.{at}
+use Rattle.params.specs.Check.{firstBroken}
+use Rattle.records.specs.Records.{State, slotCount, paramCount, peerIn}
+use Rattle.effects.specs.Effects.{isJoined, isMember}
+use Rattle.rules.specs.Calls.{heartbeat}
+use Rattle.rules.specs.Step.{isNegative, isCandidate}
+use Rattle.call_lists.specs.Lists.{Made, after, answered, outbound}
+
+-- "an accepted sheet": 147 numbers that pass 9
+pub record Accepted (params : List ℤ) : Type 0 where
+  pub size : length params ≡ paramCount
+  pub passes : firstBroken params ≡ Nothing
+
+abbrev pub dLo : List ℤ → ℕ
+dLo params = natAbs (at params 0)
+
+abbrev pub dHi : List ℤ → ℕ
+dHi params = natAbs (at params 2)
+
+abbrev pub dOut : List ℤ → ℕ
+dOut params = natAbs (at params 3)
+
+-- ---- after a list of calls, by slot
+-- the direction of the peer in slot s
+abbrev pub outboundAt : List ℤ → List Made → ℕ → Bool
+outboundAt params calls s = outbound params calls (peerIn (after params calls) s .id)
+
+-- the mesh of topic t
+module _ (params : List ℤ) (calls : List Made) (t : ℕ) where
+  abbrev pub member : ℕ → Bool
+  member s = isMember (after params calls) t s
+
+  unfoldable pub members : ℕ
+  members = count slotCount member
+
+  unfoldable pub outboundMembers : ℕ
+  outboundMembers = count slotCount (λ s. member s && outboundAt params calls s)
+
+  unfoldable pub inboundMembers : ℕ
+  inboundMembers = count slotCount (λ s. member s && not (outboundAt params calls s))
+
+-- "The pool is the members at that start whose score was zero or more, and all candidates at that start."
+-- "A tidy's start is the state handed to it, with the tidy's own time."
+abbrev pub InPool : State → ℕ → ℕ → ℕ → Type 0
+InPool start time t s = ((isMember start t s ≡ true) × (isNegative start s ≡ false)) ⊎ (isCandidate start time t s ≡ true)
+
+-- what holds after a heartbeat (01's tidy) of topic t at a time, the last of the calls: `before` are the calls before it
+pub record Maintained (params : List ℤ) (calls before : List Made) (time t : ℕ) : Type 0 where
+  -- "the tidied topic's mesh then holds only peers whose score at that tidy's start was zero or more"
+  pub good : (s : ℕ) → s < slotCount → member params calls t s ≡ true → isNegative (after params before) s ≡ false
+  -- "it also holds at least D_out outbound peers or every outbound one in the pool"
+  pub outs :
+      (dOut params ≤ outboundMembers params calls t) ⊎
+      ((s : ℕ) →
+      s < slotCount →
+      InPool (after params before) time t s →
+      outboundAt params calls s ≡ true →
+      member params calls t s ≡ true)
+  -- "and at least D_lo peers or the whole pool"
+  pub enough :
+      (dLo params ≤ members params calls t) ⊎
+      ((s : ℕ) → s < slotCount → InPool (after params before) time t s → member params calls t s ≡ true)
+
+pub record Holds (params : List ℤ) (calls : List Made) : Type 0 where
+  -- "After every such list a joined topic's mesh holds at most D_hi + 2 inbound peers."
+  pub inbound :
+      (t : ℕ) → isJoined (after params calls) t ≡ true → inboundMembers params calls t ≤ dHi params + 2
+  -- "If the last call was a tidy answered by 0, .."
+  pub maintained :
+      (time t ask room : ℕ) (order : List ℕ) (before : List Made) →
+      calls ≡ record { call = heartbeat time t ask order; room = room } ∷ before →
+      answered params (record { call = heartbeat time t ask order; room = room }) before ≡ 0 →
+      Maintained params calls before time t
+
+-- "take every list of the calls [..], in any order, with any arguments, refused and ignored calls included. The list starts from a fresh
+-- router with an accepted sheet"
+abbrev pub Demand3 : Type 0
+Demand3 = (params : List ℤ) (calls : List Made) → Accepted params → Holds params calls

@@ -1,0 +1,64 @@
+-- A host's calls on one table: by induction on their list, each from its own promise; that the parameters are accepted is in the 0 that the
+-- first of all answered.
+-- Assumes nothing.
+use Prim.{tt}
+use Prim.Native.Nat.{ℕ}
+use native.Mathlib.Omega.{arith}
+use mathlib.Core.Path.{_≡_, refl, ap, _∙_}
+use mathlib.Core.List.{List, [], _∷_, map}
+use lib.IntN.{ℤ}
+use lib.ListN.{length}
+use lib.Seq.{sets}
+use Rattle.index.specs.declared.Found.{Found}
+use Rattle.index.specs.declared.Found.the-variants.{At, Nothing}
+use Rattle.params.specs.Check.{firstBroken}
+use Rattle.records.specs.Records.{State}
+use Rattle.layout.specs.View.{stateOf}
+use Rattle.lookup.specs.Fresh.{madeOf, madeNumber, madeValue}
+use Rattle.effects.specs.Actions.{numbersOf}
+use Rattle.answers.specs.Answers.{packed, answerCode, whyOr}
+use Rattle.rules.specs.Calls.{score}
+use Rattle.rules.specs.Step.{step}
+use Rattle.call_lists.specs.Lists.{after}
+use Rattle.call_lists.proofs.Demand3.{demand3}
+use Rattle.host_lists.specs.Hosted.{HostCall, made, Hosted, SameNumbers, EveryHostAgrees, EveryScoreAgrees}
+
+-- 9 is not 0
+passes : (f : Found) → 0 ≡ packed (madeNumber (madeOf f)) (madeValue (madeOf f)) → f ≡ Nothing
+passes (At i) e = absurd (omega (arith, e))
+passes Nothing e = refl
+
+module _ (params : List ℤ) where
+  accepted : (calls : List HostCall) (table : List ℕ) → Hosted params calls table → firstBroken params ≡ Nothing
+  unfolding Hosted
+  accepted [] table p = passes (firstBroken params) (p .1 .answer)
+  accepted (c ∷ before) table p = accepted before (p .0) (p .1)
+
+  same-state : (calls : List HostCall) (table : List ℕ) → Hosted params calls table → stateOf table ≡ after params (map made calls)
+  unfolding Hosted after
+  same-state [] table p = rw (passes (firstBroken params) (p .1 .answer)) at (p .1 .state)
+  same-state (c ∷ before) table p =
+      p .2 .state
+      ∙ ap (λ (st : State). step st (c .call) (length (c .list)) .state) (same-state before (p .0) (p .1))
+
+  same-numbers : (calls : List HostCall) (table : List ℕ) → Hosted params calls table → SameNumbers params calls
+  unfolding Hosted SameNumbers
+  same-numbers [] table p = tt
+  same-numbers (c ∷ before) table p =
+      let e = same-state before (p .0) (p .1) in (
+        p .2 .answer ∙ ap (λ (st : State). answerCode (step st (c .call) (length (c .list)) .answer)) e,
+        p .2 .actions ∙ ap (λ (st : State). sets (c .list) 0 (numbersOf (step st (c .call) (length (c .list)) .actions))) e,
+        same-numbers before (p .0) (p .1),
+      )
+
+pub every-host-agrees : EveryHostAgrees
+every-host-agrees params calls table size p =
+    record {
+      numbers = same-numbers params calls table p;
+      state = same-state params calls table p;
+      demand3 = demand3 params (map made calls) (record { size = size; passes = accepted params calls table p });
+    }
+
+pub every-score-agrees : EveryScoreAgrees
+every-score-agrees params calls table time id room why why′ size p e =
+    e ∙ ap (λ (st : State). whyOr (step st (score time id) room .answer) why) (same-state params calls table p)

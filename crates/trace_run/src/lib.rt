@@ -1,0 +1,36 @@
+// A whole recorded list of calls, run on a fresh router: the events of a trace's bytes, one after the other. Its promise joins the calls to
+// demand 3: the table that is left is the rules' state after the list, of which demand 3 holds.
+ghost use Rattle.trace_run.specs.Recorded.{Runs};
+use layout::CELLS;
+use lookup::Made;
+use params::Params;
+use trace_step::Performed;
+
+// What came of a recorded list.
+pub enum Recorded {
+    // the parameters are refused: the first index, or 200 + the first rule
+    Refused(usize),
+    // the place after the last event, and how many calls were made
+    Ran(usize, usize),
+}
+
+// Makes a fresh router with these parameters, and calls the events of the bytes, up to the first that is unknown, malformed or cut short.
+// Each takes a byte at least, so there are no more of them than bytes.
+pub fn run(params: Params, s: &[u8], table: &mut [u64; CELLS]) -> Recorded
+    ensures { λ r. ⌜ Runs (params .numbers) (now (s .entry)) r (now (table .entry)) (now (table .exit)) ⌝ }
+{
+    if let Made::Broken(i) = router::fresh(params, table) {
+        return Recorded::Refused(i);
+    }
+    let mut actions = [0u32; 192];
+    let mut at: usize = 0;
+    let mut calls: usize = 0;
+    while calls < s.len() {
+        let Performed::Answered(next, _) = trace_step::perform(table, s, at, &mut actions) else {
+            return Recorded::Ran(at, calls);
+        };
+        at = next;
+        calls += 1;
+    }
+    Recorded::Ran(at, calls)
+}

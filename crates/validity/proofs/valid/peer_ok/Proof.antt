@@ -1,0 +1,14 @@
+use borrow.Author.Needs.{needs}
+use Rattle.validity.specs.Valid.{idOk, emptyOk, retainOk, peerOk}
+use Rattle.validity.proofs.valid.peer_ok.Statement.{statement}
+use Rattle.validity.proofs.valid.peer_ok.Tie as tie
+
+pub peer-ok-spec : {M : Type 1} → statement M
+unfolding peerOk idOk emptyOk retainOk
+peer-ok-spec =
+    tie.close
+    (tie.spec
+    (λ c κs. search needs)
+    (λ c κs. search needs)
+    (λ c κs. search needs)
+    (λ c. cc))

@@ -1,0 +1,439 @@
+// Test 12: whether a table is a router's. Every call pays for it, so what most records are is asked first, a test that fails ends all, and
+// many numbers are asked at once where the union of their bits is small enough (docs/PERFORMANCE.md says what that saves). The definitions
+// are specs/Valid.antt, in 01's order, and specs/Order.antt.
+ghost use mathlib.Core.Path.{_≡_};
+ghost use mathlib.Core.Bool.{true};
+ghost use Prim.Native.Nat.{ℕ, _+_, _<_, _≤_};
+ghost use lib.ListN.{length, getD};
+ghost use lib.Dec.{leb};
+ghost use Rattle.index.specs.Index.{every};
+ghost use Rattle.records.specs.Records.{peerIn, slotCount, topicCount};
+ghost use Rattle.layout.specs.View.{stateOf, cellCount};
+ghost use Rattle.validity.specs.Order.{counterRanges, flagRanges, restOk, smallOk, Small, zeroTopicAt, Caps};
+ghost use Rattle.validity.specs.Valid.{maxTime, maxEnd, peerRanges, endsUpTo, zeroPeer, peerOk, zeroTopic, memberOk, topicOk, topicParam, joinedOk, topicOkAt, slotOk, valid};
+use crate::ids::ids_distinct;
+use records::Peer;
+use records::SLOTS;
+use records::TOPICS;
+use records::TopicRecord;
+
+// The greatest time, backoff end, retain end, and id or group.
+pub const MAX_TIME: u64 = 1099511627776;
+
+pub const MAX_END: u64 = 1099515227776;
+
+pub const MAX_RETAIN: u64 = 1099598027776;
+
+pub const MAX_ID: u64 = 4294967295;
+
+// Where the numbers of topic 0 begin among the parameters, how many each topic has, and which of them are the caps of P2 and P3.
+const TOPIC_PARAMS: usize = 19;
+
+const PER_TOPIC: usize = 16;
+
+const P2_CAP: usize = 6;
+
+const P3_CAP: usize = 9;
+
+// Whether each number of a peer's record is in its range, but for the backoff ends.
+fn peer_ranges(p: Peer) -> bool
+    ensures { λ r. ⌜ r ≡ peerRanges p ⌝ }
+{
+    (p.status <= 2)
+        & (p.id <= MAX_ID)
+        & (p.group <= MAX_ID)
+        & (p.outbound <= 1)
+        & (p.explicit <= 1)
+        & (p.version <= 1)
+        & (p.p5 <= 2000000000)
+        & (p.p7 <= 1000000)
+        & (p.retain <= MAX_RETAIN)
+}
+
+// Whether each backoff end is at most m.
+fn ends_up_to(m: u64, p: Peer) -> bool
+    ensures { λ r. ⌜ r ≡ endsUpTo m p ⌝ }
+{
+    let b = p.backoff;
+    (b[0] <= m)
+        & (b[1] <= m)
+        & (b[2] <= m)
+        & (b[3] <= m)
+        & (b[4] <= m)
+        & (b[5] <= m)
+        & (b[6] <= m)
+        & (b[7] <= m)
+}
+
+// Whether a record is all zero, but for its status.
+fn zero_peer(p: Peer) -> bool
+    ensures { λ r. ⌜ r ≡ zeroPeer p ⌝ }
+{
+    let ends = ends_up_to(0, p);
+    (p.id == 0)
+        & (p.group == 0)
+        & (p.outbound == 0)
+        & (p.explicit == 0)
+        & (p.version == 0)
+        & (p.p5 == 0)
+        & (p.p7 == 0)
+        & (p.retain == 0)
+        & ends
+}
+
+// A connected peer's record, its backoff ends apart.
+fn connected_ok(p: Peer) -> bool
+    requires { ⌜ (p .status ≡ 1) × (endsUpTo maxEnd p ≡ true) ⌝ }
+    ensures { λ r. ⌜ r ≡ peerOk p ⌝ }
+{
+    if !((1 <= p.id) & (p.retain == 0)) {
+        return false;
+    }
+    peer_ranges(p)
+}
+
+// Any record.
+fn peer_ok(p: Peer) -> bool
+    ensures { λ r. ⌜ r ≡ peerOk p ⌝ }
+{
+    let ranges = peer_ranges(p);
+    let ends = ends_up_to(MAX_END, p);
+    let zeros = zero_peer(p);
+    ranges
+        & ends
+        & ((p.status == 0) | (1 <= p.id))
+        & (!(p.status == 0) | zeros)
+        & ((p.status == 2) | (p.retain == 0))
+}
+
+// Whether the counters that a record holds for a topic are in their ranges.
+fn counter_ranges(cap2: u64, cap3: u64, t: TopicRecord) -> bool
+    ensures { λ r. ⌜ r ≡ counterRanges cap2 cap3 t ⌝ }
+{
+    if cap2 < t.p2 {
+        return false;
+    }
+    if cap3 < t.p3 {
+        return false;
+    }
+    if 1000000 < t.p4 {
+        return false;
+    }
+    t.p3b <= 1000000000000
+}
+
+// Whether its flags and times are.
+fn flag_ranges(t: TopicRecord) -> bool
+    ensures { λ r. ⌜ r ≡ flagRanges t ⌝ }
+{
+    if 1 < t.subscribed {
+        return false;
+    }
+    if 1 < t.member {
+        return false;
+    }
+    if MAX_TIME < t.graft {
+        return false;
+    }
+    t.mesh <= MAX_TIME
+}
+
+fn zero_topic(t: TopicRecord) -> bool
+    ensures { λ r. ⌜ r ≡ zeroTopic t ⌝ }
+{
+    (t.p2 == 0)
+        & (t.p3 == 0)
+        & (t.p4 == 0)
+        & (t.p3b == 0)
+        & (t.subscribed == 0)
+        & (t.member == 0)
+        & (t.graft == 0)
+        & (t.mesh == 0)
+}
+
+// Whether a + b is at most c, with no sum that could wrap.
+fn sum_at_most(a: u64, b: u64, c: u64) -> bool
+    ensures { λ r. ⌜ r ≡ leb (a + b) c ⌝ }
+{
+    if a <= c { b <= c - a } else { false }
+}
+
+// Whether a member is connected, subscribed, not explicit, in a joined topic.
+fn member_ok(status: u64, explicit: u64, joined: u64, t: TopicRecord) -> bool
+    ensures { λ r. ⌜ r ≡ memberOk status explicit joined t ⌝ }
+{
+    !(t.member == 1) | ((status == 1) & (t.subscribed == 1) & (explicit == 0) & (joined == 1))
+}
+
+// What is asked of a record for a topic besides the ranges.
+fn rest_ok(status: u64, explicit: u64, joined: u64, clock: u64, t: TopicRecord) -> bool
+    ensures { λ r. ⌜ r ≡ restOk status explicit joined clock t ⌝ }
+{
+    let zeros = zero_topic(t);
+    let member = member_ok(status, explicit, joined, t);
+    let times = sum_at_most(t.graft, t.mesh, clock);
+    (!(status == 0) | zeros)
+        & ((t.member == 1) | ((t.graft == 0) & (t.mesh == 0)))
+        & (!(status == 2) | ((t.subscribed == 0) & (t.member == 0)))
+        & member
+        & times
+}
+
+// Any record for a topic.
+fn topic_ok(
+    status: u64,
+    explicit: u64,
+    joined: u64,
+    clock: u64,
+    cap2: u64,
+    cap3: u64,
+    t: TopicRecord,
+) -> bool
+    ensures { λ r. ⌜ r ≡ topicOk status explicit joined clock cap2 cap3 t ⌝ }
+{
+    if !counter_ranges(cap2, cap3, t) {
+        return false;
+    }
+    if !flag_ranges(t) {
+        return false;
+    }
+    rest_ok(status, explicit, joined, clock, t)
+}
+
+// A connected peer's record for a topic, where the ranges that depend on no parameter are known (`is_small`): outside the mesh, as most are,
+// the caps are all that is left to ask.
+fn small_topic_ok(
+    explicit: u64,
+    joined: u64,
+    clock: u64,
+    cap2: u64,
+    cap3: u64,
+    t: TopicRecord,
+) -> bool
+    requires { ⌜ (smallOk t ≡ true) × (clock ≤ maxTime) ⌝ }
+    ensures { λ r. ⌜ r ≡ topicOk 1 explicit joined clock cap2 cap3 t ⌝ }
+{
+    if cap2 < t.p2 {
+        return false;
+    }
+    if cap3 < t.p3 {
+        return false;
+    }
+    if (t.member | t.graft | t.mesh) == 0 {
+        return true;
+    }
+    if !((t.member == 1) & (t.subscribed == 1) & (explicit == 0) & (joined == 1)) {
+        return false;
+    }
+    sum_at_most(t.graft, t.mesh, clock)
+}
+
+// The magnitude of topic t's j-th parameter.
+fn topic_param(table: &[u64], t: usize, j: usize) -> u64
+    requires { ⌜ (length (now table) ≡ cellCount) × ((t < topicCount) × (j < 16)) ⌝ }
+    ensures { λ r. ⌜ r ≡ topicParam (stateOf (now (table .entry))) t j ⌝ }
+{
+    varint::code_size(layout::load_code(table, TOPIC_PARAMS + PER_TOPIC * t + j))
+}
+
+fn topic_at(table: &[u64], slot: usize, status: u64, explicit: u64, t: usize) -> bool
+    requires { ⌜ (length (now table) ≡ cellCount) × ((slot < slotCount) × (t < topicCount)) ⌝ }
+    ensures { λ r. ⌜ r ≡ topicOkAt (stateOf (now (table .entry))) slot status explicit t ⌝ }
+{
+    let joined = layout::load_joined(table, t);
+    let clock = layout::load_clock(table);
+    let cap2 = topic_param(table, t, P2_CAP);
+    let cap3 = topic_param(table, t, P3_CAP);
+    let r = layout::load_topic(table, slot * TOPICS + t);
+    topic_ok(status, explicit, joined, clock, cap2, cap3, r)
+}
+
+fn topics_ok(table: &[u64], slot: usize, status: u64, explicit: u64) -> bool
+    requires { ⌜ (length (now table) ≡ cellCount) × (slot < slotCount) ⌝ }
+    ensures { λ r. ⌜ r ≡ every topicCount (topicOkAt (stateOf (now (table .entry))) slot status explicit) ⌝ }
+{
+    let mut ok = true;
+    let mut t: usize = 0;
+    while t < TOPICS {
+        ok = ok & topic_at(table, slot, status, explicit, t);
+        t += 1;
+    }
+    ok
+}
+
+// One of the caps of each topic, taken once for all slots.
+fn caps(table: &[u64], j: usize) -> [u64; TOPICS]
+    requires { ⌜ (length (now table) ≡ cellCount) × (j < 16) ⌝ }
+    ensures { λ r. ⌜ ((t : ℕ) → t < topicCount → getD r t 0 ≡ topicParam (stateOf (now (table .entry))) t j) ⌝ }
+{
+    let mut r = [0u64; TOPICS];
+    let mut t: usize = 0;
+    while t < TOPICS {
+        r[t] = topic_param(table, t, j);
+        t += 1;
+    }
+    r
+}
+
+// Whether the backoff ends, the counters of P4 and P3b and the subscribed flags of a slot are surely in their ranges. No number is above the
+// union of its bits with others', and that is nearly always small enough, so that one test does for eight numbers.
+fn is_small(table: &[u64], slot: usize) -> bool
+    requires { ⌜ (length (now table) ≡ cellCount) × (slot < slotCount) ⌝ }
+    ensures { λ r. ⌜ (r ≡ true → Small (stateOf (now (table .entry))) slot) ⌝ }
+{
+    let p = layout::load_peer(table, slot);
+    let b = p.backoff;
+    if MAX_END < (b[0] | b[1] | b[2] | b[3] | b[4] | b[5] | b[6] | b[7]) {
+        return false;
+    }
+    let mut p4: u64 = 0;
+    let mut p3b: u64 = 0;
+    let mut subscribed: u64 = 0;
+    let mut t: usize = 0;
+    while t < TOPICS {
+        let r = layout::load_topic(table, slot * TOPICS + t);
+        p4 = p4 | r.p4;
+        p3b = p3b | r.p3b;
+        subscribed = subscribed | r.subscribed;
+        t += 1;
+    }
+    (p4 <= 1000000) & (p3b <= 1000000000000) & (subscribed <= 1)
+}
+
+fn small_topics(
+    table: &[u64],
+    caps2: &[u64; TOPICS],
+    caps3: &[u64; TOPICS],
+    slot: usize,
+    explicit: u64,
+) -> bool
+    requires { ⌜ (length (now table) ≡ cellCount) × ((slot < slotCount) × (Caps (stateOf (now table)) (now caps2) (now caps3) × (Small (stateOf (now table)) slot × (stateOf (now table) .clock ≤ maxTime)))) ⌝ }
+    ensures { λ r. ⌜ r ≡ every topicCount (topicOkAt (stateOf (now (table .entry))) slot 1 explicit) ⌝ }
+{
+    let clock = layout::load_clock(table);
+    let mut t: usize = 0;
+    while t < TOPICS {
+        let joined = layout::load_joined(table, t);
+        let r = layout::load_topic(table, slot * TOPICS + t);
+        if !small_topic_ok(explicit, joined, clock, caps2[t], caps3[t], r) {
+            return false;
+        }
+        t += 1;
+    }
+    true
+}
+
+// Any slot.
+fn other_slot(table: &[u64], slot: usize) -> bool
+    requires { ⌜ (length (now table) ≡ cellCount) × (slot < slotCount) ⌝ }
+    ensures { λ r. ⌜ r ≡ slotOk (stateOf (now (table .entry))) slot ⌝ }
+{
+    let p = layout::load_peer(table, slot);
+    let peer = peer_ok(p);
+    let topics = topics_ok(table, slot, p.status, p.explicit);
+    peer & topics
+}
+
+fn connected_slot(table: &[u64], caps2: &[u64; TOPICS], caps3: &[u64; TOPICS], slot: usize) -> bool
+    requires { ⌜ (length (now table) ≡ cellCount) × ((slot < slotCount) × (Caps (stateOf (now table)) (now caps2) (now caps3) × ((stateOf (now table) .clock ≤ maxTime) × (peerIn (stateOf (now table)) slot .status ≡ 1)))) ⌝ }
+    ensures { λ r. ⌜ r ≡ slotOk (stateOf (now (table .entry))) slot ⌝ }
+{
+    if !is_small(table, slot) {
+        return other_slot(table, slot);
+    }
+    let p = layout::load_peer(table, slot);
+    if !connected_ok(p) {
+        return false;
+    }
+    small_topics(table, caps2, caps3, slot, p.explicit)
+}
+
+fn zero_topics(table: &[u64], slot: usize) -> bool
+    requires { ⌜ (length (now table) ≡ cellCount) × (slot < slotCount) ⌝ }
+    ensures { λ r. ⌜ r ≡ every topicCount (zeroTopicAt (stateOf (now (table .entry))) slot) ⌝ }
+{
+    let mut t: usize = 0;
+    while t < TOPICS {
+        if !zero_topic(layout::load_topic(table, slot * TOPICS + t)) {
+            return false;
+        }
+        t += 1;
+    }
+    true
+}
+
+// An empty slot is all zero.
+fn empty_slot(table: &[u64], slot: usize) -> bool
+    requires { ⌜ (length (now table) ≡ cellCount) × ((slot < slotCount) × (peerIn (stateOf (now table)) slot .status ≡ 0)) ⌝ }
+    ensures { λ r. ⌜ r ≡ slotOk (stateOf (now (table .entry))) slot ⌝ }
+{
+    if !zero_peer(layout::load_peer(table, slot)) {
+        return false;
+    }
+    zero_topics(table, slot)
+}
+
+fn slot_ok(table: &[u64], caps2: &[u64; TOPICS], caps3: &[u64; TOPICS], slot: usize) -> bool
+    requires { ⌜ (length (now table) ≡ cellCount) × ((slot < slotCount) × (Caps (stateOf (now table)) (now caps2) (now caps3) × (stateOf (now table) .clock ≤ maxTime))) ⌝ }
+    ensures { λ r. ⌜ r ≡ slotOk (stateOf (now (table .entry))) slot ⌝ }
+{
+    let status = layout::load_status(table, slot);
+    if status == 1 {
+        return connected_slot(table, caps2, caps3, slot);
+    }
+    if status == 0 {
+        return empty_slot(table, slot);
+    }
+    other_slot(table, slot)
+}
+
+fn slots_ok(table: &[u64]) -> bool
+    requires { ⌜ (length (now table) ≡ cellCount) × (stateOf (now table) .clock ≤ maxTime) ⌝ }
+    ensures { λ r. ⌜ r ≡ every slotCount (slotOk (stateOf (now (table .entry)))) ⌝ }
+{
+    let caps2 = caps(table, P2_CAP);
+    let caps3 = caps(table, P3_CAP);
+    let mut slot: usize = 0;
+    while slot < SLOTS {
+        if !slot_ok(table, &caps2, &caps3, slot) {
+            return false;
+        }
+        slot += 1;
+    }
+    true
+}
+
+fn joined_at(table: &[u64], t: usize) -> bool
+    requires { ⌜ (length (now table) ≡ cellCount) × (t < topicCount) ⌝ }
+    ensures { λ r. ⌜ r ≡ joinedOk (stateOf (now (table .entry))) t ⌝ }
+{
+    layout::load_joined(table, t) <= 1
+}
+
+fn joined_ok(table: &[u64]) -> bool
+    requires { ⌜ length (now table) ≡ cellCount ⌝ }
+    ensures { λ r. ⌜ r ≡ every topicCount (joinedOk (stateOf (now (table .entry)))) ⌝ }
+{
+    let mut ok = true;
+    let mut t: usize = 0;
+    while t < TOPICS {
+        ok = ok & joined_at(table, t);
+        t += 1;
+    }
+    ok
+}
+
+// Whether a table is a router's.
+pub fn is_router(table: &[u64]) -> bool
+    requires { ⌜ length (now table) ≡ cellCount ⌝ }
+    ensures { λ r. ⌜ r ≡ valid (stateOf (now (table .entry))) ⌝ }
+{
+    if MAX_TIME < layout::load_clock(table) {
+        return false;
+    }
+    let params = params::accepts_codes(layout::codes(table));
+    let joined = joined_ok(table);
+    let slots = slots_ok(table);
+    let ids = ids_distinct(table);
+    params & joined & slots & ids
+}
