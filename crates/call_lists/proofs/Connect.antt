@@ -11,7 +11,7 @@ use borrow.Author.Tests.{eq-eqb, ne-eqb}
 use Rattle.index.specs.declared.Found.{Found}
 use Rattle.index.specs.declared.Found.the-variants.{At, Nothing}
 use Rattle.records.specs.declared.Peer.{Peer}
-use Rattle.records.specs.Records.{State, peerIn, setClock, setPeer}
+use Rattle.records.specs.Records.{State, peerIn, setClock, setPeer, slotCount}
 use Rattle.layout.proofs.StateLaws.{peer-case, peer-other, peer-after-clock, codes-after-clock, codes-after-peer}
 use Rattle.lookup.specs.declared.Named.{Named}
 use Rattle.lookup.specs.declared.Named.the-variants.{Version, Unknown}
@@ -47,7 +47,7 @@ module _
     fewer = fewer-reclaimed st time
 
     -- reclaiming leaves a connected peer alone
-    stays : (s : ℕ) → s < 64 → peerIn st s .status ≡ 1 → peerIn kept s ≡ peerIn st s
+    stays : (s : ℕ) → s < slotCount → peerIn st s .status ≡ 1 → peerIn kept s ≡ peerIn st s
     stays s l on =
         reclaimed-stays st time (h .size) s l (reclaimable-connected (peerIn st s) time (eq-eqb (peerIn st s .status) 1 on))
 
@@ -59,7 +59,7 @@ module _
       -- who was connected has another id
       other :
           (i : ℕ) →
-          i < 64 →
+          i < slotCount →
           peerIn kept i .status ≡ 1 →
           eqb (peerIn kept i .outbound) 1 ≡ after (peerIn kept i .id)
       other i l on =
@@ -80,7 +80,7 @@ module _
         unfolding connectedAs
         here = rw (eq-eqb id id refl)
 
-        tied-in : (i : ℕ) → i < 64 → peerIn u i .status ≡ 1 → eqb (peerIn u i .outbound) 1 ≡ after (peerIn u i .id)
+        tied-in : (i : ℕ) → i < slotCount → peerIn u i .status ≡ 1 → eqb (peerIn u i .outbound) 1 ≡ after (peerIn u i .id)
         tied-in i l =
             peer-case kept (λ (q : Peer). q .status ≡ 1 → eqb (q .outbound) 1 ≡ after (q .id)) s p i (λ e on. here) (other i l)
 
@@ -91,7 +91,7 @@ module _
         was-member :
             (t i : ℕ) →
             t < 8 →
-            i < 64 →
+            i < slotCount →
             isMember left t i ≡ true →
             (isMember st t i ≡ true) × (peerIn left i .outbound ≡ peerIn st i .outbound)
         was-member t i k l m =

@@ -11,7 +11,7 @@ use lib.ListN.{List·getD-eq-default}
 use borrow.Author.Tests.{eqb-true, eqb-false}
 use Rattle.index.proofs.Index.{both, count-same}
 use Rattle.index.proofs.Flags.{by-test, by-order}
-use Rattle.records.specs.Records.{State, peerIn, joinedIn}
+use Rattle.records.specs.Records.{State, peerIn, joinedIn, slotCount}
 use Rattle.layout.specs.View.{Sized}
 use Rattle.validity.specs.Valid.{valid}
 use Rattle.effects.specs.Effects.{isJoined, isMember}
@@ -92,7 +92,7 @@ module _ (params : List ℤ) (ok : Accepted params) where
   -- the flag of a connected peer's record is the direction that its last connect answered 0 said
   pub direction-tied :
       (calls : List Made) (s : ℕ) →
-      s < 64 →
+      s < slotCount →
       peerIn (after params calls) s .status ≡ 1 →
       eqb (peerIn (after params calls) s .outbound) 1 ≡ outbound params calls (peerIn (after params calls) s .id)
   direction-tied calls = standing calls .tied
@@ -109,7 +109,7 @@ module _ (params : List ℤ) (ok : Accepted params) where
   inbound-same :
       (calls : List Made) (t s : ℕ) →
       t < 8 →
-      s < 64 →
+      s < slotCount →
       member params calls t s && not (outboundAt params calls s) ≡ isInbound (after params calls) t s
   inbound-same calls t s k l =
       by-test _ (isMember (after params calls) t s)
@@ -124,7 +124,7 @@ module _ (params : List ℤ) (ok : Accepted params) where
       count-same
       (λ s. member params calls t s && not (outboundAt params calls s))
       (isInbound (after params calls) t)
-      64
+      slotCount
       (λ s l. inbound-same calls t s k l)
 
   -- ---- after a heartbeat

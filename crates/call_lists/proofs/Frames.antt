@@ -12,7 +12,7 @@ use Rattle.index.specs.Index.{iter}
 use Rattle.index.proofs.Flags.{cond-case}
 use Rattle.varint.specs.Codes.{codeOf}
 use Rattle.records.specs.declared.TopicRecord.{TopicRecord}
-use Rattle.records.specs.Records.{State, noPeer, noTopic, place, codeIn, peerIn, topicIn, setClock, setTopic, isConnected}
+use Rattle.records.specs.Records.{State, noPeer, noTopic, place, codeIn, peerIn, topicIn, setClock, setTopic, isConnected, slotCount}
 use Rattle.score.specs.Counters.{firstOf, nearFirstOf, invalidOf, grownOf, fadedOf, decayedOf}
 use Rattle.score.specs.Score.{topicParamsIn}
 use Rattle.effects.specs.Effects.{magnitude, unsubscribeBackoff, pruneBackoff, withEnd, withP5, withP7, retainedTo, outOfMesh, withSubscribed, onPeer, onTopic, isJoined, isMember, pruned, endAfter, leftTopic, departed, reclaimable, emptied, reclaimSlot, reclaimed}
@@ -80,7 +80,7 @@ fewer-emptied st s =
 pub fewer-reclaimed : (st : State) (time : ℕ) → Fewer st (reclaimed st time)
 unfolding reclaimed reclaimSlot
 fewer-reclaimed st time =
-    fewer-iter (reclaimSlot time) 64 st (λ s u h.
+    fewer-iter (reclaimSlot time) slotCount st (λ s u h.
     fewer-either u (reclaimable (peerIn u s) time) (emptied u s) u (fewer-emptied u s) (fewer-self u))
 
 fewer-faded : (s : ℕ) (st : State) → Fewer st (decayP7 s st)
@@ -121,9 +121,9 @@ module _ (st : State) (time : ℕ) where
   unfolding leaveReply
   fewer-leave t =
       let end = endAfter time (unsubscribeBackoff st) in
-      let w = iter 64 (leaveSlot st t end) st in
+      let w = iter slotCount (leaveSlot st t end) st in
       either (isJoined st t) _ (ignored st time)
-      (moved (fewer-then (fewer-iter (leaveSlot st t end) 64 st (λ s u h. fewer-left st t end s u)) (fewer-joined w t 0)))
+      (moved (fewer-then (fewer-iter (leaveSlot st t end) slotCount st (λ s u h. fewer-left st t end s u)) (fewer-joined w t 0)))
       fewer-still
 
   pub fewer-rate : (p5 : ℤ) (s : ℕ) → Fewer st (done (onPeer st s (λ p. withP5 p (codeOf p5))) time [] .state)
@@ -131,7 +131,7 @@ module _ (st : State) (time : ℕ) where
 
   pub fewer-decay : Fewer st (decayReply st time .state)
   unfolding decayReply
-  fewer-decay = moved (fewer-iter (decaySlot time) 64 st (λ s u h. fewer-decayed time s u))
+  fewer-decay = moved (fewer-iter (decaySlot time) slotCount st (λ s u h. fewer-decayed time s u))
 
   module _ (t s : ℕ) where
     pub fewer-subscribe : Fewer st (subscribeReply st time t s .state)

@@ -13,7 +13,7 @@ use Rattle.index.specs.Index.{one}
 use Rattle.index.proofs.Index.{both, one-le}
 use Rattle.index.proofs.Flags.{by-test, cond-case}
 use Rattle.records.specs.declared.Peer.{Peer}
-use Rattle.records.specs.Records.{State, place, peerIn, topicIn, setClock}
+use Rattle.records.specs.Records.{State, place, peerIn, topicIn, setClock, slotCount}
 use Rattle.layout.specs.View.{Sized}
 use Rattle.layout.proofs.StateLaws.{peer-after-clock, peer-after-topic, codes-after-clock, codes-after-topic}
 use Rattle.validity.specs.Valid.{valid}
@@ -37,7 +37,7 @@ module _
     (h : Standing params dir st)
     (time t s : ℕ)
     (k : t < 8)
-    (l : s < 64)
+    (l : s < slotCount)
   where
     -- ---- the peer is taken in
     abbrev u : State
@@ -85,7 +85,7 @@ module _
       unfolding inbounds meshSize
       few-here =
           let c : inbounds left t + one (isInbound st t s) ≡ inbounds st t + one (isInbound left t s) =
-          count-change (isInbound left t) (isInbound st t) s 64 l (λ i b n. same-inbound t i (place-slot s t i t k k n)) in
+          count-change (isInbound left t) (isInbound st t) s slotCount l (λ i b n. same-inbound t i (place-slot s t i t k k n)) in
           let was = h .few t k in
           by-test _ (eqb (peerIn st s .outbound) 1)
           (λ o.

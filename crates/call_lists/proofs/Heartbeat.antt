@@ -61,7 +61,7 @@ module _
     view = viewIn st time t ask order
 
     abbrev walked : State
-    walked = iter 64 (settleSlot st time t mesh) st
+    walked = iter slotCount (settleSlot st time t mesh) st
 
     abbrev left : State
     left = setClock walked time
@@ -71,21 +71,21 @@ module _
     unfolding withEnd
     same-status s =
         ap (λ (p : Peer). p .status) (peer-after-clock walked time s)
-        ∙ settled-peer st time t mesh (λ (p : Peer). p .status) (λ p v end. refl) 64 s
+        ∙ settled-peer st time t mesh (λ (p : Peer). p .status) (λ p v end. refl) slotCount s
 
     same-id : (s : ℕ) → peerIn left s .id ≡ peerIn st s .id
     unfolding withEnd
     same-id s =
         ap (λ (p : Peer). p .id) (peer-after-clock walked time s)
-        ∙ settled-peer st time t mesh (λ (p : Peer). p .id) (λ p v end. refl) 64 s
+        ∙ settled-peer st time t mesh (λ (p : Peer). p .id) (λ p v end. refl) slotCount s
 
     same-outbound : (s : ℕ) → peerIn left s .outbound ≡ peerIn st s .outbound
     unfolding withEnd
     same-outbound s =
         ap (λ (p : Peer). p .outbound) (peer-after-clock walked time s)
-        ∙ settled-peer st time t mesh (λ (p : Peer). p .outbound) (λ p v end. refl) 64 s
+        ∙ settled-peer st time t mesh (λ (p : Peer). p .outbound) (λ p v end. refl) slotCount s
 
-    member-here : (s : ℕ) → s < 64 → isMember left t s ≡ at mesh s
+    member-here : (s : ℕ) → s < slotCount → isMember left t s ≡ at mesh s
     unfolding setClock isMember topicIn
     member-here s l = settled-member st time t mesh k (h .size) s l
 
@@ -94,57 +94,57 @@ module _
     member-else v b n s = settled-else st time t mesh k v b n s
 
     -- ---- the view's sets, by slot
-    outs-at : (s : ℕ) → s < 64 → at (view .outbound) s ≡ eqb (peerIn st s .outbound) 1
+    outs-at : (s : ℕ) → s < slotCount → at (view .outbound) s ≡ eqb (peerIn st s .outbound) 1
     unfolding viewIn
-    outs-at s l = slots-at false (λ i. eqb (peerIn st i .outbound) 1) 64 s l
+    outs-at s l = slots-at false (λ i. eqb (peerIn st i .outbound) 1) slotCount s l
 
     -- members and candidates are connected, and so the view has their direction
-    pool-connected : (s : ℕ) → s < 64 → InPool st time t s → peerIn st s .status ≡ 1
+    pool-connected : (s : ℕ) → s < slotCount → InPool st time t s → peerIn st s .status ≡ 1
     pool-connected s l p =
         ⊎-elim
         (λ m. member-connected st (h .router) t s k l (m .0))
         (λ c. eqb-true (peerIn st s .status) 1 (candidate-connected st time t s c))
         p
 
-    directed : (s : ℕ) → s < 64 → InPool st time t s → at (view .outbound) s ≡ dir (peerIn left s .id)
+    directed : (s : ℕ) → s < slotCount → InPool st time t s → at (view .outbound) s ≡ dir (peerIn left s .id)
     directed s l p = outs-at s l ∙ h .tied s l (pool-connected s l p) ∙ sym (ap dir (same-id s))
 
     -- the pool of the statement is the view's
-    to-view : (s : ℕ) → s < 64 → InPool st time t s → OfPool view s
+    to-view : (s : ℕ) → s < slotCount → InPool st time t s → OfPool view s
     unfolding viewIn
     to-view s l p =
         ⊎-elim
         (λ m.
         inl
         (both-in (view .members) (goods view) s
-        (slots-at false (isMember st t) 64 s l ∙ m .0)
+        (slots-at false (isMember st t) slotCount s l ∙ m .0)
         (view-goods st time t ask order (h .router) s l ∙ ap not (m .1))))
-        (λ c. inr (slots-at false (isCandidate st time t) 64 s l ∙ c))
+        (λ c. inr (slots-at false (isCandidate st time t) slotCount s l ∙ c))
         p
 
-    of-view : (s : ℕ) → s < 64 → OfPool view s → InPool st time t s
+    of-view : (s : ℕ) → s < slotCount → OfPool view s → InPool st time t s
     unfolding viewIn
     of-view s l p =
         ⊎-elim
         (λ b.
         inl (
-          slots-in (isMember st t) 64 s (both-left (view .members) (goods view) s b) .1,
+          slots-in (isMember st t) slotCount s (both-left (view .members) (goods view) s b) .1,
           not-true (isNegative st s)
               (sym (view-goods st time t ask order (h .router) s l) ∙ both-right (view .members) (goods view) s b),
         ))
-        (λ c. inr (slots-in (isCandidate st time t) 64 s c .1))
+        (λ c. inr (slots-in (isCandidate st time t) slotCount s c .1))
         p
 
     module _ (right : isPermutation slotCount order ≡ true) where
       kept : Maintained (degreesIn st) view mesh
       kept = view-kept st time t ask order (h .router) right
 
-      len : length mesh ≡ 64
+      len : length mesh ≡ slotCount
       len = mesh-length st time t ask order (h .router) right
 
-      len-outs : length (view .outbound) ≡ 64
+      len-outs : length (view .outbound) ≡ slotCount
       unfolding viewIn
-      len-outs = slots-length 64 (λ s. eqb (peerIn st s .outbound) 1)
+      len-outs = slots-length slotCount (λ s. eqb (peerIn st s .outbound) 1)
 
       degrees : (degreesIn st .lo ≡ dLo params) × (degreesIn st .hi ≡ dHi params) × (degreesIn st .out ≡ dOut params)
       unfolding degreesIn
@@ -155,10 +155,10 @@ module _
       few-here : inbounds left t ≤ dHi params + 2
       unfolding inbounds
       few-here =
-          let a : inbounds left t ≡ count 64 (λ s. at mesh s && not (at (view .outbound) s)) =
-          count-same (isInbound left t) (λ s. at mesh s && not (at (view .outbound) s)) 64 (λ s l.
+          let a : inbounds left t ≡ count slotCount (λ s. at mesh s && not (at (view .outbound) s)) =
+          count-same (isInbound left t) (λ s. at mesh s && not (at (view .outbound) s)) slotCount (λ s l.
           rw (member-here s l, same-outbound s, outs-at s l)) in
-          omega (arith, except-count mesh (view .outbound) 64 len, kept .inbound, degrees .1)
+          omega (arith, except-count mesh (view .outbound) slotCount len, kept .inbound, degrees .1)
 
       few-else : (v : ℕ) → v < 8 → v ≢ t → inbounds left v ≤ inbounds st v
       few-else v b n = inbounds-less st left v (λ s l m. (sym (member-else v b n s) ∙ m, same-outbound s))
@@ -168,7 +168,7 @@ module _
           record {
             size = size;
             router = v;
-            codes = codes-after-clock walked time ∙ settled-kept st time t mesh 64 .codes ∙ h .codes;
+            codes = codes-after-clock walked time ∙ settled-kept st time t mesh slotCount .codes ∙ h .codes;
             tied = λ s l on.
                 ap (λ (n : ℕ). eqb n 1) (same-outbound s)
                 ∙ h .tied s l (sym (same-status s) ∙ on)
@@ -180,37 +180,37 @@ module _
           }
 
       -- ---- the topic that was maintained
-      maintained-good : (s : ℕ) → s < 64 → isMember left t s ≡ true → isNegative st s ≡ false
+      maintained-good : (s : ℕ) → s < slotCount → isMember left t s ≡ true → isNegative st s ≡ false
       maintained-good s l m =
           not-true (isNegative st s)
           (sym (view-goods st time t ask order (h .router) s l) ∙ kept .only s (sym (member-here s l) ∙ m))
 
       -- an outbound member, by the list and by the directions
-      outbound-same : (s : ℕ) → s < 64 → at mesh s && at (view .outbound) s ≡ isMember left t s && dir (peerIn left s .id)
+      outbound-same : (s : ℕ) → s < slotCount → at mesh s && at (view .outbound) s ≡ isMember left t s && dir (peerIn left s .id)
       outbound-same s l =
           by-test _ (at mesh s)
           (λ m. rw (member-here s l, m) (directed s l (of-view s l (kept .pool s m))))
           (λ m. rw (member-here s l, m))
 
       maintained-outs :
-          (dOut params ≤ count 64 (λ s. isMember left t s && dir (peerIn left s .id))) ⊎
-          ((s : ℕ) → s < 64 → InPool st time t s → dir (peerIn left s .id) ≡ true → isMember left t s ≡ true)
+          (dOut params ≤ count slotCount (λ s. isMember left t s && dir (peerIn left s .id))) ⊎
+          ((s : ℕ) → s < slotCount → InPool st time t s → dir (peerIn left s .id) ≡ true → isMember left t s ≡ true)
       maintained-outs =
           ⊎-elim
           (λ b.
-          let c = count-same (λ s. at mesh s && at (view .outbound) s) (λ s. isMember left t s && dir (peerIn left s .id)) 64 outbound-same in
-          inl (omega (arith, both-count mesh (view .outbound) 64 len len-outs, degrees .2)))
+          let c = count-same (λ s. at mesh s && at (view .outbound) s) (λ s. isMember left t s && dir (peerIn left s .id)) slotCount outbound-same in
+          inl (omega (arith, both-count mesh (view .outbound) slotCount len len-outs, degrees .2)))
           (λ f. inr (λ s l p o. member-here s l ∙ f s (to-view s l p) (directed s l p ∙ o)))
           (kept .outs)
 
       maintained-enough :
-          (dLo params ≤ count 64 (isMember left t)) ⊎
-          ((s : ℕ) → s < 64 → InPool st time t s → isMember left t s ≡ true)
+          (dLo params ≤ count slotCount (isMember left t)) ⊎
+          ((s : ℕ) → s < slotCount → InPool st time t s → isMember left t s ≡ true)
       maintained-enough =
           ⊎-elim
           (λ b.
-          let c = count-same (isMember left t) (at mesh) 64 member-here in
-          inl (omega (arith, size-count mesh 64 len, degrees .0)))
+          let c = count-same (isMember left t) (at mesh) slotCount member-here in
+          inl (omega (arith, size-count mesh slotCount len, degrees .0)))
           (λ f. inr (λ s l p. member-here s l ∙ f s (to-view s l p)))
           (kept .lower)
 

@@ -18,7 +18,7 @@ use Rattle.params.specs.Limits.{at}
 use Rattle.records.specs.declared.Peer.{Peer}
 use Rattle.records.specs.declared.TopicRecord.{TopicRecord}
 use Rattle.records.specs.Records.{State, slotCount, noPeer, noTopic, place, codeIn, peerIn, topicIn}
-use Rattle.layout.specs.View.{Sized}
+use Rattle.layout.specs.View.{Sized, placeCount}
 use Rattle.validity.specs.Valid.{valid}
 use Rattle.lookup.specs.Fresh.{freshState}
 use Rattle.validity.proofs.ValidLaws.{valid-facts}
@@ -40,13 +40,13 @@ pub record Standing (params : List ℤ) (dir : ℕ → Bool) (st : State) : Type
   pub router : valid st ≡ true
   pub codes : st .codes ≡ map codeOf params
   -- a connected peer's flag is its direction
-  pub tied : (s : ℕ) → s < 64 → peerIn st s .status ≡ 1 → eqb (peerIn st s .outbound) 1 ≡ dir (peerIn st s .id)
+  pub tied : (s : ℕ) → s < slotCount → peerIn st s .status ≡ 1 → eqb (peerIn st s .outbound) 1 ≡ dir (peerIn st s .id)
   pub few : (t : ℕ) → t < 8 → inbounds st t ≤ dHi params + 2
 
 -- ---- what the tables say of members
 -- "a member is connected"
 pub member-connected :
-    (st : State) → valid st ≡ true → (t s : ℕ) → t < 8 → s < 64 → isMember st t s ≡ true → peerIn st s .status ≡ 1
+    (st : State) → valid st ≡ true → (t s : ℕ) → t < 8 → s < slotCount → isMember st t s ≡ true → peerIn st s .status ≡ 1
 unfolding isMember
 member-connected st v t s k h m = valid-facts st v .topic s t h k .inside (eqb-true _ _ m) .0
 
@@ -54,13 +54,13 @@ member-connected st v t s k h m = valid-facts st v .topic s t h k .inside (eqb-t
 pub inbounds-less :
     (st u : State) (t : ℕ) →
     ((s : ℕ) →
-    s < 64 →
+    s < slotCount →
     isMember u t s ≡ true →
     (isMember st t s ≡ true) × (peerIn u s .outbound ≡ peerIn st s .outbound)) →
     inbounds u t ≤ inbounds st t
 unfolding inbounds
 inbounds-less st u t h =
-    count-less (isInbound u t) (isInbound st t) 64 (λ s l e.
+    count-less (isInbound u t) (isInbound st t) slotCount (λ s l e.
     let q = both (isMember u t s) (not (eqb (peerIn u s .outbound) 1)) e in
     let w = h s l (q .0) in
     rw (w .0, ← w .1) (q .1))
@@ -69,7 +69,7 @@ inbounds-less st u t h =
 pub inbounds-most : (st : State) (t : ℕ) → inbounds st t ≤ count slotCount (isMember st t)
 unfolding inbounds
 inbounds-most st t =
-    count-less (isInbound st t) (isMember st t) 64 (λ s l e.
+    count-less (isInbound st t) (isMember st t) slotCount (λ s l e.
     both (isMember st t s) (not (eqb (peerIn st s .outbound) 1)) e .0)
 
 pub fewer-member :
@@ -131,7 +131,7 @@ module _ (params : List ℤ) where
 
   pub fresh-topic : (k : ℕ) → topicIn (freshState params) k ≡ noTopic
   unfolding topicIn freshState
-  fresh-topic k = always 512 k noTopic
+  fresh-topic k = always placeCount k noTopic
 
   fresh-sized : length params ≡ 147 → Sized (freshState params)
   unfolding freshState
@@ -139,8 +139,8 @@ module _ (params : List ℤ) where
       record {
         joined = length-replicate {A = ℕ} 8 0;
         codes = length-map params codeOf ∙ l;
-        peers = length-replicate 64 noPeer;
-        topics = length-replicate 512 noTopic;
+        peers = length-replicate slotCount noPeer;
+        topics = length-replicate placeCount noTopic;
         ends = λ s. ap (λ (p : Peer). length (p .backoff)) (fresh-peer s);
       }
 
@@ -156,10 +156,10 @@ module _ (params : List ℤ) where
   fresh-few : (t : ℕ) → inbounds (freshState params) t ≤ 0
   unfolding inbounds
   fresh-few t =
-      let a : count 64 (isInbound (freshState params) t) ≤ count 64 (λ s. false) =
-      count-less (isInbound (freshState params) t) (λ s. false) 64 (λ s l e.
+      let a : count slotCount (isInbound (freshState params) t) ≤ count slotCount (λ s. false) =
+      count-less (isInbound (freshState params) t) (λ s. false) slotCount (λ s l e.
       sym (fresh-member t s) ∙ both (isMember (freshState params) t s) _ e .0) in
-      omega (arith, count-no 64)
+      omega (arith, count-no slotCount)
 
   pub stands-fresh : Accepted params → (dir : ℕ → Bool) → Standing params dir (freshState params)
   unfolding freshState

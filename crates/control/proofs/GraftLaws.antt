@@ -10,7 +10,7 @@ use lib.Seq.{sets}
 use lib.Dec.{eqb}
 use borrow.Author.Tests.{eq-eqb, ne-eqb}
 use Rattle.records.specs.declared.Peer.{Peer}
-use Rattle.records.specs.Records.{State, peerIn, setClock}
+use Rattle.records.specs.Records.{State, peerIn, setClock, slotCount}
 use Rattle.layout.specs.View.{cellCount, stateOf}
 use Rattle.layout.proofs.StateLaws.{code-after-peer}
 use Rattle.validity.proofs.ValidLaws.{valid-facts}
@@ -43,7 +43,7 @@ raise p = withP7 p (raisedOf (p .p7) countMost)
 
 -- ---- what the refusal may rely on: behind the gate, and after P7 grew
 
-pub refusable-of : (table : List ℕ) (time s : ℕ) → Ready table time → s < 64 → Refusable table time s
+pub refusable-of : (table : List ℕ) (time s : ℕ) → Ready table time → s < slotCount → Refusable table time s
 refusable-of table time s r h =
     record {
       size = r .standing .size;
@@ -59,7 +59,7 @@ raise-id p = refl
 pub refusable-raised :
     (table table′ : List ℕ) (time s : ℕ) →
     Ready table time →
-    s < 64 →
+    s < slotCount →
     length table′ ≡ cellCount →
     stateOf table′ ≡ onPeer (stateOf table) s (λ x. withP7 x (raisedOf (x .p7) countMost)) →
     Refusable table′ time s

@@ -1,16 +1,16 @@
 // GRAFT and PRUNE that come in: two of 01's calls.
+ghost use Rattle.records.specs.Records.{slotCount};
 ghost use mathlib.Core.Path.{_≡_};
 ghost use Prim.Native.Nat.{_<_, _≤_};
 ghost use lib.ListN.{length};
 ghost use Rattle.layout.specs.View.{cellCount, stateOf};
 ghost use Rattle.rules.specs.Calls.{graft as Calls·graft, prune as Calls·prune};
-ghost use Rattle.rules.specs.Step.{effect, graftRefused, meshFull, graftEnters, graftOpen, graftBackoff, graftHeard, secondsOf};
+ghost use Rattle.rules.specs.Step.{effect, graftRefused, meshFull, graftEnters, graftOpen, graftBackoff, graftHeard, secondsOf, actionRoom};
 ghost use Rattle.rules.specs.Promise.{Leaves, Gives, Follows};
 ghost use Rattle.score.specs.Counters.{countMost, raisedOf};
 ghost use Rattle.effects.specs.Effects.{withP7, onPeer};
 ghost use Rattle.gate.specs.Ready.{Standing, Ready};
 ghost use Rattle.control.specs.Refusable.{Refusable};
-use layout::CELLS;
 use effects::actions::put_prune;
 use effects::slots::backoff_runs;
 use effects::slots::delay;
@@ -31,6 +31,7 @@ use gate::is_negative;
 use gate::time_ok;
 use gate::topic_ok;
 use index::Found;
+use layout::CELLS;
 use rules::Answer;
 use rules::Gate;
 
@@ -42,7 +43,7 @@ fn refuse_graft(
     slot: usize,
     actions: &mut [u32],
 ) -> Answer
-    requires { ⌜ Refusable (now table) time slot × ((topic < 8) × ((slot < 64) × (192 ≤ length (now actions)))) ⌝ }
+    requires { ⌜ Refusable (now table) time slot × ((topic < 8) × ((slot < slotCount) × (actionRoom ≤ length (now actions)))) ⌝ }
     ensures { λ r. ⌜ Gives (graftRefused (stateOf (now (table .entry))) time topic slot) r (now (table .entry)) (now (table .exit)) (now (actions .entry)) (now (actions .exit)) ⌝ }
 {
     let p = layout::load_peer(table, slot);
@@ -55,7 +56,7 @@ fn refuse_graft(
 
 // The mesh has D_hi members, and the peer is inbound.
 fn mesh_full(table: &[u64], topic: usize, slot: usize) -> bool
-    requires { ⌜ (length (now table) ≡ cellCount) × ((topic < 8) × (slot < 64)) ⌝ }
+    requires { ⌜ (length (now table) ≡ cellCount) × ((topic < 8) × (slot < slotCount)) ⌝ }
     ensures { λ r. ⌜ r ≡ meshFull (stateOf (now (table .entry))) topic slot ⌝ }
 {
     let p = layout::load_peer(table, slot);
@@ -63,7 +64,7 @@ fn mesh_full(table: &[u64], topic: usize, slot: usize) -> bool
 }
 
 fn graft_enters(table: &[u64], topic: usize, slot: usize) -> bool
-    requires { ⌜ Standing (now table) × ((topic < 8) × (slot < 64)) ⌝ }
+    requires { ⌜ Standing (now table) × ((topic < 8) × (slot < slotCount)) ⌝ }
     ensures { λ r. ⌜ r ≡ graftEnters (stateOf (now (table .entry))) topic slot ⌝ }
 {
     !is_negative(table, slot) & (is_subscribed(table, topic, slot) & !mesh_full(table, topic, slot))
@@ -76,7 +77,7 @@ fn graft_open(
     slot: usize,
     actions: &mut [u32],
 ) -> Answer
-    requires { ⌜ Ready (now table) time × ((topic < 8) × ((slot < 64) × (192 ≤ length (now actions)))) ⌝ }
+    requires { ⌜ Ready (now table) time × ((topic < 8) × ((slot < slotCount) × (actionRoom ≤ length (now actions)))) ⌝ }
     ensures { λ r. ⌜ Gives (graftOpen (stateOf (now (table .entry))) time topic slot) r (now (table .entry)) (now (table .exit)) (now (actions .entry)) (now (actions .exit)) ⌝ }
 {
     if graft_enters(table, topic, slot) {
@@ -88,7 +89,7 @@ fn graft_open(
 
 // P7 grows by 1000, to 10^6.
 fn raise_p7(table: &mut [u64], slot: usize)
-    requires { ⌜ (length (now table) ≡ cellCount) × (slot < 64) ⌝ }
+    requires { ⌜ (length (now table) ≡ cellCount) × (slot < slotCount) ⌝ }
     ensures { λ r. ⌜ stateOf (now (table .exit)) ≡ onPeer (stateOf (now (table .entry))) slot (λ p. withP7 p (raisedOf (p .p7) countMost)) ⌝ }
 {
     let p = layout::load_peer(table, slot);
@@ -106,7 +107,7 @@ fn graft_backoff(
     slot: usize,
     actions: &mut [u32],
 ) -> Answer
-    requires { ⌜ Ready (now table) time × ((topic < 8) × ((slot < 64) × (192 ≤ length (now actions)))) ⌝ }
+    requires { ⌜ Ready (now table) time × ((topic < 8) × ((slot < slotCount) × (actionRoom ≤ length (now actions)))) ⌝ }
     ensures { λ r. ⌜ Gives (graftBackoff (stateOf (now (table .entry))) time topic slot) r (now (table .entry)) (now (table .exit)) (now (actions .entry)) (now (actions .exit)) ⌝ }
 {
     if backoff_runs(table, topic, slot, time) {
@@ -123,7 +124,7 @@ fn graft_heard(
     slot: usize,
     actions: &mut [u32],
 ) -> Answer
-    requires { ⌜ Ready (now table) time × ((topic < 8) × ((slot < 64) × (192 ≤ length (now actions)))) ⌝ }
+    requires { ⌜ Ready (now table) time × ((topic < 8) × ((slot < slotCount) × (actionRoom ≤ length (now actions)))) ⌝ }
     ensures { λ r. ⌜ Gives (graftHeard (stateOf (now (table .entry))) time topic slot) r (now (table .entry)) (now (table .exit)) (now (actions .entry)) (now (actions .exit)) ⌝ }
 {
     if is_member(table, topic, slot) {
@@ -137,7 +138,7 @@ fn graft_heard(
 }
 
 fn graft_from(table: &mut [u64], time: u64, id: u64, topic: usize, actions: &mut [u32]) -> Answer
-    requires { ⌜ Ready (now table) time × ((topic < 8) × (192 ≤ length (now actions))) ⌝ }
+    requires { ⌜ Ready (now table) time × ((topic < 8) × (actionRoom ≤ length (now actions))) ⌝ }
     ensures { λ r. ⌜ Gives (effect (stateOf (now (table .entry))) (Calls·graft time id topic)) r (now (table .entry)) (now (table .exit)) (now (actions .entry)) (now (actions .exit)) ⌝ }
 {
     let Found::At(slot) = lookup::find::find_connected(table, id) else {

@@ -13,7 +13,7 @@ use Rattle.index.proofs.Index.{both, iter-keeps}
 use Rattle.index.proofs.Flags.{cond-case}
 use Rattle.records.specs.declared.Peer.{Peer}
 use Rattle.records.specs.declared.TopicRecord.{TopicRecord}
-use Rattle.records.specs.Records.{State, place, codeIn, peerIn, topicIn, setPeer, setTopic, setClock, isConnected}
+use Rattle.records.specs.Records.{State, place, codeIn, peerIn, topicIn, setPeer, setTopic, setClock, isConnected, slotCount}
 use Rattle.layout.proofs.StateLaws.{peer-case, topic-case, topic-again}
 use Rattle.layout.specs.View.{cellCount, stateOf}
 use Rattle.validity.specs.Valid.{valid}
@@ -66,7 +66,7 @@ decayed-in t floor time r h k =
     }
 
 module _ (st : State) (d : Decays st) where
-  kept-topic : (time s t : ℕ) → s < 64 → t < 8 → Decays (decayTopic time s t st)
+  kept-topic : (time s t : ℕ) → s < slotCount → t < 8 → Decays (decayTopic time s t st)
   unfolding decayTopic setTopic topicParamsIn codeIn peerIn
   kept-topic time s t h l =
       record {
@@ -85,7 +85,7 @@ module _ (st : State) (d : Decays st) where
         p7 = d .p7;
       }
 
-  kept-p7 : (s : ℕ) → s < 64 → Decays (decayP7 s st)
+  kept-p7 : (s : ℕ) → s < slotCount → Decays (decayP7 s st)
   unfolding decayP7 withP7 setPeer topicParamsIn codeIn topicIn
   kept-p7 s h =
       record {
@@ -106,11 +106,11 @@ module _ (st : State) (d : Decays st) where
             (d .p7 u a);
       }
 
-kept-topics : (st : State) → Decays st → (time s n : ℕ) → s < 64 → n ≤ 8 → Decays (iter n (decayTopic time s) st)
+kept-topics : (st : State) → Decays st → (time s n : ℕ) → s < slotCount → n ≤ 8 → Decays (iter n (decayTopic time s) st)
 kept-topics st d time s n h b =
     iter-keeps Decays (decayTopic time s) n st d (λ t u l k. kept-topic u k time s t h (omega arith))
 
-kept-slot : (st : State) → Decays st → (time s : ℕ) → s < 64 → Decays (decaySlot time s st)
+kept-slot : (st : State) → Decays st → (time s : ℕ) → s < slotCount → Decays (decaySlot time s st)
 unfolding decaySlot
 kept-slot st d time s h =
     cond-case
@@ -121,23 +121,23 @@ kept-slot st d time s h =
     (λ e. kept-p7 (iter 8 (decayTopic time s) st) (kept-topics st d time s 8 h (omega arith)) s h)
     (λ e. d)
 
-kept-slots : (st : State) → Decays st → (time n : ℕ) → n ≤ 64 → Decays (iter n (decaySlot time) st)
+kept-slots : (st : State) → Decays st → (time n : ℕ) → n ≤ slotCount → Decays (iter n (decaySlot time) st)
 kept-slots st d time n b =
     iter-keeps Decays (decaySlot time) n st d (λ s u l k. kept-slot u k time s (omega arith))
 
 -- on the way
 pub at-topic :
-    (st u : State) (time s n : ℕ) → Decays st → s < 64 → n ≤ 8 → u ≡ iter n (decayTopic time s) st → Decays u
+    (st u : State) (time s n : ℕ) → Decays st → s < slotCount → n ≤ 8 → u ≡ iter n (decayTopic time s) st → Decays u
 at-topic st u time s n d h b e = rw e (kept-topics st d time s n h b)
 
-pub at-slot : (st u : State) (time n : ℕ) → Decays st → n ≤ 64 → u ≡ iter n (decaySlot time) st → Decays u
+pub at-slot : (st u : State) (time n : ℕ) → Decays st → n ≤ slotCount → u ≡ iter n (decaySlot time) st → Decays u
 at-slot st u time n d b e = rw e (kept-slots st d time n b)
 
 -- ---- one record, as it is computed: what is loaded is what the state holds
 
 module _ (st : State) (time s t floor : ℕ) (p : TopicParams) (r : TopicRecord) where
   module _ (er : r ≡ topicIn st (place s t)) (ep : p ≡ topicParamsIn st t) (ef : floor ≡ decayFloor st) where
-    pub topic-ready : Decays st → s < 64 → t < 8 → TopicParamsIn p × (CountersIn r × (floor ≤ 1000))
+    pub topic-ready : Decays st → s < slotCount → t < 8 → TopicParamsIn p × (CountersIn r × (floor ≤ 1000))
     topic-ready d h l = (rw ep (d .params t l), (rw er (d .counters s t h l), omega (arith, d .floor)))
 
     pub topic-decayed :
@@ -188,7 +188,7 @@ module _ (st : State) (s floor factor x : ℕ) (p q : Peer) (u : State) where
 pub p7-ready :
     (st : State) (s factor : ℕ) (p : Peer) →
     Decays st →
-    s < 64 →
+    s < slotCount →
     p ≡ peerIn st s →
     factor ≡ magnitude (codeIn st 17) →
     (factor ≤ 1000) × (p .p7 ≤ 1000000000000)
@@ -244,7 +244,7 @@ module _
 -- all slots decayed, and the clock moved
 pub decay-done :
     (table mid table′ : List ℕ) (time : ℕ) (a : Answer) →
-    stateOf mid ≡ iter 64 (decaySlot time) (stateOf table) →
+    stateOf mid ≡ iter slotCount (decaySlot time) (stateOf table) →
     (a ≡ Done 0) × (stateOf table′ ≡ setClock (stateOf mid) time) →
     Leaves (decayReply (stateOf table) time) a table table′
 unfolding decayReply

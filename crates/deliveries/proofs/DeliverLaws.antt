@@ -8,7 +8,7 @@ use lib.Dec.{leb}
 use Rattle.index.proofs.Index.{both}
 use Rattle.index.proofs.Flags.{cond-case}
 use Rattle.records.specs.declared.TopicRecord.{TopicRecord}
-use Rattle.records.specs.Records.{State, place, topicIn, setTopic, setClock}
+use Rattle.records.specs.Records.{State, place, topicIn, setTopic, setClock, slotCount}
 use Rattle.layout.specs.View.{stateOf}
 use Rattle.validity.specs.Valid.{valid}
 use Rattle.score.specs.declared.TopicParams.{TopicParams}
@@ -43,7 +43,7 @@ pub slot-delivered :
     (st u : State) (t s kind : ℕ) (p : TopicParams) (r q : TopicRecord) →
     valid st ≡ true →
     t < 8 →
-    s < 64 →
+    s < slotCount →
     r ≡ topicIn st (place s t) →
     p ≡ topicParamsIn st t →
     q ≡ creditedOf kind p r →

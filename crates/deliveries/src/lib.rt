@@ -1,5 +1,6 @@
 // Deliveries and decay: two of 01's calls. Each takes the lent table, a time, its arguments as wide numbers and a lent action list, asks
 // nothing of its caller, and promises the rules' reply (crate rules).
+ghost use Rattle.records.specs.Records.{slotCount};
 ghost use mathlib.Core.Path.{_≡_};
 ghost use Prim.Native.Nat.{_<_};
 ghost use lib.ListN.{length};
@@ -12,7 +13,6 @@ ghost use Rattle.rules.specs.Step.{effect, deliveredOf, decayTopic, decayP7, de
 ghost use Rattle.rules.specs.Promise.{Leaves, Follows};
 ghost use Rattle.gate.specs.Ready.{Standing, Ready};
 ghost use Rattle.deliveries.specs.Decays.{Decays, isIdle};
-use layout::CELLS;
 use credits::credited;
 use effects::slots::load_size;
 use effects::values::with_p7;
@@ -24,6 +24,7 @@ use gate::is_heard;
 use gate::time_ok;
 use gate::topic_ok;
 use index::Found;
+use layout::CELLS;
 use lookup::find::find_connected;
 use records::SLOTS;
 use records::TOPICS;
@@ -33,7 +34,7 @@ use rules::Gate;
 
 // The counters of a slot in a topic, after one delivery. Kinds: 1 first, 2 near-first, 3 invalid.
 fn deliver_slot(table: &mut [u64], topic: usize, slot: usize, kind: u64)
-    requires { ⌜ Standing (now table) × ((topic < 8) × (slot < 64)) ⌝ }
+    requires { ⌜ Standing (now table) × ((topic < 8) × (slot < slotCount)) ⌝ }
     ensures { λ r. ⌜ stateOf (now (table .exit)) ≡ onTopic (stateOf (now (table .entry))) slot topic (deliveredOf kind (topicParamsIn (stateOf (now (table .entry))) topic)) ⌝ }
 {
     let r = layout::load_topic(table, slot * 8 + topic);
@@ -82,7 +83,7 @@ fn is_idle(r: TopicRecord) -> bool
 
 // The counters of one topic record, and a member's mesh time.
 fn decay_topic(table: &mut [u64], time: u64, slot: usize, topic: usize)
-    requires { ⌜ (length (now table) ≡ cellCount) × (Decays (stateOf (now table)) × ((slot < 64) × (topic < 8))) ⌝ }
+    requires { ⌜ (length (now table) ≡ cellCount) × (Decays (stateOf (now table)) × ((slot < slotCount) × (topic < 8))) ⌝ }
     ensures { λ r. ⌜ stateOf (now (table .exit)) ≡ decayTopic time slot topic (stateOf (now (table .entry))) ⌝ }
 {
     let r = layout::load_topic(table, slot * 8 + topic);
@@ -98,7 +99,7 @@ fn decay_topic(table: &mut [u64], time: u64, slot: usize, topic: usize)
 }
 
 fn decay_topics(table: &mut [u64], time: u64, slot: usize)
-    requires { ⌜ (length (now table) ≡ cellCount) × (Decays (stateOf (now table)) × (slot < 64)) ⌝ }
+    requires { ⌜ (length (now table) ≡ cellCount) × (Decays (stateOf (now table)) × (slot < slotCount)) ⌝ }
     ensures { λ r. ⌜ stateOf (now (table .exit)) ≡ iter 8 (decayTopic time slot) (stateOf (now (table .entry))) ⌝ }
 {
     let mut topic: usize = 0;
@@ -109,7 +110,7 @@ fn decay_topics(table: &mut [u64], time: u64, slot: usize)
 }
 
 fn decay_p7(table: &mut [u64], slot: usize)
-    requires { ⌜ (length (now table) ≡ cellCount) × (Decays (stateOf (now table)) × (slot < 64)) ⌝ }
+    requires { ⌜ (length (now table) ≡ cellCount) × (Decays (stateOf (now table)) × (slot < slotCount)) ⌝ }
     ensures { λ r. ⌜ stateOf (now (table .exit)) ≡ decayP7 slot (stateOf (now (table .entry))) ⌝ }
 {
     let p = layout::load_peer(table, slot);
@@ -125,7 +126,7 @@ fn decay_p7(table: &mut [u64], slot: usize)
 
 // Connected peers only.
 fn decay_slot(table: &mut [u64], time: u64, slot: usize)
-    requires { ⌜ (length (now table) ≡ cellCount) × (Decays (stateOf (now table)) × (slot < 64)) ⌝ }
+    requires { ⌜ (length (now table) ≡ cellCount) × (Decays (stateOf (now table)) × (slot < slotCount)) ⌝ }
     ensures { λ r. ⌜ stateOf (now (table .exit)) ≡ decaySlot time slot (stateOf (now (table .entry))) ⌝ }
 {
     if layout::load_status(table, slot) == 1 {

@@ -18,14 +18,14 @@ use Rattle.index.proofs.Lists.{set-case}
 use Rattle.records.specs.declared.Peer.{Peer}
 use Rattle.records.specs.declared.TopicRecord.{TopicRecord}
 use Rattle.records.specs.Records.{State, slotCount, noPeer, noTopic, place, codeIn, joinedIn, peerIn, topicIn, setPeer, setTopic, isEmpty, isConnected, isRetained}
-use Rattle.layout.specs.View.{Sized, setEnd}
+use Rattle.layout.specs.View.{Sized, setEnd, placeCount}
 use Rattle.layout.proofs.StateLaws.{peer-same, peer-other, peer-case, topic-same, topic-other, topic-case, peer-after-topic, topic-after-peer, sized-peer, sized-topic}
 use Rattle.effects.specs.Effects.{withEnd, retainedTo, retainSeconds, endAfter, outOfMesh, intoMesh, withSubscribed, onPeer, onTopic, isMember, isSubscribed, meshSize, backoffRuns, pruned, leftTopic, departed, reclaimable, emptied, reclaimSlot, reclaimed}
 use Rattle.effects.proofs.Walks.{iter-kept, iter-before, iter-once, iter-still, count-change}
 
 -- ---- places of topic records
 
-pub place-below : (s t : ℕ) → s < 64 → t < 8 → place s t < 512
+pub place-below : (s t : ℕ) → s < slotCount → t < 8 → place s t < placeCount
 place-below s t h k = omega arith
 
 -- topic records of two slots, and of two topics of a slot, stand apart
@@ -227,7 +227,7 @@ module _ (s : ℕ) (g : TopicRecord → TopicRecord) (st : State) where
 
   pub walk-same :
       Sized st →
-      s < 64 →
+      s < slotCount →
       (t : ℕ) →
       t < 8 →
       topicIn (iter 8 (walk s g) st) (place s t) ≡ g (topicIn st (place s t))
@@ -269,7 +269,7 @@ kept-reclaim time s st =
 
 pub kept-reclaimed : (st : State) (time : ℕ) → Kept st (reclaimed st time)
 unfolding reclaimed
-kept-reclaimed st time = kept-iter (reclaimSlot time) 64 st (kept-reclaim time)
+kept-reclaimed st time = kept-iter (reclaimSlot time) slotCount st (kept-reclaim time)
 
 pub sized-departed : (st : State) (s time : ℕ) → Sized st → Sized (departed st s time)
 unfolding departed leftTopic retainedTo
@@ -302,7 +302,7 @@ sized-turns st time n size =
 
 pub sized-reclaimed : (st : State) (time : ℕ) → Sized st → Sized (reclaimed st time)
 unfolding reclaimed
-sized-reclaimed st time size = sized-turns st time 64 size
+sized-reclaimed st time size = sized-turns st time slotCount size
 
 -- ---- a PRUNE's effect, slot by slot
 
@@ -325,7 +325,7 @@ module _ (st : State) (s t end : ℕ) where
       on-peer read (onTopic st s t outOfMesh) s (λ p. withEnd p t end) u (h (peerIn (onTopic st s t outOfMesh) s))
       ∙ ap read (peer-after-topic st (place s t) (outOfMesh (topicIn st (place s t))) u)
 
-  module _ (size : Sized st) (h : s < 64) where
+  module _ (size : Sized st) (h : s < slotCount) where
     pub pruned-same : peerIn (pruned st s t end) s ≡ withEnd (peerIn st s) t end
     unfolding pruned
     pruned-same =
@@ -354,10 +354,10 @@ module _ (st : State) (s t : ℕ) (g : TopicRecord → TopicRecord) where
       count-same
       (isMember (onTopic st s t g) v)
       (isMember st v)
-      64
+      slotCount
       (λ u l. member-apart u v (λ (e : place u v ≡ place s t). n (omega arith)))
 
-  module _ (size : Sized st) (h : s < 64) (k : t < 8) where
+  module _ (size : Sized st) (h : s < slotCount) (k : t < 8) where
     pub member-on : isMember (onTopic st s t g) t s ≡ eqb (g (topicIn st (place s t)) .member) 1
     unfolding isMember
     member-on =
@@ -374,12 +374,12 @@ module _ (st : State) (s t : ℕ) (g : TopicRecord → TopicRecord) where
         (isMember (onTopic st s t g) t)
         (isMember st t)
         s
-        64
+        slotCount
         h
         (λ u l n. member-apart u t (place-slot s t u t k k n))
-        ∙ ap (λ (b : Bool). count 64 (isMember st t) + one b) member-on
+        ∙ ap (λ (b : Bool). count slotCount (isMember st t) + one b) member-on
 
-module _ (st : State) (s t : ℕ) (size : Sized st) (h : s < 64) (k : t < 8) where
+module _ (st : State) (s t : ℕ) (size : Sized st) (h : s < slotCount) (k : t < 8) where
   pub member-in : (time : ℕ) → isMember (onTopic st s t (λ r. intoMesh r time)) t s ≡ true
   unfolding intoMesh
   member-in time = member-on st s t (λ r. intoMesh r time) size h k
@@ -413,14 +413,14 @@ member-peer st s p u v = ap (λ (r : TopicRecord). eqb (r .member) 1) (topic-aft
 pub mesh-peer : (st : State) (s : ℕ) (p : Peer) (v : ℕ) → meshSize (setPeer st s p) v ≡ meshSize st v
 unfolding meshSize
 mesh-peer st s p v =
-    count-same (isMember (setPeer st s p) v) (isMember st v) 64 (λ u l. member-peer st s p u v)
+    count-same (isMember (setPeer st s p) v) (isMember st v) slotCount (λ u l. member-peer st s p u v)
 
 module _ (st : State) (s t end : ℕ) where
   pub pruned-apart : (u v : ℕ) → place u v ≢ place s t → isMember (pruned st s t end) v u ≡ isMember st v u
   unfolding pruned
   pruned-apart u v n = member-peer (onTopic st s t outOfMesh) s _ u v ∙ member-apart st s t outOfMesh u v n
 
-  module _ (size : Sized st) (h : s < 64) (k : t < 8) where
+  module _ (size : Sized st) (h : s < slotCount) (k : t < 8) where
     pub pruned-member : isMember (pruned st s t end) t s ≡ false
     unfolding pruned
     pruned-member = member-peer (onTopic st s t outOfMesh) s _ s t ∙ member-out st s t size h k
@@ -443,7 +443,7 @@ module _ (st : State) (s time : ℕ) where
   departed-topic-other u t n h =
       topic-after-peer (iter 8 (walk s gone) st) s _ (place u t) ∙ walk-other s gone st u t n h
 
-  module _ (size : Sized st) (h : s < 64) where
+  module _ (size : Sized st) (h : s < slotCount) where
     pub departed-same : peerIn (departed st s time) s ≡ retainedTo (peerIn st s) (endAfter time (retainSeconds st))
     unfolding departed leftTopic
     departed-same =
@@ -480,7 +480,7 @@ module _ (st : State) (s : ℕ) where
   emptied-topic-other u t n h =
       topic-after-peer (iter 8 (walk s none) st) s noPeer (place u t) ∙ walk-other s none st u t n h
 
-  module _ (size : Sized st) (h : s < 64) where
+  module _ (size : Sized st) (h : s < slotCount) where
     pub emptied-same : peerIn (emptied st s) s ≡ noPeer
     unfolding emptied
     emptied-same =
@@ -534,7 +534,7 @@ reclaim-topic-other time u t k i st n =
 reclaim-peer :
     (st : State) (time s : ℕ) →
     Sized st →
-    s < 64 →
+    s < slotCount →
     peerIn (reclaimSlot time s st) s ≡ cond (reclaimable (peerIn st s) time) noPeer (peerIn st s)
 reclaim-peer st time s size h =
     by-test
@@ -546,7 +546,7 @@ reclaim-peer st time s size h =
 reclaim-topic :
     (st : State) (time s t : ℕ) →
     Sized st →
-    s < 64 →
+    s < slotCount →
     t < 8 →
     topicIn (reclaimSlot time s st) (place s t) ≡ cond (reclaimable (peerIn st s) time) noTopic (topicIn st (place s t))
 reclaim-topic st time s t size h k =
@@ -558,14 +558,14 @@ reclaim-topic st time s t size h k =
 
 -- ---- reclaiming every slot, slot by slot
 
-module _ (st : State) (time : ℕ) (size : Sized st) (s : ℕ) (h : s < 64) where
+module _ (st : State) (time : ℕ) (size : Sized st) (s : ℕ) (h : s < slotCount) where
   walked : peerIn (iter s (reclaimSlot time) st) s ≡ peerIn st s
   walked = iter-before (λ v. peerIn v s) (reclaimSlot time) s (reclaim-other time s) s st (omega arith)
 
   pub reclaimed-peer : peerIn (reclaimed st time) s ≡ cond (reclaimable (peerIn st s) time) noPeer (peerIn st s)
   unfolding reclaimed
   reclaimed-peer =
-      iter-once (λ v. peerIn v s) (reclaimSlot time) s (reclaim-other time s) 64 st h
+      iter-once (λ v. peerIn v s) (reclaimSlot time) s (reclaim-other time s) slotCount st h
       ∙ reclaim-peer (iter s (reclaimSlot time) st) time s (sized-turns st time s size) h
       ∙ ap (λ (p : Peer). cond (reclaimable p time) noPeer p) walked
 
@@ -578,7 +578,7 @@ module _ (st : State) (time : ℕ) (size : Sized st) (s : ℕ) (h : s < 64) wher
       let w = iter s (reclaimSlot time) st in
       let r : topicIn w (place s t) ≡ topicIn st (place s t) =
       iter-before (λ v. topicIn v (place s t)) (reclaimSlot time) s (reclaim-topic-other time s t k) s st (omega arith) in
-      iter-once (λ v. topicIn v (place s t)) (reclaimSlot time) s (reclaim-topic-other time s t k) 64 st h
+      iter-once (λ v. topicIn v (place s t)) (reclaimSlot time) s (reclaim-topic-other time s t k) slotCount st h
       ∙ reclaim-topic w time s t (sized-turns st time s size) h k
       ∙ ap (λ (p : Peer). cond (reclaimable p time) noTopic (topicIn w (place s t))) walked
       ∙ ap (λ (x : TopicRecord). cond (reclaimable (peerIn st s) time) noTopic x) r
@@ -628,10 +628,10 @@ reclaimable-connected p time h =
 
 pub none-reclaimed :
     (st : State) (time : ℕ) →
-    ((s : ℕ) → s < 64 → reclaimable (peerIn st s) time ≡ false) →
+    ((s : ℕ) → s < slotCount → reclaimable (peerIn st s) time ≡ false) →
     reclaimed st time ≡ st
 unfolding reclaimed
-none-reclaimed st time h = iter-still (reclaimSlot time) 64 st (λ s k. reclaim-no st s time (h s k))
+none-reclaimed st time h = iter-still (reclaimSlot time) slotCount st (λ s k. reclaim-no st s time (h s k))
 
 pub full-stays :
     (st : State) (time : ℕ) →
@@ -640,14 +640,14 @@ pub full-stays :
     reclaimed st time ≡ st
 full-stays st time size e = none-reclaimed st time not-one
   where
-    not-one : (s : ℕ) → s < 64 → reclaimable (peerIn st s) time ≡ false
+    not-one : (s : ℕ) → s < slotCount → reclaimable (peerIn st s) time ≡ false
     not-one s h =
         by-test
         _
         (reclaimable (peerIn st s) time)
         (λ r.
         let p : isEmpty (peerIn (reclaimed st time) s) ≡ false =
-        first-passed (λ i. isEmpty (peerIn (reclaimed st time) i)) 64 e s h in
+        first-passed (λ i. isEmpty (peerIn (reclaimed st time) i)) slotCount e s h in
         let n : peerIn (reclaimed st time) s ≡ noPeer = reclaimed-peer st time size s h ∙ rw r in
         let q : isEmpty (peerIn (reclaimed st time) s) ≡ true = rw n in
         let z : _≡_ {A = ℕ} 0 1 = cc in

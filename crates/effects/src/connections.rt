@@ -4,7 +4,7 @@ ghost use mathlib.Core.Bool.{not};
 ghost use Prim.Native.Nat.{_<_};
 ghost use lib.ListN.{length};
 ghost use Rattle.index.specs.Index.{every, iter};
-ghost use Rattle.records.specs.Records.{noPeer, noTopic, place, setTopic};
+ghost use Rattle.records.specs.Records.{noPeer, noTopic, place, setTopic, slotCount};
 ghost use Rattle.layout.specs.View.{cellCount, stateOf};
 ghost use Rattle.effects.specs.Effects.{backoffRuns, onPeer, connectedAs, retainedTo, leftTopic, reclaimable as reclaimableOf, emptied, reclaimSlot, reclaimed};
 use crate::slots::unsubscribe_slot;
@@ -17,7 +17,7 @@ use records::TopicRecord;
 
 // A connected record in a slot.
 pub fn connect_slot(table: &mut [u64], slot: usize, id: u64, group: u64, flags: u64, version: u64)
-    requires { ⌜ (length (now table) ≡ cellCount) × (slot < 64) ⌝ }
+    requires { ⌜ (length (now table) ≡ cellCount) × (slot < slotCount) ⌝ }
     ensures { λ r. ⌜ stateOf (now (table .exit)) ≡ onPeer (stateOf (now (table .entry))) slot (λ p. connectedAs p id group flags version) ⌝ }
 {
     let p = layout::load_peer(table, slot);
@@ -26,7 +26,7 @@ pub fn connect_slot(table: &mut [u64], slot: usize, id: u64, group: u64, flags: 
 
 // Out of every mesh, with no subscription.
 fn leave_topics(table: &mut [u64], slot: usize)
-    requires { ⌜ (length (now table) ≡ cellCount) × (slot < 64) ⌝ }
+    requires { ⌜ (length (now table) ≡ cellCount) × (slot < slotCount) ⌝ }
     ensures { λ r. ⌜ stateOf (now (table .exit)) ≡ iter 8 (λ t u. leftTopic u slot t) (stateOf (now (table .entry))) ⌝ }
 {
     let mut t: usize = 0;
@@ -38,7 +38,7 @@ fn leave_topics(table: &mut [u64], slot: usize)
 
 // The record is retained to `end`.
 pub fn retain_slot(table: &mut [u64], slot: usize, end: u64)
-    requires { ⌜ (length (now table) ≡ cellCount) × (slot < 64) ⌝ }
+    requires { ⌜ (length (now table) ≡ cellCount) × (slot < slotCount) ⌝ }
     ensures { λ r. ⌜ stateOf (now (table .exit)) ≡ onPeer (iter 8 (λ t u. leftTopic u slot t) (stateOf (now (table .entry)))) slot (λ p. retainedTo p end) ⌝ }
 {
     leave_topics(table, slot);
@@ -102,7 +102,7 @@ pub fn empty_topic() -> TopicRecord
 
 // No record for any topic.
 fn empty_topics(table: &mut [u64], slot: usize)
-    requires { ⌜ (length (now table) ≡ cellCount) × (slot < 64) ⌝ }
+    requires { ⌜ (length (now table) ≡ cellCount) × (slot < slotCount) ⌝ }
     ensures { λ r. ⌜ stateOf (now (table .exit)) ≡ iter 8 (λ t u. setTopic u (place slot t) noTopic) (stateOf (now (table .entry))) ⌝ }
 {
     let mut t: usize = 0;
@@ -114,7 +114,7 @@ fn empty_topics(table: &mut [u64], slot: usize)
 
 // Empties a slot.
 fn empty_slot(table: &mut [u64], slot: usize)
-    requires { ⌜ (length (now table) ≡ cellCount) × (slot < 64) ⌝ }
+    requires { ⌜ (length (now table) ≡ cellCount) × (slot < slotCount) ⌝ }
     ensures { λ r. ⌜ stateOf (now (table .exit)) ≡ emptied (stateOf (now (table .entry))) slot ⌝ }
 {
     empty_topics(table, slot);
@@ -123,7 +123,7 @@ fn empty_slot(table: &mut [u64], slot: usize)
 
 // Empties a slot if its record is reclaimable.
 fn reclaim_slot(table: &mut [u64], slot: usize, time: u64)
-    requires { ⌜ (length (now table) ≡ cellCount) × (slot < 64) ⌝ }
+    requires { ⌜ (length (now table) ≡ cellCount) × (slot < slotCount) ⌝ }
     ensures { λ r. ⌜ stateOf (now (table .exit)) ≡ reclaimSlot time slot (stateOf (now (table .entry))) ⌝ }
 {
     let p = layout::load_peer(table, slot);

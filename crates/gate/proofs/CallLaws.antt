@@ -13,7 +13,7 @@ use Rattle.rules.specs.declared.Answer.{Answer}
 use Rattle.rules.specs.declared.Gate.{Gate}
 use Rattle.rules.specs.declared.Gate.the-variants.{Pass, Refuse}
 use Rattle.rules.specs.Calls.{Call, timeOf, timeOk, idOk, topicOk, argumentsOk, inRange}
-use Rattle.rules.specs.Step.{gateOf, effect}
+use Rattle.rules.specs.Step.{gateOf, effect, actionRoom}
 use Rattle.rules.specs.Promise.{Leaves, Gives, Follows}
 use Rattle.rules.proofs.CaseLaws.{topic-in}
 use Rattle.rules.proofs.GateLaws.{Passed, gate-passed}
@@ -63,7 +63,7 @@ module _
     behind : Passed (stateOf table) (a && b) room time
     behind = gate-passed (stateOf table) (a && b) room time (sym eg ∙ e)
 
-    pub gate-room : 192 ≤ room
+    pub gate-room : actionRoom ≤ room
     gate-room = behind .size
 
     pub gate-fine : b ≡ true

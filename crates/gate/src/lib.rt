@@ -2,7 +2,7 @@
 ghost use mathlib.Core.Path.{_≡_};
 ghost use Prim.Native.Nat.{_<_};
 ghost use lib.ListN.{length};
-ghost use Rattle.records.specs.Records.{setClock};
+ghost use Rattle.records.specs.Records.{setClock, slotCount};
 ghost use Rattle.layout.specs.View.{cellCount, stateOf};
 ghost use Rattle.rules.specs.Calls.{idOk, topicOk, timeOk};
 ghost use Rattle.rules.specs.Step.{gateOf, isNegative, isGraylisted, isHeard};
@@ -74,7 +74,7 @@ pub fn ignore(table: &mut [u64], time: u64) -> Answer
 }
 
 pub fn is_negative(table: &[u64], slot: usize) -> bool
-    requires { ⌜ Standing (now table) × (slot < 64) ⌝ }
+    requires { ⌜ Standing (now table) × (slot < slotCount) ⌝ }
     ensures { λ r. ⌜ r ≡ isNegative (stateOf (now (table .entry))) slot ⌝ }
 {
     score::sums::is_negative(peer_score::score_of(table, slot))
@@ -82,7 +82,7 @@ pub fn is_negative(table: &[u64], slot: usize) -> bool
 
 // A non-explicit peer that scores below the graylist threshold (the general number 9).
 pub fn is_graylisted(table: &[u64], slot: usize) -> bool
-    requires { ⌜ Standing (now table) × (slot < 64) ⌝ }
+    requires { ⌜ Standing (now table) × (slot < slotCount) ⌝ }
     ensures { λ r. ⌜ r ≡ isGraylisted (stateOf (now (table .entry))) slot ⌝ }
 {
     let p = layout::load_peer(table, slot);
@@ -92,7 +92,7 @@ pub fn is_graylisted(table: &[u64], slot: usize) -> bool
 
 // The topic is joined, and the peer not graylisted.
 pub fn is_heard(table: &[u64], topic: usize, slot: usize) -> bool
-    requires { ⌜ Standing (now table) × ((topic < 8) × (slot < 64)) ⌝ }
+    requires { ⌜ Standing (now table) × ((topic < 8) × (slot < slotCount)) ⌝ }
     ensures { λ r. ⌜ r ≡ isHeard (stateOf (now (table .entry))) topic slot ⌝ }
 {
     is_joined(table, topic) & !is_graylisted(table, slot)

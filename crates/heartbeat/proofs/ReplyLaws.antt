@@ -30,7 +30,7 @@ use Rattle.rules.specs.declared.Gate.{Gate}
 use Rattle.rules.specs.declared.Gate.the-variants.{Pass}
 use Rattle.rules.specs.Calls.{topicOk}
 use Rattle.rules.specs.Reply.{done}
-use Rattle.rules.specs.Step.{gateOf, degreesIn, viewIn, meshesIn, settleSlot, toldIn, actionIn, heartbeatActions, maintainedReply}
+use Rattle.rules.specs.Step.{gateOf, degreesIn, viewIn, meshesIn, settleSlot, toldIn, actionIn, heartbeatActions, maintainedReply, actionRoom}
 use Rattle.rules.specs.Promise.{Gives}
 use Rattle.rules.proofs.CaseLaws.{topic-in}
 use Rattle.rules.proofs.PromiseLaws.{leaves-moved}
@@ -43,17 +43,17 @@ use Rattle.heartbeat.specs.Settle.{Settle}
 -- ---- the numbers of the actions
 
 -- past the last slot no peer stands
-none-past : (st : State) → Sized st → (s : ℕ) → 64 ≤ s → peerIn st s ≡ noPeer
+none-past : (st : State) → Sized st → (s : ℕ) → slotCount ≤ s → peerIn st s ≡ noPeer
 unfolding peerIn
 none-past st size s h = let l = size .peers in List·getD-eq-default (st .peers) noPeer (omega arith)
 
 module _ (st : State) (size : Sized st) where
   id-at : (s : ℕ) → getD (bySlot slotCount (λ k. peerIn st k .id)) s 0 ≡ peerIn st s .id
-  id-at = slots-all 0 (λ k. peerIn st k .id) 64 (λ s h. ap (λ (p : Peer). p .id) (none-past st size s h))
+  id-at = slots-all 0 (λ k. peerIn st k .id) slotCount (λ s h. ap (λ (p : Peer). p .id) (none-past st size s h))
 
   told-at : (s : ℕ) → getD (bySlot slotCount (toldIn st)) s 0 ≡ toldIn st s
   told-at =
-      slots-all 0 (toldIn st) 64
+      slots-all 0 (toldIn st) slotCount
       (λ s h. ap (λ (p : Peer). cond (eqb (p .version) 0) 0 (pruneBackoff st)) (none-past st size s h))
 
   numbers-same :
@@ -64,11 +64,11 @@ module _ (st : State) (size : Sized st) where
   numbers-same (a ∷ x) = rw (id-at (a .slot), told-at (a .slot), numbers-same x)
 
 -- a bound of what stands in each slot
-slots-most : (f : ℕ → ℕ) (b : ℕ) → ((s : ℕ) → s < 64 → f s ≤ b) → (s : ℕ) → getD (bySlot slotCount f) s 0 ≤ b
+slots-most : (f : ℕ → ℕ) (b : ℕ) → ((s : ℕ) → s < slotCount → f s ≤ b) → (s : ℕ) → getD (bySlot slotCount f) s 0 ≤ b
 slots-most f b h s =
-    by-order (getD (bySlot slotCount f) s 0 ≤ b) s 64
-    (λ k. rw (slots-at 0 f 64 s k) (h s k))
-    (λ k. rw (slots-past 0 f 64 s k) (omega arith))
+    by-order (getD (bySlot slotCount f) s 0 ≤ b) s slotCount
+    (λ k. rw (slots-at 0 f slotCount s k) (h s k))
+    (λ k. rw (slots-past 0 f slotCount s k) (omega arith))
 
 -- ---- a joined topic
 
@@ -103,7 +103,7 @@ module _
         k .wait
         ∙ ap (λ (n : ℕ). bySlot slotCount (λ s. cond (eqb (peerIn st s .version) 0) 0 n)) (k .backoff)
 
-    few : valid st ≡ true → isPermutation slotCount order ≡ true → length (actionsOf slotCount order c) ≤ 64
+    few : valid st ≡ true → isPermutation slotCount order ≡ true → length (actionsOf slotCount order c) ≤ slotCount
     unfolding viewIn
     few ok right = rw changes-are (told-few st time t ask order ok right)
 
@@ -112,7 +112,7 @@ module _
         (list : List ℕ) →
         valid st ≡ true →
         isPermutation slotCount order ≡ true →
-        192 ≤ length list →
+        actionRoom ≤ length list →
         Writable list ids told (length (actionsOf slotCount order c))
     writable list ok right room =
         let n = few ok right in

@@ -28,7 +28,7 @@ use Rattle.rules.specs.Step.{heightIn}
 use Rattle.rules.proofs.HeartbeatLaws.{height-of}
 
 -- a group fits 32 bits
-pub group-fits : (st : State) → valid st ≡ true → (s : ℕ) → s < 64 → peerIn st s .group ≤ 4294967295
+pub group-fits : (st : State) → valid st ≡ true → (s : ℕ) → s < slotCount → peerIn st s .group ≤ 4294967295
 group-fits st v s h = valid-facts st v .peer s h .group
 
 -- ---- a loop that counts
@@ -45,25 +45,25 @@ module _ (f : ℕ → Bool) (i n m : ℕ) (p : n ≡ count i f) where
 -- what is counted along the arrays is who shares the group
 pub sharing-along :
     (st : State) (on : List Bool) (names : List ℕ) (s n : ℕ) →
-    s < 64 →
+    s < slotCount →
     on ≡ bySlot slotCount (λ k. isConnected (peerIn st k)) →
     names ≡ bySlot slotCount (λ k. peerIn st k .group) →
     n ≡ count slotCount (λ k. at on k && eqb (getD names k 0) (getD names s 0)) →
     n ≡ sharing st (peerIn st s .group)
 unfolding sharing sharesGroup
 sharing-along st on names s n h eo en e =
-    let name : (k : ℕ) → k < 64 → getD names k 0 ≡ peerIn st k .group =
-    λ k l. ap (λ (a : List ℕ). getD a k 0) en ∙ slots-at 0 (λ j. peerIn st j .group) 64 k l in
-    let flag : (k : ℕ) → k < 64 → at on k ≡ isConnected (peerIn st k) =
-    λ k l. ap (λ (a : List Bool). at a k) eo ∙ slots-at false (λ j. isConnected (peerIn st j)) 64 k l in
-    e ∙ count-same _ _ 64 (λ k l. rw (name k l, flag k l, name s h))
+    let name : (k : ℕ) → k < slotCount → getD names k 0 ≡ peerIn st k .group =
+    λ k l. ap (λ (a : List ℕ). getD a k 0) en ∙ slots-at 0 (λ j. peerIn st j .group) slotCount k l in
+    let flag : (k : ℕ) → k < slotCount → at on k ≡ isConnected (peerIn st k) =
+    λ k l. ap (λ (a : List Bool). at a k) eo ∙ slots-at false (λ j. isConnected (peerIn st j)) slotCount k l in
+    e ∙ count-same _ _ slotCount (λ k l. rw (name k l, flag k l, name s h))
 
 -- ---- the sums, topic by topic
 
 abbrev pub sums : State → ℕ → List Balance
 sums st t = bySlot slotCount (λ s. sumOf t (shareAt st s))
 
-pub sums-none : (st : State) → replicate 64 noBalance ≡ sums st 0
+pub sums-none : (st : State) → replicate slotCount noBalance ≡ sums st 0
 unfolding bySlot gather sumOf
 sums-none st = refl
 
@@ -72,11 +72,11 @@ sums-done st t r l h p = rw (le-antisymm h l) p
 
 pub sum-at :
     (st : State) (t s : ℕ) (r : List Balance) →
-    s < 64 →
+    s < slotCount →
     r ≡ sums st t →
     getD r s noBalance ≡ sumOf t (shareAt st s)
 sum-at st t s r h e =
-    ap (λ (l : List Balance). getD l s noBalance) e ∙ slots-at noBalance (λ k. sumOf t (shareAt st k)) 64 s h
+    ap (λ (l : List Balance). getD l s noBalance) e ∙ slots-at noBalance (λ k. sumOf t (shareAt st k)) slotCount s h
 
 -- ---- the score of one slot, from what is taken
 
@@ -86,7 +86,7 @@ module _ (st : State) (s : ℕ) (k : SlotIn st s) (p : Peer) (g : ScoreParams) (
       (eg : g ≡ scoreParamsIn st)
       (eb : b ≡ sumOf 8 (shareAt st s))
       (en : n ≡ sharing st (peerIn st s .group)) where
-    pub height-ready : ScoreParamsIn g × (TopicsIn b × ((p .p5 ≤ 2000000000) × ((n ≤ 64) × (p .p7 ≤ 1000000))))
+    pub height-ready : ScoreParamsIn g × (TopicsIn b × ((p .p5 ≤ 2000000000) × ((n ≤ slotCount) × (p .p7 ≤ 1000000))))
     height-ready =
         parts-ready st s k p g b n ep eg (rw eb (topics-are st s k)) (omega (arith, en, sharing-most st (peerIn st s .group)))
 

@@ -41,7 +41,7 @@ pub candidate-is :
     (st : State) (time t s score : ℕ) (p : Peer) (r : TopicRecord) (free : Bool) →
     free ≡ pastSlack (getD (p .backoff) t 0) time →
     valid st ≡ true →
-    s < 64 →
+    s < slotCount →
     p ≡ peerIn st s →
     r ≡ topicIn st (place s t) →
     score ≡ heightIn st s →
@@ -58,10 +58,10 @@ candidate-is st time t s score p r free ef v h ep er es =
 -- the score of a slot, in the array of the scores
 pub score-at :
     (st : State) (scores : List ℕ) (s : ℕ) →
-    s < 64 →
+    s < slotCount →
     scores ≡ bySlot slotCount (heightIn st) →
     getD scores s 0 ≡ heightIn st s
-score-at st scores s h e = ap (λ (l : List ℕ). getD l s 0) e ∙ slots-at 0 (heightIn st) 64 s h
+score-at st scores s h e = ap (λ (l : List ℕ). getD l s 0) e ∙ slots-at 0 (heightIn st) slotCount s h
 
 -- the opportunistic threshold is at most 1000 points, so that the sum with it does not overflow
 pub opportunistic : (st : State) → valid st ≡ true → magnitude (codeIn st 8) ≤ 1000000
@@ -104,33 +104,33 @@ view-is st time t ask order scores members candidates outbound es em ec eo =
 -- ---- the seconds that each peer is told: a turn that stores nothing leaves 0
 
 pub record Telling (f : ℕ → ℕ) (i : ℕ) (r : List ℕ) : Type 0 where
-  pub built : Built 0 f 64 i r
+  pub built : Built 0 f slotCount i r
   pub rest : (k : ℕ) → i ≤ k → getD r k 0 ≡ 0
 
 module _ (f : ℕ → ℕ) where
-  pub telling-none : Telling f 0 (replicate 64 0)
+  pub telling-none : Telling f 0 (replicate slotCount 0)
   telling-none =
-      let zeros : List ℕ = replicate 64 0 in
+      let zeros : List ℕ = replicate slotCount 0 in
       let z : ℕ = 0 in
-      let l : length zeros ≡ 64 = length-replicate 64 z in
+      let l : length zeros ≡ slotCount = length-replicate slotCount z in
       record {
-        built = built-none 0 f 64 zeros l;
+        built = built-none 0 f slotCount zeros l;
         rest =
             λ k h.
             by-order
             (getD zeros k 0 ≡ 0)
             k
-            64
-            (λ b. getD-replicate 64 k z z b)
+            slotCount
+            (λ b. getD-replicate slotCount k z z b)
             (λ b. List·getD-eq-default zeros z {n = k} (omega arith));
       }
 
-  module _ (i : ℕ) (r r′ : List ℕ) (h : i < 64) (t : Telling f i r) where
+  module _ (i : ℕ) (r r′ : List ℕ) (h : i < slotCount) (t : Telling f i r) where
     pub telling-put : r′ ≡ set r i (f i) → Telling f (i + 1) r′
     telling-put e =
         rw e
         (record {
-          built = built-more 0 f 64 i r (f i) h (t .built) refl;
+          built = built-more 0 f slotCount i r (f i) h (t .built) refl;
           rest = λ k l. getD-set-other r i k (f i) 0 (λ z. omega arith) ∙ t .rest k (omega arith);
         })
 

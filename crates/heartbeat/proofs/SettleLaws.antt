@@ -97,7 +97,7 @@ below-zero height false e = le-ltb height zeroScore (leb-true zeroScore height e
 
 -- before turn i; st is the state at the start
 pub record Settling (st : State) (time t : ℕ) (mesh : List Bool) (i : ℕ) (table : List ℕ) : Type 0 where
-  pub low : i ≤ 64
+  pub low : i ≤ slotCount
   pub size : length table ≡ cellCount
   pub state : stateOf table ≡ iter i (settleSlot st time t mesh) st
 
@@ -116,7 +116,7 @@ same-id p t end = refl
 module _
     (table₀ : List ℕ) (t time end : ℕ) (members : List Bool) (scores : List ℕ)
     (walk : Settle table₀ t time end members scores)
-    (mesh : List Bool) (i : ℕ) (h : i < 64) (table : List ℕ)
+    (mesh : List Bool) (i : ℕ) (h : i < slotCount) (table : List ℕ)
     (now : Settling (stateOf table₀) time t mesh i table)
   where
     as-params : topicParamsIn (stateOf table) t ≡ topicParamsIn (stateOf table₀) t
@@ -150,7 +150,7 @@ module _
     as-was : getD members i false ≡ isMember (stateOf table₀) t i
     as-was =
         ap (λ (l : List Bool). getD l i false) (walk .was)
-        ∙ slots-at false (isMember (stateOf table₀) t) 64 i h
+        ∙ slots-at false (isMember (stateOf table₀) t) slotCount i h
 
     -- what it leaves
     pub settling-more :
@@ -173,11 +173,11 @@ module _
 
 pub settling-done :
     (st : State) (time t : ℕ) (mesh : List Bool) (i : ℕ) (table : List ℕ) →
-    64 ≤ i →
+    slotCount ≤ i →
     Settling st time t mesh i table →
     stateOf table ≡ iter slotCount (settleSlot st time t mesh) st
 settling-done st time t mesh i table h now =
     let l = now .low in
-    let e : i ≡ 64 = omega arith in
-    let n : Settling st time t mesh 64 table = rw e at now in
+    let e : i ≡ slotCount = omega arith in
+    let n : Settling st time t mesh slotCount table = rw e at now in
     n .state

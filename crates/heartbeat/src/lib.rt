@@ -13,7 +13,7 @@ ghost use Rattle.records.specs.Records.{slotCount};
 ghost use Rattle.layout.specs.View.{stateOf};
 ghost use Rattle.sets.specs.Sets.{isPermutation};
 ghost use Rattle.rules.specs.Calls.{heartbeat as Calls·heartbeat};
-ghost use Rattle.rules.specs.Step.{heartbeatReply, maintainedReply};
+ghost use Rattle.rules.specs.Step.{heartbeatReply, maintainedReply, actionRoom};
 ghost use Rattle.rules.specs.Promise.{Gives, Follows};
 ghost use Rattle.gate.specs.Ready.{Ready};
 use crate::seen::degrees;
@@ -21,7 +21,6 @@ use crate::seen::ids;
 use crate::seen::told;
 use crate::seen::view;
 use crate::settle::settle;
-use layout::CELLS;
 use effects::slots::is_joined;
 use effects::slots::load_size;
 use effects::values::end_after;
@@ -29,9 +28,11 @@ use gate::admit;
 use gate::ignore;
 use gate::time_ok;
 use gate::topic_ok;
+use layout::CELLS;
 use mesh::actions::write_actions;
 use mesh::steps::changes;
 use mesh::steps::maintain;
+use records::SLOTS;
 use rules::Answer;
 use rules::Gate;
 use sets::permutation::copied;
@@ -43,10 +44,10 @@ fn maintain_topic(
     time: u64,
     topic: usize,
     ask: u64,
-    order: [u64; 64],
+    order: [u64; SLOTS],
     actions: &mut [u32],
 ) -> Answer
-    requires { ⌜ Ready (now table) time × ((topic < 8) × ((192 ≤ length (now actions)) × (isPermutation slotCount order ≡ true))) ⌝ }
+    requires { ⌜ Ready (now table) time × ((topic < 8) × ((actionRoom ≤ length (now actions)) × (isPermutation slotCount order ≡ true))) ⌝ }
     ensures { λ r. ⌜ Gives (maintainedReply (stateOf (now (table .entry))) time topic ask order) r (now (table .entry)) (now (table .exit)) (now (actions .entry)) (now (actions .exit)) ⌝ }
 {
     let v = view(table, time, topic, ask, order);
@@ -83,7 +84,7 @@ fn heartbeat_from(
     permutation: &[u64],
     actions: &mut [u32],
 ) -> Answer
-    requires { ⌜ Ready (now table) time × ((topic < 8) × (192 ≤ length (now actions))) ⌝ }
+    requires { ⌜ Ready (now table) time × ((topic < 8) × (actionRoom ≤ length (now actions))) ⌝ }
     ensures { λ r. ⌜ Gives (heartbeatReply (stateOf (now (table .entry))) time topic ask (now (permutation .entry))) r (now (table .entry)) (now (table .exit)) (now (actions .entry)) (now (actions .exit)) ⌝ }
 {
     if !is_permutation(permutation) {

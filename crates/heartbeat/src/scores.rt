@@ -92,7 +92,7 @@ fn topics(table: &[u64]) -> [Balance; SLOTS]
 
 // The score of the peer in a slot, moved up so that none is negative.
 fn height(table: &[u64], slot: usize, g: ScoreParams, topics: Balance, together: u64) -> u64
-    requires { ⌜ Standing (now table) × ((slot < 64) × ((g ≡ scoreParamsIn (stateOf (now table))) × ((topics ≡ sumOf 8 (shareAt (stateOf (now table)) slot)) × (together ≡ sharing (stateOf (now table)) (peerIn (stateOf (now table)) slot .group))))) ⌝ }
+    requires { ⌜ Standing (now table) × ((slot < slotCount) × ((g ≡ scoreParamsIn (stateOf (now table))) × ((topics ≡ sumOf 8 (shareAt (stateOf (now table)) slot)) × (together ≡ sharing (stateOf (now table)) (peerIn (stateOf (now table)) slot .group))))) ⌝ }
     ensures { λ r. ⌜ r ≡ heightIn (stateOf (now (table .entry))) slot ⌝ }
 {
     let p = layout::load_peer(table, slot);

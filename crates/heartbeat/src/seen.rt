@@ -61,7 +61,7 @@ fn past_slack(end: u64, time: u64) -> bool
 
 // Whether the peer in a slot, with this score, may be grafted.
 pub fn is_candidate(table: &[u64], time: u64, topic: usize, slot: usize, score: u64) -> bool
-    requires { ⌜ Standing (now table) × ((topic < 8) × ((slot < 64) × (score ≡ heightIn (stateOf (now table)) slot))) ⌝ }
+    requires { ⌜ Standing (now table) × ((topic < 8) × ((slot < slotCount) × (score ≡ heightIn (stateOf (now table)) slot))) ⌝ }
     ensures { λ r. ⌜ r ≡ isCandidate (stateOf (now (table .entry))) time topic slot ⌝ }
 {
     let p = layout::load_peer(table, slot);

@@ -238,7 +238,7 @@ module _ (st : State) (t end : ℕ) (k : t < 8) (i : ℕ) (u : State) (w : u ≡
       (same-action (isMember st t i) (isMember u t i) (peerIn st i) (peerIn u i) (unsubscribeBackoff st) seconds (sym as-member) (sym as-peer) (sym e))
 
 module _ (table₀ start : List ℕ) (t end seconds : ℕ) (flags : List Bool) (walk : Walk table₀ t seconds flags start)
-    (i : ℕ) (h : i < 64) (table list : List ℕ) (at : ℕ) (now : Walking (stateOf table₀) start t end i table list at) where
+    (i : ℕ) (h : i < slotCount) (table list : List ℕ) (at : ℕ) (now : Walking (stateOf table₀) start t end i table list at) where
   -- what turn i relies on
   pub walking-ready : Turn table t i × ((at + 3 ≤ length list) × (seconds ≤ 4294967295))
   walking-ready =
@@ -287,13 +287,13 @@ module _ (table₀ start : List ℕ) (t end seconds : ℕ) (flags : List Bool) (
 
 pub walking-done :
     (st : State) (start : List ℕ) (t end i : ℕ) (table list : List ℕ) (at : ℕ) →
-    i ≤ 64 →
-    64 ≤ i →
+    i ≤ slotCount →
+    slotCount ≤ i →
     Walking st start t end i table list at →
     Walked st t end table start list at
 walking-done st start t end i table list at h k now =
-    let e : i ≡ 64 = omega arith in
-    let n : Walking st start t end 64 table list at = rw e at now in
+    let e : i ≡ slotCount = omega arith in
+    let n : Walking st start t end slotCount table list at = rw e at now in
     record { state = n .state; actions = n .actions; count = n .place }
 
 -- ---- the end of a call that leaves

@@ -13,7 +13,7 @@ use Rattle.score.specs.Score.{topicParamsIn}
 use Rattle.score.specs.Counters.{grownOf}
 use Rattle.effects.specs.Actions.{Action, pruneOf, numbersOf}
 use Rattle.effects.specs.Effects.{onTopic, isMember, pruned, unsubscribeBackoff}
-use Rattle.rules.specs.Step.{isNegative, leaveSlot, leaveActions}
+use Rattle.rules.specs.Step.{isNegative, leaveSlot, leaveActions, actionRoom}
 use Rattle.gate.specs.Ready.{Standing}
 
 -- P3b of slot s grows in topic t, if its score was negative
@@ -32,7 +32,7 @@ actionIf u t seconds s = cond (isMember u t s) (pruneOf (peerIn u s) seconds ∷
 pub record Turn (table : List ℕ) (t s : ℕ) : Type 0 where
   pub size : length table ≡ cellCount
   pub topic : t < 8
-  pub slot : s < 64
+  pub slot : s < slotCount
   pub threshold : topicParamsIn (stateOf table) t .threshold ≤ 1000000
   pub id : peerIn (stateOf table) s .id ≤ 4294967295
 
@@ -47,8 +47,8 @@ pub record Walk (table : List ℕ) (t seconds : ℕ) (flags : List Bool) (list :
   pub standing : Standing table
   pub topic : t < 8
   pub backoff : seconds ≡ unsubscribeBackoff (stateOf table)
-  pub negatives : (s : ℕ) → s < 64 → getD flags s false ≡ (isMember (stateOf table) t s && isNegative (stateOf table) s)
-  pub room : 192 ≤ length list
+  pub negatives : (s : ℕ) → s < slotCount → getD flags s false ≡ (isMember (stateOf table) t s && isNegative (stateOf table) s)
+  pub room : actionRoom ≤ length list
 
 -- what it leaves: n numbers were written
 pub record Walked (st : State) (t end : ℕ) (table′ list list′ : List ℕ) (n : ℕ) : Type 0 where

@@ -1,4 +1,5 @@
 // Leave, one of 01's calls: every member of the topic is pruned, by slot.
+ghost use Rattle.records.specs.Records.{slotCount};
 ghost use mathlib.Core.Path.{_≡_};
 ghost use mathlib.Core.Bool.{false, _&&_};
 ghost use Prim.Native.Nat.{ℕ, _+_, _<_, _≤_};
@@ -6,11 +7,10 @@ ghost use lib.ListN.{length, getD};
 ghost use Rattle.layout.specs.View.{stateOf};
 ghost use Rattle.effects.specs.Effects.{isMember};
 ghost use Rattle.rules.specs.Calls.{leave as Calls·leave};
-ghost use Rattle.rules.specs.Step.{leaveReply, isNegative};
+ghost use Rattle.rules.specs.Step.{leaveReply, isNegative, actionRoom};
 ghost use Rattle.rules.specs.Promise.{Gives, Follows};
 ghost use Rattle.gate.specs.Ready.{Standing, Ready};
 ghost use Rattle.leaving.specs.Slots.{grownIf, Turn, Turned, Walk, Walked};
-use layout::CELLS;
 use effects::actions::put_prune;
 use effects::slots::is_joined;
 use effects::slots::is_member;
@@ -22,13 +22,14 @@ use gate::ignore;
 use gate::is_negative;
 use gate::time_ok;
 use gate::topic_ok;
+use layout::CELLS;
 use records::SLOTS;
 use rules::Answer;
 use rules::Gate;
 
 // Whether a slot is a member that scores below zero: nobody else's score is taken.
 fn is_negative_member(table: &[u64], topic: usize, slot: usize) -> bool
-    requires { ⌜ Standing (now table) × ((topic < 8) × (slot < 64)) ⌝ }
+    requires { ⌜ Standing (now table) × ((topic < 8) × (slot < slotCount)) ⌝ }
     ensures { λ r. ⌜ r ≡ (isMember (stateOf (now (table .entry))) topic slot && isNegative (stateOf (now (table .entry))) slot) ⌝ }
 {
     if !is_member(table, topic, slot) {
@@ -38,11 +39,11 @@ fn is_negative_member(table: &[u64], topic: usize, slot: usize) -> bool
 }
 
 // Which members score below zero; taken before anything changes, since the rule speaks of the call's start.
-fn negatives(table: &[u64], topic: usize) -> [bool; 64]
+fn negatives(table: &[u64], topic: usize) -> [bool; SLOTS]
     requires { ⌜ Standing (now table) × (topic < 8) ⌝ }
-    ensures { λ r. ⌜ ((s : ℕ) → s < 64 → getD r s false ≡ (isMember (stateOf (now (table .entry))) topic s && isNegative (stateOf (now (table .entry))) s)) ⌝ }
+    ensures { λ r. ⌜ ((s : ℕ) → s < slotCount → getD r s false ≡ (isMember (stateOf (now (table .entry))) topic s && isNegative (stateOf (now (table .entry))) s)) ⌝ }
 {
-    let mut flags = [false; 64];
+    let mut flags = [false; SLOTS];
     let mut slot: usize = 0;
     while slot < SLOTS {
         flags[slot] = is_negative_member(table, topic, slot);
@@ -93,7 +94,7 @@ fn leave_slots(
     topic: usize,
     end: u64,
     seconds: u64,
-    negative: [bool; 64],
+    negative: [bool; SLOTS],
 ) -> usize
     requires { ⌜ Walk (now table) topic seconds negative (now actions) ⌝ }
     ensures { λ r. ⌜ Walked (stateOf (now (table .entry))) topic end (now (table .exit)) (now (actions .entry)) (now (actions .exit)) r ⌝ }
@@ -109,7 +110,7 @@ fn leave_slots(
 }
 
 fn leave_from(table: &mut [u64], time: u64, topic: usize, actions: &mut [u32]) -> Answer
-    requires { ⌜ Ready (now table) time × ((topic < 8) × (192 ≤ length (now actions))) ⌝ }
+    requires { ⌜ Ready (now table) time × ((topic < 8) × (actionRoom ≤ length (now actions))) ⌝ }
     ensures { λ r. ⌜ Gives (leaveReply (stateOf (now (table .entry))) time topic) r (now (table .entry)) (now (table .exit)) (now (actions .entry)) (now (actions .exit)) ⌝ }
 {
     if !is_joined(table, topic) {

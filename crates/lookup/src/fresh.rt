@@ -6,8 +6,8 @@ ghost use Rattle.varint.specs.Codes.{codeOf};
 ghost use Rattle.layout.specs.View.{cellCount, stateOf};
 ghost use Rattle.lookup.specs.Fresh.{freshState, Makes};
 use crate::Made;
-use layout::PARAMS;
 use index::Found;
+use layout::PARAMS;
 use params::Params;
 
 // The codes of the parameters.

@@ -1,9 +1,9 @@
 // The router's parameters (01, "The sheet"): 147 numbers, their limits and joint rules, and their form in bytes. The limits stand in one
 // table, by which the check goes, and through it the reader and the writer. Another edition of the parameters changes a row of the table, or
 // a joint rule in `keeps` and `codes_keep`, and the same line of specs/Limits.antt or specs/Joint.antt.
+use index::Found;
 use varint::Put;
 use varint::Read;
-use index::Found;
 ghost use mathlib.Core.Path.{_≡_};
 ghost use mathlib.Core.Bool.{true, _&&_};
 ghost use mathlib.Core.List.{map};

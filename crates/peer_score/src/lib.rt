@@ -6,7 +6,7 @@ ghost use mathlib.Core.Bool.{true};
 ghost use lib.ListN.{length};
 ghost use Rattle.index.specs.Index.{one};
 ghost use Rattle.layout.specs.View.{cellCount, stateOf};
-ghost use Rattle.records.specs.Records.{topicCount};
+ghost use Rattle.records.specs.Records.{topicCount, slotCount};
 ghost use Rattle.params.specs.Joint.{place as topicPlace};
 ghost use Rattle.validity.specs.Valid.{valid};
 ghost use Rattle.score.specs.Ranges.{ShareIn, TopicsIn, PartsIn};
@@ -73,7 +73,7 @@ pub fn load_general(table: &[u64]) -> ScoreParams
 // Whether the peer in a slot is connected and of the group: 1 or 0. Both are asked of every slot: which groups are the same cannot be guessed,
 // and a branch that is guessed wrong costs more than the second test.
 fn shares(table: &[u64], group: u64, slot: usize) -> u64
-    requires { ⌜ (length (now table) ≡ cellCount) × (slot < 64) ⌝ }
+    requires { ⌜ (length (now table) ≡ cellCount) × (slot < slotCount) ⌝ }
     ensures { λ r. ⌜ (r ≡ one (sharesGroup (stateOf (now (table .entry))) group slot)) × (r ≤ 1) ⌝ }
 {
     let status = layout::load_status(table, slot);
@@ -88,7 +88,7 @@ fn shares(table: &[u64], group: u64, slot: usize) -> u64
 // How many connected peers are of the group.
 fn sharing_of(table: &[u64], group: u64) -> u64
     requires { ⌜ length (now table) ≡ cellCount ⌝ }
-    ensures { λ r. ⌜ (r ≡ sharing (stateOf (now (table .entry))) group) × (r ≤ 64) ⌝ }
+    ensures { λ r. ⌜ (r ≡ sharing (stateOf (now (table .entry))) group) × (r ≤ slotCount) ⌝ }
 {
     let mut n: u64 = 0;
     let mut slot: usize = 0;
@@ -101,7 +101,7 @@ fn sharing_of(table: &[u64], group: u64) -> u64
 
 // One topic's share of the score of the peer in a slot.
 fn share_at(table: &[u64], slot: usize, t: usize) -> Balance
-    requires { ⌜ (length (now table) ≡ cellCount) × ((valid (stateOf (now table)) ≡ true) × ((slot < 64) × (t < 8))) ⌝ }
+    requires { ⌜ (length (now table) ≡ cellCount) × ((valid (stateOf (now table)) ≡ true) × ((slot < slotCount) × (t < 8))) ⌝ }
     ensures { λ r. ⌜ (r ≡ shareAt (stateOf (now (table .entry))) slot t) × ShareIn r ⌝ }
 {
     topic::share(
@@ -112,7 +112,7 @@ fn share_at(table: &[u64], slot: usize, t: usize) -> Balance
 
 // The shares of all topics, added.
 fn topics_at(table: &[u64], slot: usize) -> Balance
-    requires { ⌜ (length (now table) ≡ cellCount) × ((valid (stateOf (now table)) ≡ true) × (slot < 64)) ⌝ }
+    requires { ⌜ (length (now table) ≡ cellCount) × ((valid (stateOf (now table)) ≡ true) × (slot < slotCount)) ⌝ }
     ensures { λ r. ⌜ (r ≡ sumOf topicCount (shareAt (stateOf (now (table .entry))) slot)) × TopicsIn r ⌝ }
 {
     let mut sum = Balance { gain: 0, loss: 0 };
@@ -126,7 +126,7 @@ fn topics_at(table: &[u64], slot: usize) -> Balance
 
 // The parts of the score of the peer in a slot.
 pub fn score_parts(table: &[u64], slot: usize) -> Parts
-    requires { ⌜ (length (now table) ≡ cellCount) × ((valid (stateOf (now table)) ≡ true) × (slot < 64)) ⌝ }
+    requires { ⌜ (length (now table) ≡ cellCount) × ((valid (stateOf (now table)) ≡ true) × (slot < slotCount)) ⌝ }
     ensures { λ r. ⌜ (r ≡ partsAt (stateOf (now (table .entry))) slot) × PartsIn r ⌝ }
 {
     let p = layout::load_peer(table, slot);
@@ -142,7 +142,7 @@ pub fn score_parts(table: &[u64], slot: usize) -> Parts
 
 // The score of the peer in a slot and its parts, as the host gets them.
 pub fn why_of(table: &[u64], slot: usize) -> Why
-    requires { ⌜ (length (now table) ≡ cellCount) × ((valid (stateOf (now table)) ≡ true) × (slot < 64)) ⌝ }
+    requires { ⌜ (length (now table) ≡ cellCount) × ((valid (stateOf (now table)) ≡ true) × (slot < slotCount)) ⌝ }
     ensures { λ r. ⌜ r ≡ whyIn (stateOf (now (table .entry))) slot ⌝ }
 {
     sums::why(score_parts(table, slot))
@@ -150,7 +150,7 @@ pub fn why_of(table: &[u64], slot: usize) -> Why
 
 // The score of the peer in a slot.
 pub fn score_of(table: &[u64], slot: usize) -> Balance
-    requires { ⌜ (length (now table) ≡ cellCount) × ((valid (stateOf (now table)) ≡ true) × (slot < 64)) ⌝ }
+    requires { ⌜ (length (now table) ≡ cellCount) × ((valid (stateOf (now table)) ≡ true) × (slot < slotCount)) ⌝ }
     ensures { λ r. ⌜ Scores (stateOf (now (table .entry))) slot r ⌝ }
 {
     sums::total(score_parts(table, slot))

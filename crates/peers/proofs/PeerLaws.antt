@@ -15,7 +15,7 @@ use Rattle.index.specs.declared.Found.{Found}
 use Rattle.index.specs.declared.Found.the-variants.{At, Nothing}
 use Rattle.index.specs.Index.{iter}
 use Rattle.index.proofs.Index.{first-is}
-use Rattle.records.specs.Records.{State, peerIn, isEmpty, setClock}
+use Rattle.records.specs.Records.{State, peerIn, isEmpty, setClock, slotCount}
 use Rattle.layout.specs.View.{cellCount, stateOf, Sized}
 use Rattle.layout.proofs.StateLaws.{sized-of}
 use Rattle.layout.proofs.Whole.{determined}
@@ -106,13 +106,13 @@ module _
 
 -- ---- connect, once the name and the id are tested: `mid` is the table after reclaiming
 
-pub retained-below : (st : State) (id s : ℕ) (r : Found) → r ≡ findRetained st id → r ≡ At s → s < 64
+pub retained-below : (st : State) (id s : ℕ) (r : Found) → r ≡ findRetained st id → r ≡ At s → s < slotCount
 unfolding findRetained
-retained-below st id s r e g = first-is (holds st 2 id) 64 s (sym e ∙ g) .0
+retained-below st id s r e g = first-is (holds st 2 id) slotCount s (sym e ∙ g) .0
 
-pub empty-below : (st : State) (s : ℕ) (r : Found) → r ≡ lowestEmpty st → r ≡ At s → s < 64
+pub empty-below : (st : State) (s : ℕ) (r : Found) → r ≡ lowestEmpty st → r ≡ At s → s < slotCount
 unfolding lowestEmpty
-empty-below st s r e g = first-is (λ i. isEmpty (peerIn st i)) 64 s (sym e ∙ g) .0
+empty-below st s r e g = first-is (λ i. isEmpty (peerIn st i)) slotCount s (sym e ∙ g) .0
 
 full-as : (st : State) (time : ℕ) → Sized st → lowestEmpty (reclaimed st time) ≡ Nothing → reclaimed st time ≡ st
 unfolding lowestEmpty

@@ -1,5 +1,6 @@
 // Connect, disconnect, setting P5, and the score: four of 01's calls. Each takes the lent table, a time, its arguments as wide numbers and a
 // lent action list, asks nothing of its caller, and promises the rules' reply (crate rules).
+ghost use Rattle.records.specs.Records.{slotCount};
 ghost use mathlib.Core.Path.{_≡_};
 ghost use Prim.Native.Nat.{_<_};
 ghost use lib.ListN.{length};
@@ -11,7 +12,6 @@ ghost use Rattle.rules.specs.Step.{effect, connectIn, connectAt, connectReply};
 ghost use Rattle.effects.specs.Effects.{reclaimed};
 ghost use Rattle.rules.specs.Promise.{Leaves, Follows};
 ghost use Rattle.gate.specs.Ready.{Ready};
-use layout::CELLS;
 use effects::connections::connect_slot;
 use effects::connections::reclaim;
 use effects::connections::retain_slot;
@@ -23,6 +23,7 @@ use gate::finish;
 use gate::id_ok;
 use gate::time_ok;
 use index::Found;
+use layout::CELLS;
 use lookup::Named;
 use lookup::find::find_connected;
 use rules::Answer;
@@ -39,7 +40,7 @@ fn connect_at(
     version: u64,
     slot: usize,
 ) -> Answer
-    requires { ⌜ (length (now table) ≡ cellCount) × (slot < 64) ⌝ }
+    requires { ⌜ (length (now table) ≡ cellCount) × (slot < slotCount) ⌝ }
     ensures { λ r. ⌜ Leaves (connectAt (stateOf (now (table .entry))) time id group flags version slot) r (now (table .entry)) (now (table .exit)) ⌝ }
 {
     connect_slot(table, slot, id, group, flags, version);

@@ -16,7 +16,7 @@ use Rattle.index.proofs.Flags.{by-test, by-order, cond-case}
 use Rattle.varint.specs.Codes.{codeOf}
 use Rattle.records.specs.declared.Peer.{Peer}
 use Rattle.records.specs.declared.TopicRecord.{TopicRecord}
-use Rattle.records.specs.Records.{State, noPeer, noTopic, place, codeIn, peerIn, topicIn, setClock, setJoined, setPeer, setTopic}
+use Rattle.records.specs.Records.{State, noPeer, noTopic, place, codeIn, peerIn, topicIn, setClock, setJoined, setPeer, setTopic, slotCount}
 use Rattle.records.specs.Records.{isConnected}
 use Rattle.layout.proofs.StateLaws.{peer-case, topic-case, topic-same, peer-after-topic, topic-after-peer}
 use Rattle.score.specs.Counters.{firstOf, nearFirstOf, invalidOf, grownOf, fadedOf, decayedOf}
@@ -37,7 +37,7 @@ pub record Since (st u : State) (s t : ℕ) : Type 0 where
   pub end : endIn u s t ≤ endIn st s t
 
 abbrev pub Calmer : State → State → Type 0
-Calmer st u = (s t : ℕ) → s < 64 → t < 8 → topicIn u (place s t) .member ≡ 1 → Since st u s t
+Calmer st u = (s t : ℕ) → s < slotCount → t < 8 → topicIn u (place s t) .member ≡ 1 → Since st u s t
 
 pub calmer-self : (st : State) → Calmer st st
 calmer-self st s t h k m = record { member = m; graft = refl; end = omega arith }
@@ -199,7 +199,7 @@ calmer-emptied st s =
 pub calmer-reclaimed : (st : State) (time : ℕ) → Calmer st (reclaimed st time)
 unfolding reclaimed reclaimSlot
 calmer-reclaimed st time =
-    calmer-iter (reclaimSlot time) 64 st (λ s u h.
+    calmer-iter (reclaimSlot time) slotCount st (λ s u h.
     calmer-either u (reclaimable (peerIn u s) time) (emptied u s) u (calmer-emptied u s) (calmer-self u))
 
 calmer-faded : (s : ℕ) (st : State) → Calmer st (decayP7 s st)
@@ -240,11 +240,11 @@ module _ (st : State) (time : ℕ) where
   unfolding leaveReply
   calmer-leave t =
       let end = endAfter time (unsubscribeBackoff st) in
-      let w = iter 64 (leaveSlot st t end) st in
+      let w = iter slotCount (leaveSlot st t end) st in
       either (isJoined st t) _ (ignored st time)
       (calmer-moved (setJoined w t 0)
       (calmer-then {a = st} {b = w} {c = setJoined w t 0}
-      (calmer-iter (leaveSlot st t end) 64 st (λ s u h. calmer-left st t end s u)) (calmer-joined w t 0)))
+      (calmer-iter (leaveSlot st t end) slotCount st (λ s u h. calmer-left st t end s u)) (calmer-joined w t 0)))
       calmer-still
 
   pub calmer-rate : (p5 : ℤ) (s : ℕ) → Calmer st (done (onPeer st s (λ p. withP5 p (codeOf p5))) time [] .state)
@@ -253,7 +253,7 @@ module _ (st : State) (time : ℕ) where
   pub calmer-decay : Calmer st (decayReply st time .state)
   unfolding decayReply
   calmer-decay =
-      calmer-moved (iter 64 (decaySlot time) st) (calmer-iter (decaySlot time) 64 st (λ s u h. calmer-decayed time s u))
+      calmer-moved (iter slotCount (decaySlot time) st) (calmer-iter (decaySlot time) slotCount st (λ s u h. calmer-decayed time s u))
 
   module _ (t s : ℕ) where
     pub calmer-subscribe : Calmer st (subscribeReply st time t s .state)

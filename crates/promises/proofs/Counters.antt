@@ -18,7 +18,7 @@ use Rattle.varint.specs.Codes.{codeOf}
 use Rattle.params.specs.Limits.{at}
 use Rattle.records.specs.declared.Peer.{Peer}
 use Rattle.records.specs.declared.TopicRecord.{TopicRecord}
-use Rattle.records.specs.Records.{State, noTopic, place, codeIn, peerIn, topicIn, setClock, isConnected}
+use Rattle.records.specs.Records.{State, noTopic, place, codeIn, peerIn, topicIn, setClock, isConnected, slotCount}
 use Rattle.layout.specs.View.{Sized}
 use Rattle.layout.proofs.StateLaws.{topic-same, topic-other, topic-after-peer, topic-after-clock, peer-same, peer-other, peer-after-topic}
 use Rattle.layout.proofs.StateLaws.{peer-after-clock, joined-after-topic, joined-after-clock, code-after-topic, code-after-clock}
@@ -98,7 +98,7 @@ module _ (params : List ℤ) (st : State) (codes : st .codes ≡ map codeOf para
 -- ---- a delivery
 module _ (params : List ℤ) (st : State) (size : Sized st) (codes : st .codes ≡ map codeOf params) (time t kind s : ℕ) where
   delivered-at :
-      s < 64 → t < 8 → 1 ≤ kind → kind ≤ 3 →
+      s < slotCount → t < 8 → 1 ≤ kind → kind ≤ 3 →
       Delivered params t kind s st (setClock (onTopic st s t (deliveredOf kind (topicParamsIn st t))) time)
   delivered-at h k l m =
       let r = topicIn st (place s t) in
@@ -115,7 +115,7 @@ module _ (params : List ℤ) (st : State) (size : Sized st) (codes : st .codes �
       }
 
   delivered-0 :
-      s < 64 → t < 8 → 1 ≤ kind → kind ≤ 3 →
+      s < slotCount → t < 8 → 1 ≤ kind → kind ≤ 3 →
       numberOf (deliverReply st time t kind s .answer) ≡ 0 →
       Delivered params t kind s st (deliverReply st time t kind s .state)
   unfolding deliverReply
@@ -194,7 +194,7 @@ module _ (params : List ℤ) (time : ℕ) where
   topic-apart s t i u n = topic-other u (place s i) _ (place s t) (place-topic s i t (λ e. n (sym e)))
 
   turn-topic :
-      (s t : ℕ) (u : State) → s < 64 → t < 8 → Good u →
+      (s t : ℕ) (u : State) → s < slotCount → t < 8 → Good u →
       Faded params time t (topicIn u (place s t)) (topicIn (iter 8 (decayTopic time s) u) (place s t))
   unfolding decayTopic
   turn-topic s t u h k g =
@@ -211,7 +211,7 @@ module _ (params : List ℤ) (time : ℕ) where
       rw e (faded params v (w .codes) t r time)
 
   turn-p7 :
-      (s : ℕ) (u : State) → s < 64 → Good u →
+      (s : ℕ) (u : State) → s < slotCount → Good u →
       peerIn (decayP7 s u) s .p7 ≡ fades (toZero params) (natAbs (at params 17)) (peerIn u s .p7)
   unfolding decayP7 withP7
   turn-p7 s u h g =
@@ -238,35 +238,35 @@ module _ (params : List ℤ) (time : ℕ) where
     connected-is-off : (s : ℕ) → peerIn st s .status ≢ 1 → isConnected (peerIn (walk s) s) ≡ false
     connected-is-off s off = ap (λ (p : Peer). isConnected p) (peer-before s) ∙ ne-eqb _ _ off
 
-    decayed : Decayed params time st (setClock (walk 64) time)
+    decayed : Decayed params time st (setClock (walk slotCount) time)
     unfolding decaySlot decayP7
     decayed =
         record {
           counters = λ s t h k on.
               let w = walk s in
               let v = iter 8 (decayTopic time s) w in
-              let e : topicIn (setClock (walk 64) time) (place s t) ≡ topicIn v (place s t) =
-              topic-after-clock (walk 64) time (place s t)
-              ∙ iter-once (λ u. topicIn u (place s t)) (decaySlot time) s (topic-else s t k) 64 st h
+              let e : topicIn (setClock (walk slotCount) time) (place s t) ≡ topicIn v (place s t) =
+              topic-after-clock (walk slotCount) time (place s t)
+              ∙ iter-once (λ u. topicIn u (place s t)) (decaySlot time) s (topic-else s t k) slotCount st h
               ∙ rw (connected-is-on s on) (topic-after-peer v s _ (place s t)) in
               rw (e, ← (topic-before s t k)) (turn-topic s t w h k (good s));
           p7 = λ s h on.
               let w = walk s in
               let v = iter 8 (decayTopic time s) w in
-              let e : peerIn (setClock (walk 64) time) s ≡ peerIn (decayP7 s v) s =
-              peer-after-clock (walk 64) time s
-              ∙ iter-once (λ u. peerIn u s) (decaySlot time) s (peer-else s) 64 st h
+              let e : peerIn (setClock (walk slotCount) time) s ≡ peerIn (decayP7 s v) s =
+              peer-after-clock (walk slotCount) time s
+              ∙ iter-once (λ u. peerIn u s) (decaySlot time) s (peer-else s) slotCount st h
               ∙ rw (connected-is-on s on) refl in
               ap (λ (p : Peer). p .p7) e
               ∙ turn-p7 s v h (good-topics s 8 w (good s))
               ∙ ap (λ (p : Peer). fades (toZero params) (natAbs (at params 17)) (p .p7)) (topics-peer s 8 w s ∙ peer-before s);
           peers = λ s h off.
-              peer-after-clock (walk 64) time s
-              ∙ iter-once (λ u. peerIn u s) (decaySlot time) s (peer-else s) 64 st h
+              peer-after-clock (walk slotCount) time s
+              ∙ iter-once (λ u. peerIn u s) (decaySlot time) s (peer-else s) slotCount st h
               ∙ rw (connected-is-off s off) (peer-before s);
           topics = λ s t h k off.
-              topic-after-clock (walk 64) time (place s t)
-              ∙ iter-once (λ u. topicIn u (place s t)) (decaySlot time) s (topic-else s t k) 64 st h
+              topic-after-clock (walk slotCount) time (place s t)
+              ∙ iter-once (λ u. topicIn u (place s t)) (decaySlot time) s (topic-else s t k) slotCount st h
               ∙ rw (connected-is-off s off) (topic-before s t k);
         }
 

@@ -19,7 +19,7 @@ use Rattle.index.proofs.Flags.{by-test, cond-case}
 use Rattle.varint.specs.Codes.{codeOf}
 use Rattle.records.specs.declared.Peer.{Peer}
 use Rattle.records.specs.declared.TopicRecord.{TopicRecord}
-use Rattle.records.specs.Records.{State, noPeer, noTopic, place, codeIn, peerIn, topicIn, setClock, setJoined, setPeer, setTopic}
+use Rattle.records.specs.Records.{State, noPeer, noTopic, place, codeIn, peerIn, topicIn, setClock, setJoined, setPeer, setTopic, slotCount}
 use Rattle.records.specs.Records.{isConnected}
 use Rattle.layout.specs.View.{Sized}
 use Rattle.layout.proofs.StateLaws.{topic-case, topic-after-clock, topic-after-joined, topic-after-peer, codes-after-peer, codes-after-topic}
@@ -99,7 +99,7 @@ lower-departed st s time =
 lower-reclaimed : (st : State) (time : ℕ) → Lower st (reclaimed st time)
 unfolding reclaimed reclaimSlot emptied
 lower-reclaimed st time =
-    lower-iter (reclaimSlot time) 64 st (λ i u.
+    lower-iter (reclaimSlot time) slotCount st (λ i u.
     let w = iter 8 (λ t v. setTopic v (place i t) noTopic) u in
     lower-either u (reclaimable (peerIn u i) time) (setPeer w i noPeer) u
     (lower-then u w (setPeer w i noPeer)
@@ -141,9 +141,9 @@ module _ (st : State) (ok : valid st ≡ true) (time : ℕ) where
   lower-decay : Lower st (decayReply st time .state)
   unfolding decayReply
   lower-decay =
-      let u = iter 64 (decaySlot time) st in
+      let u = iter slotCount (decaySlot time) st in
       let w : Faded u =
-      iter-keeps Faded (decaySlot time) 64 st (record { lower = lower-self st; codes = refl }) (λ i u l. faded-slot i u) in
+      iter-keeps Faded (decaySlot time) slotCount st (record { lower = lower-self st; codes = refl }) (λ i u l. faded-slot i u) in
       lower-then st u (setClock u time) (w .lower) (lower-clock u time)
 
 -- ---- replies
@@ -274,7 +274,7 @@ module _ (params : List ℤ) (st : State) (ok : valid st ≡ true) (codes : st .
   only (score time id) room s t k = inl (other (score time id) room s t (low-peer st time id _ (λ i. lower-clock st time)))
 
   -- ---- a record made anew
-  module _ (time id group flags : ℕ) (name : List ℕ) (s t : ℕ) (h : s < 64) (k : t < 8) where
+  module _ (time id group flags : ℕ) (name : List ℕ) (s t : ℕ) (h : s < slotCount) (k : t < 8) where
     abbrev New : Reply → Type 0
     New r = peerIn (r .state) s .id ≢ peerIn st s .id → p3bIn (r .state) s t ≡ 0
 
@@ -282,7 +282,7 @@ module _ (params : List ℤ) (st : State) (ok : valid st ≡ true) (codes : st .
     w = reclaimed st time
 
     new-at :
-        (v i : ℕ) → i < 64 → (peerIn w i .id ≡ id) ⊎ (peerIn w i .status ≡ 0) → New (connectAt w time id group flags v i)
+        (v i : ℕ) → i < slotCount → (peerIn w i .id ≡ id) ⊎ (peerIn w i .status ≡ 0) → New (connectAt w time id group flags v i)
     unfolding connectAt connectedAs
     new-at v i l from n =
         let p = connectedAs (peerIn w i) id group flags v in

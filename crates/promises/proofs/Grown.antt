@@ -62,7 +62,7 @@ module _ (params : List ℤ) (st : State) (codes : st .codes ≡ map codeOf para
         (λ e. refl)
 
     out-same :
-        Sized u → i < 64 → t < 8 → topicIn u (place i t) ≡ topicIn st (place i t) →
+        Sized u → i < slotCount → t < 8 → topicIn u (place i t) ≡ topicIn st (place i t) →
         topicIn (pruned (punished st t i u) i t end) (place i t) .p3b ≡ cond (isNegative st i) (grown i) (was i)
     unfolding punished grownOf outOfMesh
     out-same size h k e =
@@ -104,7 +104,7 @@ module _ (params : List ℤ) (st : State) (codes : st .codes ≡ map codeOf para
     abbrev Left : ℕ → State → Type 0
     Left s w = topicIn w (place s t) .p3b ≡ cond (isMember st t s && isNegative st s) (grown s) (was s)
 
-    left-p3b : (s : ℕ) → s < 64 → Left s (iter 64 (leaveSlot st t end) st)
+    left-p3b : (s : ℕ) → s < slotCount → Left s (iter slotCount (leaveSlot st t end) st)
     unfolding leaveSlot
     left-p3b s h =
         let w = iter s (leaveSlot st t end) st in
@@ -113,17 +113,17 @@ module _ (params : List ℤ) (st : State) (codes : st .codes ≡ map codeOf para
         let before : topicIn w (place s t) ≡ topicIn st (place s t) =
         iter-before (λ u. topicIn u (place s t)) (leaveSlot st t end) s others s st (omega arith) in
         let zw : Sized w = iter-keeps (λ (u : State). Sized u) (leaveSlot st t end) s st size (λ i u l. leave-sized st t end i u) in
-        ap (λ (r : TopicRecord). r .p3b) (iter-once (λ u. topicIn u (place s t)) (leaveSlot st t end) s others 64 st h)
+        ap (λ (r : TopicRecord). r .p3b) (iter-once (λ u. topicIn u (place s t)) (leaveSlot st t end) s others slotCount st h)
         ∙ by-test (Left s (leaveSlot st t end s w)) (isMember st t s)
         (λ m. rw m (out-same s end w zw h k before))
         (λ m. rw m (ap (λ (r : TopicRecord). r .p3b) before))
 
-    left-topic : (s v : ℕ) → v < 8 → v ≢ t → topicIn (iter 64 (leaveSlot st t end) st) (place s v) ≡ topicIn st (place s v)
+    left-topic : (s v : ℕ) → v < 8 → v ≢ t → topicIn (iter slotCount (leaveSlot st t end) st) (place s v) ≡ topicIn st (place s v)
     left-topic s v l n =
-        iter-kept (λ u. topicIn u (place s v)) (leaveSlot st t end) 64 st
+        iter-kept (λ u. topicIn u (place s v)) (leaveSlot st t end) slotCount st
         (λ i u h. leave-other i u (place s v) (λ e. n (omega (arith, e, l, k))))
 
-    grown-left : Grown params t st (setClock (setJoined (iter 64 (leaveSlot st t end) st) t 0) time)
+    grown-left : Grown params t st (setClock (setJoined (iter slotCount (leaveSlot st t end) st) t 0) time)
     unfolding setClock setJoined isMember isNegative topicIn
     grown-left =
         record {
@@ -162,7 +162,7 @@ module _ (params : List ℤ) (st : State) (codes : st .codes ≡ map codeOf para
     abbrev Settled : ℕ → State → Type 0
     Settled s w = topicIn w (place s t) .p3b ≡ cond (isMember st t s && (not (at mesh s) && isNegative st s)) (grown s) (was s)
 
-    settled-p3b : (s : ℕ) → s < 64 → Settled s (iter 64 (settleSlot st time t mesh) st)
+    settled-p3b : (s : ℕ) → s < slotCount → Settled s (iter slotCount (settleSlot st time t mesh) st)
     unfolding settleSlot intoMesh
     settled-p3b s h =
         let w = iter s (settleSlot st time t mesh) st in
@@ -172,7 +172,7 @@ module _ (params : List ℤ) (st : State) (codes : st .codes ≡ map codeOf para
         iter-before (λ u. topicIn u (place s t)) (settleSlot st time t mesh) s others s st (omega arith) in
         let zw : Sized w = settled-sized st time t mesh s size in
         let kept = ap (λ (r : TopicRecord). r .p3b) before in
-        ap (λ (r : TopicRecord). r .p3b) (iter-once (λ u. topicIn u (place s t)) (settleSlot st time t mesh) s others 64 st h)
+        ap (λ (r : TopicRecord). r .p3b) (iter-once (λ u. topicIn u (place s t)) (settleSlot st time t mesh) s others slotCount st h)
         ∙ by-test (Settled s (settleSlot st time t mesh s w)) (isMember st t s)
         (λ m.
         by-test _ (at mesh s)
@@ -185,12 +185,12 @@ module _ (params : List ℤ) (st : State) (codes : st .codes ≡ map codeOf para
         (ap (λ (r : TopicRecord). r .p3b) (topic-same w (place s t) _ (omega (arith, zw .topics, h, k))) ∙ kept))
         (λ a. rw (m, a) kept))
 
-    settled-topic : (s v : ℕ) → v < 8 → v ≢ t → topicIn (iter 64 (settleSlot st time t mesh) st) (place s v) ≡ topicIn st (place s v)
+    settled-topic : (s v : ℕ) → v < 8 → v ≢ t → topicIn (iter slotCount (settleSlot st time t mesh) st) (place s v) ≡ topicIn st (place s v)
     settled-topic s v l n =
-        iter-kept (λ u. topicIn u (place s v)) (settleSlot st time t mesh) 64 st
+        iter-kept (λ u. topicIn u (place s v)) (settleSlot st time t mesh) slotCount st
         (λ i u h. settle-other i u (place s v) (λ e. n (omega (arith, e, l, k))))
 
-    grown-settled : Grown params t st (setClock (iter 64 (settleSlot st time t mesh) st) time)
+    grown-settled : Grown params t st (setClock (iter slotCount (settleSlot st time t mesh) st) time)
     unfolding setClock isMember isNegative topicIn
     grown-settled =
         record {

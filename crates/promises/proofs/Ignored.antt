@@ -21,7 +21,7 @@ use Rattle.index.proofs.Flags.{by-test, cond-case}
 use Rattle.varint.specs.Codes.{codeOf, numberOf as signed}
 use Rattle.varint.proofs.CodeLaws.{number-code}
 use Rattle.params.specs.Limits.{at}
-use Rattle.records.specs.Records.{State, codeIn, peerIn, joinedIn}
+use Rattle.records.specs.Records.{State, codeIn, peerIn, joinedIn, slotCount}
 use Rattle.validity.proofs.ValidLaws.{valid-facts}
 use Rattle.lookup.specs.Find.{findConnected}
 use Rattle.lookup.proofs.FindLaws.{connected-at, none-connected, connected-is}
@@ -137,7 +137,7 @@ module _ (st : State) (ok : valid st ≡ true) (id : ℕ) (f : ℕ → Reply) (Q
       ((s : ℕ) → (numberOf (f s .answer) ≡ 11) ↔ Q s) → (numberOf (ofPeer st id f .answer) ≡ 11) ↔ Sender st id Q
   peer-11 h = go (findConnected st id) refl
     where
-      slot : (s : ℕ) → s < 64 → peerIn st s .status ≡ 1 → peerIn st s .id ≡ id → findConnected st id ≡ At s
+      slot : (s : ℕ) → s < slotCount → peerIn st s .status ≡ 1 → peerIn st s .id ≡ id → findConnected st id ≡ At s
       slot s l on e = ap (findConnected st) (sym e) ∙ connected-is st (valid-facts st ok) s l on
 
       same : (s k : ℕ) → At s ≡ At k → s ≡ k

@@ -72,7 +72,7 @@ refused-shuts params st (score time p) a e id t k = held-zero st id t
 pub by-id :
     (st : State) (P : Reply → Type 0) (id : ℕ) (f : ℕ → Reply) →
     P (refused NotConnected st) →
-    ((s : ℕ) → s < 64 → peerIn st s .status ≡ 1 → peerIn st s .id ≡ id → P (f s)) →
+    ((s : ℕ) → s < slotCount → peerIn st s .status ≡ 1 → peerIn st s .id ≡ id → P (f s)) →
     P (ofPeer st id f)
 by-id st P id f none some = go (findConnected st id) refl
   where
@@ -122,7 +122,7 @@ module _ (params : List ℤ) (st : State) (size : Sized st) (ok : valid st ≡ t
 
   grafts-free :
       (time t ask room : ℕ) (order : List ℕ) (s : ℕ) →
-      s < 64 →
+      s < slotCount →
       peerIn st s .status ≡ 1 →
       times 1 (peerIn st s .id) (step st (heartbeat time t ask order) room .actions) ≢ 0 →
       Past time t s
@@ -166,7 +166,7 @@ module _ (params : List ℤ) (fine : Accepted params) where
       (hold-step params st (w .size) (w .router) (w .codes) (c .call) (c .room) _ id t k (held before id t k))
       (shut-step params st (w .size) (w .router) (w .codes) (c .call) (c .room) id t k)
 
-  kept-of : (calls : List Made) (s t : ℕ) → s < 64 → t < 8 → isMember (after params calls) t s ≡ true → KeptOutOf params calls s t
+  kept-of : (calls : List Made) (s t : ℕ) → s < slotCount → t < 8 → isMember (after params calls) t s ≡ true → KeptOutOf params calls s t
   unfolding isMember
   kept-of calls s t h k m =
       let st = after params calls in

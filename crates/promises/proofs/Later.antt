@@ -17,7 +17,7 @@ use Rattle.index.proofs.Flags.{by-test, cond-case}
 use Rattle.varint.specs.Codes.{codeOf}
 use Rattle.records.specs.declared.Peer.{Peer}
 use Rattle.records.specs.declared.TopicRecord.{TopicRecord}
-use Rattle.records.specs.Records.{State, place, codeIn, peerIn, topicIn, setClock, setJoined, setPeer, setTopic, isConnected}
+use Rattle.records.specs.Records.{State, place, codeIn, peerIn, topicIn, setClock, setJoined, setPeer, setTopic, isConnected, slotCount}
 use Rattle.layout.specs.View.{Sized}
 use Rattle.layout.proofs.StateLaws.{peer-case, peer-same, peer-after-topic, peer-after-clock, peer-after-joined}
 use Rattle.score.specs.Counters.{grownOf, fadedOf}
@@ -153,19 +153,19 @@ module _ (st : State) (time : ℕ) where
   pub later-disconnect : (s : ℕ) → Later st (setClock (departed st s time) time)
   later-disconnect s = later-moved (departed st s time) (later-departed st s time)
 
-  pub later-leave : (t end : ℕ) → Later st (setClock (setJoined (iter 64 (leaveSlot st t end) st) t 0) time)
+  pub later-leave : (t end : ℕ) → Later st (setClock (setJoined (iter slotCount (leaveSlot st t end) st) t 0) time)
   later-leave t end =
-      let w = iter 64 (leaveSlot st t end) st in
+      let w = iter slotCount (leaveSlot st t end) st in
       later-moved (setJoined w t 0)
-      (later-then st w (setJoined w t 0) (later-iter (leaveSlot st t end) 64 st (later-left st t end)) (later-joined w t 0))
+      (later-then st w (setJoined w t 0) (later-iter (leaveSlot st t end) slotCount st (later-left st t end)) (later-joined w t 0))
 
   pub later-rate : (p5 : ℤ) (s : ℕ) → Later st (setClock (onPeer st s (λ p. withP5 p (codeOf p5))) time)
   later-rate p5 s =
       later-moved (onPeer st s (λ p. withP5 p (codeOf p5)))
       (later-peer st s (withP5 (peerIn st s) (codeOf p5)) (at-p5 (peerIn st s) (codeOf p5)))
 
-  pub later-decay : Later st (setClock (iter 64 (decaySlot time) st) time)
-  later-decay = later-moved (iter 64 (decaySlot time) st) (later-iter (decaySlot time) 64 st (later-decayed time))
+  pub later-decay : Later st (setClock (iter slotCount (decaySlot time) st) time)
+  later-decay = later-moved (iter slotCount (decaySlot time) st) (later-iter (decaySlot time) slotCount st (later-decayed time))
 
   pub later-on : (k : ℕ) (r : TopicRecord) → Later st (setClock (setTopic st k r) time)
   later-on k r = later-moved (setTopic st k r) (later-topic st k r)
@@ -186,13 +186,13 @@ later-running st time t s n =
     (later-refused u time t s)
 
 -- ---- a backoff that is set
-pub end-set : (st : State) (s t end : ℕ) → Sized st → s < 64 → t < 8 → end ≤ endIn (onPeer st s (λ p. withEnd p t end)) s t
+pub end-set : (st : State) (s t end : ℕ) → Sized st → s < slotCount → t < 8 → end ≤ endIn (onPeer st s (λ p. withEnd p t end)) s t
 end-set st s t end size h k =
     let a = ap (λ (p : Peer). getD (p .backoff) t 0) (peer-same st s (withEnd (peerIn st s) t end) (omega (arith, size .peers, h))) in
     let b = end-same (peerIn st s) t end (omega (arith, size .ends s, k)) in
     omega (arith, a, b)
 
-pub end-pruned : (st : State) (s t end : ℕ) → Sized st → s < 64 → t < 8 → end ≤ endIn (pruned st s t end) s t
+pub end-pruned : (st : State) (s t end : ℕ) → Sized st → s < slotCount → t < 8 → end ≤ endIn (pruned st s t end) s t
 end-pruned st s t end size h k =
     let a = ap (λ (p : Peer). getD (p .backoff) t 0) (pruned-same st s t end size h) in
     let b = end-same (peerIn st s) t end (omega (arith, size .ends s, k)) in

@@ -48,7 +48,7 @@ use Rattle.promises.proofs.Calmer.{calmer-prune, calmer-deliver, calmer
 use Rattle.promises.proofs.Calmer.{calmer-reclaimed}
 
 abbrev pub Out : State → Type 0
-Out st = (s t : ℕ) → s < 64 → t < 8 → topicIn st (place s t) .member ≡ 1 → endIn st s t ≤ topicIn st (place s t) .graft
+Out st = (s t : ℕ) → s < slotCount → t < 8 → topicIn st (place s t) .member ≡ 1 → endIn st s t ≤ topicIn st (place s t) .graft
 
 pub out-calmer : (st u : State) → Out st → Calmer st u → Out u
 out-calmer st u o f s t h k m =
@@ -167,9 +167,9 @@ module _ (st : State) (time t ask : ℕ) (order : List ℕ) where
   new-candidate ok right s a m =
       ⊎-elim
       (λ p.
-      let q = slots-in (isMember st t) 64 s (both-left _ _ s p) .1 in
+      let q = slots-in (isMember st t) slotCount s (both-left _ _ s p) .1 in
       absurd (false≢true (sym m ∙ q)))
-      (λ c. slots-in (isCandidate st time t) 64 s c .1)
+      (λ c. slots-in (isCandidate st time t) slotCount s c .1)
       (view-kept st time t ask order ok right .pool s a)
 
   -- along the walk: those who are still to come in have no backoff that runs

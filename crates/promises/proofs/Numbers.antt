@@ -529,8 +529,8 @@ module _ (st : State) (c : Call) (room : ℕ) where
       (P : Answer → Type 0) →
       (valid st ≡ false → P NotRouter) →
       (valid st ≡ true → inRange c ≡ false → P OutOfRange) →
-      (valid st ≡ true → inRange c ≡ true → room < 192 → P ListShort) →
-      (valid st ≡ true → inRange c ≡ true → 192 ≤ room → timeOf c < st .clock → P Early) →
+      (valid st ≡ true → inRange c ≡ true → room < actionRoom → P ListShort) →
+      (valid st ≡ true → inRange c ≡ true → actionRoom ≤ room → timeOf c < st .clock → P Early) →
       (Admitted st c room → P (effect st c .answer)) →
       P (step st c room .answer)
   unfolding step gateOf
@@ -544,9 +544,9 @@ module _ (st : State) (c : Call) (room : ℕ) where
       by-test _ (leb (st .clock) (timeOf c))
       (λ k.
       rw (v, f, r, k)
-      (p0 (record { router = v; ranges = f; list = leb-true 192 room r; time = leb-true (st .clock) (timeOf c) k })))
-      (λ k. rw (v, f, r, k) (p1 v f (leb-true 192 room r) (leb-false (st .clock) (timeOf c) k))))
-      (λ r. rw (v, f, r) (p8 v f (leb-false 192 room r))))
+      (p0 (record { router = v; ranges = f; list = leb-true actionRoom room r; time = leb-true (st .clock) (timeOf c) k })))
+      (λ k. rw (v, f, r, k) (p1 v f (leb-true actionRoom room r) (leb-false (st .clock) (timeOf c) k))))
+      (λ r. rw (v, f, r) (p8 v f (leb-false actionRoom room r))))
       (λ f. rw (v, f) (p2 v f)))
       (λ v. rw v (p12 v))
 

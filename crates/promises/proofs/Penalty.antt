@@ -124,7 +124,7 @@ milder-departed st s time =
 milder-reclaimed : (st : State) (time : ℕ) → Milder st (reclaimed st time)
 unfolding reclaimed reclaimSlot emptied
 milder-reclaimed st time =
-    milder-iter (reclaimSlot time) 64 st (λ i u.
+    milder-iter (reclaimSlot time) slotCount st (λ i u.
     let w = iter 8 (λ t v. setTopic v (place i t) noTopic) u in
     milder-either u (reclaimable (peerIn u i) time) (setPeer w i noPeer) u
     (milder-then u w (setPeer w i noPeer)
@@ -166,9 +166,9 @@ module _ (st : State) (ok : valid st ≡ true) (time : ℕ) where
   milder-decay : Milder st (decayReply st time .state)
   unfolding decayReply
   milder-decay =
-      let u = iter 64 (decaySlot time) st in
+      let u = iter slotCount (decaySlot time) st in
       let w : Faded u =
-      iter-keeps Faded (decaySlot time) 64 st (record { milder = milder-self st; code = refl }) (λ i u l. faded-slot i u) in
+      iter-keeps Faded (decaySlot time) slotCount st (record { milder = milder-self st; code = refl }) (λ i u l. faded-slot i u) in
       milder-then st u (setClock u time) (w .milder) (milder-clock u time)
 
 -- ---- replies
@@ -222,10 +222,10 @@ module _ (st : State) (time : ℕ) where
   unfolding leaveReply
   mild-leave t =
       let end = endAfter time (unsubscribeBackoff st) in
-      let u = iter 64 (leaveSlot st t end) st in
+      let u = iter slotCount (leaveSlot st t end) st in
       mild-if (isJoined st t) _ (ignored st time)
       (ticks (setJoined u t 0)
-      (milder-then st u (setJoined u t 0) (milder-iter (leaveSlot st t end) 64 st (milder-leave st t end))
+      (milder-then st u (setJoined u t 0) (milder-iter (leaveSlot st t end) slotCount st (milder-leave st t end))
       (milder-same u (setJoined u t 0) (peer-after-joined u t 0))))
       mild-ignored
 
@@ -258,7 +258,7 @@ module _ (st : State) (time : ℕ) where
       let mesh = meshesIn st time t ask order .fifth in
       mild-if (isPermutation slotCount order) _ (refused NotPermutation st)
       (mild-if (isJoined st t) (maintainedReply st time t ask order) (ignored st time)
-      (ticks _ (milder-iter (settleSlot st time t mesh) 64 st (milder-settle st time t mesh)))
+      (ticks _ (milder-iter (settleSlot st time t mesh) slotCount st (milder-settle st time t mesh)))
       mild-ignored)
       (milder-self st)
 
@@ -339,7 +339,7 @@ module _ (params : List ℤ) (st : State) (ok : valid st ≡ true) (codes : st .
   only-effect (score time id) = λ i. inl ((mild-peer st time id _ (λ s. milder-clock st time)) i)
 
   raised-same :
-      (time t s n : ℕ) → Sized st → s < 64 → p7In (graftRefused (onPeer st s (λ p. withP7 p n)) time t s .state) s ≡ n
+      (time t s n : ℕ) → Sized st → s < slotCount → p7In (graftRefused (onPeer st s (λ p. withP7 p n)) time t s .state) s ≡ n
   unfolding graftRefused withEnd withP7
   raised-same time t s n size h =
       let p = withP7 (peerIn st s) n in
@@ -349,7 +349,7 @@ module _ (params : List ℤ) (st : State) (ok : valid st ≡ true) (codes : st .
       ∙ ap (λ (q : Peer). q .p7) (peer-same st s p (omega (arith, size .peers, h)))
 
   rises-early :
-      (time t s room : ℕ) → Sized st → s < 64 → Admitted st (graft time (peerIn st s .id) t) room → TooEarly params st time t s →
+      (time t s room : ℕ) → Sized st → s < slotCount → Admitted st (graft time (peerIn st s .id) t) room → TooEarly params st time t s →
       p7In (step st (graft time (peerIn st s .id) t) room .state) s ≡ min (p7In st s + 1000) 1000000
   unfolding step effect graftReply graftHeard graftBackoff
   rises-early time t s room size h a w =

@@ -41,7 +41,7 @@ each-append P (a ∷ x) y h k = (h .0, each-append P x y (h .1) k)
 
 module _ (st : State) (size : Sized st) (ok : valid st ≡ true) where
   -- an action on the peer of slot x is one to the peer with its id
-  same-slot : (x s : ℕ) → s < 64 → peerIn st s .status ≡ 1 → peerIn st s .id ≡ peerIn st x .id → x ≡ s
+  same-slot : (x s : ℕ) → s < slotCount → peerIn st s .status ≡ 1 → peerIn st s .id ≡ peerIn st x .id → x ≡ s
   same-slot x s h on e = id-is st size ok s h (λ z. omega (arith, z, on)) x (sym e)
 
   each-map : (seconds : ℕ) → pruneBackoff st ≡ seconds → (l : List Tell) → Each (Seconds st seconds) (map (actionIn st) l)
@@ -75,7 +75,7 @@ module _ (st : State) (size : Sized st) (ok : valid st ≡ true) where
   unfolding leaveReply Each
   leave-seconds time t seconds e =
       cond-case (λ (r : Reply). Each (Seconds st seconds) (r .actions)) (isJoined st t) _ (ignored st time)
-      (λ j. each-leave t seconds e 64)
+      (λ j. each-leave t seconds e slotCount)
       (λ j. tt)
 
   heartbeat-seconds : (time t ask seconds : ℕ) (order : List ℕ) → pruneBackoff st ≡ seconds →
@@ -106,7 +106,7 @@ module _ (st : State) (size : Sized st) (ok : valid st ≡ true) where
       tt,
     )
 
-    early-seconds : (n : ℕ) → i < 64 → Each (Seconds st seconds) (graftRefused (setPeer st i (withP7 (peerIn st i) n)) time t i .actions)
+    early-seconds : (n : ℕ) → i < slotCount → Each (Seconds st seconds) (graftRefused (setPeer st i (withP7 (peerIn st i) n)) time t i .actions)
     unfolding withP7
     early-seconds n h =
         let p = withP7 (peerIn st i) n in
@@ -114,7 +114,7 @@ module _ (st : State) (size : Sized st) (ok : valid st ≡ true) where
         refused-seconds (setPeer st i p) (ap (λ (x : Peer). x .id) same) (ap (λ (x : Peer). x .version) same)
         (rw (code-after-peer st i p 5))
 
-    graft-seconds : i < 64 → Each (Seconds st seconds) (graftReply st time t i .actions)
+    graft-seconds : i < slotCount → Each (Seconds st seconds) (graftReply st time t i .actions)
     unfolding graftReply graftHeard graftBackoff graftOpen Each
     graft-seconds h =
         let P : Reply → Type 0 = λ r. Each (Seconds st seconds) (r .actions) in

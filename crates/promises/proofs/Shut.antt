@@ -52,7 +52,7 @@ use Rattle.promises.proofs.Told.{leave-someone, leave-sized, left-membe
 abbrev pub Held : ℕ → State → ℕ → ℕ → Type 0
 Held n st id t =
     (n ≤ st .clock)
-    ⊎ ((s : ℕ) × (s < 64) × (peerIn st s .status ≢ 0) × (peerIn st s .id ≡ id) × (n ≤ endIn st s t))
+    ⊎ ((s : ℕ) × (s < slotCount) × (peerIn st s .status ≢ 0) × (peerIn st s .id ≡ id) × (n ≤ endIn st s t))
 
 pub held-zero : (st : State) (id t : ℕ) → Held 0 st id t
 held-zero st id t = inl (omega arith)
@@ -71,7 +71,7 @@ pub record Hold (st u : State) : Type 0 where
   pub clock : st .clock ≤ u .clock
   pub peer :
       (s : ℕ) →
-      s < 64 →
+      s < slotCount →
       peerIn st s .status ≢ 0 →
       LaterAt (peerIn st s) (peerIn u s) ⊎ ((t : ℕ) → t < 8 → endIn st s t ≤ u .clock)
 
@@ -186,7 +186,7 @@ hold-effect st (leave time t) z l =
     let end = endAfter time (unsubscribeBackoff st) in
     either st time l (isJoined st t)
     (done (setJoined (iter slotCount (leaveSlot st t end) st) t 0) time (leaveActions st t slotCount)) _
-    (hold-moved st time l (setJoined (iter 64 (leaveSlot st t end) st) t 0) (later-leave st time t end))
+    (hold-moved st time l (setJoined (iter slotCount (leaveSlot st t end) st) t 0) (later-leave st time t end))
     (still st time l)
 hold-effect st (subscribe time id t) z l =
     peered st time l id _ (λ s.
@@ -238,7 +238,7 @@ quiet time seconds r u id t e = told-none time seconds r u id t (rw e)
 
 module _ (params : List ℤ) (st : State) (size : Sized st) (codes : st .codes ≡ map codeOf params) where
   -- ---- GRAFT that is answered by a PRUNE
-  module _ (time u s : ℕ) (h : s < 64) (k : u < 8) where
+  module _ (time u s : ℕ) (h : s < slotCount) (k : u < 8) where
     abbrev Told2 : Reply → Type 0
     Told2 r = (id t : ℕ) → t < 8 → Held (told time (pruneSeconds params) r u id t) (r .state) id t
 
@@ -301,7 +301,7 @@ module _ (params : List ℤ) (st : State) (size : Sized st) (codes : st .codes �
       cond-case (λ (r : Reply). Held (told time (leaveSeconds params) r u id t) (r .state) id t) (isJoined st u) r (ignored st time)
       (λ j.
       told-some time (leaveSeconds params) r u id t (λ n q.
-      let x = leave-someone st u 2 id 64 n in
+      let x = leave-someone st u 2 id slotCount n in
       let s = x .0 in
       let on = member-connected st ok u s k (x .1) (x .2) in
       let l = later-leave st time u end s in
@@ -309,7 +309,7 @@ module _ (params : List ℤ) (st : State) (size : Sized st) (codes : st .codes �
       end-walked (leaveSlot st u end) s u end (leave-sized st u end) (later-left st u end)
       (λ v z.
       rw (x .2) (end-pruned (punished st u s v) s u end (punished-sized st u s v z) (x .1) k))
-      64 st size (x .1) in
+      slotCount st size (x .1) in
       let d = later-joined w u 0 s .ends u in
       let e = later-clock (setJoined w u 0) time s .ends u in
       inr (
@@ -346,12 +346,12 @@ module _ (params : List ℤ) (st : State) (size : Sized st) (codes : st .codes �
         (λ f. sized-pruned (punished st u i v) i u end (punished-sized st u i v z)))
         (λ e. cond-case (λ (w : State). Sized w) (at mesh i) _ v (λ f. sized-topic v z (place i u) _) (λ f. z))
 
-    end-settled : (s : ℕ) → s < 64 → isMember st u s ≡ true → at mesh s ≡ false → end ≤ endIn walked s u
+    end-settled : (s : ℕ) → s < slotCount → isMember st u s ≡ true → at mesh s ≡ false → end ≤ endIn walked s u
     unfolding settleSlot
     end-settled s h m a =
         end-walked (settleSlot st time u mesh) s u end turn-sized (later-settled st time u mesh)
         (λ v z. rw (m, a) (end-pruned (punished st u s v) s u end (punished-sized st u s v z) h k))
-        64 st size h
+        slotCount st size h
 
     later-left-state : Later walked (maintainedReply st time u ask order .state)
     unfolding maintainedReply
@@ -401,7 +401,7 @@ module _ (params : List ℤ) (st : State) (size : Sized st) (codes : st .codes �
       (λ wrong. quiet time (pruneSeconds params) (refused NotPermutation st) u id t refl)
 
   -- ---- PRUNE in
-  pub prune-shuts : (time p u seconds s : ℕ) → s < 64 → u < 8 → peerIn st s .status ≢ 0 → peerIn st s .id ≡ p → (id t : ℕ) → t < 8 →
+  pub prune-shuts : (time p u seconds s : ℕ) → s < slotCount → u < 8 → peerIn st s .status ≢ 0 → peerIn st s .id ≡ p → (id t : ℕ) → t < 8 →
       Held (shutBy params (prune time p u seconds) (pruneReply st time u seconds s) id t) (pruneReply st time u seconds s .state) id t
   unfolding pruneReply shutBy secondsOf
   prune-shuts time p u seconds s h k on e id t b =

@@ -16,7 +16,7 @@ use borrow.Author.Tests.{eqb-false, eq-eqb, ne-eqb, le-leb, lt-leb, le-ltb}
 use Rattle.index.specs.declared.Found.the-variants.{At}
 use Rattle.index.proofs.Flags.{cond-case}
 use Rattle.records.specs.declared.Peer.{Peer}
-use Rattle.records.specs.Records.{State, codeIn, peerIn, topicIn, setClock, setPeer}
+use Rattle.records.specs.Records.{State, codeIn, peerIn, topicIn, setClock, setPeer, slotCount}
 use Rattle.layout.specs.View.{Sized}
 use Rattle.layout.proofs.StateLaws.{peer-same, code-after-peer}
 use Rattle.validity.specs.Valid.{maxTime, valid}
@@ -109,7 +109,7 @@ taken-back st time t s room size ok c top l m =
     rw (← g, at-slot) (returned st time t s size ok m)
 
 -- ---- in, or told
-module _ (st : State) (time t s : ℕ) (size : Sized st) (h : s < 64) (k : t < 8) where
+module _ (st : State) (time t s : ℕ) (size : Sized st) (h : s < slotCount) (k : t < 8) where
   abbrev Done : Reply → Type 0
   Done r = InOrTold st t s r
 

@@ -42,17 +42,17 @@ use Rattle.promises.proofs.Slots.{timesAt, grafts-at, prunes-at, others
 use Rattle.promises.proofs.Members.{new-candidate}
 
 -- ---- an id is one slot's
-past-peer : (st : State) → Sized st → (x : ℕ) → 64 ≤ x → peerIn st x ≡ noPeer
+past-peer : (st : State) → Sized st → (x : ℕ) → slotCount ≤ x → peerIn st x ≡ noPeer
 unfolding peerIn
 past-peer st size x l = List·getD-eq-default (st .peers) noPeer {n = x} (omega (arith, size .peers, l))
 
 pub id-is :
-    (st : State) → Sized st → valid st ≡ true → (s : ℕ) → s < 64 → peerIn st s .status ≢ 0 →
+    (st : State) → Sized st → valid st ≡ true → (s : ℕ) → s < slotCount → peerIn st s .status ≢ 0 →
     (x : ℕ) → peerIn st x .id ≡ peerIn st s .id → x ≡ s
 id-is st size ok s h on x e =
     let f = valid-facts st ok in
     let used = f .peer s h .used on in
-    by-order (x ≡ s) x 64
+    by-order (x ≡ s) x slotCount
     (λ l.
     by-test (x ≡ s) (eqb x s) (eqb-true x s) (λ n.
     absurd (omega (arith, used, ids-apart st f s x h l (eqb-false x s n) e))))
@@ -142,42 +142,42 @@ module _ (st : State) (size : Sized st) (ok : valid st ≡ true) (time t ask : �
     abbrev left : State
     left = maintainedReply st time t ask order .state
 
-    pub left-member : (s : ℕ) → s < 64 → isMember left t s ≡ at mesh s
+    pub left-member : (s : ℕ) → s < slotCount → isMember left t s ≡ at mesh s
     unfolding maintainedReply setClock isMember topicIn
     left-member s l = settled-member st time t mesh k size s l
 
-    grafted : (s : ℕ) → s < 64 → timesAt 1 s acts ≡ one (not (isMember st t s) && isMember left t s)
+    grafted : (s : ℕ) → s < slotCount → timesAt 1 s acts ≡ one (not (isMember st t s) && isMember left t s)
     unfolding meshesIn viewIn
     grafted s l =
-        grafts-at 64 (degreesIn st) (viewIn st time t ask order) (degrees-rules st ok) (view-whole st time t ask order ok right)
+        grafts-at slotCount (degreesIn st) (viewIn st time t ask order) (degrees-rules st ok) (view-whole st time t ask order ok right)
         (view-apart st time t ask order) s l
-        ∙ ap (λ (b : Bool). one (not b && at mesh s)) (slots-at false (isMember st t) 64 s l)
+        ∙ ap (λ (b : Bool). one (not b && at mesh s)) (slots-at false (isMember st t) slotCount s l)
         ∙ ap (λ (b : Bool). one (not (isMember st t s) && b)) (sym (left-member s l))
 
-    pruned-told : (s : ℕ) → s < 64 → timesAt 2 s acts ≡ one (isMember st t s && not (isMember left t s))
+    pruned-told : (s : ℕ) → s < slotCount → timesAt 2 s acts ≡ one (isMember st t s && not (isMember left t s))
     unfolding meshesIn viewIn
     pruned-told s l =
-        prunes-at 64 (degreesIn st) (viewIn st time t ask order) (degrees-rules st ok) (view-whole st time t ask order ok right)
+        prunes-at slotCount (degreesIn st) (viewIn st time t ask order) (degrees-rules st ok) (view-whole st time t ask order ok right)
         (view-apart st time t ask order) s l
-        ∙ ap (λ (b : Bool). one (b && not (at mesh s))) (slots-at false (isMember st t) 64 s l)
+        ∙ ap (λ (b : Bool). one (b && not (at mesh s))) (slots-at false (isMember st t) slotCount s l)
         ∙ ap (λ (b : Bool). one (isMember st t s && not b)) (sym (left-member s l))
 
-    other-told : (s : ℕ) → s < 64 → (j : ℕ) → eqb 1 j ≡ false → eqb 2 j ≡ false → timesAt j s acts ≡ 0
+    other-told : (s : ℕ) → s < slotCount → (j : ℕ) → eqb 1 j ≡ false → eqb 2 j ≡ false → timesAt j s acts ≡ 0
     unfolding meshesIn viewIn
     other-told s l =
-        others-at 64 (degreesIn st) (viewIn st time t ask order) (degrees-rules st ok) (view-whole st time t ask order ok right)
+        others-at slotCount (degreesIn st) (viewIn st time t ask order) (degrees-rules st ok) (view-whole st time t ask order ok right)
         (view-apart st time t ask order) s l
 
-    past-told : (s j : ℕ) → 64 ≤ s → timesAt j s acts ≡ 0
+    past-told : (s j : ℕ) → slotCount ≤ s → timesAt j s acts ≡ 0
     unfolding meshesIn viewIn
     past-told =
-        past-at 64 (degreesIn st) (viewIn st time t ask order) (degrees-rules st ok) (view-whole st time t ask order ok right)
+        past-at slotCount (degreesIn st) (viewIn st time t ask order) (degrees-rules st ok) (view-whole st time t ask order ok right)
         (view-apart st time t ask order)
 
     -- who is told something is connected
-    told-connected : (j x : ℕ) → timesAt j x acts ≢ 0 → (x < 64) × (peerIn st x .status ≡ 1)
+    told-connected : (j x : ℕ) → timesAt j x acts ≢ 0 → (x < slotCount) × (peerIn st x .status ≡ 1)
     told-connected j x n =
-        by-order _ x 64
+        by-order _ x slotCount
         (λ l. (
           l,
           by-test _ (isMember st t x)
@@ -311,7 +311,7 @@ module _ (st : State) (t end : ℕ) where
       (λ m. sized-pruned (punished st t i u) i t end (punished-sized st t i u z))
       (λ m. z)
 
-  pub leave-out : t < 8 → Sized st → (s : ℕ) → s < 64 → isMember (iter 64 (leaveSlot st t end) st) t s ≡ false
+  pub leave-out : t < 8 → Sized st → (s : ℕ) → s < slotCount → isMember (iter slotCount (leaveSlot st t end) st) t s ≡ false
   unfolding leaveSlot
   leave-out k z s h =
       let w = iter s (leaveSlot st t end) st in
@@ -320,7 +320,7 @@ module _ (st : State) (t end : ℕ) where
       λ i u n. leave-apart s t i u (place-slot i t s t k k (λ e. n (sym e))) in
       let was : isMember w t s ≡ isMember st t s =
       iter-before (λ u. isMember u t s) (leaveSlot st t end) s others s st (omega arith) in
-      iter-once (λ u. isMember u t s) (leaveSlot st t end) s others 64 st h
+      iter-once (λ u. isMember u t s) (leaveSlot st t end) s others slotCount st h
       ∙ by-test (isMember (leaveSlot st t end s w) t s ≡ false) (isMember st t s)
       (λ m. rw m (pruned-member (punished st t s w) s t end (punished-sized st t s w zw) h k))
       (λ m. rw m (was ∙ m))
@@ -334,20 +334,20 @@ module _ (st : State) (size : Sized st) (ok : valid st ≡ true) (time t : ℕ) 
   unfolding leaveReply
   told-leave =
       let end = endAfter time (unsubscribeBackoff st) in
-      let u = iter 64 (leaveSlot st t end) st in
+      let u = iter slotCount (leaveSlot st t end) st in
       cond-case (λ (r : Reply). Told st t r) (isJoined st t) _ (ignored st time)
       (λ j.
       record {
         grafts = λ s h on.
-            no-graft st t (peerIn st s .id) 64
+            no-graft st t (peerIn st s .id) slotCount
             ∙ sym
             (ap (λ (b : Bool). one (not (isMember st t s) && b)) (gone u 0 s ∙ leave-out st t end k size s h)
             ∙ none (not (isMember st t s)));
         prunes = λ s h on.
-            after-slot st t s (id-is st size ok s h (λ z. omega (arith, on, z))) 64 h
+            after-slot st t s (id-is st size ok s h (λ z. omega (arith, on, z))) slotCount h
             ∙ sym (ap (λ (b : Bool). one (isMember st t s && not b)) (gone u 0 s ∙ leave-out st t end k size s h) ∙ all (isMember st t s));
         only = λ i id n.
-            let w = leave-someone st t i id 64 n in
+            let w = leave-someone st t i id slotCount n in
             (w .0, w .1, member-connected st ok t (w .0) k (w .1) (w .2), w .3);
       })
       (λ j. told-ignored st t time)

@@ -15,7 +15,7 @@ use Rattle.lookup.specs.Name.{meshsub}
 use Rattle.rules.specs.Reply.{numberOf}
 use Rattle.rules.specs.Calls.{Call, connect, disconnect, join, leave, subscribe, unsubscribe, graft, prune, deliver, rate, heartbeat, decay}
 use Rattle.rules.specs.Calls.{score, timeOf, inRange}
-use Rattle.rules.specs.Step.{step}
+use Rattle.rules.specs.Step.{step, actionRoom}
 use Rattle.promises.specs.Ends.{endIn}
 
 -- a connected record holds the id, or none does
@@ -29,7 +29,7 @@ Missing st id = (s : ℕ) → s < slotCount → peerIn st s .status ≡ 1 → pe
 pub record Admitted (st : State) (c : Call) (room : ℕ) : Type 0 where
   pub router : valid st ≡ true
   pub ranges : inRange c ≡ true
-  pub list : 192 ≤ room
+  pub list : actionRoom ≤ room
   pub time : st .clock ≤ timeOf c
 
 pub record Rows (st : State) (c : Call) (room : ℕ) (n : ℕ) : Type 0 where
@@ -38,9 +38,9 @@ pub record Rows (st : State) (c : Call) (room : ℕ) (n : ℕ) : Type 0 where
   -- "topic, id, group, flags, kind, ask, time or P5 outside its range"
   pub row2 : (n ≡ 2) ↔ ((valid st ≡ true) × (inRange c ≡ false))
   -- "action list under 192 numbers"
-  pub row8 : (n ≡ 8) ↔ ((valid st ≡ true) × (inRange c ≡ true) × (room < 192))
+  pub row8 : (n ≡ 8) ↔ ((valid st ≡ true) × (inRange c ≡ true) × (room < actionRoom))
   -- "now earlier than the last accepted time"
-  pub row1 : (n ≡ 1) ↔ ((valid st ≡ true) × (inRange c ≡ true) × (192 ≤ room) × (timeOf c < st .clock))
+  pub row1 : (n ≡ 1) ↔ ((valid st ≡ true) × (inRange c ≡ true) × (actionRoom ≤ room) × (timeOf c < st .clock))
 
 abbrev pub FirstRows : Type 0
 FirstRows = (st : State) (c : Call) (room : ℕ) → Rows st c room (numberOf (step st c room .answer))

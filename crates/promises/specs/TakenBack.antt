@@ -16,7 +16,7 @@ use Rattle.effects.specs.Actions.{Action}
 use Rattle.effects.specs.Effects.{highDegree, pruneBackoff, meshSize, isMember}
 use Rattle.rules.specs.Reply.{Reply, numberOf}
 use Rattle.rules.specs.Calls.{graft}
-use Rattle.rules.specs.Step.{step}
+use Rattle.rules.specs.Step.{step, actionRoom}
 use Rattle.promises.specs.Ends.{endIn}
 
 -- the peer in slot s may come into topic t at a time
@@ -43,7 +43,7 @@ TakenBack =
     valid st ≡ true →
     st .clock ≤ time →
     time ≤ maxTime →
-    192 ≤ room →
+    actionRoom ≤ room →
     MayReturn st time t s →
     IsIn t s (step st (graft time (peerIn st s .id) t) room)
 

@@ -66,7 +66,7 @@ membersIn st = gather slotCount (λ s. cond (isMember st 0 s) ((peerIn st s .id,
 
 -- a mixed permutation: 11, 48, 21, 58, 31, 4, 41, 14, ..; of the first 14 slots it is 11, 4, 7, 0, 10, 3, 13, 6, 9, 2, 12, 5, 8, 1
 unfoldable pub mixed : List ℕ
-mixed = map (λ (i : ℕ). (37 * i + 11) % 64) (ascending 0 slotCount)
+mixed = map (λ (i : ℕ). (37 * i + 11) % slotCount) (ascending 0 slotCount)
 
 -- ---- 01's worked example: "connect 7 (inbound, not explicit, /meshsub/1.1.0), join 0, subscribe 7 0, tidy, PRUNE 7 0 60, GRAFT 7 0,
 -- score 7, all at time 5, no opportunism"
@@ -103,7 +103,7 @@ eleven =
     join 1000 0
     ∷ come 0 (31 ∷ 7 ∷ 45 ∷ 12 ∷ 88 ∷ 23 ∷ [])
     ++ heartbeat 1000 0 0 mixed
-    ∷ enter (64 ∷ 5 ∷ 71 ∷ 19 ∷ 52 ∷ [])
+    ∷ enter (slotCount ∷ 5 ∷ 71 ∷ 19 ∷ 52 ∷ [])
     ++ rate 1000 12 (pos 3000000)
     ∷ bring (7 ∷ 7 ∷ 7 ∷ 45 ∷ 45 ∷ 23 ∷ 71 ∷ [])
 

@@ -10,7 +10,7 @@ use Rattle.index.specs.declared.Found.{Found}
 use Rattle.index.specs.declared.Found.the-variants.{At, Nothing}
 use Rattle.index.proofs.Index.{both}
 use Rattle.index.proofs.Flags.{by-test}
-use Rattle.records.specs.Records.{State, peerIn}
+use Rattle.records.specs.Records.{State, peerIn, slotCount}
 use Rattle.validity.specs.Valid.{valid}
 use Rattle.lookup.specs.Find.{findConnected}
 use Rattle.lookup.proofs.FindLaws.{connected-at}
@@ -39,7 +39,7 @@ arguments c e = both (timeOk (timeOf c)) (argumentsOk c) e .1
 pub by-peer :
     (P : Reply → Type 0) (st : State) (id : ℕ) (f : ℕ → Reply) →
     P (refused NotConnected st) →
-    ((s : ℕ) → s < 64 → peerIn st s .status ≡ 1 → P (f s)) →
+    ((s : ℕ) → s < slotCount → peerIn st s .status ≡ 1 → P (f s)) →
     P (ofPeer st id f)
 by-peer P st id f none some = go (findConnected st id) refl
   where

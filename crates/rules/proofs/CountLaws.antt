@@ -37,7 +37,7 @@ use Rattle.rules.proofs.HeartbeatLaws.{told-few}
 
 pub record Counted (o : Reply) : Type 0 where
   pub counts : actionsOf (o .answer) ≡ length (o .actions)
-  pub few : length (o .actions) ≤ 64
+  pub few : length (o .actions) ≤ slotCount
 
 -- ---- the shapes of replies
 counted-refused : (a : Answer) (st : State) → actionsOf a ≡ 0 → Counted (refused a st)
@@ -46,7 +46,7 @@ counted-refused a st e = record { counts = e; few = omega arith }
 counted-ignored : (st : State) (time : ℕ) → Counted (ignored st time)
 counted-ignored st time = record { counts = refl; few = omega arith }
 
-counted-done : (st : State) (time : ℕ) (acts : List Action) → length acts ≤ 64 → Counted (done st time acts)
+counted-done : (st : State) (time : ℕ) (acts : List Action) → length acts ≤ slotCount → Counted (done st time acts)
 counted-done st time acts h = record { counts = refl; few = h }
 
 counted-quiet : (st : State) (time : ℕ) → Counted (done st time [])
@@ -96,7 +96,7 @@ actions-short st t n =
 counted-leave : (st : State) (time t : ℕ) → Counted (leaveReply st time t)
 unfolding leaveReply
 counted-leave st time t =
-    counted-cond (isJoined st t) _ _ (counted-done _ time (leaveActions st t slotCount) (actions-short st t 64)) (counted-ignored st time)
+    counted-cond (isJoined st t) _ _ (counted-done _ time (leaveActions st t slotCount) (actions-short st t slotCount)) (counted-ignored st time)
 
 counted-prune-back : (st : State) (time t s : ℕ) → Counted (graftRefused st time t s)
 unfolding graftRefused
@@ -117,7 +117,7 @@ heartbeat-few :
     (st : State) (time t ask : ℕ) (order : List ℕ) →
     valid st ≡ true →
     isPermutation slotCount order ≡ true →
-    length (heartbeatActions st t order (meshesIn st time t ask order)) ≤ 64
+    length (heartbeatActions st t order (meshesIn st time t ask order)) ≤ slotCount
 unfolding heartbeatActions viewIn
 heartbeat-few st time t ask order ok right =
     let acts = toldActions slotCount order (changesOf (bySlot slotCount (isMember st t)) (meshesIn st time t ask order)) in
@@ -175,7 +175,7 @@ counted st c room =
 
 -- of a call that keeps its promise
 pub few-actions :
-    (c : Call) (r : Answer) (table table′ list list′ : List ℕ) → Follows c r table table′ list list′ → actionsOf r ≤ 64
+    (c : Call) (r : Answer) (table table′ list list′ : List ℕ) → Follows c r table table′ list list′ → actionsOf r ≤ slotCount
 few-actions c r table table′ list list′ f =
     let k = counted (stateOf table) c (length list) in
     let e : actionsOf r ≡ actionsOf (step (stateOf table) c (length list) .answer) = ap actionsOf (f .leaves .answer) in

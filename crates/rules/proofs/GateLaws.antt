@@ -18,7 +18,7 @@ use Rattle.rules.specs.Step.{gateOf, actionRoom}
 pub record Passed (st : State) (fine : Bool) (room time : ℕ) : Type 0 where
   pub router : valid st ≡ true
   pub ranges : fine ≡ true
-  pub size : 192 ≤ room
+  pub size : actionRoom ≤ room
   pub clock : st .clock ≤ time
 
 module _ (st : State) (fine : Bool) (room time : ℕ) where
@@ -30,7 +30,7 @@ module _ (st : State) (fine : Bool) (room time : ℕ) where
   unfolding gateOf
   gate-2 v f = rw (v, f)
 
-  pub gate-8 : valid st ≡ true → fine ≡ true → room < 192 → Refuse ListShort ≡ gateOf st fine room time
+  pub gate-8 : valid st ≡ true → fine ≡ true → room < actionRoom → Refuse ListShort ≡ gateOf st fine room time
   unfolding gateOf
   gate-8 v f l = rw (v, f, lt-leb actionRoom room l)
 
@@ -39,7 +39,7 @@ module _ (st : State) (fine : Bool) (room time : ℕ) where
       (k : ℕ) →
       valid st ≡ true →
       fine ≡ true →
-      192 ≤ room →
+      actionRoom ≤ room →
       k ≡ st .clock →
       time < k →
       Refuse Early ≡ gateOf st fine room time
@@ -50,7 +50,7 @@ module _ (st : State) (fine : Bool) (room time : ℕ) where
       (k : ℕ) →
       valid st ≡ true →
       fine ≡ true →
-      192 ≤ room →
+      actionRoom ≤ room →
       k ≡ st .clock →
       k ≤ time →
       Pass ≡ gateOf st fine room time

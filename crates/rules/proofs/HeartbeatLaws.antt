@@ -62,12 +62,12 @@ from-zero (pos n) = le-leb 0 n (omega arith) ∙ ap not (sym (le-ltb n 0 (omega 
 from-zero (negsuc n) = refl
 
 module _ (st : State) (ok : valid st ≡ true) where
-  scored : (s : ℕ) → s < 64 → Scores st s (balanceAt st s)
+  scored : (s : ℕ) → s < slotCount → Scores st s (balanceAt st s)
   scored s h =
       let i = slot-in st ok s h in
       record { is = refl; score = score-is st s i; range = balance-in st s i }
 
-  pub height-good : (s : ℕ) → s < 64 → leb zeroScore (heightIn st s) ≡ not (isNegative st s)
+  pub height-good : (s : ℕ) → s < slotCount → leb zeroScore (heightIn st s) ≡ not (isNegative st s)
   unfolding isNegative
   height-good s h =
       let b = balanceAt st s in
@@ -122,24 +122,24 @@ module _ (st : State) (time t ask : ℕ) (order : List ℕ) where
       ⊥
   unfolding viewIn
   view-apart s m c =
-      let a = slots-in (isMember st t) 64 s m .1 in
-      let b = candidate-outside st time t s (slots-in (isCandidate st time t) 64 s c .1) in
+      let a = slots-in (isMember st t) slotCount s m .1 in
+      let b = candidate-outside st time t s (slots-in (isCandidate st time t) slotCount s c .1) in
       false≢true (ap not (sym a) ∙ b)
 
   module _ (ok : valid st ≡ true) where
     -- the slots whose score is zero or more
-    pub view-goods : (s : ℕ) → s < 64 → at (goods (viewIn st time t ask order)) s ≡ not (isNegative st s)
+    pub view-goods : (s : ℕ) → s < slotCount → at (goods (viewIn st time t ask order)) s ≡ not (isNegative st s)
     unfolding viewIn
     view-goods s h =
-        let l = slots-length 64 (heightIn st) in
-        from-at zeroScore (bySlot 64 (heightIn st)) s (omega arith)
-        ∙ ap (leb zeroScore) (slots-at 0 (heightIn st) 64 s h)
+        let l = slots-length slotCount (heightIn st) in
+        from-at zeroScore (bySlot slotCount (heightIn st)) s (omega arith)
+        ∙ ap (leb zeroScore) (slots-at 0 (heightIn st) slotCount s h)
         ∙ height-good st ok s h
 
     view-good : Sub (viewIn st time t ask order .candidates) (goods (viewIn st time t ask order))
     unfolding viewIn
     view-good s c =
-        let q = slots-in (isCandidate st time t) 64 s c in
+        let q = slots-in (isCandidate st time t) slotCount s c in
         view-goods s (q .0) ∙ candidate-good st time t s (q .1)
 
     module _ (right : isPermutation slotCount order ≡ true) where
@@ -147,10 +147,10 @@ module _ (st : State) (time t ask : ℕ) (order : List ℕ) where
       unfolding viewIn
       view-whole =
           record {
-            members = slots-length 64 (isMember st t);
-            candidates = slots-length 64 (isCandidate st time t);
-            outbound = slots-length 64 (λ s. eqb (peerIn st s .outbound) 1);
-            scores = slots-length 64 (heightIn st);
+            members = slots-length slotCount (isMember st t);
+            candidates = slots-length slotCount (isCandidate st time t);
+            outbound = slots-length slotCount (λ s. eqb (peerIn st s .outbound) 1);
+            scores = slots-length slotCount (heightIn st);
             permutation = right;
             good = view-good;
           }
@@ -159,20 +159,20 @@ module _ (st : State) (time t ask : ℕ) (order : List ℕ) where
       pub view-kept :
           Maintained (degreesIn st) (viewIn st time t ask order) (meshesIn st time t ask order .fifth)
       unfolding meshesIn
-      view-kept = maintained-keeps 64 (degreesIn st) (viewIn st time t ask order) (degrees-rules st ok) view-whole
+      view-kept = maintained-keeps slotCount (degreesIn st) (viewIn st time t ask order) (degrees-rules st ok) view-whole
 
-      pub mesh-length : length (meshesIn st time t ask order .fifth) ≡ 64
+      pub mesh-length : length (meshesIn st time t ask order .fifth) ≡ slotCount
       unfolding meshesIn
-      mesh-length = maintained-length 64 (degreesIn st) (viewIn st time t ask order) (degrees-rules st ok) view-whole
+      mesh-length = maintained-length slotCount (degreesIn st) (viewIn st time t ask order) (degrees-rules st ok) view-whole
 
       -- at most one action a slot
       pub told-few :
           length
           (actionsOf slotCount order (changesOf (viewIn st time t ask order .members) (meshesIn st time t ask order)))
-          ≤ 64
+          ≤ slotCount
       unfolding meshesIn viewIn
       told-few =
-          actions-length 64 (degreesIn st) (viewIn st time t ask order) (degrees-rules st ok) view-whole view-apart
+          actions-length slotCount (degreesIn st) (viewIn st time t ask order) (degrees-rules st ok) view-whole view-apart
 
 -- ---- the walk that writes the mesh back
 -- places of different topics are different
@@ -252,9 +252,9 @@ module _ (st : State) (time t : ℕ) (mesh : List Bool) where
         v < 8 →
         v ≢ t →
         (s : ℕ) →
-        isMember (iter 64 (settleSlot st time t mesh) st) v s ≡ isMember st v s
+        isMember (iter slotCount (settleSlot st time t mesh) st) v s ≡ isMember st v s
     settled-else v l n s =
-        iter-kept (λ u. isMember u v s) (settleSlot st time t mesh) 64 st
+        iter-kept (λ u. isMember u v s) (settleSlot st time t mesh) slotCount st
         (λ i u h. turn-apart s v i u (λ e. n (topic-of-place s v i t l k e)))
 
     -- before turn s, slot s is as it was at the start
@@ -269,7 +269,7 @@ module _ (st : State) (time t : ℕ) (mesh : List Bool) where
 
     -- the mesh of the topic is the one that is written back
     pub settled-member :
-        Sized st → (s : ℕ) → s < 64 → isMember (iter 64 (settleSlot st time t mesh) st) t s ≡ at mesh s
+        Sized st → (s : ℕ) → s < slotCount → isMember (iter slotCount (settleSlot st time t mesh) st) t s ≡ at mesh s
     unfolding settleSlot
     settled-member z s h =
         let w = iter s (settleSlot st time t mesh) st in
@@ -277,7 +277,7 @@ module _ (st : State) (time t : ℕ) (mesh : List Bool) where
         let was : isMember w t s ≡ isMember st t s = settled-before s in
         iter-once (λ u. isMember u t s) (settleSlot st time t mesh) s
         (λ i u n. turn-apart s t i u (place-slot i t s t k k (λ e. n (sym e))))
-        64
+        slotCount
         st
         h
         ∙ by-test (isMember (settleSlot st time t mesh s w) t s ≡ at mesh s) (isMember st t s)

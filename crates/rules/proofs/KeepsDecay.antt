@@ -9,7 +9,7 @@ use Rattle.index.specs.Index.{iter}
 use Rattle.index.proofs.Index.{iter-keeps}
 use Rattle.index.proofs.Flags.{cond-case}
 use Rattle.records.specs.declared.TopicRecord.{TopicRecord}
-use Rattle.records.specs.Records.{State, place, codeIn, peerIn, topicIn, setClock, isConnected}
+use Rattle.records.specs.Records.{State, place, codeIn, peerIn, topicIn, setClock, isConnected, slotCount}
 use Rattle.validity.specs.Valid.{topicParam}
 use Rattle.score.specs.declared.TopicParams.{TopicParams}
 use Rattle.score.specs.Ranges.{TopicParamsIn, CountersWithin}
@@ -24,7 +24,7 @@ use Rattle.rules.proofs.KeepsRecord.{topic-counters, topic-counted}
 use Rattle.rules.proofs.KeepsState.{Router, RouterAt, Fits, router-end, latest, peer-of, topic-of, params-of, router-topic, router-p7, Walked, walk-none, walk-topic, either}
 
 -- the counters of a connected slot's topic record, and the parameters that they go by
-module _ (time : ℕ) (st : State) (g : RouterAt time st) (s : ℕ) (h : s < 64) (on : peerIn st s .status ≡ 1) (t : ℕ) (k : t < 8) where
+module _ (time : ℕ) (st : State) (g : RouterAt time st) (s : ℕ) (h : s < slotCount) (on : peerIn st s .status ≡ 1) (t : ℕ) (k : t < 8) where
   abbrev r : TopicRecord
   r = topicIn st (place s t)
 
@@ -81,7 +81,7 @@ module _ (time : ℕ) (st : State) (g : RouterAt time st) (s : ℕ) (h : s < 64)
       (decayed-mesh params r floor time (fits .times))
 
 -- ---- decay, one slot
-module _ (time : ℕ) (s : ℕ) (h : s < 64) where
+module _ (time : ℕ) (s : ℕ) (h : s < slotCount) where
   walked : (u : State) → RouterAt time u → peerIn u s .status ≡ 1 → Walked time u (iter 8 (decayTopic time s) u)
   unfolding decayTopic
   walked u g on =
@@ -111,5 +111,5 @@ module _ (time : ℕ) (s : ℕ) (h : s < 64) where
 pub keeps-decay : (time : ℕ) (st : State) → RouterAt time st → Router (decayReply st time .state)
 unfolding decayReply
 keeps-decay time st g =
-    router-end time (iter 64 (decaySlot time) st)
-    (iter-keeps (λ (v : State). RouterAt time v) (decaySlot time) 64 st g (λ s u h. router-slot time s h u))
+    router-end time (iter slotCount (decaySlot time) st)
+    (iter-keeps (λ (v : State). RouterAt time v) (decaySlot time) slotCount st g (λ s u h. router-slot time s h u))

@@ -51,9 +51,9 @@ unfolding viewIn
 comes-in st time t ask order ok right s m a =
     ⊎-elim
     (λ b.
-    let q = slots-in (isMember st t) 64 s (both-left (bySlot 64 (isMember st t)) (goods (viewIn st time t ask order)) s b) in
+    let q = slots-in (isMember st t) slotCount s (both-left (bySlot slotCount (isMember st t)) (goods (viewIn st time t ask order)) s b) in
     absurd (false≢true (sym m ∙ q .1)))
-    (λ c. slots-in (isCandidate st time t) 64 s c .1)
+    (λ c. slots-in (isCandidate st time t) slotCount s c .1)
     (view-kept st time t ask order ok right .pool s a)
 
 module _ (time : ℕ) (st : State) (g : RouterAt time st) (t : ℕ) (k : t < 8) (j : joinedIn st t ≡ 1) (mesh : List Bool)
@@ -77,7 +77,7 @@ module _ (time : ℕ) (st : State) (g : RouterAt time st) (t : ℕ) (k : t < 8) 
       (λ n. on-topic (λ (r : TopicRecord). r .subscribed) u s t (grownOf (topicParamsIn st t)) (place i t) refl)
       (λ n. refl)
 
-  out : (s : ℕ) (u : State) → s < 64 → isMember st t s ≡ true → Settling time st t u → Settling time st t (pruned (punished st t s u) s t end)
+  out : (s : ℕ) (u : State) → s < slotCount → isMember st t s ≡ true → Settling time st t u → Settling time st t (pruned (punished st t s u) s t end)
   unfolding withEnd
   out s u h m w =
       let on = member-on time st g t k end bound s h m in
@@ -95,7 +95,7 @@ module _ (time : ℕ) (st : State) (g : RouterAt time st) (t : ℕ) (k : t < 8) 
 
   -- into it
   into :
-      (s : ℕ) (u : State) → s < 64 → isCandidate st time t s ≡ true → Settling time st t u → Settling time st t (onTopic u s t (λ r. intoMesh r time))
+      (s : ℕ) (u : State) → s < slotCount → isCandidate st time t s ≡ true → Settling time st t u → Settling time st t (onTopic u s t (λ r. intoMesh r time))
   unfolding intoMesh
   into s u h c w =
       let on = eqb-true (peerIn st s .status) 1 (candidate-connected st time t s c) in
@@ -111,16 +111,16 @@ module _ (time : ℕ) (st : State) (g : RouterAt time st) (t : ℕ) (k : t < 8) 
         explicit = λ i. ap (λ (p : Peer). p .explicit) (peer-after-topic u (place s t) _ i) ∙ w .explicit i;
       }
 
-  turn : (s : ℕ) (u : State) → s < 64 → Settling time st t u → Settling time st t (settleSlot st time t mesh s u)
+  turn : (s : ℕ) (u : State) → s < slotCount → Settling time st t u → Settling time st t (settleSlot st time t mesh s u)
   unfolding settleSlot
   turn s u h w =
       cond-case (Settling time st t) (isMember st t s) _ _
       (λ m. cond-case (Settling time st t) (at mesh s) _ _ (λ a. w) (λ a. out s u h m w))
       (λ m. cond-case (Settling time st t) (at mesh s) _ _ (λ a. into s u h (new s m a) w) (λ a. w))
 
-  settling : Settling time st t (iter 64 (settleSlot st time t mesh) st)
+  settling : Settling time st t (iter slotCount (settleSlot st time t mesh) st)
   settling =
-      iter-keeps (Settling time st t) (settleSlot st time t mesh) 64 st
+      iter-keeps (Settling time st t) (settleSlot st time t mesh) slotCount st
       (record { walk = walk-none time st g; kept = kept-self st; subscribed = λ i. refl; explicit = λ i. refl })
       (λ s u h. turn s u h)
 
@@ -139,6 +139,6 @@ keeps-heartbeat time st ok g t ask order k =
     (λ j.
     let mesh = meshesIn st time t ask order .fifth in
     let w = settling time st g t k (eqb-true (joinedIn st t) 1 j) mesh (comes-in st time t ask order ok right) in
-    router-end time (iter 64 (settleSlot st time t mesh) st) (w .walk .at))
+    router-end time (iter slotCount (settleSlot st time t mesh) st) (w .walk .at))
     (λ j. router-end time st g))
     (λ wrong. record { size = g .size; router = ok })

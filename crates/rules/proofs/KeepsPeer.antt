@@ -14,7 +14,7 @@ use Rattle.index.proofs.Flags.{by-test, cond-case}
 use Rattle.varint.specs.Codes.{codeOf}
 use Rattle.records.specs.declared.Peer.{Peer}
 use Rattle.records.specs.declared.TopicRecord.{TopicRecord}
-use Rattle.records.specs.Records.{State, noPeer, noTopic, place, joinedIn, peerIn, topicIn, setPeer, setTopic}
+use Rattle.records.specs.Records.{State, noPeer, noTopic, place, joinedIn, peerIn, topicIn, setPeer, setTopic, slotCount}
 use Rattle.layout.proofs.StateLaws.{topic-after-peer}
 use Rattle.validity.specs.Valid.{maxId}
 use Rattle.lookup.specs.Find.{findConnected, findRetained, lowestEmpty}
@@ -37,7 +37,7 @@ pub keeps-rate :
     (time : ℕ) (st : State) →
     RouterAt time st →
     (s : ℕ) →
-    s < 64 →
+    s < slotCount →
     peerIn st s .status ≡ 1 →
     (p5 : ℤ) →
     natAbs p5 ≤ 1000000000 →
@@ -50,7 +50,7 @@ keeps-rate time st g s h on p5 b =
     h refl refl refl)
 
 -- ---- disconnect
-module _ (time : ℕ) (st : State) (g : RouterAt time st) (s : ℕ) (h : s < 64) (on : peerIn st s .status ≡ 1) where
+module _ (time : ℕ) (st : State) (g : RouterAt time st) (s : ℕ) (h : s < slotCount) (on : peerIn st s .status ≡ 1) where
   abbrev left : State
   left = iter 8 (λ t u. leftTopic u s t) st
 
@@ -87,7 +87,7 @@ module _ (time : ℕ) (st : State) (g : RouterAt time st) (s : ℕ) (h : s < 64)
       (λ e. absurd (omega arith))))
 
 -- ---- connect: reclaiming
-module _ (time : ℕ) (s : ℕ) (h : s < 64) (u : State) (g : RouterAt time u) where
+module _ (time : ℕ) (s : ℕ) (h : s < slotCount) (u : State) (g : RouterAt time u) where
   abbrev cleared : State
   cleared = iter 8 (λ t v. setTopic v (place s t) noTopic) u
 
@@ -115,7 +115,7 @@ module _ (time : ℕ) (s : ℕ) (h : s < 64) (u : State) (g : RouterAt time u) w
 router-reclaimed : (time : ℕ) (st : State) → RouterAt time st → RouterAt time (reclaimed st time)
 unfolding reclaimed
 router-reclaimed time st g =
-    iter-keeps (λ (v : State). RouterAt time v) (reclaimSlot time) 64 st g (λ s u h w. router-reclaim time s h u w)
+    iter-keeps (λ (v : State). RouterAt time v) (reclaimSlot time) slotCount st g (λ s u h w. router-reclaim time s h u w)
 
 -- ---- connect: a slot that was retained or empty, with an id that no other slot holds
 module _
@@ -130,9 +130,9 @@ module _
     module _ (u : State) (g : RouterAt time u) where
       connect-at :
           (s : ℕ) →
-          s < 64 →
+          s < slotCount →
           (peerIn u s .status ≡ 1 → ⊥) →
-          ((k : ℕ) → k < 64 → k ≢ s → peerIn u k .id ≡ id → id ≡ 0) →
+          ((k : ℕ) → k < slotCount → k ≢ s → peerIn u k .id ≡ id → id ≡ 0) →
           Router (connectAt u time id group flags version s .state)
       unfolding connectAt connectedAs
       connect-at s h off new =
@@ -156,7 +156,7 @@ module _
           connect-at s (q .0) (λ z. omega arith) (λ k l n i. sym (q .2) ∙ ids-of time u g s k (q .0) l n (i ∙ sym (q .2)))
 
       -- an empty record's id is 0
-      empty-id : (k : ℕ) → k < 64 → peerIn u k .status ≡ 0 → peerIn u k .id ≡ 0
+      empty-id : (k : ℕ) → k < slotCount → peerIn u k .status ≡ 0 → peerIn u k .id ≡ 0
       empty-id k l e =
           ap (λ (p : Peer). p .id) (zero-is (peerIn u k) (peer-of time u g k l .empty e) e (g .size .ends k))
 
@@ -165,13 +165,13 @@ module _
           (s : ℕ) →
           lowestEmpty u ≡ At s →
           findRetained u id ≡ Nothing →
-          ((k : ℕ) → k < 64 → peerIn u k .status ≡ 1 → peerIn u k .id ≡ id → ⊥) →
+          ((k : ℕ) → k < slotCount → peerIn u k .status ≡ 1 → peerIn u k .id ≡ id → ⊥) →
           Router (connectAt u time id group flags version s .state)
       connect-new s e n c =
           let q = empty-at u s e in
           connect-at s (q .0) (λ z. omega arith) (λ k l m i. absurd (held k l i))
         where
-          held : (k : ℕ) → k < 64 → peerIn u k .id ≡ id → ⊥
+          held : (k : ℕ) → k < slotCount → peerIn u k .id ≡ id → ⊥
           held k l i =
               let none : peerIn u k .status ≡ 0 → ⊥ = λ z. omega (arith, empty-id k l z) in
               let on : peerIn u k .status ≡ 1 → ⊥ = λ z. c k l z i in
@@ -182,7 +182,7 @@ module _
     module _ (st : State) (router : Router st) (g : RouterAt time st) (none : findConnected st id ≡ Nothing) where
       -- reclaiming connects nobody
       still-none :
-          (k : ℕ) → k < 64 → peerIn (reclaimed st time) k .status ≡ 1 → peerIn (reclaimed st time) k .id ≡ id → ⊥
+          (k : ℕ) → k < slotCount → peerIn (reclaimed st time) k .status ≡ 1 → peerIn (reclaimed st time) k .id ≡ id → ⊥
       still-none k l e i =
           let q = reclaimed-peer st time (g .size) k l in
           by-test ⊥ (reclaimable (peerIn st k) time)

@@ -10,7 +10,7 @@ use lib.ListN.{length}
 use Rattle.index.proofs.Flags.{cond-case}
 use Rattle.records.specs.declared.Peer.{Peer}
 use Rattle.records.specs.declared.TopicRecord.{TopicRecord}
-use Rattle.records.specs.Records.{State, place, codeIn, joinedIn, peerIn, topicIn, setClock, setJoined, setPeer, setTopic}
+use Rattle.records.specs.Records.{State, place, codeIn, joinedIn, peerIn, topicIn, setClock, setJoined, setPeer, setTopic, slotCount}
 use Rattle.layout.specs.View.{Sized}
 use Rattle.layout.proofs.StateLaws.{sized-clock, sized-joined, sized-peer, sized-topic, peer-after-topic}
 use Rattle.params.proofs.ParamLaws.{General, general}
@@ -54,16 +54,16 @@ module _ (time : ℕ) (st : State) (g : RouterAt time st) where
   unfolding setClock
   latest = g .facts .clock
 
-  pub peer-of : (s : ℕ) → s < 64 → PeerFacts (peerIn st s)
+  pub peer-of : (s : ℕ) → s < slotCount → PeerFacts (peerIn st s)
   unfolding setClock peerIn
   peer-of s h = g .facts .peer s h
 
-  pub topic-of : (s t : ℕ) → s < 64 → t < 8 → Fits time st s t (topicIn st (place s t))
+  pub topic-of : (s t : ℕ) → s < slotCount → t < 8 → Fits time st s t (topicIn st (place s t))
   unfolding setClock peerIn topicIn joinedIn codeIn topicParam
   topic-of s t h k = g .facts .topic s t h k
 
   pub ids-of :
-      (s k : ℕ) → s < 64 → k < 64 → k ≢ s → peerIn st k .id ≡ peerIn st s .id → peerIn st s .id ≡ 0
+      (s k : ℕ) → s < slotCount → k < slotCount → k ≢ s → peerIn st k .id ≡ peerIn st s .id → peerIn st s .id ≡ 0
   unfolding setClock peerIn
   ids-of s k h l n e = ids-apart (setClock st time) (g .facts) s k h l n e
 
@@ -100,7 +100,7 @@ module _ (time : ℕ) (st : State) (g : RouterAt time st) where
     -- its topic records have to fit, and no other slot may hold its id
     pub router-peer :
         ((t : ℕ) → t < 8 → FitsAs time st (p .status) (p .explicit) t (topicIn st (place s t))) →
-        ((k : ℕ) → k < 64 → k ≢ s → peerIn st k .id ≡ p .id → p .id ≡ 0) →
+        ((k : ℕ) → k < slotCount → k ≢ s → peerIn st k .id ≡ p .id → p .id ≡ 0) →
         RouterAt time (setPeer st s p)
     unfolding setClock setPeer peerIn joinedIn topicIn codeIn topicParam
     router-peer fits new =
@@ -111,7 +111,7 @@ module _ (time : ℕ) (st : State) (g : RouterAt time st) where
 
     -- the same with the id that the slot holds already
     pub router-same-id :
-        s < 64 →
+        s < slotCount →
         p .id ≡ peerIn st s .id →
         ((t : ℕ) → t < 8 → FitsAs time st (p .status) (p .explicit) t (topicIn st (place s t))) →
         RouterAt time (setPeer st s p)
@@ -119,7 +119,7 @@ module _ (time : ℕ) (st : State) (g : RouterAt time st) where
 
     -- and with its status and explicit flag too
     pub router-numbers :
-        s < 64 →
+        s < slotCount →
         p .id ≡ peerIn st s .id →
         p .status ≡ peerIn st s .status →
         p .explicit ≡ peerIn st s .explicit →
@@ -129,7 +129,7 @@ module _ (time : ℕ) (st : State) (g : RouterAt time st) where
   pub router-joined :
       (t b : ℕ) →
       b ≤ 1 →
-      ((s : ℕ) → s < 64 → topicIn st (place s t) .member ≡ 1 → b ≡ 1) →
+      ((s : ℕ) → s < slotCount → topicIn st (place s t) .member ≡ 1 → b ≡ 1) →
       RouterAt time (setJoined st t b)
   unfolding setClock setJoined peerIn topicIn codeIn topicParam
   router-joined t b small stays =
@@ -139,7 +139,7 @@ module _ (time : ℕ) (st : State) (g : RouterAt time st) where
       }
 
   -- ---- a connected slot
-  module _ (s : ℕ) (h : s < 64) (on : peerIn st s .status ≡ 1) where
+  module _ (s : ℕ) (h : s < slotCount) (on : peerIn st s .status ≡ 1) where
     -- a backoff's end
     pub router-backoff : (t end : ℕ) → t < 8 → end ≤ maxEnd → RouterAt time (onPeer st s (λ p. withEnd p t end))
     unfolding withEnd
@@ -185,7 +185,7 @@ pub router-pruned :
     (time : ℕ) (st : State) →
     RouterAt time st →
     (s t end : ℕ) →
-    s < 64 →
+    s < slotCount →
     t < 8 →
     peerIn st s .status ≡ 1 →
     end ≤ maxEnd →
@@ -210,6 +210,6 @@ either b o q = cond-case (λ (x : Reply). Router (x .state)) b o q
 pub of-peer :
     (st : State) (id : ℕ) (f : ℕ → Reply) →
     Router st →
-    ((s : ℕ) → s < 64 → peerIn st s .status ≡ 1 → Router (f s .state)) →
+    ((s : ℕ) → s < slotCount → peerIn st s .status ≡ 1 → Router (f s .state)) →
     Router (ofPeer st id f .state)
 of-peer st id f v h = by-peer (λ (r : Reply). Router (r .state)) st id f v h

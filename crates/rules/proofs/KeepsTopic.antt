@@ -12,7 +12,7 @@ use Rattle.index.specs.Index.{iter}
 use Rattle.index.proofs.Index.{both, iter-keeps}
 use Rattle.index.proofs.Flags.{by-test, cond-case}
 use Rattle.records.specs.declared.Peer.{Peer}
-use Rattle.records.specs.Records.{State, place, joinedIn, peerIn, topicIn, setJoined}
+use Rattle.records.specs.Records.{State, place, joinedIn, peerIn, topicIn, setJoined, slotCount}
 use Rattle.validity.specs.Valid.{maxEnd}
 use Rattle.score.specs.Counters.{countMost, raisedOf, grownOf}
 use Rattle.score.specs.Score.{topicParamsIn}
@@ -38,7 +38,7 @@ module _ (time : ℕ) (st : State) (g : RouterAt time st) (t : ℕ) (k : t < 8) 
       (λ e. router-end time st g)
       (λ e. router-end time (setJoined st t 1) (router-joined time st g t 1 (omega arith) (λ s h m. refl)))
 
-  module _ (s : ℕ) (h : s < 64) (on : peerIn st s .status ≡ 1) where
+  module _ (s : ℕ) (h : s < slotCount) (on : peerIn st s .status ≡ 1) where
     fits : Fits time st s t (topicIn st (place s t))
     fits = topic-of time st g s t h k
 
@@ -91,7 +91,7 @@ module _ (time : ℕ) (st : State) (g : RouterAt time st) (t : ℕ) (k : t < 8) 
         (topic-in _ _ _ _ _ _ (topicIn st (place s t)) fits on (latest time st g) (eqb-true (topicIn st (place s t) .subscribed) 1 b) x j)))
         (λ e. keeps-refused)
 
-module _ (time : ℕ) (st : State) (g : RouterAt time st) (t : ℕ) (k : t < 8) (s : ℕ) (h : s < 64) (on : peerIn st s .status ≡ 1) where
+module _ (time : ℕ) (st : State) (g : RouterAt time st) (t : ℕ) (k : t < 8) (s : ℕ) (h : s < slotCount) (on : peerIn st s .status ≡ 1) where
   keeps-backoff : peerIn st s .explicit ≡ 0 → joinedIn st t ≡ 1 → Router (graftBackoff st time t s .state)
   unfolding graftBackoff withP7
   keeps-backoff x j =
@@ -124,12 +124,12 @@ module _ (time : ℕ) (st : State) (g : RouterAt time st) (t : ℕ) (k : t < 8) 
 
 -- ---- leave: every member by slot
 module _ (time : ℕ) (st : State) (g : RouterAt time st) (t : ℕ) (k : t < 8) (end : ℕ) (b : end ≤ maxEnd) where
-  pub member-on : (s : ℕ) → s < 64 → isMember st t s ≡ true → peerIn st s .status ≡ 1
+  pub member-on : (s : ℕ) → s < slotCount → isMember st t s ≡ true → peerIn st s .status ≡ 1
   unfolding isMember
   member-on s h m = topic-of time st g s t h k .inside (eqb-true (topicIn st (place s t) .member) 1 m) .0
 
   pub walk-punished :
-      (s : ℕ) (u : State) → s < 64 → peerIn st s .status ≡ 1 → Walked time st u → Walked time st (punished st t s u)
+      (s : ℕ) (u : State) → s < slotCount → peerIn st s .status ≡ 1 → Walked time st u → Walked time st (punished st t s u)
   unfolding punished grownOf
   walk-punished s u h on w =
       cond-case (λ (v : State). Walked time st v) (isNegative st s) (onTopic u s t (grownOf (topicParamsIn st t))) u
@@ -141,7 +141,7 @@ module _ (time : ℕ) (st : State) (g : RouterAt time st) (t : ℕ) (k : t < 8) 
       (λ e. w)
 
   pub walk-pruned :
-      (s : ℕ) (u : State) → s < 64 → peerIn st s .status ≡ 1 → Walked time st u → Walked time st (pruned u s t end)
+      (s : ℕ) (u : State) → s < slotCount → peerIn st s .status ≡ 1 → Walked time st u → Walked time st (pruned u s t end)
   unfolding withEnd
   walk-pruned s u h on w =
       record {
@@ -149,14 +149,14 @@ module _ (time : ℕ) (st : State) (g : RouterAt time st) (t : ℕ) (k : t < 8) 
         status = λ i. pruned-reads u s t end (λ (p : Peer). p .status) i (λ p. refl) ∙ w .status i;
       }
 
-  walk-slot : (s : ℕ) (u : State) → s < 64 → Walked time st u → Walked time st (leaveSlot st t end s u)
+  walk-slot : (s : ℕ) (u : State) → s < slotCount → Walked time st u → Walked time st (leaveSlot st t end s u)
   unfolding leaveSlot
   walk-slot s u h w =
       cond-case (λ (v : State). Walked time st v) (isMember st t s) (pruned (punished st t s u) s t end) u
       (λ m. let on = member-on s h m in walk-pruned s (punished st t s u) h on (walk-punished s u h on w))
       (λ m. w)
 
-  walked : (n : ℕ) → n ≤ 64 → Walked time st (iter n (leaveSlot st t end) st)
+  walked : (n : ℕ) → n ≤ slotCount → Walked time st (iter n (leaveSlot st t end) st)
   walked n l =
       iter-keeps (λ (v : State). Walked time st v) (leaveSlot st t end) n st (walk-none time st g)
       (λ s u h. walk-slot s u (omega arith))
@@ -172,11 +172,11 @@ module _ (time : ℕ) (st : State) (g : RouterAt time st) (t : ℕ) (k : t < 8) 
       ∙ punished-apart st t i u s t apart)
       (λ m. refl)
 
-  none-left : (s : ℕ) → s < 64 → isMember (iter 64 (leaveSlot st t end) st) t s ≡ false
+  none-left : (s : ℕ) → s < slotCount → isMember (iter slotCount (leaveSlot st t end) st) t s ≡ false
   unfolding leaveSlot
   none-left s h =
       let w = iter s (leaveSlot st t end) st in
-      iter-once (λ (v : State). isMember v t s) (leaveSlot st t end) s (leave-other s) 64 st h
+      iter-once (λ (v : State). isMember v t s) (leaveSlot st t end) s (leave-other s) slotCount st h
       ∙ by-test (isMember (leaveSlot st t end s w) t s ≡ false) (isMember st t s)
       (λ m.
       rw m
@@ -188,10 +188,10 @@ unfolding leaveReply isMember
 keeps-leave time st g t k =
     let end = endAfter time (unsubscribeBackoff st) in
     let b : end ≤ maxEnd = end-most time st g (unsubscribeBackoff st) (leave-most time st g) in
-    let w = iter 64 (leaveSlot st t end) st in
+    let w = iter slotCount (leaveSlot st t end) st in
     either (isJoined st t) _ (ignored st time)
     (λ e.
     router-end time (setJoined w t 0)
-    (router-joined time w (walked time st g t k end b 64 (omega arith) .at) t 0 (omega arith) (λ s h m.
+    (router-joined time w (walked time st g t k end b slotCount (omega arith) .at) t 0 (omega arith) (λ s h m.
     absurd (eqb-false (topicIn w (place s t) .member) 1 (none-left time st g t k end b s h) m))))
     (λ e. router-end time st g)

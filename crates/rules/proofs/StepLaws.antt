@@ -7,7 +7,7 @@ use mathlib.Core.List.{List}
 use Rattle.index.specs.declared.Found.{Found}
 use Rattle.index.specs.declared.Found.the-variants.{At, Nothing}
 use Rattle.index.proofs.Index.{first-is}
-use Rattle.records.specs.Records.{State}
+use Rattle.records.specs.Records.{State, slotCount}
 use Rattle.layout.specs.View.{stateOf}
 use Rattle.lookup.specs.Find.{holds, findConnected}
 use Rattle.rules.specs.declared.Answer.{Answer}
@@ -18,9 +18,9 @@ use Rattle.rules.specs.Promise.{Leaves, Gives}
 use Rattle.rules.proofs.PromiseLaws.{leaves-refused, gives-refused}
 
 -- a found slot is one of the table's
-pub found-below : (st : State) (id s : ℕ) (r : Found) → r ≡ findConnected st id → r ≡ At s → s < 64
+pub found-below : (st : State) (id s : ℕ) (r : Found) → r ≡ findConnected st id → r ≡ At s → s < slotCount
 unfolding findConnected
-found-below st id s r e g = first-is (holds st 1 id) 64 s (sym e ∙ g) .0
+found-below st id s r e g = first-is (holds st 1 id) slotCount s (sym e ∙ g) .0
 
 -- 3, or the slot's own reply
 module _ (table : List ℕ) (id : ℕ) (f : ℕ → Reply) (r : Found) (e : r ≡ findConnected (stateOf table) id) where

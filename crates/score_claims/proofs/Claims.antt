@@ -9,7 +9,7 @@ use lib.IntN.{ℤ, pos}
 use lib.Signed.{leZ}
 use borrow.Author.Tests.{eq-eqb, ne-eqb}
 use Rattle.index.proofs.Flags.{by-test}
-use Rattle.records.specs.Records.{State}
+use Rattle.records.specs.Records.{State, slotCount}
 use Rattle.validity.specs.Valid.{valid}
 use Rattle.score.specs.Formula.{bounded, whyOf}
 use Rattle.score.specs.Sums.{toldOf}
@@ -19,7 +19,7 @@ use Rattle.score.proofs.InputLaws.{slot-in}
 use Rattle.score.proofs.ScoreLaws.{parts-are, told-is, why-sum, router-score-most, why-depends, score-depends}
 use Rattle.score_claims.specs.Claims.{PartsWithin, CapsFromAbove, ScoreClaims}
 
-parts-within : (st : State) (s : ℕ) → valid st ≡ true → s < 64 → PartsWithin (whyIn st s)
+parts-within : (st : State) (s : ℕ) → valid st ≡ true → s < slotCount → PartsWithin (whyIn st s)
 unfolding toldOf
 parts-within st s ok h =
     let i = slot-in st ok s h in

@@ -1,4 +1,5 @@
 // Join, subscribe and unsubscribe: three of 01's calls.
+ghost use Rattle.records.specs.Records.{slotCount};
 ghost use mathlib.Core.Path.{_≡_};
 ghost use Prim.Native.Nat.{_<_};
 ghost use lib.ListN.{length};
@@ -9,7 +10,6 @@ ghost use Rattle.rules.specs.Step.{joinReply, ofPeer};
 ghost use Rattle.rules.specs.Promise.{Leaves, Follows};
 ghost use Rattle.gate.specs.Ready.{Ready};
 ghost use Rattle.topics.specs.Change.{change as Calls·change, changed, changeReply};
-use layout::CELLS;
 use effects::slots::is_joined;
 use effects::slots::subscribe_slot;
 use effects::slots::unsubscribe_slot;
@@ -21,6 +21,7 @@ use gate::is_graylisted;
 use gate::time_ok;
 use gate::topic_ok;
 use index::Found;
+use layout::CELLS;
 use rules::Answer;
 use rules::Gate;
 
@@ -48,7 +49,7 @@ pub fn join(table: &mut [u64; CELLS], time: u64, topic: u64, actions: &mut [u32]
 
 // `on` is a subscription; else the peer leaves the mesh too.
 fn change_slot(table: &mut [u64], topic: usize, slot: usize, on: bool)
-    requires { ⌜ (length (now table) ≡ cellCount) × ((topic < 8) × (slot < 64)) ⌝ }
+    requires { ⌜ (length (now table) ≡ cellCount) × ((topic < 8) × (slot < slotCount)) ⌝ }
     ensures { λ r. ⌜ stateOf (now (table .exit)) ≡ onTopic (stateOf (now (table .entry))) slot topic (changed on) ⌝ }
 {
     if on {

@@ -10,13 +10,13 @@ ghost use Rattle.trace_events.specs.Reading.{arity as arityOf, callOf, cutShort
 ghost use Rattle.trace_step.specs.declared.Performed.the-variants.{Malformed, CutShort};
 ghost use Rattle.trace_step.specs.Replay.{performEvent, Performs, Replays, replayOf};
 use layout::CELLS;
+use rules::Answer;
 use trace_events::lines::put_pair;
 use trace_events::lines::put_reply;
 use trace_events::reading::arity;
 use trace_events::reading::cut_short;
 use trace_events::reading::read_numbers;
 use varint::Read;
-use rules::Answer;
 
 // How many bytes one event may print.
 const LINE_ROOM: usize = 4096;

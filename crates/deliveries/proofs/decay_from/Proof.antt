@@ -1,5 +1,6 @@
 -- `deliveries::decay_from`: after `slot` turns the slots below it are decayed.
 -- Assumes nothing.
+use Rattle.records.specs.Records.{slotCount}
 use Rattle.index.proofs.Kit.{_≤_, _-_, _≡_, sym, _∙_, arith, iter}
 use Rattle.index.proofs.Index.{iter-none, iter-more, iter-done}
 use lib.ListN.{length}
@@ -11,10 +12,10 @@ use Rattle.deliveries.proofs.decay_from.Tie as tie
 
 abbrev Inv-loop : tie.InvT-loop
 Inv-loop table₀ time slot₀ table slot =
-    (slot ≤ 64) × (length table ≡ cellCount) × (stateOf table ≡ iter slot (decaySlot time) (stateOf table₀))
+    (slot ≤ slotCount) × (length table ≡ cellCount) × (stateOf table ≡ iter slot (decaySlot time) (stateOf table₀))
 
 abbrev μ-loop : tie.MeasureT-loop
-μ-loop table₀ time slot₀ table slot = 64 - slot
+μ-loop table₀ time slot₀ table slot = slotCount - slot
 
 decay-slot-requires : tie.Need-decay-slot-requires Inv-loop μ-loop
 decay-slot-requires c κs =
@@ -34,7 +35,7 @@ returns c =
     let a = c .before .before .before .before .before .before .before .args in
     let l = c .before .before .before .before .before .loop in
     decay-done _ _ _ _ _
-    (iter-done (decaySlot (a .time)) (stateOf (a .table .now)) 64 (l .slot) (stateOf (l .table)) (omega arith) (omega arith) (l .inv .2))
+    (iter-done (decaySlot (a .time)) (stateOf (a .table .now)) slotCount (l .slot) (stateOf (l .table)) (omega arith) (omega arith) (l .inv .2))
     (c .before .before .finish .ensures)
 
 pub decay-from-spec : {M : Type 1} → statement M

@@ -1,4 +1,5 @@
 -- `leaving::leave_slots`: before each turn the walk stands where the rules' walk does (`Walking`).
+use Rattle.records.specs.Records.{slotCount}
 use Rattle.index.proofs.Kit.{_≤_, _-_, refl, sym, _∙_, arith}
 use Rattle.layout.specs.View.{stateOf}
 use Rattle.leaving.proofs.LeaveLaws.{Walking, walking-length, walking-none, walking-ready, walking-more, walking-done}
@@ -7,10 +8,10 @@ use Rattle.leaving.proofs.leave_slots.Tie as tie
 
 abbrev Inv-loop : tie.InvT-loop
 Inv-loop table₀ actions₀ topic end seconds negative at₀ slot₀ table actions at slot =
-    (slot ≤ 64) × Walking (stateOf table₀) actions₀ topic end slot table actions at
+    (slot ≤ slotCount) × Walking (stateOf table₀) actions₀ topic end slot table actions at
 
 abbrev μ-loop : tie.MeasureT-loop
-μ-loop table₀ actions₀ topic end seconds negative at₀ slot₀ table actions at slot = 64 - slot
+μ-loop table₀ actions₀ topic end seconds negative at₀ slot₀ table actions at slot = slotCount - slot
 
 leave-slot-requires : tie.Need-leave-slot-requires Inv-loop μ-loop
 leave-slot-requires c κs =

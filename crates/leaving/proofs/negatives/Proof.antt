@@ -1,4 +1,5 @@
 -- `leaving::negatives`: the loop builds the flags from the front.
+use Rattle.records.specs.Records.{slotCount}
 use Rattle.index.proofs.Kit.{_-_, refl, arith, false}
 use mathlib.Core.Bool.{_&&_}
 use Rattle.index.proofs.Lists.{Built, built-none, built-more}
@@ -10,10 +11,10 @@ use Rattle.leaving.proofs.negatives.Tie as tie
 
 abbrev Inv-loop : tie.InvT-loop
 Inv-loop table topic flags₀ slot₀ flags slot =
-    Built false (λ s. isMember (stateOf table) topic s && isNegative (stateOf table) s) 64 slot flags
+    Built false (λ s. isMember (stateOf table) topic s && isNegative (stateOf table) s) slotCount slot flags
 
 abbrev μ-loop : tie.MeasureT-loop
-μ-loop table topic flags₀ slot₀ flags slot = 64 - slot
+μ-loop table topic flags₀ slot₀ flags slot = slotCount - slot
 
 pub negatives-spec : {M : Type 1} → statement M
 negatives-spec =

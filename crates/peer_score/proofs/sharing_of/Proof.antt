@@ -1,4 +1,5 @@
 -- `peer_score::sharing_of` meets its contract. The invariant: n counts the slots passed. Assumes nothing.
+use Rattle.records.specs.Records.{slotCount}
 use Prim.Native.Nat.{_≤_, _-_}
 use mathlib.Core.Path.{_≡_}
 use native.Mathlib.Omega.{arith}
@@ -11,10 +12,10 @@ use Rattle.peer_score.proofs.sharing_of.Statement.{statement}
 use Rattle.peer_score.proofs.sharing_of.Tie as tie
 
 abbrev Inv-loop : tie.InvT-loop
-Inv-loop table group n₀ slot₀ n slot = (slot ≤ 64) × ((n ≤ slot) × (n ≡ count slot (sharesGroup (stateOf table) group)))
+Inv-loop table group n₀ slot₀ n slot = (slot ≤ slotCount) × ((n ≤ slot) × (n ≡ count slot (sharesGroup (stateOf table) group)))
 
 abbrev μ-loop : tie.MeasureT-loop
-μ-loop table group n₀ slot₀ n slot = 64 - slot
+μ-loop table group n₀ slot₀ n slot = slotCount - slot
 
 pub sharing-of-spec : {M : Type 1} → statement M
 sharing-of-spec =

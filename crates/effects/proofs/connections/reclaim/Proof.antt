@@ -1,4 +1,5 @@
 -- `effects::connections::reclaim`: after `slot` turns the slots below it are reclaimed.
+use Rattle.records.specs.Records.{slotCount}
 use Rattle.index.proofs.Kit.{_≤_, _-_, _≡_, sym, _∙_, arith, needs, iter}
 use Rattle.index.proofs.Index.{iter-none, iter-more, iter-done}
 use lib.ListN.{length}
@@ -8,10 +9,10 @@ use Rattle.effects.proofs.connections.reclaim.Statement.{statement}
 use Rattle.effects.proofs.connections.reclaim.Tie as tie
 
 abbrev Inv-loop : tie.InvT-loop
-Inv-loop table₀ time slot₀ table slot = (slot ≤ 64) × (length table ≡ cellCount) × (stateOf table ≡ iter slot (reclaimSlot time) (stateOf table₀))
+Inv-loop table₀ time slot₀ table slot = (slot ≤ slotCount) × (length table ≡ cellCount) × (stateOf table ≡ iter slot (reclaimSlot time) (stateOf table₀))
 
 abbrev μ-loop : tie.MeasureT-loop
-μ-loop table₀ time slot₀ table slot = 64 - slot
+μ-loop table₀ time slot₀ table slot = slotCount - slot
 
 loop-again : tie.Need-loop-again Inv-loop μ-loop
 loop-again c =
@@ -25,7 +26,7 @@ unfolding reclaimed
 returns c =
     let a = c .before .before .before .args in
     let l = c .before .loop in
-    iter-done (reclaimSlot (a .time)) (stateOf (a .table .now)) 64 (l .slot) _ (omega arith) (omega arith) (l .inv .2)
+    iter-done (reclaimSlot (a .time)) (stateOf (a .table .now)) slotCount (l .slot) _ (omega arith) (omega arith) (l .inv .2)
 
 pub reclaim-spec : {M : Type 1} → statement M
 reclaim-spec =

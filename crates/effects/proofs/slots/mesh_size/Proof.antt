@@ -1,4 +1,5 @@
 -- `effects::slots::mesh_size`: after `slot` turns n is the count below `slot`.
+use Rattle.records.specs.Records.{slotCount}
 use Rattle.index.proofs.Kit.{ℕ, _≤_, _-_, _≡_, sym, ap, _∙_, arith, needs, count, one}
 use Rattle.index.proofs.Index.{count-none, count-more, count-done}
 use Prim.Native.Nat.{_+_}
@@ -8,10 +9,10 @@ use Rattle.effects.proofs.slots.mesh_size.Statement.{statement}
 use Rattle.effects.proofs.slots.mesh_size.Tie as tie
 
 abbrev Inv-loop : tie.InvT-loop
-Inv-loop table topic n₀ slot₀ n slot = (slot ≤ 64) × (n ≡ count slot (isMember (stateOf table) topic)) × (n ≤ slot)
+Inv-loop table topic n₀ slot₀ n slot = (slot ≤ slotCount) × (n ≡ count slot (isMember (stateOf table) topic)) × (n ≤ slot)
 
 abbrev μ-loop : tie.MeasureT-loop
-μ-loop table topic n₀ slot₀ n slot = 64 - slot
+μ-loop table topic n₀ slot₀ n slot = slotCount - slot
 
 loop-again : tie.Need-loop-again Inv-loop μ-loop
 loop-again c =
@@ -27,7 +28,7 @@ unfolding meshSize
 returns c =
     let l = c .before .loop in
     let f = isMember (stateOf (c .before .before .before .args .table .now)) (c .before .before .before .args .topic) in
-    (l .inv .1 ∙ count-done f 64 (l .slot) (omega arith) (omega arith), omega arith)
+    (l .inv .1 ∙ count-done f slotCount (l .slot) (omega arith) (omega arith), omega arith)
 
 pub mesh-size-spec : {M : Type 1} → statement M
 mesh-size-spec =

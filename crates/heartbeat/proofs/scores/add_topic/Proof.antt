@@ -50,7 +50,7 @@ add-topic-spec =
     Inv-loop
     μ-loop
     (λ c κs. let p = c .before .pre in (p .0 .size, p .1 .0))
-    (λ c. built-none _ _ _ _ (ap length (c .before .before .pre .1 .1) ∙ slots-length 64 _))
+    (λ c. built-none _ _ _ _ (ap length (c .before .before .pre .1 .1) ∙ slots-length slotCount _))
     (λ c. omega arith)
     (λ c. omega arith)
     (λ c. omega arith)

@@ -1,4 +1,5 @@
 -- `heartbeat::settle::settle`: before each turn the walk stands where the rules' walk does (`Settling`).
+use Rattle.records.specs.Records.{slotCount}
 use Rattle.index.proofs.Kit.{_-_, refl, sym, _∙_, arith}
 use Rattle.layout.specs.View.{stateOf}
 use Rattle.heartbeat.proofs.SettleLaws.{Settling, settling-none, settling-ready, settling-more, settling-done}
@@ -9,7 +10,7 @@ abbrev Inv-loop : tie.InvT-loop
 Inv-loop table₀ topic time end members mesh scores slot₀ table slot = Settling (stateOf table₀) time topic mesh slot table
 
 abbrev μ-loop : tie.MeasureT-loop
-μ-loop table₀ topic time end members mesh scores slot₀ table slot = 64 - slot
+μ-loop table₀ topic time end members mesh scores slot₀ table slot = slotCount - slot
 
 settle-slot-requires : tie.Need-settle-slot-requires Inv-loop μ-loop
 settle-slot-requires c κs =
