@@ -220,7 +220,7 @@ fn in_limits(index: usize, random: &mut Random) -> i64 {
 }
 
 /// Every number within its limits; the joint rules are left to chance.
-fn any_in_limits(random: &mut Random) -> Params {
+pub fn any_in_limits(random: &mut Random) -> Params {
     let edition = edition(random);
     Params { edition, numbers: std::array::from_fn(|index| in_limits(index, random)) }
 }
