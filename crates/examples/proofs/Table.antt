@@ -30,8 +30,11 @@ use Rattle.sets.specs.Sets.{
   goer,
 }
 use Rattle.mesh.specs.Maintenance.{mesh1, mesh2, theBest, keepers, swapped, mesh3, mesh4, mesh5, meshes, changesOf, actionsOn, actionsOf}
-use Rattle.rules.specs.Step.{isNegative, isGraylisted, isHeard, secondsOf, pruneReply, graftRefused, meshFull, graftEnters, graftOpen, graftBackoff, graftHeard, graftReply, isCandidate, heightIn, degreesIn, viewIn, meshesIn, punished, settleSlot, heartbeatActions, maintainedReply, heartbeatReply, effect}
-use Rattle.examples.specs.Table.{lonely, short, shortSum, peer, inTopic, peers, topics, crowd, prunedFor60, grafted, maintained, Examples}
+use Rattle.rules.specs.Step.{isNegative, isGraylisted, isHeard, secondsOf, pruneReply, graftRefused, meshFull, graftEnters, graftOpen}
+use Rattle.rules.specs.Step.{graftBackoff, graftHeard, graftReply, isCandidate, heightIn, degreesIn, viewIn, meshesIn, punished, settleSlot}
+use Rattle.rules.specs.Step.{heartbeatActions, maintainedReply, heartbeatReply, effect}
+use Rattle.examples.specs.Table.{lonely, short, shortSum, peer, inTopic, peers, topics, crowd, prunedFor60, grafted, maintained}
+use Rattle.examples.specs.Table.{Examples}
 use Rattle.examples.specs.Slack.{graftedAt}
 use Rattle.examples.specs.Better.{rated, stays}
 use Rattle.examples.specs.Worked.{Worked}

@@ -3,7 +3,7 @@
 // front to back. A byte past the end of the buffer is not stored, so that no function here asks for room: `write` has made sure of it.
 ghost use mathlib.Core.Path.{_≡_};
 ghost use mathlib.Core.Bool.{true};
-ghost use Prim.Native.Nat.{_+_, _*_, _≤_, _<_};
+ghost use Prim.Native.Nat.{_+_, _≤_, _<_};
 ghost use lib.ListN.{length, set};
 ghost use Rattle.varint.specs.Groups.{encode};
 ghost use Rattle.rpc_write.specs.Writing.{Stored, Fitting, partSize, nameSize, nameOf, valueField, partField, headBytes};

@@ -82,18 +82,6 @@ module _ (st : State) (ok : valid st ≡ true) where
         w7 = p .w7-most;
       }
 
-  -- the graylist threshold, P7's factor and decay-to-zero
-  pub graylist-in : (sizeIn st 9 ≤ 1000000000) × (negℤ (pos (sizeIn st 9)) ≡ paramIn st 9)
-  unfolding codeIn limitAt limits
-  graylist-in = (
-    general (st .codes) (facts .params) .graylist-most,
-    loss-of (st .codes) (within (st .codes) (facts .params)) 9 (lit< tt) 9 refl tt,
-  )
-
-  pub decay-in : (sizeIn st 17 ≤ 999) × (sizeIn st 18 ≤ 1000)
-  unfolding codeIn
-  decay-in = let p = general (st .codes) (facts .params) in (p .p7Decay-most, p .decayToZero-most)
-
   topic-signs : (t : ℕ) → t < 8 → TopicSigns st t
   unfolding codeIn limitAt limits
   topic-signs t l =

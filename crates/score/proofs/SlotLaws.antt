@@ -7,7 +7,7 @@ use lib.Dec.{eqb}
 use Rattle.index.specs.Index.{one, count}
 use Rattle.index.proofs.Index.{count-none, count-more, count-done}
 use Rattle.records.specs.declared.TopicRecord.{TopicRecord}
-use Rattle.records.specs.Records.{State, place, peerIn, topicIn, isConnected}
+use Rattle.records.specs.Records.{State, place, peerIn, topicIn}
 use Rattle.score.specs.declared.TopicParams.{TopicParams}
 use Rattle.score.specs.declared.Balance.{Balance}
 use Rattle.score.specs.Ranges.{TopicParamsIn, CountersIn}

@@ -1,6 +1,6 @@
 // Balances: sums, the topic cap, the parts of P5, P6 and P7, the whole score, and how a score is compared and returned.
 ghost use mathlib.Core.Path.{_≡_};
-ghost use Prim.Native.Nat.{_+_, _*_, _≤_};
+ghost use Prim.Native.Nat.{_*_, _≤_};
 ghost use lib.IntN.{subℕ};
 ghost use Rattle.varint.specs.Codes.{codeOf};
 ghost use Rattle.score.specs.Ranges.{ScoreParamsIn, TopicsIn, PartsIn, BalanceIn};

@@ -15,8 +15,10 @@ use Rattle.index.proofs.Index.{both as halves}
 use Rattle.index.proofs.Flags.{by-test, cond-case}
 use Rattle.sets.specs.Sets.{at, Sub, size, both, except, isPermutation, firstOf, lastOf, bottom, goer, comers, swapOnce, swapTo}
 use Rattle.sets.proofs.WalkLaws.{at-below, except-length, both-length}
-use Rattle.sets.proofs.CountLaws.{In, size-mono, size-set-le, size-unset-ge, both-set, down-except, flat-except, at-set-same, set-only, set-keeps, set-drops}
-use Rattle.sets.proofs.SetLaws.{both-left, both-right, both-in, size-split, except-left, except-in, except-out, some, size-unset, grow-outs, grow-size}
+use Rattle.sets.proofs.CountLaws.{In, size-mono, size-set-le, size-unset-ge, both-set, down-except, flat-except, at-set-same}
+use Rattle.sets.proofs.CountLaws.{set-only, set-keeps, set-drops}
+use Rattle.sets.proofs.SetLaws.{both-left, both-right, both-in, size-split, except-left, except-in, except-out, some, size-unset}
+use Rattle.sets.proofs.SetLaws.{grow-outs, grow-size}
 use Rattle.sets.proofs.PermutationLaws.{permutation-mem}
 use Rattle.sets.proofs.PickLaws.{last-hit, bottom-hit, bottom-near}
 

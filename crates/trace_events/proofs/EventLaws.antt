@@ -10,7 +10,8 @@ use Rattle.index.proofs.Flags.{cond-case}
 use Rattle.varint.specs.Groups.{Got, got, none, before, decode, upTo, asRead, readAt}
 use Rattle.varint.specs.declared.Read.{Read}
 use Rattle.varint.specs.declared.Read.the-variants.{Number, Bad}
-use Rattle.trace_events.specs.Reading.{Numbers, numbers, broken, more, numberThen, numbersFrom, cutShort, arity, callOf, Event, event, unknown, malformed, short, unread, named, ofNumbers, ofKind, eventAt}
+use Rattle.trace_events.specs.Reading.{Numbers, numbers, broken, more, numberThen, numbersFrom, cutShort, arity, callOf, Event, event}
+use Rattle.trace_events.specs.Reading.{unknown, malformed, short, unread, named, ofNumbers, ofKind, eventAt}
 
 -- ---- a number
 abbrev Takes : Got → Type 0

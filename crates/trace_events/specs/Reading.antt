@@ -10,7 +10,8 @@ use Rattle.varint.specs.Codes.{numberOf}
 use Rattle.varint.specs.declared.Read.{Read}
 use Rattle.varint.specs.declared.Read.the-variants.{Number, Bad}
 use Rattle.trace_events.specs.declared.Readings.{Readings}
-use Rattle.rules.specs.Calls.{Call, connect, disconnect, join, leave, subscribe, unsubscribe, graft, prune, deliver, rate, heartbeat, decay, score}
+use Rattle.rules.specs.Calls.{Call, connect, disconnect, join, leave, subscribe, unsubscribe, graft, prune, deliver, rate, heartbeat, decay}
+use Rattle.rules.specs.Calls.{score}
 
 -- ---- numbers one after the other
 -- the numbers and the place after them, or the place of the first that cannot be read

@@ -7,13 +7,13 @@ use score::Why;
 use text::put_byte;
 use text::put_decimal;
 use text::put_signed;
-ghost use mathlib.Core.Path.{_≡_};
 ghost use mathlib.Core.List.{[], _∷_};
 ghost use Prim.Native.Nat.{_+_, _*_, _≤_};
 ghost use lib.ListN.{length};
 ghost use Rattle.text.specs.Text.{Stored};
 ghost use Rattle.rules.specs.Reply.{actionsOf};
-ghost use Rattle.trace_events.specs.Lines.{space, pairLine, actionLine, actionsText, partText, threeText, whyLine, scoreLine, replyText};
+ghost use Rattle.trace_events.specs.Lines.{space, pairLine, actionLine, actionsText, partText, threeText, whyLine, scoreLine};
+ghost use Rattle.trace_events.specs.Lines.{replyText};
 
 // Two numbers on a line; the place after it.
 pub fn put_pair(out: &mut [u8], at: usize, a: u64, b: u64) -> usize

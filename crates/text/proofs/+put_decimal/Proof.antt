@@ -1,6 +1,5 @@
 -- `text::put_decimal` meets its contract. The measure is the number. Assumes nothing.
 use Prim.Native.Nat.{ℕ, _<_}
-use mathlib.Core.Path.{_∙_}
 use lib.ListN.{length-set}
 use native.Mathlib.Omega.{arith}
 use borrow.Fn.Kinds.{In}
