@@ -40,8 +40,10 @@ use Rattle.examples.specs.Better.{rated, stays}
 use Rattle.examples.specs.Worked.{Worked}
 
 pub worked : Worked
-unfolding graftedAt rated stays withP5 withP7 retainedTo reclaimable fadedOf topicSum part1Of part3Of lonely short shortSum peer inTopic peers topics crowd prunedFor60 grafted maintained
-    pruneReply secondsOf pruned withEnd outOfMesh intoMesh isHeard isGraylisted isNegative scoreIn topicScore topicParamsIn sharesGroup sharing
+unfolding graftedAt rated stays withP5 withP7 retainedTo reclaimable fadedOf topicSum part1Of part3Of lonely short shortSum peer inTopic
+    peers topics crowd prunedFor60 grafted maintained
+    pruneReply secondsOf pruned withEnd outOfMesh intoMesh isHeard isGraylisted isNegative scoreIn topicScore topicParamsIn sharesGroup
+    sharing
     allTopics bounded whyOf whyIn graftRefused graftEnters graftOpen graftBackoff graftHeard graftReply meshFull meshSize isMember
     holds findConnected count every first iter gather codeIn joinedIn peerIn topicIn setPeer setTopic setClock
     isCandidate heightIn degreesIn viewIn meshesIn punished settleSlot heartbeatActions maintainedReply heartbeatReply effect

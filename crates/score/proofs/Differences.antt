@@ -1,5 +1,5 @@
--- Integers as differences of naturals: `subℕ a b` of lib.IntN is a - b. Sums, multiples, order and offset of differences are sums, multiples
--- and order of naturals, which omega reads.
+-- Integers as differences of naturals: `subℕ a b` of lib.IntN is a - b. Sums, multiples, order and offset of differences are sums,
+-- multiples and order of naturals, which omega reads.
 -- Assumes nothing.
 use Prim.Native.Nat.{ℕ, zero, suc, _+_, _-_, _*_, _<_, _≤_, zero-le}
 use mathlib.Core.Path.{_≡_, refl, sym, ap, _∙_}

@@ -180,12 +180,23 @@ module _ (st : State) (s : ℕ) (other : State) (u : ℕ) (h : Agree st s other 
 
   topic-same : (t : ℕ) → t < topicCount → topicScore st s t ≡ topicScore other u t
   unfolding topicScore
-  topic-same t l = rw (h .codes (topicPlace t 0), h .codes (topicPlace t 1), h .codes (topicPlace t 4), h .codes (topicPlace t 7), h .codes (topicPlace t 12), h .codes (topicPlace t 14), params-same t, h .topics t l)
+  topic-same t l =
+      rw (
+        h .codes (topicPlace t 0),
+        h .codes (topicPlace t 1),
+        h .codes (topicPlace t 4),
+        h .codes (topicPlace t 7),
+        h .codes (topicPlace t 12),
+        h .codes (topicPlace t 14),
+        params-same t,
+        h .topics t l,
+      )
 
   pub why-depends : whyIn st s ≡ whyIn other u
   unfolding whyIn
   why-depends =
-      let sums : allTopics 8 (topicScore st s) ≡ allTopics 8 (topicScore other u) = topics-same (topicScore st s) (topicScore other u) 8 topic-same in
+      let sums : allTopics 8 (topicScore st s) ≡ allTopics 8 (topicScore other u) =
+      topics-same (topicScore st s) (topicScore other u) 8 topic-same in
       rw (h .codes 12, h .codes 13, h .codes 14, h .codes 15, h .codes 16, h .p5, h .p7, h .sharing, sums)
 
   pub score-depends : scoreIn st s ≡ scoreIn other u

@@ -1,5 +1,5 @@
--- The swaps of step 3: what they make of the keepers, and who is never taken out. A swap brings in an outbound member and takes out an inbound
--- keeper, so that the size stays and the outbound count rises by one; each law is an induction on the swaps that are left.
+-- The swaps of step 3: what they make of the keepers, and who is never taken out. A swap brings in an outbound member and takes out an
+-- inbound keeper, so that the size stays and the outbound count rises by one; each law is an induction on the swaps that are left.
 -- Assumes nothing.
 use Prim.Native.Nat.{ℕ, zero, suc, _+_, _≤_, _<_}
 use native.Mathlib.Omega.{arith}
@@ -362,7 +362,8 @@ module _ (n out : ℕ) (sc : List ℕ) (outs : List Bool) (order : List ℕ) (m 
         -- one comes that is not a keeper yet
         let c = size-split (both m outs) k in
         let g = size-mono (both k outs) (both (both m outs) k)
-        (λ j p. both-in (both m outs) k j (both-in m outs j (sub j (both-left k outs j p)) (both-right k outs j p)) (both-left k outs j p)) in
+        (λ j p. both-in (both m outs) k j (both-in m outs j (sub j (both-left k outs j p)) (both-right k outs j p))
+        (both-left k outs j p)) in
         omega arith)
         h in
         best-stays s i f (once k) (once-len k lk sub come leave) (once-only k lk sub come leave)

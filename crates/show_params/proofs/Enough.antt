@@ -28,7 +28,8 @@ module _ (s : List ℕ) (m : ℕ) where
   near-by :
       (top at : ℕ) →
       at < m →
-      (at < length s → 128 ≤ getD s at 0 → afterMore top (getD s at 0) (readAt (top / 128) (take m s) (at + 1)) ≡ afterMore top (getD s at 0) (readAt (top / 128) s (at + 1))) →
+      (at < length s → 128 ≤ getD s at 0 → afterMore top (getD s at 0) (readAt (top / 128) (take m s) (at + 1))
+      ≡ afterMore top (getD s at 0) (readAt (top / 128) s (at + 1))) →
       readAt top (take m s) at ≡ readAt top s at
   near-by top at l more =
       by-byte

@@ -83,7 +83,8 @@ named-behind at s us next h =
 
 numbers-behind : (at next : ℕ) (s : List ℕ) (kind : ℕ) (p : Numbers) → at < next → NotBack next p → Behind at (ofNumbers s kind p)
 numbers-behind at next s kind (numbers us m) h n =
-    cond-case (Behind at) (eqb kind 1) (named s us m) (event (callOf kind us []) m) (λ e. named-behind at s us m (omega arith)) (λ e. omega arith)
+    cond-case (Behind at) (eqb kind 1) (named s us m) (event (callOf kind us []) m) (λ e. named-behind at s us m (omega arith))
+    (λ e. omega arith)
 numbers-behind at next s kind (broken p) h n = unread-behind at s p
 
 kind-behind : (s : List ℕ) (at : ℕ) (r : Read) → Ahead at r → Behind at (ofKind s at r)

@@ -60,8 +60,8 @@ fn after_more(rest: Read, low: u64, top: u64) -> Read
     }
 }
 
-// The number up to `top` that stands at `at`. It ends where no further group can be within `top`, so its depth is that of the width, however
-// many bytes follow.
+// The number up to `top` that stands at `at`. It ends where no further group can be within `top`, so its depth is that of the width,
+// however many bytes follow.
 fn read_up_to(s: &[u8], at: usize, top: u64) -> Read
     ensures { λ r. ⌜ r ≡ readAt top (now (s .entry)) at ⌝ }
 {

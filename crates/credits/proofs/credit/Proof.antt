@@ -1,6 +1,6 @@
--- `credits::credit` meets its contract: a walk of its code, by hand. The borrow is opened, the record is copied out and passed to `amounts`,
--- what that returned is added to the three counters, each where it stands, and the borrow is closed at the record with the sums. All that the
--- proof knows of `amounts` is its contract.
+-- `credits::credit` meets its contract: a walk of its code, by hand. The borrow is opened, the record is copied out and passed to
+-- `amounts`, what that returned is added to the three counters, each where it stands, and the borrow is closed at the record with the sums.
+-- All that the proof knows of `amounts` is its contract.
 -- Assumes nothing.
 use mathlib.Core.Path.{_≡_, refl, ap}
 use Prim.Native.Nat.{ℕ, _<_, _^_}
@@ -130,7 +130,8 @@ module _ {M : Type 1} (𝓤 : URA M) (H : Heap 𝓤) (A : Atoms 𝓤) (W : Given
   goes-amounts is =
       qed W [] ∵
       use0 W (‵ others) others-had $
-      owned ! T.the-row (Is T.the-row) (LL.makes T.the-type T′.the-plain 𝓤 H A) h (vals h) is $ fjoin ! $ nothing ! $ join ! $ frame ! $ done !
+      owned ! T.the-row (Is T.the-row) (LL.makes T.the-type T′.the-plain 𝓤 H A) h (vals h) is $ fjoin ! $ nothing ! $ join ! $ frame !
+      $ done !
 
   abbrev ensures : Addition → SProp 𝓤
   ensures a = ensured 𝓤 H A amounts.ended (amounts.clauses 𝓤 H A at-mem run) tt (h, (t, (kind, tt))) tt a
@@ -186,21 +187,24 @@ module _ {M : Type 1} (𝓤 : URA M) (H : Heap 𝓤) (A : Atoms 𝓤) (W : Given
         -- r.p2 += a.p2
         assigns ! (of-opd ! (load ! (from ! (hop ! (look ! 18 refl) (fld ! refl (stop !)))) (look-in ! 0 (sub ! 0 refl (whole !)))))
         (from ! (stop !)) (init ! 8 refl (tt, record { fits = fs .0 .1 })) $
-        assigns ! (bin ! (load ! (from ! (stop !)) (look ! 8 refl)) (load ! (from ! (fld ! refl (stop !))) (look-in ! 12 (sub ! 0 refl (whole !))))
+        assigns ! (bin ! (load ! (from ! (stop !)) (look ! 8 refl))
+        (load ! (from ! (fld ! refl (stop !))) (look-in ! 12 (sub ! 0 refl (whole !))))
         (record { fits = e .1 .p2 })) (from ! (stop !)) (init ! 6 refl (tt, record { fits = e .1 .p2 })) $
         assigns ! (of-opd ! (load ! (from ! (stop !)) (look ! 6 refl))) (from ! (hop ! (look ! 18 refl) (fld ! refl (stop !))))
         (store-in ! 0 (sub ! 0 refl (whole !)) (tt, record { fits = e .1 .p2 })) $
         -- r.p3 += a.p3
         assigns ! (of-opd ! (load ! (from ! (hop ! (look ! 18 refl) (fld ! refl (stop !)))) (look-in ! 0 (sub ! 1 refl (whole !)))))
         (from ! (stop !)) (store ! 8 refl (tt, record { fits = fs .1 .0 .1 })) $
-        assigns ! (bin ! (load ! (from ! (stop !)) (look ! 8 refl)) (load ! (from ! (fld ! refl (stop !))) (look-in ! 12 (sub ! 1 refl (whole !))))
+        assigns ! (bin ! (load ! (from ! (stop !)) (look ! 8 refl))
+        (load ! (from ! (fld ! refl (stop !))) (look-in ! 12 (sub ! 1 refl (whole !))))
         (record { fits = e .1 .p3 })) (from ! (stop !)) (store ! 6 refl (tt, record { fits = e .1 .p3 })) $
         assigns ! (of-opd ! (load ! (from ! (stop !)) (look ! 6 refl))) (from ! (hop ! (look ! 18 refl) (fld ! refl (stop !))))
         (store-in ! 0 (sub ! 1 refl (whole !)) (tt, record { fits = e .1 .p3 })) $
         -- r.p4 += a.p4
         assigns ! (of-opd ! (load ! (from ! (hop ! (look ! 18 refl) (fld ! refl (stop !)))) (look-in ! 0 (sub ! 2 refl (whole !)))))
         (from ! (stop !)) (store ! 8 refl (tt, record { fits = fs .1 .1 .0 .1 })) $
-        assigns ! (bin ! (load ! (from ! (stop !)) (look ! 8 refl)) (load ! (from ! (fld ! refl (stop !))) (look-in ! 12 (sub ! 2 refl (whole !))))
+        assigns ! (bin ! (load ! (from ! (stop !)) (look ! 8 refl))
+        (load ! (from ! (fld ! refl (stop !))) (look-in ! 12 (sub ! 2 refl (whole !))))
         (record { fits = e .1 .p4 })) (from ! (stop !)) (store ! 6 refl (tt, record { fits = e .1 .p4 })) $
         assigns ! (of-opd ! (load ! (from ! (stop !)) (look ! 6 refl))) (from ! (hop ! (look ! 18 refl) (fld ! refl (stop !))))
         (store-in ! 0 (sub ! 2 refl (whole !)) (tt, record { fits = e .1 .p4 })) $

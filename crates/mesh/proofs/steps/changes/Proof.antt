@@ -8,7 +8,8 @@ returns : tie.Need-returns
 returns c =
     let c₄ = c .before .before .before .before in
     let s = c₄ .before .before .before .before .before .before .args in
-    changes-are (s .start) (s .m) (c₄ .without .ensures) (c .before .before .before .without2 .ensures) (c .before .before .without3 .ensures)
+    changes-are (s .start) (s .m) (c₄ .without .ensures) (c .before .before .before .without2 .ensures)
+    (c .before .before .without3 .ensures)
     (c .before .without4 .ensures)
     (c .without5 .ensures)
 

@@ -8,14 +8,16 @@ use Rattle.sets.proofs.walks.leaver.Tie as tie
 returns : tie.Need-returns
 returns c =
     let a = c .before .before .before .before .args in
-    goer-lowest slotCount (a .scores) (a .order) (a .b) (a .p) (c .before .before .before .without .ensures) (c .before .before .count .ensures)
+    goer-lowest slotCount (a .scores) (a .order) (a .b) (a .p) (c .before .before .before .without .ensures)
+    (c .before .before .count .ensures)
     (c .before .if1 .taken)
     (c .lowest .ensures)
 
 returns-2 : tie.Need-returns-2
 returns-2 c =
     let a = c .before .before .before .before .args in
-    goer-last slotCount (a .scores) (a .order) (a .b) (a .p) (c .before .before .before .without .ensures) (c .before .before .count .ensures)
+    goer-last slotCount (a .scores) (a .order) (a .b) (a .p) (c .before .before .before .without .ensures)
+    (c .before .before .count .ensures)
     (c .before .if1 .left)
     (c .last-of .ensures)
 
