@@ -9,6 +9,7 @@ ghost use Rattle.varint.specs.Groups.{encode};
 ghost use Rattle.rpc_write.specs.Writing.{Stored, Fitting, partSize, nameSize, nameOf, valueField, partField, headBytes};
 ghost use Rattle.rpc_write.specs.Writing.{early, late, nameNumber, entryBytes, oneBytes, kindBytes, controlBytes, controlField};
 ghost use Rattle.rpc_write.specs.Writing.{messageOf, entryOk, listOk, writeOf, Puts, ControlSize, Writes};
+ghost use Rattle.rpc.specs.Reading.{nameBytes};
 use rpc::GRAFT;
 use rpc::NAME_BYTES;
 use rpc::NAMES_BYTES;
@@ -133,7 +134,7 @@ fn wide(x: u8) -> usize
 }
 
 fn name_size(names: &[u8; NAMES_BYTES], topic: u64) -> usize
-    ensures { λ r. ⌜ (r ≡ nameSize (now (names .entry)) topic) × (r ≤ 64) ⌝ }
+    ensures { λ r. ⌜ (r ≡ nameSize (now (names .entry)) topic) × (r ≤ nameBytes) ⌝ }
 {
     if topic < TOPICS {
         let row = ROW_BYTES * topic as usize;
@@ -157,7 +158,7 @@ fn fitting(end: usize, at: usize, size: usize) -> usize
 
 fn put_name(buf: &mut [u8], at: usize, names: &[u8; NAMES_BYTES], topic: u64) -> usize
     requires { ⌜ at < 1000000 ⌝ }
-    ensures { λ r. ⌜ Puts buf at (nameOf (now (names .entry)) topic) 64 r ⌝ }
+    ensures { λ r. ⌜ Puts buf at (nameOf (now (names .entry)) topic) nameBytes r ⌝ }
 {
     let size = name_size(names, topic);
     if TOPICS <= topic {

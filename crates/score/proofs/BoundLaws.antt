@@ -14,6 +14,7 @@ use Rattle.score.specs.declared.Parts.{Parts}
 use Rattle.score.specs.Ranges.{TopicParamsIn, ScoreParamsIn, CountersIn, ShareIn, TopicsIn, PartsIn, BalanceIn}
 use Rattle.score.specs.Parts.{isMember, square, part1Of, part3Of, surplusOf}
 use Rattle.score.specs.Sums.{shareOf, sumOf, cappedOf, p5Of, partsOf, totalOf}
+use Rattle.records.specs.Records.{slotCount}
 
 module _ (t : TopicParams) (h : TopicParamsIn t) (r : TopicRecord) where
   pub part1-most : part1Of t r ≤ 1000000000
@@ -109,7 +110,7 @@ module _ (g : ScoreParams) (b : Balance) (code sharing p7 : ℕ) where
       ScoreParamsIn g →
       TopicsIn b →
       code ≤ 2000000000 →
-      sharing ≤ 64 →
+      sharing ≤ slotCount →
       p7 ≤ 1000000 →
       PartsIn (partsOf g b code sharing p7)
   unfolding partsOf Small5

@@ -11,7 +11,7 @@ use Rattle.params.specs.Joint.{place as topicPlace}
 use Rattle.params.proofs.LimitLaws.{topic-field}
 use Rattle.params.proofs.FieldLaws.{gain-of, loss-of}
 use Rattle.params.proofs.ParamLaws.{within, general, topic}
-use Rattle.records.specs.Records.{State, topicCount, place, codeIn, peerIn, topicIn}
+use Rattle.records.specs.Records.{State, topicCount, place, codeIn, peerIn, topicIn, slotCount}
 use Rattle.validity.specs.Valid.{topicParam, valid}
 use Rattle.validity.proofs.ValidLaws.{Facts, valid-facts}
 use Rattle.score.specs.Ranges.{TopicParamsIn, ScoreParamsIn, CountersIn, CountersWithin}
@@ -108,7 +108,7 @@ module _ (st : State) (ok : valid st ≡ true) where
       }
 
   -- the counters of the peer in slot s
-  module _ (s : ℕ) (h : s < 64) where
+  module _ (s : ℕ) (h : s < slotCount) where
     pub counters-within : (t : ℕ) → t < 8 → CountersWithin (topicParamsIn st t) (topicIn st (place s t))
     unfolding topicParamsIn topicParam
     counters-within t l =

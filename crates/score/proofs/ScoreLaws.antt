@@ -9,7 +9,7 @@ use Rattle.index.proofs.Index.{count-bound}
 use Rattle.varint.specs.Codes.{numberOf}
 use Rattle.params.specs.Joint.{place as topicPlace}
 use Rattle.records.specs.declared.Peer.{Peer}
-use Rattle.records.specs.Records.{State, topicCount, place, peerIn, topicIn}
+use Rattle.records.specs.Records.{State, topicCount, place, peerIn, topicIn, slotCount}
 use Rattle.validity.specs.Valid.{valid}
 use Rattle.score.specs.declared.ScoreParams.{ScoreParams}
 use Rattle.score.specs.declared.Balance.{Balance}
@@ -26,9 +26,9 @@ use Rattle.score.proofs.ShareLaws.{share-is, sum-is, sum-done, topics-s
 use Rattle.score.proofs.SumLaws.{same-why, capped-is, p5-is, loss-is, total-is, score-size}
 use Rattle.score.proofs.BoundLaws.{share-in, sum-in, topics-in, parts-in, total-in}
 
-pub sharing-most : (st : State) (group : ℕ) → sharing st group ≤ 64
+pub sharing-most : (st : State) (group : ℕ) → sharing st group ≤ slotCount
 unfolding sharing
-sharing-most st group = count-bound (sharesGroup st group) 64
+sharing-most st group = count-bound (sharesGroup st group) slotCount
 
 -- one topic
 topic-is : (st : State) (s t : ℕ) → TopicSigns st t → topicScore st s t ≡ worth (shareAt st s t)
@@ -97,8 +97,8 @@ module _ (st : State) (s : ℕ) (h : SlotIn st s) where
   module _ (p : Peer) (g : ScoreParams) (b : Balance) (n : ℕ) (is-p : p ≡ peerIn st s) (is-g : g ≡ scoreParamsIn st) where
     pub parts-ready :
         TopicsIn b →
-        n ≤ 64 →
-        ScoreParamsIn g × (TopicsIn b × ((p .p5 ≤ 2000000000) × ((n ≤ 64) × (p .p7 ≤ 1000000))))
+        n ≤ slotCount →
+        ScoreParamsIn g × (TopicsIn b × ((p .p5 ≤ 2000000000) × ((n ≤ slotCount) × (p .p7 ≤ 1000000))))
     parts-ready i k = rw (is-g, is-p) (h .general, (i, (h .p5, (k, h .p7))))
 
     pub parts-done :
@@ -168,7 +168,7 @@ unfolding scoreIn whyIn whyOf
 why-sum st s = refl
 
 -- of a router's state: the code's balance is worth 01's score, and "no score passes 2.6 × 10^18 either way"
-module _ (st : State) (ok : valid st ≡ true) (s : ℕ) (h : s < 64) where
+module _ (st : State) (ok : valid st ≡ true) (s : ℕ) (h : s < slotCount) where
   pub router-score-most : natAbs (scoreIn st s) ≤ scoreMost
   router-score-most = score-most st s (slot-in st ok s h)
 

@@ -11,6 +11,7 @@ use Rattle.varint.specs.Groups.{Got, got, none, before, decode, upTo, asRead, r
 use Rattle.varint.specs.declared.Read.{Read}
 use Rattle.varint.specs.declared.Read.the-variants.{Number, Bad}
 use Rattle.trace_events.specs.Reading.{Numbers, numbers, broken, more, numberThen, numbersFrom, cutShort, arity, callOf, Event, event}
+use Rattle.trace_events.specs.Reading.{nameMost}
 use Rattle.trace_events.specs.Reading.{unknown, malformed, short, unread, named, ofNumbers, ofKind, eventAt}
 
 -- ---- a number
@@ -76,7 +77,7 @@ unread-behind at s p = cond-case (Behind at) (cutShort s p) short malformed (λ 
 named-behind : (at : ℕ) (s us : List ℕ) (next : ℕ) → at < next → Behind at (named s us next)
 unfolding named
 named-behind at s us next h =
-    cond-case (Behind at) (leb (getD us 4 0) 64) _ malformed
+    cond-case (Behind at) (leb (getD us 4 0) nameMost) _ malformed
     (λ e.
     cond-case (Behind at) (leb (next + getD us 4 0) (length s)) (event _ (next + getD us 4 0)) short (λ e. omega arith) (λ e. tt))
     (λ e. tt)

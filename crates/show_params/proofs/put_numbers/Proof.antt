@@ -15,16 +15,17 @@ use Rattle.show_params.specs.Show.{lineAt}
 use Rattle.show_params.proofs.ShowLaws.{lines-none, lines-more, lines-all}
 use Rattle.show_params.proofs.put_numbers.Statement.{statement}
 use Rattle.show_params.proofs.put_numbers.Tie as tie
+use Rattle.records.specs.Records.{paramCount}
 
 abbrev Inv-loop : tie.InvT-loop
 Inv-loop buf₀ at all next₀ i₀ buf next i =
-    (i ≤ 147)
+    (i ≤ paramCount)
     × (length buf ≡ length buf₀)
     × (next ≤ at + 22 * i)
     × Stored buf₀ at (gather i (lineAt (all .numbers))) next buf
 
 abbrev μ-loop : tie.MeasureT-loop
-μ-loop buf₀ at all next₀ i₀ buf next i = 147 - i
+μ-loop buf₀ at all next₀ i₀ buf next i = paramCount - i
 
 pub put-numbers-spec : {M : Type 1} → statement M
 put-numbers-spec =
