@@ -1,4 +1,4 @@
-// What an answer is outside: 01's number of it, how many actions it has, both as one number for a host, and its score with the parts.
+// Answers as numbers: 01's number of an answer, how many actions it has, both as one number for a host, and a score with its parts.
 ghost use mathlib.Core.Path.{_≡_};
 ghost use Prim.Native.Nat.{_≤_};
 ghost use Rattle.rules.specs.Reply.{numberOf, actionsOf};
