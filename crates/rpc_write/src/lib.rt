@@ -1,6 +1,7 @@
 // Writing gossipsub's RPC (02, order 4). An entry is three numbers, as crate rpc reads them: its kind, its topic, its value. The
 // definitions are specs/Writing.antt. Lengths are computed first, inner ones before outer ones and each once; then everything is stored
-// front to back. A byte past the end of the buffer is not stored, so that no function here requires room: `write` has checked that there is enough.
+// front to back. A byte past the end of the buffer is not stored, so that no function here requires room: `write` has checked that there is
+// enough.
 ghost use mathlib.Core.Path.{_≡_};
 ghost use mathlib.Core.Bool.{true};
 ghost use Prim.Native.Nat.{_+_, _≤_, _<_};
