@@ -74,10 +74,10 @@ def sources():
 
 
 class Item:
-    """A definition or law of an .antt file: its name, the lines that it takes, and the names that make it (constructors)."""
+    """A definition or law of an .antt file: its name, the lines that it takes with their numbers, and its constructors."""
 
     def __init__(self, name, line):
-        self.name, self.line, self.lines, self.also = name, line, [], []
+        self.name, self.line, self.lines, self.numbers, self.also = name, line, [], [], []
 
     def words(self):
         return words("\n".join(self.lines))
@@ -113,4 +113,5 @@ def items(source):
             data.also.append(line.split()[0])
         if item:
             item.lines.append(line)
+            item.numbers.append(number)
     return found
