@@ -84,7 +84,7 @@ class Item:
 
 
 def items(source):
-    """What an .antt file defines at its top or in a module block; what stands in a `where` or is a record's field is no item."""
+    """What an .antt file defines at its top or in a module block; what is in a `where`, or is a field of a record, is no item."""
     found, blocks, item, data = {}, [], None, None
     for number, line in enumerate(source.body.split("\n"), 1):
         if not line.strip():
