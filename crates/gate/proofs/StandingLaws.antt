@@ -3,6 +3,7 @@
 use Prim.Native.Nat.{ℕ, _*_, _≤_, _<_}
 use mathlib.Core.Path.{_≡_, refl, sym, ap, ap₂, _∙_}
 use mathlib.Core.Bool.{Bool, true, _&&_}
+use native.Mathlib.Omega.{arith}
 use lib.Dec.{eqb, lit<}
 use lib.IntN.{ℤ, pos, negℤ, _*ℤ_}
 use lib.Signed.{ltZ}
@@ -20,7 +21,7 @@ use Rattle.score.specs.Score.{Scores}
 use Rattle.score.proofs.Differences.{neg-times, diff-neg}
 use Rattle.score.proofs.SumLaws.{negative-is, below-is}
 use Rattle.effects.specs.Effects.{magnitude}
-use Rattle.rules.specs.Step.{isNegative, isGraylisted}
+use Rattle.rules.specs.Step.{isNegative, isGraylisted, senderIn}
 
 -- the magnitudes of the general parameters that the calls compute with
 pub record Sizes (st : State) : Type 0 where
@@ -45,6 +46,9 @@ sizes st v =
       fade = g .p7Decay-most;
       floor = g .decayToZero-most;
     }
+
+pub graylist-most : (st : State) (n : ℕ) → valid st ≡ true → n ≡ magnitude (codeIn st 9) → n ≤ 1000000000
+graylist-most st n v e = omega (arith, e, sizes st v .graylist)
 
 -- the graylist threshold, from its magnitude
 pub graylist-is :
@@ -75,3 +79,16 @@ module _ (st : State) (s : ℕ) (b : Balance) (scores : Scores st s b) where
       ∙ ap (λ (m : ℕ). belowOf b m) en
       ∙ below-is b (magnitude (codeIn st 9))
       ∙ ap₂ (λ (x y : ℤ). ltZ x y) (scores .score) (sym (graylist-is st v)))
+
+  -- what `see_sender` puts together is what the rules see
+  pub sender-of :
+      valid st ≡ true → (n : ℕ) (p : Peer) (below negative : Bool) →
+      p ≡ peerIn st s →
+      n ≡ magnitude (codeIn st 9) →
+      below ≡ belowOf b n →
+      negative ≡ negativeOf b →
+      record { peer = p; graylisted = eqb (p .explicit) 0 && below; negative = negative } ≡ senderIn st s
+  sender-of v n p below negative ep en eb eg =
+      let g = graylisted-of v p n below ep en eb in
+      let m = negative-of negative eg in
+      cc

@@ -299,18 +299,12 @@ module _ (st : State) (time : ℕ) where
 
 -- ---- a GRAFT of no member that is answered by a PRUNE
 module _ (st : State) (time t s : ℕ) (n : topicIn st (place s t) .member ≢ 1) where
-  pub calmer-refused : Calmer st (graftRefused st time t s .state)
+  pub calmer-refused : Calmer st (graftRefused st time t s (peerIn st s) .state)
   unfolding graftRefused
   calmer-refused =
       let end = endAfter time (pruneBackoff st) in
       calmer-moved st time (onPeer st s (λ p. withEnd p t end)) (calmer-end st s t end n)
 
-pub calmer-running :
-    (st : State) (time t s n : ℕ) →
-    topicIn st (place s t) .member ≢ 1 →
-    Calmer st (graftRefused (onPeer st s (λ p. withP7 p n)) time t s .state)
-calmer-running st time t s n out =
-    let u = onPeer st s (λ p. withP7 p n) in
-    calmer-then {a = st} {b = u} {c = graftRefused u time t s .state}
-    (calmer-p7 st s n)
-    (calmer-refused u time t s (λ m. out (rw (topic-after-peer st s (withP7 (peerIn st s) n) (place s t)) at m)))
+  pub calmer-raised : Calmer st (graftRefused st time t s (raisedP7 (peerIn st s)) .state)
+  unfolding graftRefused raisedP7 withP7 withEnd
+  calmer-raised = calmer-moved st time _ (calmer-end st s t (endAfter time (pruneBackoff st)) n)

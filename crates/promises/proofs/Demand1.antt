@@ -77,19 +77,18 @@ module _ (st : State) (time : ℕ) where
       (un-found (lowestEmpty (reclaimed st time)) _ _ (λ s. un-done _ []) (un-refused NoSlot (λ e. omega arith)))))
       (un-refused UnknownProtocol (λ e. omega arith))
 
-  un-back : (u : State) (t s : ℕ) → Un (graftRefused u time t s)
+  un-back : (t s : ℕ) (p : Peer) → Un (graftRefused st time t s p)
   unfolding graftRefused
-  un-back u t s = un-done _ _
+  un-back t s p = un-done _ _
 
   un-graft : (t s : ℕ) → Un (graftReply st time t s)
-  unfolding graftReply graftHeard graftBackoff graftOpen
   un-graft t s =
-      un-cond (isHeard st t s) _ _
-      (un-cond (isMember st t s) _ _ (un-done st [])
-      (un-cond (eqb (peerIn st s .explicit) 1) _ _ (un-back st t s)
-      (un-cond (backoffRuns (peerIn st s) t time) _ _ (un-back _ t s)
-      (un-cond (graftEnters st t s) _ _ (un-done _ []) (un-back st t s)))))
-      un-ignored
+      by-graft Un st time t s
+      (λ e. un-ignored)
+      (λ e m. un-done st [])
+      (λ e. un-back t s _)
+      (λ e. un-back t s _)
+      (λ e. un-done _ [])
 
   un-maintained : (t ask : ℕ) (order : List ℕ) → Un (maintainedReply st time t ask order)
   unfolding maintainedReply
