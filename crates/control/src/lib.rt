@@ -25,8 +25,10 @@ use gate::see;
 use gate::time_ok;
 use gate::topic_ok;
 use index::Found;
+use layout::CELLS;
 use lookup::find::find_connected;
 use records::Peer;
+use records::param;
 use rules::Answer;
 use rules::Gate;
 use rules::GraftCase;
@@ -72,7 +74,7 @@ fn is_crowded(table: &[u64], topic: usize) -> bool
     requires { ⌜ (length (now table) ≡ cellCount) × (topic < topicCount) ⌝ }
     ensures { λ r. ⌜ r ≡ isCrowded (stateOf (now (table .entry))) topic ⌝ }
 {
-    load_size(table, 2) <= mesh_size(table, topic) as u64
+    load_size(table, param::D_HI) <= mesh_size(table, topic) as u64
 }
 
 // P7 grows by 1000, to 10^6.
@@ -95,7 +97,7 @@ fn graft_refused(
     ensures { λ r. ⌜ Gives (graftRefused (stateOf (now (table .entry))) time topic slot p) r
         (now (table .entry)) (now (table .exit)) (now (actions .entry)) (now (actions .exit)) ⌝ }
 {
-    let seconds = load_size(table, 5);
+    let seconds = load_size(table, param::PRUNE_BACKOFF);
     put_prune(actions, 0, p, seconds);
     layout::store_peer(table, slot, with_end(p, topic, end_after(time, seconds)));
     layout::store_clock(table, time);
@@ -167,7 +169,7 @@ fn seconds_of(table: &[u64], seconds: u64) -> u64
     ensures { λ r. ⌜ (r ≡ secondsOf (stateOf (now (table .entry))) seconds) × (r ≤ 3600) ⌝ }
 {
     if seconds == 0 {
-        return load_size(table, 5);
+        return load_size(table, param::PRUNE_BACKOFF);
     }
     if seconds <= 3600 { seconds } else { 3600 }
 }

@@ -9,6 +9,7 @@ ghost use Rattle.rules.specs.Step.{gateOf, isNegative, isGraylisted, isHeard, s
 ghost use Rattle.gate.specs.Ready.{Standing, SlotStanding, PlaceStanding};
 use effects::slots::is_joined;
 use effects::slots::load_size;
+use records::param;
 use rules::Answer;
 use rules::Gate;
 use rules::Seen;
@@ -90,11 +91,13 @@ pub fn is_graylisted(table: &[u64], slot: usize) -> bool
 {
     let p = layout::load_peer(table, slot);
     (p.explicit == 0)
-        & is_below(peer_score::score_of(table, slot), load_size(table, 9))
+        & is_below(
+            peer_score::score_of(table, slot),
+            load_size(table, param::GRAYLIST_THRESHOLD),
+        )
 }
 
-// What a call sees of the peer that sent it. The score is computed once, and held to both limits; the graylist threshold is the general
-// number 9.
+// What a call sees of the peer that sent it. The score is computed once, and held to both limits.
 pub fn see_sender(table: &[u64], slot: usize) -> Sender
     requires { ⌜ SlotStanding (now table) slot ⌝ }
     ensures { λ r. ⌜ r ≡ senderIn (stateOf (now (table .entry))) slot ⌝ }
@@ -103,7 +106,7 @@ pub fn see_sender(table: &[u64], slot: usize) -> Sender
     let b = peer_score::score_of(table, slot);
     Sender {
         peer: p,
-        graylisted: (p.explicit == 0) & is_below(b, load_size(table, 9)),
+        graylisted: (p.explicit == 0) & is_below(b, load_size(table, param::GRAYLIST_THRESHOLD)),
         negative: score::sums::is_negative(b),
     }
 }

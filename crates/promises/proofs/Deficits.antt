@@ -43,8 +43,9 @@ use Rattle.rules.specs.declared.Answer.the-variants.{AlreadyConnected, NoSlot, 
 use Rattle.rules.specs.Reply.{Reply, refused, ignored, done}
 use Rattle.rules.specs.Calls.{Call, connect, disconnect, join, leave, subscribe, unsubscribe, graft, prune, deliver, rate, heartbeat, decay}
 use Rattle.rules.specs.Calls.{score}
+use Rattle.rules.proofs.GraftLaws.{by-graft}
 use Rattle.rules.specs.Step.{isGraylisted, isHeard, onFound, onVersion, ofPeer, connectAt, connectIn, connectReply, joinReply}
-use Rattle.rules.specs.Step.{subscribeReply, unsubscribeReply, graftEnters, graftRefused, graftOpen, graftBackoff, graftHeard, graftReply}
+use Rattle.rules.specs.Step.{subscribeReply, unsubscribeReply, graftRefused, graftReply}
 use Rattle.rules.specs.Step.{pruneReply, deliveredOf, deliverReply, decayFloor, decayTopic, decayP7, decaySlot, decayReply, effect, step}
 use Rattle.rules.proofs.CaseLaws.{by-gate}
 use Rattle.call_lists.specs.Lists.{after}

@@ -1,6 +1,7 @@
 -- Demand 1: every reply behind the gate is a refusal, an `ignored` or a `done`, and each of the three is so by its definition; of the
 -- program, what a promise fixes of the state fixes every cell.
 -- Assumes nothing.
+use Rattle.records.specs.declared.Peer.{Peer}
 use Prim.Native.Nat.{ℕ}
 use native.Mathlib.Omega.{arith}
 use mathlib.Core.Path.{_≡_, refl, sym, ap, _∙_}
@@ -32,9 +33,10 @@ use Rattle.rules.specs.declared.Gate.the-variants.{Pass, Refuse}
 use Rattle.rules.specs.Reply.{Reply, numberOf, refuses, refused, ignored, done}
 use Rattle.rules.specs.Calls.{Call, connect, disconnect, join, leave, subscribe, unsubscribe, graft, prune, deliver, rate, heartbeat, decay}
 use Rattle.rules.specs.Calls.{score, timeOf, inRange}
-use Rattle.rules.specs.Step.{actionRoom, isGraylisted, isHeard, graftEnters, gateOf, through, onFound, ofPeer, onVersion, connectAt}
+use Rattle.rules.proofs.GraftLaws.{by-graft}
+use Rattle.rules.specs.Step.{actionRoom, isGraylisted, isHeard, gateOf, through, onFound, ofPeer, onVersion, connectAt}
 use Rattle.rules.specs.Step.{connectIn, connectReply, joinReply, leaveActions, leaveReply, subscribeReply, unsubscribeReply, graftRefused}
-use Rattle.rules.specs.Step.{graftOpen, graftBackoff, graftHeard, graftReply, pruneReply, deliverReply, maintainedReply, heartbeatReply}
+use Rattle.rules.specs.Step.{graftReply, pruneReply, deliverReply, maintainedReply, heartbeatReply}
 use Rattle.rules.specs.Step.{decayReply, effect, step}
 use Rattle.promises.specs.Demand1.{Untouched, Demand1, ProgramDemand1}
 

@@ -25,12 +25,13 @@ use Rattle.records.specs.Records.{State, codeIn, peerIn, joinedIn, slotCount}
 use Rattle.validity.proofs.ValidLaws.{valid-facts}
 use Rattle.lookup.specs.Find.{findConnected}
 use Rattle.lookup.proofs.FindLaws.{connected-at, none-connected, connected-is}
-use Rattle.effects.specs.Effects.{isJoined, isMember, backoffRuns}
+use Rattle.effects.specs.Effects.{isJoined, isMember, backoffRuns, onTopic, intoMesh}
 use Rattle.rules.specs.Reply.{Reply, numberOf, refused, ignored, done}
 use Rattle.rules.specs.Calls.{Call, connect, disconnect, join, leave, subscribe, unsubscribe, graft, prune, deliver, rate, heartbeat, decay}
 use Rattle.rules.specs.Calls.{score}
-use Rattle.rules.specs.Step.{onFound, ofPeer, joinReply, leaveReply, decayReply, isGraylisted, isHeard, subscribeReply, unsubscribeReply}
-use Rattle.rules.specs.Step.{graftEnters, graftRefused, graftOpen, graftBackoff, graftHeard, graftReply, pruneReply, deliverReply, effect}
+use Rattle.rules.proofs.GraftLaws.{by-graft}
+use Rattle.rules.specs.Step.{onFound, ofPeer, joinReply, leaveReply, decayReply, isGraylisted, isHeard, subscribeReply, unsubscribeReply, raisedP7}
+use Rattle.rules.specs.Step.{graftRefused, graftReply, pruneReply, deliverReply, effect}
 use Rattle.call_lists.specs.Lists.{after}
 use Rattle.call_lists.proofs.Demand3.{standing}
 use Rattle.promises.specs.Ignored.{Graylisted, Sender, Words11, Row11, Row0}
@@ -52,7 +53,7 @@ module _ (params : List ℤ) (st : State) (codes : st .codes ≡ map codeOf para
       rw (eq-eqb _ _ (g .plain), number-is st params codes 9) (g .below) in
       false≢true (sym e ∙ a)
 
-  gray-yes : isGraylisted st s ≡ true → Graylisted params st s
+  pub gray-yes : isGraylisted st s ≡ true → Graylisted params st s
   unfolding isGraylisted
   gray-yes e =
       let q = both (eqb (peerIn st s .explicit) 0) _ e in

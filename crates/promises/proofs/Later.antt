@@ -26,7 +26,7 @@ use Rattle.effects.specs.Effects.{magnitude, pruneBackoff, withEnd, withP5, wit
 use Rattle.effects.specs.Effects.{isMember, pruned, endAfter, leftTopic, departed}
 use Rattle.effects.proofs.EffectLaws.{end-later, end-same, pruned-same}
 use Rattle.sets.specs.Sets.{at}
-use Rattle.rules.specs.Step.{isNegative, punished, leaveSlot, graftRefused, decayFloor, decayTopic, decayP7, decaySlot, settleSlot}
+use Rattle.rules.specs.Step.{isNegative, punished, leaveSlot, graftRefused, decayFloor, decayTopic, decayP7, decaySlot, settleSlot, raisedP7}
 use Rattle.promises.specs.Ends.{endIn}
 
 pub record LaterAt (p q : Peer) : Type 0 where
@@ -179,7 +179,9 @@ module _ (st : State) (time : ℕ) where
 
   pub later-raised : (t s : ℕ) → Later st (graftRefused st time t s (raisedP7 (peerIn st s)) .state)
   unfolding graftRefused raisedP7 withP7 withEnd
-  later-raised t s = later-moved _ (later-peer st s _ (at-end (peerIn st s) t (endAfter time (pruneBackoff st))))
+  later-raised t s =
+      later-moved (setPeer st s _)
+      (later-peer st s _ (record { used = λ n. n; id = λ n. refl; ends = end-later (peerIn st s) t (endAfter time (pruneBackoff st)) }))
 
 -- ---- a backoff that is set
 pub end-set : (st : State) (s t end : ℕ) → Sized st → s < slotCount → t < 8 → end ≤ endIn (onPeer st s (λ p. withEnd p t end)) s t

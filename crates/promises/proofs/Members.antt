@@ -35,8 +35,9 @@ use Rattle.rules.specs.declared.Answer.the-variants.{NotPermutation}
 use Rattle.rules.specs.Reply.{Reply, refused, ignored, done}
 use Rattle.rules.specs.Calls.{Call, connect, disconnect, join, leave, subscribe, unsubscribe, graft, prune, deliver, rate, heartbeat, decay}
 use Rattle.rules.specs.Calls.{score, topicOk, argumentsOk}
-use Rattle.rules.specs.Step.{isNegative, isHeard, isCandidate, onFound, onVersion, ofPeer, connectAt, connectIn, connectReply, graftEnters}
-use Rattle.rules.specs.Step.{graftRefused, graftOpen, graftBackoff, graftHeard, graftReply, viewIn, meshesIn, punished, settleSlot}
+use Rattle.rules.proofs.GraftLaws.{by-graft}
+use Rattle.rules.specs.Step.{isNegative, isHeard, isCandidate, onFound, onVersion, ofPeer, connectAt, connectIn, connectReply}
+use Rattle.rules.specs.Step.{graftRefused, graftReply, viewIn, meshesIn, punished, settleSlot}
 use Rattle.rules.specs.Step.{maintainedReply, heartbeatReply, effect, step}
 use Rattle.rules.proofs.HeartbeatLaws.{view-kept}
 use Rattle.rules.proofs.PunishedLaws.{punished-peer}

@@ -35,9 +35,10 @@ use Rattle.rules.specs.declared.Answer.the-variants.{UnknownProtocol, NotPermut
 use Rattle.rules.specs.Reply.{Reply, numberOf, refused, ignored, done}
 use Rattle.rules.specs.Calls.{Call, connect, disconnect, join, leave, subscribe, unsubscribe, graft, prune, deliver, rate, heartbeat, decay}
 use Rattle.rules.specs.Calls.{score, timeOf, inRange}
-use Rattle.rules.specs.Step.{actionRoom, isGraylisted, isHeard, graftEnters, gateOf, onFound, ofPeer, onVersion, connectAt, connectIn}
-use Rattle.rules.specs.Step.{connectReply, joinReply, leaveReply, subscribeReply, unsubscribeReply, graftRefused, graftOpen, graftBackoff}
-use Rattle.rules.specs.Step.{graftHeard, graftReply, pruneReply, deliverReply, maintainedReply, heartbeatReply, decayReply, effect, step}
+use Rattle.rules.proofs.GraftLaws.{by-graft}
+use Rattle.rules.specs.Step.{actionRoom, isGraylisted, isHeard, gateOf, onFound, ofPeer, onVersion, connectAt, connectIn}
+use Rattle.rules.specs.Step.{connectReply, joinReply, leaveReply, subscribeReply, unsubscribeReply, graftRefused}
+use Rattle.rules.specs.Step.{graftReply, pruneReply, deliverReply, maintainedReply, heartbeatReply, decayReply, effect, step}
 use Rattle.promises.specs.Numbers.{Connected, Missing, Admitted, Rows, FirstRows, Words3, Row3, Words7, Row7, Known, Strange, Words6}
 use Rattle.promises.specs.Numbers.{Row6, Words4, Row4, Held, Words5, Row5}
 

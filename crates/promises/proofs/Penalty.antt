@@ -4,11 +4,11 @@ use Prim.Native.Nat.{ℕ, _+_, _≤_, _<_, min}
 use native.Mathlib.Omega.{arith}
 use mathlib.Core.Path.{_≡_, refl, sym, ap, _∙_}
 use mathlib.Core.Logic.{_≢_, _⊎_, inl, inr, ⊎-elim}
-use mathlib.Core.Bool.{Bool, true, cond, not}
+use mathlib.Core.Bool.{Bool, true, cond, not, false}
 use mathlib.Core.List.{List, [], map}
 use lib.Dec.{eqb}
 use lib.IntN.{ℤ}
-use borrow.Author.Tests.{eqb-true, eqb-false, ne-eqb, ltb-true, lt-ltb}
+use borrow.Author.Tests.{eqb-true, eqb-false, ne-eqb, ltb-true, lt-ltb, eq-eqb}
 use Rattle.index.specs.Index.{iter}
 use Rattle.index.specs.declared.Found.{Found}
 use Rattle.index.specs.declared.Found.the-variants.{At, Nothing}
@@ -41,9 +41,10 @@ use Rattle.rules.specs.declared.Answer.the-variants.{NotPermutation}
 use Rattle.rules.specs.Reply.{Reply, refused, ignored, done}
 use Rattle.rules.specs.Calls.{Call, connect, disconnect, join, leave, subscribe, unsubscribe, graft, prune, deliver, rate, heartbeat, decay}
 use Rattle.rules.specs.Calls.{score, timeOf, inRange}
-use Rattle.rules.specs.Step.{isGraylisted, isHeard, onFound, onVersion, ofPeer, connectAt, connectIn, connectReply, joinReply, punished}
-use Rattle.rules.specs.Step.{leaveSlot, leaveReply, subscribeReply, unsubscribeReply, graftEnters, graftRefused, graftOpen, graftBackoff}
-use Rattle.rules.specs.Step.{graftHeard, graftReply, pruneReply, deliveredOf, deliverReply, meshesIn, settleSlot, maintainedReply}
+use Rattle.rules.proofs.GraftLaws.{Early, by-graft}
+use Rattle.rules.specs.Step.{isGraylisted, isHeard, onFound, onVersion, ofPeer, connectAt, connectIn, connectReply, joinReply, punished, seenIn, raisedP7, graftCase}
+use Rattle.rules.specs.Step.{leaveSlot, leaveReply, subscribeReply, unsubscribeReply, graftRefused}
+use Rattle.rules.specs.Step.{graftReply, pruneReply, deliveredOf, deliverReply, meshesIn, settleSlot, maintainedReply}
 use Rattle.rules.specs.Step.{heartbeatReply, decayFloor, decayTopic, decayP7, decaySlot, decayReply, effect, step}
 use Rattle.rules.proofs.CaseLaws.{by-peer, by-gate}
 use Rattle.rules.proofs.GateLaws.{gate-0}
@@ -53,7 +54,7 @@ use Rattle.call_lists.specs.Lists.{after}
 use Rattle.call_lists.proofs.Demand3.{standing}
 use Rattle.promises.specs.Numbers.{Admitted}
 use Rattle.promises.specs.Penalty.{TooEarly, p7In, P7Rises}
-use Rattle.promises.proofs.Ignored.{deaf, not-deaf}
+use Rattle.promises.proofs.Ignored.{deaf, not-deaf, gray-yes}
 use Rattle.promises.proofs.KeptOut.{by-id}
 
 -- ---- no higher

@@ -25,8 +25,9 @@ use Rattle.mesh.specs.Maintenance.{Action as Tell, changesOf, actionsOf}
 use Rattle.rules.specs.declared.Answer.the-variants.{NotPermutation}
 use Rattle.rules.specs.Reply.{Reply, refused, ignored, done}
 use Rattle.rules.specs.Calls.{leave, graft, heartbeat}
-use Rattle.rules.specs.Step.{toldIn, actionIn, leaveActions, leaveReply, meshesIn, heartbeatActions, maintainedReply, heartbeatReply}
-use Rattle.rules.specs.Step.{isHeard, graftEnters, graftRefused, graftOpen, graftBackoff, graftHeard, graftReply, effect}
+use Rattle.rules.proofs.GraftLaws.{by-graft}
+use Rattle.rules.specs.Step.{toldIn, actionIn, leaveActions, leaveReply, meshesIn, heartbeatActions, maintainedReply, heartbeatReply, raisedP7}
+use Rattle.rules.specs.Step.{isHeard, graftRefused, graftReply, effect}
 use Rattle.rules.proofs.CaseLaws.{by-peer, by-gate}
 use Rattle.call_lists.specs.Lists.{after}
 use Rattle.call_lists.proofs.Standing.{degree-is}

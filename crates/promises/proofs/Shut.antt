@@ -1,5 +1,6 @@
 -- Who was told PRUNE, or told it us, stays out: the end of each such backoff is in the peer's record, or over. Call by call.
 -- Assumes nothing.
+use lib.ListN.{length, getD}
 use Prim.Native.Nat.{ℕ, _≤_, _<_, max, min}
 use native.Mathlib.Omega.{arith}
 use mathlib.Core.Path.{_≡_, refl, sym, ap, _∙_}
@@ -29,14 +30,15 @@ use Rattle.score.specs.Counters.{countMost, raisedOf}
 use Rattle.sets.specs.Sets.{at, isPermutation}
 use Rattle.effects.specs.Effects.{unsubscribeBackoff, pruneBackoff, withEnd, withP7, connectedAs, onPeer, onTopic, intoMesh, isJoined}
 use Rattle.effects.specs.Effects.{isMember, backoffRuns, pruned, endAfter, reclaimable, reclaimed}
-use Rattle.effects.proofs.EffectLaws.{reclaimed-stays, reclaimable-over, sized-on-peer, sized-pruned}
+use Rattle.effects.proofs.EffectLaws.{reclaimed-stays, reclaimable-over, sized-on-peer, sized-pruned, end-same}
 use Rattle.rules.specs.declared.Answer.the-variants.{NotPermutation}
 use Rattle.rules.specs.Reply.{Reply, numberOf, refused, ignored, done}
 use Rattle.rules.specs.Calls.{Call, connect, disconnect, join, leave, subscribe, unsubscribe, graft, prune, deliver, rate, heartbeat, decay}
 use Rattle.rules.specs.Calls.{score, timeOf}
-use Rattle.rules.specs.Step.{isGraylisted, isHeard, onFound, onVersion, ofPeer, connectAt, connectIn, connectReply, joinReply, leaveSlot}
-use Rattle.rules.specs.Step.{leaveActions, leaveReply, subscribeReply, unsubscribeReply, graftEnters, graftRefused, graftOpen, graftBackoff}
-use Rattle.rules.specs.Step.{graftHeard, graftReply, secondsOf, pruneReply, deliverReply, meshesIn, punished, settleSlot, maintainedReply}
+use Rattle.rules.proofs.GraftLaws.{by-graft}
+use Rattle.rules.specs.Step.{isGraylisted, isHeard, onFound, onVersion, ofPeer, connectAt, connectIn, connectReply, joinReply, leaveSlot, raisedP7}
+use Rattle.rules.specs.Step.{leaveActions, leaveReply, subscribeReply, unsubscribeReply, graftRefused}
+use Rattle.rules.specs.Step.{graftReply, secondsOf, pruneReply, deliverReply, meshesIn, punished, settleSlot, maintainedReply}
 use Rattle.rules.specs.Step.{heartbeatReply, decayReply, effect}
 use Rattle.rules.proofs.PunishedLaws.{punished-sized}
 use Rattle.call_lists.proofs.Standing.{degree-is, member-connected}
@@ -45,7 +47,7 @@ use Rattle.promises.specs.Told.{times}
 use Rattle.promises.specs.KeptOut.{pruneSeconds, leaveSeconds, told, shutBy}
 use Rattle.promises.proofs.Later.{LaterAt, Later, later-self, later-then, later-clock, later-joined, later-peer, later-iter}
 use Rattle.promises.proofs.Later.{later-pruned, later-settled, later-left, later-moved, later-still, later-disconnect, later-leave}
-use Rattle.promises.proofs.Later.{later-rate, later-decay, later-on, later-refused, later-running, end-set, end-pruned, end-walked}
+use Rattle.promises.proofs.Later.{later-rate, later-decay, later-on, later-refused, later-raised, end-set, end-pruned, end-walked}
 use Rattle.promises.proofs.Told.{leave-someone, leave-sized, left-member, told-maintained}
 
 -- ---- an end that is kept: it is over, or stands in the record of the peer with the id

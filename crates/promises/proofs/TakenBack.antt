@@ -4,7 +4,7 @@ use Prim.Native.Nat.{ℕ, zero, suc, _*_, _≤_, _<_}
 use native.Mathlib.Omega.{arith}
 use mathlib.Core.Path.{_≡_, refl, sym, ap, _∙_}
 use mathlib.Core.Logic.{inl, inr, ⊎-elim}
-use mathlib.Core.Bool.{true, false, and-false, false≢true}
+use mathlib.Core.Bool.{true, false, and-false, false≢true, _&&_}
 use mathlib.Core.List.{[], _∷_}
 use lib.Dec.{eqb, leb}
 use lib.IntN.{ℤ, pos, negsuc, negℤ, _*ℤ_}
@@ -30,7 +30,10 @@ use Rattle.effects.specs.Effects.{backoffRuns, endAfter}
 use Rattle.effects.proofs.EffectLaws.{member-in, member-peer}
 use Rattle.rules.specs.Reply.{Reply, numberOf, ignored, done}
 use Rattle.rules.specs.Calls.{graft, inRange}
-use Rattle.rules.specs.Step.{isNegative, isGraylisted, isHeard, meshFull, graftEnters, graftRefused, graftOpen, graftBackoff, graftHeard}
+use Rattle.rules.specs.declared.GraftCase.{GraftCase}
+use Rattle.rules.specs.declared.GraftCase.the-variants.{AlreadyMember, Enters}
+use Rattle.rules.proofs.GraftLaws.{by-graft}
+use Rattle.rules.specs.Step.{isNegative, isGraylisted, isHeard, graftRefused, raisedP7, isCrowded, graftCase, graftDone}
 use Rattle.rules.specs.Step.{graftReply, effect, step}
 use Rattle.gate.proofs.StandingLaws.{graylist-is}
 use Rattle.rules.proofs.GateLaws.{gate-0}
@@ -74,14 +77,15 @@ module _ (st : State) (time t s : ℕ) (size : Sized st) (ok : valid st ≡ true
   returned : IsIn t s (graftReply st time t s)
   unfolding graftReply graftCase isMember isNegative
   returned =
-      rw
-      (eq-eqb _ _ (m .joined),
-      not-gray st s ok (m .score),
-      ne-eqb (peerIn st s .explicit) 1 (λ z. omega (arith, z, m .plain)),
-      le-ltb time (endIn st s t) (m .over),
-      m .score,
-      eq-eqb _ _ (m .subscribed),
-      not-full)
+      rw (
+        eq-eqb _ _ (m .joined),
+        not-gray st s ok (m .score),
+        ne-eqb (peerIn st s .explicit) 1 (λ z. omega (arith, z, m .plain)),
+        le-ltb time (endIn st s t) (m .over),
+        m .score,
+        eq-eqb _ _ (m .subscribed),
+        not-full,
+      )
       (cond-case (λ (k : GraftCase). IsIn t s (graftDone k st time t s)) (isMember st t s) AlreadyMember Enters
       (λ e. record { answer = refl; actions = refl; member = clocked st time t s ∙ e })
       (λ e.

@@ -36,49 +36,45 @@ pub record Entering (v : Seen) (crowded : Bool) (time t : ℕ) : Type 0 where
   pub subscribed : eqb (v .topic .subscribed) 1 ≡ true
   pub room : crowded && eqb (v .sender .peer .outbound) 0 ≡ false
 
-pub by-graft :
-    (P : Reply → Type 0) (st : State) (time t s : ℕ) →
-    (isHeard st t s ≡ false → P (ignored st time)) →
-    (isHeard st t s ≡ true → eqb (seenIn st t s .topic .member) 1 ≡ true → P (done st time [])) →
-    (Outside (seenIn st t s) → P (graftRefused st time t s (peerIn st s))) →
-    (Early (seenIn st t s) time t → P (graftRefused st time t s (raisedP7 (peerIn st s)))) →
-    (Entering (seenIn st t s) (isCrowded st t) time t → P (done (onTopic st s t (λ r. intoMesh r time)) time [])) →
-    P (graftReply st time t s)
-unfolding graftReply graftCase isHeard
-by-graft P st time t s apart member refused early enters =
-    case (not (v .joined)) (λ a. apart (silent (not-true (v .joined) a))) (λ a.
-    let joined = not-false (v .joined) a in
-    case (v .sender .graylisted) (λ b. apart (low joined b)) (λ b.
-    let told : heard v ≡ true = rw (joined, b) in
-    case (eqb (v .topic .member) 1) (λ c. member told c) (λ c.
-    let outside : Outside v = record { heard = told; joined = joined; new = c } in
-    case (eqb (v .sender .peer .explicit) 1) (λ d. refused outside) (λ d.
-    case (backoffRuns (v .sender .peer) t time) (λ e. early (record { outside = outside; plain = d; runs = e })) (λ e.
-    case (v .sender .negative) (λ f. refused outside) (λ f.
-    case (not (eqb (v .topic .subscribed) 1)) (λ g. refused outside) (λ g.
-    case (isCrowded st t && eqb (v .sender .peer .outbound) 0) (λ h. refused outside) (λ h.
-    enters
-    (record {
-      outside = outside;
-      plain = d;
-      over = e;
-      worthy = f;
-      subscribed = not-false (eqb (v .topic .subscribed) 1) g;
-      room = h;
-    })))))))))
-  where
-    abbrev v : Seen
-    v = seenIn st t s
+module _ (P : Reply → Type 0) (st : State) (time t s : ℕ) where
+  abbrev v : Seen
+  v = seenIn st t s
 
-    case :
-        (b : Bool) {c d : GraftCase} →
-        (b ≡ true → P (graftDone c st time t s)) →
-        (b ≡ false → P (graftDone d st time t s)) →
-        P (graftDone (cond b c d) st time t s)
-    case b f g = cond-case (λ c. P (graftDone c st time t s)) b _ _ f g
+  abbrev Of : GraftCase → Type 0
+  Of k = P (graftDone k st time t s)
 
-    silent : v .joined ≡ false → heard v ≡ false
-    silent e = rw e
+  silent : v .joined ≡ false → heard v ≡ false
+  silent e = rw e
 
-    low : v .joined ≡ true → v .sender .graylisted ≡ true → heard v ≡ false
-    low e g = rw (e, g)
+  low : v .joined ≡ true → v .sender .graylisted ≡ true → heard v ≡ false
+  low e g = rw (e, g)
+
+  pub by-graft :
+      (isHeard st t s ≡ false → P (ignored st time)) →
+      (isHeard st t s ≡ true → eqb (v .topic .member) 1 ≡ true → P (done st time [])) →
+      (Outside v → P (graftRefused st time t s (peerIn st s))) →
+      (Early v time t → P (graftRefused st time t s (raisedP7 (peerIn st s)))) →
+      (Entering v (isCrowded st t) time t → P (done (onTopic st s t (λ r. intoMesh r time)) time [])) →
+      P (graftReply st time t s)
+  unfolding graftReply graftCase isHeard
+  by-graft apart member refused early enters =
+      cond-case Of (not (v .joined)) _ _ (λ a. apart (silent (not-true (v .joined) a))) (λ a.
+      let joined = not-false (v .joined) a in
+      cond-case Of (v .sender .graylisted) _ _ (λ b. apart (low joined b)) (λ b.
+      let told : heard v ≡ true = rw (joined, b) in
+      cond-case Of (eqb (v .topic .member) 1) _ _ (λ c. member told c) (λ c.
+      let outside : Outside v = record { heard = told; joined = joined; new = c } in
+      cond-case Of (eqb (v .sender .peer .explicit) 1) _ _ (λ d. refused outside) (λ d.
+      cond-case Of (backoffRuns (v .sender .peer) t time) _ _ (λ e. early (record { outside = outside; plain = d; runs = e })) (λ e.
+      cond-case Of (v .sender .negative) _ _ (λ f. refused outside) (λ f.
+      cond-case Of (not (eqb (v .topic .subscribed) 1)) _ _ (λ g. refused outside) (λ g.
+      cond-case Of (isCrowded st t && eqb (v .sender .peer .outbound) 0) _ _ (λ h. refused outside) (λ h.
+      enters
+      (record {
+        outside = outside;
+        plain = d;
+        over = e;
+        worthy = f;
+        subscribed = not-false (eqb (v .topic .subscribed) 1) g;
+        room = h;
+      })))))))))

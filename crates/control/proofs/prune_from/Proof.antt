@@ -13,9 +13,9 @@ prune-from-spec =
     (tie.spec
     (λ c κs. search needs)
     (λ c. search needs)
+    (λ c. search needs)
+    (λ c. search needs)
+    (λ c. search peer-none)
     (λ c κs. search (found-below, needs))
     (λ c. search needs)
-    (λ c. search needs)
-    (λ c. search peer-at)
-    (λ c. search needs)
-    (λ c. search peer-none))
+    (λ c. search peer-at))

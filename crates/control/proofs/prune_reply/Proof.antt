@@ -15,7 +15,7 @@ returns c =
     let pruned = c .before .before .before .before .before .before in
     let ended = pruned .before .before in
     let tested = ended .before .before .before in
-    let seen = tested .before .before .before in
+    let seen = tested .before .before .before .before in
     let heard = heard-is _ _ _ _ _ (seen .see .ensures) (tested .if1 .taken) in
     let left =
     pruned-is _ _ _ _ _ _ _ _ (ended .before .seconds-of .ensures .0) (ended .end-after .ensures .0) (pruned .prune-slot .ensures) in
