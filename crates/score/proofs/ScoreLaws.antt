@@ -12,7 +12,7 @@ use lib.Signed.{ltZ}
 use Rattle.index.specs.Index.{count}
 use Rattle.index.proofs.Index.{count-bound}
 use Rattle.varint.specs.Codes.{numberOf}
-use Rattle.params.specs.Joint.{place as topicPlace}
+use Rattle.limits.specs.Limits.{place as topicPlace}
 use Rattle.records.specs.declared.Peer.{Peer}
 use Rattle.records.specs.Records.{State, topicCount, place, peerIn, topicIn, isConnected}
 use Rattle.validity.specs.Valid.{valid}
