@@ -16,9 +16,9 @@ use Rattle.varint.specs.Codes.{numberOf}
 use Rattle.varint.specs.declared.Read.{Read}
 use Rattle.varint.specs.declared.Read.the-variants.{Number, Bad}
 use Rattle.varint.proofs.GroupLaws.{readAt-end}
-use Rattle.params.specs.Read.{Parse, numbers, malformed, then, step, parseFrom, ending, judged, readOf}
+use Rattle.params_bytes.specs.Read.{Parse, numbers, malformed, then, step, parseFrom, ending, judged, readOf}
 use Rattle.varint.proofs.GroupLaws.{after-small}
-use Rattle.params.proofs.PlaceLaws.{by-byte, read-last, read-more, next-near, placeOf, parse-place}
+use Rattle.params_bytes.proofs.PlaceLaws.{by-byte, read-last, read-more, next-near, placeOf, parse-place}
 use Rattle.records.specs.Records.{paramCount}
 
 -- ---- a number below 128 ^ suc k takes at most suc k bytes, so what stands m bytes or more from the front does not matter

@@ -14,9 +14,9 @@ use Rattle.index.specs.Index.{gather}
 use Rattle.index.proofs.Index.{gather-none, gather-more}
 use Rattle.text.specs.Text.{decimal, signedText, Stored}
 use Rattle.text.proofs.TextLaws.{signed-length, stored-then}
-use Rattle.params.specs.Read.{readOf, verdictNumber, verdictValue}
-use Rattle.params.specs.declared.Verdict.{Verdict}
-use Rattle.params.specs.declared.Reading.{Reading}
+use Rattle.params_bytes.specs.Read.{readOf, verdictNumber, verdictValue}
+use Rattle.params_bytes.specs.declared.Verdict.{Verdict}
+use Rattle.params_bytes.specs.declared.Reading.{Reading}
 use Rattle.show_params.specs.Show.{headText, lineText, lineAt, numbersText, restText, shownText}
 use Rattle.records.specs.Records.{paramCount}
 

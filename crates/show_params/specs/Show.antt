@@ -6,10 +6,10 @@ use lib.ListN.{getD}
 use lib.IntN.{ℤ, pos}
 use Rattle.index.specs.Index.{gather}
 use Rattle.text.specs.Text.{decimal, signedText}
-use Rattle.params.specs.Read.{verdictNumber, verdictValue}
-use Rattle.params.specs.declared.Verdict.{Verdict}
-use Rattle.params.specs.declared.Verdict.the-variants.{Accepted, Malformed, Broken}
-use Rattle.params.specs.declared.Reading.{Reading}
+use Rattle.params_bytes.specs.Read.{verdictNumber, verdictValue}
+use Rattle.params_bytes.specs.declared.Verdict.{Verdict}
+use Rattle.params_bytes.specs.declared.Verdict.the-variants.{Accepted, Malformed, Broken}
+use Rattle.params_bytes.specs.declared.Reading.{Reading}
 use Rattle.records.specs.Records.{paramCount}
 
 -- two numbers with a space (32) between them, and the end of the line (10)
