@@ -30,8 +30,8 @@ use Rattle.sets.specs.Sets.{
   goer,
 }
 use Rattle.mesh.specs.Maintenance.{mesh1, mesh2, theBest, keepers, swapped, mesh3, mesh4, mesh5, meshes, changesOf, actionsOn, actionsOf}
-use Rattle.rules.specs.Step.{isNegative, isGraylisted, isHeard, secondsOf, pruneReply, graftRefused, meshFull, graftEnters, graftOpen}
-use Rattle.rules.specs.Step.{graftBackoff, graftHeard, graftReply, isCandidate, heightIn, degreesIn, viewIn, meshesIn, punished, settleSlot}
+use Rattle.rules.specs.Step.{isNegative, isGraylisted, isHeard, secondsOf, pruneReply, graftRefused, raisedP7, isCrowded, graftCase}
+use Rattle.rules.specs.Step.{graftReply, isCandidate, heightIn, degreesIn, viewIn, meshesIn, punished, settleSlot}
 use Rattle.rules.specs.Step.{heartbeatActions, maintainedReply, heartbeatReply, effect}
 use Rattle.examples.specs.Table.{lonely, short, shortSum, peer, inTopic, peers, topics, crowd, prunedFor60, grafted, maintained}
 use Rattle.examples.specs.Table.{Examples}
@@ -44,7 +44,7 @@ unfolding graftedAt rated stays withP5 withP7 retainedTo reclaimable fadedOf top
     peers topics crowd prunedFor60 grafted maintained
     pruneReply secondsOf pruned withEnd outOfMesh intoMesh isHeard isGraylisted isNegative scoreIn topicScore topicParamsIn sharesGroup
     sharing
-    allTopics bounded whyOf whyIn graftRefused graftEnters graftOpen graftBackoff graftHeard graftReply meshFull meshSize isMember
+    allTopics bounded whyOf whyIn graftRefused raisedP7 isCrowded graftCase graftReply meshSize isMember
     holds findConnected count every first iter gather codeIn joinedIn peerIn topicIn setPeer setTopic setClock
     isCandidate heightIn degreesIn viewIn meshesIn punished settleSlot heartbeatActions maintainedReply heartbeatReply effect
     bySlot size both except from occurs isPermutation ascending inOrder fill top bests bottom goer firstOf lastOf swapOnce swapTo

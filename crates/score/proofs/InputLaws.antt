@@ -6,10 +6,10 @@ use mathlib.Core.Bool.{true}
 use native.Mathlib.Omega.{arith}
 use lib.Dec.{lit<}
 use lib.IntN.{pos, negℤ}
-use Rattle.params.specs.Limits.{limits, limitAt}
-use Rattle.params.specs.Joint.{place as topicPlace}
-use Rattle.params.proofs.LimitLaws.{topic-field}
-use Rattle.params.proofs.FieldLaws.{gain-of, loss-of}
+use Rattle.limits.specs.Limits.{limits, limitAt}
+use Rattle.limits.specs.Limits.{place as topicPlace}
+use Rattle.limits.proofs.LimitLaws.{topic-field}
+use Rattle.limits.proofs.FieldLaws.{gain-of, loss-of}
 use Rattle.params.proofs.ParamLaws.{within, general, topic}
 use Rattle.records.specs.Records.{State, topicCount, place, codeIn, peerIn, topicIn, slotCount}
 use Rattle.validity.specs.Valid.{topicParam, valid}

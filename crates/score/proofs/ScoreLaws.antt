@@ -7,7 +7,7 @@ use native.Mathlib.Omega.{arith}
 use lib.IntN.{pos, natAbs, subℕ, _+ℤ_, _*ℤ_}
 use Rattle.index.proofs.Index.{count-bound}
 use Rattle.varint.specs.Codes.{numberOf}
-use Rattle.params.specs.Joint.{place as topicPlace}
+use Rattle.limits.specs.Limits.{place as topicPlace}
 use Rattle.records.specs.declared.Peer.{Peer}
 use Rattle.records.specs.Records.{State, topicCount, place, peerIn, topicIn, slotCount}
 use Rattle.validity.specs.Valid.{valid}

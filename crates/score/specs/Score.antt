@@ -8,7 +8,7 @@ use lib.Dec.{eqb}
 use lib.IntN.{ℤ}
 use Rattle.index.specs.Index.{count}
 use Rattle.varint.specs.Codes.{numberOf}
-use Rattle.params.specs.Joint.{place as topicPlace}
+use Rattle.limits.specs.Limits.{place as topicPlace}
 use Rattle.records.specs.Records.{State, slotCount, topicCount, place, codeIn, peerIn, topicIn, isConnected}
 use Rattle.records.specs.Parameters.{topicCapAt, w5At, w6At, p6ThresholdAt, w7At, weightAt, w1At, p1QuantumAt, p1CapAt, w2At, p2DecayAt}
 use Rattle.records.specs.Parameters.{p2CapAt, w3At, p3DecayAt, p3CapAt, p3ThresholdAt, p3ActivationAt, w3bAt, p3bDecayAt, w4At, p4DecayAt}
