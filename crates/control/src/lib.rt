@@ -32,6 +32,7 @@ use gate::time_ok;
 use gate::topic_ok;
 use index::Found;
 use layout::CELLS;
+use records::param;
 use rules::Answer;
 use rules::Gate;
 
@@ -47,7 +48,7 @@ fn refuse_graft(
     ensures { λ r. ⌜ Gives (graftRefused (stateOf (now (table .entry))) time topic slot) r (now (table .entry)) (now (table .exit)) (now (actions .entry)) (now (actions .exit)) ⌝ }
 {
     let p = layout::load_peer(table, slot);
-    let seconds = load_size(table, 5);
+    let seconds = load_size(table, param::PRUNE_BACKOFF);
     put_prune(actions, 0, p, seconds);
     delay(table, topic, slot, end_after(time, seconds));
     layout::store_clock(table, time);
@@ -60,7 +61,7 @@ fn mesh_full(table: &[u64], topic: usize, slot: usize) -> bool
     ensures { λ r. ⌜ r ≡ meshFull (stateOf (now (table .entry))) topic slot ⌝ }
 {
     let p = layout::load_peer(table, slot);
-    (load_size(table, 2) <= mesh_size(table, topic) as u64) & (p.outbound == 0)
+    (load_size(table, param::D_HI) <= mesh_size(table, topic) as u64) & (p.outbound == 0)
 }
 
 fn graft_enters(table: &[u64], topic: usize, slot: usize) -> bool
@@ -173,7 +174,7 @@ fn seconds_of(table: &[u64], seconds: u64) -> u64
     ensures { λ r. ⌜ (r ≡ secondsOf (stateOf (now (table .entry))) seconds) × (r ≤ 3600) ⌝ }
 {
     if seconds == 0 {
-        return load_size(table, 5);
+        return load_size(table, param::PRUNE_BACKOFF);
     }
     if seconds <= 3600 { seconds } else { 3600 }
 }

@@ -29,6 +29,7 @@ use lookup::find::find_connected;
 use records::SLOTS;
 use records::TOPICS;
 use records::TopicRecord;
+use records::param;
 use rules::Answer;
 use rules::Gate;
 
@@ -94,7 +95,7 @@ fn decay_topic(table: &mut [u64], time: u64, slot: usize, topic: usize)
     layout::store_topic(
         table,
         slot * 8 + topic,
-        score::counters::decayed(t, load_size(table, 18), time, r),
+        score::counters::decayed(t, load_size(table, param::DECAY_TO_ZERO), time, r),
     );
 }
 
@@ -119,7 +120,11 @@ fn decay_p7(table: &mut [u64], slot: usize)
         slot,
         with_p7(
             p,
-            score::counters::faded(load_size(table, 18), load_size(table, 17), p.p7),
+            score::counters::faded(
+                load_size(table, param::DECAY_TO_ZERO),
+                load_size(table, param::P7_DECAY),
+                p.p7,
+            ),
         ),
     );
 }

@@ -7,22 +7,23 @@ use Rattle.index.specs.Index.{every, count, iter}
 use Rattle.records.specs.declared.Peer.{Peer}
 use Rattle.records.specs.declared.TopicRecord.{TopicRecord}
 use Rattle.records.specs.Records.{State, slotCount, topicCount, noPeer, noTopic, place, codeIn, joinedIn, peerIn, topicIn, setPeer, setTopic, isRetained}
+use Rattle.records.specs.Parameters.{dHiAt, pruneBackoffAt, unsubscribeBackoffAt, retainAt}
 
 -- ---- parameters that the rules use, as magnitudes (their signs are fixed by their limits); seconds unless said
 abbrev pub magnitude : ℕ → ℕ
 magnitude code = (code + 1) / 2
 
 abbrev pub highDegree : State → ℕ
-highDegree st = magnitude (codeIn st 2)
+highDegree st = magnitude (codeIn st dHiAt)
 
 abbrev pub pruneBackoff : State → ℕ
-pruneBackoff st = magnitude (codeIn st 5)
+pruneBackoff st = magnitude (codeIn st pruneBackoffAt)
 
 abbrev pub unsubscribeBackoff : State → ℕ
-unsubscribeBackoff st = magnitude (codeIn st 6)
+unsubscribeBackoff st = magnitude (codeIn st unsubscribeBackoffAt)
 
 abbrev pub retainSeconds : State → ℕ
-retainSeconds st = magnitude (codeIn st 7)
+retainSeconds st = magnitude (codeIn st retainAt)
 
 -- ---- a peer's record with other numbers
 -- "the end to the later of old and .."

@@ -9,6 +9,7 @@ ghost use Rattle.rules.specs.Step.{gateOf, isNegative, isGraylisted, isHeard};
 ghost use Rattle.gate.specs.Ready.{Standing};
 use effects::slots::is_joined;
 use effects::slots::load_size;
+use records::param;
 use rules::Answer;
 use rules::Gate;
 use validity::valid::MAX_ID;
@@ -87,7 +88,10 @@ pub fn is_graylisted(table: &[u64], slot: usize) -> bool
 {
     let p = layout::load_peer(table, slot);
     (p.explicit == 0)
-        & score::sums::is_below(peer_score::score_of(table, slot), load_size(table, 9))
+        & score::sums::is_below(
+            peer_score::score_of(table, slot),
+            load_size(table, param::GRAYLIST_THRESHOLD),
+        )
 }
 
 // The topic is joined, and the peer not graylisted.

@@ -33,6 +33,7 @@ use mesh::actions::write_actions;
 use mesh::steps::changes;
 use mesh::steps::maintain;
 use records::SLOTS;
+use records::param;
 use rules::Answer;
 use rules::Gate;
 use sets::permutation::copied;
@@ -55,7 +56,7 @@ fn maintain_topic(
     let members = v.members;
     let scores = v.scores;
     let mesh = m.fifth;
-    let seconds = load_size(table, 5);
+    let seconds = load_size(table, param::PRUNE_BACKOFF);
     let n = write_actions(
         actions,
         changes(members, m),

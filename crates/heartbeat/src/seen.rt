@@ -17,6 +17,7 @@ use mesh::Degrees;
 use mesh::View;
 use mesh::ZERO_SCORE;
 use records::SLOTS;
+use records::param;
 
 // The members of a topic's mesh.
 pub fn members(table: &[u64], topic: usize) -> [bool; SLOTS]
@@ -117,12 +118,12 @@ pub fn degrees(table: &[u64]) -> Degrees
     ensures { λ r. ⌜ r ≡ degreesIn (stateOf (now (table .entry))) ⌝ }
 {
     Degrees {
-        lo: load_size(table, 0),
-        d: load_size(table, 1),
-        hi: load_size(table, 2),
-        out: load_size(table, 3),
-        score: load_size(table, 4),
-        threshold: ZERO_SCORE + load_size(table, 8) * 1000000,
+        lo: load_size(table, param::D_LO),
+        d: load_size(table, param::D),
+        hi: load_size(table, param::D_HI),
+        out: load_size(table, param::D_OUT),
+        score: load_size(table, param::D_SCORE),
+        threshold: ZERO_SCORE + load_size(table, param::OPPORTUNISTIC_THRESHOLD) * 1000000,
     }
 }
 

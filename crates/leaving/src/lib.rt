@@ -24,6 +24,7 @@ use gate::time_ok;
 use gate::topic_ok;
 use layout::CELLS;
 use records::SLOTS;
+use records::param;
 use rules::Answer;
 use rules::Gate;
 
@@ -117,7 +118,7 @@ fn leave_from(table: &mut [u64], time: u64, topic: usize, actions: &mut [u32]) -
         return ignore(table, time);
     }
     let negative = negatives(table, topic);
-    let seconds = load_size(table, 6);
+    let seconds = load_size(table, param::UNSUBSCRIBE_BACKOFF);
     let n = leave_slots(
         table,
         actions,

@@ -15,6 +15,7 @@ ghost use Rattle.score.specs.Score.{sizeIn, topicParamsIn, scoreParamsIn, share
 use effects::slots::load_size;
 use records::SLOTS;
 use records::TOPICS;
+use records::param;
 use score::Balance;
 use score::Parts;
 use score::ScoreParams;
@@ -37,22 +38,22 @@ pub fn load_params(table: &[u64], t: usize) -> TopicParams
     ensures { λ r. ⌜ r ≡ topicParamsIn (stateOf (now (table .entry))) t ⌝ }
 {
     TopicParams {
-        weight: load_param(table, t, 0),
-        w1: load_param(table, t, 1),
-        quantum: load_param(table, t, 2),
-        cap1: load_param(table, t, 3),
-        w2: load_param(table, t, 4),
-        decay2: load_param(table, t, 5),
-        cap2: load_param(table, t, 6),
-        w3: load_param(table, t, 7),
-        decay3: load_param(table, t, 8),
-        cap3: load_param(table, t, 9),
-        threshold: load_param(table, t, 10),
-        activation: load_param(table, t, 11),
-        w3b: load_param(table, t, 12),
-        decay3b: load_param(table, t, 13),
-        w4: load_param(table, t, 14),
-        decay4: load_param(table, t, 15),
+        weight: load_param(table, t, param::WEIGHT),
+        w1: load_param(table, t, param::W1),
+        quantum: load_param(table, t, param::P1_QUANTUM),
+        cap1: load_param(table, t, param::P1_CAP),
+        w2: load_param(table, t, param::W2),
+        decay2: load_param(table, t, param::P2_DECAY),
+        cap2: load_param(table, t, param::P2_CAP),
+        w3: load_param(table, t, param::W3),
+        decay3: load_param(table, t, param::P3_DECAY),
+        cap3: load_param(table, t, param::P3_CAP),
+        threshold: load_param(table, t, param::P3_THRESHOLD),
+        activation: load_param(table, t, param::P3_ACTIVATION),
+        w3b: load_param(table, t, param::W3B),
+        decay3b: load_param(table, t, param::P3B_DECAY),
+        w4: load_param(table, t, param::W4),
+        decay4: load_param(table, t, param::P4_DECAY),
     }
 }
 
@@ -62,11 +63,11 @@ pub fn load_general(table: &[u64]) -> ScoreParams
     ensures { λ r. ⌜ r ≡ scoreParamsIn (stateOf (now (table .entry))) ⌝ }
 {
     ScoreParams {
-        cap: load_size(table, 12),
-        w5: load_size(table, 13),
-        w6: load_size(table, 14),
-        threshold: load_size(table, 15),
-        w7: load_size(table, 16),
+        cap: load_size(table, param::TOPIC_CAP),
+        w5: load_size(table, param::W5),
+        w6: load_size(table, param::W6),
+        threshold: load_size(table, param::P6_THRESHOLD),
+        w7: load_size(table, param::W7),
     }
 }
 

@@ -26,6 +26,7 @@ use index::Found;
 use layout::CELLS;
 use lookup::Named;
 use lookup::find::find_connected;
+use records::param;
 use rules::Answer;
 use rules::Gate;
 use validity::valid::MAX_ID;
@@ -116,7 +117,11 @@ fn disconnect_from(table: &mut [u64], time: u64, id: u64) -> Answer
     let Found::At(slot) = find_connected(table, id) else {
         return Answer::NotConnected;
     };
-    retain_slot(table, slot, end_after(time, load_size(table, 7)));
+    retain_slot(
+        table,
+        slot,
+        end_after(time, load_size(table, param::RETAIN)),
+    );
     finish(table, time)
 }
 

@@ -1,6 +1,8 @@
 // The records that the router holds (01, "What the router holds"). Every field is a number, and a flag is 0 or 1, so that an empty record
 // is all zeros. A new field changes the layout (crate layout), test 12 (crate validity) and the `with..` definitions of specs/Records.antt.
 
+pub mod param;
+
 // How many peers the router holds, and how many topics.
 pub const SLOTS: usize = 64;
 

@@ -13,6 +13,7 @@ use Rattle.varint.specs.Codes.{numberOf, codeOf}
 use Rattle.records.specs.declared.Peer.{Peer}
 use Rattle.records.specs.declared.TopicRecord.{TopicRecord}
 use Rattle.records.specs.Records.{State, slotCount, topicCount, codeIn, peerIn, topicIn, place, setClock, setPeer, setJoined, isConnected}
+use Rattle.records.specs.Parameters.{dLoAt, dAt, dOutAt, dScoreAt, opportunisticThresholdAt, graylistThresholdAt, p7DecayAt, decayToZeroAt}
 use Rattle.validity.specs.Valid.{valid}
 use Rattle.lookup.specs.Find.{findConnected, findRetained, lowestEmpty}
 use Rattle.lookup.specs.declared.Named.{Named}
@@ -66,7 +67,7 @@ isNegative st s = ltZ (scoreIn st s) (pos 0)
 
 -- "from a non-explicit peer scoring below graylist"; the threshold is in thousandths of a point
 unfoldable pub isGraylisted : State → ℕ → Bool
-isGraylisted st s = eqb (peerIn st s .explicit) 0 && ltZ (scoreIn st s) (numberOf (codeIn st 9) *ℤ pos 1000000)
+isGraylisted st s = eqb (peerIn st s .explicit) 0 && ltZ (scoreIn st s) (numberOf (codeIn st graylistThresholdAt) *ℤ pos 1000000)
 
 -- what GRAFT, PRUNE and delivery ask first: the topic is joined, and the peer not graylisted
 unfoldable pub isHeard : State → ℕ → ℕ → Bool
@@ -210,12 +211,12 @@ heightIn st s = natAbs (pos zeroScore +ℤ scoreIn st s)
 unfoldable pub degreesIn : State → Degrees
 degreesIn st =
     record {
-      lo = magnitude (codeIn st 0);
-      d = magnitude (codeIn st 1);
+      lo = magnitude (codeIn st dLoAt);
+      d = magnitude (codeIn st dAt);
       hi = highDegree st;
-      out = magnitude (codeIn st 3);
-      score = magnitude (codeIn st 4);
-      threshold = zeroScore + magnitude (codeIn st 8) * 1000000;
+      out = magnitude (codeIn st dOutAt);
+      score = magnitude (codeIn st dScoreAt);
+      threshold = zeroScore + magnitude (codeIn st opportunisticThresholdAt) * 1000000;
     }
 
 -- "Scores and candidates are those at the start"
@@ -276,13 +277,13 @@ heartbeatReply st time t ask order =
 -- ---- decay, "connected peers only"
 -- decay-to-zero and P7's decay are the general numbers 18 and 17
 abbrev pub decayFloor : State → ℕ
-decayFloor st = magnitude (codeIn st 18)
+decayFloor st = magnitude (codeIn st decayToZeroAt)
 
 unfoldable pub decayTopic : ℕ → ℕ → ℕ → State → State
 decayTopic time s t st = onTopic st s t (decayedOf (topicParamsIn st t) (decayFloor st) time)
 
 unfoldable pub decayP7 : ℕ → State → State
-decayP7 s st = onPeer st s (λ p. withP7 p (fadedOf (decayFloor st) (magnitude (codeIn st 17)) (p .p7)))
+decayP7 s st = onPeer st s (λ p. withP7 p (fadedOf (decayFloor st) (magnitude (codeIn st p7DecayAt)) (p .p7)))
 
 unfoldable pub decaySlot : ℕ → ℕ → State → State
 decaySlot time s st = cond (isConnected (peerIn st s)) (decayP7 s (iter topicCount (decayTopic time s) st)) st

@@ -9,6 +9,7 @@ use Rattle.index.specs.Index.{count}
 use Rattle.varint.specs.Codes.{numberOf}
 use Rattle.params.specs.Joint.{place as topicPlace}
 use Rattle.records.specs.Records.{State, slotCount, topicCount, place, codeIn, peerIn, topicIn, isConnected}
+use Rattle.records.specs.Parameters.{topicCapAt, w5At, w6At, p6ThresholdAt, w7At, weightAt, w1At, p1QuantumAt, p1CapAt, w2At, p2DecayAt, p2CapAt, w3At, p3DecayAt, p3CapAt, p3ThresholdAt, p3ActivationAt, w3bAt, p3bDecayAt, w4At, p4DecayAt}
 use Rattle.score.specs.declared.TopicParams.{TopicParams}
 use Rattle.score.specs.declared.ScoreParams.{ScoreParams}
 use Rattle.score.specs.declared.Balance.{Balance}
@@ -29,28 +30,28 @@ sizeIn st i = (codeIn st i + 1) / 2
 unfoldable pub topicParamsIn : State → ℕ → TopicParams
 topicParamsIn st t =
     record {
-      weight = sizeIn st (topicPlace t 0);
-      w1 = sizeIn st (topicPlace t 1);
-      quantum = sizeIn st (topicPlace t 2);
-      cap1 = sizeIn st (topicPlace t 3);
-      w2 = sizeIn st (topicPlace t 4);
-      decay2 = sizeIn st (topicPlace t 5);
-      cap2 = sizeIn st (topicPlace t 6);
-      w3 = sizeIn st (topicPlace t 7);
-      decay3 = sizeIn st (topicPlace t 8);
-      cap3 = sizeIn st (topicPlace t 9);
-      threshold = sizeIn st (topicPlace t 10);
-      activation = sizeIn st (topicPlace t 11);
-      w3b = sizeIn st (topicPlace t 12);
-      decay3b = sizeIn st (topicPlace t 13);
-      w4 = sizeIn st (topicPlace t 14);
-      decay4 = sizeIn st (topicPlace t 15);
+      weight = sizeIn st (topicPlace t weightAt);
+      w1 = sizeIn st (topicPlace t w1At);
+      quantum = sizeIn st (topicPlace t p1QuantumAt);
+      cap1 = sizeIn st (topicPlace t p1CapAt);
+      w2 = sizeIn st (topicPlace t w2At);
+      decay2 = sizeIn st (topicPlace t p2DecayAt);
+      cap2 = sizeIn st (topicPlace t p2CapAt);
+      w3 = sizeIn st (topicPlace t w3At);
+      decay3 = sizeIn st (topicPlace t p3DecayAt);
+      cap3 = sizeIn st (topicPlace t p3CapAt);
+      threshold = sizeIn st (topicPlace t p3ThresholdAt);
+      activation = sizeIn st (topicPlace t p3ActivationAt);
+      w3b = sizeIn st (topicPlace t w3bAt);
+      decay3b = sizeIn st (topicPlace t p3bDecayAt);
+      w4 = sizeIn st (topicPlace t w4At);
+      decay4 = sizeIn st (topicPlace t p4DecayAt);
     }
 
 -- topic cap, w5, w6, P6 threshold, w7
 unfoldable pub scoreParamsIn : State → ScoreParams
 scoreParamsIn st =
-    record { cap = sizeIn st 12; w5 = sizeIn st 13; w6 = sizeIn st 14; threshold = sizeIn st 15; w7 = sizeIn st 16 }
+    record { cap = sizeIn st topicCapAt; w5 = sizeIn st w5At; w6 = sizeIn st w6At; threshold = sizeIn st p6ThresholdAt; w7 = sizeIn st w7At }
 
 -- "how many connected peers share its group, itself counted"
 unfoldable pub sharesGroup : State → ℕ → ℕ → Bool
@@ -63,12 +64,12 @@ sharing st group = count slotCount (sharesGroup st group)
 unfoldable pub topicScore : State → ℕ → ℕ → ℤ
 topicScore st s t =
     topicSum
-    (paramIn st (topicPlace t 0))
-    (paramIn st (topicPlace t 1))
-    (paramIn st (topicPlace t 4))
-    (paramIn st (topicPlace t 7))
-    (paramIn st (topicPlace t 12))
-    (paramIn st (topicPlace t 14))
+    (paramIn st (topicPlace t weightAt))
+    (paramIn st (topicPlace t w1At))
+    (paramIn st (topicPlace t w2At))
+    (paramIn st (topicPlace t w3At))
+    (paramIn st (topicPlace t w3bAt))
+    (paramIn st (topicPlace t w4At))
     (part1Of (topicParamsIn st t) (topicIn st (place s t)))
     (part2Of (topicIn st (place s t)))
     (part3Of (topicParamsIn st t) (topicIn st (place s t)))
@@ -79,13 +80,13 @@ topicScore st s t =
 unfoldable pub whyIn : State → ℕ → Why
 whyIn st s =
     whyOf
-    (sizeIn st 12)
+    (sizeIn st topicCapAt)
     (allTopics topicCount (topicScore st s))
-    (paramIn st 13)
+    (paramIn st w5At)
     (numberOf (peerIn st s .p5))
-    (paramIn st 14)
-    (surplusOf (sizeIn st 15) (sharing st (peerIn st s .group)))
-    (paramIn st 16)
+    (paramIn st w6At)
+    (surplusOf (sizeIn st p6ThresholdAt) (sharing st (peerIn st s .group)))
+    (paramIn st w7At)
     (peerIn st s .p7)
 
 -- "All score work takes it from this answer."

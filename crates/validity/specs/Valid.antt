@@ -9,6 +9,7 @@ use Rattle.params.specs.Check.{acceptedCodes}
 use Rattle.records.specs.declared.Peer.{Peer}
 use Rattle.records.specs.declared.TopicRecord.{TopicRecord}
 use Rattle.records.specs.Records.{State, slotCount, topicCount, place, codeIn, joinedIn, peerIn, topicIn, isEmpty, isRetained}
+use Rattle.records.specs.Parameters.{p2CapAt, p3CapAt}
 
 -- "Times are milliseconds, 0 to 2^40."
 abbrev pub maxTime : ℕ
@@ -131,10 +132,10 @@ topicParam st t j = (codeIn st (19 + 16 * t + j) + 1) / 2
 
 -- P2 cap and P3 cap
 abbrev pub cap2 : State → ℕ → ℕ
-cap2 st t = topicParam st t 6
+cap2 st t = topicParam st t p2CapAt
 
 abbrev pub cap3 : State → ℕ → ℕ
-cap3 st t = topicParam st t 9
+cap3 st t = topicParam st t p3CapAt
 
 -- a joined flag is 0 or 1
 unfoldable pub joinedOk : State → ℕ → Bool

@@ -16,6 +16,7 @@ use records::Peer;
 use records::SLOTS;
 use records::TOPICS;
 use records::TopicRecord;
+use records::param;
 
 // The greatest time, backoff end, retain end, and id or group.
 pub const MAX_TIME: u64 = 1099511627776;
@@ -30,10 +31,6 @@ pub const MAX_ID: u64 = 4294967295;
 const TOPIC_PARAMS: usize = 19;
 
 const PER_TOPIC: usize = 16;
-
-const P2_CAP: usize = 6;
-
-const P3_CAP: usize = 9;
 
 // Whether each number of a peer's record is in its range, but for the backoff ends.
 fn peer_ranges(p: Peer) -> bool
@@ -242,8 +239,8 @@ fn topic_at(table: &[u64], slot: usize, status: u64, explicit: u64, t: usize) ->
 {
     let joined = layout::load_joined(table, t);
     let clock = layout::load_clock(table);
-    let cap2 = topic_param(table, t, P2_CAP);
-    let cap3 = topic_param(table, t, P3_CAP);
+    let cap2 = topic_param(table, t, param::P2_CAP);
+    let cap3 = topic_param(table, t, param::P3_CAP);
     let r = layout::load_topic(table, slot * TOPICS + t);
     topic_ok(status, explicit, joined, clock, cap2, cap3, r)
 }
@@ -391,8 +388,8 @@ fn slots_ok(table: &[u64]) -> bool
     requires { ⌜ (length (now table) ≡ cellCount) × (stateOf (now table) .clock ≤ maxTime) ⌝ }
     ensures { λ r. ⌜ r ≡ every slotCount (slotOk (stateOf (now (table .entry)))) ⌝ }
 {
-    let caps2 = caps(table, P2_CAP);
-    let caps3 = caps(table, P3_CAP);
+    let caps2 = caps(table, param::P2_CAP);
+    let caps3 = caps(table, param::P3_CAP);
     let mut slot: usize = 0;
     while slot < SLOTS {
         if !slot_ok(table, &caps2, &caps3, slot) {
