@@ -22,11 +22,15 @@ eventText rest st unknown = pairLine 2 0
 eventText rest st malformed = pairLine 10 0
 eventText rest st short = pairLine 10 0
 
--- of at most n events from a state on, to the end of the bytes
+-- "until the end": where no bytes are left nothing is printed
+abbrev pub unlessEnd : List ℕ → List ℕ → List ℕ
+unlessEnd [] text = []
+unlessEnd (b ∷ s) text = text
+
+-- of at most n events from a state on
 unfoldable pub textFrom : ℕ → State → List ℕ → List ℕ
-textFrom n st [] = []
-textFrom zero st (b ∷ s) = []
-textFrom (suc n) st (b ∷ s) = eventText (λ left next. textFrom n left (drop next (b ∷ s))) st (eventAt (b ∷ s) 0)
+textFrom zero st s = []
+textFrom (suc n) st s = unlessEnd s (eventText (λ left next. textFrom n left (drop next s)) st (eventAt s 0))
 
 -- of all events: each takes a byte at least
 unfoldable pub eventsText : State → List ℕ → List ℕ
