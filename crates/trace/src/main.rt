@@ -2,10 +2,10 @@
 // leaves is crate trace_feed, and that its turns print what the whole input prints, however the input is cut, is `EveryCut` there. Here bytes
 // are moved and nothing else: main makes a turn on the window's bytes, writes the first `written` bytes of the page and, where more bytes are
 // wanted, reads what is there behind the window's end, until the trace is over. No contract can say which bytes a call of the system reads and
-// writes, so of main itself it is proved that it is safe, ends and makes its turns as `turn` asks.
+// writes; but that main's turns and readings are those of which `EveryCut` speaks is its loop's invariant.
 ghost use Prim.Native.Nat.{_≤_};
 ghost use lib.ListN.{length};
-ghost use Rattle.trace_feed.specs.Turns.{Inside};
+ghost use Rattle.trace_feed.specs.Turns.{Inside, Refills};
 use layout::CELLS;
 use libc::STDIN_FILENO;
 use libc::STDOUT_FILENO;
@@ -19,11 +19,14 @@ fn say(page: &[u8], n: usize)
     io::write_all(STDOUT_FILENO, &page[..n]);
 }
 
-// Reads what is there, behind the window's end. Where nothing is, or the reading fails, the input has ended.
-fn fill(buf: &mut [u8], w: Window) -> Window
+// Where more bytes are wanted, reads what is there, behind the window's end. Where nothing is, or the reading fails, the input has ended.
+fn refill(buf: &mut [u8], w: Window) -> Window
     requires { ⌜ Inside w (now buf) ⌝ }
-    ensures { λ r. ⌜ Inside r (now (buf .exit)) ⌝ }
+    ensures { λ r. ⌜ Refills w r (now (buf .entry)) (now (buf .exit)) ⌝ }
 {
+    if !w.wants {
+        return w;
+    }
     let end = w.end;
     let part = &mut buf[end..];
     let got = libc::read(STDIN_FILENO, part);
@@ -45,9 +48,7 @@ fn main() {
         if let Stage::Over = stage {
             break;
         }
-        if w.wants {
-            w = fill(&mut buf, w);
-        }
+        w = refill(&mut buf, w);
         turns -= 1;
     }
 }

@@ -163,22 +163,22 @@ module _ (x y : Standing) (s : Stands x) where
         }
 
   module _ (m : Filled x y) where
-    filled-part : pending (y .window) (y .buffer) ≡ pending (x .window) (x .buffer) ++ take (m .n) (drop (x .window .end) (y .buffer))
+    filled-part : pending (y .window) (y .buffer) ≡ pending (x .window) (x .buffer) ++ take (m .fills .n) (drop (x .window .end) (y .buffer))
     filled-part =
-        ap (λ (v : Window). pending v (y .buffer)) (m .window)
-        ∙ part-filled (x .window .at) (x .window .end) (x .buffer) (s .inside .low) (s .inside .high) (m .n) (y .buffer) (m .front)
+        ap (λ (v : Window). pending v (y .buffer)) (m .fills .window)
+        ∙ part-filled (x .window .at) (x .window .end) (x .buffer) (s .inside .low) (s .inside .high) (m .fills .n) (y .buffer) (m .fills .front)
 
     abbrev read : List ℕ
-    read = take (m .n) (drop (x .window .end) (y .buffer))
+    read = take (m .fills .n) (drop (x .window .end) (y .buffer))
 
     stands-filled : Stands y
     stands-filled =
         let h = s .inside .high in
         let l = s .inside .low in
-        let z = m .size in
-        let f = m .fits in
+        let z = m .fills .size in
+        let f = m .fills .fits in
         let g = s .size in
-        let no : y .window .wants ≡ false = ap (λ (v : Window). v .wants) (m .window) in
+        let no : y .window .wants ≡ false = ap (λ (v : Window). v .wants) (m .fills .window) in
         record {
           whole =
               λ rest c.
@@ -186,11 +186,11 @@ module _ (x y : Standing) (s : Stands x) where
               ap (λ (k : List ℕ). printedOf (k ++ rest)) (m .given)
               ∙ ap printedOf (append-assoc (x .given) read rest)
               ∙ s .whole (read ++ rest) c'
-              ∙ rw (m .told, m .table, ap (λ (v : Window). v .stage) (m .window))
+              ∙ rw (m .told, m .table, ap (λ (v : Window). v .stage) (m .fills .window))
                 (ap (λ (k : List ℕ). x .told ++ textAfter (x .window .stage) (stateOf (x .table)) k)
                 (sym (append-assoc (pending (x .window) (x .buffer)) read rest) ∙ ap (λ (k : List ℕ). k ++ rest) (sym filled-part)));
           inside =
-              rw (m .window) (record { low = omega arith; high = omega arith });
+              rw (m .fills .window) (record { low = omega arith; high = omega arith });
           size = omega arith;
           room = λ e. absurd (false≢true (sym no ∙ e));
           hungry = λ e. absurd (false≢true (sym no ∙ e));
@@ -215,5 +215,6 @@ every-cut k x r =
           s .whole rest c
           ∙ ap (λ (g : Stage). x .told ++ textAfter g (stateOf (x .table)) (pending (x .window) (x .buffer) ++ rest)) e
           ∙ append-nil (x .told);
+      inside = s .inside;
       room = s .room;
     }

@@ -6,3 +6,4 @@ pub mod TextLaws
 pub mod WindowLaws
 pub mod TurnEnds
 pub mod Cuts
+pub mod Moves

@@ -12,7 +12,7 @@ use Rattle.trace_feed.specs.declared.Stage.{Stage}
 use Rattle.trace_feed.specs.declared.Stage.the-variants.{Params, Events, Over}
 use Rattle.trace_feed.specs.declared.Window.{Window}
 use Rattle.trace_feed.specs.Printed.{eventsText, printedOf}
-use Rattle.trace_feed.specs.Turns.{turnOf, taken, textOf, leftBy, stageBy, pending, filledBy, startWindow, frontRoom, Turns}
+use Rattle.trace_feed.specs.Turns.{turnOf, taken, textOf, leftBy, stageBy, pending, Inside, Fills, startWindow, frontRoom, Turns}
 
 -- what the program prints of the bytes that are not done with, from where it stands
 abbrev pub textAfter : Stage → State → List ℕ → List ℕ
@@ -54,16 +54,12 @@ pub record Turned (x y : Standing) : Type 0 where
   pub given : y .given ≡ x .given
   pub told : y .told ≡ x .told ++ take (y .window .written) out′
 
--- n bytes are read, where they are wanted: they stand behind the window's end, and nothing else in the buffer moves before it
+-- bytes are read, where they are wanted
 pub record Filled (x y : Standing) : Type 0 where
   pub wanted : x .window .wants ≡ true
-  pub n : ℕ
-  pub fits : x .window .end + n ≤ length (x .buffer)
-  pub size : length (y .buffer) ≡ length (x .buffer)
-  pub front : take (x .window .end) (y .buffer) ≡ take (x .window .end) (x .buffer)
-  pub window : y .window ≡ filledBy (x .window) n
+  pub fills : Fills (x .window) (y .window) (x .buffer) (y .buffer)
   pub table : y .table ≡ x .table
-  pub given : y .given ≡ x .given ++ take n (drop (x .window .end) (y .buffer))
+  pub given : y .given ≡ x .given ++ take (fills .n) (drop (x .window .end) (y .buffer))
   pub told : y .told ≡ x .told
 
 -- where it stands after k of these
@@ -82,6 +78,7 @@ pub record Printed (x : Standing) : Type 0 where
       printedOf (x .given ++ rest)
       ≡ x .told ++ textAfter (x .window .stage) (stateOf (x .table)) (pending (x .window) (x .buffer) ++ rest)
   pub over : (rest : List ℕ) → Coming x rest → x .window .stage ≡ Over → printedOf (x .given ++ rest) ≡ x .told
+  pub inside : Inside (x .window) (x .buffer)
   -- where more bytes are wanted there is room for them, so that a reading of none is the end of the input
   pub room : x .window .wants ≡ true → x .window .end < length (x .buffer)
 

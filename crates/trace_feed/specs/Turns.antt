@@ -111,6 +111,19 @@ bufferBy w buf Wants = sets buf 0 (pending w buf)
 abbrev pub filledBy : Window → ℕ → Window
 filledBy w n = record { at = w .at; end = w .end + n; more = ltb 0 n; wants = false; stage = w .stage; written = 0 }
 
+-- what a reading behind the window's end does: n bytes more, and those before them stay
+pub record Fills (w w′ : Window) (buf buf′ : List ℕ) : Type 0 where
+  pub n : ℕ
+  pub fits : w .end + n ≤ length buf
+  pub size : length buf′ ≡ length buf
+  pub front : take (w .end) buf′ ≡ take (w .end) buf
+  pub window : w′ ≡ filledBy w n
+
+-- where bytes are wanted; else nothing is done
+pub record Refills (w w′ : Window) (buf buf′ : List ℕ) : Type 0 where
+  pub wanted : w .wants ≡ true → Fills w w′ buf buf′
+  pub idle : w .wants ≡ false → (w′ ≡ w) × (buf′ ≡ buf)
+
 -- before the first byte
 abbrev pub startWindow : Window
 startWindow = record { at = 0; end = 0; more = true; wants = false; stage = Params; written = 0 }
