@@ -15,9 +15,9 @@ use Rattle.records.specs.Records.{State}
 use Rattle.layout.specs.View.{stateOf}
 use Rattle.trace_step.specs.Replay.{lineRoom}
 use Rattle.trace_events.specs.Reading.{Event, event, unknown, malformed, short, cutShort, eventAt}
-use Rattle.params.specs.Read.{frontOf}
-use Rattle.params.specs.declared.Verdict.{Verdict}
-use Rattle.params.specs.declared.Verdict.the-variants.{Accepted, Malformed, Broken}
+use Rattle.params_bytes.specs.Read.{frontOf}
+use Rattle.params_bytes.specs.declared.Verdict.{Verdict}
+use Rattle.params_bytes.specs.declared.Verdict.the-variants.{Accepted, Malformed, Broken}
 use Rattle.trace_feed.specs.declared.Stage.{Stage}
 use Rattle.trace_feed.specs.declared.Stage.the-variants.{Params, Events, Over}
 use Rattle.trace_feed.specs.declared.Window.{Window}

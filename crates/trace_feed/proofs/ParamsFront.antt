@@ -17,11 +17,12 @@ use Rattle.varint.specs.Codes.{numberOf}
 use Rattle.varint.specs.declared.Read.{Read}
 use Rattle.varint.specs.declared.Read.the-variants.{Number, Bad}
 use Rattle.params.specs.Check.{firstBroken}
-use Rattle.params.specs.Read.{Parse, numbers, malformed, then, step, parseFrom, judgedBy, judged, frontOf}
-use Rattle.params.specs.declared.Verdict.{Verdict}
-use Rattle.params.specs.declared.Verdict.the-variants.{Accepted, Malformed, Broken}
-use Rattle.params.proofs.PlaceLaws.{placeOf, parse-place}
+use Rattle.params_bytes.specs.Read.{Parse, numbers, malformed, then, step, parseFrom, judgedBy, judged, frontOf}
+use Rattle.params_bytes.specs.declared.Verdict.{Verdict}
+use Rattle.params_bytes.specs.declared.Verdict.the-variants.{Accepted, Malformed, Broken}
+use Rattle.params_bytes.proofs.PlaceLaws.{placeOf, parse-place}
 use Rattle.trace_events.specs.Reading.{cutShort}
+use Rattle.records.specs.Records.{paramCount}
 use Rattle.trace_feed.proofs.ReadFront.{most, cut-bad, read-stays, read-within}
 
 -- the bytes do not end inside the first number that cannot be read
@@ -86,7 +87,7 @@ judged-whole w (malformed p) h = h
 
 pub front-stays : (w r : List ℕ) → Kept w (frontOf w .verdict) → frontOf (w ++ r) ≡ frontOf w
 unfolding frontOf
-front-stays w r h = ap judged (parse-stays w r 147 0 (judged-whole w (parseFrom 147 w 0) h))
+front-stays w r h = ap judged (parse-stays w r paramCount 0 (judged-whole w (parseFrom paramCount w 0) h))
 
 -- what is accepted passes, and ends within the bytes; what is malformed is so within 1,470 bytes
 abbrev pub Verdicts : ℕ → Found → Verdict → Type 0
@@ -105,4 +106,4 @@ judged-is len (malformed p) h l = l
 pub front-is : (s : List ℕ) → Verdicts (length s) (firstBroken (frontOf s .params .numbers)) (frontOf s .verdict)
 unfolding frontOf
 front-is s =
-    judged-is (length s) (parseFrom 147 s 0) (parse-ends s 147 0 (omega arith)) (omega (arith, parse-place s 147 0))
+    judged-is (length s) (parseFrom paramCount s 0) (parse-ends s paramCount 0 (omega arith)) (omega (arith, parse-place s paramCount 0))

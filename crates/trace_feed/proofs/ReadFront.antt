@@ -17,7 +17,7 @@ use Rattle.varint.specs.Groups.{Got, got, none, before, decode, upTo, asRead, r
 use Rattle.varint.specs.declared.Read.{Read}
 use Rattle.varint.specs.declared.Read.the-variants.{Number, Bad}
 use Rattle.varint.proofs.GroupLaws.{readAt-end, readAt-last, readAt-more, after-small}
-use Rattle.params.proofs.PlaceLaws.{next-near}
+use Rattle.params_bytes.proofs.PlaceLaws.{next-near}
 use Rattle.trace_events.specs.Reading.{cutShort}
 
 -- the largest number of 64 bits

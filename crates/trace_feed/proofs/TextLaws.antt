@@ -16,10 +16,10 @@ use Rattle.index.specs.Index.{every}
 use Rattle.index.proofs.Flags.{by-test}
 use Rattle.records.specs.Records.{State}
 use Rattle.varint.proofs.GroupLaws.{readAt-end}
-use Rattle.params.specs.Read.{frontOf}
-use Rattle.params.specs.declared.Reading.{Reading}
-use Rattle.params.specs.declared.Verdict.{Verdict}
-use Rattle.params.specs.declared.Verdict.the-variants.{Accepted, Malformed, Broken}
+use Rattle.params_bytes.specs.Read.{frontOf}
+use Rattle.params_bytes.specs.declared.Reading.{Reading}
+use Rattle.params_bytes.specs.declared.Verdict.{Verdict}
+use Rattle.params_bytes.specs.declared.Verdict.the-variants.{Accepted, Malformed, Broken}
 use Rattle.params.specs.Check.{firstBroken}
 use Rattle.lookup.specs.Fresh.{freshState}
 use Rattle.rules.specs.Step.{step, actionRoom}

@@ -15,9 +15,9 @@ use Rattle.index.proofs.Index.{both}
 use Rattle.index.proofs.Flags.{cond-case}
 use Rattle.records.specs.Records.{State}
 use Rattle.params.specs.Check.{firstBroken}
-use Rattle.params.specs.Read.{frontOf}
-use Rattle.params.specs.declared.Verdict.{Verdict}
-use Rattle.params.specs.declared.Verdict.the-variants.{Accepted, Malformed, Broken}
+use Rattle.params_bytes.specs.Read.{frontOf}
+use Rattle.params_bytes.specs.declared.Verdict.{Verdict}
+use Rattle.params_bytes.specs.declared.Verdict.the-variants.{Accepted, Malformed, Broken}
 use Rattle.layout.specs.View.{stateOf}
 use Rattle.trace_events.specs.Reading.{Event, event, unknown, malformed, short, cutShort, eventAt}
 use Rattle.trace_events.specs.Lines.{pairLine}

@@ -15,10 +15,10 @@ use Rattle.index.specs.declared.Found.the-variants.{At, Nothing}
 use Rattle.text.specs.Text.{Stored}
 use Rattle.records.specs.Records.{State}
 use Rattle.params.specs.Check.{firstBroken}
-use Rattle.params.specs.Read.{frontOf}
-use Rattle.params.specs.declared.Reading.{Reading}
-use Rattle.params.specs.declared.Verdict.{Verdict}
-use Rattle.params.specs.declared.Verdict.the-variants.{Accepted, Malformed, Broken}
+use Rattle.params_bytes.specs.Read.{frontOf}
+use Rattle.params_bytes.specs.declared.Reading.{Reading}
+use Rattle.params_bytes.specs.declared.Verdict.{Verdict}
+use Rattle.params_bytes.specs.declared.Verdict.the-variants.{Accepted, Malformed, Broken}
 use Rattle.layout.specs.View.{stateOf}
 use Rattle.lookup.specs.declared.Made.{Made}
 use Rattle.lookup.specs.Fresh.{freshState, leftBy as freshBy, Makes}

@@ -8,9 +8,9 @@ use lib.IntN.{ℤ}
 use lib.ListN.{length, take, drop}
 use lib.Seq.{sets}
 use Rattle.records.specs.Records.{State}
-use Rattle.params.specs.declared.Verdict.{Verdict}
-use Rattle.params.specs.declared.Verdict.the-variants.{Accepted, Malformed, Broken}
-use Rattle.params.specs.Read.{frontOf}
+use Rattle.params_bytes.specs.declared.Verdict.{Verdict}
+use Rattle.params_bytes.specs.declared.Verdict.the-variants.{Accepted, Malformed, Broken}
+use Rattle.params_bytes.specs.Read.{frontOf}
 use Rattle.layout.specs.View.{stateOf}
 use Rattle.lookup.specs.Fresh.{freshState}
 use Rattle.rules.specs.Step.{step, actionRoom}

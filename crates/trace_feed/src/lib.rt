@@ -8,7 +8,7 @@ ghost use Rattle.layout.specs.View.{stateOf};
 ghost use Rattle.trace_step.specs.Replay.{lineRoom};
 ghost use Rattle.trace_feed.specs.Turns.{paramsTurn, eventsTurn, turnOf, Feeds, Inside, windowBy, filledBy, startWindow, Turns};
 use layout::CELLS;
-use params::Verdict;
+use params_bytes::Verdict;
 use trace_events::lines::put_pair;
 use trace_events::reading::cut_short;
 use trace_step::Replayed;
@@ -49,7 +49,7 @@ fn feed_params(table: &mut [u64; CELLS], s: &[u8], last: bool, out: &mut [u8]) -
     requires { ⌜ lineRoom ≤ length (now out) ⌝ }
     ensures { λ r. ⌜ Feeds (paramsTurn last (now (s .entry))) r (now (table .entry)) (now (table .exit)) (now (out .entry)) (now (out .exit)) ⌝ }
 {
-    let reading = params::read_front(s);
+    let reading = params_bytes::read_front(s);
     let verdict = reading.verdict;
     match verdict {
         Verdict::Accepted(next) => {
