@@ -148,7 +148,7 @@ module _ (x y : Standing) (s : Stands x) where
               ∙ ap (λ (l : List ℕ). x .told ++ l) (o ∙ ap (λ (l : List ℕ). textOf t ++ l) (sym (left rest)))
               ∙ sym (append-assoc (x .told) (textOf t) (textAfter (y .window .stage) (stateOf (y .table)) (pending (y .window) (y .buffer) ++ rest)))
               ∙ ap (λ (l : List ℕ). l ++ textAfter (y .window .stage) (stateOf (y .table)) (pending (y .window) (y .buffer) ++ rest))
-                (ap (λ (l : List ℕ). x .told ++ l) (sym written) ∙ sym (m .told));
+              (ap (λ (l : List ℕ). x .told ++ l) (sym written) ∙ sym (m .told));
           inside = m .turns .inside;
           size = let e = ap length (m .turns .buffer) ∙ size-is (x .window) (x .buffer) (s .inside) t in let f = s .size in omega arith;
           room = λ e. m .turns .space e (s .size);
@@ -187,8 +187,8 @@ module _ (x y : Standing) (s : Stands x) where
               ∙ ap printedOf (append-assoc (x .given) read rest)
               ∙ s .whole (read ++ rest) c'
               ∙ rw (m .told, m .table, ap (λ (v : Window). v .stage) (m .fills .window))
-                (ap (λ (k : List ℕ). x .told ++ textAfter (x .window .stage) (stateOf (x .table)) k)
-                (sym (append-assoc (pending (x .window) (x .buffer)) read rest) ∙ ap (λ (k : List ℕ). k ++ rest) (sym filled-part)));
+              (ap (λ (k : List ℕ). x .told ++ textAfter (x .window .stage) (stateOf (x .table)) k)
+              (sym (append-assoc (pending (x .window) (x .buffer)) read rest) ∙ ap (λ (k : List ℕ). k ++ rest) (sym filled-part)));
           inside =
               rw (m .fills .window) (record { low = omega arith; high = omega arith });
           size = omega arith;

@@ -28,7 +28,7 @@ OneTurn =
     textAfter stage st (window ++ rest)
     ≡ textOf (turnOf stage last st window)
     ++ textAfter (stageBy stage (turnOf stage last st window)) (leftBy st (turnOf stage last st window))
-       (drop (taken (turnOf stage last st window)) window ++ rest)
+    (drop (taken (turnOf stage last st window)) window ++ rest)
 
 -- ---- the program: turns, and readings between them
 -- where it stands: all bytes that were read and written so far, the window, the table and the buffer
