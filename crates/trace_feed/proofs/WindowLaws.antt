@@ -64,11 +64,11 @@ shifted-none at buf = paste-zero buf 0 (drop at buf)
 
 pub shifted-more :
     (at : ℕ) (buf : List ℕ) (k : ℕ) (now : List ℕ) (v : ℕ) →
-    at + k < length buf →
-    v ≡ getD now (at + k) 0 →
     Shifted at buf k now →
+    v ≡ getD now (at + k) 0 →
+    at + k < length buf →
     Shifted at buf (k + 1) (set now k v)
-shifted-more at buf k now v h e inv =
+shifted-more at buf k now v inv e h =
     let s : List ℕ = drop at buf in
     let l = length-drop at buf in
     let f : length (take k s) ≡ k = length-take-le k s (omega arith) in

@@ -17,7 +17,7 @@ abbrev μ-loop : tie.MeasureT-loop
 loop-again : tie.Need-loop-again Inv-loop μ-loop
 loop-again c =
     let i = c .before .before .loop .inv in
-    (omega arith, (omega arith, (simp length-set (i .1 .1 .0), shifted-more _ _ _ _ _ (omega (arith, i .1 .0)) refl (i .1 .1 .1))))
+    (omega arith, (omega arith, (simp length-set (i .1 .1 .0), shifted-more _ _ _ _ _ (i .1 .1 .1) refl (omega (arith, i .1 .0)))))
 
 returns : tie.Need-returns Inv-loop μ-loop
 returns c =
