@@ -1,8 +1,8 @@
-// The trace program: parameters and events on standard input, answers on standard output, for a trace of any length. What it takes, prints and
-// leaves is crate trace_feed, and that its turns print what the whole input prints, however the input is cut, is `EveryCut` there. Here bytes
-// are moved and nothing else: main makes a turn on the window's bytes, writes the first `written` bytes of the page and, where more bytes are
-// wanted, reads what is there behind the window's end, until the trace is over. No contract can say which bytes a call of the system reads and
-// writes; but that main's turns and readings are those of which `EveryCut` speaks is its loop's invariant.
+// The trace program: parameters and events on standard input, answers on standard output, for a trace of any length. What it takes, prints
+// and leaves is crate trace_feed, and that its turns print what the whole input prints, however the input is cut, is `EveryCut` there. Here
+// bytes are moved and nothing else: main makes a turn on the window's bytes, writes the first `written` bytes of the page and, where more
+// bytes are wanted, reads what is there behind the window's end, until the trace is over. No contract can say which bytes a call of the
+// system reads and writes; but that main's turns and readings are those of which `EveryCut` speaks is its loop's invariant.
 ghost use Prim.Native.Nat.{_≤_};
 ghost use lib.ListN.{length};
 ghost use Rattle.trace_feed.specs.Turns.{Inside, Refills};

@@ -1,20 +1,19 @@
--- However the input is cut: by induction on the turns and readings, from what one turn prints (`one-turn`) and where the window's bytes stand.
--- Assumes nothing.
-use Prim.Native.Nat.{ℕ, zero, suc, _+_, _-_, _<_, _≤_}
-use mathlib.Core.Path.{_≡_, refl, sym, ap, ap₂, subst, _∙_}
+-- However the input is cut: by induction on the turns and readings, from what one turn prints (`one-turn`) and where the window's bytes
+-- stand. Assumes nothing.
+use Prim.Native.Nat.{ℕ, zero, suc, _<_, _≤_}
+use mathlib.Core.Path.{_≡_, refl, sym, ap, ap₂, _∙_}
 use mathlib.Core.Logic.{_⊎_, inl, inr}
-use mathlib.Core.Bool.{Bool, true, false, not, cond, false≢true}
+use mathlib.Core.Bool.{Bool, true, false, not, false≢true}
 use mathlib.Core.List.{List, [], _++_, append-nil, append-assoc}
 use native.Mathlib.Omega.{arith}
 use borrow.Author.Tests.{not-true}
 use lib.Dec.{eqb}
 use lib.ListN.{length, take, drop}
-use lib.Seq.{sets, length-sets}
+use lib.Seq.{length-sets}
 use Rattle.index.proofs.Flags.{by-test, cond-case}
 use Rattle.records.specs.Records.{State}
 use Rattle.layout.specs.View.{stateOf}
-use Rattle.trace_step.specs.Replay.{lineRoom}
-use Rattle.trace_events.specs.Reading.{Event, event, unknown, malformed, short, cutShort, eventAt}
+use Rattle.trace_events.specs.Reading.{Event, event, unknown, malformed, short, eventAt}
 use Rattle.params_bytes.specs.Read.{frontOf}
 use Rattle.params_bytes.specs.declared.Verdict.{Verdict}
 use Rattle.params_bytes.specs.declared.Verdict.the-variants.{Accepted, Malformed, Broken}
@@ -22,8 +21,9 @@ use Rattle.trace_feed.specs.declared.Stage.{Stage}
 use Rattle.trace_feed.specs.declared.Stage.the-variants.{Params, Events, Over}
 use Rattle.trace_feed.specs.declared.Window.{Window}
 use Rattle.trace_feed.specs.Printed.{printedOf}
-use Rattle.trace_feed.specs.Turns.{Turn, took, ended, wants, eventTurn, eventsTurn, paramsBy, paramsTurn, turnOf, fedOf, taken, textOf, leftBy, stageBy, pending, Inside, windowBy, bufferBy, filledBy, startWindow, frontRoom, turnIn, Turns}
-use Rattle.trace_feed.specs.Cuts.{textAfter, Standing, Starts, Turned, Filled, Ran, Coming, Printed, EveryCut}
+use Rattle.trace_feed.specs.Turns.{Turn, took, ended, wants, eventTurn, eventsTurn, paramsBy, paramsTurn, turnOf, fedOf, taken}
+use Rattle.trace_feed.specs.Turns.{textOf, leftBy, stageBy, pending, Inside, windowBy, bufferBy, frontRoom, turnIn}
+use Rattle.trace_feed.specs.Cuts.{textAfter, Standing, Starts, Turned, Filled, Ran, Coming, EveryCut}
 use Rattle.trace_feed.proofs.TextLaws.{one-turn}
 use Rattle.trace_feed.proofs.WindowLaws.{front-of, part-taken, part-moved, part-filled}
 
@@ -117,7 +117,8 @@ module _ (x y : Standing) (s : Stands x) where
 
     written : take (y .window .written) (m .out′) ≡ textOf t
     written =
-        let e : y .window .written ≡ length (textOf t) = ap (λ (v : Window). v .written) w-is ∙ written-is (x .window) (x .buffer) (s .inside) t in
+        let e : y .window .written ≡ length (textOf t) =
+        ap (λ (v : Window). v .written) w-is ∙ written-is (x .window) (x .buffer) (s .inside) t in
         let r = m .turns .room in
         let l = m .room in
         ap₂ take e (m .turns .bytes) ∙ front-of (m .out) (textOf t) (omega arith)
@@ -125,7 +126,8 @@ module _ (x y : Standing) (s : Stands x) where
     left :
         (rest : List ℕ) →
         textAfter (y .window .stage) (stateOf (y .table)) (pending (y .window) (y .buffer) ++ rest)
-        ≡ textAfter (stageBy (x .window .stage) t) (leftBy (stateOf (x .table)) t) (drop (taken t) (pending (x .window) (x .buffer)) ++ rest)
+        ≡ textAfter (stageBy (x .window .stage) t) (leftBy (stateOf (x .table)) t)
+        (drop (taken t) (pending (x .window) (x .buffer)) ++ rest)
     left rest =
         let a : y .window .stage ≡ stageBy (x .window .stage) t =
         ap (λ (v : Window). v .stage) w-is ∙ stage-is (x .window) (x .buffer) (s .inside) t in
@@ -142,11 +144,13 @@ module _ (x y : Standing) (s : Stands x) where
           whole =
               λ rest c.
               let c' : Coming x rest = λ e. c (more-same ∙ e) in
-              let o = one-turn (x .window .stage) (not (x .window .more)) (stateOf (x .table)) (pending (x .window) (x .buffer)) rest (λ e. c' (not-true (x .window .more) e)) in
+              let o = one-turn (x .window .stage) (not (x .window .more)) (stateOf (x .table)) (pending (x .window) (x .buffer)) rest
+              (λ e. c' (not-true (x .window .more) e)) in
               ap (λ (g : List ℕ). printedOf (g ++ rest)) (m .given)
               ∙ s .whole rest c'
               ∙ ap (λ (l : List ℕ). x .told ++ l) (o ∙ ap (λ (l : List ℕ). textOf t ++ l) (sym (left rest)))
-              ∙ sym (append-assoc (x .told) (textOf t) (textAfter (y .window .stage) (stateOf (y .table)) (pending (y .window) (y .buffer) ++ rest)))
+              ∙ sym (append-assoc (x .told) (textOf t)
+              (textAfter (y .window .stage) (stateOf (y .table)) (pending (y .window) (y .buffer) ++ rest)))
               ∙ ap (λ (l : List ℕ). l ++ textAfter (y .window .stage) (stateOf (y .table)) (pending (y .window) (y .buffer) ++ rest))
               (ap (λ (l : List ℕ). x .told ++ l) (sym written) ∙ sym (m .told));
           inside = m .turns .inside;
@@ -163,10 +167,12 @@ module _ (x y : Standing) (s : Stands x) where
         }
 
   module _ (m : Filled x y) where
-    filled-part : pending (y .window) (y .buffer) ≡ pending (x .window) (x .buffer) ++ take (m .fills .n) (drop (x .window .end) (y .buffer))
+    filled-part : pending (y .window) (y .buffer)
+        ≡ pending (x .window) (x .buffer) ++ take (m .fills .n) (drop (x .window .end) (y .buffer))
     filled-part =
         ap (λ (v : Window). pending v (y .buffer)) (m .fills .window)
-        ∙ part-filled (x .window .at) (x .window .end) (x .buffer) (s .inside .low) (s .inside .high) (m .fills .n) (y .buffer) (m .fills .front)
+        ∙ part-filled (x .window .at) (x .window .end) (x .buffer) (s .inside .low) (s .inside .high) (m .fills .n) (y .buffer)
+        (m .fills .front)
 
     abbrev read : List ℕ
     read = take (m .fills .n) (drop (x .window .end) (y .buffer))

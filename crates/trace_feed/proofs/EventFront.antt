@@ -4,8 +4,8 @@
 use Prim.{Unit, tt}
 use Prim.Native.Nat.{ℕ, zero, suc, _+_, _*_, _<_, _≤_}
 use mathlib.Core.Path.{_≡_, refl, sym, ap, _∙_}
-use mathlib.Core.Bool.{Bool, true, false, cond, false≢true}
-use mathlib.Core.List.{List, [], _∷_, _++_}
+use mathlib.Core.Bool.{Bool, true, false, false≢true}
+use mathlib.Core.List.{List, [], _++_}
 use native.Mathlib.Omega.{arith}
 use borrow.Author.Tests.{le-leb, leb-true, leb-false, eqb-true}
 use lib.Dec.{eqb, leb}
@@ -15,9 +15,10 @@ use Rattle.index.proofs.Flags.{by-test, cond-case}
 use Rattle.varint.specs.Groups.{readAt}
 use Rattle.varint.specs.declared.Read.{Read}
 use Rattle.varint.specs.declared.Read.the-variants.{Number, Bad}
-use Rattle.trace_events.specs.Reading.{Numbers, numbers, broken, more, numberThen, numbersFrom, cutShort, arities, arity, callOf, Event, event, unknown, malformed, short, unread, named, ofNumbers, ofKind, eventAt}
+use Rattle.trace_events.specs.Reading.{Numbers, numbers, broken, more, numberThen, numbersFrom, cutShort, arities, arity, callOf, Event}
+use Rattle.trace_events.specs.Reading.{event, unknown, malformed, short, unread, nameMost, named, ofNumbers, ofKind, eventAt}
 use Rattle.trace_events.proofs.ReadingLaws.{arity-most}
-use Rattle.trace_feed.proofs.ReadFront.{most, not-both, cut-few, cut-bad, read-stays, cut-stays, read-within, read-near}
+use Rattle.trace_feed.proofs.ReadFront.{most, cut-few, cut-bad, read-stays, cut-stays, read-within, read-near}
 
 -- ---- numbers one after the other
 -- the bytes do not end inside the first that cannot be read
@@ -44,7 +45,9 @@ module _ (w r : List ℕ) where
   numbers-stay (suc n) at h =
       by-test (numbersFrom (suc n) (w ++ r) at ≡ numbersFrom (suc n) w at) (cutShort w at)
       (λ t. let e = cut-bad w at t most in let f : cutShort w at ≡ false = rw e at h in absurd (false≢true (sym f ∙ t)))
-      (λ t. rw (read-stays w at r t) (then-stay w at (λ next. numbersFrom n (w ++ r) next) (λ next. numbersFrom n w next) (readAt most w at) (λ next. numbers-stay n next) h))
+      (λ t. rw (read-stays w at r t)
+      (then-stay w at (λ next. numbersFrom n (w ++ r) next) (λ next. numbersFrom n w next) (readAt most w at)
+      (λ next. numbers-stay n next) h))
 
 -- where they end
 abbrev Ends : ℕ → ℕ → Numbers → Type 0
@@ -102,7 +105,7 @@ module _ (w r : List ℕ) where
   named-stays : (us : List ℕ) (next : ℕ) → isShort (named w us next) ≡ false → named (w ++ r) us next ≡ named w us next
   unfolding named
   named-stays us next h =
-      by-test (named (w ++ r) us next ≡ named w us next) (leb (getD us 4 0) 64)
+      by-test (named (w ++ r) us next ≡ named w us next) (leb (getD us 4 0) nameMost)
       (λ t.
       by-test (named (w ++ r) us next ≡ named w us next) (leb (next + getD us 4 0) (length w))
       (λ i.
@@ -160,9 +163,9 @@ module _ (s : List ℕ) (at : ℕ) where
   named-closes : (us : List ℕ) (next : ℕ) → next ≤ at + 60 → Closes (length s) at (named s us next)
   unfolding named
   named-closes us next h =
-      cond-case (Closes (length s) at) (leb (getD us 4 0) 64) _ malformed
+      cond-case (Closes (length s) at) (leb (getD us 4 0) nameMost) _ malformed
       (λ e.
-      let i = leb-true (getD us 4 0) 64 e in
+      let i = leb-true (getD us 4 0) nameMost e in
       cond-case (Closes (length s) at) (leb (next + getD us 4 0) (length s)) (event _ (next + getD us 4 0)) short
       (λ f. leb-true (next + getD us 4 0) (length s) f)
       (λ f. let j = leb-false (next + getD us 4 0) (length s) f in omega arith))

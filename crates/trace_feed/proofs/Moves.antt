@@ -1,6 +1,6 @@
 -- For a program that makes turns and readings: the window, the table and the buffer that it holds are where some run of them stands.
 -- Assumes nothing.
-use Prim.Native.Nat.{ℕ, suc, _+_, _-_, _≤_}
+use Prim.Native.Nat.{ℕ, suc, _-_, _≤_}
 use mathlib.Core.Path.{_≡_, refl, sym, _∙_}
 use mathlib.Core.Logic.{inl, inr}
 use mathlib.Core.Bool.{true, false, false≢true}
@@ -12,8 +12,8 @@ use lib.Seq.{length-take-le}
 use Rattle.index.proofs.Flags.{by-test}
 use Rattle.trace_step.specs.Replay.{lineRoom}
 use Rattle.trace_feed.specs.declared.Window.{Window}
-use Rattle.trace_feed.specs.Turns.{Inside, Fills, Refills, filledBy, startWindow, frontRoom, Turns}
-use Rattle.trace_feed.specs.Cuts.{Standing, Ran}
+use Rattle.trace_feed.specs.Turns.{Inside, Refills, filledBy, startWindow, frontRoom, Turns}
+use Rattle.trace_feed.specs.Cuts.{Ran}
 use Rattle.trace_feed.proofs.Cuts.{every-cut}
 
 -- ---- what a reading into the part behind the window's end leaves

@@ -2,9 +2,9 @@
 -- bytes can be there of parameters that are not whole.
 -- Assumes nothing.
 use Prim.{Unit, tt}
-use Prim.Native.Nat.{ℕ, zero, suc, _+_, _*_, _<_, _≤_}
+use Prim.Native.Nat.{ℕ, zero, suc, _≤_}
 use mathlib.Core.Path.{_≡_, refl, sym, ap, _∙_}
-use mathlib.Core.Bool.{Bool, true, false, cond, false≢true}
+use mathlib.Core.Bool.{false, false≢true}
 use mathlib.Core.List.{List, [], _∷_, _++_}
 use native.Mathlib.Omega.{arith}
 use lib.IntN.{ℤ}
@@ -51,7 +51,8 @@ parse-stays w r (suc n) at h =
     (λ t. let e = cut-bad w at t most in let f : cutShort w at ≡ false = rw e at h in absurd (false≢true (sym f ∙ t)))
     (λ t.
     rw (read-stays w at r t)
-    (step-stays w at (λ next. parseFrom n (w ++ r) next) (λ next. parseFrom n w next) (readAt most w at) (λ next. parse-stays w r n next) h))
+    (step-stays w at (λ next. parseFrom n (w ++ r) next) (λ next. parseFrom n w next) (readAt most w at) (λ next. parse-stays w r n next)
+    h))
 
 -- where they end
 abbrev Ends : ℕ → Parse → Type 0
@@ -95,11 +96,13 @@ Verdicts len f (Accepted next) = (f ≡ Nothing) × (next ≤ len)
 Verdicts len f (Malformed p) = p ≤ 1470
 Verdicts len f (Broken i) = Unit {0}
 
-judged-by : (len : ℕ) (xs : List ℤ) (next : ℕ) (f : Found) → firstBroken xs ≡ f → next ≤ len → Verdicts len (firstBroken (judgedBy f xs next .params .numbers)) (judgedBy f xs next .verdict)
+judged-by : (len : ℕ) (xs : List ℤ) (next : ℕ) (f : Found) → firstBroken xs ≡ f → next ≤ len →
+    Verdicts len (firstBroken (judgedBy f xs next .params .numbers)) (judgedBy f xs next .verdict)
 judged-by len xs next (At i) e h = tt
 judged-by len xs next Nothing e h = (e, h)
 
-judged-is : (len : ℕ) (p : Parse) → Ends len p → placeOf p ≤ 1470 → Verdicts len (firstBroken (judged p .params .numbers)) (judged p .verdict)
+judged-is : (len : ℕ) (p : Parse) → Ends len p → placeOf p ≤ 1470 →
+    Verdicts len (firstBroken (judged p .params .numbers)) (judged p .verdict)
 judged-is len (numbers xs next) h l = judged-by len xs next (firstBroken xs) refl h
 judged-is len (malformed p) h l = l
 

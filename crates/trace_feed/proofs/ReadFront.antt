@@ -7,7 +7,7 @@ use mathlib.Core.Path.{_≡_, refl, sym, ap, ap₂, _∙_}
 use mathlib.Core.Bool.{Bool, true, false, cond, _&&_, false≢true}
 use mathlib.Core.List.{List, [], _∷_, _++_}
 use native.Mathlib.Omega.{arith}
-use borrow.Author.Tests.{lt-ltb, le-ltb, ltb-true, ltb-false, lt-leb, leb-true, leb-false}
+use borrow.Author.Tests.{lt-ltb, le-ltb, ltb-true, lt-leb, leb-true, leb-false}
 use lib.Dec.{leb, ltb}
 use lib.ListN.{length, getD, drop, length-append, length-drop, List·getD-append}
 use Rattle.index.specs.Index.{every}
@@ -23,10 +23,6 @@ use Rattle.trace_events.specs.Reading.{cutShort}
 -- the largest number of 64 bits
 abbrev pub most : ℕ
 most = 18446744073709551615
-
--- nothing is both
-pub not-both : {P : Type 0} (u next : ℕ) → Bad ≡ Number u next → P
-not-both u next e = let z : _≡_ {A = ℕ} 0 1 = cc in absurd (omega arith)
 
 -- ---- a number whose last byte, k behind the first, is there
 module _ (w r : List ℕ) where
@@ -168,13 +164,6 @@ module _ (w : List ℕ) (at : ℕ) where
         runs-out w (length w) top at (omega arith)
         (λ k h. leb-true 128 (getD w (at + k) 0) (every-at (goes-on w at) (length w - at) k a (omega arith)))
 
-  -- what can be read is whole
-  pub number-whole : (u next : ℕ) → readAt most w at ≡ Number u next → cutShort w at ≡ false
-  number-whole u next e =
-      by-test (cutShort w at ≡ false) (cutShort w at)
-      (λ t. not-both u next (sym (cut-bad t most) ∙ e))
-      (λ t. t)
-
   module _ (r : List ℕ) (e : cutShort w at ≡ false) where
     pub read-stays : readAt most (w ++ r) at ≡ readAt most w at
     read-stays =
@@ -213,7 +202,8 @@ decode-fits : (s : List ℕ) → Fits s (decode s)
 unfolding decode
 decode-fits [] = tt
 decode-fits (b ∷ s) =
-    cond-case (Fits (b ∷ s)) (ltb b 128) (got b 1) (before b (decode s)) (λ e. omega arith) (λ e. before-fits b s (decode s) (decode-fits s))
+    cond-case (Fits (b ∷ s)) (ltb b 128) (got b 1) (before b (decode s)) (λ e. omega arith)
+    (λ e. before-fits b s (decode s) (decode-fits s))
 
 abbrev Within : ℕ → Read → Type 0
 Within n Bad = Unit {0}

@@ -1,15 +1,14 @@
 -- One turn prints what the whole prints of the bytes that it takes, whatever comes behind them: what is whole stays the same (EventFront,
 -- ParamsFront), and what is not is done only at the end of the input.
 -- Assumes nothing.
-use Prim.{Unit, tt}
-use Prim.Native.Nat.{ℕ, zero, suc, _+_, _<_, _≤_}
+use Prim.{tt}
+use Prim.Native.Nat.{ℕ, zero, suc, _<_, _≤_}
 use mathlib.Core.Path.{_≡_, refl, sym, ap, _∙_}
-use mathlib.Core.Bool.{Bool, true, false, not, cond, _&&_, false≢true}
+use mathlib.Core.Bool.{Bool, true}
 use mathlib.Core.List.{List, [], _∷_, _++_, append-nil}
 use native.Mathlib.Omega.{arith}
 use borrow.Author.Tests.{eqb-true, eqb-false}
 use lib.Dec.{eqb}
-use lib.IntN.{ℤ}
 use lib.ListN.{length, drop, length-append, length-drop}
 use lib.Seq.{drop-append-le}
 use Rattle.index.specs.Index.{every}
@@ -17,7 +16,6 @@ use Rattle.index.proofs.Flags.{by-test}
 use Rattle.records.specs.Records.{State}
 use Rattle.varint.proofs.GroupLaws.{readAt-end}
 use Rattle.params_bytes.specs.Read.{frontOf}
-use Rattle.params_bytes.specs.declared.Reading.{Reading}
 use Rattle.params_bytes.specs.declared.Verdict.{Verdict}
 use Rattle.params_bytes.specs.declared.Verdict.the-variants.{Accepted, Malformed, Broken}
 use Rattle.params.specs.Check.{firstBroken}
@@ -28,12 +26,12 @@ use Rattle.trace_events.specs.Lines.{pairLine, linesOf}
 use Rattle.trace_events.proofs.EventLaws.{Behind, event-behind}
 use Rattle.trace_feed.specs.declared.Stage.{Stage}
 use Rattle.trace_feed.specs.declared.Stage.the-variants.{Params, Events, Over}
-use Rattle.trace_feed.specs.Printed.{eventText, unlessEnd, textFrom, eventsText, textBy, printedOf}
-use Rattle.trace_feed.specs.Turns.{Turn, took, ended, wants, eventTurn, eventsTurn, paramsBy, paramsTurn, turnOf, taken, textOf, leftBy, stageBy}
+use Rattle.trace_feed.specs.Printed.{eventText, unlessEnd, textFrom, eventsText, printedOf}
+use Rattle.trace_feed.specs.Turns.{Turn, eventTurn, eventsTurn, paramsBy, paramsTurn, turnOf, taken, textOf, leftBy, stageBy}
 use Rattle.trace_feed.specs.Cuts.{textAfter, OneTurn}
 use Rattle.trace_feed.proofs.ReadFront.{most}
-use Rattle.trace_feed.proofs.EventFront.{isShort, event-stays, Closes, event-closes}
-use Rattle.trace_feed.proofs.ParamsFront.{Kept, front-stays, Verdicts, front-is}
+use Rattle.trace_feed.proofs.EventFront.{event-stays, Closes, event-closes}
+use Rattle.trace_feed.proofs.ParamsFront.{front-stays, Verdicts, front-is}
 
 -- ---- more turns than bytes print nothing more
 event-same :
@@ -56,7 +54,8 @@ from-same (suc n) zero st [] h k = refl
 from-same (suc n) zero st (b ∷ s) h k = absurd (omega arith)
 from-same (suc n) (suc m) st s h k =
     ap (unlessEnd s)
-    (event-same s (λ left next. textFrom n left (drop next s)) (λ left next. textFrom m left (drop next s)) st (eventAt s 0) (event-behind s 0)
+    (event-same s (λ left next. textFrom n left (drop next s)) (λ left next. textFrom m left (drop next s)) st (eventAt s 0)
+    (event-behind s 0)
     (λ left next i.
     from-same n m left (drop next s) (omega (arith, length-drop next s)) (omega (arith, length-drop next s))))
 
@@ -70,7 +69,8 @@ unfolding eventsText textFrom
 events-one st [] x h e = absurd (omega arith)
 events-one st (b ∷ s) x h e =
     let l : List ℕ = b ∷ s in
-    event-same l (λ left next. textFrom (length s) left (drop next l)) (λ left next. textFrom (length (drop next l)) left (drop next l)) st (eventAt l 0)
+    event-same l (λ left next. textFrom (length s) left (drop next l)) (λ left next. textFrom (length (drop next l)) left (drop next l)) st
+    (eventAt l 0)
     (event-behind l 0)
     (λ left next i. from-same (length s) (length (drop next l)) left (drop next l) (omega (arith, length-drop next l)) (omega arith))
     ∙ ap (eventText (λ left next. textFrom (length (drop next l)) left (drop next l)) st) e
@@ -136,7 +136,8 @@ module _ (last : Bool) (st : State) (w rest : List ℕ) (e : last ≡ true → r
       (λ t. rw t (rw t at g)))
 
   -- ---- a turn of the parameters
-  params-by : (v : Verdict) → frontOf w .verdict ≡ v → Verdicts (length w) (firstBroken (frontOf w .params .numbers)) v → Goes Params (paramsBy last w (frontOf w .params .numbers) v)
+  params-by : (v : Verdict) → frontOf w .verdict ≡ v → Verdicts (length w) (firstBroken (frontOf w .params .numbers)) v →
+      Goes Params (paramsBy last w (frontOf w .params .numbers) v)
   unfolding printedOf
   params-by (Accepted next) f h =
       let g = front-stays w rest (rw f tt) in

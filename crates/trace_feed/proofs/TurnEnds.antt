@@ -1,15 +1,15 @@
--- The ends of `turn`: it takes no more bytes than there are, more are wanted only where there are few, and so the window stays in the buffer
--- and has room to read.
+-- The ends of `turn`: it takes no more bytes than there are, more are wanted only where there are few, and so the window stays in the
+-- buffer and has room to read.
 -- Assumes nothing.
 use Prim.{Unit, tt}
 use Prim.Native.Nat.{ℕ, _+_, _-_, _<_, _≤_}
-use mathlib.Core.Path.{_≡_, refl, sym, ap, subst, _∙_}
-use mathlib.Core.Bool.{Bool, true, false, not, cond, _&&_, false≢true}
+use mathlib.Core.Path.{_≡_, sym, ap, _∙_}
+use mathlib.Core.Bool.{Bool, true, not, _&&_, false≢true}
 use mathlib.Core.List.{List, []}
 use native.Mathlib.Omega.{arith}
 use lib.Dec.{eqb}
 use lib.ListN.{length}
-use lib.Seq.{sets, length-sets}
+use lib.Seq.{length-sets}
 use Rattle.index.specs.declared.Found.{Found}
 use Rattle.index.proofs.Index.{both}
 use Rattle.index.proofs.Flags.{cond-case}
@@ -25,9 +25,10 @@ use Rattle.trace_step.specs.Replay.{lineRoom}
 use Rattle.trace_feed.specs.declared.Stage.{Stage}
 use Rattle.trace_feed.specs.declared.Stage.the-variants.{Params, Events, Over}
 use Rattle.trace_feed.specs.declared.Fed.{Fed}
-use Rattle.trace_feed.specs.declared.Fed.the-variants.{Took, Ended, Wants}
+use Rattle.trace_feed.specs.declared.Fed.the-variants.{Took}
 use Rattle.trace_feed.specs.declared.Window.{Window}
-use Rattle.trace_feed.specs.Turns.{Turn, took, ended, wants, eventTurn, eventsTurn, paramsBy, paramsTurn, turnOf, fedOf, textOf, Feeds, pending, Inside, windowBy, bufferBy, frontRoom, turnIn, Turns}
+use Rattle.trace_feed.specs.Turns.{Turn, took, ended, wants, eventTurn, eventsTurn, paramsBy, paramsTurn, turnOf, fedOf, textOf}
+use Rattle.trace_feed.specs.Turns.{Feeds, pending, Inside, windowBy, bufferBy, frontRoom, turnIn, Turns}
 use Rattle.trace_feed.proofs.ReadFront.{cut-few}
 use Rattle.trace_feed.proofs.EventFront.{Closes, event-closes}
 use Rattle.trace_feed.proofs.ParamsFront.{Verdicts, front-is}
@@ -45,7 +46,8 @@ event-most len last st malformed h = tt
 event-most len last st short h = cond-case (Most len) last (ended (pairLine 10 0)) wants (λ e. tt) (λ e. omega arith)
 
 params-most :
-    (last : Bool) (s : List ℕ) (f : Found) (v : Verdict) → Verdicts (length s) f v → Most (length s) (paramsBy last s (frontOf s .params .numbers) v)
+    (last : Bool) (s : List ℕ) (f : Found) (v : Verdict) → Verdicts (length s) f v →
+    Most (length s) (paramsBy last s (frontOf s .params .numbers) v)
 params-most last s f (Accepted next) h = h .1
 params-most last s f (Malformed p) h =
     cond-case (Most (length s)) (not last && cutShort s p) wants (ended (pairLine 10 p))

@@ -1,17 +1,15 @@
 -- The ends of `feed`: what each way through the code comes to.
 -- Assumes nothing.
-use Prim.Native.Nat.{ℕ, _+_, _-_, _<_, _≤_}
+use Prim.Native.Nat.{ℕ, _+_, _≤_}
 use mathlib.Core.Path.{_≡_, refl, sym, ap, ap₂, _∙_}
 use mathlib.Core.Bool.{Bool, true, false, not, cond, _&&_}
-use mathlib.Core.List.{List, []}
+use mathlib.Core.List.{List}
 use native.Mathlib.Omega.{arith}
 use native.Mathlib.Nat.{zero-add}
-use borrow.Author.Tests.{lt-ltb, le-ltb, ltb-true, ltb-false}
-use lib.Dec.{eqb, ltb}
+use borrow.Author.Tests.{le-ltb}
+use lib.Dec.{eqb}
 use lib.ListN.{length}
-use lib.Seq.{sets}
 use Rattle.index.specs.declared.Found.{Found}
-use Rattle.index.specs.declared.Found.the-variants.{At, Nothing}
 use Rattle.text.specs.Text.{Stored}
 use Rattle.records.specs.Records.{State}
 use Rattle.params.specs.Check.{firstBroken}
@@ -21,18 +19,18 @@ use Rattle.params_bytes.specs.declared.Verdict.{Verdict}
 use Rattle.params_bytes.specs.declared.Verdict.the-variants.{Accepted, Malformed, Broken}
 use Rattle.layout.specs.View.{stateOf}
 use Rattle.lookup.specs.declared.Made.{Made}
-use Rattle.lookup.specs.Fresh.{freshState, leftBy as freshBy, Makes}
+use Rattle.lookup.specs.Fresh.{leftBy as freshBy, Makes}
 use Rattle.rules.specs.Step.{step, actionRoom}
 use Rattle.trace_events.specs.Reading.{Event, event, unknown, malformed, short, cutShort, eventAt}
 use Rattle.trace_events.specs.Lines.{pairLine, linesOf}
 use Rattle.trace_step.specs.declared.Replayed.{Replayed}
 use Rattle.trace_step.specs.declared.Replayed.the-variants.{Called, Stopped, Short, Full}
-use Rattle.trace_step.specs.Replay.{lineRoom, Outcome, replayEvent, replayOf, Replays}
+use Rattle.trace_step.specs.Replay.{lineRoom, replayEvent, replayOf, Replays}
 use Rattle.trace_feed.specs.declared.Stage.{Stage}
-use Rattle.trace_feed.specs.declared.Stage.the-variants.{Params, Events, Over}
+use Rattle.trace_feed.specs.declared.Stage.the-variants.{Over}
 use Rattle.trace_feed.specs.declared.Fed.{Fed}
 use Rattle.trace_feed.specs.declared.Fed.the-variants.{Took, Ended, Wants}
-use Rattle.trace_feed.specs.Turns.{Turn, took, ended, wants, eventTurn, eventsTurn, paramsBy, paramsTurn, turnOf, Feeds}
+use Rattle.trace_feed.specs.Turns.{Turn, ended, wants, eventTurn, eventsTurn, paramsBy, paramsTurn, turnOf, Feeds}
 use Rattle.trace_feed.proofs.ParamsFront.{Verdicts, front-is}
 
 -- a line of two numbers ends the trace
@@ -63,7 +61,8 @@ module _ (last : Bool) (s : List ℕ) (q : Reading) (e : q ≡ frontOf s) where
       Makes (q .params .numbers) r table table′ →
       Feeds (paramsTurn last s) (Took next 0) table table′ out out
   params-accepted next r table table′ out f m =
-      as-turn (paramsTurn last s) (paramsBy last s (q .params .numbers) (Accepted next)) (Took next 0) table table′ out out (by-verdict (Accepted next) f)
+      as-turn (paramsTurn last s) (paramsBy last s (q .params .numbers) (Accepted next)) (Took next 0) table table′ out out
+      (by-verdict (Accepted next) f)
       (record {
         answer = refl;
         state = m .state ∙ ap (λ (g : Found). freshBy g (q .params .numbers) (stateOf table)) (verdict-is (Accepted next) f .0);
@@ -77,14 +76,16 @@ module _ (last : Bool) (s : List ℕ) (q : Reading) (e : q ≡ frontOf s) where
       Stored out 0 (pairLine 9 i) n out′ × (n ≤ 0 + 42) →
       Feeds (paramsTurn last s) (Ended n) table table out out′
   params-broken i n table out out′ f w =
-      as-turn (paramsTurn last s) (ended (pairLine 9 i)) (Ended n) table table out out′ (by-verdict (Broken i) f) (line-ends 9 i n table out out′ w)
+      as-turn (paramsTurn last s) (ended (pairLine 9 i)) (Ended n) table table out out′ (by-verdict (Broken i) f)
+      (line-ends 9 i n table out out′ w)
 
   module _ (p : ℕ) (c : Bool) (f : q .verdict ≡ Malformed p) (g : c ≡ cutShort s p) where
     pub params-want :
         (table out : List ℕ) → (not last && c) ≡ true → Feeds (paramsTurn last s) Wants table table out out
     params-want table out h =
         as-turn (paramsTurn last s) wants Wants table table out out
-        (by-verdict (Malformed p) f ∙ ap (λ (b : Bool). cond b wants (ended (pairLine 10 p))) (ap (λ (b : Bool). not last && b) (sym g) ∙ h))
+        (by-verdict (Malformed p) f
+        ∙ ap (λ (b : Bool). cond b wants (ended (pairLine 10 p))) (ap (λ (b : Bool). not last && b) (sym g) ∙ h))
         (record { answer = refl; state = refl; bytes = refl; room = omega arith })
 
     pub params-malformed :
@@ -94,12 +95,14 @@ module _ (last : Bool) (s : List ℕ) (q : Reading) (e : q ≡ frontOf s) where
         Feeds (paramsTurn last s) (Ended n) table table out out′
     params-malformed n table out out′ h w =
         as-turn (paramsTurn last s) (ended (pairLine 10 p)) (Ended n) table table out out′
-        (by-verdict (Malformed p) f ∙ ap (λ (b : Bool). cond b wants (ended (pairLine 10 p))) (ap (λ (b : Bool). not last && b) (sym g) ∙ h))
+        (by-verdict (Malformed p) f
+        ∙ ap (λ (b : Bool). cond b wants (ended (pairLine 10 p))) (ap (λ (b : Bool). not last && b) (sym g) ∙ h))
         (line-ends 10 p n table out out′ w)
 
 -- ---- the events
 module _ (last : Bool) (st : State) (s : List ℕ) where
-  pub events-end : (table out : List ℕ) → stateOf table ≡ st → (last && eqb (length s) 0) ≡ true → Feeds (eventsTurn last st s) (Ended 0) table table out out
+  pub events-end : (table out : List ℕ) → stateOf table ≡ st → (last && eqb (length s) 0) ≡ true →
+      Feeds (eventsTurn last st s) (Ended 0) table table out out
   unfolding eventsTurn
   events-end table out e h = rw h (record { answer = refl; state = refl; bytes = refl; room = omega arith })
 
@@ -141,14 +144,16 @@ module _ (last : Bool) (table table′ out out′ : List ℕ) where
   event-ended short n p = let a = p .answer in let z : _≡_ {A = ℕ} 0 1 = cc in absurd (omega arith)
 
   event-short :
-      (x : Event) → Replays (replayEvent (stateOf table) out x) Short table′ out′ → (x ≡ short) × (stateOf table′ ≡ stateOf table) × (out′ ≡ out)
+      (x : Event) → Replays (replayEvent (stateOf table) out x) Short table′ out′ → (x ≡ short) × (stateOf table′ ≡ stateOf table)
+      × (out′ ≡ out)
   event-short (event c m) p = let a = p .answer in let z : _≡_ {A = ℕ} 0 1 = cc in absurd (omega arith)
   event-short unknown p = let a = p .answer in let z : _≡_ {A = ℕ} 0 1 = cc in absurd (omega arith)
   event-short malformed p = let a = p .answer in let z : _≡_ {A = ℕ} 0 1 = cc in absurd (omega arith)
   event-short short p = (refl, p .state, p .bytes)
 
   event-full :
-      (x : Event) → Replays (replayEvent (stateOf table) out x) Full table′ out′ → Feeds (eventTurn last (stateOf table) x) (Ended 0) table table′ out out′
+      (x : Event) → Replays (replayEvent (stateOf table) out x) Full table′ out′ →
+      Feeds (eventTurn last (stateOf table) x) (Ended 0) table table′ out out′
   event-full (event c m) p = let a = p .answer in let z : _≡_ {A = ℕ} 0 1 = cc in absurd (omega arith)
   event-full unknown p = let a = p .answer in let z : _≡_ {A = ℕ} 0 1 = cc in absurd (omega arith)
   event-full malformed p = let a = p .answer in let z : _≡_ {A = ℕ} 0 1 = cc in absurd (omega arith)
@@ -161,9 +166,11 @@ module _ (last : Bool) (s table table′ out out′ : List ℕ) (r : Replayed)
   unfolding replayOf
   printed-as q e = let f = le-ltb (length out) lineRoom h in rw (f, e) at p
 
-  of-turn : (u : Fed) (new : List ℕ) → Feeds (eventTurn last (stateOf table) (eventAt s 0)) u table table′ out new → Feeds (eventsTurn last (stateOf table) s) u table table′ out new
+  of-turn : (u : Fed) (new : List ℕ) → Feeds (eventTurn last (stateOf table) (eventAt s 0)) u table table′ out new →
+      Feeds (eventsTurn last (stateOf table) s) u table table′ out new
   of-turn u new f =
-      as-turn (eventsTurn last (stateOf table) s) (eventTurn last (stateOf table) (eventAt s 0)) u table table′ out new (events-turn last (stateOf table) s t) f
+      as-turn (eventsTurn last (stateOf table) s) (eventTurn last (stateOf table) (eventAt s 0)) u table table′ out new
+      (events-turn last (stateOf table) s t) f
 
   pub events-took : (next n : ℕ) → r ≡ Called next n → Feeds (eventsTurn last (stateOf table) s) (Took next n) table table′ out out′
   events-took next n e =

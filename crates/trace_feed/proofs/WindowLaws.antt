@@ -1,16 +1,14 @@
 -- The window's bytes: what a turn leaves of them, and what a reading adds.
 -- Assumes nothing.
 use Prim.Native.Nat.{ℕ, zero, suc, _+_, _-_, _<_, _≤_}
-use mathlib.Core.Path.{_≡_, refl, sym, ap, ap₂, _∙_}
-use mathlib.Core.Bool.{Bool, true, false, not, cond, _&&_, false≢true}
+use mathlib.Core.Path.{_≡_, sym, ap, ap₂, _∙_}
 use mathlib.Core.List.{List, [], _∷_, _++_}
 use native.Mathlib.Omega.{arith}
 use native.Mathlib.Nat.{zero-add}
 use native.Mathlib.Numerals.{add-one}
-use lib.ListN.{length, getD, set, take, drop, length-take, length-drop, length-append}
-use lib.Seq.{sets, sets-eq, length-sets, take-append-seam, take-append-le, drop-drop, take-add, take-nil, drop-nil, length-take-le, getD-drop, paste, paste-zero, paste-suc, getD-append-add, take-all}
-use Rattle.trace_feed.specs.declared.Window.{Window}
-use Rattle.trace_feed.specs.Turns.{pending, Inside, filledBy}
+use lib.ListN.{length, getD, set, take, drop, length-drop}
+use lib.Seq.{sets, sets-eq, take-append-seam, drop-drop, take-add, take-nil, length-take-le, getD-drop, paste, paste-zero, paste-suc}
+use lib.Seq.{getD-append-add}
 
 -- a part of a part
 pub drop-take : {A : Type 0} (n m : ℕ) (l : List A) → drop n (take m l) ≡ take (m - n) (drop n l)

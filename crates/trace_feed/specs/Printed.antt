@@ -13,9 +13,9 @@ use Rattle.trace_events.specs.Reading.{Event, event, unknown, malformed, short,
 use Rattle.trace_events.specs.Lines.{pairLine, linesOf}
 
 -- ---- the events
--- "Output: answer and action count, then one line an action or score. [..] bad bytes or a name-length over 64 print 10 0, an unknown kind 2 0,
--- and stop." Of the event at the front, and of those behind it, which `rest` prints from the state that it leaves and the place after it.
--- The input may end inside the event: then it is bad bytes.
+-- "Output: answer and action count, then one line an action or score. [..] bad bytes or a name-length over 64 print 10 0, an unknown kind 2
+-- 0, and stop." Of the event at the front, and of those behind it, which `rest` prints from the state that it leaves and the place after
+-- it. The input may end inside the event: then it is bad bytes.
 abbrev pub eventText : (State → ℕ → List ℕ) → State → Event → List ℕ
 eventText rest st (event c next) = linesOf (step st c actionRoom) ++ rest (step st c actionRoom .state) next
 eventText rest st unknown = pairLine 2 0

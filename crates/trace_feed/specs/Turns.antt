@@ -1,4 +1,5 @@
--- One turn of the trace program: what it makes of the bytes that are there, at the front of what is left of the input. `last`: no others come.
+-- One turn of the trace program: what it makes of the bytes that are there, at the front of what is left of the input. `last`: no others
+-- come.
 use Prim.Native.Nat.{ℕ, _+_, _-_, _<_, _≤_}
 use mathlib.Core.Path.{_≡_}
 use mathlib.Core.Bool.{Bool, true, false, not, cond, _&&_}

@@ -1,12 +1,13 @@
-// The trace program over slices (01, "The trace program"): what it takes, prints and leaves at each turn, from the bytes of its input that are
-// there. That the turns print what the whole input prints, however it is cut, is `EveryCut` (specs/Cuts); program trace moves the bytes.
+// The trace program over slices (01, "The trace program"): what it takes, prints and leaves at each turn, from the bytes of its input that
+// are there. That the turns print what the whole input prints, however it is cut, is `EveryCut` (specs/Cuts); program trace moves the
+// bytes.
 ghost use Prim.Native.Nat.{_+_, _-_, _≤_};
 ghost use mathlib.Core.Path.{_≡_};
 ghost use lib.ListN.{length, take, drop};
 ghost use lib.Seq.{sets};
 ghost use Rattle.layout.specs.View.{stateOf};
 ghost use Rattle.trace_step.specs.Replay.{lineRoom};
-ghost use Rattle.trace_feed.specs.Turns.{paramsTurn, eventsTurn, turnOf, Feeds, Inside, windowBy, filledBy, startWindow, Turns};
+ghost use Rattle.trace_feed.specs.Turns.{paramsTurn, eventsTurn, turnOf, Feeds, Inside, filledBy, startWindow, Turns};
 use layout::CELLS;
 use params_bytes::Verdict;
 use trace_events::lines::put_pair;
@@ -33,8 +34,8 @@ pub enum Fed {
     Wants,
 }
 
-// The bytes of the buffer from `at` to `end` are not done with. `more` is false once the input has ended; `written` bytes were printed by the
-// last turn, and `wants` is true where the next one needs more bytes.
+// The bytes of the buffer from `at` to `end` are not done with. `more` is false once the input has ended; `written` bytes were printed by
+// the last turn, and `wants` is true where the next one needs more bytes.
 pub struct Window {
     pub at: usize,
     pub end: usize,
@@ -47,7 +48,8 @@ pub struct Window {
 // The parameters, at the front of the input.
 fn feed_params(table: &mut [u64; CELLS], s: &[u8], last: bool, out: &mut [u8]) -> Fed
     requires { ⌜ lineRoom ≤ length (now out) ⌝ }
-    ensures { λ r. ⌜ Feeds (paramsTurn last (now (s .entry))) r (now (table .entry)) (now (table .exit)) (now (out .entry)) (now (out .exit)) ⌝ }
+    ensures { λ r. ⌜
+        Feeds (paramsTurn last (now (s .entry))) r (now (table .entry)) (now (table .exit)) (now (out .entry)) (now (out .exit)) ⌝ }
 {
     let reading = params_bytes::read_front(s);
     let verdict = reading.verdict;
@@ -69,7 +71,9 @@ fn feed_params(table: &mut [u64; CELLS], s: &[u8], last: bool, out: &mut [u8]) -
 // One event.
 fn feed_events(table: &mut [u64; CELLS], s: &[u8], last: bool, out: &mut [u8]) -> Fed
     requires { ⌜ lineRoom ≤ length (now out) ⌝ }
-    ensures { λ r. ⌜ Feeds (eventsTurn last (stateOf (now (table .entry))) (now (s .entry))) r (now (table .entry)) (now (table .exit)) (now (out .entry)) (now (out .exit)) ⌝ }
+    ensures { λ r. ⌜
+        Feeds (eventsTurn last (stateOf (now (table .entry))) (now (s .entry))) r (now (table .entry)) (now (table .exit))
+        (now (out .entry)) (now (out .exit)) ⌝ }
 {
     if last & (s.len() == 0) {
         return Fed::Ended(0);
@@ -91,7 +95,9 @@ fn feed_events(table: &mut [u64; CELLS], s: &[u8], last: bool, out: &mut [u8]) -
 // What the bytes that are there come to, `last` where no others follow.
 pub fn feed(table: &mut [u64; CELLS], stage: Stage, s: &[u8], last: bool, out: &mut [u8]) -> Fed
     requires { ⌜ lineRoom ≤ length (now out) ⌝ }
-    ensures { λ r. ⌜ Feeds (turnOf stage last (stateOf (now (table .entry))) (now (s .entry))) r (now (table .entry)) (now (table .exit)) (now (out .entry)) (now (out .exit)) ⌝ }
+    ensures { λ r. ⌜
+        Feeds (turnOf stage last (stateOf (now (table .entry))) (now (s .entry))) r (now (table .entry)) (now (table .exit))
+        (now (out .entry)) (now (out .exit)) ⌝ }
 {
     match stage {
         Stage::Params => feed_params(table, s, last, out),
@@ -148,7 +154,8 @@ fn shift(buf: &mut [u8], at: usize, end: usize)
 // One turn on the window's bytes; where more are wanted, it makes room for them.
 pub fn turn(table: &mut [u64; CELLS], buf: &mut [u8], w: Window, out: &mut [u8]) -> Window
     requires { ⌜ Inside w (now buf) × (lineRoom ≤ length (now out)) ⌝ }
-    ensures { λ r. ⌜ Turns w r (now (table .entry)) (now (table .exit)) (now (buf .entry)) (now (buf .exit)) (now (out .entry)) (now (out .exit)) ⌝ }
+    ensures { λ r. ⌜
+        Turns w r (now (table .entry)) (now (table .exit)) (now (buf .entry)) (now (buf .exit)) (now (out .entry)) (now (out .exit)) ⌝ }
 {
     let at = w.at;
     let end = w.end;

@@ -1,6 +1,5 @@
 -- `trace::main`: its turns and readings are a run of `EveryCut`. Assumes nothing.
 use borrow.Author.Needs.{needs}
-use native.Mathlib.Omega.{arith}
 use mathlib.Core.Path.{_≡_, refl}
 use lib.ListN.{length}
 use Rattle.trace_feed.proofs.Moves.{Moves, moves-start, moves-inside, moves-turn, moves-fill}
@@ -27,8 +26,10 @@ refill-requires c κs = c .before .before .before .before .before .before .turn 
 loop-again : tie.Need-loop-again Inv-loop μ-loop
 loop-again c =
     let i = c .before .before .before .before .before .before .before .before .before .before .before .before .before .loop .inv in
-    let t = c .before .before .before .before .before .before .before .before .turn .ensures in
-    (moves-fill _ _ _ _ _ _ (moves-turn _ _ _ _ _ _ (i .0) _ _ (search needs) t) refl (c .before .refill .ensures), (search needs, search needs))
+    let t = c .before .before .before .before .before .before .before .before .turn .ensures in (
+      moves-fill _ _ _ _ _ _ (moves-turn _ _ _ _ _ _ (i .0) _ _ (search needs) t) refl (c .before .refill .ensures),
+      (search needs, search needs),
+    )
 
 pub main-spec : {M : Type 1} → statement M
 main-spec =

@@ -2,7 +2,7 @@
 use borrow.Author.Needs.{needs}
 use native.Mathlib.Omega.{arith}
 use Prim.Native.Nat.{_+_, _-_, _≤_}
-use mathlib.Core.Path.{_≡_, refl, sym, _∙_}
+use mathlib.Core.Path.{_≡_, refl}
 use lib.ListN.{length, length-set}
 use Rattle.trace_feed.proofs.WindowLaws.{Shifted, shifted-none, shifted-more, shifted-all}
 use Rattle.trace_feed.proofs.shift.Statement.{statement}

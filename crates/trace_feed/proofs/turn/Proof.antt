@@ -1,6 +1,5 @@
 -- `trace_feed::turn`: what `feed` came to on the window's bytes, and the window after it.
 use borrow.Author.Needs.{needs}
-use native.Mathlib.Omega.{arith}
 use mathlib.Core.Path.{refl}
 use Rattle.trace_feed.proofs.TurnEnds.{turn-takes, turn-done}
 use Rattle.trace_feed.proofs.turn.Statement.{statement}
@@ -8,18 +7,25 @@ use Rattle.trace_feed.proofs.turn.Tie as tie
 
 add-t22 : tie.Need-add-t22
 add-t22 c =
-    let h = turn-takes _ _ (c .before .before .before .before .before .before .before .before .before .before .before .before .pre .0) _ _ _ _ _ (c .before .before .before .before .before .feed .ensures) _ _ (c .before .fed .given .1) in
+    let h = turn-takes _ _ (c .before .before .before .before .before .before .before .before .before .before .before .before .pre .0) _ _ _
+    _ _ (c .before .before .before .before .before .feed .ensures) _ _ (c .before .fed .given .1) in
     search needs
 
 returns : tie.Need-returns
-returns c = turn-done _ _ (c .before .before .before .before .before .before .before .before .before .before .before .before .pre .0) _ _ _ _ _ (c .before .before .before .before .before .feed .ensures) _ _ (c .before .fed .given .1) refl
+returns c = turn-done _ _ (c .before .before .before .before .before .before .before .before .before .before .before .before .pre .0) _ _ _
+    _ _ (c .before .before .before .before .before .feed .ensures) _ _ (c .before .fed .given .1) refl
 
 returns-2 : tie.Need-returns-2
-returns-2 c = turn-done _ _ (c .before .before .before .before .before .before .before .before .before .before .before .before .pre .0) _ _ _ _ _ (c .before .before .before .before .before .feed .ensures) _ _ (c .before .fed2 .given .1) refl
+returns-2 c =
+    turn-done _ _ (c .before .before .before .before .before .before .before .before .before .before .before .before .pre .0) _ _ _ _ _
+    (c .before .before .before .before .before .feed .ensures) _ _ (c .before .fed2 .given .1) refl
 
 returns-3 : tie.Need-returns-3
 returns-3 c =
-    turn-done _ _ (c .before .before .before .before .before .before .before .before .before .before .before .before .before .before .before .pre .0) _ _ _ _ _ (c .before .before .before .before .before .before .before .before .feed .ensures) _ _ (c .before .before .before .before .enum-told .given .1) (c .before .before .shift .ensures)
+    turn-done _ _
+    (c .before .before .before .before .before .before .before .before .before .before .before .before .before .before .before .pre .0)
+    _ _ _ _ _ (c .before .before .before .before .before .before .before .before .feed .ensures) _ _
+    (c .before .before .before .before .enum-told .given .1) (c .before .before .shift .ensures)
 
 pub turn-spec : {M : Type 1} → statement M
 turn-spec =
