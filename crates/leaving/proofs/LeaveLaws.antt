@@ -36,7 +36,7 @@ use Rattle.rules.proofs.PunishedLaws.{punished-peer, punished-apart, punished-k
 use Rattle.rules.proofs.PromiseLaws.{leaves-moved}
 use Rattle.rules.proofs.CountLaws.{actions-short}
 use Rattle.gate.proofs.StandingLaws.{sizes}
-use Rattle.leaving.specs.Slots.{grownIf, leftIf, actionIf, Turn, Turned, Walk, Walked}
+use Rattle.leaving.specs.Slots.{grownIf, leftIf, actionIf, Turn, Turned, Walk, Walked, LeaveTurn}
 
 -- a flag that goes with another
 pub no-member : (m n : Bool) → m ≡ false → false ≡ m && n
@@ -240,21 +240,24 @@ module _ (st : State) (t end : ℕ) (k : t < 8) (i : ℕ) (u : State) (w : u ≡
 module _ (table₀ start : List ℕ) (t end seconds : ℕ) (flags : List Bool) (walk : Walk table₀ t seconds flags start)
     (i : ℕ) (h : i < slotCount) (table list : List ℕ) (at : ℕ) (now : Walking (stateOf table₀) start t end i table list at) where
   -- what turn i relies on
-  pub walking-ready : Turn table t i × ((at + 3 ≤ length list) × (seconds ≤ 4294967295))
+  pub walking-ready : LeaveTurn table list t i at seconds
   walking-ready =
       let st = stateOf table₀ in
       let v = walk .standing .router in
       let n : length list ≡ length start = walking-length st start t end i table list at now in
-      let b : seconds ≤ 3600 = rw (walk .backoff) (sizes st v .leave) in (
-        record {
-          size = now .size;
-          topic = walk .topic;
-          slot = h;
-          threshold = rw (as-params st t end (walk .topic) i (stateOf table) (now .state)) (params-in st v t (walk .topic) .threshold);
-          id = rw (as-peer st t end (walk .topic) i (stateOf table) (now .state)) (valid-facts st v .peer i h .id);
-        },
-        (omega (arith, now .place, n, walk .room, actions-short st t i), omega arith),
-      )
+      let b : seconds ≤ 3600 = rw (walk .backoff) (sizes st v .leave) in
+      record {
+        turn =
+            record {
+              size = now .size;
+              topic = walk .topic;
+              slot = h;
+              threshold = rw (as-params st t end (walk .topic) i (stateOf table) (now .state)) (params-in st v t (walk .topic) .threshold);
+              id = rw (as-peer st t end (walk .topic) i (stateOf table) (now .state)) (valid-facts st v .peer i h .id);
+            };
+        room = omega (arith, now .place, n, walk .room, actions-short st t i);
+        seconds = omega arith;
+      }
 
   -- what it leaves
   pub walking-more :

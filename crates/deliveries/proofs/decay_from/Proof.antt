@@ -21,7 +21,11 @@ decay-slot-requires : tie.Need-decay-slot-requires Inv-loop μ-loop
 decay-slot-requires c κs =
     let l = c .before .before .loop in
     let standing = c .before .before .before .before .pre .standing in
-    (l .inv .1, (at-slot _ _ _ _ (decays-of _ (standing .router)) (l .inv .0) (l .inv .2), omega arith))
+    record {
+      size = l .inv .1;
+      decays = at-slot _ _ _ _ (decays-of _ (standing .router)) (l .inv .0) (l .inv .2);
+      slot = omega arith;
+    }
 
 loop-again : tie.Need-loop-again Inv-loop μ-loop
 loop-again c =

@@ -1,4 +1,4 @@
--- `deliveries::decay_p7` meets its contract.
+-- `deliveries::decay_p7`: the record with the counter that `faded` gives.
 -- Assumes nothing.
 use borrow.Author.Needs.{needs}
 use Rattle.deliveries.proofs.DecayLaws.{p7-ready, p7-decayed}
@@ -8,7 +8,7 @@ use Rattle.deliveries.proofs.decay_p7.Tie as tie
 faded-requires : tie.Need-faded-requires
 faded-requires c κs =
     let pre = c .before .before .before .before .before .before .before .before .pre in
-    p7-ready _ _ _ _ (pre .1 .0) (pre .1 .1) (c .before .before .before .before .before .load-peer .ensures) (c .load-size2 .ensures)
+    p7-ready _ _ _ _ (pre .decays) (pre .slot) (c .before .before .before .before .before .load-peer .ensures) (c .load-size2 .ensures)
 
 returns : tie.Need-returns
 returns c =

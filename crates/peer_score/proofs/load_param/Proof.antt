@@ -1,5 +1,6 @@
 -- `peer_score::load_param` meets its contract. Assumes nothing.
 use native.Mathlib.Omega.{arith}
+use borrow.Author.Needs.{needs}
 use Rattle.peer_score.proofs.load_param.Statement.{statement}
 use Rattle.peer_score.proofs.load_param.Tie as tie
 
@@ -9,5 +10,5 @@ load-param-spec =
     (λ c. omega arith)
     (λ c. omega arith)
     (λ c. omega arith)
-    (λ c κs. omega arith)
+    (λ c κs. search needs)
     (λ c. c .load-size .ensures))

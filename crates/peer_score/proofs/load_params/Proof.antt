@@ -1,13 +1,21 @@
--- `peer_score::load_params` meets its contract. Assumes nothing.
-use Prim.Native.Nat.{ℕ}
+-- `peer_score::load_params`: sixteen loaded numbers are the record of the rules.
+-- Assumes nothing.
+use Prim.Native.Nat.{ℕ, _<_}
 use mathlib.Core.Path.{_≡_}
-use native.Mathlib.Omega.{arith}
+use mathlib.Core.List.{List}
 use lib.Dec.{lit<}
+use borrow.Author.Needs.{needs}
 use Rattle.params.specs.Joint.{place as topicPlace}
 use Rattle.records.specs.Records.{State}
+use Rattle.effects.specs.Lent.{AtTopic}
 use Rattle.score.specs.Score.{sizeIn, topicParamsIn}
+use Rattle.peer_score.specs.Standing.{AtTopicParam}
 use Rattle.peer_score.proofs.load_params.Statement.{statement}
 use Rattle.peer_score.proofs.load_params.Tie as tie
+
+-- behind more places than a search enters
+in-topic : {table : List ℕ} {t j : ℕ} → AtTopic table t → j < 16 → AtTopicParam table t j
+in-topic h l = record { size = h .size; topic = h .topic; param = l }
 
 -- the record of sixteen loaded numbers, over plain variables
 made :
@@ -70,20 +78,20 @@ returns c =
 pub load-params-spec : {M : Type 1} → statement M
 load-params-spec =
     tie.close (tie.spec
-    (λ c κs. omega arith)
-    (λ c κs. omega arith)
-    (λ c κs. omega arith)
-    (λ c κs. omega arith)
-    (λ c κs. omega arith)
-    (λ c κs. omega arith)
-    (λ c κs. omega arith)
-    (λ c κs. omega arith)
-    (λ c κs. omega arith)
-    (λ c κs. omega arith)
-    (λ c κs. omega arith)
-    (λ c κs. omega arith)
-    (λ c κs. omega arith)
-    (λ c κs. omega arith)
-    (λ c κs. let p = c .before .before .before .before .before .before .before .before .before .before .before .before .before .before .before .pre in (p .0, (p .1, lit< tt)))
-    (λ c κs. let p = c .before .before .before .before .before .before .before .before .before .before .before .before .before .before .before .before .pre in (p .0, (p .1, lit< tt)))
+    (λ c κs. search needs)
+    (λ c κs. search needs)
+    (λ c κs. search needs)
+    (λ c κs. search needs)
+    (λ c κs. search needs)
+    (λ c κs. search needs)
+    (λ c κs. search needs)
+    (λ c κs. search needs)
+    (λ c κs. search needs)
+    (λ c κs. search needs)
+    (λ c κs. search needs)
+    (λ c κs. search needs)
+    (λ c κs. search needs)
+    (λ c κs. search needs)
+    (λ c κs. in-topic (c .before .before .before .before .before .before .before .before .before .before .before .before .before .before .before .pre) (lit< tt))
+    (λ c κs. in-topic (c .before .before .before .before .before .before .before .before .before .before .before .before .before .before .before .before .pre) (lit< tt))
     returns)

@@ -23,7 +23,7 @@ sharing-of-spec =
     Inv-loop
     μ-loop
     (λ c. (search needs, (search needs, sharing-none _ _)))
-    (λ c κs. omega arith)
+    (λ c κs. search needs)
     (λ c. omega arith)
     (λ c. omega arith)
     (λ c. omega arith)

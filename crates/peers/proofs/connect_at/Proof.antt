@@ -1,4 +1,4 @@
--- `peers::connect_at` meets its contract.
+-- `peers::connect_at`: the record in the slot, and the clock.
 -- Assumes nothing.
 use borrow.Author.Needs.{needs}
 use Rattle.rules.specs.Step.{connectAt}

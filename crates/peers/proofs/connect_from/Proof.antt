@@ -1,4 +1,4 @@
--- `peers::connect_from` meets its contract.
+-- `peers::connect_from`: 6, 4, or what `connect_known` leaves.
 -- Assumes nothing.
 use borrow.Author.Needs.{needs}
 use Rattle.peers.proofs.PeerLaws.{connect-unknown, connect-already, connect-new}

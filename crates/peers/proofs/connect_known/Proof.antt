@@ -19,7 +19,7 @@ connect-known-spec =
     (λ c κs. search needs)
     (λ c κs. search needs)
     (λ c. search needs)
-    (λ c κs. (search needs, search retained-below))
+    (λ c κs. search (retained-below, needs))
     (λ c. search needs)
     (λ c. search connect-retained)
     (λ c. search needs)
@@ -28,6 +28,6 @@ connect-known-spec =
     (λ c. search needs)
     (λ c. search needs)
     returns-2
-    (λ c κs. (search needs, search empty-below))
+    (λ c κs. search (empty-below, needs))
     (λ c. search needs)
     (λ c. search connect-empty))

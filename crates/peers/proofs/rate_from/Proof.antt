@@ -26,7 +26,7 @@ rate-from-spec =
     (λ c. search needs)
     (λ c. search peer-none)
     (λ c κs. search needs)
-    (λ c κs. (search needs, search found-below))
+    (λ c κs. search (found-below, needs))
     (λ c κs. search needs)
     (λ c. search needs)
     returns-2)

@@ -37,10 +37,10 @@ leave-topics-spec =
     (tie.spec
     Inv-loop
     μ-loop
-    (λ c. (omega arith, c .before .pre .0, sym (iter-none _ _)))
+    (λ c. (omega arith, c .before .pre .size, sym (iter-none _ _)))
     (λ c κs. search needs)
     (λ c. omega arith)
     (λ c. omega arith)
     loop-again
-    (λ c. c .before .loop .inv .1 ∙ sym (c .before .before .before .pre .0))
+    (λ c. c .before .loop .inv .1 ∙ sym (c .before .before .before .pre .size))
     returns)
