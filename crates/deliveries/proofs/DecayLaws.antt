@@ -154,16 +154,17 @@ idle-stays : (t : TopicParams) (floor time : ℕ) (r : TopicRecord) → isIdle r
 unfolding decayedOf meshOf
 idle-stays t floor time r e =
     let i = idle-of r e in
-    rw
-    (i .member,
-    i .p2,
-    i .p3,
-    i .p4,
-    i .p3b,
-    faded-nothing floor (t .decay2),
-    faded-nothing floor (t .decay3),
-    faded-nothing floor (t .decay4),
-    faded-nothing (floor * 1000) (t .decay3b))
+    rw (
+      i .member,
+      i .p2,
+      i .p3,
+      i .p4,
+      i .p3b,
+      faded-nothing floor (t .decay2),
+      faded-nothing floor (t .decay3),
+      faded-nothing floor (t .decay4),
+      faded-nothing (floor * 1000) (t .decay3b),
+    )
 
 pub topic-idle :
     (st : State) (time s t : ℕ) (r : TopicRecord) →

@@ -35,7 +35,7 @@ use Rattle.rules.specs.Promise.{Gives}
 use Rattle.rules.proofs.CaseLaws.{topic-in}
 use Rattle.rules.proofs.PromiseLaws.{leaves-moved}
 use Rattle.rules.proofs.HeartbeatLaws.{told-few}
-use Rattle.gate.specs.Ready.{Standing}
+use Rattle.peer_score.specs.Standing.{Standing}
 use Rattle.gate.proofs.CallLaws.{gate-fine}
 use Rattle.gate.proofs.StandingLaws.{sizes}
 use Rattle.heartbeat.specs.Settle.{Settle}

@@ -9,7 +9,7 @@ use Rattle.layout.specs.View.{stateOf}
 use Rattle.sets.specs.Sets.{bySlot}
 use Rattle.effects.specs.Effects.{onTopic, intoMesh, isMember, pruned, endAfter, pruneBackoff}
 use Rattle.rules.specs.Step.{heightIn}
-use Rattle.gate.specs.Ready.{Standing}
+use Rattle.peer_score.specs.Standing.{Standing}
 use Rattle.leaving.specs.Slots.{grownIf}
 
 -- slot s in topic t, from whether it was a member, whether it stays or comes in, and whether its score was negative

@@ -27,12 +27,12 @@ pub degrees-spec : {M : Type 1} → statement M
 degrees-spec =
     tie.close
     (tie.spec
-    (λ c κs. (c .before .pre .size, omega arith))
-    (λ c κs. (c .before .before .pre .size, omega arith))
-    (λ c κs. (c .before .before .before .pre .size, omega arith))
-    (λ c κs. (c .before .before .before .before .pre .size, omega arith))
-    (λ c κs. (c .before .before .before .before .before .pre .size, omega arith))
-    (λ c κs. (c .before .before .before .before .before .before .pre .size, omega arith))
+    (λ c κs. record { size = c .before .pre .size; param = omega arith })
+    (λ c κs. record { size = c .before .before .pre .size; param = omega arith })
+    (λ c κs. record { size = c .before .before .before .pre .size; param = omega arith })
+    (λ c κs. record { size = c .before .before .before .before .pre .size; param = omega arith })
+    (λ c κs. record { size = c .before .before .before .before .before .pre .size; param = omega arith })
+    (λ c κs. record { size = c .before .before .before .before .before .before .pre .size; param = omega arith })
     mul-t8
     add-t9
     returns)
