@@ -11,8 +11,8 @@ use Rattle.varint.specs.Codes.{numberOf}
 use Rattle.records.specs.declared.Peer.{Peer}
 use Rattle.records.specs.Records.{State, codeIn, peerIn}
 use Rattle.records.specs.Parameters.{graylistThresholdAt, p7DecayAt, decayToZeroAt}
-use Rattle.params.specs.Limits.{limits, limitAt}
-use Rattle.params.proofs.FieldLaws.{loss-of}
+use Rattle.limits.specs.Limits.{limits, limitAt}
+use Rattle.limits.proofs.FieldLaws.{loss-of}
 use Rattle.params.proofs.ParamLaws.{general, within}
 use Rattle.validity.specs.Valid.{valid}
 use Rattle.validity.proofs.ValidLaws.{valid-facts}

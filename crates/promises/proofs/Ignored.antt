@@ -20,7 +20,7 @@ use Rattle.index.proofs.Index.{both}
 use Rattle.index.proofs.Flags.{by-test, cond-case}
 use Rattle.varint.specs.Codes.{codeOf, numberOf as signed}
 use Rattle.varint.proofs.CodeLaws.{number-code}
-use Rattle.params.specs.Limits.{at}
+use Rattle.limits.specs.Limits.{at}
 use Rattle.records.specs.Records.{State, codeIn, peerIn, joinedIn, slotCount}
 use Rattle.validity.proofs.ValidLaws.{valid-facts}
 use Rattle.lookup.specs.Find.{findConnected}

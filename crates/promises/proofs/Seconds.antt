@@ -11,7 +11,7 @@ use lib.Dec.{eqb}
 use lib.IntN.{natAbs}
 use Rattle.index.specs.Index.{gather}
 use Rattle.index.proofs.Flags.{cond-case}
-use Rattle.params.specs.Limits.{at}
+use Rattle.limits.specs.Limits.{at}
 use Rattle.records.specs.declared.Peer.{Peer}
 use Rattle.records.specs.Records.{State, slotCount, peerIn, setPeer}
 use Rattle.layout.specs.View.{Sized}

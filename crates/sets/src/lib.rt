@@ -1,6 +1,6 @@
-// Sets of slots, as an array with a flag for each slot, and what mesh maintenance makes of them: walks along an order, the test of a permutation,
-// the median of a set's scores. Everything above goes by these functions and not by the form of a set. What a walk asks at every turn takes
-// its array by reference, so that no turn copies it.
+// Sets of slots, as an array with a flag for each slot, and what mesh maintenance makes of them: walks along an order, the test of a
+// permutation, the median of a set's scores. The crates above use these functions and do not depend on the form of a set. Functions that
+// a loop calls at every turn take their array by reference, so that no turn copies it.
 ghost use mathlib.Core.Path.{_≡_};
 ghost use Prim.Native.Nat.{_-_};
 ghost use lib.ListN.{getD, set};

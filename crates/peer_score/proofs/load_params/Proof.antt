@@ -5,7 +5,7 @@ use mathlib.Core.Path.{_≡_}
 use mathlib.Core.List.{List}
 use lib.Dec.{lit<}
 use borrow.Author.Needs.{needs}
-use Rattle.params.specs.Joint.{place as topicPlace}
+use Rattle.limits.specs.Limits.{place as topicPlace}
 use Rattle.records.specs.Records.{State}
 use Rattle.effects.specs.Lent.{AtTopic}
 use Rattle.score.specs.Score.{sizeIn, topicParamsIn}

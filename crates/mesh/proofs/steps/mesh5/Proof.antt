@@ -1,5 +1,5 @@
--- `mesh::steps::mesh5` meets its contract.
--- Assumes nothing.
+-- `mesh::steps::mesh5` meets its contract: the four ways out are the rule's: not asked, fewer than two members, the median not below the
+-- threshold, and the grafts. Assumes nothing.
 use native.Mathlib.Omega.{arith}
 use borrow.Author.Needs.{needs}
 use borrow.Author.Tests.{not-true, not-false}

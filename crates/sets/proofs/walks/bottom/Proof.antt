@@ -15,7 +15,8 @@ use Rattle.sets.proofs.walks.bottom.Tie as tie
 
 abbrev Inv-loop : tie.InvT-loop
 Inv-loop scores p order low₀ i₀ low i =
-    (i ≤ slotCount) × (bottom slotCount scores p (drop i order) low ≡ bottom slotCount scores p order slotCount) × (length order ≡ slotCount)
+    (i ≤ slotCount) × (bottom slotCount scores p (drop i order) low ≡ bottom slotCount scores p order slotCount)
+    × (length order ≡ slotCount)
 
 abbrev μ-loop : tie.MeasureT-loop
 μ-loop scores p order low₀ i₀ low i = slotCount - i

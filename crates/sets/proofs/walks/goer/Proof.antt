@@ -8,7 +8,8 @@ use Rattle.sets.proofs.walks.goer.Tie as tie
 returns : tie.Need-returns
 returns c =
     let a = c .before .before .before .before .args in
-    goer-lowest slotCount (a .scores) (a .order) (a .b) (a .p) (c .before .before .before .except .ensures) (c .before .before .size .ensures)
+    goer-lowest slotCount (a .scores) (a .order) (a .b) (a .p) (c .before .before .before .except .ensures)
+    (c .before .before .size .ensures)
     (c .before .if1 .taken)
     (c .bottom .ensures)
 

@@ -81,7 +81,8 @@ loop-again c =
     (c .before .first-of .ensures)
     (c .set2 .ensures) in
     ap (swapTo slotCount (a .out) (a .scores) (a .outbound) (a .order) (a .m) (a .b) (l .left - 1)) once
-    ∙ sym (swap-go slotCount (a .out) (a .scores) (a .outbound) (a .order) (a .m) (a .b) (l .left) (l .r) (omega arith) few one-comes one-goes)
+    ∙ sym (swap-go slotCount (a .out) (a .scores) (a .outbound) (a .order) (a .m) (a .b) (l .left) (l .r) (omega arith) few one-comes
+    one-goes)
     ∙ l .inv
 
 returns-4 : tie.Need-returns-4 Inv-loop μ-loop
