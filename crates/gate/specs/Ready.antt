@@ -19,10 +19,6 @@ pub record TopicReady (table : List ℕ) (time t : ℕ) : Type 0 where
   pub ready : Ready table time
   pub topic : t < topicCount
 
-pub record SlotReady (table : List ℕ) (time s : ℕ) : Type 0 where
-  pub ready : Ready table time
-  pub slot : s < slotCount
-
 pub record PlaceReady (table : List ℕ) (time t s : ℕ) : Type 0 where
   pub ready : Ready table time
   pub topic : t < topicCount

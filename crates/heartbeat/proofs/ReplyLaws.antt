@@ -30,7 +30,8 @@ use Rattle.rules.specs.declared.Gate.{Gate}
 use Rattle.rules.specs.declared.Gate.the-variants.{Pass}
 use Rattle.rules.specs.Calls.{topicOk}
 use Rattle.rules.specs.Reply.{done}
-use Rattle.rules.specs.Step.{gateOf, degreesIn, viewIn, meshesIn, settleSlot, toldIn, actionIn, heartbeatActions, maintainedReply, actionRoom}
+use Rattle.rules.specs.Step.{gateOf, degreesIn, viewIn, meshesIn, settleSlot, toldIn, actionIn, heartbeatActions, maintainedReply}
+use Rattle.rules.specs.Step.{actionRoom}
 use Rattle.rules.specs.Promise.{Gives}
 use Rattle.rules.proofs.CaseLaws.{topic-in}
 use Rattle.rules.proofs.PromiseLaws.{leaves-moved}

@@ -1,5 +1,5 @@
--- One turn of the walk that writes a mesh back, from the state as it stands at that turn. The rules' own words, which go by the call's start,
--- are `settleSlot` of crate rules; that the two agree is proved (proofs/SettleLaws.antt).
+-- One turn of the walk that writes a mesh back, from the state as it stands at that turn. The rules' own words, which go by the call's
+-- start, are `settleSlot` of crate rules; that the two agree is proved (proofs/SettleLaws.antt).
 use Prim.Native.Nat.{ℕ, _<_}
 use mathlib.Core.Path.{_≡_}
 use mathlib.Core.Bool.{Bool, cond}

@@ -1,5 +1,5 @@
-// The heartbeat's work for one topic (01's tidy), one of 01's calls: what maintenance sees is taken from the table once, into arrays by slot;
-// crate mesh makes of it the meshes that the five steps leave; the last of them and the actions are written back once.
+// The heartbeat's work for one topic (01's tidy), one of 01's calls: what maintenance sees is taken from the table once, into arrays by
+// slot; crate mesh makes of it the meshes that the five steps leave; the last of them and the actions are written back once.
 pub mod scores;
 pub mod seen;
 pub mod settle;

@@ -1,7 +1,7 @@
 -- An idle record: its numbers by name, and its share of a score, which is nothing.
 -- Assumes nothing.
 use Prim.Native.Nat.{ℕ, _+_, _*_}
-use mathlib.Core.Path.{_≡_, refl, sym, ap₂, _∙_}
+use mathlib.Core.Path.{_≡_, sym, ap₂, _∙_}
 use mathlib.Core.Bool.{Bool, true, false}
 use native.Mathlib.Omega.{arith}
 use lib.Dec.{eqb}
@@ -10,8 +10,7 @@ use Rattle.index.proofs.Index.{both}
 use Rattle.records.specs.declared.TopicRecord.{TopicRecord}
 use Rattle.records.specs.Records.{State, place, topicIn}
 use Rattle.score.specs.declared.TopicParams.{TopicParams}
-use Rattle.score.specs.declared.Balance.{Balance}
-use Rattle.score.specs.Parts.{part1Of, part2Of, part3Of, part3bOf, part4Of}
+use Rattle.score.specs.Parts.{part1Of, part2Of, part3Of, part4Of}
 use Rattle.score.specs.Ranges.{ShareIn}
 use Rattle.score.specs.Sums.{shareOf, noBalance}
 use Rattle.score.specs.Score.{topicParamsIn, shareAt}

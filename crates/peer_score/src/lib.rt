@@ -74,8 +74,8 @@ pub fn load_general(table: &[u64]) -> ScoreParams
     }
 }
 
-// Whether the peer in a slot is connected and of the group: 1 or 0. Both are asked of every slot: which groups are the same cannot be guessed,
-// and a branch that is guessed wrong costs more than the second test.
+// Whether the peer in a slot is connected and of the group: 1 or 0. Both are asked of every slot: which groups are the same cannot be
+// guessed, and a branch that is guessed wrong costs more than the second test.
 fn shares(table: &[u64], group: u64, slot: usize) -> u64
     requires { ⌜ AtSlot (now table) slot ⌝ }
     ensures { λ r. ⌜ (r ≡ one (sharesGroup (stateOf (now (table .entry))) group slot)) × (r ≤ 1) ⌝ }

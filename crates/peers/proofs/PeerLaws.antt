@@ -156,7 +156,8 @@ module _ (table mid : List ℕ) (time id group flags version : ℕ) (e : stateOf
           Leaves known NoSlot table mid
       unfolding connectIn
       connect-full lt lm g =
-          let m : mid ≡ table = determined mid table lm lt (e ∙ full-as (stateOf table) time (sized-of table) (sym (ap lowestEmpty e) ∙ sym q ∙ g)) in
+          let m : mid ≡ table =
+          determined mid table lm lt (e ∙ full-as (stateOf table) time (sized-of table) (sym (ap lowestEmpty e) ∙ sym q ∙ g)) in
           rw (← e, ← p, n, ← q, g) (record { answer = refl; state = ap stateOf m; kept = λ _. m })
 
 -- ---- connect: tests 6 and 4

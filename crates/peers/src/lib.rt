@@ -1,5 +1,5 @@
-// Connect, disconnect, setting P5, and the score: four of 01's calls. Each takes the lent table, a time, its arguments as wide numbers and a
-// lent action list, asks nothing of its caller, and promises the rules' reply (crate rules).
+// Connect, disconnect, setting P5, and the score: four of 01's calls. Each takes the lent table, a time, its arguments as wide numbers and
+// a lent action list, asks nothing of its caller, and promises the rules' reply (crate rules).
 ghost use mathlib.Core.Path.{_≡_};
 ghost use lib.Dec.{leb};
 ghost use lib.IntN.{natAbs};

@@ -27,11 +27,16 @@ use Rattle.effects.proofs.ActionLaws.{numbers-length}
 use Rattle.effects.specs.Effects.{isJoined, isMember, unsubscribeBackoff, reclaimed}
 use Rattle.rules.specs.declared.Answer.{Answer}
 use Rattle.rules.specs.declared.Gate.the-variants.{Pass, Refuse}
-use Rattle.rules.specs.declared.Answer.the-variants.{Early, OutOfRange, NotConnected, AlreadyConnected, NoSlot, UnknownProtocol, NotPermutation, ListShort, NotRouter}
+use Rattle.rules.specs.declared.Answer.the-variants.{Early, OutOfRange, NotConnected, AlreadyConnected, NoSlot, UnknownProtocol}
+use Rattle.rules.specs.declared.Answer.the-variants.{NotPermutation, ListShort, NotRouter}
 use Rattle.rules.specs.Reply.{Reply, actionsOf, refused, ignored, done}
-use Rattle.rules.specs.Calls.{Call, connect, disconnect, join, leave, subscribe, unsubscribe, graft, prune, deliver, rate, heartbeat, decay, score, timeOf, inRange}
+use Rattle.rules.specs.Calls.{Call, connect, disconnect, join, leave, subscribe, unsubscribe, graft, prune, deliver, rate, heartbeat}
+use Rattle.rules.specs.Calls.{decay, score, timeOf, inRange}
 use Rattle.rules.proofs.GraftLaws.{by-graft}
-use Rattle.rules.specs.Step.{actionRoom, isGraylisted, isHeard, raisedP7, gateOf, through, onFound, ofPeer, onVersion, connectAt, connectIn, connectReply, joinReply, leaveActions, leaveReply, subscribeReply, unsubscribeReply, graftRefused, graftReply, pruneReply, deliverReply, viewIn, meshesIn, actionIn, heartbeatActions, maintainedReply, heartbeatReply, decayReply, effect, step}
+use Rattle.rules.specs.Step.{actionRoom, isGraylisted, isHeard, raisedP7, gateOf, through, onFound, ofPeer, onVersion, connectAt}
+use Rattle.rules.specs.Step.{connectIn, connectReply, joinReply, leaveActions, leaveReply, subscribeReply, unsubscribeReply}
+use Rattle.rules.specs.Step.{graftRefused, graftReply, pruneReply, deliverReply, viewIn, meshesIn, actionIn, heartbeatActions}
+use Rattle.rules.specs.Step.{maintainedReply, heartbeatReply, decayReply, effect, step}
 use Rattle.rules.specs.Promise.{Follows}
 use Rattle.rules.specs.Kept.{FitsList, WritesAll}
 use Rattle.rules.proofs.CaseLaws.{by-gate}
@@ -98,7 +103,8 @@ actions-short st t n =
 counted-leave : (st : State) (time t : ℕ) → Counted (leaveReply st time t)
 unfolding leaveReply
 counted-leave st time t =
-    counted-cond (isJoined st t) _ _ (counted-done _ time (leaveActions st t slotCount) (actions-short st t slotCount)) (counted-ignored st time)
+    counted-cond (isJoined st t) _ _ (counted-done _ time (leaveActions st t slotCount) (actions-short st t slotCount))
+    (counted-ignored st time)
 
 counted-prune-back : (st : State) (time t s : ℕ) (p : Peer) → Counted (graftRefused st time t s p)
 unfolding graftRefused

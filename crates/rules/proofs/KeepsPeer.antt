@@ -24,13 +24,15 @@ use Rattle.lookup.specs.Name.{versionOf}
 use Rattle.lookup.proofs.NameLaws.{version-small}
 use Rattle.lookup.proofs.FindLaws.{retained-at, empty-at, none-connected, none-retained}
 use Rattle.validity.proofs.ValidLaws.{no-peer, no-topic, zero-is}
-use Rattle.effects.specs.Effects.{withP5, connectedAs, retainedTo, withSubscribed, outOfMesh, leftTopic, departed, endAfter, retainSeconds, reclaimable, emptied, reclaimSlot, reclaimed, onPeer}
+use Rattle.effects.specs.Effects.{withP5, connectedAs, retainedTo, withSubscribed, outOfMesh, leftTopic, departed, endAfter, retainSeconds}
+use Rattle.effects.specs.Effects.{reclaimable, emptied, reclaimSlot, reclaimed, onPeer}
 use Rattle.effects.proofs.EffectLaws.{departed-topic, emptied-topic, reclaimed-peer}
 use Rattle.rules.specs.declared.Answer.the-variants.{NoSlot, AlreadyConnected, UnknownProtocol}
 use Rattle.rules.specs.Reply.{refused, done}
 use Rattle.rules.specs.Step.{onFound, onVersion, connectAt, connectIn, connectReply}
 use Rattle.rules.proofs.KeepsRecord.{topic-left, topic-under, peer-p5, peer-retained, peer-connected, p5-code}
-use Rattle.rules.proofs.KeepsState.{Router, RouterAt, router-end, peer-of, topic-of, ids-of, retain-most, router-topic, router-peer, router-same-id, router-numbers, Walked, walk-none, walk-topic}
+use Rattle.rules.proofs.KeepsState.{Router, RouterAt, router-end, peer-of, topic-of, ids-of, retain-most, router-topic, router-peer}
+use Rattle.rules.proofs.KeepsState.{router-same-id, router-numbers, Walked, walk-none, walk-topic}
 
 -- ---- rate
 pub keeps-rate :
@@ -81,7 +83,8 @@ module _ (time : ℕ) (st : State) (g : RouterAt time st) (s : ℕ) (h : s < slo
       refl
       (λ t k.
       let n = left-none t k in
-      topic-under _ _ _ _ _ _ (topicIn left (place s t)) (topic-of time left (walked .at) s t h k) 2 (peerIn left s .explicit) (joinedIn left t)
+      topic-under _ _ _ _ _ _ (topicIn left (place s t)) (topic-of time left (walked .at) s t h k) 2 (peerIn left s .explicit)
+      (joinedIn left t)
       (λ e. absurd (omega arith))
       (λ e. n)
       (λ e. absurd (omega arith))))

@@ -1,10 +1,10 @@
 -- What each call answers and leaves: 01's order of tests once (12, 2, 8, 1, then 6, 7, 3, 4, 5, 11), then the effects case by case.
 use Prim.Native.Nat.{ℕ, _+_, _*_, min}
-use mathlib.Core.Bool.{Bool, true, false, cond, not, _&&_, _||_}
+use mathlib.Core.Bool.{Bool, cond, not, _&&_, _||_}
 use mathlib.Core.List.{List, [], _∷_, map}
-use lib.ListN.{getD, set}
-use lib.Dec.{eqb, leb, ltb}
-use lib.IntN.{ℤ, pos, natAbs, _+ℤ_, _*ℤ_}
+use lib.ListN.{getD}
+use lib.Dec.{eqb, leb}
+use lib.IntN.{pos, natAbs, _+ℤ_, _*ℤ_}
 use lib.Signed.{ltZ}
 use Rattle.index.specs.Index.{iter, gather}
 use Rattle.index.specs.declared.Found.{Found}
@@ -27,18 +27,22 @@ use Rattle.mesh.specs.declared.Degrees.{Degrees}
 use Rattle.mesh.specs.declared.View.{View}
 use Rattle.mesh.specs.declared.Meshes.{Meshes}
 use Rattle.mesh.specs.Maintenance.{Action as Told, zeroScore, meshes, changesOf, actionsOf}
-use Rattle.rules.specs.declared.Answer.{Answer}
-use Rattle.rules.specs.declared.Answer.the-variants.{Done, Scored, Early, OutOfRange, NotConnected, AlreadyConnected, NoSlot, UnknownProtocol, NotPermutation, ListShort, Ignored, NotRouter}
+use Rattle.rules.specs.declared.Answer.the-variants.{Scored, Early, OutOfRange, NotConnected, AlreadyConnected, NoSlot}
+use Rattle.rules.specs.declared.Answer.the-variants.{UnknownProtocol, NotPermutation, ListShort, NotRouter}
 use Rattle.rules.specs.declared.Sender.{Sender}
 use Rattle.rules.specs.declared.Seen.{Seen}
 use Rattle.rules.specs.declared.GraftCase.{GraftCase}
-use Rattle.rules.specs.declared.GraftCase.the-variants.{NotJoined, Graylisted, AlreadyMember, Explicit, InBackoff, Negative, NotSubscribed, Full, Enters}
+use Rattle.rules.specs.declared.GraftCase.the-variants.{NotJoined, Graylisted, AlreadyMember, Explicit, InBackoff, Negative}
+use Rattle.rules.specs.declared.GraftCase.the-variants.{NotSubscribed, Full, Enters}
 use Rattle.rules.specs.declared.Gate.{Gate}
 use Rattle.rules.specs.declared.Gate.the-variants.{Pass, Refuse}
 use Rattle.effects.specs.Actions.{Action, pruneOf}
 use Rattle.rules.specs.Reply.{Reply, refused, ignored, done}
-use Rattle.effects.specs.Effects.{magnitude, highDegree, pruneBackoff, unsubscribeBackoff, withEnd, withP5, withP7, connectedAs, outOfMesh, intoMesh, withSubscribed, onPeer, onTopic, isJoined, isMember, isSubscribed, meshSize, backoffRuns, pruned, endAfter, departed, reclaimed}
-use Rattle.rules.specs.Calls.{Call, connect, disconnect, join, leave, subscribe, unsubscribe, graft, prune, deliver, rate, heartbeat, decay, score, timeOf, inRange}
+use Rattle.effects.specs.Effects.{magnitude, highDegree, pruneBackoff, unsubscribeBackoff, withEnd, withP5, withP7, connectedAs, outOfMesh}
+use Rattle.effects.specs.Effects.{intoMesh, withSubscribed, onPeer, onTopic, isJoined, isMember, isSubscribed, meshSize, backoffRuns}
+use Rattle.effects.specs.Effects.{pruned, endAfter, departed, reclaimed}
+use Rattle.rules.specs.Calls.{Call, connect, disconnect, join, leave, subscribe, unsubscribe, graft, prune, deliver, rate, heartbeat}
+use Rattle.rules.specs.Calls.{decay, score, timeOf, inRange}
 
 -- ---- the tests that every call begins with: 12, 2, 8, 1
 -- "action list under 192 numbers": three for each slot
@@ -255,8 +259,8 @@ viewIn st time t ask order =
 unfoldable pub meshesIn : State → ℕ → ℕ → ℕ → List ℕ → Meshes
 meshesIn st time t ask order = meshes slotCount (degreesIn st) (viewIn st time t ask order)
 
--- what becomes of slot s, from the state at the start and the mesh that is left: a member that is not in it was PRUNEd ("Each PRUNE here and
--- in a tidy sets the end to the later of old and now + prune backoff"), and one that is in it and was none is grafted
+-- what becomes of slot s, from the state at the start and the mesh that is left: a member that is not in it was PRUNEd ("Each PRUNE here
+-- and in a tidy sets the end to the later of old and now + prune backoff"), and one that is in it and was none is grafted
 unfoldable pub settleSlot : State → ℕ → ℕ → List Bool → ℕ → State → State
 settleSlot st time t mesh s u =
     cond (isMember st t s)

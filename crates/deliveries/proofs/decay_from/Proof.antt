@@ -31,15 +31,19 @@ loop-again : tie.Need-loop-again Inv-loop μ-loop
 loop-again c =
     let a = c .before .before .before .before .before .before .before .args in
     let l = c .before .before .before .before .before .loop in
-    let k = c .before .before .decay-slot in
-    (omega arith, k .kept .0 ∙ l .inv .1, iter-more (decaySlot (a .time)) (stateOf (a .table .now)) (l .slot) (stateOf (l .table)) _ (l .inv .2) (k .ensures))
+    let k = c .before .before .decay-slot in (
+      omega arith,
+      k .kept .0 ∙ l .inv .1,
+      iter-more (decaySlot (a .time)) (stateOf (a .table .now)) (l .slot) (stateOf (l .table)) _ (l .inv .2) (k .ensures),
+    )
 
 returns : tie.Need-returns Inv-loop μ-loop
 returns c =
     let a = c .before .before .before .before .before .before .before .args in
     let l = c .before .before .before .before .before .loop in
     decay-done _ _ _ _ _
-    (iter-done (decaySlot (a .time)) (stateOf (a .table .now)) slotCount (l .slot) (stateOf (l .table)) (omega arith) (omega arith) (l .inv .2))
+    (iter-done (decaySlot (a .time)) (stateOf (a .table .now)) slotCount (l .slot) (stateOf (l .table)) (omega arith) (omega arith)
+    (l .inv .2))
     (c .before .before .finish .ensures)
 
 pub decay-from-spec : {M : Type 1} → statement M
@@ -54,5 +58,6 @@ decay-from-spec =
     (λ c. omega arith)
     loop-again
     (λ c κs. c .before .before .loop .inv .1)
-    (λ c. c .before .before .finish .kept .0 ∙ c .before .before .before .before .before .loop .inv .1 ∙ sym (c .before .before .before .before .before .before .before .pre .standing .size))
+    (λ c. c .before .before .finish .kept .0 ∙ c .before .before .before .before .before .loop .inv .1
+    ∙ sym (c .before .before .before .before .before .before .before .pre .standing .size))
     returns)

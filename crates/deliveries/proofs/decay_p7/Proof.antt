@@ -12,8 +12,11 @@ faded-requires c κs =
 
 returns : tie.Need-returns
 returns c =
-    p7-decayed _ _ _ _ _ _ _ _ (c .before .before .before .before .before .before .before .before .before .before .load-peer .ensures) (c .before .before .before .before .before .before .before .load-size .ensures) (c .before .before .before .before .before .load-size2 .ensures)
-    (c .before .before .before .before .faded .ensures) (c .before .before .before .with-p7 .ensures) (c .before .before .store-peer .ensures)
+    p7-decayed _ _ _ _ _ _ _ _ (c .before .before .before .before .before .before .before .before .before .before .load-peer .ensures)
+    (c .before .before .before .before .before .before .before .load-size .ensures)
+    (c .before .before .before .before .before .load-size2 .ensures)
+    (c .before .before .before .before .faded .ensures) (c .before .before .before .with-p7 .ensures)
+    (c .before .before .store-peer .ensures)
 
 pub decay-p7-spec : {M : Type 1} → statement M
 decay-p7-spec =

@@ -20,7 +20,9 @@ decay-p7-requires c κs =
 
 returns : tie.Need-returns
 returns c =
-    slot-connected _ _ _ _ (c .before .before .before .before .before .before .before .before .before .load-status .ensures) _ _ (eq-eqb _ _ (c .before .before .before .before .before .before .before .before .if1 .taken)) (c .before .before .before .before .before .before .decay-topics .ensures) (c .before .before .decay-p7 .ensures)
+    slot-connected _ _ _ _ (c .before .before .before .before .before .before .before .before .before .load-status .ensures) _ _
+    (eq-eqb _ _ (c .before .before .before .before .before .before .before .before .if1 .taken))
+    (c .before .before .before .before .before .before .decay-topics .ensures) (c .before .before .decay-p7 .ensures)
 
 pub decay-slot-spec : {M : Type 1} → statement M
 decay-slot-spec =

@@ -31,8 +31,11 @@ loop-again : tie.Need-loop-again Inv-loop μ-loop
 loop-again c =
     let a = c .before .before .before .before .before .before .before .args in
     let l = c .before .before .before .before .before .loop in
-    let k = c .before .before .decay-topic in
-    (omega arith, k .kept .0 ∙ l .inv .1, iter-more (decayTopic (a .time) (a .slot)) (stateOf (a .table .now)) (l .topic) (stateOf (l .table)) _ (l .inv .2) (k .ensures))
+    let k = c .before .before .decay-topic in (
+      omega arith,
+      k .kept .0 ∙ l .inv .1,
+      iter-more (decayTopic (a .time) (a .slot)) (stateOf (a .table .now)) (l .topic) (stateOf (l .table)) _ (l .inv .2) (k .ensures),
+    )
 
 returns : tie.Need-returns Inv-loop μ-loop
 returns c =

@@ -15,7 +15,8 @@ use Rattle.deliveries.proofs.deliver_reply.Tie as tie
 finish-requires : tie.Need-finish-requires
 finish-requires c κs =
     let stored = c .before .before .before in
-    stored .store-topic .kept .0 ∙ stored .before .before .before .before .before .before .before .before .before .before .pre .ready .standing .size
+    stored .store-topic .kept .0
+    ∙ stored .before .before .before .before .before .before .before .before .before .before .pre .ready .standing .size
 
 -- what was seen stands behind more records than a search enters
 returns : tie.Need-returns

@@ -86,7 +86,8 @@ returns c =
     let z = c .before .before in
     let w = z .before .before .before .before in
     let a = w .before .before .before .before .before in
-    maintained-gives _ _ _ _ _ _ _ _ _ _ _ (computed (a .before)) _ _ _ _ _ _ (sized-of _) (a .write-actions .ensures) (w .settle .ensures) (z .store-clock .ensures)
+    maintained-gives _ _ _ _ _ _ _ _ _ _ _ (computed (a .before)) _ _ _ _ _ _ (sized-of _) (a .write-actions .ensures) (w .settle .ensures)
+    (z .store-clock .ensures)
 
 pub maintain-topic-spec : {M : Type 1} → statement M
 maintain-topic-spec =

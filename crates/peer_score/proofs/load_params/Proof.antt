@@ -36,7 +36,24 @@ made :
     x13 ≡ sizeIn st (topicPlace t 13) →
     x14 ≡ sizeIn st (topicPlace t 14) →
     x15 ≡ sizeIn st (topicPlace t 15) →
-    record { weight = x0; w1 = x1; quantum = x2; cap1 = x3; w2 = x4; decay2 = x5; cap2 = x6; w3 = x7; decay3 = x8; cap3 = x9; threshold = x10; activation = x11; w3b = x12; decay3b = x13; w4 = x14; decay4 = x15 } ≡ topicParamsIn st t
+    record {
+      weight = x0;
+      w1 = x1;
+      quantum = x2;
+      cap1 = x3;
+      w2 = x4;
+      decay2 = x5;
+      cap2 = x6;
+      w3 = x7;
+      decay3 = x8;
+      cap3 = x9;
+      threshold = x10;
+      activation = x11;
+      w3b = x12;
+      decay3b = x13;
+      w4 = x14;
+      decay4 = x15;
+    } ≡ topicParamsIn st t
 unfolding topicParamsIn
 made st t x0 x1 x2 x3 x4 x5 x6 x7 x8 x9 x10 x11 x12 x13 x14 x15 e0 e1 e2 e3 e4 e5 e6 e7 e8 e9 e10 e11 e12 e13 e14 e15 = cc
 
@@ -92,6 +109,10 @@ load-params-spec =
     (λ c κs. search needs)
     (λ c κs. search needs)
     (λ c κs. search needs)
-    (λ c κs. in-topic (c .before .before .before .before .before .before .before .before .before .before .before .before .before .before .before .pre) (lit< tt))
-    (λ c κs. in-topic (c .before .before .before .before .before .before .before .before .before .before .before .before .before .before .before .before .pre) (lit< tt))
+    (λ c κs. in-topic
+    (c .before .before .before .before .before .before .before .before .before .before .before .before .before .before .before .pre)
+    (lit< tt))
+    (λ c κs. in-topic
+    (c .before .before .before .before .before .before .before .before .before .before .before .before .before .before .before .before
+    .pre) (lit< tt))
     returns)

@@ -26,13 +26,15 @@ share-requires : tie.Need-share-requires Inv-loop μ-loop
 share-requires c κs =
     let p = c .before .before .before .before .before .before .pre in
     let s = c .before .before .before .loop .s in
-    share-ready _ _ _ _ _ (slot-in _ (p .standing .router) s (omega arith)) (p .topic) (c .before .before .before .before .load-params .ensures) (c .load-topic .ensures)
+    share-ready _ _ _ _ _ (slot-in _ (p .standing .router) s (omega arith)) (p .topic)
+    (c .before .before .before .before .load-params .ensures) (c .load-topic .ensures)
 
 add-requires : tie.Need-add-requires Inv-loop μ-loop
 add-requires c κs =
     let p = c .before .before .before .before .before .before .before .pre in
     let s = c .before .before .before .before .loop .s in
-    add-ready _ s (slot-in _ (p .standing .router) s (omega arith)) _ _ _ (p .topic) (sum-at _ _ s _ (omega arith) (p .sums)) (c .share .ensures .1)
+    add-ready _ s (slot-in _ (p .standing .router) s (omega arith)) _ _ _ (p .topic) (sum-at _ _ s _ (omega arith) (p .sums))
+    (c .share .ensures .1)
 
 loop-again : tie.Need-loop-again Inv-loop μ-loop
 loop-again c =
@@ -41,7 +43,8 @@ loop-again c =
     built-more _ _ _ (l .s) (l .r) _ (omega arith) (l .inv)
     (c .add .ensures
     ∙ sum-more _ _ _ _ (sum-at _ _ (l .s) _ (omega arith) (p .sums))
-    (share-is-at _ _ _ _ _ _ (c .before .share .ensures .0) (c .before .before .before .before .before .before .load-params .ensures) (c .before .before .load-topic .ensures)))
+    (share-is-at _ _ _ _ _ _ (c .before .share .ensures .0) (c .before .before .before .before .before .before .load-params .ensures)
+    (c .before .before .load-topic .ensures)))
 
 pub add-topic-spec : {M : Type 1} → statement M
 add-topic-spec =

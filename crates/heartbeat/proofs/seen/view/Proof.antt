@@ -16,6 +16,7 @@ view-spec =
     (tie.spec
     (λ c κs. c .before .pre .standing)
     (λ c κs. let p = c .before .before .pre in record { size = p .standing .size; topic = p .topic })
-    (λ c κs. let p = c .before .before .before .pre in record { standing = p .standing; topic = p .topic; scores = c .before .scores .ensures })
+    (λ c κs. let p = c .before .before .before .pre in
+    record { standing = p .standing; topic = p .topic; scores = c .before .scores .ensures })
     (λ c κs. c .before .before .before .before .pre .standing .size)
     returns)
