@@ -59,7 +59,8 @@ fn connect_known(
 ) -> Answer
     requires { ⌜ Ready (now table) time ⌝ }
     ensures { λ r. ⌜ Leaves
-        (connectIn (stateOf (now (table .entry))) (reclaimed (stateOf (now (table .entry))) time) time id group flags version) r
+        (connectIn (stateOf (now (table .entry))) (reclaimed (stateOf (now (table .entry))) time) time id group flags
+        (Named.Version version) Found.Nothing) r
         (now (table .entry)) (now (table .exit)) ⌝ }
 {
     reclaim(table, time);

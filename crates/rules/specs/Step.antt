@@ -91,29 +91,43 @@ heard v = v .joined && not (v .sender .graylisted)
 unfoldable pub isHeard : State → ℕ → ℕ → Bool
 isHeard st t s = heard (seenIn st t s)
 
--- ---- connect
-abbrev pub onVersion : Named → (ℕ → Reply) → Reply → Reply
-onVersion (Version v) f r = f v
-onVersion Unknown f r = r
+-- ---- connect: tests 6, 4 and 5
+-- "A retained id resumes its record [..]; another takes the lowest empty slot; 5 is given exactly if there is none."
+pub data ConnectCase : Type 0 where
+  NameUnknown : ConnectCase
+  IdConnected : ConnectCase
+  -- version and slot
+  Resumes : ℕ → ℕ → ConnectCase
+  Takes : ℕ → ℕ → ConnectCase
+  NoneEmpty : ConnectCase
+
+-- which it is, from the name's version, and from where the id is connected, where it is retained, and what the lowest empty slot is
+abbrev pub connectCase : Named → Found → Found → Found → ConnectCase
+connectCase Unknown connected retained empty = NameUnknown
+connectCase (Version v) (At s) retained empty = IdConnected
+connectCase (Version v) Nothing (At s) empty = Resumes v s
+connectCase (Version v) Nothing Nothing (At s) = Takes v s
+connectCase (Version v) Nothing Nothing Nothing = NoneEmpty
 
 unfoldable pub connectAt : State → ℕ → ℕ → ℕ → ℕ → ℕ → ℕ → Reply
 connectAt st time id group flags version s =
     done (onPeer st s (λ p. connectedAs p id group flags version)) time []
 
--- "A retained id resumes its record [..]; another takes the lowest empty slot; 5 is given exactly if there is none." st is the state at
--- the start, u the one with every reclaimable record emptied
-unfoldable pub connectIn : State → State → ℕ → ℕ → ℕ → ℕ → ℕ → Reply
-connectIn st u time id group flags version =
-    onFound (findRetained u id) (connectAt u time id group flags version)
-    (onFound (lowestEmpty u) (connectAt u time id group flags version) (refused NoSlot st))
+-- and what is done then: st is the state at the start, u the one with every reclaimable record emptied
+abbrev pub connectDone : ConnectCase → State → State → ℕ → ℕ → ℕ → ℕ → Reply
+connectDone NameUnknown st u time id group flags = refused UnknownProtocol st
+connectDone IdConnected st u time id group flags = refused AlreadyConnected st
+connectDone (Resumes v s) st u time id group flags = connectAt u time id group flags v s
+connectDone (Takes v s) st u time id group flags = connectAt u time id group flags v s
+connectDone NoneEmpty st u time id group flags = refused NoSlot st
+
+unfoldable pub connectIn : State → State → ℕ → ℕ → ℕ → ℕ → Named → Found → Reply
+connectIn st u time id group flags version connected =
+    connectDone (connectCase version connected (findRetained u id) (lowestEmpty u)) st u time id group flags
 
 unfoldable pub connectReply : State → ℕ → ℕ → ℕ → ℕ → List ℕ → Reply
 connectReply st time id group flags name =
-    onVersion (versionOf name)
-    (λ version.
-    onFound (findConnected st id) (λ s. refused AlreadyConnected st)
-    (connectIn st (reclaimed st time) time id group flags version))
-    (refused UnknownProtocol st)
+    connectIn st (reclaimed st time) time id group flags (versionOf name) (findConnected st id)
 
 -- ---- join and leave: "11 when already so"
 unfoldable pub joinReply : State → ℕ → ℕ → Reply
