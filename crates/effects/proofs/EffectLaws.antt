@@ -331,8 +331,9 @@ module _ (st : State) (s t end : ℕ) where
     unfolding pruned
     pruned-member = member-peer (onTopic st s t outOfMesh) s _ s t ∙ member-out st s t size h k
 
-  -- ---- a disconnect, slot by slot
+-- ---- a disconnect, slot by slot
 
+module _ (st : State) (s time : ℕ) where
   module _ (size : Sized st) (h : s < slotCount) where
     pub departed-topic :
         (t : ℕ) →
