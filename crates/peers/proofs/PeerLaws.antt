@@ -168,12 +168,12 @@ module _ (table name : List ℕ) (time id group flags : ℕ) (n : Named) (e : n 
   reply = connectReply (stateOf table) time id group flags name
 
   pub connect-unknown : n ≡ Unknown → Leaves reply UnknownProtocol table table
-  unfolding connectReply
+  unfolding connectReply connectIn
   connect-unknown g = rw (← e, g) (leaves-refused UnknownProtocol table)
 
   module _ (version : ℕ) (g : n ≡ Version version) (f : Found) (p : f ≡ findConnected (stateOf table) id) where
     pub connect-already : (s : ℕ) → f ≡ At s → Leaves reply AlreadyConnected table table
-    unfolding connectReply
+    unfolding connectReply connectIn
     connect-already s h = rw (← e, g, ← p, h) (leaves-refused AlreadyConnected table)
 
     pub connect-new :

@@ -24,7 +24,7 @@ use Rattle.validity.proofs.ValidLaws.{no-peer, no-topic, zero-is}
 use Rattle.effects.specs.Effects.{withP5, connectedAs, retainedTo, withSubscribed, outOfMesh, leftTopic, departed, endAfter, retainSeconds}
 use Rattle.effects.specs.Effects.{reclaimable, emptied, reclaimSlot, reclaimed, onPeer}
 use Rattle.effects.proofs.EffectLaws.{departed-topic, emptied-topic, reclaimed-peer}
-use Rattle.rules.specs.Reply.{done}
+use Rattle.rules.specs.Reply.{done, Reply}
 use Rattle.rules.specs.Step.{connectAt, connectReply}
 use Rattle.rules.proofs.KeepsRecord.{topic-left, topic-under, peer-p5, peer-retained, peer-connected, p5-code}
 use Rattle.rules.proofs.KeepsState.{Router, RouterAt, router-end, peer-of, topic-of, ids-of, retain-most, router-topic, router-peer}
