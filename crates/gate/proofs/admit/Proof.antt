@@ -1,3 +1,5 @@
+-- `gate::admit`: the four tests in 01's order, each return where the ones before it passed.
+-- Assumes nothing.
 use borrow.Author.Needs.{needs}
 use Rattle.index.proofs.Flags.{flags}
 use Rattle.rules.proofs.GateLaws.{gate-cases}

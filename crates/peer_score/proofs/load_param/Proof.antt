@@ -1,4 +1,5 @@
--- `peer_score::load_param` meets its contract. Assumes nothing.
+-- `peer_score::load_param`: a topic's parameters are sixteen, behind the general nineteen.
+-- Assumes nothing.
 use native.Mathlib.Omega.{arith}
 use borrow.Author.Needs.{needs}
 use Rattle.peer_score.proofs.load_param.Statement.{statement}

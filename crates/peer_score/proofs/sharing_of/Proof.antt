@@ -1,4 +1,5 @@
--- `peer_score::sharing_of` meets its contract. The invariant: n counts the slots passed. Assumes nothing.
+-- `peer_score::sharing_of`. The invariant: n counts the slots passed.
+-- Assumes nothing.
 use Rattle.records.specs.Records.{slotCount}
 use Prim.Native.Nat.{_≤_, _-_}
 use mathlib.Core.Path.{_≡_}
