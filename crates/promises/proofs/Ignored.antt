@@ -25,7 +25,7 @@ use Rattle.records.specs.Records.{State, codeIn, peerIn, joinedIn, slotCount}
 use Rattle.validity.proofs.ValidLaws.{valid-facts}
 use Rattle.lookup.specs.Find.{findConnected}
 use Rattle.lookup.proofs.FindLaws.{connected-at, none-connected, connected-is}
-use Rattle.effects.specs.Effects.{isJoined, isMember, backoffRuns, onTopic, intoMesh}
+use Rattle.effects.specs.Effects.{isJoined, onTopic, intoMesh}
 use Rattle.rules.specs.Reply.{Reply, numberOf, refused, ignored, done}
 use Rattle.rules.specs.Calls.{Call, connect, disconnect, join, leave, subscribe, unsubscribe, graft, prune, deliver, rate, heartbeat, decay}
 use Rattle.rules.specs.Calls.{score}

@@ -13,21 +13,19 @@ use Rattle.index.specs.Index.{gather}
 use Rattle.index.proofs.Flags.{cond-case}
 use Rattle.limits.specs.Limits.{at}
 use Rattle.records.specs.declared.Peer.{Peer}
-use Rattle.records.specs.Records.{State, slotCount, peerIn, setPeer}
+use Rattle.records.specs.Records.{State, slotCount, peerIn}
 use Rattle.layout.specs.View.{Sized}
-use Rattle.layout.proofs.StateLaws.{peer-same, code-after-peer}
 use Rattle.validity.specs.Valid.{valid}
 use Rattle.effects.specs.Actions.{Action, pruneOf}
-use Rattle.score.specs.Counters.{countMost, raisedOf}
-use Rattle.effects.specs.Effects.{pruneBackoff, unsubscribeBackoff, withP7, isJoined, isMember, backoffRuns}
+use Rattle.effects.specs.Effects.{pruneBackoff, unsubscribeBackoff, withP7, isJoined, isMember}
 use Rattle.sets.specs.Sets.{bySlot, isPermutation}
 use Rattle.mesh.specs.Maintenance.{Action as Tell, changesOf, actionsOf}
 use Rattle.rules.specs.declared.Answer.the-variants.{NotPermutation}
-use Rattle.rules.specs.Reply.{Reply, refused, ignored, done}
+use Rattle.rules.specs.Reply.{Reply, refused, ignored}
 use Rattle.rules.specs.Calls.{leave, graft, heartbeat}
 use Rattle.rules.proofs.GraftLaws.{by-graft}
 use Rattle.rules.specs.Step.{toldIn, actionIn, leaveActions, leaveReply, meshesIn, heartbeatActions, maintainedReply, heartbeatReply, raisedP7}
-use Rattle.rules.specs.Step.{isHeard, graftRefused, graftReply, effect}
+use Rattle.rules.specs.Step.{graftRefused, graftReply, effect}
 use Rattle.rules.proofs.CaseLaws.{by-peer, by-gate}
 use Rattle.call_lists.specs.Lists.{after}
 use Rattle.call_lists.proofs.Standing.{degree-is}
