@@ -8,11 +8,12 @@ use native.Mathlib.Omega.{arith}
 use lib.ListN.{length, getD, set, take, drop, List·getD-map, List·getD-eq-default}
 use lib.Seq.{getD-set-same, getD-set-other}
 use Rattle.index.proofs.Flags.{by-order}
+use Rattle.records.specs.declared.Setup.{Setup}
 use Rattle.records.specs.declared.Peer.{Peer}
 use Rattle.records.specs.declared.TopicRecord.{TopicRecord}
 use Rattle.records.specs.Records.{State, noPeer, noTopic, joinedIn, codeIn, peerIn, topicIn, setClock, setJoined, setPeer, setTopic, slotCount, topicCount, paramCount}
 use Rattle.layout.specs.Rows.{tab, span, put, rows}
-use Rattle.layout.specs.View.{joinedAt, codesAt, peersAt, peerCells, topicsAt, topicCells, placeCount, cellCount, peerOf, topicOf, peerFrom, topicFrom, cellsOfPeer, cellsOfTopic, stateOf, setEnd, setCodes, zeroState}
+use Rattle.layout.specs.View.{joinedAt, codesAt, setupAt, setupCells, peersAt, peerCells, topicsAt, topicCells, placeCount, cellCount, setupOf, peerOf, topicOf, peerFrom, topicFrom, cellsOfPeer, cellsOfTopic, stateOf, setEnd, setCodes, setSetup, zeroState}
 use Rattle.layout.proofs.RowLaws.{tab-getD, getD-rows, stride, rows-put-same, rows-put-cell, rows-put-before, rows-put-after, span-put-before, span-put-after, getD-put-before, getD-put-in, put-one, span-put-one, span-put-same, span-part, getD-span, zero-span, zero-rows}
 
 pub map-set : {A B : Type 0} (f : A → B) (l : List A) (i : ℕ) (v : A) → map f (set l i v) ≡ set (map f l) i (f v)
@@ -50,6 +51,10 @@ topic-load cells k h =
     let e : getD (map topicOf (rows cells topicsAt topicCells placeCount)) k noTopic ≡ topicOf (span cells (topicsAt + k * topicCells) topicCells) =
     List·getD-map topicOf (rows cells topicsAt topicCells placeCount) k [] ∙ ap topicOf (getD-rows cells topicsAt topicCells placeCount k h) in
     sym (e ∙ rw add-zero)
+
+pub setup-load : (cells : List ℕ) → record { edition = getD cells setupAt 0 } ≡ stateOf cells .setup
+unfolding stateOf setupOf span
+setup-load cells = refl
 
 pub codes-load : (cells : List ℕ) → length cells ≡ cellCount → take paramCount (drop codesAt cells) ≡ stateOf cells .codes
 unfolding stateOf
@@ -119,6 +124,7 @@ module _ (cells : List ℕ) (size : length cells ≡ cellCount) where
         clock = getD-put-in cells 0 (n ∷ []) f 0 (omega arith) i;
         joined = span-put-after cells 0 (n ∷ []) f joinedAt topicCount (omega arith) i;
         codes = span-put-after cells 0 (n ∷ []) f codesAt paramCount (omega arith) i;
+        setup = ap setupOf (span-put-after cells 0 (n ∷ []) f setupAt setupCells (omega arith)) i;
         peers = ap (map peerOf) (rows-put-after cells peersAt peerCells slotCount 0 (n ∷ []) f (omega arith)) i;
         topics = ap (map topicOf) (rows-put-after cells topicsAt topicCells placeCount 0 (n ∷ []) f (omega arith)) i;
       }
@@ -132,6 +138,7 @@ module _ (cells : List ℕ) (size : length cells ≡ cellCount) where
         clock = getD-put-before cells (joinedAt + t) (b ∷ []) f 0 (omega arith) i;
         joined = span-put-one cells joinedAt topicCount t b h (omega arith) i;
         codes = span-put-after cells (joinedAt + t) (b ∷ []) f codesAt paramCount (omega arith) i;
+        setup = ap setupOf (span-put-after cells (joinedAt + t) (b ∷ []) f setupAt setupCells (omega arith)) i;
         peers = ap (map peerOf) (rows-put-after cells peersAt peerCells slotCount (joinedAt + t) (b ∷ []) f (omega arith)) i;
         topics = ap (map topicOf) (rows-put-after cells topicsAt topicCells placeCount (joinedAt + t) (b ∷ []) f (omega arith)) i;
       }
@@ -145,8 +152,24 @@ module _ (cells : List ℕ) (size : length cells ≡ cellCount) where
         clock = getD-put-before cells codesAt vs f 0 (omega arith) i;
         joined = span-put-before cells codesAt vs f joinedAt topicCount (omega arith) i;
         codes = (ap (span (put cells codesAt vs) codesAt) (sym e) ∙ span-put-same cells codesAt vs f) i;
+        setup = ap setupOf (span-put-after cells codesAt vs f setupAt setupCells (omega arith)) i;
         peers = ap (map peerOf) (rows-put-after cells peersAt peerCells slotCount codesAt vs f (omega arith)) i;
         topics = ap (map topicOf) (rows-put-after cells topicsAt topicCells placeCount codesAt vs f (omega arith)) i;
+      }
+
+  pub setup-store : (u : Setup) → stateOf (set cells setupAt (u .edition)) ≡ setSetup (stateOf cells) u
+  unfolding stateOf setSetup setupOf
+  setup-store u =
+      let n = u .edition in
+      let f : setupAt + length (n ∷ []) ≤ length cells = omega arith in
+      ap stateOf (sym (put-one cells setupAt n (omega arith)))
+      ∙ λ i. record {
+        clock = getD-put-before cells setupAt (n ∷ []) f 0 (omega arith) i;
+        joined = span-put-before cells setupAt (n ∷ []) f joinedAt topicCount (omega arith) i;
+        codes = span-put-before cells setupAt (n ∷ []) f codesAt paramCount (omega arith) i;
+        setup = ap setupOf (span-put-same cells setupAt (n ∷ []) f) i;
+        peers = ap (map peerOf) (rows-put-after cells peersAt peerCells slotCount setupAt (n ∷ []) f (omega arith)) i;
+        topics = ap (map topicOf) (rows-put-after cells topicsAt topicCells placeCount setupAt (n ∷ []) f (omega arith)) i;
       }
 
   pub peer-store :
@@ -162,6 +185,7 @@ module _ (cells : List ℕ) (size : length cells ≡ cellCount) where
         clock = getD-put-before cells (peersAt + s * peerCells) (cellsOfPeer p) f 0 (omega arith) i;
         joined = span-put-before cells (peersAt + s * peerCells) (cellsOfPeer p) f joinedAt topicCount (omega arith) i;
         codes = span-put-before cells (peersAt + s * peerCells) (cellsOfPeer p) f codesAt paramCount (omega arith) i;
+        setup = ap setupOf (span-put-before cells (peersAt + s * peerCells) (cellsOfPeer p) f setupAt setupCells (omega arith)) i;
         peers =
             (ap (map peerOf) (rows-put-same cells peersAt peerCells slotCount s (cellsOfPeer p) h n (omega arith))
             ∙ map-set peerOf (rows cells peersAt peerCells slotCount) s (cellsOfPeer p)
@@ -185,6 +209,7 @@ module _ (cells : List ℕ) (size : length cells ≡ cellCount) where
         clock = getD-put-before cells at (end ∷ []) f 0 (omega arith) i;
         joined = span-put-before cells at (end ∷ []) f joinedAt topicCount (omega arith) i;
         codes = span-put-before cells at (end ∷ []) f codesAt paramCount (omega arith) i;
+        setup = ap setupOf (span-put-before cells at (end ∷ []) f setupAt setupCells (omega arith)) i;
         peers =
             (ap (map peerOf) (rows-put-cell cells peersAt peerCells slotCount s (9 + t) end h (omega arith) (omega arith))
             ∙ map-set peerOf (rows cells peersAt peerCells slotCount) s (set row (9 + t) end)
@@ -205,6 +230,7 @@ module _ (cells : List ℕ) (size : length cells ≡ cellCount) where
         clock = getD-put-before cells (topicsAt + k * topicCells) (cellsOfTopic t) f 0 (omega arith) i;
         joined = span-put-before cells (topicsAt + k * topicCells) (cellsOfTopic t) f joinedAt topicCount (omega arith) i;
         codes = span-put-before cells (topicsAt + k * topicCells) (cellsOfTopic t) f codesAt paramCount (omega arith) i;
+        setup = ap setupOf (span-put-before cells (topicsAt + k * topicCells) (cellsOfTopic t) f setupAt setupCells (omega arith)) i;
         peers = ap (map peerOf) (rows-put-before cells peersAt peerCells slotCount (topicsAt + k * topicCells) (cellsOfTopic t) f (omega arith)) i;
         topics =
             (ap (map topicOf) (rows-put-same cells topicsAt topicCells placeCount k (cellsOfTopic t) h n (omega arith))
@@ -215,12 +241,13 @@ module _ (cells : List ℕ) (size : length cells ≡ cellCount) where
 -- ---- a table of zeros
 
 pub zero-state : (cells : List ℕ) → ((k : ℕ) → getD cells k 0 ≡ 0) → stateOf cells ≡ zeroState
-unfolding stateOf zeroState peerOf topicOf
+unfolding stateOf zeroState setupOf peerOf topicOf span
 zero-state cells z =
     λ i. record {
       clock = z 0 i;
       joined = zero-span cells z joinedAt topicCount i;
       codes = zero-span cells z codesAt paramCount i;
+      setup = record { edition = z setupAt i };
       peers = zero-rows cells z peerOf peersAt peerCells slotCount i;
       topics = zero-rows cells z topicOf topicsAt topicCells placeCount i;
     }

@@ -5,22 +5,27 @@ ghost use Prim.Native.Nat.{ℕ, _+_, _*_, _≤_, _<_};
 ghost use lib.ListN.{length};
 ghost use Rattle.records.specs.Records.{joinedIn, codeIn, peerIn, topicIn, setClock, setJoined, setPeer, setTopic, slotCount, topicCount, paramCount};
 ghost use Rattle.layout.specs.Rows.{put};
-ghost use Rattle.layout.specs.View.{placeCount, cellCount, peerFrom, topicFrom, stateOf, setEnd, setCodes, zeroState};
+ghost use Rattle.layout.specs.View.{placeCount, cellCount, peerFrom, topicFrom, stateOf, setEnd, setCodes, setSetup, zeroState};
 use records::Peer;
 use records::SLOTS;
+use records::Setup;
 use records::TOPICS;
 use records::TopicRecord;
 
 // How many numbers the parameters are.
 pub const PARAMS: usize = 147;
 
-// Where the regions begin, one after the other: the clock is cell 0, then the joined flags, the codes of the parameters, the peers, the
-// topic records.
+// Where the regions begin, one after the other: the clock is cell 0, then the joined flags, the codes of the parameters, the rest of the
+// set-up, the peers, the topic records.
 const JOINED_AT: usize = 1;
 
 const CODES_AT: usize = JOINED_AT + TOPICS;
 
-const PEERS_AT: usize = CODES_AT + PARAMS;
+const SETUP_AT: usize = CODES_AT + PARAMS;
+
+const SETUP_CELLS: usize = 1;
+
+const PEERS_AT: usize = SETUP_AT + SETUP_CELLS;
 
 const PEER_CELLS: usize = 17;
 
@@ -135,7 +140,7 @@ pub fn codes(cells: &[u64]) -> &[u64]
     requires { ⌜ length (now cells) ≡ cellCount ⌝ }
     ensures { λ r. ⌜ now r ≡ stateOf (now (cells .entry)) .codes ⌝ }
 {
-    &cells[CODES_AT..PEERS_AT]
+    &cells[CODES_AT..SETUP_AT]
 }
 
 pub fn store_codes(cells: &mut [u64], codes: &[u64])
@@ -143,6 +148,23 @@ pub fn store_codes(cells: &mut [u64], codes: &[u64])
     ensures { λ r. ⌜ stateOf (now (cells .exit)) ≡ setCodes (stateOf (now (cells .entry))) (now (codes .entry)) ⌝ }
 {
     write_row(cells, CODES_AT, codes);
+}
+
+// What the router was made with beside the parameters' numbers.
+pub fn load_setup(cells: &[u64]) -> Setup
+    requires { ⌜ length (now cells) ≡ cellCount ⌝ }
+    ensures { λ r. ⌜ r ≡ stateOf (now (cells .entry)) .setup ⌝ }
+{
+    Setup {
+        edition: cells[SETUP_AT],
+    }
+}
+
+pub fn store_setup(cells: &mut [u64], setup: Setup)
+    requires { ⌜ length (now cells) ≡ cellCount ⌝ }
+    ensures { λ r. ⌜ stateOf (now (cells .exit)) ≡ setSetup (stateOf (now (cells .entry))) setup ⌝ }
+{
+    cells[SETUP_AT] = setup.edition;
 }
 
 // Makes every cell 0, whatever stood there.

@@ -359,18 +359,18 @@ module _ (st : State) where
   pub clock-fails : maxTime < st .clock → false ≡ valid st
   unfolding valid
   clock-fails h =
-      sym (rw (lt-leb (st .clock) maxTime h) (second (acceptedCodes (st .codes)) (every topicCount (joinedOk st)) (every slotCount (slotOk st)) (every slotCount (newId st))))
+      sym (rw (lt-leb (st .clock) maxTime h) (second (acceptedCodes (st .setup .edition) (st .codes)) (every topicCount (joinedOk st)) (every slotCount (slotOk st)) (every slotCount (newId st))))
 
   pub clock-passes :
       st .clock ≤ maxTime →
       (p j s i : Bool) →
-      p ≡ acceptedCodes (st .codes) →
+      p ≡ acceptedCodes (st .setup .edition) (st .codes) →
       j ≡ every topicCount (joinedOk st) →
       s ≡ every slotCount (slotOk st) →
       i ≡ every slotCount (newId st) →
       p && j && s && i ≡ valid st
   unfolding valid
-  clock-passes h p j s i ep ej es ei = rw (ep, ej, es, ei, le-leb (st .clock) maxTime h) (pass (acceptedCodes (st .codes)) _ _ _)
+  clock-passes h p j s i ep ej es ei = rw (ep, ej, es, ei, le-leb (st .clock) maxTime h) (pass (acceptedCodes (st .setup .edition) (st .codes)) _ _ _)
     where
       pass : (p j s i : Bool) → p && j && s && i ≡ p && true && j && s && i
       pass true j s i = refl

@@ -14,8 +14,7 @@ use Rattle.index.proofs.Index.{both, every-at, every-by}
 use Rattle.index.proofs.Flags.{all5, by-test}
 use Rattle.varint.specs.Codes.{numberOf}
 use Rattle.varint.proofs.CodeLaws.{code-size}
-use Rattle.params.specs.Check.{acceptedCodes}
-use Rattle.params.proofs.ParamLaws.{topic}
+use Rattle.params.proofs.ParamLaws.{Accepts, topic}
 use Rattle.records.specs.declared.Peer.{Peer}
 use Rattle.records.specs.declared.TopicRecord.{TopicRecord}
 use Rattle.records.specs.Records.{State, place, noPeer, noTopic, codeIn, joinedIn, peerIn, topicIn, isEmpty, isRetained, slotCount, topicCount}
@@ -277,7 +276,7 @@ FitsAt st s status explicit t =
     TopicFacts status explicit (joinedIn st t) (st .clock) (cap2 st t) (cap3 st t) (topicIn st (place s t))
 
 pub record Facts (st : State) : Type 0 where
-  pub params : acceptedCodes (st .codes) ≡ true
+  pub params : Accepts (st .setup .edition) (st .codes)
   pub clock : st .clock ≤ maxTime
   pub joined : (t : ℕ) → t < topicCount → joinedIn st t ≤ 1
   pub peer : (s : ℕ) → s < slotCount → PeerFacts (peerIn st s)
@@ -313,7 +312,7 @@ valid-facts st e =
     × (every topicCount (topicOkAt st s (peerIn st s .status) (peerIn st s .explicit)) ≡ true) =
     λ s h. both (peerOk (peerIn st s)) (every topicCount (topicOkAt st s (peerIn st s .status) (peerIn st s .explicit))) (every-at (slotOk st) slotCount s (q .3) h) in
     record {
-      params = q .0;
+      params = record { passes = q .0 };
       clock = leb-true (st .clock) maxTime (q .1);
       joined = λ t h. leb-true (joinedIn st t) 1 (every-at (joinedOk st) 8 t (q .2) h);
       peer = λ s h. peer-facts (peerIn st s) (slot s h .0);
@@ -337,7 +336,7 @@ facts-valid st f =
     let i : every slotCount (newId st) ≡ true =
     every-by (newId st) slotCount (λ s h.
     every-by (λ j. apart (peerIn st s .id) (peerIn st j .id)) s (λ k l. apart-by (peerIn st s .id) (peerIn st k .id) (f .ids s k h l))) in
-    rw (f .params, le-leb (st .clock) maxTime (f .clock), j, p, i)
+    rw (f .params .passes, le-leb (st .clock) maxTime (f .clock), j, p, i)
 
 -- ---- what the parameters add
 -- a cap is at most 10^6, and so are the counters

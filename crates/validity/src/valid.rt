@@ -428,7 +428,8 @@ pub fn is_router(table: &[u64]) -> bool
     if MAX_TIME < layout::load_clock(table) {
         return false;
     }
-    let params = params::accepts_codes(layout::codes(table));
+    let setup = layout::load_setup(table);
+    let params = params::accepts_codes(setup.edition, layout::codes(table));
     let joined = joined_ok(table);
     let slots = slots_ok(table);
     let ids = ids_distinct(table);
