@@ -1,12 +1,11 @@
 -- Laws of the printed text: how long it is, and how its parts are stored one after the other.
 -- Assumes nothing.
-use Prim.Native.Nat.{ℕ, _+_, _*_, _<_, _≤_}
+use Prim.Native.Nat.{ℕ, _+_, _≤_}
 use mathlib.Core.Path.{_≡_, refl}
 use mathlib.Core.List.{List, [], _∷_, _++_}
 use native.Mathlib.Omega.{arith}
-use native.Mathlib.Nat.{add-zero}
 use lib.ListN.{length}
-use lib.IntN.{ℤ, pos, natAbs}
+use lib.IntN.{ℤ}
 use lib.Signed.{natAbs-le}
 use mir.Syntax.{w64}
 use mir.Val.{SFits, toZ, ofZ}
@@ -19,6 +18,7 @@ use Rattle.params_bytes.specs.Read.{readOf, verdictNumber, verdictValue}
 use Rattle.params_bytes.specs.declared.Verdict.{Verdict}
 use Rattle.params_bytes.specs.declared.Reading.{Reading}
 use Rattle.show_params.specs.Show.{headText, lineText, lineAt, numbersText, restText, shownText}
+use Rattle.records.specs.Records.{paramCount}
 
 -- the four stores of the first line
 pub head-stored :
@@ -66,12 +66,12 @@ lines-more xs i at b₀ b₁ b₂ p₁ p₂ s t =
 
 pub lines-all :
     (xs : List ℤ) (i at : ℕ) (b₀ b₁ : List ℕ) (p : ℕ) →
-    i ≤ 147 →
-    147 ≤ i →
+    i ≤ paramCount →
+    paramCount ≤ i →
     Stored b₀ at (gather i (lineAt xs)) p b₁ →
     Stored b₀ at (numbersText xs) p b₁
 unfolding numbersText
-lines-all xs i at b₀ b₁ p l h s = let e : i ≡ 147 = omega arith in rw e at s
+lines-all xs i at b₀ b₁ p l h s = let e : i ≡ paramCount = omega arith in rw e at s
 
 -- ---- the whole text, by the verdict of the reading
 module _ (s : List ℕ) (r : Reading) (v : Verdict) (is : r ≡ readOf s) (told : r .verdict ≡ v) where

@@ -10,6 +10,7 @@ use Rattle.params_bytes.specs.Read.{verdictNumber, verdictValue}
 use Rattle.params_bytes.specs.declared.Verdict.{Verdict}
 use Rattle.params_bytes.specs.declared.Verdict.the-variants.{Accepted, Malformed, Broken}
 use Rattle.params_bytes.specs.declared.Reading.{Reading}
+use Rattle.records.specs.Records.{paramCount}
 
 -- two numbers with a space (32) between them, and the end of the line (10)
 unfoldable pub headText : ℕ → ℕ → List ℕ
@@ -22,7 +23,7 @@ abbrev pub lineAt : List ℤ → ℕ → List ℕ
 lineAt xs i = lineText (getD xs i (pos 0))
 
 unfoldable pub numbersText : List ℤ → List ℕ
-numbersText xs = gather 147 (lineAt xs)
+numbersText xs = gather paramCount (lineAt xs)
 
 -- the lines after the first
 abbrev pub restText : Verdict → List ℤ → List ℕ

@@ -1,4 +1,4 @@
-// Prints what reading the parameters from standard input comes to: `10 PLACE` or `9 INDEX` for a refusal, otherwise `0 LENGTH` and then the
+// Reads the parameters from standard input and prints the result: `10 PLACE` or `9 INDEX` for a refusal, otherwise `0 LENGTH` and then the
 // 147 numbers, one to a line. The text is fixed in specs/Show.antt; the room for it is at most 64 bytes and 22 for each number.
 use params::Params;
 use params_bytes::Verdict;

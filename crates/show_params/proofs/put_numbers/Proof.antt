@@ -1,4 +1,5 @@
--- `show_params::put_numbers` meets its contract. The loop's invariant: the first `i` lines are stored, in at most 22 bytes each. Assumes nothing.
+-- `show_params::put_numbers` meets its contract. The loop's invariant: the first `i` lines are stored, in at most 22 bytes each. Assumes
+-- nothing.
 use Prim.Native.Nat.{_+_, _*_, _-_, _≤_}
 use mathlib.Core.Path.{_≡_, refl, _∙_}
 use borrow.Author.Needs.{needs, sfits-of}
@@ -14,16 +15,17 @@ use Rattle.show_params.specs.Show.{lineAt}
 use Rattle.show_params.proofs.ShowLaws.{lines-none, lines-more, lines-all}
 use Rattle.show_params.proofs.put_numbers.Statement.{statement}
 use Rattle.show_params.proofs.put_numbers.Tie as tie
+use Rattle.records.specs.Records.{paramCount}
 
 abbrev Inv-loop : tie.InvT-loop
 Inv-loop buf₀ at all next₀ i₀ buf next i =
-    (i ≤ 147)
+    (i ≤ paramCount)
     × (length buf ≡ length buf₀)
     × (next ≤ at + 22 * i)
     × Stored buf₀ at (gather i (lineAt (all .numbers))) next buf
 
 abbrev μ-loop : tie.MeasureT-loop
-μ-loop buf₀ at all next₀ i₀ buf next i = 147 - i
+μ-loop buf₀ at all next₀ i₀ buf next i = paramCount - i
 
 pub put-numbers-spec : {M : Type 1} → statement M
 put-numbers-spec =
@@ -39,9 +41,16 @@ put-numbers-spec =
     (λ c. omega arith)
     (λ c.
     let l = c .before .before .before .before .before .before .loop in
-    let f : SFits w64 (getD (c .before .before .before .before .before .before .before .before .args .t3 .numbers) (l .i) (pos 0)) = sfits-of (c .before .before .before .put-line-arg2 .given) in
-    let s = c .before .before .put-line .ensures in
-    (omega arith, c .before .before .put-line .kept .0 ∙ l .inv .1, omega arith, lines-more (c .before .before .before .before .before .before .before .before .args .t3 .numbers) _ _ (c .before .before .before .before .before .before .before .before .args .buf .now) _ _ _ _ (l .inv .3) (rw (toZ-ofZ f) at (s .0))))
+    let f : SFits w64 (getD (c .before .before .before .before .before .before .before .before .args .t3 .numbers) (l .i) (pos 0)) =
+    sfits-of (c .before .before .before .put-line-arg2 .given) in
+    let s = c .before .before .put-line .ensures in (
+      omega arith,
+      c .before .before .put-line .kept .0 ∙ l .inv .1,
+      omega arith,
+      lines-more (c .before .before .before .before .before .before .before .before .args .t3 .numbers) _ _
+          (c .before .before .before .before .before .before .before .before .args .buf .now) _ _ _ _ (l .inv .3)
+          (rw (toZ-ofZ f) at (s .0)),
+    ))
     (λ c. search needs)
     (λ c.
     let l = c .before .loop in
