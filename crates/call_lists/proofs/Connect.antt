@@ -6,13 +6,13 @@ use mathlib.Core.Path.{_≡_, refl, sym, ap, _∙_}
 use mathlib.Core.Bool.{Bool, true, false, cond, _&&_}
 use mathlib.Core.List.{List}
 use lib.Dec.{eqb}
-use lib.IntN.{ℤ}
 use borrow.Author.Tests.{eq-eqb, ne-eqb}
 use Rattle.index.specs.declared.Found.{Found}
 use Rattle.index.specs.declared.Found.the-variants.{At, Nothing}
+use Rattle.params.specs.declared.Params.{Params}
 use Rattle.records.specs.declared.Peer.{Peer}
 use Rattle.records.specs.Records.{State, peerIn, setClock, setPeer, slotCount}
-use Rattle.layout.proofs.StateLaws.{peer-case, peer-other, peer-after-clock, codes-after-clock, codes-after-peer}
+use Rattle.layout.proofs.StateLaws.{peer-case, peer-other, peer-after-clock, codes-after-clock, setup-after-clock, codes-after-peer, setup-after-peer}
 use Rattle.lookup.specs.declared.Named.{Named}
 use Rattle.lookup.specs.declared.Named.the-variants.{Version, Unknown}
 use Rattle.lookup.specs.Name.{versionOf}
@@ -30,7 +30,7 @@ use Rattle.call_lists.proofs.Standing.{Standing, member-connected, inbo
 use Rattle.call_lists.proofs.Replies.{After, after-refused}
 
 module _
-    (params : List ℤ)
+    (params : Params)
     (dir : ℕ → Bool)
     (st : State)
     (h : Standing params dir st)
@@ -110,6 +110,7 @@ module _
               size = size;
               router = v;
               codes = codes-after-clock u time ∙ codes-after-peer kept s p ∙ fewer .codes ∙ h .codes;
+              setup = setup-after-clock u time ∙ setup-after-peer kept s p ∙ fewer .setup ∙ h .setup;
               tied = λ i l. rw (peer-after-clock u time i) (tied-in i l);
               few = λ t k.
                   let a = h .few t k in

@@ -9,15 +9,15 @@ use mathlib.Core.Bool.{Bool, true, false, not, _&&_}
 use mathlib.Core.List.{List}
 use lib.Dec.{eqb}
 use lib.ListN.{length}
-use lib.IntN.{ℤ}
 use borrow.Author.Tests.{eqb-true, eqb-false, not-true}
 use Rattle.index.specs.Index.{count, iter}
 use Rattle.index.proofs.Index.{count-same}
 use Rattle.index.proofs.Flags.{by-test, cond-case}
+use Rattle.params.specs.declared.Params.{Params}
 use Rattle.records.specs.declared.Peer.{Peer}
 use Rattle.records.specs.Records.{State, slotCount, peerIn, setClock, topicIn}
 use Rattle.layout.specs.View.{Sized}
-use Rattle.layout.proofs.StateLaws.{peer-after-clock, codes-after-clock}
+use Rattle.layout.proofs.StateLaws.{peer-after-clock, codes-after-clock, setup-after-clock}
 use Rattle.validity.specs.Valid.{valid}
 use Rattle.effects.specs.Effects.{isJoined, isMember, withEnd}
 use Rattle.sets.specs.Sets.{at, size, isPermutation}
@@ -36,7 +36,7 @@ use Rattle.call_lists.proofs.Standing.{Standing, isInbound, inbounds, i
 use Rattle.call_lists.proofs.Replies.{Stays, after-fewer}
 
 -- what demand 3 says of the topic after a heartbeat: st is the state at its start, u the one that it left
-pub record MaintainedIn (params : List ℤ) (dir : ℕ → Bool) (st u : State) (time t : ℕ) : Type 0 where
+pub record MaintainedIn (params : Params) (dir : ℕ → Bool) (st u : State) (time t : ℕ) : Type 0 where
   pub good : (s : ℕ) → s < slotCount → isMember u t s ≡ true → isNegative st s ≡ false
   pub outs :
       (dOut params ≤ count slotCount (λ s. isMember u t s && dir (peerIn u s .id))) ⊎
@@ -46,7 +46,7 @@ pub record MaintainedIn (params : List ℤ) (dir : ℕ → Bool) (st u : State) 
       ((s : ℕ) → s < slotCount → InPool st time t s → isMember u t s ≡ true)
 
 module _
-    (params : List ℤ)
+    (params : Params)
     (dir : ℕ → Bool)
     (st : State)
     (h : Standing params dir st)
@@ -169,6 +169,7 @@ module _
             size = size;
             router = v;
             codes = codes-after-clock walked time ∙ settled-kept st time t mesh slotCount .codes ∙ h .codes;
+            setup = setup-after-clock walked time ∙ settled-kept st time t mesh slotCount .setup ∙ h .setup;
             tied = λ s l on.
                 ap (λ (n : ℕ). eqb n 1) (same-outbound s)
                 ∙ h .tied s l (sym (same-status s) ∙ on)

@@ -3,8 +3,8 @@
 use Prim.Native.Nat.{ℕ, _%_}
 use mathlib.Core.Bool.{Bool, false, cond, _&&_}
 use mathlib.Core.List.{List, [], _∷_}
-use lib.IntN.{ℤ}
 use lib.Dec.{eqb}
+use Rattle.params.specs.declared.Params.{Params}
 use Rattle.records.specs.Records.{State}
 use Rattle.lookup.specs.Fresh.{freshState}
 use Rattle.rules.specs.Reply.{numberOf}
@@ -18,12 +18,12 @@ pub record Made : Type 0 where
 
 -- "The list starts from a fresh router [..], all records empty and no topic joined. Each call gets the tables and the clock that the last one
 -- left, and nobody else writes them."
-unfoldable pub after : List ℤ → List Made → State
+unfoldable pub after : Params → List Made → State
 after params [] = freshState params
 after params (c ∷ before) = step (after params before) (c .call) (c .room) .state
 
 -- the number that call c was answered, after the calls before it
-unfoldable pub answered : List ℤ → Made → List Made → ℕ
+unfoldable pub answered : Params → Made → List Made → ℕ
 answered params c before = numberOf (step (after params before) (c .call) (c .room) .answer)
 
 -- the direction of a peer after a call: a connect of it that was answered 0 says it (flags: 1 outbound + 2 explicit), else it stays as it was
@@ -43,6 +43,6 @@ heard (decay time) done peer was = was
 heard (score time id) done peer was = was
 
 -- "A peer is outbound if its last connect answered 0 said so, else inbound."
-unfoldable pub outbound : List ℤ → List Made → ℕ → Bool
+unfoldable pub outbound : Params → List Made → ℕ → Bool
 outbound params [] peer = false
 outbound params (c ∷ before) peer = heard (c .call) (eqb (answered params c before) 0) peer (outbound params before peer)

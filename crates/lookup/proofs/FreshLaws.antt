@@ -17,12 +17,12 @@ use Rattle.params.proofs.CheckLaws.{accepted-back}
 use Rattle.records.specs.Records.{State, place, noPeer, noTopic, joinedIn, peerIn, topicIn, slotCount, topicCount, paramCount}
 use Rattle.layout.specs.View.{placeCount, zeroState, setCodes, setSetup, stateOf}
 use Rattle.lookup.specs.declared.Made.the-variants.{Done, Broken}
-use Rattle.lookup.specs.Fresh.{freshState, Makes}
+use Rattle.lookup.specs.Fresh.{setupOf, freshState, Makes}
 use Rattle.validity.specs.Valid.{valid}
 use Rattle.validity.proofs.ValidLaws.{Facts, no-peer, no-topic, facts-valid}
 
 -- a cleared table with the codes and the edition of the parameters is a fresh router's
-fresh-codes : (p : Params) → setSetup (setCodes zeroState (map codeOf (p .numbers))) (record { edition = editionNumber (p .edition) }) ≡ freshState p
+fresh-codes : (p : Params) → setSetup (setCodes zeroState (map codeOf (p .numbers))) (setupOf p) ≡ freshState p
 unfolding setCodes setSetup zeroState freshState
 fresh-codes p = refl
 

@@ -10,10 +10,14 @@ use Rattle.varint.specs.Codes.{codeOf}
 use Rattle.params.specs.declared.Params.{Params}
 use Rattle.params.specs.Editions.{editionNumber}
 use Rattle.params.specs.Check.{firstBroken}
+use Rattle.records.specs.declared.Setup.{Setup}
 use Rattle.records.specs.Records.{State, slotCount, topicCount, noPeer, noTopic}
 use Rattle.layout.specs.View.{placeCount, stateOf}
 use Rattle.lookup.specs.declared.Made.{Made}
 use Rattle.lookup.specs.declared.Made.the-variants.{Done, Broken}
+
+abbrev pub setupOf : Params → Setup
+setupOf p = record { edition = editionNumber (p .edition) }
 
 unfoldable pub freshState : Params → State
 freshState p =
@@ -21,7 +25,7 @@ freshState p =
       clock = 0;
       joined = replicate topicCount 0;
       codes = map codeOf (p .numbers);
-      setup = record { edition = editionNumber (p .edition) };
+      setup = setupOf p;
       peers = replicate slotCount noPeer;
       topics = replicate placeCount noTopic;
     }
