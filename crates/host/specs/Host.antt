@@ -54,10 +54,10 @@ editionOr (Accepted n) read stood = read
 editionOr (Malformed place) read stood = stood
 editionOr (Broken i) read stood = stood
 
-pub record HostsRead (bytes : List ℕ) (r : ℕ) (lent lent′ : List ℤ) (edition edition′ : ℕ) : Type 0 where
+pub record HostsRead (bytes : List ℕ) (r : ℕ) (lent lent′ : List ℤ) (told told′ : ℕ) : Type 0 where
   pub answer : r ≡ packed (verdictNumber (readOf bytes .verdict)) (verdictValue (readOf bytes .verdict))
   pub numbers : lent′ ≡ numbersOr (readOf bytes .verdict) (readOf bytes .params .numbers) lent
-  pub edition : edition′ ≡ editionOr (readOf bytes .verdict) (editionNumber (readOf bytes .params .edition)) edition
+  pub edition : told′ ≡ editionOr (readOf bytes .verdict) (editionNumber (readOf bytes .params .edition)) told
 
 -- writing; a number that is no edition's is out of range (2), and nothing is written
 abbrev pub writeCode : Numbered → List ℤ → List ℕ → ℕ

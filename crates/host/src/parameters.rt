@@ -28,9 +28,7 @@ pub extern "C" fn hivepadlet_ordinary(numbers: &mut [i64; 147])
 // Reads the parameters from all of the bytes: 0 with the length, 9 with the index or rule, or 10 with the place.
 #[no_mangle]
 pub extern "C" fn hivepadlet_read(bytes: &[u8], numbers: &mut [i64; 147], edition: &mut u64) -> u64
-    ensures {
-        λ r. ⌜ HostsRead (now (bytes .entry)) r (now (numbers .entry)) (now (numbers .exit)) (now (edition .entry)) (now (edition .exit)) ⌝
-    }
+    ensures { λ r. ⌜ HostsRead (now (bytes .entry)) r (now (numbers .entry)) (now (numbers .exit)) (now (edition .entry)) (now (edition .exit)) ⌝ }
 {
     let reading = params_bytes::read(bytes);
     let all = reading.params;
@@ -86,7 +84,11 @@ fn make(all: Params, table: &mut [u64; CELLS]) -> u64
 
 // Makes a fresh router: 0, 2, or 9 with the index or rule.
 #[no_mangle]
-pub extern "C" fn hivepadlet_fresh(numbers: &[i64; 147], edition: u64, table: &mut [u64; CELLS]) -> u64
+pub extern "C" fn hivepadlet_fresh(
+    numbers: &[i64; 147],
+    edition: u64,
+    table: &mut [u64; CELLS],
+) -> u64
     ensures { λ r. ⌜ HostsFresh (editionOf edition) (now (numbers .entry)) r (now (table .entry)) (now (table .exit)) ⌝ }
 {
     let Numbered::Known(e) = params::edition_of(edition) else {
