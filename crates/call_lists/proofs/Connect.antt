@@ -12,7 +12,8 @@ use Rattle.index.specs.declared.Found.the-variants.{At, Nothing}
 use Rattle.params.specs.declared.Params.{Params}
 use Rattle.records.specs.declared.Peer.{Peer}
 use Rattle.records.specs.Records.{State, peerIn, setClock, setPeer, slotCount}
-use Rattle.layout.proofs.StateLaws.{peer-case, peer-other, peer-after-clock, codes-after-clock, setup-after-clock, codes-after-peer, setup-after-peer}
+use Rattle.layout.proofs.StateLaws.{peer-case, peer-other, peer-after-clock, codes-after-clock, setup-after-clock, codes-after-peer}
+use Rattle.layout.proofs.StateLaws.{setup-after-peer}
 use Rattle.lookup.specs.declared.Named.{Named}
 use Rattle.lookup.specs.declared.Named.the-variants.{Version, Unknown}
 use Rattle.lookup.specs.Name.{versionOf}

@@ -16,14 +16,16 @@ use Rattle.layout.specs.View.{Sized}
 use Rattle.validity.specs.Valid.{valid}
 use Rattle.effects.specs.Effects.{isJoined, isMember}
 use Rattle.rules.specs.Reply.{Reply, numberOf}
-use Rattle.rules.specs.Calls.{Call, connect, disconnect, join, leave, subscribe, unsubscribe, graft, prune, deliver, rate, heartbeat, decay, score, topicOk, argumentsOk}
+use Rattle.rules.specs.Calls.{Call, connect, disconnect, join, leave, subscribe, unsubscribe, graft, prune, deliver, rate, heartbeat, decay}
+use Rattle.rules.specs.Calls.{score, topicOk, argumentsOk}
 use Rattle.rules.specs.Step.{ofPeer, effect, step}
 use Rattle.rules.proofs.CaseLaws.{topic-in, topic-of-both, arguments, by-peer, by-gate}
 use Rattle.rules.proofs.Keeps.{keeps, keeps-sizes}
 use Rattle.call_lists.specs.Lists.{Made, after, answered, outbound}
 use Rattle.call_lists.specs.Demand3.{Accepted, member, outboundAt, members, outboundMembers, inboundMembers, Maintained, Demand3}
 use Rattle.call_lists.proofs.Fewer.{Fewer, fewer-self}
-use Rattle.call_lists.proofs.Frames.{fewer-still, fewer-disconnect, fewer-join, fewer-leave, fewer-rate, fewer-decay, fewer-subscribe, fewer-unsubscribe, fewer-prune, fewer-deliver}
+use Rattle.call_lists.proofs.Frames.{fewer-still, fewer-disconnect, fewer-join, fewer-leave, fewer-rate, fewer-decay}
+use Rattle.call_lists.proofs.Frames.{fewer-subscribe, fewer-unsubscribe, fewer-prune, fewer-deliver}
 use Rattle.call_lists.proofs.Standing.{Standing, isInbound, inbounds, member-connected, stands-fresh}
 use Rattle.call_lists.proofs.Replies.{heardOf, After, Stays, after-refused, after-fewer}
 use Rattle.call_lists.proofs.Connect.{stands-connect}

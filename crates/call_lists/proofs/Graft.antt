@@ -5,7 +5,7 @@ use native.Mathlib.Omega.{arith}
 use mathlib.Core.Path.{_≡_, refl, sym, ap, _∙_}
 use mathlib.Core.Logic.{_≢_}
 use mathlib.Core.Bool.{Bool, true, false, _&&_, and-false}
-use mathlib.Core.List.{List, []}
+use mathlib.Core.List.{[]}
 use lib.Dec.{eqb, leb}
 use borrow.Author.Tests.{eqb-true, eqb-false, eq-eqb, leb-false}
 use Rattle.index.specs.Index.{one}
@@ -15,7 +15,8 @@ use Rattle.params.specs.declared.Params.{Params}
 use Rattle.records.specs.declared.Peer.{Peer}
 use Rattle.records.specs.Records.{State, place, peerIn, topicIn, setClock, slotCount}
 use Rattle.layout.specs.View.{Sized}
-use Rattle.layout.proofs.StateLaws.{peer-after-clock, peer-after-topic, codes-after-clock, setup-after-clock, codes-after-topic, setup-after-topic}
+use Rattle.layout.proofs.StateLaws.{peer-after-clock, peer-after-topic, codes-after-clock, setup-after-clock, codes-after-topic}
+use Rattle.layout.proofs.StateLaws.{setup-after-topic}
 use Rattle.validity.specs.Valid.{valid}
 use Rattle.validity.proofs.ValidLaws.{valid-facts}
 use Rattle.effects.specs.Effects.{highDegree, intoMesh, onTopic, isMember, meshSize}

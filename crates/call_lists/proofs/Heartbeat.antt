@@ -28,7 +28,8 @@ use Rattle.mesh.specs.Maintenance.{goods, Maintained, InPool as OfPool}
 use Rattle.rules.specs.declared.Answer.the-variants.{NotPermutation}
 use Rattle.rules.specs.Reply.{Reply, numberOf, refused, ignored}
 use Rattle.rules.specs.Step.{isNegative, isCandidate, degreesIn, viewIn, meshesIn, settleSlot, maintainedReply, heartbeatReply}
-use Rattle.rules.proofs.HeartbeatLaws.{candidate-connected, view-goods, view-kept, mesh-length, settled-kept, settled-peer, settled-else, settled-member}
+use Rattle.rules.proofs.HeartbeatLaws.{candidate-connected, view-goods, view-kept, mesh-length, settled-kept, settled-peer, settled-else}
+use Rattle.rules.proofs.HeartbeatLaws.{settled-member}
 use Rattle.call_lists.specs.Demand3.{dLo, dHi, dOut, InPool}
 use Rattle.call_lists.proofs.Fewer.{fewer-self}
 use Rattle.call_lists.proofs.Frames.{fewer-still}
@@ -199,7 +200,8 @@ module _
       maintained-outs =
           ⊎-elim
           (λ b.
-          let c = count-same (λ s. at mesh s && at (view .outbound) s) (λ s. isMember left t s && dir (peerIn left s .id)) slotCount outbound-same in
+          let c = count-same (λ s. at mesh s && at (view .outbound) s) (λ s. isMember left t s && dir (peerIn left s .id)) slotCount
+          outbound-same in
           inl (omega (arith, both-count mesh (view .outbound) slotCount len len-outs, degrees .2)))
           (λ f. inr (λ s l p o. member-here s l ∙ f s (to-view s l p) (directed s l p ∙ o)))
           (kept .outs)

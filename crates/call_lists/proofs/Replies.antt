@@ -3,7 +3,6 @@
 use Prim.Native.Nat.{ℕ, _%_}
 use mathlib.Core.Path.{_≡_, refl, ap, _∙_}
 use mathlib.Core.Bool.{Bool, true, false, cond, and-false}
-use mathlib.Core.List.{List}
 use lib.Dec.{eqb}
 use Rattle.params.specs.declared.Params.{Params}
 use Rattle.records.specs.Records.{State}
@@ -11,7 +10,8 @@ use Rattle.layout.specs.View.{Sized}
 use Rattle.validity.specs.Valid.{valid}
 use Rattle.rules.specs.declared.Answer.{Answer}
 use Rattle.rules.specs.Reply.{Reply, numberOf, refused}
-use Rattle.rules.specs.Calls.{Call, connect, disconnect, join, leave, subscribe, unsubscribe, graft, prune, deliver, rate, heartbeat, decay, score}
+use Rattle.rules.specs.Calls.{Call, connect, disconnect, join, leave, subscribe, unsubscribe, graft, prune, deliver, rate, heartbeat, decay}
+use Rattle.rules.specs.Calls.{score}
 use Rattle.call_lists.specs.Lists.{heard}
 use Rattle.call_lists.proofs.Fewer.{Fewer, fewer-self}
 use Rattle.call_lists.proofs.Standing.{Standing, stands-fewer}

@@ -1,5 +1,5 @@
--- The invariant of demand 3: what stands after every list of calls, for the parameters and for the directions that the list's connects said.
--- It holds of a fresh router, and stays where nobody comes (Fewer).
+-- The invariant of demand 3: what stands after every list of calls, for the parameters and for the directions that the list's connects
+-- said. It holds of a fresh router, and stays where nobody comes (Fewer).
 -- Assumes nothing.
 use Prim.Native.Nat.{ℕ, zero, suc, _+_, _<_, _≤_}
 use native.Mathlib.Omega.{arith}
@@ -18,7 +18,7 @@ use Rattle.params.specs.declared.Params.{Params}
 use Rattle.limits.specs.Limits.{at}
 use Rattle.records.specs.declared.Peer.{Peer}
 use Rattle.records.specs.declared.TopicRecord.{TopicRecord}
-use Rattle.records.specs.Records.{State, slotCount, noPeer, noTopic, place, codeIn, peerIn, topicIn}
+use Rattle.records.specs.Records.{paramCount, State, slotCount, noPeer, noTopic, place, codeIn, peerIn, topicIn}
 use Rattle.layout.specs.View.{Sized, placeCount}
 use Rattle.validity.specs.Valid.{valid}
 use Rattle.lookup.specs.Fresh.{setupOf, freshState}
@@ -85,7 +85,8 @@ magnitude-code (pos n) = omega arith
 magnitude-code (negsuc n) = omega arith
 
 pub degree-is :
-    (st : State) (params : Params) → st .codes ≡ map codeOf (params .numbers) → (i : ℕ) → magnitude (codeIn st i) ≡ natAbs (at (params .numbers) i)
+    (st : State) (params : Params) → st .codes ≡ map codeOf (params .numbers) → (i : ℕ) → magnitude (codeIn st i)
+    ≡ natAbs (at (params .numbers) i)
 unfolding codeIn
 degree-is st params e i =
     ap (λ (l : List ℕ). magnitude (getD l i 0)) e
@@ -136,7 +137,7 @@ module _ (params : Params) where
   unfolding topicIn freshState
   fresh-topic k = always placeCount k noTopic
 
-  fresh-sized : length (params .numbers) ≡ 147 → Sized (freshState params)
+  fresh-sized : length (params .numbers) ≡ paramCount → Sized (freshState params)
   unfolding freshState
   fresh-sized l =
       record {

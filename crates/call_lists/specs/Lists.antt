@@ -8,7 +8,8 @@ use Rattle.params.specs.declared.Params.{Params}
 use Rattle.records.specs.Records.{State}
 use Rattle.lookup.specs.Fresh.{freshState}
 use Rattle.rules.specs.Reply.{numberOf}
-use Rattle.rules.specs.Calls.{Call, connect, disconnect, join, leave, subscribe, unsubscribe, graft, prune, deliver, rate, heartbeat, decay, score}
+use Rattle.rules.specs.Calls.{Call, connect, disconnect, join, leave, subscribe, unsubscribe, graft, prune, deliver, rate, heartbeat, decay}
+use Rattle.rules.specs.Calls.{score}
 use Rattle.rules.specs.Step.{step}
 
 -- a call, and how many numbers the action list has that it is lent
@@ -16,8 +17,8 @@ pub record Made : Type 0 where
   pub call : Call
   pub room : ℕ
 
--- "The list starts from a fresh router [..], all records empty and no topic joined. Each call gets the tables and the clock that the last one
--- left, and nobody else writes them."
+-- "The list starts from a fresh router [..], all records empty and no topic joined. Each call gets the tables and the clock that the last
+-- one left, and nobody else writes them."
 unfoldable pub after : Params → List Made → State
 after params [] = freshState params
 after params (c ∷ before) = step (after params before) (c .call) (c .room) .state
@@ -26,7 +27,8 @@ after params (c ∷ before) = step (after params before) (c .call) (c .room) .st
 unfoldable pub answered : Params → Made → List Made → ℕ
 answered params c before = numberOf (step (after params before) (c .call) (c .room) .answer)
 
--- the direction of a peer after a call: a connect of it that was answered 0 says it (flags: 1 outbound + 2 explicit), else it stays as it was
+-- the direction of a peer after a call: a connect of it that was answered 0 says it (flags: 1 outbound + 2 explicit), else it stays as it
+-- was
 abbrev pub heard : Call → Bool → ℕ → Bool → Bool
 heard (connect time id group flags name) done peer was = cond (eqb id peer && done) (eqb (flags % 2) 1) was
 heard (disconnect time id) done peer was = was

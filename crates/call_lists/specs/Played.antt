@@ -1,5 +1,5 @@
--- The program's calls, one after the other on one table: what they answer and leave is what the rules give (01: "the program's calls give the
--- same answers, and the tables they leave hold the same joined topics and meshes"). Of the program only its promises are taken.
+-- The program's calls, one after the other on one table: what they answer and leave is what the rules give (01: "the program's calls give
+-- the same answers, and the tables they leave hold the same joined topics and meshes"). Of the program only its promises are taken.
 use Prim.Native.Nat.{ℕ}
 use mathlib.Core.Path.{_≡_}
 use mathlib.Core.List.{List, [], _∷_, map}
@@ -29,8 +29,8 @@ pub record Called : Type 0 where
 abbrev pub made : Called → Made
 made c = record { call = c .call; room = length (c .list) }
 
--- the table is one that a list of the program's calls leaves, the last call first: "The list starts from a fresh router [..]. Each call gets the
--- tables and the clock that the last one left, and nobody else writes them."
+-- the table is one that a list of the program's calls leaves, the last call first: "The list starts from a fresh router [..]. Each call
+-- gets the tables and the clock that the last one left, and nobody else writes them."
 unfoldable pub Played : Params → List Called → List ℕ → Type 0
 Played params [] table = (was : List ℕ) × Makes params Done was table
 Played params (c ∷ before) table =

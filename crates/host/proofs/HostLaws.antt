@@ -3,12 +3,10 @@
 use Prim.Native.Nat.{ℕ, _≤_}
 use mathlib.Core.Path.{_≡_, refl, sym, ap, _∙_}
 use mathlib.Core.Bool.{false}
-use mathlib.Core.List.{List, [], _∷_}
+use mathlib.Core.List.{List}
 use native.Mathlib.Omega.{arith}
 use lib.ListN.{length}
 use lib.IntN.{ℤ}
-use denote.Enum.Declared.{tagOf}
-use types.Run.{OneOf, miss}
 use Rattle.records.specs.Records.{paramCount}
 use Rattle.layout.specs.View.{stateOf}
 use Rattle.index.specs.declared.Found.{Found}
@@ -28,15 +26,12 @@ use Rattle.params.proofs.CheckLaws.{broken-most}
 use Rattle.params_bytes.proofs.PlaceLaws.{read-most, write-most}
 use Rattle.params_bytes.proofs.WriteLaws.{Wrote}
 use Rattle.lookup.specs.declared.Made.{Made}
-use Rattle.lookup.specs.declared.Made.the-variants.{Broken}
 use Rattle.lookup.specs.Fresh.{madeOf, madeNumber, madeValue, Makes}
 use Rattle.rules.specs.declared.Answer.{Answer}
-use Rattle.rules.specs.declared.Answer.the-variants.{Done, Scored, Early, OutOfRange, NotConnected, AlreadyConnected, NoSlot, UnknownProtocol, NotPermutation, ListShort, Ignored, NotRouter}
-use Rattle.rules.specs.Reply.{actionsOf, refuses}
+use Rattle.rules.specs.Reply.{refuses}
 use Rattle.rules.specs.Calls.{Call}
 use Rattle.rules.specs.Step.{step}
 use Rattle.rules.specs.Promise.{Follows}
-use Rattle.rules.proofs.Answer.{the-type}
 use Rattle.answers.specs.Answers.{packed, answerCode, whyOr}
 use Rattle.host.specs.Host.{Hosts, numbersOr, editionOr, HostsRead, HostsWrite, HostsFresh}
 
@@ -98,13 +93,15 @@ module _ (p : Params) (buf buf′ : List ℕ) (w v : Written) (e : Wrote p buf w
 
 -- the edition that a number told, or none
 module _ (n : ℕ) (m : Numbered) (e : m ≡ editionOf n) (xs : List ℤ) where
-  pub write-known : (d : Edition) (r : ℕ) (buf buf′ : List ℕ) → m ≡ Known d → HostsWrite (Known d) xs r buf buf′ → HostsWrite (editionOf n) xs r buf buf′
+  pub write-known : (d : Edition) (r : ℕ) (buf buf′ : List ℕ) → m ≡ Known d → HostsWrite (Known d) xs r buf buf′ →
+      HostsWrite (editionOf n) xs r buf buf′
   write-known d r buf buf′ t h = rw (← e, t) h
 
   pub write-unknown : (r : ℕ) (buf : List ℕ) → m ≡ Unknown → r ≡ packed 2 0 → HostsWrite (editionOf n) xs r buf buf
   write-unknown r buf t q = rw (← e, t) (record { answer = q; bytes = refl })
 
-  pub fresh-known : (d : Edition) (r : ℕ) (table table′ : List ℕ) → m ≡ Known d → HostsFresh (Known d) xs r table table′ → HostsFresh (editionOf n) xs r table table′
+  pub fresh-known : (d : Edition) (r : ℕ) (table table′ : List ℕ) → m ≡ Known d → HostsFresh (Known d) xs r table table′ →
+      HostsFresh (editionOf n) xs r table table′
   fresh-known d r table table′ t h = rw (← e, t) h
 
   pub fresh-unknown : (r : ℕ) (table : List ℕ) → m ≡ Unknown → r ≡ packed 2 0 → HostsFresh (editionOf n) xs r table table

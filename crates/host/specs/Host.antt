@@ -1,5 +1,5 @@
 -- What a host gets of each function of the C ABI: the promise of the call below, with the answer as one number.
-use Prim.Native.Nat.{ℕ, _+_, _*_}
+use Prim.Native.Nat.{ℕ}
 use mathlib.Core.Path.{_≡_}
 use mathlib.Core.Bool.{Bool, true, false}
 use mathlib.Core.List.{List}
@@ -10,9 +10,6 @@ use denote.Ref.{RefT, now}
 use denote.Triple.Both.{Both}
 use Rattle.records.specs.Records.{State}
 use Rattle.layout.specs.View.{stateOf}
-use Rattle.index.specs.declared.Found.{Found}
-use Rattle.index.specs.declared.Found.the-variants.{At, Nothing}
-use Rattle.params_bytes.specs.declared.Reading.{Reading}
 use Rattle.params_bytes.specs.declared.Verdict.{Verdict}
 use Rattle.params_bytes.specs.declared.Verdict.the-variants.{Accepted, Malformed, Broken}
 use Rattle.params.specs.declared.Numbered.{Numbered}

@@ -1,5 +1,5 @@
-// The parameters as an array of 147 numbers and the number of their edition, read from bytes and written to bytes, and a fresh router made of
-// them.
+// The parameters as an array of 147 numbers and the number of their edition, read from bytes and written to bytes, and a fresh router made
+// of them.
 ghost use mathlib.Core.Path.{_≡_};
 ghost use Rattle.layout.specs.View.{stateOf};
 ghost use Rattle.index.specs.Index.{one};
@@ -9,6 +9,7 @@ ghost use Rattle.validity.specs.Valid.{valid};
 ghost use Rattle.host.specs.Host.{HostsRead, HostsWrite, HostsFresh};
 use answers::packed;
 use layout::CELLS;
+use limits::NUMBERS;
 use lookup::Made;
 use params::Numbered;
 use params::Params;
@@ -17,7 +18,7 @@ use params_bytes::Written;
 
 // The ordinary parameters.
 #[no_mangle]
-pub extern "C" fn hivepadlet_ordinary(numbers: &mut [i64; 147])
+pub extern "C" fn hivepadlet_ordinary(numbers: &mut [i64; NUMBERS])
     ensures { λ r. ⌜ now (numbers .exit) ≡ ordinaryNumbers ⌝ }
 {
     let ordinary = Params::ordinary();
@@ -27,8 +28,13 @@ pub extern "C" fn hivepadlet_ordinary(numbers: &mut [i64; 147])
 
 // Reads the parameters from all of the bytes: 0 with the length, 9 with the index or rule, or 10 with the place.
 #[no_mangle]
-pub extern "C" fn hivepadlet_read(bytes: &[u8], numbers: &mut [i64; 147], edition: &mut u64) -> u64
-    ensures { λ r. ⌜ HostsRead (now (bytes .entry)) r (now (numbers .entry)) (now (numbers .exit)) (now (edition .entry)) (now (edition .exit)) ⌝ }
+pub extern "C" fn hivepadlet_read(
+    bytes: &[u8],
+    numbers: &mut [i64; NUMBERS],
+    edition: &mut u64,
+) -> u64
+    ensures { λ r. ⌜
+        HostsRead (now (bytes .entry)) r (now (numbers .entry)) (now (numbers .exit)) (now (edition .entry)) (now (edition .exit)) ⌝ }
 {
     let reading = params_bytes::read(bytes);
     let all = reading.params;
@@ -59,7 +65,7 @@ fn put(all: Params, buffer: &mut [u8]) -> u64
 
 // Writes the parameters to the start of a buffer: 0 with the length, 2, 8, or 9 with the index or rule.
 #[no_mangle]
-pub extern "C" fn hivepadlet_write(numbers: &[i64; 147], edition: u64, buffer: &mut [u8]) -> u64
+pub extern "C" fn hivepadlet_write(numbers: &[i64; NUMBERS], edition: u64, buffer: &mut [u8]) -> u64
     ensures { λ r. ⌜ HostsWrite (editionOf edition) (now (numbers .entry)) r (now (buffer .entry)) (now (buffer .exit)) ⌝ }
 {
     let Numbered::Known(e) = params::edition_of(edition) else {
@@ -85,7 +91,7 @@ fn make(all: Params, table: &mut [u64; CELLS]) -> u64
 // Makes a fresh router: 0, 2, or 9 with the index or rule.
 #[no_mangle]
 pub extern "C" fn hivepadlet_fresh(
-    numbers: &[i64; 147],
+    numbers: &[i64; NUMBERS],
     edition: u64,
     table: &mut [u64; CELLS],
 ) -> u64

@@ -33,7 +33,8 @@ passes Nothing e = refl
 
 module _ (params : Params) where
   -- the edition of the number that was called is the parameters'
-  made-fresh : (table : List ℕ) → Hosted params [] table → (was : List ℕ) × HostsFresh (Known (params .edition)) (params .numbers) 0 was table
+  made-fresh : (table : List ℕ) → Hosted params [] table → (was : List ℕ)
+      × HostsFresh (Known (params .edition)) (params .numbers) 0 was table
   unfolding Hosted
   made-fresh table p = rw (edition-back (params .edition)) at p
 

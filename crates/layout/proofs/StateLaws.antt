@@ -1,17 +1,19 @@
 -- Laws of the state alone: what each reader sees after each store, sizes, and stores that change nothing.
 -- Assumes nothing.
-use Prim.Native.Nat.{ℕ, zero, suc, _+_, _<_}
-use mathlib.Core.Path.{_≡_, refl, sym, ap, _∙_}
+use Prim.Native.Nat.{ℕ, zero, suc, _<_}
+use mathlib.Core.Path.{_≡_, refl, ap, _∙_}
 use mathlib.Core.Logic.{_≢_}
 use mathlib.Core.List.{List, [], _∷_, map}
-use lib.ListN.{length, getD, set, length-set, length-map, List·getD-map}
-use lib.Seq.{getD-set-same, getD-set-other, set-getD, set-set, set-comm}
+use lib.ListN.{length, getD, length-set, length-map}
+use lib.Seq.{getD-set-same, getD-set-other, set-getD, set-set}
 use Rattle.index.proofs.Lists.{set-case}
 use Rattle.records.specs.declared.Peer.{Peer}
 use Rattle.records.specs.declared.TopicRecord.{TopicRecord}
-use Rattle.records.specs.Records.{State, noPeer, noTopic, joinedIn, codeIn, peerIn, topicIn, setClock, setJoined, setPeer, setTopic, slotCount, topicCount, paramCount}
+use Rattle.records.specs.Records.{State, noPeer, noTopic, joinedIn, codeIn, peerIn, topicIn, setClock, setJoined, setPeer, setTopic}
+use Rattle.records.specs.Records.{slotCount, topicCount, paramCount}
 use Rattle.layout.specs.Rows.{rows}
-use Rattle.layout.specs.View.{joinedAt, codesAt, peersAt, peerCells, topicsAt, topicCells, placeCount, peerOf, topicOf, stateOf, Sized}
+use Rattle.layout.specs.View.{joinedAt, codesAt, peersAt, peerCells, topicsAt, topicCells, placeCount, peerOf, topicOf, stateOf}
+use Rattle.layout.specs.View.{Sized}
 use Rattle.layout.proofs.RowLaws.{length-rows, length-span}
 
 module _ (st : State) where
@@ -181,21 +183,24 @@ module _ (st : State) where
   unfolding setJoined joinedIn
   joined-again t =
       ap
-      (λ (l : List ℕ). record { clock = st .clock; joined = l; codes = st .codes; setup = st .setup; peers = st .peers; topics = st .topics })
+      (λ (l : List ℕ). record
+      { clock = st .clock; joined = l; codes = st .codes; setup = st .setup; peers = st .peers; topics = st .topics })
       (set-getD (st .joined) t 0)
 
   pub peer-again : (s : ℕ) → setPeer st s (peerIn st s) ≡ st
   unfolding setPeer peerIn
   peer-again s =
       ap
-      (λ (l : List Peer). record { clock = st .clock; joined = st .joined; codes = st .codes; setup = st .setup; peers = l; topics = st .topics })
+      (λ (l : List Peer). record
+      { clock = st .clock; joined = st .joined; codes = st .codes; setup = st .setup; peers = l; topics = st .topics })
       (set-getD (st .peers) s noPeer)
 
   pub topic-again : (k : ℕ) → setTopic st k (topicIn st k) ≡ st
   unfolding setTopic topicIn
   topic-again k =
       ap
-      (λ (l : List TopicRecord). record { clock = st .clock; joined = st .joined; codes = st .codes; setup = st .setup; peers = st .peers; topics = l })
+      (λ (l : List TopicRecord). record
+      { clock = st .clock; joined = st .joined; codes = st .codes; setup = st .setup; peers = st .peers; topics = l })
       (set-getD (st .topics) k noTopic)
 
   pub clock-twice : (m n : ℕ) → setClock (setClock st m) n ≡ setClock st n
@@ -206,14 +211,16 @@ module _ (st : State) where
   unfolding setPeer
   peer-twice s p q =
       ap
-      (λ (l : List Peer). record { clock = st .clock; joined = st .joined; codes = st .codes; setup = st .setup; peers = l; topics = st .topics })
+      (λ (l : List Peer). record
+      { clock = st .clock; joined = st .joined; codes = st .codes; setup = st .setup; peers = l; topics = st .topics })
       (set-set (st .peers) s p q)
 
   pub topic-twice : (k : ℕ) (t u : TopicRecord) → setTopic (setTopic st k t) k u ≡ setTopic st k u
   unfolding setTopic
   topic-twice k t u =
       ap
-      (λ (l : List TopicRecord). record { clock = st .clock; joined = st .joined; codes = st .codes; setup = st .setup; peers = st .peers; topics = l })
+      (λ (l : List TopicRecord). record
+      { clock = st .clock; joined = st .joined; codes = st .codes; setup = st .setup; peers = st .peers; topics = l })
       (set-set (st .topics) k t u)
 
   -- ---- the order of two stores of different kinds does not matter

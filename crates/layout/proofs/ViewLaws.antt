@@ -2,7 +2,7 @@
 -- Assumes nothing.
 use Prim.Native.Nat.{ℕ, zero, suc, _+_, _*_, _≤_, _<_}
 use mathlib.Core.Path.{_≡_, refl, sym, ap, _∙_, subst}
-use mathlib.Core.List.{List, [], _∷_, _++_, map}
+use mathlib.Core.List.{List, [], _∷_, map}
 use native.Mathlib.Nat.{add-zero}
 use native.Mathlib.Omega.{arith}
 use lib.ListN.{length, getD, set, take, drop, List·getD-map, List·getD-eq-default}
@@ -11,10 +11,15 @@ use Rattle.index.proofs.Flags.{by-order}
 use Rattle.records.specs.declared.Setup.{Setup}
 use Rattle.records.specs.declared.Peer.{Peer}
 use Rattle.records.specs.declared.TopicRecord.{TopicRecord}
-use Rattle.records.specs.Records.{State, noPeer, noTopic, joinedIn, codeIn, peerIn, topicIn, setClock, setJoined, setPeer, setTopic, slotCount, topicCount, paramCount}
+use Rattle.records.specs.Records.{noTopic, joinedIn, codeIn, peerIn, topicIn, setClock, setJoined, setPeer, setTopic, slotCount, topicCount}
+use Rattle.records.specs.Records.{paramCount}
 use Rattle.layout.specs.Rows.{tab, span, put, rows}
-use Rattle.layout.specs.View.{joinedAt, codesAt, setupAt, setupCells, peersAt, peerCells, topicsAt, topicCells, placeCount, cellCount, setupOf, peerOf, topicOf, peerFrom, topicFrom, cellsOfPeer, cellsOfTopic, stateOf, setEnd, setCodes, setSetup, zeroState}
-use Rattle.layout.proofs.RowLaws.{tab-getD, getD-rows, stride, rows-put-same, rows-put-cell, rows-put-before, rows-put-after, span-put-before, span-put-after, getD-put-before, getD-put-in, put-one, span-put-one, span-put-same, span-part, getD-span, zero-span, zero-rows}
+use Rattle.layout.specs.View.{joinedAt, codesAt, setupAt, setupCells, peersAt, peerCells, topicsAt, topicCells, placeCount, cellCount}
+use Rattle.layout.specs.View.{setupOf, peerOf, topicOf, peerFrom, topicFrom, cellsOfPeer, cellsOfTopic, stateOf, setEnd, setCodes}
+use Rattle.layout.specs.View.{setSetup, zeroState}
+use Rattle.layout.proofs.RowLaws.{tab-getD, getD-rows, stride, rows-put-same, rows-put-cell, rows-put-before, rows-put-after}
+use Rattle.layout.proofs.RowLaws.{span-put-before, span-put-after, getD-put-before, getD-put-in, put-one, span-put-one}
+use Rattle.layout.proofs.RowLaws.{span-put-same, span-part, getD-span, zero-span, zero-rows}
 
 pub map-set : {A B : Type 0} (f : A → B) (l : List A) (i : ℕ) (v : A) → map f (set l i v) ≡ set (map f l) i (f v)
 map-set f [] i v = refl
@@ -48,8 +53,10 @@ peer-load cells s h = sym (rw add-zero refl) ∙ row-of cells s h
 pub topic-load : (cells : List ℕ) (k : ℕ) → k < placeCount → topicFrom cells (topicsAt + k * topicCells) ≡ topicIn (stateOf cells) k
 unfolding topicIn stateOf topicOf span
 topic-load cells k h =
-    let e : getD (map topicOf (rows cells topicsAt topicCells placeCount)) k noTopic ≡ topicOf (span cells (topicsAt + k * topicCells) topicCells) =
-    List·getD-map topicOf (rows cells topicsAt topicCells placeCount) k [] ∙ ap topicOf (getD-rows cells topicsAt topicCells placeCount k h) in
+    let e : getD (map topicOf (rows cells topicsAt topicCells placeCount)) k noTopic
+    ≡ topicOf (span cells (topicsAt + k * topicCells) topicCells) =
+    List·getD-map topicOf (rows cells topicsAt topicCells placeCount) k []
+    ∙ ap topicOf (getD-rows cells topicsAt topicCells placeCount k h) in
     sym (e ∙ rw add-zero)
 
 pub setup-load : (cells : List ℕ) → record { edition = getD cells setupAt 0 } ≡ stateOf cells .setup
@@ -190,7 +197,8 @@ module _ (cells : List ℕ) (size : length cells ≡ cellCount) where
             (ap (map peerOf) (rows-put-same cells peersAt peerCells slotCount s (cellsOfPeer p) h n (omega arith))
             ∙ map-set peerOf (rows cells peersAt peerCells slotCount) s (cellsOfPeer p)
             ∙ ap (set (map peerOf (rows cells peersAt peerCells slotCount)) s) (peer-back p e)) i;
-        topics = ap (map topicOf) (rows-put-after cells topicsAt topicCells placeCount (peersAt + s * peerCells) (cellsOfPeer p) f (omega arith)) i;
+        topics = ap (map topicOf)
+            (rows-put-after cells topicsAt topicCells placeCount (peersAt + s * peerCells) (cellsOfPeer p) f (omega arith)) i;
       }
 
   pub end-store :
@@ -231,7 +239,8 @@ module _ (cells : List ℕ) (size : length cells ≡ cellCount) where
         joined = span-put-before cells (topicsAt + k * topicCells) (cellsOfTopic t) f joinedAt topicCount (omega arith) i;
         codes = span-put-before cells (topicsAt + k * topicCells) (cellsOfTopic t) f codesAt paramCount (omega arith) i;
         setup = ap setupOf (span-put-before cells (topicsAt + k * topicCells) (cellsOfTopic t) f setupAt setupCells (omega arith)) i;
-        peers = ap (map peerOf) (rows-put-before cells peersAt peerCells slotCount (topicsAt + k * topicCells) (cellsOfTopic t) f (omega arith)) i;
+        peers = ap (map peerOf)
+            (rows-put-before cells peersAt peerCells slotCount (topicsAt + k * topicCells) (cellsOfTopic t) f (omega arith)) i;
         topics =
             (ap (map topicOf) (rows-put-same cells topicsAt topicCells placeCount k (cellsOfTopic t) h n (omega arith))
             ∙ map-set topicOf (rows cells topicsAt topicCells placeCount) k (cellsOfTopic t)

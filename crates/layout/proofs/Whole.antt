@@ -1,8 +1,8 @@
 -- The state and the table determine each other.
 -- Assumes nothing.
-use Prim.Native.Nat.{ℕ, zero, suc, _+_, _*_, _≤_, _<_}
-use mathlib.Core.Path.{_≡_, refl, sym, ap, _∙_, subst}
-use mathlib.Core.List.{List, [], _∷_, _++_, map, append-assoc}
+use Prim.Native.Nat.{ℕ, zero, suc, _+_, _*_}
+use mathlib.Core.Path.{_≡_, refl, sym, ap, _∙_}
+use mathlib.Core.List.{List, [], _∷_, _++_, map}
 use native.Mathlib.Nat.{suc-mul, zero-mul, add-zero, zero-add, add-assoc, add-comm}
 use native.Mathlib.Omega.{arith}
 use lib.ListN.{length, getD, length-append}
@@ -10,7 +10,8 @@ use Rattle.records.specs.declared.Peer.{Peer}
 use Rattle.records.specs.declared.TopicRecord.{TopicRecord}
 use Rattle.records.specs.Records.{State, noPeer, peerIn, slotCount, topicCount, paramCount}
 use Rattle.layout.specs.Rows.{tab, span, rows, joins}
-use Rattle.layout.specs.View.{joinedAt, codesAt, setupAt, setupCells, peersAt, peerCells, topicsAt, topicCells, placeCount, cellCount, setupOf, peerOf, topicOf, cellsOfSetup, cellsOfPeer, cellsOfTopic, stateOf, cellsOf, Sized}
+use Rattle.layout.specs.View.{joinedAt, codesAt, setupAt, setupCells, peersAt, peerCells, topicsAt, topicCells, placeCount, cellCount}
+use Rattle.layout.specs.View.{setupOf, peerOf, topicOf, cellsOfSetup, cellsOfPeer, cellsOfTopic, stateOf, cellsOf, Sized}
 use Rattle.layout.proofs.RowLaws.{tab-same, span-all, span-left, span-right, rows-left, rows-right, length-joins, rows-joins}
 use Rattle.layout.proofs.ViewLaws.{peer-back, topic-back, peer-count, topic-count}
 
@@ -40,7 +41,8 @@ unfolding joins rows span
 joins-rows g f c w back o zero = ap (λ k. span c o k) (sym (zero-mul w))
 joins-rows g f c w back o (suc n) =
     ap (λ l. l ++ joins f (map g (tab n (λ i. span c (o + suc i * w) w)))) (back (o + 0 * w) ∙ ap (λ k. span c k w) first)
-    ∙ ap (λ l. span c o w ++ joins f (map g l)) (tab-same n (λ i. span c (o + suc i * w) w) (λ i. span c ((o + w) + i * w) w) (λ i h. ap (λ k. span c k w) (step i)))
+    ∙ ap (λ l. span c o w ++ joins f (map g l))
+    (tab-same n (λ i. span c (o + suc i * w) w) (λ i. span c ((o + w) + i * w) w) (λ i h. ap (λ k. span c k w) (step i)))
     ∙ ap (λ l. span c o w ++ l) (joins-rows g f c w back (o + w) n)
     ∙ span-append c o w (n * w)
     ∙ ap (λ k. span c o k) (add-comm w (n * w) ∙ sym (suc-mul n w))
@@ -79,7 +81,8 @@ whole c e =
     ∙ ap (λ l. span c 0 setupAt ++ l ++ peers ++ topics) (setup-cells c setupAt)
     ∙ ap (λ l. l ++ peers ++ topics) (span-append c 0 setupAt setupCells)
     ∙ ap (λ l. span c 0 peersAt ++ l ++ topics) (joins-rows peerOf cellsOfPeer c peerCells (peer-cells c) peersAt slotCount)
-    ∙ ap (λ l. span c 0 peersAt ++ span c peersAt (slotCount * peerCells) ++ l) (joins-rows topicOf cellsOfTopic c topicCells (topic-cells c) topicsAt placeCount)
+    ∙ ap (λ l. span c 0 peersAt ++ span c peersAt (slotCount * peerCells) ++ l)
+    (joins-rows topicOf cellsOfTopic c topicCells (topic-cells c) topicsAt placeCount)
     ∙ ap (λ l. l ++ span c topicsAt (placeCount * topicCells)) (span-append c 0 peersAt (slotCount * peerCells))
     ∙ span-append c 0 topicsAt (placeCount * topicCells)
     ∙ ap (λ n. span c 0 n) (sym e)

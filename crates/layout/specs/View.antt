@@ -11,8 +11,8 @@ use Rattle.records.specs.declared.TopicRecord.{TopicRecord}
 use Rattle.records.specs.Records.{State, slotCount, topicCount, paramCount, noPeer, noTopic, peerIn}
 use Rattle.layout.specs.Rows.{span, rows, joins}
 
--- the regions, one after the other: the clock (cell 0), the joined flags, the codes of the parameters, the rest of the set-up, the peers, the
--- topic records
+-- the regions, one after the other: the clock (cell 0), the joined flags, the codes of the parameters, the rest of the set-up, the peers,
+-- the topic records
 abbrev pub joinedAt : ℕ
 joinedAt = 1
 

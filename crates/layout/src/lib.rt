@@ -1,9 +1,10 @@
 // How one lent table of numbers holds the router's state: the only code that computes an offset. A change of the layout is made here
 // and in specs/View.antt. Everything above goes by the contracts, which speak of the state that the table holds.
 ghost use mathlib.Core.Path.{_≡_};
-ghost use Prim.Native.Nat.{ℕ, _+_, _*_, _≤_, _<_};
+ghost use Prim.Native.Nat.{_+_, _≤_, _<_};
 ghost use lib.ListN.{length};
-ghost use Rattle.records.specs.Records.{joinedIn, codeIn, peerIn, topicIn, setClock, setJoined, setPeer, setTopic, slotCount, topicCount, paramCount};
+ghost use Rattle.records.specs.Records.{joinedIn, codeIn, peerIn, topicIn, setClock, setJoined, setPeer, setTopic, slotCount, topicCount};
+ghost use Rattle.records.specs.Records.{paramCount};
 ghost use Rattle.layout.specs.Rows.{put};
 ghost use Rattle.layout.specs.View.{placeCount, cellCount, peerFrom, topicFrom, stateOf, setEnd, setCodes, setSetup, zeroState};
 use records::Peer;
@@ -213,11 +214,12 @@ pub fn store_peer(cells: &mut [u64], slot: usize, p: Peer)
     write_row(cells, PEERS_AT + slot * PEER_CELLS, &row);
 }
 
-// One backoff end of the record in a slot, and nothing else of it: a record that is stored whole right after one end was replaced in it waits
-// for that store.
+// One backoff end of the record in a slot, and nothing else of it: a record that is stored whole right after one end was replaced in it
+// waits for that store.
 pub fn store_end(cells: &mut [u64], slot: usize, t: usize, end: u64)
     requires { ⌜ (length (now cells) ≡ cellCount) × ((slot < slotCount) × (t < topicCount)) ⌝ }
-    ensures { λ r. ⌜ stateOf (now (cells .exit)) ≡ setPeer (stateOf (now (cells .entry))) slot (setEnd (peerIn (stateOf (now (cells .entry))) slot) t end) ⌝ }
+    ensures { λ r. ⌜ stateOf (now (cells .exit))
+        ≡ setPeer (stateOf (now (cells .entry))) slot (setEnd (peerIn (stateOf (now (cells .entry))) slot) t end) ⌝ }
 {
     cells[PEERS_AT + slot * PEER_CELLS + (ENDS_AT + t)] = end;
 }

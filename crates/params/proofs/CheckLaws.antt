@@ -8,7 +8,7 @@ use native.Mathlib.Omega.{arith}
 use borrow.Author.Tests.{not-true, not-false, eq-eqb, ne-eqb, eqb-true}
 use lib.Dec.{eqb}
 use lib.ListN.{length, length-map}
-use lib.IntN.{ℤ, pos}
+use lib.IntN.{ℤ}
 use Rattle.index.specs.Index.{first, every, orElse}
 use Rattle.index.specs.declared.Found.{Found}
 use Rattle.index.specs.declared.Found.the-variants.{At, Nothing}
@@ -38,10 +38,6 @@ found-within xs f e t = every-by (inLimits xs) paramCount (found-in xs (sym e �
 none-left : (f g : Found) → orElse f g ≡ Nothing → (f ≡ Nothing) × (g ≡ Nothing)
 none-left (At i) g e = let z : _≡_ {A = ℕ} 0 1 = cc in absurd (omega arith)
 none-left Nothing g e = (refl, e)
-
-no-rule : (f : Found) → asRule f ≡ Nothing → f ≡ Nothing
-no-rule (At i) e = let z : _≡_ {A = ℕ} 0 1 = cc in absurd (omega arith)
-no-rule Nothing e = refl
 
 module _ (p : Params) (ok : firstBroken p ≡ Nothing) where
   none-outside : first paramCount (outside (p .numbers)) ≡ Nothing
@@ -115,7 +111,8 @@ nothing-both Nothing (At k) = refl
 nothing-both Nothing Nothing = refl
 
 -- to pass the check is to pass every test
-pub accepted-is : (p : Params) → isNothing (firstBroken p) ≡ every paramCount (inLimits (p .numbers)) && every ruleCount (rule (p .numbers) (p .edition))
+pub accepted-is : (p : Params) → isNothing (firstBroken p)
+    ≡ every paramCount (inLimits (p .numbers)) && every ruleCount (rule (p .numbers) (p .edition))
 unfolding firstBroken outside broken
 accepted-is p =
     nothing-both (first paramCount (λ i. not (inLimits (p .numbers) i))) (first ruleCount (λ k. not (rule (p .numbers) (p .edition) k)))
@@ -148,10 +145,12 @@ module _ (e : Edition) (codes : List ℕ) where
         ∙ ap (λ (b : Bool). b && every ruleCount (rule (map numberOf codes) e)) (sym (codes-within t))
         ∙ tested
 
-    pub codes-broken : (f : Found) (k : ℕ) → not a ≡ false → f ≡ first ruleCount (broken (map numberOf codes) e) → f ≡ At k → false ≡ acceptedBy e codes
+    pub codes-broken : (f : Found) (k : ℕ) → not a ≡ false → f ≡ first ruleCount (broken (map numberOf codes) e) → f ≡ At k → false
+        ≡ acceptedBy e codes
     codes-broken f k t d g = ap isNothing (sym g) ∙ codes-judged f t d
 
-    pub codes-kept : (f : Found) → not a ≡ false → f ≡ first ruleCount (broken (map numberOf codes) e) → f ≡ Nothing → true ≡ acceptedBy e codes
+    pub codes-kept : (f : Found) → not a ≡ false → f ≡ first ruleCount (broken (map numberOf codes) e) → f ≡ Nothing → true
+        ≡ acceptedBy e codes
     codes-kept f t d g = ap isNothing (sym g) ∙ codes-judged f t d
 
 -- ---- the ends of `edition_of`
@@ -215,7 +214,12 @@ accepted-codes n codes h = go (editionOf n) refl h
     go : (m : Numbered) → editionOf n ≡ m → acceptedIn m codes ≡ true → Accepted n codes
     go (Known e) q z =
         let b = both (eqb (length codes) paramCount) (isNothing (firstBroken (coded e codes))) z in
-        record { edition = e; known = q; size = eqb-true (length codes) paramCount (b .0); passes = is-nothing (firstBroken (coded e codes)) (b .1) }
+        record {
+          edition = e;
+          known = q;
+          size = eqb-true (length codes) paramCount (b .0);
+          passes = is-nothing (firstBroken (coded e codes)) (b .1);
+        }
     go Unknown q z = let y : _≡_ {A = ℕ} 0 1 = cc in absurd (omega arith)
 
 pub codes-pass :

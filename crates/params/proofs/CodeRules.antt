@@ -1,9 +1,9 @@
 -- The joint rules, of codes: two codes of one sign stand to each other as the numbers' magnitudes do.
 -- Assumes nothing.
-use Prim.Native.Nat.{ℕ, suc, _+_, _*_, _/_, _<_, _≤_}
+use Prim.Native.Nat.{ℕ, suc, _+_, _*_, _<_, _≤_}
 use native.Mathlib.Numerals.{add-one}
 use mathlib.Core.Path.{_≡_, refl, sym, ap, ap₂, _∙_}
-use mathlib.Core.Bool.{Bool, true, false, _&&_}
+use mathlib.Core.Bool.{Bool, true, _&&_}
 use mathlib.Core.List.{List, map}
 use native.Mathlib.Omega.{arith}
 use lib.Dec.{T, leb, ltb, lit<}
@@ -114,7 +114,8 @@ module _ (codes : List ℕ) (ok : Within codes) where
   unfolding limitAt limits
   sum-out =
       ap₂ leb (ap₂ (λ (u v : ℕ). u + v) (code-at codes 4) (code-at codes 3)) (code-at codes 1)
-      ∙ gain-sum (at (map numberOf codes) 4) (at (map numberOf codes) 3) (at (map numberOf codes) 1) (gain 4 (lit< tt) tt) (gain 3 (lit< tt) tt) (gain 1 (lit< tt) tt)
+      ∙ gain-sum (at (map numberOf codes) 4) (at (map numberOf codes) 3) (at (map numberOf codes) 1) (gain 4 (lit< tt) tt)
+      (gain 3 (lit< tt) tt) (gain 1 (lit< tt) tt)
 
   -- D_score ≤ D, of the second
   pub le-score : leb (getD codes 4 0) (getD codes 1 0) ≡ scoreRule (map numberOf codes) Second
@@ -175,5 +176,6 @@ seven′ : (k : ℕ) → 4 ≤ k → k < ruleCount → (k ≡ 4 → ⊥) → (k 
 seven′ k f h a b c = omega arith
 
 -- the last of eight, once the first seven are ruled out (omega takes six such facts at most)
-pub seven : (k : ℕ) → k < ruleCount → (k ≡ 0 → ⊥) → (k ≡ 1 → ⊥) → (k ≡ 2 → ⊥) → (k ≡ 3 → ⊥) → (k ≡ 4 → ⊥) → (k ≡ 5 → ⊥) → (k ≡ 6 → ⊥) → k ≡ 7
+pub seven : (k : ℕ) → k < ruleCount → (k ≡ 0 → ⊥) → (k ≡ 1 → ⊥) → (k ≡ 2 → ⊥) → (k ≡ 3 → ⊥) → (k ≡ 4 → ⊥) → (k ≡ 5 → ⊥) → (k ≡ 6 → ⊥) → k
+    ≡ 7
 seven k h a b c d e f g = seven′ k (four k a b c d) h e f g

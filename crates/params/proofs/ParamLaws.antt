@@ -1,15 +1,14 @@
--- What upper crates use of accepted codes, as the parameters stand in a router's tables: the bounds of every number's magnitude by name, and
--- the joint rules of magnitudes. Signs and further laws by field are in limits/proofs/FieldLaws.antt.
+-- What upper crates use of accepted codes, as the parameters stand in a router's tables: the bounds of every number's magnitude by name,
+-- and the joint rules of magnitudes. Signs and further laws by field are in limits/proofs/FieldLaws.antt.
 -- Assumes nothing.
 use Prim.Native.Nat.{ℕ, suc, _+_, _*_, _<_, _≤_}
-use mathlib.Core.Path.{_≡_, refl, sym, ap, _∙_}
-use mathlib.Core.Bool.{Bool, true}
+use mathlib.Core.Path.{_≡_, refl, _∙_}
+use mathlib.Core.Bool.{true}
 use mathlib.Core.List.{List, map}
 use native.Mathlib.Omega.{arith}
 use borrow.Author.Tests.{leb-true}
 use lib.Dec.{leb, lit<}
 use lib.ListN.{getD}
-use Rattle.index.specs.Index.{every}
 use Rattle.index.proofs.Index.{every-at}
 use Rattle.varint.specs.Codes.{numberOf}
 use Rattle.records.specs.Records.{topicCount}
@@ -21,7 +20,8 @@ use Rattle.params.specs.Check.{acceptedCodes}
 use Rattle.limits.proofs.LimitLaws.{topic-field}
 use Rattle.params.proofs.CheckLaws.{accepted-codes, codes-pass}
 use Rattle.limits.proofs.FieldLaws.{size, Within, most-of, least-of, loss-least, gain-code, loss-code}
-use Rattle.params.proofs.CodeRules.{le-lo, le-hi, lt-lo, twice-out, sum-out, le-score, score-is, le-gossip, lt-publish, cap-of, caps-are}
+use Rattle.params.proofs.CodeRules.{le-lo, le-hi, lt-lo, twice-out, sum-out, le-score, score-is, le-gossip, lt-publish, cap-of}
+use Rattle.params.proofs.CodeRules.{caps-are}
 
 -- ---- the magnitudes of the general numbers, by name
 pub record General (codes : List ℕ) : Type 0 where
@@ -212,4 +212,9 @@ module _ {n : ℕ} (codes : List ℕ) (accepted : Accepts n codes) where
     where
       cap-le : (k : ℕ) → k < topicCount → size codes (place k 10) ≤ size codes (place k 9)
       cap-le k h =
-          omega (arith, leb-true (getD codes (place k 10) 0) (getD codes (place k 9) 0) (cap-of codes within k h ∙ every-at (capRule (map numberOf codes)) topicCount k (caps-are codes within edition ∙ holds 7 (lit< tt)) h))
+          omega (
+            arith,
+            leb-true (getD codes (place k 10) 0) (getD codes (place k 9) 0)
+                (cap-of codes within k h
+                ∙ every-at (capRule (map numberOf codes)) topicCount k (caps-are codes within edition ∙ holds 7 (lit< tt)) h),
+          )

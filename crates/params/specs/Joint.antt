@@ -7,7 +7,8 @@ use lib.IntN.{ℤ, pos, _+ℤ_, _*ℤ_}
 use lib.Signed.{leZ, ltZ}
 use Rattle.index.specs.Index.{every}
 use Rattle.records.specs.Records.{topicCount}
-use Rattle.records.specs.Parameters.{dLoAt, dAt, dHiAt, dOutAt, dScoreAt, graylistThresholdAt, gossipThresholdAt, publishThresholdAt, p3CapAt, p3ThresholdAt}
+use Rattle.records.specs.Parameters.{dLoAt, dAt, dHiAt, dOutAt, dScoreAt, graylistThresholdAt, gossipThresholdAt, publishThresholdAt}
+use Rattle.records.specs.Parameters.{p3CapAt, p3ThresholdAt}
 use Rattle.limits.specs.Limits.{place, at}
 use Rattle.params.specs.declared.Edition.{Edition}
 use Rattle.params.specs.declared.Edition.the-variants.{First, Second}

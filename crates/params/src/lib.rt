@@ -1,5 +1,5 @@
-// The router's parameters (01, "The sheet"): 147 numbers, and the check of their limits (crate limits) and of their joint rules. Their form in
-// bytes is crate params_bytes.
+// The router's parameters (01, "The sheet"): 147 numbers, and the check of their limits (crate limits) and of their joint rules. Their form
+// in bytes is crate params_bytes.
 mod joint;
 mod ordinary;
 

@@ -2,18 +2,15 @@
 -- and so the value that goes with an answer (a length, a place, an index) is small.
 -- Assumes nothing.
 use Prim.Native.Nat.{ℕ, zero, suc, _+_, _-_, _*_, _/_, _^_, _<_, _≤_}
-use mathlib.Core.Path.{_≡_, refl, sym, ap, _∙_}
-use mathlib.Core.Bool.{Bool, cond}
+use mathlib.Core.Path.{_≡_, refl, sym, _∙_}
 use mathlib.Core.List.{List, [], _∷_}
 use native.Mathlib.Omega.{arith}
 use native.Mathlib.Nat.{pow-suc}
 use lib.Dec.{ltb, leb, eqb}
 use lib.ListN.{length, getD}
 use lib.IntN.{ℤ}
-use Rattle.index.specs.Index.{first, orElse}
 use Rattle.index.specs.declared.Found.{Found}
 use Rattle.index.specs.declared.Found.the-variants.{At, Nothing}
-use Rattle.index.proofs.Index.{first-is}
 use Rattle.index.proofs.Flags.{by-test, by-order, cond-case}
 use Rattle.varint.specs.Groups.{readAt, afterMore, lastGroup}
 use Rattle.varint.specs.Codes.{numberOf}
@@ -26,10 +23,9 @@ use Rattle.params.specs.Editions.{sheet}
 use Rattle.params.specs.Check.{firstBroken}
 use Rattle.params.proofs.CheckLaws.{broken-most}
 use Rattle.records.specs.Records.{paramCount}
-use Rattle.params_bytes.specs.Read.{Parse, numbers, malformed, then, step, parseFrom, editionIn, frontBytes, parseAll, ending, judgedBy, judged, readOf, verdictValue}
-use Rattle.params_bytes.specs.Write.{roomFor, formOf, writeBy, writeOf, writtenValue}
-use Rattle.params_bytes.specs.declared.Written.{Written}
-use Rattle.params_bytes.specs.declared.Written.the-variants.{Short}
+use Rattle.params_bytes.specs.Read.{Parse, numbers, malformed, then, step, parseFrom, editionIn, frontBytes, parseAll, ending}
+use Rattle.params_bytes.specs.Read.{judgedBy, judged, readOf, verdictValue}
+use Rattle.params_bytes.specs.Write.{roomFor, writeBy, writeOf, writtenValue}
 use Rattle.params_bytes.proofs.WriteLaws.{room-is, front-short}
 use Rattle.params_bytes.proofs.RoundTrip.{form-most}
 

@@ -2,15 +2,15 @@
 -- Assumes nothing.
 use Prim.Native.Nat.{ℕ, zero, suc, _+_, _-_, _<_, _≤_}
 use mathlib.Core.Path.{_≡_, refl, sym, ap, _∙_}
-use mathlib.Core.Bool.{Bool, true, false, not, cond, _&&_}
+use mathlib.Core.Bool.{Bool, true, false, not, _&&_}
 use mathlib.Core.List.{List, [], _∷_, _++_, append-assoc, append-nil}
 use native.Mathlib.Omega.{arith}
 use native.Mathlib.Numerals.{add-one}
 use borrow.Author.Tests.{lt-ltb, le-ltb, not-true, not-false}
-use lib.Dec.{ltb, eqb}
+use lib.Dec.{eqb}
 use lib.ListN.{length, take, set, getD, List·getD-eq-default}
 use lib.Seq.{take-suc-set, take-all}
-use lib.IntN.{ℤ, pos}
+use lib.IntN.{ℤ}
 use Rattle.index.specs.declared.Found.{Found}
 use Rattle.index.specs.declared.Found.the-variants.{At, Nothing}
 use Rattle.varint.specs.Groups.{readAt}
@@ -23,8 +23,8 @@ use Rattle.params.specs.declared.Params.{Params}
 use Rattle.params.specs.Editions.{sheet}
 use Rattle.params.specs.Check.{firstBroken}
 use Rattle.records.specs.Records.{paramCount}
-use Rattle.params_bytes.specs.Read.{Parse, numbers, malformed, then, step, parseFrom, editionIn, frontBytes, parseAll, ending, outcome, refusal, judgedBy, judged, readOf, frontOf}
-use Rattle.params_bytes.specs.declared.Verdict.{Verdict}
+use Rattle.params_bytes.specs.Read.{Parse, numbers, malformed, then, step, parseFrom, editionIn, frontBytes, parseAll, outcome}
+use Rattle.params_bytes.specs.Read.{refusal, judgedBy, readOf, frontOf}
 use Rattle.params_bytes.specs.declared.Verdict.the-variants.{Accepted, Malformed, Broken}
 use Rattle.params_bytes.specs.declared.Reading.{Reading}
 use Rattle.params_bytes.specs.declared.Parsed.{Parsed}
@@ -33,7 +33,8 @@ then-then : (xs ys : List ℤ) (p : Parse) → then xs (then ys p) ≡ then (xs 
 then-then xs ys (numbers zs next) = ap (λ (l : List ℤ). numbers l next) (sym (append-assoc xs ys zs))
 then-then xs ys (malformed p) = refl
 
-at-least-one : (m : ℕ) (s : List ℕ) (at : ℕ) (r : Read) → 0 < m → r ≡ readAt 18446744073709551615 s at → parseFrom m s at ≡ step (λ next. parseFrom (m - 1) s next) at r
+at-least-one : (m : ℕ) (s : List ℕ) (at : ℕ) (r : Read) → 0 < m → r ≡ readAt 18446744073709551615 s at → parseFrom m s at
+    ≡ step (λ next. parseFrom (m - 1) s next) at r
 unfolding parseFrom
 at-least-one zero s at r h e = absurd (omega arith)
 at-least-one (suc m) s at r h e = let f : suc m - 1 ≡ m = omega arith in rw (f, e)
@@ -106,10 +107,12 @@ module _ (s : List ℕ) where
   edition-first t = rw t
 
 -- ---- the ends of `judged`
-pub judged-broken : (p : Params) (next i : ℕ) (f : Found) (r : Reading) → f ≡ firstBroken p → f ≡ At i → r ≡ refusal (Broken i) → r ≡ judgedBy (firstBroken p) p next
+pub judged-broken : (p : Params) (next i : ℕ) (f : Found) (r : Reading) → f ≡ firstBroken p → f ≡ At i → r ≡ refusal (Broken i) → r
+    ≡ judgedBy (firstBroken p) p next
 judged-broken p next i f r e t q = q ∙ rw (← e, t)
 
-pub judged-kept : (p : Params) (next : ℕ) (f : Found) → f ≡ firstBroken p → f ≡ Nothing → record { verdict = Accepted next; params = p } ≡ judgedBy (firstBroken p) p next
+pub judged-kept : (p : Params) (next : ℕ) (f : Found) → f ≡ firstBroken p → f ≡ Nothing → record { verdict = Accepted next; params = p }
+    ≡ judgedBy (firstBroken p) p next
 judged-kept p next f e t = rw (← e, t)
 
 -- ---- the ends of `read_front` and `read`, from the edition and what was parsed
@@ -131,7 +134,8 @@ module _
   front-bad r t q = q ∙ rw (← bad t)
 
   pub front-good :
-      (r : Reading) → not (p .ok) ≡ false → r ≡ judgedBy (firstBroken (sheet d (p .numbers))) (sheet d (p .numbers)) (p .place) → r ≡ frontOf s
+      (r : Reading) → not (p .ok) ≡ false → r ≡ judgedBy (firstBroken (sheet d (p .numbers))) (sheet d (p .numbers)) (p .place) → r
+      ≡ frontOf s
   unfolding frontOf
   front-good r t q = q ∙ rw (← good t, told)
 

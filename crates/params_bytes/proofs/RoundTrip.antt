@@ -1,15 +1,15 @@
 -- Reading what was written, and writing what was read (specs/RoundTrip.antt).
 -- Assumes nothing.
-use Prim.Native.Nat.{ℕ, zero, suc, _+_, _-_, _*_, _<_, _≤_, suc-le-suc}
+use Prim.Native.Nat.{ℕ, zero, suc, _+_, _*_, _<_, _≤_, suc-le-suc}
 use mathlib.Core.Path.{_≡_, refl, sym, ap, _∙_}
-use mathlib.Core.Bool.{Bool, true, false, _&&_}
+use mathlib.Core.Bool.{true, false, _&&_}
 use mathlib.Core.List.{List, [], _∷_, _++_, append-assoc, append-nil}
 use native.Mathlib.Omega.{arith}
 use native.Mathlib.Nat.{le-refl, zero-add}
 use borrow.Author.Tests.{le-ltb, ltb-false, eqb-true, ne-eqb}
-use lib.Dec.{T, eqb, leb, ltb, leb→le, lit<}
-use lib.ListN.{length, take, drop, getD, length-append, drop-of-length-le, length-drop}
-use lib.Seq.{sets, sets-eq, take-append-seam}
+use lib.Dec.{T, eqb, ltb, leb→le, lit<}
+use lib.ListN.{length, drop, getD, length-append, drop-of-length-le}
+use lib.Seq.{sets-eq, take-append-seam}
 use lib.IntN.{ℤ, pos, negsuc}
 use lib.Signed.{leZ}
 use Rattle.index.specs.declared.Found.{Found}
@@ -31,15 +31,13 @@ use Rattle.params.specs.Editions.{sheet}
 use Rattle.params.specs.Check.{firstBroken}
 use Rattle.params.proofs.CheckLaws.{accepted-in}
 use Rattle.records.specs.Records.{paramCount}
-use Rattle.params_bytes.specs.Read.{Parse, numbers, malformed, then, step, parseFrom, editionIn, frontBytes, parseAll, ending, refusal, judgedBy, judged, readOf, frontOf}
+use Rattle.params_bytes.specs.Read.{Parse, numbers, malformed, then, step, parseFrom, editionIn, frontBytes, parseAll, judgedBy}
+use Rattle.params_bytes.specs.Read.{readOf, frontOf}
 use Rattle.params_bytes.specs.Write.{roomFor, bytesOf, formOf, Writing, writeBy, writeOf}
 use Rattle.params_bytes.specs.RoundTrip.{ReadsBack, WritesBack}
 use Rattle.params.specs.declared.Params.{Params}
-use Rattle.params_bytes.specs.declared.Reading.{Reading}
-use Rattle.params_bytes.specs.declared.Verdict.{Verdict}
-use Rattle.params_bytes.specs.declared.Verdict.the-variants.{Accepted, Malformed, Broken}
-use Rattle.params_bytes.specs.declared.Written.{Written}
-use Rattle.params_bytes.specs.declared.Written.the-variants.{Done, Short, Outside}
+use Rattle.params_bytes.specs.declared.Verdict.the-variants.{Accepted, Malformed}
+use Rattle.params_bytes.specs.declared.Written.the-variants.{Done, Short}
 use Rattle.params_bytes.proofs.WriteLaws.{accepted-few, room-is}
 
 -- ---- numbers whose codes take at most five groups
@@ -61,11 +59,19 @@ read-back :
 unfolding parseFrom bytesOf
 read-back [] front rest c = ap (numbers []) (omega arith)
 read-back (x ∷ xs) front rest c =
-    rw (append-assoc (encode (codeOf x)) (bytesOf xs) rest, readAt-encode 18446744073709551615 (codeOf x) front (bytesOf xs ++ rest) (omega (arith, c 0 (omega arith))), ← length-append front (encode (codeOf x)), ← append-assoc front (encode (codeOf x)) (bytesOf xs ++ rest), read-back xs (front ++ encode (codeOf x)) rest (λ i l. c (suc i) (suc-le-suc l)), number-code x)
+    rw (
+      append-assoc (encode (codeOf x)) (bytesOf xs) rest,
+      readAt-encode 18446744073709551615 (codeOf x) front (bytesOf xs ++ rest) (omega (arith, c 0 (omega arith))),
+      ← length-append front (encode (codeOf x)),
+      ← append-assoc front (encode (codeOf x)) (bytesOf xs ++ rest),
+      read-back xs (front ++ encode (codeOf x)) rest (λ i l. c (suc i) (suc-le-suc l)),
+      number-code x,
+    )
     (ap (numbers (x ∷ xs)) (omega (arith, length-append front (encode (codeOf x)), length-append (encode (codeOf x)) (bytesOf xs))))
 
 -- ---- what was read is what would be written
-then-numbers : (v : ℤ) (p : Parse) (xs : List ℤ) (next : ℕ) → then (v ∷ []) p ≡ numbers xs next → (ys : List ℤ) × ((p ≡ numbers ys next) × (v ∷ ys ≡ xs))
+then-numbers : (v : ℤ) (p : Parse) (xs : List ℤ) (next : ℕ) → then (v ∷ []) p ≡ numbers xs next → (ys : List ℤ)
+    × ((p ≡ numbers ys next) × (v ∷ ys ≡ xs))
 then-numbers v (numbers ys m) xs next e =
     let q : m ≡ next = cc in
     (ys, (ap (numbers ys) q, cc))
@@ -90,7 +96,8 @@ step-written s at rest xs end n (Number u next) h e ih f =
     let i = ih next (t .0) (t .1 .0) in
     rw (← t .1 .1)
     (record {
-      bytes = w .bytes ∙ rw (code-number u, append-assoc (encode u) (bytesOf (t .0)) (drop end s)) (ap (λ (l : List ℕ). encode u ++ l) (i .bytes));
+      bytes = w .bytes
+          ∙ rw (code-number u, append-assoc (encode u) (bytesOf (t .0)) (drop end s)) (ap (λ (l : List ℕ). encode u ++ l) (i .bytes));
       count = ap suc (i .count);
     })
 
@@ -125,7 +132,8 @@ first-front (x ∷ xs) rest l h =
     let b = sides (x ∷ xs) 0 h in
     rw (append-assoc (encode (codeOf x)) (bytesOf xs) rest, first-byte x (bytesOf xs ++ rest) (b .0) (b .1))
 
-form-front : (p : Params) (rest : List ℕ) → length (p .numbers) ≡ paramCount → inLimits (p .numbers) 0 ≡ true → editionIn (formOf p ++ rest) ≡ p .edition
+form-front : (p : Params) (rest : List ℕ) → length (p .numbers) ≡ paramCount → inLimits (p .numbers) 0 ≡ true → editionIn (formOf p ++ rest)
+    ≡ p .edition
 unfolding editionIn
 form-front p rest l h = go (p .edition)
   where
@@ -189,7 +197,8 @@ module _ (p : Params) (n147 : length (p .numbers) ≡ paramCount) (ok : firstBro
   front-written rest = rw (edition-written rest, parse-written rest, ok)
 
   -- the buffer holds the bytes, and past them what it held
-  pub written-is : (buf : List ℕ) → roomFor (p .edition) ≤ length buf → writeOf p buf ≡ record { answer = Done (length (formOf p)); bytes = formOf p ++ drop (length (formOf p)) buf }
+  pub written-is : (buf : List ℕ) → roomFor (p .edition) ≤ length buf → writeOf p buf
+      ≡ record { answer = Done (length (formOf p)); bytes = formOf p ++ drop (length (formOf p)) buf }
   unfolding writeOf
   written-is buf h =
       rw (le-ltb (length buf) (roomFor (p .edition)) h, ok)
@@ -197,7 +206,8 @@ module _ (p : Params) (n147 : length (p .numbers) ≡ paramCount) (ok : firstBro
       (sets-eq (formOf p) buf 0 (omega (arith, form-most)) ∙ rw (zero-add (length (formOf p)))))
 
 -- what a write that was done had before it
-done-is : (p : Params) (buf : List ℕ) (n : ℕ) → writeOf p buf .answer ≡ Done n → (roomFor (p .edition) ≤ length buf) × (firstBroken p ≡ Nothing)
+done-is : (p : Params) (buf : List ℕ) (n : ℕ) → writeOf p buf .answer ≡ Done n → (roomFor (p .edition) ≤ length buf)
+    × (firstBroken p ≡ Nothing)
 unfolding writeOf
 done-is p buf n e =
     by-test ((roomFor (p .edition) ≤ length buf) × (firstBroken p ≡ Nothing)) (ltb (length buf) (roomFor (p .edition)))

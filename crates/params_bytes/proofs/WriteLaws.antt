@@ -1,23 +1,23 @@
 -- Laws of writing: the front, what is known after i numbers, and the ends of `put` and `write`.
 -- Assumes nothing.
-use Prim.Native.Nat.{ℕ, zero, suc, _+_, _-_, _*_, _<_, _≤_, suc-le-suc}
+use Prim.Native.Nat.{ℕ, _+_, _*_, _<_, _≤_}
 use mathlib.Core.Path.{_≡_, refl, sym, ap, _∙_}
-use mathlib.Core.Bool.{Bool, true, false}
+use mathlib.Core.Bool.{false}
 use mathlib.Core.List.{List, [], _∷_, _++_, append-assoc, append-nil}
 use native.Mathlib.Omega.{arith}
 use native.Mathlib.Nat.{zero-add}
 use native.Mathlib.Numerals.{add-one}
-use borrow.Author.Tests.{lt-ltb, le-ltb, ltb-true, ltb-false}
+use borrow.Author.Tests.{lt-ltb, le-ltb}
 use lib.Dec.{ltb}
-use lib.ListN.{length, take, drop, getD, length-append}
-use lib.Seq.{sets, sets-eq, take-suc, take-all}
+use lib.ListN.{length, take, length-append}
+use lib.Seq.{sets, take-suc, take-all}
 use lib.IntN.{ℤ, pos}
 use mir.Syntax.{w64}
 use mir.Val.{SFits, toZ, ofZ}
 use Rattle.index.specs.declared.Found.{Found}
 use Rattle.index.specs.declared.Found.the-variants.{At, Nothing}
 use Rattle.index.proofs.Lists.{sets-append}
-use Rattle.varint.specs.Groups.{encode, putOf}
+use Rattle.varint.specs.Groups.{encode}
 use Rattle.varint.specs.Codes.{codeOf}
 use Rattle.varint.specs.declared.Put.{Put}
 use Rattle.varint.specs.declared.Put.the-variants.{Next, Full}
@@ -29,7 +29,7 @@ use Rattle.params.specs.declared.Params.{Params}
 use Rattle.params.specs.Check.{firstBroken}
 use Rattle.records.specs.Records.{paramCount}
 use Rattle.params_bytes.specs.Read.{frontBytes}
-use Rattle.params_bytes.specs.Write.{roomFor, bytesOf, formOf, Writing, writeBy, writeOf}
+use Rattle.params_bytes.specs.Write.{roomFor, bytesOf, formOf, writeOf}
 use Rattle.params_bytes.specs.declared.Written.{Written}
 use Rattle.params_bytes.specs.declared.Written.the-variants.{Done, Short, Outside}
 use Rattle.limits.proofs.LimitLaws.{code-of-given, code-few}
@@ -110,8 +110,16 @@ module _
       let b : out′ ≡ sets out place (encode u) = w .1 ∙ sym (put-fits out place u (omega arith) .1) in
       let more = bytes-more xs i l in
       record {
-        place-is = omega (arith, n .0, s .place-is, ap length more, length-append (bytesOf (take i xs)) (encode (codeOf (at xs i))), ap (λ (v : ℕ). length (encode v)) u-is);
-        bytes-are = b ∙ rw (more, sets-append buf from (bytesOf (take i xs)) (encode (codeOf (at xs i))), ← s .bytes-are, ← s .place-is, u-is);
+        place-is = omega (
+          arith,
+          n .0,
+          s .place-is,
+          ap length more,
+          length-append (bytesOf (take i xs)) (encode (codeOf (at xs i))),
+          ap (λ (v : ℕ). length (encode v)) u-is,
+        );
+        bytes-are = b
+            ∙ rw (more, sets-append buf from (bytesOf (take i xs)) (encode (codeOf (at xs i))), ← s .bytes-are, ← s .place-is, u-is);
         few = omega (arith, short, s .few);
         same = k ∙ s .same;
       }
@@ -143,7 +151,8 @@ module _ (p : Params) (buf : List ℕ) (room : ℕ) (q : room ≡ roomFor (p .ed
     write-outside i g = (rw (wide, ← e, g), rw (wide, ← e, g))
 
     -- there is room for the numbers behind the front
-    pub write-room : (from : ℕ) (out : List ℕ) → from ≡ length (frontBytes (p .edition)) → length out ≡ length buf → from + 5 * paramCount ≤ length out
+    pub write-room : (from : ℕ) (out : List ℕ) → from ≡ length (frontBytes (p .edition)) → length out ≡ length buf →
+        from + 5 * paramCount ≤ length out
     write-room from out n l = omega (arith, n, l, h, q, room-is (p .edition))
 
     -- the front, then the numbers
@@ -158,5 +167,10 @@ module _ (p : Params) (buf : List ℕ) (room : ℕ) (q : room ≡ roomFor (p .ed
         let l : n ≡ length (formOf p) = omega (arith, w .0, a .0, length-append (frontBytes (p .edition)) (bytesOf (p .numbers))) in
         let b : out ≡ sets buf 0 (formOf p) =
         w .1
-        ∙ rw (a .1, a .0, sets-append buf 0 (frontBytes (p .edition)) (bytesOf (p .numbers)), zero-add (length (frontBytes (p .edition)))) in
+        ∙ rw (
+          a .1,
+          a .0,
+          sets-append buf 0 (frontBytes (p .edition)) (bytesOf (p .numbers)),
+          zero-add (length (frontBytes (p .edition))),
+        ) in
         (rw (wide, ← e, g, l), rw (wide, ← e, g, b))

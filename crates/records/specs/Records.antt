@@ -72,15 +72,36 @@ setClock st n =
 
 unfoldable pub setJoined : State → ℕ → ℕ → State
 setJoined st t b =
-    record { clock = st .clock; joined = set (st .joined) t b; codes = st .codes; setup = st .setup; peers = st .peers; topics = st .topics }
+    record {
+      clock = st .clock;
+      joined = set (st .joined) t b;
+      codes = st .codes;
+      setup = st .setup;
+      peers = st .peers;
+      topics = st .topics;
+    }
 
 unfoldable pub setPeer : State → ℕ → Peer → State
 setPeer st s p =
-    record { clock = st .clock; joined = st .joined; codes = st .codes; setup = st .setup; peers = set (st .peers) s p; topics = st .topics }
+    record {
+      clock = st .clock;
+      joined = st .joined;
+      codes = st .codes;
+      setup = st .setup;
+      peers = set (st .peers) s p;
+      topics = st .topics;
+    }
 
 unfoldable pub setTopic : State → ℕ → TopicRecord → State
 setTopic st k t =
-    record { clock = st .clock; joined = st .joined; codes = st .codes; setup = st .setup; peers = st .peers; topics = set (st .topics) k t }
+    record {
+      clock = st .clock;
+      joined = st .joined;
+      codes = st .codes;
+      setup = st .setup;
+      peers = st .peers;
+      topics = set (st .topics) k t;
+    }
 
 -- "A record is empty, connected, or retained after a disconnect."
 abbrev pub isEmpty : Peer → Bool

@@ -18,7 +18,8 @@ use Rattle.varint.specs.declared.Read.the-variants.{Number, Bad}
 use Rattle.varint.proofs.GroupLaws.{readAt-end}
 use Rattle.params.specs.declared.Edition.{Edition}
 use Rattle.records.specs.Records.{paramCount}
-use Rattle.params_bytes.specs.Read.{Parse, numbers, malformed, then, step, parseFrom, editionIn, frontBytes, parseAll, ending, judged, readOf}
+use Rattle.params_bytes.specs.Read.{Parse, numbers, malformed, then, step, parseFrom, editionIn, frontBytes, parseAll, ending, judged}
+use Rattle.params_bytes.specs.Read.{readOf}
 use Rattle.varint.proofs.GroupLaws.{after-small}
 use Rattle.params_bytes.proofs.PlaceLaws.{by-byte, read-last, read-more, next-near, placeOf, all-place}
 use Rattle.params_bytes.proofs.WriteLaws.{front-short}

@@ -11,5 +11,6 @@ accepts-codes-spec =
     (λ c. search needs)
     (λ c κs. search needs)
     (λ c. search needs)
-    (λ c. edition-known _ _ _ (c .before .before .before .before .edition-of .ensures) _ _ (c .before .before .e .given .1) (c .accepts .ensures))
+    (λ c. edition-known _ _ _ (c .before .before .before .before .edition-of .ensures) _ _ (c .before .before .e .given .1)
+    (c .accepts .ensures))
     (λ c. edition-unknown _ _ _ (c .before .before .edition-of .ensures) (c .enum-told .given .1)))

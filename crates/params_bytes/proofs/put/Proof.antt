@@ -1,9 +1,9 @@
--- `params_bytes::put` meets its contract. Assumes nothing.
+-- `params_bytes::put`: after i numbers the buffer holds their bytes from the place on (`Stands`), and the next one has room. Assumes
+-- nothing.
 use Prim.Native.Nat.{_≤_, _-_}
-use mathlib.Core.Path.{_≡_, refl, _∙_}
+use mathlib.Core.Path.{_≡_, _∙_}
 use native.Mathlib.Omega.{arith}
 use borrow.Author.Needs.{needs, sfits-of}
-use mathlib.Core.List.{[]}
 use lib.ListN.{length}
 use Rattle.records.specs.Records.{paramCount}
 use Rattle.params_bytes.proofs.WriteLaws.{Stands, stands-none, stands-more, stands-full, stands-all}
@@ -32,7 +32,8 @@ put-spec =
     c .before .before .before .before .write-u64 .kept .0 ∙ l .inv .1 .same)
     (λ c. let l = c .before .before .before .before .before .before .before .before .before .loop in
     let s = c .before .before .before .before .before .before .before .before .before .before .before in
-    stands-full (s .args .numbers .now) _ (l .i) _ _ _ _ _ _ (c .before .before .before .before .before .before .before .before .loop-test .taken) (s .pre .2) (l .inv .1)
+    stands-full (s .args .numbers .now) _ (l .i) _ _ _ _ _ _
+    (c .before .before .before .before .before .before .before .before .loop-test .taken) (s .pre .2) (l .inv .1)
     (sfits-of (c .before .before .before .before .before .before .before .code-of-arg .given))
     (c .before .before .before .before .before .before .code-of .ensures)
     (c .before .before .before .before .write-u64 .ensures)
@@ -43,7 +44,8 @@ put-spec =
     let s = c .before .before .before .before .before .before .before .before .before .before .before .before in
     let n : length (s .args .numbers .now) ≡ paramCount = s .pre .0 in (
       omega arith,
-      stands-more (s .args .numbers .now) _ (l .i) _ _ _ _ _ _ (c .before .before .before .before .before .before .before .before .before .loop-test .taken) (s .pre .2) (l .inv .1)
+      stands-more (s .args .numbers .now) _ (l .i) _ _ _ _ _ _
+          (c .before .before .before .before .before .before .before .before .before .loop-test .taken) (s .pre .2) (l .inv .1)
           (sfits-of (c .before .before .before .before .before .before .before .before .code-of-arg .given))
           (c .before .before .before .before .before .before .before .code-of .ensures)
           (c .before .before .before .before .before .write-u64 .ensures)

@@ -13,14 +13,17 @@ read-spec =
     (λ c.
     let p = c .before .before .before in
     let d = p .before .before .edition-in in
-    read-bad _ (d .result) (d .ensures) _ (p .before .front-length .ensures) (p .parse .result) (p .parse .ensures) _ (c .before .if1 .taken) (c .refused .ensures))
+    read-bad _ (d .result) (d .ensures) _ (p .before .front-length .ensures) (p .parse .result) (p .parse .ensures) _
+    (c .before .if1 .taken) (c .refused .ensures))
     (λ c κs. tt)
     (λ c.
     let p = c .before .before .before .before in
     let d = p .before .before .edition-in in
-    read-left _ (d .result) (d .ensures) _ (p .before .front-length .ensures) (p .parse .result) (p .parse .ensures) _ (c .before .before .if1 .left) (c .before .if2 .taken) (c .refused2 .ensures))
+    read-left _ (d .result) (d .ensures) _ (p .before .front-length .ensures) (p .parse .result) (p .parse .ensures) _
+    (c .before .before .if1 .left) (c .before .if2 .taken) (c .refused2 .ensures))
     (λ c κs. tt)
     (λ c.
     let p = c .before .before .before .before .before in
     let d = p .before .before .edition-in in
-    read-good _ (d .result) (d .ensures) _ (p .before .front-length .ensures) (p .parse .result) (p .parse .ensures) _ (c .before .before .before .if1 .left) (c .before .before .if2 .left) (c .judged .ensures)))
+    read-good _ (d .result) (d .ensures) _ (p .before .front-length .ensures) (p .parse .result) (p .parse .ensures) _
+    (c .before .before .before .if1 .left) (c .before .before .if2 .left) (c .judged .ensures)))

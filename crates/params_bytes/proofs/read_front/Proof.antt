@@ -13,9 +13,11 @@ read-front-spec =
     (λ c.
     let p = c .before .before .before in
     let d = p .before .before .edition-in in
-    front-bad _ (d .result) (d .ensures) _ (p .before .front-length .ensures) (p .parse .result) (p .parse .ensures) _ (c .before .if1 .taken) (c .refused .ensures))
+    front-bad _ (d .result) (d .ensures) _ (p .before .front-length .ensures) (p .parse .result) (p .parse .ensures) _
+    (c .before .if1 .taken) (c .refused .ensures))
     (λ c κs. tt)
     (λ c.
     let p = c .before .before .before .before in
     let d = p .before .before .edition-in in
-    front-good _ (d .result) (d .ensures) _ (p .before .front-length .ensures) (p .parse .result) (p .parse .ensures) _ (c .before .before .if1 .left) (c .judged .ensures)))
+    front-good _ (d .result) (d .ensures) _ (p .before .front-length .ensures) (p .parse .result) (p .parse .ensures) _
+    (c .before .before .if1 .left) (c .judged .ensures)))

@@ -15,4 +15,5 @@ hivepadlet-fresh-spec =
     (λ c κs. (omega arith, omega arith))
     (λ c. fresh-unknown _ _ (c .before .before .before .edition-of .ensures) _ _ _ (c .before .enum-told .given .1) (c .packed .ensures))
     (λ c κs. search needs)
-    (λ c. fresh-known _ _ (c .before .before .before .before .before .before .edition-of .ensures) _ _ _ _ _ (c .before .before .before .before .e .given .1) (c .make .ensures)))
+    (λ c. fresh-known _ _ (c .before .before .before .before .before .before .edition-of .ensures) _ _ _ _ _
+    (c .before .before .before .before .e .given .1) (c .make .ensures)))

@@ -16,4 +16,5 @@ hivepadlet-write-spec =
     (λ c. write-unknown _ _ (c .before .before .before .edition-of .ensures) _ _ _ (c .before .enum-told .given .1) (c .packed .ensures))
     (λ c κs. search needs)
     (λ c. search needs)
-    (λ c. write-known _ _ (c .before .before .before .before .before .before .before .before .edition-of .ensures) _ _ _ _ _ (c .before .before .before .before .before .before .e .given .1) (c .before .before .put .ensures)))
+    (λ c. write-known _ _ (c .before .before .before .before .before .before .before .before .edition-of .ensures) _ _ _ _ _
+    (c .before .before .before .before .before .before .e .given .1) (c .before .before .put .ensures)))

@@ -15,4 +15,5 @@ make-spec =
     (λ c. search needs)
     (λ c κs. (omega arith, fresh-fits _ _ _ _ _ (c .before .before .before .fresh .ensures) (c .before .i .given .1)))
     (λ c. hosts-fresh _ _ _ _ _ (c .before .before .before .fresh .ensures) (c .before .enum-told .given .1) _ (c .packed .ensures))
-    (λ c. hosts-fresh _ _ _ _ _ (c .before .before .before .before .fresh .ensures) (c .before .before .i .given .1) _ (c .packed2 .ensures)))
+    (λ c. hosts-fresh _ _ _ _ _ (c .before .before .before .before .fresh .ensures) (c .before .before .i .given .1) _
+    (c .packed2 .ensures)))

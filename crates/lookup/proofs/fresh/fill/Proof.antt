@@ -1,4 +1,3 @@
-use mathlib.Core.Path.{_∙_}
 use borrow.Author.Needs.{needs}
 use Rattle.lookup.proofs.FreshLaws.{filled}
 use Rattle.lookup.proofs.fresh.fill.Statement.{statement}
@@ -19,4 +18,6 @@ fill-spec =
     let s = c .before .before in
     let t = s .before .before .before .before in
     let k = t .before .before .before .before .before in
-    filled (k .before .before .before .before .before .before .before .args .params) _ _ _ _ _ (s .store-setup .ensures) (t .store-codes .ensures) (k .clear .ensures) (k .before .before .before .codes-of .ensures) (k .before .before .edition-number .ensures)))
+    filled (k .before .before .before .before .before .before .before .args .params) _ _ _ _ _ (s .store-setup .ensures)
+    (t .store-codes .ensures) (k .clear .ensures) (k .before .before .before .codes-of .ensures)
+    (k .before .before .edition-number .ensures)))

@@ -19,4 +19,5 @@ fresh-spec =
     (λ c.
     let s = c .before .before .before .before .before .before .before .before in
     let b = c .before .before .before .before .before .before .first-broken in
-    fresh-made (s .args .params) (s .args .table .now) (b .result) (b .ensures) (c .before .before .fill .last .1 .0) (c .before .before .before .before .enum-told .given .1) (c .before .before .fill .ensures)))
+    fresh-made (s .args .params) (s .args .table .now) (b .result) (b .ensures) (c .before .before .fill .last .1 .0)
+    (c .before .before .before .before .enum-told .given .1) (c .before .before .fill .ensures)))

@@ -13,10 +13,15 @@ score-keeps-spec =
     (λ c. search needs)
     (λ c. omega arith)
     (λ c. omega arith)
-    (λ c. let s = c .before .before .before .before in omega (arith, out-small (s .args .codes .now) (s .pre .1), score-small (s .args .codes .now) (s .pre .1)))
+    (λ c. let s = c .before .before .before .before in
+    omega (arith, out-small (s .args .codes .now) (s .pre .1), score-small (s .args .codes .now) (s .pre .1)))
     (λ c. omega arith)
     (λ c. search needs)
     (λ c. omega arith)
     (λ c. omega arith)
-    (λ c. let s = c .before .before .before .before .before in score-in (map numberOf (s .args .codes .now)) (c .before .before .before .enum-told .given .1) _ (sum-out (s .args .codes .now) (s .pre .1)))
-    (λ c. let s = c .before .before .before .before in score-in (map numberOf (s .args .codes .now)) (c .before .before .enum-told2 .given .1) _ (le-score (s .args .codes .now) (s .pre .1))))
+    (λ c. let s = c .before .before .before .before .before in
+    score-in (map numberOf (s .args .codes .now)) (c .before .before .before .enum-told .given .1) _
+    (sum-out (s .args .codes .now) (s .pre .1)))
+    (λ c. let s = c .before .before .before .before in
+    score-in (map numberOf (s .args .codes .now)) (c .before .before .enum-told2 .given .1) _
+    (le-score (s .args .codes .now) (s .pre .1))))

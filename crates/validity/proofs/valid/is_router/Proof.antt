@@ -25,7 +25,9 @@ returns-2 c =
     let a = j .before in
     let i = a .before .before .before in
     clock-passes _ (subst (λ (n : ℕ). n ≤ maxTime) (i .before .load-clock .ensures) (i .if1 .left)) _ _ _ _
-    (a .accepts-codes .ensures ∙ ap₂ (λ (u : Setup) (l : List ℕ). acceptedCodes (u .edition) l) (a .before .before .load-setup .ensures) (a .before .codes .ensures))
+    (a .accepts-codes .ensures
+    ∙ ap₂ (λ (u : Setup) (l : List ℕ). acceptedCodes (u .edition) l) (a .before .before .load-setup .ensures)
+    (a .before .codes .ensures))
     (j .joined-ok .ensures)
     (s .slots-ok .ensures)
     (c .ids-distinct .ensures)
