@@ -7,12 +7,13 @@ use mathlib.Core.Path.{_≡_, refl, sym, ap, _∙_}
 use mathlib.Core.Bool.{Bool, true, false, cond, _&&_}
 use mathlib.Core.List.{List}
 use lib.Dec.{eqb}
-use lib.IntN.{ℤ}
 use borrow.Author.Tests.{eq-eqb, ne-eqb}
 use Rattle.index.specs.declared.Found.the-variants.{Nothing}
+use Rattle.params.specs.declared.Params.{Params}
 use Rattle.records.specs.declared.Peer.{Peer}
 use Rattle.records.specs.Records.{State, peerIn, setClock, setPeer, slotCount}
-use Rattle.layout.proofs.StateLaws.{peer-case, peer-other, peer-after-clock, codes-after-clock, codes-after-peer}
+use Rattle.layout.proofs.StateLaws.{peer-case, peer-other, peer-after-clock, codes-after-clock, setup-after-clock, codes-after-peer}
+use Rattle.layout.proofs.StateLaws.{setup-after-peer}
 use Rattle.lookup.specs.Find.{findConnected}
 use Rattle.lookup.proofs.FindLaws.{retained-at, empty-at, none-connected}
 use Rattle.effects.specs.Effects.{connectedAs, isMember, reclaimed}
@@ -27,7 +28,7 @@ use Rattle.call_lists.proofs.Standing.{Standing, member-connected, inbo
 use Rattle.call_lists.proofs.Replies.{After, after-refused}
 
 module _
-    (params : List ℤ)
+    (params : Params)
     (dir : ℕ → Bool)
     (st : State)
     (h : Standing params dir st)
@@ -107,6 +108,7 @@ module _
               size = size;
               router = v;
               codes = codes-after-clock u time ∙ codes-after-peer kept s p ∙ fewer .codes ∙ h .codes;
+              setup = setup-after-clock u time ∙ setup-after-peer kept s p ∙ fewer .setup ∙ h .setup;
               tied = λ i l. rw (peer-after-clock u time i) (tied-in i l);
               few = λ t k.
                   let a = h .few t k in

@@ -36,31 +36,37 @@ place-slot s t u v h k n e = n (omega arith)
 pub place-topic : (s t v : ℕ) → v ≢ t → place s v ≢ place s t
 place-topic s t v n e = n (omega arith)
 
--- ---- what stays: `Kept a b` says that b has a's clock, joined flags and codes
+-- ---- what stays: `Kept a b` says that b has a's clock, joined flags, codes and set-up
 
 pub record Kept (a b : State) : Type 0 where
   pub clock : b .clock ≡ a .clock
   pub joined : b .joined ≡ a .joined
   pub codes : b .codes ≡ a .codes
+  pub setup : b .setup ≡ a .setup
 
 pub kept-joined : {a b : State} → Kept a b → (t : ℕ) → joinedIn b t ≡ joinedIn a t
 unfolding joinedIn
 kept-joined k t = ap (λ (l : List ℕ). getD l t 0) (k .joined)
 
 pub kept-self : (st : State) → Kept st st
-kept-self st = record { clock = refl; joined = refl; codes = refl }
+kept-self st = record { clock = refl; joined = refl; codes = refl; setup = refl }
 
 pub kept-then : {a b c : State} → Kept a b → Kept b c → Kept a c
 kept-then p q =
-    record { clock = q .clock ∙ p .clock; joined = q .joined ∙ p .joined; codes = q .codes ∙ p .codes }
+    record {
+      clock = q .clock ∙ p .clock;
+      joined = q .joined ∙ p .joined;
+      codes = q .codes ∙ p .codes;
+      setup = q .setup ∙ p .setup;
+    }
 
 pub kept-peer : (st : State) (s : ℕ) (p : Peer) → Kept st (setPeer st s p)
 unfolding setPeer
-kept-peer st s p = record { clock = refl; joined = refl; codes = refl }
+kept-peer st s p = record { clock = refl; joined = refl; codes = refl; setup = refl }
 
 pub kept-topic : (st : State) (k : ℕ) (t : TopicRecord) → Kept st (setTopic st k t)
 unfolding setTopic
-kept-topic st k t = record { clock = refl; joined = refl; codes = refl }
+kept-topic st k t = record { clock = refl; joined = refl; codes = refl; setup = refl }
 
 pub kept-iter :
     (f : ℕ → State → State) (n : ℕ) (st : State) →

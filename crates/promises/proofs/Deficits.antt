@@ -9,7 +9,6 @@ use mathlib.Core.Logic.{_≢_, _⊎_, inl, inr, ⊎-elim}
 use mathlib.Core.Bool.{Bool, true, cond}
 use mathlib.Core.List.{List, map}
 use lib.Dec.{eqb}
-use lib.IntN.{ℤ}
 use lib.ListN.{getD}
 use borrow.Author.Tests.{eqb-true, eqb-false}
 use Rattle.index.specs.Index.{iter}
@@ -18,6 +17,7 @@ use Rattle.index.specs.declared.Found.the-variants.{At, Nothing}
 use Rattle.index.proofs.Index.{iter-keeps}
 use Rattle.index.proofs.Flags.{by-test, cond-case}
 use Rattle.varint.specs.Codes.{codeOf}
+use Rattle.params.specs.declared.Params.{Params}
 use Rattle.records.specs.declared.Peer.{Peer}
 use Rattle.records.specs.declared.TopicRecord.{TopicRecord}
 use Rattle.records.specs.Records.{State, noPeer, noTopic, place, codeIn, peerIn, topicIn, setClock, setJoined, setPeer, setTopic, slotCount}
@@ -217,7 +217,7 @@ module _ (st : State) (time : ℕ) where
       low-if (isHeard st t s) _ (ignored st time) (ticks _ (lower-topic st (place s t) _ (low-delivered t kind s))) (lower-clock st time)
 
 -- ---- every call
-module _ (params : List ℤ) (st : State) (ok : valid st ≡ true) (codes : st .codes ≡ map codeOf params) (size : Sized st) where
+module _ (params : Params) (st : State) (ok : valid st ≡ true) (codes : st .codes ≡ map codeOf (params .numbers)) (size : Sized st) where
   -- through the gate
   other : (c : Call) (room s t : ℕ) → Lower st (effect st c .state) → p3bIn (step st c room .state) s t ≤ p3bIn st s t
   other c room s t h =

@@ -8,13 +8,13 @@ use mathlib.Core.Logic.{_≢_, _⊎_, inl, inr}
 use mathlib.Core.Bool.{Bool, true, cond, false}
 use mathlib.Core.List.{List, [], map}
 use lib.Dec.{eqb}
-use lib.IntN.{ℤ}
 use borrow.Author.Tests.{eqb-true, eqb-false, ne-eqb, ltb-true, lt-ltb, eq-eqb}
 use Rattle.index.specs.Index.{iter}
 use Rattle.index.specs.declared.Found.the-variants.{At}
 use Rattle.index.proofs.Index.{iter-keeps}
 use Rattle.index.proofs.Flags.{by-test, cond-case}
 use Rattle.varint.specs.Codes.{codeOf}
+use Rattle.params.specs.declared.Params.{Params}
 use Rattle.records.specs.declared.Peer.{Peer}
 use Rattle.records.specs.declared.TopicRecord.{TopicRecord}
 use Rattle.records.specs.Records.{State, noPeer, noTopic, slotCount, place, codeIn, peerIn, joinedIn, setClock, setJoined, setPeer}
@@ -255,7 +255,7 @@ module _ (st : State) (time : ℕ) where
   mild-back t s = ticks _ (milder-end st s t _)
 
 -- ---- GRAFT in
-module _ (params : List ℤ) (st : State) (codes : st .codes ≡ map codeOf params) (c : Call) where
+module _ (params : Params) (st : State) (codes : st .codes ≡ map codeOf (params .numbers)) (c : Call) where
   abbrev Cause : ℕ → Type 0
   Cause s = (time : ℕ) × (t : ℕ) × (c ≡ graft time (peerIn st s .id) t) × TooEarly params st time t s
 
@@ -294,7 +294,7 @@ module _ (params : List ℤ) (st : State) (codes : st .codes ≡ map codeOf para
       (λ h s. inl (ticks st time _ (milder-topic st i t (λ r. intoMesh r time)) s))
 
 -- ---- every call
-module _ (params : List ℤ) (st : State) (ok : valid st ≡ true) (codes : st .codes ≡ map codeOf params) where
+module _ (params : Params) (st : State) (ok : valid st ≡ true) (codes : st .codes ≡ map codeOf (params .numbers)) where
   only-effect : (c : Call) → Only params st codes c (effect st c)
   unfolding effect withP5
   only-effect (connect time id group flags name) = λ s. inl ((mild-connect st time id group flags name) s)

@@ -9,7 +9,6 @@ use mathlib.Core.Logic.{_≢_, _⊎_, inl, inr, ⊎-elim}
 use mathlib.Core.Bool.{Bool, true, false, cond, not, _&&_, and-false, false≢true}
 use mathlib.Core.List.{List, [], map}
 use lib.Dec.{eqb, ltb}
-use lib.IntN.{ℤ}
 use borrow.Author.Tests.{eqb-true, ltb-true}
 use Rattle.index.specs.Index.{iter, one}
 use Rattle.index.specs.declared.Found.{Found}
@@ -17,6 +16,7 @@ use Rattle.index.specs.declared.Found.the-variants.{At, Nothing}
 use Rattle.index.proofs.Index.{both}
 use Rattle.index.proofs.Flags.{by-test, by-order, cond-case}
 use Rattle.varint.specs.Codes.{codeOf}
+use Rattle.params.specs.declared.Params.{Params}
 use Rattle.records.specs.declared.Peer.{Peer}
 use Rattle.records.specs.Records.{State, slotCount, place, peerIn, topicIn, setClock, setJoined, setPeer}
 use Rattle.layout.specs.View.{Sized}
@@ -200,7 +200,7 @@ hold-effect st (decay time) z l = hold-moved st time l _ (later-decay st time)
 hold-effect st (score time id) z l = peered st time l id _ (λ s. still st time l)
 
 -- ---- what a call shuts
-abbrev pub Shuts : List ℤ → Call → Reply → Type 0
+abbrev pub Shuts : Params → Call → Reply → Type 0
 Shuts params c r = (id t : ℕ) → t < 8 → Held (shutBy params c r id t) (r .state) id t
 
 no-test : (b : Bool) (n : ℕ) → n ≡ 0 → b && ltb 0 n ≡ false
@@ -226,7 +226,7 @@ pub quiet : (time seconds : ℕ) (r : Reply) (u id t : ℕ) → r .actions ≡ [
 unfolding times
 quiet time seconds r u id t e = told-none time seconds r u id t (rw e)
 
-module _ (params : List ℤ) (st : State) (size : Sized st) (codes : st .codes ≡ map codeOf params) where
+module _ (params : Params) (st : State) (size : Sized st) (codes : st .codes ≡ map codeOf (params .numbers)) where
   -- ---- GRAFT that is answered by a PRUNE
   module _ (time u s : ℕ) (h : s < slotCount) (k : u < 8) where
     abbrev Told2 : Reply → Type 0

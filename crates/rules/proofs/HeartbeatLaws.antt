@@ -82,8 +82,7 @@ module _ (st : State) (ok : valid st ≡ true) where
   unfolding degreesIn codeIn
   degrees-rules =
       let j = joints (st .codes) (valid-facts st ok .params) in
-      let q = j .score-out in
-      record { lo-d = j .lo-d; d-hi = j .d-hi; score-d = omega arith; out-d = omega arith }
+      record { lo-d = j .lo-d; d-hi = j .d-hi; score-d = j .score-d; out-d = omega arith }
 
 -- ---- candidates
 module _ (st : State) (time t s : ℕ) where
