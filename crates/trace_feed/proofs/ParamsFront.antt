@@ -8,8 +8,8 @@ use mathlib.Core.Bool.{true, false, false≢true}
 use mathlib.Core.List.{List, [], _∷_, _++_}
 use native.Mathlib.Omega.{arith}
 use lib.IntN.{ℤ}
-use borrow.Author.Tests.{le-leb, lt-leb}
-use lib.Dec.{eqb, leb, ltb}
+use borrow.Author.Tests.{le-leb}
+use lib.Dec.{eqb}
 use lib.ListN.{length, getD, List·getD-append}
 use Rattle.index.specs.declared.Found.{Found}
 use Rattle.index.specs.declared.Found.the-variants.{At, Nothing}
@@ -24,7 +24,8 @@ use Rattle.params.specs.Check.{firstBroken}
 use Rattle.params.specs.declared.Edition.{Edition}
 use Rattle.params.specs.declared.Params.{Params}
 use Rattle.params.specs.Editions.{sheet}
-use Rattle.params_bytes.specs.Read.{Parse, numbers, malformed, then, step, parseFrom, editionIn, frontBytes, parseAll, judgedBy, judged, frontOf}
+use Rattle.params_bytes.specs.Read.{Parse, numbers, malformed, then, step, parseFrom, judgedBy, judged, frontOf}
+use Rattle.params_bytes.specs.Read.{editionIn, frontBytes, parseAll}
 use Rattle.params_bytes.specs.declared.Verdict.{Verdict}
 use Rattle.params_bytes.specs.declared.Verdict.the-variants.{Accepted, Malformed, Broken}
 use Rattle.params_bytes.proofs.WriteLaws.{front-short}
