@@ -251,6 +251,15 @@ pub fn most_best(edition: Edition, d: i64, d_out: i64) -> i64 {
     }
 }
 
+/// A D_score that an edition allows; in edition 2 often one that edition 1 does not.
+pub fn best(edition: Edition, d: i64, d_out: i64, random: &mut Random) -> i64 {
+    let most = most_best(edition, d, d_out);
+    match edition {
+        Edition::Two if random.chance(1, 2) => random.between((d - d_out + 1).min(d), most),
+        _ => random.often_an_end(0, most),
+    }
+}
+
 /// Degrees that keep the first five joint rules.
 fn keep_degree_rules(params: &mut Params, random: &mut Random) {
     use general::*;
@@ -261,7 +270,7 @@ fn keep_degree_rules(params: &mut Params, random: &mut Random) {
     params.numbers[D_LO] = d_lo;
     params.numbers[D_HI] = random.often_an_end(d, 48);
     params.numbers[D_OUT] = d_out;
-    params.numbers[D_SCORE] = random.often_an_end(0, most_best(params.edition, d, d_out));
+    params.numbers[D_SCORE] = best(params.edition, d, d_out, random);
 }
 
 /// Thresholds that keep the sixth and the seventh rule.

@@ -118,13 +118,13 @@ fn lively(mut params: Params, random: &mut Random) -> Params {
     let d_lo = random.between(1, d);
     let most_out = (d_lo - 1).min(d / 2);
     let d_out = random.often_an_end(most_out.min(1), most_out);
-    let most_best = generate_params::most_best(params.edition, d, d_out);
+    let d_score = generate_params::best(params.edition, d, d_out, random);
     let set = |params: &mut Params, index: usize, value: i64| params.numbers[index] = value;
     set(&mut params, D, d);
     set(&mut params, D_LO, d_lo);
     set(&mut params, D_HI, random.often_an_end(d, d + 4));
     set(&mut params, D_OUT, d_out);
-    set(&mut params, D_SCORE, random.often_an_end(0, most_best));
+    set(&mut params, D_SCORE, d_score);
     let general = [
         (PRUNE_BACKOFF, 1, 20),
         (UNSUBSCRIBE_BACKOFF, 1, 20),
@@ -220,12 +220,9 @@ pub fn mesh_params(random: &mut Random) -> Params {
     let mut params = lively(Params::ordinary().in_edition(edition), random);
     let d = params.general(general::D);
     let d_out = random.between(0, (d - 1).min(d / 2));
-    let most_best = generate_params::most_best(edition, d, d_out);
-    // In edition 2 mostly so many that the quota may have to be taken from the best.
-    let least_best = if random.chance(2, 3) { most_best - d_out.min(most_best) } else { 0 };
     params.numbers[general::D_LO] = random.often_an_end(d_out + 1, d);
     params.numbers[general::D_OUT] = d_out;
-    params.numbers[general::D_SCORE] = random.often_an_end(least_best, most_best);
+    params.numbers[general::D_SCORE] = generate_params::best(edition, d, d_out, random);
     params.numbers[general::P6_THRESHOLD] = field_at(general::P6_THRESHOLD).high;
     for k in 0..TOPICS {
         params.numbers[topic_index(k, topic::WEIGHT)] = 0;
