@@ -14,7 +14,7 @@ use Rattle.index.specs.Index.{iter}
 use Rattle.index.specs.declared.Found.the-variants.{At}
 use Rattle.index.proofs.Index.{both, iter-keeps}
 use Rattle.index.proofs.Flags.{by-test, cond-case}
-use Rattle.varint.specs.Codes.{codeOf}
+use Rattle.varint.specs.Codes.{codeOf, magnitude}
 use Rattle.params.specs.declared.Params.{Params}
 use Rattle.limits.specs.Limits.{at}
 use Rattle.records.specs.declared.Peer.{Peer}
@@ -29,7 +29,7 @@ use Rattle.lookup.specs.Find.{findConnected}
 use Rattle.lookup.proofs.FindLaws.{connected-is}
 use Rattle.score.specs.Counters.{withCounters, raised3Of, firstOf, nearFirstOf, invalidOf, fadedOf, meshOf, decayedOf}
 use Rattle.score.specs.Score.{topicParamsIn}
-use Rattle.effects.specs.Effects.{magnitude, withP7, onTopic}
+use Rattle.effects.specs.Effects.{withP7, onTopic}
 use Rattle.effects.proofs.Walks.{iter-kept, iter-once, iter-before}
 use Rattle.effects.proofs.EffectLaws.{place-slot, place-topic}
 use Rattle.rules.specs.Reply.{Reply, numberOf, ignored}
