@@ -6,7 +6,7 @@ use native.Mathlib.Omega.{arith}
 use mathlib.Core.Path.{_≡_, refl, sym, ap, ap₂, _∙_}
 use mathlib.Core.Logic.{_≢_}
 use mathlib.Core.Bool.{true, false, cond, _&&_}
-use mathlib.Core.List.{List, map}
+use mathlib.Core.List.{map}
 use lib.Dec.{eqb, leb}
 use lib.IntN.{natAbs}
 use borrow.Author.Tests.{eqb-true, eqb-false, eq-eqb, ne-eqb, leb-true}
@@ -49,7 +49,8 @@ module _ (params : Params) (st : State) (codes : st .codes ≡ map codeOf (param
   placed : (p2 p3 p4 p3b mesh : ℕ) → SamePlace r (withCounters r p2 p3 p4 p3b mesh)
   placed p2 p3 p4 p3b mesh = record { subscribed = refl; member = refl; graft = refl }
 
-  raised3 : raised3Of (topicParamsIn st t) r ≡ cond (eqb (r .member) 1) (min (r .p3 + 1000) (natAbs (at (params .numbers) (19 + 16 * t + 9)))) (r .p3)
+  raised3 : raised3Of (topicParamsIn st t) r
+      ≡ cond (eqb (r .member) 1) (min (r .p3 + 1000) (natAbs (at (params .numbers) (19 + 16 * t + 9)))) (r .p3)
   unfolding raised3Of topicParamsIn
   raised3 = ap (λ (n : ℕ). cond (eqb (r .member) 1) (min (r .p3 + 1000) n) (r .p3)) (number 9)
 

@@ -23,7 +23,8 @@ use Rattle.records.specs.declared.TopicRecord.{TopicRecord}
 use Rattle.records.specs.Records.{State, noPeer, noTopic, place, codeIn, peerIn, topicIn, setClock, setJoined, setPeer, setTopic, slotCount}
 use Rattle.records.specs.Records.{isConnected}
 use Rattle.layout.specs.View.{Sized}
-use Rattle.layout.proofs.StateLaws.{topic-case, topic-after-clock, topic-after-joined, topic-after-peer, codes-after-peer, codes-after-topic}
+use Rattle.layout.proofs.StateLaws.{topic-case, topic-after-clock, topic-after-joined, topic-after-peer, codes-after-peer}
+use Rattle.layout.proofs.StateLaws.{codes-after-topic}
 use Rattle.layout.proofs.StateLaws.{peer-same, peer-other, peer-after-clock}
 use Rattle.validity.specs.Valid.{valid}
 use Rattle.validity.proofs.ValidLaws.{valid-facts}

@@ -20,7 +20,8 @@ use Rattle.records.specs.declared.TopicRecord.{TopicRecord}
 use Rattle.records.specs.Records.{State, noPeer, noTopic, slotCount, place, codeIn, peerIn, joinedIn, setClock, setJoined, setPeer}
 use Rattle.records.specs.Records.{setTopic, isConnected}
 use Rattle.layout.specs.View.{Sized}
-use Rattle.layout.proofs.StateLaws.{peer-case, peer-same, peer-other, peer-after-clock, peer-after-joined, peer-after-topic, code-after-peer}
+use Rattle.layout.proofs.StateLaws.{peer-case, peer-same, peer-other, peer-after-clock, peer-after-joined, peer-after-topic}
+use Rattle.layout.proofs.StateLaws.{code-after-peer}
 use Rattle.layout.proofs.StateLaws.{code-after-topic}
 use Rattle.validity.specs.Valid.{valid}
 use Rattle.validity.proofs.ValidLaws.{valid-facts}

@@ -113,7 +113,8 @@ module _ (st : State) (time t s : ℕ) (size : Sized st) (h : s < slotCount) (k 
   Done r = InOrTold st t s r
 
   -- p is the record that gets the end
-  back : (p : Peer) → pruneOf p (pruneBackoff st) ≡ pruneOf (peerIn st s) (pruneBackoff st) → isMember st t s ≡ false → Done (graftRefused st time t s p)
+  back : (p : Peer) → pruneOf p (pruneBackoff st) ≡ pruneOf (peerIn st s) (pruneBackoff st) → isMember st t s ≡ false →
+      Done (graftRefused st time t s p)
   unfolding graftRefused
   back p q e =
       let w = withEnd p t (endAfter time (pruneBackoff st)) in

@@ -144,7 +144,8 @@ module _ (st : State) (s : ℕ) (h : SlotIn st s) where
         topics = sym sums;
         capped = sym (rw sums (capped-is (magnitudeIn st 12) (sumOf 8 (shareAt st s))));
         p5 = sym (rw (← w .w5) (p5-is (magnitudeIn st 13) (peerIn st s .p5)));
-        p6 = sym (rw (← w .w6) (loss-is (magnitudeIn st 14) (square (surplusOf (magnitudeIn st 15) (sharing st (peerIn st s .group)))) 1000000000));
+        p6 = sym (rw (← w .w6)
+            (loss-is (magnitudeIn st 14) (square (surplusOf (magnitudeIn st 15) (sharing st (peerIn st s .group)))) 1000000000));
         p7 = sym (rw (← w .w7) (loss-is (magnitudeIn st 16) (square (peerIn st s .p7)) 1000));
       }
 

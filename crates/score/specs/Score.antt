@@ -1,7 +1,7 @@
 -- A peer's score from the router's state: the parameters' own signed numbers, the peer's record, and the number of connected peers that
 -- share its group. `whyIn` is 01's formula with its parts, `scoreIn` its score; `balanceAt` is what the code computes, and worth the same
 -- (proofs/ScoreLaws.antt).
-use Prim.Native.Nat.{ℕ, _+_, _/_, _<_}
+use Prim.Native.Nat.{ℕ, _<_}
 use mathlib.Core.Path.{_≡_}
 use mathlib.Core.Bool.{Bool, _&&_}
 use lib.Dec.{eqb}

@@ -1,6 +1,6 @@
 -- When tables are a router's (01, answer 12: "Tables are a router's if .."), sentence by sentence. A change of a range or of a rule is made
 -- here and in src/valid.rt; proofs/ValidLaws.antt says the same in plain facts.
-use Prim.Native.Nat.{ℕ, _+_, _*_, _/_}
+use Prim.Native.Nat.{ℕ, _+_, _*_}
 use mathlib.Core.Bool.{Bool, _&&_, _||_, not}
 use lib.ListN.{getD}
 use lib.Dec.{eqb, leb}

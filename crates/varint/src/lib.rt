@@ -2,7 +2,7 @@
 // The definitions are specs/Groups.antt and specs/Codes.antt. The reader and the writer are recursive, so that one law holds for every
 // width; another width is another `top` of `read_up_to`.
 ghost use mathlib.Core.Path.{_≡_};
-ghost use Prim.Native.Nat.{_+_, _/_, _≤_, _<_, _^_};
+ghost use Prim.Native.Nat.{_≤_, _<_, _^_};
 ghost use lib.IntN.{natAbs};
 ghost use lib.Signed.{mag};
 ghost use Rattle.varint.specs.Groups.{readAt, afterMore, lastGroup, putOf};

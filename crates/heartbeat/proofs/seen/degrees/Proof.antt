@@ -21,7 +21,8 @@ returns c =
     let hi = out .before in
     let d = hi .before in
     let lo = d .before in
-    degrees-are _ _ _ _ _ _ _ (lo .load-magnitude .ensures) (d .load-magnitude2 .ensures) (hi .load-magnitude3 .ensures) (out .load-magnitude4 .ensures)
+    degrees-are _ _ _ _ _ _ _ (lo .load-magnitude .ensures) (d .load-magnitude2 .ensures) (hi .load-magnitude3 .ensures)
+    (out .load-magnitude4 .ensures)
     (score .load-magnitude5 .ensures) (c .load-magnitude6 .ensures)
 
 pub degrees-spec : {M : Type 1} → statement M
