@@ -1,11 +1,11 @@
--- A recorded list: the calls made so far and the rest of the events, turn by turn; the ends of a run; and that the list is all that stands in
--- the bytes.
+-- A recorded list: the calls made so far and the rest of the events, turn by turn; the ends of a run; and that the list is all that stands
+-- in the bytes.
 -- Assumes nothing.
 use Prim.{tt}
 use Prim.Native.Nat.{ℕ, zero, suc, _+_, _-_, _<_, _≤_}
 use mathlib.Core.Path.{_≡_, refl, sym, ap, ap₂, _∙_}
 use mathlib.Core.Bool.{false, false≢true}
-use mathlib.Core.List.{List, [], _∷_, _++_}
+use mathlib.Core.List.{List, [], _∷_}
 use native.Mathlib.Omega.{arith}
 use lib.IntN.{ℤ}
 use lib.ListN.{length, set, length-append}
@@ -48,7 +48,7 @@ answers-length : (params : List ℤ) (calls : List Made) → length (answersTo p
 unfolding answersTo
 answers-length params [] = refl
 answers-length params (c ∷ before) =
-    length-append (answersTo params before) (answerCode (replyTo params before c .answer) ∷ [])
+    length-append (answersTo params before) _
     ∙ ap (λ (n : ℕ). n + 1) (answers-length params before)
     ∙ add-one (length before)
 
@@ -60,7 +60,8 @@ one-more :
 unfolding answersTo
 one-more params c before told =
     let code : ℕ = answerCode (replyTo params before c .answer) in
-    let e : length before ≡ 0 + length (answersTo params before) = sym (zero-add (length (answersTo params before)) ∙ answers-length params before) in
+    let e : length before ≡ 0 + length (answersTo params before) =
+    sym (zero-add (length (answersTo params before)) ∙ answers-length params before) in
     ap (λ (n : ℕ). set (sets told 0 (answersTo params before)) n code) e ∙ sym (sets-append told 0 (answersTo params before) (code ∷ []))
 
 actions-length : (params : List ℤ) (calls : List Made) (list : List ℕ) → length (actionsAfter params calls list) ≡ length list
@@ -69,8 +70,8 @@ actions-length params [] list = refl
 actions-length params (c ∷ before) list =
     length-sets (actionsAfter params before list) 0 (numbersOf (replyTo params before c .actions)) ∙ actions-length params before list
 
--- ---- the loop: the calls made so far, which the events from `at` on complete to the whole list. list₀ and told₀ are what stood in the lists
--- that were lent
+-- ---- the loop: the calls made so far, which the events from `at` on complete to the whole list. list₀ and told₀ are what stood in the
+-- lists that were lent
 pub record Going (params : List ℤ) (s list₀ told₀ : List ℕ) (at calls : ℕ) (table list told : List ℕ) : Type 0 where
   pub before : List Made
   pub many : length before ≡ calls
@@ -111,16 +112,19 @@ module _ (params : List ℤ) (s list₀ told₀ : List ℕ) (at calls : ℕ) (ta
         let o : step (stateOf table) (t .0) (length list) ≡ replyTo params (g .before) made =
         ap₂ (λ (st : State) (room : ℕ). step st (t .0) room) (g .state) room-is in
         let k : length told₀ - calls - 1 ≡ length told₀ - (calls + 1) = omega arith in
-        let q : callsFrom (length list₀) (length told₀ - calls) s at (g .before) ≡ callsFrom (length list₀) (length told₀ - calls - 1) s next (made ∷ g .before) =
+        let q : callsFrom (length list₀) (length told₀ - calls) s at (g .before)
+        ≡ callsFrom (length list₀) (length told₀ - calls - 1) s next (made ∷ g .before) =
         one-event (length list₀) (length told₀ - calls) s at (g .before) (event (t .0) next) (omega arith) (t .1) in
         record {
           before = made ∷ g .before;
           many = omega (arith, g .many);
           rest = ap (λ (m : ℕ). callsFrom (length list₀) m s next (made ∷ g .before)) (sym k) ∙ sym q ∙ g .rest;
-          state = p .state ∙ ap (λ (x : Event). performEvent (stateOf table) (length list) x .state) (t .1) ∙ ap (λ (y : Reply). y .state) o;
+          state = p .state ∙ ap (λ (x : Event). performEvent (stateOf table) (length list) x .state) (t .1)
+              ∙ ap (λ (y : Reply). y .state) o;
           actions =
               p .actions
-              ∙ ap₂ (λ (l : List ℕ) (x : Event). sets l 0 (numbersOf (performEvent (stateOf table) (length list) x .actions))) (g .actions) (t .1)
+              ∙ ap₂ (λ (l : List ℕ) (x : Event). sets l 0 (numbersOf (performEvent (stateOf table) (length list) x .actions))) (g .actions)
+              (t .1)
               ∙ ap (λ (y : Reply). sets (actionsAfter params (g .before) list₀) 0 (numbersOf (y .actions))) o;
           answers =
               ap₂ (λ (l : List ℕ) (n : ℕ). set l n code) (g .answers) (sym (g .many))
@@ -170,7 +174,8 @@ module _ (params : List ℤ) (s list₀ told₀ : List ℕ) (l : length params �
   holds e = demand3 params (whole .calls) (record { size = l; passes = e })
 
   -- the calls made are all
-  module _ (at calls : ℕ) (start table list told : List ℕ) (n : firstBroken params ≡ Nothing) (g : Going params s list₀ told₀ at calls table list told) where
+  module _ (at calls : ℕ) (start table list told : List ℕ) (n : firstBroken params ≡ Nothing)
+      (g : Going params s list₀ told₀ at calls table list told) where
     ran :
         (table′ list′ : List ℕ) →
         callsFrom (length list₀) (length told₀ - calls) s at (g .before) ≡ record { calls = g .before; place = at } →
@@ -206,7 +211,8 @@ module _ (params : List ℤ) (s list₀ told₀ : List ℕ) (l : length params �
         let x = leaves-all (stateOf table) (length list) (eventAt s at) f in
         ran table′ list′
         (one-event (length list₀) (length told₀ - calls) s at (g .before) (eventAt s at) (omega arith) refl
-        ∙ ends-there (length list₀) (λ next made. callsFrom (length list₀) (length told₀ - calls - 1) s next made) at (g .before) (eventAt s at) f)
+        ∙ ends-there (length list₀) (λ next made. callsFrom (length list₀) (length told₀ - calls - 1) s next made) at (g .before)
+        (eventAt s at) f)
         (p .state ∙ x .0)
         (p .actions ∙ ap (λ (m : List Action). sets list 0 (numbersOf m)) (x .1))
 
@@ -230,7 +236,8 @@ module _ (params : List ℤ) (r : Fresh) (table table′ : List ℕ) (m : Makes 
   begins e = m .state ∙ ap (λ (f : Found). leftBy f params (stateOf table)) (accepted e)
 
   pub run-refused :
-      (s list told : List ℕ) (i : ℕ) → length params ≡ paramCount → r ≡ Broken i → Runs params s (Refused i) table table′ list list told told
+      (s list told : List ℕ) (i : ℕ) → length params ≡ paramCount → r ≡ Broken i →
+      Runs params s (Refused i) table table′ list list told told
   run-refused s list told i l e =
       let f = breaks (firstBroken params) r i (m .answer) e in
       let k = m .kept i e in
@@ -270,7 +277,8 @@ all-from :
 unfolding callsFrom
 all-from room zero s at before h = past-end s at (omega arith)
 all-from room (suc m) s at before h =
-    all-next room m s at before (λ next calls. callsFrom room m s next calls) (eventAt s at) (λ next calls k. all-from room m s next calls k) refl
+    all-next room m s at before (λ next calls. callsFrom room m s next calls) (eventAt s at)
+    (λ next calls k. all-from room m s next calls k) refl
     (event-behind s at)
     h
 

@@ -77,8 +77,8 @@ abbrev pub leftOf : Found → List ℤ → Recording → State → State
 leftOf (At i) params q st = st
 leftOf Nothing params q st = after params (q .calls)
 
--- 01's number of an answer, and the values that go with it: 9 with the first index or 200 + the first rule; 0 with the place after the last event
--- and how many calls were made
+-- 01's number of an answer, and the values that go with it: 9 with the first index or 200 + the first rule; 0 with the place after the last
+-- event and how many calls were made
 abbrev pub recordedNumber : Recorded → ℕ
 recordedNumber (Refused i) = 9
 recordedNumber (Ran place calls) = 0

@@ -14,8 +14,9 @@ pub enum Recorded {
     Ran(usize, usize),
 }
 
-// Makes a fresh router with these parameters, and calls the events of the bytes, up to the first that is unknown, malformed or cut short, or
-// as many as there is room for answers: the lent list `told` takes one number for each. All calls are lent the same action list, of any length.
+// Makes a fresh router with these parameters, and calls the events of the bytes, up to the first that is unknown, malformed or cut short,
+// or as many as there is room for answers: the lent list `told` takes one number for each. All calls are lent the same action list, of any
+// length.
 pub fn run(
     params: Params,
     s: &[u8],

@@ -1,5 +1,5 @@
--- `trace_run::run`: refused parameters, or the calls made so far, their answers and their actions, turn by turn, up to the first event that is
--- not whole. Assumes nothing.
+-- `trace_run::run`: refused parameters, or the calls made so far, their answers and their actions, turn by turn, up to the first event that
+-- is not whole. Assumes nothing.
 use Prim.Native.Nat.{_-_}
 use mathlib.Core.Path.{_≡_, refl}
 use mathlib.Core.List.{List}
@@ -50,7 +50,8 @@ loop-again c =
       (
         simp length-set k,
         λ params e.
-            going-more params _ _ _ _ _ _ _ _ _ _ _ (l .inv .1 .1 params e) (omega arith) (c .before .before .before .before .before .before .perform .ensures) _ _ (c .before .before .next .given .1) _
+            going-more params _ _ _ _ _ _ _ _ _ _ _ (l .inv .1 .1 params e) (omega arith)
+            (c .before .before .before .before .before .before .perform .ensures) _ _ (c .before .before .next .given .1) _
             (c .code .ensures),
       ),
     )
