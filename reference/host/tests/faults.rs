@@ -383,7 +383,7 @@ fn a_wrong_wait_after_a_backoff_is_seen() {
         (
             "our own GRAFT waits a millisecond too short",
             with_ends_in!(Heartbeat, |end, now| {
-                if end > 0 && now + 1 == end + SLACK {
+                if end > 0 && now == end + SLACK - 1 {
                     0
                 } else {
                     end
