@@ -202,9 +202,16 @@ impl Damages<'_> {
     fn edition(&mut self) {
         self.add("edition: 0", &[(EDITION, 0)]);
         self.add("edition: 3", &[(EDITION, 3)]);
-        let only_2 = self.router.params.clone().in_edition(Edition::One).first_broken().is_some();
+        let mut params = self.router.params.clone();
+        params.numbers[general::D_SCORE] = params.general(general::D);
+        let second = params.clone().in_edition(Edition::Two);
+        let only_2 = second.first_broken().is_none()
+            && params.in_edition(Edition::One).first_broken().is_some();
+        let d_score = second.general(general::D_SCORE);
         let kind = "edition: 1 of parameters that only edition 2 takes";
-        self.add_if(only_2, kind, &[(EDITION, edition_cell(Edition::One))]);
+        let first = (EDITION, edition_cell(Edition::One));
+        let most = (CODES + general::D_SCORE, code_from_signed(d_score));
+        self.add_if(only_2, kind, &[first, most]);
     }
 
     /// "Empty records are all zero".
