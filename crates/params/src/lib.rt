@@ -173,7 +173,7 @@ struct Parsed {
 }
 
 // The field of number i.
-fn field_of(i: usize) -> usize
+pub fn field_of(i: usize) -> usize
     requires { ⌜ i < 147 ⌝ }
     ensures { λ r. ⌜ (r ≡ fieldOf i) × (r < 35) ⌝ }
 {
@@ -188,7 +188,7 @@ fn limits() -> [Limit; 35]
 }
 
 // The limits of number i.
-fn limit_of(i: usize) -> Limit
+pub fn limit_of(i: usize) -> Limit
     requires { ⌜ i < 147 ⌝ }
     ensures { λ r. ⌜ r ≡ limitAt (fieldOf i) ⌝ }
 {
@@ -360,7 +360,7 @@ fn parse(s: &[u8]) -> Parsed
 }
 
 // A refusal, with zeros for the parameters.
-fn refused(verdict: Verdict) -> Reading
+pub fn refused(verdict: Verdict) -> Reading
     ensures { λ r. ⌜ r ≡ refusal verdict ⌝ }
 {
     let numbers = [0i64; 147];
@@ -372,7 +372,7 @@ fn refused(verdict: Verdict) -> Reading
 
 impl Params {
     // What is answered where the numbers are read and `next` is the place after them.
-    fn judged(self, next: usize) -> Reading
+    pub fn judged(self, next: usize) -> Reading
         ensures { λ r. ⌜ r ≡ judgedBy (firstBroken (self .numbers)) (self .numbers) next ⌝ }
     {
         match self.first_broken() {
