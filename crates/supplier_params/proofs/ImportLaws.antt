@@ -58,12 +58,8 @@ taken-none s xs l =
       most = omega arith;
       len = l;
       whole = first-none (brokenAt s);
-      front = none xs ∙ sym (gather-none (valueAt s));
+      front = sym (gather-none (valueAt s));
     }
-  where
-    none : (ys : List ℤ) → take 0 ys ≡ []
-    none [] = refl
-    none (y ∷ ys) = refl
 
 module _ (s : List ℕ) (i : ℕ) (xs : List ℤ) (r : Number) (t : Taken s i xs) (h : i < 147) (e : r ≡ numberAt s i) where
   pub taken-more : (z : ℤ) → r ≡ Is z → Taken s (i + 1) (set xs i z)

@@ -33,7 +33,8 @@ use Rattle.supplier_entry.specs.Bytes.{lowFirst, lowBytes}
 use Rattle.supplier_entry.specs.Entries.{contentOf}
 use Rattle.supplier_entry.specs.Entries as entry
 use Rattle.supplier_entry.proofs.ByteLaws.{first-bytes, bytes-first, first-lt}
-use Rattle.supplier_entry.proofs.RoundTrip.{imports, content-lt, exports-back}
+use Rattle.supplier_entry.proofs.RoundTrip.{imports, content-lt}
+use Rattle.supplier_entry.proofs.RoundTrip as one
 use Rattle.supplier_params.specs.Forms.{supplierBytes, formAt}
 use Rattle.supplier_params.specs.Import.{entryAt, entryNumber, numberAt, isBroken, value, brokenAt, valueAt, Outcome, numbers, broken, outcomeBy, entriesOf, judged, importOf}
 use Rattle.supplier_params.specs.Export.{entryBytes, bytesAt, bytesOf, exportBy, exportOf}
@@ -59,8 +60,7 @@ block-at xs (suc n) i h =
 
 blocks : (s : List ℕ) (n : ℕ) → gather n (entryAt s) ≡ take (9 * n) s
 unfolding gather entryAt
-blocks [] zero = refl
-blocks (y ∷ s) zero = refl
+blocks s zero = refl
 blocks s (suc n) =
     let e : 9 * suc n ≡ 9 * n + 9 = omega arith in
     rw (blocks s n, e) (sym (take-add (9 * n) 9 s))
@@ -85,11 +85,7 @@ module _ (xs : List ℤ) (ok : firstBroken xs ≡ Nothing) (len : length xs ≡ 
 
   values-back : (n : ℕ) → n ≤ 147 → gather n (valueAt (bytesOf xs)) ≡ take n xs
   unfolding gather valueAt
-  values-back zero h = sym (take-none xs)
-    where
-      take-none : (ys : List ℤ) → take 0 ys ≡ []
-      take-none [] = refl
-      take-none (y ∷ ys) = refl
+  values-back zero h = refl
   values-back (suc n) h =
       rw (values-back n (omega arith), number-back n (omega arith))
       (sym (take-suc xs n (pos 0) (omega (arith, len))))
@@ -201,7 +197,9 @@ module _ (s : List ℕ) (bytes : (k : ℕ) → getD s k 0 < 256) (len : length s
   entry-bytes i h k =
       by-order (getD (take 9 (drop (9 * i) s)) k 0 < 256) k 9
       (λ l. rw (getD-take 9 (drop (9 * i) s) k 0 l, getD-drop (9 * i) s k 0) (bytes (9 * i + k)))
-      (λ g. rw (List·getD-eq-default (take 9 (drop (9 * i) s)) k 0 (omega (arith, length-take 9 (drop (9 * i) s)))) (omega arith))
+      (λ g.
+      let short : length (take 9 (drop (9 * i) s)) ≤ k = omega (arith, length-take 9 (drop (9 * i) s)) in
+      rw (List·getD-eq-default (take 9 (drop (9 * i) s)) 0 short) (omega arith))
 
   entry-length : (i : ℕ) → i < 147 → length (entryAt s i) ≡ 9
   unfolding entryAt
@@ -220,9 +218,10 @@ module _ (s : List ℕ) (bytes : (k : ℕ) → getD s k 0 < 256) (len : length s
       let eight : length rest ≡ 8 = (let l = sym (entry-length i h) ∙ ap length q in omega arith) in
       let lt : lowFirst rest < 2 ^ 64 = rw eight at (first-lt rest small) in
       let n : entry.importOf form (limitAt (fieldOf i)) kind (lowFirst rest) ≡ Is z = sym (ap (entryNumber form (limitAt (fieldOf i))) q) ∙ number-found i h in
-      let b = exports-back form (limitAt (fieldOf i)) kind (lowFirst rest) z lt n in
-      rw (at-found i h, ← b .0, b .1)
-      (ap (λ (r : List ℕ). kind ∷ r) (ap (λ (k : ℕ). lowBytes k (lowFirst rest)) (sym eight) ∙ bytes-first rest small))
+      let b = one.exports-back form (limitAt (fieldOf i)) kind (lowFirst rest) z lt n in
+      ap (entryBytes form) (at-found i h)
+      ∙ ap₂ (λ (k u : ℕ). k ∷ lowBytes 8 u) (sym (b .0)) (b .1)
+      ∙ ap (λ (r : List ℕ). kind ∷ r) (ap (λ (k : ℕ). lowBytes k (lowFirst rest)) (sym eight) ∙ bytes-first rest small)
 
   bytes-again : bytesOf (gather 147 (valueAt s)) ≡ s
   unfolding bytesOf
@@ -268,12 +267,12 @@ import-is-accepted s n e = sized (eqb (length s) supplierBytes) refl
     sized true t = passed t (first 147 (brokenAt s)) refl (rw t at e)
     sized false t = let d : Malformed (length s) ≡ Accepted n = rw t at e in let z : _≡_ {A = ℕ} 0 1 = cc in absurd (omega arith)
 
-pub exports-back-all : ExportsBack
+pub exports-back : ExportsBack
 unfolding exportOf
-exports-back-all s buf n bytes room e =
+exports-back s buf n bytes room e =
     let a = import-is-accepted s n e in
     let xs = gather 147 (valueAt s) in
     let b = bytes-again s bytes (a .0) (a .1) in
     (a .3 ∙ sym (a .0),
     rw (a .4, le-ltb (length buf) supplierBytes room, a .2, b, a .3)
-    (ap (λ (o : List ℕ). record { answer = Done supplierBytes; bytes = o }) (sets-eq s buf 0 (omega (arith, a .0)) ∙ ?)))
+    (ap (λ (o : List ℕ). record { answer = Done supplierBytes; bytes = o }) (sets-eq s buf 0 (omega (arith, a .0)) ∙ rw (zero-add (length s), a .0))))

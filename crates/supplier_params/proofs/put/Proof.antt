@@ -39,6 +39,6 @@ put-spec =
     let l = c .before .before .before .before .before .before .before .loop in
     let s = c .before .before .before .before .before .before .before .before .before in
     let f = sfits-of {w = w64} {z = getD (s .args .t1 .numbers) (l .i) (pos 0)} (c .before .before .before .before .before .export-arg .given) in
-    put-more (s .args .t1 .numbers) (l .i) _ (l .buf) _ _ (c .before .before .before .before .before .before .loop-test .taken) (l .inv) (c .before .before .before .before .form-of .ensures) (c .before .before .export .kept .0) (rw (toZ-ofZ f) at (c .before .before .export .ensures)))
+    put-more (s .args .t1 .numbers) (l .i) _ (l .buf) _ _ (c .before .before .before .before .before .before .loop-test .taken) (l .inv) (c .before .before .before .before .form-of .ensures) (c .before .before .export .kept .1 .1 .0) (rw (toZ-ofZ f) at (c .before .before .export .ensures)))
     (λ c. c .before .loop .inv .same)
     (λ c. let l = c .before .loop in put-all (c .before .before .before .args .t1 .numbers) (l .i) _ _ (c .loop-test .left) (l .inv)))
