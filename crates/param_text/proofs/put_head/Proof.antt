@@ -1,13 +1,13 @@
--- `show_params::put_head` meets its contract. Assumes nothing.
+-- `param_text::put_head` meets its contract. Assumes nothing.
 use Prim.Native.Nat.{_≤_}
 use borrow.Author.Needs.{needs}
 use native.Mathlib.Omega.{arith}
 use lib.ListN.{length}
 use Rattle.text.specs.Text.{decimal}
 use Rattle.text.proofs.TextLaws.{decimal-length}
-use Rattle.show_params.proofs.ShowLaws.{head-stored}
-use Rattle.show_params.proofs.put_head.Statement.{statement}
-use Rattle.show_params.proofs.put_head.Tie as tie
+use Rattle.param_text.proofs.LineLaws.{head-stored}
+use Rattle.param_text.proofs.put_head.Statement.{statement}
+use Rattle.param_text.proofs.put_head.Tie as tie
 
 -- how long the two numbers are
 sizes : (c : tie.Start) → (length (decimal (c .args .number)) ≤ 20) × (length (decimal (c .args .value)) ≤ 20)

@@ -1,10 +1,10 @@
--- `show_params::put_line` meets its contract. Assumes nothing.
+-- `param_text::put_line` meets its contract. Assumes nothing.
 use borrow.Author.Needs.{needs}
 use native.Mathlib.Omega.{arith}
 use mir.Facts.{toZ-ofZ}
-use Rattle.show_params.proofs.ShowLaws.{fits-length, line-stored}
-use Rattle.show_params.proofs.put_line.Statement.{statement}
-use Rattle.show_params.proofs.put_line.Tie as tie
+use Rattle.param_text.proofs.LineLaws.{fits-length, line-stored}
+use Rattle.param_text.proofs.put_line.Statement.{statement}
+use Rattle.param_text.proofs.put_line.Tie as tie
 
 pub put-line-spec : {M : Type 1} → statement M
 put-line-spec =
