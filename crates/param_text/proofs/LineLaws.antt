@@ -46,19 +46,20 @@ line-stored z at b₀ b₁ b₂ p₁ p₂ f s t =
     let u : Stored b₀ at (signedText z) p₁ b₁ = rw (toZ-ofZ f) at s in
     (stored-then b₀ at p₁ (signedText z) b₁ p₂ (10 ∷ []) b₂ u t, omega (arith, fits-length z f, u .0, t .0))
 
--- ---- the lines of the first i numbers
-pub lines-none : (xs : List ℤ) (at : ℕ) (b : List ℕ) → Stored b at (gather 0 (lineAt xs)) at b
-lines-none xs at b = rw (gather-none (lineAt xs)) (omega arith, refl)
+-- ---- the first i of lines that f gives
+module _ (f : ℕ → List ℕ) where
+  pub lines-none : (at : ℕ) (b : List ℕ) → Stored b at (gather 0 f) at b
+  lines-none at b = rw (gather-none f) (omega arith, refl)
 
-pub lines-more :
-    (xs : List ℤ) (i at : ℕ) (b₀ b₁ b₂ : List ℕ) (p₁ p₂ : ℕ) →
-    Stored b₀ at (gather i (lineAt xs)) p₁ b₁ →
-    Stored b₁ p₁ (lineAt xs i) p₂ b₂ →
-    Stored b₀ at (gather (i + 1) (lineAt xs)) p₂ b₂
-lines-more xs i at b₀ b₁ b₂ p₁ p₂ s t =
-    rw
-    (gather-more (lineAt xs) i)
-    (stored-then b₀ at p₁ (gather i (lineAt xs)) b₁ p₂ (lineAt xs i) b₂ s t)
+  pub lines-more :
+      (i at : ℕ) (b₀ b₁ b₂ : List ℕ) (p₁ p₂ : ℕ) →
+      Stored b₀ at (gather i f) p₁ b₁ →
+      Stored b₁ p₁ (f i) p₂ b₂ →
+      Stored b₀ at (gather (i + 1) f) p₂ b₂
+  lines-more i at b₀ b₁ b₂ p₁ p₂ s t =
+      rw
+      (gather-more f i)
+      (stored-then b₀ at p₁ (gather i f) b₁ p₂ (f i) b₂ s t)
 
 pub lines-all :
     (xs : List ℤ) (i at : ℕ) (b₀ b₁ : List ℕ) (p : ℕ) →

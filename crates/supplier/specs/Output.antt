@@ -1,4 +1,4 @@
--- What the program prints of its input, whose first byte is the mode. The comparison with the second program goes by this form.
+-- What the program answers to its input: a mode and the bytes after it. The comparison with the second program goes by this form.
 use Prim.Native.Nat.{ℕ, _+_, _/_, _%_}
 use mathlib.Core.Bool.{cond}
 use mathlib.Core.List.{List, [], _∷_, _++_}
@@ -18,7 +18,20 @@ use Rattle.params.specs.declared.Reading.{Reading}
 use Rattle.supplier_params.specs.Import.{importOf, entryAt}
 use Rattle.supplier_params.specs.Export.{bytesOf}
 
--- ---- an entry in text: its kind, a space (32), its eight bytes in base 16, as they stand in the file, and the end of the line (10)
+-- the line `0`
+abbrev pub doneText : List ℕ
+doneText = 48 ∷ 10 ∷ []
+
+-- ---- `i`: 01's number and the value that goes with it, or `0` and the numbers
+abbrev pub numbersOutput : Verdict → List ℤ → List ℕ
+numbersOutput (Accepted n) xs = doneText ++ numbersText xs
+numbersOutput (Malformed place) xs = headText 10 place
+numbersOutput (Broken i) xs = headText 9 i
+
+unfoldable pub importText : Reading → List ℕ
+importText r = numbersOutput (r .verdict) (r .params .numbers)
+
+-- ---- `e`: the same, or `0` and the entries; each has its kind, a space (32), its eight bytes as they stand in the file, and an end of line (10)
 abbrev pub hexDigit : ℕ → ℕ
 hexDigit d = cond (ltb d 10) (48 + d) (87 + d)
 
@@ -30,21 +43,45 @@ abbrev pub entryText : List ℕ → List ℕ
 entryText [] = []
 entryText (kind ∷ bytes) = ((decimal kind ++ (32 ∷ [])) ++ hexText bytes) ++ (10 ∷ [])
 
+abbrev pub entryTextAt : List ℕ → ℕ → List ℕ
+entryTextAt s i = entryText (entryAt s i)
+
 unfoldable pub entriesText : List ℕ → List ℕ
-entriesText s = gather 147 (λ i. entryText (entryAt s i))
+entriesText s = gather 147 (entryTextAt s)
 
--- the line `0`
-abbrev pub doneText : List ℕ
-doneText = 48 ∷ 10 ∷ []
+abbrev pub entriesOutput : Found → List ℤ → List ℕ
+entriesOutput (At i) xs = headText 9 i
+entriesOutput Nothing xs = doneText ++ entriesText (bytesOf xs)
 
--- ---- a refused reading: its number and its value
-abbrev pub refusedText : Verdict → List ℕ
-refusedText (Accepted n) = []
-refusedText (Malformed place) = headText 10 place
-refusedText (Broken i) = headText 9 i
+abbrev pub exportOutput : Verdict → List ℤ → List ℕ
+exportOutput (Accepted n) xs = entriesOutput (firstBroken xs) xs
+exportOutput (Malformed place) xs = headText 10 place
+exportOutput (Broken i) xs = headText 9 i
 
--- ---- `i`: the supplier's bytes, read
-abbrev pub numbersOutput : Verdict → List ℤ → List ℕ
-numbersOutput (Accepted n) xs = doneText ++ numbersText xs
-numbersOutput (Malformed place) xs = headText 10 place
-numbersOutput (Broken i) xs = headText 9 i
+unfoldable pub exportText : Reading → List ℕ
+exportText r = exportOutput (r .verdict) (r .params .numbers)
+
+-- ---- `I` and `E`: the bytes of parameters that 01's rules allow, or nothing
+abbrev pub unless : Found → List ℕ → List ℕ
+unless (At i) bytes = []
+unless Nothing bytes = bytes
+
+abbrev pub allowed : Verdict → List ℤ → List ℕ → List ℕ
+allowed (Accepted n) xs bytes = unless (firstBroken xs) bytes
+allowed (Malformed place) xs bytes = []
+allowed (Broken i) xs bytes = []
+
+unfoldable pub importBytes : Reading → List ℕ
+importBytes r = allowed (r .verdict) (r .params .numbers) (own.bytesOf (r .params .numbers))
+
+unfoldable pub exportBytes : Reading → List ℕ
+exportBytes r = allowed (r .verdict) (r .params .numbers) (bytesOf (r .params .numbers))
+
+-- ---- by the mode: 105 is `i`, 101 `e`, 73 `I`, 69 `E`
+unfoldable pub outputOf : ℕ → List ℕ → List ℕ
+outputOf mode s =
+    cond (eqb mode 105) (importText (importOf s))
+    (cond (eqb mode 101) (exportText (readOf s))
+    (cond (eqb mode 73) (importBytes (importOf s))
+    (cond (eqb mode 69) (exportBytes (readOf s))
+    (headText 2 0))))

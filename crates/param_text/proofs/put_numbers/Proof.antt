@@ -31,7 +31,7 @@ put-numbers-spec =
     (tie.spec
     Inv-loop
     μ-loop
-    (λ c. (omega arith, refl, omega arith, lines-none (c .before .args .t3) _ _))
+    (λ c. (omega arith, refl, omega arith, lines-none (lineAt (c .before .args .t3)) _ _))
     (λ c. omega arith)
     (λ c. search needs)
     (λ c κs. omega arith)
@@ -41,7 +41,7 @@ put-numbers-spec =
     let l = c .before .before .before .before .before .before .loop in
     let f : SFits w64 (getD (c .before .before .before .before .before .before .before .before .args .t3) (l .i) (pos 0)) = sfits-of (c .before .before .before .put-line-arg2 .given) in
     let s = c .before .before .put-line .ensures in
-    (omega arith, c .before .before .put-line .kept .0 ∙ l .inv .1, omega arith, lines-more (c .before .before .before .before .before .before .before .before .args .t3) _ _ (c .before .before .before .before .before .before .before .before .args .buf .now) _ _ _ _ (l .inv .3) (rw (toZ-ofZ f) at (s .0))))
+    (omega arith, c .before .before .put-line .kept .0 ∙ l .inv .1, omega arith, lines-more (lineAt (c .before .before .before .before .before .before .before .before .args .t3)) _ _ (c .before .before .before .before .before .before .before .before .args .buf .now) _ _ _ _ (l .inv .3) (rw (toZ-ofZ f) at (s .0))))
     (λ c. search needs)
     (λ c.
     let l = c .before .loop in

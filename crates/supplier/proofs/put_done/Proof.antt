@@ -1,0 +1,10 @@
+-- `supplier::put_done` meets its contract. Assumes nothing.
+use native.Mathlib.Omega.{arith}
+use borrow.Author.Needs.{needs}
+use Rattle.supplier.proofs.TextLaws.{done-stored}
+use Rattle.supplier.proofs.put_done.Statement.{statement}
+use Rattle.supplier.proofs.put_done.Tie as tie
+
+pub put-done-spec : {M : Type 1} → statement M
+put-done-spec =
+    tie.close (tie.spec (λ c κs. search needs) (λ c κs. search needs) (λ c. search needs) (λ c. search (done-stored, needs)))
