@@ -18,17 +18,17 @@
  *
  * WHAT EVERY CALL PROMISES
  *
- * No call needs a check before it. Every number, name, permutation, list length and table content is taken: what is bad is
+ * No call needs a check before it. Any number, name, permutation, list length and table content may be passed: what is bad is
  * refused by a number (below), and a call that refuses changes nothing, neither the table nor the list. A call that is
  * ignored (11) moves the router's clock and nothing else. Every call ends, and none traps.
  *
  * MEMORY
  *
- * All memory is yours, and is lent for the length of one call; nothing is kept between calls but what stands in the table.
+ * All memory is yours, and is lent for the length of one call; nothing is kept between calls but the table.
  *
- * - The table, HIVEPADLET_CELLS numbers of 64 bits (42,720 bytes), is the whole router. Any number of routers may stand side
- *   by side, one table each. A table may be copied, saved and restored as bytes on the same machine. Only the calls write it;
- *   one that damage made no router's is refused (12).
+ * - The table, HIVEPADLET_CELLS numbers of 64 bits (42,720 bytes), is the whole router. You may have any number of routers, one
+ *   table each. A table may be copied, saved and restored as bytes on the same machine. Only the calls write it; a damaged
+ *   table is refused (12).
  * - The action list is HIVEPADLET_ACTION_NUMBERS numbers of 32 bits, or more; under that, a call refuses (8). A call writes its
  *   actions from the start of the list and leaves the numbers past them as they were. One list may serve all calls.
  * - Lengths count elements, not bytes.
@@ -36,7 +36,7 @@
  *   measured by tests/host_stack.c and not proved. No input makes it grow: no function calls itself but the reader and the writer
  *   of one parameter, ten deep at most.
  *
- * What C cannot tell a call, you owe: a pointer is aligned, is not NULL (also where its length is 0), points to as much memory
+ * What C cannot check is up to you: a pointer is aligned, is not NULL (also where its length is 0), points to as much memory
  * as its type and length say, and what a call writes overlaps nothing else that it is given. Calls on one table must not
  * overlap in time, from two threads or from an interrupt. Calls on different tables may.
  *
@@ -102,13 +102,13 @@ extern "C" {
 /* ---- why a score is what it is: five parts, then the score, which is the sum of the four before it; all in 10^-9 points */
 
 enum hivepadlet_why {
-    HIVEPADLET_WHY_TOPICS = 0, /* all topics together, before the topic cap: time in the mesh (P1) and first deliveries (P2) raise
-                                  it; too few deliveries of a mesh member (P3), the same when it was pruned (P3b) and invalid
+    HIVEPADLET_WHY_TOPICS = 0, /* all topics together, before the topic cap: time in mesh (P1) and first message deliveries (P2)
+                                  raise it; mesh message delivery deficit (P3), mesh failure penalty (P3b) and invalid
                                   messages (P4) lower it */
     HIVEPADLET_WHY_CAPPED = 1, /* the same, cut to the topic cap where it is above it: what counts in the score */
-    HIVEPADLET_WHY_P5 = 2,     /* the host's own points for the peer (hivepadlet_rate) times W5 */
-    HIVEPADLET_WHY_P6 = 3,     /* never above 0: more connected peers of its address group than P6_THRESHOLD */
-    HIVEPADLET_WHY_P7 = 4,     /* never above 0: GRAFTs that it sent during a backoff */
+    HIVEPADLET_WHY_P5 = 2,     /* application-specific score: the host's points for the peer (hivepadlet_rate) times W5 */
+    HIVEPADLET_WHY_P6 = 3,     /* IP colocation, never above 0: connected peers of its address group above P6_THRESHOLD */
+    HIVEPADLET_WHY_P7 = 4,     /* behaviour penalty, never above 0: GRAFTs that it sent during a backoff */
     HIVEPADLET_WHY_SCORE = 5   /* below 0 the peer is put out of every mesh; below GRAYLIST_THRESHOLD it is not heard */
 };
 
@@ -183,34 +183,34 @@ enum hivepadlet_general {
     HIVEPADLET_D_SCORE = 4,                  /* 0..48: the best that a cut keeps */
     HIVEPADLET_PRUNE_BACKOFF = 5,            /* 1..3600 seconds */
     HIVEPADLET_UNSUBSCRIBE_BACKOFF = 6,      /* 1..3600 seconds */
-    HIVEPADLET_RETAIN = 7,                   /* 0..86400 seconds for which the record of a disconnected peer stands */
+    HIVEPADLET_RETAIN = 7,                   /* 0..86400 seconds for which the record of a disconnected peer is kept */
     HIVEPADLET_OPPORTUNISTIC_THRESHOLD = 8,  /* 0..10^6 */
     HIVEPADLET_GRAYLIST_THRESHOLD = 9,       /* -10^9..-1: below it a peer is not heard */
     HIVEPADLET_GOSSIP_THRESHOLD = 10,        /* -10^9..-1: for the host's own use */
     HIVEPADLET_PUBLISH_THRESHOLD = 11,       /* -10^9..-1: for the host's own use */
     HIVEPADLET_TOPIC_CAP = 12,               /* 0..10^9: most that all topics together add to a score; 0 is none */
-    HIVEPADLET_W5 = 13,                      /* 1..100: weight of P5, the host's own points */
-    HIVEPADLET_W6 = 14,                      /* -100..-1: weight of P6, peers that share an address group */
-    HIVEPADLET_P6_THRESHOLD = 15,            /* 1..64 peers that may share a group freely */
-    HIVEPADLET_W7 = 16,                      /* -100..-1: weight of P7, GRAFTs during a backoff */
+    HIVEPADLET_W5 = 13,                      /* 1..100: weight of P5, application-specific score */
+    HIVEPADLET_W6 = 14,                      /* -100..-1: weight of P6, IP colocation */
+    HIVEPADLET_P6_THRESHOLD = 15,            /* 1..64: peers that may share an address group freely */
+    HIVEPADLET_W7 = 16,                      /* -100..-1: weight of P7, behaviour penalty */
     HIVEPADLET_P7_DECAY = 17,                /* 1..999 */
     HIVEPADLET_DECAY_TO_ZERO = 18            /* 0..1000: a counter below it becomes 0 */
 };
 
 enum hivepadlet_of_topic {
     HIVEPADLET_WEIGHT = 0,        /* 0..1000 thousandths */
-    HIVEPADLET_W1 = 1,            /* 0..100: weight of P1, time in the mesh */
+    HIVEPADLET_W1 = 1,            /* 0..100: weight of P1, time in mesh */
     HIVEPADLET_P1_QUANTUM = 2,    /* 1..3600000 ms */
     HIVEPADLET_P1_CAP = 3,        /* 0..1000 quanta */
-    HIVEPADLET_W2 = 4,            /* 0..100: weight of P2, first deliveries */
+    HIVEPADLET_W2 = 4,            /* 0..100: weight of P2, first message deliveries */
     HIVEPADLET_P2_DECAY = 5,      /* 1..999 */
     HIVEPADLET_P2_CAP = 6,        /* 0..10^6 */
-    HIVEPADLET_W3 = 7,            /* -100..0: weight of P3, too few deliveries of a mesh member */
+    HIVEPADLET_W3 = 7,            /* -100..0: weight of P3, mesh message delivery deficit */
     HIVEPADLET_P3_DECAY = 8,      /* 1..999 */
     HIVEPADLET_P3_CAP = 9,        /* 1..10^6 */
     HIVEPADLET_P3_THRESHOLD = 10, /* 1..10^6 */
     HIVEPADLET_P3_ACTIVATION = 11, /* 0..3600000 ms in the mesh, past which P3 counts */
-    HIVEPADLET_W3B = 12,          /* -100..0: weight of P3b, the deficit of a member that was pruned */
+    HIVEPADLET_W3B = 12,          /* -100..0: weight of P3b, mesh failure penalty */
     HIVEPADLET_P3B_DECAY = 13,    /* 1..999 */
     HIVEPADLET_W4 = 14,           /* -100..0: weight of P4, invalid messages */
     HIVEPADLET_P4_DECAY = 15      /* 1..999 */
@@ -234,16 +234,16 @@ enum hivepadlet_rule {
 /* Writes the ordinary parameters, which are accepted: D_lo 4, D 6, D_hi 12, D_out 2, D_score 4, backoffs 60 and 10 s. */
 void hivepadlet_ordinary(int64_t numbers[HIVEPADLET_NUMBERS]);
 
-/* Reads parameters from bytes, all of them. 0 with the length, or 10, or 9; the numbers are written with 0 alone. */
+/* Reads parameters from bytes, all of them. 0 with the length, or 10, or 9; the numbers are written only with 0. */
 uint64_t hivepadlet_read(const uint8_t *bytes, size_t length, int64_t numbers[HIVEPADLET_NUMBERS]);
 
 /* Writes parameters to the start of a buffer of at least HIVEPADLET_PARAMETER_BYTES. 0 with the length, or 8, or 9. What is
- * read from these bytes is the same numbers; the bytes past them stand. */
+ * read from these bytes is the same numbers; the bytes past them are unchanged. */
 uint64_t hivepadlet_write(const int64_t numbers[HIVEPADLET_NUMBERS], uint8_t *buffer, size_t length);
 
 /* ---- the router */
 
-/* Makes a fresh router, whatever stood in the table: clock 0, no topic joined, no peer. 0 or 9. */
+/* Makes a fresh router, whatever was in the table: clock 0, no topic joined, no peer. 0 or 9. */
 uint64_t hivepadlet_fresh(const int64_t numbers[HIVEPADLET_NUMBERS], uint64_t table[HIVEPADLET_CELLS]);
 
 /* 1 if the table is a router's, else 0. Every call makes this test itself. */
@@ -258,20 +258,20 @@ enum hivepadlet_flag {
 
 /* A peer connects. group: its address group, any 32-bit number, as the first bytes of its address. flags: the sum of the above.
  * name: the protocol it speaks, "/meshsub/1.0.0" or "/meshsub/1.1.0", with no closing zero. A peer that comes back while its
- * record stands finds its counters and backoffs again. 0, or 6, 4, 5. */
+ * record is kept has its counters and backoffs again. 0, or 6, 4, 5. */
 uint64_t hivepadlet_connect(uint64_t table[HIVEPADLET_CELLS], uint64_t time, uint64_t id, uint64_t group, uint64_t flags,
                             const uint8_t *name, size_t name_length, uint32_t *actions, size_t actions_length);
 
-/* A peer disconnects: it leaves every mesh and loses its subscriptions; its record stands for the retain seconds, and as long
- * as a backoff runs. 0, or 3. */
+/* A peer disconnects: it leaves every mesh and loses its subscriptions; its record is kept for the retain seconds, and as
+ * long as a backoff runs. 0, or 3. */
 uint64_t hivepadlet_disconnect(uint64_t table[HIVEPADLET_CELLS], uint64_t time, uint64_t id, uint32_t *actions,
                                size_t actions_length);
 
-/* Sets P5 of a peer, the host's own points: millionths of a point, -10^9 to 10^9. 0, or 3. */
+/* Sets P5 of a peer, its application-specific score: millionths of a point, -10^9 to 10^9. 0, or 3. */
 uint64_t hivepadlet_rate(uint64_t table[HIVEPADLET_CELLS], uint64_t time, uint64_t id, int64_t p5, uint32_t *actions,
                          size_t actions_length);
 
-/* The score of a peer and why it is what it is, six numbers by enum hivepadlet_why, written with the answer 0 alone. 0, or 3. */
+/* The score of a peer and why it is what it is, six numbers by enum hivepadlet_why, written only if the answer is 0. 0, or 3. */
 uint64_t hivepadlet_score(uint64_t table[HIVEPADLET_CELLS], uint64_t time, uint64_t id, int64_t why[HIVEPADLET_WHY_NUMBERS],
                           uint32_t *actions, size_t actions_length);
 
@@ -285,12 +285,12 @@ uint64_t hivepadlet_join(uint64_t table[HIVEPADLET_CELLS], uint64_t time, uint64
 uint64_t hivepadlet_leave(uint64_t table[HIVEPADLET_CELLS], uint64_t time, uint64_t topic, uint32_t *actions,
                           size_t actions_length);
 
-/* The heartbeat's work for one topic: negative members go, a mesh under D_lo or over D_hi is brought to D, D_out outbound
- * peers are seen to; and where ask is 1 (else 0), a mesh whose median score is poor takes in up to two better peers. The caller
+/* The heartbeat's work for one topic: negative members go, a mesh under D_lo or over D_hi is brought to D, and
+ * to D_out outbound peers; if ask is 1 (else 0), a mesh whose median score is poor takes in up to two better peers. The caller
  * decides how often to ask; once a minute is usual. A peer that had a backoff in the topic is sent a GRAFT from a second after
  * its end on, so that a neighbour whose clock is a little late does not count it as one during the backoff.
  * permutation: each of 0 to 63 once (permutation_length 64), drawn anew for each call from random numbers that no peer can
- * foresee. Where several peers will do, the one whose slot comes first in it is taken. 0, or 7, or 11 where the topic is not
+ * foresee. Of several peers that qualify, the one whose slot comes first in it is taken. 0, or 7, or 11 where the topic is not
  * joined. */
 uint64_t hivepadlet_heartbeat(uint64_t table[HIVEPADLET_CELLS], uint64_t time, uint64_t topic, uint64_t ask,
                               const uint64_t *permutation, size_t permutation_length, uint32_t *actions,
@@ -301,7 +301,7 @@ uint64_t hivepadlet_decay(uint64_t table[HIVEPADLET_CELLS], uint64_t time, uint3
 
 /* ---- what comes from peers: each is 11 from a peer below the graylist threshold, and 3 where the id is not connected */
 
-/* A peer subscribes to a topic, joined by us or not. 0, also where it had done so. */
+/* A peer subscribes to a topic, joined by us or not. 0, also if it was subscribed already. */
 uint64_t hivepadlet_subscribe(uint64_t table[HIVEPADLET_CELLS], uint64_t time, uint64_t id, uint64_t topic, uint32_t *actions,
                               size_t actions_length);
 
@@ -331,10 +331,10 @@ uint64_t hivepadlet_deliver(uint64_t table[HIVEPADLET_CELLS], uint64_t time, uin
 
 /* ---- messages: the bytes that peers send each other, gossipsub's RPC as protobuf
  *
- * These three functions know no table and no clock. What they read and write of an RPC are subscriptions, GRAFTs and PRUNEs; the
- * messages of topics (publish), IHAVE and IWANT, which stand in the same bytes, are skipped.
+ * These three functions use no table and no clock. What they read and write of an RPC are subscriptions, GRAFTs and PRUNEs; the
+ * messages of topics (publish), IHAVE and IWANT, which are in the same bytes, are skipped.
  *
- * Peers name a topic by bytes. Topic k's name stands in row k of the names: names[65 * k] is its length, 1 to 64, or 0 where the
+ * Peers name a topic by bytes. Topic k's name is in row k of the names: names[65 * k] is its length, 1 to 64, or 0 where the
  * topic has none; its bytes follow. Test the names once, at set-up:
  *
  *     static uint8_t names[HIVEPADLET_NAMES_BYTES];
@@ -387,16 +387,16 @@ static inline uint64_t hivepadlet_entry_value(const uint64_t *entries, size_t i)
 }
 
 /* Reads a message into a list of at least HIVEPADLET_ENTRY_NUMBERS numbers. 0 with the number of entries, or 8, or 10 with the
- * place. The list is written with 0 alone, and the numbers past the entries stand. */
+ * place. The list is written only if the answer is 0, and the numbers past the entries are unchanged. */
 uint64_t hivepadlet_read_message(const uint8_t names[HIVEPADLET_NAMES_BYTES], const uint8_t *message, size_t length,
                                  uint64_t *entries, size_t entries_length);
 
 /* Writes one message for one peer to the start of a buffer; HIVEPADLET_WRITTEN_BYTES are always enough.
  * actions: at most 64 as the calls write them, all with the same peer's id; topics: the topic of each, so that actions_length is
  * 3 * topics_length. changes: at most 8 of our own joins and leaves, pairs of 1 (join) or 0 (leave) and a topic. Every topic has a
- * name. 0 with the length of the message, 0 for empty lists; or 2 for any other list; or 13. The buffer is written with 0 alone,
- * and the bytes past the message stand. What is read from these bytes is the joins and leaves, then the GRAFTs, then the PRUNEs,
- * each in their order. */
+ * name. 0 with the length of the message, 0 for empty lists; or 2 for any other list; or 13. The buffer is written only if the
+ * answer is 0, and the bytes past the message are unchanged. What is read from these bytes is the joins and leaves, then the
+ * GRAFTs, then the PRUNEs, each in their order. */
 uint64_t hivepadlet_write_message(const uint8_t names[HIVEPADLET_NAMES_BYTES], const uint32_t *actions, size_t actions_length,
                                   const uint64_t *topics, size_t topics_length, const uint64_t *changes, size_t changes_length,
                                   uint8_t *buffer, size_t length);

@@ -42,7 +42,7 @@ def edited(folder, pairs):
             return {}, f"there is no file {file}"
         text = texts.get(path) or open(path, encoding="utf-8").read()
         if text.count(old) != 1:
-            return {}, f"an old text stands {text.count(old)} times in {file}"
+            return {}, f"an old text is in {file} {text.count(old)} times"
         texts[path] = text.replace(old, new)
     return texts, ""
 
@@ -73,6 +73,6 @@ def tried(copy, crate, pairs, checked):
 
 
 def first_error(said):
-    """Where the first error of a check stands."""
+    """Where the first error of a check is."""
     first = re.search(r"^\S+/(\S+:\d+:\d+): error", said, re.M)
     return first.group(1) if first else "no error of a proof"

@@ -4,7 +4,8 @@ use mathlib.Core.List.{List, [], _∷_}
 use lib.IntN.{ℤ}
 use Rattle.score.specs.declared.Why.{Why}
 use Rattle.rules.specs.declared.Answer.{Answer}
-use Rattle.rules.specs.declared.Answer.the-variants.{Done, Scored, Early, OutOfRange, NotConnected, AlreadyConnected, NoSlot, UnknownProtocol, NotPermutation, ListShort, Ignored, NotRouter}
+use Rattle.rules.specs.declared.Answer.the-variants.{Done, Scored, Early, OutOfRange, NotConnected, AlreadyConnected, NoSlot}
+use Rattle.rules.specs.declared.Answer.the-variants.{UnknownProtocol, NotPermutation, ListShort, Ignored, NotRouter}
 use Rattle.rules.specs.Reply.{numberOf, actionsOf}
 
 -- 01's number in the low byte, and the value that goes with it (action count, length, place) above it

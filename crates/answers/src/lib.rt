@@ -1,8 +1,9 @@
-// What an answer is outside: 01's number of it, how many actions it has, both as one number for a host, and its score with the parts.
+// Answers as numbers: 01's number of an answer, how many actions it has, both as one number for a host, and a score with its parts.
 ghost use mathlib.Core.Path.{_≡_};
 ghost use Prim.Native.Nat.{_≤_};
 ghost use Rattle.rules.specs.Reply.{numberOf, actionsOf};
 ghost use Rattle.answers.specs.Answers.{packed as packedOf, answerCode, whyNumbers, whyOr};
+ghost use Rattle.records.specs.Records.{slotCount};
 use rules::Answer;
 use score::Why;
 
@@ -43,7 +44,7 @@ pub fn packed(number: u64, value: u64) -> u64
 
 // An answer as one number.
 pub fn code(a: Answer) -> u64
-    requires { ⌜ actionsOf a ≤ 64 ⌝ }
+    requires { ⌜ actionsOf a ≤ slotCount ⌝ }
     ensures { λ r. ⌜ r ≡ answerCode a ⌝ }
 {
     packed(number_of(a), actions_of(a) as u64)

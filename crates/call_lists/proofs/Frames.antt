@@ -17,7 +17,7 @@ use Rattle.score.specs.Counters.{firstOf, nearFirstOf, invalidOf, grownOf, fade
 use Rattle.score.specs.Score.{topicParamsIn}
 use Rattle.effects.specs.Effects.{magnitude, unsubscribeBackoff, pruneBackoff, withEnd, withP5, withP7, retainedTo, outOfMesh, withSubscribed, onPeer, onTopic, isJoined, isMember, pruned, endAfter, leftTopic, departed, reclaimable, emptied, reclaimSlot, reclaimed}
 use Rattle.rules.specs.Reply.{Reply, ignored, done}
-use Rattle.rules.specs.Step.{isNegative, isGraylisted, isHeard, joinReply, punished, leaveSlot, leaveReply, subscribeReply, unsubscribeReply, graftRefused, secondsOf, pruneReply, deliveredOf, deliverReply, decayFloor, decayTopic, decayP7, decaySlot, decayReply}
+use Rattle.rules.specs.Step.{isNegative, isGraylisted, isHeard, joinReply, punished, leaveSlot, leaveReply, subscribeReply, unsubscribeReply, graftRefused, raisedP7, secondsOf, pruneReply, deliveredOf, deliverReply, decayFloor, decayTopic, decayP7, decaySlot, decayReply}
 use Rattle.call_lists.proofs.Fewer.{Fewer, fewer-self, fewer-then, fewer-clock, fewer-joined, fewer-peer, fewer-topic, fewer-iter, fewer-either}
 
 -- ---- changes of one record
@@ -171,10 +171,10 @@ module _ (st : State) (time : ℕ) where
 
 -- ---- a GRAFT that is answered by a PRUNE
 module _ (st : State) (time t s : ℕ) where
-  pub fewer-refused : Fewer st (graftRefused st time t s .state)
+  pub fewer-refused : Fewer st (graftRefused st time t s (peerIn st s) .state)
   unfolding graftRefused
   fewer-refused = moved st time (fewer-end st s t (endAfter time (pruneBackoff st)))
 
-pub fewer-running :
-    (st : State) (time t s n : ℕ) → Fewer st (graftRefused (onPeer st s (λ p. withP7 p n)) time t s .state)
-fewer-running st time t s n = fewer-then (fewer-p7 st s n) (fewer-refused (onPeer st s (λ p. withP7 p n)) time t s)
+  pub fewer-raised : Fewer st (graftRefused st time t s (raisedP7 (peerIn st s)) .state)
+  unfolding graftRefused raisedP7 withP7 withEnd
+  fewer-raised = moved st time (fewer-peer st s _ (λ on. record { status = on; id = refl; outbound = refl }))

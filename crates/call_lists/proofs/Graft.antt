@@ -4,29 +4,29 @@ use Prim.Native.Nat.{ℕ, _+_, _<_, _≤_}
 use native.Mathlib.Omega.{arith}
 use mathlib.Core.Path.{_≡_, refl, sym, ap, _∙_}
 use mathlib.Core.Logic.{_≢_}
-use mathlib.Core.Bool.{Bool, true, false, not, _&&_, and-false}
+use mathlib.Core.Bool.{Bool, true, false, _&&_, and-false}
 use mathlib.Core.List.{List, []}
 use lib.Dec.{eqb, leb}
 use lib.IntN.{ℤ}
-use borrow.Author.Tests.{eqb-true, eqb-false, eq-eqb, leb-false, not-true}
+use borrow.Author.Tests.{eqb-true, eqb-false, eq-eqb, leb-false}
 use Rattle.index.specs.Index.{one}
-use Rattle.index.proofs.Index.{both, one-le}
-use Rattle.index.proofs.Flags.{by-test, cond-case}
+use Rattle.index.proofs.Index.{one-le}
+use Rattle.index.proofs.Flags.{by-test}
 use Rattle.records.specs.declared.Peer.{Peer}
 use Rattle.records.specs.Records.{State, place, peerIn, topicIn, setClock, slotCount}
 use Rattle.layout.specs.View.{Sized}
 use Rattle.layout.proofs.StateLaws.{peer-after-clock, peer-after-topic, codes-after-clock, codes-after-topic}
 use Rattle.validity.specs.Valid.{valid}
 use Rattle.validity.proofs.ValidLaws.{valid-facts}
-use Rattle.effects.specs.Effects.{highDegree, intoMesh, onTopic, isMember, isSubscribed, meshSize, backoffRuns}
+use Rattle.effects.specs.Effects.{highDegree, intoMesh, onTopic, isMember, meshSize}
 use Rattle.effects.proofs.Walks.{count-change}
 use Rattle.effects.proofs.EffectLaws.{place-slot, member-apart}
-use Rattle.score.specs.Counters.{countMost, raisedOf}
-use Rattle.rules.specs.Reply.{ignored, done}
-use Rattle.rules.specs.Step.{isNegative, isHeard, meshFull, graftEnters, graftRefused, graftOpen, graftBackoff, graftHeard, graftReply}
+use Rattle.rules.specs.Reply.{done}
+use Rattle.rules.specs.Step.{seenIn, isCrowded, graftReply}
+use Rattle.rules.proofs.GraftLaws.{Entering, by-graft}
 use Rattle.call_lists.specs.Demand3.{dHi}
 use Rattle.call_lists.proofs.Fewer.{Fewer}
-use Rattle.call_lists.proofs.Frames.{fewer-still, fewer-refused, fewer-running}
+use Rattle.call_lists.proofs.Frames.{fewer-still, fewer-refused, fewer-raised}
 use Rattle.call_lists.proofs.Standing.{Standing, isInbound, inbounds, inbounds-less, inbounds-most, degree-is}
 use Rattle.call_lists.proofs.Replies.{Stays, after-fewer}
 
@@ -62,19 +62,16 @@ module _
         inbounds-less st left v (λ i c m.
         (sym (same-member v i (λ (e : place i v ≡ place s t). n (omega arith))) ∙ m, ap (λ (p : Peer). p .outbound) (same-peer i)))
 
-    module _ (e : graftEnters st t s ≡ true) where
+    module _ (e : Entering (seenIn st t s) (isCrowded st t) time t) where
       -- an inbound peer found room
       room : eqb (peerIn st s .outbound) 1 ≡ false → meshSize st t < dHi params
-      unfolding graftEnters meshFull
+      unfolding isCrowded
       room o =
-          let a = both (not (isNegative st s)) (isSubscribed st t s && not (meshFull st t s)) e .1 in
-          let b = both (isSubscribed st t s) (not (meshFull st t s)) a .1 in
-          let full : meshFull st t s ≡ false = not-true (meshFull st t s) b in
           let f = valid-facts st (h .router) .peer s l .outbound in
           let z : eqb (peerIn st s .outbound) 0 ≡ true =
           eq-eqb (peerIn st s .outbound) 0 (let n = eqb-false (peerIn st s .outbound) 1 o in omega (arith, n)) in
           let g : leb (highDegree st) (meshSize st t) ≡ false =
-          first-no (leb (highDegree st) (meshSize st t)) (eqb (peerIn st s .outbound) 0) full z in
+          first-no (leb (highDegree st) (meshSize st t)) (eqb (peerIn st s .outbound) 0) (e .room) z in
           omega (arith, leb-false (highDegree st) (meshSize st t) g, degree-is st params (h .codes) 2)
         where
           first-no : (a b : Bool) → a && b ≡ false → b ≡ true → a ≡ false
@@ -110,33 +107,11 @@ module _
     less : (x : State) → Fewer st x → Sized x → valid x ≡ true → Standing params dir x
     less x f = after-fewer params dir st h x f
 
-    opened : Stays params dir (graftOpen st time t s)
-    unfolding graftOpen
-    opened =
-        cond-case (Stays params dir) (graftEnters st t s) (done u time []) (graftRefused st time t s)
-        (λ e. taken e)
-        (λ e. less _ (fewer-refused st time t s))
-
-    backed : Stays params dir (graftBackoff st time t s)
-    unfolding graftBackoff
-    backed =
-        cond-case (Stays params dir) (backoffRuns (peerIn st s) t time) _ (graftOpen st time t s)
-        (λ e. less _ (fewer-running st time t s (raisedOf (peerIn st s .p7) countMost)))
-        (λ e. opened)
-
-    heard : Stays params dir (graftHeard st time t s)
-    unfolding graftHeard
-    heard =
-        cond-case (Stays params dir) (isMember st t s) (done st time []) _
-        (λ m. less _ (fewer-still st time))
-        (λ m.
-        cond-case (Stays params dir) (eqb (peerIn st s .explicit) 1) (graftRefused st time t s) (graftBackoff st time t s)
-        (λ e. less _ (fewer-refused st time t s))
-        (λ e. backed))
-
     pub stands-graft : Stays params dir (graftReply st time t s)
-    unfolding graftReply
     stands-graft =
-        cond-case (Stays params dir) (isHeard st t s) (graftHeard st time t s) (ignored st time)
-        (λ e. heard)
+        by-graft (Stays params dir) st time t s
         (λ e. less _ (fewer-still st time))
+        (λ e m. less _ (fewer-still st time))
+        (λ e. less _ (fewer-refused st time t s))
+        (λ e. less _ (fewer-raised st time t s))
+        taken

@@ -14,7 +14,7 @@ use Rattle.index.specs.Index.{count}
 use Rattle.index.proofs.Index.{both, count-less}
 use Rattle.index.proofs.Flags.{by-order}
 use Rattle.varint.specs.Codes.{codeOf}
-use Rattle.params.specs.Limits.{at}
+use Rattle.limits.specs.Limits.{at}
 use Rattle.records.specs.declared.Peer.{Peer}
 use Rattle.records.specs.declared.TopicRecord.{TopicRecord}
 use Rattle.records.specs.Records.{State, slotCount, noPeer, noTopic, place, codeIn, peerIn, topicIn}

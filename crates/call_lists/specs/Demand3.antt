@@ -8,7 +8,7 @@ use lib.IntN.{ℤ, natAbs}
 use lib.ListN.{length}
 use Rattle.index.specs.Index.{count}
 use Rattle.index.specs.declared.Found.the-variants.{Nothing}
-use Rattle.params.specs.Limits.{at}
+use Rattle.limits.specs.Limits.{at}
 use Rattle.params.specs.Check.{firstBroken}
 use Rattle.records.specs.Records.{State, slotCount, paramCount, peerIn}
 use Rattle.effects.specs.Effects.{isJoined, isMember}

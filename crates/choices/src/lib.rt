@@ -8,7 +8,7 @@ ghost use Rattle.sets.specs.Sets.{bests};
 ghost use Rattle.pairs.specs.Pairs.{byPairs};
 use pairs::best_by_pairs;
 use records::SLOTS;
-use sets::walks::best_of;
+use sets::walks::bests;
 
 // The k best, the best remaining one picked k times.
 #[no_mangle]
@@ -23,7 +23,7 @@ pub extern "C" fn choices_by_picks(
         ⌜ now (kept .exit)
         ≡ bests slotCount (now (scores .entry)) (now (members .entry)) (now (order .entry)) k (replicate slotCount false) ⌝ }
 {
-    *kept = best_of(k, *scores, *members, *order);
+    *kept = bests(k, *scores, *members, *order);
 }
 
 // The k best by comparing every pair.

@@ -1,116 +1,97 @@
--- A GRAFT that comes in: what it leaves and writes at each of its ends.
+-- A GRAFT that comes in: what its refusal may rely on, and what it gives in its case.
 -- Assumes nothing.
-use Prim.Native.Nat.{ℕ, _<_}
-use mathlib.Core.Path.{_≡_, refl, sym, ap, ap₂, _∙_}
-use mathlib.Core.Bool.{true, false}
+use Prim.Native.Nat.{ℕ}
+use mathlib.Core.Path.{_≡_, refl}
+use mathlib.Core.Bool.{Bool}
 use mathlib.Core.List.{List, [], _∷_}
-use native.Mathlib.Omega.{arith}
-use lib.ListN.{length}
 use lib.Seq.{sets}
-use lib.Dec.{eqb}
-use borrow.Author.Tests.{eq-eqb, ne-eqb}
 use Rattle.records.specs.declared.Peer.{Peer}
-use Rattle.records.specs.Records.{State, peerIn, setClock, slotCount}
-use Rattle.layout.specs.View.{cellCount, stateOf}
-use Rattle.layout.proofs.StateLaws.{code-after-peer}
+use Rattle.records.specs.Records.{peerIn, setClock, setPeer}
+use Rattle.layout.specs.View.{stateOf}
 use Rattle.validity.proofs.ValidLaws.{valid-facts}
-use Rattle.score.specs.Counters.{countMost, raisedOf}
 use Rattle.effects.specs.Actions.{pruneOf, numbersOf}
-use Rattle.effects.specs.Effects.{magnitude, pruneBackoff, withEnd, withP7, onPeer, endAfter}
-use Rattle.effects.proofs.EffectLaws.{on-peer}
+use Rattle.effects.specs.Effects.{pruneBackoff, withEnd, withP7, endAfter}
 use Rattle.rules.specs.declared.Answer.{Answer}
 use Rattle.rules.specs.declared.Answer.the-variants.{Done}
-use Rattle.rules.specs.Step.{graftRefused}
+use Rattle.rules.specs.declared.Seen.{Seen}
+use Rattle.rules.specs.declared.GraftCase.{GraftCase}
+use Rattle.rules.specs.Step.{seenIn, raisedP7, isCrowded, graftCase, graftRefused, graftDone, graftReply}
 use Rattle.rules.specs.Promise.{Gives}
 use Rattle.rules.proofs.PromiseLaws.{leaves-moved}
-use Rattle.gate.specs.Ready.{Ready}
 use Rattle.gate.proofs.StandingLaws.{sizes}
+use Rattle.gate.specs.Ready.{PlaceLent}
 use Rattle.control.specs.Refusable.{Refusable}
 
--- ---- the tests
+-- ---- what the refusal may rely on: the peer's record as seen, or with P7 raised
+module _
+    (table list : List ℕ)
+    (time t s : ℕ)
+    (h : PlaceLent table list time t s)
+    (v : Seen)
+    (e : v ≡ seenIn (stateOf table) t s)
+  where
+    pub refusable : Refusable table list time t s (v .sender .peer)
+    refusable =
+        record {
+          size = h .ready .standing .size;
+          topic = h .topic;
+          slot = h .slot;
+          room = h .room;
+          id = rw e (valid-facts (stateOf table) (h .ready .standing .router) .peer s (h .slot) .id);
+          backoff = sizes (stateOf table) (h .ready .standing .router) .prune;
+          latest = h .ready .latest;
+        }
 
-module _ (st : State) (s : ℕ) (p : Peer) (e : p ≡ peerIn st s) where
-  pub explicit-yes : p .explicit ≡ 1 → eqb (peerIn st s .explicit) 1 ≡ true
-  explicit-yes h = sym (ap (λ (q : Peer). eqb (q .explicit) 1) e) ∙ eq-eqb (p .explicit) 1 h
+    pub refusable-raised : (q : Peer) → q ≡ raisedP7 (v .sender .peer) → Refusable table list time t s q
+    unfolding raisedP7 withP7
+    refusable-raised q eq =
+        record {
+          size = refusable .size;
+          topic = h .topic;
+          slot = h .slot;
+          room = h .room;
+          id = rw eq (refusable .id);
+          backoff = refusable .backoff;
+          latest = refusable .latest;
+        }
 
-  pub explicit-no : (p .explicit ≡ 1 → ⊥) → eqb (peerIn st s .explicit) 1 ≡ false
-  explicit-no h = sym (ap (λ (q : Peer). eqb (q .explicit) 1) e) ∙ ne-eqb (p .explicit) 1 h
+-- ---- what it gives
+-- the PRUNE that answers
+pub refused-gives :
+    (table mid table′ list list′ : List ℕ) (time t s n end : ℕ) (p q : Peer) →
+    n ≡ pruneBackoff (stateOf table) →
+    list′ ≡ sets list 0 (numbersOf (pruneOf p n ∷ [])) →
+    end ≡ endAfter time n →
+    q ≡ withEnd p t end →
+    stateOf mid ≡ setPeer (stateOf table) s q →
+    stateOf table′ ≡ setClock (stateOf mid) time →
+    Gives (graftRefused (stateOf table) time t s p) (Done 1) table table′ list list′
+unfolding graftRefused
+refused-gives table mid table′ list list′ time t s n end p q en el ee eq em ec =
+    record { leaves = leaves-moved _ (Done 1) table table′ refl refl (search); actions = rw (← en) el }
 
--- ---- P7
+-- in the case k, which is that of what was seen
+module _ (c : GraftCase) (table table′ list list′ : List ℕ) (time t s : ℕ) (a : Answer) where
+  pub graft-at :
+      (v : Seen) (w : Bool) (k : GraftCase) →
+      v ≡ seenIn (stateOf table) t s →
+      w ≡ isCrowded (stateOf table) t →
+      k ≡ graftCase v w time t →
+      k ≡ c →
+      Gives (graftDone c (stateOf table) time t s) a table table′ list list′ →
+      Gives (graftReply (stateOf table) time t s) a table table′ list list′
+  unfolding graftReply
+  graft-at v w k ev ew ek ec h = rw (← ev, ← ew, ← ek, ec) h
 
-abbrev raise : Peer → Peer
-raise p = withP7 p (raisedOf (p .p7) countMost)
+module _ (table table′ list list′ : List ℕ) (time t s : ℕ) (a : Answer) (v : Seen) (e : v ≡ seenIn (stateOf table) t s) where
+  pub refused-seen :
+      Gives (graftRefused (stateOf table) time t s (v .sender .peer)) a table table′ list list′ →
+      Gives (graftRefused (stateOf table) time t s (peerIn (stateOf table) s)) a table table′ list list′
+  refused-seen h = rw e at h
 
--- ---- what the refusal may rely on: behind the gate, and after P7 grew
-
-pub refusable-of : (table : List ℕ) (time s : ℕ) → Ready table time → s < slotCount → Refusable table time s
-refusable-of table time s r h =
-    record {
-      size = r .standing .size;
-      id = valid-facts (stateOf table) (r .standing .router) .peer s h .id;
-      backoff = sizes (stateOf table) (r .standing .router) .prune;
-      latest = r .latest;
-    }
-
-raise-id : (p : Peer) → raise p .id ≡ p .id
-unfolding withP7
-raise-id p = refl
-
-pub refusable-raised :
-    (table table′ : List ℕ) (time s : ℕ) →
-    Ready table time →
-    s < slotCount →
-    length table′ ≡ cellCount →
-    stateOf table′ ≡ onPeer (stateOf table) s (λ x. withP7 x (raisedOf (x .p7) countMost)) →
-    Refusable table′ time s
-refusable-raised table table′ time s r h l e =
-    let f = refusable-of table time s r h in
-    let i : peerIn (stateOf table′) s .id ≡ peerIn (stateOf table) s .id =
-    ap (λ (u : State). peerIn u s .id) e ∙ on-peer (λ p. p .id) (stateOf table) s raise s (raise-id _) in
-    let b : pruneBackoff (stateOf table′) ≡ pruneBackoff (stateOf table) =
-    ap (λ (u : State). pruneBackoff u) e ∙ ap magnitude (code-after-peer (stateOf table) s _ 5) in
-    record {
-      size = l;
-      id = omega (arith, i, f .id);
-      backoff = omega (arith, b, f .backoff);
-      latest = f .latest;
-    }
-
--- ---- the PRUNE that answers
-
-module _ (table mid table′ list list′ : List ℕ) (time t s : ℕ) where
-  pub refused-graft :
-      (p : Peer) (n end : ℕ) →
-      p ≡ peerIn (stateOf table) s →
-      n ≡ pruneBackoff (stateOf table) →
-      list′ ≡ sets list 0 (numbersOf (pruneOf p n ∷ [])) →
-      end ≡ endAfter time n →
-      stateOf mid ≡ onPeer (stateOf table) s (λ q. withEnd q t end) →
-      stateOf table′ ≡ setClock (stateOf mid) time →
-      Gives (graftRefused (stateOf table) time t s) (Done 1) table table′ list list′
-  unfolding graftRefused
-  refused-graft p n end ep en el ee em ec =
-      record {
-        leaves =
-            leaves-moved _ (Done 1) table table′ refl refl
-            (ec
-            ∙ ap (λ (u : State). setClock u time)
-            (em
-            ∙ ap (λ (k : ℕ). onPeer (stateOf table) s (λ q. withEnd q t k)) (ee ∙ ap (λ (k : ℕ). endAfter time k) en)));
-        actions = el ∙ ap₂ (λ (q : Peer) (k : ℕ). sets list 0 (numbersOf (pruneOf q k ∷ []))) ep en;
-      }
-
-  -- from the state u, which stands in the table `mid`
-  pub refused-from :
-      (u : State) (r : Answer) →
-      stateOf mid ≡ u →
-      Gives (graftRefused (stateOf mid) time t s) r mid table′ list list′ →
-      Gives (graftRefused u time t s) r table table′ list list′
-  unfolding graftRefused
-  refused-from u r e g =
-      record {
-        leaves =
-            leaves-moved (graftRefused u time t s) r table table′ (g .leaves .answer) refl
-            (g .leaves .state ∙ ap (λ (v : State). graftRefused v time t s .state) e);
-        actions = g .actions ∙ ap (λ (v : State). sets list 0 (numbersOf (graftRefused v time t s .actions))) e;
-      }
+  pub refused-raised :
+      (q : Peer) →
+      q ≡ raisedP7 (v .sender .peer) →
+      Gives (graftRefused (stateOf table) time t s q) a table table′ list list′ →
+      Gives (graftRefused (stateOf table) time t s (raisedP7 (peerIn (stateOf table) s))) a table table′ list list′
+  refused-raised q eq h = rw (eq, e) at h

@@ -30,16 +30,21 @@ use Rattle.sets.specs.Sets.{
   goer,
 }
 use Rattle.mesh.specs.Maintenance.{mesh1, mesh2, theBest, keepers, swapped, mesh3, mesh4, mesh5, meshes, changesOf, actionsOn, actionsOf}
-use Rattle.rules.specs.Step.{isNegative, isGraylisted, isHeard, secondsOf, pruneReply, graftRefused, meshFull, graftEnters, graftOpen, graftBackoff, graftHeard, graftReply, isCandidate, heightIn, degreesIn, viewIn, meshesIn, punished, settleSlot, heartbeatActions, maintainedReply, heartbeatReply, effect}
-use Rattle.examples.specs.Table.{lonely, short, shortSum, peer, inTopic, peers, topics, crowd, prunedFor60, grafted, maintained, Examples}
+use Rattle.rules.specs.Step.{isNegative, isGraylisted, isHeard, secondsOf, pruneReply, graftRefused, raisedP7, isCrowded, graftCase}
+use Rattle.rules.specs.Step.{graftReply, isCandidate, heightIn, degreesIn, viewIn, meshesIn, punished, settleSlot}
+use Rattle.rules.specs.Step.{heartbeatActions, maintainedReply, heartbeatReply, effect}
+use Rattle.examples.specs.Table.{lonely, short, shortSum, peer, inTopic, peers, topics, crowd, prunedFor60, grafted, maintained}
+use Rattle.examples.specs.Table.{Examples}
 use Rattle.examples.specs.Slack.{graftedAt}
 use Rattle.examples.specs.Better.{rated, stays}
 use Rattle.examples.specs.Worked.{Worked}
 
 pub worked : Worked
-unfolding graftedAt rated stays withP5 withP7 retainedTo reclaimable fadedOf topicSum part1Of part3Of lonely short shortSum peer inTopic peers topics crowd prunedFor60 grafted maintained
-    pruneReply secondsOf pruned withEnd outOfMesh intoMesh isHeard isGraylisted isNegative scoreIn topicScore topicParamsIn sharesGroup sharing
-    allTopics bounded whyOf whyIn graftRefused graftEnters graftOpen graftBackoff graftHeard graftReply meshFull meshSize isMember
+unfolding graftedAt rated stays withP5 withP7 retainedTo reclaimable fadedOf topicSum part1Of part3Of lonely short shortSum peer inTopic
+    peers topics crowd prunedFor60 grafted maintained
+    pruneReply secondsOf pruned withEnd outOfMesh intoMesh isHeard isGraylisted isNegative scoreIn topicScore topicParamsIn sharesGroup
+    sharing
+    allTopics bounded whyOf whyIn graftRefused raisedP7 isCrowded graftCase graftReply meshSize isMember
     holds findConnected count every first iter gather codeIn joinedIn peerIn topicIn setPeer setTopic setClock
     isCandidate heightIn degreesIn viewIn meshesIn punished settleSlot heartbeatActions maintainedReply heartbeatReply effect
     bySlot size both except from occurs isPermutation ascending inOrder fill top bests bottom goer firstOf lastOf swapOnce swapTo

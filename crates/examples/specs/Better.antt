@@ -1,5 +1,5 @@
--- A better score never loses the place (02, order 13): thirteen inbound members, one more than D_hi, of which the one drawn last has points of
--- the host's, or none.
+-- A better score never loses the place (02, order 13): thirteen inbound members, one more than D_hi, of which the one drawn last has points
+-- of the host's, or none.
 use Prim.Native.Nat.{ℕ}
 use mathlib.Core.Path.{_≡_}
 use mathlib.Core.Bool.{Bool, true, false}

@@ -1,5 +1,5 @@
--- The slack after a backoff (02, order 3): "A candidate now needs now ≥ backoff end + 1000 ms, or an end of 0 (never set). Incoming GRAFTs and
--- the emptying of records still go by the end alone." The peer of `prunedFor60` has a backoff that ends at 70,000.
+-- The slack after a backoff (02, order 3): "A candidate now needs now ≥ backoff end + 1000 ms, or an end of 0 (never set). Incoming GRAFTs
+-- and the emptying of records still go by the end alone." The peer of `prunedFor60` has a backoff that ends at 70,000.
 use Prim.Native.Nat.{ℕ}
 use mathlib.Core.Path.{_≡_}
 use mathlib.Core.Bool.{true, false}

@@ -85,9 +85,9 @@ unfoldable pub topics : ℕ → ℕ → List TopicRecord
 topics zero member = []
 topics (suc n) member = inTopic member ∷ replicate 7 noTopic ++ topics n member
 
--- as many inbound members, in the first slots, with ids from 1 on, and then as many subscribed peers of a direction that are none, with ids from
--- 101 on. The codes of the parameters are 2n, or -2n - 1; those that stand as 0 are not used at score 0. It is no router's table, for it has few
--- codes and no empty records: test 12 would refuse it, and the calls are taken behind the first tests (`effect`).
+-- as many inbound members, in the first slots, with ids from 1 on, and then as many subscribed peers of a direction that are none, with ids
+-- from 101 on. The codes of the parameters are 2n, or -2n - 1; those that stand as 0 are not used at score 0. It is no router's table, for
+-- it has few codes and no empty records: test 12 would refuse it, and the calls are taken behind the first tests (`effect`).
 unfoldable pub crowd : ℕ → ℕ → ℕ → State
 crowd members others outbound =
     record {

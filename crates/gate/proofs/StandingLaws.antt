@@ -3,14 +3,16 @@
 use Prim.Native.Nat.{ℕ, _*_, _≤_, _<_}
 use mathlib.Core.Path.{_≡_, refl, sym, ap, ap₂, _∙_}
 use mathlib.Core.Bool.{Bool, true, _&&_}
+use native.Mathlib.Omega.{arith}
 use lib.Dec.{eqb, lit<}
 use lib.IntN.{ℤ, pos, negℤ, _*ℤ_}
 use lib.Signed.{ltZ}
 use Rattle.varint.specs.Codes.{numberOf}
 use Rattle.records.specs.declared.Peer.{Peer}
 use Rattle.records.specs.Records.{State, codeIn, peerIn}
-use Rattle.params.specs.Limits.{limits, limitAt}
-use Rattle.params.proofs.FieldLaws.{loss-of}
+use Rattle.records.specs.Parameters.{graylistThresholdAt, p7DecayAt, decayToZeroAt}
+use Rattle.limits.specs.Limits.{limits, limitAt}
+use Rattle.limits.proofs.FieldLaws.{loss-of}
 use Rattle.params.proofs.ParamLaws.{general, within}
 use Rattle.validity.specs.Valid.{valid}
 use Rattle.validity.proofs.ValidLaws.{valid-facts}
@@ -19,18 +21,25 @@ use Rattle.score.specs.Sums.{negativeOf, belowOf}
 use Rattle.score.specs.Score.{Scores}
 use Rattle.score.proofs.Differences.{neg-times, diff-neg}
 use Rattle.score.proofs.SumLaws.{negative-is, below-is}
-use Rattle.effects.specs.Effects.{magnitude}
-use Rattle.rules.specs.Step.{isNegative, isGraylisted}
+use Rattle.effects.specs.Effects.{magnitude, highDegree, pruneBackoff, unsubscribeBackoff, retainSeconds}
+use Rattle.rules.specs.Step.{isNegative, isGraylisted, senderIn}
+
+-- the graylist threshold and its magnitude
+abbrev thresholdAt : ℕ
+thresholdAt = graylistThresholdAt
+
+abbrev graylistSize : State → ℕ
+graylistSize st = magnitude (codeIn st thresholdAt)
 
 -- the magnitudes of the general parameters that the calls compute with
 pub record Sizes (st : State) : Type 0 where
-  pub high : magnitude (codeIn st 2) ≤ 48
-  pub prune : magnitude (codeIn st 5) ≤ 3600
-  pub leave : magnitude (codeIn st 6) ≤ 3600
-  pub retain : magnitude (codeIn st 7) ≤ 86400
-  pub graylist : magnitude (codeIn st 9) ≤ 1000000000
-  pub fade : magnitude (codeIn st 17) ≤ 999
-  pub floor : magnitude (codeIn st 18) ≤ 1000
+  pub high : highDegree st ≤ 48
+  pub prune : pruneBackoff st ≤ 3600
+  pub leave : unsubscribeBackoff st ≤ 3600
+  pub retain : retainSeconds st ≤ 86400
+  pub graylist : graylistSize st ≤ 1000000000
+  pub fade : magnitude (codeIn st p7DecayAt) ≤ 999
+  pub floor : magnitude (codeIn st decayToZeroAt) ≤ 1000
 
 pub sizes : (st : State) → valid st ≡ true → Sizes st
 unfolding codeIn
@@ -46,16 +55,19 @@ sizes st v =
       floor = g .decayToZero-most;
     }
 
+pub graylist-most : (st : State) (n : ℕ) → valid st ≡ true → n ≡ graylistSize st → n ≤ 1000000000
+graylist-most st n v e = omega (arith, e, sizes st v .graylist)
+
 -- the graylist threshold, from its magnitude
 pub graylist-is :
     (st : State) → valid st ≡ true →
-    numberOf (codeIn st 9) *ℤ pos 1000000 ≡ negℤ (pos (magnitude (codeIn st 9) * 1000000))
+    numberOf (codeIn st thresholdAt) *ℤ pos 1000000 ≡ negℤ (pos (graylistSize st * 1000000))
 unfolding codeIn limitAt limits
 graylist-is st v =
     ap (λ (z : ℤ). z *ℤ pos 1000000)
     (sym (loss-of (st .codes) (within (st .codes) (valid-facts st v .params)) 9 (lit< tt) 9 refl tt))
-    ∙ neg-times (magnitude (codeIn st 9)) 1000000
-    ∙ sym (diff-neg (magnitude (codeIn st 9) * 1000000))
+    ∙ neg-times (graylistSize st) 1000000
+    ∙ sym (diff-neg (graylistSize st * 1000000))
 
 module _ (st : State) (s : ℕ) (b : Balance) (scores : Scores st s b) where
   pub negative-of : (r : Bool) → r ≡ negativeOf b → r ≡ isNegative st s
@@ -65,7 +77,7 @@ module _ (st : State) (s : ℕ) (b : Balance) (scores : Scores st s b) where
   pub graylisted-of :
       valid st ≡ true → (p : Peer) (n : ℕ) (r : Bool) →
       p ≡ peerIn st s →
-      n ≡ magnitude (codeIn st 9) →
+      n ≡ graylistSize st →
       r ≡ belowOf b n →
       (eqb (p .explicit) 0 && r) ≡ isGraylisted st s
   unfolding isGraylisted
@@ -73,5 +85,18 @@ module _ (st : State) (s : ℕ) (b : Balance) (scores : Scores st s b) where
       ap₂ (λ (x : Peer) (y : Bool). eqb (x .explicit) 0 && y) ep
       (er
       ∙ ap (λ (m : ℕ). belowOf b m) en
-      ∙ below-is b (magnitude (codeIn st 9))
+      ∙ below-is b (graylistSize st)
       ∙ ap₂ (λ (x y : ℤ). ltZ x y) (scores .score) (sym (graylist-is st v)))
+
+  -- what `see_sender` puts together is what the rules see
+  pub sender-of :
+      valid st ≡ true → (n : ℕ) (p : Peer) (below negative : Bool) →
+      p ≡ peerIn st s →
+      n ≡ graylistSize st →
+      below ≡ belowOf b n →
+      negative ≡ negativeOf b →
+      record { peer = p; graylisted = eqb (p .explicit) 0 && below; negative = negative } ≡ senderIn st s
+  sender-of v n p below negative ep en eb eg =
+      let g = graylisted-of v p n below ep en eb in
+      let m = negative-of negative eg in
+      cc

@@ -5,13 +5,16 @@ ghost use lib.ListN.{length};
 ghost use Rattle.records.specs.Records.{setClock, slotCount};
 ghost use Rattle.layout.specs.View.{cellCount, stateOf};
 ghost use Rattle.rules.specs.Calls.{idOk, topicOk, timeOk};
-ghost use Rattle.rules.specs.Step.{gateOf, isNegative, isGraylisted, isHeard};
-ghost use Rattle.gate.specs.Ready.{Standing};
+ghost use Rattle.rules.specs.Step.{gateOf, isNegative, isGraylisted, isHeard, senderIn, seenIn};
+ghost use Rattle.gate.specs.Ready.{Standing, SlotStanding, PlaceStanding};
 use effects::slots::is_joined;
 use effects::slots::load_size;
 use records::param;
 use rules::Answer;
 use rules::Gate;
+use rules::Seen;
+use rules::Sender;
+use score::sums::is_below;
 use validity::valid::MAX_ID;
 use validity::valid::MAX_TIME;
 
@@ -88,10 +91,36 @@ pub fn is_graylisted(table: &[u64], slot: usize) -> bool
 {
     let p = layout::load_peer(table, slot);
     (p.explicit == 0)
-        & score::sums::is_below(
+        & is_below(
             peer_score::score_of(table, slot),
             load_size(table, param::GRAYLIST_THRESHOLD),
         )
+}
+
+// What a call sees of the peer that sent it. The score is computed once, and held to both limits.
+pub fn see_sender(table: &[u64], slot: usize) -> Sender
+    requires { ⌜ SlotStanding (now table) slot ⌝ }
+    ensures { λ r. ⌜ r ≡ senderIn (stateOf (now (table .entry))) slot ⌝ }
+{
+    let p = layout::load_peer(table, slot);
+    let b = peer_score::score_of(table, slot);
+    Sender {
+        peer: p,
+        graylisted: (p.explicit == 0) & is_below(b, load_size(table, param::GRAYLIST_THRESHOLD)),
+        negative: score::sums::is_negative(b),
+    }
+}
+
+// And of its topic.
+pub fn see(table: &[u64], topic: usize, slot: usize) -> Seen
+    requires { ⌜ PlaceStanding (now table) topic slot ⌝ }
+    ensures { λ r. ⌜ r ≡ seenIn (stateOf (now (table .entry))) topic slot ⌝ }
+{
+    Seen {
+        sender: see_sender(table, slot),
+        joined: is_joined(table, topic),
+        topic: layout::load_topic(table, slot * 8 + topic),
+    }
 }
 
 // The topic is joined, and the peer not graylisted.

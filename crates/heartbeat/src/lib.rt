@@ -31,7 +31,7 @@ use gate::topic_ok;
 use layout::CELLS;
 use mesh::actions::write_actions;
 use mesh::steps::changes;
-use mesh::steps::maintain;
+use mesh::steps::meshes;
 use records::SLOTS;
 use records::param;
 use rules::Answer;
@@ -52,7 +52,7 @@ fn maintain_topic(
     ensures { λ r. ⌜ Gives (maintainedReply (stateOf (now (table .entry))) time topic ask order) r (now (table .entry)) (now (table .exit)) (now (actions .entry)) (now (actions .exit)) ⌝ }
 {
     let v = view(table, time, topic, ask, order);
-    let m = maintain(degrees(table), v);
+    let m = meshes(degrees(table), v);
     let members = v.members;
     let scores = v.scores;
     let mesh = m.fifth;

@@ -11,14 +11,15 @@ use types.Run.{OneOf, miss}
 use Rattle.layout.specs.View.{stateOf}
 use Rattle.index.specs.declared.Found.{Found}
 use Rattle.index.specs.declared.Found.the-variants.{At, Nothing}
-use Rattle.params.specs.declared.Reading.{Reading}
-use Rattle.params.specs.declared.Verdict.{Verdict}
-use Rattle.params.specs.declared.Written.{Written}
+use Rattle.params_bytes.specs.declared.Reading.{Reading}
+use Rattle.params_bytes.specs.declared.Verdict.{Verdict}
+use Rattle.params_bytes.specs.declared.Written.{Written}
 use Rattle.params.specs.Check.{firstBroken}
-use Rattle.params.specs.Read.{readOf, verdictNumber, verdictValue}
-use Rattle.params.specs.Write.{writeOf, writtenNumber, writtenValue}
-use Rattle.params.proofs.PlaceLaws.{broken-most, read-most, write-most}
-use Rattle.params.proofs.WriteLaws.{Wrote}
+use Rattle.params_bytes.specs.Read.{readOf, verdictNumber, verdictValue}
+use Rattle.params_bytes.specs.Write.{writeOf, writtenNumber, writtenValue}
+use Rattle.params.proofs.CheckLaws.{broken-most}
+use Rattle.params_bytes.proofs.PlaceLaws.{read-most, write-most}
+use Rattle.params_bytes.proofs.WriteLaws.{Wrote}
 use Rattle.lookup.specs.declared.Made.{Made}
 use Rattle.lookup.specs.declared.Made.the-variants.{Broken}
 use Rattle.lookup.specs.Fresh.{madeOf, madeNumber, madeValue, Makes}

@@ -11,12 +11,12 @@ use denote.Triple.Both.{Both}
 use Rattle.layout.specs.View.{stateOf}
 use Rattle.index.specs.declared.Found.{Found}
 use Rattle.index.specs.declared.Found.the-variants.{At, Nothing}
-use Rattle.params.specs.declared.Reading.{Reading}
-use Rattle.params.specs.declared.Verdict.{Verdict}
-use Rattle.params.specs.declared.Verdict.the-variants.{Accepted, Malformed, Broken}
+use Rattle.params_bytes.specs.declared.Reading.{Reading}
+use Rattle.params_bytes.specs.declared.Verdict.{Verdict}
+use Rattle.params_bytes.specs.declared.Verdict.the-variants.{Accepted, Malformed, Broken}
 use Rattle.params.specs.Check.{firstBroken}
-use Rattle.params.specs.Read.{readOf, verdictNumber, verdictValue}
-use Rattle.params.specs.Write.{writeOf, writtenNumber, writtenValue}
+use Rattle.params_bytes.specs.Read.{readOf, verdictNumber, verdictValue}
+use Rattle.params_bytes.specs.Write.{writeOf, writtenNumber, writtenValue}
 use Rattle.lookup.specs.Fresh.{madeOf, leftBy, madeNumber, madeValue}
 use Rattle.effects.specs.Actions.{numbersOf}
 use Rattle.answers.specs.Answers.{packed, answerCode}

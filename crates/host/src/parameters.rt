@@ -9,8 +9,8 @@ use answers::packed;
 use layout::CELLS;
 use lookup::Made;
 use params::Params;
-use params::Verdict;
-use params::Written;
+use params_bytes::Verdict;
+use params_bytes::Written;
 
 // The ordinary parameters.
 #[no_mangle]
@@ -27,7 +27,7 @@ pub extern "C" fn hivepadlet_ordinary(numbers: &mut [i64; 147])
 pub extern "C" fn hivepadlet_read(bytes: &[u8], numbers: &mut [i64; 147]) -> u64
     ensures { λ r. ⌜ HostsRead (now (bytes .entry)) r (now (numbers .entry)) (now (numbers .exit)) ⌝ }
 {
-    let reading = params::read(bytes);
+    let reading = params_bytes::read(bytes);
     let all = reading.params;
     let values = all.numbers;
     let verdict = reading.verdict;
@@ -45,7 +45,7 @@ pub extern "C" fn hivepadlet_read(bytes: &[u8], numbers: &mut [i64; 147]) -> u64
 fn put(all: Params, buffer: &mut [u8]) -> u64
     ensures { λ r. ⌜ HostsWrite (all .numbers) r (now (buffer .entry)) (now (buffer .exit)) ⌝ }
 {
-    match all.write(buffer) {
+    match params_bytes::write(all, buffer) {
         Written::Done(n) => packed(0, n as u64),
         Written::Short => packed(8, 0),
         Written::Outside(i) => packed(9, i as u64),

@@ -1,6 +1,6 @@
 -- Laws of computed tests.
 -- Assumes nothing.
-use Prim.Native.Nat.{ℕ, _-_, _<_, _≤_}
+use Prim.Native.Nat.{ℕ, _<_, _≤_}
 use mathlib.Core.Path.{_≡_, refl, sym, ap, _∙_}
 use mathlib.Core.Bool.{Bool, true, false, not, _&&_, cond}
 use lib.Dec.{leb, ltb}
@@ -64,10 +64,6 @@ not-yes e = ap not e
 
 pub not-no : {a : Bool} → a ≡ true → not a ≡ false
 not-no e = ap not e
-
--- what a call ensures of its result, and what a match tells of it
-pub told : {A : Type 0} {a b c : A} → a ≡ b → a ≡ c → b ≡ c
-told e t = sym e ∙ t
 
 -- the ways in which a branch tells what a tested definition is
 pub ruleset flags = (failed, passed, yes, no)

@@ -3,30 +3,22 @@
 use Prim.Native.Nat.{ℕ, _<_, _≤_}
 use mathlib.Core.Path.{_≡_, refl, ap, _∙_}
 use mathlib.Core.Bool.{true}
-use mathlib.Core.List.{List, [], _∷_, map}
+use mathlib.Core.List.{List, map}
 use native.Mathlib.Omega.{arith}
-use borrow.Author.Tests.{eq-eqb}
-use mir.Syntax.{w64}
-use mir.Val.{SFits, toZ, ofZ}
-use mir.Facts.{toZ-ofZ}
-use lib.ListN.{length, getD, replicate, length-map, length-replicate, getD-replicate, List·getD-eq-default}
+use lib.ListN.{length, getD, replicate, length-replicate, getD-replicate, List·getD-eq-default}
 use lib.IntN.{ℤ}
 use Rattle.index.specs.declared.Found.{Found}
 use Rattle.index.specs.declared.Found.the-variants.{At, Nothing}
 use Rattle.index.proofs.Flags.{by-order}
-use Rattle.varint.specs.Codes.{codeOf, numberOf}
-use Rattle.varint.proofs.CodeLaws.{number-code}
-use Rattle.params.specs.Check.{firstBroken, acceptedCodes}
+use Rattle.varint.specs.Codes.{codeOf}
+use Rattle.params.specs.Check.{firstBroken}
+use Rattle.params.proofs.CheckLaws.{accepted-back}
 use Rattle.records.specs.Records.{State, place, noPeer, noTopic, joinedIn, peerIn, topicIn, slotCount, topicCount, paramCount}
 use Rattle.layout.specs.View.{placeCount, zeroState, setCodes, stateOf}
 use Rattle.lookup.specs.declared.Made.the-variants.{Done, Broken}
 use Rattle.lookup.specs.Fresh.{freshState, Makes}
 use Rattle.validity.specs.Valid.{valid}
 use Rattle.validity.proofs.ValidLaws.{Facts, no-peer, no-topic, facts-valid}
-
--- the code of a number that a call was given
-pub code-of-given : (n : ℤ) (v : ℕ) → SFits w64 n → v ≡ codeOf (toZ w64 (ofZ w64 n)) → v ≡ codeOf n
-code-of-given n v h e = e ∙ ap codeOf (toZ-ofZ h)
 
 -- a cleared table with the codes of the parameters is a fresh router's
 pub fresh-codes : (numbers : List ℤ) → setCodes zeroState (map codeOf numbers) ≡ freshState numbers
@@ -56,16 +48,6 @@ module _ (numbers : List ℤ) (table : List ℕ) (f : Found) (e : f ≡ firstBro
       }
 
 -- ---- a fresh router is a router's
-numbers-back : (numbers : List ℤ) → map numberOf (map codeOf numbers) ≡ numbers
-numbers-back [] = refl
-numbers-back (n ∷ l) = λ i. number-code n i ∷ numbers-back l i
-
-accepted-back : (numbers : List ℤ) → length numbers ≡ paramCount → firstBroken numbers ≡ Nothing → acceptedCodes (map codeOf numbers) ≡ true
-unfolding acceptedCodes
-accepted-back numbers l e =
-    let m : length (map codeOf numbers) ≡ paramCount = length-map numbers codeOf ∙ l in
-    rw (eq-eqb (length (map codeOf numbers)) paramCount m, numbers-back numbers, e)
-
 module _ (numbers : List ℤ) where
   fresh-joined : (t : ℕ) → joinedIn (freshState numbers) t ≡ 0
   unfolding joinedIn freshState

@@ -1,6 +1,6 @@
 -- A maintenance has at most one action for each slot.
 -- Assumes nothing.
-use Prim.Native.Nat.{ℕ, _+_, _-_, _*_, _≤_, _<_}
+use Prim.Native.Nat.{ℕ, _+_, _-_, _≤_, _<_}
 use native.Mathlib.Omega.{arith}
 use mathlib.Core.Path.{_≡_, refl, sym, ap, _∙_, subst}
 use mathlib.Core.Bool.{Bool, true, false, not, cond, false≢true}
@@ -13,7 +13,8 @@ use borrow.Author.Tests.{ltb-true}
 use Rattle.index.proofs.Index.{both as halves}
 use Rattle.index.proofs.Flags.{by-test, cond-case}
 use Rattle.sets.specs.Sets.{at, Sub, size, except, occurs, ascending, inOrder, fill}
-use Rattle.mesh.specs.Maintenance.{goods, mesh1, mesh2, mesh3, mesh4, mesh5, meshes, changesOf, action, actionsOn, actionsOf, Narrow, Writable, Rules, Whole}
+use Rattle.mesh.specs.Maintenance.{goods, mesh1, mesh2, mesh3, mesh4, mesh5, meshes, changesOf, action, actionsOn, actionsOf}
+use Rattle.mesh.specs.Maintenance.{Rules, Whole}
 use Rattle.mesh.specs.declared.Degrees.{Degrees}
 use Rattle.mesh.specs.declared.View.{View}
 use Rattle.mesh.specs.declared.Meshes.{Meshes}
@@ -212,13 +213,3 @@ module _
       let g₄ = by-order (except (m .fourth) (m .third)) (except-length (m .fourth) (m .third) ∙ f .fourth) in
       let g₅ = by-order (except (m .fifth) (m .fourth)) (except-length (m .fifth) (m .fourth) ∙ f .fifth) in
       simp length-append (omega arith)
-
-  -- a list of three numbers a slot is room enough
-  pub actions-writable :
-      (l ids seconds : List ℕ) →
-      3 * n ≤ length l →
-      Narrow ids →
-      Narrow seconds →
-      Writable l ids seconds (length (actionsOf n (v .permutation) (changesOf (v .members) (meshes n t v))))
-  actions-writable l ids seconds h i s =
-      record { room = let b = actions-length in omega arith; narrow-ids = i; narrow-seconds = s }

@@ -1,5 +1,5 @@
--- Mesh maintenance, the heartbeat's work for one topic (01's tidy), as 01 has it: "Scores and candidates are those at the start; each step sees
--- the mesh left by the one before." Definitions only, in 01's words and order; generic in the slot count n.
+-- Mesh maintenance, the heartbeat's work for one topic (01's tidy), as 01 has it: "Scores and candidates are those at the start; each step
+-- sees the mesh left by the one before." Definitions only, in 01's words and order; generic in the slot count n.
 use Prim.Native.Nat.{ℕ, _+_, _-_, _*_, _/_, _≤_}
 use mathlib.Core.Path.{_≡_}
 use mathlib.Core.Logic.{_⊎_}
@@ -46,9 +46,10 @@ mesh1 v = both (v .members) (goods v)
 unfoldable pub mesh2 : Degrees → View → List Bool → List Bool
 mesh2 t v m = cond (ltb (size m) (t .lo)) (fill (v .candidates) (t .d - size m) (v .permutation) m) m
 
--- "3. Over D_hi: keep the D_score best (ties in draw order), then others in draw order to make D. If fewer than D_out kept are outbound, swap:
--- out goes the last drawn inbound keeper of the non-best, in comes the first left-out outbound in draw order, until D_out or none is left. PRUNE
--- the rest." Where no drawn one is left the lowest of the best goes (`goer`, sets/Sets), as order 14 has it; under 01's rules that never happens.
+-- "3. Over D_hi: keep the D_score best (ties in draw order), then others in draw order to make D. If fewer than D_out kept are outbound,
+-- swap: out goes the last drawn inbound keeper of the non-best, in comes the first left-out outbound in draw order, until D_out or none is
+-- left. PRUNE the rest." Where no drawn one is left the lowest of the best goes (`goer`, sets/Sets), as order 14 has it; under 01's rules
+-- that never happens.
 unfoldable pub theBest : ℕ → Degrees → View → List Bool → List Bool
 theBest n t v m = bests n (v .scores) m (v .permutation) (t .score) (replicate n false)
 
@@ -66,8 +67,8 @@ mesh3 n t v m = cond (ltb (t .hi) (size m)) (swapped n t v m (theBest n t v m)) 
 unfoldable pub mesh4 : Degrees → View → List Bool → List Bool
 mesh4 t v m = fill (both (v .candidates) (v .outbound)) (t .out - size (both m (v .outbound))) (v .permutation) m
 
--- "5. If asked, mesh ≥ 2 and median < threshold: graft up to 2 candidates not yet grafted with scores above the median, in draw order. The median
--- of n sorted upward is at index floor(n/2)."
+-- "5. If asked, mesh ≥ 2 and median < threshold: graft up to 2 candidates not yet grafted with scores above the median, in draw order. The
+-- median of n sorted upward is at index floor(n/2)."
 unfoldable pub median : List Bool → List ℕ → ℕ
 median m scores = getD (sort (scoresOf m scores)) (size m / 2) 0
 
@@ -121,8 +122,8 @@ actionsOf n order c =
     ++ actionsOn 1 (c .fourth) order
     ++ actionsOn 1 (c .fifth) order
 
--- "Actions are three 32-bit numbers: 1 GRAFT or 2 PRUNE, peer id, the sheet's prune (in a leave, unsubscribe) backoff in seconds (0 for GRAFT and
--- for a 1.0.0 peer)." The ids, and the seconds of a PRUNE, are given by slot.
+-- "Actions are three 32-bit numbers: 1 GRAFT or 2 PRUNE, peer id, the sheet's prune (in a leave, unsubscribe) backoff in seconds (0 for
+-- GRAFT and for a 1.0.0 peer)." The ids, and the seconds of a PRUNE, are given by slot.
 abbrev pub secondsOf : ℕ → List ℕ → ℕ → ℕ
 secondsOf k seconds s = cond (eqb k 2) (getD seconds s 0) 0
 
@@ -165,8 +166,9 @@ pub record Whole (n : ℕ) (v : View) : Type 0 where
 abbrev pub InPool : View → ℕ → Type 0
 InPool v s = (at (both (v .members) (goods v)) s ≡ true) ⊎ (at (v .candidates) s ≡ true)
 
--- What demand 3 says of a mesh r that maintenance left: at most D_hi + 2 inbound; "only peers whose score at that tidy's start was zero or more",
--- and only of the pool; "at least D_out outbound peers or every outbound one in the pool, and at least D_lo peers or the whole pool".
+-- What demand 3 says of a mesh r that maintenance left: at most D_hi + 2 inbound; "only peers whose score at that tidy's start was zero or
+-- more", and only of the pool; "at least D_out outbound peers or every outbound one in the pool, and at least D_lo peers or the whole
+-- pool".
 pub record Maintained (t : Degrees) (v : View) (r : List Bool) : Type 0 where
   pub inbound : size (except r (v .outbound)) ≤ t .hi + 2
   pub only : Sub r (goods v)

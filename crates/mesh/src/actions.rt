@@ -8,10 +8,10 @@ ghost use Rattle.records.specs.Records.{slotCount};
 ghost use Rattle.mesh.specs.Maintenance.{actionsOn, actionsOf, secondsOf, Writable, Written};
 use crate::Changes;
 use records::SLOTS;
-use sets::count;
-use sets::has;
+use sets::at;
 use sets::number_at;
 use sets::permutation::by_slot;
+use sets::size;
 
 // An action's kinds.
 pub const GRAFT: u32 = 1;
@@ -58,7 +58,7 @@ fn write_walk(
     let mut k = n;
     for i in 0..SLOTS {
         let s = order[i];
-        if has(&p, s) {
+        if at(&p, s) {
             put(
                 actions,
                 k,
@@ -85,7 +85,7 @@ pub fn write(
     requires { ⌜ Writable (now actions) ids seconds (n + length (actionsOn kind p order)) ⌝ }
     ensures { λ r. ⌜ Written ids seconds (actionsOn kind p order) (now (actions .entry)) n (now (actions .exit)) r ⌝ }
 {
-    if count(p) == 0 {
+    if size(p) == 0 {
         return n;
     }
     write_walk(actions, n, kind, p, order, ids, seconds)

@@ -9,43 +9,43 @@ use crate::View;
 use crate::ZERO_SCORE;
 use records::SLOTS;
 use sets::at_least;
-use sets::count;
+use sets::both;
+use sets::except;
 use sets::median::middle;
-use sets::meet;
 use sets::minus;
-use sets::walks::best_of;
-use sets::walks::put_in;
-use sets::walks::swapped;
-use sets::without;
+use sets::size;
+use sets::walks::bests;
+use sets::walks::fill;
+use sets::walks::swap_to;
 
 // 1. The members that are not negative.
-pub fn step1(v: View) -> [bool; SLOTS]
+pub fn mesh1(v: View) -> [bool; SLOTS]
     ensures { λ r. ⌜ r ≡ mesh1 v ⌝ }
 {
     let members = v.members;
     let scores = v.scores;
-    meet(members, at_least(ZERO_SCORE, scores))
+    both(members, at_least(ZERO_SCORE, scores))
 }
 
 // 2. Under lo: candidates up to d.
-pub fn step2(t: Degrees, v: View, m: [bool; SLOTS]) -> [bool; SLOTS]
+pub fn mesh2(t: Degrees, v: View, m: [bool; SLOTS]) -> [bool; SLOTS]
     ensures { λ r. ⌜ r ≡ mesh2 t v m ⌝ }
 {
-    let n = count(m);
+    let n = size(m);
     let lo = t.lo;
     if lo <= n {
         return m;
     }
     let candidates = v.candidates;
     let permutation = v.permutation;
-    put_in(candidates, minus(t.d, n), permutation, m)
+    fill(candidates, minus(t.d, n), permutation, m)
 }
 
 // 3. Over hi: the best, others to make d, the swaps.
-pub fn step3(t: Degrees, v: View, m: [bool; SLOTS]) -> [bool; SLOTS]
+pub fn mesh3(t: Degrees, v: View, m: [bool; SLOTS]) -> [bool; SLOTS]
     ensures { λ r. ⌜ r ≡ mesh3 slotCount t v m ⌝ }
 {
-    let n = count(m);
+    let n = size(m);
     let hi = t.hi;
     if n <= hi {
         return m;
@@ -53,32 +53,32 @@ pub fn step3(t: Degrees, v: View, m: [bool; SLOTS]) -> [bool; SLOTS]
     let outbound = v.outbound;
     let scores = v.scores;
     let permutation = v.permutation;
-    let best = best_of(t.score, scores, m, permutation);
-    let keepers = put_in(m, minus(t.d, count(best)), permutation, best);
-    swapped(t.out, scores, outbound, permutation, m, best, keepers)
+    let best = bests(t.score, scores, m, permutation);
+    let keepers = fill(m, minus(t.d, size(best)), permutation, best);
+    swap_to(t.out, scores, outbound, permutation, m, best, keepers)
 }
 
 // 4. Under out outbound: outbound candidates.
-pub fn step4(t: Degrees, v: View, m: [bool; SLOTS]) -> [bool; SLOTS]
+pub fn mesh4(t: Degrees, v: View, m: [bool; SLOTS]) -> [bool; SLOTS]
     ensures { λ r. ⌜ r ≡ mesh4 t v m ⌝ }
 {
     let outbound = v.outbound;
     let candidates = v.candidates;
     let permutation = v.permutation;
-    let fits = meet(candidates, outbound);
-    let room = minus(t.out, count(meet(m, outbound)));
-    put_in(fits, room, permutation, m)
+    let fits = both(candidates, outbound);
+    let room = minus(t.out, size(both(m, outbound)));
+    fill(fits, room, permutation, m)
 }
 
 // 5. If asked, and the median is under the threshold: up to two candidates above the median.
-pub fn step5(t: Degrees, v: View, m: [bool; SLOTS]) -> [bool; SLOTS]
+pub fn mesh5(t: Degrees, v: View, m: [bool; SLOTS]) -> [bool; SLOTS]
     ensures { λ r. ⌜ r ≡ mesh5 t v m ⌝ }
 {
     let ask = v.ask;
     if !ask {
         return m;
     }
-    let n = count(m);
+    let n = size(m);
     if n < 2 {
         return m;
     }
@@ -91,18 +91,18 @@ pub fn step5(t: Degrees, v: View, m: [bool; SLOTS]) -> [bool; SLOTS]
     let candidates = v.candidates;
     let permutation = v.permutation;
     let higher = at_least(median + 1, scores);
-    put_in(meet(candidates, higher), 2, permutation, m)
+    fill(both(candidates, higher), 2, permutation, m)
 }
 
 // The mesh that each step leaves.
-pub fn maintain(t: Degrees, v: View) -> Meshes
+pub fn meshes(t: Degrees, v: View) -> Meshes
     ensures { λ r. ⌜ r ≡ meshes slotCount t v ⌝ }
 {
-    let first = step1(v);
-    let second = step2(t, v, first);
-    let third = step3(t, v, second);
-    let fourth = step4(t, v, third);
-    let fifth = step5(t, v, fourth);
+    let first = mesh1(v);
+    let second = mesh2(t, v, first);
+    let third = mesh3(t, v, second);
+    let fourth = mesh4(t, v, third);
+    let fifth = mesh5(t, v, fourth);
     Meshes {
         first: first,
         second: second,
@@ -122,10 +122,10 @@ pub fn changes(start: [bool; SLOTS], m: Meshes) -> Changes
     let fourth = m.fourth;
     let fifth = m.fifth;
     Changes {
-        first: without(start, first),
-        second: without(second, first),
-        third: without(second, third),
-        fourth: without(fourth, third),
-        fifth: without(fifth, fourth),
+        first: except(start, first),
+        second: except(second, first),
+        third: except(second, third),
+        fourth: except(fourth, third),
+        fifth: except(fifth, fourth),
     }
 }

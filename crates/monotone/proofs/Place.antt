@@ -1,12 +1,12 @@
--- A better score never loses the place, of the five steps (02, order 13). A slot that ends as a member is good in both views, so steps 1 and 2
--- leave the same mesh. Is it not in it, all later steps agree; is it in it, only step 3 can take it out, and there it is kept (StepThree).
--- Assumes nothing.
+-- A better score never loses the place, of the five steps (02, order 13). A slot that ends as a member is good in both views, so steps 1
+-- and 2 leave the same mesh. Is it not in it, all later steps agree; is it in it, only step 3 can take it out, and there it is kept
+-- (StepThree). Assumes nothing.
 use Prim.Native.Nat.{ℕ, suc, _+_, _-_, _/_, _≤_}
 use native.Mathlib.Nat.{suc-inj}
 use native.Mathlib.Omega.{arith}
 use mathlib.Core.Path.{_≡_, refl, sym, ap, ap₂, _∙_, subst}
 use mathlib.Core.Bool.{Bool, true, false, cond, _&&_, false≢true}
-use mathlib.Core.Logic.{_⊎_, ⊎-elim}
+use mathlib.Core.Logic.{⊎-elim}
 use mathlib.Core.List.{List, [], _∷_}
 use lib.ListN.{length, getD}
 use lib.Seq.{ext-getD}

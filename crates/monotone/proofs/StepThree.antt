@@ -1,5 +1,5 @@
--- Step 3 where one slot's score rises: if it kept the slot it still does. The best are the same, and then so are all swaps; or the slot is new
--- among them, and since it stayed before, fewer swaps are needed than there are drawn inbound keepers, so that none of the best goes.
+-- Step 3 where one slot's score rises: if it kept the slot it still does. The best are the same, and then so are all swaps; or the slot is
+-- new among them, and since it stayed before, fewer swaps are needed than there are drawn inbound keepers, so that none of the best goes.
 -- Assumes nothing.
 use Prim.Native.Nat.{ℕ, _-_, _≤_, _<_}
 use native.Mathlib.Omega.{arith}
@@ -74,7 +74,8 @@ module _
     unfolding swapped keepers
     same-kept e safe =
         ap (swapped n t v′ m) e
-        ∙ same-swaps n (t .out) x low (v .scores) sc′ same no-less (v .outbound) (v .permutation) m b (w .outbound) lm (w .permutation) (t .out)
+        ∙ same-swaps n (t .out) x low (v .scores) sc′ same no-less (v .outbound) (v .permutation) m b (w .outbound) lm (w .permutation)
+        (t .out)
         k
         lk
         sk
@@ -97,7 +98,8 @@ module _
         inbound-pushed (v .outbound) b b′ x (len-best n t v ru w m lm over ∙ sym (len-best n t v′ ru w′ m lm over)) (pu .rest) in
         best-stays n (t .out) sc′ (v .outbound) (v .permutation) m b′ (w .outbound) lm (w .permutation) x (pu .new) (t .out) k′ lk′ sk′
         (⊎-elim (λ h. inl (omega arith)) (λ h. inr (omega arith))
-        (drawn-stayed n (t .out) (v .scores) (v .outbound) (v .permutation) m b (w .outbound) lm (w .permutation) x (pu .old) o (t .out) k lk sk
+        (drawn-stayed n (t .out) (v .scores) (v .outbound) (v .permutation) m b (w .outbound) lm (w .permutation) x (pu .old) o (t .out) k
+        lk sk
         (omega arith)
         a))
         (keeps-best b′ x (pu .new)))

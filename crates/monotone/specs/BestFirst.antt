@@ -1,5 +1,5 @@
--- Why the swaps of step 3 take the drawn before the best (02, order 14: "first swaps out inbound keepers that were drawn"): with the best first, a
--- better score would lose the place. Four members in the order 0, 1, 2, 3, of which 3 alone is outbound; D 2, D_score 1, D_out 1.
+-- Why the swaps of step 3 take the drawn before the best (02, order 14: "first swaps out inbound keepers that were drawn"): with the best
+-- first, a better score would lose the place. Four members in the order 0, 1, 2, 3, of which 3 alone is outbound; D 2, D_score 1, D_out 1.
 use Prim.Native.Nat.{ℕ}
 use mathlib.Core.Path.{_≡_}
 use mathlib.Core.Bool.{Bool, true, false, cond}

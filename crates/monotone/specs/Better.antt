@@ -7,8 +7,8 @@ use Rattle.sets.specs.Sets.{at}
 use Rattle.mesh.specs.Maintenance.{Whole}
 use Rattle.mesh.specs.declared.View.{View}
 
--- Two views at one start, alike but for the score of slot x, which is no less in v′; and so for whether x is a candidate, which asks for a score
--- that is not negative. A member is no candidate.
+-- Two views at one start, alike but for the score of slot x, which is no less in v′; and so for whether x is a candidate, which asks for a
+-- score that is not negative. A member is no candidate.
 pub record Better (n x : ℕ) (v v′ : View) : Type 0 where
   pub low : x < n
   pub whole : Whole n v

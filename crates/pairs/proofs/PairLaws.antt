@@ -1,5 +1,5 @@
--- The k best picked one after the other are the k best by comparing every pair, with the same ties: each pick comes before all that are left,
--- so before a picked slot come other picks alone, and before any other come all k of them.
+-- The k best picked one after the other are the k best by comparing every pair, with the same ties: each pick comes before all that are
+-- left, so before a picked slot come other picks alone, and before any other come all k of them.
 -- Assumes nothing.
 use Prim.Native.Nat.{ℕ, zero, suc, _+_, _≤_, _<_}
 use native.Mathlib.Omega.{arith}

@@ -1,5 +1,5 @@
--- "Keep the D_score best (ties in draw order)", worked by hand. Of five slots all but 2 are members; 1 has the highest score, and 0, 3 and 4
--- have the same. Slot 2's score is as high as 1's, and it is no member.
+-- "Keep the D_score best (ties in draw order)", worked by hand. Of five slots all but 2 are members; 1 has the highest score, and 0, 3 and
+-- 4 have the same. Slot 2's score is as high as 1's, and it is no member.
 use mathlib.Core.Path.{_≡_}
 use mathlib.Core.Bool.{Bool, true, false}
 use mathlib.Core.List.{List, [], _∷_}

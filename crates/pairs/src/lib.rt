@@ -1,5 +1,5 @@
 // The choice of the best by comparing every pair (02, order 2): what picking the best remaining one is proved to give
-// (proofs/PairLaws.antt). The router picks; this stands beside it so that the two can be timed against each other.
+// (proofs/PairLaws.antt). The router picks; this is here so that the two can be timed against each other.
 ghost use mathlib.Core.Path.{_≡_};
 ghost use Rattle.records.specs.Records.{slotCount};
 ghost use Rattle.sets.specs.Sets.{bySlot};

@@ -16,9 +16,10 @@ use Rattle.varint.specs.Codes.{numberOf}
 use Rattle.varint.specs.declared.Read.{Read}
 use Rattle.varint.specs.declared.Read.the-variants.{Number, Bad}
 use Rattle.varint.proofs.GroupLaws.{readAt-end}
-use Rattle.params.specs.Read.{Parse, numbers, malformed, then, step, parseFrom, ending, judged, readOf}
+use Rattle.params_bytes.specs.Read.{Parse, numbers, malformed, then, step, parseFrom, ending, judged, readOf}
 use Rattle.varint.proofs.GroupLaws.{after-small}
-use Rattle.params.proofs.PlaceLaws.{by-byte, read-last, read-more, next-near, placeOf, parse-place}
+use Rattle.params_bytes.proofs.PlaceLaws.{by-byte, read-last, read-more, next-near, placeOf, parse-place}
+use Rattle.records.specs.Records.{paramCount}
 
 -- ---- a number below 128 ^ suc k takes at most suc k bytes, so what stands m bytes or more from the front does not matter
 module _ (s : List ℕ) (m : ℕ) where
@@ -28,7 +29,8 @@ module _ (s : List ℕ) (m : ℕ) where
   near-by :
       (top at : ℕ) →
       at < m →
-      (at < length s → 128 ≤ getD s at 0 → afterMore top (getD s at 0) (readAt (top / 128) (take m s) (at + 1)) ≡ afterMore top (getD s at 0) (readAt (top / 128) s (at + 1))) →
+      (at < length s → 128 ≤ getD s at 0 → afterMore top (getD s at 0) (readAt (top / 128) (take m s) (at + 1))
+      ≡ afterMore top (getD s at 0) (readAt (top / 128) s (at + 1))) →
       readAt top (take m s) at ≡ readAt top s at
   near-by top at l more =
       by-byte
@@ -103,5 +105,5 @@ unfolding readOf
 enough s =
     ap
     judged
-    (ap (λ (p : Parse). ending (take 4096 s) p) (parse-near s 4096 147 0 (omega arith))
-    ∙ ending-near s 4096 (parseFrom 147 s 0) (omega (arith, parse-place s 147 0)))
+    (ap (λ (p : Parse). ending (take 4096 s) p) (parse-near s 4096 paramCount 0 (omega arith))
+    ∙ ending-near s 4096 (parseFrom paramCount s 0) (omega (arith, parse-place s paramCount 0)))

@@ -10,6 +10,7 @@ use lib.Signed.{natAbs-le}
 use mir.Syntax.{w64}
 use mir.Val.{SFits, toZ, ofZ}
 use mir.Facts.{toZ-ofZ}
+use Rattle.records.specs.Records.{paramCount}
 use Rattle.index.specs.Index.{gather}
 use Rattle.index.proofs.Index.{gather-none, gather-more}
 use Rattle.text.specs.Text.{decimal, signedText, Stored}
@@ -63,9 +64,9 @@ module _ (f : ℕ → List ℕ) where
 
 pub lines-all :
     (xs : List ℤ) (i at : ℕ) (b₀ b₁ : List ℕ) (p : ℕ) →
-    i ≤ 147 →
-    147 ≤ i →
+    i ≤ paramCount →
+    paramCount ≤ i →
     Stored b₀ at (gather i (lineAt xs)) p b₁ →
     Stored b₀ at (numbersText xs) p b₁
 unfolding numbersText
-lines-all xs i at b₀ b₁ p l h s = let e : i ≡ 147 = omega arith in rw e at s
+lines-all xs i at b₀ b₁ p l h s = let e : i ≡ paramCount = omega arith in rw e at s

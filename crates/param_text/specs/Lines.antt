@@ -3,6 +3,7 @@ use Prim.Native.Nat.{ℕ}
 use mathlib.Core.List.{List, [], _∷_, _++_}
 use lib.ListN.{getD}
 use lib.IntN.{ℤ, pos}
+use Rattle.records.specs.Records.{paramCount}
 use Rattle.index.specs.Index.{gather}
 use Rattle.text.specs.Text.{decimal, signedText}
 
@@ -17,4 +18,4 @@ abbrev pub lineAt : List ℤ → ℕ → List ℕ
 lineAt xs i = lineText (getD xs i (pos 0))
 
 unfoldable pub numbersText : List ℤ → List ℕ
-numbersText xs = gather 147 (lineAt xs)
+numbersText xs = gather paramCount (lineAt xs)

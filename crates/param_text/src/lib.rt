@@ -1,5 +1,6 @@
 // The parameters as text in a lent buffer, from a place on: an answer's number with its value, and the 147 numbers, one to a line. Each function
 // answers the place after what it stored; the caller shows that there is room. The text is fixed in specs/Lines.antt.
+use limits::NUMBERS;
 ghost use Prim.Native.Nat.{_+_, _≤_};
 ghost use lib.ListN.{length};
 ghost use Rattle.text.specs.Text.{Stored};
@@ -26,13 +27,13 @@ pub fn put_line(buf: &mut [u8], at: usize, n: i64) -> usize
 }
 
 // The lines of all numbers.
-pub fn put_numbers(buf: &mut [u8], at: usize, numbers: [i64; 147]) -> usize
+pub fn put_numbers(buf: &mut [u8], at: usize, numbers: [i64; NUMBERS]) -> usize
     requires { ⌜ at + 3234 ≤ length (now buf) ⌝ }
     ensures { λ r. ⌜ Stored (now (buf .entry)) at (numbersText numbers) r (now (buf .exit)) × (r ≤ at + 3234) ⌝ }
 {
     let mut next = at;
     let mut i: usize = 0;
-    while i < 147 {
+    while i < NUMBERS {
         next = put_line(buf, next, numbers[i]);
         i += 1;
     }

@@ -13,10 +13,11 @@ use lib.Signed.{leZ, ltZ}
 use Rattle.index.specs.Index.{every}
 use Rattle.index.proofs.Flags.{leb-same}
 use Rattle.varint.specs.Codes.{codeOf, numberOf}
-use Rattle.params.specs.Limits.{limits, limitAt, fieldOf, at}
-use Rattle.params.specs.Joint.{place, capRule, joint, rule}
-use Rattle.params.proofs.LimitLaws.{topic-field}
-use Rattle.params.proofs.FieldLaws.{Within, code-at, gain-at, loss-at, most-of}
+use Rattle.records.specs.Records.{topicCount, paramCount}
+use Rattle.limits.specs.Limits.{limits, limitAt, fieldOf, place, at}
+use Rattle.limits.proofs.LimitLaws.{topic-field}
+use Rattle.params.specs.Joint.{ruleCount, capRule, joint, rule}
+use Rattle.limits.proofs.FieldLaws.{Within, code-at, gain-at, loss-at, most-of}
 
 -- ---- tests that are gathered in a flag
 pub every-and : (f : ℕ → Bool) (i : ℕ) (a b : Bool) → a ≡ every i f → b ≡ f i → (a && b) ≡ every (i + 1) f
@@ -26,20 +27,6 @@ every-and f i a b p q = rw (add-one i, p, q)
 pub every-start : (f : ℕ → Bool) → true ≡ every 0 f
 unfolding every
 every-start f = refl
-
-eight :
-    (f : ℕ → Bool) (a b c d e g h i : Bool) →
-    a ≡ f 0 →
-    b ≡ f 1 →
-    c ≡ f 2 →
-    d ≡ f 3 →
-    e ≡ f 4 →
-    g ≡ f 5 →
-    h ≡ f 6 →
-    i ≡ f 7 →
-    (a && b && c && d && e && g && h && i) ≡ every 8 f
-unfolding every
-eight f a b c d e g h i p0 p1 p2 p3 p4 p5 p6 p7 = rw (p0, p1, p2, p3, p4, p5, p6, p7)
 
 -- ---- numbers of one sign, by their codes
 abbrev Gain : ℤ → Type 0
@@ -82,10 +69,10 @@ loss-lt (negsuc a) (pos b) p q = absurd q
 
 -- ---- each rule
 module _ (codes : List ℕ) (ok : Within codes) where
-  gain : (i : ℕ) → i < 147 → T (leZ (pos 0) (limitAt (fieldOf i) .low)) → Gain (at (map numberOf codes) i)
+  gain : (i : ℕ) → i < paramCount → T (leZ (pos 0) (limitAt (fieldOf i) .low)) → Gain (at (map numberOf codes) i)
   gain i h t = gain-at codes ok i h (fieldOf i) refl t
 
-  loss : (i : ℕ) → i < 147 → T (leZ (limitAt (fieldOf i) .high) (negsuc 0)) → Loss (at (map numberOf codes) i)
+  loss : (i : ℕ) → i < paramCount → T (leZ (limitAt (fieldOf i) .high) (negsuc 0)) → Loss (at (map numberOf codes) i)
   loss i h t = loss-at codes ok i h (fieldOf i) refl t
 
   le-of :
@@ -142,18 +129,18 @@ module _ (codes : List ℕ) (ok : Within codes) where
       ∙ loss-lt (at (map numberOf codes) 9) (at (map numberOf codes) 11) (loss 9 (lit< tt) tt) (loss 11 (lit< tt) tt)
 
   -- in topic k, P3 cap ≥ P3 threshold
-  pub cap-of : (k : ℕ) → k < 8 → leb (getD codes (place k 10) 0) (getD codes (place k 9) 0) ≡ capRule (map numberOf codes) k
+  pub cap-of : (k : ℕ) → k < topicCount → leb (getD codes (place k 10) 0) (getD codes (place k 9) 0) ≡ capRule (map numberOf codes) k
   unfolding capRule limitAt limits
   cap-of k h =
       le-of (place k 10) (place k 9)
       (gain-at codes ok (place k 10) (omega arith) 29 (topic-field k 10 (lit< tt)) tt)
       (gain-at codes ok (place k 9) (omega arith) 28 (topic-field k 9 (lit< tt)) tt)
 
-  pub caps-are : every 8 (capRule (map numberOf codes)) ≡ rule (map numberOf codes) 7
+  pub caps-are : every topicCount (capRule (map numberOf codes)) ≡ rule (map numberOf codes) 7
   unfolding rule joint
   caps-are = refl
 
-  -- the sums of `codes_keep` are small
+  -- the sums of `keeps` are small
   pub out-small : getD codes 3 0 ≤ 48
   unfolding limitAt limits
   out-small = omega (arith, most-of codes ok 3 (lit< tt) 3 refl 24 tt)
@@ -162,34 +149,16 @@ module _ (codes : List ℕ) (ok : Within codes) where
   unfolding limitAt limits
   score-small = omega (arith, most-of codes ok 4 (lit< tt) 4 refl 48 tt)
 
-  -- the end of `codes_keep`
-  pub keep-all :
-      (caps : Bool) →
-      caps ≡ every 8 (capRule (map numberOf codes)) →
-      leb (getD codes 0 0) (getD codes 1 0)
-      && leb (getD codes 1 0) (getD codes 2 0)
-      && ltb (getD codes 3 0) (getD codes 0 0)
-      && leb (2 * getD codes 3 0) (getD codes 1 0)
-      && leb (getD codes 4 0 + getD codes 3 0) (getD codes 1 0)
-      && leb (getD codes 10 0) (getD codes 11 0)
-      && ltb (getD codes 11 0) (getD codes 9 0)
-      && caps
-      ≡ every 8 (rule (map numberOf codes))
-  keep-all caps e =
-      eight (rule (map numberOf codes))
-      (leb (getD codes 0 0) (getD codes 1 0))
-      (leb (getD codes 1 0) (getD codes 2 0))
-      (ltb (getD codes 3 0) (getD codes 0 0))
-      (leb (2 * getD codes 3 0) (getD codes 1 0))
-      (leb (getD codes 4 0 + getD codes 3 0) (getD codes 1 0))
-      (leb (getD codes 10 0) (getD codes 11 0))
-      (ltb (getD codes 11 0) (getD codes 9 0))
-      caps
-      le-lo
-      le-hi
-      lt-lo
-      twice-out
-      sum-out
-      le-gossip
-      lt-publish
-      (e ∙ caps-are)
+-- ---- the ends of `keeps`: rule k, which is the n-th
+pub rule-at : (xs : List ℤ) (k n : ℕ) (b : Bool) → k ≡ n → b ≡ rule xs n → b ≡ rule xs k
+rule-at xs k n b e f = rw e f
+
+four : (k : ℕ) → (k ≡ 0 → ⊥) → (k ≡ 1 → ⊥) → (k ≡ 2 → ⊥) → (k ≡ 3 → ⊥) → 4 ≤ k
+four k a b c d = omega arith
+
+seven′ : (k : ℕ) → 4 ≤ k → k < ruleCount → (k ≡ 4 → ⊥) → (k ≡ 5 → ⊥) → (k ≡ 6 → ⊥) → k ≡ 7
+seven′ k f h a b c = omega arith
+
+-- the last of eight, once the first seven are ruled out (omega takes six such facts at most)
+pub seven : (k : ℕ) → k < ruleCount → (k ≡ 0 → ⊥) → (k ≡ 1 → ⊥) → (k ≡ 2 → ⊥) → (k ≡ 3 → ⊥) → (k ≡ 4 → ⊥) → (k ≡ 5 → ⊥) → (k ≡ 6 → ⊥) → k ≡ 7
+seven k h a b c d e f g = seven′ k (four k a b c d) h e f g

@@ -1,12 +1,4 @@
-pub mod LimitLaws
-pub mod RowLaws
 pub mod CheckLaws
-pub mod JointLaws
-pub mod ReadLaws
-pub mod WriteLaws
-pub mod RoundTrip
-pub mod PlaceLaws
 pub mod OrdinaryLaws
-pub mod FieldLaws
 pub mod CodeRules
 pub mod ParamLaws

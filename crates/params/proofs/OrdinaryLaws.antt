@@ -4,15 +4,16 @@ use mathlib.Core.Path.{_≡_, refl}
 use lib.ListN.{length}
 use Rattle.index.specs.Index.{first, every}
 use Rattle.index.specs.declared.Found.the-variants.{Nothing}
-use Rattle.params.specs.Limits.{limits, limitAt, inLimits}
+use Rattle.records.specs.Records.{paramCount}
+use Rattle.limits.specs.Limits.{limits, limitAt, inLimits, outside}
 use Rattle.params.specs.Joint.{capRule, joint, rule}
-use Rattle.params.specs.Check.{outside, broken, firstBroken}
+use Rattle.params.specs.Check.{broken, firstBroken}
 use Rattle.params.specs.Ordinary.{ordinaryNumbers}
 
 pub ordinary-accepted : firstBroken ordinaryNumbers ≡ Nothing
 unfolding firstBroken first every outside broken inLimits limitAt limits rule joint capRule ordinaryNumbers
 ordinary-accepted = refl
 
-pub ordinary-length : length ordinaryNumbers ≡ 147
+pub ordinary-length : length ordinaryNumbers ≡ paramCount
 unfolding ordinaryNumbers
 ordinary-length = refl

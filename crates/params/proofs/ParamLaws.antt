@@ -1,5 +1,5 @@
 -- What upper crates use of accepted codes, as the parameters stand in a router's tables: the bounds of every number's magnitude by name, and
--- the joint rules of magnitudes. Signs and further laws by field are in proofs/FieldLaws.antt.
+-- the joint rules of magnitudes. Signs and further laws by field are in limits/proofs/FieldLaws.antt.
 -- Assumes nothing.
 use Prim.Native.Nat.{ℕ, suc, _+_, _*_, _<_, _≤_}
 use mathlib.Core.Path.{_≡_, refl, sym, ap, _∙_}
@@ -12,12 +12,13 @@ use lib.ListN.{getD}
 use Rattle.index.specs.Index.{every}
 use Rattle.index.proofs.Index.{every-at}
 use Rattle.varint.specs.Codes.{numberOf}
-use Rattle.params.specs.Limits.{limits, limitAt}
-use Rattle.params.specs.Joint.{place, capRule, rule}
+use Rattle.records.specs.Records.{topicCount}
+use Rattle.limits.specs.Limits.{limits, limitAt, place}
+use Rattle.params.specs.Joint.{ruleCount, capRule, rule}
 use Rattle.params.specs.Check.{acceptedCodes}
-use Rattle.params.proofs.LimitLaws.{topic-field}
+use Rattle.limits.proofs.LimitLaws.{topic-field}
 use Rattle.params.proofs.CheckLaws.{codes-pass}
-use Rattle.params.proofs.FieldLaws.{size, Within, most-of, least-of, loss-least, gain-code, loss-code}
+use Rattle.limits.proofs.FieldLaws.{size, Within, most-of, least-of, loss-least, gain-code, loss-code}
 use Rattle.params.proofs.CodeRules.{le-lo, le-hi, lt-lo, twice-out, sum-out, le-gossip, lt-publish, cap-of, caps-are}
 
 -- ---- the magnitudes of the general numbers, by name
@@ -90,7 +91,7 @@ pub record Joints (codes : List ℕ) : Type 0 where
   pub score-out : size codes 4 + size codes 3 ≤ size codes 1
   pub gossip-publish : size codes 10 ≤ size codes 11
   pub publish-graylist : size codes 11 < size codes 9
-  pub cap : (k : ℕ) → k < 8 → size codes (place k 10) ≤ size codes (place k 9)
+  pub cap : (k : ℕ) → k < topicCount → size codes (place k 10) ≤ size codes (place k 9)
 
 module _ (codes : List ℕ) (accepted : acceptedCodes codes ≡ true) where
   pub within : Within codes
@@ -134,7 +135,7 @@ module _ (codes : List ℕ) (accepted : acceptedCodes codes ≡ true) where
         decayToZero-most = most-of codes within 18 (lit< tt) 18 refl 1000 tt;
       }
 
-  pub topic : (k : ℕ) → k < 8 → Topic codes k
+  pub topic : (k : ℕ) → k < topicCount → Topic codes k
   unfolding limitAt limits
   topic k h =
       record {
@@ -163,11 +164,11 @@ module _ (codes : List ℕ) (accepted : acceptedCodes codes ≡ true) where
         p4Decay-most = most-of codes within (place k 15) (omega arith) 34 (topic-field k 15 (lit< tt)) 999 tt;
       }
 
-  holds : (k : ℕ) → k < 8 → rule (map numberOf codes) k ≡ true
-  holds k h = every-at (rule (map numberOf codes)) 8 k (codes-pass codes accepted .1) h
+  holds : (k : ℕ) → k < ruleCount → rule (map numberOf codes) k ≡ true
+  holds k h = every-at (rule (map numberOf codes)) ruleCount k (codes-pass codes accepted .1) h
 
   -- a rule that holds, by the codes
-  le-by : (u v k : ℕ) → k < 8 → leb u v ≡ rule (map numberOf codes) k → u ≤ v
+  le-by : (u v k : ℕ) → k < ruleCount → leb u v ≡ rule (map numberOf codes) k → u ≤ v
   le-by u v k h e = leb-true u v (e ∙ holds k h)
 
   pub joints : Joints codes
@@ -192,6 +193,6 @@ module _ (codes : List ℕ) (accepted : acceptedCodes codes ≡ true) where
         cap = λ k h. cap-le k h;
       }
     where
-      cap-le : (k : ℕ) → k < 8 → size codes (place k 10) ≤ size codes (place k 9)
+      cap-le : (k : ℕ) → k < topicCount → size codes (place k 10) ≤ size codes (place k 9)
       cap-le k h =
-          omega (arith, leb-true (getD codes (place k 10) 0) (getD codes (place k 9) 0) (cap-of codes within k h ∙ every-at (capRule (map numberOf codes)) 8 k (caps-are codes within ∙ holds 7 (lit< tt)) h))
+          omega (arith, leb-true (getD codes (place k 10) 0) (getD codes (place k 9) 0) (cap-of codes within k h ∙ every-at (capRule (map numberOf codes)) topicCount k (caps-are codes within ∙ holds 7 (lit< tt)) h))

@@ -9,21 +9,23 @@ use Rattle.index.specs.Index.{first, orElse}
 use Rattle.index.specs.declared.Found.{Found}
 use Rattle.index.specs.declared.Found.the-variants.{At, Nothing}
 use Rattle.varint.specs.Codes.{numberOf}
-use Rattle.params.specs.Limits.{inLimits}
-use Rattle.params.specs.Joint.{rule}
+use Rattle.records.specs.Records.{paramCount}
+use Rattle.limits.specs.Limits.{outside}
+use Rattle.params.specs.Joint.{ruleCount, rule}
 
-unfoldable pub outside : List ℤ → ℕ → Bool
-outside xs i = not (inLimits xs i)
+-- the number of the first joint rule among the places of 9
+abbrev pub firstRule : ℕ
+firstRule = 200
 
 unfoldable pub broken : List ℤ → ℕ → Bool
 broken xs k = not (rule xs k)
 
 abbrev pub asRule : Found → Found
-asRule (At k) = At (200 + k)
+asRule (At k) = At (firstRule + k)
 asRule Nothing = Nothing
 
 unfoldable pub firstBroken : List ℤ → Found
-firstBroken xs = orElse (first 147 (outside xs)) (asRule (first 8 (broken xs)))
+firstBroken xs = orElse (first paramCount (outside xs)) (asRule (first ruleCount (broken xs)))
 
 abbrev pub isNothing : Found → Bool
 isNothing (At i) = false
@@ -31,4 +33,4 @@ isNothing Nothing = true
 
 -- the check of 147 codes, as the parameters stand in a router's tables
 unfoldable pub acceptedCodes : List ℕ → Bool
-acceptedCodes codes = eqb (length codes) 147 && isNothing (firstBroken (map numberOf codes))
+acceptedCodes codes = eqb (length codes) paramCount && isNothing (firstBroken (map numberOf codes))

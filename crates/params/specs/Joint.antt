@@ -1,16 +1,16 @@
 -- The joint rules (01, "Joint rules, in order"), as a list: another edition of the parameters replaces an entry of it.
-use Prim.Native.Nat.{ℕ, _+_, _*_}
+use Prim.Native.Nat.{ℕ}
 use mathlib.Core.Bool.{Bool, true}
 use mathlib.Core.List.{List, [], _∷_}
 use lib.ListN.{getD}
 use lib.IntN.{ℤ, pos, _+ℤ_, _*ℤ_}
 use lib.Signed.{leZ, ltZ}
 use Rattle.index.specs.Index.{every}
-use Rattle.params.specs.Limits.{at}
+use Rattle.records.specs.Records.{topicCount}
+use Rattle.limits.specs.Limits.{place, at}
 
--- the j-th number of topic k
-abbrev pub place : ℕ → ℕ → ℕ
-place k j = 19 + 16 * k + j
+abbrev pub ruleCount : ℕ
+ruleCount = 8
 
 -- in topic k, P3 cap ≥ P3 threshold
 unfoldable pub capRule : List ℤ → ℕ → Bool
@@ -58,7 +58,7 @@ module _ (xs : List ℤ) where
       -- graylist < publish
       ∷ ltZ graylist publish
       -- in every topic P3 cap ≥ P3 threshold
-      ∷ every 8 (capRule xs)
+      ∷ every topicCount (capRule xs)
       ∷ []
 
   -- rule k holds

@@ -2,7 +2,7 @@
 use Prim.Native.Nat.{ℕ, zero, suc}
 use mathlib.Core.List.{List, [], _∷_, _++_}
 use lib.IntN.{ℤ, pos}
-use Rattle.params.specs.Limits.{minus}
+use Rattle.limits.specs.Limits.{minus}
 
 abbrev general : List ℤ
 general =

@@ -7,7 +7,7 @@ ghost use lib.ListN.{length};
 ghost use Rattle.index.specs.Index.{one};
 ghost use Rattle.layout.specs.View.{cellCount, stateOf};
 ghost use Rattle.records.specs.Records.{topicCount, slotCount};
-ghost use Rattle.params.specs.Joint.{place as topicPlace};
+ghost use Rattle.limits.specs.Limits.{place as topicPlace};
 ghost use Rattle.validity.specs.Valid.{valid};
 ghost use Rattle.score.specs.Ranges.{ShareIn, TopicsIn, PartsIn};
 ghost use Rattle.score.specs.Sums.{sumOf};

@@ -5,7 +5,7 @@ use native.Mathlib.Omega.{arith}
 use mathlib.Core.Path.{_≡_, refl, sym, ap, _∙_}
 use mathlib.Core.Logic.{_≢_}
 use mathlib.Core.Bool.{Bool, cond}
-use mathlib.Core.List.{[]}
+use mathlib.Core.List.{[], List}
 use lib.Dec.{eqb}
 use lib.IntN.{ℤ}
 use lib.ListN.{length, getD, length-set, List·getD-eq-default}
@@ -26,7 +26,7 @@ use Rattle.effects.specs.Effects.{withSubscribed, onPeer, onTopic, isJoined, is
 use Rattle.effects.specs.Effects.{emptied, reclaimSlot, reclaimed}
 use Rattle.effects.proofs.EffectLaws.{end-other}
 use Rattle.rules.specs.Reply.{Reply, ignored, done}
-use Rattle.rules.specs.Step.{isNegative, isGraylisted, isHeard, joinReply, punished, leaveSlot, leaveReply, subscribeReply}
+use Rattle.rules.specs.Step.{isNegative, isGraylisted, isHeard, joinReply, punished, leaveSlot, leaveReply, subscribeReply, raisedP7}
 use Rattle.rules.specs.Step.{unsubscribeReply, graftRefused, secondsOf, pruneReply, deliveredOf, deliverReply, decayFloor, decayTopic}
 use Rattle.rules.specs.Step.{decayP7, decaySlot, decayReply}
 use Rattle.promises.specs.Ends.{endIn}
@@ -111,15 +111,21 @@ module _ (st : State) (s : ℕ) where
   unfolding connectedAs
   calmer-connected id group flags version = calmer-peer st s _ (λ t k m. omega arith)
 
-  -- a backoff of who is no member
-  pub calmer-end : (t end : ℕ) → topicIn st (place s t) .member ≢ 1 → Calmer st (onPeer st s (λ p. withEnd p t end))
-  calmer-end t end n =
+  -- a backoff of who is no member, in a record that may have other numbers too
+  calmer-with-end :
+      (p : Peer) (t end : ℕ) → p .backoff ≡ peerIn st s .backoff → topicIn st (place s t) .member ≢ 1 →
+      Calmer st (setPeer st s (withEnd p t end))
+  calmer-with-end p t end same n =
       calmer-peer st s _ (λ v k m.
       by-test _ (eqb v t)
       (λ e. absurd (n (rw (eqb-true v t e) at m)))
       (λ e.
-      let q = end-other (peerIn st s) t end v (eqb-false v t e) in
-      omega (arith, q)))
+      let q = end-other p t end v (eqb-false v t e) in
+      let w = ap (λ (b : List ℕ). getD b v 0) same in
+      omega (arith, q, w)))
+
+  pub calmer-end : (t end : ℕ) → topicIn st (place s t) .member ≢ 1 → Calmer st (onPeer st s (λ p. withEnd p t end))
+  calmer-end t end n = calmer-with-end (peerIn st s) t end refl n
 
   calmer-on :
       (t : ℕ) (g : TopicRecord → TopicRecord) →
@@ -299,18 +305,13 @@ module _ (st : State) (time : ℕ) where
 
 -- ---- a GRAFT of no member that is answered by a PRUNE
 module _ (st : State) (time t s : ℕ) (n : topicIn st (place s t) .member ≢ 1) where
-  pub calmer-refused : Calmer st (graftRefused st time t s .state)
+  pub calmer-refused : Calmer st (graftRefused st time t s (peerIn st s) .state)
   unfolding graftRefused
   calmer-refused =
       let end = endAfter time (pruneBackoff st) in
       calmer-moved st time (onPeer st s (λ p. withEnd p t end)) (calmer-end st s t end n)
 
-pub calmer-running :
-    (st : State) (time t s n : ℕ) →
-    topicIn st (place s t) .member ≢ 1 →
-    Calmer st (graftRefused (onPeer st s (λ p. withP7 p n)) time t s .state)
-calmer-running st time t s n out =
-    let u = onPeer st s (λ p. withP7 p n) in
-    calmer-then {a = st} {b = u} {c = graftRefused u time t s .state}
-    (calmer-p7 st s n)
-    (calmer-refused u time t s (λ m. out (rw (topic-after-peer st s (withP7 (peerIn st s) n) (place s t)) at m)))
+  pub calmer-raised : Calmer st (graftRefused st time t s (raisedP7 (peerIn st s)) .state)
+  unfolding graftRefused raisedP7 withP7
+  calmer-raised =
+      calmer-moved st time (setPeer st s _) (calmer-with-end st s (raisedP7 (peerIn st s)) t (endAfter time (pruneBackoff st)) refl n)

@@ -15,7 +15,7 @@ use Rattle.index.specs.declared.Found.the-variants.{At}
 use Rattle.index.proofs.Index.{both, iter-keeps}
 use Rattle.index.proofs.Flags.{by-test, cond-case}
 use Rattle.varint.specs.Codes.{codeOf}
-use Rattle.params.specs.Limits.{at}
+use Rattle.limits.specs.Limits.{at}
 use Rattle.records.specs.declared.Peer.{Peer}
 use Rattle.records.specs.declared.TopicRecord.{TopicRecord}
 use Rattle.records.specs.Records.{State, noTopic, place, codeIn, peerIn, topicIn, setClock, isConnected, slotCount}

@@ -43,8 +43,9 @@ use Rattle.rules.specs.declared.Answer.the-variants.{AlreadyConnected, NoSlot, 
 use Rattle.rules.specs.Reply.{Reply, refused, ignored, done}
 use Rattle.rules.specs.Calls.{Call, connect, disconnect, join, leave, subscribe, unsubscribe, graft, prune, deliver, rate, heartbeat, decay}
 use Rattle.rules.specs.Calls.{score}
+use Rattle.rules.proofs.GraftLaws.{by-graft}
 use Rattle.rules.specs.Step.{isGraylisted, isHeard, onFound, onVersion, ofPeer, connectAt, connectIn, connectReply, joinReply}
-use Rattle.rules.specs.Step.{subscribeReply, unsubscribeReply, graftEnters, graftRefused, graftOpen, graftBackoff, graftHeard, graftReply}
+use Rattle.rules.specs.Step.{subscribeReply, unsubscribeReply, graftRefused, graftReply}
 use Rattle.rules.specs.Step.{pruneReply, deliveredOf, deliverReply, decayFloor, decayTopic, decayP7, decaySlot, decayReply, effect, step}
 use Rattle.rules.proofs.CaseLaws.{by-gate}
 use Rattle.call_lists.specs.Lists.{after}
@@ -194,20 +195,19 @@ module _ (st : State) (time : ℕ) where
   low-unsubscribe t s =
       low-if (isGraylisted st s) (ignored st time) _ (lower-clock st time) (ticks _ (lower-topic st (place s t) _ (omega arith)))
 
-  low-back : (u : State) (t s : ℕ) → Lower st u → Low (graftRefused u time t s)
+  low-back : (t s : ℕ) (p : Peer) → Low (graftRefused st time t s p)
   unfolding graftRefused
-  low-back u t s h = ticks _ (lower-then st u _ h (lower-peer u s _))
+  low-back t s p = ticks _ (lower-peer st s _)
 
   low-graft : (t s : ℕ) → Low (graftReply st time t s)
-  unfolding graftReply graftHeard graftBackoff graftOpen intoMesh
+  unfolding intoMesh
   low-graft t s =
-      let back = low-back st t s (lower-self st) in
-      low-if (isHeard st t s) _ (ignored st time)
-      (low-if (isMember st t s) (done st time []) _ (lower-clock st time)
-      (low-if (eqb (peerIn st s .explicit) 1) _ _ back
-      (low-if (backoffRuns (peerIn st s) t time) _ _ (low-back _ t s (lower-peer st s _))
-      (low-if (graftEnters st t s) _ _ (ticks _ (lower-topic st (place s t) _ (omega arith))) back))))
-      (lower-clock st time)
+      by-graft Low st time t s
+      (λ e. lower-clock st time)
+      (λ e m. lower-clock st time)
+      (λ e. low-back t s _)
+      (λ e. low-back t s _)
+      (λ e. ticks _ (lower-topic st (place s t) _ (omega arith)))
 
   low-prune : (t seconds s : ℕ) → Low (pruneReply st time t seconds s)
   unfolding pruneReply

@@ -1,6 +1,7 @@
 -- Demand 1: every reply behind the gate is a refusal, an `ignored` or a `done`, and each of the three is so by its definition; of the
 -- program, what a promise fixes of the state fixes every cell.
 -- Assumes nothing.
+use Rattle.records.specs.declared.Peer.{Peer}
 use Prim.Native.Nat.{ℕ}
 use native.Mathlib.Omega.{arith}
 use mathlib.Core.Path.{_≡_, refl, sym, ap, _∙_}
@@ -32,9 +33,10 @@ use Rattle.rules.specs.declared.Gate.the-variants.{Pass, Refuse}
 use Rattle.rules.specs.Reply.{Reply, numberOf, refuses, refused, ignored, done}
 use Rattle.rules.specs.Calls.{Call, connect, disconnect, join, leave, subscribe, unsubscribe, graft, prune, deliver, rate, heartbeat, decay}
 use Rattle.rules.specs.Calls.{score, timeOf, inRange}
-use Rattle.rules.specs.Step.{actionRoom, isGraylisted, isHeard, graftEnters, gateOf, through, onFound, ofPeer, onVersion, connectAt}
+use Rattle.rules.proofs.GraftLaws.{by-graft}
+use Rattle.rules.specs.Step.{actionRoom, isGraylisted, isHeard, gateOf, through, onFound, ofPeer, onVersion, connectAt}
 use Rattle.rules.specs.Step.{connectIn, connectReply, joinReply, leaveActions, leaveReply, subscribeReply, unsubscribeReply, graftRefused}
-use Rattle.rules.specs.Step.{graftOpen, graftBackoff, graftHeard, graftReply, pruneReply, deliverReply, maintainedReply, heartbeatReply}
+use Rattle.rules.specs.Step.{graftReply, pruneReply, deliverReply, maintainedReply, heartbeatReply}
 use Rattle.rules.specs.Step.{decayReply, effect, step}
 use Rattle.promises.specs.Demand1.{Untouched, Demand1, ProgramDemand1}
 
@@ -77,19 +79,18 @@ module _ (st : State) (time : ℕ) where
       (un-found (lowestEmpty (reclaimed st time)) _ _ (λ s. un-done _ []) (un-refused NoSlot (λ e. omega arith)))))
       (un-refused UnknownProtocol (λ e. omega arith))
 
-  un-back : (u : State) (t s : ℕ) → Un (graftRefused u time t s)
+  un-back : (t s : ℕ) (p : Peer) → Un (graftRefused st time t s p)
   unfolding graftRefused
-  un-back u t s = un-done _ _
+  un-back t s p = un-done _ _
 
   un-graft : (t s : ℕ) → Un (graftReply st time t s)
-  unfolding graftReply graftHeard graftBackoff graftOpen
   un-graft t s =
-      un-cond (isHeard st t s) _ _
-      (un-cond (isMember st t s) _ _ (un-done st [])
-      (un-cond (eqb (peerIn st s .explicit) 1) _ _ (un-back st t s)
-      (un-cond (backoffRuns (peerIn st s) t time) _ _ (un-back _ t s)
-      (un-cond (graftEnters st t s) _ _ (un-done _ []) (un-back st t s)))))
-      un-ignored
+      by-graft Un st time t s
+      (λ e. un-ignored)
+      (λ e m. un-done st [])
+      (λ e. un-back t s _)
+      (λ e. un-back t s _)
+      (λ e. un-done _ [])
 
   un-maintained : (t ask : ℕ) (order : List ℕ) → Un (maintainedReply st time t ask order)
   unfolding maintainedReply

@@ -20,17 +20,18 @@ use Rattle.index.proofs.Index.{both}
 use Rattle.index.proofs.Flags.{by-test, cond-case}
 use Rattle.varint.specs.Codes.{codeOf, numberOf as signed}
 use Rattle.varint.proofs.CodeLaws.{number-code}
-use Rattle.params.specs.Limits.{at}
+use Rattle.limits.specs.Limits.{at}
 use Rattle.records.specs.Records.{State, codeIn, peerIn, joinedIn, slotCount}
 use Rattle.validity.proofs.ValidLaws.{valid-facts}
 use Rattle.lookup.specs.Find.{findConnected}
 use Rattle.lookup.proofs.FindLaws.{connected-at, none-connected, connected-is}
-use Rattle.effects.specs.Effects.{isJoined, isMember, backoffRuns}
+use Rattle.effects.specs.Effects.{isJoined, isMember, backoffRuns, onTopic, intoMesh}
 use Rattle.rules.specs.Reply.{Reply, numberOf, refused, ignored, done}
 use Rattle.rules.specs.Calls.{Call, connect, disconnect, join, leave, subscribe, unsubscribe, graft, prune, deliver, rate, heartbeat, decay}
 use Rattle.rules.specs.Calls.{score}
-use Rattle.rules.specs.Step.{onFound, ofPeer, joinReply, leaveReply, decayReply, isGraylisted, isHeard, subscribeReply, unsubscribeReply}
-use Rattle.rules.specs.Step.{graftEnters, graftRefused, graftOpen, graftBackoff, graftHeard, graftReply, pruneReply, deliverReply, effect}
+use Rattle.rules.proofs.GraftLaws.{by-graft}
+use Rattle.rules.specs.Step.{onFound, ofPeer, joinReply, leaveReply, decayReply, isGraylisted, isHeard, subscribeReply, unsubscribeReply, raisedP7}
+use Rattle.rules.specs.Step.{graftRefused, graftReply, pruneReply, deliverReply, effect}
 use Rattle.call_lists.specs.Lists.{after}
 use Rattle.call_lists.proofs.Demand3.{standing}
 use Rattle.promises.specs.Ignored.{Graylisted, Sender, Words11, Row11, Row0}
@@ -52,7 +53,7 @@ module _ (params : List ℤ) (st : State) (codes : st .codes ≡ map codeOf para
       rw (eq-eqb _ _ (g .plain), number-is st params codes 9) (g .below) in
       false≢true (sym e ∙ a)
 
-  gray-yes : isGraylisted st s ≡ true → Graylisted params st s
+  pub gray-yes : isGraylisted st s ≡ true → Graylisted params st s
   unfolding isGraylisted
   gray-yes e =
       let q = both (eqb (peerIn st s .explicit) 0) _ e in
@@ -98,30 +99,23 @@ module _ (params : List ℤ) (st : State) (codes : st .codes ≡ map codeOf para
       by-test _ (isGraylisted st s) (λ y. false≢true (ap not (sym y) ∙ q .1)) (λ y. gray-no y g))
       d
 
+  -- a call that is heard is answered 0
+  told-0 : (t : ℕ) (r : Reply) → isHeard st t s ≡ true → numberOf (r .answer) ≡ 0 → Is (Deaf t) r
+  told-0 t r e z = iff-no (λ n. omega (arith, n, z)) (not-deaf t e)
+
   heard-11 : (time t : ℕ) (r : Reply) → numberOf (r .answer) ≡ 0 → Is (Deaf t) (cond (isHeard st t s) r (ignored st time))
   heard-11 time t r z =
-      cond-case (Is (Deaf t)) (isHeard st t s) r (ignored st time)
-      (λ e. iff-no (λ n. omega (arith, n, z)) (not-deaf t e))
-      (λ e. iff-yes refl (deaf t e))
-
-  back-0 : (u : State) (time t : ℕ) → numberOf (graftRefused u time t s .answer) ≡ 0
-  unfolding graftRefused
-  back-0 u time t = refl
-
-  abbrev Zero : Reply → Type 0
-  Zero r = numberOf (r .answer) ≡ 0
-
-  heard-0 : (time t : ℕ) → numberOf (graftHeard st time t s .answer) ≡ 0
-  unfolding graftHeard graftBackoff graftOpen
-  heard-0 time t =
-      cond-case Zero (isMember st t s) (done st time []) _ (λ e. refl) (λ e.
-      cond-case Zero (eqb (peerIn st s .explicit) 1) (graftRefused st time t s) _ (λ f. back-0 st time t) (λ f.
-      cond-case Zero (backoffRuns (peerIn st s) t time) (graftRefused _ time t s) _ (λ b. back-0 _ time t) (λ b.
-      cond-case Zero (graftEnters st t s) _ (graftRefused st time t s) (λ g. refl) (λ g. back-0 st time t))))
+      cond-case (Is (Deaf t)) (isHeard st t s) r (ignored st time) (λ e. told-0 t r e z) (λ e. iff-yes refl (deaf t e))
 
   grafted-11 : (time t : ℕ) → Is (Deaf t) (graftReply st time t s)
-  unfolding graftReply
-  grafted-11 time t = heard-11 time t (graftHeard st time t s) (heard-0 time t)
+  unfolding graftRefused isHeard
+  grafted-11 time t =
+      by-graft (Is (Deaf t)) st time t s
+      (λ e. iff-yes refl (deaf t e))
+      (λ e m. told-0 t (done st time []) e refl)
+      (λ e. told-0 t (graftRefused st time t s (peerIn st s)) (e .heard) refl)
+      (λ e. told-0 t (graftRefused st time t s (raisedP7 (peerIn st s))) (e .outside .heard) refl)
+      (λ e. told-0 t (done (onTopic st s t (λ r. intoMesh r time)) time []) (e .outside .heard) refl)
 
   pruned-11 : (time t seconds : ℕ) → Is (Deaf t) (pruneReply st time t seconds s)
   unfolding pruneReply

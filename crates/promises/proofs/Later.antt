@@ -26,7 +26,7 @@ use Rattle.effects.specs.Effects.{magnitude, pruneBackoff, withEnd, withP5, wit
 use Rattle.effects.specs.Effects.{isMember, pruned, endAfter, leftTopic, departed}
 use Rattle.effects.proofs.EffectLaws.{end-later, end-same, pruned-same}
 use Rattle.sets.specs.Sets.{at}
-use Rattle.rules.specs.Step.{isNegative, punished, leaveSlot, graftRefused, decayFloor, decayTopic, decayP7, decaySlot, settleSlot}
+use Rattle.rules.specs.Step.{isNegative, punished, leaveSlot, graftRefused, decayFloor, decayTopic, decayP7, decaySlot, settleSlot, raisedP7}
 use Rattle.promises.specs.Ends.{endIn}
 
 pub record LaterAt (p q : Peer) : Type 0 where
@@ -170,20 +170,18 @@ module _ (st : State) (time : ℕ) where
   pub later-on : (k : ℕ) (r : TopicRecord) → Later st (setClock (setTopic st k r) time)
   later-on k r = later-moved (setTopic st k r) (later-topic st k r)
 
-  pub later-refused : (t s : ℕ) → Later st (graftRefused st time t s .state)
+  pub later-refused : (t s : ℕ) → Later st (graftRefused st time t s (peerIn st s) .state)
   unfolding graftRefused
   later-refused t s =
       let end = endAfter time (pruneBackoff st) in
       later-moved (onPeer st s (λ p. withEnd p t end))
       (later-peer st s (withEnd (peerIn st s) t end) (at-end (peerIn st s) t end))
 
-pub later-running :
-    (st : State) (time t s n : ℕ) → Later st (graftRefused (onPeer st s (λ p. withP7 p n)) time t s .state)
-later-running st time t s n =
-    let u = onPeer st s (λ p. withP7 p n) in
-    later-then st u (graftRefused u time t s .state)
-    (later-peer st s (withP7 (peerIn st s) n) (at-p7 (peerIn st s) n))
-    (later-refused u time t s)
+  pub later-raised : (t s : ℕ) → Later st (graftRefused st time t s (raisedP7 (peerIn st s)) .state)
+  unfolding graftRefused raisedP7 withP7 withEnd
+  later-raised t s =
+      later-moved (setPeer st s _)
+      (later-peer st s _ (record { used = λ n. n; id = λ n. refl; ends = end-later (peerIn st s) t (endAfter time (pruneBackoff st)) }))
 
 -- ---- a backoff that is set
 pub end-set : (st : State) (s t end : ℕ) → Sized st → s < slotCount → t < 8 → end ≤ endIn (onPeer st s (λ p. withEnd p t end)) s t

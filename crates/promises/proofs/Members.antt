@@ -35,8 +35,9 @@ use Rattle.rules.specs.declared.Answer.the-variants.{NotPermutation}
 use Rattle.rules.specs.Reply.{Reply, refused, ignored, done}
 use Rattle.rules.specs.Calls.{Call, connect, disconnect, join, leave, subscribe, unsubscribe, graft, prune, deliver, rate, heartbeat, decay}
 use Rattle.rules.specs.Calls.{score, topicOk, argumentsOk}
-use Rattle.rules.specs.Step.{isNegative, isHeard, isCandidate, onFound, onVersion, ofPeer, connectAt, connectIn, connectReply, graftEnters}
-use Rattle.rules.specs.Step.{graftRefused, graftOpen, graftBackoff, graftHeard, graftReply, viewIn, meshesIn, punished, settleSlot}
+use Rattle.rules.proofs.GraftLaws.{by-graft}
+use Rattle.rules.specs.Step.{isNegative, isHeard, isCandidate, onFound, onVersion, ofPeer, connectAt, connectIn, connectReply}
+use Rattle.rules.specs.Step.{graftRefused, graftReply, viewIn, meshesIn, punished, settleSlot}
 use Rattle.rules.specs.Step.{maintainedReply, heartbeatReply, effect, step}
 use Rattle.rules.proofs.HeartbeatLaws.{view-kept}
 use Rattle.rules.proofs.PunishedLaws.{punished-peer}
@@ -44,7 +45,7 @@ use Rattle.rules.proofs.CaseLaws.{topic-in, topic-of-both, arguments, by-peer, 
 use Rattle.promises.specs.Ends.{endIn}
 use Rattle.promises.proofs.Calmer.{Calmer, calmer-then, calmer-clock, calmer-moved, calmer-connected, calmer-punished, calmer-pruned}
 use Rattle.promises.proofs.Calmer.{calmer-still, calmer-disconnect, calmer-join, calmer-leave, calmer-subscribe, calmer-unsubscribe}
-use Rattle.promises.proofs.Calmer.{calmer-prune, calmer-deliver, calmer-rate, calmer-decay, calmer-refused, calmer-running}
+use Rattle.promises.proofs.Calmer.{calmer-prune, calmer-deliver, calmer-rate, calmer-decay, calmer-refused, calmer-raised}
 use Rattle.promises.proofs.Calmer.{calmer-reclaimed}
 
 abbrev pub Out : State → Type 0
@@ -77,30 +78,15 @@ module _ (st : State) (o : Out st) (time t s : ℕ) (k : t < 8) where
   abbrev After : Reply → Type 0
   After r = Out (r .state)
 
-  open-out : backoffRuns (peerIn st s) t time ≡ false → topicIn st (place s t) .member ≢ 1 → After (graftOpen st time t s)
-  unfolding graftOpen
-  open-out e n =
-      let u = onTopic st s t (λ r. intoMesh r time) in
-      cond-case After (graftEnters st t s) (done u time []) (graftRefused st time t s)
-      (λ g. out-calmer u (setClock u time) (out-taken st time t s k o (ltb-false time (endIn st s t) e)) (calmer-clock u time))
-      (λ g. out-calmer st _ o (calmer-refused st time t s n))
-
   pub out-graft : After (graftReply st time t s)
-  unfolding graftReply graftHeard graftBackoff isMember
   out-graft =
-      cond-case After (isHeard st t s) (graftHeard st time t s) (ignored st time)
-      (λ j.
-      cond-case After (isMember st t s) (done st time []) _
-      (λ m. out-calmer st _ o (calmer-still st time))
-      (λ m.
-      let n : topicIn st (place s t) .member ≢ 1 = eqb-false (topicIn st (place s t) .member) 1 m in
-      cond-case After (eqb (peerIn st s .explicit) 1) (graftRefused st time t s) (graftBackoff st time t s)
-      (λ x. out-calmer st _ o (calmer-refused st time t s n))
-      (λ x.
-      cond-case After (backoffRuns (peerIn st s) t time) _ (graftOpen st time t s)
-      (λ b. out-calmer st _ o (calmer-running st time t s (raisedOf (peerIn st s .p7) countMost) n))
-      (λ b. open-out b n))))
-      (λ j. out-calmer st _ o (calmer-still st time))
+      let u = onTopic st s t (λ r. intoMesh r time) in
+      by-graft After st time t s
+      (λ e. out-calmer st _ o (calmer-still st time))
+      (λ e m. out-calmer st _ o (calmer-still st time))
+      (λ e. out-calmer st _ o (calmer-refused st time t s (eqb-false _ _ (e .new))))
+      (λ e. out-calmer st _ o (calmer-raised st time t s (eqb-false _ _ (e .outside .new))))
+      (λ e. out-calmer u (setClock u time) (out-taken st time t s k o (ltb-false time (endIn st s t) (e .over))) (calmer-clock u time))
 
 -- ---- connect
 module _ (st : State) (o : Out st) (time id group flags : ℕ) where

@@ -35,9 +35,10 @@ use Rattle.rules.specs.declared.Answer.the-variants.{UnknownProtocol, NotPermut
 use Rattle.rules.specs.Reply.{Reply, numberOf, refused, ignored, done}
 use Rattle.rules.specs.Calls.{Call, connect, disconnect, join, leave, subscribe, unsubscribe, graft, prune, deliver, rate, heartbeat, decay}
 use Rattle.rules.specs.Calls.{score, timeOf, inRange}
-use Rattle.rules.specs.Step.{actionRoom, isGraylisted, isHeard, graftEnters, gateOf, onFound, ofPeer, onVersion, connectAt, connectIn}
-use Rattle.rules.specs.Step.{connectReply, joinReply, leaveReply, subscribeReply, unsubscribeReply, graftRefused, graftOpen, graftBackoff}
-use Rattle.rules.specs.Step.{graftHeard, graftReply, pruneReply, deliverReply, maintainedReply, heartbeatReply, decayReply, effect, step}
+use Rattle.rules.proofs.GraftLaws.{by-graft}
+use Rattle.rules.specs.Step.{actionRoom, isGraylisted, isHeard, gateOf, onFound, ofPeer, onVersion, connectAt, connectIn}
+use Rattle.rules.specs.Step.{connectReply, joinReply, leaveReply, subscribeReply, unsubscribeReply, graftRefused}
+use Rattle.rules.specs.Step.{graftReply, pruneReply, deliverReply, maintainedReply, heartbeatReply, decayReply, effect, step}
 use Rattle.promises.specs.Numbers.{Connected, Missing, Admitted, Rows, FirstRows, Words3, Row3, Words7, Row7, Known, Strange, Words6}
 use Rattle.promises.specs.Numbers.{Row6, Words4, Row4, Held, Words5, Row5}
 
@@ -76,19 +77,9 @@ Fine r = fine (r .answer) ≡ true
 either : (b : Bool) (o q : Reply) → Fine o → Fine q → Fine (cond b o q)
 either b o q h k = cond-case Fine b o q (λ e. h) (λ e. k)
 
-fine-back : (st : State) (time t s : ℕ) → Fine (graftRefused st time t s)
-unfolding graftRefused
-fine-back st time t s = refl
-
 fine-graft : (st : State) (time t s : ℕ) → Fine (graftReply st time t s)
-unfolding graftReply graftHeard graftBackoff graftOpen
-fine-graft st time t s =
-    either (isHeard st t s) _ (ignored st time)
-    (either (isMember st t s) (done st time []) _ refl
-    (either (eqb (peerIn st s .explicit) 1) (graftRefused st time t s) _ (fine-back st time t s)
-    (either (backoffRuns (peerIn st s) t time) (graftRefused _ time t s) _ (fine-back _ time t s)
-    (either (graftEnters st t s) (done _ time []) (graftRefused st time t s) refl (fine-back st time t s)))))
-    refl
+unfolding graftRefused
+fine-graft st time t s = by-graft Fine st time t s (λ e. refl) (λ e m. refl) (λ e. refl) (λ e. refl) (λ e. refl)
 
 fine-maintained : (st : State) (time t ask : ℕ) (order : List ℕ) → Fine (maintainedReply st time t ask order)
 unfolding maintainedReply

@@ -4,11 +4,11 @@ use Prim.Native.Nat.{ℕ, _+_, _≤_, _<_, min}
 use native.Mathlib.Omega.{arith}
 use mathlib.Core.Path.{_≡_, refl, sym, ap, _∙_}
 use mathlib.Core.Logic.{_≢_, _⊎_, inl, inr, ⊎-elim}
-use mathlib.Core.Bool.{Bool, true, cond, not}
+use mathlib.Core.Bool.{Bool, true, cond, not, false}
 use mathlib.Core.List.{List, [], map}
 use lib.Dec.{eqb}
 use lib.IntN.{ℤ}
-use borrow.Author.Tests.{eqb-true, eqb-false, ne-eqb, ltb-true, lt-ltb}
+use borrow.Author.Tests.{eqb-true, eqb-false, ne-eqb, ltb-true, lt-ltb, eq-eqb}
 use Rattle.index.specs.Index.{iter}
 use Rattle.index.specs.declared.Found.{Found}
 use Rattle.index.specs.declared.Found.the-variants.{At, Nothing}
@@ -41,9 +41,10 @@ use Rattle.rules.specs.declared.Answer.the-variants.{NotPermutation}
 use Rattle.rules.specs.Reply.{Reply, refused, ignored, done}
 use Rattle.rules.specs.Calls.{Call, connect, disconnect, join, leave, subscribe, unsubscribe, graft, prune, deliver, rate, heartbeat, decay}
 use Rattle.rules.specs.Calls.{score, timeOf, inRange}
-use Rattle.rules.specs.Step.{isGraylisted, isHeard, onFound, onVersion, ofPeer, connectAt, connectIn, connectReply, joinReply, punished}
-use Rattle.rules.specs.Step.{leaveSlot, leaveReply, subscribeReply, unsubscribeReply, graftEnters, graftRefused, graftOpen, graftBackoff}
-use Rattle.rules.specs.Step.{graftHeard, graftReply, pruneReply, deliveredOf, deliverReply, meshesIn, settleSlot, maintainedReply}
+use Rattle.rules.proofs.GraftLaws.{Early, by-graft}
+use Rattle.rules.specs.Step.{isGraylisted, isHeard, onFound, onVersion, ofPeer, connectAt, connectIn, connectReply, joinReply, punished, seenIn, raisedP7, graftCase}
+use Rattle.rules.specs.Step.{leaveSlot, leaveReply, subscribeReply, unsubscribeReply, graftRefused}
+use Rattle.rules.specs.Step.{graftReply, pruneReply, deliveredOf, deliverReply, meshesIn, settleSlot, maintainedReply}
 use Rattle.rules.specs.Step.{heartbeatReply, decayFloor, decayTopic, decayP7, decaySlot, decayReply, effect, step}
 use Rattle.rules.proofs.CaseLaws.{by-peer, by-gate}
 use Rattle.rules.proofs.GateLaws.{gate-0}
@@ -53,7 +54,7 @@ use Rattle.call_lists.specs.Lists.{after}
 use Rattle.call_lists.proofs.Demand3.{standing}
 use Rattle.promises.specs.Numbers.{Admitted}
 use Rattle.promises.specs.Penalty.{TooEarly, p7In, P7Rises}
-use Rattle.promises.proofs.Ignored.{deaf, not-deaf}
+use Rattle.promises.proofs.Ignored.{deaf, not-deaf, gray-yes}
 use Rattle.promises.proofs.KeptOut.{by-id}
 
 -- ---- no higher
@@ -262,7 +263,7 @@ module _ (st : State) (time : ℕ) where
       mild-ignored)
       (milder-self st)
 
-  mild-back : (t s : ℕ) → Mild (graftRefused st time t s)
+  mild-back : (t s : ℕ) → Mild (graftRefused st time t s (peerIn st s))
   unfolding graftRefused
   mild-back t s = ticks _ (milder-end st s t _)
 
@@ -274,47 +275,36 @@ module _ (params : List ℤ) (st : State) (codes : st .codes ≡ map codeOf para
   abbrev Only : Reply → Type 0
   Only r = (s : ℕ) → (p7In (r .state) s ≤ p7In st s) ⊎ Cause s
 
-  raised-other : (time t i n s : ℕ) → s ≢ i → p7In (graftRefused (onPeer st i (λ p. withP7 p n)) time t i .state) s ≡ p7In st s
+  raised-other : (time t i s : ℕ) (p : Peer) → s ≢ i → p7In (graftRefused st time t i p .state) s ≡ p7In st s
   unfolding graftRefused
-  raised-other time t i n s x =
-      let v = onPeer st i (λ p. withP7 p n) in
-      ap (λ (p : Peer). p .p7)
-      (peer-after-clock (setPeer v i _) time s ∙ peer-other v i _ s x ∙ peer-other st i _ s x)
+  raised-other time t i s p x =
+      ap (λ (p : Peer). p .p7) (peer-after-clock (setPeer st i _) time s ∙ peer-other st i _ s x)
+
+  -- the call of a peer whose backoff runs
+  too-early : (time t i : ℕ) → peerIn st i .status ≡ 1 → Early (seenIn st t i) time t → TooEarly params st time t i
+  unfolding isHeard isMember
+  too-early time t i on e =
+      record {
+        connected = on;
+        joined = eqb-true (joinedIn st t) 1 (e .outside .joined);
+        heard = λ g. not-deaf params st codes i t (e .outside .heard) (inr g);
+        out = e .outside .new;
+        plain = eqb-false (peerIn st i .explicit) 1 (e .plain);
+        runs = ltb-true _ _ (e .runs);
+      }
 
   only-graft :
       (time t i : ℕ) → c ≡ graft time (peerIn st i .id) t → peerIn st i .status ≡ 1 → Only (graftReply st time t i)
-  unfolding graftReply graftHeard graftBackoff graftOpen isHeard
   only-graft time t i e on =
-      cond-case Only (isHeard st t i) _ (ignored st time)
-      (λ heard.
-      cond-case Only (isMember st t i) (done st time []) _ (λ m s. inl (milder-clock st time s))
-      (λ m.
-      cond-case Only (eqb (peerIn st i .explicit) 1) (graftRefused st time t i) _ (λ x s. inl (mild-back st time t i s))
-      (λ x.
-      cond-case Only (backoffRuns (peerIn st i) t time) (graftRefused _ time t i) _
-      (λ b s.
+      by-graft Only st time t i
+      (λ h s. inl (milder-clock st time s))
+      (λ h m s. inl (milder-clock st time s))
+      (λ h s. inl (mild-back st time t i s))
+      (λ h s.
       by-test _ (eqb s i)
-      (λ q.
-      let z : s ≡ i = eqb-true s i q in
-      inr (rw z (
-        time,
-        t,
-        e,
-        record {
-          connected = on;
-          joined = eqb-true (joinedIn st t) 1 (both (isJoined st t) (not (isGraylisted st i)) heard .0);
-          heard = λ g. not-deaf params st codes i t heard (inr g);
-          out = m;
-          plain = eqb-false (peerIn st i .explicit) 1 x;
-          runs = ltb-true _ _ b;
-        },
-      )))
-      (λ q. inl (omega (arith, raised-other time t i (raisedOf (p7In st i) countMost) s (eqb-false s i q)))))
-      (λ b.
-      cond-case Only (graftEnters st t i) _ (graftRefused st time t i)
-      (λ g s. inl (ticks st time _ (milder-topic st i t (λ r. intoMesh r time)) s))
-      (λ g s. inl (mild-back st time t i s))))))
-      (λ deaf s. inl (milder-clock st time s))
+      (λ q. inr (rw (eqb-true s i q) (time, t, e, too-early time t i on h)))
+      (λ q. inl (omega (arith, raised-other time t i s (raisedP7 (peerIn st i)) (eqb-false s i q)))))
+      (λ h s. inl (ticks st time _ (milder-topic st i t (λ r. intoMesh r time)) s))
 
 -- ---- every call
 module _ (params : List ℤ) (st : State) (ok : valid st ≡ true) (codes : st .codes ≡ map codeOf params) where
@@ -339,29 +329,26 @@ module _ (params : List ℤ) (st : State) (ok : valid st ≡ true) (codes : st .
   only-effect (score time id) = λ i. inl ((mild-peer st time id _ (λ s. milder-clock st time)) i)
 
   raised-same :
-      (time t s n : ℕ) → Sized st → s < slotCount → p7In (graftRefused (onPeer st s (λ p. withP7 p n)) time t s .state) s ≡ n
-  unfolding graftRefused withEnd withP7
-  raised-same time t s n size h =
-      let p = withP7 (peerIn st s) n in
-      let v = setPeer st s p in
-      let l : s < length (v .peers) = omega (arith, sized-peer st size s p (size .ends s) .peers, h) in
-      ap (λ (q : Peer). q .p7) (peer-after-clock (setPeer v s _) time s ∙ peer-same v s _ l)
-      ∙ ap (λ (q : Peer). q .p7) (peer-same st s p (omega (arith, size .peers, h)))
+      (time t s : ℕ) → Sized st → s < slotCount →
+      p7In (graftRefused st time t s (raisedP7 (peerIn st s)) .state) s ≡ raisedOf (p7In st s) countMost
+  unfolding graftRefused withEnd raisedP7 withP7
+  raised-same time t s size h =
+      ap (λ (q : Peer). q .p7) (peer-after-clock (setPeer st s _) time s ∙ peer-same st s _ (omega (arith, size .peers, h)))
 
   rises-early :
       (time t s room : ℕ) → Sized st → s < slotCount → Admitted st (graft time (peerIn st s .id) t) room → TooEarly params st time t s →
       p7In (step st (graft time (peerIn st s .id) t) room .state) s ≡ min (p7In st s + 1000) 1000000
-  unfolding step effect graftReply graftHeard graftBackoff
+  unfolding step effect graftReply graftCase isMember
   rises-early time t s room size h a w =
       let id = peerIn st s .id in
       let c = graft time id t in
       let g = gate-0 st (inRange c) room (timeOf c) (st .clock) (a .router) (a .ranges) (a .list) refl (a .time) in
       let at-slot : findConnected st id ≡ At s = connected-is st (valid-facts st ok) s h (w .connected) in
-      let heard : isHeard st t s ≡ true =
-      by-test _ (isHeard st t s) (λ e. e) (λ e. absurd (⊎-elim (λ n. n (w .joined)) (w .heard) (deaf params st codes s t e))) in
+      let low : isGraylisted st s ≡ false =
+      by-test _ (isGraylisted st s) (λ e. absurd (w .heard (gray-yes params st codes s e))) (λ e. e) in
       rw
-      (← g, at-slot, heard, w .out, ne-eqb (peerIn st s .explicit) 1 (w .plain), lt-ltb _ _ (w .runs))
-      (raised-same time t s (raisedOf (p7In st s) countMost) size h)
+      (← g, at-slot, eq-eqb _ _ (w .joined), low, w .out, ne-eqb (peerIn st s .explicit) 1 (w .plain), lt-ltb _ _ (w .runs))
+      (raised-same time t s size h)
 
 pub p7-rises : P7Rises
 p7-rises params calls fine s h =

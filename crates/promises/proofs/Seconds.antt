@@ -11,7 +11,7 @@ use lib.Dec.{eqb}
 use lib.IntN.{natAbs}
 use Rattle.index.specs.Index.{gather}
 use Rattle.index.proofs.Flags.{cond-case}
-use Rattle.params.specs.Limits.{at}
+use Rattle.limits.specs.Limits.{at}
 use Rattle.records.specs.declared.Peer.{Peer}
 use Rattle.records.specs.Records.{State, slotCount, peerIn, setPeer}
 use Rattle.layout.specs.View.{Sized}
@@ -25,8 +25,9 @@ use Rattle.mesh.specs.Maintenance.{Action as Tell, changesOf, actionsOf}
 use Rattle.rules.specs.declared.Answer.the-variants.{NotPermutation}
 use Rattle.rules.specs.Reply.{Reply, refused, ignored, done}
 use Rattle.rules.specs.Calls.{leave, graft, heartbeat}
-use Rattle.rules.specs.Step.{toldIn, actionIn, leaveActions, leaveReply, meshesIn, heartbeatActions, maintainedReply, heartbeatReply}
-use Rattle.rules.specs.Step.{isHeard, graftEnters, graftRefused, graftOpen, graftBackoff, graftHeard, graftReply, effect}
+use Rattle.rules.proofs.GraftLaws.{by-graft}
+use Rattle.rules.specs.Step.{toldIn, actionIn, leaveActions, leaveReply, meshesIn, heartbeatActions, maintainedReply, heartbeatReply, raisedP7}
+use Rattle.rules.specs.Step.{isHeard, graftRefused, graftReply, effect}
 use Rattle.rules.proofs.CaseLaws.{by-peer, by-gate}
 use Rattle.call_lists.specs.Lists.{after}
 use Rattle.call_lists.proofs.Standing.{degree-is}
@@ -90,45 +91,30 @@ module _ (st : State) (size : Sized st) (ok : valid st ≡ true) where
       (λ j. tt))
       (λ wrong. tt)
 
-  -- ---- GRAFT in: u is the state whose P7 was raised before the PRUNE, or st itself
+  -- ---- GRAFT in: p is the peer's record, or that with P7 raised
   module _ (time t i seconds : ℕ) (e : pruneBackoff st ≡ seconds) where
     refused-seconds :
-        (u : State) →
-        peerIn u i .id ≡ peerIn st i .id →
-        peerIn u i .version ≡ peerIn st i .version →
-        pruneBackoff u ≡ pruneBackoff st →
-        Each (Seconds st seconds) (graftRefused u time t i .actions)
+        (p : Peer) →
+        p .id ≡ peerIn st i .id →
+        p .version ≡ peerIn st i .version →
+        Each (Seconds st seconds) (graftRefused st time t i p .actions)
     unfolding graftRefused Each
-    refused-seconds u id version backoff = (
+    refused-seconds p id version = (
       λ s h on q.
           let w = same-slot i s h on (q ∙ id) in
-          ap₂ (λ (v n : ℕ). cond (eqb v 0) 0 n) (version ∙ ap (λ (x : ℕ). peerIn st x .version) w) (backoff ∙ e),
+          ap₂ (λ (v n : ℕ). cond (eqb v 0) 0 n) (version ∙ ap (λ (x : ℕ). peerIn st x .version) w) e,
       tt,
     )
 
-    early-seconds : (n : ℕ) → i < slotCount → Each (Seconds st seconds) (graftRefused (setPeer st i (withP7 (peerIn st i) n)) time t i .actions)
-    unfolding withP7
-    early-seconds n h =
-        let p = withP7 (peerIn st i) n in
-        let same : peerIn (setPeer st i p) i ≡ p = peer-same st i p (omega (arith, size .peers, h)) in
-        refused-seconds (setPeer st i p) (ap (λ (x : Peer). x .id) same) (ap (λ (x : Peer). x .version) same)
-        (rw (code-after-peer st i p 5))
-
-    graft-seconds : i < slotCount → Each (Seconds st seconds) (graftReply st time t i .actions)
-    unfolding graftReply graftHeard graftBackoff graftOpen Each
-    graft-seconds h =
-        let P : Reply → Type 0 = λ r. Each (Seconds st seconds) (r .actions) in
-        let told = refused-seconds st refl refl refl in
-        cond-case P (isHeard st t i) _ (ignored st time)
-        (λ j.
-        cond-case P (isMember st t i) (done st time []) _ (λ m. tt)
-        (λ m.
-        cond-case P (eqb (peerIn st i .explicit) 1) (graftRefused st time t i) _ (λ x. told)
-        (λ x.
-        cond-case P (backoffRuns (peerIn st i) t time) (graftRefused _ time t i) _
-        (λ b. early-seconds (raisedOf (peerIn st i .p7) countMost) h)
-        (λ b. cond-case P (graftEnters st t i) _ (graftRefused st time t i) (λ g. tt) (λ g. told)))))
-        (λ j. tt)
+    graft-seconds : Each (Seconds st seconds) (graftReply st time t i .actions)
+    unfolding Each raisedP7 withP7
+    graft-seconds =
+        by-graft (λ (r : Reply). Each (Seconds st seconds) (r .actions)) st time t i
+        (λ e. tt)
+        (λ e m. tt)
+        (λ e. refused-seconds (peerIn st i) refl refl)
+        (λ e. refused-seconds (raisedP7 (peerIn st i)) refl refl)
+        (λ e. tt)
 
 pub told-seconds : ToldSeconds
 unfolding effect Each
@@ -147,5 +133,5 @@ told-seconds params calls fine time t room =
           (λ a e. tt)
           (λ p.
           by-peer (λ (r : Reply). Each (Seconds st (natAbs (at params 5))) (r .actions)) st id _ tt (λ s h on.
-          graft-seconds st (w .size) (w .router) time t s (natAbs (at params 5)) (degree-is st params (w .codes) 5) h)),
+          graft-seconds st (w .size) (w .router) time t s (natAbs (at params 5)) (degree-is st params (w .codes) 5))),
     )

@@ -1,5 +1,6 @@
 -- Who was told PRUNE, or told it us, stays out: the end of each such backoff is in the peer's record, or over. Call by call.
 -- Assumes nothing.
+use lib.ListN.{length, getD}
 use Prim.Native.Nat.{ℕ, _≤_, _<_, max, min}
 use native.Mathlib.Omega.{arith}
 use mathlib.Core.Path.{_≡_, refl, sym, ap, _∙_}
@@ -29,14 +30,15 @@ use Rattle.score.specs.Counters.{countMost, raisedOf}
 use Rattle.sets.specs.Sets.{at, isPermutation}
 use Rattle.effects.specs.Effects.{unsubscribeBackoff, pruneBackoff, withEnd, withP7, connectedAs, onPeer, onTopic, intoMesh, isJoined}
 use Rattle.effects.specs.Effects.{isMember, backoffRuns, pruned, endAfter, reclaimable, reclaimed}
-use Rattle.effects.proofs.EffectLaws.{reclaimed-stays, reclaimable-over, sized-on-peer, sized-pruned}
+use Rattle.effects.proofs.EffectLaws.{reclaimed-stays, reclaimable-over, sized-on-peer, sized-pruned, end-same}
 use Rattle.rules.specs.declared.Answer.the-variants.{NotPermutation}
 use Rattle.rules.specs.Reply.{Reply, numberOf, refused, ignored, done}
 use Rattle.rules.specs.Calls.{Call, connect, disconnect, join, leave, subscribe, unsubscribe, graft, prune, deliver, rate, heartbeat, decay}
 use Rattle.rules.specs.Calls.{score, timeOf}
-use Rattle.rules.specs.Step.{isGraylisted, isHeard, onFound, onVersion, ofPeer, connectAt, connectIn, connectReply, joinReply, leaveSlot}
-use Rattle.rules.specs.Step.{leaveActions, leaveReply, subscribeReply, unsubscribeReply, graftEnters, graftRefused, graftOpen, graftBackoff}
-use Rattle.rules.specs.Step.{graftHeard, graftReply, secondsOf, pruneReply, deliverReply, meshesIn, punished, settleSlot, maintainedReply}
+use Rattle.rules.proofs.GraftLaws.{by-graft}
+use Rattle.rules.specs.Step.{isGraylisted, isHeard, onFound, onVersion, ofPeer, connectAt, connectIn, connectReply, joinReply, leaveSlot, raisedP7}
+use Rattle.rules.specs.Step.{leaveActions, leaveReply, subscribeReply, unsubscribeReply, graftRefused}
+use Rattle.rules.specs.Step.{graftReply, secondsOf, pruneReply, deliverReply, meshesIn, punished, settleSlot, maintainedReply}
 use Rattle.rules.specs.Step.{heartbeatReply, decayReply, effect}
 use Rattle.rules.proofs.PunishedLaws.{punished-sized}
 use Rattle.call_lists.proofs.Standing.{degree-is, member-connected}
@@ -45,7 +47,7 @@ use Rattle.promises.specs.Told.{times}
 use Rattle.promises.specs.KeptOut.{pruneSeconds, leaveSeconds, told, shutBy}
 use Rattle.promises.proofs.Later.{LaterAt, Later, later-self, later-then, later-clock, later-joined, later-peer, later-iter}
 use Rattle.promises.proofs.Later.{later-pruned, later-settled, later-left, later-moved, later-still, later-disconnect, later-leave}
-use Rattle.promises.proofs.Later.{later-rate, later-decay, later-on, later-refused, later-running, end-set, end-pruned, end-walked}
+use Rattle.promises.proofs.Later.{later-rate, later-decay, later-on, later-refused, later-raised, end-set, end-pruned, end-walked}
 use Rattle.promises.proofs.Told.{leave-someone, leave-sized, left-member, told-maintained}
 
 -- ---- an end that is kept: it is over, or stands in the record of the peer with the id
@@ -146,23 +148,19 @@ module _ (st : State) (time : ℕ) (c : st .clock ≤ time) where
       (found (lowestEmpty u) _ _ (λ s e. taken size id group flags v s (λ n. absurd (n (empty-at u s e .1)))) (hold-self st))))
       (hold-self st)
 
-  back : (u : State) (t s : ℕ) → Later st (graftRefused u time t s .state) → Kept (graftRefused u time t s)
+  back : (t s : ℕ) (p : Peer) → Later st (graftRefused st time t s p .state) → Kept (graftRefused st time t s p)
   unfolding graftRefused
-  back u t s l = hold-moved _ l
+  back t s p l = hold-moved _ l
 
   hold-graft : (t s : ℕ) → Kept (graftReply st time t s)
-  unfolding graftReply graftHeard graftBackoff graftOpen
   hold-graft t s =
-      either (isHeard st t s) _ _
-      (either (isMember st t s) _ _ still
-      (either (eqb (peerIn st s .explicit) 1) _ _ (back st t s (later-refused st time t s))
-      (either (backoffRuns (peerIn st s) t time) _ _
-      (back (onPeer st s (λ p. withP7 p (raisedOf (p .p7) countMost))) t s
-      (later-running st time t s (raisedOf (peerIn st s .p7) countMost)))
-      (either (graftEnters st t s) _ _
-      (hold-moved (onTopic st s t (λ r. intoMesh r time)) (later-on st time (place s t) (intoMesh (topicIn st (place s t)) time)))
-      (back st t s (later-refused st time t s))))))
-      still
+      by-graft Kept st time t s
+      (λ e. still)
+      (λ e m. still)
+      (λ e. back t s _ (later-refused st time t s))
+      (λ e. back t s _ (later-raised st time t s))
+      (λ e.
+      hold-moved (onTopic st s t (λ r. intoMesh r time)) (later-on st time (place s t) (intoMesh (topicIn st (place s t)) time)))
 
   hold-heartbeat : (t ask : ℕ) (order : List ℕ) → Kept (heartbeatReply st time t ask order)
   unfolding heartbeatReply maintainedReply
@@ -242,52 +240,41 @@ module _ (params : List ℤ) (st : State) (size : Sized st) (codes : st .codes �
     abbrev Told2 : Reply → Type 0
     Told2 r = (id t : ℕ) → t < 8 → Held (told time (pruneSeconds params) r u id t) (r .state) id t
 
+    -- p is the record that gets the end
     back-shuts :
-        (v : State) → Sized v → v .codes ≡ map codeOf params → peerIn v s .status ≢ 0 → Told2 (graftRefused v time u s)
+        (p : Peer) → peerIn st s .status ≢ 0 → p .id ≡ peerIn st s .id → length (p .backoff) ≡ 8 →
+        Later st (graftRefused st time u s p .state) → Told2 (graftRefused st time u s p)
     unfolding graftRefused times
-    back-shuts v z e on id t b =
-        let end = endAfter time (pruneBackoff v) in
-        let w = onPeer v s (λ p. withEnd p u end) in
-        let same : pruneBackoff v ≡ pruneSeconds params = degree-is v params e 5 in
-        told-some time (pruneSeconds params) (graftRefused v time u s) u id t (λ n q.
-        let l = later-refused v time u s s in
-        let c = end-set v s u end z h k in
+    back-shuts p on same-id ends later id t b =
+        let end = endAfter time (pruneBackoff st) in
+        let w = setPeer st s (withEnd p u end) in
+        let same : pruneBackoff st ≡ pruneSeconds params = degree-is st params codes 5 in
+        told-some time (pruneSeconds params) (graftRefused st time u s p) u id t (λ n q.
+        let l = later s in
+        let a = ap (λ (p : Peer). getD (p .backoff) u 0) (peer-same st s (withEnd p u end) (omega (arith, size .peers, h))) in
+        let c = end-same p u end (omega (arith, ends, k)) in
         let d = later-clock w time s .ends u in
         inr (
           s,
           h,
           l .used on,
           l .id on
-              ∙ by-test _ (eqb (peerIn v s .id) id) (λ y. eqb-true _ _ y) (λ y.
-              let o : one (eqb 2 2 && eqb (peerIn v s .id) id) ≡ 0 = rw y in
+              ∙ sym same-id
+              ∙ by-test _ (eqb (p .id) id) (λ y. eqb-true _ _ y) (λ y.
+              let o : one (eqb 2 2 && eqb (p .id) id) ≡ 0 = rw y in
               absurd (n (omega (arith, o)))),
-          rw (← q, ← same) (omega (arith, c, d)),
+          rw (← q, ← same) (omega (arith, a, c, d)),
         ))
 
-    p7-shuts : peerIn st s .status ≢ 0 → (n : ℕ) → Told2 (graftRefused (onPeer st s (λ p. withP7 p n)) time u s)
-    unfolding withP7
-    p7-shuts on n =
-        let p = withP7 (peerIn st s) n in
-        let v = onPeer st s (λ p. withP7 p n) in
-        back-shuts v (sized-on-peer st s (λ p. withP7 p n) size refl) (codes-after-peer st s p ∙ codes)
-        (λ z. on (sym (ap (λ (q : Peer). q .status) (peer-same st s p (omega (arith, size .peers, h)))) ∙ z))
-
-    choose : (b : Bool) (o q : Reply) → Told2 o → Told2 q → Told2 (cond b o q)
-    choose b o q f g = cond-case Told2 b o q (λ e. f) (λ e. g)
-
     pub graft-shuts : peerIn st s .status ≢ 0 → Told2 (graftReply st time u s)
-    unfolding graftReply graftHeard graftBackoff graftOpen
+    unfolding raisedP7 withP7
     graft-shuts on =
-        choose (isHeard st u s) _ (ignored st time)
-        (choose (isMember st u s) (done st time []) _ (λ id t b. quiet time _ (done st time []) u id t refl)
-        (choose (eqb (peerIn st s .explicit) 1) (graftRefused st time u s) _ (back-shuts st size codes on)
-        (choose (backoffRuns (peerIn st s) u time)
-        (graftRefused (onPeer st s (λ p. withP7 p (raisedOf (p .p7) countMost))) time u s) _
-        (p7-shuts on (raisedOf (peerIn st s .p7) countMost))
-        (choose (graftEnters st u s) (done (onTopic st s u (λ r. intoMesh r time)) time []) (graftRefused st time u s)
-        (λ id t b. quiet time _ (done (onTopic st s u (λ r. intoMesh r time)) time []) u id t refl)
-        (back-shuts st size codes on)))))
-        (λ id t b. quiet time _ (ignored st time) u id t refl)
+        by-graft Told2 st time u s
+        (λ e id t b. quiet time _ (ignored st time) u id t refl)
+        (λ e m id t b. quiet time _ (done st time []) u id t refl)
+        (λ e. back-shuts (peerIn st s) on refl (size .ends s) (later-refused st time u s))
+        (λ e. back-shuts (raisedP7 (peerIn st s)) on refl (size .ends s) (later-raised st time u s))
+        (λ e id t b. quiet time _ (done (onTopic st s u (λ r. intoMesh r time)) time []) u id t refl)
 
   -- ---- leave
   pub leave-shuts : (time u : ℕ) → valid st ≡ true → u < 8 → (id t : ℕ) → t < 8 →

@@ -4,7 +4,7 @@ use Prim.Native.Nat.{ℕ, zero, suc, _*_, _≤_, _<_}
 use native.Mathlib.Omega.{arith}
 use mathlib.Core.Path.{_≡_, refl, sym, ap, _∙_}
 use mathlib.Core.Logic.{inl, inr, ⊎-elim}
-use mathlib.Core.Bool.{true, false, and-false, false≢true}
+use mathlib.Core.Bool.{true, false, and-false, false≢true, _&&_}
 use mathlib.Core.List.{[], _∷_}
 use lib.Dec.{eqb, leb}
 use lib.IntN.{ℤ, pos, negsuc, negℤ, _*ℤ_}
@@ -30,7 +30,10 @@ use Rattle.effects.specs.Effects.{backoffRuns, endAfter}
 use Rattle.effects.proofs.EffectLaws.{member-in, member-peer}
 use Rattle.rules.specs.Reply.{Reply, numberOf, ignored, done}
 use Rattle.rules.specs.Calls.{graft, inRange}
-use Rattle.rules.specs.Step.{isNegative, isGraylisted, isHeard, meshFull, graftEnters, graftRefused, graftOpen, graftBackoff, graftHeard}
+use Rattle.rules.specs.declared.GraftCase.{GraftCase}
+use Rattle.rules.specs.declared.GraftCase.the-variants.{AlreadyMember, Enters}
+use Rattle.rules.proofs.GraftLaws.{by-graft}
+use Rattle.rules.specs.Step.{isNegative, isGraylisted, isHeard, graftRefused, raisedP7, isCrowded, graftCase, graftDone}
 use Rattle.rules.specs.Step.{graftReply, effect, step}
 use Rattle.gate.proofs.StandingLaws.{graylist-is}
 use Rattle.rules.proofs.GateLaws.{gate-0}
@@ -62,8 +65,8 @@ not-gray st s ok e =
 
 -- ---- who may return
 module _ (st : State) (time t s : ℕ) (size : Sized st) (ok : valid st ≡ true) (m : MayReturn st time t s) where
-  not-full : meshFull st t s ≡ false
-  unfolding meshFull
+  not-full : isCrowded st t && eqb (peerIn st s .outbound) 0 ≡ false
+  unfolding isCrowded
   not-full =
       ⊎-elim
       (λ l. rw (lt-leb (highDegree st) (meshSize st t) l))
@@ -71,29 +74,27 @@ module _ (st : State) (time t s : ℕ) (size : Sized st) (ok : valid st ≡ true
       rw (ne-eqb (peerIn st s .outbound) 0 (λ z. omega (arith, z, o))) (and-false (leb (highDegree st) (meshSize st t))))
       (m .room)
 
-  enters : graftEnters st t s ≡ true
-  unfolding graftEnters isNegative
-  enters = rw (m .score, eq-eqb _ _ (m .subscribed), not-full)
-
-  is-heard : isHeard st t s ≡ true
-  unfolding isHeard
-  is-heard = rw (eq-eqb _ _ (m .joined), not-gray st s ok (m .score))
-
   returned : IsIn t s (graftReply st time t s)
-  unfolding graftReply graftHeard graftBackoff graftOpen
+  unfolding graftReply graftCase isMember isNegative
   returned =
-      rw is-heard
-      (cond-case (IsIn t s) (isMember st t s) (done st time []) _
+      rw (
+        eq-eqb _ _ (m .joined),
+        not-gray st s ok (m .score),
+        ne-eqb (peerIn st s .explicit) 1 (λ z. omega (arith, z, m .plain)),
+        le-ltb time (endIn st s t) (m .over),
+        m .score,
+        eq-eqb _ _ (m .subscribed),
+        not-full,
+      )
+      (cond-case (λ (k : GraftCase). IsIn t s (graftDone k st time t s)) (isMember st t s) AlreadyMember Enters
       (λ e. record { answer = refl; actions = refl; member = clocked st time t s ∙ e })
       (λ e.
-      rw
-      (ne-eqb (peerIn st s .explicit) 1 (λ z. omega (arith, z, m .plain)), le-ltb time (endIn st s t) (m .over), enters)
-      (record {
+      record {
         answer = refl;
         actions = refl;
         member =
             clocked (onTopic st s t (λ r. intoMesh r time)) time t s ∙ member-in st s t size (m .slot) (m .topic) time;
-      })))
+      }))
 
 pub taken-back : TakenBack
 unfolding step effect inRange
@@ -113,49 +114,25 @@ module _ (st : State) (time t s : ℕ) (size : Sized st) (h : s < slotCount) (k 
   abbrev Done : Reply → Type 0
   Done r = InOrTold st t s r
 
-  back : isMember st t s ≡ false → Done (graftRefused st time t s)
+  -- p is the record that gets the end
+  back : (p : Peer) → pruneOf p (pruneBackoff st) ≡ pruneOf (peerIn st s) (pruneBackoff st) → isMember st t s ≡ false → Done (graftRefused st time t s p)
   unfolding graftRefused
-  back e =
-      let p = withEnd (peerIn st s) t (endAfter time (pruneBackoff st)) in
-      record { either = λ z. inr (clocked (setPeer st s p) time t s ∙ member-peer st s p s t ∙ e, refl) }
-
-  back-p7 : (n : ℕ) → isMember st t s ≡ false → Done (graftRefused (onPeer st s (λ p. withP7 p n)) time t s)
-  unfolding graftRefused withP7
-  back-p7 n e =
-      let q = withP7 (peerIn st s) n in
-      let v = setPeer st s q in
-      let p = withEnd (peerIn v s) t (endAfter time (pruneBackoff v)) in
-      let same : peerIn v s ≡ q = peer-same st s q (omega (arith, size .peers, h)) in
-      let codes : pruneBackoff v ≡ pruneBackoff st = rw (code-after-peer st s q 5) in
-      record {
-        either = λ z.
-            inr (
-              clocked (setPeer v s p) time t s ∙ member-peer v s p s t ∙ member-peer st s q s t ∙ e,
-              ap (λ (x : Peer). pruneOf x (pruneBackoff v) ∷ []) same ∙ ap (λ (x : ℕ). pruneOf q x ∷ []) codes,
-            );
-      }
+  back p q e =
+      let w = withEnd p t (endAfter time (pruneBackoff st)) in
+      record { either = λ z. inr (clocked (setPeer st s w) time t s ∙ member-peer st s w s t ∙ e, ap (λ a. a ∷ []) q) }
 
   answered : Done (graftReply st time t s)
-  unfolding graftReply graftHeard graftBackoff graftOpen
+  unfolding isMember raisedP7 withP7
   answered =
-      cond-case Done (isHeard st t s) _ (ignored st time)
-      (λ j.
-      cond-case Done (isMember st t s) (done st time []) _
-      (λ e. record { either = λ z. inl (clocked st time t s ∙ e, refl) })
+      by-graft Done st time t s
+      (λ e. record { either = λ z. absurd (omega (arith, z)) })
+      (λ e m. record { either = λ z. inl (clocked st time t s ∙ m, refl) })
+      (λ e. back (peerIn st s) refl (e .new))
+      (λ e. back (raisedP7 (peerIn st s)) refl (e .outside .new))
       (λ e.
-      cond-case Done (eqb (peerIn st s .explicit) 1) (graftRefused st time t s) _ (λ x. back e)
-      (λ x.
-      cond-case Done (backoffRuns (peerIn st s) t time)
-      (graftRefused (onPeer st s (λ p. withP7 p (raisedOf (p .p7) countMost))) time t s) _
-      (λ b. back-p7 (raisedOf (peerIn st s .p7) countMost) e)
-      (λ b.
-      cond-case Done (graftEnters st t s) (done (onTopic st s t (λ r. intoMesh r time)) time []) (graftRefused st time t s)
-      (λ g.
       record {
         either = λ z. inl (clocked (onTopic st s t (λ r. intoMesh r time)) time t s ∙ member-in st s t size h k time, refl);
       })
-      (λ g. back e)))))
-      (λ j. record { either = λ z. absurd (omega (arith, z)) })
 
 pub graft-answered : GraftAnswered
 unfolding effect

@@ -8,7 +8,7 @@ use mathlib.Core.Bool.{true, cond, _&&_}
 use mathlib.Core.List.{List, [], _∷_, map}
 use lib.Dec.{eqb, ltb}
 use lib.IntN.{ℤ, natAbs}
-use Rattle.params.specs.Limits.{at}
+use Rattle.limits.specs.Limits.{at}
 use Rattle.records.specs.Records.{slotCount, topicCount, place, peerIn, topicIn}
 use Rattle.layout.specs.View.{stateOf}
 use Rattle.effects.specs.Effects.{isMember, endAfter}

@@ -4,7 +4,7 @@ use mathlib.Core.Path.{_≡_}
 use mathlib.Core.Logic.{_≢_, _⊎_}
 use mathlib.Core.List.{List}
 use lib.IntN.{ℤ, natAbs}
-use Rattle.params.specs.Limits.{at}
+use Rattle.limits.specs.Limits.{at}
 use Rattle.records.specs.Records.{State, slotCount}
 use Rattle.sets.specs.Sets.{size, bySlot, both, above, fill}
 use Rattle.mesh.specs.declared.Degrees.{Degrees}

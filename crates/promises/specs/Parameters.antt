@@ -2,7 +2,7 @@
 use Prim.Native.Nat.{ℕ, _+_, _*_}
 use mathlib.Core.List.{List}
 use lib.IntN.{ℤ, natAbs}
-use Rattle.params.specs.Limits.{at}
+use Rattle.limits.specs.Limits.{at}
 
 -- "147 numbers: 19 general, then 16 per topic": number j of topic t, without its sign
 abbrev pub topicNumber : List ℤ → ℕ → ℕ → ℕ

@@ -8,7 +8,7 @@ use mathlib.Core.List.{List, [], _∷_}
 use lib.Dec.{eqb}
 use lib.IntN.{ℤ, natAbs}
 use Rattle.index.specs.Index.{one}
-use Rattle.params.specs.Limits.{at}
+use Rattle.limits.specs.Limits.{at}
 use Rattle.records.specs.Records.{State, slotCount, peerIn}
 use Rattle.layout.specs.View.{Sized}
 use Rattle.effects.specs.Actions.{Action}

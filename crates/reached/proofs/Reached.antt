@@ -81,11 +81,9 @@ use Rattle.rules.specs.Step.{
   deliveredOf,
   deliverReply,
   graftRefused,
-  meshFull,
-  graftEnters,
-  graftOpen,
-  graftBackoff,
-  graftHeard,
+  raisedP7,
+  isCrowded,
+  graftCase,
   graftReply,
   isCandidate,
   heightIn,
@@ -136,7 +134,7 @@ unfolding passes left given refusals membersIn mixed worked come enter bring ele
     bySlot size both except from occurs isPermutation ascending inOrder fill top bests swapTo
     mesh1 mesh2 theBest keepers swapped mesh3 mesh4 mesh5 meshes changesOf actionsOn actionsOf
     inRange connectAt connectIn connectReply joinReply subscribeReply isNegative isGraylisted isHeard secondsOf pruneReply graftRefused
-    meshFull graftEnters graftOpen graftBackoff graftHeard graftReply isCandidate heightIn degreesIn viewIn meshesIn punished settleSlot
+    raisedP7 isCrowded graftCase graftReply isCandidate heightIn degreesIn viewIn meshesIn punished settleSlot
     heartbeatActions maintainedReply heartbeatReply effect
 table =
     let all = replies-start worked refl in

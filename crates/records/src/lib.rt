@@ -1,5 +1,6 @@
 // The records that the router holds (01, "What the router holds"). Every field is a number, and a flag is 0 or 1, so that an empty record
-// is all zeros. A new field changes the layout (crate layout), test 12 (crate validity) and the `with..` definitions of specs/Records.antt.
+// is all zeros. A new field changes the layout (crate layout), the test of a table (crate validity) and the definitions that write a record
+// field by field (crates effects and score).
 
 pub mod param;
 
@@ -13,7 +14,7 @@ pub struct Peer {
     // 0 empty, 1 connected, 2 retained after a disconnect
     pub status: u64,
     pub id: u64,
-    // the address group
+    // the address group, for P6 (IP colocation)
     pub group: u64,
     // the direction: 1 where we opened the connection
     pub outbound: u64,
@@ -21,9 +22,9 @@ pub struct Peer {
     pub explicit: u64,
     // 0 for /meshsub/1.0.0, 1 for /meshsub/1.1.0
     pub version: u64,
-    // the score that the host sets, as the code of a signed number (crate varint)
+    // P5, the application-specific score: set by the host, as the code of a signed number (crate varint)
     pub p5: u64,
-    // the counter of P7
+    // P7, the behaviour penalty: a counter
     pub p7: u64,
     // the retain end, 0 unless retained
     pub retain: u64,
@@ -31,16 +32,20 @@ pub struct Peer {
     pub backoff: [u64; 8],
 }
 
-// What a peer's record holds for one topic. The counters that a delivery adds to stand first.
+// What a peer's record holds for one topic. The counters that a delivery adds to come first.
 pub struct TopicRecord {
+    // P2, first message deliveries
     pub p2: u64,
+    // P3, deliveries as a mesh member: what is missing of the threshold is the deficit
     pub p3: u64,
+    // P4, invalid messages
     pub p4: u64,
+    // P3b, the mesh failure penalty
     pub p3b: u64,
     pub subscribed: u64,
     // 1 for a member of our mesh
     pub member: u64,
-    // the graft time and the mesh time, 0 for a non-member
+    // the graft time and the mesh time (P1, time in mesh), 0 for a non-member
     pub graft: u64,
     pub mesh: u64,
 }

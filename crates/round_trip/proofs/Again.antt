@@ -1,5 +1,5 @@
--- What the reader left in the lent list, written again, gives the same answer and the same buffer: the writer reads the first three numbers of
--- each entry and nothing past them, and those are the entries in order 1's order.
+-- What the reader left in the lent list, written again, gives the same answer and the same buffer: the writer reads the first three numbers
+-- of each entry and nothing past them, and those are the entries in order 1's order.
 -- Assumes nothing.
 use Prim.Native.Nat.{ℕ, zero, suc, _+_, _*_, _≤_, _<_}
 use native.Mathlib.Omega.{arith}

@@ -89,5 +89,6 @@ write-most names actions topics changes buf =
     (λ t. rw t (omega arith))
 
 pub reached : Reached
-unfolding gather every groups encode entriesOf valueField partField nameSize nameOf entryBytes oneBytes kindBytes controlBytes controlField entryOk messageOf listOk
+unfolding gather every groups encode entriesOf valueField partField nameSize nameOf entryBytes oneBytes kindBytes controlBytes controlField
+    entryOk messageOf listOk
 reached = (refl, refl)

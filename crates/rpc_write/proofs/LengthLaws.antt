@@ -10,7 +10,7 @@ use lib.ListN.{length, getD, length-append}
 use Rattle.index.specs.Index.{gather, count, one}
 use Rattle.index.proofs.Flags.{by-test, by-order}
 use Rattle.varint.specs.Groups.{encode}
-use Rattle.rpc.specs.Reading.{rowBytes}
+use Rattle.rpc.specs.Reading.{rowBytes, nameBytes}
 use Rattle.rpc_write.specs.Writing.{valueField, partField, nameSize, nameOf, entryBytes, oneBytes, kindBytes, controlBytes}
 use Rattle.rpc_write.specs.Writing.{controlField, messageOf, listOk}
 use Rattle.rpc_write.proofs.WriteLaws.{size-one, size-two, value-zero, part-length, name-length, bytesAt, okAt, good, Fits, sub}
@@ -39,14 +39,14 @@ part-long : (number : ℕ) (c : List ℕ) → number < 15 → length c < 16384 �
 part-long number c h l =
     omega (arith, part-length number c, size-one (8 * number + 2) (omega arith) .0, number-long (length c) l)
 
-pub name-short : (names : List ℕ) (topic : ℕ) → length (nameOf names topic) ≤ 64
+pub name-short : (names : List ℕ) (topic : ℕ) → length (nameOf names topic) ≤ nameBytes
 unfolding nameSize
 name-short names topic =
     let e = name-length names topic in
-    by-test (length (nameOf names topic) ≤ 64) (ltb topic 8)
+    by-test (length (nameOf names topic) ≤ nameBytes) (ltb topic 8)
     (λ t.
-    by-test (length (nameOf names topic) ≤ 64) (leb (getD names (rowBytes * topic) 0) 64)
-    (λ u. rw (← e, t, u) (leb-true (getD names (rowBytes * topic) 0) 64 u))
+    by-test (length (nameOf names topic) ≤ nameBytes) (leb (getD names (rowBytes * topic) 0) nameBytes)
+    (λ u. rw (← e, t, u) (leb-true (getD names (rowBytes * topic) 0) nameBytes u))
     (λ u. rw (← e, t, u) (omega arith)))
     (λ t. rw (← e, t) (omega arith))
 

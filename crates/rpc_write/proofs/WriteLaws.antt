@@ -16,7 +16,7 @@ use Rattle.index.proofs.Flags.{by-order}
 use Rattle.index.proofs.Lists.{sets-append}
 use Rattle.varint.specs.Groups.{encode}
 use Rattle.varint.proofs.GroupLaws.{encode-last, encode-more}
-use Rattle.rpc.specs.Reading.{rowBytes}
+use Rattle.rpc.specs.Reading.{rowBytes, nameBytes}
 use Rattle.rpc_write.specs.Writing.{Stored, Fitting, partSize, valueField, headBytes, partField, nameSize, nameByte, nameOf, early}
 use Rattle.rpc_write.specs.Writing.{late, nameNumber, entryBytes, oneBytes, kindBytes, controlBytes, controlField, messageOf}
 use Rattle.rpc_write.specs.Writing.{entryOk, listOk, writeOf}
@@ -106,23 +106,24 @@ fits-some end at size h l = record { some = omega arith; room = omega arith; mos
 -- ---- names
 module _ (names : List ℕ) (topic : ℕ) where
   module _ (h : topic < 8) where
-    pub size-is : (size : ℕ) → size ≡ getD names (rowBytes * topic) 0 → size ≤ 64 → (size ≡ nameSize names topic) × (size ≤ 64)
+    pub size-is : (size : ℕ) → size ≡ getD names (rowBytes * topic) 0 → size ≤ nameBytes → (size ≡ nameSize names topic)
+        × (size ≤ nameBytes)
     unfolding nameSize
     size-is size e l =
-        let m : getD names (rowBytes * topic) 0 ≤ 64 = omega arith in
-        (e ∙ rw (lt-ltb topic 8 h, le-leb (getD names (rowBytes * topic) 0) 64 m), l)
+        let m : getD names (rowBytes * topic) 0 ≤ nameBytes = omega arith in
+        (e ∙ rw (lt-ltb topic 8 h, le-leb (getD names (rowBytes * topic) 0) nameBytes m), l)
 
-    pub size-long : (size : ℕ) → size ≡ getD names (rowBytes * topic) 0 → 64 < size → (0 ≡ nameSize names topic) × (0 ≤ 64)
+    pub size-long : (size : ℕ) → size ≡ getD names (rowBytes * topic) 0 → nameBytes < size → (0 ≡ nameSize names topic) × (0 ≤ nameBytes)
     unfolding nameSize
     size-long size e l =
-        let m : 64 < getD names (rowBytes * topic) 0 = omega arith in
-        (rw (lt-ltb topic 8 h, lt-leb (getD names (rowBytes * topic) 0) 64 m), omega arith)
+        let m : nameBytes < getD names (rowBytes * topic) 0 = omega arith in
+        (rw (lt-ltb topic 8 h, lt-leb (getD names (rowBytes * topic) 0) nameBytes m), omega arith)
 
-  pub size-far : 8 ≤ topic → (0 ≡ nameSize names topic) × (0 ≤ 64)
+  pub size-far : 8 ≤ topic → (0 ≡ nameSize names topic) × (0 ≤ nameBytes)
   unfolding nameSize
   size-far h = (rw (le-ltb topic 8 h), omega arith)
 
-  pub name-far : (b : List ℕ) (at : ℕ) → 8 ≤ topic → Stored b at (nameOf names topic) at b × (at ≤ at + 64)
+  pub name-far : (b : List ℕ) (at : ℕ) → 8 ≤ topic → Stored b at (nameOf names topic) at b × (at ≤ at + nameBytes)
   unfolding nameOf
   name-far b at h = rw (← size-far h .0, gather-none (nameByte names topic)) (stored-none b at, omega arith)
 
@@ -149,12 +150,12 @@ module _ (names : List ℕ) (topic : ℕ) where
 
   pub name-all :
       (b : List ℕ) (at i n size : ℕ) (out : List ℕ) →
-      (size ≡ nameSize names topic) × (size ≤ 64) →
+      (size ≡ nameSize names topic) × (size ≤ nameBytes) →
       Fitting (length b) at size n →
       i ≤ n →
       n ≤ i →
       Copied b at i out →
-      Stored b at (nameOf names topic) (at + size) out × (at + size ≤ at + 64)
+      Stored b at (nameOf names topic) (at + size) out × (at + size ≤ at + nameBytes)
   unfolding nameOf
   name-all b at i n size out z t l h q =
       let B = nameByte names topic in
@@ -242,7 +243,7 @@ pub entry-length :
     (e ≡ early kind v) × (e ≤ v) →
     m ≡ nameNumber kind →
     (l ≡ late kind v) × (l ≤ v) →
-    (size ≡ nameSize names topic) × (size ≤ 64) →
+    (size ≡ nameSize names topic) × (size ≤ nameBytes) →
     (a ≡ length (valueField 1 e)) × (a ≤ 4) →
     (b ≡ partSize m size) × (b ≤ size + 4) →
     (d ≡ length (valueField 3 l)) × (d ≤ 4) →

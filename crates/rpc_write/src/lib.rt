@@ -1,14 +1,16 @@
 // Writing gossipsub's RPC (02, order 4). An entry is three numbers, as crate rpc reads them: its kind, its topic, its value. The
 // definitions are specs/Writing.antt. Lengths are computed first, inner ones before outer ones and each once; then everything is stored
-// front to back. A byte past the end of the buffer is not stored, so that no function here asks for room: `write` has made sure of it.
+// front to back. A byte past the end of the buffer is not stored, so that no function here requires room: `write` has checked that there is
+// enough.
 ghost use mathlib.Core.Path.{_≡_};
 ghost use mathlib.Core.Bool.{true};
-ghost use Prim.Native.Nat.{_+_, _*_, _≤_, _<_};
+ghost use Prim.Native.Nat.{_+_, _≤_, _<_};
 ghost use lib.ListN.{length, set};
 ghost use Rattle.varint.specs.Groups.{encode};
 ghost use Rattle.rpc_write.specs.Writing.{Stored, Fitting, partSize, nameSize, nameOf, valueField, partField, headBytes};
 ghost use Rattle.rpc_write.specs.Writing.{early, late, nameNumber, entryBytes, oneBytes, kindBytes, controlBytes, controlField};
 ghost use Rattle.rpc_write.specs.Writing.{messageOf, entryOk, listOk, writeOf, Puts, ControlSize, Writes};
+ghost use Rattle.rpc.specs.Reading.{nameBytes};
 use rpc::GRAFT;
 use rpc::NAME_BYTES;
 use rpc::NAMES_BYTES;
@@ -133,7 +135,7 @@ fn wide(x: u8) -> usize
 }
 
 fn name_size(names: &[u8; NAMES_BYTES], topic: u64) -> usize
-    ensures { λ r. ⌜ (r ≡ nameSize (now (names .entry)) topic) × (r ≤ 64) ⌝ }
+    ensures { λ r. ⌜ (r ≡ nameSize (now (names .entry)) topic) × (r ≤ nameBytes) ⌝ }
 {
     if topic < TOPICS {
         let row = ROW_BYTES * topic as usize;
@@ -157,7 +159,7 @@ fn fitting(end: usize, at: usize, size: usize) -> usize
 
 fn put_name(buf: &mut [u8], at: usize, names: &[u8; NAMES_BYTES], topic: u64) -> usize
     requires { ⌜ at < 1000000 ⌝ }
-    ensures { λ r. ⌜ Puts buf at (nameOf (now (names .entry)) topic) 64 r ⌝ }
+    ensures { λ r. ⌜ Puts buf at (nameOf (now (names .entry)) topic) nameBytes r ⌝ }
 {
     let size = name_size(names, topic);
     if TOPICS <= topic {

@@ -5,7 +5,7 @@ use mathlib.Core.Path.{_≡_, refl, ap, _∙_}
 use mathlib.Core.Bool.{Bool, true, false, cond}
 use mathlib.Core.List.{List, [], _∷_, _++_}
 use native.Mathlib.Omega.{arith}
-use lib.Dec.{eqb, leb}
+use lib.Dec.{leb}
 use lib.ListN.{length, length-map, drop}
 use lib.Seq.{sets-eq}
 use Rattle.index.specs.declared.Found.{Found}
@@ -13,6 +13,7 @@ use Rattle.index.specs.declared.Found.the-variants.{At, Nothing}
 use Rattle.index.proofs.Index.{gather-short}
 use Rattle.index.proofs.Flags.{cond-case}
 use Rattle.layout.specs.View.{stateOf}
+use Rattle.records.specs.declared.Peer.{Peer}
 use Rattle.records.specs.Records.{State, slotCount, peerIn}
 use Rattle.sets.specs.Sets.{bySlot, isPermutation}
 use Rattle.mesh.specs.Maintenance.{changesOf, actionsOf as toldActions}
@@ -23,13 +24,14 @@ use Rattle.lookup.specs.declared.Named.the-variants.{Version, Unknown}
 use Rattle.lookup.specs.Name.{versionOf}
 use Rattle.effects.specs.Actions.{Action, pruneOf, numbersOf}
 use Rattle.effects.proofs.ActionLaws.{numbers-length}
-use Rattle.effects.specs.Effects.{isJoined, isMember, backoffRuns, unsubscribeBackoff, reclaimed}
+use Rattle.effects.specs.Effects.{isJoined, isMember, unsubscribeBackoff, reclaimed}
 use Rattle.rules.specs.declared.Answer.{Answer}
 use Rattle.rules.specs.declared.Gate.the-variants.{Pass, Refuse}
 use Rattle.rules.specs.declared.Answer.the-variants.{Early, OutOfRange, NotConnected, AlreadyConnected, NoSlot, UnknownProtocol, NotPermutation, ListShort, NotRouter}
 use Rattle.rules.specs.Reply.{Reply, actionsOf, refused, ignored, done}
 use Rattle.rules.specs.Calls.{Call, connect, disconnect, join, leave, subscribe, unsubscribe, graft, prune, deliver, rate, heartbeat, decay, score, timeOf, inRange}
-use Rattle.rules.specs.Step.{actionRoom, isGraylisted, isHeard, graftEnters, gateOf, through, onFound, ofPeer, onVersion, connectAt, connectIn, connectReply, joinReply, leaveActions, leaveReply, subscribeReply, unsubscribeReply, graftRefused, graftOpen, graftBackoff, graftHeard, graftReply, pruneReply, deliverReply, viewIn, meshesIn, actionIn, heartbeatActions, maintainedReply, heartbeatReply, decayReply, effect, step}
+use Rattle.rules.proofs.GraftLaws.{by-graft}
+use Rattle.rules.specs.Step.{actionRoom, isGraylisted, isHeard, raisedP7, gateOf, through, onFound, ofPeer, onVersion, connectAt, connectIn, connectReply, joinReply, leaveActions, leaveReply, subscribeReply, unsubscribeReply, graftRefused, graftReply, pruneReply, deliverReply, viewIn, meshesIn, actionIn, heartbeatActions, maintainedReply, heartbeatReply, decayReply, effect, step}
 use Rattle.rules.specs.Promise.{Follows}
 use Rattle.rules.specs.Kept.{FitsList, WritesAll}
 use Rattle.rules.proofs.CaseLaws.{by-gate}
@@ -98,19 +100,18 @@ unfolding leaveReply
 counted-leave st time t =
     counted-cond (isJoined st t) _ _ (counted-done _ time (leaveActions st t slotCount) (actions-short st t slotCount)) (counted-ignored st time)
 
-counted-prune-back : (st : State) (time t s : ℕ) → Counted (graftRefused st time t s)
+counted-prune-back : (st : State) (time t s : ℕ) (p : Peer) → Counted (graftRefused st time t s p)
 unfolding graftRefused
-counted-prune-back st time t s = counted-done _ time _ (omega arith)
+counted-prune-back st time t s p = counted-done _ time _ (omega arith)
 
 counted-graft : (st : State) (time t s : ℕ) → Counted (graftReply st time t s)
-unfolding graftReply graftHeard graftBackoff graftOpen
 counted-graft st time t s =
-    counted-cond (isHeard st t s) _ _
-    (counted-cond (isMember st t s) _ _ (counted-quiet st time)
-    (counted-cond (eqb (peerIn st s .explicit) 1) _ _ (counted-prune-back st time t s)
-    (counted-cond (backoffRuns (peerIn st s) t time) _ _ (counted-prune-back _ time t s)
-    (counted-cond (graftEnters st t s) _ _ (counted-quiet _ time) (counted-prune-back st time t s)))))
-    (counted-ignored st time)
+    by-graft Counted st time t s
+    (λ e. counted-ignored st time)
+    (λ e m. counted-quiet st time)
+    (λ e. counted-prune-back st time t s (peerIn st s))
+    (λ e. counted-prune-back st time t s (raisedP7 (peerIn st s)))
+    (λ e. counted-quiet _ time)
 
 -- at most one action a slot, of a state that is a router's
 heartbeat-few :

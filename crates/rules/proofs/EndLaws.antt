@@ -48,6 +48,12 @@ pub gives-done :
 gives-done table mid table′ list u time a e h =
     gives-quiet (done u time []) a table table′ list refl (leaves-done table mid table′ u time a e h)
 
+pub gives-still :
+    (table table′ list : List ℕ) (time : ℕ) (a : Answer) →
+    (a ≡ Done 0) × (stateOf table′ ≡ setClock (stateOf table) time) →
+    Gives (done (stateOf table) time []) a table table′ list list
+gives-still table table′ list time a h = gives-done table table table′ list (stateOf table) time a refl h
+
 -- no action, if neither way has one
 pub quiet-cond : (t : Bool) (o q : Reply) → o .actions ≡ [] → q .actions ≡ [] → cond t o q .actions ≡ []
 quiet-cond t o q h k = cond-case (λ (r : Reply). r .actions ≡ []) t o q (λ e. h) (λ e. k)

@@ -4,31 +4,27 @@ use Prim.Native.Nat.{ℕ, _<_, _≤_, min}
 use native.Mathlib.Omega.{arith}
 use mathlib.Core.Path.{_≡_, refl, sym, _∙_}
 use mathlib.Core.Logic.{_≢_}
-use mathlib.Core.Bool.{true, false, not, _&&_}
+use mathlib.Core.Bool.{true, false}
 use mathlib.Core.List.{[]}
 use lib.Dec.{eqb}
 use borrow.Author.Tests.{eqb-true, eqb-false}
 use Rattle.index.specs.Index.{iter}
-use Rattle.index.proofs.Index.{both, iter-keeps}
+use Rattle.index.proofs.Index.{iter-keeps}
 use Rattle.index.proofs.Flags.{by-test, cond-case}
 use Rattle.records.specs.declared.Peer.{Peer}
 use Rattle.records.specs.Records.{State, place, joinedIn, peerIn, topicIn, setJoined, slotCount}
 use Rattle.validity.specs.Valid.{maxEnd}
 use Rattle.score.specs.Counters.{countMost, raisedOf, grownOf}
 use Rattle.score.specs.Score.{topicParamsIn}
-use Rattle.effects.specs.Effects.{withEnd, withP7, onPeer, onTopic, isJoined, isMember, isSubscribed, backoffRuns, pruned, endAfter, pruneBackoff, unsubscribeBackoff}
+use Rattle.effects.specs.Effects.{withEnd, withP7, intoMesh, onTopic, isJoined, isMember, pruned, endAfter, pruneBackoff, unsubscribeBackoff}
 use Rattle.effects.proofs.Walks.{iter-before, iter-once}
-use Rattle.effects.proofs.EffectLaws.{on-peer, place-slot, pruned-apart, pruned-member, pruned-reads}
-use Rattle.rules.specs.Reply.{ignored, done}
-use Rattle.rules.specs.Step.{isNegative, isGraylisted, isHeard, joinReply, punished, leaveSlot, leaveReply, subscribeReply, unsubscribeReply, graftRefused, graftEnters, meshFull, graftOpen, graftBackoff, graftHeard, graftReply, secondsOf, pruneReply}
+use Rattle.effects.proofs.EffectLaws.{ends-with, place-slot, pruned-apart, pruned-member, pruned-reads}
+use Rattle.rules.specs.Reply.{Reply, ignored, done}
+use Rattle.rules.proofs.GraftLaws.{Entering, by-graft}
+use Rattle.rules.specs.Step.{isNegative, isGraylisted, isHeard, joinReply, punished, leaveSlot, leaveReply, subscribeReply, unsubscribeReply, seenIn, graftRefused, raisedP7, isCrowded, graftReply, secondsOf, pruneReply}
 use Rattle.rules.proofs.PunishedLaws.{punished-apart}
-use Rattle.rules.proofs.KeepsRecord.{topic-left, topic-subscribed, topic-in, topic-counted}
-use Rattle.rules.proofs.KeepsState.{Router, RouterAt, Fits, router-end, latest, peer-of, topic-of, end-most, prune-most, leave-most, router-topic, router-joined, router-backoff, router-p7, router-pruned, Walked, walk-none, walk-topic, either}
-
--- what a heard call knows of its topic
-heard-joined : (st : State) (t s : ℕ) → isHeard st t s ≡ true → joinedIn st t ≡ 1
-unfolding isHeard
-heard-joined st t s e = eqb-true (joinedIn st t) 1 (both (isJoined st t) (not (isGraylisted st s)) e .0)
+use Rattle.rules.proofs.KeepsRecord.{peer-end, peer-p7, topic-left, topic-subscribed, topic-in, topic-counted}
+use Rattle.rules.proofs.KeepsState.{Router, RouterAt, Fits, router-end, latest, peer-of, topic-of, end-most, prune-most, leave-most, router-topic, router-joined, router-backoff, router-numbers, router-pruned, Walked, walk-none, walk-topic, either}
 
 module _ (time : ℕ) (st : State) (g : RouterAt time st) (t : ℕ) (k : t < 8) where
   pub keeps-join : Router (joinReply st time t .state)
@@ -73,54 +69,50 @@ module _ (time : ℕ) (st : State) (g : RouterAt time st) (t : ℕ) (k : t < 8) 
         (λ e. router-end time st g)
 
     -- ---- GRAFT
-    keeps-refused : Router (graftRefused st time t s .state)
+    keeps-refused : Router (graftRefused st time t s (peerIn st s) .state)
     unfolding graftRefused
     keeps-refused =
         router-end time _
         (router-backoff time st g s h on t (endAfter time (pruneBackoff st)) k (end-most time st g (pruneBackoff st) (prune-most time st g)))
 
-    keeps-open : peerIn st s .explicit ≡ 0 → joinedIn st t ≡ 1 → Router (graftOpen st time t s .state)
-    unfolding graftOpen graftEnters
-    keeps-open x j =
-        either (graftEnters st t s) _ (graftRefused st time t s)
-        (λ e.
-        let a = both (not (isNegative st s)) (isSubscribed st t s && not (meshFull st t s)) e .1 in
-        let b = both (isSubscribed st t s) (not (meshFull st t s)) a .0 in
+    -- a member that entered is subscribed, not explicit, and in a joined topic
+    keeps-entered : Entering (seenIn st t s) (isCrowded st t) time t → Router (done (onTopic st s t (λ r. intoMesh r time)) time [] .state)
+    keeps-entered e =
         router-end time _
         (router-topic time st g s t _ k
-        (topic-in _ _ _ _ _ _ (topicIn st (place s t)) fits on (latest time st g) (eqb-true (topicIn st (place s t) .subscribed) 1 b) x j)))
+        (topic-in _ _ _ _ _ _ (topicIn st (place s t)) fits on (latest time st g)
+        (eqb-true (topicIn st (place s t) .subscribed) 1 (e .subscribed))
+        (not-explicit (peerIn st s .explicit) (peer-of time st g s h .explicit) (eqb-false _ _ (e .plain)))
+        (eqb-true (joinedIn st t) 1 (e .outside .joined))))
+      where
+        not-explicit : (n : ℕ) → n ≤ 1 → (n ≡ 1 → ⊥) → n ≡ 0
+        not-explicit n b z = omega (arith, z)
+
+    -- P7 and the end of the backoff grow in one record
+    keeps-raised : Router (graftRefused st time t s (raisedP7 (peerIn st s)) .state)
+    unfolding graftRefused raisedP7 withP7 withEnd
+    keeps-raised =
+        let p = peerIn st s in
+        let n = raisedOf (p .p7) countMost in
+        let end = endAfter time (pruneBackoff st) in
+        let b = end-most time st g (pruneBackoff st) (prune-most time st g) in
+        router-end time _
+        (router-numbers time st g s (withEnd (withP7 p n) t end)
+        (ends-with (withP7 p n) t end ∙ g .size .ends s)
+        (peer-end (withP7 p n) (peer-p7 p (peer-of time st g s h) on n (omega arith)) on t end k b)
+        h
+        refl
+        refl
+        refl)
+
+    pub keeps-graft : Router (graftReply st time t s .state)
+    keeps-graft =
+        by-graft (λ (r : Reply). Router (r .state)) st time t s
+        (λ e. router-end time st g)
+        (λ e m. router-end time st g)
         (λ e. keeps-refused)
-
-module _ (time : ℕ) (st : State) (g : RouterAt time st) (t : ℕ) (k : t < 8) (s : ℕ) (h : s < slotCount) (on : peerIn st s .status ≡ 1) where
-  keeps-backoff : peerIn st s .explicit ≡ 0 → joinedIn st t ≡ 1 → Router (graftBackoff st time t s .state)
-  unfolding graftBackoff withP7
-  keeps-backoff x j =
-      let n = raisedOf (peerIn st s .p7) countMost in
-      let u : RouterAt time (onPeer st s (λ p. withP7 p n)) = router-p7 time st g s h on n (omega arith) in
-      either (backoffRuns (peerIn st s) t time) _ (graftOpen st time t s)
-      (λ e.
-      keeps-refused time (onPeer st s (λ p. withP7 p n)) u t k s h (on-peer (λ (p : Peer). p .status) st s (λ p. withP7 p n) s refl ∙ on))
-      (λ e. keeps-open time st g t k s h on x j)
-
-  keeps-heard : joinedIn st t ≡ 1 → Router (graftHeard st time t s .state)
-  unfolding graftHeard
-  keeps-heard j =
-      either (isMember st t s) (done st time []) _
-      (λ e. router-end time st g)
-      (λ e.
-      either (eqb (peerIn st s .explicit) 1) (graftRefused st time t s) (graftBackoff st time t s)
-      (λ x. keeps-refused time st g t k s h on)
-      (λ x. keeps-backoff (not-explicit (peerIn st s .explicit) (peer-of time st g s h .explicit) (eqb-false _ _ x)) j))
-    where
-      not-explicit : (n : ℕ) → n ≤ 1 → (n ≡ 1 → ⊥) → n ≡ 0
-      not-explicit n b z = omega (arith, z)
-
-  pub keeps-graft : Router (graftReply st time t s .state)
-  unfolding graftReply
-  keeps-graft =
-      either (isHeard st t s) (graftHeard st time t s) (ignored st time)
-      (λ e. keeps-heard (heard-joined st t s e))
-      (λ e. router-end time st g)
+        (λ e. keeps-raised)
+        keeps-entered
 
 -- ---- leave: every member by slot
 module _ (time : ℕ) (st : State) (g : RouterAt time st) (t : ℕ) (k : t < 8) (end : ℕ) (b : end ≤ maxEnd) where

@@ -2,6 +2,8 @@ pub mod GateLaws
 pub mod PromiseLaws
 pub mod StepLaws
 pub mod CaseLaws
+pub mod FirstLaws
+pub mod GraftLaws
 pub mod PunishedLaws
 pub mod HeartbeatLaws
 pub mod KeepsRecord

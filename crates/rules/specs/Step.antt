@@ -29,6 +29,10 @@ use Rattle.mesh.specs.declared.Meshes.{Meshes}
 use Rattle.mesh.specs.Maintenance.{Action as Told, zeroScore, meshes, changesOf, actionsOf}
 use Rattle.rules.specs.declared.Answer.{Answer}
 use Rattle.rules.specs.declared.Answer.the-variants.{Done, Scored, Early, OutOfRange, NotConnected, AlreadyConnected, NoSlot, UnknownProtocol, NotPermutation, ListShort, Ignored, NotRouter}
+use Rattle.rules.specs.declared.Sender.{Sender}
+use Rattle.rules.specs.declared.Seen.{Seen}
+use Rattle.rules.specs.declared.GraftCase.{GraftCase}
+use Rattle.rules.specs.declared.GraftCase.the-variants.{NotJoined, Graylisted, AlreadyMember, Explicit, InBackoff, Negative, NotSubscribed, Full, Enters}
 use Rattle.rules.specs.declared.Gate.{Gate}
 use Rattle.rules.specs.declared.Gate.the-variants.{Pass, Refuse}
 use Rattle.effects.specs.Actions.{Action, pruneOf}
@@ -69,9 +73,19 @@ isNegative st s = ltZ (scoreIn st s) (pos 0)
 unfoldable pub isGraylisted : State → ℕ → Bool
 isGraylisted st s = eqb (peerIn st s .explicit) 0 && ltZ (scoreIn st s) (numberOf (codeIn st graylistThresholdAt) *ℤ pos 1000000)
 
--- what GRAFT, PRUNE and delivery ask first: the topic is joined, and the peer not graylisted
+-- what a call sees of the peer that sent it, and of its topic
+abbrev pub senderIn : State → ℕ → Sender
+senderIn st s = record { peer = peerIn st s; graylisted = isGraylisted st s; negative = isNegative st s }
+
+abbrev pub seenIn : State → ℕ → ℕ → Seen
+seenIn st t s = record { sender = senderIn st s; joined = isJoined st t; topic = topicIn st (place s t) }
+
+-- what PRUNE and delivery ask first: the topic is joined, and the peer not graylisted
+abbrev pub heard : Seen → Bool
+heard v = v .joined && not (v .sender .graylisted)
+
 unfoldable pub isHeard : State → ℕ → ℕ → Bool
-isHeard st t s = isJoined st t && not (isGraylisted st s)
+isHeard st t s = heard (seenIn st t s)
 
 -- ---- connect
 abbrev pub onVersion : Named → (ℕ → Reply) → Reply → Reply
@@ -131,40 +145,46 @@ unsubscribeReply st time t s =
     cond (isGraylisted st s) (ignored st time) (done (onTopic st s t (λ r. withSubscribed (outOfMesh r) 0)) time [])
 
 -- ---- GRAFT in, "first that holds"
--- with a PRUNE: "Each PRUNE here [..] sets the end to the later of old and now + prune backoff"
-unfoldable pub graftRefused : State → ℕ → ℕ → ℕ → Reply
-graftRefused st time t s =
-    done (onPeer st s (λ p. withEnd p t (endAfter time (pruneBackoff st)))) time
-    (pruneOf (peerIn st s) (pruneBackoff st) ∷ [])
+-- with a PRUNE: "Each PRUNE here [..] sets the end to the later of old and now + prune backoff"; p is the record that gets the end
+unfoldable pub graftRefused : State → ℕ → ℕ → ℕ → Peer → Reply
+graftRefused st time t s p =
+    done (setPeer st s (withEnd p t (endAfter time (pruneBackoff st)))) time (pruneOf p (pruneBackoff st) ∷ [])
 
--- "mesh ≥ D_hi and inbound"
-unfoldable pub meshFull : State → ℕ → ℕ → Bool
-meshFull st t s = leb (highDegree st) (meshSize st t) && eqb (peerIn st s .outbound) 0
+-- "P7 + 1000", to 10^6
+unfoldable pub raisedP7 : Peer → Peer
+raisedP7 p = withP7 p (raisedOf (p .p7) countMost)
 
--- "score negative, PRUNE; not subscribed, PRUNE; mesh ≥ D_hi and inbound, PRUNE; else member"
-unfoldable pub graftEnters : State → ℕ → ℕ → Bool
-graftEnters st t s = not (isNegative st s) && (isSubscribed st t s && not (meshFull st t s))
+-- "mesh ≥ D_hi"
+unfoldable pub isCrowded : State → ℕ → Bool
+isCrowded st t = leb (highDegree st) (meshSize st t)
 
-unfoldable pub graftOpen : State → ℕ → ℕ → ℕ → Reply
-graftOpen st time t s =
-    cond (graftEnters st t s) (done (onTopic st s t (λ r. intoMesh r time)) time []) (graftRefused st time t s)
+-- "not joined 11; graylisted 11; already member, done; explicit, PRUNE; backoff running (now < end), PRUNE and P7 + 1000; score negative,
+-- PRUNE; not subscribed, PRUNE; mesh ≥ D_hi and inbound, PRUNE; else member": which it is
+unfoldable pub graftCase : Seen → Bool → ℕ → ℕ → GraftCase
+graftCase v crowded time t =
+    cond (not (v .joined)) NotJoined
+    (cond (v .sender .graylisted) Graylisted
+    (cond (eqb (v .topic .member) 1) AlreadyMember
+    (cond (eqb (v .sender .peer .explicit) 1) Explicit
+    (cond (backoffRuns (v .sender .peer) t time) InBackoff
+    (cond (v .sender .negative) Negative
+    (cond (not (eqb (v .topic .subscribed) 1)) NotSubscribed
+    (cond (crowded && eqb (v .sender .peer .outbound) 0) Full Enters)))))))
 
--- "backoff running (now < end), PRUNE and P7 + 1000"
-unfoldable pub graftBackoff : State → ℕ → ℕ → ℕ → Reply
-graftBackoff st time t s =
-    cond (backoffRuns (peerIn st s) t time)
-    (graftRefused (onPeer st s (λ p. withP7 p (raisedOf (p .p7) countMost))) time t s)
-    (graftOpen st time t s)
+-- and what is done then
+abbrev pub graftDone : GraftCase → State → ℕ → ℕ → ℕ → Reply
+graftDone NotJoined st time t s = ignored st time
+graftDone Graylisted st time t s = ignored st time
+graftDone AlreadyMember st time t s = done st time []
+graftDone Explicit st time t s = graftRefused st time t s (peerIn st s)
+graftDone InBackoff st time t s = graftRefused st time t s (raisedP7 (peerIn st s))
+graftDone Negative st time t s = graftRefused st time t s (peerIn st s)
+graftDone NotSubscribed st time t s = graftRefused st time t s (peerIn st s)
+graftDone Full st time t s = graftRefused st time t s (peerIn st s)
+graftDone Enters st time t s = done (onTopic st s t (λ r. intoMesh r time)) time []
 
--- "already member, done; explicit, PRUNE"
-unfoldable pub graftHeard : State → ℕ → ℕ → ℕ → Reply
-graftHeard st time t s =
-    cond (isMember st t s) (done st time [])
-    (cond (eqb (peerIn st s .explicit) 1) (graftRefused st time t s) (graftBackoff st time t s))
-
--- "not joined 11; graylisted 11"
 unfoldable pub graftReply : State → ℕ → ℕ → ℕ → Reply
-graftReply st time t s = cond (isHeard st t s) (graftHeard st time t s) (ignored st time)
+graftReply st time t s = graftDone (graftCase (seenIn st t s) (isCrowded st t) time t) st time t s
 
 -- ---- PRUNE in: "backoff end = later of the old and now + given seconds (0 means prune backoff; above 3600 counts as 3600), member or not"
 unfoldable pub secondsOf : State → ℕ → ℕ

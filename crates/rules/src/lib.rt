@@ -1,5 +1,7 @@
 // The rules of 01 as definitions (specs/): one data type of calls, and what each call answers and leaves. The code that keeps to them is
 // crate router. Here stand only the types that both speak of.
+use records::Peer;
+use records::TopicRecord;
 use score::Why;
 
 // What a call answers. A definition (specs/Reply.antt) gives 01's number and values of each.
@@ -34,4 +36,31 @@ pub enum Answer {
 pub enum Gate {
     Pass,
     Refuse(Answer),
+}
+
+// What a call sees of the peer that sent it, at the call's start: its record, and what its score says of it.
+pub struct Sender {
+    pub peer: Peer,
+    pub graylisted: bool,
+    pub negative: bool,
+}
+
+// What a call of one peer in one topic sees. Its case is decided by this alone.
+pub struct Seen {
+    pub sender: Sender,
+    pub joined: bool,
+    pub topic: TopicRecord,
+}
+
+// The nine cases of a GRAFT that comes in, in 01's order.
+pub enum GraftCase {
+    NotJoined,
+    Graylisted,
+    AlreadyMember,
+    Explicit,
+    InBackoff,
+    Negative,
+    NotSubscribed,
+    Full,
+    Enters,
 }

@@ -5,17 +5,16 @@ use mathlib.Core.Bool.{_&&_}
 use native.Mathlib.Omega.{arith}
 use native.Mathlib.Nat.{mul-le-mul}
 use lib.Dec.{eqb, ltb}
-use lib.IntN.{natAbs}
 use Rattle.index.proofs.Flags.{cond-case}
 use Rattle.records.specs.declared.TopicRecord.{TopicRecord}
 use Rattle.score.specs.declared.TopicParams.{TopicParams}
 use Rattle.score.specs.declared.ScoreParams.{ScoreParams}
 use Rattle.score.specs.declared.Balance.{Balance}
 use Rattle.score.specs.declared.Parts.{Parts}
-use Rattle.score.specs.Ranges.{TopicParamsIn, ScoreParamsIn, CountersIn, ShareIn, TopicsIn, PartsIn, BalanceIn, scoreMost}
+use Rattle.score.specs.Ranges.{TopicParamsIn, ScoreParamsIn, CountersIn, ShareIn, TopicsIn, PartsIn, BalanceIn}
 use Rattle.score.specs.Parts.{isMember, square, part1Of, part3Of, surplusOf}
-use Rattle.score.specs.Sums.{worth, shareOf, sumOf, cappedOf, p5Of, partsOf, totalOf}
-use Rattle.score.proofs.SumLaws.{score-size}
+use Rattle.score.specs.Sums.{shareOf, sumOf, cappedOf, p5Of, partsOf, totalOf}
+use Rattle.records.specs.Records.{slotCount}
 
 module _ (t : TopicParams) (h : TopicParamsIn t) (r : TopicRecord) where
   pub part1-most : part1Of t r ≤ 1000000000
@@ -111,7 +110,7 @@ module _ (g : ScoreParams) (b : Balance) (code sharing p7 : ℕ) where
       ScoreParamsIn g →
       TopicsIn b →
       code ≤ 2000000000 →
-      sharing ≤ 64 →
+      sharing ≤ slotCount →
       p7 ≤ 1000000 →
       PartsIn (partsOf g b code sharing p7)
   unfolding partsOf Small5
@@ -134,32 +133,3 @@ unfolding totalOf
 total-in p h =
     let t = h .capped in
     record { gain = omega (arith, t .gain); loss = omega (arith, t .loss) }
-
--- "No score passes 2.6 × 10^18 either way.", of records and parameters in their ranges
-pub no-score-passes :
-    (params : ℕ → TopicParams) (topics : ℕ → TopicRecord) (g : ScoreParams) (code sharing p7 : ℕ) →
-    ((k : ℕ) → k < 8 → TopicParamsIn (params k)) →
-    ((k : ℕ) → k < 8 → CountersIn (topics k)) →
-    ScoreParamsIn g →
-    code ≤ 2000000000 →
-    sharing ≤ 64 →
-    p7 ≤ 1000000 →
-    natAbs (worth (totalOf (partsOf g (sumOf 8 (λ k. shareOf (params k) (topics k))) code sharing p7))) ≤ scoreMost
-no-score-passes params topics g code sharing p7 hp ht hg hc hs h7 =
-    score-size
-    (totalOf (partsOf g (sumOf 8 (λ k. shareOf (params k) (topics k))) code sharing p7))
-    (total-in
-    (partsOf g (sumOf 8 (λ k. shareOf (params k) (topics k))) code sharing p7)
-    (parts-in
-    g
-    (sumOf 8 (λ k. shareOf (params k) (topics k)))
-    code
-    sharing
-    p7
-    hg
-    (topics-in
-    (λ k. shareOf (params k) (topics k))
-    (λ k l. share-in (params k) (hp k l) (topics k) (ht k l)))
-    hc
-    hs
-    h7))

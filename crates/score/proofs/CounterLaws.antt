@@ -10,7 +10,7 @@ use Rattle.records.specs.declared.TopicRecord.{TopicRecord}
 use Rattle.score.specs.declared.TopicParams.{TopicParams}
 use Rattle.score.specs.Ranges.{TopicParamsIn, CountersIn, CountersWithin}
 use Rattle.score.specs.Parts.{isMember}
-use Rattle.score.specs.Counters.{raisedOf, raised3Of, firstOf, nearFirstOf, invalidOf, grownOf, fadedOf, meshOf, decayedOf}
+use Rattle.score.specs.Counters.{raisedOf, raised3Of, firstOf, nearFirstOf, invalidOf, fadedOf, meshOf, decayedOf}
 
 -- what decays does not grow
 pub faded-less : (floor factor x : ℕ) → factor ≤ 1000 → fadedOf floor factor x ≤ x
@@ -65,10 +65,6 @@ module _ (t : TopicParams) (r : TopicRecord) where
     pub invalid-within : CountersWithin t (invalidOf r)
     unfolding invalidOf
     invalid-within = record { p2 = k .p2; p3 = k .p3; p4 = omega arith; p3b = k .p3b }
-
-    pub grown-within : CountersWithin t (grownOf t r)
-    unfolding grownOf
-    grown-within = record { p2 = k .p2; p3 = k .p3; p4 = k .p4; p3b = omega arith }
 
     pub decayed-within : (floor time : ℕ) → TopicParamsIn t → CountersWithin t (decayedOf t floor time r)
     unfolding decayedOf

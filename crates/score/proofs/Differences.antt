@@ -1,5 +1,5 @@
--- Integers as differences of naturals: `subℕ a b` of lib.IntN is a - b. Sums, multiples, order and offset of differences are sums, multiples
--- and order of naturals, which omega reads.
+-- Integers as differences of naturals: `subℕ a b` of lib.IntN is a - b. Sums, multiples, order and offset of differences are sums,
+-- multiples and order of naturals, which omega reads.
 -- Assumes nothing.
 use Prim.Native.Nat.{ℕ, zero, suc, _+_, _-_, _*_, _<_, _≤_, zero-le}
 use mathlib.Core.Path.{_≡_, refl, sym, ap, _∙_}
@@ -7,7 +7,7 @@ use native.Mathlib.Omega.{arith}
 use native.Mathlib.Nat.{mul-add, mul-comm}
 use borrow.Author.Tests.{lt-ltb, le-ltb, le-leb, lt-leb}
 use lib.Dec.{ltb, leb}
-use lib.IntN.{ℤ, pos, negsuc, negℤ, natAbs, subℕ, _+ℤ_, _*ℤ_, *ℤ-comm}
+use lib.IntN.{pos, negsuc, negℤ, natAbs, subℕ, _+ℤ_, _*ℤ_, *ℤ-comm}
 use lib.Signed.{leZ, ltZ}
 use Rattle.index.proofs.Flags.{by-order, leb-same}
 
@@ -132,15 +132,6 @@ diff-ltZ a b c d =
     (leb-same (suc (a - b)) (c - d) (suc (a + d)) (c + b) (λ z. omega arith) (λ z. omega arith))))
 
 -- moved up by a base, as an unsigned number
-pub offset-lt :
-    (B a b c d : ℕ) →
-    b ≤ B + a →
-    d ≤ B + c →
-    ltb (B + a - b) (B + c - d) ≡ ltZ (subℕ a b) (subℕ c d)
-offset-lt B a b c d h k =
-    leb-same (suc (B + a - b)) (B + c - d) (suc (a + d)) (c + b) (λ z. omega arith) (λ z. omega arith)
-    ∙ sym (diff-ltZ a b c d)
-
 pub offset-le :
     (B a b c d : ℕ) →
     b ≤ B + a →

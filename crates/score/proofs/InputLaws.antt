@@ -6,12 +6,12 @@ use mathlib.Core.Bool.{true}
 use native.Mathlib.Omega.{arith}
 use lib.Dec.{lit<}
 use lib.IntN.{pos, negℤ}
-use Rattle.params.specs.Limits.{limits, limitAt}
-use Rattle.params.specs.Joint.{place as topicPlace}
-use Rattle.params.proofs.LimitLaws.{topic-field}
-use Rattle.params.proofs.FieldLaws.{gain-of, loss-of}
+use Rattle.limits.specs.Limits.{limits, limitAt}
+use Rattle.limits.specs.Limits.{place as topicPlace}
+use Rattle.limits.proofs.LimitLaws.{topic-field}
+use Rattle.limits.proofs.FieldLaws.{gain-of, loss-of}
 use Rattle.params.proofs.ParamLaws.{within, general, topic}
-use Rattle.records.specs.Records.{State, topicCount, place, codeIn, peerIn, topicIn}
+use Rattle.records.specs.Records.{State, topicCount, place, codeIn, peerIn, topicIn, slotCount}
 use Rattle.validity.specs.Valid.{topicParam, valid}
 use Rattle.validity.proofs.ValidLaws.{Facts, valid-facts}
 use Rattle.score.specs.Ranges.{TopicParamsIn, ScoreParamsIn, CountersIn, CountersWithin}
@@ -82,18 +82,6 @@ module _ (st : State) (ok : valid st ≡ true) where
         w7 = p .w7-most;
       }
 
-  -- the graylist threshold, P7's factor and decay-to-zero
-  pub graylist-in : (sizeIn st 9 ≤ 1000000000) × (negℤ (pos (sizeIn st 9)) ≡ paramIn st 9)
-  unfolding codeIn limitAt limits
-  graylist-in = (
-    general (st .codes) (facts .params) .graylist-most,
-    loss-of (st .codes) (within (st .codes) (facts .params)) 9 (lit< tt) 9 refl tt,
-  )
-
-  pub decay-in : (sizeIn st 17 ≤ 999) × (sizeIn st 18 ≤ 1000)
-  unfolding codeIn
-  decay-in = let p = general (st .codes) (facts .params) in (p .p7Decay-most, p .decayToZero-most)
-
   topic-signs : (t : ℕ) → t < 8 → TopicSigns st t
   unfolding codeIn limitAt limits
   topic-signs t l =
@@ -120,7 +108,7 @@ module _ (st : State) (ok : valid st ≡ true) where
       }
 
   -- the counters of the peer in slot s
-  module _ (s : ℕ) (h : s < 64) where
+  module _ (s : ℕ) (h : s < slotCount) where
     pub counters-within : (t : ℕ) → t < 8 → CountersWithin (topicParamsIn st t) (topicIn st (place s t))
     unfolding topicParamsIn topicParam
     counters-within t l =

@@ -1,20 +1,15 @@
 -- What the code computes of a router's state is worth 01's score, and the score depends on nothing but what 01 names.
 -- Assumes nothing.
-use Prim.Native.Nat.{ℕ, zero, suc, _*_, _<_, _≤_}
-use native.Mathlib.Nat.{not-suc-le-zero, eq-or-lt-of-le, le-of-suc-le-suc}
-use mathlib.Core.Path.{_≡_, refl, sym, ap, ap₂, _∙_}
-use mathlib.Core.Bool.{Bool, true}
-use mathlib.Core.Logic.{⊎-elim}
-use borrow.Author.Tests.{eq-eqb}
+use Prim.Native.Nat.{ℕ, _<_, _≤_}
+use mathlib.Core.Path.{_≡_, refl, sym, ap, _∙_}
+use mathlib.Core.Bool.{true}
 use native.Mathlib.Omega.{arith}
-use lib.IntN.{ℤ, pos, negℤ, natAbs, subℕ, _+ℤ_, _*ℤ_}
-use lib.Signed.{ltZ}
-use Rattle.index.specs.Index.{count}
+use lib.IntN.{pos, natAbs, subℕ, _+ℤ_, _*ℤ_}
 use Rattle.index.proofs.Index.{count-bound}
 use Rattle.varint.specs.Codes.{numberOf}
-use Rattle.params.specs.Joint.{place as topicPlace}
+use Rattle.limits.specs.Limits.{place as topicPlace}
 use Rattle.records.specs.declared.Peer.{Peer}
-use Rattle.records.specs.Records.{State, topicCount, place, peerIn, topicIn, isConnected}
+use Rattle.records.specs.Records.{State, topicCount, place, peerIn, topicIn, slotCount}
 use Rattle.validity.specs.Valid.{valid}
 use Rattle.score.specs.declared.ScoreParams.{ScoreParams}
 use Rattle.score.specs.declared.Balance.{Balance}
@@ -23,36 +18,17 @@ use Rattle.score.specs.declared.Why.{Why}
 use Rattle.score.specs.Ranges.{ScoreParamsIn, TopicsIn, PartsIn, BalanceIn, ShareIn, scoreMost}
 use Rattle.score.specs.Parts.{square, surplusOf}
 use Rattle.score.specs.Formula.{allTopics, bounded, whyOf}
-use Rattle.score.specs.Sums.{worth, sumOf, partsOf, totalOf, toldOf, negativeOf, belowOf}
-use Rattle.score.specs.Score.{paramIn, sizeIn, topicParamsIn, scoreParamsIn, sharesGroup, sharing, topicScore, whyIn, scoreIn, shareAt, partsAt, balanceAt, Scores, Agree}
-use Rattle.score.proofs.InputLaws.{TopicSigns, SlotIn, slot-in, graylist-in}
+use Rattle.score.specs.Sums.{worth, sumOf, partsOf, totalOf, toldOf}
+use Rattle.score.specs.Score.{paramIn, sizeIn, topicParamsIn, scoreParamsIn, sharesGroup, sharing, topicScore, whyIn, scoreIn}
+use Rattle.score.specs.Score.{shareAt, partsAt, balanceAt, Scores, Agree}
+use Rattle.score.proofs.InputLaws.{TopicSigns, SlotIn, slot-in}
 use Rattle.score.proofs.ShareLaws.{share-is, sum-is, sum-done, topics-same}
-use Rattle.score.proofs.SumLaws.{same-why, capped-is, p5-is, loss-is, total-is, score-size, negative-is, below-is}
-use Rattle.score.proofs.Differences.{diff-neg, neg-times}
+use Rattle.score.proofs.SumLaws.{same-why, capped-is, p5-is, loss-is, total-is, score-size}
 use Rattle.score.proofs.BoundLaws.{share-in, sum-in, topics-in, parts-in, total-in}
 
-pub sharing-most : (st : State) (group : ℕ) → sharing st group ≤ 64
+pub sharing-most : (st : State) (group : ℕ) → sharing st group ≤ slotCount
 unfolding sharing
-sharing-most st group = count-bound (sharesGroup st group) 64
-
--- "itself counted"
-some : (f : ℕ → Bool) (n i : ℕ) → i < n → f i ≡ true → 1 ≤ count n f
-unfolding count
-some f zero i h e = absurd (not-suc-le-zero h)
-some f (suc n) i h e =
-    ⊎-elim
-    (λ q. rw (← q, e) (omega arith))
-    (λ l. omega (arith, some f n i l e))
-    (eq-or-lt-of-le (le-of-suc-le-suc h))
-
-pub sharing-itself :
-    (st : State) (s : ℕ) →
-    s < 64 →
-    isConnected (peerIn st s) ≡ true →
-    1 ≤ sharing st (peerIn st s .group)
-unfolding sharing sharesGroup
-sharing-itself st s h e =
-    some (sharesGroup st (peerIn st s .group)) 64 s h (rw (e, eq-eqb (peerIn st s .group) (peerIn st s .group) refl))
+sharing-most st group = count-bound (sharesGroup st group) slotCount
 
 -- one topic
 topic-is : (st : State) (s t : ℕ) → TopicSigns st t → topicScore st s t ≡ worth (shareAt st s t)
@@ -121,8 +97,8 @@ module _ (st : State) (s : ℕ) (h : SlotIn st s) where
   module _ (p : Peer) (g : ScoreParams) (b : Balance) (n : ℕ) (is-p : p ≡ peerIn st s) (is-g : g ≡ scoreParamsIn st) where
     pub parts-ready :
         TopicsIn b →
-        n ≤ 64 →
-        ScoreParamsIn g × (TopicsIn b × ((p .p5 ≤ 2000000000) × ((n ≤ 64) × (p .p7 ≤ 1000000))))
+        n ≤ slotCount →
+        ScoreParamsIn g × (TopicsIn b × ((p .p5 ≤ 2000000000) × ((n ≤ slotCount) × (p .p7 ≤ 1000000))))
     parts-ready i k = rw (is-g, is-p) (h .general, (i, (h .p5, (k, h .p7))))
 
     pub parts-done :
@@ -192,29 +168,9 @@ unfolding scoreIn whyIn whyOf
 why-sum st s = refl
 
 -- of a router's state: the code's balance is worth 01's score, and "no score passes 2.6 × 10^18 either way"
-module _ (st : State) (ok : valid st ≡ true) (s : ℕ) (h : s < 64) where
-  pub router-score : worth (balanceAt st s) ≡ scoreIn st s
-  router-score = score-is st s (slot-in st ok s h)
-
+module _ (st : State) (ok : valid st ≡ true) (s : ℕ) (h : s < slotCount) where
   pub router-score-most : natAbs (scoreIn st s) ≤ scoreMost
   router-score-most = score-most st s (slot-in st ok s h)
-
--- what the code tests of a balance, said of the score
-module _ (st : State) (s : ℕ) (b : Balance) (h : Scores st s b) where
-  pub score-negative : negativeOf b ≡ ltZ (scoreIn st s) (pos 0)
-  score-negative = negative-is b ∙ ap (λ (z : ℤ). ltZ z (pos 0)) (h .score)
-
-  -- the graylist threshold is the general number 9, in thousandths of a point
-  pub score-graylisted :
-      (n : ℕ) →
-      valid st ≡ true →
-      n ≡ sizeIn st 9 →
-      belowOf b n ≡ ltZ (scoreIn st s) (paramIn st 9 *ℤ pos 1000000)
-  score-graylisted n ok e =
-      below-is b n ∙ ap₂ ltZ (h .score) (threshold n (sizeIn st 9) e ∙ ap (λ (z : ℤ). z *ℤ pos 1000000) (graylist-in st ok .1))
-    where
-      threshold : (a c : ℕ) → a ≡ c → negℤ (pos (a * 1000000)) ≡ negℤ (pos c) *ℤ pos 1000000
-      threshold a c p = ap (λ (k : ℕ). negℤ (pos (k * 1000000))) p ∙ diff-neg (c * 1000000) ∙ sym (neg-times c 1000000)
 
 -- "One peer's score depends on its own record, the sheet, and the number of connected peers in its group, and on nothing else."
 module _ (st : State) (s : ℕ) (other : State) (u : ℕ) (h : Agree st s other u) where
@@ -224,12 +180,23 @@ module _ (st : State) (s : ℕ) (other : State) (u : ℕ) (h : Agree st s other 
 
   topic-same : (t : ℕ) → t < topicCount → topicScore st s t ≡ topicScore other u t
   unfolding topicScore
-  topic-same t l = rw (h .codes (topicPlace t 0), h .codes (topicPlace t 1), h .codes (topicPlace t 4), h .codes (topicPlace t 7), h .codes (topicPlace t 12), h .codes (topicPlace t 14), params-same t, h .topics t l)
+  topic-same t l =
+      rw (
+        h .codes (topicPlace t 0),
+        h .codes (topicPlace t 1),
+        h .codes (topicPlace t 4),
+        h .codes (topicPlace t 7),
+        h .codes (topicPlace t 12),
+        h .codes (topicPlace t 14),
+        params-same t,
+        h .topics t l,
+      )
 
   pub why-depends : whyIn st s ≡ whyIn other u
   unfolding whyIn
   why-depends =
-      let sums : allTopics 8 (topicScore st s) ≡ allTopics 8 (topicScore other u) = topics-same (topicScore st s) (topicScore other u) 8 topic-same in
+      let sums : allTopics 8 (topicScore st s) ≡ allTopics 8 (topicScore other u) =
+      topics-same (topicScore st s) (topicScore other u) 8 topic-same in
       rw (h .codes 12, h .codes 13, h .codes 14, h .codes 15, h .codes 16, h .p5, h .p7, h .sharing, sums)
 
   pub score-depends : scoreIn st s ≡ scoreIn other u

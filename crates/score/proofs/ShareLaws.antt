@@ -92,8 +92,3 @@ pub topics-same : (f g : ℕ → ℤ) (n : ℕ) → ((k : ℕ) → k < n → f k
 unfolding allTopics
 topics-same f g zero h = refl
 topics-same f g (suc n) h = rw (topics-same f g n (λ k l. h k (omega arith)), h n (omega arith))
-
-pub sum-same : (f g : ℕ → Balance) (n : ℕ) → ((k : ℕ) → k < n → f k ≡ g k) → sumOf n f ≡ sumOf n g
-unfolding sumOf
-sum-same f g zero h = refl
-sum-same f g (suc n) h = rw (sum-same f g n (λ k l. h k (omega arith)), h n (omega arith))

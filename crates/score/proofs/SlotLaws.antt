@@ -7,7 +7,7 @@ use lib.Dec.{eqb}
 use Rattle.index.specs.Index.{one, count}
 use Rattle.index.proofs.Index.{count-none, count-more, count-done}
 use Rattle.records.specs.declared.TopicRecord.{TopicRecord}
-use Rattle.records.specs.Records.{State, place, peerIn, topicIn, isConnected}
+use Rattle.records.specs.Records.{State, place, peerIn, topicIn, slotCount}
 use Rattle.score.specs.declared.TopicParams.{TopicParams}
 use Rattle.score.specs.declared.Balance.{Balance}
 use Rattle.score.specs.Ranges.{TopicParamsIn, CountersIn}
@@ -38,9 +38,9 @@ module _ (st : State) (group : ℕ) where
       n + d ≡ count (i + 1) (sharesGroup st group)
   sharing-more i n d p q = ap (λ (k : ℕ). n + k) q ∙ count-more (sharesGroup st group) i n p
 
-  pub sharing-done : (i n : ℕ) → i ≤ 64 → 64 ≤ i → n ≡ count i (sharesGroup st group) → n ≡ sharing st group
+  pub sharing-done : (i n : ℕ) → i ≤ slotCount → slotCount ≤ i → n ≡ count i (sharesGroup st group) → n ≡ sharing st group
   unfolding sharing
-  sharing-done i n l h p = p ∙ count-done (sharesGroup st group) 64 i l h
+  sharing-done i n l h p = p ∙ count-done (sharesGroup st group) slotCount i l h
 
 -- one topic's share, of parameters and a record that are loaded
 module _ (st : State) (s t : ℕ) (params : TopicParams) (record′ : TopicRecord) where

@@ -6,7 +6,7 @@ use mathlib.Core.Bool.{cond}
 use native.Mathlib.Omega.{arith}
 use native.Mathlib.Nat.{add-zero, zero-add, mul-zero, mul-comm, mul-assoc, min-eq-left, min-eq-right}
 use borrow.Author.Tests.{leb-true, leb-false, eqb-true, eqb-false}
-use lib.Dec.{eqb, leb, ltb}
+use lib.Dec.{eqb, leb}
 use lib.IntN.{ℤ, pos, negℤ, natAbs, subℕ, _+ℤ_, _*ℤ_}
 use lib.Signed.{leZ, ltZ}
 use Rattle.index.proofs.Flags.{by-test}
@@ -18,7 +18,8 @@ use Rattle.score.specs.Ranges.{scoreMost, BalanceIn}
 use Rattle.score.specs.Parts.{square, surplusOf}
 use Rattle.score.specs.Formula.{minZ, bounded, whyOf}
 use Rattle.score.specs.Sums.{worth, cappedOf, p5Of, p6Of, p7Of, partsOf, totalOf, offsetOf, negativeOf, belowOf}
-use Rattle.score.proofs.Differences.{diff-lt, diff-ge, diff-pos, diff-neg, diff-add, diff-same, diff-times, diff-le, diff-ltZ, neg-times, offset-lt, offset-le, diff-size}
+use Rattle.score.proofs.Differences.{diff-lt, diff-ge, diff-pos, diff-neg, diff-add, diff-same, diff-times, diff-le, diff-ltZ}
+use Rattle.score.proofs.Differences.{neg-times, offset-le, diff-size}
 
 -- six numbers that are the same make the same
 abbrev pub whyFrom : ℤ → ℤ → ℤ → ℤ → ℤ → ℤ → Why
@@ -131,24 +132,10 @@ total-is g b code sharing p7 =
 pub score-size : (b : Balance) → BalanceIn b → natAbs (worth b) ≤ scoreMost
 score-size b h = diff-size (b .gain) (b .loss) scoreMost (h .gain) (h .loss)
 
--- scores are compared as their offsets are
-module _ (a b : Balance) (h : BalanceIn a) (k : BalanceIn b) where
-  pub offset-order : ltb (offsetOf a) (offsetOf b) ≡ ltZ (worth a) (worth b)
-  offset-order = offset-lt scoreMost (a .gain) (a .loss) (b .gain) (b .loss) (omega arith) (omega arith)
-
-  pub offset-order-le : leb (offsetOf a) (offsetOf b) ≡ leZ (worth a) (worth b)
-  offset-order-le = offset-le scoreMost (a .gain) (a .loss) (b .gain) (b .loss) (omega arith) (omega arith)
-
--- and against a number of 10^-9 points that is not negative
+-- an offset against a number of 10^-9 points that is not negative
 module _ (b : Balance) (k : ℕ) (h : BalanceIn b) where
   up : scoreMost + k ≡ scoreMost + k - 0
   up = omega arith
-
-  pub offset-below : ltb (offsetOf b) (scoreMost + k) ≡ ltZ (worth b) (pos k)
-  offset-below =
-      rw (diff-pos k)
-      (ap (λ (n : ℕ). ltb (offsetOf b) n) up
-      ∙ offset-lt scoreMost (b .gain) (b .loss) k 0 (omega arith) (omega arith))
 
   pub offset-from : leb (scoreMost + k) (offsetOf b) ≡ leZ (pos k) (worth b)
   offset-from =

@@ -12,15 +12,15 @@ isMember r = eqb (r .member) 1
 abbrev pub square : ℕ → ℕ
 square n = n * n
 
--- "P1 = floor(mesh time / quantum), at most its cap, times 1,000,000, and 0 for a non-member"
+-- Time in mesh: "P1 = floor(mesh time / quantum), at most its cap, times 1,000,000, and 0 for a non-member"
 unfoldable pub part1Of : TopicParams → TopicRecord → ℕ
 part1Of t r = cond (isMember r) (min (r .mesh / t .quantum) (t .cap1) * 1000000) 0
 
--- "P2 = counter × 1000"
+-- First message deliveries: "P2 = counter × 1000"
 abbrev pub part2Of : TopicRecord → ℕ
 part2Of r = r .p2 * 1000
 
--- "P3 = (threshold - counter)² for a member with mesh time > activation and counter < threshold, else 0"
+-- Mesh message delivery deficit: "P3 = (threshold - counter)² for a member with mesh time > activation and counter < threshold, else 0"
 unfoldable pub part3Of : TopicParams → TopicRecord → ℕ
 part3Of t r =
     cond
@@ -28,14 +28,14 @@ part3Of t r =
     (square (t .threshold - r .p3))
     0
 
--- "P3b its counter"
+-- Mesh failure penalty: "P3b its counter"
 abbrev pub part3bOf : TopicRecord → ℕ
 part3bOf r = r .p3b
 
--- "P4 the counter squared"
+-- Invalid messages: "P4 the counter squared"
 abbrev pub part4Of : TopicRecord → ℕ
 part4Of r = square (r .p4)
 
--- "the surplus being how many connected peers share its group, itself counted, above the P6 threshold, or 0"
+-- IP colocation (P6): "the surplus being how many connected peers share its group, itself counted, above the P6 threshold, or 0"
 abbrev pub surplusOf : ℕ → ℕ → ℕ
 surplusOf threshold sharing = sharing - threshold

@@ -1,5 +1,6 @@
 -- A peer's score from the router's state: the parameters' own signed numbers, the peer's record, and the number of connected peers that
--- share its group. `whyIn` is 01's formula with its parts, `scoreIn` its score; `balanceAt` is what the code computes, and worth the same (proofs/ScoreLaws.antt).
+-- share its group. `whyIn` is 01's formula with its parts, `scoreIn` its score; `balanceAt` is what the code computes, and worth the same
+-- (proofs/ScoreLaws.antt).
 use Prim.Native.Nat.{ℕ, _+_, _/_, _<_}
 use mathlib.Core.Path.{_≡_}
 use mathlib.Core.Bool.{Bool, _&&_}
@@ -7,9 +8,10 @@ use lib.Dec.{eqb}
 use lib.IntN.{ℤ}
 use Rattle.index.specs.Index.{count}
 use Rattle.varint.specs.Codes.{numberOf}
-use Rattle.params.specs.Joint.{place as topicPlace}
+use Rattle.limits.specs.Limits.{place as topicPlace}
 use Rattle.records.specs.Records.{State, slotCount, topicCount, place, codeIn, peerIn, topicIn, isConnected}
-use Rattle.records.specs.Parameters.{topicCapAt, w5At, w6At, p6ThresholdAt, w7At, weightAt, w1At, p1QuantumAt, p1CapAt, w2At, p2DecayAt, p2CapAt, w3At, p3DecayAt, p3CapAt, p3ThresholdAt, p3ActivationAt, w3bAt, p3bDecayAt, w4At, p4DecayAt}
+use Rattle.records.specs.Parameters.{topicCapAt, w5At, w6At, p6ThresholdAt, w7At, weightAt, w1At, p1QuantumAt, p1CapAt, w2At, p2DecayAt}
+use Rattle.records.specs.Parameters.{p2CapAt, w3At, p3DecayAt, p3CapAt, p3ThresholdAt, p3ActivationAt, w3bAt, p3bDecayAt, w4At, p4DecayAt}
 use Rattle.score.specs.declared.TopicParams.{TopicParams}
 use Rattle.score.specs.declared.ScoreParams.{ScoreParams}
 use Rattle.score.specs.declared.Balance.{Balance}
@@ -51,7 +53,13 @@ topicParamsIn st t =
 -- topic cap, w5, w6, P6 threshold, w7
 unfoldable pub scoreParamsIn : State → ScoreParams
 scoreParamsIn st =
-    record { cap = sizeIn st topicCapAt; w5 = sizeIn st w5At; w6 = sizeIn st w6At; threshold = sizeIn st p6ThresholdAt; w7 = sizeIn st w7At }
+    record {
+      cap = sizeIn st topicCapAt;
+      w5 = sizeIn st w5At;
+      w6 = sizeIn st w6At;
+      threshold = sizeIn st p6ThresholdAt;
+      w7 = sizeIn st w7At;
+    }
 
 -- "how many connected peers share its group, itself counted"
 unfoldable pub sharesGroup : State → ℕ → ℕ → Bool

@@ -13,7 +13,7 @@ use Rattle.score.specs.declared.Why.{Why}
 use Rattle.score.specs.Ranges.{scoreMost}
 use Rattle.score.specs.Parts.{square, part1Of, part2Of, part3Of, part3bOf, part4Of, surplusOf}
 
--- the number that a balance stands for
+-- a balance as a signed number
 abbrev pub worth : Balance → ℤ
 worth b = subℕ (b .gain) (b .loss)
 
@@ -41,13 +41,13 @@ unfoldable pub cappedOf : ℕ → Balance → Balance
 cappedOf cap b =
     record { gain = cond (eqb cap 0) (b .gain) (min (b .gain) (cap * 1000000 + b .loss)); loss = b .loss }
 
--- P5's part: P5 as its code, 2n or -2n - 1, of which (code + 1) / 2 is the magnitude
+-- Application-specific score: P5 as its code, 2n or -2n - 1, of which (code + 1) / 2 is the magnitude
 unfoldable pub p5Of : ℕ → ℕ → Balance
 p5Of w5 code =
     let n : ℕ = w5 * ((code + 1) / 2 * 1000) in
     cond (eqb (code % 2) 1) (record { gain = 0; loss = n }) (record { gain = n; loss = 0 })
 
--- what P6 and P7 take away
+-- what IP colocation (P6) and the behaviour penalty (P7) take away
 abbrev pub p6Of : ℕ → ℕ → ℕ → ℕ
 p6Of w6 threshold sharing = w6 * square (surplusOf threshold sharing) * 1000000000
 

@@ -1,6 +1,6 @@
 // Growth and decay of counters, on one record by value (specs/Counters.antt). What a delivery adds is crate credits.
 ghost use mathlib.Core.Path.{_≡_};
-ghost use Prim.Native.Nat.{_+_, _*_, _<_, _≤_, _/_, min};
+ghost use Prim.Native.Nat.{_+_, _*_, _≤_, _/_, min};
 ghost use Rattle.score.specs.Ranges.{TopicParamsIn, CountersIn};
 ghost use Rattle.score.specs.Counters.{raisedOf, grownOf, fadedOf, meshOf, decayedOf};
 use crate::TopicParams;

@@ -50,8 +50,8 @@ pub struct Parts {
     pub p7: u64,
 }
 
-// Why a score is what it is, in 10^-9 points: the topics' total before the cap and after it, the parts of P5, P6 and P7, and the score, which
-// the last four of these add up to. A score call answers with it.
+// Why a score is what it is, in 10^-9 points: the topics' total before the cap and after it, the parts of P5, P6 and P7, and the score,
+// which the last four of these add up to. A score call answers with it.
 pub struct Why {
     pub topics: i64,
     pub capped: i64,

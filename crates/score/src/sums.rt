@@ -1,11 +1,12 @@
 // Balances: sums, the topic cap, the parts of P5, P6 and P7, the whole score, and how a score is compared and returned.
 ghost use mathlib.Core.Path.{_≡_};
-ghost use Prim.Native.Nat.{_+_, _*_, _≤_};
+ghost use Prim.Native.Nat.{_*_, _≤_};
 ghost use lib.IntN.{subℕ};
 ghost use Rattle.varint.specs.Codes.{codeOf};
 ghost use Rattle.score.specs.Ranges.{ScoreParamsIn, TopicsIn, PartsIn, BalanceIn};
 ghost use Rattle.score.specs.Parts.{square};
 ghost use Rattle.score.specs.Sums.{worth, addOf, cappedOf, p5Of, p6Of, p7Of, partsOf, totalOf, offsetOf, negativeOf, belowOf, toldOf};
+ghost use Rattle.records.specs.Records.{slotCount};
 use crate::Balance;
 use crate::Parts;
 use crate::ScoreParams;
@@ -55,7 +56,7 @@ pub fn p5_part(w5: u64, code: u64) -> Balance
 
 // What P6 takes away of a peer whose group `sharing` connected peers share, itself counted.
 pub fn p6_part(w6: u64, threshold: u64, sharing: u64) -> u64
-    requires { ⌜ (w6 ≤ 100) × ((1 ≤ threshold) × (sharing ≤ 64)) ⌝ }
+    requires { ⌜ (w6 ≤ 100) × ((1 ≤ threshold) × (sharing ≤ slotCount)) ⌝ }
     ensures { λ r. ⌜ (r ≡ p6Of w6 threshold sharing) × (r ≤ 396900000000000) ⌝ }
 {
     surplus_part(w6, excess(sharing, threshold))
@@ -78,7 +79,7 @@ pub fn p7_part(w7: u64, p7: u64) -> u64
 
 // The parts of a score, from the topics' total, P5's code, how many connected peers share the group, and P7's counter.
 pub fn parts(g: ScoreParams, topics: Balance, code: u64, sharing: u64, p7: u64) -> Parts
-    requires { ⌜ ScoreParamsIn g × (TopicsIn topics × ((code ≤ 2000000000) × ((sharing ≤ 64) × (p7 ≤ 1000000)))) ⌝ }
+    requires { ⌜ ScoreParamsIn g × (TopicsIn topics × ((code ≤ 2000000000) × ((sharing ≤ slotCount) × (p7 ≤ 1000000)))) ⌝ }
     ensures { λ r. ⌜ (r ≡ partsOf g topics code sharing p7) × PartsIn r ⌝ }
 {
     Parts {

@@ -1,7 +1,7 @@
 // One topic's share of a score: the parts in millionths, and their weighted sum. The parts' rules are specs/Parts.antt.
-// Every product stands in a function of its own that promises its bound, so that all else is linear.
+// Every product is in a function of its own that promises its bound, so that the other proofs are linear arithmetic.
 ghost use mathlib.Core.Path.{_≡_};
-ghost use Prim.Native.Nat.{_+_, _*_, _-_, _≤_, _<_, min};
+ghost use Prim.Native.Nat.{_*_, _-_, _≤_, min};
 ghost use Rattle.score.specs.Ranges.{TopicParamsIn, CountersIn, ShareIn};
 ghost use Rattle.score.specs.Parts.{square, part1Of, part3Of};
 ghost use Rattle.score.specs.Sums.{shareOf};

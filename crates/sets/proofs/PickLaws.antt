@@ -1,5 +1,5 @@
--- Walks along an order that keep the slot picked last: the best, the lowest and the last of a set are such walks. What a walk picks, and how the
--- pick changes where one slot's score rises: not at all, or to that slot.
+-- Walks along an order that keep the slot picked last: the best, the lowest and the last of a set are such walks. What a walk picks, and
+-- how the pick changes where one slot's score rises: not at all, or to that slot.
 -- Assumes nothing.
 use Prim.Native.Nat.{ℕ, _≤_, _<_}
 use native.Mathlib.Omega.{arith}
@@ -237,7 +237,10 @@ module _
       (λ cc′.
       by-test _ (eqb c x)
       (λ a. inl (sx ∙ sym (eqb-true c x a)))
-      (λ a. inr (sx, taken-from c (eqb-false c x a) (sym (ap (λ (z : ℕ). test n w sc′ q c z) sx) ∙ sym (ap (λ (z : ℕ). test n w sc′ q z s) cc′) ∙ f))))
+      (λ a. inr (
+        sx,
+        taken-from c (eqb-false c x a) (sym (ap (λ (z : ℕ). test n w sc′ q c z) sx) ∙ sym (ap (λ (z : ℕ). test n w sc′ q z s) cc′) ∙ f),
+      )))
       (λ h. inr (sx, h .1))
       j)
       (λ b.

@@ -81,11 +81,6 @@ size-count (false ∷ m) (suc n) e =
     let k = shifted (at (false ∷ m)) n in
     omega arith
 
-pub slots-size : (f : ℕ → Bool) (n : ℕ) → size (bySlot n f) ≡ count n f
-slots-size f n =
-    size-count (bySlot n f) n (slots-length n f)
-    ∙ count-same (at (bySlot n f)) f n (λ s h. slots-at false f n s h)
-
 -- of the slots of m that are in o, and of those that are not
 pub both-count :
     (m o : List Bool) (n : ℕ) → length m ≡ n → length o ≡ n → size (both m o) ≡ count n (λ s. at m s && at o s)

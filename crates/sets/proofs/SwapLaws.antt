@@ -1,5 +1,5 @@
--- The swaps of step 3: what they make of the keepers, and who is never taken out. A swap brings in an outbound member and takes out an inbound
--- keeper, so that the size stays and the outbound count rises by one; each law is an induction on the swaps that are left.
+-- The swaps of step 3: what they make of the keepers, and who is never taken out. A swap brings in an outbound member and takes out an
+-- inbound keeper, so that the size stays and the outbound count rises by one; each law is an induction on the swaps that are left.
 -- Assumes nothing.
 use Prim.Native.Nat.{ℕ, zero, suc, _+_, _≤_, _<_}
 use native.Mathlib.Omega.{arith}
@@ -15,8 +15,10 @@ use Rattle.index.proofs.Index.{both as halves}
 use Rattle.index.proofs.Flags.{by-test, cond-case}
 use Rattle.sets.specs.Sets.{at, Sub, size, both, except, isPermutation, firstOf, lastOf, bottom, goer, comers, swapOnce, swapTo}
 use Rattle.sets.proofs.WalkLaws.{at-below, except-length, both-length}
-use Rattle.sets.proofs.CountLaws.{In, size-mono, size-set-le, size-unset-ge, both-set, down-except, flat-except, at-set-same, set-only, set-keeps, set-drops}
-use Rattle.sets.proofs.SetLaws.{both-left, both-right, both-in, size-split, except-left, except-in, except-out, some, size-unset, grow-outs, grow-size}
+use Rattle.sets.proofs.CountLaws.{In, size-mono, size-set-le, size-unset-ge, both-set, down-except, flat-except, at-set-same}
+use Rattle.sets.proofs.CountLaws.{set-only, set-keeps, set-drops}
+use Rattle.sets.proofs.SetLaws.{both-left, both-right, both-in, size-split, except-left, except-in, except-out, some, size-unset}
+use Rattle.sets.proofs.SetLaws.{grow-outs, grow-size}
 use Rattle.sets.proofs.PermutationLaws.{permutation-mem}
 use Rattle.sets.proofs.PickLaws.{last-hit, bottom-hit, bottom-near}
 
@@ -360,7 +362,8 @@ module _ (n out : ℕ) (sc : List ℕ) (outs : List Bool) (order : List ℕ) (m 
         -- one comes that is not a keeper yet
         let c = size-split (both m outs) k in
         let g = size-mono (both k outs) (both (both m outs) k)
-        (λ j p. both-in (both m outs) k j (both-in m outs j (sub j (both-left k outs j p)) (both-right k outs j p)) (both-left k outs j p)) in
+        (λ j p. both-in (both m outs) k j (both-in m outs j (sub j (both-left k outs j p)) (both-right k outs j p))
+        (both-left k outs j p)) in
         omega arith)
         h in
         best-stays s i f (once k) (once-len k lk sub come leave) (once-only k lk sub come leave)

@@ -102,9 +102,9 @@ unfoldable pub lastOf : List Bool → List ℕ → ℕ → ℕ
 lastOf p [] n = n
 lastOf p (s ∷ r) n = lastOf p r (cond (at p s) s n)
 
--- Who goes in a swap, of the inbound keepers p whose best are b: "first [..] inbound keepers that were drawn, last drawn first, then inbound ones
--- among the best, lowest score first, of equals the later drawn" (order 14). 01 has the first half alone: under its rules on the degrees a drawn one
--- is always left (proofs/SwapLaws.antt, `drawn-left`).
+-- Who goes in a swap, of the inbound keepers p whose best are b: "first [..] inbound keepers that were drawn, last drawn first, then
+-- inbound ones among the best, lowest score first, of equals the later drawn" (order 14). 01 has the first half alone: under its rules on
+-- the degrees a drawn one is always left (proofs/SwapLaws.antt, `drawn-left`).
 unfoldable pub goer : ℕ → List ℕ → List ℕ → List Bool → List Bool → ℕ
 goer n scores order b p =
     cond (ltb 0 (size (except p b))) (lastOf (except p b) order n) (bottom n scores p order n)

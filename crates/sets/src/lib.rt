@@ -1,6 +1,6 @@
-// Sets of slots, as an array with a flag for each slot, and what mesh maintenance makes of them: walks along an order, the test of a permutation,
-// the median of a set's scores. Everything above goes by these functions and not by the form of a set. What a walk asks at every turn takes
-// its array by reference, so that no turn copies it.
+// Sets of slots, as an array with a flag for each slot, and what mesh maintenance makes of them: walks along an order, the test of a
+// permutation, the median of a set's scores. The crates above use these functions and do not depend on the form of a set. Functions that
+// a loop calls at every turn take their array by reference, so that no turn copies it.
 ghost use mathlib.Core.Path.{_≡_};
 ghost use Prim.Native.Nat.{_-_};
 ghost use lib.ListN.{getD, set};
@@ -12,7 +12,7 @@ pub mod permutation;
 pub mod walks;
 
 // How many slots are in the set.
-pub fn count(m: [bool; SLOTS]) -> u64
+pub fn size(m: [bool; SLOTS]) -> u64
     ensures { λ r. ⌜ r ≡ size m ⌝ }
 {
     let mut n: u64 = 0;
@@ -25,7 +25,7 @@ pub fn count(m: [bool; SLOTS]) -> u64
 }
 
 // In a and in b.
-pub fn meet(a: [bool; SLOTS], b: [bool; SLOTS]) -> [bool; SLOTS]
+pub fn both(a: [bool; SLOTS], b: [bool; SLOTS]) -> [bool; SLOTS]
     ensures { λ r. ⌜ r ≡ both a b ⌝ }
 {
     let mut r = [false; SLOTS];
@@ -36,7 +36,7 @@ pub fn meet(a: [bool; SLOTS], b: [bool; SLOTS]) -> [bool; SLOTS]
 }
 
 // In a and not in b.
-pub fn without(a: [bool; SLOTS], b: [bool; SLOTS]) -> [bool; SLOTS]
+pub fn except(a: [bool; SLOTS], b: [bool; SLOTS]) -> [bool; SLOTS]
     ensures { λ r. ⌜ r ≡ except a b ⌝ }
 {
     let mut r = [false; SLOTS];
@@ -58,7 +58,7 @@ pub fn at_least(x: u64, scores: [u64; SLOTS]) -> [bool; SLOTS]
 }
 
 // Whether the slot s is in the set; past its end, no.
-pub fn has(m: &[bool], s: u64) -> bool
+pub fn at(m: &[bool], s: u64) -> bool
     ensures { λ r. ⌜ r ≡ at (now (m .entry)) s ⌝ }
 {
     if s < m.len() as u64 {
@@ -69,7 +69,7 @@ pub fn has(m: &[bool], s: u64) -> bool
 }
 
 // The set with the slot s in, or out; past its end, unchanged.
-pub fn with(m: [bool; SLOTS], s: u64, b: bool) -> [bool; SLOTS]
+pub fn set(m: [bool; SLOTS], s: u64, b: bool) -> [bool; SLOTS]
     ensures { λ r. ⌜ r ≡ set m s b ⌝ }
 {
     let mut r = m;

@@ -5,15 +5,15 @@ ghost use lib.ListN.{getD};
 ghost use lib.Dec.{leb};
 ghost use Rattle.sets.specs.Sets.{size, except, from, sort, scoresOf};
 use crate::at_least;
-use crate::count;
-use crate::without;
+use crate::except;
+use crate::size;
 use records::SLOTS;
 
 // Whether at most k of the members' scores are below x.
 pub fn few_below(x: u64, k: u64, m: [bool; SLOTS], scores: [u64; SLOTS]) -> bool
     ensures { λ r. ⌜ r ≡ leb (size (except m (from x scores))) k ⌝ }
 {
-    count(without(m, at_least(x, scores))) <= k
+    size(except(m, at_least(x, scores))) <= k
 }
 
 // The score at index k of the members' scores sorted upward: the greatest of them that has at most k below it.

@@ -3,7 +3,7 @@ ghost use mathlib.Core.Path.{_≡_};
 ghost use lib.ListN.{length};
 ghost use Rattle.records.specs.Records.{slotCount};
 ghost use Rattle.sets.specs.Sets.{isPermutation, ascending};
-use crate::count;
+use crate::size;
 use records::SLOTS;
 
 // Whether p is each slot once: as long as there are slots, and after marking each slot that it names none is unmarked.
@@ -20,7 +20,7 @@ pub fn is_permutation(p: &[u64]) -> bool
             seen[s as usize] = true;
         }
     }
-    count(seen) == SLOTS as u64
+    size(seen) == SLOTS as u64
 }
 
 // A lent list of one number a slot, as an array.

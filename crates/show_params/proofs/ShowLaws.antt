@@ -7,9 +7,9 @@ use native.Mathlib.Omega.{arith}
 use Rattle.text.specs.Text.{Stored}
 use Rattle.text.proofs.TextLaws.{stored-then}
 use Rattle.param_text.specs.Lines.{headText}
-use Rattle.params.specs.Read.{readOf, verdictNumber, verdictValue}
-use Rattle.params.specs.declared.Verdict.{Verdict}
-use Rattle.params.specs.declared.Reading.{Reading}
+use Rattle.params_bytes.specs.Read.{readOf, verdictNumber, verdictValue}
+use Rattle.params_bytes.specs.declared.Verdict.{Verdict}
+use Rattle.params_bytes.specs.declared.Reading.{Reading}
 use Rattle.show_params.specs.Show.{restText, shownText}
 
 -- ---- the whole text, by the verdict of the reading

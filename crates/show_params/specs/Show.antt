@@ -4,10 +4,10 @@ use Prim.Native.Nat.{ℕ}
 use mathlib.Core.List.{List, [], _++_}
 use lib.IntN.{ℤ}
 use Rattle.param_text.specs.Lines.{headText, numbersText}
-use Rattle.params.specs.Read.{verdictNumber, verdictValue}
-use Rattle.params.specs.declared.Verdict.{Verdict}
-use Rattle.params.specs.declared.Verdict.the-variants.{Accepted, Malformed, Broken}
-use Rattle.params.specs.declared.Reading.{Reading}
+use Rattle.params_bytes.specs.Read.{verdictNumber, verdictValue}
+use Rattle.params_bytes.specs.declared.Verdict.{Verdict}
+use Rattle.params_bytes.specs.declared.Verdict.the-variants.{Accepted, Malformed, Broken}
+use Rattle.params_bytes.specs.declared.Reading.{Reading}
 
 -- the lines after the first
 abbrev pub restText : Verdict → List ℤ → List ℕ

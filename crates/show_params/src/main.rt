@@ -1,9 +1,9 @@
 // Prints what reading the parameters from standard input comes to: `10 PLACE` or `9 INDEX` for a refusal, otherwise `0 LENGTH` and then the
 // 147 numbers, one to a line. The text is fixed in specs/Show.antt; the room for it is at most 64 bytes and 22 for each number.
-use params::Verdict;
+use params_bytes::Verdict;
 ghost use Prim.Native.Nat.{_≤_};
 ghost use lib.ListN.{length};
-ghost use Rattle.params.specs.Read.{readOf};
+ghost use Rattle.params_bytes.specs.Read.{readOf};
 ghost use Rattle.text.specs.Text.{Stored};
 ghost use Rattle.show_params.specs.Show.{shownText};
 
@@ -12,7 +12,7 @@ fn show(buf: &mut [u8], bytes: &[u8]) -> usize
     requires { ⌜ 3298 ≤ length (now buf) ⌝ }
     ensures { λ r. ⌜ Stored (now (buf .entry)) 0 (shownText (readOf (now (bytes .entry)))) r (now (buf .exit)) × (r ≤ 3298) ⌝ }
 {
-    let reading = params::read(bytes);
+    let reading = params_bytes::read(bytes);
     let verdict = reading.verdict;
     match verdict {
         Verdict::Accepted(n) => {

@@ -15,10 +15,10 @@ use Rattle.text.specs.Text.{Stored}
 use Rattle.text.proofs.TextLaws.{stored-then}
 use Rattle.param_text.specs.Lines.{headText, numbersText}
 use Rattle.params.specs.Check.{firstBroken}
-use Rattle.params.specs.Read.{readOf}
-use Rattle.params.specs.declared.Verdict.{Verdict}
-use Rattle.params.specs.declared.Verdict.the-variants.{Accepted, Malformed, Broken}
-use Rattle.params.specs.declared.Reading.{Reading}
+use Rattle.params_bytes.specs.Read.{readOf}
+use Rattle.params_bytes.specs.declared.Verdict.{Verdict}
+use Rattle.params_bytes.specs.declared.Verdict.the-variants.{Accepted, Malformed, Broken}
+use Rattle.params_bytes.specs.declared.Reading.{Reading}
 use Rattle.supplier_params.specs.Import.{importOf}
 use Rattle.supplier_params.specs.Export.{bytesOf}
 use Rattle.supplier.specs.Output.{doneText, numbersOutput, importText, entriesText, entriesOutput, exportOutput, exportText, unless, allowed, importBytes, exportBytes, outputOf}

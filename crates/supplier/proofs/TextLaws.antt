@@ -7,6 +7,7 @@ use native.Mathlib.Omega.{arith}
 use native.Mathlib.Numerals.{add-one}
 use lib.ListN.{length, getD, take, drop, length-drop}
 use lib.Seq.{take-suc, getD-drop, length-take-le}
+use Rattle.records.specs.Records.{paramCount}
 use Rattle.index.specs.Index.{gather}
 use Rattle.text.specs.Text.{decimal, Stored}
 use Rattle.text.proofs.TextLaws.{length-le, stored-then}
@@ -73,7 +74,7 @@ kind-length kind h = length-le 2 kind (omega arith)
 pub entry-stored :
     (s : List ℕ) (i kind at : ℕ) (b₀ b₁ b₂ b₃ b₄ : List ℕ) (p₁ p₂ p₃ p₄ : ℕ) →
     length s ≡ supplierBytes →
-    i < 147 →
+    i < paramCount →
     kind ≡ getD s (9 * i) 0 →
     kind < 256 →
     Stored b₀ at (decimal kind) p₁ b₁ →
@@ -93,12 +94,12 @@ entry-stored s i kind at b₀ b₁ b₂ b₃ b₄ p₁ p₂ p₃ p₄ l h k smal
 -- ---- the lines of all entries
 pub entries-all :
     (s : List ℕ) (i at : ℕ) (b₀ b₁ : List ℕ) (p : ℕ) →
-    i ≤ 147 →
-    147 ≤ i →
+    i ≤ paramCount →
+    paramCount ≤ i →
     Stored b₀ at (gather i (entryTextAt s)) p b₁ →
     Stored b₀ at (entriesText s) p b₁
 unfolding entriesText
-entries-all s i at b₀ b₁ p l h a = let e : i ≡ 147 = omega arith in rw e at a
+entries-all s i at b₀ b₁ p l h a = let e : i ≡ paramCount = omega arith in rw e at a
 
 -- ---- the line `0`
 pub done-stored :

@@ -4,17 +4,18 @@ use mathlib.Core.Bool.{cond}
 use mathlib.Core.List.{List, [], _∷_, _++_}
 use lib.Dec.{ltb, eqb}
 use lib.IntN.{ℤ}
+use Rattle.records.specs.Records.{paramCount}
 use Rattle.index.specs.Index.{gather}
 use Rattle.index.specs.declared.Found.{Found}
 use Rattle.index.specs.declared.Found.the-variants.{At, Nothing}
 use Rattle.text.specs.Text.{decimal}
 use Rattle.param_text.specs.Lines.{headText, numbersText}
 use Rattle.params.specs.Check.{firstBroken}
-use Rattle.params.specs.Read.{readOf}
-use Rattle.params.specs.Write as own
-use Rattle.params.specs.declared.Verdict.{Verdict}
-use Rattle.params.specs.declared.Verdict.the-variants.{Accepted, Malformed, Broken}
-use Rattle.params.specs.declared.Reading.{Reading}
+use Rattle.params_bytes.specs.Read.{readOf}
+use Rattle.params_bytes.specs.Write as own
+use Rattle.params_bytes.specs.declared.Verdict.{Verdict}
+use Rattle.params_bytes.specs.declared.Verdict.the-variants.{Accepted, Malformed, Broken}
+use Rattle.params_bytes.specs.declared.Reading.{Reading}
 use Rattle.supplier_params.specs.Import.{importOf, entryAt}
 use Rattle.supplier_params.specs.Export.{bytesOf}
 
@@ -47,7 +48,7 @@ abbrev pub entryTextAt : List ℕ → ℕ → List ℕ
 entryTextAt s i = entryText (entryAt s i)
 
 unfoldable pub entriesText : List ℕ → List ℕ
-entriesText s = gather 147 (entryTextAt s)
+entriesText s = gather paramCount (entryTextAt s)
 
 abbrev pub entriesOutput : Found → List ℤ → List ℕ
 entriesOutput (At i) xs = headText 9 i

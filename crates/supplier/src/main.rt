@@ -9,15 +9,17 @@ ghost use mathlib.Core.Path.{_≡_};
 ghost use mathlib.Core.List.{List, [], _∷_, _++_};
 ghost use Prim.Native.Nat.{ℕ, _+_, _≤_, _<_};
 ghost use lib.ListN.{length, take, drop};
+ghost use Rattle.records.specs.Records.{paramCount};
 ghost use Rattle.text.specs.Text.{Stored};
 ghost use Rattle.params.specs.Check.{firstBroken};
-ghost use Rattle.params.specs.Read.{readOf};
+ghost use Rattle.params_bytes.specs.Read.{readOf};
 ghost use Rattle.supplier_params.specs.Forms.{supplierBytes};
 ghost use Rattle.supplier_params.specs.Import.{importOf, entryAt};
 ghost use Rattle.supplier.specs.Output.{hexDigit, hexText, entryText, entriesText, doneText, importText, entriesOutput, exportText, importBytes, exportBytes, outputOf};
+use limits::NUMBERS;
 use params::Params;
-use params::Verdict;
-use params::Written;
+use params_bytes::Verdict;
+use params_bytes::Written;
 use supplier_params::BYTES;
 
 // A digit of base 16.
@@ -61,7 +63,7 @@ fn wide(x: u8) -> u64
 
 // The line of entry i.
 fn put_entry(buf: &mut [u8], at: usize, s: &[u8], i: usize) -> usize
-    requires { ⌜ (at + 21 ≤ length (now buf)) × (length (now s) ≡ supplierBytes) × (i < 147) ⌝ }
+    requires { ⌜ (at + 21 ≤ length (now buf)) × (length (now s) ≡ supplierBytes) × (i < paramCount) ⌝ }
     ensures { λ r. ⌜ Stored (now (buf .entry)) at (entryText (entryAt (now (s .entry)) i)) r (now (buf .exit)) × (r ≤ at + 21) ⌝ }
 {
     let kind = wide(s[9 * i]);
@@ -78,7 +80,7 @@ fn put_entries(buf: &mut [u8], at: usize, s: &[u8]) -> usize
 {
     let mut next = at;
     let mut i: usize = 0;
-    while i < 147 {
+    while i < NUMBERS {
         next = put_entry(buf, next, s, i);
         i += 1;
     }
@@ -133,7 +135,7 @@ fn put_export(buf: &mut [u8], page: &mut [u8], bytes: &[u8]) -> usize
     requires { ⌜ (4096 ≤ length (now buf)) × (supplierBytes ≤ length (now page)) ⌝ }
     ensures { λ r. ⌜ Stored (now (buf .entry)) 0 (exportText (readOf (now (bytes .entry)))) r (now (buf .exit)) × (r ≤ 4096) ⌝ }
 {
-    let reading = params::read(bytes);
+    let reading = params_bytes::read(bytes);
     let all = reading.params;
     let verdict = reading.verdict;
     match verdict {
@@ -166,7 +168,7 @@ fn write_export(buf: &mut [u8], bytes: &[u8]) -> usize
     requires { ⌜ 4096 ≤ length (now buf) ⌝ }
     ensures { λ r. ⌜ Stored (now (buf .entry)) 0 (exportBytes (readOf (now (bytes .entry)))) r (now (buf .exit)) × (r ≤ 4096) ⌝ }
 {
-    let reading = params::read(bytes);
+    let reading = params_bytes::read(bytes);
     let all = reading.params;
     let verdict = reading.verdict;
     let Verdict::Accepted(_) = verdict else {

@@ -17,8 +17,8 @@ use Rattle.index.specs.declared.Found.{Found}
 use Rattle.index.specs.declared.Found.the-variants.{At, Nothing}
 use Rattle.index.proofs.Index.{both, every-at, first-hit, first-is, first-more, first-same}
 use Rattle.index.proofs.Flags.{by-test, by-order}
-use Rattle.params.specs.declared.Limit.{Limit}
-use Rattle.params.specs.Limits.{lies}
+use Rattle.limits.specs.declared.Limit.{Limit}
+use Rattle.limits.specs.Limits.{lies}
 use Rattle.supplier_entry.specs.Factor.{thousand, factorOf, factorBits, isFactor, factorFrom, thousandthsOf}
 use Rattle.supplier_entry.specs.Asked.{Among}
 

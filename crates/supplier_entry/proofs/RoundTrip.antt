@@ -16,9 +16,9 @@ use Rattle.index.specs.declared.Found.{Found}
 use Rattle.index.specs.declared.Found.the-variants.{At, Nothing}
 use Rattle.index.proofs.Index.{both}
 use Rattle.index.proofs.Flags.{by-test, by-order}
-use Rattle.params.specs.declared.Limit.{Limit}
-use Rattle.params.specs.Limits.{lies}
-use Rattle.params.proofs.LimitLaws.{yes, size-most}
+use Rattle.limits.specs.declared.Limit.{Limit}
+use Rattle.limits.specs.Limits.{lies}
+use Rattle.limits.proofs.LimitLaws.{yes, size-most}
 use Rattle.supplier_entry.specs.declared.Number.{Number}
 use Rattle.supplier_entry.specs.declared.Number.the-variants.{Is, Broken}
 use Rattle.supplier_entry.specs.declared.Form.{Form}

@@ -7,7 +7,7 @@ use lib.IntN.{ℤ, pos, natAbs}
 use lib.Ieee.{isNan}
 use Rattle.index.specs.declared.Found.{Found}
 use Rattle.index.specs.declared.Found.the-variants.{At, Nothing}
-use Rattle.params.specs.declared.Limit.{Limit}
+use Rattle.limits.specs.declared.Limit.{Limit}
 use Rattle.supplier_entry.specs.declared.Entry.{Entry}
 use Rattle.supplier_entry.specs.declared.Entry.the-variants.{Factor, Whole, Span}
 use Rattle.supplier_entry.specs.declared.Form.{Form}

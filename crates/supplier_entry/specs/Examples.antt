@@ -2,8 +2,8 @@
 use Prim.Native.Nat.{ℕ}
 use mathlib.Core.Path.{_≡_}
 use lib.IntN.{pos, negsuc}
-use Rattle.params.specs.declared.Limit.{Limit}
-use Rattle.params.specs.Limits.{to, minus}
+use Rattle.limits.specs.declared.Limit.{Limit}
+use Rattle.limits.specs.Limits.{to, minus}
 use Rattle.supplier_entry.specs.declared.Form.{Form}
 use Rattle.supplier_entry.specs.declared.Number.{Number}
 use Rattle.supplier_entry.specs.declared.Number.the-variants.{Is, Broken}

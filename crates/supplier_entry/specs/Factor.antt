@@ -7,8 +7,8 @@ use lib.IntN.{pos, natAbs}
 use lib.Ieee.{Float, binary64, div, ofInt, ofBits, toBits}
 use Rattle.index.specs.declared.Found.{Found}
 use Rattle.index.specs.Index.{first}
-use Rattle.params.specs.declared.Limit.{Limit}
-use Rattle.params.specs.Limits.{lies}
+use Rattle.limits.specs.declared.Limit.{Limit}
+use Rattle.limits.specs.Limits.{lies}
 
 -- the float 1000, by its bits
 unfoldable pub thousand : Float

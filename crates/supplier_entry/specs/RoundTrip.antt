@@ -3,8 +3,8 @@ use Prim.Native.Nat.{ℕ, _^_, _<_, _≤_}
 use mathlib.Core.Path.{_≡_}
 use mathlib.Core.Bool.{true}
 use lib.IntN.{ℤ}
-use Rattle.params.specs.declared.Limit.{Limit}
-use Rattle.params.specs.Limits.{lies}
+use Rattle.limits.specs.declared.Limit.{Limit}
+use Rattle.limits.specs.Limits.{lies}
 use Rattle.supplier_entry.specs.declared.Form.{Form}
 use Rattle.supplier_entry.specs.declared.Number.the-variants.{Is}
 use Rattle.supplier_entry.specs.Factor.{factorBits, thousandthsOf}

@@ -15,7 +15,7 @@ ghost use Rattle.supplier_entry.specs.Factor.{factorOf, factorBits, isFa
 ghost use Rattle.supplier_entry.specs.Entries.{twos, twosOf, entryOf, wholeOf, unitsOf, asNumber, convertOf, importOf, contentOf};
 ghost use Rattle.supplier_entry.specs.Asked.{Among, Small, Sound, Fit, Writable};
 use index::Found;
-use params::Limit;
+use limits::Limit;
 
 // One entry: a factor, a whole number or a span.
 pub enum Entry {

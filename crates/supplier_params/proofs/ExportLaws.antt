@@ -11,15 +11,16 @@ use borrow.Author.Tests.{lt-ltb, le-ltb}
 use lib.IntN.{ℤ}
 use lib.ListN.{length, length-append}
 use lib.Seq.{sets}
+use Rattle.records.specs.Records.{paramCount}
 use Rattle.index.specs.Index.{gather}
 use Rattle.index.specs.declared.Found.{Found}
 use Rattle.index.specs.declared.Found.the-variants.{At, Nothing}
 use Rattle.index.proofs.Index.{gather-none, gather-more}
 use Rattle.index.proofs.Lists.{sets-append}
-use Rattle.params.specs.Limits.{fieldOf, limitAt, at, inLimits}
+use Rattle.limits.specs.Limits.{fieldOf, limitAt, at, inLimits}
 use Rattle.params.specs.Check.{firstBroken}
-use Rattle.params.specs.declared.Written.{Written}
-use Rattle.params.specs.declared.Written.the-variants.{Done, Short, Outside}
+use Rattle.params_bytes.specs.declared.Written.{Written}
+use Rattle.params_bytes.specs.declared.Written.the-variants.{Done, Short, Outside}
 use Rattle.supplier_entry.specs.declared.Form.{Form}
 use Rattle.supplier_entry.specs.Bytes.{lowBytes}
 use Rattle.supplier_entry.specs.Entries.{contentOf}
@@ -31,7 +32,7 @@ use Rattle.supplier_params.specs.Export.{entryBytes, bytesAt, bytesOf, e
 use Rattle.supplier_params.proofs.FormLaws.{field-at}
 
 -- what the writer of an entry asks
-pub asks : (xs : List ℤ) (i : ℕ) (form : Form) → i < 147 → inLimits xs i ≡ true → form ≡ formAt (fieldOf i) → Writable form (at xs i)
+pub asks : (xs : List ℤ) (i : ℕ) (form : Form) → i < paramCount → inLimits xs i ≡ true → form ≡ formAt (fieldOf i) → Writable form (at xs i)
 unfolding inLimits
 asks xs i form h t e = rw e (writable (formAt (fieldOf i)) (limitAt (fieldOf i)) (at xs i) (field-at i h) t)
 
@@ -46,7 +47,7 @@ length-entries xs (suc n) = omega (arith, length-append (gather n (bytesAt xs)) 
 
 -- ---- the entries of the first i numbers
 pub record Put (xs : List ℤ) (i : ℕ) (buf out : List ℕ) : Type 0 where
-  pub most : i ≤ 147
+  pub most : i ≤ paramCount
   pub same : length out ≡ length buf
   pub bytes : out ≡ sets buf 0 (gather i (bytesAt xs))
 
@@ -55,7 +56,7 @@ put-none xs buf = record { most = omega arith; same = refl; bytes = rw (gather-n
 
 pub put-more :
     (xs : List ℤ) (i : ℕ) (buf out out′ : List ℕ) (form : Form) →
-    i < 147 →
+    i < paramCount →
     Put xs i buf out →
     form ≡ formAt (fieldOf i) →
     length out′ ≡ length out →
@@ -75,9 +76,9 @@ put-more xs i buf out out′ form h p e l w =
           ∙ ap (λ (s : List ℕ). sets buf 0 s) (sym (gather-more (bytesAt xs) i));
     }
 
-pub put-all : (xs : List ℤ) (i : ℕ) (buf out : List ℕ) → 147 ≤ i → Put xs i buf out → out ≡ sets buf 0 (bytesOf xs)
+pub put-all : (xs : List ℤ) (i : ℕ) (buf out : List ℕ) → paramCount ≤ i → Put xs i buf out → out ≡ sets buf 0 (bytesOf xs)
 unfolding bytesOf
-put-all xs i buf out h p = let e : i ≡ 147 = omega (arith, p .most) in rw e at (p .bytes)
+put-all xs i buf out h p = let e : i ≡ paramCount = omega (arith, p .most) in rw e at (p .bytes)
 
 -- ---- the ends of `export`
 abbrev pub Exported : List ℤ → List ℕ → Written → List ℕ → Type 0

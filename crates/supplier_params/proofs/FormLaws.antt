@@ -8,11 +8,12 @@ use borrow.Author.Tests.{eq-eqb, ne-eqb, lt-ltb, le-ltb, ltb-true, leb-true}
 use lib.Dec.{T, ltb, leb, eqb}
 use lib.IntN.{pos, natAbs}
 use lib.Signed.{nonNeg, pos-natAbs}
+use Rattle.records.specs.Records.{paramCount}
 use Rattle.index.specs.Index.{every}
 use Rattle.index.proofs.Index.{both, every-at}
 use Rattle.index.proofs.Flags.{by-order}
-use Rattle.params.specs.Limits.{limits, fieldOf, limitAt}
-use Rattle.params.proofs.LimitLaws.{yes}
+use Rattle.limits.specs.Limits.{generalCount, fieldCount, limits, fieldOf, limitAt}
+use Rattle.limits.proofs.LimitLaws.{yes}
 use Rattle.supplier_entry.specs.Entries.{factorKind, wholeKind, spanKind}
 use Rattle.supplier_entry.specs.Asked.{Among, Fit, Field}
 use Rattle.supplier_params.specs.Forms.{forms, formAt}
@@ -21,7 +22,7 @@ use Rattle.supplier_params.specs.Forms.{forms, formAt}
 threeTest : ℕ → Bool
 threeTest f = leb (formAt f .kind) 2
 
-all-three : every 35 threeTest ≡ true
+all-three : every fieldCount threeTest ≡ true
 unfolding every threeTest formAt forms
 all-three = refl
 
@@ -29,7 +30,7 @@ all-three = refl
 naturalTest : ℕ → Bool
 naturalTest f = eqb (formAt f .kind) wholeKind || (nonNeg (limitAt f .low) && nonNeg (limitAt f .high))
 
-all-natural : every 35 naturalTest ≡ true
+all-natural : every fieldCount naturalTest ≡ true
 unfolding every naturalTest formAt forms limitAt limits
 all-natural = refl
 
@@ -37,7 +38,7 @@ all-natural = refl
 mostTest : ℕ → Bool
 mostTest f = not (eqb (formAt f .kind) factorKind) || leb (natAbs (limitAt f .high)) 1000
 
-all-most : every 35 mostTest ≡ true
+all-most : every fieldCount mostTest ≡ true
 unfolding every mostTest formAt forms limitAt limits
 all-most = refl
 
@@ -45,7 +46,7 @@ all-most = refl
 unitTest : ℕ → Bool
 unitTest f = not (eqb (formAt f .kind) spanKind) || ltb 1 (formAt f .unit)
 
-all-units : every 35 unitTest ≡ true
+all-units : every fieldCount unitTest ≡ true
 unfolding every unitTest formAt forms
 all-units = refl
 
@@ -53,14 +54,14 @@ all-units = refl
 sizeTest : ℕ → Bool
 sizeTest f = ltb (natAbs (limitAt f .low)) (2 ^ 62) && ltb (natAbs (limitAt f .high)) (2 ^ 62)
 
-all-sizes : every 35 sizeTest ≡ true
+all-sizes : every fieldCount sizeTest ≡ true
 unfolding every sizeTest limitAt limits
 all-sizes = refl
 
 roomTest : ℕ → Bool
 roomTest f = ltb ((natAbs (limitAt f .low) + natAbs (limitAt f .high)) * formAt f .unit) (2 ^ 63)
 
-all-room : every 35 roomTest ≡ true
+all-room : every fieldCount roomTest ≡ true
 unfolding every roomTest formAt forms limitAt limits
 all-room = refl
 
@@ -73,11 +74,11 @@ not-first : (a b : Bool) → (not a || b) ≡ true → a ≡ true → b ≡ true
 not-first true b t e = t
 not-first false b t e = let z : _≡_ {A = ℕ} 0 1 = cc in absurd (omega arith)
 
-module _ (f : ℕ) (h : f < 35) where
+module _ (f : ℕ) (h : f < fieldCount) where
   natural : (formAt f .kind ≡ wholeKind → ⊥) → (pos (natAbs (limitAt f .low)) ≡ limitAt f .low) × (pos (natAbs (limitAt f .high)) ≡ limitAt f .high)
   unfolding naturalTest
   natural n =
-      let t = second (eqb (formAt f .kind) wholeKind) (nonNeg (limitAt f .low) && nonNeg (limitAt f .high)) (every-at naturalTest 35 f all-natural h) (ne-eqb (formAt f .kind) wholeKind n) in
+      let t = second (eqb (formAt f .kind) wholeKind) (nonNeg (limitAt f .low) && nonNeg (limitAt f .high)) (every-at naturalTest fieldCount f all-natural h) (ne-eqb (formAt f .kind) wholeKind n) in
       let s = both (nonNeg (limitAt f .low)) (nonNeg (limitAt f .high)) t in
       (pos-natAbs (limitAt f .low) (yes (nonNeg (limitAt f .low)) (s .0)), pos-natAbs (limitAt f .high) (yes (nonNeg (limitAt f .high)) (s .1)))
 
@@ -88,36 +89,36 @@ module _ (f : ℕ) (h : f < 35) where
       record {
         low = n .0;
         high = n .1;
-        most = leb-true (natAbs (limitAt f .high)) 1000 (not-first (eqb (formAt f .kind) factorKind) (leb (natAbs (limitAt f .high)) 1000) (every-at mostTest 35 f all-most h) (eq-eqb (formAt f .kind) factorKind e));
+        most = leb-true (natAbs (limitAt f .high)) 1000 (not-first (eqb (formAt f .kind) factorKind) (leb (natAbs (limitAt f .high)) 1000) (every-at mostTest fieldCount f all-most h) (eq-eqb (formAt f .kind) factorKind e));
       }
 
   divides : formAt f .kind ≡ spanKind → 1 < formAt f .unit
   unfolding unitTest
-  divides e = ltb-true 1 (formAt f .unit) (not-first (eqb (formAt f .kind) spanKind) (ltb 1 (formAt f .unit)) (every-at unitTest 35 f all-units h) (eq-eqb (formAt f .kind) spanKind e))
+  divides e = ltb-true 1 (formAt f .unit) (not-first (eqb (formAt f .kind) spanKind) (ltb 1 (formAt f .unit)) (every-at unitTest fieldCount f all-units h) (eq-eqb (formAt f .kind) spanKind e))
 
   sizes : (natAbs (limitAt f .low) < 2 ^ 62) × (natAbs (limitAt f .high) < 2 ^ 62)
   unfolding sizeTest
   sizes =
-      let t = both (ltb (natAbs (limitAt f .low)) (2 ^ 62)) (ltb (natAbs (limitAt f .high)) (2 ^ 62)) (every-at sizeTest 35 f all-sizes h) in
+      let t = both (ltb (natAbs (limitAt f .low)) (2 ^ 62)) (ltb (natAbs (limitAt f .high)) (2 ^ 62)) (every-at sizeTest fieldCount f all-sizes h) in
       (ltb-true (natAbs (limitAt f .low)) (2 ^ 62) (t .0), ltb-true (natAbs (limitAt f .high)) (2 ^ 62) (t .1))
 
   field-row : Field (formAt f) (limitAt f)
   unfolding threeTest roomTest
   field-row =
       record {
-        three = leb-true (formAt f .kind) 2 (every-at threeTest 35 f all-three h);
+        three = leb-true (formAt f .kind) 2 (every-at threeTest fieldCount f all-three h);
         fit = record { factors = among; spans = divides };
         natural = λ e. natural (λ w. omega arith);
         size = sizes;
-        room = ltb-true ((natAbs (limitAt f .low) + natAbs (limitAt f .high)) * formAt f .unit) (2 ^ 63) (every-at roomTest 35 f all-room h);
+        room = ltb-true ((natAbs (limitAt f .low) + natAbs (limitAt f .high)) * formAt f .unit) (2 ^ 63) (every-at roomTest fieldCount f all-room h);
       }
 
-field-lt : (i : ℕ) → i < 147 → fieldOf i < 35
+field-lt : (i : ℕ) → i < paramCount → fieldOf i < fieldCount
 field-lt i h =
-    by-order (fieldOf i < 35) i 19
-    (λ l. rw (lt-ltb i 19 l) (omega arith))
-    (λ g. rw (le-ltb i 19 g) (omega arith))
+    by-order (fieldOf i < fieldCount) i generalCount
+    (λ l. rw (lt-ltb i generalCount l) (omega arith))
+    (λ g. rw (le-ltb i generalCount g) (omega arith))
 
 -- the field of number i
-pub field-at : (i : ℕ) → i < 147 → Field (formAt (fieldOf i)) (limitAt (fieldOf i))
+pub field-at : (i : ℕ) → i < paramCount → Field (formAt (fieldOf i)) (limitAt (fieldOf i))
 field-at i h = field-row (fieldOf i) (field-lt i h)

@@ -12,17 +12,18 @@ use lib.Dec.{eqb}
 use lib.IntN.{ℤ}
 use lib.ListN.{length, getD, set, take, drop, length-set}
 use lib.Seq.{take-suc-set, take-all}
+use Rattle.records.specs.Records.{paramCount}
 use Rattle.index.specs.Index.{first, gather}
 use Rattle.index.specs.declared.Found.{Found}
 use Rattle.index.specs.declared.Found.the-variants.{At, Nothing}
 use Rattle.index.proofs.Index.{first-none, first-more, first-hit, first-done, gather-none, gather-more}
-use Rattle.params.specs.Limits.{fieldOf, limitAt}
+use Rattle.limits.specs.Limits.{fieldOf, limitAt}
 use Rattle.params.specs.Check.{firstBroken}
-use Rattle.params.specs.Read.{refusal, judgedBy}
-use Rattle.params.specs.declared.Limit.{Limit}
-use Rattle.params.specs.declared.Reading.{Reading}
-use Rattle.params.specs.declared.Verdict.the-variants.{Malformed}
-use Rattle.params.specs.declared.Verdict.the-variants as verdict
+use Rattle.params_bytes.specs.Read.{refusal, judgedBy}
+use Rattle.limits.specs.declared.Limit.{Limit}
+use Rattle.params_bytes.specs.declared.Reading.{Reading}
+use Rattle.params_bytes.specs.declared.Verdict.the-variants.{Malformed}
+use Rattle.params_bytes.specs.declared.Verdict.the-variants as verdict
 use Rattle.supplier_entry.specs.declared.Form.{Form}
 use Rattle.supplier_entry.specs.declared.Number.{Number}
 use Rattle.supplier_entry.specs.declared.Number.the-variants.{Is, Broken}
@@ -47,12 +48,12 @@ number-is s i u form l r h e f g d = d ∙ rw (e, f, g, take-one 8 s (9 * i) h)
 
 -- ---- the entries up to i, and the numbers that they give
 pub record Taken (s : List ℕ) (i : ℕ) (xs : List ℤ) : Type 0 where
-  pub most : i ≤ 147
-  pub len : length xs ≡ 147
+  pub most : i ≤ paramCount
+  pub len : length xs ≡ paramCount
   pub whole : first i (brokenAt s) ≡ Nothing
   pub front : take i xs ≡ gather i (valueAt s)
 
-pub taken-none : (s : List ℕ) (xs : List ℤ) → length xs ≡ 147 → Taken s 0 xs
+pub taken-none : (s : List ℕ) (xs : List ℤ) → length xs ≡ paramCount → Taken s 0 xs
 taken-none s xs l =
     record {
       most = omega arith;
@@ -61,7 +62,7 @@ taken-none s xs l =
       front = sym (gather-none (valueAt s));
     }
 
-module _ (s : List ℕ) (i : ℕ) (xs : List ℤ) (r : Number) (t : Taken s i xs) (h : i < 147) (e : r ≡ numberAt s i) where
+module _ (s : List ℕ) (i : ℕ) (xs : List ℤ) (r : Number) (t : Taken s i xs) (h : i < paramCount) (e : r ≡ numberAt s i) where
   pub taken-more : (z : ℤ) → r ≡ Is z → Taken s (i + 1) (set xs i z)
   unfolding brokenAt valueAt
   taken-more z q =
@@ -78,16 +79,16 @@ module _ (s : List ℕ) (i : ℕ) (xs : List ℤ) (r : Number) (t : Taken s i xs
   pub taken-broken : r ≡ Broken → broken i ≡ entriesOf s
   unfolding brokenAt entriesOf
   taken-broken q =
-      ap (λ (f : Found). outcomeBy f (gather 147 (valueAt s)))
-      (sym (first-hit (brokenAt s) 147 i h (t .whole) (ap isBroken (sym e ∙ q))))
+      ap (λ (f : Found). outcomeBy f (gather paramCount (valueAt s)))
+      (sym (first-hit (brokenAt s) paramCount i h (t .whole) (ap isBroken (sym e ∙ q))))
 
-pub taken-all : (s : List ℕ) (i : ℕ) (xs : List ℤ) → 147 ≤ i → Taken s i xs → numbers xs ≡ entriesOf s
+pub taken-all : (s : List ℕ) (i : ℕ) (xs : List ℤ) → paramCount ≤ i → Taken s i xs → numbers xs ≡ entriesOf s
 unfolding entriesOf
 taken-all s i xs h t =
-    let e : i ≡ 147 = omega (arith, t .most) in
-    let f : take 147 xs ≡ gather 147 (valueAt s) = rw e at (t .front) in
-    rw (first-done (brokenAt s) 147 i (t .most) h (t .whole))
-    (ap numbers (sym (take-all 147 xs (omega (arith, t .len))) ∙ f))
+    let e : i ≡ paramCount = omega (arith, t .most) in
+    let f : take paramCount xs ≡ gather paramCount (valueAt s) = rw e at (t .front) in
+    rw (first-done (brokenAt s) paramCount i (t .most) h (t .whole))
+    (ap numbers (sym (take-all paramCount xs (omega (arith, t .len))) ∙ f))
 
 -- ---- the ends of `import`
 module _ (s : List ℕ) (r : Reading) where
@@ -102,8 +103,8 @@ module _ (s : List ℕ) (r : Reading) where
 
     pub import-broken : not (p .ok) ≡ true → r ≡ refusal (verdict.Broken (p .place)) → r ≡ importOf s
     import-broken t q =
-        q ∙ ap (λ (b : Bool). judged (cond b (numbers (p .params .numbers)) (broken (p .place)))) (sym (not-true (p .ok) t)) ∙ taken
+        q ∙ ap (λ (b : Bool). judged (cond b (numbers (p .numbers)) (broken (p .place)))) (sym (not-true (p .ok) t)) ∙ taken
 
-    pub import-judged : not (p .ok) ≡ false → r ≡ judgedBy (firstBroken (p .params .numbers)) (p .params .numbers) supplierBytes → r ≡ importOf s
+    pub import-judged : not (p .ok) ≡ false → r ≡ judgedBy (firstBroken (p .numbers)) (p .numbers) supplierBytes → r ≡ importOf s
     import-judged t q =
-        q ∙ ap (λ (b : Bool). judged (cond b (numbers (p .params .numbers)) (broken (p .place)))) (sym (not-false (p .ok) t)) ∙ taken
+        q ∙ ap (λ (b : Bool). judged (cond b (numbers (p .numbers)) (broken (p .place)))) (sym (not-false (p .ok) t)) ∙ taken

@@ -11,21 +11,22 @@ use lib.Dec.{ltb, eqb}
 use lib.IntN.{ℤ, pos}
 use lib.ListN.{length, getD, take, drop, length-append, length-take, length-drop, List·getD-eq-default}
 use lib.Seq.{sets, sets-eq, take-all, take-suc, take-add, take-at, drop-at, take-append-le, drop-append-le, length-take-le, getD-take, getD-drop, getD-at}
+use Rattle.records.specs.Records.{paramCount}
 use Rattle.index.specs.Index.{first, gather}
 use Rattle.index.specs.declared.Found.{Found}
 use Rattle.index.specs.declared.Found.the-variants.{At, Nothing}
 use Rattle.index.proofs.Index.{first-passed, gather-same}
 use Rattle.index.proofs.Flags.{by-test, by-order}
-use Rattle.params.specs.Limits.{fieldOf, limitAt, at, inLimits}
+use Rattle.limits.specs.Limits.{fieldOf, limitAt, at, inLimits}
 use Rattle.params.specs.Check.{firstBroken}
-use Rattle.params.specs.Read.{refusal, judgedBy}
+use Rattle.params_bytes.specs.Read.{refusal, judgedBy}
 use Rattle.params.specs.declared.Params.{Params}
-use Rattle.params.specs.declared.Reading.{Reading}
-use Rattle.params.specs.declared.Verdict.{Verdict}
-use Rattle.params.specs.declared.Verdict.the-variants.{Accepted, Malformed}
-use Rattle.params.specs.declared.Verdict.the-variants as verdict
-use Rattle.params.specs.declared.Written.{Written}
-use Rattle.params.specs.declared.Written.the-variants.{Done, Short, Outside}
+use Rattle.params_bytes.specs.declared.Reading.{Reading}
+use Rattle.params_bytes.specs.declared.Verdict.{Verdict}
+use Rattle.params_bytes.specs.declared.Verdict.the-variants.{Accepted, Malformed}
+use Rattle.params_bytes.specs.declared.Verdict.the-variants as verdict
+use Rattle.params_bytes.specs.declared.Written.{Written}
+use Rattle.params_bytes.specs.declared.Written.the-variants.{Done, Short, Outside}
 use Rattle.params.proofs.CheckLaws.{accepted-in}
 use Rattle.supplier_entry.specs.declared.Number.{Number}
 use Rattle.supplier_entry.specs.declared.Number.the-variants.{Is, Broken}
@@ -66,24 +67,24 @@ blocks s (suc n) =
     rw (blocks s n, e) (sym (take-add (9 * n) 9 s))
 
 -- ---- what was exported, imported
-module _ (xs : List ℤ) (ok : firstBroken xs ≡ Nothing) (len : length xs ≡ 147) where
-  number-back : (i : ℕ) → i < 147 → numberAt (bytesOf xs) i ≡ Is (at xs i)
+module _ (xs : List ℤ) (ok : firstBroken xs ≡ Nothing) (len : length xs ≡ paramCount) where
+  number-back : (i : ℕ) → i < paramCount → numberAt (bytesOf xs) i ≡ Is (at xs i)
   unfolding numberAt bytesOf bytesAt entryBytes inLimits
   number-back i h =
       let form = formAt (fieldOf i) in
       let l = limitAt (fieldOf i) in
       let row = field-at i h in
       let t = accepted-in xs ok i h in
-      ap (entryNumber form l) (block-at xs 147 i h)
+      ap (entryNumber form l) (block-at xs paramCount i h)
       ∙ ap (entry.importOf form l (form .kind)) (first-bytes 8 (contentOf form (at xs i)) (content-lt form l (at xs i) row t))
       ∙ imports form l (at xs i) row t
 
-  none-broken : (n : ℕ) → n ≤ 147 → first n (brokenAt (bytesOf xs)) ≡ Nothing
+  none-broken : (n : ℕ) → n ≤ paramCount → first n (brokenAt (bytesOf xs)) ≡ Nothing
   unfolding first brokenAt
   none-broken zero h = refl
   none-broken (suc n) h = rw (none-broken n (omega arith), number-back n (omega arith))
 
-  values-back : (n : ℕ) → n ≤ 147 → gather n (valueAt (bytesOf xs)) ≡ take n xs
+  values-back : (n : ℕ) → n ≤ paramCount → gather n (valueAt (bytesOf xs)) ≡ take n xs
   unfolding gather valueAt
   values-back zero h = refl
   values-back (suc n) h =
@@ -93,11 +94,11 @@ module _ (xs : List ℤ) (ok : firstBroken xs ≡ Nothing) (len : length xs ≡ 
   entries-back : entriesOf (bytesOf xs) ≡ numbers xs
   unfolding entriesOf
   entries-back =
-      rw (none-broken 147 (omega arith), values-back 147 (omega arith), take-all 147 xs (omega (arith, len)))
+      rw (none-broken paramCount (omega arith), values-back paramCount (omega arith), take-all paramCount xs (omega (arith, len)))
 
   length-back : length (bytesOf xs) ≡ supplierBytes
   unfolding bytesOf
-  length-back = length-entries xs 147
+  length-back = length-entries xs paramCount
 
   import-back : importOf (bytesOf xs) ≡ record { verdict = Accepted supplierBytes; params = record { numbers = xs } }
   unfolding importOf
@@ -180,19 +181,19 @@ whole-number : (x : Number) → isBroken x ≡ false → x ≡ Is (found x)
 whole-number (Is z) e = refl
 whole-number Broken e = let z : _≡_ {A = ℕ} 0 1 = cc in absurd (omega arith)
 
-module _ (s : List ℕ) (bytes : (k : ℕ) → getD s k 0 < 256) (len : length s ≡ supplierBytes) (ok : first 147 (brokenAt s) ≡ Nothing) where
-  number-found : (i : ℕ) → i < 147 → numberAt s i ≡ Is (found (numberAt s i))
+module _ (s : List ℕ) (bytes : (k : ℕ) → getD s k 0 < 256) (len : length s ≡ supplierBytes) (ok : first paramCount (brokenAt s) ≡ Nothing) where
+  number-found : (i : ℕ) → i < paramCount → numberAt s i ≡ Is (found (numberAt s i))
   unfolding brokenAt
-  number-found i h = whole-number (numberAt s i) (first-passed (brokenAt s) 147 ok i h)
+  number-found i h = whole-number (numberAt s i) (first-passed (brokenAt s) paramCount ok i h)
 
-  value-found : (i : ℕ) → i < 147 → valueAt s i ≡ found (numberAt s i) ∷ []
+  value-found : (i : ℕ) → i < paramCount → valueAt s i ≡ found (numberAt s i) ∷ []
   unfolding valueAt
   value-found i h = ap value (number-found i h)
 
-  at-found : (i : ℕ) → i < 147 → at (gather 147 (valueAt s)) i ≡ found (numberAt s i)
-  at-found i h = single-at (valueAt s) (λ k. found (numberAt s k)) 147 i value-found h
+  at-found : (i : ℕ) → i < paramCount → at (gather paramCount (valueAt s)) i ≡ found (numberAt s i)
+  at-found i h = single-at (valueAt s) (λ k. found (numberAt s k)) paramCount i value-found h
 
-  entry-bytes : (i : ℕ) → i < 147 → (k : ℕ) → getD (entryAt s i) k 0 < 256
+  entry-bytes : (i : ℕ) → i < paramCount → (k : ℕ) → getD (entryAt s i) k 0 < 256
   unfolding entryAt
   entry-bytes i h k =
       by-order (getD (take 9 (drop (9 * i) s)) k 0 < 256) k 9
@@ -201,12 +202,12 @@ module _ (s : List ℕ) (bytes : (k : ℕ) → getD s k 0 < 256) (len : length s
       let short : length (take 9 (drop (9 * i) s)) ≤ k = omega (arith, length-take 9 (drop (9 * i) s)) in
       rw (List·getD-eq-default (take 9 (drop (9 * i) s)) 0 short) (omega arith))
 
-  entry-length : (i : ℕ) → i < 147 → length (entryAt s i) ≡ 9
+  entry-length : (i : ℕ) → i < paramCount → length (entryAt s i) ≡ 9
   unfolding entryAt
   entry-length i h = length-take-le 9 (drop (9 * i) s) (omega (arith, length-drop (9 * i) s, len))
 
   -- an entry is what is written of its number
-  entry-again : (i : ℕ) → i < 147 → (e : List ℕ) → entryAt s i ≡ e → bytesAt (gather 147 (valueAt s)) i ≡ e
+  entry-again : (i : ℕ) → i < paramCount → (e : List ℕ) → entryAt s i ≡ e → bytesAt (gather paramCount (valueAt s)) i ≡ e
   unfolding bytesAt entryBytes numberAt
   entry-again i h [] q =
       let l = sym (entry-length i h) ∙ ap length q in
@@ -223,11 +224,11 @@ module _ (s : List ℕ) (bytes : (k : ℕ) → getD s k 0 < 256) (len : length s
       ∙ ap₂ (λ (k u : ℕ). k ∷ lowBytes 8 u) (sym (b .0)) (b .1)
       ∙ ap (λ (r : List ℕ). kind ∷ r) (ap (λ (k : ℕ). lowBytes k (lowFirst rest)) (sym eight) ∙ bytes-first rest small)
 
-  bytes-again : bytesOf (gather 147 (valueAt s)) ≡ s
+  bytes-again : bytesOf (gather paramCount (valueAt s)) ≡ s
   unfolding bytesOf
   bytes-again =
-      gather-below 147 (bytesAt (gather 147 (valueAt s))) (entryAt s) (λ i h. entry-again i h (entryAt s i) refl)
-      ∙ blocks s 147
+      gather-below paramCount (bytesAt (gather paramCount (valueAt s))) (entryAt s) (λ i h. entry-again i h (entryAt s i) refl)
+      ∙ blocks s paramCount
       ∙ take-all 1323 s (omega arith)
 
 -- what an accepted import says
@@ -235,43 +236,43 @@ pub import-is-accepted :
     (s : List ℕ) (n : ℕ) →
     importOf s .verdict ≡ Accepted n →
     (length s ≡ supplierBytes)
-    × (first 147 (brokenAt s) ≡ Nothing)
-    × (firstBroken (gather 147 (valueAt s)) ≡ Nothing)
+    × (first paramCount (brokenAt s) ≡ Nothing)
+    × (firstBroken (gather paramCount (valueAt s)) ≡ Nothing)
     × (n ≡ supplierBytes)
-    × (importOf s .params .numbers ≡ gather 147 (valueAt s))
+    × (importOf s .params .numbers ≡ gather paramCount (valueAt s))
 unfolding importOf entriesOf
 import-is-accepted s n e = sized (eqb (length s) supplierBytes) refl
   where
     xs : List ℤ
-    xs = gather 147 (valueAt s)
+    xs = gather paramCount (valueAt s)
 
     Goal : Type 0
     Goal =
         (length s ≡ supplierBytes)
-        × (first 147 (brokenAt s) ≡ Nothing)
+        × (first paramCount (brokenAt s) ≡ Nothing)
         × (firstBroken xs ≡ Nothing)
         × (n ≡ supplierBytes)
         × (importOf s .params .numbers ≡ xs)
 
-    kept : eqb (length s) supplierBytes ≡ true → first 147 (brokenAt s) ≡ Nothing → (f : Found) → firstBroken xs ≡ f → judgedBy f xs supplierBytes .verdict ≡ Accepted n → Goal
+    kept : eqb (length s) supplierBytes ≡ true → first paramCount (brokenAt s) ≡ Nothing → (f : Found) → firstBroken xs ≡ f → judgedBy f xs supplierBytes .verdict ≡ Accepted n → Goal
     kept t q (At i) p d = let z : _≡_ {A = ℕ} 0 1 = cc in absurd (omega arith)
     kept t q Nothing p d =
         let w : supplierBytes ≡ n = cc in
         (eqb-true (length s) supplierBytes t, q, p, sym w, rw (t, q, p))
 
-    passed : eqb (length s) supplierBytes ≡ true → (f : Found) → first 147 (brokenAt s) ≡ f → judged (outcomeBy f xs) .verdict ≡ Accepted n → Goal
+    passed : eqb (length s) supplierBytes ≡ true → (f : Found) → first paramCount (brokenAt s) ≡ f → judged (outcomeBy f xs) .verdict ≡ Accepted n → Goal
     passed t (At i) q d = let z : _≡_ {A = ℕ} 0 1 = cc in absurd (omega arith)
     passed t Nothing q d = kept t q (firstBroken xs) refl d
 
     sized : (b : Bool) → eqb (length s) supplierBytes ≡ b → Goal
-    sized true t = passed t (first 147 (brokenAt s)) refl (rw t at e)
+    sized true t = passed t (first paramCount (brokenAt s)) refl (rw t at e)
     sized false t = let d : Malformed (length s) ≡ Accepted n = rw t at e in let z : _≡_ {A = ℕ} 0 1 = cc in absurd (omega arith)
 
 pub exports-back : ExportsBack
 unfolding exportOf
 exports-back s buf n bytes room e =
     let a = import-is-accepted s n e in
-    let xs = gather 147 (valueAt s) in
+    let xs = gather paramCount (valueAt s) in
     let b = bytes-again s bytes (a .0) (a .1) in
     (a .3 ∙ sym (a .0),
     rw (a .4, le-ltb (length buf) supplierBytes room, a .2, b, a .3)

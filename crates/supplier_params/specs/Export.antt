@@ -10,11 +10,12 @@ use lib.IntN.{ℤ}
 use Rattle.index.specs.Index.{gather}
 use Rattle.index.specs.declared.Found.{Found}
 use Rattle.index.specs.declared.Found.the-variants.{At, Nothing}
-use Rattle.params.specs.Limits.{fieldOf, at}
+use Rattle.records.specs.Records.{paramCount}
+use Rattle.limits.specs.Limits.{fieldOf, at}
 use Rattle.params.specs.Check.{firstBroken}
-use Rattle.params.specs.Write.{Writing}
-use Rattle.params.specs.declared.Written.{Written}
-use Rattle.params.specs.declared.Written.the-variants.{Done, Short, Outside}
+use Rattle.params_bytes.specs.Write.{Writing}
+use Rattle.params_bytes.specs.declared.Written.{Written}
+use Rattle.params_bytes.specs.declared.Written.the-variants.{Done, Short, Outside}
 use Rattle.supplier_entry.specs.declared.Form.{Form}
 use Rattle.supplier_entry.specs.Bytes.{lowBytes}
 use Rattle.supplier_entry.specs.Entries.{contentOf}
@@ -28,7 +29,7 @@ unfoldable pub bytesAt : List ℤ → ℕ → List ℕ
 bytesAt xs i = entryBytes (formAt (fieldOf i)) (at xs i)
 
 unfoldable pub bytesOf : List ℤ → List ℕ
-bytesOf xs = gather 147 (bytesAt xs)
+bytesOf xs = gather paramCount (bytesAt xs)
 
 abbrev pub exportBy : Found → List ℤ → List ℕ → Writing
 exportBy (At i) xs buf = record { answer = Outside i; bytes = buf }

@@ -9,13 +9,14 @@ use lib.IntN.{ℤ}
 use Rattle.index.specs.Index.{first, gather}
 use Rattle.index.specs.declared.Found.{Found}
 use Rattle.index.specs.declared.Found.the-variants.{At, Nothing}
-use Rattle.params.specs.Limits.{fieldOf, limitAt}
+use Rattle.records.specs.Records.{paramCount}
+use Rattle.limits.specs.Limits.{fieldOf, limitAt}
 use Rattle.params.specs.Check.{firstBroken}
-use Rattle.params.specs.Read.{refusal, judgedBy}
-use Rattle.params.specs.declared.Limit.{Limit}
-use Rattle.params.specs.declared.Reading.{Reading}
-use Rattle.params.specs.declared.Verdict.the-variants.{Malformed}
-use Rattle.params.specs.declared.Verdict.the-variants as verdict
+use Rattle.params_bytes.specs.Read.{refusal, judgedBy}
+use Rattle.limits.specs.declared.Limit.{Limit}
+use Rattle.params_bytes.specs.declared.Reading.{Reading}
+use Rattle.params_bytes.specs.declared.Verdict.the-variants.{Malformed}
+use Rattle.params_bytes.specs.declared.Verdict.the-variants as verdict
 use Rattle.supplier_entry.specs.declared.Form.{Form}
 use Rattle.supplier_entry.specs.declared.Number.{Number}
 use Rattle.supplier_entry.specs.declared.Number.the-variants.{Is, Broken}
@@ -61,10 +62,10 @@ outcomeBy (At i) xs = broken i
 outcomeBy Nothing xs = numbers xs
 
 unfoldable pub entriesOf : List ℕ → Outcome
-entriesOf s = outcomeBy (first 147 (brokenAt s)) (gather 147 (valueAt s))
+entriesOf s = outcomeBy (first paramCount (brokenAt s)) (gather paramCount (valueAt s))
 
 abbrev pub outcome : Parsed → Outcome
-outcome r = cond (r .ok) (numbers (r .params .numbers)) (broken (r .place))
+outcome r = cond (r .ok) (numbers (r .numbers)) (broken (r .place))
 
 -- "then 01's tests apply"
 abbrev pub judged : Outcome → Reading

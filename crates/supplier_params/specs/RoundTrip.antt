@@ -3,9 +3,10 @@ use Prim.Native.Nat.{ℕ, _<_, _≤_}
 use mathlib.Core.Path.{_≡_}
 use mathlib.Core.List.{List, _++_}
 use lib.ListN.{length, take, drop, getD}
+use Rattle.records.specs.Records.{paramCount}
 use Rattle.params.specs.declared.Params.{Params}
-use Rattle.params.specs.declared.Verdict.the-variants.{Accepted}
-use Rattle.params.specs.declared.Written.the-variants.{Done}
+use Rattle.params_bytes.specs.declared.Verdict.the-variants.{Accepted}
+use Rattle.params_bytes.specs.declared.Written.the-variants.{Done}
 use Rattle.supplier_params.specs.Forms.{supplierBytes}
 use Rattle.supplier_params.specs.Import.{importOf}
 use Rattle.supplier_params.specs.Export.{exportOf}
@@ -14,7 +15,7 @@ use Rattle.supplier_params.specs.Export.{exportOf}
 abbrev pub ImportsBack : Type 0
 ImportsBack =
     (p : Params) (buf : List ℕ) (n : ℕ) →
-    length (p .numbers) ≡ 147 →
+    length (p .numbers) ≡ paramCount →
     exportOf (p .numbers) buf .answer ≡ Done n →
     importOf (take n (exportOf (p .numbers) buf .bytes)) ≡ record { verdict = Accepted n; params = p }
 

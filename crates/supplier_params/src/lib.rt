@@ -6,15 +6,20 @@ ghost use mathlib.Core.Bool.{true};
 ghost use Prim.Native.Nat.{ℕ, _≤_, _<_};
 ghost use lib.ListN.{length};
 ghost use lib.Seq.{sets};
-ghost use Rattle.params.specs.Limits.{fieldOf, inLimits};
+ghost use Rattle.records.specs.Records.{paramCount};
+ghost use Rattle.limits.specs.Limits.{fieldOf, inLimits};
 ghost use Rattle.supplier_params.specs.Forms.{supplierBytes, formAt};
 ghost use Rattle.supplier_params.specs.Import.{numberAt, entriesOf, outcome, importOf};
 ghost use Rattle.supplier_params.specs.Export.{bytesOf, exportOf};
 use index::Found;
+use limits::FIELDS;
+use limits::GENERAL;
+use limits::NUMBERS;
+use limits::OF_TOPIC;
 use params::Params;
-use params::Reading;
-use params::Verdict;
-use params::Written;
+use params_bytes::Reading;
+use params_bytes::Verdict;
+use params_bytes::Written;
 use supplier_entry::Form;
 use supplier_entry::Number;
 
@@ -36,7 +41,7 @@ const MILLISECONDS: Form = Form {
 };
 
 // The form of each field: 19 general fields, then the 16 that every topic has.
-const FORMS: [Form; 35] = [
+const FORMS: [Form; FIELDS] = [
     // D_lo, D, D_hi, D_out, D_score
     WHOLE,
     WHOLE,
@@ -88,27 +93,30 @@ const FORMS: [Form; 35] = [
 struct Parsed {
     ok: bool,
     place: usize,
-    params: Params,
+    numbers: [i64; NUMBERS],
 }
 
 // The form of number i.
 fn form_of(i: usize) -> Form
-    requires { ⌜ i < 147 ⌝ }
+    requires { ⌜ i < paramCount ⌝ }
     ensures { λ r. ⌜ r ≡ formAt (fieldOf i) ⌝ }
 {
-    let f = params::field_of(i);
-    FORMS[f]
+    if i < GENERAL {
+        FORMS[i]
+    } else {
+        FORMS[GENERAL + (i - GENERAL) % OF_TOPIC]
+    }
 }
 
 // The number of entry i.
 fn number_at(s: &[u8], i: usize) -> Number
-    requires { ⌜ (length (now s) ≡ supplierBytes) × (i < 147) ⌝ }
+    requires { ⌜ (length (now s) ≡ supplierBytes) × (i < paramCount) ⌝ }
     ensures { λ r. ⌜ r ≡ numberAt (now (s .entry)) i ⌝ }
 {
     let at = 9 * i;
     let kind = s[at];
     let u = supplier_entry::low_first(s, at + 1, 8);
-    supplier_entry::import(kind, u, form_of(i), params::limit_of(i))
+    supplier_entry::import(kind, u, form_of(i), limits::limit_of(i))
 }
 
 // The numbers of all entries.
@@ -116,14 +124,14 @@ fn entries(s: &[u8]) -> Parsed
     requires { ⌜ length (now s) ≡ supplierBytes ⌝ }
     ensures { λ r. ⌜ outcome r ≡ entriesOf (now (s .entry)) ⌝ }
 {
-    let mut numbers = [0i64; 147];
+    let mut numbers = [0i64; NUMBERS];
     let mut i: usize = 0;
-    while i < 147 {
+    while i < NUMBERS {
         let Number::Is(n) = number_at(s, i) else {
             return Parsed {
                 ok: false,
                 place: i,
-                params: Params { numbers },
+                numbers,
             };
         };
         numbers[i] = n;
@@ -132,7 +140,7 @@ fn entries(s: &[u8]) -> Parsed
     Parsed {
         ok: true,
         place: i,
-        params: Params { numbers },
+        numbers,
     }
 }
 
@@ -142,23 +150,24 @@ pub fn import(s: &[u8]) -> Reading
 {
     let n = s.len();
     if n != BYTES {
-        return params::refused(Verdict::Malformed(n));
+        return params_bytes::refused(Verdict::Malformed(n));
     }
     let all = entries(s);
     let place = all.place;
     if !all.ok {
-        return params::refused(Verdict::Broken(place));
+        return params_bytes::refused(Verdict::Broken(place));
     }
-    all.params.judged(BYTES)
+    let numbers = all.numbers;
+    params_bytes::judged(Params { numbers }, BYTES)
 }
 
 // The entries of numbers that lie between their limits.
 fn put(all: Params, buf: &mut [u8])
-    requires { ⌜ (supplierBytes ≤ length (now buf)) × ((i : ℕ) → i < 147 → inLimits (all .numbers) i ≡ true) ⌝ }
+    requires { ⌜ (supplierBytes ≤ length (now buf)) × ((i : ℕ) → i < paramCount → inLimits (all .numbers) i ≡ true) ⌝ }
     ensures { λ _. ⌜ now (buf .exit) ≡ sets (now (buf .entry)) 0 (bytesOf (all .numbers)) ⌝ }
 {
     let mut i: usize = 0;
-    while i < 147 {
+    while i < NUMBERS {
         supplier_entry::export(all.numbers[i], form_of(i), buf, 9 * i);
         i += 1;
     }

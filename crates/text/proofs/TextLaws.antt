@@ -1,6 +1,6 @@
 -- Laws of decimal text: its last digit, its length, and how it is stored from the front.
 -- Assumes nothing.
-use Prim.Native.Nat.{ℕ, zero, suc, _+_, _*_, _/_, _%_, _^_, _<_, _≤_}
+use Prim.Native.Nat.{ℕ, zero, suc, _+_, _/_, _%_, _^_, _<_, _≤_}
 use mathlib.Core.Bool.{Bool, true, false, cond}
 use mathlib.Core.Path.{_≡_, refl, sym, ap, _∙_}
 use mathlib.Core.List.{List, [], _∷_, _++_}
@@ -9,8 +9,7 @@ use native.Mathlib.Nat.{pow-suc}
 use native.Mathlib.Numerals.{add-one}
 use borrow.Author.Tests.{lt-ltb, le-ltb}
 use lib.Dec.{ltb}
-use lib.ListN.{length, set, take, getD, length-append}
-use lib.Seq.{sets, take-suc, take-all, length-take-le}
+use lib.ListN.{length, set, length-append}
 use lib.IntN.{ℤ, pos, negsuc, natAbs}
 use mir.Syntax.{w64}
 use mir.Val.{SFits, toZ, ofZ}
@@ -150,21 +149,3 @@ stored-more buf at n r out h s =
     rw
     (decimal-more n h)
     (stored-then buf at r (decimal (n / 10)) out (r + 1) ((48 + n % 10) ∷ []) (set out r (48 + n % 10)) s (refl, refl))
-
--- the first i bytes of s stored, and the next after them
-pub stored-next :
-    (buf : List ℕ) (at : ℕ) (s : List ℕ) (i : ℕ) (out : List ℕ) →
-    i < length s →
-    out ≡ sets buf at (take i s) →
-    set out (at + i) (getD s i 0) ≡ sets buf at (take (i + 1) s)
-stored-next buf at s i out h e =
-    rw
-    (add-one i, take-suc s i 0 h, sets-append buf at (take i s) (getD s i 0 ∷ []), length-take-le i s (omega arith), ← e)
-
-pub stored-all :
-    (buf : List ℕ) (at : ℕ) (s : List ℕ) (i : ℕ) (out : List ℕ) →
-    i ≤ length s →
-    length s ≤ i →
-    out ≡ sets buf at (take i s) →
-    Stored buf at s (at + i) out
-stored-all buf at s i out l h e = (omega arith, e ∙ rw (take-all i s h))

@@ -7,7 +7,7 @@ ghost use lib.ListN.{length};
 use layout::CELLS;
 use libc::STDIN_FILENO;
 use libc::STDOUT_FILENO;
-use params::Verdict;
+use params_bytes::Verdict;
 use trace_step::Replayed;
 
 // The bytes of the window from `at` to `end` are still to be read; `more` is false once the input has ended, and `open` once the trace has
@@ -93,7 +93,7 @@ fn read_params(table: &mut [u64; CELLS], buf: &mut [u8], out: &mut [u8], w: Wind
     ensures { λ r. ⌜ r .end ≤ length (now (buf .entry)) ⌝ }
 {
     let end = w.end;
-    let reading = params::read_front(&buf[..end]);
+    let reading = params_bytes::read_front(&buf[..end]);
     let verdict = reading.verdict;
     match verdict {
         Verdict::Accepted(next) => {

@@ -10,7 +10,9 @@ use Rattle.index.proofs.Flags.{cond-case}
 use Rattle.varint.specs.Groups.{Got, got, none, before, decode, upTo, asRead, readAt}
 use Rattle.varint.specs.declared.Read.{Read}
 use Rattle.varint.specs.declared.Read.the-variants.{Number, Bad}
-use Rattle.trace_events.specs.Reading.{Numbers, numbers, broken, more, numberThen, numbersFrom, cutShort, arity, callOf, Event, event, unknown, malformed, short, unread, named, ofNumbers, ofKind, eventAt}
+use Rattle.trace_events.specs.Reading.{Numbers, numbers, broken, more, numberThen, numbersFrom, cutShort, arity, callOf, Event, event}
+use Rattle.trace_events.specs.Reading.{nameMost}
+use Rattle.trace_events.specs.Reading.{unknown, malformed, short, unread, named, ofNumbers, ofKind, eventAt}
 
 -- ---- a number
 abbrev Takes : Got → Type 0
@@ -75,14 +77,15 @@ unread-behind at s p = cond-case (Behind at) (cutShort s p) short malformed (λ 
 named-behind : (at : ℕ) (s us : List ℕ) (next : ℕ) → at < next → Behind at (named s us next)
 unfolding named
 named-behind at s us next h =
-    cond-case (Behind at) (leb (getD us 4 0) 64) _ malformed
+    cond-case (Behind at) (leb (getD us 4 0) nameMost) _ malformed
     (λ e.
     cond-case (Behind at) (leb (next + getD us 4 0) (length s)) (event _ (next + getD us 4 0)) short (λ e. omega arith) (λ e. tt))
     (λ e. tt)
 
 numbers-behind : (at next : ℕ) (s : List ℕ) (kind : ℕ) (p : Numbers) → at < next → NotBack next p → Behind at (ofNumbers s kind p)
 numbers-behind at next s kind (numbers us m) h n =
-    cond-case (Behind at) (eqb kind 1) (named s us m) (event (callOf kind us []) m) (λ e. named-behind at s us m (omega arith)) (λ e. omega arith)
+    cond-case (Behind at) (eqb kind 1) (named s us m) (event (callOf kind us []) m) (λ e. named-behind at s us m (omega arith))
+    (λ e. omega arith)
 numbers-behind at next s kind (broken p) h n = unread-behind at s p
 
 kind-behind : (s : List ℕ) (at : ℕ) (r : Read) → Ahead at r → Behind at (ofKind s at r)

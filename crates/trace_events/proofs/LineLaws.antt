@@ -25,9 +25,11 @@ use Rattle.effects.specs.Actions.{Action, numbersOf}
 use Rattle.score.specs.declared.Why.{Why}
 use Rattle.rules.proofs.Answer.{the-type}
 use Rattle.rules.specs.declared.Answer.{Answer}
-use Rattle.rules.specs.declared.Answer.the-variants.{Done, Scored, Early, OutOfRange, NotConnected, AlreadyConnected, NoSlot, UnknownProtocol, NotPermutation, ListShort, Ignored, NotRouter}
+use Rattle.rules.specs.declared.Answer.the-variants.{Done, Scored, Early, OutOfRange, NotConnected, AlreadyConnected, NoSlot}
+use Rattle.rules.specs.declared.Answer.the-variants.{UnknownProtocol, NotPermutation, ListShort, Ignored, NotRouter}
 use Rattle.rules.specs.Reply.{Reply, numberOf, actionsOf}
-use Rattle.trace_events.specs.Lines.{space, newline, pairLine, actionLine, actionLines, partText, threeText, whyLine, scoreLine, linesOf, actionAt, actionsText, replyText}
+use Rattle.trace_events.specs.Lines.{space, newline, pairLine, actionLine, actionLines, partText, threeText, whyLine, scoreLine}
+use Rattle.trace_events.specs.Lines.{linesOf, actionAt, actionsText, replyText}
 
 -- ---- the answers of the other variants, as an `else` tells them
 pub no-score :

@@ -10,7 +10,8 @@ use Rattle.text.specs.Text.{decimal, signedText}
 use Rattle.effects.specs.Actions.{Action}
 use Rattle.score.specs.declared.Why.{Why}
 use Rattle.rules.specs.declared.Answer.{Answer}
-use Rattle.rules.specs.declared.Answer.the-variants.{Done, Scored, Early, OutOfRange, NotConnected, AlreadyConnected, NoSlot, UnknownProtocol, NotPermutation, ListShort, Ignored, NotRouter}
+use Rattle.rules.specs.declared.Answer.the-variants.{Done, Scored, Early, OutOfRange, NotConnected, AlreadyConnected, NoSlot}
+use Rattle.rules.specs.declared.Answer.the-variants.{UnknownProtocol, NotPermutation, ListShort, Ignored, NotRouter}
 use Rattle.rules.specs.Reply.{Reply, numberOf, actionsOf}
 
 -- a space, and the end of a line

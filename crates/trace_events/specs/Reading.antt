@@ -10,7 +10,8 @@ use Rattle.varint.specs.Codes.{numberOf}
 use Rattle.varint.specs.declared.Read.{Read}
 use Rattle.varint.specs.declared.Read.the-variants.{Number, Bad}
 use Rattle.trace_events.specs.declared.Readings.{Readings}
-use Rattle.rules.specs.Calls.{Call, connect, disconnect, join, leave, subscribe, unsubscribe, graft, prune, deliver, rate, heartbeat, decay, score}
+use Rattle.rules.specs.Calls.{Call, connect, disconnect, join, leave, subscribe, unsubscribe, graft, prune, deliver, rate, heartbeat, decay}
+use Rattle.rules.specs.Calls.{score}
 
 -- ---- numbers one after the other
 -- the numbers and the place after them, or the place of the first that cannot be read
@@ -83,11 +84,15 @@ pub data Event : Type 0 where
 abbrev pub unread : List ℕ → ℕ → Event
 unread s p = cond (cutShort s p) short malformed
 
+-- the longest protocol name that is read: "a name-length over 64" is malformed
+abbrev pub nameMost : ℕ
+nameMost = 64
+
 -- the name's bytes, from a place on; its length is the last of the numbers
 unfoldable pub named : List ℕ → List ℕ → ℕ → Event
 named s us next =
     let n : ℕ = getD us 4 0 in
-    cond (leb n 64)
+    cond (leb n nameMost)
     (cond (leb (next + n) (length s)) (event (callOf 1 us (take n (drop next s))) (next + n)) short)
     malformed
 

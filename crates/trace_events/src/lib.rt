@@ -1,5 +1,5 @@
 // A trace's events (01, "The trace program"): their numbers read from a window of bytes, and a reply in text. The event as a whole is crate
-// replay, the program that moves the bytes crate trace.
+// trace_step, the program that moves the bytes crate trace.
 pub mod lines;
 pub mod reading;
 

@@ -7,13 +7,15 @@ use score::Why;
 use text::put_byte;
 use text::put_decimal;
 use text::put_signed;
-ghost use mathlib.Core.Path.{_≡_};
 ghost use mathlib.Core.List.{[], _∷_};
 ghost use Prim.Native.Nat.{_+_, _*_, _≤_};
 ghost use lib.ListN.{length};
 ghost use Rattle.text.specs.Text.{Stored};
 ghost use Rattle.rules.specs.Reply.{actionsOf};
-ghost use Rattle.trace_events.specs.Lines.{space, pairLine, actionLine, actionsText, partText, threeText, whyLine, scoreLine, replyText};
+ghost use Rattle.trace_events.specs.Lines.{space, pairLine, actionLine, actionsText, partText, threeText, whyLine, scoreLine};
+ghost use Rattle.trace_events.specs.Lines.{replyText};
+ghost use Rattle.rules.specs.Step.{actionRoom};
+ghost use Rattle.records.specs.Records.{slotCount};
 
 // Two numbers on a line; the place after it.
 pub fn put_pair(out: &mut [u8], at: usize, a: u64, b: u64) -> usize
@@ -108,7 +110,7 @@ pub fn put_score(out: &mut [u8], at: usize, a: Answer) -> usize
 
 // Answer and action count, then one line an action or score.
 pub fn put_reply(out: &mut [u8], a: Answer, actions: &[u32]) -> usize
-    requires { ⌜ (4096 ≤ length (now out)) × (actionsOf a ≤ 64) × (192 ≤ length (now actions)) ⌝ }
+    requires { ⌜ (4096 ≤ length (now out)) × (actionsOf a ≤ slotCount) × (actionRoom ≤ length (now actions)) ⌝ }
     ensures { λ r. ⌜ Stored (now (out .entry)) 0 (replyText a (now (actions .entry))) r (now (out .exit)) × (r ≤ 4096) ⌝ }
 {
     let n = actions_of(a);

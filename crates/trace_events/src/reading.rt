@@ -1,6 +1,6 @@
 // An event's numbers.
 ghost use mathlib.Core.Path.{_≡_};
-ghost use Prim.Native.Nat.{ℕ, _+_, _≤_, _<_};
+ghost use Prim.Native.Nat.{ℕ, _≤_};
 ghost use lib.ListN.{getD};
 ghost use Rattle.trace_events.specs.Reading.{outcome, numbersFrom, cutShort, arity as arityOf};
 use crate::Readings;

@@ -1,17 +1,17 @@
--- What the machine does with a signed number's bits, as facts about the number: a signed local holds bits, so each fact starts from `toZ w64 (ofZ w64 n)`.
--- Assumes nothing.
-use Prim.Native.Nat.{ℕ, zero, suc, _+_, _-_, _*_, _^_, _<_, _≤_, zero-le}
-use mathlib.Core.Path.{_≡_, refl, sym, ap, _∙_, subst}
-use mathlib.Core.Bool.{Bool, true, false, _&&_}
+-- What the machine does with a signed number's bits, as facts about the number: a signed local holds bits, so each fact starts from `toZ
+-- w64 (ofZ w64 n)`. Assumes nothing.
+use Prim.Native.Nat.{ℕ, zero, suc, _^_, _<_, zero-le}
+use mathlib.Core.Path.{_≡_, refl, sym, ap, _∙_}
+use mathlib.Core.Bool.{true, false}
 use native.Mathlib.Omega.{arith}
-use borrow.Author.Tests.{ltb-true, ltb-false, le-ltb}
+use borrow.Author.Tests.{le-ltb}
 use lib.Dec.{T}
 use lib.IntN.{ℤ, pos, negsuc, _-ℤ_, natAbs}
-use lib.Signed.{mag, ltZ, leZ, nonNeg, _≤ℤ_}
+use lib.Signed.{mag, ltZ, nonNeg}
 use mir.Syntax.{w64}
 use mir.Val.{Fits, SFits, toZ, ofZ}
 use mir.Facts.{toZ-ofZ, toZ-pos}
-use Rattle.varint.specs.Codes.{negative, signedOf}
+use Rattle.varint.specs.Codes.{negative}
 
 pub neg-test : (n : ℤ) → ltZ n (pos 0) ≡ negative n
 neg-test (pos n) = le-ltb n 0 zero-le
@@ -41,10 +41,12 @@ module _ (n : ℤ) (f : SFits w64 n) where
     flip-is : toZ w64 (ofZ w64 (negsuc 0 -ℤ toZ w64 (ofZ w64 n))) ≡ pos (mag n)
     flip-is = toZ-ofZ flip-fits ∙ rw (toZ-ofZ f) (flip n (sym t ∙ read-neg))
 
-    pub flip-cast : T (nonNeg (toZ w64 (ofZ w64 (negsuc 0 -ℤ toZ w64 (ofZ w64 n))))) × Fits w64 (natAbs (toZ w64 (ofZ w64 (negsuc 0 -ℤ toZ w64 (ofZ w64 n)))))
+    pub flip-cast : T (nonNeg (toZ w64 (ofZ w64 (negsuc 0 -ℤ toZ w64 (ofZ w64 n)))))
+        × Fits w64 (natAbs (toZ w64 (ofZ w64 (negsuc 0 -ℤ toZ w64 (ofZ w64 n)))))
     flip-cast = rw flip-is (tt, record { fits = omega (arith, f .sfits) })
 
-    pub flip-mag : (natAbs (toZ w64 (ofZ w64 (negsuc 0 -ℤ toZ w64 (ofZ w64 n)))) ≡ mag n) × (natAbs (toZ w64 (ofZ w64 (negsuc 0 -ℤ toZ w64 (ofZ w64 n)))) < 2 ^ 63)
+    pub flip-mag : (natAbs (toZ w64 (ofZ w64 (negsuc 0 -ℤ toZ w64 (ofZ w64 n)))) ≡ mag n)
+        × (natAbs (toZ w64 (ofZ w64 (negsuc 0 -ℤ toZ w64 (ofZ w64 n)))) < 2 ^ 63)
     flip-mag = rw flip-is (refl, f .sfits)
 
   module _ (t : ltZ (toZ w64 (ofZ w64 n)) (pos 0) ≡ false) where

@@ -2,7 +2,7 @@
 -- read was written exactly so (`readAt-written`).
 -- Assumes nothing.
 use Prim.Native.Nat.{ℕ, zero, suc, _+_, _-_, _*_, _/_, _%_, _^_, _<_, _≤_, zero-le}
-use mathlib.Core.Bool.{Bool, true, false, cond}
+use mathlib.Core.Bool.{cond}
 use mathlib.Core.Path.{_≡_, refl, sym, ap, ap₂, _∙_}
 use mathlib.Core.List.{List, [], _∷_, _++_}
 use native.Mathlib.Omega.{arith}
@@ -10,7 +10,7 @@ use native.Mathlib.Nat.{le-refl, pow-suc}
 use native.Mathlib.Numerals.{add-one}
 use borrow.Author.Tests.{lt-ltb, le-ltb, ltb-true, ltb-false, le-leb, lt-leb, leb-true, leb-false, eqb-false, ne-eqb}
 use lib.Dec.{ltb, leb, eqb, eqb·suc-zero}
-use lib.ListN.{length, set, drop, take, getD, drop-of-length-le}
+use lib.ListN.{length, set, drop, getD, drop-of-length-le}
 use lib.Seq.{drop-cons, sets, set-comm, drop-append-seam, getD-drop, drop-drop}
 use Rattle.varint.specs.declared.Read.{Read}
 use Rattle.varint.specs.declared.Read.the-variants.{Number, Bad}
@@ -40,7 +40,9 @@ encode-last (suc n) h = rw (lt-ltb (suc n) 128 h)
 pub encode-more : (n : ℕ) → 128 ≤ n → encode n ≡ (n % 128 + 128) ∷ encode (n / 128)
 unfolding encode groups
 encode-more zero h = absurd (omega arith)
-encode-more (suc n) h = rw (le-ltb (suc n) 128 h) (ap (λ (l : List ℕ). (suc n % 128 + 128) ∷ l) (groups-room n (suc n / 128) (suc n / 128) (omega arith) (omega arith)))
+encode-more (suc n) h =
+    rw (le-ltb (suc n) 128 h)
+    (ap (λ (l : List ℕ). (suc n % 128 + 128) ∷ l) (groups-room n (suc n / 128) (suc n / 128) (omega arith) (omega arith)))
 
 -- ---- what is written is read
 
@@ -63,7 +65,12 @@ decode-encode-to (suc k) n rest h =
     by-test (decode (encode n ++ rest) ≡ got n (length (encode n))) (ltb n 128)
     (λ t. let small : n < 128 = ltb-true n 128 t in rw (encode-last n small, decode-last n rest small))
     (λ t. let big : 128 ≤ n = ltb-false n 128 t in
-    rw (encode-more n big, decode-more (n % 128 + 128) (encode (n / 128) ++ rest) (omega arith), decode-encode-to k (n / 128) rest (omega arith), before-pos (n % 128 + 128) (n / 128) (length (encode (n / 128))) (omega arith))
+    rw (
+      encode-more n big,
+      decode-more (n % 128 + 128) (encode (n / 128) ++ rest) (omega arith),
+      decode-encode-to k (n / 128) rest (omega arith),
+      before-pos (n % 128 + 128) (n / 128) (length (encode (n / 128))) (omega arith),
+    )
     (ap (λ (v : ℕ). got v (suc (length (encode (n / 128))))) (omega arith)))
 
 pub decode-encode : (n : ℕ) (rest : List ℕ) → decode (encode n ++ rest) ≡ got n (length (encode n))
@@ -81,7 +88,8 @@ written-before b s v n h l p w =
     ∙ ap₂ (λ (x y : ℕ). x ∷ encode y) (omega arith) (omega arith) in
     record { bytes = rw (e, ← w .bytes); count = rw (e, ← w .count) }
 
-written-by : (b : ℕ) (s : List ℕ) (g : Got) (v n : ℕ) → 128 ≤ b → b < 256 → ((v n : ℕ) → g ≡ got v n → Written s v n) → before b g ≡ got v n → Written (b ∷ s) v n
+written-by : (b : ℕ) (s : List ℕ) (g : Got) (v n : ℕ) → 128 ≤ b → b < 256 → ((v n : ℕ) → g ≡ got v n → Written s v n) → before b g
+    ≡ got v n → Written (b ∷ s) v n
 written-by b s none v n h l ih e = let z : _≡_ {A = ℕ} 0 1 = cc in absurd (omega arith)
 written-by b s (got zero m) v n h l ih e = let z : _≡_ {A = ℕ} 0 1 = cc in absurd (omega arith)
 written-by b s (got (suc u) m) v n h l ih e =
@@ -107,34 +115,41 @@ pub readAt-end : (top : ℕ) (s : List ℕ) (at : ℕ) → length s ≤ at → r
 unfolding readAt decode
 readAt-end top s at h = rw (drop-of-length-le s h)
 
-pub readAt-last : (top : ℕ) (s : List ℕ) (at : ℕ) → at < length s → getD s at 0 < 128 → readAt top s at ≡ cond (leb (getD s at 0) top) (Number (getD s at 0) (at + 1)) Bad
+pub readAt-last : (top : ℕ) (s : List ℕ) (at : ℕ) → at < length s → getD s at 0 < 128 → readAt top s at
+    ≡ cond (leb (getD s at 0) top) (Number (getD s at 0) (at + 1)) Bad
 unfolding readAt
 readAt-last top s at h l =
     rw (drop-cons s at 0 h, decode-last (getD s at 0) (drop (suc at) s) l)
-    (by-test (asRead at (upTo top (got (getD s at 0) 1)) ≡ cond (leb (getD s at 0) top) (Number (getD s at 0) (at + 1)) Bad) (leb (getD s at 0) top) (λ t. rw t) (λ t. rw t))
+    (by-test (asRead at (upTo top (got (getD s at 0) 1)) ≡ cond (leb (getD s at 0) top) (Number (getD s at 0) (at + 1)) Bad)
+    (leb (getD s at 0) top) (λ t. rw t) (λ t. rw t))
 
 more-by : (top at b : ℕ) (g : Got) → 128 ≤ b → asRead at (upTo top (before b g)) ≡ afterMore top b (asRead (suc at) (upTo (top / 128) g))
 more-by top at b none h = refl
 more-by top at b (got zero n) h = rw (le-leb 0 (top / 128) zero-le)
 more-by top at b (got (suc v) n) h =
-    by-test (asRead at (upTo top (before b (got (suc v) n))) ≡ afterMore top b (asRead (suc at) (upTo (top / 128) (got (suc v) n)))) (leb (suc v) (top / 128))
+    by-test (asRead at (upTo top (before b (got (suc v) n))) ≡ afterMore top b (asRead (suc at) (upTo (top / 128) (got (suc v) n))))
+    (leb (suc v) (top / 128))
     (λ t. rw (t, eqb·suc-zero v)
-    (by-test (asRead at (cond (leb (suc v * 128 + (b - 128)) top) (got (suc v * 128 + (b - 128)) (suc n)) none) ≡ cond (leb (suc v * 128 + (b - 128)) top) (Number (suc v * 128 + (b - 128)) (suc at + n)) Bad) (leb (suc v * 128 + (b - 128)) top)
+    (by-test (asRead at (cond (leb (suc v * 128 + (b - 128)) top) (got (suc v * 128 + (b - 128)) (suc n)) none)
+    ≡ cond (leb (suc v * 128 + (b - 128)) top) (Number (suc v * 128 + (b - 128)) (suc at + n)) Bad) (leb (suc v * 128 + (b - 128)) top)
     (λ u. rw u (ap (λ (k : ℕ). Number (suc v * 128 + (b - 128)) k) (omega arith)))
     (λ u. rw u)))
     (λ t. let far : top / 128 < suc v = leb-false (suc v) (top / 128) t in
     rw (t, lt-leb (suc v * 128 + (b - 128)) top (omega arith)))
 
-pub readAt-more : (top : ℕ) (s : List ℕ) (at : ℕ) → at < length s → 128 ≤ getD s at 0 → readAt top s at ≡ afterMore top (getD s at 0) (readAt (top / 128) s (at + 1))
+pub readAt-more : (top : ℕ) (s : List ℕ) (at : ℕ) → at < length s → 128 ≤ getD s at 0 → readAt top s at
+    ≡ afterMore top (getD s at 0) (readAt (top / 128) s (at + 1))
 unfolding readAt
 readAt-more top s at h l =
-    rw (drop-cons s at 0 h, decode-more (getD s at 0) (drop (suc at) s) l, add-one at) (more-by top at (getD s at 0) (decode (drop (suc at) s)) l)
+    rw (drop-cons s at 0 h, decode-more (getD s at 0) (drop (suc at) s) l, add-one at)
+    (more-by top at (getD s at 0) (decode (drop (suc at) s)) l)
 
 -- the two ends of `after_more`, by the tests that lead there
 pub afterMore-far : (top b v next : ℕ) (r : Read) → r ≡ Number v next → (v ≡ 0 → ⊥) → top < v * 128 + (b - 128) → Bad ≡ afterMore top b r
 afterMore-far top b v next r e z h = rw (e, ne-eqb v 0 z, lt-leb (v * 128 + (b - 128)) top h)
 
-pub afterMore-near : (top b v next : ℕ) (r : Read) → r ≡ Number v next → (v ≡ 0 → ⊥) → v * 128 + (b - 128) ≤ top → Number (v * 128 + (b - 128)) next ≡ afterMore top b r
+pub afterMore-near : (top b v next : ℕ) (r : Read) → r ≡ Number v next → (v ≡ 0 → ⊥) → v * 128 + (b - 128) ≤ top →
+    Number (v * 128 + (b - 128)) next ≡ afterMore top b r
 afterMore-near top b v next r e z h = rw (e, ne-eqb v 0 z, le-leb (v * 128 + (b - 128)) top h)
 
 -- the two ends of `read_up_to`
@@ -153,10 +168,12 @@ small-is top at low s e i h k =
     let b : 128 ≤ getD s at 0 = omega arith in
     sym (readAt-more top s at i b ∙ after-small top (getD s at 0) (readAt (top / 128) s (at + 1)) k)
 
-pub last-is : (top at low : ℕ) (s : List ℕ) (r : Read) → r ≡ lastGroup top low (at + 1) → low ≡ getD s at 0 → at < length s → low < 128 → r ≡ readAt top s at
+pub last-is : (top at low : ℕ) (s : List ℕ) (r : Read) → r ≡ lastGroup top low (at + 1) → low ≡ getD s at 0 → at < length s → low < 128 → r
+    ≡ readAt top s at
 last-is top at low s r e b h l = e ∙ ap (λ (x : ℕ). lastGroup top x (at + 1)) b ∙ sym (readAt-last top s at h (omega arith))
 
-pub more-is : (top at low : ℕ) (s : List ℕ) (r q : Read) → r ≡ afterMore top low q → q ≡ readAt (top / 128) s (at + 1) → low ≡ getD s at 0 → at < length s → 128 ≤ low → r ≡ readAt top s at
+pub more-is : (top at low : ℕ) (s : List ℕ) (r q : Read) → r ≡ afterMore top low q → q ≡ readAt (top / 128) s (at + 1) → low ≡ getD s at 0 →
+    at < length s → 128 ≤ low → r ≡ readAt top s at
 more-is top at low s r q e f b h l = e ∙ ap₂ (λ (x : ℕ) (y : Read). afterMore top x y) b f ∙ sym (readAt-more top s at h (omega arith))
 
 -- ---- the two ends of the writer
@@ -167,7 +184,9 @@ pub length-more : (n : ℕ) → 128 ≤ n → length (encode n) ≡ suc (length 
 length-more n h = ap length (encode-more n h)
 
 pub length-pos : (n : ℕ) → 0 < length (encode n)
-length-pos n = by-test (0 < length (encode n)) (ltb n 128) (λ t. omega (arith, length-last n (ltb-true n 128 t))) (λ t. omega (arith, length-more n (ltb-false n 128 t)))
+length-pos n =
+    by-test (0 < length (encode n)) (ltb n 128) (λ t. omega (arith, length-last n (ltb-true n 128 t)))
+    (λ t. omega (arith, length-more n (ltb-false n 128 t)))
 
 -- a store and a run of stores behind it, in the other order
 sets-set : (vs l : List ℕ) (i j a : ℕ) → i < j → sets (set l i a) j vs ≡ set (sets l j vs) i a
@@ -258,7 +277,8 @@ unfolding decode
 vector-overlong = refl
 
 -- ---- a number among other bytes
-pub readAt-encode : (top n : ℕ) (front rest : List ℕ) → n ≤ top → readAt top (front ++ (encode n ++ rest)) (length front) ≡ Number n (length front + length (encode n))
+pub readAt-encode : (top n : ℕ) (front rest : List ℕ) → n ≤ top → readAt top (front ++ (encode n ++ rest)) (length front)
+    ≡ Number n (length front + length (encode n))
 unfolding readAt
 readAt-encode top n front rest h = rw (drop-append-seam front (encode n ++ rest), decode-encode n rest, le-leb n top h)
 
@@ -287,12 +307,16 @@ pub record Front (top : ℕ) (s : List ℕ) (at u next : ℕ) : Type 0 where
 bytes-drop : (s : List ℕ) (at : ℕ) → ((k : ℕ) → getD s k 0 < 256) → (k : ℕ) → getD (drop at s) k 0 < 256
 bytes-drop s at h k = rw (getD-drop at s k 0) (h (at + k))
 
-pub readAt-written : (top : ℕ) (s : List ℕ) (at u next : ℕ) → ((k : ℕ) → getD s k 0 < 256) → readAt top s at ≡ Number u next → Front top s at u next
+pub readAt-written : (top : ℕ) (s : List ℕ) (at u next : ℕ) → ((k : ℕ) → getD s k 0 < 256) → readAt top s at ≡ Number u next →
+    Front top s at u next
 unfolding readAt
 readAt-written top s at u next h e =
     let a = accepted top at u next (decode (drop at s)) e in
     let w = written (drop at s) u (a .n) (bytes-drop s at h) (a .is) in
-    record { bytes = w .bytes ∙ ap (λ (l : List ℕ). encode u ++ l) (drop-drop (a .n) at s ∙ ap (λ (k : ℕ). drop k s) (sym (a .ends))); small = a .small }
+    record {
+      bytes = w .bytes ∙ ap (λ (l : List ℕ). encode u ++ l) (drop-drop (a .n) at s ∙ ap (λ (k : ℕ). drop k s) (sym (a .ends)));
+      small = a .small;
+    }
 
 -- ---- how long the groups are
 pub length-le : (k n : ℕ) → n < 128 ^ suc k → length (encode n) ≤ suc k

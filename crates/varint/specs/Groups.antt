@@ -1,7 +1,7 @@
 -- Unsigned numbers as bytes (01, "In bytes"): "groups of seven bits, low first, top bit set on all but the last. Only the shortest form is
 -- read." Nothing here depends on a width: a reader accepts what `decode` gives up to its own largest number (`upTo`).
 use Prim.Native.Nat.{ℕ, zero, suc, _+_, _-_, _*_, _/_, _%_}
-use mathlib.Core.Bool.{Bool, true, false, cond}
+use mathlib.Core.Bool.{cond}
 use mathlib.Core.List.{List, [], _∷_}
 use lib.Dec.{ltb, leb, eqb}
 use lib.ListN.{length, drop}

@@ -1,5 +1,5 @@
 // Numbers as bytes: unsigned ones as groups of seven bits, and the codes by which signed ones become unsigned (01, "In bytes").
-// The definitions are specs/Groups.antt and specs/Codes.antt. The reader and the writer go by recursion, so that one law holds for every
+// The definitions are specs/Groups.antt and specs/Codes.antt. The reader and the writer are recursive, so that one law holds for every
 // width; another width is another `top` of `read_up_to`.
 ghost use mathlib.Core.Path.{_≡_};
 ghost use Prim.Native.Nat.{_+_, _/_, _≤_, _<_, _^_};
@@ -60,8 +60,8 @@ fn after_more(rest: Read, low: u64, top: u64) -> Read
     }
 }
 
-// The number up to `top` that stands at `at`. It ends where no further group can be within `top`, so its depth is that of the width, however
-// many bytes follow.
+// The number up to `top` that stands at `at`. It ends where no further group can be within `top`, so its depth is that of the width,
+// however many bytes follow.
 fn read_up_to(s: &[u8], at: usize, top: u64) -> Read
     ensures { λ r. ⌜ r ≡ readAt top (now (s .entry)) at ⌝ }
 {

@@ -1,5 +1,5 @@
-// The papers' vectors for seven-bit groups and signed numbers, printed: the bytes of some numbers, and what some bytes read as. What should
-// stand there is in the file stdout, written by hand from the papers.
+// The papers' vectors for seven-bit groups and signed numbers, printed: the bytes of some numbers, and what some bytes read as. The
+// expected output is the file stdout, written by hand from the papers.
 use libc::STDOUT_FILENO;
 use varint::Put;
 use varint::Read;

@@ -1,15 +1,13 @@
--- `control::graft_from` meets its contract.
+-- `control::graft_from`: the slot that holds the id, or 3.
 -- Assumes nothing.
 use borrow.Author.Needs.{needs}
-use Rattle.index.proofs.Flags.{yes, no}
-use Rattle.rules.specs.Step.{effect, graftReply}
-use Rattle.rules.proofs.StepLaws.{found-below, peer-none-gives, peer-at-gives, gives-then, gives-else}
-use Rattle.rules.proofs.EndLaws.{gives-ignored}
+use Rattle.rules.specs.Step.{effect}
+use Rattle.rules.proofs.StepLaws.{found-below, peer-none-gives, peer-at-gives}
 use Rattle.control.proofs.graft_from.Statement.{statement}
 use Rattle.control.proofs.graft_from.Tie as tie
 
 pub graft-from-spec : {M : Type 1} → statement M
-unfolding effect graftReply
+unfolding effect
 graft-from-spec =
     tie.close
     (tie.spec
@@ -18,11 +16,7 @@ graft-from-spec =
     (λ c. search needs)
     (λ c. search needs)
     (λ c. search peer-none-gives)
-    (λ c κs. (search needs, (search needs, search found-below)))
-    (λ c κs. (search needs, (search needs, (search found-below, search needs))))
+    (λ c κs. search (found-below, needs))
     (λ c. search needs)
     (λ c. search needs)
-    (λ c. search (peer-at-gives, gives-then, yes))
-    (λ c κs. search needs)
-    (λ c. search needs)
-    (λ c. search (peer-at-gives, gives-else, gives-ignored, no)))
+    (λ c. search peer-at-gives))

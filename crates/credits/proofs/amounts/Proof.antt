@@ -1,5 +1,4 @@
--- `credits::amounts` meets its contract.
--- Assumes nothing.
+-- `credits::amounts` meets its contract: a way for each kind of delivery, and each amount leaves room in its counter. Assumes nothing.
 use native.Mathlib.Omega.{arith}
 use borrow.Author.Needs.{needs}
 use borrow.Author.Tests.{eq-eqb, ne-eqb}

@@ -1,6 +1,6 @@
--- `credits::credit` meets its contract: a walk of its code, by hand. The borrow is opened, the record is copied out and passed to `amounts`,
--- what that returned is added to the three counters, each where it stands, and the borrow is closed at the record with the sums. All that the
--- proof knows of `amounts` is its contract.
+-- `credits::credit` meets its contract: a walk of its code, by hand. The borrow is opened, the record is copied out and passed to
+-- `amounts`, what that returned is added to the three counters, each where it stands, and the borrow is closed at the record with the sums.
+-- All that the proof knows of `amounts` is its contract.
 -- Assumes nothing.
 use mathlib.Core.Path.{_≡_, refl, ap}
 use Prim.Native.Nat.{ℕ, _<_, _^_}
@@ -13,12 +13,14 @@ use base.Logic.{SProp, ent, sep, emp, via, fst∗, snd∗, exE, id⊢}
 use base.Fml.{Fml, GName, Lft, Share, ftrue, flft, fobs, fbor, fat}
 use prog.Memory.{Memory}
 use prog.Routine.{Routine}
-use prog.Wp.{Heap, Calls, Loops, WpFn, Tables}
+use prog.Wp.{Heap, Calls, Loops, WpFn}
 use ghost.Atoms.{Atoms, sem}
 use contract.Monad.{Fun, fact}
 use contract.Running.{givenOf, tables, tablesOf}
-use types.Kit.{Given, ‵, raw, _⊛_, some, later, _$_, _∵_, !, qed, by, move, keep, drop, use0, use1, rewrite, split, join, pick, fsplit, fsplit3, fjoin, fjoin3, feqI, suffices, frame, await, done}
-use types.Run.{look, look-raw, init, store, bin, forget, stop, hop, fld, from, load, unit-lit, of-opd, and-then, no-more, assigns, land, returns, enter, alloc1, alloc0, params1, pass1, pass0, free1, free0}
+use types.Kit.{Given, ‵, raw, _⊛_, some, later, _$_, _∵_, !, qed, by, move, keep, drop, use0, use1, rewrite, split, join, pick, fsplit}
+use types.Kit.{fsplit3, fjoin, fjoin3, feqI, suffices, frame, await, done}
+use types.Run.{look, look-raw, init, store, bin, forget, stop, hop, fld, from, load, unit-lit, of-opd, and-then, no-more, assigns, land}
+use types.Run.{returns, enter, alloc1, alloc0, params1, pass1, pass0, free1, free0}
 use types.Part.{whole, sub, look-in, store-in}
 use types.SemTy.{Body}
 use sound.WpLaws.{FmC, fmOf, WpFn-mono}
@@ -36,7 +38,7 @@ use denote.Triple.Statement.{Contract, Triple}
 use denote.Triple.Call.{calls-at}
 use denote.Triple.Clauses.{ensured, lasts}
 use denote.Triple.Entry.{onEntry}
-use denote.Triple.Spec.{Meets, tripleOf}
+use denote.Triple.Spec.{tripleOf}
 use denote.Triple.Table.{entered, cited}
 use denote.Triple.Walked.{says, Stays, stay-ref, stay-none, walkOf, AllGo, goes-none, goes-ref, Walks, ends-at, walked, walk-meets}
 use denote.Exit.{yes}
@@ -128,7 +130,8 @@ module _ {M : Type 1} (𝓤 : URA M) (H : Heap 𝓤) (A : Atoms 𝓤) (W : Given
   goes-amounts is =
       qed W [] ∵
       use0 W (‵ others) others-had $
-      owned ! T.the-row (Is T.the-row) (LL.makes T.the-type T′.the-plain 𝓤 H A) h (vals h) is $ fjoin ! $ nothing ! $ join ! $ frame ! $ done !
+      owned ! T.the-row (Is T.the-row) (LL.makes T.the-type T′.the-plain 𝓤 H A) h (vals h) is $ fjoin ! $ nothing ! $ join ! $ frame !
+      $ done !
 
   abbrev ensures : Addition → SProp 𝓤
   ensures a = ensured 𝓤 H A amounts.ended (amounts.clauses 𝓤 H A at-mem run) tt (h, (t, (kind, tt))) tt a
@@ -184,21 +187,24 @@ module _ {M : Type 1} (𝓤 : URA M) (H : Heap 𝓤) (A : Atoms 𝓤) (W : Given
         -- r.p2 += a.p2
         assigns ! (of-opd ! (load ! (from ! (hop ! (look ! 18 refl) (fld ! refl (stop !)))) (look-in ! 0 (sub ! 0 refl (whole !)))))
         (from ! (stop !)) (init ! 8 refl (tt, record { fits = fs .0 .1 })) $
-        assigns ! (bin ! (load ! (from ! (stop !)) (look ! 8 refl)) (load ! (from ! (fld ! refl (stop !))) (look-in ! 12 (sub ! 0 refl (whole !))))
+        assigns ! (bin ! (load ! (from ! (stop !)) (look ! 8 refl))
+        (load ! (from ! (fld ! refl (stop !))) (look-in ! 12 (sub ! 0 refl (whole !))))
         (record { fits = e .1 .p2 })) (from ! (stop !)) (init ! 6 refl (tt, record { fits = e .1 .p2 })) $
         assigns ! (of-opd ! (load ! (from ! (stop !)) (look ! 6 refl))) (from ! (hop ! (look ! 18 refl) (fld ! refl (stop !))))
         (store-in ! 0 (sub ! 0 refl (whole !)) (tt, record { fits = e .1 .p2 })) $
         -- r.p3 += a.p3
         assigns ! (of-opd ! (load ! (from ! (hop ! (look ! 18 refl) (fld ! refl (stop !)))) (look-in ! 0 (sub ! 1 refl (whole !)))))
         (from ! (stop !)) (store ! 8 refl (tt, record { fits = fs .1 .0 .1 })) $
-        assigns ! (bin ! (load ! (from ! (stop !)) (look ! 8 refl)) (load ! (from ! (fld ! refl (stop !))) (look-in ! 12 (sub ! 1 refl (whole !))))
+        assigns ! (bin ! (load ! (from ! (stop !)) (look ! 8 refl))
+        (load ! (from ! (fld ! refl (stop !))) (look-in ! 12 (sub ! 1 refl (whole !))))
         (record { fits = e .1 .p3 })) (from ! (stop !)) (store ! 6 refl (tt, record { fits = e .1 .p3 })) $
         assigns ! (of-opd ! (load ! (from ! (stop !)) (look ! 6 refl))) (from ! (hop ! (look ! 18 refl) (fld ! refl (stop !))))
         (store-in ! 0 (sub ! 1 refl (whole !)) (tt, record { fits = e .1 .p3 })) $
         -- r.p4 += a.p4
         assigns ! (of-opd ! (load ! (from ! (hop ! (look ! 18 refl) (fld ! refl (stop !)))) (look-in ! 0 (sub ! 2 refl (whole !)))))
         (from ! (stop !)) (store ! 8 refl (tt, record { fits = fs .1 .1 .0 .1 })) $
-        assigns ! (bin ! (load ! (from ! (stop !)) (look ! 8 refl)) (load ! (from ! (fld ! refl (stop !))) (look-in ! 12 (sub ! 2 refl (whole !))))
+        assigns ! (bin ! (load ! (from ! (stop !)) (look ! 8 refl))
+        (load ! (from ! (fld ! refl (stop !))) (look-in ! 12 (sub ! 2 refl (whole !))))
         (record { fits = e .1 .p4 })) (from ! (stop !)) (store ! 6 refl (tt, record { fits = e .1 .p4 })) $
         assigns ! (of-opd ! (load ! (from ! (stop !)) (look ! 6 refl))) (from ! (hop ! (look ! 18 refl) (fld ! refl (stop !))))
         (store-in ! 0 (sub ! 2 refl (whole !)) (tt, record { fits = e .1 .p4 })) $

@@ -1,6 +1,6 @@
--- `credits::credited` meets its contract: a walk of its code, by hand. The record stands in a local, is lent to `credit` for a lifetime that
--- is made for the call, and comes back at the last value that `credit` says; that is returned. All that the proof knows of `credit` is its
--- contract, and no field is named.
+-- `credits::credited` meets its contract: a walk of its code, by hand. The record stands in a local, is lent to `credit` for a lifetime
+-- that is made for the call, and comes back at the last value that `credit` says; that is returned. All that the proof knows of `credit` is
+-- its contract, and no field is named.
 -- Assumes nothing.
 use mathlib.Core.Path.{_≡_, refl, sym, ap, subst}
 use Prim.Native.Nat.{ℕ, _<_, _^_}
@@ -14,12 +14,14 @@ use base.Logic.{SProp, ent, sep, emp, via, fst∗, id⊢}
 use base.Fml.{Fml, GName, ftrue, flft, flent, fat}
 use prog.Memory.{Memory}
 use prog.Routine.{Routine}
-use prog.Wp.{Heap, Calls, Loops, WpFn, Tables}
+use prog.Wp.{Heap, Calls, Loops, WpFn}
 use ghost.Atoms.{Atoms, sem}
 use contract.Monad.{Fun, fact}
 use contract.Running.{givenOf, tables, tablesOf}
-use types.Kit.{Given, ‵, raw, given, _⊛_, some, later, _$_, _∵_, !, qed, by, move, keep, drop, use0, use1, use2, use3, split, join, pick, learn, fsplit, fjoin, feqL, suffices, frame, await, done}
-use types.Run.{look, init, forget, stop, from, load, addr, of-opd, and-then, no-more, assigns, land, returns, enter, alloc1, alloc0, params1, pass1, pass0, free1, free0}
+use types.Kit.{Given, ‵, raw, given, _⊛_, some, later, _$_, _∵_, !, qed, by, move, keep, drop, use0, use1, use2, use3, split, join, pick}
+use types.Kit.{learn, fsplit, fjoin, feqL, suffices, frame, await, done}
+use types.Run.{look, init, forget, stop, from, load, addr, of-opd, and-then, no-more, assigns, land, returns, enter, alloc1, alloc0}
+use types.Run.{params1, pass1, pass0, free1, free0}
 use types.SemTy.{Body}
 use types.Tokens.{lft-new, lft-end}
 use sound.WpLaws.{FmC, fmOf, WpFn-mono}
@@ -38,7 +40,7 @@ use denote.Triple.Statement.{Contract, Triple}
 use denote.Triple.Call.{calls-at}
 use denote.Triple.Clauses.{ensured, lasts}
 use denote.Triple.Entry.{onEntry}
-use denote.Triple.Spec.{Meets, tripleOf}
+use denote.Triple.Spec.{tripleOf}
 use denote.Triple.Table.{entered, cited}
 use denote.Triple.Walked.{says, Stays, stay-none, walkOf, AllGo, goes-none, Walks, ends-at, walked, walk-meets}
 use denote.Exit.{yes}
@@ -162,11 +164,14 @@ module _ {M : Type 1} (𝓤 : URA M) (H : Heap 𝓤) (A : Atoms 𝓤) (W : Given
         (and-then ! (load ! (from ! (stop !)) (look ! 2 refl))
         (and-then ! (load ! (from ! (stop !)) (look ! 9 refl))
         (and-then ! (load ! (from ! (stop !)) (look ! 7 refl)) (no-more !)))) (λ v.
-        use1 W (later (some (λ (u : Unit {0}). ((‵ (flft (α ∷ []) fullShare) ⊛ ‵ ftrue) ⊛ ‵ (Nothing .own u (v ∷ []))) ⊛ raw (ensures l₄ α γ u))))
+        use1 W (later
+        (some (λ (u : Unit {0}). ((‵ (flft (α ∷ []) fullShare) ⊛ ‵ ftrue) ⊛ ‵ (Nothing .own u (v ∷ []))) ⊛ raw (ensures l₄ α γ u))))
         (id⊢ 𝓤 _) $ await ! tt $ pick ! (λ u. split ! $ move ! (1 ∷ []) $
-        use1 W (some (λ (ws : TopicRecord × (Unit {0} × (Unit {0} × Unit {0}))). ‵ (last l₄ α γ ws) ⊛ raw (fact 𝓤 (ws .0 ≡ creditedOf kind t h))))
+        use1 W (some
+        (λ (ws : TopicRecord × (Unit {0} × (Unit {0} × Unit {0}))). ‵ (last l₄ α γ ws) ⊛ raw (fact 𝓤 (ws .0 ≡ creditedOf kind t h))))
         (id⊢ 𝓤 _) $ pick ! (λ ws. split ! $ move ! (1 ∷ []) $ heard ! (ws .0 ≡ creditedOf kind t h) (λ e.
-        fsplit ! $ move ! (1 ∷ []) $ drop ! $ move ! (1 ∷ []) $ split ! $ split ! $ move ! (2 ∷ []) $ feqL ! (λ ev. move ! (1 ∷ []) $ drop ! $
+        fsplit ! $ move ! (1 ∷ []) $ drop ! $ move ! (1 ∷ []) $ split ! $ split ! $ move ! (2 ∷ [])
+        $ feqL ! (λ ev. move ! (1 ∷ []) $ drop ! $
         -- [the lifetime's token; the last value; the lender's part; _6 at 3; …; _5 at 5; …; _4's end; _3 at 8; …; _0 at 14; …]
         land ! (from ! (stop !)) (init ! 5 refl (subst (λ (y : Val). Holds (hasTy tyUnit y) × WT y) (sym (ap only ev)) (tt, tt))) $
         -- the lifetime is ended, and the local comes back at the last value

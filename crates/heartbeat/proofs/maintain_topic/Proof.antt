@@ -13,10 +13,10 @@ use Rattle.heartbeat.proofs.maintain_topic.Tie as tie
 abbrev start : tie.After-view → tie.Start
 start v = v .before .before .before .before
 
-abbrev seen : tie.After-maintain → tie.After-view
+abbrev seen : tie.After-meshes → tie.After-view
 seen m = m .before .before .before
 
-abbrev made : tie.After-load-size → tie.After-maintain
+abbrev made : tie.After-load-size → tie.After-meshes
 made z = z .before .before .before .before .before
 
 abbrev sized : tie.After-told → tie.After-load-size
@@ -35,7 +35,7 @@ computed :
     (begun (sized k) .args .ask)
     (begun (sized k) .args .order)
     (seen (made (sized k)) .view .result)
-    (made (sized k) .maintain .result)
+    (made (sized k) .meshes .result)
     (k .before .before .before .before .changes .result)
     (k .before .before .ids .result)
     (k .told .result)
@@ -44,7 +44,7 @@ computed k =
     record {
       view = seen (made (sized k)) .view .ensures;
       steps =
-          made (sized k) .maintain .ensures
+          made (sized k) .meshes .ensures
           ∙ ap (λ (g : Degrees). meshes slotCount g (seen (made (sized k)) .view .result)) (made (sized k) .before .degrees .ensures);
       changes = k .before .before .before .before .changes .ensures;
       backoff = sized k .load-size .ensures;

@@ -21,6 +21,14 @@ put-head-spec =
     (λ c κs. omega (arith, sizes (c .before .before)))
     (λ c κs. omega (arith, sizes (c .before .before .before .before .before .before)))
     (λ c κs. omega (arith, sizes (c .before .before .before .before .before .before .before .before .before .before)))
-    (λ c κs. omega (arith, sizes (c .before .before .before .before .before .before .before .before .before .before .before .before .before .before)))
+    (λ c κs. omega
+    (arith, sizes (c .before .before .before .before .before .before .before .before .before .before .before .before .before .before)))
     (λ c. search needs)
-    (λ c. (search (head-stored, needs), omega (arith, sizes (c .before .before .before .before .before .before .before .before .before .before .before .before .before .before .before .before .before)))))
+    (λ c. (
+      search (head-stored, needs),
+      omega (
+        arith,
+        sizes (c .before .before .before .before .before .before .before .before .before .before .before .before .before .before .before
+            .before .before),
+      ),
+    )))

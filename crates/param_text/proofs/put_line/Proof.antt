@@ -13,6 +13,11 @@ put-line-spec =
     (λ c κs. let f = c .before .before .fits .n in rw (toZ-ofZ f) (omega (arith, fits-length (c .before .before .args .n) f)))
     (λ c κs.
     let f = c .before .before .before .before .before .before .fits .n in
-    omega (arith, fits-length (c .before .before .before .before .before .before .args .n) f, rw (toZ-ofZ f) at (c .before .before .before .put-signed .ensures .0)))
+    omega (
+      arith,
+      fits-length (c .before .before .before .before .before .before .args .n) f,
+      rw (toZ-ofZ f) at (c .before .before .before .put-signed .ensures .0),
+    ))
     (λ c. search needs)
-    (λ c. line-stored _ _ _ _ _ _ _ (c .before .before .before .before .before .before .before .before .before .fits .n) (c .before .before .before .before .before .before .put-signed .ensures) (c .before .before .put-byte .ensures)))
+    (λ c. line-stored _ _ _ _ _ _ _ (c .before .before .before .before .before .before .before .before .before .fits .n)
+    (c .before .before .before .before .before .before .put-signed .ensures) (c .before .before .put-byte .ensures)))

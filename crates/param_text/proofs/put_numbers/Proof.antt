@@ -8,6 +8,7 @@ use lib.IntN.{pos}
 use mir.Syntax.{w64}
 use mir.Val.{SFits}
 use mir.Facts.{toZ-ofZ}
+use Rattle.records.specs.Records.{paramCount}
 use Rattle.index.specs.Index.{gather}
 use Rattle.text.specs.Text.{Stored}
 use Rattle.param_text.specs.Lines.{lineAt}
@@ -17,13 +18,13 @@ use Rattle.param_text.proofs.put_numbers.Tie as tie
 
 abbrev Inv-loop : tie.InvT-loop
 Inv-loop buf₀ at numbers next₀ i₀ buf next i =
-    (i ≤ 147)
+    (i ≤ paramCount)
     × (length buf ≡ length buf₀)
     × (next ≤ at + 22 * i)
     × Stored buf₀ at (gather i (lineAt numbers)) next buf
 
 abbrev μ-loop : tie.MeasureT-loop
-μ-loop buf₀ at numbers next₀ i₀ buf next i = 147 - i
+μ-loop buf₀ at numbers next₀ i₀ buf next i = paramCount - i
 
 pub put-numbers-spec : {M : Type 1} → statement M
 put-numbers-spec =

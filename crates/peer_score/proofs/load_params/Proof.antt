@@ -3,7 +3,7 @@ use Prim.Native.Nat.{ℕ}
 use mathlib.Core.Path.{_≡_}
 use native.Mathlib.Omega.{arith}
 use lib.Dec.{lit<}
-use Rattle.params.specs.Joint.{place as topicPlace}
+use Rattle.limits.specs.Limits.{place as topicPlace}
 use Rattle.records.specs.Records.{State}
 use Rattle.score.specs.Score.{sizeIn, topicParamsIn}
 use Rattle.peer_score.proofs.load_params.Statement.{statement}

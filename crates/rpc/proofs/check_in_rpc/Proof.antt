@@ -1,7 +1,8 @@
 -- `rpc::check_in_rpc` meets its contract. Assumes nothing.
 use borrow.Author.Needs.{needs}
 use native.Mathlib.Omega.{arith}
-use Rattle.rpc.proofs.CheckLaws.{take-count, take-from, take-room, inside-entry, inside-control, inside-skipped, inside-name, inside-value}
+use Rattle.rpc.proofs.CheckLaws.{take-count, take-from, take-room, inside-entry, inside-control, inside-skipped, inside-name}
+use Rattle.rpc.proofs.CheckLaws.{inside-value}
 use Rattle.rpc.proofs.check_in_rpc.Statement.{statement}
 use Rattle.rpc.proofs.check_in_rpc.Tie as tie
 

@@ -1,4 +1,5 @@
--- `rpc::put_in_rpc` meets its contract. Assumes nothing.
+-- `rpc::put_in_rpc` meets its contract: one field is an entry (`adds-entry`), a control field with entries of its own, or skipped; the list
+-- has room, since a field has more bytes than entries. Assumes nothing.
 use borrow.Author.Needs.{needs}
 use native.Mathlib.Omega.{arith}
 use Rattle.rpc.proofs.CheckLaws.{take-count, take-shorter, take-from, take-room}

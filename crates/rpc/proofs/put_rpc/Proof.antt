@@ -1,4 +1,5 @@
--- `rpc::put_rpc` meets its contract. Assumes nothing.
+-- `rpc::put_rpc` meets its contract: the loop's invariant is `Gathering`: the entries up to `place` are in the list, each kind at its own
+-- place; and they are no more than the bytes. Assumes nothing.
 use Prim.Native.Nat.{_-_, _+_, _≤_}
 use mathlib.Core.Path.{_≡_, refl, _∙_}
 use borrow.Author.Needs.{needs}

@@ -1,4 +1,5 @@
--- `rpc_write::kind_size` meets its contract. Assumes nothing.
+-- `rpc_write::kind_size` meets its contract: the loop's invariant: `size` is the length of the first `i` entries of the kind, at most 80
+-- bytes each. Assumes nothing.
 use native.Mathlib.Omega.{arith}
 use Rattle.rpc_write.proofs.WriteLaws.{good, bytesAt, length-none, length-more, length-all}
 use Prim.Native.Nat.{_-_, _*_, _≤_}

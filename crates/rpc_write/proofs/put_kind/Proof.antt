@@ -1,4 +1,5 @@
--- `rpc_write::put_kind` meets its contract. Assumes nothing.
+-- `rpc_write::put_kind` meets its contract: the loop's invariant: the first `i` entries of the kind are stored, at most 80 bytes each.
+-- Assumes nothing.
 use Prim.Native.Nat.{_+_, _-_, _*_, _≤_}
 use lib.ListN.{length}
 use Rattle.index.specs.Index.{gather}

@@ -1,4 +1,5 @@
--- `rpc_write::put_name` meets its contract. Assumes nothing.
+-- `rpc_write::put_name` meets its contract: the loop's invariant is `Copied`: the first `i` bytes of the name are in the buffer. A topic
+-- without a name writes nothing. Assumes nothing.
 use borrow.Author.Needs.{needs}
 use native.Mathlib.Omega.{arith}
 use Rattle.rpc_write.proofs.WriteLaws.{Copied, name-far, name-none, name-more, name-all}

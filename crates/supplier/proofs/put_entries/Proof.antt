@@ -4,6 +4,7 @@ use mathlib.Core.Path.{_≡_, refl, _∙_}
 use native.Mathlib.Omega.{arith}
 use borrow.Author.Needs.{needs}
 use lib.ListN.{length}
+use Rattle.records.specs.Records.{paramCount}
 use Rattle.index.specs.Index.{gather}
 use Rattle.text.specs.Text.{Stored}
 use Rattle.param_text.proofs.LineLaws.{lines-none, lines-more}
@@ -14,10 +15,10 @@ use Rattle.supplier.proofs.put_entries.Tie as tie
 
 abbrev Inv-loop : tie.InvT-loop
 Inv-loop buf₀ at s next₀ i₀ buf next i =
-    (i ≤ 147) × (length buf ≡ length buf₀) × (next ≤ at + 21 * i) × Stored buf₀ at (gather i (entryTextAt s)) next buf
+    (i ≤ paramCount) × (length buf ≡ length buf₀) × (next ≤ at + 21 * i) × Stored buf₀ at (gather i (entryTextAt s)) next buf
 
 abbrev μ-loop : tie.MeasureT-loop
-μ-loop buf₀ at s next₀ i₀ buf next i = 147 - i
+μ-loop buf₀ at s next₀ i₀ buf next i = paramCount - i
 
 pub put-entries-spec : {M : Type 1} → statement M
 put-entries-spec =

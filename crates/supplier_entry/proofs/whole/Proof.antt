@@ -2,7 +2,7 @@
 use mathlib.Core.Path.{refl, sym, ap, _∙_}
 use borrow.Author.Needs.{needs}
 use mir.Facts.{toZ-ofZ}
-use Rattle.params.proofs.LimitLaws.{lies-between}
+use Rattle.limits.proofs.LimitLaws.{lies-between}
 use Rattle.supplier_entry.specs.declared.Number.the-variants.{Is}
 use Rattle.supplier_entry.proofs.EntryLaws.{whole-in, whole-out}
 use Rattle.supplier_entry.proofs.whole.Statement.{statement}

@@ -5,6 +5,7 @@ use native.Mathlib.Omega.{arith}
 use borrow.Author.Needs.{needs, sfits-of}
 use mir.Syntax.{w64}
 use mir.Facts.{toZ-ofZ}
+use Rattle.records.specs.Records.{paramCount}
 use Rattle.supplier_params.proofs.ImportLaws.{Taken, taken-none, taken-more, taken-broken, taken-all}
 use Rattle.supplier_params.proofs.entries.Statement.{statement}
 use Rattle.supplier_params.proofs.entries.Tie as tie
@@ -13,7 +14,7 @@ abbrev Inv-loop : tie.InvT-loop
 Inv-loop s numbers₀ i₀ numbers i = Taken s i numbers
 
 abbrev μ-loop : tie.MeasureT-loop
-μ-loop s numbers₀ i₀ numbers i = 147 - i
+μ-loop s numbers₀ i₀ numbers i = paramCount - i
 
 pub entries-spec : {M : Type 1} → statement M
 entries-spec =

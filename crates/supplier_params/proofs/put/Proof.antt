@@ -7,6 +7,7 @@ use lib.ListN.{getD}
 use lib.IntN.{pos}
 use mir.Syntax.{w64}
 use mir.Facts.{toZ-ofZ}
+use Rattle.records.specs.Records.{paramCount}
 use Rattle.supplier_params.proofs.ExportLaws.{asks, Put, put-none, put-more, put-all}
 use Rattle.supplier_params.proofs.put.Statement.{statement}
 use Rattle.supplier_params.proofs.put.Tie as tie
@@ -15,7 +16,7 @@ abbrev Inv-loop : tie.InvT-loop
 Inv-loop buf₀ all i₀ buf i = Put (all .numbers) i buf₀ buf
 
 abbrev μ-loop : tie.MeasureT-loop
-μ-loop buf₀ all i₀ buf i = 147 - i
+μ-loop buf₀ all i₀ buf i = paramCount - i
 
 pub put-spec : {M : Type 1} → statement M
 put-spec =

@@ -1,6 +1,5 @@
 -- `text::put_decimal` meets its contract. The measure is the number. Assumes nothing.
 use Prim.Native.Nat.{ℕ, _<_}
-use mathlib.Core.Path.{_∙_}
 use lib.ListN.{length-set}
 use native.Mathlib.Omega.{arith}
 use borrow.Fn.Kinds.{In}
@@ -36,7 +35,15 @@ pub +put-decimal-spec : {M : Type 1} → statement M
     (λ c κs. omega (arith, length-more (c .before .before .before .args .n) (c .before .if1 .left)))
     (λ c. omega arith)
     (λ c. omega arith)
-    (λ c. omega (arith, length-more (c .before .before .before .before .before .before .args .n) (c .before .before .before .before .if1 .left), c .before .before .put-decimal .kept .0))
-    (λ c. omega (arith, length-more (c .before .before .before .before .before .before .args .n) (c .before .before .before .before .if1 .left), c .before .before .put-decimal .kept .0))
+    (λ c. omega (
+      arith,
+      length-more (c .before .before .before .before .before .before .args .n) (c .before .before .before .before .if1 .left),
+      c .before .before .put-decimal .kept .0,
+    ))
+    (λ c. omega (
+      arith,
+      length-more (c .before .before .before .before .before .before .args .n) (c .before .before .before .before .if1 .left),
+      c .before .before .put-decimal .kept .0,
+    ))
     (λ c. simp length-set (c .before .before .put-decimal .kept .0))
     (λ c. stored-more _ _ _ _ _ (c .before .before .before .before .if1 .left) (c .before .before .put-decimal .ensures))

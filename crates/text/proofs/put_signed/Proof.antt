@@ -1,4 +1,5 @@
--- `text::put_signed` meets its contract. Assumes nothing.
+-- `text::put_signed` meets its contract: the sign decides which of two texts it is (`below`, `above`); each is stored by the calls made.
+-- Assumes nothing.
 use borrow.Author.Needs.{needs}
 use native.Mathlib.Omega.{arith}
 use mathlib.Core.Path.{_≡_, ap, _∙_}

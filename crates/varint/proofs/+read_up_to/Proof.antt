@@ -3,7 +3,6 @@ use Prim.Native.Nat.{ℕ, _<_, _-_}
 use mathlib.Core.Path.{sym}
 use lib.ListN.{length}
 use native.Mathlib.Omega.{arith}
-use borrow.Author.Needs.{needs}
 use borrow.Fn.Kinds.{In}
 use borrow.Fn.PlainCycle.{Measures, is, falls, and}
 use Rattle.varint.proofs.GroupLaws.{readAt-end, last-is, more-is, small-is}
@@ -26,8 +25,16 @@ abbrev read-up-to-below : ℕ → In 1 read-up-to-kinds.ps
 read-up-to-below t = and 1 read-up-to-kinds.ps (falls 1 read-up-to-kinds.ps _<_ μ-read-up-to t) read-up-to.Pre
 
 pub +read-up-to-spec : {M : Type 1} → statement M
-+read-up-to-spec = close μ-read-up-to λ t. read-up-to-lts.spec
-    (wide-reads.Asked, wide-reads.Learnt, last-group-reads.Asked, last-group-reads.Learnt, read-up-to-below t, read-up-to.Post, after-more-reads.Asked, after-more-reads.Learnt)
++read-up-to-spec = close μ-read-up-to λ t. read-up-to-lts.spec (
+  wide-reads.Asked,
+  wide-reads.Learnt,
+  last-group-reads.Asked,
+  last-group-reads.Learnt,
+  read-up-to-below t,
+  read-up-to.Post,
+  after-more-reads.Asked,
+  after-more-reads.Learnt,
+)
     (read-up-to-at t)
     read-up-to.Post
     (λ c. sym (readAt-end _ _ _ (c .if1 .taken)))
@@ -39,5 +46,14 @@ pub +read-up-to-spec : {M : Type 1} → statement M
     (λ c. small-is _ _ _ _ (c .before .before .wide .ensures) (omega arith) (omega arith) (omega arith))
     (λ c. omega arith)
     (λ c κs. (omega arith, tt))
-    (λ c κs. (omega arith, omega (arith, c .before .before .before .wide .ensures, c .before .before .before .before .shared-slice-known2 .given (c .before .before .before .before .before .before .before .args .at))))
-    (λ c. more-is _ _ _ _ _ _ (c .after-more .ensures) (c .before .read-up-to .ensures) (c .before .before .before .before .wide .ensures) (omega arith) (omega arith))
+    (λ c κs. (
+      omega arith,
+      omega (
+        arith,
+        c .before .before .before .wide .ensures,
+        c .before .before .before .before .shared-slice-known2 .given
+            (c .before .before .before .before .before .before .before .args .at),
+      ),
+    ))
+    (λ c. more-is _ _ _ _ _ _ (c .after-more .ensures) (c .before .read-up-to .ensures) (c .before .before .before .before .wide .ensures)
+    (omega arith) (omega arith))

@@ -1,7 +1,6 @@
 -- `varint::write_u64` meets its contract. The measure is the number that is left to write. Assumes nothing.
 use Prim.Native.Nat.{ℕ, _<_}
 use lib.ListN.{length-set}
-use mathlib.Core.Path.{_∙_}
 use native.Mathlib.Omega.{arith}
 use borrow.Author.Needs.{needs}
 use Rattle.varint.proofs.GroupLaws.{left-end, left-last, left-full, left-more}

@@ -1,3 +1,5 @@
+-- `varint::after_more` meets its contract: a number that passes the top is refused (`afterMore-far`), one within it is read
+-- (`afterMore-near`), and higher groups that are 0 are overlong. Assumes nothing.
 use Rattle.varint.proofs.GroupLaws.{afterMore-far, afterMore-near}
 use native.Mathlib.Omega.{arith}
 use borrow.Author.Needs.{needs}

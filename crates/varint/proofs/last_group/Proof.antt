@@ -1,9 +1,6 @@
-use native.Mathlib.Omega.{arith}
-use borrow.Author.Tests.{le-leb, lt-leb, ne-eqb}
+use borrow.Author.Tests.{le-leb, lt-leb}
 use Rattle.varint.proofs.last_group.Statement.{statement}
 use Rattle.varint.proofs.last_group.Tie as tie
-use Rattle.varint.proofs.last_group.Reads as reads
-use Rattle.varint.proofs.last_group.Lts as lts
 
 returns : tie.Need-returns
 returns c = simp (le-leb _ _ (c .if1 .taken))

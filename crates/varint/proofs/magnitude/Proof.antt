@@ -14,6 +14,14 @@ magnitude-spec =
     (λ c κs. search needs)
     (λ c. search needs)
     (λ c. let f = c .before .before .before .fits .n in
-    omega (arith, rw (toZ-ofZ f) at (c .before .before .half .ensures .0), size-neg (c .before .before .before .args .n) (rw (toZ-ofZ f) at (sym (c .if1 .taken) ∙ c .before .is-negative .ensures))))
+    omega (
+      arith,
+      rw (toZ-ofZ f) at (c .before .before .half .ensures .0),
+      size-neg (c .before .before .before .args .n) (rw (toZ-ofZ f) at (sym (c .if1 .taken) ∙ c .before .is-negative .ensures)),
+    ))
     (λ c. let f = c .before .before .before .fits .n in
-    omega (arith, rw (toZ-ofZ f) at (c .before .before .half .ensures .0), size-pos (c .before .before .before .args .n) (rw (toZ-ofZ f) at (sym (c .if1 .left) ∙ c .before .is-negative .ensures)))))
+    omega (
+      arith,
+      rw (toZ-ofZ f) at (c .before .before .half .ensures .0),
+      size-pos (c .before .before .before .args .n) (rw (toZ-ofZ f) at (sym (c .if1 .left) ∙ c .before .is-negative .ensures)),
+    )))

@@ -1,6 +1,6 @@
 -- `varint::signed` meets its contract.  Assumes nothing.
 use borrow.Author.Needs.{needs}
-use mathlib.Core.Path.{_≡_, sym, ap, _∙_}
+use mathlib.Core.Path.{sym, ap, _∙_}
 use mathlib.Core.Bool.{Bool}
 use mir.Syntax.{w64}
 use mir.Facts.{toZ-pos}

@@ -2,7 +2,6 @@
 use Prim.Native.Nat.{_≤_, _-_}
 use native.Mathlib.Omega.{arith}
 use borrow.Author.Needs.{needs}
-use mathlib.Core.Logic.{⊎-elim}
 use Rattle.vectors.proofs.print_bytes.Statement.{statement}
 use Rattle.vectors.proofs.print_bytes.Tie as tie
 

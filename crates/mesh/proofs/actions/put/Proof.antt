@@ -1,3 +1,4 @@
+-- `mesh::actions::put` meets its contract: three numbers are written one after the other, and each fits 32 bits. Assumes nothing.
 use lib.ListN.{length-set}
 use native.Mathlib.Omega.{arith}
 use native.Mathlib.Numerals.{add-one, add-two}

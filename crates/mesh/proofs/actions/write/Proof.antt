@@ -7,7 +7,7 @@ use Rattle.mesh.proofs.actions.write.Statement.{statement}
 use Rattle.mesh.proofs.actions.write.Tie as tie
 
 returns : tie.Need-returns
-returns c = written-none _ _ _ _ _ _ _ (sym (c .before .count .ensures) ∙ c .if1 .taken)
+returns c = written-none _ _ _ _ _ _ _ (sym (c .before .size .ensures) ∙ c .if1 .taken)
 
 pub write-spec : {M : Type 1} → statement M
 write-spec =

@@ -34,7 +34,7 @@ put-requires c κs =
     let l = c₅ .before .before .before .before .loop in
     let s = getD (a .t5) (l .i) 0 in
     let e =
-    ap length (acts-in (a .kind) (a .t4) (a .t5) (l .i) (omega arith) (sym (c₅ .before .has .ensures) ∙ c₅ .if1 .taken)) in
+    ap length (acts-in (a .kind) (a .t4) (a .t5) (l .i) (omega arith) (sym (c₅ .before .at .ensures) ∙ c₅ .if1 .taken)) in
     let room = b .pre .room in
     let id = c .before .before .number-at .ensures in
     let id-fits = b .pre .narrow-ids s in
@@ -49,7 +49,7 @@ add-k c =
     let a = b .args in
     let l = c₈ .before .before .before .before .loop in
     let e =
-    ap length (acts-in (a .kind) (a .t4) (a .t5) (l .i) (omega arith) (sym (c₈ .before .has .ensures) ∙ c₈ .if1 .taken)) in
+    ap length (acts-in (a .kind) (a .t4) (a .t5) (l .i) (omega arith) (sym (c₈ .before .at .ensures) ∙ c₈ .if1 .taken)) in
     let room = b .pre .room in
     omega arith
 
@@ -66,7 +66,7 @@ loop-again c =
     let three : ℕ → ℕ → List ℕ = λ x y. sets (l .actions) (3 * l .k) (a .kind ∷ x ∷ y ∷ []) in
     ⊎-elim
     (λ w.
-    let e = acts-in (a .kind) (a .t4) (a .t5) (l .i) lt (sym (c .before .has .ensures) ∙ w .0 .taken) in
+    let e = acts-in (a .kind) (a .t4) (a .t5) (l .i) lt (sym (c .before .at .ensures) ∙ w .0 .taken) in
     let n = ap length e in
     let put = w .9 ∙ w .6 .ensures ∙ ap₂ three (w .3 .ensures) (w .5 .ensures) in (
       omega arith,
@@ -80,7 +80,7 @@ loop-again c =
           ∙ l .inv .4,
     ))
     (λ w.
-    let e = acts-out (a .kind) (a .t4) (a .t5) (l .i) lt (sym (c .before .has .ensures) ∙ w .0 .left) in
+    let e = acts-out (a .kind) (a .t4) (a .t5) (l .i) lt (sym (c .before .at .ensures) ∙ w .0 .left) in
     let n = ap length e in (
       omega arith,
       l .inv .1,

@@ -8,9 +8,9 @@ returns : tie.Need-returns
 returns c =
     let c₄ = c .before .before .before .before in
     let s = c₄ .before .before .before .before .before .before .args in
-    changes-are (s .start) (s .m) (c₄ .without .ensures) (c .before .before .before .without2 .ensures) (c .before .before .without3 .ensures)
-    (c .before .without4 .ensures)
-    (c .without5 .ensures)
+    changes-are (s .start) (s .m) (c₄ .except .ensures) (c .before .before .before .except2 .ensures) (c .before .before .except3 .ensures)
+    (c .before .except4 .ensures)
+    (c .except5 .ensures)
 
 pub changes-spec : {M : Type 1} → statement M
 changes-spec = tie.close (tie.spec (λ c κs. tt) (λ c κs. tt) (λ c κs. tt) (λ c κs. tt) (λ c κs. tt) returns)

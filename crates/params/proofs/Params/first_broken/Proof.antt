@@ -1,21 +1,20 @@
--- `params::first_broken` meets its contract. Assumes nothing.
-use mathlib.Core.Path.{sym, _∙_}
-use native.Mathlib.Omega.{arith}
+-- `params::Params::first_broken`: the numbers of the codes are the numbers. Assumes nothing.
 use borrow.Author.Needs.{needs}
-use Rattle.params.proofs.CheckLaws.{number-broken, rule-broken, none-broken, rule-small}
+use mathlib.Core.Path.{_∙_, ap}
+use mathlib.Core.List.{map}
+use Rattle.varint.specs.Codes.{numberOf}
+use Rattle.params.specs.Check.{firstBroken}
+use Rattle.params.proofs.CheckLaws.{numbers-back}
 use Rattle.params.proofs.Params.first_broken.Statement.{statement}
 use Rattle.params.proofs.Params.first_broken.Tie as tie
+
+returns : tie.Need-returns
+returns c = c .first-broken-code .ensures ∙ ap firstBroken (ap (map numberOf) (c .before .before .codes-of .ensures) ∙ numbers-back (c .before .before .before .before .before .args .self .numbers))
 
 pub first-broken-spec : {M : Type 1} → statement M
 first-broken-spec =
     tie.close (tie.spec
-    (λ c κs. tt)
+    (λ c κs. search needs)
     (λ c. search needs)
-    (λ c. search needs)
-    (λ c κs. sym (c .before .before .first-outside .ensures) ∙ c .enum-told .given .1)
-    (λ c. search needs)
-    (λ c. omega (arith, rule-small _ _ _ (c .before .before .before .first-rule .ensures) (c .before .k .given .1)))
-    (λ c. search needs)
-    (λ c. number-broken _ _ (c .before .before .before .first-outside .ensures) _ (c .before .i .given .1))
-    (λ c. rule-broken _ _ (c .before .before .before .before .before .before .first-outside .ensures) (c .before .before .before .before .enum-told .given .1) _ (c .before .before .before .first-rule .ensures) _ (c .before .k .given .1))
-    (λ c. none-broken _ _ (c .before .before .before .before .before .first-outside .ensures) (c .before .before .before .enum-told .given .1) _ (c .before .before .first-rule .ensures) (c .enum-told2 .given .1)))
+    (λ c κs. search needs)
+    returns)

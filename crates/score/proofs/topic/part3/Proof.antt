@@ -12,5 +12,8 @@ part3-spec =
     tie.close (tie.spec
     (λ c κs. search needs)
     (λ c κs. omega arith)
-    (λ c. (c .squared .ensures .0 ∙ ap square (c .before .excess .ensures) ∙ part3-short _ _ (c .before .before .if1 .taken), c .squared .ensures .1))
+    (λ c. (
+      c .squared .ensures .0 ∙ ap square (c .before .excess .ensures) ∙ part3-short _ _ (c .before .before .if1 .taken),
+      c .squared .ensures .1,
+    ))
     (λ c. (part3-none _ _ (c .if1 .left), search needs)))

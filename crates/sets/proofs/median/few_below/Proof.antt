@@ -7,4 +7,4 @@ pub few-below-spec : {M : Type 1} → statement M
 few-below-spec =
     tie.close
     (tie.spec (λ c κs. tt) (λ c κs. tt) (λ c κs. tt)
-    (λ c. rw (c .count .ensures, c .before .without .ensures, c .before .before .at-least .ensures)))
+    (λ c. rw (c .size .ensures, c .before .except .ensures, c .before .before .at-least .ensures)))

@@ -23,14 +23,14 @@ returns : tie.Need-returns Inv-loop μ-loop
 returns c =
     let a = c .before .before .before .before .before .args in
     let l = c .before .before .before .before .loop in
-    sym (first-step (a .t1) (a .t2) (l .i) (omega arith) true slotCount (sym (c .before .has .ensures) ∙ c .if1 .taken))
+    sym (first-step (a .t1) (a .t2) (l .i) (omega arith) true slotCount (sym (c .before .at .ensures) ∙ c .if1 .taken))
     ∙ l .inv .1
 
 loop-again : tie.Need-loop-again Inv-loop μ-loop
 loop-again c =
     let a = c .before .before .before .before .before .args in
     let l = c .before .before .before .before .loop in
-    let e = sym (c .before .has .ensures) ∙ c .if1 .left in (
+    let e = sym (c .before .at .ensures) ∙ c .if1 .left in (
       omega arith,
       sym (first-step (a .t1) (a .t2) (l .i) (omega arith) false slotCount e) ∙ l .inv .1,
       l .inv .2,

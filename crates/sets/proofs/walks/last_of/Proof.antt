@@ -26,7 +26,7 @@ loop-again c =
     let l = c .before .before .before .before .loop in
     let rest : ℕ → ℕ = λ s. lastOf (a .t1) (drop (l .i + 1) (a .t2)) s in
     let lt : l .i < length (a .t2) = omega arith in
-    let e = c .before .has .ensures in
+    let e = c .before .at .ensures in
     ⊎-elim
     (λ w. (
       omega arith,

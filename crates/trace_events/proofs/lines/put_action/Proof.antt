@@ -24,10 +24,16 @@ put-action-spec =
     (λ c. search needs)
     (λ c.
     let s = c .before .before .before .before .before .before .before .before .before .before .before .before .before .before in
-    graft-stored (s .args .kind) (s .args .id) (s .args .seconds) _ _ _ _ _ _ _ _ (eq-eqb _ _ (c .before .before .before .before .before .before .before .before .before .before .before .before .if1 .taken)) (omega (arith, s .fits .id .fits)) (c .before .before .before .before .before .before .before .before .before .before .put-letter .ensures) (c .before .before .before .before .before .before .put-decimal .ensures) (c .before .before .put-byte .ensures))
+    graft-stored (s .args .kind) (s .args .id) (s .args .seconds) _ _ _ _ _ _ _ _
+    (eq-eqb _ _ (c .before .before .before .before .before .before .before .before .before .before .before .before .if1 .taken))
+    (omega (arith, s .fits .id .fits))
+    (c .before .before .before .before .before .before .before .before .before .before .put-letter .ensures)
+    (c .before .before .before .before .before .before .put-decimal .ensures) (c .before .before .put-byte .ensures))
     (λ c κs. search needs)
     (λ c κs. search needs)
     (λ c. search needs)
     (λ c.
     let s = c .before .before .before .before .before .before .before .before .before .before in
-    prune-stored (s .args .kind) (s .args .id) (s .args .seconds) _ _ _ _ _ _ (ne-eqb _ _ (c .before .before .before .before .before .before .before .before .if1 .left)) (c .before .before .before .before .before .before .put-letter2 .ensures) (c .before .before .put-pair .ensures)))
+    prune-stored (s .args .kind) (s .args .id) (s .args .seconds) _ _ _ _ _ _
+    (ne-eqb _ _ (c .before .before .before .before .before .before .before .before .if1 .left))
+    (c .before .before .before .before .before .before .put-letter2 .ensures) (c .before .before .put-pair .ensures)))

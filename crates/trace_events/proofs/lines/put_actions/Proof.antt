@@ -1,4 +1,5 @@
--- `trace_events::lines::put_actions` meets its contract. The loop's invariant: the first `i` lines are stored, in at most 44 bytes each. Assumes nothing.
+-- `trace_events::lines::put_actions` meets its contract. The loop's invariant: the first `i` lines are stored, in at most 44 bytes each.
+-- Assumes nothing.
 use Prim.Native.Nat.{_+_, _*_, _-_, _≤_}
 use mathlib.Core.Path.{_≡_, refl, _∙_}
 use borrow.Author.Needs.{needs}
@@ -42,8 +43,13 @@ put-actions-spec =
     (λ c. omega arith)
     (λ c. omega arith)
     (λ c.
-    let l = c .before .before .before .before .before .before .before .before .loop in
-    (omega arith, c .before .before .put-action .kept .0 ∙ l .inv .1, omega arith, actions-more _ (l .i) _ (c .before .before .before .before .before .before .before .before .before .before .before .args .out .now) _ _ _ _ (l .inv .3) (c .before .before .put-action .ensures .0)))
+    let l = c .before .before .before .before .before .before .before .before .loop in (
+      omega arith,
+      c .before .before .put-action .kept .0 ∙ l .inv .1,
+      omega arith,
+      actions-more _ (l .i) _ (c .before .before .before .before .before .before .before .before .before .before .before .args .out .now)
+          _ _ _ _ (l .inv .3) (c .before .before .put-action .ensures .0),
+    ))
     (λ c. search needs)
     (λ c.
     let l = c .before .loop in

@@ -13,4 +13,6 @@ put-letter-spec =
     (λ c κs. search needs)
     (λ c. search needs)
     (λ c.
-    stored-then (c .before .before .before .before .before .before .before .before .before .args .out .now) _ _ (c .before .before .before .before .before .before .before .before .before .args .letter ∷ []) _ _ (32 ∷ []) _ (c .before .before .before .before .before .before .put-byte .ensures) (c .before .before .put-byte2 .ensures)))
+    stored-then (c .before .before .before .before .before .before .before .before .before .args .out .now) _ _
+    (c .before .before .before .before .before .before .before .before .before .args .letter ∷ []) _ _ (32 ∷ []) _
+    (c .before .before .before .before .before .before .put-byte .ensures) (c .before .before .put-byte2 .ensures)))

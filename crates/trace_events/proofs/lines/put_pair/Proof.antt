@@ -20,8 +20,13 @@ put-pair-spec =
     (λ c κs. omega (arith, sizes (c .before .before)))
     (λ c κs. omega (arith, sizes (c .before .before .before .before .before .before)))
     (λ c κs. omega (arith, sizes (c .before .before .before .before .before .before .before .before .before .before)))
-    (λ c κs. omega (arith, sizes (c .before .before .before .before .before .before .before .before .before .before .before .before .before .before)))
+    (λ c κs. omega
+    (arith, sizes (c .before .before .before .before .before .before .before .before .before .before .before .before .before .before)))
     (λ c. search needs)
     (λ c.
-    let s = c .before .before .before .before .before .before .before .before .before .before .before .before .before .before .before .before .before in
-    pair-stored (s .args .a) (s .args .b) _ _ _ _ _ _ _ _ _ _ (s .fits .a .fits) (s .fits .b .fits) (c .before .before .before .before .before .before .before .before .before .before .before .before .before .before .put-decimal .ensures) (c .before .before .before .before .before .before .before .before .before .before .put-byte .ensures) (c .before .before .before .before .before .before .put-decimal2 .ensures) (c .before .before .put-byte2 .ensures)))
+    let s = c .before .before .before .before .before .before .before .before .before .before .before .before .before .before .before
+    .before .before in
+    pair-stored (s .args .a) (s .args .b) _ _ _ _ _ _ _ _ _ _ (s .fits .a .fits) (s .fits .b .fits)
+    (c .before .before .before .before .before .before .before .before .before .before .before .before .before .before .put-decimal
+    .ensures) (c .before .before .before .before .before .before .before .before .before .before .put-byte .ensures)
+    (c .before .before .before .before .before .before .put-decimal2 .ensures) (c .before .before .put-byte2 .ensures)))

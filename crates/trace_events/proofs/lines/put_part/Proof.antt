@@ -18,4 +18,5 @@ put-part-spec =
     (λ c. search needs)
     (λ c.
     let s = c .before .before .before .before .before .before .before .before .before in
-    part-stored (s .args .n) (s .args .after) _ _ _ _ _ _ (s .fits .n) (c .before .before .before .before .before .before .put-signed .ensures) (c .before .before .put-byte .ensures)))
+    part-stored (s .args .n) (s .args .after) _ _ _ _ _ _ (s .fits .n)
+    (c .before .before .before .before .before .before .put-signed .ensures) (c .before .before .put-byte .ensures)))

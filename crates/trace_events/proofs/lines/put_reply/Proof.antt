@@ -15,5 +15,13 @@ put-reply-spec =
     (λ c κs. (omega arith, omega arith))
     (λ c κs. omega arith)
     (λ c. search needs)
-    (λ c.
-    (reply-stored (c .before .before .before .before .before .before .before .before .before .before .before .before .before .before .before .before .args .a) _ _ _ _ _ _ _ _ _ _ (c .before .before .before .before .before .before .before .before .before .before .before .number-of .ensures) (c .before .before .before .before .before .before .before .before .before .before .before .before .before .actions-of .ensures) (c .before .before .before .before .before .before .before .before .before .before .put-pair .ensures .0) (c .before .before .before .before .before .before .put-actions .ensures .0) (c .before .before .put-score .ensures .0), omega arith)))
+    (λ c. (
+      reply-stored
+          (c .before .before .before .before .before .before .before .before .before .before .before .before .before .before .before .before
+          .args .a) _ _ _ _ _ _ _ _ _ _
+          (c .before .before .before .before .before .before .before .before .before .before .before .number-of .ensures)
+          (c .before .before .before .before .before .before .before .before .before .before .before .before .before .actions-of .ensures)
+          (c .before .before .before .before .before .before .before .before .before .before .put-pair .ensures .0)
+          (c .before .before .before .before .before .before .put-actions .ensures .0) (c .before .before .put-score .ensures .0),
+      omega arith,
+    )))

@@ -13,4 +13,5 @@ put-score-spec =
     (λ c. let e = no-score (c .before .before .args .a) (c .match .keys2) in (rw e (stored-none _ _), omega arith))
     (λ c κs. search needs)
     (λ c. search needs)
-    (λ c. score-stored (c .before .before .before .before .before .before .before .before .args .a) _ _ _ _ _ (c .before .before .before .before .before .a .given .1) (c .before .before .put-why .ensures)))
+    (λ c. score-stored (c .before .before .before .before .before .before .before .before .args .a) _ _ _ _ _
+    (c .before .before .before .before .before .a .given .1) (c .before .before .put-why .ensures)))

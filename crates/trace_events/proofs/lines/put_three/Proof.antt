@@ -14,4 +14,6 @@ put-three-spec =
     (λ c. search needs)
     (λ c.
     let s = c .before .before .before .before .before .before .before .before .before .before .before .before .before in
-    three-stored (s .args .a) (s .args .b) (s .args .c) (s .args .after) _ _ _ _ _ _ _ _ (s .fits .a) (s .fits .b) (s .fits .c) (c .before .before .before .before .before .before .before .before .before .before .put-part .ensures) (c .before .before .before .before .before .before .put-part2 .ensures) (c .before .before .put-part3 .ensures)))
+    three-stored (s .args .a) (s .args .b) (s .args .c) (s .args .after) _ _ _ _ _ _ _ _ (s .fits .a) (s .fits .b) (s .fits .c)
+    (c .before .before .before .before .before .before .before .before .before .before .put-part .ensures)
+    (c .before .before .before .before .before .before .put-part2 .ensures) (c .before .before .put-part3 .ensures)))

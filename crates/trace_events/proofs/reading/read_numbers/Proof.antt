@@ -1,5 +1,6 @@
--- `trace_events::reading::read_numbers` meets its contract. Assumes nothing.
-use Prim.Native.Nat.{ℕ, _+_, _≤_, _-_}
+-- `trace_events::reading::read_numbers` meets its contract: the loop's invariant is `After`: the first `i` numbers are read, `place` is
+-- past them, and the values from `i` on are 0. Assumes nothing.
+use Prim.Native.Nat.{ℕ, _≤_, _-_}
 use mathlib.Core.Path.{_≡_, refl}
 use native.Mathlib.Omega.{arith}
 use borrow.Author.Needs.{needs}
@@ -10,7 +11,8 @@ use Rattle.trace_events.proofs.reading.read_numbers.Statement.{statemen
 use Rattle.trace_events.proofs.reading.read_numbers.Tie as tie
 
 abbrev Inv-loop : tie.InvT-loop
-Inv-loop s at n values₀ place₀ i₀ values place i = (i ≤ n) × ((n ≤ 67) × ((length values ≡ 67) × (After n s at i values place × ((k : ℕ) → i ≤ k → getD values k 0 ≡ 0))))
+Inv-loop s at n values₀ place₀ i₀ values place i =
+    (i ≤ n) × ((n ≤ 67) × ((length values ≡ 67) × (After n s at i values place × ((k : ℕ) → i ≤ k → getD values k 0 ≡ 0))))
 
 abbrev μ-loop : tie.MeasureT-loop
 μ-loop s at n values₀ place₀ i₀ values place i = n - i
@@ -25,11 +27,28 @@ read-numbers-spec =
     (λ c κs. tt)
     (λ c. search needs)
     (λ c. search needs)
-    (λ c. let l = c .before .before .before .before .loop in (after-bad _ _ _ (l .i) (l .values) _ _ (c .before .before .before .loop-test .taken) (l .inv .1 .1 .1 .0) (c .before .before .read-u64 .ensures) (c .enum-told .given .1), λ k h. l .inv .1 .1 .1 .1 k (omega arith)))
+    (λ c. let l = c .before .before .before .before .loop in (
+      after-bad _ _ _ (l .i) (l .values) _ _ (c .before .before .before .loop-test .taken) (l .inv .1 .1 .1 .0)
+          (c .before .before .read-u64 .ensures) (c .enum-told .given .1),
+      λ k h. l .inv .1 .1 .1 .1 k (omega arith),
+    ))
     (λ c. omega arith)
     (λ c. search needs)
     (λ c. omega arith)
     (λ c. omega arith)
-    (λ c. let l = c .before .before .before .before .before .loop in
-    (omega arith, (omega arith, (simp length-set (l .inv .1 .1 .0), (after-more _ _ _ (l .i) (l .values) _ _ _ _ (c .before .before .before .before .loop-test .taken) (omega arith) (l .inv .1 .1 .1 .0) (c .before .before .before .read-u64 .ensures) (c .before .u .given .1), zeros-more (l .values) (l .i) _ (l .inv .1 .1 .1 .1))))))
-    (λ c. let l = c .before .loop in (after-all _ _ _ (l .i) (l .values) _ (omega arith) (l .inv .1 .1 .1 .0), λ k h. l .inv .1 .1 .1 .1 k (omega arith))))
+    (λ c. let l = c .before .before .before .before .before .loop in (
+      omega arith,
+      (
+        omega arith,
+        (
+          simp length-set (l .inv .1 .1 .0),
+          (
+            after-more _ _ _ (l .i) (l .values) _ _ _ _ (c .before .before .before .before .loop-test .taken) (omega arith)
+                (l .inv .1 .1 .1 .0) (c .before .before .before .read-u64 .ensures) (c .before .u .given .1),
+            zeros-more (l .values) (l .i) _ (l .inv .1 .1 .1 .1),
+          ),
+        ),
+      ),
+    ))
+    (λ c. let l = c .before .loop in
+    (after-all _ _ _ (l .i) (l .values) _ (omega arith) (l .inv .1 .1 .1 .0), λ k h. l .inv .1 .1 .1 .1 k (omega arith))))

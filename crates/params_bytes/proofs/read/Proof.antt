@@ -1,0 +1,15 @@
+-- `params_bytes::read` meets its contract. Assumes nothing.
+use Rattle.params_bytes.proofs.ReadLaws.{read-bad, read-left, read-good}
+use Rattle.params_bytes.proofs.read.Statement.{statement}
+use Rattle.params_bytes.proofs.read.Tie as tie
+
+pub read-spec : {M : Type 1} → statement M
+read-spec =
+    tie.close (tie.spec
+    (λ c κs. tt)
+    (λ c κs. tt)
+    (λ c. read-bad _ (c .before .before .before .parse .result) (c .before .before .before .parse .ensures) _ (c .before .if1 .taken) (c .refused .ensures))
+    (λ c κs. tt)
+    (λ c. read-left _ (c .before .before .before .before .parse .result) (c .before .before .before .before .parse .ensures) _ (c .before .before .if1 .left) (c .before .if2 .taken) (c .refused2 .ensures))
+    (λ c κs. tt)
+    (λ c. read-good _ (c .before .before .before .before .before .parse .result) (c .before .before .before .before .before .parse .ensures) _ (c .before .before .before .if1 .left) (c .before .before .if2 .left) (c .judged .ensures)))

@@ -1,0 +1,78 @@
+-- Reading the parameters from bytes (01, numbers 10 and 9, in that order): 147 numbers, each by its code in seven-bit groups.
+use Prim.Native.Nat.{ℕ, zero, suc}
+use mathlib.Core.Bool.{cond}
+use mathlib.Core.List.{List, [], _∷_, _++_}
+use lib.Dec.{ltb}
+use lib.ListN.{length, replicate}
+use lib.IntN.{ℤ, pos}
+use Rattle.index.specs.declared.Found.{Found}
+use Rattle.index.specs.declared.Found.the-variants.{At, Nothing}
+use Rattle.varint.specs.Groups.{readAt}
+use Rattle.varint.specs.Codes.{numberOf}
+use Rattle.varint.specs.declared.Read.{Read}
+use Rattle.varint.specs.declared.Read.the-variants.{Number, Bad}
+use Rattle.params.specs.Check.{firstBroken}
+use Rattle.records.specs.Records.{paramCount}
+use Rattle.params_bytes.specs.declared.Verdict.{Verdict}
+use Rattle.params_bytes.specs.declared.Verdict.the-variants.{Accepted, Malformed, Broken}
+use Rattle.params_bytes.specs.declared.Reading.{Reading}
+use Rattle.params_bytes.specs.declared.Parsed.{Parsed}
+
+-- the numbers and the place after them, or the place at which they cannot go on
+pub data Parse : Type 0 where
+  numbers : List ℤ → ℕ → Parse
+  malformed : ℕ → Parse
+
+abbrev pub then : List ℤ → Parse → Parse
+then xs (numbers ys next) = numbers (xs ++ ys) next
+then xs (malformed p) = malformed p
+
+-- "place of the first bad number's first byte"; "the length if bytes end between numbers" is such a place too
+abbrev pub step : (ℕ → Parse) → ℕ → Read → Parse
+step rest at Bad = malformed at
+step rest at (Number u next) = then (numberOf u ∷ []) (rest next)
+
+-- n numbers from a place on
+unfoldable pub parseFrom : ℕ → List ℕ → ℕ → Parse
+parseFrom zero s at = numbers [] at
+parseFrom (suc n) s at = step (λ next. parseFrom n s next) at (readAt 18446744073709551615 s at)
+
+-- the numbers of a reading that is not yet checked
+abbrev pub outcome : Parsed → Parse
+outcome p = cond (p .ok) (numbers (p .numbers) (p .place)) (malformed (p .place))
+
+-- "bytes left over": "place of the first byte left over"
+abbrev pub ending : List ℕ → Parse → Parse
+ending s (numbers xs next) = cond (ltb next (length s)) (malformed next) (numbers xs next)
+ending s (malformed p) = malformed p
+
+-- a refusal holds paramCount zeros for the parameters
+abbrev pub refusal : Verdict → Reading
+refusal v = record { verdict = v; params = record { numbers = replicate paramCount (pos 0) } }
+
+abbrev pub judgedBy : Found → List ℤ → ℕ → Reading
+judgedBy (At i) xs next = refusal (Broken i)
+judgedBy Nothing xs next = record { verdict = Accepted next; params = record { numbers = xs } }
+
+abbrev pub judged : Parse → Reading
+judged (numbers xs next) = judgedBy (firstBroken xs) xs next
+judged (malformed p) = refusal (Malformed p)
+
+-- all the bytes are the parameters
+unfoldable pub readOf : List ℕ → Reading
+readOf s = judged (ending s (parseFrom paramCount s 0))
+
+-- the bytes begin with the parameters, and others may follow
+unfoldable pub frontOf : List ℕ → Reading
+frontOf s = judged (parseFrom paramCount s 0)
+
+-- 01's number of each verdict, and the value that goes with it
+abbrev pub verdictNumber : Verdict → ℕ
+verdictNumber (Accepted n) = 0
+verdictNumber (Malformed place) = 10
+verdictNumber (Broken i) = 9
+
+abbrev pub verdictValue : Verdict → ℕ
+verdictValue (Accepted n) = n
+verdictValue (Malformed place) = place
+verdictValue (Broken i) = i

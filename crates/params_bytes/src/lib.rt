@@ -1,0 +1,165 @@
+// The parameters in bytes (01, "The sheet"): 147 numbers, each by its code in seven-bit groups, read and written. Reading and writing undo each
+// other (specs/RoundTrip.antt).
+use index::Found;
+use limits::NUMBERS;
+use params::Params;
+use varint::Put;
+use varint::Read;
+ghost use mathlib.Core.Path.{_≡_};
+ghost use Prim.Native.Nat.{ℕ, _≤_, _<_};
+ghost use lib.ListN.{length};
+ghost use lib.Seq.{sets};
+ghost use Rattle.varint.specs.Codes.{codeOf};
+ghost use Rattle.records.specs.Records.{paramCount};
+ghost use Rattle.limits.specs.Limits.{at};
+ghost use Rattle.params.specs.Check.{firstBroken};
+ghost use Rattle.params_bytes.specs.Read.{parseFrom, outcome, refusal, judgedBy, readOf, frontOf};
+ghost use Rattle.params_bytes.specs.Write.{roomNeeded, bytesOf, writeOf};
+
+// How many bytes written parameters may take.
+const ROOM: usize = 735;
+
+// What reading came to: all read, and the place after them; malformed at a place; or the first number or rule that is broken.
+pub enum Verdict {
+    Accepted(usize),
+    Malformed(usize),
+    Broken(usize),
+}
+
+// A verdict with the parameters, which are zeros where they were refused.
+pub struct Reading {
+    pub verdict: Verdict,
+    pub params: Params,
+}
+
+// What writing came to: the length; a buffer too short for any parameters; or the first number or rule that is broken.
+pub enum Written {
+    Done(usize),
+    Short,
+    Outside(usize),
+}
+
+// Numbers as they were read, before they are checked: all of them and the place after them, or the place of the first that is malformed.
+struct Parsed {
+    ok: bool,
+    place: usize,
+    numbers: [i64; NUMBERS],
+}
+
+// Read 147 numbers from the start of the bytes.
+fn parse(s: &[u8]) -> Parsed
+    ensures { λ r. ⌜ outcome r ≡ parseFrom paramCount (now (s .entry)) 0 ⌝ }
+{
+    let mut numbers = [0i64; NUMBERS];
+    let mut at: usize = 0;
+    let mut i: usize = 0;
+    while i < NUMBERS {
+        let Read::Number(u, next) = varint::read_u64(s, at) else {
+            return Parsed {
+                ok: false,
+                place: at,
+                numbers,
+            };
+        };
+        let v = varint::number_of(u);
+        numbers[i] = v;
+        at = next;
+        i += 1;
+    }
+    Parsed {
+        ok: true,
+        place: at,
+        numbers,
+    }
+}
+
+// A refusal, with zeros for the parameters.
+pub fn refused(verdict: Verdict) -> Reading
+    ensures { λ r. ⌜ r ≡ refusal verdict ⌝ }
+{
+    let numbers = [0i64; NUMBERS];
+    Reading {
+        verdict,
+        params: Params { numbers },
+    }
+}
+
+// What is answered where the parameters are read and `next` is the place after them.
+pub fn judged(params: Params, next: usize) -> Reading
+    ensures { λ r. ⌜ r ≡ judgedBy (firstBroken (params .numbers)) (params .numbers) next ⌝ }
+{
+    match params.first_broken() {
+        Found::At(i) => refused(Verdict::Broken(i)),
+        Found::Nothing => Reading {
+            verdict: Verdict::Accepted(next),
+            params,
+        },
+    }
+}
+
+// Read the parameters at the start of the bytes, where others may follow them.
+pub fn read_front(s: &[u8]) -> Reading
+    ensures { λ r. ⌜ r ≡ frontOf (now (s .entry)) ⌝ }
+{
+    let p = parse(s);
+    let place = p.place;
+    if !p.ok {
+        return refused(Verdict::Malformed(place));
+    }
+    let numbers = p.numbers;
+    judged(Params { numbers }, place)
+}
+
+// Read the parameters, which the bytes are to hold and nothing else.
+pub fn read(s: &[u8]) -> Reading
+    ensures { λ r. ⌜ r ≡ readOf (now (s .entry)) ⌝ }
+{
+    let p = parse(s);
+    let place = p.place;
+    if !p.ok {
+        return refused(Verdict::Malformed(place));
+    }
+    if place < s.len() {
+        return refused(Verdict::Malformed(place));
+    }
+    let numbers = p.numbers;
+    judged(Params { numbers }, place)
+}
+
+// Write numbers from the start of a buffer in which they fit.
+fn put(numbers: &[i64; NUMBERS], buf: &mut [u8]) -> usize
+    requires { ⌜ (length (now numbers) ≡ paramCount)
+        × (roomNeeded ≤ length (now buf))
+        × ((i : ℕ) → i < paramCount → codeOf (at (now numbers) i) < 34359738368) ⌝ }
+    ensures { λ r. ⌜ (r ≡ length (bytesOf (now (numbers .entry))))
+        × (now (buf .exit) ≡ sets (now (buf .entry)) 0 (bytesOf (now (numbers .entry)))) ⌝ }
+{
+    let mut at: usize = 0;
+    let mut i: usize = 0;
+    while i < NUMBERS {
+        let u = varint::code_of(numbers[i]);
+        let Put::Next(next) = varint::write_u64(buf, at, u) else {
+            return at;
+        };
+        at = next;
+        i += 1;
+    }
+    at
+}
+
+// Write the parameters from the start of the buffer, or say why not and leave the buffer.
+pub fn write(params: Params, buf: &mut [u8]) -> Written
+    ensures { λ r. ⌜ (r ≡ writeOf (params .numbers) (now (buf .entry)) .answer)
+        × (now (buf .exit) ≡ writeOf (params .numbers) (now (buf .entry)) .bytes) ⌝ }
+{
+    if buf.len() < ROOM {
+        return Written::Short;
+    }
+    match params.first_broken() {
+        Found::At(i) => Written::Outside(i),
+        Found::Nothing => {
+            let numbers = params.numbers;
+            Written::Done(put(&numbers, buf))
+        }
+    }
+}
