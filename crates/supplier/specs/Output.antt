@@ -1,9 +1,10 @@
 -- What the program answers to its input: a mode and the bytes after it. The comparison with the second program goes by this form.
-use Prim.Native.Nat.{ℕ, _+_, _/_, _%_}
+use Prim.Native.Nat.{ℕ, _+_, _/_, _%_, _^_, _<_, _≤_}
 use mathlib.Core.Bool.{cond}
 use mathlib.Core.List.{List, [], _∷_, _++_}
 use lib.Dec.{ltb, eqb}
 use lib.IntN.{ℤ}
+use lib.ListN.{length}
 use Rattle.records.specs.Records.{paramCount}
 use Rattle.index.specs.Index.{gather}
 use Rattle.index.specs.declared.Found.{Found}
@@ -16,6 +17,7 @@ use Rattle.params_bytes.specs.Write as own
 use Rattle.params_bytes.specs.declared.Verdict.{Verdict}
 use Rattle.params_bytes.specs.declared.Verdict.the-variants.{Accepted, Malformed, Broken}
 use Rattle.params_bytes.specs.declared.Reading.{Reading}
+use Rattle.supplier_params.specs.Forms.{supplierBytes}
 use Rattle.supplier_params.specs.Import.{importOf, entryAt}
 use Rattle.supplier_params.specs.Export.{bytesOf}
 
@@ -86,3 +88,10 @@ outputOf mode s =
     (cond (eqb mode 73) (importBytes (importOf s))
     (cond (eqb mode 69) (exportBytes (readOf s))
     (headText 2 0))))
+
+-- ---- what the program lends: two pages, and the bytes of the input, of which the first 4,096 are there where `rest` more follow
+pub record Room (buf page bytes : List ℕ) (rest : ℕ) : Type 0 where
+  pub out : 4096 ≤ length buf
+  pub lent : supplierBytes ≤ length page
+  pub front : 0 < rest → 4096 ≤ length bytes
+  pub all : length bytes + rest < 2 ^ 64

@@ -15,12 +15,13 @@ ghost use Rattle.params.specs.Check.{firstBroken};
 ghost use Rattle.params_bytes.specs.Read.{readOf};
 ghost use Rattle.supplier_params.specs.Forms.{supplierBytes};
 ghost use Rattle.supplier_params.specs.Import.{importOf, entryAt};
-ghost use Rattle.supplier.specs.Output.{hexDigit, hexText, entryText, entriesText, doneText, importText, entriesOutput, exportText, importBytes, exportBytes, outputOf};
+ghost use Rattle.supplier.specs.Output.{hexDigit, hexText, entryText, entriesText, doneText, importText, entriesOutput, exportText, unless, importBytes, exportBytes, outputOf, Room};
+ghost use Rattle.params_bytes.specs.Write.{bytesOf};
+ghost use Rattle.supplier_params.specs.Export as theirs;
 use limits::NUMBERS;
 use params::Params;
 use params_bytes::Verdict;
 use params_bytes::Written;
-use supplier_params::BYTES;
 
 // A digit of base 16.
 fn digit(n: u8) -> u8
@@ -104,7 +105,7 @@ fn put_import(buf: &mut [u8], bytes: &[u8]) -> usize
     let reading = supplier_params::import(bytes);
     let verdict = reading.verdict;
     match verdict {
-        Verdict::Accepted(_) => {
+        Verdict::Accepted(n) => {
             let at = put_done(buf);
             let all = reading.params;
             let numbers = all.numbers;
@@ -121,9 +122,9 @@ fn put_exported(buf: &mut [u8], page: &mut [u8], all: Params) -> usize
     ensures { λ r. ⌜ Stored (now (buf .entry)) 0 (entriesOutput (firstBroken (all .numbers)) (all .numbers)) r (now (buf .exit)) × (r ≤ 4096) ⌝ }
 {
     match supplier_params::export(all, page) {
-        Written::Done(_) => {
+        Written::Done(n) => {
             let at = put_done(buf);
-            put_entries(buf, at, &page[..BYTES])
+            put_entries(buf, at, &page[..n])
         }
         Written::Outside(i) => param_text::put_head(buf, 9, i),
         Written::Short => 0,
@@ -139,13 +140,37 @@ fn put_export(buf: &mut [u8], page: &mut [u8], bytes: &[u8]) -> usize
     let all = reading.params;
     let verdict = reading.verdict;
     match verdict {
-        Verdict::Accepted(_) => put_exported(buf, page, all),
+        Verdict::Accepted(n) => put_exported(buf, page, all),
         Verdict::Malformed(place) => param_text::put_head(buf, 10, place),
         Verdict::Broken(i) => param_text::put_head(buf, 9, i),
     }
 }
 
-// The parameters that the supplier's `bytes` stand for, as our own bytes.
+// Parameters as our own bytes, nothing where they are broken.
+fn write_own(buf: &mut [u8], all: Params) -> usize
+    requires { ⌜ 4096 ≤ length (now buf) ⌝ }
+    ensures { λ r. ⌜ Stored (now (buf .entry)) 0 (unless (firstBroken (all .numbers)) (bytesOf (all .numbers))) r (now (buf .exit)) × (r ≤ 4096) ⌝ }
+{
+    match params_bytes::write(all, buf) {
+        Written::Done(n) => n,
+        Written::Short => 0,
+        Written::Outside(i) => 0,
+    }
+}
+
+// Parameters as the supplier's bytes, nothing where they are broken.
+fn write_theirs(buf: &mut [u8], all: Params) -> usize
+    requires { ⌜ 4096 ≤ length (now buf) ⌝ }
+    ensures { λ r. ⌜ Stored (now (buf .entry)) 0 (unless (firstBroken (all .numbers)) (theirs.bytesOf (all .numbers))) r (now (buf .exit)) × (r ≤ 4096) ⌝ }
+{
+    match supplier_params::export(all, buf) {
+        Written::Done(n) => n,
+        Written::Short => 0,
+        Written::Outside(i) => 0,
+    }
+}
+
+// What the supplier's `bytes` are as our own.
 fn write_import(buf: &mut [u8], bytes: &[u8]) -> usize
     requires { ⌜ 4096 ≤ length (now buf) ⌝ }
     ensures { λ r. ⌜ Stored (now (buf .entry)) 0 (importBytes (importOf (now (bytes .entry)))) r (now (buf .exit)) × (r ≤ 4096) ⌝ }
@@ -153,17 +178,14 @@ fn write_import(buf: &mut [u8], bytes: &[u8]) -> usize
     let reading = supplier_params::import(bytes);
     let all = reading.params;
     let verdict = reading.verdict;
-    let Verdict::Accepted(_) = verdict else {
-        return 0;
-    };
-    match all.write(buf) {
-        Written::Done(n) => n,
-        Written::Outside(_) => 0,
-        Written::Short => 0,
+    match verdict {
+        Verdict::Accepted(n) => write_own(buf, all),
+        Verdict::Malformed(place) => 0,
+        Verdict::Broken(i) => 0,
     }
 }
 
-// The parameters in our own `bytes`, as the supplier's.
+// What our own `bytes` are as the supplier's.
 fn write_export(buf: &mut [u8], bytes: &[u8]) -> usize
     requires { ⌜ 4096 ≤ length (now buf) ⌝ }
     ensures { λ r. ⌜ Stored (now (buf .entry)) 0 (exportBytes (readOf (now (bytes .entry)))) r (now (buf .exit)) × (r ≤ 4096) ⌝ }
@@ -171,13 +193,10 @@ fn write_export(buf: &mut [u8], bytes: &[u8]) -> usize
     let reading = params_bytes::read(bytes);
     let all = reading.params;
     let verdict = reading.verdict;
-    let Verdict::Accepted(_) = verdict else {
-        return 0;
-    };
-    match supplier_params::export(all, buf) {
-        Written::Done(n) => n,
-        Written::Outside(_) => 0,
-        Written::Short => 0,
+    match verdict {
+        Verdict::Accepted(n) => write_theirs(buf, all),
+        Verdict::Malformed(place) => 0,
+        Verdict::Broken(i) => 0,
     }
 }
 
@@ -195,17 +214,60 @@ fn answer(buf: &mut [u8], page: &mut [u8], mode: u8, bytes: &[u8]) -> usize
     }
 }
 
-fn main() {
-    let mut input = io::large_buffer();
-    let n = io::read_full(0, &mut input);
-    let mut out = io::buffer();
-    let mut page = io::buffer();
+// The same where `rest` further bytes follow those that are given: only how many they are can matter, to the length that an import names.
+fn answer_all(buf: &mut [u8], page: &mut [u8], mode: u8, bytes: &[u8], rest: usize) -> usize
+    requires { ⌜ Room (now buf) (now page) (now bytes) rest ⌝ }
+    ensures { λ r. ⌜ ((more : List ℕ) → length more ≡ rest → Stored (now (buf .entry)) 0 (outputOf mode (now (bytes .entry) ++ more)) r (now (buf .exit))) × (r ≤ 4096) ⌝ }
+{
+    if (mode == b'i') & (0 < rest) {
+        return param_text::put_head(buf, 10, bytes.len() + rest);
+    }
+    answer(buf, page, mode, bytes)
+}
+
+// Counts what is left of standard input. A proved loop has to end, and nothing says that the input does: the turns count down from a number
+// that no run uses up.
+fn count_rest(page: &mut [u8]) -> usize
+    ensures { λ r. ⌜ r ≤ 18014398509481984 ⌝ }
+{
+    let mut turns: usize = 4398046511104;
+    let mut total: usize = 0;
+    while 0 < turns {
+        let n = io::read_full(0, page);
+        if n == 0 {
+            break;
+        }
+        if 4096 < n {
+            break;
+        }
+        total += n;
+        turns -= 1;
+    }
+    total
+}
+
+// What the front of the input comes to, and what may follow it.
+fn reply(buf: &mut [u8], page: &mut [u8], input: &[u8]) -> usize
+    requires { ⌜ (4096 ≤ length (now buf)) × (supplierBytes ≤ length (now page)) × (length (now input) ≤ 65536) ⌝ }
+    ensures { λ r. ⌜ r ≤ 4096 ⌝ }
+{
+    let n = input.len();
     if n == 0 {
-        let end = param_text::put_head(&mut out, 2, 0);
-        io::write_all(1, &out[..end]);
-        return;
+        return param_text::put_head(buf, 2, 0);
     }
     let mode = input[0];
-    let end = answer(&mut out, &mut page, mode, &input[1..n]);
+    if n < 65536 {
+        return answer_all(buf, page, mode, &input[1..], 0);
+    }
+    let rest = count_rest(page);
+    answer_all(buf, page, mode, &input[1..], rest)
+}
+
+fn main() {
+    let mut input = io::large_buffer();
+    let mut out = io::buffer();
+    let mut page = io::buffer();
+    let n = io::read_full(0, &mut input);
+    let end = reply(&mut out, &mut page, &input[..n]);
     io::write_all(1, &out[..end]);
 }

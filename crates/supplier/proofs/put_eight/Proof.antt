@@ -24,7 +24,7 @@ put-eight-spec =
     (tie.spec
     Inv-loop
     μ-loop
-    (λ c. (omega arith, refl, omega arith, eight-none _ _ _ _))
+    (λ c. let a = c .before .before .args in (omega arith, refl, omega arith, eight-none (a .s .now) (a .from) _ _))
     (λ c. omega arith)
     (λ c. omega arith)
     (λ c κs. omega arith)

@@ -14,4 +14,5 @@ import-spec =
     (λ c κs. search needs)
     (λ c. import-broken _ _ (c .before .before .before .entries .result) (c .before .before .before .before .if1 .left) (c .before .before .before .entries .ensures) (c .before .if2 .taken) (c .refused2 .ensures))
     (λ c κs. search needs)
-    (λ c. import-judged _ _ (c .before .before .before .entries .result) (c .before .before .before .before .if1 .left) (c .before .before .before .entries .ensures) (c .before .if2 .left) (c .judged .ensures)))
+    (λ c.
+    import-judged _ _ (c .before .before .before .before .entries .result) (c .before .before .before .before .before .if1 .left) (c .before .before .before .before .entries .ensures) (c .before .before .if2 .left) (c .judged .ensures)))
