@@ -1,5 +1,5 @@
-// The parameters as text in a lent buffer, from a place on: an answer's number with its value, and the 147 numbers, one to a line. Each function
-// answers the place after what it stored; the caller shows that there is room. The text is fixed in specs/Lines.antt.
+// The parameters as text in a lent buffer, from a place on: an answer's number with its value, and the 147 numbers, one to a line. Each
+// function answers the place after what it stored; the caller shows that there is room. The text is fixed in specs/Lines.antt.
 use limits::NUMBERS;
 ghost use Prim.Native.Nat.{_+_, _≤_};
 ghost use lib.ListN.{length};

@@ -26,8 +26,8 @@ fn show(buf: &mut [u8], bytes: &[u8]) -> usize
     }
 }
 
-// The 4,096 bytes that are read are enough of any input (`enough` of param_text/proofs/Enough.antt): 147 numbers of at most ten bytes do not pass
-// 1,470, so whatever stands beyond is left over, and the place that is printed is that of the first byte left over.
+// The 4,096 bytes that are read are enough of any input (`enough` of param_text/proofs/Enough.antt): 147 numbers of at most ten bytes do
+// not pass 1,470, so whatever stands beyond is left over, and the place that is printed is that of the first byte left over.
 fn main() {
     let mut bytes = io::buffer();
     let n = io::read_full(0, &mut bytes);

@@ -5,7 +5,7 @@ use mathlib.Core.Path.{_≡_, refl, sym, ap, _∙_}
 use mathlib.Core.List.{List, [], _∷_, _++_, append-nil}
 use native.Mathlib.Omega.{arith}
 use native.Mathlib.Nat.{zero-add}
-use mathlib.Core.Bool.{Bool, true, false, _&&_}
+use mathlib.Core.Bool.{true, false, _&&_}
 use borrow.Author.Tests.{eq-eqb, ne-eqb, eqb-true, lt-ltb, le-ltb, ltb-true}
 use lib.Dec.{eqb, ltb}
 use lib.IntN.{ℤ}
@@ -18,13 +18,13 @@ use Rattle.index.proofs.Flags.{by-order}
 use Rattle.records.specs.Records.{paramCount}
 use Rattle.text.specs.Text.{Stored}
 use Rattle.text.proofs.TextLaws.{stored-then}
-use Rattle.param_text.specs.Lines.{headText, numbersText}
+use Rattle.param_text.specs.Lines.{headText}
 use Rattle.param_text.proofs.Enough.{enough}
 use Rattle.params.specs.Check.{firstBroken}
 use Rattle.params_bytes.specs.Read.{readOf, refusal}
 use Rattle.params_bytes.specs.Write as own
 use Rattle.params_bytes.specs.declared.Verdict.{Verdict}
-use Rattle.params_bytes.specs.declared.Verdict.the-variants.{Accepted, Malformed, Broken}
+use Rattle.params_bytes.specs.declared.Verdict.the-variants.{Malformed}
 use Rattle.params_bytes.specs.declared.Reading.{Reading}
 use Rattle.params_bytes.specs.declared.Written.{Written}
 use Rattle.params_bytes.specs.declared.Written.the-variants.{Done, Short, Outside}
@@ -33,7 +33,8 @@ use Rattle.supplier_params.specs.Forms.{supplierBytes}
 use Rattle.supplier_params.specs.Import.{importOf}
 use Rattle.supplier_params.specs.Export.{bytesOf, exportBy, exportOf}
 use Rattle.supplier_params.proofs.ExportLaws.{length-entries}
-use Rattle.supplier.specs.Output.{doneText, numbersOutput, importText, entriesText, entriesOutput, exportOutput, exportText, unless, allowed, importBytes, exportBytes, outputOf, Room}
+use Rattle.supplier.specs.Output.{doneText, numbersOutput, importText, entriesText, entriesOutput, exportOutput, exportText, unless}
+use Rattle.supplier.specs.Output.{allowed, importBytes, exportBytes, outputOf, Room}
 
 -- ---- a reading, by its verdict
 module _ (q r : Reading) (v : Verdict) (is : q ≡ r) (told : q .verdict ≡ v) where
@@ -49,11 +50,13 @@ module _ (q r : Reading) (v : Verdict) (is : q ≡ r) (told : q .verdict ≡ v) 
     unfolding exportText
     export-as s = rw (sym (by-verdict exportOutput)) s
 
-    pub import-bytes-as : Stored b₀ 0 (allowed v (q .params .numbers) (own.bytesOf (q .params .numbers))) p b₁ → Stored b₀ 0 (importBytes r) p b₁
+    pub import-bytes-as : Stored b₀ 0 (allowed v (q .params .numbers) (own.bytesOf (q .params .numbers))) p b₁ →
+        Stored b₀ 0 (importBytes r) p b₁
     unfolding importBytes
     import-bytes-as s = rw (sym (by-verdict (λ w xs. allowed w xs (own.bytesOf xs)))) s
 
-    pub export-bytes-as : Stored b₀ 0 (allowed v (q .params .numbers) (bytesOf (q .params .numbers))) p b₁ → Stored b₀ 0 (exportBytes r) p b₁
+    pub export-bytes-as : Stored b₀ 0 (allowed v (q .params .numbers) (bytesOf (q .params .numbers))) p b₁ →
+        Stored b₀ 0 (exportBytes r) p b₁
     unfolding exportBytes
     export-bytes-as s = rw (sym (by-verdict (λ w xs. allowed w xs (bytesOf xs)))) s
 
@@ -112,11 +115,13 @@ module _ (f : Found) (n : ℕ) (r : Written) (e : r ≡ answerBy f n) where
 
 -- ---- our own writer, and the supplier's
 module _ (xs : List ℤ) (buf : List ℕ) where
-  own-by : own.roomNeeded ≤ length buf → (own.writeOf xs buf .answer ≡ answerBy (firstBroken xs) (length (own.bytesOf xs))) × (own.writeOf xs buf .bytes ≡ bytesBy (firstBroken xs) (own.bytesOf xs) buf)
+  own-by : own.roomNeeded ≤ length buf → (own.writeOf xs buf .answer ≡ answerBy (firstBroken xs) (length (own.bytesOf xs)))
+      × (own.writeOf xs buf .bytes ≡ bytesBy (firstBroken xs) (own.bytesOf xs) buf)
   unfolding own.writeOf
   own-by h = rw (le-ltb (length buf) own.roomNeeded h) (go (firstBroken xs))
     where
-      go : (f : Found) → (own.writeBy f xs buf .answer ≡ answerBy f (length (own.bytesOf xs))) × (own.writeBy f xs buf .bytes ≡ bytesBy f (own.bytesOf xs) buf)
+      go : (f : Found) → (own.writeBy f xs buf .answer ≡ answerBy f (length (own.bytesOf xs)))
+          × (own.writeBy f xs buf .bytes ≡ bytesBy f (own.bytesOf xs) buf)
       go (At i) = (refl, refl)
       go Nothing = (refl, refl)
 
@@ -124,7 +129,8 @@ module _ (xs : List ℤ) (buf : List ℕ) where
   unfolding bytesOf
   length-theirs = length-entries xs paramCount
 
-  pub theirs-by : supplierBytes ≤ length buf → (exportOf xs buf .answer ≡ answerBy (firstBroken xs) (length (bytesOf xs))) × (exportOf xs buf .bytes ≡ bytesBy (firstBroken xs) (bytesOf xs) buf)
+  pub theirs-by : supplierBytes ≤ length buf → (exportOf xs buf .answer ≡ answerBy (firstBroken xs) (length (bytesOf xs)))
+      × (exportOf xs buf .bytes ≡ bytesBy (firstBroken xs) (bytesOf xs) buf)
   unfolding exportOf
   theirs-by h = rw (le-ltb (length buf) supplierBytes h, length-theirs) (go (firstBroken xs))
     where
@@ -138,17 +144,19 @@ module _ (xs : List ℤ) (buf : List ℕ) where
         (r ≡ own.writeOf xs buf .answer) × (out ≡ own.writeOf xs buf .bytes) →
         Stored buf 0 (unless (firstBroken xs) (own.bytesOf xs)) (lengthOf v) out × (lengthOf v ≤ 4096)
     own-stored l w =
-        let b = own-by (omega arith) in
-        (written-stored (firstBroken xs) (own.bytesOf xs) buf out r v (w .0 ∙ b .0) (w .1 ∙ b .1) t,
-        written-length (firstBroken xs) (length (own.bytesOf xs)) 4096 r v (λ e. omega (arith, bytes-most xs l e)) (w .0 ∙ b .0) t)
+        let b = own-by (omega arith) in (
+          written-stored (firstBroken xs) (own.bytesOf xs) buf out r v (w .0 ∙ b .0) (w .1 ∙ b .1) t,
+          written-length (firstBroken xs) (length (own.bytesOf xs)) 4096 r v (λ e. omega (arith, bytes-most xs l e)) (w .0 ∙ b .0) t,
+        )
 
     pub theirs-stored :
         (r ≡ exportOf xs buf .answer) × (out ≡ exportOf xs buf .bytes) →
         Stored buf 0 (unless (firstBroken xs) (bytesOf xs)) (lengthOf v) out × (lengthOf v ≤ 4096)
     theirs-stored w =
-        let b = theirs-by (omega arith) in
-        (written-stored (firstBroken xs) (bytesOf xs) buf out r v (w .0 ∙ b .0) (w .1 ∙ b .1) t,
-        written-length (firstBroken xs) (length (bytesOf xs)) 4096 r v (λ e. omega (arith, length-theirs)) (w .0 ∙ b .0) t)
+        let b = theirs-by (omega arith) in (
+          written-stored (firstBroken xs) (bytesOf xs) buf out r v (w .0 ∙ b .0) (w .1 ∙ b .1) t,
+          written-length (firstBroken xs) (length (bytesOf xs)) 4096 r v (λ e. omega (arith, length-theirs)) (w .0 ∙ b .0) t,
+        )
 
 -- ---- the ends of `put_exported`: what was exported to the page
 module _
@@ -178,7 +186,8 @@ module _
           rw (is-done (firstBroken xs) (length (bytesOf xs)) r (by .0) n t .0)
           (stored-then b₀ 0 p₁ doneText b₁ p₂ (entriesText (bytesOf xs)) b₂ s (rw done-page at u))
 
-    pub exported-outside : (i : ℕ) (b₀ b₁ : List ℕ) (p : ℕ) → r ≡ Outside i → Stored b₀ 0 (headText 9 i) p b₁ → Stored b₀ 0 (entriesOutput (firstBroken xs) xs) p b₁
+    pub exported-outside : (i : ℕ) (b₀ b₁ : List ℕ) (p : ℕ) → r ≡ Outside i → Stored b₀ 0 (headText 9 i) p b₁ →
+        Stored b₀ 0 (entriesOutput (firstBroken xs) xs) p b₁
     exported-outside i b₀ b₁ p t s = rw (is-outside (firstBroken xs) (length (bytesOf xs)) r (by .0) i t) s
 
     pub exported-short : {A : Type 0} → r ≡ Short → A
@@ -236,12 +245,14 @@ short-same mode s more e = ap (outputOf mode) (ap (λ (m : List ℕ). s ++ m) (n
 
 -- ---- the ends of `answer_all`
 module _ (mode : ℕ) (s more : List ℕ) (rest : ℕ) where
-  pub all-long : (eqb mode 105 && ltb 0 rest) ≡ true → (0 < rest → 4096 ≤ length s) → length more ≡ rest → headText 10 (length s + rest) ≡ outputOf mode (s ++ more)
+  pub all-long : (eqb mode 105 && ltb 0 rest) ≡ true → (0 < rest → 4096 ≤ length s) → length more ≡ rest → headText 10 (length s + rest)
+      ≡ outputOf mode (s ++ more)
   all-long t h l =
       let b = both (eqb mode 105) (ltb 0 rest) t in
       rw (eqb-true mode 105 (b .0), ← l) (long-length s more (h (ltb-true 0 rest (b .1))))
 
-  pub all-same : (eqb mode 105 && ltb 0 rest) ≡ false → (0 < rest → 4096 ≤ length s) → length more ≡ rest → outputOf mode (s ++ more) ≡ outputOf mode s
+  pub all-same : (eqb mode 105 && ltb 0 rest) ≡ false → (0 < rest → 4096 ≤ length s) → length more ≡ rest → outputOf mode (s ++ more)
+      ≡ outputOf mode s
   all-same t h l =
       by-order (outputOf mode (s ++ more) ≡ outputOf mode s) 0 rest
       (λ p. long-same mode s more (λ e. not-both (sym (rw (eq-eqb mode 105 e, lt-ltb 0 rest p) at t))) (h p))

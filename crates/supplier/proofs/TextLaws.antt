@@ -1,7 +1,7 @@
 -- Laws of entries in text: how long they are, and how their parts are stored one after the other.
 -- Assumes nothing.
-use Prim.Native.Nat.{ℕ, zero, suc, _+_, _*_, _/_, _%_, _<_, _≤_}
-use mathlib.Core.Path.{_≡_, refl, sym, ap, _∙_}
+use Prim.Native.Nat.{ℕ, _+_, _*_, _/_, _%_, _<_, _≤_}
+use mathlib.Core.Path.{_≡_, refl, ap}
 use mathlib.Core.List.{List, [], _∷_, _++_}
 use native.Mathlib.Omega.{arith}
 use native.Mathlib.Numerals.{add-one}
@@ -51,8 +51,12 @@ pub eight-more :
     Stored b₁ p₁ (hexText (getD s (from + k) 0 ∷ [])) p₂ b₂ →
     Stored b₀ at (hexText (take (k + 1) (drop from s))) p₂ b₂
 eight-more s from k at b₀ b₁ b₂ p₁ p₂ h l a b =
-    rw
-    (add-one k, take-suc (drop from s) k 0 (omega (arith, length-drop from s)), getD-drop from s k 0, hex-append (take k (drop from s)) (getD s (from + k) 0 ∷ []))
+    rw (
+      add-one k,
+      take-suc (drop from s) k 0 (omega (arith, length-drop from s)),
+      getD-drop from s k 0,
+      hex-append (take k (drop from s)) (getD s (from + k) 0 ∷ []),
+    )
     (stored-then b₀ at p₁ (hexText (take k (drop from s))) b₁ p₂ (hexText (getD s (from + k) 0 ∷ [])) b₂ a b)
 
 pub eight-all :

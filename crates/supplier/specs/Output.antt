@@ -34,7 +34,8 @@ numbersOutput (Broken i) xs = headText 9 i
 unfoldable pub importText : Reading → List ℕ
 importText r = numbersOutput (r .verdict) (r .params .numbers)
 
--- ---- `e`: the same, or `0` and the entries; each has its kind, a space (32), its eight bytes as they stand in the file, and an end of line (10)
+-- ---- `e`: the same, or `0` and the entries; each has its kind, a space (32), its eight bytes as they stand in the file, and an end of
+-- line (10)
 abbrev pub hexDigit : ℕ → ℕ
 hexDigit d = cond (ltb d 10) (48 + d) (87 + d)
 

@@ -1,5 +1,5 @@
-// Converts parameters between our own form in bytes and the other supplier's. The first byte of standard input is the mode, the others are what
-// is converted; the answer goes to standard output, and is fixed in specs/Output.antt:
+// Converts parameters between our own form in bytes and the other supplier's. The first byte of standard input is the mode, the others are
+// what is converted; the answer goes to standard output, and is fixed in specs/Output.antt:
 //   i  the supplier's bytes in numbers: `10 PLACE`, `9 INDEX`, or `0` and the 147 numbers, one to a line
 //   e  our own bytes in the supplier's entries: `10 PLACE`, `9 INDEX`, or `0` and 147 lines of a kind and eight bytes in hexadecimal
 //   I  the supplier's bytes as our own, nothing where they are refused
@@ -15,7 +15,8 @@ ghost use Rattle.params.specs.Check.{firstBroken};
 ghost use Rattle.params_bytes.specs.Read.{readOf};
 ghost use Rattle.supplier_params.specs.Forms.{supplierBytes};
 ghost use Rattle.supplier_params.specs.Import.{importOf, entryAt};
-ghost use Rattle.supplier.specs.Output.{hexDigit, hexText, entryText, entriesText, doneText, importText, entriesOutput, exportText, unless, importBytes, exportBytes, outputOf, Room};
+ghost use Rattle.supplier.specs.Output.{hexDigit, hexText, entryText, entriesText, doneText, importText, entriesOutput, exportText};
+ghost use Rattle.supplier.specs.Output.{unless, importBytes, exportBytes, outputOf, Room};
 ghost use Rattle.params_bytes.specs.Write.{bytesOf};
 ghost use Rattle.supplier_params.specs.Export as theirs;
 use limits::NUMBERS;
@@ -119,7 +120,8 @@ fn put_import(buf: &mut [u8], bytes: &[u8]) -> usize
 // What exporting parameters comes to, in entries; `page` is written over.
 fn put_exported(buf: &mut [u8], page: &mut [u8], all: Params) -> usize
     requires { ⌜ (4096 ≤ length (now buf)) × (supplierBytes ≤ length (now page)) ⌝ }
-    ensures { λ r. ⌜ Stored (now (buf .entry)) 0 (entriesOutput (firstBroken (all .numbers)) (all .numbers)) r (now (buf .exit)) × (r ≤ 4096) ⌝ }
+    ensures { λ r. ⌜ Stored (now (buf .entry)) 0 (entriesOutput (firstBroken (all .numbers)) (all .numbers)) r (now (buf .exit))
+        × (r ≤ 4096) ⌝ }
 {
     match supplier_params::export(all, page) {
         Written::Done(n) => {
@@ -149,7 +151,8 @@ fn put_export(buf: &mut [u8], page: &mut [u8], bytes: &[u8]) -> usize
 // Parameters as our own bytes, nothing where they are broken.
 fn write_own(buf: &mut [u8], all: Params) -> usize
     requires { ⌜ 4096 ≤ length (now buf) ⌝ }
-    ensures { λ r. ⌜ Stored (now (buf .entry)) 0 (unless (firstBroken (all .numbers)) (bytesOf (all .numbers))) r (now (buf .exit)) × (r ≤ 4096) ⌝ }
+    ensures { λ r. ⌜ Stored (now (buf .entry)) 0 (unless (firstBroken (all .numbers)) (bytesOf (all .numbers))) r (now (buf .exit))
+        × (r ≤ 4096) ⌝ }
 {
     match params_bytes::write(all, buf) {
         Written::Done(n) => n,
@@ -161,7 +164,8 @@ fn write_own(buf: &mut [u8], all: Params) -> usize
 // Parameters as the supplier's bytes, nothing where they are broken.
 fn write_theirs(buf: &mut [u8], all: Params) -> usize
     requires { ⌜ 4096 ≤ length (now buf) ⌝ }
-    ensures { λ r. ⌜ Stored (now (buf .entry)) 0 (unless (firstBroken (all .numbers)) (theirs.bytesOf (all .numbers))) r (now (buf .exit)) × (r ≤ 4096) ⌝ }
+    ensures { λ r. ⌜ Stored (now (buf .entry)) 0 (unless (firstBroken (all .numbers)) (theirs.bytesOf (all .numbers))) r (now (buf .exit))
+        × (r ≤ 4096) ⌝ }
 {
     match supplier_params::export(all, buf) {
         Written::Done(n) => n,
@@ -217,7 +221,9 @@ fn answer(buf: &mut [u8], page: &mut [u8], mode: u8, bytes: &[u8]) -> usize
 // The same where `rest` further bytes follow those that are given: only how many they are can matter, to the length that an import names.
 fn answer_all(buf: &mut [u8], page: &mut [u8], mode: u8, bytes: &[u8], rest: usize) -> usize
     requires { ⌜ Room (now buf) (now page) (now bytes) rest ⌝ }
-    ensures { λ r. ⌜ ((more : List ℕ) → length more ≡ rest → Stored (now (buf .entry)) 0 (outputOf mode (now (bytes .entry) ++ more)) r (now (buf .exit))) × (r ≤ 4096) ⌝ }
+    ensures { λ r. ⌜
+        ((more : List ℕ) → length more ≡ rest →
+        Stored (now (buf .entry)) 0 (outputOf mode (now (bytes .entry) ++ more)) r (now (buf .exit))) × (r ≤ 4096) ⌝ }
 {
     if (mode == b'i') & (0 < rest) {
         return param_text::put_head(buf, 10, bytes.len() + rest);

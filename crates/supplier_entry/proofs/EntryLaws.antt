@@ -1,14 +1,13 @@
 -- Laws of entries: the ends of the functions that read, convert and write one.
 -- Assumes nothing.
-use Prim.Native.Nat.{ℕ, zero, suc, _+_, _-_, _*_, _/_, _%_, _^_, _<_, _≤_}
-use mathlib.Core.Path.{_≡_, refl, sym, ap, _∙_, subst}
-use mathlib.Core.Bool.{Bool, true, false, not, _&&_, cond}
+use Prim.Native.Nat.{ℕ, _-_, _*_, _/_, _%_, _^_, _<_, _≤_}
+use mathlib.Core.Path.{_≡_, refl, sym, _∙_, subst}
+use mathlib.Core.Bool.{Bool, true, false, not, cond}
 use native.Mathlib.Omega.{arith}
 use native.Mathlib.Nat.{div-add-mod', mul-le-mul, le-refl}
 use borrow.Author.Tests.{eq-eqb, ne-eqb, eqb-true, lt-ltb, le-ltb}
 use lib.Dec.{T, ltb, eqb}
 use lib.IntN.{ℤ, pos, negsuc, natAbs}
-use lib.Signed.{leZ}
 use lib.Ieee.{Float, binary64, nanBits, isNan, ofBits, toBits}
 use lib.Ieee.Bits.{nanBits-above, nanBits-is}
 use Rattle.index.specs.declared.Found.{Found}
@@ -24,7 +23,7 @@ use Rattle.supplier_entry.specs.declared.Number.{Number}
 use Rattle.supplier_entry.specs.declared.Number.the-variants.{Is, Broken}
 use Rattle.supplier_entry.specs.declared.Form.{Form}
 use Rattle.supplier_entry.specs.Factor.{factorBits, thousandthsOf}
-use Rattle.supplier_entry.specs.Entries.{twos, twosOf, entryOf, asNumber, wholeOf, unitsOf, convertOf, readNumber, importOf, contentOf}
+use Rattle.supplier_entry.specs.Entries.{twos, twosOf, entryOf, asNumber, wholeOf, unitsOf, convertOf, importOf, contentOf}
 use Rattle.supplier_entry.specs.Asked.{Among, Small, Sound, Fit}
 use Rattle.supplier_entry.proofs.FactorLaws.{thousandths-found}
 
@@ -130,7 +129,8 @@ module _ (e : Entry) (unit : ℕ) (l : Limit) where
   sound-span t p s = subst (λ (y : Entry). Sound y unit l) p s
 
   pub convert-factor :
-      (x : Float) (f : Found) (r : Number) → e ≡ Factor x → f ≡ thousandthsOf l (toBits binary64 x) → r ≡ asNumber f → r ≡ convertOf l unit e
+      (x : Float) (f : Found) (r : Number) → e ≡ Factor x → f ≡ thousandthsOf l (toBits binary64 x) → r ≡ asNumber f → r
+      ≡ convertOf l unit e
   unfolding convertOf
   convert-factor x f r p t v = rw (p, v, t)
 
@@ -178,7 +178,8 @@ read-sound kind u form l r e same fit d g = zeroth (eqb kind 0) refl (eqb kind 1
         eqb kind 0 ≡ a →
         (b c : Bool) →
         eqb kind 2 ≡ c →
-        cond a (cond (nanBits binary64 u) Bad (Good (Factor (ofBits binary64 u)))) (cond b (Good (Whole (twos u))) (cond c (Good (Span u)) Bad)) ≡ Good e →
+        cond a (cond (nanBits binary64 u) Bad (Good (Factor (ofBits binary64 u))))
+        (cond b (Good (Whole (twos u))) (cond c (Good (Span u)) Bad)) ≡ Good e →
         Sound e (form .unit) l
     zeroth true s b c t q = sound-if l (form .unit) u (nanBits binary64 u) e refl (fit .factors (sym same ∙ eqb-true kind 0 s)) q
     zeroth false s b c t q = second b c t q

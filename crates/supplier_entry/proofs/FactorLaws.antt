@@ -1,5 +1,5 @@
--- The factors of 0 to 1000: their bits rise, and none is a NaN. Both are tests that are computed, and nothing is said of rounding. So there is
--- never a second n, and a search by halves finds the first.
+-- The factors of 0 to 1000: their bits rise, and none is a NaN. Both are tests that are computed, and nothing is said of rounding. So there
+-- is never a second n, and a search by halves finds the first.
 -- Assumes nothing.
 use Prim.Native.Nat.{ℕ, zero, suc, _+_, _<_, _≤_}
 use mathlib.Core.Path.{_≡_, refl, sym, ap, _∙_}
@@ -15,7 +15,7 @@ use lib.Signed.{leZ}
 use Rattle.index.specs.Index.{every, first}
 use Rattle.index.specs.declared.Found.{Found}
 use Rattle.index.specs.declared.Found.the-variants.{At, Nothing}
-use Rattle.index.proofs.Index.{both, every-at, first-hit, first-is, first-more, first-same}
+use Rattle.index.proofs.Index.{both, every-at, first-hit, first-is, first-same}
 use Rattle.index.proofs.Flags.{by-test, by-order}
 use Rattle.limits.specs.declared.Limit.{Limit}
 use Rattle.limits.specs.Limits.{lies}
@@ -136,7 +136,8 @@ module _ (low high u : ℕ) where
           (λ g. not-from k (λ a w. other k g (omega arith) w))))
         where
           differs : factorBits from ≡ u → ⊥
-          differs w = let z : true ≡ false = sym (eq-eqb (factorBits from) u w) ∙ sym d ∙ t in let y : _≡_ {A = ℕ} 0 1 = cc in absurd (omega arith)
+          differs w = let z : true ≡ false = sym (eq-eqb (factorBits from) u w) ∙ sym d ∙ t in let y : _≡_ {A = ℕ} 0 1 =
+          cc in absurd (omega arith)
 
           other : (k : ℕ) → from ≤ k → k ≤ high → factorBits k ≡ u → ⊥
           other k g q w =
@@ -146,7 +147,8 @@ module _ (low high u : ℕ) where
               (eq-or-lt-of-le g)
 
 -- ---- limits that are natural numbers: the definition's test and the search's are one
-lie-from : (lo hi : ℤ) (n : ℕ) → pos (natAbs lo) ≡ lo → pos (natAbs hi) ≡ hi → n ≤ natAbs hi → leb (natAbs lo) n ≡ (leZ lo (pos n) && leZ (pos n) hi)
+lie-from : (lo hi : ℤ) (n : ℕ) → pos (natAbs lo) ≡ lo → pos (natAbs hi) ≡ hi → n ≤ natAbs hi → leb (natAbs lo) n
+    ≡ (leZ lo (pos n) && leZ (pos n) hi)
 lie-from (pos a) (pos b) n p q h = rw (le-leb n b h) (sym (and-true (leb a n)))
 lie-from (pos a) (negsuc b) n p q h = let z : _≡_ {A = ℕ} 0 1 = cc in absurd (omega arith)
 lie-from (negsuc a) hi n p q h = let z : _≡_ {A = ℕ} 0 1 = cc in absurd (omega arith)
@@ -166,7 +168,8 @@ thousandths-are l u a b r g p q e =
     (λ n h. ap (λ (t : Bool). t && eqb (factorBits n) u) (lie-from (l .low) (l .high) n (g .low) (g .high) (omega arith))))
 
 -- what is accepted is the factor of the answer, bit for bit, and lies within the limits
-pub thousandths-found : (l : Limit) (u n : ℕ) → thousandthsOf l u ≡ At n → (n ≤ natAbs (l .high)) × (lies (pos n) l ≡ true) × (factorBits n ≡ u)
+pub thousandths-found : (l : Limit) (u n : ℕ) → thousandthsOf l u ≡ At n → (n ≤ natAbs (l .high)) × (lies (pos n) l ≡ true)
+    × (factorBits n ≡ u)
 unfolding thousandthsOf isFactor
 thousandths-found l u n e =
     let f = first-is (isFactor l u) (suc (natAbs (l .high))) n e in

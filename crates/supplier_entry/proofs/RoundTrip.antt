@@ -1,15 +1,15 @@
--- What is written is imported again, what is imported is written again, and a factor is accepted exactly if some n's is it: by cases on the kind.
--- Assumes nothing.
+-- What is written is imported again, what is imported is written again, and a factor is accepted exactly if some n's is it: by cases on the
+-- kind. Assumes nothing.
 use Prim.Native.Nat.{ℕ, zero, suc, _+_, _-_, _*_, _/_, _%_, _^_, _<_, _≤_}
 use mathlib.Core.Path.{_≡_, refl, sym, ap, ap₂, _∙_}
-use mathlib.Core.Bool.{Bool, true, false, not, _&&_, cond}
+use mathlib.Core.Bool.{Bool, true, false, not}
 use native.Mathlib.Omega.{arith}
 use native.Mathlib.Nat.{div-add-mod', add-zero, mul-mod-left, mul-div-cancel, mul-le-mul, le-refl}
-use borrow.Author.Tests.{eq-eqb, ne-eqb, eqb-true, lt-ltb, le-ltb, ltb-true, ltb-false}
-use lib.Dec.{T, ltb, eqb, leb→le}
+use borrow.Author.Tests.{eq-eqb, eqb-true, lt-ltb, le-ltb}
+use lib.Dec.{T, eqb, leb→le}
 use lib.IntN.{ℤ, pos, negsuc, natAbs}
 use lib.Signed.{leZ}
-use lib.Ieee.{Float, binary64, nanBits, isNan, ofInt, ofBits, toBits, fits}
+use lib.Ieee.{binary64, nanBits, isNan, ofInt, ofBits, toBits, fits}
 use lib.Ieee.Bits.{nanBits-is, toBits-ofBits, ofBits-toBits, toBits-lt}
 use lib.Ieee.Fits.{div-fits}
 use Rattle.index.specs.declared.Found.{Found}
@@ -19,11 +19,11 @@ use Rattle.index.proofs.Flags.{by-test, by-order}
 use Rattle.limits.specs.declared.Limit.{Limit}
 use Rattle.limits.specs.Limits.{lies}
 use Rattle.limits.proofs.LimitLaws.{yes, size-most}
-use Rattle.supplier_entry.specs.declared.Number.{Number}
 use Rattle.supplier_entry.specs.declared.Number.the-variants.{Is, Broken}
 use Rattle.supplier_entry.specs.declared.Form.{Form}
 use Rattle.supplier_entry.specs.Factor.{thousand, factorOf, factorBits, thousandthsOf}
-use Rattle.supplier_entry.specs.Entries.{factorKind, wholeKind, spanKind, twos, twosOf, entryOf, asNumber, wholeOf, unitsOf, convertOf, readNumber, importOf, contentOf}
+use Rattle.supplier_entry.specs.Entries.{factorKind, wholeKind, spanKind, twos, twosOf, entryOf, asNumber, wholeOf, unitsOf}
+use Rattle.supplier_entry.specs.Entries.{convertOf, readNumber, importOf, contentOf}
 use Rattle.supplier_entry.specs.Asked.{Among, Field, Writable}
 use Rattle.supplier_entry.specs.RoundTrip.{AcceptedExactly, OnlyOne, ImportsBack, ExportsBack}
 use Rattle.supplier_entry.proofs.FactorLaws.{factor-no-nan, only-one, thousandths-found, thousandths-back}
@@ -159,13 +159,20 @@ module _ (form : Form) (l : Limit) (z : ℤ) (row : Field form l) (h : lies z l 
       let n = row .natural e in
       let p = plain (n .0) (n .1) in
       let u = row .fit .spans e in
-      rw (eq-eqb spanKind (form .kind) (sym e), mul-mod-left (natAbs z) (form .unit), mul-div-cancel (natAbs z) (let q : 0 < form .unit = omega arith in q), p .0, h)
+      rw (
+        eq-eqb spanKind (form .kind) (sym e),
+        mul-mod-left (natAbs z) (form .unit),
+        mul-div-cancel (natAbs z) (let q : 0 < form .unit = omega arith in q),
+        p .0,
+        h,
+      )
 
   -- by the kind, and what is written with it
   pub imports : importOf form l (form .kind) (contentOf form z) ≡ Is z
   imports = go (form .kind) refl
     where
-      with-kind : (k u : ℕ) → form .kind ≡ k → u ≡ contentOf form z → importOf form l k u ≡ Is z → importOf form l (form .kind) (contentOf form z) ≡ Is z
+      with-kind : (k u : ℕ) → form .kind ≡ k → u ≡ contentOf form z → importOf form l k u ≡ Is z →
+          importOf form l (form .kind) (contentOf form z) ≡ Is z
       with-kind k u e c d = ap₂ (importOf form l) e (sym c) ∙ d
 
       go : (k : ℕ) → form .kind ≡ k → importOf form l (form .kind) (contentOf form z) ≡ Is z
@@ -204,7 +211,8 @@ module _ (form : Form) (l : Limit) (u : ℕ) (z : ℤ) (room : u < 2 ^ 64) where
       (λ t.
       let e = again-whole (pos (u / form .unit)) (rw t at d) in
       let q = eqb-true (u % form .unit) 0 t in
-      rw (sym e) (sym (add-zero (u / form .unit * form .unit)) ∙ ap (λ (k : ℕ). u / form .unit * form .unit + k) (sym q) ∙ div-add-mod' u (form .unit)))
+      rw (sym e) (sym (add-zero (u / form .unit * form .unit)) ∙ ap (λ (k : ℕ). u / form .unit * form .unit + k) (sym q)
+      ∙ div-add-mod' u (form .unit)))
       (λ t. not-broken z (rw t at d))
 
   again-kind : (k : ℕ) → form .kind ≡ k → readNumber l (form .unit) (entryOf k u) ≡ Is z → contentOf form z ≡ u

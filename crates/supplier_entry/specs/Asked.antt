@@ -11,7 +11,7 @@ use Rattle.limits.specs.declared.Limit.{Limit}
 use Rattle.supplier_entry.specs.declared.Entry.{Entry}
 use Rattle.supplier_entry.specs.declared.Entry.the-variants.{Factor, Whole, Span}
 use Rattle.supplier_entry.specs.declared.Form.{Form}
-use Rattle.supplier_entry.specs.Entries.{factorKind, wholeKind, spanKind}
+use Rattle.supplier_entry.specs.Entries.{factorKind, spanKind}
 
 -- the limits are natural numbers, up to 1000
 pub record Among (l : Limit) : Type 0 where

@@ -1,5 +1,5 @@
--- An entry of the other supplier's parameters (02, order 12), and the number of ours that it stands for: "nine bytes each: a kind, then eight
--- bytes, low first". Here the eight bytes are one number u.
+-- An entry of the other supplier's parameters (02, order 12), and the number of ours that it stands for: "nine bytes each: a kind, then
+-- eight bytes, low first". Here the eight bytes are one number u.
 use Prim.Native.Nat.{ℕ, _-_, _*_, _/_, _%_, _^_}
 use mathlib.Core.Bool.{cond}
 use lib.Dec.{ltb, eqb}
@@ -36,8 +36,8 @@ unfoldable pub twosOf : ℤ → ℕ
 twosOf (pos n) = n
 twosOf (negsuc n) = 2 ^ 64 - 1 - n
 
--- "Kind 0 is a factor as a 64-bit float [..], 2 a span in nanoseconds, unsigned [..], 1 a signed whole number [..]. Each entry is one of these
--- kinds." The patterns of a NaN are no float that n divided by 1000 could be.
+-- "Kind 0 is a factor as a 64-bit float [..], 2 a span in nanoseconds, unsigned [..], 1 a signed whole number [..]. Each entry is one of
+-- these kinds." The patterns of a NaN are no float that n divided by 1000 could be.
 unfoldable pub entryOf : ℕ → ℕ → Read
 entryOf kind u =
     cond (eqb kind factorKind) (cond (nanBits binary64 u) Bad (Good (Factor (ofBits binary64 u))))

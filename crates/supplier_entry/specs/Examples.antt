@@ -1,10 +1,8 @@
 -- Worked examples of 02, order 12: what the definitions give for some entries. To be changed with 02's text alone.
 use Prim.Native.Nat.{ℕ}
 use mathlib.Core.Path.{_≡_}
-use lib.IntN.{pos, negsuc}
-use Rattle.limits.specs.declared.Limit.{Limit}
+use lib.IntN.{pos}
 use Rattle.limits.specs.Limits.{to, minus}
-use Rattle.supplier_entry.specs.declared.Form.{Form}
 use Rattle.supplier_entry.specs.declared.Number.{Number}
 use Rattle.supplier_entry.specs.declared.Number.the-variants.{Is, Broken}
 use Rattle.supplier_entry.specs.Factor.{factorBits}

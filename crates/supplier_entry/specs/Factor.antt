@@ -1,5 +1,5 @@
--- Factors as 64-bit floats (02, order 12): "A factor is accepted exactly if some whole n within that field's limits, made a float and divided
--- once by 1000, is the given float bit for bit; the answer is the first such n."
+-- Factors as 64-bit floats (02, order 12): "A factor is accepted exactly if some whole n within that field's limits, made a float and
+-- divided once by 1000, is the given float bit for bit; the answer is the first such n."
 use Prim.Native.Nat.{ℕ, suc}
 use mathlib.Core.Bool.{Bool, _&&_}
 use lib.Dec.{leb, eqb}

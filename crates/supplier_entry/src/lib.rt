@@ -1,5 +1,5 @@
-// One entry of the other supplier's parameters (02, order 12): a kind, then eight bytes, low first. An entry becomes a number of ours where it
-// has its field's kind and stands for a number within the field's limits; a number of ours becomes the eight bytes of its entry.
+// One entry of the other supplier's parameters (02, order 12): a kind, then eight bytes, low first. An entry becomes a number of ours where
+// it has its field's kind and stands for a number within the field's limits; a number of ours becomes the eight bytes of its entry.
 // The definitions are specs/Factor.antt and specs/Entries.antt. Which field has which kind and limits is for the caller to say.
 ghost use mathlib.Core.Path.{_≡_};
 ghost use mathlib.Core.Bool.{not};
@@ -11,7 +11,7 @@ ghost use lib.Seq.{sets};
 ghost use lib.Ieee.{binary64, isNan, nanBits, toBits};
 ghost use Rattle.index.specs.Index.{first};
 ghost use Rattle.supplier_entry.specs.Bytes.{lowFirst, lowBytes};
-ghost use Rattle.supplier_entry.specs.Factor.{factorOf, factorBits, isFactor, factorFrom, thousandthsOf};
+ghost use Rattle.supplier_entry.specs.Factor.{factorOf, factorBits, factorFrom, thousandthsOf};
 ghost use Rattle.supplier_entry.specs.Entries.{twos, twosOf, entryOf, wholeOf, unitsOf, asNumber, convertOf, importOf, contentOf};
 ghost use Rattle.supplier_entry.specs.Asked.{Among, Small, Sound, Fit, Writable};
 use index::Found;
@@ -65,8 +65,8 @@ fn same(x: f64, y: f64) -> bool
     f64::to_bits(x) == f64::to_bits(y)
 }
 
-// The first n from `low` to `high` whose factor is x bit for bit. The factors' bits rise, so the search goes by halves: below `from` they are
-// less than x's, and from `to` on they are not.
+// The first n from `low` to `high` whose factor is x bit for bit. The factors' bits rise, so the search goes by halves: below `from` they
+// are less than x's, and from `to` on they are not.
 fn search(x: f64, low: usize, high: usize) -> Found
     requires { ⌜ (high ≤ 1000) × T (not (isNan x)) ⌝ }
     ensures { λ r. ⌜ r ≡ first (suc high) (factorFrom low (toBits binary64 x)) ⌝ }

@@ -2,11 +2,10 @@
 -- Assumes nothing.
 use Prim.Native.Nat.{ℕ, zero, suc, _+_, _*_, _<_, _≤_}
 use mathlib.Core.Path.{_≡_, refl, sym, ap, _∙_}
-use mathlib.Core.Bool.{Bool, true, false}
-use mathlib.Core.List.{List, [], _∷_, _++_}
+use mathlib.Core.Bool.{true}
+use mathlib.Core.List.{List, _∷_}
 use native.Mathlib.Omega.{arith}
 use native.Mathlib.Nat.{zero-add}
-use native.Mathlib.Numerals.{add-one}
 use borrow.Author.Tests.{lt-ltb, le-ltb}
 use lib.IntN.{ℤ}
 use lib.ListN.{length, length-append}
@@ -28,7 +27,7 @@ use Rattle.supplier_entry.specs.Asked.{Writable}
 use Rattle.supplier_entry.proofs.ByteLaws.{length-bytes}
 use Rattle.supplier_entry.proofs.RoundTrip.{writable}
 use Rattle.supplier_params.specs.Forms.{supplierBytes, formAt}
-use Rattle.supplier_params.specs.Export.{entryBytes, bytesAt, bytesOf, exportBy, exportOf}
+use Rattle.supplier_params.specs.Export.{entryBytes, bytesAt, bytesOf, exportOf}
 use Rattle.supplier_params.proofs.FormLaws.{field-at}
 
 -- what the writer of an entry asks
@@ -71,7 +70,8 @@ put-more xs i buf out out′ form h p e l w =
           w
           ∙ ap (λ (f : Form). sets out (9 * i) (f .kind ∷ lowBytes 8 (contentOf f (at xs i)))) e
           ∙ ap (λ (o : List ℕ). sets o (9 * i) (bytesAt xs i)) (p .bytes)
-          ∙ ap (λ (k : ℕ). sets (sets buf 0 (gather i (bytesAt xs))) k (bytesAt xs i)) (sym (length-entries xs i) ∙ sym (zero-add (length (gather i (bytesAt xs)))))
+          ∙ ap (λ (k : ℕ). sets (sets buf 0 (gather i (bytesAt xs))) k (bytesAt xs i))
+          (sym (length-entries xs i) ∙ sym (zero-add (length (gather i (bytesAt xs)))))
           ∙ sym (sets-append buf 0 (gather i (bytesAt xs)) (bytesAt xs i))
           ∙ ap (λ (s : List ℕ). sets buf 0 s) (sym (gather-more (bytesAt xs) i));
     }

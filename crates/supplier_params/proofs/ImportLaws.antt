@@ -1,21 +1,19 @@
 -- Laws of the import: what is known after i entries, and the ends of `number_at`, `entries` and `import`.
 -- Assumes nothing.
-use Prim.Native.Nat.{ℕ, zero, suc, _+_, _*_, _<_, _≤_}
-use mathlib.Core.Path.{_≡_, refl, sym, ap, _∙_}
+use Prim.Native.Nat.{ℕ, _+_, _*_, _<_, _≤_}
+use mathlib.Core.Path.{_≡_, sym, ap, _∙_}
 use mathlib.Core.Bool.{Bool, true, false, not, cond}
-use mathlib.Core.List.{List, [], _∷_, _++_}
+use mathlib.Core.List.{List, _++_}
 use native.Mathlib.Omega.{arith}
-use native.Mathlib.Nat.{zero-add}
 use native.Mathlib.Numerals.{add-one}
 use borrow.Author.Tests.{eq-eqb, ne-eqb, not-true, not-false}
-use lib.Dec.{eqb}
 use lib.IntN.{ℤ}
 use lib.ListN.{length, getD, set, take, drop, length-set}
 use lib.Seq.{take-suc-set, take-all}
 use Rattle.records.specs.Records.{paramCount}
 use Rattle.index.specs.Index.{first, gather}
 use Rattle.index.specs.declared.Found.{Found}
-use Rattle.index.specs.declared.Found.the-variants.{At, Nothing}
+use Rattle.index.specs.declared.Found.the-variants.{Nothing}
 use Rattle.index.proofs.Index.{first-none, first-more, first-hit, first-done, gather-none, gather-more}
 use Rattle.limits.specs.Limits.{fieldOf, limitAt}
 use Rattle.params.specs.Check.{firstBroken}
@@ -31,7 +29,8 @@ use Rattle.supplier_entry.specs.Bytes.{lowFirst}
 use Rattle.supplier_entry.specs.Entries as entry
 use Rattle.supplier_entry.proofs.ByteLaws.{take-one}
 use Rattle.supplier_params.specs.Forms.{supplierBytes, formAt}
-use Rattle.supplier_params.specs.Import.{entryAt, entryNumber, numberAt, isBroken, value, brokenAt, valueAt, Outcome, numbers, broken, outcomeBy, entriesOf, outcome, judged, importOf}
+use Rattle.supplier_params.specs.Import.{entryAt, numberAt, isBroken, value, brokenAt, valueAt, numbers, broken, outcomeBy, entriesOf}
+use Rattle.supplier_params.specs.Import.{outcome, judged, importOf}
 use Rattle.supplier_params.specs.declared.Parsed.{Parsed}
 
 -- ---- one entry
@@ -73,7 +72,8 @@ module _ (s : List ℕ) (i : ℕ) (xs : List ℤ) (r : Number) (t : Taken s i xs
         whole = first-more (brokenAt s) i (t .whole) (ap isBroken n);
         front =
             rw (add-one i, take-suc-set xs i z (omega (arith, t .len)), t .front)
-            (ap (λ (l : List ℤ). gather i (valueAt s) ++ l) (sym (ap value n)) ∙ sym (gather-more (valueAt s) i) ∙ ap (λ (k : ℕ). gather k (valueAt s)) (add-one i));
+            (ap (λ (l : List ℤ). gather i (valueAt s) ++ l) (sym (ap value n)) ∙ sym (gather-more (valueAt s) i)
+            ∙ ap (λ (k : ℕ). gather k (valueAt s)) (add-one i));
       }
 
   pub taken-broken : r ≡ Broken → broken i ≡ entriesOf s

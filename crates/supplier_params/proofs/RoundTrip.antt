@@ -2,7 +2,7 @@
 -- Assumes nothing.
 use Prim.Native.Nat.{ℕ, zero, suc, _+_, _*_, _^_, _<_, _≤_}
 use mathlib.Core.Path.{_≡_, refl, sym, ap, ap₂, _∙_}
-use mathlib.Core.Bool.{Bool, true, false, cond}
+use mathlib.Core.Bool.{Bool, true, false}
 use mathlib.Core.List.{List, [], _∷_, _++_}
 use native.Mathlib.Omega.{arith}
 use native.Mathlib.Nat.{zero-add}
@@ -10,23 +10,20 @@ use borrow.Author.Tests.{eq-eqb, eqb-true, le-ltb, ltb-false}
 use lib.Dec.{ltb, eqb}
 use lib.IntN.{ℤ, pos}
 use lib.ListN.{length, getD, take, drop, length-append, length-take, length-drop, List·getD-eq-default}
-use lib.Seq.{sets, sets-eq, take-all, take-suc, take-add, take-at, drop-at, take-append-le, drop-append-le, length-take-le, getD-take, getD-drop, getD-at}
+use lib.Seq.{sets, sets-eq, take-all, take-suc, take-add, take-at, drop-at, take-append-le, drop-append-le, length-take-le, getD-take}
+use lib.Seq.{getD-drop, getD-at}
 use Rattle.records.specs.Records.{paramCount}
 use Rattle.index.specs.Index.{first, gather}
 use Rattle.index.specs.declared.Found.{Found}
 use Rattle.index.specs.declared.Found.the-variants.{At, Nothing}
-use Rattle.index.proofs.Index.{first-passed, gather-same}
-use Rattle.index.proofs.Flags.{by-test, by-order}
+use Rattle.index.proofs.Index.{first-passed}
+use Rattle.index.proofs.Flags.{by-order}
 use Rattle.limits.specs.Limits.{fieldOf, limitAt, at, inLimits}
 use Rattle.params.specs.Check.{firstBroken}
-use Rattle.params_bytes.specs.Read.{refusal, judgedBy}
-use Rattle.params.specs.declared.Params.{Params}
-use Rattle.params_bytes.specs.declared.Reading.{Reading}
-use Rattle.params_bytes.specs.declared.Verdict.{Verdict}
+use Rattle.params_bytes.specs.Read.{judgedBy}
 use Rattle.params_bytes.specs.declared.Verdict.the-variants.{Accepted, Malformed}
 use Rattle.params_bytes.specs.declared.Verdict.the-variants as verdict
-use Rattle.params_bytes.specs.declared.Written.{Written}
-use Rattle.params_bytes.specs.declared.Written.the-variants.{Done, Short, Outside}
+use Rattle.params_bytes.specs.declared.Written.the-variants.{Done, Short}
 use Rattle.params.proofs.CheckLaws.{accepted-in}
 use Rattle.supplier_entry.specs.declared.Number.{Number}
 use Rattle.supplier_entry.specs.declared.Number.the-variants.{Is, Broken}
@@ -37,7 +34,8 @@ use Rattle.supplier_entry.proofs.ByteLaws.{first-bytes, bytes-first, first-lt}
 use Rattle.supplier_entry.proofs.RoundTrip.{imports, content-lt}
 use Rattle.supplier_entry.proofs.RoundTrip as one
 use Rattle.supplier_params.specs.Forms.{supplierBytes, formAt}
-use Rattle.supplier_params.specs.Import.{entryAt, entryNumber, numberAt, isBroken, value, brokenAt, valueAt, Outcome, numbers, broken, outcomeBy, entriesOf, judged, importOf}
+use Rattle.supplier_params.specs.Import.{entryAt, entryNumber, numberAt, isBroken, value, brokenAt, valueAt, numbers, outcomeBy}
+use Rattle.supplier_params.specs.Import.{entriesOf, judged, importOf}
 use Rattle.supplier_params.specs.Export.{entryBytes, bytesAt, bytesOf, exportBy, exportOf}
 use Rattle.supplier_params.specs.RoundTrip.{ImportsBack, ExportsBack}
 use Rattle.supplier_params.proofs.FormLaws.{field-at}
@@ -120,7 +118,8 @@ unfolding exportOf
 export-is-done xs buf n e = room (ltb (length buf) supplierBytes) refl
   where
     Goal : Type 0
-    Goal = (firstBroken xs ≡ Nothing) × (n ≡ supplierBytes) × (exportOf xs buf .bytes ≡ sets buf 0 (bytesOf xs)) × (supplierBytes ≤ length buf)
+    Goal = (firstBroken xs ≡ Nothing) × (n ≡ supplierBytes) × (exportOf xs buf .bytes ≡ sets buf 0 (bytesOf xs))
+        × (supplierBytes ≤ length buf)
 
     found : ltb (length buf) supplierBytes ≡ false → (f : Found) → firstBroken xs ≡ f → exportBy f xs buf .answer ≡ Done n → Goal
     found t (At i) q d = let z : _≡_ {A = ℕ} 0 1 = cc in absurd (omega arith)
@@ -181,55 +180,57 @@ whole-number : (x : Number) → isBroken x ≡ false → x ≡ Is (found x)
 whole-number (Is z) e = refl
 whole-number Broken e = let z : _≡_ {A = ℕ} 0 1 = cc in absurd (omega arith)
 
-module _ (s : List ℕ) (bytes : (k : ℕ) → getD s k 0 < 256) (len : length s ≡ supplierBytes) (ok : first paramCount (brokenAt s) ≡ Nothing) where
-  number-found : (i : ℕ) → i < paramCount → numberAt s i ≡ Is (found (numberAt s i))
-  unfolding brokenAt
-  number-found i h = whole-number (numberAt s i) (first-passed (brokenAt s) paramCount ok i h)
+module _ (s : List ℕ) (bytes : (k : ℕ) → getD s k 0 < 256) (len : length s ≡ supplierBytes) (ok : first paramCount (brokenAt s) ≡ Nothing)
+  where
+    number-found : (i : ℕ) → i < paramCount → numberAt s i ≡ Is (found (numberAt s i))
+    unfolding brokenAt
+    number-found i h = whole-number (numberAt s i) (first-passed (brokenAt s) paramCount ok i h)
 
-  value-found : (i : ℕ) → i < paramCount → valueAt s i ≡ found (numberAt s i) ∷ []
-  unfolding valueAt
-  value-found i h = ap value (number-found i h)
+    value-found : (i : ℕ) → i < paramCount → valueAt s i ≡ found (numberAt s i) ∷ []
+    unfolding valueAt
+    value-found i h = ap value (number-found i h)
 
-  at-found : (i : ℕ) → i < paramCount → at (gather paramCount (valueAt s)) i ≡ found (numberAt s i)
-  at-found i h = single-at (valueAt s) (λ k. found (numberAt s k)) paramCount i value-found h
+    at-found : (i : ℕ) → i < paramCount → at (gather paramCount (valueAt s)) i ≡ found (numberAt s i)
+    at-found i h = single-at (valueAt s) (λ k. found (numberAt s k)) paramCount i value-found h
 
-  entry-bytes : (i : ℕ) → i < paramCount → (k : ℕ) → getD (entryAt s i) k 0 < 256
-  unfolding entryAt
-  entry-bytes i h k =
-      by-order (getD (take 9 (drop (9 * i) s)) k 0 < 256) k 9
-      (λ l. rw (getD-take 9 (drop (9 * i) s) k 0 l, getD-drop (9 * i) s k 0) (bytes (9 * i + k)))
-      (λ g.
-      let short : length (take 9 (drop (9 * i) s)) ≤ k = omega (arith, length-take 9 (drop (9 * i) s)) in
-      rw (List·getD-eq-default (take 9 (drop (9 * i) s)) 0 short) (omega arith))
+    entry-bytes : (i : ℕ) → i < paramCount → (k : ℕ) → getD (entryAt s i) k 0 < 256
+    unfolding entryAt
+    entry-bytes i h k =
+        by-order (getD (take 9 (drop (9 * i) s)) k 0 < 256) k 9
+        (λ l. rw (getD-take 9 (drop (9 * i) s) k 0 l, getD-drop (9 * i) s k 0) (bytes (9 * i + k)))
+        (λ g.
+        let short : length (take 9 (drop (9 * i) s)) ≤ k = omega (arith, length-take 9 (drop (9 * i) s)) in
+        rw (List·getD-eq-default (take 9 (drop (9 * i) s)) 0 short) (omega arith))
 
-  entry-length : (i : ℕ) → i < paramCount → length (entryAt s i) ≡ 9
-  unfolding entryAt
-  entry-length i h = length-take-le 9 (drop (9 * i) s) (omega (arith, length-drop (9 * i) s, len))
+    entry-length : (i : ℕ) → i < paramCount → length (entryAt s i) ≡ 9
+    unfolding entryAt
+    entry-length i h = length-take-le 9 (drop (9 * i) s) (omega (arith, length-drop (9 * i) s, len))
 
-  -- an entry is what is written of its number
-  entry-again : (i : ℕ) → i < paramCount → (e : List ℕ) → entryAt s i ≡ e → bytesAt (gather paramCount (valueAt s)) i ≡ e
-  unfolding bytesAt entryBytes numberAt
-  entry-again i h [] q =
-      let l = sym (entry-length i h) ∙ ap length q in
-      absurd (omega arith)
-  entry-again i h (kind ∷ rest) q =
-      let form = formAt (fieldOf i) in
-      let z = found (numberAt s i) in
-      let small : (k : ℕ) → getD rest k 0 < 256 = λ k. rw q at (entry-bytes i h (suc k)) in
-      let eight : length rest ≡ 8 = (let l = sym (entry-length i h) ∙ ap length q in omega arith) in
-      let lt : lowFirst rest < 2 ^ 64 = rw eight at (first-lt rest small) in
-      let n : entry.importOf form (limitAt (fieldOf i)) kind (lowFirst rest) ≡ Is z = sym (ap (entryNumber form (limitAt (fieldOf i))) q) ∙ number-found i h in
-      let b = one.exports-back form (limitAt (fieldOf i)) kind (lowFirst rest) z lt n in
-      ap (entryBytes form) (at-found i h)
-      ∙ ap₂ (λ (k u : ℕ). k ∷ lowBytes 8 u) (sym (b .0)) (b .1)
-      ∙ ap (λ (r : List ℕ). kind ∷ r) (ap (λ (k : ℕ). lowBytes k (lowFirst rest)) (sym eight) ∙ bytes-first rest small)
+    -- an entry is what is written of its number
+    entry-again : (i : ℕ) → i < paramCount → (e : List ℕ) → entryAt s i ≡ e → bytesAt (gather paramCount (valueAt s)) i ≡ e
+    unfolding bytesAt entryBytes numberAt
+    entry-again i h [] q =
+        let l = sym (entry-length i h) ∙ ap length q in
+        absurd (omega arith)
+    entry-again i h (kind ∷ rest) q =
+        let form = formAt (fieldOf i) in
+        let z = found (numberAt s i) in
+        let small : (k : ℕ) → getD rest k 0 < 256 = λ k. rw q at (entry-bytes i h (suc k)) in
+        let eight : length rest ≡ 8 = (let l = sym (entry-length i h) ∙ ap length q in omega arith) in
+        let lt : lowFirst rest < 2 ^ 64 = rw eight at (first-lt rest small) in
+        let n : entry.importOf form (limitAt (fieldOf i)) kind (lowFirst rest) ≡ Is z =
+        sym (ap (entryNumber form (limitAt (fieldOf i))) q) ∙ number-found i h in
+        let b = one.exports-back form (limitAt (fieldOf i)) kind (lowFirst rest) z lt n in
+        ap (entryBytes form) (at-found i h)
+        ∙ ap₂ (λ (k u : ℕ). k ∷ lowBytes 8 u) (sym (b .0)) (b .1)
+        ∙ ap (λ (r : List ℕ). kind ∷ r) (ap (λ (k : ℕ). lowBytes k (lowFirst rest)) (sym eight) ∙ bytes-first rest small)
 
-  bytes-again : bytesOf (gather paramCount (valueAt s)) ≡ s
-  unfolding bytesOf
-  bytes-again =
-      gather-below paramCount (bytesAt (gather paramCount (valueAt s))) (entryAt s) (λ i h. entry-again i h (entryAt s i) refl)
-      ∙ blocks s paramCount
-      ∙ take-all 1323 s (omega arith)
+    bytes-again : bytesOf (gather paramCount (valueAt s)) ≡ s
+    unfolding bytesOf
+    bytes-again =
+        gather-below paramCount (bytesAt (gather paramCount (valueAt s))) (entryAt s) (λ i h. entry-again i h (entryAt s i) refl)
+        ∙ blocks s paramCount
+        ∙ take-all 1323 s (omega arith)
 
 -- what an accepted import says
 pub import-is-accepted :
@@ -254,13 +255,15 @@ import-is-accepted s n e = sized (eqb (length s) supplierBytes) refl
         × (n ≡ supplierBytes)
         × (importOf s .params .numbers ≡ xs)
 
-    kept : eqb (length s) supplierBytes ≡ true → first paramCount (brokenAt s) ≡ Nothing → (f : Found) → firstBroken xs ≡ f → judgedBy f xs supplierBytes .verdict ≡ Accepted n → Goal
+    kept : eqb (length s) supplierBytes ≡ true → first paramCount (brokenAt s) ≡ Nothing → (f : Found) → firstBroken xs ≡ f →
+        judgedBy f xs supplierBytes .verdict ≡ Accepted n → Goal
     kept t q (At i) p d = let z : _≡_ {A = ℕ} 0 1 = cc in absurd (omega arith)
     kept t q Nothing p d =
         let w : supplierBytes ≡ n = cc in
         (eqb-true (length s) supplierBytes t, q, p, sym w, rw (t, q, p))
 
-    passed : eqb (length s) supplierBytes ≡ true → (f : Found) → first paramCount (brokenAt s) ≡ f → judged (outcomeBy f xs) .verdict ≡ Accepted n → Goal
+    passed : eqb (length s) supplierBytes ≡ true → (f : Found) → first paramCount (brokenAt s) ≡ f → judged (outcomeBy f xs) .verdict
+        ≡ Accepted n → Goal
     passed t (At i) q d = let z : _≡_ {A = ℕ} 0 1 = cc in absurd (omega arith)
     passed t Nothing q d = kept t q (firstBroken xs) refl d
 
@@ -273,7 +276,9 @@ unfolding exportOf
 exports-back s buf n bytes room e =
     let a = import-is-accepted s n e in
     let xs = gather paramCount (valueAt s) in
-    let b = bytes-again s bytes (a .0) (a .1) in
-    (a .3 ∙ sym (a .0),
-    rw (a .4, le-ltb (length buf) supplierBytes room, a .2, b, a .3)
-    (ap (λ (o : List ℕ). record { answer = Done supplierBytes; bytes = o }) (sets-eq s buf 0 (omega (arith, a .0)) ∙ rw (zero-add (length s), a .0))))
+    let b = bytes-again s bytes (a .0) (a .1) in (
+      a .3 ∙ sym (a .0),
+      rw (a .4, le-ltb (length buf) supplierBytes room, a .2, b, a .3)
+          (ap (λ (o : List ℕ). record { answer = Done supplierBytes; bytes = o })
+          (sets-eq s buf 0 (omega (arith, a .0)) ∙ rw (zero-add (length s), a .0))),
+    )

@@ -1,5 +1,5 @@
--- Exporting parameters as the other supplier's (02, order 12): "Writing one, a buffer under 1323 bytes is 13, then a broken sheet 9; each factor
--- is n divided by 1000, and importing that gives n." By 02, order 14, 01's rules are asked here of every edition.
+-- Exporting parameters as the other supplier's (02, order 12): "Writing one, a buffer under 1323 bytes is 13, then a broken sheet 9; each
+-- factor is n divided by 1000, and importing that gives n." By 02, order 14, 01's rules are asked here of every edition.
 use Prim.Native.Nat.{ℕ}
 use mathlib.Core.Bool.{cond}
 use mathlib.Core.List.{List, _∷_}

@@ -1,5 +1,5 @@
--- The fields of the other supplier's parameters (02, order 12): "our 147 fields in our order, nine bytes each". The table of kinds and units
--- has a row for each field, beside the limits of params/specs/Limits.antt, which hold here too. src/lib.rt has the same rows.
+-- The fields of the other supplier's parameters (02, order 12): "our 147 fields in our order, nine bytes each". The table of kinds and
+-- units has a row for each field, beside the limits of params/specs/Limits.antt, which hold here too. src/lib.rt has the same rows.
 use Prim.Native.Nat.{ℕ}
 use mathlib.Core.List.{List, [], _∷_}
 use lib.ListN.{getD}

@@ -1,5 +1,5 @@
--- Importing the other supplier's parameters (02, order 12): "A length other than 1323 bytes is 10 at the length; then a wrong kind or broken
--- entry is 9 with the first such index; then 01's tests apply."
+-- Importing the other supplier's parameters (02, order 12): "A length other than 1323 bytes is 10 at the length; then a wrong kind or
+-- broken entry is 9 with the first such index; then 01's tests apply."
 use Prim.Native.Nat.{ℕ, _*_}
 use mathlib.Core.Bool.{Bool, true, false, cond}
 use mathlib.Core.List.{List, [], _∷_}

@@ -1,6 +1,6 @@
-// The other supplier's parameters (02, order 12): our 147 fields in our order, an entry of nine bytes each. Imported they are ours, and ours are
-// exported as theirs. The limits are those of crate params; here stands what kind each field has. Which number an entry is, is for crate
-// supplier_entry to say.
+// The other supplier's parameters (02, order 12): our 147 fields in our order, an entry of nine bytes each. Imported they are ours, and
+// ours are exported as theirs. The limits are those of crate params; here stands what kind each field has. Which number an entry is, is for
+// crate supplier_entry to say.
 ghost use mathlib.Core.Path.{_≡_};
 ghost use mathlib.Core.Bool.{true};
 ghost use Prim.Native.Nat.{ℕ, _≤_, _<_};
@@ -175,7 +175,8 @@ fn put(all: Params, buf: &mut [u8])
 
 // Write the parameters as the supplier's from the start of the buffer, or say why not and leave the buffer.
 pub fn export(all: Params, buf: &mut [u8]) -> Written
-    ensures { λ r. ⌜ (r ≡ exportOf (all .numbers) (now (buf .entry)) .answer) × (now (buf .exit) ≡ exportOf (all .numbers) (now (buf .entry)) .bytes) ⌝ }
+    ensures { λ r. ⌜ (r ≡ exportOf (all .numbers) (now (buf .entry)) .answer)
+        × (now (buf .exit) ≡ exportOf (all .numbers) (now (buf .entry)) .bytes) ⌝ }
 {
     if buf.len() < BYTES {
         return Written::Short;

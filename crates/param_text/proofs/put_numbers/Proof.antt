@@ -1,4 +1,5 @@
--- `param_text::put_numbers` meets its contract. The loop's invariant: the first `i` lines are stored, in at most 22 bytes each. Assumes nothing.
+-- `param_text::put_numbers` meets its contract. The loop's invariant: the first `i` lines are stored, in at most 22 bytes each. Assumes
+-- nothing.
 use Prim.Native.Nat.{_+_, _*_, _-_, _≤_}
 use mathlib.Core.Path.{_≡_, refl, _∙_}
 use borrow.Author.Needs.{needs, sfits-of}
@@ -40,9 +41,15 @@ put-numbers-spec =
     (λ c. omega arith)
     (λ c.
     let l = c .before .before .before .before .before .before .loop in
-    let f : SFits w64 (getD (c .before .before .before .before .before .before .before .before .args .t3) (l .i) (pos 0)) = sfits-of (c .before .before .before .put-line-arg2 .given) in
-    let s = c .before .before .put-line .ensures in
-    (omega arith, c .before .before .put-line .kept .0 ∙ l .inv .1, omega arith, lines-more (lineAt (c .before .before .before .before .before .before .before .before .args .t3)) _ _ (c .before .before .before .before .before .before .before .before .args .buf .now) _ _ _ _ (l .inv .3) (rw (toZ-ofZ f) at (s .0))))
+    let f : SFits w64 (getD (c .before .before .before .before .before .before .before .before .args .t3) (l .i) (pos 0)) =
+    sfits-of (c .before .before .before .put-line-arg2 .given) in
+    let s = c .before .before .put-line .ensures in (
+      omega arith,
+      c .before .before .put-line .kept .0 ∙ l .inv .1,
+      omega arith,
+      lines-more (lineAt (c .before .before .before .before .before .before .before .before .args .t3)) _ _
+          (c .before .before .before .before .before .before .before .before .args .buf .now) _ _ _ _ (l .inv .3) (rw (toZ-ofZ f) at (s .0)),
+    ))
     (λ c. search needs)
     (λ c.
     let l = c .before .loop in

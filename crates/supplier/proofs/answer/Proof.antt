@@ -17,14 +17,20 @@ answer-spec =
     (λ c κs. search needs)
     (λ c κs. search needs)
     (λ c. search needs)
-    (λ c. let e = c .before .before .put-import .ensures in (stored-same _ _ _ _ _ _ (sym (mode-import _ _ (c .before .before .before .before .match .keys1))) (e .0), e .1))
+    (λ c. let e = c .before .before .put-import .ensures in
+    (stored-same _ _ _ _ _ _ (sym (mode-import _ _ (c .before .before .before .before .match .keys1))) (e .0), e .1))
     (λ c. search needs)
     (λ c. search needs)
-    (λ c. let e = c .before .before .before .before .put-export .ensures in (stored-same _ _ _ _ _ _ (sym (mode-export _ _ (c .before .before .before .before .before .before .before .match .keys2))) (e .0), e .1))
+    (λ c. let e = c .before .before .before .before .put-export .ensures in (
+      stored-same _ _ _ _ _ _ (sym (mode-export _ _ (c .before .before .before .before .before .before .before .match .keys2))) (e .0),
+      e .1,
+    ))
     (λ c. search needs)
-    (λ c. let e = c .before .before .write-import .ensures in (stored-same _ _ _ _ _ _ (sym (mode-import-bytes _ _ (c .before .before .before .before .match .keys3))) (e .0), e .1))
+    (λ c. let e = c .before .before .write-import .ensures in
+    (stored-same _ _ _ _ _ _ (sym (mode-import-bytes _ _ (c .before .before .before .before .match .keys3))) (e .0), e .1))
     (λ c. search needs)
-    (λ c. let e = c .before .before .write-export .ensures in (stored-same _ _ _ _ _ _ (sym (mode-export-bytes _ _ (c .before .before .before .before .match .keys4))) (e .0), e .1))
+    (λ c. let e = c .before .before .write-export .ensures in
+    (stored-same _ _ _ _ _ _ (sym (mode-export-bytes _ _ (c .before .before .before .before .match .keys4))) (e .0), e .1))
     (λ c. search needs)
     (λ c.
     let e = c .before .before .put-head .ensures in

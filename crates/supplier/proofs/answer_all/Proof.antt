@@ -1,5 +1,5 @@
 -- `supplier::answer_all` meets its contract. Assumes nothing.
-use mathlib.Core.Path.{_≡_, sym}
+use mathlib.Core.Path.{sym}
 use native.Mathlib.Omega.{arith}
 use borrow.Author.Needs.{needs}
 use Rattle.text.proofs.TextLaws.{stored-same}
@@ -15,11 +15,20 @@ answer-all-spec =
     (λ c κs. let s = c .before .before .before .before .before in omega (arith, s .pre .out))
     (λ c. search needs)
     (λ c.
-    let s = c .before .before .before .before .before .before .before .before in
-    (λ more l. stored-same _ _ _ _ _ _ (sym (all-long (s .args .mode) (s .args .bytes .now) more (s .args .rest) (c .before .before .before .before .if1 .taken) (s .pre .front) l)) (c .before .before .put-head .ensures .0), omega arith))
+    let s = c .before .before .before .before .before .before .before .before in (
+      λ more l. stored-same _ _ _ _ _ _
+          (sym (all-long (s .args .mode) (s .args .bytes .now) more (s .args .rest) (c .before .before .before .before .if1 .taken)
+          (s .pre .front) l)) (c .before .before .put-head .ensures .0),
+      omega arith,
+    ))
     (λ c κs. let s = c .before .before .before .before .before .before in (s .pre .out, s .pre .lent))
     (λ c. search needs)
     (λ c. search needs)
     (λ c.
-    let s = c .before .before .before .before .before .before .before .before .before .before .before in
-    (λ more l. stored-same _ _ _ _ _ _ (all-same (s .args .mode) (s .args .bytes .now) more (s .args .rest) (c .before .before .before .before .before .before .before .if1 .left) (s .pre .front) l) (c .before .before .before .before .answer .ensures .0), c .before .before .before .before .answer .ensures .1)))
+    let s = c .before .before .before .before .before .before .before .before .before .before .before in (
+      λ more l. stored-same _ _ _ _ _ _
+          (all-same (s .args .mode) (s .args .bytes .now) more (s .args .rest)
+          (c .before .before .before .before .before .before .before .if1 .left) (s .pre .front) l)
+          (c .before .before .before .before .answer .ensures .0),
+      c .before .before .before .before .answer .ensures .1,
+    )))

@@ -9,7 +9,8 @@ use Rattle.supplier.proofs.count_rest.Tie as tie
 
 -- each turn reads at most a page
 abbrev Inv-loop : tie.InvT-loop
-Inv-loop page₀ turns₀ total₀ page turns total = (length page ≡ length page₀) × (turns ≤ 4398046511104) × (total + 4096 * turns ≤ 18014398509481984)
+Inv-loop page₀ turns₀ total₀ page turns total =
+    (length page ≡ length page₀) × (turns ≤ 4398046511104) × (total + 4096 * turns ≤ 18014398509481984)
 
 abbrev μ-loop : tie.MeasureT-loop
 μ-loop page₀ turns₀ total₀ page turns total = turns
@@ -25,7 +26,8 @@ count-rest-spec =
     (λ c. omega arith)
     (λ c. omega arith)
     (λ c. omega arith)
-    (λ c. let l = c .before .before .before .before .before .before .before .loop in (c .before .before .before .before .read-full .kept .1 .0 ∙ l .inv .0, omega arith, omega arith))
+    (λ c. let l = c .before .before .before .before .before .before .before .loop in
+    (c .before .before .before .before .read-full .kept .1 .0 ∙ l .inv .0, omega arith, omega arith))
     (λ c. c .before .loop .inv .0)
     (λ c. omega arith)
     (λ c. search needs)

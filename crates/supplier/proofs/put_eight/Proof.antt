@@ -2,7 +2,6 @@
 use Prim.Native.Nat.{_+_, _-_, _*_, _≤_}
 use mathlib.Core.Path.{_≡_, refl, _∙_}
 use native.Mathlib.Omega.{arith}
-use borrow.Author.Needs.{needs}
 use mathlib.Core.List.{[], _∷_}
 use lib.ListN.{length, getD, take, drop}
 use Rattle.text.specs.Text.{Stored}
@@ -33,7 +32,13 @@ put-eight-spec =
     (λ c.
     let l = c .before .before .before .before .before .before .loop in
     let s = c .before .before .before .before .before .before .before .before .before in
-    let t = eight-more (s .args .s .now) (s .args .from) (l .k) (s .args .at) _ _ _ _ _ (s .pre .1) (c .before .before .before .before .before .loop-test .taken) (l .inv .3) (c .before .before .put-hex .ensures) in
-    (omega arith, c .before .before .put-hex .kept .0 ∙ l .inv .1, omega (arith, c .before .before .put-hex .ensures .0, hex-length (getD (s .args .s .now) (s .args .from + l .k) 0 ∷ [])), t))
+    let t = eight-more (s .args .s .now) (s .args .from) (l .k) (s .args .at) _ _ _ _ _ (s .pre .1)
+    (c .before .before .before .before .before .loop-test .taken) (l .inv .3) (c .before .before .put-hex .ensures) in (
+      omega arith,
+      c .before .before .put-hex .kept .0 ∙ l .inv .1,
+      omega (arith, c .before .before .put-hex .ensures .0, hex-length (getD (s .args .s .now) (s .args .from + l .k) 0 ∷ [])),
+      t,
+    ))
     (λ c. c .before .loop .inv .1)
-    (λ c. let l = c .before .loop in eight-all _ _ (l .k) _ _ _ _ (c .before .before .before .before .pre .1) (l .inv .0) (c .loop-test .left) (l .inv .3)))
+    (λ c. let l = c .before .loop in
+    eight-all _ _ (l .k) _ _ _ _ (c .before .before .before .before .pre .1) (l .inv .0) (c .loop-test .left) (l .inv .3)))

@@ -2,7 +2,6 @@
 use Prim.Native.Nat.{_+_, _-_, _*_, _≤_}
 use mathlib.Core.Path.{_≡_, refl, _∙_}
 use native.Mathlib.Omega.{arith}
-use borrow.Author.Needs.{needs}
 use lib.ListN.{length}
 use Rattle.records.specs.Records.{paramCount}
 use Rattle.index.specs.Index.{gather}
@@ -31,7 +30,12 @@ put-entries-spec =
     (λ c. omega arith)
     (λ c. omega arith)
     (λ c.
-    let l = c .before .before .before .before .before .loop in
-    (omega arith, c .before .before .put-entry .kept .0 ∙ l .inv .1, omega (arith, c .before .before .put-entry .ensures .1), lines-more (entryTextAt (c .before .before .before .before .before .before .before .before .args .s .now)) _ _ _ _ _ _ _ (l .inv .3) (c .before .before .put-entry .ensures .0)))
+    let l = c .before .before .before .before .before .loop in (
+      omega arith,
+      c .before .before .put-entry .kept .0 ∙ l .inv .1,
+      omega (arith, c .before .before .put-entry .ensures .1),
+      lines-more (entryTextAt (c .before .before .before .before .before .before .before .before .args .s .now)) _ _ _ _ _ _ _ (l .inv .3)
+          (c .before .before .put-entry .ensures .0),
+    ))
     (λ c. c .before .loop .inv .1)
     (λ c. let l = c .before .loop in (entries-all _ _ _ _ _ _ (l .inv .0) (c .loop-test .left) (l .inv .3), omega arith)))

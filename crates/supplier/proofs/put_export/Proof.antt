@@ -18,8 +18,21 @@ put-export-spec =
     (λ c κs. search needs)
     (λ c. search needs)
     (λ c. search needs)
-    (λ c. (export-as _ _ _ (c .before .before .before .before .before .before .before .before .before .before .before .read .ensures) (c .before .before .before .before .before .before .before .before .verdict .given .1) _ _ _ (c .before .before .before .before .put-exported .ensures .0), c .before .before .before .before .put-exported .ensures .1))
+    (λ c. (
+      export-as _ _ _ (c .before .before .before .before .before .before .before .before .before .before .before .read .ensures)
+          (c .before .before .before .before .before .before .before .before .verdict .given .1) _ _ _
+          (c .before .before .before .before .put-exported .ensures .0),
+      c .before .before .before .before .put-exported .ensures .1,
+    ))
     (λ c. search needs)
-    (λ c. (export-as _ _ _ (c .before .before .before .before .before .before .before .before .read .ensures) (c .before .before .before .before .before .verdict2 .given .1) _ _ _ (c .before .before .put-head .ensures .0), omega arith))
+    (λ c. (
+      export-as _ _ _ (c .before .before .before .before .before .before .before .before .read .ensures)
+          (c .before .before .before .before .before .verdict2 .given .1) _ _ _ (c .before .before .put-head .ensures .0),
+      omega arith,
+    ))
     (λ c. search needs)
-    (λ c. (export-as _ _ _ (c .before .before .before .before .before .before .before .before .read .ensures) (c .before .before .before .before .before .verdict3 .given .1) _ _ _ (c .before .before .put-head2 .ensures .0), omega arith)))
+    (λ c. (
+      export-as _ _ _ (c .before .before .before .before .before .before .before .before .read .ensures)
+          (c .before .before .before .before .before .verdict3 .given .1) _ _ _ (c .before .before .put-head2 .ensures .0),
+      omega arith,
+    )))

@@ -1,5 +1,4 @@
 -- `supplier::put_hex` meets its contract. Assumes nothing.
-use native.Mathlib.Omega.{arith}
 use borrow.Author.Needs.{needs}
 use Rattle.supplier.proofs.TextLaws.{hex-stored}
 use Rattle.supplier.proofs.put_hex.Statement.{statement}

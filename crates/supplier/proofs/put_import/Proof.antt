@@ -21,9 +21,32 @@ put-import-spec =
     (λ c. search needs)
     (λ c κs. search needs)
     (λ c. search needs)
-    (λ c.
-    (import-as _ _ _ (c .before .before .before .before .before .before .before .before .before .before .before .before .before .import .ensures) (c .before .before .before .before .before .before .before .before .before .before .before .verdict .given .1) _ _ _ (stored-then (c .before .before .before .before .before .before .before .before .before .before .before .before .before .before .before .before .args .buf .now) 0 _ doneText _ _ (numbersText (c .before .before .before .before .before .before .before .before .before .before .before .before .before .import .result .params .numbers)) _ (c .before .before .before .before .before .before .before .before .put-done .ensures .0) (c .before .before .put-numbers .ensures .0)), omega (arith, c .before .before .before .before .before .before .before .before .put-done .ensures .1, c .before .before .put-numbers .ensures .1)))
+    (λ c. (
+      import-as _ _ _
+          (c .before .before .before .before .before .before .before .before .before .before .before .before .before .import .ensures)
+          (c .before .before .before .before .before .before .before .before .before .before .before .verdict .given .1) _ _ _
+          (stored-then
+          (c .before .before .before .before .before .before .before .before .before .before .before .before .before .before .before .before
+          .args .buf .now) 0 _ doneText _ _
+          (numbersText
+          (c .before .before .before .before .before .before .before .before .before .before .before .before .before .import .result .params
+          .numbers)) _ (c .before .before .before .before .before .before .before .before .put-done .ensures .0)
+          (c .before .before .put-numbers .ensures .0)),
+      omega (
+        arith,
+        c .before .before .before .before .before .before .before .before .put-done .ensures .1,
+        c .before .before .put-numbers .ensures .1,
+      ),
+    ))
     (λ c. search needs)
-    (λ c. (import-as _ _ _ (c .before .before .before .before .before .before .before .import .ensures) (c .before .before .before .before .before .verdict2 .given .1) _ _ _ (c .before .before .put-head .ensures .0), omega arith))
+    (λ c. (
+      import-as _ _ _ (c .before .before .before .before .before .before .before .import .ensures)
+          (c .before .before .before .before .before .verdict2 .given .1) _ _ _ (c .before .before .put-head .ensures .0),
+      omega arith,
+    ))
     (λ c. search needs)
-    (λ c. (import-as _ _ _ (c .before .before .before .before .before .before .before .import .ensures) (c .before .before .before .before .before .verdict3 .given .1) _ _ _ (c .before .before .put-head2 .ensures .0), omega arith)))
+    (λ c. (
+      import-as _ _ _ (c .before .before .before .before .before .before .before .import .ensures)
+          (c .before .before .before .before .before .verdict3 .given .1) _ _ _ (c .before .before .put-head2 .ensures .0),
+      omega arith,
+    )))

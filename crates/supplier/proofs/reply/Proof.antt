@@ -1,5 +1,5 @@
 -- `supplier::reply` meets its contract. Assumes nothing.
-use mathlib.Core.Path.{_≡_, _∙_}
+use mathlib.Core.Path.{_∙_}
 use native.Mathlib.Omega.{arith}
 use borrow.Author.Needs.{needs}
 use Rattle.supplier.proofs.OutputLaws.{room-after}
@@ -17,7 +17,8 @@ reply-spec =
     (λ c. omega arith)
     (λ c. omega arith)
     (λ c. omega arith)
-    (λ c κs. let s = c .before .before .before .before .before .before .before .before .before in room-after _ _ (s .args .input .now) 0 (s .pre .0) (s .pre .1) (s .pre .2) (λ h. absurd (omega arith)) (omega arith))
+    (λ c κs. let s = c .before .before .before .before .before .before .before .before .before in
+    room-after _ _ (s .args .input .now) 0 (s .pre .0) (s .pre .1) (s .pre .2) (λ h. absurd (omega arith)) (omega arith))
     (λ c. search needs)
     (λ c. search needs)
     (λ c. c .before .before .before .before .answer-all .ensures .1)
@@ -27,7 +28,11 @@ reply-spec =
     (λ c. omega arith)
     (λ c κs.
     let s = c .before .before .before .before .before .before .before .before .before .before .before .before .before in
-    room-after _ _ (s .args .input .now) _ (s .pre .0) (omega (arith, c .before .before .before .before .before .count-rest .kept .0, s .pre .1)) (s .pre .2) (λ h. c .before .before .before .before .before .before .before .if2 .left) (c .before .before .before .before .before .count-rest .ensures))
+    room-after _ _ (s .args .input .now) _ (s .pre .0)
+    (omega (arith, c .before .before .before .before .before .count-rest .kept .0, s .pre .1)) (s .pre .2)
+    (λ h. c .before .before .before .before .before .before .before .if2 .left)
+    (c .before .before .before .before .before .count-rest .ensures))
     (λ c. c .before .before .before .before .answer-all2 .kept .0)
-    (λ c. c .before .before .before .before .answer-all2 .kept .1 .0 ∙ c .before .before .before .before .before .before .before .before .before .before .count-rest .kept .0)
+    (λ c. c .before .before .before .before .answer-all2 .kept .1 .0
+    ∙ c .before .before .before .before .before .before .before .before .before .before .count-rest .kept .0)
     (λ c. c .before .before .before .before .answer-all2 .ensures .1))

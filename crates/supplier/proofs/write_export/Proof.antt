@@ -15,6 +15,18 @@ write-export-spec =
     (λ c. search needs)
     (λ c. search needs)
     (λ c. search needs)
-    (λ c. (export-bytes-as _ _ _ (c .before .before .before .before .before .before .before .before .read .ensures) (c .before .before .before .before .before .verdict .given .1) _ _ _ (c .before .before .write-theirs .ensures .0), c .before .before .write-theirs .ensures .1))
-    (λ c. (export-bytes-as _ _ _ (c .before .before .before .before .read .ensures) (c .before .verdict2 .given .1) _ _ _ (nothing-stored _), omega arith))
-    (λ c. (export-bytes-as _ _ _ (c .before .before .before .before .read .ensures) (c .before .verdict3 .given .1) _ _ _ (nothing-stored _), omega arith)))
+    (λ c. (
+      export-bytes-as _ _ _ (c .before .before .before .before .before .before .before .before .read .ensures)
+          (c .before .before .before .before .before .verdict .given .1) _ _ _ (c .before .before .write-theirs .ensures .0),
+      c .before .before .write-theirs .ensures .1,
+    ))
+    (λ c. (
+      export-bytes-as _ _ _ (c .before .before .before .before .read .ensures) (c .before .verdict2 .given .1) _ _ _
+          (nothing-stored _),
+      omega arith,
+    ))
+    (λ c. (
+      export-bytes-as _ _ _ (c .before .before .before .before .read .ensures) (c .before .verdict3 .given .1) _ _ _
+          (nothing-stored _),
+      omega arith,
+    )))

@@ -15,6 +15,18 @@ write-import-spec =
     (λ c. search needs)
     (λ c. search needs)
     (λ c. search needs)
-    (λ c. (import-bytes-as _ _ _ (c .before .before .before .before .before .before .before .before .import .ensures) (c .before .before .before .before .before .verdict .given .1) _ _ _ (c .before .before .write-own .ensures .0), c .before .before .write-own .ensures .1))
-    (λ c. (import-bytes-as _ _ _ (c .before .before .before .before .import .ensures) (c .before .verdict2 .given .1) _ _ _ (nothing-stored _), omega arith))
-    (λ c. (import-bytes-as _ _ _ (c .before .before .before .before .import .ensures) (c .before .verdict3 .given .1) _ _ _ (nothing-stored _), omega arith)))
+    (λ c. (
+      import-bytes-as _ _ _ (c .before .before .before .before .before .before .before .before .import .ensures)
+          (c .before .before .before .before .before .verdict .given .1) _ _ _ (c .before .before .write-own .ensures .0),
+      c .before .before .write-own .ensures .1,
+    ))
+    (λ c. (
+      import-bytes-as _ _ _ (c .before .before .before .before .import .ensures) (c .before .verdict2 .given .1) _ _ _
+          (nothing-stored _),
+      omega arith,
+    ))
+    (λ c. (
+      import-bytes-as _ _ _ (c .before .before .before .before .import .ensures) (c .before .verdict3 .given .1) _ _ _
+          (nothing-stored _),
+      omega arith,
+    )))

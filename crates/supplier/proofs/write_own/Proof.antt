@@ -1,7 +1,4 @@
 -- `supplier::write_own` meets its contract. Assumes nothing.
-use Prim.Native.Nat.{ℕ}
-use mathlib.Core.Path.{_≡_}
-use native.Mathlib.Omega.{arith}
 use borrow.Author.Needs.{needs}
 use Rattle.supplier.proofs.OutputLaws.{own-stored}
 use Rattle.supplier.proofs.write_own.Statement.{statement}
@@ -16,8 +13,13 @@ write-own-spec =
     (λ c. search needs)
     (λ c. search needs)
     (λ c. search needs)
-    (λ c. own-stored (c .before .before .before .before .before .before .before .before .args .all .numbers) _ _ _ _ (c .before .n .given .1) (c .before .before .before .before .before .before .before .before .pre) (search needs) (c .before .before .before .before .before .write .ensures))
+    (λ c. own-stored (c .before .before .before .before .before .before .before .before .args .all .numbers) _ _ _ _
+    (c .before .n .given .1) (c .before .before .before .before .before .before .before .before .pre) (search needs)
+    (c .before .before .before .before .before .write .ensures))
     (λ c. search needs)
-    (λ c. own-stored (c .before .before .before .before .before .before .before .args .all .numbers) _ _ _ _ (c .enum-told .given .1) (c .before .before .before .before .before .before .before .pre) (search needs) (c .before .before .before .before .write .ensures))
+    (λ c. own-stored (c .before .before .before .before .before .before .before .args .all .numbers) _ _ _ _ (c .enum-told .given .1)
+    (c .before .before .before .before .before .before .before .pre) (search needs) (c .before .before .before .before .write .ensures))
     (λ c. search needs)
-    (λ c. own-stored (c .before .before .before .before .before .before .before .before .args .all .numbers) _ _ _ _ (c .before .i .given .1) (c .before .before .before .before .before .before .before .before .pre) (search needs) (c .before .before .before .before .before .write .ensures)))
+    (λ c. own-stored (c .before .before .before .before .before .before .before .before .args .all .numbers) _ _ _ _
+    (c .before .i .given .1) (c .before .before .before .before .before .before .before .before .pre) (search needs)
+    (c .before .before .before .before .before .write .ensures)))

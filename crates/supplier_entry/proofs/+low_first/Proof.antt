@@ -22,13 +22,19 @@ abbrev low-first-below : ℕ → In 1 low-first-kinds.ps
 low-first-below t = and 1 low-first-kinds.ps (falls 1 low-first-kinds.ps _<_ μ-low-first t) low-first.Pre
 
 pub +low-first-spec : {M : Type 1} → statement M
-+low-first-spec = close μ-low-first λ t. low-first-lts.spec (wide-reads.Asked, wide-reads.Learnt, low-first-below t, low-first.Post) (low-first-at t) low-first.Post
++low-first-spec =
+    close μ-low-first λ t. low-first-lts.spec (wide-reads.Asked, wide-reads.Learnt, low-first-below t, low-first.Post) (low-first-at t)
+    low-first.Post
     (λ c. let a = c .before .before .args in low-end (a .n) (a .s .now) (a .at) (c .if1 .taken))
     (λ c. omega arith)
     (λ c κs. search needs)
     (λ c. omega arith)
     (λ c. omega arith)
     (λ c κs. (omega arith, (omega arith, omega arith)))
-    (λ c. let h = low-room (c .before .before .before .before .before .args .n) (c .low-first .result) (omega arith) (omega arith) (c .low-first .ensures .1) in omega arith)
-    (λ c. let h = low-room (c .before .before .before .before .before .args .n) (c .low-first .result) (omega arith) (omega arith) (c .low-first .ensures .1) in omega arith)
-    (λ c. let a = c .before .before .before .before .before .args in low-more (a .n) (a .s .now) (a .at) (c .before .wide .result) (c .low-first .result) (omega arith) (omega arith) (c .before .wide .ensures .0) (c .before .wide .ensures .1) (c .low-first .ensures .0) (c .low-first .ensures .1))
+    (λ c. let h = low-room (c .before .before .before .before .before .args .n) (c .low-first .result) (omega arith) (omega arith)
+    (c .low-first .ensures .1) in omega arith)
+    (λ c. let h = low-room (c .before .before .before .before .before .args .n) (c .low-first .result) (omega arith) (omega arith)
+    (c .low-first .ensures .1) in omega arith)
+    (λ c. let a = c .before .before .before .before .before .args in
+    low-more (a .n) (a .s .now) (a .at) (c .before .wide .result) (c .low-first .result) (omega arith) (omega arith)
+    (c .before .wide .ensures .0) (c .before .wide .ensures .1) (c .low-first .ensures .0) (c .low-first .ensures .1))

@@ -1,6 +1,6 @@
 -- `supplier_entry::content_of` meets its contract. Assumes nothing.
 use Prim.Native.Nat.{ℕ, _*_}
-use mathlib.Core.Path.{_≡_, ap, _∙_}
+use mathlib.Core.Path.{ap}
 use native.Mathlib.Omega.{arith}
 use borrow.Author.Needs.{needs}
 use mir.Facts.{toZ-ofZ}
@@ -20,7 +20,8 @@ content-of-spec =
     omega arith)
     (λ c.
     let s = c .before .before .before .before in
-    content-factor _ _ _ _ (c .before .if1 .taken) (rw (toZ-ofZ (s .fits .z)) at (c .before .before .before .magnitude .ensures)) (c .factor-bits .ensures))
+    content-factor _ _ _ _ (c .before .if1 .taken) (rw (toZ-ofZ (s .fits .z)) at (c .before .before .before .magnitude .ensures))
+    (c .factor-bits .ensures))
     (λ c κs. search needs)
     (λ c.
     let s = c .before .before .before .before .before .before in
@@ -32,4 +33,5 @@ content-of-spec =
     record { fits = omega (arith, s .pre .spans) })
     (λ c.
     let s = c .before .before .before .before .before .before in
-    content-span _ _ _ (c .before .before .before .if1 .left) (c .before .if2 .left) (rw (toZ-ofZ (s .fits .z)) at (c .before .before .before .before .before .magnitude .ensures))))
+    content-span _ _ _ (c .before .before .before .if1 .left) (c .before .if2 .left)
+    (rw (toZ-ofZ (s .fits .z)) at (c .before .before .before .before .before .magnitude .ensures))))

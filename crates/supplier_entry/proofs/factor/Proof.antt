@@ -2,7 +2,7 @@
 use native.Mathlib.Omega.{arith}
 use mathlib.Core.Path.{refl}
 use lib.Dec.{le→leb}
-use lib.Ieee.{div, inFloat}
+use lib.Ieee.{inFloat}
 use Rattle.supplier_entry.specs.Factor.{factorOf, thousand}
 use Rattle.supplier_entry.proofs.FactorLaws.{factor-no-nan}
 use Rattle.supplier_entry.proofs.factor.Statement.{statement}

@@ -1,6 +1,6 @@
 -- `supplier_entry::search` meets its contract. Assumes nothing.
 use Prim.Native.Nat.{ℕ, _+_, _-_, _/_}
-use mathlib.Core.Path.{_≡_, sym, ap, _∙_}
+use mathlib.Core.Path.{_≡_, ap, _∙_}
 use mathlib.Core.Bool.{Bool}
 use native.Mathlib.Omega.{arith}
 use borrow.Author.Needs.{needs}
@@ -18,7 +18,8 @@ abbrev μ-loop : tie.MeasureT-loop
 μ-loop x low high bits from₀ to₀ from to = to - from
 
 -- what the comparison of floats says of the bits
-compared : (n : ℕ) (x y : Float) (b : Bool) → y ≡ factorOf n → b ≡ eqb (toBits binary64 y) (toBits binary64 x) → b ≡ eqb (factorBits n) (toBits binary64 x)
+compared : (n : ℕ) (x y : Float) (b : Bool) → y ≡ factorOf n → b ≡ eqb (toBits binary64 y) (toBits binary64 x) → b
+    ≡ eqb (factorBits n) (toBits binary64 x)
 unfolding factorBits
 compared n x y b e d = d ∙ ap (λ (z : Float). eqb (toBits binary64 z) (toBits binary64 x)) e
 
@@ -39,12 +40,14 @@ search-spec =
     (λ c.
     let l = c .before .before .before .loop in
     let a = c .before .before .before .before .args in
-    halved-up (a .low) (a .high) (toBits binary64 (a .x)) (l .from) (l .to) (l .from + (l .to - l .from) / 2) _ (c .before .before .before .before .pre .0) (l .inv) (omega arith) (omega arith) (c .before .factor-bits .ensures) (c .if1 .taken))
+    halved-up (a .low) (a .high) (toBits binary64 (a .x)) (l .from) (l .to) (l .from + (l .to - l .from) / 2) _
+    (c .before .before .before .before .pre .0) (l .inv) (omega arith) (omega arith) (c .before .factor-bits .ensures) (c .if1 .taken))
     (λ c. omega arith)
     (λ c.
     let l = c .before .before .before .loop in
     let a = c .before .before .before .before .args in
-    halved-down (a .low) (a .high) (toBits binary64 (a .x)) (l .from) (l .to) (l .from + (l .to - l .from) / 2) _ (c .before .before .before .before .pre .0) (l .inv) (omega arith) (omega arith) (c .before .factor-bits .ensures) (c .if1 .left))
+    halved-down (a .low) (a .high) (toBits binary64 (a .x)) (l .from) (l .to) (l .from + (l .to - l .from) / 2) _
+    (c .before .before .before .before .pre .0) (l .inv) (omega arith) (omega arith) (c .before .factor-bits .ensures) (c .if1 .left))
     (λ c.
     let l = c .before .before .loop in
     search-past _ _ _ (l .from) (l .to) (c .before .before .before .pre .0) (l .inv) (c .before .loop-test .left) (c .if2 .taken))
@@ -53,12 +56,14 @@ search-spec =
     (λ c.
     let l = c .before .before .before .before .before .loop in
     let s = c .before .before .before .before .before .before in
-    search-hit _ _ _ (l .from) (l .to) (s .pre .0) (l .inv) (c .before .before .before .before .loop-test .left) (c .before .before .before .if2 .left) _
+    search-hit _ _ _ (l .from) (l .to) (s .pre .0) (l .inv) (c .before .before .before .before .loop-test .left)
+    (c .before .before .before .if2 .left) _
     (compared _ (s .args .x) _ _ (c .before .before .factor .ensures .0) (c .before .same .ensures))
     (c .if3 .taken))
     (λ c.
     let l = c .before .before .before .before .before .loop in
     let s = c .before .before .before .before .before .before in
-    search-miss _ _ _ (l .from) (l .to) (s .pre .0) (l .inv) (c .before .before .before .before .loop-test .left) (c .before .before .before .if2 .left) _
+    search-miss _ _ _ (l .from) (l .to) (s .pre .0) (l .inv) (c .before .before .before .before .loop-test .left)
+    (c .before .before .before .if2 .left) _
     (compared _ (s .args .x) _ _ (c .before .before .factor .ensures .0) (c .before .same .ensures))
     (c .if3 .left)))

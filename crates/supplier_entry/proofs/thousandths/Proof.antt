@@ -1,5 +1,4 @@
 -- `supplier_entry::thousandths` meets its contract. Assumes nothing.
-use mathlib.Core.Path.{_≡_, _∙_}
 use native.Mathlib.Omega.{arith}
 use borrow.Author.Needs.{needs}
 use mir.Facts.{toZ-ofZ}
@@ -21,4 +20,6 @@ thousandths-spec =
     (λ c.
     let s = c .before .before .before .before .before in
     let g = c .before .before .struct-told2 .given in
-    thousandths-are (s .args .limit) _ _ _ _ (s .pre .0) (rw (toZ-ofZ (record { sfits = g .0 .1 })) at (c .before .before .before .magnitude .ensures)) (rw (toZ-ofZ (record { sfits = g .1 .0 .1 })) at (c .before .magnitude2 .ensures)) (c .search .ensures)))
+    thousandths-are (s .args .limit) _ _ _ _ (s .pre .0)
+    (rw (toZ-ofZ (record { sfits = g .0 .1 })) at (c .before .before .before .magnitude .ensures))
+    (rw (toZ-ofZ (record { sfits = g .1 .0 .1 })) at (c .before .magnitude2 .ensures)) (c .search .ensures)))

@@ -1,6 +1,5 @@
 -- `supplier_entry::unsigned_of` meets its contract. Assumes nothing.
-use mathlib.Core.Path.{_≡_, sym, _∙_}
-use native.Mathlib.Omega.{arith}
+use mathlib.Core.Path.{sym, _∙_}
 use borrow.Author.Needs.{needs}
 use mir.Facts.{toZ-ofZ}
 use Rattle.supplier_entry.proofs.EntryLaws.{minus-one, bits-minus, bits-plus}
@@ -15,11 +14,14 @@ unsigned-of-spec =
     (λ c κs. search needs)
     (λ c.
     let f = c .before .before .before .fits .z in
-    minus-one (c .before .before .before .args .z) _ (rw (toZ-ofZ f) at (sym (c .if1 .taken) ∙ c .before .is-negative .ensures)) (rw (toZ-ofZ f) at (c .before .before .magnitude .ensures)))
+    minus-one (c .before .before .before .args .z) _ (rw (toZ-ofZ f) at (sym (c .if1 .taken) ∙ c .before .is-negative .ensures))
+    (rw (toZ-ofZ f) at (c .before .before .magnitude .ensures)))
     (λ c. search needs)
     (λ c.
     let f = c .before .before .before .fits .z in
-    bits-minus _ _ (rw (toZ-ofZ f) at (sym (c .if1 .taken) ∙ c .before .is-negative .ensures)) (rw (toZ-ofZ f) at (c .before .before .magnitude .ensures)))
+    bits-minus _ _ (rw (toZ-ofZ f) at (sym (c .if1 .taken) ∙ c .before .is-negative .ensures))
+    (rw (toZ-ofZ f) at (c .before .before .magnitude .ensures)))
     (λ c.
     let f = c .before .before .before .fits .z in
-    bits-plus _ _ (rw (toZ-ofZ f) at (sym (c .if1 .left) ∙ c .before .is-negative .ensures)) (rw (toZ-ofZ f) at (c .before .before .magnitude .ensures))))
+    bits-plus _ _ (rw (toZ-ofZ f) at (sym (c .if1 .left) ∙ c .before .is-negative .ensures))
+    (rw (toZ-ofZ f) at (c .before .before .magnitude .ensures))))

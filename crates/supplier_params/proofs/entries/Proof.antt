@@ -1,6 +1,6 @@
 -- `supplier_params::entries` meets its contract. Assumes nothing.
 use Prim.Native.Nat.{_-_}
-use mathlib.Core.Path.{_≡_, refl, _∙_}
+use mathlib.Core.Path.{refl}
 use native.Mathlib.Omega.{arith}
 use borrow.Author.Needs.{needs, sfits-of}
 use mir.Syntax.{w64}
@@ -26,7 +26,9 @@ entries-spec =
     (λ c κs. search needs)
     (λ c. search needs)
     (λ c. search needs)
-    (λ c. let l = c .before .before .before .before .loop in taken-broken _ (l .i) (l .numbers) _ (l .inv) (c .before .before .before .loop-test .taken) (c .before .before .number-at .ensures) (c .enum-told .given .1))
+    (λ c. let l = c .before .before .before .before .loop in
+    taken-broken _ (l .i) (l .numbers) _ (l .inv) (c .before .before .before .loop-test .taken) (c .before .before .number-at .ensures)
+    (c .enum-told .given .1))
     (λ c. omega arith)
     (λ c. let l = c .before .before .before .before .before .loop in omega (arith, l .inv .len))
     (λ c. omega arith)
@@ -34,5 +36,7 @@ entries-spec =
     (λ c.
     let l = c .before .before .before .before .before .loop in
     let f = sfits-of {w = w64} {z = c .before .n .given .0 .0} (c .known-told .given .0 .1) in
-    rw (toZ-ofZ f) (taken-more _ (l .i) (l .numbers) _ (l .inv) (c .before .before .before .before .loop-test .taken) (c .before .before .before .number-at .ensures) _ (c .before .n .given .1)))
+    rw (toZ-ofZ f)
+    (taken-more _ (l .i) (l .numbers) _ (l .inv) (c .before .before .before .before .loop-test .taken)
+    (c .before .before .before .number-at .ensures) _ (c .before .n .given .1)))
     (λ c. let l = c .before .loop in taken-all _ (l .i) (l .numbers) (c .loop-test .left) (l .inv)))

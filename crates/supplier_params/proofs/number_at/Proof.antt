@@ -16,7 +16,9 @@ number-at-spec =
     (λ c κs. (omega arith, omega arith))
     (λ c κs. search needs)
     (λ c κs. search needs)
-    (λ c κs. rw (c .before .form-of .ensures, c .limit-of .ensures) (field-at (c .before .before .before .before .before .args .i) (c .before .before .before .before .before .pre .1) .fit))
+    (λ c κs. rw (c .before .form-of .ensures, c .limit-of .ensures)
+    (field-at (c .before .before .before .before .before .args .i) (c .before .before .before .before .before .pre .1) .fit))
     (λ c.
     let s = c .before .before .before .before .before .before in
-    number-is (s .args .s .now) (s .args .i) _ _ _ _ (omega arith) (c .before .before .before .low-first .ensures .0) (c .before .before .form-of .ensures) (c .before .limit-of .ensures) (c .import .ensures)))
+    number-is (s .args .s .now) (s .args .i) _ _ _ _ (omega arith) (c .before .before .before .low-first .ensures .0)
+    (c .before .before .form-of .ensures) (c .before .limit-of .ensures) (c .import .ensures)))
