@@ -136,8 +136,10 @@ module _ (low high u : ℕ) where
           (λ g. not-from k (λ a w. other k g (omega arith) w))))
         where
           differs : factorBits from ≡ u → ⊥
-          differs w = let z : true ≡ false = sym (eq-eqb (factorBits from) u w) ∙ sym d ∙ t in let y : _≡_ {A = ℕ} 0 1 =
-          cc in absurd (omega arith)
+          differs w =
+              let z : true ≡ false = sym (eq-eqb (factorBits from) u w) ∙ sym d ∙ t in
+              let y : _≡_ {A = ℕ} 0 1 = cc in
+              absurd (omega arith)
 
           other : (k : ℕ) → from ≤ k → k ≤ high → factorBits k ≡ u → ⊥
           other k g q w =
