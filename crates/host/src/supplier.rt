@@ -35,7 +35,7 @@ pub extern "C" fn hivepadlet_import(bytes: &[u8], numbers: &mut [i64; NUMBERS]) 
 }
 
 // Exports parameters given by value, of which it is known that they are 147.
-fn put(all: Params, buffer: &mut [u8]) -> u64
+fn export(all: Params, buffer: &mut [u8]) -> u64
     ensures { λ r. ⌜ HostsExport (all .numbers) r (now (buffer .entry)) (now (buffer .exit)) ⌝ }
 {
     match supplier_params::export(all, buffer) {
@@ -51,5 +51,5 @@ pub extern "C" fn hivepadlet_export(numbers: &[i64; NUMBERS], buffer: &mut [u8])
     ensures { λ r. ⌜ HostsExport (now (numbers .entry)) r (now (buffer .entry)) (now (buffer .exit)) ⌝ }
 {
     let all = Params { numbers: *numbers };
-    put(all, buffer)
+    export(all, buffer)
 }

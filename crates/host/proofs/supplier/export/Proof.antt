@@ -1,12 +1,12 @@
--- `host::put` meets its contract. Assumes nothing.
+-- `host::export` meets its contract. Assumes nothing.
 use native.Mathlib.Omega.{arith}
 use borrow.Author.Needs.{needs}
 use Rattle.host.proofs.SupplierLaws.{export-fits, hosts-export}
-use Rattle.host.proofs.supplier.put.Statement.{statement}
-use Rattle.host.proofs.supplier.put.Tie as tie
+use Rattle.host.proofs.supplier.export.Statement.{statement}
+use Rattle.host.proofs.supplier.export.Tie as tie
 
-pub put-spec : {M : Type 1} → statement M
-put-spec =
+pub export-spec : {M : Type 1} → statement M
+export-spec =
     tie.close
     (tie.spec
     (λ c κs. search needs)
