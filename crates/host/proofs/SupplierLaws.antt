@@ -12,7 +12,8 @@ use Rattle.index.specs.declared.Found.{Found}
 use Rattle.index.specs.declared.Found.the-variants.{At, Nothing}
 use Rattle.index.proofs.Flags.{by-test}
 use Rattle.answers.specs.Answers.{packed}
-use Rattle.params.specs.Check.{firstBroken}
+use Rattle.params.specs.Editions.{sheet}
+use Rattle.params.specs.declared.Edition.the-variants.{First}
 use Rattle.params.proofs.CheckLaws.{broken-most}
 use Rattle.params_bytes.specs.Read.{verdictNumber, verdictValue}
 use Rattle.params_bytes.specs.declared.Reading.{Reading}
@@ -20,7 +21,7 @@ use Rattle.params_bytes.specs.declared.Verdict.{Verdict}
 use Rattle.params_bytes.specs.declared.Written.{Written}
 use Rattle.supplier_params.specs.Forms.{supplierBytes}
 use Rattle.supplier_params.specs.Import.{importOf}
-use Rattle.supplier_params.specs.Export.{exportBy, exportOf, exportNumber, exportValue}
+use Rattle.supplier_params.specs.Export.{brokenFirst, exportBy, exportOf, exportNumber, exportValue}
 use Rattle.supplier_params.proofs.ExportLaws.{Exported}
 use Rattle.host.specs.Host.{numbersOr}
 use Rattle.host.specs.Supplier.{greatestValue, HostsImport, HostsExport}
@@ -54,10 +55,10 @@ unfolding exportOf
 export-most numbers buf =
     by-test (exportValue (exportOf numbers buf .answer) ≤ greatestValue) (ltb (length buf) supplierBytes)
     (λ t. rw t (omega arith))
-    (λ t. rw t (go (firstBroken numbers) refl))
+    (λ t. rw t (go (brokenFirst numbers) refl))
   where
-    go : (f : Found) → firstBroken numbers ≡ f → exportValue (exportBy f numbers buf .answer) ≤ greatestValue
-    go (At i) e = omega (arith, broken-most numbers i e)
+    go : (f : Found) → brokenFirst numbers ≡ f → exportValue (exportBy f numbers buf .answer) ≤ greatestValue
+    go (At i) e = omega (arith, broken-most (sheet First numbers) i e)
     go Nothing e = omega arith
 
 module _ (numbers : List ℤ) (buf buf′ : List ℕ) (w v : Written) (e : Exported numbers buf w buf′) (t : w ≡ v) where

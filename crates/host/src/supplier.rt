@@ -4,6 +4,7 @@ ghost use Prim.Native.Nat.{_≤_, min};
 ghost use Rattle.host.specs.Supplier.{greatestValue, HostsImport, HostsExport};
 use answers::packed;
 use limits::NUMBERS;
+use params::Edition;
 use params::Params;
 use params_bytes::Verdict;
 use params_bytes::Written;
@@ -50,6 +51,9 @@ fn export(all: Params, buffer: &mut [u8]) -> u64
 pub extern "C" fn hivepadlet_export(numbers: &[i64; NUMBERS], buffer: &mut [u8]) -> u64
     ensures { λ r. ⌜ HostsExport (now (numbers .entry)) r (now (buffer .entry)) (now (buffer .exit)) ⌝ }
 {
-    let all = Params { numbers: *numbers };
+    let all = Params {
+        numbers: *numbers,
+        edition: Edition::First,
+    };
     export(all, buffer)
 }

@@ -9,7 +9,8 @@ use native.Mathlib.Numerals.{add-one}
 use native.Mathlib.Omega.{arith}
 use native.Mathlib.Decide.{decLt}
 use lib.ListN.{length, getD, set, take, drop, replicate, length-append, length-drop, List·getD-append}
-use lib.Seq.{sets, sets-eq, take-length, paste-zero, drop-drop, take-append-seam, drop-append-add, paste, length-paste, length-paste-head, getD-take, getD-drop, getD-append-add, length-take-le, set-split, append-snoc}
+use lib.Seq.{sets, sets-eq, take-length, paste-zero, drop-drop, take-append-seam, drop-append-add, length-paste, length-paste-head}
+use lib.Seq.{getD-take, getD-drop, getD-append-add, length-take-le, set-split, append-snoc}
 use Rattle.layout.specs.Rows.{tab, span, put, rows, joins}
 
 -- ---- a table made by index
@@ -162,7 +163,8 @@ unfolding rows
 rows-put-cell cells o w n i j v h l fits =
     let b : i * w + w ≤ n * w = stride i n w h in
     let f : (o + i * w + j) + length (v ∷ []) ≤ length cells = omega arith in
-    tab-set n (λ k. span cells (o + k * w) w) (λ k. span (put cells (o + i * w + j) (v ∷ [])) (o + k * w) w) i (set (span cells (o + i * w) w) j v)
+    tab-set n (λ k. span cells (o + k * w) w) (λ k. span (put cells (o + i * w + j) (v ∷ [])) (o + k * w) w) i
+    (set (span cells (o + i * w) w) j v)
     (span-put-one cells (o + i * w) w j v l (omega arith))
     (λ k hk ne. elim (decLt k i) [
       | yes m ↦ span-put-before cells (o + i * w + j) (v ∷ []) f (o + k * w) w (omega (arith, stride k i w m))

@@ -1,17 +1,19 @@
 -- Laws of the state alone: what each reader sees after each store, sizes, and stores that change nothing.
 -- Assumes nothing.
-use Prim.Native.Nat.{ℕ, zero, suc, _+_, _<_}
-use mathlib.Core.Path.{_≡_, refl, sym, ap, _∙_}
+use Prim.Native.Nat.{ℕ, zero, suc, _<_}
+use mathlib.Core.Path.{_≡_, refl, ap, _∙_}
 use mathlib.Core.Logic.{_≢_}
 use mathlib.Core.List.{List, [], _∷_, map}
-use lib.ListN.{length, getD, set, length-set, length-map, List·getD-map}
-use lib.Seq.{getD-set-same, getD-set-other, set-getD, set-set, set-comm}
+use lib.ListN.{length, getD, length-set, length-map}
+use lib.Seq.{getD-set-same, getD-set-other, set-getD, set-set}
 use Rattle.index.proofs.Lists.{set-case}
 use Rattle.records.specs.declared.Peer.{Peer}
 use Rattle.records.specs.declared.TopicRecord.{TopicRecord}
-use Rattle.records.specs.Records.{State, noPeer, noTopic, joinedIn, codeIn, peerIn, topicIn, setClock, setJoined, setPeer, setTopic, slotCount, topicCount, paramCount}
+use Rattle.records.specs.Records.{State, noPeer, noTopic, joinedIn, codeIn, peerIn, topicIn, setClock, setJoined, setPeer, setTopic}
+use Rattle.records.specs.Records.{slotCount, topicCount, paramCount}
 use Rattle.layout.specs.Rows.{rows}
-use Rattle.layout.specs.View.{joinedAt, codesAt, peersAt, peerCells, topicsAt, topicCells, placeCount, peerOf, topicOf, stateOf, Sized}
+use Rattle.layout.specs.View.{joinedAt, codesAt, peersAt, peerCells, topicsAt, topicCells, placeCount, peerOf, topicOf, stateOf}
+use Rattle.layout.specs.View.{Sized}
 use Rattle.layout.proofs.RowLaws.{length-rows, length-span}
 
 module _ (st : State) where
@@ -103,6 +105,22 @@ module _ (st : State) where
   unfolding setTopic
   codes-after-topic k t = refl
 
+  pub setup-after-clock : (n : ℕ) → setClock st n .setup ≡ st .setup
+  unfolding setClock
+  setup-after-clock n = refl
+
+  pub setup-after-joined : (t b : ℕ) → setJoined st t b .setup ≡ st .setup
+  unfolding setJoined
+  setup-after-joined t b = refl
+
+  pub setup-after-peer : (s : ℕ) (p : Peer) → setPeer st s p .setup ≡ st .setup
+  unfolding setPeer
+  setup-after-peer s p = refl
+
+  pub setup-after-topic : (k : ℕ) (t : TopicRecord) → setTopic st k t .setup ≡ st .setup
+  unfolding setTopic
+  setup-after-topic k t = refl
+
   pub joined-after-clock : (n : ℕ) (x : ℕ) → joinedIn (setClock st n) x ≡ joinedIn st x
   unfolding joinedIn setClock
   joined-after-clock n x = refl
@@ -165,21 +183,24 @@ module _ (st : State) where
   unfolding setJoined joinedIn
   joined-again t =
       ap
-      (λ (l : List ℕ). record { clock = st .clock; joined = l; codes = st .codes; peers = st .peers; topics = st .topics })
+      (λ (l : List ℕ). record
+      { clock = st .clock; joined = l; codes = st .codes; setup = st .setup; peers = st .peers; topics = st .topics })
       (set-getD (st .joined) t 0)
 
   pub peer-again : (s : ℕ) → setPeer st s (peerIn st s) ≡ st
   unfolding setPeer peerIn
   peer-again s =
       ap
-      (λ (l : List Peer). record { clock = st .clock; joined = st .joined; codes = st .codes; peers = l; topics = st .topics })
+      (λ (l : List Peer). record
+      { clock = st .clock; joined = st .joined; codes = st .codes; setup = st .setup; peers = l; topics = st .topics })
       (set-getD (st .peers) s noPeer)
 
   pub topic-again : (k : ℕ) → setTopic st k (topicIn st k) ≡ st
   unfolding setTopic topicIn
   topic-again k =
       ap
-      (λ (l : List TopicRecord). record { clock = st .clock; joined = st .joined; codes = st .codes; peers = st .peers; topics = l })
+      (λ (l : List TopicRecord). record
+      { clock = st .clock; joined = st .joined; codes = st .codes; setup = st .setup; peers = st .peers; topics = l })
       (set-getD (st .topics) k noTopic)
 
   pub clock-twice : (m n : ℕ) → setClock (setClock st m) n ≡ setClock st n
@@ -190,14 +211,16 @@ module _ (st : State) where
   unfolding setPeer
   peer-twice s p q =
       ap
-      (λ (l : List Peer). record { clock = st .clock; joined = st .joined; codes = st .codes; peers = l; topics = st .topics })
+      (λ (l : List Peer). record
+      { clock = st .clock; joined = st .joined; codes = st .codes; setup = st .setup; peers = l; topics = st .topics })
       (set-set (st .peers) s p q)
 
   pub topic-twice : (k : ℕ) (t u : TopicRecord) → setTopic (setTopic st k t) k u ≡ setTopic st k u
   unfolding setTopic
   topic-twice k t u =
       ap
-      (λ (l : List TopicRecord). record { clock = st .clock; joined = st .joined; codes = st .codes; peers = st .peers; topics = l })
+      (λ (l : List TopicRecord). record
+      { clock = st .clock; joined = st .joined; codes = st .codes; setup = st .setup; peers = st .peers; topics = l })
       (set-set (st .topics) k t u)
 
   -- ---- the order of two stores of different kinds does not matter
@@ -304,6 +327,10 @@ pub ruleset reads = (
   codes-after-joined,
   codes-after-peer,
   codes-after-topic,
+  setup-after-clock,
+  setup-after-joined,
+  setup-after-peer,
+  setup-after-topic,
   joined-after-clock,
   joined-after-peer,
   joined-after-topic,

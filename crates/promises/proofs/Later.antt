@@ -184,12 +184,6 @@ module _ (st : State) (time : ℕ) where
       (later-peer st s _ (record { used = λ n. n; id = λ n. refl; ends = end-later (peerIn st s) t (endAfter time (pruneBackoff st)) }))
 
 -- ---- a backoff that is set
-pub end-set : (st : State) (s t end : ℕ) → Sized st → s < slotCount → t < 8 → end ≤ endIn (onPeer st s (λ p. withEnd p t end)) s t
-end-set st s t end size h k =
-    let a = ap (λ (p : Peer). getD (p .backoff) t 0) (peer-same st s (withEnd (peerIn st s) t end) (omega (arith, size .peers, h))) in
-    let b = end-same (peerIn st s) t end (omega (arith, size .ends s, k)) in
-    omega (arith, a, b)
-
 pub end-pruned : (st : State) (s t end : ℕ) → Sized st → s < slotCount → t < 8 → end ≤ endIn (pruned st s t end) s t
 end-pruned st s t end size h k =
     let a = ap (λ (p : Peer). getD (p .backoff) t 0) (pruned-same st s t end size h) in

@@ -24,7 +24,7 @@ use params::Params;
 
 // Makes a fresh router: 9 with its place and the table unchanged, or every cell written.
 pub fn fresh(all: Params, table: &mut [u64; CELLS]) -> Made
-    ensures { λ r. ⌜ Makes (all .numbers) r (now (table .entry)) (now (table .exit)) ⌝ }
+    ensures { λ r. ⌜ Makes all r (now (table .entry)) (now (table .exit)) ⌝ }
 {
     lookup::fresh::fresh(all, table)
 }

@@ -21,44 +21,47 @@ use Rattle.text.proofs.TextLaws.{stored-then}
 use Rattle.param_text.specs.Lines.{headText}
 use Rattle.param_text.proofs.Enough.{enough}
 use Rattle.params.specs.Check.{firstBroken}
+use Rattle.params.specs.declared.Edition.{Edition}
+use Rattle.params.specs.declared.Edition.the-variants.{First, Second}
+use Rattle.params.specs.declared.Params.{Params}
 use Rattle.params_bytes.specs.Read.{readOf, refusal}
-use Rattle.params_bytes.specs.Write as own
+use Rattle.params_bytes.specs.Write.{roomFor, formOf, writeBy, writeOf}
 use Rattle.params_bytes.specs.declared.Verdict.{Verdict}
 use Rattle.params_bytes.specs.declared.Verdict.the-variants.{Malformed}
 use Rattle.params_bytes.specs.declared.Reading.{Reading}
 use Rattle.params_bytes.specs.declared.Written.{Written}
 use Rattle.params_bytes.specs.declared.Written.the-variants.{Done, Short, Outside}
-use Rattle.params_bytes.proofs.RoundTrip.{bytes-most}
+use Rattle.params_bytes.proofs.RoundTrip.{form-most}
 use Rattle.supplier_params.specs.Forms.{supplierBytes}
 use Rattle.supplier_params.specs.Import.{importOf}
-use Rattle.supplier_params.specs.Export.{bytesOf, exportBy, exportOf}
+use Rattle.supplier_params.specs.Export.{brokenFirst, bytesOf, exportBy, exportOf}
 use Rattle.supplier_params.proofs.ExportLaws.{length-entries}
 use Rattle.supplier.specs.Output.{doneText, numbersOutput, importText, entriesText, entriesOutput, exportOutput, exportText, unless}
 use Rattle.supplier.specs.Output.{allowed, importBytes, exportBytes, outputOf, Room}
 
 -- ---- a reading, by its verdict
 module _ (q r : Reading) (v : Verdict) (is : q ≡ r) (told : q .verdict ≡ v) where
-  by-verdict : (F : Verdict → List ℤ → List ℕ) → F v (q .params .numbers) ≡ F (r .verdict) (r .params .numbers)
-  by-verdict F = ap (λ (w : Verdict). F w (q .params .numbers)) (sym told) ∙ ap (λ (x : Reading). F (x .verdict) (x .params .numbers)) is
+  by-verdict : (F : Verdict → Params → List ℕ) → F v (q .params) ≡ F (r .verdict) (r .params)
+  by-verdict F = ap (λ (w : Verdict). F w (q .params)) (sym told) ∙ ap (λ (x : Reading). F (x .verdict) (x .params)) is
 
-  module _ (b₀ b₁ : List ℕ) (p : ℕ) where
-    pub import-as : Stored b₀ 0 (numbersOutput v (q .params .numbers)) p b₁ → Stored b₀ 0 (importText r) p b₁
+  module _ (b₀ b₁ : List ℕ) (n : ℕ) where
+    pub import-as : Stored b₀ 0 (numbersOutput v (q .params .numbers)) n b₁ → Stored b₀ 0 (importText r) n b₁
     unfolding importText
-    import-as s = rw (sym (by-verdict numbersOutput)) s
+    import-as s = rw (sym (by-verdict (λ w p. numbersOutput w (p .numbers)))) s
 
-    pub export-as : Stored b₀ 0 (exportOutput v (q .params .numbers)) p b₁ → Stored b₀ 0 (exportText r) p b₁
+    pub export-as : Stored b₀ 0 (exportOutput v (q .params .numbers)) n b₁ → Stored b₀ 0 (exportText r) n b₁
     unfolding exportText
-    export-as s = rw (sym (by-verdict exportOutput)) s
+    export-as s = rw (sym (by-verdict (λ w p. exportOutput w (p .numbers)))) s
 
-    pub import-bytes-as : Stored b₀ 0 (allowed v (q .params .numbers) (own.bytesOf (q .params .numbers))) p b₁ →
-        Stored b₀ 0 (importBytes r) p b₁
+    pub import-bytes-as : Stored b₀ 0 (allowed v (firstBroken (q .params)) (formOf (q .params))) n b₁ → Stored b₀ 0 (importBytes r) n b₁
     unfolding importBytes
-    import-bytes-as s = rw (sym (by-verdict (λ w xs. allowed w xs (own.bytesOf xs)))) s
+    import-bytes-as s = rw (sym (by-verdict (λ w p. allowed w (firstBroken p) (formOf p)))) s
 
-    pub export-bytes-as : Stored b₀ 0 (allowed v (q .params .numbers) (bytesOf (q .params .numbers))) p b₁ →
-        Stored b₀ 0 (exportBytes r) p b₁
+    pub export-bytes-as :
+        Stored b₀ 0 (allowed v (brokenFirst (q .params .numbers)) (bytesOf (q .params .numbers))) n b₁ →
+        Stored b₀ 0 (exportBytes r) n b₁
     unfolding exportBytes
-    export-bytes-as s = rw (sym (by-verdict (λ w xs. allowed w xs (bytesOf xs)))) s
+    export-bytes-as s = rw (sym (by-verdict (λ w p. allowed w (brokenFirst (p .numbers)) (bytesOf (p .numbers))))) s
 
 pub nothing-stored : (b : List ℕ) → Stored b 0 [] 0 b
 nothing-stored b = (omega arith, refl)
@@ -113,66 +116,85 @@ module _ (f : Found) (n : ℕ) (r : Written) (e : r ≡ answerBy f n) where
       go (At j) q = let z : _≡_ {A = ℕ} 0 1 = cc in absurd (omega arith)
       go Nothing q = let z : _≡_ {A = ℕ} 0 1 = cc in absurd (omega arith)
 
--- ---- our own writer, and the supplier's
-module _ (xs : List ℤ) (buf : List ℕ) where
-  own-by : own.roomNeeded ≤ length buf → (own.writeOf xs buf .answer ≡ answerBy (firstBroken xs) (length (own.bytesOf xs)))
-      × (own.writeOf xs buf .bytes ≡ bytesBy (firstBroken xs) (own.bytesOf xs) buf)
-  unfolding own.writeOf
-  own-by h = rw (le-ltb (length buf) own.roomNeeded h) (go (firstBroken xs))
+-- ---- our own writer
+room-most : (e : Edition) → roomFor e ≤ 4096
+room-most First = omega arith
+room-most Second = omega arith
+
+module _ (p : Params) (buf : List ℕ) where
+  own-by :
+      roomFor (p .edition) ≤ length buf →
+      (writeOf p buf .answer ≡ answerBy (firstBroken p) (length (formOf p)))
+      × (writeOf p buf .bytes ≡ bytesBy (firstBroken p) (formOf p) buf)
+  unfolding writeOf
+  own-by h = rw (le-ltb (length buf) (roomFor (p .edition)) h) (go (firstBroken p))
     where
-      go : (f : Found) → (own.writeBy f xs buf .answer ≡ answerBy f (length (own.bytesOf xs)))
-          × (own.writeBy f xs buf .bytes ≡ bytesBy f (own.bytesOf xs) buf)
+      go :
+          (f : Found) →
+          (writeBy f p buf .answer ≡ answerBy f (length (formOf p))) × (writeBy f p buf .bytes ≡ bytesBy f (formOf p) buf)
       go (At i) = (refl, refl)
       go Nothing = (refl, refl)
 
+  pub own-stored :
+      (r v : Written) (out : List ℕ) →
+      r ≡ v →
+      4096 ≤ length buf →
+      length (p .numbers) ≡ paramCount →
+      (r ≡ writeOf p buf .answer) × (out ≡ writeOf p buf .bytes) →
+      Stored buf 0 (unless (firstBroken p) (formOf p)) (lengthOf v) out × (lengthOf v ≤ 4096)
+  own-stored r v out t h l w =
+      let m = room-most (p .edition) in
+      let b = own-by (omega arith) in (
+        written-stored (firstBroken p) (formOf p) buf out r v (w .0 ∙ b .0) (w .1 ∙ b .1) t,
+        written-length (firstBroken p) (length (formOf p)) 4096 r v (λ e. omega (arith, form-most p l e, m)) (w .0 ∙ b .0) t,
+      )
+
+-- ---- the supplier's
+module _ (xs : List ℤ) (buf : List ℕ) where
   pub length-theirs : length (bytesOf xs) ≡ supplierBytes
   unfolding bytesOf
   length-theirs = length-entries xs paramCount
 
-  pub theirs-by : supplierBytes ≤ length buf → (exportOf xs buf .answer ≡ answerBy (firstBroken xs) (length (bytesOf xs)))
-      × (exportOf xs buf .bytes ≡ bytesBy (firstBroken xs) (bytesOf xs) buf)
+  theirs-by :
+      supplierBytes ≤ length buf →
+      (exportOf xs buf .answer ≡ answerBy (brokenFirst xs) (length (bytesOf xs)))
+      × (exportOf xs buf .bytes ≡ bytesBy (brokenFirst xs) (bytesOf xs) buf)
   unfolding exportOf
-  theirs-by h = rw (le-ltb (length buf) supplierBytes h, length-theirs) (go (firstBroken xs))
+  theirs-by h = rw (le-ltb (length buf) supplierBytes h, length-theirs) (go (brokenFirst xs))
     where
-      go : (f : Found) → (exportBy f xs buf .answer ≡ answerBy f supplierBytes) × (exportBy f xs buf .bytes ≡ bytesBy f (bytesOf xs) buf)
+      go :
+          (f : Found) →
+          (exportBy f xs buf .answer ≡ answerBy f supplierBytes) × (exportBy f xs buf .bytes ≡ bytesBy f (bytesOf xs) buf)
       go (At i) = (refl, refl)
       go Nothing = (refl, refl)
 
-  module _ (r v : Written) (out : List ℕ) (t : r ≡ v) (h : 4096 ≤ length buf) where
-    pub own-stored :
-        length xs ≡ paramCount →
-        (r ≡ own.writeOf xs buf .answer) × (out ≡ own.writeOf xs buf .bytes) →
-        Stored buf 0 (unless (firstBroken xs) (own.bytesOf xs)) (lengthOf v) out × (lengthOf v ≤ 4096)
-    own-stored l w =
-        let b = own-by (omega arith) in (
-          written-stored (firstBroken xs) (own.bytesOf xs) buf out r v (w .0 ∙ b .0) (w .1 ∙ b .1) t,
-          written-length (firstBroken xs) (length (own.bytesOf xs)) 4096 r v (λ e. omega (arith, bytes-most xs l e)) (w .0 ∙ b .0) t,
-        )
-
-    pub theirs-stored :
-        (r ≡ exportOf xs buf .answer) × (out ≡ exportOf xs buf .bytes) →
-        Stored buf 0 (unless (firstBroken xs) (bytesOf xs)) (lengthOf v) out × (lengthOf v ≤ 4096)
-    theirs-stored w =
-        let b = theirs-by (omega arith) in (
-          written-stored (firstBroken xs) (bytesOf xs) buf out r v (w .0 ∙ b .0) (w .1 ∙ b .1) t,
-          written-length (firstBroken xs) (length (bytesOf xs)) 4096 r v (λ e. omega (arith, length-theirs)) (w .0 ∙ b .0) t,
-        )
+  pub theirs-stored :
+      (r v : Written) (out : List ℕ) →
+      r ≡ v →
+      4096 ≤ length buf →
+      (r ≡ exportOf xs buf .answer) × (out ≡ exportOf xs buf .bytes) →
+      Stored buf 0 (unless (brokenFirst xs) (bytesOf xs)) (lengthOf v) out × (lengthOf v ≤ 4096)
+  theirs-stored r v out t h w =
+      let b = theirs-by (omega arith) in (
+        written-stored (brokenFirst xs) (bytesOf xs) buf out r v (w .0 ∙ b .0) (w .1 ∙ b .1) t,
+        written-length (brokenFirst xs) (length (bytesOf xs)) 4096 r v (λ e. omega (arith, length-theirs)) (w .0 ∙ b .0) t,
+      )
 
 -- ---- the ends of `put_exported`: what was exported to the page
 module _
     (xs : List ℤ) (page : List ℕ) (r : Written) (out : List ℕ) (room : supplierBytes ≤ length page)
     (w : (r ≡ exportOf xs page .answer) × (out ≡ exportOf xs page .bytes))
   where
-    by : (r ≡ answerBy (firstBroken xs) (length (bytesOf xs))) × (out ≡ bytesBy (firstBroken xs) (bytesOf xs) page)
+    by : (r ≡ answerBy (brokenFirst xs) (length (bytesOf xs))) × (out ≡ bytesBy (brokenFirst xs) (bytesOf xs) page)
     by = let b = theirs-by xs page room in (w .0 ∙ b .0, w .1 ∙ b .1)
 
     module _ (n : ℕ) (t : r ≡ Done n) where
       pub done-length : n ≡ supplierBytes
-      done-length = is-done (firstBroken xs) (length (bytesOf xs)) r (by .0) n t .1 ∙ length-theirs xs page
+      done-length = is-done (brokenFirst xs) (length (bytesOf xs)) r (by .0) n t .1 ∙ length-theirs xs page
 
       pub done-page : take n out ≡ bytesOf xs
       done-page =
-          let d = is-done (firstBroken xs) (length (bytesOf xs)) r (by .0) n t in
+          let d = is-done (brokenFirst xs) (length (bytesOf xs)) r (by .0) n t in
           let l = length-theirs xs page in
           rw (d .1, by .1, d .0)
           (ap (take (length (bytesOf xs))) (sets-eq (bytesOf xs) page 0 (omega arith)) ∙ take-at (bytesOf xs) _ (length (bytesOf xs)) refl)
@@ -181,17 +203,17 @@ module _
           (b₀ b₁ b₂ : List ℕ) (p₁ p₂ : ℕ) →
           Stored b₀ 0 doneText p₁ b₁ →
           Stored b₁ p₁ (entriesText (take n out)) p₂ b₂ →
-          Stored b₀ 0 (entriesOutput (firstBroken xs) xs) p₂ b₂
+          Stored b₀ 0 (entriesOutput (brokenFirst xs) xs) p₂ b₂
       exported-done b₀ b₁ b₂ p₁ p₂ s u =
-          rw (is-done (firstBroken xs) (length (bytesOf xs)) r (by .0) n t .0)
+          rw (is-done (brokenFirst xs) (length (bytesOf xs)) r (by .0) n t .0)
           (stored-then b₀ 0 p₁ doneText b₁ p₂ (entriesText (bytesOf xs)) b₂ s (rw done-page at u))
 
     pub exported-outside : (i : ℕ) (b₀ b₁ : List ℕ) (p : ℕ) → r ≡ Outside i → Stored b₀ 0 (headText 9 i) p b₁ →
-        Stored b₀ 0 (entriesOutput (firstBroken xs) xs) p b₁
-    exported-outside i b₀ b₁ p t s = rw (is-outside (firstBroken xs) (length (bytesOf xs)) r (by .0) i t) s
+        Stored b₀ 0 (entriesOutput (brokenFirst xs) xs) p b₁
+    exported-outside i b₀ b₁ p t s = rw (is-outside (brokenFirst xs) (length (bytesOf xs)) r (by .0) i t) s
 
     pub exported-short : {A : Type 0} → r ≡ Short → A
-    exported-short t = not-short (firstBroken xs) (length (bytesOf xs)) r (by .0) t
+    exported-short t = not-short (brokenFirst xs) (length (bytesOf xs)) r (by .0) t
 
 -- ---- by the mode
 module _ (mode : ℕ) (s : List ℕ) where

@@ -13,13 +13,13 @@ use Rattle.text.specs.Text.{decimal}
 use Rattle.param_text.specs.Lines.{headText, numbersText}
 use Rattle.params.specs.Check.{firstBroken}
 use Rattle.params_bytes.specs.Read.{readOf}
-use Rattle.params_bytes.specs.Write as own
+use Rattle.params_bytes.specs.Write.{formOf}
 use Rattle.params_bytes.specs.declared.Verdict.{Verdict}
 use Rattle.params_bytes.specs.declared.Verdict.the-variants.{Accepted, Malformed, Broken}
 use Rattle.params_bytes.specs.declared.Reading.{Reading}
 use Rattle.supplier_params.specs.Forms.{supplierBytes}
 use Rattle.supplier_params.specs.Import.{importOf, entryAt}
-use Rattle.supplier_params.specs.Export.{bytesOf}
+use Rattle.supplier_params.specs.Export.{brokenFirst, bytesOf}
 
 -- the line `0`
 abbrev pub doneText : List ℕ
@@ -58,28 +58,29 @@ entriesOutput (At i) xs = headText 9 i
 entriesOutput Nothing xs = doneText ++ entriesText (bytesOf xs)
 
 abbrev pub exportOutput : Verdict → List ℤ → List ℕ
-exportOutput (Accepted n) xs = entriesOutput (firstBroken xs) xs
+exportOutput (Accepted n) xs = entriesOutput (brokenFirst xs) xs
 exportOutput (Malformed place) xs = headText 10 place
 exportOutput (Broken i) xs = headText 9 i
 
 unfoldable pub exportText : Reading → List ℕ
 exportText r = exportOutput (r .verdict) (r .params .numbers)
 
--- ---- `I` and `E`: the bytes of parameters that 01's rules allow, or nothing
+-- ---- `I` and `E`: the bytes of parameters that are not broken, `E` by 01's rules, or nothing
 abbrev pub unless : Found → List ℕ → List ℕ
 unless (At i) bytes = []
 unless Nothing bytes = bytes
 
-abbrev pub allowed : Verdict → List ℤ → List ℕ → List ℕ
-allowed (Accepted n) xs bytes = unless (firstBroken xs) bytes
-allowed (Malformed place) xs bytes = []
-allowed (Broken i) xs bytes = []
+abbrev pub allowed : Verdict → Found → List ℕ → List ℕ
+allowed (Accepted n) f bytes = unless f bytes
+allowed (Malformed place) f bytes = []
+allowed (Broken i) f bytes = []
 
 unfoldable pub importBytes : Reading → List ℕ
-importBytes r = allowed (r .verdict) (r .params .numbers) (own.bytesOf (r .params .numbers))
+importBytes r = allowed (r .verdict) (firstBroken (r .params)) (formOf (r .params))
 
 unfoldable pub exportBytes : Reading → List ℕ
-exportBytes r = allowed (r .verdict) (r .params .numbers) (bytesOf (r .params .numbers))
+exportBytes r =
+    allowed (r .verdict) (brokenFirst (r .params .numbers)) (bytesOf (r .params .numbers))
 
 -- ---- by the mode: 105 is `i`, 101 `e`, 73 `I`, 69 `E`
 unfoldable pub outputOf : ℕ → List ℕ → List ℕ

@@ -17,8 +17,8 @@ ghost use Rattle.supplier_params.specs.Forms.{supplierBytes};
 ghost use Rattle.supplier_params.specs.Import.{importOf, entryAt};
 ghost use Rattle.supplier.specs.Output.{hexDigit, hexText, entryText, entriesText, doneText, importText, entriesOutput, exportText};
 ghost use Rattle.supplier.specs.Output.{unless, importBytes, exportBytes, outputOf, Room};
-ghost use Rattle.params_bytes.specs.Write.{bytesOf};
-ghost use Rattle.supplier_params.specs.Export as theirs;
+ghost use Rattle.params_bytes.specs.Write.{formOf};
+ghost use Rattle.supplier_params.specs.Export.{brokenFirst, bytesOf};
 use limits::NUMBERS;
 use params::Params;
 use params_bytes::Verdict;
@@ -120,7 +120,7 @@ fn put_import(buf: &mut [u8], bytes: &[u8]) -> usize
 // What exporting parameters comes to, in entries; `page` is written over.
 fn put_exported(buf: &mut [u8], page: &mut [u8], all: Params) -> usize
     requires { ⌜ (4096 ≤ length (now buf)) × (supplierBytes ≤ length (now page)) ⌝ }
-    ensures { λ r. ⌜ Stored (now (buf .entry)) 0 (entriesOutput (firstBroken (all .numbers)) (all .numbers)) r (now (buf .exit))
+    ensures { λ r. ⌜ Stored (now (buf .entry)) 0 (entriesOutput (brokenFirst (all .numbers)) (all .numbers)) r (now (buf .exit))
         × (r ≤ 4096) ⌝ }
 {
     match supplier_params::export(all, page) {
@@ -151,7 +151,7 @@ fn put_export(buf: &mut [u8], page: &mut [u8], bytes: &[u8]) -> usize
 // Parameters as our own bytes, nothing where they are broken.
 fn write_own(buf: &mut [u8], all: Params) -> usize
     requires { ⌜ 4096 ≤ length (now buf) ⌝ }
-    ensures { λ r. ⌜ Stored (now (buf .entry)) 0 (unless (firstBroken (all .numbers)) (bytesOf (all .numbers))) r (now (buf .exit))
+    ensures { λ r. ⌜ Stored (now (buf .entry)) 0 (unless (firstBroken all) (formOf all)) r (now (buf .exit))
         × (r ≤ 4096) ⌝ }
 {
     match params_bytes::write(all, buf) {
@@ -161,10 +161,10 @@ fn write_own(buf: &mut [u8], all: Params) -> usize
     }
 }
 
-// Parameters as the supplier's bytes, nothing where they are broken.
+// Parameters as the supplier's bytes, nothing where they are broken by 01's rules.
 fn write_theirs(buf: &mut [u8], all: Params) -> usize
     requires { ⌜ 4096 ≤ length (now buf) ⌝ }
-    ensures { λ r. ⌜ Stored (now (buf .entry)) 0 (unless (firstBroken (all .numbers)) (theirs.bytesOf (all .numbers))) r (now (buf .exit))
+    ensures { λ r. ⌜ Stored (now (buf .entry)) 0 (unless (brokenFirst (all .numbers)) (bytesOf (all .numbers))) r (now (buf .exit))
         × (r ≤ 4096) ⌝ }
 {
     match supplier_params::export(all, buf) {

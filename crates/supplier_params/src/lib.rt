@@ -16,6 +16,7 @@ use limits::FIELDS;
 use limits::GENERAL;
 use limits::NUMBERS;
 use limits::OF_TOPIC;
+use params::Edition;
 use params::Params;
 use params_bytes::Reading;
 use params_bytes::Verdict;
@@ -158,7 +159,13 @@ pub fn import(s: &[u8]) -> Reading
         return params_bytes::refused(Verdict::Broken(place));
     }
     let numbers = all.numbers;
-    params_bytes::judged(Params { numbers }, BYTES)
+    params_bytes::judged(
+        Params {
+            numbers,
+            edition: Edition::First,
+        },
+        BYTES,
+    )
 }
 
 // The entries of numbers that lie between their limits.
@@ -173,7 +180,8 @@ fn put(all: Params, buf: &mut [u8])
     }
 }
 
-// Write the parameters as the supplier's from the start of the buffer, or say why not and leave the buffer.
+// Write parameters of either edition, tested by 01's rules, as the supplier's from the start of the buffer, or say why not and leave the
+// buffer.
 pub fn export(all: Params, buf: &mut [u8]) -> Written
     ensures { λ r. ⌜ (r ≡ exportOf (all .numbers) (now (buf .entry)) .answer)
         × (now (buf .exit) ≡ exportOf (all .numbers) (now (buf .entry)) .bytes) ⌝ }
@@ -181,10 +189,15 @@ pub fn export(all: Params, buf: &mut [u8]) -> Written
     if buf.len() < BYTES {
         return Written::Short;
     }
-    match all.first_broken() {
+    let numbers = all.numbers;
+    let first = Params {
+        numbers,
+        edition: Edition::First,
+    };
+    match first.first_broken() {
         Found::At(i) => Written::Outside(i),
         Found::Nothing => {
-            put(all, buf);
+            put(first, buf);
             Written::Done(BYTES)
         }
     }

@@ -7,7 +7,6 @@ use mathlib.Core.Path.{_≡_, refl, sym, ap, ap₂, _∙_}
 use mathlib.Core.Bool.{false, false≢true}
 use mathlib.Core.List.{List, [], _∷_}
 use native.Mathlib.Omega.{arith}
-use lib.IntN.{ℤ}
 use lib.ListN.{length}
 use denote.Enum.Declared.{tagOf}
 use types.Run.{OneOf, miss}
@@ -15,6 +14,7 @@ use Rattle.index.specs.declared.Found.{Found}
 use Rattle.index.specs.declared.Found.the-variants.{At, Nothing}
 use Rattle.index.proofs.Flags.{cond-case}
 use Rattle.varint.proofs.GroupLaws.{readAt-end}
+use Rattle.params.specs.declared.Params.{Params}
 use Rattle.params.specs.Check.{firstBroken}
 use Rattle.records.specs.Records.{State, paramCount}
 use Rattle.layout.specs.View.{stateOf}
@@ -37,13 +37,13 @@ use Rattle.trace_run.specs.declared.Recorded.the-variants.{Refused, Ran}
 use Rattle.trace_run.specs.Recorded.{Recording, joins, callsFrom, recordingOf, isEvent, All, Runs}
 
 -- ---- the loop: the calls made so far, which the events from `at` on complete to the whole list
-pub record Going (params : List ℤ) (s : List ℕ) (at calls : ℕ) (table : List ℕ) : Type 0 where
+pub record Going (params : Params) (s : List ℕ) (at calls : ℕ) (table : List ℕ) : Type 0 where
   pub before : List Made
   pub many : length before ≡ calls
   pub rest : callsFrom (length s - calls) s at before ≡ recordingOf s
   pub state : stateOf table ≡ after params before
 
-pub going-none : (params : List ℤ) (s table : List ℕ) → stateOf table ≡ freshState params → Going params s 0 0 table
+pub going-none : (params : Params) (s table : List ℕ) → stateOf table ≡ freshState params → Going params s 0 0 table
 unfolding recordingOf after
 going-none params s table e =
     let z : length s - 0 ≡ length s = omega arith in
@@ -59,7 +59,7 @@ unfolding callsFrom
 one-event zero s at before x h e = absurd (omega arith)
 one-event (suc m) s at before x h e = let f : suc m - 1 ≡ m = omega arith in rw (f, e)
 
-module _ (params : List ℤ) (s : List ℕ) (at calls : ℕ) (table table′ list list′ : List ℕ) (r : Performed)
+module _ (params : Params) (s : List ℕ) (at calls : ℕ) (table table′ list list′ : List ℕ) (r : Performed)
     (g : Going params s at calls table) (h : calls < length s)
     (p : Performs (performEvent (stateOf table) (length list) (eventAt s at)) r table′ list list′) where
   pub going-more :
@@ -83,13 +83,13 @@ module _ (params : List ℤ) (s : List ℕ) (at calls : ℕ) (table table′ lis
 
 -- ---- the ends of `run`
 -- demand 3 of the list, for parameters that pass the check
-holds : (params : List ℤ) (s : List ℕ) → length params ≡ paramCount → firstBroken params ≡ Nothing → Holds params (recordingOf s .calls)
+holds : (params : Params) (s : List ℕ) → length (params .numbers) ≡ paramCount → firstBroken params ≡ Nothing → Holds params (recordingOf s .calls)
 holds params s l e = demand3 params (recordingOf s .calls) (record { size = l; passes = e })
 
 -- the calls made are all
 ran :
-    (params : List ℤ) (s : List ℕ) (at calls : ℕ) (start table table′ : List ℕ) →
-    length params ≡ paramCount →
+    (params : Params) (s : List ℕ) (at calls : ℕ) (start table table′ : List ℕ) →
+    length (params .numbers) ≡ paramCount →
     firstBroken params ≡ Nothing →
     (g : Going params s at calls table) →
     callsFrom (length s - calls) s at (g .before) ≡ record { calls = g .before; place = at } →
@@ -106,8 +106,8 @@ ran params s at calls start table table′ l n g e k =
 
 -- as many calls as bytes
 pub ran-all :
-    (params : List ℤ) (s : List ℕ) (at calls : ℕ) (start table : List ℕ) →
-    length params ≡ paramCount →
+    (params : Params) (s : List ℕ) (at calls : ℕ) (start table : List ℕ) →
+    length (params .numbers) ≡ paramCount →
     firstBroken params ≡ Nothing →
     Going params s at calls table →
     length s ≤ calls →
@@ -145,8 +145,8 @@ leaves-all st room malformed e = refl
 leaves-all st room short e = refl
 
 pub ran-stopped :
-    (params : List ℤ) (s : List ℕ) (at calls : ℕ) (start table table′ list list′ : List ℕ) (r : Performed) →
-    length params ≡ paramCount →
+    (params : Params) (s : List ℕ) (at calls : ℕ) (start table table′ list list′ : List ℕ) (r : Performed) →
+    length (params .numbers) ≡ paramCount →
     firstBroken params ≡ Nothing →
     Going params s at calls table →
     calls < length s →
@@ -170,14 +170,14 @@ breaks : (f : Found) (r : Fresh) (i : ℕ) → r ≡ madeOf f → r ≡ Broken i
 breaks (At j) r i e d = cc
 breaks Nothing r i e d = let z : _≡_ {A = ℕ} 0 1 = cc in absurd (omega arith)
 
-module _ (params : List ℤ) (r : Fresh) (table table′ : List ℕ) (m : Makes params r table table′) where
+module _ (params : Params) (r : Fresh) (table table′ : List ℕ) (m : Makes params r table table′) where
   pub accepted : r ≡ Done → firstBroken params ≡ Nothing
   accepted e = passes (firstBroken params) r (m .answer) e
 
   pub begins : r ≡ Done → stateOf table′ ≡ freshState params
   begins e = m .state ∙ ap (λ (f : Found). leftBy f params (stateOf table)) (accepted e)
 
-  pub run-refused : (s : List ℕ) (i : ℕ) → length params ≡ paramCount → r ≡ Broken i → Runs params s (Refused i) table table′
+  pub run-refused : (s : List ℕ) (i : ℕ) → length (params .numbers) ≡ paramCount → r ≡ Broken i → Runs params s (Refused i) table table′
   run-refused s i l e =
       let f = breaks (firstBroken params) r i (m .answer) e in
       let k = m .kept i e in

@@ -4,10 +4,10 @@ use Prim.Native.Nat.{ℕ, zero, suc}
 use mathlib.Core.Path.{_≡_}
 use mathlib.Core.Bool.{Bool, true, false}
 use mathlib.Core.List.{List, [], _∷_}
-use lib.IntN.{ℤ}
 use lib.ListN.{length}
 use Rattle.index.specs.declared.Found.{Found}
 use Rattle.index.specs.declared.Found.the-variants.{At, Nothing}
+use Rattle.params.specs.declared.Params.{Params}
 use Rattle.params.specs.Check.{firstBroken}
 use Rattle.records.specs.Records.{State}
 use Rattle.layout.specs.View.{stateOf}
@@ -54,7 +54,7 @@ abbrev pub answerOf : Found → Recording → Recorded
 answerOf (At i) q = Refused i
 answerOf Nothing q = Ran (q .place) (length (q .calls))
 
-abbrev pub leftOf : Found → List ℤ → Recording → State → State
+abbrev pub leftOf : Found → Params → Recording → State → State
 leftOf (At i) params q st = st
 leftOf Nothing params q st = after params (q .calls)
 
@@ -69,7 +69,7 @@ recordedValues (Refused i) = i ∷ []
 recordedValues (Ran place calls) = place ∷ calls ∷ []
 
 -- what a run promises: r is the answer, table what stood there and table′ what stands there after it
-pub record Runs (params : List ℤ) (s : List ℕ) (r : Recorded) (table table′ : List ℕ) : Type 0 where
+pub record Runs (params : Params) (s : List ℕ) (r : Recorded) (table table′ : List ℕ) : Type 0 where
   pub answer : r ≡ answerOf (firstBroken params) (recordingOf s)
   -- the table holds the rules' state after the whole list; refused parameters change no cell
   pub state : stateOf table′ ≡ leftOf (firstBroken params) params (recordingOf s) (stateOf table)

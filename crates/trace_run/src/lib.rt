@@ -17,7 +17,7 @@ pub enum Recorded {
 // Makes a fresh router with these parameters, and calls the events of the bytes, up to the first that is unknown, malformed or cut short.
 // Each takes a byte at least, so there are no more of them than bytes.
 pub fn run(params: Params, s: &[u8], table: &mut [u64; CELLS]) -> Recorded
-    ensures { λ r. ⌜ Runs (params .numbers) (now (s .entry)) r (now (table .entry)) (now (table .exit)) ⌝ }
+    ensures { λ r. ⌜ Runs params (now (s .entry)) r (now (table .entry)) (now (table .exit)) ⌝ }
 {
     if let Made::Broken(i) = router::fresh(params, table) {
         return Recorded::Refused(i);

@@ -1,15 +1,16 @@
 -- What keeps tables a router's: a later clock, another record in a slot, another topic record, another joined flag. Each with the facts
 -- that the new number or record has to have.
 -- Assumes nothing.
-use Prim.Native.Nat.{ℕ, _+_, _*_, _<_, _≤_}
+use Prim.Native.Nat.{ℕ, _<_, _≤_}
 use native.Mathlib.Omega.{arith}
-use mathlib.Core.Path.{_≡_, refl, sym, ap, _∙_}
+use mathlib.Core.Path.{_≡_, sym, ap, _∙_}
 use mathlib.Core.Bool.{true}
 use mathlib.Core.Logic.{_≢_}
 use Rattle.index.proofs.Flags.{by-order}
 use Rattle.records.specs.declared.Peer.{Peer}
 use Rattle.records.specs.declared.TopicRecord.{TopicRecord}
-use Rattle.records.specs.Records.{State, place, codeIn, joinedIn, peerIn, topicIn, setClock, setJoined, setPeer, setTopic, slotCount, topicCount}
+use Rattle.records.specs.Records.{State, place, codeIn, joinedIn, peerIn, topicIn, setClock, setJoined, setPeer, setTopic, slotCount}
+use Rattle.records.specs.Records.{topicCount}
 use Rattle.layout.proofs.StateLaws.{peer-case, peer-other, topic-case, joined-case}
 use Rattle.validity.specs.Valid.{maxTime, topicParam, cap2, cap3, valid}
 use Rattle.validity.proofs.ValidLaws.{PeerFacts, TopicFacts, FitsAt, Facts, valid-facts, facts-valid}
@@ -88,7 +89,8 @@ module _ (st : State) (f : Facts st) where
         joined = f .joined;
         peer = f .peer;
         topic = λ s t k l.
-            topic-later (peerIn st s .status) (peerIn st s .explicit) (joinedIn st t) (st .clock) (cap2 st t) (cap3 st t) (topicIn st (place s t))
+            topic-later (peerIn st s .status) (peerIn st s .explicit) (joinedIn st t) (st .clock) (cap2 st t) (cap3 st t)
+            (topicIn st (place s t))
             (f .topic s t k l) n h;
         ids = f .ids;
       }

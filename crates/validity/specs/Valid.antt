@@ -160,8 +160,8 @@ newId st s = every s (λ k. apart (peerIn st s .id) (peerIn st k .id))
 -- the tables are a router's
 unfoldable pub valid : State → Bool
 valid st =
-    -- "if the sheet passes 9"
-    acceptedCodes (st .codes)
+    -- "if the sheet passes 9", by the rules of its edition (02, order 14), which is one that there is
+    acceptedCodes (st .setup .edition) (st .codes)
     && leb (st .clock) maxTime
     && every topicCount (joinedOk st)
     && every slotCount (slotOk st)

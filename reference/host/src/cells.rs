@@ -3,6 +3,7 @@
 
 pub use hivepadlet::cells::*;
 
+use crate::made::EDITION;
 use reference::groups::{code_from_signed, signed_from_code};
 use reference::params::{field_at, Params, GENERAL_COUNT, TOPICS, TOPIC_COUNT};
 use reference::router::{Peer, Router, Status, TopicRecord, Version};
@@ -138,7 +139,7 @@ pub fn table_of(router: &Router) -> Box<Cells> {
 /// type for it, and so out of its range.
 pub fn router_of(cells: &Cells) -> Option<Router> {
     let numbers = std::array::from_fn(|index| signed_from_code(cells[CODES + index]));
-    let mut router = Router::unchecked(Params { numbers });
+    let mut router = Router::unchecked(Params { edition: EDITION, numbers });
     router.clock = cells[CLOCK];
     for (topic, joined) in router.joined.iter_mut().enumerate() {
         *joined = flag(cells[JOINED + topic])?;

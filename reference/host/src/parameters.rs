@@ -4,10 +4,11 @@ use crate::cells::{self, CELLS};
 use crate::counts::Counts;
 use crate::lent::Lent;
 use crate::library::{number, value, Library, Numbers};
+use crate::made::EDITION;
 use crate::pair::Difference;
 use crate::stand_in::StandIn;
 use reference::generate::params as generate_params;
-use reference::params::{self, Params, COUNT, WRITE_BUFFER};
+use reference::params::{self, Edition, Params, COUNT, WRITE_BUFFER};
 use reference::random::Random;
 
 /// The lengths of the buffers that parameters are written to.
@@ -53,7 +54,8 @@ pub fn compare<L: Library>(
     random: &mut Random,
     counts: &mut Counts,
 ) -> Result<Compared, Box<Failure>> {
-    let inputs = generate_params::inputs(inputs, random);
+    let mut inputs = generate_params::inputs(inputs, random);
+    inputs.retain(|input| Edition::of(&input.bytes) == EDITION);
     let mut sides = Sides { library, counts, salt: 0 };
     let mut left_out = 0;
     for (place, input) in inputs.iter().enumerate() {

@@ -3,6 +3,7 @@
 
 use crate::cells::{self, Cells};
 use crate::library::{packed, Library, Numbers, Why};
+use crate::made::EDITION;
 use crate::request::Request;
 use reference::params::{self, Params};
 use reference::router::{number, Answer, Done, Refusal, Router};
@@ -52,12 +53,12 @@ impl Library for StandIn {
     }
 
     fn write(&self, numbers: &Numbers, buffer: &mut [u8]) -> u64 {
-        let params = Params { numbers: *numbers };
+        let params = Params { edition: EDITION, numbers: *numbers };
         params::write(&params, buffer).map_or_else(code_of_refusal, |length| packed(0, length))
     }
 
     fn fresh(&self, numbers: &Numbers, table: &mut Cells) -> u64 {
-        match Router::new(Params { numbers: *numbers }) {
+        match Router::new(Params { edition: EDITION, numbers: *numbers }) {
             Ok(router) => {
                 cells::write(&router, table);
                 packed(0, 0)

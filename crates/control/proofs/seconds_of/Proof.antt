@@ -1,4 +1,4 @@
--- `control::seconds_of` meets its contract.
+-- `control::seconds_of`: by the three cases of the seconds.
 -- Assumes nothing.
 use borrow.Author.Needs.{needs}
 use Rattle.control.proofs.PruneLaws.{seconds-none, seconds-given, seconds-many}

@@ -50,7 +50,8 @@ unfolding cellsOfPeer
 returns c =
     let s = c .before .before .before .before .before .before .before in
     let g : length (s .args .p .backoff) ≡ 8 = search needs in
-    ap stateOf (c .before .before .write-row .ensures) ∙ peer-store (s .args .cells .now) (s .pre .0) (s .args .slot) (s .args .p) (s .pre .1) g
+    ap stateOf (c .before .before .write-row .ensures)
+    ∙ peer-store (s .args .cells .now) (s .pre .0) (s .args .slot) (s .args .p) (s .pre .1) g
 
 pub store-peer-spec : {M : Type 1} → statement M
 store-peer-spec =

@@ -1,4 +1,4 @@
--- `peers::p5_ok` meets its contract.
+-- `peers::p5_ok`: the magnitude of a signed number is that of its words.
 -- Assumes nothing.
 use mathlib.Core.Path.{ap}
 use Prim.Native.Nat.{ℕ}

@@ -1,7 +1,7 @@
 -- `trace::say` is safe and ends. Assumes nothing.
 use borrow.Author.Needs.{needs}
 use native.Mathlib.Omega.{arith}
-use mathlib.Core.Path.{_≡_, refl, sym, _∙_}
+use mathlib.Core.Path.{sym}
 use lib.Seq.{length-take-le}
 use Rattle.trace.proofs.say.Statement.{statement}
 use Rattle.trace.proofs.say.Tie as tie
@@ -12,5 +12,4 @@ say-spec =
     (tie.spec
     (λ c. sym (length-take-le _ _ (omega arith)))
     (λ c κs. search needs)
-    (λ c. search needs)
     (λ c. search needs))

@@ -5,7 +5,7 @@ use mathlib.Core.List.{List}
 use borrow.Author.Needs.{needs}
 use native.Mathlib.Omega.{arith}
 use lib.ListN.{length}
-use lib.IntN.{ℤ}
+use Rattle.params.specs.declared.Params.{Params}
 use Rattle.layout.specs.View.{stateOf}
 use Rattle.lookup.specs.Fresh.{freshState}
 use Rattle.trace_run.proofs.RecordedLaws.{Going, going-none, going-more, ran-all, ran-stopped, accepted, begins, run-refused}
@@ -15,7 +15,7 @@ use Rattle.trace_run.proofs.run.Tie as tie
 -- the table that the loop starts from is a fresh router's
 abbrev Inv-loop : tie.InvT-loop
 Inv-loop s table₀ actions₀ at₀ calls₀ table actions at calls =
-    (length actions ≡ 192) × ((params : List ℤ) → stateOf table₀ ≡ freshState params → Going params s at calls table)
+    (length actions ≡ 192) × ((params : Params) → stateOf table₀ ≡ freshState params → Going params s at calls table)
 
 abbrev μ-loop : tie.MeasureT-loop
 μ-loop s table₀ actions₀ at₀ calls₀ table actions at calls = length s - calls

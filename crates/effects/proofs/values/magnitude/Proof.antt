@@ -1,3 +1,5 @@
+-- `effects::values::magnitude`: half a number rounded up, even or odd.
+-- Assumes nothing.
 use native.Mathlib.Omega.{arith}
 use Rattle.effects.proofs.values.magnitude.Statement.{statement}
 use Rattle.effects.proofs.values.magnitude.Tie as tie

@@ -21,18 +21,19 @@ returns c =
     let hi = out .before in
     let d = hi .before in
     let lo = d .before in
-    degrees-are _ _ _ _ _ _ _ (lo .load-size .ensures) (d .load-size2 .ensures) (hi .load-size3 .ensures) (out .load-size4 .ensures) (score .load-size5 .ensures) (c .load-size6 .ensures)
+    degrees-are _ _ _ _ _ _ _ (lo .load-size .ensures) (d .load-size2 .ensures) (hi .load-size3 .ensures) (out .load-size4 .ensures)
+    (score .load-size5 .ensures) (c .load-size6 .ensures)
 
 pub degrees-spec : {M : Type 1} → statement M
 degrees-spec =
     tie.close
     (tie.spec
-    (λ c κs. (c .before .pre .size, omega arith))
-    (λ c κs. (c .before .before .pre .size, omega arith))
-    (λ c κs. (c .before .before .before .pre .size, omega arith))
-    (λ c κs. (c .before .before .before .before .pre .size, omega arith))
-    (λ c κs. (c .before .before .before .before .before .pre .size, omega arith))
-    (λ c κs. (c .before .before .before .before .before .before .pre .size, omega arith))
+    (λ c κs. record { size = c .before .pre .size; param = omega arith })
+    (λ c κs. record { size = c .before .before .pre .size; param = omega arith })
+    (λ c κs. record { size = c .before .before .before .pre .size; param = omega arith })
+    (λ c κs. record { size = c .before .before .before .before .pre .size; param = omega arith })
+    (λ c κs. record { size = c .before .before .before .before .before .pre .size; param = omega arith })
+    (λ c κs. record { size = c .before .before .before .before .before .before .pre .size; param = omega arith })
     mul-t8
     add-t9
     returns)
