@@ -10,12 +10,12 @@ use lib.Dec.{eqb}
 use lib.IntN.{ℤ}
 use Rattle.index.specs.Index.{iter}
 use Rattle.index.proofs.Flags.{cond-case}
-use Rattle.varint.specs.Codes.{codeOf}
+use Rattle.varint.specs.Codes.{codeOf, magnitude}
 use Rattle.records.specs.declared.TopicRecord.{TopicRecord}
 use Rattle.records.specs.Records.{State, noPeer, noTopic, place, codeIn, peerIn, topicIn, setClock, setTopic, isConnected, slotCount}
 use Rattle.score.specs.Counters.{firstOf, nearFirstOf, invalidOf, grownOf, fadedOf, decayedOf}
 use Rattle.score.specs.Score.{topicParamsIn}
-use Rattle.effects.specs.Effects.{magnitude, unsubscribeBackoff, pruneBackoff, withEnd, withP5, withP7, retainedTo, outOfMesh}
+use Rattle.effects.specs.Effects.{unsubscribeBackoff, pruneBackoff, withEnd, withP5, withP7, retainedTo, outOfMesh}
 use Rattle.effects.specs.Effects.{withSubscribed, onPeer, onTopic, isJoined, isMember, pruned, endAfter, leftTopic, departed, reclaimable}
 use Rattle.effects.specs.Effects.{emptied, reclaimSlot, reclaimed}
 use Rattle.rules.specs.Reply.{Reply, ignored, done}

@@ -13,7 +13,7 @@ use borrow.Author.Tests.{eqb-true, eq-eqb}
 use Rattle.index.specs.Index.{count}
 use Rattle.index.proofs.Index.{both, count-less}
 use Rattle.index.proofs.Flags.{by-order}
-use Rattle.varint.specs.Codes.{codeOf}
+use Rattle.varint.specs.Codes.{codeOf, magnitude}
 use Rattle.params.specs.declared.Params.{Params}
 use Rattle.limits.specs.Limits.{at}
 use Rattle.records.specs.declared.Peer.{Peer}
@@ -24,7 +24,7 @@ use Rattle.validity.specs.Valid.{valid}
 use Rattle.lookup.specs.Fresh.{setupOf, freshState}
 use Rattle.validity.proofs.ValidLaws.{valid-facts}
 use Rattle.lookup.proofs.FreshLaws.{fresh-valid}
-use Rattle.effects.specs.Effects.{magnitude, isMember}
+use Rattle.effects.specs.Effects.{isMember}
 use Rattle.call_lists.specs.Demand3.{Accepted, dHi}
 use Rattle.call_lists.proofs.Fewer.{Fewer}
 

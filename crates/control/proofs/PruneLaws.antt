@@ -7,7 +7,8 @@ use mathlib.Core.List.{[]}
 use native.Mathlib.Omega.{arith}
 use borrow.Author.Tests.{ne-eqb}
 use Rattle.records.specs.Records.{State, codeIn}
-use Rattle.effects.specs.Effects.{magnitude, pruned, endAfter}
+use Rattle.varint.specs.Codes.{magnitude}
+use Rattle.effects.specs.Effects.{pruned, endAfter}
 use Rattle.validity.specs.Valid.{valid}
 use Rattle.gate.proofs.StandingLaws.{sizes}
 use Rattle.rules.specs.Calls.{prune}

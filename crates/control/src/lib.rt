@@ -12,7 +12,7 @@ ghost use Rattle.gate.specs.Ready.{TopicReady, PlaceReady, TopicLent, PlaceLent
 ghost use Rattle.control.specs.Refusable.{Refusable};
 use effects::actions::put_prune;
 use effects::slots::graft_slot;
-use effects::slots::load_size;
+use effects::slots::load_magnitude;
 use effects::slots::mesh_size;
 use effects::slots::prune_slot;
 use effects::values::end_after;
@@ -76,7 +76,7 @@ fn is_crowded(table: &[u64], topic: usize) -> bool
     requires { ⌜ AtTopic (now table) topic ⌝ }
     ensures { λ r. ⌜ r ≡ isCrowded (stateOf (now (table .entry))) topic ⌝ }
 {
-    load_size(table, param::D_HI) <= mesh_size(table, topic) as u64
+    load_magnitude(table, param::D_HI) <= mesh_size(table, topic) as u64
 }
 
 // P7 grows by 1000, to 10^6.
@@ -99,7 +99,7 @@ fn graft_refused(
     ensures { λ r. ⌜ Gives (graftRefused (stateOf (now (table .entry))) time topic slot p) r
         (now (table .entry)) (now (table .exit)) (now (actions .entry)) (now (actions .exit)) ⌝ }
 {
-    let seconds = load_size(table, param::PRUNE_BACKOFF);
+    let seconds = load_magnitude(table, param::PRUNE_BACKOFF);
     put_prune(actions, 0, p, seconds);
     layout::store_peer(table, slot, with_end(p, topic, end_after(time, seconds)));
     layout::store_clock(table, time);
@@ -171,7 +171,7 @@ fn seconds_of(table: &[u64], seconds: u64) -> u64
     ensures { λ r. ⌜ (r ≡ secondsOf (stateOf (now (table .entry))) seconds) × (r ≤ 3600) ⌝ }
 {
     if seconds == 0 {
-        return load_size(table, param::PRUNE_BACKOFF);
+        return load_magnitude(table, param::PRUNE_BACKOFF);
     }
     if seconds <= 3600 { seconds } else { 3600 }
 }

@@ -22,7 +22,8 @@ use Rattle.score.specs.Score.{topicParamsIn}
 use Rattle.score.specs.Counters.{fadedOf, meshOf, decayedOf}
 use Rattle.score.proofs.CounterLaws.{faded-less, faded-nothing}
 use Rattle.score.proofs.InputLaws.{params-in, slot-in}
-use Rattle.effects.specs.Effects.{magnitude, withP7}
+use Rattle.varint.specs.Codes.{magnitude}
+use Rattle.effects.specs.Effects.{withP7}
 use Rattle.peer_score.specs.Idle.{isIdle}
 use Rattle.peer_score.proofs.IdleLaws.{idle-of}
 use Rattle.gate.specs.Ready.{Ready}

@@ -8,7 +8,7 @@ use Rattle.layout.specs.View.{cellCount, stateOf}
 use Rattle.score.specs.Ranges.{TopicParamsIn, CountersIn}
 use Rattle.score.specs.Score.{topicParamsIn}
 use Rattle.score.specs.Counters.{countMost}
-use Rattle.effects.specs.Effects.{magnitude}
+use Rattle.varint.specs.Codes.{magnitude}
 use Rattle.rules.specs.Step.{decayFloor}
 
 -- the parameters and the counters are in their ranges

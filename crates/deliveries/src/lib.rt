@@ -9,7 +9,7 @@ ghost use Rattle.rules.specs.Promise.{Leaves, Follows};
 ghost use Rattle.gate.specs.Ready.{Ready, TopicReady, PlaceReady};
 ghost use Rattle.deliveries.specs.Decays.{DecaysIn, DecaysAt};
 use credits::credited;
-use effects::slots::load_size;
+use effects::slots::load_magnitude;
 use effects::values::with_p7;
 use gate::admit;
 use gate::finish;
@@ -87,7 +87,7 @@ fn decay_topic(table: &mut [u64], time: u64, topic: usize, slot: usize)
     layout::store_topic(
         table,
         slot * 8 + topic,
-        score::counters::decayed(t, load_size(table, param::DECAY_TO_ZERO), time, r),
+        score::counters::decayed(t, load_magnitude(table, param::DECAY_TO_ZERO), time, r),
     );
 }
 
@@ -113,8 +113,8 @@ fn decay_p7(table: &mut [u64], slot: usize)
         with_p7(
             p,
             score::counters::faded(
-                load_size(table, param::DECAY_TO_ZERO),
-                load_size(table, param::P7_DECAY),
+                load_magnitude(table, param::DECAY_TO_ZERO),
+                load_magnitude(table, param::P7_DECAY),
                 p.p7,
             ),
         ),

@@ -3,12 +3,12 @@ ghost use mathlib.Core.Path.{_≡_};
 ghost use Prim.Native.Nat.{_≤_};
 ghost use Rattle.records.specs.Records.{codeIn, slotCount};
 ghost use Rattle.layout.specs.View.{stateOf};
-ghost use Rattle.effects.specs.Effects.{magnitude as magnitudeOf, withEnd, withP5, outOfMesh, intoMesh, withSubscribed};
+ghost use Rattle.varint.specs.Codes.{magnitude as magnitudeOf};
+ghost use Rattle.effects.specs.Effects.{withEnd, withP5, outOfMesh, intoMesh, withSubscribed};
 ghost use Rattle.effects.specs.Effects.{onPeer, onTopic, isJoined, isMember, meshSize, pruned};
 ghost use Rattle.effects.specs.Lent.{AtParam, AtTopic, AtSlot, AtPlace};
 ghost use Rattle.index.specs.Index.{one};
 use crate::values::into_mesh;
-use crate::values::magnitude;
 use crate::values::out_of_mesh;
 use crate::values::with_end;
 use crate::values::with_p5;
@@ -16,11 +16,11 @@ use crate::values::with_subscribed;
 use records::SLOTS;
 
 // A number of the parameters without its sign.
-pub fn load_size(table: &[u64], i: usize) -> u64
+pub fn load_magnitude(table: &[u64], i: usize) -> u64
     requires { ⌜ AtParam (now table) i ⌝ }
     ensures { λ r. ⌜ r ≡ magnitudeOf (codeIn (stateOf (now (table .entry))) i) ⌝ }
 {
-    magnitude(layout::load_code(table, i))
+    varint::magnitude(layout::load_code(table, i))
 }
 
 pub fn is_joined(table: &[u64], topic: usize) -> bool

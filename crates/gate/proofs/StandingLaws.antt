@@ -7,7 +7,7 @@ use native.Mathlib.Omega.{arith}
 use lib.Dec.{eqb, lit<}
 use lib.IntN.{ℤ, pos, negℤ, _*ℤ_}
 use lib.Signed.{ltZ}
-use Rattle.varint.specs.Codes.{numberOf}
+use Rattle.varint.specs.Codes.{numberOf, magnitude}
 use Rattle.records.specs.declared.Peer.{Peer}
 use Rattle.records.specs.Records.{State, codeIn, peerIn}
 use Rattle.records.specs.Parameters.{graylistThresholdAt, p7DecayAt, decayToZeroAt}
@@ -21,7 +21,7 @@ use Rattle.score.specs.Sums.{negativeOf, belowOf}
 use Rattle.score.specs.Score.{Scores}
 use Rattle.score.proofs.Differences.{neg-times, diff-neg}
 use Rattle.score.proofs.SumLaws.{negative-is, below-is}
-use Rattle.effects.specs.Effects.{magnitude, highDegree, pruneBackoff, unsubscribeBackoff, retainSeconds}
+use Rattle.effects.specs.Effects.{highDegree, pruneBackoff, unsubscribeBackoff, retainSeconds}
 use Rattle.rules.specs.declared.Sender.{Sender}
 use Rattle.rules.specs.declared.Seen.{Seen}
 use Rattle.rules.specs.Step.{isNegative, isGraylisted, senderIn, seenIn, heard, isHeard}

@@ -7,7 +7,8 @@ ghost use Rattle.rules.specs.Calls.{idOk, topicOk, timeOk};
 ghost use Rattle.rules.specs.Step.{gateOf, senderIn, seenIn, heard};
 ghost use Rattle.peer_score.specs.Standing.{SlotStanding, PlaceStanding};
 use effects::slots::is_joined;
-use effects::slots::load_size;
+use effects::slots::load_magnitude;
+use records::ACTION_ROOM;
 use records::param;
 use rules::Answer;
 use rules::Gate;
@@ -16,9 +17,6 @@ use rules::Sender;
 use score::sums::is_below;
 use validity::valid::MAX_ID;
 use validity::valid::MAX_TIME;
-
-// How many numbers the lent list must have: three for each slot.
-const ACTION_ROOM: usize = 192;
 
 pub fn time_ok(time: u64) -> bool
     ensures { λ r. ⌜ r ≡ timeOk time ⌝ }
@@ -85,7 +83,8 @@ pub fn see_sender(table: &[u64], slot: usize) -> Sender
     let b = peer_score::score_of(table, slot, p);
     Sender {
         peer: p,
-        graylisted: (p.explicit == 0) & is_below(b, load_size(table, param::GRAYLIST_THRESHOLD)),
+        graylisted: (p.explicit == 0)
+            & is_below(b, load_magnitude(table, param::GRAYLIST_THRESHOLD)),
         negative: score::sums::is_negative(b),
     }
 }

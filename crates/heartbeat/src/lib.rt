@@ -18,7 +18,7 @@ use crate::seen::told;
 use crate::seen::view;
 use crate::settle::settle;
 use effects::slots::is_joined;
-use effects::slots::load_size;
+use effects::slots::load_magnitude;
 use effects::values::end_after;
 use gate::admit;
 use gate::ignore;
@@ -53,7 +53,7 @@ fn maintain_topic(
     let members = v.members;
     let scores = v.scores;
     let mesh = m.fifth;
-    let seconds = load_size(table, param::PRUNE_BACKOFF);
+    let seconds = load_magnitude(table, param::PRUNE_BACKOFF);
     let n = write_actions(
         actions,
         changes(members, m),

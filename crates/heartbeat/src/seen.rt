@@ -13,7 +13,7 @@ ghost use Rattle.peer_score.specs.Standing.{Standing, TopicStanding};
 ghost use Rattle.heartbeat.specs.Ready.{ScoredAt, ScoredAll};
 use crate::scores::scores;
 use effects::slots::is_member;
-use effects::slots::load_size;
+use effects::slots::load_magnitude;
 use mesh::Degrees;
 use mesh::View;
 use mesh::ZERO_SCORE;
@@ -119,12 +119,12 @@ pub fn degrees(table: &[u64]) -> Degrees
     ensures { λ r. ⌜ r ≡ degreesIn (stateOf (now (table .entry))) ⌝ }
 {
     Degrees {
-        lo: load_size(table, param::D_LO),
-        d: load_size(table, param::D),
-        hi: load_size(table, param::D_HI),
-        out: load_size(table, param::D_OUT),
-        score: load_size(table, param::D_SCORE),
-        threshold: ZERO_SCORE + load_size(table, param::OPPORTUNISTIC_THRESHOLD) * 1000000,
+        lo: load_magnitude(table, param::D_LO),
+        d: load_magnitude(table, param::D),
+        hi: load_magnitude(table, param::D_HI),
+        out: load_magnitude(table, param::D_OUT),
+        score: load_magnitude(table, param::D_SCORE),
+        threshold: ZERO_SCORE + load_magnitude(table, param::OPPORTUNISTIC_THRESHOLD) * 1000000,
     }
 }
 

@@ -271,13 +271,6 @@ pub fn load_group(cells: &[u64], slot: usize) -> u64
     cells[PEERS_AT + slot * PEER_CELLS + 2]
 }
 
-pub fn load_subscribed(cells: &[u64], k: usize) -> u64
-    requires { ⌜ (length (now cells) ≡ cellCount) × (k < placeCount) ⌝ }
-    ensures { λ r. ⌜ r ≡ topicIn (stateOf (now (cells .entry))) k .subscribed ⌝ }
-{
-    cells[TOPICS_AT + k * TOPIC_CELLS + 4]
-}
-
 pub fn load_member(cells: &[u64], k: usize) -> u64
     requires { ⌜ (length (now cells) ≡ cellCount) × (k < placeCount) ⌝ }
     ensures { λ r. ⌜ r ≡ topicIn (stateOf (now (cells .entry))) k .member ⌝ }

@@ -14,7 +14,7 @@ ghost use Rattle.leaving.specs.Slots.{isNegativeMember, grownIf, Turn, L
 use effects::actions::put_prune;
 use effects::slots::is_joined;
 use effects::slots::is_member;
-use effects::slots::load_size;
+use effects::slots::load_magnitude;
 use effects::slots::prune_slot;
 use effects::values::end_after;
 use gate::admit;
@@ -122,7 +122,7 @@ fn leave_from(table: &mut [u64], time: u64, topic: usize, actions: &mut [u32]) -
         return ignore(table, time);
     }
     let negative = negatives(table, topic);
-    let seconds = load_size(table, param::UNSUBSCRIBE_BACKOFF);
+    let seconds = load_magnitude(table, param::UNSUBSCRIBE_BACKOFF);
     let n = leave_slots(
         table,
         actions,

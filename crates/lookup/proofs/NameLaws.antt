@@ -75,12 +75,3 @@ module _ (name : List ℕ) where
       go true q e = let z : 0 ≡ v = cc in omega arith
       go false true e = let z : 1 ≡ v = cc in omega arith
       go false false e = let z : _≡_ {A = ℕ} 0 1 = cc in absurd (omega arith)
-
--- the two names
-pub name-0 : versionOf (meshsub 48) ≡ Version 0
-unfolding versionOf sameBytes meshsub every
-name-0 = refl
-
-pub name-1 : versionOf (meshsub 49) ≡ Version 1
-unfolding versionOf sameBytes meshsub every
-name-1 = refl

@@ -10,10 +10,10 @@ ghost use Rattle.effects.specs.Lent.{AtTopic, AtSlot};
 ghost use Rattle.limits.specs.Limits.{place as topicPlace};
 ghost use Rattle.score.specs.Ranges.{ShareIn, TopicsIn, PartsIn};
 ghost use Rattle.score.specs.Sums.{sumOf};
-ghost use Rattle.score.specs.Score.{sizeIn, topicParamsIn, scoreParamsIn, sharesGroup, sharing, shareAt, partsAt, whyIn, Scores};
+ghost use Rattle.score.specs.Score.{magnitudeIn, topicParamsIn, scoreParamsIn, sharesGroup, sharing, shareAt, partsAt, whyIn, Scores};
 ghost use Rattle.peer_score.specs.Standing.{SlotStanding, PlaceStanding, PeerStanding, AtTopicParam};
 ghost use Rattle.peer_score.specs.Idle.{isIdle};
-use effects::slots::load_size;
+use effects::slots::load_magnitude;
 use records::Peer;
 use records::SLOTS;
 use records::TOPICS;
@@ -30,9 +30,9 @@ use score::topic;
 // Topic t's j-th parameter.
 fn load_param(table: &[u64], t: usize, j: usize) -> u64
     requires { ⌜ AtTopicParam (now table) t j ⌝ }
-    ensures { λ r. ⌜ r ≡ sizeIn (stateOf (now (table .entry))) (topicPlace t j) ⌝ }
+    ensures { λ r. ⌜ r ≡ magnitudeIn (stateOf (now (table .entry))) (topicPlace t j) ⌝ }
 {
-    load_size(table, 19 + 16 * t + j)
+    load_magnitude(table, 19 + 16 * t + j)
 }
 
 // Topic t's parameters.
@@ -66,11 +66,11 @@ pub fn load_general(table: &[u64]) -> ScoreParams
     ensures { λ r. ⌜ r ≡ scoreParamsIn (stateOf (now (table .entry))) ⌝ }
 {
     ScoreParams {
-        cap: load_size(table, param::TOPIC_CAP),
-        w5: load_size(table, param::W5),
-        w6: load_size(table, param::W6),
-        threshold: load_size(table, param::P6_THRESHOLD),
-        w7: load_size(table, param::W7),
+        cap: load_magnitude(table, param::TOPIC_CAP),
+        w5: load_magnitude(table, param::W5),
+        w6: load_magnitude(table, param::W6),
+        threshold: load_magnitude(table, param::P6_THRESHOLD),
+        w7: load_magnitude(table, param::W7),
     }
 }
 

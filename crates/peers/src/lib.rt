@@ -14,7 +14,7 @@ ghost use Rattle.gate.specs.Ready.{Ready};
 use effects::connections::connect_slot;
 use effects::connections::reclaim;
 use effects::connections::retain_slot;
-use effects::slots::load_size;
+use effects::slots::load_magnitude;
 use effects::slots::rate_slot;
 use effects::values::end_after;
 use gate::admit;
@@ -126,7 +126,7 @@ fn disconnect_from(table: &mut [u64], time: u64, id: u64) -> Answer
     retain_slot(
         table,
         slot,
-        end_after(time, load_size(table, param::RETAIN)),
+        end_after(time, load_magnitude(table, param::RETAIN)),
     );
     finish(table, time)
 }
@@ -147,7 +147,7 @@ pub fn disconnect(table: &mut [u64; CELLS], time: u64, id: u64, actions: &mut [u
 fn p5_ok(p5: i64) -> bool
     ensures { λ r. ⌜ r ≡ leb (natAbs p5) 1000000000 ⌝ }
 {
-    varint::magnitude(p5) <= 1000000000
+    varint::nat_abs(p5) <= 1000000000
 }
 
 fn rate_from(table: &mut [u64], time: u64, id: u64, p5: i64) -> Answer

@@ -6,7 +6,7 @@ use native.Mathlib.Omega.{arith}
 use mathlib.Core.Path.{_≡_, refl, sym, ap, ap₂, _∙_}
 use mathlib.Core.Logic.{_≢_}
 use mathlib.Core.Bool.{true, false, cond, _&&_}
-use mathlib.Core.List.{List, map}
+use mathlib.Core.List.{map}
 use lib.Dec.{eqb, leb}
 use lib.IntN.{natAbs}
 use borrow.Author.Tests.{eqb-true, eqb-false, eq-eqb, ne-eqb, leb-true}
@@ -14,7 +14,7 @@ use Rattle.index.specs.Index.{iter}
 use Rattle.index.specs.declared.Found.the-variants.{At}
 use Rattle.index.proofs.Index.{both, iter-keeps}
 use Rattle.index.proofs.Flags.{by-test, cond-case}
-use Rattle.varint.specs.Codes.{codeOf}
+use Rattle.varint.specs.Codes.{codeOf, magnitude}
 use Rattle.params.specs.declared.Params.{Params}
 use Rattle.limits.specs.Limits.{at}
 use Rattle.records.specs.declared.Peer.{Peer}
@@ -29,7 +29,7 @@ use Rattle.lookup.specs.Find.{findConnected}
 use Rattle.lookup.proofs.FindLaws.{connected-is}
 use Rattle.score.specs.Counters.{withCounters, raised3Of, firstOf, nearFirstOf, invalidOf, fadedOf, meshOf, decayedOf}
 use Rattle.score.specs.Score.{topicParamsIn}
-use Rattle.effects.specs.Effects.{magnitude, withP7, onTopic}
+use Rattle.effects.specs.Effects.{withP7, onTopic}
 use Rattle.effects.proofs.Walks.{iter-kept, iter-once, iter-before}
 use Rattle.effects.proofs.EffectLaws.{place-slot, place-topic}
 use Rattle.rules.specs.Reply.{Reply, numberOf, ignored}
@@ -49,7 +49,8 @@ module _ (params : Params) (st : State) (codes : st .codes ≡ map codeOf (param
   placed : (p2 p3 p4 p3b mesh : ℕ) → SamePlace r (withCounters r p2 p3 p4 p3b mesh)
   placed p2 p3 p4 p3b mesh = record { subscribed = refl; member = refl; graft = refl }
 
-  raised3 : raised3Of (topicParamsIn st t) r ≡ cond (eqb (r .member) 1) (min (r .p3 + 1000) (natAbs (at (params .numbers) (19 + 16 * t + 9)))) (r .p3)
+  raised3 : raised3Of (topicParamsIn st t) r
+      ≡ cond (eqb (r .member) 1) (min (r .p3 + 1000) (natAbs (at (params .numbers) (19 + 16 * t + 9)))) (r .p3)
   unfolding raised3Of topicParamsIn
   raised3 = ap (λ (n : ℕ). cond (eqb (r .member) 1) (min (r .p3 + 1000) n) (r .p3)) (number 9)
 

@@ -16,14 +16,15 @@ use Rattle.index.specs.declared.Found.{Found}
 use Rattle.index.specs.declared.Found.the-variants.{At, Nothing}
 use Rattle.index.proofs.Index.{iter-keeps}
 use Rattle.index.proofs.Flags.{by-test, cond-case}
-use Rattle.varint.specs.Codes.{codeOf}
+use Rattle.varint.specs.Codes.{codeOf, magnitude}
 use Rattle.params.specs.declared.Params.{Params}
 use Rattle.records.specs.declared.Peer.{Peer}
 use Rattle.records.specs.declared.TopicRecord.{TopicRecord}
 use Rattle.records.specs.Records.{State, noPeer, noTopic, place, codeIn, peerIn, topicIn, setClock, setJoined, setPeer, setTopic, slotCount}
 use Rattle.records.specs.Records.{isConnected}
 use Rattle.layout.specs.View.{Sized}
-use Rattle.layout.proofs.StateLaws.{topic-case, topic-after-clock, topic-after-joined, topic-after-peer, codes-after-peer, codes-after-topic}
+use Rattle.layout.proofs.StateLaws.{topic-case, topic-after-clock, topic-after-joined, topic-after-peer, codes-after-peer}
+use Rattle.layout.proofs.StateLaws.{codes-after-topic}
 use Rattle.layout.proofs.StateLaws.{peer-same, peer-other, peer-after-clock}
 use Rattle.validity.specs.Valid.{valid}
 use Rattle.validity.proofs.ValidLaws.{valid-facts}
@@ -33,7 +34,7 @@ use Rattle.score.specs.Counters.{firstOf, nearFirstOf, invalidOf, decayedOf}
 use Rattle.score.specs.Score.{topicParamsIn}
 use Rattle.score.proofs.CounterLaws.{faded-less}
 use Rattle.score.proofs.InputLaws.{params-in}
-use Rattle.effects.specs.Effects.{magnitude, connectedAs, outOfMesh, intoMesh, withSubscribed, onTopic}
+use Rattle.effects.specs.Effects.{connectedAs, outOfMesh, intoMesh, withSubscribed, onTopic}
 use Rattle.effects.specs.Effects.{isJoined, pruned, leftTopic, departed, reclaimable, emptied, reclaimSlot}
 use Rattle.effects.specs.Effects.{reclaimed}
 use Rattle.effects.proofs.EffectLaws.{reclaimed-topic, reclaimed-stays, sized-reclaimed}

@@ -31,7 +31,8 @@ use Rattle.rules.specs.Reply.{Reply, numberOf, refused, ignored, done}
 use Rattle.rules.specs.Calls.{Call, connect, disconnect, join, leave, subscribe, unsubscribe, graft, prune, deliver, rate, heartbeat, decay}
 use Rattle.rules.specs.Calls.{score}
 use Rattle.rules.proofs.GraftLaws.{by-graft}
-use Rattle.rules.specs.Step.{onFound, ofPeer, joinReply, leaveReply, decayReply, isGraylisted, isHeard, subscribeReply, unsubscribeReply, raisedP7}
+use Rattle.rules.specs.Step.{onFound, ofPeer, joinReply, leaveReply, decayReply, isGraylisted, isHeard, subscribeReply, unsubscribeReply}
+use Rattle.rules.specs.Step.{raisedP7}
 use Rattle.rules.specs.Step.{graftRefused, graftReply, pruneReply, deliverReply, effect}
 use Rattle.call_lists.specs.Lists.{after}
 use Rattle.call_lists.proofs.Demand3.{standing}
@@ -39,7 +40,8 @@ use Rattle.promises.specs.Ignored.{Graylisted, Sender, Words11, Row11, R
 use Rattle.promises.proofs.Numbers.{iff-yes, iff-no, late-connect, heartbeat-11, behind, else-done, row-behind}
 
 -- ---- the sheet's number
-number-is : (st : State) (params : Params) → st .codes ≡ map codeOf (params .numbers) → (i : ℕ) → signed (codeIn st i) ≡ at (params .numbers) i
+number-is : (st : State) (params : Params) → st .codes ≡ map codeOf (params .numbers) → (i : ℕ) → signed (codeIn st i)
+    ≡ at (params .numbers) i
 unfolding codeIn
 number-is st params e i =
     ap (λ (l : List ℕ). signed (getD l i 0)) e

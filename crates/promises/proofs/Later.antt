@@ -14,19 +14,20 @@ use borrow.Author.Tests.{eqb-true, eqb-false}
 use Rattle.index.specs.Index.{iter}
 use Rattle.index.proofs.Index.{iter-keeps}
 use Rattle.index.proofs.Flags.{by-test, cond-case}
-use Rattle.varint.specs.Codes.{codeOf}
+use Rattle.varint.specs.Codes.{codeOf, magnitude}
 use Rattle.records.specs.declared.Peer.{Peer}
 use Rattle.records.specs.declared.TopicRecord.{TopicRecord}
 use Rattle.records.specs.Records.{State, place, codeIn, peerIn, topicIn, setClock, setJoined, setPeer, setTopic, isConnected, slotCount}
 use Rattle.layout.specs.View.{Sized}
-use Rattle.layout.proofs.StateLaws.{peer-case, peer-same, peer-after-topic, peer-after-clock, peer-after-joined}
+use Rattle.layout.proofs.StateLaws.{peer-case, peer-after-topic, peer-after-clock, peer-after-joined}
 use Rattle.score.specs.Counters.{grownOf, fadedOf}
 use Rattle.score.specs.Score.{topicParamsIn}
-use Rattle.effects.specs.Effects.{magnitude, pruneBackoff, withEnd, withP5, withP7, retainedTo, outOfMesh, intoMesh, onPeer, onTopic}
+use Rattle.effects.specs.Effects.{pruneBackoff, withEnd, withP5, withP7, retainedTo, outOfMesh, intoMesh, onPeer, onTopic}
 use Rattle.effects.specs.Effects.{isMember, pruned, endAfter, leftTopic, departed}
 use Rattle.effects.proofs.EffectLaws.{end-later, end-same, pruned-same}
 use Rattle.sets.specs.Sets.{at}
-use Rattle.rules.specs.Step.{isNegative, punished, leaveSlot, graftRefused, decayFloor, decayTopic, decayP7, decaySlot, settleSlot, raisedP7}
+use Rattle.rules.specs.Step.{isNegative, punished, leaveSlot, graftRefused, decayFloor, decayTopic, decayP7, decaySlot, settleSlot}
+use Rattle.rules.specs.Step.{raisedP7}
 use Rattle.promises.specs.Ends.{endIn}
 
 pub record LaterAt (p q : Peer) : Type 0 where

@@ -81,10 +81,6 @@ fine-graft : (st : State) (time t s : ℕ) → Fine (graftReply st time t s)
 unfolding graftRefused
 fine-graft st time t s = by-graft Fine st time t s (λ e. refl) (λ e m. refl) (λ e. refl) (λ e. refl) (λ e. refl)
 
-fine-maintained : (st : State) (time t ask : ℕ) (order : List ℕ) → Fine (maintainedReply st time t ask order)
-unfolding maintainedReply
-fine-maintained st time t ask order = refl
-
 -- behind the gate
 abbrev pub late : Answer → Bool
 late (Done n) = true

@@ -13,14 +13,15 @@ use Rattle.index.specs.Index.{iter}
 use Rattle.index.specs.declared.Found.the-variants.{At}
 use Rattle.index.proofs.Index.{iter-keeps}
 use Rattle.index.proofs.Flags.{by-test, cond-case}
-use Rattle.varint.specs.Codes.{codeOf}
+use Rattle.varint.specs.Codes.{codeOf, magnitude}
 use Rattle.params.specs.declared.Params.{Params}
 use Rattle.records.specs.declared.Peer.{Peer}
 use Rattle.records.specs.declared.TopicRecord.{TopicRecord}
 use Rattle.records.specs.Records.{State, noPeer, noTopic, slotCount, place, codeIn, peerIn, joinedIn, setClock, setJoined, setPeer}
 use Rattle.records.specs.Records.{setTopic, isConnected}
 use Rattle.layout.specs.View.{Sized}
-use Rattle.layout.proofs.StateLaws.{peer-case, peer-same, peer-other, peer-after-clock, peer-after-joined, peer-after-topic, code-after-peer}
+use Rattle.layout.proofs.StateLaws.{peer-case, peer-same, peer-other, peer-after-clock, peer-after-joined, peer-after-topic}
+use Rattle.layout.proofs.StateLaws.{code-after-peer}
 use Rattle.layout.proofs.StateLaws.{code-after-topic}
 use Rattle.validity.specs.Valid.{valid}
 use Rattle.validity.proofs.ValidLaws.{valid-facts}
@@ -29,7 +30,7 @@ use Rattle.lookup.proofs.FindLaws.{connected-is}
 use Rattle.score.specs.Counters.{countMost, raisedOf, decayedOf}
 use Rattle.score.specs.Score.{topicParamsIn}
 use Rattle.score.proofs.CounterLaws.{faded-less}
-use Rattle.effects.specs.Effects.{magnitude, unsubscribeBackoff, withEnd, withP5, withP7, connectedAs, retainedTo, outOfMesh, intoMesh}
+use Rattle.effects.specs.Effects.{unsubscribeBackoff, withEnd, withP5, withP7, connectedAs, retainedTo, outOfMesh, intoMesh}
 use Rattle.effects.specs.Effects.{withSubscribed, onPeer, onTopic, isJoined, isMember, pruned, endAfter, leftTopic, departed}
 use Rattle.effects.specs.Effects.{reclaimable, emptied, reclaimSlot, reclaimed}
 use Rattle.sets.specs.Sets.{at, isPermutation}

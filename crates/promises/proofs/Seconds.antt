@@ -24,7 +24,8 @@ use Rattle.rules.specs.declared.Answer.the-variants.{NotPermutation}
 use Rattle.rules.specs.Reply.{Reply, refused, ignored}
 use Rattle.rules.specs.Calls.{leave, graft, heartbeat}
 use Rattle.rules.proofs.GraftLaws.{by-graft}
-use Rattle.rules.specs.Step.{toldIn, actionIn, leaveActions, leaveReply, meshesIn, heartbeatActions, maintainedReply, heartbeatReply, raisedP7}
+use Rattle.rules.specs.Step.{toldIn, actionIn, leaveActions, leaveReply, meshesIn, heartbeatActions, maintainedReply, heartbeatReply}
+use Rattle.rules.specs.Step.{raisedP7}
 use Rattle.rules.specs.Step.{graftRefused, graftReply, effect}
 use Rattle.rules.proofs.CaseLaws.{by-peer, by-gate}
 use Rattle.call_lists.specs.Lists.{after}
@@ -125,7 +126,8 @@ told-seconds params calls fine time t room =
       λ ask order.
           by-gate (λ (r : Reply). Each (Seconds st (natAbs (at (params .numbers) 5))) (r .actions)) st (heartbeat time t ask order) room
           (λ a e. tt)
-          (λ p. heartbeat-seconds st (w .size) (w .router) time t ask (natAbs (at (params .numbers) 5)) order (degree-is st params (w .codes) 5)),
+          (λ p. heartbeat-seconds st (w .size) (w .router) time t ask (natAbs (at (params .numbers) 5)) order
+          (degree-is st params (w .codes) 5)),
       λ id.
           by-gate (λ (r : Reply). Each (Seconds st (natAbs (at (params .numbers) 5))) (r .actions)) st (graft time id t) room
           (λ a e. tt)

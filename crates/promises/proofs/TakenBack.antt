@@ -9,7 +9,7 @@ use mathlib.Core.List.{[], _∷_}
 use lib.Dec.{eqb, leb}
 use lib.IntN.{ℤ, pos, negsuc, negℤ, _*ℤ_}
 use lib.Signed.{ltZ}
-use Rattle.varint.specs.Codes.{numberOf as signed}
+use Rattle.varint.specs.Codes.{numberOf as signed, magnitude}
 use Rattle.params.proofs.ParamLaws.{general}
 use Rattle.score.specs.Score.{scoreIn}
 use borrow.Author.Tests.{eqb-false, eq-eqb, ne-eqb, le-leb, lt-leb, le-ltb}
@@ -23,7 +23,7 @@ use Rattle.validity.proofs.ValidLaws.{valid-facts}
 use Rattle.lookup.specs.Find.{findConnected}
 use Rattle.lookup.proofs.FindLaws.{connected-is}
 use Rattle.effects.specs.Actions.{pruneOf}
-use Rattle.effects.specs.Effects.{magnitude, highDegree, pruneBackoff, withEnd, withP7, intoMesh, onTopic, isMember, meshSize}
+use Rattle.effects.specs.Effects.{highDegree, pruneBackoff, withEnd, withP7, intoMesh, onTopic, isMember, meshSize}
 use Rattle.effects.specs.Effects.{endAfter}
 use Rattle.effects.proofs.EffectLaws.{member-in, member-peer}
 use Rattle.rules.specs.Reply.{Reply, numberOf}
@@ -113,7 +113,8 @@ module _ (st : State) (time t s : ℕ) (size : Sized st) (h : s < slotCount) (k 
   Done r = InOrTold st t s r
 
   -- p is the record that gets the end
-  back : (p : Peer) → pruneOf p (pruneBackoff st) ≡ pruneOf (peerIn st s) (pruneBackoff st) → isMember st t s ≡ false → Done (graftRefused st time t s p)
+  back : (p : Peer) → pruneOf p (pruneBackoff st) ≡ pruneOf (peerIn st s) (pruneBackoff st) → isMember st t s ≡ false →
+      Done (graftRefused st time t s p)
   unfolding graftRefused
   back p q e =
       let w = withEnd p t (endAfter time (pruneBackoff st)) in

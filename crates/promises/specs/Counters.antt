@@ -79,7 +79,8 @@ pub record Decayed (params : Params) (time : ℕ) (st u : State) : Type 0 where
       peerIn st s .status ≡ 1 →
       Faded params time t (topicIn st (place s t)) (topicIn u (place s t))
   pub p7 :
-      (s : ℕ) → s < slotCount → peerIn st s .status ≡ 1 → peerIn u s .p7 ≡ fades (toZero params) (natAbs (at (params .numbers) 17)) (peerIn st s .p7)
+      (s : ℕ) → s < slotCount → peerIn st s .status ≡ 1 → peerIn u s .p7
+      ≡ fades (toZero params) (natAbs (at (params .numbers) 17)) (peerIn st s .p7)
   -- "connected peers only"
   pub peers : (s : ℕ) → s < slotCount → peerIn st s .status ≢ 1 → peerIn u s ≡ peerIn st s
   pub topics :

@@ -1,6 +1,5 @@
 -- The sheet's own numbers, by 01's list of them.
 use Prim.Native.Nat.{ℕ, _+_, _*_}
-use mathlib.Core.List.{List}
 use lib.IntN.{natAbs}
 use Rattle.params.specs.declared.Params.{Params}
 use Rattle.limits.specs.Limits.{at}

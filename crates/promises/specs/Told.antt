@@ -74,5 +74,7 @@ ToldSeconds =
     (time t room : ℕ) →
     Each (Seconds (after params calls) (natAbs (at (params .numbers) 6))) (step (after params calls) (leave time t) room .actions)
     × ((ask : ℕ) (order : List ℕ) →
-    Each (Seconds (after params calls) (natAbs (at (params .numbers) 5))) (step (after params calls) (heartbeat time t ask order) room .actions))
-    × ((id : ℕ) → Each (Seconds (after params calls) (natAbs (at (params .numbers) 5))) (step (after params calls) (graft time id t) room .actions))
+    Each (Seconds (after params calls) (natAbs (at (params .numbers) 5)))
+    (step (after params calls) (heartbeat time t ask order) room .actions))
+    × ((id : ℕ) →
+    Each (Seconds (after params calls) (natAbs (at (params .numbers) 5))) (step (after params calls) (graft time id t) room .actions))

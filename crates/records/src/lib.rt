@@ -9,6 +9,9 @@ pub const SLOTS: usize = 64;
 
 pub const TOPICS: usize = 8;
 
+// The numbers of an action list: three for each slot.
+pub const ACTION_ROOM: usize = 3 * SLOTS;
+
 // What a router was made with beside the numbers of its parameters. Another such number is another field.
 pub struct Setup {
     // the number of the parameters' edition

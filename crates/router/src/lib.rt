@@ -1,6 +1,6 @@
-// What a host calls. Every call takes the table that the host lends (its type fixes the length), a time, its arguments as wide numbers and a
-// lent action list, asks nothing of its caller, and promises the rules' reply (crate rules): answer, table, clock and action list, for all
-// input. The calls themselves stand in the crates below.
+// What a host calls. Every call takes the table that the host lends (its type fixes the length), a time, its arguments as wide numbers and
+// a lent action list, asks nothing of its caller, and promises the rules' reply (crate rules): answer, table, clock and action list, for
+// all input. The calls themselves stand in the crates below.
 pub use control::graft;
 pub use control::prune;
 pub use deliveries::decay;

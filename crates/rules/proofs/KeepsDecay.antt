@@ -17,7 +17,7 @@ use Rattle.score.specs.Counters.{withCounters, firstOf, nearFirstOf, invalidOf,
 use Rattle.score.specs.Score.{topicParamsIn}
 use Rattle.score.proofs.CounterLaws.{faded-less, first-within, near-first-within, invalid-within, decayed-within, decayed-mesh}
 use Rattle.score.proofs.InputLaws.{params-in}
-use Rattle.effects.specs.Effects.{magnitude}
+use Rattle.varint.specs.Codes.{magnitude}
 use Rattle.rules.specs.Reply.{ignored}
 use Rattle.rules.specs.Step.{isHeard, deliveredOf, deliverReply, decayFloor, decayTopic, decayP7, decaySlot, decayReply}
 use Rattle.rules.proofs.KeepsRecord.{topic-counters, topic-counted}

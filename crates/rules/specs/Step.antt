@@ -9,7 +9,7 @@ use lib.Signed.{ltZ}
 use Rattle.index.specs.Index.{iter, gather}
 use Rattle.index.specs.declared.Found.{Found}
 use Rattle.index.specs.declared.Found.the-variants.{At, Nothing}
-use Rattle.varint.specs.Codes.{numberOf, codeOf}
+use Rattle.varint.specs.Codes.{numberOf, codeOf, magnitude}
 use Rattle.records.specs.declared.Peer.{Peer}
 use Rattle.records.specs.declared.TopicRecord.{TopicRecord}
 use Rattle.records.specs.Records.{State, slotCount, topicCount, codeIn, peerIn, topicIn, place, setClock, setPeer, setJoined, isConnected}
@@ -38,7 +38,7 @@ use Rattle.rules.specs.declared.Gate.{Gate}
 use Rattle.rules.specs.declared.Gate.the-variants.{Pass, Refuse}
 use Rattle.effects.specs.Actions.{Action, pruneOf}
 use Rattle.rules.specs.Reply.{Reply, refused, ignored, done}
-use Rattle.effects.specs.Effects.{magnitude, highDegree, pruneBackoff, unsubscribeBackoff, withEnd, withP5, withP7, connectedAs, outOfMesh}
+use Rattle.effects.specs.Effects.{highDegree, pruneBackoff, unsubscribeBackoff, withEnd, withP5, withP7, connectedAs, outOfMesh}
 use Rattle.effects.specs.Effects.{intoMesh, withSubscribed, onPeer, onTopic, isJoined, isMember, isSubscribed, meshSize, backoffRuns}
 use Rattle.effects.specs.Effects.{pruned, endAfter, departed, reclaimed}
 use Rattle.rules.specs.Calls.{Call, connect, disconnect, join, leave, subscribe, unsubscribe, graft, prune, deliver, rate, heartbeat}

@@ -14,21 +14,29 @@ pub enum Recorded {
     Ran(usize, usize),
 }
 
-// Makes a fresh router with these parameters, and calls the events of the bytes, up to the first that is unknown, malformed or cut short.
-// Each takes a byte at least, so there are no more of them than bytes.
-pub fn run(params: Params, s: &[u8], table: &mut [u64; CELLS]) -> Recorded
-    ensures { λ r. ⌜ Runs params (now (s .entry)) r (now (table .entry)) (now (table .exit)) ⌝ }
+// Makes a fresh router with these parameters, and calls the events of the bytes, up to the first that is unknown, malformed or cut short,
+// or as many as there is room for answers: the lent list `told` takes one number for each. All calls are lent the same action list, of any
+// length.
+pub fn run(
+    params: Params,
+    s: &[u8],
+    table: &mut [u64; CELLS],
+    actions: &mut [u32],
+    told: &mut [u64],
+) -> Recorded
+    ensures { λ r. ⌜ Runs params (now (s .entry)) r (now (table .entry)) (now (table .exit)) (now (actions .entry))
+        (now (actions .exit)) (now (told .entry)) (now (told .exit)) ⌝ }
 {
     if let Made::Broken(i) = router::fresh(params, table) {
         return Recorded::Refused(i);
     }
-    let mut actions = [0u32; 192];
     let mut at: usize = 0;
     let mut calls: usize = 0;
-    while calls < s.len() {
-        let Performed::Answered(next, _) = trace_step::perform(table, s, at, &mut actions) else {
+    while calls < told.len() {
+        let Performed::Answered(next, a) = trace_step::perform(table, s, at, actions) else {
             return Recorded::Ran(at, calls);
         };
+        told[calls] = answers::code(a);
         at = next;
         calls += 1;
     }

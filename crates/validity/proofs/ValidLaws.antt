@@ -6,21 +6,18 @@ use mathlib.Core.Path.{_≡_, refl, ap}
 use mathlib.Core.Bool.{Bool, true, false, not, _&&_}
 use lib.ListN.{length, getD}
 use lib.Seq.{ext-getD}
-use lib.IntN.{natAbs}
 use lib.Dec.{eqb, leb}
 use borrow.Author.Tests.{le-leb, leb-true, eq-eqb, ne-eqb, eqb-true, eqb-false, not-true, not-false}
 use Rattle.index.specs.Index.{every}
 use Rattle.index.proofs.Index.{both, every-at, every-by}
 use Rattle.index.proofs.Flags.{all5, by-test}
-use Rattle.varint.specs.Codes.{numberOf}
-use Rattle.varint.proofs.CodeLaws.{code-size}
 use Rattle.params.proofs.ParamLaws.{Accepts, topic}
 use Rattle.records.specs.declared.Peer.{Peer}
 use Rattle.records.specs.declared.TopicRecord.{TopicRecord}
-use Rattle.records.specs.Records.{State, place, noPeer, noTopic, codeIn, joinedIn, peerIn, topicIn, isEmpty, isRetained, slotCount}
+use Rattle.records.specs.Records.{State, place, noPeer, noTopic, joinedIn, peerIn, topicIn, isEmpty, isRetained, slotCount}
 use Rattle.records.specs.Records.{topicCount}
 use Rattle.validity.specs.Valid.{maxTime, maxEnd, maxRetain, maxId, peerRanges, endsUpTo, idOk, zeroPeer, emptyOk, retainOk, peerOk}
-use Rattle.validity.specs.Valid.{topicRanges, zeroTopic, emptyTopicOk, outsideOk, retainedOk, memberOk, timesOk, topicOk, topicParam}
+use Rattle.validity.specs.Valid.{topicRanges, zeroTopic, emptyTopicOk, outsideOk, retainedOk, memberOk, timesOk, topicOk}
 use Rattle.validity.specs.Valid.{cap2, cap3, joinedOk, topicOkAt, slotOk, apart, newId, valid}
 use Rattle.validity.proofs.Conditions.{all4, all6, all8, all9, then, then-by, else, else-by}
 
@@ -346,15 +343,3 @@ facts-valid st f =
     rw (f .params .passes, le-leb (st .clock) maxTime (f .clock), j, p, i)
 
 -- ---- what the parameters add
--- a cap is at most 10^6, and so are the counters
-pub cap2-most : (st : State) → Facts st → (t : ℕ) → t < topicCount → cap2 st t ≤ 1000000
-unfolding topicParam codeIn
-cap2-most st f t h = topic (st .codes) (f .params) t h .p2Cap-most
-
-pub cap3-most : (st : State) → Facts st → (t : ℕ) → t < topicCount → cap3 st t ≤ 1000000
-unfolding topicParam codeIn
-cap3-most st f t h = topic (st .codes) (f .params) t h .p3Cap-most
-
--- P5 lies within 10^9 either way
-pub p5-size : (p : Peer) → PeerFacts p → natAbs (numberOf (p .p5)) ≤ 1000000000
-p5-size p f = rw (code-size (p .p5)) (omega (arith, f .p5))

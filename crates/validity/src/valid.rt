@@ -231,7 +231,7 @@ fn topic_param(table: &[u64], t: usize, j: usize) -> u64
     requires { ⌜ (length (now table) ≡ cellCount) × ((t < topicCount) × (j < 16)) ⌝ }
     ensures { λ r. ⌜ r ≡ topicParam (stateOf (now (table .entry))) t j ⌝ }
 {
-    varint::code_size(layout::load_code(table, TOPIC_PARAMS + PER_TOPIC * t + j))
+    varint::magnitude(layout::load_code(table, TOPIC_PARAMS + PER_TOPIC * t + j))
 }
 
 fn topic_at(table: &[u64], slot: usize, status: u64, explicit: u64, t: usize) -> bool

@@ -16,7 +16,7 @@ impl Router {
     /// A fresh router with parameters that are in order.
     pub fn new(params: &Params) -> Router {
         let mut table = Box::new([0; CELLS]);
-        let result = hivepadlet::fresh(&params.numbers, &mut table);
+        let result = hivepadlet::fresh(&params.numbers, u64::from(params.edition.number()), &mut table);
         assert_eq!(number(result), 0, "accepted parameters");
         Router { table }
     }

@@ -3,7 +3,7 @@
 use crate::library::{number, value};
 use crate::request::{Request, LONG_LISTS, ODD_PERMUTATIONS, SHORT_LISTS};
 use crate::stand_in::code;
-use reference::coverage::{self, Answers, Coverage};
+use reference::coverage::{Answers, Coverage};
 use reference::event::{CALL_NAMES, SLOTS};
 use reference::router::{Answer, Done, Router, ACTION_LIST};
 use std::collections::BTreeMap;
@@ -142,14 +142,8 @@ impl Counts {
 }
 
 /// Of the second program's counts the cases inside the rules: not the answers, which are counted here
-/// with 8 and 12, and not the ways in which a trace stops; nor those of edition 2, which the lent table
-/// does not hold.
+/// with 8 and 12, and not the ways in which a trace stops.
 fn cases(lines: &[String]) -> impl Iterator<Item = String> + '_ {
     let of_calls = lines.iter().filter(|line| line.contains(": ") && !line.starts_with("stop: "));
-    of_calls.filter(|line| !coverage::of_edition_2(case_of(line))).cloned()
-}
-
-/// A line's case, without its count.
-fn case_of(line: &str) -> &str {
-    line.trim_end_matches(|c: char| c.is_ascii_digit()).trim_end()
+    of_calls.cloned()
 }

@@ -52,16 +52,16 @@ impl Library for Linked {
         hivepadlet::ordinary(numbers)
     }
 
-    fn read(&self, bytes: &[u8], numbers: &mut Numbers) -> u64 {
-        hivepadlet::read(bytes, numbers)
+    fn read(&self, bytes: &[u8], numbers: &mut Numbers, edition: &mut u64) -> u64 {
+        hivepadlet::read(bytes, numbers, edition)
     }
 
-    fn write(&self, numbers: &Numbers, buffer: &mut [u8]) -> u64 {
-        hivepadlet::write(numbers, buffer)
+    fn write(&self, numbers: &Numbers, edition: u64, buffer: &mut [u8]) -> u64 {
+        hivepadlet::write(numbers, edition, buffer)
     }
 
-    fn fresh(&self, numbers: &Numbers, table: &mut Cells) -> u64 {
-        hivepadlet::fresh(numbers, table)
+    fn fresh(&self, numbers: &Numbers, edition: u64, table: &mut Cells) -> u64 {
+        hivepadlet::fresh(numbers, edition, table)
     }
 
     fn is_router(&self, table: &Cells) -> u32 {

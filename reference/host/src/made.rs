@@ -4,12 +4,9 @@
 use reference::event::{LAST_TIME, P5_LIMIT, SLOTS};
 use reference::generate::calls::Scene;
 use reference::generate::{params as generate_params, traces};
-use reference::params::{field_at, general, topic, topic_index, Edition, Params, TOPICS};
+use reference::params::{field_at, general, topic, topic_index, Params, TOPICS};
 use reference::random::Random;
 use reference::router::{Peer, Router, Status, TopicRecord, Version};
-
-/// The edition that the lent table holds.
-pub const EDITION: Edition = Edition::One;
 
 pub const P4_P7_LIMIT: i64 = 1_000_000;
 pub const P3B_LIMIT: i64 = 1_000_000_000_000;
@@ -20,8 +17,8 @@ pub const LAST_RETAIN_END: u64 = LAST_TIME + 86_400_000;
 pub fn router(random: &mut Random) -> Router {
     let params = match random.below(8) {
         0 => extreme_params(),
-        1..=3 => generate_params::good_in(EDITION, random),
-        _ => traces::params_in(EDITION, random),
+        1..=3 => generate_params::good(random),
+        _ => traces::params(random),
     };
     let mut router = Router::new(params).expect("the parameters are good");
     router.clock = clock(random);
@@ -211,7 +208,7 @@ pub fn extreme(lowest: bool) -> Router {
 
 /// A router in its first second, some of its backoff ends under 1000, where no call leaves one.
 pub fn early(random: &mut Random) -> Router {
-    let params = traces::params_in(EDITION, random);
+    let params = traces::params(random);
     let mut router = Router::new(params).expect("the parameters are good");
     router.clock = random.below(1000) as u64;
     router.joined = [true; TOPICS];

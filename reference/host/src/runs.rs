@@ -124,7 +124,7 @@ fn source(random: &mut Random) -> Source {
             with_script(made::extreme(lowest), VecDeque::new(), 100, random)
         }
         _ => {
-            let params = traces::params_in(made::EDITION, &mut random);
+            let params = traces::params(&mut random);
             ordinary(params, random)
         }
     }
@@ -183,7 +183,7 @@ fn with_script(
 /// Rounds of one mesh, in which every step of the heartbeat has much to do: no topic has a weight and no
 /// group a surplus, so that nobody's score falls for long.
 fn rounds(mut random: Random) -> Source {
-    let mut params = traces::params_in(made::EDITION, &mut random);
+    let mut params = traces::params(&mut random);
     params.numbers[general::P6_THRESHOLD] = field_at(general::P6_THRESHOLD).high;
     for k in 0..TOPICS {
         params.numbers[topic_index(k, topic::WEIGHT)] = 0;

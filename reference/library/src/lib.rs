@@ -12,7 +12,7 @@
 //! let (mut numbers, mut table) = ([0; NUMBERS], [0; CELLS]);
 //! let mut actions = [0; ACTION_NUMBERS];
 //! ordinary(&mut numbers);
-//! fresh(&numbers, &mut table);
+//! fresh(&numbers, EDITION_1, &mut table);
 //! let result = join(&mut table, 1000, 0, &mut actions);
 //! assert_eq!(number(result), 0);
 //! ```
@@ -38,8 +38,12 @@ pub const NUMBERS: usize = 147;
 pub const ACTION_NUMBERS: usize = 3 * SLOTS;
 pub const WHY_NUMBERS: usize = 6;
 
-/// Bytes that written parameters may take.
-pub const PARAMETER_BYTES: usize = 735;
+/// Bytes that written parameters may take (edition 1: 735).
+pub const PARAMETER_BYTES: usize = 737;
+
+/// The editions of the parameters.
+pub const EDITION_1: u64 = 1;
+pub const EDITION_2: u64 = 2;
 
 /// Bytes of the topics' names: for each topic a length, 0 for no name, and 64 bytes.
 pub const NAMES_BYTES: usize = TOPICS * 65;

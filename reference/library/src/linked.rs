@@ -74,9 +74,14 @@ extern "C" {
         actions_length: usize,
     ) -> u64;
     fn hivepadlet_ordinary(numbers: &mut Numbers);
-    fn hivepadlet_read(bytes: *const u8, length: usize, numbers: &mut Numbers) -> u64;
-    fn hivepadlet_write(numbers: &Numbers, buffer: *mut u8, length: usize) -> u64;
-    fn hivepadlet_fresh(numbers: &Numbers, table: &mut Cells) -> u64;
+    fn hivepadlet_read(
+        bytes: *const u8,
+        length: usize,
+        numbers: &mut Numbers,
+        edition: &mut u64,
+    ) -> u64;
+    fn hivepadlet_write(numbers: &Numbers, edition: u64, buffer: *mut u8, length: usize) -> u64;
+    fn hivepadlet_fresh(numbers: &Numbers, edition: u64, table: &mut Cells) -> u64;
     fn hivepadlet_is_router(table: &Cells) -> u32;
 }
 
@@ -114,19 +119,19 @@ pub fn ordinary(numbers: &mut Numbers) {
     unsafe { hivepadlet_ordinary(numbers) }
 }
 
-/// Parameters from bytes. 0 with the length, 9 with the index or rule, 10 with the place.
-pub fn read(bytes: &[u8], numbers: &mut Numbers) -> u64 {
-    unsafe { hivepadlet_read(bytes.as_ptr(), bytes.len(), numbers) }
+/// Parameters of either edition from bytes. 0 with the length, 9 with the index or rule, 10 with the place.
+pub fn read(bytes: &[u8], numbers: &mut Numbers, edition: &mut u64) -> u64 {
+    unsafe { hivepadlet_read(bytes.as_ptr(), bytes.len(), numbers, edition) }
 }
 
-/// Parameters to bytes. 0 with the length, 8, or 9 with the index or rule.
-pub fn write(numbers: &Numbers, buffer: &mut [u8]) -> u64 {
-    unsafe { hivepadlet_write(numbers, buffer.as_mut_ptr(), buffer.len()) }
+/// Parameters of an edition to bytes. 0 with the length, 2, 8, or 9 with the index or rule.
+pub fn write(numbers: &Numbers, edition: u64, buffer: &mut [u8]) -> u64 {
+    unsafe { hivepadlet_write(numbers, edition, buffer.as_mut_ptr(), buffer.len()) }
 }
 
-/// A fresh router. 0, or 9 with the index or rule.
-pub fn fresh(numbers: &Numbers, table: &mut Cells) -> u64 {
-    unsafe { hivepadlet_fresh(numbers, table) }
+/// A fresh router. 0, 2, or 9 with the index or rule.
+pub fn fresh(numbers: &Numbers, edition: u64, table: &mut Cells) -> u64 {
+    unsafe { hivepadlet_fresh(numbers, edition, table) }
 }
 
 /// 1 if the table is a router's, else 0.

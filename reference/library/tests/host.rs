@@ -11,7 +11,7 @@ fn joined(actions: &mut [u32]) -> Box<Cells> {
     let (mut numbers, mut table) = ([0; NUMBERS], Box::new([0; CELLS]));
     ordinary(&mut numbers);
     assert_eq!(is_router(&table), 0);
-    assert_eq!(number(fresh(&numbers, &mut table)), 0);
+    assert_eq!(number(fresh(&numbers, EDITION_1, &mut table)), 0);
     assert_eq!(is_router(&table), 1);
     assert_eq!(number(join(&mut table, 0, 0, actions)), 0);
     table
@@ -48,13 +48,13 @@ fn a_peer_comes_and_goes() {
 #[test]
 fn parameters_as_bytes() {
     let (mut numbers, mut other) = ([0; NUMBERS], [0; NUMBERS]);
-    let mut buffer = [0; PARAMETER_BYTES];
+    let (mut buffer, mut edition) = ([0; PARAMETER_BYTES], 0);
     ordinary(&mut numbers);
-    let result = write(&numbers, &mut buffer);
+    let result = write(&numbers, EDITION_2, &mut buffer);
     assert_eq!(number(result), 0);
-    assert_eq!(read(&buffer[..value(result) as usize], &mut other), result);
-    assert_eq!(numbers, other);
-    assert_eq!(read(&[], &mut other), packed(10, 0));
+    assert_eq!(read(&buffer[..value(result) as usize], &mut other, &mut edition), result);
+    assert_eq!((numbers, edition), (other, EDITION_2));
+    assert_eq!(read(&[], &mut other, &mut edition), packed(10, 0));
 }
 
 #[test]

@@ -57,7 +57,7 @@ pub struct Router {
 impl Router {
     pub fn new(numbers: &Numbers) -> Router {
         let mut table = Box::new([0; CELLS]);
-        let result = hivepadlet::fresh(numbers, &mut table);
+        let result = hivepadlet::fresh(numbers, hivepadlet::EDITION_1, &mut table);
         assert_eq!(result, 0, "the parameters were refused");
         Router { table, list: [0; ACTION_NUMBERS] }
     }

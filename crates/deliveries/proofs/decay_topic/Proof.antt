@@ -14,14 +14,14 @@ decayed-requires c κs =
     let loaded = c .before .before .before .before .before .before .before in
     let start = loaded .before .before .before in
     topic-ready _ (start .args .time) _ _ _ _ _ (loaded .load-topic .ensures) (c .before .before .before .load-params .ensures)
-    (c .load-size .ensures)
+    (c .load-magnitude .ensures)
     (start .pre .decays) (start .pre .slot) (start .pre .topic)
 
 returns-2 : tie.Need-returns-2
 returns-2 c =
     let faded = c .before .before .before in
     topic-decayed _ _ _ _ _ _ _ (faded .before .before .before .before .before .before .before .before .load-topic .ensures)
-    (faded .before .before .before .before .load-params .ensures) (faded .before .load-size .ensures) _ _
+    (faded .before .before .before .before .load-params .ensures) (faded .before .load-magnitude .ensures) _ _
     (faded .decayed .ensures) (c .before .before .store-topic .ensures)
 
 pub decay-topic-spec : {M : Type 1} → statement M

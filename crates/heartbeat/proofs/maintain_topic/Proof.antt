@@ -16,14 +16,14 @@ start v = v .before .before .before .before
 abbrev seen : tie.After-meshes → tie.After-view
 seen m = m .before .before .before
 
-abbrev made : tie.After-load-size → tie.After-meshes
+abbrev made : tie.After-load-magnitude → tie.After-meshes
 made z = z .before .before .before .before .before
 
-abbrev sized : tie.After-told → tie.After-load-size
+abbrev sized : tie.After-told → tie.After-load-magnitude
 sized k = k .before .before .before .before .before .before
 
 -- what the call began with
-abbrev begun : tie.After-load-size → tie.Start
+abbrev begun : tie.After-load-magnitude → tie.Start
 begun z = start (seen (made z))
 
 computed :
@@ -39,7 +39,7 @@ computed :
     (k .before .before .before .before .changes .result)
     (k .before .before .ids .result)
     (k .told .result)
-    (sized k .load-size .result)
+    (sized k .load-magnitude .result)
 computed k =
     record {
       view = seen (made (sized k)) .view .ensures;
@@ -47,7 +47,7 @@ computed k =
           made (sized k) .meshes .ensures
           ∙ ap (λ (g : Degrees). meshes slotCount g (seen (made (sized k)) .view .result)) (made (sized k) .before .degrees .ensures);
       changes = k .before .before .before .before .changes .ensures;
-      backoff = sized k .load-size .ensures;
+      backoff = sized k .load-magnitude .ensures;
       id = k .before .before .ids .ensures;
       wait = k .told .ensures;
     }
@@ -62,7 +62,7 @@ end-after-requires c κs =
     let k = c .before .before .before .before in
     let s = begun (sized k) .pre in
     let g = sizes _ (s .ready .standing .router) in
-    record { latest = s .ready .latest; seconds = omega (arith, sized k .load-size .ensures, g .prune) }
+    record { latest = s .ready .latest; seconds = omega (arith, sized k .load-magnitude .ensures, g .prune) }
 
 settle-requires : tie.Need-settle-requires
 settle-requires c κs =

@@ -1,3 +1,5 @@
+-- `layout::store_peer` meets its contract: the record is written as one row, which `peer-store` says is the state with that peer. Assumes
+-- nothing.
 use mathlib.Core.Path.{_≡_, _∙_, ap}
 use lib.ListN.{length}
 use Rattle.layout.specs.View.{stateOf, cellsOfPeer}

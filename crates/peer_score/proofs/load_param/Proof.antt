@@ -12,4 +12,4 @@ load-param-spec =
     (λ c. omega arith)
     (λ c. omega arith)
     (λ c κs. search needs)
-    (λ c. c .load-size .ensures))
+    (λ c. c .load-magnitude .ensures))

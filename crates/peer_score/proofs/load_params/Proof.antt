@@ -8,7 +8,7 @@ use borrow.Author.Needs.{needs}
 use Rattle.limits.specs.Limits.{place as topicPlace}
 use Rattle.records.specs.Records.{State}
 use Rattle.effects.specs.Lent.{AtTopic}
-use Rattle.score.specs.Score.{sizeIn, topicParamsIn}
+use Rattle.score.specs.Score.{magnitudeIn, topicParamsIn}
 use Rattle.peer_score.specs.Standing.{AtTopicParam}
 use Rattle.peer_score.proofs.load_params.Statement.{statement}
 use Rattle.peer_score.proofs.load_params.Tie as tie
@@ -20,22 +20,22 @@ in-topic h l = record { size = h .size; topic = h .topic; param = l }
 -- the record of sixteen loaded numbers, over plain variables
 made :
     (st : State) (t x0 x1 x2 x3 x4 x5 x6 x7 x8 x9 x10 x11 x12 x13 x14 x15 : ℕ) →
-    x0 ≡ sizeIn st (topicPlace t 0) →
-    x1 ≡ sizeIn st (topicPlace t 1) →
-    x2 ≡ sizeIn st (topicPlace t 2) →
-    x3 ≡ sizeIn st (topicPlace t 3) →
-    x4 ≡ sizeIn st (topicPlace t 4) →
-    x5 ≡ sizeIn st (topicPlace t 5) →
-    x6 ≡ sizeIn st (topicPlace t 6) →
-    x7 ≡ sizeIn st (topicPlace t 7) →
-    x8 ≡ sizeIn st (topicPlace t 8) →
-    x9 ≡ sizeIn st (topicPlace t 9) →
-    x10 ≡ sizeIn st (topicPlace t 10) →
-    x11 ≡ sizeIn st (topicPlace t 11) →
-    x12 ≡ sizeIn st (topicPlace t 12) →
-    x13 ≡ sizeIn st (topicPlace t 13) →
-    x14 ≡ sizeIn st (topicPlace t 14) →
-    x15 ≡ sizeIn st (topicPlace t 15) →
+    x0 ≡ magnitudeIn st (topicPlace t 0) →
+    x1 ≡ magnitudeIn st (topicPlace t 1) →
+    x2 ≡ magnitudeIn st (topicPlace t 2) →
+    x3 ≡ magnitudeIn st (topicPlace t 3) →
+    x4 ≡ magnitudeIn st (topicPlace t 4) →
+    x5 ≡ magnitudeIn st (topicPlace t 5) →
+    x6 ≡ magnitudeIn st (topicPlace t 6) →
+    x7 ≡ magnitudeIn st (topicPlace t 7) →
+    x8 ≡ magnitudeIn st (topicPlace t 8) →
+    x9 ≡ magnitudeIn st (topicPlace t 9) →
+    x10 ≡ magnitudeIn st (topicPlace t 10) →
+    x11 ≡ magnitudeIn st (topicPlace t 11) →
+    x12 ≡ magnitudeIn st (topicPlace t 12) →
+    x13 ≡ magnitudeIn st (topicPlace t 13) →
+    x14 ≡ magnitudeIn st (topicPlace t 14) →
+    x15 ≡ magnitudeIn st (topicPlace t 15) →
     record {
       weight = x0;
       w1 = x1;

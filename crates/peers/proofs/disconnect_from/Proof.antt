@@ -13,7 +13,7 @@ end-after-requires : tie.Need-end-after-requires
 end-after-requires c κs =
     let ready = c .before .before .before .before .before .before .before .before .before .pre in
     let most = sizes _ (ready .standing .router) in
-    record { latest = ready .latest; seconds = omega (arith, c .load-size .ensures) }
+    record { latest = ready .latest; seconds = omega (arith, c .load-magnitude .ensures) }
 
 pub disconnect-from-spec : {M : Type 1} → statement M
 unfolding effect

@@ -1,14 +1,14 @@
--- `varint::magnitude` meets its contract. Assumes nothing.
+-- `varint::nat_abs` meets its contract. Assumes nothing.
 use borrow.Author.Needs.{needs}
 use native.Mathlib.Omega.{arith}
 use mathlib.Core.Path.{sym, _∙_}
 use mir.Facts.{toZ-ofZ}
 use Rattle.varint.proofs.CodeLaws.{size-neg, size-pos}
-use Rattle.varint.proofs.magnitude.Statement.{statement}
-use Rattle.varint.proofs.magnitude.Tie as tie
+use Rattle.varint.proofs.nat_abs.Statement.{statement}
+use Rattle.varint.proofs.nat_abs.Tie as tie
 
-pub magnitude-spec : {M : Type 1} → statement M
-magnitude-spec =
+pub nat-abs-spec : {M : Type 1} → statement M
+nat-abs-spec =
     tie.close (tie.spec
     (λ c κs. search needs)
     (λ c κs. search needs)
