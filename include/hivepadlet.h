@@ -46,8 +46,8 @@
  * answer (hivepadlet_value), 0 where the table below names none. HIVEPADLET_DONE is 0, so `r & 255` is 0 for success.
  *
  * A call makes its tests in the order 12, 2, 8, 1, 6, 7, 3, 4, 5, 11, those that can concern it, and answers the first that
- * fails; hivepadlet_read in the order 10, 9; hivepadlet_write 2, 8, 9; hivepadlet_fresh 2, 9; hivepadlet_names 2;
- * hivepadlet_read_message 8, 10; hivepadlet_write_message 2, 13.
+ * fails; hivepadlet_read in the order 10, 9; hivepadlet_write 2, 8, 9; hivepadlet_import 10, 9; hivepadlet_export 13, 9;
+ * hivepadlet_fresh 2, 9; hivepadlet_names 2; hivepadlet_read_message 8, 10; hivepadlet_write_message 2, 13.
  *
  * TIMES AND UNITS
  *
@@ -88,6 +88,7 @@ extern "C" {
 #define HIVEPADLET_NUMBERS 147          /* numbers of the parameters */
 #define HIVEPADLET_ACTION_NUMBERS 192   /* numbers of an action list: three for each slot */
 #define HIVEPADLET_PARAMETER_BYTES 737  /* bytes that written parameters may take (edition 1: 735) */
+#define HIVEPADLET_SUPPLIER_BYTES 1323  /* bytes of the other supplier's parameters */
 #define HIVEPADLET_SLOTS 64             /* peers that a router holds, and numbers of a permutation */
 #define HIVEPADLET_TOPICS 8
 #define HIVEPADLET_WHY_NUMBERS 6        /* numbers of a score: its five parts, and the score */
@@ -127,15 +128,18 @@ enum hivepadlet_answer {
     HIVEPADLET_NOT_PERMUTATION = 7,   /* not each of 0 to 63 once */
     HIVEPADLET_LIST_SHORT = 8,        /* action list under 192 numbers; list of entries under 24,576; in writing parameters,
                                          buffer under 735 bytes, or 737 for edition 2 */
-    HIVEPADLET_BROKEN = 9,            /* a parameter outside its limits: its index; or a joint rule broken: 200 + the rule */
+    HIVEPADLET_BROKEN = 9,            /* a parameter outside its limits, or a broken entry of the other supplier's: its index; or
+                                         a joint rule broken: 200 + the rule */
     HIVEPADLET_MALFORMED = 10,        /* bytes that are no parameters: the place where the first bad number begins, also where
                                          the bytes end inside it; or the first byte left over; or the length if the bytes end
-                                         between numbers. Of a message: where the innermost broken field begins, the first
-                                         from the front; 16384 where it is longer */
+                                         between numbers. Of the other supplier's parameters: their length, which is not 1323
+                                         (a length beyond 4294967295 is told as that). Of a message: where the innermost broken
+                                         field begins, the first from the front; 16384 where it is longer */
     HIVEPADLET_IGNORED = 11,          /* ignored: only the clock moved. In the place of an entry's topic: no topic of ours, and no
                                          clock */
     HIVEPADLET_NOT_ROUTER = 12,       /* the table is no router's: damaged, or never made by hivepadlet_fresh */
-    HIVEPADLET_NO_ROOM = 13           /* in writing a message, a buffer shorter than it */
+    HIVEPADLET_NO_ROOM = 13           /* in writing a message, a buffer shorter than it; in exporting parameters, one under 1323
+                                         bytes */
 };
 
 static inline unsigned hivepadlet_number(uint64_t r)
@@ -251,6 +255,19 @@ uint64_t hivepadlet_read(const uint8_t *bytes, size_t length, int64_t numbers[HI
 /* Writes parameters of an edition to the start of a buffer of at least HIVEPADLET_PARAMETER_BYTES. 0 with the length, or 2, or 8,
  * or 9. What is read from these bytes is the same numbers and the same edition; the bytes past them are unchanged. */
 uint64_t hivepadlet_write(const int64_t numbers[HIVEPADLET_NUMBERS], uint64_t edition, uint8_t *buffer, size_t length);
+
+/* The other supplier's parameters: the same 147 fields in the same order, an entry of nine bytes each, a kind and then eight
+ * bytes, low first. Kind 0, the decays and DECAY_TO_ZERO: a 64-bit float, n / 1000 of our number n bit for bit. Kind 2, the
+ * backoffs, RETAIN, P1_QUANTUM and P3_ACTIVATION: unsigned nanoseconds, a whole number of our seconds or milliseconds. Kind 1, the
+ * rest: a signed number. An entry of another kind than its field's, or of a number outside the limits, is broken. They know no
+ * edition: what is imported or exported is tested by the rules of edition 1. */
+
+/* Imports them from bytes, all of them. 0 with the length, or 10, or 9; the numbers are written only with 0. */
+uint64_t hivepadlet_import(const uint8_t *bytes, size_t length, int64_t numbers[HIVEPADLET_NUMBERS]);
+
+/* Exports parameters to the start of a buffer of at least HIVEPADLET_SUPPLIER_BYTES. 0 with the length, or 13, or 9. What is
+ * imported from these bytes is the same numbers; the bytes past them are unchanged. */
+uint64_t hivepadlet_export(const int64_t numbers[HIVEPADLET_NUMBERS], uint8_t *buffer, size_t length);
 
 /* ---- the router */
 

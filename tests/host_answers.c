@@ -14,6 +14,7 @@ static int64_t numbers[HIVEPADLET_NUMBERS];
 static uint64_t permutation[HIVEPADLET_SLOTS];
 static uint8_t names[HIVEPADLET_NAMES_BYTES];
 static uint8_t buffer[64];
+static uint8_t theirs[HIVEPADLET_SUPPLIER_BYTES + 1];
 static unsigned passed, failed;
 
 #define LIST actions, HIVEPADLET_ACTION_NUMBERS
@@ -52,6 +53,41 @@ static void refuses(const char *what, uint64_t r, unsigned number)
     }
     answers(what, r, number, 0);
     check(what, untouched);
+}
+
+/* the other supplier's parameters: what was exported is imported, and each refusal leaves numbers and buffer */
+static void supplier(void)
+{
+    int64_t read[HIVEPADLET_NUMBERS] = { 0 };
+    hivepadlet_ordinary(numbers);
+    memset(theirs, 0xA5, sizeof theirs);
+    answers("a buffer of 1322 bytes", hivepadlet_export(numbers, theirs, 1322), HIVEPADLET_NO_ROOM, 0);
+    check("a short buffer is unchanged", theirs[0] == 0xA5);
+    numbers[HIVEPADLET_D] = 49;
+    answers("D 49 exported", hivepadlet_export(numbers, theirs, sizeof theirs), HIVEPADLET_BROKEN, HIVEPADLET_D);
+    numbers[HIVEPADLET_D] = 6;
+    numbers[HIVEPADLET_D_SCORE] = 5;
+    answers("D_score 5 exported", hivepadlet_export(numbers, theirs, sizeof theirs), HIVEPADLET_BROKEN, 200 + HIVEPADLET_RULE_SCORE_OUT_D);
+    check("a refused buffer is unchanged", theirs[0] == 0xA5);
+    numbers[HIVEPADLET_D_SCORE] = 4;
+    answers("parameters exported", hivepadlet_export(numbers, theirs, sizeof theirs), HIVEPADLET_DONE, HIVEPADLET_SUPPLIER_BYTES);
+    check("the byte past them is unchanged", theirs[HIVEPADLET_SUPPLIER_BYTES] == 0xA5);
+    check("D_lo is a whole number", theirs[0] == 1 && theirs[1] == 4 && theirs[2] == 0);
+    check("a backoff of 60 s is a span", theirs[9 * HIVEPADLET_PRUNE_BACKOFF] == 2);
+    check("0.97 is 3fef0a3d70a3d70a", theirs[9 * HIVEPADLET_P7_DECAY] == 0
+          && memcmp(theirs + 9 * HIVEPADLET_P7_DECAY + 1, "\x0a\xd7\xa3\x70\x3d\x0a\xef\x3f", 8) == 0);
+    answers("1324 bytes", hivepadlet_import(theirs, HIVEPADLET_SUPPLIER_BYTES + 1, read), HIVEPADLET_MALFORMED, 1324);
+    answers("no bytes", hivepadlet_import(theirs, 0, read), HIVEPADLET_MALFORMED, 0);
+    theirs[9 * HIVEPADLET_P7_DECAY + 1]++;
+    answers("a factor one above", hivepadlet_import(theirs, HIVEPADLET_SUPPLIER_BYTES, read), HIVEPADLET_BROKEN, HIVEPADLET_P7_DECAY);
+    theirs[9 * HIVEPADLET_P7_DECAY + 1]--;
+    theirs[9 * HIVEPADLET_PRUNE_BACKOFF]--;
+    answers("a span as a whole number", hivepadlet_import(theirs, HIVEPADLET_SUPPLIER_BYTES, read), HIVEPADLET_BROKEN,
+            HIVEPADLET_PRUNE_BACKOFF);
+    theirs[9 * HIVEPADLET_PRUNE_BACKOFF]++;
+    check("a refused import writes nothing", read[HIVEPADLET_D] == 0);
+    answers("parameters imported", hivepadlet_import(theirs, HIVEPADLET_SUPPLIER_BYTES, read), HIVEPADLET_DONE, HIVEPADLET_SUPPLIER_BYTES);
+    check("what was exported is imported", memcmp(numbers, read, sizeof numbers) == 0);
 }
 
 static void parameters(void)
@@ -271,6 +307,7 @@ static void messages_read(void)
 
 int main(void)
 {
+    supplier();
     parameters();
     second_edition();
     refusals();

@@ -18,7 +18,7 @@ static uint32_t actions[HIVEPADLET_ACTION_NUMBERS];
 static int64_t numbers[HIVEPADLET_NUMBERS], why[HIVEPADLET_WHY_NUMBERS];
 static uint64_t edition;
 static uint64_t permutation[HIVEPADLET_SLOTS];
-static uint8_t bytes[HIVEPADLET_PARAMETER_BYTES];
+static uint8_t bytes[HIVEPADLET_PARAMETER_BYTES], theirs[HIVEPADLET_SUPPLIER_BYTES];
 static uint8_t names[HIVEPADLET_NAMES_BYTES], rpc[HIVEPADLET_WRITTEN_BYTES];
 static uint32_t prunes[HIVEPADLET_ACTION_NUMBERS];
 static uint64_t topics[HIVEPADLET_SLOTS], joins[2 * HIVEPADLET_TOPICS], entries[HIVEPADLET_ENTRY_NUMBERS];
@@ -44,6 +44,8 @@ static void leave(void) { answer = hivepadlet_leave(table, 1, 0, LIST); }
 static void is_router(void) { answer = hivepadlet_is_router(table) ? 0 : HIVEPADLET_NOT_ROUTER; }
 static void fresh(void) { answer = hivepadlet_fresh(numbers, HIVEPADLET_EDITION_2, fresh_table); }
 static void written(void) { answer = hivepadlet_write(numbers, HIVEPADLET_EDITION_2, bytes, sizeof bytes); }
+static void exported(void) { answer = hivepadlet_export(numbers, theirs, sizeof theirs); }
+static void imported(void) { answer = hivepadlet_import(theirs, sizeof theirs, numbers); }
 static void tests_names(void) { answer = hivepadlet_names(names); }
 static void message(void)
 {
@@ -79,6 +81,8 @@ static const struct {
     {"a fresh router", fresh},
     {"parameters written", written},
     {"parameters read", read_back},
+    {"parameters exported", exported},
+    {"parameters imported", imported},
     {"names", tests_names},
     {"a message written", message},
     {"a message read", message_read},

@@ -1,3 +1,4 @@
 pub mod HostLaws
 pub mod MessageLaws
+pub mod SupplierLaws
 pub mod WritingLaws

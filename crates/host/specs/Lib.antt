@@ -1,3 +1,4 @@
 pub mod Host
 pub mod Messages
+pub mod Supplier
 pub mod Writing

@@ -3,4 +3,5 @@
 pub mod calls;
 pub mod messages;
 pub mod parameters;
+pub mod supplier;
 pub mod writing;

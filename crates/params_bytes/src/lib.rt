@@ -105,7 +105,7 @@ fn parse(s: &[u8], from: usize) -> Parsed
 }
 
 // A refusal, with zeros for the parameters.
-fn refused(verdict: Verdict) -> Reading
+pub fn refused(verdict: Verdict) -> Reading
     ensures { λ r. ⌜ r ≡ refusal verdict ⌝ }
 {
     let numbers = [0i64; NUMBERS];
@@ -119,7 +119,7 @@ fn refused(verdict: Verdict) -> Reading
 }
 
 // What is answered where the parameters are read and `next` is the place after them.
-fn judged(params: Params, next: usize) -> Reading
+pub fn judged(params: Params, next: usize) -> Reading
     ensures { λ r. ⌜ r ≡ judgedBy (firstBroken params) params next ⌝ }
 {
     match params.first_broken() {

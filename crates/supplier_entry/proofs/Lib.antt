@@ -1,0 +1,5 @@
+pub mod FactorLaws
+pub mod EntryLaws
+pub mod ByteLaws
+pub mod RoundTrip
+pub mod Examples

@@ -1,0 +1,6 @@
+pub mod Bytes
+pub mod Factor
+pub mod Entries
+pub mod Asked
+pub mod RoundTrip
+pub mod Examples

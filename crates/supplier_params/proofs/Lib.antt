@@ -1,0 +1,4 @@
+pub mod FormLaws
+pub mod ImportLaws
+pub mod ExportLaws
+pub mod RoundTrip

@@ -1,0 +1,4 @@
+pub mod Forms
+pub mod Import
+pub mod Export
+pub mod RoundTrip
