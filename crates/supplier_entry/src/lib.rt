@@ -96,8 +96,8 @@ fn thousandths(x: f64, limit: Limit) -> Found
     requires { ⌜ Among limit × T (not (isNan x)) ⌝ }
     ensures { λ r. ⌜ r ≡ thousandthsOf limit (toBits binary64 x) ⌝ }
 {
-    let low = varint::magnitude(limit.low);
-    let high = varint::magnitude(limit.high);
+    let low = varint::nat_abs(limit.low);
+    let high = varint::nat_abs(limit.high);
     search(x, low as usize, high as usize)
 }
 
@@ -218,7 +218,7 @@ pub fn import(kind: u8, u: u64, form: Form, limit: Limit) -> Number
 fn unsigned_of(z: i64) -> u64
     ensures { λ r. ⌜ r ≡ twosOf z ⌝ }
 {
-    let size = varint::magnitude(z);
+    let size = varint::nat_abs(z);
     if varint::is_negative(z) {
         18446744073709551615 - (size - 1)
     } else {
@@ -231,7 +231,7 @@ fn content_of(z: i64, form: Form) -> u64
     requires { ⌜ Writable form z ⌝ }
     ensures { λ r. ⌜ r ≡ contentOf form z ⌝ }
 {
-    let size = varint::magnitude(z);
+    let size = varint::nat_abs(z);
     if form.kind == 0 {
         return factor_bits(size as usize);
     }

@@ -15,12 +15,12 @@ content-of-spec =
     (λ c κs. search needs)
     (λ c κs.
     let s = c .before .before .before in
-    let m = rw (toZ-ofZ (s .fits .z)) at (c .before .before .magnitude .ensures) in
+    let m = rw (toZ-ofZ (s .fits .z)) at (c .before .before .nat-abs .ensures) in
     let h = s .pre .factors (c .if1 .taken) in
     omega arith)
     (λ c.
     let s = c .before .before .before .before in
-    content-factor _ _ _ _ (c .before .if1 .taken) (rw (toZ-ofZ (s .fits .z)) at (c .before .before .before .magnitude .ensures))
+    content-factor _ _ _ _ (c .before .if1 .taken) (rw (toZ-ofZ (s .fits .z)) at (c .before .before .before .nat-abs .ensures))
     (c .factor-bits .ensures))
     (λ c κs. search needs)
     (λ c.
@@ -28,10 +28,10 @@ content-of-spec =
     content-whole _ _ _ (c .before .if2 .taken) (rw (toZ-ofZ (s .fits .z)) at (c .unsigned-of .ensures)))
     (λ c.
     let s = c .before .before .before .before .before .before in
-    let m = rw (toZ-ofZ (s .fits .z)) at (c .before .before .before .before .before .magnitude .ensures) in
+    let m = rw (toZ-ofZ (s .fits .z)) at (c .before .before .before .before .before .nat-abs .ensures) in
     let p = ap (λ (x : ℕ). x * s .args .form .unit) m in
     record { fits = omega (arith, s .pre .spans) })
     (λ c.
     let s = c .before .before .before .before .before .before in
     content-span _ _ _ (c .before .before .before .if1 .left) (c .before .if2 .left)
-    (rw (toZ-ofZ (s .fits .z)) at (c .before .before .before .before .before .magnitude .ensures))))
+    (rw (toZ-ofZ (s .fits .z)) at (c .before .before .before .before .before .nat-abs .ensures))))

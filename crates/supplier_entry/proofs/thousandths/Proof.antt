@@ -15,11 +15,11 @@ thousandths-spec =
     (λ c κs.
     let s = c .before .before .before .before in
     let g = c .before .struct-told2 .given in
-    let m = rw (toZ-ofZ (record { sfits = g .1 .0 .1 })) at (c .magnitude2 .ensures) in
+    let m = rw (toZ-ofZ (record { sfits = g .1 .0 .1 })) at (c .nat-abs2 .ensures) in
     (omega (arith, s .pre .0 .most), s .pre .1))
     (λ c.
     let s = c .before .before .before .before .before in
     let g = c .before .before .struct-told2 .given in
     thousandths-are (s .args .limit) _ _ _ _ (s .pre .0)
-    (rw (toZ-ofZ (record { sfits = g .0 .1 })) at (c .before .before .before .magnitude .ensures))
-    (rw (toZ-ofZ (record { sfits = g .1 .0 .1 })) at (c .before .magnitude2 .ensures)) (c .search .ensures)))
+    (rw (toZ-ofZ (record { sfits = g .0 .1 })) at (c .before .before .before .nat-abs .ensures))
+    (rw (toZ-ofZ (record { sfits = g .1 .0 .1 })) at (c .before .nat-abs2 .ensures)) (c .search .ensures)))

@@ -15,13 +15,13 @@ unsigned-of-spec =
     (λ c.
     let f = c .before .before .before .fits .z in
     minus-one (c .before .before .before .args .z) _ (rw (toZ-ofZ f) at (sym (c .if1 .taken) ∙ c .before .is-negative .ensures))
-    (rw (toZ-ofZ f) at (c .before .before .magnitude .ensures)))
+    (rw (toZ-ofZ f) at (c .before .before .nat-abs .ensures)))
     (λ c. search needs)
     (λ c.
     let f = c .before .before .before .fits .z in
     bits-minus _ _ (rw (toZ-ofZ f) at (sym (c .if1 .taken) ∙ c .before .is-negative .ensures))
-    (rw (toZ-ofZ f) at (c .before .before .magnitude .ensures)))
+    (rw (toZ-ofZ f) at (c .before .before .nat-abs .ensures)))
     (λ c.
     let f = c .before .before .before .fits .z in
     bits-plus _ _ (rw (toZ-ofZ f) at (sym (c .if1 .left) ∙ c .before .is-negative .ensures))
-    (rw (toZ-ofZ f) at (c .before .before .magnitude .ensures))))
+    (rw (toZ-ofZ f) at (c .before .before .nat-abs .ensures))))
