@@ -26,8 +26,9 @@ fn show(buf: &mut [u8], bytes: &[u8]) -> usize
     }
 }
 
-// The 4,096 bytes that are read are enough of any input (`enough` of param_text/proofs/Enough.antt): a front of two bytes and 147 numbers of
-// at most ten do not pass 1,472, so whatever stands beyond is left over, and the place that is printed is that of the first byte left over.
+// The 4,096 bytes that are read are enough of any input (`enough` of param_text/proofs/Enough.antt): a front of two bytes and 147 numbers
+// of at most ten do not pass 1,472, so whatever stands beyond is left over, and the place that is printed is that of the first byte left
+// over.
 fn main() {
     let mut bytes = io::buffer();
     let n = io::read_full(0, &mut bytes);

@@ -107,6 +107,7 @@ module _ (s : List ℕ) (r : Reading) where
     import-broken t q =
         q ∙ ap (λ (b : Bool). judged (cond b (numbers (p .numbers)) (broken (p .place)))) (sym (not-true (p .ok) t)) ∙ taken
 
-    pub import-judged : not (p .ok) ≡ false → r ≡ judgedBy (firstBroken (sheet First (p .numbers))) (sheet First (p .numbers)) supplierBytes → r ≡ importOf s
+    pub import-judged : not (p .ok) ≡ false → r
+        ≡ judgedBy (firstBroken (sheet First (p .numbers))) (sheet First (p .numbers)) supplierBytes → r ≡ importOf s
     import-judged t q =
         q ∙ ap (λ (b : Bool). judged (cond b (numbers (p .numbers)) (broken (p .place)))) (sym (not-false (p .ok) t)) ∙ taken

@@ -115,7 +115,8 @@ front-set buf bytes h =
 export-is-done :
     (xs : List ℤ) (buf : List ℕ) (n : ℕ) →
     exportOf xs buf .answer ≡ Done n →
-    (firstBroken (sheet First xs) ≡ Nothing) × (n ≡ supplierBytes) × (exportOf xs buf .bytes ≡ sets buf 0 (bytesOf xs)) × (supplierBytes ≤ length buf)
+    (firstBroken (sheet First xs) ≡ Nothing) × (n ≡ supplierBytes) × (exportOf xs buf .bytes ≡ sets buf 0 (bytesOf xs))
+    × (supplierBytes ≤ length buf)
 unfolding exportOf
 export-is-done xs buf n e = room (ltb (length buf) supplierBytes) refl
   where
@@ -123,7 +124,8 @@ export-is-done xs buf n e = room (ltb (length buf) supplierBytes) refl
     Goal = (firstBroken (sheet First xs) ≡ Nothing) × (n ≡ supplierBytes) × (exportOf xs buf .bytes ≡ sets buf 0 (bytesOf xs))
         × (supplierBytes ≤ length buf)
 
-    found : ltb (length buf) supplierBytes ≡ false → (f : Found) → firstBroken (sheet First xs) ≡ f → exportBy f xs buf .answer ≡ Done n → Goal
+    found : ltb (length buf) supplierBytes ≡ false → (f : Found) → firstBroken (sheet First xs) ≡ f → exportBy f xs buf .answer ≡ Done n →
+        Goal
     found t (At i) q d = let z : _≡_ {A = ℕ} 0 1 = cc in absurd (omega arith)
     found t Nothing q d =
         let s : supplierBytes ≡ n = cc in

@@ -48,7 +48,8 @@ put-numbers-spec =
       c .before .before .put-line .kept .0 ∙ l .inv .1,
       omega arith,
       lines-more (lineAt (c .before .before .before .before .before .before .before .before .args .t3)) _ _
-          (c .before .before .before .before .before .before .before .before .args .buf .now) _ _ _ _ (l .inv .3) (rw (toZ-ofZ f) at (s .0)),
+          (c .before .before .before .before .before .before .before .before .args .buf .now) _ _ _ _ (l .inv .3)
+          (rw (toZ-ofZ f) at (s .0)),
     ))
     (λ c. search needs)
     (λ c.

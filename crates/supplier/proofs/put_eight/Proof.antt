@@ -1,4 +1,4 @@
--- `supplier::put_eight` meets its contract. Assumes nothing.
+-- `supplier::put_eight` meets its contract. The loop keeps the digits of the first k bytes stored, two for each. Assumes nothing.
 use Prim.Native.Nat.{_+_, _-_, _*_, _≤_}
 use mathlib.Core.Path.{_≡_, refl, _∙_}
 use native.Mathlib.Omega.{arith}

@@ -1,4 +1,6 @@
--- `supplier::put_entries` meets its contract. Assumes nothing.
+-- `supplier::put_entries` meets its contract.
+-- The loop keeps the lines of the first i entries stored, none longer than 21 bytes.
+-- Assumes nothing.
 use Prim.Native.Nat.{_+_, _-_, _*_, _≤_}
 use mathlib.Core.Path.{_≡_, refl, _∙_}
 use native.Mathlib.Omega.{arith}

@@ -1,4 +1,6 @@
--- `supplier::put_entry` meets its contract. Assumes nothing.
+-- `supplier::put_entry` meets its contract.
+-- The kind has one to three digits, so the space, the sixteen digits and the end of the line have room.
+-- Assumes nothing.
 use native.Mathlib.Omega.{arith}
 use borrow.Author.Needs.{needs}
 use Rattle.supplier.proofs.TextLaws.{kind-length, entry-stored}

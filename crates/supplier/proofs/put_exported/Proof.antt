@@ -1,4 +1,6 @@
--- `supplier::put_exported` meets its contract. Assumes nothing.
+-- `supplier::put_exported` meets its contract.
+-- An export that is done has written all its bytes into the page, so that the lines are those of the page's front.
+-- Assumes nothing.
 use mathlib.Core.Path.{sym, _∙_}
 use native.Mathlib.Omega.{arith}
 use borrow.Author.Needs.{needs}

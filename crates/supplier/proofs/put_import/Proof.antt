@@ -1,4 +1,6 @@
--- `supplier::put_import` meets its contract. Assumes nothing.
+-- `supplier::put_import` meets its contract.
+-- Each verdict of the import has its text: the line of a refusal, or `0` and the numbers' lines behind it.
+-- Assumes nothing.
 use native.Mathlib.Omega.{arith}
 use borrow.Author.Needs.{needs}
 use Rattle.param_text.specs.Lines.{numbersText}

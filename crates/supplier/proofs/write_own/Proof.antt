@@ -14,10 +14,12 @@ write-own-spec =
     (λ c. search needs)
     (λ c. search needs)
     (λ c. own-stored (c .before .before .before .before .before .before .before .before .args .all) _ _ _ _
-    (c .before .n .given .1) (c .before .before .before .before .before .before .before .before .pre) (search needs) (c .before .before .before .before .before .write .ensures))
+    (c .before .n .given .1) (c .before .before .before .before .before .before .before .before .pre) (search needs)
+    (c .before .before .before .before .before .write .ensures))
     (λ c. search needs)
     (λ c. own-stored (c .before .before .before .before .before .before .before .args .all) _ _ _ _ (c .enum-told .given .1)
     (c .before .before .before .before .before .before .before .pre) (search needs) (c .before .before .before .before .write .ensures))
     (λ c. search needs)
     (λ c. own-stored (c .before .before .before .before .before .before .before .before .args .all) _ _ _ _
-    (c .before .i .given .1) (c .before .before .before .before .before .before .before .before .pre) (search needs) (c .before .before .before .before .before .write .ensures)))
+    (c .before .i .given .1) (c .before .before .before .before .before .before .before .before .pre) (search needs)
+    (c .before .before .before .before .before .write .ensures)))

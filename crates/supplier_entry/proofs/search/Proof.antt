@@ -1,4 +1,6 @@
--- `supplier_entry::search` meets its contract. Assumes nothing.
+-- `supplier_entry::search` meets its contract.
+-- The bits of n / 1000 rise with n, so what lies below `from` has smaller bits and what lies from `to` on has larger ones.
+-- Assumes nothing.
 use Prim.Native.Nat.{ℕ, _+_, _-_, _/_}
 use mathlib.Core.Path.{_≡_, ap, _∙_}
 use mathlib.Core.Bool.{Bool}

@@ -1,4 +1,6 @@
--- `supplier_params::entries` meets its contract. Assumes nothing.
+-- `supplier_params::entries` meets its contract.
+-- The loop keeps the first i numbers taken, and that none of their entries is broken.
+-- Assumes nothing.
 use Prim.Native.Nat.{_-_}
 use mathlib.Core.Path.{refl}
 use native.Mathlib.Omega.{arith}

@@ -15,12 +15,12 @@ export-spec =
     (λ c. search needs)
     (λ c. search needs)
     (λ c κs. (
-      c .before .before .before .before .if1 .left,
+      c .before .before .before .before .before .if1 .left,
       accepted-in _ (sym (c .before .before .before .first-broken .ensures) ∙ c .before .enum-told .given .1),
     ))
-    (λ c. export-outside _ _ _ (c .before .before .before .before .if1 .left) (c .before .before .before .first-broken .ensures) _
+    (λ c. export-outside _ _ _ (c .before .before .before .before .before .if1 .left) (c .before .before .before .first-broken .ensures) _
     (c .before .i .given .1))
     (λ c. search needs)
-    (λ c. export-done _ _ _ (c .before .before .before .before .before .before .before .if1 .left)
+    (λ c. export-done _ _ _ (c .before .before .before .before .before .before .before .before .if1 .left)
     (c .before .before .before .before .before .before .first-broken .ensures) _
     (c .before .before .before .before .enum-told .given .1) (c .before .before .put .ensures)))

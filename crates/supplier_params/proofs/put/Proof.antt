@@ -1,4 +1,6 @@
--- `supplier_params::put` meets its contract. Assumes nothing.
+-- `supplier_params::put` meets its contract.
+-- The loop keeps the first i entries written, and the rest of the buffer as it was.
+-- Assumes nothing.
 use Prim.Native.Nat.{_-_}
 use native.Mathlib.Omega.{arith}
 use borrow.Author.Needs.{needs, sfits-of}

@@ -17,8 +17,11 @@ export-spec =
     (λ c. search needs)
     (λ c κs. (omega arith, export-fits _ _ _ _ _ (c .before .before .before .before .before .export .ensures) (c .before .i .given .1)))
     (λ c. search needs)
-    (λ c. hosts-export _ _ _ _ _ (c .before .before .before .before .before .before .export .ensures) (c .before .before .n .given .1) _ (c .packed .ensures))
+    (λ c. hosts-export _ _ _ _ _ (c .before .before .before .before .before .before .export .ensures) (c .before .before .n .given .1) _
+    (c .packed .ensures))
     (λ c. search needs)
-    (λ c. hosts-export _ _ _ _ _ (c .before .before .before .before .before .export .ensures) (c .before .enum-told .given .1) _ (c .packed2 .ensures))
+    (λ c. hosts-export _ _ _ _ _ (c .before .before .before .before .before .export .ensures) (c .before .enum-told .given .1) _
+    (c .packed2 .ensures))
     (λ c. search needs)
-    (λ c. hosts-export _ _ _ _ _ (c .before .before .before .before .before .before .export .ensures) (c .before .before .i .given .1) _ (c .packed3 .ensures)))
+    (λ c. hosts-export _ _ _ _ _ (c .before .before .before .before .before .before .export .ensures) (c .before .before .i .given .1) _
+    (c .packed3 .ensures)))

@@ -1,6 +1,5 @@
 -- `host::told` meets its contract. Assumes nothing.
 use native.Mathlib.Omega.{arith}
-use borrow.Author.Needs.{needs}
 use Rattle.host.proofs.supplier.told.Statement.{statement}
 use Rattle.host.proofs.supplier.told.Tie as tie
 
