@@ -149,7 +149,8 @@ pub fn write(params: &Params, buffer: &mut [u8]) -> Result<usize, Refusal> {
 }
 
 /// What `supplier_ref` writes for a mode and the bytes after it; nothing for a mode that
-/// is none. `i` and `e` print, `I` and `E` write bytes; a refusal is a line in each.
+/// is none. `i` and `e` print, a refusal as a line; `I` and `E` write bytes, and nothing where
+/// they refuse.
 pub fn show(mode: u8, bytes: &[u8]) -> Vec<u8> {
     let ours = |bytes| params::read(bytes).and_then(|(params, _)| export(&params));
     let shown = match mode {
@@ -159,7 +160,11 @@ pub fn show(mode: u8, bytes: &[u8]) -> Vec<u8> {
         b'E' => ours(bytes).map(|sheet| sheet.to_vec()),
         _ => Ok(Vec::new()),
     };
-    shown.unwrap_or_else(|refusal| format!("{} {}\n", refusal.number, refusal.place).into_bytes())
+    let raw = matches!(mode, b'I' | b'E');
+    shown.unwrap_or_else(|refusal| match raw {
+        true => Vec::new(),
+        false => format!("{} {}\n", refusal.number, refusal.place).into_bytes(),
+    })
 }
 
 /// `0`, then the numbers, one to a line.

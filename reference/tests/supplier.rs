@@ -264,7 +264,7 @@ fn shown() {
     assert_eq!(supplier::show(b'I', &ordinary()), ours);
     assert_eq!(supplier::show(b'E', &ours), ordinary());
     assert_eq!(text(b'i', &[]), "10 0\n");
-    assert_eq!(text(b'I', &[0; LENGTH]), "9 0\n");
+    assert_eq!(text(b'I', &[0; LENGTH]), "");
     assert_eq!(text(b'e', &ours[1..]), "10 261\n");
-    assert_eq!(text(b'E', &[]), "10 0\n");
+    assert_eq!(text(b'E', &[]), "");
 }

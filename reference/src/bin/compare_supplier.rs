@@ -74,7 +74,8 @@ fn refusal(output: &[u8]) -> Option<(u32, usize)> {
 impl Reached {
     fn count(&mut self, input: &Input, expected: &[u8]) {
         let mode = input.mode as char;
-        let refused = refusal(expected);
+        // `I` and `E` write nothing where they refuse; `i` and `e` say why.
+        let refused = refusal(&supplier::show(input.mode.to_ascii_lowercase(), &input.bytes));
         *self.kinds.entry(input.kind).or_default() += 1;
         *self.answers.entry((mode, refused.map_or(0, |(number, _)| number))).or_default() += 1;
         match (refused, input.broken) {
