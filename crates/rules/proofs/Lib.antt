@@ -6,6 +6,8 @@ pub mod FirstLaws
 pub mod GraftLaws
 pub mod PunishedLaws
 pub mod HeartbeatLaws
+pub mod OrderLaws
+pub mod Words
 pub mod KeepsRecord
 pub mod KeepsState
 pub mod KeepsTopic
