@@ -86,14 +86,7 @@ pub actions-short : (st : State) (t n : ℕ) → length (leaveActions st t n) �
 unfolding leaveActions
 actions-short st t n =
     gather-short _ n
-    (λ i.
-    cond-case
-    (λ (l : List Action). length l ≤ 1)
-    (isMember st t i)
-    (pruneOf (peerIn st i) (unsubscribeBackoff st) ∷ [])
-    []
-    (λ e. omega arith)
-    (λ e. omega arith))
+    (λ i. cond-case (λ (l : List Action). length l ≤ 1) _ (_ ∷ []) [] (λ e. omega arith) (λ e. omega arith))
 
 counted-leave : (st : State) (time t : ℕ) → Counted (leaveReply st time t)
 unfolding leaveReply
