@@ -81,12 +81,16 @@ counted-connect st time id group flags name =
     (counted-found (lowestEmpty (reclaimed st time)) _ _ (λ s. counted-quiet _ time) (counted-refused NoSlot st refl))))
     (counted-refused UnknownProtocol st refl)
 
+one-or-none : (b : Bool) (a : Action) → length (cond b (a ∷ []) []) ≤ 1
+one-or-none true a = omega arith
+one-or-none false a = omega arith
+
 -- a leave has at most one action a slot
 pub actions-short : (st : State) (t n : ℕ) → length (leaveActions st t n) ≤ n
 unfolding leaveActions
 actions-short st t n =
     gather-short _ n
-    (λ i. cond-case (λ (l : List Action). length l ≤ 1) _ (_ ∷ []) [] (λ e. omega arith) (λ e. omega arith))
+    (λ i. one-or-none _ _)
 
 counted-leave : (st : State) (time t : ℕ) → Counted (leaveReply st time t)
 unfolding leaveReply
