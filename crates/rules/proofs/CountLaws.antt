@@ -90,7 +90,7 @@ pub actions-short : (st : State) (t n : ℕ) → length (leaveActions st t n) �
 unfolding leaveActions
 actions-short st t n =
     gather-short _ n
-    (λ i. one-or-none _ _)
+    (λ i. search one-or-none)
 
 counted-leave : (st : State) (time t : ℕ) → Counted (leaveReply st time t)
 unfolding leaveReply
