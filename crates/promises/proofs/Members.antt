@@ -40,6 +40,7 @@ use Rattle.rules.specs.Step.{isNegative, isHeard, isCandidate, onFound, onVersi
 use Rattle.rules.specs.Step.{graftRefused, graftReply, viewIn, meshesIn, punished, settleSlot}
 use Rattle.rules.specs.Step.{maintainedReply, heartbeatReply, effect, step}
 use Rattle.rules.proofs.HeartbeatLaws.{view-kept}
+use Rattle.rules.proofs.Words.{candidate-past}
 use Rattle.rules.proofs.PunishedLaws.{punished-peer}
 use Rattle.rules.proofs.CaseLaws.{topic-in, topic-of-both, arguments, by-peer, by-gate}
 use Rattle.promises.specs.Ends.{endIn}
@@ -121,20 +122,7 @@ module _ (st : State) (o : Out st) (time id group flags : ℕ) where
       o
 
 -- ---- heartbeat
--- whom it takes in is a candidate: his backoff was never set, or ended a second ago
-pub candidate-past :
-    (st : State) (time t s : ℕ) → isCandidate st time t s ≡ true → (endIn st s t ≡ 0) ⊎ (endIn st s t + 1000 ≤ time)
-unfolding isCandidate
-candidate-past st time t s e =
-    let a = both (isConnected (peerIn st s)) _ e in
-    let b = both (isSubscribed st t s) _ (a .1) in
-    let c = both (eqb (peerIn st s .explicit) 0) _ (b .1) in
-    let d = both (not (isMember st t s)) _ (c .1) in
-    let f = both (not (isNegative st s)) _ (d .1) in
-    by-test _ (eqb (endIn st s t) 0)
-    (λ z. inl (eqb-true _ _ z))
-    (λ z. let g : leb (endIn st s t + 1000) time ≡ true = rw z at (f .1) in inr (leb-true _ _ g))
-
+-- whom it takes in is a candidate: his backoff is over
 candidate-over : (st : State) (time t s : ℕ) → isCandidate st time t s ≡ true → endIn st s t ≤ time
 candidate-over st time t s e = ⊎-elim (λ z. omega (arith, z)) (λ z. omega (arith, z)) (candidate-past st time t s e)
 
