@@ -387,7 +387,7 @@ static bool make_hubs(void)
     }
     hivepadlet_ordinary(numbers);
     for (int hub = 0; hub < HUBS; hub++) {
-        uint64_t r = hivepadlet_fresh(numbers, hubs[hub].table);
+        uint64_t r = hivepadlet_fresh(numbers, HIVEPADLET_EDITION_1, hubs[hub].table);
         if (hivepadlet_number(r) != HIVEPADLET_DONE) {
             return false;
         }

@@ -10,7 +10,7 @@
  *     int64_t numbers[HIVEPADLET_NUMBERS];
  *
  *     hivepadlet_ordinary(numbers);
- *     hivepadlet_fresh(numbers, table);
+ *     hivepadlet_fresh(numbers, HIVEPADLET_EDITION_1, table);
  *     uint64_t r = hivepadlet_join(table, time, 0, actions, HIVEPADLET_ACTION_NUMBERS);
  *     if (hivepadlet_number(r) == HIVEPADLET_DONE) ...
  *
@@ -26,7 +26,7 @@
  *
  * All memory is yours, and is lent for the length of one call; nothing is kept between calls but the table.
  *
- * - The table, HIVEPADLET_CELLS numbers of 64 bits (42,720 bytes), is the whole router. You may have any number of routers, one
+ * - The table, HIVEPADLET_CELLS numbers of 64 bits (42,728 bytes), is the whole router. You may have any number of routers, one
  *   table each. A table may be copied, saved and restored as bytes on the same machine. Only the calls write it; a damaged
  *   table is refused (12).
  * - The action list is HIVEPADLET_ACTION_NUMBERS numbers of 32 bits, or more; under that, a call refuses (8). A call writes its
@@ -46,7 +46,7 @@
  * answer (hivepadlet_value), 0 where the table below names none. HIVEPADLET_DONE is 0, so `r & 255` is 0 for success.
  *
  * A call makes its tests in the order 12, 2, 8, 1, 6, 7, 3, 4, 5, 11, those that can concern it, and answers the first that
- * fails; hivepadlet_read in the order 10, 9; hivepadlet_write 8, 9; hivepadlet_fresh 9; hivepadlet_names 2;
+ * fails; hivepadlet_read in the order 10, 9; hivepadlet_write 2, 8, 9; hivepadlet_fresh 2, 9; hivepadlet_names 2;
  * hivepadlet_read_message 8, 10; hivepadlet_write_message 2, 13.
  *
  * TIMES AND UNITS
@@ -84,10 +84,10 @@ extern "C" {
 
 /* ---- sizes */
 
-#define HIVEPADLET_CELLS 5340           /* numbers of a table */
+#define HIVEPADLET_CELLS 5341           /* numbers of a table */
 #define HIVEPADLET_NUMBERS 147          /* numbers of the parameters */
 #define HIVEPADLET_ACTION_NUMBERS 192   /* numbers of an action list: three for each slot */
-#define HIVEPADLET_PARAMETER_BYTES 735  /* bytes that written parameters may take */
+#define HIVEPADLET_PARAMETER_BYTES 737  /* bytes that written parameters may take (edition 1: 735) */
 #define HIVEPADLET_SLOTS 64             /* peers that a router holds, and numbers of a permutation */
 #define HIVEPADLET_TOPICS 8
 #define HIVEPADLET_WHY_NUMBERS 6        /* numbers of a score: its five parts, and the score */
@@ -118,15 +118,15 @@ enum hivepadlet_answer {
     HIVEPADLET_DONE = 0,              /* done; of a call the number of actions, of reading and writing the number of bytes, of
                                          reading a message the number of entries */
     HIVEPADLET_EARLY = 1,             /* the time is before the router's clock */
-    HIVEPADLET_OUT_OF_RANGE = 2,      /* time, id, group, flags, topic, kind, ask or P5 outside its range; topic names that
-                                         cannot be, or a list that is no message's */
+    HIVEPADLET_OUT_OF_RANGE = 2,      /* time, id, group, flags, topic, kind, ask or P5 outside its range; an edition other than
+                                         1 and 2; topic names that cannot be, or a list that is no message's */
     HIVEPADLET_NOT_CONNECTED = 3,     /* no connected peer has the id */
     HIVEPADLET_ALREADY_CONNECTED = 4, /* connect of a connected id */
     HIVEPADLET_NO_SLOT = 5,           /* all 64 slots are taken, and none can be reclaimed yet */
     HIVEPADLET_UNKNOWN_PROTOCOL = 6,  /* the protocol name is neither of the two */
     HIVEPADLET_NOT_PERMUTATION = 7,   /* not each of 0 to 63 once */
     HIVEPADLET_LIST_SHORT = 8,        /* action list under 192 numbers; list of entries under 24,576; in writing parameters,
-                                         buffer under 735 bytes */
+                                         buffer under 735 bytes, or 737 for edition 2 */
     HIVEPADLET_BROKEN = 9,            /* a parameter outside its limits: its index; or a joint rule broken: 200 + the rule */
     HIVEPADLET_MALFORMED = 10,        /* bytes that are no parameters: the place where the first bad number begins, also where
                                          the bytes end inside it; or the first byte left over; or the length if the bytes end
@@ -172,8 +172,17 @@ static inline uint32_t hivepadlet_action_seconds(const uint32_t *actions, size_t
 
 /* ---- the parameters: 147 numbers, 19 general ones and 16 for each topic, each within its limits (9: its index)
  *
+ * They come in two editions. Edition 1 is the plain one; edition 2 differs in one joint rule: it asks D_score <= D where edition
+ * 1 asks D_score + D_out <= D, so that D_score 5 goes with D 6 and D_out 2. Where the D_score best leave too few places for
+ * outbound peers, a cut keeps fewer of the best: those of the lowest score give way. As bytes, edition 2 has 00 02 in front.
+ *
  * Where nothing else is said, thresholds and caps are thousandths, of a point or of a message: 1000 is one. Decays are
  * thousandths by which a counter is multiplied at each hivepadlet_decay. */
+
+enum hivepadlet_edition {
+    HIVEPADLET_EDITION_1 = 1,
+    HIVEPADLET_EDITION_2 = 2
+};
 
 enum hivepadlet_general {
     HIVEPADLET_D_LO = 0,                     /* 1..48: a mesh under it is filled up to D */
@@ -225,26 +234,28 @@ enum hivepadlet_rule {
     HIVEPADLET_RULE_D_HI = 1,           /* D <= D_hi */
     HIVEPADLET_RULE_OUT_LO = 2,         /* D_out < D_lo */
     HIVEPADLET_RULE_OUT_D = 3,          /* 2 * D_out <= D */
-    HIVEPADLET_RULE_SCORE_OUT_D = 4,    /* D_score + D_out <= D */
+    HIVEPADLET_RULE_SCORE_OUT_D = 4,    /* D_score + D_out <= D; in edition 2 D_score <= D */
     HIVEPADLET_RULE_PUBLISH_GOSSIP = 5, /* publish <= gossip */
     HIVEPADLET_RULE_GRAYLIST_PUBLISH = 6, /* graylist < publish */
     HIVEPADLET_RULE_P3_CAP = 7          /* P3 cap >= P3 threshold, in every topic */
 };
 
-/* Writes the ordinary parameters, which are accepted: D_lo 4, D 6, D_hi 12, D_out 2, D_score 4, backoffs 60 and 10 s. */
+/* Writes the ordinary parameters, which are accepted in both editions: D_lo 4, D 6, D_hi 12, D_out 2, D_score 4, backoffs 60 and
+ * 10 s. */
 void hivepadlet_ordinary(int64_t numbers[HIVEPADLET_NUMBERS]);
 
-/* Reads parameters from bytes, all of them. 0 with the length, or 10, or 9; the numbers are written only with 0. */
-uint64_t hivepadlet_read(const uint8_t *bytes, size_t length, int64_t numbers[HIVEPADLET_NUMBERS]);
+/* Reads parameters from bytes, all of them, of either edition. 0 with the length, or 10, or 9; the numbers and the edition are
+ * written only with 0. Lengths and places count the two bytes in front of edition 2, indices do not. */
+uint64_t hivepadlet_read(const uint8_t *bytes, size_t length, int64_t numbers[HIVEPADLET_NUMBERS], uint64_t *edition);
 
-/* Writes parameters to the start of a buffer of at least HIVEPADLET_PARAMETER_BYTES. 0 with the length, or 8, or 9. What is
- * read from these bytes is the same numbers; the bytes past them are unchanged. */
-uint64_t hivepadlet_write(const int64_t numbers[HIVEPADLET_NUMBERS], uint8_t *buffer, size_t length);
+/* Writes parameters of an edition to the start of a buffer of at least HIVEPADLET_PARAMETER_BYTES. 0 with the length, or 2, or 8,
+ * or 9. What is read from these bytes is the same numbers and the same edition; the bytes past them are unchanged. */
+uint64_t hivepadlet_write(const int64_t numbers[HIVEPADLET_NUMBERS], uint64_t edition, uint8_t *buffer, size_t length);
 
 /* ---- the router */
 
-/* Makes a fresh router, whatever was in the table: clock 0, no topic joined, no peer. 0 or 9. */
-uint64_t hivepadlet_fresh(const int64_t numbers[HIVEPADLET_NUMBERS], uint64_t table[HIVEPADLET_CELLS]);
+/* Makes a fresh router, whatever was in the table: clock 0, no topic joined, no peer. 0, or 2, or 9. */
+uint64_t hivepadlet_fresh(const int64_t numbers[HIVEPADLET_NUMBERS], uint64_t edition, uint64_t table[HIVEPADLET_CELLS]);
 
 /* 1 if the table is a router's, else 0. Every call makes this test itself. */
 uint32_t hivepadlet_is_router(const uint64_t table[HIVEPADLET_CELLS]);

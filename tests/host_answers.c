@@ -58,24 +58,49 @@ static void parameters(void)
 {
     uint8_t bytes[HIVEPADLET_PARAMETER_BYTES + 1];
     int64_t read[HIVEPADLET_NUMBERS] = { 0 };
+    uint64_t edition = 0;
     hivepadlet_ordinary(numbers);
     check("the ordinary D is 6", numbers[HIVEPADLET_D] == 6);
     check("topic 7's last number is 998", numbers[HIVEPADLET_OF_TOPIC(7, HIVEPADLET_P4_DECAY)] == 998);
-    answers("a buffer of 734 bytes", hivepadlet_write(numbers, bytes, 734), HIVEPADLET_LIST_SHORT, 0);
-    uint64_t r = hivepadlet_write(numbers, bytes, sizeof bytes);
+    answers("a buffer of 734 bytes", hivepadlet_write(numbers, 1, bytes, 734), HIVEPADLET_LIST_SHORT, 0);
+    uint64_t r = hivepadlet_write(numbers, 1, bytes, 735);
     uint32_t length = hivepadlet_value(r);
     answers("parameters written", r, HIVEPADLET_DONE, length);
-    answers("the last byte cut off", hivepadlet_read(bytes, length - 1, read), HIVEPADLET_MALFORMED, length - 2);
-    answers("a byte left over", hivepadlet_read(bytes, length + 1, read), HIVEPADLET_MALFORMED, length);
-    check("a refused reading writes nothing", read[HIVEPADLET_D] == 0);
-    answers("parameters read", hivepadlet_read(bytes, length, read), HIVEPADLET_DONE, length);
-    check("what was written is read", memcmp(numbers, read, sizeof numbers) == 0);
+    answers("the last byte cut off", hivepadlet_read(bytes, length - 1, read, &edition), HIVEPADLET_MALFORMED, length - 2);
+    answers("a byte left over", hivepadlet_read(bytes, length + 1, read, &edition), HIVEPADLET_MALFORMED, length);
+    check("a refused reading writes nothing", read[HIVEPADLET_D] == 0 && edition == 0);
+    answers("parameters read", hivepadlet_read(bytes, length, read, &edition), HIVEPADLET_DONE, length);
+    check("what was written is read", memcmp(numbers, read, sizeof numbers) == 0 && edition == 1);
     read[HIVEPADLET_D] = 49;
-    answers("D 49", hivepadlet_write(read, bytes, sizeof bytes), HIVEPADLET_BROKEN, HIVEPADLET_D);
+    answers("D 49", hivepadlet_write(read, 1, bytes, sizeof bytes), HIVEPADLET_BROKEN, HIVEPADLET_D);
     read[HIVEPADLET_D] = 3;
-    answers("D_lo over D", hivepadlet_fresh(read, table), HIVEPADLET_BROKEN, 200 + HIVEPADLET_RULE_LO_D);
+    answers("D_lo over D", hivepadlet_fresh(read, 1, table), HIVEPADLET_BROKEN, 200 + HIVEPADLET_RULE_LO_D);
     check("no router's table", hivepadlet_is_router(table) == 0);
-    answers("a fresh router", hivepadlet_fresh(numbers, table), HIVEPADLET_DONE, 0);
+}
+
+/* D_score 5 of D 6 with D_out 2, which edition 2 takes */
+static void second_edition(void)
+{
+    uint8_t bytes[HIVEPADLET_PARAMETER_BYTES];
+    int64_t read[HIVEPADLET_NUMBERS];
+    uint64_t edition = 0;
+    numbers[HIVEPADLET_D_SCORE] = 5;
+    answers("five of six, edition 1", hivepadlet_fresh(numbers, 1, table), HIVEPADLET_BROKEN, 200 + HIVEPADLET_RULE_SCORE_OUT_D);
+    answers("edition 0", hivepadlet_fresh(numbers, 0, table), HIVEPADLET_OUT_OF_RANGE, 0);
+    answers("edition 3", hivepadlet_write(numbers, 3, bytes, sizeof bytes), HIVEPADLET_OUT_OF_RANGE, 0);
+    answers("a buffer of 736 bytes", hivepadlet_write(numbers, 2, bytes, 736), HIVEPADLET_LIST_SHORT, 0);
+    check("no router's table yet", hivepadlet_is_router(table) == 0);
+    uint64_t r = hivepadlet_write(numbers, 2, bytes, sizeof bytes);
+    uint32_t length = hivepadlet_value(r);
+    answers("edition 2 written", r, HIVEPADLET_DONE, length);
+    check("00 02 in front", bytes[0] == 0 && bytes[1] == 2);
+    answers("edition 2 cut off", hivepadlet_read(bytes, 2, read, &edition), HIVEPADLET_MALFORMED, 2);
+    answers("edition 2 read", hivepadlet_read(bytes, length, read, &edition), HIVEPADLET_DONE, length);
+    check("edition 2 is read back", memcmp(numbers, read, sizeof numbers) == 0 && edition == 2);
+    answers("a fresh router of edition 2", hivepadlet_fresh(numbers, 2, table), HIVEPADLET_DONE, 0);
+    check("a router's table of edition 2", hivepadlet_is_router(table) == 1);
+    hivepadlet_ordinary(numbers);
+    answers("a fresh router", hivepadlet_fresh(numbers, HIVEPADLET_EDITION_1, table), HIVEPADLET_DONE, 0);
     check("a router's table", hivepadlet_is_router(table) == 1);
 }
 
@@ -247,6 +272,7 @@ static void messages_read(void)
 int main(void)
 {
     parameters();
+    second_edition();
     refusals();
     ignored_and_damaged();
     graylisted();

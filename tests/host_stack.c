@@ -16,6 +16,7 @@ static ucontext_t home, there;
 static uint64_t table[HIVEPADLET_CELLS], fresh_table[HIVEPADLET_CELLS];
 static uint32_t actions[HIVEPADLET_ACTION_NUMBERS];
 static int64_t numbers[HIVEPADLET_NUMBERS], why[HIVEPADLET_WHY_NUMBERS];
+static uint64_t edition;
 static uint64_t permutation[HIVEPADLET_SLOTS];
 static uint8_t bytes[HIVEPADLET_PARAMETER_BYTES];
 static uint8_t names[HIVEPADLET_NAMES_BYTES], rpc[HIVEPADLET_WRITTEN_BYTES];
@@ -41,8 +42,8 @@ static void heartbeat(void) { answer = hivepadlet_heartbeat(table, 1, 0, 1, perm
 static void decay(void) { answer = hivepadlet_decay(table, 1, LIST); }
 static void leave(void) { answer = hivepadlet_leave(table, 1, 0, LIST); }
 static void is_router(void) { answer = hivepadlet_is_router(table) ? 0 : HIVEPADLET_NOT_ROUTER; }
-static void fresh(void) { answer = hivepadlet_fresh(numbers, fresh_table); }
-static void written(void) { answer = hivepadlet_write(numbers, bytes, sizeof bytes); }
+static void fresh(void) { answer = hivepadlet_fresh(numbers, HIVEPADLET_EDITION_2, fresh_table); }
+static void written(void) { answer = hivepadlet_write(numbers, HIVEPADLET_EDITION_2, bytes, sizeof bytes); }
 static void tests_names(void) { answer = hivepadlet_names(names); }
 static void message(void)
 {
@@ -53,7 +54,7 @@ static void message_read(void)
 {
     answer = hivepadlet_read_message(names, rpc, hivepadlet_value(answer), entries, HIVEPADLET_ENTRY_NUMBERS);
 }
-static void read_back(void) { answer = hivepadlet_read(bytes, hivepadlet_value(answer), numbers); }
+static void read_back(void) { answer = hivepadlet_read(bytes, hivepadlet_value(answer), numbers, &edition); }
 
 static const struct {
     const char *name;
@@ -108,7 +109,7 @@ static void prepare(void)
     uint64_t id;
 
     hivepadlet_ordinary(numbers);
-    hivepadlet_fresh(numbers, table);
+    hivepadlet_fresh(numbers, HIVEPADLET_EDITION_1, table);
     hivepadlet_join(table, 0, 0, LIST);
     for (id = 1; id <= PEERS; id++) {
         hivepadlet_connect(table, 0, id, id, 1, NAME, LIST);

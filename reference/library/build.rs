@@ -1,15 +1,14 @@
-//! Links the proved library, which `rt staticlib host` writes; HIVEPADLET_LIB names its folder.
+//! Links the proved library, which `rt staticlib host` writes, where HIVEPADLET_LIB names its folder, and
+//! tells the packages that depend on this one. Without it the functions are missing; the table's layout, the
+//! constants and the answers are there.
 fn main() {
     println!("cargo:rustc-check-cfg=cfg(linked)");
     println!("cargo:rerun-if-env-changed=HIVEPADLET_LIB");
-    let feature = |name: &str| std::env::var_os(format!("CARGO_FEATURE_{name}")).is_some();
-    let dir = std::env::var("HIVEPADLET_LIB");
-    if feature("UNLINKED") || feature("OPTIONAL") && dir.is_err() {
-        return;
+    if let Ok(dir) = std::env::var("HIVEPADLET_LIB") {
+        println!("cargo:rustc-cfg=linked");
+        println!("cargo:linked=yes");
+        println!("cargo:rustc-link-search=native={dir}");
+        println!("cargo:rustc-link-lib=static=host");
+        println!("cargo:rerun-if-changed={dir}/libhost.a");
     }
-    let dir = dir.expect("HIVEPADLET_LIB: the folder of libhost.a");
-    println!("cargo:rustc-cfg=linked");
-    println!("cargo:rustc-link-search=native={dir}");
-    println!("cargo:rustc-link-lib=static=host");
-    println!("cargo:rerun-if-changed={dir}/libhost.a");
 }

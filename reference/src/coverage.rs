@@ -7,7 +7,7 @@ mod heartbeat;
 pub use answers::Answers;
 
 use crate::event::{Call, Event, CALL_NAMES};
-use crate::params::{self, topic};
+use crate::params::{self, topic, Edition, Params};
 use crate::router::{number, Answer, GraftCase, Place, Refusal, Router, Why};
 use std::collections::BTreeMap;
 use std::fmt::Write;
@@ -61,6 +61,16 @@ const CASES: [&str; 41] = [
     "score: every part counts",
 ];
 
+/// The parameters with which routers are made.
+const PARAMETERS: [&str; 3] = [
+    "parameters: edition 1",
+    "parameters: edition 2, by 01's rules",
+    "parameters: edition 2, that edition 1 refuses",
+];
+
+/// Parameters that are edition 1, since these two bytes are no front.
+const OTHER_FRONT: &str = "parameters behind 00 03";
+
 /// What only a table made by hand reaches.
 const MADE_CASE: &str = heartbeat::EARLY_END;
 
@@ -83,10 +93,31 @@ impl Coverage {
         }
     }
 
+    /// Counts good parameters of which a router is made.
+    pub fn count_made(&mut self, params: &Params) {
+        let in_first = params.clone().in_edition(Edition::One).check().is_ok();
+        let case = match (params.edition, in_first) {
+            (Edition::One, _) => PARAMETERS[0],
+            (Edition::Two, true) => PARAMETERS[1],
+            (Edition::Two, false) => PARAMETERS[2],
+        };
+        *self.cases.entry(case.to_string()).or_default() += 1;
+    }
+
     /// Counts how the parameters of a trace are read.
     pub fn count_params(&mut self, bytes: &[u8]) {
-        let answer = params::read_prefix(bytes).map_or_else(|refusal| refusal.number, |_| 0);
-        self.count_stop(&format!("parameters {answer}"));
+        let edition = Edition::of(bytes).number();
+        let (answer, place) = match params::read_prefix(bytes) {
+            Ok((_, length)) => (0, length),
+            Err(refusal) => (refusal.number, refusal.place),
+        };
+        self.count_stop(&format!("parameters of edition {edition}, answer {answer}"));
+        if bytes.starts_with(&[0x00, 0x03]) {
+            self.count_stop(OTHER_FRONT);
+        }
+        if (answer, place) == (9, params::FIRST_RULE + params::SCORE_RULE) {
+            self.count_stop(&format!("parameters of edition {edition}, the rule on D_score"));
+        }
     }
 
     pub fn count_stop(&mut self, what: &str) {
@@ -128,8 +159,17 @@ impl Coverage {
 }
 
 fn wanted_cases() -> impl Iterator<Item = String> {
-    let heartbeats = heartbeat::CASES.iter().map(|case| format!("heartbeat: {case}"));
-    CASES.iter().map(|case| case.to_string()).chain(heartbeats).chain(stops())
+    let heartbeats = heartbeat::CASES.iter().chain(&heartbeat::EDITION_2_CASES);
+    let heartbeats = heartbeats.map(|case| format!("heartbeat: {case}"));
+    let calls = CASES.iter().chain(&PARAMETERS).map(|case| case.to_string());
+    calls.chain(heartbeats).chain(stops())
+}
+
+/// Is it a case that parameters of edition 1 cannot meet?
+pub fn of_edition_2(case: &str) -> bool {
+    let heartbeat = case.strip_prefix("heartbeat: ");
+    PARAMETERS[1..].contains(&case)
+        || heartbeat.is_some_and(|case| heartbeat::EDITION_2_CASES.contains(&case))
 }
 
 /// The names of an event's numbers after kind and time, in the trace's order.
@@ -167,12 +207,17 @@ pub fn bad_bytes(call: &Call, place: usize) -> String {
 
 /// Every way in which a trace can stop.
 fn stops() -> impl Iterator<Item = String> {
-    let fixed = ["parameters 9", "parameters 10", "unknown kind", "bad kind"];
+    let of_params = Edition::ALL.iter().flat_map(|edition| {
+        let told = ["answer 9", "answer 10", "the rule on D_score"];
+        told.map(|what| format!("parameters of edition {}, {what}", edition.number()))
+    });
+    let fixed = [OTHER_FRONT, "unknown kind", "bad kind"];
     let calls = CALL_NAMES.iter().zip(1..).flat_map(|(name, kind)| {
         let pieces = ["time"].iter().chain(argument_names(kind));
         pieces.map(move |piece| format!("bad {name} {piece}"))
     });
-    fixed.map(str::to_string).into_iter().chain(calls).map(|stop| format!("stop: {stop}"))
+    let fixed = fixed.map(str::to_string).into_iter().chain(of_params);
+    fixed.chain(calls).map(|stop| format!("stop: {stop}"))
 }
 
 /// The cases of an event that is about to be made.

@@ -5,4 +5,5 @@ pub mod lists;
 pub mod messages;
 pub mod names;
 pub mod params;
+pub mod supplier;
 pub mod traces;

@@ -14,6 +14,7 @@ pub mod random;
 pub mod replay;
 pub mod router;
 pub mod shrink;
+pub mod supplier;
 pub mod text;
 pub mod trace;
 pub mod watch;

@@ -1,5 +1,5 @@
 //! The parameters, which 01 calls the sheet: 147 numbers, 19 general ones and
-//! then 16 for each of the eight topics.
+//! then 16 for each of the eight topics, in one of two editions (order 14 of 02).
 
 use crate::groups;
 
@@ -8,11 +8,55 @@ pub const GENERAL_COUNT: usize = 19;
 pub const TOPIC_COUNT: usize = 16;
 pub const COUNT: usize = GENERAL_COUNT + TOPICS * TOPIC_COUNT;
 
-/// The buffer that writing asks for: five bytes for each number.
+/// The buffer that writing asks for in edition 1: five bytes for each number.
 pub const WRITE_BUFFER: usize = 735;
 
 /// Answer 9 names joint rule r as 200 + r.
 pub const FIRST_RULE: usize = 200;
+
+/// The place of the joint rule on D_score, the one in which the editions differ.
+pub const SCORE_RULE: usize = 4;
+
+/// Order 14 of 02: "Edition 2 of the sheet has the bytes 00 02 in front and, in
+/// place of the joint rule on D_score and under its number, asks only D_score ≤ D;
+/// the bare 147 numbers are edition 1, with 01's rules."
+#[derive(Clone, Copy, PartialEq, Eq, PartialOrd, Ord, Debug, Default)]
+pub enum Edition {
+    #[default]
+    One = 1,
+    Two = 2,
+}
+
+impl Edition {
+    pub const ALL: [Edition; 2] = [Edition::One, Edition::Two];
+
+    /// The bytes before the 147 numbers.
+    pub fn front(self) -> &'static [u8] {
+        match self {
+            Edition::One => &[],
+            Edition::Two => &[0x00, 0x02],
+        }
+    }
+
+    /// The edition that bytes are in. Edition 1 cannot be good with these two in
+    /// front, since D_lo would be 0.
+    pub fn of(bytes: &[u8]) -> Edition {
+        if bytes.starts_with(Edition::Two.front()) {
+            Edition::Two
+        } else {
+            Edition::One
+        }
+    }
+
+    pub fn number(self) -> u32 {
+        self as u32
+    }
+
+    /// Order 14 of 02: "It needs 737 bytes to write".
+    pub fn write_buffer(self) -> usize {
+        WRITE_BUFFER + self.front().len()
+    }
+}
 
 /// One number's name, its two limits, and its ordinary value.
 pub struct Field {
@@ -128,13 +172,20 @@ fn malformed(place: usize) -> Refusal {
 /// 147 numbers; nothing promises that they keep the limits or the rules.
 #[derive(Clone, PartialEq, Eq, Debug)]
 pub struct Params {
+    pub edition: Edition,
     pub numbers: [i64; COUNT],
 }
 
 impl Params {
     /// 01: "The ordinary sheet".
     pub fn ordinary() -> Params {
-        Params { numbers: std::array::from_fn(|index| field_at(index).ordinary) }
+        let numbers = std::array::from_fn(|index| field_at(index).ordinary);
+        Params { edition: Edition::One, numbers }
+    }
+
+    /// The same numbers in an edition.
+    pub fn in_edition(self, edition: Edition) -> Params {
+        Params { edition, ..self }
     }
 
     pub fn general(&self, place: usize) -> i64 {
@@ -171,6 +222,10 @@ impl Params {
     fn joint_rules(&self) -> [bool; 8] {
         use general::*;
         let g = |place| self.general(place);
+        let score_rule = match self.edition {
+            Edition::One => g(D_SCORE) + g(D_OUT) <= g(D),
+            Edition::Two => g(D_SCORE) <= g(D),
+        };
         let p3_caps =
             (0..TOPICS).all(|k| self.topic(k, topic::P3_CAP) >= self.topic(k, topic::P3_THRESHOLD));
         [
@@ -178,7 +233,7 @@ impl Params {
             g(D) <= g(D_HI),
             g(D_OUT) < g(D_LO),
             2 * g(D_OUT) <= g(D),
-            g(D_SCORE) + g(D_OUT) <= g(D),
+            score_rule,
             g(PUBLISH_THRESHOLD) <= g(GOSSIP_THRESHOLD),
             g(GRAYLIST_THRESHOLD) < g(PUBLISH_THRESHOLD),
             p3_caps,
@@ -193,9 +248,9 @@ impl Params {
         }
     }
 
-    /// The numbers as bytes, good or not.
+    /// The edition's front and the numbers as bytes, good or not.
     pub fn to_bytes(&self) -> Vec<u8> {
-        let mut out = Vec::new();
+        let mut out = self.edition.front().to_vec();
         for &number in &self.numbers {
             groups::write_signed(number, &mut out);
         }
@@ -234,24 +289,25 @@ pub fn read_prefix(bytes: &[u8]) -> Result<(Params, usize), Refusal> {
     Ok((params, length))
 }
 
-/// Reads 147 numbers, good or not, at the start of the bytes. A bad number, and
-/// the end of the bytes where a number should start, are both answered with
-/// the place where that number starts.
+/// Reads 147 numbers of either edition, good or not, at the start of the bytes. A
+/// bad number, and the end of the bytes where a number should start, are both
+/// answered with the place where that number starts, the front counted.
 pub fn read_numbers(bytes: &[u8]) -> Result<(Params, usize), Refusal> {
+    let edition = Edition::of(bytes);
     let mut numbers = [0; COUNT];
-    let mut place = 0;
+    let mut place = edition.front().len();
     for number in &mut numbers {
         let (value, length) = groups::read_signed(&bytes[place..]).map_err(|_| malformed(place))?;
         *number = value;
         place += length;
     }
-    Ok((Params { numbers }, place))
+    Ok((Params { edition, numbers }, place))
 }
 
 /// Writes parameters into a lent buffer; 8 comes before 9. Bytes past the
 /// length answered are left as they were.
 pub fn write(params: &Params, buffer: &mut [u8]) -> Result<usize, Refusal> {
-    if buffer.len() < WRITE_BUFFER {
+    if buffer.len() < params.edition.write_buffer() {
         return Err(Refusal { number: 8, place: 0 });
     }
     params.check()?;
@@ -261,7 +317,7 @@ pub fn write(params: &Params, buffer: &mut [u8]) -> Result<usize, Refusal> {
 }
 
 /// What `show_params_ref` prints: `N PLACE` for a refusal; otherwise
-/// `0 LENGTH`, then the numbers, one to a line.
+/// `0 LENGTH`, an edition's front counted, then the numbers, one to a line.
 pub fn show(bytes: &[u8]) -> String {
     match read(bytes) {
         Err(Refusal { number, place }) => format!("{number} {place}\n"),

@@ -9,7 +9,7 @@ mod tables;
 
 pub use connection::Place;
 pub use control::GraftCase;
-pub use heartbeat::{is_permutation, Plan};
+pub use heartbeat::{is_permutation, Plan, Swap};
 pub use score::Why;
 pub use tables::{Peer, Status, TopicRecord, Version, GRAFT_SLACK};
 

@@ -1,7 +1,7 @@
 //! Makes a failing trace smaller, for people to read.
 
 use crate::event::Call;
-use crate::params::{field_at, COUNT};
+use crate::params::{field_at, Edition, COUNT};
 use crate::text::{Line, Trace};
 
 /// A trace that still fails, with as few events, as few odd parameters and as
@@ -19,6 +19,11 @@ pub fn shrink_trace(trace: Trace, fails: impl Fn(&Trace) -> bool) -> Trace {
             }
         });
     }
+    try_change(&mut trace, &fails, |trace| {
+        if let Some(params) = &mut trace.params {
+            params.edition = Edition::One;
+        }
+    });
     for place in 0..trace.lines.len() {
         try_change(&mut trace, &fails, |trace| plain_permutation(&mut trace.lines[place]));
     }

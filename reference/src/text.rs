@@ -2,6 +2,7 @@
 //! fields stand in a fixed order:
 //!
 //! ```text
+//! edition 2                        # of the parameters; without this line edition 1
 //! params ordinary                  # or: params none (no parameters at all)
 //! param D_hi 12                    # overrides a general number by name
 //! topic 0 weight 500               # overrides a topic's number by name
@@ -28,7 +29,7 @@
 //! named yet, upward.
 
 use crate::event::{Call, Event, Permutation, CALL_NAMES, EXPLICIT_FLAG, OUTBOUND_FLAG, SLOTS};
-use crate::params::{self, field_at, Params, COUNT, GENERAL_COUNT, TOPICS, TOPIC_COUNT};
+use crate::params::{self, field_at, Edition, Params, COUNT, GENERAL_COUNT, TOPICS, TOPIC_COUNT};
 use crate::trace;
 use std::fmt::Write;
 
@@ -99,9 +100,14 @@ pub fn print(trace: &Trace) -> String {
     out
 }
 
-/// The ordinary parameters, and the numbers that differ from them.
+/// The edition if it is not the first, the ordinary parameters, and the numbers that
+/// differ from them.
 fn print_params(params: &Params) -> String {
-    let mut out = "params ordinary\n".to_string();
+    let mut out = match params.edition {
+        Edition::One => String::new(),
+        edition => format!("edition {}\n", edition.number()),
+    };
+    out.push_str("params ordinary\n");
     for (index, &value) in params.numbers.iter().enumerate() {
         let field = field_at(index);
         if value != field.ordinary {
@@ -220,39 +226,65 @@ pub struct TextError {
     pub message: String,
 }
 
+/// How far a text has come.
+#[derive(Clone, Copy)]
+enum Start {
+    Open,
+    /// The edition is told, and the parameters have to follow.
+    Edition(Edition),
+    Done,
+}
+
 /// Reads a whole text.
 pub fn parse(text: &str) -> Result<Trace, TextError> {
     let mut trace = Trace { params: None, lines: Vec::new() };
-    let mut started = false;
+    let mut start = Start::Open;
+    let mut last = 1;
     for (place, line) in text.lines().enumerate() {
         let words: Vec<&str> =
             line.split_whitespace().take_while(|word| !word.starts_with('#')).collect();
         if words.is_empty() {
             continue;
         }
+        last = place + 1;
         let error = |message| TextError { line: place + 1, message };
         let rest = &mut Words { words: &words[1..] };
-        let parsed = if started {
-            parse_words(words[0], rest, &mut trace)
-        } else {
-            started = true;
-            parse_start(words[0], rest, &mut trace)
+        let parsed = match start {
+            Start::Done => parse_words(words[0], rest, &mut trace),
+            _ => parse_start(words[0], rest, &mut start, &mut trace),
         };
         parsed.and_then(|()| rest.end()).map_err(error)?;
     }
-    if started {
-        Ok(trace)
-    } else {
-        Err(TextError { line: 1, message: START.to_string() })
+    match start {
+        Start::Done => Ok(trace),
+        _ => Err(TextError { line: last, message: START.to_string() }),
     }
 }
 
-const START: &str = "a trace starts with `params ordinary` or `params none`";
+const START: &str =
+    "a trace starts with `params ordinary` or `params none`; before the first, `edition 2` may stand";
 
-fn parse_start(word: &str, rest: &mut Words, trace: &mut Trace) -> Result<(), String> {
-    trace.params = match (word, rest.word()?) {
-        ("params", "ordinary") => Some(Params::ordinary()),
-        ("params", "none") => None,
+/// The lines up to `params`.
+fn parse_start(
+    word: &str,
+    rest: &mut Words,
+    start: &mut Start,
+    trace: &mut Trace,
+) -> Result<(), String> {
+    *start = match (word, rest.word()?, *start) {
+        ("edition", number, Start::Open) => {
+            let named = Edition::ALL.into_iter().find(|each| each.number().to_string() == number);
+            Start::Edition(named.ok_or_else(|| format!("there is no edition {number}"))?)
+        }
+        ("params", "ordinary", Start::Open) => {
+            trace.params = Some(Params::ordinary());
+            Start::Done
+        }
+        ("params", "ordinary", Start::Edition(edition)) => {
+            trace.params = Some(Params::ordinary().in_edition(edition));
+            Start::Done
+        }
+        ("params", "none", Start::Open) => Start::Done,
         _ => return Err(START.to_string()),
     };
     Ok(())

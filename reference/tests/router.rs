@@ -1,9 +1,14 @@
 //! The bench list of 01, the order of tests, and what refusals leave alone.
 
+use reference::coverage::Coverage;
 use reference::event::{Call, Event, Permutation, LAST_TIME, SLOTS};
 use reference::generate::params::with;
-use reference::params::{general, topic, topic_index, Params};
+use reference::generate::traces;
+use reference::params::{general, topic, topic_index, Edition, Params};
+use reference::random::Random;
 use reference::router::{number, Done, Router, Status, Version, ACTION_LIST, GRAFT, PRUNE};
+use reference::text::Trace;
+use reference::trace;
 
 const V11: &[u8] = b"/meshsub/1.1.0";
 
@@ -26,7 +31,11 @@ fn connect(id: u64, flags: u64) -> Call {
 
 /// Connected peers that are subscribed to topic 0, which is joined.
 fn gathered(inbound: u64, outbound: u64) -> Router {
-    let mut router = router(&[]);
+    gathered_with(Params::ordinary(), inbound, outbound)
+}
+
+fn gathered_with(params: Params, inbound: u64, outbound: u64) -> Router {
+    let mut router = Router::new(params).expect("good parameters");
     assert_eq!(call(&mut router, 0, Call::Join { topic: 0 }).0, 0);
     for id in 1..=inbound + outbound {
         let flags = u64::from(id > inbound);
@@ -184,6 +193,105 @@ fn swap_spares_the_best() {
     let (_, actions) = call(&mut router, 0, heartbeat(0, 0));
     let pruned: Vec<u32> = actions.iter().map(|action| action[1]).collect();
     assert_eq!(pruned, [5, 6, 7, 8, 9, 10, 11, 12]);
+}
+
+/// Edition 2 with D 6, D_out 2 and such a D_score; slots 0 to 11 are inbound members with
+/// these points, 12 and 13 outbound ones of 0 points.
+fn second_edition(d_score: i64, points: &[i64]) -> Router {
+    let params = with(&Params::ordinary(), &[(general::D_SCORE, d_score)]);
+    let mut router = gathered_with(params.in_edition(Edition::Two), 12, 2);
+    make_members(&mut router, 0..14);
+    for (peer, points) in router.peers.iter_mut().zip(points) {
+        peer.p5 = points * 1_000_000;
+    }
+    router
+}
+
+/// The members that a heartbeat leaves, by id; first drawn are the slots named.
+fn kept(router: &Router, first: &[u64]) -> Vec<u32> {
+    let mut router = router.clone();
+    let mut permutation = identity();
+    permutation.sort_by_key(|slot| first.iter().position(|each| each == slot).unwrap_or(64));
+    let heartbeat = Call::Heartbeat { topic: 0, ask: 0, permutation };
+    assert_eq!(call(&mut router, 0, heartbeat).0, 0);
+    router.mesh(0).iter().map(|&slot| router.peers[slot].id).collect()
+}
+
+#[test]
+fn edition_2_swaps_the_drawn_first() {
+    // 02, order 14: "first swaps out inbound keepers that were drawn, last drawn first, then inbound ones
+    // among the best". D_score 4: two are drawn, and both go; no one of the best does.
+    let router = second_edition(4, &[4, 3, 2, 1]);
+    assert_eq!(kept(&router, &[]), [1, 2, 3, 4, 13, 14]);
+    // D_score 5: the one that is drawn goes, then the lowest of the best.
+    let router = second_edition(5, &[5, 4, 1, 2, 3]);
+    assert_eq!(kept(&router, &[]), [1, 2, 4, 5, 13, 14]);
+    // Where the drawn one is outbound already, one of the best goes for the other.
+    assert_eq!(kept(&router, &[12]), [1, 2, 4, 5, 13, 14]);
+    // And where one of the best is outbound too, nobody goes.
+    let mut router = second_edition(5, &[5, 4, 1, 2, 3]);
+    router.peers[0].outbound = true;
+    assert_eq!(kept(&router, &[12]), [1, 2, 3, 4, 5, 13]);
+}
+
+#[test]
+fn edition_2_swaps_the_lowest_of_the_best() {
+    // D_score 6: nobody is drawn. "Lowest score first", and not the last drawn.
+    let router = second_edition(6, &[1, 2, 3, 4, 5, 6]);
+    assert_eq!(kept(&router, &[5, 4, 3, 2, 1, 0]), [3, 4, 5, 6, 13, 14]);
+    assert_eq!(kept(&router, &[]), [3, 4, 5, 6, 13, 14]);
+    // "Of equals the later drawn": slots 5 and 4 of these six, or 0 and 1.
+    let router = second_edition(6, &[1; 6]);
+    assert_eq!(kept(&router, &[]), [1, 2, 3, 4, 13, 14]);
+    assert_eq!(kept(&router, &[5, 4, 3, 2, 1, 0]), [3, 4, 5, 6, 13, 14]);
+    // An outbound one among the best stays, and counts.
+    let mut router = second_edition(6, &[1, 2, 3, 4, 5, 6]);
+    router.peers[0].outbound = true;
+    assert_eq!(kept(&router, &[]), [1, 3, 4, 5, 6, 13]);
+}
+
+#[test]
+fn edition_2_brings_in_the_first_left_out() {
+    // In comes, as in 01, "the first left-out outbound in draw order".
+    let mut router = second_edition(6, &[2, 2, 2, 2, 2, 2]);
+    router.peers[11].outbound = true;
+    assert_eq!(kept(&router, &[13, 11, 12]), [1, 2, 3, 4, 12, 14]);
+    // "Until D_out or none is left": one outbound member alone, and no candidate.
+    let mut router = second_edition(6, &[2, 2, 2, 2, 2, 2]);
+    router.peers[12].outbound = false;
+    assert_eq!(kept(&router, &[]), [1, 2, 3, 4, 5, 14]);
+}
+
+#[test]
+fn edition_2_by_01s_rules_is_edition_1() {
+    let mut random = Random::new(14);
+    let mut heartbeats = 0;
+    for _ in 0..300 {
+        let bytes = traces::trace(&mut random, &mut Coverage::default()).bytes;
+        let mut trace = Trace::from_bytes(&bytes);
+        let Some(params) = trace.params.take() else { continue };
+        let as_edition = |edition| {
+            let params = Some(params.clone().in_edition(edition));
+            Trace { params, lines: trace.lines.clone() }.to_bytes()
+        };
+        if params.clone().in_edition(Edition::One).check().is_ok() {
+            let first = trace::run(&as_edition(Edition::One));
+            assert_eq!(first, trace::run(&as_edition(Edition::Two)));
+            heartbeats += first.lines().filter(|line| line.starts_with("P ")).count();
+        }
+    }
+    assert!(heartbeats > 1000);
+}
+
+#[test]
+fn test_12_goes_by_the_edition() {
+    let mut router = second_edition(5, &[]);
+    assert!(router.is_valid());
+    router.params.edition = Edition::One;
+    assert_eq!(call(&mut router, 0, Call::Decay).0, 12);
+    router.params.edition = Edition::Two;
+    router.params.numbers[general::D_SCORE] = 7;
+    assert_eq!(call(&mut router, 0, Call::Decay).0, 12);
 }
 
 #[test]

@@ -110,6 +110,25 @@ fn bad_parameters_stop() {
 }
 
 #[test]
+fn parameters_of_edition_2() {
+    let run_second = |lines: &str| run(&format!("edition 2\nparams ordinary\n{lines}"));
+    assert_eq!(run_second(""), "");
+    assert_eq!(run_second("param D_score 5\njoin time=0 topic=0\n"), "0 0\n");
+    assert_eq!(run_second("param D_score 7\njoin time=0 topic=0\n"), "9 204\n");
+    assert_eq!(run("params ordinary\nparam D_score 5\n"), "9 204\n");
+    assert_eq!(run_second("param D_lo 0\n"), "9 0\n");
+    let example = WORKED_EXAMPLE.replace("params ordinary", "edition 2\nparams ordinary");
+    assert_eq!(run(&example), EXPECTED);
+    // Places are counted from the trace's first byte, with the front.
+    assert_eq!(trace::run(&[0x00, 0x02]), "10 2\n");
+    assert_eq!(trace::run(&[0x00, 0x02, 0x08, 0x80]), "10 3\n");
+    // Any other front is edition 1's D_lo, which is 0 here.
+    assert_eq!(trace::run(&[0x00]), "10 1\n");
+    let bare = Params::ordinary().to_bytes();
+    assert_eq!(trace::run(&[&[0x00, 0x03], &bare[..]].concat()), "9 0\n");
+}
+
+#[test]
 fn bad_bytes_and_unknown_kinds_stop() {
     let stops = |bytes: &str| run(&format!("params ordinary\nbytes {bytes}\n"));
     assert_eq!(stops("0e"), "2 0\n");
@@ -144,6 +163,11 @@ fn text_errors_name_the_line() {
     assert_eq!(line("params ordinary\nparam D_hi\n"), Err(2));
     assert_eq!(line("params ordinary\ntopic 8 weight 1\n"), Err(2));
     assert_eq!(line("params ordinary\ndecay time=0\nparam D_hi 12\n"), Err(3));
+    assert_eq!(line("edition 3\nparams ordinary\n"), Err(1));
+    assert_eq!(line("edition 2\nparams none\n"), Err(2));
+    assert_eq!(line("edition 2\nedition 2\nparams ordinary\n"), Err(2));
+    assert_eq!(line("params ordinary\nedition 2\n"), Err(2));
+    assert_eq!(line("edition 2\n"), Err(1));
     assert_eq!(line("params ordinary\ndecay time=0 more\n"), Err(2));
     assert_eq!(
         line("params ordinary\nheartbeat time=0 topic=0 opportunism=no permutation=1\n"),
@@ -176,5 +200,5 @@ fn sample_traces_are_readable() {
         assert_eq!(Trace::from_bytes(&trace.to_bytes()), trace);
         count += 1;
     }
-    assert!(count >= 16);
+    assert!(count >= 17);
 }

@@ -1,36 +1,34 @@
 -- Connect: a slot that was empty or retained, and so in no mesh, gets the direction that the call said; no other connected peer has its id.
 -- Assumes nothing.
+use Rattle.rules.proofs.ConnectLaws.{by-connect}
 use Prim.Native.Nat.{ℕ, _%_, _<_}
 use native.Mathlib.Omega.{arith}
 use mathlib.Core.Path.{_≡_, refl, sym, ap, _∙_}
 use mathlib.Core.Bool.{Bool, true, false, cond, _&&_}
 use mathlib.Core.List.{List}
 use lib.Dec.{eqb}
-use lib.IntN.{ℤ}
 use borrow.Author.Tests.{eq-eqb, ne-eqb}
-use Rattle.index.specs.declared.Found.{Found}
-use Rattle.index.specs.declared.Found.the-variants.{At, Nothing}
+use Rattle.index.specs.declared.Found.the-variants.{Nothing}
+use Rattle.params.specs.declared.Params.{Params}
 use Rattle.records.specs.declared.Peer.{Peer}
 use Rattle.records.specs.Records.{State, peerIn, setClock, setPeer, slotCount}
-use Rattle.layout.proofs.StateLaws.{peer-case, peer-other, peer-after-clock, codes-after-clock, codes-after-peer}
-use Rattle.lookup.specs.declared.Named.{Named}
-use Rattle.lookup.specs.declared.Named.the-variants.{Version, Unknown}
-use Rattle.lookup.specs.Name.{versionOf}
-use Rattle.lookup.specs.Find.{findConnected, findRetained, lowestEmpty}
+use Rattle.layout.proofs.StateLaws.{peer-case, peer-other, peer-after-clock, codes-after-clock, setup-after-clock, codes-after-peer}
+use Rattle.layout.proofs.StateLaws.{setup-after-peer}
+use Rattle.lookup.specs.Find.{findConnected}
 use Rattle.lookup.proofs.FindLaws.{retained-at, empty-at, none-connected}
 use Rattle.effects.specs.Effects.{connectedAs, isMember, reclaimed}
 use Rattle.effects.proofs.EffectLaws.{member-peer, reclaimed-stays, reclaimable-connected}
 use Rattle.rules.specs.declared.Answer.the-variants.{AlreadyConnected, NoSlot, UnknownProtocol}
-use Rattle.rules.specs.Reply.{Reply, refused}
+use Rattle.rules.specs.Reply.{Reply}
 use Rattle.rules.specs.Calls.{connect}
-use Rattle.rules.specs.Step.{onFound, onVersion, connectAt, connectIn, connectReply}
+use Rattle.rules.specs.Step.{connectAt, connectReply}
 use Rattle.call_lists.proofs.Fewer.{Fewer, fewer-clock}
 use Rattle.call_lists.proofs.Frames.{fewer-reclaimed}
 use Rattle.call_lists.proofs.Standing.{Standing, member-connected, inbounds-less, fewer-member}
 use Rattle.call_lists.proofs.Replies.{After, after-refused}
 
 module _
-    (params : List ℤ)
+    (params : Params)
     (dir : ℕ → Bool)
     (st : State)
     (h : Standing params dir st)
@@ -110,6 +108,7 @@ module _
               size = size;
               router = v;
               codes = codes-after-clock u time ∙ codes-after-peer kept s p ∙ fewer .codes ∙ h .codes;
+              setup = setup-after-clock u time ∙ setup-after-peer kept s p ∙ fewer .setup ∙ h .setup;
               tied = λ i l. rw (peer-after-clock u time i) (tied-in i l);
               few = λ t k.
                   let a = h .few t k in
@@ -117,42 +116,12 @@ module _
                   omega arith;
             }
 
-      -- "A retained id resumes its record [..]; another takes the lowest empty slot"
-      empty : (r : Found) → lowestEmpty kept ≡ r → Here (onFound r (connectAt kept time id group flags version) (refused NoSlot st))
-      empty (At s) e = let q = empty-at kept s e in taken s (λ z. omega arith)
-      empty Nothing e = after-refused params dir st h (connect time id group flags name) NoSlot refl
-
-      resumed :
-          (r : Found) →
-          findRetained kept id ≡ r →
-          Here
-          (onFound r (connectAt kept time id group flags version)
-          (onFound (lowestEmpty kept) (connectAt kept time id group flags version) (refused NoSlot st)))
-      resumed (At s) e = let q = retained-at kept id s e in taken s (λ z. omega arith)
-      resumed Nothing e = empty (lowestEmpty kept) refl
-
-      new : Here (connectIn st kept time id group flags version)
-      unfolding connectIn
-      new = resumed (findRetained kept id) refl
-
-    found :
-        (version : ℕ) (r : Found) →
-        findConnected st id ≡ r →
-        Here (onFound r (λ s. refused AlreadyConnected st) (connectIn st kept time id group flags version))
-    found version (At s) e = after-refused params dir st h (connect time id group flags name) AlreadyConnected refl
-    found version Nothing e = new e version
-
-    named :
-        (n : Named) →
-        Here
-        (onVersion n
-        (λ version.
-        onFound (findConnected st id) (λ s. refused AlreadyConnected st)
-        (connectIn st kept time id group flags version))
-        (refused UnknownProtocol st))
-    named (Version version) = found version (findConnected st id) refl
-    named Unknown = after-refused params dir st h (connect time id group flags name) UnknownProtocol refl
-
+    -- "A retained id resumes its record [..]; another takes the lowest empty slot"
     pub stands-connect : After params dir (connect time id group flags name) (connectReply st time id group flags name)
-    unfolding connectReply
-    stands-connect = named (versionOf name)
+    stands-connect =
+        by-connect Here st time id group flags name
+        (λ n. after-refused params dir st h (connect time id group flags name) UnknownProtocol refl)
+        (λ v s n c. after-refused params dir st h (connect time id group flags name) AlreadyConnected refl)
+        (λ v s n c r. let q = retained-at kept id s r in taken c v s (λ z. omega arith))
+        (λ v s n c r e. let q = empty-at kept s e in taken c v s (λ z. omega arith))
+        (λ v n c r e. after-refused params dir st h (connect time id group flags name) NoSlot refl)

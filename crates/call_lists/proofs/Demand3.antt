@@ -6,24 +6,26 @@ use mathlib.Core.Path.{_≡_, sym, ap}
 use mathlib.Core.Bool.{Bool, true, not, _&&_}
 use mathlib.Core.List.{List, [], _∷_}
 use lib.Dec.{eqb, leb}
-use lib.IntN.{ℤ}
 use lib.ListN.{List·getD-eq-default}
 use borrow.Author.Tests.{eqb-true, eqb-false}
 use Rattle.index.proofs.Index.{both, count-same}
 use Rattle.index.proofs.Flags.{by-test, by-order}
+use Rattle.params.specs.declared.Params.{Params}
 use Rattle.records.specs.Records.{State, peerIn, joinedIn, slotCount}
 use Rattle.layout.specs.View.{Sized}
 use Rattle.validity.specs.Valid.{valid}
 use Rattle.effects.specs.Effects.{isJoined, isMember}
 use Rattle.rules.specs.Reply.{Reply, numberOf}
-use Rattle.rules.specs.Calls.{Call, connect, disconnect, join, leave, subscribe, unsubscribe, graft, prune, deliver, rate, heartbeat, decay, score, topicOk, argumentsOk}
+use Rattle.rules.specs.Calls.{Call, connect, disconnect, join, leave, subscribe, unsubscribe, graft, prune, deliver, rate, heartbeat, decay}
+use Rattle.rules.specs.Calls.{score, topicOk, argumentsOk}
 use Rattle.rules.specs.Step.{ofPeer, effect, step}
 use Rattle.rules.proofs.CaseLaws.{topic-in, topic-of-both, arguments, by-peer, by-gate}
 use Rattle.rules.proofs.Keeps.{keeps, keeps-sizes}
 use Rattle.call_lists.specs.Lists.{Made, after, answered, outbound}
 use Rattle.call_lists.specs.Demand3.{Accepted, member, outboundAt, members, outboundMembers, inboundMembers, Maintained, Demand3}
 use Rattle.call_lists.proofs.Fewer.{Fewer, fewer-self}
-use Rattle.call_lists.proofs.Frames.{fewer-still, fewer-disconnect, fewer-join, fewer-leave, fewer-rate, fewer-decay, fewer-subscribe, fewer-unsubscribe, fewer-prune, fewer-deliver}
+use Rattle.call_lists.proofs.Frames.{fewer-still, fewer-disconnect, fewer-join, fewer-leave, fewer-rate, fewer-decay}
+use Rattle.call_lists.proofs.Frames.{fewer-subscribe, fewer-unsubscribe, fewer-prune, fewer-deliver}
 use Rattle.call_lists.proofs.Standing.{Standing, isInbound, inbounds, member-connected, stands-fresh}
 use Rattle.call_lists.proofs.Replies.{heardOf, After, Stays, after-refused, after-fewer}
 use Rattle.call_lists.proofs.Connect.{stands-connect}
@@ -31,7 +33,7 @@ use Rattle.call_lists.proofs.Graft.{stands-graft}
 use Rattle.call_lists.proofs.Heartbeat.{MaintainedIn, stands-heartbeat, maintained-heartbeat}
 
 -- ---- one call
-module _ (params : List ℤ) (dir : ℕ → Bool) (st : State) (h : Standing params dir st) where
+module _ (params : Params) (dir : ℕ → Bool) (st : State) (h : Standing params dir st) where
   less : (u : State) → Fewer st u → Sized u → valid u ≡ true → Standing params dir u
   less u f = after-fewer params dir st h u f
 
@@ -82,7 +84,7 @@ module _ (params : List ℤ) (dir : ℕ → Bool) (st : State) (h : Standing par
       maintained-heartbeat params dir st h time t ask order (topic-in t (both (topicOk t) (leb ask 1) a .0)))
 
 -- ---- every list of calls
-module _ (params : List ℤ) (ok : Accepted params) where
+module _ (params : Params) (ok : Accepted params) where
   pub standing : (calls : List Made) → Standing params (outbound params calls) (after params calls)
   unfolding after outbound answered
   standing [] = stands-fresh params ok (outbound params [])

@@ -19,6 +19,7 @@ pub record Was (p q : Peer) : Type 0 where
 
 pub record Fewer (st u : State) : Type 0 where
   pub codes : u .codes ≡ st .codes
+  pub setup : u .setup ≡ st .setup
   pub peer : (s : ℕ) → peerIn u s .status ≡ 1 → Was (peerIn st s) (peerIn u s)
   pub member : (k : ℕ) → topicIn u k .member ≡ 1 → topicIn st k .member ≡ 1
 
@@ -29,12 +30,13 @@ was-then : {p q r : Peer} → Was p q → Was q r → Was p r
 was-then a b = record { status = a .status; id = b .id ∙ a .id; outbound = b .outbound ∙ a .outbound }
 
 pub fewer-self : (st : State) → Fewer st st
-fewer-self st = record { codes = refl; peer = λ s on. was-self (peerIn st s) on; member = λ k m. m }
+fewer-self st = record { codes = refl; setup = refl; peer = λ s on. was-self (peerIn st s) on; member = λ k m. m }
 
 pub fewer-then : {a b c : State} → Fewer a b → Fewer b c → Fewer a c
 fewer-then f g =
     record {
       codes = g .codes ∙ f .codes;
+      setup = g .setup ∙ f .setup;
       peer = λ s on. let w = g .peer s on in was-then (f .peer s (w .status)) w;
       member = λ k m. f .member k (g .member k m);
     }
@@ -43,17 +45,18 @@ fewer-then f g =
 module _ (st : State) where
   pub fewer-clock : (n : ℕ) → Fewer st (setClock st n)
   unfolding setClock peerIn topicIn
-  fewer-clock n = record { codes = refl; peer = λ s on. was-self _ on; member = λ k m. m }
+  fewer-clock n = record { codes = refl; setup = refl; peer = λ s on. was-self _ on; member = λ k m. m }
 
   pub fewer-joined : (t b : ℕ) → Fewer st (setJoined st t b)
   unfolding setJoined peerIn topicIn
-  fewer-joined t b = record { codes = refl; peer = λ s on. was-self _ on; member = λ k m. m }
+  fewer-joined t b = record { codes = refl; setup = refl; peer = λ s on. was-self _ on; member = λ k m. m }
 
   pub fewer-peer : (s : ℕ) (p : Peer) → (p .status ≡ 1 → Was (peerIn st s) p) → Fewer st (setPeer st s p)
   unfolding setPeer topicIn
   fewer-peer s p h =
       record {
         codes = refl;
+        setup = refl;
         peer = λ i.
             peer-case st (λ (q : Peer). q .status ≡ 1 → Was (peerIn st i) q) s p i (λ (e : i ≡ s). rw e h) (was-self (peerIn st i));
         member = λ k m. m;
@@ -65,6 +68,7 @@ module _ (st : State) where
   fewer-topic k r h =
       record {
         codes = refl;
+        setup = refl;
         peer = λ s on. was-self _ on;
         member = λ i.
             topic-case st (λ (q : TopicRecord). q .member ≡ 1 → topicIn st i .member ≡ 1) k r i (λ (e : i ≡ k). rw e h) (λ m. m);

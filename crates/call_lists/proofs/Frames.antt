@@ -10,15 +10,20 @@ use lib.Dec.{eqb}
 use lib.IntN.{ℤ}
 use Rattle.index.specs.Index.{iter}
 use Rattle.index.proofs.Flags.{cond-case}
-use Rattle.varint.specs.Codes.{codeOf}
+use Rattle.varint.specs.Codes.{codeOf, magnitude}
 use Rattle.records.specs.declared.TopicRecord.{TopicRecord}
 use Rattle.records.specs.Records.{State, noPeer, noTopic, place, codeIn, peerIn, topicIn, setClock, setTopic, isConnected, slotCount}
 use Rattle.score.specs.Counters.{firstOf, nearFirstOf, invalidOf, grownOf, fadedOf, decayedOf}
 use Rattle.score.specs.Score.{topicParamsIn}
-use Rattle.effects.specs.Effects.{magnitude, unsubscribeBackoff, pruneBackoff, withEnd, withP5, withP7, retainedTo, outOfMesh, withSubscribed, onPeer, onTopic, isJoined, isMember, pruned, endAfter, leftTopic, departed, reclaimable, emptied, reclaimSlot, reclaimed}
+use Rattle.effects.specs.Effects.{unsubscribeBackoff, pruneBackoff, withEnd, withP5, withP7, retainedTo, outOfMesh}
+use Rattle.effects.specs.Effects.{withSubscribed, onPeer, onTopic, isJoined, isMember, pruned, endAfter, leftTopic, departed, reclaimable}
+use Rattle.effects.specs.Effects.{emptied, reclaimSlot, reclaimed}
 use Rattle.rules.specs.Reply.{Reply, ignored, done}
-use Rattle.rules.specs.Step.{isNegative, isGraylisted, isHeard, joinReply, punished, leaveSlot, leaveReply, subscribeReply, unsubscribeReply, graftRefused, raisedP7, secondsOf, pruneReply, deliveredOf, deliverReply, decayFloor, decayTopic, decayP7, decaySlot, decayReply}
-use Rattle.call_lists.proofs.Fewer.{Fewer, fewer-self, fewer-then, fewer-clock, fewer-joined, fewer-peer, fewer-topic, fewer-iter, fewer-either}
+use Rattle.rules.specs.Step.{isNegative, isGraylisted, isHeard, joinReply, punished, leaveSlot, leaveReply, subscribeReply}
+use Rattle.rules.specs.Step.{unsubscribeReply, graftRefused, raisedP7, secondsOf, pruneReply, deliveredOf, deliverReply, decayFloor}
+use Rattle.rules.specs.Step.{decayTopic, decayP7, decaySlot, decayReply}
+use Rattle.call_lists.proofs.Fewer.{Fewer, fewer-self, fewer-then, fewer-clock, fewer-joined, fewer-peer, fewer-topic, fewer-iter}
+use Rattle.call_lists.proofs.Fewer.{fewer-either}
 
 -- ---- changes of one record
 module _ (st : State) (s : ℕ) where

@@ -5,17 +5,18 @@ use native.Mathlib.Omega.{arith}
 use mathlib.Core.Path.{_≡_, refl, sym, ap, _∙_}
 use mathlib.Core.Logic.{_≢_}
 use mathlib.Core.Bool.{Bool, true, false, _&&_, and-false}
-use mathlib.Core.List.{List, []}
+use mathlib.Core.List.{[]}
 use lib.Dec.{eqb, leb}
-use lib.IntN.{ℤ}
 use borrow.Author.Tests.{eqb-true, eqb-false, eq-eqb, leb-false}
 use Rattle.index.specs.Index.{one}
 use Rattle.index.proofs.Index.{one-le}
 use Rattle.index.proofs.Flags.{by-test}
+use Rattle.params.specs.declared.Params.{Params}
 use Rattle.records.specs.declared.Peer.{Peer}
 use Rattle.records.specs.Records.{State, place, peerIn, topicIn, setClock, slotCount}
 use Rattle.layout.specs.View.{Sized}
-use Rattle.layout.proofs.StateLaws.{peer-after-clock, peer-after-topic, codes-after-clock, codes-after-topic}
+use Rattle.layout.proofs.StateLaws.{peer-after-clock, peer-after-topic, codes-after-clock, setup-after-clock, codes-after-topic}
+use Rattle.layout.proofs.StateLaws.{setup-after-topic}
 use Rattle.validity.specs.Valid.{valid}
 use Rattle.validity.proofs.ValidLaws.{valid-facts}
 use Rattle.effects.specs.Effects.{highDegree, intoMesh, onTopic, isMember, meshSize}
@@ -31,7 +32,7 @@ use Rattle.call_lists.proofs.Standing.{Standing, isInbound, inbounds, i
 use Rattle.call_lists.proofs.Replies.{Stays, after-fewer}
 
 module _
-    (params : List ℤ)
+    (params : Params)
     (dir : ℕ → Bool)
     (st : State)
     (h : Standing params dir st)
@@ -96,6 +97,7 @@ module _
             size = size;
             router = v;
             codes = codes-after-clock u time ∙ codes-after-topic st (place s t) _ ∙ h .codes;
+            setup = setup-after-clock u time ∙ setup-after-topic st (place s t) _ ∙ h .setup;
             tied = λ i b. rw (same-peer i) (h .tied i b);
             few = λ w b.
                 by-test _ (eqb w t)

@@ -9,15 +9,15 @@ use mathlib.Core.Bool.{Bool, true, false, not, _&&_}
 use mathlib.Core.List.{List}
 use lib.Dec.{eqb}
 use lib.ListN.{length}
-use lib.IntN.{ℤ}
 use borrow.Author.Tests.{eqb-true, eqb-false, not-true}
 use Rattle.index.specs.Index.{count, iter}
 use Rattle.index.proofs.Index.{count-same}
 use Rattle.index.proofs.Flags.{by-test, cond-case}
+use Rattle.params.specs.declared.Params.{Params}
 use Rattle.records.specs.declared.Peer.{Peer}
 use Rattle.records.specs.Records.{State, slotCount, peerIn, setClock, topicIn}
 use Rattle.layout.specs.View.{Sized}
-use Rattle.layout.proofs.StateLaws.{peer-after-clock, codes-after-clock}
+use Rattle.layout.proofs.StateLaws.{peer-after-clock, codes-after-clock, setup-after-clock}
 use Rattle.validity.specs.Valid.{valid}
 use Rattle.effects.specs.Effects.{isJoined, isMember, withEnd}
 use Rattle.sets.specs.Sets.{at, size, isPermutation}
@@ -28,7 +28,8 @@ use Rattle.mesh.specs.Maintenance.{goods, Maintained, InPool as OfPool}
 use Rattle.rules.specs.declared.Answer.the-variants.{NotPermutation}
 use Rattle.rules.specs.Reply.{Reply, numberOf, refused, ignored}
 use Rattle.rules.specs.Step.{isNegative, isCandidate, degreesIn, viewIn, meshesIn, settleSlot, maintainedReply, heartbeatReply}
-use Rattle.rules.proofs.HeartbeatLaws.{candidate-connected, view-goods, view-kept, mesh-length, settled-kept, settled-peer, settled-else, settled-member}
+use Rattle.rules.proofs.HeartbeatLaws.{candidate-connected, view-goods, view-kept, mesh-length, settled-kept, settled-peer, settled-else}
+use Rattle.rules.proofs.HeartbeatLaws.{settled-member}
 use Rattle.call_lists.specs.Demand3.{dLo, dHi, dOut, InPool}
 use Rattle.call_lists.proofs.Fewer.{fewer-self}
 use Rattle.call_lists.proofs.Frames.{fewer-still}
@@ -36,7 +37,7 @@ use Rattle.call_lists.proofs.Standing.{Standing, isInbound, inbounds, i
 use Rattle.call_lists.proofs.Replies.{Stays, after-fewer}
 
 -- what demand 3 says of the topic after a heartbeat: st is the state at its start, u the one that it left
-pub record MaintainedIn (params : List ℤ) (dir : ℕ → Bool) (st u : State) (time t : ℕ) : Type 0 where
+pub record MaintainedIn (params : Params) (dir : ℕ → Bool) (st u : State) (time t : ℕ) : Type 0 where
   pub good : (s : ℕ) → s < slotCount → isMember u t s ≡ true → isNegative st s ≡ false
   pub outs :
       (dOut params ≤ count slotCount (λ s. isMember u t s && dir (peerIn u s .id))) ⊎
@@ -46,7 +47,7 @@ pub record MaintainedIn (params : List ℤ) (dir : ℕ → Bool) (st u : State) 
       ((s : ℕ) → s < slotCount → InPool st time t s → isMember u t s ≡ true)
 
 module _
-    (params : List ℤ)
+    (params : Params)
     (dir : ℕ → Bool)
     (st : State)
     (h : Standing params dir st)
@@ -169,6 +170,7 @@ module _
             size = size;
             router = v;
             codes = codes-after-clock walked time ∙ settled-kept st time t mesh slotCount .codes ∙ h .codes;
+            setup = setup-after-clock walked time ∙ settled-kept st time t mesh slotCount .setup ∙ h .setup;
             tied = λ s l on.
                 ap (λ (n : ℕ). eqb n 1) (same-outbound s)
                 ∙ h .tied s l (sym (same-status s) ∙ on)
@@ -198,7 +200,8 @@ module _
       maintained-outs =
           ⊎-elim
           (λ b.
-          let c = count-same (λ s. at mesh s && at (view .outbound) s) (λ s. isMember left t s && dir (peerIn left s .id)) slotCount outbound-same in
+          let c = count-same (λ s. at mesh s && at (view .outbound) s) (λ s. isMember left t s && dir (peerIn left s .id)) slotCount
+          outbound-same in
           inl (omega (arith, both-count mesh (view .outbound) slotCount len len-outs, degrees .2)))
           (λ f. inr (λ s l p o. member-here s l ∙ f s (to-view s l p) (directed s l p ∙ o)))
           (kept .outs)

@@ -7,3 +7,4 @@ pub mod Graft
 pub mod Heartbeat
 pub mod Demand3
 pub mod Played
+pub mod Setup

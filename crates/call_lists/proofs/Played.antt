@@ -4,9 +4,9 @@ use Prim.{tt}
 use Prim.Native.Nat.{ℕ}
 use mathlib.Core.Path.{_≡_, ap, _∙_}
 use mathlib.Core.List.{List, [], _∷_, map}
-use lib.IntN.{ℤ}
 use lib.ListN.{length}
 use lib.Seq.{sets}
+use Rattle.params.specs.declared.Params.{Params}
 use Rattle.records.specs.Records.{State}
 use Rattle.layout.specs.View.{stateOf}
 use Rattle.effects.specs.Actions.{numbersOf}
@@ -16,7 +16,7 @@ use Rattle.call_lists.specs.Demand3.{Accepted}
 use Rattle.call_lists.specs.Played.{Called, made, Played, SameReplies, ProgramAgrees}
 use Rattle.call_lists.proofs.Demand3.{demand3}
 
-module _ (params : List ℤ) (ok : Accepted params) where
+module _ (params : Params) (ok : Accepted params) where
   same-state : (calls : List Called) (table : List ℕ) → Played params calls table → stateOf table ≡ after params (map made calls)
   unfolding Played after
   same-state [] table p = rw (ok .passes) at (p .1 .state)

@@ -3,15 +3,15 @@
 use Prim.Native.Nat.{ℕ, _%_}
 use mathlib.Core.Path.{_≡_, refl, ap, _∙_}
 use mathlib.Core.Bool.{Bool, true, false, cond, and-false}
-use mathlib.Core.List.{List}
 use lib.Dec.{eqb}
-use lib.IntN.{ℤ}
+use Rattle.params.specs.declared.Params.{Params}
 use Rattle.records.specs.Records.{State}
 use Rattle.layout.specs.View.{Sized}
 use Rattle.validity.specs.Valid.{valid}
 use Rattle.rules.specs.declared.Answer.{Answer}
 use Rattle.rules.specs.Reply.{Reply, numberOf, refused}
-use Rattle.rules.specs.Calls.{Call, connect, disconnect, join, leave, subscribe, unsubscribe, graft, prune, deliver, rate, heartbeat, decay, score}
+use Rattle.rules.specs.Calls.{Call, connect, disconnect, join, leave, subscribe, unsubscribe, graft, prune, deliver, rate, heartbeat, decay}
+use Rattle.rules.specs.Calls.{score}
 use Rattle.call_lists.specs.Lists.{heard}
 use Rattle.call_lists.proofs.Fewer.{Fewer, fewer-self}
 use Rattle.call_lists.proofs.Standing.{Standing, stands-fewer}
@@ -21,12 +21,12 @@ abbrev pub heardOf : Call → Answer → (ℕ → Bool) → ℕ → Bool
 heardOf c a dir = λ peer. heard c (eqb (numberOf a) 0) peer (dir peer)
 
 -- that the tables stay a router's is known of every call
-abbrev pub After : List ℤ → (ℕ → Bool) → Call → Reply → Type 0
+abbrev pub After : Params → (ℕ → Bool) → Call → Reply → Type 0
 After params dir c r =
     Sized (r .state) → valid (r .state) ≡ true → Standing params (heardOf c (r .answer) dir) (r .state)
 
 -- the same of a call that says no direction
-abbrev pub Stays : List ℤ → (ℕ → Bool) → Reply → Type 0
+abbrev pub Stays : Params → (ℕ → Bool) → Reply → Type 0
 Stays params dir r = Sized (r .state) → valid (r .state) ≡ true → Standing params dir (r .state)
 
 -- no call that is refused says a direction
@@ -46,7 +46,7 @@ unheard (heartbeat time t ask order) peer was = refl
 unheard (decay time) peer was = refl
 unheard (score time id) peer was = refl
 
-module _ (params : List ℤ) (dir : ℕ → Bool) (st : State) (h : Standing params dir st) where
+module _ (params : Params) (dir : ℕ → Bool) (st : State) (h : Standing params dir st) where
   pub after-refused : (c : Call) (a : Answer) → eqb (numberOf a) 0 ≡ false → After params dir c (refused a st)
   after-refused c a e =
       stands-fewer params dir (heardOf c a dir) st st h (fewer-self st) (λ peer.

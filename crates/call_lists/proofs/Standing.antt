@@ -1,5 +1,5 @@
--- The invariant of demand 3: what stands after every list of calls, for the parameters and for the directions that the list's connects said.
--- It holds of a fresh router, and stays where nobody comes (Fewer).
+-- The invariant of demand 3: what stands after every list of calls, for the parameters and for the directions that the list's connects
+-- said. It holds of a fresh router, and stays where nobody comes (Fewer).
 -- Assumes nothing.
 use Prim.Native.Nat.{ℕ, zero, suc, _+_, _<_, _≤_}
 use native.Mathlib.Omega.{arith}
@@ -13,17 +13,18 @@ use borrow.Author.Tests.{eqb-true, eq-eqb}
 use Rattle.index.specs.Index.{count}
 use Rattle.index.proofs.Index.{both, count-less}
 use Rattle.index.proofs.Flags.{by-order}
-use Rattle.varint.specs.Codes.{codeOf}
+use Rattle.varint.specs.Codes.{codeOf, magnitude}
+use Rattle.params.specs.declared.Params.{Params}
 use Rattle.limits.specs.Limits.{at}
 use Rattle.records.specs.declared.Peer.{Peer}
 use Rattle.records.specs.declared.TopicRecord.{TopicRecord}
-use Rattle.records.specs.Records.{State, slotCount, noPeer, noTopic, place, codeIn, peerIn, topicIn}
+use Rattle.records.specs.Records.{paramCount, State, slotCount, noPeer, noTopic, place, codeIn, peerIn, topicIn}
 use Rattle.layout.specs.View.{Sized, placeCount}
 use Rattle.validity.specs.Valid.{valid}
-use Rattle.lookup.specs.Fresh.{freshState}
+use Rattle.lookup.specs.Fresh.{setupOf, freshState}
 use Rattle.validity.proofs.ValidLaws.{valid-facts}
 use Rattle.lookup.proofs.FreshLaws.{fresh-valid}
-use Rattle.effects.specs.Effects.{magnitude, isMember}
+use Rattle.effects.specs.Effects.{isMember}
 use Rattle.call_lists.specs.Demand3.{Accepted, dHi}
 use Rattle.call_lists.proofs.Fewer.{Fewer}
 
@@ -35,10 +36,11 @@ unfoldable pub inbounds : State → ℕ → ℕ
 inbounds st t = count slotCount (isInbound st t)
 
 -- `dir` says of each id whether its peer is outbound
-pub record Standing (params : List ℤ) (dir : ℕ → Bool) (st : State) : Type 0 where
+pub record Standing (params : Params) (dir : ℕ → Bool) (st : State) : Type 0 where
   pub size : Sized st
   pub router : valid st ≡ true
-  pub codes : st .codes ≡ map codeOf params
+  pub codes : st .codes ≡ map codeOf (params .numbers)
+  pub setup : st .setup ≡ setupOf params
   -- a connected peer's flag is its direction
   pub tied : (s : ℕ) → s < slotCount → peerIn st s .status ≡ 1 → eqb (peerIn st s .outbound) 1 ≡ dir (peerIn st s .id)
   pub few : (t : ℕ) → t < 8 → inbounds st t ≤ dHi params + 2
@@ -83,16 +85,17 @@ magnitude-code (pos n) = omega arith
 magnitude-code (negsuc n) = omega arith
 
 pub degree-is :
-    (st : State) (params : List ℤ) → st .codes ≡ map codeOf params → (i : ℕ) → magnitude (codeIn st i) ≡ natAbs (at params i)
+    (st : State) (params : Params) → st .codes ≡ map codeOf (params .numbers) → (i : ℕ) → magnitude (codeIn st i)
+    ≡ natAbs (at (params .numbers) i)
 unfolding codeIn
 degree-is st params e i =
     ap (λ (l : List ℕ). magnitude (getD l i 0)) e
-    ∙ ap (λ (n : ℕ). magnitude n) (List·getD-map codeOf params i (pos 0))
-    ∙ magnitude-code (at params i)
+    ∙ ap (λ (n : ℕ). magnitude n) (List·getD-map codeOf (params .numbers) i (pos 0))
+    ∙ magnitude-code (at (params .numbers) i)
 
 -- ---- the invariant stays
 pub stands-fewer :
-    (params : List ℤ) (dir dir′ : ℕ → Bool) (st u : State) →
+    (params : Params) (dir dir′ : ℕ → Bool) (st u : State) →
     Standing params dir st →
     Fewer st u →
     ((id : ℕ) → dir′ id ≡ dir id) →
@@ -104,6 +107,7 @@ stands-fewer params dir dir′ st u h f same size v =
       size = size;
       router = v;
       codes = f .codes ∙ h .codes;
+      setup = f .setup ∙ h .setup;
       tied = λ s l on.
           let w = f .peer s on in
           ap (λ (n : ℕ). eqb n 1) (w .outbound)
@@ -119,7 +123,7 @@ stands-fewer params dir dir′ st u h f same size v =
     }
 
 -- ---- and holds of a fresh router
-module _ (params : List ℤ) where
+module _ (params : Params) where
   always : {A : Type 0} (n k : ℕ) (a : A) → getD (replicate n a) k a ≡ a
   always n k a =
       by-order (getD (replicate n a) k a ≡ a) k n (getD-replicate n k a a) (λ h.
@@ -133,12 +137,12 @@ module _ (params : List ℤ) where
   unfolding topicIn freshState
   fresh-topic k = always placeCount k noTopic
 
-  fresh-sized : length params ≡ 147 → Sized (freshState params)
+  fresh-sized : length (params .numbers) ≡ paramCount → Sized (freshState params)
   unfolding freshState
   fresh-sized l =
       record {
         joined = length-replicate {A = ℕ} 8 0;
-        codes = length-map params codeOf ∙ l;
+        codes = length-map (params .numbers) codeOf ∙ l;
         peers = length-replicate slotCount noPeer;
         topics = length-replicate placeCount noTopic;
         ends = λ s. ap (λ (p : Peer). length (p .backoff)) (fresh-peer s);
@@ -168,6 +172,7 @@ module _ (params : List ℤ) where
         size = fresh-sized (ok .size);
         router = fresh-valid params (ok .size) (ok .passes);
         codes = refl;
+        setup = refl;
         tied = λ s l on.
             let z = ap (λ (p : Peer). p .status) (fresh-peer s) in
             absurd (omega arith);

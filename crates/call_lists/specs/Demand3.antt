@@ -4,10 +4,11 @@ use mathlib.Core.Path.{_≡_}
 use mathlib.Core.Logic.{_⊎_}
 use mathlib.Core.Bool.{Bool, true, false, not, _&&_}
 use mathlib.Core.List.{List, _∷_}
-use lib.IntN.{ℤ, natAbs}
+use lib.IntN.{natAbs}
 use lib.ListN.{length}
 use Rattle.index.specs.Index.{count}
 use Rattle.index.specs.declared.Found.the-variants.{Nothing}
+use Rattle.params.specs.declared.Params.{Params}
 use Rattle.limits.specs.Limits.{at}
 use Rattle.params.specs.Check.{firstBroken}
 use Rattle.records.specs.Records.{State, slotCount, paramCount, peerIn}
@@ -17,26 +18,26 @@ use Rattle.rules.specs.Step.{isNegative, isCandidate}
 use Rattle.call_lists.specs.Lists.{Made, after, answered, outbound}
 
 -- "an accepted sheet": 147 numbers that pass 9
-pub record Accepted (params : List ℤ) : Type 0 where
-  pub size : length params ≡ paramCount
+pub record Accepted (params : Params) : Type 0 where
+  pub size : length (params .numbers) ≡ paramCount
   pub passes : firstBroken params ≡ Nothing
 
-abbrev pub dLo : List ℤ → ℕ
-dLo params = natAbs (at params 0)
+abbrev pub dLo : Params → ℕ
+dLo params = natAbs (at (params .numbers) 0)
 
-abbrev pub dHi : List ℤ → ℕ
-dHi params = natAbs (at params 2)
+abbrev pub dHi : Params → ℕ
+dHi params = natAbs (at (params .numbers) 2)
 
-abbrev pub dOut : List ℤ → ℕ
-dOut params = natAbs (at params 3)
+abbrev pub dOut : Params → ℕ
+dOut params = natAbs (at (params .numbers) 3)
 
 -- ---- after a list of calls, by slot
 -- the direction of the peer in slot s
-abbrev pub outboundAt : List ℤ → List Made → ℕ → Bool
+abbrev pub outboundAt : Params → List Made → ℕ → Bool
 outboundAt params calls s = outbound params calls (peerIn (after params calls) s .id)
 
 -- the mesh of topic t
-module _ (params : List ℤ) (calls : List Made) (t : ℕ) where
+module _ (params : Params) (calls : List Made) (t : ℕ) where
   abbrev pub member : ℕ → Bool
   member s = isMember (after params calls) t s
 
@@ -55,7 +56,7 @@ abbrev pub InPool : State → ℕ → ℕ → ℕ → Type 0
 InPool start time t s = ((isMember start t s ≡ true) × (isNegative start s ≡ false)) ⊎ (isCandidate start time t s ≡ true)
 
 -- what holds after a heartbeat (01's tidy) of topic t at a time, the last of the calls: `before` are the calls before it
-pub record Maintained (params : List ℤ) (calls before : List Made) (time t : ℕ) : Type 0 where
+pub record Maintained (params : Params) (calls before : List Made) (time t : ℕ) : Type 0 where
   -- "the tidied topic's mesh then holds only peers whose score at that tidy's start was zero or more"
   pub good : (s : ℕ) → s < slotCount → member params calls t s ≡ true → isNegative (after params before) s ≡ false
   -- "it also holds at least D_out outbound peers or every outbound one in the pool"
@@ -71,7 +72,7 @@ pub record Maintained (params : List ℤ) (calls before : List Made) (time t : �
       (dLo params ≤ members params calls t) ⊎
       ((s : ℕ) → s < slotCount → InPool (after params before) time t s → member params calls t s ≡ true)
 
-pub record Holds (params : List ℤ) (calls : List Made) : Type 0 where
+pub record Holds (params : Params) (calls : List Made) : Type 0 where
   -- "After every such list a joined topic's mesh holds at most D_hi + 2 inbound peers."
   pub inbound :
       (t : ℕ) → isJoined (after params calls) t ≡ true → inboundMembers params calls t ≤ dHi params + 2
@@ -85,4 +86,4 @@ pub record Holds (params : List ℤ) (calls : List Made) : Type 0 where
 -- "take every list of the calls [..], in any order, with any arguments, refused and ignored calls included. The list starts from a fresh
 -- router with an accepted sheet"
 abbrev pub Demand3 : Type 0
-Demand3 = (params : List ℤ) (calls : List Made) → Accepted params → Holds params calls
+Demand3 = (params : Params) (calls : List Made) → Accepted params → Holds params calls

@@ -1,3 +1,4 @@
 pub mod Lists
 pub mod Demand3
 pub mod Played
+pub mod Setup

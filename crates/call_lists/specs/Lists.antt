@@ -3,12 +3,13 @@
 use Prim.Native.Nat.{ℕ, _%_}
 use mathlib.Core.Bool.{Bool, false, cond, _&&_}
 use mathlib.Core.List.{List, [], _∷_}
-use lib.IntN.{ℤ}
 use lib.Dec.{eqb}
+use Rattle.params.specs.declared.Params.{Params}
 use Rattle.records.specs.Records.{State}
 use Rattle.lookup.specs.Fresh.{freshState}
 use Rattle.rules.specs.Reply.{numberOf}
-use Rattle.rules.specs.Calls.{Call, connect, disconnect, join, leave, subscribe, unsubscribe, graft, prune, deliver, rate, heartbeat, decay, score}
+use Rattle.rules.specs.Calls.{Call, connect, disconnect, join, leave, subscribe, unsubscribe, graft, prune, deliver, rate, heartbeat, decay}
+use Rattle.rules.specs.Calls.{score}
 use Rattle.rules.specs.Step.{step}
 
 -- a call, and how many numbers the action list has that it is lent
@@ -16,17 +17,18 @@ pub record Made : Type 0 where
   pub call : Call
   pub room : ℕ
 
--- "The list starts from a fresh router [..], all records empty and no topic joined. Each call gets the tables and the clock that the last one
--- left, and nobody else writes them."
-unfoldable pub after : List ℤ → List Made → State
+-- "The list starts from a fresh router [..], all records empty and no topic joined. Each call gets the tables and the clock that the last
+-- one left, and nobody else writes them."
+unfoldable pub after : Params → List Made → State
 after params [] = freshState params
 after params (c ∷ before) = step (after params before) (c .call) (c .room) .state
 
 -- the number that call c was answered, after the calls before it
-unfoldable pub answered : List ℤ → Made → List Made → ℕ
+unfoldable pub answered : Params → Made → List Made → ℕ
 answered params c before = numberOf (step (after params before) (c .call) (c .room) .answer)
 
--- the direction of a peer after a call: a connect of it that was answered 0 says it (flags: 1 outbound + 2 explicit), else it stays as it was
+-- the direction of a peer after a call: a connect of it that was answered 0 says it (flags: 1 outbound + 2 explicit), else it stays as it
+-- was
 abbrev pub heard : Call → Bool → ℕ → Bool → Bool
 heard (connect time id group flags name) done peer was = cond (eqb id peer && done) (eqb (flags % 2) 1) was
 heard (disconnect time id) done peer was = was
@@ -43,6 +45,6 @@ heard (decay time) done peer was = was
 heard (score time id) done peer was = was
 
 -- "A peer is outbound if its last connect answered 0 said so, else inbound."
-unfoldable pub outbound : List ℤ → List Made → ℕ → Bool
+unfoldable pub outbound : Params → List Made → ℕ → Bool
 outbound params [] peer = false
 outbound params (c ∷ before) peer = heard (c .call) (eqb (answered params c before) 0) peer (outbound params before peer)

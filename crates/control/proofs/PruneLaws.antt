@@ -2,18 +2,18 @@
 -- Assumes nothing.
 use Prim.Native.Nat.{ℕ, _≤_, _<_}
 use mathlib.Core.Path.{_≡_, refl, ap, _∙_}
-use mathlib.Core.Bool.{Bool, true}
+use mathlib.Core.Bool.{true}
 use mathlib.Core.List.{[]}
 use native.Mathlib.Omega.{arith}
 use borrow.Author.Tests.{ne-eqb}
 use Rattle.records.specs.Records.{State, codeIn}
-use Rattle.effects.specs.Effects.{magnitude, pruned, endAfter}
+use Rattle.varint.specs.Codes.{magnitude}
+use Rattle.effects.specs.Effects.{pruned, endAfter}
 use Rattle.validity.specs.Valid.{valid}
 use Rattle.gate.proofs.StandingLaws.{sizes}
 use Rattle.rules.specs.Calls.{prune}
 use Rattle.rules.specs.Reply.{ignored, done}
-use Rattle.rules.specs.declared.Seen.{Seen}
-use Rattle.rules.specs.Step.{effect, seenIn, heard, isHeard, pruneReply, secondsOf}
+use Rattle.rules.specs.Step.{effect, isHeard, pruneReply, secondsOf}
 use Rattle.rules.proofs.EndLaws.{quiet-cond, quiet-peer}
 
 module _ (st : State) (seconds : ℕ) where
@@ -29,11 +29,6 @@ module _ (st : State) (seconds : ℕ) where
   pub seconds-many : (seconds ≡ 0 → ⊥) → 3600 < seconds → (3600 ≡ secondsOf st seconds) × (3600 ≤ 3600)
   unfolding secondsOf
   seconds-many n h = (rw (ne-eqb seconds 0 n) (omega arith), omega arith)
-
--- whether the peer is heard, from what was seen
-pub heard-is : (st : State) (t s : ℕ) (v : Seen) (b : Bool) → v ≡ seenIn st t s → heard v ≡ b → isHeard st t s ≡ b
-unfolding isHeard
-heard-is st t s v b e h = rw e at h
 
 -- the end of the backoff, as it is computed
 pub pruned-is :

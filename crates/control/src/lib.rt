@@ -1,17 +1,18 @@
 // GRAFT and PRUNE that come in: two of 01's calls. Each sees its peer once, decides by what it saw, and writes.
 ghost use mathlib.Core.Path.{_≡_};
 ghost use Prim.Native.Nat.{_<_, _≤_};
-ghost use lib.ListN.{length};
 ghost use Rattle.records.specs.Records.{topicCount};
-ghost use Rattle.layout.specs.View.{cellCount, stateOf};
+ghost use Rattle.layout.specs.View.{stateOf};
+ghost use Rattle.effects.specs.Lent.{AtTopic};
 ghost use Rattle.rules.specs.Calls.{graft as Calls·graft, prune as Calls·prune};
 ghost use Rattle.rules.specs.Step.{effect, raisedP7, isCrowded, graftCase, graftRefused, graftReply, secondsOf, pruneReply};
 ghost use Rattle.rules.specs.Promise.{Leaves, Gives, Follows};
-ghost use Rattle.gate.specs.Ready.{Standing, TopicReady, PlaceReady, TopicLent, PlaceLent};
+ghost use Rattle.peer_score.specs.Standing.{Standing};
+ghost use Rattle.gate.specs.Ready.{TopicReady, PlaceReady, TopicLent, PlaceLent};
 ghost use Rattle.control.specs.Refusable.{Refusable};
 use effects::actions::put_prune;
 use effects::slots::graft_slot;
-use effects::slots::load_size;
+use effects::slots::load_magnitude;
 use effects::slots::mesh_size;
 use effects::slots::prune_slot;
 use effects::values::end_after;
@@ -21,6 +22,7 @@ use gate::admit;
 use gate::finish;
 use gate::id_ok;
 use gate::ignore;
+use gate::is_heard;
 use gate::see;
 use gate::time_ok;
 use gate::topic_ok;
@@ -71,10 +73,10 @@ fn graft_case(v: Seen, crowded: bool, time: u64, topic: usize) -> GraftCase
 
 // The mesh of a topic has D_hi members or more.
 fn is_crowded(table: &[u64], topic: usize) -> bool
-    requires { ⌜ (length (now table) ≡ cellCount) × (topic < topicCount) ⌝ }
+    requires { ⌜ AtTopic (now table) topic ⌝ }
     ensures { λ r. ⌜ r ≡ isCrowded (stateOf (now (table .entry))) topic ⌝ }
 {
-    load_size(table, param::D_HI) <= mesh_size(table, topic) as u64
+    load_magnitude(table, param::D_HI) <= mesh_size(table, topic) as u64
 }
 
 // P7 grows by 1000, to 10^6.
@@ -97,7 +99,7 @@ fn graft_refused(
     ensures { λ r. ⌜ Gives (graftRefused (stateOf (now (table .entry))) time topic slot p) r
         (now (table .entry)) (now (table .exit)) (now (actions .entry)) (now (actions .exit)) ⌝ }
 {
-    let seconds = load_size(table, param::PRUNE_BACKOFF);
+    let seconds = load_magnitude(table, param::PRUNE_BACKOFF);
     put_prune(actions, 0, p, seconds);
     layout::store_peer(table, slot, with_end(p, topic, end_after(time, seconds)));
     layout::store_clock(table, time);
@@ -169,7 +171,7 @@ fn seconds_of(table: &[u64], seconds: u64) -> u64
     ensures { λ r. ⌜ (r ≡ secondsOf (stateOf (now (table .entry))) seconds) × (r ≤ 3600) ⌝ }
 {
     if seconds == 0 {
-        return load_size(table, param::PRUNE_BACKOFF);
+        return load_magnitude(table, param::PRUNE_BACKOFF);
     }
     if seconds <= 3600 { seconds } else { 3600 }
 }
@@ -180,8 +182,7 @@ fn prune_reply(table: &mut [u64], time: u64, topic: usize, slot: usize, seconds:
         (now (table .entry)) (now (table .exit)) ⌝ }
 {
     let v = see(table, topic, slot);
-    let sender = v.sender;
-    if v.joined & !sender.graylisted {
+    if is_heard(v) {
         let end = end_after(time, seconds_of(table, seconds));
         prune_slot(table, topic, slot, end);
         return finish(table, time);

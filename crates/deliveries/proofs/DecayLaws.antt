@@ -7,9 +7,8 @@ use mathlib.Core.List.{List}
 use native.Mathlib.Omega.{arith}
 use lib.Dec.{eqb}
 use lib.ListN.{length}
-use borrow.Author.Tests.{eqb-true, not-true}
 use Rattle.index.specs.Index.{iter}
-use Rattle.index.proofs.Index.{both, iter-keeps}
+use Rattle.index.proofs.Index.{iter-keeps}
 use Rattle.index.proofs.Flags.{cond-case}
 use Rattle.records.specs.declared.Peer.{Peer}
 use Rattle.records.specs.declared.TopicRecord.{TopicRecord}
@@ -23,7 +22,10 @@ use Rattle.score.specs.Score.{topicParamsIn}
 use Rattle.score.specs.Counters.{fadedOf, meshOf, decayedOf}
 use Rattle.score.proofs.CounterLaws.{faded-less, faded-nothing}
 use Rattle.score.proofs.InputLaws.{params-in, slot-in}
-use Rattle.effects.specs.Effects.{magnitude, withP7}
+use Rattle.varint.specs.Codes.{magnitude}
+use Rattle.effects.specs.Effects.{withP7}
+use Rattle.peer_score.specs.Idle.{isIdle}
+use Rattle.peer_score.proofs.IdleLaws.{idle-of}
 use Rattle.gate.specs.Ready.{Ready}
 use Rattle.gate.proofs.StandingLaws.{sizes}
 use Rattle.gate.proofs.CallLaws.{gate-refusal, gate-ready, gate-quiet}
@@ -35,7 +37,7 @@ use Rattle.rules.specs.Calls.{decay, timeOk}
 use Rattle.rules.specs.Step.{gateOf, effect, decayFloor, decayTopic, decayP7, decaySlot, decayReply}
 use Rattle.rules.specs.Promise.{Leaves, Follows}
 use Rattle.rules.proofs.EndLaws.{leaves-done}
-use Rattle.deliveries.specs.Decays.{Decays, isIdle}
+use Rattle.deliveries.specs.Decays.{Decays}
 
 -- behind the gate
 pub decays-of : (st : State) → valid st ≡ true → Decays st
@@ -150,17 +152,20 @@ module _ (st : State) (time s t floor : ℕ) (p : TopicParams) (r : TopicRecord)
 
 -- nothing fades to nothing, so an idle record stays
 idle-stays : (t : TopicParams) (floor time : ℕ) (r : TopicRecord) → isIdle r ≡ true → decayedOf t floor time r ≡ r
-unfolding decayedOf meshOf isIdle
+unfolding decayedOf meshOf
 idle-stays t floor time r e =
-    let a = both (eqb (r .p2) 0) _ e in
-    let b = both (eqb (r .p3) 0) _ (a .1) in
-    let c = both (eqb (r .p4) 0) _ (b .1) in
-    let d = both (eqb (r .p3b) 0) _ (c .1) in
-    let p2 = eqb-true (r .p2) 0 (a .0) in
-    let p3 = eqb-true (r .p3) 0 (b .0) in
-    let p4 = eqb-true (r .p4) 0 (c .0) in
-    let p3b = eqb-true (r .p3b) 0 (d .0) in
-    rw (not-true (eqb (r .member) 1) (d .1), p2, p3, p4, p3b, faded-nothing floor (t .decay2), faded-nothing floor (t .decay3), faded-nothing floor (t .decay4), faded-nothing (floor * 1000) (t .decay3b))
+    let i = idle-of r e in
+    rw (
+      i .member,
+      i .p2,
+      i .p3,
+      i .p4,
+      i .p3b,
+      faded-nothing floor (t .decay2),
+      faded-nothing floor (t .decay3),
+      faded-nothing floor (t .decay4),
+      faded-nothing (floor * 1000) (t .decay3b),
+    )
 
 pub topic-idle :
     (st : State) (time s t : ℕ) (r : TopicRecord) →

@@ -2,13 +2,13 @@
 -- Assumes nothing.
 use Prim.Native.Nat.{ℕ, _<_}
 use mathlib.Core.Path.{_≡_, refl, sym, ap₂, _∙_}
-use mathlib.Core.Bool.{Bool, true, false, _&&_}
+use mathlib.Core.Bool.{Bool, true, _&&_}
 use mathlib.Core.List.{List, []}
 use lib.Dec.{leb}
 use Rattle.index.proofs.Index.{both}
 use Rattle.index.proofs.Flags.{cond-case}
 use Rattle.records.specs.declared.TopicRecord.{TopicRecord}
-use Rattle.records.specs.Records.{State, place, topicIn, setTopic, setClock, slotCount}
+use Rattle.records.specs.Records.{State, place, topicIn, setTopic, slotCount}
 use Rattle.layout.specs.View.{stateOf}
 use Rattle.validity.specs.Valid.{valid}
 use Rattle.score.specs.declared.TopicParams.{TopicParams}
@@ -18,17 +18,12 @@ use Rattle.score.proofs.InputLaws.{counters-within}
 use Rattle.credits.specs.Credits.{creditedOf}
 use Rattle.credits.proofs.CreditLaws.{credited-is}
 use Rattle.effects.specs.Effects.{onTopic}
-use Rattle.rules.specs.declared.Answer.{Answer}
-use Rattle.rules.specs.declared.Answer.the-variants.{Done, Ignored}
-use Rattle.rules.specs.Reply.{Reply, ignored}
+use Rattle.rules.specs.Reply.{Reply}
 use Rattle.rules.specs.Calls.{deliver, idOk, topicOk}
 use Rattle.rules.specs.declared.Gate.{Gate}
 use Rattle.rules.specs.declared.Gate.the-variants.{Pass}
 use Rattle.rules.specs.Step.{gateOf, effect, isHeard, deliveredOf, deliverReply}
-use Rattle.rules.specs.Promise.{Leaves}
-use Rattle.rules.proofs.PromiseLaws.{leaves-moved}
-use Rattle.rules.proofs.StepLaws.{leaves-then, leaves-else}
-use Rattle.rules.proofs.EndLaws.{quiet-peer, leaves-done}
+use Rattle.rules.proofs.EndLaws.{quiet-peer}
 use Rattle.rules.proofs.CaseLaws.{topic-in}
 use Rattle.gate.proofs.CallLaws.{gate-fine}
 
@@ -51,28 +46,6 @@ pub slot-delivered :
     u ≡ onTopic st s t (deliveredOf kind (topicParamsIn st t))
 slot-delivered st u t s kind p r q v l h er ep eq eu =
     let e = credited-delivers (topicParamsIn st t) (topicIn st (place s t)) (counters-within st v s h t l) kind in cc
-
--- ---- a delivery that is heard, and one that is not
-
-module _ (table : List ℕ) (time t kind s : ℕ) (a : Answer) (table′ : List ℕ) (heard : Bool) (e : heard ≡ isHeard (stateOf table) t s) where
-  pub deliver-heard :
-      (mid : List ℕ) →
-      heard ≡ true →
-      stateOf mid ≡ onTopic (stateOf table) s t (deliveredOf kind (topicParamsIn (stateOf table) t)) →
-      (a ≡ Done 0) × (stateOf table′ ≡ setClock (stateOf mid) time) →
-      Leaves (deliverReply (stateOf table) time t kind s) a table table′
-  unfolding deliverReply
-  deliver-heard mid h u f =
-      leaves-then (isHeard (stateOf table) t s) _ _ a table table′ (sym e ∙ h) (leaves-done table mid table′ _ time a u f)
-
-  pub deliver-ignored :
-      heard ≡ false →
-      (a ≡ Ignored) × (stateOf table′ ≡ setClock (stateOf table) time) →
-      Leaves (deliverReply (stateOf table) time t kind s) a table table′
-  unfolding deliverReply
-  deliver-ignored h f =
-      leaves-else (isHeard (stateOf table) t s) _ _ a table table′ (sym e ∙ h)
-      (leaves-moved (ignored (stateOf table) time) a table table′ (f .0) refl (f .1))
 
 -- ---- no action
 

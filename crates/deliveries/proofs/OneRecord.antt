@@ -41,11 +41,11 @@ delivered-counted kind t r =
 
 module _ (st : State) (time id t : ℕ) where
   same : OneRecord st st id t
-  same = record { joined = refl; codes = refl; peers = refl; size = refl; others = λ k n. refl; rest = λ k. refl }
+  same = record { joined = refl; codes = refl; setup = refl; peers = refl; size = refl; others = λ k n. refl; rest = λ k. refl }
 
   ticked : OneRecord st (setClock st time) id t
   unfolding setClock topicIn
-  ticked = record { joined = refl; codes = refl; peers = refl; size = refl; others = λ k n. refl; rest = λ k. refl }
+  ticked = record { joined = refl; codes = refl; setup = refl; peers = refl; size = refl; others = λ k n. refl; rest = λ k. refl }
 
   altered :
       (s : ℕ) (f : TopicRecord → TopicRecord) →
@@ -57,6 +57,7 @@ module _ (st : State) (time id t : ℕ) where
       record {
         joined = refl;
         codes = refl;
+        setup = refl;
         peers = refl;
         size = length-set (st .topics) (place s t) (f (topicIn st (place s t)));
         others = λ k n. topic-other st (place s t) (f (topicIn st (place s t))) k (n s e);

@@ -1,13 +1,14 @@
 -- What a decay relies on from record to record once the first tests are passed. No public call asks it of its caller.
 use Prim.Native.Nat.{ℕ, _<_, _≤_}
-use mathlib.Core.Bool.{Bool, not, _&&_}
-use lib.Dec.{eqb}
-use Rattle.records.specs.declared.TopicRecord.{TopicRecord}
+use mathlib.Core.Path.{_≡_}
+use mathlib.Core.List.{List}
+use lib.ListN.{length}
 use Rattle.records.specs.Records.{State, slotCount, topicCount, place, codeIn, peerIn, topicIn}
+use Rattle.layout.specs.View.{cellCount, stateOf}
 use Rattle.score.specs.Ranges.{TopicParamsIn, CountersIn}
 use Rattle.score.specs.Score.{topicParamsIn}
 use Rattle.score.specs.Counters.{countMost}
-use Rattle.effects.specs.Effects.{magnitude}
+use Rattle.varint.specs.Codes.{magnitude}
 use Rattle.rules.specs.Step.{decayFloor}
 
 -- the parameters and the counters are in their ranges
@@ -18,6 +19,14 @@ pub record Decays (st : State) : Type 0 where
   pub counters : (s t : ℕ) → s < slotCount → t < topicCount → CountersIn (topicIn st (place s t))
   pub p7 : (s : ℕ) → s < slotCount → peerIn st s .p7 ≤ countMost
 
--- a record that a decay leaves as it is: no counter to fade, and no member's
-unfoldable pub isIdle : TopicRecord → Bool
-isIdle r = eqb (r .p2) 0 && (eqb (r .p3) 0 && (eqb (r .p4) 0 && (eqb (r .p3b) 0 && not (eqb (r .member) 1))))
+-- in a slot of a table, and in one of its topics too
+pub record DecaysIn (table : List ℕ) (s : ℕ) : Type 0 where
+  pub size : length table ≡ cellCount
+  pub decays : Decays (stateOf table)
+  pub slot : s < slotCount
+
+pub record DecaysAt (table : List ℕ) (t s : ℕ) : Type 0 where
+  pub size : length table ≡ cellCount
+  pub decays : Decays (stateOf table)
+  pub topic : t < topicCount
+  pub slot : s < slotCount

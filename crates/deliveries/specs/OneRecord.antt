@@ -18,6 +18,7 @@ use Rattle.rules.specs.Promise.{Follows}
 pub record OneRecord (st u : State) (id t : ℕ) : Type 0 where
   pub joined : u .joined ≡ st .joined
   pub codes : u .codes ≡ st .codes
+  pub setup : u .setup ≡ st .setup
   pub peers : u .peers ≡ st .peers
   pub size : length (u .topics) ≡ length (st .topics)
   -- "no other record": the topic record at any other place is as it was

@@ -1,60 +1,58 @@
 // Deliveries and decay: two of 01's calls. Each takes the lent table, a time, its arguments as wide numbers and a lent action list, asks
 // nothing of its caller, and promises the rules' reply (crate rules).
-ghost use Rattle.records.specs.Records.{slotCount};
 ghost use mathlib.Core.Path.{_≡_};
-ghost use Prim.Native.Nat.{_<_};
-ghost use lib.ListN.{length};
 ghost use Rattle.index.specs.Index.{iter};
-ghost use Rattle.layout.specs.View.{cellCount, stateOf};
-ghost use Rattle.score.specs.Score.{topicParamsIn};
-ghost use Rattle.effects.specs.Effects.{onTopic};
+ghost use Rattle.layout.specs.View.{stateOf};
 ghost use Rattle.rules.specs.Calls.{deliver as Calls·deliver, decay as Calls·decay};
-ghost use Rattle.rules.specs.Step.{effect, deliveredOf, decayTopic, decayP7, decaySlot, decayReply};
+ghost use Rattle.rules.specs.Step.{effect, deliverReply, decayTopic, decayP7, decaySlot, decayReply};
 ghost use Rattle.rules.specs.Promise.{Leaves, Follows};
-ghost use Rattle.gate.specs.Ready.{Standing, Ready};
-ghost use Rattle.deliveries.specs.Decays.{Decays, isIdle};
+ghost use Rattle.gate.specs.Ready.{Ready, TopicReady, PlaceReady};
+ghost use Rattle.deliveries.specs.Decays.{DecaysIn, DecaysAt};
 use credits::credited;
-use effects::slots::load_size;
+use effects::slots::load_magnitude;
 use effects::values::with_p7;
 use gate::admit;
 use gate::finish;
 use gate::id_ok;
 use gate::ignore;
 use gate::is_heard;
+use gate::see;
 use gate::time_ok;
 use gate::topic_ok;
 use index::Found;
 use layout::CELLS;
 use lookup::find::find_connected;
+use peer_score::is_idle;
 use records::SLOTS;
 use records::TOPICS;
-use records::TopicRecord;
 use records::param;
 use rules::Answer;
 use rules::Gate;
 
-// The counters of a slot in a topic, after one delivery. Kinds: 1 first, 2 near-first, 3 invalid.
-fn deliver_slot(table: &mut [u64], topic: usize, slot: usize, kind: u64)
-    requires { ⌜ Standing (now table) × ((topic < 8) × (slot < slotCount)) ⌝ }
-    ensures { λ r. ⌜ stateOf (now (table .exit)) ≡ onTopic (stateOf (now (table .entry))) slot topic (deliveredOf kind (topicParamsIn (stateOf (now (table .entry))) topic)) ⌝ }
+// The counters of the peer's record in the topic grow, if it is heard. Kinds: 1 first, 2 near-first, 3 invalid.
+fn deliver_reply(table: &mut [u64], time: u64, topic: usize, slot: usize, kind: u64) -> Answer
+    requires { ⌜ PlaceReady (now table) time topic slot ⌝ }
+    ensures { λ r. ⌜ Leaves (deliverReply (stateOf (now (table .entry))) time topic kind slot) r
+        (now (table .entry)) (now (table .exit)) ⌝ }
 {
-    let r = layout::load_topic(table, slot * 8 + topic);
-    let t = peer_score::load_params(table, topic);
-    layout::store_topic(table, slot * 8 + topic, credited(r, t, kind));
+    let v = see(table, topic, slot);
+    if is_heard(v) {
+        let t = peer_score::load_params(table, topic);
+        layout::store_topic(table, slot * 8 + topic, credited(v.topic, t, kind));
+        return finish(table, time);
+    }
+    ignore(table, time)
 }
 
 fn deliver_from(table: &mut [u64], time: u64, id: u64, topic: usize, kind: u64) -> Answer
-    requires { ⌜ Ready (now table) time × (topic < 8) ⌝ }
-    ensures { λ r. ⌜ Leaves (effect (stateOf (now (table .entry))) (Calls·deliver time id topic kind)) r (now (table .entry)) (now (table .exit)) ⌝ }
+    requires { ⌜ TopicReady (now table) time topic ⌝ }
+    ensures { λ r. ⌜ Leaves (effect (stateOf (now (table .entry))) (Calls·deliver time id topic kind)) r
+        (now (table .entry)) (now (table .exit)) ⌝ }
 {
     let Found::At(slot) = find_connected(table, id) else {
         return Answer::NotConnected;
     };
-    if is_heard(table, topic, slot) {
-        deliver_slot(table, topic, slot, kind);
-        return finish(table, time);
-    }
-    ignore(table, time)
+    deliver_reply(table, time, topic, slot, kind)
 }
 
 // A peer delivers a message.
@@ -66,7 +64,8 @@ pub fn deliver(
     kind: u64,
     actions: &mut [u32],
 ) -> Answer
-    ensures { λ r. ⌜ Follows (Calls·deliver time id topic kind) r (now (table .entry)) (now (table .exit)) (now (actions .entry)) (now (actions .exit)) ⌝ }
+    ensures { λ r. ⌜ Follows (Calls·deliver time id topic kind) r
+        (now (table .entry)) (now (table .exit)) (now (actions .entry)) (now (actions .exit)) ⌝ }
 {
     let fine = time_ok(time) & ((id_ok(id) & topic_ok(topic)) & ((1 <= kind) & (kind <= 3)));
     match admit(table, fine, actions.len(), time) {
@@ -75,16 +74,9 @@ pub fn deliver(
     }
 }
 
-// Whether a record has nothing to fade, as most have: few peers are members of a mesh or break a rule.
-fn is_idle(r: TopicRecord) -> bool
-    ensures { λ b. ⌜ b ≡ isIdle r ⌝ }
-{
-    (r.p2 == 0) & ((r.p3 == 0) & ((r.p4 == 0) & ((r.p3b == 0) & !(r.member == 1))))
-}
-
 // The counters of one topic record, and a member's mesh time.
-fn decay_topic(table: &mut [u64], time: u64, slot: usize, topic: usize)
-    requires { ⌜ (length (now table) ≡ cellCount) × (Decays (stateOf (now table)) × ((slot < slotCount) × (topic < 8))) ⌝ }
+fn decay_topic(table: &mut [u64], time: u64, topic: usize, slot: usize)
+    requires { ⌜ DecaysAt (now table) topic slot ⌝ }
     ensures { λ r. ⌜ stateOf (now (table .exit)) ≡ decayTopic time slot topic (stateOf (now (table .entry))) ⌝ }
 {
     let r = layout::load_topic(table, slot * 8 + topic);
@@ -95,23 +87,23 @@ fn decay_topic(table: &mut [u64], time: u64, slot: usize, topic: usize)
     layout::store_topic(
         table,
         slot * 8 + topic,
-        score::counters::decayed(t, load_size(table, param::DECAY_TO_ZERO), time, r),
+        score::counters::decayed(t, load_magnitude(table, param::DECAY_TO_ZERO), time, r),
     );
 }
 
 fn decay_topics(table: &mut [u64], time: u64, slot: usize)
-    requires { ⌜ (length (now table) ≡ cellCount) × (Decays (stateOf (now table)) × (slot < slotCount)) ⌝ }
+    requires { ⌜ DecaysIn (now table) slot ⌝ }
     ensures { λ r. ⌜ stateOf (now (table .exit)) ≡ iter 8 (decayTopic time slot) (stateOf (now (table .entry))) ⌝ }
 {
     let mut topic: usize = 0;
     while topic < TOPICS {
-        decay_topic(table, time, slot, topic);
+        decay_topic(table, time, topic, slot);
         topic += 1;
     }
 }
 
 fn decay_p7(table: &mut [u64], slot: usize)
-    requires { ⌜ (length (now table) ≡ cellCount) × (Decays (stateOf (now table)) × (slot < slotCount)) ⌝ }
+    requires { ⌜ DecaysIn (now table) slot ⌝ }
     ensures { λ r. ⌜ stateOf (now (table .exit)) ≡ decayP7 slot (stateOf (now (table .entry))) ⌝ }
 {
     let p = layout::load_peer(table, slot);
@@ -121,8 +113,8 @@ fn decay_p7(table: &mut [u64], slot: usize)
         with_p7(
             p,
             score::counters::faded(
-                load_size(table, param::DECAY_TO_ZERO),
-                load_size(table, param::P7_DECAY),
+                load_magnitude(table, param::DECAY_TO_ZERO),
+                load_magnitude(table, param::P7_DECAY),
                 p.p7,
             ),
         ),
@@ -131,7 +123,7 @@ fn decay_p7(table: &mut [u64], slot: usize)
 
 // Connected peers only.
 fn decay_slot(table: &mut [u64], time: u64, slot: usize)
-    requires { ⌜ (length (now table) ≡ cellCount) × (Decays (stateOf (now table)) × (slot < slotCount)) ⌝ }
+    requires { ⌜ DecaysIn (now table) slot ⌝ }
     ensures { λ r. ⌜ stateOf (now (table .exit)) ≡ decaySlot time slot (stateOf (now (table .entry))) ⌝ }
 {
     if layout::load_status(table, slot) == 1 {
@@ -154,7 +146,8 @@ fn decay_from(table: &mut [u64], time: u64) -> Answer
 
 // The counters fade, and the members' mesh times are brought up to date.
 pub fn decay(table: &mut [u64; CELLS], time: u64, actions: &mut [u32]) -> Answer
-    ensures { λ r. ⌜ Follows (Calls·decay time) r (now (table .entry)) (now (table .exit)) (now (actions .entry)) (now (actions .exit)) ⌝ }
+    ensures { λ r. ⌜ Follows (Calls·decay time) r
+        (now (table .entry)) (now (table .exit)) (now (actions .entry)) (now (actions .exit)) ⌝ }
 {
     let fine = time_ok(time);
     match admit(table, fine, actions.len(), time) {

@@ -1,13 +1,11 @@
 -- Laws of actions and of the numbers that stand for them: what a writer of an action list goes by.
 -- Assumes nothing.
 use Prim.Native.Nat.{ℕ, suc, _+_, _*_}
-use mathlib.Core.Path.{_≡_, refl, sym, ap, _∙_}
+use mathlib.Core.Path.{_≡_, refl, ap}
 use mathlib.Core.List.{List, [], _∷_, _++_}
 use native.Mathlib.Omega.{arith}
-use native.Mathlib.Nat.{zero-add}
 use lib.ListN.{length, set}
 use lib.Seq.{sets}
-use Rattle.index.proofs.Lists.{sets-append}
 use Rattle.effects.specs.Actions.{Action, numbersOf}
 
 -- three stores, as code makes them, are one run
@@ -28,15 +26,3 @@ pub numbers-length : (l : List Action) → length (numbersOf l) ≡ 3 * length l
 unfolding numbersOf
 numbers-length [] = refl
 numbers-length (x ∷ l) = let h : length (numbersOf l) ≡ 3 * length l = numbers-length l in omega arith
-
--- one more action, written after the others
-pub numbers-more :
-    (list : List ℕ) (l : List Action) (x : Action) →
-    sets (sets list 0 (numbersOf l)) (length (numbersOf l)) (numbersOf (x ∷ [])) ≡ sets list 0 (numbersOf (l ++ (x ∷ [])))
-numbers-more list l x =
-    sym
-    (ap (sets list 0) (numbers-append l (x ∷ []))
-    ∙ sets-append list 0 (numbersOf l) (numbersOf (x ∷ []))
-    ∙ ap
-    (λ (k : ℕ). sets (sets list 0 (numbersOf l)) k (numbersOf (x ∷ [])))
-    (zero-add (length (numbersOf l))))

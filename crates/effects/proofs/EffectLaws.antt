@@ -1,32 +1,33 @@
 -- Laws of the effects: what each leaves alone, and what stands in each slot after it.
 -- Assumes nothing.
-use Prim.Native.Nat.{ℕ, _+_, _≤_, _<_, max}
+use Prim.Native.Nat.{ℕ, _≤_, _<_, max}
 use native.Mathlib.Omega.{arith}
 use mathlib.Core.Path.{_≡_, refl, sym, ap, _∙_}
 use mathlib.Core.Logic.{_≢_}
-use mathlib.Core.Bool.{Bool, true, false, cond, not, _&&_}
+use mathlib.Core.Bool.{true, false, cond, not, _&&_}
 use mathlib.Core.List.{List}
 use lib.ListN.{length, getD, length-set}
 use lib.Seq.{getD-set-same, getD-set-other}
 use lib.Dec.{eqb, leb}
 use borrow.Author.Tests.{leb-true, ltb-false, eqb-true, not-true, ne-eqb}
-use Rattle.index.specs.Index.{every, first, count, one, iter}
+use Rattle.index.specs.Index.{every, first, iter}
 use Rattle.index.specs.declared.Found.the-variants.{Nothing}
-use Rattle.index.proofs.Index.{both, every-at, count-same, iter-keeps, first-passed}
+use Rattle.index.proofs.Index.{both, every-at, iter-keeps, first-passed}
 use Rattle.index.proofs.Flags.{by-test, cond-case}
 use Rattle.index.proofs.Lists.{set-case}
 use Rattle.records.specs.declared.Peer.{Peer}
 use Rattle.records.specs.declared.TopicRecord.{TopicRecord}
-use Rattle.records.specs.Records.{State, slotCount, noPeer, noTopic, place, codeIn, joinedIn, peerIn, topicIn, setPeer, setTopic, isEmpty, isConnected, isRetained}
-use Rattle.layout.specs.View.{Sized, setEnd, placeCount}
-use Rattle.layout.proofs.StateLaws.{peer-same, peer-other, peer-case, topic-same, topic-other, topic-case, peer-after-topic, topic-after-peer, sized-peer, sized-topic}
-use Rattle.effects.specs.Effects.{withEnd, retainedTo, retainSeconds, endAfter, outOfMesh, intoMesh, withSubscribed, onPeer, onTopic, isMember, isSubscribed, meshSize, backoffRuns, pruned, leftTopic, departed, reclaimable, emptied, reclaimSlot, reclaimed}
-use Rattle.effects.proofs.Walks.{iter-kept, iter-before, iter-once, iter-still, count-change}
+use Rattle.records.specs.Records.{State, slotCount, noPeer, noTopic, place, joinedIn, peerIn, topicIn, setPeer, setTopic, isEmpty}
+use Rattle.records.specs.Records.{isConnected, isRetained}
+use Rattle.layout.specs.View.{Sized, setEnd}
+use Rattle.layout.proofs.StateLaws.{peer-same, peer-other, peer-case, topic-same, topic-other, topic-case, peer-after-topic}
+use Rattle.layout.proofs.StateLaws.{topic-after-peer, sized-peer, sized-topic}
+use Rattle.effects.specs.Effects.{withEnd, outOfMesh, intoMesh, withSubscribed, onPeer, onTopic}
+use Rattle.effects.specs.Effects.{isMember, backoffRuns, pruned, leftTopic, departed, reclaimable, emptied}
+use Rattle.effects.specs.Effects.{reclaimSlot, reclaimed}
+use Rattle.effects.proofs.Walks.{iter-kept, iter-before, iter-once, iter-still}
 
 -- ---- places of topic records
-
-pub place-below : (s t : ℕ) → s < slotCount → t < 8 → place s t < placeCount
-place-below s t h k = omega arith
 
 -- topic records of two slots, and of two topics of a slot, stand apart
 pub place-slot : (s t u v : ℕ) → t < 8 → v < 8 → u ≢ s → place u v ≢ place s t
@@ -35,35 +36,37 @@ place-slot s t u v h k n e = n (omega arith)
 pub place-topic : (s t v : ℕ) → v ≢ t → place s v ≢ place s t
 place-topic s t v n e = n (omega arith)
 
--- ---- what stays: `Kept a b` says that b has a's clock, joined flags and codes
+-- ---- what stays: `Kept a b` says that b has a's clock, joined flags, codes and set-up
 
 pub record Kept (a b : State) : Type 0 where
   pub clock : b .clock ≡ a .clock
   pub joined : b .joined ≡ a .joined
   pub codes : b .codes ≡ a .codes
-
-pub kept-code : {a b : State} → Kept a b → (i : ℕ) → codeIn b i ≡ codeIn a i
-unfolding codeIn
-kept-code k i = ap (λ (l : List ℕ). getD l i 0) (k .codes)
+  pub setup : b .setup ≡ a .setup
 
 pub kept-joined : {a b : State} → Kept a b → (t : ℕ) → joinedIn b t ≡ joinedIn a t
 unfolding joinedIn
 kept-joined k t = ap (λ (l : List ℕ). getD l t 0) (k .joined)
 
 pub kept-self : (st : State) → Kept st st
-kept-self st = record { clock = refl; joined = refl; codes = refl }
+kept-self st = record { clock = refl; joined = refl; codes = refl; setup = refl }
 
 pub kept-then : {a b c : State} → Kept a b → Kept b c → Kept a c
 kept-then p q =
-    record { clock = q .clock ∙ p .clock; joined = q .joined ∙ p .joined; codes = q .codes ∙ p .codes }
+    record {
+      clock = q .clock ∙ p .clock;
+      joined = q .joined ∙ p .joined;
+      codes = q .codes ∙ p .codes;
+      setup = q .setup ∙ p .setup;
+    }
 
 pub kept-peer : (st : State) (s : ℕ) (p : Peer) → Kept st (setPeer st s p)
 unfolding setPeer
-kept-peer st s p = record { clock = refl; joined = refl; codes = refl }
+kept-peer st s p = record { clock = refl; joined = refl; codes = refl; setup = refl }
 
 pub kept-topic : (st : State) (k : ℕ) (t : TopicRecord) → Kept st (setTopic st k t)
 unfolding setTopic
-kept-topic st k t = record { clock = refl; joined = refl; codes = refl }
+kept-topic st k t = record { clock = refl; joined = refl; codes = refl; setup = refl }
 
 pub kept-iter :
     (f : ℕ → State → State) (n : ℕ) (st : State) →
@@ -74,10 +77,6 @@ kept-iter f n st k = iter-keeps (λ u. Kept st u) f n st (kept-self st) (λ i u 
 pub kept-pruned : (st : State) (s t end : ℕ) → Kept st (pruned st s t end)
 unfolding pruned
 kept-pruned st s t end = kept-then (kept-topic st (place s t) _) (kept-peer _ s _)
-
-pub kept-left : (st : State) (s t : ℕ) → Kept st (leftTopic st s t)
-unfolding leftTopic
-kept-left st s t = kept-topic st (place s t) _
 
 -- ---- one record: what a change of it does not change is the same at every slot, in and out of the table
 
@@ -179,19 +178,12 @@ sized-pruned st s t end size =
     (sized-topic st size (place s t) (outOfMesh (topicIn st (place s t))))
     (ends-with (peerIn (onTopic st s t outOfMesh) s) t end)
 
-pub sized-left : (st : State) (s t : ℕ) → Sized st → Sized (leftTopic st s t)
-unfolding leftTopic
-sized-left st s t size = sized-topic st size (place s t) _
-
 -- ---- every topic record of one slot changed by g, one topic after the other: what a disconnect and an emptied slot do
 
 abbrev pub walk : ℕ → (TopicRecord → TopicRecord) → ℕ → State → State
 walk s g t u = onTopic u s t g
 
 module _ (s : ℕ) (g : TopicRecord → TopicRecord) (st : State) where
-  pub walk-kept : (n : ℕ) → Kept st (iter n (walk s g) st)
-  walk-kept n = kept-iter (walk s g) n st (λ t u. kept-topic u (place s t) (g (topicIn u (place s t))))
-
   pub walk-sized : (n : ℕ) → Sized st → Sized (iter n (walk s g) st)
   walk-sized n size =
       iter-keeps
@@ -247,39 +239,6 @@ gone r = withSubscribed (outOfMesh r) 0
 
 abbrev none : TopicRecord → TopicRecord
 none r = noTopic
-
-pub kept-departed : (st : State) (s time : ℕ) → Kept st (departed st s time)
-unfolding departed leftTopic
-kept-departed st s time = kept-then (walk-kept s gone st 8) (kept-peer (iter 8 (walk s gone) st) s _)
-
-pub kept-emptied : (st : State) (s : ℕ) → Kept st (emptied st s)
-unfolding emptied
-kept-emptied st s = kept-then (walk-kept s none st 8) (kept-peer (iter 8 (walk s none) st) s noPeer)
-
-pub kept-reclaim : (time s : ℕ) (st : State) → Kept st (reclaimSlot time s st)
-unfolding reclaimSlot
-kept-reclaim time s st =
-    cond-case
-    (λ u. Kept st u)
-    (reclaimable (peerIn st s) time)
-    (emptied st s)
-    st
-    (λ h. kept-emptied st s)
-    (λ h. kept-self st)
-
-pub kept-reclaimed : (st : State) (time : ℕ) → Kept st (reclaimed st time)
-unfolding reclaimed
-kept-reclaimed st time = kept-iter (reclaimSlot time) slotCount st (kept-reclaim time)
-
-pub sized-departed : (st : State) (s time : ℕ) → Sized st → Sized (departed st s time)
-unfolding departed leftTopic retainedTo
-sized-departed st s time size =
-    sized-on-peer
-    (iter 8 (walk s gone) st)
-    s
-    (λ p. retainedTo p (endAfter time (retainSeconds st)))
-    (walk-sized s gone st 8 size)
-    refl
 
 pub sized-emptied : (st : State) (s : ℕ) → Sized st → Sized (emptied st s)
 unfolding emptied
@@ -347,37 +306,12 @@ module _ (st : State) (s t : ℕ) (g : TopicRecord → TopicRecord) where
   unfolding isMember
   member-apart u v n = ap (λ (r : TopicRecord). eqb (r .member) 1) (topic-other st (place s t) _ (place u v) n)
 
-  -- the mesh of another topic
-  pub mesh-apart : (v : ℕ) → t < 8 → v < 8 → v ≢ t → meshSize (onTopic st s t g) v ≡ meshSize st v
-  unfolding meshSize
-  mesh-apart v h k n =
-      count-same
-      (isMember (onTopic st s t g) v)
-      (isMember st v)
-      slotCount
-      (λ u l. member-apart u v (λ (e : place u v ≡ place s t). n (omega arith)))
-
   module _ (size : Sized st) (h : s < slotCount) (k : t < 8) where
     pub member-on : isMember (onTopic st s t g) t s ≡ eqb (g (topicIn st (place s t)) .member) 1
     unfolding isMember
     member-on =
         let l : place s t < length (st .topics) = omega (arith, size .topics) in
         ap (λ (r : TopicRecord). eqb (r .member) 1) (topic-same st (place s t) _ l)
-
-    -- how the size of the mesh changes: by the slot itself
-    pub mesh-on :
-        meshSize (onTopic st s t g) t + one (isMember st t s)
-        ≡ meshSize st t + one (eqb (g (topicIn st (place s t)) .member) 1)
-    unfolding meshSize
-    mesh-on =
-        count-change
-        (isMember (onTopic st s t g) t)
-        (isMember st t)
-        s
-        slotCount
-        h
-        (λ u l n. member-apart u t (place-slot s t u t k k n))
-        ∙ ap (λ (b : Bool). count slotCount (isMember st t) + one b) member-on
 
 module _ (st : State) (s t : ℕ) (size : Sized st) (h : s < slotCount) (k : t < 8) where
   pub member-in : (time : ℕ) → isMember (onTopic st s t (λ r. intoMesh r time)) t s ≡ true
@@ -388,32 +322,10 @@ module _ (st : State) (s t : ℕ) (size : Sized st) (h : s < slotCount) (k : t <
   unfolding outOfMesh
   member-out = member-on st s t outOfMesh size h k
 
-  pub mesh-in :
-      (time : ℕ) → isMember st t s ≡ false → meshSize (onTopic st s t (λ r. intoMesh r time)) t ≡ meshSize st t + 1
-  unfolding intoMesh
-  mesh-in time e =
-      let a : meshSize (onTopic st s t (λ r. intoMesh r time)) t + one (isMember st t s) ≡ meshSize st t + 1 =
-      mesh-on st s t (λ r. intoMesh r time) size h k in
-      let b : one (isMember st t s) ≡ 0 = rw e in
-      omega arith
-
-  pub mesh-out : isMember st t s ≡ true → meshSize (onTopic st s t outOfMesh) t + 1 ≡ meshSize st t
-  unfolding outOfMesh
-  mesh-out e =
-      let a : meshSize (onTopic st s t outOfMesh) t + one (isMember st t s) ≡ meshSize st t + 0 =
-      mesh-on st s t outOfMesh size h k in
-      let b : one (isMember st t s) ≡ 1 = rw e in
-      omega arith
-
 -- a store of a peer's record moves no one in or out of a mesh
 pub member-peer : (st : State) (s : ℕ) (p : Peer) (u v : ℕ) → isMember (setPeer st s p) v u ≡ isMember st v u
 unfolding isMember
 member-peer st s p u v = ap (λ (r : TopicRecord). eqb (r .member) 1) (topic-after-peer st s p (place u v))
-
-pub mesh-peer : (st : State) (s : ℕ) (p : Peer) (v : ℕ) → meshSize (setPeer st s p) v ≡ meshSize st v
-unfolding meshSize
-mesh-peer st s p v =
-    count-same (isMember (setPeer st s p) v) (isMember st v) slotCount (λ u l. member-peer st s p u v)
 
 module _ (st : State) (s t end : ℕ) where
   pub pruned-apart : (u v : ℕ) → place u v ≢ place s t → isMember (pruned st s t end) v u ≡ isMember st v u
@@ -425,33 +337,10 @@ module _ (st : State) (s t end : ℕ) where
     unfolding pruned
     pruned-member = member-peer (onTopic st s t outOfMesh) s _ s t ∙ member-out st s t size h k
 
-    pub pruned-mesh : isMember st t s ≡ true → meshSize (pruned st s t end) t + 1 ≡ meshSize st t
-    unfolding pruned
-    pruned-mesh e =
-        ap (λ (n : ℕ). n + 1) (mesh-peer (onTopic st s t outOfMesh) s _ t) ∙ mesh-out st s t size h k e
-
 -- ---- a disconnect, slot by slot
 
 module _ (st : State) (s time : ℕ) where
-  pub departed-other : (u : ℕ) → u ≢ s → peerIn (departed st s time) u ≡ peerIn st u
-  unfolding departed leftTopic
-  departed-other u n = peer-other (iter 8 (walk s gone) st) s _ u n ∙ walk-peer s gone st 8 u
-
-  pub departed-topic-other :
-      (u t : ℕ) → u ≢ s → t < 8 → topicIn (departed st s time) (place u t) ≡ topicIn st (place u t)
-  unfolding departed leftTopic
-  departed-topic-other u t n h =
-      topic-after-peer (iter 8 (walk s gone) st) s _ (place u t) ∙ walk-other s gone st u t n h
-
   module _ (size : Sized st) (h : s < slotCount) where
-    pub departed-same : peerIn (departed st s time) s ≡ retainedTo (peerIn st s) (endAfter time (retainSeconds st))
-    unfolding departed leftTopic
-    departed-same =
-        let z : Sized (iter 8 (walk s gone) st) = walk-sized s gone st 8 size in
-        let l : s < length (iter 8 (walk s gone) st .peers) = omega (arith, z .peers) in
-        peer-same (iter 8 (walk s gone) st) s _ l
-        ∙ ap (λ (p : Peer). retainedTo p (endAfter time (retainSeconds st))) (walk-peer s gone st 8 s)
-
     pub departed-topic :
         (t : ℕ) →
         t < 8 →
@@ -459,14 +348,6 @@ module _ (st : State) (s time : ℕ) where
     unfolding departed leftTopic
     departed-topic t k =
         topic-after-peer (iter 8 (walk s gone) st) s _ (place s t) ∙ walk-same s gone st size h t k
-
-    pub departed-member : (t : ℕ) → t < 8 → isMember (departed st s time) t s ≡ false
-    unfolding isMember withSubscribed outOfMesh
-    departed-member t k = ap (λ (r : TopicRecord). eqb (r .member) 1) (departed-topic t k)
-
-    pub departed-subscribed : (t : ℕ) → t < 8 → isSubscribed (departed st s time) t s ≡ false
-    unfolding withSubscribed
-    departed-subscribed t k = ap (λ (r : TopicRecord). eqb (r .subscribed) 1) (departed-topic t k)
 
 -- ---- an emptied slot
 
@@ -586,13 +467,6 @@ module _ (st : State) (time : ℕ) (size : Sized st) (s : ℕ) (h : s < slotCoun
   -- what is not reclaimable stays
   pub reclaimed-stays : reclaimable (peerIn st s) time ≡ false → peerIn (reclaimed st time) s ≡ peerIn st s
   reclaimed-stays e = reclaimed-peer ∙ rw e
-
-  pub reclaimed-topic-stays :
-      reclaimable (peerIn st s) time ≡ false →
-      (t : ℕ) →
-      t < 8 →
-      topicIn (reclaimed st time) (place s t) ≡ topicIn st (place s t)
-  reclaimed-topic-stays e t k = reclaimed-topic t k ∙ rw e
 
 -- ---- what a reclaimable record is
 

@@ -6,13 +6,12 @@ use lib.Dec.{eqb, leb, ltb}
 use Rattle.index.specs.Index.{every, count, iter}
 use Rattle.records.specs.declared.Peer.{Peer}
 use Rattle.records.specs.declared.TopicRecord.{TopicRecord}
-use Rattle.records.specs.Records.{State, slotCount, topicCount, noPeer, noTopic, place, codeIn, joinedIn, peerIn, topicIn, setPeer, setTopic, isRetained}
+use Rattle.varint.specs.Codes.{magnitude}
+use Rattle.records.specs.Records.{State, slotCount, topicCount, noPeer, noTopic, place, codeIn, joinedIn, peerIn, topicIn, setPeer}
+use Rattle.records.specs.Records.{setTopic, isRetained}
 use Rattle.records.specs.Parameters.{dHiAt, pruneBackoffAt, unsubscribeBackoffAt, retainAt}
 
 -- ---- parameters that the rules use, as magnitudes (their signs are fixed by their limits); seconds unless said
-abbrev pub magnitude : ℕ → ℕ
-magnitude code = (code + 1) / 2
-
 abbrev pub highDegree : State → ℕ
 highDegree st = magnitude (codeIn st dHiAt)
 

@@ -7,6 +7,7 @@ ghost use lib.Dec.{eqb};
 ghost use lib.ListN.{length};
 ghost use lib.Seq.{sets};
 ghost use Rattle.effects.specs.Actions.{pruneOf, numbersOf};
+ghost use Rattle.effects.specs.Lent.{PruneFits};
 use records::Peer;
 
 // The seconds that a peer is told: none at version 1.0.0.
@@ -27,8 +28,9 @@ fn put_numbers(actions: &mut [u32], at: usize, kind: u32, id: u32, seconds: u32)
 
 // A PRUNE of a peer, and the place after it.
 pub fn put_prune(actions: &mut [u32], at: usize, p: Peer, seconds: u64) -> usize
-    requires { ⌜ (at + 3 ≤ length (now actions)) × ((p .id ≤ 4294967295) × (seconds ≤ 4294967295)) ⌝ }
-    ensures { λ r. ⌜ (r ≡ at + 3) × (now (actions .exit) ≡ sets (now (actions .entry)) at (numbersOf (pruneOf p seconds ∷ []))) ⌝ }
+    requires { ⌜ PruneFits (now actions) at p seconds ⌝ }
+    ensures { λ r. ⌜ (r ≡ at + 3)
+        × (now (actions .exit) ≡ sets (now (actions .entry)) at (numbersOf (pruneOf p seconds ∷ []))) ⌝ }
 {
     let id = p.id as u32;
     let length = told(p.version, seconds as u32);

@@ -1,13 +1,14 @@
 // One slot of the table, in one topic.
 ghost use mathlib.Core.Path.{_≡_};
-ghost use Prim.Native.Nat.{_≤_, _<_};
-ghost use lib.ListN.{length};
-ghost use Rattle.records.specs.Records.{codeIn, peerIn, slotCount};
-ghost use Rattle.layout.specs.View.{cellCount, stateOf};
-ghost use Rattle.effects.specs.Effects.{magnitude as magnitudeOf, withEnd, withP5, outOfMesh, intoMesh, withSubscribed, onPeer, onTopic, isJoined, isMember, isSubscribed, meshSize, backoffRuns, pruned};
+ghost use Prim.Native.Nat.{_≤_};
+ghost use Rattle.records.specs.Records.{codeIn, slotCount};
+ghost use Rattle.layout.specs.View.{stateOf};
+ghost use Rattle.varint.specs.Codes.{magnitude as magnitudeOf};
+ghost use Rattle.effects.specs.Effects.{withEnd, withP5, outOfMesh, intoMesh, withSubscribed};
+ghost use Rattle.effects.specs.Effects.{onPeer, onTopic, isJoined, isMember, meshSize, pruned};
+ghost use Rattle.effects.specs.Lent.{AtParam, AtTopic, AtSlot, AtPlace};
 ghost use Rattle.index.specs.Index.{one};
 use crate::values::into_mesh;
-use crate::values::magnitude;
 use crate::values::out_of_mesh;
 use crate::values::with_end;
 use crate::values::with_p5;
@@ -15,41 +16,25 @@ use crate::values::with_subscribed;
 use records::SLOTS;
 
 // A number of the parameters without its sign.
-pub fn load_size(table: &[u64], i: usize) -> u64
-    requires { ⌜ (length (now table) ≡ cellCount) × (i < 147) ⌝ }
+pub fn load_magnitude(table: &[u64], i: usize) -> u64
+    requires { ⌜ AtParam (now table) i ⌝ }
     ensures { λ r. ⌜ r ≡ magnitudeOf (codeIn (stateOf (now (table .entry))) i) ⌝ }
 {
-    magnitude(layout::load_code(table, i))
+    varint::magnitude(layout::load_code(table, i))
 }
 
 pub fn is_joined(table: &[u64], topic: usize) -> bool
-    requires { ⌜ (length (now table) ≡ cellCount) × (topic < 8) ⌝ }
+    requires { ⌜ AtTopic (now table) topic ⌝ }
     ensures { λ r. ⌜ r ≡ isJoined (stateOf (now (table .entry))) topic ⌝ }
 {
     layout::load_joined(table, topic) == 1
 }
 
 pub fn is_member(table: &[u64], topic: usize, slot: usize) -> bool
-    requires { ⌜ (length (now table) ≡ cellCount) × ((topic < 8) × (slot < slotCount)) ⌝ }
+    requires { ⌜ AtPlace (now table) topic slot ⌝ }
     ensures { λ r. ⌜ r ≡ isMember (stateOf (now (table .entry))) topic slot ⌝ }
 {
     layout::load_member(table, slot * 8 + topic) == 1
-}
-
-pub fn is_subscribed(table: &[u64], topic: usize, slot: usize) -> bool
-    requires { ⌜ (length (now table) ≡ cellCount) × ((topic < 8) × (slot < slotCount)) ⌝ }
-    ensures { λ r. ⌜ r ≡ isSubscribed (stateOf (now (table .entry))) topic slot ⌝ }
-{
-    layout::load_subscribed(table, slot * 8 + topic) == 1
-}
-
-// Whether the backoff of a slot in a topic is running.
-pub fn backoff_runs(table: &[u64], topic: usize, slot: usize, time: u64) -> bool
-    requires { ⌜ (length (now table) ≡ cellCount) × ((topic < 8) × (slot < slotCount)) ⌝ }
-    ensures { λ r. ⌜ r ≡ backoffRuns (peerIn (stateOf (now (table .entry))) slot) topic time ⌝ }
-{
-    let p = layout::load_peer(table, slot);
-    time < p.backoff[topic]
 }
 
 fn one_if(flag: bool) -> usize
@@ -60,7 +45,7 @@ fn one_if(flag: bool) -> usize
 
 // How many members the mesh of a topic has.
 pub fn mesh_size(table: &[u64], topic: usize) -> usize
-    requires { ⌜ (length (now table) ≡ cellCount) × (topic < 8) ⌝ }
+    requires { ⌜ AtTopic (now table) topic ⌝ }
     ensures { λ r. ⌜ (r ≡ meshSize (stateOf (now (table .entry))) topic) × (r ≤ slotCount) ⌝ }
 {
     let mut n: usize = 0;
@@ -74,7 +59,7 @@ pub fn mesh_size(table: &[u64], topic: usize) -> usize
 
 // Out of the mesh.
 pub fn take_out(table: &mut [u64], topic: usize, slot: usize)
-    requires { ⌜ (length (now table) ≡ cellCount) × ((topic < 8) × (slot < slotCount)) ⌝ }
+    requires { ⌜ AtPlace (now table) topic slot ⌝ }
     ensures { λ r. ⌜ stateOf (now (table .exit)) ≡ onTopic (stateOf (now (table .entry))) slot topic outOfMesh ⌝ }
 {
     let r = layout::load_topic(table, slot * 8 + topic);
@@ -83,7 +68,7 @@ pub fn take_out(table: &mut [u64], topic: usize, slot: usize)
 
 // The backoff end at least `end`.
 pub fn delay(table: &mut [u64], topic: usize, slot: usize, end: u64)
-    requires { ⌜ (length (now table) ≡ cellCount) × ((topic < 8) × (slot < slotCount)) ⌝ }
+    requires { ⌜ AtPlace (now table) topic slot ⌝ }
     ensures { λ r. ⌜ stateOf (now (table .exit)) ≡ onPeer (stateOf (now (table .entry))) slot (λ p. withEnd p topic end) ⌝ }
 {
     let p = with_end(layout::load_peer(table, slot), topic, end);
@@ -92,7 +77,7 @@ pub fn delay(table: &mut [u64], topic: usize, slot: usize, end: u64)
 
 // Out of the mesh, with a backoff.
 pub fn prune_slot(table: &mut [u64], topic: usize, slot: usize, end: u64)
-    requires { ⌜ (length (now table) ≡ cellCount) × ((topic < 8) × (slot < slotCount)) ⌝ }
+    requires { ⌜ AtPlace (now table) topic slot ⌝ }
     ensures { λ r. ⌜ stateOf (now (table .exit)) ≡ pruned (stateOf (now (table .entry))) slot topic end ⌝ }
 {
     take_out(table, topic, slot);
@@ -101,7 +86,7 @@ pub fn prune_slot(table: &mut [u64], topic: usize, slot: usize, end: u64)
 
 // Into the mesh.
 pub fn graft_slot(table: &mut [u64], topic: usize, slot: usize, time: u64)
-    requires { ⌜ (length (now table) ≡ cellCount) × ((topic < 8) × (slot < slotCount)) ⌝ }
+    requires { ⌜ AtPlace (now table) topic slot ⌝ }
     ensures { λ r. ⌜ stateOf (now (table .exit)) ≡ onTopic (stateOf (now (table .entry))) slot topic (λ r. intoMesh r time) ⌝ }
 {
     let r = layout::load_topic(table, slot * 8 + topic);
@@ -109,7 +94,7 @@ pub fn graft_slot(table: &mut [u64], topic: usize, slot: usize, time: u64)
 }
 
 pub fn subscribe_slot(table: &mut [u64], topic: usize, slot: usize)
-    requires { ⌜ (length (now table) ≡ cellCount) × ((topic < 8) × (slot < slotCount)) ⌝ }
+    requires { ⌜ AtPlace (now table) topic slot ⌝ }
     ensures { λ r. ⌜ stateOf (now (table .exit)) ≡ onTopic (stateOf (now (table .entry))) slot topic (λ r. withSubscribed r 1) ⌝ }
 {
     let r = layout::load_topic(table, slot * 8 + topic);
@@ -118,15 +103,16 @@ pub fn subscribe_slot(table: &mut [u64], topic: usize, slot: usize)
 
 // Out of the mesh, and not subscribed.
 pub fn unsubscribe_slot(table: &mut [u64], topic: usize, slot: usize)
-    requires { ⌜ (length (now table) ≡ cellCount) × ((topic < 8) × (slot < slotCount)) ⌝ }
-    ensures { λ r. ⌜ stateOf (now (table .exit)) ≡ onTopic (stateOf (now (table .entry))) slot topic (λ r. withSubscribed (outOfMesh r) 0) ⌝ }
+    requires { ⌜ AtPlace (now table) topic slot ⌝ }
+    ensures { λ r. ⌜ stateOf (now (table .exit))
+        ≡ onTopic (stateOf (now (table .entry))) slot topic (λ r. withSubscribed (outOfMesh r) 0) ⌝ }
 {
     let r = layout::load_topic(table, slot * 8 + topic);
     layout::store_topic(table, slot * 8 + topic, with_subscribed(out_of_mesh(r), 0));
 }
 
 pub fn rate_slot(table: &mut [u64], slot: usize, code: u64)
-    requires { ⌜ (length (now table) ≡ cellCount) × (slot < slotCount) ⌝ }
+    requires { ⌜ AtSlot (now table) slot ⌝ }
     ensures { λ r. ⌜ stateOf (now (table .exit)) ≡ onPeer (stateOf (now (table .entry))) slot (λ p. withP5 p code) ⌝ }
 {
     let p = layout::load_peer(table, slot);

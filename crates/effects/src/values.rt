@@ -1,16 +1,11 @@
 // Records by value, with other numbers.
 ghost use mathlib.Core.Path.{_≡_};
 ghost use Prim.Native.Nat.{_+_, _≤_, _<_, max};
-ghost use Rattle.effects.specs.Effects.{magnitude as magnitudeOf, endAfter, withEnd, withP5, withP7, connectedAs, retainedTo, outOfMesh, intoMesh, withSubscribed};
+ghost use Rattle.effects.specs.Effects.{endAfter, withEnd, withP5, withP7, connectedAs};
+ghost use Rattle.effects.specs.Effects.{retainedTo, outOfMesh, intoMesh, withSubscribed};
+ghost use Rattle.effects.specs.Lent.{EndFits};
 use records::Peer;
 use records::TopicRecord;
-
-// The magnitude of a coded number; half the code rounded up, without a sum that could wrap.
-pub fn magnitude(code: u64) -> u64
-    ensures { λ r. ⌜ r ≡ magnitudeOf code ⌝ }
-{
-    code / 2 + code % 2
-}
 
 pub fn later(a: u64, b: u64) -> u64
     ensures { λ r. ⌜ r ≡ max a b ⌝ }
@@ -20,7 +15,7 @@ pub fn later(a: u64, b: u64) -> u64
 
 // When a time of so many seconds ends.
 pub fn end_after(time: u64, seconds: u64) -> u64
-    requires { ⌜ (time ≤ 1099511627776) × (seconds ≤ 86400) ⌝ }
+    requires { ⌜ EndFits time seconds ⌝ }
     ensures { λ r. ⌜ (r ≡ endAfter time seconds) × (r ≤ time + 86400000) ⌝ }
 {
     time + seconds * 1000

@@ -19,6 +19,7 @@ rated code =
       clock = crowd 13 0 0 .clock;
       joined = crowd 13 0 0 .joined;
       codes = set (crowd 13 0 0 .codes) 13 2;
+      setup = crowd 13 0 0 .setup;
       peers = crowd 13 0 0 .peers;
       topics = crowd 13 0 0 .topics;
     })

@@ -94,6 +94,7 @@ crowd members others outbound =
       clock = 0;
       joined = 1 ∷ [];
       codes = 8 ∷ 12 ∷ 24 ∷ 4 ∷ 8 ∷ 120 ∷ 20 ∷ 0 ∷ 0 ∷ 1 ∷ 0 ∷ 0 ∷ 0 ∷ 0 ∷ 0 ∷ 128 ∷ [];
+      setup = record { edition = 1 };
       peers = peers 1 members 0 ++ peers 101 others outbound;
       topics = topics members 1 ++ topics others 0;
     }

@@ -20,8 +20,8 @@ use Rattle.rules.proofs.GateLaws.{Passed, gate-passed}
 use Rattle.rules.proofs.PromiseLaws.{gives-quiet, follows-refused, follows-passed}
 use Rattle.gate.specs.Ready.{Ready}
 
--- ---- in the form in which a search finds it: a and b are what the code computes of the call's time and of its other arguments, and g is what
--- `admit` says of them
+-- ---- in the form in which a search finds it: a and b are what the code computes of the call's time and of its other arguments, and g is
+-- what `admit` says of them
 module _
     (c : Call)
     (table list : List ℕ)

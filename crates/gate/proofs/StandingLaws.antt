@@ -1,13 +1,13 @@
 -- What a computed score says of a peer, and what is known of the parameters behind the gate.
 -- Assumes nothing.
-use Prim.Native.Nat.{ℕ, _*_, _≤_, _<_}
+use Prim.Native.Nat.{ℕ, _*_, _≤_}
 use mathlib.Core.Path.{_≡_, refl, sym, ap, ap₂, _∙_}
 use mathlib.Core.Bool.{Bool, true, _&&_}
 use native.Mathlib.Omega.{arith}
 use lib.Dec.{eqb, lit<}
 use lib.IntN.{ℤ, pos, negℤ, _*ℤ_}
 use lib.Signed.{ltZ}
-use Rattle.varint.specs.Codes.{numberOf}
+use Rattle.varint.specs.Codes.{numberOf, magnitude}
 use Rattle.records.specs.declared.Peer.{Peer}
 use Rattle.records.specs.Records.{State, codeIn, peerIn}
 use Rattle.records.specs.Parameters.{graylistThresholdAt, p7DecayAt, decayToZeroAt}
@@ -21,8 +21,10 @@ use Rattle.score.specs.Sums.{negativeOf, belowOf}
 use Rattle.score.specs.Score.{Scores}
 use Rattle.score.proofs.Differences.{neg-times, diff-neg}
 use Rattle.score.proofs.SumLaws.{negative-is, below-is}
-use Rattle.effects.specs.Effects.{magnitude, highDegree, pruneBackoff, unsubscribeBackoff, retainSeconds}
-use Rattle.rules.specs.Step.{isNegative, isGraylisted, senderIn}
+use Rattle.effects.specs.Effects.{highDegree, pruneBackoff, unsubscribeBackoff, retainSeconds}
+use Rattle.rules.specs.declared.Sender.{Sender}
+use Rattle.rules.specs.declared.Seen.{Seen}
+use Rattle.rules.specs.Step.{isNegative, isGraylisted, senderIn, seenIn, heard, isHeard}
 
 -- the graylist threshold and its magnitude
 abbrev thresholdAt : ℕ
@@ -100,3 +102,14 @@ module _ (st : State) (s : ℕ) (b : Balance) (scores : Scores st s b) where
       let g = graylisted-of v p n below ep en eb in
       let m = negative-of negative eg in
       cc
+
+-- ---- what was seen tells of the rules' tests; b is what a branch tells of r
+pub gray-is : (st : State) (s : ℕ) (v : Sender) → v ≡ senderIn st s → v .graylisted ≡ isGraylisted st s
+gray-is st s v e = rw e
+
+pub heard-is :
+    (st : State) (t s : ℕ) (v : Seen) (r b : Bool) → v ≡ seenIn st t s → r ≡ heard v → r ≡ b → isHeard st t s ≡ b
+unfolding isHeard
+heard-is st t s v r b e f h =
+    let g : heard v ≡ b = sym f ∙ h in
+    rw e at g

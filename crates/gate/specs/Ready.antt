@@ -1,28 +1,12 @@
 -- What the inner functions of a call may rely on once the tests 12, 2, 8 and 1 are passed. No public call asks it of its caller.
 use Prim.Native.Nat.{ℕ, _≤_, _<_}
-use mathlib.Core.Path.{_≡_}
-use mathlib.Core.Bool.{true}
 use mathlib.Core.List.{List}
 use lib.ListN.{length}
 use Rattle.records.specs.Records.{slotCount, topicCount}
-use Rattle.layout.specs.View.{cellCount, stateOf}
-use Rattle.validity.specs.Valid.{valid, maxTime}
+use Rattle.layout.specs.View.{stateOf}
+use Rattle.validity.specs.Valid.{maxTime}
+use Rattle.peer_score.specs.Standing.{Standing}
 use Rattle.rules.specs.Step.{actionRoom}
-
--- a router's table
-pub record Standing (table : List ℕ) : Type 0 where
-  pub size : length table ≡ cellCount
-  pub router : valid (stateOf table) ≡ true
-
--- one of its slots, and one of its topics too
-pub record SlotStanding (table : List ℕ) (s : ℕ) : Type 0 where
-  pub standing : Standing table
-  pub slot : s < slotCount
-
-pub record PlaceStanding (table : List ℕ) (t s : ℕ) : Type 0 where
-  pub standing : Standing table
-  pub topic : t < topicCount
-  pub slot : s < slotCount
 
 -- a router's table and a time that its clock may move to
 pub record Ready (table : List ℕ) (time : ℕ) : Type 0 where
@@ -30,7 +14,7 @@ pub record Ready (table : List ℕ) (time : ℕ) : Type 0 where
   pub clock : stateOf table .clock ≤ time
   pub latest : time ≤ maxTime
 
--- one of its topics, and one of its slots too
+-- one of its topics, one of its slots, or both
 pub record TopicReady (table : List ℕ) (time t : ℕ) : Type 0 where
   pub ready : Ready table time
   pub topic : t < topicCount

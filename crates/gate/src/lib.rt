@@ -1,14 +1,14 @@
 // The tests that every call begins with (12, 2, 8, 1), the two ends that move the clock, and what a peer's score says of it.
 ghost use mathlib.Core.Path.{_≡_};
-ghost use Prim.Native.Nat.{_<_};
 ghost use lib.ListN.{length};
-ghost use Rattle.records.specs.Records.{setClock, slotCount};
+ghost use Rattle.records.specs.Records.{setClock};
 ghost use Rattle.layout.specs.View.{cellCount, stateOf};
 ghost use Rattle.rules.specs.Calls.{idOk, topicOk, timeOk};
-ghost use Rattle.rules.specs.Step.{gateOf, isNegative, isGraylisted, isHeard, senderIn, seenIn};
-ghost use Rattle.gate.specs.Ready.{Standing, SlotStanding, PlaceStanding};
+ghost use Rattle.rules.specs.Step.{gateOf, senderIn, seenIn, heard};
+ghost use Rattle.peer_score.specs.Standing.{SlotStanding, PlaceStanding};
 use effects::slots::is_joined;
-use effects::slots::load_size;
+use effects::slots::load_magnitude;
+use records::ACTION_ROOM;
 use records::param;
 use rules::Answer;
 use rules::Gate;
@@ -17,9 +17,6 @@ use rules::Sender;
 use score::sums::is_below;
 use validity::valid::MAX_ID;
 use validity::valid::MAX_TIME;
-
-// How many numbers the lent list must have: three for each slot.
-const ACTION_ROOM: usize = 192;
 
 pub fn time_ok(time: u64) -> bool
     ensures { λ r. ⌜ r ≡ timeOk time ⌝ }
@@ -77,36 +74,17 @@ pub fn ignore(table: &mut [u64], time: u64) -> Answer
     Answer::Ignored
 }
 
-pub fn is_negative(table: &[u64], slot: usize) -> bool
-    requires { ⌜ Standing (now table) × (slot < slotCount) ⌝ }
-    ensures { λ r. ⌜ r ≡ isNegative (stateOf (now (table .entry))) slot ⌝ }
-{
-    score::sums::is_negative(peer_score::score_of(table, slot))
-}
-
-// A non-explicit peer that scores below the graylist threshold (the general number 9).
-pub fn is_graylisted(table: &[u64], slot: usize) -> bool
-    requires { ⌜ Standing (now table) × (slot < slotCount) ⌝ }
-    ensures { λ r. ⌜ r ≡ isGraylisted (stateOf (now (table .entry))) slot ⌝ }
-{
-    let p = layout::load_peer(table, slot);
-    (p.explicit == 0)
-        & is_below(
-            peer_score::score_of(table, slot),
-            load_size(table, param::GRAYLIST_THRESHOLD),
-        )
-}
-
 // What a call sees of the peer that sent it. The score is computed once, and held to both limits.
 pub fn see_sender(table: &[u64], slot: usize) -> Sender
     requires { ⌜ SlotStanding (now table) slot ⌝ }
     ensures { λ r. ⌜ r ≡ senderIn (stateOf (now (table .entry))) slot ⌝ }
 {
     let p = layout::load_peer(table, slot);
-    let b = peer_score::score_of(table, slot);
+    let b = peer_score::score_of(table, slot, p);
     Sender {
         peer: p,
-        graylisted: (p.explicit == 0) & is_below(b, load_size(table, param::GRAYLIST_THRESHOLD)),
+        graylisted: (p.explicit == 0)
+            & is_below(b, load_magnitude(table, param::GRAYLIST_THRESHOLD)),
         negative: score::sums::is_negative(b),
     }
 }
@@ -124,9 +102,9 @@ pub fn see(table: &[u64], topic: usize, slot: usize) -> Seen
 }
 
 // The topic is joined, and the peer not graylisted.
-pub fn is_heard(table: &[u64], topic: usize, slot: usize) -> bool
-    requires { ⌜ Standing (now table) × ((topic < 8) × (slot < slotCount)) ⌝ }
-    ensures { λ r. ⌜ r ≡ isHeard (stateOf (now (table .entry))) topic slot ⌝ }
+pub fn is_heard(v: Seen) -> bool
+    ensures { λ r. ⌜ r ≡ heard v ⌝ }
 {
-    is_joined(table, topic) & !is_graylisted(table, slot)
+    let sender = v.sender;
+    v.joined & !sender.graylisted
 }

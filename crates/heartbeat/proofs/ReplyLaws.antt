@@ -30,12 +30,13 @@ use Rattle.rules.specs.declared.Gate.{Gate}
 use Rattle.rules.specs.declared.Gate.the-variants.{Pass}
 use Rattle.rules.specs.Calls.{topicOk}
 use Rattle.rules.specs.Reply.{done}
-use Rattle.rules.specs.Step.{gateOf, degreesIn, viewIn, meshesIn, settleSlot, toldIn, actionIn, heartbeatActions, maintainedReply, actionRoom}
+use Rattle.rules.specs.Step.{gateOf, degreesIn, viewIn, meshesIn, settleSlot, toldIn, actionIn, heartbeatActions, maintainedReply}
+use Rattle.rules.specs.Step.{actionRoom}
 use Rattle.rules.specs.Promise.{Gives}
 use Rattle.rules.proofs.CaseLaws.{topic-in}
 use Rattle.rules.proofs.PromiseLaws.{leaves-moved}
 use Rattle.rules.proofs.HeartbeatLaws.{told-few}
-use Rattle.gate.specs.Ready.{Standing}
+use Rattle.peer_score.specs.Standing.{Standing}
 use Rattle.gate.proofs.CallLaws.{gate-fine}
 use Rattle.gate.proofs.StandingLaws.{sizes}
 use Rattle.heartbeat.specs.Settle.{Settle}

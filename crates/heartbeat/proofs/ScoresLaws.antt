@@ -20,7 +20,7 @@ use Rattle.score.specs.declared.Parts.{Parts}
 use Rattle.score.specs.Ranges.{ScoreParamsIn, TopicsIn}
 use Rattle.score.specs.Sums.{noBalance, sumOf, partsOf, totalOf, offsetOf}
 use Rattle.score.specs.Score.{scoreParamsIn, sharesGroup, sharing, shareAt}
-use Rattle.score.proofs.InputLaws.{SlotIn, slot-in}
+use Rattle.score.proofs.InputLaws.{SlotIn}
 use Rattle.score.proofs.ScoreLaws.{sharing-most, topics-are, parts-ready, parts-done, scores}
 use Rattle.sets.specs.Sets.{at, bySlot}
 use Rattle.sets.proofs.SlotLaws.{slots-at}

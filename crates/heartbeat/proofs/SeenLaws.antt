@@ -22,7 +22,8 @@ use Rattle.sets.proofs.SlotLaws.{slots-at}
 use Rattle.mesh.specs.declared.Degrees.{Degrees}
 use Rattle.mesh.specs.declared.View.{View}
 use Rattle.mesh.specs.Maintenance.{zeroScore}
-use Rattle.effects.specs.Effects.{magnitude, isMember}
+use Rattle.varint.specs.Codes.{magnitude}
+use Rattle.effects.specs.Effects.{isMember}
 use Rattle.rules.specs.Step.{pastSlack, isNegative, isCandidate, heightIn, degreesIn, viewIn}
 use Rattle.rules.proofs.HeartbeatLaws.{height-good}
 

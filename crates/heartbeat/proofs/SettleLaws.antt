@@ -86,7 +86,8 @@ as-settled :
     settledIf was stays negative t time end i u ≡ settleSlot st time t mesh i u
 unfolding settledIf grownIf settleSlot punished
 as-settled st u t time end i mesh was stays negative a b c d e =
-    same-settled u i t time end (endAfter time (pruneBackoff st)) was (isMember st t i) stays (at mesh i) negative (isNegative st i) (topicParamsIn u t) (topicParamsIn st t) a b c d e
+    same-settled u i t time end (endAfter time (pruneBackoff st)) was (isMember st t i) stays (at mesh i) negative (isNegative st i)
+    (topicParamsIn u t) (topicParamsIn st t) a b c d e
 
 -- a score below the number that stands for 0 is negative
 below-zero : (height : ℕ) (b : Bool) → leb zeroScore height ≡ not b → ltb height zeroScore ≡ b
@@ -168,7 +169,8 @@ module _
           size = l ∙ now .size;
           state =
               iter-more (settleSlot st time t mesh) st i (stateOf table) (stateOf table′) (now .state)
-              (e ∙ as-settled st (stateOf table) t time end i mesh was stays negative (ew ∙ as-was) es (en ∙ as-negative) as-params (walk .backoff));
+              (e ∙ as-settled st (stateOf table) t time end i mesh was stays negative (ew ∙ as-was) es (en ∙ as-negative) as-params
+              (walk .backoff));
         }
 
 pub settling-done :

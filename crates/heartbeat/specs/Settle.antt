@@ -1,5 +1,5 @@
--- One turn of the walk that writes a mesh back, from the state as it stands at that turn. The rules' own words, which go by the call's start,
--- are `settleSlot` of crate rules; that the two agree is proved (proofs/SettleLaws.antt).
+-- One turn of the walk that writes a mesh back, from the state as it stands at that turn. The rules' own words, which go by the call's
+-- start, are `settleSlot` of crate rules; that the two agree is proved (proofs/SettleLaws.antt).
 use Prim.Native.Nat.{ℕ, _<_}
 use mathlib.Core.Path.{_≡_}
 use mathlib.Core.Bool.{Bool, cond}
@@ -9,7 +9,7 @@ use Rattle.layout.specs.View.{stateOf}
 use Rattle.sets.specs.Sets.{bySlot}
 use Rattle.effects.specs.Effects.{onTopic, intoMesh, isMember, pruned, endAfter, pruneBackoff}
 use Rattle.rules.specs.Step.{heightIn}
-use Rattle.gate.specs.Ready.{Standing}
+use Rattle.peer_score.specs.Standing.{Standing}
 use Rattle.leaving.specs.Slots.{grownIf}
 
 -- slot s in topic t, from whether it was a member, whether it stays or comes in, and whether its score was negative

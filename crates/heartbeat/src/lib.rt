@@ -1,28 +1,24 @@
-// The heartbeat's work for one topic (01's tidy), one of 01's calls: what maintenance sees is taken from the table once, into arrays by slot;
-// crate mesh makes of it the meshes that the five steps leave; the last of them and the actions are written back once.
+// The heartbeat's work for one topic (01's tidy), one of 01's calls: what maintenance sees is taken from the table once, into arrays by
+// slot; crate mesh makes of it the meshes that the five steps leave; the last of them and the actions are written back once.
 pub mod scores;
 pub mod seen;
 pub mod settle;
 
 ghost use mathlib.Core.Path.{_≡_};
-ghost use mathlib.Core.Bool.{true};
-ghost use Prim.Native.Nat.{_≤_, _<_};
 ghost use lib.Dec.{leb};
-ghost use lib.ListN.{length};
-ghost use Rattle.records.specs.Records.{slotCount};
 ghost use Rattle.layout.specs.View.{stateOf};
-ghost use Rattle.sets.specs.Sets.{isPermutation};
 ghost use Rattle.rules.specs.Calls.{heartbeat as Calls·heartbeat};
-ghost use Rattle.rules.specs.Step.{heartbeatReply, maintainedReply, actionRoom};
+ghost use Rattle.rules.specs.Step.{heartbeatReply, maintainedReply};
 ghost use Rattle.rules.specs.Promise.{Gives, Follows};
-ghost use Rattle.gate.specs.Ready.{Ready};
+ghost use Rattle.gate.specs.Ready.{TopicLent};
+ghost use Rattle.heartbeat.specs.Ready.{Maintains};
 use crate::seen::degrees;
 use crate::seen::ids;
 use crate::seen::told;
 use crate::seen::view;
 use crate::settle::settle;
 use effects::slots::is_joined;
-use effects::slots::load_size;
+use effects::slots::load_magnitude;
 use effects::values::end_after;
 use gate::admit;
 use gate::ignore;
@@ -48,15 +44,16 @@ fn maintain_topic(
     order: [u64; SLOTS],
     actions: &mut [u32],
 ) -> Answer
-    requires { ⌜ Ready (now table) time × ((topic < 8) × ((actionRoom ≤ length (now actions)) × (isPermutation slotCount order ≡ true))) ⌝ }
-    ensures { λ r. ⌜ Gives (maintainedReply (stateOf (now (table .entry))) time topic ask order) r (now (table .entry)) (now (table .exit)) (now (actions .entry)) (now (actions .exit)) ⌝ }
+    requires { ⌜ Maintains (now table) (now actions) order time topic ⌝ }
+    ensures { λ r. ⌜ Gives (maintainedReply (stateOf (now (table .entry))) time topic ask order) r
+        (now (table .entry)) (now (table .exit)) (now (actions .entry)) (now (actions .exit)) ⌝ }
 {
     let v = view(table, time, topic, ask, order);
     let m = meshes(degrees(table), v);
     let members = v.members;
     let scores = v.scores;
     let mesh = m.fifth;
-    let seconds = load_size(table, param::PRUNE_BACKOFF);
+    let seconds = load_magnitude(table, param::PRUNE_BACKOFF);
     let n = write_actions(
         actions,
         changes(members, m),
@@ -85,8 +82,9 @@ fn heartbeat_from(
     permutation: &[u64],
     actions: &mut [u32],
 ) -> Answer
-    requires { ⌜ Ready (now table) time × ((topic < 8) × (actionRoom ≤ length (now actions))) ⌝ }
-    ensures { λ r. ⌜ Gives (heartbeatReply (stateOf (now (table .entry))) time topic ask (now (permutation .entry))) r (now (table .entry)) (now (table .exit)) (now (actions .entry)) (now (actions .exit)) ⌝ }
+    requires { ⌜ TopicLent (now table) (now actions) time topic ⌝ }
+    ensures { λ r. ⌜ Gives (heartbeatReply (stateOf (now (table .entry))) time topic ask (now (permutation .entry))) r
+        (now (table .entry)) (now (table .exit)) (now (actions .entry)) (now (actions .exit)) ⌝ }
 {
     if !is_permutation(permutation) {
         return Answer::NotPermutation;
@@ -113,7 +111,8 @@ pub fn heartbeat(
     permutation: &[u64],
     actions: &mut [u32],
 ) -> Answer
-    ensures { λ r. ⌜ Follows (Calls·heartbeat time topic ask (now (permutation .entry))) r (now (table .entry)) (now (table .exit)) (now (actions .entry)) (now (actions .exit)) ⌝ }
+    ensures { λ r. ⌜ Follows (Calls·heartbeat time topic ask (now (permutation .entry))) r
+        (now (table .entry)) (now (table .exit)) (now (actions .entry)) (now (actions .exit)) ⌝ }
 {
     let fine = time_ok(time) & (topic_ok(topic) & ask_ok(ask));
     match admit(table, fine, actions.len(), time) {

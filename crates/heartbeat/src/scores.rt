@@ -2,17 +2,18 @@
 // numbers side by side, so that several are compared at once.
 ghost use mathlib.Core.Path.{_≡_};
 ghost use mathlib.Core.Bool.{_&&_};
-ghost use Prim.Native.Nat.{_+_, _<_, _≤_};
+ghost use Prim.Native.Nat.{_+_};
 ghost use lib.Dec.{eqb};
 ghost use lib.ListN.{length, getD};
 ghost use Rattle.index.specs.Index.{count};
 ghost use Rattle.records.specs.Records.{slotCount, peerIn, isConnected};
 ghost use Rattle.layout.specs.View.{cellCount, stateOf};
 ghost use Rattle.score.specs.Sums.{sumOf};
-ghost use Rattle.score.specs.Score.{shareAt, sharing, scoreParamsIn};
+ghost use Rattle.score.specs.Score.{shareAt};
 ghost use Rattle.sets.specs.Sets.{at, bySlot};
 ghost use Rattle.rules.specs.Step.{heightIn};
-ghost use Rattle.gate.specs.Ready.{Standing};
+ghost use Rattle.peer_score.specs.Standing.{Standing};
+ghost use Rattle.heartbeat.specs.Ready.{SummedBelow, MadeOf};
 use peer_score::load_general;
 use peer_score::load_params;
 use records::SLOTS;
@@ -62,7 +63,7 @@ fn sharing_of(connected: &[bool; SLOTS], groups: &[u32; SLOTS], group: u32) -> u
 
 // The sums of the topics before this one, with its shares.
 fn add_topic(table: &[u64], topic: usize, before: [Balance; SLOTS]) -> [Balance; SLOTS]
-    requires { ⌜ Standing (now table) × ((topic < 8) × (before ≡ bySlot slotCount (λ s. sumOf topic (shareAt (stateOf (now table)) s)))) ⌝ }
+    requires { ⌜ SummedBelow (now table) topic before ⌝ }
     ensures { λ r. ⌜ r ≡ bySlot slotCount (λ s. sumOf (topic + 1) (shareAt (stateOf (now (table .entry))) s)) ⌝ }
 {
     let params = load_params(table, topic);
@@ -92,7 +93,7 @@ fn topics(table: &[u64]) -> [Balance; SLOTS]
 
 // The score of the peer in a slot, moved up so that none is negative.
 fn height(table: &[u64], slot: usize, g: ScoreParams, topics: Balance, together: u64) -> u64
-    requires { ⌜ Standing (now table) × ((slot < slotCount) × ((g ≡ scoreParamsIn (stateOf (now table))) × ((topics ≡ sumOf 8 (shareAt (stateOf (now table)) slot)) × (together ≡ sharing (stateOf (now table)) (peerIn (stateOf (now table)) slot .group))))) ⌝ }
+    requires { ⌜ MadeOf (now table) slot g topics together ⌝ }
     ensures { λ r. ⌜ r ≡ heightIn (stateOf (now (table .entry))) slot ⌝ }
 {
     let p = layout::load_peer(table, slot);

@@ -1,6 +1,5 @@
 // What maintenance sees of a table, by slot, and the numbers of the peers that its actions name. Everything is as at the call's start.
 ghost use mathlib.Core.Path.{_≡_};
-ghost use Prim.Native.Nat.{_<_};
 ghost use mathlib.Core.Bool.{cond};
 ghost use lib.Dec.{eqb};
 ghost use lib.ListN.{length};
@@ -8,11 +7,13 @@ ghost use Rattle.records.specs.Records.{slotCount, peerIn};
 ghost use Rattle.layout.specs.View.{cellCount, stateOf};
 ghost use Rattle.sets.specs.Sets.{bySlot};
 ghost use Rattle.effects.specs.Effects.{isMember};
-ghost use Rattle.rules.specs.Step.{pastSlack, isCandidate, heightIn, degreesIn, viewIn};
-ghost use Rattle.gate.specs.Ready.{Standing};
+ghost use Rattle.effects.specs.Lent.{AtTopic};
+ghost use Rattle.rules.specs.Step.{pastSlack, isCandidate, degreesIn, viewIn};
+ghost use Rattle.peer_score.specs.Standing.{Standing, TopicStanding};
+ghost use Rattle.heartbeat.specs.Ready.{ScoredAt, ScoredAll};
 use crate::scores::scores;
 use effects::slots::is_member;
-use effects::slots::load_size;
+use effects::slots::load_magnitude;
 use mesh::Degrees;
 use mesh::View;
 use mesh::ZERO_SCORE;
@@ -21,7 +22,7 @@ use records::param;
 
 // The members of a topic's mesh.
 pub fn members(table: &[u64], topic: usize) -> [bool; SLOTS]
-    requires { ⌜ (length (now table) ≡ cellCount) × (topic < 8) ⌝ }
+    requires { ⌜ AtTopic (now table) topic ⌝ }
     ensures { λ r. ⌜ r ≡ bySlot slotCount (isMember (stateOf (now (table .entry))) topic) ⌝ }
 {
     let mut r = [false; SLOTS];
@@ -62,7 +63,7 @@ fn past_slack(end: u64, time: u64) -> bool
 
 // Whether the peer in a slot, with this score, may be grafted.
 pub fn is_candidate(table: &[u64], time: u64, topic: usize, slot: usize, score: u64) -> bool
-    requires { ⌜ Standing (now table) × ((topic < 8) × ((slot < slotCount) × (score ≡ heightIn (stateOf (now table)) slot))) ⌝ }
+    requires { ⌜ ScoredAt (now table) topic slot score ⌝ }
     ensures { λ r. ⌜ r ≡ isCandidate (stateOf (now (table .entry))) time topic slot ⌝ }
 {
     let p = layout::load_peer(table, slot);
@@ -75,7 +76,7 @@ pub fn is_candidate(table: &[u64], time: u64, topic: usize, slot: usize, score: 
 
 // The candidates of a topic.
 pub fn candidates(table: &[u64], time: u64, topic: usize, scores: [u64; SLOTS]) -> [bool; SLOTS]
-    requires { ⌜ Standing (now table) × ((topic < 8) × (scores ≡ bySlot slotCount (heightIn (stateOf (now table))))) ⌝ }
+    requires { ⌜ ScoredAll (now table) scores topic ⌝ }
     ensures { λ r. ⌜ r ≡ bySlot slotCount (isCandidate (stateOf (now (table .entry))) time topic) ⌝ }
 {
     let mut r = [false; SLOTS];
@@ -118,18 +119,18 @@ pub fn degrees(table: &[u64]) -> Degrees
     ensures { λ r. ⌜ r ≡ degreesIn (stateOf (now (table .entry))) ⌝ }
 {
     Degrees {
-        lo: load_size(table, param::D_LO),
-        d: load_size(table, param::D),
-        hi: load_size(table, param::D_HI),
-        out: load_size(table, param::D_OUT),
-        score: load_size(table, param::D_SCORE),
-        threshold: ZERO_SCORE + load_size(table, param::OPPORTUNISTIC_THRESHOLD) * 1000000,
+        lo: load_magnitude(table, param::D_LO),
+        d: load_magnitude(table, param::D),
+        hi: load_magnitude(table, param::D_HI),
+        out: load_magnitude(table, param::D_OUT),
+        score: load_magnitude(table, param::D_SCORE),
+        threshold: ZERO_SCORE + load_magnitude(table, param::OPPORTUNISTIC_THRESHOLD) * 1000000,
     }
 }
 
 // All that maintenance sees.
 pub fn view(table: &[u64], time: u64, topic: usize, ask: u64, order: [u64; SLOTS]) -> View
-    requires { ⌜ Standing (now table) × (topic < 8) ⌝ }
+    requires { ⌜ TopicStanding (now table) topic ⌝ }
     ensures { λ r. ⌜ r ≡ viewIn (stateOf (now (table .entry))) time topic ask order ⌝ }
 {
     let heights = scores(table);

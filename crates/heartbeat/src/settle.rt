@@ -49,7 +49,8 @@ pub fn settle(
     scores: [u64; SLOTS],
 )
     requires { ⌜ Settle (now table) topic time end members scores ⌝ }
-    ensures { λ r. ⌜ stateOf (now (table .exit)) ≡ iter slotCount (settleSlot (stateOf (now (table .entry))) time topic mesh) (stateOf (now (table .entry))) ⌝ }
+    ensures { λ r. ⌜ stateOf (now (table .exit))
+        ≡ iter slotCount (settleSlot (stateOf (now (table .entry))) time topic mesh) (stateOf (now (table .entry))) ⌝ }
 {
     let mut slot: usize = 0;
     while slot < SLOTS {

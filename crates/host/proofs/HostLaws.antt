@@ -2,36 +2,38 @@
 -- Assumes nothing.
 use Prim.Native.Nat.{ℕ, _≤_}
 use mathlib.Core.Path.{_≡_, refl, sym, ap, _∙_}
-use mathlib.Core.List.{List, [], _∷_}
+use mathlib.Core.Bool.{false}
+use mathlib.Core.List.{List}
 use native.Mathlib.Omega.{arith}
 use lib.ListN.{length}
 use lib.IntN.{ℤ}
-use denote.Enum.Declared.{tagOf}
-use types.Run.{OneOf, miss}
+use Rattle.records.specs.Records.{paramCount}
 use Rattle.layout.specs.View.{stateOf}
 use Rattle.index.specs.declared.Found.{Found}
 use Rattle.index.specs.declared.Found.the-variants.{At, Nothing}
 use Rattle.params_bytes.specs.declared.Reading.{Reading}
 use Rattle.params_bytes.specs.declared.Verdict.{Verdict}
 use Rattle.params_bytes.specs.declared.Written.{Written}
-use Rattle.params.specs.Check.{firstBroken}
+use Rattle.params.specs.declared.Edition.{Edition}
+use Rattle.params.specs.declared.Numbered.{Numbered}
+use Rattle.params.specs.declared.Numbered.the-variants.{Known, Unknown}
+use Rattle.params.specs.declared.Params.{Params}
+use Rattle.params.specs.Editions.{editionNumber, editionOf}
+use Rattle.params.specs.Check.{firstBroken, isNothing}
 use Rattle.params_bytes.specs.Read.{readOf, verdictNumber, verdictValue}
 use Rattle.params_bytes.specs.Write.{writeOf, writtenNumber, writtenValue}
 use Rattle.params.proofs.CheckLaws.{broken-most}
 use Rattle.params_bytes.proofs.PlaceLaws.{read-most, write-most}
 use Rattle.params_bytes.proofs.WriteLaws.{Wrote}
 use Rattle.lookup.specs.declared.Made.{Made}
-use Rattle.lookup.specs.declared.Made.the-variants.{Broken}
 use Rattle.lookup.specs.Fresh.{madeOf, madeNumber, madeValue, Makes}
 use Rattle.rules.specs.declared.Answer.{Answer}
-use Rattle.rules.specs.declared.Answer.the-variants.{Done, Scored, Early, OutOfRange, NotConnected, AlreadyConnected, NoSlot, UnknownProtocol, NotPermutation, ListShort, Ignored, NotRouter}
-use Rattle.rules.specs.Reply.{actionsOf, refuses}
+use Rattle.rules.specs.Reply.{refuses}
 use Rattle.rules.specs.Calls.{Call}
 use Rattle.rules.specs.Step.{step}
 use Rattle.rules.specs.Promise.{Follows}
-use Rattle.rules.proofs.Answer.{the-type}
 use Rattle.answers.specs.Answers.{packed, answerCode, whyOr}
-use Rattle.host.specs.Host.{Hosts, numbersOr, HostsRead, HostsWrite, HostsFresh}
+use Rattle.host.specs.Host.{Hosts, numbersOr, editionOr, HostsRead, HostsWrite, HostsFresh}
 
 -- ---- the thirteen calls
 module _ (c : Call) {a : Answer} {table table′ list list′ : List ℕ} (f : Follows c a table table′ list list′) where
@@ -56,50 +58,75 @@ module _ (bytes : List ℕ) (q : Reading) (v : Verdict) (e : q ≡ readOf bytes)
   read-fits = omega (arith, ap verdictValue verdict-is, read-most bytes)
 
   pub hosts-read :
-      (r : ℕ) (lent lent′ : List ℤ) →
+      (r : ℕ) (lent lent′ : List ℤ) (stood left : ℕ) →
       r ≡ packed (verdictNumber v) (verdictValue v) →
       lent′ ≡ numbersOr v (q .params .numbers) lent →
-      HostsRead bytes r lent lent′
-  hosts-read r lent lent′ p n =
+      left ≡ editionOr v (editionNumber (q .params .edition)) stood →
+      HostsRead bytes r lent lent′ stood left
+  hosts-read r lent lent′ stood left p n d =
       record {
         answer = p ∙ ap (λ (x : Verdict). packed (verdictNumber x) (verdictValue x)) verdict-is;
         numbers =
             n
             ∙ ap (λ (x : Verdict). numbersOr x (q .params .numbers) lent) verdict-is
             ∙ ap (λ (x : Reading). numbersOr (readOf bytes .verdict) (x .params .numbers) lent) e;
+        edition =
+            d
+            ∙ ap (λ (x : Verdict). editionOr x (editionNumber (q .params .edition)) stood) verdict-is
+            ∙ ap (λ (x : Reading). editionOr (readOf bytes .verdict) (editionNumber (x .params .edition)) stood) e;
       }
 
 -- ---- writing
-module _ (numbers : List ℤ) (buf buf′ : List ℕ) (w v : Written) (e : Wrote numbers buf w buf′) (t : w ≡ v) where
-  written-is : v ≡ writeOf numbers buf .answer
+module _ (p : Params) (buf buf′ : List ℕ) (w v : Written) (e : Wrote p buf w buf′) (t : w ≡ v) where
+  written-is : v ≡ writeOf p buf .answer
   written-is = sym t ∙ e .0
 
-  pub write-fits : length numbers ≡ 147 → writtenValue v ≤ 4294967295
-  write-fits l = omega (arith, ap writtenValue written-is, write-most numbers buf l)
+  pub write-fits : length (p .numbers) ≡ paramCount → writtenValue v ≤ 4294967295
+  write-fits l = omega (arith, ap writtenValue written-is, write-most p buf l)
 
-  pub hosts-write : (r : ℕ) → r ≡ packed (writtenNumber v) (writtenValue v) → HostsWrite numbers r buf buf′
-  hosts-write r p =
+  pub hosts-write : (r : ℕ) → r ≡ packed (writtenNumber v) (writtenValue v) → HostsWrite (Known (p .edition)) (p .numbers) r buf buf′
+  hosts-write r q =
       record {
-        answer = p ∙ ap (λ (x : Written). packed (writtenNumber x) (writtenValue x)) written-is;
+        answer = q ∙ ap (λ (x : Written). packed (writtenNumber x) (writtenValue x)) written-is;
         bytes = e .1;
       }
 
+-- the edition that a number told, or none
+module _ (n : ℕ) (m : Numbered) (e : m ≡ editionOf n) (xs : List ℤ) where
+  pub write-known : (d : Edition) (r : ℕ) (buf buf′ : List ℕ) → m ≡ Known d → HostsWrite (Known d) xs r buf buf′ →
+      HostsWrite (editionOf n) xs r buf buf′
+  write-known d r buf buf′ t h = rw (← e, t) h
+
+  pub write-unknown : (r : ℕ) (buf : List ℕ) → m ≡ Unknown → r ≡ packed 2 0 → HostsWrite (editionOf n) xs r buf buf
+  write-unknown r buf t q = rw (← e, t) (record { answer = q; bytes = refl })
+
+  pub fresh-known : (d : Edition) (r : ℕ) (table table′ : List ℕ) → m ≡ Known d → HostsFresh (Known d) xs r table table′ →
+      HostsFresh (editionOf n) xs r table table′
+  fresh-known d r table table′ t h = rw (← e, t) h
+
+  pub fresh-unknown : (r : ℕ) (table : List ℕ) → m ≡ Unknown → r ≡ packed 2 0 → HostsFresh (editionOf n) xs r table table
+  fresh-unknown r table t q = rw (← e, t) (record { answer = q; state = refl; kept = λ f. refl })
+
 -- ---- a fresh router
-module _ (numbers : List ℤ) (m v : Made) (table table′ : List ℕ) (k : Makes numbers m table table′) (t : m ≡ v) where
-  made-is : v ≡ madeOf (firstBroken numbers)
+module _ (p : Params) (m v : Made) (table table′ : List ℕ) (k : Makes p m table table′) (t : m ≡ v) where
+  made-is : v ≡ madeOf (firstBroken p)
   made-is = sym t ∙ k .answer
 
   pub fresh-fits : madeValue v ≤ 4294967295
-  fresh-fits = omega (arith, ap madeValue made-is, small (firstBroken numbers) refl)
+  fresh-fits = omega (arith, ap madeValue made-is, small (firstBroken p) refl)
     where
-      small : (f : Found) → firstBroken numbers ≡ f → madeValue (madeOf f) ≤ 207
-      small (At i) e = broken-most numbers i e
+      small : (f : Found) → firstBroken p ≡ f → madeValue (madeOf f) ≤ 207
+      small (At i) e = broken-most p i e
       small Nothing e = omega arith
 
-  pub hosts-fresh : (r : ℕ) → r ≡ packed (madeNumber v) (madeValue v) → HostsFresh numbers r table table′
-  hosts-fresh r p =
+  pub hosts-fresh : (r : ℕ) → r ≡ packed (madeNumber v) (madeValue v) → HostsFresh (Known (p .edition)) (p .numbers) r table table′
+  hosts-fresh r q =
       record {
-        answer = p ∙ ap (λ (x : Made). packed (madeNumber x) (madeValue x)) made-is;
+        answer = q ∙ ap (λ (x : Made). packed (madeNumber x) (madeValue x)) made-is;
         state = k .state;
-        kept = λ i f. k .kept i (k .answer ∙ ap madeOf f);
+        kept = λ f. stood (firstBroken p) f refl;
       }
+    where
+      stood : (f : Found) → isNothing f ≡ false → firstBroken p ≡ f → table′ ≡ table
+      stood (At i) h e = k .kept i (k .answer ∙ ap madeOf e)
+      stood Nothing h e = let z : _≡_ {A = ℕ} 0 1 = cc in absurd (omega arith)

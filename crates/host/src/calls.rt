@@ -1,9 +1,11 @@
 // 01's thirteen calls. Each takes the table, a time, its arguments and a lent action list; what comes back is one number.
 ghost use mathlib.Core.Path.{_≡_};
-ghost use Prim.Native.Nat.{_≤_};
 ghost use lib.ListN.{length};
 ghost use Rattle.layout.specs.View.{stateOf};
-ghost use Rattle.rules.specs.Calls.{connect as Calls·connect, decay as Calls·decay, deliver as Calls·deliver, disconnect as Calls·disconnect, graft as Calls·graft, heartbeat as Calls·heartbeat, join as Calls·join, leave as Calls·leave, prune as Calls·prune, rate as Calls·rate, score as Calls·score, subscribe as Calls·subscribe, unsubscribe as Calls·unsubscribe};
+ghost use Rattle.rules.specs.Calls.{connect as Calls·connect, decay as Calls·decay, deliver as Calls·deliver};
+ghost use Rattle.rules.specs.Calls.{disconnect as Calls·disconnect, graft as Calls·graft, heartbeat as Calls·heartbeat, join as Calls·join};
+ghost use Rattle.rules.specs.Calls.{leave as Calls·leave, prune as Calls·prune, rate as Calls·rate, score as Calls·score};
+ghost use Rattle.rules.specs.Calls.{subscribe as Calls·subscribe, unsubscribe as Calls·unsubscribe};
 ghost use Rattle.rules.specs.Step.{step};
 ghost use Rattle.answers.specs.Answers.{whyOr as whyOrOf};
 ghost use Rattle.host.specs.Host.{HostsLent};
@@ -175,8 +177,8 @@ pub extern "C" fn hivepadlet_decay(table: &mut [u64; CELLS], time: u64, actions:
     code(router::decay(table, time, actions))
 }
 
-// The score of a peer through six lent numbers, which stand where the call is refused: the topics' total before its cap and after it, the parts
-// of P5, P6 and P7, and the score, which the last four of these add up to.
+// The score of a peer through six lent numbers, which stand where the call is refused: the topics' total before its cap and after it, the
+// parts of P5, P6 and P7, and the score, which the last four of these add up to.
 #[no_mangle]
 pub extern "C" fn hivepadlet_score(
     table: &mut [u64; CELLS],
@@ -185,7 +187,10 @@ pub extern "C" fn hivepadlet_score(
     why: &mut [i64; 6],
     actions: &mut [u32],
 ) -> u64
-    ensures { λ r. ⌜ HostsLent (Calls·score time id) r table actions × (now (why .exit) ≡ whyOrOf (step (stateOf (now (table .entry))) (Calls·score time id) (length (now (actions .entry))) .answer) (now (why .entry))) ⌝ }
+    ensures { λ r. ⌜ HostsLent (Calls·score time id) r table actions
+        × (now (why .exit)
+        ≡ whyOrOf (step (stateOf (now (table .entry))) (Calls·score time id) (length (now (actions .entry))) .answer)
+        (now (why .entry))) ⌝ }
 {
     let a = router::score(table, time, id, actions);
     let stood = *why;

@@ -6,19 +6,22 @@ use Prim.Native.Nat.{ℕ}
 use native.Mathlib.Omega.{arith}
 use mathlib.Core.Path.{_≡_, refl, ap, _∙_}
 use mathlib.Core.List.{List, [], _∷_, map}
-use lib.IntN.{ℤ}
 use lib.ListN.{length}
 use lib.Seq.{sets}
 use Rattle.index.specs.declared.Found.{Found}
 use Rattle.index.specs.declared.Found.the-variants.{At, Nothing}
+use Rattle.params.specs.declared.Params.{Params}
+use Rattle.params.specs.declared.Numbered.the-variants.{Known}
 use Rattle.params.specs.Check.{firstBroken}
+use Rattle.params.proofs.CheckLaws.{edition-back}
 use Rattle.records.specs.Records.{State}
 use Rattle.layout.specs.View.{stateOf}
-use Rattle.lookup.specs.Fresh.{madeOf, madeNumber, madeValue}
+use Rattle.lookup.specs.Fresh.{madeOf, leftBy, madeNumber, madeValue}
 use Rattle.effects.specs.Actions.{numbersOf}
 use Rattle.answers.specs.Answers.{packed, answerCode, whyOr}
 use Rattle.rules.specs.Calls.{score}
 use Rattle.rules.specs.Step.{step}
+use Rattle.host.specs.Host.{HostsFresh}
 use Rattle.call_lists.specs.Lists.{after}
 use Rattle.call_lists.proofs.Demand3.{demand3}
 use Rattle.host_lists.specs.Hosted.{HostCall, made, Hosted, SameNumbers, EveryHostAgrees, EveryScoreAgrees}
@@ -28,15 +31,23 @@ passes : (f : Found) → 0 ≡ packed (madeNumber (madeOf f)) (madeValue (madeOf
 passes (At i) e = absurd (omega (arith, e))
 passes Nothing e = refl
 
-module _ (params : List ℤ) where
+module _ (params : Params) where
+  -- the edition of the number that was called is the parameters'
+  made-fresh : (table : List ℕ) → Hosted params [] table → (was : List ℕ)
+      × HostsFresh (Known (params .edition)) (params .numbers) 0 was table
+  unfolding Hosted
+  made-fresh table p = rw (edition-back (params .edition)) at p
+
   accepted : (calls : List HostCall) (table : List ℕ) → Hosted params calls table → firstBroken params ≡ Nothing
   unfolding Hosted
-  accepted [] table p = passes (firstBroken params) (p .1 .answer)
+  accepted [] table p = passes (firstBroken params) (made-fresh table p .1 .answer)
   accepted (c ∷ before) table p = accepted before (p .0) (p .1)
 
   same-state : (calls : List HostCall) (table : List ℕ) → Hosted params calls table → stateOf table ≡ after params (map made calls)
   unfolding Hosted after
-  same-state [] table p = rw (passes (firstBroken params) (p .1 .answer)) at (p .1 .state)
+  same-state [] table p =
+      let q = made-fresh table p .1 in
+      q .state ∙ ap (λ (f : Found). leftBy f params (stateOf (made-fresh table p .0))) (passes (firstBroken params) (q .answer))
   same-state (c ∷ before) table p =
       p .2 .state
       ∙ ap (λ (st : State). step st (c .call) (length (c .list)) .state) (same-state before (p .0) (p .1))

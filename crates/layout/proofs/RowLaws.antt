@@ -9,7 +9,8 @@ use native.Mathlib.Numerals.{add-one}
 use native.Mathlib.Omega.{arith}
 use native.Mathlib.Decide.{decLt}
 use lib.ListN.{length, getD, set, take, drop, replicate, length-append, length-drop, List·getD-append}
-use lib.Seq.{sets, sets-eq, take-length, paste-zero, drop-drop, take-append-seam, drop-append-add, paste, length-paste, length-paste-head, getD-take, getD-drop, getD-append-add, length-take-le, set-split, append-snoc}
+use lib.Seq.{length-paste-head}
+use lib.Seq.{getD-take, getD-drop, getD-append-add, length-take-le, set-split, append-snoc}
 use Rattle.layout.specs.Rows.{tab, span, put, rows, joins}
 
 -- ---- a table made by index
@@ -44,10 +45,6 @@ tab-getD [] d = refl
 tab-getD (x ∷ xs) d = ap (λ r. x ∷ r) (tab-getD xs d)
 
 -- ---- a store of a run
-
-pub length-put : (cells : List ℕ) (at : ℕ) (vs : List ℕ) → at + length vs ≤ length cells → length (put cells at vs) ≡ length cells
-unfolding put
-length-put cells at vs h = length-paste cells at vs (length vs) h (omega arith)
 
 module _ (cells : List ℕ) (at : ℕ) (vs : List ℕ) (fits : at + length vs ≤ length cells) where
   head-length : length (take at cells ++ take (length vs) vs) ≡ at + length vs
@@ -162,7 +159,8 @@ unfolding rows
 rows-put-cell cells o w n i j v h l fits =
     let b : i * w + w ≤ n * w = stride i n w h in
     let f : (o + i * w + j) + length (v ∷ []) ≤ length cells = omega arith in
-    tab-set n (λ k. span cells (o + k * w) w) (λ k. span (put cells (o + i * w + j) (v ∷ [])) (o + k * w) w) i (set (span cells (o + i * w) w) j v)
+    tab-set n (λ k. span cells (o + k * w) w) (λ k. span (put cells (o + i * w + j) (v ∷ [])) (o + k * w) w) i
+    (set (span cells (o + i * w) w) j v)
     (span-put-one cells (o + i * w) w j v l (omega arith))
     (λ k hk ne. elim (decLt k i) [
       | yes m ↦ span-put-before cells (o + i * w + j) (v ∷ []) f (o + k * w) w (omega (arith, stride k i w m))
@@ -185,32 +183,6 @@ rows-put-after cells o w n at vs f h =
     (λ k b. span-put-after cells at vs f (o + k * w) w (omega arith))
 
 -- ---- a run written in stores, and in parts
-
-pub put-sets : (l : List ℕ) (at : ℕ) (vs : List ℕ) → at + length vs ≤ length l → sets l at vs ≡ put l at vs
-unfolding put
-put-sets l at vs h = sets-eq vs l at h ∙ ap (λ r. take at l ++ r ++ drop (at + length vs) l) (sym (take-length vs))
-
-pub put-nil : (l : List ℕ) (at : ℕ) → put l at [] ≡ l
-unfolding put
-put-nil l at = sym (paste-zero l at [])
-
-pub put-front : (l xs : List ℕ) → put l 0 xs ≡ xs ++ drop (length xs) l
-unfolding put
-put-front l xs = ap (λ r. r ++ drop (0 + length xs) l) (take-length xs) ∙ ap (λ n. xs ++ drop n l) (zero-add (length xs))
-
-cut-at : (xs ys r : List ℕ) → put (xs ++ r) (length xs) ys ≡ (xs ++ ys) ++ drop (length ys) r
-unfolding put
-cut-at xs ys r =
-    ap (λ a. a ++ take (length ys) ys ++ drop (length xs + length ys) (xs ++ r)) (take-append-seam xs r)
-    ∙ ap (λ a. xs ++ a ++ drop (length xs + length ys) (xs ++ r)) (take-length ys)
-    ∙ ap (λ a. xs ++ ys ++ a) (drop-append-add xs r (length ys))
-
--- what is written after a front goes on the front
-pub put-append : (l xs ys : List ℕ) → put (put l 0 xs) (length xs) ys ≡ put l 0 (xs ++ ys)
-put-append l xs ys =
-    ap (λ m. put m (length xs) ys) (put-front l xs) ∙ cut-at xs ys (drop (length xs) l)
-    ∙ ap (λ r. (xs ++ ys) ++ r) (drop-drop (length ys) (length xs) l ∙ ap (λ n. drop n l) (sym (length-append xs ys)))
-    ∙ sym (put-front l (xs ++ ys))
 
 -- ---- runs of two lists, one after the other
 

@@ -1,29 +1,23 @@
 -- Laws of the state alone: what each reader sees after each store, sizes, and stores that change nothing.
 -- Assumes nothing.
-use Prim.Native.Nat.{ℕ, zero, suc, _+_, _<_}
-use mathlib.Core.Path.{_≡_, refl, sym, ap, _∙_}
+use Prim.Native.Nat.{ℕ, zero, suc, _<_}
+use mathlib.Core.Path.{_≡_, refl, ap, _∙_}
 use mathlib.Core.Logic.{_≢_}
 use mathlib.Core.List.{List, [], _∷_, map}
-use lib.ListN.{length, getD, set, length-set, length-map, List·getD-map}
-use lib.Seq.{getD-set-same, getD-set-other, set-getD, set-set, set-comm}
+use lib.ListN.{length, getD, length-set, length-map}
+use lib.Seq.{getD-set-same, getD-set-other, set-getD}
 use Rattle.index.proofs.Lists.{set-case}
 use Rattle.records.specs.declared.Peer.{Peer}
 use Rattle.records.specs.declared.TopicRecord.{TopicRecord}
-use Rattle.records.specs.Records.{State, noPeer, noTopic, joinedIn, codeIn, peerIn, topicIn, setClock, setJoined, setPeer, setTopic, slotCount, topicCount, paramCount}
+use Rattle.records.specs.Records.{State, noPeer, noTopic, joinedIn, codeIn, peerIn, topicIn, setClock, setJoined, setPeer, setTopic}
+use Rattle.records.specs.Records.{slotCount, topicCount, paramCount}
 use Rattle.layout.specs.Rows.{rows}
-use Rattle.layout.specs.View.{joinedAt, codesAt, peersAt, peerCells, topicsAt, topicCells, placeCount, peerOf, topicOf, stateOf, Sized}
+use Rattle.layout.specs.View.{joinedAt, codesAt, peersAt, peerCells, topicsAt, topicCells, placeCount, peerOf, topicOf, stateOf}
+use Rattle.layout.specs.View.{Sized}
 use Rattle.layout.proofs.RowLaws.{length-rows, length-span}
 
 module _ (st : State) where
   -- ---- the place that was stored
-
-  pub clock-same : (n : ℕ) → setClock st n .clock ≡ n
-  unfolding setClock
-  clock-same n = refl
-
-  pub joined-same : (t b : ℕ) → t < length (st .joined) → joinedIn (setJoined st t b) t ≡ b
-  unfolding joinedIn setJoined
-  joined-same t b h = getD-set-same (st .joined) t b 0 h
 
   pub peer-same : (s : ℕ) (p : Peer) → s < length (st .peers) → peerIn (setPeer st s p) s ≡ p
   unfolding peerIn setPeer
@@ -34,10 +28,6 @@ module _ (st : State) where
   topic-same k t h = getD-set-same (st .topics) k t noTopic h
 
   -- ---- another place of the same kind
-
-  pub joined-other : (t b u : ℕ) → u ≢ t → joinedIn (setJoined st t b) u ≡ joinedIn st u
-  unfolding joinedIn setJoined
-  joined-other t b u h = getD-set-other (st .joined) t u b 0 h
 
   pub peer-other : (s : ℕ) (p : Peer) (u : ℕ) → u ≢ s → peerIn (setPeer st s p) u ≡ peerIn st u
   unfolding peerIn setPeer
@@ -75,25 +65,13 @@ module _ (st : State) where
 
   -- ---- another kind of place: READER-after-STORE
 
-  pub clock-after-joined : (t b : ℕ) → setJoined st t b .clock ≡ st .clock
-  unfolding setJoined
-  clock-after-joined t b = refl
-
   pub clock-after-peer : (s : ℕ) (p : Peer) → setPeer st s p .clock ≡ st .clock
   unfolding setPeer
   clock-after-peer s p = refl
 
-  pub clock-after-topic : (k : ℕ) (t : TopicRecord) → setTopic st k t .clock ≡ st .clock
-  unfolding setTopic
-  clock-after-topic k t = refl
-
   pub codes-after-clock : (n : ℕ) → setClock st n .codes ≡ st .codes
   unfolding setClock
   codes-after-clock n = refl
-
-  pub codes-after-joined : (t b : ℕ) → setJoined st t b .codes ≡ st .codes
-  unfolding setJoined
-  codes-after-joined t b = refl
 
   pub codes-after-peer : (s : ℕ) (p : Peer) → setPeer st s p .codes ≡ st .codes
   unfolding setPeer
@@ -102,6 +80,18 @@ module _ (st : State) where
   pub codes-after-topic : (k : ℕ) (t : TopicRecord) → setTopic st k t .codes ≡ st .codes
   unfolding setTopic
   codes-after-topic k t = refl
+
+  pub setup-after-clock : (n : ℕ) → setClock st n .setup ≡ st .setup
+  unfolding setClock
+  setup-after-clock n = refl
+
+  pub setup-after-peer : (s : ℕ) (p : Peer) → setPeer st s p .setup ≡ st .setup
+  unfolding setPeer
+  setup-after-peer s p = refl
+
+  pub setup-after-topic : (k : ℕ) (t : TopicRecord) → setTopic st k t .setup ≡ st .setup
+  unfolding setTopic
+  setup-after-topic k t = refl
 
   pub joined-after-clock : (n : ℕ) (x : ℕ) → joinedIn (setClock st n) x ≡ joinedIn st x
   unfolding joinedIn setClock
@@ -118,10 +108,6 @@ module _ (st : State) where
   pub code-after-clock : (n : ℕ) (x : ℕ) → codeIn (setClock st n) x ≡ codeIn st x
   unfolding codeIn setClock
   code-after-clock n x = refl
-
-  pub code-after-joined : (t b : ℕ) (x : ℕ) → codeIn (setJoined st t b) x ≡ codeIn st x
-  unfolding codeIn setJoined
-  code-after-joined t b x = refl
 
   pub code-after-peer : (s : ℕ) (p : Peer) (x : ℕ) → codeIn (setPeer st s p) x ≡ codeIn st x
   unfolding codeIn setPeer
@@ -157,75 +143,15 @@ module _ (st : State) where
 
   -- ---- a store of what is there, and a second store
 
-  pub clock-again : setClock st (st .clock) ≡ st
-  unfolding setClock
-  clock-again = refl
-
-  pub joined-again : (t : ℕ) → setJoined st t (joinedIn st t) ≡ st
-  unfolding setJoined joinedIn
-  joined-again t =
-      ap
-      (λ (l : List ℕ). record { clock = st .clock; joined = l; codes = st .codes; peers = st .peers; topics = st .topics })
-      (set-getD (st .joined) t 0)
-
-  pub peer-again : (s : ℕ) → setPeer st s (peerIn st s) ≡ st
-  unfolding setPeer peerIn
-  peer-again s =
-      ap
-      (λ (l : List Peer). record { clock = st .clock; joined = st .joined; codes = st .codes; peers = l; topics = st .topics })
-      (set-getD (st .peers) s noPeer)
-
   pub topic-again : (k : ℕ) → setTopic st k (topicIn st k) ≡ st
   unfolding setTopic topicIn
   topic-again k =
       ap
-      (λ (l : List TopicRecord). record { clock = st .clock; joined = st .joined; codes = st .codes; peers = st .peers; topics = l })
+      (λ (l : List TopicRecord). record
+      { clock = st .clock; joined = st .joined; codes = st .codes; setup = st .setup; peers = st .peers; topics = l })
       (set-getD (st .topics) k noTopic)
 
-  pub clock-twice : (m n : ℕ) → setClock (setClock st m) n ≡ setClock st n
-  unfolding setClock
-  clock-twice m n = refl
-
-  pub peer-twice : (s : ℕ) (p q : Peer) → setPeer (setPeer st s p) s q ≡ setPeer st s q
-  unfolding setPeer
-  peer-twice s p q =
-      ap
-      (λ (l : List Peer). record { clock = st .clock; joined = st .joined; codes = st .codes; peers = l; topics = st .topics })
-      (set-set (st .peers) s p q)
-
-  pub topic-twice : (k : ℕ) (t u : TopicRecord) → setTopic (setTopic st k t) k u ≡ setTopic st k u
-  unfolding setTopic
-  topic-twice k t u =
-      ap
-      (λ (l : List TopicRecord). record { clock = st .clock; joined = st .joined; codes = st .codes; peers = st .peers; topics = l })
-      (set-set (st .topics) k t u)
-
   -- ---- the order of two stores of different kinds does not matter
-
-  pub clock-joined : (n t b : ℕ) → setClock (setJoined st t b) n ≡ setJoined (setClock st n) t b
-  unfolding setClock setJoined
-  clock-joined n t b = refl
-
-  pub clock-peer : (n s : ℕ) (p : Peer) → setClock (setPeer st s p) n ≡ setPeer (setClock st n) s p
-  unfolding setClock setPeer
-  clock-peer n s p = refl
-
-  pub clock-topic : (n k : ℕ) (t : TopicRecord) → setClock (setTopic st k t) n ≡ setTopic (setClock st n) k t
-  unfolding setClock setTopic
-  clock-topic n k t = refl
-
-  pub joined-peer : (u b s : ℕ) (p : Peer) → setJoined (setPeer st s p) u b ≡ setPeer (setJoined st u b) s p
-  unfolding setJoined setPeer
-  joined-peer u b s p = refl
-
-  pub joined-topic : (u b k : ℕ) (t : TopicRecord) → setJoined (setTopic st k t) u b ≡ setTopic (setJoined st u b) k t
-  unfolding setJoined setTopic
-  joined-topic u b k t = refl
-
-  pub peer-topic :
-      (s : ℕ) (p : Peer) (k : ℕ) (t : TopicRecord) → setPeer (setTopic st k t) s p ≡ setTopic (setPeer st s p) k t
-  unfolding setPeer setTopic
-  peer-topic s p k t = refl
 
   -- ---- sizes
 
@@ -294,27 +220,3 @@ sized-of cells =
       topics = length-map (rows cells topicsAt topicCells placeCount) topicOf ∙ length-rows cells topicsAt topicCells placeCount;
       ends = map-ends (rows cells peersAt peerCells slotCount);
     }
-
--- every reader after a store of another kind, for `simp`
-pub ruleset reads = (
-  clock-after-joined,
-  clock-after-peer,
-  clock-after-topic,
-  codes-after-clock,
-  codes-after-joined,
-  codes-after-peer,
-  codes-after-topic,
-  joined-after-clock,
-  joined-after-peer,
-  joined-after-topic,
-  code-after-clock,
-  code-after-joined,
-  code-after-peer,
-  code-after-topic,
-  peer-after-clock,
-  peer-after-joined,
-  peer-after-topic,
-  topic-after-clock,
-  topic-after-joined,
-  topic-after-peer,
-)

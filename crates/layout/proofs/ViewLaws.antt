@@ -2,18 +2,24 @@
 -- Assumes nothing.
 use Prim.Native.Nat.{ℕ, zero, suc, _+_, _*_, _≤_, _<_}
 use mathlib.Core.Path.{_≡_, refl, sym, ap, _∙_, subst}
-use mathlib.Core.List.{List, [], _∷_, _++_, map}
+use mathlib.Core.List.{List, [], _∷_, map}
 use native.Mathlib.Nat.{add-zero}
 use native.Mathlib.Omega.{arith}
 use lib.ListN.{length, getD, set, take, drop, List·getD-map, List·getD-eq-default}
 use lib.Seq.{getD-set-same, getD-set-other}
 use Rattle.index.proofs.Flags.{by-order}
+use Rattle.records.specs.declared.Setup.{Setup}
 use Rattle.records.specs.declared.Peer.{Peer}
 use Rattle.records.specs.declared.TopicRecord.{TopicRecord}
-use Rattle.records.specs.Records.{State, noPeer, noTopic, joinedIn, codeIn, peerIn, topicIn, setClock, setJoined, setPeer, setTopic, slotCount, topicCount, paramCount}
+use Rattle.records.specs.Records.{noTopic, joinedIn, codeIn, peerIn, topicIn, setClock, setJoined, setPeer, setTopic, slotCount, topicCount}
+use Rattle.records.specs.Records.{paramCount}
 use Rattle.layout.specs.Rows.{tab, span, put, rows}
-use Rattle.layout.specs.View.{joinedAt, codesAt, peersAt, peerCells, topicsAt, topicCells, placeCount, cellCount, peerOf, topicOf, peerFrom, topicFrom, cellsOfPeer, cellsOfTopic, stateOf, setEnd, setCodes, zeroState}
-use Rattle.layout.proofs.RowLaws.{tab-getD, getD-rows, stride, rows-put-same, rows-put-cell, rows-put-before, rows-put-after, span-put-before, span-put-after, getD-put-before, getD-put-in, put-one, span-put-one, span-put-same, span-part, getD-span, zero-span, zero-rows}
+use Rattle.layout.specs.View.{joinedAt, codesAt, setupAt, setupCells, peersAt, peerCells, topicsAt, topicCells, placeCount, cellCount}
+use Rattle.layout.specs.View.{setupOf, peerOf, topicOf, peerFrom, topicFrom, cellsOfPeer, cellsOfTopic, stateOf, setEnd, setCodes}
+use Rattle.layout.specs.View.{setSetup, zeroState}
+use Rattle.layout.proofs.RowLaws.{tab-getD, getD-rows, stride, rows-put-same, rows-put-cell, rows-put-before, rows-put-after}
+use Rattle.layout.proofs.RowLaws.{span-put-before, span-put-after, getD-put-before, getD-put-in, put-one, span-put-one}
+use Rattle.layout.proofs.RowLaws.{span-put-same, span-part, getD-span, zero-span, zero-rows}
 
 pub map-set : {A B : Type 0} (f : A → B) (l : List A) (i : ℕ) (v : A) → map f (set l i v) ≡ set (map f l) i (f v)
 map-set f [] i v = refl
@@ -47,9 +53,15 @@ peer-load cells s h = sym (rw add-zero refl) ∙ row-of cells s h
 pub topic-load : (cells : List ℕ) (k : ℕ) → k < placeCount → topicFrom cells (topicsAt + k * topicCells) ≡ topicIn (stateOf cells) k
 unfolding topicIn stateOf topicOf span
 topic-load cells k h =
-    let e : getD (map topicOf (rows cells topicsAt topicCells placeCount)) k noTopic ≡ topicOf (span cells (topicsAt + k * topicCells) topicCells) =
-    List·getD-map topicOf (rows cells topicsAt topicCells placeCount) k [] ∙ ap topicOf (getD-rows cells topicsAt topicCells placeCount k h) in
+    let e : getD (map topicOf (rows cells topicsAt topicCells placeCount)) k noTopic
+    ≡ topicOf (span cells (topicsAt + k * topicCells) topicCells) =
+    List·getD-map topicOf (rows cells topicsAt topicCells placeCount) k []
+    ∙ ap topicOf (getD-rows cells topicsAt topicCells placeCount k h) in
     sym (e ∙ rw add-zero)
+
+pub setup-load : (cells : List ℕ) → record { edition = getD cells setupAt 0 } ≡ stateOf cells .setup
+unfolding stateOf setupOf span
+setup-load cells = refl
 
 pub codes-load : (cells : List ℕ) → length cells ≡ cellCount → take paramCount (drop codesAt cells) ≡ stateOf cells .codes
 unfolding stateOf
@@ -119,6 +131,7 @@ module _ (cells : List ℕ) (size : length cells ≡ cellCount) where
         clock = getD-put-in cells 0 (n ∷ []) f 0 (omega arith) i;
         joined = span-put-after cells 0 (n ∷ []) f joinedAt topicCount (omega arith) i;
         codes = span-put-after cells 0 (n ∷ []) f codesAt paramCount (omega arith) i;
+        setup = ap setupOf (span-put-after cells 0 (n ∷ []) f setupAt setupCells (omega arith)) i;
         peers = ap (map peerOf) (rows-put-after cells peersAt peerCells slotCount 0 (n ∷ []) f (omega arith)) i;
         topics = ap (map topicOf) (rows-put-after cells topicsAt topicCells placeCount 0 (n ∷ []) f (omega arith)) i;
       }
@@ -132,6 +145,7 @@ module _ (cells : List ℕ) (size : length cells ≡ cellCount) where
         clock = getD-put-before cells (joinedAt + t) (b ∷ []) f 0 (omega arith) i;
         joined = span-put-one cells joinedAt topicCount t b h (omega arith) i;
         codes = span-put-after cells (joinedAt + t) (b ∷ []) f codesAt paramCount (omega arith) i;
+        setup = ap setupOf (span-put-after cells (joinedAt + t) (b ∷ []) f setupAt setupCells (omega arith)) i;
         peers = ap (map peerOf) (rows-put-after cells peersAt peerCells slotCount (joinedAt + t) (b ∷ []) f (omega arith)) i;
         topics = ap (map topicOf) (rows-put-after cells topicsAt topicCells placeCount (joinedAt + t) (b ∷ []) f (omega arith)) i;
       }
@@ -145,8 +159,24 @@ module _ (cells : List ℕ) (size : length cells ≡ cellCount) where
         clock = getD-put-before cells codesAt vs f 0 (omega arith) i;
         joined = span-put-before cells codesAt vs f joinedAt topicCount (omega arith) i;
         codes = (ap (span (put cells codesAt vs) codesAt) (sym e) ∙ span-put-same cells codesAt vs f) i;
+        setup = ap setupOf (span-put-after cells codesAt vs f setupAt setupCells (omega arith)) i;
         peers = ap (map peerOf) (rows-put-after cells peersAt peerCells slotCount codesAt vs f (omega arith)) i;
         topics = ap (map topicOf) (rows-put-after cells topicsAt topicCells placeCount codesAt vs f (omega arith)) i;
+      }
+
+  pub setup-store : (u : Setup) → stateOf (set cells setupAt (u .edition)) ≡ setSetup (stateOf cells) u
+  unfolding stateOf setSetup setupOf
+  setup-store u =
+      let n = u .edition in
+      let f : setupAt + length (n ∷ []) ≤ length cells = omega arith in
+      ap stateOf (sym (put-one cells setupAt n (omega arith)))
+      ∙ λ i. record {
+        clock = getD-put-before cells setupAt (n ∷ []) f 0 (omega arith) i;
+        joined = span-put-before cells setupAt (n ∷ []) f joinedAt topicCount (omega arith) i;
+        codes = span-put-before cells setupAt (n ∷ []) f codesAt paramCount (omega arith) i;
+        setup = ap setupOf (span-put-same cells setupAt (n ∷ []) f) i;
+        peers = ap (map peerOf) (rows-put-after cells peersAt peerCells slotCount setupAt (n ∷ []) f (omega arith)) i;
+        topics = ap (map topicOf) (rows-put-after cells topicsAt topicCells placeCount setupAt (n ∷ []) f (omega arith)) i;
       }
 
   pub peer-store :
@@ -162,11 +192,13 @@ module _ (cells : List ℕ) (size : length cells ≡ cellCount) where
         clock = getD-put-before cells (peersAt + s * peerCells) (cellsOfPeer p) f 0 (omega arith) i;
         joined = span-put-before cells (peersAt + s * peerCells) (cellsOfPeer p) f joinedAt topicCount (omega arith) i;
         codes = span-put-before cells (peersAt + s * peerCells) (cellsOfPeer p) f codesAt paramCount (omega arith) i;
+        setup = ap setupOf (span-put-before cells (peersAt + s * peerCells) (cellsOfPeer p) f setupAt setupCells (omega arith)) i;
         peers =
             (ap (map peerOf) (rows-put-same cells peersAt peerCells slotCount s (cellsOfPeer p) h n (omega arith))
             ∙ map-set peerOf (rows cells peersAt peerCells slotCount) s (cellsOfPeer p)
             ∙ ap (set (map peerOf (rows cells peersAt peerCells slotCount)) s) (peer-back p e)) i;
-        topics = ap (map topicOf) (rows-put-after cells topicsAt topicCells placeCount (peersAt + s * peerCells) (cellsOfPeer p) f (omega arith)) i;
+        topics = ap (map topicOf)
+            (rows-put-after cells topicsAt topicCells placeCount (peersAt + s * peerCells) (cellsOfPeer p) f (omega arith)) i;
       }
 
   pub end-store :
@@ -185,6 +217,7 @@ module _ (cells : List ℕ) (size : length cells ≡ cellCount) where
         clock = getD-put-before cells at (end ∷ []) f 0 (omega arith) i;
         joined = span-put-before cells at (end ∷ []) f joinedAt topicCount (omega arith) i;
         codes = span-put-before cells at (end ∷ []) f codesAt paramCount (omega arith) i;
+        setup = ap setupOf (span-put-before cells at (end ∷ []) f setupAt setupCells (omega arith)) i;
         peers =
             (ap (map peerOf) (rows-put-cell cells peersAt peerCells slotCount s (9 + t) end h (omega arith) (omega arith))
             ∙ map-set peerOf (rows cells peersAt peerCells slotCount) s (set row (9 + t) end)
@@ -205,7 +238,9 @@ module _ (cells : List ℕ) (size : length cells ≡ cellCount) where
         clock = getD-put-before cells (topicsAt + k * topicCells) (cellsOfTopic t) f 0 (omega arith) i;
         joined = span-put-before cells (topicsAt + k * topicCells) (cellsOfTopic t) f joinedAt topicCount (omega arith) i;
         codes = span-put-before cells (topicsAt + k * topicCells) (cellsOfTopic t) f codesAt paramCount (omega arith) i;
-        peers = ap (map peerOf) (rows-put-before cells peersAt peerCells slotCount (topicsAt + k * topicCells) (cellsOfTopic t) f (omega arith)) i;
+        setup = ap setupOf (span-put-before cells (topicsAt + k * topicCells) (cellsOfTopic t) f setupAt setupCells (omega arith)) i;
+        peers = ap (map peerOf)
+            (rows-put-before cells peersAt peerCells slotCount (topicsAt + k * topicCells) (cellsOfTopic t) f (omega arith)) i;
         topics =
             (ap (map topicOf) (rows-put-same cells topicsAt topicCells placeCount k (cellsOfTopic t) h n (omega arith))
             ∙ map-set topicOf (rows cells topicsAt topicCells placeCount) k (cellsOfTopic t)
@@ -215,12 +250,13 @@ module _ (cells : List ℕ) (size : length cells ≡ cellCount) where
 -- ---- a table of zeros
 
 pub zero-state : (cells : List ℕ) → ((k : ℕ) → getD cells k 0 ≡ 0) → stateOf cells ≡ zeroState
-unfolding stateOf zeroState peerOf topicOf
+unfolding stateOf zeroState setupOf peerOf topicOf span
 zero-state cells z =
     λ i. record {
       clock = z 0 i;
       joined = zero-span cells z joinedAt topicCount i;
       codes = zero-span cells z codesAt paramCount i;
+      setup = record { edition = z setupAt i };
       peers = zero-rows cells z peerOf peersAt peerCells slotCount i;
       topics = zero-rows cells z topicOf topicsAt topicCells placeCount i;
     }

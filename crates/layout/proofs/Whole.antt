@@ -1,8 +1,8 @@
 -- The state and the table determine each other.
 -- Assumes nothing.
-use Prim.Native.Nat.{ℕ, zero, suc, _+_, _*_, _≤_, _<_}
-use mathlib.Core.Path.{_≡_, refl, sym, ap, _∙_, subst}
-use mathlib.Core.List.{List, [], _∷_, _++_, map, append-assoc}
+use Prim.Native.Nat.{ℕ, zero, suc, _+_, _*_}
+use mathlib.Core.Path.{_≡_, refl, sym, ap, _∙_}
+use mathlib.Core.List.{List, [], _∷_, _++_, map}
 use native.Mathlib.Nat.{suc-mul, zero-mul, add-zero, zero-add, add-assoc, add-comm}
 use native.Mathlib.Omega.{arith}
 use lib.ListN.{length, getD, length-append}
@@ -10,7 +10,8 @@ use Rattle.records.specs.declared.Peer.{Peer}
 use Rattle.records.specs.declared.TopicRecord.{TopicRecord}
 use Rattle.records.specs.Records.{State, noPeer, peerIn, slotCount, topicCount, paramCount}
 use Rattle.layout.specs.Rows.{tab, span, rows, joins}
-use Rattle.layout.specs.View.{joinedAt, codesAt, peersAt, peerCells, topicsAt, topicCells, placeCount, cellCount, peerOf, topicOf, cellsOfPeer, cellsOfTopic, stateOf, cellsOf, Sized}
+use Rattle.layout.specs.View.{joinedAt, codesAt, setupAt, setupCells, peersAt, peerCells, topicsAt, topicCells, placeCount, cellCount}
+use Rattle.layout.specs.View.{setupOf, peerOf, topicOf, cellsOfSetup, cellsOfPeer, cellsOfTopic, stateOf, cellsOf, Sized}
 use Rattle.layout.proofs.RowLaws.{tab-same, span-all, span-left, span-right, rows-left, rows-right, length-joins, rows-joins}
 use Rattle.layout.proofs.ViewLaws.{peer-back, topic-back, peer-count, topic-count}
 
@@ -40,7 +41,8 @@ unfolding joins rows span
 joins-rows g f c w back o zero = ap (λ k. span c o k) (sym (zero-mul w))
 joins-rows g f c w back o (suc n) =
     ap (λ l. l ++ joins f (map g (tab n (λ i. span c (o + suc i * w) w)))) (back (o + 0 * w) ∙ ap (λ k. span c k w) first)
-    ∙ ap (λ l. span c o w ++ joins f (map g l)) (tab-same n (λ i. span c (o + suc i * w) w) (λ i. span c ((o + w) + i * w) w) (λ i h. ap (λ k. span c k w) (step i)))
+    ∙ ap (λ l. span c o w ++ joins f (map g l))
+    (tab-same n (λ i. span c (o + suc i * w) w) (λ i. span c ((o + w) + i * w) w) (λ i h. ap (λ k. span c k w) (step i)))
     ∙ ap (λ l. span c o w ++ l) (joins-rows g f c w back (o + w) n)
     ∙ span-append c o w (n * w)
     ∙ ap (λ k. span c o k) (add-comm w (n * w) ∙ sym (suc-mul n w))
@@ -59,6 +61,10 @@ topic-cells : (c : List ℕ) (at : ℕ) → cellsOfTopic (topicOf (span c at top
 unfolding cellsOfTopic topicOf span
 topic-cells c at = refl
 
+setup-cells : (c : List ℕ) (at : ℕ) → cellsOfSetup (setupOf (span c at setupCells)) ≡ span c at setupCells
+unfolding cellsOfSetup setupOf span
+setup-cells c at = refl
+
 head : (c : List ℕ) → getD c 0 0 ∷ span c joinedAt topicCount ≡ span c 0 codesAt
 unfolding span
 head c = refl
@@ -67,16 +73,16 @@ head c = refl
 pub whole : (c : List ℕ) → length c ≡ cellCount → cellsOf (stateOf c) ≡ c
 unfolding cellsOf stateOf
 whole c e =
-    ap
-    (λ l. l ++ span c codesAt paramCount ++ joins cellsOfPeer (map peerOf (rows c peersAt peerCells slotCount)) ++ joins cellsOfTopic (map topicOf (rows c topicsAt topicCells placeCount)))
-    (head c)
-    ∙ ap
-    (λ l. l ++ joins cellsOfPeer (map peerOf (rows c peersAt peerCells slotCount)) ++ joins cellsOfTopic (map topicOf (rows c topicsAt topicCells placeCount)))
-    (span-append c 0 codesAt paramCount)
-    ∙ ap
-    (λ l. span c 0 peersAt ++ l ++ joins cellsOfTopic (map topicOf (rows c topicsAt topicCells placeCount)))
-    (joins-rows peerOf cellsOfPeer c peerCells (peer-cells c) peersAt slotCount)
-    ∙ ap (λ l. span c 0 peersAt ++ span c peersAt (slotCount * peerCells) ++ l) (joins-rows topicOf cellsOfTopic c topicCells (topic-cells c) topicsAt placeCount)
+    let peers = joins cellsOfPeer (map peerOf (rows c peersAt peerCells slotCount)) in
+    let topics = joins cellsOfTopic (map topicOf (rows c topicsAt topicCells placeCount)) in
+    let setup = cellsOfSetup (setupOf (span c setupAt setupCells)) in
+    ap (λ l. l ++ span c codesAt paramCount ++ setup ++ peers ++ topics) (head c)
+    ∙ ap (λ l. l ++ setup ++ peers ++ topics) (span-append c 0 codesAt paramCount)
+    ∙ ap (λ l. span c 0 setupAt ++ l ++ peers ++ topics) (setup-cells c setupAt)
+    ∙ ap (λ l. l ++ peers ++ topics) (span-append c 0 setupAt setupCells)
+    ∙ ap (λ l. span c 0 peersAt ++ l ++ topics) (joins-rows peerOf cellsOfPeer c peerCells (peer-cells c) peersAt slotCount)
+    ∙ ap (λ l. span c 0 peersAt ++ span c peersAt (slotCount * peerCells) ++ l)
+    (joins-rows topicOf cellsOfTopic c topicCells (topic-cells c) topicsAt placeCount)
     ∙ ap (λ l. l ++ span c topicsAt (placeCount * topicCells)) (span-append c 0 peersAt (slotCount * peerCells))
     ∙ span-append c 0 topicsAt (placeCount * topicCells)
     ∙ ap (λ n. span c 0 n) (sym e)
@@ -97,12 +103,15 @@ topics-back [] = refl
 topics-back (t ∷ l) = λ i. topic-back t i ∷ topics-back l i
 
 module _ (st : State) (size : Sized st) where
-  -- the table up to the codes, up to the peers, up to the topic records
+  -- the table up to the codes, up to the set-up, up to the peers, up to the topic records
   abbrev header : List ℕ
   header = st .clock ∷ st .joined
 
+  abbrev coded : List ℕ
+  coded = header ++ st .codes
+
   abbrev fronted : List ℕ
-  fronted = header ++ st .codes
+  fronted = coded ++ cellsOfSetup (st .setup)
 
   abbrev peered : List ℕ
   peered = fronted ++ joins cellsOfPeer (st .peers)
@@ -110,8 +119,12 @@ module _ (st : State) (size : Sized st) where
   header-length : length header ≡ codesAt
   header-length = ap suc (size .joined)
 
+  coded-length : length coded ≡ setupAt
+  coded-length = length-append header (st .codes) ∙ omega (arith, header-length, size .codes)
+
   fronted-length : length fronted ≡ peersAt
-  fronted-length = length-append header (st .codes) ∙ omega (arith, header-length, size .codes)
+  unfolding cellsOfSetup
+  fronted-length = length-append coded (cellsOfSetup (st .setup)) ∙ omega (arith, coded-length)
 
   peered-length : length peered ≡ topicsAt
   peered-length =
@@ -119,8 +132,9 @@ module _ (st : State) (size : Sized st) where
       ∙ omega (arith, fronted-length, length-joins cellsOfPeer peerCells peer-count (st .peers), size .peers)
 
   pub back : stateOf (cellsOf st) ≡ st
-  unfolding stateOf cellsOf peerIn
+  unfolding stateOf cellsOf setupOf cellsOfSetup span peerIn
   back =
+      let setup : List ℕ = cellsOfSetup (st .setup) in
       let topics : List ℕ = joins cellsOfTopic (st .topics) in
       let peers : List ℕ = joins cellsOfPeer (st .peers) in
       λ i. record {
@@ -128,6 +142,7 @@ module _ (st : State) (size : Sized st) where
         joined =
             (span-left peered topics joinedAt topicCount (omega (arith, peered-length))
             ∙ span-left fronted peers joinedAt topicCount (omega (arith, fronted-length))
+            ∙ span-left coded setup joinedAt topicCount (omega (arith, coded-length))
             ∙ span-left header (st .codes) joinedAt topicCount (omega (arith, header-length))
             ∙ span-right (st .clock ∷ []) (st .joined) 0 8
             ∙ ap (span (st .joined) 0) (sym (size .joined))
@@ -135,10 +150,17 @@ module _ (st : State) (size : Sized st) where
         codes =
             (span-left peered topics codesAt paramCount (omega (arith, peered-length))
             ∙ span-left fronted peers codesAt paramCount (omega (arith, fronted-length))
-            ∙ ap (λ n. span fronted n paramCount) (sym (add-zero (length header) ∙ header-length))
+            ∙ span-left coded setup codesAt paramCount (omega (arith, coded-length))
+            ∙ ap (λ n. span coded n paramCount) (sym (add-zero (length header) ∙ header-length))
             ∙ span-right header (st .codes) 0 paramCount
             ∙ ap (span (st .codes) 0) (sym (size .codes))
             ∙ span-all (st .codes)) i;
+        setup =
+            ap setupOf
+            (span-left peered topics setupAt setupCells (omega (arith, peered-length))
+            ∙ span-left fronted peers setupAt setupCells (omega (arith, fronted-length))
+            ∙ ap (λ n. span fronted n setupCells) (sym (add-zero (length coded) ∙ coded-length))
+            ∙ span-right coded setup 0 setupCells) i;
         peers =
             (ap (map peerOf)
             (rows-left peered topics peersAt peerCells slotCount (omega (arith, peered-length))

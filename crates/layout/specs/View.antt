@@ -5,20 +5,28 @@ use Prim.Native.Nat.{ℕ, _+_, _*_}
 use mathlib.Core.List.{List, [], _∷_, _++_, map}
 use mathlib.Core.Path.{_≡_}
 use lib.ListN.{length, getD, set, replicate}
+use Rattle.records.specs.declared.Setup.{Setup}
 use Rattle.records.specs.declared.Peer.{Peer}
 use Rattle.records.specs.declared.TopicRecord.{TopicRecord}
 use Rattle.records.specs.Records.{State, slotCount, topicCount, paramCount, noPeer, noTopic, peerIn}
 use Rattle.layout.specs.Rows.{span, rows, joins}
 
--- the regions, one after the other: the clock (cell 0), the joined flags, the codes of the parameters, the peers, the topic records
+-- the regions, one after the other: the clock (cell 0), the joined flags, the codes of the parameters, the rest of the set-up, the peers,
+-- the topic records
 abbrev pub joinedAt : ℕ
 joinedAt = 1
 
 abbrev pub codesAt : ℕ
 codesAt = joinedAt + topicCount
 
+abbrev pub setupAt : ℕ
+setupAt = codesAt + paramCount
+
+abbrev pub setupCells : ℕ
+setupCells = 1
+
 abbrev pub peersAt : ℕ
-peersAt = codesAt + paramCount
+peersAt = setupAt + setupCells
 
 abbrev pub peerCells : ℕ
 peerCells = 17
@@ -32,9 +40,16 @@ topicCells = 8
 abbrev pub placeCount : ℕ
 placeCount = slotCount * topicCount
 
--- how many cells a table has: 5,340
+-- how many cells a table has: 5,341
 abbrev pub cellCount : ℕ
 cellCount = topicsAt + placeCount * topicCells
+
+-- the set-up of a run of cells, and its cells
+unfoldable pub setupOf : List ℕ → Setup
+setupOf r = record { edition = getD r 0 0 }
+
+unfoldable pub cellsOfSetup : Setup → List ℕ
+cellsOfSetup u = u .edition ∷ []
 
 -- the peer's record of a run of cells, and the cells of a peer's record
 unfoldable pub peerOf : List ℕ → Peer
@@ -152,6 +167,7 @@ stateOf cells =
       clock = getD cells 0 0;
       joined = span cells joinedAt topicCount;
       codes = span cells codesAt paramCount;
+      setup = setupOf (span cells setupAt setupCells);
       peers = map peerOf (rows cells peersAt peerCells slotCount);
       topics = map topicOf (rows cells topicsAt topicCells placeCount);
     }
@@ -161,13 +177,18 @@ unfoldable pub cellsOf : State → List ℕ
 cellsOf st =
     (st .clock ∷ st .joined)
     ++ st .codes
+    ++ cellsOfSetup (st .setup)
     ++ joins cellsOfPeer (st .peers)
     ++ joins cellsOfTopic (st .topics)
 
--- the state with other codes of the parameters: what making a fresh router writes
+-- the state with other codes of the parameters, and with another set-up: what making a fresh router writes
 unfoldable pub setCodes : State → List ℕ → State
 setCodes st codes =
-    record { clock = st .clock; joined = st .joined; codes = codes; peers = st .peers; topics = st .topics }
+    record { clock = st .clock; joined = st .joined; codes = codes; setup = st .setup; peers = st .peers; topics = st .topics }
+
+unfoldable pub setSetup : State → Setup → State
+setSetup st u =
+    record { clock = st .clock; joined = st .joined; codes = st .codes; setup = u; peers = st .peers; topics = st .topics }
 
 -- the state of a table of zeros
 unfoldable pub zeroState : State
@@ -176,6 +197,7 @@ zeroState =
       clock = 0;
       joined = replicate topicCount 0;
       codes = replicate paramCount 0;
+      setup = record { edition = 0 };
       peers = replicate slotCount noPeer;
       topics = replicate placeCount noTopic;
     }

@@ -1,26 +1,32 @@
 // How one lent table of numbers holds the router's state: the only code that computes an offset. A change of the layout is made here
 // and in specs/View.antt. Everything above goes by the contracts, which speak of the state that the table holds.
 ghost use mathlib.Core.Path.{_≡_};
-ghost use Prim.Native.Nat.{ℕ, _+_, _*_, _≤_, _<_};
+ghost use Prim.Native.Nat.{_+_, _≤_, _<_};
 ghost use lib.ListN.{length};
-ghost use Rattle.records.specs.Records.{joinedIn, codeIn, peerIn, topicIn, setClock, setJoined, setPeer, setTopic, slotCount, topicCount, paramCount};
+ghost use Rattle.records.specs.Records.{joinedIn, codeIn, peerIn, topicIn, setClock, setJoined, setPeer, setTopic, slotCount, topicCount};
+ghost use Rattle.records.specs.Records.{paramCount};
 ghost use Rattle.layout.specs.Rows.{put};
-ghost use Rattle.layout.specs.View.{placeCount, cellCount, peerFrom, topicFrom, stateOf, setEnd, setCodes, zeroState};
+ghost use Rattle.layout.specs.View.{placeCount, cellCount, peerFrom, topicFrom, stateOf, setEnd, setCodes, setSetup, zeroState};
 use records::Peer;
 use records::SLOTS;
+use records::Setup;
 use records::TOPICS;
 use records::TopicRecord;
 
 // How many numbers the parameters are.
 pub const PARAMS: usize = 147;
 
-// Where the regions begin, one after the other: the clock is cell 0, then the joined flags, the codes of the parameters, the peers, the
-// topic records.
+// Where the regions begin, one after the other: the clock is cell 0, then the joined flags, the codes of the parameters, the rest of the
+// set-up, the peers, the topic records.
 const JOINED_AT: usize = 1;
 
 const CODES_AT: usize = JOINED_AT + TOPICS;
 
-const PEERS_AT: usize = CODES_AT + PARAMS;
+const SETUP_AT: usize = CODES_AT + PARAMS;
+
+const SETUP_CELLS: usize = 1;
+
+const PEERS_AT: usize = SETUP_AT + SETUP_CELLS;
 
 const PEER_CELLS: usize = 17;
 
@@ -135,7 +141,7 @@ pub fn codes(cells: &[u64]) -> &[u64]
     requires { ⌜ length (now cells) ≡ cellCount ⌝ }
     ensures { λ r. ⌜ now r ≡ stateOf (now (cells .entry)) .codes ⌝ }
 {
-    &cells[CODES_AT..PEERS_AT]
+    &cells[CODES_AT..SETUP_AT]
 }
 
 pub fn store_codes(cells: &mut [u64], codes: &[u64])
@@ -143,6 +149,23 @@ pub fn store_codes(cells: &mut [u64], codes: &[u64])
     ensures { λ r. ⌜ stateOf (now (cells .exit)) ≡ setCodes (stateOf (now (cells .entry))) (now (codes .entry)) ⌝ }
 {
     write_row(cells, CODES_AT, codes);
+}
+
+// What the router was made with beside the parameters' numbers.
+pub fn load_setup(cells: &[u64]) -> Setup
+    requires { ⌜ length (now cells) ≡ cellCount ⌝ }
+    ensures { λ r. ⌜ r ≡ stateOf (now (cells .entry)) .setup ⌝ }
+{
+    Setup {
+        edition: cells[SETUP_AT],
+    }
+}
+
+pub fn store_setup(cells: &mut [u64], setup: Setup)
+    requires { ⌜ length (now cells) ≡ cellCount ⌝ }
+    ensures { λ r. ⌜ stateOf (now (cells .exit)) ≡ setSetup (stateOf (now (cells .entry))) setup ⌝ }
+{
+    cells[SETUP_AT] = setup.edition;
 }
 
 // Makes every cell 0, whatever stood there.
@@ -191,11 +214,12 @@ pub fn store_peer(cells: &mut [u64], slot: usize, p: Peer)
     write_row(cells, PEERS_AT + slot * PEER_CELLS, &row);
 }
 
-// One backoff end of the record in a slot, and nothing else of it: a record that is stored whole right after one end was replaced in it waits
-// for that store.
+// One backoff end of the record in a slot, and nothing else of it: a record that is stored whole right after one end was replaced in it
+// waits for that store.
 pub fn store_end(cells: &mut [u64], slot: usize, t: usize, end: u64)
     requires { ⌜ (length (now cells) ≡ cellCount) × ((slot < slotCount) × (t < topicCount)) ⌝ }
-    ensures { λ r. ⌜ stateOf (now (cells .exit)) ≡ setPeer (stateOf (now (cells .entry))) slot (setEnd (peerIn (stateOf (now (cells .entry))) slot) t end) ⌝ }
+    ensures { λ r. ⌜ stateOf (now (cells .exit))
+        ≡ setPeer (stateOf (now (cells .entry))) slot (setEnd (peerIn (stateOf (now (cells .entry))) slot) t end) ⌝ }
 {
     cells[PEERS_AT + slot * PEER_CELLS + (ENDS_AT + t)] = end;
 }
@@ -245,13 +269,6 @@ pub fn load_group(cells: &[u64], slot: usize) -> u64
     ensures { λ r. ⌜ r ≡ peerIn (stateOf (now (cells .entry))) slot .group ⌝ }
 {
     cells[PEERS_AT + slot * PEER_CELLS + 2]
-}
-
-pub fn load_subscribed(cells: &[u64], k: usize) -> u64
-    requires { ⌜ (length (now cells) ≡ cellCount) × (k < placeCount) ⌝ }
-    ensures { λ r. ⌜ r ≡ topicIn (stateOf (now (cells .entry))) k .subscribed ⌝ }
-{
-    cells[TOPICS_AT + k * TOPIC_CELLS + 4]
 }
 
 pub fn load_member(cells: &[u64], k: usize) -> u64

@@ -36,7 +36,7 @@ use Rattle.rules.proofs.PunishedLaws.{punished-peer, punished-apart, punished-k
 use Rattle.rules.proofs.PromiseLaws.{leaves-moved}
 use Rattle.rules.proofs.CountLaws.{actions-short}
 use Rattle.gate.proofs.StandingLaws.{sizes}
-use Rattle.leaving.specs.Slots.{grownIf, leftIf, actionIf, Turn, Turned, Walk, Walked}
+use Rattle.leaving.specs.Slots.{grownIf, leftIf, actionIf, Turned, Walk, Walked, LeaveTurn}
 
 -- a flag that goes with another
 pub no-member : (m n : Bool) → m ≡ false → false ≡ m && n
@@ -124,10 +124,6 @@ numbers-join :
 numbers-join list a b at e =
     let z : at ≡ 0 + length (numbersOf a) = omega (arith, numbers-length a) in
     rw z (sym (ap (sets list 0) (numbers-append a b) ∙ sets-append list 0 (numbersOf a) (numbersOf b)))
-
-pub actions-none : (st : State) (t : ℕ) → leaveActions st t 0 ≡ []
-unfolding leaveActions gather
-actions-none st t = refl
 
 -- ---- one turn from the state as it stands
 
@@ -226,7 +222,8 @@ module _ (st : State) (t end : ℕ) (k : t < 8) (i : ℕ) (u : State) (w : u ≡
   as-turn f e =
       by-test (leftIf f t end i u ≡ leaveSlot st t end i u) (isMember st t i)
       (λ m.
-      same-turn u i t end f (isNegative st i) (isMember u t i) (isMember st t i) (topicParamsIn u t) (topicParamsIn st t) (e ∙ rw m) as-member as-params)
+      same-turn u i t end f (isNegative st i) (isMember u t i) (isMember st t i) (topicParamsIn u t) (topicParamsIn st t) (e ∙ rw m)
+      as-member as-params)
       (λ m. rw (as-member, m) refl)
 
   as-actions : (seconds : ℕ) → seconds ≡ unsubscribeBackoff st → leaveActions st t (i + 1) ≡ leaveActions st t i ++ actionIf u t seconds i
@@ -235,26 +232,30 @@ module _ (st : State) (t end : ℕ) (k : t < 8) (i : ℕ) (u : State) (w : u ≡
       gather-more _ i
       ∙ ap
       (λ (l : List Action). leaveActions st t i ++ l)
-      (same-action (isMember st t i) (isMember u t i) (peerIn st i) (peerIn u i) (unsubscribeBackoff st) seconds (sym as-member) (sym as-peer) (sym e))
+      (same-action (isMember st t i) (isMember u t i) (peerIn st i) (peerIn u i) (unsubscribeBackoff st) seconds (sym as-member)
+      (sym as-peer) (sym e))
 
 module _ (table₀ start : List ℕ) (t end seconds : ℕ) (flags : List Bool) (walk : Walk table₀ t seconds flags start)
     (i : ℕ) (h : i < slotCount) (table list : List ℕ) (at : ℕ) (now : Walking (stateOf table₀) start t end i table list at) where
   -- what turn i relies on
-  pub walking-ready : Turn table t i × ((at + 3 ≤ length list) × (seconds ≤ 4294967295))
+  pub walking-ready : LeaveTurn table list t i at seconds
   walking-ready =
       let st = stateOf table₀ in
       let v = walk .standing .router in
       let n : length list ≡ length start = walking-length st start t end i table list at now in
-      let b : seconds ≤ 3600 = rw (walk .backoff) (sizes st v .leave) in (
-        record {
-          size = now .size;
-          topic = walk .topic;
-          slot = h;
-          threshold = rw (as-params st t end (walk .topic) i (stateOf table) (now .state)) (params-in st v t (walk .topic) .threshold);
-          id = rw (as-peer st t end (walk .topic) i (stateOf table) (now .state)) (valid-facts st v .peer i h .id);
-        },
-        (omega (arith, now .place, n, walk .room, actions-short st t i), omega arith),
-      )
+      let b : seconds ≤ 3600 = rw (walk .backoff) (sizes st v .leave) in
+      record {
+        turn =
+            record {
+              size = now .size;
+              topic = walk .topic;
+              slot = h;
+              threshold = rw (as-params st t end (walk .topic) i (stateOf table) (now .state)) (params-in st v t (walk .topic) .threshold);
+              id = rw (as-peer st t end (walk .topic) i (stateOf table) (now .state)) (valid-facts st v .peer i h .id);
+            };
+        room = omega (arith, now .place, n, walk .room, actions-short st t i);
+        seconds = omega arith;
+      }
 
   -- what it leaves
   pub walking-more :
@@ -310,7 +311,8 @@ pub gives-left :
     stateOf out ≡ setJoined (stateOf mid) t 0 →
     stateOf table′ ≡ setClock (stateOf out) time →
     Gives
-    (done (setJoined (iter slotCount (leaveSlot (stateOf table) t (endAfter time (unsubscribeBackoff (stateOf table)))) (stateOf table)) t 0) time (leaveActions (stateOf table) t slotCount))
+    (done (setJoined (iter slotCount (leaveSlot (stateOf table) t (endAfter time (unsubscribeBackoff (stateOf table)))) (stateOf table)) t
+    0) time (leaveActions (stateOf table) t slotCount))
     (Done (n / 3))
     table
     table′

@@ -14,7 +14,11 @@ use Rattle.score.specs.Counters.{grownOf}
 use Rattle.effects.specs.Actions.{Action, pruneOf, numbersOf}
 use Rattle.effects.specs.Effects.{onTopic, isMember, pruned, unsubscribeBackoff}
 use Rattle.rules.specs.Step.{isNegative, leaveSlot, leaveActions, actionRoom}
-use Rattle.gate.specs.Ready.{Standing}
+use Rattle.peer_score.specs.Standing.{Standing}
+
+-- whose P3b is to grow: a member that scores below zero
+abbrev pub isNegativeMember : State → ℕ → ℕ → Bool
+isNegativeMember st t s = isMember st t s && isNegative st s
 
 -- P3b of slot s grows in topic t, if its score was negative
 unfoldable pub grownIf : Bool → ℕ → ℕ → State → State
@@ -36,6 +40,12 @@ pub record Turn (table : List ℕ) (t s : ℕ) : Type 0 where
   pub threshold : topicParamsIn (stateOf table) t .threshold ≤ 1000000
   pub id : peerIn (stateOf table) s .id ≤ 4294967295
 
+-- and room in the list for its action
+pub record LeaveTurn (table list : List ℕ) (t s at n : ℕ) : Type 0 where
+  pub turn : Turn table t s
+  pub room : at + 3 ≤ length list
+  pub seconds : n ≤ 4294967295
+
 -- what a turn leaves: the state u becomes that of table′, and its action stands in the list from `at` on, up to `next`
 pub record Turned (u : State) (negative : Bool) (t end seconds s : ℕ) (table′ list list′ : List ℕ) (at next : ℕ) : Type 0 where
   pub state : stateOf table′ ≡ leftIf negative t end s u
@@ -47,7 +57,7 @@ pub record Walk (table : List ℕ) (t seconds : ℕ) (flags : List Bool) (list :
   pub standing : Standing table
   pub topic : t < 8
   pub backoff : seconds ≡ unsubscribeBackoff (stateOf table)
-  pub negatives : (s : ℕ) → s < slotCount → getD flags s false ≡ (isMember (stateOf table) t s && isNegative (stateOf table) s)
+  pub negatives : (s : ℕ) → s < slotCount → getD flags s false ≡ isNegativeMember (stateOf table) t s
   pub room : actionRoom ≤ length list
 
 -- what it leaves: n numbers were written

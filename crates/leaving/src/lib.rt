@@ -1,25 +1,24 @@
 // Leave, one of 01's calls: every member of the topic is pruned, by slot.
 ghost use Rattle.records.specs.Records.{slotCount};
 ghost use mathlib.Core.Path.{_≡_};
-ghost use mathlib.Core.Bool.{false, _&&_};
-ghost use Prim.Native.Nat.{ℕ, _+_, _<_, _≤_};
-ghost use lib.ListN.{length, getD};
+ghost use mathlib.Core.Bool.{false};
+ghost use Prim.Native.Nat.{ℕ, _<_};
+ghost use lib.ListN.{getD};
 ghost use Rattle.layout.specs.View.{stateOf};
-ghost use Rattle.effects.specs.Effects.{isMember};
 ghost use Rattle.rules.specs.Calls.{leave as Calls·leave};
-ghost use Rattle.rules.specs.Step.{leaveReply, isNegative, actionRoom};
+ghost use Rattle.rules.specs.Step.{leaveReply};
 ghost use Rattle.rules.specs.Promise.{Gives, Follows};
-ghost use Rattle.gate.specs.Ready.{Standing, Ready};
-ghost use Rattle.leaving.specs.Slots.{grownIf, Turn, Turned, Walk, Walked};
+ghost use Rattle.peer_score.specs.Standing.{TopicStanding, PlaceStanding};
+ghost use Rattle.gate.specs.Ready.{TopicLent};
+ghost use Rattle.leaving.specs.Slots.{isNegativeMember, grownIf, Turn, LeaveTurn, Turned, Walk, Walked};
 use effects::actions::put_prune;
 use effects::slots::is_joined;
 use effects::slots::is_member;
-use effects::slots::load_size;
+use effects::slots::load_magnitude;
 use effects::slots::prune_slot;
 use effects::values::end_after;
 use gate::admit;
 use gate::ignore;
-use gate::is_negative;
 use gate::time_ok;
 use gate::topic_ok;
 use layout::CELLS;
@@ -27,22 +26,24 @@ use records::SLOTS;
 use records::param;
 use rules::Answer;
 use rules::Gate;
+use score::sums::is_negative;
 
 // Whether a slot is a member that scores below zero: nobody else's score is taken.
 fn is_negative_member(table: &[u64], topic: usize, slot: usize) -> bool
-    requires { ⌜ Standing (now table) × ((topic < 8) × (slot < slotCount)) ⌝ }
-    ensures { λ r. ⌜ r ≡ (isMember (stateOf (now (table .entry))) topic slot && isNegative (stateOf (now (table .entry))) slot) ⌝ }
+    requires { ⌜ PlaceStanding (now table) topic slot ⌝ }
+    ensures { λ r. ⌜ r ≡ isNegativeMember (stateOf (now (table .entry))) topic slot ⌝ }
 {
     if !is_member(table, topic, slot) {
         return false;
     }
-    is_negative(table, slot)
+    let p = layout::load_peer(table, slot);
+    is_negative(peer_score::score_of(table, slot, p))
 }
 
 // Which members score below zero; taken before anything changes, since the rule speaks of the call's start.
 fn negatives(table: &[u64], topic: usize) -> [bool; SLOTS]
-    requires { ⌜ Standing (now table) × (topic < 8) ⌝ }
-    ensures { λ r. ⌜ ((s : ℕ) → s < slotCount → getD r s false ≡ (isMember (stateOf (now (table .entry))) topic s && isNegative (stateOf (now (table .entry))) s)) ⌝ }
+    requires { ⌜ TopicStanding (now table) topic ⌝ }
+    ensures { λ r. ⌜ ((s : ℕ) → s < slotCount → getD r s false ≡ isNegativeMember (stateOf (now (table .entry))) topic s) ⌝ }
 {
     let mut flags = [false; SLOTS];
     let mut slot: usize = 0;
@@ -76,8 +77,9 @@ fn leave_slot(
     seconds: u64,
     negative: bool,
 ) -> usize
-    requires { ⌜ Turn (now table) topic slot × ((at + 3 ≤ length (now actions)) × (seconds ≤ 4294967295)) ⌝ }
-    ensures { λ r. ⌜ Turned (stateOf (now (table .entry))) negative topic end seconds slot (now (table .exit)) (now (actions .entry)) (now (actions .exit)) at r ⌝ }
+    requires { ⌜ LeaveTurn (now table) (now actions) topic slot at seconds ⌝ }
+    ensures { λ r. ⌜ Turned (stateOf (now (table .entry))) negative topic end seconds slot
+        (now (table .exit)) (now (actions .entry)) (now (actions .exit)) at r ⌝ }
 {
     if !is_member(table, topic, slot) {
         return at;
@@ -98,7 +100,8 @@ fn leave_slots(
     negative: [bool; SLOTS],
 ) -> usize
     requires { ⌜ Walk (now table) topic seconds negative (now actions) ⌝ }
-    ensures { λ r. ⌜ Walked (stateOf (now (table .entry))) topic end (now (table .exit)) (now (actions .entry)) (now (actions .exit)) r ⌝ }
+    ensures { λ r. ⌜ Walked (stateOf (now (table .entry))) topic end
+        (now (table .exit)) (now (actions .entry)) (now (actions .exit)) r ⌝ }
 {
     let mut at: usize = 0;
     let mut slot: usize = 0;
@@ -111,14 +114,15 @@ fn leave_slots(
 }
 
 fn leave_from(table: &mut [u64], time: u64, topic: usize, actions: &mut [u32]) -> Answer
-    requires { ⌜ Ready (now table) time × ((topic < 8) × (actionRoom ≤ length (now actions))) ⌝ }
-    ensures { λ r. ⌜ Gives (leaveReply (stateOf (now (table .entry))) time topic) r (now (table .entry)) (now (table .exit)) (now (actions .entry)) (now (actions .exit)) ⌝ }
+    requires { ⌜ TopicLent (now table) (now actions) time topic ⌝ }
+    ensures { λ r. ⌜ Gives (leaveReply (stateOf (now (table .entry))) time topic) r
+        (now (table .entry)) (now (table .exit)) (now (actions .entry)) (now (actions .exit)) ⌝ }
 {
     if !is_joined(table, topic) {
         return ignore(table, time);
     }
     let negative = negatives(table, topic);
-    let seconds = load_size(table, param::UNSUBSCRIBE_BACKOFF);
+    let seconds = load_magnitude(table, param::UNSUBSCRIBE_BACKOFF);
     let n = leave_slots(
         table,
         actions,
@@ -134,7 +138,8 @@ fn leave_from(table: &mut [u64], time: u64, topic: usize, actions: &mut [u32]) -
 
 // We leave a topic.
 pub fn leave(table: &mut [u64; CELLS], time: u64, topic: u64, actions: &mut [u32]) -> Answer
-    ensures { λ r. ⌜ Follows (Calls·leave time topic) r (now (table .entry)) (now (table .exit)) (now (actions .entry)) (now (actions .exit)) ⌝ }
+    ensures { λ r. ⌜ Follows (Calls·leave time topic) r
+        (now (table .entry)) (now (table .exit)) (now (actions .entry)) (now (actions .exit)) ⌝ }
 {
     let fine = time_ok(time) & topic_ok(topic);
     match admit(table, fine, actions.len(), time) {

@@ -1,9 +1,9 @@
--- What the limits say of a number by its field, where 147 codes are those of numbers between their limits: its magnitude, `size`, is between
--- the magnitudes of its limits, and its sign is known. Each test of a row of limits is computed.
+-- What the limits say of a number by its field, where 147 codes are those of numbers between their limits: its magnitude, `size`, is
+-- between the magnitudes of its limits, and its sign is known. Each test of a row of limits is computed.
 -- Assumes nothing.
-use Prim.Native.Nat.{ℕ, zero, suc, _+_, _*_, _/_, _<_, _≤_}
-use mathlib.Core.Path.{_≡_, refl, sym, ap, _∙_}
-use mathlib.Core.Bool.{Bool, true, false, _&&_}
+use Prim.Native.Nat.{ℕ, _+_, _*_, _/_, _<_, _≤_}
+use mathlib.Core.Path.{_≡_, sym, ap, _∙_}
+use mathlib.Core.Bool.{Bool, true, _&&_}
 use mathlib.Core.List.{List, map}
 use native.Mathlib.Omega.{arith}
 use lib.Dec.{T, leb, leb→le}
@@ -31,7 +31,8 @@ Within codes = every paramCount (inLimits (map numberOf codes)) ≡ true
 pub number-at : (codes : List ℕ) (i : ℕ) → at (map numberOf codes) i ≡ numberOf (getD codes i 0)
 number-at codes i = List·getD-map numberOf codes i 0
 
-pub code-in : (codes : List ℕ) (i : ℕ) (r : Bool) → r ≡ lies (numberOf (getD codes i 0)) (limitAt (fieldOf i)) → r ≡ inLimits (map numberOf codes) i
+pub code-in : (codes : List ℕ) (i : ℕ) (r : Bool) → r ≡ lies (numberOf (getD codes i 0)) (limitAt (fieldOf i)) → r
+    ≡ inLimits (map numberOf codes) i
 unfolding inLimits
 code-in codes i r e = e ∙ ap (λ (x : ℤ). lies x (limitAt (fieldOf i))) (sym (number-at codes i))
 
@@ -48,7 +49,8 @@ module _ (codes : List ℕ) (ok : Within codes) (i : ℕ) (h : i < paramCount) (
       let l = limitAt f in
       let u = and-yes (leb (natAbs (l .low)) m) (leb (natAbs (l .high)) m) t in
       rw code-size at
-      (size-most (l .low) (numberOf (getD codes i 0)) (l .high) m (both-sides .0) (both-sides .1) (leb→le (natAbs (l .low)) m (u .0)) (leb→le (natAbs (l .high)) m (u .1)))
+      (size-most (l .low) (numberOf (getD codes i 0)) (l .high) m (both-sides .0) (both-sides .1) (leb→le (natAbs (l .low)) m (u .0))
+      (leb→le (natAbs (l .high)) m (u .1)))
 
   at-least : (l : ℤ) (m : ℕ) → T (leb m (natAbs l)) → natAbs l ≤ natAbs (numberOf (getD codes i 0)) → m ≤ size codes i
   at-least l m t h = omega (arith, leb→le m (natAbs l) t, code-size (getD codes i 0))
@@ -84,7 +86,9 @@ module _ (codes : List ℕ) (ok : Within codes) (i : ℕ) (h : i < paramCount) (
   gain-code t = sym (code-number (getD codes i 0)) ∙ ap codeOf (sym (gain-of t))
 
   pub loss-code : T (leZ (limitAt f .high) (negsuc 0)) → getD codes i 0 + 1 ≡ 2 * size codes i
-  loss-code t = odd (numberOf (getD codes i 0)) (code-number (getD codes i 0)) (loss-sign (numberOf (getD codes i 0)) (limitAt f .high) t (both-sides .1))
+  loss-code t =
+      odd (numberOf (getD codes i 0)) (code-number (getD codes i 0))
+      (loss-sign (numberOf (getD codes i 0)) (limitAt f .high) t (both-sides .1))
     where
       odd : (x : ℤ) → codeOf x ≡ getD codes i 0 → T (leZ x (negsuc 0)) → getD codes i 0 + 1 ≡ 2 * size codes i
       odd (pos n) e s = absurd s

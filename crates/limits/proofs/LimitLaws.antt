@@ -1,8 +1,8 @@
 -- Laws of the limits: what a number between them is, and the tests of numbers that were read from an array.
 -- Assumes nothing.
-use Prim.Native.Nat.{ℕ, zero, suc, _+_, _-_, _*_, _%_, _^_, _<_, _≤_}
+use Prim.Native.Nat.{ℕ, zero, suc, _+_, _^_, _<_, _≤_}
 use mathlib.Core.Path.{_≡_, refl, sym, ap, _∙_, subst}
-use mathlib.Core.Bool.{Bool, true, false, not, _&&_}
+use mathlib.Core.Bool.{Bool, true, _&&_}
 use mathlib.Core.List.{List, [], _∷_}
 use native.Mathlib.Omega.{arith}
 use borrow.Author.Tests.{lt-ltb, le-ltb}
@@ -34,7 +34,8 @@ pub yes : (b : Bool) → b ≡ true → T b
 yes b e = subst T (sym e) tt
 
 -- the two halves of being between the limits
-pub sides : (xs : List ℤ) (i : ℕ) → inLimits xs i ≡ true → T (leZ (limitAt (fieldOf i) .low) (at xs i)) × T (leZ (at xs i) (limitAt (fieldOf i) .high))
+pub sides : (xs : List ℤ) (i : ℕ) → inLimits xs i ≡ true → T (leZ (limitAt (fieldOf i) .low) (at xs i))
+    × T (leZ (at xs i) (limitAt (fieldOf i) .high))
 unfolding inLimits
 sides xs i e =
     let h = both (leZ (limitAt (fieldOf i) .low) (at xs i)) (leZ (at xs i) (limitAt (fieldOf i) .high)) e in
@@ -109,7 +110,12 @@ code-few xs i e =
     let l = limitAt (fieldOf i) in
     let h = sides xs i e in
     let s = and-yes (ltb (codeOf (l .low)) 2000000001) (ltb (codeOf (l .high)) 2000000001) (small-codes (fieldOf i)) in
-    omega (arith, code-le (l .low) (at xs i) (l .high) (h .0) (h .1), ltb→lt (codeOf (l .low)) 2000000001 (s .0), ltb→lt (codeOf (l .high)) 2000000001 (s .1))
+    omega (
+      arith,
+      code-le (l .low) (at xs i) (l .high) (h .0) (h .1),
+      ltb→lt (codeOf (l .low)) 2000000001 (s .0),
+      ltb→lt (codeOf (l .high)) 2000000001 (s .1),
+    )
 
 -- ---- numbers read from an array, whose bits are read back
 abbrev fitting : Limit → Bool

@@ -1,12 +1,11 @@
 -- The 147 numbers as 19 general ones and, field by field, those of the 8 topics: a test of every number is a test of all of these.
 -- Assumes nothing.
-use Prim.Native.Nat.{ℕ, _+_, _-_, _*_, _/_, _%_, _<_, _≤_}
+use Prim.Native.Nat.{ℕ, _+_, _-_, _/_, _%_, _<_, _≤_}
 use native.Mathlib.Omega.{arith}
 use mathlib.Core.Path.{_≡_, refl, sym, ap, _∙_}
 use mathlib.Core.Bool.{Bool, true, false, _&&_}
 use mathlib.Core.List.{List, map}
 use lib.ListN.{getD}
-use lib.IntN.{ℤ}
 use lib.Signed.{leZ}
 use mir.Syntax.{w64}
 use mir.Val.{toZ, ofZ}
@@ -67,5 +66,6 @@ module _ (f : ℕ → Bool) where
       by-test
       (every ofTopic field ≡ every paramCount f)
       (every paramCount f)
-      (λ a. every-by field ofTopic (λ j lj. every-by (λ k. f (place k j)) topicCount (λ k lk. every-at f paramCount (place k j) a (omega arith))) ∙ sym a)
+      (λ a. every-by field ofTopic
+      (λ j lj. every-by (λ k. f (place k j)) topicCount (λ k lk. every-at f paramCount (place k j) a (omega arith))) ∙ sym a)
       (λ a. t ∙ sym a))

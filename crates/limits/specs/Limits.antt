@@ -1,5 +1,5 @@
--- The limits of the parameters (01, "The sheet"): "Each number of the sheet lies between its two limits, kept in one table". The table has a row
--- for each field, in 01's order. src/lib.rt has the same rows.
+-- The limits of the parameters (01, "The sheet"): "Each number of the sheet lies between its two limits, kept in one table". The table has
+-- a row for each field, in 01's order. src/lib.rt has the same rows.
 use Prim.Native.Nat.{ℕ, _+_, _-_, _*_, _%_}
 use mathlib.Core.Bool.{Bool, not, _&&_, cond}
 use mathlib.Core.List.{List, [], _∷_}
@@ -7,7 +7,6 @@ use lib.Dec.{ltb}
 use lib.ListN.{getD}
 use lib.IntN.{ℤ, pos, negℤ}
 use lib.Signed.{leZ}
-use Rattle.records.specs.Records.{topicCount, paramCount}
 use Rattle.limits.specs.declared.Limit.{Limit}
 
 -- "19 general, then 16 per topic": 147 in all (`paramCount`), 35 fields

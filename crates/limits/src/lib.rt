@@ -1,18 +1,19 @@
-// The limits of the parameters (01, "The sheet": "Each number of the sheet lies between its two limits, kept in one table"), and the tests by
-// them: of the parameters' codes, the form in which they stand in a router's tables. A limit that moves changes a row of the table here and the
-// same row of specs/Limits.antt.
+// The limits of the parameters (01, "The sheet": "Each number of the sheet lies between its two limits, kept in one table"), and the tests
+// by them: of the parameters' codes, the form in which they stand in a router's tables. A limit that moves changes a row of the table here
+// and the same row of specs/Limits.antt.
 use index::Found;
 use records::TOPICS;
 ghost use mathlib.Core.Path.{_≡_};
-ghost use mathlib.Core.Bool.{true, _&&_};
+ghost use mathlib.Core.Bool.{_&&_};
 ghost use mathlib.Core.List.{map};
-ghost use Prim.Native.Nat.{ℕ, _+_, _*_, _<_};
+ghost use Prim.Native.Nat.{_<_};
 ghost use lib.ListN.{length, getD};
 ghost use lib.Signed.{leZ};
 ghost use Rattle.index.specs.Index.{first, every};
 ghost use Rattle.varint.specs.Codes.{codeOf, numberOf};
 ghost use Rattle.records.specs.Records.{topicCount, paramCount};
-ghost use Rattle.limits.specs.Limits.{generalCount, ofTopic, fieldCount, to, limits, fieldOf, limitAt, lies, inLimits, outside, place};
+ghost use Rattle.limits.specs.Limits.{generalCount, ofTopic, fieldCount, to, limits, fieldOf, limitAt, lies, inLimits, outside};
+ghost use Rattle.limits.specs.Limits.{place};
 
 // How many numbers the parameters are: the general ones, then as many for each topic.
 pub const NUMBERS: usize = GENERAL + TOPICS * OF_TOPIC;

@@ -1,9 +1,9 @@
 -- Laws of protocol names: the ends of the comparison, that it is one of lists, and the two names.
 -- Assumes nothing.
 use Prim.Native.Nat.{ℕ, _<_, _≤_}
-use mathlib.Core.Path.{_≡_, refl, sym, ap, _∙_}
+use mathlib.Core.Path.{_≡_, refl, sym}
 use native.Mathlib.Omega.{arith}
-use mathlib.Core.Bool.{Bool, true, false, _&&_, cond, and-false}
+use mathlib.Core.Bool.{Bool, true, false, cond, and-false}
 use mathlib.Core.List.{List}
 use lib.ListN.{length, getD}
 use lib.Seq.{ext-getD}
@@ -11,7 +11,6 @@ use lib.Dec.{eqb}
 use borrow.Author.Tests.{eq-eqb, ne-eqb, eqb-true}
 use Rattle.index.specs.Index.{every}
 use Rattle.index.proofs.Index.{both, every-at, every-by, every-done, every-fails}
-use Rattle.lookup.specs.declared.Named.{Named}
 use Rattle.lookup.specs.declared.Named.the-variants.{Version, Unknown}
 use Rattle.lookup.specs.Name.{meshsub, sameAt, sameBytes, versionOf}
 
@@ -44,7 +43,8 @@ module _ (a b : List ℕ) where
   unfolding sameBytes
   same-bytes e =
       let q = both (eqb (length a) (length b)) (every (length a) (sameAt a b)) e in
-      ext-getD 0 a b (eqb-true (length a) (length b) (q .0)) (λ k h. eqb-true (getD a k 0) (getD b k 0) (every-at (sameAt a b) (length a) k (q .1) h))
+      ext-getD 0 a b (eqb-true (length a) (length b) (q .0))
+      (λ k h. eqb-true (getD a k 0) (getD b k 0) (every-at (sameAt a b) (length a) k (q .1) h))
 
 pub same-self : (a : List ℕ) → sameBytes a a ≡ true
 unfolding sameBytes
@@ -75,12 +75,3 @@ module _ (name : List ℕ) where
       go true q e = let z : 0 ≡ v = cc in omega arith
       go false true e = let z : 1 ≡ v = cc in omega arith
       go false false e = let z : _≡_ {A = ℕ} 0 1 = cc in absurd (omega arith)
-
--- the two names
-pub name-0 : versionOf (meshsub 48) ≡ Version 0
-unfolding versionOf sameBytes meshsub every
-name-0 = refl
-
-pub name-1 : versionOf (meshsub 49) ≡ Version 1
-unfolding versionOf sameBytes meshsub every
-name-1 = refl

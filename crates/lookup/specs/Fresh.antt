@@ -4,22 +4,28 @@ use Prim.Native.Nat.{ℕ}
 use mathlib.Core.Path.{_≡_}
 use mathlib.Core.List.{List, map}
 use lib.ListN.{replicate}
-use lib.IntN.{ℤ}
 use Rattle.index.specs.declared.Found.{Found}
 use Rattle.index.specs.declared.Found.the-variants.{At, Nothing}
 use Rattle.varint.specs.Codes.{codeOf}
+use Rattle.params.specs.declared.Params.{Params}
+use Rattle.params.specs.Editions.{editionNumber}
 use Rattle.params.specs.Check.{firstBroken}
+use Rattle.records.specs.declared.Setup.{Setup}
 use Rattle.records.specs.Records.{State, slotCount, topicCount, noPeer, noTopic}
 use Rattle.layout.specs.View.{placeCount, stateOf}
 use Rattle.lookup.specs.declared.Made.{Made}
 use Rattle.lookup.specs.declared.Made.the-variants.{Done, Broken}
 
-unfoldable pub freshState : List ℤ → State
-freshState numbers =
+abbrev pub setupOf : Params → Setup
+setupOf p = record { edition = editionNumber (p .edition) }
+
+unfoldable pub freshState : Params → State
+freshState p =
     record {
       clock = 0;
       joined = replicate topicCount 0;
-      codes = map codeOf numbers;
+      codes = map codeOf (p .numbers);
+      setup = setupOf p;
       peers = replicate slotCount noPeer;
       topics = replicate placeCount noTopic;
     }
@@ -29,9 +35,9 @@ abbrev pub madeOf : Found → Made
 madeOf (At i) = Broken i
 madeOf Nothing = Done
 
-abbrev pub leftBy : Found → List ℤ → State → State
-leftBy (At i) numbers st = st
-leftBy Nothing numbers st = freshState numbers
+abbrev pub leftBy : Found → Params → State → State
+leftBy (At i) p st = st
+leftBy Nothing p st = freshState p
 
 -- 01's number of an answer, and the value that goes with it
 abbrev pub madeNumber : Made → ℕ
@@ -43,7 +49,7 @@ madeValue Done = 0
 madeValue (Broken i) = i
 
 -- r is the answer, table what stood there and table′ what stands there after it
-pub record Makes (numbers : List ℤ) (r : Made) (table table′ : List ℕ) : Type 0 where
-  pub answer : r ≡ madeOf (firstBroken numbers)
-  pub state : stateOf table′ ≡ leftBy (firstBroken numbers) numbers (stateOf table)
+pub record Makes (p : Params) (r : Made) (table table′ : List ℕ) : Type 0 where
+  pub answer : r ≡ madeOf (firstBroken p)
+  pub state : stateOf table′ ≡ leftBy (firstBroken p) p (stateOf table)
   pub kept : (i : ℕ) → r ≡ Broken i → table′ ≡ table

@@ -6,22 +6,26 @@ ghost use Rattle.lookup.specs.Fresh.{freshState, Makes};
 use crate::Made;
 use index::Found;
 use params::Params;
+use records::Setup;
 
 // Writes every cell of a fresh router.
 fn fill(params: Params, table: &mut [u64])
     requires { ⌜ length (now table) ≡ cellCount ⌝ }
-    ensures { λ r. ⌜ stateOf (now (table .exit)) ≡ freshState (params .numbers) ⌝ }
+    ensures { λ r. ⌜ stateOf (now (table .exit)) ≡ freshState params ⌝ }
 {
     let numbers = params.numbers;
     let codes = limits::codes_of(&numbers);
+    let edition = params.edition;
+    let number = params::edition_number(edition);
     layout::clear(table);
     layout::store_codes(table, &codes);
+    layout::store_setup(table, Setup { edition: number });
 }
 
 // Makes the table a fresh router's with these parameters, if they pass the check.
 pub fn fresh(params: Params, table: &mut [u64]) -> Made
     requires { ⌜ length (now table) ≡ cellCount ⌝ }
-    ensures { λ r. ⌜ Makes (params .numbers) r (now (table .entry)) (now (table .exit)) ⌝ }
+    ensures { λ r. ⌜ Makes params r (now (table .entry)) (now (table .exit)) ⌝ }
 {
     match params.first_broken() {
         Found::At(i) => Made::Broken(i),

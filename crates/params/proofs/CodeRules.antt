@@ -1,9 +1,9 @@
 -- The joint rules, of codes: two codes of one sign stand to each other as the numbers' magnitudes do.
 -- Assumes nothing.
-use Prim.Native.Nat.{ℕ, suc, _+_, _*_, _/_, _<_, _≤_}
+use Prim.Native.Nat.{ℕ, suc, _+_, _*_, _<_, _≤_}
 use native.Mathlib.Numerals.{add-one}
 use mathlib.Core.Path.{_≡_, refl, sym, ap, ap₂, _∙_}
-use mathlib.Core.Bool.{Bool, true, false, _&&_}
+use mathlib.Core.Bool.{Bool, true, _&&_}
 use mathlib.Core.List.{List, map}
 use native.Mathlib.Omega.{arith}
 use lib.Dec.{T, leb, ltb, lit<}
@@ -16,7 +16,9 @@ use Rattle.varint.specs.Codes.{codeOf, numberOf}
 use Rattle.records.specs.Records.{topicCount, paramCount}
 use Rattle.limits.specs.Limits.{limits, limitAt, fieldOf, place, at}
 use Rattle.limits.proofs.LimitLaws.{topic-field}
-use Rattle.params.specs.Joint.{ruleCount, capRule, joint, rule}
+use Rattle.params.specs.declared.Edition.{Edition}
+use Rattle.params.specs.declared.Edition.the-variants.{First, Second}
+use Rattle.params.specs.Joint.{ruleCount, capRule, scoreRule, joint, rule}
 use Rattle.limits.proofs.FieldLaws.{Within, code-at, gain-at, loss-at, most-of}
 
 -- ---- tests that are gathered in a flag
@@ -84,47 +86,57 @@ module _ (codes : List ℕ) (ok : Within codes) where
       ap₂ leb (code-at codes i) (code-at codes j) ∙ gain-le (at (map numberOf codes) i) (at (map numberOf codes) j) p q
 
   -- D_lo ≤ D
-  pub le-lo : leb (getD codes 0 0) (getD codes 1 0) ≡ rule (map numberOf codes) 0
+  pub le-lo : (e : Edition) → leb (getD codes 0 0) (getD codes 1 0) ≡ rule (map numberOf codes) e 0
   unfolding rule joint limitAt limits
-  le-lo = le-of 0 1 (gain 0 (lit< tt) tt) (gain 1 (lit< tt) tt)
+  le-lo e = le-of 0 1 (gain 0 (lit< tt) tt) (gain 1 (lit< tt) tt)
 
   -- D ≤ D_hi
-  pub le-hi : leb (getD codes 1 0) (getD codes 2 0) ≡ rule (map numberOf codes) 1
+  pub le-hi : (e : Edition) → leb (getD codes 1 0) (getD codes 2 0) ≡ rule (map numberOf codes) e 1
   unfolding rule joint limitAt limits
-  le-hi = le-of 1 2 (gain 1 (lit< tt) tt) (gain 2 (lit< tt) tt)
+  le-hi e = le-of 1 2 (gain 1 (lit< tt) tt) (gain 2 (lit< tt) tt)
 
   -- D_out < D_lo
-  pub lt-lo : ltb (getD codes 3 0) (getD codes 0 0) ≡ rule (map numberOf codes) 2
+  pub lt-lo : (e : Edition) → ltb (getD codes 3 0) (getD codes 0 0) ≡ rule (map numberOf codes) e 2
   unfolding rule joint limitAt limits
-  lt-lo =
+  lt-lo e =
       ap₂ ltb (code-at codes 3) (code-at codes 0)
       ∙ gain-lt (at (map numberOf codes) 3) (at (map numberOf codes) 0) (gain 3 (lit< tt) tt) (gain 0 (lit< tt) tt)
 
   -- 2·D_out ≤ D
-  pub twice-out : leb (2 * getD codes 3 0) (getD codes 1 0) ≡ rule (map numberOf codes) 3
+  pub twice-out : (e : Edition) → leb (2 * getD codes 3 0) (getD codes 1 0) ≡ rule (map numberOf codes) e 3
   unfolding rule joint limitAt limits
-  twice-out =
+  twice-out e =
       ap₂ (λ (u v : ℕ). leb (2 * u) v) (code-at codes 3) (code-at codes 1)
       ∙ gain-twice (at (map numberOf codes) 3) (at (map numberOf codes) 1) (gain 3 (lit< tt) tt) (gain 1 (lit< tt) tt)
 
-  -- D_score + D_out ≤ D
-  pub sum-out : leb (getD codes 4 0 + getD codes 3 0) (getD codes 1 0) ≡ rule (map numberOf codes) 4
-  unfolding rule joint limitAt limits
+  -- D_score + D_out ≤ D, of the first edition
+  pub sum-out : leb (getD codes 4 0 + getD codes 3 0) (getD codes 1 0) ≡ scoreRule (map numberOf codes) First
+  unfolding limitAt limits
   sum-out =
       ap₂ leb (ap₂ (λ (u v : ℕ). u + v) (code-at codes 4) (code-at codes 3)) (code-at codes 1)
-      ∙ gain-sum (at (map numberOf codes) 4) (at (map numberOf codes) 3) (at (map numberOf codes) 1) (gain 4 (lit< tt) tt) (gain 3 (lit< tt) tt) (gain 1 (lit< tt) tt)
+      ∙ gain-sum (at (map numberOf codes) 4) (at (map numberOf codes) 3) (at (map numberOf codes) 1) (gain 4 (lit< tt) tt)
+      (gain 3 (lit< tt) tt) (gain 1 (lit< tt) tt)
+
+  -- D_score ≤ D, of the second
+  pub le-score : leb (getD codes 4 0) (getD codes 1 0) ≡ scoreRule (map numberOf codes) Second
+  unfolding limitAt limits
+  le-score = le-of 4 1 (gain 4 (lit< tt) tt) (gain 1 (lit< tt) tt)
+
+  pub score-is : (e : Edition) → scoreRule (map numberOf codes) e ≡ rule (map numberOf codes) e 4
+  unfolding rule joint
+  score-is e = refl
 
   -- publish ≤ gossip, both negative
-  pub le-gossip : leb (getD codes 10 0) (getD codes 11 0) ≡ rule (map numberOf codes) 5
+  pub le-gossip : (e : Edition) → leb (getD codes 10 0) (getD codes 11 0) ≡ rule (map numberOf codes) e 5
   unfolding rule joint limitAt limits
-  le-gossip =
+  le-gossip e =
       ap₂ leb (code-at codes 10) (code-at codes 11)
       ∙ loss-le (at (map numberOf codes) 11) (at (map numberOf codes) 10) (loss 11 (lit< tt) tt) (loss 10 (lit< tt) tt)
 
   -- graylist < publish, both negative
-  pub lt-publish : ltb (getD codes 11 0) (getD codes 9 0) ≡ rule (map numberOf codes) 6
+  pub lt-publish : (e : Edition) → ltb (getD codes 11 0) (getD codes 9 0) ≡ rule (map numberOf codes) e 6
   unfolding rule joint limitAt limits
-  lt-publish =
+  lt-publish e =
       ap₂ ltb (code-at codes 11) (code-at codes 9)
       ∙ loss-lt (at (map numberOf codes) 9) (at (map numberOf codes) 11) (loss 9 (lit< tt) tt) (loss 11 (lit< tt) tt)
 
@@ -136,9 +148,9 @@ module _ (codes : List ℕ) (ok : Within codes) where
       (gain-at codes ok (place k 10) (omega arith) 29 (topic-field k 10 (lit< tt)) tt)
       (gain-at codes ok (place k 9) (omega arith) 28 (topic-field k 9 (lit< tt)) tt)
 
-  pub caps-are : every topicCount (capRule (map numberOf codes)) ≡ rule (map numberOf codes) 7
+  pub caps-are : (e : Edition) → every topicCount (capRule (map numberOf codes)) ≡ rule (map numberOf codes) e 7
   unfolding rule joint
-  caps-are = refl
+  caps-are e = refl
 
   -- the sums of `keeps` are small
   pub out-small : getD codes 3 0 ≤ 48
@@ -149,9 +161,13 @@ module _ (codes : List ℕ) (ok : Within codes) where
   unfolding limitAt limits
   score-small = omega (arith, most-of codes ok 4 (lit< tt) 4 refl 48 tt)
 
+-- ---- the ends of `score_keeps`
+pub score-in : {e d : Edition} (xs : List ℤ) → e ≡ d → (b : Bool) → b ≡ scoreRule xs d → b ≡ scoreRule xs e
+score-in xs q b f = f ∙ ap (scoreRule xs) (sym q)
+
 -- ---- the ends of `keeps`: rule k, which is the n-th
-pub rule-at : (xs : List ℤ) (k n : ℕ) (b : Bool) → k ≡ n → b ≡ rule xs n → b ≡ rule xs k
-rule-at xs k n b e f = rw e f
+pub rule-at : (xs : List ℤ) (e : Edition) (k n : ℕ) (b : Bool) → k ≡ n → b ≡ rule xs e n → b ≡ rule xs e k
+rule-at xs e k n b q f = rw q f
 
 four : (k : ℕ) → (k ≡ 0 → ⊥) → (k ≡ 1 → ⊥) → (k ≡ 2 → ⊥) → (k ≡ 3 → ⊥) → 4 ≤ k
 four k a b c d = omega arith
@@ -160,5 +176,6 @@ seven′ : (k : ℕ) → 4 ≤ k → k < ruleCount → (k ≡ 4 → ⊥) → (k 
 seven′ k f h a b c = omega arith
 
 -- the last of eight, once the first seven are ruled out (omega takes six such facts at most)
-pub seven : (k : ℕ) → k < ruleCount → (k ≡ 0 → ⊥) → (k ≡ 1 → ⊥) → (k ≡ 2 → ⊥) → (k ≡ 3 → ⊥) → (k ≡ 4 → ⊥) → (k ≡ 5 → ⊥) → (k ≡ 6 → ⊥) → k ≡ 7
+pub seven : (k : ℕ) → k < ruleCount → (k ≡ 0 → ⊥) → (k ≡ 1 → ⊥) → (k ≡ 2 → ⊥) → (k ≡ 3 → ⊥) → (k ≡ 4 → ⊥) → (k ≡ 5 → ⊥) → (k ≡ 6 → ⊥) → k
+    ≡ 7
 seven k h a b c d e f g = seven′ k (four k a b c d) h e f g

@@ -8,9 +8,9 @@ use Rattle.records.specs.Records.{paramCount}
 use Rattle.limits.specs.Limits.{limits, limitAt, inLimits, outside}
 use Rattle.params.specs.Joint.{capRule, joint, rule}
 use Rattle.params.specs.Check.{broken, firstBroken}
-use Rattle.params.specs.Ordinary.{ordinaryNumbers}
+use Rattle.params.specs.Ordinary.{ordinaryNumbers, ordinaryParams}
 
-pub ordinary-accepted : firstBroken ordinaryNumbers ≡ Nothing
+pub ordinary-accepted : firstBroken ordinaryParams ≡ Nothing
 unfolding firstBroken first every outside broken inLimits limitAt limits rule joint capRule ordinaryNumbers
 ordinary-accepted = refl
 

@@ -1,25 +1,27 @@
--- What upper crates use of accepted codes, as the parameters stand in a router's tables: the bounds of every number's magnitude by name, and
--- the joint rules of magnitudes. Signs and further laws by field are in limits/proofs/FieldLaws.antt.
+-- What upper crates use of accepted codes, as the parameters stand in a router's tables: the bounds of every number's magnitude by name,
+-- and the joint rules of magnitudes. Signs and further laws by field are in limits/proofs/FieldLaws.antt.
 -- Assumes nothing.
 use Prim.Native.Nat.{ℕ, suc, _+_, _*_, _<_, _≤_}
-use mathlib.Core.Path.{_≡_, refl, sym, ap, _∙_}
-use mathlib.Core.Bool.{Bool, true}
+use mathlib.Core.Path.{_≡_, refl, _∙_}
+use mathlib.Core.Bool.{true}
 use mathlib.Core.List.{List, map}
 use native.Mathlib.Omega.{arith}
 use borrow.Author.Tests.{leb-true}
 use lib.Dec.{leb, lit<}
 use lib.ListN.{getD}
-use Rattle.index.specs.Index.{every}
 use Rattle.index.proofs.Index.{every-at}
 use Rattle.varint.specs.Codes.{numberOf}
 use Rattle.records.specs.Records.{topicCount}
 use Rattle.limits.specs.Limits.{limits, limitAt, place}
-use Rattle.params.specs.Joint.{ruleCount, capRule, rule}
+use Rattle.params.specs.declared.Edition.{Edition}
+use Rattle.params.specs.declared.Edition.the-variants.{First, Second}
+use Rattle.params.specs.Joint.{ruleCount, capRule, scoreRule, rule}
 use Rattle.params.specs.Check.{acceptedCodes}
 use Rattle.limits.proofs.LimitLaws.{topic-field}
-use Rattle.params.proofs.CheckLaws.{codes-pass}
+use Rattle.params.proofs.CheckLaws.{accepted-codes, codes-pass}
 use Rattle.limits.proofs.FieldLaws.{size, Within, most-of, least-of, loss-least, gain-code, loss-code}
-use Rattle.params.proofs.CodeRules.{le-lo, le-hi, lt-lo, twice-out, sum-out, le-gossip, lt-publish, cap-of, caps-are}
+use Rattle.params.proofs.CodeRules.{le-lo, le-hi, lt-lo, twice-out, sum-out, le-score, score-is, le-gossip, lt-publish, cap-of}
+use Rattle.params.proofs.CodeRules.{caps-are}
 
 -- ---- the magnitudes of the general numbers, by name
 pub record General (codes : List ℕ) : Type 0 where
@@ -82,20 +84,24 @@ pub record Topic (codes : List ℕ) (k : ℕ) : Type 0 where
   pub p4Decay-least : 1 ≤ size codes (place k 15)
   pub p4Decay-most : size codes (place k 15) ≤ 999
 
--- ---- the joint rules, of magnitudes
+-- ---- the joint rules, of magnitudes: what both editions ask (of D_score the first asks more)
 pub record Joints (codes : List ℕ) : Type 0 where
   pub lo-d : size codes 0 ≤ size codes 1
   pub d-hi : size codes 1 ≤ size codes 2
   pub out-lo : size codes 3 < size codes 0
   pub out-twice : 2 * size codes 3 ≤ size codes 1
-  pub score-out : size codes 4 + size codes 3 ≤ size codes 1
+  pub score-d : size codes 4 ≤ size codes 1
   pub gossip-publish : size codes 10 ≤ size codes 11
   pub publish-graylist : size codes 11 < size codes 9
   pub cap : (k : ℕ) → k < topicCount → size codes (place k 10) ≤ size codes (place k 9)
 
-module _ (codes : List ℕ) (accepted : acceptedCodes codes ≡ true) where
+-- an edition's number and codes that are accepted (a record, so that a law's edition is known from it)
+pub record Accepts (n : ℕ) (codes : List ℕ) : Type 0 where
+  pub passes : acceptedCodes n codes ≡ true
+
+module _ {n : ℕ} (codes : List ℕ) (accepted : Accepts n codes) where
   pub within : Within codes
-  within = codes-pass codes accepted .0
+  within = codes-pass n codes (accepted .passes) .0
 
   pub general : General codes
   unfolding limitAt limits
@@ -164,12 +170,23 @@ module _ (codes : List ℕ) (accepted : acceptedCodes codes ≡ true) where
         p4Decay-most = most-of codes within (place k 15) (omega arith) 34 (topic-field k 15 (lit< tt)) 999 tt;
       }
 
-  holds : (k : ℕ) → k < ruleCount → rule (map numberOf codes) k ≡ true
-  holds k h = every-at (rule (map numberOf codes)) ruleCount k (codes-pass codes accepted .1) h
+  abbrev edition : Edition
+  edition = accepted-codes n codes (accepted .passes) .edition
+
+  holds : (k : ℕ) → k < ruleCount → rule (map numberOf codes) edition k ≡ true
+  holds k h = every-at (rule (map numberOf codes) edition) ruleCount k (codes-pass n codes (accepted .passes) .1) h
 
   -- a rule that holds, by the codes
-  le-by : (u v k : ℕ) → k < ruleCount → leb u v ≡ rule (map numberOf codes) k → u ≤ v
+  le-by : (u v k : ℕ) → k < ruleCount → leb u v ≡ rule (map numberOf codes) edition k → u ≤ v
   le-by u v k h e = leb-true u v (e ∙ holds k h)
+
+  -- D_score is at most D in both editions
+  score-le : getD codes 4 0 ≤ getD codes 1 0
+  score-le = go edition (score-is codes within edition ∙ holds 4 (lit< tt))
+    where
+      go : (e : Edition) → scoreRule (map numberOf codes) e ≡ true → getD codes 4 0 ≤ getD codes 1 0
+      go First q = omega (arith, leb-true (getD codes 4 0 + getD codes 3 0) (getD codes 1 0) (sum-out codes within ∙ q))
+      go Second q = leb-true (getD codes 4 0) (getD codes 1 0) (le-score codes within ∙ q)
 
   pub joints : Joints codes
   unfolding limitAt limits
@@ -183,16 +200,21 @@ module _ (codes : List ℕ) (accepted : acceptedCodes codes ≡ true) where
       let c10 = loss-code codes within 10 (lit< tt) 10 refl tt in
       let c11 = loss-code codes within 11 (lit< tt) 11 refl tt in
       record {
-        lo-d = omega (arith, le-by (getD codes 0 0) (getD codes 1 0) 0 (lit< tt) (le-lo codes within));
-        d-hi = omega (arith, le-by (getD codes 1 0) (getD codes 2 0) 1 (lit< tt) (le-hi codes within));
-        out-lo = omega (arith, le-by (suc (getD codes 3 0)) (getD codes 0 0) 2 (lit< tt) (lt-lo codes within));
-        out-twice = omega (arith, le-by (2 * getD codes 3 0) (getD codes 1 0) 3 (lit< tt) (twice-out codes within));
-        score-out = omega (arith, le-by (getD codes 4 0 + getD codes 3 0) (getD codes 1 0) 4 (lit< tt) (sum-out codes within));
-        gossip-publish = omega (arith, le-by (getD codes 10 0) (getD codes 11 0) 5 (lit< tt) (le-gossip codes within));
-        publish-graylist = omega (arith, le-by (suc (getD codes 11 0)) (getD codes 9 0) 6 (lit< tt) (lt-publish codes within));
+        lo-d = omega (arith, le-by (getD codes 0 0) (getD codes 1 0) 0 (lit< tt) (le-lo codes within edition));
+        d-hi = omega (arith, le-by (getD codes 1 0) (getD codes 2 0) 1 (lit< tt) (le-hi codes within edition));
+        out-lo = omega (arith, le-by (suc (getD codes 3 0)) (getD codes 0 0) 2 (lit< tt) (lt-lo codes within edition));
+        out-twice = omega (arith, le-by (2 * getD codes 3 0) (getD codes 1 0) 3 (lit< tt) (twice-out codes within edition));
+        score-d = omega (arith, score-le);
+        gossip-publish = omega (arith, le-by (getD codes 10 0) (getD codes 11 0) 5 (lit< tt) (le-gossip codes within edition));
+        publish-graylist = omega (arith, le-by (suc (getD codes 11 0)) (getD codes 9 0) 6 (lit< tt) (lt-publish codes within edition));
         cap = λ k h. cap-le k h;
       }
     where
       cap-le : (k : ℕ) → k < topicCount → size codes (place k 10) ≤ size codes (place k 9)
       cap-le k h =
-          omega (arith, leb-true (getD codes (place k 10) 0) (getD codes (place k 9) 0) (cap-of codes within k h ∙ every-at (capRule (map numberOf codes)) topicCount k (caps-are codes within ∙ holds 7 (lit< tt)) h))
+          omega (
+            arith,
+            leb-true (getD codes (place k 10) 0) (getD codes (place k 9) 0)
+                (cap-of codes within k h
+                ∙ every-at (capRule (map numberOf codes)) topicCount k (caps-are codes within edition ∙ holds 7 (lit< tt)) h),
+          )

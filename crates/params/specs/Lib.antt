@@ -1,3 +1,4 @@
+pub mod Editions
 pub mod Joint
 pub mod Check
 pub mod Ordinary

@@ -3,6 +3,8 @@ use Prim.Native.Nat.{ℕ, zero, suc}
 use mathlib.Core.List.{List, [], _∷_, _++_}
 use lib.IntN.{ℤ, pos}
 use Rattle.limits.specs.Limits.{minus}
+use Rattle.params.specs.declared.Edition.the-variants.{First}
+use Rattle.params.specs.declared.Params.{Params}
 
 abbrev general : List ℤ
 general =
@@ -62,3 +64,7 @@ times (suc n) l = l ++ times n l
 
 unfoldable pub ordinaryNumbers : List ℤ
 ordinaryNumbers = general ++ times 8 topic
+
+-- they are of the first edition
+abbrev pub ordinaryParams : Params
+ordinaryParams = record { numbers = ordinaryNumbers; edition = First }

@@ -1,5 +1,5 @@
-// The joint rules (01, "Joint rules, in order"), of codes of numbers between their limits. Two codes of one sign stand to each other as the
-// magnitudes do, so nothing is decoded. A rule that changes is changed here and in specs/Joint.antt.
+// The joint rules (01, "Joint rules, in order") of both editions, of codes of numbers between their limits. Two codes of one sign stand to
+// each other as the magnitudes do, so nothing is decoded. A rule that changes is changed here and in specs/Joint.antt.
 ghost use mathlib.Core.Path.{_≡_};
 ghost use mathlib.Core.Bool.{true};
 ghost use mathlib.Core.List.{map};
@@ -9,8 +9,9 @@ ghost use Rattle.index.specs.Index.{first, every};
 ghost use Rattle.varint.specs.Codes.{numberOf};
 ghost use Rattle.records.specs.Records.{topicCount, paramCount};
 ghost use Rattle.limits.specs.Limits.{inLimits};
-ghost use Rattle.params.specs.Joint.{ruleCount, capRule, rule};
+ghost use Rattle.params.specs.Joint.{ruleCount, capRule, scoreRule, rule};
 ghost use Rattle.params.specs.Check.{broken};
+use crate::Edition;
 use index::Found;
 use limits::GENERAL;
 use limits::OF_TOPIC;
@@ -45,10 +46,23 @@ fn caps(codes: &[u64]) -> bool
     ok
 }
 
+// The rule on D_score.
+fn score_keeps(edition: Edition, codes: &[u64]) -> bool
+    requires { ⌜ (length (now codes) ≡ paramCount) × (every paramCount (inLimits (map numberOf (now codes))) ≡ true) ⌝ }
+    ensures { λ r. ⌜ r ≡ scoreRule (map numberOf (now (codes .entry))) edition ⌝ }
+{
+    match edition {
+        // D_score + D_out ≤ D
+        Edition::First => codes[D_SCORE] + codes[D_OUT] <= codes[D],
+        // D_score ≤ D
+        Edition::Second => codes[D_SCORE] <= codes[D],
+    }
+}
+
 // Whether joint rule k holds.
-fn keeps(codes: &[u64], k: usize) -> bool
+fn keeps(edition: Edition, codes: &[u64], k: usize) -> bool
     requires { ⌜ (length (now codes) ≡ paramCount) × (every paramCount (inLimits (map numberOf (now codes))) ≡ true) × (k < ruleCount) ⌝ }
-    ensures { λ r. ⌜ r ≡ rule (map numberOf (now (codes .entry))) k ⌝ }
+    ensures { λ r. ⌜ r ≡ rule (map numberOf (now (codes .entry))) edition k ⌝ }
 {
     match k {
         // D_lo ≤ D
@@ -59,8 +73,8 @@ fn keeps(codes: &[u64], k: usize) -> bool
         2 => codes[D_OUT] < codes[D_LO],
         // 2·D_out ≤ D
         3 => 2 * codes[D_OUT] <= codes[D],
-        // D_score + D_out ≤ D
-        4 => codes[D_SCORE] + codes[D_OUT] <= codes[D],
+        // D_score + D_out ≤ D, or D_score ≤ D
+        4 => score_keeps(edition, codes),
         // publish ≤ gossip
         5 => codes[GOSSIP_THRESHOLD] <= codes[PUBLISH_THRESHOLD],
         // graylist < publish
@@ -71,13 +85,13 @@ fn keeps(codes: &[u64], k: usize) -> bool
 }
 
 // The first joint rule that is broken.
-pub fn first_rule(codes: &[u64]) -> Found
+pub fn first_rule(edition: Edition, codes: &[u64]) -> Found
     requires { ⌜ (length (now codes) ≡ paramCount) × (every paramCount (inLimits (map numberOf (now codes))) ≡ true) ⌝ }
-    ensures { λ r. ⌜ r ≡ first ruleCount (broken (map numberOf (now (codes .entry)))) ⌝ }
+    ensures { λ r. ⌜ r ≡ first ruleCount (broken (map numberOf (now (codes .entry))) edition) ⌝ }
 {
     let mut k: usize = 0;
     while k < RULES {
-        if !keeps(codes, k) {
+        if !keeps(edition, codes, k) {
             return Found::At(k);
         }
         k += 1;

@@ -2,32 +2,32 @@
 -- and so the value that goes with an answer (a length, a place, an index) is small.
 -- Assumes nothing.
 use Prim.Native.Nat.{ℕ, zero, suc, _+_, _-_, _*_, _/_, _^_, _<_, _≤_}
-use mathlib.Core.Path.{_≡_, refl, sym, ap, _∙_}
-use mathlib.Core.Bool.{Bool, cond}
+use mathlib.Core.Path.{_≡_, refl, sym, _∙_}
 use mathlib.Core.List.{List, [], _∷_}
 use native.Mathlib.Omega.{arith}
 use native.Mathlib.Nat.{pow-suc}
 use lib.Dec.{ltb, leb, eqb}
 use lib.ListN.{length, getD}
 use lib.IntN.{ℤ}
-use Rattle.index.specs.Index.{first, orElse}
 use Rattle.index.specs.declared.Found.{Found}
 use Rattle.index.specs.declared.Found.the-variants.{At, Nothing}
-use Rattle.index.proofs.Index.{first-is}
 use Rattle.index.proofs.Flags.{by-test, by-order, cond-case}
 use Rattle.varint.specs.Groups.{readAt, afterMore, lastGroup}
 use Rattle.varint.specs.Codes.{numberOf}
 use Rattle.varint.specs.declared.Read.{Read}
 use Rattle.varint.specs.declared.Read.the-variants.{Number, Bad}
 use Rattle.varint.proofs.GroupLaws.{readAt-end, last-is, more-is, after-small}
+use Rattle.params.specs.declared.Edition.{Edition}
+use Rattle.params.specs.declared.Params.{Params}
+use Rattle.params.specs.Editions.{sheet}
 use Rattle.params.specs.Check.{firstBroken}
 use Rattle.params.proofs.CheckLaws.{broken-most}
 use Rattle.records.specs.Records.{paramCount}
-use Rattle.params_bytes.specs.Read.{Parse, numbers, malformed, then, step, parseFrom, ending, judgedBy, judged, readOf, verdictValue}
-use Rattle.params_bytes.specs.Write.{roomNeeded, writeBy, writeOf, writtenValue}
-use Rattle.params_bytes.specs.declared.Written.{Written}
-use Rattle.params_bytes.specs.declared.Written.the-variants.{Short}
-use Rattle.params_bytes.proofs.RoundTrip.{bytes-most}
+use Rattle.params_bytes.specs.Read.{Parse, numbers, malformed, then, step, parseFrom, editionIn, frontBytes, parseAll, ending}
+use Rattle.params_bytes.specs.Read.{judgedBy, judged, readOf, verdictValue}
+use Rattle.params_bytes.specs.Write.{roomFor, writeBy, writeOf, writtenValue}
+use Rattle.params_bytes.proofs.WriteLaws.{room-is, front-short}
+use Rattle.params_bytes.proofs.RoundTrip.{form-most}
 
 -- nothing is both
 no : {P : Type 0} (u next : ℕ) → Bad ≡ Number u next → P
@@ -170,27 +170,32 @@ ending-place s (numbers xs next) =
     cond-case (λ (q : Parse). placeOf q ≡ next) (ltb next (length s)) (malformed next) (numbers xs next) (λ t. refl) (λ t. refl)
 
 -- ---- the values of the answers
-judged-value : (xs : List ℤ) (next : ℕ) (f : Found) → firstBroken xs ≡ f → next ≤ 1470 → verdictValue (judgedBy f xs next .verdict) ≤ 1470
-judged-value xs next (At i) e h = omega (arith, broken-most xs i e)
-judged-value xs next Nothing e h = h
+judged-value : (p : Params) (next : ℕ) (f : Found) → firstBroken p ≡ f → next ≤ 1472 → verdictValue (judgedBy f p next .verdict) ≤ 1472
+judged-value p next (At i) e h = omega (arith, broken-most p i e)
+judged-value p next Nothing e h = h
 
-parse-value : (p : Parse) → placeOf p ≤ 1470 → verdictValue (judged p .verdict) ≤ 1470
-parse-value (numbers xs next) h = judged-value xs next (firstBroken xs) refl h
-parse-value (malformed p) h = h
+parse-value : (e : Edition) (p : Parse) → placeOf p ≤ 1472 → verdictValue (judged e p .verdict) ≤ 1472
+parse-value e (numbers xs next) h = judged-value (sheet e xs) next (firstBroken (sheet e xs)) refl h
+parse-value e (malformed p) h = h
 
-pub read-most : (s : List ℕ) → verdictValue (readOf s .verdict) ≤ 1470
+-- the place that all numbers come to, behind the front
+pub all-place : (s : List ℕ) → placeOf (parseAll s) ≤ 1472
+unfolding parseAll
+all-place s =
+    let front = length (frontBytes (editionIn s)) in
+    omega (arith, parse-place s paramCount front, front-short (editionIn s))
+
+pub read-most : (s : List ℕ) → verdictValue (readOf s .verdict) ≤ 1472
 unfolding readOf
-read-most s =
-    let p = parseFrom paramCount s 0 in
-    parse-value (ending s p) (omega (arith, ending-place s p, parse-place s paramCount 0))
+read-most s = parse-value (editionIn s) (ending s (parseAll s)) (omega (arith, ending-place s (parseAll s), all-place s))
 
-pub write-most : (xs : List ℤ) (buf : List ℕ) → length xs ≡ paramCount → writtenValue (writeOf xs buf .answer) ≤ roomNeeded
+pub write-most : (p : Params) (buf : List ℕ) → length (p .numbers) ≡ paramCount → writtenValue (writeOf p buf .answer) ≤ 737
 unfolding writeOf
-write-most xs buf l =
-    by-test (writtenValue (writeOf xs buf .answer) ≤ roomNeeded) (ltb (length buf) roomNeeded)
+write-most p buf l =
+    by-test (writtenValue (writeOf p buf .answer) ≤ 737) (ltb (length buf) (roomFor (p .edition)))
     (λ t. rw t (omega arith))
-    (λ t. rw t (go (firstBroken xs) refl))
+    (λ t. rw t (go (firstBroken p) refl))
   where
-    go : (f : Found) → firstBroken xs ≡ f → writtenValue (writeBy f xs buf .answer) ≤ roomNeeded
-    go (At i) e = omega (arith, broken-most xs i e)
-    go Nothing e = bytes-most xs l e
+    go : (f : Found) → firstBroken p ≡ f → writtenValue (writeBy f p buf .answer) ≤ 737
+    go (At i) e = omega (arith, broken-most p i e)
+    go Nothing e = omega (arith, form-most p l e, room-is (p .edition), front-short (p .edition))

@@ -1,9 +1,10 @@
--- Reading the parameters from bytes (01, numbers 10 and 9, in that order): 147 numbers, each by its code in seven-bit groups.
+-- Reading the parameters from bytes (01, numbers 10 and 9, in that order): 147 numbers, each by its code in seven-bit groups, behind the
+-- front that tells their edition.
 use Prim.Native.Nat.{ℕ, zero, suc}
-use mathlib.Core.Bool.{cond}
+use mathlib.Core.Bool.{cond, _&&_}
 use mathlib.Core.List.{List, [], _∷_, _++_}
-use lib.Dec.{ltb}
-use lib.ListN.{length, replicate}
+use lib.Dec.{eqb, ltb}
+use lib.ListN.{length, getD, replicate}
 use lib.IntN.{ℤ, pos}
 use Rattle.index.specs.declared.Found.{Found}
 use Rattle.index.specs.declared.Found.the-variants.{At, Nothing}
@@ -11,6 +12,10 @@ use Rattle.varint.specs.Groups.{readAt}
 use Rattle.varint.specs.Codes.{numberOf}
 use Rattle.varint.specs.declared.Read.{Read}
 use Rattle.varint.specs.declared.Read.the-variants.{Number, Bad}
+use Rattle.params.specs.declared.Edition.{Edition}
+use Rattle.params.specs.declared.Edition.the-variants.{First, Second}
+use Rattle.params.specs.declared.Params.{Params}
+use Rattle.params.specs.Editions.{sheet}
 use Rattle.params.specs.Check.{firstBroken}
 use Rattle.records.specs.Records.{paramCount}
 use Rattle.params_bytes.specs.declared.Verdict.{Verdict}
@@ -37,6 +42,19 @@ unfoldable pub parseFrom : ℕ → List ℕ → ℕ → Parse
 parseFrom zero s at = numbers [] at
 parseFrom (suc n) s at = step (λ next. parseFrom n s next) at (readAt 18446744073709551615 s at)
 
+-- ---- the edition
+-- "Edition 2 of the sheet has the bytes 00 02 in front [..]; the bare 147 numbers are edition 1": every other front is edition 1's
+unfoldable pub editionIn : List ℕ → Edition
+editionIn s = cond (eqb (getD s 0 0) 0 && eqb (getD s 1 0) 2) Second First
+
+abbrev pub frontBytes : Edition → List ℕ
+frontBytes First = []
+frontBytes Second = 0 ∷ 2 ∷ []
+
+-- all numbers, behind the front; so places count its bytes
+unfoldable pub parseAll : List ℕ → Parse
+parseAll s = parseFrom paramCount s (length (frontBytes (editionIn s)))
+
 -- the numbers of a reading that is not yet checked
 abbrev pub outcome : Parsed → Parse
 outcome p = cond (p .ok) (numbers (p .numbers) (p .place)) (malformed (p .place))
@@ -46,25 +64,26 @@ abbrev pub ending : List ℕ → Parse → Parse
 ending s (numbers xs next) = cond (ltb next (length s)) (malformed next) (numbers xs next)
 ending s (malformed p) = malformed p
 
--- a refusal holds paramCount zeros for the parameters
+-- ---- what is answered
+-- a refusal holds 147 zeros for the parameters
 abbrev pub refusal : Verdict → Reading
-refusal v = record { verdict = v; params = record { numbers = replicate paramCount (pos 0) } }
+refusal v = record { verdict = v; params = record { numbers = replicate paramCount (pos 0); edition = First } }
 
-abbrev pub judgedBy : Found → List ℤ → ℕ → Reading
-judgedBy (At i) xs next = refusal (Broken i)
-judgedBy Nothing xs next = record { verdict = Accepted next; params = record { numbers = xs } }
+abbrev pub judgedBy : Found → Params → ℕ → Reading
+judgedBy (At i) p next = refusal (Broken i)
+judgedBy Nothing p next = record { verdict = Accepted next; params = p }
 
-abbrev pub judged : Parse → Reading
-judged (numbers xs next) = judgedBy (firstBroken xs) xs next
-judged (malformed p) = refusal (Malformed p)
+abbrev pub judged : Edition → Parse → Reading
+judged e (numbers xs next) = judgedBy (firstBroken (sheet e xs)) (sheet e xs) next
+judged e (malformed p) = refusal (Malformed p)
 
 -- all the bytes are the parameters
 unfoldable pub readOf : List ℕ → Reading
-readOf s = judged (ending s (parseFrom paramCount s 0))
+readOf s = judged (editionIn s) (ending s (parseAll s))
 
 -- the bytes begin with the parameters, and others may follow
 unfoldable pub frontOf : List ℕ → Reading
-frontOf s = judged (parseFrom paramCount s 0)
+frontOf s = judged (editionIn s) (parseAll s)
 
 -- 01's number of each verdict, and the value that goes with it
 abbrev pub verdictNumber : Verdict → ℕ

@@ -10,31 +10,40 @@ use Rattle.index.specs.declared.Found.{Found}
 use Rattle.index.specs.declared.Found.the-variants.{At, Nothing}
 use Rattle.varint.specs.Groups.{encode}
 use Rattle.varint.specs.Codes.{codeOf}
+use Rattle.params.specs.declared.Edition.{Edition}
+use Rattle.params.specs.declared.Edition.the-variants.{First, Second}
+use Rattle.params.specs.declared.Params.{Params}
 use Rattle.params.specs.Check.{firstBroken}
+use Rattle.params_bytes.specs.Read.{frontBytes}
 use Rattle.params_bytes.specs.declared.Written.{Written}
 use Rattle.params_bytes.specs.declared.Written.the-variants.{Done, Short, Outside}
 
--- "8 action list under 192 numbers; in writing a sheet, buffer under 735 bytes": five bytes for each number
-abbrev pub roomNeeded : ℕ
-roomNeeded = 735
+-- "in writing a sheet, buffer under 735 bytes"; edition 2 "needs 737 bytes to write": five for each number, and the front
+abbrev pub roomFor : Edition → ℕ
+roomFor First = 735
+roomFor Second = 737
 
 -- the bytes of a list of numbers
 unfoldable pub bytesOf : List ℤ → List ℕ
 bytesOf [] = []
 bytesOf (x ∷ xs) = encode (codeOf x) ++ bytesOf xs
 
+-- the bytes of parameters
+abbrev pub formOf : Params → List ℕ
+formOf p = frontBytes (p .edition) ++ bytesOf (p .numbers)
+
 -- the answer, and the buffer's bytes after it
 pub record Writing : Type 0 where
   pub answer : Written
   pub bytes : List ℕ
 
-abbrev pub writeBy : Found → List ℤ → List ℕ → Writing
-writeBy (At i) xs buf = record { answer = Outside i; bytes = buf }
-writeBy Nothing xs buf = record { answer = Done (length (bytesOf xs)); bytes = sets buf 0 (bytesOf xs) }
+abbrev pub writeBy : Found → Params → List ℕ → Writing
+writeBy (At i) p buf = record { answer = Outside i; bytes = buf }
+writeBy Nothing p buf = record { answer = Done (length (formOf p)); bytes = sets buf 0 (formOf p) }
 
-unfoldable pub writeOf : List ℤ → List ℕ → Writing
-writeOf xs buf =
-    cond (ltb (length buf) roomNeeded) (record { answer = Short; bytes = buf }) (writeBy (firstBroken xs) xs buf)
+unfoldable pub writeOf : Params → List ℕ → Writing
+writeOf p buf =
+    cond (ltb (length buf) (roomFor (p .edition))) (record { answer = Short; bytes = buf }) (writeBy (firstBroken p) p buf)
 
 -- 01's number of each answer, and the value that goes with it (8 has none)
 abbrev pub writtenNumber : Written → ℕ

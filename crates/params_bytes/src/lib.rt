@@ -1,23 +1,21 @@
-// The parameters in bytes (01, "The sheet"): 147 numbers, each by its code in seven-bit groups, read and written. Reading and writing undo each
-// other (specs/RoundTrip.antt).
+// The parameters in bytes (01, "The sheet"): 147 numbers, each by its code in seven-bit groups, behind the front that tells their edition
+// (02, order 14). Reading and writing undo each other (specs/RoundTrip.antt).
 use index::Found;
 use limits::NUMBERS;
+use params::Edition;
 use params::Params;
 use varint::Put;
 use varint::Read;
 ghost use mathlib.Core.Path.{_≡_};
-ghost use Prim.Native.Nat.{ℕ, _≤_, _<_};
+ghost use Prim.Native.Nat.{ℕ, _+_, _*_, _≤_, _<_};
 ghost use lib.ListN.{length};
 ghost use lib.Seq.{sets};
 ghost use Rattle.varint.specs.Codes.{codeOf};
 ghost use Rattle.records.specs.Records.{paramCount};
 ghost use Rattle.limits.specs.Limits.{at};
 ghost use Rattle.params.specs.Check.{firstBroken};
-ghost use Rattle.params_bytes.specs.Read.{parseFrom, outcome, refusal, judgedBy, readOf, frontOf};
-ghost use Rattle.params_bytes.specs.Write.{roomNeeded, bytesOf, writeOf};
-
-// How many bytes written parameters may take.
-const ROOM: usize = 735;
+ghost use Rattle.params_bytes.specs.Read.{editionIn, frontBytes, parseFrom, outcome, refusal, judgedBy, readOf, frontOf};
+ghost use Rattle.params_bytes.specs.Write.{roomFor, bytesOf, writeOf};
 
 // What reading came to: all read, and the place after them; malformed at a place; or the first number or rule that is broken.
 pub enum Verdict {
@@ -46,12 +44,45 @@ struct Parsed {
     numbers: [i64; NUMBERS],
 }
 
-// Read 147 numbers from the start of the bytes.
-fn parse(s: &[u8]) -> Parsed
-    ensures { λ r. ⌜ outcome r ≡ parseFrom paramCount (now (s .entry)) 0 ⌝ }
+// The edition of parameters that begin with these bytes.
+fn edition_in(s: &[u8]) -> Edition
+    ensures { λ r. ⌜ r ≡ editionIn (now (s .entry)) ⌝ }
+{
+    if s.len() < 2 {
+        return Edition::First;
+    }
+    if (s[0] == 0) & (s[1] == 2) {
+        return Edition::Second;
+    }
+    Edition::First
+}
+
+// How many bytes the front takes.
+fn front_length(edition: Edition) -> usize
+    ensures { λ r. ⌜ r ≡ length (frontBytes edition) ⌝ }
+{
+    match edition {
+        Edition::First => 0,
+        Edition::Second => 2,
+    }
+}
+
+// How many bytes written parameters may take.
+fn room_for(edition: Edition) -> usize
+    ensures { λ r. ⌜ r ≡ roomFor edition ⌝ }
+{
+    match edition {
+        Edition::First => 735,
+        Edition::Second => 737,
+    }
+}
+
+// Read 147 numbers from a place on.
+fn parse(s: &[u8], from: usize) -> Parsed
+    ensures { λ r. ⌜ outcome r ≡ parseFrom paramCount (now (s .entry)) from ⌝ }
 {
     let mut numbers = [0i64; NUMBERS];
-    let mut at: usize = 0;
+    let mut at = from;
     let mut i: usize = 0;
     while i < NUMBERS {
         let Read::Number(u, next) = varint::read_u64(s, at) else {
@@ -80,13 +111,16 @@ fn refused(verdict: Verdict) -> Reading
     let numbers = [0i64; NUMBERS];
     Reading {
         verdict,
-        params: Params { numbers },
+        params: Params {
+            numbers,
+            edition: Edition::First,
+        },
     }
 }
 
 // What is answered where the parameters are read and `next` is the place after them.
 fn judged(params: Params, next: usize) -> Reading
-    ensures { λ r. ⌜ r ≡ judgedBy (firstBroken (params .numbers)) (params .numbers) next ⌝ }
+    ensures { λ r. ⌜ r ≡ judgedBy (firstBroken params) params next ⌝ }
 {
     match params.first_broken() {
         Found::At(i) => refused(Verdict::Broken(i)),
@@ -101,20 +135,22 @@ fn judged(params: Params, next: usize) -> Reading
 pub fn read_front(s: &[u8]) -> Reading
     ensures { λ r. ⌜ r ≡ frontOf (now (s .entry)) ⌝ }
 {
-    let p = parse(s);
+    let edition = edition_in(s);
+    let p = parse(s, front_length(edition));
     let place = p.place;
     if !p.ok {
         return refused(Verdict::Malformed(place));
     }
     let numbers = p.numbers;
-    judged(Params { numbers }, place)
+    judged(Params { numbers, edition }, place)
 }
 
 // Read the parameters, which the bytes are to hold and nothing else.
 pub fn read(s: &[u8]) -> Reading
     ensures { λ r. ⌜ r ≡ readOf (now (s .entry)) ⌝ }
 {
-    let p = parse(s);
+    let edition = edition_in(s);
+    let p = parse(s, front_length(edition));
     let place = p.place;
     if !p.ok {
         return refused(Verdict::Malformed(place));
@@ -123,18 +159,33 @@ pub fn read(s: &[u8]) -> Reading
         return refused(Verdict::Malformed(place));
     }
     let numbers = p.numbers;
-    judged(Params { numbers }, place)
+    judged(Params { numbers, edition }, place)
 }
 
-// Write numbers from the start of a buffer in which they fit.
-fn put(numbers: &[i64; NUMBERS], buf: &mut [u8]) -> usize
-    requires { ⌜ (length (now numbers) ≡ paramCount)
-        × (roomNeeded ≤ length (now buf))
-        × ((i : ℕ) → i < paramCount → codeOf (at (now numbers) i) < 34359738368) ⌝ }
-    ensures { λ r. ⌜ (r ≡ length (bytesOf (now (numbers .entry))))
-        × (now (buf .exit) ≡ sets (now (buf .entry)) 0 (bytesOf (now (numbers .entry)))) ⌝ }
+// Write the front to the start of a buffer in which it fits.
+fn put_front(edition: Edition, buf: &mut [u8]) -> usize
+    requires { ⌜ roomFor edition ≤ length (now buf) ⌝ }
+    ensures { λ r. ⌜ (r ≡ length (frontBytes edition)) × (now (buf .exit) ≡ sets (now (buf .entry)) 0 (frontBytes edition)) ⌝ }
 {
-    let mut at: usize = 0;
+    match edition {
+        Edition::First => 0,
+        Edition::Second => {
+            buf[0] = 0;
+            buf[1] = 2;
+            2
+        }
+    }
+}
+
+// Write numbers from a place of a buffer on, in which they fit.
+fn put(numbers: &[i64; NUMBERS], buf: &mut [u8], from: usize) -> usize
+    requires { ⌜ (length (now numbers) ≡ paramCount)
+        × (from + 5 * paramCount ≤ length (now buf))
+        × ((i : ℕ) → i < paramCount → codeOf (at (now numbers) i) < 34359738368) ⌝ }
+    ensures { λ r. ⌜ (r ≡ from + length (bytesOf (now (numbers .entry))))
+        × (now (buf .exit) ≡ sets (now (buf .entry)) from (bytesOf (now (numbers .entry)))) ⌝ }
+{
+    let mut at = from;
     let mut i: usize = 0;
     while i < NUMBERS {
         let u = varint::code_of(numbers[i]);
@@ -149,17 +200,18 @@ fn put(numbers: &[i64; NUMBERS], buf: &mut [u8]) -> usize
 
 // Write the parameters from the start of the buffer, or say why not and leave the buffer.
 pub fn write(params: Params, buf: &mut [u8]) -> Written
-    ensures { λ r. ⌜ (r ≡ writeOf (params .numbers) (now (buf .entry)) .answer)
-        × (now (buf .exit) ≡ writeOf (params .numbers) (now (buf .entry)) .bytes) ⌝ }
+    ensures { λ r. ⌜ (r ≡ writeOf params (now (buf .entry)) .answer) × (now (buf .exit) ≡ writeOf params (now (buf .entry)) .bytes) ⌝ }
 {
-    if buf.len() < ROOM {
+    let edition = params.edition;
+    if buf.len() < room_for(edition) {
         return Written::Short;
     }
     match params.first_broken() {
         Found::At(i) => Written::Outside(i),
         Found::Nothing => {
             let numbers = params.numbers;
-            Written::Done(put(&numbers, buf))
+            let from = put_front(edition, buf);
+            Written::Done(put(&numbers, buf, from))
         }
     }
 }

@@ -1,5 +1,6 @@
 -- What the four calls come to at each of their ends.
 -- Assumes nothing.
+use Rattle.rules.proofs.ConnectLaws.{by-connect}
 use Prim.Native.Nat.{ℕ, _<_}
 use mathlib.Core.Path.{_≡_, refl, sym, ap, ap₂, _∙_}
 use mathlib.Core.Bool.{Bool, _&&_}
@@ -29,10 +30,10 @@ use Rattle.rules.specs.declared.Answer.{Answer}
 use Rattle.rules.specs.declared.Answer.the-variants.{Done, NoSlot, UnknownProtocol, AlreadyConnected}
 use Rattle.rules.specs.Reply.{Reply, done}
 use Rattle.rules.specs.Calls.{connect, disconnect, rate, score, idOk}
-use Rattle.rules.specs.Step.{effect, onVersion, connectAt, connectIn, connectReply}
+use Rattle.rules.specs.Step.{effect, connectAt, connectIn, connectReply}
 use Rattle.rules.specs.Promise.{Leaves}
 use Rattle.rules.proofs.PromiseLaws.{leaves-moved, leaves-refused}
-use Rattle.rules.proofs.EndLaws.{leaves-done, quiet-found, quiet-peer}
+use Rattle.rules.proofs.EndLaws.{leaves-done, quiet-peer}
 
 -- ---- no action
 
@@ -120,7 +121,7 @@ full-as st time size e = full-stays st time size e
 
 module _ (table mid : List ℕ) (time id group flags version : ℕ) (e : stateOf mid ≡ reclaimed (stateOf table) time) where
   abbrev known : Reply
-  known = connectIn (stateOf table) (reclaimed (stateOf table) time) time id group flags version
+  known = connectIn (stateOf table) (reclaimed (stateOf table) time) time id group flags (Version version) Nothing
 
   -- what the record's slot leaves is no refusal, so it is the same from either table
   pub connect-moved :
@@ -156,7 +157,8 @@ module _ (table mid : List ℕ) (time id group flags version : ℕ) (e : stateOf
           Leaves known NoSlot table mid
       unfolding connectIn
       connect-full lt lm g =
-          let m : mid ≡ table = determined mid table lm lt (e ∙ full-as (stateOf table) time (sized-of table) (sym (ap lowestEmpty e) ∙ sym q ∙ g)) in
+          let m : mid ≡ table =
+          determined mid table lm lt (e ∙ full-as (stateOf table) time (sized-of table) (sym (ap lowestEmpty e) ∙ sym q ∙ g)) in
           rw (← e, ← p, n, ← q, g) (record { answer = refl; state = ap stateOf m; kept = λ _. m })
 
 -- ---- connect: tests 6 and 4
@@ -166,47 +168,29 @@ module _ (table name : List ℕ) (time id group flags : ℕ) (n : Named) (e : n 
   reply = connectReply (stateOf table) time id group flags name
 
   pub connect-unknown : n ≡ Unknown → Leaves reply UnknownProtocol table table
-  unfolding connectReply
+  unfolding connectReply connectIn
   connect-unknown g = rw (← e, g) (leaves-refused UnknownProtocol table)
 
   module _ (version : ℕ) (g : n ≡ Version version) (f : Found) (p : f ≡ findConnected (stateOf table) id) where
     pub connect-already : (s : ℕ) → f ≡ At s → Leaves reply AlreadyConnected table table
-    unfolding connectReply
+    unfolding connectReply connectIn
     connect-already s h = rw (← e, g, ← p, h) (leaves-refused AlreadyConnected table)
 
     pub connect-new :
         (a : Answer) (table′ : List ℕ) →
         f ≡ Nothing →
-        Leaves (connectIn (stateOf table) (reclaimed (stateOf table) time) time id group flags version) a table table′ →
+        Leaves (connectIn (stateOf table) (reclaimed (stateOf table) time) time id group flags (Version version) Nothing) a table table′ →
         Leaves reply a table table′
     unfolding connectReply
     connect-new a table′ h l = rw (← e, g, ← p, h) l
 
 -- ---- connect gives no action
 
-quiet-version :
-    (n : Named) (f : ℕ → Reply) (o : Reply) →
-    ((v : ℕ) → f v .actions ≡ []) →
-    o .actions ≡ [] →
-    onVersion n f o .actions ≡ []
-quiet-version (Version v) f o h k = h v
-quiet-version Unknown f o h k = k
-
-quiet-at : (st : State) (time id group flags version s : ℕ) → connectAt st time id group flags version s .actions ≡ []
-unfolding connectAt
-quiet-at st time id group flags version s = refl
-
-quiet-in : (st u : State) (time id group flags version : ℕ) → connectIn st u time id group flags version .actions ≡ []
-unfolding connectIn
-quiet-in st u time id group flags version =
-    quiet-found (findRetained u id) (connectAt u time id group flags version) _ (quiet-at u time id group flags version)
-    (quiet-found (lowestEmpty u) (connectAt u time id group flags version) _ (quiet-at u time id group flags version) refl)
-
 pub quiet-connect :
     (st : State) (time id group flags : ℕ) (name : List ℕ) →
     effect st (connect time id group flags name) .actions ≡ []
-unfolding effect connectReply
+unfolding effect connectAt
 quiet-connect st time id group flags name =
-    quiet-version (versionOf name) _ _
-    (λ v. quiet-found (findConnected st id) _ _ (λ s. refl) (quiet-in st (reclaimed st time) time id group flags v))
-    refl
+    by-connect (λ (r : Reply). r .actions ≡ []) st time id group flags name (λ n. refl) (λ v s n c. refl) (λ v s n c r. refl)
+    (λ v s n c r e. refl)
+    (λ v n c r e. refl)

@@ -1,21 +1,20 @@
-// Connect, disconnect, setting P5, and the score: four of 01's calls. Each takes the lent table, a time, its arguments as wide numbers and a
-// lent action list, asks nothing of its caller, and promises the rules' reply (crate rules).
-ghost use Rattle.records.specs.Records.{slotCount};
+// Connect, disconnect, setting P5, and the score: four of 01's calls. Each takes the lent table, a time, its arguments as wide numbers and
+// a lent action list, asks nothing of its caller, and promises the rules' reply (crate rules).
 ghost use mathlib.Core.Path.{_≡_};
-ghost use Prim.Native.Nat.{_<_};
-ghost use lib.ListN.{length};
 ghost use lib.Dec.{leb};
 ghost use lib.IntN.{natAbs};
-ghost use Rattle.layout.specs.View.{cellCount, stateOf};
-ghost use Rattle.rules.specs.Calls.{connect as Calls·connect, disconnect as Calls·disconnect, rate as Calls·rate, score as Calls·score};
+ghost use Rattle.layout.specs.View.{stateOf};
+ghost use Rattle.rules.specs.Calls.{connect as Calls·connect, disconnect as Calls·disconnect};
+ghost use Rattle.rules.specs.Calls.{rate as Calls·rate, score as Calls·score};
 ghost use Rattle.rules.specs.Step.{effect, connectIn, connectAt, connectReply};
 ghost use Rattle.effects.specs.Effects.{reclaimed};
+ghost use Rattle.effects.specs.Lent.{AtSlot};
 ghost use Rattle.rules.specs.Promise.{Leaves, Follows};
 ghost use Rattle.gate.specs.Ready.{Ready};
 use effects::connections::connect_slot;
 use effects::connections::reclaim;
 use effects::connections::retain_slot;
-use effects::slots::load_size;
+use effects::slots::load_magnitude;
 use effects::slots::rate_slot;
 use effects::values::end_after;
 use gate::admit;
@@ -41,8 +40,9 @@ fn connect_at(
     version: u64,
     slot: usize,
 ) -> Answer
-    requires { ⌜ (length (now table) ≡ cellCount) × (slot < slotCount) ⌝ }
-    ensures { λ r. ⌜ Leaves (connectAt (stateOf (now (table .entry))) time id group flags version slot) r (now (table .entry)) (now (table .exit)) ⌝ }
+    requires { ⌜ AtSlot (now table) slot ⌝ }
+    ensures { λ r. ⌜ Leaves (connectAt (stateOf (now (table .entry))) time id group flags version slot) r
+        (now (table .entry)) (now (table .exit)) ⌝ }
 {
     connect_slot(table, slot, id, group, flags, version);
     finish(table, time)
@@ -58,7 +58,10 @@ fn connect_known(
     version: u64,
 ) -> Answer
     requires { ⌜ Ready (now table) time ⌝ }
-    ensures { λ r. ⌜ Leaves (connectIn (stateOf (now (table .entry))) (reclaimed (stateOf (now (table .entry))) time) time id group flags version) r (now (table .entry)) (now (table .exit)) ⌝ }
+    ensures { λ r. ⌜ Leaves
+        (connectIn (stateOf (now (table .entry))) (reclaimed (stateOf (now (table .entry))) time) time id group flags
+        (Named.Version version) Found.Nothing) r
+        (now (table .entry)) (now (table .exit)) ⌝ }
 {
     reclaim(table, time);
     if let Found::At(slot) = lookup::find::find_retained(table, id) {
@@ -80,7 +83,8 @@ fn connect_from(
     name: &[u8],
 ) -> Answer
     requires { ⌜ Ready (now table) time ⌝ }
-    ensures { λ r. ⌜ Leaves (connectReply (stateOf (now (table .entry))) time id group flags (now (name .entry))) r (now (table .entry)) (now (table .exit)) ⌝ }
+    ensures { λ r. ⌜ Leaves (connectReply (stateOf (now (table .entry))) time id group flags (now (name .entry))) r
+        (now (table .entry)) (now (table .exit)) ⌝ }
 {
     let Named::Version(version) = lookup::name::version_of(name) else {
         return Answer::UnknownProtocol;
@@ -101,7 +105,8 @@ pub fn connect(
     name: &[u8],
     actions: &mut [u32],
 ) -> Answer
-    ensures { λ r. ⌜ Follows (Calls·connect time id group flags (now (name .entry))) r (now (table .entry)) (now (table .exit)) (now (actions .entry)) (now (actions .exit)) ⌝ }
+    ensures { λ r. ⌜ Follows (Calls·connect time id group flags (now (name .entry))) r
+        (now (table .entry)) (now (table .exit)) (now (actions .entry)) (now (actions .exit)) ⌝ }
 {
     let fine = time_ok(time) & (id_ok(id) & ((group <= MAX_ID) & (flags <= 3)));
     match admit(table, fine, actions.len(), time) {
@@ -112,7 +117,8 @@ pub fn connect(
 
 fn disconnect_from(table: &mut [u64], time: u64, id: u64) -> Answer
     requires { ⌜ Ready (now table) time ⌝ }
-    ensures { λ r. ⌜ Leaves (effect (stateOf (now (table .entry))) (Calls·disconnect time id)) r (now (table .entry)) (now (table .exit)) ⌝ }
+    ensures { λ r. ⌜ Leaves (effect (stateOf (now (table .entry))) (Calls·disconnect time id)) r
+        (now (table .entry)) (now (table .exit)) ⌝ }
 {
     let Found::At(slot) = find_connected(table, id) else {
         return Answer::NotConnected;
@@ -120,14 +126,15 @@ fn disconnect_from(table: &mut [u64], time: u64, id: u64) -> Answer
     retain_slot(
         table,
         slot,
-        end_after(time, load_size(table, param::RETAIN)),
+        end_after(time, load_magnitude(table, param::RETAIN)),
     );
     finish(table, time)
 }
 
 // A connection is gone.
 pub fn disconnect(table: &mut [u64; CELLS], time: u64, id: u64, actions: &mut [u32]) -> Answer
-    ensures { λ r. ⌜ Follows (Calls·disconnect time id) r (now (table .entry)) (now (table .exit)) (now (actions .entry)) (now (actions .exit)) ⌝ }
+    ensures { λ r. ⌜ Follows (Calls·disconnect time id) r
+        (now (table .entry)) (now (table .exit)) (now (actions .entry)) (now (actions .exit)) ⌝ }
 {
     let fine = time_ok(time) & id_ok(id);
     match admit(table, fine, actions.len(), time) {
@@ -140,12 +147,13 @@ pub fn disconnect(table: &mut [u64; CELLS], time: u64, id: u64, actions: &mut [u
 fn p5_ok(p5: i64) -> bool
     ensures { λ r. ⌜ r ≡ leb (natAbs p5) 1000000000 ⌝ }
 {
-    varint::magnitude(p5) <= 1000000000
+    varint::nat_abs(p5) <= 1000000000
 }
 
 fn rate_from(table: &mut [u64], time: u64, id: u64, p5: i64) -> Answer
     requires { ⌜ Ready (now table) time ⌝ }
-    ensures { λ r. ⌜ Leaves (effect (stateOf (now (table .entry))) (Calls·rate time id p5)) r (now (table .entry)) (now (table .exit)) ⌝ }
+    ensures { λ r. ⌜ Leaves (effect (stateOf (now (table .entry))) (Calls·rate time id p5)) r
+        (now (table .entry)) (now (table .exit)) ⌝ }
 {
     let Found::At(slot) = find_connected(table, id) else {
         return Answer::NotConnected;
@@ -156,7 +164,8 @@ fn rate_from(table: &mut [u64], time: u64, id: u64, p5: i64) -> Answer
 
 // The host sets a peer's P5.
 pub fn rate(table: &mut [u64; CELLS], time: u64, id: u64, p5: i64, actions: &mut [u32]) -> Answer
-    ensures { λ r. ⌜ Follows (Calls·rate time id p5) r (now (table .entry)) (now (table .exit)) (now (actions .entry)) (now (actions .exit)) ⌝ }
+    ensures { λ r. ⌜ Follows (Calls·rate time id p5) r
+        (now (table .entry)) (now (table .exit)) (now (actions .entry)) (now (actions .exit)) ⌝ }
 {
     let fine = time_ok(time) & (id_ok(id) & p5_ok(p5));
     match admit(table, fine, actions.len(), time) {
@@ -172,14 +181,15 @@ fn score_from(table: &mut [u64], time: u64, id: u64) -> Answer
     let Found::At(slot) = find_connected(table, id) else {
         return Answer::NotConnected;
     };
-    let w = peer_score::why_of(table, slot);
+    let w = peer_score::why_of(table, slot, layout::load_peer(table, slot));
     layout::store_clock(table, time);
     Answer::Scored(w)
 }
 
 // A peer's score and its parts, in 10^-9 points.
 pub fn score(table: &mut [u64; CELLS], time: u64, id: u64, actions: &mut [u32]) -> Answer
-    ensures { λ r. ⌜ Follows (Calls·score time id) r (now (table .entry)) (now (table .exit)) (now (actions .entry)) (now (actions .exit)) ⌝ }
+    ensures { λ r. ⌜ Follows (Calls·score time id) r
+        (now (table .entry)) (now (table .exit)) (now (actions .entry)) (now (actions .exit)) ⌝ }
 {
     let fine = time_ok(time) & id_ok(id);
     match admit(table, fine, actions.len(), time) {

@@ -87,7 +87,8 @@ module _ (st : State) (x code : ℕ) where
   sharing-same : (g : ℕ) → sharing st′ g ≡ sharing st g
   unfolding sharing sharesGroup withP5
   sharing-same g =
-      count-same (λ s. isConnected (peerIn st′ s) && eqb (peerIn st′ s .group) g) (λ s. isConnected (peerIn st s) && eqb (peerIn st s .group) g) slotCount
+      count-same (λ s. isConnected (peerIn st′ s) && eqb (peerIn st′ s .group) g)
+      (λ s. isConnected (peerIn st s) && eqb (peerIn st s .group) g) slotCount
       (λ s l. reads (λ p. isConnected p && eqb (p .group) g) (λ p. refl) s)
 
   -- another peer
@@ -110,7 +111,8 @@ module _ (st : State) (x code : ℕ) where
   unfolding isNegative
   negative-else s ns = ap (λ (z : ℤ). ltZ z (pos 0)) (sym (score-depends st s st′ s (agree s ns)))
 
-  module _ (low : x < slotCount) (size : Sized st) (ok : valid st ≡ true) (ok′ : valid st′ ≡ true) (up : leZ (numberOf (peerIn st x .p5)) (numberOf code) ≡ true) where
+  module _ (low : x < slotCount) (size : Sized st) (ok : valid st ≡ true) (ok′ : valid st′ ≡ true)
+      (up : leZ (numberOf (peerIn st x .p5)) (numberOf code) ≡ true) where
     -- the balance with a P5
     total : ℕ → ℕ → ℕ → Balance
     total c n p7 = totalOf (partsOf (scoreParamsIn st) (sumOf 8 (shareAt st x)) c n p7)

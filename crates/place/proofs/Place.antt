@@ -1,5 +1,5 @@
--- A better score never loses the place, of the calls (02, order 13): two states alike but for one P5 give two views alike but for one score, so
--- what holds of the five steps holds of the mesh that a heartbeat writes back.
+-- A better score never loses the place, of the calls (02, order 13): two states alike but for one P5 give two views alike but for one
+-- score, so what holds of the five steps holds of the mesh that a heartbeat writes back.
 -- Assumes nothing.
 use Prim.Native.Nat.{ℕ, _<_}
 use native.Mathlib.Omega.{arith}
@@ -29,7 +29,8 @@ use Rattle.rules.specs.declared.Gate.the-variants.{Pass, Refuse}
 use Rattle.rules.specs.declared.Answer.the-variants.{NotPermutation}
 use Rattle.rules.specs.Reply.{refused, ignored}
 use Rattle.rules.specs.Calls.{heartbeat, inRange, topicOk}
-use Rattle.rules.specs.Step.{pastSlack, isNegative, isCandidate, heightIn, degreesIn, viewIn, meshesIn, maintainedReply, heartbeatReply, gateOf, through, effect, step}
+use Rattle.rules.specs.Step.{pastSlack, isNegative, isCandidate, heightIn, degreesIn, viewIn, meshesIn, maintainedReply, heartbeatReply}
+use Rattle.rules.specs.Step.{gateOf, through, effect, step}
 use Rattle.rules.proofs.GateLaws.{gate-passed}
 use Rattle.rules.proofs.CaseLaws.{arguments, topic-in}
 use Rattle.rules.proofs.HeartbeatLaws.{candidate-good, degrees-rules, view-apart, view-whole, settled-member}
@@ -146,7 +147,9 @@ module _
   unfolding heartbeatReply
   reply-stays time t ask order k =
       subst
-      (λ (j : Bool). isMember (heartbeatReply st time t ask order .state) t x ≡ true → isMember (cond (isPermutation slotCount order) (cond j (maintainedReply u time t ask order) (ignored u time)) (refused NotPermutation u) .state) t x ≡ true)
+      (λ (j : Bool). isMember (heartbeatReply st time t ask order .state) t x ≡ true →
+      isMember (cond (isPermutation slotCount order) (cond j (maintainedReply u time t ask order) (ignored u time))
+      (refused NotPermutation u) .state) t x ≡ true)
       (ap (λ (n : ℕ). eqb n 1) (sym (joined-after-peer st x (withP5 (peerIn st x) code) t)))
       (go (isPermutation slotCount order) refl (isJoined st t))
     where
@@ -173,7 +176,8 @@ module _
   unfolding step effect
   step-stays time t ask order room =
       subst
-      (λ (g : Gate). isMember (step st (heartbeat time t ask order) room .state) t x ≡ true → isMember (through g u (heartbeatReply u time t ask order) .state) t x ≡ true)
+      (λ (g : Gate). isMember (step st (heartbeat time t ask order) room .state) t x ≡ true →
+      isMember (through g u (heartbeatReply u time t ask order) .state) t x ≡ true)
       (sym same-gate)
       (go (gateOf st fine room time) refl)
     where

@@ -13,7 +13,7 @@ use borrow.Author.Tests.{eqb-true, eqb-false}
 use Rattle.index.specs.Index.{iter}
 use Rattle.index.proofs.Index.{iter-keeps}
 use Rattle.index.proofs.Flags.{by-test, by-order, cond-case}
-use Rattle.varint.specs.Codes.{codeOf}
+use Rattle.varint.specs.Codes.{codeOf, magnitude}
 use Rattle.records.specs.declared.Peer.{Peer}
 use Rattle.records.specs.declared.TopicRecord.{TopicRecord}
 use Rattle.records.specs.Records.{State, noPeer, noTopic, place, codeIn, peerIn, topicIn, setClock, setJoined, setPeer, setTopic, slotCount}
@@ -21,7 +21,7 @@ use Rattle.records.specs.Records.{isConnected}
 use Rattle.layout.proofs.StateLaws.{peer-case, topic-case, topic-same, peer-after-topic, topic-after-peer}
 use Rattle.score.specs.Counters.{firstOf, nearFirstOf, invalidOf, grownOf, fadedOf, decayedOf}
 use Rattle.score.specs.Score.{topicParamsIn}
-use Rattle.effects.specs.Effects.{magnitude, unsubscribeBackoff, pruneBackoff, withEnd, withP5, withP7, retainedTo, connectedAs, outOfMesh}
+use Rattle.effects.specs.Effects.{unsubscribeBackoff, pruneBackoff, withEnd, withP5, withP7, retainedTo, connectedAs, outOfMesh}
 use Rattle.effects.specs.Effects.{withSubscribed, onPeer, onTopic, isJoined, isMember, pruned, endAfter, leftTopic, departed, reclaimable}
 use Rattle.effects.specs.Effects.{emptied, reclaimSlot, reclaimed}
 use Rattle.effects.proofs.EffectLaws.{end-other}

@@ -6,15 +6,16 @@ use native.Mathlib.Omega.{arith}
 use mathlib.Core.Path.{_≡_, refl, sym, ap, ap₂, _∙_}
 use mathlib.Core.Logic.{_≢_}
 use mathlib.Core.Bool.{true, false, cond, _&&_}
-use mathlib.Core.List.{List, map}
+use mathlib.Core.List.{map}
 use lib.Dec.{eqb, leb}
-use lib.IntN.{ℤ, natAbs}
+use lib.IntN.{natAbs}
 use borrow.Author.Tests.{eqb-true, eqb-false, eq-eqb, ne-eqb, leb-true}
 use Rattle.index.specs.Index.{iter}
 use Rattle.index.specs.declared.Found.the-variants.{At}
 use Rattle.index.proofs.Index.{both, iter-keeps}
 use Rattle.index.proofs.Flags.{by-test, cond-case}
-use Rattle.varint.specs.Codes.{codeOf}
+use Rattle.varint.specs.Codes.{codeOf, magnitude}
+use Rattle.params.specs.declared.Params.{Params}
 use Rattle.limits.specs.Limits.{at}
 use Rattle.records.specs.declared.Peer.{Peer}
 use Rattle.records.specs.declared.TopicRecord.{TopicRecord}
@@ -28,7 +29,7 @@ use Rattle.lookup.specs.Find.{findConnected}
 use Rattle.lookup.proofs.FindLaws.{connected-is}
 use Rattle.score.specs.Counters.{withCounters, raised3Of, firstOf, nearFirstOf, invalidOf, fadedOf, meshOf, decayedOf}
 use Rattle.score.specs.Score.{topicParamsIn}
-use Rattle.effects.specs.Effects.{magnitude, withP7, onTopic}
+use Rattle.effects.specs.Effects.{withP7, onTopic}
 use Rattle.effects.proofs.Walks.{iter-kept, iter-once, iter-before}
 use Rattle.effects.proofs.EffectLaws.{place-slot, place-topic}
 use Rattle.rules.specs.Reply.{Reply, numberOf, ignored}
@@ -41,14 +42,15 @@ use Rattle.call_lists.proofs.Demand3.{standing}
 use Rattle.promises.specs.Counters.{SamePlace, Counted, Delivered, Deliveries, fades, toZero, Faded, Decayed, Decay}
 
 -- ---- one record by the sheet's numbers, in any state that holds the sheet
-module _ (params : List ℤ) (st : State) (codes : st .codes ≡ map codeOf params) (t : ℕ) (r : TopicRecord) where
-  number : (j : ℕ) → magnitude (codeIn st (19 + 16 * t + j)) ≡ natAbs (at params (19 + 16 * t + j))
+module _ (params : Params) (st : State) (codes : st .codes ≡ map codeOf (params .numbers)) (t : ℕ) (r : TopicRecord) where
+  number : (j : ℕ) → magnitude (codeIn st (19 + 16 * t + j)) ≡ natAbs (at (params .numbers) (19 + 16 * t + j))
   number j = degree-is st params codes (19 + 16 * t + j)
 
   placed : (p2 p3 p4 p3b mesh : ℕ) → SamePlace r (withCounters r p2 p3 p4 p3b mesh)
   placed p2 p3 p4 p3b mesh = record { subscribed = refl; member = refl; graft = refl }
 
-  raised3 : raised3Of (topicParamsIn st t) r ≡ cond (eqb (r .member) 1) (min (r .p3 + 1000) (natAbs (at params (19 + 16 * t + 9)))) (r .p3)
+  raised3 : raised3Of (topicParamsIn st t) r
+      ≡ cond (eqb (r .member) 1) (min (r .p3 + 1000) (natAbs (at (params .numbers) (19 + 16 * t + 9)))) (r .p3)
   unfolding raised3Of topicParamsIn
   raised3 = ap (λ (n : ℕ). cond (eqb (r .member) 1) (min (r .p3 + 1000) n) (r .p3)) (number 9)
 
@@ -96,7 +98,7 @@ module _ (params : List ℤ) (st : State) (codes : st .codes ≡ map codeOf para
       }
 
 -- ---- a delivery
-module _ (params : List ℤ) (st : State) (size : Sized st) (codes : st .codes ≡ map codeOf params) (time t kind s : ℕ) where
+module _ (params : Params) (st : State) (size : Sized st) (codes : st .codes ≡ map codeOf (params .numbers)) (time t kind s : ℕ) where
   delivered-at :
       s < slotCount → t < 8 → 1 ≤ kind → kind ≤ 3 →
       Delivered params t kind s st (setClock (onTopic st s t (deliveredOf kind (topicParamsIn st t))) time)
@@ -141,10 +143,10 @@ deliveries params calls fine time t kind s room h on =
     (leb-true 1 kind (b .0)) (leb-true kind 3 (b .1))))
 
 -- ---- decay
-module _ (params : List ℤ) (time : ℕ) where
+module _ (params : Params) (time : ℕ) where
   record Good (u : State) : Type 0 where
     sized : Sized u
-    codes : u .codes ≡ map codeOf params
+    codes : u .codes ≡ map codeOf (params .numbers)
 
   good-topics : (s n : ℕ) (u : State) → Good u → Good (iter n (decayTopic time s) u)
   unfolding decayTopic
@@ -212,7 +214,7 @@ module _ (params : List ℤ) (time : ℕ) where
 
   turn-p7 :
       (s : ℕ) (u : State) → s < slotCount → Good u →
-      peerIn (decayP7 s u) s .p7 ≡ fades (toZero params) (natAbs (at params 17)) (peerIn u s .p7)
+      peerIn (decayP7 s u) s .p7 ≡ fades (toZero params) (natAbs (at (params .numbers) 17)) (peerIn u s .p7)
   unfolding decayP7 withP7
   turn-p7 s u h g =
       ap (λ (p : Peer). p .p7) (peer-same u s _ (omega (arith, g .sized .peers, h)))
@@ -259,7 +261,7 @@ module _ (params : List ℤ) (time : ℕ) where
               ∙ rw (connected-is-on s on) refl in
               ap (λ (p : Peer). p .p7) e
               ∙ turn-p7 s v h (good-topics s 8 w (good s))
-              ∙ ap (λ (p : Peer). fades (toZero params) (natAbs (at params 17)) (p .p7)) (topics-peer s 8 w s ∙ peer-before s);
+              ∙ ap (λ (p : Peer). fades (toZero params) (natAbs (at (params .numbers) 17)) (p .p7)) (topics-peer s 8 w s ∙ peer-before s);
           peers = λ s h off.
               peer-after-clock (walk slotCount) time s
               ∙ iter-once (λ u. peerIn u s) (decaySlot time) s (peer-else s) slotCount st h

@@ -1,14 +1,14 @@
 -- P3b, the other calls: a relation between two states that composes, `Lower`, kept by every store but that of a member's PRUNE; and a
 -- connect, whose slot is its id's own, or was emptied, or is empty.
 -- Assumes nothing.
+use Rattle.rules.proofs.ConnectLaws.{by-connect}
 use Prim.Native.Nat.{ℕ, _+_, _*_, _≤_, _<_}
 use native.Mathlib.Omega.{arith}
 use mathlib.Core.Path.{_≡_, refl, sym, ap, _∙_}
 use mathlib.Core.Logic.{_≢_, _⊎_, inl, inr, ⊎-elim}
 use mathlib.Core.Bool.{Bool, true, cond}
-use mathlib.Core.List.{List, [], map}
+use mathlib.Core.List.{List, map}
 use lib.Dec.{eqb}
-use lib.IntN.{ℤ}
 use lib.ListN.{getD}
 use borrow.Author.Tests.{eqb-true, eqb-false}
 use Rattle.index.specs.Index.{iter}
@@ -16,35 +16,33 @@ use Rattle.index.specs.declared.Found.{Found}
 use Rattle.index.specs.declared.Found.the-variants.{At, Nothing}
 use Rattle.index.proofs.Index.{iter-keeps}
 use Rattle.index.proofs.Flags.{by-test, cond-case}
-use Rattle.varint.specs.Codes.{codeOf}
+use Rattle.varint.specs.Codes.{codeOf, magnitude}
+use Rattle.params.specs.declared.Params.{Params}
 use Rattle.records.specs.declared.Peer.{Peer}
 use Rattle.records.specs.declared.TopicRecord.{TopicRecord}
 use Rattle.records.specs.Records.{State, noPeer, noTopic, place, codeIn, peerIn, topicIn, setClock, setJoined, setPeer, setTopic, slotCount}
 use Rattle.records.specs.Records.{isConnected}
 use Rattle.layout.specs.View.{Sized}
-use Rattle.layout.proofs.StateLaws.{topic-case, topic-after-clock, topic-after-joined, topic-after-peer, codes-after-peer, codes-after-topic}
+use Rattle.layout.proofs.StateLaws.{topic-case, topic-after-clock, topic-after-joined, topic-after-peer, codes-after-peer}
+use Rattle.layout.proofs.StateLaws.{codes-after-topic}
 use Rattle.layout.proofs.StateLaws.{peer-same, peer-other, peer-after-clock}
 use Rattle.validity.specs.Valid.{valid}
 use Rattle.validity.proofs.ValidLaws.{valid-facts}
-use Rattle.lookup.specs.declared.Named.{Named}
-use Rattle.lookup.specs.declared.Named.the-variants.{Version, Unknown}
-use Rattle.lookup.specs.Name.{versionOf}
-use Rattle.lookup.specs.Find.{findConnected, findRetained, lowestEmpty}
+use Rattle.lookup.specs.Find.{findConnected}
 use Rattle.lookup.proofs.FindLaws.{retained-at, empty-at}
 use Rattle.score.specs.Counters.{firstOf, nearFirstOf, invalidOf, decayedOf}
 use Rattle.score.specs.Score.{topicParamsIn}
 use Rattle.score.proofs.CounterLaws.{faded-less}
 use Rattle.score.proofs.InputLaws.{params-in}
-use Rattle.effects.specs.Effects.{magnitude, connectedAs, outOfMesh, intoMesh, withSubscribed, onTopic}
-use Rattle.effects.specs.Effects.{isJoined, isMember, backoffRuns, pruned, leftTopic, departed, reclaimable, emptied, reclaimSlot}
+use Rattle.effects.specs.Effects.{connectedAs, outOfMesh, intoMesh, withSubscribed, onTopic}
+use Rattle.effects.specs.Effects.{isJoined, pruned, leftTopic, departed, reclaimable, emptied, reclaimSlot}
 use Rattle.effects.specs.Effects.{reclaimed}
 use Rattle.effects.proofs.EffectLaws.{reclaimed-topic, reclaimed-stays, sized-reclaimed}
-use Rattle.rules.specs.declared.Answer.the-variants.{AlreadyConnected, NoSlot, UnknownProtocol}
-use Rattle.rules.specs.Reply.{Reply, refused, ignored, done}
+use Rattle.rules.specs.Reply.{Reply, ignored}
 use Rattle.rules.specs.Calls.{Call, connect, disconnect, join, leave, subscribe, unsubscribe, graft, prune, deliver, rate, heartbeat, decay}
 use Rattle.rules.specs.Calls.{score}
 use Rattle.rules.proofs.GraftLaws.{by-graft}
-use Rattle.rules.specs.Step.{isGraylisted, isHeard, onFound, onVersion, ofPeer, connectAt, connectIn, connectReply, joinReply}
+use Rattle.rules.specs.Step.{isGraylisted, isHeard, onFound, ofPeer, connectAt, connectReply, joinReply}
 use Rattle.rules.specs.Step.{subscribeReply, unsubscribeReply, graftRefused, graftReply}
 use Rattle.rules.specs.Step.{pruneReply, deliveredOf, deliverReply, decayFloor, decayTopic, decayP7, decaySlot, decayReply, effect, step}
 use Rattle.rules.proofs.CaseLaws.{by-gate}
@@ -165,10 +163,6 @@ module _ (st : State) (time : ℕ) where
   low-peer : (id : ℕ) (f : ℕ → Reply) → ((s : ℕ) → Low (f s)) → Low (ofPeer st id f)
   low-peer id f h = low-found (findConnected st id) f _ h (lower-self st)
 
-  low-version : (r : Named) (f : ℕ → Reply) (q : Reply) → ((v : ℕ) → Low (f v)) → Low q → Low (onVersion r f q)
-  low-version (Version v) f q h k = h v
-  low-version Unknown f q h k = k
-
   low-at : (id group flags v s : ℕ) → Low (connectAt (reclaimed st time) time id group flags v s)
   unfolding connectAt
   low-at id group flags v s =
@@ -176,14 +170,13 @@ module _ (st : State) (time : ℕ) where
       ticks _ (lower-then st u _ (lower-reclaimed st time) (lower-peer u s _))
 
   low-connect : (id group flags : ℕ) (name : List ℕ) → Low (connectReply st time id group flags name)
-  unfolding connectReply connectIn
   low-connect id group flags name =
-      low-version (versionOf name) _ _
-      (λ v.
-      low-found (findConnected st id) _ _ (λ s. lower-self st)
-      (low-found (findRetained (reclaimed st time) id) _ _ (low-at id group flags v)
-      (low-found (lowestEmpty (reclaimed st time)) _ _ (low-at id group flags v) (lower-self st))))
-      (lower-self st)
+      by-connect Low st time id group flags name
+      (λ n. lower-self st)
+      (λ v s n c. lower-self st)
+      (λ v s n c r. low-at id group flags v s)
+      (λ v s n c r e. low-at id group flags v s)
+      (λ v n c r e. lower-self st)
 
   low-subscribe : (t s : ℕ) → Low (subscribeReply st time t s)
   unfolding subscribeReply withSubscribed
@@ -225,7 +218,7 @@ module _ (st : State) (time : ℕ) where
       low-if (isHeard st t s) _ (ignored st time) (ticks _ (lower-topic st (place s t) _ (low-delivered t kind s))) (lower-clock st time)
 
 -- ---- every call
-module _ (params : List ℤ) (st : State) (ok : valid st ≡ true) (codes : st .codes ≡ map codeOf params) (size : Sized st) where
+module _ (params : Params) (st : State) (ok : valid st ≡ true) (codes : st .codes ≡ map codeOf (params .numbers)) (size : Sized st) where
   -- through the gate
   other : (c : Call) (room s t : ℕ) → Lower st (effect st c .state) → p3bIn (step st c room .state) s t ≤ p3bIn st s t
   other c room s t h =
@@ -310,33 +303,13 @@ module _ (params : List ℤ) (st : State) (ok : valid st ≡ true) (codes : st .
         (λ q. absurd (n (ap (λ (x : Peer). x .id) (clock ∙ peer-other w i p s (eqb-false s i q) ∙ stays)))))
 
     new-connect : New (connectReply st time id group flags name)
-    unfolding connectReply connectIn
-    new-connect = version (versionOf name)
-      where
-        empty : (v : ℕ) (r : Found) → lowestEmpty w ≡ r → New (onFound r (connectAt w time id group flags v) (refused NoSlot st))
-        empty v (At i) e = let q = empty-at w i e in new-at v i (q .0) (inr (q .1))
-        empty v Nothing e = λ n. absurd (n refl)
-
-        retained :
-            (v : ℕ) (r : Found) →
-            findRetained w id ≡ r →
-            New
-            (onFound r (connectAt w time id group flags v)
-            (onFound (lowestEmpty w) (connectAt w time id group flags v) (refused NoSlot st)))
-        retained v (At i) e = let q = retained-at w id i e in new-at v i (q .0) (inl (q .2))
-        retained v Nothing e = empty v (lowestEmpty w) refl
-
-        connected : (v : ℕ) (r : Found) → New (onFound r (λ i. refused AlreadyConnected st) (connectIn st w time id group flags v))
-        connected v (At i) = λ n. absurd (n refl)
-        connected v Nothing = retained v (findRetained w id) refl
-
-        version :
-            (r : Named) →
-            New
-            (onVersion r (λ v. onFound (findConnected st id) (λ i. refused AlreadyConnected st) (connectIn st w time id group flags v))
-            (refused UnknownProtocol st))
-        version (Version v) = connected v (findConnected st id)
-        version Unknown = λ n. absurd (n refl)
+    new-connect =
+        by-connect New st time id group flags name
+        (λ n d. absurd (d refl))
+        (λ v i n c d. absurd (d refl))
+        (λ v i n c r. let q = retained-at w id i r in new-at v i (q .0) (inl (q .2)))
+        (λ v i n c r e. let q = empty-at w i e in new-at v i (q .0) (inr (q .1)))
+        (λ v n c r e d. absurd (d refl))
 
 pub p3b-grows : P3bGrows
 unfolding effect

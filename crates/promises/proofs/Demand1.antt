@@ -1,6 +1,7 @@
 -- Demand 1: every reply behind the gate is a refusal, an `ignored` or a `done`, and each of the three is so by its definition; of the
 -- program, what a promise fixes of the state fixes every cell.
 -- Assumes nothing.
+use Rattle.rules.proofs.ConnectLaws.{by-connect}
 use Rattle.records.specs.declared.Peer.{Peer}
 use Prim.Native.Nat.{ℕ}
 use native.Mathlib.Omega.{arith}
@@ -8,24 +9,21 @@ use mathlib.Core.Path.{_≡_, refl, sym, ap, _∙_}
 use mathlib.Core.Logic.{_≢_}
 use mathlib.Core.Bool.{Bool, true, false, cond}
 use mathlib.Core.List.{List, []}
-use lib.Dec.{eqb, leb}
+use lib.Dec.{leb}
 use lib.ListN.{length, set, length-set}
 use lib.Seq.{sets}
 use Rattle.index.specs.declared.Found.{Found}
 use Rattle.index.specs.declared.Found.the-variants.{At, Nothing}
 use Rattle.index.proofs.Flags.{cond-case}
-use Rattle.records.specs.Records.{State, slotCount, peerIn, setClock}
+use Rattle.records.specs.Records.{State, slotCount, setClock}
 use Rattle.layout.specs.View.{stateOf, cellCount}
 use Rattle.layout.proofs.Whole.{determined}
 use Rattle.layout.proofs.ViewLaws.{clock-store}
 use Rattle.validity.specs.Valid.{valid}
-use Rattle.lookup.specs.Find.{findConnected, findRetained, lowestEmpty}
-use Rattle.lookup.specs.declared.Named.{Named}
-use Rattle.lookup.specs.declared.Named.the-variants.{Version, Unknown}
-use Rattle.lookup.specs.Name.{versionOf}
+use Rattle.lookup.specs.Find.{findConnected}
 use Rattle.sets.specs.Sets.{isPermutation}
 use Rattle.effects.specs.Actions.{Action, numbersOf}
-use Rattle.effects.specs.Effects.{isJoined, isMember, backoffRuns, reclaimed}
+use Rattle.effects.specs.Effects.{isJoined}
 use Rattle.rules.specs.declared.Answer.{Answer}
 use Rattle.rules.specs.declared.Answer.the-variants.{Done, Scored, Early, OutOfRange, NotConnected, AlreadyConnected, NoSlot}
 use Rattle.rules.specs.declared.Answer.the-variants.{UnknownProtocol, NotPermutation, ListShort, Ignored, NotRouter}
@@ -34,8 +32,8 @@ use Rattle.rules.specs.Reply.{Reply, numberOf, refuses, refused, ignored, done}
 use Rattle.rules.specs.Calls.{Call, connect, disconnect, join, leave, subscribe, unsubscribe, graft, prune, deliver, rate, heartbeat, decay}
 use Rattle.rules.specs.Calls.{score, timeOf, inRange}
 use Rattle.rules.proofs.GraftLaws.{by-graft}
-use Rattle.rules.specs.Step.{actionRoom, isGraylisted, isHeard, gateOf, through, onFound, ofPeer, onVersion, connectAt}
-use Rattle.rules.specs.Step.{connectIn, connectReply, joinReply, leaveActions, leaveReply, subscribeReply, unsubscribeReply, graftRefused}
+use Rattle.rules.specs.Step.{actionRoom, isGraylisted, isHeard, gateOf, through, onFound, ofPeer, connectAt}
+use Rattle.rules.specs.Step.{connectReply, joinReply, leaveActions, leaveReply, subscribeReply, unsubscribeReply, graftRefused}
 use Rattle.rules.specs.Step.{graftReply, pruneReply, deliverReply, maintainedReply, heartbeatReply}
 use Rattle.rules.specs.Step.{decayReply, effect, step}
 use Rattle.promises.specs.Demand1.{Untouched, Demand1, ProgramDemand1}
@@ -64,20 +62,16 @@ module _ (st : State) (time : ℕ) where
   un-peer : (id : ℕ) (f : ℕ → Reply) → ((s : ℕ) → Un (f s)) → Un (ofPeer st id f)
   un-peer id f h = un-found (findConnected st id) f _ h (un-refused NotConnected (λ e. omega arith))
 
-  un-version : (r : Named) (f : ℕ → Reply) (q : Reply) → ((v : ℕ) → Un (f v)) → Un q → Un (onVersion r f q)
-  un-version (Version v) f q h k = h v
-  un-version Unknown f q h k = k
-
   -- ---- the replies
   un-connect : (id group flags : ℕ) (name : List ℕ) → Un (connectReply st time id group flags name)
-  unfolding connectReply connectIn connectAt
+  unfolding connectAt
   un-connect id group flags name =
-      un-version (versionOf name) _ _
-      (λ v.
-      un-found (findConnected st id) _ _ (λ s. un-refused AlreadyConnected (λ e. omega arith))
-      (un-found (findRetained (reclaimed st time) id) _ _ (λ s. un-done _ [])
-      (un-found (lowestEmpty (reclaimed st time)) _ _ (λ s. un-done _ []) (un-refused NoSlot (λ e. omega arith)))))
-      (un-refused UnknownProtocol (λ e. omega arith))
+      by-connect Un st time id group flags name
+      (λ n. un-refused UnknownProtocol (λ e. omega arith))
+      (λ v s n c. un-refused AlreadyConnected (λ e. omega arith))
+      (λ v s n c r. un-done _ [])
+      (λ v s n c r e. un-done _ [])
+      (λ v n c r e. un-refused NoSlot (λ e. omega arith))
 
   un-back : (t s : ℕ) (p : Peer) → Un (graftRefused st time t s p)
   unfolding graftRefused

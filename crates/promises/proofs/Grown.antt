@@ -8,11 +8,11 @@ use mathlib.Core.Logic.{_≢_}
 use mathlib.Core.Bool.{Bool, true, false, cond, not, _&&_}
 use mathlib.Core.List.{List, map}
 use lib.Dec.{eqb, leb, ltb}
-use lib.IntN.{ℤ}
 use Rattle.index.specs.Index.{iter}
 use Rattle.index.proofs.Index.{both, iter-keeps}
 use Rattle.index.proofs.Flags.{by-test, cond-case}
 use Rattle.varint.specs.Codes.{codeOf}
+use Rattle.params.specs.declared.Params.{Params}
 use Rattle.records.specs.declared.TopicRecord.{TopicRecord}
 use Rattle.records.specs.Records.{State, slotCount, place, topicIn, setClock, setJoined}
 use Rattle.layout.specs.View.{Sized}
@@ -36,7 +36,7 @@ use Rattle.call_lists.proofs.Standing.{degree-is}
 use Rattle.promises.specs.Grown.{p3Of, Grown}
 use Rattle.promises.proofs.Told.{leave-sized, leave-out}
 
-module _ (params : List ℤ) (st : State) (codes : st .codes ≡ map codeOf params) (t : ℕ) where
+module _ (params : Params) (st : State) (codes : st .codes ≡ map codeOf (params .numbers)) (t : ℕ) where
   -- P3 by the sheet's numbers
   p3-is : (r : TopicRecord) → part3Of (topicParamsIn st t) r ≡ p3Of params t r
   unfolding part3Of topicParamsIn
@@ -213,7 +213,7 @@ module _ (params : List ℤ) (st : State) (codes : st .codes ≡ map codeOf para
       (λ wrong. grown-self)
 
 -- ---- leave and heartbeat, through the gate
-module _ (params : List ℤ) (st : State) (codes : st .codes ≡ map codeOf params) (size : Sized st) where
+module _ (params : Params) (st : State) (codes : st .codes ≡ map codeOf (params .numbers)) (size : Sized st) where
   pub grown-by-leave : (time t room : ℕ) → Grown params t st (step st (leave time t) room .state)
   unfolding effect
   grown-by-leave time t room =

@@ -8,7 +8,7 @@ use mathlib.Core.Logic.{_≢_, _⊎_, inl, inr, ⊎-elim, _↔_}
 use mathlib.Core.Bool.{true, false, cond, not, false≢true}
 use mathlib.Core.List.{List, [], map}
 use lib.Dec.{eqb}
-use lib.IntN.{ℤ, pos}
+use lib.IntN.{pos}
 use lib.ListN.{getD, List·getD-map}
 use borrow.Author.Tests.{eqb-true, eqb-false, eq-eqb}
 use Rattle.index.specs.declared.Found.{Found}
@@ -20,17 +20,19 @@ use Rattle.index.proofs.Index.{both}
 use Rattle.index.proofs.Flags.{by-test, cond-case}
 use Rattle.varint.specs.Codes.{codeOf, numberOf as signed}
 use Rattle.varint.proofs.CodeLaws.{number-code}
+use Rattle.params.specs.declared.Params.{Params}
 use Rattle.limits.specs.Limits.{at}
 use Rattle.records.specs.Records.{State, codeIn, peerIn, joinedIn, slotCount}
 use Rattle.validity.proofs.ValidLaws.{valid-facts}
 use Rattle.lookup.specs.Find.{findConnected}
 use Rattle.lookup.proofs.FindLaws.{connected-at, none-connected, connected-is}
-use Rattle.effects.specs.Effects.{isJoined, isMember, backoffRuns, onTopic, intoMesh}
+use Rattle.effects.specs.Effects.{isJoined, onTopic, intoMesh}
 use Rattle.rules.specs.Reply.{Reply, numberOf, refused, ignored, done}
 use Rattle.rules.specs.Calls.{Call, connect, disconnect, join, leave, subscribe, unsubscribe, graft, prune, deliver, rate, heartbeat, decay}
 use Rattle.rules.specs.Calls.{score}
 use Rattle.rules.proofs.GraftLaws.{by-graft}
-use Rattle.rules.specs.Step.{onFound, ofPeer, joinReply, leaveReply, decayReply, isGraylisted, isHeard, subscribeReply, unsubscribeReply, raisedP7}
+use Rattle.rules.specs.Step.{onFound, ofPeer, joinReply, leaveReply, decayReply, isGraylisted, isHeard, subscribeReply, unsubscribeReply}
+use Rattle.rules.specs.Step.{raisedP7}
 use Rattle.rules.specs.Step.{graftRefused, graftReply, pruneReply, deliverReply, effect}
 use Rattle.call_lists.specs.Lists.{after}
 use Rattle.call_lists.proofs.Demand3.{standing}
@@ -38,14 +40,15 @@ use Rattle.promises.specs.Ignored.{Graylisted, Sender, Words11, Row11, R
 use Rattle.promises.proofs.Numbers.{iff-yes, iff-no, late-connect, heartbeat-11, behind, else-done, row-behind}
 
 -- ---- the sheet's number
-number-is : (st : State) (params : List ℤ) → st .codes ≡ map codeOf params → (i : ℕ) → signed (codeIn st i) ≡ at params i
+number-is : (st : State) (params : Params) → st .codes ≡ map codeOf (params .numbers) → (i : ℕ) → signed (codeIn st i)
+    ≡ at (params .numbers) i
 unfolding codeIn
 number-is st params e i =
     ap (λ (l : List ℕ). signed (getD l i 0)) e
-    ∙ ap (λ (n : ℕ). signed n) (List·getD-map codeOf params i (pos 0))
-    ∙ number-code (at params i)
+    ∙ ap (λ (n : ℕ). signed n) (List·getD-map codeOf (params .numbers) i (pos 0))
+    ∙ number-code (at (params .numbers) i)
 
-module _ (params : List ℤ) (st : State) (codes : st .codes ≡ map codeOf params) (s : ℕ) where
+module _ (params : Params) (st : State) (codes : st .codes ≡ map codeOf (params .numbers)) (s : ℕ) where
   gray-no : isGraylisted st s ≡ false → Graylisted params st s → ⊥
   unfolding isGraylisted
   gray-no e g =
@@ -155,7 +158,7 @@ peer-not11 st id f h =
     by-peer (λ (r : Reply). numberOf (r .answer) ≢ 11) st id f (λ n. omega (arith, n)) (λ s l on n. omega (arith, n, h s))
 
 -- ---- every call behind the gate
-module _ (params : List ℤ) (st : State) (ok : valid st ≡ true) (codes : st .codes ≡ map codeOf params) where
+module _ (params : Params) (st : State) (ok : valid st ≡ true) (codes : st .codes ≡ map codeOf (params .numbers)) where
   join-11 : (time t : ℕ) → (numberOf (joinReply st time t .answer) ≡ 11) ↔ (joinedIn st t ≡ 1)
   unfolding joinReply
   join-11 time t =

@@ -8,7 +8,6 @@ use mathlib.Core.Logic.{_≢_, _⊎_, ⊎-elim}
 use mathlib.Core.Bool.{Bool, true, false, not, _&&_, false≢true}
 use mathlib.Core.List.{List, [], _∷_, map}
 use lib.Dec.{eqb, leb}
-use lib.IntN.{ℤ}
 use borrow.Author.Tests.{eqb-true}
 use Rattle.index.specs.Index.{one}
 use Rattle.index.specs.declared.Found.{Found}
@@ -16,6 +15,7 @@ use Rattle.index.specs.declared.Found.the-variants.{At, Nothing}
 use Rattle.index.proofs.Index.{both}
 use Rattle.index.proofs.Flags.{cond-case}
 use Rattle.varint.specs.Codes.{codeOf}
+use Rattle.params.specs.declared.Params.{Params}
 use Rattle.records.specs.declared.TopicRecord.{TopicRecord}
 use Rattle.records.specs.Records.{State, slotCount, place, peerIn}
 use Rattle.layout.specs.View.{Sized}
@@ -49,7 +49,7 @@ use Rattle.promises.proofs.Shut.{heartbeat-shuts, prune-shuts}
 
 -- ---- one call
 -- a refusal shuts nothing
-refused-shuts : (params : List ℤ) (st : State) (c : Call) (a : Answer) → eqb (numberOf a) 0 ≡ false → Shuts params c (refused a st)
+refused-shuts : (params : Params) (st : State) (c : Call) (a : Answer) → eqb (numberOf a) 0 ≡ false → Shuts params c (refused a st)
 unfolding shutBy
 refused-shuts params st (connect time p group flags name) a e id t k = held-zero st id t
 refused-shuts params st (disconnect time p) a e id t k = held-zero st id t
@@ -81,7 +81,7 @@ by-id st P id f none some = go (findConnected st id) refl
     go (At s) e = let q = connected-at st id s e in some s (q .0) (q .1) (q .2)
     go Nothing e = none
 
-module _ (params : List ℤ) (st : State) (size : Sized st) (ok : valid st ≡ true) (codes : st .codes ≡ map codeOf params) where
+module _ (params : Params) (st : State) (size : Sized st) (ok : valid st ≡ true) (codes : st .codes ≡ map codeOf (params .numbers)) where
   effect-shuts : (c : Call) → argumentsOk c ≡ true → Shuts params c (effect st c)
   unfolding effect shutBy
   effect-shuts (connect time p group flags name) a = λ id t k. held-zero _ id t
@@ -149,7 +149,7 @@ module _ (params : List ℤ) (st : State) (size : Sized st) (ok : valid st ≡ t
       (λ wrong n. absurd (n refl)))
 
 -- ---- every list of calls
-module _ (params : List ℤ) (fine : Accepted params) where
+module _ (params : Params) (fine : Accepted params) where
   outs : (calls : List Made) → Out (after params calls)
   unfolding after
   outs [] = λ s t h k m.

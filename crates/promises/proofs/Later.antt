@@ -14,19 +14,20 @@ use borrow.Author.Tests.{eqb-true, eqb-false}
 use Rattle.index.specs.Index.{iter}
 use Rattle.index.proofs.Index.{iter-keeps}
 use Rattle.index.proofs.Flags.{by-test, cond-case}
-use Rattle.varint.specs.Codes.{codeOf}
+use Rattle.varint.specs.Codes.{codeOf, magnitude}
 use Rattle.records.specs.declared.Peer.{Peer}
 use Rattle.records.specs.declared.TopicRecord.{TopicRecord}
 use Rattle.records.specs.Records.{State, place, codeIn, peerIn, topicIn, setClock, setJoined, setPeer, setTopic, isConnected, slotCount}
 use Rattle.layout.specs.View.{Sized}
-use Rattle.layout.proofs.StateLaws.{peer-case, peer-same, peer-after-topic, peer-after-clock, peer-after-joined}
+use Rattle.layout.proofs.StateLaws.{peer-case, peer-after-topic, peer-after-clock, peer-after-joined}
 use Rattle.score.specs.Counters.{grownOf, fadedOf}
 use Rattle.score.specs.Score.{topicParamsIn}
-use Rattle.effects.specs.Effects.{magnitude, pruneBackoff, withEnd, withP5, withP7, retainedTo, outOfMesh, intoMesh, onPeer, onTopic}
+use Rattle.effects.specs.Effects.{pruneBackoff, withEnd, withP5, withP7, retainedTo, outOfMesh, intoMesh, onPeer, onTopic}
 use Rattle.effects.specs.Effects.{isMember, pruned, endAfter, leftTopic, departed}
 use Rattle.effects.proofs.EffectLaws.{end-later, end-same, pruned-same}
 use Rattle.sets.specs.Sets.{at}
-use Rattle.rules.specs.Step.{isNegative, punished, leaveSlot, graftRefused, decayFloor, decayTopic, decayP7, decaySlot, settleSlot, raisedP7}
+use Rattle.rules.specs.Step.{isNegative, punished, leaveSlot, graftRefused, decayFloor, decayTopic, decayP7, decaySlot, settleSlot}
+use Rattle.rules.specs.Step.{raisedP7}
 use Rattle.promises.specs.Ends.{endIn}
 
 pub record LaterAt (p q : Peer) : Type 0 where
@@ -184,12 +185,6 @@ module _ (st : State) (time : ℕ) where
       (later-peer st s _ (record { used = λ n. n; id = λ n. refl; ends = end-later (peerIn st s) t (endAfter time (pruneBackoff st)) }))
 
 -- ---- a backoff that is set
-pub end-set : (st : State) (s t end : ℕ) → Sized st → s < slotCount → t < 8 → end ≤ endIn (onPeer st s (λ p. withEnd p t end)) s t
-end-set st s t end size h k =
-    let a = ap (λ (p : Peer). getD (p .backoff) t 0) (peer-same st s (withEnd (peerIn st s) t end) (omega (arith, size .peers, h))) in
-    let b = end-same (peerIn st s) t end (omega (arith, size .ends s, k)) in
-    omega (arith, a, b)
-
 pub end-pruned : (st : State) (s t end : ℕ) → Sized st → s < slotCount → t < 8 → end ≤ endIn (pruned st s t end) s t
 end-pruned st s t end size h k =
     let a = ap (λ (p : Peer). getD (p .backoff) t 0) (pruned-same st s t end size h) in

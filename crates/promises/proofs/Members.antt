@@ -1,18 +1,17 @@
 -- No member's backoff runs: it ended when he came in, or before. Most calls take nobody in and lengthen no member's backoff (`Calmer`);
 -- GRAFT in and the heartbeat take in only whom the test of the backoff let through.
 -- Assumes nothing.
+use Rattle.rules.proofs.ConnectLaws.{by-connect}
 use Prim.Native.Nat.{ℕ, _+_, _≤_, _<_}
 use native.Mathlib.Omega.{arith}
 use mathlib.Core.Path.{_≡_, sym, ap, _∙_}
 use mathlib.Core.Logic.{_≢_, _⊎_, inl, inr, ⊎-elim}
 use mathlib.Core.Bool.{Bool, true, false, not, false≢true}
-use mathlib.Core.List.{List, []}
+use mathlib.Core.List.{List}
 use lib.Dec.{eqb, leb}
 use lib.ListN.{getD}
 use borrow.Author.Tests.{eqb-true, eqb-false, leb-true, ltb-false}
 use Rattle.index.specs.Index.{iter}
-use Rattle.index.specs.declared.Found.{Found}
-use Rattle.index.specs.declared.Found.the-variants.{At, Nothing}
 use Rattle.index.proofs.Index.{both, iter-keeps}
 use Rattle.index.proofs.Flags.{by-test, cond-case}
 use Rattle.records.specs.declared.Peer.{Peer}
@@ -20,24 +19,19 @@ use Rattle.records.specs.declared.TopicRecord.{TopicRecord}
 use Rattle.records.specs.Records.{State, slotCount, place, peerIn, topicIn, setClock, isConnected}
 use Rattle.layout.proofs.StateLaws.{topic-case, peer-after-topic}
 use Rattle.validity.specs.Valid.{valid}
-use Rattle.lookup.specs.declared.Named.{Named}
-use Rattle.lookup.specs.declared.Named.the-variants.{Version, Unknown}
-use Rattle.lookup.specs.Name.{versionOf}
-use Rattle.lookup.specs.Find.{findConnected, findRetained, lowestEmpty}
-use Rattle.score.specs.Counters.{countMost, raisedOf}
-use Rattle.effects.specs.Effects.{pruneBackoff, connectedAs, intoMesh, onPeer, onTopic, isJoined, isMember, isSubscribed, backoffRuns}
+use Rattle.effects.specs.Effects.{pruneBackoff, connectedAs, intoMesh, onPeer, onTopic, isJoined, isMember, isSubscribed}
 use Rattle.effects.specs.Effects.{pruned, endAfter, reclaimed}
 use Rattle.effects.proofs.EffectLaws.{pruned-other}
 use Rattle.sets.specs.Sets.{at, isPermutation}
 use Rattle.sets.proofs.SetLaws.{both-left}
 use Rattle.sets.proofs.SlotLaws.{slots-in}
 use Rattle.rules.specs.declared.Answer.the-variants.{NotPermutation}
-use Rattle.rules.specs.Reply.{Reply, refused, ignored, done}
+use Rattle.rules.specs.Reply.{Reply, refused, ignored}
 use Rattle.rules.specs.Calls.{Call, connect, disconnect, join, leave, subscribe, unsubscribe, graft, prune, deliver, rate, heartbeat, decay}
 use Rattle.rules.specs.Calls.{score, topicOk, argumentsOk}
 use Rattle.rules.proofs.GraftLaws.{by-graft}
-use Rattle.rules.specs.Step.{isNegative, isHeard, isCandidate, onFound, onVersion, ofPeer, connectAt, connectIn, connectReply}
-use Rattle.rules.specs.Step.{graftRefused, graftReply, viewIn, meshesIn, punished, settleSlot}
+use Rattle.rules.specs.Step.{isNegative, isCandidate, ofPeer, connectAt, connectReply}
+use Rattle.rules.specs.Step.{graftReply, viewIn, meshesIn, punished, settleSlot}
 use Rattle.rules.specs.Step.{maintainedReply, heartbeatReply, effect, step}
 use Rattle.rules.proofs.HeartbeatLaws.{view-kept}
 use Rattle.rules.proofs.Words.{candidate-past}
@@ -103,23 +97,10 @@ module _ (st : State) (o : Out st) (time id group flags : ℕ) where
       (out-calmer st u o (calmer-reclaimed st time))
       (calmer-moved u time w (calmer-connected u s id group flags version))
 
-  found : (r : Found) (f : ℕ → Reply) (q : Reply) → ((s : ℕ) → Left (f s)) → Left q → Left (onFound r f q)
-  found (At s) f q h k = h s
-  found Nothing f q h k = k
-
-  named : (r : Named) (f : ℕ → Reply) (q : Reply) → ((v : ℕ) → Left (f v)) → Left q → Left (onVersion r f q)
-  named (Version v) f q h k = h v
-  named Unknown f q h k = k
-
   pub out-connect : (name : List ℕ) → Left (connectReply st time id group flags name)
-  unfolding connectReply connectIn
   out-connect name =
-      named (versionOf name) _ _
-      (λ v.
-      found (findConnected st id) _ _ (λ s. o)
-      (found (findRetained (reclaimed st time) id) _ _ (taken v)
-      (found (lowestEmpty (reclaimed st time)) _ _ (taken v) o)))
-      o
+      by-connect Left st time id group flags name (λ n. o) (λ v s n c. o) (λ v s n c r. taken v s) (λ v s n c r e. taken v s)
+      (λ v n c r e. o)
 
 -- ---- heartbeat
 -- whom it takes in is a candidate: his backoff is over

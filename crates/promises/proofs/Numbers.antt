@@ -1,12 +1,13 @@
 -- The rows of the table of numbers, each call by its ends: the five of the gate, the four of a connect, the three of a heartbeat, and a
 -- peer's call, which is 3 or what its reply is.
 -- Assumes nothing.
+use Rattle.rules.proofs.ConnectLaws.{by-connect}
 use Prim.Native.Nat.{ℕ, _≤_, _<_}
 use native.Mathlib.Omega.{arith}
 use mathlib.Core.Path.{_≡_, refl, sym, ap, _∙_}
 use mathlib.Core.Logic.{_≢_, _⊎_, inl, inr, ⊎-elim, _↔_}
 use mathlib.Core.Bool.{Bool, true, false, cond, not, _&&_, false≢true}
-use mathlib.Core.List.{List, []}
+use mathlib.Core.List.{List}
 use lib.Dec.{eqb, leb}
 use borrow.Author.Tests.{eqb-true, eqb-false, eq-eqb, leb-true, leb-false, le-leb, le-ltb}
 use lib.ListN.{getD}
@@ -24,19 +25,18 @@ use Rattle.records.specs.Records.{State, noPeer, slotCount, peerIn, joinedIn}
 use Rattle.validity.specs.Valid.{valid}
 use Rattle.lookup.specs.Find.{findConnected, findRetained, lowestEmpty}
 use Rattle.lookup.proofs.FindLaws.{connected-at, retained-at, empty-at, none-connected, none-retained, none-empty}
-use Rattle.lookup.specs.declared.Named.{Named}
 use Rattle.lookup.specs.declared.Named.the-variants.{Version, Unknown}
 use Rattle.lookup.specs.Name.{meshsub, sameBytes, versionOf}
 use Rattle.sets.specs.Sets.{isPermutation}
-use Rattle.effects.specs.Effects.{isJoined, isMember, backoffRuns, reclaimable, reclaimed}
+use Rattle.effects.specs.Effects.{isJoined, backoffRuns, reclaimable, reclaimed}
 use Rattle.rules.specs.declared.Answer.{Answer}
 use Rattle.rules.specs.declared.Answer.the-variants.{Done, Scored, Early, OutOfRange, NotConnected, AlreadyConnected, NoSlot}
 use Rattle.rules.specs.declared.Answer.the-variants.{UnknownProtocol, NotPermutation, ListShort, Ignored, NotRouter}
-use Rattle.rules.specs.Reply.{Reply, numberOf, refused, ignored, done}
+use Rattle.rules.specs.Reply.{Reply, numberOf, refused, ignored}
 use Rattle.rules.specs.Calls.{Call, connect, disconnect, join, leave, subscribe, unsubscribe, graft, prune, deliver, rate, heartbeat, decay}
 use Rattle.rules.specs.Calls.{score, timeOf, inRange}
 use Rattle.rules.proofs.GraftLaws.{by-graft}
-use Rattle.rules.specs.Step.{actionRoom, isGraylisted, isHeard, gateOf, onFound, ofPeer, onVersion, connectAt, connectIn}
+use Rattle.rules.specs.Step.{actionRoom, isGraylisted, isHeard, gateOf, onFound, ofPeer, connectAt}
 use Rattle.rules.specs.Step.{connectReply, joinReply, leaveReply, subscribeReply, unsubscribeReply, graftRefused}
 use Rattle.rules.specs.Step.{graftReply, pruneReply, deliverReply, maintainedReply, heartbeatReply, decayReply, effect, step}
 use Rattle.promises.specs.Numbers.{Connected, Missing, Admitted, Rows, FirstRows, Words3, Row3, Words7, Row7, Known, Strange, Words6}
@@ -80,10 +80,6 @@ either b o q h k = cond-case Fine b o q (λ e. h) (λ e. k)
 fine-graft : (st : State) (time t s : ℕ) → Fine (graftReply st time t s)
 unfolding graftRefused
 fine-graft st time t s = by-graft Fine st time t s (λ e. refl) (λ e m. refl) (λ e. refl) (λ e. refl) (λ e. refl)
-
-fine-maintained : (st : State) (time t ask : ℕ) (order : List ℕ) → Fine (maintainedReply st time t ask order)
-unfolding maintainedReply
-fine-maintained st time t ask order = refl
 
 -- behind the gate
 abbrev pub late : Answer → Bool
@@ -198,55 +194,21 @@ module _ (st : State) (time id group flags : ℕ) (name : List ℕ) where
   abbrev Given : Type 0
   Given = ((s : ℕ) × (findRetained u id ≡ At s)) ⊎ ((s : ℕ) × (lowestEmpty u ≡ At s))
 
-  at-done : (v s : ℕ) → connectAt u time id group flags v s .answer ≡ Done 0
+  -- the four answers of a connect
+  by-answer :
+      (P : Answer → Type 0) →
+      (versionOf name ≡ Unknown → P UnknownProtocol) →
+      ((v s : ℕ) → versionOf name ≡ Version v → findConnected st id ≡ At s → P AlreadyConnected) →
+      ((v : ℕ) → versionOf name ≡ Version v → findConnected st id ≡ Nothing → findRetained u id ≡ Nothing → lowestEmpty u ≡ Nothing →
+      P NoSlot) →
+      ((v : ℕ) → versionOf name ≡ Version v → findConnected st id ≡ Nothing → Given → P (Done 0)) →
+      P (connectReply st time id group flags name .answer)
   unfolding connectAt
-  at-done v s = refl
-
-  -- the four ends of a connect
-  module _
-      (P : Answer → Type 0)
-      (p6 : versionOf name ≡ Unknown → P UnknownProtocol)
-      (p4 : (v : ℕ) → versionOf name ≡ Version v → (s : ℕ) → findConnected st id ≡ At s → P AlreadyConnected)
-      (p5 :
-      (v : ℕ) →
-      versionOf name ≡ Version v →
-      findConnected st id ≡ Nothing →
-      findRetained u id ≡ Nothing →
-      lowestEmpty u ≡ Nothing →
-      P NoSlot)
-      (p0 : (v : ℕ) → versionOf name ≡ Version v → findConnected st id ≡ Nothing → Given → P (Done 0)) where
-    ends-in : (v : ℕ) → versionOf name ≡ Version v → findConnected st id ≡ Nothing → P (connectIn st u time id group flags v .answer)
-    unfolding connectIn
-    ends-in v k e = go (findRetained u id) refl
-      where
-        slot : findRetained u id ≡ Nothing → (r : Found) → lowestEmpty u ≡ r →
-            P (onFound r (connectAt u time id group flags v) (refused NoSlot st) .answer)
-        slot f (At s) q = rw (at-done v s) (p0 v k e (inr (s, q)))
-        slot f Nothing q = p5 v k e f q
-
-        go : (r : Found) → findRetained u id ≡ r →
-            P
-            (onFound r (connectAt u time id group flags v)
-            (onFound (lowestEmpty u) (connectAt u time id group flags v) (refused NoSlot st)) .answer)
-        go (At s) q = rw (at-done v s) (p0 v k e (inl (s, q)))
-        go Nothing q = slot q (lowestEmpty u) refl
-
-    by-connect : P (connectReply st time id group flags name .answer)
-    unfolding connectReply
-    by-connect = go (versionOf name) refl
-      where
-        slot : (v : ℕ) → versionOf name ≡ Version v → (r : Found) → findConnected st id ≡ r →
-            P (onFound r (λ s. refused AlreadyConnected st) (connectIn st u time id group flags v) .answer)
-        slot v k (At s) e = p4 v k s e
-        slot v k Nothing e = ends-in v k e
-
-        go : (n : Named) → versionOf name ≡ n →
-            P
-            (onVersion n
-            (λ version. onFound (findConnected st id) (λ s. refused AlreadyConnected st) (connectIn st u time id group flags version))
-            (refused UnknownProtocol st) .answer)
-        go (Version v) e = slot v e (findConnected st id) refl
-        go Unknown e = p6 e
+  by-answer P p6 p4 p5 p0 =
+      by-connect (λ (r : Reply). P (r .answer)) st time id group flags name p6 p4
+      (λ v s n c r. p0 v n c (inl (s, r)))
+      (λ v s n c r e. p0 v n c (inr (s, e)))
+      p5
 
   -- neither 3 nor 7 nor 11, and not before the gate
   abbrev Far : Answer → Type 0
@@ -254,25 +216,25 @@ module _ (st : State) (time id group flags : ℕ) (name : List ℕ) where
 
   pub late-connect : Far (connectReply st time id group flags name .answer)
   late-connect =
-      by-connect Far
+      by-answer Far
       (λ e. (refl, λ q. omega (arith, q), λ q. omega (arith, q), λ q. omega (arith, q)))
-      (λ v k s e. (refl, λ q. omega (arith, q), λ q. omega (arith, q), λ q. omega (arith, q)))
+      (λ v s k e. (refl, λ q. omega (arith, q), λ q. omega (arith, q), λ q. omega (arith, q)))
       (λ v k e f g. (refl, λ q. omega (arith, q), λ q. omega (arith, q), λ q. omega (arith, q)))
       (λ v k e g. (refl, λ q. omega (arith, q), λ q. omega (arith, q), λ q. omega (arith, q)))
 
   connect-6 : (numberOf (connectReply st time id group flags name .answer) ≡ 6) ↔ Strange name
   connect-6 =
-      by-connect (λ (a : Answer). (numberOf a ≡ 6) ↔ Strange name)
+      by-answer (λ (a : Answer). (numberOf a ≡ 6) ↔ Strange name)
       (λ e. iff-yes refl (strange-of name e))
-      (λ v k s e. iff-no (λ q. omega (arith, q)) (λ x. not-known name x (known-of name v k)))
+      (λ v s k e. iff-no (λ q. omega (arith, q)) (λ x. not-known name x (known-of name v k)))
       (λ v k e f g. iff-no (λ q. omega (arith, q)) (λ x. not-known name x (known-of name v k)))
       (λ v k e g. iff-no (λ q. omega (arith, q)) (λ x. not-known name x (known-of name v k)))
 
   connect-4 : (numberOf (connectReply st time id group flags name .answer) ≡ 4) ↔ (Known name × Connected st id)
   connect-4 =
-      by-connect (λ (a : Answer). (numberOf a ≡ 4) ↔ (Known name × Connected st id))
+      by-answer (λ (a : Answer). (numberOf a ≡ 4) ↔ (Known name × Connected st id))
       (λ e. iff-no (λ q. omega (arith, q)) (λ w. not-known name (strange-of name e) (w .0)))
-      (λ v k s e. let q = connected-at st id s e in iff-yes refl (known-of name v k, (s, q .0, q .1, q .2)))
+      (λ v s k e. let q = connected-at st id s e in iff-yes refl (known-of name v k, (s, q .0, q .1, q .2)))
       (λ v k e f g. iff-no (λ q. omega (arith, q)) (λ w. none-connected st id e (w .1 .0) (w .1 .1) (w .1 .2) (w .1 .3)))
       (λ v k e g. iff-no (λ q. omega (arith, q)) (λ w. none-connected st id e (w .1 .0) (w .1 .1) (w .1 .2) (w .1 .3)))
 
@@ -337,9 +299,9 @@ module _ (st : State) (time id group flags : ℕ) (name : List ℕ) where
       Sized st → valid st ≡ true →
       (numberOf (connectReply st time id group flags name .answer) ≡ 5) ↔ (Known name × AllHeld)
   connect-5 size ok =
-      by-connect (λ (a : Answer). (numberOf a ≡ 5) ↔ (Known name × AllHeld))
+      by-answer (λ (a : Answer). (numberOf a ≡ 5) ↔ (Known name × AllHeld))
       (λ e. iff-no (λ q. omega (arith, q)) (λ w. not-known name (strange-of name e) (w .0)))
-      (λ v k s e. let q = connected-at st id s e in iff-no (λ q. omega (arith, q)) (λ w. w .1 s (q .0) .other (q .2)))
+      (λ v s k e. let q = connected-at st id s e in iff-no (λ q. omega (arith, q)) (λ w. w .1 s (q .0) .other (q .2)))
       (λ v k e f g. iff-yes refl (known-of name v k, all-held size ok e f g))
       (λ v k e g. iff-no (λ q. omega (arith, q)) (λ w. none-given (w .1) g))
 

@@ -6,9 +6,9 @@ use mathlib.Core.Logic.{_≢_, _⊎_, ⊎-elim}
 use mathlib.Core.Bool.{Bool, true, false, cond, _&&_, and-false}
 use mathlib.Core.List.{List, map}
 use lib.Dec.{eqb, leb, ltb}
-use lib.IntN.{ℤ}
 use borrow.Author.Tests.{eq-eqb, ne-eqb, le-leb, lt-leb, lt-ltb, le-ltb}
 use Rattle.varint.specs.Codes.{codeOf}
+use Rattle.params.specs.declared.Params.{Params}
 use Rattle.records.specs.Records.{State, slotCount}
 use Rattle.sets.specs.Sets.{size, bySlot, both, above, fill}
 use Rattle.mesh.specs.declared.Degrees.{Degrees}
@@ -20,7 +20,7 @@ use Rattle.call_lists.proofs.Standing.{degree-is}
 use Rattle.call_lists.proofs.Demand3.{standing}
 use Rattle.promises.specs.Opportunism.{opportunistic, degreesOf, Fifth, Opportunism}
 
-module _ (params : List ℤ) (st : State) (codes : st .codes ≡ map codeOf params) where
+module _ (params : Params) (st : State) (codes : st .codes ≡ map codeOf (params .numbers)) where
   degrees-are : degreesIn st ≡ degreesOf params
   unfolding degreesIn
   degrees-are = λ i. record {

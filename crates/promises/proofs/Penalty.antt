@@ -1,40 +1,37 @@
 -- P7: a relation between two states that composes, `Milder`, kept by every store but the one of a GRAFT in during a backoff.
 -- Assumes nothing.
+use Rattle.rules.proofs.ConnectLaws.{by-connect}
 use Prim.Native.Nat.{ℕ, _+_, _≤_, _<_, min}
 use native.Mathlib.Omega.{arith}
 use mathlib.Core.Path.{_≡_, refl, sym, ap, _∙_}
-use mathlib.Core.Logic.{_≢_, _⊎_, inl, inr, ⊎-elim}
-use mathlib.Core.Bool.{Bool, true, cond, not, false}
+use mathlib.Core.Logic.{_≢_, _⊎_, inl, inr}
+use mathlib.Core.Bool.{Bool, true, cond, false}
 use mathlib.Core.List.{List, [], map}
 use lib.Dec.{eqb}
-use lib.IntN.{ℤ}
 use borrow.Author.Tests.{eqb-true, eqb-false, ne-eqb, ltb-true, lt-ltb, eq-eqb}
 use Rattle.index.specs.Index.{iter}
-use Rattle.index.specs.declared.Found.{Found}
-use Rattle.index.specs.declared.Found.the-variants.{At, Nothing}
-use Rattle.index.proofs.Index.{both, iter-keeps}
+use Rattle.index.specs.declared.Found.the-variants.{At}
+use Rattle.index.proofs.Index.{iter-keeps}
 use Rattle.index.proofs.Flags.{by-test, cond-case}
-use Rattle.varint.specs.Codes.{codeOf}
+use Rattle.varint.specs.Codes.{codeOf, magnitude}
+use Rattle.params.specs.declared.Params.{Params}
 use Rattle.records.specs.declared.Peer.{Peer}
 use Rattle.records.specs.declared.TopicRecord.{TopicRecord}
-use lib.ListN.{length}
 use Rattle.records.specs.Records.{State, noPeer, noTopic, slotCount, place, codeIn, peerIn, joinedIn, setClock, setJoined, setPeer}
 use Rattle.records.specs.Records.{setTopic, isConnected}
 use Rattle.layout.specs.View.{Sized}
-use Rattle.layout.proofs.StateLaws.{peer-case, peer-same, peer-other, peer-after-clock, peer-after-joined, peer-after-topic, code-after-peer}
-use Rattle.layout.proofs.StateLaws.{code-after-topic, sized-peer}
+use Rattle.layout.proofs.StateLaws.{peer-case, peer-same, peer-other, peer-after-clock, peer-after-joined, peer-after-topic}
+use Rattle.layout.proofs.StateLaws.{code-after-peer}
+use Rattle.layout.proofs.StateLaws.{code-after-topic}
 use Rattle.validity.specs.Valid.{valid}
 use Rattle.validity.proofs.ValidLaws.{valid-facts}
-use Rattle.lookup.specs.declared.Named.{Named}
-use Rattle.lookup.specs.declared.Named.the-variants.{Version, Unknown}
-use Rattle.lookup.specs.Name.{versionOf}
-use Rattle.lookup.specs.Find.{findConnected, findRetained, lowestEmpty}
+use Rattle.lookup.specs.Find.{findConnected}
 use Rattle.lookup.proofs.FindLaws.{connected-is}
 use Rattle.score.specs.Counters.{countMost, raisedOf, decayedOf}
 use Rattle.score.specs.Score.{topicParamsIn}
 use Rattle.score.proofs.CounterLaws.{faded-less}
-use Rattle.effects.specs.Effects.{magnitude, unsubscribeBackoff, withEnd, withP5, withP7, connectedAs, retainedTo, outOfMesh, intoMesh}
-use Rattle.effects.specs.Effects.{withSubscribed, onPeer, onTopic, isJoined, isMember, backoffRuns, pruned, endAfter, leftTopic, departed}
+use Rattle.effects.specs.Effects.{unsubscribeBackoff, withEnd, withP5, withP7, connectedAs, retainedTo, outOfMesh, intoMesh}
+use Rattle.effects.specs.Effects.{withSubscribed, onPeer, onTopic, isJoined, isMember, pruned, endAfter, leftTopic, departed}
 use Rattle.effects.specs.Effects.{reclaimable, emptied, reclaimSlot, reclaimed}
 use Rattle.sets.specs.Sets.{at, isPermutation}
 use Rattle.rules.specs.declared.Answer.the-variants.{NotPermutation}
@@ -42,7 +39,7 @@ use Rattle.rules.specs.Reply.{Reply, refused, ignored, done}
 use Rattle.rules.specs.Calls.{Call, connect, disconnect, join, leave, subscribe, unsubscribe, graft, prune, deliver, rate, heartbeat, decay}
 use Rattle.rules.specs.Calls.{score, timeOf, inRange}
 use Rattle.rules.proofs.GraftLaws.{Early, by-graft}
-use Rattle.rules.specs.Step.{isGraylisted, isHeard, onFound, onVersion, ofPeer, connectAt, connectIn, connectReply, joinReply, punished, seenIn, raisedP7, graftCase}
+use Rattle.rules.specs.Step.{isGraylisted, isHeard, ofPeer, connectAt, connectReply, joinReply, punished, seenIn, raisedP7, graftCase}
 use Rattle.rules.specs.Step.{leaveSlot, leaveReply, subscribeReply, unsubscribeReply, graftRefused}
 use Rattle.rules.specs.Step.{graftReply, pruneReply, deliveredOf, deliverReply, meshesIn, settleSlot, maintainedReply}
 use Rattle.rules.specs.Step.{heartbeatReply, decayFloor, decayTopic, decayP7, decaySlot, decayReply, effect, step}
@@ -54,7 +51,7 @@ use Rattle.call_lists.specs.Lists.{after}
 use Rattle.call_lists.proofs.Demand3.{standing}
 use Rattle.promises.specs.Numbers.{Admitted}
 use Rattle.promises.specs.Penalty.{TooEarly, p7In, P7Rises}
-use Rattle.promises.proofs.Ignored.{deaf, not-deaf, gray-yes}
+use Rattle.promises.proofs.Ignored.{not-deaf, gray-yes}
 use Rattle.promises.proofs.KeptOut.{by-id}
 
 -- ---- no higher
@@ -189,14 +186,6 @@ module _ (st : State) (time : ℕ) where
   mild-peer : (id : ℕ) (f : ℕ → Reply) → ((s : ℕ) → Mild (f s)) → Mild (ofPeer st id f)
   mild-peer id f h = by-peer Mild st id f (milder-self st) (λ s l on. h s)
 
-  mild-found : (r : Found) (f : ℕ → Reply) (q : Reply) → ((s : ℕ) → Mild (f s)) → Mild q → Mild (onFound r f q)
-  mild-found (At s) f q h k = h s
-  mild-found Nothing f q h k = k
-
-  mild-version : (r : Named) (f : ℕ → Reply) (q : Reply) → ((v : ℕ) → Mild (f v)) → Mild q → Mild (onVersion r f q)
-  mild-version (Version v) f q h k = h v
-  mild-version Unknown f q h k = k
-
   mild-at : (id group flags v s : ℕ) → Mild (connectAt (reclaimed st time) time id group flags v s)
   unfolding connectAt connectedAs
   mild-at id group flags v s =
@@ -204,14 +193,13 @@ module _ (st : State) (time : ℕ) where
       ticks _ (milder-then st u _ (milder-reclaimed st time) (milder-peer u s _ (omega arith)))
 
   mild-connect : (id group flags : ℕ) (name : List ℕ) → Mild (connectReply st time id group flags name)
-  unfolding connectReply connectIn
   mild-connect id group flags name =
-      mild-version (versionOf name) _ _
-      (λ v.
-      mild-found (findConnected st id) _ _ (λ s. milder-self st)
-      (mild-found (findRetained (reclaimed st time) id) _ _ (mild-at id group flags v)
-      (mild-found (lowestEmpty (reclaimed st time)) _ _ (mild-at id group flags v) (milder-self st))))
-      (milder-self st)
+      by-connect Mild st time id group flags name
+      (λ n. milder-self st)
+      (λ v s n c. milder-self st)
+      (λ v s n c r. mild-at id group flags v s)
+      (λ v s n c r e. mild-at id group flags v s)
+      (λ v n c r e. milder-self st)
 
   mild-join : (t : ℕ) → Mild (joinReply st time t)
   unfolding joinReply
@@ -268,7 +256,7 @@ module _ (st : State) (time : ℕ) where
   mild-back t s = ticks _ (milder-end st s t _)
 
 -- ---- GRAFT in
-module _ (params : List ℤ) (st : State) (codes : st .codes ≡ map codeOf params) (c : Call) where
+module _ (params : Params) (st : State) (codes : st .codes ≡ map codeOf (params .numbers)) (c : Call) where
   abbrev Cause : ℕ → Type 0
   Cause s = (time : ℕ) × (t : ℕ) × (c ≡ graft time (peerIn st s .id) t) × TooEarly params st time t s
 
@@ -307,7 +295,7 @@ module _ (params : List ℤ) (st : State) (codes : st .codes ≡ map codeOf para
       (λ h s. inl (ticks st time _ (milder-topic st i t (λ r. intoMesh r time)) s))
 
 -- ---- every call
-module _ (params : List ℤ) (st : State) (ok : valid st ≡ true) (codes : st .codes ≡ map codeOf params) where
+module _ (params : Params) (st : State) (ok : valid st ≡ true) (codes : st .codes ≡ map codeOf (params .numbers)) where
   only-effect : (c : Call) → Only params st codes c (effect st c)
   unfolding effect withP5
   only-effect (connect time id group flags name) = λ s. inl ((mild-connect st time id group flags name) s)

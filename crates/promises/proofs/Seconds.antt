@@ -13,21 +13,20 @@ use Rattle.index.specs.Index.{gather}
 use Rattle.index.proofs.Flags.{cond-case}
 use Rattle.limits.specs.Limits.{at}
 use Rattle.records.specs.declared.Peer.{Peer}
-use Rattle.records.specs.Records.{State, slotCount, peerIn, setPeer}
+use Rattle.records.specs.Records.{State, slotCount, peerIn}
 use Rattle.layout.specs.View.{Sized}
-use Rattle.layout.proofs.StateLaws.{peer-same, code-after-peer}
 use Rattle.validity.specs.Valid.{valid}
 use Rattle.effects.specs.Actions.{Action, pruneOf}
-use Rattle.score.specs.Counters.{countMost, raisedOf}
-use Rattle.effects.specs.Effects.{pruneBackoff, unsubscribeBackoff, withP7, isJoined, isMember, backoffRuns}
+use Rattle.effects.specs.Effects.{pruneBackoff, unsubscribeBackoff, withP7, isJoined, isMember}
 use Rattle.sets.specs.Sets.{bySlot, isPermutation}
 use Rattle.mesh.specs.Maintenance.{Action as Tell, changesOf, actionsOf}
 use Rattle.rules.specs.declared.Answer.the-variants.{NotPermutation}
-use Rattle.rules.specs.Reply.{Reply, refused, ignored, done}
+use Rattle.rules.specs.Reply.{Reply, refused, ignored}
 use Rattle.rules.specs.Calls.{leave, graft, heartbeat}
 use Rattle.rules.proofs.GraftLaws.{by-graft}
-use Rattle.rules.specs.Step.{toldIn, actionIn, leaveActions, leaveReply, meshesIn, heartbeatActions, maintainedReply, heartbeatReply, raisedP7}
-use Rattle.rules.specs.Step.{isHeard, graftRefused, graftReply, effect}
+use Rattle.rules.specs.Step.{toldIn, actionIn, leaveActions, leaveReply, meshesIn, heartbeatActions, maintainedReply, heartbeatReply}
+use Rattle.rules.specs.Step.{raisedP7}
+use Rattle.rules.specs.Step.{graftRefused, graftReply, effect}
 use Rattle.rules.proofs.CaseLaws.{by-peer, by-gate}
 use Rattle.call_lists.specs.Lists.{after}
 use Rattle.call_lists.proofs.Standing.{degree-is}
@@ -121,17 +120,18 @@ unfolding effect Each
 told-seconds params calls fine time t room =
     let st = after params calls in
     let w = standing params fine calls in (
-      by-gate (λ (r : Reply). Each (Seconds st (natAbs (at params 6))) (r .actions)) st (leave time t) room
+      by-gate (λ (r : Reply). Each (Seconds st (natAbs (at (params .numbers) 6))) (r .actions)) st (leave time t) room
           (λ a e. tt)
-          (λ p. leave-seconds st (w .size) (w .router) time t (natAbs (at params 6)) (degree-is st params (w .codes) 6)),
+          (λ p. leave-seconds st (w .size) (w .router) time t (natAbs (at (params .numbers) 6)) (degree-is st params (w .codes) 6)),
       λ ask order.
-          by-gate (λ (r : Reply). Each (Seconds st (natAbs (at params 5))) (r .actions)) st (heartbeat time t ask order) room
+          by-gate (λ (r : Reply). Each (Seconds st (natAbs (at (params .numbers) 5))) (r .actions)) st (heartbeat time t ask order) room
           (λ a e. tt)
-          (λ p. heartbeat-seconds st (w .size) (w .router) time t ask (natAbs (at params 5)) order (degree-is st params (w .codes) 5)),
+          (λ p. heartbeat-seconds st (w .size) (w .router) time t ask (natAbs (at (params .numbers) 5)) order
+          (degree-is st params (w .codes) 5)),
       λ id.
-          by-gate (λ (r : Reply). Each (Seconds st (natAbs (at params 5))) (r .actions)) st (graft time id t) room
+          by-gate (λ (r : Reply). Each (Seconds st (natAbs (at (params .numbers) 5))) (r .actions)) st (graft time id t) room
           (λ a e. tt)
           (λ p.
-          by-peer (λ (r : Reply). Each (Seconds st (natAbs (at params 5))) (r .actions)) st id _ tt (λ s h on.
-          graft-seconds st (w .size) (w .router) time t s (natAbs (at params 5)) (degree-is st params (w .codes) 5))),
+          by-peer (λ (r : Reply). Each (Seconds st (natAbs (at (params .numbers) 5))) (r .actions)) st id _ tt (λ s h on.
+          graft-seconds st (w .size) (w .router) time t s (natAbs (at (params .numbers) 5)) (degree-is st params (w .codes) 5))),
     )

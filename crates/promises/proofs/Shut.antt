@@ -1,5 +1,6 @@
 -- Who was told PRUNE, or told it us, stays out: the end of each such backoff is in the peer's record, or over. Call by call.
 -- Assumes nothing.
+use Rattle.rules.proofs.ConnectLaws.{by-connect}
 use lib.ListN.{length, getD}
 use Prim.Native.Nat.{ℕ, _≤_, _<_, max, min}
 use native.Mathlib.Omega.{arith}
@@ -8,7 +9,6 @@ use mathlib.Core.Logic.{_≢_, _⊎_, inl, inr, ⊎-elim}
 use mathlib.Core.Bool.{Bool, true, false, cond, not, _&&_, and-false, false≢true}
 use mathlib.Core.List.{List, [], map}
 use lib.Dec.{eqb, ltb}
-use lib.IntN.{ℤ}
 use borrow.Author.Tests.{eqb-true, ltb-true}
 use Rattle.index.specs.Index.{iter, one}
 use Rattle.index.specs.declared.Found.{Found}
@@ -16,27 +16,24 @@ use Rattle.index.specs.declared.Found.the-variants.{At, Nothing}
 use Rattle.index.proofs.Index.{both}
 use Rattle.index.proofs.Flags.{by-test, by-order, cond-case}
 use Rattle.varint.specs.Codes.{codeOf}
+use Rattle.params.specs.declared.Params.{Params}
 use Rattle.records.specs.declared.Peer.{Peer}
 use Rattle.records.specs.Records.{State, slotCount, place, peerIn, topicIn, setClock, setJoined, setPeer}
 use Rattle.layout.specs.View.{Sized}
-use Rattle.layout.proofs.StateLaws.{codes-after-peer, peer-same, sized-topic}
+use Rattle.layout.proofs.StateLaws.{peer-same, sized-topic}
 use Rattle.validity.specs.Valid.{valid}
-use Rattle.lookup.specs.declared.Named.{Named}
-use Rattle.lookup.specs.declared.Named.the-variants.{Version, Unknown}
-use Rattle.lookup.specs.Name.{versionOf}
-use Rattle.lookup.specs.Find.{findConnected, findRetained, lowestEmpty}
+use Rattle.lookup.specs.Find.{findConnected}
 use Rattle.lookup.proofs.FindLaws.{retained-at, empty-at}
-use Rattle.score.specs.Counters.{countMost, raisedOf}
 use Rattle.sets.specs.Sets.{at, isPermutation}
-use Rattle.effects.specs.Effects.{unsubscribeBackoff, pruneBackoff, withEnd, withP7, connectedAs, onPeer, onTopic, intoMesh, isJoined}
-use Rattle.effects.specs.Effects.{isMember, backoffRuns, pruned, endAfter, reclaimable, reclaimed}
-use Rattle.effects.proofs.EffectLaws.{reclaimed-stays, reclaimable-over, sized-on-peer, sized-pruned, end-same}
+use Rattle.effects.specs.Effects.{unsubscribeBackoff, pruneBackoff, withEnd, withP7, connectedAs, onTopic, intoMesh, isJoined}
+use Rattle.effects.specs.Effects.{isMember, pruned, endAfter, reclaimable, reclaimed}
+use Rattle.effects.proofs.EffectLaws.{reclaimed-stays, reclaimable-over, sized-pruned, end-same}
 use Rattle.rules.specs.declared.Answer.the-variants.{NotPermutation}
 use Rattle.rules.specs.Reply.{Reply, numberOf, refused, ignored, done}
 use Rattle.rules.specs.Calls.{Call, connect, disconnect, join, leave, subscribe, unsubscribe, graft, prune, deliver, rate, heartbeat, decay}
 use Rattle.rules.specs.Calls.{score, timeOf}
 use Rattle.rules.proofs.GraftLaws.{by-graft}
-use Rattle.rules.specs.Step.{isGraylisted, isHeard, onFound, onVersion, ofPeer, connectAt, connectIn, connectReply, joinReply, leaveSlot, raisedP7}
+use Rattle.rules.specs.Step.{isGraylisted, isHeard, onFound, ofPeer, connectAt, connectReply, joinReply, leaveSlot, raisedP7}
 use Rattle.rules.specs.Step.{leaveActions, leaveReply, subscribeReply, unsubscribeReply, graftRefused}
 use Rattle.rules.specs.Step.{graftReply, secondsOf, pruneReply, deliverReply, meshesIn, punished, settleSlot, maintainedReply}
 use Rattle.rules.specs.Step.{heartbeatReply, decayReply, effect}
@@ -47,7 +44,7 @@ use Rattle.promises.specs.Told.{times}
 use Rattle.promises.specs.KeptOut.{pruneSeconds, leaveSeconds, told, shutBy}
 use Rattle.promises.proofs.Later.{LaterAt, Later, later-self, later-then, later-clock, later-joined, later-peer, later-iter}
 use Rattle.promises.proofs.Later.{later-pruned, later-settled, later-left, later-moved, later-still, later-disconnect, later-leave}
-use Rattle.promises.proofs.Later.{later-rate, later-decay, later-on, later-refused, later-raised, end-set, end-pruned, end-walked}
+use Rattle.promises.proofs.Later.{later-rate, later-decay, later-on, later-refused, later-raised, end-pruned, end-walked}
 use Rattle.promises.proofs.Told.{leave-someone, leave-sized, left-member, told-maintained}
 
 -- ---- an end that is kept: it is over, or stands in the record of the peer with the id
@@ -109,10 +106,6 @@ module _ (st : State) (time : ℕ) (c : st .clock ≤ time) where
   found (At s) f q h k = h s refl
   found Nothing f q h k = k
 
-  named : (r : Named) (f : ℕ → Reply) (q : Reply) → ((v : ℕ) → Kept (f v)) → Kept q → Kept (onVersion r f q)
-  named (Version v) f q h k = h v
-  named Unknown f q h k = k
-
   peered : (id : ℕ) (f : ℕ → Reply) → ((s : ℕ) → Kept (f s)) → Kept (ofPeer st id f)
   peered id f h = found (findConnected st id) f _ (λ s e. h s) (hold-self st)
 
@@ -138,15 +131,14 @@ module _ (st : State) (time : ℕ) (c : st .clock ≤ time) where
         }
 
   hold-connect : Sized st → (id group flags : ℕ) (name : List ℕ) → Kept (connectReply st time id group flags name)
-  unfolding connectReply connectIn
   hold-connect size id group flags name =
       let u = reclaimed st time in
-      named (versionOf name) _ _
-      (λ v.
-      found (findConnected st id) _ _ (λ s e. hold-self st)
-      (found (findRetained u id) _ _ (λ s e. taken size id group flags v s (λ n. sym (retained-at u id s e .2)))
-      (found (lowestEmpty u) _ _ (λ s e. taken size id group flags v s (λ n. absurd (n (empty-at u s e .1)))) (hold-self st))))
-      (hold-self st)
+      by-connect Kept st time id group flags name
+      (λ n. hold-self st)
+      (λ v s n c. hold-self st)
+      (λ v s n c r. taken size id group flags v s (λ d. sym (retained-at u id s r .2)))
+      (λ v s n c r e. taken size id group flags v s (λ d. absurd (d (empty-at u s e .1))))
+      (λ v n c r e. hold-self st)
 
   back : (t s : ℕ) (p : Peer) → Later st (graftRefused st time t s p .state) → Kept (graftRefused st time t s p)
   unfolding graftRefused
@@ -208,7 +200,7 @@ hold-effect st (decay time) z l = hold-moved st time l _ (later-decay st time)
 hold-effect st (score time id) z l = peered st time l id _ (λ s. still st time l)
 
 -- ---- what a call shuts
-abbrev pub Shuts : List ℤ → Call → Reply → Type 0
+abbrev pub Shuts : Params → Call → Reply → Type 0
 Shuts params c r = (id t : ℕ) → t < 8 → Held (shutBy params c r id t) (r .state) id t
 
 no-test : (b : Bool) (n : ℕ) → n ≡ 0 → b && ltb 0 n ≡ false
@@ -234,7 +226,7 @@ pub quiet : (time seconds : ℕ) (r : Reply) (u id t : ℕ) → r .actions ≡ [
 unfolding times
 quiet time seconds r u id t e = told-none time seconds r u id t (rw e)
 
-module _ (params : List ℤ) (st : State) (size : Sized st) (codes : st .codes ≡ map codeOf params) where
+module _ (params : Params) (st : State) (size : Sized st) (codes : st .codes ≡ map codeOf (params .numbers)) where
   -- ---- GRAFT that is answered by a PRUNE
   module _ (time u s : ℕ) (h : s < slotCount) (k : u < 8) where
     abbrev Told2 : Reply → Type 0

@@ -9,7 +9,7 @@ use mathlib.Core.List.{[], _∷_}
 use lib.Dec.{eqb, leb}
 use lib.IntN.{ℤ, pos, negsuc, negℤ, _*ℤ_}
 use lib.Signed.{ltZ}
-use Rattle.varint.specs.Codes.{numberOf as signed}
+use Rattle.varint.specs.Codes.{numberOf as signed, magnitude}
 use Rattle.params.proofs.ParamLaws.{general}
 use Rattle.score.specs.Score.{scoreIn}
 use borrow.Author.Tests.{eqb-false, eq-eqb, ne-eqb, le-leb, lt-leb, le-ltb}
@@ -18,22 +18,20 @@ use Rattle.index.proofs.Flags.{cond-case}
 use Rattle.records.specs.declared.Peer.{Peer}
 use Rattle.records.specs.Records.{State, codeIn, peerIn, topicIn, setClock, setPeer, slotCount}
 use Rattle.layout.specs.View.{Sized}
-use Rattle.layout.proofs.StateLaws.{peer-same, code-after-peer}
 use Rattle.validity.specs.Valid.{maxTime, valid}
 use Rattle.validity.proofs.ValidLaws.{valid-facts}
 use Rattle.lookup.specs.Find.{findConnected}
 use Rattle.lookup.proofs.FindLaws.{connected-is}
-use Rattle.score.specs.Counters.{countMost, raisedOf}
 use Rattle.effects.specs.Actions.{pruneOf}
-use Rattle.effects.specs.Effects.{magnitude, highDegree, pruneBackoff, withEnd, withP7, intoMesh, onPeer, onTopic, isMember, meshSize}
-use Rattle.effects.specs.Effects.{backoffRuns, endAfter}
+use Rattle.effects.specs.Effects.{highDegree, pruneBackoff, withEnd, withP7, intoMesh, onTopic, isMember, meshSize}
+use Rattle.effects.specs.Effects.{endAfter}
 use Rattle.effects.proofs.EffectLaws.{member-in, member-peer}
-use Rattle.rules.specs.Reply.{Reply, numberOf, ignored, done}
+use Rattle.rules.specs.Reply.{Reply, numberOf}
 use Rattle.rules.specs.Calls.{graft, inRange}
 use Rattle.rules.specs.declared.GraftCase.{GraftCase}
 use Rattle.rules.specs.declared.GraftCase.the-variants.{AlreadyMember, Enters}
 use Rattle.rules.proofs.GraftLaws.{by-graft}
-use Rattle.rules.specs.Step.{isNegative, isGraylisted, isHeard, graftRefused, raisedP7, isCrowded, graftCase, graftDone}
+use Rattle.rules.specs.Step.{isNegative, isGraylisted, graftRefused, raisedP7, isCrowded, graftCase, graftDone}
 use Rattle.rules.specs.Step.{graftReply, effect, step}
 use Rattle.gate.proofs.StandingLaws.{graylist-is}
 use Rattle.rules.proofs.GateLaws.{gate-0}
@@ -115,7 +113,8 @@ module _ (st : State) (time t s : ℕ) (size : Sized st) (h : s < slotCount) (k 
   Done r = InOrTold st t s r
 
   -- p is the record that gets the end
-  back : (p : Peer) → pruneOf p (pruneBackoff st) ≡ pruneOf (peerIn st s) (pruneBackoff st) → isMember st t s ≡ false → Done (graftRefused st time t s p)
+  back : (p : Peer) → pruneOf p (pruneBackoff st) ≡ pruneOf (peerIn st s) (pruneBackoff st) → isMember st t s ≡ false →
+      Done (graftRefused st time t s p)
   unfolding graftRefused
   back p q e =
       let w = withEnd p t (endAfter time (pruneBackoff st)) in

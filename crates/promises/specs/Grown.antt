@@ -6,8 +6,9 @@ use mathlib.Core.Logic.{_≢_, _⊎_}
 use mathlib.Core.Bool.{cond, not, _&&_}
 use mathlib.Core.List.{List}
 use lib.Dec.{eqb, ltb}
-use lib.IntN.{ℤ, pos}
+use lib.IntN.{pos}
 use lib.Signed.{ltZ}
+use Rattle.params.specs.declared.Params.{Params}
 use Rattle.records.specs.declared.TopicRecord.{TopicRecord}
 use Rattle.records.specs.Records.{State, slotCount, topicCount, place, peerIn, topicIn}
 use Rattle.effects.specs.Effects.{isMember}
@@ -19,7 +20,7 @@ use Rattle.call_lists.specs.Demand3.{Accepted}
 use Rattle.promises.specs.Parameters.{topicNumber}
 
 -- "P3 = (threshold - counter)² for a member with mesh time > activation and counter < threshold, else 0": numbers 10 and 11 of a topic
-abbrev pub p3Of : List ℤ → ℕ → TopicRecord → ℕ
+abbrev pub p3Of : Params → ℕ → TopicRecord → ℕ
 p3Of params t r =
     cond
     (eqb (r .member) 1 && (ltb (topicNumber params t 11) (r .mesh) && ltb (r .p3) (topicNumber params t 10)))
@@ -27,7 +28,7 @@ p3Of params t r =
     0
 
 -- st is the state at the start, u the one that a leave or a heartbeat of topic t leaves
-pub record Grown (params : List ℤ) (t : ℕ) (st u : State) : Type 0 where
+pub record Grown (params : Params) (t : ℕ) (st u : State) : Type 0 where
   -- who was a member and is none, with a negative score; "P3b [stops] at 10^12"
   pub grows :
       (s : ℕ) →
@@ -52,7 +53,7 @@ OnlyByPrune c st u s t =
     ⊎ ((time : ℕ) × (ask : ℕ) × (order : List ℕ) × (c ≡ heartbeat time t ask order))
 
 -- what the calls do to P3b, from st
-pub record Deficits (params : List ℤ) (st : State) : Type 0 where
+pub record Deficits (params : Params) (st : State) : Type 0 where
   pub left : (time t room : ℕ) → Grown params t st (step st (leave time t) room .state)
   pub maintained :
       (time t ask room : ℕ) (order : List ℕ) → Grown params t st (step st (heartbeat time t ask order) room .state)
@@ -67,4 +68,4 @@ pub record Deficits (params : List ℤ) (st : State) : Type 0 where
       p3bIn (step st (connect time id group flags name) room .state) s t ≡ 0
 
 abbrev pub P3bGrows : Type 0
-P3bGrows = (params : List ℤ) (calls : List Made) → Accepted params → Deficits params (after params calls)
+P3bGrows = (params : Params) (calls : List Made) → Accepted params → Deficits params (after params calls)

@@ -7,7 +7,8 @@ use mathlib.Core.Logic.{_≢_, _⊎_}
 use mathlib.Core.Bool.{true, cond, _&&_}
 use mathlib.Core.List.{List, [], _∷_, map}
 use lib.Dec.{eqb, ltb}
-use lib.IntN.{ℤ, natAbs}
+use lib.IntN.{natAbs}
+use Rattle.params.specs.declared.Params.{Params}
 use Rattle.limits.specs.Limits.{at}
 use Rattle.records.specs.Records.{slotCount, topicCount, place, peerIn, topicIn}
 use Rattle.layout.specs.View.{stateOf}
@@ -23,18 +24,18 @@ use Rattle.promises.specs.Ends.{endIn}
 use Rattle.promises.specs.Told.{times}
 
 -- "the sheet's prune [..] backoff", and unsubscribe backoff, in seconds
-abbrev pub pruneSeconds : List ℤ → ℕ
-pruneSeconds params = natAbs (at params 5)
+abbrev pub pruneSeconds : Params → ℕ
+pruneSeconds params = natAbs (at (params .numbers) 5)
 
-abbrev pub leaveSeconds : List ℤ → ℕ
-leaveSeconds params = natAbs (at params 6)
+abbrev pub leaveSeconds : Params → ℕ
+leaveSeconds params = natAbs (at (params .numbers) 6)
 
 -- a PRUNE that goes to a peer: until when, from the call and its reply
 abbrev pub told : ℕ → ℕ → Reply → ℕ → ℕ → ℕ → ℕ
 told time seconds r u id t = cond (eqb u t && ltb 0 (times 2 id (r .actions))) (endAfter time seconds) 0
 
 -- until when a call and its reply shut topic t to the peer with this id
-unfoldable pub shutBy : List ℤ → Call → Reply → ℕ → ℕ → ℕ
+unfoldable pub shutBy : Params → Call → Reply → ℕ → ℕ → ℕ
 shutBy params (connect time p group flags name) r id t = 0
 shutBy params (disconnect time p) r id t = 0
 shutBy params (join time u) r id t = 0
@@ -54,19 +55,19 @@ shutBy params (decay time) r id t = 0
 shutBy params (score time p) r id t = 0
 
 -- the latest of these ends in a list of calls
-unfoldable pub shutUntil : List ℤ → List Made → ℕ → ℕ → ℕ
+unfoldable pub shutUntil : Params → List Made → ℕ → ℕ → ℕ
 shutUntil params [] id t = 0
 shutUntil params (c ∷ before) id t =
     max (shutUntil params before id t) (shutBy params (c .call) (step (after params before) (c .call) (c .room)) id t)
 
-pub record KeptOutOf (params : List ℤ) (calls : List Made) (s t : ℕ) : Type 0 where
+pub record KeptOutOf (params : Params) (calls : List Made) (s t : ℕ) : Type 0 where
   -- the backoff of a member ended when it came in, or before, and it came in at the clock, or before
   pub over : endIn (after params calls) s t ≤ topicIn (after params calls) (place s t) .graft
   pub since : topicIn (after params calls) (place s t) .graft ≤ after params calls .clock
   -- every PRUNE between us and this peer, in this topic, is over
   pub prunes : shutUntil params calls (peerIn (after params calls) s .id) t ≤ after params calls .clock
 
-pub record KeptOutAfter (params : List ℤ) (calls : List Made) : Type 0 where
+pub record KeptOutAfter (params : Params) (calls : List Made) : Type 0 where
   pub members :
       (s t : ℕ) → s < slotCount → t < topicCount → isMember (after params calls) t s ≡ true → KeptOutOf params calls s t
   -- a heartbeat after these calls tells GRAFT only to whom 02's order 3 allows: "now ≥ backoff end + 1000 ms, or an end of 0 (never set)"
@@ -78,16 +79,16 @@ pub record KeptOutAfter (params : List ℤ) (calls : List Made) : Type 0 where
       (endIn (after params calls) s t ≡ 0) ⊎ (endIn (after params calls) s t + 1000 ≤ time)
 
 abbrev pub KeptOut : Type 0
-KeptOut = (params : List ℤ) (calls : List Made) → Accepted params → KeptOutAfter params calls
+KeptOut = (params : Params) (calls : List Made) → Accepted params → KeptOutAfter params calls
 
 -- the same of the program's calls, one after the other on one table, as history's `Agrees` says demand 3 of them
-pub record ProgramKeeps (params : List ℤ) (calls : List Called) (table : List ℕ) : Type 0 where
+pub record ProgramKeeps (params : Params) (calls : List Called) (table : List ℕ) : Type 0 where
   pub state : stateOf table ≡ after params (map made calls)
   pub out : KeptOutAfter params (map made calls)
 
 abbrev pub ProgramKeptOut : Type 0
 ProgramKeptOut =
-    (params : List ℤ) (calls : List Called) (table : List ℕ) →
+    (params : Params) (calls : List Called) (table : List ℕ) →
     Accepted params →
     Played params calls table →
     ProgramKeeps params calls table

@@ -3,7 +3,8 @@ use Prim.Native.Nat.{ℕ, _+_, _*_, _≤_, _<_}
 use mathlib.Core.Path.{_≡_}
 use mathlib.Core.Logic.{_≢_, _⊎_}
 use mathlib.Core.List.{List}
-use lib.IntN.{ℤ, natAbs}
+use lib.IntN.{natAbs}
+use Rattle.params.specs.declared.Params.{Params}
 use Rattle.limits.specs.Limits.{at}
 use Rattle.records.specs.Records.{State, slotCount}
 use Rattle.sets.specs.Sets.{size, bySlot, both, above, fill}
@@ -16,17 +17,17 @@ use Rattle.call_lists.specs.Demand3.{Accepted}
 
 -- "General, index 0 on: D_lo, D, D_hi [..]; D_out [..]; D_score [..]; opportunistic threshold [..] in thousandths of a point" (index 8).
 -- Scores are moved up by 2.6 × 10^18 here, as maintenance takes them.
-abbrev pub opportunistic : List ℤ → ℕ
-opportunistic params = zeroScore + natAbs (at params 8) * 1000000
+abbrev pub opportunistic : Params → ℕ
+opportunistic params = zeroScore + natAbs (at (params .numbers) 8) * 1000000
 
-abbrev pub degreesOf : List ℤ → Degrees
+abbrev pub degreesOf : Params → Degrees
 degreesOf params =
     record {
-      lo = natAbs (at params 0);
-      d = natAbs (at params 1);
-      hi = natAbs (at params 2);
-      out = natAbs (at params 3);
-      score = natAbs (at params 4);
+      lo = natAbs (at (params .numbers) 0);
+      d = natAbs (at (params .numbers) 1);
+      hi = natAbs (at (params .numbers) 2);
+      out = natAbs (at (params .numbers) 3);
+      score = natAbs (at (params .numbers) 4);
       threshold = opportunistic params;
     }
 
@@ -35,7 +36,7 @@ abbrev pub middle : State → Meshes → ℕ
 middle st m = median (m .fourth) (bySlot slotCount (heightIn st))
 
 -- "5. If asked, mesh ≥ 2 and median < threshold: graft up to 2 candidates not yet grafted with scores above the median, in draw order."
-pub record Fifth (params : List ℤ) (st : State) (time t ask : ℕ) (order : List ℕ) (m : Meshes) : Type 0 where
+pub record Fifth (params : Params) (st : State) (time t ask : ℕ) (order : List ℕ) (m : Meshes) : Type 0 where
   pub still : (ask ≢ 1) ⊎ ((size (m .fourth) < 2) ⊎ (opportunistic params ≤ middle st m)) → m .fifth ≡ m .fourth
   pub grafts :
       ask ≡ 1 →
@@ -48,9 +49,9 @@ pub record Fifth (params : List ℤ) (st : State) (time t ask : ℕ) (order : Li
       order
       (m .fourth)
 
-pub record FromSheet (params : List ℤ) (st : State) : Type 0 where
+pub record FromSheet (params : Params) (st : State) : Type 0 where
   pub degrees : degreesIn st ≡ degreesOf params
   pub fifth : (time t ask : ℕ) (order : List ℕ) → Fifth params st time t ask order (meshesIn st time t ask order)
 
 abbrev pub Opportunism : Type 0
-Opportunism = (params : List ℤ) (calls : List Made) → Accepted params → FromSheet params (after params calls)
+Opportunism = (params : Params) (calls : List Made) → Accepted params → FromSheet params (after params calls)

@@ -1,9 +1,9 @@
 -- The sheet's own numbers, by 01's list of them.
 use Prim.Native.Nat.{ℕ, _+_, _*_}
-use mathlib.Core.List.{List}
-use lib.IntN.{ℤ, natAbs}
+use lib.IntN.{natAbs}
+use Rattle.params.specs.declared.Params.{Params}
 use Rattle.limits.specs.Limits.{at}
 
 -- "147 numbers: 19 general, then 16 per topic": number j of topic t, without its sign
-abbrev pub topicNumber : List ℤ → ℕ → ℕ → ℕ
-topicNumber params t j = natAbs (at params (19 + 16 * t + j))
+abbrev pub topicNumber : Params → ℕ → ℕ → ℕ
+topicNumber params t j = natAbs (at (params .numbers) (19 + 16 * t + j))

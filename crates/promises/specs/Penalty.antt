@@ -4,7 +4,7 @@ use mathlib.Core.Path.{_≡_}
 use mathlib.Core.Logic.{_≢_, _⊎_}
 use mathlib.Core.Bool.{false}
 use mathlib.Core.List.{List}
-use lib.IntN.{ℤ}
+use Rattle.params.specs.declared.Params.{Params}
 use Rattle.records.specs.Records.{State, slotCount, peerIn, joinedIn}
 use Rattle.effects.specs.Effects.{isMember}
 use Rattle.rules.specs.Calls.{Call, graft}
@@ -16,7 +16,7 @@ use Rattle.promises.specs.Numbers.{Admitted}
 use Rattle.promises.specs.Ignored.{Graylisted}
 
 -- "GRAFT in, first that holds: not joined 11; graylisted 11; already member, done; explicit, PRUNE; backoff running (now < end)"
-pub record TooEarly (params : List ℤ) (st : State) (time t s : ℕ) : Type 0 where
+pub record TooEarly (params : Params) (st : State) (time t s : ℕ) : Type 0 where
   pub connected : peerIn st s .status ≡ 1
   pub joined : joinedIn st t ≡ 1
   pub heard : Graylisted params st s → ⊥
@@ -28,7 +28,7 @@ pub record TooEarly (params : List ℤ) (st : State) (time t s : ℕ) : Type 0 w
 abbrev pub p7In : State → ℕ → ℕ
 p7In st s = peerIn st s .p7
 
-pub record Penalty (params : List ℤ) (st : State) (s : ℕ) : Type 0 where
+pub record Penalty (params : Params) (st : State) (s : ℕ) : Type 0 where
   -- in thousandths; "P4 and P7 stop at 10^6"
   pub rises :
       (time t room : ℕ) →
@@ -43,7 +43,7 @@ pub record Penalty (params : List ℤ) (st : State) (s : ℕ) : Type 0 where
 
 abbrev pub P7Rises : Type 0
 P7Rises =
-    (params : List ℤ) (calls : List Made) →
+    (params : Params) (calls : List Made) →
     Accepted params →
     (s : ℕ) →
     s < slotCount →

@@ -6,8 +6,9 @@ use mathlib.Core.Logic.{_≢_}
 use mathlib.Core.Bool.{cond, not, _&&_}
 use mathlib.Core.List.{List, [], _∷_}
 use lib.Dec.{eqb}
-use lib.IntN.{ℤ, natAbs}
+use lib.IntN.{natAbs}
 use Rattle.index.specs.Index.{one}
+use Rattle.params.specs.declared.Params.{Params}
 use Rattle.limits.specs.Limits.{at}
 use Rattle.records.specs.Records.{State, slotCount, peerIn}
 use Rattle.layout.specs.View.{Sized}
@@ -68,10 +69,12 @@ Seconds st seconds a =
 -- of the parameters: 5 the prune backoff, 6 the unsubscribe backoff
 abbrev pub ToldSeconds : Type 0
 ToldSeconds =
-    (params : List ℤ) (calls : List Made) →
+    (params : Params) (calls : List Made) →
     Accepted params →
     (time t room : ℕ) →
-    Each (Seconds (after params calls) (natAbs (at params 6))) (step (after params calls) (leave time t) room .actions)
+    Each (Seconds (after params calls) (natAbs (at (params .numbers) 6))) (step (after params calls) (leave time t) room .actions)
     × ((ask : ℕ) (order : List ℕ) →
-    Each (Seconds (after params calls) (natAbs (at params 5))) (step (after params calls) (heartbeat time t ask order) room .actions))
-    × ((id : ℕ) → Each (Seconds (after params calls) (natAbs (at params 5))) (step (after params calls) (graft time id t) room .actions))
+    Each (Seconds (after params calls) (natAbs (at (params .numbers) 5)))
+    (step (after params calls) (heartbeat time t ask order) room .actions))
+    × ((id : ℕ) →
+    Each (Seconds (after params calls) (natAbs (at (params .numbers) 5))) (step (after params calls) (graft time id t) room .actions))

@@ -8,7 +8,7 @@ use mathlib.Core.List.{List, [], _∷_, _++_}
 use lib.Dec.{leb}
 use borrow.Author.Tests.{leb-true}
 use Rattle.index.proofs.Index.{both}
-use Rattle.params.specs.Ordinary.{ordinaryNumbers}
+use Rattle.params.specs.Ordinary.{ordinaryParams}
 use Rattle.params.proofs.OrdinaryLaws.{ordinary-accepted, ordinary-length}
 use Rattle.records.specs.Records.{State}
 use Rattle.lookup.specs.Fresh.{freshState}
@@ -38,12 +38,12 @@ unfoldable pub given : State → List Call → List Reply
 given st [] = []
 given st (c ∷ rest) = let r : Reply = effect st c in r ∷ given (r .state) rest
 
-accepted : Accepted ordinaryNumbers
+accepted : Accepted ordinaryParams
 accepted = record { size = ordinary-length; passes = ordinary-accepted }
 
 -- the state behind a list, as `after` has it
 abbrev at : List Made → State
-at before = after ordinaryNumbers before
+at before = after ordinaryParams before
 
 reply-effect : (before : List Made) (c : Call) → passes-one (at before) c ≡ true → reply before c ≡ effect (at before) c
 unfolding reply step
@@ -52,7 +52,7 @@ reply-effect before c e =
     ap (λ (g : Gate). through g (at before) (effect (at before) c))
     (sym
     (gate-0 (at before) (inRange c) actionRoom (timeOf c) (at before .clock)
-    (standing ordinaryNumbers accepted before .router)
+    (standing ordinaryParams accepted before .router)
     (q .0)
     (omega arith)
     refl
@@ -95,7 +95,7 @@ passes-last st (x ∷ calls) c e =
 
 -- ---- from a fresh router
 abbrev pub start : State
-start = freshState ordinaryNumbers
+start = freshState ordinaryParams
 
 module _ (calls : List Call) (e : passes start calls ≡ true) where
   pub reached-left : reached calls ≡ left start calls

@@ -7,7 +7,7 @@ use mathlib.Core.Bool.{true, false, cond}
 use mathlib.Core.List.{List, [], _∷_, _++_, map}
 use lib.IntN.{pos, negsuc}
 use Rattle.index.specs.Index.{gather}
-use Rattle.params.specs.Ordinary.{ordinaryNumbers}
+use Rattle.params.specs.Ordinary.{ordinaryParams}
 use Rattle.records.specs.Records.{State, slotCount, peerIn}
 use Rattle.lookup.specs.Name.{meshsub}
 use Rattle.score.specs.Score.{scoreIn}
@@ -32,7 +32,7 @@ behind before (c ∷ rest) = behind (lent c ∷ before) rest
 
 -- a call behind a list of calls, and all the replies to a list
 unfoldable pub reply : List Made → Call → Reply
-reply before c = step (after ordinaryNumbers before) c actionRoom
+reply before c = step (after ordinaryParams before) c actionRoom
 
 unfoldable pub replies : List Made → List Call → List Reply
 replies before [] = []
@@ -40,7 +40,7 @@ replies before (c ∷ rest) = reply before c ∷ replies (lent c ∷ before) res
 
 -- the state that a list of calls reaches, and what a call is answered there
 unfoldable pub reached : List Call → State
-reached calls = after ordinaryNumbers (behind [] calls)
+reached calls = after ordinaryParams (behind [] calls)
 
 unfoldable pub asked : List Call → Call → Reply
 asked calls c = reply (behind [] calls) c

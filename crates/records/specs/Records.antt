@@ -5,6 +5,7 @@ use mathlib.Core.Bool.{Bool}
 use mathlib.Core.List.{List, [], _∷_}
 use lib.ListN.{getD, set}
 use lib.Dec.{eqb}
+use Rattle.records.specs.declared.Setup.{Setup}
 use Rattle.records.specs.declared.Peer.{Peer}
 use Rattle.records.specs.declared.TopicRecord.{TopicRecord}
 
@@ -19,12 +20,13 @@ topicCount = 8
 abbrev pub paramCount : ℕ
 paramCount = 147
 
--- the router's state: the clock, a flag for each joined topic, the codes of the parameters, the peers by slot, and their topic records,
--- that of slot s and topic t at s * 8 + t
+-- the router's state: the clock, a flag for each joined topic, the codes of the parameters, the rest of the set-up, the peers by slot, and
+-- their topic records, that of slot s and topic t at s * 8 + t
 pub record State : Type 0 where
   pub clock : ℕ
   pub joined : List ℕ
   pub codes : List ℕ
+  pub setup : Setup
   pub peers : List Peer
   pub topics : List TopicRecord
 
@@ -66,19 +68,40 @@ topicIn st k = getD (st .topics) k noTopic
 -- what the calls change
 unfoldable pub setClock : State → ℕ → State
 setClock st n =
-    record { clock = n; joined = st .joined; codes = st .codes; peers = st .peers; topics = st .topics }
+    record { clock = n; joined = st .joined; codes = st .codes; setup = st .setup; peers = st .peers; topics = st .topics }
 
 unfoldable pub setJoined : State → ℕ → ℕ → State
 setJoined st t b =
-    record { clock = st .clock; joined = set (st .joined) t b; codes = st .codes; peers = st .peers; topics = st .topics }
+    record {
+      clock = st .clock;
+      joined = set (st .joined) t b;
+      codes = st .codes;
+      setup = st .setup;
+      peers = st .peers;
+      topics = st .topics;
+    }
 
 unfoldable pub setPeer : State → ℕ → Peer → State
 setPeer st s p =
-    record { clock = st .clock; joined = st .joined; codes = st .codes; peers = set (st .peers) s p; topics = st .topics }
+    record {
+      clock = st .clock;
+      joined = st .joined;
+      codes = st .codes;
+      setup = st .setup;
+      peers = set (st .peers) s p;
+      topics = st .topics;
+    }
 
 unfoldable pub setTopic : State → ℕ → TopicRecord → State
 setTopic st k t =
-    record { clock = st .clock; joined = st .joined; codes = st .codes; peers = st .peers; topics = set (st .topics) k t }
+    record {
+      clock = st .clock;
+      joined = st .joined;
+      codes = st .codes;
+      setup = st .setup;
+      peers = st .peers;
+      topics = set (st .topics) k t;
+    }
 
 -- "A record is empty, connected, or retained after a disconnect."
 abbrev pub isEmpty : Peer → Bool

@@ -9,6 +9,15 @@ pub const SLOTS: usize = 64;
 
 pub const TOPICS: usize = 8;
 
+// The numbers of an action list: three for each slot.
+pub const ACTION_ROOM: usize = 3 * SLOTS;
+
+// What a router was made with beside the numbers of its parameters. Another such number is another field.
+pub struct Setup {
+    // the number of the parameters' edition
+    pub edition: u64,
+}
+
 // A peer's record, without what it holds for each topic.
 pub struct Peer {
     // 0 empty, 1 connected, 2 retained after a disconnect

@@ -1,6 +1,6 @@
-// What a host calls. Every call takes the table that the host lends (its type fixes the length), a time, its arguments as wide numbers and a
-// lent action list, asks nothing of its caller, and promises the rules' reply (crate rules): answer, table, clock and action list, for all
-// input. The calls themselves stand in the crates below.
+// What a host calls. Every call takes the table that the host lends (its type fixes the length), a time, its arguments as wide numbers and
+// a lent action list, asks nothing of its caller, and promises the rules' reply (crate rules): answer, table, clock and action list, for
+// all input. The calls themselves stand in the crates below.
 pub use control::graft;
 pub use control::prune;
 pub use deliveries::decay;
@@ -24,7 +24,7 @@ use params::Params;
 
 // Makes a fresh router: 9 with its place and the table unchanged, or every cell written.
 pub fn fresh(all: Params, table: &mut [u64; CELLS]) -> Made
-    ensures { λ r. ⌜ Makes (all .numbers) r (now (table .entry)) (now (table .exit)) ⌝ }
+    ensures { λ r. ⌜ Makes all r (now (table .entry)) (now (table .exit)) ⌝ }
 {
     lookup::fresh::fresh(all, table)
 }

@@ -1,5 +1,6 @@
 -- Every reply counts its actions, and gives at most one for each slot; so they fit the lent list.
 -- Assumes nothing.
+use Rattle.rules.proofs.ConnectLaws.{by-connect}
 use Prim.Native.Nat.{ℕ, _+_, _*_, _≤_}
 use mathlib.Core.Path.{_≡_, refl, ap, _∙_}
 use mathlib.Core.Bool.{Bool, true, false, cond}
@@ -18,20 +19,22 @@ use Rattle.records.specs.Records.{State, slotCount, peerIn}
 use Rattle.sets.specs.Sets.{bySlot, isPermutation}
 use Rattle.mesh.specs.Maintenance.{changesOf, actionsOf as toldActions}
 use Rattle.validity.specs.Valid.{valid}
-use Rattle.lookup.specs.Find.{findConnected, findRetained, lowestEmpty}
-use Rattle.lookup.specs.declared.Named.{Named}
-use Rattle.lookup.specs.declared.Named.the-variants.{Version, Unknown}
-use Rattle.lookup.specs.Name.{versionOf}
+use Rattle.lookup.specs.Find.{findConnected}
 use Rattle.effects.specs.Actions.{Action, pruneOf, numbersOf}
 use Rattle.effects.proofs.ActionLaws.{numbers-length}
-use Rattle.effects.specs.Effects.{isJoined, isMember, unsubscribeBackoff, reclaimed}
+use Rattle.effects.specs.Effects.{isJoined, isMember, unsubscribeBackoff}
 use Rattle.rules.specs.declared.Answer.{Answer}
 use Rattle.rules.specs.declared.Gate.the-variants.{Pass, Refuse}
-use Rattle.rules.specs.declared.Answer.the-variants.{Early, OutOfRange, NotConnected, AlreadyConnected, NoSlot, UnknownProtocol, NotPermutation, ListShort, NotRouter}
+use Rattle.rules.specs.declared.Answer.the-variants.{Early, OutOfRange, NotConnected, AlreadyConnected, NoSlot, UnknownProtocol}
+use Rattle.rules.specs.declared.Answer.the-variants.{NotPermutation, ListShort, NotRouter}
 use Rattle.rules.specs.Reply.{Reply, actionsOf, refused, ignored, done}
-use Rattle.rules.specs.Calls.{Call, connect, disconnect, join, leave, subscribe, unsubscribe, graft, prune, deliver, rate, heartbeat, decay, score, timeOf, inRange}
+use Rattle.rules.specs.Calls.{Call, connect, disconnect, join, leave, subscribe, unsubscribe, graft, prune, deliver, rate, heartbeat}
+use Rattle.rules.specs.Calls.{decay, score, timeOf, inRange}
 use Rattle.rules.proofs.GraftLaws.{by-graft}
-use Rattle.rules.specs.Step.{actionRoom, isGraylisted, isHeard, raisedP7, gateOf, through, onFound, ofPeer, onVersion, connectAt, connectIn, connectReply, joinReply, leaveActions, leaveReply, subscribeReply, unsubscribeReply, graftRefused, graftReply, pruneReply, deliverReply, viewIn, meshesIn, actionIn, heartbeatActions, maintainedReply, heartbeatReply, decayReply, effect, step}
+use Rattle.rules.specs.Step.{actionRoom, isGraylisted, isHeard, raisedP7, gateOf, through, onFound, ofPeer, connectAt}
+use Rattle.rules.specs.Step.{connectReply, joinReply, leaveActions, leaveReply, subscribeReply, unsubscribeReply}
+use Rattle.rules.specs.Step.{graftRefused, graftReply, pruneReply, deliverReply, viewIn, meshesIn, actionIn, heartbeatActions}
+use Rattle.rules.specs.Step.{maintainedReply, heartbeatReply, decayReply, effect, step}
 use Rattle.rules.specs.Promise.{Follows}
 use Rattle.rules.specs.Kept.{FitsList, WritesAll}
 use Rattle.rules.proofs.CaseLaws.{by-gate}
@@ -65,21 +68,16 @@ counted-found Nothing f q h k = k
 counted-peer : (st : State) (id : ℕ) (f : ℕ → Reply) → ((s : ℕ) → Counted (f s)) → Counted (ofPeer st id f)
 counted-peer st id f h = counted-found (findConnected st id) f _ h (counted-refused NotConnected st refl)
 
-counted-version :
-    (r : Named) (f : ℕ → Reply) (q : Reply) → ((v : ℕ) → Counted (f v)) → Counted q → Counted (onVersion r f q)
-counted-version (Version v) f q h k = h v
-counted-version Unknown f q h k = k
-
 -- ---- the replies
 counted-connect : (st : State) (time id group flags : ℕ) (name : List ℕ) → Counted (connectReply st time id group flags name)
-unfolding connectReply connectIn connectAt
+unfolding connectAt
 counted-connect st time id group flags name =
-    counted-version (versionOf name) _ _
-    (λ v.
-    counted-found (findConnected st id) _ _ (λ s. counted-refused AlreadyConnected st refl)
-    (counted-found (findRetained (reclaimed st time) id) _ _ (λ s. counted-quiet _ time)
-    (counted-found (lowestEmpty (reclaimed st time)) _ _ (λ s. counted-quiet _ time) (counted-refused NoSlot st refl))))
-    (counted-refused UnknownProtocol st refl)
+    by-connect Counted st time id group flags name
+    (λ n. counted-refused UnknownProtocol st refl)
+    (λ v s n c. counted-refused AlreadyConnected st refl)
+    (λ v s n c r. counted-quiet _ time)
+    (λ v s n c r e. counted-quiet _ time)
+    (λ v n c r e. counted-refused NoSlot st refl)
 
 one-or-none : (b : Bool) (a : Action) → length (cond b (a ∷ []) []) ≤ 1
 one-or-none true a = omega arith
@@ -95,7 +93,8 @@ actions-short st t n =
 counted-leave : (st : State) (time t : ℕ) → Counted (leaveReply st time t)
 unfolding leaveReply
 counted-leave st time t =
-    counted-cond (isJoined st t) _ _ (counted-done _ time (leaveActions st t slotCount) (actions-short st t slotCount)) (counted-ignored st time)
+    counted-cond (isJoined st t) _ _ (counted-done _ time (leaveActions st t slotCount) (actions-short st t slotCount))
+    (counted-ignored st time)
 
 counted-prune-back : (st : State) (time t s : ℕ) (p : Peer) → Counted (graftRefused st time t s p)
 unfolding graftRefused

@@ -1,11 +1,11 @@
--- The heartbeat's definitions: what the view holds, what maintenance makes of it, how many actions it has, and what the walk that writes the
--- mesh back leaves of each slot.
+-- The heartbeat's definitions: what the view holds, what maintenance makes of it, how many actions it has, and what the walk that writes
+-- the mesh back leaves of each slot.
 -- Assumes nothing.
 use Prim.Native.Nat.{ℕ, _+_, _-_, _≤_, _<_}
 use native.Mathlib.Omega.{arith}
 use mathlib.Core.Path.{_≡_, refl, sym, ap, _∙_}
 use mathlib.Core.Logic.{_≢_}
-use mathlib.Core.Bool.{Bool, true, false, not, false≢true}
+use mathlib.Core.Bool.{Bool, true, not, false≢true}
 use mathlib.Core.List.{List}
 use lib.ListN.{getD, length}
 use lib.Dec.{eqb, leb}
@@ -32,7 +32,8 @@ use Rattle.score.proofs.InputLaws.{slot-in}
 use Rattle.score.proofs.ScoreLaws.{balance-in, score-is}
 use Rattle.effects.specs.Effects.{withEnd, onTopic, isMember, isSubscribed, intoMesh, pruned, endAfter, pruneBackoff}
 use Rattle.effects.proofs.Walks.{iter-kept, iter-before, iter-once}
-use Rattle.effects.proofs.EffectLaws.{Kept, kept-self, kept-then, kept-topic, kept-pruned, kept-iter, sized-pruned, place-slot, pruned-reads, pruned-apart, pruned-member, member-apart, member-in}
+use Rattle.effects.proofs.EffectLaws.{Kept, kept-self, kept-then, kept-topic, kept-pruned, kept-iter, sized-pruned, place-slot}
+use Rattle.effects.proofs.EffectLaws.{pruned-reads, pruned-apart, pruned-member, member-apart, member-in}
 use Rattle.sets.specs.Sets.{bySlot, at, Sub, isPermutation}
 use Rattle.sets.proofs.SlotLaws.{slots-length, slots-at, slots-in}
 use Rattle.sets.proofs.WalkLaws.{from-at}
@@ -81,8 +82,7 @@ module _ (st : State) (ok : valid st ≡ true) where
   unfolding degreesIn codeIn
   degrees-rules =
       let j = joints (st .codes) (valid-facts st ok .params) in
-      let q = j .score-out in
-      record { lo-d = j .lo-d; d-hi = j .d-hi; score-d = omega arith; out-d = omega arith }
+      record { lo-d = j .lo-d; d-hi = j .d-hi; score-d = j .score-d; out-d = omega arith }
 
 -- ---- candidates
 module _ (st : State) (time t s : ℕ) where

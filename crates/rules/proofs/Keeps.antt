@@ -10,7 +10,8 @@ use Rattle.index.proofs.Index.{both}
 use Rattle.records.specs.Records.{State}
 use Rattle.layout.specs.View.{Sized}
 use Rattle.validity.specs.Valid.{maxTime, valid}
-use Rattle.rules.specs.Calls.{Call, connect, disconnect, join, leave, subscribe, unsubscribe, graft, prune, deliver, rate, heartbeat, decay, score, timeOf, idOk, topicOk, timeOk, argumentsOk, inRange}
+use Rattle.rules.specs.Calls.{Call, connect, disconnect, join, leave, subscribe, unsubscribe, graft, prune, deliver, rate, heartbeat}
+use Rattle.rules.specs.Calls.{decay, score, timeOf, idOk, topicOk, timeOk, argumentsOk, inRange}
 use Rattle.rules.specs.Reply.{Reply}
 use Rattle.rules.specs.Step.{effect}
 use Rattle.rules.specs.Kept.{KeepsRouter, KeepsSizes}

@@ -17,11 +17,12 @@ use Rattle.score.specs.Counters.{withCounters, firstOf, nearFirstOf, invalidOf,
 use Rattle.score.specs.Score.{topicParamsIn}
 use Rattle.score.proofs.CounterLaws.{faded-less, first-within, near-first-within, invalid-within, decayed-within, decayed-mesh}
 use Rattle.score.proofs.InputLaws.{params-in}
-use Rattle.effects.specs.Effects.{magnitude}
+use Rattle.varint.specs.Codes.{magnitude}
 use Rattle.rules.specs.Reply.{ignored}
 use Rattle.rules.specs.Step.{isHeard, deliveredOf, deliverReply, decayFloor, decayTopic, decayP7, decaySlot, decayReply}
 use Rattle.rules.proofs.KeepsRecord.{topic-counters, topic-counted}
-use Rattle.rules.proofs.KeepsState.{Router, RouterAt, Fits, router-end, latest, peer-of, topic-of, params-of, router-topic, router-p7, Walked, walk-none, walk-topic, either}
+use Rattle.rules.proofs.KeepsState.{Router, RouterAt, Fits, router-end, latest, peer-of, topic-of, params-of, router-topic}
+use Rattle.rules.proofs.KeepsState.{router-p7, Walked, walk-none, walk-topic, either}
 
 -- the counters of a connected slot's topic record, and the parameters that they go by
 module _ (time : ℕ) (st : State) (g : RouterAt time st) (s : ℕ) (h : s < slotCount) (on : peerIn st s .status ≡ 1) (t : ℕ) (k : t < 8) where

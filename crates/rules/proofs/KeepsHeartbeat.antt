@@ -28,7 +28,8 @@ use Rattle.rules.specs.Step.{isNegative, isCandidate, viewIn, meshesIn, 
 use Rattle.rules.proofs.PunishedLaws.{punished-peer, punished-kept}
 use Rattle.rules.proofs.HeartbeatLaws.{candidate-connected, candidate-subscribed, candidate-plain, view-kept}
 use Rattle.rules.proofs.KeepsRecord.{topic-in}
-use Rattle.rules.proofs.KeepsState.{Router, RouterAt, router-end, latest, topic-of, end-most, prune-most, Walked, walk-none, walk-topic, either}
+use Rattle.rules.proofs.KeepsState.{Router, RouterAt, router-end, latest, topic-of, end-most, prune-most, Walked, walk-none}
+use Rattle.rules.proofs.KeepsState.{walk-topic, either}
 use Rattle.rules.proofs.KeepsTopic.{member-on, walk-punished, walk-pruned}
 
 -- the state u, on the way of the walk from st: still a router's, with the statuses, the explicit flags and the topic's subscriptions of st
@@ -77,7 +78,8 @@ module _ (time : ℕ) (st : State) (g : RouterAt time st) (t : ℕ) (k : t < 8) 
       (λ n. on-topic (λ (r : TopicRecord). r .subscribed) u s t (grownOf (topicParamsIn st t)) (place i t) refl)
       (λ n. refl)
 
-  out : (s : ℕ) (u : State) → s < slotCount → isMember st t s ≡ true → Settling time st t u → Settling time st t (pruned (punished st t s u) s t end)
+  out : (s : ℕ) (u : State) → s < slotCount → isMember st t s ≡ true → Settling time st t u →
+      Settling time st t (pruned (punished st t s u) s t end)
   unfolding withEnd
   out s u h m w =
       let on = member-on time st g t k end bound s h m in
@@ -95,7 +97,8 @@ module _ (time : ℕ) (st : State) (g : RouterAt time st) (t : ℕ) (k : t < 8) 
 
   -- into it
   into :
-      (s : ℕ) (u : State) → s < slotCount → isCandidate st time t s ≡ true → Settling time st t u → Settling time st t (onTopic u s t (λ r. intoMesh r time))
+      (s : ℕ) (u : State) → s < slotCount → isCandidate st time t s ≡ true → Settling time st t u →
+      Settling time st t (onTopic u s t (λ r. intoMesh r time))
   unfolding intoMesh
   into s u h c w =
       let on = eqb-true (peerIn st s .status) 1 (candidate-connected st time t s c) in
@@ -105,7 +108,8 @@ module _ (time : ℕ) (st : State) (g : RouterAt time st) (t : ℕ) (k : t < 8) 
       record {
         walk =
             walk-topic time st u (w .walk) s t _ k
-            (topic-in _ _ _ _ _ _ r (topic-of time u (w .walk .at) s t h k) (w .walk .status s ∙ on) (latest time st g) (w .subscribed s ∙ sub) (w .explicit s ∙ plain) (kept-joined (w .kept) t ∙ j));
+            (topic-in _ _ _ _ _ _ r (topic-of time u (w .walk .at) s t h k) (w .walk .status s ∙ on) (latest time st g)
+            (w .subscribed s ∙ sub) (w .explicit s ∙ plain) (kept-joined (w .kept) t ∙ j));
         kept = kept-then (w .kept) (kept-topic u (place s t) _);
         subscribed = λ i. on-topic (λ (q : TopicRecord). q .subscribed) u s t (λ q. intoMesh q time) (place i t) refl ∙ w .subscribed i;
         explicit = λ i. ap (λ (p : Peer). p .explicit) (peer-after-topic u (place s t) _ i) ∙ w .explicit i;

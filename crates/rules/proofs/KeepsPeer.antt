@@ -1,5 +1,6 @@
 -- "Each call keeps this so": connect, disconnect, rate, score.
 -- Assumes nothing.
+use Rattle.rules.proofs.ConnectLaws.{by-connect}
 use Prim.Native.Nat.{ℕ, _/_, _<_, _≤_}
 use native.Mathlib.Omega.{arith}
 use mathlib.Core.Path.{_≡_, refl, sym, ap, _∙_}
@@ -7,7 +8,6 @@ use mathlib.Core.Logic.{_≢_}
 use mathlib.Core.List.{List, []}
 use lib.IntN.{ℤ, natAbs}
 use Rattle.index.specs.Index.{iter}
-use Rattle.index.specs.declared.Found.{Found}
 use Rattle.index.specs.declared.Found.the-variants.{At, Nothing}
 use Rattle.index.proofs.Index.{iter-keeps}
 use Rattle.index.proofs.Flags.{by-test, cond-case}
@@ -18,19 +18,17 @@ use Rattle.records.specs.Records.{State, noPeer, noTopic, place, joinedIn, peer
 use Rattle.layout.proofs.StateLaws.{topic-after-peer}
 use Rattle.validity.specs.Valid.{maxId}
 use Rattle.lookup.specs.Find.{findConnected, findRetained, lowestEmpty}
-use Rattle.lookup.specs.declared.Named.{Named}
-use Rattle.lookup.specs.declared.Named.the-variants.{Version, Unknown}
-use Rattle.lookup.specs.Name.{versionOf}
 use Rattle.lookup.proofs.NameLaws.{version-small}
 use Rattle.lookup.proofs.FindLaws.{retained-at, empty-at, none-connected, none-retained}
 use Rattle.validity.proofs.ValidLaws.{no-peer, no-topic, zero-is}
-use Rattle.effects.specs.Effects.{withP5, connectedAs, retainedTo, withSubscribed, outOfMesh, leftTopic, departed, endAfter, retainSeconds, reclaimable, emptied, reclaimSlot, reclaimed, onPeer}
+use Rattle.effects.specs.Effects.{withP5, connectedAs, retainedTo, withSubscribed, outOfMesh, leftTopic, departed, endAfter, retainSeconds}
+use Rattle.effects.specs.Effects.{reclaimable, emptied, reclaimSlot, reclaimed, onPeer}
 use Rattle.effects.proofs.EffectLaws.{departed-topic, emptied-topic, reclaimed-peer}
-use Rattle.rules.specs.declared.Answer.the-variants.{NoSlot, AlreadyConnected, UnknownProtocol}
-use Rattle.rules.specs.Reply.{refused, done}
-use Rattle.rules.specs.Step.{onFound, onVersion, connectAt, connectIn, connectReply}
+use Rattle.rules.specs.Reply.{done, Reply}
+use Rattle.rules.specs.Step.{connectAt, connectReply}
 use Rattle.rules.proofs.KeepsRecord.{topic-left, topic-under, peer-p5, peer-retained, peer-connected, p5-code}
-use Rattle.rules.proofs.KeepsState.{Router, RouterAt, router-end, peer-of, topic-of, ids-of, retain-most, router-topic, router-peer, router-same-id, router-numbers, Walked, walk-none, walk-topic}
+use Rattle.rules.proofs.KeepsState.{Router, RouterAt, router-end, peer-of, topic-of, ids-of, retain-most, router-topic, router-peer}
+use Rattle.rules.proofs.KeepsState.{router-same-id, router-numbers, Walked, walk-none, walk-topic}
 
 -- ---- rate
 pub keeps-rate :
@@ -81,7 +79,8 @@ module _ (time : ℕ) (st : State) (g : RouterAt time st) (s : ℕ) (h : s < slo
       refl
       (λ t k.
       let n = left-none t k in
-      topic-under _ _ _ _ _ _ (topicIn left (place s t)) (topic-of time left (walked .at) s t h k) 2 (peerIn left s .explicit) (joinedIn left t)
+      topic-under _ _ _ _ _ _ (topicIn left (place s t)) (topic-of time left (walked .at) s t h k) 2 (peerIn left s .explicit)
+      (joinedIn left t)
       (λ e. absurd (omega arith))
       (λ e. n)
       (λ e. absurd (omega arith))))
@@ -178,7 +177,6 @@ module _
               let kept : peerIn u k .status ≡ 2 → ⊥ = λ z. none-retained u id n k l z i in
               omega (arith, peer-of time u g k l .status, none, on, kept)
 
-    -- ---- every end of the call
     module _ (st : State) (router : Router st) (g : RouterAt time st) (none : findConnected st id ≡ Nothing) where
       -- reclaiming connects nobody
       still-none :
@@ -196,31 +194,6 @@ module _
           (sym (ap (λ (p : Peer). p .status) z) ∙ e)
           (sym (ap (λ (p : Peer). p .id) z) ∙ i))
 
-      connect-in : Router (connectIn st (reclaimed st time) time id group flags version .state)
-      unfolding connectIn
-      connect-in = resume (findRetained u id) refl
-        where
-          u : State
-          u = reclaimed st time
-
-          fresh :
-              findRetained u id ≡ Nothing →
-              (r : Found) →
-              lowestEmpty u ≡ r →
-              Router (onFound r (connectAt u time id group flags version) (refused NoSlot st) .state)
-          fresh n (At s) e = connect-new u (router-reclaimed time st g) s e n still-none
-          fresh n Nothing e = router
-
-          resume :
-              (r : Found) →
-              findRetained u id ≡ r →
-              Router
-              (onFound r (connectAt u time id group flags version)
-              (onFound (lowestEmpty u) (connectAt u time id group flags version) (refused NoSlot st))
-              .state)
-          resume (At s) e = connect-retained u (router-reclaimed time st g) s e
-          resume Nothing e = fresh e (lowestEmpty u) refl
-
 pub keeps-connect :
     (time : ℕ) (st : State) →
     Router st →
@@ -231,28 +204,14 @@ pub keeps-connect :
     group ≤ maxId →
     flags ≤ 3 →
     Router (connectReply st time id group flags name .state)
-unfolding connectReply
-keeps-connect time st router g id group flags name least most groups few = named (versionOf name) refl
-  where
-    found :
-        (version : ℕ) →
-        version ≤ 1 →
-        (r : Found) →
-        findConnected st id ≡ r →
-        Router
-        (onFound r (λ s. refused AlreadyConnected st) (connectIn st (reclaimed st time) time id group flags version) .state)
-    found version v (At s) e = router
-    found version v Nothing e = connect-in time id group flags version least most groups few v st router g e
-
-    named :
-        (n : Named) →
-        versionOf name ≡ n →
-        Router
-        (onVersion n
-        (λ version.
-        onFound (findConnected st id) (λ s. refused AlreadyConnected st)
-        (connectIn st (reclaimed st time) time id group flags version))
-        (refused UnknownProtocol st)
-        .state)
-    named (Version version) e = found version (version-small name version e) (findConnected st id) refl
-    named Unknown e = router
+keeps-connect time st router g id group flags name least most groups few =
+    let u = router-reclaimed time st g in
+    by-connect (λ (r : Reply). Router (r .state)) st time id group flags name
+    (λ n. router)
+    (λ v s n c. router)
+    (λ v s n c r. connect-retained time id group flags v least most groups few (version-small name v n) (reclaimed st time) u s r)
+    (λ v s n c r e.
+    let known = version-small name v n in
+    connect-new time id group flags v least most groups few known (reclaimed st time) u s e r
+    (still-none time id group flags v least most groups few known st router g c))
+    (λ v n c r e. router)

@@ -195,7 +195,8 @@ router-pruned time st g s t end h k on b =
     let r = outOfMesh (topicIn st (place s t)) in
     let u : RouterAt time (setTopic st (place s t) r) =
     router-topic time st g s t r k (topic-out _ _ _ _ _ _ (topicIn st (place s t)) (topic-of time st g s t h k)) in
-    router-backoff time (setTopic st (place s t) r) u s h (ap (λ (p : Peer). p .status) (peer-after-topic st (place s t) r s) ∙ on) t end k b
+    router-backoff time (setTopic st (place s t) r) u s h (ap (λ (p : Peer). p .status) (peer-after-topic st (place s t) r s) ∙ on) t end k
+    b
 
 -- ---- replies
 -- a reply that goes by a test

@@ -16,15 +16,19 @@ use Rattle.records.specs.Records.{State, place, joinedIn, peerIn, topicIn, setJ
 use Rattle.validity.specs.Valid.{maxEnd}
 use Rattle.score.specs.Counters.{countMost, raisedOf, grownOf}
 use Rattle.score.specs.Score.{topicParamsIn}
-use Rattle.effects.specs.Effects.{withEnd, withP7, intoMesh, onTopic, isJoined, isMember, pruned, endAfter, pruneBackoff, unsubscribeBackoff}
+use Rattle.effects.specs.Effects.{withEnd, withP7, intoMesh, onTopic, isJoined, isMember, pruned, endAfter, pruneBackoff}
+use Rattle.effects.specs.Effects.{unsubscribeBackoff}
 use Rattle.effects.proofs.Walks.{iter-before, iter-once}
 use Rattle.effects.proofs.EffectLaws.{ends-with, place-slot, pruned-apart, pruned-member, pruned-reads}
 use Rattle.rules.specs.Reply.{Reply, ignored, done}
 use Rattle.rules.proofs.GraftLaws.{Entering, by-graft}
-use Rattle.rules.specs.Step.{isNegative, isGraylisted, isHeard, joinReply, punished, leaveSlot, leaveReply, subscribeReply, unsubscribeReply, seenIn, graftRefused, raisedP7, isCrowded, graftReply, secondsOf, pruneReply}
+use Rattle.rules.specs.Step.{isNegative, isGraylisted, isHeard, joinReply, punished, leaveSlot, leaveReply, subscribeReply}
+use Rattle.rules.specs.Step.{unsubscribeReply, seenIn, graftRefused, raisedP7, isCrowded, graftReply, secondsOf, pruneReply}
 use Rattle.rules.proofs.PunishedLaws.{punished-apart}
 use Rattle.rules.proofs.KeepsRecord.{peer-end, peer-p7, topic-left, topic-subscribed, topic-in, topic-counted}
-use Rattle.rules.proofs.KeepsState.{Router, RouterAt, Fits, router-end, latest, peer-of, topic-of, end-most, prune-most, leave-most, router-topic, router-joined, router-backoff, router-numbers, router-pruned, Walked, walk-none, walk-topic, either}
+use Rattle.rules.proofs.KeepsState.{Router, RouterAt, Fits, router-end, latest, peer-of, topic-of, end-most, prune-most, leave-most}
+use Rattle.rules.proofs.KeepsState.{router-topic, router-joined, router-backoff, router-numbers, router-pruned, Walked, walk-none}
+use Rattle.rules.proofs.KeepsState.{walk-topic, either}
 
 module _ (time : ℕ) (st : State) (g : RouterAt time st) (t : ℕ) (k : t < 8) where
   pub keeps-join : Router (joinReply st time t .state)
@@ -65,7 +69,8 @@ module _ (time : ℕ) (st : State) (g : RouterAt time st) (t : ℕ) (k : t < 8) 
         either (isHeard st t s) _ (ignored st time)
         (λ e.
         router-end time _
-        (router-pruned time st g s t (endAfter time (secondsOf st seconds)) h k on (end-most time st g (secondsOf st seconds) (seconds-most seconds))))
+        (router-pruned time st g s t (endAfter time (secondsOf st seconds)) h k on
+        (end-most time st g (secondsOf st seconds) (seconds-most seconds))))
         (λ e. router-end time st g)
 
     -- ---- GRAFT
@@ -73,7 +78,8 @@ module _ (time : ℕ) (st : State) (g : RouterAt time st) (t : ℕ) (k : t < 8) 
     unfolding graftRefused
     keeps-refused =
         router-end time _
-        (router-backoff time st g s h on t (endAfter time (pruneBackoff st)) k (end-most time st g (pruneBackoff st) (prune-most time st g)))
+        (router-backoff time st g s h on t (endAfter time (pruneBackoff st)) k
+        (end-most time st g (pruneBackoff st) (prune-most time st g)))
 
     -- a member that entered is subscribed, not explicit, and in a joined topic
     keeps-entered : Entering (seenIn st t s) (isCrowded st t) time t → Router (done (onTopic st s t (λ r. intoMesh r time)) time [] .state)
@@ -129,7 +135,8 @@ module _ (time : ℕ) (st : State) (g : RouterAt time st) (t : ℕ) (k : t < 8) 
       let r = topicIn u (place s t) in
       let f : Fits time u s t r = topic-of time u (w .at) s t h k in
       walk-topic time st u w s t _ k
-      (topic-counted _ _ _ _ _ _ r f (w .status s ∙ on) (r .p2) (r .p3) (r .p4) _ (f .p2) (f .p3) (f .p4) (omega arith) (latest time u (w .at))))
+      (topic-counted _ _ _ _ _ _ r f (w .status s ∙ on) (r .p2) (r .p3) (r .p4) _ (f .p2) (f .p3) (f .p4) (omega arith)
+      (latest time u (w .at))))
       (λ e. w)
 
   pub walk-pruned :

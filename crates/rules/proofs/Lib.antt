@@ -3,6 +3,7 @@ pub mod PromiseLaws
 pub mod StepLaws
 pub mod CaseLaws
 pub mod FirstLaws
+pub mod ConnectLaws
 pub mod GraftLaws
 pub mod PunishedLaws
 pub mod HeartbeatLaws

@@ -28,8 +28,8 @@ KeepsSizes = (st : State) (c : Call) (room : ℕ) → Sized st → Sized (step s
 abbrev pub FitsList : Type 0
 FitsList = (st : State) (c : Call) (room : ℕ) → length (numbersOf (step st c room .actions)) ≤ room
 
--- so a call that keeps its promise drops none: the list begins with three numbers for each action that the answer counts, and past them it is
--- as it was
+-- so a call that keeps its promise drops none: the list begins with three numbers for each action that the answer counts, and past them it
+-- is as it was
 abbrev pub WritesAll : Type 0
 WritesAll =
     (c : Call) (r : Answer) (table table′ list list′ : List ℕ) →

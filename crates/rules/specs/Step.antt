@@ -1,15 +1,15 @@
 -- What each call answers and leaves: 01's order of tests once (12, 2, 8, 1, then 6, 7, 3, 4, 5, 11), then the effects case by case.
 use Prim.Native.Nat.{ℕ, _+_, _*_, min}
-use mathlib.Core.Bool.{Bool, true, false, cond, not, _&&_, _||_}
+use mathlib.Core.Bool.{Bool, cond, not, _&&_, _||_}
 use mathlib.Core.List.{List, [], _∷_, map}
-use lib.ListN.{getD, set}
-use lib.Dec.{eqb, leb, ltb}
-use lib.IntN.{ℤ, pos, natAbs, _+ℤ_, _*ℤ_}
+use lib.ListN.{getD}
+use lib.Dec.{eqb, leb}
+use lib.IntN.{pos, natAbs, _+ℤ_, _*ℤ_}
 use lib.Signed.{ltZ}
 use Rattle.index.specs.Index.{iter, gather}
 use Rattle.index.specs.declared.Found.{Found}
 use Rattle.index.specs.declared.Found.the-variants.{At, Nothing}
-use Rattle.varint.specs.Codes.{numberOf, codeOf}
+use Rattle.varint.specs.Codes.{numberOf, codeOf, magnitude}
 use Rattle.records.specs.declared.Peer.{Peer}
 use Rattle.records.specs.declared.TopicRecord.{TopicRecord}
 use Rattle.records.specs.Records.{State, slotCount, topicCount, codeIn, peerIn, topicIn, place, setClock, setPeer, setJoined, isConnected}
@@ -27,18 +27,22 @@ use Rattle.mesh.specs.declared.Degrees.{Degrees}
 use Rattle.mesh.specs.declared.View.{View}
 use Rattle.mesh.specs.declared.Meshes.{Meshes}
 use Rattle.mesh.specs.Maintenance.{Action as Told, zeroScore, meshes, changesOf, actionsOf}
-use Rattle.rules.specs.declared.Answer.{Answer}
-use Rattle.rules.specs.declared.Answer.the-variants.{Done, Scored, Early, OutOfRange, NotConnected, AlreadyConnected, NoSlot, UnknownProtocol, NotPermutation, ListShort, Ignored, NotRouter}
+use Rattle.rules.specs.declared.Answer.the-variants.{Scored, Early, OutOfRange, NotConnected, AlreadyConnected, NoSlot}
+use Rattle.rules.specs.declared.Answer.the-variants.{UnknownProtocol, NotPermutation, ListShort, NotRouter}
 use Rattle.rules.specs.declared.Sender.{Sender}
 use Rattle.rules.specs.declared.Seen.{Seen}
 use Rattle.rules.specs.declared.GraftCase.{GraftCase}
-use Rattle.rules.specs.declared.GraftCase.the-variants.{NotJoined, Graylisted, AlreadyMember, Explicit, InBackoff, Negative, NotSubscribed, Full, Enters}
+use Rattle.rules.specs.declared.GraftCase.the-variants.{NotJoined, Graylisted, AlreadyMember, Explicit, InBackoff, Negative}
+use Rattle.rules.specs.declared.GraftCase.the-variants.{NotSubscribed, Full, Enters}
 use Rattle.rules.specs.declared.Gate.{Gate}
 use Rattle.rules.specs.declared.Gate.the-variants.{Pass, Refuse}
 use Rattle.effects.specs.Actions.{Action, pruneOf}
 use Rattle.rules.specs.Reply.{Reply, refused, ignored, done}
-use Rattle.effects.specs.Effects.{magnitude, highDegree, pruneBackoff, unsubscribeBackoff, withEnd, withP5, withP7, connectedAs, outOfMesh, intoMesh, withSubscribed, onPeer, onTopic, isJoined, isMember, isSubscribed, meshSize, backoffRuns, pruned, endAfter, departed, reclaimed}
-use Rattle.rules.specs.Calls.{Call, connect, disconnect, join, leave, subscribe, unsubscribe, graft, prune, deliver, rate, heartbeat, decay, score, timeOf, inRange}
+use Rattle.effects.specs.Effects.{highDegree, pruneBackoff, unsubscribeBackoff, withEnd, withP5, withP7, connectedAs, outOfMesh}
+use Rattle.effects.specs.Effects.{intoMesh, withSubscribed, onPeer, onTopic, isJoined, isMember, isSubscribed, meshSize, backoffRuns}
+use Rattle.effects.specs.Effects.{pruned, endAfter, departed, reclaimed}
+use Rattle.rules.specs.Calls.{Call, connect, disconnect, join, leave, subscribe, unsubscribe, graft, prune, deliver, rate, heartbeat}
+use Rattle.rules.specs.Calls.{decay, score, timeOf, inRange}
 
 -- ---- the tests that every call begins with: 12, 2, 8, 1
 -- "action list under 192 numbers": three for each slot
@@ -87,29 +91,43 @@ heard v = v .joined && not (v .sender .graylisted)
 unfoldable pub isHeard : State → ℕ → ℕ → Bool
 isHeard st t s = heard (seenIn st t s)
 
--- ---- connect
-abbrev pub onVersion : Named → (ℕ → Reply) → Reply → Reply
-onVersion (Version v) f r = f v
-onVersion Unknown f r = r
+-- ---- connect: tests 6, 4 and 5
+-- "A retained id resumes its record [..]; another takes the lowest empty slot; 5 is given exactly if there is none."
+pub data ConnectCase : Type 0 where
+  NameUnknown : ConnectCase
+  IdConnected : ConnectCase
+  -- version and slot
+  Resumes : ℕ → ℕ → ConnectCase
+  Takes : ℕ → ℕ → ConnectCase
+  NoneEmpty : ConnectCase
+
+-- which it is, from the name's version, and from where the id is connected, where it is retained, and what the lowest empty slot is
+abbrev pub connectCase : Named → Found → Found → Found → ConnectCase
+connectCase Unknown connected retained empty = NameUnknown
+connectCase (Version v) (At s) retained empty = IdConnected
+connectCase (Version v) Nothing (At s) empty = Resumes v s
+connectCase (Version v) Nothing Nothing (At s) = Takes v s
+connectCase (Version v) Nothing Nothing Nothing = NoneEmpty
 
 unfoldable pub connectAt : State → ℕ → ℕ → ℕ → ℕ → ℕ → ℕ → Reply
 connectAt st time id group flags version s =
     done (onPeer st s (λ p. connectedAs p id group flags version)) time []
 
--- "A retained id resumes its record [..]; another takes the lowest empty slot; 5 is given exactly if there is none." st is the state at
--- the start, u the one with every reclaimable record emptied
-unfoldable pub connectIn : State → State → ℕ → ℕ → ℕ → ℕ → ℕ → Reply
-connectIn st u time id group flags version =
-    onFound (findRetained u id) (connectAt u time id group flags version)
-    (onFound (lowestEmpty u) (connectAt u time id group flags version) (refused NoSlot st))
+-- and what is done then: st is the state at the start, u the one with every reclaimable record emptied
+abbrev pub connectDone : ConnectCase → State → State → ℕ → ℕ → ℕ → ℕ → Reply
+connectDone NameUnknown st u time id group flags = refused UnknownProtocol st
+connectDone IdConnected st u time id group flags = refused AlreadyConnected st
+connectDone (Resumes v s) st u time id group flags = connectAt u time id group flags v s
+connectDone (Takes v s) st u time id group flags = connectAt u time id group flags v s
+connectDone NoneEmpty st u time id group flags = refused NoSlot st
+
+unfoldable pub connectIn : State → State → ℕ → ℕ → ℕ → ℕ → Named → Found → Reply
+connectIn st u time id group flags version connected =
+    connectDone (connectCase version connected (findRetained u id) (lowestEmpty u)) st u time id group flags
 
 unfoldable pub connectReply : State → ℕ → ℕ → ℕ → ℕ → List ℕ → Reply
 connectReply st time id group flags name =
-    onVersion (versionOf name)
-    (λ version.
-    onFound (findConnected st id) (λ s. refused AlreadyConnected st)
-    (connectIn st (reclaimed st time) time id group flags version))
-    (refused UnknownProtocol st)
+    connectIn st (reclaimed st time) time id group flags (versionOf name) (findConnected st id)
 
 -- ---- join and leave: "11 when already so"
 unfoldable pub joinReply : State → ℕ → ℕ → Reply
@@ -255,8 +273,8 @@ viewIn st time t ask order =
 unfoldable pub meshesIn : State → ℕ → ℕ → ℕ → List ℕ → Meshes
 meshesIn st time t ask order = meshes slotCount (degreesIn st) (viewIn st time t ask order)
 
--- what becomes of slot s, from the state at the start and the mesh that is left: a member that is not in it was PRUNEd ("Each PRUNE here and
--- in a tidy sets the end to the later of old and now + prune backoff"), and one that is in it and was none is grafted
+-- what becomes of slot s, from the state at the start and the mesh that is left: a member that is not in it was PRUNEd ("Each PRUNE here
+-- and in a tidy sets the end to the later of old and now + prune backoff"), and one that is in it and was none is grafted
 unfoldable pub settleSlot : State → ℕ → ℕ → List Bool → ℕ → State → State
 settleSlot st time t mesh s u =
     cond (isMember st t s)

@@ -15,22 +15,22 @@ use Rattle.records.specs.Records.{State, topicCount, place, codeIn, peerIn, top
 use Rattle.validity.specs.Valid.{topicParam, valid}
 use Rattle.validity.proofs.ValidLaws.{Facts, valid-facts}
 use Rattle.score.specs.Ranges.{TopicParamsIn, ScoreParamsIn, CountersIn, CountersWithin}
-use Rattle.score.specs.Score.{paramIn, sizeIn, topicParamsIn, scoreParamsIn}
+use Rattle.score.specs.Score.{paramIn, magnitudeIn, topicParamsIn, scoreParamsIn}
 use Rattle.score.proofs.CounterLaws.{within-in}
 
 -- the signs of the weights in a state: the parameters as their magnitudes give them
 pub record TopicSigns (st : State) (t : ℕ) : Type 0 where
-  pub weight : pos (sizeIn st (topicPlace t 0)) ≡ paramIn st (topicPlace t 0)
-  pub w1 : pos (sizeIn st (topicPlace t 1)) ≡ paramIn st (topicPlace t 1)
-  pub w2 : pos (sizeIn st (topicPlace t 4)) ≡ paramIn st (topicPlace t 4)
-  pub w3 : negℤ (pos (sizeIn st (topicPlace t 7))) ≡ paramIn st (topicPlace t 7)
-  pub w3b : negℤ (pos (sizeIn st (topicPlace t 12))) ≡ paramIn st (topicPlace t 12)
-  pub w4 : negℤ (pos (sizeIn st (topicPlace t 14))) ≡ paramIn st (topicPlace t 14)
+  pub weight : pos (magnitudeIn st (topicPlace t 0)) ≡ paramIn st (topicPlace t 0)
+  pub w1 : pos (magnitudeIn st (topicPlace t 1)) ≡ paramIn st (topicPlace t 1)
+  pub w2 : pos (magnitudeIn st (topicPlace t 4)) ≡ paramIn st (topicPlace t 4)
+  pub w3 : negℤ (pos (magnitudeIn st (topicPlace t 7))) ≡ paramIn st (topicPlace t 7)
+  pub w3b : negℤ (pos (magnitudeIn st (topicPlace t 12))) ≡ paramIn st (topicPlace t 12)
+  pub w4 : negℤ (pos (magnitudeIn st (topicPlace t 14))) ≡ paramIn st (topicPlace t 14)
 
 pub record GeneralSigns (st : State) : Type 0 where
-  pub w5 : pos (sizeIn st 13) ≡ paramIn st 13
-  pub w6 : negℤ (pos (sizeIn st 14)) ≡ paramIn st 14
-  pub w7 : negℤ (pos (sizeIn st 16)) ≡ paramIn st 16
+  pub w5 : pos (magnitudeIn st 13) ≡ paramIn st 13
+  pub w6 : negℤ (pos (magnitudeIn st 14)) ≡ paramIn st 14
+  pub w7 : negℤ (pos (magnitudeIn st 16)) ≡ paramIn st 16
 
 -- every number that slot s's score is made of is in its range
 pub record SlotIn (st : State) (s : ℕ) : Type 0 where

@@ -19,7 +19,7 @@ use Rattle.score.specs.Ranges.{ScoreParamsIn, TopicsIn, PartsIn, Balance
 use Rattle.score.specs.Parts.{square, surplusOf}
 use Rattle.score.specs.Formula.{allTopics, bounded, whyOf}
 use Rattle.score.specs.Sums.{worth, sumOf, partsOf, totalOf, toldOf}
-use Rattle.score.specs.Score.{paramIn, sizeIn, topicParamsIn, scoreParamsIn, sharesGroup, sharing, topicScore, whyIn, scoreIn}
+use Rattle.score.specs.Score.{paramIn, magnitudeIn, topicParamsIn, scoreParamsIn, sharesGroup, sharing, topicScore, whyIn, scoreIn}
 use Rattle.score.specs.Score.{shareAt, partsAt, balanceAt, Scores, Agree}
 use Rattle.score.proofs.InputLaws.{TopicSigns, SlotIn, slot-in}
 use Rattle.score.proofs.ShareLaws.{share-is, sum-is, sum-done, topics-same}
@@ -40,11 +40,11 @@ topic-is st s t h =
 -- the parts over signed numbers: the topics' total before the cap and after it, P5, P6 and P7
 pub record PartsWorth (st : State) (s : ℕ) (p : Parts) : Type 0 where
   pub topics : worth (p .topics) ≡ allTopics topicCount (topicScore st s)
-  pub capped : worth (p .capped) ≡ bounded (sizeIn st 12) (allTopics topicCount (topicScore st s))
+  pub capped : worth (p .capped) ≡ bounded (magnitudeIn st 12) (allTopics topicCount (topicScore st s))
   pub p5 : worth (p .p5) ≡ paramIn st 13 *ℤ numberOf (peerIn st s .p5) *ℤ pos 1000
   pub p6 :
       subℕ 0 (p .p6)
-      ≡ paramIn st 14 *ℤ pos (square (surplusOf (sizeIn st 15) (sharing st (peerIn st s .group)))) *ℤ pos 1000000000
+      ≡ paramIn st 14 *ℤ pos (square (surplusOf (magnitudeIn st 15) (sharing st (peerIn st s .group)))) *ℤ pos 1000000000
   pub p7 : subℕ 0 (p .p7) ≡ paramIn st 16 *ℤ pos (square (peerIn st s .p7)) *ℤ pos 1000
 
 module _ (st : State) (s : ℕ) (h : SlotIn st s) where
@@ -142,10 +142,11 @@ module _ (st : State) (s : ℕ) (h : SlotIn st s) where
       let w = h .generalSigns in
       record {
         topics = sym sums;
-        capped = sym (rw sums (capped-is (sizeIn st 12) (sumOf 8 (shareAt st s))));
-        p5 = sym (rw (← w .w5) (p5-is (sizeIn st 13) (peerIn st s .p5)));
-        p6 = sym (rw (← w .w6) (loss-is (sizeIn st 14) (square (surplusOf (sizeIn st 15) (sharing st (peerIn st s .group)))) 1000000000));
-        p7 = sym (rw (← w .w7) (loss-is (sizeIn st 16) (square (peerIn st s .p7)) 1000));
+        capped = sym (rw sums (capped-is (magnitudeIn st 12) (sumOf 8 (shareAt st s))));
+        p5 = sym (rw (← w .w5) (p5-is (magnitudeIn st 13) (peerIn st s .p5)));
+        p6 = sym (rw (← w .w6)
+            (loss-is (magnitudeIn st 14) (square (surplusOf (magnitudeIn st 15) (sharing st (peerIn st s .group)))) 1000000000));
+        p7 = sym (rw (← w .w7) (loss-is (magnitudeIn st 16) (square (peerIn st s .p7)) 1000));
       }
 
   -- what the code tells of the parts is 01's formula with its parts

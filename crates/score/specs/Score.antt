@@ -1,13 +1,13 @@
 -- A peer's score from the router's state: the parameters' own signed numbers, the peer's record, and the number of connected peers that
 -- share its group. `whyIn` is 01's formula with its parts, `scoreIn` its score; `balanceAt` is what the code computes, and worth the same
 -- (proofs/ScoreLaws.antt).
-use Prim.Native.Nat.{ℕ, _+_, _/_, _<_}
+use Prim.Native.Nat.{ℕ, _<_}
 use mathlib.Core.Path.{_≡_}
 use mathlib.Core.Bool.{Bool, _&&_}
 use lib.Dec.{eqb}
 use lib.IntN.{ℤ}
 use Rattle.index.specs.Index.{count}
-use Rattle.varint.specs.Codes.{numberOf}
+use Rattle.varint.specs.Codes.{numberOf, magnitude}
 use Rattle.limits.specs.Limits.{place as topicPlace}
 use Rattle.records.specs.Records.{State, slotCount, topicCount, place, codeIn, peerIn, topicIn, isConnected}
 use Rattle.records.specs.Parameters.{topicCapAt, w5At, w6At, p6ThresholdAt, w7At, weightAt, w1At, p1QuantumAt, p1CapAt, w2At, p2DecayAt}
@@ -26,39 +26,39 @@ use Rattle.score.specs.Sums.{worth, shareOf, sumOf, partsOf, totalOf}
 abbrev pub paramIn : State → ℕ → ℤ
 paramIn st i = numberOf (codeIn st i)
 
-abbrev pub sizeIn : State → ℕ → ℕ
-sizeIn st i = (codeIn st i + 1) / 2
+abbrev pub magnitudeIn : State → ℕ → ℕ
+magnitudeIn st i = magnitude (codeIn st i)
 
 unfoldable pub topicParamsIn : State → ℕ → TopicParams
 topicParamsIn st t =
     record {
-      weight = sizeIn st (topicPlace t weightAt);
-      w1 = sizeIn st (topicPlace t w1At);
-      quantum = sizeIn st (topicPlace t p1QuantumAt);
-      cap1 = sizeIn st (topicPlace t p1CapAt);
-      w2 = sizeIn st (topicPlace t w2At);
-      decay2 = sizeIn st (topicPlace t p2DecayAt);
-      cap2 = sizeIn st (topicPlace t p2CapAt);
-      w3 = sizeIn st (topicPlace t w3At);
-      decay3 = sizeIn st (topicPlace t p3DecayAt);
-      cap3 = sizeIn st (topicPlace t p3CapAt);
-      threshold = sizeIn st (topicPlace t p3ThresholdAt);
-      activation = sizeIn st (topicPlace t p3ActivationAt);
-      w3b = sizeIn st (topicPlace t w3bAt);
-      decay3b = sizeIn st (topicPlace t p3bDecayAt);
-      w4 = sizeIn st (topicPlace t w4At);
-      decay4 = sizeIn st (topicPlace t p4DecayAt);
+      weight = magnitudeIn st (topicPlace t weightAt);
+      w1 = magnitudeIn st (topicPlace t w1At);
+      quantum = magnitudeIn st (topicPlace t p1QuantumAt);
+      cap1 = magnitudeIn st (topicPlace t p1CapAt);
+      w2 = magnitudeIn st (topicPlace t w2At);
+      decay2 = magnitudeIn st (topicPlace t p2DecayAt);
+      cap2 = magnitudeIn st (topicPlace t p2CapAt);
+      w3 = magnitudeIn st (topicPlace t w3At);
+      decay3 = magnitudeIn st (topicPlace t p3DecayAt);
+      cap3 = magnitudeIn st (topicPlace t p3CapAt);
+      threshold = magnitudeIn st (topicPlace t p3ThresholdAt);
+      activation = magnitudeIn st (topicPlace t p3ActivationAt);
+      w3b = magnitudeIn st (topicPlace t w3bAt);
+      decay3b = magnitudeIn st (topicPlace t p3bDecayAt);
+      w4 = magnitudeIn st (topicPlace t w4At);
+      decay4 = magnitudeIn st (topicPlace t p4DecayAt);
     }
 
 -- topic cap, w5, w6, P6 threshold, w7
 unfoldable pub scoreParamsIn : State → ScoreParams
 scoreParamsIn st =
     record {
-      cap = sizeIn st topicCapAt;
-      w5 = sizeIn st w5At;
-      w6 = sizeIn st w6At;
-      threshold = sizeIn st p6ThresholdAt;
-      w7 = sizeIn st w7At;
+      cap = magnitudeIn st topicCapAt;
+      w5 = magnitudeIn st w5At;
+      w6 = magnitudeIn st w6At;
+      threshold = magnitudeIn st p6ThresholdAt;
+      w7 = magnitudeIn st w7At;
     }
 
 -- "how many connected peers share its group, itself counted"
@@ -88,12 +88,12 @@ topicScore st s t =
 unfoldable pub whyIn : State → ℕ → Why
 whyIn st s =
     whyOf
-    (sizeIn st topicCapAt)
+    (magnitudeIn st topicCapAt)
     (allTopics topicCount (topicScore st s))
     (paramIn st w5At)
     (numberOf (peerIn st s .p5))
     (paramIn st w6At)
-    (surplusOf (sizeIn st p6ThresholdAt) (sharing st (peerIn st s .group)))
+    (surplusOf (magnitudeIn st p6ThresholdAt) (sharing st (peerIn st s .group)))
     (paramIn st w7At)
     (peerIn st s .p7)
 

@@ -46,7 +46,7 @@ pub fn p5_part(w5: u64, code: u64) -> Balance
     requires { ⌜ (w5 ≤ 100) × (code ≤ 2000000000) ⌝ }
     ensures { λ r. ⌜ (r ≡ p5Of w5 code) × ((r .gain ≤ 100000000000000) × (r .loss ≤ 100000000000000)) ⌝ }
 {
-    let n = term(w5, varint::code_size(code) * 1000);
+    let n = term(w5, varint::magnitude(code) * 1000);
     if code % 2 == 1 {
         Balance { gain: 0, loss: n }
     } else {

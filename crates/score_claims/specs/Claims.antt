@@ -8,7 +8,7 @@ use Rattle.records.specs.Records.{State, slotCount, topicCount, place, codeIn, 
 use Rattle.records.specs.Parameters.{topicCapAt}
 use Rattle.validity.specs.Valid.{valid}
 use Rattle.score.specs.declared.Why.{Why}
-use Rattle.score.specs.Score.{sizeIn, sharing, whyIn, scoreIn}
+use Rattle.score.specs.Score.{magnitudeIn, sharing, whyIn, scoreIn}
 
 -- "No score passes 2.6 × 10^18 either way.": in no router's state, of no slot
 abbrev pub NoScorePasses : Type 0
@@ -53,14 +53,14 @@ LastFourAdd =
 -- "a non-zero topic cap × 1,000,000 bounds that total from above only"; the cap is the general number 12
 pub record CapsFromAbove (st : State) (s : ℕ) : Type 0 where
   -- a cap of 0 is none
-  pub none : sizeIn st topicCapAt ≡ 0 → whyIn st s .capped ≡ whyIn st s .topics
+  pub none : magnitudeIn st topicCapAt ≡ 0 → whyIn st s .capped ≡ whyIn st s .topics
   -- a total that is no more than the cap stays as it is, however low
-  pub below : leZ (whyIn st s .topics) (pos (sizeIn st topicCapAt * 1000000)) ≡ true → whyIn st s .capped ≡ whyIn st s .topics
+  pub below : leZ (whyIn st s .topics) (pos (magnitudeIn st topicCapAt * 1000000)) ≡ true → whyIn st s .capped ≡ whyIn st s .topics
   -- a higher one becomes the cap
   pub above :
-      0 < sizeIn st topicCapAt →
-      leZ (whyIn st s .topics) (pos (sizeIn st topicCapAt * 1000000)) ≡ false →
-      whyIn st s .capped ≡ pos (sizeIn st topicCapAt * 1000000)
+      0 < magnitudeIn st topicCapAt →
+      leZ (whyIn st s .topics) (pos (magnitudeIn st topicCapAt * 1000000)) ≡ false →
+      whyIn st s .capped ≡ pos (magnitudeIn st topicCapAt * 1000000)
 
 abbrev pub BoundsFromAboveOnly : Type 0
 BoundsFromAboveOnly = (st : State) (s : ℕ) → CapsFromAbove st s

@@ -1,13 +1,13 @@
 -- The first 4,096 bytes decide what reading the parameters comes to, however many follow: no number that is read takes more than ten bytes.
 -- Assumes nothing.
 use Prim.Native.Nat.{ℕ, zero, suc, _+_, _*_, _/_, _^_, _<_, _≤_}
-use mathlib.Core.Path.{_≡_, refl, sym, ap, _∙_}
+use mathlib.Core.Path.{_≡_, refl, sym, ap, ap₂, _∙_}
 use mathlib.Core.Bool.{Bool, cond}
 use mathlib.Core.List.{List, [], _∷_}
 use native.Mathlib.Omega.{arith}
 use native.Mathlib.Nat.{pow-suc}
 use borrow.Author.Tests.{lt-ltb, le-ltb}
-use lib.Dec.{ltb}
+use lib.Dec.{ltb, lit<}
 use lib.ListN.{length, take, getD, length-take}
 use lib.Seq.{getD-take}
 use Rattle.index.proofs.Flags.{by-order}
@@ -16,9 +16,13 @@ use Rattle.varint.specs.Codes.{numberOf}
 use Rattle.varint.specs.declared.Read.{Read}
 use Rattle.varint.specs.declared.Read.the-variants.{Number, Bad}
 use Rattle.varint.proofs.GroupLaws.{readAt-end}
-use Rattle.params_bytes.specs.Read.{Parse, numbers, malformed, then, step, parseFrom, ending, judged, readOf}
+use Rattle.params.specs.declared.Edition.{Edition}
+use Rattle.records.specs.Records.{paramCount}
+use Rattle.params_bytes.specs.Read.{Parse, numbers, malformed, then, step, parseFrom, editionIn, frontBytes, parseAll, ending, judged}
+use Rattle.params_bytes.specs.Read.{readOf}
 use Rattle.varint.proofs.GroupLaws.{after-small}
-use Rattle.params_bytes.proofs.PlaceLaws.{by-byte, read-last, read-more, next-near, placeOf, parse-place}
+use Rattle.params_bytes.proofs.PlaceLaws.{by-byte, read-last, read-more, next-near, placeOf, all-place}
+use Rattle.params_bytes.proofs.WriteLaws.{front-short}
 use Rattle.records.specs.Records.{paramCount}
 
 -- ---- a number below 128 ^ suc k takes at most suc k bytes, so what stands m bytes or more from the front does not matter
@@ -100,10 +104,18 @@ ending-near s m (numbers xs next) l =
         (λ i. lt-ltb next (length (take m s)) (simp length-take (omega arith)) ∙ sym (lt-ltb next (length s) i))
         (λ o. le-ltb next (length (take m s)) (simp length-take (omega arith)) ∙ sym (le-ltb next (length s) o))
 
+edition-near : (s : List ℕ) → editionIn (take 4096 s) ≡ editionIn s
+unfolding editionIn
+edition-near s = rw (getD-take 4096 s 0 0 (lit< tt), getD-take 4096 s 1 0 (lit< tt))
+
+all-near : (s : List ℕ) → parseAll (take 4096 s) ≡ parseAll s
+unfolding parseAll
+all-near s =
+    ap (λ (e : Edition). parseFrom paramCount (take 4096 s) (length (frontBytes e))) (edition-near s)
+    ∙ parse-near s 4096 paramCount (length (frontBytes (editionIn s))) (omega (arith, front-short (editionIn s)))
+
 pub enough : (s : List ℕ) → readOf (take 4096 s) ≡ readOf s
 unfolding readOf
 enough s =
-    ap
-    judged
-    (ap (λ (p : Parse). ending (take 4096 s) p) (parse-near s 4096 paramCount 0 (omega arith))
-    ∙ ending-near s 4096 (parseFrom paramCount s 0) (omega (arith, parse-place s paramCount 0)))
+    ap₂ judged (edition-near s)
+    (ap (λ (p : Parse). ending (take 4096 s) p) (all-near s) ∙ ending-near s 4096 (parseAll s) (omega (arith, all-place s)))

@@ -1,5 +1,6 @@
 // Reads the parameters from standard input and prints the result: `10 PLACE` or `9 INDEX` for a refusal, otherwise `0 LENGTH` and then the
 // 147 numbers, one to a line. The text is fixed in specs/Show.antt; the room for it is at most 64 bytes and 22 for each number.
+use limits::NUMBERS;
 use params::Params;
 use params_bytes::Verdict;
 ghost use Prim.Native.Nat.{_+_, _≤_};
@@ -35,7 +36,7 @@ fn put_numbers(buf: &mut [u8], at: usize, all: Params) -> usize
 {
     let mut next = at;
     let mut i: usize = 0;
-    while i < 147 {
+    while i < NUMBERS {
         next = put_line(buf, next, all.numbers[i]);
         i += 1;
     }
@@ -60,8 +61,8 @@ fn show(buf: &mut [u8], bytes: &[u8]) -> usize
     }
 }
 
-// The 4,096 bytes that are read are enough of any input (`enough` of proofs/Enough.antt): 147 numbers of at most ten bytes do not pass
-// 1,470, so whatever stands beyond is left over, and the place that is printed is that of the first byte left over.
+// The 4,096 bytes that are read are enough of any input (`enough` of proofs/Enough.antt): a front of two bytes and 147 numbers of at most
+// ten do not pass 1,472, so whatever stands beyond is left over, and the place that is printed is that of the first byte left over.
 fn main() {
     let mut bytes = io::buffer();
     let n = io::read_full(0, &mut bytes);

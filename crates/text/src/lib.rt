@@ -33,7 +33,7 @@ pub fn put_signed(buf: &mut [u8], at: usize, n: i64) -> usize
     requires { ⌜ at + length (signedText n) ≤ length (now buf) ⌝ }
     ensures { λ r. ⌜ Stored (now (buf .entry)) at (signedText n) r (now (buf .exit)) ⌝ }
 {
-    let size = varint::magnitude(n);
+    let size = varint::nat_abs(n);
     if varint::is_negative(n) {
         buf[at] = b'-';
         return put_decimal(buf, at + 1, size);

@@ -39,7 +39,7 @@ event-asks st unknown = refl
 event-asks st malformed = refl
 event-asks st short = refl
 
-params-ask : (s : List ℕ) (v : Verdict) → asks (paramsBy true s (frontOf s .params .numbers) v) ≡ false
+params-ask : (s : List ℕ) (v : Verdict) → asks (paramsBy true s (frontOf s .params) v) ≡ false
 params-ask s (Accepted next) = refl
 params-ask s (Malformed place) = refl
 params-ask s (Broken i) = refl

@@ -2,25 +2,34 @@
 -- bytes can be there of parameters that are not whole.
 -- Assumes nothing.
 use Prim.{Unit, tt}
-use Prim.Native.Nat.{ℕ, zero, suc, _≤_}
-use mathlib.Core.Path.{_≡_, refl, sym, ap, _∙_}
-use mathlib.Core.Bool.{false, false≢true}
+use Prim.Native.Nat.{ℕ, zero, suc, _-_, _<_, _≤_}
+use mathlib.Core.Path.{_≡_, refl, sym, ap, ap₂, _∙_}
+use mathlib.Core.Bool.{true, false, false≢true}
 use mathlib.Core.List.{List, [], _∷_, _++_}
 use native.Mathlib.Omega.{arith}
 use lib.IntN.{ℤ}
-use lib.ListN.{length}
+use borrow.Author.Tests.{le-leb}
+use lib.Dec.{eqb}
+use lib.ListN.{length, getD, List·getD-append}
 use Rattle.index.specs.declared.Found.{Found}
 use Rattle.index.specs.declared.Found.the-variants.{At, Nothing}
-use Rattle.index.proofs.Flags.{by-test}
+use Rattle.index.specs.Index.{every}
+use Rattle.index.proofs.Flags.{by-test, by-order}
 use Rattle.varint.specs.Groups.{readAt}
+use Rattle.varint.proofs.GroupLaws.{readAt-last}
 use Rattle.varint.specs.Codes.{numberOf}
 use Rattle.varint.specs.declared.Read.{Read}
 use Rattle.varint.specs.declared.Read.the-variants.{Number, Bad}
 use Rattle.params.specs.Check.{firstBroken}
+use Rattle.params.specs.declared.Edition.{Edition}
+use Rattle.params.specs.declared.Params.{Params}
+use Rattle.params.specs.Editions.{sheet}
 use Rattle.params_bytes.specs.Read.{Parse, numbers, malformed, then, step, parseFrom, judgedBy, judged, frontOf}
+use Rattle.params_bytes.specs.Read.{editionIn, frontBytes, parseAll}
 use Rattle.params_bytes.specs.declared.Verdict.{Verdict}
 use Rattle.params_bytes.specs.declared.Verdict.the-variants.{Accepted, Malformed, Broken}
-use Rattle.params_bytes.proofs.PlaceLaws.{placeOf, parse-place}
+use Rattle.params_bytes.proofs.WriteLaws.{front-short}
+use Rattle.params_bytes.proofs.PlaceLaws.{placeOf, all-place}
 use Rattle.trace_events.specs.Reading.{cutShort}
 use Rattle.records.specs.Records.{paramCount}
 use Rattle.trace_feed.proofs.ReadFront.{most, cut-bad, read-stays, read-within}
@@ -76,37 +85,104 @@ unfolding parseFrom
 parse-ends s zero at h = h
 parse-ends s (suc n) at h = step-ends s at (λ next. parseFrom n s next) (readAt most s at) refl (λ next i. parse-ends s n next i)
 
+-- ---- the edition: bytes that end before the second end inside a number
+at-end : (w : List ℕ) (at : ℕ) → length w ≤ at → cutShort w at ≡ true
+unfolding cutShort every
+at-end w at h = let e : length w - at ≡ 0 = omega arith in rw e
+
+open-first : (w : List ℕ) → length w ≡ 1 → 128 ≤ getD w 0 0 → cutShort w 0 ≡ true
+unfolding cutShort every
+open-first w l b = rw (l, le-leb 128 (getD w 0 0) b)
+
+ends-open : (w : List ℕ) (n at : ℕ) → cutShort w at ≡ true → Whole w (parseFrom (suc n) w at) → ⊥
+unfolding parseFrom
+ends-open w n at t h =
+    let e = cut-bad w at t most in
+    let f : cutShort w at ≡ false = rw e at h in
+    false≢true (sym f ∙ t)
+
+one-byte : (w : List ℕ) (n : ℕ) → length w ≡ 1 → Whole w (parseFrom (suc (suc n)) w 0) → ⊥
+unfolding parseFrom
+one-byte w n l h =
+    by-order ⊥ (getD w 0 0) 128
+    (λ b. ends-open w n 1 (at-end w 1 (omega arith)) (after b))
+    (λ b. ends-open w (suc n) 0 (open-first w l b) h)
+  where
+    after : getD w 0 0 < 128 → Whole w (parseFrom (suc n) w 1)
+    after b =
+        let q : readAt most w 0 ≡ Number (getD w 0 0) 1 =
+        readAt-last most w 0 (omega arith) b ∙ rw (le-leb (getD w 0 0) most (omega arith)) in
+        then-whole w (numberOf (getD w 0 0) ∷ []) (parseFrom (suc n) w 1) (rw q at h)
+
+short-open : (w : List ℕ) → length w ≤ 1 → Whole w (parseAll w) → ⊥
+unfolding parseAll editionIn
+short-open [] l h = ends-open [] 146 0 (at-end [] 0 (omega arith)) h
+short-open (b ∷ []) l h =
+    by-test ⊥ (eqb b 0) (λ t. one-byte (b ∷ []) 145 refl (rw t at h)) (λ t. one-byte (b ∷ []) 145 refl (rw t at h))
+short-open (b ∷ (c ∷ s)) l h = absurd (omega arith)
+
+edition-stays : (w r : List ℕ) → Whole w (parseAll w) → editionIn (w ++ r) ≡ editionIn w
+unfolding editionIn
+edition-stays w r h =
+    by-order (editionIn (w ++ r) ≡ editionIn w) 1 (length w)
+    (λ l. rw (List·getD-append w r 0 0 (omega arith), List·getD-append w r 0 1 l))
+    (λ l. absurd (short-open w l h))
+
+all-stays : (w r : List ℕ) → Whole w (parseAll w) → parseAll (w ++ r) ≡ parseAll w
+unfolding parseAll
+all-stays w r h =
+    ap (λ (e : Edition). parseFrom paramCount (w ++ r) (length (frontBytes e))) (edition-stays w r h)
+    ∙ parse-stays w r paramCount (length (frontBytes (editionIn w))) h
+
 -- ---- the verdict
 abbrev pub Kept : List ℕ → Verdict → Type 0
 Kept w (Accepted next) = Unit {0}
 Kept w (Malformed p) = cutShort w p ≡ false
 Kept w (Broken i) = Unit {0}
 
-judged-whole : (w : List ℕ) (p : Parse) → Kept w (judged p .verdict) → Whole w p
-judged-whole w (numbers xs next) h = tt
-judged-whole w (malformed p) h = h
+judged-whole : (w : List ℕ) (e : Edition) (p : Parse) → Kept w (judged e p .verdict) → Whole w p
+judged-whole w e (numbers xs next) h = tt
+judged-whole w e (malformed p) h = h
 
 pub front-stays : (w r : List ℕ) → Kept w (frontOf w .verdict) → frontOf (w ++ r) ≡ frontOf w
 unfolding frontOf
-front-stays w r h = ap judged (parse-stays w r paramCount 0 (judged-whole w (parseFrom paramCount w 0) h))
+front-stays w r h =
+    let g = judged-whole w (editionIn w) (parseAll w) h in
+    ap₂ judged (edition-stays w r g) (all-stays w r g)
 
--- what is accepted passes, and ends within the bytes; what is malformed is so within 1,470 bytes
+-- what is accepted passes, and ends within the bytes; what is malformed is so within 1,472 bytes
 abbrev pub Verdicts : ℕ → Found → Verdict → Type 0
 Verdicts len f (Accepted next) = (f ≡ Nothing) × (next ≤ len)
-Verdicts len f (Malformed p) = p ≤ 1470
+Verdicts len f (Malformed p) = p ≤ 1472
 Verdicts len f (Broken i) = Unit {0}
 
-judged-by : (len : ℕ) (xs : List ℤ) (next : ℕ) (f : Found) → firstBroken xs ≡ f → next ≤ len →
-    Verdicts len (firstBroken (judgedBy f xs next .params .numbers)) (judgedBy f xs next .verdict)
-judged-by len xs next (At i) e h = tt
-judged-by len xs next Nothing e h = (e, h)
+judged-by :
+    (len : ℕ) (p : Params) (next : ℕ) (f : Found) →
+    firstBroken p ≡ f →
+    next ≤ len →
+    Verdicts len (firstBroken (judgedBy f p next .params)) (judgedBy f p next .verdict)
+judged-by len p next (At i) e h = tt
+judged-by len p next Nothing e h = (e, h)
 
-judged-is : (len : ℕ) (p : Parse) → Ends len p → placeOf p ≤ 1470 →
-    Verdicts len (firstBroken (judged p .params .numbers)) (judged p .verdict)
-judged-is len (numbers xs next) h l = judged-by len xs next (firstBroken xs) refl h
-judged-is len (malformed p) h l = l
+judged-is :
+    (len : ℕ) (e : Edition) (p : Parse) →
+    Ends len p →
+    placeOf p ≤ 1472 →
+    Verdicts len (firstBroken (judged e p .params)) (judged e p .verdict)
+judged-is len e (numbers xs next) h l = judged-by len (sheet e xs) next (firstBroken (sheet e xs)) refl h
+judged-is len e (malformed p) h l = l
 
-pub front-is : (s : List ℕ) → Verdicts (length s) (firstBroken (frontOf s .params .numbers)) (frontOf s .verdict)
+-- the front is there: the second byte of an edition 2 is 2, which no list has past its end
+front-within : (s : List ℕ) → length (frontBytes (editionIn s)) ≤ length s
+unfolding editionIn
+front-within [] = omega arith
+front-within (b ∷ []) = by-test (length (frontBytes (editionIn (b ∷ []))) ≤ 1) (eqb b 0) (λ t. rw t (omega arith)) (λ t. rw t (omega arith))
+front-within (b ∷ (c ∷ s)) = omega (arith, front-short (editionIn (b ∷ (c ∷ s))))
+
+all-ends : (s : List ℕ) → Ends (length s) (parseAll s)
+unfolding parseAll
+all-ends s = parse-ends s paramCount (length (frontBytes (editionIn s))) (front-within s)
+
+pub front-is : (s : List ℕ) → Verdicts (length s) (firstBroken (frontOf s .params)) (frontOf s .verdict)
 unfolding frontOf
-front-is s =
-    judged-is (length s) (parseFrom paramCount s 0) (parse-ends s paramCount 0 (omega arith)) (omega (arith, parse-place s paramCount 0))
+front-is s = judged-is (length s) (editionIn s) (parseAll s) (all-ends s) (all-place s)

@@ -136,22 +136,22 @@ module _ (last : Bool) (st : State) (w rest : List ℕ) (e : last ≡ true → r
       (λ t. rw t (rw t at g)))
 
   -- ---- a turn of the parameters
-  params-by : (v : Verdict) → frontOf w .verdict ≡ v → Verdicts (length w) (firstBroken (frontOf w .params .numbers)) v →
-      Goes Params (paramsBy last w (frontOf w .params .numbers) v)
+  params-by : (v : Verdict) → frontOf w .verdict ≡ v → Verdicts (length w) (firstBroken (frontOf w .params)) v →
+      Goes Params (paramsBy last w (frontOf w .params) v)
   unfolding printedOf
   params-by (Accepted next) f h =
       let g = front-stays w rest (rw f tt) in
-      rw (g, f) (ap (eventsText (freshState (frontOf w .params .numbers))) (drop-append-le next w rest (h .1)))
+      rw (g, f) (ap (eventsText (freshState (frontOf w .params))) (drop-append-le next w rest (h .1)))
   params-by (Broken i) f h =
       let g = front-stays w rest (rw f tt) in
       rw (g, f) (sym (append-nil (pairLine 9 i)))
   params-by (Malformed p) f h =
-      by-test (Goes Params (paramsBy last w (frontOf w .params .numbers) (Malformed p))) last
+      by-test (Goes Params (paramsBy last w (frontOf w .params) (Malformed p))) last
       (λ t.
       let n : w ++ rest ≡ w = ap (λ (r : List ℕ). w ++ r) (e t) ∙ append-nil w in
       rw (t, n, f) (sym (append-nil (pairLine 10 p))))
       (λ t.
-      by-test (Goes Params (paramsBy last w (frontOf w .params .numbers) (Malformed p))) (cutShort w p)
+      by-test (Goes Params (paramsBy last w (frontOf w .params) (Malformed p))) (cutShort w p)
       (λ c. rw (t, c))
       (λ c.
       let g = front-stays w rest (rw f c) in

@@ -47,7 +47,7 @@ event-most len last st short h = cond-case (Most len) last (ended (pairLine 10 0
 
 params-most :
     (last : Bool) (s : List ℕ) (f : Found) (v : Verdict) → Verdicts (length s) f v →
-    Most (length s) (paramsBy last s (frontOf s .params .numbers) v)
+    Most (length s) (paramsBy last s (frontOf s .params) v)
 params-most last s f (Accepted next) h = h .1
 params-most last s f (Malformed p) h =
     cond-case (Most (length s)) (not last && cutShort s p) wants (ended (pairLine 10 p))
@@ -57,7 +57,7 @@ params-most last s f (Broken i) h = tt
 
 turn-most : (stage : Stage) (last : Bool) (st : State) (s : List ℕ) → Most (length s) (turnOf stage last st s)
 unfolding paramsTurn eventsTurn
-turn-most Params last st s = params-most last s (firstBroken (frontOf s .params .numbers)) (frontOf s .verdict) (front-is s)
+turn-most Params last st s = params-most last s (firstBroken (frontOf s .params)) (frontOf s .verdict) (front-is s)
 turn-most Events last st s =
     cond-case (Most (length s)) (last && eqb (length s) 0) (ended []) (eventTurn last st (eventAt s 0)) (λ e. tt)
     (λ e. event-most (length s) last st (eventAt s 0) (event-closes s 0))

@@ -48,24 +48,24 @@ as-turn t u r table table′ out out′ e f = rw e f
 
 -- ---- the parameters
 module _ (last : Bool) (s : List ℕ) (q : Reading) (e : q ≡ frontOf s) where
-  by-verdict : (v : Verdict) → q .verdict ≡ v → paramsTurn last s ≡ paramsBy last s (q .params .numbers) v
+  by-verdict : (v : Verdict) → q .verdict ≡ v → paramsTurn last s ≡ paramsBy last s (q .params) v
   unfolding paramsTurn
   by-verdict v f = rw (← e, f)
 
-  verdict-is : (v : Verdict) → q .verdict ≡ v → Verdicts (length s) (firstBroken (q .params .numbers)) v
+  verdict-is : (v : Verdict) → q .verdict ≡ v → Verdicts (length s) (firstBroken (q .params)) v
   verdict-is v f = let g = front-is s in rw (← e, f) at g
 
   pub params-accepted :
       (next : ℕ) (r : Made) (table table′ out : List ℕ) →
       q .verdict ≡ Accepted next →
-      Makes (q .params .numbers) r table table′ →
+      Makes (q .params) r table table′ →
       Feeds (paramsTurn last s) (Took next 0) table table′ out out
   params-accepted next r table table′ out f m =
-      as-turn (paramsTurn last s) (paramsBy last s (q .params .numbers) (Accepted next)) (Took next 0) table table′ out out
+      as-turn (paramsTurn last s) (paramsBy last s (q .params) (Accepted next)) (Took next 0) table table′ out out
       (by-verdict (Accepted next) f)
       (record {
         answer = refl;
-        state = m .state ∙ ap (λ (g : Found). freshBy g (q .params .numbers) (stateOf table)) (verdict-is (Accepted next) f .0);
+        state = m .state ∙ ap (λ (g : Found). freshBy g (q .params) (stateOf table)) (verdict-is (Accepted next) f .0);
         bytes = refl;
         room = omega arith;
       })

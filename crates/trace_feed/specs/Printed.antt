@@ -1,9 +1,9 @@
 -- What the trace program prints for a whole input (01, "The trace program"): "sheet (147 numbers), then events".
 use Prim.Native.Nat.{ℕ, zero, suc}
 use mathlib.Core.List.{List, [], _∷_, _++_}
-use lib.IntN.{ℤ}
 use lib.ListN.{length, drop}
 use Rattle.records.specs.Records.{State}
+use Rattle.params.specs.declared.Params.{Params}
 use Rattle.params_bytes.specs.declared.Verdict.{Verdict}
 use Rattle.params_bytes.specs.declared.Verdict.the-variants.{Accepted, Malformed, Broken}
 use Rattle.params_bytes.specs.Read.{frontOf}
@@ -38,10 +38,10 @@ eventsText st s = textFrom (length s) st s
 
 -- ---- the parameters before them
 -- "A bad sheet prints its number and place and stops"
-abbrev pub textBy : List ℕ → List ℤ → Verdict → List ℕ
+abbrev pub textBy : List ℕ → Params → Verdict → List ℕ
 textBy s params (Accepted next) = eventsText (freshState params) (drop next s)
 textBy s params (Malformed place) = pairLine 10 place
 textBy s params (Broken i) = pairLine 9 i
 
 unfoldable pub printedOf : List ℕ → List ℕ
-printedOf s = textBy s (frontOf s .params .numbers) (frontOf s .verdict)
+printedOf s = textBy s (frontOf s .params) (frontOf s .verdict)

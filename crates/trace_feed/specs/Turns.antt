@@ -5,10 +5,10 @@ use mathlib.Core.Path.{_≡_}
 use mathlib.Core.Bool.{Bool, true, false, not, cond, _&&_}
 use mathlib.Core.List.{List, []}
 use lib.Dec.{eqb, ltb}
-use lib.IntN.{ℤ}
 use lib.ListN.{length, take, drop}
 use lib.Seq.{sets}
 use Rattle.records.specs.Records.{State}
+use Rattle.params.specs.declared.Params.{Params as Parameters}
 use Rattle.params_bytes.specs.declared.Verdict.{Verdict}
 use Rattle.params_bytes.specs.declared.Verdict.the-variants.{Accepted, Malformed, Broken}
 use Rattle.params_bytes.specs.Read.{frontOf}
@@ -42,13 +42,13 @@ eventTurn last st short = cond last (ended (pairLine 10 0)) wants
 unfoldable pub eventsTurn : Bool → State → List ℕ → Turn
 eventsTurn last st s = cond (last && eqb (length s) 0) (ended []) (eventTurn last st (eventAt s 0))
 
-abbrev pub paramsBy : Bool → List ℕ → List ℤ → Verdict → Turn
+abbrev pub paramsBy : Bool → List ℕ → Parameters → Verdict → Turn
 paramsBy last s params (Accepted next) = took next [] (freshState params)
 paramsBy last s params (Malformed place) = cond (not last && cutShort s place) wants (ended (pairLine 10 place))
 paramsBy last s params (Broken i) = ended (pairLine 9 i)
 
 unfoldable pub paramsTurn : Bool → List ℕ → Turn
-paramsTurn last s = paramsBy last s (frontOf s .params .numbers) (frontOf s .verdict)
+paramsTurn last s = paramsBy last s (frontOf s .params) (frontOf s .verdict)
 
 abbrev pub turnOf : Stage → Bool → State → List ℕ → Turn
 turnOf Params last st s = paramsTurn last s
@@ -131,7 +131,7 @@ startWindow = record { at = 0; end = 0; more = true; wants = false; stage = Para
 
 -- how many bytes can be there and still not be whole: 147 numbers of ten bytes, and a last one of nine
 abbrev pub frontRoom : ℕ
-frontRoom = 1480
+frontRoom = 1482
 
 -- ---- what `turn` promises
 abbrev pub turnIn : Window → List ℕ → List ℕ → Turn

@@ -7,11 +7,11 @@ use mathlib.Core.Path.{_≡_, refl, sym, ap, ap₂, _∙_}
 use mathlib.Core.Bool.{false, false≢true}
 use mathlib.Core.List.{List, [], _∷_}
 use native.Mathlib.Omega.{arith}
-use lib.IntN.{ℤ}
 use lib.ListN.{length, set, length-append}
 use lib.Seq.{sets, length-sets}
 use native.Mathlib.Nat.{zero-add}
 use native.Mathlib.Numerals.{add-one}
+use Rattle.params.specs.declared.Params.{Params}
 use Rattle.index.proofs.Lists.{sets-append}
 use Rattle.effects.specs.Actions.{Action, numbersOf}
 use Rattle.rules.specs.Reply.{Reply}
@@ -44,7 +44,7 @@ use Rattle.trace_run.specs.declared.Recorded.the-variants.{Refused, Ran}
 use Rattle.trace_run.specs.Recorded.{Recording, joins, callsFrom, recordingOf, isEvent, All, replyTo, answersTo, actionsAfter, Runs}
 
 -- ---- the answers: one for each call
-answers-length : (params : List ℤ) (calls : List Made) → length (answersTo params calls) ≡ length calls
+answers-length : (params : Params) (calls : List Made) → length (answersTo params calls) ≡ length calls
 unfolding answersTo
 answers-length params [] = refl
 answers-length params (c ∷ before) =
@@ -54,7 +54,7 @@ answers-length params (c ∷ before) =
 
 -- one more is stored behind them
 one-more :
-    (params : List ℤ) (c : Made) (before : List Made) (told : List ℕ) →
+    (params : Params) (c : Made) (before : List Made) (told : List ℕ) →
     set (sets told 0 (answersTo params before)) (length before) (answerCode (replyTo params before c .answer))
     ≡ sets told 0 (answersTo params (c ∷ before))
 unfolding answersTo
@@ -64,7 +64,7 @@ one-more params c before told =
     sym (zero-add (length (answersTo params before)) ∙ answers-length params before) in
     ap (λ (n : ℕ). set (sets told 0 (answersTo params before)) n code) e ∙ sym (sets-append told 0 (answersTo params before) (code ∷ []))
 
-actions-length : (params : List ℤ) (calls : List Made) (list : List ℕ) → length (actionsAfter params calls list) ≡ length list
+actions-length : (params : Params) (calls : List Made) (list : List ℕ) → length (actionsAfter params calls list) ≡ length list
 unfolding actionsAfter
 actions-length params [] list = refl
 actions-length params (c ∷ before) list =
@@ -72,7 +72,7 @@ actions-length params (c ∷ before) list =
 
 -- ---- the loop: the calls made so far, which the events from `at` on complete to the whole list. list₀ and told₀ are what stood in the
 -- lists that were lent
-pub record Going (params : List ℤ) (s list₀ told₀ : List ℕ) (at calls : ℕ) (table list told : List ℕ) : Type 0 where
+pub record Going (params : Params) (s list₀ told₀ : List ℕ) (at calls : ℕ) (table list told : List ℕ) : Type 0 where
   pub before : List Made
   pub many : length before ≡ calls
   pub rest : callsFrom (length list₀) (length told₀ - calls) s at before ≡ recordingOf (length list₀) (length told₀) s
@@ -81,7 +81,7 @@ pub record Going (params : List ℤ) (s list₀ told₀ : List ℕ) (at calls : 
   pub answers : told ≡ sets told₀ 0 (answersTo params before)
 
 pub going-none :
-    (params : List ℤ) (s table list told : List ℕ) → stateOf table ≡ freshState params → Going params s list told 0 0 table list told
+    (params : Params) (s table list told : List ℕ) → stateOf table ≡ freshState params → Going params s list told 0 0 table list told
 unfolding recordingOf after actionsAfter answersTo
 going-none params s table list told e =
     let z : length told - 0 ≡ length told = omega arith in
@@ -97,7 +97,7 @@ unfolding callsFrom
 one-event room zero s at before x h e = absurd (omega arith)
 one-event room (suc m) s at before x h e = let f : suc m - 1 ≡ m = omega arith in rw (f, e)
 
-module _ (params : List ℤ) (s list₀ told₀ : List ℕ) (at calls : ℕ) (table table′ list list′ told : List ℕ) (r : Performed)
+module _ (params : Params) (s list₀ told₀ : List ℕ) (at calls : ℕ) (table table′ list list′ told : List ℕ) (r : Performed)
     (g : Going params s list₀ told₀ at calls table list told) (h : calls < length told₀)
     (p : Performs (performEvent (stateOf table) (length list) (eventAt s at)) r table′ list list′) where
   room-is : length list ≡ length list₀
@@ -165,7 +165,7 @@ leaves-all st room unknown e = (refl, refl)
 leaves-all st room malformed e = (refl, refl)
 leaves-all st room short e = (refl, refl)
 
-module _ (params : List ℤ) (s list₀ told₀ : List ℕ) (l : length params ≡ paramCount) where
+module _ (params : Params) (s list₀ told₀ : List ℕ) (l : length (params .numbers) ≡ paramCount) where
   abbrev whole : Recording
   whole = recordingOf (length list₀) (length told₀) s
 
@@ -228,7 +228,7 @@ breaks Nothing r i e d = let z : _≡_ {A = ℕ} 0 1 = cc in absurd (omega arith
 no-both : {P : Type 0} (i : ℕ) → At i ≡ Nothing → P
 no-both i e = let z : _≡_ {A = ℕ} 0 1 = cc in absurd (omega arith)
 
-module _ (params : List ℤ) (r : Fresh) (table table′ : List ℕ) (m : Makes params r table table′) where
+module _ (params : Params) (r : Fresh) (table table′ : List ℕ) (m : Makes params r table table′) where
   pub accepted : r ≡ Done → firstBroken params ≡ Nothing
   accepted e = passes (firstBroken params) r (m .answer) e
 
@@ -236,7 +236,7 @@ module _ (params : List ℤ) (r : Fresh) (table table′ : List ℕ) (m : Makes 
   begins e = m .state ∙ ap (λ (f : Found). leftBy f params (stateOf table)) (accepted e)
 
   pub run-refused :
-      (s list told : List ℕ) (i : ℕ) → length params ≡ paramCount → r ≡ Broken i →
+      (s list told : List ℕ) (i : ℕ) → length (params .numbers) ≡ paramCount → r ≡ Broken i →
       Runs params s (Refused i) table table′ list list told told
   run-refused s list told i l e =
       let f = breaks (firstBroken params) r i (m .answer) e in

@@ -4,9 +4,9 @@ use Prim.Native.Nat.{ℕ, zero, suc, _≤_}
 use mathlib.Core.Path.{_≡_}
 use mathlib.Core.Bool.{Bool, true, false}
 use mathlib.Core.List.{List, [], _∷_, _++_}
-use lib.IntN.{ℤ}
 use lib.ListN.{length}
 use lib.Seq.{sets}
+use Rattle.params.specs.declared.Params.{Params}
 use Rattle.index.specs.declared.Found.{Found}
 use Rattle.index.specs.declared.Found.the-variants.{At, Nothing}
 use Rattle.params.specs.Check.{firstBroken}
@@ -55,16 +55,16 @@ All = (room most : ℕ) (s : List ℕ) → length s ≤ most → isEvent (eventA
 
 -- ---- what the calls are answered
 -- the rules' reply to a call, after the calls before it
-abbrev pub replyTo : List ℤ → List Made → Made → Reply
+abbrev pub replyTo : Params → List Made → Made → Reply
 replyTo params before c = step (after params before) (c .call) (c .room)
 
 -- the answers, the first call's first: 01's number in the low byte, how many actions above it
-unfoldable pub answersTo : List ℤ → List Made → List ℕ
+unfoldable pub answersTo : Params → List Made → List ℕ
 answersTo params [] = []
 answersTo params (c ∷ before) = answersTo params before ++ (answerCode (replyTo params before c .answer) ∷ [])
 
 -- the action list that all of them are lent, one after the other: the actions of each stand at its front
-unfoldable pub actionsAfter : List ℤ → List Made → List ℕ → List ℕ
+unfoldable pub actionsAfter : Params → List Made → List ℕ → List ℕ
 actionsAfter params [] list = list
 actionsAfter params (c ∷ before) list = sets (actionsAfter params before list) 0 (numbersOf (replyTo params before c .actions))
 
@@ -73,7 +73,7 @@ abbrev pub answerOf : Found → Recording → Recorded
 answerOf (At i) q = Refused i
 answerOf Nothing q = Ran (q .place) (length (q .calls))
 
-abbrev pub leftOf : Found → List ℤ → Recording → State → State
+abbrev pub leftOf : Found → Params → Recording → State → State
 leftOf (At i) params q st = st
 leftOf Nothing params q st = after params (q .calls)
 
@@ -89,7 +89,7 @@ recordedValues (Ran place calls) = place ∷ calls ∷ []
 
 -- what a run promises: r is the answer; table, list and told are what stood in the table, in the lent action list and in the lent list of
 -- answers, and table′, list′ and told′ are what stands there after it
-pub record Runs (params : List ℤ) (s : List ℕ) (r : Recorded) (table table′ list list′ told told′ : List ℕ) : Type 0 where
+pub record Runs (params : Params) (s : List ℕ) (r : Recorded) (table table′ list list′ told told′ : List ℕ) : Type 0 where
   pub answer : r ≡ answerOf (firstBroken params) (recordingOf (length list) (length told) s)
   -- the table holds the rules' state after the whole list
   pub state : stateOf table′ ≡ leftOf (firstBroken params) params (recordingOf (length list) (length told) s) (stateOf table)

@@ -24,7 +24,7 @@ pub fn run(
     actions: &mut [u32],
     told: &mut [u64],
 ) -> Recorded
-    ensures { λ r. ⌜ Runs (params .numbers) (now (s .entry)) r (now (table .entry)) (now (table .exit)) (now (actions .entry))
+    ensures { λ r. ⌜ Runs params (now (s .entry)) r (now (table .entry)) (now (table .exit)) (now (actions .entry))
         (now (actions .exit)) (now (told .entry)) (now (told .exit)) ⌝ }
 {
     if let Made::Broken(i) = router::fresh(params, table) {

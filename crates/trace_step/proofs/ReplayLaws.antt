@@ -21,18 +21,19 @@ use Rattle.varint.specs.Codes.{numberOf}
 use Rattle.varint.specs.declared.Read.{Read}
 use Rattle.varint.specs.declared.Read.the-variants.{Number, Bad}
 use Rattle.text.specs.Text.{Stored}
-use Rattle.records.specs.Records.{State}
+use Rattle.records.specs.Records.{State, slotCount}
 use Rattle.layout.specs.View.{stateOf}
 use Rattle.effects.specs.Actions.{numbersOf}
 use Rattle.effects.proofs.ActionLaws.{numbers-length}
 use Rattle.rules.specs.declared.Answer.{Answer}
 use Rattle.rules.specs.Reply.{Reply, actionsOf}
-use Rattle.rules.specs.Calls.{Call, connect, disconnect, join, leave, subscribe, unsubscribe, graft, prune, deliver, rate, heartbeat, decay, score}
-use Rattle.rules.specs.Step.{step}
+use Rattle.rules.specs.Calls.{Call, connect, rate, heartbeat, score}
+use Rattle.rules.specs.Step.{step, actionRoom}
 use Rattle.rules.specs.Promise.{Follows}
 use Rattle.rules.proofs.CountLaws.{Counted, counted}
 use Rattle.trace_events.specs.declared.Readings.{Readings}
-use Rattle.trace_events.specs.Reading.{numbers, broken, numbersFrom, outcome, arities, arity, callOf, Event, event, unknown, malformed, short, cutShort, unread, named, ofNumbers, ofKind, eventAt}
+use Rattle.trace_events.specs.Reading.{numbers, broken, numbersFrom, outcome, arities, arity, callOf, Event, event, unknown, malformed}
+use Rattle.trace_events.specs.Reading.{short, cutShort, unread, nameMost, named, ofNumbers, ofKind, eventAt}
 use Rattle.trace_events.specs.Lines.{pairLine, linesOf, replyText}
 use Rattle.trace_events.proofs.LineLaws.{lines-are}
 use Rattle.trace_step.specs.declared.Performed.{Performed}
@@ -80,17 +81,29 @@ module _ (kind : ℕ) (v : List ℕ) where
 
   -- the permutation is the array's part from 3 on
   pub call-11 :
-      length v ≡ 67 → kind ≡ 11 → callOf kind v [] ≡ heartbeat (getD v 0 0) (getD v 1 0) (getD v 2 0) (take 64 (drop 3 v))
+      length v ≡ 67 → kind ≡ 11 → callOf kind v [] ≡ heartbeat (getD v 0 0) (getD v 1 0) (getD v 2 0) (take slotCount (drop 3 v))
   unfolding callOf
-  call-11 l e = rw (e, take-all 64 (drop 3 v) (omega (arith, length-drop 3 v)))
+  call-11 l e = rw (e, take-all slotCount (drop 3 v) (omega (arith, length-drop 3 v)))
 
   pub call-score :
       kind ≢ 1 → kind ≢ 2 → kind ≢ 3 → kind ≢ 4 → kind ≢ 5 → kind ≢ 6 → kind ≢ 7 → kind ≢ 8 → kind ≢ 9 → kind ≢ 10 → kind ≢ 11 → kind ≢ 12 →
       callOf kind v [] ≡ score (getD v 0 0) (getD v 1 0)
   unfolding callOf
   call-score a b c d e f g h i j k l =
-      rw
-      (ne-eqb kind 1 a, ne-eqb kind 2 b, ne-eqb kind 3 c, ne-eqb kind 4 d, ne-eqb kind 5 e, ne-eqb kind 6 f, ne-eqb kind 7 g, ne-eqb kind 8 h, ne-eqb kind 9 i, ne-eqb kind 10 j, ne-eqb kind 11 k, ne-eqb kind 12 l)
+      rw (
+        ne-eqb kind 1 a,
+        ne-eqb kind 2 b,
+        ne-eqb kind 3 c,
+        ne-eqb kind 4 d,
+        ne-eqb kind 5 e,
+        ne-eqb kind 6 f,
+        ne-eqb kind 7 g,
+        ne-eqb kind 8 h,
+        ne-eqb kind 9 i,
+        ne-eqb kind 10 j,
+        ne-eqb kind 11 k,
+        ne-eqb kind 12 l,
+      )
 
 -- the promise of the call that a kind is
 pub follows-as :
@@ -145,25 +158,25 @@ unread-is s at r table list e =
 
 -- ---- the ends of `connect`
 module _ (s v : List ℕ) (at : ℕ) where
-  named-long : 64 < getD v 4 0 → named s v at ≡ malformed
+  named-long : nameMost < getD v 4 0 → named s v at ≡ malformed
   unfolding named
-  named-long h = rw (lt-leb (getD v 4 0) 64 h)
+  named-long h = rw (lt-leb (getD v 4 0) nameMost h)
 
-  named-short : getD v 4 0 ≤ 64 → length s < at + getD v 4 0 → named s v at ≡ short
+  named-short : getD v 4 0 ≤ nameMost → length s < at + getD v 4 0 → named s v at ≡ short
   unfolding named
-  named-short h l = rw (le-leb (getD v 4 0) 64 h, lt-leb (at + getD v 4 0) (length s) l)
+  named-short h l = rw (le-leb (getD v 4 0) nameMost h, lt-leb (at + getD v 4 0) (length s) l)
 
   named-whole :
-      getD v 4 0 ≤ 64 →
+      getD v 4 0 ≤ nameMost →
       at + getD v 4 0 ≤ length s →
       named s v at
       ≡ event (connect (getD v 0 0) (getD v 1 0) (getD v 2 0) (getD v 3 0) (take (getD v 4 0) (drop at s))) (at + getD v 4 0)
   unfolding named callOf
-  named-whole h l = rw (le-leb (getD v 4 0) 64 h, le-leb (at + getD v 4 0) (length s) l)
+  named-whole h l = rw (le-leb (getD v 4 0) nameMost h, le-leb (at + getD v 4 0) (length s) l)
 
   pub connect-long :
       (table list : List ℕ) →
-      64 < getD v 4 0 →
+      nameMost < getD v 4 0 →
       Performs (performEvent (stateOf table) (length list) (named s v at)) Malformed table list list
   unfolding performEvent
   connect-long table list h =
@@ -172,7 +185,7 @@ module _ (s v : List ℕ) (at : ℕ) where
 
   pub connect-short :
       (table list : List ℕ) →
-      getD v 4 0 ≤ 64 →
+      getD v 4 0 ≤ nameMost →
       length s < at + getD v 4 0 →
       Performs (performEvent (stateOf table) (length list) (named s v at)) CutShort table list list
   unfolding performEvent
@@ -182,9 +195,10 @@ module _ (s v : List ℕ) (at : ℕ) where
 
   pub connect-called :
       (a : Answer) (table table′ list list′ : List ℕ) →
-      getD v 4 0 ≤ 64 →
+      getD v 4 0 ≤ nameMost →
       at + getD v 4 0 ≤ length s →
-      Follows (connect (getD v 0 0) (getD v 1 0) (getD v 2 0) (getD v 3 0) (take (at + getD v 4 0 - at) (drop at s))) a table table′ list list′ →
+      Follows (connect (getD v 0 0) (getD v 1 0) (getD v 2 0) (getD v 3 0) (take (at + getD v 4 0 - at) (drop at s))) a table table′ list
+      list′ →
       Performs (performEvent (stateOf table) (length list) (named s v at)) (Answered (at + getD v 4 0) a) table′ list list′
   connect-called a table table′ list list′ h l f =
       let e : at + getD v 4 0 - at ≡ getD v 4 0 = omega arith in
@@ -213,7 +227,8 @@ module _ (s : List ℕ) (kind at n : ℕ) (us : Readings) (e : outcome n us ≡ 
         Performs (performEvent (stateOf table) (length list) (named s (us .values) (us .place))) r table′ list list′ →
         Performs (performEvent (stateOf table) (length list) (ofNumbers s kind (numbersFrom n s at))) r table′ list list′
     kind-connect table table′ list list′ r k h =
-        as-event (stateOf table) (length list) (ofNumbers s kind (numbersFrom n s at)) (named s (us .values) (us .place)) r table′ list list′
+        as-event (stateOf table) (length list) (ofNumbers s kind (numbersFrom n s at)) (named s (us .values) (us .place)) r table′ list
+        list′
         (ap₂ (ofNumbers s) k whole ∙ named-take n (us .values) z s (us .place))
         h
 
@@ -223,9 +238,11 @@ module _ (s : List ℕ) (kind at n : ℕ) (us : Readings) (e : outcome n us ≡ 
         length (us .values) ≡ 67 →
         kind ≢ 1 →
         Follows (callOf kind (us .values) []) a table table′ list list′ →
-        Performs (performEvent (stateOf table) (length list) (ofNumbers s kind (numbersFrom n s at))) (Answered (us .place) a) table′ list list′
+        Performs (performEvent (stateOf table) (length list) (ofNumbers s kind (numbersFrom n s at))) (Answered (us .place) a) table′ list
+        list′
     kind-other table table′ list list′ a i l k f =
-        as-event (stateOf table) (length list) (ofNumbers s kind (numbersFrom n s at)) (event (callOf kind (us .values) []) (us .place)) _ table′ list list′
+        as-event (stateOf table) (length list) (ofNumbers s kind (numbersFrom n s at)) (event (callOf kind (us .values) []) (us .place)) _
+        table′ list list′
         (ap (ofNumbers s kind) whole
         ∙ ap
         (λ (b : Bool). cond b (named s (take n (us .values)) (us .place)) (event (callOf kind (take n (us .values)) []) (us .place)))
@@ -279,7 +296,8 @@ module _ (s : List ℕ) (at : ℕ) (q : Read) (e : q ≡ readAt 1844674407370955
       p
 
 -- ---- the ends of `replay`
-pub replay-full : (table s : List ℕ) (at : ℕ) (out : List ℕ) → length out < 4096 → Replays (replayOf (stateOf table) s at out) Full table out
+pub replay-full : (table s : List ℕ) (at : ℕ) (out : List ℕ) → length out < 4096 →
+    Replays (replayOf (stateOf table) s at out) Full table out
 unfolding replayOf
 replay-full table s at out h =
     rw (lt-ltb (length out) 4096 h) (record { answer = refl; state = refl; bytes = refl; room = omega arith })
@@ -287,7 +305,7 @@ replay-full table s at out h =
 -- what a reply prints
 text-is :
     (o : Reply) (a : Answer) (list list′ : List ℕ) →
-    192 ≤ length list →
+    actionRoom ≤ length list →
     Counted o →
     a ≡ o .answer →
     list′ ≡ sets list 0 (numbersOf (o .actions)) →
@@ -313,11 +331,12 @@ module _ (st : State) (room : ℕ) where
   pub told : (x : Event) (r : Performed) → r ≡ performEvent st room x .answer → Told x r
   told x r e = rw e (told-self x)
 
-module _ (st : State) (table′ list list′ : List ℕ) (x : Event) (r : Performed) (p : Performs (performEvent st (length list) x) r table′ list list′) where
+module _ (st : State) (table′ list list′ : List ℕ) (x : Event) (r : Performed)
+    (p : Performs (performEvent st (length list) x) r table′ list list′) where
   told-as : (q : Performed) → r ≡ q → Told st (length list) x q
   told-as q e = told st (length list) x q (sym e ∙ p .answer)
 
-  pub few-actions : (next : ℕ) (a : Answer) → r ≡ Answered next a → actionsOf a ≤ 64
+  pub few-actions : (next : ℕ) (a : Answer) → r ≡ Answered next a → actionsOf a ≤ slotCount
   few-actions next a e =
       let t = told-as (Answered next a) e in
       let k = counted st (t .0) (length list) in
@@ -326,17 +345,17 @@ module _ (st : State) (table′ list list′ : List ℕ) (x : Event) (r : Perfor
   module _ (out out′ : List ℕ) where
     pub event-called :
         (next n : ℕ) (a : Answer) →
-        length list ≡ 192 →
+        length list ≡ actionRoom →
         r ≡ Answered next a →
         Stored out 0 (replyText a list′) n out′ × (n ≤ 4096) →
         Replays (replayEvent st out x) (Called next n) table′ out′
     unfolding performEvent
     event-called next n a l e s =
         let t = told-as (Answered next a) e in
-        let o : Reply = step st (t .0) 192 in
-        let p' : Performs (performEvent st 192 (event (t .0) next)) r table′ list list′ = rw (l, t .1) at p in
+        let o : Reply = step st (t .0) actionRoom in
+        let p' : Performs (performEvent st actionRoom (event (t .0) next)) r table′ list list′ = rw (l, t .1) at p in
         let b : a ≡ o .answer = rw l at (t .2) in
-        let f = text-is o a list list′ (omega arith) (counted st (t .0) 192) b (p' .actions) in
+        let f = text-is o a list list′ (omega arith) (counted st (t .0) actionRoom) b (p' .actions) in
         let m : n ≡ length (linesOf o) = s .0 .0 ∙ zero-add (length (replyText a list′)) ∙ ap length f in
         rw (t .1)
         (record {

@@ -39,15 +39,16 @@ performEvent st room unknown = idle st Unknown
 performEvent st room malformed = idle st Malformed
 performEvent st room short = idle st CutShort
 
--- 01's number of an answer: "bad bytes or a name-length over 64 print 10 0, an unknown kind 2 0"; an event that is cut short is bad where no
--- bytes follow
+-- 01's number of an answer: "bad bytes or a name-length over 64 print 10 0, an unknown kind 2 0"; an event that is cut short is bad where
+-- no bytes follow
 abbrev pub performedNumber : Performed → ℕ
 performedNumber (Answered next a) = numberOf a
 performedNumber Unknown = 2
 performedNumber Malformed = 10
 performedNumber CutShort = 10
 
--- what is promised: r is the answer, list is what stood in the lent list, table′ and list′ are what stands in the table and in the list after it
+-- what is promised: r is the answer, list is what stood in the lent list, table′ and list′ are what stands in the table and in the list
+-- after it
 pub record Performs (o : Performance) (r : Performed) (table′ list list′ : List ℕ) : Type 0 where
   pub answer : r ≡ o .answer
   pub state : stateOf table′ ≡ o .state

@@ -10,6 +10,7 @@ ghost use Rattle.trace_events.specs.Reading.{arity as arityOf, callOf, cutShort
 ghost use Rattle.trace_step.specs.declared.Performed.the-variants.{Malformed, CutShort};
 ghost use Rattle.trace_step.specs.Replay.{performEvent, Performs, Replays, replayOf};
 use layout::CELLS;
+use records::ACTION_ROOM;
 use rules::Answer;
 use trace_events::lines::put_pair;
 use trace_events::lines::put_reply;
@@ -20,6 +21,9 @@ use varint::Read;
 
 // How many bytes one event may print.
 const LINE_ROOM: usize = 4096;
+
+// The longest protocol name that is read.
+const NAME_MOST: u64 = 64;
 
 // What became of one event's call.
 pub enum Performed {
@@ -101,10 +105,12 @@ fn connect(
     at: usize,
     actions: &mut [u32],
 ) -> Performed
-    ensures { λ r. ⌜ Performs (performEvent (stateOf (now (table .entry))) (length (now (actions .entry))) (named (now (s .entry)) v at)) r (now (table .exit)) (now (actions .entry)) (now (actions .exit)) ⌝ }
+    ensures { λ r. ⌜
+        Performs (performEvent (stateOf (now (table .entry))) (length (now (actions .entry))) (named (now (s .entry)) v at)) r
+        (now (table .exit)) (now (actions .entry)) (now (actions .exit)) ⌝ }
 {
     let size = v[4];
-    if 64 < size {
+    if NAME_MOST < size {
         return Performed::Malformed;
     }
     let n = size as usize;
@@ -129,7 +135,10 @@ fn perform_kind(
     actions: &mut [u32],
 ) -> Performed
     requires { ⌜ n ≡ arityOf kind ⌝ }
-    ensures { λ r. ⌜ Performs (performEvent (stateOf (now (table .entry))) (length (now (actions .entry))) (ofNumbers (now (s .entry)) kind (numbersFrom n (now (s .entry)) at))) r (now (table .exit)) (now (actions .entry)) (now (actions .exit)) ⌝ }
+    ensures { λ r. ⌜
+        Performs (performEvent (stateOf (now (table .entry))) (length (now (actions .entry)))
+        (ofNumbers (now (s .entry)) kind (numbersFrom n (now (s .entry)) at))) r (now (table .exit)) (now (actions .entry))
+        (now (actions .exit)) ⌝ }
 {
     let us = read_numbers(s, at, n);
     let place = us.place;
@@ -145,7 +154,9 @@ fn perform_kind(
 
 // The call of the event at a place.
 pub fn perform(table: &mut [u64; CELLS], s: &[u8], at: usize, actions: &mut [u32]) -> Performed
-    ensures { λ r. ⌜ Performs (performEvent (stateOf (now (table .entry))) (length (now (actions .entry))) (eventAt (now (s .entry)) at)) r (now (table .exit)) (now (actions .entry)) (now (actions .exit)) ⌝ }
+    ensures { λ r. ⌜
+        Performs (performEvent (stateOf (now (table .entry))) (length (now (actions .entry))) (eventAt (now (s .entry)) at)) r
+        (now (table .exit)) (now (actions .entry)) (now (actions .exit)) ⌝ }
 {
     let Read::Number(kind, next) = varint::read_u64(s, at) else {
         return unread(s, at);
@@ -159,12 +170,13 @@ pub fn perform(table: &mut [u64; CELLS], s: &[u8], at: usize, actions: &mut [u32
 
 // The event at a place, called and printed.
 pub fn replay(table: &mut [u64; CELLS], s: &[u8], at: usize, out: &mut [u8]) -> Replayed
-    ensures { λ r. ⌜ Replays (replayOf (stateOf (now (table .entry))) (now (s .entry)) at (now (out .entry))) r (now (table .exit)) (now (out .exit)) ⌝ }
+    ensures { λ r. ⌜
+        Replays (replayOf (stateOf (now (table .entry))) (now (s .entry)) at (now (out .entry))) r (now (table .exit)) (now (out .exit)) ⌝ }
 {
     if out.len() < LINE_ROOM {
         return Replayed::Full;
     }
-    let mut actions = [0u32; 192];
+    let mut actions = [0u32; ACTION_ROOM];
     let done = perform(table, s, at, &mut actions);
     match done {
         Performed::Answered(next, a) => Replayed::Called(next, put_reply(out, a, &actions)),

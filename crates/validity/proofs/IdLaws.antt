@@ -29,7 +29,8 @@ module _ (st : State) where
   seen-none seen k h n = absurd (not-suc-le-zero h)
 
   -- a mark stays, and another bucket's mark is not touched
-  kept : (seen : List Bool) (b k : ℕ) (v : Bool) → b < length seen → (getD seen b false ≡ true → v ≡ true) → getD seen k false ≡ true → getD (set seen b v) k false ≡ true
+  kept : (seen : List Bool) (b k : ℕ) (v : Bool) → b < length seen → (getD seen b false ≡ true → v ≡ true) → getD seen k false ≡ true →
+      getD (set seen b v) k false ≡ true
   kept seen b k v l h e =
       let P : Type 0 = getD (set seen b v) k false ≡ true in
       by-order P b k

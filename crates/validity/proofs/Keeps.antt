@@ -1,18 +1,18 @@
 -- What keeps tables a router's: a later clock, another record in a slot, another topic record, another joined flag. Each with the facts
 -- that the new number or record has to have.
 -- Assumes nothing.
-use Prim.Native.Nat.{ℕ, _+_, _*_, _<_, _≤_}
+use Prim.Native.Nat.{ℕ, _<_, _≤_}
 use native.Mathlib.Omega.{arith}
-use mathlib.Core.Path.{_≡_, refl, sym, ap, _∙_}
-use mathlib.Core.Bool.{true}
+use mathlib.Core.Path.{_≡_, sym, ap, _∙_}
 use mathlib.Core.Logic.{_≢_}
 use Rattle.index.proofs.Flags.{by-order}
 use Rattle.records.specs.declared.Peer.{Peer}
 use Rattle.records.specs.declared.TopicRecord.{TopicRecord}
-use Rattle.records.specs.Records.{State, place, codeIn, joinedIn, peerIn, topicIn, setClock, setJoined, setPeer, setTopic, slotCount, topicCount}
+use Rattle.records.specs.Records.{State, place, codeIn, joinedIn, peerIn, topicIn, setClock, setJoined, setPeer, setTopic, slotCount}
+use Rattle.records.specs.Records.{topicCount}
 use Rattle.layout.proofs.StateLaws.{peer-case, peer-other, topic-case, joined-case}
-use Rattle.validity.specs.Valid.{maxTime, topicParam, cap2, cap3, valid}
-use Rattle.validity.proofs.ValidLaws.{PeerFacts, TopicFacts, FitsAt, Facts, valid-facts, facts-valid}
+use Rattle.validity.specs.Valid.{maxTime, topicParam, cap2, cap3}
+use Rattle.validity.proofs.ValidLaws.{PeerFacts, TopicFacts, FitsAt, Facts}
 
 -- ---- a topic record under another clock, another joined flag
 module _ (status explicit joined clock c2 c3 : ℕ) (t : TopicRecord) (f : TopicFacts status explicit joined clock c2 c3 t) where
@@ -88,7 +88,8 @@ module _ (st : State) (f : Facts st) where
         joined = f .joined;
         peer = f .peer;
         topic = λ s t k l.
-            topic-later (peerIn st s .status) (peerIn st s .explicit) (joinedIn st t) (st .clock) (cap2 st t) (cap3 st t) (topicIn st (place s t))
+            topic-later (peerIn st s .status) (peerIn st s .explicit) (joinedIn st t) (st .clock) (cap2 st t) (cap3 st t)
+            (topicIn st (place s t))
             (f .topic s t k l) n h;
         ids = f .ids;
       }
@@ -129,26 +130,6 @@ module _ (st : State) (f : Facts st) where
             (λ e. new k (omega arith) (λ z. omega arith))
             (f .ids u k h l));
       }
-
-  -- the same with the id that the slot holds already
-  pub facts-same-id :
-      (s : ℕ) (p : Peer) →
-      s < slotCount →
-      p .id ≡ peerIn st s .id →
-      PeerFacts p →
-      ((t : ℕ) → t < topicCount → FitsAt st s (p .status) (p .explicit) t) →
-      Facts (setPeer st s p)
-  facts-same-id s p h e ok fits =
-      facts-peer s p ok fits (λ k l n q. e ∙ ids-apart st f s k h l n (q ∙ e))
-
-  -- an empty record
-  pub facts-empty :
-      (s : ℕ) (p : Peer) →
-      p .id ≡ 0 →
-      PeerFacts p →
-      ((t : ℕ) → t < topicCount → FitsAt st s (p .status) (p .explicit) t) →
-      Facts (setPeer st s p)
-  facts-empty s p e ok fits = facts-peer s p ok fits (λ k l n q. e)
 
   pub facts-topic :
       (s t : ℕ) (r : TopicRecord) →
@@ -214,30 +195,3 @@ module _ (st : State) (f : Facts st) where
             (f .topic s u h l);
         ids = f .ids;
       }
-
--- the same, of the test
-module _ (st : State) (v : valid st ≡ true) where
-  pub valid-clock : (n : ℕ) → st .clock ≤ n → n ≤ maxTime → valid (setClock st n) ≡ true
-  valid-clock n h b = facts-valid (setClock st n) (facts-clock st (valid-facts st v) n h b)
-
-  pub valid-peer :
-      (s : ℕ) (p : Peer) →
-      PeerFacts p →
-      ((t : ℕ) → t < topicCount → FitsAt st s (p .status) (p .explicit) t) →
-      ((k : ℕ) → k < slotCount → k ≢ s → peerIn st k .id ≡ p .id → p .id ≡ 0) →
-      valid (setPeer st s p) ≡ true
-  valid-peer s p ok fits new = facts-valid (setPeer st s p) (facts-peer st (valid-facts st v) s p ok fits new)
-
-  pub valid-topic :
-      (s t : ℕ) (r : TopicRecord) →
-      t < topicCount →
-      TopicFacts (peerIn st s .status) (peerIn st s .explicit) (joinedIn st t) (st .clock) (cap2 st t) (cap3 st t) r →
-      valid (setTopic st (place s t) r) ≡ true
-  valid-topic s t r b ok = facts-valid (setTopic st (place s t) r) (facts-topic st (valid-facts st v) s t r b ok)
-
-  pub valid-joined :
-      (t b : ℕ) →
-      b ≤ 1 →
-      ((s : ℕ) → s < slotCount → topicIn st (place s t) .member ≡ 1 → b ≡ 1) →
-      valid (setJoined st t b) ≡ true
-  valid-joined t b small stays = facts-valid (setJoined st t b) (facts-joined st (valid-facts st v) t b small stays)

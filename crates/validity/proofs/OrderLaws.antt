@@ -4,8 +4,8 @@ use Prim.Native.Nat.{ℕ, zero, suc, _+_, _≤_, _<_}
 use native.Mathlib.Nat.{le-trans, not-suc-le-zero}
 use native.Mathlib.Numerals.{add-one}
 use native.Mathlib.Omega.{arith}
-use mathlib.Core.Path.{_≡_, refl, sym, ap, ap₂, _∙_}
-use mathlib.Core.Bool.{Bool, true, false, not, _&&_, _||_, and-false}
+use mathlib.Core.Path.{_≡_, refl, sym, ap, _∙_}
+use mathlib.Core.Bool.{Bool, true, false, _&&_, and-false}
 use lib.Dec.{eqb, leb, leb·zero}
 use lib.ListN.{getD}
 use lib.Bits.{bitOr, or-add-and, and-le-l, and-le-r}
@@ -17,7 +17,9 @@ use Rattle.params.specs.Check.{acceptedCodes}
 use Rattle.records.specs.Records.{State, slotCount, topicCount, place, joinedIn, peerIn, topicIn}
 use Rattle.records.specs.declared.Peer.{Peer}
 use Rattle.records.specs.declared.TopicRecord.{TopicRecord}
-use Rattle.validity.specs.Valid.{maxTime, maxEnd, peerRanges, endsUpTo, idOk, zeroPeer, emptyOk, retainOk, peerOk, zeroTopic, topicRanges, emptyTopicOk, outsideOk, retainedOk, memberOk, timesOk, topicOk, topicOkAt, cap2, cap3, joinedOk, slotOk, newId, valid}
+use Rattle.validity.specs.Valid.{maxTime, maxEnd, peerRanges, endsUpTo, idOk, zeroPeer, emptyOk, retainOk, peerOk, zeroTopic}
+use Rattle.validity.specs.Valid.{topicRanges, emptyTopicOk, outsideOk, retainedOk, memberOk, timesOk, topicOk, topicOkAt, cap2, cap3}
+use Rattle.validity.specs.Valid.{joinedOk, slotOk, newId, valid}
 use Rattle.validity.specs.Order.{counterRanges, flagRanges, restOk, smallOk, Small, zeroTopicAt}
 use Rattle.validity.proofs.Conditions.{all3, all4, all8, all9}
 
@@ -74,9 +76,11 @@ module _ (status explicit joined clock cap2 cap3 : ℕ) (t : TopicRecord) where
       ≡ (counterRanges cap2 cap3 t && flagRanges t) && restOk status explicit joined clock t
   unfolding topicOk topicRanges counterRanges flagRanges restOk
   parts =
-      six (topicRanges cap2 cap3 t) (emptyTopicOk status t) (outsideOk t) (retainedOk status t) (memberOk status explicit joined t) (timesOk clock t)
+      six (topicRanges cap2 cap3 t) (emptyTopicOk status t) (outsideOk t) (retainedOk status t) (memberOk status explicit joined t)
+      (timesOk clock t)
       ∙ ap (λ (b : Bool). b && restOk status explicit joined clock t)
-      (eight (leb (t .p2) cap2) (leb (t .p3) cap3) (leb (t .p4) 1000000) (leb (t .p3b) 1000000000000) (leb (t .subscribed) 1) (leb (t .member) 1) (leb (t .graft) maxTime) (leb (t .mesh) maxTime))
+      (eight (leb (t .p2) cap2) (leb (t .p3) cap3) (leb (t .p4) 1000000) (leb (t .p3b) 1000000000000) (leb (t .subscribed) 1)
+      (leb (t .member) 1) (leb (t .graft) maxTime) (leb (t .mesh) maxTime))
 
   pub counters-fail : counterRanges cap2 cap3 t ≡ false → false ≡ topicOk status explicit joined clock cap2 cap3 t
   counters-fail e = sym (parts ∙ rw e)
@@ -85,7 +89,8 @@ module _ (status explicit joined clock cap2 cap3 : ℕ) (t : TopicRecord) where
     pub flags-fail : flagRanges t ≡ false → false ≡ topicOk status explicit joined clock cap2 cap3 t
     flags-fail e = sym (parts ∙ rw (c, e))
 
-    pub rest-is : flagRanges t ≡ true → (r : Bool) → r ≡ restOk status explicit joined clock t → r ≡ topicOk status explicit joined clock cap2 cap3 t
+    pub rest-is : flagRanges t ≡ true → (r : Bool) → r ≡ restOk status explicit joined clock t → r
+        ≡ topicOk status explicit joined clock cap2 cap3 t
     rest-is f r e = e ∙ sym (parts ∙ rw (c, f))
 
 -- ---- the union of bits: no number is above it
@@ -174,7 +179,9 @@ module _ (explicit joined clock cap2 cap3 : ℕ) (t : TopicRecord) where
         ∙ by-test P (leb (t .graft + t .mesh) clock)
         (λ y.
         let h = leb-true (t .graft + t .mesh) clock y in
-        let f : flagRanges t ≡ true = rw (known .1, eqb-true (t .member) 1 (q .0), le-leb (t .graft) maxTime (omega arith), le-leb (t .mesh) maxTime (omega arith)) refl in
+        let f : flagRanges t ≡ true =
+        rw (known .1, eqb-true (t .member) 1 (q .0), le-leb (t .graft) maxTime (omega arith), le-leb (t .mesh) maxTime (omega arith))
+        refl in
         rest-is 1 explicit joined clock cap2 cap3 t (known .0) f (leb (t .graft + t .mesh) clock) (sym rest))
         (λ n. n ∙ rest-fails (rest ∙ n))
 
@@ -203,8 +210,10 @@ module _ (explicit joined clock cap2 cap3 : ℕ) (t : TopicRecord) where
       let em : t .member ≡ 0 = omega arith in
       absurd (n (rw (em, x, y) refl)))
       (λ o.
-      let f : flagRanges t ≡ false = rw o (ap (λ (b : Bool). b && leb (t .graft) maxTime && leb (t .mesh) maxTime) (and-false (leb (t .subscribed) 1))) in
-      sym (parts 1 explicit joined clock cap2 cap3 t ∙ rw f (ap (λ (b : Bool). b && restOk 1 explicit joined clock t) (and-false (counterRanges cap2 cap3 t))))))
+      let f : flagRanges t ≡ false =
+      rw o (ap (λ (b : Bool). b && leb (t .graft) maxTime && leb (t .mesh) maxTime) (and-false (leb (t .subscribed) 1))) in
+      sym (parts 1 explicit joined clock cap2 cap3 t
+      ∙ rw f (ap (λ (b : Bool). b && restOk 1 explicit joined clock t) (and-false (counterRanges cap2 cap3 t))))))
       (λ z.
       let f : outsideOk t ≡ false = rw (m, z) refl in
       rest-fails (rw f (second (emptyTopicOk 1 t) (retainedOk 1 t) (memberOk 1 explicit joined t) (timesOk clock t)))))
@@ -228,14 +237,16 @@ module _ (st : State) (s : ℕ) where
       let y = leb-true b 1000000000000 (q .1) in
       let z = leb-true c 1 (q .2) in
       record {
-        ends = every-by (λ t. leb (getD (peerIn st s .backoff) t 0) maxEnd) 8 (λ t h. le-leb _ maxEnd (le-trans (under-union (λ k. getD (peerIn st s .backoff) k 0) 8 t h) ends));
+        ends = every-by (λ t. leb (getD (peerIn st s .backoff) t 0) maxEnd) 8
+            (λ t h. le-leb _ maxEnd (le-trans (under-union (λ k. getD (peerIn st s .backoff) k 0) 8 t h) ends));
         topics = λ t h.
             let r = topicIn st (place s t) in
             let i : t < n = omega arith in
             let u = under-union (λ k. topicIn st (place s k) .p4) n t i in
             let v = under-union (λ k. topicIn st (place s k) .p3b) n t i in
             let w = under-union (λ k. topicIn st (place s k) .subscribed) n t i in
-            rw (le-leb (r .p4) 1000000 (omega arith), le-leb (r .p3b) 1000000000000 (omega arith), le-leb (r .subscribed) 1 (omega arith)) refl;
+            rw (le-leb (r .p4) 1000000 (omega arith), le-leb (r .p3b) 1000000000000 (omega arith), le-leb (r .subscribed) 1 (omega arith))
+            refl;
       }
 
 -- ---- a connected peer's record
@@ -285,10 +296,25 @@ module _ (p : Peer) (none : p .status ≡ 0) where
   peer-all : zeroPeer p ≡ true → peerOk p ≡ zeroPeer p
   unfolding peerOk peerRanges endsUpTo idOk emptyOk retainOk zeroPeer
   peer-all e =
-      let q = all9 (eqb (p .id) 0) (eqb (p .group) 0) (eqb (p .outbound) 0) (eqb (p .explicit) 0) (eqb (p .version) 0) (eqb (p .p5) 0) (eqb (p .p7) 0) (eqb (p .retain) 0) (endsUpTo 0 p) e in
+      let q = all9 (eqb (p .id) 0) (eqb (p .group) 0) (eqb (p .outbound) 0) (eqb (p .explicit) 0) (eqb (p .version) 0) (eqb (p .p5) 0)
+      (eqb (p .p7) 0) (eqb (p .retain) 0) (endsUpTo 0 p) e in
       let ends : every topicCount (λ t. leb (getD (p .backoff) t 0) maxEnd) ≡ true
-      = every-by (λ t. leb (getD (p .backoff) t 0) maxEnd) topicCount (λ t h. let l = leb-true (getD (p .backoff) t 0) 0 (every-at (λ k. leb (getD (p .backoff) k 0) 0) topicCount t (q .8) h) in le-leb (getD (p .backoff) t 0) maxEnd (omega arith)) in
-      rw (ends, q .8, none, eqb-true (p .id) 0 (q .0), eqb-true (p .group) 0 (q .1), eqb-true (p .outbound) 0 (q .2), eqb-true (p .explicit) 0 (q .3), eqb-true (p .version) 0 (q .4), eqb-true (p .p5) 0 (q .5), eqb-true (p .p7) 0 (q .6), eqb-true (p .retain) 0 (q .7)) refl
+      = every-by (λ t. leb (getD (p .backoff) t 0) maxEnd) topicCount
+      (λ t h. let l = leb-true (getD (p .backoff) t 0) 0 (every-at (λ k. leb (getD (p .backoff) k 0) 0) topicCount t (q .8) h) in
+      le-leb (getD (p .backoff) t 0) maxEnd (omega arith)) in
+      rw (
+        ends,
+        q .8,
+        none,
+        eqb-true (p .id) 0 (q .0),
+        eqb-true (p .group) 0 (q .1),
+        eqb-true (p .outbound) 0 (q .2),
+        eqb-true (p .explicit) 0 (q .3),
+        eqb-true (p .version) 0 (q .4),
+        eqb-true (p .p5) 0 (q .5),
+        eqb-true (p .p7) 0 (q .6),
+        eqb-true (p .retain) 0 (q .7),
+      ) refl
 
   pub zero-is : peerOk p ≡ zeroPeer p
   zero-is = by-test (peerOk p ≡ zeroPeer p) (zeroPeer p) peer-all (λ e. peer-not e ∙ sym e)
@@ -303,8 +329,21 @@ module _ (explicit joined clock cap2 cap3 : ℕ) (t : TopicRecord) where
   topic-all : zeroTopic t ≡ true → topicOk 0 explicit joined clock cap2 cap3 t ≡ zeroTopic t
   unfolding topicOk topicRanges emptyTopicOk outsideOk retainedOk memberOk timesOk zeroTopic
   topic-all e =
-      let q = all8 (eqb (t .p2) 0) (eqb (t .p3) 0) (eqb (t .p4) 0) (eqb (t .p3b) 0) (eqb (t .subscribed) 0) (eqb (t .member) 0) (eqb (t .graft) 0) (eqb (t .mesh) 0) e in
-      rw (eqb-true (t .p2) 0 (q .0), eqb-true (t .p3) 0 (q .1), eqb-true (t .p4) 0 (q .2), eqb-true (t .p3b) 0 (q .3), eqb-true (t .subscribed) 0 (q .4), eqb-true (t .member) 0 (q .5), eqb-true (t .graft) 0 (q .6), eqb-true (t .mesh) 0 (q .7), leb·zero cap2, leb·zero cap3, leb·zero clock) refl
+      let q = all8 (eqb (t .p2) 0) (eqb (t .p3) 0) (eqb (t .p4) 0) (eqb (t .p3b) 0) (eqb (t .subscribed) 0) (eqb (t .member) 0)
+      (eqb (t .graft) 0) (eqb (t .mesh) 0) e in
+      rw (
+        eqb-true (t .p2) 0 (q .0),
+        eqb-true (t .p3) 0 (q .1),
+        eqb-true (t .p4) 0 (q .2),
+        eqb-true (t .p3b) 0 (q .3),
+        eqb-true (t .subscribed) 0 (q .4),
+        eqb-true (t .member) 0 (q .5),
+        eqb-true (t .graft) 0 (q .6),
+        eqb-true (t .mesh) 0 (q .7),
+        leb·zero cap2,
+        leb·zero cap3,
+        leb·zero clock,
+      ) refl
 
   pub zero-topic-is : topicOk 0 explicit joined clock cap2 cap3 t ≡ zeroTopic t
   zero-topic-is = by-test (topicOk 0 explicit joined clock cap2 cap3 t ≡ zeroTopic t) (zeroTopic t) topic-all (λ e. topic-not e ∙ sym e)
@@ -341,7 +380,8 @@ module _ (st : State) (s : ℕ) where
   unfolding zeroTopicAt
   zero-told t u r e eu = e ∙ ap zeroTopic eu
 
-  pub zeros-are : peerIn st s .status ≡ 0 → zeroPeer (peerIn st s) ≡ true → (b : Bool) → b ≡ every topicCount (zeroTopicAt st s) → b ≡ slotOk st s
+  pub zeros-are : peerIn st s .status ≡ 0 → zeroPeer (peerIn st s) ≡ true → (b : Bool) → b ≡ every topicCount (zeroTopicAt st s) → b
+      ≡ slotOk st s
   unfolding slotOk topicOkAt zeroTopicAt
   zeros-are none e b eb =
       let p = peerIn st s in
@@ -359,18 +399,21 @@ module _ (st : State) where
   pub clock-fails : maxTime < st .clock → false ≡ valid st
   unfolding valid
   clock-fails h =
-      sym (rw (lt-leb (st .clock) maxTime h) (second (acceptedCodes (st .codes)) (every topicCount (joinedOk st)) (every slotCount (slotOk st)) (every slotCount (newId st))))
+      sym (rw (lt-leb (st .clock) maxTime h)
+      (second (acceptedCodes (st .setup .edition) (st .codes)) (every topicCount (joinedOk st)) (every slotCount (slotOk st))
+      (every slotCount (newId st))))
 
   pub clock-passes :
       st .clock ≤ maxTime →
       (p j s i : Bool) →
-      p ≡ acceptedCodes (st .codes) →
+      p ≡ acceptedCodes (st .setup .edition) (st .codes) →
       j ≡ every topicCount (joinedOk st) →
       s ≡ every slotCount (slotOk st) →
       i ≡ every slotCount (newId st) →
       p && j && s && i ≡ valid st
   unfolding valid
-  clock-passes h p j s i ep ej es ei = rw (ep, ej, es, ei, le-leb (st .clock) maxTime h) (pass (acceptedCodes (st .codes)) _ _ _)
+  clock-passes h p j s i ep ej es ei =
+      rw (ep, ej, es, ei, le-leb (st .clock) maxTime h) (pass (acceptedCodes (st .setup .edition) (st .codes)) _ _ _)
     where
       pass : (p j s i : Bool) → p && j && s && i ≡ p && true && j && s && i
       pass true j s i = refl

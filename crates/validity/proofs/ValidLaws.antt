@@ -6,20 +6,19 @@ use mathlib.Core.Path.{_≡_, refl, ap}
 use mathlib.Core.Bool.{Bool, true, false, not, _&&_}
 use lib.ListN.{length, getD}
 use lib.Seq.{ext-getD}
-use lib.IntN.{natAbs}
 use lib.Dec.{eqb, leb}
 use borrow.Author.Tests.{le-leb, leb-true, eq-eqb, ne-eqb, eqb-true, eqb-false, not-true, not-false}
 use Rattle.index.specs.Index.{every}
 use Rattle.index.proofs.Index.{both, every-at, every-by}
 use Rattle.index.proofs.Flags.{all5, by-test}
-use Rattle.varint.specs.Codes.{numberOf}
-use Rattle.varint.proofs.CodeLaws.{code-size}
-use Rattle.params.specs.Check.{acceptedCodes}
-use Rattle.params.proofs.ParamLaws.{topic}
+use Rattle.params.proofs.ParamLaws.{Accepts, topic}
 use Rattle.records.specs.declared.Peer.{Peer}
 use Rattle.records.specs.declared.TopicRecord.{TopicRecord}
-use Rattle.records.specs.Records.{State, place, noPeer, noTopic, codeIn, joinedIn, peerIn, topicIn, isEmpty, isRetained, slotCount, topicCount}
-use Rattle.validity.specs.Valid.{maxTime, maxEnd, maxRetain, maxId, peerRanges, endsUpTo, idOk, zeroPeer, emptyOk, retainOk, peerOk, topicRanges, zeroTopic, emptyTopicOk, outsideOk, retainedOk, memberOk, timesOk, topicOk, topicParam, cap2, cap3, joinedOk, topicOkAt, slotOk, apart, newId, valid}
+use Rattle.records.specs.Records.{State, place, noPeer, noTopic, joinedIn, peerIn, topicIn, isEmpty, isRetained, slotCount}
+use Rattle.records.specs.Records.{topicCount}
+use Rattle.validity.specs.Valid.{maxTime, maxEnd, maxRetain, maxId, peerRanges, endsUpTo, idOk, zeroPeer, emptyOk, retainOk, peerOk}
+use Rattle.validity.specs.Valid.{topicRanges, zeroTopic, emptyTopicOk, outsideOk, retainedOk, memberOk, timesOk, topicOk}
+use Rattle.validity.specs.Valid.{cap2, cap3, joinedOk, topicOkAt, slotOk, apart, newId, valid}
 use Rattle.validity.proofs.Conditions.{all4, all6, all8, all9, then, then-by, else, else-by}
 
 -- ---- a peer's record
@@ -213,7 +212,8 @@ module _ (status explicit joined clock c2 c3 : ℕ) where
         inside = λ h.
             let z =
             all4 (eqb status 1) (eqb (t .subscribed) 1) (eqb explicit 0) (eqb joined 1)
-            (then (eqb (t .member) 1) (eqb status 1 && eqb (t .subscribed) 1 && eqb explicit 0 && eqb joined 1) (q .4) (eq-eqb (t .member) 1 h)) in
+            (then (eqb (t .member) 1) (eqb status 1 && eqb (t .subscribed) 1 && eqb explicit 0 && eqb joined 1) (q .4)
+            (eq-eqb (t .member) 1 h)) in
             (eqb-true status 1 (z .0), eqb-true (t .subscribed) 1 (z .1), eqb-true explicit 0 (z .2), eqb-true joined 1 (z .3));
         times = leb-true (t .graft + t .mesh) clock (q .5);
       }
@@ -277,7 +277,7 @@ FitsAt st s status explicit t =
     TopicFacts status explicit (joinedIn st t) (st .clock) (cap2 st t) (cap3 st t) (topicIn st (place s t))
 
 pub record Facts (st : State) : Type 0 where
-  pub params : acceptedCodes (st .codes) ≡ true
+  pub params : Accepts (st .setup .edition) (st .codes)
   pub clock : st .clock ≤ maxTime
   pub joined : (t : ℕ) → t < topicCount → joinedIn st t ≤ 1
   pub peer : (s : ℕ) → s < slotCount → PeerFacts (peerIn st s)
@@ -311,14 +311,16 @@ valid-facts st e =
     s < slotCount →
     (peerOk (peerIn st s) ≡ true)
     × (every topicCount (topicOkAt st s (peerIn st s .status) (peerIn st s .explicit)) ≡ true) =
-    λ s h. both (peerOk (peerIn st s)) (every topicCount (topicOkAt st s (peerIn st s .status) (peerIn st s .explicit))) (every-at (slotOk st) slotCount s (q .3) h) in
+    λ s h. both (peerOk (peerIn st s)) (every topicCount (topicOkAt st s (peerIn st s .status) (peerIn st s .explicit)))
+    (every-at (slotOk st) slotCount s (q .3) h) in
     record {
-      params = q .0;
+      params = record { passes = q .0 };
       clock = leb-true (st .clock) maxTime (q .1);
       joined = λ t h. leb-true (joinedIn st t) 1 (every-at (joinedOk st) 8 t (q .2) h);
       peer = λ s h. peer-facts (peerIn st s) (slot s h .0);
       topic = λ s t h k.
-          topic-facts (peerIn st s .status) (peerIn st s .explicit) (joinedIn st t) (st .clock) (cap2 st t) (cap3 st t) (topicIn st (place s t))
+          topic-facts (peerIn st s .status) (peerIn st s .explicit) (joinedIn st t) (st .clock) (cap2 st t) (cap3 st t)
+          (topicIn st (place s t))
           (every-at (topicOkAt st s (peerIn st s .status) (peerIn st s .explicit)) 8 t (slot s h .1) k);
       ids = λ s k h l.
           apart-is (peerIn st s .id) (peerIn st k .id)
@@ -331,24 +333,13 @@ facts-valid st f =
     let j : every topicCount (joinedOk st) ≡ true = every-by (joinedOk st) 8 (λ t h. le-leb (joinedIn st t) 1 (f .joined t h)) in
     let topics : (s : ℕ) → s < slotCount → every topicCount (topicOkAt st s (peerIn st s .status) (peerIn st s .explicit)) ≡ true =
     λ s h. every-by (topicOkAt st s (peerIn st s .status) (peerIn st s .explicit)) 8 (λ t k.
-    topic-holds (peerIn st s .status) (peerIn st s .explicit) (joinedIn st t) (st .clock) (cap2 st t) (cap3 st t) (topicIn st (place s t)) (f .topic s t h k)) in
+    topic-holds (peerIn st s .status) (peerIn st s .explicit) (joinedIn st t) (st .clock) (cap2 st t) (cap3 st t) (topicIn st (place s t))
+    (f .topic s t h k)) in
     let p : every slotCount (slotOk st) ≡ true =
     every-by (slotOk st) slotCount (λ s h. rw (peer-holds (peerIn st s) (f .peer s h), topics s h)) in
     let i : every slotCount (newId st) ≡ true =
     every-by (newId st) slotCount (λ s h.
     every-by (λ j. apart (peerIn st s .id) (peerIn st j .id)) s (λ k l. apart-by (peerIn st s .id) (peerIn st k .id) (f .ids s k h l))) in
-    rw (f .params, le-leb (st .clock) maxTime (f .clock), j, p, i)
+    rw (f .params .passes, le-leb (st .clock) maxTime (f .clock), j, p, i)
 
 -- ---- what the parameters add
--- a cap is at most 10^6, and so are the counters
-pub cap2-most : (st : State) → Facts st → (t : ℕ) → t < topicCount → cap2 st t ≤ 1000000
-unfolding topicParam codeIn
-cap2-most st f t h = topic (st .codes) (f .params) t h .p2Cap-most
-
-pub cap3-most : (st : State) → Facts st → (t : ℕ) → t < topicCount → cap3 st t ≤ 1000000
-unfolding topicParam codeIn
-cap3-most st f t h = topic (st .codes) (f .params) t h .p3Cap-most
-
--- P5 lies within 10^9 either way
-pub p5-size : (p : Peer) → PeerFacts p → natAbs (numberOf (p .p5)) ≤ 1000000000
-p5-size p f = rw (code-size (p .p5)) (omega (arith, f .p5))

@@ -1,14 +1,15 @@
 -- The parts of test 12's tests of a topic record in the order in which the code asks them, and what its walks rely on. No rule stands here:
 -- each test is a part of a definition of Valid.antt, and together they are `topicOk` (proofs/OrderLaws.antt).
-use Prim.Native.Nat.{ℕ, _<_, _%_}
+use Prim.Native.Nat.{ℕ, _<_}
 use mathlib.Core.Path.{_≡_}
-use mathlib.Core.Bool.{Bool, true, false, _&&_}
+use mathlib.Core.Bool.{Bool, true, _&&_}
 use mathlib.Core.List.{List}
-use lib.Dec.{leb, eqb}
+use lib.Dec.{leb}
 use lib.ListN.{getD}
 use Rattle.records.specs.declared.TopicRecord.{TopicRecord}
 use Rattle.records.specs.Records.{State, topicCount, place, peerIn, topicIn}
-use Rattle.validity.specs.Valid.{maxTime, maxEnd, endsUpTo, zeroTopic, emptyTopicOk, outsideOk, retainedOk, memberOk, timesOk, cap2, cap3}
+use Rattle.validity.specs.Valid.{maxTime, maxEnd, endsUpTo, zeroTopic, emptyTopicOk, outsideOk, retainedOk, memberOk, timesOk, cap2}
+use Rattle.validity.specs.Valid.{cap3}
 
 -- the ranges of the counters, and of the flags and times
 unfoldable pub counterRanges : (cap2 cap3 : ℕ) → TopicRecord → Bool

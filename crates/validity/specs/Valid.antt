@@ -1,6 +1,6 @@
 -- When tables are a router's (01, answer 12: "Tables are a router's if .."), sentence by sentence. A change of a range or of a rule is made
 -- here and in src/valid.rt; proofs/ValidLaws.antt says the same in plain facts.
-use Prim.Native.Nat.{ℕ, _+_, _*_, _/_}
+use Prim.Native.Nat.{ℕ, _+_, _*_}
 use mathlib.Core.Bool.{Bool, _&&_, _||_, not}
 use lib.ListN.{getD}
 use lib.Dec.{eqb, leb}
@@ -8,6 +8,7 @@ use Rattle.index.specs.Index.{every}
 use Rattle.params.specs.Check.{acceptedCodes}
 use Rattle.records.specs.declared.Peer.{Peer}
 use Rattle.records.specs.declared.TopicRecord.{TopicRecord}
+use Rattle.varint.specs.Codes.{magnitude}
 use Rattle.records.specs.Records.{State, slotCount, topicCount, place, codeIn, joinedIn, peerIn, topicIn, isEmpty, isRetained}
 use Rattle.records.specs.Parameters.{p2CapAt, p3CapAt}
 
@@ -128,7 +129,7 @@ topicOk status explicit joined clock cap2 cap3 t =
 -- ---- the tables, by slot and topic
 -- the magnitude of topic t's j-th parameter: "19 general, then 16 per topic"
 unfoldable pub topicParam : State → ℕ → ℕ → ℕ
-topicParam st t j = (codeIn st (19 + 16 * t + j) + 1) / 2
+topicParam st t j = magnitude (codeIn st (19 + 16 * t + j))
 
 -- P2 cap and P3 cap
 abbrev pub cap2 : State → ℕ → ℕ
@@ -160,8 +161,8 @@ newId st s = every s (λ k. apart (peerIn st s .id) (peerIn st k .id))
 -- the tables are a router's
 unfoldable pub valid : State → Bool
 valid st =
-    -- "if the sheet passes 9"
-    acceptedCodes (st .codes)
+    -- "if the sheet passes 9", by the rules of its edition (02, order 14), which is one that there is
+    acceptedCodes (st .setup .edition) (st .codes)
     && leb (st .clock) maxTime
     && every topicCount (joinedOk st)
     && every slotCount (slotOk st)

@@ -10,7 +10,8 @@ ghost use Rattle.index.specs.Index.{every};
 ghost use Rattle.records.specs.Records.{peerIn, slotCount, topicCount};
 ghost use Rattle.layout.specs.View.{stateOf, cellCount};
 ghost use Rattle.validity.specs.Order.{counterRanges, flagRanges, restOk, smallOk, Small, zeroTopicAt, Caps};
-ghost use Rattle.validity.specs.Valid.{maxTime, maxEnd, peerRanges, endsUpTo, zeroPeer, peerOk, zeroTopic, memberOk, topicOk, topicParam, joinedOk, topicOkAt, slotOk, valid};
+ghost use Rattle.validity.specs.Valid.{maxTime, maxEnd, peerRanges, endsUpTo, zeroPeer, peerOk, zeroTopic, memberOk, topicOk};
+ghost use Rattle.validity.specs.Valid.{topicParam, joinedOk, topicOkAt, slotOk, valid};
 use crate::ids::ids_distinct;
 use records::Peer;
 use records::SLOTS;
@@ -197,8 +198,8 @@ fn topic_ok(
     rest_ok(status, explicit, joined, clock, t)
 }
 
-// A connected peer's record for a topic, where the ranges that depend on no parameter are known (`is_small`): outside the mesh, as most are,
-// the caps are all that is left to ask.
+// A connected peer's record for a topic, where the ranges that depend on no parameter are known (`is_small`): outside the mesh, as most
+// are, the caps are all that is left to ask.
 fn small_topic_ok(
     explicit: u64,
     joined: u64,
@@ -230,7 +231,7 @@ fn topic_param(table: &[u64], t: usize, j: usize) -> u64
     requires { ⌜ (length (now table) ≡ cellCount) × ((t < topicCount) × (j < 16)) ⌝ }
     ensures { λ r. ⌜ r ≡ topicParam (stateOf (now (table .entry))) t j ⌝ }
 {
-    varint::code_size(layout::load_code(table, TOPIC_PARAMS + PER_TOPIC * t + j))
+    varint::magnitude(layout::load_code(table, TOPIC_PARAMS + PER_TOPIC * t + j))
 }
 
 fn topic_at(table: &[u64], slot: usize, status: u64, explicit: u64, t: usize) -> bool
@@ -272,8 +273,8 @@ fn caps(table: &[u64], j: usize) -> [u64; TOPICS]
     r
 }
 
-// Whether the backoff ends, the counters of P4 and P3b and the subscribed flags of a slot are surely in their ranges. No number is above the
-// union of its bits with others', and that is nearly always small enough, so that one test does for eight numbers.
+// Whether the backoff ends, the counters of P4 and P3b and the subscribed flags of a slot are surely in their ranges. No number is above
+// the union of its bits with others', and that is nearly always small enough, so that one test does for eight numbers.
 fn is_small(table: &[u64], slot: usize) -> bool
     requires { ⌜ (length (now table) ≡ cellCount) × (slot < slotCount) ⌝ }
     ensures { λ r. ⌜ (r ≡ true → Small (stateOf (now (table .entry))) slot) ⌝ }
@@ -304,7 +305,10 @@ fn small_topics(
     slot: usize,
     explicit: u64,
 ) -> bool
-    requires { ⌜ (length (now table) ≡ cellCount) × ((slot < slotCount) × (Caps (stateOf (now table)) (now caps2) (now caps3) × (Small (stateOf (now table)) slot × (stateOf (now table) .clock ≤ maxTime)))) ⌝ }
+    requires { ⌜ (length (now table) ≡ cellCount)
+        × ((slot < slotCount)
+        × (Caps (stateOf (now table)) (now caps2) (now caps3)
+        × (Small (stateOf (now table)) slot × (stateOf (now table) .clock ≤ maxTime)))) ⌝ }
     ensures { λ r. ⌜ r ≡ every topicCount (topicOkAt (stateOf (now (table .entry))) slot 1 explicit) ⌝ }
 {
     let clock = layout::load_clock(table);
@@ -332,7 +336,10 @@ fn other_slot(table: &[u64], slot: usize) -> bool
 }
 
 fn connected_slot(table: &[u64], caps2: &[u64; TOPICS], caps3: &[u64; TOPICS], slot: usize) -> bool
-    requires { ⌜ (length (now table) ≡ cellCount) × ((slot < slotCount) × (Caps (stateOf (now table)) (now caps2) (now caps3) × ((stateOf (now table) .clock ≤ maxTime) × (peerIn (stateOf (now table)) slot .status ≡ 1)))) ⌝ }
+    requires { ⌜ (length (now table) ≡ cellCount)
+        × ((slot < slotCount)
+        × (Caps (stateOf (now table)) (now caps2) (now caps3)
+        × ((stateOf (now table) .clock ≤ maxTime) × (peerIn (stateOf (now table)) slot .status ≡ 1)))) ⌝ }
     ensures { λ r. ⌜ r ≡ slotOk (stateOf (now (table .entry))) slot ⌝ }
 {
     if !is_small(table, slot) {
@@ -371,7 +378,8 @@ fn empty_slot(table: &[u64], slot: usize) -> bool
 }
 
 fn slot_ok(table: &[u64], caps2: &[u64; TOPICS], caps3: &[u64; TOPICS], slot: usize) -> bool
-    requires { ⌜ (length (now table) ≡ cellCount) × ((slot < slotCount) × (Caps (stateOf (now table)) (now caps2) (now caps3) × (stateOf (now table) .clock ≤ maxTime))) ⌝ }
+    requires { ⌜ (length (now table) ≡ cellCount)
+        × ((slot < slotCount) × (Caps (stateOf (now table)) (now caps2) (now caps3) × (stateOf (now table) .clock ≤ maxTime))) ⌝ }
     ensures { λ r. ⌜ r ≡ slotOk (stateOf (now (table .entry))) slot ⌝ }
 {
     let status = layout::load_status(table, slot);
@@ -428,7 +436,8 @@ pub fn is_router(table: &[u64]) -> bool
     if MAX_TIME < layout::load_clock(table) {
         return false;
     }
-    let params = params::accepts_codes(layout::codes(table));
+    let setup = layout::load_setup(table);
+    let params = params::accepts_codes(setup.edition, layout::codes(table));
     let joined = joined_ok(table);
     let slots = slots_ok(table);
     let ids = ids_distinct(table);

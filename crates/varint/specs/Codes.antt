@@ -20,3 +20,7 @@ codeOf (negsuc m) = 2 * m + 1
 
 abbrev pub numberOf : ℕ → ℤ
 numberOf u = signedOf (eqb (u % 2) 1) (u / 2)
+
+-- the magnitude of the number that a code stands for
+abbrev pub magnitude : ℕ → ℕ
+magnitude code = (code + 1) / 2

@@ -2,11 +2,11 @@
 // The definitions are specs/Groups.antt and specs/Codes.antt. The reader and the writer are recursive, so that one law holds for every
 // width; another width is another `top` of `read_up_to`.
 ghost use mathlib.Core.Path.{_≡_};
-ghost use Prim.Native.Nat.{_+_, _/_, _≤_, _<_, _^_};
+ghost use Prim.Native.Nat.{_≤_, _<_, _^_};
 ghost use lib.IntN.{natAbs};
 ghost use lib.Signed.{mag};
 ghost use Rattle.varint.specs.Groups.{readAt, afterMore, lastGroup, putOf};
-ghost use Rattle.varint.specs.Codes.{codeOf, numberOf, negative, signedOf};
+ghost use Rattle.varint.specs.Codes.{codeOf, numberOf, negative, signedOf, magnitude as magnitudeOf};
 
 // What stands at a place: a number and the place after it, or no number in its shortest form.
 pub enum Read {
@@ -143,16 +143,16 @@ pub fn number_of(u: u64) -> i64
 }
 
 // The magnitude of n.
-pub fn magnitude(n: i64) -> u64
+pub fn nat_abs(n: i64) -> u64
     ensures { λ r. ⌜ r ≡ natAbs n ⌝ }
 {
     let m = half(n);
     if is_negative(n) { m + 1 } else { m }
 }
 
-// The magnitude of the number whose code u is (`code-size` of proofs/CodeLaws.antt).
-pub fn code_size(u: u64) -> u64
-    ensures { λ r. ⌜ r ≡ (u + 1) / 2 ⌝ }
+// The magnitude of the number whose code u is, without a sum that could wrap (`code-size` of proofs/CodeLaws.antt).
+pub fn magnitude(u: u64) -> u64
+    ensures { λ r. ⌜ r ≡ magnitudeOf u ⌝ }
 {
     u / 2 + u % 2
 }

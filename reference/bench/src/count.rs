@@ -10,7 +10,7 @@ use reference::event::{Event, CALL_NAMES};
 use reference::router::{Answer, ACTION_LIST};
 use std::process::Command;
 
-#[cfg(proved)]
+#[cfg(linked)]
 use crate::proved;
 
 /// A call of the plain router that is counted.
@@ -21,7 +21,7 @@ fn measured_plain(router: &mut Box<plain::Router>, event: &Event, list: &mut [u3
 }
 
 /// A call of the proved library that is counted.
-#[cfg(proved)]
+#[cfg(linked)]
 #[no_mangle]
 #[inline(never)]
 fn measured_proved(router: &mut proved::Router, event: &Event, list: &mut [u32]) -> Answer {
@@ -51,7 +51,7 @@ fn run<T: Timed>(
 pub fn only(load: &Load, kind: u64, which: &str) {
     match which {
         "plain" => run(load, plain::Router::new(&load.params), kind, measured_plain),
-        #[cfg(proved)]
+        #[cfg(linked)]
         "proved" => run(load, proved::Router::new(&load.params), kind, measured_proved),
         _ => panic!("plain or proved"),
     }

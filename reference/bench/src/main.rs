@@ -12,7 +12,7 @@ use std::time::Instant;
 
 mod count;
 mod messages;
-#[cfg(proved)]
+#[cfg(linked)]
 mod proved;
 
 /// How many rounds are timed where no number is given.
@@ -123,13 +123,13 @@ fn print_times(rounds: usize) {
     let plain = filled(plain::Router::new(&load.params), &load);
     let plain_times = means(&load.events, &best_times(&plain, &load.events, rounds), clock);
     let plain_test = time(|| black_box(&plain).is_valid());
-    #[cfg(proved)]
+    #[cfg(linked)]
     let (proved_times, proved_test) = {
         let proved = filled(proved::Router::new(&load.params), &load);
         let times = means(&load.events, &best_times(&proved, &load.events, rounds), clock);
         (times, time(|| black_box(&proved).is_valid()))
     };
-    #[cfg(not(proved))]
+    #[cfg(not(linked))]
     let (proved_times, proved_test) = (vec![f64::NAN; CALL_NAMES.len()], f64::NAN);
     println!("64 connected peers, nanoseconds a call, test 12 included; its share of the proved call in the last column");
     println!(

@@ -24,12 +24,14 @@ struct Timed {
 const PLAIN: Timed =
     Timed { read: plain_message::read_message, write: plain_message::write_message };
 
-#[cfg(proved)]
+#[cfg(linked)]
 const PROVED: Option<Timed> = Some(Timed {
     read: hivepadlet::messages::read_message,
-    write: hivepadlet::messages::write_message,
+    write: |names, Lists { actions, topics, changes }, buffer| {
+        hivepadlet::messages::write_message(names, actions, topics, changes, buffer)
+    },
 });
-#[cfg(not(proved))]
+#[cfg(not(linked))]
 const PROVED: Option<Timed> = None;
 
 /// Memory that is lent: a list of entries and a buffer.
@@ -104,7 +106,7 @@ fn measured_message_plain(line: &Line, lent: &mut Lent) -> u64 {
 }
 
 /// A message that is counted, by the proved library.
-#[cfg(proved)]
+#[cfg(linked)]
 #[no_mangle]
 #[inline(never)]
 fn measured_message_proved(line: &Line, lent: &mut Lent) -> u64 {
@@ -119,7 +121,7 @@ pub fn only(place: usize, which: &str) {
     for _ in 0..RUNS {
         black_box(match which {
             "plain" => measured_message_plain(line, &mut lent),
-            #[cfg(proved)]
+            #[cfg(linked)]
             "proved" => measured_message_proved(line, &mut lent),
             _ => panic!("plain or proved"),
         });

@@ -10,7 +10,7 @@ mod score;
 mod valid;
 
 use reference::event::{Call, Event, LAST_TIME, SLOTS};
-use reference::params::{general, Params, COUNT, TOPICS};
+use reference::params::{general, Edition, Params, COUNT, TOPICS};
 use reference::router::{Answer, Done, Refusal, ACTION_LIST, GRAFT, PRUNE};
 
 #[derive(Clone, Copy, PartialEq, Eq, Debug, Default)]
@@ -58,6 +58,7 @@ pub struct Router {
     /// Bit k: topic k is joined.
     pub joined: u8,
     /// The parameters, which all fit 32 bits.
+    pub edition: Edition,
     pub numbers: [i32; COUNT],
     pub peers: [Peer; SLOTS],
 }
@@ -82,6 +83,7 @@ impl Router {
         Box::new(Router {
             clock: 0,
             joined: 0,
+            edition: params.edition,
             numbers: params.numbers.map(|number| number as i32),
             peers: [Peer::default(); SLOTS],
         })

@@ -1,8 +1,7 @@
 //! The proved library behind the same interface as the plain router.
 
 use crate::Timed;
-use hivepadlet::cells::{Cells, CELLS};
-use hivepadlet::{number, value};
+use hivepadlet::{number, value, Cells, CELLS};
 use reference::event::{Call, Event};
 use reference::params::Params;
 use reference::router::{Answer, Done, Refusal, Why};
@@ -17,7 +16,8 @@ impl Router {
     /// A fresh router with parameters that are in order.
     pub fn new(params: &Params) -> Router {
         let mut table = Box::new([0; CELLS]);
-        let result = hivepadlet::fresh(&params.numbers, &mut table);
+        let result =
+            hivepadlet::fresh(&params.numbers, u64::from(params.edition.number()), &mut table);
         assert_eq!(number(result), 0, "accepted parameters");
         Router { table }
     }
@@ -30,7 +30,7 @@ impl Router {
 impl Timed for Router {
     fn call(&mut self, event: &Event, list: &mut [u32]) -> Answer {
         let mut why = [0; 6];
-        let result = hivepadlet::call(&mut self.table, event, &mut why, list);
+        let result = host_compare::linked::call(&mut self.table, event, &mut why, list);
         let why = matches!(event.call, Call::Score { .. }).then(|| parts(&why));
         answer_of(result, why)
     }

@@ -5,7 +5,7 @@ use bench::plain;
 use reference::coverage::Coverage;
 use reference::event::{Call, Event};
 use reference::generate::traces;
-use reference::params::{Params, TOPICS};
+use reference::params::{Edition, Params, TOPICS};
 use reference::random::Random;
 use reference::router::{Answer, Done, Peer, Router, Status, TopicRecord, Version, ACTION_LIST};
 use reference::text::{Line, Trace};
@@ -96,7 +96,7 @@ fn damage(router: &mut Router, random: &mut Random) {
     let index = random.below(147);
     let peer = &mut router.peers[slot];
     let record = &mut peer.topics[random.below(8)];
-    match random.below(17) {
+    match random.below(18) {
         0 => record.p2 = counter,
         1 => record.p3 = counter,
         2 => record.p4 = counter,
@@ -114,6 +114,7 @@ fn damage(router: &mut Router, random: &mut Random) {
         }
         13 => peer.explicit ^= true,
         14 => router.joined[random.below(8)] ^= true,
+        16 => router.params.edition = *random.pick(&Edition::ALL),
         15 => router.clock = time,
         _ => router.params.numbers[index] += random.between(-2, 2),
     }

@@ -4,7 +4,7 @@
 pub use hivepadlet::cells::*;
 
 use reference::groups::{code_from_signed, signed_from_code};
-use reference::params::{field_at, Params, GENERAL_COUNT, TOPICS, TOPIC_COUNT};
+use reference::params::{field_at, Edition, Params, GENERAL_COUNT, TOPICS, TOPIC_COUNT};
 use reference::router::{Peer, Router, Status, TopicRecord, Version};
 use std::fmt;
 
@@ -20,18 +20,21 @@ pub enum Spot {
     Clock,
     Joined(usize),
     Number(usize),
+    Edition,
     Peer { slot: usize, field: usize },
     Record { slot: usize, topic: usize, field: usize },
 }
 
-pub const REGIONS: [&str; 5] = ["clock", "joined flags", "parameters", "peers", "topic records"];
+pub const REGIONS: [&str; 6] =
+    ["clock", "joined flags", "parameters", "edition", "peers", "topic records"];
 
 impl Spot {
     pub fn of(cell: usize) -> Spot {
         match cell {
             CLOCK => Spot::Clock,
             JOINED..CODES => Spot::Joined(cell - JOINED),
-            CODES..PEERS => Spot::Number(cell - CODES),
+            CODES..EDITION => Spot::Number(cell - CODES),
+            EDITION => Spot::Edition,
             PEERS..RECORDS => {
                 let place = cell - PEERS;
                 Spot::Peer { slot: place / PEER_CELLS, field: place % PEER_CELLS }
@@ -50,8 +53,9 @@ impl Spot {
             Spot::Clock => 0,
             Spot::Joined(_) => 1,
             Spot::Number(_) => 2,
-            Spot::Peer { .. } => 3,
-            Spot::Record { .. } => 4,
+            Spot::Edition => 3,
+            Spot::Peer { .. } => 4,
+            Spot::Record { .. } => 5,
         }]
     }
 }
@@ -67,6 +71,7 @@ impl fmt::Display for Spot {
                     write!(out, "code of topic {} {}", rest / TOPIC_COUNT, field_at(index).name)
                 }
             },
+            Spot::Edition => write!(out, "edition"),
             Spot::Peer { slot, field } => match field.checked_sub(peer::BACKOFF_ENDS) {
                 None => write!(out, "slot {slot} {}", PEER_NAMES[field]),
                 Some(topic) => write!(out, "slot {slot} backoff end of topic {topic}"),
@@ -76,6 +81,15 @@ impl fmt::Display for Spot {
             }
         }
     }
+}
+
+/// An edition as its number, and back.
+pub fn edition_cell(edition: Edition) -> u64 {
+    u64::from(edition.number())
+}
+
+pub fn edition_of(number: u64) -> Option<Edition> {
+    Edition::ALL.into_iter().find(|&edition| edition_cell(edition) == number)
 }
 
 /// The counters of a router are never negative, so each is its own cell.
@@ -89,9 +103,10 @@ pub fn write(router: &Router, cells: &mut Cells) {
     for (cell, &joined) in cells[JOINED..CODES].iter_mut().zip(&router.joined) {
         *cell = u64::from(joined);
     }
-    for (cell, &number) in cells[CODES..PEERS].iter_mut().zip(&router.params.numbers) {
+    for (cell, &number) in cells[CODES..EDITION].iter_mut().zip(&router.params.numbers) {
         *cell = code_from_signed(number);
     }
+    cells[EDITION] = edition_cell(router.params.edition);
     let (peers, records) = cells[PEERS..].split_at_mut(RECORDS - PEERS);
     let peers = peers.chunks_exact_mut(PEER_CELLS);
     let records = records.chunks_exact_mut(TOPICS * RECORD_CELLS);
@@ -138,7 +153,8 @@ pub fn table_of(router: &Router) -> Box<Cells> {
 /// type for it, and so out of its range.
 pub fn router_of(cells: &Cells) -> Option<Router> {
     let numbers = std::array::from_fn(|index| signed_from_code(cells[CODES + index]));
-    let mut router = Router::unchecked(Params { numbers });
+    let edition = edition_of(cells[EDITION])?;
+    let mut router = Router::unchecked(Params { edition, numbers });
     router.clock = cells[CLOCK];
     for (topic, joined) in router.joined.iter_mut().enumerate() {
         *joined = flag(cells[JOINED + topic])?;
@@ -200,10 +216,11 @@ mod tests {
 
     #[test]
     fn regions_begin_where_the_crate_cells_says() {
-        assert_eq!((CODES, PEERS, RECORDS), (9, 156, 1244));
+        assert_eq!((CODES, PEERS, RECORDS), (9, 157, 1245));
         assert_eq!(Spot::of(155), Spot::Number(146));
-        assert_eq!(Spot::of(1243), Spot::Peer { slot: 63, field: 16 });
-        assert_eq!(Spot::of(5339), Spot::Record { slot: 63, topic: 7, field: 7 });
+        assert_eq!(Spot::of(156), Spot::Edition);
+        assert_eq!(Spot::of(1244), Spot::Peer { slot: 63, field: 16 });
+        assert_eq!(Spot::of(5340), Spot::Record { slot: 63, topic: 7, field: 7 });
     }
 
     #[test]

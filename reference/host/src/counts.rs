@@ -5,7 +5,7 @@ use crate::request::{Request, LONG_LISTS, ODD_PERMUTATIONS, SHORT_LISTS};
 use crate::stand_in::code;
 use reference::coverage::{Answers, Coverage};
 use reference::event::{CALL_NAMES, SLOTS};
-use reference::router::{Answer, Done, ACTION_LIST};
+use reference::router::{Answer, Done, Router, ACTION_LIST};
 use std::collections::BTreeMap;
 use std::fmt::Write;
 
@@ -55,6 +55,11 @@ impl Counts {
             self.lowest_score = self.lowest_score.min(score);
             self.highest_score = self.highest_score.max(score);
         }
+    }
+
+    /// The router at a run's start.
+    pub fn count_start(&mut self, router: &Router) {
+        self.coverage.count_made(&router.params);
     }
 
     /// A call and its answer alone.

@@ -5,7 +5,9 @@ use crate::cells::*;
 use crate::made::{LAST_BACKOFF_END, LAST_RETAIN_END, P3B_LIMIT, P4_P7_LIMIT};
 use reference::event::{LAST_TIME, P5_LIMIT, SLOTS};
 use reference::groups::code_from_signed;
-use reference::params::{field_at, general, topic, topic_index, Params, COUNT, FIRST_RULE, TOPICS};
+use reference::params::{
+    field_at, general, topic, topic_index, Edition, Params, COUNT, FIRST_RULE, TOPICS,
+};
 use reference::router::{Router, Status};
 
 /// Cells, and what is put there.
@@ -56,7 +58,7 @@ const EMPTY_TOPIC: [&str; RECORD_CELLS] = [
 /// The kind that tries no range's end.
 pub const LARGEST: &str = "any cell: 2^64 - 1";
 
-const OTHERS: [&str; 45] = [
+const OTHERS: [&str; 48] = [
     LARGEST,
     "clock: past 2^40",
     "clock: under a member's graft and mesh time",
@@ -64,6 +66,9 @@ const OTHERS: [&str; 45] = [
     "joined flag: 0 with a member",
     "parameter: under its lower limit",
     "parameter: over its upper limit",
+    "edition: 0",
+    "edition: 3",
+    "edition: 1 of parameters that only edition 2 takes",
     "empty record: status retained",
     "empty record: status 3",
     "status: 3",
@@ -116,6 +121,7 @@ pub fn all(router: &Router, largest: bool) -> Vec<Damage> {
     list.joined();
     list.limits();
     list.rules();
+    list.edition();
     for slot in 0..SLOTS {
         if router.peers[slot].status == Status::Empty {
             list.empty_record(slot);
@@ -190,6 +196,22 @@ impl Damages<'_> {
             let alone = params.first_broken() == Some(FIRST_RULE + rule);
             self.add_if(alone, RULES[rule], &cells);
         }
+    }
+
+    /// The editions are 1 and 2, and the parameters pass by the rules of theirs (order 14 of 02).
+    fn edition(&mut self) {
+        self.add("edition: 0", &[(EDITION, 0)]);
+        self.add("edition: 3", &[(EDITION, 3)]);
+        let mut params = self.router.params.clone();
+        params.numbers[general::D_SCORE] = params.general(general::D);
+        let second = params.clone().in_edition(Edition::Two);
+        let only_2 = second.first_broken().is_none()
+            && params.in_edition(Edition::One).first_broken().is_some();
+        let d_score = second.general(general::D_SCORE);
+        let kind = "edition: 1 of parameters that only edition 2 takes";
+        let first = (EDITION, edition_cell(Edition::One));
+        let most = (CODES + general::D_SCORE, code_from_signed(d_score));
+        self.add_if(only_2, kind, &[first, most]);
     }
 
     /// "Empty records are all zero".

@@ -7,7 +7,7 @@ pub mod damage;
 pub mod edges;
 pub mod lent;
 pub mod library;
-#[cfg(not(feature = "stand_in"))]
+#[cfg(linked)]
 pub mod linked;
 pub mod made;
 pub mod messages;
@@ -18,3 +18,7 @@ pub mod request;
 pub mod runs;
 pub mod stand_in;
 pub mod swept;
+
+/// What a comparison says where there is nothing to compare with.
+pub const UNLINKED: &str =
+    "libhost.a is not linked: build it with HIVEPADLET_LIB, the folder of it";

@@ -14,13 +14,13 @@ pub trait Library {
     fn ordinary(&self, numbers: &mut Numbers);
 
     /// 0 with the length, 9 with the index or rule, 10 with the place.
-    fn read(&self, bytes: &[u8], numbers: &mut Numbers) -> u64;
+    fn read(&self, bytes: &[u8], numbers: &mut Numbers, edition: &mut u64) -> u64;
 
-    /// 0 with the length, 8, or 9 with the index or rule.
-    fn write(&self, numbers: &Numbers, buffer: &mut [u8]) -> u64;
+    /// 0 with the length, 2, 8, or 9 with the index or rule.
+    fn write(&self, numbers: &Numbers, edition: u64, buffer: &mut [u8]) -> u64;
 
-    /// 0, or 9 with the index or rule.
-    fn fresh(&self, numbers: &Numbers, table: &mut Cells) -> u64;
+    /// 0, 2, or 9 with the index or rule.
+    fn fresh(&self, numbers: &Numbers, edition: u64, table: &mut Cells) -> u64;
 
     /// 1 if the table is a router's, else 0.
     fn is_router(&self, table: &Cells) -> u32;

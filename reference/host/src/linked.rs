@@ -3,11 +3,40 @@
 use crate::cells::Cells;
 use crate::library::{Library, Numbers, Why};
 use crate::request::Request;
-use reference::event::Call;
+use reference::event::{Call, Event};
 
 pub struct Linked;
 
+/// Makes an event's call. A score and its parts go to the lent numbers, with the answer 0 alone.
+pub fn call(table: &mut Cells, event: &Event, why: &mut Why, list: &mut [u32]) -> u64 {
+    let now = event.now;
+    match event.call {
+        Call::Connect { id, group, flags, ref name } => {
+            hivepadlet::connect(table, now, id, group, flags, name, list)
+        }
+        Call::Disconnect { id } => hivepadlet::disconnect(table, now, id, list),
+        Call::Join { topic } => hivepadlet::join(table, now, topic, list),
+        Call::Leave { topic } => hivepadlet::leave(table, now, topic, list),
+        Call::Subscribe { id, topic } => hivepadlet::subscribe(table, now, id, topic, list),
+        Call::Unsubscribe { id, topic } => hivepadlet::unsubscribe(table, now, id, topic, list),
+        Call::Graft { id, topic } => hivepadlet::graft(table, now, id, topic, list),
+        Call::Prune { id, topic, seconds } => {
+            hivepadlet::prune(table, now, id, topic, seconds, list)
+        }
+        Call::Delivery { id, topic, kind } => {
+            hivepadlet::deliver(table, now, id, topic, kind, list)
+        }
+        Call::SetP5 { id, value } => hivepadlet::rate(table, now, id, value, list),
+        Call::Heartbeat { topic, ask, ref permutation } => {
+            hivepadlet::heartbeat(table, now, topic, ask, &permutation[..], list)
+        }
+        Call::Decay => hivepadlet::decay(table, now, list),
+        Call::Score { id } => hivepadlet::score(table, now, id, why, list),
+    }
+}
+
 impl Library for Linked {
+    /// A request's permutation may have any length; an event's has 64 numbers.
     fn call(&self, request: &Request, table: &mut Cells, why: &mut Why, list: &mut [u32]) -> u64 {
         let event = &request.event;
         match event.call {
@@ -15,7 +44,7 @@ impl Library for Linked {
                 let slots = request.permutation(permutation);
                 hivepadlet::heartbeat(table, event.now, topic, ask, slots, list)
             }
-            _ => hivepadlet::call(table, event, why, list),
+            _ => call(table, event, why, list),
         }
     }
 
@@ -23,16 +52,16 @@ impl Library for Linked {
         hivepadlet::ordinary(numbers)
     }
 
-    fn read(&self, bytes: &[u8], numbers: &mut Numbers) -> u64 {
-        hivepadlet::read(bytes, numbers)
+    fn read(&self, bytes: &[u8], numbers: &mut Numbers, edition: &mut u64) -> u64 {
+        hivepadlet::read(bytes, numbers, edition)
     }
 
-    fn write(&self, numbers: &Numbers, buffer: &mut [u8]) -> u64 {
-        hivepadlet::write(numbers, buffer)
+    fn write(&self, numbers: &Numbers, edition: u64, buffer: &mut [u8]) -> u64 {
+        hivepadlet::write(numbers, edition, buffer)
     }
 
-    fn fresh(&self, numbers: &Numbers, table: &mut Cells) -> u64 {
-        hivepadlet::fresh(numbers, table)
+    fn fresh(&self, numbers: &Numbers, edition: u64, table: &mut Cells) -> u64 {
+        hivepadlet::fresh(numbers, edition, table)
     }
 
     fn is_router(&self, table: &Cells) -> u32 {

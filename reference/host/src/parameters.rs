@@ -7,11 +7,14 @@ use crate::library::{number, value, Library, Numbers};
 use crate::pair::Difference;
 use crate::stand_in::StandIn;
 use reference::generate::params as generate_params;
-use reference::params::{self, Params, COUNT, WRITE_BUFFER};
+use reference::params::{self, Edition, Params, COUNT};
 use reference::random::Random;
 
 /// The lengths of the buffers that parameters are written to.
-const BUFFERS: [usize; 8] = [0, 1, 734, 735, 736, 737, 800, 1500];
+const BUFFERS: [usize; 9] = [0, 1, 734, 735, 736, 737, 738, 800, 1500];
+
+/// Numbers that are no edition's.
+const NO_EDITIONS: [u64; 4] = [0, 3, 257, u64::MAX];
 
 /// Inputs of more bytes are long.
 const LONG: usize = 65_000;
@@ -26,17 +29,24 @@ pub struct Failure {
 
 /// The names that a comparison counts here.
 pub fn wanted() -> impl Iterator<Item = String> {
-    let reads = [0, 9, 10].map(|answer| format!("read: answer {answer}"));
-    let writes = BUFFERS.into_iter().flat_map(|length| {
-        let answers: &[u32] = if length < WRITE_BUFFER { &[8] } else { &[0, 9] };
-        answers.iter().map(move |answer| write_name(length, *answer))
+    let of_editions = Edition::ALL.into_iter().flat_map(|edition| {
+        let reads = [0, 9, 10].map(|answer| name("read", edition, answer));
+        let writes = BUFFERS.into_iter().flat_map(move |length| {
+            let answers: &[u32] = if length < edition.write_buffer() { &[8] } else { &[0, 9] };
+            answers.iter().map(move |answer| write_name(length, edition, *answer))
+        });
+        let fresh = [0, 9].map(|answer| name("fresh", edition, answer));
+        reads.into_iter().chain(writes).chain(fresh)
     });
-    let fresh = [0, 9].map(|answer| format!("fresh: answer {answer}"));
-    reads.into_iter().chain(writes).chain(fresh)
+    of_editions.chain(["write", "fresh"].map(|what| format!("{what}: no edition's number")))
 }
 
-fn write_name(length: usize, answer: u32) -> String {
-    format!("write: buffer of {length} bytes, answer {answer}")
+fn name(what: &str, edition: Edition, answer: u32) -> String {
+    format!("{what}: edition {}, answer {answer}", edition.number())
+}
+
+fn write_name(length: usize, edition: Edition, answer: u32) -> String {
+    name(&format!("write to {length} bytes"), edition, answer)
 }
 
 /// How many inputs were compared, and how many were left out for their length.
@@ -113,8 +123,9 @@ impl<L: Library> Sides<'_, L> {
         self.read(bytes)?;
         if let Ok((params, _)) = params::read_numbers(bytes) {
             self.write(&params, BUFFERS[place % BUFFERS.len()])?;
-            self.write(&params, WRITE_BUFFER + place % 2)?;
+            self.write(&params, params.edition.write_buffer() + place % 2)?;
             self.fresh(&params)?;
+            self.of_no_edition(&params.numbers, NO_EDITIONS[place % NO_EDITIONS.len()])?;
         }
         Ok(())
     }
@@ -134,23 +145,26 @@ impl<L: Library> Sides<'_, L> {
     fn read(&mut self, bytes: &[u8]) -> Result<(), Difference> {
         let mut lent: Lent<i64> = Lent::new(COUNT, self.next_salt());
         let mut other = *numbers_of(&mut lent);
-        let library = self.library.read(bytes, numbers_of(&mut lent));
-        let second = StandIn.read(bytes, &mut other);
+        let (mut told, mut expected) = (7, 7);
+        let library = self.library.read(bytes, numbers_of(&mut lent), &mut told);
+        let second = StandIn.read(bytes, &mut other, &mut expected);
         same_result("read", library, second)?;
         differ_if(lent.lent() != other, || "read: the numbers differ".to_string())?;
+        differ_if(told != expected, || "read: the editions differ".to_string())?;
         let refused = number(library) != 0;
         differ_if(!lent.guards_stand() || refused && !lent.stands_from(0), || {
             "read: the library wrote where it may not".to_string()
         })?;
-        self.counts.count(format!("read: answer {}", number(library)));
+        self.counts.count(name("read", Edition::of(bytes), number(library)));
         Ok(())
     }
 
     fn write(&mut self, params: &Params, length: usize) -> Result<(), Difference> {
         let mut lent: Lent<u8> = Lent::new(length, self.next_salt());
         let mut other = lent.lent().to_vec();
-        let library = self.library.write(&params.numbers, lent.lent_mut());
-        let second = StandIn.write(&params.numbers, &mut other);
+        let edition = cells::edition_cell(params.edition);
+        let library = self.library.write(&params.numbers, edition, lent.lent_mut());
+        let second = StandIn.write(&params.numbers, edition, &mut other);
         same_result("write", library, second)?;
         differ_if(lent.lent() != other, || "write: the bytes differ".to_string())?;
         let written = if number(library) == 0 { value(library) as usize } else { 0 };
@@ -160,15 +174,16 @@ impl<L: Library> Sides<'_, L> {
         if number(library) == 0 {
             self.read_again(params, &lent.lent()[..written])?;
         }
-        self.counts.count(write_name(length, number(library)));
+        self.counts.count(write_name(length, params.edition, number(library)));
         Ok(())
     }
 
     /// Each of reading and writing undoes the other.
     fn read_again(&mut self, params: &Params, bytes: &[u8]) -> Result<(), Difference> {
         let mut lent: Lent<i64> = Lent::new(COUNT, self.next_salt());
-        let result = self.library.read(bytes, numbers_of(&mut lent));
-        let same = lent.lent() == params.numbers;
+        let mut edition = 0;
+        let result = self.library.read(bytes, numbers_of(&mut lent), &mut edition);
+        let same = lent.lent() == params.numbers && edition == cells::edition_cell(params.edition);
         let whole = (number(result), value(result)) == (0, bytes.len() as u64);
         differ_if(!same || !whole, || "read does not undo write".to_string())
     }
@@ -179,8 +194,9 @@ impl<L: Library> Sides<'_, L> {
         let mut other = Box::new([0; CELLS]);
         other.copy_from_slice(lent.lent());
         let table = lent.lent_mut().try_into().expect("a table has its cells");
-        let library = self.library.fresh(&params.numbers, table);
-        let second = StandIn.fresh(&params.numbers, &mut other);
+        let edition = cells::edition_cell(params.edition);
+        let library = self.library.fresh(&params.numbers, edition, table);
+        let second = StandIn.fresh(&params.numbers, edition, &mut other);
         same_result("fresh", library, second)?;
         if lent.lent() != &other[..] {
             let cell = (0..CELLS).find(|&cell| lent.lent()[cell] != other[cell]).unwrap_or(0);
@@ -194,7 +210,24 @@ impl<L: Library> Sides<'_, L> {
         differ_if(!lent.guards_stand() || refused && !lent.stands_from(0), || {
             "fresh: the library wrote where it may not".to_string()
         })?;
-        self.counts.count(format!("fresh: answer {}", number(library)));
+        self.counts.count(name("fresh", params.edition, number(library)));
+        Ok(())
+    }
+
+    /// A number that is no edition's is 2, whatever else is wrong, and nothing is written.
+    fn of_no_edition(&mut self, numbers: &Numbers, edition: u64) -> Result<(), Difference> {
+        let mut table: Lent<u64> = Lent::new(CELLS, self.next_salt());
+        let cells = table.lent_mut().try_into().expect("a table has its cells");
+        same_result("fresh of no edition", self.library.fresh(numbers, edition, cells), 2)?;
+        let mut buffer: Lent<u8> = Lent::new(1, self.next_salt());
+        let result = self.library.write(numbers, edition, buffer.lent_mut());
+        same_result("write of no edition", result, 2)?;
+        let untouched = table.guards_stand() && table.stands_from(0);
+        let untouched = untouched && buffer.guards_stand() && buffer.stands_from(0);
+        differ_if(!untouched, || "of no edition: the library wrote".to_string())?;
+        for what in ["write", "fresh"] {
+            self.counts.count(format!("{what}: no edition's number"));
+        }
         Ok(())
     }
 }

@@ -53,6 +53,7 @@ pub fn compare<L: Library>(
     while made < calls {
         let mut source = source(random);
         let start = source.caller.router.clone();
+        counts.count_start(&start);
         let mut pair = Pair::new(library, &start);
         let mut run = Run { start, requests: Vec::new() };
         while made < calls {

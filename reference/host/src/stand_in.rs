@@ -9,6 +9,9 @@ use reference::router::{number, Answer, Done, Refusal, Router};
 
 pub struct StandIn;
 
+/// What comes back for an edition that there is not.
+const OUT_OF_RANGE: u64 = 2;
+
 /// An answer as the library gives it; a score goes another way.
 pub fn code(answer: &Answer) -> u64 {
     match answer {
@@ -41,23 +44,26 @@ impl Library for StandIn {
         *numbers = Params::ordinary().numbers;
     }
 
-    fn read(&self, bytes: &[u8], numbers: &mut Numbers) -> u64 {
+    fn read(&self, bytes: &[u8], numbers: &mut Numbers, edition: &mut u64) -> u64 {
         match params::read(bytes) {
             Ok((params, length)) => {
                 *numbers = params.numbers;
+                *edition = cells::edition_cell(params.edition);
                 packed(0, length)
             }
             Err(refusal) => code_of_refusal(refusal),
         }
     }
 
-    fn write(&self, numbers: &Numbers, buffer: &mut [u8]) -> u64 {
-        let params = Params { numbers: *numbers };
+    fn write(&self, numbers: &Numbers, edition: u64, buffer: &mut [u8]) -> u64 {
+        let Some(edition) = cells::edition_of(edition) else { return OUT_OF_RANGE };
+        let params = Params { edition, numbers: *numbers };
         params::write(&params, buffer).map_or_else(code_of_refusal, |length| packed(0, length))
     }
 
-    fn fresh(&self, numbers: &Numbers, table: &mut Cells) -> u64 {
-        match Router::new(Params { numbers: *numbers }) {
+    fn fresh(&self, numbers: &Numbers, edition: u64, table: &mut Cells) -> u64 {
+        let Some(edition) = cells::edition_of(edition) else { return OUT_OF_RANGE };
+        match Router::new(Params { edition, numbers: *numbers }) {
             Ok(router) => {
                 cells::write(&router, table);
                 packed(0, 0)

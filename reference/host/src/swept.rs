@@ -73,7 +73,7 @@ pub fn compare<L: Library>(
     Ok(tables)
 }
 
-/// Each of the 5340 cells alone, one past its range or at odds with the others.
+/// Each of the 5341 cells alone, one past its range or at odds with the others.
 const EVERY_CELL: &str = "every cell damaged by itself";
 
 /// The names that a comparison counts here.
@@ -197,7 +197,8 @@ impl<'a, L: Library> Sweep<'a, L> {
         let (from, to) = *random.pick(&[
             (cells::CLOCK, cells::JOINED),
             (cells::JOINED, cells::CODES),
-            (cells::CODES, cells::PEERS),
+            (cells::CODES, cells::EDITION),
+            (cells::EDITION, cells::PEERS),
             (cells::PEERS, cells::RECORDS),
             (cells::PEERS, cells::RECORDS),
             (cells::RECORDS, CELLS),

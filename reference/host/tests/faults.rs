@@ -20,9 +20,9 @@ type CallOf = fn(&Request, &mut Cells, &mut Why, &mut [u32]) -> u64;
 struct Faulty {
     call: CallOf,
     ordinary: fn(&mut Numbers),
-    read: fn(&[u8], &mut Numbers) -> u64,
-    write: fn(&Numbers, &mut [u8]) -> u64,
-    fresh: fn(&Numbers, &mut Cells) -> u64,
+    read: fn(&[u8], &mut Numbers, &mut u64) -> u64,
+    write: fn(&Numbers, u64, &mut [u8]) -> u64,
+    fresh: fn(&Numbers, u64, &mut Cells) -> u64,
     is_router: fn(&Cells) -> u32,
 }
 
@@ -33,14 +33,14 @@ impl Library for Faulty {
     fn ordinary(&self, numbers: &mut Numbers) {
         (self.ordinary)(numbers)
     }
-    fn read(&self, bytes: &[u8], numbers: &mut Numbers) -> u64 {
-        (self.read)(bytes, numbers)
+    fn read(&self, bytes: &[u8], numbers: &mut Numbers, edition: &mut u64) -> u64 {
+        (self.read)(bytes, numbers, edition)
     }
-    fn write(&self, numbers: &Numbers, buffer: &mut [u8]) -> u64 {
-        (self.write)(numbers, buffer)
+    fn write(&self, numbers: &Numbers, edition: u64, buffer: &mut [u8]) -> u64 {
+        (self.write)(numbers, edition, buffer)
     }
-    fn fresh(&self, numbers: &Numbers, table: &mut Cells) -> u64 {
-        (self.fresh)(numbers, table)
+    fn fresh(&self, numbers: &Numbers, edition: u64, table: &mut Cells) -> u64 {
+        (self.fresh)(numbers, edition, table)
     }
     fn is_router(&self, table: &Cells) -> u32 {
         (self.is_router)(table)
@@ -50,9 +50,9 @@ impl Library for Faulty {
 const SOUND: Faulty = Faulty {
     call: |request, table, why, list| StandIn.call(request, table, why, list),
     ordinary: |numbers| StandIn.ordinary(numbers),
-    read: |bytes, numbers| StandIn.read(bytes, numbers),
-    write: |numbers, buffer| StandIn.write(numbers, buffer),
-    fresh: |numbers, table| StandIn.fresh(numbers, table),
+    read: |bytes, numbers, edition| StandIn.read(bytes, numbers, edition),
+    write: |numbers, edition, buffer| StandIn.write(numbers, edition, buffer),
+    fresh: |numbers, edition, table| StandIn.fresh(numbers, edition, table),
     is_router: |table| StandIn.is_router(table),
 };
 
@@ -383,7 +383,7 @@ fn a_wrong_wait_after_a_backoff_is_seen() {
         (
             "our own GRAFT waits a millisecond too short",
             with_ends_in!(Heartbeat, |end, now| {
-                if end > 0 && now + 1 == end + SLACK {
+                if end > 0 && now == end + SLACK - 1 {
                     0
                 } else {
                     end
@@ -669,7 +669,7 @@ fn wrong_parameters_are_seen() {
         (
             "a place is one off",
             Faulty {
-                read: |bytes, numbers| match StandIn.read(bytes, numbers) {
+                read: |bytes, numbers, edition| match StandIn.read(bytes, numbers, edition) {
                     result if result % 256 == 10 => result + 256,
                     result => result,
                 },
@@ -679,8 +679,8 @@ fn wrong_parameters_are_seen() {
         (
             "refused numbers are given all the same",
             Faulty {
-                read: |bytes, numbers| {
-                    let result = StandIn.read(bytes, numbers);
+                read: |bytes, numbers, edition| {
+                    let result = StandIn.read(bytes, numbers, edition);
                     if result % 256 == 9 {
                         numbers[0] = 0;
                     }
@@ -692,13 +692,13 @@ fn wrong_parameters_are_seen() {
         (
             "a buffer of 734 bytes is taken",
             Faulty {
-                write: |numbers, buffer| {
+                write: |numbers, edition, buffer| {
                     let mut longer = [0; 735];
                     let length = buffer.len();
                     if length != 734 {
-                        return StandIn.write(numbers, buffer);
+                        return StandIn.write(numbers, edition, buffer);
                     }
-                    let result = StandIn.write(numbers, &mut longer);
+                    let result = StandIn.write(numbers, edition, &mut longer);
                     buffer.copy_from_slice(&longer[..length]);
                     result
                 },
@@ -708,8 +708,8 @@ fn wrong_parameters_are_seen() {
         (
             "bytes past what is written are cleared",
             Faulty {
-                write: |numbers, buffer| {
-                    let result = StandIn.write(numbers, buffer);
+                write: |numbers, edition, buffer| {
+                    let result = StandIn.write(numbers, edition, buffer);
                     if result % 256 == 0 {
                         buffer[(result / 256) as usize..].fill(0);
                     }
@@ -721,8 +721,8 @@ fn wrong_parameters_are_seen() {
         (
             "refused parameters are written",
             Faulty {
-                write: |numbers, buffer| {
-                    let result = StandIn.write(numbers, buffer);
+                write: |numbers, edition, buffer| {
+                    let result = StandIn.write(numbers, edition, buffer);
                     if result % 256 == 9 {
                         buffer[0] ^= 1;
                     }
@@ -732,11 +732,39 @@ fn wrong_parameters_are_seen() {
             },
         ),
         (
+            "the edition that was read is not told",
+            Faulty { read: |bytes, numbers, _| StandIn.read(bytes, numbers, &mut 0), ..SOUND },
+        ),
+        (
+            "edition 2 is written as edition 1",
+            Faulty { write: |numbers, _, buffer| StandIn.write(numbers, 1, buffer), ..SOUND },
+        ),
+        (
+            "edition 1 has the rule of edition 2",
+            Faulty {
+                fresh: |numbers, edition, table| {
+                    let result = StandIn.fresh(numbers, edition.max(2), table);
+                    if result == 0 {
+                        table[cells::EDITION] = edition;
+                    }
+                    result
+                },
+                ..SOUND
+            },
+        ),
+        (
+            "there is an edition 0",
+            Faulty {
+                fresh: |numbers, edition, table| StandIn.fresh(numbers, edition.max(1), table),
+                ..SOUND
+            },
+        ),
+        (
             "a fresh table keeps a cell",
             Faulty {
-                fresh: |numbers, table| {
+                fresh: |numbers, edition, table| {
                     let before = table[CELLS - 1];
-                    let result = StandIn.fresh(numbers, table);
+                    let result = StandIn.fresh(numbers, edition, table);
                     table[CELLS - 1] = before;
                     result
                 },
@@ -746,8 +774,8 @@ fn wrong_parameters_are_seen() {
         (
             "refused parameters clear the table",
             Faulty {
-                fresh: |numbers, table| {
-                    let result = StandIn.fresh(numbers, table);
+                fresh: |numbers, edition, table| {
+                    let result = StandIn.fresh(numbers, edition, table);
                     if result != 0 {
                         *table = [0; CELLS];
                     }

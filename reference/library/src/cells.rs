@@ -1,14 +1,15 @@
 //! The layout of the lent table (crate layout).
 
-use reference::event::SLOTS;
-use reference::params::{COUNT, TOPICS};
+use crate::{NUMBERS, SLOTS, TOPICS};
 
 /// How many numbers a table has, and where its regions begin.
-pub const CELLS: usize = 5340;
+pub const CELLS: usize = 5341;
 pub const CLOCK: usize = 0;
 pub const JOINED: usize = 1;
 pub const CODES: usize = JOINED + TOPICS;
-pub const PEERS: usize = CODES + COUNT;
+/// The set-up beside the numbers: the edition of the parameters.
+pub const EDITION: usize = CODES + NUMBERS;
+pub const PEERS: usize = EDITION + 1;
 pub const PEER_CELLS: usize = 17;
 pub const RECORDS: usize = PEERS + SLOTS * PEER_CELLS;
 pub const RECORD_CELLS: usize = 8;

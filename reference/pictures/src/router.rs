@@ -3,11 +3,9 @@
 
 pub use hivepadlet::Numbers;
 
-use hivepadlet::cells::{peer, peer_cell, record, record_cell, Cells, CELLS};
-use hivepadlet::{number, value, Why};
-use reference::event::{Call, Event, OUTBOUND_FLAG, SLOTS};
-use reference::params::COUNT;
-use reference::router::{ACTION_LIST, GRAFT, PRUNE};
+use hivepadlet::cells::{peer, peer_cell, record, record_cell};
+use hivepadlet::{number, value, Cells, ACTION_NUMBERS, CELLS, GRAFT, NUMBERS, OUTBOUND, PRUNE};
+use hivepadlet::{SLOTS, WHY_NUMBERS};
 
 /// All hubs speak of one topic.
 const TOPIC: u64 = 0;
@@ -20,7 +18,7 @@ const IGNORED: u32 = 11;
 
 /// The ordinary parameters, as the library gives them.
 pub fn ordinary() -> Numbers {
-    let mut numbers = [0; COUNT];
+    let mut numbers = [0; NUMBERS];
     hivepadlet::ordinary(&mut numbers);
     numbers
 }
@@ -53,70 +51,71 @@ pub struct Peer {
 
 pub struct Router {
     table: Box<Cells>,
-    list: [u32; ACTION_LIST],
+    list: [u32; ACTION_NUMBERS],
 }
 
 impl Router {
     pub fn new(numbers: &Numbers) -> Router {
         let mut table = Box::new([0; CELLS]);
-        let result = hivepadlet::fresh(numbers, &mut table);
+        let result = hivepadlet::fresh(numbers, hivepadlet::EDITION_1, &mut table);
         assert_eq!(result, 0, "the parameters were refused");
-        Router { table, list: [0; ACTION_LIST] }
+        Router { table, list: [0; ACTION_NUMBERS] }
     }
 
     pub fn connect(&mut self, time: u64, id: u32, group: u32, outbound: bool) {
         let (id, group) = (u64::from(id), u64::from(group));
-        let flags = if outbound { OUTBOUND_FLAG } else { 0 };
-        self.call(time, Call::Connect { id, group, flags, name: PROTOCOL.to_vec() });
+        let flags = if outbound { OUTBOUND } else { 0 };
+        self.done(|table, list| hivepadlet::connect(table, time, id, group, flags, PROTOCOL, list));
     }
 
     pub fn disconnect(&mut self, time: u64, id: u32) {
-        self.call(time, Call::Disconnect { id: u64::from(id) });
+        self.done(|table, list| hivepadlet::disconnect(table, time, u64::from(id), list));
     }
 
     pub fn join(&mut self, time: u64) {
-        self.call(time, Call::Join { topic: TOPIC });
+        self.done(|table, list| hivepadlet::join(table, time, TOPIC, list));
     }
 
     pub fn leave(&mut self, time: u64) -> Vec<Action> {
-        self.call(time, Call::Leave { topic: TOPIC })
+        self.done(|table, list| hivepadlet::leave(table, time, TOPIC, list))
     }
 
     pub fn subscribe(&mut self, time: u64, id: u32) {
-        self.call(time, Call::Subscribe { id: u64::from(id), topic: TOPIC });
+        self.done(|table, list| hivepadlet::subscribe(table, time, u64::from(id), TOPIC, list));
     }
 
     pub fn unsubscribe(&mut self, time: u64, id: u32) {
-        self.call(time, Call::Unsubscribe { id: u64::from(id), topic: TOPIC });
+        self.done(|table, list| hivepadlet::unsubscribe(table, time, u64::from(id), TOPIC, list));
     }
 
     pub fn graft(&mut self, time: u64, id: u32) -> Vec<Action> {
-        self.call(time, Call::Graft { id: u64::from(id), topic: TOPIC })
+        self.done(|table, list| hivepadlet::graft(table, time, u64::from(id), TOPIC, list))
     }
 
     pub fn prune(&mut self, time: u64, id: u32, seconds: u32) {
         let (id, seconds) = (u64::from(id), u64::from(seconds));
-        self.call(time, Call::Prune { id, topic: TOPIC, seconds });
+        self.done(|table, list| hivepadlet::prune(table, time, id, TOPIC, seconds, list));
     }
 
     pub fn deliver(&mut self, time: u64, id: u32, delivery: Delivery) {
         let (id, kind) = (u64::from(id), delivery as u64);
-        self.call(time, Call::Delivery { id, topic: TOPIC, kind });
+        self.done(|table, list| hivepadlet::deliver(table, time, id, TOPIC, kind, list));
     }
 
     pub fn heartbeat(&mut self, time: u64, ask: bool, permutation: &[u64]) -> Vec<Action> {
-        let (table, list) = (&mut self.table, &mut self.list);
-        let result = hivepadlet::heartbeat(table, time, TOPIC, u64::from(ask), permutation, list);
-        self.actions(result)
+        let ask = u64::from(ask);
+        self.done(|table, list| hivepadlet::heartbeat(table, time, TOPIC, ask, permutation, list))
     }
 
     pub fn decay(&mut self, time: u64) {
-        self.call(time, Call::Decay);
+        self.done(|table, list| hivepadlet::decay(table, time, list));
     }
 
     /// A connected peer's score, in 10^-9 points.
     pub fn score(&mut self, time: u64, id: u32) -> i64 {
-        let [.., score] = self.answer(time, Call::Score { id: u64::from(id) }).1;
+        let mut why = [0; WHY_NUMBERS];
+        self.done(|table, list| hivepadlet::score(table, time, u64::from(id), &mut why, list));
+        let [.., score] = why;
         score
     }
 
@@ -148,21 +147,10 @@ impl Router {
         (of_peer(peer::STATUS) != 0).then_some(seen)
     }
 
-    fn call(&mut self, now: u64, call: Call) -> Vec<Action> {
-        self.answer(now, call).0
-    }
-
-    /// A call's actions, and the score with its parts that only one call gives.
-    fn answer(&mut self, now: u64, call: Call) -> (Vec<Action>, Why) {
-        let mut why = [0; 6];
-        let event = Event { now, call };
-        let result = hivepadlet::call(&mut self.table, &event, &mut why, &mut self.list);
-        (self.actions(result), why)
-    }
-
-    /// The actions of an answer. A refusal would be a fault of the simulation,
+    /// Makes a call and gives its actions. A refusal would be a fault of the simulation,
     /// which makes no call that the rules refuse.
-    fn actions(&self, result: u64) -> Vec<Action> {
+    fn done(&mut self, call: impl FnOnce(&mut Cells, &mut [u32]) -> u64) -> Vec<Action> {
+        let result = call(&mut self.table, &mut self.list);
         let (number, count) = (number(result), value(result) as usize);
         assert!(number == DONE || number == IGNORED, "the router refused a call by {number}");
         self.list.chunks(3).take(count).map(action).collect()

@@ -2,16 +2,18 @@
 //! `compare_params FIRST-PROGRAM [COUNT] [SEED]`.
 
 use reference::generate::params as generate_params;
+use reference::params::{self, Edition, Params};
 use reference::random::Random;
-use reference::{child, command, params};
+use reference::{child, command};
 use std::collections::{BTreeMap, BTreeSet};
 use std::process::ExitCode;
 
 const COUNT: u64 = 24_000;
 const SEED: u64 = 20_261_115;
 
-/// Answer 9 names one of 147 numbers or of eight rules; a run meets them all.
-const PLACES: usize = params::COUNT + 8;
+/// Answer 9 names one of 147 numbers or of eight rules; a run meets them all, in
+/// both editions.
+const PLACES: usize = Edition::ALL.len() * (params::COUNT + 8);
 
 /// Longer inputs and outputs are shown by their start.
 const SHOWN: usize = 2000;
@@ -33,6 +35,7 @@ fn compare(arguments: &[String]) -> Result<bool, String> {
     let mut kinds = BTreeMap::new();
     let mut answers = BTreeMap::new();
     let mut broken = BTreeSet::new();
+    let mut second_alone = 0;
     for (place, input) in inputs.iter().enumerate() {
         let expected = params::show(&input.bytes);
         let got = child::run(program, &input.bytes);
@@ -40,17 +43,28 @@ fn compare(arguments: &[String]) -> Result<bool, String> {
             report(place, input, &expected, got);
             return Ok(false);
         }
+        let edition = Edition::of(&input.bytes);
         *kinds.entry(input.kind).or_insert(0) += 1;
-        *answers.entry(answer(&expected)).or_insert(0) += 1;
+        let answer = format!("{}, edition {}", answer(&expected), edition.number());
+        *answers.entry(answer).or_insert(0) += 1;
         if expected.starts_with("9 ") {
-            broken.insert(expected);
+            broken.insert((edition, expected));
         }
+        second_alone += usize::from(of_the_second_alone(&input.bytes));
     }
     print_counts("inputs", &kinds);
     print_counts("answer", &answers);
-    println!("places of answer 9: {} of {PLACES}", broken.len());
+    println!("accepted in edition 2, and refused with edition 1's rule: {second_alone}");
+    println!("places of answer 9 in both editions: {} of {PLACES}", broken.len());
     println!("compare_params: {} inputs, 0 differences", inputs.len());
-    Ok(broken.len() == PLACES)
+    Ok(broken.len() == PLACES && second_alone > 0)
+}
+
+/// Parameters that are good, and would not be so as edition 1.
+fn of_the_second_alone(bytes: &[u8]) -> bool {
+    let read = params::read(bytes).ok();
+    let as_first = |params: Params| params.in_edition(Edition::One).check();
+    read.is_some_and(|(params, _)| as_first(params).is_err())
 }
 
 /// The answer's number: the first word of the output.

@@ -2,10 +2,11 @@
 //! calls, the traces of the folder TRACES, are run in both programs. The meshes are
 //! counted from outside, by the calls and the lines printed. They reach D_hi + 2
 //! inbound members, and each alternative of the demand without the other. One more
-//! list needs the joint rule D_score + D_out ≤ D: both programs refuse it, and the
-//! second one, with the rule waived, breaks the demand.
+//! list needs the joint rule D_score + D_out ≤ D of edition 1: both programs refuse
+//! it, and the second one, with the rule waived, breaks the demand. In edition 2 that
+//! list is taken: one of the best goes, and the demand is kept.
 
-use reference::params::general;
+use reference::params::{general, Edition, FIRST_RULE, SCORE_RULE};
 use reference::router::Router;
 use reference::text::{self, Line, Trace};
 use reference::watch::{self, Left, Watch};
@@ -27,10 +28,12 @@ const LISTS: [(&str, Shows); 4] = [
     ("over_d_hi", not_the_whole_pool),
 ];
 
-/// A trace whose parameters break one joint rule, and the rule's place.
+/// A trace whose parameters break the joint rule on D_score.
 const WITHOUT_RULE: &str = "without_joint_rule";
-const RULE: usize = 4;
 const REFUSED: &str = "9 204\n";
+
+/// A trace of edition 2, which edition 1's rule would refuse.
+const SECOND_EDITION: &str = "keep_five_of_six";
 
 fn main() -> ExitCode {
     let arguments: Vec<String> = std::env::args().skip(1).collect();
@@ -45,9 +48,13 @@ fn main() -> ExitCode {
     };
     let accepted =
         LISTS.iter().map(|(name, shows)| (*name, accepted(program, folder, name, *shows)));
-    let waived = std::iter::once((WITHOUT_RULE, without_rule(program, folder)));
+    let of_editions = [
+        (WITHOUT_RULE, without_rule(program, folder)),
+        (SECOND_EDITION, second_edition(program, folder)),
+        (WITHOUT_RULE, without_rule_in_edition_2(program, folder)),
+    ];
     let (mut passed, mut failed) = (0, 0);
-    for (name, shown) in accepted.chain(waived) {
+    for (name, shown) in accepted.chain(of_editions) {
         match shown {
             Ok(text) => {
                 println!("{name}: {text}");
@@ -69,7 +76,11 @@ fn main() -> ExitCode {
 
 /// A list in both programs, which print the same and keep demand 3.
 fn accepted(program: &str, folder: &str, name: &str, shows: Shows) -> Shown {
-    let trace = watch::with_scores(&read(folder, name)?);
+    kept(program, &read(folder, name)?, shows)
+}
+
+fn kept(program: &str, trace: &Trace, shows: Shows) -> Shown {
+    let trace = watch::with_scores(trace);
     let printed = printed_by_both(program, &trace)?;
     let watch = watch::follow(&trace, &printed)?;
     watch.demand_3()?;
@@ -152,11 +163,11 @@ fn without_rule(program: &str, folder: &str) -> Shown {
         return Err("the parameters are not refused by the joint rule".to_string());
     }
     let params = trace.params.clone().ok_or("the trace has no parameters")?;
-    if let Some(place) = params.first_broken_but(Some(RULE)) {
+    if let Some(place) = params.first_broken_but(Some(SCORE_RULE)) {
         return Err(format!("more is broken than the one rule: {place}"));
     }
     let mut router = Router::unchecked(params);
-    router.waived_rule = Some(RULE);
+    router.waived_rule = Some(SCORE_RULE);
     let events: Vec<u8> = trace.lines.iter().flat_map(Line::to_bytes).collect();
     let watch = watch::follow(&trace, &trace::run_events(router, &events))?;
     let d_out = watch.general(general::D_OUT);
@@ -165,4 +176,36 @@ fn without_rule(program: &str, folder: &str) -> Shown {
         Ok(()) => Err("demand 3 is kept".to_string()),
         Err(_) => Ok(format!("refused by both; without the rule, {}", outbound_text(left, d_out))),
     }
+}
+
+/// A heartbeat that cut a mesh to D, with D_out outbound members: so many that some of
+/// the best went.
+fn quota_from_the_best(watch: &Watch) -> Shown {
+    let [d, d_out, d_score] =
+        [general::D, general::D_OUT, general::D_SCORE].map(|place| watch.general(place));
+    if d_score + d_out <= d {
+        return Err("the best leave room for the quota".to_string());
+    }
+    let left =
+        find(watch, |left| left.members == d && left.outbound == d_out && left.pool_outside > 0)?;
+    Ok(format!("D {d}, D_score {d_score}; {}", outbound_text(left, d_out)))
+}
+
+/// A list that edition 1 refuses by its rule on D_score, and edition 2 takes.
+fn second_edition(program: &str, folder: &str) -> Shown {
+    let trace = read(folder, SECOND_EDITION)?;
+    let params = trace.params.clone().ok_or("the trace has no parameters")?;
+    let as_first = params.in_edition(Edition::One).first_broken();
+    if as_first != Some(FIRST_RULE + SCORE_RULE) {
+        return Err("edition 1 would not refuse the parameters by its rule".to_string());
+    }
+    kept(program, &trace, quota_from_the_best)
+}
+
+/// The calls that break the demand without the rule, as edition 2.
+fn without_rule_in_edition_2(program: &str, folder: &str) -> Shown {
+    let mut trace = read(folder, WITHOUT_RULE)?;
+    trace.params = trace.params.map(|params| params.in_edition(Edition::Two));
+    let shown = kept(program, &trace, quota_from_the_best)?;
+    Ok(format!("as edition 2, {shown}"))
 }

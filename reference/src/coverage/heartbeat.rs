@@ -1,11 +1,12 @@
 //! The cases of a heartbeat: which steps act, and where a step's limits decide.
 
 use crate::event::{Call, Event, Permutation, SLOTS};
-use crate::params::general;
-use crate::router::{is_permutation, Plan, Router, GRAFT_SLACK};
+use crate::params::{general, Edition};
+use crate::router::{is_permutation, Plan, Router, Swap, GRAFT_SLACK};
 use std::cmp::Reverse;
 
-/// The cases that every run reaches. Each is counted once a heartbeat.
+/// The cases that every run reaches. Each is counted once a heartbeat. Those of
+/// edition 2 stand apart.
 pub const CASES: [&str; 38] = [
     "ask over 1",
     "permutation: a slot twice",
@@ -45,6 +46,18 @@ pub const CASES: [&str; 38] = [
     "step 4 grafts one as its slack ends",
     "step 5 grafts one as its slack ends",
     "grafts one without a backoff in the first second",
+];
+
+/// Cases that only parameters of edition 2 meet.
+pub const EDITION_2_CASES: [&str; 8] = [
+    "step 3 cuts in edition 2, D_score + D_out over D",
+    "step 3 swaps in edition 2, D_score + D_out at most D",
+    "step 3 swaps one of the best",
+    "step 3 swaps more than one of the best",
+    "step 3 swaps a drawn keeper, then one of the best",
+    "step 3 swaps the later drawn of equals among the best",
+    "step 3 swaps the lowest of the best, drawn before another",
+    "step 3 swaps one of the best, past an outbound one",
 ];
 
 /// No call leaves an end of 1 to 999, but a router's table may hold one.
@@ -221,19 +234,70 @@ impl Seen<'_> {
         let kept = self.after_third();
         let swaps = &self.plan.swaps;
         let passed = |goes: usize| {
-            let comes = |slot| swaps.iter().any(|&(_, comes)| comes == slot);
+            let comes = |slot| swaps.iter().any(|swap| swap.comes == slot);
             let later = |slot: &usize| place(slot) > place(&goes) && self.outbound(&[*slot]) == 1;
             others.iter().any(|slot| kept.contains(slot) && !comes(*slot) && later(slot))
         };
-        vec![
+        let drawn = |swap: &Swap| !swap.of_the_best;
+        let mut facts = vec![
             ("step 3 cuts", true),
             ("step 3 has equal scores at the edge of the best", tie),
             ("step 3 swaps", !swaps.is_empty()),
             ("step 3 swaps more than once", swaps.len() > 1),
-            ("step 3 swaps past an outbound keeper", swaps.iter().any(|&(goes, _)| passed(goes))),
+            (
+                "step 3 swaps past an outbound keeper",
+                swaps.iter().any(|swap| drawn(swap) && passed(swap.goes)),
+            ),
             (
                 "step 3 ends for want of outbound members",
                 self.outbound(&kept) < self.general(general::D_OUT),
+            ),
+        ];
+        facts.extend(self.swaps_of_edition_2(&ranked));
+        facts
+    }
+
+    /// Who goes out in edition 2 alone. The best are ranked, the lowest last; one that
+    /// decides is a keeper still, so that another choice would be seen.
+    fn swaps_of_edition_2(&self, best: &[usize]) -> Facts {
+        if self.router.params.edition != Edition::Two {
+            return Vec::new();
+        }
+        let swaps = &self.plan.swaps;
+        let place = |slot: &usize| self.order.iter().position(|other| other == slot);
+        let gone: Vec<usize> =
+            swaps.iter().filter(|swap| swap.of_the_best).map(|swap| swap.goes).collect();
+        let inbound = |slot: &usize| self.outbound(&[*slot]) == 0;
+        let stays: Vec<usize> = best.iter().copied().filter(|slot| !gone.contains(slot)).collect();
+        let any = |fits: &dyn Fn(usize, usize) -> bool| {
+            gone.iter().any(|&goes| stays.iter().any(|&other| fits(goes, other)))
+        };
+        let equal = |one: usize, other: usize| self.scores[one] == self.scores[other];
+        let rank = |slot: usize| best.iter().position(|&other| other == slot);
+        let over = self.general(general::D_SCORE) + self.general(general::D_OUT)
+            > self.general(general::D);
+        vec![
+            ("step 3 cuts in edition 2, D_score + D_out over D", over),
+            ("step 3 swaps in edition 2, D_score + D_out at most D", !over && !swaps.is_empty()),
+            ("step 3 swaps one of the best", !gone.is_empty()),
+            ("step 3 swaps more than one of the best", gone.len() > 1),
+            (
+                "step 3 swaps a drawn keeper, then one of the best",
+                !gone.is_empty() && gone.len() < swaps.len(),
+            ),
+            (
+                "step 3 swaps the later drawn of equals among the best",
+                any(&|goes, other| inbound(&other) && equal(goes, other)),
+            ),
+            (
+                "step 3 swaps the lowest of the best, drawn before another",
+                any(&|goes, other| {
+                    inbound(&other) && !equal(goes, other) && place(&other) > place(&goes)
+                }),
+            ),
+            (
+                "step 3 swaps one of the best, past an outbound one",
+                any(&|goes, other| !inbound(&other) && rank(other) > rank(goes)),
             ),
         ]
     }

@@ -382,6 +382,10 @@ impl Caller {
         self.queue.push_back((0, call));
     }
 
+    pub fn plan_join(&mut self, topic: u64) {
+        self.plan(Call::Join { topic });
+    }
+
     pub fn plan_arrival(&mut self) {
         let mut ids = self.scene.ids.clone();
         self.random.shuffle(&mut ids);
@@ -495,20 +499,26 @@ impl Caller {
         self.random.shuffle(&mut ids);
         let threshold = self.router.params.general(general::OPPORTUNISTIC_THRESHOLD) * 1_000_000;
         let targets = [0, 0, 1_000_000_000, 2_000_000_000, threshold, threshold - 1000, -1000];
+        // Where the inbound ones are the better, a quota is taken from the best.
+        let inbound_better = self.random.chance(1, 3);
         for &id in &ids {
-            let target = *self.random.pick(&targets);
-            if self.random.chance(1, 3) {
+            let target = match inbound_better {
+                true if self.is_outbound(id) => 0,
+                true => self.random.between(1, 2) * 1_000_000_000,
+                false => *self.random.pick(&targets),
+            };
+            if inbound_better || self.random.chance(1, 3) {
                 let value = self.p5_for(id, target);
                 self.plan(Call::SetP5 { id, value });
             }
         }
         ids.sort_by_key(|&id| self.is_outbound(id));
         let inbound = ids.partition_point(|&id| !self.is_outbound(id));
-        if self.random.chance(1, 2) {
+        if inbound_better || self.random.chance(1, 2) {
             self.plan_for(&ids[inbound..], |id| Call::Unsubscribe { id, topic });
         }
         let mut asking = ids[..self.random.below(inbound + 1)].to_vec();
-        asking.extend(ids[inbound..].iter().take(self.random.below(4)));
+        asking.extend(ids[inbound..].iter().take(self.random.below(6)));
         self.plan_for(&ids, |id| Call::Subscribe { id, topic });
         self.plan_for(&asking, |id| Call::Graft { id, topic });
         for _ in 0..=self.random.below(2) {

@@ -5,7 +5,7 @@ use super::params as generate_params;
 use crate::coverage::{self, Coverage};
 use crate::event::{Call, Event, CALL_NAMES, SLOTS};
 use crate::groups;
-use crate::params::{field_at, general, topic, topic_index, Params, TOPICS};
+use crate::params::{field_at, general, topic, topic_index, Edition, Params, TOPICS};
 use crate::random::Random;
 use crate::router::Router;
 use crate::trace;
@@ -20,9 +20,9 @@ pub struct Generated {
 pub fn trace(random: &mut Random, coverage: &mut Coverage) -> Generated {
     let mut random = Random::new(random.bits());
     match random.below(160) {
-        0..=3 => bad_params(&mut random, coverage),
-        4 => limits(&mut random, coverage),
-        5..=20 => mesh_rounds(random, coverage),
+        0..=9 => bad_params(&mut random, coverage),
+        10 => limits(&mut random, coverage),
+        11..=26 => mesh_rounds(random, coverage),
         _ => ordinary_trace(random, coverage),
     }
 }
@@ -74,6 +74,7 @@ impl<'a> Run<'a> {
     }
 
     fn finish(self, params: Params, mut random: Random) -> Generated {
+        self.coverage.count_made(&params);
         let mut bytes = params.to_bytes();
         bytes.extend(self.events.iter().flat_map(trace::write_event));
         if random.chance(3, 4) {
@@ -94,13 +95,19 @@ fn event_of_any_kind<'a>(events: &'a [Event], random: &mut Random) -> &'a Event 
 
 // Parameters and scenes.
 
-/// Mostly small, lively parameters; now and then the ordinary ones, or any.
+/// Good parameters of either edition.
 pub fn params(random: &mut Random) -> Params {
+    params_in(generate_params::edition(random), random)
+}
+
+/// Mostly small, lively parameters; now and then the ordinary ones, or any.
+pub fn params_in(edition: Edition, random: &mut Random) -> Params {
+    let ordinary = Params::ordinary().in_edition(edition);
     match random.below(8) {
-        0 => Params::ordinary(),
-        1 => generate_params::good(random),
-        2 => lively(generate_params::good(random), random),
-        _ => lively(Params::ordinary(), random),
+        0 => ordinary,
+        1 => generate_params::good_in(edition, random),
+        2 => lively(generate_params::good_in(edition, random), random),
+        _ => lively(ordinary, random),
     }
 }
 
@@ -111,12 +118,13 @@ fn lively(mut params: Params, random: &mut Random) -> Params {
     let d_lo = random.between(1, d);
     let most_out = (d_lo - 1).min(d / 2);
     let d_out = random.often_an_end(most_out.min(1), most_out);
+    let d_score = generate_params::best(params.edition, d, d_out, random);
     let set = |params: &mut Params, index: usize, value: i64| params.numbers[index] = value;
     set(&mut params, D, d);
     set(&mut params, D_LO, d_lo);
     set(&mut params, D_HI, random.often_an_end(d, d + 4));
     set(&mut params, D_OUT, d_out);
-    set(&mut params, D_SCORE, random.often_an_end(0, d - d_out));
+    set(&mut params, D_SCORE, d_score);
     let general = [
         (PRUNE_BACKOFF, 1, 20),
         (UNSUBSCRIBE_BACKOFF, 1, 20),
@@ -204,20 +212,26 @@ fn length(random: &mut Random) -> usize {
 
 // Special traces.
 
-/// Rounds of one topic's mesh, in which every step of the heartbeat has much to
-/// do: no topic has a weight and no group a surplus, so that nobody's score falls
-/// for long.
-fn mesh_rounds(mut random: Random, coverage: &mut Coverage) -> Generated {
-    let mut params = lively(Params::ordinary(), &mut random);
+/// Parameters for rounds of one topic's mesh, in which every step of the heartbeat has
+/// much to do: no topic has a weight and no group a surplus, so that nobody's score
+/// falls for long.
+pub fn mesh_params(random: &mut Random) -> Params {
+    let edition = generate_params::edition(random);
+    let mut params = lively(Params::ordinary().in_edition(edition), random);
     let d = params.general(general::D);
     let d_out = random.between(0, (d - 1).min(d / 2));
     params.numbers[general::D_LO] = random.often_an_end(d_out + 1, d);
     params.numbers[general::D_OUT] = d_out;
-    params.numbers[general::D_SCORE] = random.often_an_end(0, d - d_out);
+    params.numbers[general::D_SCORE] = generate_params::best(edition, d, d_out, random);
     params.numbers[general::P6_THRESHOLD] = field_at(general::P6_THRESHOLD).high;
     for k in 0..TOPICS {
         params.numbers[topic_index(k, topic::WEIGHT)] = 0;
     }
+    params
+}
+
+fn mesh_rounds(mut random: Random, coverage: &mut Coverage) -> Generated {
+    let params = mesh_params(&mut random);
     let router = Router::new(params.clone()).expect("the parameters are good");
     let mut scene = scene(300, &mut random);
     scene.outbound = 1 + random.below(2);
@@ -268,10 +282,22 @@ fn limits(random: &mut Random, coverage: &mut Coverage) -> Generated {
     run.finish(params, Random::new(random.bits()))
 }
 
-/// Parameters that are mostly refused, with bytes after them all the same.
+/// Parameters that are mostly refused, with bytes after them all the same; often by
+/// the rule on D_score, in which the editions differ.
 fn bad_params(random: &mut Random, coverage: &mut Coverage) -> Generated {
     let mut bytes = match random.below(20) {
         0 => Vec::new(),
+        1..=5 => {
+            let mut params = params(random);
+            let most = generate_params::most_best(
+                params.edition,
+                params.general(general::D),
+                params.general(general::D_OUT),
+            );
+            params.numbers[general::D_SCORE] = most + random.below(2) as i64;
+            params.to_bytes()
+        }
+        6..=9 => generate_params::other_front(random),
         _ => generate_params::random_input(random).bytes,
     };
     let more = random.below(20);

@@ -2,12 +2,21 @@
 
 use super::{refuse_if, Actions, Refusal, Router, Status};
 use crate::event::{Permutation, SLOTS};
-use crate::params::general;
+use crate::params::{general, Edition};
 use std::cmp::Reverse;
 use std::collections::BTreeSet;
 
 /// Opportunism grafts at most this many peers.
 const OPPORTUNISTIC_GRAFTS: usize = 2;
+
+/// A keeper that goes out for a left-out outbound member.
+#[derive(Clone, Copy, PartialEq, Eq, Debug)]
+pub struct Swap {
+    pub goes: usize,
+    pub comes: usize,
+    /// Whether the one that goes was among the D_score best, and not drawn.
+    pub of_the_best: bool,
+}
 
 /// What the five steps do: PRUNEs by slot, GRAFTs in the permutation's order.
 #[derive(Clone, PartialEq, Eq, Debug, Default)]
@@ -19,7 +28,7 @@ pub struct Plan {
     /// Step 3 PRUNEs when the mesh is over D_hi, after swaps of a keeper for a
     /// left-out outbound member.
     pub surplus: Vec<usize>,
-    pub swaps: Vec<(usize, usize)>,
+    pub swaps: Vec<Swap>,
     /// Step 4 grafts for the quota of outbound peers.
     pub quota: Vec<usize>,
     /// Step 5 grafts for a better median.
@@ -156,23 +165,23 @@ impl Start<'_> {
 
     /// Step 3: "Over D_hi: keep the D_score best (ties in draw order), then others
     /// in draw order to make D. ... PRUNE the rest." With it, the swaps.
-    fn surplus(&self, mesh: &BTreeSet<usize>) -> (Vec<usize>, Vec<(usize, usize)>) {
+    fn surplus(&self, mesh: &BTreeSet<usize>) -> (Vec<usize>, Vec<Swap>) {
         if mesh.len() <= self.general(general::D_HI) {
             return (Vec::new(), Vec::new());
         }
-        let best = self.best(mesh);
-        let mut others: Vec<usize> = self.order.clone();
-        others.retain(|slot| mesh.contains(slot) && !best.contains(slot));
+        let mut best = self.best(mesh);
+        let mut drawn: Vec<usize> = self.order.clone();
+        drawn.retain(|slot| mesh.contains(slot) && !best.contains(slot));
         // D_score passes D only where the rule against it is waived.
         let room = self.general(general::D).saturating_sub(best.len());
-        let mut left_out = others.split_off(room);
-        let swaps = self.swap_for_quota(&best, &mut others, &mut left_out);
+        let mut left_out = drawn.split_off(room);
+        let swaps = self.swap_for_quota(&mut best, &mut drawn, &mut left_out);
         left_out.sort_unstable();
         (left_out, swaps)
     }
 
-    /// The D_score best members; of equal scores the earlier in the permutation
-    /// is the better, since the sort is stable.
+    /// The D_score best members, the best first; of equal scores the earlier in the
+    /// permutation is the better, since the sort is stable.
     fn best(&self, mesh: &BTreeSet<usize>) -> Vec<usize> {
         let mut ranked = self.order.clone();
         ranked.retain(|slot| mesh.contains(slot));
@@ -186,21 +195,45 @@ impl Start<'_> {
     /// draw order, until D_out or none is left."
     fn swap_for_quota(
         &self,
-        best: &[usize],
-        others: &mut [usize],
+        best: &mut [usize],
+        drawn: &mut [usize],
         left_out: &mut [usize],
-    ) -> Vec<(usize, usize)> {
-        let kept = best.iter().chain(others.iter());
+    ) -> Vec<Swap> {
+        let kept = best.iter().chain(drawn.iter());
         let outbound = kept.filter(|&&slot| self.outbound(slot)).count();
         let mut swaps = Vec::new();
         while outbound + swaps.len() < self.general(general::D_OUT) {
-            let goes = others.iter().rposition(|&slot| !self.outbound(slot));
-            let comes = left_out.iter().position(|&slot| self.outbound(slot));
-            let (Some(goes), Some(comes)) = (goes, comes) else { break };
-            swaps.push((others[goes], left_out[comes]));
-            std::mem::swap(&mut others[goes], &mut left_out[comes]);
+            let left = left_out.iter_mut().find(|slot| self.outbound(**slot));
+            let Some((comes, (goes, of_the_best))) = left.zip(self.goer(best, drawn)) else {
+                break;
+            };
+            swaps.push(Swap { goes: *goes, comes: *comes, of_the_best });
+            std::mem::swap(goes, comes);
         }
         swaps
+    }
+
+    /// Who goes out of the keepers, and whether it is one of the best. Order 14 of
+    /// 02, of edition 2: "Its step 3 first swaps out inbound keepers that were drawn,
+    /// last drawn first, then inbound ones among the best, lowest score first, of
+    /// equals the later drawn." The best stand in the order of `best`, whose last is
+    /// the lowest and, of equals, the later drawn. In edition 1 the best never go.
+    fn goer<'b>(
+        &self,
+        best: &'b mut [usize],
+        drawn: &'b mut [usize],
+    ) -> Option<(&'b mut usize, bool)> {
+        let last_drawn = drawn.iter_mut().rev().find(|slot| !self.outbound(**slot));
+        if let Some(slot) = last_drawn {
+            return Some((slot, false));
+        }
+        match self.router.params.edition {
+            Edition::One => None,
+            Edition::Two => {
+                let lowest = best.iter_mut().rev().find(|slot| !self.outbound(**slot));
+                lowest.map(|slot| (slot, true))
+            }
+        }
     }
 
     /// Step 4: "Under D_out outbound: graft outbound candidates not yet grafted, in

@@ -1,4 +1,4 @@
--- `control::graft` meets its contract.
+-- `control::graft`: the gate's refusals, or what `graft_from` gives.
 -- Assumes nothing.
 use borrow.Author.Needs.{needs}
 use Rattle.gate.proofs.CallLaws.{call-ends}

@@ -1,7 +1,8 @@
 -- `control::graft_reply`: each arm of the match is a case of the rules, and gives what the rules do then.
 -- Assumes nothing.
 use borrow.Author.Needs.{needs}
-use Rattle.rules.specs.declared.GraftCase.the-variants.{NotJoined, Graylisted, AlreadyMember, Explicit, InBackoff, Negative, NotSubscribed, Full, Enters}
+use Rattle.rules.specs.declared.GraftCase.the-variants.{NotJoined, Graylisted, AlreadyMember, Explicit, InBackoff, Negative, NotSubscribed}
+use Rattle.rules.specs.declared.GraftCase.the-variants.{Full, Enters}
 use Rattle.rules.proofs.EndLaws.{gives-ignored, gives-still, gives-done}
 use Rattle.control.proofs.GraftLaws.{refusable, refusable-raised, graft-at, refused-seen, refused-raised}
 use Rattle.control.proofs.graft_reply.Statement.{statement}

@@ -1,4 +1,4 @@
--- `control::prune` meets its contract.
+-- `control::prune`: the gate's refusals, or what `prune_from` leaves.
 -- Assumes nothing.
 use borrow.Author.Needs.{needs}
 use Rattle.gate.proofs.CallLaws.{call-ends}

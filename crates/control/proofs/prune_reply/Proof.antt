@@ -4,7 +4,8 @@ use borrow.Author.Needs.{needs}
 use Rattle.rules.specs.Step.{pruneReply}
 use Rattle.rules.proofs.StepLaws.{leaves-then, leaves-else}
 use Rattle.rules.proofs.EndLaws.{leaves-ignored, leaves-done}
-use Rattle.control.proofs.PruneLaws.{heard-is, pruned-is}
+use Rattle.gate.proofs.StandingLaws.{heard-is}
+use Rattle.control.proofs.PruneLaws.{pruned-is}
 use Rattle.control.proofs.prune_reply.Statement.{statement}
 use Rattle.control.proofs.prune_reply.Tie as tie
 
@@ -15,8 +16,8 @@ returns c =
     let pruned = c .before .before .before .before .before .before in
     let ended = pruned .before .before in
     let tested = ended .before .before .before in
-    let seen = tested .before .before .before .before in
-    let heard = heard-is _ _ _ _ _ (seen .see .ensures) (tested .if1 .taken) in
+    let seen = tested .before .before in
+    let heard = heard-is _ _ _ _ _ _ (seen .see .ensures) (tested .before .is-heard .ensures) (tested .if1 .taken) in
     let left =
     pruned-is _ _ _ _ _ _ _ _ (ended .before .seconds-of .ensures .0) (ended .end-after .ensures .0) (pruned .prune-slot .ensures) in
     search (leaves-then, leaves-done)
@@ -26,6 +27,7 @@ unfolding pruneReply
 prune-reply-spec =
     tie.close
     (tie.spec
+    (λ c κs. search needs)
     (λ c κs. search needs)
     (λ c κs. search needs)
     (λ c κs. search needs)

@@ -1,4 +1,4 @@
--- `control::seconds_of` meets its contract.
+-- `control::seconds_of`: by the three cases of the seconds.
 -- Assumes nothing.
 use borrow.Author.Needs.{needs}
 use Rattle.control.proofs.PruneLaws.{seconds-none, seconds-given, seconds-many}
@@ -10,6 +10,6 @@ seconds-of-spec =
     tie.close
     (tie.spec
     (λ c κs. search needs)
-    (λ c. seconds-none _ _ _ (c .before .before .before .pre .router) (c .before .if1 .taken) (c .load-size .ensures))
+    (λ c. seconds-none _ _ _ (c .before .before .before .pre .router) (c .before .if1 .taken) (c .load-magnitude .ensures))
     (λ c. seconds-given _ _ (c .before .if1 .left) (c .if2 .taken))
     (λ c. seconds-many _ _ (c .before .if1 .left) (c .if2 .left)))

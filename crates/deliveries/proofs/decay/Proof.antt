@@ -1,4 +1,4 @@
--- `deliveries::decay` meets its contract.
+-- `deliveries::decay`: the gate's refusals, or what `decay_from` leaves.
 -- Assumes nothing.
 use borrow.Author.Needs.{needs}
 use Rattle.deliveries.proofs.DecayLaws.{decay-refuses, decay-ready, decay-quiet}

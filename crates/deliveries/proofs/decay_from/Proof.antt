@@ -21,21 +21,29 @@ decay-slot-requires : tie.Need-decay-slot-requires Inv-loop μ-loop
 decay-slot-requires c κs =
     let l = c .before .before .loop in
     let standing = c .before .before .before .before .pre .standing in
-    (l .inv .1, (at-slot _ _ _ _ (decays-of _ (standing .router)) (l .inv .0) (l .inv .2), omega arith))
+    record {
+      size = l .inv .1;
+      decays = at-slot _ _ _ _ (decays-of _ (standing .router)) (l .inv .0) (l .inv .2);
+      slot = omega arith;
+    }
 
 loop-again : tie.Need-loop-again Inv-loop μ-loop
 loop-again c =
     let a = c .before .before .before .before .before .before .before .args in
     let l = c .before .before .before .before .before .loop in
-    let k = c .before .before .decay-slot in
-    (omega arith, k .kept .0 ∙ l .inv .1, iter-more (decaySlot (a .time)) (stateOf (a .table .now)) (l .slot) (stateOf (l .table)) _ (l .inv .2) (k .ensures))
+    let k = c .before .before .decay-slot in (
+      omega arith,
+      k .kept .0 ∙ l .inv .1,
+      iter-more (decaySlot (a .time)) (stateOf (a .table .now)) (l .slot) (stateOf (l .table)) _ (l .inv .2) (k .ensures),
+    )
 
 returns : tie.Need-returns Inv-loop μ-loop
 returns c =
     let a = c .before .before .before .before .before .before .before .args in
     let l = c .before .before .before .before .before .loop in
     decay-done _ _ _ _ _
-    (iter-done (decaySlot (a .time)) (stateOf (a .table .now)) slotCount (l .slot) (stateOf (l .table)) (omega arith) (omega arith) (l .inv .2))
+    (iter-done (decaySlot (a .time)) (stateOf (a .table .now)) slotCount (l .slot) (stateOf (l .table)) (omega arith) (omega arith)
+    (l .inv .2))
     (c .before .before .finish .ensures)
 
 pub decay-from-spec : {M : Type 1} → statement M
@@ -50,5 +58,6 @@ decay-from-spec =
     (λ c. omega arith)
     loop-again
     (λ c κs. c .before .before .loop .inv .1)
-    (λ c. c .before .before .finish .kept .0 ∙ c .before .before .before .before .before .loop .inv .1 ∙ sym (c .before .before .before .before .before .before .before .pre .standing .size))
+    (λ c. c .before .before .finish .kept .0 ∙ c .before .before .before .before .before .loop .inv .1
+    ∙ sym (c .before .before .before .before .before .before .before .pre .standing .size))
     returns)

@@ -1,4 +1,4 @@
--- `deliveries::decay_p7` meets its contract.
+-- `deliveries::decay_p7`: the record with the counter that `faded` gives.
 -- Assumes nothing.
 use borrow.Author.Needs.{needs}
 use Rattle.deliveries.proofs.DecayLaws.{p7-ready, p7-decayed}
@@ -8,12 +8,15 @@ use Rattle.deliveries.proofs.decay_p7.Tie as tie
 faded-requires : tie.Need-faded-requires
 faded-requires c κs =
     let pre = c .before .before .before .before .before .before .before .before .pre in
-    p7-ready _ _ _ _ (pre .1 .0) (pre .1 .1) (c .before .before .before .before .before .load-peer .ensures) (c .load-size2 .ensures)
+    p7-ready _ _ _ _ (pre .decays) (pre .slot) (c .before .before .before .before .before .load-peer .ensures) (c .load-magnitude2 .ensures)
 
 returns : tie.Need-returns
 returns c =
-    p7-decayed _ _ _ _ _ _ _ _ (c .before .before .before .before .before .before .before .before .before .before .load-peer .ensures) (c .before .before .before .before .before .before .before .load-size .ensures) (c .before .before .before .before .before .load-size2 .ensures)
-    (c .before .before .before .before .faded .ensures) (c .before .before .before .with-p7 .ensures) (c .before .before .store-peer .ensures)
+    p7-decayed _ _ _ _ _ _ _ _ (c .before .before .before .before .before .before .before .before .before .before .load-peer .ensures)
+    (c .before .before .before .before .before .before .before .load-magnitude .ensures)
+    (c .before .before .before .before .before .load-magnitude2 .ensures)
+    (c .before .before .before .before .faded .ensures) (c .before .before .before .with-p7 .ensures)
+    (c .before .before .store-peer .ensures)
 
 pub decay-p7-spec : {M : Type 1} → statement M
 decay-p7-spec =

@@ -1,4 +1,4 @@
--- `deliveries::decay_slot` meets its contract.
+-- `deliveries::decay_slot`: the topics and then P7 of a connected peer; nothing of another.
 -- Assumes nothing.
 use mathlib.Core.Path.{_∙_}
 use native.Mathlib.Omega.{arith}
@@ -12,11 +12,17 @@ decay-p7-requires : tie.Need-decay-p7-requires
 decay-p7-requires c κs =
     let k = c .before .before .before .decay-topics in
     let pre = c .before .before .before .before .before .before .before .before .before .pre in
-    (k .kept .0 ∙ pre .0, (at-topic _ _ _ _ 8 (pre .1 .0) (pre .1 .1) (omega arith) (k .ensures), pre .1 .1))
+    record {
+      size = k .kept .0 ∙ pre .size;
+      decays = at-topic _ _ _ _ 8 (pre .decays) (pre .slot) (omega arith) (k .ensures);
+      slot = pre .slot;
+    }
 
 returns : tie.Need-returns
 returns c =
-    slot-connected _ _ _ _ (c .before .before .before .before .before .before .before .before .before .load-status .ensures) _ _ (eq-eqb _ _ (c .before .before .before .before .before .before .before .before .if1 .taken)) (c .before .before .before .before .before .before .decay-topics .ensures) (c .before .before .decay-p7 .ensures)
+    slot-connected _ _ _ _ (c .before .before .before .before .before .before .before .before .before .load-status .ensures) _ _
+    (eq-eqb _ _ (c .before .before .before .before .before .before .before .before .if1 .taken))
+    (c .before .before .before .before .before .before .decay-topics .ensures) (c .before .before .decay-p7 .ensures)
 
 pub decay-slot-spec : {M : Type 1} → statement M
 decay-slot-spec =

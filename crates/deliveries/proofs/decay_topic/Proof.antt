@@ -1,4 +1,4 @@
--- `deliveries::decay_topic` meets its contract.
+-- `deliveries::decay_topic`: an idle record stays as it is, which is what decay makes of it; else it is faded and stored.
 -- Assumes nothing.
 use borrow.Author.Needs.{needs}
 use Rattle.index.proofs.Flags.{yes}
@@ -13,13 +13,15 @@ decayed-requires : tie.Need-decayed-requires
 decayed-requires c κs =
     let loaded = c .before .before .before .before .before .before .before in
     let start = loaded .before .before .before in
-    topic-ready _ (start .args .time) _ _ _ _ _ (loaded .load-topic .ensures) (c .before .before .before .load-params .ensures) (c .load-size .ensures)
-    (start .pre .1 .0) (start .pre .1 .1 .0) (start .pre .1 .1 .1)
+    topic-ready _ (start .args .time) _ _ _ _ _ (loaded .load-topic .ensures) (c .before .before .before .load-params .ensures)
+    (c .load-magnitude .ensures)
+    (start .pre .decays) (start .pre .slot) (start .pre .topic)
 
 returns-2 : tie.Need-returns-2
 returns-2 c =
     let faded = c .before .before .before in
-    topic-decayed _ _ _ _ _ _ _ (faded .before .before .before .before .before .before .before .before .load-topic .ensures) (faded .before .before .before .before .load-params .ensures) (faded .before .load-size .ensures) _ _
+    topic-decayed _ _ _ _ _ _ _ (faded .before .before .before .before .before .before .before .before .load-topic .ensures)
+    (faded .before .before .before .before .load-params .ensures) (faded .before .load-magnitude .ensures) _ _
     (faded .decayed .ensures) (c .before .before .store-topic .ensures)
 
 pub decay-topic-spec : {M : Type 1} → statement M

@@ -20,14 +20,22 @@ decay-topic-requires : tie.Need-decay-topic-requires Inv-loop μ-loop
 decay-topic-requires c κs =
     let l = c .before .before .loop in
     let pre = c .before .before .before .before .pre in
-    (l .inv .1, (at-topic _ _ _ _ _ (pre .1 .0) (pre .1 .1) (l .inv .0) (l .inv .2), (pre .1 .1, omega arith)))
+    record {
+      size = l .inv .1;
+      decays = at-topic _ _ _ _ _ (pre .decays) (pre .slot) (l .inv .0) (l .inv .2);
+      topic = omega arith;
+      slot = pre .slot;
+    }
 
 loop-again : tie.Need-loop-again Inv-loop μ-loop
 loop-again c =
     let a = c .before .before .before .before .before .before .before .args in
     let l = c .before .before .before .before .before .loop in
-    let k = c .before .before .decay-topic in
-    (omega arith, k .kept .0 ∙ l .inv .1, iter-more (decayTopic (a .time) (a .slot)) (stateOf (a .table .now)) (l .topic) (stateOf (l .table)) _ (l .inv .2) (k .ensures))
+    let k = c .before .before .decay-topic in (
+      omega arith,
+      k .kept .0 ∙ l .inv .1,
+      iter-more (decayTopic (a .time) (a .slot)) (stateOf (a .table .now)) (l .topic) (stateOf (l .table)) _ (l .inv .2) (k .ensures),
+    )
 
 returns : tie.Need-returns Inv-loop μ-loop
 returns c =
@@ -41,10 +49,10 @@ decay-topics-spec =
     (tie.spec
     Inv-loop
     μ-loop
-    (λ c. (omega arith, c .before .pre .0, sym (iter-none _ _)))
+    (λ c. (omega arith, c .before .pre .size, sym (iter-none _ _)))
     decay-topic-requires
     (λ c. omega arith)
     (λ c. omega arith)
     loop-again
-    (λ c. c .before .loop .inv .1 ∙ sym (c .before .before .before .pre .0))
+    (λ c. c .before .loop .inv .1 ∙ sym (c .before .before .before .pre .size))
     returns)

@@ -17,7 +17,7 @@ heartbeat-spec =
     (λ c κs. search needs)
     (λ c. search needs)
     (λ c. search needs)
-    (λ c κs. (search (call-ends, needs), (search heartbeat-topic, search call-ends)))
+    (λ c κs. record { ready = search (call-ends, needs); topic = search heartbeat-topic; room = search call-ends })
     (λ c. search (call-ends, heartbeat-range))
     (λ c. search needs)
     (λ c. search (call-ends, heartbeat-range)))

@@ -22,7 +22,7 @@ heartbeat-from-spec =
     (λ c. search needs)
     (λ c. search (gives-then, gives-else, gives-ignored, failed, passed))
     (λ c κs. search (permutation-length, passed))
-    (λ c κs. (search needs, (search needs, (search needs, search (permutation-copied, passed)))))
+    (λ c κs. record { ready = search needs; topic = search needs; room = search needs; permutation = search (permutation-copied, passed) })
     (λ c. search needs)
     (λ c. search needs)
     (λ c. search (gives-then, gives-copied, passed)))

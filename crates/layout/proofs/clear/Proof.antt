@@ -2,7 +2,6 @@ use Prim.Native.Nat.{ℕ, _≤_, _<_, _-_}
 use mathlib.Core.Path.{_≡_, refl}
 use native.Mathlib.Nat.{not-suc-le-zero}
 use native.Mathlib.Omega.{arith}
-use borrow.Author.Needs.{needs}
 use lib.ListN.{length, getD, length-set}
 use Rattle.layout.proofs.ViewLaws.{zero-more, zero-all}
 use Rattle.layout.proofs.clear.Statement.{statement}
@@ -26,6 +25,10 @@ clear-spec =
     (λ c. omega arith)
     (λ c. omega arith)
     (λ c. omega arith)
-    (λ c. (omega arith, simp length-set (c .before .loop .inv .1), zero-more (c .before .loop .cells) (c .before .loop .k) (omega arith) (c .before .loop .inv .2)))
+    (λ c. (
+      omega arith,
+      simp length-set (c .before .loop .inv .1),
+      zero-more (c .before .loop .cells) (c .before .loop .k) (omega arith) (c .before .loop .inv .2),
+    ))
     (λ c. c .before .loop .inv .1)
     (λ c. zero-all (c .before .loop .cells) (c .before .loop .k) (omega arith) (c .before .loop .inv .2)))

@@ -1,4 +1,3 @@
-use mathlib.Core.Path.{_∙_}
 use borrow.Author.Needs.{needs}
 use Rattle.layout.proofs.ViewLaws.{codes-load}
 use Rattle.layout.proofs.codes.Statement.{statement}

@@ -1,3 +1,5 @@
+-- `layout::store_peer` meets its contract: the record is written as one row, which `peer-store` says is the state with that peer. Assumes
+-- nothing.
 use mathlib.Core.Path.{_≡_, _∙_, ap}
 use lib.ListN.{length}
 use Rattle.layout.specs.View.{stateOf, cellsOfPeer}
@@ -50,7 +52,8 @@ unfolding cellsOfPeer
 returns c =
     let s = c .before .before .before .before .before .before .before in
     let g : length (s .args .p .backoff) ≡ 8 = search needs in
-    ap stateOf (c .before .before .write-row .ensures) ∙ peer-store (s .args .cells .now) (s .pre .0) (s .args .slot) (s .args .p) (s .pre .1) g
+    ap stateOf (c .before .before .write-row .ensures)
+    ∙ peer-store (s .args .cells .now) (s .pre .0) (s .args .slot) (s .args .p) (s .pre .1) g
 
 pub store-peer-spec : {M : Type 1} → statement M
 store-peer-spec =

@@ -1,4 +1,4 @@
-use mathlib.Core.Path.{_≡_, _∙_, ap}
+use mathlib.Core.Path.{_∙_, ap}
 use Rattle.layout.specs.View.{stateOf, cellsOfTopic}
 use Rattle.layout.proofs.ViewLaws.{topic-store}
 use borrow.Author.Needs.{needs}

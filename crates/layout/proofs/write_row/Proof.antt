@@ -1,10 +1,10 @@
 -- `layout::write_row`: after k turns the table is the paste of the row's first k numbers.
-use Prim.Native.Nat.{ℕ, suc, _≤_, _<_, _+_, _-_}
-use mathlib.Core.Path.{_≡_, refl, sym, ap, _∙_, subst}
+use Prim.Native.Nat.{_≤_, _+_, _-_}
+use mathlib.Core.Path.{_≡_, refl, sym, ap, _∙_}
 use native.Mathlib.Omega.{arith}
 use native.Mathlib.Numerals.{add-one}
 use lib.ListN.{length, getD, set, length-set}
-use lib.Seq.{paste, paste-zero, paste-suc, length-paste}
+use lib.Seq.{paste, paste-zero, paste-suc}
 use Rattle.layout.specs.Rows.{put}
 use Rattle.layout.proofs.write_row.Statement.{statement}
 use Rattle.layout.proofs.write_row.Tie as tie

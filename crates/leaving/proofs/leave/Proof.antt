@@ -15,7 +15,7 @@ leave-spec =
     (λ c κs. search needs)
     (λ c. search needs)
     (λ c. search needs)
-    (λ c κs. (search (call-ends, needs), (search call-ends, search call-ends)))
+    (λ c κs. record { ready = search (call-ends, needs); topic = search call-ends; room = search call-ends })
     (λ c. search call-ends)
     (λ c. search needs)
     (λ c. search call-ends))

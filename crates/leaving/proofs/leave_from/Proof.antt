@@ -14,8 +14,8 @@ end-after-requires : tie.Need-end-after-requires
 end-after-requires c κs =
     let z = c .before .before in
     let s = z .before .before .before .before .before .before .before .before .before in
-    let g = sizes _ (s .pre .0 .standing .router) in
-    (s .pre .0 .latest, omega (arith, z .load-size .ensures, g .leave))
+    let g = sizes _ (s .pre .ready .standing .router) in
+    record { latest = s .pre .ready .latest; seconds = omega (arith, z .load-magnitude .ensures, g .leave) }
 
 pub leave-from-spec : {M : Type 1} → statement M
 unfolding leaveReply

@@ -12,7 +12,7 @@ put-prune-requires c κs =
     let m = l .before .before .before .before in
     let s = m .before .before .before .before .before .before .before in
     let i = grown-id _ _ _ _ _ _ (m .punish .ensures) (l .load-peer .ensures) in
-    (s .pre .1 .0, (omega (arith, i, s .pre .0 .id), omega (arith, s .pre .1 .1)))
+    record { room = s .pre .room; id = omega (arith, i, s .pre .turn .id); seconds = s .pre .seconds }
 
 pub leave-slot-spec : {M : Type 1} → statement M
 leave-slot-spec =

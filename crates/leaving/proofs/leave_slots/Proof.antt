@@ -18,7 +18,8 @@ leave-slot-requires c κs =
     let b = c .before .before in
     let l = b .before .loop in
     let s = b .before .before .before .before in
-    walking-ready (s .args .table .now) (s .args .actions .now) _ _ _ _ (s .pre) (l .slot) (b .loop-test .taken) (l .table) (l .actions) (l .at) (l .inv .1)
+    walking-ready (s .args .table .now) (s .args .actions .now) _ _ _ _ (s .pre) (l .slot) (b .loop-test .taken) (l .table) (l .actions)
+    (l .at) (l .inv .1)
 
 loop-again : tie.Need-loop-again Inv-loop μ-loop
 loop-again c =
@@ -27,7 +28,8 @@ loop-again c =
     let l = b .before .loop in
     let s = b .before .before .before .before in (
       omega arith,
-      walking-more (s .args .table .now) (s .args .actions .now) _ _ _ _ (s .pre) (l .slot) (b .loop-test .taken) (l .table) (l .actions) (l .at) (l .inv .1) _ _ _ _ refl (k .leave-slot .kept .0) (k .leave-slot .ensures),
+      walking-more (s .args .table .now) (s .args .actions .now) _ _ _ _ (s .pre) (l .slot) (b .loop-test .taken) (l .table) (l .actions)
+          (l .at) (l .inv .1) _ _ _ _ refl (k .leave-slot .kept .0) (k .leave-slot .ensures),
     )
 
 returns : tie.Need-returns Inv-loop μ-loop

@@ -1,17 +1,16 @@
 -- `leaving::negatives`: the loop builds the flags from the front.
 use Rattle.records.specs.Records.{slotCount}
 use Rattle.index.proofs.Kit.{_-_, refl, arith, false}
-use mathlib.Core.Bool.{_&&_}
+use borrow.Author.Needs.{needs}
 use Rattle.index.proofs.Lists.{Built, built-none, built-more}
 use Rattle.layout.specs.View.{stateOf}
-use Rattle.effects.specs.Effects.{isMember}
-use Rattle.rules.specs.Step.{isNegative}
+use Rattle.leaving.specs.Slots.{isNegativeMember}
 use Rattle.leaving.proofs.negatives.Statement.{statement}
 use Rattle.leaving.proofs.negatives.Tie as tie
 
 abbrev Inv-loop : tie.InvT-loop
 Inv-loop table topic flags₀ slot₀ flags slot =
-    Built false (λ s. isMember (stateOf table) topic s && isNegative (stateOf table) s) slotCount slot flags
+    Built false (isNegativeMember (stateOf table) topic) slotCount slot flags
 
 abbrev μ-loop : tie.MeasureT-loop
 μ-loop table topic flags₀ slot₀ flags slot = slotCount - slot
@@ -23,7 +22,7 @@ negatives-spec =
     Inv-loop
     μ-loop
     (λ c. built-none _ _ _ _ refl)
-    (λ c κs. let p = c .before .before .before .pre in (p .0, (p .1, omega arith)))
+    (λ c κs. search needs)
     (λ c. omega arith)
     (λ c. omega arith)
     (λ c. omega arith)

@@ -1,5 +1,6 @@
 -- `leaving::punish`: the counter grows where the flag says so.
 use native.Mathlib.Omega.{arith}
+use borrow.Author.Needs.{needs}
 use Rattle.leaving.proofs.LeaveLaws.{grown-then, grown-else}
 use Rattle.leaving.proofs.punish.Statement.{statement}
 use Rattle.leaving.proofs.punish.Tie as tie
@@ -10,12 +11,12 @@ punish-spec =
     (tie.spec
     (λ c. omega arith)
     (λ c. omega arith)
-    (λ c κs. let p = c .before .before .before .pre in (p .size, omega (arith, p .topic, p .slot)))
-    (λ c κs. let p = c .before .before .before .before .before .pre in (p .size, omega (arith, p .topic)))
+    (λ c κs. search needs)
+    (λ c κs. search needs)
     (λ c. omega arith)
     (λ c. omega arith)
     (λ c κs. rw (c .before .load-params .ensures) (c .before .before .before .before .before .before .before .pre .threshold))
-    (λ c κs. let p = c .before .before .before .before .before .before .before .before .pre in (p .size, omega (arith, p .topic, p .slot)))
+    (λ c κs. search needs)
     (λ c. c .before .before .store-topic .kept .0)
     (λ c. search grown-then)
     (λ c. search grown-else))

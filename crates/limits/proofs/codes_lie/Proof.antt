@@ -17,4 +17,5 @@ codes-lie-spec =
     (λ c κs. search needs)
     (λ c.
     let i = c .before in
-    fields-are (inLimits (map numberOf (i .before .before .before .args .codes .now))) (passed (i .before .general-lie .ensures) (i .if1 .left)) _ (c .fields-lie .ensures)))
+    fields-are (inLimits (map numberOf (i .before .before .before .args .codes .now)))
+    (passed (i .before .general-lie .ensures) (i .if1 .left)) _ (c .fields-lie .ensures)))

@@ -36,9 +36,11 @@ codes-of-spec =
     (λ c.
     let l = c .before .before .before .loop in
     built-more _ _ _ (l .i) (l .codes) _ (omega arith) (l .inv)
-    (code-of-given (getD (c .before .before .before .before .args .numbers .now) (l .i) (pos 0)) (c .code-of .result) (sfits-of (c .before .code-of-arg .given)) (c .code-of .ensures)))
+    (code-of-given (getD (c .before .before .before .before .args .numbers .now) (l .i) (pos 0)) (c .code-of .result)
+    (sfits-of (c .before .code-of-arg .given)) (c .code-of .ensures)))
     (λ c.
     let numbers = c .before .before .args .numbers .now in
     let n : length numbers ≡ paramCount = search needs in
-    built-done _ _ _ (c .before .loop .i) (c .before .loop .codes) (map codeOf numbers) (omega arith) (c .before .loop .inv) (length-map numbers codeOf ∙ n)
+    built-done _ _ _ (c .before .loop .i) (c .before .loop .codes) (map codeOf numbers) (omega arith) (c .before .loop .inv)
+    (length-map numbers codeOf ∙ n)
     (λ k h. List·getD-map codeOf numbers k (pos 0))))

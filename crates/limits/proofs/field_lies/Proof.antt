@@ -1,5 +1,5 @@
 -- `limits::field_lies`: after k turns the topics below k are right. Assumes nothing.
-use Rattle.index.proofs.Kit.{_+_, _*_, _≤_, _-_, _≡_, arith, every, true}
+use Rattle.index.proofs.Kit.{_≤_, _-_, _≡_, arith, every, true}
 use borrow.Author.Needs.{needs}
 use lib.ListN.{getD}
 use mir.Syntax.{w64}
@@ -48,5 +48,8 @@ field-lies-spec =
     returns
     (λ c. search needs)
     (λ c. search needs)
-    (λ c. (omega arith, every-more _ _ (c .before .before .before .before .loop .inv .1) (passed (c .before .code-lies .ensures) (c .if1 .left))))
+    (λ c. (
+      omega arith,
+      every-more _ _ (c .before .before .before .before .loop .inv .1) (passed (c .before .code-lies .ensures) (c .if1 .left)),
+    ))
     returns-2)

@@ -26,7 +26,9 @@ told :
 told g =
     let l = g .before .before .before .before .before in
     let j = l .loop .j in
-    g .field-lies .ensures ∙ field-is (l .before .before .before .args .codes .now) j _ (g .before .before .before .before .loop-test .taken) (limit-in _ (generalCount + j) (l .before .limits .ensures))
+    g .field-lies .ensures
+    ∙ field-is (l .before .before .before .args .codes .now) j _ (g .before .before .before .before .loop-test .taken)
+    (limit-in _ (generalCount + j) (l .before .limits .ensures))
 
 pub fields-lie-spec : {M : Type 1} → statement M
 fields-lie-spec =
@@ -43,5 +45,8 @@ fields-lie-spec =
     (λ c. every-out _ _ _ (omega arith) (failed (told (c .before)) (c .if1 .taken)))
     (λ c. search needs)
     (λ c. search needs)
-    (λ c. (omega arith, every-more _ _ (c .before .before .before .before .before .before .loop .inv .1) (passed (told (c .before)) (c .if1 .left))))
+    (λ c. (
+      omega arith,
+      every-more _ _ (c .before .before .before .before .before .before .loop .inv .1) (passed (told (c .before)) (c .if1 .left)),
+    ))
     (λ c. search (every-loop, needs)))

@@ -1,7 +1,6 @@
 -- `limits::general_lie`: after i turns the first i numbers are between their limits. Assumes nothing.
 use Rattle.index.proofs.Kit.{_≤_, _-_, _≡_, arith, every, true}
 use borrow.Author.Needs.{needs}
-use borrow.Author.Tests.{lt-ltb}
 use mathlib.Core.Path.{sym}
 use mathlib.Core.List.{map}
 use lib.ListN.{getD}
@@ -30,7 +29,9 @@ told g =
     let i = l .loop .i in
     let codes = l .before .before .before .args .codes .now in
     let h = g .before .before .before .before .before .loop-test .taken in
-    code-in codes i _ (lies-at (numberOf (getD codes i 0)) i i _ _ (limit-in _ i (l .before .limits .ensures)) (sym (general-field i h)) (g .code-lies .ensures))
+    code-in codes i _
+    (lies-at (numberOf (getD codes i 0)) i i _ _ (limit-in _ i (l .before .limits .ensures)) (sym (general-field i h))
+    (g .code-lies .ensures))
 
 pub general-lie-spec : {M : Type 1} → statement M
 general-lie-spec =
@@ -48,5 +49,9 @@ general-lie-spec =
     (λ c. every-out _ _ _ (omega arith) (failed (told (c .before)) (c .if1 .taken)))
     (λ c. search needs)
     (λ c. search needs)
-    (λ c. (omega arith, every-more _ _ (c .before .before .before .before .before .before .before .loop .inv .1) (passed (told (c .before)) (c .if1 .left))))
+    (λ c. (
+      omega arith,
+      every-more _ _ (c .before .before .before .before .before .before .before .loop .inv .1)
+          (passed (told (c .before)) (c .if1 .left)),
+    ))
     (λ c. search (every-loop, needs)))

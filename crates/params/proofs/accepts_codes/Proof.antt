@@ -1,21 +1,16 @@
 -- `params::accepts_codes` meets its contract. Assumes nothing.
 use borrow.Author.Needs.{needs}
-use Rattle.params.proofs.CheckLaws.{codes-short, codes-outside, codes-within, codes-broken, codes-kept}
+use Rattle.params.proofs.CheckLaws.{edition-known, edition-unknown}
 use Rattle.params.proofs.accepts_codes.Statement.{statement}
 use Rattle.params.proofs.accepts_codes.Tie as tie
 
 pub accepts-codes-spec : {M : Type 1} → statement M
 accepts-codes-spec =
     tie.close (tie.spec
-    (λ c. codes-short _ (c .if1 .taken))
     (λ c κs. search needs)
-    (λ c. codes-outside _ (c .before .before .if1 .left) _ (c .before .codes-lie .ensures) (c .if2 .taken))
-    (λ c κs. (c .before .before .if1 .left, codes-within (c .before .before .before .before .args .codes .now) (c .before .before .if1 .left) _ (c .before .codes-lie .ensures) (c .if2 .left)))
     (λ c. search needs)
+    (λ c κs. search needs)
     (λ c. search needs)
-    (λ c.
-    let i = c .before .before .before .before in
-    codes-broken _ (i .before .before .if1 .left) _ (i .before .codes-lie .ensures) _ _ (i .if2 .left) (c .before .before .before .first-rule .ensures) (c .before .k .given .1))
-    (λ c.
-    let i = c .before .before .before in
-    codes-kept _ (i .before .before .if1 .left) _ (i .before .codes-lie .ensures) _ (i .if2 .left) (c .before .before .first-rule .ensures) (c .enum-told .given .1)))
+    (λ c. edition-known _ _ _ (c .before .before .before .before .edition-of .ensures) _ _ (c .before .before .e .given .1)
+    (c .accepts .ensures))
+    (λ c. edition-unknown _ _ _ (c .before .before .edition-of .ensures) (c .enum-told .given .1)))

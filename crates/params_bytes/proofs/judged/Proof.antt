@@ -11,5 +11,6 @@ judged-spec =
     (λ c. search needs)
     (λ c κs. tt)
     (λ c. search needs)
-    (λ c. judged-broken _ _ _ _ _ (c .before .before .before .before .first-broken .ensures) (c .before .before .i .given .1) (c .refused .ensures))
+    (λ c. judged-broken _ _ _ _ _ (c .before .before .before .before .first-broken .ensures) (c .before .before .i .given .1)
+    (c .refused .ensures))
     (λ c. judged-kept _ _ _ (c .before .before .first-broken .ensures) (c .enum-told .given .1)))

@@ -8,8 +8,22 @@ read-spec =
     tie.close (tie.spec
     (λ c κs. tt)
     (λ c κs. tt)
-    (λ c. read-bad _ (c .before .before .before .parse .result) (c .before .before .before .parse .ensures) _ (c .before .if1 .taken) (c .refused .ensures))
     (λ c κs. tt)
-    (λ c. read-left _ (c .before .before .before .before .parse .result) (c .before .before .before .before .parse .ensures) _ (c .before .before .if1 .left) (c .before .if2 .taken) (c .refused2 .ensures))
     (λ c κs. tt)
-    (λ c. read-good _ (c .before .before .before .before .before .parse .result) (c .before .before .before .before .before .parse .ensures) _ (c .before .before .before .if1 .left) (c .before .before .if2 .left) (c .judged .ensures)))
+    (λ c.
+    let p = c .before .before .before in
+    let d = p .before .before .edition-in in
+    read-bad _ (d .result) (d .ensures) _ (p .before .front-length .ensures) (p .parse .result) (p .parse .ensures) _
+    (c .before .if1 .taken) (c .refused .ensures))
+    (λ c κs. tt)
+    (λ c.
+    let p = c .before .before .before .before in
+    let d = p .before .before .edition-in in
+    read-left _ (d .result) (d .ensures) _ (p .before .front-length .ensures) (p .parse .result) (p .parse .ensures) _
+    (c .before .before .if1 .left) (c .before .if2 .taken) (c .refused2 .ensures))
+    (λ c κs. tt)
+    (λ c.
+    let p = c .before .before .before .before .before in
+    let d = p .before .before .edition-in in
+    read-good _ (d .result) (d .ensures) _ (p .before .front-length .ensures) (p .parse .result) (p .parse .ensures) _
+    (c .before .before .before .if1 .left) (c .before .before .if2 .left) (c .judged .ensures)))

@@ -8,6 +8,16 @@ read-front-spec =
     tie.close (tie.spec
     (λ c κs. tt)
     (λ c κs. tt)
-    (λ c. front-bad _ (c .before .before .before .parse .result) (c .before .before .before .parse .ensures) _ (c .before .if1 .taken) (c .refused .ensures))
     (λ c κs. tt)
-    (λ c. front-good _ (c .before .before .before .before .parse .result) (c .before .before .before .before .parse .ensures) _ (c .before .before .if1 .left) (c .judged .ensures)))
+    (λ c κs. tt)
+    (λ c.
+    let p = c .before .before .before in
+    let d = p .before .before .edition-in in
+    front-bad _ (d .result) (d .ensures) _ (p .before .front-length .ensures) (p .parse .result) (p .parse .ensures) _
+    (c .before .if1 .taken) (c .refused .ensures))
+    (λ c κs. tt)
+    (λ c.
+    let p = c .before .before .before .before in
+    let d = p .before .before .edition-in in
+    front-good _ (d .result) (d .ensures) _ (p .before .front-length .ensures) (p .parse .result) (p .parse .ensures) _
+    (c .before .before .if1 .left) (c .judged .ensures)))

@@ -1,4 +1,5 @@
--- `peer_score::load_general` meets its contract. Assumes nothing.
+-- `peer_score::load_general`: five loaded numbers are the record of the rules.
+-- Assumes nothing.
 use native.Mathlib.Omega.{arith}
 use Rattle.score.specs.Score.{scoreParamsIn}
 use Rattle.peer_score.proofs.load_general.Statement.{statement}

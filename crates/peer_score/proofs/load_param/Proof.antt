@@ -1,5 +1,7 @@
--- `peer_score::load_param` meets its contract. Assumes nothing.
+-- `peer_score::load_param`: a topic's parameters are sixteen, behind the general nineteen.
+-- Assumes nothing.
 use native.Mathlib.Omega.{arith}
+use borrow.Author.Needs.{needs}
 use Rattle.peer_score.proofs.load_param.Statement.{statement}
 use Rattle.peer_score.proofs.load_param.Tie as tie
 
@@ -9,5 +11,5 @@ load-param-spec =
     (λ c. omega arith)
     (λ c. omega arith)
     (λ c. omega arith)
-    (λ c κs. omega arith)
-    (λ c. c .load-size .ensures))
+    (λ c κs. search needs)
+    (λ c. c .load-magnitude .ensures))

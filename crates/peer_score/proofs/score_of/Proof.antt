@@ -1,4 +1,5 @@
--- `peer_score::score_of` meets its contract. Assumes nothing.
+-- `peer_score::score_of`: the total of the parts is worth the score.
+-- Assumes nothing.
 use borrow.Author.Needs.{needs}
 use Rattle.score.proofs.InputLaws.{slot-in}
 use Rattle.score.proofs.ScoreLaws.{scores}
@@ -11,5 +12,5 @@ score-of-spec =
     (λ c κs. search needs)
     (λ c κs. search needs)
     (λ c.
-    let p = c .before .before .before .pre .1 in
-    scores _ _ (slot-in _ (p .0) _ (p .1)) _ _ (c .before .score-parts .ensures .0) (c .total .ensures .0)))
+    let p = c .before .before .before .pre in
+    scores _ _ (slot-in _ (p .standing .router) _ (p .slot)) _ _ (c .before .score-parts .ensures .0) (c .total .ensures .0)))

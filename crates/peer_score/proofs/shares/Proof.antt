@@ -1,4 +1,5 @@
--- `peer_score::shares` meets its contract. Assumes nothing.
+-- `peer_score::shares`: one test of the two numbers loaded, as 1 or 0.
+-- Assumes nothing.
 use borrow.Author.Needs.{needs}
 use Rattle.score.proofs.SlotLaws.{shares-is}
 use Rattle.peer_score.proofs.shares.Statement.{statement}

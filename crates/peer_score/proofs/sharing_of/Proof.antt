@@ -1,4 +1,5 @@
--- `peer_score::sharing_of` meets its contract. The invariant: n counts the slots passed. Assumes nothing.
+-- `peer_score::sharing_of`. The invariant: n counts the slots passed.
+-- Assumes nothing.
 use Rattle.records.specs.Records.{slotCount}
 use Prim.Native.Nat.{_≤_, _-_}
 use mathlib.Core.Path.{_≡_}
@@ -23,7 +24,7 @@ sharing-of-spec =
     Inv-loop
     μ-loop
     (λ c. (search needs, (search needs, sharing-none _ _)))
-    (λ c κs. omega arith)
+    (λ c κs. search needs)
     (λ c. omega arith)
     (λ c. omega arith)
     (λ c. omega arith)

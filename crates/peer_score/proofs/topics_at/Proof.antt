@@ -1,4 +1,5 @@
--- `peer_score::topics_at` meets its contract. The invariant: the sum is that of the topics passed. Assumes nothing.
+-- `peer_score::topics_at`. The invariant: the sum is that of the topics passed.
+-- Assumes nothing.
 use Prim.Native.Nat.{_≤_, _-_}
 use mathlib.Core.Path.{_≡_, _∙_}
 use native.Mathlib.Omega.{arith}
@@ -24,11 +25,11 @@ topics-at-spec =
     Inv-loop
     μ-loop
     (λ c. (search needs, sum-none _))
-    (λ c κs. let p = c .before .before .before .pre in (p .0, (p .1 .0, (p .1 .1, c .loop-test .taken))))
+    (λ c κs. search needs)
     (λ c κs.
-    let p = c .before .before .before .before .pre .1 in
+    let p = c .before .before .before .before .pre in
     add-ready _ _
-    (slot-in _ (p .0) _ (p .1))
+    (slot-in _ (p .standing .router) _ (p .slot))
     _ _ _
     (c .before .loop-test .taken)
     (c .before .before .loop .inv .1)
@@ -42,5 +43,5 @@ topics-at-spec =
     ))
     (λ c.
     let l = c .before .loop in
-    let p = c .before .before .before .pre .1 in
-    topics-done _ _ (slot-in _ (p .0) _ (p .1)) _ _ (l .inv .0) (c .loop-test .left) (l .inv .1)))
+    let p = c .before .before .before .pre in
+    topics-done _ _ (slot-in _ (p .standing .router) _ (p .slot)) _ _ (l .inv .0) (c .loop-test .left) (l .inv .1)))

@@ -1,4 +1,5 @@
--- `peer_score::why_of` meets its contract. Assumes nothing.
+-- `peer_score::why_of`: what the parts tell is what the rules tell.
+-- Assumes nothing.
 use borrow.Author.Needs.{needs}
 use mathlib.Core.Path.{ap, _∙_}
 use Rattle.score.specs.Sums.{toldOf}
@@ -13,5 +14,5 @@ why-of-spec =
     (λ c κs. search needs)
     (λ c κs. search needs)
     (λ c.
-    let p = c .before .before .before .pre .1 in
-    c .why .ensures ∙ ap toldOf (c .before .score-parts .ensures .0) ∙ told-is _ _ (slot-in _ (p .0) _ (p .1))))
+    let p = c .before .before .before .pre in
+    c .why .ensures ∙ ap toldOf (c .before .score-parts .ensures .0) ∙ told-is _ _ (slot-in _ (p .standing .router) _ (p .slot))))

@@ -1,4 +1,4 @@
--- `peers::connect` meets its contract.
+-- `peers::connect`: the gate's refusals, or what `connect_from` leaves.
 -- Assumes nothing.
 use borrow.Author.Needs.{needs}
 use Rattle.rules.specs.Step.{effect}

@@ -1,4 +1,4 @@
--- `peers::connect_at` meets its contract.
+-- `peers::connect_at`: the record in the slot, and the clock.
 -- Assumes nothing.
 use borrow.Author.Needs.{needs}
 use Rattle.rules.specs.Step.{connectAt}
@@ -8,7 +8,8 @@ use Rattle.peers.proofs.connect_at.Tie as tie
 
 returns : tie.Need-returns
 unfolding connectAt
-returns c = leaves-done _ _ _ _ _ _ (c .before .before .before .before .before .before .connect-slot .ensures) (c .before .before .finish .ensures)
+returns c = leaves-done _ _ _ _ _ _ (c .before .before .before .before .before .before .connect-slot .ensures)
+    (c .before .before .finish .ensures)
 
 pub connect-at-spec : {M : Type 1} → statement M
 connect-at-spec =

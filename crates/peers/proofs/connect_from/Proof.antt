@@ -1,4 +1,4 @@
--- `peers::connect_from` meets its contract.
+-- `peers::connect_from`: 6, 4, or what `connect_known` leaves.
 -- Assumes nothing.
 use borrow.Author.Needs.{needs}
 use Rattle.peers.proofs.PeerLaws.{connect-unknown, connect-already, connect-new}
@@ -7,11 +7,14 @@ use Rattle.peers.proofs.connect_from.Tie as tie
 
 returns-2 : tie.Need-returns-2
 returns-2 c =
-    connect-already _ _ _ _ _ _ _ (c .before .before .before .before .before .before .before .version-of .ensures) _ (c .before .before .before .before .before .version .given .1) _ (search) _ (c .enum-told2 .given .1)
+    connect-already _ _ _ _ _ _ _ (c .before .before .before .before .before .before .before .version-of .ensures) _
+    (c .before .before .before .before .before .version .given .1) _ (search) _ (c .enum-told2 .given .1)
 
 returns-3 : tie.Need-returns-3
 returns-3 c =
-    connect-new _ _ _ _ _ _ _ (c .before .before .before .before .before .before .before .before .before .before .before .version-of .ensures) _ (c .before .before .before .before .before .before .before .before .before .version .given .1) _ (search) _ _
+    connect-new _ _ _ _ _ _ _
+    (c .before .before .before .before .before .before .before .before .before .before .before .version-of .ensures) _
+    (c .before .before .before .before .before .before .before .before .before .version .given .1) _ (search) _ _
     (c .before .before .before .before .enum-told3 .given .1) (c .before .before .connect-known .ensures)
 
 pub connect-from-spec : {M : Type 1} → statement M

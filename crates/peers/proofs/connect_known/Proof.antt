@@ -8,9 +8,13 @@ use Rattle.peers.proofs.connect_known.Tie as tie
 
 returns-2 : tie.Need-returns-2
 returns-2 c =
-    let size = c .before .before .before .before .before .before .before .before .before .before .before .before .before .pre .standing .size in
-    connect-full _ _ _ _ _ _ _ (c .before .before .before .before .before .before .before .before .before .before .reclaim .ensures) _ (c .before .before .before .before .before .before .find-retained .ensures) (c .before .before .before .before .enum-told .given .1)
-    _ (c .before .before .lowest-empty .ensures) size (c .before .before .before .before .before .before .before .before .before .before .reclaim .kept .0 ∙ size) (c .enum-told2 .given .1)
+    let size = c .before .before .before .before .before .before .before .before .before .before .before .before .before .pre .standing
+    .size in
+    connect-full _ _ _ _ _ _ _ (c .before .before .before .before .before .before .before .before .before .before .reclaim .ensures) _
+    (c .before .before .before .before .before .before .find-retained .ensures) (c .before .before .before .before .enum-told .given .1)
+    _ (c .before .before .lowest-empty .ensures) size
+    (c .before .before .before .before .before .before .before .before .before .before .reclaim .kept .0 ∙ size)
+    (c .enum-told2 .given .1)
 
 pub connect-known-spec : {M : Type 1} → statement M
 connect-known-spec =
@@ -19,7 +23,7 @@ connect-known-spec =
     (λ c κs. search needs)
     (λ c κs. search needs)
     (λ c. search needs)
-    (λ c κs. (search needs, search retained-below))
+    (λ c κs. search (retained-below, needs))
     (λ c. search needs)
     (λ c. search connect-retained)
     (λ c. search needs)
@@ -28,6 +32,6 @@ connect-known-spec =
     (λ c. search needs)
     (λ c. search needs)
     returns-2
-    (λ c κs. (search needs, search empty-below))
+    (λ c κs. search (empty-below, needs))
     (λ c. search needs)
     (λ c. search connect-empty))

@@ -1,4 +1,4 @@
--- `peers::disconnect` meets its contract.
+-- `peers::disconnect`: the gate's refusals, or what `disconnect_from` leaves.
 -- Assumes nothing.
 use borrow.Author.Needs.{needs}
 use Rattle.gate.proofs.CallLaws.{call-ends}

@@ -13,7 +13,7 @@ end-after-requires : tie.Need-end-after-requires
 end-after-requires c κs =
     let ready = c .before .before .before .before .before .before .before .before .before .pre in
     let most = sizes _ (ready .standing .router) in
-    (ready .latest, omega (arith, c .load-size .ensures))
+    record { latest = ready .latest; seconds = omega (arith, c .load-magnitude .ensures) }
 
 pub disconnect-from-spec : {M : Type 1} → statement M
 unfolding effect
@@ -27,7 +27,7 @@ disconnect-from-spec =
     (λ c. search peer-none)
     (λ c κs. search needs)
     end-after-requires
-    (λ c κs. (search needs, search found-below))
+    (λ c κs. search (found-below, needs))
     (λ c κs. search needs)
     (λ c. search needs)
     (λ c. search (peer-at, departed-done)))

@@ -1,4 +1,4 @@
--- `peers::p5_ok` meets its contract.
+-- `peers::p5_ok`: the magnitude of a signed number is that of its words.
 -- Assumes nothing.
 use mathlib.Core.Path.{ap}
 use Prim.Native.Nat.{ℕ}
@@ -13,4 +13,4 @@ p5-ok-spec =
     tie.close
     (tie.spec
     (λ c κs. search needs)
-    (λ c. ap (λ (n : ℕ). leb n 1000000000) (rw (toZ-ofZ (c .before .fits .p5)) at (c .magnitude .ensures))))
+    (λ c. ap (λ (n : ℕ). leb n 1000000000) (rw (toZ-ofZ (c .before .fits .p5)) at (c .nat-abs .ensures))))

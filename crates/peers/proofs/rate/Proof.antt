@@ -1,4 +1,4 @@
--- `peers::rate` meets its contract.
+-- `peers::rate`: the gate's refusals, or what `rate_from` leaves.
 -- Assumes nothing.
 use borrow.Author.Needs.{needs}
 use Rattle.gate.proofs.CallLaws.{call-ends}

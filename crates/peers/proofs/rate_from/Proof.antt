@@ -12,7 +12,9 @@ unfolding effect
 returns-2 c =
     let b = c .before .before .before .before .before .before .before in
     let done =
-    rated-done _ _ _ _ _ _ (c .before .before .finish .ensures) _ _ (b .before .before .before .before .before .before .before .before .fits .p5) (b .code-of .ensures) (c .before .before .before .before .before .before .rate-slot .ensures) in
+    rated-done _ _ _ _ _ _ (c .before .before .finish .ensures) _ _
+    (b .before .before .before .before .before .before .before .before .fits .p5) (b .code-of .ensures)
+    (c .before .before .before .before .before .before .rate-slot .ensures) in
     search peer-at
 
 pub rate-from-spec : {M : Type 1} → statement M
@@ -26,7 +28,7 @@ rate-from-spec =
     (λ c. search needs)
     (λ c. search peer-none)
     (λ c κs. search needs)
-    (λ c κs. (search needs, search found-below))
+    (λ c κs. search (found-below, needs))
     (λ c κs. search needs)
     (λ c. search needs)
     returns-2)

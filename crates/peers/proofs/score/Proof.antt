@@ -1,4 +1,4 @@
--- `peers::score` meets its contract.
+-- `peers::score`: the gate's refusals, or what `score_from` leaves.
 -- Assumes nothing.
 use borrow.Author.Needs.{needs}
 use Rattle.gate.proofs.CallLaws.{call-ends}

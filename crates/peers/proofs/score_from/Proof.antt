@@ -1,4 +1,4 @@
--- `peers::score_from` meets its contract.
+-- `peers::score_from`: 3, or the parts as they are computed, and the clock.
 -- Assumes nothing.
 use mathlib.Core.Path.{refl, ap}
 use borrow.Author.Needs.{needs}
@@ -12,7 +12,7 @@ use Rattle.peers.proofs.score_from.Tie as tie
 returns-2 : tie.Need-returns-2
 unfolding effect
 returns-2 c =
-    peer-at _ _ _ _ (search) _ _ _ (c .before .before .before .before .before .before .before .slot .given .1)
+    peer-at _ _ _ _ (search) _ _ _ (c .before .before .before .before .before .before .before .before .slot .given .1)
     (leaves-moved _ _ _ _ (ap Scored (c .before .before .before .before .why-of .ensures)) refl (c .before .before .store-clock .ensures))
 
 pub score-from-spec : {M : Type 1} → statement M
@@ -25,7 +25,8 @@ score-from-spec =
     (λ c. search needs)
     (λ c. search needs)
     (λ c. search peer-none)
-    (λ c κs. (search needs, (search needs, search found-below)))
+    (λ c κs. search (found-below, needs))
+    (λ c κs. search (found-below, needs))
     (λ c κs. search needs)
     (λ c. search needs)
     returns-2)

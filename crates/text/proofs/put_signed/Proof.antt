@@ -13,27 +13,27 @@ use Rattle.text.proofs.put_signed.Tie as tie
 -- what the two ways say of the text
 below :
     (c : tie.Then1) →
-    signedText (c .before .before .before .before .args .n) ≡ 45 ∷ decimal (c .before .before .magnitude .result)
+    signedText (c .before .before .before .before .args .n) ≡ 45 ∷ decimal (c .before .before .nat-abs .result)
 below c =
     text-neg
     _
     _
     _
     (c .before .before .before .before .fits .n)
-    (c .before .before .magnitude .ensures)
+    (c .before .before .nat-abs .ensures)
     (c .before .is-negative .ensures)
     (c .if1 .taken)
 
 above :
     (c : tie.Else1) →
-    signedText (c .before .before .before .before .args .n) ≡ decimal (c .before .before .magnitude .result)
+    signedText (c .before .before .before .before .args .n) ≡ decimal (c .before .before .nat-abs .result)
 above c =
     text-pos
     _
     _
     _
     (c .before .before .before .before .fits .n)
-    (c .before .before .magnitude .ensures)
+    (c .before .before .nat-abs .ensures)
     (c .before .is-negative .ensures)
     (c .if1 .left)
 

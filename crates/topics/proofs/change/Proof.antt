@@ -15,6 +15,6 @@ change-spec =
     (λ c κs. search needs)
     (λ c. search needs)
     (λ c. search needs)
-    (λ c κs. (search (call-ends, needs), search call-ends))
+    (λ c κs. record { ready = search (call-ends, needs); topic = search call-ends })
     (λ c. search change-refusal)
     (λ c. search change-follows))

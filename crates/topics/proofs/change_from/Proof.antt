@@ -1,13 +1,11 @@
--- `topics::change_from`: 3, 11 of a graylisted peer, else the record and the clock.
+-- `topics::change_from`: the slot that holds the id, or 3.
+-- Assumes nothing.
 use borrow.Author.Needs.{needs}
 use Rattle.rules.proofs.StepLaws.{found-below, peer-none, peer-at}
-use Rattle.topics.specs.Change.{changeReply}
-use Rattle.topics.proofs.ReplyLaws.{else-ignored, else-done}
 use Rattle.topics.proofs.change_from.Statement.{statement}
 use Rattle.topics.proofs.change_from.Tie as tie
 
 pub change-from-spec : {M : Type 1} → statement M
-unfolding changeReply
 change-from-spec =
     tie.close
     (tie.spec
@@ -16,11 +14,6 @@ change-from-spec =
     (λ c. search needs)
     (λ c. search needs)
     (λ c. search peer-none)
-    (λ c κs. (search needs, search found-below))
-    (λ c κs. search needs)
+    (λ c κs. search (found-below, needs))
     (λ c. search needs)
-    (λ c. search (peer-at, else-ignored))
-    (λ c κs. (search needs, (search needs, search found-below)))
-    (λ c κs. search needs)
-    (λ c. search needs)
-    (λ c. search (peer-at, else-done)))
+    (λ c. search peer-at))

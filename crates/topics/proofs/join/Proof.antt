@@ -16,6 +16,6 @@ join-spec =
     (λ c κs. search needs)
     (λ c. search needs)
     (λ c. search needs)
-    (λ c κs. (search (call-ends, needs), search call-ends))
+    (λ c κs. record { ready = search (call-ends, needs); topic = search call-ends })
     (λ c. search call-ends)
     (λ c. search (call-ends, quiet-join)))

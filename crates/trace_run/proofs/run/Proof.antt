@@ -2,11 +2,10 @@
 -- is not whole. Assumes nothing.
 use Prim.Native.Nat.{_-_}
 use mathlib.Core.Path.{_≡_, refl}
-use mathlib.Core.List.{List}
 use borrow.Author.Needs.{needs}
 use native.Mathlib.Omega.{arith}
 use lib.ListN.{length, length-set}
-use lib.IntN.{ℤ}
+use Rattle.params.specs.declared.Params.{Params}
 use Rattle.layout.specs.View.{stateOf}
 use Rattle.lookup.specs.Fresh.{freshState}
 use Rattle.trace_step.proofs.ReplayLaws.{few-actions}
@@ -19,7 +18,7 @@ abbrev Inv-loop : tie.InvT-loop
 Inv-loop s table₀ actions₀ told₀ at₀ calls₀ table actions told at calls =
     (length actions ≡ length actions₀)
     × ((length told ≡ length told₀)
-    × ((params : List ℤ) → stateOf table₀ ≡ freshState params → Going params s actions₀ told₀ at calls table actions told))
+    × ((params : Params) → stateOf table₀ ≡ freshState params → Going params s actions₀ told₀ at calls table actions told))
 
 abbrev μ-loop : tie.MeasureT-loop
 μ-loop s table₀ actions₀ told₀ at₀ calls₀ table actions told at calls = length told₀ - calls

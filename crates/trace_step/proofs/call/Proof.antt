@@ -8,7 +8,9 @@ use Rattle.trace_step.proofs.call.Tie as tie
 returns-5 : tie.Need-returns-5
 returns-5 c =
     let s = c .before .before .before .before .before .before .before .before .before in
-    follows-as _ _ _ _ _ _ _ (call-11 (s .args .kind) (s .args .t3) (search needs) (c .before .before .before .before .before .before .before .match .keys5)) (c .before .before .heartbeat .ensures)
+    follows-as _ _ _ _ _ _ _
+    (call-11 (s .args .kind) (s .args .t3) (search needs) (c .before .before .before .before .before .before .before .match .keys5))
+    (c .before .before .heartbeat .ensures)
 
 pub call-spec : {M : Type 1} → statement M
 unfolding callOf

@@ -18,13 +18,17 @@ returns-2 : tie.Need-returns-2
 returns-2 c =
     let u = c .before .before .before .before .before .before .before .before .before .read-numbers in
     let s = c .before .before .before .before .before .before .before .before .before .before .before .before in
-    kind-connect _ (s .args .kind) _ _ (u .result) (u .ensures .0) (u .ensures .1) (passed refl (c .before .before .before .before .before .before .before .if1 .left)) _ _ _ _ _ (c .before .before .before .before .before .if2 .taken) (c .before .before .connect .ensures)
+    kind-connect _ (s .args .kind) _ _ (u .result) (u .ensures .0) (u .ensures .1)
+    (passed refl (c .before .before .before .before .before .before .before .if1 .left)) _ _ _ _ _
+    (c .before .before .before .before .before .if2 .taken) (c .before .before .connect .ensures)
 
 returns-3 : tie.Need-returns-3
 returns-3 c =
     let u = c .before .before .before .before .before .before .before .before .before .read-numbers in
     let s = c .before .before .before .before .before .before .before .before .before .before .before .before in
-    kind-other _ (s .args .kind) _ _ (u .result) (u .ensures .0) (u .ensures .1) (passed refl (c .before .before .before .before .before .before .before .if1 .left)) _ _ _ _ _ (s .pre) (search needs) (c .before .before .before .before .before .if2 .left) (c .before .before .call .ensures)
+    kind-other _ (s .args .kind) _ _ (u .result) (u .ensures .0) (u .ensures .1)
+    (passed refl (c .before .before .before .before .before .before .before .if1 .left)) _ _ _ _ _ (s .pre) (search needs)
+    (c .before .before .before .before .before .if2 .left) (c .before .before .call .ensures)
 
 pub perform-kind-spec : {M : Type 1} → statement M
 perform-kind-spec =

@@ -188,7 +188,8 @@ impl Start {
         slots(set).filter(|&slot| self.scores[slot] > median).fold(0, |set, slot| set | 1 << slot)
     }
 
-    /// Step 3's keepers: the best, others to make D, and the swaps.
+    /// Step 3's keepers: the best, others to make D, and the swaps. By edition 1's rule
+    /// the drawn keepers are always enough, so one swap does for both editions.
     fn cut(&self, mesh: u64, d_score: usize, d: usize, d_out: usize) -> u64 {
         let best = self.best(mesh, d_score);
         let mut kept = best | self.first(mesh & !best, d - d_score);
@@ -200,12 +201,25 @@ impl Start {
             self.order.iter().filter(|&&slot| mesh & !kept & self.outbound & bit(slot) != 0);
         let mut changed = 0;
         while missing > 0 {
-            let (Some(&out), Some(&into)) = (goes.next(), comes.next()) else { break };
-            changed |= bit(out) | bit(into);
+            let Some(&into) = comes.next() else { break };
+            let out = match goes.next() {
+                Some(&slot) => bit(slot),
+                None => self.lowest(best & !self.outbound & !changed),
+            };
+            if out == 0 {
+                break;
+            }
+            changed |= out | bit(into);
             missing -= 1;
         }
         kept ^= changed;
         kept
+    }
+
+    /// The lowest of a set by score; of equals the later in the permutation.
+    fn lowest(&self, set: u64) -> u64 {
+        let members = self.order.iter().rev().filter(|&&slot| set & bit(slot) != 0);
+        members.min_by_key(|&&slot| self.scores[slot as usize]).map_or(0, |&slot| bit(slot))
     }
 
     /// The best by score; of equals the earlier in the permutation.

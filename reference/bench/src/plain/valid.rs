@@ -4,7 +4,7 @@
 use super::{Peer, Router, Status, Topics};
 use reference::event::{LAST_TIME, P5_LIMIT, SLOTS};
 use reference::params::{
-    general, topic, topic_index, COUNT, GENERAL, GENERAL_COUNT, TOPIC, TOPICS, TOPIC_COUNT,
+    general, topic, topic_index, Edition, COUNT, GENERAL, GENERAL_COUNT, TOPIC, TOPICS, TOPIC_COUNT,
 };
 
 const P4_P7_LIMIT: u32 = 1_000_000;
@@ -72,11 +72,12 @@ impl Router {
         let n = |place: usize| self.numbers[place];
         let caps = |k: usize| n(topic_index(k, topic::P3_CAP));
         let thresholds = |k: usize| n(topic_index(k, topic::P3_THRESHOLD));
+        let beside_best = if self.edition == Edition::One { n(D_OUT) } else { 0 };
         (n(D_LO) <= n(D))
             & (n(D) <= n(D_HI))
             & (n(D_OUT) < n(D_LO))
             & (2 * n(D_OUT) <= n(D))
-            & (n(D_SCORE) + n(D_OUT) <= n(D))
+            & (n(D_SCORE) + beside_best <= n(D))
             & (n(PUBLISH_THRESHOLD) <= n(GOSSIP_THRESHOLD))
             & (n(GRAYLIST_THRESHOLD) < n(PUBLISH_THRESHOLD))
             & (0..TOPICS).all(|k| caps(k) >= thresholds(k))

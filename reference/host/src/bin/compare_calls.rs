@@ -3,14 +3,14 @@
 
 use host_compare::counts::Counts;
 use host_compare::library::Library;
-use host_compare::{edges, made, parameters, report, runs, swept};
+use host_compare::{edges, made, parameters, report, runs, swept, UNLINKED};
 use reference::command;
 use reference::random::Random;
 use std::process::ExitCode;
 
-#[cfg(not(feature = "stand_in"))]
+#[cfg(linked)]
 use host_compare::linked::Linked as Tested;
-#[cfg(feature = "stand_in")]
+#[cfg(not(linked))]
 use host_compare::stand_in::StandIn as Tested;
 
 const CALLS: u64 = 1_000_000;
@@ -32,6 +32,10 @@ fn main() -> ExitCode {
         eprintln!("{USAGE}");
         return ExitCode::from(2);
     };
+    if cfg!(not(linked)) {
+        eprintln!("compare_calls: {UNLINKED}");
+        return ExitCode::from(2);
+    }
     println!("seed {seed}");
     match compare(&Tested, calls, longest as usize, &mut Random::new(seed)) {
         Ok(true) => ExitCode::SUCCESS,

@@ -2,13 +2,14 @@
 //! `compare_messages [COUNT] [SEED] [PART]`.
 
 use host_compare::messages::{compare, report, Reached, PARTS};
+use host_compare::UNLINKED;
 use reference::command;
 use reference::random::Random;
 use std::process::ExitCode;
 
-#[cfg(not(feature = "stand_in"))]
+#[cfg(linked)]
 use host_compare::linked::Linked as Tested;
-#[cfg(feature = "stand_in")]
+#[cfg(not(linked))]
 use host_compare::stand_in::StandIn as Tested;
 
 const COUNT: u64 = 200_000;
@@ -28,6 +29,9 @@ fn run(arguments: &[String]) -> Result<bool, String> {
     };
     if parts.is_empty() || arguments.len() > 3 {
         return Err(USAGE.to_string());
+    }
+    if cfg!(not(linked)) {
+        return Err(UNLINKED.to_string());
     }
     println!("seed {seed}");
     let mut reached = Reached::default();

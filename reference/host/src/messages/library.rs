@@ -15,7 +15,7 @@ pub trait MessageLibrary {
     fn write_message(&self, names: &NamesTable, lists: &Lists, buffer: &mut [u8]) -> u64;
 }
 
-#[cfg(not(feature = "stand_in"))]
+#[cfg(linked)]
 impl MessageLibrary for crate::linked::Linked {
     fn names(&self, table: &NamesTable) -> u64 {
         hivepadlet::messages::names(table)
@@ -26,7 +26,8 @@ impl MessageLibrary for crate::linked::Linked {
     }
 
     fn write_message(&self, names: &NamesTable, lists: &Lists, buffer: &mut [u8]) -> u64 {
-        hivepadlet::messages::write_message(names, lists, buffer)
+        let Lists { actions, topics, changes } = lists;
+        hivepadlet::messages::write_message(names, actions, topics, changes, buffer)
     }
 }
 

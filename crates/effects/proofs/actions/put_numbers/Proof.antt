@@ -1,3 +1,5 @@
+-- `effects::actions::put_numbers`: three stores side by side are the three numbers put there.
+-- Assumes nothing.
 use Rattle.effects.proofs.ActionLaws.{sets-three}
 use lib.ListN.{length-set}
 use native.Mathlib.Omega.{arith}

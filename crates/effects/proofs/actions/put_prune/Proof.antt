@@ -1,3 +1,5 @@
+-- `effects::actions::put_prune`: casts that lose nothing, and the numbers of one action.
+-- Assumes nothing.
 use mathlib.Core.Path.{refl}
 use Rattle.effects.specs.Actions.{numbersOf}
 use borrow.Author.Needs.{needs}

@@ -1,3 +1,5 @@
+-- `effects::actions::told`: by the version.
+-- Assumes nothing.
 use borrow.Author.Tests.{eq-eqb, ne-eqb}
 use Rattle.effects.proofs.actions.told.Statement.{statement}
 use Rattle.effects.proofs.actions.told.Tie as tie

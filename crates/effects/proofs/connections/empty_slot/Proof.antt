@@ -1,3 +1,5 @@
+-- `effects::connections::empty_slot`: the topics, then the peer.
+-- Assumes nothing.
 use mathlib.Core.Path.{ap, _∙_}
 use Rattle.records.specs.Records.{State, noPeer, setPeer}
 use Rattle.effects.specs.Effects.{emptied}

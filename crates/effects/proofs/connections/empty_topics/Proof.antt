@@ -36,7 +36,7 @@ empty-topics-spec =
     (tie.spec
     Inv-loop
     μ-loop
-    (λ c. (omega arith, c .before .pre .0, sym (iter-none _ _)))
+    (λ c. (omega arith, c .before .pre .size, sym (iter-none _ _)))
     (λ c. search needs)
     (λ c. search needs)
     (λ c κs. search needs)
@@ -44,5 +44,5 @@ empty-topics-spec =
     (λ c. omega arith)
     (λ c. omega arith)
     loop-again
-    (λ c. c .before .loop .inv .1 ∙ sym (c .before .before .before .pre .0))
+    (λ c. c .before .loop .inv .1 ∙ sym (c .before .before .before .pre .size))
     returns)

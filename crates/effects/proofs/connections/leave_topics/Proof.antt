@@ -22,8 +22,11 @@ unfolding leftTopic
 loop-again c =
     let a = c .before .before .before .before .before .before .before .args in
     let l = c .before .before .before .before .before .loop in
-    let k = c .before .before .unsubscribe-slot in
-    (omega arith, k .kept .0 ∙ l .inv .1, iter-more (leave (a .slot)) (stateOf (a .table .now)) (l .t) (stateOf (l .table)) _ (l .inv .2) (k .ensures))
+    let k = c .before .before .unsubscribe-slot in (
+      omega arith,
+      k .kept .0 ∙ l .inv .1,
+      iter-more (leave (a .slot)) (stateOf (a .table .now)) (l .t) (stateOf (l .table)) _ (l .inv .2) (k .ensures),
+    )
 
 returns : tie.Need-returns Inv-loop μ-loop
 returns c =
@@ -37,10 +40,10 @@ leave-topics-spec =
     (tie.spec
     Inv-loop
     μ-loop
-    (λ c. (omega arith, c .before .pre .0, sym (iter-none _ _)))
+    (λ c. (omega arith, c .before .pre .size, sym (iter-none _ _)))
     (λ c κs. search needs)
     (λ c. omega arith)
     (λ c. omega arith)
     loop-again
-    (λ c. c .before .loop .inv .1 ∙ sym (c .before .before .before .pre .0))
+    (λ c. c .before .loop .inv .1 ∙ sym (c .before .before .before .pre .size))
     returns)

@@ -9,7 +9,8 @@ use Rattle.effects.proofs.connections.reclaim.Statement.{statement}
 use Rattle.effects.proofs.connections.reclaim.Tie as tie
 
 abbrev Inv-loop : tie.InvT-loop
-Inv-loop table₀ time slot₀ table slot = (slot ≤ slotCount) × (length table ≡ cellCount) × (stateOf table ≡ iter slot (reclaimSlot time) (stateOf table₀))
+Inv-loop table₀ time slot₀ table slot =
+    (slot ≤ slotCount) × (length table ≡ cellCount) × (stateOf table ≡ iter slot (reclaimSlot time) (stateOf table₀))
 
 abbrev μ-loop : tie.MeasureT-loop
 μ-loop table₀ time slot₀ table slot = slotCount - slot
@@ -18,8 +19,11 @@ loop-again : tie.Need-loop-again Inv-loop μ-loop
 loop-again c =
     let a = c .before .before .before .before .before .before .before .args in
     let l = c .before .before .before .before .before .loop in
-    let k = c .before .before .reclaim-slot in
-    (omega arith, k .kept .0 ∙ l .inv .1, iter-more (reclaimSlot (a .time)) (stateOf (a .table .now)) (l .slot) (stateOf (l .table)) _ (l .inv .2) (k .ensures))
+    let k = c .before .before .reclaim-slot in (
+      omega arith,
+      k .kept .0 ∙ l .inv .1,
+      iter-more (reclaimSlot (a .time)) (stateOf (a .table .now)) (l .slot) (stateOf (l .table)) _ (l .inv .2) (k .ensures),
+    )
 
 returns : tie.Need-returns Inv-loop μ-loop
 unfolding reclaimed

@@ -1,3 +1,5 @@
+-- `effects::connections::reclaimable`: the same tests, bracketed alike.
+-- Assumes nothing.
 use borrow.Author.Needs.{needs}
 use Rattle.effects.specs.Effects.{reclaimable}
 use Rattle.effects.proofs.connections.reclaimable.Statement.{statement}

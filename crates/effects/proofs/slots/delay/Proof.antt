@@ -1,3 +1,5 @@
+-- `effects::slots::delay`: one end stored is the record with that end, since the others stand.
+-- Assumes nothing.
 use mathlib.Core.Path.{_≡_, ap, _∙_}
 use native.Mathlib.Omega.{arith}
 use lib.ListN.{length}

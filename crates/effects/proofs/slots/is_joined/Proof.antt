@@ -1,3 +1,5 @@
+-- `effects::slots::is_joined`: the flag as loaded.
+-- Assumes nothing.
 use borrow.Author.Needs.{needs}
 use Rattle.effects.proofs.slots.is_joined.Statement.{statement}
 use Rattle.effects.proofs.slots.is_joined.Tie as tie

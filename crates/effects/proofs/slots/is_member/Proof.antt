@@ -1,3 +1,5 @@
+-- `effects::slots::is_member`: the flag as loaded.
+-- Assumes nothing.
 use Rattle.effects.specs.Effects.{isMember}
 use borrow.Author.Needs.{needs}
 use Rattle.effects.proofs.slots.is_member.Statement.{statement}

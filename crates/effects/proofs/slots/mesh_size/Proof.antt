@@ -17,7 +17,8 @@ abbrev μ-loop : tie.MeasureT-loop
 loop-again : tie.Need-loop-again Inv-loop μ-loop
 loop-again c =
     let l = c .before .before .before .loop in
-    let f = isMember (stateOf (c .before .before .before .before .before .args .table .now)) (c .before .before .before .before .before .args .topic) in (
+    let f = isMember (stateOf (c .before .before .before .before .before .args .table .now))
+    (c .before .before .before .before .before .args .topic) in (
       omega arith,
       ap (λ (k : ℕ). l .n + k) (c .one-if .ensures .0 ∙ ap one (c .before .is-member .ensures)) ∙ count-more f (l .slot) (l .n) (l .inv .1),
       omega arith,

@@ -1,3 +1,5 @@
+-- `effects::values::connected_as`: the record, field by field.
+-- Assumes nothing.
 use Rattle.effects.specs.Effects.{connectedAs}
 use mathlib.Core.Path.{refl}
 use Rattle.effects.proofs.values.connected_as.Statement.{statement}

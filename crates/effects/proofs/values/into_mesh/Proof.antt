@@ -1,3 +1,5 @@
+-- `effects::values::into_mesh`: the record, field by field.
+-- Assumes nothing.
 use Rattle.effects.specs.Effects.{intoMesh}
 use mathlib.Core.Path.{refl}
 use Rattle.effects.proofs.values.into_mesh.Statement.{statement}

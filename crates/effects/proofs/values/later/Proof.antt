@@ -1,3 +1,5 @@
+-- `effects::values::later`: by which is the larger.
+-- Assumes nothing.
 use native.Mathlib.Omega.{arith}
 use Rattle.effects.proofs.values.later.Statement.{statement}
 use Rattle.effects.proofs.values.later.Tie as tie

@@ -1,3 +1,5 @@
+-- `effects::values::out_of_mesh`: the record, field by field.
+-- Assumes nothing.
 use Rattle.effects.specs.Effects.{outOfMesh}
 use mathlib.Core.Path.{refl}
 use Rattle.effects.proofs.values.out_of_mesh.Statement.{statement}

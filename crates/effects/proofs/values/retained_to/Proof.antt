@@ -1,3 +1,5 @@
+-- `effects::values::retained_to`: the record, field by field.
+-- Assumes nothing.
 use Rattle.effects.specs.Effects.{retainedTo}
 use mathlib.Core.Path.{refl}
 use Rattle.effects.proofs.values.retained_to.Statement.{statement}

@@ -1,3 +1,5 @@
+-- `effects::values::with_end`: the record with one end replaced.
+-- Assumes nothing.
 use Rattle.effects.specs.Effects.{withEnd}
 use borrow.Author.Needs.{needs}
 use Rattle.effects.proofs.values.with_end.Statement.{statement}

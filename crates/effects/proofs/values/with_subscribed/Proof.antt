@@ -1,3 +1,5 @@
+-- `effects::values::with_subscribed`: the record, field by field.
+-- Assumes nothing.
 use Rattle.effects.specs.Effects.{withSubscribed}
 use mathlib.Core.Path.{refl}
 use Rattle.effects.proofs.values.with_subscribed.Statement.{statement}

@@ -26,13 +26,15 @@ share-requires : tie.Need-share-requires Inv-loop μ-loop
 share-requires c κs =
     let p = c .before .before .before .before .before .before .pre in
     let s = c .before .before .before .loop .s in
-    share-ready _ _ _ _ _ (slot-in _ (p .0 .router) s (omega arith)) (p .1 .0) (c .before .before .before .before .load-params .ensures) (c .load-topic .ensures)
+    share-ready _ _ _ _ _ (slot-in _ (p .standing .router) s (omega arith)) (p .topic)
+    (c .before .before .before .before .load-params .ensures) (c .load-topic .ensures)
 
 add-requires : tie.Need-add-requires Inv-loop μ-loop
 add-requires c κs =
     let p = c .before .before .before .before .before .before .before .pre in
     let s = c .before .before .before .before .loop .s in
-    add-ready _ s (slot-in _ (p .0 .router) s (omega arith)) _ _ _ (p .1 .0) (sum-at _ _ s _ (omega arith) (p .1 .1)) (c .share .ensures .1)
+    add-ready _ s (slot-in _ (p .standing .router) s (omega arith)) _ _ _ (p .topic) (sum-at _ _ s _ (omega arith) (p .sums))
+    (c .share .ensures .1)
 
 loop-again : tie.Need-loop-again Inv-loop μ-loop
 loop-again c =
@@ -40,8 +42,9 @@ loop-again c =
     let l = c .before .before .before .before .before .loop in
     built-more _ _ _ (l .s) (l .r) _ (omega arith) (l .inv)
     (c .add .ensures
-    ∙ sum-more _ _ _ _ (sum-at _ _ (l .s) _ (omega arith) (p .1 .1))
-    (share-is-at _ _ _ _ _ _ (c .before .share .ensures .0) (c .before .before .before .before .before .before .load-params .ensures) (c .before .before .load-topic .ensures)))
+    ∙ sum-more _ _ _ _ (sum-at _ _ (l .s) _ (omega arith) (p .sums))
+    (share-is-at _ _ _ _ _ _ (c .before .share .ensures .0) (c .before .before .before .before .before .before .load-params .ensures)
+    (c .before .before .load-topic .ensures)))
 
 pub add-topic-spec : {M : Type 1} → statement M
 add-topic-spec =
@@ -49,13 +52,13 @@ add-topic-spec =
     (tie.spec
     Inv-loop
     μ-loop
-    (λ c κs. let p = c .before .pre in (p .0 .size, p .1 .0))
-    (λ c. built-none _ _ _ _ (ap length (c .before .before .pre .1 .1) ∙ slots-length slotCount _))
+    (λ c κs. let p = c .before .pre in record { size = p .standing .size; topic = p .topic })
+    (λ c. built-none _ _ _ _ (ap length (c .before .before .pre .sums) ∙ slots-length slotCount _))
     (λ c. omega arith)
     (λ c. omega arith)
     (λ c. omega arith)
     (λ c. omega arith)
-    (λ c κs. let p = c .before .before .before .before .before .pre in (p .0 .size, omega (arith, p .1 .0)))
+    (λ c κs. let p = c .before .before .before .before .before .pre in (p .standing .size, omega (arith, p .topic)))
     share-requires
     add-requires
     (λ c. omega arith)

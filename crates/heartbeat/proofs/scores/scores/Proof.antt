@@ -23,19 +23,14 @@ height-requires c κs =
     let n = l .before in
     let o = n .before in
     let t = o .before in
-    let g = t .before in (
-      g .before .before .pre,
-      (
-        h,
-        (
-          g .load-general .ensures,
-          (
-            sum-at _ 8 s _ h (t .topics .ensures),
-            sharing-along _ _ _ s _ h (o .connected .ensures) (n .groups .ensures) (c .sharing-of .ensures),
-          ),
-        ),
-      ),
-    )
+    let g = t .before in
+    record {
+      standing = g .before .before .pre;
+      slot = h;
+      general = g .load-general .ensures;
+      topics = sum-at _ 8 s _ h (t .topics .ensures);
+      together = sharing-along _ _ _ s _ h (o .connected .ensures) (n .groups .ensures) (c .sharing-of .ensures);
+    }
 
 loop-again : tie.Need-loop-again Inv-loop μ-loop
 loop-again c =

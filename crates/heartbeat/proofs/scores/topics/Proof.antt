@@ -18,7 +18,7 @@ topics-spec =
     Inv-loop
     μ-loop
     (λ c. (omega arith, sums-none _))
-    (λ c κs. (c .before .before .before .pre, (omega arith, c .before .loop .inv .1)))
+    (λ c κs. record { standing = c .before .before .before .pre; topic = omega arith; sums = c .before .loop .inv .1 })
     (λ c. omega arith)
     (λ c. omega arith)
     (λ c. (omega arith, c .add-topic .ensures))

@@ -18,7 +18,12 @@ abbrev μ-loop : tie.MeasureT-loop
 is-candidate-requires : tie.Need-is-candidate-requires Inv-loop μ-loop
 is-candidate-requires c κs =
     let p = c .before .before .before .pre in
-    (p .0, (p .1 .0, (omega arith, score-at _ _ (c .before .loop .s) (omega arith) (p .1 .1))))
+    record {
+      standing = p .standing;
+      topic = p .topic;
+      slot = omega arith;
+      score = score-at _ _ (c .before .loop .s) (omega arith) (p .scores);
+    }
 
 loop-again : tie.Need-loop-again Inv-loop μ-loop
 loop-again c =

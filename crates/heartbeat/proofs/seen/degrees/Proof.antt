@@ -7,12 +7,12 @@ use Rattle.heartbeat.proofs.seen.degrees.Tie as tie
 mul-t8 : tie.Need-mul-t8
 mul-t8 c =
     let p = c .before .before .before .before .before .before .before .pre in
-    omega (arith, c .load-size6 .ensures, opportunistic _ (p .router))
+    omega (arith, c .load-magnitude6 .ensures, opportunistic _ (p .router))
 
 add-t9 : tie.Need-add-t9
 add-t9 c =
     let p = c .before .before .before .before .before .before .before .pre in
-    omega (arith, c .load-size6 .ensures, opportunistic _ (p .router))
+    omega (arith, c .load-magnitude6 .ensures, opportunistic _ (p .router))
 
 returns : tie.Need-returns
 returns c =
@@ -21,18 +21,20 @@ returns c =
     let hi = out .before in
     let d = hi .before in
     let lo = d .before in
-    degrees-are _ _ _ _ _ _ _ (lo .load-size .ensures) (d .load-size2 .ensures) (hi .load-size3 .ensures) (out .load-size4 .ensures) (score .load-size5 .ensures) (c .load-size6 .ensures)
+    degrees-are _ _ _ _ _ _ _ (lo .load-magnitude .ensures) (d .load-magnitude2 .ensures) (hi .load-magnitude3 .ensures)
+    (out .load-magnitude4 .ensures)
+    (score .load-magnitude5 .ensures) (c .load-magnitude6 .ensures)
 
 pub degrees-spec : {M : Type 1} → statement M
 degrees-spec =
     tie.close
     (tie.spec
-    (λ c κs. (c .before .pre .size, omega arith))
-    (λ c κs. (c .before .before .pre .size, omega arith))
-    (λ c κs. (c .before .before .before .pre .size, omega arith))
-    (λ c κs. (c .before .before .before .before .pre .size, omega arith))
-    (λ c κs. (c .before .before .before .before .before .pre .size, omega arith))
-    (λ c κs. (c .before .before .before .before .before .before .pre .size, omega arith))
+    (λ c κs. record { size = c .before .pre .size; param = omega arith })
+    (λ c κs. record { size = c .before .before .pre .size; param = omega arith })
+    (λ c κs. record { size = c .before .before .before .pre .size; param = omega arith })
+    (λ c κs. record { size = c .before .before .before .before .pre .size; param = omega arith })
+    (λ c κs. record { size = c .before .before .before .before .before .pre .size; param = omega arith })
+    (λ c κs. record { size = c .before .before .before .before .before .before .pre .size; param = omega arith })
     mul-t8
     add-t9
     returns)

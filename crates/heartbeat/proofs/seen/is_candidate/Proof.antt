@@ -10,16 +10,17 @@ returns c =
     let t = f .before .before in
     let p = t .before in
     let s = p .before .before .pre in
-    candidate-is _ _ _ _ _ _ _ _ (f .past-slack .ensures) (s .0 .router) (s .1 .1 .0) (p .load-peer .ensures) (t .load-topic .ensures) (s .1 .1 .1)
+    candidate-is _ _ _ _ _ _ _ _ (f .past-slack .ensures) (s .standing .router) (s .slot) (p .load-peer .ensures) (t .load-topic .ensures)
+    (s .score)
 
 pub is-candidate-spec : {M : Type 1} → statement M
 is-candidate-spec =
     tie.close
     (tie.spec
-    (λ c κs. let s = c .before .pre in (s .0 .size, s .1 .1 .0))
+    (λ c κs. let s = c .before .pre in (s .standing .size, s .slot))
     (λ c. omega arith)
     (λ c. omega arith)
-    (λ c κs. let s = c .before .before .pre in (s .0 .size, omega (arith, s .1 .0, s .1 .1 .0)))
+    (λ c κs. let s = c .before .before .pre in (s .standing .size, omega (arith, s .topic, s .slot)))
     (λ c. omega arith)
     (λ c. omega arith)
     (λ c κs. tt)

@@ -26,7 +26,7 @@ members-spec =
     Inv-loop
     μ-loop
     (λ c. built-none _ _ _ _ refl)
-    (λ c κs. let p = c .before .before .before .pre in (p .0, (p .1, omega arith)))
+    (λ c κs. let p = c .before .before .before .pre in record { size = p .size; topic = p .topic; slot = omega arith })
     (λ c. omega arith)
     (λ c. omega arith)
     (λ c. omega arith)

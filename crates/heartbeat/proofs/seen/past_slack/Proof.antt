@@ -1,4 +1,5 @@
--- `heartbeat::seen::past_slack` meets its contract.
+-- `heartbeat::seen::past_slack`: a difference that does not wrap in place of a sum.
+-- Assumes nothing.
 use Rattle.heartbeat.proofs.SeenLaws.{slack-never, slack-early, slack-is}
 use Rattle.heartbeat.proofs.seen.past_slack.Statement.{statement}
 use Rattle.heartbeat.proofs.seen.past_slack.Tie as tie

@@ -22,7 +22,8 @@ loop-again c =
     let p = c .before .before in
     let l = p .before .before .loop in
     ⊎-elim
-    (λ w. telling-put _ (l .s) (l .r) _ (omega arith) (l .inv) (w .1 ∙ ap (set (l .r) (l .s)) (told-yes _ _ _ _ (p .load-peer .ensures) (w .0 .taken))))
+    (λ w. telling-put _ (l .s) (l .r) _ (omega arith) (l .inv)
+    (w .1 ∙ ap (set (l .r) (l .s)) (told-yes _ _ _ _ (p .load-peer .ensures) (w .0 .taken))))
     (λ w. telling-past _ (l .s) (l .r) _ (omega arith) (l .inv) (w .1) (told-no _ _ _ _ (p .load-peer .ensures) (w .0 .left)))
     (c .if1 .came)
 

@@ -14,8 +14,9 @@ pub view-spec : {M : Type 1} → statement M
 view-spec =
     tie.close
     (tie.spec
-    (λ c κs. c .before .pre .0)
-    (λ c κs. let p = c .before .before .pre in (p .0 .size, p .1))
-    (λ c κs. let p = c .before .before .before .pre in (p .0, (p .1, c .before .scores .ensures)))
-    (λ c κs. c .before .before .before .before .pre .0 .size)
+    (λ c κs. c .before .pre .standing)
+    (λ c κs. let p = c .before .before .pre in record { size = p .standing .size; topic = p .topic })
+    (λ c κs. let p = c .before .before .before .pre in
+    record { standing = p .standing; topic = p .topic; scores = c .before .scores .ensures })
+    (λ c κs. c .before .before .before .before .pre .standing .size)
     returns)

@@ -25,7 +25,8 @@ loop-again c =
     let b = k .before .before in
     let l = b .before .loop in
     let s = b .before .before .before in
-    settling-more (s .args .table .now) _ _ _ _ _ (s .pre) _ (l .slot) (b .loop-test .taken) (l .table) (l .inv) _ _ _ _ refl refl refl (k .settle-slot .kept .0) (k .settle-slot .ensures)
+    settling-more (s .args .table .now) _ _ _ _ _ (s .pre) _ (l .slot) (b .loop-test .taken) (l .table) (l .inv) _ _ _ _ refl refl refl
+    (k .settle-slot .kept .0) (k .settle-slot .ensures)
 
 pub settle-spec : {M : Type 1} → statement M
 settle-spec =

@@ -8,10 +8,10 @@ prune-slot-requires : tie.Need-prune-slot-requires
 prune-slot-requires c κs =
     let p = c .before .before .before in
     let s = p .before .before .before .before .before .pre in
-    (p .punish .kept .0 ∙ s .size, (s .topic, s .slot))
+    record { size = p .punish .kept .0 ∙ s .size; topic = s .topic; slot = s .slot }
 
 graft-slot-requires : tie.Need-graft-slot-requires
-graft-slot-requires c κs = let s = c .before .before .before .before .pre in (s .size, (s .topic, s .slot))
+graft-slot-requires c κs = let s = c .before .before .before .before .pre in record { size = s .size; topic = s .topic; slot = s .slot }
 
 same-length : tie.Need-same-length
 same-length c =

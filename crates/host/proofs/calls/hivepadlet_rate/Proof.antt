@@ -13,4 +13,5 @@ hivepadlet-rate-spec =
     (λ c κs. search needs)
     (λ c κs. few-actions _ _ _ _ _ _ (c .before .before .rate .ensures))
     (λ c. search needs)
-    (λ c. rw (toZ-ofZ (c .before .before .before .before .before .before .before .fits .p5)) at (hosts _ (c .before .before .before .rate .ensures) _ (c .code .ensures))))
+    (λ c. rw (toZ-ofZ (c .before .before .before .before .before .before .before .fits .p5)) at
+    (hosts _ (c .before .before .before .rate .ensures) _ (c .code .ensures))))

@@ -1,7 +1,7 @@
 -- `host::hivepadlet_fresh` meets its contract. Assumes nothing.
 use native.Mathlib.Omega.{arith}
 use borrow.Author.Needs.{needs}
-use Rattle.host.proofs.HostLaws.{fresh-fits, hosts-fresh}
+use Rattle.host.proofs.HostLaws.{fresh-known, fresh-unknown}
 use Rattle.host.proofs.parameters.hivepadlet_fresh.Statement.{statement}
 use Rattle.host.proofs.parameters.hivepadlet_fresh.Tie as tie
 
@@ -11,8 +11,9 @@ hivepadlet-fresh-spec =
     (tie.spec
     (λ c κs. search needs)
     (λ c. search needs)
-    (λ c κs. (omega arith, omega arith))
     (λ c. search needs)
-    (λ c κs. (omega arith, fresh-fits _ _ _ _ _ (c .before .before .before .fresh .ensures) (c .before .i .given .1)))
-    (λ c. hosts-fresh _ _ _ _ _ (c .before .before .before .fresh .ensures) (c .before .enum-told .given .1) _ (c .packed .ensures))
-    (λ c. hosts-fresh _ _ _ _ _ (c .before .before .before .before .fresh .ensures) (c .before .before .i .given .1) _ (c .packed2 .ensures)))
+    (λ c κs. (omega arith, omega arith))
+    (λ c. fresh-unknown _ _ (c .before .before .before .edition-of .ensures) _ _ _ (c .before .enum-told .given .1) (c .packed .ensures))
+    (λ c κs. search needs)
+    (λ c. fresh-known _ _ (c .before .before .before .before .before .before .edition-of .ensures) _ _ _ _ _
+    (c .before .before .before .before .e .given .1) (c .make .ensures)))

@@ -1,6 +1,4 @@
 -- `host::number` meets its contract. Assumes nothing.
-use native.Mathlib.Omega.{arith}
-use borrow.Author.Needs.{needs}
 use mathlib.Core.Path.{sym, ap}
 use Rattle.index.specs.Index.{one}
 use Rattle.host.proofs.parameters.number.Statement.{statement}

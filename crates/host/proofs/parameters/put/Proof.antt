@@ -11,14 +11,23 @@ put-spec =
     (tie.spec
     (λ c κs. search needs)
     (λ c. search needs)
-    (λ c κs. (omega arith, write-fits _ _ _ _ _ (c .before .before .before .before .before .write .ensures) (c .before .n .given .1) (search needs)))
+    (λ c κs. (
+      omega arith,
+      write-fits _ _ _ _ _ (c .before .before .before .before .before .write .ensures) (c .before .n .given .1) (search needs),
+    ))
     (λ c. search needs)
     (λ c κs. (omega arith, omega arith))
     (λ c. search needs)
-    (λ c κs. (omega arith, write-fits _ _ _ _ _ (c .before .before .before .before .before .write .ensures) (c .before .i .given .1) (search needs)))
+    (λ c κs. (
+      omega arith,
+      write-fits _ _ _ _ _ (c .before .before .before .before .before .write .ensures) (c .before .i .given .1) (search needs),
+    ))
     (λ c. search needs)
-    (λ c. hosts-write _ _ _ _ _ (c .before .before .before .before .before .before .write .ensures) (c .before .before .n .given .1) _ (c .packed .ensures))
+    (λ c. hosts-write _ _ _ _ _ (c .before .before .before .before .before .before .write .ensures) (c .before .before .n .given .1) _
+    (c .packed .ensures))
     (λ c. search needs)
-    (λ c. hosts-write _ _ _ _ _ (c .before .before .before .before .before .write .ensures) (c .before .enum-told .given .1) _ (c .packed2 .ensures))
+    (λ c. hosts-write _ _ _ _ _ (c .before .before .before .before .before .write .ensures) (c .before .enum-told .given .1) _
+    (c .packed2 .ensures))
     (λ c. search needs)
-    (λ c. hosts-write _ _ _ _ _ (c .before .before .before .before .before .before .write .ensures) (c .before .before .i .given .1) _ (c .packed3 .ensures)))
+    (λ c. hosts-write _ _ _ _ _ (c .before .before .before .before .before .before .write .ensures) (c .before .before .i .given .1) _
+    (c .packed3 .ensures)))

@@ -1,4 +1,3 @@
-use mathlib.Core.Path.{_∙_}
 use borrow.Author.Needs.{needs}
 use Rattle.lookup.proofs.FreshLaws.{filled}
 use Rattle.lookup.proofs.fresh.fill.Statement.{statement}
@@ -10,7 +9,15 @@ fill-spec =
     (tie.spec
     (λ c κs. search needs)
     (λ c κs. search needs)
-    (λ c. search needs)
     (λ c κs. search needs)
     (λ c. search needs)
-    (λ c. filled _ _ _ _ (c .before .before .store-codes .ensures) (c .before .before .before .before .before .before .before .clear .ensures) (c .before .before .before .before .before .before .before .before .before .codes-of .ensures)))
+    (λ c κs. search needs)
+    (λ c κs. search needs)
+    (λ c. search needs)
+    (λ c.
+    let s = c .before .before in
+    let t = s .before .before .before .before in
+    let k = t .before .before .before .before .before in
+    filled (k .before .before .before .before .before .before .before .args .params) _ _ _ _ _ (s .store-setup .ensures)
+    (t .store-codes .ensures) (k .clear .ensures) (k .before .before .before .codes-of .ensures)
+    (k .before .before .edition-number .ensures)))

@@ -14,9 +14,10 @@ fresh-spec =
     (λ c.
     let s = c .before .before .before .before .before in
     let b = c .before .before .before .first-broken in
-    fresh-broken (s .args .params .numbers) (s .args .table .now) (b .result) (b .ensures) (c .before .i .given .0 .0) (c .before .i .given .1))
+    fresh-broken (s .args .params) (s .args .table .now) (b .result) (b .ensures) (c .before .i .given .0 .0) (c .before .i .given .1))
     (λ c. search needs)
     (λ c.
     let s = c .before .before .before .before .before .before .before .before in
     let b = c .before .before .before .before .before .before .first-broken in
-    fresh-made (s .args .params .numbers) (s .args .table .now) (b .result) (b .ensures) (c .before .before .fill .last .1 .0) (c .before .before .before .before .enum-told .given .1) (c .before .before .fill .ensures)))
+    fresh-made (s .args .params) (s .args .table .now) (b .result) (b .ensures) (c .before .before .fill .last .1 .0)
+    (c .before .before .before .before .enum-told .given .1) (c .before .before .fill .ensures)))

@@ -1,15 +1,16 @@
--- `params::Params::first_broken`: the numbers of the codes are the numbers. Assumes nothing.
+-- `params::Params::first_broken`: the parameters of the codes are the parameters. Assumes nothing.
 use borrow.Author.Needs.{needs}
 use mathlib.Core.Path.{_∙_, ap}
-use mathlib.Core.List.{map}
-use Rattle.varint.specs.Codes.{numberOf}
+use Rattle.params.specs.Editions.{coded}
 use Rattle.params.specs.Check.{firstBroken}
-use Rattle.params.proofs.CheckLaws.{numbers-back}
+use Rattle.params.proofs.CheckLaws.{coded-back}
 use Rattle.params.proofs.Params.first_broken.Statement.{statement}
 use Rattle.params.proofs.Params.first_broken.Tie as tie
 
 returns : tie.Need-returns
-returns c = c .first-broken-code .ensures ∙ ap firstBroken (ap (map numberOf) (c .before .before .codes-of .ensures) ∙ numbers-back (c .before .before .before .before .before .args .self .numbers))
+returns c =
+    let p = c .before .before .before .before .before .args .self in
+    c .first-broken-code .ensures ∙ ap firstBroken (ap (coded (p .edition)) (c .before .before .codes-of .ensures) ∙ coded-back p)
 
 pub first-broken-spec : {M : Type 1} → statement M
 first-broken-spec =

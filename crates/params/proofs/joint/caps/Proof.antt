@@ -31,6 +31,10 @@ caps-spec =
     (λ c. omega arith)
     (λ c. omega arith)
     (λ c. omega arith)
-    (λ c. let l = c .before .before .before .loop in
-    (omega arith, every-and _ _ _ _ (l .inv .1) (cap-of (c .before .before .before .before .args .codes .now) (c .before .before .before .before .pre .1) (l .k) (c .before .before .loop-test .taken))))
+    (λ c. let l = c .before .before .before .loop in (
+      omega arith,
+      every-and _ _ _ _ (l .inv .1)
+          (cap-of (c .before .before .before .before .args .codes .now) (c .before .before .before .before .pre .1) (l .k)
+          (c .before .before .loop-test .taken)),
+    ))
     (λ c. let l = c .before .loop in let e : l .k ≡ topicCount = omega arith in rw e at (l .inv .1)))

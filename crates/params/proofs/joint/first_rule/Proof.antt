@@ -11,10 +11,10 @@ use Rattle.params.proofs.joint.first_rule.Statement.{statement}
 use Rattle.params.proofs.joint.first_rule.Tie as tie
 
 abbrev Inv-loop : tie.InvT-loop
-Inv-loop codes k₀ k = (k ≤ ruleCount) × (first k (broken (map numberOf codes)) ≡ Nothing)
+Inv-loop edition codes k₀ k = (k ≤ ruleCount) × (first k (broken (map numberOf codes) edition) ≡ Nothing)
 
 abbrev μ-loop : tie.MeasureT-loop
-μ-loop codes k₀ k = ruleCount - k
+μ-loop edition codes k₀ k = ruleCount - k
 
 returns : tie.Need-returns Inv-loop μ-loop
 unfolding broken

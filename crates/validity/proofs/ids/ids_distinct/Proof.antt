@@ -1,6 +1,6 @@
 -- `validity::ids::ids_distinct`: after s turns the ids below s are apart, and have marked their buckets. Assumes nothing.
 use Prim.Native.Nat.{ℕ, _≤_, _<_, _-_, _%_}
-use mathlib.Core.Path.{_≡_, refl, sym, ap, _∙_}
+use mathlib.Core.Path.{_≡_, refl, ap, _∙_}
 use mathlib.Core.Bool.{true, false, not, _||_}
 use native.Mathlib.Omega.{arith}
 use borrow.Author.Needs.{needs}
@@ -28,7 +28,8 @@ returns : tie.Need-returns Inv-loop μ-loop
 returns c =
     let b = c .before .before in
     let l = b .before .before .before .loop in
-    every-out _ slotCount (l .slot) (omega arith) (old-told (getD (l .seen) (b .bucket .result) false) _ (failed (c .before .new-where .ensures) (c .if1 .taken)))
+    every-out _ slotCount (l .slot) (omega arith)
+    (old-told (getD (l .seen) (b .bucket .result) false) _ (failed (c .before .new-where .ensures) (c .if1 .taken)))
 
 loop-again : tie.Need-loop-again Inv-loop μ-loop
 loop-again c =
@@ -42,8 +43,10 @@ loop-again c =
       omega arith,
       simp length-set (l .inv .1),
       every-more _ _ (l .inv .2)
-          (new-told _ (l .seen) (l .slot) (l .inv .3) (getD (l .seen) (b .bucket .result) false) (ap (λ (k : ℕ). getD (l .seen) k false) at) (passed (w .new-where .ensures) (c .if1 .left))),
-      seen-more _ (l .seen) (l .slot) (l .inv .3) (b .bucket .result) _ at below (ap (λ (id : ℕ). getD (l .seen) (b .bucket .result) false || not (eqb id 0)) (i .load-id .ensures)),
+          (new-told _ (l .seen) (l .slot) (l .inv .3) (getD (l .seen) (b .bucket .result) false) (ap (λ (k : ℕ). getD (l .seen) k false) at)
+          (passed (w .new-where .ensures) (c .if1 .left))),
+      seen-more _ (l .seen) (l .slot) (l .inv .3) (b .bucket .result) _ at below
+          (ap (λ (id : ℕ). getD (l .seen) (b .bucket .result) false || not (eqb id 0)) (i .load-id .ensures)),
     )
 
 pub ids-distinct-spec : {M : Type 1} → statement M

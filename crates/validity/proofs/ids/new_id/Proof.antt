@@ -20,14 +20,16 @@ unfolding newId
 returns c =
     let g = c .before in
     every-out _ _ _ (omega arith)
-    (failed (g .apart .ensures ∙ ap₂ apart (g .before .before .before .before .load-id .ensures) (g .before .load-id2 .ensures)) (c .if1 .taken))
+    (failed (g .apart .ensures ∙ ap₂ apart (g .before .before .before .before .load-id .ensures) (g .before .load-id2 .ensures))
+    (c .if1 .taken))
 
 loop-again : tie.Need-loop-again Inv-loop μ-loop
 loop-again c =
     let g = c .before in (
       omega arith,
       every-more _ _ (g .before .before .before .loop .inv .1)
-          (passed (g .apart .ensures ∙ ap₂ apart (g .before .before .before .before .load-id .ensures) (g .before .load-id2 .ensures)) (c .if1 .left)),
+          (passed (g .apart .ensures ∙ ap₂ apart (g .before .before .before .before .load-id .ensures) (g .before .load-id2 .ensures))
+          (c .if1 .left)),
     )
 
 pub new-id-spec : {M : Type 1} → statement M

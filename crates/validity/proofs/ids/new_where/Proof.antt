@@ -1,8 +1,5 @@
-use mathlib.Core.Path.{sym, ap, _∙_}
-use mathlib.Core.Bool.{Bool, not, _||_}
+use mathlib.Core.Path.{_∙_}
 use borrow.Author.Needs.{needs}
-use Rattle.layout.specs.View.{stateOf}
-use Rattle.validity.specs.Valid.{newId}
 use Rattle.validity.proofs.ids.new_where.Statement.{statement}
 use Rattle.validity.proofs.ids.new_where.Tie as tie
 

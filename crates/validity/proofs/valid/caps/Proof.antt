@@ -31,6 +31,10 @@ caps-spec =
     (λ c. search needs)
     (λ c.
     let l = c .before .before .loop in
-    let s = c .before .before .before .before in
-    (omega arith, simp length-set (l .inv .1), fill-more (λ k. topicParam (stateOf (s .args .table .now)) k (s .args .j)) (l .r) (l .t) (c .topic-param .result) (omega arith) (l .inv .2) (c .topic-param .ensures)))
+    let s = c .before .before .before .before in (
+      omega arith,
+      simp length-set (l .inv .1),
+      fill-more (λ k. topicParam (stateOf (s .args .table .now)) k (s .args .j)) (l .r) (l .t) (c .topic-param .result) (omega arith)
+          (l .inv .2) (c .topic-param .ensures),
+    ))
     (λ c k h. c .before .loop .inv .2 k (omega arith)))

@@ -38,7 +38,9 @@ returns-3 c =
     let l = j .before .before in
     let s = l .before .before .before .before in
     topics-are _ _ (s .pre .1 .1 .1 .1) (passed (j .before .connected-ok .ensures ∙ ap peerOk (l .load-peer .ensures)) (j .if2 .left)) _
-    (c .small-topics .ensures ∙ ap (λ (p : Peer). every topicCount (topicOkAt (stateOf (s .args .table .now)) (s .args .slot) 1 (p .explicit))) (l .load-peer .ensures))
+    (c .small-topics .ensures
+    ∙ ap (λ (p : Peer). every topicCount (topicOkAt (stateOf (s .args .table .now)) (s .args .slot) 1 (p .explicit)))
+    (l .load-peer .ensures))
 
 pub connected-slot-spec : {M : Type 1} → statement M
 connected-slot-spec =

@@ -9,4 +9,5 @@ counter-ranges-spec =
     (λ c. p2-over _ _ _ (c .if1 .taken))
     (λ c. p3-over _ _ _ (c .before .before .if1 .left) (c .if2 .taken))
     (λ c. p4-over _ _ _ (c .before .before .before .before .if1 .left) (c .before .before .if2 .left) (c .if3 .taken))
-    (λ c. p3b-last _ _ _ (c .before .before .before .before .before .if1 .left) (c .before .before .before .if2 .left) (c .before .if3 .left)))
+    (λ c. p3b-last _ _ _ (c .before .before .before .before .before .if1 .left) (c .before .before .before .if2 .left)
+    (c .before .if3 .left)))

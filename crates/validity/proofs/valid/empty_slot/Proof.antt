@@ -10,13 +10,15 @@ use Rattle.validity.proofs.valid.empty_slot.Tie as tie
 returns : tie.Need-returns
 returns c =
     let l = c .before .before in
-    zero-fails _ _ (l .before .before .pre .1 .1) (failed (c .before .zero-peer .ensures ∙ ap zeroPeer (l .load-peer .ensures)) (c .if1 .taken))
+    zero-fails _ _ (l .before .before .pre .1 .1)
+    (failed (c .before .zero-peer .ensures ∙ ap zeroPeer (l .load-peer .ensures)) (c .if1 .taken))
 
 returns-2 : tie.Need-returns-2
 returns-2 c =
     let i = c .before in
     let l = i .before .before in
-    zeros-are _ _ (l .before .before .pre .1 .1) (passed (i .before .zero-peer .ensures ∙ ap zeroPeer (l .load-peer .ensures)) (i .if1 .left)) _ (c .zero-topics .ensures)
+    zeros-are _ _ (l .before .before .pre .1 .1)
+    (passed (i .before .zero-peer .ensures ∙ ap zeroPeer (l .load-peer .ensures)) (i .if1 .left)) _ (c .zero-topics .ensures)
 
 pub empty-slot-spec : {M : Type 1} → statement M
 empty-slot-spec =

@@ -30,7 +30,8 @@ told :
 told g =
     let t = g .before .before .before in
     let s = t .before .before .before .before .before .before in
-    topic-told _ _ _ _ _ _ _ _ _ _ (g .small-topic-ok .ensures) (t .before .load-joined .ensures) (t .before .before .before .before .load-clock .ensures)
+    topic-told _ _ _ _ _ _ _ _ _ _ (g .small-topic-ok .ensures) (t .before .load-joined .ensures)
+    (t .before .before .before .before .load-clock .ensures)
     (s .pre .1 .1 .0 .p2 _ (omega arith))
     (s .pre .1 .1 .0 .p3 _ (omega arith))
     (t .load-topic .ensures)
@@ -39,8 +40,10 @@ returns : tie.Need-returns Inv-loop μ-loop
 returns c = every-out _ _ _ (omega arith) (failed (told (c .before)) (c .if1 .taken))
 
 loop-again : tie.Need-loop-again Inv-loop μ-loop
-loop-again c =
-    (omega arith, every-more _ _ (c .before .before .before .before .before .before .before .loop .inv .1) (passed (told (c .before)) (c .if1 .left)))
+loop-again c = (
+  omega arith,
+  every-more _ _ (c .before .before .before .before .before .before .before .loop .inv .1) (passed (told (c .before)) (c .if1 .left)),
+)
 
 pub small-topics-spec : {M : Type 1} → statement M
 small-topics-spec =

@@ -10,5 +10,6 @@ pub sum-at-most-spec : {M : Type 1} → statement M
 sum-at-most-spec =
     tie.close
     (tie.spec
-    (λ c. leb-same (c .before .args .b) (c .before .args .c - c .before .args .a) (c .before .args .a + c .before .args .b) (c .before .args .c) (λ h. omega arith) (λ h. omega arith))
+    (λ c. leb-same (c .before .args .b) (c .before .args .c - c .before .args .a) (c .before .args .a + c .before .args .b)
+    (c .before .args .c) (λ h. omega arith) (λ h. omega arith))
     (λ c. sym (lt-leb (c .before .args .a + c .before .args .b) (c .before .args .c) (omega arith))))

@@ -8,13 +8,15 @@ use Rattle.validity.proofs.valid.topic_ok.Tie as tie
 returns-2 : tie.Need-returns-2
 returns-2 c =
     let i = c .before .before in
-    flags-fail _ _ _ _ _ _ _ (passed (i .before .counter-ranges .ensures) (i .if1 .left)) (failed (c .before .flag-ranges .ensures) (c .if2 .taken))
+    flags-fail _ _ _ _ _ _ _ (passed (i .before .counter-ranges .ensures) (i .if1 .left))
+    (failed (c .before .flag-ranges .ensures) (c .if2 .taken))
 
 returns-3 : tie.Need-returns-3
 returns-3 c =
     let j = c .before in
     let i = j .before .before in
-    rest-is _ _ _ _ _ _ _ (passed (i .before .counter-ranges .ensures) (i .if1 .left)) (passed (j .before .flag-ranges .ensures) (j .if2 .left)) _ (c .rest-ok .ensures)
+    rest-is _ _ _ _ _ _ _ (passed (i .before .counter-ranges .ensures) (i .if1 .left))
+    (passed (j .before .flag-ranges .ensures) (j .if2 .left)) _ (c .rest-ok .ensures)
 
 pub topic-ok-spec : {M : Type 1} → statement M
 topic-ok-spec =

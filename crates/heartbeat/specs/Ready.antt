@@ -1,0 +1,49 @@
+-- What the inner functions of a heartbeat rely on. No public call asks it of its caller.
+use Prim.Native.Nat.{ℕ, _≤_, _<_}
+use mathlib.Core.Path.{_≡_}
+use mathlib.Core.Bool.{true}
+use mathlib.Core.List.{List}
+use lib.ListN.{length}
+use Rattle.records.specs.Records.{slotCount, topicCount, peerIn}
+use Rattle.layout.specs.View.{stateOf}
+use Rattle.score.specs.declared.Balance.{Balance}
+use Rattle.score.specs.declared.ScoreParams.{ScoreParams}
+use Rattle.score.specs.Sums.{sumOf}
+use Rattle.score.specs.Score.{scoreParamsIn, sharing, shareAt}
+use Rattle.sets.specs.Sets.{bySlot, isPermutation}
+use Rattle.rules.specs.Step.{actionRoom, heightIn}
+use Rattle.peer_score.specs.Standing.{Standing}
+use Rattle.gate.specs.Ready.{Ready}
+
+-- behind the tests: a topic, a list with room, and a permutation of the slots
+pub record Maintains (table list order : List ℕ) (time t : ℕ) : Type 0 where
+  pub ready : Ready table time
+  pub topic : t < topicCount
+  pub room : actionRoom ≤ length list
+  pub permutation : isPermutation slotCount order ≡ true
+
+-- n is the score of the peer in slot s, and l are the scores of all
+pub record ScoredAt (table : List ℕ) (t s n : ℕ) : Type 0 where
+  pub standing : Standing table
+  pub topic : t < topicCount
+  pub slot : s < slotCount
+  pub score : n ≡ heightIn (stateOf table) s
+
+pub record ScoredAll (table l : List ℕ) (t : ℕ) : Type 0 where
+  pub standing : Standing table
+  pub topic : t < topicCount
+  pub scores : l ≡ bySlot slotCount (heightIn (stateOf table))
+
+-- l are the sums of the topics below t
+pub record SummedBelow (table : List ℕ) (t : ℕ) (l : List Balance) : Type 0 where
+  pub standing : Standing table
+  pub topic : t < topicCount
+  pub sums : l ≡ bySlot slotCount (λ s. sumOf t (shareAt (stateOf table) s))
+
+-- what the score of the peer in slot s is made of
+pub record MadeOf (table : List ℕ) (s : ℕ) (g : ScoreParams) (b : Balance) (n : ℕ) : Type 0 where
+  pub standing : Standing table
+  pub slot : s < slotCount
+  pub general : g ≡ scoreParamsIn (stateOf table)
+  pub topics : b ≡ sumOf topicCount (shareAt (stateOf table) s)
+  pub together : n ≡ sharing (stateOf table) (peerIn (stateOf table) s .group)

@@ -1,0 +1,27 @@
+-- `varint::nat_abs` meets its contract. Assumes nothing.
+use borrow.Author.Needs.{needs}
+use native.Mathlib.Omega.{arith}
+use mathlib.Core.Path.{sym, _∙_}
+use mir.Facts.{toZ-ofZ}
+use Rattle.varint.proofs.CodeLaws.{size-neg, size-pos}
+use Rattle.varint.proofs.nat_abs.Statement.{statement}
+use Rattle.varint.proofs.nat_abs.Tie as tie
+
+pub nat-abs-spec : {M : Type 1} → statement M
+nat-abs-spec =
+    tie.close (tie.spec
+    (λ c κs. search needs)
+    (λ c κs. search needs)
+    (λ c. search needs)
+    (λ c. let f = c .before .before .before .fits .n in
+    omega (
+      arith,
+      rw (toZ-ofZ f) at (c .before .before .half .ensures .0),
+      size-neg (c .before .before .before .args .n) (rw (toZ-ofZ f) at (sym (c .if1 .taken) ∙ c .before .is-negative .ensures)),
+    ))
+    (λ c. let f = c .before .before .before .fits .n in
+    omega (
+      arith,
+      rw (toZ-ofZ f) at (c .before .before .half .ensures .0),
+      size-pos (c .before .before .before .args .n) (rw (toZ-ofZ f) at (sym (c .if1 .left) ∙ c .before .is-negative .ensures)),
+    )))

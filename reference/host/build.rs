@@ -1,0 +1,7 @@
+//! Sets cfg(linked) where package hivepadlet links the proved library.
+fn main() {
+    println!("cargo:rustc-check-cfg=cfg(linked)");
+    if std::env::var_os("DEP_HOST_LINKED").is_some() {
+        println!("cargo:rustc-cfg=linked");
+    }
+}

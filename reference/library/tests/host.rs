@@ -1,0 +1,73 @@
+//! A small host in Rust, as far as libhost.a is linked: every function of the binding once.
+#![cfg(linked)]
+
+use hivepadlet::messages::{names, read_message, write_message};
+use hivepadlet::*;
+
+const V11: &[u8] = b"/meshsub/1.1.0";
+
+/// A router of ordinary parameters that has joined topic 0.
+fn joined(actions: &mut [u32]) -> Box<Cells> {
+    let (mut numbers, mut table) = ([0; NUMBERS], Box::new([0; CELLS]));
+    ordinary(&mut numbers);
+    assert_eq!(is_router(&table), 0);
+    assert_eq!(number(fresh(&numbers, EDITION_1, &mut table)), 0);
+    assert_eq!(is_router(&table), 1);
+    assert_eq!(number(join(&mut table, 0, 0, actions)), 0);
+    table
+}
+
+#[test]
+fn a_peer_comes_and_goes() {
+    let mut actions = [0; ACTION_NUMBERS];
+    let mut table = joined(&mut actions);
+    let permutation: Vec<u64> = (0..SLOTS as u64).collect();
+    assert_eq!(number(connect(&mut table, 1, 7, 9, OUTBOUND, V11, &mut actions)), 0);
+    assert_eq!(number(subscribe(&mut table, 2, 7, 0, &mut actions)), 0);
+    let result = heartbeat(&mut table, 3, 0, 0, &permutation, &mut actions);
+    assert_eq!((number(result), value(result), &actions[..3]), (0, 1, &[GRAFT, 7, 0][..]));
+    assert_eq!(number(deliver(&mut table, 4, 7, 0, 1, &mut actions)), 0);
+    assert_eq!(number(rate(&mut table, 5, 7, 1_000_000, &mut actions)), 0);
+    // A first delivery is half a point, and the host gave one.
+    let mut why = [0; WHY_NUMBERS];
+    assert_eq!(number(score(&mut table, 6, 7, &mut why, &mut actions)), 0);
+    assert_eq!(why, [500_000_000, 500_000_000, 1_000_000_000, 0, 0, 1_500_000_000]);
+    assert_eq!(number(prune(&mut table, 7, 7, 0, 60, &mut actions)), 0);
+    // Inside the backoff: a PRUNE of 60 seconds.
+    let result = graft(&mut table, 8, 7, 0, &mut actions);
+    assert_eq!((number(result), value(result), &actions[..3]), (0, 1, &[PRUNE, 7, 60][..]));
+    assert_eq!(number(unsubscribe(&mut table, 9, 7, 0, &mut actions)), 0);
+    assert_eq!(number(decay(&mut table, 10, &mut actions)), 0);
+    assert_eq!(number(leave(&mut table, 11, 0, &mut actions)), 0);
+    assert_eq!(number(disconnect(&mut table, 12, 7, &mut actions)), 0);
+    assert_eq!(number(disconnect(&mut table, 12, 7, &mut actions)), 3);
+    assert_eq!(number(decay(&mut table, 12, &mut [])), 8);
+    assert_eq!(number(connect(&mut table, 12, 8, 9, EXPLICIT, b"", &mut actions)), 6);
+}
+
+#[test]
+fn parameters_as_bytes() {
+    let (mut numbers, mut other) = ([0; NUMBERS], [0; NUMBERS]);
+    let (mut buffer, mut edition) = ([0; PARAMETER_BYTES], 0);
+    ordinary(&mut numbers);
+    let result = write(&numbers, EDITION_2, &mut buffer);
+    assert_eq!(number(result), 0);
+    assert_eq!(read(&buffer[..value(result) as usize], &mut other, &mut edition), result);
+    assert_eq!((numbers, edition), (other, EDITION_2));
+    assert_eq!(read(&[], &mut other, &mut edition), packed(10, 0));
+}
+
+#[test]
+fn messages_as_bytes() {
+    let mut table: Names = [0; NAMES_BYTES];
+    table[..4].copy_from_slice(b"\x03abc");
+    assert_eq!(self::names(&table), 0);
+    let mut buffer = [0; WRITTEN_BYTES];
+    let result = write_message(&table, &[PRUNE, 7, 60], &[0], &[1, 0], &mut buffer);
+    assert_eq!(number(result), 0);
+    let mut entries = vec![0; ENTRY_NUMBERS];
+    let message = &buffer[..value(result) as usize];
+    // A subscription to topic 0, and a PRUNE of 60 seconds there.
+    assert_eq!(read_message(&table, message, &mut entries), packed(0, 2));
+    assert_eq!(entries[..6], [0, 0, 1, 2, 0, 60]);
+}
