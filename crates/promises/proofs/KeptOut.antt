@@ -32,6 +32,7 @@ use Rattle.rules.specs.Calls.{Call, connect, disconnect, join, leave, subscribe
 use Rattle.rules.specs.Calls.{score, topicOk, argumentsOk}
 use Rattle.rules.specs.Step.{onFound, ofPeer, maintainedReply, heartbeatReply, meshesIn, effect, step}
 use Rattle.rules.proofs.CaseLaws.{topic-in, topic-of-both, arguments, by-gate}
+use Rattle.rules.proofs.Words.{candidate-past}
 use Rattle.call_lists.specs.Lists.{Made, after}
 use Rattle.call_lists.specs.Demand3.{Accepted}
 use Rattle.call_lists.proofs.Standing.{member-connected, fresh-topic}
@@ -41,7 +42,7 @@ use Rattle.call_lists.proofs.Played.{agrees}
 use Rattle.promises.specs.Ends.{endIn}
 use Rattle.promises.specs.Told.{times}
 use Rattle.promises.specs.KeptOut.{shutBy, shutUntil, KeptOutOf, KeptOut, ProgramKeptOut}
-use Rattle.promises.proofs.Members.{Out, out-step, candidate-past, new-candidate}
+use Rattle.promises.proofs.Members.{Out, out-step, new-candidate}
 use Rattle.promises.proofs.Told.{id-is, left-member, told-maintained}
 use Rattle.promises.proofs.Shut.{Held, held-zero, held-max, held-hold, hold-effect, Shuts, quiet, graft-shuts, leave-shuts}
 use Rattle.promises.proofs.Shut.{heartbeat-shuts, prune-shuts}

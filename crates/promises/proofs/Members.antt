@@ -2,24 +2,24 @@
 -- GRAFT in and the heartbeat take in only whom the test of the backoff let through.
 -- Assumes nothing.
 use Rattle.rules.proofs.ConnectLaws.{by-connect}
-use Prim.Native.Nat.{ℕ, _+_, _≤_, _<_}
+use Prim.Native.Nat.{ℕ, _≤_, _<_}
 use native.Mathlib.Omega.{arith}
 use mathlib.Core.Path.{_≡_, sym, ap, _∙_}
-use mathlib.Core.Logic.{_≢_, _⊎_, inl, inr, ⊎-elim}
-use mathlib.Core.Bool.{Bool, true, false, not, false≢true}
+use mathlib.Core.Logic.{_≢_, ⊎-elim}
+use mathlib.Core.Bool.{Bool, true, false, false≢true}
 use mathlib.Core.List.{List}
-use lib.Dec.{eqb, leb}
+use lib.Dec.{leb}
 use lib.ListN.{getD}
-use borrow.Author.Tests.{eqb-true, eqb-false, leb-true, ltb-false}
+use borrow.Author.Tests.{eqb-false, ltb-false}
 use Rattle.index.specs.Index.{iter}
 use Rattle.index.proofs.Index.{both, iter-keeps}
-use Rattle.index.proofs.Flags.{by-test, cond-case}
+use Rattle.index.proofs.Flags.{cond-case}
 use Rattle.records.specs.declared.Peer.{Peer}
 use Rattle.records.specs.declared.TopicRecord.{TopicRecord}
-use Rattle.records.specs.Records.{State, slotCount, place, peerIn, topicIn, setClock, isConnected}
+use Rattle.records.specs.Records.{State, slotCount, place, peerIn, topicIn, setClock}
 use Rattle.layout.proofs.StateLaws.{topic-case, peer-after-topic}
 use Rattle.validity.specs.Valid.{valid}
-use Rattle.effects.specs.Effects.{pruneBackoff, connectedAs, intoMesh, onPeer, onTopic, isJoined, isMember, isSubscribed}
+use Rattle.effects.specs.Effects.{pruneBackoff, connectedAs, intoMesh, onPeer, onTopic, isJoined, isMember}
 use Rattle.effects.specs.Effects.{pruned, endAfter, reclaimed}
 use Rattle.effects.proofs.EffectLaws.{pruned-other}
 use Rattle.sets.specs.Sets.{at, isPermutation}
@@ -30,10 +30,11 @@ use Rattle.rules.specs.Reply.{Reply, refused, ignored}
 use Rattle.rules.specs.Calls.{Call, connect, disconnect, join, leave, subscribe, unsubscribe, graft, prune, deliver, rate, heartbeat, decay}
 use Rattle.rules.specs.Calls.{score, topicOk, argumentsOk}
 use Rattle.rules.proofs.GraftLaws.{by-graft}
-use Rattle.rules.specs.Step.{isNegative, isCandidate, ofPeer, connectAt, connectReply}
+use Rattle.rules.specs.Step.{isCandidate, ofPeer, connectAt, connectReply}
 use Rattle.rules.specs.Step.{graftReply, viewIn, meshesIn, punished, settleSlot}
 use Rattle.rules.specs.Step.{maintainedReply, heartbeatReply, effect, step}
 use Rattle.rules.proofs.HeartbeatLaws.{view-kept}
+use Rattle.rules.proofs.Words.{candidate-past}
 use Rattle.rules.proofs.PunishedLaws.{punished-peer}
 use Rattle.rules.proofs.CaseLaws.{topic-in, topic-of-both, arguments, by-peer, by-gate}
 use Rattle.promises.specs.Ends.{endIn}
@@ -102,20 +103,7 @@ module _ (st : State) (o : Out st) (time id group flags : ℕ) where
       (λ v n c r e. o)
 
 -- ---- heartbeat
--- whom it takes in is a candidate: his backoff was never set, or ended a second ago
-pub candidate-past :
-    (st : State) (time t s : ℕ) → isCandidate st time t s ≡ true → (endIn st s t ≡ 0) ⊎ (endIn st s t + 1000 ≤ time)
-unfolding isCandidate
-candidate-past st time t s e =
-    let a = both (isConnected (peerIn st s)) _ e in
-    let b = both (isSubscribed st t s) _ (a .1) in
-    let c = both (eqb (peerIn st s .explicit) 0) _ (b .1) in
-    let d = both (not (isMember st t s)) _ (c .1) in
-    let f = both (not (isNegative st s)) _ (d .1) in
-    by-test _ (eqb (endIn st s t) 0)
-    (λ z. inl (eqb-true _ _ z))
-    (λ z. let g : leb (endIn st s t + 1000) time ≡ true = rw z at (f .1) in inr (leb-true _ _ g))
-
+-- whom it takes in is a candidate: his backoff is over
 candidate-over : (st : State) (time t s : ℕ) → isCandidate st time t s ≡ true → endIn st s t ≤ time
 candidate-over st time t s e = ⊎-elim (λ z. omega (arith, z)) (λ z. omega (arith, z)) (candidate-past st time t s e)
 

@@ -20,9 +20,9 @@ use Rattle.sets.specs.Sets.{bySlot, isPermutation}
 use Rattle.mesh.specs.Maintenance.{changesOf, actionsOf as toldActions}
 use Rattle.validity.specs.Valid.{valid}
 use Rattle.lookup.specs.Find.{findConnected}
-use Rattle.effects.specs.Actions.{Action, pruneOf, numbersOf}
+use Rattle.effects.specs.Actions.{Action, numbersOf}
 use Rattle.effects.proofs.ActionLaws.{numbers-length}
-use Rattle.effects.specs.Effects.{isJoined, isMember, unsubscribeBackoff}
+use Rattle.effects.specs.Effects.{isJoined, isMember}
 use Rattle.rules.specs.declared.Answer.{Answer}
 use Rattle.rules.specs.declared.Gate.the-variants.{Pass, Refuse}
 use Rattle.rules.specs.declared.Answer.the-variants.{Early, OutOfRange, NotConnected, AlreadyConnected, NoSlot, UnknownProtocol}
@@ -79,19 +79,16 @@ counted-connect st time id group flags name =
     (λ v s n c r e. counted-quiet _ time)
     (λ v n c r e. counted-refused NoSlot st refl)
 
+one-or-none : (b : Bool) (a : Action) → length (cond b (a ∷ []) []) ≤ 1
+one-or-none true a = omega arith
+one-or-none false a = omega arith
+
 -- a leave has at most one action a slot
 pub actions-short : (st : State) (t n : ℕ) → length (leaveActions st t n) ≤ n
 unfolding leaveActions
 actions-short st t n =
     gather-short _ n
-    (λ i.
-    cond-case
-    (λ (l : List Action). length l ≤ 1)
-    (isMember st t i)
-    (pruneOf (peerIn st i) (unsubscribeBackoff st) ∷ [])
-    []
-    (λ e. omega arith)
-    (λ e. omega arith))
+    (λ i. search one-or-none)
 
 counted-leave : (st : State) (time t : ℕ) → Counted (leaveReply st time t)
 unfolding leaveReply

@@ -7,7 +7,7 @@ use mathlib.Core.Path.{_≡_, refl, sym, ap, _∙_}
 use mathlib.Core.Logic.{_≢_}
 use mathlib.Core.Bool.{Bool, true, not, false≢true}
 use mathlib.Core.List.{List}
-use lib.ListN.{length}
+use lib.ListN.{getD, length}
 use lib.Dec.{eqb, leb}
 use lib.IntN.{ℤ, pos, negsuc, natAbs, subℕ, _+ℤ_}
 use lib.Signed.{leZ, ltZ}
@@ -41,7 +41,7 @@ use Rattle.mesh.specs.Maintenance.{zeroScore, goods, changesOf, actionsOf, Rule
 use Rattle.mesh.proofs.MaintenanceLaws.{maintained-keeps, maintained-length}
 use Rattle.mesh.proofs.Bound.{actions-length}
 use Rattle.rules.proofs.PunishedLaws.{punished-peer, punished-apart, punished-kept, punished-sized}
-use Rattle.rules.specs.Step.{isNegative, isCandidate, heightIn, degreesIn, viewIn, meshesIn, punished, settleSlot}
+use Rattle.rules.specs.Step.{isNegative, pastSlack, isCandidate, heightIn, degreesIn, viewIn, meshesIn, punished, settleSlot}
 
 -- ---- the scores as maintenance takes them
 -- what the code computes
@@ -89,6 +89,7 @@ module _ (st : State) (time t s : ℕ) where
   tests : isCandidate st time t s ≡ true →
       (isConnected (peerIn st s) ≡ true) × (isSubscribed st t s ≡ true) × (eqb (peerIn st s .explicit) 0 ≡ true)
       × (not (isMember st t s) ≡ true) × (not (isNegative st s) ≡ true)
+      × (pastSlack (getD (peerIn st s .backoff) t 0) time ≡ true)
   unfolding isCandidate
   tests e =
       let a = both (isConnected (peerIn st s)) _ e in
@@ -96,7 +97,7 @@ module _ (st : State) (time t s : ℕ) where
       let c = both (eqb (peerIn st s .explicit) 0) _ (b .1) in
       let d = both (not (isMember st t s)) _ (c .1) in
       let f = both (not (isNegative st s)) _ (d .1) in
-      (a .0, b .0, c .0, d .0, f .0)
+      (a .0, b .0, c .0, d .0, f .0, f .1)
 
   pub candidate-connected : isCandidate st time t s ≡ true → isConnected (peerIn st s) ≡ true
   candidate-connected e = tests e .0
@@ -112,6 +113,9 @@ module _ (st : State) (time t s : ℕ) where
 
   pub candidate-good : isCandidate st time t s ≡ true → not (isNegative st s) ≡ true
   candidate-good e = tests e .4
+
+  pub candidate-slack : isCandidate st time t s ≡ true → pastSlack (getD (peerIn st s .backoff) t 0) time ≡ true
+  candidate-slack e = tests e .5
 
 -- ---- the view
 module _ (st : State) (time t ask : ℕ) (order : List ℕ) where

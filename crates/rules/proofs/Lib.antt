@@ -7,6 +7,8 @@ pub mod ConnectLaws
 pub mod GraftLaws
 pub mod PunishedLaws
 pub mod HeartbeatLaws
+pub mod OrderLaws
+pub mod Words
 pub mod KeepsRecord
 pub mod KeepsState
 pub mod KeepsTopic

@@ -3,3 +3,5 @@ pub mod Calls
 pub mod Step
 pub mod Promise
 pub mod Kept
+pub mod Order
+pub mod Words
