@@ -16,12 +16,9 @@ use Rattle.index.proofs.Index.{both as halves, gather-first, gather-same}
 use Rattle.index.proofs.Flags.{by-test, cond-case}
 use Rattle.records.specs.Records.{State, slotCount, peerIn}
 use Rattle.validity.specs.Valid.{valid}
-use Rattle.lookup.specs.Find.{findConnected, findRetained, lowestEmpty}
-use Rattle.lookup.specs.declared.Named.{Named}
-use Rattle.lookup.specs.declared.Named.the-variants.{Version, Unknown}
-use Rattle.lookup.specs.Name.{versionOf}
+use Rattle.lookup.specs.Find.{findConnected}
 use Rattle.effects.specs.Actions.{Action, pruneOf}
-use Rattle.effects.specs.Effects.{isJoined, isMember, unsubscribeBackoff, reclaimed}
+use Rattle.effects.specs.Effects.{isJoined, isMember, unsubscribeBackoff}
 use Rattle.sets.specs.Sets.{at, both, except, ascending, inOrder, isPermutation}
 use Rattle.sets.proofs.WalkLaws.{except-at}
 use Rattle.sets.proofs.SetLaws.{both-left, both-right, both-in}
@@ -36,10 +33,11 @@ use Rattle.rules.specs.Reply.{Reply, ignored}
 use Rattle.rules.specs.Calls.{Call, connect, disconnect, join, leave, subscribe, unsubscribe, graft, prune, deliver, rate, heartbeat}
 use Rattle.rules.specs.Calls.{decay, score}
 use Rattle.rules.specs.Step.{isNegative, isCandidate, isGraylisted, isHeard, degreesIn, viewIn, meshesIn, actionIn, heartbeatActions}
-use Rattle.rules.specs.Step.{onFound, ofPeer, onVersion, connectAt, connectIn, connectReply, joinReply, leaveActions, leaveReply}
+use Rattle.rules.specs.Step.{onFound, ofPeer, connectAt, connectReply, joinReply, leaveActions, leaveReply}
 use Rattle.rules.specs.Step.{subscribeReply, unsubscribeReply, graftRefused, pruneReply, deliverReply, decayReply}
 use Rattle.rules.specs.Step.{maintainedReply, heartbeatReply, effect}
 use Rattle.rules.specs.Order.{heads, telling, slots, ByStep, Ordered, ToldInOrder}
+use Rattle.rules.proofs.ConnectLaws.{by-connect}
 use Rattle.rules.proofs.CaseLaws.{by-gate, by-peer}
 use Rattle.rules.proofs.GraftLaws.{by-graft}
 use Rattle.rules.proofs.HeartbeatLaws.{view-apart, view-whole, view-goods, degrees-rules}
@@ -210,10 +208,6 @@ quiet-found : (r : Found) (f : ℕ → Reply) (q : Reply) → ((s : ℕ) → Qui
 quiet-found (At s) f q h k = h s
 quiet-found Nothing f q h k = k
 
-quiet-version : (r : Named) (f : ℕ → Reply) (q : Reply) → ((v : ℕ) → Quiet (f v)) → Quiet q → Quiet (onVersion r f q)
-quiet-version (Version v) f q h k = h v
-quiet-version Unknown f q h k = k
-
 quiet-peer : (st : State) (id : ℕ) (f : ℕ → Reply) → ((s : ℕ) → Quiet (f s)) → Quiet (ofPeer st id f)
 quiet-peer st id f h = quiet-found (findConnected st id) f _ h refl
 
@@ -221,14 +215,10 @@ quiet-cond : (b : Bool) (o q : Reply) → Quiet o → Quiet q → Quiet (cond b 
 quiet-cond b o q h k = cond-case Quiet b o q (λ e. h) (λ e. k)
 
 quiet-connect : (st : State) (time id group flags : ℕ) (name : List ℕ) → Quiet (connectReply st time id group flags name)
-unfolding connectReply connectIn connectAt
+unfolding connectAt
 quiet-connect st time id group flags name =
-    quiet-version (versionOf name) _ _
-    (λ v.
-    quiet-found (findConnected st id) _ _ (λ s. refl)
-    (quiet-found (findRetained (reclaimed st time) id) _ _ (λ s. refl)
-    (quiet-found (lowestEmpty (reclaimed st time)) _ _ (λ s. refl) refl)))
-    refl
+    by-connect Quiet st time id group flags name (λ n. refl) (λ v s n c. refl) (λ v s n c r. refl) (λ v s n c r e. refl)
+    (λ v n c r e. refl)
 
 -- ---- every call
 ordered-effect : (st : State) (c : Call) → valid st ≡ true → Ordered st c (effect st c .actions)

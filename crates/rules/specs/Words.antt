@@ -10,7 +10,7 @@ use lib.Signed.{ltZ}
 use lib.ListN.{getD}
 use Rattle.varint.specs.Codes.{numberOf}
 use Rattle.records.specs.Records.{State, peerIn}
-use Rattle.effects.specs.Effects.{magnitude}
+use Rattle.varint.specs.Codes.{magnitude}
 use Rattle.score.specs.Score.{scoreIn}
 use Rattle.mesh.specs.Maintenance.{Action, zeroScore}
 use Rattle.rules.specs.Step.{isGraylisted, isCandidate, degreesIn, actionIn}
