@@ -14,6 +14,7 @@ mod count;
 mod messages;
 #[cfg(linked)]
 mod proved;
+mod supplier;
 
 /// How many rounds are timed where no number is given.
 const ROUNDS: usize = 200;
@@ -115,6 +116,8 @@ fn print_all_times(rounds: usize) {
     print_times(rounds);
     println!();
     messages::print_times(rounds);
+    println!();
+    supplier::print_times(rounds);
 }
 
 fn print_times(rounds: usize) {

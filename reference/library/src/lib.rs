@@ -24,6 +24,8 @@ pub mod cells;
 mod linked;
 #[cfg(linked)]
 pub mod messages;
+#[cfg(linked)]
+pub mod supplier;
 
 pub use cells::{Cells, CELLS};
 #[cfg(linked)]
