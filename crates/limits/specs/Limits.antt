@@ -62,7 +62,7 @@ limits =
     -- w6
     ∷ to (minus 100) (minus 1)
     -- P6 threshold
-    ∷ to (pos 1) (pos 64)
+    ∷ to (pos 1) (pos 256)
     -- w7
     ∷ to (minus 100) (minus 1)
     -- P7 decay

@@ -85,7 +85,7 @@ const LIMITS: [Limit; FIELDS] = [
         high: -1,
     },
     // P6 threshold
-    Limit { low: 1, high: 64 },
+    Limit { low: 1, high: 256 },
     // w7
     Limit {
         low: -100,

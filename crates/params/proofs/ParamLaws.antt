@@ -51,7 +51,7 @@ pub record General (codes : List ℕ) : Type 0 where
   pub w6-least : 1 ≤ size codes 14
   pub w6-most : size codes 14 ≤ 100
   pub p6Threshold-least : 1 ≤ size codes 15
-  pub p6Threshold-most : size codes 15 ≤ 64
+  pub p6Threshold-most : size codes 15 ≤ 256
   pub w7-least : 1 ≤ size codes 16
   pub w7-most : size codes 16 ≤ 100
   pub p7Decay-least : 1 ≤ size codes 17
@@ -133,7 +133,7 @@ module _ {n : ℕ} (codes : List ℕ) (accepted : Accepts n codes) where
         w6-least = loss-least codes within 14 (lit< tt) 14 refl 1 tt;
         w6-most = most-of codes within 14 (lit< tt) 14 refl 100 tt;
         p6Threshold-least = least-of codes within 15 (lit< tt) 15 refl 1 tt;
-        p6Threshold-most = most-of codes within 15 (lit< tt) 15 refl 64 tt;
+        p6Threshold-most = most-of codes within 15 (lit< tt) 15 refl 256 tt;
         w7-least = loss-least codes within 16 (lit< tt) 16 refl 1 tt;
         w7-most = most-of codes within 16 (lit< tt) 16 refl 100 tt;
         p7Decay-least = least-of codes within 17 (lit< tt) 17 refl 1 tt;

@@ -9,9 +9,9 @@ use Rattle.records.specs.declared.Setup.{Setup}
 use Rattle.records.specs.declared.Peer.{Peer}
 use Rattle.records.specs.declared.TopicRecord.{TopicRecord}
 
--- "64 peer slots (0 to 63) and 8 topics (0 to 7)"
+-- "64 peer slots (0 to 63) and 8 topics (0 to 7)" (01); "Slots rise to 256" (02, order 9)
 abbrev pub slotCount : ℕ
-slotCount = 64
+slotCount = 256
 
 abbrev pub topicCount : ℕ
 topicCount = 8

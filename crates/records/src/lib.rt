@@ -5,7 +5,7 @@
 pub mod param;
 
 // How many peers the router holds, and how many topics.
-pub const SLOTS: usize = 64;
+pub const SLOTS: usize = 256;
 
 pub const TOPICS: usize = 8;
 

@@ -116,7 +116,7 @@ module _ (g : ScoreParams) (b : Balance) (code sharing p7 : ℕ) where
   unfolding partsOf Small5
   parts-in h i c s p =
       let five = p5-in (g .w5) code (h .w5) c in
-      let over : surplusOf (g .threshold) sharing ≤ 63 = omega (arith, h .threshold) in
+      let over : surplusOf (g .threshold) sharing ≤ slotCount - 1 = omega (arith, h .threshold) in
       let six = mul-le-mul (h .w6) (mul-le-mul over over) in
       let seven = mul-le-mul (h .w7) (mul-le-mul p p) in
       record {

@@ -54,12 +54,16 @@ pub record TopicsIn (b : Balance) : Type 0 where
   pub gain : b .gain ≤ 2400000000000000000
   pub loss : b .loss ≤ 2400000000000000000
 
+-- 100 × 255² × 10^9: one group that all 256 slots share, over a threshold of 1
+abbrev pub p6Most : ℕ
+p6Most = 6502500000000000
+
 pub record PartsIn (p : Parts) : Type 0 where
   pub topics : TopicsIn (p .topics)
   pub capped : TopicsIn (p .capped)
   pub gain5 : p .p5 .gain ≤ 100000000000000
   pub loss5 : p .p5 .loss ≤ 100000000000000
-  pub p6 : p .p6 ≤ 396900000000000
+  pub p6 : p .p6 ≤ p6Most
   pub p7 : p .p7 ≤ 100000000000000000
 
 -- "No score passes 2.6 × 10^18 either way."

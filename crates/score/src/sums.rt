@@ -1,9 +1,9 @@
 // Balances: sums, the topic cap, the parts of P5, P6 and P7, the whole score, and how a score is compared and returned.
 ghost use mathlib.Core.Path.{_≡_};
-ghost use Prim.Native.Nat.{_*_, _≤_};
+ghost use Prim.Native.Nat.{_*_, _<_, _≤_};
 ghost use lib.IntN.{subℕ};
 ghost use Rattle.varint.specs.Codes.{codeOf};
-ghost use Rattle.score.specs.Ranges.{ScoreParamsIn, TopicsIn, PartsIn, BalanceIn};
+ghost use Rattle.score.specs.Ranges.{ScoreParamsIn, TopicsIn, PartsIn, BalanceIn, p6Most};
 ghost use Rattle.score.specs.Parts.{square};
 ghost use Rattle.score.specs.Sums.{worth, addOf, cappedOf, p5Of, p6Of, p7Of, partsOf, totalOf, offsetOf, negativeOf, belowOf, toldOf};
 ghost use Rattle.records.specs.Records.{slotCount};
@@ -57,14 +57,14 @@ pub fn p5_part(w5: u64, code: u64) -> Balance
 // What P6 takes away of a peer whose group `sharing` connected peers share, itself counted.
 pub fn p6_part(w6: u64, threshold: u64, sharing: u64) -> u64
     requires { ⌜ (w6 ≤ 100) × ((1 ≤ threshold) × (sharing ≤ slotCount)) ⌝ }
-    ensures { λ r. ⌜ (r ≡ p6Of w6 threshold sharing) × (r ≤ 396900000000000) ⌝ }
+    ensures { λ r. ⌜ (r ≡ p6Of w6 threshold sharing) × (r ≤ p6Most) ⌝ }
 {
     surplus_part(w6, excess(sharing, threshold))
 }
 
 fn surplus_part(w6: u64, surplus: u64) -> u64
-    requires { ⌜ (w6 ≤ 100) × (surplus ≤ 63) ⌝ }
-    ensures { λ r. ⌜ (r ≡ w6 * square surplus * 1000000000) × (r ≤ 396900000000000) ⌝ }
+    requires { ⌜ (w6 ≤ 100) × (surplus < slotCount) ⌝ }
+    ensures { λ r. ⌜ (r ≡ w6 * square surplus * 1000000000) × (r ≤ p6Most) ⌝ }
 {
     w6 * (surplus * surplus) * 1000000000
 }

@@ -20,9 +20,9 @@ pub record PartsWithin (w : Why) : Type 0 where
   -- 8 topics × 1000 × 100 × 3 × 10^12
   pub topics : natAbs (w .topics) ≤ 2400000000000000000
   pub capped : natAbs (w .capped) ≤ 2400000000000000000
-  -- 100 × 10^9 × 1000; 100 × 63² × 10^9; 100 × 10^12 × 1000
+  -- 100 × 10^9 × 1000; 100 × 255² × 10^9; 100 × 10^12 × 1000
   pub p5 : natAbs (w .p5) ≤ 100000000000000
-  pub p6 : natAbs (w .p6) ≤ 396900000000000
+  pub p6 : natAbs (w .p6) ≤ 6502500000000000
   pub p7 : natAbs (w .p7) ≤ 100000000000000000
 
 abbrev pub NoPartPasses : Type 0

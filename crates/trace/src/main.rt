@@ -37,7 +37,7 @@ fn refill(buf: &mut [u8], w: Window) -> Window
 // A proved loop has to end, and nothing says that the input does: the turns count down from a number that no run uses up.
 fn main() {
     let mut buf = io::large_buffer();
-    let mut page = io::buffer();
+    let mut page = io::large_buffer();
     let mut table = [0u64; CELLS];
     let mut w = Window::start();
     let mut turns = u64::MAX;

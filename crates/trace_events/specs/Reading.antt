@@ -43,9 +43,9 @@ cutShort s at = ltb (length s - at) 10 && every (length s - at) (λ k. leb 128 (
 -- ---- one event
 -- how many numbers follow the kind, the time counted: "1 connect id group flags name-length name-bytes; 2 disconnect id; 3 join, 4 leave
 -- topic; 5 subscribe, 6 unsubscribe id topic; 7 GRAFT id topic; 8 PRUNE id topic seconds; 9 delivery id topic kind; 10 P5 id value;
--- 11 tidy topic ask draw; 12 decay; 13 score id"; a draw has 64 numbers; 0 for an unknown kind
+-- 11 tidy topic ask draw; 12 decay; 13 score id"; a draw has 256 numbers; 0 for an unknown kind
 unfoldable pub arities : List ℕ
-arities = 0 ∷ 5 ∷ 2 ∷ 2 ∷ 2 ∷ 3 ∷ 3 ∷ 3 ∷ 4 ∷ 4 ∷ 3 ∷ 67 ∷ 1 ∷ 2 ∷ []
+arities = 0 ∷ 5 ∷ 2 ∷ 2 ∷ 2 ∷ 3 ∷ 3 ∷ 3 ∷ 4 ∷ 4 ∷ 3 ∷ 259 ∷ 1 ∷ 2 ∷ []
 
 unfoldable pub arity : ℕ → ℕ
 arity kind = getD arities kind 0

@@ -7,5 +7,5 @@ pub mod reading;
 pub struct Readings {
     pub ok: bool,
     pub place: usize,
-    pub values: [u64; 67],
+    pub values: [u64; 259],
 }

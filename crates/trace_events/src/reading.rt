@@ -7,10 +7,10 @@ use crate::Readings;
 use varint::Read;
 
 // Numbers that follow a kind, the time counted; 0 for an unknown kind.
-const ARITY: [usize; 14] = [0, 5, 2, 2, 2, 3, 3, 3, 4, 4, 3, 67, 1, 2];
+const ARITY: [usize; 14] = [0, 5, 2, 2, 2, 3, 3, 3, 4, 4, 3, 259, 1, 2];
 
 pub fn arity(kind: u64) -> usize
-    ensures { λ r. ⌜ (r ≡ arityOf kind) × (r ≤ 67) ⌝ }
+    ensures { λ r. ⌜ (r ≡ arityOf kind) × (r ≤ 259) ⌝ }
 {
     if kind < 14 {
         let k = kind as usize;
@@ -21,10 +21,10 @@ pub fn arity(kind: u64) -> usize
 
 // The first n numbers from a place on.
 pub fn read_numbers(s: &[u8], at: usize, n: usize) -> Readings
-    requires { ⌜ n ≤ 67 ⌝ }
+    requires { ⌜ n ≤ 259 ⌝ }
     ensures { λ r. ⌜ (outcome n r ≡ numbersFrom n (now (s .entry)) at) × ((k : ℕ) → n ≤ k → getD (r .values) k 0 ≡ 0) ⌝ }
 {
-    let mut values = [0u64; 67];
+    let mut values = [0u64; 259];
     let mut place = at;
     let mut i: usize = 0;
     while i < n {

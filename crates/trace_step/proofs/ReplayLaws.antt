@@ -55,10 +55,10 @@ module _ (n : ℕ) (v : List ℕ) (z : (k : ℕ) → n ≤ k → getD v k 0 ≡ 
   named-take s next = rw (take-same 4, take-same 0, take-same 1, take-same 2, take-same 3)
 
   -- a heartbeat has as many numbers as the array
-  module _ (kind : ℕ) (e : n ≡ arity kind) (l : length v ≡ 67) where
+  module _ (kind : ℕ) (e : n ≡ arity kind) (l : length v ≡ 259) where
     take-whole : kind ≡ 11 → take n v ≡ v
     unfolding arity arities
-    take-whole k = let m : n ≡ 67 = rw k at e in take-all n v (omega arith)
+    take-whole k = let m : n ≡ 259 = rw k at e in take-all n v (omega arith)
 
     callOf-take : callOf kind (take n v) [] ≡ callOf kind v []
     unfolding callOf
@@ -81,7 +81,7 @@ module _ (kind : ℕ) (v : List ℕ) where
 
   -- the permutation is the array's part from 3 on
   pub call-11 :
-      length v ≡ 67 → kind ≡ 11 → callOf kind v [] ≡ heartbeat (getD v 0 0) (getD v 1 0) (getD v 2 0) (take slotCount (drop 3 v))
+      length v ≡ 259 → kind ≡ 11 → callOf kind v [] ≡ heartbeat (getD v 0 0) (getD v 1 0) (getD v 2 0) (take slotCount (drop 3 v))
   unfolding callOf
   call-11 l e = rw (e, take-all slotCount (drop 3 v) (omega (arith, length-drop 3 v)))
 
@@ -235,7 +235,7 @@ module _ (s : List ℕ) (kind at n : ℕ) (us : Readings) (e : outcome n us ≡ 
     pub kind-other :
         (table table′ list list′ : List ℕ) (a : Answer) →
         n ≡ arity kind →
-        length (us .values) ≡ 67 →
+        length (us .values) ≡ 259 →
         kind ≢ 1 →
         Follows (callOf kind (us .values) []) a table table′ list list′ →
         Performs (performEvent (stateOf table) (length list) (ofNumbers s kind (numbersFrom n s at))) (Answered (us .place) a) table′ list
@@ -296,11 +296,11 @@ module _ (s : List ℕ) (at : ℕ) (q : Read) (e : q ≡ readAt 1844674407370955
       p
 
 -- ---- the ends of `replay`
-pub replay-full : (table s : List ℕ) (at : ℕ) (out : List ℕ) → length out < 4096 →
+pub replay-full : (table s : List ℕ) (at : ℕ) (out : List ℕ) → length out < 16384 →
     Replays (replayOf (stateOf table) s at out) Full table out
 unfolding replayOf
 replay-full table s at out h =
-    rw (lt-ltb (length out) 4096 h) (record { answer = refl; state = refl; bytes = refl; room = omega arith })
+    rw (lt-ltb (length out) 16384 h) (record { answer = refl; state = refl; bytes = refl; room = omega arith })
 
 -- what a reply prints
 text-is :
@@ -347,7 +347,7 @@ module _ (st : State) (table′ list list′ : List ℕ) (x : Event) (r : Perfor
         (next n : ℕ) (a : Answer) →
         length list ≡ actionRoom →
         r ≡ Answered next a →
-        Stored out 0 (replyText a list′) n out′ × (n ≤ 4096) →
+        Stored out 0 (replyText a list′) n out′ × (n ≤ 16384) →
         Replays (replayEvent st out x) (Called next n) table′ out′
     unfolding performEvent
     event-called next n a l e s =
@@ -407,8 +407,8 @@ module _ (st : State) (table′ list list′ : List ℕ) (x : Event) (r : Perfor
 
 pub replay-event :
     (st : State) (table′ s : List ℕ) (at : ℕ) (out out′ : List ℕ) (r : Replayed) →
-    4096 ≤ length out →
+    16384 ≤ length out →
     Replays (replayEvent st out (eventAt s at)) r table′ out′ →
     Replays (replayOf st s at out) r table′ out′
 unfolding replayOf
-replay-event st table′ s at out out′ r h p = rw (le-ltb (length out) 4096 h) p
+replay-event st table′ s at out out′ r h p = rw (le-ltb (length out) 16384 h) p

@@ -77,9 +77,9 @@ replayEvent st out unknown = stopped st (performedNumber Unknown) out
 replayEvent st out malformed = stopped st (performedNumber Malformed) out
 replayEvent st out short = record { answer = Short; state = st; bytes = out }
 
--- how many bytes one event may print: 64 actions of at most 44 bytes, and two lines
+-- how many bytes one event may print: 256 actions of at most 44 bytes, and two lines
 abbrev pub lineRoom : ℕ
-lineRoom = 4096
+lineRoom = 16384
 
 unfoldable pub replayOf : State → List ℕ → ℕ → List ℕ → Outcome
 replayOf st s at out =

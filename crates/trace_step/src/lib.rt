@@ -20,7 +20,7 @@ use trace_events::reading::read_numbers;
 use varint::Read;
 
 // How many bytes one event may print.
-const LINE_ROOM: usize = 4096;
+const LINE_ROOM: usize = 16384;
 
 // The longest protocol name that is read.
 const NAME_MOST: u64 = 64;
@@ -50,7 +50,7 @@ pub enum Replayed {
 }
 
 // The calls that come from peers, and decay and score.
-fn call_peer(table: &mut [u64; CELLS], kind: u64, v: [u64; 67], actions: &mut [u32]) -> Answer
+fn call_peer(table: &mut [u64; CELLS], kind: u64, v: [u64; 259], actions: &mut [u32]) -> Answer
     requires { ⌜ (kind ≢ 1) × ((kind ≢ 3) × ((kind ≢ 4) × ((kind ≢ 5) × ((kind ≢ 6) × (kind ≢ 11))))) ⌝ }
     ensures { λ r. ⌜ Follows (callOf kind v []) r (now (table .entry)) (now (table .exit)) (now (actions .entry)) (now (actions .exit)) ⌝ }
 {
@@ -70,7 +70,7 @@ fn call_peer(table: &mut [u64; CELLS], kind: u64, v: [u64; 67], actions: &mut [u
 }
 
 // Every call but connect.
-fn call(table: &mut [u64; CELLS], kind: u64, v: [u64; 67], actions: &mut [u32]) -> Answer
+fn call(table: &mut [u64; CELLS], kind: u64, v: [u64; 259], actions: &mut [u32]) -> Answer
     requires { ⌜ kind ≢ 1 ⌝ }
     ensures { λ r. ⌜ Follows (callOf kind v []) r (now (table .entry)) (now (table .exit)) (now (actions .entry)) (now (actions .exit)) ⌝ }
 {
@@ -82,7 +82,7 @@ fn call(table: &mut [u64; CELLS], kind: u64, v: [u64; 67], actions: &mut [u32]) 
         4 => router::leave(table, time, a, actions),
         5 => router::subscribe(table, time, a, b, actions),
         6 => router::unsubscribe(table, time, a, b, actions),
-        11 => router::heartbeat(table, time, a, b, &v[3..67], actions),
+        11 => router::heartbeat(table, time, a, b, &v[3..259], actions),
         _ => call_peer(table, kind, v, actions),
     }
 }
@@ -101,7 +101,7 @@ fn unread(s: &[u8], at: usize) -> Performed
 fn connect(
     table: &mut [u64; CELLS],
     s: &[u8],
-    v: [u64; 67],
+    v: [u64; 259],
     at: usize,
     actions: &mut [u32],
 ) -> Performed

@@ -7,7 +7,7 @@ use Rattle.trace.proofs.main.Statement.{statement}
 use Rattle.trace.proofs.main.Tie as tie
 
 abbrev Inv-loop : tie.InvT-loop
-Inv-loop buf₀ page₀ table₀ w₀ turns₀ buf page table w turns = Moves w table buf × ((length buf ≡ 65536) × (length page ≡ 4096))
+Inv-loop buf₀ page₀ table₀ w₀ turns₀ buf page table w turns = Moves w table buf × ((length buf ≡ 65536) × (length page ≡ 65536))
 
 abbrev μ-loop : tie.MeasureT-loop
 μ-loop buf₀ page₀ table₀ w₀ turns₀ buf page table w turns = turns

@@ -12,7 +12,7 @@ use Rattle.trace_events.proofs.reading.read_numbers.Tie as tie
 
 abbrev Inv-loop : tie.InvT-loop
 Inv-loop s at n values₀ place₀ i₀ values place i =
-    (i ≤ n) × ((n ≤ 67) × ((length values ≡ 67) × (After n s at i values place × ((k : ℕ) → i ≤ k → getD values k 0 ≡ 0))))
+    (i ≤ n) × ((n ≤ 259) × ((length values ≡ 259) × (After n s at i values place × ((k : ℕ) → i ≤ k → getD values k 0 ≡ 0))))
 
 abbrev μ-loop : tie.MeasureT-loop
 μ-loop s at n values₀ place₀ i₀ values place i = n - i
@@ -23,7 +23,7 @@ read-numbers-spec =
     (tie.spec
     Inv-loop
     μ-loop
-    (λ c. (omega arith, (omega arith, (refl, (after-none _ _ _ [], λ k h. zeros-none 67 k)))))
+    (λ c. (omega arith, (omega arith, (refl, (after-none _ _ _ [], λ k h. zeros-none 259 k)))))
     (λ c κs. tt)
     (λ c. search needs)
     (λ c. search needs)
