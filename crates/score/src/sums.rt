@@ -1,6 +1,6 @@
 // Balances: sums, the topic cap, the parts of P5, P6 and P7, the whole score, and how a score is compared and returned.
 ghost use mathlib.Core.Path.{_≡_};
-ghost use Prim.Native.Nat.{_*_, _<_, _≤_};
+ghost use Prim.Native.Nat.{_*_, _-_, _≤_};
 ghost use lib.IntN.{subℕ};
 ghost use Rattle.varint.specs.Codes.{codeOf};
 ghost use Rattle.score.specs.Ranges.{ScoreParamsIn, TopicsIn, PartsIn, BalanceIn, p6Most};
@@ -63,7 +63,7 @@ pub fn p6_part(w6: u64, threshold: u64, sharing: u64) -> u64
 }
 
 fn surplus_part(w6: u64, surplus: u64) -> u64
-    requires { ⌜ (w6 ≤ 100) × (surplus < slotCount) ⌝ }
+    requires { ⌜ (w6 ≤ 100) × (surplus ≤ slotCount - 1) ⌝ }
     ensures { λ r. ⌜ (r ≡ w6 * square surplus * 1000000000) × (r ≤ p6Most) ⌝ }
 {
     w6 * (surplus * surplus) * 1000000000
