@@ -35,7 +35,7 @@ then-then us vs (broken p) = refl
 at-least-one :
     (m : ℕ) (s : List ℕ) (at : ℕ) (r : Read) →
     0 < m →
-    r ≡ readAt 184425944073709551615 s at →
+    r ≡ readAt 18446744073709551615 s at →
     numbersFrom m s at ≡ numberThen (λ next. numbersFrom (m - 1) s next) at r
 unfolding numbersFrom
 at-least-one zero s at r h e = absurd (omega arith)
@@ -57,7 +57,7 @@ pub after-more :
     i < N →
     i < length us →
     After N s from i us at →
-    r ≡ readAt 184425944073709551615 s at →
+    r ≡ readAt 18446744073709551615 s at →
     r ≡ Number u next →
     After N s from (i + 1) (set us i u) next
 after-more N s from i us at u next r h l inv e f =
@@ -71,7 +71,7 @@ pub after-bad :
     (N : ℕ) (s : List ℕ) (from i : ℕ) (us : List ℕ) (at : ℕ) (r : Read) →
     i < N →
     After N s from i us at →
-    r ≡ readAt 184425944073709551615 s at →
+    r ≡ readAt 18446744073709551615 s at →
     r ≡ Bad →
     broken at ≡ numbersFrom N s from
 after-bad N s from i us at r h inv e f = rw (at-least-one (N - i) s at r (omega arith) e, f) at inv
