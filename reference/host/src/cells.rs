@@ -216,11 +216,11 @@ mod tests {
 
     #[test]
     fn regions_begin_where_the_crate_cells_says() {
-        assert_eq!((CODES, PEERS, RECORDS), (9, 157, 1245));
+        assert_eq!((CODES, PEERS, RECORDS), (9, 157, 4509));
         assert_eq!(Spot::of(155), Spot::Number(146));
         assert_eq!(Spot::of(156), Spot::Edition);
-        assert_eq!(Spot::of(1244), Spot::Peer { slot: 63, field: 16 });
-        assert_eq!(Spot::of(5340), Spot::Record { slot: 63, topic: 7, field: 7 });
+        assert_eq!(Spot::of(4508), Spot::Peer { slot: 255, field: 16 });
+        assert_eq!(Spot::of(20_892), Spot::Record { slot: 255, topic: 7, field: 7 });
     }
 
     #[test]

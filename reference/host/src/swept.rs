@@ -73,7 +73,7 @@ pub fn compare<L: Library>(
     Ok(tables)
 }
 
-/// Each of the 5341 cells alone, one past its range or at odds with the others.
+/// Each cell alone, one past its range or at odds with the others.
 const EVERY_CELL: &str = "every cell damaged by itself";
 
 /// The names that a comparison counts here.
