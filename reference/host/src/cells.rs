@@ -111,6 +111,11 @@ pub fn write(router: &Router, cells: &mut Cells) {
     let peers = peers.chunks_exact_mut(PEER_CELLS);
     let records = records.chunks_exact_mut(TOPICS * RECORD_CELLS);
     for ((row, records), peer) in peers.zip(records).zip(&router.peers) {
+        if peer.is_zero() {
+            row.fill(0);
+            records.fill(0);
+            continue;
+        }
         write_peer(peer, row);
         for (row, record) in records.chunks_exact_mut(RECORD_CELLS).zip(&peer.topics) {
             write_record(record, row);

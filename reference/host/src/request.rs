@@ -84,7 +84,9 @@ impl Request {
             1 => vec![0; length],
             _ => (SLOTS as u64..).take(length).collect(),
         };
-        let slots = permutation.iter().chain(more.iter().cycle());
+        // Often each of the first so many slots once.
+        let lowest = if random.chance(1, 2) { length as u64 } else { u64::MAX };
+        let slots = permutation.iter().filter(|&&slot| slot < lowest).chain(more.iter().cycle());
         self.odd_permutation = Some(slots.copied().take(length).collect());
         **permutation = [SLOTS as u64; SLOTS];
     }

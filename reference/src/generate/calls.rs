@@ -410,13 +410,19 @@ impl Caller {
         }
     }
 
-    /// With all slots taken: the peers of the last ones come to a topic, a few of them ask
-    /// for the mesh, and heartbeats follow; then some go, and others come in their place.
+    /// With all slots taken: some peers of the first slots and of the last ones come to a
+    /// topic, and a heartbeat chooses of them; many more of the last ask for the mesh, and
+    /// heartbeats follow; then some go, and others come in their place.
     pub fn plan_full(&mut self, topic: u64) {
         let ids = self.ids_of(Status::Connected);
         let last = &ids[ids.len().saturating_sub(40)..];
+        for few in [&ids[..3.min(ids.len())], &last[..5.min(last.len())]] {
+            self.plan_for(few, |id| Call::Subscribe { id, topic });
+        }
+        let call = self.heartbeat_call(topic);
+        self.plan(call);
         self.plan_for(last, |id| Call::Subscribe { id, topic });
-        self.plan_for(&last[..last.len() / 2], |id| Call::Graft { id, topic });
+        self.plan_for(last, |id| Call::Graft { id, topic });
         self.plan_heartbeats(topic);
         self.plan_for(&ids[..3.min(ids.len())], |id| Call::Disconnect { id });
         self.queue.push_back((60_000, Call::Decay));

@@ -22,9 +22,9 @@ pub fn trace(random: &mut Random, coverage: &mut Coverage) -> Generated {
     match random.below(160) {
         0..=9 => bad_params(&mut random, coverage),
         10 => limits(&mut random, coverage),
-        11 => full_house(random, coverage),
-        12..=13 => bad_front(&mut random, coverage),
-        14..=29 => mesh_rounds(random, coverage),
+        11..=12 => full_house(random, coverage),
+        13..=14 => bad_front(&mut random, coverage),
+        15..=30 => mesh_rounds(random, coverage),
         _ => ordinary_trace(random, coverage),
     }
 }
