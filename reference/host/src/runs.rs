@@ -120,10 +120,7 @@ fn source(random: &mut Random) -> Source {
         2..=6 => rounds(random),
         7..=12 => from_made(random),
         13 | 14 => early(random),
-        15 => {
-            let lowest = random.chance(1, 2);
-            with_script(made::extreme(lowest), VecDeque::new(), 100, random)
-        }
+        15 => extreme(random),
         _ => {
             let params = traces::params(&mut random);
             ordinary(params, random)
@@ -226,6 +223,13 @@ fn limits(mut random: Random) -> Source {
         script.push_back(Request::at(1003, Call::Score { id }));
     }
     with_script(fresh(params), script, 200, random)
+}
+
+/// The scores that pass no other either way, asked for before anything changes them.
+fn extreme(mut random: Random) -> Source {
+    let router = made::extreme(random.chance(1, 2));
+    let scores = [1, SLOTS as u64].map(|id| Request::at(router.clock, Call::Score { id }));
+    with_script(router, VecDeque::from(scores), 100, random)
 }
 
 /// Heartbeats of the first two seconds, over backoff ends under 1000.
