@@ -28,7 +28,7 @@
 //! connect, `kind=9` for a delivery's, `opportunism=9`, and `hex:2f00` for a
 //! protocol name with odd bytes. A permutation has as many slots as the trace's edition
 //! says; `9-4` are the slots from 9 down to 4, and `...` stands for the slots not named
-//! yet, upward.
+//! yet, upward. A line with `id=3-9` stands for one with each of these ids.
 
 use crate::event::{
     by_slot, Call, Event, Permutation, CALL_NAMES, EXPLICIT_FLAG, OUTBOUND_FLAG, SLOTS,
@@ -292,13 +292,14 @@ pub fn parse(text: &str) -> Result<Trace, TextError> {
             continue;
         }
         last = place + 1;
-        let error = |message| TextError { line: place + 1, message };
-        let rest = &mut Words { words: &words[1..] };
         let parsed = match start {
-            Start::Done => parse_words(words[0], rest, &mut trace),
-            _ => parse_start(words[0], rest, &mut start, &mut trace),
+            Start::Done => parse_each(&words, &mut trace),
+            _ => {
+                let rest = &mut Words { words: &words[1..] };
+                parse_start(words[0], rest, &mut start, &mut trace).and_then(|()| rest.end())
+            }
         };
-        parsed.and_then(|()| rest.end()).map_err(error)?;
+        parsed.map_err(|message| TextError { line: place + 1, message })?;
     }
     match start {
         Start::Done => Ok(trace),
@@ -340,6 +341,25 @@ fn parse_start(
         _ => return Err(START.to_string()),
     };
     Ok(())
+}
+
+/// A line, or with `id=3-9` in it a line for each of these ids.
+fn parse_each(words: &[&str], trace: &mut Trace) -> Result<(), String> {
+    let is_run = |word: &&str| word.starts_with("id=") && word.contains('-');
+    let Some(place) = words.iter().position(is_run) else { return parse_line(words, trace) };
+    for id in parse_run(&words[place]["id=".len()..])? {
+        let named = format!("id={id}");
+        let mut words = words.to_vec();
+        words[place] = &named;
+        parse_line(&words, trace)?;
+    }
+    Ok(())
+}
+
+fn parse_line(words: &[&str], trace: &mut Trace) -> Result<(), String> {
+    let rest = &mut Words { words: &words[1..] };
+    parse_words(words[0], rest, trace)?;
+    rest.end()
 }
 
 fn parse_words(word: &str, rest: &mut Words, trace: &mut Trace) -> Result<(), String> {
@@ -521,12 +541,12 @@ impl<'a> Words<'a> {
     }
 }
 
-/// One slot, or the slots from one to another.
+/// One number, or those from one to another, at most as many as there are slots.
 fn parse_run(word: &str) -> Result<Vec<u64>, String> {
     let Some((first, last)) = word.split_once('-') else { return Ok(vec![parse_number(word)?]) };
     let (first, last): (u64, u64) = (parse_number(first)?, parse_number(last)?);
     if first.abs_diff(last) >= SLOTS as u64 {
-        return Err(format!("{word} are more slots than there are"));
+        return Err(format!("{word} are more than the slots"));
     }
     Ok(if first <= last { (first..=last).collect() } else { (last..=first).rev().collect() })
 }

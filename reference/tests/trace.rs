@@ -227,6 +227,19 @@ fn permutations_as_text() {
 }
 
 #[test]
+fn a_line_for_each_id() {
+    let short = "params ordinary\ndisconnect time=7 id=3-5\nscore time=8 id=9-9\n";
+    let long = "params ordinary\ndisconnect time=7 id=3\ndisconnect time=7 id=4\n\
+                disconnect time=7 id=5\nscore time=8 id=9\n";
+    assert_eq!(text::parse(short), text::parse(long));
+    assert_eq!(text::parse(short).map(|trace| text::print(&trace)), Ok(long.to_string()));
+    for bad in ["3-", "-5", "1-257", "3-x"] {
+        let text = format!("params ordinary\ndisconnect time=7 id={bad}\n");
+        assert_eq!(text::parse(&text).map_err(|error| error.line), Err(2));
+    }
+}
+
+#[test]
 fn bad_bytes_and_unknown_kinds_stop() {
     let stops = |bytes: &str| run(&format!("params ordinary\nbytes {bytes}\n"));
     assert_eq!(stops("0e"), "2 0\n");
