@@ -403,7 +403,7 @@ fn slots_run_out_and_come_back() {
 #[test]
 fn a_permutation_is_each_of_0_to_255_once() {
     let mut router = gathered(1, 0);
-    let mut with = |change: fn(&mut [u64])| {
+    let with = |change: fn(&mut [u64])| {
         let mut permutation = by_slot();
         change(&mut permutation[..]);
         call(&mut router.clone(), 0, Call::Heartbeat { topic: 0, ask: 0, permutation }).0

@@ -426,8 +426,9 @@ impl Caller {
         self.plan_heartbeats(topic);
         self.plan_for(&ids[..3.min(ids.len())], |id| Call::Disconnect { id });
         self.queue.push_back((60_000, Call::Decay));
-        for id in self.scene.ids[self.scene.ids.len() - 4..].to_vec() {
-            let call = self.connect_of(id);
+        let count = self.scene.ids.len();
+        for place in count.saturating_sub(4)..count {
+            let call = self.connect_of(self.scene.ids[place]);
             self.plan(call);
         }
         self.plan_heartbeats(topic);
