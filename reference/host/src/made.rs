@@ -28,12 +28,14 @@ pub fn router(random: &mut Random) -> Router {
     // A part of all slots, by the hundred; often all of them.
     let filled = *random.pick(&[4, 12, 60, 90, 97, 100, 100]);
     let groups = *random.pick(&[1, 4, 1u64 << 32]);
+    // Of 256 slots some retained one can nearly always be reclaimed; so often none is retained.
+    let retained = if random.chance(2, 3) { 1 } else { 0 };
     let first_id = first_id(random);
     for slot in 0..SLOTS {
         if random.chance(filled, 100) {
             // Seven steps through the ids meet each once, out of order.
             let id = first_id + ((slot * 7) % SLOTS) as u32;
-            router.peers[slot] = peer(&router, id, groups, random);
+            router.peers[slot] = peer(&router, id, groups, retained, random);
         }
     }
     assert!(router.is_valid(), "made tables are a router's");
@@ -86,8 +88,9 @@ fn first_id(random: &mut Random) -> u32 {
     }
 }
 
-fn peer(router: &Router, id: u32, groups: u64, random: &mut Random) -> Peer {
-    let status = if random.chance(1, 5) { Status::Retained } else { Status::Connected };
+/// A peer's record; of five so many are retained.
+fn peer(router: &Router, id: u32, groups: u64, retained: usize, random: &mut Random) -> Peer {
+    let status = if random.chance(retained, 5) { Status::Retained } else { Status::Connected };
     let retained = status == Status::Retained;
     let mut peer = Peer {
         status,

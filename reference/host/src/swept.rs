@@ -7,7 +7,7 @@ use crate::damage::{self, Damage};
 use crate::library::Library;
 use crate::pair::{Difference, Pair};
 use crate::request::{also_bad, thirteen, Request};
-use reference::event::SLOTS;
+use reference::event::{Call, SLOTS};
 use reference::random::Random;
 use reference::router::{number, Router, ACTION_LIST};
 
@@ -125,6 +125,8 @@ fn failure(state: usize, kind: &str, changes: &[(usize, u64)], found: Found) -> 
 /// One state, and its table in room to be damaged.
 struct Sweep<'a, L> {
     pair: Pair<'a, L>,
+    /// The slot of the peer that the calls are about, if there is one.
+    slot: usize,
     table: Box<Cells>,
     requests: Vec<Request>,
     random: &'a mut Random,
@@ -140,7 +142,12 @@ impl<'a, L: Library> Sweep<'a, L> {
     ) -> Sweep<'a, L> {
         let requests = thirteen(router, random);
         let pair = Pair::new(library, router);
-        Sweep { pair, table: cells::table_of(router), requests, random, counts }
+        let slot = requests.iter().find_map(|request| match request.event.call {
+            Call::Score { id } => router.connected(id as u32).ok(),
+            _ => None,
+        });
+        let (slot, table) = (slot.unwrap_or(0), cells::table_of(router));
+        Sweep { pair, slot, table, requests, random, counts }
     }
 
     /// The table damaged so is no router's by both, and the calls refuse it: all thirteen, or a few.
@@ -210,11 +217,13 @@ impl<'a, L: Library> Sweep<'a, L> {
         (0..count).map(|_| self.random_change()).collect()
     }
 
-    /// A cell of any region, the small ones as likely as the large; and a value near the old one, a small
-    /// one, one bit turned, that of another record, or any.
+    /// A cell of any region, the small ones as likely as the large, and often one of the peer that the calls
+    /// are about; and a value near the old one, a small one, one bit turned, that of another record, or any.
     fn random_change(&mut self) -> (usize, u64) {
         let random = &mut *self.random;
+        let own = cells::peer_cell(self.slot, 0);
         let (from, to) = *random.pick(&[
+            (own, own + cells::PEER_CELLS),
             (cells::CLOCK, cells::JOINED),
             (cells::JOINED, cells::CODES),
             (cells::CODES, cells::EDITION),
