@@ -15,17 +15,20 @@ use Rattle.index.specs.Index.{one, count}
 use Rattle.index.proofs.Flags.{by-test}
 use Rattle.index.proofs.Index.{one-le, count-none, count-more, count-done}
 use Rattle.records.specs.declared.Peer.{Peer}
-use Rattle.records.specs.Records.{State, slotCount, topicCount, peerIn}
-use Rattle.validity.specs.Valid.{maxId, valid}
+use Rattle.records.specs.Records.{State, slotCount, topicCount, noTopic, peerIn}
+use Rattle.validity.specs.Valid.{maxId, endsUpTo, zeroPeer, valid}
+use Rattle.validity.proofs.Conditions.{all9}
 use Rattle.validity.proofs.ValidLaws.{valid-facts}
 use Rattle.score.specs.declared.ScoreParams.{ScoreParams}
 use Rattle.score.specs.declared.Balance.{Balance}
 use Rattle.score.specs.declared.Parts.{Parts}
 use Rattle.score.specs.Parts.{surplusOf}
-use Rattle.score.specs.Sums.{sumOf, partsOf}
-use Rattle.score.specs.Score.{sharesGroup, sharing, scoreParamsIn, shareAt, partsAt}
-use Rattle.score.proofs.InputLaws.{SlotIn}
-use Rattle.score.proofs.ScoreLaws.{sharing-most, parts-done}
+use Rattle.score.specs.Ranges.{ScoreParamsIn, TopicsIn}
+use Rattle.score.specs.Sums.{shareOf, noBalance, sumOf, partsOf, totalOf}
+use Rattle.score.specs.Score.{topicParamsIn, sharesGroup, sharing, scoreParamsIn, shareAt, partsAt, Scores}
+use Rattle.score.proofs.InputLaws.{SlotIn, slot-in, general-in}
+use Rattle.score.proofs.ScoreLaws.{sharing-most, parts-done, scores}
+use Rattle.peer_score.proofs.IdleLaws.{none-idle, idle-share}
 use Rattle.peer_score.specs.Buckets.{bucketCount, bucketOf, withOne, Tells, below, Together}
 
 pub bucket-in : (group : ℕ) → bucketOf group < bucketCount
@@ -302,3 +305,58 @@ pub parts-among :
     r ≡ partsAt st s
 parts-among st s k p g b n ep eg r er eb t =
     parts-done st s k p g b _ ep eg r (er ∙ same-parts g b (p .p5) n (sharing st (p .group)) (p .p7) (t .surplus)) eb refl
+
+-- ---- an empty slot's score
+
+sum-nothing : (f : ℕ → Balance) (n : ℕ) → ((t : ℕ) → t < n → f t ≡ noBalance) → sumOf n f ≡ noBalance
+unfolding sumOf
+sum-nothing f zero h = refl
+sum-nothing f (suc n) h = rw (sum-nothing f n (λ t l. h t (omega arith)), h n (omega arith))
+
+module _ (st : State) (ok : valid st ≡ true) (s : ℕ) (h : s < slotCount) (e : peerIn st s .status ≡ 0) where
+  empty-topics : noBalance ≡ sumOf topicCount (shareAt st s)
+  unfolding shareAt
+  empty-topics =
+      sym
+      (sum-nothing (shareAt st s) topicCount
+      (λ t l.
+      let z = valid-facts st ok .topic s t h l .empty e in
+      ap (shareOf (topicParamsIn st t)) z ∙ sym (idle-share (topicParamsIn st t) noTopic none-idle)))
+
+  record Zeros : Type 0 where
+    group : peerIn st s .group ≡ 0
+    p5 : peerIn st s .p5 ≡ 0
+    p7 : peerIn st s .p7 ≡ 0
+
+  zeros-at : Zeros
+  unfolding zeroPeer
+  zeros-at =
+      let p = peerIn st s in
+      let r =
+      all9 (eqb (p .id) 0) (eqb (p .group) 0) (eqb (p .outbound) 0) (eqb (p .explicit) 0) (eqb (p .version) 0) (eqb (p .p5) 0)
+      (eqb (p .p7) 0) (eqb (p .retain) 0) (endsUpTo 0 p) (valid-facts st ok .peer s h .empty e) in
+      record { group = eqb-true (p .group) 0 (r .1); p5 = eqb-true (p .p5) 0 (r .5); p7 = eqb-true (p .p7) 0 (r .6) }
+
+  pub empty-scores :
+      (g : ScoreParams) (n : ℕ) (q : Parts) (b : Balance) →
+      g ≡ scoreParamsIn st →
+      Together st (g .threshold) 0 n →
+      q ≡ partsOf g noBalance 0 n 0 →
+      b ≡ totalOf q →
+      Scores st s b
+  empty-scores g n q b eg t eq eb =
+      let i = slot-in st ok s h in
+      let z = zeros-at in
+      let u : Together st (g .threshold) (peerIn st s .group) n = rw (z .group) t in
+      let v : q ≡ partsOf g noBalance (peerIn st s .p5) n (peerIn st s .p7) = rw (z .p5, z .p7) eq in
+      scores st s i q b (parts-among st s i (peerIn st s) g noBalance n refl eg q v empty-topics u) eb
+
+pub empty-ready :
+    (st : State) →
+    valid st ≡ true →
+    (g : ScoreParams) (n : ℕ) →
+    g ≡ scoreParamsIn st →
+    n ≤ slotCount →
+    ScoreParamsIn g × (TopicsIn noBalance × ((0 ≤ 2000000000) × ((n ≤ slotCount) × (0 ≤ 1000000))))
+empty-ready st ok g n eg l =
+    (rw eg (general-in st ok), (record { gain = omega arith; loss = omega arith }, (omega arith, (l, omega arith))))

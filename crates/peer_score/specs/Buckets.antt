@@ -8,11 +8,13 @@ use lib.Dec.{eqb}
 use lib.ListN.{length, getD}
 use Rattle.index.specs.Index.{one, count}
 use Rattle.records.specs.declared.Peer.{Peer}
-use Rattle.records.specs.Records.{State, slotCount}
+use Rattle.records.specs.Records.{State, slotCount, peerIn}
 use Rattle.validity.specs.Valid.{maxId}
 use Rattle.layout.specs.View.{stateOf}
+use Rattle.score.specs.declared.Balance.{Balance}
+use Rattle.score.specs.Ranges.{BalanceIn}
 use Rattle.score.specs.Parts.{surplusOf}
-use Rattle.score.specs.Score.{sharesGroup, sharing}
+use Rattle.score.specs.Score.{sharesGroup, sharing, Scores}
 use Rattle.peer_score.specs.Standing.{Standing, PeerStanding}
 
 -- any number will do
@@ -74,3 +76,8 @@ pub record Asking (table heads same others : List ℕ) (group : ℕ) : Type 0 wh
 pub record Among (table heads same others : List ℕ) (s : ℕ) (p : Peer) : Type 0 where
   pub peer : PeerStanding table s p
   pub buckets : Counted table heads same others
+
+-- b is the score of every empty slot
+pub record EmptyScore (st : State) (b : Balance) : Type 0 where
+  pub range : BalanceIn b
+  pub score : (s : ℕ) → s < slotCount → peerIn st s .status ≡ 0 → Scores st s b

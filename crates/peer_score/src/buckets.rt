@@ -10,7 +10,7 @@ ghost use Rattle.records.specs.Records.{slotCount};
 ghost use Rattle.validity.specs.Valid.{maxId};
 ghost use Rattle.peer_score.specs.Standing.{Standing};
 ghost use Rattle.peer_score.specs.Buckets.{bucketCount, bucketOf, withOne, Tells, below, Unused, Counted, Noting, Counting, Together};
-ghost use Rattle.peer_score.specs.Buckets.{Asking, Among};
+ghost use Rattle.peer_score.specs.Buckets.{Asking, Among, EmptyScore};
 ghost use Rattle.score.specs.Score.{Scores};
 use crate::load_general;
 use crate::sharing_of;
@@ -140,4 +140,19 @@ pub fn score_among(
     let g = load_general(table);
     let n = together(table, heads, same, others, g.threshold, p.group);
     sums::total(sums::parts(g, topics_at(table, slot), p.p5, n, p.p7))
+}
+
+// The score of an empty slot: it is the same in all of them, and most slots are empty in a small network.
+pub fn empty_score(
+    table: &[u64],
+    heads: &[u32; BUCKETS],
+    same: &[u16; BUCKETS],
+    others: &[u16; BUCKETS],
+) -> Balance
+    requires { ⌜ Standing (now table) × Counted (now table) (now heads) (now same) (now others) ⌝ }
+    ensures { λ r. ⌜ EmptyScore (stateOf (now (table .entry))) r ⌝ }
+{
+    let g = load_general(table);
+    let n = together(table, heads, same, others, g.threshold, 0);
+    sums::total(sums::parts(g, Balance { gain: 0, loss: 0 }, 0, n, 0))
 }
