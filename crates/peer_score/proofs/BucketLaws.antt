@@ -11,7 +11,7 @@ use lib.Dec.{eqb}
 use lib.ListN.{length, getD, set, length-set, replicate, length-replicate}
 use lib.Seq.{getD-set-same, getD-set-other}
 use borrow.Author.Tests.{eqb-true, eqb-false, eq-eqb, ne-eqb}
-use Rattle.index.specs.Index.{one, count}
+use Rattle.index.specs.Index.{one}
 use Rattle.index.proofs.Flags.{by-test}
 use Rattle.index.proofs.Index.{one-le, count-none, count-more, count-done}
 use Rattle.records.specs.declared.Peer.{Peer}
@@ -162,8 +162,8 @@ module _ (c : ℕ → ℕ) (m : ℕ) (heads same others : List ℕ) (k : Tells c
         (λ t.
         let e = eqb-false (bucketOf g) (bucketOf p) t in
         let d : bucketOf p ≡ bucketOf g → ⊥ = λ z. e (sym z) in
-        rw (head-there (bucketOf g) d, same-there (bucketOf g) d, others-there (bucketOf g) d, one-there (c g) p g (λ z. d (ap bucketOf z)))
-        old)
+        let x = one-there (c g) p g (λ z. d (ap bucketOf z)) in
+        rw (head-there (bucketOf g) d, same-there (bucketOf g) d, others-there (bucketOf g) d, x) old)
 
     pub tells-more : Tells (withOne c p) (m + 1) heads′ same′ others′
     tells-more =
@@ -180,7 +180,9 @@ module _ (c : ℕ → ℕ) (m : ℕ) (heads same others : List ℕ) (k : Tells c
               let e = eqb-true b (bucketOf p) t in
               rw (same-here b e, others-here b e)
               (none-way p (c p) _ _ _ p (record { head = k .head p; other = k .other p }) (k .none (bucketOf p)) _ _ refl refl))
-              (λ t. let d : bucketOf p ≡ b → ⊥ = λ z. eqb-false b (bucketOf p) t (sym z) in rw (same-there b d, others-there b d) (k .none b));
+              (λ t.
+              let d : bucketOf p ≡ b → ⊥ = λ z. eqb-false b (bucketOf p) t (sym z) in
+              rw (same-there b d, others-there b d) (k .none b));
           most = λ b.
               by-test _ (eqb b (bucketOf p))
               (λ t.
@@ -267,7 +269,7 @@ module _ (st : State) (heads same others : List ℕ) (k : Tells (sharing st) slo
       let n : getD same b 0 ≡ sharing st group = ap (λ (j : ℕ). getD same j 0) e ∙ k .head group q in
       record { surplus = ap (surplusOf threshold) n; most = omega (arith, n, sharing-most st group) }
 
-  -- "the surplus being .. above the P6 threshold, or 0": of no more peers than the threshold it is 0, and the group's are no more than these
+  -- "the surplus being how many .. above the P6 threshold, or 0": the group's peers are no more than these, which are not above it
   pub told-few : (getD heads b 0 ≡ group → ⊥) → getD others b 0 ≤ threshold → Together st threshold group (getD others b 0)
   told-few t f =
       let q : getD heads (bucketOf group) 0 ≡ group → ⊥ = λ z. t (ap (λ (j : ℕ). getD heads j 0) e ∙ z) in

@@ -21,8 +21,8 @@ use Rattle.peer_score.specs.Standing.{Standing, PeerStanding}
 abbrev pub bucketCount : ℕ
 bucketCount = 512
 
--- Groups are often prefixes of addresses, alike in their low bits: multiplied by 2^32 over the golden ratio, nine bits below the 2^32 of the
--- product are a bucket.
+-- Groups are often prefixes of addresses, alike in their low bits: of their product with 2^32 over the golden ratio, the nine bits below
+-- 2^32 are the bucket.
 unfoldable pub bucketOf : ℕ → ℕ
 bucketOf group = group * 2654435769 / 8388608 % bucketCount
 

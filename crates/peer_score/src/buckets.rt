@@ -6,7 +6,6 @@ ghost use Prim.Native.Nat.{ℕ, _+_, _≤_, _<_};
 ghost use lib.Dec.{eqb};
 ghost use Rattle.index.specs.Index.{one as Index·one};
 ghost use Rattle.layout.specs.View.{stateOf};
-ghost use Rattle.records.specs.Records.{slotCount};
 ghost use Rattle.validity.specs.Valid.{maxId};
 ghost use Rattle.peer_score.specs.Standing.{Standing};
 ghost use Rattle.peer_score.specs.Buckets.{bucketCount, bucketOf, withOne, Tells, below, Unused, Counted, Noting, Counting, Together};
@@ -51,7 +50,12 @@ fn head_of(same: u16, head: u32, group: u32) -> u32
 }
 
 // Counts a peer of the group.
-fn note(heads: &mut [u32; BUCKETS], same: &mut [u16; BUCKETS], others: &mut [u16; BUCKETS], group: u64)
+fn note(
+    heads: &mut [u32; BUCKETS],
+    same: &mut [u16; BUCKETS],
+    others: &mut [u16; BUCKETS],
+    group: u64,
+)
     requires { ⌜ Noting (now same) (now others) group ⌝ }
     ensures { λ r. ⌜ ((c : ℕ → ℕ) (n : ℕ) → Tells c n (now (heads .entry)) (now (same .entry)) (now (others .entry))
         → Tells (withOne c group) (n + 1) (now (heads .exit)) (now (same .exit)) (now (others .exit))) ⌝ }

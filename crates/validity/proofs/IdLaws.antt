@@ -1,6 +1,6 @@
 -- Buckets of ids: an id that stands in a lower slot has marked its bucket, so an id whose bucket is unmarked is new.
 -- Assumes nothing.
-use Prim.Native.Nat.{ℕ, _+_, _*_, _<_, _≤_, _/_, _%_, _^_}
+use Prim.Native.Nat.{ℕ, _+_, _<_, _/_, _%_, _^_}
 use native.Mathlib.Nat.{mod-lt, not-suc-le-zero, one-mul, zero-lt-suc}
 use native.Mathlib.Omega.{arith}
 use mathlib.Core.Path.{_≡_, refl, sym, ap, _∙_}
@@ -8,7 +8,7 @@ use mathlib.Core.Bool.{Bool, true, false, not, _&&_, _||_}
 use mathlib.Core.List.{List}
 use lib.Bits.{bitOr, or-add-and, and-le-l, and-le-r, or-lt, or-mod, or-shr}
 use lib.Dec.{eqb}
-use lib.ListN.{length, getD, set, length-set}
+use lib.ListN.{length, getD, length-set}
 use lib.Pow.{shl-shr}
 use lib.Seq.{getD-set-same}
 use borrow.Author.Tests.{eqb-true, eqb-false, eq-eqb}

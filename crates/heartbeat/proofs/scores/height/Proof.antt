@@ -1,6 +1,6 @@
 -- `heartbeat::scores::height`: an empty slot's score, or the peer's, moved up.
 use borrow.Author.Needs.{needs}
-use mathlib.Core.Path.{_≡_, sym, ap, _∙_}
+use mathlib.Core.Path.{sym, ap, _∙_}
 use Rattle.records.specs.declared.Peer.{Peer}
 use Rattle.rules.proofs.HeartbeatLaws.{height-of}
 use Rattle.heartbeat.proofs.scores.height.Statement.{statement}

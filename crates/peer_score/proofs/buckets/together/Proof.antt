@@ -1,8 +1,5 @@
 -- `peer_score::buckets::together`: the head's count, or one that is not above the threshold, or the exact one.
 use borrow.Author.Needs.{needs}
-use mathlib.Core.Path.{_≡_, sym}
-use Rattle.layout.specs.View.{stateOf}
-use Rattle.peer_score.specs.Buckets.{Together}
 use Rattle.peer_score.proofs.BucketLaws.{told-head, told-few, told-exact}
 use Rattle.peer_score.proofs.buckets.together.Statement.{statement}
 use Rattle.peer_score.proofs.buckets.together.Tie as tie

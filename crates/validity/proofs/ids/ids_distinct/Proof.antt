@@ -1,5 +1,5 @@
 -- `validity::ids::ids_distinct`: after s turns the ids below s are apart, and have marked their buckets. Assumes nothing.
-use Rattle.index.proofs.Kit.{_≤_, _-_, _≡_, refl, sym, _∙_, arith, needs, every, true}
+use Rattle.index.proofs.Kit.{_≤_, _-_, _≡_, refl, arith, needs, every, true}
 use Rattle.index.proofs.Index.{every-loop, every-more, every-out}
 use Rattle.index.proofs.Flags.{failed, passed}
 use Rattle.records.specs.Records.{slotCount}

@@ -1,9 +1,8 @@
 -- `validity::ids::next_new`: an unmarked bucket tells that the id is new, and the id's own is marked then.
 use borrow.Author.Needs.{needs}
 use Prim.Native.Nat.{ℕ, _%_}
-use mathlib.Core.Path.{_≡_, sym, ap, _∙_}
-use Rattle.layout.specs.View.{stateOf}
-use Rattle.validity.specs.Order.{bucketCount, isMarked, Seen}
+use mathlib.Core.Path.{sym, ap, _∙_}
+use Rattle.validity.specs.Order.{bucketCount, isMarked}
 use Rattle.validity.proofs.IdLaws.{seen-past, seen-more, new-told, new-none}
 use Rattle.validity.proofs.ids.next_new.Statement.{statement}
 use Rattle.validity.proofs.ids.next_new.Tie as tie
