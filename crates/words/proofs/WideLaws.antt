@@ -7,7 +7,7 @@ use native.Mathlib.Numerals.{add-one}
 use mathlib.Core.Path.{_≡_, refl, sym, ap, ap₂, _∙_}
 use mathlib.Core.Bool.{Bool, true, false}
 use mathlib.Core.List.{List, [], _∷_, _++_}
-use lib.ListN.{length, getD, set, length-set, drop, length-append, List·getD-append, List·getD-eq-default, drop-of-length-le}
+use lib.ListN.{length, getD, set, length-set, drop, length-append, List·getD-append, List·getD-eq-default, drop-of-length-le, replicate}
 use lib.Pow.{pow-lt}
 use lib.Seq.{getD-append-add, drop-cons, set-out, ext-getD, getD-set-same, getD-set-other}
 use borrow.Author.Count.{below-more}
@@ -288,3 +288,18 @@ pub packed-done :
 packed-done flags n i r h l b =
     let e = b .len in
     is-bitsOf r flags (omega arith) (λ k lt. b .below k (omega arith))
+
+-- ---- no slot at all
+none-word : (k : ℕ) (m : List Bool) (n : ℕ) → m ≡ replicate n false → bits k 0 ++ m ≡ replicate (k + n) false
+unfolding bits
+none-word zero m n e = e ∙ ap (λ (j : ℕ). replicate j false) (let z : n ≡ 0 + n = omega arith in z)
+none-word (suc k) m n e =
+    ap (λ (l : List Bool). false ∷ l) (none-word k m n e)
+    ∙ ap (λ (j : ℕ). replicate j false) (let z : suc (k + n) ≡ suc k + n = omega arith in z)
+
+pub none-bits : (n : ℕ) → bitsOf (replicate n 0) ≡ replicate (wordBits * n) false
+unfolding bitsOf
+none-bits zero = refl
+none-bits (suc n) =
+    none-word wordBits (bitsOf (replicate n 0)) (wordBits * n) (none-bits n)
+    ∙ ap (λ (j : ℕ). replicate j false) (let z : wordBits + wordBits * n ≡ wordBits * suc n = omega arith in z)

@@ -3,7 +3,7 @@
 ghost use mathlib.Core.Path.{_≡_};
 ghost use mathlib.Core.Bool.{false};
 ghost use Prim.Native.Nat.{_<_, _≤_, _^_};
-ghost use lib.ListN.{getD, set};
+ghost use lib.ListN.{getD, set, replicate};
 ghost use Rattle.records.specs.Records.{slotCount};
 ghost use Rattle.index.specs.Index.{count};
 ghost use Rattle.words.specs.Words.{wordBits, bits, bitsOf, lowest};
@@ -38,6 +38,13 @@ pub fn with_bit(w: u64, s: u64, b: bool) -> u64
     ensures { λ r. ⌜ bits wordBits r ≡ set (bits wordBits w) s b ⌝ }
 {
     if b { w | single(s) } else { w & !single(s) }
+}
+
+// No slot at all.
+pub fn none() -> [u64; WORDS]
+    ensures { λ r. ⌜ bitsOf r ≡ replicate slotCount false ⌝ }
+{
+    [0; WORDS]
 }
 
 // Whether the slot s is in the set; past its end, no.
