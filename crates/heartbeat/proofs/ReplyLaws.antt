@@ -18,9 +18,9 @@ use Rattle.validity.specs.Valid.{valid}
 use Rattle.validity.proofs.ValidLaws.{valid-facts}
 use Rattle.sets.specs.Sets.{bySlot, isPermutation}
 use Rattle.sets.proofs.SlotLaws.{slots-at, slots-past, slots-all}
-use Rattle.mesh.specs.declared.View.{View}
-use Rattle.mesh.specs.declared.Meshes.{Meshes}
-use Rattle.mesh.specs.declared.Changes.{Changes}
+use Rattle.mesh.specs.Maintenance.{View}
+use Rattle.mesh.specs.Maintenance.{Meshes}
+use Rattle.mesh.specs.Maintenance.{Changes}
 use Rattle.mesh.specs.Maintenance.{Action as Told, meshes, changesOf, actionsOf, numbersOf as numbersIn, Writable, Written}
 use Rattle.effects.specs.Actions.{numbersOf}
 use Rattle.effects.specs.Effects.{isMember, endAfter, pruneBackoff}

@@ -20,7 +20,7 @@ use Rattle.sets.specs.Sets.{bySlot}
 use Rattle.index.proofs.Lists.{Built, built-none, built-more}
 use Rattle.sets.proofs.SlotLaws.{slots-at}
 use Rattle.mesh.specs.declared.Degrees.{Degrees}
-use Rattle.mesh.specs.declared.View.{View}
+use Rattle.mesh.specs.Maintenance.{View}
 use Rattle.mesh.specs.Maintenance.{zeroScore}
 use Rattle.varint.specs.Codes.{magnitude}
 use Rattle.effects.specs.Effects.{isMember}
