@@ -12,12 +12,12 @@ use lib.Dec.{eqb}
 use lib.ListN.{length, getD, set, length-set}
 use lib.Seq.{ext-getD, getD-set-same, getD-set-other}
 use lib.Pow.{shr-shr, pow-lt}
-use lib.Bits.{bitAnd, bitOr, and-step, or-step, and-self}
+use lib.Bits.{bitAnd, bitOr, bitXor, differ, and-step, or-step, xor-step, and-self}
 use lib.Count.{ones, ones-step, trailingZeros, under}
 use borrow.Author.Tests.{eq-eqb, ne-eqb}
 use Rattle.index.specs.Index.{count, one}
 use Rattle.index.proofs.Flags.{by-order}
-use Rattle.words.specs.Words.{odd, unit, bits, lowest}
+use Rattle.words.specs.Words.{odd, unit, bits, differs, lowest}
 
 -- ---- digits
 bin : (n : ℕ) → n < 2 → (n ≡ 0) ⊎ (n ≡ 1)
@@ -53,6 +53,15 @@ not-digit zero zero h = absurd (omega arith)
 not-digit zero (suc (suc y)) h = absurd (omega arith)
 not-digit (suc (suc x)) y h = absurd (omega arith)
 not-digit (suc zero) (suc y) h = absurd (omega arith)
+
+xor-digit : (x y : ℕ) → x < 2 → y < 2 → (eqb (differ x y) 1 ≡ differs (eqb x 1) (eqb y 1)) × (differ x y < 2)
+xor-digit zero zero h l = (refl, omega arith)
+xor-digit zero (suc zero) h l = (refl, omega arith)
+xor-digit (suc zero) zero h l = (refl, omega arith)
+xor-digit (suc zero) (suc zero) h l = (refl, omega arith)
+xor-digit zero (suc (suc y)) h l = absurd (omega arith)
+xor-digit (suc zero) (suc (suc y)) h l = absurd (omega arith)
+xor-digit (suc (suc x)) y h l = absurd (omega arith)
 
 low-lt : (n : ℕ) → n % 2 < 2
 low-lt n = mod-lt n (zero-lt-suc 1)
@@ -92,6 +101,11 @@ or-half a b =
     low-half (bitOr a b) (bitOr (a / 2) (b / 2)) (max (a % 2) (b % 2)) (or-step a b)
     (max-digit (a % 2) (b % 2) (low-lt a) (low-lt b) .1)
 
+xor-half : (a b : ℕ) → (bitXor a b % 2 ≡ differ (a % 2) (b % 2)) × (bitXor a b / 2 ≡ bitXor (a / 2) (b / 2))
+xor-half a b =
+    low-half (bitXor a b) (bitXor (a / 2) (b / 2)) (differ (a % 2) (b % 2)) (xor-step a b)
+    (xor-digit (a % 2) (b % 2) (low-lt a) (low-lt b) .1)
+
 and-odd : (a b : ℕ) → odd (bitAnd a b) ≡ (odd a && odd b)
 and-odd a b = ap (λ (x : ℕ). eqb x 1) (and-half a b .0) ∙ min-digit (a % 2) (b % 2) (low-lt a) (low-lt b) .0
 
@@ -113,6 +127,15 @@ or-at zero a b s = refl
 or-at (suc k) a b zero = or-odd a b
 or-at (suc k) a b (suc s) =
     ap (λ (x : ℕ). getD (bits k x) s false) (or-half a b .1) ∙ or-at k (a / 2) (b / 2) s
+
+pub xor-at :
+    (k a b s : ℕ) → getD (bits k (bitXor a b)) s false ≡ differs (getD (bits k a) s false) (getD (bits k b) s false)
+unfolding bits
+xor-at zero a b s = refl
+xor-at (suc k) a b zero =
+    ap (λ (x : ℕ). eqb x 1) (xor-half a b .0) ∙ xor-digit (a % 2) (b % 2) (low-lt a) (low-lt b) .0
+xor-at (suc k) a b (suc s) =
+    ap (λ (x : ℕ). getD (bits k x) s false) (xor-half a b .1) ∙ xor-at k (a / 2) (b / 2) s
 
 -- in a and not in b
 pub except-at :

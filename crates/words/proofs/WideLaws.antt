@@ -12,11 +12,12 @@ use lib.Pow.{pow-lt}
 use lib.Seq.{getD-append-add, drop-cons, set-out, ext-getD, getD-set-same, getD-set-other}
 use borrow.Author.Count.{below-more}
 use mathlib.Core.Logic.{⊎-elim}
-use lib.Bits.{bitAnd}
+use lib.Bits.{bitAnd, bitXor}
 use Rattle.index.specs.Index.{count, one}
 use Rattle.index.proofs.Index.{count-same}
-use Rattle.words.specs.Words.{wordBits, unit, bits, bitsOf, lowest, PackedFrom}
-use Rattle.words.proofs.BitLaws.{bits-length, bits-less, lowest-lt, lowest-none, add-lt, add-bit}
+use Rattle.index.proofs.Flags.{by-order}
+use Rattle.words.specs.Words.{wordBits, unit, bits, bitsOf, differs, lowest, PackedFrom}
+use Rattle.words.proofs.BitLaws.{bits-length, bits-less, lowest-lt, lowest-none, add-lt, add-bit, xor-at}
 
 pub bitsOf-length : (ws : List ℕ) → length (bitsOf ws) ≡ wordBits * length ws
 unfolding bitsOf
@@ -303,3 +304,23 @@ none-bits zero = refl
 none-bits (suc n) =
     none-word wordBits (bitsOf (replicate n 0)) (wordBits * n) (none-bits n)
     ∙ ap (λ (j : ℕ). replicate j false) (let z : wordBits + wordBits * n ≡ wordBits * suc n = omega arith in z)
+
+-- ---- what is in one of two sets alone
+pub differ-words :
+    (a b r : List ℕ) (n : ℕ) →
+    length a ≡ n →
+    length b ≡ n →
+    length r ≡ n →
+    ((k : ℕ) → k < n → getD r k 0 ≡ bitXor (getD a k 0) (getD b k 0)) →
+    (s : ℕ) →
+    getD (bitsOf r) s false ≡ differs (getD (bitsOf a) s false) (getD (bitsOf b) s false)
+differ-words a b r n la lb lr h s =
+    by-order (getD (bitsOf r) s false ≡ differs (getD (bitsOf a) s false) (getD (bitsOf b) s false)) s (wordBits * n)
+    (λ l.
+    sym (at-slot r s (omega arith))
+    ∙ ap (λ (w : ℕ). getD (bits wordBits w) (s % wordBits) false) (h (s / wordBits) (omega arith))
+    ∙ xor-at wordBits (getD a (s / wordBits) 0) (getD b (s / wordBits) 0) (s % wordBits)
+    ∙ ap₂ (λ (p q : Bool). differs p q) (at-slot a s (omega arith)) (at-slot b s (omega arith)))
+    (λ l.
+    at-past r s (omega arith)
+    ∙ sym (ap₂ (λ (p q : Bool). differs p q) (at-past a s (omega arith)) (at-past b s (omega arith))))

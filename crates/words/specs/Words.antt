@@ -1,7 +1,7 @@
 -- Sets of slots as words: the list of flags that the words stand for. Definitions only.
 use Prim.Native.Nat.{ℕ, zero, suc, _+_, _*_, _/_, _%_, _<_}
 use mathlib.Core.Path.{_≡_}
-use mathlib.Core.Bool.{Bool, true, false}
+use mathlib.Core.Bool.{Bool, true, false, not}
 use mathlib.Core.List.{List, [], _∷_, _++_}
 use lib.ListN.{getD}
 use lib.Dec.{eqb}
@@ -31,6 +31,11 @@ unfoldable pub bitsOf : List ℕ → List Bool
 bitsOf [] = []
 bitsOf (w ∷ ws) = bits wordBits w ++ bitsOf ws
 
+-- one of two flags alone
+abbrev pub differs : Bool → Bool → Bool
+differs true y = not y
+differs false y = y
+
 -- the lowest slot of a set; its length where none is in
 unfoldable pub lowest : List Bool → ℕ
 lowest [] = zero
@@ -42,11 +47,6 @@ unfoldable pub slots : ℕ → List Bool → List ℕ
 slots i [] = []
 slots i (true ∷ m) = i ∷ slots (suc i) m
 slots i (false ∷ m) = slots (suc i) m
-
--- what f makes of u at each slot of a list, one after the other
-unfoldable pub walk : {S : Type 0} → (ℕ → S → S) → List ℕ → S → S
-walk f [] u = u
-walk f (s ∷ r) u = walk f r (f s u)
 
 -- the word w has the flags of the slots from 64 * i on
 abbrev pub PackedFrom : List Bool → ℕ → ℕ → Type 0

@@ -2,11 +2,11 @@
 // contract speaks of that list, so that a definition over lists of flags says what a function over words does.
 ghost use mathlib.Core.Path.{_≡_};
 ghost use mathlib.Core.Bool.{false};
-ghost use Prim.Native.Nat.{_<_, _≤_, _^_};
+ghost use Prim.Native.Nat.{ℕ, _<_, _^_};
 ghost use lib.ListN.{getD, set, replicate};
 ghost use Rattle.records.specs.Records.{slotCount};
 ghost use Rattle.index.specs.Index.{count};
-ghost use Rattle.words.specs.Words.{wordBits, bits, bitsOf, lowest};
+ghost use Rattle.words.specs.Words.{wordBits, bits, bitsOf, differs, lowest};
 use records::SLOTS;
 
 pub mod flags;
@@ -67,6 +67,17 @@ pub fn put(m: [u64; WORDS], s: u64, b: bool) -> [u64; WORDS]
     if s < SLOTS as u64 {
         let i = (s / 64) as usize;
         r[i] = with_bit(r[i], s % 64, b);
+    }
+    r
+}
+
+// The slots that are in one of the two sets alone.
+pub fn differ(a: [u64; WORDS], b: [u64; WORDS]) -> [u64; WORDS]
+    ensures { λ r. ⌜ ((s : ℕ) → getD (bitsOf r) s false ≡ differs (getD (bitsOf a) s false) (getD (bitsOf b) s false)) ⌝ }
+{
+    let mut r = [0; WORDS];
+    for i in 0..WORDS {
+        r[i] = a[i] ^ b[i];
     }
     r
 }
