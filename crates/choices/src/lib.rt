@@ -13,7 +13,12 @@ use words::flags::pack;
 use words::flags::unpack;
 
 // The k best by picks: the router's own function, from flags to flags.
-fn picked(k: u64, scores: [u64; SLOTS], members: [bool; SLOTS], order: [u64; SLOTS]) -> [bool; SLOTS]
+fn picked(
+    k: u64,
+    scores: [u64; SLOTS],
+    members: [bool; SLOTS],
+    order: [u64; SLOTS],
+) -> [bool; SLOTS]
     ensures { λ r. ⌜ r ≡ bests slotCount scores members order k (replicate slotCount false) ⌝ }
 {
     unpack(bests(k, &scores, pack(members), &order))

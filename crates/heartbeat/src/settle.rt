@@ -66,7 +66,8 @@ pub fn settle(
         let was = at(&members, slot);
         let stays = at(&mesh, slot);
         settle_slot(table, topic, slot as usize, time, end, was, stays, negative);
-        left = without_lowest(left);
+        let rest = without_lowest(left);
+        left = rest;
         slot = lowest(left);
     }
 }

@@ -71,7 +71,8 @@ fn tell_by_slot(
     while slot < SLOTS as u64 {
         tell(table, actions, k, kind, slot, seconds);
         k += 1;
-        left = without_lowest(left);
+        let rest = without_lowest(left);
+        left = rest;
         slot = lowest(left);
     }
     k
