@@ -8,4 +8,3 @@ pub mod BestLaws
 pub mod SwapLaws
 pub mod MedianLaws
 pub mod SlotLaws
-pub mod WidenedLaws

@@ -181,18 +181,6 @@ module _ (d : List ℕ) where
       (λ m. let i = total-more n (λ k j. h k (omega arith)) s m in let o = h n (omega arith) in omega arith)
       (eq-or-lt-of-le (le-of-suc-le-suc l))
 
--- an order as long as the slots are many, in which each stands, is a permutation
-pub permutation-by : (n : ℕ) (d : List ℕ) → length d ≡ n → ((s : ℕ) → s < n → 0 < occurs s d) → isPermutation n d ≡ true
-unfolding isPermutation
-permutation-by n d e all =
-    ap₂ (λ (a b : Bool). a && b) (eq-eqb (length d) n e)
-    (every-by (λ s. eqb (occurs s d) 1) n
-    (λ s l.
-    let o = all s l in
-    let u = total-more d n all s l in
-    let b = total-bound n d in
-    eq-eqb (occurs s d) 1 (omega arith)))
-
 -- the slots seen are as many as there are exactly where each stands in the order once
 pub marked-permutation :
     (n : ℕ) (d : List ℕ) → length d ≡ n → eqb (size (marked d (replicate n false))) n ≡ isPermutation n d
@@ -218,12 +206,18 @@ marked-permutation n d e =
 
     counted : eqb (size m) n ≡ true → isPermutation n d ≡ true
     counted t =
-        permutation-by n d e
-        (λ s l.
+        let all : (s : ℕ) → s < n → 0 < occurs s d = λ s l.
         ⊎-elim
         (λ a. absurd (false≢true (sym (at-none n s) ∙ a)))
         (λ o. o)
-        (marked-only d (replicate n false) s (size-full m (eqb-true (size m) n t ∙ sym lm) s (let q = lm in omega arith))))
+        (marked-only d (replicate n false) s (size-full m (eqb-true (size m) n t ∙ sym lm) s (let q = lm in omega arith))) in
+        ap₂ (λ (a b : Bool). a && b) (eq-eqb (length d) n e)
+        (every-by (λ s. eqb (occurs s d) 1) n
+        (λ s l.
+        let o = all s l in
+        let u = total-more d n all s l in
+        let b = total-bound n d in
+        eq-eqb (occurs s d) 1 (omega arith)))
 
 -- ---- the order by slot
 pub ascending-length : (i k : ℕ) → length (ascending i k) ≡ k
@@ -237,7 +231,7 @@ ascending-at i zero j h = absurd (not-suc-le-zero h)
 ascending-at i (suc k) zero h = omega arith
 ascending-at i (suc k) (suc j) h = let e = ascending-at (suc i) k j (le-of-suc-le-suc h) in omega arith
 
-pub ascending-low : (s i k : ℕ) → s < i → occurs s (ascending i k) ≡ 0
+ascending-low : (s i k : ℕ) → s < i → occurs s (ascending i k) ≡ 0
 unfolding ascending occurs
 ascending-low s i zero h = refl
 ascending-low s i (suc k) h =

@@ -1,5 +1,5 @@
 -- `trace_events::reading::read_numbers` meets its contract: the loop's invariant is `After`: the first `i` numbers are read, `place` is
--- past them, and the values from `i` on are 0. Assumes nothing.
+-- past them, and the values from `i` on stay. Assumes nothing.
 use Prim.Native.Nat.{ℕ, _≤_, _-_}
 use mathlib.Core.Path.{_≡_, refl}
 use native.Mathlib.Omega.{arith}

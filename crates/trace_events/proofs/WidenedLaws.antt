@@ -3,7 +3,7 @@
 -- Assumes nothing.
 use Prim.Native.Nat.{ℕ, zero, suc, _+_, _≤_, _<_}
 use native.Mathlib.Omega.{arith}
-use mathlib.Core.Path.{_≡_, sym, _∙_}
+use mathlib.Core.Path.{_≡_, sym, ap, _∙_}
 use mathlib.Core.Bool.{true, false, false≢true}
 use mathlib.Core.List.{List, [], _∷_, _++_}
 use lib.ListN.{length, length-append}
@@ -12,6 +12,14 @@ use borrow.Author.Tests.{eqb-false}
 use Rattle.index.proofs.Flags.{by-test, by-order}
 use Rattle.sets.specs.Sets.{occurs, isPermutation, ascending}
 use Rattle.sets.proofs.PermutationLaws.{occurs-cons, permutation-once, permutation-by, ascending-length, ascending-low}
+
+-- the order by slot, one slot longer
+pub ascending-more : (i k : ℕ) → ascending i (suc k) ≡ ascending i k ++ (i + k ∷ [])
+unfolding ascending
+ascending-more i zero = let e : i + 0 ≡ i = omega arith in rw e
+ascending-more i (suc k) =
+    let e : i + suc k ≡ suc i + k = omega arith in
+    rw e (ap (λ (l : List ℕ). i ∷ l) (ascending-more (suc i) k))
 
 occurs-append : (s : ℕ) (a b : List ℕ) → occurs s (a ++ b) ≡ occurs s a + occurs s b
 unfolding occurs
