@@ -17,7 +17,7 @@ use Rattle.varint.specs.declared.Read.{Read}
 use Rattle.varint.specs.declared.Read.the-variants.{Number, Bad}
 use Rattle.records.specs.Records.{slotCount}
 use Rattle.sets.specs.Sets.{ascending}
-use Rattle.sets.proofs.WidenedLaws.{ascending-more}
+use Rattle.trace_events.proofs.WidenedLaws.{ascending-more}
 use lib.Dec.{T, leb→le}
 use mir.Facts.{and-yes}
 use Rattle.trace_events.specs.Reading.{Numbers, numbers, broken, more, numberThen, numbersFrom, widened, cutShort, arities, arity}
@@ -92,11 +92,8 @@ after-all N s from i us at h inv =
     ap (λ (k : ℕ). numbers (take k us) at) h ∙ ap (λ (l : List ℕ). numbers l at) (sym (append-nil (take i us))) ∙ g
 
 -- the numbers past those that were read stay
-pub past-more :
-    (us vs : List ℕ) (i u : ℕ) →
-    ((k : ℕ) → i ≤ k → getD us k 0 ≡ getD vs k 0) →
-    (k : ℕ) → i + 1 ≤ k → getD (set us i u) k 0 ≡ getD vs k 0
-past-more us vs i u z k h = getD-set-other us i k u 0 (λ e. omega arith) ∙ z k (omega arith)
+pub past-more : (us : List ℕ) (i u k x : ℕ) → (i ≤ k → getD us k 0 ≡ x) → i + 1 ≤ k → getD (set us i u) k 0 ≡ x
+past-more us i u k x z h = getD-set-other us i k u 0 (λ e. omega arith) ∙ z (omega arith)
 
 -- ---- the loop of `widen`: behind an order of the first n slots stand those up to k
 abbrev pub Widened : List ℕ → ℕ → ℕ → List ℕ → Type 0

@@ -1,5 +1,6 @@
 -- Events of a trace (01, "The trace program"): "events as unsigned groups (P5 signed): kind, now, arguments", in the editions of 02.
 use Prim.Native.Nat.{ℕ, zero, suc, _+_, _-_}
+use mathlib.Core.Path.{_≡_}
 use mathlib.Core.Bool.{Bool, cond, _&&_}
 use mathlib.Core.List.{List, [], _∷_, _++_}
 use lib.Dec.{eqb, leb, ltb}
@@ -10,7 +11,7 @@ use Rattle.varint.specs.Codes.{numberOf}
 use Rattle.varint.specs.declared.Read.{Read}
 use Rattle.varint.specs.declared.Read.the-variants.{Number, Bad}
 use Rattle.records.specs.Records.{slotCount}
-use Rattle.sets.specs.Sets.{ascending}
+use Rattle.sets.specs.Sets.{ascending, isPermutation}
 use Rattle.trace_events.specs.declared.Edition.{Edition}
 use Rattle.trace_events.specs.declared.Edition.the-variants.{First, Second}
 use Rattle.trace_events.specs.declared.Readings.{Readings}
@@ -30,6 +31,13 @@ orderSize Second = slotCount
 -- "and the others follow by slot"; of a permutation of all slots there are none
 unfoldable pub widened : List ℕ → List ℕ
 widened order = order ++ ascending (length order) (slotCount - length order)
+
+-- so an old permutation is one of all slots exactly if it is "each of 0..63 once", and a new one stands as it is
+abbrev pub OldOrders : Type 0
+OldOrders = (order : List ℕ) → length order ≡ oldSlots → isPermutation slotCount (widened order) ≡ isPermutation oldSlots order
+
+abbrev pub WholeOrders : Type 0
+WholeOrders = (order : List ℕ) → length order ≡ slotCount → widened order ≡ order
 
 -- ---- numbers one after the other
 -- the numbers and the place after them, or the place of the first that cannot be read

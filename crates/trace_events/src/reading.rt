@@ -63,8 +63,8 @@ pub fn read_numbers(s: &[u8], at: usize, n: usize, values: &mut [u64]) -> Readin
 }
 
 // The slots that a permutation of the first n does not order, behind it by slot.
-pub fn widen(order: &mut [u64; SLOTS], n: usize)
-    requires { ⌜ n ≤ slotCount ⌝ }
+pub fn widen(order: &mut [u64], n: usize)
+    requires { ⌜ (n ≤ slotCount) × (length (now order) ≡ slotCount) ⌝ }
     ensures { λ r. ⌜ now (order .exit) ≡ widened (take n (now (order .entry))) ⌝ }
 {
     let mut k = n;
