@@ -47,9 +47,6 @@ module _ (n : ℕ) (d : List ℕ) (e : isPermutation n d ≡ true) where
   unfolding isPermutation
   parts = halves (eqb (length d) n) (every n (λ s. eqb (occurs s d) 1)) e
 
-  pub permutation-length : length d ≡ n
-  permutation-length = eqb-true (length d) n (parts .0)
-
   pub permutation-once : (s : ℕ) → s < n → occurs s d ≡ 1
   permutation-once s h = eqb-true (occurs s d) 1 (every-at (λ k. eqb (occurs k d) 1) n s (parts .1) h)
 
@@ -220,17 +217,6 @@ marked-permutation n d e =
         eq-eqb (occurs s d) 1 (omega arith)))
 
 -- ---- the order by slot
-pub ascending-length : (i k : ℕ) → length (ascending i k) ≡ k
-unfolding ascending
-ascending-length i zero = refl
-ascending-length i (suc k) = ap suc (ascending-length (suc i) k)
-
-pub ascending-at : (i k j : ℕ) → j < k → getD (ascending i k) j 0 ≡ i + j
-unfolding ascending
-ascending-at i zero j h = absurd (not-suc-le-zero h)
-ascending-at i (suc k) zero h = omega arith
-ascending-at i (suc k) (suc j) h = let e = ascending-at (suc i) k j (le-of-suc-le-suc h) in omega arith
-
 ascending-low : (s i k : ℕ) → s < i → occurs s (ascending i k) ≡ 0
 unfolding ascending occurs
 ascending-low s i zero h = refl

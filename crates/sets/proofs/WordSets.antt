@@ -12,7 +12,7 @@ use Rattle.index.specs.Index.{count}
 use Rattle.words.specs.Words.{wordBits, bits, bitsOf}
 use Rattle.words.proofs.BitLaws.{and-at, except-at as bit-except-at}
 use Rattle.words.proofs.WideLaws.{bitsOf-length, at-slot}
-use Rattle.sets.specs.Sets.{at, size, both, except}
+use Rattle.sets.specs.Sets.{size, both, except}
 use Rattle.sets.proofs.WalkLaws.{both-at, both-length, except-at, except-length}
 use Rattle.sets.proofs.SlotLaws.{size-count}
 

@@ -1,6 +1,6 @@
 // Sets of slots as words, and what mesh maintenance makes of them: walks along an order, the test of a permutation, the median of a set's
-// scores. Contracts speak of a set's list of flags, `bitsOf` its words, so that the definitions over lists stand. Lists of a number for each
-// slot are lent.
+// scores. Contracts speak of a set's list of flags, `bitsOf` its words, so that the definitions over lists stand. Lists of a number for
+// each slot are lent.
 ghost use mathlib.Core.Path.{_≡_};
 ghost use Prim.Native.Nat.{_-_};
 ghost use lib.ListN.{getD, length};

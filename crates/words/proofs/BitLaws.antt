@@ -1,20 +1,20 @@
--- One word as a list of bits, for any number of bits: and, and-not, one bit set or clear, the count, the lowest bit and the word without it.
--- Assumes nothing.
-use Prim.Native.Nat.{ℕ, zero, suc, _+_, _-_, _*_, _/_, _%_, _^_, _≤_, _<_, min, max}
+-- One word as a list of bits, for any number of bits: and, and-not, one bit set or clear, the count, the lowest bit and the word without
+-- it. Assumes nothing.
+use Prim.Native.Nat.{ℕ, zero, suc, _+_, _-_, _*_, _/_, _%_, _^_, _<_, min, max}
 use native.Mathlib.Omega.{arith}
 use native.Mathlib.Nat.{mod-lt, pow-suc, le-of-suc-le-suc, zero-lt-suc, not-suc-le-zero, min-zero, zero-min, one-mul, zero-mul}
 use native.Mathlib.Numerals.{add-one}
 use mathlib.Core.Path.{_≡_, refl, sym, ap, ap₂, _∙_}
 use mathlib.Core.Logic.{_⊎_, inl, inr, ⊎-elim}
 use mathlib.Core.Bool.{Bool, true, false, not, _&&_, _||_, and-true, and-false}
-use mathlib.Core.List.{List, [], _∷_}
+use mathlib.Core.List.{List, _∷_}
 use lib.Dec.{eqb}
 use lib.ListN.{length, getD, set, length-set}
 use lib.Seq.{ext-getD, getD-set-same, getD-set-other}
 use lib.Pow.{shr-shr, pow-lt}
 use lib.Bits.{bitAnd, bitOr, bitXor, differ, and-step, or-step, xor-step, and-self}
-use lib.Count.{ones, ones-step, trailingZeros, under}
-use borrow.Author.Tests.{eq-eqb, ne-eqb}
+use lib.Count.{ones, ones-step, trailingZeros}
+use borrow.Author.Tests.{ne-eqb}
 use Rattle.index.specs.Index.{count, one}
 use Rattle.index.proofs.Flags.{by-order}
 use Rattle.words.specs.Words.{odd, unit, bits, differs, lowest}

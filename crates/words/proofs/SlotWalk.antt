@@ -26,12 +26,6 @@ slots-end i [] h = refl
 slots-end i (true ∷ m) h = absurd (not-suc-le-zero h)
 slots-end i (false ∷ m) h = slots-end (suc i) m (le-of-suc-le-suc h)
 
-pub lowest-in : (m : List Bool) → lowest m < length m → getD m (lowest m) false ≡ true
-unfolding lowest
-lowest-in [] h = absurd (not-suc-le-zero h)
-lowest-in (true ∷ m) h = refl
-lowest-in (false ∷ m) h = lowest-in m (le-of-suc-le-suc h)
-
 pub lowest-below : (m : List Bool) (s : ℕ) → s < lowest m → getD m s false ≡ false
 unfolding lowest
 lowest-below [] s h = refl

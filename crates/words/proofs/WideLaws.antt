@@ -13,7 +13,7 @@ use lib.Seq.{getD-append-add, drop-cons, set-out, ext-getD, getD-set-same, getD-
 use borrow.Author.Count.{below-more}
 use mathlib.Core.Logic.{⊎-elim}
 use lib.Bits.{bitAnd, bitXor}
-use Rattle.index.specs.Index.{count, one}
+use Rattle.index.specs.Index.{count}
 use Rattle.index.proofs.Index.{count-same}
 use Rattle.index.proofs.Flags.{by-order}
 use Rattle.words.specs.Words.{wordBits, unit, bits, bitsOf, differs, lowest, PackedFrom}

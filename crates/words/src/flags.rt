@@ -1,9 +1,8 @@
 // A set of slots from a flag for each slot, and back.
 ghost use mathlib.Core.Path.{_≡_};
-ghost use mathlib.Core.Bool.{Bool, true, false};
 ghost use Prim.Native.Nat.{_<_, _*_, _^_};
-ghost use lib.ListN.{getD};
-ghost use Rattle.words.specs.Words.{wordBits, wordCount, bits, bitsOf, unit, PackedFrom};
+ghost use Rattle.words.specs.Words.{wordBits, wordCount, bitsOf, unit, PackedFrom};
+use crate::WORD_BITS;
 use crate::WORDS;
 use crate::at;
 use crate::single;
@@ -23,8 +22,8 @@ fn packed(flags: &[bool; SLOTS], i: usize) -> u64
     ensures { λ r. ⌜ PackedFrom (now (flags .entry)) i r ⌝ }
 {
     let mut w: u64 = 0;
-    for j in 0..64 {
-        w += flag(flags[64 * i + j], j as u64);
+    for j in 0..WORD_BITS {
+        w += flag(flags[WORD_BITS * i + j], j as u64);
     }
     w
 }

@@ -51,9 +51,9 @@ pub fn none() -> [u64; WORDS]
 pub fn at(m: &[u64], s: u64) -> bool
     ensures { λ r. ⌜ r ≡ getD (bitsOf (now (m .entry))) s false ⌝ }
 {
-    let i = (s / 64) as usize;
+    let i = (s / WORD_BITS as u64) as usize;
     if i < m.len() {
-        bit(m[i], s % 64)
+        bit(m[i], s % WORD_BITS as u64)
     } else {
         false
     }
@@ -65,8 +65,8 @@ pub fn put(m: [u64; WORDS], s: u64, b: bool) -> [u64; WORDS]
 {
     let mut r = m;
     if s < SLOTS as u64 {
-        let i = (s / 64) as usize;
-        r[i] = with_bit(r[i], s % 64, b);
+        let i = (s / WORD_BITS as u64) as usize;
+        r[i] = with_bit(r[i], s % WORD_BITS as u64, b);
     }
     r
 }
@@ -107,7 +107,7 @@ pub fn lowest(m: [u64; WORDS]) -> u64
     for i in 0..WORDS {
         let w = m[i];
         if w != 0 {
-            return (64 * i) as u64 + u64::trailing_zeros(w) as u64;
+            return (WORD_BITS * i) as u64 + u64::trailing_zeros(w) as u64;
         }
     }
     SLOTS as u64

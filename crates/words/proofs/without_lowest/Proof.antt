@@ -1,6 +1,6 @@
 -- `words::without_lowest` meets its contract. The words passed are 0, and nothing is changed yet.
 -- Assumes nothing.
-use Prim.Native.Nat.{_-_, _^_, _≤_, _<_}
+use Prim.Native.Nat.{_-_, _≤_}
 use native.Mathlib.Omega.{arith}
 use mir.Syntax.{w64}
 use mir.Val.{Fits}
@@ -8,7 +8,7 @@ use borrow.Author.Needs.{needs}
 use mathlib.Core.Path.{_≡_, refl, sym}
 use mathlib.Core.Bool.{false}
 use lib.ListN.{length, getD}
-use Rattle.words.specs.Words.{wordBits, wordCount, bitsOf, lowest}
+use Rattle.words.specs.Words.{wordCount, bitsOf, lowest}
 use Rattle.words.proofs.WideLaws.{Passed, passed-none, passed-zero, cleared-hit, passed-all, set-past}
 use Rattle.words.proofs.without_lowest.Statement.{statement}
 use Rattle.words.proofs.without_lowest.Tie as tie

@@ -1,10 +1,8 @@
 -- `mesh::steps::mesh5` meets its contract: the four ways out are the rule's: not asked, fewer than two members, the median not below the
 -- threshold, and the grafts. Assumes nothing.
 use native.Mathlib.Omega.{arith}
-use borrow.Author.Needs.{needs}
 use borrow.Author.Tests.{not-true, not-false}
 use Rattle.words.specs.Words.{bitsOf}
-use Rattle.mesh.specs.declared.Seen.{Seen}
 use Rattle.mesh.specs.Maintenance.{View}
 use Rattle.mesh.specs.Words.{viewOf}
 use Rattle.mesh.proofs.StepLaws.{mesh5-unasked, mesh5-few, mesh5-high, mesh5-low}

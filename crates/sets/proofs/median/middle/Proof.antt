@@ -37,7 +37,8 @@ loop-again c =
     let l = c .before .before .before .before .before .loop in
     let m = bitsOf (a .t2) in
     let scores = a .scores .now in
-    let seen : (x : Bool) → c .before .at .result && ltb (l .r) (getD scores (l .i) 0) ≡ x → at m (l .i) && ltb (l .r) (getD scores (l .i) 0) ≡ x =
+    let seen : (x : Bool) → c .before .at .result && ltb (l .r) (getD scores (l .i) 0) ≡ x →
+    at m (l .i) && ltb (l .r) (getD scores (l .i) 0) ≡ x =
     λ x e. ap (λ (b : Bool). b && ltb (l .r) (getD scores (l .i) 0)) (sym (c .before .at .ensures)) ∙ e in
     let kept : Kept (a .k) m scores (l .i + 1) (c .if1 .r) =
     ⊎-elim

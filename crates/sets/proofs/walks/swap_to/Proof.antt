@@ -27,7 +27,8 @@ returns c =
     let e = ap size (c .before .before .both2 .ensures) in
     let n = c .before .size .ensures in
     let enough : a .out ≤ size (both (bitsOf (l .r)) (bitsOf (a .outbound))) = omega arith in
-    sym (swap-enough slotCount (a .out) (a .scores .now) (bitsOf (a .outbound)) (a .order .now) (bitsOf (a .m)) (bitsOf (a .b)) (l .left) (bitsOf (l .r)) enough) ∙ l .inv
+    sym (swap-enough slotCount (a .out) (a .scores .now) (bitsOf (a .outbound)) (a .order .now) (bitsOf (a .m)) (bitsOf (a .b)) (l .left)
+    (bitsOf (l .r)) enough) ∙ l .inv
 
 returns-2 : tie.Need-returns-2 Inv-loop μ-loop
 returns-2 c =
@@ -36,10 +37,15 @@ returns-2 c =
     let l = h .loop in
     let m = c .before .before .before .before .before .before .both .ensures in
     let w = c .before .before .before .before .before .except .ensures in
-    let e = ap size (comers-is slotCount (a .out) (a .scores .now) (bitsOf (a .outbound)) (a .order .now) (bitsOf (a .m)) (bitsOf (a .b)) (bitsOf (l .r)) m w) in
+    let e = ap size
+    (comers-is slotCount (a .out) (a .scores .now) (bitsOf (a .outbound)) (a .order .now) (bitsOf (a .m)) (bitsOf (a .b))
+    (bitsOf (l .r)) m w) in
     let n = c .before .size2 .ensures in
-    let z : size (comers slotCount (a .out) (a .scores .now) (bitsOf (a .outbound)) (a .order .now) (bitsOf (a .m)) (bitsOf (a .b)) (bitsOf (l .r))) ≡ 0 = omega arith in
-    sym (swap-none slotCount (a .out) (a .scores .now) (bitsOf (a .outbound)) (a .order .now) (bitsOf (a .m)) (bitsOf (a .b)) (l .left) (bitsOf (l .r)) z) ∙ l .inv
+    let z : size
+    (comers slotCount (a .out) (a .scores .now) (bitsOf (a .outbound)) (a .order .now) (bitsOf (a .m)) (bitsOf (a .b)) (bitsOf (l .r)))
+    ≡ 0 = omega arith in
+    sym (swap-none slotCount (a .out) (a .scores .now) (bitsOf (a .outbound)) (a .order .now) (bitsOf (a .m)) (bitsOf (a .b)) (l .left)
+    (bitsOf (l .r)) z) ∙ l .inv
 
 returns-3 : tie.Need-returns-3 Inv-loop μ-loop
 returns-3 c =
@@ -50,7 +56,8 @@ returns-3 c =
     let e = ap size (g .except2 .ensures) in
     let n = c .before .size3 .ensures in
     let z : size (except (bitsOf (l .r)) (bitsOf (a .outbound))) ≡ 0 = omega arith in
-    sym (swap-kept slotCount (a .out) (a .scores .now) (bitsOf (a .outbound)) (a .order .now) (bitsOf (a .m)) (bitsOf (a .b)) (l .left) (bitsOf (l .r)) z) ∙ l .inv
+    sym (swap-kept slotCount (a .out) (a .scores .now) (bitsOf (a .outbound)) (a .order .now) (bitsOf (a .m)) (bitsOf (a .b)) (l .left)
+    (bitsOf (l .r)) z) ∙ l .inv
 
 loop-again : tie.Need-loop-again Inv-loop μ-loop
 loop-again c =
@@ -65,9 +72,13 @@ loop-again c =
     let e₁ = ap size (c₁₀ .before .both2 .ensures) in
     let n₁ = c₁₀ .size .ensures in
     let few : size (both (bitsOf (l .r)) (bitsOf (a .outbound))) < a .out = let f = c₆ .before .before .before .if1 .left in omega arith in
-    let e₂ = ap size (comers-is slotCount (a .out) (a .scores .now) (bitsOf (a .outbound)) (a .order .now) (bitsOf (a .m)) (bitsOf (a .b)) (bitsOf (l .r)) m w) in
+    let e₂ = ap size
+    (comers-is slotCount (a .out) (a .scores .now) (bitsOf (a .outbound)) (a .order .now) (bitsOf (a .m)) (bitsOf (a .b))
+    (bitsOf (l .r)) m w) in
     let n₂ = c₆ .before .before .size2 .ensures in
-    let one-comes : 0 < size (comers slotCount (a .out) (a .scores .now) (bitsOf (a .outbound)) (a .order .now) (bitsOf (a .m)) (bitsOf (a .b)) (bitsOf (l .r))) =
+    let one-comes :
+    0 < size (comers slotCount (a .out) (a .scores .now) (bitsOf (a .outbound)) (a .order .now) (bitsOf (a .m)) (bitsOf (a .b))
+    (bitsOf (l .r))) =
     let f = c₆ .before .if2 .left in
     omega arith in
     let g = c₆ .except2 .ensures in
@@ -82,8 +93,10 @@ loop-again c =
     (c .before .before .put .ensures)
     (c .before .first-of .ensures)
     (c .put2 .ensures) in
-    ap (swapTo slotCount (a .out) (a .scores .now) (bitsOf (a .outbound)) (a .order .now) (bitsOf (a .m)) (bitsOf (a .b)) (l .left - 1)) once
-    ∙ sym (swap-go slotCount (a .out) (a .scores .now) (bitsOf (a .outbound)) (a .order .now) (bitsOf (a .m)) (bitsOf (a .b)) (l .left) (bitsOf (l .r)) (omega arith) few one-comes
+    ap (swapTo slotCount (a .out) (a .scores .now) (bitsOf (a .outbound)) (a .order .now) (bitsOf (a .m)) (bitsOf (a .b)) (l .left - 1))
+    once
+    ∙ sym (swap-go slotCount (a .out) (a .scores .now) (bitsOf (a .outbound)) (a .order .now) (bitsOf (a .m)) (bitsOf (a .b)) (l .left)
+    (bitsOf (l .r)) (omega arith) few one-comes
     one-goes)
     ∙ l .inv
 
@@ -91,7 +104,8 @@ returns-4 : tie.Need-returns-4 Inv-loop μ-loop
 returns-4 c =
     let a = c .before .before .before .before .args in
     let l = c .before .loop in
-    sym (swap-end slotCount (a .out) (a .scores .now) (bitsOf (a .outbound)) (a .order .now) (bitsOf (a .m)) (bitsOf (a .b)) (l .left) (bitsOf (l .r)) (omega arith)) ∙ l .inv
+    sym (swap-end slotCount (a .out) (a .scores .now) (bitsOf (a .outbound)) (a .order .now) (bitsOf (a .m)) (bitsOf (a .b)) (l .left)
+    (bitsOf (l .r)) (omega arith)) ∙ l .inv
 
 pub swap-to-spec : {M : Type 1} → statement M
 swap-to-spec =

@@ -1,6 +1,5 @@
 -- `words::flags::flag` meets its contract.
 -- Assumes nothing.
-use native.Mathlib.Omega.{arith}
 use borrow.Author.Needs.{needs}
 use Rattle.words.proofs.BitLaws.{flag-in, flag-out}
 use Rattle.words.proofs.flags.flag.Statement.{statement}

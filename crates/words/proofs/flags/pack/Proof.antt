@@ -1,14 +1,12 @@
 -- `words::flags::pack` meets its contract. The words made so far have the flags of their slots.
 -- Assumes nothing.
-use Prim.Native.Nat.{ℕ, _-_, _≤_, _<_}
+use Prim.Native.Nat.{_-_}
 use native.Mathlib.Omega.{arith}
 use borrow.Author.Needs.{needs}
-use borrow.Author.Count.{below-more}
-use native.Mathlib.Nat.{not-suc-le-zero}
 use mathlib.Core.Path.{_≡_, refl}
-use lib.ListN.{length, getD}
+use lib.ListN.{length}
 use Rattle.records.specs.Records.{slotCount}
-use Rattle.words.specs.Words.{wordCount, PackedFrom}
+use Rattle.words.specs.Words.{wordCount}
 use Rattle.words.proofs.WideLaws.{PackedBelow, packed-none, packed-more, packed-done}
 use Rattle.words.proofs.flags.pack.Statement.{statement}
 use Rattle.words.proofs.flags.pack.Tie as tie

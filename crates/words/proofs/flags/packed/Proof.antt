@@ -29,5 +29,6 @@ packed-spec =
     omega (arith, packing-more _ _ (l .j) (l .w) _ _ (l .inv) (omega arith) (c .flag .ensures) refl .fits))
     (λ c. omega arith)
     (λ c. omega arith)
-    (λ c. let l = c .before .before .before .loop in packing-more _ _ (l .j) (l .w) _ _ (l .inv) (omega arith) (c .flag .ensures) refl .packing)
+    (λ c. let l = c .before .before .before .loop in
+    packing-more _ _ (l .j) (l .w) _ _ (l .inv) (omega arith) (c .flag .ensures) refl .packing)
     (λ c. let l = c .before .loop in packing-done _ _ (l .j) (l .w) (omega arith) (l .inv)))
