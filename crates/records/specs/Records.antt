@@ -6,6 +6,7 @@ use mathlib.Core.List.{List, [], _∷_}
 use lib.ListN.{getD, set}
 use lib.Dec.{eqb}
 use Rattle.records.specs.declared.Setup.{Setup}
+use Rattle.records.specs.declared.Groups.{Groups}
 use Rattle.records.specs.declared.Peer.{Peer}
 use Rattle.records.specs.declared.TopicRecord.{TopicRecord}
 
@@ -30,13 +31,16 @@ pub record State : Type 0 where
   pub peers : List Peer
   pub topics : List TopicRecord
 
--- the empty records
+-- the empty records; "one to four different address groups (an empty one none [..])" (02, order 11)
+abbrev pub noGroups : Groups
+noGroups = record { first = 0; second = 0; third = 0; fourth = 0 }
+
 abbrev pub noPeer : Peer
 noPeer =
     record {
       status = 0;
       id = 0;
-      group = 0;
+      groups = noGroups;
       outbound = 0;
       explicit = 0;
       version = 0;
