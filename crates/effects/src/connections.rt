@@ -18,7 +18,14 @@ use records::TOPICS;
 use records::TopicRecord;
 
 // A connected record in a slot.
-pub fn connect_slot(table: &mut [u64], slot: usize, id: u64, groups: Groups, flags: u64, version: u64)
+pub fn connect_slot(
+    table: &mut [u64],
+    slot: usize,
+    id: u64,
+    groups: Groups,
+    flags: u64,
+    version: u64,
+)
     requires { ⌜ AtSlot (now table) slot ⌝ }
     ensures { λ r. ⌜ stateOf (now (table .exit))
         ≡ onPeer (stateOf (now (table .entry))) slot (λ p. connectedAs p id groups flags version) ⌝ }

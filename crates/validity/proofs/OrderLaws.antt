@@ -259,7 +259,7 @@ module _ (p : Peer) where
 
     turned : peerOk p ≡ ((leb 1 (p .id) && leb 1 (p .groups .first) && eqb (p .retain) 0) && endsUpTo maxEnd p) && peerRanges p
     unfolding peerOk
-    turned = rw (parts-on .0, parts-on .1, parts-on .2) 
+    turned = rw (parts-on .0, parts-on .1, parts-on .2)
         (turn (peerRanges p) (endsUpTo maxEnd p) (leb 1 (p .id) && leb 1 (p .groups .first)) (eqb (p .retain) 0))
       where
         turn : (a b c d : Bool) → a && b && c && true && d ≡ ((c && d) && b) && a
