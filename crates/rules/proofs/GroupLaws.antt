@@ -1,6 +1,6 @@
 -- The groups of a connect: a list that passes test 2 is held as test 12 asks.
 -- Assumes nothing.
-use Prim.Native.Nat.{ℕ, _+_, _-_, _<_, _≤_}
+use Prim.Native.Nat.{ℕ, suc, _+_, _-_, _<_, _≤_}
 use native.Mathlib.Omega.{arith}
 use mathlib.Core.Path.{_≡_, refl}
 use mathlib.Core.Bool.{Bool, true, false, _&&_, _||_}
@@ -51,6 +51,12 @@ module _ (groups : List ℕ) (ok : groupsOk groups ≡ true) where
 
   pub group-most : (k : ℕ) → k < length groups → getD groups k 0 ≤ maxId
   group-most k h = leb-true (getD groups k 0) maxId (each k h .0)
+
+  pub group-above : (k : ℕ) → suc k < length groups → getD groups k 0 < getD groups (suc k) 0
+  group-above k h =
+      let e = each (suc k) h .1 in
+      let z : suc k - 1 ≡ k = omega arith in
+      ltb-true (getD groups k 0) (getD groups (suc k) 0) (rw (ne-eqb (suc k) 0 (λ q. omega arith), z) at e)
 
 pub groups-held : (groups : List ℕ) → groupsOk groups ≡ true → (risingOk (groupsOf groups) ≡ true) × (1 ≤ groupsOf groups .first)
 unfolding risingOk groupsOf
