@@ -179,12 +179,13 @@ module _ (table name : List ℕ) (time id : ℕ) (groups : Groups) (flags : ℕ)
     connect-already s h = rw (← e, g, ← p, h) (leaves-refused AlreadyConnected table)
 
     pub connect-new :
-        (a : Answer) (table′ : List ℕ) →
+        (a : Answer) (table′ : List ℕ) (held : Groups) →
         f ≡ Nothing →
-        Leaves (connectIn (stateOf table) (reclaimed (stateOf table) time) time id groups flags (Version version) Nothing) a table table′ →
+        held ≡ groups →
+        Leaves (connectIn (stateOf table) (reclaimed (stateOf table) time) time id held flags (Version version) Nothing) a table table′ →
         Leaves reply a table table′
     unfolding connectReply
-    connect-new a table′ h l = rw (← e, g, ← p, h) l
+    connect-new a table′ held h k l = rw (← e, g, ← p, h, ← k) l
 
 -- ---- connect gives no action
 

@@ -36,71 +36,6 @@ use rules::Answer;
 use rules::Gate;
 use validity::valid::MAX_ID;
 
-// A record in a slot becomes a connected one.
-fn connect_at(
-    table: &mut [u64],
-    time: u64,
-    id: u64,
-    groups: Groups,
-    flags: u64,
-    version: u64,
-    slot: usize,
-) -> Answer
-    requires { ⌜ AtSlot (now table) slot ⌝ }
-    ensures { λ r. ⌜ Leaves (connectAt (stateOf (now (table .entry))) time id groups flags version slot) r
-        (now (table .entry)) (now (table .exit)) ⌝ }
-{
-    connect_slot(table, slot, id, groups, flags, version);
-    finish(table, time)
-}
-
-// A retained id resumes its record; another takes the lowest empty slot. Where none is empty after reclaiming, nothing was reclaimed.
-fn connect_known(
-    table: &mut [u64],
-    time: u64,
-    id: u64,
-    groups: Groups,
-    flags: u64,
-    version: u64,
-) -> Answer
-    requires { ⌜ Ready (now table) time ⌝ }
-    ensures { λ r. ⌜ Leaves
-        (connectIn (stateOf (now (table .entry))) (reclaimed (stateOf (now (table .entry))) time) time id groups flags
-        (Named.Version version) Found.Nothing) r
-        (now (table .entry)) (now (table .exit)) ⌝ }
-{
-    reclaim(table, time);
-    if let Found::At(slot) = lookup::find::find_retained(table, id) {
-        return connect_at(table, time, id, groups, flags, version, slot);
-    }
-    let Found::At(slot) = lookup::find::lowest_empty(table) else {
-        return Answer::NoSlot;
-    };
-    connect_at(table, time, id, groups, flags, version, slot)
-}
-
-// Tests 6 and 4.
-fn connect_from(
-    table: &mut [u64],
-    time: u64,
-    id: u64,
-    groups: Groups,
-    flags: u64,
-    name: &[u8],
-) -> Answer
-    requires { ⌜ Ready (now table) time ⌝ }
-    ensures { λ r. ⌜ Leaves (connectReply (stateOf (now (table .entry))) time id groups flags (now (name .entry))) r
-        (now (table .entry)) (now (table .exit)) ⌝ }
-{
-    let Named::Version(version) = lookup::name::version_of(name) else {
-        return Answer::UnknownProtocol;
-    };
-    if let Found::At(_) = find_connected(table, id) {
-        return Answer::AlreadyConnected;
-    }
-    connect_known(table, time, id, groups, flags, version)
-}
-
 // The greatest number of groups.
 const MAX_GROUPS: usize = 4;
 
@@ -159,6 +94,72 @@ fn groups_of(groups: &[u64]) -> Groups
     }
 }
 
+// A record in a slot becomes a connected one.
+fn connect_at(
+    table: &mut [u64],
+    time: u64,
+    id: u64,
+    groups: Groups,
+    flags: u64,
+    version: u64,
+    slot: usize,
+) -> Answer
+    requires { ⌜ AtSlot (now table) slot ⌝ }
+    ensures { λ r. ⌜ Leaves (connectAt (stateOf (now (table .entry))) time id groups flags version slot) r
+        (now (table .entry)) (now (table .exit)) ⌝ }
+{
+    connect_slot(table, slot, id, groups, flags, version);
+    finish(table, time)
+}
+
+// A retained id resumes its record; another takes the lowest empty slot. Where none is empty after reclaiming, nothing was reclaimed.
+fn connect_known(
+    table: &mut [u64],
+    time: u64,
+    id: u64,
+    groups: Groups,
+    flags: u64,
+    version: u64,
+) -> Answer
+    requires { ⌜ Ready (now table) time ⌝ }
+    ensures { λ r. ⌜ Leaves
+        (connectIn (stateOf (now (table .entry))) (reclaimed (stateOf (now (table .entry))) time) time id groups flags
+        (Named.Version version) Found.Nothing) r
+        (now (table .entry)) (now (table .exit)) ⌝ }
+{
+    reclaim(table, time);
+    if let Found::At(slot) = lookup::find::find_retained(table, id) {
+        return connect_at(table, time, id, groups, flags, version, slot);
+    }
+    let Found::At(slot) = lookup::find::lowest_empty(table) else {
+        return Answer::NoSlot;
+    };
+    connect_at(table, time, id, groups, flags, version, slot)
+}
+
+// Tests 6 and 4.
+fn connect_from(
+    table: &mut [u64],
+    time: u64,
+    id: u64,
+    groups: &[u64],
+    flags: u64,
+    name: &[u8],
+) -> Answer
+    requires { ⌜ Ready (now table) time × (groupsOk (now groups) ≡ true) ⌝ }
+    ensures { λ r. ⌜ Leaves
+        (connectReply (stateOf (now (table .entry))) time id (groupsOf (now (groups .entry))) flags (now (name .entry))) r
+        (now (table .entry)) (now (table .exit)) ⌝ }
+{
+    let Named::Version(version) = lookup::name::version_of(name) else {
+        return Answer::UnknownProtocol;
+    };
+    if let Found::At(_) = find_connected(table, id) {
+        return Answer::AlreadyConnected;
+    }
+    connect_known(table, time, id, groups_of(groups), flags, version)
+}
+
 // A connection is there: one to four address groups, lowest first; flags are 1 outbound + 2 explicit, and the name is the protocol's.
 pub fn connect(
     table: &mut [u64; CELLS],
@@ -175,7 +176,7 @@ pub fn connect(
     let fine = time_ok(time) & (id_ok(id) & (groups_ok(groups) & (flags <= 3)));
     match admit(table, fine, actions.len(), time) {
         Gate::Refuse(a) => a,
-        Gate::Pass => connect_from(table, time, id, groups_of(groups), flags, name),
+        Gate::Pass => connect_from(table, time, id, groups, flags, name),
     }
 }
 
