@@ -8,8 +8,9 @@ use Rattle.records.specs.Records.{slotCount, topicCount, peerIn}
 use Rattle.layout.specs.View.{stateOf}
 use Rattle.score.specs.declared.Balance.{Balance}
 use Rattle.score.specs.declared.ScoreParams.{ScoreParams}
+use Rattle.score.specs.declared.Sharers.{Sharers}
 use Rattle.score.specs.Sums.{sumOf}
-use Rattle.score.specs.Score.{scoreParamsIn, sharing, shareAt}
+use Rattle.score.specs.Score.{scoreParamsIn, sharersOf, shareAt}
 use Rattle.sets.specs.Sets.{bySlot, isPermutation}
 use Rattle.rules.specs.Step.{actionRoom, heightIn}
 use Rattle.peer_score.specs.Standing.{Standing}
@@ -41,9 +42,9 @@ pub record SummedBelow (table : List ℕ) (t : ℕ) (l : List Balance) : Type 0 
   pub sums : l ≡ bySlot slotCount (λ s. sumOf t (shareAt (stateOf table) s))
 
 -- what the score of the peer in slot s is made of
-pub record MadeOf (table : List ℕ) (s : ℕ) (g : ScoreParams) (b : Balance) (n : ℕ) : Type 0 where
+pub record MadeOf (table : List ℕ) (s : ℕ) (g : ScoreParams) (b : Balance) (n : Sharers) : Type 0 where
   pub standing : Standing table
   pub slot : s < slotCount
   pub general : g ≡ scoreParamsIn (stateOf table)
   pub topics : b ≡ sumOf topicCount (shareAt (stateOf table) s)
-  pub together : n ≡ sharing (stateOf table) (peerIn (stateOf table) s .group)
+  pub sharers : n ≡ sharersOf (stateOf table) (peerIn (stateOf table) s .groups)

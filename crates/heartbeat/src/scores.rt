@@ -1,65 +1,24 @@
-// The scores of all slots, as at the call's start. What the slots share is taken once: each topic's parameters, and the groups, in narrow
-// numbers side by side, so that several are compared at once.
+// The scores of all slots, as at the call's start. What the slots share is taken once: each topic's parameters.
 ghost use mathlib.Core.Path.{_≡_};
-ghost use mathlib.Core.Bool.{_&&_};
 ghost use Prim.Native.Nat.{_+_};
-ghost use lib.Dec.{eqb};
-ghost use lib.ListN.{length, getD};
-ghost use Rattle.index.specs.Index.{count};
-ghost use Rattle.records.specs.Records.{slotCount, peerIn, isConnected};
-ghost use Rattle.layout.specs.View.{cellCount, stateOf};
+ghost use Rattle.records.specs.Records.{slotCount};
+ghost use Rattle.layout.specs.View.{stateOf};
 ghost use Rattle.score.specs.Sums.{sumOf};
 ghost use Rattle.score.specs.Score.{shareAt};
-ghost use Rattle.sets.specs.Sets.{at, bySlot};
+ghost use Rattle.sets.specs.Sets.{bySlot};
 ghost use Rattle.rules.specs.Step.{heightIn};
 ghost use Rattle.peer_score.specs.Standing.{Standing};
 ghost use Rattle.heartbeat.specs.Ready.{SummedBelow, MadeOf};
 use peer_score::load_general;
 use peer_score::load_params;
+use peer_score::sharers_of;
 use records::SLOTS;
 use records::TOPICS;
 use score::Balance;
 use score::ScoreParams;
+use score::Sharers;
 use score::sums;
 use score::topic::share;
-
-// Who is connected.
-fn connected(table: &[u64]) -> [bool; SLOTS]
-    requires { ⌜ length (now table) ≡ cellCount ⌝ }
-    ensures { λ r. ⌜ r ≡ bySlot slotCount (λ s. isConnected (peerIn (stateOf (now (table .entry))) s)) ⌝ }
-{
-    let mut r = [false; SLOTS];
-    for s in 0..SLOTS {
-        r[s] = layout::load_status(table, s) == 1;
-    }
-    r
-}
-
-// The groups.
-fn groups(table: &[u64]) -> [u32; SLOTS]
-    requires { ⌜ Standing (now table) ⌝ }
-    ensures { λ r. ⌜ r ≡ bySlot slotCount (λ s. peerIn (stateOf (now (table .entry))) s .group) ⌝ }
-{
-    let mut r: [u32; SLOTS] = [0; SLOTS];
-    for s in 0..SLOTS {
-        let group = layout::load_group(table, s);
-        r[s] = group as u32;
-    }
-    r
-}
-
-// How many of those connected are of the group.
-fn sharing_of(connected: &[bool; SLOTS], groups: &[u32; SLOTS], group: u32) -> u32
-    ensures { λ r. ⌜ r ≡ count slotCount (λ s. at (now (connected .entry)) s && eqb (getD (now (groups .entry)) s 0) group) ⌝ }
-{
-    let mut n: u32 = 0;
-    for s in 0..SLOTS {
-        if connected[s] & (groups[s] == group) {
-            n += 1;
-        }
-    }
-    n
-}
 
 // The sums of the topics before this one, with its shares.
 fn add_topic(table: &[u64], topic: usize, before: [Balance; SLOTS]) -> [Balance; SLOTS]
@@ -92,12 +51,12 @@ fn topics(table: &[u64]) -> [Balance; SLOTS]
 }
 
 // The score of the peer in a slot, moved up so that none is negative.
-fn height(table: &[u64], slot: usize, g: ScoreParams, topics: Balance, together: u64) -> u64
-    requires { ⌜ MadeOf (now table) slot g topics together ⌝ }
+fn height(table: &[u64], slot: usize, g: ScoreParams, topics: Balance, sharers: Sharers) -> u64
+    requires { ⌜ MadeOf (now table) slot g topics sharers ⌝ }
     ensures { λ r. ⌜ r ≡ heightIn (stateOf (now (table .entry))) slot ⌝ }
 {
     let p = layout::load_peer(table, slot);
-    sums::offset(sums::total(sums::parts(g, topics, p.p5, together, p.p7)))
+    sums::offset(sums::total(sums::parts(g, topics, p.p5, sharers, p.p7)))
 }
 
 // The scores.
@@ -107,14 +66,11 @@ pub fn scores(table: &[u64]) -> [u64; SLOTS]
 {
     let g = load_general(table);
     let sums = topics(table);
-    let on = connected(table);
-    let names = groups(table);
     let mut r = [0; SLOTS];
     for s in 0..SLOTS {
         let topics = sums[s];
-        let group = names[s];
-        let together = sharing_of(&on, &names, group) as u64;
-        r[s] = height(table, s, g, topics, together);
+        let sharers = sharers_of(table, layout::load_groups(table, s));
+        r[s] = height(table, s, g, topics, sharers);
     }
     r
 }
