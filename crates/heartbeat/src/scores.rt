@@ -42,7 +42,7 @@ pub fn scores(table: &[u64]) -> [u64; SLOTS]
     let mut same: [u16; BUCKETS] = [0; BUCKETS];
     let mut others: [u16; BUCKETS] = [0; BUCKETS];
     count_groups(table, &mut heads, &mut same, &mut others);
-    let none = offset(empty_score(table, &heads, &same, &others));
+    let none = offset(empty_score(table));
     let mut r = [0; SLOTS];
     for s in 0..SLOTS {
         r[s] = height(table, &heads, &same, &others, none, s);

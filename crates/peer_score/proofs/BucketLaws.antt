@@ -1,35 +1,37 @@
 -- Buckets of groups: one more peer is told, the slots are told one after the other, and what the buckets answer has the surplus of the
 -- group's count.
 -- Assumes nothing.
-use Prim.Native.Nat.{ℕ, zero, suc, _+_, _≤_, _<_}
+use Prim.Native.Nat.{ℕ, zero, suc, _+_, _-_, _≤_, _<_}
 use native.Mathlib.Nat.{mod-lt, zero-lt-suc}
 use native.Mathlib.Omega.{arith}
 use mathlib.Core.Path.{_≡_, refl, sym, ap, _∙_}
-use mathlib.Core.Bool.{Bool, true, false, not, cond}
+use mathlib.Core.Bool.{Bool, true, false, not, cond, _&&_, _||_}
 use mathlib.Core.List.{List}
-use lib.Dec.{eqb}
+use lib.Dec.{eqb, leb, ltb}
 use lib.ListN.{length, getD, set, length-set, replicate, length-replicate}
 use lib.Seq.{getD-set-same, getD-set-other}
-use borrow.Author.Tests.{eqb-true, eqb-false, eq-eqb, ne-eqb}
+use borrow.Author.Tests.{eqb-true, eqb-false, eq-eqb, ne-eqb, leb-true, ltb-true}
 use Rattle.index.specs.Index.{one}
-use Rattle.index.proofs.Flags.{by-test}
+use Rattle.index.proofs.Flags.{by-test, by-order}
 use Rattle.index.proofs.Index.{one-le, count-none, count-more, count-done}
+use Rattle.records.specs.declared.Groups.{Groups}
 use Rattle.records.specs.declared.Peer.{Peer}
-use Rattle.records.specs.Records.{State, slotCount, topicCount, noTopic, peerIn}
-use Rattle.validity.specs.Valid.{maxId, endsUpTo, zeroPeer, valid}
-use Rattle.validity.proofs.Conditions.{all9}
-use Rattle.validity.proofs.ValidLaws.{valid-facts}
+use Rattle.records.specs.Records.{State, slotCount, topicCount, noGroups, noTopic, peerIn, holdsGroup}
+use Rattle.validity.specs.Valid.{maxGroup, follows, risingOk, endsUpTo, zeroGroups, zeroPeer, valid}
+use Rattle.validity.proofs.Conditions.{all3, all4, all9, else}
+use Rattle.validity.proofs.ValidLaws.{valid-facts, zero-groups}
 use Rattle.score.specs.declared.ScoreParams.{ScoreParams}
+use Rattle.score.specs.declared.Sharers.{Sharers}
 use Rattle.score.specs.declared.Balance.{Balance}
 use Rattle.score.specs.declared.Parts.{Parts}
-use Rattle.score.specs.Parts.{surplusOf}
-use Rattle.score.specs.Ranges.{ScoreParamsIn, TopicsIn}
+use Rattle.score.specs.Parts.{surplusOf, crowdOf}
+use Rattle.score.specs.Ranges.{ScoreParamsIn, TopicsIn, SharersIn}
 use Rattle.score.specs.Sums.{shareOf, noBalance, sumOf, partsOf, totalOf}
-use Rattle.score.specs.Score.{topicParamsIn, sharesGroup, sharing, scoreParamsIn, shareAt, partsAt, Scores}
+use Rattle.score.specs.Score.{topicParamsIn, sharesGroup, sharing, sharingAt, sharersOf, scoreParamsIn, shareAt, partsAt, Scores}
 use Rattle.score.proofs.InputLaws.{SlotIn, slot-in, general-in}
 use Rattle.score.proofs.ScoreLaws.{sharing-most, parts-done, scores}
 use Rattle.peer_score.proofs.IdleLaws.{none-idle, idle-share}
-use Rattle.peer_score.specs.Buckets.{bucketCount, bucketOf, withOne, Tells, below, Together}
+use Rattle.peer_score.specs.Buckets.{bucketCount, bucketOf, withOne, withHeld, Tells, below, pairs, Together, Gathered}
 
 pub bucket-in : (group : ℕ) → bucketOf group < bucketCount
 unfolding bucketOf
@@ -220,76 +222,220 @@ tells-same c d n m heads same others e l k =
       most = λ b. omega (arith, k .most b, l);
     }
 
+-- ---- a peer of a number that a record holds
+
+pub held-some :
+    (c : ℕ → ℕ) (n held : ℕ) (heads same others : List ℕ) →
+    1 ≤ held →
+    Tells (withOne c (held - 1)) (n + 1) heads same others →
+    Tells (withHeld c held) (n + 1) heads same others
+held-some c n held heads same others h =
+    tells-same _ _ (n + 1) (n + 1) heads same others (λ g. ap (λ (v : Bool). c g + one v) (same-test g)) (omega arith)
+  where
+    same-test : (g : ℕ) → eqb (held - 1) g ≡ eqb held (g + 1)
+    same-test g =
+        by-test _ (eqb (held - 1) g)
+        (λ t. let e = eqb-true (held - 1) g t in t ∙ sym (eq-eqb held (g + 1) (omega (arith, e, h))))
+        (λ t. let e = eqb-false (held - 1) g t in t ∙ sym (ne-eqb held (g + 1) (λ z. e (omega (arith, z)))))
+
+pub held-none :
+    (c : ℕ → ℕ) (n held : ℕ) (heads same others : List ℕ) →
+    held < 1 →
+    Tells c n heads same others →
+    Tells (withHeld c held) (n + 1) heads same others
+held-none c n held heads same others h =
+    tells-same _ _ n (n + 1) heads same others (λ g.
+    let z : eqb held (g + 1) ≡ false = ne-eqb held (g + 1) (λ e. omega (arith, e, h)) in
+    let y : c g ≡ c g + one false = omega arith in
+    y ∙ ap (λ (v : Bool). c g + one v) (sym z)) (omega arith)
+
+-- ---- a record's groups: they are in their range, and no two are the same
+
+rise : (a b : ℕ) → follows a b ≡ true → 1 ≤ b → (1 ≤ a) × ((a < b) × (b ≤ maxGroup))
+rise a b e h =
+    let q =
+    all3 (leb 1 a) (ltb a b) (leb b maxGroup)
+    (else (eqb b 0) (leb 1 a && ltb a b && leb b maxGroup) e (ne-eqb b 0 (λ z. omega (arith, z, h)))) in
+    (leb-true 1 a (q .0), (ltb-true a b (q .1), leb-true b maxGroup (q .2)))
+
+fits-after : (a b : ℕ) → follows a b ≡ true → b ≤ maxGroup
+fits-after a b e = by-order (b ≤ maxGroup) b 1 (λ l. omega (arith, l)) (λ l. rise a b e l .1 .1)
+
+one-or : (p q : Bool) → (p ≡ true → q ≡ true → ⊥) → one (p || q) ≡ one p + one q
+one-or true true n = absurd (n refl refl)
+one-or true false n = refl
+one-or false true n = refl
+one-or false false n = refl
+
+either : (P : Type 0) (p q : Bool) → p || q ≡ true → (p ≡ true → P) → (q ≡ true → P) → P
+either P true q e f g = f refl
+either P false q e f g = g e
+
+module _ (g : Groups) (ok : risingOk g ≡ true) where
+  steps :
+      (leb (g .first) maxGroup ≡ true)
+      × (follows (g .first) (g .second) ≡ true)
+      × (follows (g .second) (g .third) ≡ true)
+      × (follows (g .third) (g .fourth) ≡ true)
+  unfolding risingOk
+  steps = all4 _ _ _ _ ok
+
+  pub groups-fit : (g .first ≤ maxGroup) × ((g .second ≤ maxGroup) × ((g .third ≤ maxGroup) × (g .fourth ≤ maxGroup)))
+  groups-fit =
+      (leb-true (g .first) maxGroup (steps .0),
+      (fits-after (g .first) (g .second) (steps .1),
+      (fits-after (g .second) (g .third) (steps .2), fits-after (g .third) (g .fourth) (steps .3))))
+
+  module _ (x : ℕ) (some : 1 ≤ x) where
+    before2 : g .second ≡ x → g .first ≡ x → ⊥
+    before2 e f = let r = rise (g .first) (g .second) (steps .1) (omega arith) in omega (arith, r .1 .0, e, f)
+
+    before3 : g .third ≡ x → (g .first ≡ x → ⊥) × (g .second ≡ x → ⊥)
+    before3 e =
+        let r = rise (g .second) (g .third) (steps .2) (omega arith) in
+        let q = rise (g .first) (g .second) (steps .1) (r .0) in
+        (λ f. omega (arith, r .1 .0, q .1 .0, e, f), λ f. omega (arith, r .1 .0, e, f))
+
+    before4 : g .fourth ≡ x → (g .first ≡ x → ⊥) × ((g .second ≡ x → ⊥) × (g .third ≡ x → ⊥))
+    before4 e =
+        let t = rise (g .third) (g .fourth) (steps .3) (omega arith) in
+        let r = rise (g .second) (g .third) (steps .2) (t .0) in
+        let q = rise (g .first) (g .second) (steps .1) (r .0) in
+        (λ f. omega (arith, t .1 .0, r .1 .0, q .1 .0, e, f),
+        (λ f. omega (arith, t .1 .0, r .1 .0, e, f), λ f. omega (arith, t .1 .0, e, f)))
+
+    -- so a group that is held is held once
+    pub held-once :
+        one (holdsGroup g x)
+        ≡ one (eqb (g .first) x) + one (eqb (g .second) x) + one (eqb (g .third) x) + one (eqb (g .fourth) x)
+    unfolding holdsGroup
+    held-once =
+        let a = eqb (g .first) x in
+        let b = eqb (g .second) x in
+        let c = eqb (g .third) x in
+        let d = eqb (g .fourth) x in
+        let at1 : a ≡ true → g .first ≡ x = eqb-true (g .first) x in
+        let at2 : b ≡ true → g .second ≡ x = eqb-true (g .second) x in
+        let at3 : c ≡ true → g .third ≡ x = eqb-true (g .third) x in
+        let at4 : d ≡ true → g .fourth ≡ x = eqb-true (g .fourth) x in
+        let p = one-or a b (λ m n. before2 (at2 n) (at1 m)) in
+        let q = one-or (a || b) c (λ m n.
+        let z = before3 (at3 n) in
+        either ⊥ a b m (λ k. z .0 (at1 k)) (λ k. z .1 (at2 k))) in
+        let r = one-or (a || b || c) d (λ m n.
+        let z = before4 (at4 n) in
+        either ⊥ (a || b) c m (λ k. either ⊥ a b k (λ i. z .0 (at1 i)) (λ i. z .1 .0 (at2 i))) (λ k. z .1 .1 (at3 k))) in
+        omega (arith, p, q, r)
+
 module _ (st : State) (s : ℕ) (heads same others : List ℕ) where
   pub below-none : Tells (λ g. 0) 0 heads same others → Tells (below st 0) 0 heads same others
-  below-none = tells-same _ _ 0 0 heads same others (λ g. sym (count-none (sharesGroup st g))) (omega arith)
+  below-none = tells-same _ _ 0 0 heads same others (λ g. sym (count-none (sharesGroup st (g + 1)))) (omega arith)
 
   pub below-on :
-      (status group : ℕ) →
+      (status : ℕ) (o : Groups) →
       status ≡ peerIn st s .status →
-      group ≡ peerIn st s .group →
+      o ≡ peerIn st s .groups →
       status ≡ 1 →
-      Tells (withOne (below st s) group) (s + 1) heads same others →
-      Tells (below st (s + 1)) (s + 1) heads same others
+      risingOk o ≡ true →
+      Tells (withHeld (withHeld (withHeld (withHeld (below st s) (o .first)) (o .second)) (o .third)) (o .fourth)) (pairs s + 1 + 1 + 1 + 1)
+      heads same others →
+      Tells (below st (s + 1)) (pairs (s + 1)) heads same others
   unfolding sharesGroup
-  below-on status group es eg on =
-      tells-same _ _ (s + 1) (s + 1) heads same others
+  below-on status o es eo on ok =
+      tells-same _ _ (pairs s + 1 + 1 + 1 + 1) (pairs (s + 1)) heads same others
       (λ g.
-      let f : eqb group g ≡ sharesGroup st g s = rw (← es, on, eg) in
-      ap (λ (v : Bool). below st s g + one v) f ∙ count-more (sharesGroup st g) s _ refl)
+      let f : holdsGroup o (g + 1) ≡ sharesGroup st (g + 1) s = rw (← es, on, eo) in
+      let h = held-once o ok (g + 1) (omega arith) in
+      let z :
+      below st s g
+      + one (eqb (o .first) (g + 1))
+      + one (eqb (o .second) (g + 1))
+      + one (eqb (o .third) (g + 1))
+      + one (eqb (o .fourth) (g + 1))
+      ≡ below st s g + one (holdsGroup o (g + 1)) = omega (arith, h) in
+      z ∙ ap (λ (v : Bool). below st s g + one v) f ∙ count-more (sharesGroup st (g + 1)) s _ refl)
       (omega arith)
 
   pub below-off :
       (status : ℕ) →
       status ≡ peerIn st s .status →
       (status ≡ 1 → ⊥) →
-      Tells (below st s) s heads same others →
-      Tells (below st (s + 1)) (s + 1) heads same others
+      Tells (below st s) (pairs s) heads same others →
+      Tells (below st (s + 1)) (pairs (s + 1)) heads same others
   unfolding sharesGroup
   below-off status es off =
-      tells-same _ _ s (s + 1) heads same others
+      tells-same _ _ (pairs s) (pairs (s + 1)) heads same others
       (λ g.
-      let f : false ≡ sharesGroup st g s = rw (← es, ne-eqb status 1 off) in
+      let f : false ≡ sharesGroup st (g + 1) s = rw (← es, ne-eqb status 1 off) in
       let z : below st s g ≡ below st s g + one false = omega arith in
-      z ∙ ap (λ (v : Bool). below st s g + one v) f ∙ count-more (sharesGroup st g) s _ refl)
+      z ∙ ap (λ (v : Bool). below st s g + one v) f ∙ count-more (sharesGroup st (g + 1)) s _ refl)
       (omega arith)
 
-  pub below-all : s ≤ slotCount → slotCount ≤ s → Tells (below st s) s heads same others → Tells (sharing st) slotCount heads same others
+  pub below-all :
+      s ≤ slotCount →
+      slotCount ≤ s →
+      Tells (below st s) (pairs s) heads same others →
+      Tells (λ g. sharing st (g + 1)) (pairs slotCount) heads same others
   unfolding sharing
   below-all l u =
-      tells-same _ _ s slotCount heads same others (λ g. count-done (sharesGroup st g) slotCount s l u) l
+      tells-same _ _ (pairs s) (pairs slotCount) heads same others (λ g. count-done (sharesGroup st (g + 1)) slotCount s l u) (omega arith)
 
 -- ---- what the buckets answer
 
-module _ (st : State) (heads same others : List ℕ) (k : Tells (sharing st) slotCount heads same others) (threshold group b : ℕ)
-    (e : b ≡ bucketOf group) where
-  pub told-head : getD heads b 0 ≡ group → Together st threshold group (getD same b 0)
+pub told-none : (st : State) (threshold held : ℕ) → held ≡ 0 → Together st threshold held 0
+unfolding sharingAt
+told-none st threshold held e = record { surplus = rw (eq-eqb held 0 e); most = omega arith }
+
+pub told-exact : (st : State) (threshold held n : ℕ) → (held ≡ 0 → ⊥) → n ≡ sharing st held → Together st threshold held n
+unfolding sharingAt
+told-exact st threshold held n o e =
+    record {
+      surplus = rw (ne-eqb held 0 o) (ap (surplusOf threshold) e);
+      most = omega (arith, e, sharing-most st held);
+    }
+
+module _ (st : State) (heads same others : List ℕ) (k : Tells (λ g. sharing st (g + 1)) (pairs slotCount) heads same others)
+    (threshold held b : ℕ) (o : held ≡ 0 → ⊥) (e : b ≡ bucketOf (held - 1)) where
+  here : held - 1 + 1 ≡ held
+  here = omega (arith, o)
+
+  pub told-head : getD heads b 0 ≡ held - 1 → Together st threshold held (getD same b 0)
   told-head t =
-      let q : getD heads (bucketOf group) 0 ≡ group = ap (λ (j : ℕ). getD heads j 0) (sym e) ∙ t in
-      let n : getD same b 0 ≡ sharing st group = ap (λ (j : ℕ). getD same j 0) e ∙ k .head group q in
-      record { surplus = ap (surplusOf threshold) n; most = omega (arith, n, sharing-most st group) }
+      let q : getD heads (bucketOf (held - 1)) 0 ≡ held - 1 = ap (λ (j : ℕ). getD heads j 0) (sym e) ∙ t in
+      told-exact st threshold held (getD same b 0) o
+      (ap (λ (j : ℕ). getD same j 0) e ∙ k .head (held - 1) q ∙ ap (sharing st) here)
 
-  -- "the surplus being how many .. above the P6 threshold, or 0": the group's peers are no more than these, which are not above it
-  pub told-few : (getD heads b 0 ≡ group → ⊥) → getD others b 0 ≤ threshold → Together st threshold group (getD others b 0)
+  -- "the surplus being .. above the P6 threshold, or 0": of no more peers than the threshold it is 0, and the group's are no more than these
+  pub told-few : (getD heads b 0 ≡ held - 1 → ⊥) → getD others b 0 ≤ threshold → Together st threshold held 0
+  unfolding sharingAt
   told-few t f =
-      let q : getD heads (bucketOf group) 0 ≡ group → ⊥ = λ z. t (ap (λ (j : ℕ). getD heads j 0) e ∙ z) in
-      let l : sharing st group ≤ getD others b 0 = rw e (k .other group q) in
-      let m : getD same b 0 + getD others b 0 ≤ slotCount = k .most b in
-      record { surplus = omega (arith, l, f); most = omega (arith, m) }
-
-pub told-exact : (st : State) (threshold group n : ℕ) → n ≡ sharing st group → Together st threshold group n
-told-exact st threshold group n e =
-    record { surplus = ap (surplusOf threshold) e; most = omega (arith, e, sharing-most st group) }
+      let q : getD heads (bucketOf (held - 1)) 0 ≡ held - 1 → ⊥ = λ z. t (ap (λ (j : ℕ). getD heads j 0) e ∙ z) in
+      let l : sharing st (held - 1 + 1) ≤ getD others b 0 = rw e (k .other (held - 1) q) in
+      let m : sharing st (held - 1 + 1) ≡ sharing st held = ap (sharing st) here in
+      record { surplus = rw (ne-eqb held 0 o) (omega (arith, l, m, f)); most = omega arith }
 
 -- ---- the score that is made of it
 
--- a group fits 32 bits
-pub group-fits : (st : State) → valid st ≡ true → (s : ℕ) → s < slotCount → peerIn st s .group ≤ maxId
-group-fits st v s h = valid-facts st v .peer s h .group
+-- the groups of a record go upward
+pub groups-rise : (st : State) → valid st ≡ true → (s : ℕ) → s < slotCount → risingOk (peerIn st s .groups) ≡ true
+groups-rise st v s h = valid-facts st v .peer s h .groups
+
+pub loaded-rise :
+    (st : State) → valid st ≡ true → (s : ℕ) → s < slotCount → (g : Groups) → g ≡ peerIn st s .groups → risingOk g ≡ true
+loaded-rise st v s h g e = rw e (groups-rise st v s h)
+
+module _ (st : State) (threshold : ℕ) (g : Groups) (n : Sharers) (k : Gathered st threshold g n) where
+  pub gathered-in : SharersIn n
+  gathered-in =
+      record { first = k .first .most; second = k .second .most; third = k .third .most; fourth = k .fourth .most }
+
+  pub gathered-crowd : crowdOf threshold n ≡ crowdOf threshold (sharersOf st g)
+  unfolding crowdOf sharersOf
+  gathered-crowd = rw (k .first .surplus, k .second .surplus, k .third .surplus, k .fourth .surplus) refl
 
 same-parts :
-    (g : ScoreParams) (b : Balance) (code n m p7 : ℕ) →
-    surplusOf (g .threshold) n ≡ surplusOf (g .threshold) m →
+    (g : ScoreParams) (b : Balance) (code : ℕ) (n m : Sharers) (p7 : ℕ) →
+    crowdOf (g .threshold) n ≡ crowdOf (g .threshold) m →
     partsOf g b code n p7 ≡ partsOf g b code m p7
 unfolding partsOf
 same-parts g b code n m p7 e = rw e
@@ -297,18 +443,21 @@ same-parts g b code n m p7 e = rw e
 pub parts-among :
     (st : State) (s : ℕ) →
     SlotIn st s →
-    (p : Peer) (g : ScoreParams) (b : Balance) (n : ℕ) →
+    (p : Peer) (g : ScoreParams) (b : Balance) (n : Sharers) →
     p ≡ peerIn st s →
     g ≡ scoreParamsIn st →
     (r : Parts) →
     r ≡ partsOf g b (p .p5) n (p .p7) →
     b ≡ sumOf topicCount (shareAt st s) →
-    Together st (g .threshold) (p .group) n →
+    crowdOf (g .threshold) n ≡ crowdOf (g .threshold) (sharersOf st (p .groups)) →
     r ≡ partsAt st s
 parts-among st s k p g b n ep eg r er eb t =
-    parts-done st s k p g b _ ep eg r (er ∙ same-parts g b (p .p5) n (sharing st (p .group)) (p .p7) (t .surplus)) eb refl
+    parts-done st s k p g b _ ep eg r (er ∙ same-parts g b (p .p5) n (sharersOf st (p .groups)) (p .p7) t) eb refl
 
 -- ---- an empty slot's score
+
+abbrev nobody : Sharers
+nobody = record { first = 0; second = 0; third = 0; fourth = 0 }
 
 sum-nothing : (f : ℕ → Balance) (n : ℕ) → ((t : ℕ) → t < n → f t ≡ noBalance) → sumOf n f ≡ noBalance
 unfolding sumOf
@@ -326,7 +475,7 @@ module _ (st : State) (ok : valid st ≡ true) (s : ℕ) (h : s < slotCount) (e 
       ap (shareOf (topicParamsIn st t)) z ∙ sym (idle-share (topicParamsIn st t) noTopic none-idle)))
 
   record Zeros : Type 0 where
-    group : peerIn st s .group ≡ 0
+    groups : peerIn st s .groups ≡ noGroups
     p5 : peerIn st s .p5 ≡ 0
     p7 : peerIn st s .p7 ≡ 0
 
@@ -335,30 +484,35 @@ module _ (st : State) (ok : valid st ≡ true) (s : ℕ) (h : s < slotCount) (e 
   zeros-at =
       let p = peerIn st s in
       let r =
-      all9 (eqb (p .id) 0) (eqb (p .group) 0) (eqb (p .outbound) 0) (eqb (p .explicit) 0) (eqb (p .version) 0) (eqb (p .p5) 0)
+      all9 (eqb (p .id) 0) (zeroGroups (p .groups)) (eqb (p .outbound) 0) (eqb (p .explicit) 0) (eqb (p .version) 0) (eqb (p .p5) 0)
       (eqb (p .p7) 0) (eqb (p .retain) 0) (endsUpTo 0 p) (valid-facts st ok .peer s h .empty e) in
-      record { group = eqb-true (p .group) 0 (r .1); p5 = eqb-true (p .p5) 0 (r .5); p7 = eqb-true (p .p7) 0 (r .6) }
+      record { groups = zero-groups (p .groups) (r .1); p5 = eqb-true (p .p5) 0 (r .5); p7 = eqb-true (p .p7) 0 (r .6) }
+
+  nobody-shares : nobody ≡ sharersOf st noGroups
+  unfolding sharersOf sharingAt
+  nobody-shares = refl
 
   pub empty-scores :
-      (g : ScoreParams) (n : ℕ) (q : Parts) (b : Balance) →
+      (g : ScoreParams) (q : Parts) (b : Balance) →
       g ≡ scoreParamsIn st →
-      Together st (g .threshold) 0 n →
-      q ≡ partsOf g noBalance 0 n 0 →
+      q ≡ partsOf g noBalance 0 nobody 0 →
       b ≡ totalOf q →
       Scores st s b
-  empty-scores g n q b eg t eq eb =
+  empty-scores g q b eg eq eb =
       let i = slot-in st ok s h in
       let z = zeros-at in
-      let u : Together st (g .threshold) (peerIn st s .group) n = rw (z .group) t in
-      let v : q ≡ partsOf g noBalance (peerIn st s .p5) n (peerIn st s .p7) = rw (z .p5, z .p7) eq in
-      scores st s i q b (parts-among st s i (peerIn st s) g noBalance n refl eg q v empty-topics u) eb
+      let t : crowdOf (g .threshold) nobody ≡ crowdOf (g .threshold) (sharersOf st (peerIn st s .groups)) =
+      ap (crowdOf (g .threshold)) (nobody-shares ∙ ap (sharersOf st) (sym (z .groups))) in
+      let v : q ≡ partsOf g noBalance (peerIn st s .p5) nobody (peerIn st s .p7) = rw (z .p5, z .p7) eq in
+      scores st s i q b (parts-among st s i (peerIn st s) g noBalance nobody refl eg q v empty-topics t) eb
 
 pub empty-ready :
     (st : State) →
     valid st ≡ true →
-    (g : ScoreParams) (n : ℕ) →
+    (g : ScoreParams) →
     g ≡ scoreParamsIn st →
-    n ≤ slotCount →
-    ScoreParamsIn g × (TopicsIn noBalance × ((0 ≤ 2000000000) × ((n ≤ slotCount) × (0 ≤ 1000000))))
-empty-ready st ok g n eg l =
-    (rw eg (general-in st ok), (record { gain = omega arith; loss = omega arith }, (omega arith, (l, omega arith))))
+    ScoreParamsIn g × (TopicsIn noBalance × ((0 ≤ 2000000000) × (SharersIn nobody × (0 ≤ 1000000))))
+empty-ready st ok g eg =
+    (rw eg (general-in st ok),
+    (record { gain = omega arith; loss = omega arith },
+    (omega arith, (record { first = omega arith; second = omega arith; third = omega arith; fourth = omega arith }, omega arith))))

@@ -6,7 +6,7 @@ use mathlib.Core.Bool.{true}
 use mathlib.Core.List.{List, [], _∷_, _++_, map}
 use Rattle.index.specs.Index.{every, first, count, iter, gather}
 use Rattle.params.specs.Ordinary.{ordinaryNumbers}
-use Rattle.records.specs.Records.{State, codeIn, joinedIn, peerIn, topicIn, setPeer, setTopic, setClock, setJoined}
+use Rattle.records.specs.Records.{State, holdsGroup, codeIn, joinedIn, peerIn, topicIn, setPeer, setTopic, setClock, setJoined}
 use Rattle.lookup.specs.Find.{holds, findConnected, findRetained, lowestEmpty}
 use Rattle.lookup.specs.Name.{meshsub, sameBytes, versionOf}
 use Rattle.lookup.specs.Fresh.{freshState}
@@ -27,10 +27,10 @@ use Rattle.effects.specs.Effects.{
   reclaimSlot,
   reclaimed,
 }
-use Rattle.score.specs.Parts.{part1Of, part3Of}
+use Rattle.score.specs.Parts.{part1Of, part3Of, crowdOf}
 use Rattle.score.specs.Formula.{topicSum, allTopics, bounded, whyOf}
 use Rattle.score.specs.Counters.{raised3Of, firstOf as firstDelivery}
-use Rattle.score.specs.Score.{whyIn, scoreIn, topicScore, topicParamsIn, sharesGroup, sharing}
+use Rattle.score.specs.Score.{whyIn, scoreIn, topicScore, topicParamsIn, sharesGroup, sharing, sharingAt, sharersOf}
 use Rattle.sets.specs.Sets.{
   bySlot,
   size,
@@ -66,7 +66,7 @@ use Rattle.mesh.specs.Maintenance.{
   actionsOf,
 }
 use Rattle.rules.specs.Reply.{Reply}
-use Rattle.rules.specs.Calls.{graft, heartbeat, inRange}
+use Rattle.rules.specs.Calls.{graft, heartbeat, inRange, groupsOk, groupsOf}
 use Rattle.rules.specs.Step.{
   connectAt,
   connectIn,
@@ -136,7 +136,7 @@ unfolding passes left given refusals membersIn mixed worked come enter bring ele
     first count iter gather ordinaryNumbers codeIn joinedIn peerIn topicIn setPeer setTopic setClock setJoined holds findConnected
     findRetained lowestEmpty meshsub sameBytes versionOf freshState withEnd withP5 withP7 connectedAs withSubscribed outOfMesh intoMesh
     pruned isMember meshSize reclaimable emptied reclaimSlot reclaimed part1Of part3Of topicSum allTopics bounded whyOf whyIn scoreIn
-    topicScore topicParamsIn sharesGroup sharing raised3Of firstDelivery insert sort scoresOf above median deliveredOf deliverReply bySlot
+    topicScore topicParamsIn holdsGroup groupsOk groupsOf sharesGroup sharing sharingAt sharersOf crowdOf raised3Of firstDelivery insert sort scoresOf above median deliveredOf deliverReply bySlot
     size both except from occurs isPermutation ascending inOrder fill top bests swapTo mesh1 mesh2 theBest keepers swapped mesh3 mesh4
     mesh5 meshes changesOf actionsOn actionsOf inRange connectAt connectIn connectReply joinReply subscribeReply isNegative isGraylisted
     isHeard secondsOf pruneReply graftRefused raisedP7 isCrowded graftCase graftReply isCandidate heightIn degreesIn viewIn meshesIn
@@ -150,7 +150,7 @@ unfolding passes left given refusals membersIn mixed worked come enter bring ele
     first count iter gather ordinaryNumbers codeIn joinedIn peerIn topicIn setPeer setTopic setClock setJoined holds findConnected
     findRetained lowestEmpty meshsub sameBytes versionOf freshState withEnd withP5 withP7 connectedAs withSubscribed outOfMesh intoMesh
     pruned isMember meshSize reclaimable emptied reclaimSlot reclaimed part1Of part3Of topicSum allTopics bounded whyOf whyIn scoreIn
-    topicScore topicParamsIn sharesGroup sharing raised3Of firstDelivery insert sort scoresOf above median deliveredOf deliverReply bySlot
+    topicScore topicParamsIn holdsGroup groupsOk groupsOf sharesGroup sharing sharingAt sharersOf crowdOf raised3Of firstDelivery insert sort scoresOf above median deliveredOf deliverReply bySlot
     size both except from occurs isPermutation ascending inOrder fill top bests swapTo mesh1 mesh2 theBest keepers swapped mesh3 mesh4
     mesh5 meshes changesOf actionsOn actionsOf inRange connectAt connectIn connectReply joinReply subscribeReply isNegative isGraylisted
     isHeard secondsOf pruneReply graftRefused raisedP7 isCrowded graftCase graftReply isCandidate heightIn degreesIn viewIn meshesIn
@@ -169,7 +169,7 @@ unfolding passes left given refusals membersIn mixed worked come enter bring ele
     first count iter gather ordinaryNumbers codeIn joinedIn peerIn topicIn setPeer setTopic setClock setJoined holds findConnected
     findRetained lowestEmpty meshsub sameBytes versionOf freshState withEnd withP5 withP7 connectedAs withSubscribed outOfMesh intoMesh
     pruned isMember meshSize reclaimable emptied reclaimSlot reclaimed part1Of part3Of topicSum allTopics bounded whyOf whyIn scoreIn
-    topicScore topicParamsIn sharesGroup sharing raised3Of firstDelivery insert sort scoresOf above median deliveredOf deliverReply bySlot
+    topicScore topicParamsIn holdsGroup groupsOk groupsOf sharesGroup sharing sharingAt sharersOf crowdOf raised3Of firstDelivery insert sort scoresOf above median deliveredOf deliverReply bySlot
     size both except from occurs isPermutation ascending inOrder fill top bests swapTo mesh1 mesh2 theBest keepers swapped mesh3 mesh4
     mesh5 meshes changesOf actionsOn actionsOf inRange connectAt connectIn connectReply joinReply subscribeReply isNegative isGraylisted
     isHeard secondsOf pruneReply graftRefused raisedP7 isCrowded graftCase graftReply isCandidate heightIn degreesIn viewIn meshesIn
@@ -191,7 +191,7 @@ unfolding passes left given refusals membersIn mixed worked come enter bring ele
     first count iter gather ordinaryNumbers codeIn joinedIn peerIn topicIn setPeer setTopic setClock setJoined holds findConnected
     findRetained lowestEmpty meshsub sameBytes versionOf freshState withEnd withP5 withP7 connectedAs withSubscribed outOfMesh intoMesh
     pruned isMember meshSize reclaimable emptied reclaimSlot reclaimed part1Of part3Of topicSum allTopics bounded whyOf whyIn scoreIn
-    topicScore topicParamsIn sharesGroup sharing raised3Of firstDelivery insert sort scoresOf above median deliveredOf deliverReply bySlot
+    topicScore topicParamsIn holdsGroup groupsOk groupsOf sharesGroup sharing sharingAt sharersOf crowdOf raised3Of firstDelivery insert sort scoresOf above median deliveredOf deliverReply bySlot
     size both except from occurs isPermutation ascending inOrder fill top bests swapTo mesh1 mesh2 theBest keepers swapped mesh3 mesh4
     mesh5 meshes changesOf actionsOn actionsOf inRange connectAt connectIn connectReply joinReply subscribeReply isNegative isGraylisted
     isHeard secondsOf pruneReply graftRefused raisedP7 isCrowded graftCase graftReply isCandidate heightIn degreesIn viewIn meshesIn
@@ -211,7 +211,7 @@ unfolding passes left given refusals membersIn mixed worked come enter bring ele
     first count iter gather ordinaryNumbers codeIn joinedIn peerIn topicIn setPeer setTopic setClock setJoined holds findConnected
     findRetained lowestEmpty meshsub sameBytes versionOf freshState withEnd withP5 withP7 connectedAs withSubscribed outOfMesh intoMesh
     pruned isMember meshSize reclaimable emptied reclaimSlot reclaimed part1Of part3Of topicSum allTopics bounded whyOf whyIn scoreIn
-    topicScore topicParamsIn sharesGroup sharing raised3Of firstDelivery insert sort scoresOf above median deliveredOf deliverReply bySlot
+    topicScore topicParamsIn holdsGroup groupsOk groupsOf sharesGroup sharing sharingAt sharersOf crowdOf raised3Of firstDelivery insert sort scoresOf above median deliveredOf deliverReply bySlot
     size both except from occurs isPermutation ascending inOrder fill top bests swapTo mesh1 mesh2 theBest keepers swapped mesh3 mesh4
     mesh5 meshes changesOf actionsOn actionsOf inRange connectAt connectIn connectReply joinReply subscribeReply isNegative isGraylisted
     isHeard secondsOf pruneReply graftRefused raisedP7 isCrowded graftCase graftReply isCandidate heightIn degreesIn viewIn meshesIn
@@ -225,7 +225,7 @@ unfolding passes left given refusals membersIn mixed worked come enter bring ele
     first count iter gather ordinaryNumbers codeIn joinedIn peerIn topicIn setPeer setTopic setClock setJoined holds findConnected
     findRetained lowestEmpty meshsub sameBytes versionOf freshState withEnd withP5 withP7 connectedAs withSubscribed outOfMesh intoMesh
     pruned isMember meshSize reclaimable emptied reclaimSlot reclaimed part1Of part3Of topicSum allTopics bounded whyOf whyIn scoreIn
-    topicScore topicParamsIn sharesGroup sharing raised3Of firstDelivery insert sort scoresOf above median deliveredOf deliverReply bySlot
+    topicScore topicParamsIn holdsGroup groupsOk groupsOf sharesGroup sharing sharingAt sharersOf crowdOf raised3Of firstDelivery insert sort scoresOf above median deliveredOf deliverReply bySlot
     size both except from occurs isPermutation ascending inOrder fill top bests swapTo mesh1 mesh2 theBest keepers swapped mesh3 mesh4
     mesh5 meshes changesOf actionsOn actionsOf inRange connectAt connectIn connectReply joinReply subscribeReply isNegative isGraylisted
     isHeard secondsOf pruneReply graftRefused raisedP7 isCrowded graftCase graftReply isCandidate heightIn degreesIn viewIn meshesIn

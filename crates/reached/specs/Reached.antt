@@ -76,7 +76,7 @@ mixed = map (λ (i : ℕ). (157 * i + 11) % slotCount) (ascending 0 slotCount)
 -- score 7, all at time 5, no opportunism"
 unfoldable pub worked : List Call
 worked =
-    connect 5 7 7 0 (meshsub 49)
+    connect 5 7 (7 ∷ []) 0 (meshsub 49)
     ∷ join 5 0
     ∷ subscribe 5 7 0
     ∷ heartbeat 5 0 0 mixed
@@ -89,7 +89,7 @@ worked =
 -- peers of a direction that connect, each in a group of its own, and subscribe
 unfoldable pub come : ℕ → List ℕ → List Call
 come outbound [] = []
-come outbound (id ∷ ids) = connect 1000 id id outbound (meshsub 49) ∷ subscribe 1000 id 0 ∷ come outbound ids
+come outbound (id ∷ ids) = connect 1000 id (id ∷ []) outbound (meshsub 49) ∷ subscribe 1000 id 0 ∷ come outbound ids
 
 -- inbound peers that come and send a GRAFT
 unfoldable pub enter : List ℕ → List Call

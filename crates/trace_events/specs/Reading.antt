@@ -87,7 +87,7 @@ callOf kind us rest =
     let a : ℕ = getD us 1 0 in
     let b : ℕ = getD us 2 0 in
     let c : ℕ = getD us 3 0 in
-    cond (eqb kind 1) (connect time a b c rest)
+    cond (eqb kind 1) (connect time a (b ∷ []) c rest)
     (cond (eqb kind 2) (disconnect time a)
     (cond (eqb kind 3) (join time a)
     (cond (eqb kind 4) (leave time a)

@@ -41,9 +41,7 @@ scores-spec =
     Inv-loop
     μ-loop
     (λ c κs. (c .before .before .before .before .pre, tells-none))
-    (λ c κs.
-    let g = c .before .before .before in
-    (g .before .before .before .before .before .pre, g .count-groups .ensures))
+    (λ c κs. c .before .before .before .before .before .before .before .before .pre)
     (λ c κs. c .empty-score .ensures .range)
     (λ c. built-none _ _ _ _ refl)
     height-requires

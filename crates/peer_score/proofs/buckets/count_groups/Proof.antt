@@ -2,14 +2,14 @@
 use Rattle.index.proofs.Kit.{_-_, _≤_, arith}
 use Rattle.records.specs.Records.{slotCount}
 use Rattle.layout.specs.View.{stateOf}
-use Rattle.peer_score.specs.Buckets.{Tells, below}
+use Rattle.peer_score.specs.Buckets.{Tells, below, pairs}
 use Rattle.peer_score.proofs.BucketLaws.{below-none, below-all}
 use Rattle.peer_score.proofs.buckets.count_groups.Statement.{statement}
 use Rattle.peer_score.proofs.buckets.count_groups.Tie as tie
 
 abbrev Inv-loop : tie.InvT-loop
 Inv-loop table heads₀ same₀ others₀ slot₀ heads same others slot =
-    (slot ≤ slotCount) × Tells (below (stateOf table) slot) slot heads same others
+    (slot ≤ slotCount) × Tells (below (stateOf table) slot) (pairs slot) heads same others
 
 abbrev μ-loop : tie.MeasureT-loop
 μ-loop table heads₀ same₀ others₀ slot₀ heads same others slot = slotCount - slot

@@ -1,22 +1,21 @@
 -- `peer_score::buckets::score_among`: the parts with a number of peers that has the same surplus are the parts (`parts-among`).
 use borrow.Author.Needs.{needs}
-use native.Mathlib.Omega.{arith}
 use mathlib.Core.Path.{ap}
 use Rattle.records.specs.declared.Peer.{Peer}
 use Rattle.score.proofs.InputLaws.{slot-in}
 use Rattle.score.proofs.ScoreLaws.{parts-ready, scores}
-use Rattle.peer_score.proofs.BucketLaws.{parts-among, group-fits}
+use Rattle.peer_score.proofs.BucketLaws.{parts-among, loaded-rise, gathered-in, gathered-crowd}
 use Rattle.peer_score.proofs.buckets.score_among.Statement.{statement}
 use Rattle.peer_score.proofs.buckets.score_among.Tie as tie
 
-together-requires : tie.Need-together-requires
-together-requires c κs =
+gather-requires : tie.Need-gather-requires
+gather-requires c κs =
     let p = c .before .before .pre in
     let k = p .peer in
     record {
       standing = k .standing;
       buckets = p .buckets;
-      fits = omega (arith, ap (λ (o : Peer). o .group) (k .peer), group-fits _ (k .standing .router) _ (k .slot));
+      rising = loaded-rise _ (k .standing .router) _ (k .slot) _ (ap (λ (o : Peer). o .groups) (k .peer));
     }
 
 parts-requires : tie.Need-parts-requires
@@ -30,7 +29,7 @@ parts-requires c κs =
     (k .peer)
     (g .load-general .ensures)
     (c .topics-at .ensures .1)
-    (t .together .ensures .most)
+    (gathered-in _ _ _ _ (t .gather .ensures))
 
 returns : tie.Need-returns
 returns c =
@@ -46,7 +45,7 @@ returns c =
     _
     (c .before .parts .ensures .0)
     (a .topics-at .ensures .0)
-    (t .together .ensures))
+    (gathered-crowd _ _ _ _ (t .gather .ensures)))
     (c .total .ensures .0)
 
 pub score-among-spec : {M : Type 1} → statement M
@@ -54,7 +53,7 @@ score-among-spec =
     tie.close
     (tie.spec
     (λ c κs. search needs)
-    together-requires
+    gather-requires
     (λ c κs. search needs)
     parts-requires
     (λ c κs. search needs)
