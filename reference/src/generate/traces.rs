@@ -3,7 +3,7 @@
 use super::calls::{Caller, Scene};
 use super::params as generate_params;
 use crate::coverage::{self, Coverage};
-use crate::event::{Call, Event, CALL_NAMES, OLD_SLOTS, SLOTS};
+use crate::event::{Call, Event, CALL_NAMES, GROUPS, OLD_SLOTS, SLOTS};
 use crate::groups;
 use crate::params::{field_at, general, topic, topic_index, Edition, Params, TOPICS};
 use crate::random::Random;
@@ -29,7 +29,7 @@ pub fn trace(random: &mut Random, coverage: &mut Coverage) -> Generated {
     }
 }
 
-/// Either edition of a trace.
+/// Any edition of a trace.
 fn edition(random: &mut Random) -> TraceEdition {
     *random.pick(&TraceEdition::ALL)
 }
@@ -305,7 +305,7 @@ fn limits(random: &mut Random, coverage: &mut Coverage) -> Generated {
     let flags = if explicit { 2 } else { random.below(2) as u64 };
     let name = b"/meshsub/1.1.0".to_vec();
     let (id, topic) = (7, random.below(TOPICS) as u64);
-    run.push(Event { now: 0, call: Call::Connect { id, group: 1, flags, name } });
+    run.push(Event { now: 0, call: Call::Connect { id, groups: vec![1], flags, name } });
     run.push(Event { now: 0, call: Call::Join { topic } });
     run.push(Event { now: 0, call: Call::Prune { id, topic, seconds: 3600 } });
     for count in 0..1003 {
@@ -342,9 +342,7 @@ fn bad_params(random: &mut Random, coverage: &mut Coverage) -> Generated {
     };
     let more = random.below(20);
     bytes.extend(random.bytes(more));
-    if random.chance(1, 2) {
-        bytes.splice(0..0, TraceEdition::Two.front().iter().copied());
-    }
+    bytes.splice(0..0, edition(random).front().iter().copied());
     coverage.count_start(&bytes);
     Generated { bytes, events: 0 }
 }
@@ -382,8 +380,8 @@ fn damaged_end(
         return other_editions(edition, event, coverage);
     }
     let mut pieces = trace::event_pieces(edition, event);
-    let place = random.below(pieces.len().min(7));
-    let name = coverage::piece_name(&event.call, place);
+    let place = random.below(pieces.len().min(9));
+    let name = coverage::piece_name(edition, &event.call, place);
     if name == "name" {
         // Raw bytes can only be too few.
         pieces.truncate(place + 1);
@@ -395,18 +393,18 @@ fn damaged_end(
     let bytes = pieces.concat();
     let stopped = trace::read_event(edition, &bytes).is_err();
     if stopped && !bytes.is_empty() {
-        coverage.count_stop(&coverage::bad_bytes(&event.call, place));
+        coverage.count_stop(&coverage::bad_bytes(edition, &event.call, place));
     }
     bytes
 }
 
-/// A heartbeat as another edition has it: an old permutation in edition 2 is cut short; in
-/// edition 1 the rest of a new one is taken for events.
+/// A heartbeat as another edition has it: an old permutation is cut short where a new one is
+/// due; in edition 1 the rest of a new one is taken for events.
 fn other_editions(edition: TraceEdition, event: &Event, coverage: &mut Coverage) -> Vec<u8> {
     coverage.count_stop(&coverage::other_permutation(edition));
     let other = match edition {
         TraceEdition::One => TraceEdition::Two,
-        TraceEdition::Two => TraceEdition::One,
+        TraceEdition::Two | TraceEdition::Three => TraceEdition::One,
     };
     trace::write_event(other, event)
 }
@@ -421,6 +419,11 @@ fn damage(pieces: &mut Vec<Vec<u8>>, place: usize, name: &str, random: &mut Rand
             pieces.push(vec![0x80 | random.bits() as u8; groups_before_end]);
         }
         2 => generate_params::overlong(&mut pieces[place], random),
+        3 if name == coverage::GROUP_COUNT => {
+            let count = GROUPS as u64 + 1 + (random.of_any_width() >> random.below(64)) / 2;
+            pieces[place].clear();
+            groups::write_unsigned(count, &mut pieces[place]);
+        }
         3 if name == "name length" => {
             let length = 65 + (random.of_any_width() >> 8);
             pieces[place].clear();
