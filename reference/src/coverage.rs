@@ -226,6 +226,9 @@ pub fn of_edition_2(case: &str) -> bool {
 /// How many groups a connect has, in an edition that counts them.
 pub const GROUP_COUNT: &str = "group count";
 
+/// A connect that counts more groups than a record holds.
+pub const MANY_GROUPS: &str = "a group count above four";
+
 /// The names of an event's numbers after kind and time, in the trace's order. A connect
 /// has a number for each group.
 fn argument_names(kind: u64) -> &'static [&'static str] {
@@ -273,7 +276,7 @@ fn stops() -> impl Iterator<Item = String> {
         let told = ["answer 9", "answer 10", "the rule on D_score"];
         told.map(|what| format!("parameters of edition {}, {what}", edition.number()))
     });
-    let fixed = [OTHER_FRONT, "unknown kind", "bad kind"];
+    let fixed = [OTHER_FRONT, MANY_GROUPS, "unknown kind", "bad kind"];
     let calls = CALL_NAMES.iter().zip(1..).flat_map(|(name, kind)| {
         let pieces = ["time"].iter().chain(argument_names(kind));
         pieces.map(move |piece| format!("bad {name} {piece}"))

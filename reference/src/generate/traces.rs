@@ -376,8 +376,14 @@ fn damaged_end(
         coverage.count_stop("unknown kind");
         return unknown_kind(random);
     }
-    if matches!(event.call, Call::Heartbeat { .. }) && random.chance(1, 4) {
-        return other_editions(edition, event, coverage);
+    match event.call {
+        Call::Heartbeat { .. } if random.chance(1, 4) => {
+            return other_editions(edition, event, coverage);
+        }
+        Call::Connect { .. } if edition.counts_groups() && random.chance(1, 3) => {
+            return many_groups(edition, event, random, coverage);
+        }
+        _ => {}
     }
     let mut pieces = trace::event_pieces(edition, event);
     let place = random.below(pieces.len().min(9));
@@ -409,6 +415,22 @@ fn other_editions(edition: TraceEdition, event: &Event, coverage: &mut Coverage)
     trace::write_event(other, event)
 }
 
+/// A connect whose count of groups is above the most, with so many groups or fewer.
+fn many_groups(
+    edition: TraceEdition,
+    event: &Event,
+    random: &mut Random,
+    coverage: &mut Coverage,
+) -> Vec<u8> {
+    coverage.count_stop(coverage::MANY_GROUPS);
+    let more = if random.chance(1, 2) { 0 } else { random.of_any_width() >> 1 };
+    let mut pieces = trace::event_pieces(edition, event);
+    // After kind, time and id.
+    pieces[3].clear();
+    groups::write_unsigned(GROUPS as u64 + 1 + more, &mut pieces[3]);
+    pieces.concat()
+}
+
 /// Cuts the bytes before a number or in it, or makes it overlong or too wide.
 fn damage(pieces: &mut Vec<Vec<u8>>, place: usize, name: &str, random: &mut Random) {
     let groups_before_end = 1 + random.below(9);
@@ -419,11 +441,6 @@ fn damage(pieces: &mut Vec<Vec<u8>>, place: usize, name: &str, random: &mut Rand
             pieces.push(vec![0x80 | random.bits() as u8; groups_before_end]);
         }
         2 => generate_params::overlong(&mut pieces[place], random),
-        3 if name == coverage::GROUP_COUNT => {
-            let count = GROUPS as u64 + 1 + (random.of_any_width() >> random.below(64)) / 2;
-            pieces[place].clear();
-            groups::write_unsigned(count, &mut pieces[place]);
-        }
         3 if name == "name length" => {
             let length = 65 + (random.of_any_width() >> 8);
             pieces[place].clear();
