@@ -155,7 +155,7 @@ static void refusals(void)
     refuses("an unknown name", hivepadlet_connect(table, 5, 9, 1, 0, NAME_2, LIST), HIVEPADLET_UNKNOWN_PROTOCOL);
     refuses("no name", hivepadlet_connect(table, 5, 9, 1, 0, NAME_0, LIST), HIVEPADLET_UNKNOWN_PROTOCOL);
     refuses("no permutation", hivepadlet_heartbeat(table, 5, 0, 0, permutation, HIVEPADLET_SLOTS, LIST), HIVEPADLET_NOT_PERMUTATION);
-    refuses("191 numbers", hivepadlet_decay(table, 5, actions, 191), HIVEPADLET_LIST_SHORT);
+    refuses("a number less", hivepadlet_decay(table, 5, actions, HIVEPADLET_ACTION_NUMBERS - 1), HIVEPADLET_LIST_SHORT);
     int64_t why[HIVEPADLET_WHY_NUMBERS] = { 41, 42, 43, 44, 45, 46 };
     refuses("the score of nobody", hivepadlet_score(table, 5, 8, why, LIST), HIVEPADLET_NOT_CONNECTED);
     for (int i = 0; i < HIVEPADLET_WHY_NUMBERS; i++) {
