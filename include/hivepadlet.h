@@ -427,10 +427,10 @@ uint64_t hivepadlet_read_message(const uint8_t names[HIVEPADLET_NAMES_BYTES], co
 
 /* Writes one message for one peer to the start of a buffer; HIVEPADLET_WRITTEN_BYTES are always enough.
  * actions: at most HIVEPADLET_MESSAGE_ACTIONS as the calls write them, all with the same peer's id; topics: the topic of each, so
- * that actions_length is 3 * topics_length. changes: at most 8 of our own joins and leaves, pairs of 1 (join) or 0 (leave) and a topic. Every topic has a
- * name. 0 with the length of the message, 0 for empty lists; or 2 for any other list; or 13. The buffer is written only if the
- * answer is 0, and the bytes past the message are unchanged. What is read from these bytes is the joins and leaves, then the
- * GRAFTs, then the PRUNEs, each in their order. */
+ * that actions_length is 3 * topics_length. changes: at most 8 of our own joins and leaves, pairs of 1 (join) or 0 (leave) and a
+ * topic. Every topic has a name. 0 with the length of the message, 0 for empty lists; or 2 for any other list; or 13. The buffer is
+ * written only if the answer is 0, and the bytes past the message are unchanged. What is read from these bytes is the joins and
+ * leaves, then the GRAFTs, then the PRUNEs, each in their order. */
 uint64_t hivepadlet_write_message(const uint8_t names[HIVEPADLET_NAMES_BYTES], const uint32_t *actions, size_t actions_length,
                                   const uint64_t *topics, size_t topics_length, const uint64_t *changes, size_t changes_length,
                                   uint8_t *buffer, size_t length);
