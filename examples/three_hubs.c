@@ -17,7 +17,7 @@
 #include <string.h>
 
 enum { LOBBY, FOURTH, CHEAP, HUBS };
-enum { TOPIC = 0, INBOX = 64, MOST_BYTES = 64 };
+enum { TOPIC = 0, WIRELESS = 100, INBOX = 64, MOST_BYTES = 64 };
 
 /* what a cable carries: a notice, that is a message of the topic, or the bytes of an RPC, which the library writes and reads */
 struct message {
@@ -29,9 +29,10 @@ struct message {
 
 struct hub {
     const char *name;
-    uint64_t group; /* its address group: the floor */
-    bool deaf;      /* throws every PRUNE away */
-    bool joined;    /* the topic */
+    uint64_t groups[HIVEPADLET_GROUPS]; /* its address groups, lowest first: the floor's cable, and the building's wireless */
+    size_t group_count;
+    bool deaf;   /* throws every PRUNE away */
+    bool joined; /* the topic */
     bool linked[HUBS];
     bool mesh[HUBS]; /* the host's note of the topic's mesh, kept by actions and answers: notices go along it */
     struct message inbox[INBOX];
@@ -41,9 +42,9 @@ struct hub {
 };
 
 static struct hub hubs[HUBS] = {
-    { .name = "lobby", .group = 0 },
-    { .name = "fourth", .group = 4 },
-    { .name = "cheap", .group = 7, .deaf = true },
+    { .name = "lobby", .groups = { 0, WIRELESS }, .group_count = 2 },
+    { .name = "fourth", .groups = { 4, WIRELESS }, .group_count = 2 },
+    { .name = "cheap", .groups = { 7 }, .group_count = 1, .deaf = true },
 };
 
 static uint64_t now; /* milliseconds */
@@ -289,7 +290,8 @@ static void connect_end(int hub, int peer, uint64_t flags)
     static const uint8_t name[] = { '/', 'm', 'e', 's', 'h', 's', 'u', 'b', '/', '1', '.', '1', '.', '0' };
     struct hub *h = &hubs[hub];
     h->linked[peer] = true;
-    carry(hub, hivepadlet_connect(h->table, now, id_of(peer), hubs[peer].group, flags, name, sizeof name, h->actions,
+    const struct hub *p = &hubs[peer];
+    carry(hub, hivepadlet_connect(h->table, now, id_of(peer), p->groups, p->group_count, flags, name, sizeof name, h->actions,
                                   HIVEPADLET_ACTION_NUMBERS));
 }
 

@@ -26,7 +26,7 @@
  *
  * All memory is yours, and is lent for the length of one call; nothing is kept between calls but the table.
  *
- * - The table, HIVEPADLET_CELLS numbers of 64 bits (167,144 bytes), is the whole router. You may have any number of routers, one
+ * - The table, HIVEPADLET_CELLS numbers of 64 bits (173,288 bytes), is the whole router. You may have any number of routers, one
  *   table each. A table may be copied, saved and restored as bytes on the same machine. Only the calls write it; a damaged
  *   table is refused (12).
  * - The action list is HIVEPADLET_ACTION_NUMBERS numbers of 32 bits, or more; under that, a call refuses (8). A call writes its
@@ -84,13 +84,14 @@ extern "C" {
 
 /* ---- sizes */
 
-#define HIVEPADLET_CELLS 20893          /* numbers of a table */
+#define HIVEPADLET_CELLS 21661          /* numbers of a table */
 #define HIVEPADLET_NUMBERS 147          /* numbers of the parameters */
 #define HIVEPADLET_ACTION_NUMBERS 768   /* numbers of an action list: three for each slot */
 #define HIVEPADLET_PARAMETER_BYTES 737  /* bytes that written parameters may take (edition 1: 735) */
 #define HIVEPADLET_SUPPLIER_BYTES 1323  /* bytes of the other supplier's parameters */
 #define HIVEPADLET_SLOTS 256            /* peers that a router holds, and numbers of a permutation */
 #define HIVEPADLET_TOPICS 8
+#define HIVEPADLET_GROUPS 4             /* address groups that a peer may have */
 #define HIVEPADLET_WHY_NUMBERS 6        /* numbers of a score: its five parts, and the score */
 #define HIVEPADLET_NAMES_BYTES 520      /* topic names: for each topic a length (0: no name, 1 to 64) and 64 bytes */
 #define HIVEPADLET_MESSAGE_ACTIONS 64   /* actions that one message may hold */
@@ -109,7 +110,8 @@ enum hivepadlet_why {
                                   messages (P4) lower it */
     HIVEPADLET_WHY_CAPPED = 1, /* the same, cut to the topic cap where it is above it: what counts in the score */
     HIVEPADLET_WHY_P5 = 2,     /* application-specific score: the host's points for the peer (hivepadlet_rate) times W5 */
-    HIVEPADLET_WHY_P6 = 3,     /* IP colocation, never above 0: connected peers of its address group above P6_THRESHOLD */
+    HIVEPADLET_WHY_P6 = 3,     /* IP colocation, never above 0: in each of its address groups the connected peers above
+                                  P6_THRESHOLD, squared, and these added */
     HIVEPADLET_WHY_P7 = 4,     /* behaviour penalty, never above 0: GRAFTs that it sent during a backoff */
     HIVEPADLET_WHY_SCORE = 5   /* below 0 the peer is put out of every mesh; below GRAYLIST_THRESHOLD it is not heard */
 };
@@ -120,8 +122,9 @@ enum hivepadlet_answer {
     HIVEPADLET_DONE = 0,              /* done; of a call the number of actions, of reading and writing the number of bytes, of
                                          reading a message the number of entries */
     HIVEPADLET_EARLY = 1,             /* the time is before the router's clock */
-    HIVEPADLET_OUT_OF_RANGE = 2,      /* time, id, group, flags, topic, kind, ask or P5 outside its range; an edition other than
-                                         1 and 2; topic names that cannot be, or a list that is no message's */
+    HIVEPADLET_OUT_OF_RANGE = 2,      /* time, id, group, flags, topic, kind, ask or P5 outside its range; groups that are none,
+                                         more than four, repeated or not in order; an edition other than 1 and 2; topic names
+                                         that cannot be, or a list that is no message's */
     HIVEPADLET_NOT_CONNECTED = 3,     /* no connected peer has the id */
     HIVEPADLET_ALREADY_CONNECTED = 4, /* connect of a connected id */
     HIVEPADLET_NO_SLOT = 5,           /* all 256 slots are taken, and none can be reclaimed yet */
@@ -285,11 +288,13 @@ enum hivepadlet_flag {
     HIVEPADLET_EXPLICIT = 2  /* a peer that we are told to keep: never in a mesh, never graylisted */
 };
 
-/* A peer connects. group: its address group, any 32-bit number, as the first bytes of its address. flags: the sum of the above.
+/* A peer connects. groups: its address groups, one to HIVEPADLET_GROUPS different ones, lowest first; each is any 32-bit number,
+ * as the first bytes of an address, one for each way to it (wired and wireless). flags: the sum of the above.
  * name: the protocol it speaks, "/meshsub/1.0.0" or "/meshsub/1.1.0", with no closing zero. A peer that comes back while its
- * record is kept has its counters and backoffs again. 0, or 6, 4, 5. */
-uint64_t hivepadlet_connect(uint64_t table[HIVEPADLET_CELLS], uint64_t time, uint64_t id, uint64_t group, uint64_t flags,
-                            const uint8_t *name, size_t name_length, uint32_t *actions, size_t actions_length);
+ * record is kept has its counters and backoffs again, and the groups that it now has. 0, or 6, 4, 5. */
+uint64_t hivepadlet_connect(uint64_t table[HIVEPADLET_CELLS], uint64_t time, uint64_t id, const uint64_t *groups,
+                            size_t groups_length, uint64_t flags, const uint8_t *name, size_t name_length, uint32_t *actions,
+                            size_t actions_length);
 
 /* A peer disconnects: it leaves every mesh and loses its subscriptions; its record is kept for the retain seconds, and as
  * long as a backoff runs. 0, or 3. */

@@ -12,6 +12,7 @@ static uint64_t before[HIVEPADLET_CELLS];
 static uint32_t actions[HIVEPADLET_ACTION_NUMBERS];
 static int64_t numbers[HIVEPADLET_NUMBERS];
 static uint64_t permutation[HIVEPADLET_SLOTS];
+static const uint64_t group[] = { 1 };
 static uint8_t names[HIVEPADLET_NAMES_BYTES];
 static uint8_t buffer[64];
 static uint8_t theirs[HIVEPADLET_SUPPLIER_BYTES + 1];
@@ -19,6 +20,7 @@ static unsigned passed, failed;
 
 #define LIST actions, HIVEPADLET_ACTION_NUMBERS
 #define NAME (const uint8_t *)"/meshsub/1.1.0", 14
+#define GROUP group, 1
 #define NAME_2 (const uint8_t *)"/meshsub/1.2.0", 14
 #define NAME_0 (const uint8_t *)"/meshsub/1.1.0", 0
 
@@ -140,20 +142,32 @@ static void second_edition(void)
     check("a router's table", hivepadlet_is_router(table) == 1);
 }
 
+/* one to four groups, each above the one before it and of 32 bits */
+static void groups_refused(void)
+{
+    static const uint64_t all[] = { 1, 2, 3, 4, 5 }, twice[] = { 1, 1 }, down[] = { 2, 1 }, wide[] = { 1, UINT64_C(1) << 32 };
+    refuses("no group", hivepadlet_connect(table, 5, 9, all, 0, 0, NAME, LIST), HIVEPADLET_OUT_OF_RANGE);
+    refuses("five groups", hivepadlet_connect(table, 5, 9, all, 5, 0, NAME, LIST), HIVEPADLET_OUT_OF_RANGE);
+    refuses("a group twice", hivepadlet_connect(table, 5, 9, twice, 2, 0, NAME, LIST), HIVEPADLET_OUT_OF_RANGE);
+    refuses("groups out of order", hivepadlet_connect(table, 5, 9, down, 2, 0, NAME, LIST), HIVEPADLET_OUT_OF_RANGE);
+    refuses("a group of 33 bits", hivepadlet_connect(table, 5, 9, wide, 2, 0, NAME, LIST), HIVEPADLET_OUT_OF_RANGE);
+}
+
 static void refusals(void)
 {
     answers("join", hivepadlet_join(table, 5, 0, LIST), HIVEPADLET_DONE, 0);
-    answers("connect", hivepadlet_connect(table, 5, 7, 1, 0, NAME, LIST), HIVEPADLET_DONE, 0);
+    answers("connect", hivepadlet_connect(table, 5, 7, GROUP, 0, NAME, LIST), HIVEPADLET_DONE, 0);
     stands();
     refuses("an early time", hivepadlet_decay(table, 4, LIST), HIVEPADLET_EARLY);
     refuses("topic 8", hivepadlet_leave(table, 5, 8, LIST), HIVEPADLET_OUT_OF_RANGE);
     refuses("P5 past its range", hivepadlet_rate(table, 5, 7, -1000000001, LIST), HIVEPADLET_OUT_OF_RANGE);
-    refuses("flags 4", hivepadlet_connect(table, 5, 9, 1, 4, NAME, LIST), HIVEPADLET_OUT_OF_RANGE);
+    refuses("flags 4", hivepadlet_connect(table, 5, 9, GROUP, 4, NAME, LIST), HIVEPADLET_OUT_OF_RANGE);
+    groups_refused();
     refuses("kind 4", hivepadlet_deliver(table, 5, 7, 0, 4, LIST), HIVEPADLET_OUT_OF_RANGE);
     refuses("an unknown id", hivepadlet_disconnect(table, 5, 8, LIST), HIVEPADLET_NOT_CONNECTED);
-    refuses("a connected id", hivepadlet_connect(table, 5, 7, 1, 0, NAME, LIST), HIVEPADLET_ALREADY_CONNECTED);
-    refuses("an unknown name", hivepadlet_connect(table, 5, 9, 1, 0, NAME_2, LIST), HIVEPADLET_UNKNOWN_PROTOCOL);
-    refuses("no name", hivepadlet_connect(table, 5, 9, 1, 0, NAME_0, LIST), HIVEPADLET_UNKNOWN_PROTOCOL);
+    refuses("a connected id", hivepadlet_connect(table, 5, 7, GROUP, 0, NAME, LIST), HIVEPADLET_ALREADY_CONNECTED);
+    refuses("an unknown name", hivepadlet_connect(table, 5, 9, GROUP, 0, NAME_2, LIST), HIVEPADLET_UNKNOWN_PROTOCOL);
+    refuses("no name", hivepadlet_connect(table, 5, 9, GROUP, 0, NAME_0, LIST), HIVEPADLET_UNKNOWN_PROTOCOL);
     refuses("no permutation", hivepadlet_heartbeat(table, 5, 0, 0, permutation, HIVEPADLET_SLOTS, LIST), HIVEPADLET_NOT_PERMUTATION);
     refuses("a number less", hivepadlet_decay(table, 5, actions, HIVEPADLET_ACTION_NUMBERS - 1), HIVEPADLET_LIST_SHORT);
     int64_t why[HIVEPADLET_WHY_NUMBERS] = { 41, 42, 43, 44, 45, 46 };
@@ -229,11 +243,11 @@ static void full(void)
 {
     uint64_t r = 0;
     for (uint64_t id = 100; id < 100 + HIVEPADLET_SLOTS - 1; id++) {
-        r |= hivepadlet_connect(table, 6, id, id, HIVEPADLET_OUTBOUND, NAME, LIST);
+        r |= hivepadlet_connect(table, 6, id, &id, 1, HIVEPADLET_OUTBOUND, NAME, LIST);
     }
     answers("all slots but one", r, HIVEPADLET_DONE, 0);
     stands();
-    refuses("one more", hivepadlet_connect(table, 6, 99, 0, 0, NAME, LIST), HIVEPADLET_NO_SLOT);
+    refuses("one more", hivepadlet_connect(table, 6, 99, GROUP, 0, NAME, LIST), HIVEPADLET_NO_SLOT);
 }
 
 /* names, the reader and the writer of messages: a join of topic 1 and a PRUNE of 60 s in topic 0 go out and come back */

@@ -24,12 +24,23 @@ static uint8_t names[HIVEPADLET_NAMES_BYTES], rpc[HIVEPADLET_WRITTEN_BYTES];
 static uint32_t prunes[3 * HIVEPADLET_MESSAGE_ACTIONS];
 static uint64_t topics[HIVEPADLET_MESSAGE_ACTIONS], joins[2 * HIVEPADLET_TOPICS], entries[HIVEPADLET_ENTRY_NUMBERS];
 static uint64_t answer;
+static uint64_t groups[HIVEPADLET_GROUPS];
 
 #define LIST actions, HIVEPADLET_ACTION_NUMBERS
 #define NAME (const uint8_t *)"/meshsub/1.1.0", 14
 
+/* four groups that no other peer has */
+static const uint64_t *own(uint64_t id)
+{
+    size_t k;
+
+    for (k = 0; k < HIVEPADLET_GROUPS; k++)
+        groups[k] = 1000 * k + id;
+    return groups;
+}
+
 static void nothing(void) { answer = 0; }
-static void connect(void) { answer = hivepadlet_connect(table, 1, PEERS + 1, 1, 1, NAME, LIST); }
+static void connect(void) { answer = hivepadlet_connect(table, 1, PEERS + 1, own(PEERS + 1), HIVEPADLET_GROUPS, 1, NAME, LIST); }
 static void subscribe(void) { answer = hivepadlet_subscribe(table, 1, PEERS + 1, 0, LIST); }
 static void graft(void) { answer = hivepadlet_graft(table, 1, PEERS + 1, 0, LIST); }
 static void deliver(void) { answer = hivepadlet_deliver(table, 1, PEERS + 1, 0, 1, LIST); }
@@ -117,7 +128,7 @@ static void prepare(void)
     hivepadlet_fresh(numbers, HIVEPADLET_EDITION_1, table);
     hivepadlet_join(table, 0, 0, LIST);
     for (id = 1; id <= PEERS; id++) {
-        hivepadlet_connect(table, 0, id, id, 1, NAME, LIST);
+        hivepadlet_connect(table, 0, id, own(id), HIVEPADLET_GROUPS, 1, NAME, LIST);
         hivepadlet_subscribe(table, 0, id, 0, LIST);
         hivepadlet_graft(table, 0, id, 0, LIST);
     }

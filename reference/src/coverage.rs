@@ -7,9 +7,9 @@ mod traces;
 
 pub use answers::Answers;
 
-use crate::event::{Call, Event, CALL_NAMES};
+use crate::event::{Call, Event, CALL_NAMES, GROUPS};
 use crate::params::{self, topic, Edition, Params};
-use crate::router::{number, Answer, GraftCase, Place, Refusal, Router, Why};
+use crate::router::{number, Answer, GraftCase, Peer, Place, Refusal, Router, Status, Why};
 use crate::trace::TraceEdition;
 use std::collections::BTreeMap;
 use std::fmt::Write;
@@ -19,12 +19,18 @@ use std::fmt::Write;
 const REACHABLE: [u32; 9] = [0, 1, 2, 3, 4, 5, 6, 7, 11];
 
 /// The cases that every run reaches.
-const CASES: [&str; 41] = [
+const CASES: [&str; 50] = [
     "connect: fresh slot",
     "connect: resumed record",
     "connect: own record reclaimed",
     "connect: other records reclaimed",
     "connect: a record reclaimed in a backoff's slack",
+    "connect: one group",
+    "connect: four groups",
+    "connect: resumed with other groups",
+    "connect: no group",
+    "connect: a group twice",
+    "connect: groups out of order",
     "disconnect: member",
     "leave: PRUNEs",
     "leave: P3b grows",
@@ -57,6 +63,9 @@ const CASES: [&str; 41] = [
     "score: negative",
     "score: positive",
     "score: P6 counts",
+    "score: P6 counts several groups",
+    "score: P6 counts some of its groups",
+    "score: a retained peer holds a group of a surplus",
     "score: the cap cuts",
     "score: P5 counts",
     "score: P7 counts",
@@ -87,7 +96,8 @@ impl Coverage {
     /// heartbeat tell refusals as well.
     pub fn count_call(&mut self, event: &Event, answer: &Answer, cases: &[String]) {
         self.answers.count(event.call.kind(), number(answer));
-        let heard = matches!(answer, Ok(_) | Err(Refusal::Ignored));
+        // What is out of range has no cases but those that say so.
+        let heard = matches!(answer, Ok(_) | Err(Refusal::Ignored | Refusal::OutOfRange));
         if heard || matches!(event.call, Call::Heartbeat { .. }) {
             for case in cases {
                 *self.cases.entry(case.clone()).or_default() += 1;
@@ -213,10 +223,17 @@ pub fn of_edition_2(case: &str) -> bool {
         || heartbeat.is_some_and(|case| heartbeat::EDITION_2_CASES.contains(&case))
 }
 
-/// The names of an event's numbers after kind and time, in the trace's order.
+/// How many groups a connect has, in an edition that counts them.
+pub const GROUP_COUNT: &str = "group count";
+
+/// A connect that counts more groups than a record holds.
+pub const MANY_GROUPS: &str = "a group count above four";
+
+/// The names of an event's numbers after kind and time, in the trace's order. A connect
+/// has a number for each group.
 fn argument_names(kind: u64) -> &'static [&'static str] {
     match kind {
-        1 => &["id", "group", "flags", "name length", "name"],
+        1 => &["id", GROUP_COUNT, "group", "flags", "name length", "name"],
         2 | 13 => &["id"],
         3 | 4 => &["topic"],
         5..=7 => &["id", "topic"],
@@ -229,8 +246,15 @@ fn argument_names(kind: u64) -> &'static [&'static str] {
 }
 
 /// What a piece of an event's bytes is.
-pub fn piece_name(call: &Call, place: usize) -> &'static str {
-    let names = argument_names(call.kind());
+pub fn piece_name(edition: TraceEdition, call: &Call, place: usize) -> &'static str {
+    let mut names = argument_names(call.kind()).to_vec();
+    if let Call::Connect { groups, .. } = call {
+        let counted = edition.counts_groups();
+        let groups = if counted { groups.len() } else { 1 };
+        names.splice(1..3, [GROUP_COUNT].into_iter().take(usize::from(counted)));
+        let from = 1 + usize::from(counted);
+        names.splice(from..from, std::iter::repeat_n("group", groups));
+    }
     match place {
         0 => "kind",
         1 => "time",
@@ -239,10 +263,10 @@ pub fn piece_name(call: &Call, place: usize) -> &'static str {
 }
 
 /// How bad bytes in one piece are counted.
-pub fn bad_bytes(call: &Call, place: usize) -> String {
+pub fn bad_bytes(edition: TraceEdition, call: &Call, place: usize) -> String {
     match place {
         0 => "bad kind".to_string(),
-        _ => format!("bad {} {}", call.name(), piece_name(call, place)),
+        _ => format!("bad {} {}", call.name(), piece_name(edition, call, place)),
     }
 }
 
@@ -252,7 +276,7 @@ fn stops() -> impl Iterator<Item = String> {
         let told = ["answer 9", "answer 10", "the rule on D_score"];
         told.map(|what| format!("parameters of edition {}, {what}", edition.number()))
     });
-    let fixed = [OTHER_FRONT, "unknown kind", "bad kind"];
+    let fixed = [OTHER_FRONT, MANY_GROUPS, "unknown kind", "bad kind"];
     let calls = CALL_NAMES.iter().zip(1..).flat_map(|(name, kind)| {
         let pieces = ["time"].iter().chain(argument_names(kind));
         pieces.map(move |piece| format!("bad {name} {piece}"))
@@ -274,11 +298,14 @@ pub fn cases(router: &Router, event: &Event) -> Vec<String> {
         let cases = heartbeat::cases(router, event);
         return cases.into_iter().map(|case| format!("heartbeat: {case}")).collect();
     }
-    if !event.in_range() || event.now < router.clock {
+    if event.now < router.clock {
         return Vec::new();
     }
+    if !event.in_range() {
+        return named(event, refused_groups(event));
+    }
     let facts = match event.call {
-        Call::Connect { id, .. } => connect_cases(router, id as u32, event.now),
+        Call::Connect { id, ref groups, .. } => connect_cases(router, id as u32, groups, event.now),
         Call::Leave { topic } => leave_cases(router, topic as usize),
         Call::Disconnect { id }
         | Call::Unsubscribe { id, .. }
@@ -291,6 +318,11 @@ pub fn cases(router: &Router, event: &Event) -> Vec<String> {
         },
         _ => Vec::new(),
     };
+    named(event, facts)
+}
+
+/// The cases that hold, with the call's name.
+fn named(event: &Event, facts: Facts) -> Vec<String> {
     let held = facts.into_iter().filter(|(_, holds)| *holds);
     held.map(|(case, _)| format!("{}: {case}", event.call.name())).collect()
 }
@@ -301,13 +333,35 @@ fn fact(case: &str, holds: bool) -> (String, bool) {
     (case.to_string(), holds)
 }
 
-fn connect_cases(router: &Router, id: u32, now: u64) -> Facts {
+/// What is wrong with the groups of a connect that would else be in range.
+fn refused_groups(event: &Event) -> Facts {
+    let Call::Connect { id, ref groups, flags, ref name } = event.call else { return Vec::new() };
+    let with_one = Call::Connect { id, groups: vec![1], flags, name: name.clone() };
+    if !(Event { now: event.now, call: with_one }).in_range() {
+        return Vec::new();
+    }
+    let any = |wrong: fn(u64, u64) -> bool| groups.windows(2).any(|pair| wrong(pair[0], pair[1]));
+    vec![
+        fact("no group", groups.is_empty()),
+        fact("a group twice", any(|first, second| first == second)),
+        fact("groups out of order", any(|first, second| first > second)),
+    ]
+}
+
+fn connect_cases(router: &Router, id: u32, groups: &[u64], now: u64) -> Facts {
     let place = router.place_for(id, now);
     let reclaimed = router.reclaimable_slots(now);
     let own = |slot: &usize| router.peers[*slot].id == id;
     let ends = |slot: usize| router.peers[slot].backoff_ends.iter();
     let in_slack = |slot: &usize| ends(*slot).any(|&end| heartbeat::in_slack(end, now));
+    let other = |slot: usize| router.peers[slot].groups().map(u64::from).ne(groups.iter().copied());
     vec![
+        fact("one group", groups.len() == 1),
+        fact("four groups", groups.len() == GROUPS),
+        fact(
+            "resumed with other groups",
+            matches!(place, Some(Place::Resumed(slot)) if other(slot)),
+        ),
         fact("fresh slot", matches!(place, Some(Place::Fresh(_)))),
         fact("resumed record", matches!(place, Some(Place::Resumed(_)))),
         fact("own record reclaimed", reclaimed.iter().any(own)),
@@ -340,13 +394,26 @@ fn peer_cases(router: &Router, slot: usize, event: &Event) -> Facts {
             ]
         }
         Call::Delivery { topic, kind, .. } => delivery_cases(router, slot, topic as usize, kind),
-        _ => score_cases(&router.why(slot)),
+        _ => score_cases(router, slot),
     }
 }
 
-fn score_cases(why: &Why) -> Facts {
-    let Why { total, capped, p5, p6, p7 } = *why;
+fn score_cases(router: &Router, slot: usize) -> Facts {
+    let why = router.why(slot);
+    let Why { total, capped, p5, p6, p7 } = why;
+    let threshold = router.params.general(params::general::P6_THRESHOLD);
+    let peer = &router.peers[slot];
+    let over = |&group: &u32| router.sharing(group) > threshold;
+    let paid: Vec<u32> = peer.groups().filter(over).collect();
+    let kept =
+        |other: &Peer| other.status == Status::Retained && paid.iter().any(|&g| other.holds(g));
     vec![
+        fact("P6 counts several groups", paid.len() > 1),
+        fact(
+            "P6 counts some of its groups",
+            !paid.is_empty() && paid.len() < peer.groups().count(),
+        ),
+        fact("a retained peer holds a group of a surplus", router.peers.iter().any(kept)),
         fact("negative", why.score() < 0),
         fact("positive", why.score() > 0),
         fact("P6 counts", p6 < 0),

@@ -11,6 +11,10 @@ pub const SLOTS: usize = 256;
 /// edition 1 orders.
 pub const OLD_SLOTS: usize = 64;
 
+/// Address groups that a record may hold (order 11 of 02: "one to four different address
+/// groups").
+pub const GROUPS: usize = 4;
+
 /// Times are milliseconds, 0 to 2^40.
 pub const LAST_TIME: u64 = 1 << 40;
 
@@ -39,7 +43,8 @@ pub struct Event {
 pub enum Call {
     Connect {
         id: u64,
-        group: u64,
+        /// The address groups, lowest first.
+        groups: Vec<u64>,
         flags: u64,
         name: Vec<u8>,
     },
@@ -137,8 +142,8 @@ impl Event {
     /// range, and a permutation has an answer of its own.
     pub fn in_range(&self) -> bool {
         let arguments = match self.call {
-            Call::Connect { id, group, flags, .. } => {
-                is_id(id) && u32::try_from(group).is_ok() && flags <= OUTBOUND_FLAG + EXPLICIT_FLAG
+            Call::Connect { id, ref groups, flags, .. } => {
+                is_id(id) && are_groups(groups) && flags <= OUTBOUND_FLAG + EXPLICIT_FLAG
             }
             Call::Disconnect { id } | Call::Score { id } => is_id(id),
             Call::Join { topic } | Call::Leave { topic } => is_topic(topic),
@@ -159,6 +164,14 @@ impl Event {
 
 fn is_id(id: u64) -> bool {
     id != 0 && u32::try_from(id).is_ok()
+}
+
+/// Order 11 of 02: "lowest first; repeated or unsorted groups, or none, give 2". More than
+/// a record holds are 2 as well, and so is a group past 32 bits.
+fn are_groups(groups: &[u64]) -> bool {
+    let in_range = groups.iter().all(|&group| u32::try_from(group).is_ok());
+    let rising = groups.windows(2).all(|pair| pair[0] < pair[1]);
+    (1..=GROUPS).contains(&groups.len()) && in_range && rising
 }
 
 fn is_topic(topic: u64) -> bool {

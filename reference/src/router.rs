@@ -11,7 +11,7 @@ pub use connection::Place;
 pub use control::GraftCase;
 pub use heartbeat::{is_permutation, Plan, Swap};
 pub use score::Why;
-pub use tables::{Peer, Status, TopicRecord, Version, GRAFT_SLACK};
+pub use tables::{Groups, Peer, Status, TopicRecord, Version, GRAFT_SLACK};
 
 use crate::event::{Call, Event, SLOTS};
 use crate::params::{self, general, Params, TOPICS};
@@ -112,8 +112,8 @@ impl Router {
     fn dispatch(&mut self, event: &Event, actions: &mut Actions) -> Result<Option<Done>, Refusal> {
         let now = event.now;
         match event.call {
-            Call::Connect { id, group, flags, ref name } => {
-                self.connect(now, id as u32, group as u32, flags, name)
+            Call::Connect { id, ref groups, flags, ref name } => {
+                self.connect(now, id as u32, groups, flags, name)
             }
             Call::Disconnect { id } => self.disconnect(now, id as u32),
             Call::Join { topic } => self.join(topic as usize),

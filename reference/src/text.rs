@@ -2,13 +2,14 @@
 //! fields stand in a fixed order:
 //!
 //! ```text
-//! trace edition 2                  # of the trace; without this line edition 1
+//! trace edition 2                  # of the trace, or 3; without this line edition 1
 //! edition 2                        # of the parameters; without this line edition 1
 //! params ordinary                  # or: params none (no parameters at all)
 //! param D_hi 12                    # overrides a general number by name
 //! topic 0 weight 500               # overrides a topic's number by name
 //! connect time=5 id=7 group=1 inbound /meshsub/1.1.0
 //! connect time=5 id=8 group=1 outbound explicit /meshsub/1.0.0
+//! connect time=5 id=9 groups=1,4 inbound /meshsub/1.1.0    # in edition 3, or groups=none
 //! disconnect time=5 id=7
 //! join time=5 topic=0
 //! leave time=5 topic=0
@@ -147,8 +148,9 @@ pub fn print_line(edition: TraceEdition, line: &Line) -> String {
 
 fn print_event(edition: TraceEdition, Event { now, call }: &Event) -> String {
     match call {
-        Call::Connect { id, group, flags, name } => format!(
-            "connect time={now} id={id} group={group} {} {}",
+        Call::Connect { id, groups, flags, name } => format!(
+            "connect time={now} id={id} {} {} {}",
+            print_groups(edition, groups),
             print_flags(*flags),
             print_name(name)
         ),
@@ -174,6 +176,18 @@ fn print_event(edition: TraceEdition, Event { now, call }: &Event) -> String {
         Call::Score { id } => format!("score time={now} id={id}"),
     }
 }
+
+fn print_groups(edition: TraceEdition, groups: &[u64]) -> String {
+    let words: Vec<String> = groups.iter().map(u64::to_string).collect();
+    match words.first() {
+        None => format!("groups={NO_GROUPS}"),
+        Some(group) if groups.len() == 1 || !edition.counts_groups() => format!("group={group}"),
+        _ => format!("groups={}", words.join(",")),
+    }
+}
+
+/// In the place of groups, where there are none.
+const NO_GROUPS: &str = "none";
 
 fn print_flags(flags: u64) -> String {
     match flags {
@@ -308,7 +322,7 @@ pub fn parse(text: &str) -> Result<Trace, TextError> {
 }
 
 const START: &str = "a trace starts with `params ordinary` or `params none`; before them \
-    `trace edition 2` may stand, and `edition 2` before the first";
+    `trace edition 2` or 3 may stand, and `edition 2` before the first";
 
 /// The lines up to `params`.
 fn parse_start(
@@ -415,7 +429,7 @@ fn parse_call(edition: TraceEdition, word: &str, rest: &mut Words) -> Result<Cal
     Ok(match word {
         "connect" => Call::Connect {
             id,
-            group: rest.field("group")?,
+            groups: rest.groups(edition)?,
             flags: rest.flags()?,
             name: rest.name()?,
         },
@@ -475,6 +489,21 @@ impl<'a> Words<'a> {
 
     fn field<T: std::str::FromStr>(&mut self, name: &str) -> Result<T, String> {
         parse_number(self.value(name)?)
+    }
+
+    /// One group in every edition, and any number of them in one that counts them.
+    fn groups(&mut self, edition: TraceEdition) -> Result<Vec<u64>, String> {
+        let several = self.words.first().is_some_and(|word| word.starts_with("groups="));
+        if !several {
+            return Ok(vec![self.field("group")?]);
+        }
+        if !edition.counts_groups() {
+            return Err("a connect has one group before edition 3 of a trace".to_string());
+        }
+        match self.value("groups")? {
+            NO_GROUPS => Ok(Vec::new()),
+            groups => groups.split(',').map(parse_number).collect(),
+        }
     }
 
     fn flags(&mut self) -> Result<u64, String> {

@@ -1,8 +1,8 @@
 //! 01, "The trace program": parameters, then events, as bytes; one line an
 //! answer, an action or a score (order 5 of 02: "The trace prints the five after S,
-//! then the score"). Traces come in editions (order 9 of 02).
+//! then the score"). Traces come in editions (orders 9 and 11 of 02).
 
-use crate::event::{by_slot, Call, Event, Permutation, OLD_SLOTS, SLOTS};
+use crate::event::{by_slot, Call, Event, Permutation, GROUPS, OLD_SLOTS, SLOTS};
 use crate::groups;
 use crate::params::{self, Params, Refusal};
 use crate::router::{number, Answer, Done, Router, ACTION_LIST, GRAFT};
@@ -20,16 +20,18 @@ pub enum Stop {
 
 /// Order 9 of 02: "Trace and saved forms get edition 2, a trace by two zero bytes and
 /// then 2 in front of its sheet ..; edition 1 is still read: an old draw orders slots
-/// 0..63 and the others follow by slot". This edition is not that of the parameters.
+/// 0..63 and the others follow by slot". Order 11: "A trace with a count and groups in its
+/// connect is edition 3". This edition is not that of the parameters.
 #[derive(Clone, Copy, PartialEq, Eq, PartialOrd, Ord, Debug, Default)]
 pub enum TraceEdition {
     #[default]
     One = 1,
     Two = 2,
+    Three = 3,
 }
 
 impl TraceEdition {
-    pub const ALL: [TraceEdition; 2] = [TraceEdition::One, TraceEdition::Two];
+    pub const ALL: [TraceEdition; 3] = [TraceEdition::One, TraceEdition::Two, TraceEdition::Three];
 
     pub fn number(self) -> u32 {
         self as u32
@@ -40,6 +42,7 @@ impl TraceEdition {
         match self {
             TraceEdition::One => &[],
             TraceEdition::Two => &[0x00, 0x00, 0x02],
+            TraceEdition::Three => &[0x00, 0x00, 0x03],
         }
     }
 
@@ -47,8 +50,13 @@ impl TraceEdition {
     pub fn permuted(self) -> usize {
         match self {
             TraceEdition::One => OLD_SLOTS,
-            TraceEdition::Two => SLOTS,
+            TraceEdition::Two | TraceEdition::Three => SLOTS,
         }
+    }
+
+    /// Whether a connect tells how many groups it has; else it has one.
+    pub fn counts_groups(self) -> bool {
+        self == TraceEdition::Three
     }
 
     /// The edition that bytes are in: two zero bytes are a front's, and the third tells
@@ -58,6 +66,7 @@ impl TraceEdition {
         match rest.first() {
             None => Err(Refusal { number: 10, place: THIRD_BYTE }),
             Some(0x02) => Ok(TraceEdition::Two),
+            Some(0x03) => Ok(TraceEdition::Three),
             Some(_) => Err(Refusal { number: 9, place: THIRD_BYTE }),
         }
     }
@@ -174,6 +183,15 @@ impl Reader<'_> {
         Ok(name.to_vec())
     }
 
+    /// "A count above four there prints 10 0 and stops"; a count of 0 reaches the call.
+    fn groups(&mut self) -> Result<Vec<u64>, Stop> {
+        let count = if self.edition.counts_groups() { self.unsigned()? } else { 1 };
+        if count > GROUPS as u64 {
+            return Err(Stop::BadBytes);
+        }
+        (0..count).map(|_| self.unsigned()).collect()
+    }
+
     /// The slots that an old permutation does not order follow by slot; it is one
     /// exactly if it is each of 0..63 once.
     fn permutation(&mut self) -> Result<Box<Permutation>, Stop> {
@@ -190,7 +208,7 @@ impl Reader<'_> {
         Ok(match kind {
             1 => Call::Connect {
                 id: self.unsigned()?,
-                group: self.unsigned()?,
+                groups: self.groups()?,
                 flags: self.unsigned()?,
                 name: self.name()?,
             },
@@ -224,7 +242,7 @@ impl Reader<'_> {
 }
 
 /// An event as bytes. Edition 1 has no room for slots past the old ones, which follow by
-/// slot where it is read.
+/// slot where it is read; a connect has one group before edition 3, its first.
 pub fn write_event(edition: TraceEdition, event: &Event) -> Vec<u8> {
     event_pieces(edition, event).concat()
 }
@@ -234,13 +252,17 @@ pub fn write_event(edition: TraceEdition, event: &Event) -> Vec<u8> {
 pub fn event_pieces(edition: TraceEdition, event: &Event) -> Vec<Vec<u8>> {
     let mut pieces = vec![unsigned(event.call.kind()), unsigned(event.now)];
     let arguments = match &event.call {
-        Call::Connect { id, group, flags, name } => vec![
-            unsigned(*id),
-            unsigned(*group),
-            unsigned(*flags),
-            unsigned(name.len() as u64),
-            name.clone(),
-        ],
+        Call::Connect { id, groups, flags, name } => {
+            let mut pieces = vec![unsigned(*id)];
+            if edition.counts_groups() {
+                pieces.push(unsigned(groups.len() as u64));
+                pieces.extend(groups.iter().map(|&group| unsigned(group)));
+            } else {
+                pieces.push(unsigned(groups.first().copied().unwrap_or_default()));
+            }
+            pieces.extend([unsigned(*flags), unsigned(name.len() as u64), name.clone()]);
+            pieces
+        }
         Call::Disconnect { id } | Call::Score { id } => vec![unsigned(*id)],
         Call::Join { topic } | Call::Leave { topic } => vec![unsigned(*topic)],
         Call::Subscribe { id, topic }

@@ -26,7 +26,11 @@ fn call(router: &mut Router, now: u64, call: Call) -> (u32, Vec<[u32; 3]>) {
 }
 
 fn connect(id: u64, flags: u64) -> Call {
-    Call::Connect { id, group: id, flags, name: V11.to_vec() }
+    connect_in(id, &[id], flags)
+}
+
+fn connect_in(id: u64, groups: &[u64], flags: u64) -> Call {
+    Call::Connect { id, groups: groups.to_vec(), flags, name: V11.to_vec() }
 }
 
 /// Connected peers that are subscribed to topic 0, which is joined.
@@ -322,7 +326,7 @@ fn a_score_says_its_parts() {
     let mut router = router(&[(general::P6_THRESHOLD, 1), (general::W5, 2)]);
     for id in [19, 20, 21] {
         let name = V11.to_vec();
-        call(&mut router, 0, Call::Connect { id, group: 9, flags: 0, name });
+        call(&mut router, 0, Call::Connect { id, groups: vec![9], flags: 0, name });
     }
     for k in 0..8 {
         router.peers[0].topics[k].p2 = 20_000;
@@ -365,7 +369,7 @@ fn order_of_tests() {
         permutation[0] = 1;
         Call::Heartbeat { topic, ask: 0, permutation }
     };
-    let unknown = Call::Connect { id: 1, group: 0, flags: 0, name: b"/meshsub".to_vec() };
+    let unknown = Call::Connect { id: 1, groups: vec![0], flags: 0, name: b"/meshsub".to_vec() };
     assert_eq!(answer(&mut router, LAST_TIME + 1, Call::Decay, 0), 2);
     assert_eq!(answer(&mut router, 99, Call::Decay, ACTION_LIST - 1), 8);
     assert_eq!(answer(&mut router, 99, damaged(0), ACTION_LIST), 1);
@@ -437,7 +441,7 @@ fn a_group_of_256() {
     assert_eq!(threshold(257).first_broken(), Some(15));
     for (number, points) in [(256, 0), (255, -5), (64, -5 * 192 * 192), (1, -5 * 255 * 255)] {
         let mut router = gathered_with(threshold(number), 256, 0);
-        router.peers.iter_mut().for_each(|peer| peer.group = 1);
+        router.peers.iter_mut().for_each(|peer| peer.groups = [Some(1), None, None, None]);
         assert_eq!(router.why(255).numbers()[3], points * 1_000_000_000);
     }
 }
@@ -445,7 +449,7 @@ fn a_group_of_256() {
 #[test]
 fn no_score_passes_the_bound() {
     // 01: "No score passes 2.6 × 10^18 either way". By topic 1000 * (-100 * 10^12 for each of P3, P3b and P4),
-    // then P5, the surplus of 255, and P7.
+    // then P5, the surplus of 255 in each of four groups, and P7.
     let mut changes = vec![
         (general::TOPIC_CAP, 0),
         (general::W5, 100),
@@ -463,7 +467,7 @@ fn no_score_passes_the_bound() {
     router.joined = [true; 8];
     router.clock = 1;
     for peer in &mut router.peers {
-        peer.group = 1;
+        peer.groups = [Some(0), Some(1), Some(7), Some(u32::MAX)];
         peer.p5 = -1_000_000_000;
         peer.p7 = 1_000_000;
         for record in &mut peer.topics {
@@ -472,11 +476,88 @@ fn no_score_passes_the_bound() {
         }
     }
     assert!(router.is_valid());
-    let (topics, p5, p6, p7) = (-24, -1_000_000, -65_025 * 1000, -1_000_000_000);
+    let (topics, p5, p6, p7) = (-24, -1_000_000, -4 * 65_025 * 1000, -1_000_000_000);
     let score = topics * 100_000_000_000_000_000 + (p5 + p6 + p7) * 100_000_000;
-    assert_eq!(score, -2_506_602_500_000_000_000);
+    assert_eq!(score, -2_526_110_000_000_000_000);
     assert_eq!(router.score(255), score);
     assert_eq!(router.scores(), [score; SLOTS]);
+}
+
+#[test]
+fn groups_that_are_2() {
+    // 02, order 11: "lowest first; repeated or unsorted groups, or none, give 2".
+    let wide = 1 << 32;
+    let wrong: [&[u64]; 11] = [
+        &[],
+        &[1, 1],
+        &[2, 1],
+        &[1, 2, 2],
+        &[1, 3, 2],
+        &[1, 2, 3, 3],
+        &[0, 0],
+        &[wide],
+        &[1, wide],
+        &[0, 1, 2, 3, 4],
+        &[4, 3, 2, 1, 0],
+    ];
+    let fresh = router(&[]);
+    for groups in wrong {
+        let mut router = fresh.clone();
+        assert_eq!(call(&mut router, 7, connect_in(1, groups, 0)).0, 2, "{groups:?}");
+        assert_eq!(router, fresh);
+    }
+    let right: [&[u64]; 4] = [&[0], &[0, u32::MAX as u64], &[5, 6, 7], &[0, 1, 2, 3]];
+    for groups in right {
+        let mut router = fresh.clone();
+        assert_eq!(call(&mut router, 7, connect_in(1, groups, 0)).0, 0, "{groups:?}");
+        assert!(router.peers[0].groups().map(u64::from).eq(groups.iter().copied()));
+        assert!(router.is_valid());
+    }
+}
+
+#[test]
+fn p6_sums_over_the_groups() {
+    // Threshold 2, w6 -5. Group 1 has four peers, group 2 three, group 3 one, group 4 two.
+    let mut router = router(&[(general::P6_THRESHOLD, 2)]);
+    let peers: [&[u64]; 5] = [&[1, 2, 3], &[1, 2], &[1, 2, 4], &[1], &[4]];
+    for (id, groups) in (1..).zip(peers) {
+        assert_eq!(call(&mut router, 0, connect_in(id, groups, 0)).0, 0);
+    }
+    // "The squared surplus" of each group: 2^2 and 1^2, and not (2 + 1)^2.
+    let p6 = |router: &Router| [0, 1, 2, 3, 4].map(|slot| router.why(slot).p6 / 1_000_000_000);
+    assert_eq!(p6(&router), [-25, -25, -25, -20, 0]);
+    assert_eq!(router.scores()[..5], [0, 1, 2, 3, 4].map(|slot| router.score(slot)));
+    // A retained record keeps its groups and does not count.
+    assert_eq!(call(&mut router, 0, Call::Disconnect { id: 2 }).0, 0);
+    assert_eq!(router.peers[1].groups, [Some(1), Some(2), None, None]);
+    let [first, _, third, fourth, fifth] = p6(&router);
+    assert_eq!([first, third, fourth, fifth], [-5, -5, -5, 0]);
+    // Resumed with other groups: group 2 has two now, group 4 three.
+    assert_eq!(call(&mut router, 0, connect_in(2, &[4], 0)).0, 0);
+    assert_eq!(p6(&router), [-5, -5, -10, -5, -5]);
+}
+
+#[test]
+fn test_12_asks_the_groups() {
+    let mut router = gathered(1, 0);
+    let valid = |router: &mut Router, groups| {
+        router.peers[0].groups = groups;
+        router.is_valid()
+    };
+    for status in [Status::Connected, Status::Retained] {
+        router.peers[0].status = status;
+        router.peers[0].topics[0].subscribed = status == Status::Connected;
+        assert!(valid(&mut router, [Some(0), None, None, None]));
+        assert!(valid(&mut router, [Some(0), Some(1), Some(2), Some(u32::MAX)]));
+        assert!(!valid(&mut router, [None; 4]), "none");
+        assert!(!valid(&mut router, [None, Some(1), None, None]), "none in front");
+        assert!(!valid(&mut router, [Some(1), None, Some(2), None]), "a gap");
+        assert!(!valid(&mut router, [Some(1), Some(1), None, None]), "twice");
+        assert!(!valid(&mut router, [Some(1), Some(3), Some(2), None]), "out of order");
+        assert!(!valid(&mut router, [Some(1), Some(2), Some(3), Some(3)]), "the last twice");
+    }
+    router.peers[1].groups[0] = Some(0);
+    assert!(!router.is_valid(), "of an empty record");
 }
 
 #[test]
@@ -513,10 +594,11 @@ fn resumed_record() {
     assert_eq!((retained.status, retained.retain_end), (Status::Retained, 3_600_001));
     assert_eq!(call(&mut router, 2, Call::Score { id: 1 }).0, 3);
     let name = b"/meshsub/1.0.0".to_vec();
-    call(&mut router, 3, Call::Connect { id: 1, group: 8, flags: 3, name });
+    call(&mut router, 3, Call::Connect { id: 1, groups: vec![8, 9], flags: 3, name });
     let peer = &router.peers[0];
     assert_eq!((peer.status, peer.retain_end, peer.p5), (Status::Connected, 0, 5));
-    assert_eq!((peer.group, peer.outbound, peer.explicit), (8, true, true));
+    assert_eq!(peer.groups, [Some(8), Some(9), None, None]);
+    assert_eq!((peer.outbound, peer.explicit), (true, true));
     assert_eq!((peer.version, peer.topics[0].p2, peer.topics[0].p3), (Version::V10, 1000, 1000));
     assert!(!peer.topics[0].subscribed && !peer.topics[0].member);
 }

@@ -137,7 +137,7 @@ fn traces_of_edition_2() {
     assert_eq!(trace::run(&[0x00, 0x00]), "10 2\n");
     assert_eq!(trace::run(&[0x00]), "10 1\n");
     let bare = Params::ordinary().to_bytes();
-    for third in (0..=255).filter(|&third| third != 2) {
+    for third in (0..=255).filter(|third| ![2, 3].contains(third)) {
         assert_eq!(trace::run(&[0x00, 0x00, third]), "9 2\n");
         assert_eq!(trace::run(&[&[0x00, 0x00, third], &bare[..]].concat()), "9 2\n");
     }
@@ -161,6 +161,59 @@ fn places_behind_a_front() {
     let bare = Params::ordinary().to_bytes();
     let twice = [&[0x00, 0x00, 0x02, 0x00, 0x00, 0x02], &bare[..]].concat();
     assert_eq!(trace::run(&twice), "9 0\n");
+}
+
+#[test]
+fn traces_of_edition_3() {
+    // "A trace with a count and groups in its connect is edition 3."
+    let start = "trace edition 3\nparams ordinary\n";
+    let example = format!("trace edition 3\n{WORKED_EXAMPLE}");
+    assert_eq!(encoded(&example)[..3], [0x00, 0x00, 0x03]);
+    assert_eq!(run(&example), EXPECTED);
+    let two = format!("{start}connect time=0 id=7 groups=1,300 outbound /meshsub/1.1.0\n");
+    let name = b"/meshsub/1.1.0";
+    let bytes = [&[0x01, 0x00, 0x07, 0x02, 0x01, 0xAC, 0x02, 0x01, 14], &name[..]].concat();
+    assert!(encoded(&two).ends_with(&bytes));
+    assert_eq!(run(&two), "0 0\n");
+    let with = |bytes: &str| run(&format!("{start}bytes 01 00 07 {bytes} 00 00\ndecay time=0\n"));
+    // An empty name is 6; a count of 0 reaches the call and is 2, and so are groups out of order.
+    assert_eq!(with("01 05"), "6 0\n0 0\n");
+    assert_eq!(with("04 01 02 03 04"), "6 0\n0 0\n");
+    assert_eq!(with("00"), "2 0\n0 0\n");
+    assert_eq!(with("02 05 05"), "2 0\n0 0\n");
+    assert_eq!(with("02 05 04"), "2 0\n0 0\n");
+    // "A count above four there prints 10 0 and stops."
+    assert_eq!(with("05 01 02 03 04 05"), "10 0\n");
+    assert_eq!(with("ff ff ff ff ff ff ff ff ff 01"), "10 0\n");
+    // Editions 1 and 2 have one group.
+    for start in ["", "trace edition 2\n"] {
+        let text = format!("{start}params ordinary\nbytes 01 00 07 05 00 00\n");
+        assert_eq!(run(&text), "6 0\n");
+    }
+    // Places behind the front, and both fronts.
+    assert_eq!(trace::run(&[0x00, 0x00, 0x03]), "10 3\n");
+    assert_eq!(trace::run(&[0x00, 0x00, 0x03, 0x00, 0x02]), "10 5\n");
+    assert_eq!(sixty_six("trace edition 3\n", "255-0"), "0 3\nG 66\nG 65\nG 4\n");
+}
+
+#[test]
+fn groups_as_text() {
+    let line = |edition: u32, groups: &str| {
+        let connect = format!("connect time=0 id=7 {groups} inbound /meshsub/1.1.0");
+        let text = format!("trace edition {edition}\nparams ordinary\n{connect}\n");
+        let trace = text::parse(&text).ok()?;
+        assert_eq!(Trace::from_bytes(&trace.to_bytes()), trace);
+        text::print(&trace).lines().last().map(|line| line == connect)
+    };
+    for groups in ["group=5", "groups=1,2", "groups=1,2,3,4", "groups=none", "groups=2,2"] {
+        assert_eq!(line(3, groups), Some(true), "{groups}");
+    }
+    assert_eq!(line(3, "groups=5"), Some(false), "told as group=5");
+    assert_eq!(line(2, "group=5"), Some(true));
+    for groups in ["groups=5", "groups=none", "groups=1,2"] {
+        assert_eq!(line(2, groups), None, "{groups}");
+    }
+    assert_eq!(line(3, "groups="), None);
 }
 
 /// 66 connected peers, of which those of the slots 3, 64 and 65 are subscribed; then a heartbeat.
@@ -280,7 +333,7 @@ fn text_errors_name_the_line() {
     assert_eq!(line("params ordinary\nedition 2\n"), Err(2));
     assert_eq!(line("edition 2\n"), Err(1));
     assert_eq!(line("params ordinary\ndecay time=0 more\n"), Err(2));
-    assert_eq!(line("trace edition 3\nparams ordinary\n"), Err(1));
+    assert_eq!(line("trace edition 4\nparams ordinary\n"), Err(1));
     assert_eq!(line("trace 2\nparams ordinary\n"), Err(1));
     assert_eq!(line("edition 2\ntrace edition 2\nparams ordinary\n"), Err(2));
     assert_eq!(line("trace edition 2\ntrace edition 2\nparams ordinary\n"), Err(2));

@@ -4,7 +4,7 @@
 //! callgrind, which counts what `measured_plain` or `measured_proved` takes.
 
 use crate::{counts, filled, Timed};
-use bench::load::{load, Load, CONNECTED};
+use bench::load::{load, Load, Size, SIZES};
 use bench::plain;
 use reference::event::{Event, CALL_NAMES, SLOTS};
 use reference::router::{Answer, ACTION_LIST};
@@ -52,7 +52,7 @@ fn run<T: Timed>(
 pub fn only(folder: &str, kind: u64, which: &str) {
     let bytes =
         |name| std::fs::read(Path::new(folder).join(name)).expect("a load that was written");
-    let load = &Load::from_bytes(0, &bytes(OPENING), &bytes(EVENTS));
+    let load = &Load::from_bytes(SIZES[0], &bytes(OPENING), &bytes(EVENTS));
     match which {
         "plain" => run(load, plain::Router::new(&load.params), kind, measured_plain),
         #[cfg(linked)]
@@ -127,7 +127,8 @@ struct Written(PathBuf);
 
 impl Written {
     fn new(load: &Load) -> std::io::Result<Written> {
-        let name = format!("hivepadlet-bench-{}-{}", std::process::id(), load.connected);
+        let Size { connected, groups } = load.size;
+        let name = format!("hivepadlet-bench-{}-{connected}-{groups}", std::process::id());
         let written = Written(std::env::temp_dir().join(name));
         let (opening, events) = load.to_bytes();
         std::fs::create_dir_all(&written.0)?;
@@ -159,13 +160,15 @@ fn costs(load: &Load) -> Option<Vec<(Cost, Cost)>> {
 }
 
 pub fn print_instructions() {
-    let loads = CONNECTED.map(load);
-    let (Some(some), Some(all)) = (costs(&loads[0]), costs(&loads[1])) else {
-        return print_missing();
-    };
-    let [few, many] = CONNECTED;
-    for (connected, costs) in [(few, &some), (many, &all)] {
-        println!("{connected} of {SLOTS} peers connected; a call with test 12, plain and proved");
+    let all: Option<Vec<Vec<(Cost, Cost)>>> =
+        SIZES.iter().map(|&size| costs(&load(size))).collect();
+    let Some(all) = all else { return print_missing() };
+    for (size, costs) in SIZES.iter().zip(&all) {
+        let Size { connected, groups } = size;
+        let groups = crate::groups(*groups);
+        println!(
+            "{connected} of {SLOTS} connected, {groups}; a call with test 12, plain and proved"
+        );
         println!(
             "{:12}{:>25}{:>16}{:>12}{:>12}",
             "call", "instructions, ratio", "branches", "wrong", "misses"
@@ -174,11 +177,15 @@ pub fn print_instructions() {
             println!("{name:12}{}", plain.beside(proved));
         }
     }
-    println!("instructions with {many} connected over those with {few}");
-    println!("{:12}{:>8}{:>8}", "call", "plain", "proved");
-    for ((name, some), all) in CALL_NAMES.iter().zip(&some).zip(&all) {
-        let plain = all.0.instructions / some.0.instructions;
-        let proved = all.1.instructions / some.1.instructions;
-        println!("{name:12}{plain:>8.2}{proved:>8.2}");
+    println!("{:12}{:>16}{:>16}", "instructions", "256 / 64", "groups 4 / 1");
+    println!("{:12}{:>8}{:>8}{:>8}{:>8}", "call", "plain", "proved", "plain", "proved");
+    for (place, name) in CALL_NAMES.iter().enumerate() {
+        let [few, many, wide] = [0, 1, 2].map(|load: usize| &all[load][place]);
+        let grown = |many: &(Cost, Cost), few: &(Cost, Cost)| {
+            let plain = many.0.instructions / few.0.instructions;
+            let proved = many.1.instructions / few.1.instructions;
+            format!("{plain:>8.2}{proved:>8.2}")
+        };
+        println!("{name:12}{}{}", grown(many, few), grown(wide, many));
     }
 }

@@ -2,7 +2,7 @@
 //! peers, in which each of the thirteen calls comes hundreds of times and nearly
 //! all are answered by 0. The second program is the guide while it is recorded.
 
-use reference::event::{by_slot, Call, Event, OLD_SLOTS, OUTBOUND_FLAG, SLOTS};
+use reference::event::{by_slot, Call, Event, GROUPS, OLD_SLOTS, OUTBOUND_FLAG, SLOTS};
 use reference::params::{Params, TOPICS};
 use reference::random::Random;
 use reference::router::{Router, ACTION_LIST};
@@ -10,11 +10,22 @@ use reference::trace::{self, TraceEdition};
 
 const ROUNDS: u64 = 250;
 
-/// How many peers are connected in the loads that are timed: some of the slots, and all.
-pub const CONNECTED: [usize; 2] = [OLD_SLOTS, SLOTS];
+/// How many peers are connected in a load, and how many groups each has.
+#[derive(Clone, Copy)]
+pub struct Size {
+    pub connected: usize,
+    pub groups: usize,
+}
+
+/// The loads that are timed: some of the slots, all of them, and all with four groups each.
+pub const SIZES: [Size; 3] = [
+    Size { connected: OLD_SLOTS, groups: 1 },
+    Size { connected: SLOTS, groups: 1 },
+    Size { connected: SLOTS, groups: GROUPS },
+];
 
 pub struct Load {
-    pub connected: usize,
+    pub size: Size,
     pub params: Params,
     /// The calls that fill the router.
     pub opening: Vec<Event>,
@@ -23,7 +34,7 @@ pub struct Load {
 }
 
 struct Recorder {
-    connected: usize,
+    size: Size,
     router: Router,
     random: Random,
     now: u64,
@@ -31,18 +42,18 @@ struct Recorder {
 }
 
 /// The recorded load, always the same.
-pub fn load(connected: usize) -> Load {
+pub fn load(size: Size) -> Load {
     let params = Params::ordinary();
     let router = Router::new(params.clone()).expect("the ordinary parameters are accepted");
     let (random, events) = (Random::new(64), Vec::new());
-    let mut recorder = Recorder { connected, router, random, now: 0, events };
+    let mut recorder = Recorder { size, router, random, now: 0, events };
     recorder.open();
     let opening = std::mem::take(&mut recorder.events);
     for round in 0..ROUNDS {
         recorder.now += 1000;
         recorder.round(round);
     }
-    Load { connected, params, opening, events: recorder.events }
+    Load { size, params, opening, events: recorder.events }
 }
 
 impl Load {
@@ -50,14 +61,14 @@ impl Load {
     /// program need not record them again.
     pub fn to_bytes(&self) -> (Vec<u8>, Vec<u8>) {
         let bytes = |events: &[Event]| {
-            events.iter().flat_map(|event| trace::write_event(TraceEdition::Two, event)).collect()
+            events.iter().flat_map(|event| trace::write_event(TraceEdition::Three, event)).collect()
         };
         (bytes(&self.opening), bytes(&self.events))
     }
 
-    pub fn from_bytes(connected: usize, opening: &[u8], events: &[u8]) -> Load {
+    pub fn from_bytes(size: Size, opening: &[u8], events: &[u8]) -> Load {
         let (opening, events) = (read(opening), read(events));
-        Load { connected, params: Params::ordinary(), opening, events }
+        Load { size, params: Params::ordinary(), opening, events }
     }
 }
 
@@ -65,7 +76,7 @@ fn read(mut bytes: &[u8]) -> Vec<Event> {
     let mut events = Vec::new();
     while !bytes.is_empty() {
         let (event, length) =
-            trace::read_event(TraceEdition::Two, bytes).expect("events that were written");
+            trace::read_event(TraceEdition::Three, bytes).expect("events that were written");
         events.push(event);
         bytes = &bytes[length..];
     }
@@ -79,10 +90,10 @@ impl Recorder {
         self.events.push(event);
     }
 
-    /// Peers 1 to as many as are connected, four to a group, every fourth outbound, all subscribed to all
+    /// Peers 1 to as many as are connected, four to each group, every fourth outbound, all subscribed to all
     /// topics; meshes are filled by a heartbeat each.
     fn open(&mut self) {
-        for id in 1..=self.connected as u64 {
+        for id in 1..=self.size.connected as u64 {
             self.connect(id);
         }
         for topic in 0..TOPICS as u64 {
@@ -96,7 +107,8 @@ impl Recorder {
     fn connect(&mut self, id: u64) {
         let flags = if id.is_multiple_of(4) { OUTBOUND_FLAG } else { 0 };
         let name = if id.is_multiple_of(5) { b"/meshsub/1.0.0" } else { b"/meshsub/1.1.0" };
-        self.push(Call::Connect { id, group: id / 4, flags, name: name.to_vec() });
+        let groups = (0..self.size.groups as u64).map(|place| 1000 * place + id / 4).collect();
+        self.push(Call::Connect { id, groups, flags, name: name.to_vec() });
         for topic in 0..TOPICS as u64 {
             self.push(Call::Subscribe { id, topic });
         }
@@ -109,7 +121,7 @@ impl Recorder {
     }
 
     fn id(&mut self) -> u64 {
-        1 + self.random.below(self.connected) as u64
+        1 + self.random.below(self.size.connected) as u64
     }
 
     /// A topic other than the last, which is left and joined in every round.

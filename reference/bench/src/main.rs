@@ -3,7 +3,7 @@
 //! nanoseconds; each event's is the best of many rounds, so that the state, the
 //! arguments and the answer are the same for both.
 
-use bench::load::{load, Load, CONNECTED};
+use bench::load::{load, Load, Size, SIZES};
 use bench::plain;
 use reference::event::{Event, CALL_NAMES, SLOTS};
 use reference::router::{number, Answer, Router, ACTION_LIST};
@@ -158,41 +158,49 @@ struct Beside {
 }
 
 fn print_times(rounds: usize) {
-    let loads = CONNECTED.map(load);
-    let beside = |load: &Load| Beside {
-        plain: Times::plain(load, rounds),
-        proved: Times::proved(load, rounds),
-    };
-    let [some, all] = [beside(&loads[0]), beside(&loads[1])];
-    let [few, many] = CONNECTED;
-    println!("nanoseconds a call, test 12 included, its share of the proved call beside; {few} and {many} of {SLOTS} peers connected");
-    println!(
-        "{:20}{:>33}{:>33}{:>16}",
-        "",
-        format!("{few} connected"),
-        format!("{many} connected"),
-        format!("{many} / {few}")
-    );
-    let head = format!("{:>9}{:>9}{:>7}{:>8}", "plain", "proved", "ratio", "test 12");
-    println!("{:12}{:>8}{head}{head}{:>8}{:>8}", "call", "events", "plain", "proved");
+    let loads = SIZES.map(load);
+    let all = [0, 1, 2].map(|place: usize| Beside {
+        plain: Times::plain(&loads[place], rounds),
+        proved: Times::proved(&loads[place], rounds),
+    });
+    println!("nanoseconds a call, test 12 included, its share of the proved call beside; of {SLOTS} slots");
+    let of = |size: Size| format!("{} connected, {}", size.connected, groups(size.groups));
+    let sizes: String = SIZES.map(|size| format!("{:>33}", of(size))).concat();
+    println!("{:20}{sizes}{:>16}{:>16}", "", "256 / 64", "groups 4 / 1");
+    let head =
+        format!("{:>9}{:>9}{:>7}{:>8}", "plain", "proved", "ratio", "test 12").repeat(SIZES.len());
+    let grown = format!("{:>8}{:>8}", "plain", "proved").repeat(2);
+    println!("{:12}{:>8}{head}{grown}", "call", "events");
     for (place, (name, (events, _))) in CALL_NAMES.iter().zip(counts(&loads[0])).enumerate() {
         let columns = |of: &Beside| {
             let (plain, proved) = (of.plain.calls[place], of.proved.calls[place]);
             let (ratio, share) = (proved / plain, 100.0 * of.proved.test / proved);
             format!("{plain:>9.0}{proved:>9.0}{ratio:>7.2}{share:>7.0}%")
         };
-        let grown = |many: &Times, few: &Times| many.calls[place] / few.calls[place];
-        let (plain, proved) = (grown(&all.plain, &some.plain), grown(&all.proved, &some.proved));
-        println!(
-            "{name:12}{events:>8}{}{}{plain:>8.2}{proved:>8.2}",
-            columns(&some),
-            columns(&all)
-        );
+        let grown = |many: &Beside, few: &Beside| {
+            let plain = many.plain.calls[place] / few.plain.calls[place];
+            let proved = many.proved.calls[place] / few.proved.calls[place];
+            format!("{plain:>8.2}{proved:>8.2}")
+        };
+        let [few, many, wide] = &all;
+        let times = [few, many, wide].map(columns).concat();
+        println!("{name:12}{events:>8}{times}{}{}", grown(many, few), grown(wide, many));
     }
-    for (connected, Beside { plain, proved }) in CONNECTED.iter().zip([&some, &all]) {
+    for (size, Beside { plain, proved }) in SIZES.into_iter().zip(&all) {
         let (plain, proved) = (plain.test, proved.test);
         let ratio = proved / plain;
-        println!("test 12 alone, {connected} connected: plain {plain:.0} ns, proved {proved:.0} ns, ratio {ratio:.2}");
+        println!(
+            "test 12 alone, {}: plain {plain:.0} ns, proved {proved:.0} ns, ratio {ratio:.2}",
+            of(size)
+        );
+    }
+}
+
+/// So many groups, in words.
+fn groups(count: usize) -> String {
+    match count {
+        1 => "one group".to_string(),
+        _ => format!("{count} groups each"),
     }
 }
 

@@ -10,7 +10,7 @@ mod score;
 mod slots;
 mod valid;
 
-use reference::event::{Call, Event, LAST_TIME, SLOTS};
+use reference::event::{Call, Event, GROUPS, LAST_TIME, SLOTS};
 use reference::params::{general, Edition, Params, COUNT, TOPICS};
 use reference::router::{Answer, Done, Refusal, ACTION_LIST, GRAFT, PRUNE};
 
@@ -40,10 +40,12 @@ pub struct Topics {
 #[derive(Clone, Copy, PartialEq, Eq, Debug, Default)]
 pub struct Peer {
     pub id: u32,
-    pub group: u32,
+    /// Lowest first, 0 past the last; how many there are stands below.
+    pub groups: [u32; GROUPS],
     pub p5: i32,
     pub p7: u32,
     pub status: Status,
+    pub group_count: u8,
     pub outbound: bool,
     pub explicit: bool,
     /// Speaks /meshsub/1.1.0 and not /meshsub/1.0.0.
@@ -94,8 +96,8 @@ impl Router {
     pub fn call(&mut self, event: &Event, list: &mut [u32]) -> Answer {
         let now = event.now;
         match event.call {
-            Call::Connect { id, group, flags, ref name } => {
-                self.connect(now, id, group, flags, name, list)
+            Call::Connect { id, ref groups, flags, ref name } => {
+                self.connect(now, id, groups, flags, name, list)
             }
             Call::Disconnect { id } => self.disconnect(now, id, list),
             Call::Join { topic } => self.join(now, topic, list),
@@ -185,6 +187,19 @@ impl Router {
 }
 
 impl Peer {
+    fn groups(&self) -> &[u32] {
+        &self.groups[..self.group_count as usize]
+    }
+
+    /// Whether a peer that has groups holds this one. All four places are compared at
+    /// once; the group 0, which stands past the last as well, can only be the first.
+    #[inline(always)]
+    fn holds(&self, group: u32) -> bool {
+        let [first, second, third, fourth] = self.groups;
+        let later = (second == group) | (third == group) | (fourth == group);
+        (first == group) | (later & (group != 0))
+    }
+
     fn is_member(&self, topic: usize) -> bool {
         self.topics.member >> topic & 1 == 1
     }

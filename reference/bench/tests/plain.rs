@@ -33,7 +33,8 @@ fn plain_topics(records: &[TopicRecord; TOPICS]) -> plain::Topics {
 fn plain_peer(peer: &Peer) -> plain::Peer {
     plain::Peer {
         id: peer.id,
-        group: peer.group,
+        groups: peer.groups.map(|group| group.unwrap_or(0)),
+        group_count: peer.groups().count() as u8,
         p5: peer.p5 as i32,
         p7: peer.p7 as u32,
         status: match peer.status {
@@ -96,7 +97,7 @@ fn damage(router: &mut Router, random: &mut Random) {
     let index = random.below(147);
     let peer = &mut router.peers[slot];
     let record = &mut peer.topics[random.below(8)];
-    match random.below(18) {
+    match random.below(19) {
         0 => record.p2 = counter,
         1 => record.p3 = counter,
         2 => record.p4 = counter,
@@ -113,6 +114,12 @@ fn damage(router: &mut Router, random: &mut Random) {
             peer.backoff_ends[3] = *random.pick(&[0, (1 << 40) + 3_600_000, (1 << 40) + 3_600_001])
         }
         13 => peer.explicit ^= true,
+        17 => {
+            if let Some(first) = peer.groups[0] {
+                let second = *random.pick(&[first, first.wrapping_add(1), 0, u32::MAX]);
+                peer.groups = [Some(first), Some(second), None, None];
+            }
+        }
         14 => router.joined[random.below(8)] ^= true,
         16 => router.params.edition = *random.pick(&Edition::ALL),
         15 => router.clock = time,
@@ -150,7 +157,8 @@ fn grafts(end: u64, now: u64) -> Answer {
     let mut second = Router::new(Params::ordinary()).expect("good parameters");
     second.joined[0] = true;
     let record = TopicRecord { subscribed: true, ..TopicRecord::default() };
-    second.peers[0] = Peer { status: Status::Connected, id: 7, ..Peer::default() };
+    let groups = [Some(0), None, None, None];
+    second.peers[0] = Peer { status: Status::Connected, id: 7, groups, ..Peer::default() };
     second.peers[0].topics[0] = record;
     second.peers[0].backoff_ends[0] = end;
     let event = Event { now, call: Call::Heartbeat { topic: 0, ask: 0, permutation: by_slot() } };

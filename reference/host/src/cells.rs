@@ -5,11 +5,23 @@ pub use hivepadlet::cells::*;
 
 use reference::groups::{code_from_signed, signed_from_code};
 use reference::params::{field_at, Edition, Params, GENERAL_COUNT, TOPICS, TOPIC_COUNT};
-use reference::router::{Peer, Router, Status, TopicRecord, Version};
+use reference::router::{Groups, Peer, Router, Status, TopicRecord, Version};
 use std::fmt;
 
-const PEER_NAMES: [&str; 9] =
-    ["status", "id", "group", "outbound", "explicit", "version", "P5 code", "P7", "retain end"];
+const PEER_NAMES: [&str; 12] = [
+    "status",
+    "id",
+    "first group and one",
+    "second group and one",
+    "third group and one",
+    "fourth group and one",
+    "outbound",
+    "explicit",
+    "version",
+    "P5 code",
+    "P7",
+    "retain end",
+];
 
 const RECORD_NAMES: [&str; RECORD_CELLS] =
     ["P2", "P3", "P4", "P3b", "subscribed", "member", "graft time", "mesh time"];
@@ -126,7 +138,9 @@ pub fn write(router: &Router, cells: &mut Cells) {
 fn write_peer(peer: &Peer, row: &mut [u64]) {
     row[peer::STATUS] = peer.status as u64;
     row[peer::ID] = u64::from(peer.id);
-    row[peer::GROUP] = u64::from(peer.group);
+    for (cell, group) in row[peer::GROUPS..].iter_mut().zip(peer.groups) {
+        *cell = group.map_or(0, |group| u64::from(group) + 1);
+    }
     row[peer::OUTBOUND] = u64::from(peer.outbound);
     row[peer::EXPLICIT] = u64::from(peer.explicit);
     row[peer::VERSION] = peer.version as u64;
@@ -184,7 +198,7 @@ fn read_peer(cells: &Cells, slot: usize) -> Option<Peer> {
         status: *[Status::Empty, Status::Connected, Status::Retained]
             .get(usize::try_from(row[peer::STATUS]).ok()?)?,
         id: u32::try_from(row[peer::ID]).ok()?,
-        group: u32::try_from(row[peer::GROUP]).ok()?,
+        groups: groups_of(&row[peer::GROUPS..])?,
         outbound: flag(row[peer::OUTBOUND])?,
         explicit: flag(row[peer::EXPLICIT])?,
         version: if flag(row[peer::VERSION])? { Version::V11 } else { Version::V10 },
@@ -198,6 +212,17 @@ fn read_peer(cells: &Cells, slot: usize) -> Option<Peer> {
         *record = read_record(&cells[record_cell(slot, topic, 0)..][..RECORD_CELLS])?;
     }
     Some(peer)
+}
+
+fn groups_of(row: &[u64]) -> Option<Groups> {
+    let mut groups = Groups::default();
+    for (group, &cell) in groups.iter_mut().zip(row) {
+        *group = match cell.checked_sub(1) {
+            None => None,
+            Some(number) => Some(u32::try_from(number).ok()?),
+        };
+    }
+    Some(groups)
 }
 
 fn read_record(row: &[u64]) -> Option<TopicRecord> {
@@ -221,11 +246,11 @@ mod tests {
 
     #[test]
     fn regions_begin_where_the_crate_cells_says() {
-        assert_eq!((CODES, PEERS, RECORDS), (9, 157, 4509));
+        assert_eq!((CODES, PEERS, RECORDS), (9, 157, 5277));
         assert_eq!(Spot::of(155), Spot::Number(146));
         assert_eq!(Spot::of(156), Spot::Edition);
-        assert_eq!(Spot::of(4508), Spot::Peer { slot: 255, field: 16 });
-        assert_eq!(Spot::of(20_892), Spot::Record { slot: 255, topic: 7, field: 7 });
+        assert_eq!(Spot::of(5276), Spot::Peer { slot: 255, field: 19 });
+        assert_eq!(Spot::of(21_660), Spot::Record { slot: 255, topic: 7, field: 7 });
     }
 
     #[test]

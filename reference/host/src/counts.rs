@@ -4,13 +4,16 @@ use crate::library::{number, value};
 use crate::request::{Request, LONG_LISTS, ODD_PERMUTATIONS, SHORT_LISTS};
 use crate::stand_in::code;
 use reference::coverage::{of_traces, Answers, Coverage};
-use reference::event::{CALL_NAMES, SLOTS};
+use reference::event::{Call, CALL_NAMES, GROUPS, SLOTS};
 use reference::router::{Answer, Done, Router, ACTION_LIST};
 use std::collections::BTreeMap;
 use std::fmt::Write;
 
 /// Every answer to a call is within reach here.
 const REACHABLE: [u32; 11] = [0, 1, 2, 3, 4, 5, 6, 7, 8, 11, 12];
+
+/// Refused with 2 for them.
+const MANY_GROUPS: &str = "connect with more groups than a record holds";
 
 /// Calls that fill the shortest list to its end.
 const FULL_LISTS: [&str; 2] = ["leave", "heartbeat"];
@@ -49,6 +52,12 @@ impl Counts {
         }
         if value(result) == SLOTS as u64 && request.list == ACTION_LIST {
             *self.full_lists.entry(request.event.call.name()).or_default() += 1;
+        }
+        match &request.event.call {
+            Call::Connect { groups, .. } if groups.len() > GROUPS && number(result) == 2 => {
+                self.count(MANY_GROUPS);
+            }
+            _ => {}
         }
         if let Ok(Done::Score(why)) = *answer {
             let score = why.score();
@@ -89,7 +98,8 @@ impl Counts {
         let absent = FULL_LISTS.iter().filter(|name| !self.full_lists.contains_key(*name));
         missing.extend(absent.map(|name| full_list(name)));
         missing.extend(cases(&self.coverage.missing_with_made()));
-        missing.extend(wanted.into_iter().filter(|what| self.of(what) == 0));
+        let many = std::iter::once(MANY_GROUPS.to_string());
+        missing.extend(wanted.into_iter().chain(many).filter(|what| self.of(what) == 0));
         missing
     }
 

@@ -3,7 +3,7 @@
 
 use crate::cells::*;
 use crate::made::{LAST_BACKOFF_END, LAST_RETAIN_END, P3B_LIMIT, P4_P7_LIMIT};
-use reference::event::{LAST_TIME, P5_LIMIT, SLOTS};
+use reference::event::{GROUPS, LAST_TIME, P5_LIMIT, SLOTS};
 use reference::groups::code_from_signed;
 use reference::params::{
     field_at, general, topic, topic_index, Edition, Params, COUNT, FIRST_RULE, TOPICS,
@@ -31,10 +31,13 @@ const RULES: [&str; 8] = [
 ];
 
 /// An empty record's cells, by their names; all backoff ends are one kind.
-const EMPTY_PEER: [&str; 10] = [
+const EMPTY_PEER: [&str; 13] = [
     "empty record: status connected",
     "empty record: id",
-    "empty record: group",
+    "empty record: first group",
+    "empty record: second group",
+    "empty record: third group",
+    "empty record: fourth group",
     "empty record: outbound",
     "empty record: explicit",
     "empty record: version",
@@ -58,7 +61,7 @@ const EMPTY_TOPIC: [&str; RECORD_CELLS] = [
 /// The kind that tries no range's end.
 pub const LARGEST: &str = "any cell: 2^64 - 1";
 
-const OTHERS: [&str; 48] = [
+const OTHERS: [&str; 54] = [
     LARGEST,
     "clock: past 2^40",
     "clock: under a member's graft and mesh time",
@@ -79,6 +82,12 @@ const OTHERS: [&str; 48] = [
     "id: past 2^32 - 1",
     "id: stands twice",
     "group: past 2^32 - 1",
+    "groups: none",
+    "groups: none in front",
+    "groups: a gap",
+    "groups: one twice",
+    "groups: out of order",
+    "groups: the last below the one before it",
     "outbound: 2",
     "explicit: 2",
     "explicit: a member",
@@ -233,7 +242,7 @@ impl Damages<'_> {
         let cell = |field| peer_cell(slot, field);
         self.status(slot);
         self.id(slot);
-        self.add("group: past 2^32 - 1", &[(cell(peer::GROUP), WIDE)]);
+        self.groups(slot);
         self.add("outbound: 2", &[(cell(peer::OUTBOUND), 2)]);
         self.add("explicit: 2", &[(cell(peer::EXPLICIT), 2)]);
         self.add("version: 2", &[(cell(peer::VERSION), 2)]);
@@ -275,6 +284,32 @@ impl Damages<'_> {
             if let Some(&id) = others.get(place) {
                 self.add("id: stands twice", &[(cell, u64::from(id))]);
             }
+        }
+    }
+
+    /// "One to four different address groups .., lowest first", a cell each, the group and one.
+    fn groups(&mut self, slot: usize) {
+        let cell = |place: usize| peer_cell(slot, peer::GROUPS + place);
+        let set = |values: [u64; GROUPS]| [0, 1, 2, 3].map(|place| (cell(place), values[place]));
+        for place in 0..GROUPS {
+            self.add("group: past 2^32 - 1", &[(cell(place), WIDE + 1)]);
+        }
+        let groups: Vec<u64> =
+            self.router.peers[slot].groups().map(|group| u64::from(group) + 1).collect();
+        let count = groups.len();
+        self.add("groups: none", &set([0; GROUPS]));
+        self.add("groups: none in front", &set([0, groups[0], 0, 0]));
+        self.add("groups: a gap", &set([1, 2, 0, 3]));
+        self.add("groups: out of order", &set([2, 3, 1, 0]));
+        self.add("groups: the last below the one before it", &set([1, 2, 4, 3]));
+        // A cell alone: the first group again in the first place without one, or in the second's.
+        self.add(
+            "groups: one twice",
+            &[(cell(count.min(GROUPS - 1)), groups[count.min(GROUPS - 1) - 1])],
+        );
+        if count > 1 {
+            self.add("groups: one twice", &[(cell(count - 1), groups[count - 2])]);
+            self.add("groups: none in front", &[(cell(0), 0)]);
         }
     }
 

@@ -35,6 +35,15 @@ const GROUP: Range = Range {
     inside: &[0, u32::MAX as u64],
     outside: &[WRAP, WRAP + 1, u64::MAX],
 };
+/// How many groups, each above the one before it.
+const COUNT: Range =
+    Range { argument: "count of groups", inside: &[1, 2, 3, 4], outside: &[0, 5, 6, 256, 1000] };
+/// A step of two groups, and where it goes down or nowhere, of the last two of three.
+const ORDER: Range = Range {
+    argument: "order of groups",
+    inside: &[1, 2, WRAP - 2],
+    outside: &[0, WRAP - 1, u64::MAX, u64::MAX - 1],
+};
 const FLAGS: Range = Range {
     argument: "flags",
     inside: &[0, 1, 2, 3],
@@ -168,6 +177,7 @@ fn arguments(call: &Call) -> Vec<(Range, Set)> {
         Call::Decay => {}
         Call::Connect { .. } => {
             list.extend([(ID, set_id as Set), (GROUP, set_group), (FLAGS, set_other)]);
+            list.extend([(COUNT, set_count as Set), (ORDER, set_order)]);
         }
         Call::Disconnect { .. } | Call::Score { .. } => list.push((ID, set_id)),
         Call::Subscribe { .. } | Call::Unsubscribe { .. } | Call::Graft { .. } => {
@@ -213,10 +223,22 @@ fn set_topic(event: &mut Event, value: u64) {
     }
 }
 
-fn set_group(event: &mut Event, value: u64) {
-    if let Call::Connect { group, .. } = &mut event.call {
-        *group = value;
+fn set_groups(event: &mut Event, new: Vec<u64>) {
+    if let Call::Connect { groups, .. } = &mut event.call {
+        *groups = new;
     }
+}
+
+fn set_group(event: &mut Event, value: u64) {
+    set_groups(event, vec![value]);
+}
+
+fn set_count(event: &mut Event, count: u64) {
+    set_groups(event, (0..count).collect());
+}
+
+fn set_order(event: &mut Event, step: u64) {
+    set_groups(event, vec![0, 1, step.wrapping_add(1)]);
 }
 
 /// The one argument that only this call has.

@@ -11,8 +11,8 @@ pub struct Linked;
 pub fn call(table: &mut Cells, event: &Event, why: &mut Why, list: &mut [u32]) -> u64 {
     let now = event.now;
     match event.call {
-        Call::Connect { id, group, flags, ref name } => {
-            hivepadlet::connect(table, now, id, group, flags, name, list)
+        Call::Connect { id, ref groups, flags, ref name } => {
+            hivepadlet::connect(table, now, id, groups, flags, name, list)
         }
         Call::Disconnect { id } => hivepadlet::disconnect(table, now, id, list),
         Call::Join { topic } => hivepadlet::join(table, now, topic, list),

@@ -1,12 +1,12 @@
 //! Tables that are a router's and were made field by field, often at the ends of the ranges: states that
 //! a run would take very long to reach, as 01's test 12 admits them.
 
-use reference::event::{LAST_TIME, P5_LIMIT, SLOTS};
+use reference::event::{GROUPS, LAST_TIME, P5_LIMIT, SLOTS};
 use reference::generate::calls::Scene;
 use reference::generate::{params as generate_params, traces};
 use reference::params::{field_at, general, topic, topic_index, Params, TOPICS};
 use reference::random::Random;
-use reference::router::{Peer, Router, Status, TopicRecord, Version};
+use reference::router::{Groups, Peer, Router, Status, TopicRecord, Version};
 use reference::trace::TraceEdition;
 
 pub const P4_P7_LIMIT: i64 = 1_000_000;
@@ -95,7 +95,7 @@ fn peer(router: &Router, id: u32, groups: u64, retained: usize, random: &mut Ran
     let mut peer = Peer {
         status,
         id,
-        group: (random.bits() % groups) as u32,
+        groups: groups_of(groups, random),
         outbound: random.chance(1, 2),
         explicit: random.chance(1, 8),
         version: *random.pick(&[Version::V10, Version::V11]),
@@ -113,6 +113,15 @@ fn peer(router: &Router, id: u32, groups: u64, retained: usize, random: &mut Ran
         peer.topics[k] = record(router, &peer, k, random);
     }
     peer
+}
+
+/// One to four of so many groups.
+fn groups_of(groups: u64, random: &mut Random) -> Groups {
+    let count = 1 + random.below(GROUPS);
+    let mut drawn: Vec<u32> = (0..count).map(|_| (random.bits() % groups) as u32).collect();
+    drawn.sort_unstable();
+    drawn.dedup();
+    std::array::from_fn(|place| drawn.get(place).copied())
 }
 
 /// Mostly enough to make up for what the counters cost, so that meshes hold.
@@ -199,7 +208,7 @@ pub fn extreme(lowest: bool) -> Router {
         *peer = Peer {
             status: Status::Connected,
             id: slot as u32 + 1,
-            group: u32::MAX,
+            groups: [Some(0), Some(1), Some(7), Some(u32::MAX)],
             version: Version::V11,
             p5: sign * P5_LIMIT,
             p7: limit(P4_P7_LIMIT),
@@ -223,7 +232,7 @@ pub fn early(random: &mut Random) -> Router {
         *peer = Peer {
             status: Status::Connected,
             id: slot as u32 + 1,
-            group: slot as u32,
+            groups: [Some(slot as u32), None, None, None],
             outbound: random.chance(1, 2),
             version: Version::V11,
             p5: random.between(0, 3) * 1_000_000,
@@ -240,7 +249,7 @@ pub fn early(random: &mut Random) -> Router {
 
 /// A scene for a made router: its own ids, and a few more.
 pub fn scene(router: &Router, random: &mut Random) -> Scene {
-    let mut scene = traces::scene(TraceEdition::Two, 300, random);
+    let mut scene = traces::scene(TraceEdition::Three, 300, random);
     let held = router.peers.iter().filter(|peer| peer.id != 0).map(|peer| u64::from(peer.id));
     scene.ids.truncate(8);
     scene.ids.extend(held);

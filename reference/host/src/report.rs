@@ -82,7 +82,7 @@ fn shrunk<L: Library>(
 
 /// The start: its parameters, and its state where it is not fresh.
 fn write_start(start: &Router, out: &mut String) {
-    let edition = TraceEdition::Two;
+    let edition = TraceEdition::Three;
     let trace = Trace { edition, params: Some(start.params.clone()), lines: Vec::new() };
     *out += &text::print(&trace);
     if *start == Router::unchecked(start.params.clone()) {

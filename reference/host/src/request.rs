@@ -31,6 +31,9 @@ pub const ODD_PERMUTATIONS: [usize; 11] = [
     1000,
 ];
 
+/// How many groups are more than a record holds.
+const MANY_GROUPS: [usize; 4] = [5, 6, 8, 1000];
+
 const ODD_NAMES: [usize; 9] = [0, 1, 13, 15, 16, 28, 65, 256, 1000];
 
 #[derive(Clone, PartialEq, Eq, Debug)]
@@ -66,7 +69,12 @@ impl Request {
         if random.chance(1, 24) {
             request.set_permutation(*random.pick(&ODD_PERMUTATIONS), random);
         }
-        if let Call::Connect { name, .. } = &mut request.event.call {
+        if let Call::Connect { groups, name, .. } = &mut request.event.call {
+            if random.chance(1, 60) {
+                // More than a record holds, which no trace can give it.
+                let first = groups.first().copied().unwrap_or(0);
+                *groups = (first..).take(*random.pick(&MANY_GROUPS)).collect();
+            }
             if random.chance(1, 60) {
                 let length = *random.pick(&ODD_NAMES);
                 *name = name.iter().copied().chain([0; 1000]).take(length).collect();
@@ -107,7 +115,7 @@ impl Request {
     /// The call as text, as in traces, with what a trace cannot say as a comment.
     pub fn text(&self) -> String {
         let line = Line::Event(self.event.clone());
-        let mut out = text::print_line(TraceEdition::Two, &line);
+        let mut out = text::print_line(TraceEdition::Three, &line);
         if let Some(slots) = &self.odd_permutation {
             out += &format!("  # permutation of {} numbers: {slots:?}", slots.len());
         }
@@ -144,7 +152,7 @@ pub fn thirteen(router: &Router, random: &mut Random) -> Vec<Request> {
     let calls = [
         Call::Connect {
             id: new,
-            group: random.below(4) as u64,
+            groups: vec![random.below(4) as u64, 4 + random.below(4) as u64],
             flags: random.below(4) as u64,
             name,
         },

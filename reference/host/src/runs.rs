@@ -149,7 +149,7 @@ fn source_of(router: Router, scene: Scene, left: usize, mut random: Random) -> S
 /// A fresh router and what comes; mostly many peers come first.
 fn ordinary(params: Params, mut random: Random) -> Source {
     let length = length(&mut random);
-    let scene = traces::scene(TraceEdition::Two, length, &mut random);
+    let scene = traces::scene(TraceEdition::Three, length, &mut random);
     let mut source = source_of(fresh(params), scene, length, random);
     if source.random.chance(2, 3) {
         source.caller.plan_opening();
@@ -186,7 +186,7 @@ fn rounds(mut random: Random) -> Source {
     for k in 0..TOPICS {
         params.numbers[topic_index(k, topic::WEIGHT)] = 0;
     }
-    let mut scene = traces::scene(TraceEdition::Two, 300, &mut random);
+    let mut scene = traces::scene(TraceEdition::Three, 300, &mut random);
     scene.outbound = 1 + random.below(2);
     let topic = random.below(TOPICS) as u64;
     let left = 1000 + random.below(2000);
@@ -198,7 +198,8 @@ fn rounds(mut random: Random) -> Source {
 }
 
 fn connect(now: u64, id: u64, group: u64, flags: u64) -> Request {
-    Request::at(now, Call::Connect { id, group, flags, name: b"/meshsub/1.1.0".to_vec() })
+    let (groups, name) = (vec![group], b"/meshsub/1.1.0".to_vec());
+    Request::at(now, Call::Connect { id, groups, flags, name })
 }
 
 /// Counters driven to their limits, which takes a thousand calls each: P4 by an explicit peer, who is

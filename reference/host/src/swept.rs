@@ -38,7 +38,7 @@ pub struct Failure {
 }
 
 /// What was damaged, and with which call a difference showed.
-type Found = (Option<Request>, Difference);
+type Found = Box<(Option<Request>, Difference)>;
 
 /// How many tables were damaged, and how many changed at random.
 #[derive(Default)]
@@ -62,7 +62,7 @@ pub fn compare<L: Library>(
         let largest = place.is_multiple_of(LARGEST);
         for damage in damage::all(state, largest).into_iter().filter(turn) {
             let found = sweep.damage(&damage, tables.damaged.is_multiple_of(THOROUGH));
-            found.map_err(|found| failure(place, damage.kind, &damage.changes, found))?;
+            found.map_err(|found| failure(place, damage.kind, &damage.changes, *found))?;
             tables.damaged += 1;
             let alone = damage.changes.len() == 1 && damage.kind != damage::LARGEST;
             past_range[damage.changes[0].0] |= alone;
@@ -70,7 +70,7 @@ pub fn compare<L: Library>(
         for _ in 0..CHANGES {
             let changes = sweep.random_changes();
             let found = sweep.change(&changes);
-            found.map_err(|found| failure(place, "changed at random", &changes, found))?;
+            found.map_err(|found| failure(place, "changed at random", &changes, *found))?;
             tables.changed += 1;
         }
     }
@@ -116,7 +116,12 @@ fn answered(number: u32) -> String {
     format!("changed at random: a router's still, a call answered {number}")
 }
 
-fn failure(state: usize, kind: &str, changes: &[(usize, u64)], found: Found) -> Box<Failure> {
+fn failure(
+    state: usize,
+    kind: &str,
+    changes: &[(usize, u64)],
+    found: (Option<Request>, Difference),
+) -> Box<Failure> {
     let (request, difference) = found;
     let (kind, changes) = (kind.to_string(), changes.to_vec());
     Box::new(Failure { state, kind, changes, request, difference })
@@ -153,10 +158,10 @@ impl<'a, L: Library> Sweep<'a, L> {
     /// The table damaged so is no router's by both, and the calls refuse it: all thirteen, or a few.
     fn damage(&mut self, damage: &Damage, thorough: bool) -> Result<(), Found> {
         let (valid, mut router) =
-            self.agree(&damage.changes).map_err(|difference| (None, difference))?;
+            self.agree(&damage.changes).map_err(|difference| Box::new((None, difference)))?;
         if valid {
             let told = "both sides take the table for a router's".to_string();
-            return Err((None, Difference(vec![told])));
+            return Err(Box::new((None, Difference(vec![told]))));
         }
         let mut requests = self.requests.clone();
         if !thorough {
@@ -169,7 +174,7 @@ impl<'a, L: Library> Sweep<'a, L> {
         }
         if router != cells::router_of(self.pair.table()) {
             let told = "the second program changed what it refused".to_string();
-            return Err((None, Difference(vec![told])));
+            return Err(Box::new((None, Difference(vec![told]))));
         }
         self.counts.count(format!("damaged {}", damage.kind));
         self.counts.count(damaged_region(Spot::of(damage.changes[0].0).region()));
@@ -197,7 +202,7 @@ impl<'a, L: Library> Sweep<'a, L> {
     /// A call of a table that is no router's: 12 by both, and nothing changed, so that the next call finds
     /// the same table.
     fn refuse(&mut self, router: &mut Option<Router>, request: &Request) -> Result<(), Found> {
-        let told = |difference| (Some(request.clone()), difference);
+        let told = |difference| Box::new((Some(request.clone()), difference));
         self.pair.refuse(request).map_err(told)?;
         self.counts.count_answer(request, 12);
         // What the second program's types cannot hold, its own calls are never handed.
@@ -251,14 +256,15 @@ impl<'a, L: Library> Sweep<'a, L> {
     /// A changed table is judged alike; if it is a router's still, a call of it is answered alike, and if
     /// not, refused.
     fn change(&mut self, changes: &[(usize, u64)]) -> Result<(), Found> {
-        let (valid, router) = self.agree(changes).map_err(|difference| (None, difference))?;
+        let (valid, router) =
+            self.agree(changes).map_err(|difference| Box::new((None, difference)))?;
         let region = Spot::of(changes[0].0).region();
         self.counts.count(changed(region, valid));
         let request = self.random.pick(&self.requests).clone();
         match router {
             Some(mut router) if valid => {
                 let answer = self.pair.make(&mut router, &request);
-                let answer = answer.map_err(|difference| (Some(request), difference))?;
+                let answer = answer.map_err(|difference| Box::new((Some(request), difference)))?;
                 self.counts.count(answered(number(&answer)));
                 Ok(())
             }

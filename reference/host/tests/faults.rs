@@ -9,7 +9,7 @@ use host_compare::library::{packed, Library, Numbers, Why};
 use host_compare::request::Request;
 use host_compare::stand_in::StandIn;
 use host_compare::{edges, made, parameters, report, runs, swept};
-use reference::event::{by_slot, Call, LAST_TIME, OLD_SLOTS, P5_LIMIT, SLOTS};
+use reference::event::{by_slot, Call, GROUPS, LAST_TIME, OLD_SLOTS, P5_LIMIT, SLOTS};
 use reference::params::{general, topic, topic_index, COUNT};
 use reference::random::Random;
 use reference::router::{Router, ACTION_LIST};
@@ -58,6 +58,20 @@ const SOUND: Faulty = Faulty {
 
 fn with_call(call: CallOf) -> Faulty {
     Faulty { call, ..SOUND }
+}
+
+/// The stand-in with the groups of each connect put right before.
+macro_rules! with_groups {
+    ($right:expr) => {
+        with_call(|request, table, why, list| {
+            let mut request = request.clone();
+            if let Call::Connect { groups, .. } = &mut request.event.call {
+                let right: fn(&mut Vec<u64>) = $right;
+                right(groups);
+            }
+            StandIn.call(&request, table, why, list)
+        })
+    };
 }
 
 // The parts of the comparison, small.
@@ -120,7 +134,7 @@ fn with_number(
 
 #[test]
 fn wrong_answers_lists_and_tables_are_seen() {
-    let faults: [(&str, Faulty); 14] = [
+    let faults: [(&str, Faulty); 18] = [
         (
             "11 in the place of 3",
             with_call(|request, table, why, list| match StandIn.call(request, table, why, list) {
@@ -241,6 +255,17 @@ fn wrong_answers_lists_and_tables_are_seen() {
                 StandIn.call(&Request::plain(event), table, why, list)
             }),
         ),
+        ("a fifth group is cut off", with_groups!(|groups| groups.truncate(GROUPS))),
+        ("groups are sorted", with_groups!(|groups| groups.sort_unstable())),
+        ("groups that repeat are taken once", with_groups!(|groups| groups.dedup())),
+        (
+            "no group is the group 0",
+            with_groups!(|groups| {
+                if groups.is_empty() {
+                    groups.push(0);
+                }
+            }),
+        ),
         (
             "the slots past the old ones are not given",
             with_call(|request, table, why, list| {
@@ -322,6 +347,35 @@ fn wrong_scores_are_seen() {
                 let before = *why;
                 let result = StandIn.call(request, table, why, list);
                 why[..5].copy_from_slice(&before[..5]);
+                result
+            }),
+        ),
+        (
+            "P6 counts the first group alone",
+            with_call(|request, table, why, list| {
+                let mut other = *table;
+                each_group(&mut other, |group, place| *group *= u64::from(place == 0));
+                let result = StandIn.call(request, table, &mut [0; 6], list);
+                if is_scored(request, result) {
+                    StandIn.call(request, &mut other, why, list);
+                }
+                result
+            }),
+        ),
+        (
+            "P6 counts retained peers",
+            with_call(|request, table, why, list| {
+                let mut other = *table;
+                each_slot(&mut other, |t, slot| {
+                    if t[peer_cell(slot, peer::STATUS)] == 2 {
+                        t[peer_cell(slot, peer::STATUS)] = 1;
+                        t[peer_cell(slot, peer::RETAIN_END)] = 0;
+                    }
+                });
+                let result = StandIn.call(request, table, &mut [0; 6], list);
+                if is_scored(request, result) {
+                    StandIn.call(request, &mut other, why, list);
+                }
                 result
             }),
         ),
@@ -524,6 +578,14 @@ fn each_slot(table: &mut Cells, change: impl Fn(&mut Cells, usize)) {
     }
 }
 
+/// Each group's cell, with its place among the groups of its record.
+fn each_group(table: &mut Cells, change: impl Fn(&mut u64, usize)) {
+    each_slot(table, |t, slot| {
+        let row = &mut t[peer_cell(slot, peer::GROUPS)..][..GROUPS];
+        row.iter_mut().enumerate().for_each(|(place, group)| change(group, place));
+    });
+}
+
 fn each_record(table: &mut Cells, change: impl Fn(&mut Cells, usize, usize)) {
     for place in 0..8 * SLOTS {
         change(table, place / 8, place % 8);
@@ -556,10 +618,45 @@ fn a_test_12_that_misses_something_is_seen() {
             }),
         ),
         (
-            "groups",
-            blind_to!(
-                |table| each_slot(table, |t, slot| t[peer_cell(slot, peer::GROUP)] %= 1 << 32)
-            ),
+            "groups past 32 bits",
+            blind_to!(|table| each_group(table, |group, _| *group %= (1 << 32) + 1)),
+        ),
+        (
+            "groups of empty records",
+            blind_to!(|table| each_slot(table, |t, slot| {
+                if t[peer_cell(slot, peer::STATUS)] == 0 {
+                    t[peer_cell(slot, peer::GROUPS)..][..GROUPS].fill(0);
+                }
+            })),
+        ),
+        (
+            "the order of groups",
+            blind_to!(|table| each_slot(table, |t, slot| {
+                let row = &mut t[peer_cell(slot, peer::GROUPS)..][..GROUPS];
+                let count = row.iter().take_while(|&&group| group != 0).count();
+                row[..count].sort_unstable();
+            })),
+        ),
+        (
+            "a group that stands twice",
+            blind_to!(|table| each_slot(table, |t, slot| {
+                let row = &mut t[peer_cell(slot, peer::GROUPS)..][..GROUPS];
+                let mut groups: Vec<u64> =
+                    row.iter().copied().filter(|&group| group != 0).collect();
+                groups.dedup();
+                row[..groups.len()].copy_from_slice(&groups);
+                row[groups.len()..].fill(0);
+            })),
+        ),
+        (
+            "a record without groups",
+            blind_to!(|table| each_slot(table, |t, slot| {
+                let (status, group) =
+                    (peer_cell(slot, peer::STATUS), peer_cell(slot, peer::GROUPS));
+                if t[status] != 0 && t[group..][..GROUPS] == [0; GROUPS] {
+                    t[group] = 1;
+                }
+            })),
         ),
         (
             "retain ends of connected records",

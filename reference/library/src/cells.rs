@@ -1,20 +1,21 @@
 //! The layout of the lent table (crate layout).
 
-use crate::{NUMBERS, SLOTS, TOPICS};
+use crate::{GROUPS, NUMBERS, SLOTS, TOPICS};
 
 /// How many numbers a table has, and where its regions begin.
-pub const CELLS: usize = 20_893;
+pub const CELLS: usize = 21_661;
 pub const CLOCK: usize = 0;
 pub const JOINED: usize = 1;
 pub const CODES: usize = JOINED + TOPICS;
 /// The set-up beside the numbers: the edition of the parameters.
 pub const EDITION: usize = CODES + NUMBERS;
 pub const PEERS: usize = EDITION + 1;
-pub const PEER_CELLS: usize = 17;
+pub const PEER_CELLS: usize = 20;
 pub const RECORDS: usize = PEERS + SLOTS * PEER_CELLS;
 pub const RECORD_CELLS: usize = 8;
 
 const _: () = assert!(RECORDS + SLOTS * TOPICS * RECORD_CELLS == CELLS);
+const _: () = assert!(peer::BACKOFF_ENDS + TOPICS == PEER_CELLS);
 
 pub type Cells = [u64; CELLS];
 
@@ -22,15 +23,16 @@ pub type Cells = [u64; CELLS];
 pub mod peer {
     pub const STATUS: usize = 0;
     pub const ID: usize = 1;
-    pub const GROUP: usize = 2;
-    pub const OUTBOUND: usize = 3;
-    pub const EXPLICIT: usize = 4;
-    pub const VERSION: usize = 5;
-    pub const P5: usize = 6;
-    pub const P7: usize = 7;
-    pub const RETAIN_END: usize = 8;
+    /// Four cells, a group and one more in each, lowest first; 0 past the last.
+    pub const GROUPS: usize = 2;
+    pub const OUTBOUND: usize = GROUPS + super::GROUPS;
+    pub const EXPLICIT: usize = OUTBOUND + 1;
+    pub const VERSION: usize = OUTBOUND + 2;
+    pub const P5: usize = OUTBOUND + 3;
+    pub const P7: usize = OUTBOUND + 4;
+    pub const RETAIN_END: usize = OUTBOUND + 5;
     /// One end for each topic, to the record's last cell.
-    pub const BACKOFF_ENDS: usize = 9;
+    pub const BACKOFF_ENDS: usize = OUTBOUND + 6;
 }
 
 /// The cells of a topic record, counted from its first.

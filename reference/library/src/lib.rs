@@ -35,6 +35,9 @@ pub use linked::*;
 pub const SLOTS: usize = 256;
 pub const TOPICS: usize = 8;
 
+/// Address groups that a peer may have.
+pub const GROUPS: usize = 4;
+
 /// Numbers of the parameters, of an action list, and of a score with its parts.
 pub const NUMBERS: usize = 147;
 pub const ACTION_NUMBERS: usize = 3 * SLOTS;

@@ -56,7 +56,8 @@ extern "C" {
         table: &mut Cells,
         time: u64,
         id: u64,
-        group: u64,
+        groups: *const u64,
+        groups_length: usize,
         flags: u64,
         name: *const u8,
         name_length: usize,
@@ -85,19 +86,22 @@ extern "C" {
     fn hivepadlet_is_router(table: &Cells) -> u32;
 }
 
-/// A peer connects and speaks the protocol of that name. 0, or 6, 4, 5.
+/// A peer with one to four address groups, lowest first, connects and speaks the protocol of that name. 0, or
+/// 6, 4, 5.
+#[allow(clippy::too_many_arguments)]
 pub fn connect(
     table: &mut Cells,
     time: u64,
     id: u64,
-    group: u64,
+    groups: &[u64],
     flags: u64,
     name: &[u8],
     actions: &mut [u32],
 ) -> u64 {
     let (bytes, size) = (name.as_ptr(), name.len());
     let (list, length) = (actions.as_mut_ptr(), actions.len());
-    unsafe { hivepadlet_connect(table, time, id, group, flags, bytes, size, list, length) }
+    let (of_peer, count) = (groups.as_ptr(), groups.len());
+    unsafe { hivepadlet_connect(table, time, id, of_peer, count, flags, bytes, size, list, length) }
 }
 
 /// The heartbeat's work for one topic, with a permutation of the slots. 0, or 7, 11.

@@ -22,7 +22,7 @@ fn a_peer_comes_and_goes() {
     let mut actions = [0; ACTION_NUMBERS];
     let mut table = joined(&mut actions);
     let permutation: Vec<u64> = (0..SLOTS as u64).collect();
-    assert_eq!(number(connect(&mut table, 1, 7, 9, OUTBOUND, V11, &mut actions)), 0);
+    assert_eq!(number(connect(&mut table, 1, 7, &[9, 12], OUTBOUND, V11, &mut actions)), 0);
     assert_eq!(number(subscribe(&mut table, 2, 7, 0, &mut actions)), 0);
     let result = heartbeat(&mut table, 3, 0, 0, &permutation, &mut actions);
     assert_eq!((number(result), value(result), &actions[..3]), (0, 1, &[GRAFT, 7, 0][..]));
@@ -42,7 +42,8 @@ fn a_peer_comes_and_goes() {
     assert_eq!(number(disconnect(&mut table, 12, 7, &mut actions)), 0);
     assert_eq!(number(disconnect(&mut table, 12, 7, &mut actions)), 3);
     assert_eq!(number(decay(&mut table, 12, &mut [])), 8);
-    assert_eq!(number(connect(&mut table, 12, 8, 9, EXPLICIT, b"", &mut actions)), 6);
+    assert_eq!(number(connect(&mut table, 12, 8, &[9], EXPLICIT, b"", &mut actions)), 6);
+    assert_eq!(number(connect(&mut table, 12, 8, &[9, 9], EXPLICIT, V11, &mut actions)), 2);
 }
 
 #[test]

@@ -65,7 +65,9 @@ impl Router {
     pub fn connect(&mut self, time: u64, id: u32, group: u32, outbound: bool) {
         let (id, group) = (u64::from(id), u64::from(group));
         let flags = if outbound { OUTBOUND } else { 0 };
-        self.done(|table, list| hivepadlet::connect(table, time, id, group, flags, PROTOCOL, list));
+        let groups = [group];
+        let name = PROTOCOL;
+        self.done(|table, list| hivepadlet::connect(table, time, id, &groups, flags, name, list));
     }
 
     pub fn disconnect(&mut self, time: u64, id: u32) {

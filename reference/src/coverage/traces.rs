@@ -1,28 +1,34 @@
-//! The cases of an event in a trace of an edition (order 9 of 02): what an old permutation
-//! orders, and what it leaves by slot.
+//! The cases of an event in a trace of an edition (orders 9 and 11 of 02): what an old
+//! permutation orders, and what it leaves by slot; several groups.
 
 use crate::event::{Call, Event, OLD_SLOTS, SLOTS};
 use crate::router::{is_permutation, Plan, Router, Status};
 use crate::trace::TraceEdition;
 
-pub const CASES: [&str; 11] = [
+pub const CASES: [&str; 13] = [
     "edition 1",
     "edition 2",
     "edition 1, more peers than its permutation orders",
     "edition 1, a heartbeat grafts past the old slots, by slot",
     "edition 1, an old slot is grafted before one past them",
     "edition 1, a permutation names the first slot past the old ones",
-    "edition 2, a heartbeat grafts past the old slots",
-    "edition 2, a slot past the old ones is grafted before an old one",
-    "edition 2, a heartbeat prunes past the old slots",
+    "editions 2 and 3, a heartbeat grafts past the old slots",
+    "editions 2 and 3, a slot past the old ones is grafted before an old one",
+    "editions 2 and 3, a heartbeat prunes past the old slots",
     "all slots are connected",
     "a group of more peers than the old slots",
+    "edition 3",
+    "edition 3, several groups",
 ];
 
 /// The cases that an event is about to meet.
 pub fn cases(edition: TraceEdition, router: &Router, event: &Event) -> Vec<&'static str> {
-    let (old, new) = (edition == TraceEdition::One, edition == TraceEdition::Two);
-    let mut facts = vec![("edition 1", old), ("edition 2", new)];
+    let old = edition == TraceEdition::One;
+    let mut facts = vec![
+        ("edition 1", old),
+        ("edition 2", edition == TraceEdition::Two),
+        ("edition 3", edition == TraceEdition::Three),
+    ];
     let connected = router.peers.iter().filter(|peer| peer.status == Status::Connected).count();
     let many = connected > OLD_SLOTS;
     facts.push(("all slots are connected", connected == SLOTS));
@@ -41,9 +47,13 @@ pub fn cases(edition: TraceEdition, router: &Router, event: &Event) -> Vec<&'sta
             }
         }
         Call::Score { id } if event.in_range() => {
-            let sharing = router.connected(*id as u32).map(|slot| router.sharing(slot));
-            let crowd = sharing.is_ok_and(|sharing| sharing > OLD_SLOTS as i64);
+            let crowded = |group| router.sharing(group) > OLD_SLOTS as i64;
+            let slot = router.connected(*id as u32);
+            let crowd = slot.is_ok_and(|slot| router.peers[slot].groups().any(crowded));
             facts.push(("a group of more peers than the old slots", crowd));
+        }
+        Call::Connect { groups, .. } if event.in_range() => {
+            facts.push(("edition 3, several groups", groups.len() > 1));
         }
         _ => {}
     }

@@ -103,7 +103,7 @@ impl Caller {
         let retained = self.ids_of(Status::Retained).into_iter();
         let returns = retained.flat_map(|id| {
             let name = NAMES[1].to_vec();
-            [Call::Connect { id, group: 0, flags: 0, name }, Call::Score { id }]
+            [Call::Connect { id, groups: vec![0], flags: 0, name }, Call::Score { id }]
         });
         scores.chain(leaves).chain(returns).map(|call| Event { now, call }).collect()
     }
@@ -217,6 +217,27 @@ impl Caller {
         }
     }
 
+    /// One group, or in an edition that counts them one to four; now and then none, one
+    /// twice, or some out of order.
+    fn groups(&mut self) -> Vec<u64> {
+        if !self.scene.edition.counts_groups() {
+            return vec![self.group()];
+        }
+        let count = *self.random.pick(&[1, 1, 2, 2, 3, GROUPS]);
+        let mut groups: Vec<u64> = (0..count).map(|_| self.group()).collect();
+        groups.sort_unstable();
+        groups.dedup();
+        if self.random.chance(1, 30) {
+            match self.random.below(3) {
+                0 => groups.clear(),
+                1 => groups.insert(0, groups[0]),
+                _ => groups.insert(0, groups[0] + 1),
+            }
+            groups.truncate(GROUPS);
+        }
+        groups
+    }
+
     fn name(&mut self) -> Vec<u8> {
         let mut name = self.random.pick(&NAMES).to_vec();
         if self.random.chance(1, 30) {
@@ -328,7 +349,7 @@ impl Caller {
     }
 
     fn connect_of(&mut self, id: u64) -> Call {
-        Call::Connect { id, group: self.group(), flags: self.flags(), name: self.name() }
+        Call::Connect { id, groups: self.groups(), flags: self.flags(), name: self.name() }
     }
 
     fn heartbeat_call(&mut self, topic: u64) -> Call {

@@ -3,7 +3,7 @@
 use super::calls::{Caller, Scene};
 use super::params as generate_params;
 use crate::coverage::{self, Coverage};
-use crate::event::{Call, Event, CALL_NAMES, OLD_SLOTS, SLOTS};
+use crate::event::{Call, Event, CALL_NAMES, GROUPS, OLD_SLOTS, SLOTS};
 use crate::groups;
 use crate::params::{field_at, general, topic, topic_index, Edition, Params, TOPICS};
 use crate::random::Random;
@@ -29,7 +29,7 @@ pub fn trace(random: &mut Random, coverage: &mut Coverage) -> Generated {
     }
 }
 
-/// Either edition of a trace.
+/// Any edition of a trace.
 fn edition(random: &mut Random) -> TraceEdition {
     *random.pick(&TraceEdition::ALL)
 }
@@ -305,7 +305,7 @@ fn limits(random: &mut Random, coverage: &mut Coverage) -> Generated {
     let flags = if explicit { 2 } else { random.below(2) as u64 };
     let name = b"/meshsub/1.1.0".to_vec();
     let (id, topic) = (7, random.below(TOPICS) as u64);
-    run.push(Event { now: 0, call: Call::Connect { id, group: 1, flags, name } });
+    run.push(Event { now: 0, call: Call::Connect { id, groups: vec![1], flags, name } });
     run.push(Event { now: 0, call: Call::Join { topic } });
     run.push(Event { now: 0, call: Call::Prune { id, topic, seconds: 3600 } });
     for count in 0..1003 {
@@ -342,9 +342,7 @@ fn bad_params(random: &mut Random, coverage: &mut Coverage) -> Generated {
     };
     let more = random.below(20);
     bytes.extend(random.bytes(more));
-    if random.chance(1, 2) {
-        bytes.splice(0..0, TraceEdition::Two.front().iter().copied());
-    }
+    bytes.splice(0..0, edition(random).front().iter().copied());
     coverage.count_start(&bytes);
     Generated { bytes, events: 0 }
 }
@@ -378,12 +376,18 @@ fn damaged_end(
         coverage.count_stop("unknown kind");
         return unknown_kind(random);
     }
-    if matches!(event.call, Call::Heartbeat { .. }) && random.chance(1, 4) {
-        return other_editions(edition, event, coverage);
+    match event.call {
+        Call::Heartbeat { .. } if random.chance(1, 4) => {
+            return other_editions(edition, event, coverage);
+        }
+        Call::Connect { .. } if edition.counts_groups() && random.chance(1, 3) => {
+            return many_groups(edition, event, random, coverage);
+        }
+        _ => {}
     }
     let mut pieces = trace::event_pieces(edition, event);
-    let place = random.below(pieces.len().min(7));
-    let name = coverage::piece_name(&event.call, place);
+    let place = random.below(pieces.len().min(9));
+    let name = coverage::piece_name(edition, &event.call, place);
     if name == "name" {
         // Raw bytes can only be too few.
         pieces.truncate(place + 1);
@@ -395,20 +399,36 @@ fn damaged_end(
     let bytes = pieces.concat();
     let stopped = trace::read_event(edition, &bytes).is_err();
     if stopped && !bytes.is_empty() {
-        coverage.count_stop(&coverage::bad_bytes(&event.call, place));
+        coverage.count_stop(&coverage::bad_bytes(edition, &event.call, place));
     }
     bytes
 }
 
-/// A heartbeat as another edition has it: an old permutation in edition 2 is cut short; in
-/// edition 1 the rest of a new one is taken for events.
+/// A heartbeat as another edition has it: an old permutation is cut short where a new one is
+/// due; in edition 1 the rest of a new one is taken for events.
 fn other_editions(edition: TraceEdition, event: &Event, coverage: &mut Coverage) -> Vec<u8> {
     coverage.count_stop(&coverage::other_permutation(edition));
     let other = match edition {
         TraceEdition::One => TraceEdition::Two,
-        TraceEdition::Two => TraceEdition::One,
+        TraceEdition::Two | TraceEdition::Three => TraceEdition::One,
     };
     trace::write_event(other, event)
+}
+
+/// A connect whose count of groups is above the most, with so many groups or fewer.
+fn many_groups(
+    edition: TraceEdition,
+    event: &Event,
+    random: &mut Random,
+    coverage: &mut Coverage,
+) -> Vec<u8> {
+    coverage.count_stop(coverage::MANY_GROUPS);
+    let more = if random.chance(1, 2) { 0 } else { random.of_any_width() >> 1 };
+    let mut pieces = trace::event_pieces(edition, event);
+    // After kind, time and id.
+    pieces[3].clear();
+    groups::write_unsigned(GROUPS as u64 + 1 + more, &mut pieces[3]);
+    pieces.concat()
 }
 
 /// Cuts the bytes before a number or in it, or makes it overlong or too wide.

@@ -26,7 +26,7 @@ impl Router {
         &mut self,
         now: u64,
         id: u32,
-        group: u32,
+        groups: &[u64],
         flags: u64,
         name: &[u8],
     ) -> Result<(), Refusal> {
@@ -38,7 +38,7 @@ impl Router {
         let peer = &mut self.peers[slot];
         peer.status = Status::Connected;
         peer.id = id;
-        peer.group = group;
+        peer.groups = std::array::from_fn(|place| groups.get(place).map(|&group| group as u32));
         peer.outbound = flags & OUTBOUND_FLAG != 0;
         peer.explicit = flags & EXPLICIT_FLAG != 0;
         peer.version = version;

@@ -42,44 +42,43 @@ impl Router {
     /// peers of each group are counted once.
     pub fn scores(&self) -> Vec<i64> {
         let connected = |peer: &&Peer| peer.status == Status::Connected;
-        let mut groups: HashMap<u32, i64> = HashMap::new();
-        for peer in self.peers.iter().filter(connected) {
-            *groups.entry(peer.group).or_default() += 1;
+        let mut holders: HashMap<u32, i64> = HashMap::new();
+        for group in self.peers.iter().filter(connected).flat_map(Peer::groups) {
+            *holders.entry(group).or_default() += 1;
         }
         let score = |peer: &Peer| match peer.status {
-            Status::Connected => self.why_among(peer, groups[&peer.group]).score(),
+            Status::Connected => self.why_among(peer, |group| holders[&group]).score(),
             _ => 0,
         };
         self.peers.iter().map(score).collect()
     }
 
     /// The parts of a record's score, which depends on it, the parameters, and how
-    /// many connected peers its group has.
+    /// many connected peers its groups have.
     pub fn why(&self, slot: usize) -> Why {
-        let peer = &self.peers[slot];
-        self.why_among(peer, self.sharing(slot))
+        self.why_among(&self.peers[slot], |group| self.sharing(group))
     }
 
-    fn why_among(&self, peer: &Peer, sharing: i64) -> Why {
+    fn why_among(&self, peer: &Peer, sharing: impl Fn(u32) -> i64) -> Why {
         let g = |place| i128::from(self.params.general(place));
         let total = (0..TOPICS).map(|k| topic_score(&self.params, k, &peer.topics[k])).sum();
-        // P6: how many connected peers share the group, above the threshold.
-        let surplus = (i128::from(sharing) - g(general::P6_THRESHOLD)).max(0);
+        let surplus = |group| (i128::from(sharing(group)) - g(general::P6_THRESHOLD)).max(0);
+        let surpluses: i128 = peer.groups().map(|group| surplus(group) * surplus(group)).sum();
         let p7 = i128::from(peer.p7);
         let part = |part| i64::try_from(part).expect("no part passes 2.6 * 10^18");
         Why {
             total: part(total),
             capped: part(capped(total, g(general::TOPIC_CAP) * 1_000_000)),
             p5: part(g(general::W5) * i128::from(peer.p5) * 1000),
-            p6: part(g(general::W6) * surplus * surplus * 1_000_000_000),
+            p6: part(g(general::W6) * surpluses * 1_000_000_000),
             p7: part(g(general::W7) * p7 * p7 * 1000),
         }
     }
 
-    /// How many connected peers share the group, itself counted.
-    pub fn sharing(&self, slot: usize) -> i64 {
-        let peer = &self.peers[slot];
-        let shares = |other: &&Peer| other.status == Status::Connected && other.group == peer.group;
+    /// Order 11 of 02: "P6 sums, over the peer's groups, the squared surplus, counting
+    /// connected peers that hold the group".
+    pub fn sharing(&self, group: u32) -> i64 {
+        let shares = |other: &&Peer| other.status == Status::Connected && other.holds(group);
         self.peers.iter().filter(shares).count() as i64
     }
 

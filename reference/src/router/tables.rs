@@ -1,7 +1,7 @@
 //! The records of peers, and the test that tables are a router's.
 
 use super::Router;
-use crate::event::{LAST_TIME, P5_LIMIT};
+use crate::event::{GROUPS, LAST_TIME, P5_LIMIT};
 use crate::params::{general, topic, TOPICS};
 
 /// P4 and P7 stop at 10^6 thousandths, P3b at 10^12 millionths.
@@ -45,12 +45,16 @@ pub struct TopicRecord {
     pub p4: i64,
 }
 
+/// Order 11 of 02: "A record holds one to four different address groups (an empty one
+/// none ..), lowest first". Past the last group there is none.
+pub type Groups = [Option<u32>; GROUPS];
+
 /// A peer's record; the default one is empty, all zero.
 #[derive(Clone, PartialEq, Eq, Debug, Default)]
 pub struct Peer {
     pub status: Status,
     pub id: u32,
-    pub group: u32,
+    pub groups: Groups,
     pub outbound: bool,
     pub explicit: bool,
     pub version: Version,
@@ -77,7 +81,7 @@ impl Peer {
         let Peer {
             status,
             id,
-            group,
+            groups,
             outbound,
             explicit,
             version,
@@ -88,9 +92,10 @@ impl Peer {
             backoff_ends,
         } = self;
         let flags = *status as u64 | u64::from(outbound | explicit) | *version as u64;
-        let own = u64::from(id | group) | flags | (p5 | p7) as u64 | retain_end;
+        let own = u64::from(*id) | flags | (p5 | p7) as u64 | retain_end;
         let of_topics = topics.iter().fold(0, |bits, record| bits | record.bits());
-        own | of_topics | backoff_ends.iter().fold(0, |bits, end| bits | end) == 0
+        let numbers = own | of_topics | backoff_ends.iter().fold(0, |bits, end| bits | end);
+        numbers == 0 && *groups == Groups::default()
     }
 
     pub fn leave_mesh(&mut self, topic: usize) {
@@ -118,9 +123,28 @@ impl Peer {
         end == 0 || now >= end + GRAFT_SLACK
     }
 
+    /// The groups, lowest first.
+    pub fn groups(&self) -> impl Iterator<Item = u32> + '_ {
+        self.groups.iter().copied().flatten()
+    }
+
+    pub fn holds(&self, group: u32) -> bool {
+        self.groups.contains(&Some(group))
+    }
+
+    /// One at least, each above the one before it, and none past the last.
+    fn groups_in_order(&self) -> bool {
+        let follows = |pair: &[Option<u32>]| match (pair[0], pair[1]) {
+            (Some(first), Some(second)) => first < second,
+            (_, second) => second.is_none(),
+        };
+        self.groups[0].is_some() && self.groups.windows(2).all(follows)
+    }
+
     fn in_ranges(&self) -> bool {
         let retain_limit = if self.status == Status::Retained { LAST_RETAIN_END } else { 0 };
         self.id != 0
+            && self.groups_in_order()
             && (-P5_LIMIT..=P5_LIMIT).contains(&self.p5)
             && (0..=P4_P7_LIMIT).contains(&self.p7)
             && self.retain_end <= retain_limit

@@ -2,11 +2,18 @@
 
 use super::slots::Slots;
 use super::{is_id, is_topic, Actions, Peer, Router, Status};
-use reference::event::SLOTS;
+use reference::event::GROUPS;
 use reference::params::{general, TOPICS};
 use reference::router::{Answer, Refusal};
 
 const LONGEST_BACKOFF: u64 = 3600;
+
+/// One to four groups of 32 bits, each above the one before it.
+fn are_groups(groups: &[u64]) -> bool {
+    (1..=GROUPS).contains(&groups.len())
+        && groups.windows(2).all(|pair| pair[0] < pair[1])
+        && groups[groups.len() - 1] <= u64::from(u32::MAX)
+}
 
 /// What a connect finds in one walk over the slots.
 #[derive(Default)]
@@ -21,12 +28,12 @@ impl Router {
         &mut self,
         now: u64,
         id: u64,
-        group: u64,
+        groups: &[u64],
         flags: u64,
         name: &[u8],
         list: &mut [u32],
     ) -> Answer {
-        self.admit(is_id(id) && group <= u64::from(u32::MAX) && flags <= 3, now, list)?;
+        self.admit(is_id(id) && are_groups(groups) && flags <= 3, now, list)?;
         let v11 = match name {
             b"/meshsub/1.0.0" => false,
             b"/meshsub/1.1.0" => true,
@@ -40,7 +47,11 @@ impl Router {
         let peer = &mut self.peers[slot];
         peer.status = Status::Connected;
         peer.id = id as u32;
-        peer.group = group as u32;
+        peer.groups = [0; GROUPS];
+        for (own, &group) in peer.groups.iter_mut().zip(groups) {
+            *own = group as u32;
+        }
+        peer.group_count = groups.len() as u8;
         peer.outbound = flags & 1 != 0;
         peer.explicit = flags & 2 != 0;
         peer.v11 = v11;
@@ -97,9 +108,11 @@ impl Router {
         }
         let seconds = self.general(general::UNSUBSCRIBE_BACKOFF) as u64;
         let mut actions = Actions { list, count: 0 };
-        for slot in 0..SLOTS {
+        // A PRUNE changes no other peer's score.
+        let surpluses = self.surpluses();
+        for (slot, surplus) in surpluses.into_iter().enumerate() {
             if self.peers[slot].is_member(k) {
-                if self.score_of(slot) < 0 {
+                if self.why_among(&self.peers[slot], surplus).score() < 0 {
                     self.punish(slot, k);
                 }
                 self.send_prune(slot, k, now + 1000 * seconds, seconds, &mut actions);

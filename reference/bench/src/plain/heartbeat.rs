@@ -2,7 +2,7 @@
 
 use super::slots::Slots;
 use super::{is_topic, Actions, Router, Status};
-use reference::event::{Permutation, SLOTS};
+use reference::event::{Permutation, GROUPS, SLOTS};
 use reference::params::general;
 use reference::router::{Answer, Refusal, GRAFT_SLACK};
 
@@ -17,8 +17,8 @@ struct Start {
     negative: Slots,
 }
 
-/// Places of a table of groups, four for each slot.
-const PLACES: usize = 4 * SLOTS;
+/// Places of a table of groups, two for each that the slots can hold.
+const PLACES: usize = 2 * GROUPS * SLOTS;
 
 /// Where a group is looked for first.
 fn first_place(group: u32) -> usize {
@@ -61,7 +61,7 @@ impl Router {
     }
 
     fn start(&self, now: u64, k: usize, order: [u8; SLOTS]) -> Start {
-        let sharing = self.sharing();
+        let surpluses = self.surpluses();
         let mut start = Start {
             order,
             scores: [0; SLOTS],
@@ -75,7 +75,7 @@ impl Router {
             if peer.status != Status::Connected || !peer.is_subscribed(k) || peer.explicit {
                 continue;
             }
-            let score = self.why_among(peer, sharing[slot]).score();
+            let score = self.why_among(peer, surpluses[slot]).score();
             let end = peer.backoff_ends[k];
             let free = (end == 0) | (now >= end + GRAFT_SLACK);
             let candidate = !member & (score >= 0) & free;
@@ -88,22 +88,34 @@ impl Router {
         start
     }
 
-    /// How many connected peers share each connected peer's group. The groups are counted
-    /// in a table of four places for each slot, a group beside its count.
-    fn sharing(&self) -> [i64; SLOTS] {
+    /// The squared surpluses of each connected peer's groups, summed. The groups are
+    /// counted in a table, a group beside its count.
+    pub(super) fn surpluses(&self) -> [i64; SLOTS] {
         let mut table = [(0_u32, 0_u32); PLACES];
-        let mut places = [0; SLOTS];
-        for (place, peer) in places.iter_mut().zip(&self.peers) {
+        let mut places = [[0_u16; GROUPS]; SLOTS];
+        for (places, peer) in places.iter_mut().zip(&self.peers) {
             if peer.status != Status::Connected {
                 continue;
             }
-            *place = first_place(peer.group);
-            while table[*place].1 != 0 && table[*place].0 != peer.group {
-                *place = (*place + 1) % PLACES;
+            for (own, &group) in places.iter_mut().zip(peer.groups()) {
+                let mut place = first_place(group);
+                while table[place].1 != 0 && table[place].0 != group {
+                    place = (place + 1) % PLACES;
+                }
+                table[place] = (group, table[place].1 + 1);
+                *own = place as u16;
             }
-            table[*place] = (peer.group, table[*place].1 + 1);
         }
-        places.map(|place| i64::from(table[place].1))
+        let threshold = self.general(general::P6_THRESHOLD);
+        let squared = |place: u16| {
+            let surplus = (i64::from(table[place as usize].1) - threshold).max(0);
+            surplus * surplus
+        };
+        let mut sums = [0; SLOTS];
+        for ((sum, places), peer) in sums.iter_mut().zip(&places).zip(&self.peers) {
+            *sum = places[..peer.group_count as usize].iter().map(|&place| squared(place)).sum();
+        }
+        sums
     }
 
     fn steps(&mut self, now: u64, k: usize, ask: bool, start: &Start, to: &mut Actions) -> usize {

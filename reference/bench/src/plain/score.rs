@@ -2,7 +2,7 @@
 //! 2.6 * 10^18, and neither does a part of one.
 
 use super::{is_id, is_topic, Peer, Router, Status, Topics};
-use reference::event::P5_LIMIT;
+use reference::event::{GROUPS, P5_LIMIT};
 use reference::params::{general, topic, TOPICS, TOPIC_COUNT};
 use reference::router::{Answer, Done, Why};
 
@@ -40,25 +40,31 @@ impl Router {
 
     fn why(&self, slot: usize) -> Why {
         let peer = &self.peers[slot];
-        let shares = |other: &Peer| other.group == peer.group && other.status == Status::Connected;
-        let sharing = self.peers.iter().map(|other| i64::from(shares(other))).sum();
-        self.why_among(peer, sharing)
+        // One walk over the records for all groups.
+        let mut sharing = [0; GROUPS];
+        for other in self.peers.iter().filter(|other| other.status == Status::Connected) {
+            for (count, &group) in sharing.iter_mut().zip(peer.groups()) {
+                *count += i64::from(other.holds(group));
+            }
+        }
+        let threshold = self.general(general::P6_THRESHOLD);
+        let squared = |count: &i64| (count - threshold).max(0).pow(2);
+        self.why_among(peer, sharing.iter().map(squared).sum())
     }
 
-    /// The parts of the score of a peer that so many connected ones share the group with.
-    pub(super) fn why_among(&self, peer: &Peer, sharing: i64) -> Why {
+    /// The parts of the score of a peer whose groups' squared surpluses have this sum.
+    pub(super) fn why_among(&self, peer: &Peer, surpluses: i64) -> Why {
         let mut total = 0;
         for k in 0..TOPICS {
             total += topic_score(self.topic(k), &peer.topics, k);
         }
         let cap = self.general(general::TOPIC_CAP) * 1_000_000;
-        let surplus = (sharing - self.general(general::P6_THRESHOLD)).max(0);
         let p7 = i64::from(peer.p7);
         Why {
             total,
             capped: if cap == 0 { total } else { total.min(cap) },
             p5: self.general(general::W5) * i64::from(peer.p5) * 1000,
-            p6: self.general(general::W6) * surplus * surplus * 1_000_000_000,
+            p6: self.general(general::W6) * surpluses * 1_000_000_000,
             p7: self.general(general::W7) * p7 * p7 * 1000,
         }
     }

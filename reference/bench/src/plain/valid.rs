@@ -2,7 +2,7 @@
 //! where the compiler can then take several fields or records at once.
 
 use super::{Peer, Router, Status, Topics};
-use reference::event::{LAST_TIME, P5_LIMIT, SLOTS};
+use reference::event::{GROUPS, LAST_TIME, P5_LIMIT, SLOTS};
 use reference::params::{
     general, topic, topic_index, Edition, COUNT, GENERAL, GENERAL_COUNT, TOPIC, TOPICS, TOPIC_COUNT,
 };
@@ -119,6 +119,7 @@ impl Router {
         let may_subscribe = if connected { u8::MAX } else { 0 };
         let may_enter = if peer.explicit { 0 } else { peer.topics.subscribed & self.joined };
         (peer.id != 0)
+            & peer.groups_in_order()
             & (i64::from(peer.p5).abs() <= P5_LIMIT)
             & (peer.p7 <= P4_P7_LIMIT)
             & (peer.retain_end <= retain_limit)
@@ -142,6 +143,17 @@ impl Router {
 }
 
 impl Peer {
+    /// One to four groups, each above the one before it, and zeros past the last.
+    fn groups_in_order(&self) -> bool {
+        let count = self.group_count as usize;
+        let mut kept = (1..=GROUPS).contains(&count);
+        for place in 1..GROUPS {
+            let (before, group) = (self.groups[place - 1], self.groups[place]);
+            kept &= if place < count { before < group } else { group == 0 };
+        }
+        kept
+    }
+
     /// All zero, as the default one; the columns are joined side by side.
     fn is_zero(&self) -> bool {
         let Topics { graft_times, mesh_times, p3b, p2, p3, p4, subscribed, member } = &self.topics;
@@ -152,7 +164,8 @@ impl Peer {
         }
         let flags = self.outbound | self.explicit | self.v11;
         let sets = u32::from(subscribed | member) | u32::from(flags);
-        let own = self.id | self.group | self.p5 as u32 | self.p7 | sets;
+        let groups = self.groups.iter().fold(0, |all, group| all | group);
+        let own = self.id | groups | self.p5 as u32 | self.p7 | sets | u32::from(self.group_count);
         wide | self.retain_end | u64::from(narrow | own) == 0
     }
 }
