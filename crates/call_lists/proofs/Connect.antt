@@ -81,8 +81,7 @@ module _
         here = rw (eq-eqb id id refl)
 
         tied-in : (i : ℕ) → i < slotCount → peerIn u i .status ≡ 1 → eqb (peerIn u i .outbound) 1 ≡ after (peerIn u i .id)
-        tied-in i l =
-            peer-case kept (λ (q : Peer). q .status ≡ 1 → eqb (q .outbound) 1 ≡ after (q .id)) s p i (λ e on. here) (other i l)
+        tied-in i l = peer-case kept (λ (q : Peer). q .status ≡ 1 → eqb (q .outbound) 1 ≡ after (q .id)) s p i (λ e on. here) (other i l)
 
         abbrev left : State
         left = setClock u time

@@ -70,8 +70,7 @@ module _ (params : Params) (dir : ℕ → Bool) (st : State) (h : Standing param
 
   -- a heartbeat that was answered 0
   maintained-step :
-      (time t ask room : ℕ) (order : List ℕ) →
-      numberOf (step st (heartbeat time t ask order) room .answer) ≡ 0 →
+      (time t ask room : ℕ) (order : List ℕ) → numberOf (step st (heartbeat time t ask order) room .answer) ≡ 0 →
       MaintainedIn params dir st (step st (heartbeat time t ask order) room .state) time t
   unfolding effect
   maintained-step time t ask room order =
@@ -88,8 +87,7 @@ module _ (params : Params) (ok : Accepted params) where
   pub standing : (calls : List Made) → Standing params (outbound params calls) (after params calls)
   unfolding after outbound answered
   standing [] = stands-fresh params ok (outbound params [])
-  standing (c ∷ before) =
-      stands-step params (outbound params before) (after params before) (standing before) (c .call) (c .room)
+  standing (c ∷ before) = stands-step params (outbound params before) (after params before) (standing before) (c .call) (c .room)
 
   -- the flag of a connected peer's record is the direction that its last connect answered 0 said
   pub direction-tied :

@@ -62,8 +62,7 @@ module _ (st : State) where
         member = λ k m. m;
       }
 
-  pub fewer-topic :
-      (k : ℕ) (r : TopicRecord) → (r .member ≡ 1 → topicIn st k .member ≡ 1) → Fewer st (setTopic st k r)
+  pub fewer-topic : (k : ℕ) (r : TopicRecord) → (r .member ≡ 1 → topicIn st k .member ≡ 1) → Fewer st (setTopic st k r)
   unfolding setTopic peerIn
   fewer-topic k r h =
       record {
@@ -75,10 +74,7 @@ module _ (st : State) where
       }
 
 -- ---- a walk, and a choice
-pub fewer-iter :
-    (f : ℕ → State → State) (n : ℕ) (st : State) →
-    ((i : ℕ) (u : State) → i < n → Fewer u (f i u)) →
-    Fewer st (iter n f st)
+pub fewer-iter : (f : ℕ → State → State) (n : ℕ) (st : State) → ((i : ℕ) (u : State) → i < n → Fewer u (f i u)) → Fewer st (iter n f st)
 fewer-iter f n st h = iter-keeps (λ (u : State). Fewer st u) f n st (fewer-self st) (λ i u l w. fewer-then w (h i u l))
 
 pub fewer-either : (st : State) (b : Bool) (u v : State) → Fewer st u → Fewer st v → Fewer st (cond b u v)

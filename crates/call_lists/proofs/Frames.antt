@@ -40,10 +40,7 @@ module _ (st : State) (s : ℕ) where
   fewer-p7 n = fewer-peer st s _ (λ on. record { status = on; id = refl; outbound = refl })
 
   -- a record with the membership that it had, or with none
-  fewer-on :
-      (t : ℕ) (g : TopicRecord → TopicRecord) →
-      ((r : TopicRecord) → g r .member ≡ 1 → r .member ≡ 1) →
-      Fewer st (onTopic st s t g)
+  fewer-on : (t : ℕ) (g : TopicRecord → TopicRecord) → ((r : TopicRecord) → g r .member ≡ 1 → r .member ≡ 1) → Fewer st (onTopic st s t g)
   fewer-on t g h = fewer-topic st (place s t) _ (h (topicIn st (place s t)))
 
 fewer-pruned : (st : State) (s t end : ℕ) → Fewer st (pruned st s t end)
@@ -54,8 +51,7 @@ fewer-pruned st s t end =
 -- ---- what a call's walks are made of
 fewer-punished : (st : State) (t s : ℕ) (u : State) → Fewer u (punished st t s u)
 unfolding punished grownOf
-fewer-punished st t s u =
-    fewer-either u (isNegative st s) _ u (fewer-on u s t (grownOf (topicParamsIn st t)) (λ r m. m)) (fewer-self u)
+fewer-punished st t s u = fewer-either u (isNegative st s) _ u (fewer-on u s t (grownOf (topicParamsIn st t)) (λ r m. m)) (fewer-self u)
 
 fewer-left : (st : State) (t end s : ℕ) (u : State) → Fewer u (leaveSlot st t end s u)
 unfolding leaveSlot
@@ -156,9 +152,7 @@ module _ (st : State) (time : ℕ) where
     pub fewer-prune : (seconds : ℕ) → Fewer st (pruneReply st time t seconds s .state)
     unfolding pruneReply
     fewer-prune seconds =
-        either (isHeard st t s) _ (ignored st time)
-        (moved (fewer-pruned st s t (endAfter time (secondsOf st seconds))))
-        fewer-still
+        either (isHeard st t s) _ (ignored st time) (moved (fewer-pruned st s t (endAfter time (secondsOf st seconds)))) fewer-still
 
     delivered : (kind : ℕ) (r : TopicRecord) → deliveredOf kind (topicParamsIn st t) r .member ≡ r .member
     unfolding deliveredOf firstOf nearFirstOf invalidOf

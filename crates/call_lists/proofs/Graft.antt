@@ -1,16 +1,12 @@
 -- GRAFT in: the one member that may come is the peer itself, and an inbound one only while the mesh has fewer than D_hi members.
 -- Assumes nothing.
-use Prim.Native.Nat.{ℕ, _+_, _<_, _≤_}
-use native.Mathlib.Omega.{arith}
-use mathlib.Core.Path.{_≡_, refl, sym, ap, _∙_}
+use Rattle.index.proofs.Kit.{ℕ, _+_, _<_, _≤_, arith, _≡_, refl, sym, ap, _∙_, Bool, true, false, one, by-test}
 use mathlib.Core.Logic.{_≢_}
-use mathlib.Core.Bool.{Bool, true, false, _&&_, and-false}
+use mathlib.Core.Bool.{_&&_, and-false}
 use mathlib.Core.List.{[]}
 use lib.Dec.{eqb, leb}
 use borrow.Author.Tests.{eqb-true, eqb-false, eq-eqb, leb-false}
-use Rattle.index.specs.Index.{one}
 use Rattle.index.proofs.Index.{one-le}
-use Rattle.index.proofs.Flags.{by-test}
 use Rattle.params.specs.declared.Params.{Params}
 use Rattle.records.specs.declared.Peer.{Peer}
 use Rattle.records.specs.Records.{State, place, peerIn, topicIn, setClock, slotCount}
@@ -86,9 +82,7 @@ module _
           count-change (isInbound left t) (isInbound st t) s slotCount l (λ i b n. same-inbound t i (place-slot s t i t k k n)) in
           let was = h .few t k in
           by-test _ (eqb (peerIn st s .outbound) 1)
-          (λ o.
-          let q : one (isInbound left t s) ≡ 0 = rw (same-peer s, o, and-false (isMember left t s)) in
-          omega arith)
+          (λ o. let q : one (isInbound left t s) ≡ 0 = rw (same-peer s, o, and-false (isMember left t s)) in omega arith)
           (λ o. omega (arith, room o, inbounds-most st t, one-le (isInbound left t s)))
 
       taken : Stays params dir (done u time [])

@@ -42,9 +42,7 @@ pub record MaintainedIn (params : Params) (dir : ℕ → Bool) (st u : State) (t
   pub outs :
       (dOut params ≤ count slotCount (λ s. isMember u t s && dir (peerIn u s .id))) ⊎
       ((s : ℕ) → s < slotCount → InPool st time t s → dir (peerIn u s .id) ≡ true → isMember u t s ≡ true)
-  pub enough :
-      (dLo params ≤ count slotCount (isMember u t)) ⊎
-      ((s : ℕ) → s < slotCount → InPool st time t s → isMember u t s ≡ true)
+  pub enough : (dLo params ≤ count slotCount (isMember u t)) ⊎ ((s : ℕ) → s < slotCount → InPool st time t s → isMember u t s ≡ true)
 
 module _
     (params : Params)
@@ -149,8 +147,7 @@ module _
 
       degrees : (degreesIn st .lo ≡ dLo params) × (degreesIn st .hi ≡ dHi params) × (degreesIn st .out ≡ dOut params)
       unfolding degreesIn
-      degrees =
-          (degree-is st params (h .codes) 0, degree-is st params (h .codes) 2, degree-is st params (h .codes) 3)
+      degrees = (degree-is st params (h .codes) 0, degree-is st params (h .codes) 2, degree-is st params (h .codes) 3)
 
       -- ---- the invariant stays
       few-here : inbounds left t ≤ dHi params + 2

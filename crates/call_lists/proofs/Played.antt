@@ -1,8 +1,7 @@
 -- The program's calls on one table: by induction on their list, each from its own promise.
 -- Assumes nothing.
 use Prim.{tt}
-use Prim.Native.Nat.{ℕ}
-use mathlib.Core.Path.{_≡_, ap, _∙_}
+use Rattle.index.proofs.Kit.{ℕ, _≡_, ap, _∙_}
 use mathlib.Core.List.{List, [], _∷_, map}
 use lib.ListN.{length}
 use lib.Seq.{sets}
@@ -21,8 +20,7 @@ module _ (params : Params) (ok : Accepted params) where
   unfolding Played after
   same-state [] table p = rw (ok .passes) at (p .1 .state)
   same-state (c ∷ before) table p =
-      p .2 .leaves .state
-      ∙ ap (λ (st : State). step st (c .call) (length (c .list)) .state) (same-state before (p .0) (p .1))
+      p .2 .leaves .state ∙ ap (λ (st : State). step st (c .call) (length (c .list)) .state) (same-state before (p .0) (p .1))
 
   same-replies : (calls : List Called) (table : List ℕ) → Played params calls table → SameReplies params calls
   unfolding Played SameReplies

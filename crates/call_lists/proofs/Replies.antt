@@ -22,8 +22,7 @@ heardOf c a dir = λ peer. heard c (eqb (numberOf a) 0) peer (dir peer)
 
 -- that the tables stay a router's is known of every call
 abbrev pub After : Params → (ℕ → Bool) → Call → Reply → Type 0
-After params dir c r =
-    Sized (r .state) → valid (r .state) ≡ true → Standing params (heardOf c (r .answer) dir) (r .state)
+After params dir c r = Sized (r .state) → valid (r .state) ≡ true → Standing params (heardOf c (r .answer) dir) (r .state)
 
 -- the same of a call that says no direction
 abbrev pub Stays : Params → (ℕ → Bool) → Reply → Type 0

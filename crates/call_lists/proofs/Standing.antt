@@ -55,10 +55,7 @@ member-connected st v t s k h m = valid-facts st v .topic s t h k .inside (eqb-t
 -- no more inbound members, if each member was one and has the flag that it had
 pub inbounds-less :
     (st u : State) (t : ℕ) →
-    ((s : ℕ) →
-    s < slotCount →
-    isMember u t s ≡ true →
-    (isMember st t s ≡ true) × (peerIn u s .outbound ≡ peerIn st s .outbound)) →
+    ((s : ℕ) → s < slotCount → isMember u t s ≡ true → (isMember st t s ≡ true) × (peerIn u s .outbound ≡ peerIn st s .outbound)) →
     inbounds u t ≤ inbounds st t
 unfolding inbounds
 inbounds-less st u t h =
@@ -71,11 +68,9 @@ inbounds-less st u t h =
 pub inbounds-most : (st : State) (t : ℕ) → inbounds st t ≤ count slotCount (isMember st t)
 unfolding inbounds
 inbounds-most st t =
-    count-less (isInbound st t) (isMember st t) slotCount (λ s l e.
-    both (isMember st t s) (not (eqb (peerIn st s .outbound) 1)) e .0)
+    count-less (isInbound st t) (isMember st t) slotCount (λ s l e. both (isMember st t s) (not (eqb (peerIn st s .outbound) 1)) e .0)
 
-pub fewer-member :
-    {st u : State} → Fewer st u → (t s : ℕ) → isMember u t s ≡ true → isMember st t s ≡ true
+pub fewer-member : {st u : State} → Fewer st u → (t s : ℕ) → isMember u t s ≡ true → isMember st t s ≡ true
 unfolding isMember
 fewer-member f t s m = eq-eqb _ _ (f .member (place s t) (eqb-true _ _ m))
 

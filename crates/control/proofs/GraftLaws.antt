@@ -1,8 +1,6 @@
 -- A GRAFT that comes in: what its refusal may rely on, and what it gives in its case.
 -- Assumes nothing.
-use Prim.Native.Nat.{ℕ}
-use mathlib.Core.Path.{_≡_, refl}
-use mathlib.Core.Bool.{Bool}
+use Rattle.index.proofs.Kit.{ℕ, _≡_, refl, Bool}
 use mathlib.Core.List.{List, [], _∷_}
 use lib.Seq.{sets}
 use Rattle.records.specs.declared.Peer.{Peer}
@@ -58,13 +56,9 @@ module _
 -- ---- what it gives
 -- the PRUNE that answers
 pub refused-gives :
-    (table mid table′ list list′ : List ℕ) (time t s n end : ℕ) (p q : Peer) →
-    n ≡ pruneBackoff (stateOf table) →
-    list′ ≡ sets list 0 (numbersOf (pruneOf p n ∷ [])) →
-    end ≡ endAfter time n →
-    q ≡ withEnd p t end →
-    stateOf mid ≡ setPeer (stateOf table) s q →
-    stateOf table′ ≡ setClock (stateOf mid) time →
+    (table mid table′ list list′ : List ℕ) (time t s n end : ℕ) (p q : Peer) → n ≡ pruneBackoff (stateOf table) →
+    list′ ≡ sets list 0 (numbersOf (pruneOf p n ∷ [])) → end ≡ endAfter time n → q ≡ withEnd p t end →
+    stateOf mid ≡ setPeer (stateOf table) s q → stateOf table′ ≡ setClock (stateOf mid) time →
     Gives (graftRefused (stateOf table) time t s p) (Done 1) table table′ list list′
 unfolding graftRefused
 refused-gives table mid table′ list list′ time t s n end p q en el ee eq em ec =
@@ -73,12 +67,8 @@ refused-gives table mid table′ list list′ time t s n end p q en el ee eq em 
 -- in the case k, which is that of what was seen
 module _ (c : GraftCase) (table table′ list list′ : List ℕ) (time t s : ℕ) (a : Answer) where
   pub graft-at :
-      (v : Seen) (w : Bool) (k : GraftCase) →
-      v ≡ seenIn (stateOf table) t s →
-      w ≡ isCrowded (stateOf table) t →
-      k ≡ graftCase v w time t →
-      k ≡ c →
-      Gives (graftDone c (stateOf table) time t s) a table table′ list list′ →
+      (v : Seen) (w : Bool) (k : GraftCase) → v ≡ seenIn (stateOf table) t s → w ≡ isCrowded (stateOf table) t → k ≡ graftCase v w time t →
+      k ≡ c → Gives (graftDone c (stateOf table) time t s) a table table′ list list′ →
       Gives (graftReply (stateOf table) time t s) a table table′ list list′
   unfolding graftReply
   graft-at v w k ev ew ek ec h = rw (← ev, ← ew, ← ek, ec) h
@@ -90,8 +80,6 @@ module _ (table table′ list list′ : List ℕ) (time t s : ℕ) (a : Answer) 
   refused-seen h = rw e at h
 
   pub refused-raised :
-      (q : Peer) →
-      q ≡ raisedP7 (v .sender .peer) →
-      Gives (graftRefused (stateOf table) time t s q) a table table′ list list′ →
+      (q : Peer) → q ≡ raisedP7 (v .sender .peer) → Gives (graftRefused (stateOf table) time t s q) a table table′ list list′ →
       Gives (graftRefused (stateOf table) time t s (raisedP7 (peerIn (stateOf table) s))) a table table′ list list′
   refused-raised q eq h = rw (eq, e) at h

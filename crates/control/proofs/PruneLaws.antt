@@ -1,10 +1,7 @@
 -- A PRUNE that comes in: its seconds, and what it leaves.
 -- Assumes nothing.
-use Prim.Native.Nat.{ℕ, _≤_, _<_}
-use mathlib.Core.Path.{_≡_, refl, ap, _∙_}
-use mathlib.Core.Bool.{true}
+use Rattle.index.proofs.Kit.{ℕ, _≤_, _<_, _≡_, refl, ap, _∙_, true, arith}
 use mathlib.Core.List.{[]}
-use native.Mathlib.Omega.{arith}
 use borrow.Author.Tests.{ne-eqb}
 use Rattle.records.specs.Records.{State, codeIn}
 use Rattle.varint.specs.Codes.{magnitude}
@@ -17,8 +14,7 @@ use Rattle.rules.specs.Step.{effect, isHeard, pruneReply, secondsOf}
 use Rattle.rules.proofs.EndLaws.{quiet-cond, quiet-peer}
 
 module _ (st : State) (seconds : ℕ) where
-  pub seconds-none :
-      (n : ℕ) → valid st ≡ true → seconds ≡ 0 → n ≡ magnitude (codeIn st 5) → (n ≡ secondsOf st seconds) × (n ≤ 3600)
+  pub seconds-none : (n : ℕ) → valid st ≡ true → seconds ≡ 0 → n ≡ magnitude (codeIn st 5) → (n ≡ secondsOf st seconds) × (n ≤ 3600)
   unfolding secondsOf
   seconds-none n v z e = (rw z e, omega (arith, e, sizes st v .prune))
 
@@ -32,13 +28,8 @@ module _ (st : State) (seconds : ℕ) where
 
 -- the end of the backoff, as it is computed
 pub pruned-is :
-    (st u : State) (s t time m n end : ℕ) →
-    m ≡ n →
-    end ≡ endAfter time m →
-    u ≡ pruned st s t end →
-    u ≡ pruned st s t (endAfter time n)
-pruned-is st u s t time m n end p q e =
-    e ∙ ap (λ (k : ℕ). pruned st s t k) (q ∙ ap (λ (k : ℕ). endAfter time k) p)
+    (st u : State) (s t time m n end : ℕ) → m ≡ n → end ≡ endAfter time m → u ≡ pruned st s t end → u ≡ pruned st s t (endAfter time n)
+pruned-is st u s t time m n end p q e = e ∙ ap (λ (k : ℕ). pruned st s t k) (q ∙ ap (λ (k : ℕ). endAfter time k) p)
 
 quiet-reply : (st : State) (time t seconds s : ℕ) → pruneReply st time t seconds s .actions ≡ []
 unfolding pruneReply

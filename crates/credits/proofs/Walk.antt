@@ -29,10 +29,7 @@ use denote.Struct.Laws as LL
 
 module _ (T : Declared) (L : LL.Laws T) {M : Type 1} (𝓤 : URA M) (H : Heap 𝓤) (A : Atoms 𝓤) (W : Given 𝓤 H A) (d : T .D) where
   pub beside :
-      (n : ℕ) →
-      Plains (fields T) →
-      Is (row T) d (LL.vals T L d) →
-      n < 2 ^ 64 →
+      (n : ℕ) → Plains (fields T) → Is (row T) d (LL.vals T L d) → n < 2 ^ 64 →
       ent 𝓤 (emp 𝓤) (sem 𝓤 H A (owns (row T ∷ u64 ∷ []) (d, (n, tt)) (LL.vals T L d, (vint w64 n ∷ [], tt))))
   beside n plain is fits =
       qed W [] ∵ nothing !
@@ -44,8 +41,7 @@ module _ (T : Declared) (L : LL.Laws T) {M : Type 1} (𝓤 : URA M) (H : Heap �
 
   module _ (b o : ℕ) where
     pub puts :
-        Plains (fields T) →
-        Is (row T) d (LL.vals T L d) →
+        Plains (fields T) → Is (row T) d (LL.vals T L d) →
         ent 𝓤 (H .at fullShare (layout (shape T)) b o (LL.val T L d)) (sem 𝓤 H A (mem (row T) .lies d b o))
     unfolding partOf
     puts plain is =

@@ -40,15 +40,12 @@ module _
     gate-refusal x e = follows-refused c table list x (sym word ∙ e)
 
     module _ (e : g ≡ Pass) (r : Answer) (table′ : List ℕ) where
-      pub gate-gives :
-          (list′ : List ℕ) → Gives (effect (stateOf table) c) r table table′ list list′ → Follows c r table table′ list list′
+      pub gate-gives : (list′ : List ℕ) → Gives (effect (stateOf table) c) r table table′ list list′ → Follows c r table table′ list list′
       gate-gives list′ h = follows-passed c table list r table′ list′ (sym word ∙ e) h
 
       -- a call that gives no action
       pub gate-quiet :
-          effect (stateOf table) c .actions ≡ [] →
-          Leaves (effect (stateOf table) c) r table table′ →
-          Follows c r table table′ list list
+          effect (stateOf table) c .actions ≡ [] → Leaves (effect (stateOf table) c) r table table′ → Follows c r table table′ list list
       gate-quiet q h = gate-gives list (gives-quiet (effect (stateOf table) c) r table table′ list q h)
 
 -- ---- what the inner function of a call may rely on
@@ -82,14 +79,9 @@ module _
 
 -- a topic behind another argument
 pub gate-topic-2 :
-    (table : List ℕ) (a b d : Bool) (room time : ℕ) (g : Gate) →
-    g ≡ gateOf (stateOf table) (a && (b && d)) room time →
-    g ≡ Pass →
-    (t : ℕ) →
-    d ≡ topicOk t →
-    t < 8
-gate-topic-2 table a b d room time g eg e t ed =
-    topic-in t (sym ed ∙ both b d (gate-fine table a (b && d) room time g eg e) .1)
+    (table : List ℕ) (a b d : Bool) (room time : ℕ) (g : Gate) → g ≡ gateOf (stateOf table) (a && (b && d)) room time → g ≡ Pass → (t : ℕ) →
+    d ≡ topicOk t → t < 8
+gate-topic-2 table a b d room time g eg e t ed = topic-in t (sym ed ∙ both b d (gate-fine table a (b && d) room time g eg e) .1)
 
 -- the range of a peer's id and a topic
 pub ids-topics : (id t : ℕ) (a b : Bool) → a ≡ idOk id → b ≡ topicOk t → a && b ≡ idOk id && topicOk t

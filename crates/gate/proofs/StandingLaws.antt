@@ -1,9 +1,8 @@
 -- What a computed score says of a peer, and what is known of the parameters behind the gate.
 -- Assumes nothing.
-use Prim.Native.Nat.{ℕ, _*_, _≤_}
-use mathlib.Core.Path.{_≡_, refl, sym, ap, ap₂, _∙_}
-use mathlib.Core.Bool.{Bool, true, _&&_}
-use native.Mathlib.Omega.{arith}
+use Rattle.index.proofs.Kit.{ℕ, _*_, _≤_, _≡_, refl, sym, ap, _∙_, Bool, true, arith}
+use mathlib.Core.Path.{ap₂}
+use mathlib.Core.Bool.{_&&_}
 use lib.Dec.{eqb, lit<}
 use lib.IntN.{ℤ, pos, negℤ, _*ℤ_}
 use lib.Signed.{ltZ}
@@ -61,9 +60,7 @@ pub graylist-most : (st : State) (n : ℕ) → valid st ≡ true → n ≡ grayl
 graylist-most st n v e = omega (arith, e, sizes st v .graylist)
 
 -- the graylist threshold, from its magnitude
-pub graylist-is :
-    (st : State) → valid st ≡ true →
-    numberOf (codeIn st thresholdAt) *ℤ pos 1000000 ≡ negℤ (pos (graylistSize st * 1000000))
+pub graylist-is : (st : State) → valid st ≡ true → numberOf (codeIn st thresholdAt) *ℤ pos 1000000 ≡ negℤ (pos (graylistSize st * 1000000))
 unfolding codeIn limitAt limits
 graylist-is st v =
     ap (λ (z : ℤ). z *ℤ pos 1000000)
@@ -77,10 +74,7 @@ module _ (st : State) (s : ℕ) (b : Balance) (scores : Scores st s b) where
   negative-of r e = e ∙ negative-is b ∙ ap (λ (z : ℤ). ltZ z (pos 0)) (scores .score)
 
   pub graylisted-of :
-      valid st ≡ true → (p : Peer) (n : ℕ) (r : Bool) →
-      p ≡ peerIn st s →
-      n ≡ graylistSize st →
-      r ≡ belowOf b n →
+      valid st ≡ true → (p : Peer) (n : ℕ) (r : Bool) → p ≡ peerIn st s → n ≡ graylistSize st → r ≡ belowOf b n →
       (eqb (p .explicit) 0 && r) ≡ isGraylisted st s
   unfolding isGraylisted
   graylisted-of v p n r ep en er =
@@ -92,12 +86,8 @@ module _ (st : State) (s : ℕ) (b : Balance) (scores : Scores st s b) where
 
   -- what `see_sender` puts together is what the rules see
   pub sender-of :
-      valid st ≡ true → (n : ℕ) (p : Peer) (below negative : Bool) →
-      p ≡ peerIn st s →
-      n ≡ graylistSize st →
-      below ≡ belowOf b n →
-      negative ≡ negativeOf b →
-      record { peer = p; graylisted = eqb (p .explicit) 0 && below; negative = negative } ≡ senderIn st s
+      valid st ≡ true → (n : ℕ) (p : Peer) (below negative : Bool) → p ≡ peerIn st s → n ≡ graylistSize st → below ≡ belowOf b n →
+      negative ≡ negativeOf b → record { peer = p; graylisted = eqb (p .explicit) 0 && below; negative = negative } ≡ senderIn st s
   sender-of v n p below negative ep en eb eg =
       let g = graylisted-of v p n below ep en eb in
       let m = negative-of negative eg in
@@ -107,8 +97,7 @@ module _ (st : State) (s : ℕ) (b : Balance) (scores : Scores st s b) where
 pub gray-is : (st : State) (s : ℕ) (v : Sender) → v ≡ senderIn st s → v .graylisted ≡ isGraylisted st s
 gray-is st s v e = rw e
 
-pub heard-is :
-    (st : State) (t s : ℕ) (v : Seen) (r b : Bool) → v ≡ seenIn st t s → r ≡ heard v → r ≡ b → isHeard st t s ≡ b
+pub heard-is : (st : State) (t s : ℕ) (v : Seen) (r b : Bool) → v ≡ seenIn st t s → r ≡ heard v → r ≡ b → isHeard st t s ≡ b
 unfolding isHeard
 heard-is st t s v r b e f h =
     let g : heard v ≡ b = sym f ∙ h in

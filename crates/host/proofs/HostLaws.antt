@@ -1,10 +1,7 @@
 -- From what the crates below promise to what a host gets: the answer as one number.
 -- Assumes nothing.
-use Prim.Native.Nat.{ℕ, _≤_}
-use mathlib.Core.Path.{_≡_, refl, sym, ap, _∙_}
-use mathlib.Core.Bool.{false}
+use Rattle.index.proofs.Kit.{ℕ, _≤_, _≡_, refl, sym, ap, _∙_, false, arith}
 use mathlib.Core.List.{List}
-use native.Mathlib.Omega.{arith}
 use lib.ListN.{length}
 use lib.IntN.{ℤ}
 use Rattle.records.specs.Records.{paramCount}
@@ -58,10 +55,8 @@ module _ (bytes : List ℕ) (q : Reading) (v : Verdict) (e : q ≡ readOf bytes)
   read-fits = omega (arith, ap verdictValue verdict-is, read-most bytes)
 
   pub hosts-read :
-      (r : ℕ) (lent lent′ : List ℤ) (stood left : ℕ) →
-      r ≡ packed (verdictNumber v) (verdictValue v) →
-      lent′ ≡ numbersOr v (q .params .numbers) lent →
-      left ≡ editionOr v (editionNumber (q .params .edition)) stood →
+      (r : ℕ) (lent lent′ : List ℤ) (stood left : ℕ) → r ≡ packed (verdictNumber v) (verdictValue v) →
+      lent′ ≡ numbersOr v (q .params .numbers) lent → left ≡ editionOr v (editionNumber (q .params .edition)) stood →
       HostsRead bytes r lent lent′ stood left
   hosts-read r lent lent′ stood left p n d =
       record {
@@ -85,11 +80,7 @@ module _ (p : Params) (buf buf′ : List ℕ) (w v : Written) (e : Wrote p buf w
   write-fits l = omega (arith, ap writtenValue written-is, write-most p buf l)
 
   pub hosts-write : (r : ℕ) → r ≡ packed (writtenNumber v) (writtenValue v) → HostsWrite (Known (p .edition)) (p .numbers) r buf buf′
-  hosts-write r q =
-      record {
-        answer = q ∙ ap (λ (x : Written). packed (writtenNumber x) (writtenValue x)) written-is;
-        bytes = e .1;
-      }
+  hosts-write r q = record { answer = q ∙ ap (λ (x : Written). packed (writtenNumber x) (writtenValue x)) written-is; bytes = e .1 }
 
 -- the edition that a number told, or none
 module _ (n : ℕ) (m : Numbered) (e : m ≡ editionOf n) (xs : List ℤ) where

@@ -1,10 +1,7 @@
 -- From what the reader of messages promises to what a host gets: the answer as one number.
 -- Assumes nothing.
-use Prim.Native.Nat.{ℕ, _≤_}
-use mathlib.Core.Bool.{Bool}
-use mathlib.Core.Path.{_≡_, sym, ap, _∙_}
+use Rattle.index.proofs.Kit.{ℕ, _≤_, Bool, _≡_, sym, ap, _∙_, arith}
 use mathlib.Core.List.{List}
-use native.Mathlib.Omega.{arith}
 use Rattle.answers.specs.Answers.{packed}
 use Rattle.rpc.specs.declared.Answer.{Answer}
 use Rattle.rpc.specs.Reading.{readOf, answerNumber, answerValue}
@@ -13,11 +10,7 @@ use Rattle.host.specs.Messages.{namesNumber, HostsMessage}
 
 -- ---- names
 pub names-told :
-    (r : ℕ) (flag accepted b : Bool) →
-    flag ≡ accepted →
-    flag ≡ b →
-    r ≡ packed (namesNumber b) 0 →
-    r ≡ packed (namesNumber accepted) 0
+    (r : ℕ) (flag accepted b : Bool) → flag ≡ accepted → flag ≡ b → r ≡ packed (namesNumber b) 0 → r ≡ packed (namesNumber accepted) 0
 names-told r flag accepted b e t p = p ∙ ap (λ (x : Bool). packed (namesNumber x) 0) (sym t ∙ e)
 
 -- ---- a message
@@ -32,8 +25,4 @@ module _
     message-fits = omega (arith, ap answerValue answer-is, read-most names s list)
 
     pub hosts-message : (r : ℕ) → r ≡ packed (answerNumber v) (answerValue v) → HostsMessage names s r list out
-    hosts-message r p =
-        record {
-          answer = p ∙ ap (λ (x : Answer). packed (answerNumber x) (answerValue x)) answer-is;
-          entries = e .1;
-        }
+    hosts-message r p = record { answer = p ∙ ap (λ (x : Answer). packed (answerNumber x) (answerValue x)) answer-is; entries = e .1 }

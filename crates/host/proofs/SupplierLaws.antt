@@ -1,15 +1,13 @@
 -- From what the import and the export promise to what a host gets: the answer as one number.
 -- Assumes nothing.
-use Prim.Native.Nat.{ℕ, _≤_, min}
-use mathlib.Core.Path.{_≡_, refl, sym, ap, _∙_}
+use Rattle.index.proofs.Kit.{ℕ, _≤_, _≡_, refl, sym, ap, _∙_, arith, by-test}
+use Prim.Native.Nat.{min}
 use mathlib.Core.List.{List}
-use native.Mathlib.Omega.{arith}
 use lib.Dec.{ltb}
 use lib.ListN.{length}
 use lib.IntN.{ℤ}
 use Rattle.index.specs.declared.Found.{Found}
 use Rattle.index.specs.declared.Found.the-variants.{At, Nothing}
-use Rattle.index.proofs.Flags.{by-test}
 use Rattle.answers.specs.Answers.{packed}
 use Rattle.params.specs.Editions.{sheet}
 use Rattle.params.specs.declared.Edition.the-variants.{First}
@@ -31,11 +29,8 @@ module _ (bytes : List ℕ) (q : Reading) (v : Verdict) (e : q ≡ importOf byte
   verdict-is = sym t ∙ ap (λ (x : Reading). x .verdict) e
 
   pub hosts-import :
-      (r u : ℕ) (lent lent′ : List ℤ) →
-      u ≡ min (verdictValue v) greatestValue →
-      r ≡ packed (verdictNumber v) u →
-      lent′ ≡ numbersOr v (q .params .numbers) lent →
-      HostsImport bytes r lent lent′
+      (r u : ℕ) (lent lent′ : List ℤ) → u ≡ min (verdictValue v) greatestValue → r ≡ packed (verdictNumber v) u →
+      lent′ ≡ numbersOr v (q .params .numbers) lent → HostsImport bytes r lent lent′
   hosts-import r u lent lent′ w p n =
       record {
         answer =
@@ -68,8 +63,4 @@ module _ (numbers : List ℤ) (buf buf′ : List ℕ) (w v : Written) (e : Expor
   export-fits = omega (arith, ap exportValue exported-is, export-most numbers buf)
 
   pub hosts-export : (r : ℕ) → r ≡ packed (exportNumber v) (exportValue v) → HostsExport numbers r buf buf′
-  hosts-export r p =
-      record {
-        answer = p ∙ ap (λ (x : Written). packed (exportNumber x) (exportValue x)) exported-is;
-        bytes = e .1;
-      }
+  hosts-export r p = record { answer = p ∙ ap (λ (x : Written). packed (exportNumber x) (exportValue x)) exported-is; bytes = e .1 }

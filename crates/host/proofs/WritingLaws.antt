@@ -1,9 +1,7 @@
 -- From what the writer of messages promises to what a host gets: the answer as one number.
 -- Assumes nothing.
-use Prim.Native.Nat.{ℕ, _≤_}
-use mathlib.Core.Path.{_≡_, sym, ap, _∙_}
+use Rattle.index.proofs.Kit.{ℕ, _≤_, _≡_, sym, ap, _∙_, arith}
 use mathlib.Core.List.{List}
-use native.Mathlib.Omega.{arith}
 use Rattle.answers.specs.Answers.{packed}
 use Rattle.rpc_write.specs.Writing.{wroteNumber, wroteValue}
 use Rattle.rpc_write.specs.declared.Wrote.{Wrote}
@@ -13,9 +11,7 @@ use Rattle.host.specs.Writing.{HostsWritten}
 
 module _
     (names actions topics changes buf out : List ℕ) (a v : Wrote)
-    (e :
-    (a ≡ writeActionsOf names actions topics changes buf .answer)
-    × (out ≡ writeActionsOf names actions topics changes buf .bytes))
+    (e : (a ≡ writeActionsOf names actions topics changes buf .answer) × (out ≡ writeActionsOf names actions topics changes buf .bytes))
     (t : a ≡ v)
   where
     answer-is : v ≡ writeActionsOf names actions topics changes buf .answer
@@ -26,8 +22,4 @@ module _
 
     pub hosts-written :
         (r : ℕ) → r ≡ packed (wroteNumber v) (wroteValue v) → HostsWritten (writeActionsOf names actions topics changes buf) r out
-    hosts-written r p =
-        record {
-          answer = p ∙ ap (λ (x : Wrote). packed (wroteNumber x) (wroteValue x)) answer-is;
-          bytes = e .1;
-        }
+    hosts-written r p = record { answer = p ∙ ap (λ (x : Wrote). packed (wroteNumber x) (wroteValue x)) answer-is; bytes = e .1 }

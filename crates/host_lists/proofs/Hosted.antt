@@ -2,9 +2,7 @@
 -- first of all answered.
 -- Assumes nothing.
 use Prim.{tt}
-use Prim.Native.Nat.{ℕ}
-use native.Mathlib.Omega.{arith}
-use mathlib.Core.Path.{_≡_, refl, ap, _∙_}
+use Rattle.index.proofs.Kit.{ℕ, arith, _≡_, refl, ap, _∙_}
 use mathlib.Core.List.{List, [], _∷_, map}
 use lib.ListN.{length}
 use lib.Seq.{sets}
@@ -49,8 +47,7 @@ module _ (params : Params) where
       let q = made-fresh table p .1 in
       q .state ∙ ap (λ (f : Found). leftBy f params (stateOf (made-fresh table p .0))) (passes (firstBroken params) (q .answer))
   same-state (c ∷ before) table p =
-      p .2 .state
-      ∙ ap (λ (st : State). step st (c .call) (length (c .list)) .state) (same-state before (p .0) (p .1))
+      p .2 .state ∙ ap (λ (st : State). step st (c .call) (length (c .list)) .state) (same-state before (p .0) (p .1))
 
   same-numbers : (calls : List HostCall) (table : List ℕ) → Hosted params calls table → SameNumbers params calls
   unfolding Hosted SameNumbers

@@ -1,7 +1,6 @@
 -- A heartbeat stores in a peer's record its backoff end alone, so what does not read an end reads the same.
 -- Assumes nothing.
-use Prim.Native.Nat.{ℕ}
-use mathlib.Core.Path.{_≡_, refl, ap, _∙_}
+use Rattle.index.proofs.Kit.{ℕ, _≡_, refl, ap, _∙_}
 use mathlib.Core.List.{List}
 use Rattle.index.proofs.Flags.{cond-case}
 use Rattle.records.specs.declared.Peer.{Peer}

@@ -1,17 +1,15 @@
 -- What the limits say of a number by its field, where 147 codes are those of numbers between their limits: its magnitude, `size`, is
 -- between the magnitudes of its limits, and its sign is known. Each test of a row of limits is computed.
 -- Assumes nothing.
-use Prim.Native.Nat.{ℕ, _+_, _*_, _/_, _<_, _≤_}
-use mathlib.Core.Path.{_≡_, sym, ap, _∙_}
-use mathlib.Core.Bool.{Bool, true, _&&_}
+use Rattle.index.proofs.Kit.{ℕ, _+_, _*_, _<_, _≤_, _≡_, sym, ap, _∙_, Bool, true, arith, every}
+use Prim.Native.Nat.{_/_}
+use mathlib.Core.Bool.{_&&_}
 use mathlib.Core.List.{List, map}
-use native.Mathlib.Omega.{arith}
 use lib.Dec.{T, leb, leb→le}
 use lib.ListN.{getD, List·getD-map}
 use lib.IntN.{ℤ, pos, negsuc, negℤ, natAbs}
 use lib.Signed.{leZ}
 use mir.Facts.{and-yes}
-use Rattle.index.specs.Index.{every}
 use Rattle.index.proofs.Index.{every-at}
 use Rattle.varint.specs.Codes.{codeOf, numberOf}
 use Rattle.varint.proofs.CodeLaws.{code-size, code-number}

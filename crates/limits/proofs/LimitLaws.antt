@@ -129,21 +129,14 @@ limit-fits f =
     (sfits-lit (s .0), sfits-lit (s .1))
 
 pub lies-between :
-    (x : ℤ) (l : Limit) (r : Bool) →
-    SFits w64 x →
-    SFits w64 (l .low) →
-    SFits w64 (l .high) →
-    r ≡ (leZ (toZ w64 (ofZ w64 (l .low))) (toZ w64 (ofZ w64 x)) && leZ (toZ w64 (ofZ w64 x)) (toZ w64 (ofZ w64 (l .high)))) →
-    r ≡ lies x l
+    (x : ℤ) (l : Limit) (r : Bool) → SFits w64 x → SFits w64 (l .low) → SFits w64 (l .high) →
+    r ≡ (leZ (toZ w64 (ofZ w64 (l .low))) (toZ w64 (ofZ w64 x)) && leZ (toZ w64 (ofZ w64 x)) (toZ w64 (ofZ w64 (l .high)))) → r ≡ lies x l
 lies-between x l r fx low high e = rw (toZ-ofZ fx, toZ-ofZ low, toZ-ofZ high) at e
 
 -- the limits of a field, taken from the table
 pub lies-at :
-    (x : ℤ) (f i : ℕ) (l : Limit) (r : Bool) →
-    l ≡ limitAt f →
-    f ≡ fieldOf i →
-    r ≡ (leZ (toZ w64 (ofZ w64 (l .low))) x && leZ x (toZ w64 (ofZ w64 (l .high)))) →
-    r ≡ lies x (limitAt (fieldOf i))
+    (x : ℤ) (f i : ℕ) (l : Limit) (r : Bool) → l ≡ limitAt f → f ≡ fieldOf i →
+    r ≡ (leZ (toZ w64 (ofZ w64 (l .low))) x && leZ x (toZ w64 (ofZ w64 (l .high)))) → r ≡ lies x (limitAt (fieldOf i))
 lies-at x f i l r el ef e =
     let d = limit-fits f in
     (rw (el, toZ-ofZ (d .0), toZ-ofZ (d .1)) at e) ∙ ap (λ (k : ℕ). lies x (limitAt k)) ef

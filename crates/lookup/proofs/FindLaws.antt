@@ -1,16 +1,11 @@
 -- Laws of the searches: where they end.
 -- Assumes nothing.
-use Prim.Native.Nat.{ℕ, _<_, _≤_}
-use mathlib.Core.Path.{_≡_, refl, ap, _∙_}
-use mathlib.Core.Bool.{true, false}
+use Rattle.index.proofs.Kit.{ℕ, _<_, _≤_, _≡_, refl, ap, _∙_, true, false, arith, first, by-test}
 use borrow.Author.Tests.{eqb-true, eqb-false, eq-eqb}
-use native.Mathlib.Omega.{arith}
 use lib.Dec.{eqb}
-use Rattle.index.specs.Index.{first}
 use Rattle.index.specs.declared.Found.{Found}
 use Rattle.index.specs.declared.Found.the-variants.{At, Nothing}
 use Rattle.index.proofs.Index.{both, first-is, first-passed}
-use Rattle.index.proofs.Flags.{by-test}
 use Rattle.records.specs.Records.{State, peerIn, isEmpty, slotCount}
 use Rattle.lookup.specs.Find.{holds, findConnected, findRetained, lowestEmpty}
 use Rattle.validity.proofs.ValidLaws.{Facts}
@@ -18,29 +13,25 @@ use Rattle.validity.proofs.Keeps.{ids-apart}
 
 module _ (st : State) where
   -- what a found slot holds
-  pub holds-parts :
-      (status id s : ℕ) → holds st status id s ≡ true → (peerIn st s .status ≡ status) × (peerIn st s .id ≡ id)
+  pub holds-parts : (status id s : ℕ) → holds st status id s ≡ true → (peerIn st s .status ≡ status) × (peerIn st s .id ≡ id)
   unfolding holds
   holds-parts status id s e =
       let q = both (eqb (peerIn st s .status) status) (eqb (peerIn st s .id) id) e in
       (eqb-true (peerIn st s .status) status (q .0), eqb-true (peerIn st s .id) id (q .1))
 
   found-at :
-      (status id s : ℕ) →
-      first slotCount (holds st status id) ≡ At s →
+      (status id s : ℕ) → first slotCount (holds st status id) ≡ At s →
       (s < slotCount) × (peerIn st s .status ≡ status) × (peerIn st s .id ≡ id)
   found-at status id s e =
       let q = first-is (holds st status id) slotCount s e in
       let r = holds-parts status id s (q .1) in
       (q .0, r .0, r .1)
 
-  pub connected-at :
-      (id s : ℕ) → findConnected st id ≡ At s → (s < slotCount) × (peerIn st s .status ≡ 1) × (peerIn st s .id ≡ id)
+  pub connected-at : (id s : ℕ) → findConnected st id ≡ At s → (s < slotCount) × (peerIn st s .status ≡ 1) × (peerIn st s .id ≡ id)
   unfolding findConnected
   connected-at id s e = found-at 1 id s e
 
-  pub retained-at :
-      (id s : ℕ) → findRetained st id ≡ At s → (s < slotCount) × (peerIn st s .status ≡ 2) × (peerIn st s .id ≡ id)
+  pub retained-at : (id s : ℕ) → findRetained st id ≡ At s → (s < slotCount) × (peerIn st s .status ≡ 2) × (peerIn st s .id ≡ id)
   unfolding findRetained
   retained-at id s e = found-at 2 id s e
 
@@ -52,13 +43,8 @@ module _ (st : State) where
 
   -- what holds of every slot where nothing was found
   none-holds :
-      (status id : ℕ) →
-      first slotCount (holds st status id) ≡ Nothing →
-      (s : ℕ) →
-      s < slotCount →
-      peerIn st s .status ≡ status →
-      peerIn st s .id ≡ id →
-      ⊥
+      (status id : ℕ) → first slotCount (holds st status id) ≡ Nothing → (s : ℕ) → s < slotCount → peerIn st s .status ≡ status →
+      peerIn st s .id ≡ id → ⊥
   unfolding holds
   none-holds status id e s h p q =
       let f : holds st status id s ≡ false = first-passed (holds st status id) slotCount e s h in
@@ -67,40 +53,20 @@ module _ (st : State) where
       omega arith
 
   pub none-connected :
-      (id : ℕ) →
-      findConnected st id ≡ Nothing →
-      (s : ℕ) →
-      s < slotCount →
-      peerIn st s .status ≡ 1 →
-      peerIn st s .id ≡ id →
-      ⊥
+      (id : ℕ) → findConnected st id ≡ Nothing → (s : ℕ) → s < slotCount → peerIn st s .status ≡ 1 → peerIn st s .id ≡ id → ⊥
   unfolding findConnected
   none-connected id e = none-holds 1 id e
 
-  pub none-retained :
-      (id : ℕ) →
-      findRetained st id ≡ Nothing →
-      (s : ℕ) →
-      s < slotCount →
-      peerIn st s .status ≡ 2 →
-      peerIn st s .id ≡ id →
-      ⊥
+  pub none-retained : (id : ℕ) → findRetained st id ≡ Nothing → (s : ℕ) → s < slotCount → peerIn st s .status ≡ 2 → peerIn st s .id ≡ id → ⊥
   unfolding findRetained
   none-retained id e = none-holds 2 id e
 
   pub none-empty : lowestEmpty st ≡ Nothing → (s : ℕ) → s < slotCount → peerIn st s .status ≡ 0 → ⊥
   unfolding lowestEmpty
-  none-empty e s h =
-      eqb-false (peerIn st s .status) 0 (first-passed (λ k. isEmpty (peerIn st k)) slotCount e s h)
+  none-empty e s h = eqb-false (peerIn st s .status) 0 (first-passed (λ k. isEmpty (peerIn st k)) slotCount e s h)
 
 -- in a router's tables the search for a connected record's id finds its slot
-pub connected-is :
-    (st : State) →
-    Facts st →
-    (s : ℕ) →
-    s < slotCount →
-    peerIn st s .status ≡ 1 →
-    findConnected st (peerIn st s .id) ≡ At s
+pub connected-is : (st : State) → Facts st → (s : ℕ) → s < slotCount → peerIn st s .status ≡ 1 → findConnected st (peerIn st s .id) ≡ At s
 connected-is st f s h c = go (findConnected st (peerIn st s .id)) refl
   where
     used : 1 ≤ peerIn st s .id
@@ -109,8 +75,7 @@ connected-is st f s h c = go (findConnected st (peerIn st s .id)) refl
     same : (k : ℕ) → findConnected st (peerIn st s .id) ≡ At k → k ≡ s
     same k e =
         let q = connected-at st (peerIn st s .id) k e in
-        by-test (k ≡ s) (eqb k s) (eqb-true k s) (λ n.
-        absurd (omega (arith, used, ids-apart st f s k h (q .0) (eqb-false k s n) (q .2))))
+        by-test (k ≡ s) (eqb k s) (eqb-true k s) (λ n. absurd (omega (arith, used, ids-apart st f s k h (q .0) (eqb-false k s n) (q .2))))
 
     go : (g : Found) → findConnected st (peerIn st s .id) ≡ g → findConnected st (peerIn st s .id) ≡ At s
     go (At k) e = e ∙ ap At (same k e)

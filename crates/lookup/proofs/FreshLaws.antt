@@ -1,14 +1,10 @@
 -- Laws of a fresh router: its codes, the ends of `fresh`, and that it is a router's.
 -- Assumes nothing.
-use Prim.Native.Nat.{ℕ, _<_, _≤_}
-use mathlib.Core.Path.{_≡_, refl, ap, _∙_}
-use mathlib.Core.Bool.{true}
+use Rattle.index.proofs.Kit.{ℕ, _<_, _≤_, _≡_, refl, ap, _∙_, true, arith, by-order}
 use mathlib.Core.List.{List, map}
-use native.Mathlib.Omega.{arith}
 use lib.ListN.{length, getD, replicate, length-replicate, getD-replicate, List·getD-eq-default}
 use Rattle.index.specs.declared.Found.{Found}
 use Rattle.index.specs.declared.Found.the-variants.{At, Nothing}
-use Rattle.index.proofs.Flags.{by-order}
 use Rattle.varint.specs.Codes.{codeOf}
 use Rattle.params.specs.declared.Params.{Params}
 use Rattle.params.specs.Editions.{editionNumber}
@@ -27,13 +23,8 @@ unfolding setCodes setSetup zeroState freshState
 fresh-codes p = refl
 
 pub filled :
-    (p : Params) (codes : List ℕ) (edition : ℕ) (st u st′ : State) →
-    st′ ≡ setSetup u (record { edition = edition }) →
-    u ≡ setCodes st codes →
-    st ≡ zeroState →
-    codes ≡ map codeOf (p .numbers) →
-    edition ≡ editionNumber (p .edition) →
-    st′ ≡ freshState p
+    (p : Params) (codes : List ℕ) (edition : ℕ) (st u st′ : State) → st′ ≡ setSetup u (record { edition = edition }) →
+    u ≡ setCodes st codes → st ≡ zeroState → codes ≡ map codeOf (p .numbers) → edition ≡ editionNumber (p .edition) → st′ ≡ freshState p
 filled p codes edition st u st′ a b c d e =
     a
     ∙ ap (λ (v : State). setSetup v (record { edition = edition })) (b ∙ ap (λ (v : State). setCodes v codes) c ∙ ap (setCodes zeroState) d)
@@ -43,16 +34,11 @@ filled p codes edition st u st′ a b c d e =
 -- ---- the ends of `fresh`
 module _ (p : Params) (table : List ℕ) (f : Found) (e : f ≡ firstBroken p) where
   pub fresh-broken : (i : ℕ) → f ≡ At i → Makes p (Broken i) table table
-  fresh-broken i t =
-      record { answer = rw (← e, t); state = rw (← e, t); kept = λ j q. refl }
+  fresh-broken i t = record { answer = rw (← e, t); state = rw (← e, t); kept = λ j q. refl }
 
   pub fresh-made : (table′ : List ℕ) → f ≡ Nothing → stateOf table′ ≡ freshState p → Makes p Done table table′
   fresh-made table′ t s =
-      record {
-        answer = rw (← e, t);
-        state = rw (← e, t) s;
-        kept = λ j q. let z : _≡_ {A = ℕ} 0 1 = cc in absurd (omega arith);
-      }
+      record { answer = rw (← e, t); state = rw (← e, t) s; kept = λ j q. let z : _≡_ {A = ℕ} 0 1 = cc in absurd (omega arith) }
 
 -- ---- a fresh router is a router's
 module _ (p : Params) where

@@ -1,16 +1,13 @@
 -- Laws of protocol names: the ends of the comparison, that it is one of lists, and the two names.
 -- Assumes nothing.
-use Prim.Native.Nat.{ℕ, _<_, _≤_}
-use mathlib.Core.Path.{_≡_, refl, sym}
-use native.Mathlib.Omega.{arith}
-use mathlib.Core.Bool.{Bool, true, false, cond, and-false}
+use Rattle.index.proofs.Kit.{ℕ, _<_, _≤_, _≡_, refl, sym, arith, Bool, true, false, every, every-done, every-fails}
+use mathlib.Core.Bool.{cond, and-false}
 use mathlib.Core.List.{List}
 use lib.ListN.{length, getD}
 use lib.Seq.{ext-getD}
 use lib.Dec.{eqb}
 use borrow.Author.Tests.{eq-eqb, ne-eqb, eqb-true}
-use Rattle.index.specs.Index.{every}
-use Rattle.index.proofs.Index.{both, every-at, every-by, every-done, every-fails}
+use Rattle.index.proofs.Index.{both, every-at, every-by}
 use Rattle.lookup.specs.declared.Named.the-variants.{Version, Unknown}
 use Rattle.lookup.specs.Name.{meshsub, sameAt, sameBytes, versionOf}
 
@@ -19,8 +16,7 @@ module _ (a b : List ℕ) where
   unfolding sameBytes
   other-length n = rw (ne-eqb (length a) (length b) n)
 
-  pub other-byte :
-      (k : ℕ) → length a ≡ length b → k < length a → (getD a k 0 ≡ getD b k 0 → ⊥) → false ≡ sameBytes a b
+  pub other-byte : (k : ℕ) → length a ≡ length b → k < length a → (getD a k 0 ≡ getD b k 0 → ⊥) → false ≡ sameBytes a b
   unfolding sameBytes
   other-byte k e h n =
       rw (every-fails (sameAt a b) (length a) k h (ne-eqb (getD a k 0) (getD b k 0) n)) (sym (and-false (eqb (length a) (length b))))
@@ -28,13 +24,7 @@ module _ (a b : List ℕ) where
   pub same-byte : (k : ℕ) → getD a k 0 ≡ getD b k 0 → sameAt a b k ≡ true
   same-byte k e = eq-eqb (getD a k 0) (getD b k 0) e
 
-  pub all-bytes :
-      (k : ℕ) →
-      length a ≡ length b →
-      k ≤ length a →
-      length a ≤ k →
-      every k (sameAt a b) ≡ true →
-      true ≡ sameBytes a b
+  pub all-bytes : (k : ℕ) → length a ≡ length b → k ≤ length a → length a ≤ k → every k (sameAt a b) ≡ true → true ≡ sameBytes a b
   unfolding sameBytes
   all-bytes k e l h p = rw (eq-eqb (length a) (length b) e, every-done (sameAt a b) (length a) k l h p)
 
@@ -48,8 +38,7 @@ module _ (a b : List ℕ) where
 
 pub same-self : (a : List ℕ) → sameBytes a a ≡ true
 unfolding sameBytes
-same-self a =
-    rw (eq-eqb (length a) (length a) refl, every-by (sameAt a a) (length a) (λ k h. eq-eqb (getD a k 0) (getD a k 0) refl))
+same-self a = rw (eq-eqb (length a) (length a) refl, every-by (sameAt a a) (length a) (λ k h. eq-eqb (getD a k 0) (getD a k 0) refl))
 
 -- the ends of the choice
 module _ (name : List ℕ) where
@@ -57,8 +46,7 @@ module _ (name : List ℕ) where
   unfolding versionOf
   first-name e = rw e
 
-  pub second-name :
-      sameBytes name (meshsub 48) ≡ false → sameBytes name (meshsub 49) ≡ true → Version 1 ≡ versionOf name
+  pub second-name : sameBytes name (meshsub 48) ≡ false → sameBytes name (meshsub 49) ≡ true → Version 1 ≡ versionOf name
   unfolding versionOf
   second-name e f = rw (e, f)
 

@@ -1,29 +1,26 @@
 -- The first 4,096 bytes decide what reading the parameters comes to, however many follow: no number that is read takes more than ten bytes.
 -- Assumes nothing.
-use Prim.Native.Nat.{ℕ, zero, suc, _+_, _*_, _/_, _^_, _<_, _≤_}
-use mathlib.Core.Path.{_≡_, refl, sym, ap, ap₂, _∙_}
-use mathlib.Core.Bool.{Bool, cond}
+use Rattle.index.proofs.Kit.{ℕ, _+_, _*_, _<_, _≤_, _≡_, refl, sym, ap, _∙_, Bool, arith, by-order}
+use Prim.Native.Nat.{zero, suc, _/_, _^_}
+use mathlib.Core.Path.{ap₂}
+use mathlib.Core.Bool.{cond}
 use mathlib.Core.List.{List, [], _∷_}
-use native.Mathlib.Omega.{arith}
 use native.Mathlib.Nat.{pow-suc}
 use borrow.Author.Tests.{lt-ltb, le-ltb}
 use lib.Dec.{ltb, lit<}
 use lib.ListN.{length, take, getD, length-take}
 use lib.Seq.{getD-take}
-use Rattle.index.proofs.Flags.{by-order}
 use Rattle.varint.specs.Groups.{readAt, afterMore}
 use Rattle.varint.specs.Codes.{numberOf}
 use Rattle.varint.specs.declared.Read.{Read}
 use Rattle.varint.specs.declared.Read.the-variants.{Number, Bad}
-use Rattle.varint.proofs.GroupLaws.{readAt-end}
+use Rattle.varint.proofs.GroupLaws.{readAt-end, after-small}
 use Rattle.params.specs.declared.Edition.{Edition}
 use Rattle.records.specs.Records.{paramCount}
 use Rattle.params_bytes.specs.Read.{Parse, numbers, malformed, then, step, parseFrom, editionAt, editionIn, frontBytes, parseAt}
 use Rattle.params_bytes.specs.Read.{parseAll, ending, judged, readOf}
-use Rattle.varint.proofs.GroupLaws.{after-small}
 use Rattle.params_bytes.proofs.PlaceLaws.{by-byte, read-last, read-more, next-near, placeOf, all-place}
 use Rattle.params_bytes.proofs.WriteLaws.{front-short}
-use Rattle.records.specs.Records.{paramCount}
 
 -- ---- a number below 128 ^ suc k takes at most suc k bytes, so what stands m bytes or more from the front does not matter
 module _ (s : List ℕ) (m : ℕ) where
@@ -31,8 +28,7 @@ module _ (s : List ℕ) (m : ℕ) where
   inside at i l = simp length-take (omega arith)
 
   near-by :
-      (top at : ℕ) →
-      at < m →
+      (top at : ℕ) → at < m →
       (at < length s → 128 ≤ getD s at 0 → afterMore top (getD s at 0) (readAt (top / 128) (take m s) (at + 1))
       ≡ afterMore top (getD s at 0) (readAt (top / 128) s (at + 1))) →
       readAt top (take m s) at ≡ readAt top s at
@@ -67,21 +63,16 @@ module _ (s : List ℕ) (m : ℕ) where
       (near k (top / 128) (at + 1) (omega (arith, pow-suc 128 (suc k))) (omega arith)))
 
 -- ---- n numbers
-step-same :
-    (f g : ℕ → Parse) (at : ℕ) (r : Read) →
-    ((u next : ℕ) → r ≡ Number u next → f next ≡ g next) →
-    step f at r ≡ step g at r
+step-same : (f g : ℕ → Parse) (at : ℕ) (r : Read) → ((u next : ℕ) → r ≡ Number u next → f next ≡ g next) → step f at r ≡ step g at r
 step-same f g at Bad h = refl
 step-same f g at (Number u next) h = ap (λ (p : Parse). then (numberOf u ∷ []) p) (h u next refl)
 
-parse-near :
-    (s : List ℕ) (m n at : ℕ) → at + 10 * n ≤ m → parseFrom n (take m s) at ≡ parseFrom n s at
+parse-near : (s : List ℕ) (m n at : ℕ) → at + 10 * n ≤ m → parseFrom n (take m s) at ≡ parseFrom n s at
 unfolding parseFrom
 parse-near s m zero at l = refl
 parse-near s m (suc n) at l =
     let T : ℕ = 18446744073709551615 in
-    rw
-    (near s m 9 T at (omega arith) (omega arith))
+    rw (near s m 9 T at (omega arith) (omega arith))
     (step-same
     (λ next. parseFrom n (take m s) next)
     (λ next. parseFrom n s next)
@@ -92,15 +83,11 @@ parse-near s m (suc n) at l =
 -- ---- the whole: nothing that is left over is hidden
 ending-near : (s : List ℕ) (m : ℕ) (p : Parse) → placeOf p < m → ending (take m s) p ≡ ending s p
 ending-near s m (malformed p) l = refl
-ending-near s m (numbers xs next) l =
-    ap (λ (b : Bool). cond b (malformed next) (numbers xs next)) same
+ending-near s m (numbers xs next) l = ap (λ (b : Bool). cond b (malformed next) (numbers xs next)) same
   where
     same : ltb next (length (take m s)) ≡ ltb next (length s)
     same =
-        by-order
-        (ltb next (length (take m s)) ≡ ltb next (length s))
-        next
-        (length s)
+        by-order (ltb next (length (take m s)) ≡ ltb next (length s)) next (length s)
         (λ i. lt-ltb next (length (take m s)) (simp length-take (omega arith)) ∙ sym (lt-ltb next (length s) i))
         (λ o. le-ltb next (length (take m s)) (simp length-take (omega arith)) ∙ sym (le-ltb next (length s) o))
 

@@ -1,15 +1,14 @@
 -- Laws of the check: the ends of `first_broken`, and what holds of parameters that pass it.
 -- Assumes nothing.
-use Prim.Native.Nat.{ℕ, zero, suc, _+_, _<_, _≤_}
-use mathlib.Core.Path.{_≡_, refl, sym, ap, _∙_}
-use mathlib.Core.Bool.{Bool, true, false, not, _&&_, cond}
+use Rattle.index.proofs.Kit.{ℕ, _+_, _<_, _≤_, _≡_, refl, sym, ap, _∙_, Bool, true, false, not, arith}
+use Rattle.index.specs.Index.{first, every, orElse}
+use Prim.Native.Nat.{zero, suc}
+use mathlib.Core.Bool.{_&&_, cond}
 use mathlib.Core.List.{List, [], _∷_, map}
-use native.Mathlib.Omega.{arith}
 use borrow.Author.Tests.{not-true, not-false, eq-eqb, ne-eqb, eqb-true}
 use lib.Dec.{eqb}
 use lib.ListN.{length, length-map}
 use lib.IntN.{ℤ}
-use Rattle.index.specs.Index.{first, every, orElse}
 use Rattle.index.specs.declared.Found.{Found}
 use Rattle.index.specs.declared.Found.the-variants.{At, Nothing}
 use Rattle.index.proofs.Index.{both, every-by, first-passed, first-is}
@@ -42,8 +41,7 @@ none-left Nothing g e = (refl, e)
 module _ (p : Params) (ok : firstBroken p ≡ Nothing) where
   none-outside : first paramCount (outside (p .numbers)) ≡ Nothing
   unfolding firstBroken
-  none-outside =
-      none-left (first paramCount (outside (p .numbers))) (asRule (first ruleCount (broken (p .numbers) (p .edition)))) ok .0
+  none-outside = none-left (first paramCount (outside (p .numbers))) (asRule (first ruleCount (broken (p .numbers) (p .edition)))) ok .0
 
   pub accepted-in : (i : ℕ) → i < paramCount → inLimits (p .numbers) i ≡ true
   accepted-in = found-in (p .numbers) none-outside
@@ -76,12 +74,8 @@ broken-most p i e = go (first paramCount (outside xs)) refl (first ruleCount (br
     xs = p .numbers
 
     go :
-        (f : Found) →
-        first paramCount (outside xs) ≡ f →
-        (g : Found) →
-        first ruleCount (broken xs (p .edition)) ≡ g →
-        orElse f (asRule g) ≡ At i →
-        i ≤ 207
+        (f : Found) → first paramCount (outside xs) ≡ f → (g : Found) → first ruleCount (broken xs (p .edition)) ≡ g →
+        orElse f (asRule g) ≡ At i → i ≤ 207
     go (At j) q g r z =
         let y : j ≡ i = cc in
         omega (arith, first-is (outside xs) paramCount j q .0)
@@ -136,8 +130,7 @@ module _ (e : Edition) (codes : List ℕ) where
     codes-within t = sym q ∙ not-false a t
 
     -- the joint rules decide
-    codes-judged :
-        (f : Found) → not a ≡ false → f ≡ first ruleCount (broken (map numberOf codes) e) → isNothing f ≡ acceptedBy e codes
+    codes-judged : (f : Found) → not a ≡ false → f ≡ first ruleCount (broken (map numberOf codes) e) → isNothing f ≡ acceptedBy e codes
     unfolding broken
     codes-judged f t d =
         ap isNothing d
@@ -191,9 +184,7 @@ edition-back Second = refl
 
 -- parameters that pass the check have codes that are accepted
 pub accepted-back :
-    (p : Params) →
-    length (p .numbers) ≡ paramCount →
-    firstBroken p ≡ Nothing →
+    (p : Params) → length (p .numbers) ≡ paramCount → firstBroken p ≡ Nothing →
     acceptedCodes (editionNumber (p .edition)) (map codeOf (p .numbers)) ≡ true
 unfolding acceptedCodes acceptedBy
 accepted-back p l e =

@@ -1,16 +1,16 @@
 -- The joint rules, of codes: two codes of one sign stand to each other as the numbers' magnitudes do.
 -- Assumes nothing.
-use Prim.Native.Nat.{ℕ, suc, _+_, _*_, _<_, _≤_}
+use Rattle.index.proofs.Kit.{ℕ, _+_, _*_, _<_, _≤_, _≡_, refl, sym, ap, _∙_, Bool, true, arith}
+use Rattle.index.specs.Index.{every}
+use Prim.Native.Nat.{suc}
 use native.Mathlib.Numerals.{add-one}
-use mathlib.Core.Path.{_≡_, refl, sym, ap, ap₂, _∙_}
-use mathlib.Core.Bool.{Bool, true, _&&_}
+use mathlib.Core.Path.{ap₂}
+use mathlib.Core.Bool.{_&&_}
 use mathlib.Core.List.{List, map}
-use native.Mathlib.Omega.{arith}
 use lib.Dec.{T, leb, ltb, lit<}
 use lib.ListN.{getD}
 use lib.IntN.{ℤ, pos, negsuc, _+ℤ_, _*ℤ_}
 use lib.Signed.{leZ, ltZ}
-use Rattle.index.specs.Index.{every}
 use Rattle.index.proofs.Flags.{leb-same}
 use Rattle.varint.specs.Codes.{codeOf, numberOf}
 use Rattle.records.specs.Records.{topicCount, paramCount}
@@ -64,8 +64,7 @@ loss-le (pos a) y p q = absurd p
 loss-le (negsuc a) (pos b) p q = absurd q
 
 loss-lt : (x y : ℤ) → Loss x → Loss y → ltb (codeOf y) (codeOf x) ≡ ltZ x y
-loss-lt (negsuc a) (negsuc b) p q =
-    leb-same (suc (2 * b + 1)) (2 * a + 1) (suc b) a (λ h. omega arith) (λ h. omega arith)
+loss-lt (negsuc a) (negsuc b) p q = leb-same (suc (2 * b + 1)) (2 * a + 1) (suc b) a (λ h. omega arith) (λ h. omega arith)
 loss-lt (pos a) y p q = absurd p
 loss-lt (negsuc a) (pos b) p q = absurd q
 
@@ -78,12 +77,9 @@ module _ (codes : List ℕ) (ok : Within codes) where
   loss i h t = loss-at codes ok i h (fieldOf i) refl t
 
   le-of :
-      (i j : ℕ) →
-      Gain (at (map numberOf codes) i) →
-      Gain (at (map numberOf codes) j) →
+      (i j : ℕ) → Gain (at (map numberOf codes) i) → Gain (at (map numberOf codes) j) →
       leb (getD codes i 0) (getD codes j 0) ≡ leZ (at (map numberOf codes) i) (at (map numberOf codes) j)
-  le-of i j p q =
-      ap₂ leb (code-at codes i) (code-at codes j) ∙ gain-le (at (map numberOf codes) i) (at (map numberOf codes) j) p q
+  le-of i j p q = ap₂ leb (code-at codes i) (code-at codes j) ∙ gain-le (at (map numberOf codes) i) (at (map numberOf codes) j) p q
 
   -- D_lo ≤ D
   pub le-lo : (e : Edition) → leb (getD codes 0 0) (getD codes 1 0) ≡ rule (map numberOf codes) e 0

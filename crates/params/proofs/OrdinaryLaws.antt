@@ -1,8 +1,8 @@
 -- The ordinary parameters pass the check: the search is computed.
 -- Assumes nothing.
-use mathlib.Core.Path.{_≡_, refl}
-use lib.ListN.{length}
+use Rattle.index.proofs.Kit.{_≡_, refl}
 use Rattle.index.specs.Index.{first, every}
+use lib.ListN.{length}
 use Rattle.index.specs.declared.Found.the-variants.{Nothing}
 use Rattle.records.specs.Records.{paramCount}
 use Rattle.limits.specs.Limits.{limits, limitAt, inLimits, outside}

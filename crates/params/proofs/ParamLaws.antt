@@ -1,11 +1,9 @@
 -- What upper crates use of accepted codes, as the parameters stand in a router's tables: the bounds of every number's magnitude by name,
 -- and the joint rules of magnitudes. Signs and further laws by field are in limits/proofs/FieldLaws.antt.
 -- Assumes nothing.
-use Prim.Native.Nat.{ℕ, suc, _+_, _*_, _<_, _≤_}
-use mathlib.Core.Path.{_≡_, refl, _∙_}
-use mathlib.Core.Bool.{true}
+use Rattle.index.proofs.Kit.{ℕ, _+_, _*_, _<_, _≤_, _≡_, refl, _∙_, true, arith}
+use Prim.Native.Nat.{suc}
 use mathlib.Core.List.{List, map}
-use native.Mathlib.Omega.{arith}
 use borrow.Author.Tests.{leb-true}
 use lib.Dec.{leb, lit<}
 use lib.ListN.{getD}

@@ -60,8 +60,7 @@ module _ (st : State) where
   calmer-joined v b s t h k m = record { member = m; graft = refl; end = omega arith }
 
   pub calmer-peer :
-      (i : ℕ) (p : Peer) →
-      ((t : ℕ) → t < 8 → topicIn st (place i t) .member ≡ 1 → getD (p .backoff) t 0 ≤ endIn st i t) →
+      (i : ℕ) (p : Peer) → ((t : ℕ) → t < 8 → topicIn st (place i t) .member ≡ 1 → getD (p .backoff) t 0 ≤ endIn st i t) →
       Calmer st (setPeer st i p)
   calmer-peer i p f s t h k m =
       let e : topicIn (setPeer st i p) (place s t) ≡ topicIn st (place s t) = topic-after-peer st i p (place s t) in
@@ -76,8 +75,7 @@ module _ (st : State) where
       }
 
   pub calmer-topic :
-      (j : ℕ) (r : TopicRecord) →
-      (r .member ≡ 1 → (topicIn st j .member ≡ 1) × (r .graft ≡ topicIn st j .graft)) →
+      (j : ℕ) (r : TopicRecord) → (r .member ≡ 1 → (topicIn st j .member ≡ 1) × (r .graft ≡ topicIn st j .graft)) →
       Calmer st (setTopic st j r)
   calmer-topic j r f s t h k m =
       let w : (topicIn st (place s t) .member ≡ 1) × (topicIn (setTopic st j r) (place s t) .graft ≡ topicIn st (place s t) .graft) =
@@ -88,10 +86,7 @@ module _ (st : State) where
       record { member = w .0; graft = w .1; end = omega (arith, e) }
 
 -- ---- a walk, and a choice
-pub calmer-iter :
-    (f : ℕ → State → State) (n : ℕ) (st : State) →
-    ((i : ℕ) (u : State) → i < n → Calmer u (f i u)) →
-    Calmer st (iter n f st)
+pub calmer-iter : (f : ℕ → State → State) (n : ℕ) (st : State) → ((i : ℕ) (u : State) → i < n → Calmer u (f i u)) → Calmer st (iter n f st)
 calmer-iter f n st h =
     iter-keeps (λ (u : State). Calmer st u) f n st (calmer-self st) (λ i u l w. calmer-then {a = st} {b = u} {c = f i u} w (h i u l))
 
@@ -120,17 +115,13 @@ module _ (st : State) (s : ℕ) where
       calmer-peer st s _ (λ v k m.
       by-test _ (eqb v t)
       (λ e. absurd (n (rw (eqb-true v t e) at m)))
-      (λ e.
-      let q = end-other p t end v (eqb-false v t e) in
-      let w = ap (λ (b : List ℕ). getD b v 0) same in
-      omega (arith, q, w)))
+      (λ e. let q = end-other p t end v (eqb-false v t e) in let w = ap (λ (b : List ℕ). getD b v 0) same in omega (arith, q, w)))
 
   pub calmer-end : (t end : ℕ) → topicIn st (place s t) .member ≢ 1 → Calmer st (onPeer st s (λ p. withEnd p t end))
   calmer-end t end n = calmer-with-end (peerIn st s) t end refl n
 
   calmer-on :
-      (t : ℕ) (g : TopicRecord → TopicRecord) →
-      ((r : TopicRecord) → g r .member ≡ 1 → (r .member ≡ 1) × (g r .graft ≡ r .graft)) →
+      (t : ℕ) (g : TopicRecord → TopicRecord) → ((r : TopicRecord) → g r .member ≡ 1 → (r .member ≡ 1) × (g r .graft ≡ r .graft)) →
       Calmer st (onTopic st s t g)
   calmer-on t g h = calmer-topic st (place s t) _ (h (topicIn st (place s t)))
 
@@ -300,8 +291,7 @@ module _ (st : State) (time : ℕ) where
     calmer-deliver kind =
         let g = deliveredOf kind (topicParamsIn st t) in
         either (isHeard st t s) (done (onTopic st s t (deliveredOf kind (topicParamsIn st t))) time []) (ignored st time)
-        (calmer-moved (onTopic st s t g)
-        (calmer-on st s t g (λ r m. (sym (delivered kind r .0) ∙ m, delivered kind r .1))))
+        (calmer-moved (onTopic st s t g) (calmer-on st s t g (λ r m. (sym (delivered kind r .0) ∙ m, delivered kind r .1))))
         calmer-still
 
 -- ---- a GRAFT of no member that is answered by a PRUNE

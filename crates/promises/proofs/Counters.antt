@@ -117,8 +117,7 @@ module _ (params : Params) (st : State) (size : Sized st) (codes : st .codes ≡
       }
 
   delivered-0 :
-      s < slotCount → t < 8 → 1 ≤ kind → kind ≤ 3 →
-      numberOf (deliverReply st time t kind s .answer) ≡ 0 →
+      s < slotCount → t < 8 → 1 ≤ kind → kind ≤ 3 → numberOf (deliverReply st time t kind s .answer) ≡ 0 →
       Delivered params t kind s st (deliverReply st time t kind s .state)
   unfolding deliverReply
   delivered-0 h k l m =
@@ -152,10 +151,7 @@ module _ (params : Params) (time : ℕ) where
   unfolding decayTopic
   good-topics s n u g =
       iter-keeps Good (decayTopic time s) n u g (λ t v l w.
-      record {
-        sized = sized-topic v (w .sized) (place s t) _;
-        codes = codes-after-topic v (place s t) _ ∙ w .codes;
-      })
+      record { sized = sized-topic v (w .sized) (place s t) _; codes = codes-after-topic v (place s t) _ ∙ w .codes })
 
   good-slot : (s : ℕ) (u : State) → Good u → Good (decaySlot time s u)
   unfolding decaySlot decayP7 withP7
@@ -204,8 +200,7 @@ module _ (params : Params) (time : ℕ) where
       let v = iter t f u in
       let w = good-topics s t u g in
       let r = topicIn u (place s t) in
-      let before : topicIn v (place s t) ≡ r =
-      iter-before (λ x. topicIn x (place s t)) f t (topic-apart s t) t u (omega arith) in
+      let before : topicIn v (place s t) ≡ r = iter-before (λ x. topicIn x (place s t)) f t (topic-apart s t) t u (omega arith) in
       let e : topicIn (iter 8 f u) (place s t) ≡ decayedOf (topicParamsIn v t) (decayFloor v) time r =
       iter-once (λ x. topicIn x (place s t)) f t (topic-apart s t) 8 u k
       ∙ topic-same v (place s t) _ (omega (arith, w .sized .topics, h, k))

@@ -75,8 +75,7 @@ lower-topic : (st : State) (j : ℕ) (r : TopicRecord) → r .p3b ≤ topicIn st
 lower-topic st j r h k = topic-case st (λ (q : TopicRecord). q .p3b ≤ topicIn st k .p3b) j r k (λ e. rw e h) (omega arith)
 
 lower-iter : (f : ℕ → State → State) (n : ℕ) (st : State) → ((i : ℕ) (u : State) → Lower u (f i u)) → Lower st (iter n f st)
-lower-iter f n st h =
-    iter-keeps (λ (u : State). Lower st u) f n st (lower-self st) (λ i u l w. lower-then st u (f i u) w (h i u))
+lower-iter f n st h = iter-keeps (λ (u : State). Lower st u) f n st (lower-self st) (λ i u l w. lower-then st u (f i u) w (h i u))
 
 lower-either : (st : State) (b : Bool) (u v : State) → Lower st u → Lower st v → Lower st (cond b u v)
 lower-either st b u v f g = cond-case (Lower st) b u v (λ e. f) (λ e. g)
@@ -222,8 +221,7 @@ module _ (st : State) (time : ℕ) where
 module _ (params : Params) (st : State) (ok : valid st ≡ true) (codes : st .codes ≡ map codeOf (params .numbers)) (size : Sized st) where
   -- through the gate
   other : (c : Call) (room s t : ℕ) → Lower st (effect st c .state) → p3bIn (step st c room .state) s t ≤ p3bIn st s t
-  other c room s t h =
-      by-gate (λ (r : Reply). p3bIn (r .state) s t ≤ p3bIn st s t) st c room (λ a e. omega arith) (λ p. h (place s t))
+  other c room s t h = by-gate (λ (r : Reply). p3bIn (r .state) s t ≤ p3bIn st s t) st c room (λ a e. omega arith) (λ p. h (place s t))
 
   -- a leave or a heartbeat of another topic leaves it as it was
   only-leave : (time v room s t : ℕ) → t < 8 → OnlyByPrune (leave time v) st (step st (leave time v) room .state) s t
@@ -233,14 +231,12 @@ module _ (params : Params) (st : State) (ok : valid st ≡ true) (codes : st .co
       (λ e. let q = grown-by-leave params st codes size time v room .stays s t k (eqb-false t v e) in inl (omega (arith, q)))
 
   only-heartbeat :
-      (time v ask room s t : ℕ) (order : List ℕ) →
-      t < 8 →
+      (time v ask room s t : ℕ) (order : List ℕ) → t < 8 →
       OnlyByPrune (heartbeat time v ask order) st (step st (heartbeat time v ask order) room .state) s t
   only-heartbeat time v ask room s t order k =
       by-test _ (eqb t v)
       (λ e. inr (inr (time, ask, order, ap (λ (x : ℕ). heartbeat time x ask order) (sym (eqb-true t v e)))))
-      (λ e.
-      let q = grown-by-heartbeat params st codes size time v ask room order .stays s t k (eqb-false t v e) in inl (omega (arith, q)))
+      (λ e. let q = grown-by-heartbeat params st codes size time v ask room order .stays s t k (eqb-false t v e) in inl (omega (arith, q)))
 
   only : (c : Call) (room s t : ℕ) → t < 8 → OnlyByPrune c st (step st c room .state) s t
   unfolding effect joinReply

@@ -80,12 +80,7 @@ module _ (st : State) (time : ℕ) where
 
   un-graft : (t s : ℕ) → Un (graftReply st time t s)
   un-graft t s =
-      by-graft Un st time t s
-      (λ e. un-ignored)
-      (λ e m. un-done st [])
-      (λ e. un-back t s _)
-      (λ e. un-back t s _)
-      (λ e. un-done _ [])
+      by-graft Un st time t s (λ e. un-ignored) (λ e m. un-done st []) (λ e. un-back t s _) (λ e. un-back t s _) (λ e. un-done _ [])
 
   un-maintained : (t ask : ℕ) (order : List ℕ) → Un (maintainedReply st time t ask order)
   unfolding maintainedReply
@@ -121,13 +116,9 @@ un-effect st (score time id) =
 
 -- ---- 12, 2, 8, 1
 un-gate :
-    (v f r k : Bool) (st : State) (time : ℕ) (o : Reply) →
-    Untouched st time o →
+    (v f r k : Bool) (st : State) (time : ℕ) (o : Reply) → Untouched st time o →
     Untouched st time
-    (through
-    (cond v (cond f (cond r (cond k Pass (Refuse Early)) (Refuse ListShort)) (Refuse OutOfRange)) (Refuse NotRouter))
-    st
-    o)
+    (through (cond v (cond f (cond r (cond k Pass (Refuse Early)) (Refuse ListShort)) (Refuse OutOfRange)) (Refuse NotRouter)) st o)
 un-gate false f r k st time o h = un-refused st time NotRouter (λ e. omega arith)
 un-gate true false r k st time o h = un-refused st time OutOfRange (λ e. omega arith)
 un-gate true true false k st time o h = un-refused st time ListShort (λ e. omega arith)
@@ -173,10 +164,8 @@ program-demand1 c r table table′ list list′ f =
     }
   where
     moved :
-        step (stateOf table) c (length list) .state ≡ setClock (stateOf table) (timeOf c) →
-        length table ≡ cellCount →
-        length table′ ≡ cellCount →
-        table′ ≡ set table 0 (timeOf c)
+        step (stateOf table) c (length list) .state ≡ setClock (stateOf table) (timeOf c) → length table ≡ cellCount →
+        length table′ ≡ cellCount → table′ ≡ set table 0 (timeOf c)
     moved e l l′ =
         determined table′ (set table 0 (timeOf c)) l′ (length-set table 0 (timeOf c) ∙ l)
         (f .leaves .state ∙ e ∙ sym (clock-store table l (timeOf c)))

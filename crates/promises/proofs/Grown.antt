@@ -1,16 +1,15 @@
 -- P3b of one place, through the walk of a leave or a heartbeat: only the turn of its own slot touches it, and that turn sees the record
 -- of the start.
 -- Assumes nothing.
-use Prim.Native.Nat.{ℕ, _+_, _-_, _*_, _<_, min}
-use native.Mathlib.Omega.{arith}
-use mathlib.Core.Path.{_≡_, refl, sym, ap, ap₂, _∙_}
+use Rattle.index.proofs.Kit.{ℕ, _+_, _-_, _*_, _<_, arith, _≡_, refl, sym, ap, _∙_, Bool, true, false, not, iter, by-test}
+use Prim.Native.Nat.{min}
+use mathlib.Core.Path.{ap₂}
 use mathlib.Core.Logic.{_≢_}
-use mathlib.Core.Bool.{Bool, true, false, cond, not, _&&_}
+use mathlib.Core.Bool.{cond, _&&_}
 use mathlib.Core.List.{List, map}
 use lib.Dec.{eqb, leb, ltb}
-use Rattle.index.specs.Index.{iter}
 use Rattle.index.proofs.Index.{both, iter-keeps}
-use Rattle.index.proofs.Flags.{by-test, cond-case}
+use Rattle.index.proofs.Flags.{cond-case}
 use Rattle.varint.specs.Codes.{codeOf}
 use Rattle.params.specs.declared.Params.{Params}
 use Rattle.records.specs.declared.TopicRecord.{TopicRecord}
@@ -174,15 +173,10 @@ module _ (params : Params) (st : State) (codes : st .codes ≡ map codeOf (param
         let kept = ap (λ (r : TopicRecord). r .p3b) before in
         ap (λ (r : TopicRecord). r .p3b) (iter-once (λ u. topicIn u (place s t)) (settleSlot st time t mesh) s others slotCount st h)
         ∙ by-test (Settled s (settleSlot st time t mesh s w)) (isMember st t s)
+        (λ m. by-test _ (at mesh s) (λ a. rw (m, a) kept) (λ a. rw (m, a) (out-same s prune w zw h k before)))
         (λ m.
         by-test _ (at mesh s)
-        (λ a. rw (m, a) kept)
-        (λ a. rw (m, a) (out-same s prune w zw h k before)))
-        (λ m.
-        by-test _ (at mesh s)
-        (λ a.
-        rw (m, a)
-        (ap (λ (r : TopicRecord). r .p3b) (topic-same w (place s t) _ (omega (arith, zw .topics, h, k))) ∙ kept))
+        (λ a. rw (m, a) (ap (λ (r : TopicRecord). r .p3b) (topic-same w (place s t) _ (omega (arith, zw .topics, h, k))) ∙ kept))
         (λ a. rw (m, a) kept))
 
     settled-topic : (s v : ℕ) → v < 8 → v ≢ t → topicIn (iter slotCount (settleSlot st time t mesh) st) (place s v) ≡ topicIn st (place s v)
@@ -201,8 +195,7 @@ module _ (params : Params) (st : State) (codes : st .codes ≡ map codeOf (param
           stays = λ s v l n. ap (λ (r : TopicRecord). r .p3b) (settled-topic s v l n);
         }
 
-  grown-heartbeat :
-      Sized st → t < 8 → (time ask : ℕ) (order : List ℕ) → Grown params t st (heartbeatReply st time t ask order .state)
+  grown-heartbeat : Sized st → t < 8 → (time ask : ℕ) (order : List ℕ) → Grown params t st (heartbeatReply st time t ask order .state)
   unfolding heartbeatReply maintainedReply
   grown-heartbeat size k time ask order =
       cond-case (λ (r : Reply). Grown params t st (r .state)) (isPermutation slotCount order) _ (refused NotPermutation st)
@@ -221,8 +214,7 @@ module _ (params : Params) (st : State) (codes : st .codes ≡ map codeOf (param
       (λ a e. grown-self params st codes t)
       (λ p. grown-leave params st codes t size (topic-in t (arguments (leave time t) (p .ranges))) time)
 
-  pub grown-by-heartbeat :
-      (time t ask room : ℕ) (order : List ℕ) → Grown params t st (step st (heartbeat time t ask order) room .state)
+  pub grown-by-heartbeat : (time t ask room : ℕ) (order : List ℕ) → Grown params t st (step st (heartbeat time t ask order) room .state)
   unfolding effect
   grown-by-heartbeat time t ask room order =
       by-gate (λ (r : Reply). Grown params t st (r .state)) st (heartbeat time t ask order) room

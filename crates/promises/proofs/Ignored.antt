@@ -52,8 +52,7 @@ module _ (params : Params) (st : State) (codes : st .codes ≡ map codeOf (param
   gray-no : isGraylisted st s ≡ false → Graylisted params st s → ⊥
   unfolding isGraylisted
   gray-no e g =
-      let a : isGraylisted st s ≡ true =
-      rw (eq-eqb _ _ (g .plain), number-is st params codes 9) (g .below) in
+      let a : isGraylisted st s ≡ true = rw (eq-eqb _ _ (g .plain), number-is st params codes 9) (g .below) in
       false≢true (sym e ∙ a)
 
   pub gray-yes : isGraylisted st s ≡ true → Graylisted params st s
@@ -98,8 +97,7 @@ module _ (params : Params) (st : State) (codes : st .codes ≡ map codeOf (param
   not-deaf t e d =
       let q = both (isJoined st t) (not (isGraylisted st s)) e in
       ⊎-elim (λ n. n (eqb-true _ _ (q .0)))
-      (λ g.
-      by-test _ (isGraylisted st s) (λ y. false≢true (ap not (sym y) ∙ q .1)) (λ y. gray-no y g))
+      (λ g. by-test _ (isGraylisted st s) (λ y. false≢true (ap not (sym y) ∙ q .1)) (λ y. gray-no y g))
       d
 
   -- a call that is heard is answered 0
@@ -107,8 +105,7 @@ module _ (params : Params) (st : State) (codes : st .codes ≡ map codeOf (param
   told-0 t r e z = iff-no (λ n. omega (arith, n, z)) (not-deaf t e)
 
   heard-11 : (time t : ℕ) (r : Reply) → numberOf (r .answer) ≡ 0 → Is (Deaf t) (cond (isHeard st t s) r (ignored st time))
-  heard-11 time t r z =
-      cond-case (Is (Deaf t)) (isHeard st t s) r (ignored st time) (λ e. told-0 t r e z) (λ e. iff-yes refl (deaf t e))
+  heard-11 time t r z = cond-case (Is (Deaf t)) (isHeard st t s) r (ignored st time) (λ e. told-0 t r e z) (λ e. iff-yes refl (deaf t e))
 
   grafted-11 : (time t : ℕ) → Is (Deaf t) (graftReply st time t s)
   unfolding graftRefused isHeard
@@ -152,8 +149,7 @@ module _ (st : State) (ok : valid st ≡ true) (id : ℕ) (f : ℕ → Reply) (Q
           iff-no (λ n. omega (arith, n)) (λ w. none-connected st id e (w .0) (w .1) (w .2) (w .3))
 
 -- where the peer's reply is 0 it is not 11
-peer-not11 :
-    (st : State) (id : ℕ) (f : ℕ → Reply) → ((s : ℕ) → numberOf (f s .answer) ≡ 0) → numberOf (ofPeer st id f .answer) ≢ 11
+peer-not11 : (st : State) (id : ℕ) (f : ℕ → Reply) → ((s : ℕ) → numberOf (f s .answer) ≡ 0) → numberOf (ofPeer st id f .answer) ≢ 11
 peer-not11 st id f h =
     by-peer (λ (r : Reply). numberOf (r .answer) ≢ 11) st id f (λ n. omega (arith, n)) (λ s l on n. omega (arith, n, h s))
 

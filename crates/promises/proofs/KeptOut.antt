@@ -104,8 +104,7 @@ module _ (params : Params) (st : State) (size : Sized st) (ok : valid st ≡ tru
   effect-shuts (score time p) a = λ id t k. held-zero _ id t
 
   shut-step : (c : Call) (room : ℕ) → Shuts params c (step st c room)
-  shut-step c room =
-      by-gate (Shuts params c) st c room (refused-shuts params st c) (λ p. effect-shuts c (arguments c (p .ranges)))
+  shut-step c room = by-gate (Shuts params c) st c room (refused-shuts params st c) (λ p. effect-shuts c (arguments c (p .ranges)))
 
   hold-step : (c : Call) (room n id t : ℕ) → t < 8 → Held n st id t → Held n (step st c room .state) id t
   hold-step c room n id t k h =
@@ -122,11 +121,8 @@ module _ (params : Params) (st : State) (size : Sized st) (ok : valid st ≡ tru
   Past time t s = (endIn st s t ≡ 0) ⊎ (endIn st s t + 1000 ≤ time)
 
   grafts-free :
-      (time t ask room : ℕ) (order : List ℕ) (s : ℕ) →
-      s < slotCount →
-      peerIn st s .status ≡ 1 →
-      times 1 (peerIn st s .id) (step st (heartbeat time t ask order) room .actions) ≢ 0 →
-      Past time t s
+      (time t ask room : ℕ) (order : List ℕ) (s : ℕ) → s < slotCount → peerIn st s .status ≡ 1 →
+      times 1 (peerIn st s .id) (step st (heartbeat time t ask order) room .actions) ≢ 0 → Past time t s
   unfolding effect heartbeatReply times
   grafts-free time t ask room order s h on =
       by-gate (λ (r : Reply). times 1 (peerIn st s .id) (r .actions) ≢ 0 → Past time t s) st (heartbeat time t ask order) room
@@ -191,10 +187,7 @@ module _ (params : Params) (fine : Accepted params) where
 pub kept-out : KeptOut
 kept-out params calls fine =
     let w = standing params fine calls in
-    record {
-      members = kept-of params fine calls;
-      grafts = grafts-free params (after params calls) (w .size) (w .router) (w .codes);
-    }
+    record { members = kept-of params fine calls; grafts = grafts-free params (after params calls) (w .size) (w .router) (w .codes) }
 
 pub program-kept-out : ProgramKeptOut
 program-kept-out params calls table fine p =

@@ -65,13 +65,10 @@ pub later-topic : (st : State) (k : ℕ) (r : TopicRecord) → Later st (setTopi
 later-topic st k r s = at-is _ _ (peer-after-topic st k r s)
 
 pub later-peer : (st : State) (i : ℕ) (p : Peer) → LaterAt (peerIn st i) p → Later st (setPeer st i p)
-later-peer st i p h s =
-    peer-case st (λ (q : Peer). LaterAt (peerIn st s) q) i p s (λ (e : s ≡ i). rw e h) (at-self (peerIn st s))
+later-peer st i p h s = peer-case st (λ (q : Peer). LaterAt (peerIn st s) q) i p s (λ (e : s ≡ i). rw e h) (at-self (peerIn st s))
 
-pub later-iter :
-    (f : ℕ → State → State) (n : ℕ) (st : State) → ((i : ℕ) (u : State) → Later u (f i u)) → Later st (iter n f st)
-later-iter f n st h =
-    iter-keeps (λ (u : State). Later st u) f n st (later-self st) (λ i u l w. later-then st u (f i u) w (h i u))
+pub later-iter : (f : ℕ → State → State) (n : ℕ) (st : State) → ((i : ℕ) (u : State) → Later u (f i u)) → Later st (iter n f st)
+later-iter f n st h = iter-keeps (λ (u : State). Later st u) f n st (later-self st) (λ i u l w. later-then st u (f i u) w (h i u))
 
 pub later-either : (st : State) (b : Bool) (u v : State) → Later st u → Later st v → Later st (cond b u v)
 later-either st b u v f g = cond-case (λ (w : State). Later st w) b u v (λ e. f) (λ e. g)
@@ -193,14 +190,8 @@ end-pruned st s t end size h k =
 
 -- a walk whose turn s sets it
 pub end-walked :
-    (f : ℕ → State → State) (s t end : ℕ) →
-    ((i : ℕ) (u : State) → Sized u → Sized (f i u)) →
-    ((i : ℕ) (u : State) → Later u (f i u)) →
-    ((u : State) → Sized u → end ≤ endIn (f s u) s t) →
-    (n : ℕ) (st : State) →
-    Sized st →
-    s < n →
-    end ≤ endIn (iter n f st) s t
+    (f : ℕ → State → State) (s t end : ℕ) → ((i : ℕ) (u : State) → Sized u → Sized (f i u)) → ((i : ℕ) (u : State) → Later u (f i u)) →
+    ((u : State) → Sized u → end ≤ endIn (f s u) s t) → (n : ℕ) (st : State) → Sized st → s < n → end ≤ endIn (iter n f st) s t
 unfolding iter
 end-walked f s t end z l e zero st size h = absurd (not-suc-le-zero h)
 end-walked f s t end z l e (suc n) st size h =

@@ -113,18 +113,12 @@ module _ (st : State) (time t ask : ℕ) (order : List ℕ) where
   mesh = meshesIn st time t ask order .fifth
 
   pub new-candidate :
-      valid st ≡ true →
-      isPermutation slotCount order ≡ true →
-      (s : ℕ) →
-      at mesh s ≡ true →
-      isMember st t s ≡ false →
+      valid st ≡ true → isPermutation slotCount order ≡ true → (s : ℕ) → at mesh s ≡ true → isMember st t s ≡ false →
       isCandidate st time t s ≡ true
   unfolding viewIn
   new-candidate ok right s a m =
       ⊎-elim
-      (λ p.
-      let q = slots-in (isMember st t) slotCount s (both-left _ _ s p) .1 in
-      absurd (false≢true (sym m ∙ q)))
+      (λ p. let q = slots-in (isMember st t) slotCount s (both-left _ _ s p) .1 in absurd (false≢true (sym m ∙ q)))
       (λ c. slots-in (isCandidate st time t) slotCount s c .1)
       (view-kept st time t ask order ok right .pool s a)
 

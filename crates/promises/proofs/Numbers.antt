@@ -267,12 +267,8 @@ module _ (st : State) (time id : ℕ) (groups : Groups) (flags : ℕ) (name : Li
   none-given h g =
       let same = held-still h in
       ⊎-elim
-      (λ w.
-      let q = retained-at st id (w .0) (ap (λ (x : State). findRetained x id) (sym same) ∙ w .1) in
-      h (w .0) (q .0) .other (q .2))
-      (λ w.
-      let q = empty-at st (w .0) (ap lowestEmpty (sym same) ∙ w .1) in
-      h (w .0) (q .0) .used (q .1))
+      (λ w. let q = retained-at st id (w .0) (ap (λ (x : State). findRetained x id) (sym same) ∙ w .1) in h (w .0) (q .0) .other (q .2))
+      (λ w. let q = empty-at st (w .0) (ap lowestEmpty (sym same) ∙ w .1) in h (w .0) (q .0) .used (q .1))
       g
 
   all-held :
@@ -310,11 +306,9 @@ module _ (st : State) (time id : ℕ) (groups : Groups) (flags : ℕ) (name : Li
 module _ (st : State) (time t ask : ℕ) (order : List ℕ) where
   -- its three ends
   by-heartbeat :
-      (P : Answer → Type 0) →
-      (isPermutation slotCount order ≡ false → P NotPermutation) →
+      (P : Answer → Type 0) → (isPermutation slotCount order ≡ false → P NotPermutation) →
       (isPermutation slotCount order ≡ true → isJoined st t ≡ false → P Ignored) →
-      (isPermutation slotCount order ≡ true → isJoined st t ≡ true → (n : ℕ) → P (Done n)) →
-      P (heartbeatReply st time t ask order .answer)
+      (isPermutation slotCount order ≡ true → isJoined st t ≡ true → (n : ℕ) → P (Done n)) → P (heartbeatReply st time t ask order .answer)
   unfolding heartbeatReply maintainedReply
   by-heartbeat P p7 p11 p0 =
       cond-case (λ (r : Reply). P (r .answer)) (isPermutation slotCount order) _ (refused NotPermutation st)
@@ -328,8 +322,7 @@ module _ (st : State) (time t ask : ℕ) (order : List ℕ) where
   heartbeat-late = by-heartbeat (λ (a : Answer). late a ≡ true) (λ w. refl) (λ r j. refl) (λ r j n. refl)
 
   heartbeat-not : (n : ℕ) → n ≢ 0 → n ≢ 11 → n ≢ 7 → numberOf (heartbeatReply st time t ask order .answer) ≢ n
-  heartbeat-not n x y z =
-      by-heartbeat (λ (a : Answer). numberOf a ≢ n) (λ w q. z (sym q)) (λ r j q. y (sym q)) (λ r j k q. x (sym q))
+  heartbeat-not n x y z = by-heartbeat (λ (a : Answer). numberOf a ≢ n) (λ w q. z (sym q)) (λ r j q. y (sym q)) (λ r j k q. x (sym q))
 
   heartbeat-7 : (numberOf (heartbeatReply st time t ask order .answer) ≡ 7) ↔ (isPermutation slotCount order ≡ false)
   heartbeat-7 =
@@ -480,13 +473,10 @@ else-done NotRouter e x3 x4 x5 x6 x7 x11 = absurd (false≢true e)
 -- P holds of the answer if it holds at each of the five ends
 module _ (st : State) (c : Call) (room : ℕ) where
   by-end :
-      (P : Answer → Type 0) →
-      (valid st ≡ false → P NotRouter) →
-      (valid st ≡ true → inRange c ≡ false → P OutOfRange) →
+      (P : Answer → Type 0) → (valid st ≡ false → P NotRouter) → (valid st ≡ true → inRange c ≡ false → P OutOfRange) →
       (valid st ≡ true → inRange c ≡ true → room < actionRoom → P ListShort) →
       (valid st ≡ true → inRange c ≡ true → actionRoom ≤ room → timeOf c < st .clock → P Early) →
-      (Admitted st c room → P (effect st c .answer)) →
-      P (step st c room .answer)
+      (Admitted st c room → P (effect st c .answer)) → P (step st c room .answer)
   unfolding step gateOf
   by-end P p12 p2 p8 p1 p0 =
       by-test _ (valid st)
@@ -548,10 +538,8 @@ abbrev pub late-code : ℕ → Bool
 late-code n = not (eqb n 12) && (not (eqb n 2) && (not (eqb n 8) && not (eqb n 1)))
 
 pub row-behind :
-    (st : State) (c : Call) (room n : ℕ) (Q : Type 0) →
-    late-code n ≡ true →
-    (Admitted st c room → (numberOf (effect st c .answer) ≡ n) ↔ Q) →
-    (numberOf (step st c room .answer) ≡ n) ↔ (Admitted st c room × Q)
+    (st : State) (c : Call) (room n : ℕ) (Q : Type 0) → late-code n ≡ true →
+    (Admitted st c room → (numberOf (effect st c .answer) ≡ n) ↔ Q) → (numberOf (step st c room .answer) ≡ n) ↔ (Admitted st c room × Q)
 row-behind st c room n Q l h =
     by-end st c room (λ (a : Answer). (numberOf a ≡ n) ↔ (Admitted st c room × Q))
     (λ v. iff-no (early 12 refl) (λ k. not-true (valid st) v (k .0 .router)))

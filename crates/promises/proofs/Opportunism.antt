@@ -1,9 +1,8 @@
 -- The degrees are the sheet's numbers, field by field, and step 5 is one choice by three tests.
 -- Assumes nothing.
-use Prim.Native.Nat.{ℕ, _+_, _*_, _≤_, _<_}
-use mathlib.Core.Path.{_≡_, ap, _∙_}
+use Rattle.index.proofs.Kit.{ℕ, _+_, _*_, _≤_, _<_, _≡_, ap, _∙_, Bool, true, false}
 use mathlib.Core.Logic.{_≢_, _⊎_, ⊎-elim}
-use mathlib.Core.Bool.{Bool, true, false, cond, _&&_, and-false}
+use mathlib.Core.Bool.{cond, _&&_, and-false}
 use mathlib.Core.List.{List, map}
 use lib.Dec.{eqb, leb, ltb}
 use borrow.Author.Tests.{eq-eqb, ne-eqb, le-leb, lt-leb, lt-ltb, le-ltb}

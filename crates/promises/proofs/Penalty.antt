@@ -75,12 +75,10 @@ milder-topic : (st : State) (s t : ℕ) (g : TopicRecord → TopicRecord) → Mi
 milder-topic st s t g = milder-same st (onTopic st s t g) (peer-after-topic st (place s t) _)
 
 milder-peer : (st : State) (i : ℕ) (p : Peer) → p .p7 ≤ p7In st i → Milder st (setPeer st i p)
-milder-peer st i p h s =
-    peer-case st (λ (q : Peer). q .p7 ≤ p7In st s) i p s (λ e. rw e h) (omega arith)
+milder-peer st i p h s = peer-case st (λ (q : Peer). q .p7 ≤ p7In st s) i p s (λ e. rw e h) (omega arith)
 
 milder-iter : (f : ℕ → State → State) (n : ℕ) (st : State) → ((i : ℕ) (u : State) → Milder u (f i u)) → Milder st (iter n f st)
-milder-iter f n st h =
-    iter-keeps (λ (u : State). Milder st u) f n st (milder-self st) (λ i u l w. milder-then st u (f i u) w (h i u))
+milder-iter f n st h = iter-keeps (λ (u : State). Milder st u) f n st (milder-self st) (λ i u l w. milder-then st u (f i u) w (h i u))
 
 milder-either : (st : State) (b : Bool) (u v : State) → Milder st u → Milder st v → Milder st (cond b u v)
 milder-either st b u v f g = cond-case (Milder st) b u v (λ e. f) (λ e. g)
@@ -266,8 +264,7 @@ module _ (params : Params) (st : State) (codes : st .codes ≡ map codeOf (param
 
   raised-other : (time t i s : ℕ) (p : Peer) → s ≢ i → p7In (graftRefused st time t i p .state) s ≡ p7In st s
   unfolding graftRefused
-  raised-other time t i s p x =
-      ap (λ (p : Peer). p .p7) (peer-after-clock (setPeer st i _) time s ∙ peer-other st i _ s x)
+  raised-other time t i s p x = ap (λ (p : Peer). p .p7) (peer-after-clock (setPeer st i _) time s ∙ peer-other st i _ s x)
 
   -- the call of a peer whose backoff runs
   too-early : (time t i : ℕ) → peerIn st i .status ≡ 1 → Early (seenIn st t i) time t → TooEarly params st time t i
@@ -282,8 +279,7 @@ module _ (params : Params) (st : State) (codes : st .codes ≡ map codeOf (param
         runs = ltb-true _ _ (e .runs);
       }
 
-  only-graft :
-      (time t i : ℕ) → c ≡ graft time (peerIn st i .id) t → peerIn st i .status ≡ 1 → Only (graftReply st time t i)
+  only-graft : (time t i : ℕ) → c ≡ graft time (peerIn st i .id) t → peerIn st i .status ≡ 1 → Only (graftReply st time t i)
   only-graft time t i e on =
       by-graft Only st time t i
       (λ h s. inl (milder-clock st time s))

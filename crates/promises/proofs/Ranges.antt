@@ -23,10 +23,7 @@ abbrev Says : Bool → Type 0 → Type 0
 Says b P = (b ≡ true) ↔ P
 
 says-and : {P Q : Type 0} (a b : Bool) → Says a P → Says b Q → Says (a && b) (P × Q)
-says-and a b f g = (
-  λ e. let q = both a b e in (f .0 (q .0), g .0 (q .1)),
-  λ h. rw (f .1 (h .0), g .1 (h .1)),
-)
+says-and a b f g = (λ e. let q = both a b e in (f .0 (q .0), g .0 (q .1)), λ h. rw (f .1 (h .0), g .1 (h .1)))
 
 says-le : (m n : ℕ) → Says (leb m n) (m ≤ n)
 says-le m n = (leb-true m n, le-leb m n)
@@ -66,10 +63,7 @@ groups-say groups = (
         ) refl
 
 p5-says : (p5 : ℤ) → Says (leb (natAbs p5) 1000000000) (P5In p5)
-p5-says (pos n) = (
-  λ e. (refl, le-ltb 1000000000 n (leb-true n 1000000000 e)),
-  λ h. le-leb n 1000000000 (ltb-false 1000000000 n (h .1)),
-)
+p5-says (pos n) = (λ e. (refl, le-ltb 1000000000 n (leb-true n 1000000000 e)), λ h. le-leb n 1000000000 (ltb-false 1000000000 n (h .1)))
 p5-says (negsuc n) = (
   λ e. (le-ltb 999999999 n (omega (arith, leb-true (suc n) 1000000000 e)), refl),
   λ h. le-leb (suc n) 1000000000 (omega (arith, ltb-false 999999999 n (h .0))),

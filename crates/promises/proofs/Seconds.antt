@@ -93,9 +93,7 @@ module _ (st : State) (size : Sized st) (ok : valid st ≡ true) where
   -- ---- GRAFT in: p is the peer's record, or that with P7 raised
   module _ (time t i seconds : ℕ) (e : pruneBackoff st ≡ seconds) where
     refused-seconds :
-        (p : Peer) →
-        p .id ≡ peerIn st i .id →
-        p .version ≡ peerIn st i .version →
+        (p : Peer) → p .id ≡ peerIn st i .id → p .version ≡ peerIn st i .version →
         Each (Seconds st seconds) (graftRefused st time t i p .actions)
     unfolding graftRefused Each
     refused-seconds p id version = (

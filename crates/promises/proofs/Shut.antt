@@ -50,9 +50,7 @@ use Rattle.promises.proofs.Told.{leave-someone, leave-sized, left-membe
 
 -- ---- an end that is kept: it is over, or stands in the record of the peer with the id
 abbrev pub Held : ℕ → State → ℕ → ℕ → Type 0
-Held n st id t =
-    (n ≤ st .clock)
-    ⊎ ((s : ℕ) × (s < slotCount) × (peerIn st s .status ≢ 0) × (peerIn st s .id ≡ id) × (n ≤ endIn st s t))
+Held n st id t = (n ≤ st .clock) ⊎ ((s : ℕ) × (s < slotCount) × (peerIn st s .status ≢ 0) × (peerIn st s .id ≡ id) × (n ≤ endIn st s t))
 
 pub held-zero : (st : State) (id t : ℕ) → Held 0 st id t
 held-zero st id t = inl (omega arith)
@@ -70,10 +68,7 @@ held-cond b n st id t h = cond-case (λ (k : ℕ). Held k st id t) b n 0 h (λ e
 pub record Hold (st u : State) : Type 0 where
   pub clock : st .clock ≤ u .clock
   pub peer :
-      (s : ℕ) →
-      s < slotCount →
-      peerIn st s .status ≢ 0 →
-      LaterAt (peerIn st s) (peerIn u s) ⊎ ((t : ℕ) → t < 8 → endIn st s t ≤ u .clock)
+      (s : ℕ) → s < slotCount → peerIn st s .status ≢ 0 → LaterAt (peerIn st s) (peerIn u s) ⊎ ((t : ℕ) → t < 8 → endIn st s t ≤ u .clock)
 
 pub held-hold : (st u : State) → Hold st u → (n id t : ℕ) → t < 8 → Held n st id t → Held n u id t
 held-hold st u f n id t k h =
@@ -152,8 +147,7 @@ module _ (st : State) (time : ℕ) (c : st .clock ≤ time) where
       (λ e m. still)
       (λ e. back t s _ (later-refused st time t s))
       (λ e. back t s _ (later-raised st time t s))
-      (λ e.
-      hold-moved (onTopic st s t (λ r. intoMesh r time)) (later-on st time (place s t) (intoMesh (topicIn st (place s t)) time)))
+      (λ e. hold-moved (onTopic st s t (λ r. intoMesh r time)) (later-on st time (place s t) (intoMesh (topicIn st (place s t)) time)))
 
   hold-heartbeat : (t ask : ℕ) (order : List ℕ) → Kept (heartbeatReply st time t ask order)
   unfolding heartbeatReply maintainedReply
@@ -215,8 +209,7 @@ told-none time seconds r u id t e =
 
 -- a PRUNE to a peer whose record then has the end
 told-some :
-    (time seconds : ℕ) (r : Reply) (u id t : ℕ) →
-    (times 2 id (r .actions) ≢ 0 → u ≡ t → Held (endAfter time seconds) (r .state) id t) →
+    (time seconds : ℕ) (r : Reply) (u id t : ℕ) → (times 2 id (r .actions) ≢ 0 → u ≡ t → Held (endAfter time seconds) (r .state) id t) →
     Held (told time seconds r u id t) (r .state) id t
 told-some time seconds r u id t h =
     held-cond (eqb u t && ltb 0 (times 2 id (r .actions))) (endAfter time seconds) (r .state) id t (λ b.
@@ -302,8 +295,7 @@ module _ (params : Params) (st : State) (size : Sized st) (codes : st .codes ≡
       (λ j. quiet time (leaveSeconds params) (ignored st time) u id t refl)
 
   -- ---- heartbeat
-  taken-out :
-      (m n : Bool) → one (m && not n) ≢ 0 → (m ≡ true) × (n ≡ false)
+  taken-out : (m n : Bool) → one (m && not n) ≢ 0 → (m ≡ true) × (n ≡ false)
   taken-out true true e = absurd (e refl)
   taken-out true false e = (refl, refl)
   taken-out false n e = absurd (e refl)
@@ -414,5 +406,4 @@ module _ (params : Params) (st : State) (size : Sized st) (codes : st .codes ≡
       )))
       (λ j.
       held-cond (eqb u t && (eqb p id && false)) (endAfter time (cond (eqb seconds 0) (pruneSeconds params) (min seconds 3600)))
-      (setClock st time) id t (λ c.
-      absurd (false≢true (both (eqb p id) false (both (eqb u t) (eqb p id && false) c .1) .1))))
+      (setClock st time) id t (λ c. absurd (false≢true (both (eqb p id) false (both (eqb u t) (eqb p id && false) c .1) .1))))

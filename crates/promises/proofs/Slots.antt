@@ -1,26 +1,21 @@
 -- A maintenance's actions, slot by slot: one GRAFT for who is in the mesh that is left and was not in the one at the start, one PRUNE for
 -- who was and is not. The steps' sets at a slot are numbers, 0 or 1, and the sums are linear.
 -- Assumes nothing.
-use Prim.Native.Nat.{ℕ, zero, suc, _+_, _-_, _≤_, _<_}
-use native.Mathlib.Omega.{arith}
-use mathlib.Core.Path.{_≡_, refl, sym, ap, _∙_}
+use Rattle.index.proofs.Kit.{ℕ, _+_, _-_, _≤_, _<_, arith, _≡_, refl, sym, ap, _∙_, Bool, true, false, not, one, by-test}
+use Prim.Native.Nat.{zero, suc}
 use mathlib.Core.Logic.{_⊎_, ⊎-elim}
-use mathlib.Core.Bool.{Bool, true, false, cond, not, _&&_}
+use mathlib.Core.Bool.{cond, _&&_}
 use mathlib.Core.List.{List, [], _∷_, _++_, map}
 use lib.Dec.{eqb}
 use lib.ListN.{length}
 use borrow.Author.Tests.{eqb-true, eqb-false, eq-eqb, ne-eqb}
-use Rattle.index.specs.Index.{one}
-use Rattle.index.proofs.Flags.{by-test, cond-case}
+use Rattle.index.proofs.Flags.{cond-case}
 use Rattle.sets.specs.Sets.{at, except, occurs, ascending, inOrder}
 use Rattle.sets.proofs.WalkLaws.{except-at, except-length, at-past}
 use Rattle.sets.proofs.SetLaws.{both-left}
 use Rattle.sets.proofs.PermutationLaws.{permutation-once}
 use Rattle.mesh.specs.declared.Degrees.{Degrees}
-use Rattle.mesh.specs.Maintenance.{View}
-use Rattle.mesh.specs.Maintenance.{Meshes}
-use Rattle.mesh.specs.Maintenance.{goods, mesh1, meshes, changesOf, Action, action, actionsOn, actionsOf, Rules}
-use Rattle.mesh.specs.Maintenance.{Whole}
+use Rattle.mesh.specs.Maintenance.{View, Meshes, goods, mesh1, meshes, changesOf, Action, action, actionsOn, actionsOf, Rules, Whole}
 use Rattle.mesh.proofs.Bound.{idle}
 use Rattle.mesh.proofs.MaintenanceLaws.{Adds, Keeps, len1, adds2, keeps3, adds4, adds5}
 
@@ -65,16 +60,12 @@ inOrder-occurs s p (x ∷ d) =
     by-test _ (at p s)
     (λ a. let ih′ : occurs s (inOrder p d) ≡ occurs s d = rw a at ih in rw (q, a, e) (ap suc ih′))
     (λ a. let ih′ : occurs s (inOrder p d) ≡ 0 = rw a at ih in rw (q, a) ih′))
-    (λ e.
-    by-test _ (at p x)
-    (λ b. rw (b, e) ih)
-    (λ b. rw (b, e) ih))
+    (λ e. by-test _ (at p x) (λ b. rw (b, e) ih) (λ b. rw (b, e) ih))
 
 ascending-before : (s i k : ℕ) → s < i → occurs s (ascending i k) ≡ 0
 unfolding ascending occurs
 ascending-before s i zero h = refl
-ascending-before s i (suc k) h =
-    rw (ne-eqb i s (λ e. omega arith)) (ascending-before s (suc i) k (omega arith))
+ascending-before s i (suc k) h = rw (ne-eqb i s (λ e. omega arith)) (ascending-before s (suc i) k (omega arith))
 
 ascending-in : (s i k : ℕ) → i ≤ s → s < i + k → occurs s (ascending i k) ≡ 1
 unfolding ascending occurs
@@ -87,11 +78,7 @@ ascending-in s i (suc k) h l =
 -- ---- a set's actions
 on-same : (k : ℕ) (p : List Bool) (d : List ℕ) (s : ℕ) → occurs s d ≡ 1 → timesAt k s (actionsOn k p d) ≡ one (at p s)
 unfolding actionsOn
-on-same k p d s e =
-    times-same k s (inOrder p d)
-    ∙ inOrder-occurs s p d
-    ∙ ap (λ (n : ℕ). cond (at p s) n 0) e
-    ∙ sym (one-is (at p s))
+on-same k p d s e = times-same k s (inOrder p d) ∙ inOrder-occurs s p d ∙ ap (λ (n : ℕ). cond (at p s) n 0) e ∙ sym (one-is (at p s))
   where
     one-is : (b : Bool) → one b ≡ cond b 1 0
     one-is true = refl
@@ -106,9 +93,7 @@ on-absent : (k j : ℕ) (p : List Bool) (d : List ℕ) (s : ℕ) → at p s ≡ 
 unfolding actionsOn
 on-absent k j p d s e =
     by-test _ (eqb j k)
-    (λ q.
-    let w : j ≡ k = eqb-true j k q in
-    rw w (times-same k s (inOrder p d) ∙ inOrder-occurs s p d ∙ rw e))
+    (λ q. let w : j ≡ k = eqb-true j k q in rw w (times-same k s (inOrder p d) ∙ inOrder-occurs s p d ∙ rw e))
     (λ q. times-other k j s (inOrder p d) q)
 
 -- ---- numbers for tests
@@ -241,9 +226,7 @@ module _
     slot-once : occurs s (ascending 0 n) ≡ 1
     slot-once = ascending-in s 0 n (omega arith) (omega arith)
 
-    pub grafts-at :
-        timesAt 1 s (actionsOf n (v .permutation) (changesOf (v .members) m))
-        ≡ one (not (at (v .members) s) && at (m .fifth) s)
+    pub grafts-at : timesAt 1 s (actionsOf n (v .permutation) (changesOf (v .members) m)) ≡ one (not (at (v .members) s) && at (m .fifth) s)
     grafts-at =
         let c₁ = on-other 1 2 (except (v .members) (m .first)) (ascending 0 n) s refl in
         let c₂ = on-same 1 (except (m .second) (m .first)) (v .permutation) s once in
@@ -257,9 +240,7 @@ module _
         turned (at (v .members) s) (at (m .fifth) s) in
         omega (arith, split s 1, c₁, c₂, c₃, c₄, c₅, g₂, g₄, g₅, numbers s .grafts, z)
 
-    pub prunes-at :
-        timesAt 2 s (actionsOf n (v .permutation) (changesOf (v .members) m))
-        ≡ one (at (v .members) s && not (at (m .fifth) s))
+    pub prunes-at : timesAt 2 s (actionsOf n (v .permutation) (changesOf (v .members) m)) ≡ one (at (v .members) s && not (at (m .fifth) s))
     prunes-at =
         let c₁ = on-same 2 (except (v .members) (m .first)) (ascending 0 n) s slot-once in
         let c₂ = on-other 2 1 (except (m .second) (m .first)) (v .permutation) s refl in
@@ -272,11 +253,7 @@ module _
         omega (arith, split s 2, c₁, c₂, c₃, c₄, c₅, g₁, g₃, numbers s .prunes, z)
 
     -- no other kind
-    pub others-at :
-        (k : ℕ) →
-        eqb 1 k ≡ false →
-        eqb 2 k ≡ false →
-        timesAt k s (actionsOf n (v .permutation) (changesOf (v .members) m)) ≡ 0
+    pub others-at : (k : ℕ) → eqb 1 k ≡ false → eqb 2 k ≡ false → timesAt k s (actionsOf n (v .permutation) (changesOf (v .members) m)) ≡ 0
     others-at k e f =
         let c₁ = on-other k 2 (except (v .members) (m .first)) (ascending 0 n) s f in
         let c₂ = on-other k 1 (except (m .second) (m .first)) (v .permutation) s e in

@@ -68,8 +68,7 @@ module _ (st : State) (time t s : ℕ) (size : Sized st) (ok : valid st ≡ true
   not-full =
       ⊎-elim
       (λ l. rw (lt-leb (highDegree st) (meshSize st t) l))
-      (λ o.
-      rw (ne-eqb (peerIn st s .outbound) 0 (λ z. omega (arith, z, o))) (and-false (leb (highDegree st) (meshSize st t))))
+      (λ o. rw (ne-eqb (peerIn st s .outbound) 0 (λ z. omega (arith, z, o))) (and-false (leb (highDegree st) (meshSize st t))))
       (m .room)
 
   returned : IsIn t s (graftReply st time t s)
@@ -90,8 +89,7 @@ module _ (st : State) (time t s : ℕ) (size : Sized st) (ok : valid st ≡ true
       record {
         answer = refl;
         actions = refl;
-        member =
-            clocked (onTopic st s t (λ r. intoMesh r time)) time t s ∙ member-in st s t size (m .slot) (m .topic) time;
+        member = clocked (onTopic st s t (λ r. intoMesh r time)) time t s ∙ member-in st s t size (m .slot) (m .topic) time;
       }))
 
 pub taken-back : TakenBack
@@ -128,10 +126,7 @@ module _ (st : State) (time t s : ℕ) (size : Sized st) (h : s < slotCount) (k 
       (λ e m. record { either = λ z. inl (clocked st time t s ∙ m, refl) })
       (λ e. back (peerIn st s) refl (e .new))
       (λ e. back (raisedP7 (peerIn st s)) refl (e .outside .new))
-      (λ e.
-      record {
-        either = λ z. inl (clocked (onTopic st s t (λ r. intoMesh r time)) time t s ∙ member-in st s t size h k time, refl);
-      })
+      (λ e. record { either = λ z. inl (clocked (onTopic st s t (λ r. intoMesh r time)) time t s ∙ member-in st s t size h k time, refl) })
 
 pub graft-answered : GraftAnswered
 unfolding effect

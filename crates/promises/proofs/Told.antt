@@ -53,19 +53,13 @@ id-is st size ok s h on x e =
     let f = valid-facts st ok in
     let used = f .peer s h .used on in
     by-order (x ≡ s) x slotCount
-    (λ l.
-    by-test (x ≡ s) (eqb x s) (eqb-true x s) (λ n.
-    absurd (omega (arith, used, ids-apart st f s x h l (eqb-false x s n) e))))
-    (λ l.
-    let z : peerIn st x .id ≡ 0 = ap (λ (p : Peer). p .id) (past-peer st size x l) in
-    absurd (omega (arith, used, e, z)))
+    (λ l. by-test (x ≡ s) (eqb x s) (eqb-true x s) (λ n. absurd (omega (arith, used, ids-apart st f s x h l (eqb-false x s n) e))))
+    (λ l. let z : peerIn st x .id ≡ 0 = ap (λ (p : Peer). p .id) (past-peer st size x l) in absurd (omega (arith, used, e, z)))
 
 -- ---- actions on slots, and to ids
 module _ (st : State) where
   pub times-map :
-      (k s : ℕ) →
-      ((x : ℕ) → peerIn st x .id ≡ peerIn st s .id → x ≡ s) →
-      (l : List Tell) →
+      (k s : ℕ) → ((x : ℕ) → peerIn st x .id ≡ peerIn st s .id → x ≡ s) → (l : List Tell) →
       times k (peerIn st s .id) (map (actionIn st) l) ≡ timesAt k s l
   unfolding times timesAt
   times-map k s one-slot [] = refl
@@ -77,10 +71,7 @@ module _ (st : State) where
       let w = ap (λ (b : Bool). one (eqb (a .kind) k && b)) q in
       omega (arith, w, times-map k s one-slot l)
 
-  pub someone :
-      (k id : ℕ) (l : List Tell) →
-      times k id (map (actionIn st) l) ≢ 0 →
-      (x : ℕ) × (timesAt k x l ≢ 0) × (peerIn st x .id ≡ id)
+  pub someone : (k id : ℕ) (l : List Tell) → times k id (map (actionIn st) l) ≢ 0 → (x : ℕ) × (timesAt k x l ≢ 0) × (peerIn st x .id ≡ id)
   unfolding times timesAt
   someone k id [] n = absurd (n refl)
   someone k id (a ∷ l) n =
@@ -235,18 +226,14 @@ module _ (st : State) (t : ℕ) where
 
   tell-times : (k id i : ℕ) → times k id (tell i) ≡ one (isMember st t i && (eqb 2 k && eqb (peerIn st i .id) id))
   unfolding times
-  tell-times k id i =
-      by-test _ (isMember st t i)
-      (λ m. rw m (omega arith))
-      (λ m. rw m)
+  tell-times k id i = by-test _ (isMember st t i) (λ m. rw m (omega arith)) (λ m. rw m)
 
   more-times :
       (k id n : ℕ) →
       times k id (leaveActions st t (suc n))
       ≡ times k id (leaveActions st t n) + one (isMember st t n && (eqb 2 k && eqb (peerIn st n .id) id))
   unfolding leaveActions gather
-  more-times k id n =
-      times-append k id (gather n tell) (tell n) ∙ ap (λ (x : ℕ). times k id (gather n tell) + x) (tell-times k id n)
+  more-times k id n = times-append k id (gather n tell) (tell n) ∙ ap (λ (x : ℕ). times k id (gather n tell) + x) (tell-times k id n)
 
   no-graft : (id n : ℕ) → times 1 id (leaveActions st t n) ≡ 0
   unfolding leaveActions gather times
@@ -274,15 +261,12 @@ module _ (st : State) (t : ℕ) where
         rw (q, eq-eqb (peerIn st s .id) (peerIn st s .id) refl) (all (isMember st t s)) in
         omega (arith, more-times 2 (peerIn st s .id) n, before-slot n (omega arith), z))
         (λ e.
-        let q : eqb (peerIn st n .id) (peerIn st s .id) ≡ false =
-        ne-eqb _ _ (λ z. eqb-false n s e (one-slot n z)) in
+        let q : eqb (peerIn st n .id) (peerIn st s .id) ≡ false = ne-eqb _ _ (λ z. eqb-false n s e (one-slot n z)) in
         let z : one (isMember st t n && (eqb 2 2 && eqb (peerIn st n .id) (peerIn st s .id))) ≡ 0 = rw q (none (isMember st t n)) in
         omega (arith, more-times 2 (peerIn st s .id) n, after-slot n (let w = eqb-false n s e in omega (arith, w, h)), z))
 
   pub leave-someone :
-      (k id n : ℕ) →
-      times k id (leaveActions st t n) ≢ 0 →
-      (x : ℕ) × (x < n) × (isMember st t x ≡ true) × (peerIn st x .id ≡ id)
+      (k id n : ℕ) → times k id (leaveActions st t n) ≢ 0 → (x : ℕ) × (x < n) × (isMember st t x ≡ true) × (peerIn st x .id ≡ id)
   unfolding leaveActions gather times
   leave-someone k id zero e = absurd (e refl)
   leave-someone k id (suc n) e =
@@ -318,8 +302,7 @@ module _ (st : State) (t end : ℕ) where
       let zw : Sized w = iter-keeps (λ (u : State). Sized u) (leaveSlot st t end) s st z (λ i u l. leave-sized i u) in
       let others : (i : ℕ) (u : State) → i ≢ s → isMember (leaveSlot st t end i u) t s ≡ isMember u t s =
       λ i u n. leave-apart s t i u (place-slot i t s t k k (λ e. n (sym e))) in
-      let was : isMember w t s ≡ isMember st t s =
-      iter-before (λ u. isMember u t s) (leaveSlot st t end) s others s st (omega arith) in
+      let was : isMember w t s ≡ isMember st t s = iter-before (λ u. isMember u t s) (leaveSlot st t end) s others s st (omega arith) in
       iter-once (λ u. isMember u t s) (leaveSlot st t end) s others slotCount st h
       ∙ by-test (isMember (leaveSlot st t end s w) t s ≡ false) (isMember st t s)
       (λ m. rw m (pruned-member (punished st t s w) s t end (punished-sized st t s w zw) h k))

@@ -63,8 +63,7 @@ next : (before : List Made) (c : Call) → passes-one (at before) c ≡ true →
 unfolding after reply
 next before c e = ap (λ (r : Reply). r .state) (reply-effect before c e)
 
-behind-left :
-    (before : List Made) (calls : List Call) → passes (at before) calls ≡ true → at (behind before calls) ≡ left (at before) calls
+behind-left : (before : List Made) (calls : List Call) → passes (at before) calls ≡ true → at (behind before calls) ≡ left (at before) calls
 unfolding behind passes left
 behind-left before [] e = refl
 behind-left before (c ∷ rest) e =
@@ -72,8 +71,7 @@ behind-left before (c ∷ rest) e =
     let n = next before c (q .0) in
     behind-left (lent c ∷ before) rest (rw n (q .1)) ∙ ap (λ (st : State). left st rest) n
 
-replies-given :
-    (before : List Made) (calls : List Call) → passes (at before) calls ≡ true → replies before calls ≡ given (at before) calls
+replies-given : (before : List Made) (calls : List Call) → passes (at before) calls ≡ true → replies before calls ≡ given (at before) calls
 unfolding replies passes given
 replies-given before [] e = refl
 replies-given before (c ∷ rest) e =
@@ -83,8 +81,7 @@ replies-given before (c ∷ rest) e =
 
 -- a list with one call more at its end
 pub passes-last :
-    (st : State) (calls : List Call) (c : Call) →
-    passes st (calls ++ c ∷ []) ≡ true →
+    (st : State) (calls : List Call) (c : Call) → passes st (calls ++ c ∷ []) ≡ true →
     (passes st calls ≡ true) × (passes-one (left st calls) c ≡ true)
 unfolding passes left
 passes-last st [] c e = (refl, both (passes-one st c) true e .0)
@@ -106,8 +103,7 @@ module _ (calls : List Call) (e : passes start calls ≡ true) where
   unfolding after
   replies-start = replies-given [] calls e
 
-pub asked-effect :
-    (calls : List Call) (c : Call) → passes start (calls ++ c ∷ []) ≡ true → asked calls c ≡ effect (left start calls) c
+pub asked-effect : (calls : List Call) (c : Call) → passes start (calls ++ c ∷ []) ≡ true → asked calls c ≡ effect (left start calls) c
 unfolding asked after
 asked-effect calls c e =
     let w = passes-last start calls c e in

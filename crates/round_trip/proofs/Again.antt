@@ -1,15 +1,13 @@
 -- What the reader left in the lent list, written again, gives the same answer and the same buffer: the writer reads the first three numbers
 -- of each entry and nothing past them, and those are the entries in order 1's order.
 -- Assumes nothing.
-use Prim.Native.Nat.{ℕ, zero, suc, _+_, _*_, _≤_, _<_}
-use native.Mathlib.Omega.{arith}
-use mathlib.Core.Path.{_≡_, refl, ap, _∙_}
-use mathlib.Core.Bool.{true}
+use Rattle.index.proofs.Kit.{ℕ, _+_, _*_, _≤_, _<_, arith, _≡_, refl, ap, _∙_, true}
+use Rattle.index.specs.Index.{gather}
+use Prim.Native.Nat.{zero, suc}
 use mathlib.Core.List.{List}
 use borrow.Author.Tests.{le-leb}
 use lib.ListN.{length, getD, drop, List·getD-append}
 use lib.Seq.{sets, length-sets, sets-eq}
-use Rattle.index.specs.Index.{gather}
 use Rattle.index.proofs.Index.{every-by}
 use Rattle.rpc.specs.Reading.{Reading}
 use Rattle.rpc_write.specs.Writing.{oneBytes, entryOk, kindBytes, controlBytes, messageOf, listOk, writeOf}
@@ -19,8 +17,7 @@ use Rattle.round_trip.specs.RoundTrip.{inOrder, CallWritesAgain}
 use Rattle.round_trip.proofs.Triples.{order-ok, order-length}
 use Rattle.round_trip.proofs.Calls.{accepted, call-reads-back, order-again}
 
-gather-below :
-    {A : Type 0} (n : ℕ) (f g : ℕ → List A) → ((i : ℕ) → i < n → f i ≡ g i) → gather n f ≡ gather n g
+gather-below : {A : Type 0} (n : ℕ) (f g : ℕ → List A) → ((i : ℕ) → i < n → f i ≡ g i) → gather n f ≡ gather n g
 unfolding gather
 gather-below zero f g h = refl
 gather-below (suc n) f g h = rw (gather-below n f g (λ i l. h i (omega arith)), h n (omega arith))
@@ -36,8 +33,7 @@ module _ (names xs lent : List ℕ) (n : ℕ) (ok : listOk names xs n ≡ true) 
       ∙ List·getD-append xs (drop (0 + length xs) lent) 0 k (let g = good names xs n ok .room in omega arith)
 
   alike :
-      {A : Type 0} (f : ℕ → ℕ → ℕ → A) (i : ℕ) →
-      i < n →
+      {A : Type 0} (f : ℕ → ℕ → ℕ → A) (i : ℕ) → i < n →
       f (getD L (3 * i) 0) (getD L (3 * i + 1) 0) (getD L (3 * i + 2) 0)
       ≡ f (getD xs (3 * i) 0) (getD xs (3 * i + 1) 0) (getD xs (3 * i + 2) 0)
   alike f i h = rw (number (3 * i) (omega arith), number (3 * i + 1) (omega arith), number (3 * i + 2) (omega arith))

@@ -1,16 +1,13 @@
 -- What the call leaves in the buffer is read back, and written again gives the same: where it answers 0 its list was accepted and there was
 -- room, so the buffer begins with the message.
 -- Assumes nothing.
-use Prim.Native.Nat.{ℕ, _+_, _≤_}
-use mathlib.Core.Path.{_≡_, sym, ap, _∙_}
-use mathlib.Core.Bool.{true, _&&_}
+use Rattle.index.proofs.Kit.{ℕ, _+_, _≤_, _≡_, sym, ap, _∙_, true, arith, by-test}
+use mathlib.Core.Bool.{_&&_}
 use mathlib.Core.List.{List}
-use native.Mathlib.Omega.{arith}
 use borrow.Author.Tests.{ltb-false, le-ltb}
 use lib.Dec.{ltb}
 use lib.ListN.{length, take, drop}
 use lib.Seq.{sets, sets-eq, take-append-seam}
-use Rattle.index.proofs.Flags.{by-test}
 use Rattle.rpc.specs.Reading.{readOf}
 use Rattle.rpc_write.specs.declared.Wrote.{Wrote}
 use Rattle.rpc_write.specs.declared.Wrote.the-variants.{Done, NotList, Short}
@@ -22,8 +19,7 @@ use Rattle.round_trip.proofs.RoundTrip.{reads-back}
 
 -- the message at the front of a buffer with room for it
 front : (buf m : List ℕ) → length m ≤ length buf → take (length m) (sets buf 0 m) ≡ m
-front buf m h =
-    ap (take (length m)) (sets-eq m buf 0 (omega arith)) ∙ take-append-seam m (drop (0 + length m) buf)
+front buf m h = ap (take (length m)) (sets-eq m buf 0 (omega arith)) ∙ take-append-seam m (drop (0 + length m) buf)
 
 module _ (names actions topics changes buf : List ℕ) (size : ℕ)
     (e : writeActionsOf names actions topics changes buf .answer ≡ Done size) where
@@ -53,12 +49,7 @@ module _ (names actions topics changes buf : List ℕ) (size : ℕ)
       (λ v. not-done Short (rw (t, u, v)) (λ q. omega arith))
       (λ v.
       let d : writeActionsOf names actions topics changes buf .answer ≡ Done (length (messageOf names L n)) = rw (t, u, v) in
-      record {
-        call = rw t;
-        ok = u;
-        room = ltb-false (length buf) (length (messageOf names L n)) v;
-        size-is = ap wroteValue (sym e ∙ d);
-      }))
+      record { call = rw t; ok = u; room = ltb-false (length buf) (length (messageOf names L n)) v; size-is = ap wroteValue (sym e ∙ d) }))
       (λ u. not-done NotList (rw (t, u)) (λ q. omega arith)))
       (λ t. not-done NotList (rw t) (λ q. omega arith))
 
@@ -79,8 +70,7 @@ call-reads-back names actions topics changes buf lent size set e h =
 
 -- the entries in order 1's order, written again
 pub order-again :
-    (names actions topics changes buf : List ℕ) (size : ℕ) →
-    writeActionsOf names actions topics changes buf .answer ≡ Done size →
+    (names actions topics changes buf : List ℕ) (size : ℕ) → writeActionsOf names actions topics changes buf .answer ≡ Done size →
     writeOf names (inOrder (entriesOf actions topics changes) (entryCount topics changes)) (entryCount topics changes) buf
     ≡ writeActionsOf names actions topics changes buf
 unfolding writeOf

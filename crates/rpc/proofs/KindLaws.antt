@@ -1,15 +1,11 @@
 -- Entries by kind: how many there are of each, and which kinds a message has.
 -- Assumes nothing.
-use Prim.Native.Nat.{ℕ, _+_, _≤_, _<_}
-use mathlib.Core.Path.{_≡_, refl, sym, ap, _∙_}
-use mathlib.Core.Bool.{Bool, true, false, _&&_, cond}
+use Rattle.index.proofs.Kit.{ℕ, _+_, _≤_, _<_, _≡_, refl, sym, ap, _∙_, Bool, true, false, arith, one, by-test}
+use mathlib.Core.Bool.{_&&_, cond}
 use mathlib.Core.List.{List, [], _∷_, _++_, append-assoc}
-use native.Mathlib.Omega.{arith}
 use borrow.Author.Tests.{eqb-true, eq-eqb, ne-eqb}
 use lib.Dec.{eqb}
 use lib.ListN.{length, length-append}
-use Rattle.index.specs.Index.{one}
-use Rattle.index.proofs.Flags.{by-test}
 use Rattle.fields.specs.Fields.{varint, delimited}
 use Rattle.rpc.specs.Messages.{Item, subscription, graft, prune, rpc, control, roleOf}
 use Rattle.rpc.specs.Reading.{only}
@@ -155,9 +151,7 @@ by-rows :
     kindIn
     (cond a (Entry subscription)
     (cond b (Inner control)
-    (cond c (Entry graft)
-    (cond d (Entry prune)
-    (cond e Value (cond f Name (cond g Name (cond h Name (cond i Value Skipped)))))))))
+    (cond c (Entry graft) (cond d (Entry prune) (cond e Value (cond f Name (cond g Name (cond h Name (cond i Value Skipped)))))))))
     ≤ 2
 by-rows true b c d e f g h i = omega arith
 by-rows false true c d e f g h i = omega arith

@@ -1,14 +1,12 @@
 -- The place of a broken field lies in the message, at every level; so what the reader answers is small.
 -- Assumes nothing.
-use Prim.Native.Nat.{ℕ, zero, suc, _<_, _≤_}
-use mathlib.Core.Path.{_≡_, refl, ap}
+use Rattle.index.proofs.Kit.{ℕ, _<_, _≤_, _≡_, refl, ap, arith, by-test}
+use Prim.Native.Nat.{zero, suc}
 use mathlib.Core.List.{List, []}
-use native.Mathlib.Omega.{arith}
 use borrow.Author.Tests.{ltb-false}
 use lib.Dec.{ltb}
 use lib.ListN.{length, take}
 use lib.Seq.{length-take-le}
-use Rattle.index.proofs.Flags.{by-test}
 use Rattle.fields.specs.Fields.{fieldAt}
 use Rattle.fields.specs.Walk.{Items, items, broken, over, fieldsOf, itself}
 use Rattle.fields.specs.declared.Part.{Part}
@@ -26,10 +24,7 @@ fields-place : (s : List ℕ) (at q : ℕ) → fieldsOf s at ≡ broken q → q 
 fields-place s at q e = over-place itself s (λ a p b f g. let z : _≡_ {A = ℕ} 0 1 = cc in absurd (omega arith)) at q e
 
 item-place :
-    (kind : ℕ) (s : List ℕ) (x : Items Part) (q : ℕ) →
-    ((b : ℕ) → x ≡ broken b → b < length s) →
-    itemOf kind x ≡ broken q →
-    q < length s
+    (kind : ℕ) (s : List ℕ) (x : Items Part) (q : ℕ) → ((b : ℕ) → x ≡ broken b → b < length s) → itemOf kind x ≡ broken q → q < length s
 item-place kind s (items ps) q f e = let z : _≡_ {A = ℕ} 0 1 = cc in absurd (omega arith)
 item-place kind s (broken b) q f e = let z : b ≡ q = cc in f q (ap broken z)
 
@@ -41,11 +36,8 @@ nowhere : (q n : ℕ) → _≡_ {A = Items Item} (items []) (broken q) → q < n
 nowhere q n e = let z : _≡_ {A = ℕ} 0 1 = cc in absurd (omega arith)
 
 role-place :
-    (r : Role) (inner one : ℕ → Items Item) (n q : ℕ) →
-    ((k : ℕ) → inner k ≡ broken q → q < n) →
-    ((k : ℕ) → one k ≡ broken q → q < n) →
-    byRole r inner one ≡ broken q →
-    q < n
+    (r : Role) (inner one : ℕ → Items Item) (n q : ℕ) → ((k : ℕ) → inner k ≡ broken q → q < n) → ((k : ℕ) → one k ≡ broken q → q < n) →
+    byRole r inner one ≡ broken q → q < n
 role-place (Entry k) inner one n q f g e = g k e
 role-place (Inner k) inner one n q f g e = f k e
 role-place Skipped inner one n q f g e = nowhere q n e
@@ -68,9 +60,7 @@ place-inside s q e = over-place (inside 2 rpc s) s (inside-place 2 rpc s) 0 q e
 
 -- ---- the number that goes with an answer
 answered-most :
-    (names s list : List ℕ) (x : Items Item) →
-    rpcAt s 0 ≡ x →
-    length s ≤ messageBytes →
+    (names s list : List ℕ) (x : Items Item) → rpcAt s 0 ≡ x → length s ≤ messageBytes →
     answerValue (answered names s list x .answer) ≤ messageBytes
 answered-most names s list (items xs) e h = omega (arith, message-few 2 rpc s 0 xs e)
 answered-most names s list (broken q) e h = omega (arith, place-inside s q e)

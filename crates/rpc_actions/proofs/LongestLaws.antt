@@ -1,17 +1,15 @@
 -- No message is longer: each of at most 72 entries takes at most 71 bytes, and each join or leave, at most 8 of them, at most 70.
 -- Assumes nothing.
-use Prim.Native.Nat.{ℕ, zero, suc, _+_, _-_, _*_, _/_, _<_, _≤_}
-use mathlib.Core.Path.{_≡_, refl, ap, _∙_}
-use mathlib.Core.Bool.{Bool, true, _&&_}
+use Rattle.index.proofs.Kit.{ℕ, _+_, _-_, _*_, _<_, _≤_, _≡_, refl, ap, _∙_, Bool, true, arith, one, by-test, by-order}
+use Rattle.index.specs.Index.{every, count, gather}
+use Prim.Native.Nat.{zero, suc, _/_}
+use mathlib.Core.Bool.{_&&_}
 use mathlib.Core.List.{List, [], _++_}
-use native.Mathlib.Omega.{arith}
 use borrow.Author.Tests.{leb-true}
 use lib.Dec.{eqb, leb, ltb}
 use lib.ListN.{length, getD, List·getD-append}
 use lib.Seq.{getD-append-add}
-use Rattle.index.specs.Index.{every, count, one, gather}
 use Rattle.index.proofs.Index.{both}
-use Rattle.index.proofs.Flags.{by-test, by-order}
 use Rattle.varint.specs.Groups.{encode, groups}
 use Rattle.rpc_write.specs.Writing.{valueField, partField, nameSize, nameOf, entryBytes, oneBytes, kindBytes, controlBytes, controlField}
 use Rattle.rpc_write.specs.Writing.{entryOk, messageOf, listOk, writeOf, wroteValue}
@@ -55,8 +53,7 @@ module _ (actions topics changes : List ℕ) where
 
 few : (changes : List ℕ) → changesOk changes ≡ true → length changes / 2 ≤ 8
 unfolding changesOk
-few changes e =
-    leb-true (length changes / 2) 8 (both (leb (length changes / 2) 8) (eqb (length changes) (2 * (length changes / 2))) e .0)
+few changes e = leb-true (length changes / 2) 8 (both (leb (length changes / 2) 8) (eqb (length changes) (2 * (length changes / 2))) e .0)
 
 pub longest-message : Longest
 longest-message names actions topics changes a c ok =

@@ -1,14 +1,11 @@
 -- How long a message is: a subscription takes at most 70 bytes, a GRAFT or PRUNE at most 71, and the control field three more.
 -- Assumes nothing.
-use Prim.Native.Nat.{ℕ, zero, suc, _+_, _*_, _<_, _≤_}
-use mathlib.Core.Path.{_≡_, refl}
-use mathlib.Core.Bool.{Bool, true}
+use Rattle.index.proofs.Kit.{ℕ, _+_, _*_, _<_, _≤_, _≡_, refl, Bool, true, arith, one, by-test, by-order}
+use Rattle.index.specs.Index.{gather, count}
+use Prim.Native.Nat.{zero, suc}
 use mathlib.Core.List.{List, _++_, append-nil}
-use native.Mathlib.Omega.{arith}
 use lib.Dec.{eqb, ltb, leb}
 use lib.ListN.{length, getD, length-append}
-use Rattle.index.specs.Index.{gather, count, one}
-use Rattle.index.proofs.Flags.{by-test, by-order}
 use Rattle.varint.specs.Groups.{encode}
 use Rattle.rpc.specs.Reading.{rowBytes, nameBytes}
 use Rattle.rpc_write.specs.Writing.{valueField, partField, nameSize, nameOf, entryBytes, oneBytes, kindBytes, controlBytes}
@@ -19,10 +16,7 @@ use borrow.Author.Tests.{leb-true}
 
 -- ---- numbers and fields
 number-long : (n : ℕ) → n < 16384 → length (encode n) ≤ 2
-number-long n h =
-    by-order (length (encode n) ≤ 2) n 128
-    (λ l. omega (arith, size-one n l .0))
-    (λ l. omega (arith, size-two n l h .0))
+number-long n h = by-order (length (encode n) ≤ 2) n 128 (λ l. omega (arith, size-one n l .0)) (λ l. omega (arith, size-two n l h .0))
 
 value-long : (number v k : ℕ) → number < 16 → length (encode v) ≤ k → length (valueField number v) ≤ k + 1
 unfolding valueField
@@ -32,12 +26,10 @@ value-long number v k h l =
     (λ t. rw t (omega (arith, length-append (encode (8 * number)) (encode v), size-one (8 * number) (omega arith) .0)))
 
 part-one : (number : ℕ) (c : List ℕ) → number < 15 → length c < 128 → length (partField number c) ≡ length c + 2
-part-one number c h l =
-    omega (arith, part-length number c, size-one (8 * number + 2) (omega arith) .0, size-one (length c) l .0)
+part-one number c h l = omega (arith, part-length number c, size-one (8 * number + 2) (omega arith) .0, size-one (length c) l .0)
 
 part-long : (number : ℕ) (c : List ℕ) → number < 15 → length c < 16384 → length (partField number c) ≤ length c + 3
-part-long number c h l =
-    omega (arith, part-length number c, size-one (8 * number + 2) (omega arith) .0, number-long (length c) l)
+part-long number c h l = omega (arith, part-length number c, size-one (8 * number + 2) (omega arith) .0, number-long (length c) l)
 
 pub name-short : (names : List ℕ) (topic : ℕ) → length (nameOf names topic) ≤ nameBytes
 unfolding nameSize
@@ -50,42 +42,26 @@ name-short names topic =
     (λ u. rw (← e, t, u) (omega arith)))
     (λ t. rw (← e, t) (omega arith))
 
--- ---- an entry's message; a subscription's is one byte shorter than the longest
+-- ---- an entry's message: a value, the name, a value; a subscription's is one byte shorter than the longest
+named-long :
+    (names : List ℕ) (topic number : ℕ) (a b : List ℕ) → number < 15 →
+    length (a ++ (partField number (nameOf names topic) ++ b)) ≤ length a + 66 + length b
+named-long names topic number a b h =
+    let N = nameOf names topic in
+    let n = name-short names topic in
+    let p = part-one number N h (omega arith) in
+    omega (arith, length-append a (partField number N ++ b), length-append (partField number N) b)
+
 pub entry-long : (names : List ℕ) (kind topic v : ℕ) → Fits kind v → length (entryBytes names kind topic v) + one (eqb kind 0) ≤ 69
 unfolding entryBytes
 entry-long names kind topic v (sub h) =
-    let N = nameOf names topic in
-    let n = name-short names topic in
-    omega (
-      arith,
-      length-append (valueField 1 v) (partField 2 N ++ valueField 3 0),
-      length-append (partField 2 N) (valueField 3 0),
-      value-long 1 v 1 (omega arith) (omega (arith, size-one v (omega arith) .0)),
-      part-one 2 N (omega arith) (omega arith),
-      value-zero 3 0 refl .0,
-    )
+    let l = value-long 1 v 1 (omega arith) (omega (arith, size-one v (omega arith) .0)) in
+    omega (arith, named-long names topic 2 (valueField 1 v) (valueField 3 0) (omega arith), value-zero 3 0 refl .0)
 entry-long names kind topic v graft =
-    let N = nameOf names topic in
-    let n = name-short names topic in
-    omega (
-      arith,
-      length-append (valueField 1 0) (partField 1 N ++ valueField 3 0),
-      length-append (partField 1 N) (valueField 3 0),
-      value-zero 1 0 refl .0,
-      part-one 1 N (omega arith) (omega arith),
-      value-zero 3 0 refl .0,
-    )
+    omega (arith, named-long names topic 1 (valueField 1 0) (valueField 3 0) (omega arith), value-zero 1 0 refl .0, value-zero 3 0 refl .0)
 entry-long names kind topic v (prune h) =
-    let N = nameOf names topic in
-    let n = name-short names topic in
-    omega (
-      arith,
-      length-append (valueField 1 0) (partField 1 N ++ valueField 3 v),
-      length-append (partField 1 N) (valueField 3 v),
-      value-zero 1 0 refl .0,
-      part-one 1 N (omega arith) (omega arith),
-      value-long 3 v 2 (omega arith) (number-long v (omega arith)),
-    )
+    let l = value-long 3 v 2 (omega arith) (number-long v (omega arith)) in
+    omega (arith, named-long names topic 1 (valueField 1 0) (valueField 3 v) (omega arith), value-zero 1 0 refl .0)
 
 -- ---- as a field: an entry is of one kind only
 abbrev allKinds : List ℕ → ℕ → ℕ → ℕ → ℕ
@@ -109,8 +85,7 @@ abbrev pub isSub : List ℕ → ℕ → Bool
 isSub list i = eqb (getD list (3 * i) 0) 0
 
 pub all-long :
-    (names list : List ℕ) (n : ℕ) →
-    ((i : ℕ) → i < n → okAt names list i ≡ true) →
+    (names list : List ℕ) (n : ℕ) → ((i : ℕ) → i < n → okAt names list i ≡ true) →
     length (gather n (bytesAt names list 0 1)) + length (gather n (bytesAt names list 1 3)) + length
     (gather n (bytesAt names list 2 4)) + count n (isSub list) ≤ 71 * n
 unfolding gather count

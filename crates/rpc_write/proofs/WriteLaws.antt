@@ -1,18 +1,17 @@
 -- Laws of writing: bytes stored one after the other, and the ends of the functions that store them.
 -- Assumes nothing.
-use Prim.Native.Nat.{ℕ, zero, suc, _+_, _-_, _*_, _/_, _%_, _<_, _≤_}
-use mathlib.Core.Path.{_≡_, refl, sym, ap, _∙_}
-use mathlib.Core.Bool.{Bool, true, false, _&&_, _||_}
+use Rattle.index.proofs.Kit.{ℕ, _+_, _-_, _*_, _<_, _≤_, _≡_, refl, sym, ap, _∙_, Bool, true, false, arith, every, every-fails}
+use Rattle.index.specs.Index.{gather}
+use Rattle.index.proofs.Kit.{every-done, by-order}
+use Prim.Native.Nat.{zero, suc, _/_, _%_}
+use mathlib.Core.Bool.{_&&_, _||_}
 use mathlib.Core.List.{List, [], _∷_, _++_, append-assoc, append-nil}
-use native.Mathlib.Omega.{arith}
 use native.Mathlib.Numerals.{add-one}
 use borrow.Author.Tests.{lt-ltb, le-ltb, le-leb, lt-leb, leb-true, eq-eqb, ne-eqb, eqb-true}
 use lib.Dec.{ltb, leb, eqb}
 use lib.ListN.{length, getD, set, length-append, length-set}
 use lib.Seq.{sets, length-sets, set-out}
-use Rattle.index.specs.Index.{every, gather}
-use Rattle.index.proofs.Index.{both, every-at, every-fails, every-done, gather-none, gather-more}
-use Rattle.index.proofs.Flags.{by-order}
+use Rattle.index.proofs.Index.{both, every-at, gather-none, gather-more}
 use Rattle.index.proofs.Lists.{sets-append}
 use Rattle.varint.specs.Groups.{encode}
 use Rattle.varint.proofs.GroupLaws.{encode-last, encode-more}
@@ -28,12 +27,8 @@ pub stored-none : (b : List ℕ) (at : ℕ) → Stored b at [] at b
 stored-none b at = (omega arith, refl)
 
 pub stored-then :
-    (b : List ℕ) (at p : ℕ) (xs c : List ℕ) (q : ℕ) (ys d : List ℕ) →
-    Stored b at xs p c →
-    Stored c p ys q d →
-    Stored b at (xs ++ ys) q d
-stored-then b at p xs c q ys d s t =
-    (omega (arith, s .0, t .0, length-append xs ys), t .1 ∙ rw (s .1, s .0) (sym (sets-append b at xs ys)))
+    (b : List ℕ) (at p : ℕ) (xs c : List ℕ) (q : ℕ) (ys d : List ℕ) → Stored b at xs p c → Stored c p ys q d → Stored b at (xs ++ ys) q d
+stored-then b at p xs c q ys d s t = (omega (arith, s .0, t .0, length-append xs ys), t .1 ∙ rw (s .1, s .0) (sym (sets-append b at xs ys)))
 
 pub stored-same : (b : List ℕ) (at p : ℕ) (xs ys c : List ℕ) → xs ≡ ys → Stored b at xs p c → Stored b at ys p c
 stored-same b at p xs ys c e s = rw e at s
@@ -47,11 +42,7 @@ two-bytes : (n : ℕ) → 128 ≤ n → n < 16384 → encode n ≡ (n % 128 + 12
 two-bytes n h l = encode-more n h ∙ ap (λ (x : List ℕ). (n % 128 + 128) ∷ x) (encode-last (n / 128) (omega arith))
 
 pub number-two :
-    (b : List ℕ) (at n : ℕ) (a out : List ℕ) →
-    128 ≤ n →
-    n < 16384 →
-    a ≡ set b at (n % 128 + 128) →
-    out ≡ set a (at + 1) (n / 128) →
+    (b : List ℕ) (at n : ℕ) (a out : List ℕ) → 128 ≤ n → n < 16384 → a ≡ set b at (n % 128 + 128) → out ≡ set a (at + 1) (n / 128) →
     Stored b at (encode n) (at + 2) out × (at + 2 ≤ at + 2)
 number-two b at n a out h l e f = let q = two-bytes n h l in (rw q (refl, f ∙ rw (e, add-one at)), omega arith)
 
@@ -149,13 +140,8 @@ module _ (names : List ℕ) (topic : ℕ) where
       )
 
   pub name-all :
-      (b : List ℕ) (at i n size : ℕ) (out : List ℕ) →
-      (size ≡ nameSize names topic) × (size ≤ nameBytes) →
-      Fitting (length b) at size n →
-      i ≤ n →
-      n ≤ i →
-      Copied b at i out →
-      Stored b at (nameOf names topic) (at + size) out × (at + size ≤ at + nameBytes)
+      (b : List ℕ) (at i n size : ℕ) (out : List ℕ) → (size ≡ nameSize names topic) × (size ≤ nameBytes) → Fitting (length b) at size n →
+      i ≤ n → n ≤ i → Copied b at i out → Stored b at (nameOf names topic) (at + size) out × (at + size ≤ at + nameBytes)
   unfolding nameOf
   name-all b at i n size out z t l h q =
       let B = nameByte names topic in
@@ -171,10 +157,8 @@ unfolding valueField
 value-none b at number v e = rw (eq-eqb v 0 e) (stored-none b at, omega arith)
 
 pub value-some :
-    (b : List ℕ) (at number v p : ℕ) (a : List ℕ) (q : ℕ) (out : List ℕ) →
-    (v ≡ 0 → ⊥) →
-    Stored b at (encode (8 * number)) p a × (p ≤ at + 2) →
-    Stored a p (encode v) q out × (q ≤ p + 2) →
+    (b : List ℕ) (at number v p : ℕ) (a : List ℕ) (q : ℕ) (out : List ℕ) → (v ≡ 0 → ⊥) →
+    Stored b at (encode (8 * number)) p a × (p ≤ at + 2) → Stored a p (encode v) q out × (q ≤ p + 2) →
     Stored b at (valueField number v) q out × (q ≤ at + 4)
 unfolding valueField
 value-some b at number v p a q out n s t =
@@ -198,20 +182,15 @@ part-length number content =
     omega (arith, length-append t (l ++ content), length-append l content)
 
 pub head-stored :
-    (b : List ℕ) (at number size p : ℕ) (a : List ℕ) (q : ℕ) (c : List ℕ) →
-    Stored b at (encode (8 * number + 2)) p a × (p ≤ at + 2) →
-    Stored a p (encode size) q c × (q ≤ p + 2) →
-    Stored b at (headBytes number size) q c × (q ≤ at + 4)
+    (b : List ℕ) (at number size p : ℕ) (a : List ℕ) (q : ℕ) (c : List ℕ) → Stored b at (encode (8 * number + 2)) p a × (p ≤ at + 2) →
+    Stored a p (encode size) q c × (q ≤ p + 2) → Stored b at (headBytes number size) q c × (q ≤ at + 4)
 unfolding headBytes
 head-stored b at number size p a q c s t =
     (stored-then b at p (encode (8 * number + 2)) a q (encode size) c (s .0) (t .0), omega (arith, s .1, t .1))
 
 pub part-stored :
-    (b : List ℕ) (at number size : ℕ) (content : List ℕ) (p : ℕ) (a : List ℕ) (q : ℕ) (out : List ℕ) →
-    size ≡ length content →
-    Stored b at (headBytes number size) p a →
-    Stored a p content q out →
-    Stored b at (partField number content) q out
+    (b : List ℕ) (at number size : ℕ) (content : List ℕ) (p : ℕ) (a : List ℕ) (q : ℕ) (out : List ℕ) → size ≡ length content →
+    Stored b at (headBytes number size) p a → Stored a p content q out → Stored b at (partField number content) q out
 unfolding partField headBytes
 part-stored b at number size content p a q out e s t =
     let s′ : Stored b at (encode (8 * number + 2) ++ encode (length content)) p a = rw e at s in
@@ -222,13 +201,9 @@ part-stored b at number size content p a q out e s t =
 
 -- ---- an entry
 pub entry-stored :
-    (names b : List ℕ) (at kind topic v e m l p : ℕ) (a : List ℕ) (q : ℕ) (c : List ℕ) (r : ℕ) (out : List ℕ) →
-    e ≡ early kind v →
-    m ≡ nameNumber kind →
-    l ≡ late kind v →
-    Stored b at (valueField 1 e) p a × (p ≤ at + 4) →
-    Stored a p (partField m (nameOf names topic)) q c × (q ≤ p + 68) →
-    Stored c q (valueField 3 l) r out × (r ≤ q + 4) →
+    (names b : List ℕ) (at kind topic v e m l p : ℕ) (a : List ℕ) (q : ℕ) (c : List ℕ) (r : ℕ) (out : List ℕ) → e ≡ early kind v →
+    m ≡ nameNumber kind → l ≡ late kind v → Stored b at (valueField 1 e) p a × (p ≤ at + 4) →
+    Stored a p (partField m (nameOf names topic)) q c × (q ≤ p + 68) → Stored c q (valueField 3 l) r out × (r ≤ q + 4) →
     Stored b at (entryBytes names kind topic v) r out × (r ≤ at + 76)
 unfolding entryBytes
 entry-stored names b at kind topic v e m l p a q c r out ee em el s t u =
@@ -239,14 +214,9 @@ entry-stored names b at kind topic v e m l p a q c r out ee em el s t u =
     )
 
 pub entry-length :
-    (names : List ℕ) (kind topic v e m l size a b d : ℕ) →
-    (e ≡ early kind v) × (e ≤ v) →
-    m ≡ nameNumber kind →
-    (l ≡ late kind v) × (l ≤ v) →
-    (size ≡ nameSize names topic) × (size ≤ nameBytes) →
-    (a ≡ length (valueField 1 e)) × (a ≤ 4) →
-    (b ≡ partSize m size) × (b ≤ size + 4) →
-    (d ≡ length (valueField 3 l)) × (d ≤ 4) →
+    (names : List ℕ) (kind topic v e m l size a b d : ℕ) → (e ≡ early kind v) × (e ≤ v) → m ≡ nameNumber kind →
+    (l ≡ late kind v) × (l ≤ v) → (size ≡ nameSize names topic) × (size ≤ nameBytes) → (a ≡ length (valueField 1 e)) × (a ≤ 4) →
+    (b ≡ partSize m size) × (b ≤ size + 4) → (d ≡ length (valueField 3 l)) × (d ≤ 4) →
     (a + b + d ≡ length (entryBytes names kind topic v)) × (a + b + d ≤ 76)
 unfolding entryBytes
 entry-length names kind topic v e m l size a b d ee em el z s t u =
@@ -266,11 +236,8 @@ unfolding oneBytes
 one-none names own topic v kind number n = (rw (ne-eqb own kind n), omega arith)
 
 pub one-length :
-    (names : List ℕ) (own topic v kind number size r : ℕ) →
-    own ≡ kind →
-    (size ≡ length (entryBytes names own topic v)) × (size ≤ 76) →
-    (r ≡ partSize number size) × (r ≤ size + 4) →
-    (r ≡ length (oneBytes names own topic v kind number)) × (r ≤ 80)
+    (names : List ℕ) (own topic v kind number size r : ℕ) → own ≡ kind → (size ≡ length (entryBytes names own topic v)) × (size ≤ 76) →
+    (r ≡ partSize number size) × (r ≤ size + 4) → (r ≡ length (oneBytes names own topic v kind number)) × (r ≤ 80)
 unfolding oneBytes
 one-length names own topic v kind number size r e z t = (
   t .0 ∙ rw (z .0, eq-eqb own kind e) (sym (part-length number (entryBytes names own topic v))),
@@ -283,10 +250,8 @@ unfolding oneBytes
 one-other names b at own topic v kind number n = rw (ne-eqb own kind n) (stored-none b at, omega arith)
 
 pub one-stored :
-    (names b : List ℕ) (at own topic v kind number size p : ℕ) (a : List ℕ) (q : ℕ) (out : List ℕ) →
-    own ≡ kind →
-    (size ≡ length (entryBytes names own topic v)) × (size ≤ 76) →
-    Stored b at (headBytes number size) p a × (p ≤ at + 4) →
+    (names b : List ℕ) (at own topic v kind number size p : ℕ) (a : List ℕ) (q : ℕ) (out : List ℕ) → own ≡ kind →
+    (size ≡ length (entryBytes names own topic v)) × (size ≤ 76) → Stored b at (headBytes number size) p a × (p ≤ at + 4) →
     Stored a p (entryBytes names own topic v) q out × (q ≤ p + 76) →
     Stored b at (oneBytes names own topic v kind number) q out × (q ≤ at + 80)
 unfolding oneBytes
@@ -305,21 +270,14 @@ module _ (names list : List ℕ) (kind number : ℕ) (b : List ℕ) (at : ℕ) w
   kind-none = rw (gather-none (bytesAt names list kind number)) (stored-none b at)
 
   pub kind-more :
-      (i p : ℕ) (c : List ℕ) (q : ℕ) (d : List ℕ) →
-      Stored b at (gather i (bytesAt names list kind number)) p c →
-      Stored c p (bytesAt names list kind number i) q d →
-      Stored b at (gather (i + 1) (bytesAt names list kind number)) q d
+      (i p : ℕ) (c : List ℕ) (q : ℕ) (d : List ℕ) → Stored b at (gather i (bytesAt names list kind number)) p c →
+      Stored c p (bytesAt names list kind number i) q d → Stored b at (gather (i + 1) (bytesAt names list kind number)) q d
   kind-more i p c q d s t =
       rw (gather-more (bytesAt names list kind number) i)
       (stored-then b at p (gather i (bytesAt names list kind number)) c q (bytesAt names list kind number i) d s t)
 
   pub kind-all :
-      (n i p : ℕ) (c : List ℕ) →
-      i ≤ n →
-      n ≤ i →
-      n ≤ 72 →
-      p ≤ at + 80 * i →
-      Stored b at (gather i (bytesAt names list kind number)) p c →
+      (n i p : ℕ) (c : List ℕ) → i ≤ n → n ≤ i → n ≤ 72 → p ≤ at + 80 * i → Stored b at (gather i (bytesAt names list kind number)) p c →
       Stored b at (kindBytes names list n kind number) p c × (p ≤ at + 5760)
   unfolding kindBytes
   kind-all n i p c l h m k s =
@@ -332,9 +290,7 @@ module _ (names list : List ℕ) (kind number : ℕ) where
   length-none = rw (gather-none (bytesAt names list kind number))
 
   pub length-more :
-      (i size a : ℕ) →
-      size ≡ length (gather i (bytesAt names list kind number)) →
-      a ≡ length (bytesAt names list kind number i) →
+      (i size a : ℕ) → size ≡ length (gather i (bytesAt names list kind number)) → a ≡ length (bytesAt names list kind number i) →
       size + a ≡ length (gather (i + 1) (bytesAt names list kind number))
   length-more i size a e f =
       let g = gather i (bytesAt names list kind number) in
@@ -342,12 +298,7 @@ module _ (names list : List ℕ) (kind number : ℕ) where
       rw (gather-more (bytesAt names list kind number) i) (omega (arith, length-append g x))
 
   pub length-all :
-      (n i size : ℕ) →
-      i ≤ n →
-      n ≤ i →
-      n ≤ 72 →
-      size ≤ 80 * i →
-      size ≡ length (gather i (bytesAt names list kind number)) →
+      (n i size : ℕ) → i ≤ n → n ≤ i → n ≤ 72 → size ≤ 80 * i → size ≡ length (gather i (bytesAt names list kind number)) →
       (size ≡ length (kindBytes names list n kind number)) × (size ≤ 5760)
   unfolding kindBytes
   length-all n i size l h m k e =
@@ -356,18 +307,15 @@ module _ (names list : List ℕ) (kind number : ℕ) where
 
 -- ---- the control field, the message
 pub control-length :
-    (names list : List ℕ) (n a b : ℕ) →
-    (a ≡ length (kindBytes names list n 1 3)) × (a ≤ 5760) →
-    (b ≡ length (kindBytes names list n 2 4)) × (b ≤ 5760) →
-    (a + b ≡ length (controlBytes names list n)) × (a + b ≤ 11520)
+    (names list : List ℕ) (n a b : ℕ) → (a ≡ length (kindBytes names list n 1 3)) × (a ≤ 5760) →
+    (b ≡ length (kindBytes names list n 2 4)) × (b ≤ 5760) → (a + b ≡ length (controlBytes names list n)) × (a + b ≤ 11520)
 unfolding controlBytes
 control-length names list n a b s t =
     (omega (arith, s .0, t .0, length-append (kindBytes names list n 1 3) (kindBytes names list n 2 4)), omega (arith, s .1, t .1))
 
 pub control-stored :
     (names list : List ℕ) (n : ℕ) (b : List ℕ) (at : ℕ) (p : ℕ) (a : List ℕ) (q : ℕ) (out : List ℕ) →
-    Stored b at (kindBytes names list n 1 3) p a × (p ≤ at + 5760) →
-    Stored a p (kindBytes names list n 2 4) q out × (q ≤ p + 5760) →
+    Stored b at (kindBytes names list n 1 3) p a × (p ≤ at + 5760) → Stored a p (kindBytes names list n 2 4) q out × (q ≤ p + 5760) →
     Stored b at (controlBytes names list n) q out × (q ≤ at + 11520)
 unfolding controlBytes
 control-stored names list n b at p a q out s t =
@@ -379,11 +327,8 @@ unfolding controlField
 field-none b at size content z e = rw (eq-eqb (length content) 0 (sym z ∙ e)) (stored-none b at, omega arith)
 
 pub field-some :
-    (b : List ℕ) (at size : ℕ) (content : List ℕ) (p : ℕ) (a : List ℕ) (q : ℕ) (out : List ℕ) →
-    size ≡ length content →
-    (size ≡ 0 → ⊥) →
-    Stored b at (headBytes 3 size) p a × (p ≤ at + 4) →
-    Stored a p content q out × (q ≤ p + 11520) →
+    (b : List ℕ) (at size : ℕ) (content : List ℕ) (p : ℕ) (a : List ℕ) (q : ℕ) (out : List ℕ) → size ≡ length content → (size ≡ 0 → ⊥) →
+    Stored b at (headBytes 3 size) p a × (p ≤ at + 4) → Stored a p content q out × (q ≤ p + 11520) →
     Stored b at (controlField content) q out × (q ≤ at + 11524)
 unfolding controlField
 field-some b at size content p a q out z n s t =
@@ -398,10 +343,8 @@ module _ (names list : List ℕ) (n : ℕ) where
   control = controlBytes names list n
 
   pub message-stored :
-      (b : List ℕ) (p : ℕ) (a : List ℕ) (q : ℕ) (out : List ℕ) →
-      Stored b 0 (kindBytes names list n 0 1) p a × (p ≤ 0 + 5760) →
-      Stored a p (controlField (controlBytes names list n)) q out × (q ≤ p + 11524) →
-      Stored b 0 (messageOf names list n) q out
+      (b : List ℕ) (p : ℕ) (a : List ℕ) (q : ℕ) (out : List ℕ) → Stored b 0 (kindBytes names list n 0 1) p a × (p ≤ 0 + 5760) →
+      Stored a p (controlField (controlBytes names list n)) q out × (q ≤ p + 11524) → Stored b 0 (messageOf names list n) q out
   unfolding messageOf
   message-stored b p a q out s t = stored-then b 0 p subs a q (controlField control) out (s .0) (t .0)
 
@@ -464,8 +407,7 @@ good names list n e =
       little =
           λ i h.
           small (getD list (3 * i) 0) (getD list (3 * i + 2) 0)
-          (fits names (getD list (3 * i) 0) (getD list (3 * i + 1) 0) (getD list (3 * i + 2) 0)
-          (every-at (okAt names list) n i (q .1) h));
+          (fits names (getD list (3 * i) 0) (getD list (3 * i + 1) 0) (getD list (3 * i + 2) 0) (every-at (okAt names list) n i (q .1) h));
     }
 
 -- ---- the ends of `list_ok`

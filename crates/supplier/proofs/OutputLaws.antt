@@ -1,11 +1,9 @@
 -- Laws of the answer: what is stored in each case is what the definition says.
 -- Assumes nothing.
-use Prim.Native.Nat.{ℕ, _+_, _-_, _<_, _≤_}
-use mathlib.Core.Path.{_≡_, refl, sym, ap, _∙_}
+use Rattle.index.proofs.Kit.{ℕ, _+_, _-_, _<_, _≤_, _≡_, refl, sym, ap, _∙_, arith, true, false, by-order}
 use mathlib.Core.List.{List, [], _∷_, _++_, append-nil}
-use native.Mathlib.Omega.{arith}
 use native.Mathlib.Nat.{zero-add}
-use mathlib.Core.Bool.{true, false, _&&_}
+use mathlib.Core.Bool.{_&&_}
 use borrow.Author.Tests.{eq-eqb, ne-eqb, eqb-true, lt-ltb, le-ltb, ltb-true}
 use lib.Dec.{eqb, ltb}
 use lib.IntN.{ℤ}
@@ -14,7 +12,6 @@ use lib.Seq.{sets, take-append-le, sets-eq, take-at, length-take-le}
 use Rattle.index.specs.declared.Found.{Found}
 use Rattle.index.specs.declared.Found.the-variants.{At, Nothing}
 use Rattle.index.proofs.Index.{both}
-use Rattle.index.proofs.Flags.{by-order}
 use Rattle.records.specs.Records.{paramCount}
 use Rattle.text.specs.Text.{Stored}
 use Rattle.text.proofs.TextLaws.{stored-then}
@@ -58,8 +55,7 @@ module _ (q r : Reading) (v : Verdict) (is : q ≡ r) (told : q .verdict ≡ v) 
     import-bytes-as s = rw (sym (by-verdict (λ w p. allowed w (firstBroken p) (formOf p)))) s
 
     pub export-bytes-as :
-        Stored b₀ 0 (allowed v (brokenFirst (q .params .numbers)) (bytesOf (q .params .numbers))) n b₁ →
-        Stored b₀ 0 (exportBytes r) n b₁
+        Stored b₀ 0 (allowed v (brokenFirst (q .params .numbers)) (bytesOf (q .params .numbers))) n b₁ → Stored b₀ 0 (exportBytes r) n b₁
     unfolding exportBytes
     export-bytes-as s = rw (sym (by-verdict (λ w p. allowed w (brokenFirst (p .numbers)) (bytesOf (p .numbers))))) s
 
@@ -81,10 +77,7 @@ lengthOf Short = 0
 lengthOf (Outside i) = 0
 
 pub written-stored :
-    (f : Found) (bytes buf out : List ℕ) (r v : Written) →
-    r ≡ answerBy f (length bytes) →
-    out ≡ bytesBy f bytes buf →
-    r ≡ v →
+    (f : Found) (bytes buf out : List ℕ) (r v : Written) → r ≡ answerBy f (length bytes) → out ≡ bytesBy f bytes buf → r ≡ v →
     Stored buf 0 (unless f bytes) (lengthOf v) out
 written-stored (At i) bytes buf out r v e o t = (ap lengthOf (sym t ∙ e), o)
 written-stored Nothing bytes buf out r v e o t = (ap lengthOf (sym t ∙ e) ∙ sym (zero-add (length bytes)), o)
@@ -129,17 +122,12 @@ module _ (p : Params) (buf : List ℕ) where
   unfolding writeOf
   own-by h = rw (le-ltb (length buf) (roomFor (p .edition)) h) (go (firstBroken p))
     where
-      go :
-          (f : Found) →
-          (writeBy f p buf .answer ≡ answerBy f (length (formOf p))) × (writeBy f p buf .bytes ≡ bytesBy f (formOf p) buf)
+      go : (f : Found) → (writeBy f p buf .answer ≡ answerBy f (length (formOf p))) × (writeBy f p buf .bytes ≡ bytesBy f (formOf p) buf)
       go (At i) = (refl, refl)
       go Nothing = (refl, refl)
 
   pub own-stored :
-      (r v : Written) (out : List ℕ) →
-      r ≡ v →
-      4096 ≤ length buf →
-      length (p .numbers) ≡ paramCount →
+      (r v : Written) (out : List ℕ) → r ≡ v → 4096 ≤ length buf → length (p .numbers) ≡ paramCount →
       (r ≡ writeOf p buf .answer) × (out ≡ writeOf p buf .bytes) →
       Stored buf 0 (unless (firstBroken p) (formOf p)) (lengthOf v) out × (lengthOf v ≤ 4096)
   own-stored r v out t h l w =
@@ -162,17 +150,12 @@ module _ (xs : List ℤ) (buf : List ℕ) where
   unfolding exportOf
   theirs-by h = rw (le-ltb (length buf) supplierBytes h, length-theirs) (go (brokenFirst xs))
     where
-      go :
-          (f : Found) →
-          (exportBy f xs buf .answer ≡ answerBy f supplierBytes) × (exportBy f xs buf .bytes ≡ bytesBy f (bytesOf xs) buf)
+      go : (f : Found) → (exportBy f xs buf .answer ≡ answerBy f supplierBytes) × (exportBy f xs buf .bytes ≡ bytesBy f (bytesOf xs) buf)
       go (At i) = (refl, refl)
       go Nothing = (refl, refl)
 
   pub theirs-stored :
-      (r v : Written) (out : List ℕ) →
-      r ≡ v →
-      4096 ≤ length buf →
-      (r ≡ exportOf xs buf .answer) × (out ≡ exportOf xs buf .bytes) →
+      (r v : Written) (out : List ℕ) → r ≡ v → 4096 ≤ length buf → (r ≡ exportOf xs buf .answer) × (out ≡ exportOf xs buf .bytes) →
       Stored buf 0 (unless (brokenFirst xs) (bytesOf xs)) (lengthOf v) out × (lengthOf v ≤ 4096)
   theirs-stored r v out t h w =
       let b = theirs-by (omega arith) in (
@@ -200,9 +183,7 @@ module _
           (ap (take (length (bytesOf xs))) (sets-eq (bytesOf xs) page 0 (omega arith)) ∙ take-at (bytesOf xs) _ (length (bytesOf xs)) refl)
 
       pub exported-done :
-          (b₀ b₁ b₂ : List ℕ) (p₁ p₂ : ℕ) →
-          Stored b₀ 0 doneText p₁ b₁ →
-          Stored b₁ p₁ (entriesText (take n out)) p₂ b₂ →
+          (b₀ b₁ b₂ : List ℕ) (p₁ p₂ : ℕ) → Stored b₀ 0 doneText p₁ b₁ → Stored b₁ p₁ (entriesText (take n out)) p₂ b₂ →
           Stored b₀ 0 (entriesOutput (brokenFirst xs) xs) p₂ b₂
       exported-done b₀ b₁ b₂ p₁ p₂ s u =
           rw (is-done (brokenFirst xs) (length (bytesOf xs)) r (by .0) n t .0)
@@ -285,13 +266,8 @@ module _ (mode : ℕ) (s more : List ℕ) (rest : ℕ) where
 
 -- ---- what `reply` lends: the input after its mode
 pub room-after :
-    (buf page input : List ℕ) (rest : ℕ) →
-    4096 ≤ length buf →
-    supplierBytes ≤ length page →
-    length input ≤ 65536 →
-    (0 < rest → 65536 ≤ length input) →
-    rest ≤ 18014398509481984 →
-    Room buf page (take (length input - 1) (drop 1 input)) rest
+    (buf page input : List ℕ) (rest : ℕ) → 4096 ≤ length buf → supplierBytes ≤ length page → length input ≤ 65536 →
+    (0 < rest → 65536 ≤ length input) → rest ≤ 18014398509481984 → Room buf page (take (length input - 1) (drop 1 input)) rest
 room-after buf page input rest o p l f r =
     let d = length-drop 1 input in
     let n = length-take-le (length input - 1) (drop 1 input) (omega arith) in

@@ -1,14 +1,12 @@
 -- Laws of entries in text: how long they are, and how their parts are stored one after the other.
 -- Assumes nothing.
-use Prim.Native.Nat.{ℕ, _+_, _*_, _/_, _%_, _<_, _≤_}
-use mathlib.Core.Path.{_≡_, refl, ap}
+use Rattle.index.proofs.Kit.{ℕ, _+_, _*_, _<_, _≤_, _≡_, refl, ap, arith, gather}
+use Prim.Native.Nat.{_/_, _%_}
 use mathlib.Core.List.{List, [], _∷_, _++_}
-use native.Mathlib.Omega.{arith}
 use native.Mathlib.Numerals.{add-one}
 use lib.ListN.{length, getD, take, drop, length-drop}
 use lib.Seq.{take-suc, getD-drop, length-take-le}
 use Rattle.records.specs.Records.{paramCount}
-use Rattle.index.specs.Index.{gather}
 use Rattle.text.specs.Text.{decimal, Stored}
 use Rattle.text.proofs.TextLaws.{length-le, stored-then}
 use Rattle.supplier_entry.proofs.ByteLaws.{take-one}
@@ -28,15 +26,10 @@ hex-length [] = refl
 hex-length (x ∷ s) = omega (arith, hex-length s)
 
 pub hex-stored :
-    (b high low : ℕ) (at : ℕ) (b₀ b₁ b₂ : List ℕ) (p₁ p₂ : ℕ) →
-    high ≡ hexDigit (b / 16) →
-    low ≡ hexDigit (b % 16) →
-    Stored b₀ at (high ∷ []) p₁ b₁ →
-    Stored b₁ p₁ (low ∷ []) p₂ b₂ →
-    Stored b₀ at (hexText (b ∷ [])) p₂ b₂
+    (b high low : ℕ) (at : ℕ) (b₀ b₁ b₂ : List ℕ) (p₁ p₂ : ℕ) → high ≡ hexDigit (b / 16) → low ≡ hexDigit (b % 16) →
+    Stored b₀ at (high ∷ []) p₁ b₁ → Stored b₁ p₁ (low ∷ []) p₂ b₂ → Stored b₀ at (hexText (b ∷ [])) p₂ b₂
 unfolding hexText
-hex-stored b high low at b₀ b₁ b₂ p₁ p₂ h l s t =
-    rw (← h, ← l) (stored-then b₀ at p₁ (high ∷ []) b₁ p₂ (low ∷ []) b₂ s t)
+hex-stored b high low at b₀ b₁ b₂ p₁ p₂ h l s t = rw (← h, ← l) (stored-then b₀ at p₁ (high ∷ []) b₁ p₂ (low ∷ []) b₂ s t)
 
 -- ---- the first k of eight bytes
 pub eight-none : (s : List ℕ) (from at : ℕ) (b : List ℕ) → Stored b at (hexText (take 0 (drop from s))) at b
@@ -44,11 +37,8 @@ unfolding hexText
 eight-none s from at b = (omega arith, refl)
 
 pub eight-more :
-    (s : List ℕ) (from k at : ℕ) (b₀ b₁ b₂ : List ℕ) (p₁ p₂ : ℕ) →
-    from + 8 ≤ length s →
-    k < 8 →
-    Stored b₀ at (hexText (take k (drop from s))) p₁ b₁ →
-    Stored b₁ p₁ (hexText (getD s (from + k) 0 ∷ [])) p₂ b₂ →
+    (s : List ℕ) (from k at : ℕ) (b₀ b₁ b₂ : List ℕ) (p₁ p₂ : ℕ) → from + 8 ≤ length s → k < 8 →
+    Stored b₀ at (hexText (take k (drop from s))) p₁ b₁ → Stored b₁ p₁ (hexText (getD s (from + k) 0 ∷ [])) p₂ b₂ →
     Stored b₀ at (hexText (take (k + 1) (drop from s))) p₂ b₂
 eight-more s from k at b₀ b₁ b₂ p₁ p₂ h l a b =
     rw (
@@ -60,12 +50,8 @@ eight-more s from k at b₀ b₁ b₂ p₁ p₂ h l a b =
     (stored-then b₀ at p₁ (hexText (take k (drop from s))) b₁ p₂ (hexText (getD s (from + k) 0 ∷ [])) b₂ a b)
 
 pub eight-all :
-    (s : List ℕ) (from k at : ℕ) (b₀ b₁ : List ℕ) (p : ℕ) →
-    from + 8 ≤ length s →
-    k ≤ 8 →
-    8 ≤ k →
-    Stored b₀ at (hexText (take k (drop from s))) p b₁ →
-    Stored b₀ at (hexText (take 8 (drop from s))) p b₁ × (p ≡ at + 16)
+    (s : List ℕ) (from k at : ℕ) (b₀ b₁ : List ℕ) (p : ℕ) → from + 8 ≤ length s → k ≤ 8 → 8 ≤ k →
+    Stored b₀ at (hexText (take k (drop from s))) p b₁ → Stored b₀ at (hexText (take 8 (drop from s))) p b₁ × (p ≡ at + 16)
 eight-all s from k at b₀ b₁ p h l g a =
     let e : k ≡ 8 = omega arith in
     let a′ : Stored b₀ at (hexText (take 8 (drop from s))) p b₁ = rw e at a in
@@ -76,16 +62,9 @@ pub kind-length : (kind : ℕ) → kind < 256 → length (decimal kind) ≤ 3
 kind-length kind h = length-le 2 kind (omega arith)
 
 pub entry-stored :
-    (s : List ℕ) (i kind at : ℕ) (b₀ b₁ b₂ b₃ b₄ : List ℕ) (p₁ p₂ p₃ p₄ : ℕ) →
-    length s ≡ supplierBytes →
-    i < paramCount →
-    kind ≡ getD s (9 * i) 0 →
-    kind < 256 →
-    Stored b₀ at (decimal kind) p₁ b₁ →
-    Stored b₁ p₁ (32 ∷ []) p₂ b₂ →
-    Stored b₂ p₂ (hexText (take 8 (drop (9 * i + 1) s))) p₃ b₃ →
-    p₃ ≡ p₂ + 16 →
-    Stored b₃ p₃ (10 ∷ []) p₄ b₄ →
+    (s : List ℕ) (i kind at : ℕ) (b₀ b₁ b₂ b₃ b₄ : List ℕ) (p₁ p₂ p₃ p₄ : ℕ) → length s ≡ supplierBytes → i < paramCount →
+    kind ≡ getD s (9 * i) 0 → kind < 256 → Stored b₀ at (decimal kind) p₁ b₁ → Stored b₁ p₁ (32 ∷ []) p₂ b₂ →
+    Stored b₂ p₂ (hexText (take 8 (drop (9 * i + 1) s))) p₃ b₃ → p₃ ≡ p₂ + 16 → Stored b₃ p₃ (10 ∷ []) p₄ b₄ →
     Stored b₀ at (entryText (entryAt s i)) p₄ b₄ × (p₄ ≤ at + 21)
 unfolding entryAt
 entry-stored s i kind at b₀ b₁ b₂ b₃ b₄ p₁ p₂ p₃ p₄ l h k small s₁ s₂ s₃ q s₄ =
@@ -97,10 +76,7 @@ entry-stored s i kind at b₀ b₁ b₂ b₃ b₄ p₁ p₂ p₃ p₄ l h k smal
 
 -- ---- the lines of all entries
 pub entries-all :
-    (s : List ℕ) (i at : ℕ) (b₀ b₁ : List ℕ) (p : ℕ) →
-    i ≤ paramCount →
-    paramCount ≤ i →
-    Stored b₀ at (gather i (entryTextAt s)) p b₁ →
+    (s : List ℕ) (i at : ℕ) (b₀ b₁ : List ℕ) (p : ℕ) → i ≤ paramCount → paramCount ≤ i → Stored b₀ at (gather i (entryTextAt s)) p b₁ →
     Stored b₀ at (entriesText s) p b₁
 unfolding entriesText
 entries-all s i at b₀ b₁ p l h a = let e : i ≡ paramCount = omega arith in rw e at a

@@ -1,9 +1,8 @@
 -- Laws of numbers as bytes: reading and writing undo each other, and the ends of `low_first` and `put_low`.
 -- Assumes nothing.
-use Prim.Native.Nat.{ℕ, zero, suc, _+_, _-_, _*_, _/_, _%_, _^_, _<_, _≤_}
-use mathlib.Core.Path.{_≡_, refl, ap, _∙_}
+use Rattle.index.proofs.Kit.{ℕ, _+_, _-_, _*_, _<_, _≤_, _≡_, refl, ap, _∙_, arith}
+use Prim.Native.Nat.{zero, suc, _/_, _%_, _^_}
 use mathlib.Core.List.{List, [], _∷_}
-use native.Mathlib.Omega.{arith}
 use native.Mathlib.Nat.{pow-suc, pow-le-pow-right, zero-lt-suc}
 use native.Mathlib.Numerals.{add-one}
 use lib.ListN.{length, getD, set, take, drop}
@@ -61,14 +60,8 @@ low-room n r p q h =
     omega arith
 
 pub low-more :
-    (n : ℕ) (s : List ℕ) (at b r : ℕ) →
-    0 < n →
-    at < length s →
-    b ≡ getD s at 0 →
-    b < 256 →
-    r ≡ lowFirst (take (n - 1) (drop (at + 1) s)) →
-    r < 256 ^ (n - 1) →
-    (b + 256 * r ≡ lowFirst (take n (drop at s))) × (b + 256 * r < 256 ^ n)
+    (n : ℕ) (s : List ℕ) (at b r : ℕ) → 0 < n → at < length s → b ≡ getD s at 0 → b < 256 → r ≡ lowFirst (take (n - 1) (drop (at + 1) s)) →
+    r < 256 ^ (n - 1) → (b + 256 * r ≡ lowFirst (take n (drop at s))) × (b + 256 * r < 256 ^ n)
 unfolding lowFirst
 low-more zero s at b r p h e l f g = absurd (omega arith)
 low-more (suc n) s at b r p h e l f g =
@@ -80,8 +73,7 @@ low-more (suc n) s at b r p h e l f g =
 
 -- ---- the ends of `put_low` and `export`
 pub low-put :
-    (l : List ℕ) (at k v : ℕ) →
-    k < 8 →
+    (l : List ℕ) (at k v : ℕ) → k < 8 →
     sets (set l (at + k) (v % 256)) (at + (k + 1)) (lowBytes (8 - (k + 1)) (v / 256)) ≡ sets l (at + k) (lowBytes (8 - k) v)
 unfolding lowBytes
 low-put l at k v h =
@@ -93,6 +85,5 @@ pub low-done : (l : List ℕ) (at k v : ℕ) → 8 ≤ k → sets l (at + k) (lo
 unfolding lowBytes
 low-done l at k v h = let e : 8 - k ≡ 0 = omega arith in rw e
 
-pub entry-put :
-    (l m : List ℕ) (at kind u : ℕ) → m ≡ sets (set l at kind) (at + 1) (lowBytes 8 u) → m ≡ sets l at (kind ∷ lowBytes 8 u)
+pub entry-put : (l m : List ℕ) (at kind u : ℕ) → m ≡ sets (set l at kind) (at + 1) (lowBytes 8 u) → m ≡ sets l at (kind ∷ lowBytes 8 u)
 entry-put l m at kind u e = e ∙ ap (λ (k : ℕ). sets (set l at kind) k (lowBytes 8 u)) (add-one at)

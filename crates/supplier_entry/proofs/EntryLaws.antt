@@ -144,11 +144,8 @@ module _ (e : Entry) (unit : ℕ) (l : Limit) where
 
 -- ---- the ends of `import`
 sound-if :
-    (l : Limit) (unit u : ℕ) (t : Bool) (e : Entry) →
-    nanBits binary64 u ≡ t →
-    Among l →
-    cond t Bad (Good (Factor (ofBits binary64 u))) ≡ Good e →
-    Sound e unit l
+    (l : Limit) (unit u : ℕ) (t : Bool) (e : Entry) → nanBits binary64 u ≡ t → Among l →
+    cond t Bad (Good (Factor (ofBits binary64 u))) ≡ Good e → Sound e unit l
 sound-if l unit u true e n h p = let z : _≡_ {A = ℕ} 0 1 = cc in absurd (omega arith)
 sound-if l unit u false e n h p =
     let q : Factor (ofBits binary64 u) ≡ e = cc in
@@ -156,11 +153,7 @@ sound-if l unit u false e n h p =
 
 -- what is read is fit to be converted
 pub read-sound :
-    (kind u : ℕ) (form : Form) (l : Limit) (r : Read) (e : Entry) →
-    kind ≡ form .kind →
-    Fit form l →
-    r ≡ entryOf kind u →
-    r ≡ Good e →
+    (kind u : ℕ) (form : Form) (l : Limit) (r : Read) (e : Entry) → kind ≡ form .kind → Fit form l → r ≡ entryOf kind u → r ≡ Good e →
     Sound e (form .unit) l
 unfolding entryOf
 read-sound kind u form l r e same fit d g = zeroth (eqb kind 0) refl (eqb kind 1) (eqb kind 2) refl (sym d ∙ g)
@@ -174,13 +167,9 @@ read-sound kind u form l r e same fit d g = zeroth (eqb kind 0) refl (eqb kind 1
     second false c t q = last c t q
 
     zeroth :
-        (a : Bool) →
-        eqb kind 0 ≡ a →
-        (b c : Bool) →
-        eqb kind 2 ≡ c →
+        (a : Bool) → eqb kind 0 ≡ a → (b c : Bool) → eqb kind 2 ≡ c →
         cond a (cond (nanBits binary64 u) Bad (Good (Factor (ofBits binary64 u))))
-        (cond b (Good (Whole (twos u))) (cond c (Good (Span u)) Bad)) ≡ Good e →
-        Sound e (form .unit) l
+        (cond b (Good (Whole (twos u))) (cond c (Good (Span u)) Bad)) ≡ Good e → Sound e (form .unit) l
     zeroth true s b c t q = sound-if l (form .unit) u (nanBits binary64 u) e refl (fit .factors (sym same ∙ eqb-true kind 0 s)) q
     zeroth false s b c t q = second b c t q
 

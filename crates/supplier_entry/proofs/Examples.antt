@@ -1,9 +1,9 @@
 -- The worked examples: the definitions compute.
 -- Assumes nothing.
-use mathlib.Core.Path.{_≡_, refl}
+use Rattle.index.proofs.Kit.{_≡_, refl}
+use Rattle.index.specs.Index.{first}
 use lib.IntN.{pos}
 use lib.Ieee.{nanBits, ofBits, toBits, div, ofInt}
-use Rattle.index.specs.Index.{first}
 use Rattle.supplier_entry.specs.Factor.{thousand, factorOf, factorBits, isFactor, thousandthsOf}
 use Rattle.supplier_entry.specs.Entries.{twos, twosOf, entryOf, wholeOf, unitsOf, convertOf, importOf, contentOf}
 use Rattle.supplier_entry.specs.Examples.{decay, toZero, Examples}

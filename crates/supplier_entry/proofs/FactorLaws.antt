@@ -1,22 +1,20 @@
 -- The factors of 0 to 1000: their bits rise, and none is a NaN. Both are tests that are computed, and nothing is said of rounding. So there
 -- is never a second n, and a search by halves finds the first.
 -- Assumes nothing.
-use Prim.Native.Nat.{ℕ, zero, suc, _+_, _<_, _≤_}
-use mathlib.Core.Path.{_≡_, refl, sym, ap, _∙_}
-use mathlib.Core.Bool.{Bool, true, false, not, _&&_, and-true, and-false}
+use Rattle.index.proofs.Kit.{ℕ, _+_, _<_, _≤_, _≡_, refl, sym, ap, _∙_, Bool, true, false, not, arith, first-hit, by-test, by-order}
+use Rattle.index.specs.Index.{every, first}
+use Prim.Native.Nat.{zero, suc}
+use mathlib.Core.Bool.{_&&_, and-true, and-false}
 use mathlib.Core.Logic.{⊎-elim}
-use native.Mathlib.Omega.{arith}
 use native.Mathlib.Nat.{le-of-suc-le-suc, eq-or-lt-of-le}
 use borrow.Author.Tests.{eq-eqb, ne-eqb, eqb-true, le-leb, leb-true, ltb-true}
 use lib.Dec.{T, leb, ltb, eqb}
 use lib.IntN.{ℤ, pos, negsuc, natAbs}
 use lib.Ieee.{isNan, toBits, div, ofInt, ofBits}
 use lib.Signed.{leZ}
-use Rattle.index.specs.Index.{every, first}
 use Rattle.index.specs.declared.Found.{Found}
 use Rattle.index.specs.declared.Found.the-variants.{At, Nothing}
-use Rattle.index.proofs.Index.{both, every-at, first-hit, first-is, first-same}
-use Rattle.index.proofs.Flags.{by-test, by-order}
+use Rattle.index.proofs.Index.{both, every-at, first-is, first-same}
 use Rattle.limits.specs.declared.Limit.{Limit}
 use Rattle.limits.specs.Limits.{lies}
 use Rattle.supplier_entry.specs.Factor.{thousand, factorOf, factorBits, isFactor, factorFrom, thousandthsOf}
@@ -81,12 +79,7 @@ pub record Halved (low high u from to : ℕ) : Type 0 where
 module _ (low high u : ℕ) where
   pub halved-none : Halved low high u low (high + 1)
   halved-none =
-      record {
-        start = omega arith;
-        end = omega arith;
-        below = λ k a b. absurd (omega arith);
-        above = λ k a b. absurd (omega arith);
-      }
+      record { start = omega arith; end = omega arith; below = λ k a b. absurd (omega arith); above = λ k a b. absurd (omega arith) }
 
   module _ (from to m r : ℕ) (c : high ≤ 1000) (h : Halved low high u from to) (a : from ≤ m) (b : m < to) (e : r ≡ factorBits m) where
     pub halved-up : r < u → Halved low high u (m + 1) to
@@ -156,11 +149,7 @@ lie-from (pos a) (negsuc b) n p q h = let z : _≡_ {A = ℕ} 0 1 = cc in absurd
 lie-from (negsuc a) hi n p q h = let z : _≡_ {A = ℕ} 0 1 = cc in absurd (omega arith)
 
 pub thousandths-are :
-    (l : Limit) (u a b : ℕ) (r : Found) →
-    Among l →
-    a ≡ natAbs (l .low) →
-    b ≡ natAbs (l .high) →
-    r ≡ first (suc b) (factorFrom a u) →
+    (l : Limit) (u a b : ℕ) (r : Found) → Among l → a ≡ natAbs (l .low) → b ≡ natAbs (l .high) → r ≡ first (suc b) (factorFrom a u) →
     r ≡ thousandthsOf l u
 unfolding thousandthsOf isFactor factorFrom
 thousandths-are l u a b r g p q e =

@@ -1,9 +1,8 @@
 -- What is written is imported again, what is imported is written again, and a factor is accepted exactly if some n's is it: by cases on the
 -- kind. Assumes nothing.
-use Prim.Native.Nat.{ℕ, zero, suc, _+_, _-_, _*_, _/_, _%_, _^_, _<_, _≤_}
-use mathlib.Core.Path.{_≡_, refl, sym, ap, ap₂, _∙_}
-use mathlib.Core.Bool.{Bool, true, false, not}
-use native.Mathlib.Omega.{arith}
+use Rattle.index.proofs.Kit.{ℕ, _+_, _-_, _*_, _<_, _≤_, _≡_, refl, sym, ap, _∙_, Bool, true, false, not, arith, by-test, by-order}
+use Prim.Native.Nat.{zero, suc, _/_, _%_, _^_}
+use mathlib.Core.Path.{ap₂}
 use native.Mathlib.Nat.{div-add-mod', add-zero, mul-mod-left, mul-div-cancel, mul-le-mul, le-refl}
 use borrow.Author.Tests.{eq-eqb, eqb-true, lt-ltb, le-ltb}
 use lib.Dec.{T, eqb, leb→le}
@@ -15,7 +14,6 @@ use lib.Ieee.Fits.{div-fits}
 use Rattle.index.specs.declared.Found.{Found}
 use Rattle.index.specs.declared.Found.the-variants.{At, Nothing}
 use Rattle.index.proofs.Index.{both}
-use Rattle.index.proofs.Flags.{by-test, by-order}
 use Rattle.limits.specs.declared.Limit.{Limit}
 use Rattle.limits.specs.Limits.{lies}
 use Rattle.limits.proofs.LimitLaws.{yes, size-most}
@@ -35,11 +33,7 @@ is-false false h = refl
 
 -- a number between two natural ones
 natural :
-    (lo z hi : ℤ) →
-    pos (natAbs lo) ≡ lo →
-    pos (natAbs hi) ≡ hi →
-    T (leZ lo z) →
-    T (leZ z hi) →
+    (lo z hi : ℤ) → pos (natAbs lo) ≡ lo → pos (natAbs hi) ≡ hi → T (leZ lo z) → T (leZ z hi) →
     (pos (natAbs z) ≡ z) × (natAbs z ≤ natAbs hi)
 natural lo (pos n) (pos h) a b s t = (refl, leb→le n h t)
 natural lo (pos n) (negsuc h) a b s t = absurd t
@@ -98,10 +92,7 @@ twos-lt (negsuc n) h = omega arith
 
 twos-again : (u : ℕ) → u < 2 ^ 64 → twosOf (twos u) ≡ u
 unfolding twos twosOf
-twos-again u h =
-    by-order (twosOf (twos u) ≡ u) u (2 ^ 63)
-    (λ l. rw (lt-ltb u (2 ^ 63) l))
-    (λ g. rw (le-ltb u (2 ^ 63) g) (omega arith))
+twos-again u h = by-order (twosOf (twos u) ≡ u) u (2 ^ 63) (λ l. rw (lt-ltb u (2 ^ 63) l)) (λ g. rw (le-ltb u (2 ^ 63) g) (omega arith))
 
 -- ---- a number between the limits of a row of the table
 module _ (form : Form) (l : Limit) (z : ℤ) (row : Field form l) (h : lies z l ≡ true) where
@@ -125,10 +116,7 @@ module _ (form : Form) (l : Limit) (z : ℤ) (row : Field form l) (h : lies z l 
   -- what the writer asks
   pub writable : Writable form z
   writable =
-      record {
-        factors = λ e. let g = row .fit .factors e in omega (arith, factor-most e .1, g .most);
-        spans = omega (arith, units-room);
-      }
+      record { factors = λ e. let g = row .fit .factors e in omega (arith, factor-most e .1, g .most); spans = omega (arith, units-room) }
 
   pub content-lt : contentOf form z < 2 ^ 64
   unfolding contentOf
@@ -150,8 +138,7 @@ module _ (form : Form) (l : Limit) (z : ℤ) (row : Field form l) (h : lies z l 
 
   imports-whole : form .kind ≡ wholeKind → importOf form l wholeKind (twosOf z) ≡ Is z
   unfolding importOf entryOf convertOf wholeOf
-  imports-whole e =
-      rw (eq-eqb wholeKind (form .kind) (sym e), twos-back z (omega (arith, size-sum, row .size .0, row .size .1)), h)
+  imports-whole e = rw (eq-eqb wholeKind (form .kind) (sym e), twos-back z (omega (arith, size-sum, row .size .0, row .size .1)), h)
 
   imports-span : form .kind ≡ spanKind → importOf form l spanKind (natAbs z * form .unit) ≡ Is z
   unfolding importOf entryOf convertOf unitsOf wholeOf
@@ -199,10 +186,7 @@ module _ (form : Form) (l : Limit) (u : ℕ) (z : ℤ) (room : u < 2 ^ 64) where
 
   again-whole : (y : ℤ) → wholeOf l y ≡ Is z → y ≡ z
   unfolding wholeOf
-  again-whole y d =
-      by-test (y ≡ z) (lies y l)
-      (λ t. is-same y z (rw t at d))
-      (λ t. not-broken z (rw t at d))
+  again-whole y d = by-test (y ≡ z) (lies y l) (λ t. is-same y z (rw t at d)) (λ t. not-broken z (rw t at d))
 
   again-span : unitsOf l (form .unit) u ≡ Is z → natAbs z * form .unit ≡ u
   unfolding unitsOf
@@ -232,7 +216,5 @@ pub exports-back : ExportsBack
 unfolding importOf
 exports-back form l kind u z room d =
     by-test ((kind ≡ form .kind) × (contentOf form z ≡ u)) (eqb kind (form .kind))
-    (λ t.
-    let k = eqb-true kind (form .kind) t in
-    (k, again-kind form l u z room kind (sym k) (rw t at d)))
+    (λ t. let k = eqb-true kind (form .kind) t in (k, again-kind form l u z room kind (sym k) (rw t at d)))
     (λ t. not-broken z (rw t at d))

@@ -1,17 +1,15 @@
 -- Laws of the export: what is known after i entries, and the ends of `put` and `export`.
 -- Assumes nothing.
-use Prim.Native.Nat.{ℕ, zero, suc, _+_, _*_, _<_, _≤_}
-use mathlib.Core.Path.{_≡_, refl, sym, ap, _∙_}
-use mathlib.Core.Bool.{true}
+use Rattle.index.proofs.Kit.{ℕ, _+_, _*_, _<_, _≤_, _≡_, refl, sym, ap, _∙_, true, arith}
+use Rattle.index.specs.Index.{gather}
+use Prim.Native.Nat.{zero, suc}
 use mathlib.Core.List.{List, _∷_}
-use native.Mathlib.Omega.{arith}
 use native.Mathlib.Nat.{zero-add}
 use borrow.Author.Tests.{lt-ltb, le-ltb}
 use lib.IntN.{ℤ}
 use lib.ListN.{length, length-append}
 use lib.Seq.{sets}
 use Rattle.records.specs.Records.{paramCount}
-use Rattle.index.specs.Index.{gather}
 use Rattle.index.specs.declared.Found.{Found}
 use Rattle.index.specs.declared.Found.the-variants.{At, Nothing}
 use Rattle.index.proofs.Index.{gather-none, gather-more}
@@ -56,13 +54,8 @@ pub put-none : (xs : List ℤ) (buf : List ℕ) → Put xs 0 buf buf
 put-none xs buf = record { most = omega arith; same = refl; bytes = rw (gather-none (bytesAt xs)) }
 
 pub put-more :
-    (xs : List ℤ) (i : ℕ) (buf out out′ : List ℕ) (form : Form) →
-    i < paramCount →
-    Put xs i buf out →
-    form ≡ formAt (fieldOf i) →
-    length out′ ≡ length out →
-    out′ ≡ sets out (9 * i) (form .kind ∷ lowBytes 8 (contentOf form (at xs i))) →
-    Put xs (i + 1) buf out′
+    (xs : List ℤ) (i : ℕ) (buf out out′ : List ℕ) (form : Form) → i < paramCount → Put xs i buf out → form ≡ formAt (fieldOf i) →
+    length out′ ≡ length out → out′ ≡ sets out (9 * i) (form .kind ∷ lowBytes 8 (contentOf form (at xs i))) → Put xs (i + 1) buf out′
 unfolding bytesAt entryBytes
 put-more xs i buf out out′ form h p e l w =
     record {

@@ -1,17 +1,15 @@
 -- Every row of the table of fields is one that entries can be imported and exported by: a test that is computed for each thing asked.
 -- Assumes nothing.
-use Prim.Native.Nat.{ℕ, _+_, _*_, _^_, _<_}
-use mathlib.Core.Path.{_≡_, refl}
-use mathlib.Core.Bool.{Bool, true, false, not, _&&_, _||_}
-use native.Mathlib.Omega.{arith}
+use Rattle.index.proofs.Kit.{ℕ, _+_, _*_, _<_, _≡_, refl, Bool, true, false, not, arith, by-order}
+use Rattle.index.specs.Index.{every}
+use Prim.Native.Nat.{_^_}
+use mathlib.Core.Bool.{_&&_, _||_}
 use borrow.Author.Tests.{eq-eqb, ne-eqb, lt-ltb, le-ltb, ltb-true, leb-true}
 use lib.Dec.{ltb, leb, eqb}
 use lib.IntN.{pos, natAbs}
 use lib.Signed.{nonNeg, pos-natAbs}
 use Rattle.records.specs.Records.{paramCount}
-use Rattle.index.specs.Index.{every}
 use Rattle.index.proofs.Index.{both, every-at}
-use Rattle.index.proofs.Flags.{by-order}
 use Rattle.limits.specs.Limits.{generalCount, fieldCount, limits, fieldOf, limitAt}
 use Rattle.limits.proofs.LimitLaws.{yes}
 use Rattle.supplier_entry.specs.Entries.{factorKind, wholeKind, spanKind}

@@ -1,20 +1,18 @@
 -- Laws of the import: what is known after i entries, and the ends of `number_at`, `entries` and `import`.
 -- Assumes nothing.
-use Prim.Native.Nat.{ℕ, _+_, _*_, _<_, _≤_}
-use mathlib.Core.Path.{_≡_, sym, ap, _∙_}
-use mathlib.Core.Bool.{Bool, true, false, not, cond}
+use Rattle.index.proofs.Kit.{ℕ, _+_, _*_, _<_, _≤_, _≡_, sym, ap, _∙_, Bool, true, false, not, arith, first, gather, first-none, first-more}
+use Rattle.index.proofs.Kit.{first-hit, first-done}
+use mathlib.Core.Bool.{cond}
 use mathlib.Core.List.{List, _++_}
-use native.Mathlib.Omega.{arith}
 use native.Mathlib.Numerals.{add-one}
 use borrow.Author.Tests.{eq-eqb, ne-eqb, not-true, not-false}
 use lib.IntN.{ℤ}
 use lib.ListN.{length, getD, set, take, drop, length-set}
 use lib.Seq.{take-suc-set, take-all}
 use Rattle.records.specs.Records.{paramCount}
-use Rattle.index.specs.Index.{first, gather}
 use Rattle.index.specs.declared.Found.{Found}
 use Rattle.index.specs.declared.Found.the-variants.{Nothing}
-use Rattle.index.proofs.Index.{first-none, first-more, first-hit, first-done, gather-none, gather-more}
+use Rattle.index.proofs.Index.{gather-none, gather-more}
 use Rattle.limits.specs.Limits.{fieldOf, limitAt}
 use Rattle.params.specs.Editions.{sheet}
 use Rattle.params.specs.declared.Edition.the-variants.{First}
@@ -37,13 +35,8 @@ use Rattle.supplier_params.specs.declared.Parsed.{Parsed}
 
 -- ---- one entry
 pub number-is :
-    (s : List ℕ) (i u : ℕ) (form : Form) (l : Limit) (r : Number) →
-    9 * i < length s →
-    u ≡ lowFirst (take 8 (drop (9 * i + 1) s)) →
-    form ≡ formAt (fieldOf i) →
-    l ≡ limitAt (fieldOf i) →
-    r ≡ entry.importOf form l (getD s (9 * i) 0) u →
-    r ≡ numberAt s i
+    (s : List ℕ) (i u : ℕ) (form : Form) (l : Limit) (r : Number) → 9 * i < length s → u ≡ lowFirst (take 8 (drop (9 * i + 1) s)) →
+    form ≡ formAt (fieldOf i) → l ≡ limitAt (fieldOf i) → r ≡ entry.importOf form l (getD s (9 * i) 0) u → r ≡ numberAt s i
 unfolding numberAt entryAt
 number-is s i u form l r h e f g d = d ∙ rw (e, f, g, take-one 8 s (9 * i) h)
 
@@ -55,13 +48,7 @@ pub record Taken (s : List ℕ) (i : ℕ) (xs : List ℤ) : Type 0 where
   pub front : take i xs ≡ gather i (valueAt s)
 
 pub taken-none : (s : List ℕ) (xs : List ℤ) → length xs ≡ paramCount → Taken s 0 xs
-taken-none s xs l =
-    record {
-      most = omega arith;
-      len = l;
-      whole = first-none (brokenAt s);
-      front = sym (gather-none (valueAt s));
-    }
+taken-none s xs l = record { most = omega arith; len = l; whole = first-none (brokenAt s); front = sym (gather-none (valueAt s)) }
 
 module _ (s : List ℕ) (i : ℕ) (xs : List ℤ) (r : Number) (t : Taken s i xs) (h : i < paramCount) (e : r ≡ numberAt s i) where
   pub taken-more : (z : ℤ) → r ≡ Is z → Taken s (i + 1) (set xs i z)
@@ -89,8 +76,7 @@ unfolding entriesOf
 taken-all s i xs h t =
     let e : i ≡ paramCount = omega (arith, t .most) in
     let f : take paramCount xs ≡ gather paramCount (valueAt s) = rw e at (t .front) in
-    rw (first-done (brokenAt s) paramCount i (t .most) h (t .whole))
-    (ap numbers (sym (take-all paramCount xs (omega (arith, t .len))) ∙ f))
+    rw (first-done (brokenAt s) paramCount i (t .most) h (t .whole)) (ap numbers (sym (take-all paramCount xs (omega (arith, t .len))) ∙ f))
 
 -- ---- the ends of `import`
 module _ (s : List ℕ) (r : Reading) where
@@ -104,8 +90,7 @@ module _ (s : List ℕ) (r : Reading) where
     taken = ap judged e ∙ rw (eq-eqb (length s) supplierBytes l)
 
     pub import-broken : not (p .ok) ≡ true → r ≡ refusal (verdict.Broken (p .place)) → r ≡ importOf s
-    import-broken t q =
-        q ∙ ap (λ (b : Bool). judged (cond b (numbers (p .numbers)) (broken (p .place)))) (sym (not-true (p .ok) t)) ∙ taken
+    import-broken t q = q ∙ ap (λ (b : Bool). judged (cond b (numbers (p .numbers)) (broken (p .place)))) (sym (not-true (p .ok) t)) ∙ taken
 
     pub import-judged : not (p .ok) ≡ false → r
         ≡ judgedBy (firstBroken (sheet First (p .numbers))) (sheet First (p .numbers)) supplierBytes → r ≡ importOf s

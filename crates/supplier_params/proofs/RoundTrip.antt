@@ -1,10 +1,10 @@
 -- What was exported is imported again, and what was imported is exported again: entry by entry, in blocks of nine bytes.
 -- Assumes nothing.
-use Prim.Native.Nat.{ℕ, zero, suc, _+_, _*_, _^_, _<_, _≤_}
-use mathlib.Core.Path.{_≡_, refl, sym, ap, ap₂, _∙_}
-use mathlib.Core.Bool.{Bool, true, false}
+use Rattle.index.proofs.Kit.{ℕ, _+_, _*_, _<_, _≤_, _≡_, refl, sym, ap, _∙_, Bool, true, false, arith, by-order}
+use Rattle.index.specs.Index.{first, gather}
+use Prim.Native.Nat.{zero, suc, _^_}
+use mathlib.Core.Path.{ap₂}
 use mathlib.Core.List.{List, [], _∷_, _++_}
-use native.Mathlib.Omega.{arith}
 use native.Mathlib.Nat.{zero-add}
 use borrow.Author.Tests.{eq-eqb, eqb-true, le-ltb, ltb-false}
 use lib.Dec.{ltb, eqb}
@@ -13,11 +13,9 @@ use lib.ListN.{length, getD, take, drop, length-append, length-take, length-drop
 use lib.Seq.{sets, sets-eq, take-all, take-suc, take-add, take-at, drop-at, take-append-le, drop-append-le, length-take-le, getD-take}
 use lib.Seq.{getD-drop, getD-at}
 use Rattle.records.specs.Records.{paramCount}
-use Rattle.index.specs.Index.{first, gather}
 use Rattle.index.specs.declared.Found.{Found}
 use Rattle.index.specs.declared.Found.the-variants.{At, Nothing}
 use Rattle.index.proofs.Index.{first-passed}
-use Rattle.index.proofs.Flags.{by-order}
 use Rattle.limits.specs.Limits.{fieldOf, limitAt, at, inLimits}
 use Rattle.params.specs.Editions.{sheet}
 use Rattle.params.specs.declared.Edition.the-variants.{First}
@@ -87,9 +85,7 @@ module _ (xs : List ℤ) (ok : firstBroken (sheet First xs) ≡ Nothing) (len : 
   values-back : (n : ℕ) → n ≤ paramCount → gather n (valueAt (bytesOf xs)) ≡ take n xs
   unfolding gather valueAt
   values-back zero h = refl
-  values-back (suc n) h =
-      rw (values-back n (omega arith), number-back n (omega arith))
-      (sym (take-suc xs n (pos 0) (omega (arith, len))))
+  values-back (suc n) h = rw (values-back n (omega arith), number-back n (omega arith)) (sym (take-suc xs n (pos 0) (omega (arith, len))))
 
   entries-back : entriesOf (bytesOf xs) ≡ numbers xs
   unfolding entriesOf
@@ -108,13 +104,10 @@ module _ (xs : List ℤ) (ok : firstBroken (sheet First xs) ≡ Nothing) (len : 
 
 -- what a buffer begins with after a run of stores at its start
 front-set : (buf bytes : List ℕ) → length bytes ≤ length buf → take (length bytes) (sets buf 0 bytes) ≡ bytes
-front-set buf bytes h =
-    rw (sets-eq bytes buf 0 (omega arith))
-    (take-at bytes (drop (0 + length bytes) buf) (length bytes) refl)
+front-set buf bytes h = rw (sets-eq bytes buf 0 (omega arith)) (take-at bytes (drop (0 + length bytes) buf) (length bytes) refl)
 
 export-is-done :
-    (xs : List ℤ) (buf : List ℕ) (n : ℕ) →
-    exportOf xs buf .answer ≡ Done n →
+    (xs : List ℤ) (buf : List ℕ) (n : ℕ) → exportOf xs buf .answer ≡ Done n →
     (firstBroken (sheet First xs) ≡ Nothing) × (n ≡ supplierBytes) × (exportOf xs buf .bytes ≡ sets buf 0 (bytesOf xs))
     × (supplierBytes ≤ length buf)
 unfolding exportOf
@@ -155,8 +148,7 @@ module _ (f : ℕ → List ℤ) (g : ℕ → ℤ) where
   singles : (n : ℕ) → ((i : ℕ) → i < n → f i ≡ g i ∷ []) → length (gather n f) ≡ n
   unfolding gather
   singles zero h = refl
-  singles (suc n) h =
-      length-append (gather n f) (f n) ∙ rw (singles n (λ i l. h i (omega arith)), h n (omega arith)) (omega arith)
+  singles (suc n) h = length-append (gather n f) (f n) ∙ rw (singles n (λ i l. h i (omega arith)), h n (omega arith)) (omega arith)
 
   single-at : (n i : ℕ) → ((i : ℕ) → i < n → f i ≡ g i ∷ []) → i < n → at (gather n f) i ≡ g i
   unfolding gather
@@ -165,9 +157,7 @@ module _ (f : ℕ → List ℤ) (g : ℕ → ℤ) where
       let s = singles n (λ i l. h i (omega arith)) in
       by-order (at (gather n f ++ f n) i ≡ g i) i n
       (λ b. front b ∙ single-at n i (λ i l. h i (omega arith)) b)
-      (λ b.
-      let e : i ≡ n = omega arith in
-      rw (e, h n (omega arith)) (getD-at (gather n f) (g n) [] (pos 0) n s))
+      (λ b. let e : i ≡ n = omega arith in rw (e, h n (omega arith)) (getD-at (gather n f) (g n) [] (pos 0) n s))
     where
       front : i < n → at (gather n f ++ f n) i ≡ at (gather n f) i
       front b =
@@ -237,8 +227,7 @@ module _ (s : List ℕ) (bytes : (k : ℕ) → getD s k 0 < 256) (len : length s
 
 -- what an accepted import says
 pub import-is-accepted :
-    (s : List ℕ) (n : ℕ) →
-    importOf s .verdict ≡ Accepted n →
+    (s : List ℕ) (n : ℕ) → importOf s .verdict ≡ Accepted n →
     (length s ≡ supplierBytes)
     × (first paramCount (brokenAt s) ≡ Nothing)
     × (firstBroken (sheet First (gather paramCount (valueAt s))) ≡ Nothing)

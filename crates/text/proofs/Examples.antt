@@ -25,8 +25,6 @@ unfolding signedText decimal digits
 minus-one = refl
 
 -- -10000000000
-minus-ten-thousand-million :
-    signedText (negsuc 9999999999)
-    ≡ 45 ∷ 49 ∷ 48 ∷ 48 ∷ 48 ∷ 48 ∷ 48 ∷ 48 ∷ 48 ∷ 48 ∷ 48 ∷ 48 ∷ []
+minus-ten-thousand-million : signedText (negsuc 9999999999) ≡ 45 ∷ 49 ∷ 48 ∷ 48 ∷ 48 ∷ 48 ∷ 48 ∷ 48 ∷ 48 ∷ 48 ∷ 48 ∷ 48 ∷ []
 unfolding signedText decimal digits
 minus-ten-thousand-million = refl

@@ -24,22 +24,18 @@ use Rattle.topics.specs.Change.{change, changed, changeReply}
 -- "11 if t, else 0": t is the rule's test, and f what the code computed of it
 module _ (table mid table′ : List ℕ) (u : State) (time : ℕ) (t f : Bool) (a : Answer) (e : f ≡ t) where
   pub else-ignored :
-      f ≡ true →
-      (a ≡ Ignored) × (stateOf table′ ≡ setClock (stateOf table) time) →
+      f ≡ true → (a ≡ Ignored) × (stateOf table′ ≡ setClock (stateOf table) time) →
       Leaves (cond t (ignored (stateOf table) time) (done u time [])) a table table′
   else-ignored g h = rw (yes e g) (leaves-ignored table table′ time a h)
 
   pub else-done :
-      f ≡ false →
-      stateOf mid ≡ u →
-      (a ≡ Done 0) × (stateOf table′ ≡ setClock (stateOf mid) time) →
+      f ≡ false → stateOf mid ≡ u → (a ≡ Done 0) × (stateOf table′ ≡ setClock (stateOf mid) time) →
       Leaves (cond t (ignored (stateOf table) time) (done u time [])) a table table′
   else-done g s h = rw (no e g) (leaves-done table mid table′ u time a s h)
 
 -- ---- none of these calls gives an action
 quiet-test : (t : Bool) (st u : State) (time : ℕ) → cond t (ignored st time) (done u time []) .actions ≡ []
-quiet-test t st u time =
-    quiet-cond t (ignored st time) (done u time []) refl refl
+quiet-test t st u time = quiet-cond t (ignored st time) (done u time []) refl refl
 
 pub quiet-join : (st : State) (time t : ℕ) → effect st (join time t) .actions ≡ []
 unfolding effect joinReply
@@ -47,8 +43,7 @@ quiet-join st time t = quiet-test (isJoined st t) st (setJoined st t 1) time
 
 -- ---- subscribe and unsubscribe, which differ by a flag
 module _ (time id t : ℕ) where
-  change-effect :
-      (on : Bool) (st : State) → effect st (change on time id t) ≡ ofPeer st id (changeReply on st time t)
+  change-effect : (on : Bool) (st : State) → effect st (change on time id t) ≡ ofPeer st id (changeReply on st time t)
   unfolding effect subscribeReply unsubscribeReply changeReply
   change-effect true st = refl
   change-effect false st = refl
@@ -78,8 +73,7 @@ module _ (time id t : ℕ) where
           (eg ∙ ap (gateOf (stateOf table) (a && (b && d)) (length list)) (change-time on))
 
       pub change-follows :
-          g ≡ Pass →
-          (r : Answer) (table′ : List ℕ) →
+          g ≡ Pass → (r : Answer) (table′ : List ℕ) →
           Leaves (ofPeer (stateOf table) id (changeReply on (stateOf table) time t)) r table table′ →
           Follows (change on time id t) r table table′ list list
       unfolding changeReply

@@ -1,9 +1,7 @@
 -- What the machine does with a signed number's bits, as facts about the number: a signed local holds bits, so each fact starts from `toZ
 -- w64 (ofZ w64 n)`. Assumes nothing.
-use Prim.Native.Nat.{ℕ, zero, suc, _^_, _<_, zero-le}
-use mathlib.Core.Path.{_≡_, refl, sym, ap, _∙_}
-use mathlib.Core.Bool.{true, false}
-use native.Mathlib.Omega.{arith}
+use Rattle.index.proofs.Kit.{ℕ, _<_, _≡_, refl, sym, ap, _∙_, true, false, arith}
+use Prim.Native.Nat.{zero, suc, _^_, zero-le}
 use borrow.Author.Tests.{le-ltb}
 use lib.Dec.{T}
 use lib.IntN.{ℤ, pos, negsuc, _-ℤ_, natAbs}

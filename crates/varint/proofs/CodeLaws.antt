@@ -1,9 +1,8 @@
 -- Codes of signed numbers: `codeOf` and `numberOf` undo each other, and the magnitude of a number can be had from its code.
 -- Assumes nothing.
-use Prim.Native.Nat.{ℕ, _+_, _*_, _/_, _%_}
-use mathlib.Core.Path.{_≡_, refl, ap₂}
-use mathlib.Core.Bool.{Bool, true, false}
-use native.Mathlib.Omega.{arith}
+use Rattle.index.proofs.Kit.{ℕ, _+_, _*_, _≡_, refl, Bool, true, false, arith}
+use Prim.Native.Nat.{_/_, _%_}
+use mathlib.Core.Path.{ap₂}
 use borrow.Author.Tests.{eq-eqb, ne-eqb, eqb-true, eqb-false}
 use lib.Dec.{eqb}
 use lib.IntN.{ℤ, pos, negsuc, natAbs}

@@ -1,11 +1,11 @@
 -- The laws of seven-bit groups, once for every width: what was written is read back with any bytes after it (`readAt-encode`), and what is
 -- read was written exactly so (`readAt-written`).
 -- Assumes nothing.
-use Prim.Native.Nat.{ℕ, zero, suc, _+_, _-_, _*_, _/_, _%_, _^_, _<_, _≤_, zero-le}
+use Rattle.index.proofs.Kit.{ℕ, _+_, _-_, _*_, _<_, _≤_, _≡_, refl, sym, ap, _∙_, arith, by-test}
+use Prim.Native.Nat.{zero, suc, _/_, _%_, _^_, zero-le}
 use mathlib.Core.Bool.{cond}
-use mathlib.Core.Path.{_≡_, refl, sym, ap, ap₂, _∙_}
+use mathlib.Core.Path.{ap₂}
 use mathlib.Core.List.{List, [], _∷_, _++_}
-use native.Mathlib.Omega.{arith}
 use native.Mathlib.Nat.{le-refl, pow-suc}
 use native.Mathlib.Numerals.{add-one}
 use borrow.Author.Tests.{lt-ltb, le-ltb, ltb-true, ltb-false, le-leb, lt-leb, leb-true, leb-false, eqb-false, ne-eqb}
@@ -14,7 +14,6 @@ use lib.ListN.{length, set, drop, getD, drop-of-length-le}
 use lib.Seq.{drop-cons, sets, set-comm, drop-append-seam, getD-drop, drop-drop}
 use Rattle.varint.specs.declared.Read.{Read}
 use Rattle.varint.specs.declared.Read.the-variants.{Number, Bad}
-use Rattle.index.proofs.Flags.{by-test}
 use Rattle.varint.specs.declared.Put.{Put}
 use Rattle.varint.specs.declared.Put.the-variants.{Next, Full}
 use Rattle.varint.specs.Groups.{groups, encode, Got, got, none, before, decode, upTo, asRead, readAt, afterMore, lastGroup, putOf}
@@ -134,8 +133,7 @@ more-by top at b (got (suc v) n) h =
     ≡ cond (leb (suc v * 128 + (b - 128)) top) (Number (suc v * 128 + (b - 128)) (suc at + n)) Bad) (leb (suc v * 128 + (b - 128)) top)
     (λ u. rw u (ap (λ (k : ℕ). Number (suc v * 128 + (b - 128)) k) (omega arith)))
     (λ u. rw u)))
-    (λ t. let far : top / 128 < suc v = leb-false (suc v) (top / 128) t in
-    rw (t, lt-leb (suc v * 128 + (b - 128)) top (omega arith)))
+    (λ t. let far : top / 128 < suc v = leb-false (suc v) (top / 128) t in rw (t, lt-leb (suc v * 128 + (b - 128)) top (omega arith)))
 
 pub readAt-more : (top : ℕ) (s : List ℕ) (at : ℕ) → at < length s → 128 ≤ getD s at 0 → readAt top s at
     ≡ afterMore top (getD s at 0) (readAt (top / 128) s (at + 1))
@@ -157,9 +155,7 @@ afterMore-near top b v next r e z h = rw (e, ne-eqb v 0 z, le-leb (v * 128 + (b 
 pub after-small : (top b : ℕ) (r : Read) → top < 128 → afterMore top b r ≡ Bad
 after-small top b Bad h = refl
 after-small top b (Number v next) h =
-    by-test
-    (afterMore top b (Number v next) ≡ Bad)
-    (eqb v 0)
+    by-test (afterMore top b (Number v next) ≡ Bad) (eqb v 0)
     (λ t. rw t)
     (λ t. let n : v ≡ 0 → ⊥ = eqb-false v 0 t in sym (afterMore-far top b v next (Number v next) refl n (omega arith)))
 
@@ -217,15 +213,13 @@ module _ (buf : List ℕ) (at n : ℕ) where
       let e′ : Next next ≡ Next (at + length (encode n)) = rw t at e in
       let q : next ≡ at + length (encode n) = cc in
       (q, omega arith))
-      (λ t. let e′ : Next next ≡ Full = rw t at e in
-      let z : _≡_ {A = ℕ} 0 1 = cc in absurd (omega arith))
+      (λ t. let e′ : Next next ≡ Full = rw t at e in let z : _≡_ {A = ℕ} 0 1 = cc in absurd (omega arith))
 
   pub put-full : Full ≡ putOf buf at n .answer → length buf < at + length (encode n)
   unfolding putOf
   put-full e =
       by-test (length buf < at + length (encode n)) (leb (at + length (encode n)) (length buf))
-      (λ t. let e′ : Full ≡ Next (at + length (encode n)) = rw t at e in
-      let z : _≡_ {A = ℕ} 0 1 = cc in absurd (omega arith))
+      (λ t. let e′ : Full ≡ Next (at + length (encode n)) = rw t at e in let z : _≡_ {A = ℕ} 0 1 = cc in absurd (omega arith))
       (λ t. leb-false (at + length (encode n)) (length buf) t)
 
 -- the four ends of `write_u64`
@@ -246,18 +240,14 @@ module _ (buf : List ℕ) (at n : ℕ) where
       rw q (put-over buf at n (omega (arith, length-more n h)))
 
   pub left-more :
-      (r : Put) (out : List ℕ) (next : ℕ) →
-      128 ≤ n →
-      Left buf (at + 1) (n / 128) r out →
-      r ≡ Next next →
+      (r : Put) (out : List ℕ) (next : ℕ) → 128 ≤ n → Left buf (at + 1) (n / 128) r out → r ≡ Next next →
       Left buf at n (Next next) (set out at (n % 128 + 128))
   left-more r out next h w e =
       let o = put-next buf (at + 1) (n / 128) next (sym e ∙ w .0) in
       let f : at + length (encode n) ≤ length buf = omega (arith, length-more n h) in
       let i : next ≡ at + length (encode n) = omega (arith, length-more n h) in
       let p = put-fits buf at n f in
-      let b : out ≡ sets buf (at + 1) (encode (n / 128)) =
-      w .1 ∙ sym (put-fits buf (at + 1) (n / 128) (omega arith) .1) in
+      let b : out ≡ sets buf (at + 1) (encode (n / 128)) = w .1 ∙ sym (put-fits buf (at + 1) (n / 128) (omega arith) .1) in
       (rw i (p .0), ap (λ (l : List ℕ). set l at (n % 128 + 128)) b ∙ front ∙ p .1)
     where
       front : set (sets buf (at + 1) (encode (n / 128))) at (n % 128 + 128) ≡ sets buf at (encode n)
@@ -297,8 +287,7 @@ accepted top at u next (got v n) e =
     let ev : v ≡ u = cc in
     let en : at + n ≡ next = cc in
     record { n = n; is = rw ev; ends = sym en; small = omega (arith, leb-true v top t) })
-    (λ t. let e′ : Bad ≡ Number u next = rw t at e in
-    let z : _≡_ {A = ℕ} 0 1 = cc in absurd (omega arith))
+    (λ t. let e′ : Bad ≡ Number u next = rw t at e in let z : _≡_ {A = ℕ} 0 1 = cc in absurd (omega arith))
 
 pub record Front (top : ℕ) (s : List ℕ) (at u next : ℕ) : Type 0 where
   pub bytes : drop at s ≡ encode u ++ drop next s

@@ -9,16 +9,8 @@ use Rattle.control.proofs.graft_case.Tie as tie
 pub graft-case-spec : {M : Type 1} → statement M
 unfolding graftCase
 graft-case-spec =
-    tie.close
-    (tie.spec
-    (λ c. search first-holds)
-    (λ c. search first-holds)
-    (λ c. search first-holds)
-    (λ c. search first-holds)
-    (λ c. search needs)
-    (λ c. search needs)
-    (λ c. search first-holds depth 12)
-    (λ c. search first-holds depth 12)
-    (λ c. search first-holds depth 12)
-    (λ c. search first-holds depth 12)
+    tie.close (tie.spec
+    (λ c. search first-holds) (λ c. search first-holds) (λ c. search first-holds) (λ c. search first-holds)
+    (λ c. search needs) (λ c. search needs) (λ c. search first-holds depth 12)
+    (λ c. search first-holds depth 12) (λ c. search first-holds depth 12) (λ c. search first-holds depth 12)
     (λ c. search first-holds depth 12))

@@ -9,14 +9,7 @@ use Rattle.control.proofs.graft_from.Tie as tie
 pub graft-from-spec : {M : Type 1} → statement M
 unfolding effect
 graft-from-spec =
-    tie.close
-    (tie.spec
-    (λ c κs. search needs)
-    (λ c. search needs)
-    (λ c. search needs)
-    (λ c. search needs)
-    (λ c. search peer-none-gives)
+    tie.close (tie.spec
+    (λ c κs. search needs) (λ c. search needs) (λ c. search needs) (λ c. search needs) (λ c. search peer-none-gives)
     (λ c κs. search (found-below, needs))
-    (λ c. search needs)
-    (λ c. search needs)
-    (λ c. search peer-at-gives))
+    (λ c. search needs) (λ c. search needs) (λ c. search peer-at-gives))

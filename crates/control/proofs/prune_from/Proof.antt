@@ -9,13 +9,7 @@ use Rattle.control.proofs.prune_from.Tie as tie
 pub prune-from-spec : {M : Type 1} → statement M
 unfolding effect
 prune-from-spec =
-    tie.close
-    (tie.spec
-    (λ c κs. search needs)
-    (λ c. search needs)
-    (λ c. search needs)
-    (λ c. search needs)
-    (λ c. search peer-none)
+    tie.close (tie.spec
+    (λ c κs. search needs) (λ c. search needs) (λ c. search needs) (λ c. search needs) (λ c. search peer-none)
     (λ c κs. search (found-below, needs))
-    (λ c. search needs)
-    (λ c. search peer-at))
+    (λ c. search needs) (λ c. search peer-at))

@@ -25,16 +25,8 @@ returns c =
 pub prune-reply-spec : {M : Type 1} → statement M
 unfolding pruneReply
 prune-reply-spec =
-    tie.close
-    (tie.spec
-    (λ c κs. search needs)
-    (λ c κs. search needs)
-    (λ c κs. search needs)
-    (λ c κs. search needs)
-    (λ c κs. search needs)
-    (λ c κs. search needs)
-    (λ c. search needs)
+    tie.close (tie.spec
+    (λ c κs. search needs) (λ c κs. search needs) (λ c κs. search needs) (λ c κs. search needs) (λ c κs. search needs)
+    (λ c κs. search needs) (λ c. search needs)
     returns
-    (λ c κs. search needs)
-    (λ c. search needs)
-    (λ c. search (leaves-else, leaves-ignored, heard-is)))
+    (λ c κs. search needs) (λ c. search needs) (λ c. search (leaves-else, leaves-ignored, heard-is)))

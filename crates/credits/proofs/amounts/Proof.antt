@@ -1,6 +1,5 @@
 -- `credits::amounts` meets its contract: a way for each kind of delivery, and each amount leaves room in its counter. Assumes nothing.
-use native.Mathlib.Omega.{arith}
-use borrow.Author.Needs.{needs}
+use Rattle.index.proofs.Kit.{arith, needs}
 use borrow.Author.Tests.{eq-eqb, ne-eqb}
 use Rattle.credits.proofs.CreditLaws.{first-amounts, near-first-amounts, invalid-amounts}
 use Rattle.credits.proofs.amounts.Statement.{statement}
@@ -31,11 +30,4 @@ returns-3 c =
 pub amounts-spec : {M : Type 1} → statement M
 amounts-spec =
     tie.close
-    (tie.spec
-    (λ c κs. search needs)
-    (λ c κs. search needs)
-    returns
-    (λ c κs. search needs)
-    returns-2
-    (λ c κs. search needs)
-    returns-3)
+    (tie.spec (λ c κs. search needs) (λ c κs. search needs) returns (λ c κs. search needs) returns-2 (λ c κs. search needs) returns-3)

@@ -69,8 +69,7 @@ stayed = (stay-ref (0 ∷ []) tt (plain (λ _. T.the-row)), (stay-none (λ _. P.
 abbrev Said : ℕ → TopicParams → TopicRecord → Addition → Type 0
 Said kind t h a = (a ≡ amountsOf kind t h) × Room h a
 
-is-credited :
-    (kind : ℕ) (t : TopicParams) (h : TopicRecord) (a : Addition) → a ≡ amountsOf kind t h → addedOf h a ≡ creditedOf kind t h
+is-credited : (kind : ℕ) (t : TopicParams) (h : TopicRecord) (a : Addition) → a ≡ amountsOf kind t h → addedOf h a ≡ creditedOf kind t h
 unfolding creditedOf
 is-credited kind t h a e = ap (addedOf h) e
 
@@ -110,8 +109,7 @@ module _ {M : Type 1} (𝓤 : URA M) (H : Heap 𝓤) (A : Atoms 𝓤) (W : Given
 
   -- the exit, at the record r
   exits :
-      (r : TopicRecord) →
-      r ≡ creditedOf kind t h →
+      (r : TopicRecord) → r ≡ creditedOf kind t h →
       ent 𝓤 (sep 𝓤 (A .obs γ (T.the-row .coded .code r)) (sep 𝓤 (A .bor κ (Body (mem T.the-row) b o γ)) (A .lft κ q))) (Post vunit)
   exits r e =
       qed W (‵ (fobs γ (T.the-row .coded .code r)) ∷ ‵ (fbor κ (Body (mem T.the-row) b o γ)) ∷ ‵ (flft κ q) ∷ []) ∵
@@ -175,8 +173,7 @@ module _ {M : Type 1} (𝓤 : URA M) (H : Heap 𝓤) (A : Atoms 𝓤) (W : Given
         use0 W (raw (Amounts 𝓤 H A at-mem run .pre to-amounts)) (goes-amounts was) $
         calls-at ! fm (Amounts 𝓤 H A at-mem run) known to-amounts
         (and-then ! (load ! (from ! (stop !)) (look ! 11 refl))
-        (and-then ! (load ! (from ! (stop !)) (look ! 17 refl))
-        (and-then ! (load ! (from ! (stop !)) (look ! 15 refl)) (no-more !)))) (λ v.
+        (and-then ! (load ! (from ! (stop !)) (look ! 17 refl)) (and-then ! (load ! (from ! (stop !)) (look ! 15 refl)) (no-more !)))) (λ v.
         use1 W (later (some (λ (a : Addition). (‵ ftrue ⊛ ‵ (S.the-row .own a (v ∷ []))) ⊛ raw (ensures a)))) (id⊢ 𝓤 _) $
         await ! tt $ pick ! (λ a. split ! $ move ! (1 ∷ []) $
         use1 W (raw (fact 𝓤 (Said kind t h a))) (said a) $ heard ! (Said kind t h a) (λ e. split ! $ drop ! $
@@ -223,9 +220,7 @@ module _ {M : Type 1} (𝓤 : URA M) (H : Heap 𝓤) (A : Atoms 𝓤) (W : Given
 
 module _ {M : Type 1} (𝓤 : URA M) (H : Heap 𝓤) (A : Atoms 𝓤) (W : Given 𝓤 H A) (at-mem : Memory → SProp 𝓤) (run : Routine → Fun 𝓤) where
   credit-walks :
-      (C : Calls 𝓤 H) (Λ : Loops 𝓤 H) →
-      FmC 𝓤 H (W .laws) C →
-      Triple 𝓤 (C #credits·amounts) (Amounts 𝓤 H A at-mem run) →
+      (C : Calls 𝓤 H) (Λ : Loops 𝓤 H) → FmC 𝓤 H (W .laws) C → Triple 𝓤 (C #credits·amounts) (Amounts 𝓤 H A at-mem run) →
       Walks 𝓤 H A f.ended stayed (WpFn 𝓤 H C Λ code.function) (f.clauses 𝓤 H A at-mem run)
   credit-walks C Λ fm known =
       walked 𝓤 H A f.ended stayed (f.clauses 𝓤 H A at-mem run) (WpFn 𝓤 H C Λ code.function)

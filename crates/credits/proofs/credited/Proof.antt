@@ -137,10 +137,7 @@ module _ {M : Type 1} (𝓤 : URA M) (H : Heap 𝓤) (A : Atoms 𝓤) (W : Given
 
   module _ (C : Calls 𝓤 H) (Λ : Loops 𝓤 H) (fm : FmC 𝓤 H (W .laws) C)
       (known : Triple 𝓤 (C #credits·credit) (Credit 𝓤 H A at-mem run)) where
-    walk :
-        ent 𝓤
-        (onEntry 𝓤 H A f.signature tt tt x at)
-        (WpFn 𝓤 H C Λ code.function (val h ∷ params-val t ∷ vint w64 kind ∷ []) Post)
+    walk : ent 𝓤 (onEntry 𝓤 H A f.signature tt tt x at) (WpFn 𝓤 H C Λ code.function (val h ∷ params-val t ∷ vint w64 kind ∷ []) Post)
     walk =
         qed W (‵ ftrue ∷ ‵ (owns (T.the-row ∷ P.the-row ∷ u64 ∷ []) x at) ∷ []) ∵
         enter ! C Λ code.function (val h ∷ params-val t ∷ vint w64 kind ∷ []) _ $
@@ -162,8 +159,7 @@ module _ {M : Type 1} (𝓤 : URA M) (H : Heap 𝓤) (A : Atoms 𝓤) (W : Given
         -- _5 = credit(_6, t, kind)
         calls-at ! fm (Credit 𝓤 H A at-mem run) known (to-credit l₄ α γ)
         (and-then ! (load ! (from ! (stop !)) (look ! 2 refl))
-        (and-then ! (load ! (from ! (stop !)) (look ! 9 refl))
-        (and-then ! (load ! (from ! (stop !)) (look ! 7 refl)) (no-more !)))) (λ v.
+        (and-then ! (load ! (from ! (stop !)) (look ! 9 refl)) (and-then ! (load ! (from ! (stop !)) (look ! 7 refl)) (no-more !)))) (λ v.
         use1 W (later
         (some (λ (u : Unit {0}). ((‵ (flft (α ∷ []) fullShare) ⊛ ‵ ftrue) ⊛ ‵ (Nothing .own u (v ∷ []))) ⊛ raw (ensures l₄ α γ u))))
         (id⊢ 𝓤 _) $ await ! tt $ pick ! (λ u. split ! $ move ! (1 ∷ []) $
@@ -190,9 +186,7 @@ module _ {M : Type 1} (𝓤 : URA M) (H : Heap 𝓤) (A : Atoms 𝓤) (W : Given
 
 module _ {M : Type 1} (𝓤 : URA M) (H : Heap 𝓤) (A : Atoms 𝓤) (W : Given 𝓤 H A) (at-mem : Memory → SProp 𝓤) (run : Routine → Fun 𝓤) where
   credited-walks :
-      (C : Calls 𝓤 H) (Λ : Loops 𝓤 H) →
-      FmC 𝓤 H (W .laws) C →
-      Triple 𝓤 (C #credits·credit) (Credit 𝓤 H A at-mem run) →
+      (C : Calls 𝓤 H) (Λ : Loops 𝓤 H) → FmC 𝓤 H (W .laws) C → Triple 𝓤 (C #credits·credit) (Credit 𝓤 H A at-mem run) →
       Walks 𝓤 H A f.ended stayed (WpFn 𝓤 H C Λ code.function) (f.clauses 𝓤 H A at-mem run)
   credited-walks C Λ fm known =
       walked 𝓤 H A f.ended stayed (f.clauses 𝓤 H A at-mem run) (WpFn 𝓤 H C Λ code.function)

@@ -7,10 +7,7 @@ use Rattle.fields.proofs.long_field.Tie as tie
 pub long-field-spec : {M : Type 1} → statement M
 long-field-spec =
     tie.close (tie.spec
-    (λ c κs. tt)
-    (λ c. search needs)
-    (λ c. search needs)
-    (λ c. search (tag-bad, needs))
+    (λ c κs. tt) (λ c. search needs) (λ c. search needs) (λ c. search (tag-bad, needs))
     (λ c. search (tag-zero, needs))
     (λ c κs. tag-place _ _ _ (c .before .before .before .before .number-at .ensures) _ _ (c .before .before .tag .given .1) .1)
     (λ c. search (tag-whole, needs)))

@@ -7,11 +7,6 @@ use Rattle.gate.proofs.see_sender.Tie as tie
 
 pub see-sender-spec : {M : Type 1} → statement M
 see-sender-spec =
-    tie.close
-    (tie.spec
-    (λ c κs. search needs)
-    (λ c κs. search needs)
-    (λ c κs. search needs)
-    (λ c κs. search (graylist-most, needs))
-    (λ c κs. search needs)
-    (λ c. search sender-of))
+    tie.close (tie.spec
+    (λ c κs. search needs) (λ c κs. search needs) (λ c κs. search needs) (λ c κs. search (graylist-most, needs))
+    (λ c κs. search needs) (λ c. search sender-of))

@@ -1,6 +1,5 @@
 -- `limits::code_in` meets its contract. Assumes nothing.
-use borrow.Author.Needs.{needs}
-use mathlib.Core.Path.{refl}
+use Rattle.index.proofs.Kit.{needs, refl}
 use lib.ListN.{getD}
 use Rattle.varint.specs.Codes.{numberOf}
 use Rattle.limits.specs.Limits.{fieldOf}
@@ -17,10 +16,4 @@ returns c =
     code-in codes i _ (lies-at (numberOf (getD codes i 0)) (fieldOf i) i _ _ (l .limit-of .ensures) refl (c .code-lies .ensures))
 
 pub code-in-spec : {M : Type 1} → statement M
-code-in-spec =
-    tie.close (tie.spec
-    (λ c κs. search needs)
-    (λ c. search needs)
-    (λ c. search needs)
-    (λ c κs. search needs)
-    returns)
+code-in-spec = tie.close (tie.spec (λ c κs. search needs) (λ c. search needs) (λ c. search needs) (λ c κs. search needs) returns)

@@ -1,9 +1,7 @@
 -- `limits::codes_of`: the loop builds the codes from the front.
-use Prim.Native.Nat.{_-_}
-use mathlib.Core.Path.{_≡_, refl, _∙_}
+use Rattle.index.proofs.Kit.{_-_, _≡_, refl, _∙_, arith, needs}
 use mathlib.Core.List.{map}
-use native.Mathlib.Omega.{arith}
-use borrow.Author.Needs.{needs, sfits-of}
+use borrow.Author.Needs.{sfits-of}
 use lib.ListN.{length, getD, length-map, List·getD-map}
 use lib.IntN.{pos}
 use Rattle.index.proofs.Lists.{Built, built-none, built-more, built-done}
@@ -21,17 +19,9 @@ abbrev μ-loop : tie.MeasureT-loop
 
 pub codes-of-spec : {M : Type 1} → statement M
 codes-of-spec =
-    tie.close
-    (tie.spec
-    Inv-loop
-    μ-loop
-    (λ c. built-none _ _ _ _ refl)
-    (λ c. search needs)
-    (λ c. search needs)
-    (λ c κs. search needs)
-    (λ c. search needs)
-    (λ c. search needs)
-    (λ c. search needs)
+    tie.close (tie.spec
+    Inv-loop μ-loop (λ c. built-none _ _ _ _ refl)
+    (λ c. search needs) (λ c. search needs) (λ c κs. search needs) (λ c. search needs) (λ c. search needs) (λ c. search needs)
     (λ c. search needs)
     (λ c.
     let l = c .before .before .before .loop in

@@ -1,12 +1,10 @@
 -- `limits::field_lies`: after k turns the topics below k are right. Assumes nothing.
-use Rattle.index.proofs.Kit.{_≤_, _-_, _≡_, arith, every, true}
-use borrow.Author.Needs.{needs}
+use Rattle.index.proofs.Kit.{_≤_, _-_, _≡_, arith, every, true, needs, every-more, failed, passed}
 use lib.ListN.{getD}
 use mir.Syntax.{w64}
 use mir.Val.{toZ}
 use mir.Facts.{toZ-ofZ}
-use Rattle.index.proofs.Index.{every-loop, every-more, every-out, every-in}
-use Rattle.index.proofs.Flags.{failed, passed}
+use Rattle.index.proofs.Index.{every-loop, every-out, every-in}
 use Rattle.varint.specs.Codes.{numberOf}
 use Rattle.records.specs.Records.{topicCount}
 use Rattle.limits.specs.Limits.{place, to, lies}
@@ -34,20 +32,11 @@ returns-2 c =
 
 pub field-lies-spec : {M : Type 1} → statement M
 field-lies-spec =
-    tie.close
-    (tie.spec
-    Inv-loop
-    μ-loop
-    (λ c. search (every-loop, needs))
-    (λ c. omega arith)
-    (λ c. omega arith)
-    (λ c. omega arith)
-    (λ c. omega arith)
-    (λ c. omega arith)
-    (λ c κs. search needs)
+    tie.close (tie.spec
+    Inv-loop μ-loop (λ c. search (every-loop, needs))
+    (λ c. omega arith) (λ c. omega arith) (λ c. omega arith) (λ c. omega arith) (λ c. omega arith) (λ c κs. search needs)
     returns
-    (λ c. search needs)
-    (λ c. search needs)
+    (λ c. search needs) (λ c. search needs)
     (λ c. (
       omega arith,
       every-more _ _ (c .before .before .before .before .loop .inv .1) (passed (c .before .code-lies .ensures) (c .if1 .left)),

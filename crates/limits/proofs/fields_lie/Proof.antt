@@ -1,10 +1,7 @@
 -- `limits::fields_lie`: after j turns the topics' first j numbers are between their limits. Assumes nothing.
-use Rattle.index.proofs.Kit.{_+_, _≤_, _-_, _≡_, arith, every, true}
-use borrow.Author.Needs.{needs}
-use mathlib.Core.Path.{_∙_}
+use Rattle.index.proofs.Kit.{_+_, _≤_, _-_, _≡_, arith, every, true, needs, _∙_, every-more, failed, passed}
 use mathlib.Core.List.{map}
-use Rattle.index.proofs.Index.{every-loop, every-more, every-out}
-use Rattle.index.proofs.Flags.{failed, passed}
+use Rattle.index.proofs.Index.{every-loop, every-out}
 use Rattle.varint.specs.Codes.{numberOf}
 use Rattle.limits.specs.Limits.{generalCount, ofTopic, inLimits}
 use Rattle.limits.proofs.LimitLaws.{limit-in}
@@ -32,19 +29,11 @@ told g =
 
 pub fields-lie-spec : {M : Type 1} → statement M
 fields-lie-spec =
-    tie.close
-    (tie.spec
-    Inv-loop
-    μ-loop
-    (λ c κs. search needs)
-    (λ c. search (every-loop, needs))
-    (λ c. omega arith)
-    (λ c. omega arith)
-    (λ c. omega arith)
-    (λ c κs. search needs)
+    tie.close (tie.spec
+    Inv-loop μ-loop (λ c κs. search needs) (λ c. search (every-loop, needs))
+    (λ c. omega arith) (λ c. omega arith) (λ c. omega arith) (λ c κs. search needs)
     (λ c. every-out _ _ _ (omega arith) (failed (told (c .before)) (c .if1 .taken)))
-    (λ c. search needs)
-    (λ c. search needs)
+    (λ c. search needs) (λ c. search needs)
     (λ c. (
       omega arith,
       every-more _ _ (c .before .before .before .before .before .before .loop .inv .1) (passed (told (c .before)) (c .if1 .left)),

@@ -27,12 +27,8 @@ loop-again c = search (auto, not-no)
 pub first-outside-spec : {M : Type 1} → statement M
 first-outside-spec =
     tie.close (tie.spec
-    Inv-loop
-    μ-loop
-    (λ c. search auto)
-    (λ c κs. search auto)
+    Inv-loop μ-loop (λ c. search auto) (λ c κs. search auto)
     returns
-    (λ c. omega arith)
-    (λ c. omega arith)
+    (λ c. omega arith) (λ c. omega arith)
     loop-again
     (λ c. search auto))

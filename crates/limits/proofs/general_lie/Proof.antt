@@ -1,11 +1,8 @@
 -- `limits::general_lie`: after i turns the first i numbers are between their limits. Assumes nothing.
-use Rattle.index.proofs.Kit.{_≤_, _-_, _≡_, arith, every, true}
-use borrow.Author.Needs.{needs}
-use mathlib.Core.Path.{sym}
+use Rattle.index.proofs.Kit.{_≤_, _-_, _≡_, arith, every, true, needs, sym, every-more, failed, passed}
 use mathlib.Core.List.{map}
 use lib.ListN.{getD}
-use Rattle.index.proofs.Index.{every-loop, every-more, every-out}
-use Rattle.index.proofs.Flags.{failed, passed}
+use Rattle.index.proofs.Index.{every-loop, every-out}
 use Rattle.varint.specs.Codes.{numberOf}
 use Rattle.limits.specs.Limits.{generalCount, inLimits}
 use Rattle.limits.proofs.FieldLaws.{code-in}
@@ -35,20 +32,11 @@ told g =
 
 pub general-lie-spec : {M : Type 1} → statement M
 general-lie-spec =
-    tie.close
-    (tie.spec
-    Inv-loop
-    μ-loop
-    (λ c κs. search needs)
-    (λ c. search (every-loop, needs))
-    (λ c. omega arith)
-    (λ c. omega arith)
-    (λ c. omega arith)
-    (λ c. omega arith)
-    (λ c κs. search needs)
+    tie.close (tie.spec
+    Inv-loop μ-loop (λ c κs. search needs) (λ c. search (every-loop, needs))
+    (λ c. omega arith) (λ c. omega arith) (λ c. omega arith) (λ c. omega arith) (λ c κs. search needs)
     (λ c. every-out _ _ _ (omega arith) (failed (told (c .before)) (c .if1 .taken)))
-    (λ c. search needs)
-    (λ c. search needs)
+    (λ c. search needs) (λ c. search needs)
     (λ c. (
       omega arith,
       every-more _ _ (c .before .before .before .before .before .before .before .loop .inv .1)

@@ -1,6 +1,5 @@
 -- `param_text::put_line` meets its contract. Assumes nothing.
-use borrow.Author.Needs.{needs}
-use native.Mathlib.Omega.{arith}
+use Rattle.index.proofs.Kit.{needs, arith}
 use mir.Facts.{toZ-ofZ}
 use Rattle.param_text.proofs.LineLaws.{fits-length, line-stored}
 use Rattle.param_text.proofs.put_line.Statement.{statement}
@@ -8,8 +7,7 @@ use Rattle.param_text.proofs.put_line.Tie as tie
 
 pub put-line-spec : {M : Type 1} → statement M
 put-line-spec =
-    tie.close
-    (tie.spec
+    tie.close (tie.spec
     (λ c κs. let f = c .before .before .fits .n in rw (toZ-ofZ f) (omega (arith, fits-length (c .before .before .args .n) f)))
     (λ c κs.
     let f = c .before .before .before .before .before .before .fits .n in

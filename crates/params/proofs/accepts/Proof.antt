@@ -8,15 +8,13 @@ pub accepts-spec : {M : Type 1} → statement M
 accepts-spec =
     tie.close (tie.spec
     (λ c. codes-short _ _ (c .if1 .taken))
-    (λ c κs. search needs)
-    (λ c. codes-outside _ _ (c .before .before .if1 .left) _ (c .before .codes-lie .ensures) (c .if2 .taken))
+    (λ c κs. search needs) (λ c. codes-outside _ _ (c .before .before .if1 .left) _ (c .before .codes-lie .ensures) (c .if2 .taken))
     (λ c κs. (
       c .before .before .if1 .left,
       codes-within (c .before .before .before .before .args .edition) (c .before .before .before .before .args .codes .now)
           (c .before .before .if1 .left) _ (c .before .codes-lie .ensures) (c .if2 .left),
     ))
-    (λ c. search needs)
-    (λ c. search needs)
+    (λ c. search needs) (λ c. search needs)
     (λ c.
     let i = c .before .before .before .before in
     codes-broken _ _ (i .before .before .if1 .left) _ (i .before .codes-lie .ensures) _ _ (i .if2 .left)

@@ -1,7 +1,6 @@
 -- `params::first_broken_code` meets its contract. Assumes nothing.
-use native.Mathlib.Omega.{arith}
+use Rattle.index.proofs.Kit.{arith, needs}
 use Rattle.params.specs.Editions.{coded}
-use borrow.Author.Needs.{needs}
 use Rattle.params.proofs.CheckLaws.{found-within, number-broken, rule-broken, none-broken, rule-small}
 use Rattle.params.proofs.first_broken_code.Statement.{statement}
 use Rattle.params.proofs.first_broken_code.Tie as tie
@@ -9,15 +8,12 @@ use Rattle.params.proofs.first_broken_code.Tie as tie
 pub first-broken-code-spec : {M : Type 1} → statement M
 first-broken-code-spec =
     tie.close (tie.spec
-    (λ c κs. search needs)
-    (λ c. search needs)
-    (λ c. search needs)
+    (λ c κs. search needs) (λ c. search needs) (λ c. search needs)
     (λ c κs. (
       c .before .before .before .before .pre,
       found-within _ _ (c .before .before .first-outside .ensures) (c .enum-told .given .1),
     ))
-    (λ c. search needs)
-    (λ c. omega (arith, rule-small _ _ _ _ (c .before .before .before .first-rule .ensures) (c .before .k .given .1)))
+    (λ c. search needs) (λ c. omega (arith, rule-small _ _ _ _ (c .before .before .before .first-rule .ensures) (c .before .k .given .1)))
     (λ c. search needs)
     (λ c. number-broken
     (coded (c .before .before .before .before .before .args .edition) (c .before .before .before .before .before .args .codes .now)) _

@@ -1,8 +1,6 @@
 -- `rpc::check_rpc` meets its contract: the loop's invariant is `Counting`: up to `place` no field is broken, and `m` counts the entries
 -- there. Assumes nothing.
-use Prim.Native.Nat.{_-_}
-use borrow.Author.Needs.{needs}
-use native.Mathlib.Omega.{arith}
+use Rattle.index.proofs.Kit.{_-_, needs, arith}
 use lib.ListN.{length}
 use Rattle.fields.proofs.FieldLaws.{read-placed, read-falls}
 use Rattle.rpc.specs.Messages.{rpc, inside}
@@ -19,39 +17,14 @@ abbrev μ-loop : tie.MeasureT-loop
 pub check-rpc-spec : {M : Type 1} → statement M
 check-rpc-spec =
     tie.close (tie.spec
-    Inv-loop
-    μ-loop
-    (λ c. counting-none _ _ _ _ (omega arith))
-    (λ c κs. tt)
-    (λ c. search needs)
-    (λ c. search needs)
-    (λ c. search (counting-bad, needs))
+    Inv-loop μ-loop (λ c. counting-none _ _ _ _ (omega arith))
+    (λ c κs. tt) (λ c. search needs) (λ c. search needs) (λ c. search (counting-bad, needs))
     (λ c κs.
     let q = read-placed _ _ _ _ (c .before .before .before .field-at .ensures) (c .before .p .given .1) in
     let i = c .before .before .before .before .before .loop .inv in
     let l = i .low in
     (q .order, (q .high, omega arith)))
-    (λ c. search needs)
-    (λ c.
-    let w = c .before .before .before .before .before .before .before .before .before .loop .inv in
-    let t = c .before .before .before .before .before .before .before .before .loop-test .taken in
-    let f = c .before .before .before .before .before .before .before .field-at .ensures in
-    let g = c .before .before .before .before .before .p .given .1 in
-    let e = c .before .before .before .check-in-rpc .ensures in
-    let q = c .before .q .given .1 in
-    counting-inner _ _ _ _ _ _ w t _ f _ g _ e _ q)
-    (λ c. search needs)
-    (λ c.
-    let f = c .before .before .before .before .before .before .before .field-at .ensures in
-    let g = c .before .before .before .before .before .p .given .1 in
-    let t = c .before .before .before .before .before .before .before .before .loop-test .taken in
-    read-falls _ _ _ _ f g t)
-    (λ c.
-    let w = c .before .before .before .before .before .before .before .before .before .loop .inv in
-    let t = c .before .before .before .before .before .before .before .before .loop-test .taken in
-    let f = c .before .before .before .before .before .before .before .field-at .ensures in
-    let g = c .before .before .before .before .before .p .given .1 in
-    let e = c .before .before .before .check-in-rpc .ensures in
-    let k = c .before .k .given .1 in
-    counting-more _ _ _ _ _ _ w t _ f _ g _ e (inside-each _ _ _) _ k)
-    (λ c. counting-all _ _ _ _ _ _ (c .before .loop .inv) (c .loop-test .left)))
+    (λ c. search needs) (λ c. search counting-inner)
+    (λ c. search needs) (λ c. search read-falls)
+    (λ c. search (counting-more, inside-each))
+    (λ c. search counting-all))

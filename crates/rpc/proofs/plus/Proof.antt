@@ -5,8 +5,4 @@ use Rattle.rpc.proofs.plus.Statement.{statement}
 use Rattle.rpc.proofs.plus.Tie as tie
 
 pub plus-spec : {M : Type 1} → statement M
-plus-spec =
-    tie.close (tie.spec
-    (λ c. omega arith)
-    (λ c. plus-yes _ _ (c .if1 .taken))
-    (λ c. plus-no _ _ (c .if1 .left)))
+plus-spec = tie.close (tie.spec (λ c. omega arith) (λ c. plus-yes _ _ (c .if1 .taken)) (λ c. plus-no _ _ (c .if1 .left)))

@@ -7,11 +7,7 @@ use Rattle.rpc.proofs.put_one.Tie as tie
 pub put-one-spec : {M : Type 1} → statement M
 put-one-spec =
     tie.close (tie.spec
-    (λ c κs. search needs)
-    (λ c κs. search needs)
-    (λ c κs. search needs)
-    (λ c κs. search needs)
-    (λ c. search needs)
+    (λ c κs. search needs) (λ c κs. search needs) (λ c κs. search needs) (λ c κs. search needs) (λ c. search needs)
     (λ c.
     let h = c .before .before .before .before .before .before .held-in .ensures in
     let t = c .before .before .before .before .before .topic-in .ensures in

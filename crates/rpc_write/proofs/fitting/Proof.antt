@@ -8,7 +8,5 @@ pub fitting-spec : {M : Type 1} → statement M
 fitting-spec =
     tie.close (tie.spec
     (λ c. fits-none _ _ _ (c .if1 .taken))
-    (λ c. search needs)
-    (λ c. search needs)
-    (λ c. fits-all _ _ _ (c .if2 .taken))
+    (λ c. search needs) (λ c. search needs) (λ c. fits-all _ _ _ (c .if2 .taken))
     (λ c. fits-some _ _ _ (c .before .if1 .left) (c .if2 .left)))

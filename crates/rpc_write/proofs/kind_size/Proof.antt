@@ -1,11 +1,8 @@
 -- `rpc_write::kind_size` meets its contract: the loop's invariant: `size` is the length of the first `i` entries of the kind, at most 80
 -- bytes each. Assumes nothing.
-use native.Mathlib.Omega.{arith}
+use Rattle.index.proofs.Kit.{arith, _-_, _*_, _≤_, _≡_, gather}
 use Rattle.rpc_write.proofs.WriteLaws.{good, bytesAt, length-none, length-more, length-all}
-use Prim.Native.Nat.{_-_, _*_, _≤_}
-use mathlib.Core.Path.{_≡_}
 use lib.ListN.{length}
-use Rattle.index.specs.Index.{gather}
 use Rattle.rpc_write.proofs.kind_size.Statement.{statement}
 use Rattle.rpc_write.proofs.kind_size.Tie as tie
 
@@ -19,8 +16,7 @@ abbrev μ-loop : tie.MeasureT-loop
 pub kind-size-spec : {M : Type 1} → statement M
 kind-size-spec =
     tie.close (tie.spec
-    Inv-loop
-    μ-loop
+    Inv-loop μ-loop
     (λ c. let a = c .before .args in (omega arith, (omega arith, length-none (a .names .now) (a .list .now) (a .kind) (a .number))))
     (λ c. let g = good _ _ _ (c .before .before .before .pre .0) in omega arith)
     (λ c. let g = good _ _ _ (c .before .before .before .pre .0) in omega arith)
@@ -35,8 +31,7 @@ kind-size-spec =
     (g .little _ (c .before .before .before .loop-test .taken), c .before .before .before .before .before .before .pre .1))
     (λ c. let g = good _ _ _ (c .before .before .before .before .before .before .before .pre .0) in omega
     (arith, c .one-size .ensures .1, c .before .before .before .before .before .loop .inv .1 .0))
-    (λ c. omega arith)
-    (λ c. omega arith)
+    (λ c. omega arith) (λ c. omega arith)
     (λ c. let l = c .before .before .before .before .before .loop in let a =
     c .before .before .before .before .before .before .before .args in (
       omega arith,

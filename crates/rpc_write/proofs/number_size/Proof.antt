@@ -4,7 +4,4 @@ use Rattle.rpc_write.proofs.number_size.Statement.{statement}
 use Rattle.rpc_write.proofs.number_size.Tie as tie
 
 pub number-size-spec : {M : Type 1} → statement M
-number-size-spec =
-    tie.close (tie.spec
-    (λ c. size-one _ (c .if1 .taken))
-    (λ c. size-two _ (c .if1 .left) (c .before .pre)))
+number-size-spec = tie.close (tie.spec (λ c. size-one _ (c .if1 .taken)) (λ c. size-two _ (c .if1 .left) (c .before .pre)))

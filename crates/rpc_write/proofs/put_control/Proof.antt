@@ -1,6 +1,5 @@
 -- `rpc_write::put_control` meets its contract. Assumes nothing.
-use borrow.Author.Needs.{needs}
-use native.Mathlib.Omega.{arith}
+use Rattle.index.proofs.Kit.{needs, arith}
 use Rattle.rpc_write.proofs.WriteLaws.{control-stored}
 use Rattle.rpc_write.proofs.put_control.Statement.{statement}
 use Rattle.rpc_write.proofs.put_control.Tie as tie
@@ -13,11 +12,7 @@ put-control-spec =
       c .before .before .before .before .before .before .before .pre .0,
       (
         omega arith,
-        omega (
-          arith,
-          c .before .before .before .before .before .before .before .pre .1,
-          c .before .before .before .put-kind .ensures .1,
-        ),
+        omega (arith, c .before .before .before .before .before .before .before .pre .1, c .before .before .before .put-kind .ensures .1),
       ),
     ))
     (λ c. search needs)

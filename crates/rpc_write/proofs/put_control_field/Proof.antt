@@ -1,6 +1,5 @@
 -- `rpc_write::put_control_field` meets its contract. Assumes nothing.
-use borrow.Author.Needs.{needs}
-use native.Mathlib.Omega.{arith}
+use Rattle.index.proofs.Kit.{needs, arith}
 use Rattle.rpc_write.proofs.WriteLaws.{field-none, field-some}
 use Rattle.rpc_write.proofs.put_control_field.Statement.{statement}
 use Rattle.rpc_write.proofs.put_control_field.Tie as tie

@@ -1,11 +1,8 @@
 -- `rpc_write::put_kind` meets its contract: the loop's invariant: the first `i` entries of the kind are stored, at most 80 bytes each.
 -- Assumes nothing.
-use Prim.Native.Nat.{_+_, _-_, _*_, _≤_}
+use Rattle.index.proofs.Kit.{_+_, _-_, _*_, _≤_, gather, _≡_, refl, _∙_, arith}
 use lib.ListN.{length}
-use Rattle.index.specs.Index.{gather}
 use Rattle.rpc_write.specs.Writing.{Stored}
-use mathlib.Core.Path.{_≡_, refl, _∙_}
-use native.Mathlib.Omega.{arith}
 use Rattle.rpc_write.proofs.WriteLaws.{good, bytesAt, kind-none, kind-more, kind-all}
 use Rattle.rpc_write.proofs.put_kind.Statement.{statement}
 use Rattle.rpc_write.proofs.put_kind.Tie as tie
@@ -21,8 +18,7 @@ abbrev μ-loop : tie.MeasureT-loop
 pub put-kind-spec : {M : Type 1} → statement M
 put-kind-spec =
     tie.close (tie.spec
-    Inv-loop
-    μ-loop
+    Inv-loop μ-loop
     (λ c. let a = c .before .before .args in
     (omega arith, (refl, (omega arith, kind-none (a .names .now) (a .list .now) (a .kind) (a .number) (a .buf .now) (a .at)))))
     (λ c. let g = good _ _ _ (c .before .before .before .before .pre .0) in omega arith)
@@ -39,8 +35,7 @@ put-kind-spec =
       g .little _ (c .before .before .before .before .loop-test .taken),
       (c .before .before .before .before .before .before .before .before .pre .1 .0, omega arith),
     ))
-    (λ c. omega arith)
-    (λ c. omega arith)
+    (λ c. omega arith) (λ c. omega arith)
     (λ c.
     let l = c .before .before .before .before .before .before .before .before .loop in
     let a = c .before .before .before .before .before .before .before .before .before .before .before .args in (

@@ -1,6 +1,5 @@
 -- `rpc_write::put_message` meets its contract. Assumes nothing.
-use borrow.Author.Needs.{needs}
-use native.Mathlib.Omega.{arith}
+use Rattle.index.proofs.Kit.{needs, arith}
 use Rattle.rpc_write.proofs.WriteLaws.{message-stored}
 use Rattle.rpc_write.proofs.put_message.Statement.{statement}
 use Rattle.rpc_write.proofs.put_message.Tie as tie

@@ -8,10 +8,7 @@ pub put-one-spec : {M : Type 1} → statement M
 put-one-spec =
     tie.close (tie.spec
     (λ c. one-other _ _ _ _ _ _ _ _ (c .if1 .taken))
-    (λ c κs. search needs)
-    (λ c κs. search needs)
-    (λ c κs. search needs)
-    (λ c. search needs)
+    (λ c κs. search needs) (λ c κs. search needs) (λ c κs. search needs) (λ c. search needs)
     (λ c. one-stored _ _ _ _ _ _ _ _ _ _ _ _ _
     (c .before .before .before .before .before .before .before .before .before .if1 .left)
     (c .before .before .before .before .before .before .before .entry-size .ensures)

@@ -1,7 +1,5 @@
 -- `supplier::answer` meets its contract. Assumes nothing.
-use mathlib.Core.Path.{sym}
-use native.Mathlib.Omega.{arith}
-use borrow.Author.Needs.{needs}
+use Rattle.index.proofs.Kit.{sym, arith, needs}
 use Rattle.text.proofs.TextLaws.{stored-same}
 use Rattle.supplier.proofs.OutputLaws.{mode-import, mode-export, mode-import-bytes, mode-export-bytes, mode-none}
 use Rattle.supplier.proofs.answer.Statement.{statement}
@@ -9,18 +7,11 @@ use Rattle.supplier.proofs.answer.Tie as tie
 
 pub answer-spec : {M : Type 1} → statement M
 answer-spec =
-    tie.close
-    (tie.spec
-    (λ c κs. search needs)
-    (λ c κs. search needs)
-    (λ c κs. search needs)
-    (λ c κs. search needs)
-    (λ c κs. search needs)
-    (λ c. search needs)
+    tie.close (tie.spec
+    (λ c κs. search needs) (λ c κs. search needs) (λ c κs. search needs) (λ c κs. search needs) (λ c κs. search needs) (λ c. search needs)
     (λ c. let e = c .before .before .put-import .ensures in
     (stored-same _ _ _ _ _ _ (sym (mode-import _ _ (c .before .before .before .before .match .keys1))) (e .0), e .1))
-    (λ c. search needs)
-    (λ c. search needs)
+    (λ c. search needs) (λ c. search needs)
     (λ c. let e = c .before .before .before .before .put-export .ensures in (
       stored-same _ _ _ _ _ _ (sym (mode-export _ _ (c .before .before .before .before .before .before .before .match .keys2))) (e .0),
       e .1,

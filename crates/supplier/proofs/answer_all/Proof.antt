@@ -1,7 +1,5 @@
 -- `supplier::answer_all` meets its contract. Assumes nothing.
-use mathlib.Core.Path.{sym}
-use native.Mathlib.Omega.{arith}
-use borrow.Author.Needs.{needs}
+use Rattle.index.proofs.Kit.{sym, arith, needs}
 use Rattle.text.proofs.TextLaws.{stored-same}
 use Rattle.supplier.proofs.OutputLaws.{all-long, all-same}
 use Rattle.supplier.proofs.answer_all.Statement.{statement}
@@ -9,8 +7,7 @@ use Rattle.supplier.proofs.answer_all.Tie as tie
 
 pub answer-all-spec : {M : Type 1} → statement M
 answer-all-spec =
-    tie.close
-    (tie.spec
+    tie.close (tie.spec
     (λ c. let s = c .before .before .before .before .before in record { fits = s .pre .all })
     (λ c κs. let s = c .before .before .before .before .before in omega (arith, s .pre .out))
     (λ c. search needs)
@@ -22,8 +19,7 @@ answer-all-spec =
       omega arith,
     ))
     (λ c κs. let s = c .before .before .before .before .before .before in (s .pre .out, s .pre .lent))
-    (λ c. search needs)
-    (λ c. search needs)
+    (λ c. search needs) (λ c. search needs)
     (λ c.
     let s = c .before .before .before .before .before .before .before .before .before .before .before in (
       λ more l. stored-same _ _ _ _ _ _

@@ -1,7 +1,5 @@
 -- `supplier::put_eight` meets its contract. The loop keeps the digits of the first k bytes stored, two for each. Assumes nothing.
-use Prim.Native.Nat.{_+_, _-_, _*_, _≤_}
-use mathlib.Core.Path.{_≡_, refl, _∙_}
-use native.Mathlib.Omega.{arith}
+use Rattle.index.proofs.Kit.{_+_, _-_, _*_, _≤_, _≡_, refl, _∙_, arith}
 use mathlib.Core.List.{[], _∷_}
 use lib.ListN.{length, getD, take, drop}
 use Rattle.text.specs.Text.{Stored}
@@ -19,16 +17,10 @@ abbrev μ-loop : tie.MeasureT-loop
 
 pub put-eight-spec : {M : Type 1} → statement M
 put-eight-spec =
-    tie.close
-    (tie.spec
-    Inv-loop
-    μ-loop
+    tie.close (tie.spec
+    Inv-loop μ-loop
     (λ c. let a = c .before .before .args in (omega arith, refl, omega arith, eight-none (a .s .now) (a .from) _ _))
-    (λ c. omega arith)
-    (λ c. omega arith)
-    (λ c κs. omega arith)
-    (λ c. omega arith)
-    (λ c. omega arith)
+    (λ c. omega arith) (λ c. omega arith) (λ c κs. omega arith) (λ c. omega arith) (λ c. omega arith)
     (λ c.
     let l = c .before .before .before .before .before .before .loop in
     let s = c .before .before .before .before .before .before .before .before .before in

@@ -1,12 +1,9 @@
 -- `supplier::put_entries` meets its contract.
 -- The loop keeps the lines of the first i entries stored, none longer than 21 bytes.
 -- Assumes nothing.
-use Prim.Native.Nat.{_+_, _-_, _*_, _≤_}
-use mathlib.Core.Path.{_≡_, refl, _∙_}
-use native.Mathlib.Omega.{arith}
+use Rattle.index.proofs.Kit.{_+_, _-_, _*_, _≤_, _≡_, refl, _∙_, arith, gather}
 use lib.ListN.{length}
 use Rattle.records.specs.Records.{paramCount}
-use Rattle.index.specs.Index.{gather}
 use Rattle.text.specs.Text.{Stored}
 use Rattle.param_text.proofs.LineLaws.{lines-none, lines-more}
 use Rattle.supplier.specs.Output.{entryTextAt}
@@ -23,14 +20,9 @@ abbrev μ-loop : tie.MeasureT-loop
 
 pub put-entries-spec : {M : Type 1} → statement M
 put-entries-spec =
-    tie.close
-    (tie.spec
-    Inv-loop
-    μ-loop
-    (λ c. (omega arith, refl, omega arith, lines-none (entryTextAt _) _ _))
-    (λ c κs. omega arith)
-    (λ c. omega arith)
-    (λ c. omega arith)
+    tie.close (tie.spec
+    Inv-loop μ-loop (λ c. (omega arith, refl, omega arith, lines-none (entryTextAt _) _ _))
+    (λ c κs. omega arith) (λ c. omega arith) (λ c. omega arith)
     (λ c.
     let l = c .before .before .before .before .before .loop in (
       omega arith,

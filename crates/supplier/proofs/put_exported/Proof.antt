@@ -1,9 +1,7 @@
 -- `supplier::put_exported` meets its contract.
 -- An export that is done has written all its bytes into the page, so that the lines are those of the page's front.
 -- Assumes nothing.
-use mathlib.Core.Path.{sym, _∙_}
-use native.Mathlib.Omega.{arith}
-use borrow.Author.Needs.{needs}
+use Rattle.index.proofs.Kit.{sym, _∙_, arith, needs}
 use lib.Seq.{length-take-le}
 use Rattle.supplier.proofs.OutputLaws.{done-length, exported-done, exported-outside, exported-short}
 use Rattle.supplier.proofs.put_exported.Statement.{statement}
@@ -11,11 +9,8 @@ use Rattle.supplier.proofs.put_exported.Tie as tie
 
 pub put-exported-spec : {M : Type 1} → statement M
 put-exported-spec =
-    tie.close
-    (tie.spec
-    (λ c κs. search needs)
-    (λ c. search needs)
-    (λ c κs. search needs)
+    tie.close (tie.spec
+    (λ c κs. search needs) (λ c. search needs) (λ c κs. search needs)
     (λ c.
     let s = c .before .before .before .before .before .before .before .before .before .before .before .before .before .before in
     let n = done-length (s .args .all .numbers) (s .args .page .now) _ _ (s .pre .1)
@@ -46,9 +41,7 @@ put-exported-spec =
             s .pre .1,
           )) ∙ n,
     ))
-    (λ c. search needs)
-    (λ c κs. search needs)
-    (λ c. search needs)
+    (λ c. search needs) (λ c κs. search needs) (λ c. search needs)
     (λ c. c .before .before .put-entries .kept .0 ∙ c .before .before .before .before .before .before .before .put-done .kept .0)
     (λ c. c .before .before .before .before .before .before .before .before .before .before .before .before .before .before .export .kept .1
     .0)

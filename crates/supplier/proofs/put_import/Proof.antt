@@ -1,8 +1,7 @@
 -- `supplier::put_import` meets its contract.
 -- Each verdict of the import has its text: the line of a refusal, or `0` and the numbers' lines behind it.
 -- Assumes nothing.
-use native.Mathlib.Omega.{arith}
-use borrow.Author.Needs.{needs}
+use Rattle.index.proofs.Kit.{arith, needs}
 use Rattle.param_text.specs.Lines.{numbersText}
 use Rattle.text.proofs.TextLaws.{stored-then}
 use Rattle.supplier.specs.Output.{doneText}
@@ -12,17 +11,9 @@ use Rattle.supplier.proofs.put_import.Tie as tie
 
 pub put-import-spec : {M : Type 1} → statement M
 put-import-spec =
-    tie.close
-    (tie.spec
-    (λ c κs. search needs)
-    (λ c. search needs)
-    (λ c κs. search needs)
-    (λ c κs. search needs)
-    (λ c. search needs)
-    (λ c κs. search needs)
-    (λ c. search needs)
-    (λ c κs. search needs)
-    (λ c. search needs)
+    tie.close (tie.spec
+    (λ c κs. search needs) (λ c. search needs) (λ c κs. search needs) (λ c κs. search needs) (λ c. search needs) (λ c κs. search needs)
+    (λ c. search needs) (λ c κs. search needs) (λ c. search needs)
     (λ c. (
       import-as _ _ _
           (c .before .before .before .before .before .before .before .before .before .before .before .before .before .import .ensures)

@@ -6,13 +6,8 @@ use Rattle.supplier.proofs.write_own.Tie as tie
 
 pub write-own-spec : {M : Type 1} → statement M
 write-own-spec =
-    tie.close
-    (tie.spec
-    (λ c κs. search needs)
-    (λ c. search needs)
-    (λ c. search needs)
-    (λ c. search needs)
-    (λ c. search needs)
+    tie.close (tie.spec
+    (λ c κs. search needs) (λ c. search needs) (λ c. search needs) (λ c. search needs) (λ c. search needs)
     (λ c. own-stored (c .before .before .before .before .before .before .before .before .args .all) _ _ _ _
     (c .before .n .given .1) (c .before .before .before .before .before .before .before .before .pre) (search needs)
     (c .before .before .before .before .before .write .ensures))

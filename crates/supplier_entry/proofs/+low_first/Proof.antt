@@ -1,7 +1,5 @@
 -- `supplier_entry::low_first` meets its contract: each byte in front of the number of the rest. Assumes nothing.
-use Prim.Native.Nat.{ℕ, _<_}
-use borrow.Author.Needs.{needs}
-use native.Mathlib.Omega.{arith}
+use Rattle.index.proofs.Kit.{ℕ, _<_, needs, arith}
 use borrow.Fn.Kinds.{In}
 use borrow.Fn.PlainCycle.{Measures, is, falls, and}
 use Rattle.supplier_entry.proofs.ByteLaws.{low-end, low-more, low-room}
@@ -26,11 +24,7 @@ pub +low-first-spec : {M : Type 1} → statement M
     close μ-low-first λ t. low-first-lts.spec (wide-reads.Asked, wide-reads.Learnt, low-first-below t, low-first.Post) (low-first-at t)
     low-first.Post
     (λ c. let a = c .before .before .args in low-end (a .n) (a .s .now) (a .at) (c .if1 .taken))
-    (λ c. omega arith)
-    (λ c κs. search needs)
-    (λ c. omega arith)
-    (λ c. omega arith)
-    (λ c κs. (omega arith, (omega arith, omega arith)))
+    (λ c. omega arith) (λ c κs. search needs) (λ c. omega arith) (λ c. omega arith) (λ c κs. (omega arith, (omega arith, omega arith)))
     (λ c. let h = low-room (c .before .before .before .before .before .args .n) (c .low-first .result) (omega arith) (omega arith)
     (c .low-first .ensures .1) in omega arith)
     (λ c. let h = low-room (c .before .before .before .before .before .args .n) (c .low-first .result) (omega arith) (omega arith)

@@ -1,8 +1,5 @@
 -- `supplier_entry::content_of` meets its contract. Assumes nothing.
-use Prim.Native.Nat.{ℕ, _*_}
-use mathlib.Core.Path.{ap}
-use native.Mathlib.Omega.{arith}
-use borrow.Author.Needs.{needs}
+use Rattle.index.proofs.Kit.{ℕ, _*_, ap, arith, needs}
 use mir.Facts.{toZ-ofZ}
 use Rattle.supplier_entry.proofs.EntryLaws.{content-factor, content-whole, content-span}
 use Rattle.supplier_entry.proofs.content_of.Statement.{statement}
@@ -10,8 +7,7 @@ use Rattle.supplier_entry.proofs.content_of.Tie as tie
 
 pub content-of-spec : {M : Type 1} → statement M
 content-of-spec =
-    tie.close
-    (tie.spec
+    tie.close (tie.spec
     (λ c κs. search needs)
     (λ c κs.
     let s = c .before .before .before in

@@ -8,16 +8,12 @@ use Rattle.supplier_entry.proofs.convert.Tie as tie
 
 pub convert-spec : {M : Type 1} → statement M
 convert-spec =
-    tie.close
-    (tie.spec
-    (λ c. search needs)
-    (λ c κs. sound-factor _ _ _ _ (c .before .e .given .1) (c .before .before .before .pre))
+    tie.close (tie.spec
+    (λ c. search needs) (λ c κs. sound-factor _ _ _ _ (c .before .e .given .1) (c .before .before .before .pre))
     (λ c κs.
     let s = c .before .before .before .before in
     small-factor (s .args .limit) _ _ (sound-factor _ _ _ _ (c .before .before .e .given .1) (s .pre) .0) (c .thousandths .ensures))
-    (λ c. search needs)
-    (λ c κs. search needs)
-    (λ c. search needs)
+    (λ c. search needs) (λ c κs. search needs) (λ c. search needs)
     (λ c κs. sound-span _ _ _ _ (c .before .e3 .given .1) (c .before .before .before .pre))
     (λ c. convert-factor _ _ _ _ _ _ (c .before .before .before .e .given .1) (c .before .thousandths .ensures) (c .number-of .ensures))
     (λ c.

@@ -1,8 +1,5 @@
 -- `supplier_entry::export` meets its contract. Assumes nothing.
-use mathlib.Core.Path.{ap, _∙_}
-use native.Mathlib.Omega.{arith}
-use borrow.Author.Needs.{needs}
-use Prim.Native.Nat.{ℕ}
+use Rattle.index.proofs.Kit.{ap, _∙_, arith, needs, ℕ}
 use mathlib.Core.List.{_∷_}
 use lib.ListN.{length-set}
 use lib.Seq.{sets}
@@ -14,12 +11,9 @@ use Rattle.supplier_entry.proofs.export.Tie as tie
 
 pub export-spec : {M : Type 1} → statement M
 export-spec =
-    tie.close
-    (tie.spec
+    tie.close (tie.spec
     (λ c κs. let s = c .before in rw (toZ-ofZ (s .fits .z)) (s .pre .0))
-    (λ c. search needs)
-    (λ c. search needs)
-    (λ c κs. simp length-set (omega arith))
+    (λ c. search needs) (λ c. search needs) (λ c κs. simp length-set (omega arith))
     (λ c. c .before .before .put-low .kept .0 ∙ simp length-set)
     (λ c.
     let s = c .before .before .before .before .before .before in

@@ -1,6 +1,5 @@
 -- `supplier_entry::factor` meets its contract. Assumes nothing.
-use native.Mathlib.Omega.{arith}
-use mathlib.Core.Path.{refl}
+use Rattle.index.proofs.Kit.{arith, refl}
 use lib.Dec.{le→leb}
 use lib.Ieee.{inFloat}
 use Rattle.supplier_entry.specs.Factor.{factorOf, thousand}

@@ -1,6 +1,5 @@
 -- `supplier_entry::factor_bits` meets its contract. Assumes nothing.
-use borrow.Author.Needs.{needs}
-use mathlib.Core.Path.{ap}
+use Rattle.index.proofs.Kit.{needs, ap}
 use lib.Ieee.{toBits, binary64}
 use Rattle.supplier_entry.specs.Factor.{factorBits}
 use Rattle.supplier_entry.proofs.factor_bits.Statement.{statement}

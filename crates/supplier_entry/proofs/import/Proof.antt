@@ -6,12 +6,9 @@ use Rattle.supplier_entry.proofs.import.Tie as tie
 
 pub import-spec : {M : Type 1} → statement M
 import-spec =
-    tie.close
-    (tie.spec
+    tie.close (tie.spec
     (λ c. import-other _ _ _ _ (c .if1 .taken))
-    (λ c κs. search needs)
-    (λ c. search needs)
-    (λ c. search needs)
+    (λ c κs. search needs) (λ c. search needs) (λ c. search needs)
     (λ c. import-bad _ _ _ _ _ (c .before .before .before .if1 .left) (c .before .before .read-entry .ensures) (c .enum-told .given .1))
     (λ c κs.
     let s = c .before .before .before .before .before .before in

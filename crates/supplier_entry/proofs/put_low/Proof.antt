@@ -1,7 +1,5 @@
 -- `supplier_entry::put_low` meets its contract. Assumes nothing.
-use Prim.Native.Nat.{ℕ, _+_, _-_, _≤_}
-use mathlib.Core.Path.{_≡_, refl, sym, ap, _∙_}
-use native.Mathlib.Omega.{arith}
+use Rattle.index.proofs.Kit.{ℕ, _+_, _-_, _≤_, _≡_, refl, sym, ap, _∙_, arith}
 use lib.ListN.{length, length-set}
 use lib.Seq.{sets}
 use Rattle.supplier_entry.specs.Bytes.{lowBytes}
@@ -18,23 +16,15 @@ abbrev μ-loop : tie.MeasureT-loop
 
 pub put-low-spec : {M : Type 1} → statement M
 put-low-spec =
-    tie.close
-    (tie.spec
-    Inv-loop
-    μ-loop
+    tie.close (tie.spec
+    Inv-loop μ-loop
     (λ c.
     let e : c .args .at + 0 ≡ c .args .at = omega arith in
     (omega arith, refl, ap (λ (k : ℕ). sets (c .args .buf .now) k (lowBytes 8 (c .args .u))) e))
-    (λ c. omega arith)
-    (λ c. omega arith)
-    (λ c. omega arith)
-    (λ c. omega arith)
-    (λ c. omega arith)
+    (λ c. omega arith) (λ c. omega arith) (λ c. omega arith) (λ c. omega arith) (λ c. omega arith)
     (λ c.
     let l = c .before .loop in
     let a = c .before .before .args in
     (omega arith, length-set (l .buf) _ _ ∙ l .inv .1, low-put (l .buf) (a .at) (l .k) (l .rest) (omega arith) ∙ l .inv .2))
     (λ c. c .before .loop .inv .1)
-    (λ c.
-    let l = c .before .loop in
-    sym (low-done (l .buf) (c .before .before .args .at) (l .k) (l .rest) (omega arith)) ∙ l .inv .2))
+    (λ c. let l = c .before .loop in sym (low-done (l .buf) (c .before .before .args .at) (l .k) (l .rest) (omega arith)) ∙ l .inv .2))

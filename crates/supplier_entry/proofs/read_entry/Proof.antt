@@ -8,13 +8,10 @@ use Rattle.supplier_entry.proofs.read_entry.Tie as tie
 
 pub read-entry-spec : {M : Type 1} → statement M
 read-entry-spec =
-    tie.close
-    (tie.spec
-    (λ c κs. search needs)
-    (λ c. entry-nan _ _ _ (c .before .before .if1 .taken) (c .before .is-nan .ensures) (c .if2 .taken))
+    tie.close (tie.spec
+    (λ c κs. search needs) (λ c. entry-nan _ _ _ (c .before .before .if1 .taken) (c .before .is-nan .ensures) (c .if2 .taken))
     (λ c. not-nan _ _ (c .before .is-nan .ensures) (c .if2 .left))
     (λ c. entry-factor _ _ _ (c .before .before .if1 .taken) (c .before .is-nan .ensures) (c .if2 .left))
-    (λ c κs. search needs)
-    (λ c. entry-whole _ _ _ (c .before .if3 .taken) (toZ-ofZ (sfits-of (c .signed-of .ok)) ∙ c .signed-of .ensures))
+    (λ c κs. search needs) (λ c. entry-whole _ _ _ (c .before .if3 .taken) (toZ-ofZ (sfits-of (c .signed-of .ok)) ∙ c .signed-of .ensures))
     (λ c. entry-span _ _ (c .if4 .taken))
     (λ c. entry-none _ _ (c .before .before .if1 .left) (c .before .if3 .left) (c .if4 .left)))

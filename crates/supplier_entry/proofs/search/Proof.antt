@@ -1,11 +1,8 @@
 -- `supplier_entry::search` meets its contract.
 -- The bits of n / 1000 rise with n, so what lies below `from` has smaller bits and what lies from `to` on has larger ones.
 -- Assumes nothing.
-use Prim.Native.Nat.{ℕ, _+_, _-_, _/_}
-use mathlib.Core.Path.{_≡_, ap, _∙_}
-use mathlib.Core.Bool.{Bool}
-use native.Mathlib.Omega.{arith}
-use borrow.Author.Needs.{needs}
+use Rattle.index.proofs.Kit.{ℕ, _+_, _-_, _≡_, ap, _∙_, Bool, arith, needs}
+use Prim.Native.Nat.{_/_}
 use lib.Dec.{eqb}
 use lib.Ieee.{Float, toBits, binary64}
 use Rattle.supplier_entry.specs.Factor.{factorOf, factorBits}
@@ -27,13 +24,8 @@ compared n x y b e d = d ∙ ap (λ (z : Float). eqb (toBits binary64 z) (toBits
 
 pub search-spec : {M : Type 1} → statement M
 search-spec =
-    tie.close
-    (tie.spec
-    Inv-loop
-    μ-loop
-    (λ c. search needs)
-    (λ c. omega arith)
-    (λ c. halved-none _ _ _)
+    tie.close (tie.spec
+    Inv-loop μ-loop (λ c. search needs) (λ c. omega arith) (λ c. halved-none _ _ _)
     (λ c. omega arith)
     (λ c. let l = c .before .loop in omega (arith, l .inv .end))
     (λ c κs. let l = c .before .loop in omega (arith, l .inv .end))
@@ -53,8 +45,7 @@ search-spec =
     (λ c.
     let l = c .before .before .loop in
     search-past _ _ _ (l .from) (l .to) (c .before .before .before .pre .0) (l .inv) (c .before .loop-test .left) (c .if2 .taken))
-    (λ c κs. omega arith)
-    (λ c κs. search needs)
+    (λ c κs. omega arith) (λ c κs. search needs)
     (λ c.
     let l = c .before .before .before .before .before .loop in
     let s = c .before .before .before .before .before .before in

@@ -1,6 +1,5 @@
 -- `supplier_entry::thousandths` meets its contract. Assumes nothing.
-use native.Mathlib.Omega.{arith}
-use borrow.Author.Needs.{needs}
+use Rattle.index.proofs.Kit.{arith, needs}
 use mir.Facts.{toZ-ofZ}
 use Rattle.supplier_entry.proofs.FactorLaws.{thousandths-are}
 use Rattle.supplier_entry.proofs.thousandths.Statement.{statement}
@@ -8,10 +7,8 @@ use Rattle.supplier_entry.proofs.thousandths.Tie as tie
 
 pub thousandths-spec : {M : Type 1} → statement M
 thousandths-spec =
-    tie.close
-    (tie.spec
-    (λ c κs. search needs)
-    (λ c κs. search needs)
+    tie.close (tie.spec
+    (λ c κs. search needs) (λ c κs. search needs)
     (λ c κs.
     let s = c .before .before .before .before in
     let g = c .before .struct-told2 .given in

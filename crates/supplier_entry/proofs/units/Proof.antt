@@ -8,10 +8,8 @@ use Rattle.supplier_entry.proofs.units.Tie as tie
 
 pub units-spec : {M : Type 1} → statement M
 units-spec =
-    tie.close
-    (tie.spec
-    (λ c. search needs)
-    (λ c. units-part _ _ _ (c .if1 .taken))
+    tie.close (tie.spec
+    (λ c. search needs) (λ c. units-part _ _ _ (c .if1 .taken))
     (λ c. search needs)
     (λ c. let s = c .before in record { sfits = units-lt (s .args .unit) (s .args .t) (s .pre) (s .fits .t .fits) })
     (λ c κs. search needs)

@@ -9,8 +9,7 @@ use Rattle.supplier_entry.proofs.whole.Tie as tie
 
 pub whole-spec : {M : Type 1} → statement M
 whole-spec =
-    tie.close
-    (tie.spec
+    tie.close (tie.spec
     (λ c.
     let s = c .before .before .before .before .before in
     let g = c .before .struct-told2 .given in

@@ -1,6 +1,5 @@
 -- `supplier_params::form_of` meets its contract. Assumes nothing.
-use mathlib.Core.Path.{sym, ap}
-use borrow.Author.Needs.{needs}
+use Rattle.index.proofs.Kit.{sym, ap, needs}
 use borrow.Author.Tests.{le-ltb}
 use Rattle.limits.proofs.LimitLaws.{general-field}
 use Rattle.supplier_params.specs.Forms.{forms, formAt}
@@ -18,11 +17,4 @@ returns-2 c = simp (le-ltb _ _ (c .before .if1 .left))
 pub form-of-spec : {M : Type 1} → statement M
 form-of-spec =
     tie.close
-    (tie.spec
-    (λ c. search needs)
-    (λ c. search needs)
-    (λ c. search needs)
-    (λ c. search needs)
-    (λ c. search needs)
-    returns
-    returns-2)
+    (tie.spec (λ c. search needs) (λ c. search needs) (λ c. search needs) (λ c. search needs) (λ c. search needs) returns returns-2)

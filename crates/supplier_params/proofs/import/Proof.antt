@@ -6,10 +6,8 @@ use Rattle.supplier_params.proofs.import.Tie as tie
 
 pub import-spec : {M : Type 1} → statement M
 import-spec =
-    tie.close
-    (tie.spec
-    (λ c κs. search needs)
-    (λ c. import-length _ _ (c .before .if1 .taken) (c .refused .ensures))
+    tie.close (tie.spec
+    (λ c κs. search needs) (λ c. import-length _ _ (c .before .if1 .taken) (c .refused .ensures))
     (λ c κs. c .if1 .left)
     (λ c κs. search needs)
     (λ c. import-broken _ _ (c .before .before .before .entries .result) (c .before .before .before .before .if1 .left)

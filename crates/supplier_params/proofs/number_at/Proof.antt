@@ -1,6 +1,5 @@
 -- `supplier_params::number_at` meets its contract. Assumes nothing.
-use native.Mathlib.Omega.{arith}
-use borrow.Author.Needs.{needs}
+use Rattle.index.proofs.Kit.{arith, needs}
 use Rattle.supplier_params.proofs.FormLaws.{field-at}
 use Rattle.supplier_params.proofs.ImportLaws.{number-is}
 use Rattle.supplier_params.proofs.number_at.Statement.{statement}
@@ -8,14 +7,9 @@ use Rattle.supplier_params.proofs.number_at.Tie as tie
 
 pub number-at-spec : {M : Type 1} → statement M
 number-at-spec =
-    tie.close
-    (tie.spec
-    (λ c. omega arith)
-    (λ c. omega arith)
-    (λ c. omega arith)
-    (λ c κs. (omega arith, omega arith))
-    (λ c κs. search needs)
-    (λ c κs. search needs)
+    tie.close (tie.spec
+    (λ c. omega arith) (λ c. omega arith) (λ c. omega arith) (λ c κs. (omega arith, omega arith))
+    (λ c κs. search needs) (λ c κs. search needs)
     (λ c κs. rw (c .before .form-of .ensures, c .limit-of .ensures)
     (field-at (c .before .before .before .before .before .args .i) (c .before .before .before .before .before .pre .1) .fit))
     (λ c.

@@ -1,9 +1,8 @@
 -- `supplier_params::put` meets its contract.
 -- The loop keeps the first i entries written, and the rest of the buffer as it was.
 -- Assumes nothing.
-use Prim.Native.Nat.{_-_}
-use native.Mathlib.Omega.{arith}
-use borrow.Author.Needs.{needs, sfits-of}
+use Rattle.index.proofs.Kit.{_-_, arith, needs}
+use borrow.Author.Needs.{sfits-of}
 use lib.ListN.{getD}
 use lib.IntN.{pos}
 use mir.Syntax.{w64}
@@ -21,15 +20,9 @@ abbrev μ-loop : tie.MeasureT-loop
 
 pub put-spec : {M : Type 1} → statement M
 put-spec =
-    tie.close
-    (tie.spec
-    Inv-loop
-    μ-loop
-    (λ c. put-none _ _)
-    (λ c. omega arith)
-    (λ c. omega arith)
-    (λ c κs. search needs)
-    (λ c. omega arith)
+    tie.close (tie.spec
+    Inv-loop μ-loop (λ c. put-none _ _)
+    (λ c. omega arith) (λ c. omega arith) (λ c κs. search needs) (λ c. omega arith)
     (λ c κs.
     let l = c .before .before .before .before .loop in
     let s = c .before .before .before .before .before .before in
@@ -38,8 +31,7 @@ put-spec =
           (s .pre .1 (l .i) (c .before .before .before .loop-test .taken)) (c .before .form-of .ensures),
       omega (arith, l .inv .same),
     ))
-    (λ c. omega arith)
-    (λ c. omega arith)
+    (λ c. omega arith) (λ c. omega arith)
     (λ c.
     let l = c .before .before .before .before .before .before .before .loop in
     let s = c .before .before .before .before .before .before .before .before .before in

@@ -7,13 +7,7 @@ use Rattle.topics.proofs.change_from.Tie as tie
 
 pub change-from-spec : {M : Type 1} → statement M
 change-from-spec =
-    tie.close
-    (tie.spec
-    (λ c κs. search needs)
-    (λ c. search needs)
-    (λ c. search needs)
-    (λ c. search needs)
-    (λ c. search peer-none)
+    tie.close (tie.spec
+    (λ c κs. search needs) (λ c. search needs) (λ c. search needs) (λ c. search needs) (λ c. search peer-none)
     (λ c κs. search (found-below, needs))
-    (λ c. search needs)
-    (λ c. search peer-at))
+    (λ c. search needs) (λ c. search peer-at))

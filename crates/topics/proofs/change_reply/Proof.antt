@@ -10,13 +10,6 @@ use Rattle.topics.proofs.change_reply.Tie as tie
 pub change-reply-spec : {M : Type 1} → statement M
 unfolding changeReply
 change-reply-spec =
-    tie.close
-    (tie.spec
-    (λ c κs. search needs)
-    (λ c κs. search needs)
-    (λ c. search needs)
-    (λ c. search (else-ignored, gray-is))
-    (λ c κs. search needs)
-    (λ c κs. search needs)
-    (λ c. search needs)
-    (λ c. search (else-done, gray-is)))
+    tie.close (tie.spec
+    (λ c κs. search needs) (λ c κs. search needs) (λ c. search needs) (λ c. search (else-ignored, gray-is))
+    (λ c κs. search needs) (λ c κs. search needs) (λ c. search needs) (λ c. search (else-done, gray-is)))

@@ -6,11 +6,6 @@ use Rattle.topics.proofs.change_slot.Tie as tie
 
 pub change-slot-spec : {M : Type 1} → statement M
 change-slot-spec =
-    tie.close
-    (tie.spec
-    (λ c κs. search needs)
-    (λ c κs. search needs)
-    (λ c. search needs)
-    (λ c. search changed-on)
-    (λ c. search needs)
-    (λ c. search changed-off))
+    tie.close (tie.spec
+    (λ c κs. search needs) (λ c κs. search needs) (λ c. search needs) (λ c. search changed-on)
+    (λ c. search needs) (λ c. search changed-off))

@@ -9,13 +9,8 @@ use Rattle.topics.proofs.join.Tie as tie
 pub join-spec : {M : Type 1} → statement M
 unfolding effect
 join-spec =
-    tie.close
-    (tie.spec
-    (λ c κs. search needs)
-    (λ c κs. search needs)
-    (λ c κs. search needs)
-    (λ c. search needs)
-    (λ c. search needs)
+    tie.close (tie.spec
+    (λ c κs. search needs) (λ c κs. search needs) (λ c κs. search needs) (λ c. search needs) (λ c. search needs)
     (λ c κs. record { ready = search (call-ends, needs); topic = search call-ends })
     (λ c. search call-ends)
     (λ c. search (call-ends, quiet-join)))

@@ -8,13 +8,6 @@ use Rattle.topics.proofs.join_from.Tie as tie
 pub join-from-spec : {M : Type 1} → statement M
 unfolding joinReply
 join-from-spec =
-    tie.close
-    (tie.spec
-    (λ c κs. search needs)
-    (λ c κs. search needs)
-    (λ c. search needs)
-    (λ c. search else-ignored)
-    (λ c κs. search needs)
-    (λ c κs. search needs)
-    (λ c. search needs)
-    (λ c. search else-done))
+    tie.close (tie.spec
+    (λ c κs. search needs) (λ c κs. search needs) (λ c. search needs) (λ c. search else-ignored)
+    (λ c κs. search needs) (λ c κs. search needs) (λ c. search needs) (λ c. search else-done))

@@ -1,8 +1,6 @@
 -- `varint::read_up_to` meets its contract. The measure is what is left of the slice from `at` on. Assumes nothing.
-use Prim.Native.Nat.{ℕ, _<_, _-_}
-use mathlib.Core.Path.{sym}
+use Rattle.index.proofs.Kit.{ℕ, _<_, _-_, sym, arith}
 use lib.ListN.{length}
-use native.Mathlib.Omega.{arith}
 use borrow.Fn.Kinds.{In}
 use borrow.Fn.PlainCycle.{Measures, is, falls, and}
 use Rattle.varint.proofs.GroupLaws.{readAt-end, last-is, more-is, small-is}
@@ -38,14 +36,10 @@ pub +read-up-to-spec : {M : Type 1} → statement M
     (read-up-to-at t)
     read-up-to.Post
     (λ c. sym (readAt-end _ _ _ (c .if1 .taken)))
-    (λ c. omega arith)
-    (λ c κs. tt)
-    (λ c. omega arith)
-    (λ c κs. tt)
+    (λ c. omega arith) (λ c κs. tt) (λ c. omega arith) (λ c κs. tt)
     (λ c. last-is _ _ _ _ _ (c .last-group .ensures) (c .before .before .wide .ensures) (omega arith) (omega arith))
     (λ c. small-is _ _ _ _ (c .before .before .wide .ensures) (omega arith) (omega arith) (omega arith))
-    (λ c. omega arith)
-    (λ c κs. (omega arith, tt))
+    (λ c. omega arith) (λ c κs. (omega arith, tt))
     (λ c κs. (
       omega arith,
       omega (

@@ -1,7 +1,5 @@
 -- `varint::code_of` meets its contract.  Assumes nothing.
-use borrow.Author.Needs.{needs}
-use native.Mathlib.Omega.{arith}
-use mathlib.Core.Path.{sym, _∙_}
+use Rattle.index.proofs.Kit.{needs, arith, sym, _∙_}
 use mir.Facts.{toZ-ofZ}
 use Rattle.varint.proofs.CodeLaws.{code-neg, code-pos}
 use Rattle.varint.proofs.code_of.Statement.{statement}
@@ -10,11 +8,7 @@ use Rattle.varint.proofs.code_of.Tie as tie
 pub code-of-spec : {M : Type 1} → statement M
 code-of-spec =
     tie.close (tie.spec
-    (λ c κs. search needs)
-    (λ c κs. search needs)
-    (λ c. search needs)
-    (λ c. search needs)
-    (λ c. search needs)
+    (λ c κs. search needs) (λ c κs. search needs) (λ c. search needs) (λ c. search needs) (λ c. search needs)
     (λ c. let f = c .before .before .before .fits .n in
     omega (
       arith,

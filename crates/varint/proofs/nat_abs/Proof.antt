@@ -1,7 +1,5 @@
 -- `varint::nat_abs` meets its contract. Assumes nothing.
-use borrow.Author.Needs.{needs}
-use native.Mathlib.Omega.{arith}
-use mathlib.Core.Path.{sym, _∙_}
+use Rattle.index.proofs.Kit.{needs, arith, sym, _∙_}
 use mir.Facts.{toZ-ofZ}
 use Rattle.varint.proofs.CodeLaws.{size-neg, size-pos}
 use Rattle.varint.proofs.nat_abs.Statement.{statement}
@@ -10,9 +8,7 @@ use Rattle.varint.proofs.nat_abs.Tie as tie
 pub nat-abs-spec : {M : Type 1} → statement M
 nat-abs-spec =
     tie.close (tie.spec
-    (λ c κs. search needs)
-    (λ c κs. search needs)
-    (λ c. search needs)
+    (λ c κs. search needs) (λ c κs. search needs) (λ c. search needs)
     (λ c. let f = c .before .before .before .fits .n in
     omega (
       arith,

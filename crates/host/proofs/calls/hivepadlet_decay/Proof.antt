@@ -7,9 +7,6 @@ use Rattle.host.proofs.calls.hivepadlet_decay.Tie as tie
 
 pub hivepadlet-decay-spec : {M : Type 1} → statement M
 hivepadlet-decay-spec =
-    tie.close
-    (tie.spec
-    (λ c κs. search needs)
-    (λ c κs. few-actions _ _ _ _ _ _ (c .before .before .decay .ensures))
-    (λ c. search needs)
-    (λ c. hosts _ (c .before .before .before .decay .ensures) _ (c .code .ensures)))
+    tie.close (tie.spec
+    (λ c κs. search needs) (λ c κs. few-actions _ _ _ _ _ _ (c .before .before .decay .ensures))
+    (λ c. search needs) (λ c. hosts _ (c .before .before .before .decay .ensures) _ (c .code .ensures)))

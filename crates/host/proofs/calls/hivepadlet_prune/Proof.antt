@@ -7,9 +7,6 @@ use Rattle.host.proofs.calls.hivepadlet_prune.Tie as tie
 
 pub hivepadlet-prune-spec : {M : Type 1} → statement M
 hivepadlet-prune-spec =
-    tie.close
-    (tie.spec
-    (λ c κs. search needs)
-    (λ c κs. few-actions _ _ _ _ _ _ (c .before .before .prune .ensures))
-    (λ c. search needs)
-    (λ c. hosts _ (c .before .before .before .prune .ensures) _ (c .code .ensures)))
+    tie.close (tie.spec
+    (λ c κs. search needs) (λ c κs. few-actions _ _ _ _ _ _ (c .before .before .prune .ensures))
+    (λ c. search needs) (λ c. hosts _ (c .before .before .before .prune .ensures) _ (c .code .ensures)))

@@ -7,11 +7,8 @@ use Rattle.host.proofs.calls.hivepadlet_score.Tie as tie
 
 pub hivepadlet-score-spec : {M : Type 1} → statement M
 hivepadlet-score-spec =
-    tie.close
-    (tie.spec
-    (λ c κs. search needs)
-    (λ c κs. search needs)
-    (λ c κs. few-actions _ _ _ _ _ _ (c .before .before .before .before .score .ensures))
+    tie.close (tie.spec
+    (λ c κs. search needs) (λ c κs. search needs) (λ c κs. few-actions _ _ _ _ _ _ (c .before .before .before .before .score .ensures))
     (λ c. search needs)
     (λ c.
     let f = c .before .before .before .before .before .score .ensures in

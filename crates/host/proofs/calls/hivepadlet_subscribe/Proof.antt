@@ -7,9 +7,6 @@ use Rattle.host.proofs.calls.hivepadlet_subscribe.Tie as tie
 
 pub hivepadlet-subscribe-spec : {M : Type 1} → statement M
 hivepadlet-subscribe-spec =
-    tie.close
-    (tie.spec
-    (λ c κs. search needs)
-    (λ c κs. few-actions _ _ _ _ _ _ (c .before .before .subscribe .ensures))
-    (λ c. search needs)
-    (λ c. hosts _ (c .before .before .before .subscribe .ensures) _ (c .code .ensures)))
+    tie.close (tie.spec
+    (λ c κs. search needs) (λ c κs. few-actions _ _ _ _ _ _ (c .before .before .subscribe .ensures))
+    (λ c. search needs) (λ c. hosts _ (c .before .before .before .subscribe .ensures) _ (c .code .ensures)))

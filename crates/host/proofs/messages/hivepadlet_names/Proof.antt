@@ -6,10 +6,7 @@ use Rattle.host.proofs.messages.hivepadlet_names.Tie as tie
 
 pub hivepadlet-names-spec : {M : Type 1} → statement M
 hivepadlet-names-spec =
-    tie.close
-    (tie.spec
-    (λ c κs. search needs)
-    (λ c κs. search needs)
-    (λ c κs. search needs)
+    tie.close (tie.spec
+    (λ c κs. search needs) (λ c κs. search needs) (λ c κs. search needs)
     (λ c. names-told _ _ _ _ (c .before .before .names-ok .ensures) (c .before .if1 .taken) (c .packed .ensures))
     (λ c. names-told _ _ _ _ (c .before .before .names-ok .ensures) (c .before .if1 .left) (c .packed2 .ensures)))

@@ -1,20 +1,15 @@
 -- `host::hivepadlet_read_message` meets its contract. Assumes nothing.
-use borrow.Author.Needs.{needs}
-use native.Mathlib.Omega.{arith}
+use Rattle.index.proofs.Kit.{needs, arith}
 use Rattle.host.proofs.MessageLaws.{message-fits, hosts-message}
 use Rattle.host.proofs.messages.hivepadlet_read_message.Statement.{statement}
 use Rattle.host.proofs.messages.hivepadlet_read_message.Tie as tie
 
 pub hivepadlet-read-message-spec : {M : Type 1} → statement M
 hivepadlet-read-message-spec =
-    tie.close
-    (tie.spec
-    (λ c κs. search needs)
-    (λ c. search needs)
+    tie.close (tie.spec
+    (λ c κs. search needs) (λ c. search needs)
     (λ c κs. (omega arith, message-fits _ _ _ _ _ _ (c .before .before .before .before .before .read .ensures) (c .before .n .given .1)))
-    (λ c. search needs)
-    (λ c κs. search needs)
-    (λ c. search needs)
+    (λ c. search needs) (λ c κs. search needs) (λ c. search needs)
     (λ c κs.
     let e = c .before .before .before .before .before .read .ensures in
     let p = c .before .place .given .1 in

@@ -1,18 +1,13 @@
 -- `host::hivepadlet_fresh` meets its contract. Assumes nothing.
-use native.Mathlib.Omega.{arith}
-use borrow.Author.Needs.{needs}
+use Rattle.index.proofs.Kit.{arith, needs}
 use Rattle.host.proofs.HostLaws.{fresh-known, fresh-unknown}
 use Rattle.host.proofs.parameters.hivepadlet_fresh.Statement.{statement}
 use Rattle.host.proofs.parameters.hivepadlet_fresh.Tie as tie
 
 pub hivepadlet-fresh-spec : {M : Type 1} → statement M
 hivepadlet-fresh-spec =
-    tie.close
-    (tie.spec
-    (λ c κs. search needs)
-    (λ c. search needs)
-    (λ c. search needs)
-    (λ c κs. (omega arith, omega arith))
+    tie.close (tie.spec
+    (λ c κs. search needs) (λ c. search needs) (λ c. search needs) (λ c κs. (omega arith, omega arith))
     (λ c. fresh-unknown _ _ (c .before .before .before .edition-of .ensures) _ _ _ (c .before .enum-told .given .1) (c .packed .ensures))
     (λ c κs. search needs)
     (λ c. fresh-known _ _ (c .before .before .before .before .before .before .edition-of .ensures) _ _ _ _ _

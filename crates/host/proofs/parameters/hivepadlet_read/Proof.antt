@@ -1,18 +1,13 @@
 -- `host::hivepadlet_read` meets its contract. Assumes nothing.
-use native.Mathlib.Omega.{arith}
-use borrow.Author.Needs.{needs}
-use mathlib.Core.Path.{refl}
+use Rattle.index.proofs.Kit.{arith, needs, refl}
 use Rattle.host.proofs.HostLaws.{read-fits, hosts-read}
 use Rattle.host.proofs.parameters.hivepadlet_read.Statement.{statement}
 use Rattle.host.proofs.parameters.hivepadlet_read.Tie as tie
 
 pub hivepadlet-read-spec : {M : Type 1} → statement M
 hivepadlet-read-spec =
-    tie.close
-    (tie.spec
-    (λ c κs. search needs)
-    (λ c. search needs)
-    (λ c κs. search needs)
+    tie.close (tie.spec
+    (λ c κs. search needs) (λ c. search needs) (λ c κs. search needs)
     (λ c κs. (
       omega arith,
       read-fits _ _ _ (c .before .before .before .before .before .before .read .ensures) (c .before .before .verdict .given .1),

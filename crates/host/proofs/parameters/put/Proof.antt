@@ -1,22 +1,18 @@
 -- `host::put` meets its contract. Assumes nothing.
-use native.Mathlib.Omega.{arith}
-use borrow.Author.Needs.{needs}
+use Rattle.index.proofs.Kit.{arith, needs}
 use Rattle.host.proofs.HostLaws.{write-fits, hosts-write}
 use Rattle.host.proofs.parameters.put.Statement.{statement}
 use Rattle.host.proofs.parameters.put.Tie as tie
 
 pub put-spec : {M : Type 1} → statement M
 put-spec =
-    tie.close
-    (tie.spec
-    (λ c κs. search needs)
-    (λ c. search needs)
+    tie.close (tie.spec
+    (λ c κs. search needs) (λ c. search needs)
     (λ c κs. (
       omega arith,
       write-fits _ _ _ _ _ (c .before .before .before .before .before .write .ensures) (c .before .n .given .1) (search needs),
     ))
-    (λ c. search needs)
-    (λ c κs. (omega arith, omega arith))
+    (λ c. search needs) (λ c κs. (omega arith, omega arith))
     (λ c. search needs)
     (λ c κs. (
       omega arith,

@@ -1,19 +1,15 @@
 -- `host::export` meets its contract. Assumes nothing.
-use native.Mathlib.Omega.{arith}
-use borrow.Author.Needs.{needs}
+use Rattle.index.proofs.Kit.{arith, needs}
 use Rattle.host.proofs.SupplierLaws.{export-fits, hosts-export}
 use Rattle.host.proofs.supplier.export.Statement.{statement}
 use Rattle.host.proofs.supplier.export.Tie as tie
 
 pub export-spec : {M : Type 1} → statement M
 export-spec =
-    tie.close
-    (tie.spec
-    (λ c κs. search needs)
-    (λ c. search needs)
+    tie.close (tie.spec
+    (λ c κs. search needs) (λ c. search needs)
     (λ c κs. (omega arith, export-fits _ _ _ _ _ (c .before .before .before .before .before .export .ensures) (c .before .n .given .1)))
-    (λ c. search needs)
-    (λ c κs. (omega arith, omega arith))
+    (λ c. search needs) (λ c κs. (omega arith, omega arith))
     (λ c. search needs)
     (λ c κs. (omega arith, export-fits _ _ _ _ _ (c .before .before .before .before .before .export .ensures) (c .before .i .given .1)))
     (λ c. search needs)

@@ -1,25 +1,15 @@
 -- `host::hivepadlet_import` meets its contract. Assumes nothing.
-use native.Mathlib.Omega.{arith}
-use mathlib.Core.Path.{refl}
-use borrow.Author.Needs.{needs}
+use Rattle.index.proofs.Kit.{arith, refl, needs}
 use Rattle.host.proofs.SupplierLaws.{hosts-import}
 use Rattle.host.proofs.supplier.hivepadlet_import.Statement.{statement}
 use Rattle.host.proofs.supplier.hivepadlet_import.Tie as tie
 
 pub hivepadlet-import-spec : {M : Type 1} → statement M
 hivepadlet-import-spec =
-    tie.close
-    (tie.spec
-    (λ c κs. search needs)
-    (λ c. search needs)
-    (λ c κs. search needs)
-    (λ c κs. (omega arith, c .told .ensures .1))
-    (λ c. search needs)
-    (λ c κs. search needs)
-    (λ c κs. (omega arith, c .told2 .ensures .1))
-    (λ c. search needs)
-    (λ c κs. search needs)
-    (λ c κs. (omega arith, c .told3 .ensures .1))
+    tie.close (tie.spec
+    (λ c κs. search needs) (λ c. search needs) (λ c κs. search needs) (λ c κs. (omega arith, c .told .ensures .1))
+    (λ c. search needs) (λ c κs. search needs) (λ c κs. (omega arith, c .told2 .ensures .1))
+    (λ c. search needs) (λ c κs. search needs) (λ c κs. (omega arith, c .told3 .ensures .1))
     (λ c. hosts-import _ _ _ (c .before .before .before .before .before .before .before .import .ensures)
     (c .before .before .before .verdict .given .1) _ _ _ _ (c .before .told .ensures .0) (c .packed .ensures) refl)
     (λ c. hosts-import _ _ _ (c .before .before .before .before .before .before .before .import .ensures)

@@ -1,22 +1,15 @@
 -- `host::hivepadlet_write_message` meets its contract. Assumes nothing.
-use borrow.Author.Needs.{needs}
-use native.Mathlib.Omega.{arith}
+use Rattle.index.proofs.Kit.{needs, arith}
 use Rattle.host.proofs.WritingLaws.{write-fits, hosts-written}
 use Rattle.host.proofs.writing.hivepadlet_write_message.Statement.{statement}
 use Rattle.host.proofs.writing.hivepadlet_write_message.Tie as tie
 
 pub hivepadlet-write-message-spec : {M : Type 1} → statement M
 hivepadlet-write-message-spec =
-    tie.close
-    (tie.spec
-    (λ c κs. search needs)
-    (λ c. search needs)
+    tie.close (tie.spec
+    (λ c κs. search needs) (λ c. search needs)
     (λ c κs. (omega arith, write-fits _ _ _ _ _ _ _ _ (c .before .before .before .before .before .write .ensures) (c .before .n .given .1)))
-    (λ c. search needs)
-    (λ c κs. search needs)
-    (λ c. search needs)
-    (λ c κs. search needs)
-    (λ c. search needs)
+    (λ c. search needs) (λ c κs. search needs) (λ c. search needs) (λ c κs. search needs) (λ c. search needs)
     (λ c. hosts-written _ _ _ _ _ _ _ _ (c .before .before .before .before .before .before .write .ensures)
     (c .before .before .n .given .1) _ (c .packed .ensures))
     (λ c. search needs)

@@ -15,14 +15,6 @@ abbrev μ-loop : tie.MeasureT-loop
 
 pub find-spec : {M : Type 1} → statement M
 find-spec =
-    tie.close
-    (tie.spec
-    Inv-loop
-    μ-loop
-    (λ c. search auto)
-    (λ c κs. search auto)
-    (λ c. search auto)
-    (λ c. search auto)
-    (λ c. search auto)
-    (λ c. search auto)
+    tie.close (tie.spec
+    Inv-loop μ-loop (λ c. search auto) (λ c κs. search auto) (λ c. search auto) (λ c. search auto) (λ c. search auto) (λ c. search auto)
     (λ c. search auto))

@@ -5,8 +5,4 @@ use Rattle.lookup.proofs.find.find_retained.Tie as tie
 
 pub find-retained-spec : {M : Type 1} → statement M
 unfolding findRetained
-find-retained-spec =
-    tie.close
-    (tie.spec
-    (λ c κs. search needs)
-    (λ c. search needs))
+find-retained-spec = tie.close (tie.spec (λ c κs. search needs) (λ c. search needs))

@@ -5,9 +5,4 @@ use Rattle.lookup.proofs.find.holds.Tie as tie
 
 pub holds-spec : {M : Type 1} → statement M
 unfolding holds
-holds-spec =
-    tie.close
-    (tie.spec
-    (λ c κs. search needs)
-    (λ c κs. search needs)
-    (λ c. cc))
+holds-spec = tie.close (tie.spec (λ c κs. search needs) (λ c κs. search needs) (λ c. cc))

@@ -16,14 +16,6 @@ abbrev μ-loop : tie.MeasureT-loop
 pub lowest-empty-spec : {M : Type 1} → statement M
 unfolding lowestEmpty
 lowest-empty-spec =
-    tie.close
-    (tie.spec
-    Inv-loop
-    μ-loop
-    (λ c. search auto)
-    (λ c κs. search auto)
-    (λ c. search auto)
-    (λ c. search auto)
-    (λ c. search auto)
-    (λ c. search auto)
+    tie.close (tie.spec
+    Inv-loop μ-loop (λ c. search auto) (λ c κs. search auto) (λ c. search auto) (λ c. search auto) (λ c. search auto) (λ c. search auto)
     (λ c. search auto))

@@ -5,12 +5,8 @@ use Rattle.lookup.proofs.fresh.fresh.Tie as tie
 
 pub fresh-spec : {M : Type 1} → statement M
 fresh-spec =
-    tie.close
-    (tie.spec
-    (λ c κs. search needs)
-    (λ c. search needs)
-    (λ c. search needs)
-    (λ c κs. search needs)
+    tie.close (tie.spec
+    (λ c κs. search needs) (λ c. search needs) (λ c. search needs) (λ c κs. search needs)
     (λ c.
     let s = c .before .before .before .before .before in
     let b = c .before .before .before .first-broken in

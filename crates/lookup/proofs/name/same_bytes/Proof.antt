@@ -14,16 +14,8 @@ abbrev μ-loop : tie.MeasureT-loop
 
 pub same-bytes-spec : {M : Type 1} → statement M
 same-bytes-spec =
-    tie.close
-    (tie.spec
-    Inv-loop
-    μ-loop
-    (λ c. search other-length)
-    (λ c. search auto)
-    (λ c. search needs)
-    (λ c. search needs)
-    (λ c. search other-byte)
-    (λ c. search needs)
-    (λ c. search needs)
-    (λ c. search (same-byte, auto))
+    tie.close (tie.spec
+    Inv-loop μ-loop (λ c. search other-length)
+    (λ c. search auto) (λ c. search needs) (λ c. search needs) (λ c. search other-byte)
+    (λ c. search needs) (λ c. search needs) (λ c. search (same-byte, auto))
     (λ c. search all-bytes))

@@ -6,10 +6,7 @@ use Rattle.lookup.proofs.name.version_of.Tie as tie
 
 pub version-of-spec : {M : Type 1} → statement M
 version-of-spec =
-    tie.close
-    (tie.spec
-    (λ c κs. search needs)
-    (λ c. search (first-name, flags))
-    (λ c κs. search needs)
-    (λ c. search (second-name, flags))
+    tie.close (tie.spec
+    (λ c κs. search needs) (λ c. search (first-name, flags))
+    (λ c κs. search needs) (λ c. search (second-name, flags))
     (λ c. search (no-name, flags)))

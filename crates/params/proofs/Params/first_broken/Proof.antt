@@ -1,6 +1,5 @@
 -- `params::Params::first_broken`: the parameters of the codes are the parameters. Assumes nothing.
-use borrow.Author.Needs.{needs}
-use mathlib.Core.Path.{_∙_, ap}
+use Rattle.index.proofs.Kit.{needs, _∙_, ap}
 use Rattle.params.specs.Editions.{coded}
 use Rattle.params.specs.Check.{firstBroken}
 use Rattle.params.proofs.CheckLaws.{coded-back}
@@ -13,9 +12,4 @@ returns c =
     c .first-broken-code .ensures ∙ ap firstBroken (ap (coded (p .edition)) (c .before .before .codes-of .ensures) ∙ coded-back p)
 
 pub first-broken-spec : {M : Type 1} → statement M
-first-broken-spec =
-    tie.close (tie.spec
-    (λ c κs. search needs)
-    (λ c. search needs)
-    (λ c κs. search needs)
-    returns)
+first-broken-spec = tie.close (tie.spec (λ c κs. search needs) (λ c. search needs) (λ c κs. search needs) returns)

@@ -1,6 +1,5 @@
 -- `params::joint::caps` meets its contract. Assumes nothing.
-use Rattle.index.proofs.Kit.{_≤_, _-_, _≡_, arith, every}
-use borrow.Author.Needs.{needs}
+use Rattle.index.proofs.Kit.{_≤_, _-_, _≡_, arith, every, needs}
 use mathlib.Core.List.{map}
 use Rattle.varint.specs.Codes.{numberOf}
 use Rattle.records.specs.Records.{topicCount}
@@ -18,19 +17,9 @@ abbrev μ-loop : tie.MeasureT-loop
 pub caps-spec : {M : Type 1} → statement M
 caps-spec =
     tie.close (tie.spec
-    Inv-loop
-    μ-loop
-    (λ c. (search needs, every-start _))
-    (λ c. omega arith)
-    (λ c. omega arith)
-    (λ c. omega arith)
-    (λ c. omega arith)
-    (λ c. omega arith)
-    (λ c. omega arith)
-    (λ c. omega arith)
-    (λ c. omega arith)
-    (λ c. omega arith)
-    (λ c. omega arith)
+    Inv-loop μ-loop (λ c. (search needs, every-start _))
+    (λ c. omega arith) (λ c. omega arith) (λ c. omega arith) (λ c. omega arith) (λ c. omega arith) (λ c. omega arith) (λ c. omega arith)
+    (λ c. omega arith) (λ c. omega arith) (λ c. omega arith)
     (λ c. let l = c .before .before .before .loop in (
       omega arith,
       every-and _ _ _ _ (l .inv .1)

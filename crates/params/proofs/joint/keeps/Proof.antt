@@ -1,6 +1,5 @@
 -- `params::joint::keeps`: each arm is a rule of codes, which is that of the numbers. Assumes nothing.
-use native.Mathlib.Omega.{arith}
-use mathlib.Core.Path.{_≡_, _∙_}
+use Rattle.index.proofs.Kit.{arith, _≡_, _∙_}
 use mathlib.Core.List.{map}
 use Rattle.varint.specs.Codes.{numberOf}
 use Rattle.params.proofs.CodeRules.{le-lo, le-hi, lt-lo, twice-out, score-is, le-gossip, lt-publish, caps-are, out-small, rule-at}
@@ -63,20 +62,11 @@ returns-8 c =
 pub keeps-spec : {M : Type 1} → statement M
 keeps-spec =
     tie.close (tie.spec
-    (λ c. omega arith)
-    (λ c. omega arith)
-    (λ c. omega arith)
-    (λ c. omega arith)
-    (λ c. omega arith)
-    (λ c. omega arith)
-    (λ c. omega arith)
+    (λ c. omega arith) (λ c. omega arith) (λ c. omega arith) (λ c. omega arith) (λ c. omega arith) (λ c. omega arith) (λ c. omega arith)
     (λ c. let s = c .before .before .before in omega (arith, out-small (s .args .codes .now) (s .pre .1)))
     (λ c. omega arith)
     (λ c κs. let s = c .before .before in (s .pre .0, s .pre .1))
-    (λ c. omega arith)
-    (λ c. omega arith)
-    (λ c. omega arith)
-    (λ c. omega arith)
+    (λ c. omega arith) (λ c. omega arith) (λ c. omega arith) (λ c. omega arith)
     (λ c κs. let s = c .before .before in (s .pre .0, s .pre .1))
     returns
     returns-2
