@@ -1,2 +1,3 @@
 pub mod IdleLaws
+pub mod WeightLaws
 pub mod BucketLaws

@@ -7,7 +7,6 @@ use mathlib.Core.List.{List}
 use lib.Dec.{eqb}
 use lib.ListN.{length, getD}
 use Rattle.index.specs.Index.{one, count}
-use Rattle.records.specs.declared.Peer.{Peer}
 use Rattle.records.specs.Records.{State, slotCount, peerIn}
 use Rattle.validity.specs.Valid.{maxId}
 use Rattle.layout.specs.View.{stateOf}
@@ -15,7 +14,8 @@ use Rattle.score.specs.declared.Balance.{Balance}
 use Rattle.score.specs.Ranges.{BalanceIn}
 use Rattle.score.specs.Parts.{surplusOf}
 use Rattle.score.specs.Score.{sharesGroup, sharing, Scores}
-use Rattle.peer_score.specs.Standing.{Standing, PeerStanding}
+use Rattle.peer_score.specs.Standing.{Standing, SlotStanding}
+use Rattle.peer_score.specs.Weights.{Weights}
 
 -- any number will do
 abbrev pub bucketCount : ℕ
@@ -72,10 +72,11 @@ pub record Asking (table heads same others : List ℕ) (group : ℕ) : Type 0 wh
   pub buckets : Counted table heads same others
   pub fits : group ≤ maxId
 
--- a peer, asked of the buckets
-pub record Among (table heads same others : List ℕ) (s : ℕ) (p : Peer) : Type 0 where
-  pub peer : PeerStanding table s p
+-- a slot, asked of the buckets and of the weights
+pub record Among (table heads same others w2 w3b w4 : List ℕ) (s : ℕ) : Type 0 where
+  pub at : SlotStanding table s
   pub buckets : Counted table heads same others
+  pub weights : Weights (stateOf table) w2 w3b w4
 
 -- b is the score of every empty slot
 pub record EmptyScore (st : State) (b : Balance) : Type 0 where
