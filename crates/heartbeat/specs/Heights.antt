@@ -5,12 +5,9 @@ use mathlib.Core.List.{List}
 use Rattle.records.specs.Records.{slotCount, peerIn}
 use Rattle.layout.specs.View.{stateOf}
 use Rattle.rules.specs.Step.{heightIn}
-use Rattle.peer_score.specs.Standing.{Standing}
-use Rattle.peer_score.specs.Buckets.{Counted}
+use Rattle.peer_score.specs.Buckets.{Among}
 
--- the connected peers counted by group, and the score of an empty slot
-pub record HeightAt (table heads same others : List ℕ) (none s : ℕ) : Type 0 where
-  pub standing : Standing table
-  pub buckets : Counted table heads same others
+-- the connected peers counted by group, the weights, and the score of an empty slot
+pub record HeightAt (table heads same others w2 w3b w4 : List ℕ) (none s : ℕ) : Type 0 where
+  pub among : Among table heads same others w2 w3b w4 s
   pub empty : (k : ℕ) → k < slotCount → peerIn (stateOf table) k .status ≡ 0 → none ≡ heightIn (stateOf table) k
-  pub slot : s < slotCount

@@ -1,5 +1,5 @@
 // The scores of all slots, as at the call's start. The connected peers are counted by group once, in buckets, so that no two peers need be
-// compared; empty slots share one score.
+// compared; the topics' weights are multiplied out once; empty slots share one score.
 ghost use mathlib.Core.Path.{_≡_};
 ghost use Rattle.records.specs.Records.{slotCount};
 ghost use Rattle.layout.specs.View.{stateOf};
@@ -11,7 +11,10 @@ use peer_score::buckets::BUCKETS;
 use peer_score::buckets::count_groups;
 use peer_score::buckets::empty_score;
 use peer_score::buckets::score_among;
+use peer_score::weights::weights;
 use records::SLOTS;
+use records::TOPICS;
+use records::param;
 use score::sums::offset;
 
 // The score of the peer in a slot, moved up so that none is negative.
@@ -20,17 +23,19 @@ fn height(
     heads: &[u32; BUCKETS],
     same: &[u16; BUCKETS],
     others: &[u16; BUCKETS],
+    w2: &[u64; TOPICS],
+    w3b: &[u64; TOPICS],
+    w4: &[u64; TOPICS],
     none: u64,
     slot: usize,
 ) -> u64
-    requires { ⌜ HeightAt (now table) (now heads) (now same) (now others) none slot ⌝ }
+    requires { ⌜ HeightAt (now table) (now heads) (now same) (now others) (now w2) (now w3b) (now w4) none slot ⌝ }
     ensures { λ r. ⌜ r ≡ heightIn (stateOf (now (table .entry))) slot ⌝ }
 {
-    let p = layout::load_peer(table, slot);
-    if p.status == 0 {
+    if layout::load_status(table, slot) == 0 {
         return none;
     }
-    offset(score_among(table, heads, same, others, slot, p))
+    offset(score_among(table, heads, same, others, w2, w3b, w4, slot))
 }
 
 // The scores.
@@ -43,9 +48,12 @@ pub fn scores(table: &[u64]) -> [u64; SLOTS]
     let mut others: [u16; BUCKETS] = [0; BUCKETS];
     count_groups(table, &mut heads, &mut same, &mut others);
     let none = offset(empty_score(table));
+    let w2 = weights(table, param::W2);
+    let w3b = weights(table, param::W3B);
+    let w4 = weights(table, param::W4);
     let mut r = [0; SLOTS];
     for s in 0..SLOTS {
-        r[s] = height(table, &heads, &same, &others, none, s);
+        r[s] = height(table, &heads, &same, &others, &w2, &w3b, &w4, none, s);
     }
     r
 }

@@ -1,5 +1,5 @@
 // Leave, one of 01's calls: every member of the topic is pruned, by slot.
-ghost use Rattle.records.specs.Records.{slotCount};
+ghost use Rattle.records.specs.Records.{slotCount, topicCount};
 ghost use mathlib.Core.Path.{_≡_};
 ghost use mathlib.Core.Bool.{false};
 ghost use Prim.Native.Nat.{ℕ, _<_};
@@ -8,8 +8,8 @@ ghost use Rattle.layout.specs.View.{stateOf};
 ghost use Rattle.rules.specs.Calls.{leave as Calls·leave};
 ghost use Rattle.rules.specs.Step.{leaveReply};
 ghost use Rattle.rules.specs.Promise.{Gives, Follows};
-ghost use Rattle.peer_score.specs.Standing.{TopicStanding, PlaceStanding};
-ghost use Rattle.peer_score.specs.Buckets.{Counted};
+ghost use Rattle.peer_score.specs.Standing.{TopicStanding};
+ghost use Rattle.peer_score.specs.Buckets.{Among};
 ghost use Rattle.gate.specs.Ready.{TopicLent};
 ghost use Rattle.leaving.specs.Slots.{isNegativeMember, grownIf, Turn, LeaveTurn, Turned, Walk, Walked};
 use effects::actions::put_prune;
@@ -26,7 +26,9 @@ use layout::CELLS;
 use peer_score::buckets::BUCKETS;
 use peer_score::buckets::count_groups;
 use peer_score::buckets::score_among;
+use peer_score::weights::weights;
 use records::SLOTS;
+use records::TOPICS;
 use records::param;
 use rules::Answer;
 use rules::Gate;
@@ -38,21 +40,23 @@ fn is_negative_member(
     heads: &[u32; BUCKETS],
     same: &[u16; BUCKETS],
     others: &[u16; BUCKETS],
+    w2: &[u64; TOPICS],
+    w3b: &[u64; TOPICS],
+    w4: &[u64; TOPICS],
     topic: usize,
     slot: usize,
 ) -> bool
-    requires { ⌜ PlaceStanding (now table) topic slot × Counted (now table) (now heads) (now same) (now others) ⌝ }
+    requires { ⌜ (topic < topicCount) × Among (now table) (now heads) (now same) (now others) (now w2) (now w3b) (now w4) slot ⌝ }
     ensures { λ r. ⌜ r ≡ isNegativeMember (stateOf (now (table .entry))) topic slot ⌝ }
 {
     if !is_member(table, topic, slot) {
         return false;
     }
-    let p = layout::load_peer(table, slot);
-    is_negative(score_among(table, heads, same, others, slot, p))
+    is_negative(score_among(table, heads, same, others, w2, w3b, w4, slot))
 }
 
 // Which members score below zero; taken before anything changes, since the rule speaks of the call's start. The connected peers are
-// counted by group once, for all members.
+// counted by group and the weights multiplied out once, for all members.
 fn negatives(table: &[u64], topic: usize) -> [bool; SLOTS]
     requires { ⌜ TopicStanding (now table) topic ⌝ }
     ensures { λ r. ⌜ ((s : ℕ) → s < slotCount → getD r s false ≡ isNegativeMember (stateOf (now (table .entry))) topic s) ⌝ }
@@ -61,10 +65,23 @@ fn negatives(table: &[u64], topic: usize) -> [bool; SLOTS]
     let mut same: [u16; BUCKETS] = [0; BUCKETS];
     let mut others: [u16; BUCKETS] = [0; BUCKETS];
     count_groups(table, &mut heads, &mut same, &mut others);
+    let w2 = weights(table, param::W2);
+    let w3b = weights(table, param::W3B);
+    let w4 = weights(table, param::W4);
     let mut flags = [false; SLOTS];
     let mut slot: usize = 0;
     while slot < SLOTS {
-        flags[slot] = is_negative_member(table, &heads, &same, &others, topic, slot);
+        flags[slot] = is_negative_member(
+            table,
+            &heads,
+            &same,
+            &others,
+            &w2,
+            &w3b,
+            &w4,
+            topic,
+            slot,
+        );
         slot += 1;
     }
     flags

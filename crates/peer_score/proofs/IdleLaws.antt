@@ -1,19 +1,17 @@
 -- An idle record: its numbers by name, and its share of a score, which is nothing.
 -- Assumes nothing.
 use Prim.Native.Nat.{ℕ, _+_, _*_}
-use mathlib.Core.Path.{_≡_, refl, sym, ap₂, _∙_}
-use mathlib.Core.Bool.{Bool, true, false}
+use mathlib.Core.Path.{_≡_, refl, ap₂}
+use mathlib.Core.Bool.{true, false}
 use native.Mathlib.Omega.{arith}
 use lib.Dec.{eqb}
 use borrow.Author.Tests.{eqb-true, not-true}
 use Rattle.index.proofs.Index.{both}
 use Rattle.records.specs.declared.TopicRecord.{TopicRecord}
-use Rattle.records.specs.Records.{State, noTopic, place, topicIn}
+use Rattle.records.specs.Records.{noTopic}
 use Rattle.score.specs.declared.TopicParams.{TopicParams}
 use Rattle.score.specs.Parts.{part1Of, part2Of, part3Of, part4Of}
-use Rattle.score.specs.Ranges.{ShareIn}
 use Rattle.score.specs.Sums.{shareOf, noBalance}
-use Rattle.score.specs.Score.{topicParamsIn, shareAt}
 use Rattle.peer_score.specs.Idle.{isIdle}
 
 pub record Idle (r : TopicRecord) : Type 0 where
@@ -68,16 +66,3 @@ module _ (t : TopicParams) (r : TopicRecord) (i : Idle r) where
       let gain : 0 ≡ t .weight * (t .w1 * part1Of t r + t .w2 * part2Of r) = rw (idle-1, idle-2) (omega arith) in
       let loss = nothing (t .weight) (t .w3) (t .w3b) (t .w4) _ _ _ idle-3 (i .p3b) idle-4 in
       ap₂ (λ (g l : ℕ). record { gain = g; loss = l }) gain loss
-
--- in the form in which the return of `share_at` asks it
-pub share-idle :
-    (st : State) (s t : ℕ) (r : TopicRecord) (b : Bool) →
-    r ≡ topicIn st (place s t) →
-    b ≡ isIdle r →
-    b ≡ true →
-    (record { gain = 0; loss = 0 } ≡ shareAt st s t) × ShareIn (record { gain = 0; loss = 0 })
-unfolding shareAt
-share-idle st s t r b er eb e = (
-  rw (← er) (idle-share (topicParamsIn st t) r (idle-of r (sym eb ∙ e))),
-  record { gain = omega arith; loss = omega arith },
-)

@@ -1,3 +1,4 @@
 pub mod IdleLaws
+pub mod WeightLaws
 pub mod BucketLaws
 pub mod SharingLaws

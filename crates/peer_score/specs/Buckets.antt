@@ -10,7 +10,6 @@ use lib.Dec.{eqb}
 use lib.ListN.{length, getD}
 use Rattle.index.specs.Index.{one, count}
 use Rattle.records.specs.declared.Groups.{Groups}
-use Rattle.records.specs.declared.Peer.{Peer}
 use Rattle.records.specs.Records.{State, slotCount, peerIn}
 use Rattle.validity.specs.Valid.{maxGroup, risingOk}
 use Rattle.layout.specs.View.{stateOf}
@@ -19,7 +18,8 @@ use Rattle.score.specs.declared.Balance.{Balance}
 use Rattle.score.specs.Ranges.{BalanceIn}
 use Rattle.score.specs.Parts.{surplusOf}
 use Rattle.score.specs.Score.{sharesGroup, sharing, sharingAt, Scores}
-use Rattle.peer_score.specs.Standing.{Standing, PeerStanding}
+use Rattle.peer_score.specs.Standing.{Standing, SlotStanding}
+use Rattle.peer_score.specs.Weights.{Weights}
 
 -- any number will do
 abbrev pub bucketCount : ℕ
@@ -97,10 +97,11 @@ pub record AskingAll (table heads same others : List ℕ) (g : Groups) : Type 0 
   pub buckets : Counted table heads same others
   pub rising : risingOk g ≡ true
 
--- a peer, asked of the buckets
-pub record Among (table heads same others : List ℕ) (s : ℕ) (p : Peer) : Type 0 where
-  pub peer : PeerStanding table s p
+-- a slot, asked of the buckets and of the weights
+pub record Among (table heads same others w2 w3b w4 : List ℕ) (s : ℕ) : Type 0 where
+  pub at : SlotStanding table s
   pub buckets : Counted table heads same others
+  pub weights : Weights (stateOf table) w2 w3b w4
 
 -- b is the score of every empty slot
 pub record EmptyScore (st : State) (b : Balance) : Type 0 where

@@ -1,3 +1,4 @@
 pub mod Standing
 pub mod Idle
+pub mod Weights
 pub mod Buckets

@@ -13,10 +13,10 @@ ghost use Rattle.peer_score.specs.Buckets.{Counting, Together, Gathered,
 ghost use Rattle.score.specs.Score.{Scores};
 use crate::load_general;
 use crate::sharing_of;
-use crate::topics_at;
+use crate::weights::topics_at;
 use records::Groups;
-use records::Peer;
 use records::SLOTS;
+use records::TOPICS;
 use score::Balance;
 use score::Sharers;
 use score::sums;
@@ -169,21 +169,24 @@ fn gather(
     }
 }
 
-// The score of the peer in a slot, whose record is p.
+// The score of the peer in a slot.
 pub fn score_among(
     table: &[u64],
     heads: &[u32; BUCKETS],
     same: &[u16; BUCKETS],
     others: &[u16; BUCKETS],
+    w2: &[u64; TOPICS],
+    w3b: &[u64; TOPICS],
+    w4: &[u64; TOPICS],
     slot: usize,
-    p: Peer,
 ) -> Balance
-    requires { ⌜ Among (now table) (now heads) (now same) (now others) slot p ⌝ }
+    requires { ⌜ Among (now table) (now heads) (now same) (now others) (now w2) (now w3b) (now w4) slot ⌝ }
     ensures { λ r. ⌜ Scores (stateOf (now (table .entry))) slot r ⌝ }
 {
+    let p = layout::load_peer(table, slot);
     let g = load_general(table);
     let n = gather(table, heads, same, others, g.threshold, p.groups);
-    sums::total(sums::parts(g, topics_at(table, slot), p.p5, n, p.p7))
+    sums::total(sums::parts(g, topics_at(table, w2, w3b, w4, slot), p.p5, n, p.p7))
 }
 
 // The score of an empty slot: it is the same in all of them, and most slots are empty in a small network.

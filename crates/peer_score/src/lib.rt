@@ -2,26 +2,27 @@
 // whole.
 // What a score depends on is specs/Score.antt.
 pub mod buckets;
+pub mod weights;
 
 ghost use mathlib.Core.Path.{_≡_};
 ghost use Prim.Native.Nat.{_≤_};
 ghost use lib.ListN.{length};
 ghost use Rattle.index.specs.Index.{one};
 ghost use Rattle.layout.specs.View.{cellCount, stateOf};
-ghost use Rattle.records.specs.Records.{topicCount, slotCount, holdsGroup};
+ghost use Rattle.records.specs.Records.{slotCount, holdsGroup};
 ghost use Rattle.effects.specs.Lent.{AtTopic, AtSlot};
 ghost use Rattle.limits.specs.Limits.{place as topicPlace};
-ghost use Rattle.score.specs.Ranges.{ShareIn, TopicsIn, PartsIn};
-ghost use Rattle.score.specs.Sums.{sumOf};
+ghost use Rattle.score.specs.Ranges.{PartsIn};
 ghost use Rattle.score.specs.Score.{magnitudeIn, topicParamsIn, scoreParamsIn, sharesGroup, sharing, sharingAt, sharersOf};
-ghost use Rattle.score.specs.Score.{shareAt, partsAt, whyIn, Scores};
-ghost use Rattle.peer_score.specs.Standing.{SlotStanding, PlaceStanding, PeerStanding, AtTopicParam};
+ghost use Rattle.score.specs.Score.{partsAt, whyIn, Scores};
+ghost use Rattle.peer_score.specs.Standing.{PeerStanding, AtTopicParam};
 ghost use Rattle.peer_score.specs.Idle.{isIdle};
+use crate::weights::topics_at;
+use crate::weights::weights;
 use effects::slots::load_magnitude;
 use records::Groups;
 use records::Peer;
 use records::SLOTS;
-use records::TOPICS;
 use records::TopicRecord;
 use records::param;
 use score::Balance;
@@ -31,7 +32,6 @@ use score::Sharers;
 use score::TopicParams;
 use score::Why;
 use score::sums;
-use score::topic;
 
 // Topic t's j-th parameter.
 fn load_param(table: &[u64], t: usize, j: usize) -> u64
@@ -147,45 +147,17 @@ pub fn is_idle(r: TopicRecord) -> bool
     (r.p2 == 0) & ((r.p3 == 0) & ((r.p4 == 0) & ((r.p3b == 0) & !(r.member == 1))))
 }
 
-// One topic's share of the score of the peer in a slot. Of an idle record it is nothing, and the parameters are not read.
-fn share_at(table: &[u64], t: usize, slot: usize) -> Balance
-    requires { ⌜ PlaceStanding (now table) t slot ⌝ }
-    ensures { λ r. ⌜ (r ≡ shareAt (stateOf (now (table .entry))) slot t) × ShareIn r ⌝ }
-{
-    let r = layout::load_topic(table, slot * 8 + t);
-    if is_idle(r) {
-        return Balance { gain: 0, loss: 0 };
-    }
-    topic::share(load_params(table, t), r)
-}
-
-// The shares of all topics, added.
-fn topics_at(table: &[u64], slot: usize) -> Balance
-    requires { ⌜ SlotStanding (now table) slot ⌝ }
-    ensures { λ r. ⌜ (r ≡ sumOf topicCount (shareAt (stateOf (now (table .entry))) slot)) × TopicsIn r ⌝ }
-{
-    let mut sum = Balance { gain: 0, loss: 0 };
-    let mut t: usize = 0;
-    while t < TOPICS {
-        sum = sums::add(sum, share_at(table, t, slot));
-        t += 1;
-    }
-    sum
-}
-
 // The parts of the score of the peer in a slot, whose record is p.
 pub fn score_parts(table: &[u64], slot: usize, p: Peer) -> Parts
     requires { ⌜ PeerStanding (now table) slot p ⌝ }
     ensures { λ r. ⌜ (r ≡ partsAt (stateOf (now (table .entry))) slot) × PartsIn r ⌝ }
 {
+    let w2 = weights(table, param::W2);
+    let w3b = weights(table, param::W3B);
+    let w4 = weights(table, param::W4);
     let sharers = sharers_of(table, p.groups);
-    sums::parts(
-        load_general(table),
-        topics_at(table, slot),
-        p.p5,
-        sharers,
-        p.p7,
-    )
+    let topics = topics_at(table, &w2, &w3b, &w4, slot);
+    sums::parts(load_general(table), topics, p.p5, sharers, p.p7)
 }
 
 // The score of the peer in a slot and its parts, as the host gets them.

@@ -14,5 +14,4 @@ is-negative-member-spec =
     (λ c. search (no-member, failed))
     (λ c κs. search needs)
     (λ c κs. search needs)
-    (λ c κs. search needs)
     (λ c. search (of-member, passed, negative-of)))

@@ -6,32 +6,38 @@ use Rattle.index.proofs.Lists.{Built, built-none, built-more}
 use Rattle.sets.proofs.SlotLaws.{slots-built}
 use Rattle.rules.specs.Step.{heightIn}
 use Rattle.rules.proofs.HeartbeatLaws.{height-of}
+use Rattle.peer_score.proofs.WeightLaws.{weighing-p2, weighing-p3b, weighing-p4}
 use Rattle.peer_score.proofs.BucketLaws.{tells-none}
 use Rattle.heartbeat.proofs.scores.scores.Statement.{statement}
 use Rattle.heartbeat.proofs.scores.scores.Tie as tie
 
 abbrev Inv-loop : tie.InvT-loop
-Inv-loop table heads same others none r₀ s₀ r s = Built 0 (heightIn (stateOf table)) slotCount s r
+Inv-loop table heads same others none w2 w3b w4 r₀ s₀ r s = Built 0 (heightIn (stateOf table)) slotCount s r
 
 abbrev μ-loop : tie.MeasureT-loop
-μ-loop table heads same others none r₀ s₀ r s = slotCount - s
+μ-loop table heads same others none w2 w3b w4 r₀ s₀ r s = slotCount - s
 
 height-requires : tie.Need-height-requires Inv-loop μ-loop
 height-requires c κs =
-    let t = c .before .before .before in
-    let o = t .before .before in
+    let t = c .before .before .before .before .before .before in
+    let four = t .before .before in
+    let three = four .before in
+    let two = three .before in
+    let o = two .before in
     let e = o .before in
     let g = e .before .before .before .before in
     record {
-      standing = g .before .before .before .before .before .pre;
-      buckets = g .count-groups .ensures;
+      among = record {
+        at = record { standing = g .before .before .before .before .before .pre; slot = t .loop-test .taken };
+        buckets = g .count-groups .ensures;
+        weights = record { p2 = two .weights .ensures; p3b = three .weights2 .ensures; p4 = four .weights3 .ensures };
+      };
       empty = λ k h z. o .offset .ensures ∙ height-of _ _ _ (e .empty-score .ensures .score k h z);
-      slot = t .loop-test .taken;
     }
 
 loop-again : tie.Need-loop-again Inv-loop μ-loop
 loop-again c =
-    let l = c .before .before .before .before .before .loop in
+    let l = c .before .before .before .before .before .before .before .before .loop in
     built-more _ _ _ (l .s) (l .r) _ (omega arith) (l .inv) (c .height .ensures)
 
 pub scores-spec : {M : Type 1} → statement M
@@ -43,6 +49,9 @@ scores-spec =
     (λ c κs. (c .before .before .before .before .pre, tells-none))
     (λ c κs. c .before .before .before .before .before .before .before .before .pre)
     (λ c κs. c .empty-score .ensures .range)
+    (λ c κs. weighing-p2 _ (c .before .before .before .before .before .before .before .before .before .before .pre))
+    (λ c κs. weighing-p3b _ (c .before .before .before .before .before .before .before .before .before .before .before .pre))
+    (λ c κs. weighing-p4 _ (c .before .before .before .before .before .before .before .before .before .before .before .before .pre))
     (λ c. built-none _ _ _ _ refl)
     height-requires
     (λ c. omega arith)

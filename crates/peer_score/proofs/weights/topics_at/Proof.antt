@@ -1,4 +1,4 @@
--- `peer_score::topics_at`. The invariant: the sum is that of the topics passed.
+-- `peer_score::weights::topics_at`. The invariant: the sum is that of the topics passed.
 -- Assumes nothing.
 use Prim.Native.Nat.{_≤_, _-_}
 use mathlib.Core.Path.{_≡_, _∙_}
@@ -10,14 +10,14 @@ use Rattle.score.specs.Score.{shareAt}
 use Rattle.score.proofs.ShareLaws.{sum-none, sum-more}
 use Rattle.score.proofs.InputLaws.{slot-in}
 use Rattle.score.proofs.ScoreLaws.{add-ready, topics-done}
-use Rattle.peer_score.proofs.topics_at.Statement.{statement}
-use Rattle.peer_score.proofs.topics_at.Tie as tie
+use Rattle.peer_score.proofs.weights.topics_at.Statement.{statement}
+use Rattle.peer_score.proofs.weights.topics_at.Tie as tie
 
 abbrev Inv-loop : tie.InvT-loop
-Inv-loop table slot sum₀ t₀ sum t = (t ≤ 8) × (sum ≡ sumOf t (shareAt (stateOf table) slot))
+Inv-loop table w2 w3b w4 slot sum₀ t₀ sum t = (t ≤ 8) × (sum ≡ sumOf t (shareAt (stateOf table) slot))
 
 abbrev μ-loop : tie.MeasureT-loop
-μ-loop table slot sum₀ t₀ sum t = 8 - t
+μ-loop table w2 w3b w4 slot sum₀ t₀ sum t = 8 - t
 
 pub topics-at-spec : {M : Type 1} → statement M
 topics-at-spec =
@@ -27,7 +27,7 @@ topics-at-spec =
     (λ c. (search needs, sum-none _))
     (λ c κs. search needs)
     (λ c κs.
-    let p = c .before .before .before .before .pre in
+    let p = c .before .before .before .before .pre .at in
     add-ready _ _
     (slot-in _ (p .standing .router) _ (p .slot))
     _ _ _
@@ -43,5 +43,5 @@ topics-at-spec =
     ))
     (λ c.
     let l = c .before .loop in
-    let p = c .before .before .before .pre in
+    let p = c .before .before .before .pre .at in
     topics-done _ _ (slot-in _ (p .standing .router) _ (p .slot)) _ _ (l .inv .0) (c .loop-test .left) (l .inv .1)))
