@@ -21,7 +21,7 @@ height-requires c κs =
     let t = c .before .before .before in
     let o = t .before .before in
     let e = o .before in
-    let g = e .before .before .before .before in
+    let g = e .before in
     record {
       standing = g .before .before .before .before .before .pre;
       buckets = g .count-groups .ensures;
@@ -41,7 +41,7 @@ scores-spec =
     Inv-loop
     μ-loop
     (λ c κs. (c .before .before .before .before .pre, tells-none))
-    (λ c κs. c .before .before .before .before .before .before .before .before .pre)
+    (λ c κs. c .before .before .before .before .before .pre)
     (λ c κs. c .empty-score .ensures .range)
     (λ c. built-none _ _ _ _ refl)
     height-requires
