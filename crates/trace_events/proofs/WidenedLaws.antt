@@ -9,7 +9,6 @@ use mathlib.Core.List.{List, [], _∷_, _++_, append-nil}
 use lib.ListN.{length, length-append}
 use lib.Dec.{eqb}
 use borrow.Author.Tests.{eq-eqb, ne-eqb, eqb-true, eqb-false}
-use Rattle.index.specs.Index.{every}
 use Rattle.index.proofs.Index.{every-by}
 use Rattle.index.proofs.Flags.{by-test, by-order}
 use Rattle.sets.specs.Sets.{occurs, isPermutation, ascending}
