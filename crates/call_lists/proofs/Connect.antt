@@ -20,7 +20,7 @@ use Rattle.effects.specs.Effects.{connectedAs, isMember, reclaimed}
 use Rattle.effects.proofs.EffectLaws.{member-peer, reclaimed-stays, reclaimable-connected}
 use Rattle.rules.specs.declared.Answer.the-variants.{AlreadyConnected, NoSlot, UnknownProtocol}
 use Rattle.rules.specs.Reply.{Reply}
-use Rattle.rules.specs.Calls.{connect}
+use Rattle.rules.specs.Calls.{connect, groupsOf}
 use Rattle.rules.specs.Step.{connectAt, connectReply}
 use Rattle.call_lists.proofs.Fewer.{Fewer, fewer-clock}
 use Rattle.call_lists.proofs.Frames.{fewer-reclaimed}
@@ -32,11 +32,13 @@ module _
     (dir : ℕ → Bool)
     (st : State)
     (h : Standing params dir st)
-    (time id group flags : ℕ)
+    (time id : ℕ)
+    (groups : List ℕ)
+    (flags : ℕ)
     (name : List ℕ)
   where
     abbrev Here : Reply → Type 0
-    Here r = After params dir (connect time id group flags name) r
+    Here r = After params dir (connect time id groups flags name) r
 
     abbrev kept : State
     kept = reclaimed st time
@@ -69,7 +71,7 @@ module _
       -- the slot s is taken, which nobody connected holds
       module _ (s : ℕ) (off : peerIn kept s .status ≡ 1 → ⊥) where
         abbrev p : Peer
-        p = connectedAs (peerIn kept s) id group flags version
+        p = connectedAs (peerIn kept s) id (groupsOf groups) flags version
 
         abbrev u : State
         u = setPeer kept s p
@@ -101,7 +103,7 @@ module _
             let apart : i ≡ s → ⊥ = λ e. off (rw e at on) in
             (was, ap (λ (q : Peer). q .outbound) (peer-after-clock u time i ∙ peer-other kept s p i apart ∙ same))
 
-        taken : Here (connectAt kept time id group flags version s)
+        taken : Here (connectAt kept time id (groupsOf groups) flags version s)
         unfolding connectAt
         taken size v =
             record {
@@ -117,11 +119,11 @@ module _
             }
 
     -- "A retained id resumes its record [..]; another takes the lowest empty slot"
-    pub stands-connect : After params dir (connect time id group flags name) (connectReply st time id group flags name)
+    pub stands-connect : After params dir (connect time id groups flags name) (connectReply st time id (groupsOf groups) flags name)
     stands-connect =
-        by-connect Here st time id group flags name
-        (λ n. after-refused params dir st h (connect time id group flags name) UnknownProtocol refl)
-        (λ v s n c. after-refused params dir st h (connect time id group flags name) AlreadyConnected refl)
+        by-connect Here st time id (groupsOf groups) flags name
+        (λ n. after-refused params dir st h (connect time id groups flags name) UnknownProtocol refl)
+        (λ v s n c. after-refused params dir st h (connect time id groups flags name) AlreadyConnected refl)
         (λ v s n c r. let q = retained-at kept id s r in taken c v s (λ z. omega arith))
         (λ v s n c r e. let q = empty-at kept s e in taken c v s (λ z. omega arith))
-        (λ v n c r e. after-refused params dir st h (connect time id group flags name) NoSlot refl)
+        (λ v n c r e. after-refused params dir st h (connect time id groups flags name) NoSlot refl)

@@ -43,7 +43,7 @@ module _ (params : Params) (dir : ℕ → Bool) (st : State) (h : Standing param
 
   stands-effect : (c : Call) → argumentsOk c ≡ true → After params dir c (effect st c)
   unfolding effect
-  stands-effect (connect time id group flags name) a = stands-connect params dir st h time id group flags name
+  stands-effect (connect time id groups flags name) a = stands-connect params dir st h time id groups flags name
   stands-effect (disconnect time id) a = of-peer id _ (fewer-disconnect st time)
   stands-effect (join time t) a = less _ (fewer-join st time t)
   stands-effect (leave time t) a = less _ (fewer-leave st time t)

@@ -31,7 +31,7 @@ Stays params dir r = Sized (r .state) → valid (r .state) ≡ true → Standing
 
 -- no call that is refused says a direction
 unheard : (c : Call) (peer : ℕ) (was : Bool) → heard c false peer was ≡ was
-unheard (connect time id group flags name) peer was =
+unheard (connect time id groups flags name) peer was =
     ap (λ (b : Bool). cond b (eqb (flags % 2) 1) was) (and-false (eqb id peer))
 unheard (disconnect time id) peer was = refl
 unheard (join time t) peer was = refl

@@ -30,7 +30,7 @@ answered params c before = numberOf (step (after params before) (c .call) (c .ro
 -- the direction of a peer after a call: a connect of it that was answered 0 says it (flags: 1 outbound + 2 explicit), else it stays as it
 -- was
 abbrev pub heard : Call → Bool → ℕ → Bool → Bool
-heard (connect time id group flags name) done peer was = cond (eqb id peer && done) (eqb (flags % 2) 1) was
+heard (connect time id groups flags name) done peer was = cond (eqb id peer && done) (eqb (flags % 2) 1) was
 heard (disconnect time id) done peer was = was
 heard (join time t) done peer was = was
 heard (leave time t) done peer was = was

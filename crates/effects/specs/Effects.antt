@@ -4,6 +4,7 @@ use mathlib.Core.Bool.{Bool, cond, not, _&&_}
 use lib.ListN.{getD, set}
 use lib.Dec.{eqb, leb, ltb}
 use Rattle.index.specs.Index.{every, count, iter}
+use Rattle.records.specs.declared.Groups.{Groups}
 use Rattle.records.specs.declared.Peer.{Peer}
 use Rattle.records.specs.declared.TopicRecord.{TopicRecord}
 use Rattle.varint.specs.Codes.{magnitude}
@@ -31,7 +32,7 @@ withEnd p t end =
     record {
       status = p .status;
       id = p .id;
-      group = p .group;
+      groups = p .groups;
       outbound = p .outbound;
       explicit = p .explicit;
       version = p .version;
@@ -46,7 +47,7 @@ withP5 p code =
     record {
       status = p .status;
       id = p .id;
-      group = p .group;
+      groups = p .groups;
       outbound = p .outbound;
       explicit = p .explicit;
       version = p .version;
@@ -61,7 +62,7 @@ withP7 p n =
     record {
       status = p .status;
       id = p .id;
-      group = p .group;
+      groups = p .groups;
       outbound = p .outbound;
       explicit = p .explicit;
       version = p .version;
@@ -73,12 +74,12 @@ withP7 p n =
 
 -- flags: 1 outbound + 2 explicit
 -- "A retained id resumes its record with the new direction, group, flag and version"; of an empty record, all else is 0
-unfoldable pub connectedAs : Peer → ℕ → ℕ → ℕ → ℕ → Peer
-connectedAs p id group flags version =
+unfoldable pub connectedAs : Peer → ℕ → Groups → ℕ → ℕ → Peer
+connectedAs p id groups flags version =
     record {
       status = 1;
       id = id;
-      group = group;
+      groups = groups;
       outbound = flags % 2;
       explicit = flags / 2;
       version = version;
@@ -94,7 +95,7 @@ retainedTo p end =
     record {
       status = 2;
       id = p .id;
-      group = p .group;
+      groups = p .groups;
       outbound = p .outbound;
       explicit = p .explicit;
       version = p .version;

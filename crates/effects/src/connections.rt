@@ -11,19 +11,27 @@ ghost use Rattle.effects.specs.Lent.{AtSlot};
 use crate::slots::unsubscribe_slot;
 use crate::values::connected_as;
 use crate::values::retained_to;
+use records::Groups;
 use records::Peer;
 use records::SLOTS;
 use records::TOPICS;
 use records::TopicRecord;
 
 // A connected record in a slot.
-pub fn connect_slot(table: &mut [u64], slot: usize, id: u64, group: u64, flags: u64, version: u64)
+pub fn connect_slot(
+    table: &mut [u64],
+    slot: usize,
+    id: u64,
+    groups: Groups,
+    flags: u64,
+    version: u64,
+)
     requires { ⌜ AtSlot (now table) slot ⌝ }
     ensures { λ r. ⌜ stateOf (now (table .exit))
-        ≡ onPeer (stateOf (now (table .entry))) slot (λ p. connectedAs p id group flags version) ⌝ }
+        ≡ onPeer (stateOf (now (table .entry))) slot (λ p. connectedAs p id groups flags version) ⌝ }
 {
     let p = layout::load_peer(table, slot);
-    layout::store_peer(table, slot, connected_as(p, id, group, flags, version));
+    layout::store_peer(table, slot, connected_as(p, id, groups, flags, version));
 }
 
 // Out of every mesh, with no subscription.
@@ -77,7 +85,12 @@ pub fn empty_peer() -> Peer
     Peer {
         status: 0,
         id: 0,
-        group: 0,
+        groups: Groups {
+            first: 0,
+            second: 0,
+            third: 0,
+            fourth: 0,
+        },
         outbound: 0,
         explicit: 0,
         version: 0,

@@ -4,6 +4,7 @@ ghost use Prim.Native.Nat.{_+_, _≤_, _<_, max};
 ghost use Rattle.effects.specs.Effects.{endAfter, withEnd, withP5, withP7, connectedAs};
 ghost use Rattle.effects.specs.Effects.{retainedTo, outOfMesh, intoMesh, withSubscribed};
 ghost use Rattle.effects.specs.Lent.{EndFits};
+use records::Groups;
 use records::Peer;
 use records::TopicRecord;
 
@@ -48,13 +49,13 @@ pub fn with_p7(p: Peer, count: u64) -> Peer
 }
 
 // Flags: 1 outbound + 2 explicit.
-pub fn connected_as(p: Peer, id: u64, group: u64, flags: u64, version: u64) -> Peer
-    ensures { λ r. ⌜ r ≡ connectedAs p id group flags version ⌝ }
+pub fn connected_as(p: Peer, id: u64, groups: Groups, flags: u64, version: u64) -> Peer
+    ensures { λ r. ⌜ r ≡ connectedAs p id groups flags version ⌝ }
 {
     let mut q = p;
     q.status = 1;
     q.id = id;
-    q.group = group;
+    q.groups = groups;
     q.outbound = flags % 2;
     q.explicit = flags / 2;
     q.version = version;

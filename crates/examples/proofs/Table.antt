@@ -2,12 +2,12 @@
 -- Assumes nothing.
 use mathlib.Core.Path.{refl}
 use Rattle.index.specs.Index.{every, first, count, iter, gather}
-use Rattle.records.specs.Records.{codeIn, joinedIn, peerIn, topicIn, setPeer, setTopic, setClock}
+use Rattle.records.specs.Records.{holdsGroup, codeIn, joinedIn, peerIn, topicIn, setPeer, setTopic, setClock}
 use Rattle.lookup.specs.Find.{holds, findConnected}
 use Rattle.effects.specs.Effects.{withEnd, withP5, withP7, outOfMesh, intoMesh, pruned, isMember, meshSize, retainedTo, reclaimable}
-use Rattle.score.specs.Parts.{part1Of, part3Of}
+use Rattle.score.specs.Parts.{part1Of, part3Of, crowdOf}
 use Rattle.score.specs.Formula.{topicSum, allTopics, bounded, whyOf}
-use Rattle.score.specs.Score.{whyIn, scoreIn, topicScore, topicParamsIn, sharesGroup, sharing}
+use Rattle.score.specs.Score.{whyIn, scoreIn, topicScore, topicParamsIn, sharesGroup, sharing, sharingAt, sharersOf}
 use Rattle.score.specs.Counters.{fadedOf}
 use Rattle.sets.specs.Sets.{
   bySlot,
@@ -43,7 +43,7 @@ pub worked : Worked
 unfolding graftedAt rated stays withP5 withP7 retainedTo reclaimable fadedOf topicSum part1Of part3Of lonely short shortSum peer inTopic
     peers topics crowd prunedFor60 grafted maintained
     pruneReply secondsOf pruned withEnd outOfMesh intoMesh isHeard isGraylisted isNegative scoreIn topicScore topicParamsIn sharesGroup
-    sharing
+    sharing sharingAt sharersOf crowdOf holdsGroup
     allTopics bounded whyOf whyIn graftRefused raisedP7 isCrowded graftCase graftReply meshSize isMember
     holds findConnected count every first iter gather codeIn joinedIn peerIn topicIn setPeer setTopic setClock
     isCandidate heightIn degreesIn viewIn meshesIn punished settleSlot heartbeatActions maintainedReply heartbeatReply effect

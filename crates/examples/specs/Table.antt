@@ -1,6 +1,6 @@
 -- 01's bench list, the lines marked [p], in one table: what the definitions of the rules give. To be changed with 01's list alone.
 -- Crate reached has the lines that run calls once more, from states that calls reach.
-use Prim.Native.Nat.{ℕ, zero, suc}
+use Prim.Native.Nat.{ℕ, zero, suc, _+_}
 use mathlib.Core.Path.{_≡_}
 use mathlib.Core.Bool.{true, false}
 use mathlib.Core.List.{List, [], _∷_, _++_, map}
@@ -62,7 +62,7 @@ peer id outbound =
     record {
       status = 1;
       id = id;
-      group = id;
+      groups = record { first = id + 1; second = 0; third = 0; fourth = 0 };
       outbound = outbound;
       explicit = 0;
       version = 1;

@@ -1,4 +1,3 @@
-pub mod ScoresLaws
 pub mod SeenLaws
 pub mod SettleLaws
 pub mod ReplyLaws

@@ -1,2 +1,3 @@
 pub mod Settle
 pub mod Ready
+pub mod Heights

@@ -13,20 +13,20 @@ use answers::code;
 use answers::why_or;
 use layout::CELLS;
 
-// A peer connects. Flags: 1 outbound + 2 explicit.
+// A peer connects, with one to four address groups, lowest first. Flags: 1 outbound + 2 explicit.
 #[no_mangle]
 pub extern "C" fn hivepadlet_connect(
     table: &mut [u64; CELLS],
     time: u64,
     id: u64,
-    group: u64,
+    groups: &[u64],
     flags: u64,
     name: &[u8],
     actions: &mut [u32],
 ) -> u64
-    ensures { λ r. ⌜ HostsLent (Calls·connect time id group flags (now (name .entry))) r table actions ⌝ }
+    ensures { λ r. ⌜ HostsLent (Calls·connect time id (now (groups .entry)) flags (now (name .entry))) r table actions ⌝ }
 {
-    code(router::connect(table, time, id, group, flags, name, actions))
+    code(router::connect(table, time, id, groups, flags, name, actions))
 }
 
 // A peer disconnects.

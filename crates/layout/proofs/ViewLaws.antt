@@ -81,7 +81,7 @@ peer-back p e =
     λ i. record {
       status = p .status;
       id = p .id;
-      group = p .group;
+      groups = p .groups;
       outbound = p .outbound;
       explicit = p .explicit;
       version = p .version;
@@ -107,7 +107,7 @@ topic-count t = refl
 end-of-row :
     (cells : List ℕ) (b t end : ℕ) →
     t < topicCount →
-    peerOf (set (span cells b peerCells) (9 + t) end) ≡ setEnd (peerOf (span cells b peerCells)) t end
+    peerOf (set (span cells b peerCells) (12 + t) end) ≡ setEnd (peerOf (span cells b peerCells)) t end
 unfolding peerOf span setEnd
 end-of-row cells b zero end h = refl
 end-of-row cells b (suc zero) end h = refl
@@ -205,11 +205,11 @@ module _ (cells : List ℕ) (size : length cells ≡ cellCount) where
       (s t end : ℕ) →
       s < slotCount →
       t < topicCount →
-      stateOf (set cells (peersAt + s * peerCells + (9 + t)) end) ≡ setPeer (stateOf cells) s (setEnd (peerIn (stateOf cells) s) t end)
+      stateOf (set cells (peersAt + s * peerCells + (12 + t)) end) ≡ setPeer (stateOf cells) s (setEnd (peerIn (stateOf cells) s) t end)
   unfolding stateOf setPeer peerIn
   end-store s t end h l =
       let b : s * peerCells + peerCells ≤ slotCount * peerCells = stride s slotCount peerCells h in
-      let at = peersAt + s * peerCells + (9 + t) in
+      let at = peersAt + s * peerCells + (12 + t) in
       let f : at + length (end ∷ []) ≤ length cells = omega arith in
       let row = span cells (peersAt + s * peerCells) peerCells in
       ap stateOf (sym (put-one cells at end (omega arith)))
@@ -219,8 +219,8 @@ module _ (cells : List ℕ) (size : length cells ≡ cellCount) where
         codes = span-put-before cells at (end ∷ []) f codesAt paramCount (omega arith) i;
         setup = ap setupOf (span-put-before cells at (end ∷ []) f setupAt setupCells (omega arith)) i;
         peers =
-            (ap (map peerOf) (rows-put-cell cells peersAt peerCells slotCount s (9 + t) end h (omega arith) (omega arith))
-            ∙ map-set peerOf (rows cells peersAt peerCells slotCount) s (set row (9 + t) end)
+            (ap (map peerOf) (rows-put-cell cells peersAt peerCells slotCount s (12 + t) end h (omega arith) (omega arith))
+            ∙ map-set peerOf (rows cells peersAt peerCells slotCount) s (set row (12 + t) end)
             ∙ ap (set (map peerOf (rows cells peersAt peerCells slotCount)) s)
             (end-of-row cells (peersAt + s * peerCells) t end l ∙ ap (λ (p : Peer). setEnd p t end) (row-of cells s h))) i;
         topics = ap (map topicOf) (rows-put-after cells topicsAt topicCells placeCount at (end ∷ []) f (omega arith)) i;

@@ -7,6 +7,7 @@ ghost use Rattle.records.specs.Records.{joinedIn, codeIn, peerIn, topicIn, setC
 ghost use Rattle.records.specs.Records.{paramCount};
 ghost use Rattle.layout.specs.Rows.{put};
 ghost use Rattle.layout.specs.View.{placeCount, cellCount, peerFrom, topicFrom, stateOf, setEnd, setCodes, setSetup, zeroState};
+use records::Groups;
 use records::Peer;
 use records::SLOTS;
 use records::Setup;
@@ -28,10 +29,10 @@ const SETUP_CELLS: usize = 1;
 
 const PEERS_AT: usize = SETUP_AT + SETUP_CELLS;
 
-const PEER_CELLS: usize = 17;
+const PEER_CELLS: usize = 20;
 
 // Where its backoff ends begin in a peer's record.
-const ENDS_AT: usize = 9;
+const ENDS_AT: usize = 12;
 
 const TOPICS_AT: usize = PEERS_AT + SLOTS * PEER_CELLS;
 
@@ -54,29 +55,34 @@ pub fn write_row(cells: &mut [u64], at: usize, row: &[u64])
 
 // The peer's record that starts at cell `b`.
 fn read_peer(cells: &[u64], b: usize) -> Peer
-    requires { ⌜ b + 17 ≤ length (now cells) ⌝ }
+    requires { ⌜ b + 20 ≤ length (now cells) ⌝ }
     ensures { λ r. ⌜ r ≡ peerFrom (now (cells .entry)) b ⌝ }
 {
     let ends = [
-        cells[b + 9],
-        cells[b + 10],
-        cells[b + 11],
         cells[b + 12],
         cells[b + 13],
         cells[b + 14],
         cells[b + 15],
         cells[b + 16],
+        cells[b + 17],
+        cells[b + 18],
+        cells[b + 19],
     ];
     Peer {
         status: cells[b],
         id: cells[b + 1],
-        group: cells[b + 2],
-        outbound: cells[b + 3],
-        explicit: cells[b + 4],
-        version: cells[b + 5],
-        p5: cells[b + 6],
-        p7: cells[b + 7],
-        retain: cells[b + 8],
+        groups: Groups {
+            first: cells[b + 2],
+            second: cells[b + 3],
+            third: cells[b + 4],
+            fourth: cells[b + 5],
+        },
+        outbound: cells[b + 6],
+        explicit: cells[b + 7],
+        version: cells[b + 8],
+        p5: cells[b + 9],
+        p7: cells[b + 10],
+        retain: cells[b + 11],
         backoff: ends,
     }
 }
@@ -195,7 +201,10 @@ pub fn store_peer(cells: &mut [u64], slot: usize, p: Peer)
     let row = [
         p.status,
         p.id,
-        p.group,
+        p.groups.first,
+        p.groups.second,
+        p.groups.third,
+        p.groups.fourth,
         p.outbound,
         p.explicit,
         p.version,
@@ -264,11 +273,17 @@ pub fn load_id(cells: &[u64], slot: usize) -> u64
     cells[PEERS_AT + slot * PEER_CELLS + 1]
 }
 
-pub fn load_group(cells: &[u64], slot: usize) -> u64
+pub fn load_groups(cells: &[u64], slot: usize) -> Groups
     requires { ⌜ (length (now cells) ≡ cellCount) × (slot < slotCount) ⌝ }
-    ensures { λ r. ⌜ r ≡ peerIn (stateOf (now (cells .entry))) slot .group ⌝ }
+    ensures { λ r. ⌜ r ≡ peerIn (stateOf (now (cells .entry))) slot .groups ⌝ }
 {
-    cells[PEERS_AT + slot * PEER_CELLS + 2]
+    let b = PEERS_AT + slot * PEER_CELLS;
+    Groups {
+        first: cells[b + 2],
+        second: cells[b + 3],
+        third: cells[b + 4],
+        fourth: cells[b + 5],
+    }
 }
 
 pub fn load_member(cells: &[u64], k: usize) -> u64

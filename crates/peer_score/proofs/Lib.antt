@@ -1,1 +1,3 @@
 pub mod IdleLaws
+pub mod BucketLaws
+pub mod SharingLaws

@@ -1,19 +1,24 @@
-// A peer's score from the lent table: the parameters as magnitudes, the sum over the topics, the peers that share a group, and the whole.
+// A peer's score from the lent table: the parameters as magnitudes, the sum over the topics, the peers that share its groups, and the
+// whole.
 // What a score depends on is specs/Score.antt.
+pub mod buckets;
+
 ghost use mathlib.Core.Path.{_≡_};
 ghost use Prim.Native.Nat.{_≤_};
 ghost use lib.ListN.{length};
 ghost use Rattle.index.specs.Index.{one};
 ghost use Rattle.layout.specs.View.{cellCount, stateOf};
-ghost use Rattle.records.specs.Records.{topicCount, slotCount};
+ghost use Rattle.records.specs.Records.{topicCount, slotCount, holdsGroup};
 ghost use Rattle.effects.specs.Lent.{AtTopic, AtSlot};
 ghost use Rattle.limits.specs.Limits.{place as topicPlace};
 ghost use Rattle.score.specs.Ranges.{ShareIn, TopicsIn, PartsIn};
 ghost use Rattle.score.specs.Sums.{sumOf};
-ghost use Rattle.score.specs.Score.{magnitudeIn, topicParamsIn, scoreParamsIn, sharesGroup, sharing, shareAt, partsAt, whyIn, Scores};
+ghost use Rattle.score.specs.Score.{magnitudeIn, topicParamsIn, scoreParamsIn, sharesGroup, sharing, sharingAt, sharersOf};
+ghost use Rattle.score.specs.Score.{shareAt, partsAt, whyIn, Scores};
 ghost use Rattle.peer_score.specs.Standing.{SlotStanding, PlaceStanding, PeerStanding, AtTopicParam};
 ghost use Rattle.peer_score.specs.Idle.{isIdle};
 use effects::slots::load_magnitude;
+use records::Groups;
 use records::Peer;
 use records::SLOTS;
 use records::TOPICS;
@@ -22,6 +27,7 @@ use records::param;
 use score::Balance;
 use score::Parts;
 use score::ScoreParams;
+use score::Sharers;
 use score::TopicParams;
 use score::Why;
 use score::sums;
@@ -74,25 +80,32 @@ pub fn load_general(table: &[u64]) -> ScoreParams
     }
 }
 
-// Whether the peer in a slot is connected and of the group: 1 or 0. Both are asked of every slot: which groups are the same cannot be
-// guessed, and a branch that is guessed wrong costs more than the second test.
+// Whether a group is one of a record's.
+pub fn holds_group(g: Groups, group: u64) -> bool
+    ensures { λ r. ⌜ r ≡ holdsGroup g group ⌝ }
+{
+    (g.first == group) | (g.second == group) | (g.third == group) | (g.fourth == group)
+}
+
+// Whether the peer in a slot is connected and holds the group: 1 or 0. All is asked of every slot: which groups are the same cannot be
+// guessed, and a branch that is guessed wrong costs more than the other tests.
 fn shares(table: &[u64], group: u64, slot: usize) -> u64
     requires { ⌜ AtSlot (now table) slot ⌝ }
     ensures { λ r. ⌜ (r ≡ one (sharesGroup (stateOf (now (table .entry))) group slot)) × (r ≤ 1) ⌝ }
 {
     let status = layout::load_status(table, slot);
-    let other = layout::load_group(table, slot);
-    if (status == 1) & (other == group) {
+    let holds = holds_group(layout::load_groups(table, slot), group);
+    if (status == 1) & holds {
         1
     } else {
         0
     }
 }
 
-// How many connected peers are of the group.
+// How many connected peers hold the group.
 fn sharing_of(table: &[u64], group: u64) -> u64
     requires { ⌜ length (now table) ≡ cellCount ⌝ }
-    ensures { λ r. ⌜ (r ≡ sharing (stateOf (now (table .entry))) group) × (r ≤ slotCount) ⌝ }
+    ensures { λ r. ⌜ r ≡ sharing (stateOf (now (table .entry))) group ⌝ }
 {
     let mut n: u64 = 0;
     let mut slot: usize = 0;
@@ -101,6 +114,30 @@ fn sharing_of(table: &[u64], group: u64) -> u64
         slot += 1;
     }
     n
+}
+
+// The same of a group of a record, where 0 is none.
+fn sharing_at(table: &[u64], group: u64) -> u64
+    requires { ⌜ length (now table) ≡ cellCount ⌝ }
+    ensures { λ r. ⌜ r ≡ sharingAt (stateOf (now (table .entry))) group ⌝ }
+{
+    if group == 0 {
+        return 0;
+    }
+    sharing_of(table, group)
+}
+
+// How many connected peers hold each of a record's groups.
+pub fn sharers_of(table: &[u64], g: Groups) -> Sharers
+    requires { ⌜ length (now table) ≡ cellCount ⌝ }
+    ensures { λ r. ⌜ r ≡ sharersOf (stateOf (now (table .entry))) g ⌝ }
+{
+    Sharers {
+        first: sharing_at(table, g.first),
+        second: sharing_at(table, g.second),
+        third: sharing_at(table, g.third),
+        fourth: sharing_at(table, g.fourth),
+    }
 }
 
 // Whether nothing has happened in a record: no counter, and no member's.
@@ -141,12 +178,12 @@ pub fn score_parts(table: &[u64], slot: usize, p: Peer) -> Parts
     requires { ⌜ PeerStanding (now table) slot p ⌝ }
     ensures { λ r. ⌜ (r ≡ partsAt (stateOf (now (table .entry))) slot) × PartsIn r ⌝ }
 {
-    let together = sharing_of(table, p.group);
+    let sharers = sharers_of(table, p.groups);
     sums::parts(
         load_general(table),
         topics_at(table, slot),
         p.p5,
-        together,
+        sharers,
         p.p7,
     )
 }

@@ -16,6 +16,7 @@ use Rattle.index.specs.declared.Found.{Found}
 use Rattle.index.specs.declared.Found.the-variants.{At, Nothing}
 use Rattle.index.specs.Index.{iter}
 use Rattle.index.proofs.Index.{first-is}
+use Rattle.records.specs.declared.Groups.{Groups}
 use Rattle.records.specs.Records.{State, peerIn, isEmpty, setClock, slotCount}
 use Rattle.layout.specs.View.{cellCount, stateOf, Sized}
 use Rattle.layout.proofs.StateLaws.{sized-of}
@@ -29,7 +30,7 @@ use Rattle.effects.proofs.EffectLaws.{full-stays}
 use Rattle.rules.specs.declared.Answer.{Answer}
 use Rattle.rules.specs.declared.Answer.the-variants.{Done, NoSlot, UnknownProtocol, AlreadyConnected}
 use Rattle.rules.specs.Reply.{Reply, done}
-use Rattle.rules.specs.Calls.{connect, disconnect, rate, score, idOk}
+use Rattle.rules.specs.Calls.{connect, disconnect, rate, score, idOk, groupsOk, groupsOf}
 use Rattle.rules.specs.Step.{effect, connectAt, connectIn, connectReply}
 use Rattle.rules.specs.Promise.{Leaves}
 use Rattle.rules.proofs.PromiseLaws.{leaves-moved, leaves-refused}
@@ -69,10 +70,11 @@ pub rate-leaves :
 rate-leaves table table′ time id p5 a f l = rw (toZ-ofZ f) at l
 
 pub connect-range :
-    (id group flags : ℕ) (a : Bool) →
+    (id : ℕ) (groups : List ℕ) (flags : ℕ) (a b : Bool) →
     a ≡ idOk id →
-    a && (leb group 4294967295 && leb flags 3) ≡ idOk id && (leb group 4294967295 && leb flags 3)
-connect-range id group flags a p = ap (λ (x : Bool). x && (leb group 4294967295 && leb flags 3)) p
+    b ≡ groupsOk groups →
+    a && (b && leb flags 3) ≡ idOk id && (groupsOk groups && leb flags 3)
+connect-range id groups flags a b p q = ap₂ (λ (x y : Bool). x && (y && leb flags 3)) p q
 
 -- ---- 0, of a call that changes one record: `mid` is the table before the clock moved
 module _
@@ -119,15 +121,15 @@ full-as : (st : State) (time : ℕ) → Sized st → lowestEmpty (reclaimed st t
 unfolding lowestEmpty
 full-as st time size e = full-stays st time size e
 
-module _ (table mid : List ℕ) (time id group flags version : ℕ) (e : stateOf mid ≡ reclaimed (stateOf table) time) where
+module _ (table mid : List ℕ) (time id : ℕ) (groups : Groups) (flags version : ℕ) (e : stateOf mid ≡ reclaimed (stateOf table) time) where
   abbrev known : Reply
-  known = connectIn (stateOf table) (reclaimed (stateOf table) time) time id group flags (Version version) Nothing
+  known = connectIn (stateOf table) (reclaimed (stateOf table) time) time id groups flags (Version version) Nothing
 
   -- what the record's slot leaves is no refusal, so it is the same from either table
   pub connect-moved :
       (s : ℕ) (a : Answer) (table′ : List ℕ) →
-      Leaves (connectAt (stateOf mid) time id group flags version s) a mid table′ →
-      Leaves (connectAt (stateOf mid) time id group flags version s) a table table′
+      Leaves (connectAt (stateOf mid) time id groups flags version s) a mid table′ →
+      Leaves (connectAt (stateOf mid) time id groups flags version s) a table table′
   unfolding connectAt
   connect-moved s a table′ l = leaves-moved _ a table table′ (l .answer) refl (l .state)
 
@@ -135,7 +137,7 @@ module _ (table mid : List ℕ) (time id group flags version : ℕ) (e : stateOf
     pub connect-retained :
         (s : ℕ) (a : Answer) (table′ : List ℕ) →
         r ≡ At s →
-        Leaves (connectAt (stateOf mid) time id group flags version s) a mid table′ →
+        Leaves (connectAt (stateOf mid) time id groups flags version s) a mid table′ →
         Leaves known a table table′
     unfolding connectIn
     connect-retained s a table′ g l = rw (← e, ← p, g) (connect-moved s a table′ l)
@@ -144,7 +146,7 @@ module _ (table mid : List ℕ) (time id group flags version : ℕ) (e : stateOf
       pub connect-empty :
           (s : ℕ) (a : Answer) (table′ : List ℕ) →
           f ≡ At s →
-          Leaves (connectAt (stateOf mid) time id group flags version s) a mid table′ →
+          Leaves (connectAt (stateOf mid) time id groups flags version s) a mid table′ →
           Leaves known a table table′
       unfolding connectIn
       connect-empty s a table′ g l = rw (← e, ← p, n, ← q, g) (connect-moved s a table′ l)
@@ -163,9 +165,9 @@ module _ (table mid : List ℕ) (time id group flags version : ℕ) (e : stateOf
 
 -- ---- connect: tests 6 and 4
 
-module _ (table name : List ℕ) (time id group flags : ℕ) (n : Named) (e : n ≡ versionOf name) where
+module _ (table name : List ℕ) (time id : ℕ) (groups : Groups) (flags : ℕ) (n : Named) (e : n ≡ versionOf name) where
   abbrev reply : Reply
-  reply = connectReply (stateOf table) time id group flags name
+  reply = connectReply (stateOf table) time id groups flags name
 
   pub connect-unknown : n ≡ Unknown → Leaves reply UnknownProtocol table table
   unfolding connectReply connectIn
@@ -177,20 +179,21 @@ module _ (table name : List ℕ) (time id group flags : ℕ) (n : Named) (e : n 
     connect-already s h = rw (← e, g, ← p, h) (leaves-refused AlreadyConnected table)
 
     pub connect-new :
-        (a : Answer) (table′ : List ℕ) →
+        (a : Answer) (table′ : List ℕ) (held : Groups) →
         f ≡ Nothing →
-        Leaves (connectIn (stateOf table) (reclaimed (stateOf table) time) time id group flags (Version version) Nothing) a table table′ →
+        held ≡ groups →
+        Leaves (connectIn (stateOf table) (reclaimed (stateOf table) time) time id held flags (Version version) Nothing) a table table′ →
         Leaves reply a table table′
     unfolding connectReply
-    connect-new a table′ h l = rw (← e, g, ← p, h) l
+    connect-new a table′ held h k l = rw (← e, g, ← p, h, ← k) l
 
 -- ---- connect gives no action
 
 pub quiet-connect :
-    (st : State) (time id group flags : ℕ) (name : List ℕ) →
-    effect st (connect time id group flags name) .actions ≡ []
+    (st : State) (time id : ℕ) (groups : List ℕ) (flags : ℕ) (name : List ℕ) →
+    effect st (connect time id groups flags name) .actions ≡ []
 unfolding effect connectAt
-quiet-connect st time id group flags name =
-    by-connect (λ (r : Reply). r .actions ≡ []) st time id group flags name (λ n. refl) (λ v s n c. refl) (λ v s n c r. refl)
+quiet-connect st time id groups flags name =
+    by-connect (λ (r : Reply). r .actions ≡ []) st time id (groupsOf groups) flags name (λ n. refl) (λ v s n c. refl) (λ v s n c r. refl)
     (λ v s n c r e. refl)
     (λ v n c r e. refl)

@@ -11,15 +11,17 @@ use lib.Signed.{leZ, ltZ}
 use borrow.Author.Tests.{leb-true, le-leb, eqb-true, eqb-false, not-true}
 use Rattle.index.proofs.Index.{count-same}
 use Rattle.varint.specs.Codes.{numberOf, signedOf}
+use Rattle.records.specs.declared.Groups.{Groups}
 use Rattle.records.specs.declared.Peer.{Peer}
-use Rattle.records.specs.Records.{State, slotCount, codeIn, peerIn, topicIn, place, setPeer, isConnected}
+use Rattle.records.specs.Records.{holdsGroup, State, slotCount, codeIn, peerIn, topicIn, place, setPeer, isConnected}
 use Rattle.layout.specs.View.{Sized}
 use Rattle.layout.proofs.StateLaws.{peer-same, peer-other, peer-case, code-after-peer, topic-after-peer}
 use Rattle.validity.specs.Valid.{valid}
+use Rattle.score.specs.declared.Sharers.{Sharers}
 use Rattle.score.specs.declared.Balance.{Balance}
 use Rattle.score.specs.Ranges.{scoreMost}
 use Rattle.score.specs.Sums.{p5Of, partsOf, totalOf, sumOf, offsetOf}
-use Rattle.score.specs.Score.{sharing, sharesGroup, scoreParamsIn, topicParamsIn, shareAt, partsAt, balanceAt, Agree}
+use Rattle.score.specs.Score.{sharing, sharesGroup, sharingAt, sharersOf, scoreParamsIn, topicParamsIn, shareAt, partsAt, balanceAt, Agree}
 use Rattle.score.proofs.InputLaws.{slot-in}
 use Rattle.score.proofs.ScoreLaws.{balance-in, score-is, score-depends}
 use Rattle.effects.specs.Effects.{onPeer, withP5, isMember}
@@ -87,9 +89,13 @@ module _ (st : State) (x code : ℕ) where
   sharing-same : (g : ℕ) → sharing st′ g ≡ sharing st g
   unfolding sharing sharesGroup withP5
   sharing-same g =
-      count-same (λ s. isConnected (peerIn st′ s) && eqb (peerIn st′ s .group) g)
-      (λ s. isConnected (peerIn st s) && eqb (peerIn st s .group) g) slotCount
-      (λ s l. reads (λ p. isConnected p && eqb (p .group) g) (λ p. refl) s)
+      count-same (λ s. isConnected (peerIn st′ s) && holdsGroup (peerIn st′ s .groups) g)
+      (λ s. isConnected (peerIn st s) && holdsGroup (peerIn st s .groups) g) slotCount
+      (λ s l. reads (λ p. isConnected p && holdsGroup (p .groups) g) (λ p. refl) s)
+
+  sharers-same : (g : Groups) → sharersOf st′ g ≡ sharersOf st g
+  unfolding sharersOf sharingAt
+  sharers-same g = rw (sharing-same (g .first), sharing-same (g .second), sharing-same (g .third), sharing-same (g .fourth)) refl
 
   -- another peer
   agree : (s : ℕ) → (s ≡ x → ⊥) → Agree st s st′ s
@@ -100,7 +106,7 @@ module _ (st : State) (x code : ℕ) where
         topics = λ t l. sym (topic-after-peer st x (withP5 (peerIn st x) code) (place s t));
         p5 = ap (λ (p : Peer). p .p5) (sym e);
         p7 = ap (λ (p : Peer). p .p7) (sym e);
-        sharing = ap (λ (p : Peer). sharing st (p .group)) (sym e) ∙ sym (sharing-same (peerIn st′ s .group));
+        sharers = ap (λ (p : Peer). sharersOf st (p .groups)) (sym e) ∙ sym (sharers-same (peerIn st′ s .groups));
       }
 
   pub height-else : (s : ℕ) → (s ≡ x → ⊥) → heightIn st′ s ≡ heightIn st s
@@ -114,26 +120,26 @@ module _ (st : State) (x code : ℕ) where
   module _ (low : x < slotCount) (size : Sized st) (ok : valid st ≡ true) (ok′ : valid st′ ≡ true)
       (up : leZ (numberOf (peerIn st x .p5)) (numberOf code) ≡ true) where
     -- the balance with a P5
-    total : ℕ → ℕ → ℕ → Balance
+    total : ℕ → Sharers → ℕ → Balance
     total c n p7 = totalOf (partsOf (scoreParamsIn st) (sumOf 8 (shareAt st x)) c n p7)
 
     p5-here : peerIn st′ x .p5 ≡ code
     unfolding withP5
     p5-here = ap (λ (p : Peer). p .p5) (peer-same st x (withP5 (peerIn st x) code) (let l = size .peers in omega arith))
 
-    balance-was : balanceAt st x ≡ total (peerIn st x .p5) (sharing st (peerIn st x .group)) (peerIn st x .p7)
+    balance-was : balanceAt st x ≡ total (peerIn st x .p5) (sharersOf st (peerIn st x .groups)) (peerIn st x .p7)
     unfolding balanceAt partsAt total
     balance-was = refl
 
-    balance-is : balanceAt st′ x ≡ total code (sharing st (peerIn st x .group)) (peerIn st x .p7)
+    balance-is : balanceAt st′ x ≡ total code (sharersOf st (peerIn st x .groups)) (peerIn st x .p7)
     unfolding balanceAt partsAt total scoreParamsIn shareAt topicParamsIn codeIn topicIn setPeer withP5
     balance-is =
-        ap (λ (c : ℕ). total c (sharing st′ (peerIn st′ x .group)) (peerIn st′ x .p7)) p5-here
-        ∙ ap (λ (n : ℕ). total code n (peerIn st′ x .p7))
-        (sharing-same (peerIn st′ x .group) ∙ ap (sharing st) (reads (λ p. p .group) (λ p. refl) x))
-        ∙ ap (total code (sharing st (peerIn st x .group))) (reads (λ p. p .p7) (λ p. refl) x)
+        ap (λ (c : ℕ). total c (sharersOf st′ (peerIn st′ x .groups)) (peerIn st′ x .p7)) p5-here
+        ∙ ap (λ (n : Sharers). total code n (peerIn st′ x .p7))
+        (sharers-same (peerIn st′ x .groups) ∙ ap (sharersOf st) (reads (λ p. p .groups) (λ p. refl) x))
+        ∙ ap (total code (sharersOf st (peerIn st x .groups))) (reads (λ p. p .p7) (λ p. refl) x)
 
-    totals : (n p7 : ℕ) → offsetOf (total (peerIn st x .p5) n p7) ≤ offsetOf (total code n p7)
+    totals : (n : Sharers) (p7 : ℕ) → offsetOf (total (peerIn st x .p5) n p7) ≤ offsetOf (total code n p7)
     unfolding total totalOf partsOf
     totals n p7 = offset-up scoreMost _ _ _ _ _ _ _ _ (p5-order (scoreParamsIn st .w5) (peerIn st x .p5) code up)
 
@@ -145,7 +151,7 @@ module _ (st : State) (x code : ℕ) where
         let i′ = slot-in st′ ok′ x low in
         let e = height-of st x b (record { is = refl; score = score-is st x i; range = balance-in st x i }) in
         let e′ = height-of st′ x b′ (record { is = refl; score = score-is st′ x i′; range = balance-in st′ x i′ }) in
-        let h = totals (sharing st (peerIn st x .group)) (peerIn st x .p7) in
+        let h = totals (sharersOf st (peerIn st x .groups)) (peerIn st x .p7) in
         let q = ap offsetOf balance-was in
         let q′ = ap offsetOf balance-is in
         omega arith

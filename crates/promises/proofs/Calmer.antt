@@ -16,6 +16,7 @@ use Rattle.index.proofs.Flags.{by-test, by-order, cond-case}
 use Rattle.varint.specs.Codes.{codeOf, magnitude}
 use Rattle.records.specs.declared.Peer.{Peer}
 use Rattle.records.specs.declared.TopicRecord.{TopicRecord}
+use Rattle.records.specs.declared.Groups.{Groups}
 use Rattle.records.specs.Records.{State, noPeer, noTopic, place, codeIn, peerIn, topicIn, setClock, setJoined, setPeer, setTopic, slotCount}
 use Rattle.records.specs.Records.{isConnected}
 use Rattle.layout.proofs.StateLaws.{peer-case, topic-case, topic-same, peer-after-topic, topic-after-peer}
@@ -107,9 +108,9 @@ module _ (st : State) (s : ℕ) where
   unfolding withP7
   calmer-p7 n = calmer-peer st s _ (λ t k m. omega arith)
 
-  pub calmer-connected : (id group flags version : ℕ) → Calmer st (onPeer st s (λ p. connectedAs p id group flags version))
+  pub calmer-connected : (id : ℕ) (groups : Groups) (flags version : ℕ) → Calmer st (onPeer st s (λ p. connectedAs p id groups flags version))
   unfolding connectedAs
-  calmer-connected id group flags version = calmer-peer st s _ (λ t k m. omega arith)
+  calmer-connected id groups flags version = calmer-peer st s _ (λ t k m. omega arith)
 
   -- a backoff of who is no member, in a record that may have other numbers too
   calmer-with-end :

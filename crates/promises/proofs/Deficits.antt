@@ -20,6 +20,7 @@ use Rattle.varint.specs.Codes.{codeOf, magnitude}
 use Rattle.params.specs.declared.Params.{Params}
 use Rattle.records.specs.declared.Peer.{Peer}
 use Rattle.records.specs.declared.TopicRecord.{TopicRecord}
+use Rattle.records.specs.declared.Groups.{Groups}
 use Rattle.records.specs.Records.{State, noPeer, noTopic, place, codeIn, peerIn, topicIn, setClock, setJoined, setPeer, setTopic, slotCount}
 use Rattle.records.specs.Records.{isConnected}
 use Rattle.layout.specs.View.{Sized}
@@ -40,7 +41,7 @@ use Rattle.effects.specs.Effects.{reclaimed}
 use Rattle.effects.proofs.EffectLaws.{reclaimed-topic, reclaimed-stays, sized-reclaimed}
 use Rattle.rules.specs.Reply.{Reply, ignored}
 use Rattle.rules.specs.Calls.{Call, connect, disconnect, join, leave, subscribe, unsubscribe, graft, prune, deliver, rate, heartbeat, decay}
-use Rattle.rules.specs.Calls.{score}
+use Rattle.rules.specs.Calls.{groupsOf, score}
 use Rattle.rules.proofs.GraftLaws.{by-graft}
 use Rattle.rules.specs.Step.{isGraylisted, isHeard, onFound, ofPeer, connectAt, connectReply, joinReply}
 use Rattle.rules.specs.Step.{subscribeReply, unsubscribeReply, graftRefused, graftReply}
@@ -163,19 +164,19 @@ module _ (st : State) (time : ℕ) where
   low-peer : (id : ℕ) (f : ℕ → Reply) → ((s : ℕ) → Low (f s)) → Low (ofPeer st id f)
   low-peer id f h = low-found (findConnected st id) f _ h (lower-self st)
 
-  low-at : (id group flags v s : ℕ) → Low (connectAt (reclaimed st time) time id group flags v s)
+  low-at : (id : ℕ) (groups : Groups) (flags v s : ℕ) → Low (connectAt (reclaimed st time) time id groups flags v s)
   unfolding connectAt
-  low-at id group flags v s =
+  low-at id groups flags v s =
       let u = reclaimed st time in
       ticks _ (lower-then st u _ (lower-reclaimed st time) (lower-peer u s _))
 
-  low-connect : (id group flags : ℕ) (name : List ℕ) → Low (connectReply st time id group flags name)
-  low-connect id group flags name =
-      by-connect Low st time id group flags name
+  low-connect : (id : ℕ) (groups : Groups) (flags : ℕ) (name : List ℕ) → Low (connectReply st time id groups flags name)
+  low-connect id groups flags name =
+      by-connect Low st time id groups flags name
       (λ n. lower-self st)
       (λ v s n c. lower-self st)
-      (λ v s n c r. low-at id group flags v s)
-      (λ v s n c r e. low-at id group flags v s)
+      (λ v s n c r. low-at id groups flags v s)
+      (λ v s n c r e. low-at id groups flags v s)
       (λ v n c r e. lower-self st)
 
   low-subscribe : (t s : ℕ) → Low (subscribeReply st time t s)
@@ -245,8 +246,8 @@ module _ (params : Params) (st : State) (ok : valid st ≡ true) (codes : st .co
   unfolding effect joinReply
   only (leave time v) room s t k = only-leave time v room s t k
   only (heartbeat time v ask order) room s t k = only-heartbeat time v ask room s t order k
-  only (connect time id group flags name) room s t k =
-      inl (other (connect time id group flags name) room s t (low-connect st time id group flags name))
+  only (connect time id groups flags name) room s t k =
+      inl (other (connect time id groups flags name) room s t (low-connect st time id (groupsOf groups) flags name))
   only (disconnect time id) room s t k =
       inl (other (disconnect time id) room s t (low-peer st time id _ (λ i. ticks st time _ (lower-departed st i time))))
   only (join time v) room s t k =
@@ -267,7 +268,7 @@ module _ (params : Params) (st : State) (ok : valid st ≡ true) (codes : st .co
   only (score time id) room s t k = inl (other (score time id) room s t (low-peer st time id _ (λ i. lower-clock st time)))
 
   -- ---- a record made anew
-  module _ (time id group flags : ℕ) (name : List ℕ) (s t : ℕ) (h : s < slotCount) (k : t < 8) where
+  module _ (time id : ℕ) (groups : Groups) (flags : ℕ) (name : List ℕ) (s t : ℕ) (h : s < slotCount) (k : t < 8) where
     abbrev New : Reply → Type 0
     New r = peerIn (r .state) s .id ≢ peerIn st s .id → p3bIn (r .state) s t ≡ 0
 
@@ -275,10 +276,10 @@ module _ (params : Params) (st : State) (ok : valid st ≡ true) (codes : st .co
     w = reclaimed st time
 
     new-at :
-        (v i : ℕ) → i < slotCount → (peerIn w i .id ≡ id) ⊎ (peerIn w i .status ≡ 0) → New (connectAt w time id group flags v i)
+        (v i : ℕ) → i < slotCount → (peerIn w i .id ≡ id) ⊎ (peerIn w i .status ≡ 0) → New (connectAt w time id groups flags v i)
     unfolding connectAt connectedAs
     new-at v i l from n =
-        let p = connectedAs (peerIn w i) id group flags v in
+        let p = connectedAs (peerIn w i) id groups flags v in
         let u = setPeer w i p in
         let clock = peer-after-clock u time s in
         let same = topic-after-clock u time (place s t) ∙ topic-after-peer w i p (place s t) in
@@ -302,9 +303,9 @@ module _ (params : Params) (st : State) (ok : valid st ≡ true) (codes : st .co
         from)
         (λ q. absurd (n (ap (λ (x : Peer). x .id) (clock ∙ peer-other w i p s (eqb-false s i q) ∙ stays)))))
 
-    new-connect : New (connectReply st time id group flags name)
+    new-connect : New (connectReply st time id groups flags name)
     new-connect =
-        by-connect New st time id group flags name
+        by-connect New st time id groups flags name
         (λ n d. absurd (d refl))
         (λ v i n c d. absurd (d refl))
         (λ v i n c r. let q = retained-at w id i r in new-at v i (q .0) (inl (q .2)))
@@ -320,9 +321,9 @@ p3b-grows params calls fine =
       left = grown-by-leave params st (w .codes) (w .size);
       maintained = grown-by-heartbeat params st (w .codes) (w .size);
       only = λ c room s t h k. only params st (w .router) (w .codes) (w .size) c room s t k;
-      anew = λ time id group flags room s t name h k.
-          by-gate (New params st (w .router) (w .codes) (w .size) time id group flags name s t h k) st
-          (connect time id group flags name) room
+      anew = λ time id groups flags room s t name h k.
+          by-gate (New params st (w .router) (w .codes) (w .size) time id (groupsOf groups) flags name s t h k) st
+          (connect time id groups flags name) room
           (λ a e n. absurd (n refl))
-          (λ p. new-connect params st (w .router) (w .codes) (w .size) time id group flags name s t h k);
+          (λ p. new-connect params st (w .router) (w .codes) (w .size) time id (groupsOf groups) flags name s t h k);
     }

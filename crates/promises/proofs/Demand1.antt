@@ -15,6 +15,7 @@ use lib.Seq.{sets}
 use Rattle.index.specs.declared.Found.{Found}
 use Rattle.index.specs.declared.Found.the-variants.{At, Nothing}
 use Rattle.index.proofs.Flags.{cond-case}
+use Rattle.records.specs.declared.Groups.{Groups}
 use Rattle.records.specs.Records.{State, slotCount, setClock}
 use Rattle.layout.specs.View.{stateOf, cellCount}
 use Rattle.layout.proofs.Whole.{determined}
@@ -30,7 +31,7 @@ use Rattle.rules.specs.declared.Answer.the-variants.{UnknownProtocol, NotPermut
 use Rattle.rules.specs.declared.Gate.the-variants.{Pass, Refuse}
 use Rattle.rules.specs.Reply.{Reply, numberOf, refuses, refused, ignored, done}
 use Rattle.rules.specs.Calls.{Call, connect, disconnect, join, leave, subscribe, unsubscribe, graft, prune, deliver, rate, heartbeat, decay}
-use Rattle.rules.specs.Calls.{score, timeOf, inRange}
+use Rattle.rules.specs.Calls.{groupsOf, score, timeOf, inRange}
 use Rattle.rules.proofs.GraftLaws.{by-graft}
 use Rattle.rules.specs.Step.{actionRoom, isGraylisted, isHeard, gateOf, through, onFound, ofPeer, connectAt}
 use Rattle.rules.specs.Step.{connectReply, joinReply, leaveActions, leaveReply, subscribeReply, unsubscribeReply, graftRefused}
@@ -63,10 +64,10 @@ module _ (st : State) (time : ℕ) where
   un-peer id f h = un-found (findConnected st id) f _ h (un-refused NotConnected (λ e. omega arith))
 
   -- ---- the replies
-  un-connect : (id group flags : ℕ) (name : List ℕ) → Un (connectReply st time id group flags name)
+  un-connect : (id : ℕ) (groups : Groups) (flags : ℕ) (name : List ℕ) → Un (connectReply st time id groups flags name)
   unfolding connectAt
-  un-connect id group flags name =
-      by-connect Un st time id group flags name
+  un-connect id groups flags name =
+      by-connect Un st time id groups flags name
       (λ n. un-refused UnknownProtocol (λ e. omega arith))
       (λ v s n c. un-refused AlreadyConnected (λ e. omega arith))
       (λ v s n c r. un-done _ [])
@@ -99,7 +100,7 @@ module _ (st : State) (time : ℕ) where
 
 un-effect : (st : State) (c : Call) → Untouched st (timeOf c) (effect st c)
 unfolding effect joinReply leaveReply subscribeReply unsubscribeReply pruneReply deliverReply decayReply
-un-effect st (connect time id group flags name) = un-connect st time id group flags name
+un-effect st (connect time id groups flags name) = un-connect st time id (groupsOf groups) flags name
 un-effect st (disconnect time id) = un-peer st time id _ (λ s. un-done st time _ [])
 un-effect st (join time t) = un-cond st time (isJoined st t) _ _ (un-ignored st time) (un-done st time _ [])
 un-effect st (leave time t) = un-cond st time (isJoined st t) _ _ (un-done st time _ (leaveActions st t slotCount)) (un-ignored st time)

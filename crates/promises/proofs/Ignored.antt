@@ -29,7 +29,7 @@ use Rattle.lookup.proofs.FindLaws.{connected-at, none-connected, connected-is}
 use Rattle.effects.specs.Effects.{isJoined, onTopic, intoMesh}
 use Rattle.rules.specs.Reply.{Reply, numberOf, refused, ignored, done}
 use Rattle.rules.specs.Calls.{Call, connect, disconnect, join, leave, subscribe, unsubscribe, graft, prune, deliver, rate, heartbeat, decay}
-use Rattle.rules.specs.Calls.{score}
+use Rattle.rules.specs.Calls.{groupsOf, score}
 use Rattle.rules.proofs.GraftLaws.{by-graft}
 use Rattle.rules.specs.Step.{onFound, ofPeer, joinReply, leaveReply, decayReply, isGraylisted, isHeard, subscribeReply, unsubscribeReply}
 use Rattle.rules.specs.Step.{raisedP7}
@@ -179,7 +179,7 @@ module _ (params : Params) (st : State) (ok : valid st ≡ true) (codes : st .co
 
   effect-11 : (c : Call) → (numberOf (effect st c .answer) ≡ 11) ↔ Words11 params st c
   unfolding effect
-  effect-11 (connect time id group flags name) = iff-no (late-connect st time id group flags name .3) (λ x. x)
+  effect-11 (connect time id groups flags name) = iff-no (late-connect st time id (groupsOf groups) flags name .3) (λ x. x)
   effect-11 (disconnect time id) = iff-no (peer-not11 st id _ (λ s. refl)) (λ x. x)
   effect-11 (join time t) = join-11 time t
   effect-11 (leave time t) = leave-11 time t

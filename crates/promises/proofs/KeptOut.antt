@@ -51,7 +51,7 @@ use Rattle.promises.proofs.Shut.{heartbeat-shuts, prune-shuts}
 -- a refusal shuts nothing
 refused-shuts : (params : Params) (st : State) (c : Call) (a : Answer) → eqb (numberOf a) 0 ≡ false → Shuts params c (refused a st)
 unfolding shutBy
-refused-shuts params st (connect time p group flags name) a e id t k = held-zero st id t
+refused-shuts params st (connect time p groups flags name) a e id t k = held-zero st id t
 refused-shuts params st (disconnect time p) a e id t k = held-zero st id t
 refused-shuts params st (join time u) a e id t k = held-zero st id t
 refused-shuts params st (leave time u) a e id t k = quiet time _ (refused a st) u id t refl
@@ -84,7 +84,7 @@ by-id st P id f none some = go (findConnected st id) refl
 module _ (params : Params) (st : State) (size : Sized st) (ok : valid st ≡ true) (codes : st .codes ≡ map codeOf (params .numbers)) where
   effect-shuts : (c : Call) → argumentsOk c ≡ true → Shuts params c (effect st c)
   unfolding effect shutBy
-  effect-shuts (connect time p group flags name) a = λ id t k. held-zero _ id t
+  effect-shuts (connect time p groups flags name) a = λ id t k. held-zero _ id t
   effect-shuts (disconnect time p) a = λ id t k. held-zero _ id t
   effect-shuts (join time u) a = λ id t k. held-zero _ id t
   effect-shuts (leave time u) a = leave-shuts params st size codes time u ok (topic-in u a)

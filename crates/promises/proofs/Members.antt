@@ -16,6 +16,7 @@ use Rattle.index.proofs.Index.{both, iter-keeps}
 use Rattle.index.proofs.Flags.{cond-case}
 use Rattle.records.specs.declared.Peer.{Peer}
 use Rattle.records.specs.declared.TopicRecord.{TopicRecord}
+use Rattle.records.specs.declared.Groups.{Groups}
 use Rattle.records.specs.Records.{State, slotCount, place, peerIn, topicIn, setClock}
 use Rattle.layout.proofs.StateLaws.{topic-case, peer-after-topic}
 use Rattle.validity.specs.Valid.{valid}
@@ -28,7 +29,7 @@ use Rattle.sets.proofs.SlotLaws.{slots-in}
 use Rattle.rules.specs.declared.Answer.the-variants.{NotPermutation}
 use Rattle.rules.specs.Reply.{Reply, refused, ignored}
 use Rattle.rules.specs.Calls.{Call, connect, disconnect, join, leave, subscribe, unsubscribe, graft, prune, deliver, rate, heartbeat, decay}
-use Rattle.rules.specs.Calls.{score, topicOk, argumentsOk}
+use Rattle.rules.specs.Calls.{groupsOf, score, topicOk, argumentsOk}
 use Rattle.rules.proofs.GraftLaws.{by-graft}
 use Rattle.rules.specs.Step.{isCandidate, ofPeer, connectAt, connectReply}
 use Rattle.rules.specs.Step.{graftReply, viewIn, meshesIn, punished, settleSlot}
@@ -84,22 +85,22 @@ module _ (st : State) (o : Out st) (time t s : ℕ) (k : t < 8) where
       (λ e. out-calmer u (setClock u time) (out-taken st time t s k o (ltb-false time (endIn st s t) (e .over))) (calmer-clock u time))
 
 -- ---- connect
-module _ (st : State) (o : Out st) (time id group flags : ℕ) where
+module _ (st : State) (o : Out st) (time id : ℕ) (groups : Groups) (flags : ℕ) where
   abbrev Left : Reply → Type 0
   Left r = Out (r .state)
 
-  taken : (version s : ℕ) → Left (connectAt (reclaimed st time) time id group flags version s)
+  taken : (version s : ℕ) → Left (connectAt (reclaimed st time) time id groups flags version s)
   unfolding connectAt
   taken version s =
       let u = reclaimed st time in
-      let w = onPeer u s (λ p. connectedAs p id group flags version) in
+      let w = onPeer u s (λ p. connectedAs p id groups flags version) in
       out-calmer u (setClock w time)
       (out-calmer st u o (calmer-reclaimed st time))
-      (calmer-moved u time w (calmer-connected u s id group flags version))
+      (calmer-moved u time w (calmer-connected u s id groups flags version))
 
-  pub out-connect : (name : List ℕ) → Left (connectReply st time id group flags name)
+  pub out-connect : (name : List ℕ) → Left (connectReply st time id groups flags name)
   out-connect name =
-      by-connect Left st time id group flags name (λ n. o) (λ v s n c. o) (λ v s n c r. taken v s) (λ v s n c r e. taken v s)
+      by-connect Left st time id groups flags name (λ n. o) (λ v s n c. o) (λ v s n c r. taken v s) (λ v s n c r e. taken v s)
       (λ v n c r e. o)
 
 -- ---- heartbeat
@@ -178,7 +179,7 @@ of-peer st o id f h = by-peer (λ (r : Reply). Out (r .state)) st id f o (λ s l
 
 pub out-effect : (st : State) → valid st ≡ true → Out st → (c : Call) → argumentsOk c ≡ true → Out (effect st c .state)
 unfolding effect
-out-effect st ok o (connect time id group flags name) a = out-connect st o time id group flags name
+out-effect st ok o (connect time id groups flags name) a = out-connect st o time id (groupsOf groups) flags name
 out-effect st ok o (disconnect time id) a = of-peer st o id _ (calmer-disconnect st time)
 out-effect st ok o (join time t) a = out-calmer st _ o (calmer-join st time t)
 out-effect st ok o (leave time t) a = out-calmer st _ o (calmer-leave st time t)

@@ -21,6 +21,7 @@ use Rattle.effects.proofs.EffectLaws.{reclaimed-peer, reclaimable-retained, rec
 use Rattle.index.specs.declared.Found.{Found}
 use Rattle.index.specs.declared.Found.the-variants.{At, Nothing}
 use Rattle.index.proofs.Flags.{by-test, cond-case}
+use Rattle.records.specs.declared.Groups.{Groups}
 use Rattle.records.specs.Records.{State, noPeer, slotCount, peerIn, joinedIn}
 use Rattle.validity.specs.Valid.{valid}
 use Rattle.lookup.specs.Find.{findConnected, findRetained, lowestEmpty}
@@ -34,7 +35,7 @@ use Rattle.rules.specs.declared.Answer.the-variants.{Done, Scored, Early, OutOf
 use Rattle.rules.specs.declared.Answer.the-variants.{UnknownProtocol, NotPermutation, ListShort, Ignored, NotRouter}
 use Rattle.rules.specs.Reply.{Reply, numberOf, refused, ignored}
 use Rattle.rules.specs.Calls.{Call, connect, disconnect, join, leave, subscribe, unsubscribe, graft, prune, deliver, rate, heartbeat, decay}
-use Rattle.rules.specs.Calls.{score, timeOf, inRange}
+use Rattle.rules.specs.Calls.{groupsOf, score, timeOf, inRange}
 use Rattle.rules.proofs.GraftLaws.{by-graft}
 use Rattle.rules.specs.Step.{actionRoom, isGraylisted, isHeard, gateOf, onFound, ofPeer, connectAt}
 use Rattle.rules.specs.Step.{connectReply, joinReply, leaveReply, subscribeReply, unsubscribeReply, graftRefused}
@@ -186,7 +187,7 @@ strange-of name e = (
 not-known : (name : List ℕ) → Strange name → Known name → ⊥
 not-known name x k = ⊎-elim (x .0) (x .1) k
 
-module _ (st : State) (time id group flags : ℕ) (name : List ℕ) where
+module _ (st : State) (time id : ℕ) (groups : Groups) (flags : ℕ) (name : List ℕ) where
   abbrev u : State
   u = reclaimed st time
 
@@ -202,10 +203,10 @@ module _ (st : State) (time id group flags : ℕ) (name : List ℕ) where
       ((v : ℕ) → versionOf name ≡ Version v → findConnected st id ≡ Nothing → findRetained u id ≡ Nothing → lowestEmpty u ≡ Nothing →
       P NoSlot) →
       ((v : ℕ) → versionOf name ≡ Version v → findConnected st id ≡ Nothing → Given → P (Done 0)) →
-      P (connectReply st time id group flags name .answer)
+      P (connectReply st time id groups flags name .answer)
   unfolding connectAt
   by-answer P p6 p4 p5 p0 =
-      by-connect (λ (r : Reply). P (r .answer)) st time id group flags name p6 p4
+      by-connect (λ (r : Reply). P (r .answer)) st time id groups flags name p6 p4
       (λ v s n c r. p0 v n c (inl (s, r)))
       (λ v s n c r e. p0 v n c (inr (s, e)))
       p5
@@ -214,7 +215,7 @@ module _ (st : State) (time id group flags : ℕ) (name : List ℕ) where
   abbrev Far : Answer → Type 0
   Far a = (late a ≡ true) × (numberOf a ≢ 3) × (numberOf a ≢ 7) × (numberOf a ≢ 11)
 
-  pub late-connect : Far (connectReply st time id group flags name .answer)
+  pub late-connect : Far (connectReply st time id groups flags name .answer)
   late-connect =
       by-answer Far
       (λ e. (refl, λ q. omega (arith, q), λ q. omega (arith, q), λ q. omega (arith, q)))
@@ -222,7 +223,7 @@ module _ (st : State) (time id group flags : ℕ) (name : List ℕ) where
       (λ v k e f g. (refl, λ q. omega (arith, q), λ q. omega (arith, q), λ q. omega (arith, q)))
       (λ v k e g. (refl, λ q. omega (arith, q), λ q. omega (arith, q), λ q. omega (arith, q)))
 
-  connect-6 : (numberOf (connectReply st time id group flags name .answer) ≡ 6) ↔ Strange name
+  connect-6 : (numberOf (connectReply st time id groups flags name .answer) ≡ 6) ↔ Strange name
   connect-6 =
       by-answer (λ (a : Answer). (numberOf a ≡ 6) ↔ Strange name)
       (λ e. iff-yes refl (strange-of name e))
@@ -230,7 +231,7 @@ module _ (st : State) (time id group flags : ℕ) (name : List ℕ) where
       (λ v k e f g. iff-no (λ q. omega (arith, q)) (λ x. not-known name x (known-of name v k)))
       (λ v k e g. iff-no (λ q. omega (arith, q)) (λ x. not-known name x (known-of name v k)))
 
-  connect-4 : (numberOf (connectReply st time id group flags name .answer) ≡ 4) ↔ (Known name × Connected st id)
+  connect-4 : (numberOf (connectReply st time id groups flags name .answer) ≡ 4) ↔ (Known name × Connected st id)
   connect-4 =
       by-answer (λ (a : Answer). (numberOf a ≡ 4) ↔ (Known name × Connected st id))
       (λ e. iff-no (λ q. omega (arith, q)) (λ w. not-known name (strange-of name e) (w .0)))
@@ -297,7 +298,7 @@ module _ (st : State) (time id group flags : ℕ) (name : List ℕ) where
 
   connect-5 :
       Sized st → valid st ≡ true →
-      (numberOf (connectReply st time id group flags name .answer) ≡ 5) ↔ (Known name × AllHeld)
+      (numberOf (connectReply st time id groups flags name .answer) ≡ 5) ↔ (Known name × AllHeld)
   connect-5 size ok =
       by-answer (λ (a : Answer). (numberOf a ≡ 5) ↔ (Known name × AllHeld))
       (λ e. iff-no (λ q. omega (arith, q)) (λ w. not-known name (strange-of name e) (w .0)))
@@ -416,15 +417,15 @@ module _ (st : State) where
 
   pub behind : (c : Call) → Behind c (effect st c .answer)
   unfolding effect
-  behind (connect time id group flags name) =
-      let w = late-connect st time id group flags name in
+  behind (connect time id groups flags name) =
+      let w = late-connect st time id (groupsOf groups) flags name in
       record {
         is-late = w .0;
         is-3 = iff-no (w .1) (λ x. x);
         is-7 = iff-no (w .2) (λ x. x);
-        is-6 = connect-6 st time id group flags name;
-        is-4 = connect-4 st time id group flags name;
-        is-5 = connect-5 st time id group flags name;
+        is-6 = connect-6 st time id (groupsOf groups) flags name;
+        is-4 = connect-4 st time id (groupsOf groups) flags name;
+        is-5 = connect-5 st time id (groupsOf groups) flags name;
       }
   behind (disconnect time id) = of-peer (disconnect time id) (λ x. x) (λ x. x) (λ x. x) (λ x. x) id _ (λ s. refl) (λ x. x)
   behind (join time t) = of-none (join time t) (λ x. x) (λ x. x) (λ x. x) (λ x. x) _ (fine-join time t) (λ x. x)

@@ -17,6 +17,7 @@ use Rattle.varint.specs.Codes.{codeOf, magnitude}
 use Rattle.params.specs.declared.Params.{Params}
 use Rattle.records.specs.declared.Peer.{Peer}
 use Rattle.records.specs.declared.TopicRecord.{TopicRecord}
+use Rattle.records.specs.declared.Groups.{Groups}
 use Rattle.records.specs.Records.{State, noPeer, noTopic, slotCount, place, codeIn, peerIn, joinedIn, setClock, setJoined, setPeer}
 use Rattle.records.specs.Records.{setTopic, isConnected}
 use Rattle.layout.specs.View.{Sized}
@@ -37,7 +38,7 @@ use Rattle.sets.specs.Sets.{at, isPermutation}
 use Rattle.rules.specs.declared.Answer.the-variants.{NotPermutation}
 use Rattle.rules.specs.Reply.{Reply, refused, ignored, done}
 use Rattle.rules.specs.Calls.{Call, connect, disconnect, join, leave, subscribe, unsubscribe, graft, prune, deliver, rate, heartbeat, decay}
-use Rattle.rules.specs.Calls.{score, timeOf, inRange}
+use Rattle.rules.specs.Calls.{groupsOf, score, timeOf, inRange}
 use Rattle.rules.proofs.GraftLaws.{Early, by-graft}
 use Rattle.rules.specs.Step.{isGraylisted, isHeard, ofPeer, connectAt, connectReply, joinReply, punished, seenIn, raisedP7, graftCase}
 use Rattle.rules.specs.Step.{leaveSlot, leaveReply, subscribeReply, unsubscribeReply, graftRefused}
@@ -186,19 +187,19 @@ module _ (st : State) (time : ℕ) where
   mild-peer : (id : ℕ) (f : ℕ → Reply) → ((s : ℕ) → Mild (f s)) → Mild (ofPeer st id f)
   mild-peer id f h = by-peer Mild st id f (milder-self st) (λ s l on. h s)
 
-  mild-at : (id group flags v s : ℕ) → Mild (connectAt (reclaimed st time) time id group flags v s)
+  mild-at : (id : ℕ) (groups : Groups) (flags v s : ℕ) → Mild (connectAt (reclaimed st time) time id groups flags v s)
   unfolding connectAt connectedAs
-  mild-at id group flags v s =
+  mild-at id groups flags v s =
       let u = reclaimed st time in
       ticks _ (milder-then st u _ (milder-reclaimed st time) (milder-peer u s _ (omega arith)))
 
-  mild-connect : (id group flags : ℕ) (name : List ℕ) → Mild (connectReply st time id group flags name)
-  mild-connect id group flags name =
-      by-connect Mild st time id group flags name
+  mild-connect : (id : ℕ) (groups : Groups) (flags : ℕ) (name : List ℕ) → Mild (connectReply st time id groups flags name)
+  mild-connect id groups flags name =
+      by-connect Mild st time id groups flags name
       (λ n. milder-self st)
       (λ v s n c. milder-self st)
-      (λ v s n c r. mild-at id group flags v s)
-      (λ v s n c r e. mild-at id group flags v s)
+      (λ v s n c r. mild-at id groups flags v s)
+      (λ v s n c r e. mild-at id groups flags v s)
       (λ v n c r e. milder-self st)
 
   mild-join : (t : ℕ) → Mild (joinReply st time t)
@@ -298,7 +299,7 @@ module _ (params : Params) (st : State) (codes : st .codes ≡ map codeOf (param
 module _ (params : Params) (st : State) (ok : valid st ≡ true) (codes : st .codes ≡ map codeOf (params .numbers)) where
   only-effect : (c : Call) → Only params st codes c (effect st c)
   unfolding effect withP5
-  only-effect (connect time id group flags name) = λ s. inl ((mild-connect st time id group flags name) s)
+  only-effect (connect time id groups flags name) = λ s. inl ((mild-connect st time id (groupsOf groups) flags name) s)
   only-effect (disconnect time id) =
       λ i. inl ((mild-peer st time id _ (λ s. ticks st time _ (milder-departed st s time))) i)
   only-effect (join time t) = λ s. inl ((mild-join st time t) s)

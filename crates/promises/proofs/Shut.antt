@@ -18,6 +18,7 @@ use Rattle.index.proofs.Flags.{by-test, by-order, cond-case}
 use Rattle.varint.specs.Codes.{codeOf}
 use Rattle.params.specs.declared.Params.{Params}
 use Rattle.records.specs.declared.Peer.{Peer}
+use Rattle.records.specs.declared.Groups.{Groups}
 use Rattle.records.specs.Records.{State, slotCount, place, peerIn, topicIn, setClock, setJoined, setPeer}
 use Rattle.layout.specs.View.{Sized}
 use Rattle.layout.proofs.StateLaws.{peer-same, sized-topic}
@@ -31,7 +32,7 @@ use Rattle.effects.proofs.EffectLaws.{reclaimed-stays, reclaimable-over, sized-
 use Rattle.rules.specs.declared.Answer.the-variants.{NotPermutation}
 use Rattle.rules.specs.Reply.{Reply, numberOf, refused, ignored, done}
 use Rattle.rules.specs.Calls.{Call, connect, disconnect, join, leave, subscribe, unsubscribe, graft, prune, deliver, rate, heartbeat, decay}
-use Rattle.rules.specs.Calls.{score, timeOf}
+use Rattle.rules.specs.Calls.{groupsOf, score, timeOf}
 use Rattle.rules.proofs.GraftLaws.{by-graft}
 use Rattle.rules.specs.Step.{isGraylisted, isHeard, onFound, ofPeer, connectAt, connectReply, joinReply, leaveSlot, raisedP7}
 use Rattle.rules.specs.Step.{leaveActions, leaveReply, subscribeReply, unsubscribeReply, graftRefused}
@@ -110,14 +111,14 @@ module _ (st : State) (time : ℕ) (c : st .clock ≤ time) where
   peered id f h = found (findConnected st id) f _ (λ s e. h s) (hold-self st)
 
   -- connect: whose record is emptied has no backoff that runs
-  module _ (size : Sized st) (id group flags version : ℕ) where
+  module _ (size : Sized st) (id : ℕ) (groups : Groups) (flags version : ℕ) where
     abbrev kept : State
     kept = reclaimed st time
 
-    taken : (s : ℕ) → (peerIn kept s .status ≢ 0 → id ≡ peerIn kept s .id) → Kept (connectAt kept time id group flags version s)
+    taken : (s : ℕ) → (peerIn kept s .status ≢ 0 → id ≡ peerIn kept s .id) → Kept (connectAt kept time id groups flags version s)
     unfolding connectAt connectedAs setClock
     taken s same =
-        let p = connectedAs (peerIn kept s) id group flags version in
+        let p = connectedAs (peerIn kept s) id groups flags version in
         let u = setPeer kept s p in
         let l : Later kept (setClock u time) =
         later-moved kept time u
@@ -130,14 +131,14 @@ module _ (st : State) (time : ℕ) (c : st .clock ≤ time) where
               (λ e. inl (rw (reclaimed-stays st time size i h e) at (l i)));
         }
 
-  hold-connect : Sized st → (id group flags : ℕ) (name : List ℕ) → Kept (connectReply st time id group flags name)
-  hold-connect size id group flags name =
+  hold-connect : Sized st → (id : ℕ) (groups : Groups) (flags : ℕ) (name : List ℕ) → Kept (connectReply st time id groups flags name)
+  hold-connect size id groups flags name =
       let u = reclaimed st time in
-      by-connect Kept st time id group flags name
+      by-connect Kept st time id groups flags name
       (λ n. hold-self st)
       (λ v s n c. hold-self st)
-      (λ v s n c r. taken size id group flags v s (λ d. sym (retained-at u id s r .2)))
-      (λ v s n c r e. taken size id group flags v s (λ d. absurd (d (empty-at u s e .1))))
+      (λ v s n c r. taken size id groups flags v s (λ d. sym (retained-at u id s r .2)))
+      (λ v s n c r e. taken size id groups flags v s (λ d. absurd (d (empty-at u s e .1))))
       (λ v n c r e. hold-self st)
 
   back : (t s : ℕ) (p : Peer) → Later st (graftRefused st time t s p .state) → Kept (graftRefused st time t s p)
@@ -167,7 +168,7 @@ module _ (st : State) (time : ℕ) (c : st .clock ≤ time) where
 
 pub hold-effect : (st : State) (c : Call) → Sized st → st .clock ≤ timeOf c → Hold st (effect st c .state)
 unfolding effect joinReply leaveReply subscribeReply unsubscribeReply pruneReply deliverReply decayReply
-hold-effect st (connect time id group flags name) z l = hold-connect st time l z id group flags name
+hold-effect st (connect time id groups flags name) z l = hold-connect st time l z id (groupsOf groups) flags name
 hold-effect st (disconnect time id) z l = peered st time l id _ (λ s. hold-moved st time l _ (later-disconnect st time s))
 hold-effect st (join time t) z l =
     either st time l (isJoined st t) _ _ (still st time l)

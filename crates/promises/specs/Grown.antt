@@ -61,11 +61,11 @@ pub record Deficits (params : Params) (st : State) : Type 0 where
   pub only : (c : Call) (room s t : ℕ) → s < slotCount → t < topicCount → OnlyByPrune c st (step st c room .state) s t
   -- a record that a connect makes anew has none: its slot holds another id than before
   pub anew :
-      (time id group flags room s t : ℕ) (name : List ℕ) →
+      (time id : ℕ) (groups : List ℕ) (flags room s t : ℕ) (name : List ℕ) →
       s < slotCount →
       t < topicCount →
-      peerIn (step st (connect time id group flags name) room .state) s .id ≢ peerIn st s .id →
-      p3bIn (step st (connect time id group flags name) room .state) s t ≡ 0
+      peerIn (step st (connect time id groups flags name) room .state) s .id ≢ peerIn st s .id →
+      p3bIn (step st (connect time id groups flags name) room .state) s t ≡ 0
 
 abbrev pub P3bGrows : Type 0
 P3bGrows = (params : Params) (calls : List Made) → Accepted params → Deficits params (after params calls)

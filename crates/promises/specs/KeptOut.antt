@@ -36,7 +36,7 @@ told time seconds r u id t = cond (eqb u t && ltb 0 (times 2 id (r .actions))) (
 
 -- until when a call and its reply shut topic t to the peer with this id
 unfoldable pub shutBy : Params → Call → Reply → ℕ → ℕ → ℕ
-shutBy params (connect time p group flags name) r id t = 0
+shutBy params (connect time p groups flags name) r id t = 0
 shutBy params (disconnect time p) r id t = 0
 shutBy params (join time u) r id t = 0
 shutBy params (leave time u) r id t = told time (leaveSeconds params) r u id t

@@ -1,10 +1,11 @@
 -- 01's table of numbers, row by row and apart from the order in which the rules test: a number is answered exactly if its row's words
 -- hold, and the rows that are tested before it do not. Of every state, call and room. 11 and 0 are in Ignored.
-use Prim.Native.Nat.{ℕ, _^_, _≤_, _<_}
+use Prim.Native.Nat.{ℕ, suc, _^_, _≤_, _<_}
 use mathlib.Core.Path.{_≡_}
 use mathlib.Core.Logic.{_≢_, _⊎_, _↔_}
 use mathlib.Core.Bool.{true, false}
 use mathlib.Core.List.{List}
+use lib.ListN.{length, getD}
 use lib.IntN.{ℤ, pos, negℤ}
 use lib.Signed.{ltZ}
 use Rattle.records.specs.Records.{State, slotCount, topicCount, peerIn}
@@ -58,9 +59,12 @@ IdIn id = (1 ≤ id) × (id ≤ 4294967295)
 abbrev pub TopicIn : ℕ → Type 0
 TopicIn t = t ≤ 7
 
--- "address group (32 bits)"
-abbrev pub GroupIn : ℕ → Type 0
-GroupIn group = group < 2 ^ 32
+-- "address group (32 bits)" (01); "one to four different address groups [..], lowest first" (02, order 11)
+pub record GroupsIn (groups : List ℕ) : Type 0 where
+  pub some : 1 ≤ length groups
+  pub few : length groups ≤ 4
+  pub bits : (k : ℕ) → k < length groups → getD groups k 0 < 2 ^ 32
+  pub rising : (k : ℕ) → suc k < length groups → getD groups k 0 < getD groups (suc k) 0
 
 -- "flags (1 outbound + 2 explicit)"
 abbrev pub FlagsIn : ℕ → Type 0
@@ -80,7 +84,7 @@ P5In p5 = (ltZ p5 (negℤ (pos 1000000000)) ≡ false) × (ltZ (pos 1000000000) 
 
 -- what each call asks besides its time; a PRUNE's seconds have no range, a name and a draw have numbers of their own (6, 7)
 abbrev pub ArgumentsIn : Call → Type 0
-ArgumentsIn (connect time id group flags name) = IdIn id × GroupIn group × FlagsIn flags
+ArgumentsIn (connect time id groups flags name) = IdIn id × GroupsIn groups × FlagsIn flags
 ArgumentsIn (disconnect time id) = IdIn id
 ArgumentsIn (join time t) = TopicIn t
 ArgumentsIn (leave time t) = TopicIn t
@@ -100,7 +104,7 @@ Ranges = (c : Call) → (inRange c ≡ true) ↔ (TimeIn (timeOf c) × Arguments
 
 -- ---- 3, of each call that names a peer and is no connect; the others are never answered 3
 abbrev pub Names : Call → (ℕ → Type 0) → Type 0
-Names (connect time id group flags name) P = ⊥
+Names (connect time id groups flags name) P = ⊥
 Names (disconnect time id) P = P id
 Names (join time t) P = ⊥
 Names (leave time t) P = ⊥
@@ -123,7 +127,7 @@ Row3 = (st : State) (c : Call) (room : ℕ) → (numberOf (step st c room .answe
 
 -- ---- 7: "draw not each of 0..63 once", of a heartbeat alone
 abbrev pub Draws : Call → (List ℕ → Type 0) → Type 0
-Draws (connect time id group flags name) P = ⊥
+Draws (connect time id groups flags name) P = ⊥
 Draws (disconnect time id) P = ⊥
 Draws (join time t) P = ⊥
 Draws (leave time t) P = ⊥
@@ -145,7 +149,7 @@ Row7 = (st : State) (c : Call) (room : ℕ) → (numberOf (step st c room .answe
 
 -- ---- 6, 4 and 5, of a connect alone: its time, id and name
 abbrev pub Connects : Call → (ℕ → ℕ → List ℕ → Type 0) → Type 0
-Connects (connect time id group flags name) P = P time id name
+Connects (connect time id groups flags name) P = P time id name
 Connects (disconnect time id) P = ⊥
 Connects (join time t) P = ⊥
 Connects (leave time t) P = ⊥

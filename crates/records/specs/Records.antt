@@ -1,11 +1,12 @@
 -- What the router holds (01, first section), as the rules see it: records by slot and topic, never the layout of a table.
 -- To be changed with the structs of src/lib.rt.
 use Prim.Native.Nat.{ℕ, _+_, _*_}
-use mathlib.Core.Bool.{Bool}
+use mathlib.Core.Bool.{Bool, _||_}
 use mathlib.Core.List.{List, [], _∷_}
 use lib.ListN.{getD, set}
 use lib.Dec.{eqb}
 use Rattle.records.specs.declared.Setup.{Setup}
+use Rattle.records.specs.declared.Groups.{Groups}
 use Rattle.records.specs.declared.Peer.{Peer}
 use Rattle.records.specs.declared.TopicRecord.{TopicRecord}
 
@@ -30,13 +31,16 @@ pub record State : Type 0 where
   pub peers : List Peer
   pub topics : List TopicRecord
 
--- the empty records
+-- the empty records; "one to four different address groups (an empty one none [..])" (02, order 11)
+abbrev pub noGroups : Groups
+noGroups = record { first = 0; second = 0; third = 0; fourth = 0 }
+
 abbrev pub noPeer : Peer
 noPeer =
     record {
       status = 0;
       id = 0;
-      group = 0;
+      groups = noGroups;
       outbound = 0;
       explicit = 0;
       version = 0;
@@ -48,6 +52,10 @@ noPeer =
 
 abbrev pub noTopic : TopicRecord
 noTopic = record { p2 = 0; p3 = 0; p4 = 0; p3b = 0; subscribed = 0; member = 0; graft = 0; mesh = 0 }
+
+-- whether a group is one of those that a record holds
+unfoldable pub holdsGroup : Groups → ℕ → Bool
+holdsGroup g group = eqb (g .first) group || eqb (g .second) group || eqb (g .third) group || eqb (g .fourth) group
 
 -- what the calls read
 abbrev pub place : ℕ → ℕ → ℕ

@@ -18,13 +18,20 @@ pub struct Setup {
     pub edition: u64,
 }
 
+// The address groups of a peer, lowest first, for P6 (IP colocation). Each is 0 for none, else the group + 1, since 0 is a group.
+pub struct Groups {
+    pub first: u64,
+    pub second: u64,
+    pub third: u64,
+    pub fourth: u64,
+}
+
 // A peer's record, without what it holds for each topic.
 pub struct Peer {
     // 0 empty, 1 connected, 2 retained after a disconnect
     pub status: u64,
     pub id: u64,
-    // the address group, for P6 (IP colocation)
-    pub group: u64,
+    pub groups: Groups,
     // the direction: 1 where we opened the connection
     pub outbound: u64,
     // 1 for an explicit peer

@@ -15,6 +15,7 @@ use Rattle.index.proofs.Index.{gather-short}
 use Rattle.index.proofs.Flags.{cond-case}
 use Rattle.layout.specs.View.{stateOf}
 use Rattle.records.specs.declared.Peer.{Peer}
+use Rattle.records.specs.declared.Groups.{Groups}
 use Rattle.records.specs.Records.{State, slotCount, peerIn}
 use Rattle.sets.specs.Sets.{bySlot, isPermutation}
 use Rattle.mesh.specs.Maintenance.{changesOf, actionsOf as toldActions}
@@ -29,7 +30,7 @@ use Rattle.rules.specs.declared.Answer.the-variants.{Early, OutOfRange, 
 use Rattle.rules.specs.declared.Answer.the-variants.{NotPermutation, ListShort, NotRouter}
 use Rattle.rules.specs.Reply.{Reply, actionsOf, refused, ignored, done}
 use Rattle.rules.specs.Calls.{Call, connect, disconnect, join, leave, subscribe, unsubscribe, graft, prune, deliver, rate, heartbeat}
-use Rattle.rules.specs.Calls.{decay, score, timeOf, inRange}
+use Rattle.rules.specs.Calls.{groupsOf, decay, score, timeOf, inRange}
 use Rattle.rules.proofs.GraftLaws.{by-graft}
 use Rattle.rules.specs.Step.{actionRoom, isGraylisted, isHeard, raisedP7, gateOf, through, onFound, ofPeer, connectAt}
 use Rattle.rules.specs.Step.{connectReply, joinReply, leaveActions, leaveReply, subscribeReply, unsubscribeReply}
@@ -69,10 +70,10 @@ counted-peer : (st : State) (id : ℕ) (f : ℕ → Reply) → ((s : ℕ) → Co
 counted-peer st id f h = counted-found (findConnected st id) f _ h (counted-refused NotConnected st refl)
 
 -- ---- the replies
-counted-connect : (st : State) (time id group flags : ℕ) (name : List ℕ) → Counted (connectReply st time id group flags name)
+counted-connect : (st : State) (time id : ℕ) (groups : Groups) (flags : ℕ) (name : List ℕ) → Counted (connectReply st time id groups flags name)
 unfolding connectAt
-counted-connect st time id group flags name =
-    by-connect Counted st time id group flags name
+counted-connect st time id groups flags name =
+    by-connect Counted st time id groups flags name
     (λ n. counted-refused UnknownProtocol st refl)
     (λ v s n c. counted-refused AlreadyConnected st refl)
     (λ v s n c r. counted-quiet _ time)
@@ -132,7 +133,7 @@ counted-heartbeat st time t ask order ok =
 
 counted-effect : (st : State) (c : Call) → valid st ≡ true → Counted (effect st c)
 unfolding effect joinReply subscribeReply unsubscribeReply pruneReply deliverReply decayReply
-counted-effect st (connect time id group flags name) ok = counted-connect st time id group flags name
+counted-effect st (connect time id groups flags name) ok = counted-connect st time id (groupsOf groups) flags name
 counted-effect st (disconnect time id) ok = counted-peer st id _ (λ s. counted-quiet _ time)
 counted-effect st (join time t) ok = counted-cond (isJoined st t) _ _ (counted-ignored st time) (counted-quiet _ time)
 counted-effect st (leave time t) ok = counted-leave st time t

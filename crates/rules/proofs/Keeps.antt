@@ -11,13 +11,14 @@ use Rattle.records.specs.Records.{State}
 use Rattle.layout.specs.View.{Sized}
 use Rattle.validity.specs.Valid.{maxTime, valid}
 use Rattle.rules.specs.Calls.{Call, connect, disconnect, join, leave, subscribe, unsubscribe, graft, prune, deliver, rate, heartbeat}
-use Rattle.rules.specs.Calls.{decay, score, timeOf, idOk, topicOk, timeOk, argumentsOk, inRange}
+use Rattle.rules.specs.Calls.{groupsOk, groupsOf, decay, score, timeOf, idOk, topicOk, timeOk, argumentsOk, inRange}
 use Rattle.rules.specs.Reply.{Reply}
 use Rattle.rules.specs.Step.{effect}
 use Rattle.rules.specs.Kept.{KeepsRouter, KeepsSizes}
 use Rattle.rules.proofs.GateLaws.{Passed}
 use Rattle.rules.proofs.CaseLaws.{topic-in, topic-of-both, by-gate}
 use Rattle.rules.proofs.KeepsState.{Router, RouterAt, router-start, router-end, of-peer}
+use Rattle.rules.proofs.GroupLaws.{groups-held}
 use Rattle.rules.proofs.KeepsTopic.{keeps-join, keeps-leave, keeps-subscribe, keeps-unsubscribe, keeps-graft, keeps-prune}
 use Rattle.rules.proofs.KeepsPeer.{keeps-connect, keeps-disconnect, keeps-rate}
 use Rattle.rules.proofs.KeepsDecay.{keeps-deliver, keeps-decay}
@@ -27,14 +28,16 @@ use Rattle.rules.proofs.KeepsHeartbeat.{keeps-heartbeat}
 module _ (st : State) (router : Router st) where
   pub keeps-effect : (c : Call) → RouterAt (timeOf c) st → argumentsOk c ≡ true → Router (effect st c .state)
   unfolding effect
-  keeps-effect (connect time id group flags name) g a =
-      let q = both (idOk id) (leb group 4294967295 && leb flags 3) a in
+  keeps-effect (connect time id groups flags name) g a =
+      let q = both (idOk id) (groupsOk groups && leb flags 3) a in
       let i = both (leb 1 id) (leb id 4294967295) (q .0) in
-      let f = both (leb group 4294967295) (leb flags 3) (q .1) in
-      keeps-connect time st router g id group flags name
+      let f = both (groupsOk groups) (leb flags 3) (q .1) in
+      let held = groups-held groups (f .0) in
+      keeps-connect time st router g id (groupsOf groups) flags name
       (leb-true 1 id (i .0))
       (leb-true id 4294967295 (i .1))
-      (leb-true group 4294967295 (f .0))
+      (held .0)
+      (held .1)
       (leb-true flags 3 (f .1))
   keeps-effect (disconnect time id) g a = of-peer st id _ router (keeps-disconnect time st g)
   keeps-effect (join time t) g a = keeps-join time st g t (topic-in t a)

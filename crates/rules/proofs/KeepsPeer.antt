@@ -3,6 +3,7 @@
 use Rattle.rules.proofs.ConnectLaws.{by-connect}
 use Prim.Native.Nat.{ℕ, _/_, _<_, _≤_}
 use native.Mathlib.Omega.{arith}
+use mathlib.Core.Bool.{true}
 use mathlib.Core.Path.{_≡_, refl, sym, ap, _∙_}
 use mathlib.Core.Logic.{_≢_}
 use mathlib.Core.List.{List, []}
@@ -12,11 +13,12 @@ use Rattle.index.specs.declared.Found.the-variants.{At, Nothing}
 use Rattle.index.proofs.Index.{iter-keeps}
 use Rattle.index.proofs.Flags.{by-test, cond-case}
 use Rattle.varint.specs.Codes.{codeOf}
+use Rattle.records.specs.declared.Groups.{Groups}
 use Rattle.records.specs.declared.Peer.{Peer}
 use Rattle.records.specs.declared.TopicRecord.{TopicRecord}
 use Rattle.records.specs.Records.{State, noPeer, noTopic, place, joinedIn, peerIn, topicIn, setPeer, setTopic, slotCount}
 use Rattle.layout.proofs.StateLaws.{topic-after-peer}
-use Rattle.validity.specs.Valid.{maxId}
+use Rattle.validity.specs.Valid.{maxId, risingOk}
 use Rattle.lookup.specs.Find.{findConnected, findRetained, lowestEmpty}
 use Rattle.lookup.proofs.NameLaws.{version-small}
 use Rattle.lookup.proofs.FindLaws.{retained-at, empty-at, none-connected, none-retained}
@@ -119,10 +121,11 @@ router-reclaimed time st g =
 -- ---- connect: a slot that was retained or empty, with an id that no other slot holds
 module _
     (time : ℕ)
-    (id group flags version : ℕ)
+    (id : ℕ) (groups : Groups) (flags version : ℕ)
     (least : 1 ≤ id)
     (most : id ≤ maxId)
-    (groups : group ≤ maxId)
+    (rising : risingOk groups ≡ true)
+    (one : 1 ≤ groups .first)
     (few : flags ≤ 3)
     (known : version ≤ 1)
   where
@@ -132,13 +135,13 @@ module _
           s < slotCount →
           (peerIn u s .status ≡ 1 → ⊥) →
           ((k : ℕ) → k < slotCount → k ≢ s → peerIn u k .id ≡ id → id ≡ 0) →
-          Router (connectAt u time id group flags version s .state)
+          Router (connectAt u time id groups flags version s .state)
       unfolding connectAt connectedAs
       connect-at s h off new =
-          let p = connectedAs (peerIn u s) id group flags version in
+          let p = connectedAs (peerIn u s) id groups flags version in
           router-end time (setPeer u s p)
           (router-peer time u g s p (g .size .ends s)
-          (peer-connected (peerIn u s) (peer-of time u g s h) id group flags version least most groups few known)
+          (peer-connected (peerIn u s) (peer-of time u g s h) id groups flags version least most rising one few known)
           (λ t k.
           let f = topic-of time u g s t h k in
           topic-under _ _ _ _ _ _ (topicIn u (place s t)) f 1 (flags / 2) (joinedIn u t)
@@ -149,7 +152,7 @@ module _
 
       -- a retained id resumes its record
       connect-retained :
-          (s : ℕ) → findRetained u id ≡ At s → Router (connectAt u time id group flags version s .state)
+          (s : ℕ) → findRetained u id ≡ At s → Router (connectAt u time id groups flags version s .state)
       connect-retained s e =
           let q = retained-at u id s e in
           connect-at s (q .0) (λ z. omega arith) (λ k l n i. sym (q .2) ∙ ids-of time u g s k (q .0) l n (i ∙ sym (q .2)))
@@ -165,7 +168,7 @@ module _
           lowestEmpty u ≡ At s →
           findRetained u id ≡ Nothing →
           ((k : ℕ) → k < slotCount → peerIn u k .status ≡ 1 → peerIn u k .id ≡ id → ⊥) →
-          Router (connectAt u time id group flags version s .state)
+          Router (connectAt u time id groups flags version s .state)
       connect-new s e n c =
           let q = empty-at u s e in
           connect-at s (q .0) (λ z. omega arith) (λ k l m i. absurd (held k l i))
@@ -198,20 +201,21 @@ pub keeps-connect :
     (time : ℕ) (st : State) →
     Router st →
     RouterAt time st →
-    (id group flags : ℕ) (name : List ℕ) →
+    (id : ℕ) (groups : Groups) (flags : ℕ) (name : List ℕ) →
     1 ≤ id →
     id ≤ maxId →
-    group ≤ maxId →
+    risingOk groups ≡ true →
+    1 ≤ groups .first →
     flags ≤ 3 →
-    Router (connectReply st time id group flags name .state)
-keeps-connect time st router g id group flags name least most groups few =
+    Router (connectReply st time id groups flags name .state)
+keeps-connect time st router g id groups flags name least most rising one few =
     let u = router-reclaimed time st g in
-    by-connect (λ (r : Reply). Router (r .state)) st time id group flags name
+    by-connect (λ (r : Reply). Router (r .state)) st time id groups flags name
     (λ n. router)
     (λ v s n c. router)
-    (λ v s n c r. connect-retained time id group flags v least most groups few (version-small name v n) (reclaimed st time) u s r)
+    (λ v s n c r. connect-retained time id groups flags v least most rising one few (version-small name v n) (reclaimed st time) u s r)
     (λ v s n c r e.
     let known = version-small name v n in
-    connect-new time id group flags v least most groups few known (reclaimed st time) u s e r
-    (still-none time id group flags v least most groups few known st router g c))
+    connect-new time id groups flags v least most rising one few known (reclaimed st time) u s e r
+    (still-none time id groups flags v least most rising one few known st router g c))
     (λ v n c r e. router)

@@ -2,16 +2,18 @@
 -- Assumes nothing.
 use Prim.Native.Nat.{ℕ, _+_, _<_, _≤_, max}
 use native.Mathlib.Omega.{arith}
+use mathlib.Core.Bool.{true}
 use mathlib.Core.Path.{_≡_, refl, ap}
 use mathlib.Core.List.{List}
 use lib.ListN.{getD, set}
 use lib.IntN.{ℤ, pos, negsuc, natAbs}
 use Rattle.index.proofs.Lists.{set-case}
 use Rattle.varint.specs.Codes.{codeOf}
+use Rattle.records.specs.declared.Groups.{Groups}
 use Rattle.records.specs.declared.Peer.{Peer}
 use Rattle.records.specs.declared.TopicRecord.{TopicRecord}
 use Rattle.records.specs.Records.{noTopic}
-use Rattle.validity.specs.Valid.{maxTime, maxEnd, maxRetain, maxId}
+use Rattle.validity.specs.Valid.{maxTime, maxEnd, maxRetain, maxId, risingOk}
 use Rattle.validity.proofs.ValidLaws.{PeerFacts, TopicFacts}
 use Rattle.score.specs.Counters.{withCounters}
 use Rattle.effects.specs.Effects.{withEnd, withP5, withP7, connectedAs, retainedTo, outOfMesh, intoMesh, withSubscribed}
@@ -187,7 +189,7 @@ module _ (p : Peer) (f : PeerFacts p) (on : p .status ≡ 1) where
       record {
         status = p .status;
         id = p .id;
-        group = p .group;
+        groups = p .groups;
         outbound = p .outbound;
         explicit = p .explicit;
         version = p .version;
@@ -207,7 +209,7 @@ module _ (p : Peer) (f : PeerFacts p) (on : p .status ≡ 1) where
       record {
         status = f .status;
         id = f .id;
-        group = f .group;
+        groups = f .groups;
         outbound = f .outbound;
         explicit = f .explicit;
         version = f .version;
@@ -216,6 +218,7 @@ module _ (p : Peer) (f : PeerFacts p) (on : p .status ≡ 1) where
         retain = f .retain;
         ends = h;
         used = f .used;
+        held = f .held;
         empty = λ e. absurd (omega arith);
         over = f .over;
       }
@@ -248,7 +251,7 @@ module _ (p : Peer) (f : PeerFacts p) (on : p .status ≡ 1) where
       record {
         status = omega arith;
         id = f .id;
-        group = f .group;
+        groups = f .groups;
         outbound = f .outbound;
         explicit = f .explicit;
         version = f .version;
@@ -257,6 +260,7 @@ module _ (p : Peer) (f : PeerFacts p) (on : p .status ≡ 1) where
         retain = h;
         ends = f .ends;
         used = λ n. f .used (λ e. omega arith);
+        held = λ n. f .held (λ e. omega arith);
         empty = λ e. absurd (omega arith);
         over = λ n. absurd (n refl);
       }
@@ -265,19 +269,20 @@ module _ (p : Peer) (f : PeerFacts p) (on : p .status ≡ 1) where
 pub peer-connected :
     (p : Peer) →
     PeerFacts p →
-    (id group flags version : ℕ) →
+    (id : ℕ) (groups : Groups) (flags version : ℕ) →
     1 ≤ id →
     id ≤ maxId →
-    group ≤ maxId →
+    risingOk groups ≡ true →
+    1 ≤ groups .first →
     flags ≤ 3 →
     version ≤ 1 →
-    PeerFacts (connectedAs p id group flags version)
+    PeerFacts (connectedAs p id groups flags version)
 unfolding connectedAs
-peer-connected p f id group flags version i j g l v =
+peer-connected p f id groups flags version i j g o l v =
     record {
       status = omega arith;
       id = j;
-      group = g;
+      groups = g;
       outbound = omega arith;
       explicit = omega arith;
       version = v;
@@ -286,6 +291,7 @@ peer-connected p f id group flags version i j g l v =
       retain = omega arith;
       ends = f .ends;
       used = λ n. i;
+      held = λ n. o;
       empty = λ e. absurd (omega arith);
       over = λ n. refl;
     }

@@ -9,6 +9,7 @@ pub mod PunishedLaws
 pub mod HeartbeatLaws
 pub mod OrderLaws
 pub mod Words
+pub mod GroupLaws
 pub mod KeepsRecord
 pub mod KeepsState
 pub mod KeepsTopic

@@ -14,6 +14,7 @@ use Rattle.index.specs.declared.Found.the-variants.{At, Nothing}
 use Rattle.index.specs.Index.{gather}
 use Rattle.index.proofs.Index.{both as halves, gather-first, gather-same}
 use Rattle.index.proofs.Flags.{by-test, cond-case}
+use Rattle.records.specs.declared.Groups.{Groups}
 use Rattle.records.specs.Records.{State, slotCount, peerIn}
 use Rattle.validity.specs.Valid.{valid}
 use Rattle.lookup.specs.Find.{findConnected}
@@ -31,7 +32,7 @@ use Rattle.mesh.proofs.Bound.{idle}
 use Rattle.mesh.proofs.MaintenanceLaws.{Adds, len1, adds2, keeps3, adds4, adds5}
 use Rattle.rules.specs.Reply.{Reply, ignored}
 use Rattle.rules.specs.Calls.{Call, connect, disconnect, join, leave, subscribe, unsubscribe, graft, prune, deliver, rate, heartbeat}
-use Rattle.rules.specs.Calls.{decay, score}
+use Rattle.rules.specs.Calls.{groupsOf, decay, score}
 use Rattle.rules.specs.Step.{isNegative, isCandidate, isGraylisted, isHeard, degreesIn, viewIn, meshesIn, actionIn, heartbeatActions}
 use Rattle.rules.specs.Step.{onFound, ofPeer, connectAt, connectReply, joinReply, leaveActions, leaveReply}
 use Rattle.rules.specs.Step.{subscribeReply, unsubscribeReply, graftRefused, pruneReply, deliverReply, decayReply}
@@ -214,17 +215,17 @@ quiet-peer st id f h = quiet-found (findConnected st id) f _ h refl
 quiet-cond : (b : Bool) (o q : Reply) → Quiet o → Quiet q → Quiet (cond b o q)
 quiet-cond b o q h k = cond-case Quiet b o q (λ e. h) (λ e. k)
 
-quiet-connect : (st : State) (time id group flags : ℕ) (name : List ℕ) → Quiet (connectReply st time id group flags name)
+quiet-connect : (st : State) (time id : ℕ) (groups : Groups) (flags : ℕ) (name : List ℕ) → Quiet (connectReply st time id groups flags name)
 unfolding connectAt
-quiet-connect st time id group flags name =
-    by-connect Quiet st time id group flags name (λ n. refl) (λ v s n c. refl) (λ v s n c r. refl) (λ v s n c r e. refl)
+quiet-connect st time id groups flags name =
+    by-connect Quiet st time id groups flags name (λ n. refl) (λ v s n c. refl) (λ v s n c r. refl) (λ v s n c r e. refl)
     (λ v n c r e. refl)
 
 -- ---- every call
 ordered-effect : (st : State) (c : Call) → valid st ≡ true → Ordered st c (effect st c .actions)
 unfolding effect joinReply leaveReply subscribeReply unsubscribeReply graftRefused pruneReply deliverReply heartbeatReply maintainedReply
     decayReply
-ordered-effect st (connect time id group flags name) ok = quiet-connect st time id group flags name
+ordered-effect st (connect time id groups flags name) ok = quiet-connect st time id (groupsOf groups) flags name
 ordered-effect st (disconnect time id) ok = quiet-peer st id _ (λ s. refl)
 ordered-effect st (join time t) ok = quiet-cond (isJoined st t) _ _ refl refl
 ordered-effect st (leave time t) ok =
@@ -258,7 +259,7 @@ ordered-effect st (score time id) ok = quiet-peer st id _ (λ s. refl)
 
 -- a refused call has no action
 ordered-none : (st : State) (c : Call) → Ordered st c []
-ordered-none st (connect time id group flags name) = refl
+ordered-none st (connect time id groups flags name) = refl
 ordered-none st (disconnect time id) = refl
 ordered-none st (join time t) = refl
 ordered-none st (leave time t) = inl refl

@@ -55,7 +55,7 @@ pub record ByStep (st : State) (time t : ℕ) (order : List ℕ) (l : List Actio
 
 -- leave and a heartbeat act in this order, or not at all; a GRAFT in is answered by one action at most, every other call by none
 abbrev pub Ordered : State → Call → List Action → Type 0
-Ordered st (connect time id group flags name) l = l ≡ []
+Ordered st (connect time id groups flags name) l = l ≡ []
 Ordered st (disconnect time id) l = l ≡ []
 Ordered st (join time t) l = l ≡ []
 Ordered st (leave time t) l = (l ≡ []) ⊎ (heads l ≡ telling st 2 (isMember st t) slots)

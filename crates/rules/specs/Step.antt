@@ -10,6 +10,7 @@ use Rattle.index.specs.Index.{iter, gather}
 use Rattle.index.specs.declared.Found.{Found}
 use Rattle.index.specs.declared.Found.the-variants.{At, Nothing}
 use Rattle.varint.specs.Codes.{numberOf, codeOf, magnitude}
+use Rattle.records.specs.declared.Groups.{Groups}
 use Rattle.records.specs.declared.Peer.{Peer}
 use Rattle.records.specs.declared.TopicRecord.{TopicRecord}
 use Rattle.records.specs.Records.{State, slotCount, topicCount, codeIn, peerIn, topicIn, place, setClock, setPeer, setJoined, isConnected}
@@ -42,7 +43,7 @@ use Rattle.effects.specs.Effects.{highDegree, pruneBackoff, unsubscribeBackoff,
 use Rattle.effects.specs.Effects.{intoMesh, withSubscribed, onPeer, onTopic, isJoined, isMember, isSubscribed, meshSize, backoffRuns}
 use Rattle.effects.specs.Effects.{pruned, endAfter, departed, reclaimed}
 use Rattle.rules.specs.Calls.{Call, connect, disconnect, join, leave, subscribe, unsubscribe, graft, prune, deliver, rate, heartbeat}
-use Rattle.rules.specs.Calls.{decay, score, timeOf, inRange}
+use Rattle.rules.specs.Calls.{decay, score, timeOf, inRange, groupsOf}
 
 -- ---- the tests that every call begins with: 12, 2, 8, 1
 -- "action list under 192 numbers": three for each slot
@@ -109,25 +110,25 @@ connectCase (Version v) Nothing (At s) empty = Resumes v s
 connectCase (Version v) Nothing Nothing (At s) = Takes v s
 connectCase (Version v) Nothing Nothing Nothing = NoneEmpty
 
-unfoldable pub connectAt : State → ℕ → ℕ → ℕ → ℕ → ℕ → ℕ → Reply
-connectAt st time id group flags version s =
-    done (onPeer st s (λ p. connectedAs p id group flags version)) time []
+unfoldable pub connectAt : State → ℕ → ℕ → Groups → ℕ → ℕ → ℕ → Reply
+connectAt st time id groups flags version s =
+    done (onPeer st s (λ p. connectedAs p id groups flags version)) time []
 
 -- and what is done then: st is the state at the start, u the one with every reclaimable record emptied
-abbrev pub connectDone : ConnectCase → State → State → ℕ → ℕ → ℕ → ℕ → Reply
-connectDone NameUnknown st u time id group flags = refused UnknownProtocol st
-connectDone IdConnected st u time id group flags = refused AlreadyConnected st
-connectDone (Resumes v s) st u time id group flags = connectAt u time id group flags v s
-connectDone (Takes v s) st u time id group flags = connectAt u time id group flags v s
-connectDone NoneEmpty st u time id group flags = refused NoSlot st
+abbrev pub connectDone : ConnectCase → State → State → ℕ → ℕ → Groups → ℕ → Reply
+connectDone NameUnknown st u time id groups flags = refused UnknownProtocol st
+connectDone IdConnected st u time id groups flags = refused AlreadyConnected st
+connectDone (Resumes v s) st u time id groups flags = connectAt u time id groups flags v s
+connectDone (Takes v s) st u time id groups flags = connectAt u time id groups flags v s
+connectDone NoneEmpty st u time id groups flags = refused NoSlot st
 
-unfoldable pub connectIn : State → State → ℕ → ℕ → ℕ → ℕ → Named → Found → Reply
-connectIn st u time id group flags version connected =
-    connectDone (connectCase version connected (findRetained u id) (lowestEmpty u)) st u time id group flags
+unfoldable pub connectIn : State → State → ℕ → ℕ → Groups → ℕ → Named → Found → Reply
+connectIn st u time id groups flags version connected =
+    connectDone (connectCase version connected (findRetained u id) (lowestEmpty u)) st u time id groups flags
 
-unfoldable pub connectReply : State → ℕ → ℕ → ℕ → ℕ → List ℕ → Reply
-connectReply st time id group flags name =
-    connectIn st (reclaimed st time) time id group flags (versionOf name) (findConnected st id)
+unfoldable pub connectReply : State → ℕ → ℕ → Groups → ℕ → List ℕ → Reply
+connectReply st time id groups flags name =
+    connectIn st (reclaimed st time) time id groups flags (versionOf name) (findConnected st id)
 
 -- ---- join and leave: "11 when already so"
 unfoldable pub joinReply : State → ℕ → ℕ → Reply
@@ -331,7 +332,7 @@ decayReply st time = done (iter slotCount (decaySlot time) st) time []
 
 -- ---- each call, from a state that passed the first tests
 unfoldable pub effect : State → Call → Reply
-effect st (connect time id group flags name) = connectReply st time id group flags name
+effect st (connect time id groups flags name) = connectReply st time id (groupsOf groups) flags name
 effect st (disconnect time id) = ofPeer st id (λ s. done (departed st s time) time [])
 effect st (join time t) = joinReply st time t
 effect st (leave time t) = leaveReply st time t

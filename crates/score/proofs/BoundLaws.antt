@@ -1,6 +1,7 @@
 -- How large the parts and sums of a score can be, for parameters and records in their ranges.
 -- Assumes nothing.
 use Prim.Native.Nat.{ℕ, zero, suc, _+_, _-_, _*_, _/_, _%_, _<_, _≤_, zero-le, min}
+use mathlib.Core.Path.{_≡_, refl}
 use mathlib.Core.Bool.{_&&_}
 use native.Mathlib.Omega.{arith}
 use native.Mathlib.Nat.{mul-le-mul}
@@ -9,10 +10,11 @@ use Rattle.index.proofs.Flags.{cond-case}
 use Rattle.records.specs.declared.TopicRecord.{TopicRecord}
 use Rattle.score.specs.declared.TopicParams.{TopicParams}
 use Rattle.score.specs.declared.ScoreParams.{ScoreParams}
+use Rattle.score.specs.declared.Sharers.{Sharers}
 use Rattle.score.specs.declared.Balance.{Balance}
 use Rattle.score.specs.declared.Parts.{Parts}
-use Rattle.score.specs.Ranges.{TopicParamsIn, ScoreParamsIn, CountersIn, ShareIn, TopicsIn, PartsIn, BalanceIn}
-use Rattle.score.specs.Parts.{isMember, square, part1Of, part3Of, surplusOf}
+use Rattle.score.specs.Ranges.{TopicParamsIn, ScoreParamsIn, CountersIn, ShareIn, TopicsIn, PartsIn, BalanceIn, SharersIn, crowdMost}
+use Rattle.score.specs.Parts.{isMember, square, part1Of, part3Of, surplusOf, crowdOf}
 use Rattle.score.specs.Sums.{shareOf, sumOf, cappedOf, p5Of, partsOf, totalOf}
 use Rattle.records.specs.Records.{slotCount}
 
@@ -105,19 +107,41 @@ p5-in w code h k =
     (λ _. (zero-le, n))
     (λ _. (n, zero-le))
 
-module _ (g : ScoreParams) (b : Balance) (code sharing p7 : ℕ) where
+-- one group's squared surplus, and four of them
+pub surplus-most : (threshold sharing : ℕ) → 1 ≤ threshold → sharing ≤ slotCount → square (surplusOf threshold sharing) ≤ 65025
+surplus-most threshold sharing h s = let over : surplusOf threshold sharing ≤ slotCount - 1 = omega arith in mul-le-mul over over
+
+pub squared-is :
+    (n threshold sharing : ℕ) →
+    n ≡ sharing - threshold →
+    1 ≤ threshold →
+    sharing ≤ slotCount →
+    (n * n ≡ square (surplusOf threshold sharing)) × (n * n ≤ 65025)
+squared-is n threshold sharing e h s = rw e (refl, surplus-most threshold sharing h s)
+
+pub crowd-most : (threshold : ℕ) (n : Sharers) → 1 ≤ threshold → SharersIn n → crowdOf threshold n ≤ crowdMost
+unfolding crowdOf
+crowd-most threshold n h s =
+    omega (
+      arith,
+      surplus-most threshold (n .first) h (s .first),
+      surplus-most threshold (n .second) h (s .second),
+      surplus-most threshold (n .third) h (s .third),
+      surplus-most threshold (n .fourth) h (s .fourth),
+    )
+
+module _ (g : ScoreParams) (b : Balance) (code : ℕ) (sharers : Sharers) (p7 : ℕ) where
   pub parts-in :
       ScoreParamsIn g →
       TopicsIn b →
       code ≤ 2000000000 →
-      sharing ≤ slotCount →
+      SharersIn sharers →
       p7 ≤ 1000000 →
-      PartsIn (partsOf g b code sharing p7)
+      PartsIn (partsOf g b code sharers p7)
   unfolding partsOf Small5
   parts-in h i c s p =
       let five = p5-in (g .w5) code (h .w5) c in
-      let over : surplusOf (g .threshold) sharing ≤ slotCount - 1 = omega (arith, h .threshold) in
-      let six = mul-le-mul (h .w6) (mul-le-mul over over) in
+      let six = mul-le-mul (h .w6) (crowd-most (g .threshold) sharers (h .threshold) s) in
       let seven = mul-le-mul (h .w7) (mul-le-mul p p) in
       record {
         topics = i;

@@ -1,26 +1,30 @@
 -- What the code computes of a router's state is worth 01's score, and the score depends on nothing but what 01 names.
 -- Assumes nothing.
-use Prim.Native.Nat.{ℕ, _<_, _≤_}
+use Prim.Native.Nat.{ℕ, _<_, _≤_, zero-le}
 use mathlib.Core.Path.{_≡_, refl, sym, ap, _∙_}
 use mathlib.Core.Bool.{true}
 use native.Mathlib.Omega.{arith}
 use lib.IntN.{pos, natAbs, subℕ, _+ℤ_, _*ℤ_}
+use lib.Dec.{eqb}
 use Rattle.index.proofs.Index.{count-bound}
+use Rattle.index.proofs.Flags.{cond-case}
 use Rattle.varint.specs.Codes.{numberOf}
 use Rattle.limits.specs.Limits.{place as topicPlace}
+use Rattle.records.specs.declared.Groups.{Groups}
 use Rattle.records.specs.declared.Peer.{Peer}
 use Rattle.records.specs.Records.{State, topicCount, place, peerIn, topicIn, slotCount}
 use Rattle.validity.specs.Valid.{valid}
 use Rattle.score.specs.declared.ScoreParams.{ScoreParams}
+use Rattle.score.specs.declared.Sharers.{Sharers}
 use Rattle.score.specs.declared.Balance.{Balance}
 use Rattle.score.specs.declared.Parts.{Parts}
 use Rattle.score.specs.declared.Why.{Why}
-use Rattle.score.specs.Ranges.{ScoreParamsIn, TopicsIn, PartsIn, BalanceIn, ShareIn, scoreMost}
-use Rattle.score.specs.Parts.{square, surplusOf}
+use Rattle.score.specs.Ranges.{ScoreParamsIn, TopicsIn, PartsIn, BalanceIn, ShareIn, SharersIn, scoreMost}
+use Rattle.score.specs.Parts.{square, crowdOf}
 use Rattle.score.specs.Formula.{allTopics, bounded, whyOf}
 use Rattle.score.specs.Sums.{worth, sumOf, partsOf, totalOf, toldOf}
-use Rattle.score.specs.Score.{paramIn, magnitudeIn, topicParamsIn, scoreParamsIn, sharesGroup, sharing, topicScore, whyIn, scoreIn}
-use Rattle.score.specs.Score.{shareAt, partsAt, balanceAt, Scores, Agree}
+use Rattle.score.specs.Score.{paramIn, magnitudeIn, topicParamsIn, scoreParamsIn, sharesGroup, sharing, sharingAt, sharersOf}
+use Rattle.score.specs.Score.{topicScore, whyIn, scoreIn, shareAt, partsAt, balanceAt, Scores, Agree}
 use Rattle.score.proofs.InputLaws.{TopicSigns, SlotIn, slot-in}
 use Rattle.score.proofs.ShareLaws.{share-is, sum-is, sum-done, topics-same}
 use Rattle.score.proofs.SumLaws.{same-why, capped-is, p5-is, loss-is, total-is, score-size}
@@ -29,6 +33,21 @@ use Rattle.score.proofs.BoundLaws.{share-in, sum-in, topics-in, parts-i
 pub sharing-most : (st : State) (group : ℕ) → sharing st group ≤ slotCount
 unfolding sharing
 sharing-most st group = count-bound (sharesGroup st group) slotCount
+
+pub sharing-at-most : (st : State) (group : ℕ) → sharingAt st group ≤ slotCount
+unfolding sharingAt
+sharing-at-most st group =
+    cond-case (λ (n : ℕ). n ≤ slotCount) (eqb group 0) 0 (sharing st group) (λ _. zero-le) (λ _. sharing-most st group)
+
+pub sharers-most : (st : State) (g : Groups) → SharersIn (sharersOf st g)
+unfolding sharersOf
+sharers-most st g =
+    record {
+      first = sharing-at-most st (g .first);
+      second = sharing-at-most st (g .second);
+      third = sharing-at-most st (g .third);
+      fourth = sharing-at-most st (g .fourth);
+    }
 
 -- one topic
 topic-is : (st : State) (s t : ℕ) → TopicSigns st t → topicScore st s t ≡ worth (shareAt st s t)
@@ -44,7 +63,7 @@ pub record PartsWorth (st : State) (s : ℕ) (p : Parts) : Type 0 where
   pub p5 : worth (p .p5) ≡ paramIn st 13 *ℤ numberOf (peerIn st s .p5) *ℤ pos 1000
   pub p6 :
       subℕ 0 (p .p6)
-      ≡ paramIn st 14 *ℤ pos (square (surplusOf (magnitudeIn st 15) (sharing st (peerIn st s .group)))) *ℤ pos 1000000000
+      ≡ paramIn st 14 *ℤ pos (crowdOf (magnitudeIn st 15) (sharersOf st (peerIn st s .groups))) *ℤ pos 1000000000
   pub p7 : subℕ 0 (p .p7) ≡ paramIn st 16 *ℤ pos (square (peerIn st s .p7)) *ℤ pos 1000
 
 module _ (st : State) (s : ℕ) (h : SlotIn st s) where
@@ -85,27 +104,27 @@ module _ (st : State) (s : ℕ) (h : SlotIn st s) where
       (scoreParamsIn st)
       (sumOf 8 (shareAt st s))
       (peerIn st s .p5)
-      (sharing st (peerIn st s .group))
+      (sharersOf st (peerIn st s .groups))
       (peerIn st s .p7)
       (h .general)
       topics-are
       (h .p5)
-      (sharing-most st (peerIn st s .group))
+      (sharers-most st (peerIn st s .groups))
       (h .p7)
 
   -- what is loaded is ready for `sums::parts`, and what that gives
-  module _ (p : Peer) (g : ScoreParams) (b : Balance) (n : ℕ) (is-p : p ≡ peerIn st s) (is-g : g ≡ scoreParamsIn st) where
+  module _ (p : Peer) (g : ScoreParams) (b : Balance) (n : Sharers) (is-p : p ≡ peerIn st s) (is-g : g ≡ scoreParamsIn st) where
     pub parts-ready :
         TopicsIn b →
-        n ≤ slotCount →
-        ScoreParamsIn g × (TopicsIn b × ((p .p5 ≤ 2000000000) × ((n ≤ slotCount) × (p .p7 ≤ 1000000))))
+        SharersIn n →
+        ScoreParamsIn g × (TopicsIn b × ((p .p5 ≤ 2000000000) × (SharersIn n × (p .p7 ≤ 1000000))))
     parts-ready i k = rw (is-g, is-p) (h .general, (i, (h .p5, (k, h .p7))))
 
     pub parts-done :
         (r : Parts) →
         r ≡ partsOf g b (p .p5) n (p .p7) →
         b ≡ sumOf 8 (shareAt st s) →
-        n ≡ sharing st (p .group) →
+        n ≡ sharersOf st (p .groups) →
         r ≡ partsAt st s
     unfolding partsAt
     parts-done r e is-b is-n = e ∙ rw (is-n, is-b, is-g, is-p)
@@ -128,7 +147,7 @@ module _ (st : State) (s : ℕ) (h : SlotIn st s) where
       (scoreParamsIn st)
       (sumOf 8 (shareAt st s))
       (peerIn st s .p5)
-      (sharing st (peerIn st s .group))
+      (sharersOf st (peerIn st s .groups))
       (peerIn st s .p7)))
 
   -- "No score passes 2.6 × 10^18 either way."
@@ -145,7 +164,7 @@ module _ (st : State) (s : ℕ) (h : SlotIn st s) where
         capped = sym (rw sums (capped-is (magnitudeIn st 12) (sumOf 8 (shareAt st s))));
         p5 = sym (rw (← w .w5) (p5-is (magnitudeIn st 13) (peerIn st s .p5)));
         p6 = sym (rw (← w .w6)
-            (loss-is (magnitudeIn st 14) (square (surplusOf (magnitudeIn st 15) (sharing st (peerIn st s .group)))) 1000000000));
+            (loss-is (magnitudeIn st 14) (crowdOf (magnitudeIn st 15) (sharersOf st (peerIn st s .groups))) 1000000000));
         p7 = sym (rw (← w .w7) (loss-is (magnitudeIn st 16) (square (peerIn st s .p7)) 1000));
       }
 
@@ -173,7 +192,8 @@ module _ (st : State) (ok : valid st ≡ true) (s : ℕ) (h : s < slotCount) whe
   pub router-score-most : natAbs (scoreIn st s) ≤ scoreMost
   router-score-most = score-most st s (slot-in st ok s h)
 
--- "One peer's score depends on its own record, the sheet, and the number of connected peers in its group, and on nothing else."
+-- "One peer's score depends on its own record, the sheet, and the number of connected peers in its group, and on nothing else" (01), with
+-- order 11 in each of its groups.
 module _ (st : State) (s : ℕ) (other : State) (u : ℕ) (h : Agree st s other u) where
   params-same : (t : ℕ) → topicParamsIn st t ≡ topicParamsIn other t
   unfolding topicParamsIn
@@ -198,7 +218,7 @@ module _ (st : State) (s : ℕ) (other : State) (u : ℕ) (h : Agree st s other 
   why-depends =
       let sums : allTopics 8 (topicScore st s) ≡ allTopics 8 (topicScore other u) =
       topics-same (topicScore st s) (topicScore other u) 8 topic-same in
-      rw (h .codes 12, h .codes 13, h .codes 14, h .codes 15, h .codes 16, h .p5, h .p7, h .sharing, sums)
+      rw (h .codes 12, h .codes 13, h .codes 14, h .codes 15, h .codes 16, h .p5, h .p7, h .sharers, sums)
 
   pub score-depends : scoreIn st s ≡ scoreIn other u
   unfolding scoreIn

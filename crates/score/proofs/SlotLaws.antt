@@ -7,7 +7,8 @@ use lib.Dec.{eqb}
 use Rattle.index.specs.Index.{one, count}
 use Rattle.index.proofs.Index.{count-none, count-more, count-done}
 use Rattle.records.specs.declared.TopicRecord.{TopicRecord}
-use Rattle.records.specs.Records.{State, place, peerIn, topicIn, slotCount}
+use Rattle.records.specs.declared.Groups.{Groups}
+use Rattle.records.specs.Records.{State, place, peerIn, topicIn, holdsGroup, slotCount}
 use Rattle.score.specs.declared.TopicParams.{TopicParams}
 use Rattle.score.specs.declared.Balance.{Balance}
 use Rattle.score.specs.Ranges.{TopicParamsIn, CountersIn}
@@ -16,16 +17,16 @@ use Rattle.score.specs.Score.{topicParamsIn, sharesGroup, sharing, share
 use Rattle.score.proofs.InputLaws.{SlotIn}
 
 module _ (st : State) (group : ℕ) where
-  -- 1 or 0 for a slot of which status and group are loaded
+  -- 1 or 0 for a slot of which status and groups are loaded
   pub shares-is :
-      (slot status other : ℕ) (b : Bool) →
+      (slot status : ℕ) (g : Groups) (b : Bool) →
       status ≡ peerIn st slot .status →
-      other ≡ peerIn st slot .group →
-      eqb status 1 && eqb other group ≡ b →
+      g ≡ peerIn st slot .groups →
+      eqb status 1 && holdsGroup g group ≡ b →
       one b ≡ one (sharesGroup st group slot)
   unfolding sharesGroup
-  shares-is slot status other b p q e =
-      let h : eqb status 1 && eqb other group ≡ eqb (peerIn st slot .status) 1 && eqb (peerIn st slot .group) group = rw (p, q) refl in
+  shares-is slot status g b p q e =
+      let h : eqb status 1 && holdsGroup g group ≡ eqb (peerIn st slot .status) 1 && holdsGroup (peerIn st slot .groups) group = rw (p, q) refl in
       ap one (sym e ∙ h)
 
   pub sharing-none : 0 ≡ count 0 (sharesGroup st group)

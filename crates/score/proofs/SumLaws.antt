@@ -13,9 +13,10 @@ use Rattle.index.proofs.Flags.{by-test}
 use Rattle.varint.specs.Codes.{codeOf, numberOf}
 use Rattle.score.specs.declared.Balance.{Balance}
 use Rattle.score.specs.declared.ScoreParams.{ScoreParams}
+use Rattle.score.specs.declared.Sharers.{Sharers}
 use Rattle.score.specs.declared.Why.{Why}
 use Rattle.score.specs.Ranges.{scoreMost, BalanceIn}
-use Rattle.score.specs.Parts.{square, surplusOf}
+use Rattle.score.specs.Parts.{square, crowdOf}
 use Rattle.score.specs.Formula.{minZ, bounded, whyOf}
 use Rattle.score.specs.Sums.{worth, cappedOf, p5Of, p6Of, p7Of, partsOf, totalOf, offsetOf, negativeOf, belowOf}
 use Rattle.score.proofs.Differences.{diff-lt, diff-ge, diff-pos, diff-neg, diff-add, diff-same, diff-times, diff-le, diff-ltZ}
@@ -87,30 +88,30 @@ p5-is w code =
     let e : (code + 1) / 2 ≡ code / 2 = omega (arith, even) in
     rw (t, e, half (code / 2) w, mul-comm (w * (code / 2)) 1000) (diff-pos (1000 * (w * (code / 2)))))
 
--- the whole score: 01's formula at the topics' total, P5, the surplus and P7
+-- the whole score: 01's formula at the topics' total, P5, the surplus of each group and P7
 pub total-is :
-    (g : ScoreParams) (b : Balance) (code sharing p7 : ℕ) →
+    (g : ScoreParams) (b : Balance) (code : ℕ) (sharers : Sharers) (p7 : ℕ) →
     whyOf
     (g .cap)
     (worth b)
     (pos (g .w5))
     (numberOf code)
     (negℤ (pos (g .w6)))
-    (surplusOf (g .threshold) sharing)
+    (crowdOf (g .threshold) sharers)
     (negℤ (pos (g .w7)))
     p7
     .score
-    ≡ worth (totalOf (partsOf g b code sharing p7))
+    ≡ worth (totalOf (partsOf g b code sharers p7))
 unfolding whyOf totalOf partsOf
-total-is g b code sharing p7 =
+total-is g b code sharers p7 =
     ap₂
     (λ (x y : ℤ). x +ℤ y)
     (ap₂
     (λ (x y : ℤ). x +ℤ y)
     (ap₂ (λ (x y : ℤ). x +ℤ y) (capped-is (g .cap) b) (p5-is (g .w5) code))
-    (loss-is (g .w6) (square (surplusOf (g .threshold) sharing)) 1000000000))
+    (loss-is (g .w6) (crowdOf (g .threshold) sharers) 1000000000))
     (loss-is (g .w7) (square p7) 1000)
-    ∙ add-four (cappedOf (g .cap) b) (p5Of (g .w5) code) (p6Of (g .w6) (g .threshold) sharing) (p7Of (g .w7) p7)
+    ∙ add-four (cappedOf (g .cap) b) (p5Of (g .w5) code) (p6Of (g .w6) (g .threshold) sharers) (p7Of (g .w7) p7)
   where
     add-four :
         (a c : Balance) (m n : ℕ) →

@@ -1,9 +1,10 @@
 -- The parts of a topic's share, in millionths (01, "Per topic, in millionths"). A change of a rule of P1 to P4 is made here.
-use Prim.Native.Nat.{ℕ, _-_, _*_, _/_, min}
+use Prim.Native.Nat.{ℕ, _+_, _-_, _*_, _/_, min}
 use mathlib.Core.Bool.{Bool, _&&_, cond}
 use lib.Dec.{eqb, ltb}
 use Rattle.records.specs.declared.TopicRecord.{TopicRecord}
 use Rattle.score.specs.declared.TopicParams.{TopicParams}
+use Rattle.score.specs.declared.Sharers.{Sharers}
 
 -- a member of our mesh
 abbrev pub isMember : TopicRecord → Bool
@@ -39,3 +40,11 @@ part4Of r = square (r .p4)
 -- IP colocation (P6): "the surplus being how many connected peers share its group, itself counted, above the P6 threshold, or 0"
 abbrev pub surplusOf : ℕ → ℕ → ℕ
 surplusOf threshold sharing = sharing - threshold
+
+-- 02, order 11: "P6 sums, over the peer's groups, the squared surplus"; where it holds none, nobody is counted
+unfoldable pub crowdOf : ℕ → Sharers → ℕ
+crowdOf threshold n =
+    square (surplusOf threshold (n .first))
+    + square (surplusOf threshold (n .second))
+    + square (surplusOf threshold (n .third))
+    + square (surplusOf threshold (n .fourth))

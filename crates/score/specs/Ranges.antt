@@ -2,8 +2,10 @@
 -- ("P4 and P7 stop at 10^6, P3b at 10^12"; P2 and P3 stop at caps of at most 10^6; P5 is ±10^9).
 use Prim.Native.Nat.{ℕ, _≤_}
 use Rattle.records.specs.declared.TopicRecord.{TopicRecord}
+use Rattle.records.specs.Records.{slotCount}
 use Rattle.score.specs.declared.TopicParams.{TopicParams}
 use Rattle.score.specs.declared.ScoreParams.{ScoreParams}
+use Rattle.score.specs.declared.Sharers.{Sharers}
 use Rattle.score.specs.declared.Balance.{Balance}
 use Rattle.score.specs.declared.Parts.{Parts}
 
@@ -54,9 +56,20 @@ pub record TopicsIn (b : Balance) : Type 0 where
   pub gain : b .gain ≤ 2400000000000000000
   pub loss : b .loss ≤ 2400000000000000000
 
--- 100 × 255² × 10^9: one group that all 256 slots share, over a threshold of 1
+-- how many connected peers hold each of a peer's groups
+pub record SharersIn (n : Sharers) : Type 0 where
+  pub first : n .first ≤ slotCount
+  pub second : n .second ≤ slotCount
+  pub third : n .third ≤ slotCount
+  pub fourth : n .fourth ≤ slotCount
+
+-- 4 × 255²: four groups that all 256 slots share, over a threshold of 1
+abbrev pub crowdMost : ℕ
+crowdMost = 260100
+
+-- 100 × 4 × 255² × 10^9
 abbrev pub p6Most : ℕ
-p6Most = 6502500000000000
+p6Most = 26010000000000000
 
 pub record PartsIn (p : Parts) : Type 0 where
   pub topics : TopicsIn (p .topics)

@@ -1,24 +1,27 @@
 -- A peer's score from the router's state: the parameters' own signed numbers, the peer's record, and the number of connected peers that
--- share its group. `whyIn` is 01's formula with its parts, `scoreIn` its score; `balanceAt` is what the code computes, and worth the same
+-- hold each of its groups. `whyIn` is 01's formula with its parts, `scoreIn` its score; `balanceAt` is what the code computes, and worth the same
 -- (proofs/ScoreLaws.antt).
 use Prim.Native.Nat.{ℕ, _<_}
 use mathlib.Core.Path.{_≡_}
-use mathlib.Core.Bool.{Bool, _&&_}
+use mathlib.Core.Bool.{Bool, cond, _&&_}
 use lib.Dec.{eqb}
 use lib.IntN.{ℤ}
 use Rattle.index.specs.Index.{count}
 use Rattle.varint.specs.Codes.{numberOf, magnitude}
 use Rattle.limits.specs.Limits.{place as topicPlace}
 use Rattle.records.specs.Records.{State, slotCount, topicCount, place, codeIn, peerIn, topicIn, isConnected}
+use Rattle.records.specs.Records.{holdsGroup}
+use Rattle.records.specs.declared.Groups.{Groups}
 use Rattle.records.specs.Parameters.{topicCapAt, w5At, w6At, p6ThresholdAt, w7At, weightAt, w1At, p1QuantumAt, p1CapAt, w2At, p2DecayAt}
 use Rattle.records.specs.Parameters.{p2CapAt, w3At, p3DecayAt, p3CapAt, p3ThresholdAt, p3ActivationAt, w3bAt, p3bDecayAt, w4At, p4DecayAt}
 use Rattle.score.specs.declared.TopicParams.{TopicParams}
 use Rattle.score.specs.declared.ScoreParams.{ScoreParams}
+use Rattle.score.specs.declared.Sharers.{Sharers}
 use Rattle.score.specs.declared.Balance.{Balance}
 use Rattle.score.specs.declared.Parts.{Parts}
 use Rattle.score.specs.declared.Why.{Why}
 use Rattle.score.specs.Ranges.{BalanceIn}
-use Rattle.score.specs.Parts.{part1Of, part2Of, part3Of, part3bOf, part4Of, surplusOf}
+use Rattle.score.specs.Parts.{part1Of, part2Of, part3Of, part3bOf, part4Of, crowdOf}
 use Rattle.score.specs.Formula.{topicSum, allTopics, whyOf}
 use Rattle.score.specs.Sums.{worth, shareOf, sumOf, partsOf, totalOf}
 
@@ -61,12 +64,25 @@ scoreParamsIn st =
       w7 = magnitudeIn st w7At;
     }
 
--- "how many connected peers share its group, itself counted"
+-- "how many connected peers share its group, itself counted" (01); "counting connected peers that hold the group" (02, order 11)
 unfoldable pub sharesGroup : State → ℕ → ℕ → Bool
-sharesGroup st group s = isConnected (peerIn st s) && eqb (peerIn st s .group) group
+sharesGroup st group s = isConnected (peerIn st s) && holdsGroup (peerIn st s .groups) group
 
 unfoldable pub sharing : State → ℕ → ℕ
 sharing st group = count slotCount (sharesGroup st group)
+
+-- of each of a peer's groups; 0 stands for none
+unfoldable pub sharingAt : State → ℕ → ℕ
+sharingAt st group = cond (eqb group 0) 0 (sharing st group)
+
+unfoldable pub sharersOf : State → Groups → Sharers
+sharersOf st g =
+    record {
+      first = sharingAt st (g .first);
+      second = sharingAt st (g .second);
+      third = sharingAt st (g .third);
+      fourth = sharingAt st (g .fourth);
+    }
 
 -- topic t's sum for the peer in slot s
 unfoldable pub topicScore : State → ℕ → ℕ → ℤ
@@ -93,7 +109,7 @@ whyIn st s =
     (paramIn st w5At)
     (numberOf (peerIn st s .p5))
     (paramIn st w6At)
-    (surplusOf (magnitudeIn st p6ThresholdAt) (sharing st (peerIn st s .group)))
+    (crowdOf (magnitudeIn st p6ThresholdAt) (sharersOf st (peerIn st s .groups)))
     (paramIn st w7At)
     (peerIn st s .p7)
 
@@ -111,7 +127,7 @@ partsAt st s =
     (scoreParamsIn st)
     (sumOf topicCount (shareAt st s))
     (peerIn st s .p5)
-    (sharing st (peerIn st s .group))
+    (sharersOf st (peerIn st s .groups))
     (peerIn st s .p7)
 
 unfoldable pub balanceAt : State → ℕ → Balance
@@ -123,11 +139,11 @@ pub record Scores (st : State) (s : ℕ) (b : Balance) : Type 0 where
   pub score : worth b ≡ scoreIn st s
   pub range : BalanceIn b
 
--- "One peer's score depends on its own record, the sheet, and the number of connected peers in its group": the peers in slot s of st and
--- slot u of another state agree in these
+-- "One peer's score depends on its own record, the sheet, and the number of connected peers in its group" (01), with order 11 in each
+-- of its groups: the peers in slot s of st and slot u of another state agree in these
 pub record Agree (st : State) (s : ℕ) (other : State) (u : ℕ) : Type 0 where
   pub codes : (i : ℕ) → codeIn st i ≡ codeIn other i
   pub topics : (t : ℕ) → t < topicCount → topicIn st (place s t) ≡ topicIn other (place u t)
   pub p5 : peerIn st s .p5 ≡ peerIn other u .p5
   pub p7 : peerIn st s .p7 ≡ peerIn other u .p7
-  pub sharing : sharing st (peerIn st s .group) ≡ sharing other (peerIn other u .group)
+  pub sharers : sharersOf st (peerIn st s .groups) ≡ sharersOf other (peerIn other u .groups)

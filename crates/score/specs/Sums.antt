@@ -7,11 +7,12 @@ use lib.IntN.{ℤ, subℕ}
 use Rattle.records.specs.declared.TopicRecord.{TopicRecord}
 use Rattle.score.specs.declared.TopicParams.{TopicParams}
 use Rattle.score.specs.declared.ScoreParams.{ScoreParams}
+use Rattle.score.specs.declared.Sharers.{Sharers}
 use Rattle.score.specs.declared.Balance.{Balance}
 use Rattle.score.specs.declared.Parts.{Parts}
 use Rattle.score.specs.declared.Why.{Why}
 use Rattle.score.specs.Ranges.{scoreMost}
-use Rattle.score.specs.Parts.{square, part1Of, part2Of, part3Of, part3bOf, part4Of, surplusOf}
+use Rattle.score.specs.Parts.{square, part1Of, part2Of, part3Of, part3bOf, part4Of, crowdOf}
 
 -- a balance as a signed number
 abbrev pub worth : Balance → ℤ
@@ -48,19 +49,19 @@ p5Of w5 code =
     cond (eqb (code % 2) 1) (record { gain = 0; loss = n }) (record { gain = n; loss = 0 })
 
 -- what IP colocation (P6) and the behaviour penalty (P7) take away
-abbrev pub p6Of : ℕ → ℕ → ℕ → ℕ
-p6Of w6 threshold sharing = w6 * square (surplusOf threshold sharing) * 1000000000
+abbrev pub p6Of : ℕ → ℕ → Sharers → ℕ
+p6Of w6 threshold sharers = w6 * crowdOf threshold sharers * 1000000000
 
 abbrev pub p7Of : ℕ → ℕ → ℕ
 p7Of w7 p7 = w7 * square p7 * 1000
 
-unfoldable pub partsOf : ScoreParams → Balance → ℕ → ℕ → ℕ → Parts
-partsOf g topics code sharing p7 =
+unfoldable pub partsOf : ScoreParams → Balance → ℕ → Sharers → ℕ → Parts
+partsOf g topics code sharers p7 =
     record {
       topics = topics;
       capped = cappedOf (g .cap) topics;
       p5 = p5Of (g .w5) code;
-      p6 = p6Of (g .w6) (g .threshold) sharing;
+      p6 = p6Of (g .w6) (g .threshold) sharers;
       p7 = p7Of (g .w7) p7;
     }
 

@@ -34,6 +34,14 @@ pub struct ScoreParams {
     pub w7: u64,
 }
 
+// How many connected peers hold each of a peer's address groups, itself counted; 0 where it holds none.
+pub struct Sharers {
+    pub first: u64,
+    pub second: u64,
+    pub third: u64,
+    pub fourth: u64,
+}
+
 // A score, or a part of one: the number gain - loss.
 pub struct Balance {
     pub gain: u64,

@@ -1,15 +1,16 @@
 // Balances: sums, the topic cap, the parts of P5, P6 and P7, the whole score, and how a score is compared and returned.
 ghost use mathlib.Core.Path.{_≡_};
-ghost use Prim.Native.Nat.{_*_, _-_, _≤_};
+ghost use Prim.Native.Nat.{_*_, _≤_};
 ghost use lib.IntN.{subℕ};
 ghost use Rattle.varint.specs.Codes.{codeOf};
-ghost use Rattle.score.specs.Ranges.{ScoreParamsIn, TopicsIn, PartsIn, BalanceIn, p6Most};
-ghost use Rattle.score.specs.Parts.{square};
+ghost use Rattle.score.specs.Ranges.{ScoreParamsIn, TopicsIn, PartsIn, BalanceIn, SharersIn, crowdMost, p6Most};
+ghost use Rattle.score.specs.Parts.{square, surplusOf, crowdOf};
 ghost use Rattle.score.specs.Sums.{worth, addOf, cappedOf, p5Of, p6Of, p7Of, partsOf, totalOf, offsetOf, negativeOf, belowOf, toldOf};
 ghost use Rattle.records.specs.Records.{slotCount};
 use crate::Balance;
 use crate::Parts;
 use crate::ScoreParams;
+use crate::Sharers;
 use crate::Why;
 use crate::topic::excess;
 use crate::topic::least;
@@ -54,19 +55,39 @@ pub fn p5_part(w5: u64, code: u64) -> Balance
     }
 }
 
-// What P6 takes away of a peer whose group `sharing` connected peers share, itself counted.
-pub fn p6_part(w6: u64, threshold: u64, sharing: u64) -> u64
-    requires { ⌜ (w6 ≤ 100) × ((1 ≤ threshold) × (sharing ≤ slotCount)) ⌝ }
-    ensures { λ r. ⌜ (r ≡ p6Of w6 threshold sharing) × (r ≤ p6Most) ⌝ }
+// The squared surplus of one group that `sharing` connected peers hold.
+fn surplus_squared(threshold: u64, sharing: u64) -> u64
+    requires { ⌜ (1 ≤ threshold) × (sharing ≤ slotCount) ⌝ }
+    ensures { λ r. ⌜ (r ≡ square (surplusOf threshold sharing)) × (r ≤ 65025) ⌝ }
 {
-    surplus_part(w6, excess(sharing, threshold))
+    let n = excess(sharing, threshold);
+    n * n
 }
 
-fn surplus_part(w6: u64, surplus: u64) -> u64
-    requires { ⌜ (w6 ≤ 100) × (surplus ≤ slotCount - 1) ⌝ }
-    ensures { λ r. ⌜ (r ≡ w6 * square surplus * 1000000000) × (r ≤ p6Most) ⌝ }
+// The squared surpluses of a peer's groups, added.
+fn crowd(threshold: u64, sharers: Sharers) -> u64
+    requires { ⌜ (1 ≤ threshold) × SharersIn sharers ⌝ }
+    ensures { λ r. ⌜ (r ≡ crowdOf threshold sharers) × (r ≤ crowdMost) ⌝ }
 {
-    w6 * (surplus * surplus) * 1000000000
+    surplus_squared(threshold, sharers.first)
+        + surplus_squared(threshold, sharers.second)
+        + surplus_squared(threshold, sharers.third)
+        + surplus_squared(threshold, sharers.fourth)
+}
+
+fn crowd_part(w6: u64, crowd: u64) -> u64
+    requires { ⌜ (w6 ≤ 100) × (crowd ≤ crowdMost) ⌝ }
+    ensures { λ r. ⌜ (r ≡ w6 * crowd * 1000000000) × (r ≤ p6Most) ⌝ }
+{
+    w6 * crowd * 1000000000
+}
+
+// What P6 takes away of a peer whose groups so many connected peers hold.
+pub fn p6_part(w6: u64, threshold: u64, sharers: Sharers) -> u64
+    requires { ⌜ (w6 ≤ 100) × ((1 ≤ threshold) × SharersIn sharers) ⌝ }
+    ensures { λ r. ⌜ (r ≡ p6Of w6 threshold sharers) × (r ≤ p6Most) ⌝ }
+{
+    crowd_part(w6, crowd(threshold, sharers))
 }
 
 // What P7 takes away.
@@ -77,16 +98,16 @@ pub fn p7_part(w7: u64, p7: u64) -> u64
     term(w7, squared(p7)) * 1000
 }
 
-// The parts of a score, from the topics' total, P5's code, how many connected peers share the group, and P7's counter.
-pub fn parts(g: ScoreParams, topics: Balance, code: u64, sharing: u64, p7: u64) -> Parts
-    requires { ⌜ ScoreParamsIn g × (TopicsIn topics × ((code ≤ 2000000000) × ((sharing ≤ slotCount) × (p7 ≤ 1000000)))) ⌝ }
-    ensures { λ r. ⌜ (r ≡ partsOf g topics code sharing p7) × PartsIn r ⌝ }
+// The parts of a score, from the topics' total, P5's code, how many connected peers hold each of the groups, and P7's counter.
+pub fn parts(g: ScoreParams, topics: Balance, code: u64, sharers: Sharers, p7: u64) -> Parts
+    requires { ⌜ ScoreParamsIn g × (TopicsIn topics × ((code ≤ 2000000000) × (SharersIn sharers × (p7 ≤ 1000000)))) ⌝ }
+    ensures { λ r. ⌜ (r ≡ partsOf g topics code sharers p7) × PartsIn r ⌝ }
 {
     Parts {
         topics: topics,
         capped: capped(g.cap, topics),
         p5: p5_part(g.w5, code),
-        p6: p6_part(g.w6, g.threshold, sharing),
+        p6: p6_part(g.w6, g.threshold, sharers),
         p7: p7_part(g.w7, p7),
     }
 }

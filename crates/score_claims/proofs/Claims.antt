@@ -56,8 +56,8 @@ score-claims =
     record {
       most = λ st s ok h. router-score-most st ok s h;
       parts = parts-within;
-      depends = λ st s other u codes p5 p7 topics sharing.
-          let a : Agree st s other u = record { codes = codes; topics = topics; p5 = p5; p7 = p7; sharing = sharing } in
+      depends = λ st s other u codes p5 p7 topics sharers.
+          let a : Agree st s other u = record { codes = codes; topics = topics; p5 = p5; p7 = p7; sharers = sharers } in
           (score-depends st s other u a, why-depends st s other u a);
       sum = why-sum;
       cap = caps;

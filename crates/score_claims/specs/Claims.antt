@@ -8,7 +8,7 @@ use Rattle.records.specs.Records.{State, slotCount, topicCount, place, codeIn, 
 use Rattle.records.specs.Parameters.{topicCapAt}
 use Rattle.validity.specs.Valid.{valid}
 use Rattle.score.specs.declared.Why.{Why}
-use Rattle.score.specs.Score.{magnitudeIn, sharing, whyIn, scoreIn}
+use Rattle.score.specs.Score.{magnitudeIn, sharersOf, whyIn, scoreIn}
 
 -- "No score passes 2.6 × 10^18 either way.": in no router's state, of no slot
 abbrev pub NoScorePasses : Type 0
@@ -20,16 +20,16 @@ pub record PartsWithin (w : Why) : Type 0 where
   -- 8 topics × 1000 × 100 × 3 × 10^12
   pub topics : natAbs (w .topics) ≤ 2400000000000000000
   pub capped : natAbs (w .capped) ≤ 2400000000000000000
-  -- 100 × 10^9 × 1000; 100 × 255² × 10^9; 100 × 10^12 × 1000
+  -- 100 × 10^9 × 1000; 100 × 4 × 255² × 10^9; 100 × 10^12 × 1000
   pub p5 : natAbs (w .p5) ≤ 100000000000000
-  pub p6 : natAbs (w .p6) ≤ 6502500000000000
+  pub p6 : natAbs (w .p6) ≤ 26010000000000000
   pub p7 : natAbs (w .p7) ≤ 100000000000000000
 
 abbrev pub NoPartPasses : Type 0
 NoPartPasses = (st : State) (s : ℕ) → valid st ≡ true → s < slotCount → PartsWithin (whyIn st s)
 
--- "One peer's score depends on its own record, the sheet, and the number of connected peers in its group, and on nothing else.": the peer
--- in slot s of a state and the one in slot u of another, of any two states
+-- "One peer's score depends on its own record, the sheet, and the number of connected peers in its group, and on nothing else." (01), with
+-- order 11 in each of its groups: the peer in slot s of a state and the one in slot u of another, of any two states
 abbrev pub DependsOnNothingElse : Type 0
 DependsOnNothingElse =
     (st : State) (s : ℕ) (other : State) (u : ℕ) →
@@ -39,8 +39,8 @@ DependsOnNothingElse =
     peerIn st s .p5 ≡ peerIn other u .p5 →
     peerIn st s .p7 ≡ peerIn other u .p7 →
     ((t : ℕ) → t < topicCount → topicIn st (place s t) ≡ topicIn other (place u t)) →
-    -- the number of connected peers in its group
-    sharing st (peerIn st s .group) ≡ sharing other (peerIn other u .group) →
+    -- the number of connected peers in its groups
+    sharersOf st (peerIn st s .groups) ≡ sharersOf other (peerIn other u .groups) →
     -- the score, and each of its parts
     (scoreIn st s ≡ scoreIn other u) × (whyIn st s ≡ whyIn other u)
 

@@ -4,7 +4,7 @@ use Prim.Native.Nat.{ℕ, zero, suc, _+_, _-_, _≤_, _<_}
 use mathlib.Core.Path.{_≡_, refl, sym, ap, ap₂, _∙_}
 use mathlib.Core.Logic.{_≢_}
 use mathlib.Core.Bool.{Bool, true, false, cond}
-use mathlib.Core.List.{List, []}
+use mathlib.Core.List.{List, [], _∷_}
 use native.Mathlib.Omega.{arith}
 use native.Mathlib.Nat.{zero-add}
 use borrow.Author.Tests.{lt-leb, le-leb, lt-ltb, le-ltb, ne-eqb}
@@ -167,7 +167,7 @@ module _ (s v : List ℕ) (at : ℕ) where
       getD v 4 0 ≤ nameMost →
       at + getD v 4 0 ≤ length s →
       named s v at
-      ≡ event (connect (getD v 0 0) (getD v 1 0) (getD v 2 0) (getD v 3 0) (take (getD v 4 0) (drop at s))) (at + getD v 4 0)
+      ≡ event (connect (getD v 0 0) (getD v 1 0) (getD v 2 0 ∷ []) (getD v 3 0) (take (getD v 4 0) (drop at s))) (at + getD v 4 0)
   unfolding named callOf
   named-whole h l = rw (le-leb (getD v 4 0) nameMost h, le-leb (at + getD v 4 0) (length s) l)
 
@@ -194,7 +194,7 @@ module _ (s v : List ℕ) (at : ℕ) where
       (a : Answer) (table table′ list list′ : List ℕ) →
       getD v 4 0 ≤ nameMost →
       at + getD v 4 0 ≤ length s →
-      Follows (connect (getD v 0 0) (getD v 1 0) (getD v 2 0) (getD v 3 0) (take (at + getD v 4 0 - at) (drop at s))) a table table′ list
+      Follows (connect (getD v 0 0) (getD v 1 0) (getD v 2 0 ∷ []) (getD v 3 0) (take (at + getD v 4 0 - at) (drop at s))) a table table′ list
       list′ →
       Performs (performEvent (stateOf table) (length list) (named s v at)) (Answered (at + getD v 4 0) a) table′ list list′
   connect-called a table table′ list list′ h l f =

@@ -129,7 +129,8 @@ fn connect(
         return Performed::CutShort;
     }
     let next = at + n;
-    let a = router::connect(table, v[0], v[1], v[2], v[3], &s[at..next], actions);
+    let groups = [v[2]];
+    let a = router::connect(table, v[0], v[1], &groups, v[3], &s[at..next], actions);
     Performed::Answered(next, a)
 }
 

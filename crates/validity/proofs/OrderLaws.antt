@@ -17,11 +17,12 @@ use Rattle.params.specs.Check.{acceptedCodes}
 use Rattle.records.specs.Records.{State, slotCount, topicCount, place, joinedIn, peerIn, topicIn}
 use Rattle.records.specs.declared.Peer.{Peer}
 use Rattle.records.specs.declared.TopicRecord.{TopicRecord}
-use Rattle.validity.specs.Valid.{maxTime, maxEnd, peerRanges, endsUpTo, idOk, zeroPeer, emptyOk, retainOk, peerOk, zeroTopic}
+use Rattle.validity.specs.Valid.{maxTime, maxEnd, peerRanges, endsUpTo, usedOk, zeroPeer, emptyOk, retainOk, peerOk, zeroTopic}
 use Rattle.validity.specs.Valid.{topicRanges, emptyTopicOk, outsideOk, retainedOk, memberOk, timesOk, topicOk, topicOkAt, cap2, cap3}
-use Rattle.validity.specs.Valid.{joinedOk, slotOk, newId, valid}
+use Rattle.validity.specs.Valid.{risingOk, zeroGroups, joinedOk, slotOk, newId, valid}
 use Rattle.validity.specs.Order.{counterRanges, flagRanges, restOk, smallOk, Small, zeroTopicAt}
 use Rattle.validity.proofs.Conditions.{all3, all4, all8, all9}
+use Rattle.validity.proofs.ValidLaws.{zero-groups}
 
 -- ---- the ranges, one after the other
 module _ (cap2 cap3 : ℕ) (t : TopicRecord) where
@@ -252,13 +253,14 @@ module _ (st : State) (s : ℕ) where
 -- ---- a connected peer's record
 module _ (p : Peer) where
   module _ (on : p .status ≡ 1) where
-    parts-on : (idOk p ≡ leb 1 (p .id)) × (emptyOk p ≡ true) × (retainOk p ≡ eqb (p .retain) 0)
-    unfolding idOk emptyOk retainOk
+    parts-on : (usedOk p ≡ leb 1 (p .id) && leb 1 (p .groups .first)) × (emptyOk p ≡ true) × (retainOk p ≡ eqb (p .retain) 0)
+    unfolding usedOk emptyOk retainOk
     parts-on = (rw on refl, rw on refl, rw on refl)
 
-    turned : peerOk p ≡ ((leb 1 (p .id) && eqb (p .retain) 0) && endsUpTo maxEnd p) && peerRanges p
+    turned : peerOk p ≡ ((leb 1 (p .id) && leb 1 (p .groups .first) && eqb (p .retain) 0) && endsUpTo maxEnd p) && peerRanges p
     unfolding peerOk
-    turned = rw (parts-on .0, parts-on .1, parts-on .2) (turn (peerRanges p) (endsUpTo maxEnd p) (leb 1 (p .id)) (eqb (p .retain) 0))
+    turned = rw (parts-on .0, parts-on .1, parts-on .2)
+        (turn (peerRanges p) (endsUpTo maxEnd p) (leb 1 (p .id) && leb 1 (p .groups .first)) (eqb (p .retain) 0))
       where
         turn : (a b c d : Bool) → a && b && c && true && d ≡ ((c && d) && b) && a
         turn true true true true = refl
@@ -269,10 +271,15 @@ module _ (p : Peer) where
         turn true false false d = refl
         turn false b c d = sym (and-false ((c && d) && b))
 
-    pub id-fails : leb 1 (p .id) && eqb (p .retain) 0 ≡ false → false ≡ peerOk p
+    pub id-fails : leb 1 (p .id) && leb 1 (p .groups .first) && eqb (p .retain) 0 ≡ false → false ≡ peerOk p
     id-fails e = sym (turned ∙ rw e refl)
 
-    pub ranges-are : leb 1 (p .id) && eqb (p .retain) 0 ≡ true → endsUpTo maxEnd p ≡ true → (r : Bool) → r ≡ peerRanges p → r ≡ peerOk p
+    pub ranges-are :
+        leb 1 (p .id) && leb 1 (p .groups .first) && eqb (p .retain) 0 ≡ true →
+        endsUpTo maxEnd p ≡ true →
+        (r : Bool) →
+        r ≡ peerRanges p →
+        r ≡ peerOk p
     ranges-are a e r er = er ∙ sym (turned ∙ rw (a, e) refl)
 
 -- ---- an empty slot: what is all zero passes every other test
@@ -291,12 +298,12 @@ module _ (p : Peer) (none : p .status ≡ 0) where
 
   peer-not : zeroPeer p ≡ false → peerOk p ≡ false
   unfolding peerOk
-  peer-not e = rw (not-empty e) (four (peerRanges p) (endsUpTo maxEnd p) (idOk p) (retainOk p))
+  peer-not e = rw (not-empty e) (four (peerRanges p) (endsUpTo maxEnd p) (usedOk p) (retainOk p))
 
   peer-all : zeroPeer p ≡ true → peerOk p ≡ zeroPeer p
-  unfolding peerOk peerRanges endsUpTo idOk emptyOk retainOk zeroPeer
+  unfolding peerOk peerRanges risingOk endsUpTo usedOk emptyOk retainOk zeroPeer zeroGroups
   peer-all e =
-      let q = all9 (eqb (p .id) 0) (eqb (p .group) 0) (eqb (p .outbound) 0) (eqb (p .explicit) 0) (eqb (p .version) 0) (eqb (p .p5) 0)
+      let q = all9 (eqb (p .id) 0) (zeroGroups (p .groups)) (eqb (p .outbound) 0) (eqb (p .explicit) 0) (eqb (p .version) 0) (eqb (p .p5) 0)
       (eqb (p .p7) 0) (eqb (p .retain) 0) (endsUpTo 0 p) e in
       let ends : every topicCount (λ t. leb (getD (p .backoff) t 0) maxEnd) ≡ true
       = every-by (λ t. leb (getD (p .backoff) t 0) maxEnd) topicCount
@@ -307,7 +314,7 @@ module _ (p : Peer) (none : p .status ≡ 0) where
         q .8,
         none,
         eqb-true (p .id) 0 (q .0),
-        eqb-true (p .group) 0 (q .1),
+        zero-groups (p .groups) (q .1),
         eqb-true (p .outbound) 0 (q .2),
         eqb-true (p .explicit) 0 (q .3),
         eqb-true (p .version) 0 (q .4),

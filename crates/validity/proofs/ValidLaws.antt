@@ -12,11 +12,13 @@ use Rattle.index.specs.Index.{every}
 use Rattle.index.proofs.Index.{both, every-at, every-by}
 use Rattle.index.proofs.Flags.{all5, by-test}
 use Rattle.params.proofs.ParamLaws.{Accepts, topic}
+use Rattle.records.specs.declared.Groups.{Groups}
 use Rattle.records.specs.declared.Peer.{Peer}
 use Rattle.records.specs.declared.TopicRecord.{TopicRecord}
-use Rattle.records.specs.Records.{State, place, noPeer, noTopic, joinedIn, peerIn, topicIn, isEmpty, isRetained, slotCount}
+use Rattle.records.specs.Records.{State, place, noGroups, noPeer, noTopic, joinedIn, peerIn, topicIn, isEmpty, isRetained, slotCount}
 use Rattle.records.specs.Records.{topicCount}
-use Rattle.validity.specs.Valid.{maxTime, maxEnd, maxRetain, maxId, peerRanges, endsUpTo, idOk, zeroPeer, emptyOk, retainOk, peerOk}
+use Rattle.validity.specs.Valid.{maxTime, maxEnd, maxRetain, maxId, peerRanges, endsUpTo, usedOk, zeroPeer, emptyOk, retainOk, peerOk}
+use Rattle.validity.specs.Valid.{risingOk, zeroGroups}
 use Rattle.validity.specs.Valid.{topicRanges, zeroTopic, emptyTopicOk, outsideOk, retainedOk, memberOk, timesOk, topicOk}
 use Rattle.validity.specs.Valid.{cap2, cap3, joinedOk, topicOkAt, slotOk, apart, newId, valid}
 use Rattle.validity.proofs.Conditions.{all4, all6, all8, all9, then, then-by, else, else-by}
@@ -25,7 +27,7 @@ use Rattle.validity.proofs.Conditions.{all4, all6, all8, all9, then, th
 pub record PeerFacts (p : Peer) : Type 0 where
   pub status : p .status ≤ 2
   pub id : p .id ≤ maxId
-  pub group : p .group ≤ maxId
+  pub groups : risingOk (p .groups) ≡ true
   pub outbound : p .outbound ≤ 1
   pub explicit : p .explicit ≤ 1
   pub version : p .version ≤ 1
@@ -34,6 +36,7 @@ pub record PeerFacts (p : Peer) : Type 0 where
   pub retain : p .retain ≤ maxRetain
   pub ends : (t : ℕ) → t < topicCount → getD (p .backoff) t 0 ≤ maxEnd
   pub used : (p .status ≡ 0 → ⊥) → 1 ≤ p .id
+  pub held : (p .status ≡ 0 → ⊥) → 1 ≤ p .groups .first
   pub empty : p .status ≡ 0 → zeroPeer p ≡ true
   pub over : (p .status ≡ 2 → ⊥) → p .retain ≡ 0
 
@@ -48,14 +51,17 @@ ends-by m p h =
     every-by (λ k. leb (getD (p .backoff) k 0) m) 8 (λ t b. le-leb (getD (p .backoff) t 0) m (h t b))
 
 pub peer-facts : (p : Peer) → peerOk p ≡ true → PeerFacts p
-unfolding peerOk peerRanges idOk emptyOk retainOk
+unfolding peerOk peerRanges usedOk emptyOk retainOk
 peer-facts p e =
     let q = all5 _ _ _ _ _ e in
     let r = all9 _ _ _ _ _ _ _ _ _ (q .0) in
+    let has : (p .status ≡ 0 → ⊥) → (leb 1 (p .id) ≡ true) × (leb 1 (p .groups .first) ≡ true) =
+    λ n. both (leb 1 (p .id)) (leb 1 (p .groups .first))
+    (else (isEmpty p) (leb 1 (p .id) && leb 1 (p .groups .first)) (q .2) (ne-eqb (p .status) 0 n)) in
     record {
       status = leb-true (p .status) 2 (r .0);
       id = leb-true (p .id) maxId (r .1);
-      group = leb-true (p .group) maxId (r .2);
+      groups = r .2;
       outbound = leb-true (p .outbound) 1 (r .3);
       explicit = leb-true (p .explicit) 1 (r .4);
       version = leb-true (p .version) 1 (r .5);
@@ -63,23 +69,26 @@ peer-facts p e =
       p7 = leb-true (p .p7) 1000000 (r .7);
       retain = leb-true (p .retain) maxRetain (r .8);
       ends = ends-at maxEnd p (q .1);
-      used = λ n. leb-true 1 (p .id) (else (isEmpty p) (leb 1 (p .id)) (q .2) (ne-eqb (p .status) 0 n));
+      used = λ n. leb-true 1 (p .id) (has n .0);
+      held = λ n. leb-true 1 (p .groups .first) (has n .1);
       empty = λ h. then (isEmpty p) (zeroPeer p) (q .3) (eq-eqb (p .status) 0 h);
       over = λ n. eqb-true (p .retain) 0 (else (isRetained p) (eqb (p .retain) 0) (q .4) (ne-eqb (p .status) 2 n));
     }
 
 pub peer-holds : (p : Peer) → PeerFacts p → peerOk p ≡ true
-unfolding peerOk peerRanges idOk emptyOk retainOk
+unfolding peerOk peerRanges usedOk emptyOk retainOk
 peer-holds p f =
-    let b : idOk p ≡ true =
-    else-by (isEmpty p) (leb 1 (p .id)) (λ n. le-leb 1 (p .id) (f .used (eqb-false (p .status) 0 n))) in
+    let b : usedOk p ≡ true =
+    else-by (isEmpty p) (leb 1 (p .id) && leb 1 (p .groups .first)) (λ n.
+    let u = eqb-false (p .status) 0 n in
+    rw (le-leb 1 (p .id) (f .used u), le-leb 1 (p .groups .first) (f .held u))) in
     let d : emptyOk p ≡ true = then-by (isEmpty p) (zeroPeer p) (λ h. f .empty (eqb-true (p .status) 0 h)) in
     let g : retainOk p ≡ true =
     else-by (isRetained p) (eqb (p .retain) 0) (λ n. eq-eqb (p .retain) 0 (f .over (eqb-false (p .status) 2 n))) in
     rw (
       le-leb (p .status) 2 (f .status),
       le-leb (p .id) maxId (f .id),
-      le-leb (p .group) maxId (f .group),
+      f .groups,
       le-leb (p .outbound) 1 (f .outbound),
       le-leb (p .explicit) 1 (f .explicit),
       le-leb (p .version) 1 (f .version),
@@ -97,6 +106,18 @@ unfolding every
 none-zero t h =
     eqb-true (getD (noPeer .backoff) t 0) 0 (every-at (λ k. eqb (getD (noPeer .backoff) k 0) 0) 8 t refl h)
 
+-- no group at all
+pub zero-groups : (g : Groups) → zeroGroups g ≡ true → g ≡ noGroups
+unfolding zeroGroups
+zero-groups g e =
+    let q = all4 (eqb (g .first) 0) (eqb (g .second) 0) (eqb (g .third) 0) (eqb (g .fourth) 0) e in
+    λ i. record {
+      first = eqb-true (g .first) 0 (q .0) i;
+      second = eqb-true (g .second) 0 (q .1) i;
+      third = eqb-true (g .third) 0 (q .2) i;
+      fourth = eqb-true (g .fourth) 0 (q .3) i;
+    }
+
 -- an empty record is the record of zeros
 pub zero-is : (p : Peer) → zeroPeer p ≡ true → p .status ≡ 0 → length (p .backoff) ≡ 8 → p ≡ noPeer
 unfolding zeroPeer
@@ -104,7 +125,7 @@ zero-is p e s l =
     let r =
     all9
     (eqb (p .id) 0)
-    (eqb (p .group) 0)
+    (zeroGroups (p .groups))
     (eqb (p .outbound) 0)
     (eqb (p .explicit) 0)
     (eqb (p .version) 0)
@@ -118,7 +139,7 @@ zero-is p e s l =
     λ i. record {
       status = s i;
       id = eqb-true (p .id) 0 (r .0) i;
-      group = eqb-true (p .group) 0 (r .1) i;
+      groups = zero-groups (p .groups) (r .1) i;
       outbound = eqb-true (p .outbound) 0 (r .2) i;
       explicit = eqb-true (p .explicit) 0 (r .3) i;
       version = eqb-true (p .version) 0 (r .4) i;
@@ -129,12 +150,12 @@ zero-is p e s l =
     }
 
 pub no-peer : PeerFacts noPeer
-unfolding zeroPeer endsUpTo every
+unfolding zeroPeer zeroGroups risingOk endsUpTo every
 no-peer =
     record {
       status = omega arith;
       id = omega arith;
-      group = omega arith;
+      groups = refl;
       outbound = omega arith;
       explicit = omega arith;
       version = omega arith;
@@ -143,6 +164,7 @@ no-peer =
       retain = omega arith;
       ends = ends-at maxEnd noPeer refl;
       used = λ n. absurd (n refl);
+      held = λ n. absurd (n refl);
       empty = λ h. refl;
       over = λ n. refl;
     }

@@ -3,9 +3,10 @@
 use Prim.Native.Nat.{ℕ, _+_, _*_}
 use mathlib.Core.Bool.{Bool, _&&_, _||_, not}
 use lib.ListN.{getD}
-use lib.Dec.{eqb, leb}
+use lib.Dec.{eqb, leb, ltb}
 use Rattle.index.specs.Index.{every}
 use Rattle.params.specs.Check.{acceptedCodes}
+use Rattle.records.specs.declared.Groups.{Groups}
 use Rattle.records.specs.declared.Peer.{Peer}
 use Rattle.records.specs.declared.TopicRecord.{TopicRecord}
 use Rattle.varint.specs.Codes.{magnitude}
@@ -23,17 +24,32 @@ maxEnd = 1099515227776
 abbrev pub maxRetain : ℕ
 maxRetain = 1099598027776
 
--- "Peer ids are 1 to 4,294,967,295"; "address group (32 bits)"
+-- "Peer ids are 1 to 4,294,967,295"
 abbrev pub maxId : ℕ
 maxId = 4294967295
 
+-- "address group (32 bits)", as a record holds it: the group + 1
+abbrev pub maxGroup : ℕ
+maxGroup = 4294967296
+
 -- ---- a peer's record
+-- "one to four different address groups [..], lowest first" (02, order 11): after a there is none, or a group above a, which is one
+abbrev pub follows : ℕ → ℕ → Bool
+follows a b = eqb b 0 || (leb 1 a && ltb a b && leb b maxGroup)
+
+unfoldable pub risingOk : Groups → Bool
+risingOk g =
+    leb (g .first) maxGroup
+    && follows (g .first) (g .second)
+    && follows (g .second) (g .third)
+    && follows (g .third) (g .fourth)
+
 -- "every number is in its range": P5 is the code of a number up to 10^9 either way, so at most 2 * 10^9; "P4 and P7 stop at 10^6"
 unfoldable pub peerRanges : Peer → Bool
 peerRanges p =
     leb (p .status) 2
     && leb (p .id) maxId
-    && leb (p .group) maxId
+    && risingOk (p .groups)
     && leb (p .outbound) 1
     && leb (p .explicit) 1
     && leb (p .version) 1
@@ -45,15 +61,18 @@ peerRanges p =
 unfoldable pub endsUpTo : ℕ → Peer → Bool
 endsUpTo m p = every topicCount (λ t. leb (getD (p .backoff) t 0) m)
 
--- an id is at least 1
-unfoldable pub idOk : Peer → Bool
-idOk p = isEmpty p || leb 1 (p .id)
+-- a record that is not empty has an id, which is at least 1, and at least one group
+unfoldable pub usedOk : Peer → Bool
+usedOk p = isEmpty p || (leb 1 (p .id) && leb 1 (p .groups .first))
 
 -- "empty records are all zero"
+unfoldable pub zeroGroups : Groups → Bool
+zeroGroups g = eqb (g .first) 0 && eqb (g .second) 0 && eqb (g .third) 0 && eqb (g .fourth) 0
+
 unfoldable pub zeroPeer : Peer → Bool
 zeroPeer p =
     eqb (p .id) 0
-    && eqb (p .group) 0
+    && zeroGroups (p .groups)
     && eqb (p .outbound) 0
     && eqb (p .explicit) 0
     && eqb (p .version) 0
@@ -70,7 +89,7 @@ unfoldable pub retainOk : Peer → Bool
 retainOk p = isRetained p || eqb (p .retain) 0
 
 unfoldable pub peerOk : Peer → Bool
-peerOk p = peerRanges p && endsUpTo maxEnd p && idOk p && emptyOk p && retainOk p
+peerOk p = peerRanges p && endsUpTo maxEnd p && usedOk p && emptyOk p && retainOk p
 
 -- ---- what a record holds for one topic, by the status and the explicit flag of its peer, the topic's joined flag, the clock, and the caps
 -- "P2, P3 counters to their caps"; "P4 and P7 stop at 10^6, P3b at 10^12"

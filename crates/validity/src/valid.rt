@@ -10,16 +10,17 @@ ghost use Rattle.index.specs.Index.{every};
 ghost use Rattle.records.specs.Records.{peerIn, slotCount, topicCount};
 ghost use Rattle.layout.specs.View.{stateOf, cellCount};
 ghost use Rattle.validity.specs.Order.{counterRanges, flagRanges, restOk, smallOk, Small, zeroTopicAt, Caps};
-ghost use Rattle.validity.specs.Valid.{maxTime, maxEnd, peerRanges, endsUpTo, zeroPeer, peerOk, zeroTopic, memberOk, topicOk};
+ghost use Rattle.validity.specs.Valid.{maxTime, maxEnd, risingOk, peerRanges, endsUpTo, zeroGroups, zeroPeer, peerOk, zeroTopic, memberOk, topicOk};
 ghost use Rattle.validity.specs.Valid.{topicParam, joinedOk, topicOkAt, slotOk, valid};
 use crate::ids::ids_distinct;
+use records::Groups;
 use records::Peer;
 use records::SLOTS;
 use records::TOPICS;
 use records::TopicRecord;
 use records::param;
 
-// The greatest time, backoff end, retain end, and id or group.
+// The greatest time, backoff end, retain end, id, and group, which a record holds as the group + 1.
 pub const MAX_TIME: u64 = 1099511627776;
 
 pub const MAX_END: u64 = 1099515227776;
@@ -28,18 +29,38 @@ pub const MAX_RETAIN: u64 = 1099598027776;
 
 pub const MAX_ID: u64 = 4294967295;
 
+const MAX_GROUP: u64 = MAX_ID + 1;
+
 // Where the numbers of topic 0 begin among the parameters, how many each topic has, and which of them are the caps of P2 and P3.
 const TOPIC_PARAMS: usize = 19;
 
 const PER_TOPIC: usize = 16;
 
+// Whether the groups of a record go upward, with none past the last.
+fn rising_ok(g: Groups) -> bool
+    ensures { λ r. ⌜ r ≡ risingOk g ⌝ }
+{
+    (g.first <= MAX_GROUP)
+        & ((g.second == 0) | ((1 <= g.first) & (g.first < g.second) & (g.second <= MAX_GROUP)))
+        & ((g.third == 0) | ((1 <= g.second) & (g.second < g.third) & (g.third <= MAX_GROUP)))
+        & ((g.fourth == 0) | ((1 <= g.third) & (g.third < g.fourth) & (g.fourth <= MAX_GROUP)))
+}
+
+// Whether there is no group.
+fn zero_groups(g: Groups) -> bool
+    ensures { λ r. ⌜ r ≡ zeroGroups g ⌝ }
+{
+    (g.first == 0) & (g.second == 0) & (g.third == 0) & (g.fourth == 0)
+}
+
 // Whether each number of a peer's record is in its range, but for the backoff ends.
 fn peer_ranges(p: Peer) -> bool
     ensures { λ r. ⌜ r ≡ peerRanges p ⌝ }
 {
+    let rising = rising_ok(p.groups);
     (p.status <= 2)
         & (p.id <= MAX_ID)
-        & (p.group <= MAX_ID)
+        & rising
         & (p.outbound <= 1)
         & (p.explicit <= 1)
         & (p.version <= 1)
@@ -67,9 +88,10 @@ fn ends_up_to(m: u64, p: Peer) -> bool
 fn zero_peer(p: Peer) -> bool
     ensures { λ r. ⌜ r ≡ zeroPeer p ⌝ }
 {
+    let groups = zero_groups(p.groups);
     let ends = ends_up_to(0, p);
     (p.id == 0)
-        & (p.group == 0)
+        & groups
         & (p.outbound == 0)
         & (p.explicit == 0)
         & (p.version == 0)
@@ -84,7 +106,7 @@ fn connected_ok(p: Peer) -> bool
     requires { ⌜ (p .status ≡ 1) × (endsUpTo maxEnd p ≡ true) ⌝ }
     ensures { λ r. ⌜ r ≡ peerOk p ⌝ }
 {
-    if !((1 <= p.id) & (p.retain == 0)) {
+    if !((1 <= p.id) & (1 <= p.groups.first) & (p.retain == 0)) {
         return false;
     }
     peer_ranges(p)
@@ -99,7 +121,7 @@ fn peer_ok(p: Peer) -> bool
     let zeros = zero_peer(p);
     ranges
         & ends
-        & ((p.status == 0) | (1 <= p.id))
+        & ((p.status == 0) | ((1 <= p.id) & (1 <= p.groups.first)))
         & (!(p.status == 0) | zeros)
         & ((p.status == 2) | (p.retain == 0))
 }

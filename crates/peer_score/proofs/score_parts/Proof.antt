@@ -2,7 +2,7 @@
 -- Assumes nothing.
 use borrow.Author.Needs.{needs}
 use Rattle.score.proofs.InputLaws.{slot-in}
-use Rattle.score.proofs.ScoreLaws.{parts-ready, parts-done}
+use Rattle.score.proofs.ScoreLaws.{sharers-most, parts-ready, parts-done}
 use Rattle.peer_score.proofs.score_parts.Statement.{statement}
 use Rattle.peer_score.proofs.score_parts.Tie as tie
 
@@ -16,7 +16,7 @@ parts-requires c κs =
     (p .peer)
     (c .before .load-general .ensures)
     (c .topics-at .ensures .1)
-    (counted .sharing-of .ensures .1)
+    (rw (counted .sharers-of .ensures) (sharers-most _ _))
 
 returns : tie.Need-returns
 returns c =
@@ -30,7 +30,7 @@ returns c =
           _
           (c .parts .ensures .0)
           (c .before .topics-at .ensures .0)
-          (counted .sharing-of .ensures .0),
+          (counted .sharers-of .ensures),
       c .parts .ensures .1,
     )
 

@@ -29,4 +29,4 @@ sharing-of-spec =
     (λ c. omega arith)
     (λ c. omega arith)
     (λ c. (omega arith, (omega arith, sharing-more _ _ _ _ _ (c .before .before .loop .inv .1 .1) (c .shares .ensures .0))))
-    (λ c. let l = c .before .loop in (sharing-done _ _ _ _ (l .inv .0) (c .loop-test .left) (l .inv .1 .1), omega arith)))
+    (λ c. let l = c .before .loop in sharing-done _ _ _ _ (l .inv .0) (c .loop-test .left) (l .inv .1 .1)))

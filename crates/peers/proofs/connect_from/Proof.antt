@@ -12,10 +12,11 @@ returns-2 c =
 
 returns-3 : tie.Need-returns-3
 returns-3 c =
-    connect-new _ _ _ _ _ _ _
-    (c .before .before .before .before .before .before .before .before .before .before .before .version-of .ensures) _
-    (c .before .before .before .before .before .before .before .before .before .version .given .1) _ (search) _ _
-    (c .before .before .before .before .enum-told3 .given .1) (c .before .before .connect-known .ensures)
+    let g = c .before .before .before in
+    let f = g .before .before in
+    let v = f .before .before .before .before .before in
+    connect-new _ _ _ _ _ _ _ (v .before .before .version-of .ensures) _ (v .version .given .1) _ (search) _ _ _
+    (f .enum-told3 .given .1) (g .groups-of .ensures) (c .before .before .connect-known .ensures)
 
 pub connect-from-spec : {M : Type 1} → statement M
 connect-from-spec =
@@ -30,6 +31,7 @@ connect-from-spec =
     (λ c. search needs)
     returns-2
     (λ c. search needs)
+    (λ c κs. search needs)
     (λ c κs. search needs)
     (λ c. search needs)
     returns-3)

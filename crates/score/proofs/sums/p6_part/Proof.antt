@@ -1,5 +1,4 @@
 -- `score::sums::p6_part` meets its contract. Assumes nothing.
-use native.Mathlib.Omega.{arith}
 use borrow.Author.Needs.{needs}
 use Rattle.score.proofs.sums.p6_part.Statement.{statement}
 use Rattle.score.proofs.sums.p6_part.Tie as tie
@@ -8,5 +7,5 @@ pub p6-part-spec : {M : Type 1} → statement M
 p6-part-spec =
     tie.close (tie.spec
     (λ c κs. search needs)
-    (λ c κs. omega arith)
-    (λ c. (cc, c .surplus-part .ensures .1)))
+    (λ c κs. search needs)
+    (λ c. (cc, c .crowd-part .ensures .1)))

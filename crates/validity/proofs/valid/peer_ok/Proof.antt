@@ -1,10 +1,10 @@
 use borrow.Author.Needs.{needs}
-use Rattle.validity.specs.Valid.{idOk, emptyOk, retainOk, peerOk}
+use Rattle.validity.specs.Valid.{usedOk, emptyOk, retainOk, peerOk}
 use Rattle.validity.proofs.valid.peer_ok.Statement.{statement}
 use Rattle.validity.proofs.valid.peer_ok.Tie as tie
 
 pub peer-ok-spec : {M : Type 1} → statement M
-unfolding peerOk idOk emptyOk retainOk
+unfolding peerOk usedOk emptyOk retainOk
 peer-ok-spec =
     tie.close
     (tie.spec

@@ -1,4 +1,4 @@
-use mathlib.Core.Path.{refl}
+use borrow.Author.Needs.{needs}
 use Rattle.validity.specs.Valid.{peerRanges}
 use Rattle.validity.proofs.valid.peer_ranges.Statement.{statement}
 use Rattle.validity.proofs.valid.peer_ranges.Tie as tie
@@ -8,4 +8,5 @@ unfolding peerRanges
 peer-ranges-spec =
     tie.close
     (tie.spec
-    (λ c. refl))
+    (λ c κs. search needs)
+    (λ c. cc))

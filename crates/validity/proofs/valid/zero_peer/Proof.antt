@@ -9,4 +9,5 @@ zero-peer-spec =
     tie.close
     (tie.spec
     (λ c κs. search needs)
+    (λ c κs. search needs)
     (λ c. cc))
