@@ -1,3 +1,4 @@
 pub mod SeenLaws
 pub mod SettleLaws
 pub mod ReplyLaws
+pub mod TellLaws
