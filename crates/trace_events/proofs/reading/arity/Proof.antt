@@ -12,7 +12,7 @@ returns c = as-arity _ _ _ (arity-connect _ _ _ (c .before .if1 .taken) (c .conn
 
 returns-2 : tie.Need-returns-2
 unfolding arities
-returns-2 c = as-arity _ _ _ (arity-other _ _ (c .before .before .if1 .left))
+returns-2 c = as-arity _ _ _ (arity-other _ _ (c .before .if1 .left))
 
 returns-3 : tie.Need-returns-3
 returns-3 c = as-arity _ _ _ (arity-past _ _ (c .if2 .left))
