@@ -23,7 +23,8 @@ use Rattle.params.specs.Editions.{sheet}
 use Rattle.params.specs.Check.{firstBroken}
 use Rattle.params.proofs.CheckLaws.{broken-most}
 use Rattle.records.specs.Records.{paramCount}
-use Rattle.params_bytes.specs.Read.{Parse, numbers, malformed, then, step, parseFrom, editionAt, editionIn, frontBytes, parseAt, ending}
+use Rattle.params_bytes.specs.Read.{Parse, numbers, malformed, then, step, parseFrom, editionAt, editionIn, frontBytes, parseAt}
+use Rattle.params_bytes.specs.Read.{ending}
 use Rattle.params_bytes.specs.Read.{parseAll, judgedBy, judged, readOf, verdictValue}
 use Rattle.params_bytes.specs.Write.{roomFor, writeBy, writeOf, writtenValue}
 use Rattle.params_bytes.proofs.WriteLaws.{room-is, front-short}

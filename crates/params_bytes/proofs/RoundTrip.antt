@@ -176,7 +176,12 @@ module _ (p : Params) (n147 : length (p .numbers) ≡ paramCount) (ok : firstBro
   parse-written rest =
       let front = frontBytes (p .edition) in
       let b = bytesOf (p .numbers) in
-      rw (parse-start (formOf p ++ rest), form-front p rest n147 (accepted-in p ok 0 (lit< tt)), append-assoc front b rest, length-append front b)
+      rw (
+        parse-start (formOf p ++ rest),
+        form-front p rest n147 (accepted-in p ok 0 (lit< tt)),
+        append-assoc front b rest,
+        length-append front b,
+      )
       (rw n147 at (read-back (p .numbers) front rest small))
 
   edition-written : (rest : List ℕ) → editionIn (formOf p ++ rest) ≡ p .edition

@@ -1,14 +1,18 @@
 -- What 01 and 02 say of every score beside its formula (crate score, specs/Formula.antt and specs/Score.antt). To be changed with it.
 use Prim.Native.Nat.{ℕ, _*_, _<_, _≤_}
 use mathlib.Core.Path.{_≡_}
-use mathlib.Core.Bool.{true, false}
-use lib.IntN.{pos, natAbs, _+ℤ_}
+use mathlib.Core.Bool.{true, false, _&&_}
+use lib.Dec.{eqb}
+use lib.IntN.{pos, natAbs, _+ℤ_, _*ℤ_}
 use lib.Signed.{leZ}
-use Rattle.records.specs.Records.{State, slotCount, topicCount, place, codeIn, peerIn, topicIn}
-use Rattle.records.specs.Parameters.{topicCapAt}
+use Rattle.index.specs.Index.{count}
+use Rattle.records.specs.declared.Groups.{Groups}
+use Rattle.records.specs.Records.{State, slotCount, topicCount, place, codeIn, peerIn, topicIn, isConnected}
+use Rattle.records.specs.Parameters.{topicCapAt, w6At, p6ThresholdAt}
 use Rattle.validity.specs.Valid.{valid}
 use Rattle.score.specs.declared.Why.{Why}
-use Rattle.score.specs.Score.{magnitudeIn, sharersOf, whyIn, scoreIn}
+use Rattle.score.specs.Parts.{square, surplusOf}
+use Rattle.score.specs.Score.{paramIn, magnitudeIn, sharing, sharersOf, whyIn, scoreIn}
 
 -- "No score passes 2.6 × 10^18 either way.": in no router's state, of no slot
 abbrev pub NoScorePasses : Type 0
@@ -65,9 +69,33 @@ pub record CapsFromAbove (st : State) (s : ℕ) : Type 0 where
 abbrev pub BoundsFromAboveOnly : Type 0
 BoundsFromAboveOnly = (st : State) (s : ℕ) → CapsFromAbove st s
 
+-- With order 11 a peer that holds one group fares as in 01: P6 is "w6 × surplus² × 10^9, the surplus being how many connected peers share
+-- its group, itself counted, above the P6 threshold, or 0"
+abbrev pub HoldsOne : Groups → Type 0
+HoldsOne g = (1 ≤ g .first) × (g .second ≡ 0) × (g .third ≡ 0) × (g .fourth ≡ 0)
+
+abbrev pub OneGroupAsBefore : Type 0
+OneGroupAsBefore =
+    (st : State) (s : ℕ) →
+    HoldsOne (peerIn st s .groups) →
+    whyIn st s .p6
+    ≡ paramIn st w6At
+    *ℤ pos (square (surplusOf (magnitudeIn st p6ThresholdAt) (sharing st (peerIn st s .groups .first))))
+    *ℤ pos 1000000000
+
+-- and where all connected peers hold one, those that share a group are those of the same one
+abbrev pub CountedAsBefore : Type 0
+CountedAsBefore =
+    (st : State) (group : ℕ) →
+    1 ≤ group →
+    ((s : ℕ) → s < slotCount → isConnected (peerIn st s) ≡ true → HoldsOne (peerIn st s .groups)) →
+    sharing st group ≡ count slotCount (λ s. isConnected (peerIn st s) && eqb (peerIn st s .groups .first) group)
+
 pub record ScoreClaims : Type 0 where
   pub most : NoScorePasses
   pub parts : NoPartPasses
   pub depends : DependsOnNothingElse
   pub sum : LastFourAdd
   pub cap : BoundsFromAboveOnly
+  pub oneGroup : OneGroupAsBefore
+  pub counted : CountedAsBefore

@@ -11,9 +11,10 @@ use Rattle.varint.specs.Groups.{Got, got, none, before, decode, upTo, asRead, r
 use Rattle.varint.specs.declared.Read.{Read}
 use Rattle.varint.specs.declared.Read.the-variants.{Number, Bad}
 use Rattle.trace_events.specs.Reading.{Numbers, numbers, broken, more, numberThen, numbersFrom, cutShort, arity, callOf, Event, event}
-use Rattle.trace_events.specs.Reading.{nameMost, orderSize}
-use Rattle.trace_events.specs.Reading.{unknown, malformed, short, unread, named, ordered, ofNumbers, ofKind, eventAt}
+use Rattle.trace_events.specs.Reading.{nameMost, groupMost, orderSize}
+use Rattle.trace_events.specs.Reading.{unknown, malformed, short, unread, named, grouped, connecting, ordered, ofNumbers, ofKind, eventAt}
 use Rattle.trace_events.specs.declared.Edition.{Edition}
+use Rattle.trace_events.specs.declared.Edition.the-variants.{First, Second, Third}
 
 -- ---- a number
 abbrev Takes : Got → Type 0
@@ -75,12 +76,25 @@ Behind at short = Unit {0}
 unread-behind : (at : ℕ) (s : List ℕ) (p : ℕ) → Behind at (unread s p)
 unread-behind at s p = cond-case (Behind at) (cutShort s p) short malformed (λ e. tt) (λ e. tt)
 
-named-behind : (at : ℕ) (s us : List ℕ) (next : ℕ) → at < next → Behind at (named s us next)
+named-behind : (at : ℕ) (s : List ℕ) (time id : ℕ) (groups : List ℕ) (flags size next : ℕ) → at < next →
+    Behind at (named s time id groups flags size next)
 unfolding named
-named-behind at s us next h =
-    cond-case (Behind at) (leb (getD us 4 0) nameMost) _ malformed
-    (λ e.
-    cond-case (Behind at) (leb (next + getD us 4 0) (length s)) (event _ (next + getD us 4 0)) short (λ e. omega arith) (λ e. tt))
+named-behind at s time id groups flags size next h =
+    cond-case (Behind at) (leb size nameMost) _ malformed
+    (λ e. cond-case (Behind at) (leb (next + size) (length s)) (event _ (next + size)) short (λ e. omega arith) (λ e. tt))
+    (λ e. tt)
+
+grouped-behind : (at next : ℕ) (s us : List ℕ) (p : Numbers) → at < next → NotBack next p → Behind at (grouped s us p)
+grouped-behind at next s us (numbers vs m) h n = named-behind at s _ _ _ _ _ m (omega arith)
+grouped-behind at next s us (broken p) h n = unread-behind at s p
+
+connecting-behind : (g : Edition) (at : ℕ) (s us : List ℕ) (next : ℕ) → at < next → Behind at (connecting g s us next)
+connecting-behind First at s us next h = named-behind at s _ _ _ _ _ next h
+connecting-behind Second at s us next h = named-behind at s _ _ _ _ _ next h
+connecting-behind Third at s us next h =
+    let n : ℕ = getD us 2 0 + 2 in
+    cond-case (Behind at) (leb (getD us 2 0) groupMost) (grouped s us (numbersFrom n s next)) malformed
+    (λ e. grouped-behind at next s us (numbersFrom n s next) h (numbers-not-back n s next))
     (λ e. tt)
 
 order-behind : (at next : ℕ) (s us : List ℕ) (p : Numbers) → at < next → NotBack next p → Behind at (ordered s us p)
@@ -91,7 +105,7 @@ module _ (g : Edition) where
   numbers-behind :
       (at next : ℕ) (s : List ℕ) (kind : ℕ) (p : Numbers) → at < next → NotBack next p → Behind at (ofNumbers g s kind p)
   numbers-behind at next s kind (numbers us m) h n =
-      cond-case (Behind at) (eqb kind 1) (named s us m) _ (λ e. named-behind at s us m (omega arith))
+      cond-case (Behind at) (eqb kind 1) (connecting g s us m) _ (λ e. connecting-behind g at s us m (omega arith))
       (λ e.
       cond-case (Behind at) (eqb kind 11) (ordered s us (numbersFrom (orderSize g) s m)) (event (callOf kind us []) m)
       (λ f. order-behind at m s us (numbersFrom (orderSize g) s m) (omega arith) (numbers-not-back (orderSize g) s m))
@@ -101,9 +115,9 @@ module _ (g : Edition) where
   kind-behind : (s : List ℕ) (at : ℕ) (r : Read) → Ahead at r → Behind at (ofKind g s at r)
   kind-behind s at Bad a = unread-behind at s at
   kind-behind s at (Number kind next) a =
-      cond-case (Behind at) (eqb (arity kind) 0) unknown (ofNumbers g s kind (numbersFrom (arity kind) s next))
+      cond-case (Behind at) (eqb (arity g kind) 0) unknown (ofNumbers g s kind (numbersFrom (arity g kind) s next))
       (λ e. tt)
-      (λ e. numbers-behind at next s kind (numbersFrom (arity kind) s next) a (numbers-not-back (arity kind) s next))
+      (λ e. numbers-behind at next s kind (numbersFrom (arity g kind) s next) a (numbers-not-back (arity g kind) s next))
 
   pub event-behind : (s : List ℕ) (at : ℕ) → Behind at (eventAt g s at)
   unfolding eventAt

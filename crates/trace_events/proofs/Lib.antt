@@ -2,3 +2,4 @@ pub mod WidenedLaws
 pub mod ReadingLaws
 pub mod EventLaws
 pub mod LineLaws
+pub mod Examples

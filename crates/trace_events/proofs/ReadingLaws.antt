@@ -21,7 +21,9 @@ use Rattle.trace_events.proofs.WidenedLaws.{ascending-more}
 use lib.Dec.{T, leb→le}
 use mir.Facts.{and-yes}
 use Rattle.trace_events.specs.Reading.{Numbers, numbers, broken, more, numberThen, numbersFrom, widened, cutShort, arities, arity}
-use Rattle.trace_events.specs.Reading.{numberMost}
+use Rattle.trace_events.specs.Reading.{connectSize, numberMost}
+use Rattle.trace_events.specs.declared.Edition.{Edition}
+use Rattle.trace_events.specs.declared.Edition.the-variants.{First, Second, Third}
 
 -- numbers that stand before others
 abbrev then : List ℕ → Numbers → Numbers
@@ -170,10 +172,26 @@ few m [] t k = omega arith
 few m (x ∷ l) t zero = leb→le x m (and-yes (leb x m) (upTo m l) t .0)
 few m (x ∷ l) t (suc k) = few m l (and-yes (leb x m) (upTo m l) t .1) k
 
-pub arity-most : (kind : ℕ) → arity kind ≤ numberMost
+pub arity-most : (e : Edition) (kind : ℕ) → arity e kind ≤ numberMost
 unfolding arity arities
-arity-most kind = few numberMost arities tt kind
+arity-most First kind = few numberMost (arities First) tt kind
+arity-most Second kind = few numberMost (arities Second) tt kind
+arity-most Third kind = few numberMost (arities Third) tt kind
 
-pub arity-past : (kind : ℕ) → 14 ≤ kind → 0 ≡ arity kind
+pub arity-connect : (e : Edition) (kind n : ℕ) → kind ≡ 1 → n ≡ connectSize e → n ≡ arity e kind
 unfolding arity arities
-arity-past kind h = sym (List·getD-eq-default arities 0 h)
+arity-connect e kind n k h = rw k h
+
+-- the editions differ in a connect alone
+pub arity-other : (e : Edition) (kind : ℕ) → (kind ≡ 1 → ⊥) → getD (arities First) kind 0 ≡ arity e kind
+unfolding arity arities
+arity-other e zero h = refl
+arity-other e (suc zero) h = absurd (h refl)
+arity-other e (suc (suc k)) h = refl
+
+pub arity-past : (e : Edition) (kind : ℕ) → 14 ≤ kind → 0 ≡ arity e kind
+unfolding arity arities
+arity-past e kind h = sym (List·getD-eq-default (arities e) 0 h)
+
+pub as-arity : (e : Edition) (kind n : ℕ) → n ≡ arity e kind → (n ≡ arity e kind) × (n ≤ numberMost)
+as-arity e kind n h = (h, omega (arith, arity-most e kind))

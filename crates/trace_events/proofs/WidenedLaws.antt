@@ -9,14 +9,18 @@ use mathlib.Core.List.{List, [], _∷_, _++_, append-nil}
 use lib.ListN.{length, length-append}
 use lib.Dec.{eqb}
 use borrow.Author.Tests.{eq-eqb, ne-eqb, eqb-true, eqb-false}
-use Rattle.index.specs.Index.{every}
 use Rattle.index.proofs.Index.{every-by}
 use Rattle.index.proofs.Flags.{by-test, by-order}
 use Rattle.sets.specs.Sets.{occurs, isPermutation, ascending}
-use Rattle.sets.proofs.PermutationLaws.{occurs-cons, permutation-once, ascending-length}
+use Rattle.sets.proofs.PermutationLaws.{occurs-cons, permutation-once}
 use Rattle.trace_events.specs.Reading.{oldSlots, widened, OldOrders, WholeOrders}
 
--- the order by slot, one slot longer
+-- the order by slot, and one slot longer
+ascending-length : (i k : ℕ) → length (ascending i k) ≡ k
+unfolding ascending
+ascending-length i zero = refl
+ascending-length i (suc k) = ap suc (ascending-length (suc i) k)
+
 pub ascending-more : (i k : ℕ) → ascending i (suc k) ≡ ascending i k ++ ((i + k) ∷ [])
 unfolding ascending
 ascending-more i zero = let e : i + 0 ≡ i = omega arith in rw e

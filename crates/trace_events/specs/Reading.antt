@@ -13,7 +13,7 @@ use Rattle.varint.specs.declared.Read.the-variants.{Number, Bad}
 use Rattle.records.specs.Records.{slotCount}
 use Rattle.sets.specs.Sets.{ascending, isPermutation}
 use Rattle.trace_events.specs.declared.Edition.{Edition}
-use Rattle.trace_events.specs.declared.Edition.the-variants.{First, Second}
+use Rattle.trace_events.specs.declared.Edition.the-variants.{First, Second, Third}
 use Rattle.trace_events.specs.declared.Readings.{Readings}
 use Rattle.rules.specs.Calls.{Call, connect, disconnect, join, leave, subscribe, unsubscribe, graft, prune, deliver, rate, heartbeat, decay}
 use Rattle.rules.specs.Calls.{score}
@@ -27,6 +27,14 @@ oldSlots = 64
 abbrev pub orderSize : Edition → ℕ
 orderSize First = oldSlots
 orderSize Second = slotCount
+orderSize Third = slotCount
+
+-- how many numbers a connect has before its groups are known: "A trace with a count and groups in its connect is edition 3" (02, order 11),
+-- and in the others it has one group
+abbrev pub connectSize : Edition → ℕ
+connectSize First = 5
+connectSize Second = 5
+connectSize Third = 3
 
 -- "and the others follow by slot"; of a permutation of all slots there are none
 unfoldable pub widened : List ℕ → List ℕ
@@ -69,26 +77,26 @@ cutShort s at = ltb (length s - at) 10 && every (length s - at) (λ k. leb 128 (
 -- ---- one event
 -- how many numbers follow the kind, the time counted: "1 connect id group flags name-length name-bytes; 2 disconnect id; 3 join, 4 leave
 -- topic; 5 subscribe, 6 unsubscribe id topic; 7 GRAFT id topic; 8 PRUNE id topic seconds; 9 delivery id topic kind; 10 P5 id value;
--- 11 tidy topic ask draw; 12 decay; 13 score id"; neither the name nor the draw is counted; 0 for an unknown kind
-unfoldable pub arities : List ℕ
-arities = 0 ∷ 5 ∷ 2 ∷ 2 ∷ 2 ∷ 3 ∷ 3 ∷ 3 ∷ 4 ∷ 4 ∷ 3 ∷ 3 ∷ 1 ∷ 2 ∷ []
+-- 11 tidy topic ask draw; 12 decay; 13 score id"; neither the name nor the draw is counted, nor in edition 3 what follows the count of a
+-- connect's groups; 0 for an unknown kind
+unfoldable pub arities : Edition → List ℕ
+arities e = 0 ∷ connectSize e ∷ 2 ∷ 2 ∷ 2 ∷ 3 ∷ 3 ∷ 3 ∷ 4 ∷ 4 ∷ 3 ∷ 3 ∷ 1 ∷ 2 ∷ []
 
 -- the most that an event has
 abbrev pub numberMost : ℕ
 numberMost = 5
 
-unfoldable pub arity : ℕ → ℕ
-arity kind = getD arities kind 0
+unfoldable pub arity : Edition → ℕ → ℕ
+arity e kind = getD (arities e) kind 0
 
--- the call of a kind, from its numbers and what follows them: of a connect the name, of a heartbeat the permutation
+-- the call of a kind other than connect, from its numbers and, of a heartbeat, the permutation
 unfoldable pub callOf : ℕ → List ℕ → List ℕ → Call
-callOf kind us rest =
+callOf kind us order =
     let time : ℕ = getD us 0 0 in
     let a : ℕ = getD us 1 0 in
     let b : ℕ = getD us 2 0 in
     let c : ℕ = getD us 3 0 in
-    cond (eqb kind 1) (connect time a (b ∷ []) c rest)
-    (cond (eqb kind 2) (disconnect time a)
+    cond (eqb kind 2) (disconnect time a)
     (cond (eqb kind 3) (join time a)
     (cond (eqb kind 4) (leave time a)
     (cond (eqb kind 5) (subscribe time a b)
@@ -97,8 +105,8 @@ callOf kind us rest =
     (cond (eqb kind 8) (prune time a b c)
     (cond (eqb kind 9) (deliver time a b c)
     (cond (eqb kind 10) (rate time a (numberOf b))
-    (cond (eqb kind 11) (heartbeat time a b rest)
-    (cond (eqb kind 12) (decay time) (score time a))))))))))))
+    (cond (eqb kind 11) (heartbeat time a b order)
+    (cond (eqb kind 12) (decay time) (score time a)))))))))))
 
 -- what stands at a place
 pub data Event : Type 0 where
@@ -118,13 +126,35 @@ unread s p = cond (cutShort s p) short malformed
 abbrev pub nameMost : ℕ
 nameMost = 64
 
--- the name's bytes, from a place on; its length is the last of the numbers
-unfoldable pub named : List ℕ → List ℕ → ℕ → Event
-named s us next =
-    let n : ℕ = getD us 4 0 in
-    cond (leb n nameMost)
-    (cond (leb (next + n) (length s)) (event (callOf 1 us (take n (drop next s))) (next + n)) short)
+-- a connect, whose name of `size` bytes begins at a place
+unfoldable pub named : List ℕ → ℕ → ℕ → List ℕ → ℕ → ℕ → ℕ → Event
+named s time id groups flags size at =
+    cond (leb size nameMost)
+    (cond (leb (at + size) (length s)) (event (connect time id groups flags (take size (drop at s))) (at + size)) short)
     malformed
+
+-- with one group
+abbrev pub alone : List ℕ → List ℕ → ℕ → Event
+alone s us next = named s (getD us 0 0) (getD us 1 0) (getD us 2 0 ∷ []) (getD us 3 0) (getD us 4 0) next
+
+-- with the groups that are counted, and behind them flags and name-length
+abbrev pub grouped : List ℕ → List ℕ → Numbers → Event
+grouped s us (numbers vs next) =
+    named s (getD us 0 0) (getD us 1 0) (take (getD us 2 0) vs) (getD vs (getD us 2 0) 0) (getD vs (getD us 2 0 + 1) 0) next
+grouped s us (broken p) = unread s p
+
+-- "a count above four there prints 10 0 and stops"
+abbrev pub groupMost : ℕ
+groupMost = 4
+
+abbrev pub counted : List ℕ → List ℕ → ℕ → Event
+counted s us next =
+    cond (leb (getD us 2 0) groupMost) (grouped s us (numbersFrom (getD us 2 0 + 2) s next)) malformed
+
+abbrev pub connecting : Edition → List ℕ → List ℕ → ℕ → Event
+connecting First s us next = alone s us next
+connecting Second s us next = alone s us next
+connecting Third s us next = counted s us next
 
 -- the permutation, which follows a heartbeat's numbers
 abbrev pub ordered : List ℕ → List ℕ → Numbers → Event
@@ -133,14 +163,14 @@ ordered s us (broken p) = unread s p
 
 abbrev pub ofNumbers : Edition → List ℕ → ℕ → Numbers → Event
 ofNumbers e s kind (numbers us next) =
-    cond (eqb kind 1) (named s us next)
+    cond (eqb kind 1) (connecting e s us next)
     (cond (eqb kind 11) (ordered s us (numbersFrom (orderSize e) s next)) (event (callOf kind us []) next))
 ofNumbers e s kind (broken p) = unread s p
 
 abbrev pub ofKind : Edition → List ℕ → ℕ → Read → Event
 ofKind e s at Bad = unread s at
 ofKind e s at (Number kind next) =
-    cond (eqb (arity kind) 0) unknown (ofNumbers e s kind (numbersFrom (arity kind) s next))
+    cond (eqb (arity e kind) 0) unknown (ofNumbers e s kind (numbersFrom (arity e kind) s next))
 
 unfoldable pub eventAt : Edition → List ℕ → ℕ → Event
 eventAt e s at = ofKind e s at (readAt 18446744073709551615 s at)

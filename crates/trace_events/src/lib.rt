@@ -3,10 +3,12 @@
 pub mod lines;
 pub mod reading;
 
-// The editions of a trace: a permutation of the first orders 64 slots (01), one of the second all 256 (02, order 9).
+// The editions of a trace: a permutation of the first orders 64 slots (01), one of the second all 256 (02, order 9), and a connect of the
+// third has a count of groups and the groups (02, order 11).
 pub enum Edition {
     First,
     Second,
+    Third,
 }
 
 // Where the numbers end, or the place of the first that cannot be read.

@@ -3,7 +3,7 @@ ghost use mathlib.Core.Path.{_≡_};
 ghost use Prim.Native.Nat.{ℕ, _≤_};
 ghost use lib.ListN.{length, getD, take};
 ghost use Rattle.records.specs.Records.{slotCount};
-ghost use Rattle.trace_events.specs.Reading.{orderSize, widened, outcome, numbersFrom, cutShort, numberMost, arity as arityOf};
+ghost use Rattle.trace_events.specs.Reading.{orderSize, connectSize, widened, outcome, numbersFrom, cutShort, numberMost, arity as arityOf};
 use crate::Edition;
 use crate::Readings;
 use records::SLOTS;
@@ -14,9 +14,23 @@ pub const NUMBERS: usize = 5;
 
 const ARITY: [usize; 14] = [0, 5, 2, 2, 2, 3, 3, 3, 4, 4, 3, 3, 1, 2];
 
-pub fn arity(kind: u64) -> usize
-    ensures { λ r. ⌜ (r ≡ arityOf kind) × (r ≤ numberMost) ⌝ }
+// How many numbers a connect has before its groups are known: the third edition counts them.
+fn connect_size(edition: Edition) -> usize
+    ensures { λ r. ⌜ r ≡ connectSize edition ⌝ }
 {
+    match edition {
+        Edition::First => 5,
+        Edition::Second => 5,
+        Edition::Third => 3,
+    }
+}
+
+pub fn arity(edition: Edition, kind: u64) -> usize
+    ensures { λ r. ⌜ (r ≡ arityOf edition kind) × (r ≤ numberMost) ⌝ }
+{
+    if kind == 1 {
+        return connect_size(edition);
+    }
     if kind < 14 {
         let k = kind as usize;
         return ARITY[k];
@@ -34,6 +48,7 @@ pub fn order_size(edition: Edition) -> usize
     match edition {
         Edition::First => OLD_SLOTS,
         Edition::Second => SLOTS,
+        Edition::Third => SLOTS,
     }
 }
 
@@ -47,19 +62,13 @@ pub fn read_numbers(s: &[u8], at: usize, n: usize, values: &mut [u64]) -> Readin
     let mut i: usize = 0;
     while i < n {
         let Read::Number(u, next) = varint::read_u64(s, place) else {
-            return Readings {
-                ok: false,
-                place,
-            };
+            return Readings { ok: false, place };
         };
         values[i] = u;
         place = next;
         i += 1;
     }
-    Readings {
-        ok: true,
-        place,
-    }
+    Readings { ok: true, place }
 }
 
 // The slots that a permutation of the first n does not order, behind it by slot.

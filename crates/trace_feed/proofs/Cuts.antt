@@ -26,7 +26,8 @@ use Rattle.trace_feed.specs.declared.Front.the-variants.{Begins, Other, 
 use Rattle.trace_feed.specs.Front.{frontIn}
 use Rattle.trace_feed.specs.Printed.{printedOf}
 use Rattle.trace_feed.specs.Turns.{Turn, took, ended, wants, eventTurn, eventsTurn, paramsBy, paramsTurn, frontBy, frontTurn}
-use Rattle.trace_feed.specs.Turns.{turnOf, fedOf, taken, textOf, leftBy, stageBy, pending, Inside, windowBy, bufferBy, frontRoom, turnIn}
+use Rattle.trace_feed.specs.Turns.{turnOf, fedOf, taken, textOf, leftBy, stageBy, pending, Inside, windowBy, bufferBy, frontRoom}
+use Rattle.trace_feed.specs.Turns.{turnIn}
 use Rattle.trace_feed.specs.Cuts.{textAfter, Standing, Starts, Turned, Filled, Ran, Coming, EveryCut}
 use Rattle.trace_feed.proofs.TextLaws.{one-turn}
 use Rattle.trace_feed.proofs.WindowLaws.{front-of, part-taken, part-moved, part-filled}

@@ -7,3 +7,4 @@ pub mod WindowLaws
 pub mod TurnEnds
 pub mod Cuts
 pub mod Moves
+pub mod Examples

@@ -138,7 +138,8 @@ module _ (last : Bool) (st : State) (w rest : List ℕ) (e : last ≡ true → r
       (λ t. rw (t, nothing-there g (eqb-true (length w) 0 z))))
       (λ z.
       let i : length w ≡ 0 → ⊥ = eqb-false (length w) 0 z in
-      let q : Goes (Events g) (eventTurn g last st (eventAt g w 0)) = event-goes g (eventAt g w 0) refl (event-closes g w 0) (omega arith) in
+      let q : Goes (Events g) (eventTurn g last st (eventAt g w 0)) =
+      event-goes g (eventAt g w 0) refl (event-closes g w 0) (omega arith) in
       by-test (Goes (Events g) (eventsTurn g last st w)) last
       (λ t. rw (t, z) (rw t at q))
       (λ t. rw t (rw t at q)))

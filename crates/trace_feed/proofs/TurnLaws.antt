@@ -35,7 +35,8 @@ use Rattle.trace_feed.specs.declared.Fed.the-variants.{Took, Ended, Want
 use Rattle.trace_feed.specs.declared.Front.{Front}
 use Rattle.trace_feed.specs.declared.Front.the-variants.{Begins, Other, Cut}
 use Rattle.trace_feed.specs.Front.{ofThird, frontIn}
-use Rattle.trace_feed.specs.Turns.{Turn, ended, wants, cutTurn, eventTurn, eventsTurn, paramsBy, paramsTurn, frontBy, frontTurn, turnOf}
+use Rattle.trace_feed.specs.Turns.{Turn, ended, wants, cutTurn, eventTurn, eventsTurn, paramsBy, paramsTurn, frontBy, frontTurn}
+use Rattle.trace_feed.specs.Turns.{turnOf}
 use Rattle.trace_feed.specs.Turns.{Feeds}
 use Rattle.trace_feed.proofs.ParamsFront.{Verdicts, front-is, Near, front-near}
 

@@ -4,7 +4,6 @@ use Prim.Native.Nat.{ℕ}
 use mathlib.Core.Bool.{cond, _&&_}
 use mathlib.Core.List.{List, [], _∷_}
 use lib.Dec.{eqb}
-use Rattle.trace_events.specs.declared.Edition.{Edition}
 use Rattle.trace_events.specs.declared.Edition.the-variants.{First, Second}
 use Rattle.trace_feed.specs.declared.Front.{Front}
 use Rattle.trace_feed.specs.declared.Front.the-variants.{Begins, Other, Cut}

@@ -82,7 +82,8 @@ pub record Going (d : Edition) (params : Params) (s list₀ told₀ : List ℕ) 
   pub answers : told ≡ sets told₀ 0 (answersTo params before)
 
 pub going-none :
-    (d : Edition) (params : Params) (s table list told : List ℕ) → stateOf table ≡ freshState params → Going d params s list told 0 0 table list told
+    (d : Edition) (params : Params) (s table list told : List ℕ) → stateOf table ≡ freshState params →
+    Going d params s list told 0 0 table list told
 unfolding recordingOf after actionsAfter answersTo
 going-none d params s table list told e =
     let z : length told - 0 ≡ length told = omega arith in

@@ -15,9 +15,9 @@ pub enum Recorded {
     Ran(usize, usize),
 }
 
-// Makes a fresh router with these parameters, and calls the events of the bytes, in an edition, up to the first that is unknown, malformed or cut short,
-// or as many as there is room for answers: the lent list `told` takes one number for each. All calls are lent the same action list, of any
-// length.
+// Makes a fresh router with these parameters, and calls the events of the bytes, in an edition, up to the first that is unknown, malformed
+// or cut short, or as many as there is room for answers: the lent list `told` takes one number for each. All calls are lent the same action
+// list, of any length.
 pub fn run(
     edition: Edition,
     params: Params,
@@ -35,7 +35,8 @@ pub fn run(
     let mut at: usize = 0;
     let mut calls: usize = 0;
     while calls < told.len() {
-        let Performed::Answered(next, a) = trace_step::perform(table, edition, s, at, actions) else {
+        let Performed::Answered(next, a) = trace_step::perform(table, edition, s, at, actions)
+        else {
             return Recorded::Ran(at, calls);
         };
         told[calls] = answers::code(a);

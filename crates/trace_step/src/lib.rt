@@ -6,7 +6,8 @@ ghost use mathlib.Core.List.{[]};
 ghost use lib.ListN.{length};
 ghost use Rattle.layout.specs.View.{stateOf};
 ghost use Rattle.rules.specs.Promise.{Follows};
-ghost use Rattle.trace_events.specs.Reading.{orderSize, numbersFrom, cutShort, arity as arityOf, callOf, named, ordered, ofNumbers, eventAt};
+ghost use Rattle.trace_events.specs.Reading.{orderSize, numbersFrom, cutShort, arity as arityOf, callOf, named, ordered, ofNumbers};
+ghost use Rattle.trace_events.specs.Reading.{eventAt};
 ghost use Rattle.trace_step.specs.declared.Performed.the-variants.{Malformed, CutShort};
 ghost use Rattle.trace_step.specs.Replay.{performEvent, Performs, Replays, replayOf};
 use layout::CELLS;
@@ -53,14 +54,11 @@ pub enum Replayed {
 }
 
 // The calls that come from peers, and decay and score.
-fn call_peer(
-    table: &mut [u64; CELLS],
-    kind: u64,
-    v: &[u64; NUMBERS],
-    actions: &mut [u32],
-) -> Answer
+fn call_peer(table: &mut [u64; CELLS], kind: u64, v: &[u64; NUMBERS], actions: &mut [u32]) -> Answer
     requires { ⌜ (kind ≢ 1) × ((kind ≢ 3) × ((kind ≢ 4) × ((kind ≢ 5) × ((kind ≢ 6) × (kind ≢ 11))))) ⌝ }
-    ensures { λ r. ⌜ Follows (callOf kind (now (v .entry)) []) r (now (table .entry)) (now (table .exit)) (now (actions .entry)) (now (actions .exit)) ⌝ }
+    ensures { λ r. ⌜
+        Follows (callOf kind (now (v .entry)) []) r (now (table .entry)) (now (table .exit)) (now (actions .entry))
+        (now (actions .exit)) ⌝ }
 {
     let time = v[0];
     let a = v[1];
@@ -80,7 +78,9 @@ fn call_peer(
 // Every call but connect and heartbeat.
 fn call(table: &mut [u64; CELLS], kind: u64, v: &[u64; NUMBERS], actions: &mut [u32]) -> Answer
     requires { ⌜ (kind ≢ 1) × (kind ≢ 11) ⌝ }
-    ensures { λ r. ⌜ Follows (callOf kind (now (v .entry)) []) r (now (table .entry)) (now (table .exit)) (now (actions .entry)) (now (actions .exit)) ⌝ }
+    ensures { λ r. ⌜
+        Follows (callOf kind (now (v .entry)) []) r (now (table .entry)) (now (table .exit)) (now (actions .entry))
+        (now (actions .exit)) ⌝ }
 {
     let time = v[0];
     let a = v[1];
@@ -113,7 +113,8 @@ fn connect(
     actions: &mut [u32],
 ) -> Performed
     ensures { λ r. ⌜
-        Performs (performEvent (stateOf (now (table .entry))) (length (now (actions .entry))) (named (now (s .entry)) (now (v .entry)) at)) r
+        Performs (performEvent (stateOf (now (table .entry))) (length (now (actions .entry))) (named (now (s .entry)) (now (v .entry)) at))
+        r
         (now (table .exit)) (now (actions .entry)) (now (actions .exit)) ⌝ }
 {
     let size = v[4];

@@ -10,7 +10,8 @@ returns c = events-end _ _ _ _ _ _ refl (c .if1 .taken)
 
 returns-2 : tie.Need-returns-2
 returns-2 c =
-    events-cut _ _ _ _ _ _ _ _ (c .before .before .before .before .before .before .before .before .before .before .before .before .if1 .left)
+    events-cut _ _ _ _ _ _ _ _
+    (c .before .before .before .before .before .before .before .before .before .before .before .before .if1 .left)
     (search needs) (c .before .before .before .before .before .before .before .before .before .replay .ensures)
     (c .before .before .before .before .before .enum-told .given .1) _ _ (c .before .before .before .before .if2 .taken)
     (c .before .before .put-pair .ensures)

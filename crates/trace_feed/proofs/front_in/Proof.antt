@@ -15,4 +15,5 @@ front-in-spec =
     (λ c. front-cut _ (c .if3 .taken) (c .before .if2 .left))
     (λ c. let n = c .before .if3 .left in omega arith)
     (λ c κs. tt)
-    (λ c. front-third _ _ (c .before .before .before .before .before .before .if1 .left) (c .before .before .if3 .left) (c .before .before .before .if2 .left) (c .of-third .ensures)))
+    (λ c. front-third _ _ (c .before .before .before .before .before .before .if1 .left) (c .before .before .if3 .left)
+    (c .before .before .before .if2 .left) (c .of-third .ensures)))

@@ -9,7 +9,8 @@ returns-5 : tie.Need-returns-5
 returns-5 c =
     let s = c .before .before .before .before .before .before .before .before .before .before .before .before in
     follows-as _ _ _ _ _ _ _
-    (call-10 (s .args .kind) (s .args .v .now) _ (sfits-of (c .before .before .before .before .number-of .ok)) (c .before .before .before .before .number-of .ensures) (c .before .before .before .before .before .before .match .keys5))
+    (call-10 (s .args .kind) (s .args .v .now) _ (sfits-of (c .before .before .before .before .number-of .ok))
+    (c .before .before .before .before .number-of .ensures) (c .before .before .before .before .before .before .match .keys5))
     (c .before .before .rate .ensures)
 
 returns-7 : tie.Need-returns-7

@@ -16,11 +16,16 @@ returns c =
 
 returns-2 : tie.Need-returns-2
 returns-2 c =
-    let u = c .before .before .before .before .before .before .before .before .before .before .before .before .before .before .before .read-numbers in
-    let n = c .before .before .before .before .before .before .before .before .before .before .before .before .before .before .before .before .before .order-size in
-    let s = c .before .before .before .before .before .before .before .before .before .before .before .before .before .before .before .before .before .before .before .before in
+    let u = c .before .before .before .before .before .before .before .before .before .before .before .before .before .before .before
+    .read-numbers in
+    let n = c .before .before .before .before .before .before .before .before .before .before .before .before .before .before .before
+    .before .before .order-size in
+    let s = c .before .before .before .before .before .before .before .before .before .before .before .before .before .before .before
+    .before .before .before .before .before in
     heartbeat-called _ (s .args .v .now) _ _ (s .args .edition) (n .ensures .0) (u .result) _ (u .ensures .0) _ _ _ _ _ _
-    (passed refl (c .before .before .before .before .before .before .before .before .before .before .before .before .if1 .left)) (c .before .before .before .before .before .before .before .before .before .before .widen .ensures) (c .before .before .heartbeat .ensures)
+    (passed refl (c .before .before .before .before .before .before .before .before .before .before .before .before .if1 .left))
+    (c .before .before .before .before .before .before .before .before .before .before .widen .ensures)
+    (c .before .before .heartbeat .ensures)
 
 pub heartbeat-spec : {M : Type 1} → statement M
 heartbeat-spec =

@@ -14,7 +14,8 @@ returns-2 c =
 
 returns-3 : tie.Need-returns-3
 returns-3 c =
-    perform-known _ _ _ _ (c .before .before .before .before .before .before .before .before .before .before .read-u64 .ensures) _ _ _ _ _ _ _
+    perform-known _ _ _ _ (c .before .before .before .before .before .before .before .before .before .before .read-u64 .ensures) _ _ _ _ _ _
+    _
     _ (c .before .before .before .before .before .before .before .before .kind .given .1)
     (c .before .before .before .before .before .before .arity .ensures .0) (c .before .before .before .before .before .if1 .left)
     (c .before .before .perform-kind .ensures)

@@ -13,20 +13,23 @@ returns : tie.Need-returns
 returns c =
     let u = c .before .before .before .before .read-numbers in
     let s = c .before .before .before .before .before .before .before .before in
-    kind-unread (s .args .edition) _ (s .args .kind) _ _ (u .result) _ (u .ensures .0) _ _ _ (failed refl (c .before .if1 .taken)) (c .unread .ensures)
+    kind-unread (s .args .edition) _ (s .args .kind) _ _ (u .result) _ (u .ensures .0) _ _ _ (failed refl (c .before .if1 .taken))
+    (c .unread .ensures)
 
 returns-2 : tie.Need-returns-2
 returns-2 c =
     let u = c .before .before .before .before .before .before .before .before .before .before .read-numbers in
     let s = c .before .before .before .before .before .before .before .before .before .before .before .before .before .before in
-    kind-connect (s .args .edition) _ (s .args .kind) _ _ (u .result) _ (u .ensures .0) (λ k h. u .ensures .1 k h ∙ zeros numberMost k) (passed refl (c .before .before .before .before .before .before .before .if1 .left))
+    kind-connect (s .args .edition) _ (s .args .kind) _ _ (u .result) _ (u .ensures .0) (λ k h. u .ensures .1 k h ∙ zeros numberMost k)
+    (passed refl (c .before .before .before .before .before .before .before .if1 .left))
     _ _ _ _ _ (c .before .before .before .before .before .before .match .keys1) (c .before .before .connect .ensures)
 
 returns-3 : tie.Need-returns-3
 returns-3 c =
     let u = c .before .before .before .before .before .before .before .before .before .before .read-numbers in
     let s = c .before .before .before .before .before .before .before .before .before .before .before .before .before .before in
-    kind-heartbeat (s .args .edition) _ (s .args .kind) _ _ (u .result) _ (u .ensures .0) (λ k h. u .ensures .1 k h ∙ zeros numberMost k) (passed refl (c .before .before .before .before .before .before .before .if1 .left))
+    kind-heartbeat (s .args .edition) _ (s .args .kind) _ _ (u .result) _ (u .ensures .0) (λ k h. u .ensures .1 k h ∙ zeros numberMost k)
+    (passed refl (c .before .before .before .before .before .before .before .if1 .left))
     _ _ _ _ _ (c .before .before .before .before .before .before .match .keys2) (c .before .before .heartbeat .ensures)
 
 returns-4 : tie.Need-returns-4
@@ -34,7 +37,8 @@ returns-4 c =
     let u = c .before .before .before .before .before .before .before .before .before .before .read-numbers in
     let s = c .before .before .before .before .before .before .before .before .before .before .before .before .before .before in
     let r = c .before .before .before .before .before .before .match .rest in
-    kind-other (s .args .edition) _ (s .args .kind) _ _ (u .result) _ (u .ensures .0) (λ k h. u .ensures .1 k h ∙ zeros numberMost k) (passed refl (c .before .before .before .before .before .before .before .if1 .left))
+    kind-other (s .args .edition) _ (s .args .kind) _ _ (u .result) _ (u .ensures .0) (λ k h. u .ensures .1 k h ∙ zeros numberMost k)
+    (passed refl (c .before .before .before .before .before .before .before .if1 .left))
     _ _ _ _ _ (r .0 .1) (r .1) (c .before .before .call .ensures)
 
 pub perform-kind-spec : {M : Type 1} → statement M

@@ -25,7 +25,7 @@ height-requires c κs =
     let two = three .before in
     let o = two .before in
     let e = o .before in
-    let g = e .before .before .before .before in
+    let g = e .before in
     record {
       among = record {
         at = record { standing = g .before .before .before .before .before .pre; slot = t .loop-test .taken };
@@ -47,7 +47,7 @@ scores-spec =
     Inv-loop
     μ-loop
     (λ c κs. (c .before .before .before .before .pre, tells-none))
-    (λ c κs. c .before .before .before .before .before .before .before .before .pre)
+    (λ c κs. c .before .before .before .before .before .pre)
     (λ c κs. c .empty-score .ensures .range)
     (λ c κs. weighing-p2 _ (c .before .before .before .before .before .before .before .before .before .before .pre))
     (λ c κs. weighing-p3b _ (c .before .before .before .before .before .before .before .before .before .before .before .pre))
