@@ -281,10 +281,13 @@ module _ (g : Groups) (ok : risingOk g ≡ true) where
   steps = all4 _ _ _ _ ok
 
   pub groups-fit : (g .first ≤ maxGroup) × ((g .second ≤ maxGroup) × ((g .third ≤ maxGroup) × (g .fourth ≤ maxGroup)))
-  groups-fit =
-      (leb-true (g .first) maxGroup (steps .0),
-      (fits-after (g .first) (g .second) (steps .1),
-      (fits-after (g .second) (g .third) (steps .2), fits-after (g .third) (g .fourth) (steps .3))))
+  groups-fit = (
+    leb-true (g .first) maxGroup (steps .0),
+    (
+      fits-after (g .first) (g .second) (steps .1),
+      (fits-after (g .second) (g .third) (steps .2), fits-after (g .third) (g .fourth) (steps .3)),
+    ),
+  )
 
   module _ (x : ℕ) (some : 1 ≤ x) where
     before2 : g .second ≡ x → g .first ≡ x → ⊥
@@ -300,9 +303,10 @@ module _ (g : Groups) (ok : risingOk g ≡ true) where
     before4 e =
         let t = rise (g .third) (g .fourth) (steps .3) (omega arith) in
         let r = rise (g .second) (g .third) (steps .2) (t .0) in
-        let q = rise (g .first) (g .second) (steps .1) (r .0) in
-        (λ f. omega (arith, t .1 .0, r .1 .0, q .1 .0, e, f),
-        (λ f. omega (arith, t .1 .0, r .1 .0, e, f), λ f. omega (arith, t .1 .0, e, f)))
+        let q = rise (g .first) (g .second) (steps .1) (r .0) in (
+          λ f. omega (arith, t .1 .0, r .1 .0, q .1 .0, e, f),
+          (λ f. omega (arith, t .1 .0, r .1 .0, e, f), λ f. omega (arith, t .1 .0, e, f)),
+        )
 
     -- so a group that is held is held once
     pub held-once :
@@ -512,7 +516,10 @@ pub empty-ready :
     (g : ScoreParams) →
     g ≡ scoreParamsIn st →
     ScoreParamsIn g × (TopicsIn noBalance × ((0 ≤ 2000000000) × (SharersIn nobody × (0 ≤ 1000000))))
-empty-ready st ok g eg =
-    (rw eg (general-in st ok),
-    (record { gain = omega arith; loss = omega arith },
-    (omega arith, (record { first = omega arith; second = omega arith; third = omega arith; fourth = omega arith }, omega arith))))
+empty-ready st ok g eg = (
+  rw eg (general-in st ok),
+  (
+    record { gain = omega arith; loss = omega arith },
+    (omega arith, (record { first = omega arith; second = omega arith; third = omega arith; fourth = omega arith }, omega arith)),
+  ),
+)

@@ -74,7 +74,12 @@ fn note(
 }
 
 // Counts a peer of a group that its record holds as the group + 1; 0 is none.
-fn note_held(heads: &mut [u32; BUCKETS], same: &mut [u16; BUCKETS], others: &mut [u16; BUCKETS], held: u64)
+fn note_held(
+    heads: &mut [u32; BUCKETS],
+    same: &mut [u16; BUCKETS],
+    others: &mut [u16; BUCKETS],
+    held: u64,
+)
     requires { ⌜ Noting (now same) (now others) held maxGroup ⌝ }
     ensures { λ r. ⌜ ((c : ℕ → ℕ) (n : ℕ) → Tells c n (now (heads .entry)) (now (same .entry)) (now (others .entry))
         → Tells (withHeld c held) (n + 1) (now (heads .exit)) (now (same .exit)) (now (others .exit))) ⌝ }
@@ -200,5 +205,11 @@ pub fn empty_score(table: &[u64]) -> Balance
         third: 0,
         fourth: 0,
     };
-    sums::total(sums::parts(load_general(table), Balance { gain: 0, loss: 0 }, 0, nobody, 0))
+    sums::total(sums::parts(
+        load_general(table),
+        Balance { gain: 0, loss: 0 },
+        0,
+        nobody,
+        0,
+    ))
 }

@@ -48,7 +48,7 @@ groups-say groups = (
     rising = λ k h. group-above groups e k h;
   },
   λ h. rw (le-leb 1 (length groups) (h .some), le-leb (length groups) 4 (h .few))
-  (every-by (groupOk groups) (length groups) (λ k l. one groups h k l)),
+      (every-by (groupOk groups) (length groups) (λ k l. one groups h k l)),
 )
   where
     one : (groups : List ℕ) → GroupsIn groups → (k : ℕ) → k < length groups → groupOk groups k ≡ true

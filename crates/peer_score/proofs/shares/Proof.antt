@@ -7,15 +7,17 @@ use Rattle.peer_score.proofs.shares.Tie as tie
 
 returns : tie.Need-returns
 returns c =
-    let g = c .before .before in
-    (shares-at _ _ _ _ _ _ _ (g .before .load-status .ensures) (g .load-groups .ensures) (c .before .holds-group .ensures) (c .if1 .taken),
-    search needs)
+    let g = c .before .before in (
+      shares-at _ _ _ _ _ _ _ (g .before .load-status .ensures) (g .load-groups .ensures) (c .before .holds-group .ensures) (c .if1 .taken),
+      search needs,
+    )
 
 returns-2 : tie.Need-returns-2
 returns-2 c =
-    let g = c .before .before in
-    (shares-at _ _ _ _ _ _ _ (g .before .load-status .ensures) (g .load-groups .ensures) (c .before .holds-group .ensures) (c .if1 .left),
-    search needs)
+    let g = c .before .before in (
+      shares-at _ _ _ _ _ _ _ (g .before .load-status .ensures) (g .load-groups .ensures) (c .before .holds-group .ensures) (c .if1 .left),
+      search needs,
+    )
 
 pub shares-spec : {M : Type 1} → statement M
 shares-spec =

@@ -15,7 +15,7 @@ connect-from-requires c κs =
     let told = c .before .enum-told .given .1 in (
       gate-ready _ _ _ _ _ _ (d .admit .ensures) told (o .before .before .time-ok .ensures) (search needs),
       gate-groups _ (o .before .before .time-ok .result) (o .before .id-ok .result) (o .groups-ok .result) _ _ _ _ (d .admit .ensures) told
-      _ (o .groups-ok .ensures),
+          _ (o .groups-ok .ensures),
     )
 
 pub connect-spec : {M : Type 1} → statement M

@@ -49,9 +49,9 @@ scores-spec =
     (λ c κs. (c .before .before .before .before .pre, tells-none))
     (λ c κs. c .before .before .before .before .before .pre)
     (λ c κs. c .empty-score .ensures .range)
-    (λ c κs. weighing-p2 _ (c .before .before .before .before .before .before .before .before .before .before .pre))
-    (λ c κs. weighing-p3b _ (c .before .before .before .before .before .before .before .before .before .before .before .pre))
-    (λ c κs. weighing-p4 _ (c .before .before .before .before .before .before .before .before .before .before .before .before .pre))
+    (λ c κs. weighing-p2 _ (c .before .before .before .before .before .before .before .pre))
+    (λ c κs. weighing-p3b _ (c .before .before .before .before .before .before .before .before .pre))
+    (λ c κs. weighing-p4 _ (c .before .before .before .before .before .before .before .before .before .pre))
     (λ c. built-none _ _ _ _ refl)
     height-requires
     (λ c. omega arith)
