@@ -409,7 +409,8 @@ module _ (st : State) (heads same others : List ℕ) (k : Tells (λ g. sharing s
       told-exact st threshold held (getD same b 0) o
       (ap (λ (j : ℕ). getD same j 0) e ∙ k .head (held - 1) q ∙ ap (sharing st) here)
 
-  -- "the surplus being .. above the P6 threshold, or 0": of no more peers than the threshold it is 0, and the group's are no more than these
+  -- "the surplus being .. above the P6 threshold, or 0": of no more peers than the threshold it is 0, and the group's are no more than
+  -- these
   pub told-few : (getD heads b 0 ≡ held - 1 → ⊥) → getD others b 0 ≤ threshold → Together st threshold held 0
   unfolding sharingAt
   told-few t f =

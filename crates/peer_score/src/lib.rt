@@ -9,7 +9,7 @@ ghost use Prim.Native.Nat.{_≤_};
 ghost use lib.ListN.{length};
 ghost use Rattle.index.specs.Index.{one};
 ghost use Rattle.layout.specs.View.{cellCount, stateOf};
-ghost use Rattle.records.specs.Records.{slotCount, holdsGroup};
+ghost use Rattle.records.specs.Records.{holdsGroup};
 ghost use Rattle.effects.specs.Lent.{AtTopic, AtSlot};
 ghost use Rattle.limits.specs.Limits.{place as topicPlace};
 ghost use Rattle.score.specs.Ranges.{PartsIn};

@@ -103,7 +103,8 @@ module _ (st : State) (s : ℕ) where
   unfolding withP7
   calmer-p7 n = calmer-peer st s _ (λ t k m. omega arith)
 
-  pub calmer-connected : (id : ℕ) (groups : Groups) (flags version : ℕ) → Calmer st (onPeer st s (λ p. connectedAs p id groups flags version))
+  pub calmer-connected : (id : ℕ) (groups : Groups) (flags version : ℕ) →
+      Calmer st (onPeer st s (λ p. connectedAs p id groups flags version))
   unfolding connectedAs
   calmer-connected id groups flags version = calmer-peer st s _ (λ t k m. omega arith)
 

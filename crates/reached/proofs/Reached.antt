@@ -136,7 +136,8 @@ unfolding passes left given refusals membersIn mixed worked come enter bring ele
     first count iter gather ordinaryNumbers codeIn joinedIn peerIn topicIn setPeer setTopic setClock setJoined holds findConnected
     findRetained lowestEmpty meshsub sameBytes versionOf freshState withEnd withP5 withP7 connectedAs withSubscribed outOfMesh intoMesh
     pruned isMember meshSize reclaimable emptied reclaimSlot reclaimed part1Of part3Of topicSum allTopics bounded whyOf whyIn scoreIn
-    topicScore topicParamsIn holdsGroup groupsOk groupsOf sharesGroup sharing sharingAt sharersOf crowdOf raised3Of firstDelivery insert sort scoresOf above median deliveredOf deliverReply bySlot
+    topicScore topicParamsIn holdsGroup groupsOk groupsOf sharesGroup sharing sharingAt sharersOf crowdOf raised3Of firstDelivery insert
+    sort scoresOf above median deliveredOf deliverReply bySlot
     size both except from occurs isPermutation ascending inOrder fill top bests swapTo mesh1 mesh2 theBest keepers swapped mesh3 mesh4
     mesh5 meshes changesOf actionsOn actionsOf inRange connectAt connectIn connectReply joinReply subscribeReply isNegative isGraylisted
     isHeard secondsOf pruneReply graftRefused raisedP7 isCrowded graftCase graftReply isCandidate heightIn degreesIn viewIn meshesIn
@@ -150,7 +151,8 @@ unfolding passes left given refusals membersIn mixed worked come enter bring ele
     first count iter gather ordinaryNumbers codeIn joinedIn peerIn topicIn setPeer setTopic setClock setJoined holds findConnected
     findRetained lowestEmpty meshsub sameBytes versionOf freshState withEnd withP5 withP7 connectedAs withSubscribed outOfMesh intoMesh
     pruned isMember meshSize reclaimable emptied reclaimSlot reclaimed part1Of part3Of topicSum allTopics bounded whyOf whyIn scoreIn
-    topicScore topicParamsIn holdsGroup groupsOk groupsOf sharesGroup sharing sharingAt sharersOf crowdOf raised3Of firstDelivery insert sort scoresOf above median deliveredOf deliverReply bySlot
+    topicScore topicParamsIn holdsGroup groupsOk groupsOf sharesGroup sharing sharingAt sharersOf crowdOf raised3Of firstDelivery insert
+    sort scoresOf above median deliveredOf deliverReply bySlot
     size both except from occurs isPermutation ascending inOrder fill top bests swapTo mesh1 mesh2 theBest keepers swapped mesh3 mesh4
     mesh5 meshes changesOf actionsOn actionsOf inRange connectAt connectIn connectReply joinReply subscribeReply isNegative isGraylisted
     isHeard secondsOf pruneReply graftRefused raisedP7 isCrowded graftCase graftReply isCandidate heightIn degreesIn viewIn meshesIn
@@ -169,7 +171,8 @@ unfolding passes left given refusals membersIn mixed worked come enter bring ele
     first count iter gather ordinaryNumbers codeIn joinedIn peerIn topicIn setPeer setTopic setClock setJoined holds findConnected
     findRetained lowestEmpty meshsub sameBytes versionOf freshState withEnd withP5 withP7 connectedAs withSubscribed outOfMesh intoMesh
     pruned isMember meshSize reclaimable emptied reclaimSlot reclaimed part1Of part3Of topicSum allTopics bounded whyOf whyIn scoreIn
-    topicScore topicParamsIn holdsGroup groupsOk groupsOf sharesGroup sharing sharingAt sharersOf crowdOf raised3Of firstDelivery insert sort scoresOf above median deliveredOf deliverReply bySlot
+    topicScore topicParamsIn holdsGroup groupsOk groupsOf sharesGroup sharing sharingAt sharersOf crowdOf raised3Of firstDelivery insert
+    sort scoresOf above median deliveredOf deliverReply bySlot
     size both except from occurs isPermutation ascending inOrder fill top bests swapTo mesh1 mesh2 theBest keepers swapped mesh3 mesh4
     mesh5 meshes changesOf actionsOn actionsOf inRange connectAt connectIn connectReply joinReply subscribeReply isNegative isGraylisted
     isHeard secondsOf pruneReply graftRefused raisedP7 isCrowded graftCase graftReply isCandidate heightIn degreesIn viewIn meshesIn
@@ -191,7 +194,8 @@ unfolding passes left given refusals membersIn mixed worked come enter bring ele
     first count iter gather ordinaryNumbers codeIn joinedIn peerIn topicIn setPeer setTopic setClock setJoined holds findConnected
     findRetained lowestEmpty meshsub sameBytes versionOf freshState withEnd withP5 withP7 connectedAs withSubscribed outOfMesh intoMesh
     pruned isMember meshSize reclaimable emptied reclaimSlot reclaimed part1Of part3Of topicSum allTopics bounded whyOf whyIn scoreIn
-    topicScore topicParamsIn holdsGroup groupsOk groupsOf sharesGroup sharing sharingAt sharersOf crowdOf raised3Of firstDelivery insert sort scoresOf above median deliveredOf deliverReply bySlot
+    topicScore topicParamsIn holdsGroup groupsOk groupsOf sharesGroup sharing sharingAt sharersOf crowdOf raised3Of firstDelivery insert
+    sort scoresOf above median deliveredOf deliverReply bySlot
     size both except from occurs isPermutation ascending inOrder fill top bests swapTo mesh1 mesh2 theBest keepers swapped mesh3 mesh4
     mesh5 meshes changesOf actionsOn actionsOf inRange connectAt connectIn connectReply joinReply subscribeReply isNegative isGraylisted
     isHeard secondsOf pruneReply graftRefused raisedP7 isCrowded graftCase graftReply isCandidate heightIn degreesIn viewIn meshesIn
@@ -211,7 +215,8 @@ unfolding passes left given refusals membersIn mixed worked come enter bring ele
     first count iter gather ordinaryNumbers codeIn joinedIn peerIn topicIn setPeer setTopic setClock setJoined holds findConnected
     findRetained lowestEmpty meshsub sameBytes versionOf freshState withEnd withP5 withP7 connectedAs withSubscribed outOfMesh intoMesh
     pruned isMember meshSize reclaimable emptied reclaimSlot reclaimed part1Of part3Of topicSum allTopics bounded whyOf whyIn scoreIn
-    topicScore topicParamsIn holdsGroup groupsOk groupsOf sharesGroup sharing sharingAt sharersOf crowdOf raised3Of firstDelivery insert sort scoresOf above median deliveredOf deliverReply bySlot
+    topicScore topicParamsIn holdsGroup groupsOk groupsOf sharesGroup sharing sharingAt sharersOf crowdOf raised3Of firstDelivery insert
+    sort scoresOf above median deliveredOf deliverReply bySlot
     size both except from occurs isPermutation ascending inOrder fill top bests swapTo mesh1 mesh2 theBest keepers swapped mesh3 mesh4
     mesh5 meshes changesOf actionsOn actionsOf inRange connectAt connectIn connectReply joinReply subscribeReply isNegative isGraylisted
     isHeard secondsOf pruneReply graftRefused raisedP7 isCrowded graftCase graftReply isCandidate heightIn degreesIn viewIn meshesIn
@@ -225,7 +230,8 @@ unfolding passes left given refusals membersIn mixed worked come enter bring ele
     first count iter gather ordinaryNumbers codeIn joinedIn peerIn topicIn setPeer setTopic setClock setJoined holds findConnected
     findRetained lowestEmpty meshsub sameBytes versionOf freshState withEnd withP5 withP7 connectedAs withSubscribed outOfMesh intoMesh
     pruned isMember meshSize reclaimable emptied reclaimSlot reclaimed part1Of part3Of topicSum allTopics bounded whyOf whyIn scoreIn
-    topicScore topicParamsIn holdsGroup groupsOk groupsOf sharesGroup sharing sharingAt sharersOf crowdOf raised3Of firstDelivery insert sort scoresOf above median deliveredOf deliverReply bySlot
+    topicScore topicParamsIn holdsGroup groupsOk groupsOf sharesGroup sharing sharingAt sharersOf crowdOf raised3Of firstDelivery insert
+    sort scoresOf above median deliveredOf deliverReply bySlot
     size both except from occurs isPermutation ascending inOrder fill top bests swapTo mesh1 mesh2 theBest keepers swapped mesh3 mesh4
     mesh5 meshes changesOf actionsOn actionsOf inRange connectAt connectIn connectReply joinReply subscribeReply isNegative isGraylisted
     isHeard secondsOf pruneReply graftRefused raisedP7 isCrowded graftCase graftReply isCandidate heightIn degreesIn viewIn meshesIn

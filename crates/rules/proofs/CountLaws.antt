@@ -70,7 +70,8 @@ counted-peer : (st : State) (id : ℕ) (f : ℕ → Reply) → ((s : ℕ) → Co
 counted-peer st id f h = counted-found (findConnected st id) f _ h (counted-refused NotConnected st refl)
 
 -- ---- the replies
-counted-connect : (st : State) (time id : ℕ) (groups : Groups) (flags : ℕ) (name : List ℕ) → Counted (connectReply st time id groups flags name)
+counted-connect : (st : State) (time id : ℕ) (groups : Groups) (flags : ℕ) (name : List ℕ) →
+    Counted (connectReply st time id groups flags name)
 unfolding connectAt
 counted-connect st time id groups flags name =
     by-connect Counted st time id groups flags name

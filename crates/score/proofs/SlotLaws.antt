@@ -26,7 +26,8 @@ module _ (st : State) (group : ℕ) where
       one b ≡ one (sharesGroup st group slot)
   unfolding sharesGroup
   shares-is slot status g b p q e =
-      let h : eqb status 1 && holdsGroup g group ≡ eqb (peerIn st slot .status) 1 && holdsGroup (peerIn st slot .groups) group = rw (p, q) refl in
+      let h : eqb status 1 && holdsGroup g group ≡ eqb (peerIn st slot .status) 1 && holdsGroup (peerIn st slot .groups) group =
+      rw (p, q) refl in
       ap one (sym e ∙ h)
 
   pub sharing-none : 0 ≡ count 0 (sharesGroup st group)

@@ -25,8 +25,8 @@ unfoldable pub bounded : ℕ → ℤ → ℤ
 bounded cap total = cond (eqb cap 0) total (minZ total (pos (cap * 1000000)))
 
 -- Application-specific score, IP colocation, behaviour penalty: "Then add w5 × P5 × 1000; w6 × surplus² × 10^9 ..; and w7 × P7 counter² ×
--- 1000." (01), the surplus² being the sum of those of its groups (02, order 11); "the topic total before its cap, the total after it, and the three general parts, the last four's sum being the score" (02,
--- order 5)
+-- 1000." (01), the surplus² being the sum of those of its groups (02, order 11); "the topic total before its cap, the total after it, and
+-- the three general parts, the last four's sum being the score" (02, order 5)
 unfoldable pub whyOf : ℕ → ℤ → ℤ → ℤ → ℤ → ℕ → ℤ → ℕ → Why
 whyOf cap topics w5 p5 w6 crowd w7 p7 =
     let capped : ℤ = bounded cap topics in

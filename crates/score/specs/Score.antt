@@ -1,6 +1,6 @@
 -- A peer's score from the router's state: the parameters' own signed numbers, the peer's record, and the number of connected peers that
--- hold each of its groups. `whyIn` is 01's formula with its parts, `scoreIn` its score; `balanceAt` is what the code computes, and worth the same
--- (proofs/ScoreLaws.antt).
+-- hold each of its groups. `whyIn` is 01's formula with its parts, `scoreIn` its score; `balanceAt` is what the code computes, and worth
+-- the same (proofs/ScoreLaws.antt).
 use Prim.Native.Nat.{ℕ, _<_}
 use mathlib.Core.Path.{_≡_}
 use mathlib.Core.Bool.{Bool, cond, _&&_}

@@ -1,10 +1,7 @@
 -- `peer_score::buckets::note_slot`: one more of each of a connected peer's groups, else nothing.
 use borrow.Author.Needs.{needs}
 use native.Mathlib.Omega.{arith}
-use mathlib.Core.Path.{ap, sym}
-use Rattle.records.specs.declared.Groups.{Groups}
-use Rattle.validity.specs.Valid.{risingOk}
-use Rattle.peer_score.proofs.BucketLaws.{below-on, below-off, groups-rise, groups-fit, loaded-rise}
+use Rattle.peer_score.proofs.BucketLaws.{below-on, below-off, groups-fit, loaded-rise}
 use Rattle.peer_score.proofs.buckets.note_slot.Statement.{statement}
 use Rattle.peer_score.proofs.buckets.note_slot.Tie as tie
 
