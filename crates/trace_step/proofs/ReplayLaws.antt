@@ -8,7 +8,7 @@ use mathlib.Core.List.{List, [], _∷_}
 use native.Mathlib.Omega.{arith}
 use native.Mathlib.Nat.{zero-add}
 use borrow.Author.Tests.{lt-leb, le-leb, lt-ltb, le-ltb, ne-eqb}
-use lib.Dec.{eqb}
+use lib.Dec.{eqb, leb}
 use lib.IntN.{ℤ}
 use mir.Syntax.{w64}
 use mir.Val.{SFits, toZ, ofZ}
@@ -33,8 +33,10 @@ use Rattle.rules.specs.Promise.{Follows}
 use Rattle.rules.proofs.CountLaws.{Counted, counted}
 use Rattle.trace_events.specs.declared.Readings.{Readings}
 use Rattle.trace_events.specs.declared.Edition.{Edition}
+use Rattle.trace_events.specs.declared.Edition.the-variants.{First, Second, Third}
 use Rattle.trace_events.specs.Reading.{orderSize, widened, Numbers, numbers, broken, numbersFrom, outcome, arity, callOf, Event, event}
-use Rattle.trace_events.specs.Reading.{unknown, malformed, short, cutShort, unread, nameMost, named, ordered, ofNumbers, ofKind, eventAt}
+use Rattle.trace_events.specs.Reading.{unknown, malformed, short, cutShort, unread, nameMost, named, groupMost, grouped, counted as many}
+use Rattle.trace_events.specs.Reading.{connecting, ordered, ofNumbers, ofKind, eventAt}
 use Rattle.trace_events.specs.Lines.{pairLine, linesOf, replyText, lineRoom}
 use Rattle.trace_events.proofs.LineLaws.{lines-are}
 use Rattle.trace_step.specs.declared.Performed.{Performed}
@@ -42,6 +44,13 @@ use Rattle.trace_step.specs.declared.Performed.the-variants.{Answered, U
 use Rattle.trace_step.specs.declared.Replayed.{Replayed}
 use Rattle.trace_step.specs.declared.Replayed.the-variants.{Called, Stopped, Short, Full}
 use Rattle.trace_step.specs.Replay.{idle, performEvent, Performs, stopped, replayEvent, replayOf, Replays}
+
+-- the front of a front
+take-front : (n m : ℕ) (l : List ℕ) → n ≤ m → take n (take m l) ≡ take n l
+take-front zero m l h = refl
+take-front (suc n) zero l h = absurd (omega arith)
+take-front (suc n) (suc m) [] h = refl
+take-front (suc n) (suc m) (x ∷ l) h = ap (λ (k : List ℕ). x ∷ k) (take-front n m l (omega arith))
 
 -- an array of zeros
 pub zeros : (m k : ℕ) → _≡_ {A = ℕ} (getD (replicate m 0) k 0) 0
@@ -57,9 +66,15 @@ module _ (n : ℕ) (v : List ℕ) (z : (k : ℕ) → n ≤ k → getD v k 0 ≡ 
       (λ h. getD-take n v i 0 h)
       (λ h. List·getD-eq-default (take n v) 0 (omega (arith, length-take n v)) ∙ sym (z i h))
 
-  named-take : (s : List ℕ) (next : ℕ) → named s (take n v) next ≡ named s v next
-  unfolding named callOf
-  named-take s next = rw (take-same 4, take-same 0, take-same 1, take-same 2, take-same 3)
+  connect-take : (g : Edition) (s : List ℕ) (next : ℕ) → connecting g s (take n v) next ≡ connecting g s v next
+  connect-take First s next = rw (take-same 0, take-same 1, take-same 2, take-same 3, take-same 4)
+  connect-take Second s next = rw (take-same 0, take-same 1, take-same 2, take-same 3, take-same 4)
+  connect-take Third s next =
+      rw (take-same 2) (ap (λ (x : Event). cond (leb (getD v 2 0) groupMost) x malformed) (go (numbersFrom (getD v 2 0 + 2) s next)))
+    where
+      go : (q : Numbers) → grouped s (take n v) q ≡ grouped s v q
+      go (numbers vs m) = rw (take-same 0, take-same 1, take-same 2)
+      go (broken p) = refl
 
   order-take : (s : List ℕ) (q : Numbers) → ordered s (take n v) q ≡ ordered s v q
   unfolding callOf
@@ -83,12 +98,11 @@ module _ (kind : ℕ) (v : List ℕ) where
   call-10 z g f e = rw (toZ-ofZ g, e, f)
 
   pub call-score :
-      kind ≢ 1 → kind ≢ 2 → kind ≢ 3 → kind ≢ 4 → kind ≢ 5 → kind ≢ 6 → kind ≢ 7 → kind ≢ 8 → kind ≢ 9 → kind ≢ 10 → kind ≢ 11 → kind ≢ 12 →
+      kind ≢ 2 → kind ≢ 3 → kind ≢ 4 → kind ≢ 5 → kind ≢ 6 → kind ≢ 7 → kind ≢ 8 → kind ≢ 9 → kind ≢ 10 → kind ≢ 11 → kind ≢ 12 →
       callOf kind v [] ≡ score (getD v 0 0) (getD v 1 0)
   unfolding callOf
-  call-score a b c d e f g h i j k l =
+  call-score b c d e f g h i j k l =
       rw (
-        ne-eqb kind 1 a,
         ne-eqb kind 2 b,
         ne-eqb kind 3 c,
         ne-eqb kind 4 d,
@@ -154,53 +168,50 @@ unread-is s at r table list e =
     (λ k. rw (e, k) (idles table list Malformed))
 
 -- ---- the ends of `connect`
-module _ (s v : List ℕ) (at : ℕ) where
-  named-long : nameMost < getD v 4 0 → named s v at ≡ malformed
-  unfolding named
-  named-long h = rw (lt-leb (getD v 4 0) nameMost h)
+module _ (s : List ℕ) (time id : ℕ) (groups : List ℕ) (flags size at : ℕ) where
+  abbrev here : Event
+  here = named s time id groups flags size at
 
-  named-short : getD v 4 0 ≤ nameMost → length s < at + getD v 4 0 → named s v at ≡ short
+  named-long : nameMost < size → here ≡ malformed
   unfolding named
-  named-short h l = rw (le-leb (getD v 4 0) nameMost h, lt-leb (at + getD v 4 0) (length s) l)
+  named-long h = rw (lt-leb size nameMost h)
+
+  named-short : size ≤ nameMost → length s < at + size → here ≡ short
+  unfolding named
+  named-short h l = rw (le-leb size nameMost h, lt-leb (at + size) (length s) l)
 
   named-whole :
-      getD v 4 0 ≤ nameMost →
-      at + getD v 4 0 ≤ length s →
-      named s v at
-      ≡ event (connect (getD v 0 0) (getD v 1 0) (getD v 2 0 ∷ []) (getD v 3 0) (take (getD v 4 0) (drop at s))) (at + getD v 4 0)
-  unfolding named callOf
-  named-whole h l = rw (le-leb (getD v 4 0) nameMost h, le-leb (at + getD v 4 0) (length s) l)
+      size ≤ nameMost →
+      at + size ≤ length s →
+      here ≡ event (connect time id groups flags (take size (drop at s))) (at + size)
+  unfolding named
+  named-whole h l = rw (le-leb size nameMost h, le-leb (at + size) (length s) l)
 
   pub connect-long :
-      (table list : List ℕ) →
-      nameMost < getD v 4 0 →
-      Performs (performEvent (stateOf table) (length list) (named s v at)) Malformed table list list
+      (table list : List ℕ) → nameMost < size → Performs (performEvent (stateOf table) (length list) here) Malformed table list list
   unfolding performEvent
   connect-long table list h =
-      as-event (stateOf table) (length list) (named s v at) malformed Malformed table list list (named-long h)
-      (idles table list Malformed)
+      as-event (stateOf table) (length list) here malformed Malformed table list list (named-long h) (idles table list Malformed)
 
   pub connect-short :
       (table list : List ℕ) →
-      getD v 4 0 ≤ nameMost →
-      length s < at + getD v 4 0 →
-      Performs (performEvent (stateOf table) (length list) (named s v at)) CutShort table list list
+      size ≤ nameMost →
+      length s < at + size →
+      Performs (performEvent (stateOf table) (length list) here) CutShort table list list
   unfolding performEvent
   connect-short table list h l =
-      as-event (stateOf table) (length list) (named s v at) short CutShort table list list (named-short h l)
-      (idles table list CutShort)
+      as-event (stateOf table) (length list) here short CutShort table list list (named-short h l) (idles table list CutShort)
 
   pub connect-called :
       (a : Answer) (table table′ list list′ : List ℕ) →
-      getD v 4 0 ≤ nameMost →
-      at + getD v 4 0 ≤ length s →
-      Follows (connect (getD v 0 0) (getD v 1 0) (getD v 2 0 ∷ []) (getD v 3 0) (take (at + getD v 4 0 - at) (drop at s))) a table table′ list
-      list′ →
-      Performs (performEvent (stateOf table) (length list) (named s v at)) (Answered (at + getD v 4 0) a) table′ list list′
+      size ≤ nameMost →
+      at + size ≤ length s →
+      Follows (connect time id groups flags (take (at + size - at) (drop at s))) a table table′ list list′ →
+      Performs (performEvent (stateOf table) (length list) here) (Answered (at + size) a) table′ list list′
   connect-called a table table′ list list′ h l f =
-      let e : at + getD v 4 0 - at ≡ getD v 4 0 = omega arith in
-      as-event (stateOf table) (length list) (named s v at) _ _ table′ list list′ (named-whole h l)
-      (performed _ a table table′ list list′ (at + getD v 4 0) (rw e at f))
+      let e : at + size - at ≡ size = omega arith in
+      as-event (stateOf table) (length list) here _ _ table′ list list′ (named-whole h l)
+      (performed _ a table table′ list list′ (at + size) (rw e at f))
 
 -- ---- numbers that were read into a lent list
 module _ (s : List ℕ) (at n : ℕ) (us : Readings) (v : List ℕ) (e : outcome n us v ≡ numbersFrom n s at) where
@@ -209,6 +220,57 @@ module _ (s : List ℕ) (at n : ℕ) (us : Readings) (v : List ℕ) (e : outcome
 
   read-broken : us .ok ≡ false → numbersFrom n s at ≡ broken (us .place)
   read-broken g = sym e ∙ ap (λ (b : Bool). cond b (numbers (take n v) (us .place)) (broken (us .place))) g
+
+-- ---- the ends of `counted`
+module _ (s v : List ℕ) (at : ℕ) where
+  pub counted-many : (table list : List ℕ) → groupMost < getD v 2 0 →
+      Performs (performEvent (stateOf table) (length list) (many s v at)) Malformed table list list
+  unfolding performEvent
+  counted-many table list h =
+      as-event (stateOf table) (length list) (many s v at) malformed Malformed table list list
+      (ap (λ (b : Bool). cond b (grouped s v (numbersFrom (getD v 2 0 + 2) s at)) malformed) (lt-leb (getD v 2 0) groupMost h))
+      (idles table list Malformed)
+
+  module _ (few : getD v 2 0 ≤ groupMost) (us : Readings) (w : List ℕ)
+      (e : outcome (getD v 2 0 + 2) us w ≡ numbersFrom (getD v 2 0 + 2) s at) where
+    at-groups :
+        (q : Numbers) (table table′ list list′ : List ℕ) (r : Performed) →
+        numbersFrom (getD v 2 0 + 2) s at ≡ q →
+        Performs (performEvent (stateOf table) (length list) (grouped s v q)) r table′ list list′ →
+        Performs (performEvent (stateOf table) (length list) (many s v at)) r table′ list list′
+    at-groups q table table′ list list′ r f p =
+        as-event (stateOf table) (length list) (many s v at) (grouped s v q) r table′ list list′
+        (ap₂ (λ (b : Bool) (x : Numbers). cond b (grouped s v x) malformed) (le-leb (getD v 2 0) groupMost few) f) p
+
+    pub counted-unread :
+        (table list : List ℕ) (r : Performed) →
+        us .ok ≡ false →
+        r ≡ cond (cutShort s (us .place)) CutShort Malformed →
+        Performs (performEvent (stateOf table) (length list) (many s v at)) r table list list
+    counted-unread table list r f h =
+        at-groups (broken (us .place)) table table list list r (read-broken s at (getD v 2 0 + 2) us w e f)
+        (unread-is s (us .place) r table list h)
+
+    -- what was read behind the count
+    pub counted-called :
+        (table table′ list list′ : List ℕ) (r : Performed) →
+        us .ok ≡ true →
+        Performs (performEvent (stateOf table) (length list)
+        (named s (getD v 0 0) (getD v 1 0) (take (getD v 2 0) w) (getD w (getD v 2 0) 0) (getD w (getD v 2 0 + 1) 0) (us .place))) r table′
+        list list′ →
+        Performs (performEvent (stateOf table) (length list) (many s v at)) r table′ list list′
+    counted-called table table′ list list′ r f p =
+        let n : ℕ = getD v 2 0 in
+        at-groups (numbers (take (n + 2) w) (us .place)) table table′ list list′ r (read-whole s at (n + 2) us w e f)
+        (rw (take-front n (n + 2) w (omega arith), getD-take (n + 2) w n 0 (omega arith), getD-take (n + 2) w (n + 1) 0 (omega arith)) p)
+
+-- ---- the ends of `connecting`
+pub connecting-as :
+    (g h : Edition) (s v : List ℕ) (at : ℕ) (table table′ list list′ : List ℕ) (r : Performed) →
+    g ≡ h →
+    Performs (performEvent (stateOf table) (length list) (connecting h s v at)) r table′ list list′ →
+    Performs (performEvent (stateOf table) (length list) (connecting g s v at)) r table′ list list′
+connecting-as g h s v at table table′ list list′ r e p = rw e p
 
 -- ---- the ends of `heartbeat`
 module _ (s v : List ℕ) (at n : ℕ) (g : Edition) (told : n ≡ orderSize g) (us : Readings) (order : List ℕ)
@@ -261,11 +323,11 @@ module _ (g : Edition) (s : List ℕ) (kind at n : ℕ) (us : Readings) (v : Lis
     pub kind-connect :
         (table table′ list list′ : List ℕ) (r : Performed) →
         kind ≡ 1 →
-        Performs (performEvent (stateOf table) (length list) (named s v (us .place))) r table′ list list′ →
+        Performs (performEvent (stateOf table) (length list) (connecting g s v (us .place))) r table′ list list′ →
         Performs (performEvent (stateOf table) (length list) (ofNumbers g s kind (numbersFrom n s at))) r table′ list list′
     kind-connect table table′ list list′ r k h =
-        as-event (stateOf table) (length list) (ofNumbers g s kind (numbersFrom n s at)) (named s v (us .place)) r table′ list list′
-        (ap₂ (ofNumbers g s) k whole ∙ named-take n v z s (us .place))
+        as-event (stateOf table) (length list) (ofNumbers g s kind (numbersFrom n s at)) (connecting g s v (us .place)) r table′ list list′
+        (ap₂ (ofNumbers g s) k whole ∙ connect-take n v z g s (us .place))
         h
 
     pub kind-heartbeat :
@@ -315,19 +377,19 @@ module _ (g : Edition) (s : List ℕ) (at : ℕ) (q : Read) (e : q ≡ readAt 18
   pub perform-unknown :
       (table list : List ℕ) (kind next n : ℕ) →
       q ≡ Number kind next →
-      n ≡ arity kind →
+      n ≡ arity g kind →
       n ≡ 0 →
       Performs (performEvent (stateOf table) (length list) (eventAt g s at)) Unknown table list list
   unfolding performEvent
   perform-unknown table list kind next n f a z =
       at-kind unknown table table list list Unknown
-      (ap (ofKind g s at) f ∙ ap (λ (k : ℕ). cond (eqb k 0) unknown (ofNumbers g s kind (numbersFrom (arity kind) s next))) (sym a ∙ z))
+      (ap (ofKind g s at) f ∙ ap (λ (k : ℕ). cond (eqb k 0) unknown (ofNumbers g s kind (numbersFrom (arity g kind) s next))) (sym a ∙ z))
       (idles table list Unknown)
 
   pub perform-known :
       (table table′ list list′ : List ℕ) (r : Performed) (kind next n : ℕ) →
       q ≡ Number kind next →
-      n ≡ arity kind →
+      n ≡ arity g kind →
       n ≢ 0 →
       Performs (performEvent (stateOf table) (length list) (ofNumbers g s kind (numbersFrom n s next))) r table′ list list′ →
       Performs (performEvent (stateOf table) (length list) (eventAt g s at)) r table′ list list′

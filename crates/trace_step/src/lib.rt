@@ -6,8 +6,8 @@ ghost use mathlib.Core.List.{[]};
 ghost use lib.ListN.{length};
 ghost use Rattle.layout.specs.View.{stateOf};
 ghost use Rattle.rules.specs.Promise.{Follows};
-ghost use Rattle.trace_events.specs.Reading.{orderSize, numbersFrom, cutShort, arity as arityOf, callOf, named, ordered, ofNumbers};
-ghost use Rattle.trace_events.specs.Reading.{eventAt};
+ghost use Rattle.trace_events.specs.Reading.{orderSize, numbersFrom, cutShort, arity as arityOf, callOf, named, alone as one};
+ghost use Rattle.trace_events.specs.Reading.{counted as many, connecting as connectingOf, ordered, ofNumbers, eventAt};
 ghost use Rattle.trace_step.specs.declared.Performed.the-variants.{Malformed, CutShort};
 ghost use Rattle.trace_step.specs.Replay.{performEvent, Performs, Replays, replayOf};
 use layout::CELLS;
@@ -28,6 +28,11 @@ use varint::Read;
 
 // The longest protocol name that is read.
 const NAME_MOST: u64 = 64;
+
+// The most groups that a connect may count, and the numbers that then follow the count.
+const GROUP_MOST: u64 = 4;
+
+const COUNTED: usize = 6;
 
 // What became of one event's call.
 pub enum Performed {
@@ -104,20 +109,23 @@ fn unread(s: &[u8], at: usize) -> Performed
     Performed::Malformed
 }
 
-// A connect, whose name follows its numbers.
+// A connect, whose name of `size` bytes begins at a place.
 fn connect(
     table: &mut [u64; CELLS],
     s: &[u8],
-    v: &[u64; NUMBERS],
+    time: u64,
+    id: u64,
+    groups: &[u64],
+    flags: u64,
+    size: u64,
     at: usize,
     actions: &mut [u32],
 ) -> Performed
     ensures { λ r. ⌜
-        Performs (performEvent (stateOf (now (table .entry))) (length (now (actions .entry))) (named (now (s .entry)) (now (v .entry)) at))
-        r
-        (now (table .exit)) (now (actions .entry)) (now (actions .exit)) ⌝ }
+        Performs (performEvent (stateOf (now (table .entry))) (length (now (actions .entry)))
+        (named (now (s .entry)) time id (now (groups .entry)) flags size at)) r (now (table .exit)) (now (actions .entry))
+        (now (actions .exit)) ⌝ }
 {
-    let size = v[4];
     if NAME_MOST < size {
         return Performed::Malformed;
     }
@@ -129,9 +137,72 @@ fn connect(
         return Performed::CutShort;
     }
     let next = at + n;
-    let groups = [v[2]];
-    let a = router::connect(table, v[0], v[1], &groups, v[3], &s[at..next], actions);
+    let a = router::connect(table, time, id, groups, flags, &s[at..next], actions);
     Performed::Answered(next, a)
+}
+
+// A connect with one group.
+fn alone(
+    table: &mut [u64; CELLS],
+    s: &[u8],
+    v: &[u64; NUMBERS],
+    at: usize,
+    actions: &mut [u32],
+) -> Performed
+    ensures { λ r. ⌜
+        Performs (performEvent (stateOf (now (table .entry))) (length (now (actions .entry))) (one (now (s .entry)) (now (v .entry)) at)) r
+        (now (table .exit)) (now (actions .entry)) (now (actions .exit)) ⌝ }
+{
+    let groups = [v[2]];
+    connect(table, s, v[0], v[1], &groups, v[3], v[4], at, actions)
+}
+
+// A connect whose groups are counted: they follow the count, and behind them flags and name-length.
+fn counted(
+    table: &mut [u64; CELLS],
+    s: &[u8],
+    v: &[u64; NUMBERS],
+    at: usize,
+    actions: &mut [u32],
+) -> Performed
+    ensures { λ r. ⌜
+        Performs (performEvent (stateOf (now (table .entry))) (length (now (actions .entry))) (many (now (s .entry)) (now (v .entry)) at)) r
+        (now (table .exit)) (now (actions .entry)) (now (actions .exit)) ⌝ }
+{
+    let count = v[2];
+    if GROUP_MOST < count {
+        return Performed::Malformed;
+    }
+    let n = count as usize;
+    let mut w = [0u64; COUNTED];
+    let us = read_numbers(s, at, n + 2, &mut w);
+    let place = us.place;
+    if !us.ok {
+        return unread(s, place);
+    }
+    let flags = w[n];
+    let size = w[n + 1];
+    connect(table, s, v[0], v[1], &w[..n], flags, size, place, actions)
+}
+
+// A connect of an edition.
+fn connecting(
+    table: &mut [u64; CELLS],
+    edition: Edition,
+    s: &[u8],
+    v: &[u64; NUMBERS],
+    at: usize,
+    actions: &mut [u32],
+) -> Performed
+    ensures { λ r. ⌜
+        Performs (performEvent (stateOf (now (table .entry))) (length (now (actions .entry)))
+        (connectingOf edition (now (s .entry)) (now (v .entry)) at)) r (now (table .exit)) (now (actions .entry)) (now (actions .exit)) ⌝ }
+{
+    match edition {
+        Edition::First => alone(table, s, v, at, actions),
+        Edition::Second => alone(table, s, v, at, actions),
+        Edition::Third => counted(table, s, v, at, actions),
+    }
 }
 
 // A heartbeat, whose permutation follows its numbers.
@@ -170,7 +241,7 @@ fn perform_kind(
     n: usize,
     actions: &mut [u32],
 ) -> Performed
-    requires { ⌜ n ≡ arityOf kind ⌝ }
+    requires { ⌜ n ≡ arityOf edition kind ⌝ }
     ensures { λ r. ⌜
         Performs (performEvent (stateOf (now (table .entry))) (length (now (actions .entry)))
         (ofNumbers edition (now (s .entry)) kind (numbersFrom n (now (s .entry)) at))) r (now (table .exit)) (now (actions .entry))
@@ -183,7 +254,7 @@ fn perform_kind(
         return unread(s, place);
     }
     match kind {
-        1 => connect(table, s, &v, place, actions),
+        1 => connecting(table, edition, s, &v, place, actions),
         11 => heartbeat(table, edition, s, &v, place, actions),
         _ => Performed::Answered(place, call(table, kind, &v, actions)),
     }
@@ -204,7 +275,7 @@ pub fn perform(
     let Read::Number(kind, next) = varint::read_u64(s, at) else {
         return unread(s, at);
     };
-    let n = arity(kind);
+    let n = arity(edition, kind);
     if n == 0 {
         return Performed::Unknown;
     }

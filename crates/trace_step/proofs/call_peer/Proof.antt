@@ -18,7 +18,7 @@ returns-7 c =
     let s = c .before .before .before .before .before .before .before .before .before .before .before in
     let r = c .before .before .before .before .before .match .rest in
     follows-as _ _ _ _ _ _ _
-    (call-score (s .args .kind) (s .args .v .now) (s .pre .0) (r .0 .0 .0 .0 .0 .1) (s .pre .1 .0) (s .pre .1 .1 .0) (s .pre .1 .1 .1 .0)
+    (call-score (s .args .kind) (s .args .v .now) (r .0 .0 .0 .0 .0 .1) (s .pre .1 .0) (s .pre .1 .1 .0) (s .pre .1 .1 .1 .0)
     (s .pre .1 .1 .1 .1 .0) (r .0 .0 .0 .0 .1) (r .0 .0 .0 .1) (r .0 .0 .1) (r .0 .1) (s .pre .1 .1 .1 .1 .1) (r .1))
     (c .before .before .score .ensures)
 

@@ -22,7 +22,7 @@ returns-2 c =
     let s = c .before .before .before .before .before .before .before .before .before .before .before .before .before .before in
     kind-connect (s .args .edition) _ (s .args .kind) _ _ (u .result) _ (u .ensures .0) (λ k h. u .ensures .1 k h ∙ zeros numberMost k)
     (passed refl (c .before .before .before .before .before .before .before .if1 .left))
-    _ _ _ _ _ (c .before .before .before .before .before .before .match .keys1) (c .before .before .connect .ensures)
+    _ _ _ _ _ (c .before .before .before .before .before .before .match .keys1) (c .before .before .connecting .ensures)
 
 returns-3 : tie.Need-returns-3
 returns-3 c =
@@ -46,7 +46,7 @@ perform-kind-spec =
     tie.close
     (tie.spec
     (λ c. search needs)
-    (λ c κs. let h = c .before .before .before .pre in omega (arith, arity-most (c .before .before .before .args .kind)))
+    (λ c κs. let h = c .before .before .before .pre in omega (arith, arity-most (c .before .before .before .args .edition) (c .before .before .before .args .kind)))
     (λ c κs. tt)
     returns
     (λ c κs. tt)
