@@ -19,7 +19,7 @@ pub struct Damage {
 /// One past the range of ids and of groups.
 const WIDE: u64 = 1 << 32;
 
-const RULES: [&str; 8] = [
+pub const RULES: [&str; 8] = [
     "parameters: rule 0 broken",
     "parameters: rule 1 broken",
     "parameters: rule 2 broken",

@@ -58,7 +58,10 @@ pub fn compare<L: Library>(
     let mut past_range = vec![false; CELLS];
     for (place, state) in states.iter().enumerate() {
         let mut sweep = Sweep::new(library, state, random, counts);
-        let turn = |damage: &Damage| has_turn(damage.changes[0].0, place);
+        // The joint rules are few and hard to break alone: each has its turn in every state.
+        let turn = |damage: &Damage| {
+            damage::RULES.contains(&damage.kind) || has_turn(damage.changes[0].0, place)
+        };
         let largest = place.is_multiple_of(LARGEST);
         for damage in damage::all(state, largest).into_iter().filter(turn) {
             let found = sweep.damage(&damage, tables.damaged.is_multiple_of(THOROUGH));
