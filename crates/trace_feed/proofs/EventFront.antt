@@ -17,10 +17,10 @@ use Rattle.varint.specs.declared.Read.{Read}
 use Rattle.varint.specs.declared.Read.the-variants.{Number, Bad}
 use Rattle.records.specs.Records.{slotCount}
 use Rattle.trace_events.specs.declared.Edition.{Edition}
-use Rattle.trace_events.specs.declared.Edition.the-variants.{First, Second}
+use Rattle.trace_events.specs.declared.Edition.the-variants.{First, Second, Third}
 use Rattle.trace_events.specs.Reading.{orderSize, Numbers, numbers, broken, more, numberThen, numbersFrom, cutShort, arities, arity, callOf}
-use Rattle.trace_events.specs.Reading.{Event, event, unknown, malformed, short, unread, nameMost, named, ordered, ofNumbers, ofKind}
-use Rattle.trace_events.specs.Reading.{eventAt}
+use Rattle.trace_events.specs.Reading.{Event, event, unknown, malformed, short, unread, nameMost, named, groupMost, grouped}
+use Rattle.trace_events.specs.Reading.{connecting, ordered, ofNumbers, ofKind, eventAt}
 use Rattle.trace_events.proofs.ReadingLaws.{arity-most}
 use Rattle.trace_feed.proofs.ReadFront.{most, cut-few, cut-bad, read-stays, cut-stays, read-within, read-near}
 
@@ -106,16 +106,43 @@ module _ (w r : List ℕ) where
       ap (take n) (drop-append-le next w r (omega arith))
       ∙ take-append-le n (drop next w) r (omega (arith, length-drop next w))
 
-  named-stays : (us : List ℕ) (next : ℕ) → isShort (named w us next) ≡ false → named (w ++ r) us next ≡ named w us next
+  named-stays :
+      (time id : ℕ) (groups : List ℕ) (flags size at : ℕ) →
+      isShort (named w time id groups flags size at) ≡ false →
+      named (w ++ r) time id groups flags size at ≡ named w time id groups flags size at
   unfolding named
-  named-stays us next h =
-      by-test (named (w ++ r) us next ≡ named w us next) (leb (getD us 4 0) nameMost)
+  named-stays time id groups flags size at h =
+      by-test (named (w ++ r) time id groups flags size at ≡ named w time id groups flags size at) (leb size nameMost)
       (λ t.
-      by-test (named (w ++ r) us next ≡ named w us next) (leb (next + getD us 4 0) (length w))
+      by-test (named (w ++ r) time id groups flags size at ≡ named w time id groups flags size at) (leb (at + size) (length w))
       (λ i.
-      let k = leb-true (next + getD us 4 0) (length w) i in
-      rw (t, i, le-leb (next + getD us 4 0) (length (w ++ r)) (omega (arith, length-append w r)), name-stays (getD us 4 0) next k))
+      let k = leb-true (at + size) (length w) i in
+      rw (t, i, le-leb (at + size) (length (w ++ r)) (omega (arith, length-append w r)), name-stays size at k))
       (λ i. let f : true ≡ false = rw (t, i) at h in absurd (false≢true (sym f))))
+      (λ t. rw t)
+
+  groups-of : (us : List ℕ) (p : Numbers) → isShort (grouped w us p) ≡ false → grouped (w ++ r) us p ≡ grouped w us p
+  groups-of us (numbers vs next) h = named-stays _ _ _ _ _ _ h
+  groups-of us (broken p) h = unread-stays p h
+
+  groups-whole : (us : List ℕ) (p : Numbers) → isShort (grouped w us p) ≡ false → Whole w p
+  groups-whole us (numbers vs next) h = tt
+  groups-whole us (broken p) h = unread-whole w p h
+
+  connecting-stays :
+      (g : Edition) (us : List ℕ) (next : ℕ) →
+      isShort (connecting g w us next) ≡ false →
+      connecting g (w ++ r) us next ≡ connecting g w us next
+  connecting-stays First us next h = named-stays _ _ _ _ _ _ h
+  connecting-stays Second us next h = named-stays _ _ _ _ _ _ h
+  connecting-stays Third us next h =
+      let n : ℕ = getD us 2 0 + 2 in
+      by-test (connecting Third (w ++ r) us next ≡ connecting Third w us next) (leb (getD us 2 0) groupMost)
+      (λ t.
+      let f : isShort (grouped w us (numbersFrom n w next)) ≡ false = rw t at h in
+      rw t
+      (ap (grouped (w ++ r) us) (numbers-stay w r n next (groups-whole us (numbersFrom n w next) f))
+      ∙ groups-of us (numbersFrom n w next) f))
       (λ t. rw t)
 
   order-of : (us : List ℕ) (p : Numbers) → isShort (ordered w us p) ≡ false → ordered (w ++ r) us p ≡ ordered w us p
@@ -143,7 +170,7 @@ module _ (g : Edition) (w r : List ℕ) where
   numbers-of : (kind : ℕ) (p : Numbers) → isShort (ofNumbers g w kind p) ≡ false → ofNumbers g (w ++ r) kind p ≡ ofNumbers g w kind p
   numbers-of kind (numbers us next) h =
       by-test (ofNumbers g (w ++ r) kind (numbers us next) ≡ ofNumbers g w kind (numbers us next)) (eqb kind 1)
-      (λ t. rw t (named-stays w r us next (rw t at h)))
+      (λ t. rw t (connecting-stays w r g us next (rw t at h)))
       (λ t.
       by-test (ofNumbers g (w ++ r) kind (numbers us next) ≡ ofNumbers g w kind (numbers us next)) (eqb kind 11)
       (λ k. rw (t, k) (order-stays w r us (orderSize g) next (rw (t, k) at h)))
@@ -153,12 +180,12 @@ module _ (g : Edition) (w r : List ℕ) where
   kind-stays : (at : ℕ) (q : Read) → isShort (ofKind g w at q) ≡ false → ofKind g (w ++ r) at q ≡ ofKind g w at q
   kind-stays at Bad h = unread-stays w r at h
   kind-stays at (Number kind next) h =
-      by-test (ofKind g (w ++ r) at (Number kind next) ≡ ofKind g w at (Number kind next)) (eqb (arity kind) 0)
+      by-test (ofKind g (w ++ r) at (Number kind next) ≡ ofKind g w at (Number kind next)) (eqb (arity g kind) 0)
       (λ t. rw t)
       (λ t.
-      let n : Numbers = numbersFrom (arity kind) w next in
+      let n : Numbers = numbersFrom (arity g kind) w next in
       let f : isShort (ofNumbers g w kind n) ≡ false = rw t at h in
-      rw t (ap (ofNumbers g (w ++ r) kind) (numbers-stay w r (arity kind) next (of-whole w r g kind n f)) ∙ numbers-of kind n f))
+      rw t (ap (ofNumbers g (w ++ r) kind) (numbers-stay w r (arity g kind) next (of-whole w r g kind n f)) ∙ numbers-of kind n f))
 
   pub event-stays : (at : ℕ) → isShort (eventAt g w at) ≡ false → eventAt g (w ++ r) at ≡ eventAt g w at
   unfolding eventAt
@@ -170,7 +197,7 @@ module _ (g : Edition) (w r : List ℕ) where
       (λ t. rw (read-stays w at r t) (kind-stays at (readAt most w at) h))
 
 -- ---- where an event ends: within the bytes; and one that is not whole has few
--- 260 numbers of ten bytes and nine of one more, or six numbers and a name of 64
+-- 260 numbers of ten bytes and nine of one more, or ten numbers and a name of 64
 abbrev pub eventRoom : ℕ
 eventRoom = 2610
 
@@ -183,21 +210,42 @@ Closes len at short = len < at + eventRoom
 order-most : (g : Edition) → orderSize g ≤ slotCount
 order-most First = omega arith
 order-most Second = omega arith
+order-most Third = omega arith
 
 module _ (g : Edition) (s : List ℕ) (at : ℕ) where
   unread-closes : (p : ℕ) → p ≤ at + 2600 → Closes (length s) at (unread s p)
   unread-closes p h =
       cond-case (Closes (length s) at) (cutShort s p) short malformed (λ e. let f = cut-few s p e in omega arith) (λ e. tt)
 
-  named-closes : (us : List ℕ) (next : ℕ) → next ≤ at + 60 → Closes (length s) at (named s us next)
+  named-closes :
+      (time id : ℕ) (groups : List ℕ) (flags size next : ℕ) →
+      next ≤ at + 120 →
+      Closes (length s) at (named s time id groups flags size next)
   unfolding named
-  named-closes us next h =
-      cond-case (Closes (length s) at) (leb (getD us 4 0) nameMost) _ malformed
+  named-closes time id groups flags size next h =
+      cond-case (Closes (length s) at) (leb size nameMost) _ malformed
       (λ e.
-      let i = leb-true (getD us 4 0) nameMost e in
-      cond-case (Closes (length s) at) (leb (next + getD us 4 0) (length s)) (event _ (next + getD us 4 0)) short
-      (λ f. leb-true (next + getD us 4 0) (length s) f)
-      (λ f. let j = leb-false (next + getD us 4 0) (length s) f in omega arith))
+      let i = leb-true size nameMost e in
+      cond-case (Closes (length s) at) (leb (next + size) (length s)) (event _ (next + size)) short
+      (λ f. leb-true (next + size) (length s) f)
+      (λ f. let j = leb-false (next + size) (length s) f in omega arith))
+      (λ e. tt)
+
+  groups-close : (us : List ℕ) (p : Numbers) → Ends (length s) (at + 120) p → Closes (length s) at (grouped s us p)
+  groups-close us (numbers vs next) h = named-closes _ _ _ _ _ next (h .1)
+  groups-close us (broken p) h = unread-closes p (omega arith)
+
+  -- a connect's numbers, and those behind its count
+  connecting-closes : (d : Edition) (us : List ℕ) (next : ℕ) → next ≤ length s → next ≤ at + 60 → Closes (length s) at (connecting d s us next)
+  connecting-closes First us next i h = named-closes _ _ _ _ _ next (omega arith)
+  connecting-closes Second us next i h = named-closes _ _ _ _ _ next (omega arith)
+  connecting-closes Third us next i h =
+      let n : ℕ = getD us 2 0 + 2 in
+      cond-case (Closes (length s) at) (leb (getD us 2 0) groupMost) (grouped s us (numbersFrom n s next)) malformed
+      (λ e.
+      let k = leb-true (getD us 2 0) groupMost e in
+      groups-close us (numbersFrom n s next)
+      (ends-later (length s) (next + 10 * n) (at + 120) (numbersFrom n s next) (omega arith) (numbers-end s n next i)))
       (λ e. tt)
 
   order-closes : (us : List ℕ) (p : Numbers) → Ends (length s) (at + 2600) p → Closes (length s) at (ordered s us p)
@@ -212,8 +260,8 @@ module _ (g : Edition) (s : List ℕ) (at : ℕ) where
       Ends (length s) to p →
       Closes (length s) at (ofNumbers g s kind p)
   numbers-close kind to (numbers us next) four all h =
-      cond-case (Closes (length s) at) (eqb kind 1) (named s us next) _
-      (λ e. named-closes us next (omega (arith, h .1)))
+      cond-case (Closes (length s) at) (eqb kind 1) (connecting g s us next) _
+      (λ e. connecting-closes g us next (h .0) (omega (arith, h .1)))
       (λ e.
       cond-case (Closes (length s) at) (eqb kind 11) (ordered s us (numbersFrom (orderSize g) s next)) (event (callOf kind us []) next)
       (λ f.
@@ -231,14 +279,14 @@ module _ (g : Edition) (s : List ℕ) (at : ℕ) where
   kind-closes (Number kind next) e =
       let i = read-within s at kind next e in
       let j = read-near s at kind next e in
-      let k = arity-most kind in
-      cond-case (Closes (length s) at) (eqb (arity kind) 0) unknown (ofNumbers g s kind (numbersFrom (arity kind) s next))
+      let k = arity-most g kind in
+      cond-case (Closes (length s) at) (eqb (arity g kind) 0) unknown (ofNumbers g s kind (numbersFrom (arity g kind) s next))
       (λ t. tt)
       (λ t.
-      numbers-close kind (next + 10 * arity kind) (numbersFrom (arity kind) s next)
-      (λ o. let a : arity kind ≡ 3 = rw o in omega arith)
+      numbers-close kind (next + 10 * arity g kind) (numbersFrom (arity g kind) s next)
+      (λ o. let a : arity g kind ≡ 3 = rw o in omega arith)
       (omega arith)
-      (numbers-end s (arity kind) next i))
+      (numbers-end s (arity g kind) next i))
 
   pub event-closes : Closes (length s) at (eventAt g s at)
   unfolding eventAt

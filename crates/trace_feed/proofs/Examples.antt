@@ -13,10 +13,14 @@ zeros-alone : printedOf (0 ∷ 0 ∷ []) ≡ pairLine 10 2
 unfolding printedOf frontIn
 zeros-alone = refl
 
--- "another third byte: 9 2": of the first edition, and of the second in two bytes
+-- "another third byte: 9 2": 1, 4, and a 2 in two bytes
 third-one : printedOf (0 ∷ 0 ∷ 1 ∷ []) ≡ pairLine 9 2
 unfolding printedOf frontIn
 third-one = refl
+
+third-four : printedOf (0 ∷ 0 ∷ 4 ∷ []) ≡ pairLine 9 2
+unfolding printedOf frontIn
+third-four = refl
 
 third-overlong : printedOf (0 ∷ 0 ∷ 130 ∷ 0 ∷ []) ≡ pairLine 9 2
 unfolding printedOf frontIn
@@ -27,6 +31,10 @@ third-overlong = refl
 second-alone : printedOf (0 ∷ 0 ∷ 2 ∷ []) ≡ pairLine 10 3
 unfolding printedOf frontIn frontAt parseAt editionAt parseFrom readAt decode
 second-alone = refl
+
+third-alone : printedOf (0 ∷ 0 ∷ 3 ∷ []) ≡ pairLine 10 3
+unfolding printedOf frontIn frontAt parseAt editionAt parseFrom readAt decode
+third-alone = refl
 
 second-cut : printedOf (0 ∷ 0 ∷ 2 ∷ 8 ∷ 140 ∷ []) ≡ pairLine 10 4
 unfolding printedOf frontIn frontAt parseAt editionAt parseFrom readAt decode

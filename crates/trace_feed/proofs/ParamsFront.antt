@@ -33,7 +33,7 @@ use Rattle.params_bytes.proofs.WriteLaws.{front-short}
 use Rattle.params_bytes.proofs.PlaceLaws.{placeOf, all-place}
 use Rattle.trace_events.specs.Reading.{cutShort}
 use Rattle.records.specs.Records.{paramCount}
-use Rattle.trace_events.specs.declared.Edition.the-variants.{First, Second}
+use Rattle.trace_events.specs.declared.Edition.the-variants.{First, Second, Third}
 use Rattle.trace_feed.specs.declared.Front.{Front}
 use Rattle.trace_feed.specs.declared.Front.the-variants.{Begins, Other, Cut}
 use Rattle.trace_feed.specs.Front.{thirdIn, frontIn}
@@ -220,7 +220,10 @@ Near s Cut = length s ≤ 2
 third-near : (a b : ℕ) (s : List ℕ) → Near (a ∷ (b ∷ s)) (thirdIn s)
 third-near a b [] = omega arith
 third-near a b (c ∷ s) =
-    cond-case (Near (a ∷ (b ∷ (c ∷ s)))) (eqb c 2) (Begins Second 3) Other (λ e. (omega arith, omega arith)) (λ e. tt)
+    cond-case (Near (a ∷ (b ∷ (c ∷ s)))) (eqb c 2) (Begins Second 3) _
+    (λ e. (omega arith, omega arith))
+    (λ e.
+    cond-case (Near (a ∷ (b ∷ (c ∷ s)))) (eqb c 3) (Begins Third 3) Other (λ f. (omega arith, omega arith)) (λ f. tt))
 
 pub front-near : (s : List ℕ) → Near s (frontIn s)
 unfolding frontIn

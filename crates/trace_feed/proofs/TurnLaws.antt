@@ -2,6 +2,7 @@
 -- Assumes nothing.
 use Prim.Native.Nat.{ℕ, _+_, _<_, _≤_}
 use mathlib.Core.Path.{_≡_, refl, sym, ap, ap₂, _∙_}
+use mathlib.Core.Logic.{_≢_}
 use mathlib.Core.Bool.{Bool, true, false, not, cond, _&&_}
 use mathlib.Core.List.{List, [], _∷_}
 use native.Mathlib.Omega.{arith}
@@ -22,7 +23,7 @@ use Rattle.lookup.specs.declared.Made.{Made}
 use Rattle.lookup.specs.Fresh.{leftBy as freshBy, Makes}
 use Rattle.rules.specs.Step.{step, actionRoom}
 use Rattle.trace_events.specs.declared.Edition.{Edition}
-use Rattle.trace_events.specs.declared.Edition.the-variants.{First, Second}
+use Rattle.trace_events.specs.declared.Edition.the-variants.{First, Second, Third}
 use Rattle.trace_events.specs.Reading.{Event, event, unknown, malformed, short, cutShort, eventAt}
 use Rattle.trace_events.specs.Lines.{pairLine, linesOf, lineRoom}
 use Rattle.trace_step.specs.declared.Replayed.{Replayed}
@@ -110,8 +111,11 @@ module _ (g : Edition) (at : ℕ) (last : Bool) (s : List ℕ) (l : at ≤ lengt
 pub third-second : (b : ℕ) → b ≡ 2 → Begins Second 3 ≡ ofThird b
 third-second b e = rw e
 
-pub third-other : (b : ℕ) → (b ≡ 2 → ⊥) → Other ≡ ofThird b
-third-other b e = rw (ne-eqb b 2 e)
+pub third-third : (b : ℕ) → b ≡ 3 → Begins Third 3 ≡ ofThird b
+third-third b e = rw e
+
+pub third-other : (b : ℕ) → b ≢ 2 → b ≢ 3 → Other ≡ ofThird b
+third-other b e f = rw (ne-eqb b 2 e, ne-eqb b 3 f)
 
 pub front-few : (s : List ℕ) → length s < 2 → Begins First 0 ≡ frontIn s
 unfolding frontIn

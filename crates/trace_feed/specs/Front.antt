@@ -1,16 +1,17 @@
 -- The front of a trace (02, order 9): "edition 2, a trace by two zero bytes and then 2 in front of its sheet (another third byte: 9 2, and
--- stop; its sheet's byte places count from the trace's first byte); edition 1 is still read".
+-- stop; its sheet's byte places count from the trace's first byte); edition 1 is still read". "A trace with a count and groups in its
+-- connect is edition 3" (order 11).
 use Prim.Native.Nat.{ℕ}
 use mathlib.Core.Bool.{cond, _&&_}
 use mathlib.Core.List.{List, [], _∷_}
 use lib.Dec.{eqb}
-use Rattle.trace_events.specs.declared.Edition.the-variants.{First, Second}
+use Rattle.trace_events.specs.declared.Edition.the-variants.{First, Second, Third}
 use Rattle.trace_feed.specs.declared.Front.{Front}
 use Rattle.trace_feed.specs.declared.Front.the-variants.{Begins, Other, Cut}
 
 -- the third byte is the edition's number: the parameters begin behind it
 abbrev pub ofThird : ℕ → Front
-ofThird b = cond (eqb b 2) (Begins Second 3) Other
+ofThird b = cond (eqb b 2) (Begins Second 3) (cond (eqb b 3) (Begins Third 3) Other)
 
 abbrev pub thirdIn : List ℕ → Front
 thirdIn [] = Cut

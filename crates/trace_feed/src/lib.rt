@@ -61,10 +61,11 @@ pub struct Window {
 fn of_third(b: u8) -> Front
     ensures { λ r. ⌜ r ≡ ofThird b ⌝ }
 {
-    if b == 2 {
-        return Front::Begins(Edition::Second, 3);
+    match b {
+        2 => Front::Begins(Edition::Second, 3),
+        3 => Front::Begins(Edition::Third, 3),
+        _ => Front::Other,
     }
-    Front::Other
 }
 
 // The edition of the bytes, and where the parameters begin.
