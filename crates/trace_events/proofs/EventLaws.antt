@@ -12,7 +12,8 @@ use Rattle.varint.specs.declared.Read.{Read}
 use Rattle.varint.specs.declared.Read.the-variants.{Number, Bad}
 use Rattle.trace_events.specs.Reading.{Numbers, numbers, broken, more, numberThen, numbersFrom, cutShort, arity, callOf, Event, event}
 use Rattle.trace_events.specs.Reading.{nameMost, groupMost, orderSize}
-use Rattle.trace_events.specs.Reading.{unknown, malformed, short, unread, named, grouped, connecting, ordered, ofNumbers, ofKind, eventAt}
+use Rattle.trace_events.specs.Reading.{unknown, malformed, short, unread, named, grouped, connecting, ordered, ofNumbers, ofKind}
+use Rattle.trace_events.specs.Reading.{eventAt}
 use Rattle.trace_events.specs.declared.Edition.{Edition}
 use Rattle.trace_events.specs.declared.Edition.the-variants.{First, Second, Third}
 

@@ -236,7 +236,8 @@ module _ (g : Edition) (s : List ℕ) (at : ℕ) where
   groups-close us (broken p) h = unread-closes p (omega arith)
 
   -- a connect's numbers, and those behind its count
-  connecting-closes : (d : Edition) (us : List ℕ) (next : ℕ) → next ≤ length s → next ≤ at + 60 → Closes (length s) at (connecting d s us next)
+  connecting-closes : (d : Edition) (us : List ℕ) (next : ℕ) → next ≤ length s → next ≤ at + 60 →
+      Closes (length s) at (connecting d s us next)
   connecting-closes First us next i h = named-closes _ _ _ _ _ next (omega arith)
   connecting-closes Second us next i h = named-closes _ _ _ _ _ next (omega arith)
   connecting-closes Third us next i h =

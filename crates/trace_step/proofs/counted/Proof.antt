@@ -12,13 +12,17 @@ returns-2 : tie.Need-returns-2
 returns-2 c =
     let u = c .before .before .before .before .read-numbers in
     let s = c .before .before .before .before .before .before .before .before .before .before in
-    counted-unread (s .args .s .now) (s .args .v .now) (s .args .at) (c .before .before .before .before .before .before .if1 .left) (u .result) _ (u .ensures .0) _ _ _ (failed refl (c .before .if2 .taken)) (c .unread .ensures)
+    counted-unread (s .args .s .now) (s .args .v .now) (s .args .at) (c .before .before .before .before .before .before .if1 .left)
+    (u .result) _ (u .ensures .0) _ _ _ (failed refl (c .before .if2 .taken)) (c .unread .ensures)
 
 returns-3 : tie.Need-returns-3
 returns-3 c =
     let u = c .before .before .before .before .before .before .before .before .before .before .before .read-numbers in
-    let s = c .before .before .before .before .before .before .before .before .before .before .before .before .before .before .before .before .before in
-    counted-called (s .args .s .now) (s .args .v .now) (s .args .at) (c .before .before .before .before .before .before .before .before .before .before .before .before .before .if1 .left) (u .result) _ (u .ensures .0) _ _ _ _ _ (passed refl (c .before .before .before .before .before .before .before .before .if2 .left))
+    let s = c .before .before .before .before .before .before .before .before .before .before .before .before .before .before .before
+    .before .before in
+    counted-called (s .args .s .now) (s .args .v .now) (s .args .at)
+    (c .before .before .before .before .before .before .before .before .before .before .before .before .before .if1 .left) (u .result) _
+    (u .ensures .0) _ _ _ _ _ (passed refl (c .before .before .before .before .before .before .before .before .if2 .left))
     (c .before .before .connect .ensures)
 
 pub counted-spec : {M : Type 1} → statement M
@@ -40,7 +44,8 @@ counted-spec =
     (λ c. search needs)
     (λ c. search needs)
     (λ c. let h = c .before .before .before .before .before .before .before .before .if1 .left in omega arith)
-    (λ c. let h = c .before .before .before .before .before .before .before .before .before .if1 .left in sym (length-take-le _ _ (omega arith)))
+    (λ c. let h = c .before .before .before .before .before .before .before .before .before .if1 .left in
+    sym (length-take-le _ _ (omega arith)))
     (λ c κs. tt)
     (λ c. search needs)
     returns-3)

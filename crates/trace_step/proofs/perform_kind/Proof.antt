@@ -46,7 +46,8 @@ perform-kind-spec =
     tie.close
     (tie.spec
     (λ c. search needs)
-    (λ c κs. let h = c .before .before .before .pre in omega (arith, arity-most (c .before .before .before .args .edition) (c .before .before .before .args .kind)))
+    (λ c κs. let h = c .before .before .before .pre in
+    omega (arith, arity-most (c .before .before .before .args .edition) (c .before .before .before .args .kind)))
     (λ c κs. tt)
     returns
     (λ c κs. tt)

@@ -1,9 +1,7 @@
 -- `trace_events::reading::arity` meets its contract. Assumes nothing.
 use borrow.Author.Needs.{needs}
-use native.Mathlib.Omega.{arith}
-use mathlib.Core.Path.{refl}
 use Rattle.trace_events.specs.Reading.{arities}
-use Rattle.trace_events.proofs.ReadingLaws.{arity-most, arity-connect, arity-other, arity-past, as-arity}
+use Rattle.trace_events.proofs.ReadingLaws.{arity-connect, arity-other, arity-past, as-arity}
 use Rattle.trace_events.proofs.reading.arity.Statement.{statement}
 use Rattle.trace_events.proofs.reading.arity.Tie as tie
 
