@@ -32,7 +32,7 @@
  * - The action list is HIVEPADLET_ACTION_NUMBERS numbers of 32 bits, or more; under that, a call refuses (8). A call writes its
  *   actions from the start of the list and leaves the numbers past them as they were. One list may serve all calls.
  * - Lengths count elements, not bytes.
- * - The stack: most calls take some 2 KiB, hivepadlet_heartbeat at most 16 KiB, hivepadlet_fresh, _read and _write up to 7 KiB, as
+ * - The stack: most calls take some 2 KiB, hivepadlet_leave, _fresh, _read and _write up to 7 KiB, hivepadlet_heartbeat 11 KiB, as
  *   measured by tests/host_stack.c and not proved. No input makes it grow: no function calls itself but the reader and the writer
  *   of one parameter, ten deep at most.
  *

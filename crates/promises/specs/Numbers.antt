@@ -38,7 +38,7 @@ pub record Rows (st : State) (c : Call) (room : ℕ) (n : ℕ) : Type 0 where
   pub row12 : (n ≡ 12) ↔ (valid st ≡ false)
   -- "topic, id, group, flags, kind, ask, time or P5 outside its range"
   pub row2 : (n ≡ 2) ↔ ((valid st ≡ true) × (inRange c ≡ false))
-  -- "action list under 192 numbers"
+  -- "action list under 192 numbers", with order 9 under 768
   pub row8 : (n ≡ 8) ↔ ((valid st ≡ true) × (inRange c ≡ true) × (room < actionRoom))
   -- "now earlier than the last accepted time"
   pub row1 : (n ≡ 1) ↔ ((valid st ≡ true) × (inRange c ≡ true) × (actionRoom ≤ room) × (timeOf c < st .clock))
@@ -125,7 +125,7 @@ Words3 st c = Names c (Missing st)
 abbrev pub Row3 : Type 0
 Row3 = (st : State) (c : Call) (room : ℕ) → (numberOf (step st c room .answer) ≡ 3) ↔ (Admitted st c room × Words3 st c)
 
--- ---- 7: "draw not each of 0..63 once", of a heartbeat alone
+-- ---- 7: "draw not each of 0..63 once", with order 9 of 0..255, of a heartbeat alone
 abbrev pub Draws : Call → (List ℕ → Type 0) → Type 0
 Draws (connect time id groups flags name) P = ⊥
 Draws (disconnect time id) P = ⊥

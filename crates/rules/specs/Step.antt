@@ -46,7 +46,7 @@ use Rattle.rules.specs.Calls.{Call, connect, disconnect, join, leave, su
 use Rattle.rules.specs.Calls.{decay, score, timeOf, inRange, groupsOf}
 
 -- ---- the tests that every call begins with: 12, 2, 8, 1
--- "action list under 192 numbers": three for each slot
+-- "the action list needs 768 numbers" (02, order 9; 192 in 01): three for each slot
 abbrev pub actionRoom : ℕ
 actionRoom = 3 * slotCount
 

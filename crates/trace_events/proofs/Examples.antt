@@ -1,5 +1,5 @@
 -- Connects of the third edition, by computation: with two groups, with none, which the call refuses, and with five, which is malformed; in
--- the second edition the same bytes are a connect with one group.
+-- the second edition a connect has one group and no count.
 -- Assumes nothing.
 use mathlib.Core.Path.{_≡_, refl}
 use mathlib.Core.List.{[], _∷_}
