@@ -73,7 +73,8 @@ impl Request {
             if random.chance(1, 60) {
                 // More than a record holds, which no trace can give it.
                 let first = groups.first().copied().unwrap_or(0);
-                *groups = (0..*random.pick(&MANY_GROUPS) as u64).map(|k| first.wrapping_add(k)).collect();
+                *groups =
+                    (0..*random.pick(&MANY_GROUPS) as u64).map(|k| first.wrapping_add(k)).collect();
             }
             if random.chance(1, 60) {
                 let length = *random.pick(&ODD_NAMES);
