@@ -1,0 +1,13 @@
+pub mod DigitLaws
+pub mod BitLaws
+pub mod StateLaws
+pub mod FormLaws
+pub mod PlaceLaws
+pub mod SlotLaws
+pub mod MarkLaws
+pub mod FitLaws
+pub mod SheetLaws
+pub mod CellLaws
+pub mod FreshLaws
+pub mod ReadLaws
+pub mod CopyLaws
