@@ -1,8 +1,7 @@
 -- `form::store_codes`: after i turns the first i codes are stored.
-use Prim.Native.Nat.{_≤_, _-_}
-use mathlib.Core.Path.{_≡_, refl, sym, _∙_}
+use Prim.Native.Nat.{_≤_, _<_, _-_}
+use mathlib.Core.Path.{_≡_, sym, _∙_}
 use native.Mathlib.Omega.{arith}
-use borrow.Author.Needs.{needs}
 use lib.ListN.{length}
 use Rattle.form.specs.View.{cellCount, stateOf}
 use Rattle.form.proofs.CopyLaws.{codesUpTo, codes-start, codes-more, codes-end}
@@ -21,7 +20,16 @@ loop-holds c =
     (omega arith, s .pre .0, codes-start (s .args .codes .now) (s .args .cells .now))
 
 loop-again : tie.Need-loop-again Inv-loop μ-loop
-loop-again c = ?
+loop-again c =
+    let s = c .before .before .before .before .before .before .before .before .before .before in
+    let l = c .before .before .before .before .before .before .before .loop in
+    let k = c .before .before .store-magnitude in
+    let h : l .i < 147 = omega arith in (
+      omega arith,
+      k .kept .0 ∙ l .inv .1,
+      codes-more (s .args .codes .now) (s .args .cells .now) (l .cells) _ (l .i) _ (s .pre .1) h
+          (c .before .before .before .magnitude .ensures) (l .inv .2) (k .ensures),
+    )
 
 returns : tie.Need-returns Inv-loop μ-loop
 returns c =
@@ -37,9 +45,9 @@ store-codes-spec =
     μ-loop
     loop-holds
     (λ c. omega arith)
-    (λ c. let e = c .before .before .before .before .pre .1 .size in omega arith)
+    (λ c. let e = c .before .before .before .before .before .before .pre .1 .size in omega arith)
     (λ c κs. tt)
-    (λ c κs. ?)
+    (λ c κs. (c .before .before .before .before .loop .inv .1, omega arith))
     (λ c. omega arith)
     (λ c. omega arith)
     loop-again
