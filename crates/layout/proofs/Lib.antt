@@ -1,4 +1,14 @@
 pub mod RowLaws
-pub mod ViewLaws
-pub mod Whole
+pub mod DigitLaws
+pub mod BitLaws
 pub mod StateLaws
+pub mod ViewLaws
+pub mod PlaceLaws
+pub mod SlotLaws
+pub mod MarkLaws
+pub mod FitLaws
+pub mod SheetLaws
+pub mod CellLaws
+pub mod FreshLaws
+pub mod ReadLaws
+pub mod CopyLaws

@@ -4,3 +4,4 @@ pub mod ValidLaws
 pub mod OrderLaws
 pub mod IdLaws
 pub mod Keeps
+pub mod SignLaws

@@ -7,12 +7,14 @@ ghost use Prim.Native.Nat.{ℕ, _+_, _<_, _≤_};
 ghost use lib.ListN.{length, getD};
 ghost use lib.Dec.{leb};
 ghost use Rattle.index.specs.Index.{every};
+ghost use Rattle.params.specs.Check.{acceptedCodes};
 ghost use Rattle.records.specs.Records.{peerIn, slotCount, topicCount};
 ghost use Rattle.layout.specs.View.{stateOf, cellCount};
 ghost use Rattle.validity.specs.Order.{counterRanges, flagRanges, restOk, smallOk, Small, zeroTopicAt, Caps};
 ghost use Rattle.validity.specs.Valid.{maxTime, maxEnd, peerRanges, endsUpTo, zeroPeer, peerOk, zeroTopic, memberOk, topicOk};
 ghost use Rattle.validity.specs.Valid.{topicParam, joinedOk, topicOkAt, slotOk, valid};
 use crate::ids::ids_distinct;
+use layout::PARAMS;
 use records::Peer;
 use records::SLOTS;
 use records::TOPICS;
@@ -27,6 +29,9 @@ pub const MAX_END: u64 = 1099515227776;
 pub const MAX_RETAIN: u64 = 1099598027776;
 
 pub const MAX_ID: u64 = 4294967295;
+
+// The greatest magnitude of a parameter.
+const MAX_SIZE: u64 = 1000000000;
 
 // Where the numbers of topic 0 begin among the parameters, how many each topic has, and which of them are the caps of P2 and P3.
 const TOPIC_PARAMS: usize = 19;
@@ -231,7 +236,7 @@ fn topic_param(table: &[u64], t: usize, j: usize) -> u64
     requires { ⌜ (length (now table) ≡ cellCount) × ((t < topicCount) × (j < 16)) ⌝ }
     ensures { λ r. ⌜ r ≡ topicParam (stateOf (now (table .entry))) t j ⌝ }
 {
-    varint::magnitude(layout::load_code(table, TOPIC_PARAMS + PER_TOPIC * t + j))
+    layout::load_magnitude(table, TOPIC_PARAMS + PER_TOPIC * t + j)
 }
 
 fn topic_at(table: &[u64], slot: usize, status: u64, explicit: u64, t: usize) -> bool
@@ -428,6 +433,24 @@ fn joined_ok(table: &[u64]) -> bool
     ok
 }
 
+// Whether the parameters pass the check. No magnitude above the greatest limit is one of theirs.
+fn params_ok(table: &[u64]) -> bool
+    requires { ⌜ length (now table) ≡ cellCount ⌝ }
+    ensures { λ r. ⌜ r ≡ acceptedCodes (stateOf (now (table .entry)) .setup .edition) (stateOf (now (table .entry)) .codes) ⌝ }
+{
+    let setup = layout::load_setup(table);
+    let mut codes = [0u64; PARAMS];
+    let mut i: usize = 0;
+    while i < PARAMS {
+        if MAX_SIZE < layout::load_magnitude(table, i) {
+            return false;
+        }
+        codes[i] = layout::load_code(table, i);
+        i += 1;
+    }
+    params::accepts_codes(setup.edition, &codes)
+}
+
 // Whether a table is a router's.
 pub fn is_router(table: &[u64]) -> bool
     requires { ⌜ length (now table) ≡ cellCount ⌝ }
@@ -436,8 +459,7 @@ pub fn is_router(table: &[u64]) -> bool
     if MAX_TIME < layout::load_clock(table) {
         return false;
     }
-    let setup = layout::load_setup(table);
-    let params = params::accepts_codes(setup.edition, layout::codes(table));
+    let params = params_ok(table);
     let joined = joined_ok(table);
     let slots = slots_ok(table);
     let ids = ids_distinct(table);

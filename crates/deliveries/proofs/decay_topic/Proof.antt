@@ -7,20 +7,20 @@ use Rattle.deliveries.proofs.decay_topic.Statement.{statement}
 use Rattle.deliveries.proofs.decay_topic.Tie as tie
 
 returns : tie.Need-returns
-returns c = topic-idle _ _ _ _ _ (c .before .before .load-topic .ensures) (yes (c .before .is-idle .ensures) (c .if1 .taken))
+returns c = topic-idle _ _ _ _ _ (c .before .before .load-topic .ensures .0) (yes (c .before .is-idle .ensures) (c .if1 .taken))
 
 decayed-requires : tie.Need-decayed-requires
 decayed-requires c κs =
     let loaded = c .before .before .before .before .before .before .before in
     let start = loaded .before .before .before in
-    topic-ready _ (start .args .time) _ _ _ _ _ (loaded .load-topic .ensures) (c .before .before .before .load-params .ensures)
+    topic-ready _ (start .args .time) _ _ _ _ _ (loaded .load-topic .ensures .0) (c .before .before .before .load-params .ensures)
     (c .load-magnitude .ensures)
     (start .pre .decays) (start .pre .slot) (start .pre .topic)
 
 returns-2 : tie.Need-returns-2
 returns-2 c =
     let faded = c .before .before .before in
-    topic-decayed _ _ _ _ _ _ _ (faded .before .before .before .before .before .before .before .before .load-topic .ensures)
+    topic-decayed _ _ _ _ _ _ _ (faded .before .before .before .before .before .before .before .before .load-topic .ensures .0)
     (faded .before .before .before .before .load-params .ensures) (faded .before .load-magnitude .ensures) _ _
     (faded .decayed .ensures) (c .before .before .store-topic .ensures)
 

@@ -8,20 +8,20 @@ use Rattle.peer_score.proofs.share_at.Statement.{statement}
 use Rattle.peer_score.proofs.share_at.Tie as tie
 
 returns : tie.Need-returns
-returns c = share-idle _ _ _ _ _ (c .before .before .load-topic .ensures) (c .before .is-idle .ensures) (c .if1 .taken)
+returns c = share-idle _ _ _ _ _ (c .before .before .load-topic .ensures .0) (c .before .is-idle .ensures) (c .if1 .taken)
 
 share-requires : tie.Need-share-requires
 share-requires c κs =
     let loaded = c .before .before .before in
     let p = loaded .before .before .pre in
-    share-ready _ _ _ _ _ (slot-in _ (p .standing .router) _ (p .slot)) (p .topic) (c .load-params .ensures) (loaded .load-topic .ensures)
+    share-ready _ _ _ _ _ (slot-in _ (p .standing .router) _ (p .slot)) (p .topic) (c .load-params .ensures) (loaded .load-topic .ensures .0)
 
 returns-2 : tie.Need-returns-2
 returns-2 c = (
   share-is-at _ _ _ _ _ _
       (c .share .ensures .0)
       (c .before .load-params .ensures)
-      (c .before .before .before .before .load-topic .ensures),
+      (c .before .before .before .before .load-topic .ensures .0),
   c .share .ensures .1,
 )
 

@@ -27,7 +27,7 @@ share-requires c κs =
     let p = c .before .before .before .before .before .before .pre in
     let s = c .before .before .before .loop .s in
     share-ready _ _ _ _ _ (slot-in _ (p .standing .router) s (omega arith)) (p .topic)
-    (c .before .before .before .before .load-params .ensures) (c .load-topic .ensures)
+    (c .before .before .before .before .load-params .ensures) (c .load-topic .ensures .0)
 
 add-requires : tie.Need-add-requires Inv-loop μ-loop
 add-requires c κs =
@@ -44,7 +44,7 @@ loop-again c =
     (c .add .ensures
     ∙ sum-more _ _ _ _ (sum-at _ _ (l .s) _ (omega arith) (p .sums))
     (share-is-at _ _ _ _ _ _ (c .before .share .ensures .0) (c .before .before .before .before .before .before .load-params .ensures)
-    (c .before .before .load-topic .ensures)))
+    (c .before .before .load-topic .ensures .0)))
 
 pub add-topic-spec : {M : Type 1} → statement M
 add-topic-spec =

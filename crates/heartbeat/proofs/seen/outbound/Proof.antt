@@ -20,7 +20,7 @@ loop-again c =
     let p = c .before in
     let l = p .before .before .loop in
     built-more _ _ _ (l .s) (l .r) _ (omega arith) (l .inv)
-    (ap (λ (q : Peer). eqb (q .outbound) 1) (p .load-peer .ensures))
+    (ap (λ (q : Peer). eqb (q .outbound) 1) (p .load-peer .ensures .0))
 
 pub outbound-spec : {M : Type 1} → statement M
 outbound-spec =

@@ -23,8 +23,8 @@ loop-again c =
     let l = p .before .before .loop in
     ⊎-elim
     (λ w. telling-put _ (l .s) (l .r) _ (omega arith) (l .inv)
-    (w .1 ∙ ap (set (l .r) (l .s)) (told-yes _ _ _ _ (p .load-peer .ensures) (w .0 .taken))))
-    (λ w. telling-past _ (l .s) (l .r) _ (omega arith) (l .inv) (w .1) (told-no _ _ _ _ (p .load-peer .ensures) (w .0 .left)))
+    (w .1 ∙ ap (set (l .r) (l .s)) (told-yes _ _ _ _ (p .load-peer .ensures .0) (w .0 .taken))))
+    (λ w. telling-past _ (l .s) (l .r) _ (omega arith) (l .inv) (w .1) (told-no _ _ _ _ (p .load-peer .ensures .0) (w .0 .left)))
     (c .if1 .came)
 
 pub told-spec : {M : Type 1} → statement M

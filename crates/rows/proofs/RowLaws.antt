@@ -1,0 +1,275 @@
+-- Laws of runs of cells, over any place, width and count.
+-- Assumes nothing.
+use Prim.Native.Nat.{ℕ, zero, suc, _+_, _*_, _-_, _≤_, _<_, suc-le-suc}
+use mathlib.Core.Path.{_≡_, refl, sym, ap, _∙_, subst}
+use mathlib.Core.Logic.{_≢_}
+use mathlib.Core.List.{List, [], _∷_, _++_, map}
+use native.Mathlib.Nat.{not-suc-le-zero, le-of-suc-le-suc, zero-lt-suc, zero-add, add-zero, add-assoc, zero-mul, suc-mul, mul-le-mul-right}
+use native.Mathlib.Numerals.{add-one}
+use native.Mathlib.Omega.{arith}
+use native.Mathlib.Decide.{decLt}
+use lib.ListN.{length, getD, set, take, drop, replicate, length-append, length-drop, List·getD-append}
+use lib.Seq.{length-paste-head}
+use lib.Seq.{getD-take, getD-drop, getD-append-add, length-take-le, set-split, append-snoc}
+use Rattle.layout.specs.Rows.{tab, span, put, rows, joins}
+
+-- ---- a table made by index
+
+pub length-tab : {A : Type 0} (n : ℕ) (f : ℕ → A) → length (tab n f) ≡ n
+length-tab zero f = refl
+length-tab (suc n) f = ap suc (length-tab n (λ k. f (suc k)))
+
+pub getD-tab : {A : Type 0} (n : ℕ) (f : ℕ → A) (i : ℕ) (d : A) → i < n → getD (tab n f) i d ≡ f i
+getD-tab zero f i d h = absurd (not-suc-le-zero h)
+getD-tab (suc n) f zero d h = refl
+getD-tab (suc n) f (suc i) d h = getD-tab n (λ k. f (suc k)) i d (le-of-suc-le-suc h)
+
+pub tab-same : {A : Type 0} (n : ℕ) (f g : ℕ → A) → ((k : ℕ) → k < n → f k ≡ g k) → tab n f ≡ tab n g
+tab-same zero f g h = refl
+tab-same (suc n) f g h =
+    λ i. h zero (zero-lt-suc n) i ∷ tab-same n (λ k. f (suc k)) (λ k. g (suc k)) (λ k b. h (suc k) (suc-le-suc b)) i
+
+-- one entry changes: the table with that entry set
+pub tab-set : {A : Type 0} (n : ℕ) (f g : ℕ → A) (i : ℕ) (v : A)
+    → g i ≡ v → ((k : ℕ) → k < n → k ≢ i → g k ≡ f k) → tab n g ≡ set (tab n f) i v
+tab-set zero f g i v e h = refl
+tab-set (suc n) f g zero v e h =
+    λ j. e j ∷ tab-same n (λ k. g (suc k)) (λ k. f (suc k)) (λ k b. h (suc k) (suc-le-suc b) (λ z. omega arith)) j
+tab-set (suc n) f g (suc i) v e h =
+    λ j. h zero (zero-lt-suc n) (λ z. omega arith) j
+    ∷ tab-set n (λ k. f (suc k)) (λ k. g (suc k)) i v e (λ k b z. h (suc k) (suc-le-suc b) (λ w. z (omega arith))) j
+
+-- a list is the table of its own elements
+pub tab-getD : {A : Type 0} (l : List A) (d : A) → tab (length l) (λ k. getD l k d) ≡ l
+tab-getD [] d = refl
+tab-getD (x ∷ xs) d = ap (λ r. x ∷ r) (tab-getD xs d)
+
+-- ---- a store of a run
+
+module _ (cells : List ℕ) (at : ℕ) (vs : List ℕ) (fits : at + length vs ≤ length cells) where
+  head-length : length (take at cells ++ take (length vs) vs) ≡ at + length vs
+  head-length = length-paste-head cells at vs (length vs) (omega arith) (omega arith)
+
+  pub getD-put-before : (k : ℕ) → k < at → getD (put cells at vs) k 0 ≡ getD cells k 0
+  unfolding put
+  getD-put-before k h =
+      List·getD-append (take at cells ++ take (length vs) vs) (drop (at + length vs) cells) 0 k (rw head-length (omega arith))
+      ∙ List·getD-append (take at cells) (take (length vs) vs) 0 k (rw (length-take-le at cells (omega arith)) h)
+      ∙ getD-take at cells k 0 h
+
+  pub getD-put-in : (k : ℕ) → k < length vs → getD (put cells at vs) (at + k) 0 ≡ getD vs k 0
+  unfolding put
+  getD-put-in k h =
+      List·getD-append (take at cells ++ take (length vs) vs) (drop (at + length vs) cells) 0 (at + k) (rw head-length (omega arith))
+      ∙ ap (λ n. getD (take at cells ++ take (length vs) vs) (n + k) 0) (sym (length-take-le at cells (omega arith)))
+      ∙ getD-append-add (take at cells) (take (length vs) vs) k 0
+      ∙ getD-take (length vs) vs k 0 h
+
+  pub getD-put-after : (k : ℕ) → at + length vs ≤ k → getD (put cells at vs) k 0 ≡ getD cells k 0
+  unfolding put
+  getD-put-after k h =
+      let e : k ≡ (at + length vs) + (k - (at + length vs)) = omega arith in
+      ap (λ n. getD (put cells at vs) n 0) e
+      ∙ ap (λ n. getD (put cells at vs) (n + (k - (at + length vs))) 0) (sym head-length)
+      ∙ getD-append-add (take at cells ++ take (length vs) vs) (drop (at + length vs) cells) (k - (at + length vs)) 0
+      ∙ getD-drop (at + length vs) cells (k - (at + length vs)) 0
+      ∙ ap (λ n. getD cells n 0) (sym e)
+
+  -- what was stored is read back
+  pub span-put-same : span (put cells at vs) at (length vs) ≡ vs
+  unfolding span
+  span-put-same =
+      tab-same (length vs) (λ k. getD (put cells at vs) (at + k) 0) (λ k. getD vs k 0) (λ k h. getD-put-in k h) ∙ tab-getD vs 0
+
+  -- a run that ends before the store, or starts after it, is as it was
+  pub span-put-before : (a w : ℕ) → a + w ≤ at → span (put cells at vs) a w ≡ span cells a w
+  unfolding span
+  span-put-before a w h =
+      tab-same w (λ k. getD (put cells at vs) (a + k) 0) (λ k. getD cells (a + k) 0) (λ k b. getD-put-before (a + k) (omega arith))
+
+  pub span-put-after : (a w : ℕ) → at + length vs ≤ a → span (put cells at vs) a w ≡ span cells a w
+  unfolding span
+  span-put-after a w h =
+      tab-same w (λ k. getD (put cells at vs) (a + k) 0) (λ k. getD cells (a + k) 0) (λ k b. getD-put-after (a + k) (omega arith))
+
+-- one cell
+pub put-one : (cells : List ℕ) (i v : ℕ) → i < length cells → put cells i (v ∷ []) ≡ set cells i v
+unfolding put
+put-one cells i v h =
+    append-snoc (take i cells) v (drop (i + 1) cells)
+    ∙ ap (λ n. take i cells ++ v ∷ drop n cells) (add-one i)
+    ∙ sym (set-split cells i v h)
+
+-- a cell of the run (o, n) is replaced, and no other
+pub span-put-one :
+    (cells : List ℕ) (o n t v : ℕ) →
+    t < n →
+    o + n ≤ length cells →
+    span (put cells (o + t) (v ∷ [])) o n ≡ set (span cells o n) t v
+unfolding span
+span-put-one cells o n t v h fits =
+    let f : (o + t) + length (v ∷ []) ≤ length cells = omega arith in
+    tab-set n (λ k. getD cells (o + k) 0) (λ k. getD (put cells (o + t) (v ∷ [])) (o + k) 0) t v
+    (ap (λ m. getD (put cells (o + t) (v ∷ [])) m 0) (sym (add-zero (o + t))) ∙ getD-put-in cells (o + t) (v ∷ []) f 0 (omega arith))
+    (λ k hk ne. elim (decLt k t) [
+      | yes l ↦ getD-put-before cells (o + t) (v ∷ []) f (o + k) (omega arith)
+      | no l ↦ getD-put-after cells (o + t) (v ∷ []) f (o + k) (omega arith)
+    ])
+
+pub getD-span : (cells : List ℕ) (o n t : ℕ) → t < n → getD (span cells o n) t 0 ≡ getD cells (o + t) 0
+unfolding span
+getD-span cells o n t h = getD-tab n (λ k. getD cells (o + k) 0) t 0 h
+
+pub length-span : (cells : List ℕ) (o n : ℕ) → length (span cells o n) ≡ n
+unfolding span
+length-span cells o n = length-tab n (λ k. getD cells (o + k) 0)
+
+-- ---- records of one width
+
+-- a record ends before the next begins
+pub stride : (i k w : ℕ) → i < k → i * w + w ≤ k * w
+stride i k w h = subst (λ n. n ≤ k * w) (suc-mul i w) (mul-le-mul-right w h)
+
+pub getD-rows : (cells : List ℕ) (o w n i : ℕ) → i < n → getD (rows cells o w n) i [] ≡ span cells (o + i * w) w
+unfolding rows
+getD-rows cells o w n i h = getD-tab n (λ k. span cells (o + k * w) w) i [] h
+
+pub length-rows : (cells : List ℕ) (o w n : ℕ) → length (rows cells o w n) ≡ n
+unfolding rows
+length-rows cells o w n = length-tab n (λ k. span cells (o + k * w) w)
+
+-- THE LAW OF A STORE: record i of the region (o, w, n) is replaced, and no other
+pub rows-put-same : (cells : List ℕ) (o w n i : ℕ) (vs : List ℕ) → i < n → length vs ≡ w → o + n * w ≤ length cells
+    → rows (put cells (o + i * w) vs) o w n ≡ set (rows cells o w n) i vs
+unfolding rows
+rows-put-same cells o w n i vs h e fits =
+    let b : i * w + w ≤ n * w = stride i n w h in
+    let f : (o + i * w) + length vs ≤ length cells = omega arith in
+    tab-set n (λ k. span cells (o + k * w) w) (λ k. span (put cells (o + i * w) vs) (o + k * w) w) i vs
+    (ap (λ m. span (put cells (o + i * w) vs) (o + i * w) m) (sym e) ∙ span-put-same cells (o + i * w) vs f)
+    (λ k hk ne. elim (decLt k i) [
+      | yes l ↦ span-put-before cells (o + i * w) vs f (o + k * w) w (omega (arith, stride k i w l))
+      | no l ↦ span-put-after cells (o + i * w) vs f (o + k * w) w (omega (arith, stride i k w (omega arith)))
+    ])
+
+-- one cell of record i is replaced, and no other
+pub rows-put-cell : (cells : List ℕ) (o w n i j v : ℕ) → i < n → j < w → o + n * w ≤ length cells
+    → rows (put cells (o + i * w + j) (v ∷ [])) o w n ≡ set (rows cells o w n) i (set (span cells (o + i * w) w) j v)
+unfolding rows
+rows-put-cell cells o w n i j v h l fits =
+    let b : i * w + w ≤ n * w = stride i n w h in
+    let f : (o + i * w + j) + length (v ∷ []) ≤ length cells = omega arith in
+    tab-set n (λ k. span cells (o + k * w) w) (λ k. span (put cells (o + i * w + j) (v ∷ [])) (o + k * w) w) i
+    (set (span cells (o + i * w) w) j v)
+    (span-put-one cells (o + i * w) w j v l (omega arith))
+    (λ k hk ne. elim (decLt k i) [
+      | yes m ↦ span-put-before cells (o + i * w + j) (v ∷ []) f (o + k * w) w (omega (arith, stride k i w m))
+      | no m ↦ span-put-after cells (o + i * w + j) (v ∷ []) f (o + k * w) w (omega (arith, stride i k w (omega arith)))
+    ])
+
+-- a store before or after the region leaves it
+pub rows-put-before : (cells : List ℕ) (o w n at : ℕ) (vs : List ℕ) → at + length vs ≤ length cells → o + n * w ≤ at
+    → rows (put cells at vs) o w n ≡ rows cells o w n
+unfolding rows
+rows-put-before cells o w n at vs f h =
+    tab-same n (λ k. span (put cells at vs) (o + k * w) w) (λ k. span cells (o + k * w) w)
+    (λ k b. span-put-before cells at vs f (o + k * w) w (omega (arith, stride k n w b)))
+
+pub rows-put-after : (cells : List ℕ) (o w n at : ℕ) (vs : List ℕ) → at + length vs ≤ length cells → at + length vs ≤ o
+    → rows (put cells at vs) o w n ≡ rows cells o w n
+unfolding rows
+rows-put-after cells o w n at vs f h =
+    tab-same n (λ k. span (put cells at vs) (o + k * w) w) (λ k. span cells (o + k * w) w)
+    (λ k b. span-put-after cells at vs f (o + k * w) w (omega arith))
+
+-- ---- a run written in stores, and in parts
+
+-- ---- runs of two lists, one after the other
+
+module _ (a b : List ℕ) where
+  pub span-left : (o n : ℕ) → o + n ≤ length a → span (a ++ b) o n ≡ span a o n
+  unfolding span
+  span-left o n h =
+      tab-same n (λ k. getD (a ++ b) (o + k) 0) (λ k. getD a (o + k) 0) (λ k l. List·getD-append a b 0 (o + k) (omega arith))
+
+  pub span-right : (o n : ℕ) → span (a ++ b) (length a + o) n ≡ span b o n
+  unfolding span
+  span-right o n =
+      tab-same n (λ k. getD (a ++ b) ((length a + o) + k) 0) (λ k. getD b (o + k) 0) (λ k l.
+      ap (λ m. getD (a ++ b) m 0) (add-assoc (length a) o k) ∙ getD-append-add a b (o + k) 0)
+
+  pub rows-left : (o w n : ℕ) → o + n * w ≤ length a → rows (a ++ b) o w n ≡ rows a o w n
+  unfolding rows
+  rows-left o w n h =
+      tab-same n (λ k. span (a ++ b) (o + k * w) w) (λ k. span a (o + k * w) w) (λ k l.
+      span-left (o + k * w) w (omega (arith, stride k n w l)))
+
+  pub rows-right : (o w n : ℕ) → rows (a ++ b) (length a + o) w n ≡ rows b o w n
+  unfolding rows
+  rows-right o w n =
+      tab-same n (λ k. span (a ++ b) ((length a + o) + k * w) w) (λ k. span b (o + k * w) w) (λ k l.
+      ap (λ m. span (a ++ b) m w) (add-assoc (length a) o (k * w)) ∙ span-right (o + k * w) w)
+
+-- a list is the run of its own cells, and a part of a list is a run
+pub span-all : (c : List ℕ) → span c 0 (length c) ≡ c
+unfolding span
+span-all c =
+    tab-same (length c) (λ k. getD c (0 + k) 0) (λ k. getD c k 0) (λ k h. ap (λ i. getD c i 0) (zero-add k)) ∙ tab-getD c 0
+
+pub span-part : (c : List ℕ) (at n : ℕ) → at + n ≤ length c → take n (drop at c) ≡ span c at n
+unfolding span
+span-part c at n h =
+    let e : length (take n (drop at c)) ≡ n =
+    length-take-le n (drop at c) (rw length-drop (omega arith)) in
+    sym (tab-getD (take n (drop at c)) 0)
+    ∙ ap (λ m. tab m (λ k. getD (take n (drop at c)) k 0)) e
+    ∙ tab-same n (λ k. getD (take n (drop at c)) k 0) (λ k. getD c (at + k) 0) (λ k l.
+    getD-take n (drop at c) k 0 l ∙ getD-drop at c k 0)
+
+-- ---- the cells of each element, one after the other
+
+module _ {A : Type 0} (f : A → List ℕ) (w : ℕ) (each : (x : A) → length (f x) ≡ w) where
+  pub length-joins : (l : List A) → length (joins f l) ≡ length l * w
+  unfolding joins
+  length-joins [] = sym (zero-mul w)
+  length-joins (x ∷ l) =
+      length-append (f x) (joins f l) ∙ omega (arith, each x, length-joins l, suc-mul (length l) w)
+
+  pub rows-joins : (l : List A) → rows (joins f l) 0 w (length l) ≡ map f l
+  unfolding joins rows
+  rows-joins [] = refl
+  rows-joins (x ∷ l) =
+      λ i.
+      (ap (λ m. span (f x ++ joins f l) m w) start ∙ span-left (f x) (joins f l) 0 w (rw (each x) (omega arith))
+      ∙ ap (span (f x) 0) (sym (each x)) ∙ span-all (f x)) i
+      ∷ (tab-same (length l) (λ k. span (f x ++ joins f l) (0 + suc k * w) w) (λ k. span (joins f l) (0 + k * w) w) (λ k h.
+      ap (λ m. span (f x ++ joins f l) m w) (next k) ∙ span-right (f x) (joins f l) (0 + k * w) w)
+      ∙ rows-joins l) i
+    where
+      start : 0 + 0 * w ≡ 0
+      start = zero-add (0 * w) ∙ zero-mul w
+
+      next : (k : ℕ) → 0 + suc k * w ≡ length (f x) + (0 + k * w)
+      next k = omega (arith, each x, suc-mul k w)
+
+-- ---- a table of zeros
+
+pub tab-const : {A : Type 0} (n : ℕ) (x : A) → tab n (λ k. x) ≡ replicate n x
+tab-const zero x = refl
+tab-const (suc n) x = ap (λ r. x ∷ r) (tab-const n x)
+
+pub map-tab : {A B : Type 0} (g : A → B) (n : ℕ) (f : ℕ → A) → map g (tab n f) ≡ tab n (λ k. g (f k))
+map-tab g zero f = refl
+map-tab g (suc n) f = ap (λ r. g (f zero) ∷ r) (map-tab g n (λ k. f (suc k)))
+
+module _ (c : List ℕ) (zeros : (k : ℕ) → getD c k 0 ≡ 0) where
+  pub zero-span : (o n : ℕ) → span c o n ≡ replicate n 0
+  unfolding span
+  zero-span o n = tab-same n (λ k. getD c (o + k) 0) (λ k. 0) (λ k h. zeros (o + k)) ∙ tab-const n 0
+
+  pub zero-rows : {A : Type 0} (g : List ℕ → A) (o w n : ℕ) → map g (rows c o w n) ≡ replicate n (g (replicate w 0))
+  unfolding rows
+  zero-rows g o w n =
+      map-tab g n (λ i. span c (o + i * w) w)
+      ∙ tab-same n (λ i. g (span c (o + i * w) w)) (λ i. g (replicate w 0)) (λ i h. ap g (zero-span (o + i * w) w))
+      ∙ tab-const n (g (replicate w 0))

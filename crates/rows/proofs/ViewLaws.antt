@@ -1,0 +1,286 @@
+-- Laws of the state that a table holds: what a load reads, and what a store changes.
+-- Assumes nothing.
+use Prim.Native.Nat.{ℕ, zero, suc, _+_, _*_, _≤_, _<_}
+use mathlib.Core.Path.{_≡_, refl, sym, ap, _∙_, subst}
+use mathlib.Core.List.{List, [], _∷_, map}
+use native.Mathlib.Nat.{add-zero}
+use native.Mathlib.Omega.{arith}
+use lib.ListN.{length, getD, set, take, drop, List·getD-map, List·getD-eq-default}
+use lib.Seq.{getD-set-same, getD-set-other}
+use Rattle.index.proofs.Flags.{by-order}
+use Rattle.records.specs.declared.Setup.{Setup}
+use Rattle.records.specs.declared.Peer.{Peer}
+use Rattle.records.specs.declared.TopicRecord.{TopicRecord}
+use Rattle.records.specs.Records.{noTopic, joinedIn, codeIn, peerIn, topicIn, setClock, setJoined, setPeer, setTopic, slotCount, topicCount}
+use Rattle.records.specs.Records.{paramCount}
+use Rattle.layout.specs.Rows.{tab, span, put, rows}
+use Rattle.layout.specs.View.{joinedAt, codesAt, setupAt, setupCells, peersAt, peerCells, topicsAt, topicCells, placeCount, cellCount}
+use Rattle.layout.specs.View.{setupOf, peerOf, topicOf, peerFrom, topicFrom, cellsOfPeer, cellsOfTopic, stateOf, setEnd, setCodes}
+use Rattle.layout.specs.View.{setSetup, zeroState}
+use Rattle.layout.proofs.RowLaws.{tab-getD, getD-rows, stride, rows-put-same, rows-put-cell, rows-put-before, rows-put-after}
+use Rattle.layout.proofs.RowLaws.{span-put-before, span-put-after, getD-put-before, getD-put-in, put-one, span-put-one}
+use Rattle.layout.proofs.RowLaws.{span-put-same, span-part, getD-span, zero-span, zero-rows}
+
+pub map-set : {A B : Type 0} (f : A → B) (l : List A) (i : ℕ) (v : A) → map f (set l i v) ≡ set (map f l) i (f v)
+map-set f [] i v = refl
+map-set f (x ∷ xs) zero v = refl
+map-set f (x ∷ xs) (suc i) v = ap (λ r. f x ∷ r) (map-set f xs i v)
+
+-- ---- a load
+
+pub clock-load : (cells : List ℕ) → getD cells 0 0 ≡ stateOf cells .clock
+unfolding stateOf
+clock-load cells = refl
+
+pub joined-load : (cells : List ℕ) (t : ℕ) → t < topicCount → getD cells (joinedAt + t) 0 ≡ joinedIn (stateOf cells) t
+unfolding stateOf joinedIn
+joined-load cells t h = sym (getD-span cells joinedAt topicCount t h)
+
+pub code-load : (cells : List ℕ) (i : ℕ) → i < paramCount → getD cells (codesAt + i) 0 ≡ codeIn (stateOf cells) i
+unfolding stateOf codeIn
+code-load cells i h = sym (getD-span cells codesAt paramCount i h)
+
+-- the cells of a slot
+row-of : (cells : List ℕ) (s : ℕ) → s < slotCount → peerOf (span cells (peersAt + s * peerCells) peerCells) ≡ peerIn (stateOf cells) s
+unfolding peerIn stateOf peerOf
+row-of cells s h =
+    sym (List·getD-map peerOf (rows cells peersAt peerCells slotCount) s [] ∙ ap peerOf (getD-rows cells peersAt peerCells slotCount s h))
+
+pub peer-load : (cells : List ℕ) (s : ℕ) → s < slotCount → peerFrom cells (peersAt + s * peerCells) ≡ peerIn (stateOf cells) s
+unfolding peerOf span
+peer-load cells s h = sym (rw add-zero refl) ∙ row-of cells s h
+
+pub topic-load : (cells : List ℕ) (k : ℕ) → k < placeCount → topicFrom cells (topicsAt + k * topicCells) ≡ topicIn (stateOf cells) k
+unfolding topicIn stateOf topicOf span
+topic-load cells k h =
+    let e : getD (map topicOf (rows cells topicsAt topicCells placeCount)) k noTopic
+    ≡ topicOf (span cells (topicsAt + k * topicCells) topicCells) =
+    List·getD-map topicOf (rows cells topicsAt topicCells placeCount) k []
+    ∙ ap topicOf (getD-rows cells topicsAt topicCells placeCount k h) in
+    sym (e ∙ rw add-zero)
+
+pub setup-load : (cells : List ℕ) → record { edition = getD cells setupAt 0 } ≡ stateOf cells .setup
+unfolding stateOf setupOf span
+setup-load cells = refl
+
+pub codes-load : (cells : List ℕ) → length cells ≡ cellCount → take paramCount (drop codesAt cells) ≡ stateOf cells .codes
+unfolding stateOf
+codes-load cells e = span-part cells codesAt paramCount (omega arith)
+
+-- ---- a record, to cells and back
+
+eight :
+    (l : List ℕ) →
+    length l ≡ 8 →
+    getD l 0 0 ∷ getD l 1 0 ∷ getD l 2 0 ∷ getD l 3 0 ∷ getD l 4 0 ∷ getD l 5 0 ∷ getD l 6 0 ∷ getD l 7 0 ∷ [] ≡ l
+eight l e = subst (λ n. tab n (λ k. getD l k 0) ≡ l) e (tab-getD l 0)
+
+pub peer-back : (p : Peer) → length (p .backoff) ≡ 8 → peerOf (cellsOfPeer p) ≡ p
+unfolding peerOf cellsOfPeer
+peer-back p e =
+    λ i. record {
+      status = p .status;
+      id = p .id;
+      group = p .group;
+      outbound = p .outbound;
+      explicit = p .explicit;
+      version = p .version;
+      p5 = p .p5;
+      p7 = p .p7;
+      retain = p .retain;
+      backoff = eight (p .backoff) e i;
+    }
+
+pub topic-back : (t : TopicRecord) → topicOf (cellsOfTopic t) ≡ t
+unfolding topicOf cellsOfTopic
+topic-back t = refl
+
+pub peer-count : (p : Peer) → length (cellsOfPeer p) ≡ peerCells
+unfolding cellsOfPeer
+peer-count p = refl
+
+pub topic-count : (t : TopicRecord) → length (cellsOfTopic t) ≡ topicCells
+unfolding cellsOfTopic
+topic-count t = refl
+
+-- a backoff end is a cell of its row
+end-of-row :
+    (cells : List ℕ) (b t end : ℕ) →
+    t < topicCount →
+    peerOf (set (span cells b peerCells) (9 + t) end) ≡ setEnd (peerOf (span cells b peerCells)) t end
+unfolding peerOf span setEnd
+end-of-row cells b zero end h = refl
+end-of-row cells b (suc zero) end h = refl
+end-of-row cells b (suc (suc zero)) end h = refl
+end-of-row cells b (suc (suc (suc zero))) end h = refl
+end-of-row cells b (suc (suc (suc (suc zero)))) end h = refl
+end-of-row cells b (suc (suc (suc (suc (suc zero))))) end h = refl
+end-of-row cells b (suc (suc (suc (suc (suc (suc zero)))))) end h = refl
+end-of-row cells b (suc (suc (suc (suc (suc (suc (suc zero))))))) end h = refl
+end-of-row cells b (suc (suc (suc (suc (suc (suc (suc (suc t)))))))) end h = absurd (omega arith)
+
+-- ---- a store
+
+module _ (cells : List ℕ) (size : length cells ≡ cellCount) where
+  pub clock-store : (n : ℕ) → stateOf (set cells 0 n) ≡ setClock (stateOf cells) n
+  unfolding stateOf setClock
+  clock-store n =
+      let f : 0 + length (n ∷ []) ≤ length cells = omega arith in
+      ap stateOf (sym (put-one cells 0 n (omega arith)))
+      ∙ λ i. record {
+        clock = getD-put-in cells 0 (n ∷ []) f 0 (omega arith) i;
+        joined = span-put-after cells 0 (n ∷ []) f joinedAt topicCount (omega arith) i;
+        codes = span-put-after cells 0 (n ∷ []) f codesAt paramCount (omega arith) i;
+        setup = ap setupOf (span-put-after cells 0 (n ∷ []) f setupAt setupCells (omega arith)) i;
+        peers = ap (map peerOf) (rows-put-after cells peersAt peerCells slotCount 0 (n ∷ []) f (omega arith)) i;
+        topics = ap (map topicOf) (rows-put-after cells topicsAt topicCells placeCount 0 (n ∷ []) f (omega arith)) i;
+      }
+
+  pub joined-store : (t b : ℕ) → t < topicCount → stateOf (set cells (joinedAt + t) b) ≡ setJoined (stateOf cells) t b
+  unfolding stateOf setJoined
+  joined-store t b h =
+      let f : (joinedAt + t) + length (b ∷ []) ≤ length cells = omega arith in
+      ap stateOf (sym (put-one cells (joinedAt + t) b (omega arith)))
+      ∙ λ i. record {
+        clock = getD-put-before cells (joinedAt + t) (b ∷ []) f 0 (omega arith) i;
+        joined = span-put-one cells joinedAt topicCount t b h (omega arith) i;
+        codes = span-put-after cells (joinedAt + t) (b ∷ []) f codesAt paramCount (omega arith) i;
+        setup = ap setupOf (span-put-after cells (joinedAt + t) (b ∷ []) f setupAt setupCells (omega arith)) i;
+        peers = ap (map peerOf) (rows-put-after cells peersAt peerCells slotCount (joinedAt + t) (b ∷ []) f (omega arith)) i;
+        topics = ap (map topicOf) (rows-put-after cells topicsAt topicCells placeCount (joinedAt + t) (b ∷ []) f (omega arith)) i;
+      }
+
+  pub codes-store :
+      (vs : List ℕ) → length vs ≡ paramCount → stateOf (put cells codesAt vs) ≡ setCodes (stateOf cells) vs
+  unfolding stateOf setCodes
+  codes-store vs e =
+      let f : codesAt + length vs ≤ length cells = omega arith in
+      λ i. record {
+        clock = getD-put-before cells codesAt vs f 0 (omega arith) i;
+        joined = span-put-before cells codesAt vs f joinedAt topicCount (omega arith) i;
+        codes = (ap (span (put cells codesAt vs) codesAt) (sym e) ∙ span-put-same cells codesAt vs f) i;
+        setup = ap setupOf (span-put-after cells codesAt vs f setupAt setupCells (omega arith)) i;
+        peers = ap (map peerOf) (rows-put-after cells peersAt peerCells slotCount codesAt vs f (omega arith)) i;
+        topics = ap (map topicOf) (rows-put-after cells topicsAt topicCells placeCount codesAt vs f (omega arith)) i;
+      }
+
+  pub setup-store : (u : Setup) → stateOf (set cells setupAt (u .edition)) ≡ setSetup (stateOf cells) u
+  unfolding stateOf setSetup setupOf
+  setup-store u =
+      let n = u .edition in
+      let f : setupAt + length (n ∷ []) ≤ length cells = omega arith in
+      ap stateOf (sym (put-one cells setupAt n (omega arith)))
+      ∙ λ i. record {
+        clock = getD-put-before cells setupAt (n ∷ []) f 0 (omega arith) i;
+        joined = span-put-before cells setupAt (n ∷ []) f joinedAt topicCount (omega arith) i;
+        codes = span-put-before cells setupAt (n ∷ []) f codesAt paramCount (omega arith) i;
+        setup = ap setupOf (span-put-same cells setupAt (n ∷ []) f) i;
+        peers = ap (map peerOf) (rows-put-after cells peersAt peerCells slotCount setupAt (n ∷ []) f (omega arith)) i;
+        topics = ap (map topicOf) (rows-put-after cells topicsAt topicCells placeCount setupAt (n ∷ []) f (omega arith)) i;
+      }
+
+  pub peer-store :
+      (s : ℕ) (p : Peer) →
+      s < slotCount →
+      length (p .backoff) ≡ 8 →
+      stateOf (put cells (peersAt + s * peerCells) (cellsOfPeer p)) ≡ setPeer (stateOf cells) s p
+  unfolding stateOf setPeer
+  peer-store s p h e =
+      let n : length (cellsOfPeer p) ≡ peerCells = peer-count p in
+      let f : (peersAt + s * peerCells) + length (cellsOfPeer p) ≤ length cells = omega arith in
+      λ i. record {
+        clock = getD-put-before cells (peersAt + s * peerCells) (cellsOfPeer p) f 0 (omega arith) i;
+        joined = span-put-before cells (peersAt + s * peerCells) (cellsOfPeer p) f joinedAt topicCount (omega arith) i;
+        codes = span-put-before cells (peersAt + s * peerCells) (cellsOfPeer p) f codesAt paramCount (omega arith) i;
+        setup = ap setupOf (span-put-before cells (peersAt + s * peerCells) (cellsOfPeer p) f setupAt setupCells (omega arith)) i;
+        peers =
+            (ap (map peerOf) (rows-put-same cells peersAt peerCells slotCount s (cellsOfPeer p) h n (omega arith))
+            ∙ map-set peerOf (rows cells peersAt peerCells slotCount) s (cellsOfPeer p)
+            ∙ ap (set (map peerOf (rows cells peersAt peerCells slotCount)) s) (peer-back p e)) i;
+        topics = ap (map topicOf)
+            (rows-put-after cells topicsAt topicCells placeCount (peersAt + s * peerCells) (cellsOfPeer p) f (omega arith)) i;
+      }
+
+  pub end-store :
+      (s t end : ℕ) →
+      s < slotCount →
+      t < topicCount →
+      stateOf (set cells (peersAt + s * peerCells + (9 + t)) end) ≡ setPeer (stateOf cells) s (setEnd (peerIn (stateOf cells) s) t end)
+  unfolding stateOf setPeer peerIn
+  end-store s t end h l =
+      let b : s * peerCells + peerCells ≤ slotCount * peerCells = stride s slotCount peerCells h in
+      let at = peersAt + s * peerCells + (9 + t) in
+      let f : at + length (end ∷ []) ≤ length cells = omega arith in
+      let row = span cells (peersAt + s * peerCells) peerCells in
+      ap stateOf (sym (put-one cells at end (omega arith)))
+      ∙ λ i. record {
+        clock = getD-put-before cells at (end ∷ []) f 0 (omega arith) i;
+        joined = span-put-before cells at (end ∷ []) f joinedAt topicCount (omega arith) i;
+        codes = span-put-before cells at (end ∷ []) f codesAt paramCount (omega arith) i;
+        setup = ap setupOf (span-put-before cells at (end ∷ []) f setupAt setupCells (omega arith)) i;
+        peers =
+            (ap (map peerOf) (rows-put-cell cells peersAt peerCells slotCount s (9 + t) end h (omega arith) (omega arith))
+            ∙ map-set peerOf (rows cells peersAt peerCells slotCount) s (set row (9 + t) end)
+            ∙ ap (set (map peerOf (rows cells peersAt peerCells slotCount)) s)
+            (end-of-row cells (peersAt + s * peerCells) t end l ∙ ap (λ (p : Peer). setEnd p t end) (row-of cells s h))) i;
+        topics = ap (map topicOf) (rows-put-after cells topicsAt topicCells placeCount at (end ∷ []) f (omega arith)) i;
+      }
+
+  pub topic-store :
+      (k : ℕ) (t : TopicRecord) →
+      k < placeCount →
+      stateOf (put cells (topicsAt + k * topicCells) (cellsOfTopic t)) ≡ setTopic (stateOf cells) k t
+  unfolding stateOf setTopic
+  topic-store k t h =
+      let n : length (cellsOfTopic t) ≡ topicCells = topic-count t in
+      let f : (topicsAt + k * topicCells) + length (cellsOfTopic t) ≤ length cells = omega arith in
+      λ i. record {
+        clock = getD-put-before cells (topicsAt + k * topicCells) (cellsOfTopic t) f 0 (omega arith) i;
+        joined = span-put-before cells (topicsAt + k * topicCells) (cellsOfTopic t) f joinedAt topicCount (omega arith) i;
+        codes = span-put-before cells (topicsAt + k * topicCells) (cellsOfTopic t) f codesAt paramCount (omega arith) i;
+        setup = ap setupOf (span-put-before cells (topicsAt + k * topicCells) (cellsOfTopic t) f setupAt setupCells (omega arith)) i;
+        peers = ap (map peerOf)
+            (rows-put-before cells peersAt peerCells slotCount (topicsAt + k * topicCells) (cellsOfTopic t) f (omega arith)) i;
+        topics =
+            (ap (map topicOf) (rows-put-same cells topicsAt topicCells placeCount k (cellsOfTopic t) h n (omega arith))
+            ∙ map-set topicOf (rows cells topicsAt topicCells placeCount) k (cellsOfTopic t)
+            ∙ ap (set (map topicOf (rows cells topicsAt topicCells placeCount)) k) (topic-back t)) i;
+      }
+
+-- ---- a table of zeros
+
+pub zero-state : (cells : List ℕ) → ((k : ℕ) → getD cells k 0 ≡ 0) → stateOf cells ≡ zeroState
+unfolding stateOf zeroState setupOf peerOf topicOf span
+zero-state cells z =
+    λ i. record {
+      clock = z 0 i;
+      joined = zero-span cells z joinedAt topicCount i;
+      codes = zero-span cells z codesAt paramCount i;
+      setup = record { edition = z setupAt i };
+      peers = zero-rows cells z peerOf peersAt peerCells slotCount i;
+      topics = zero-rows cells z topicOf topicsAt topicCells placeCount i;
+    }
+
+-- zeros up to k, and one more; zeros up to the end
+pub zero-more :
+    (cells : List ℕ) (k : ℕ) →
+    k < length cells →
+    ((j : ℕ) → j < k → getD cells j 0 ≡ 0) →
+    (j : ℕ) →
+    j < k + 1 →
+    getD (set cells k 0) j 0 ≡ 0
+zero-more cells k b z j h =
+    by-order
+    (getD (set cells k 0) j 0 ≡ 0)
+    j
+    k
+    (λ (l : j < k). getD-set-other cells k j 0 0 (λ e. omega arith) ∙ z j l)
+    (λ (l : k ≤ j).
+    let e : j ≡ k = omega arith in
+    rw e (getD-set-same cells k 0 0 b))
+
+pub zero-all :
+    (cells : List ℕ) (k : ℕ) → length cells ≤ k → ((j : ℕ) → j < k → getD cells j 0 ≡ 0) → stateOf cells ≡ zeroState
+zero-all cells k b z =
+    zero-state cells (λ j.
+    by-order (getD cells j 0 ≡ 0) j k (λ (l : j < k). z j l) (λ (l : k ≤ j). List·getD-eq-default cells 0 {n = j} (omega arith)))

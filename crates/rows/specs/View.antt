@@ -1,0 +1,211 @@
+-- How one table of numbers holds the router's state: the layout, the state that a table holds, and the cells of a state.
+-- The layout may be changed here and in src/lib.rt; the rules above see the state alone. No cell is left over, so the state fixes
+-- every cell (proofs/Whole.antt).
+use Prim.Native.Nat.{ℕ, _+_, _*_}
+use mathlib.Core.List.{List, [], _∷_, _++_, map}
+use mathlib.Core.Path.{_≡_}
+use lib.ListN.{length, getD, set, replicate}
+use Rattle.records.specs.declared.Setup.{Setup}
+use Rattle.records.specs.declared.Peer.{Peer}
+use Rattle.records.specs.declared.TopicRecord.{TopicRecord}
+use Rattle.records.specs.Records.{State, slotCount, topicCount, paramCount, noPeer, noTopic, peerIn}
+use Rattle.layout.specs.Rows.{span, rows, joins}
+
+-- the regions, one after the other: the clock (cell 0), the joined flags, the codes of the parameters, the rest of the set-up, the peers,
+-- the topic records
+abbrev pub joinedAt : ℕ
+joinedAt = 1
+
+abbrev pub codesAt : ℕ
+codesAt = joinedAt + topicCount
+
+abbrev pub setupAt : ℕ
+setupAt = codesAt + paramCount
+
+abbrev pub setupCells : ℕ
+setupCells = 1
+
+abbrev pub peersAt : ℕ
+peersAt = setupAt + setupCells
+
+abbrev pub peerCells : ℕ
+peerCells = 17
+
+abbrev pub topicsAt : ℕ
+topicsAt = peersAt + slotCount * peerCells
+
+abbrev pub topicCells : ℕ
+topicCells = 8
+
+abbrev pub placeCount : ℕ
+placeCount = slotCount * topicCount
+
+-- how many cells a table has: 5,341
+abbrev pub cellCount : ℕ
+cellCount = topicsAt + placeCount * topicCells
+
+-- the set-up of a run of cells, and its cells
+unfoldable pub setupOf : List ℕ → Setup
+setupOf r = record { edition = getD r 0 0 }
+
+unfoldable pub cellsOfSetup : Setup → List ℕ
+cellsOfSetup u = u .edition ∷ []
+
+-- the peer's record of a run of cells, and the cells of a peer's record
+unfoldable pub peerOf : List ℕ → Peer
+peerOf r =
+    record {
+      status = getD r 0 0;
+      id = getD r 1 0;
+      group = getD r 2 0;
+      outbound = getD r 3 0;
+      explicit = getD r 4 0;
+      version = getD r 5 0;
+      p5 = getD r 6 0;
+      p7 = getD r 7 0;
+      retain = getD r 8 0;
+      backoff =
+          getD r 9 0 ∷ getD r 10 0 ∷ getD r 11 0 ∷ getD r 12 0 ∷ getD r 13 0 ∷ getD r 14 0 ∷ getD r 15 0 ∷ getD r 16 0 ∷ [];
+    }
+
+unfoldable pub cellsOfPeer : Peer → List ℕ
+cellsOfPeer p =
+    p .status
+    ∷ p .id
+    ∷ p .group
+    ∷ p .outbound
+    ∷ p .explicit
+    ∷ p .version
+    ∷ p .p5
+    ∷ p .p7
+    ∷ p .retain
+    ∷ getD (p .backoff) 0 0
+    ∷ getD (p .backoff) 1 0
+    ∷ getD (p .backoff) 2 0
+    ∷ getD (p .backoff) 3 0
+    ∷ getD (p .backoff) 4 0
+    ∷ getD (p .backoff) 5 0
+    ∷ getD (p .backoff) 6 0
+    ∷ getD (p .backoff) 7 0
+    ∷ []
+
+-- a peer's record with another backoff end for topic t
+unfoldable pub setEnd : Peer → ℕ → ℕ → Peer
+setEnd p t end =
+    record {
+      status = p .status;
+      id = p .id;
+      group = p .group;
+      outbound = p .outbound;
+      explicit = p .explicit;
+      version = p .version;
+      p5 = p .p5;
+      p7 = p .p7;
+      retain = p .retain;
+      backoff = set (p .backoff) t end;
+    }
+
+unfoldable pub topicOf : List ℕ → TopicRecord
+topicOf r =
+    record {
+      p2 = getD r 0 0;
+      p3 = getD r 1 0;
+      p4 = getD r 2 0;
+      p3b = getD r 3 0;
+      subscribed = getD r 4 0;
+      member = getD r 5 0;
+      graft = getD r 6 0;
+      mesh = getD r 7 0;
+    }
+
+unfoldable pub cellsOfTopic : TopicRecord → List ℕ
+cellsOfTopic t =
+    t .p2 ∷ t .p3 ∷ t .p4 ∷ t .p3b ∷ t .subscribed ∷ t .member ∷ t .graft ∷ t .mesh ∷ []
+
+-- the same records, field by field from cell b on
+abbrev pub peerFrom : List ℕ → ℕ → Peer
+peerFrom cells b =
+    record {
+      status = getD cells b 0;
+      id = getD cells (b + 1) 0;
+      group = getD cells (b + 2) 0;
+      outbound = getD cells (b + 3) 0;
+      explicit = getD cells (b + 4) 0;
+      version = getD cells (b + 5) 0;
+      p5 = getD cells (b + 6) 0;
+      p7 = getD cells (b + 7) 0;
+      retain = getD cells (b + 8) 0;
+      backoff =
+          getD cells (b + 9) 0
+          ∷ getD cells (b + 10) 0
+          ∷ getD cells (b + 11) 0
+          ∷ getD cells (b + 12) 0
+          ∷ getD cells (b + 13) 0
+          ∷ getD cells (b + 14) 0
+          ∷ getD cells (b + 15) 0
+          ∷ getD cells (b + 16) 0
+          ∷ [];
+    }
+
+abbrev pub topicFrom : List ℕ → ℕ → TopicRecord
+topicFrom cells b =
+    record {
+      p2 = getD cells b 0;
+      p3 = getD cells (b + 1) 0;
+      p4 = getD cells (b + 2) 0;
+      p3b = getD cells (b + 3) 0;
+      subscribed = getD cells (b + 4) 0;
+      member = getD cells (b + 5) 0;
+      graft = getD cells (b + 6) 0;
+      mesh = getD cells (b + 7) 0;
+    }
+
+-- the state that a table holds
+unfoldable pub stateOf : List ℕ → State
+stateOf cells =
+    record {
+      clock = getD cells 0 0;
+      joined = span cells joinedAt topicCount;
+      codes = span cells codesAt paramCount;
+      setup = setupOf (span cells setupAt setupCells);
+      peers = map peerOf (rows cells peersAt peerCells slotCount);
+      topics = map topicOf (rows cells topicsAt topicCells placeCount);
+    }
+
+-- the cells that hold a state
+unfoldable pub cellsOf : State → List ℕ
+cellsOf st =
+    (st .clock ∷ st .joined)
+    ++ st .codes
+    ++ cellsOfSetup (st .setup)
+    ++ joins cellsOfPeer (st .peers)
+    ++ joins cellsOfTopic (st .topics)
+
+-- the state with other codes of the parameters, and with another set-up: what making a fresh router writes
+unfoldable pub setCodes : State → List ℕ → State
+setCodes st codes =
+    record { clock = st .clock; joined = st .joined; codes = codes; setup = st .setup; peers = st .peers; topics = st .topics }
+
+unfoldable pub setSetup : State → Setup → State
+setSetup st u =
+    record { clock = st .clock; joined = st .joined; codes = st .codes; setup = u; peers = st .peers; topics = st .topics }
+
+-- the state of a table of zeros
+unfoldable pub zeroState : State
+zeroState =
+    record {
+      clock = 0;
+      joined = replicate topicCount 0;
+      codes = replicate paramCount 0;
+      setup = record { edition = 0 };
+      peers = replicate slotCount noPeer;
+      topics = replicate placeCount noTopic;
+    }
+
+-- a state of a table's sizes
+pub record Sized (st : State) : Type 0 where
+  pub joined : length (st .joined) ≡ topicCount
+  pub codes : length (st .codes) ≡ paramCount
+  pub peers : length (st .peers) ≡ slotCount
+  pub topics : length (st .topics) ≡ placeCount
+  pub ends : (s : ℕ) → length (peerIn st s .backoff) ≡ topicCount
