@@ -1,7 +1,7 @@
 -- Words by slot, four cells each: one bit is set, and no other.
 -- Assumes nothing.
 use Prim.Native.Nat.{ℕ, zero, suc, _+_, _*_, _-_, _/_, _%_, _^_, _≤_, _<_, min, max}
-use mathlib.Core.Path.{_≡_, refl, sym, ap, ap₂, _∙_}
+use mathlib.Core.Path.{_≡_, sym, ap, _∙_}
 use mathlib.Core.Logic.{_≢_}
 use mathlib.Core.List.{List}
 use native.Mathlib.Omega.{arith}
@@ -91,7 +91,8 @@ pub bit-put-other :
 unfolding bitAt setBit
 bit-put-other c o s v j h l ne =
     let w = getD c (o + s / 64) 0 in
-    by-same (getD (set c (o + s / 64) (withBit w (s % 64) v)) (o + j / 64) 0 / 2 ^ (j % 64) % 2 ≡ getD c (o + j / 64) 0 / 2 ^ (j % 64) % 2) (j / 64) (s / 64)
+    by-same (getD (set c (o + s / 64) (withBit w (s % 64) v)) (o + j / 64) 0 / 2 ^ (j % 64) % 2 ≡ getD c (o + j / 64) 0 / 2 ^ (j % 64) % 2)
+    (j / 64) (s / 64)
     (λ e.
     let z : (j % 64) ≢ (s % 64) = (λ y. ne (omega arith)) in
     ap (λ n. getD (set c (o + s / 64) (withBit w (s % 64) v)) (o + n) 0 / 2 ^ (j % 64) % 2) e

@@ -1,22 +1,18 @@
 -- The state fixes every cell in use: each is a function of the state.
 -- Assumes nothing.
-use Prim.Native.Nat.{ℕ, zero, suc, _+_, _*_, _-_, _/_, _%_, _^_, _≤_, _<_}
-use mathlib.Core.Path.{_≡_, refl, sym, ap, ap₂, _∙_}
-use mathlib.Core.Logic.{_≢_}
-use mathlib.Core.Bool.{Bool, true, false}
+use Prim.Native.Nat.{ℕ, _+_, _*_, _/_, _%_, _<_}
+use mathlib.Core.Path.{_≡_, refl, sym, ap, _∙_}
 use mathlib.Core.List.{List}
 use native.Mathlib.Omega.{arith}
-use lib.ListN.{length, getD}
-use lib.Seq.{ext-getD}
-use lib.Dec.{eqb}
+use lib.ListN.{getD}
 use borrow.Author.Tests.{eq-eqb}
 use Rattle.records.specs.declared.Peer.{Peer}
 use Rattle.records.specs.declared.TopicRecord.{TopicRecord}
-use Rattle.records.specs.Records.{State, peerIn, topicIn}
-use Rattle.layout.specs.Rows.{tab}
+use Rattle.records.specs.Records.{peerIn, topicIn}
 use Rattle.layout.proofs.RowLaws.{getD-tab}
 use Rattle.records.specs.Records.{slotCount}
-use Rattle.layout.specs.View.{placeCount, idAt, markAt, retainAt, endsAt, p3bAt, bitAt, usedOf, keep, liveAt, counterOf, graftOf, meshOf, subscribedWord, memberWord, topicRaw, topicAt, peerRaw, endsOf, peerAt, stateOf}
+use Rattle.layout.specs.View.{placeCount, idAt, markAt, endsAt, p3bAt, bitAt, usedOf, liveAt, counterOf, graftOf, meshOf}
+use Rattle.layout.specs.View.{subscribedWord, memberWord, topicRaw, topicAt, peerRaw, endsOf, peerAt, stateOf}
 use Rattle.layout.proofs.ViewLaws.{live-in, topic-load, peer-load}
 use Rattle.layout.proofs.PlaceLaws.{packed}
 

@@ -1,12 +1,12 @@
 -- The bits of a number, one by one: of a union, of what two have in common, of a complement; a number is its bits.
 -- Assumes nothing.
 use Prim.Native.Nat.{ℕ, zero, suc, _+_, _*_, _-_, _/_, _%_, _^_, _≤_, _<_, min, max}
-use mathlib.Core.Path.{_≡_, refl, sym, ap, ap₂, _∙_}
+use mathlib.Core.Path.{_≡_, sym, ap, _∙_}
 use mathlib.Core.Logic.{_≢_}
 use native.Mathlib.Omega.{arith}
 use native.Mathlib.Nat.{mod-lt, pow-suc, le-of-suc-le-suc, zero-lt-suc, one-mul, div-eq-of-lt}
 use lib.Pow.{shr-shr, shl-shr, pow-lt, pow-add}
-use lib.Bits.{bitAnd, bitOr, and-step, or-step, and-shr, or-shr, shifted-even}
+use lib.Bits.{bitAnd, bitOr, and-step, or-step, and-shr, or-shr}
 use Rattle.index.proofs.Flags.{by-order}
 
 low-lt : (n : ℕ) → n % 2 < 2

@@ -1,17 +1,12 @@
 -- What a packed store asks: every record that a table holds fits, and so does every record of a router's tables.
 -- Assumes nothing.
 use Prim.Native.Nat.{ℕ, _+_, _*_, _/_, _%_, _≤_, _<_}
-use mathlib.Core.Path.{_≡_, refl, sym, ap, _∙_}
-use mathlib.Core.Logic.{_≢_}
+use mathlib.Core.Path.{_≡_}
 use mathlib.Core.List.{List}
 use native.Mathlib.Omega.{arith}
-use lib.Dec.{eqb}
 use borrow.Author.Tests.{ne-eqb}
 use Rattle.records.specs.declared.Peer.{Peer}
-use Rattle.records.specs.declared.TopicRecord.{TopicRecord}
-use Rattle.records.specs.Records.{peerIn}
-use Rattle.records.specs.Records.{slotCount}
-use Rattle.layout.specs.View.{usedOf, stateOf, keep, topicRaw, peerRaw, TopicFits, PeerFits, withSubscription, withoutMember, withMember}
+use Rattle.layout.specs.View.{topicRaw, TopicFits, PeerFits}
 
 -- what is loaded fits, whatever the cells hold
 pub raw-topic-fits :
@@ -28,47 +23,7 @@ raw-topic-fits a b s m g t h l n =
       mesh = λ e. rw (ne-eqb m 1 e);
     }
 
-pub raw-peer-fits :
-    (b0 b1 b2 b3 b4 b5 i m r : ℕ) (e : List ℕ) →
-    b0 ≤ 1 →
-    b1 ≤ 1 →
-    b2 ≤ 1 →
-    b3 ≤ 1 →
-    b4 ≤ 1 →
-    b5 ≤ 1 →
-    i < 18446744073709551616 →
-    m < 18446744073709551616 →
-    PeerFits (peerRaw b0 b1 b2 b3 b4 b5 i m r e)
-unfolding peerRaw
-raw-peer-fits b0 b1 b2 b3 b4 b5 i m r e l0 l1 l2 l3 l4 l5 hi hm =
-    record {
-      status = omega arith;
-      id = omega arith;
-      group = omega arith;
-      outbound = l3;
-      explicit = l2;
-      version = omega arith;
-      p5 = omega arith;
-      p7 = omega arith;
-    }
-
--- and what the calls make of it by bits and times
-pub subscribed-fits : (t : TopicRecord) (v : ℕ) → v ≤ 1 → TopicFits t → TopicFits (withSubscription t v)
-unfolding withSubscription
-subscribed-fits t v l f =
-    record { p2 = f .p2; p3 = f .p3; p4 = f .p4; subscribed = l; member = f .member; graft = f .graft; mesh = f .mesh }
-
-pub out-fits : (t : TopicRecord) → TopicFits t → TopicFits (withoutMember t)
-unfolding withoutMember
-out-fits t f =
-    record { p2 = f .p2; p3 = f .p3; p4 = f .p4; subscribed = f .subscribed; member = omega arith; graft = λ e. refl; mesh = λ e. refl }
-
-pub into-fits : (t : TopicRecord) (time : ℕ) → TopicFits t → TopicFits (withMember t time)
-unfolding withMember
-into-fits t time f =
-    record { p2 = f .p2; p3 = f .p3; p4 = f .p4; subscribed = f .subscribed; member = omega arith; graft = λ e. absurd (e refl); mesh = λ e. refl }
-
--- the same of a record read by parts, beside what it is
+-- the same of a peer's record read by parts, beside what it is
 pub peer-fits-too :
     (q : Peer) (b0 b1 b2 b3 b4 b5 x y i m r : ℕ) (e : List ℕ) →
     x ≡ b0 + 2 * b1 →
@@ -81,9 +36,42 @@ pub peer-fits-too :
     b5 ≤ 1 →
     i < 18446744073709551616 →
     m < 18446744073709551616 →
-    record { status = x; id = i % 4294967296; group = i / 4294967296; outbound = b3; explicit = b2; version = y; p5 = m % 4294967296; p7 = m / 4294967296; retain = r; backoff = e } ≡ q →
-    (record { status = x; id = i % 4294967296; group = i / 4294967296; outbound = b3; explicit = b2; version = y; p5 = m % 4294967296; p7 = m / 4294967296; retain = r; backoff = e } ≡ q)
-    × PeerFits (record { status = x; id = i % 4294967296; group = i / 4294967296; outbound = b3; explicit = b2; version = y; p5 = m % 4294967296; p7 = m / 4294967296; retain = r; backoff = e })
+    record {
+      status = x;
+      id = i % 4294967296;
+      group = i / 4294967296;
+      outbound = b3;
+      explicit = b2;
+      version = y;
+      p5 = m % 4294967296;
+      p7 = m / 4294967296;
+      retain = r;
+      backoff = e;
+    } ≡ q →
+    (record {
+      status = x;
+      id = i % 4294967296;
+      group = i / 4294967296;
+      outbound = b3;
+      explicit = b2;
+      version = y;
+      p5 = m % 4294967296;
+      p7 = m / 4294967296;
+      retain = r;
+      backoff = e;
+    } ≡ q)
+    × PeerFits (record {
+      status = x;
+      id = i % 4294967296;
+      group = i / 4294967296;
+      outbound = b3;
+      explicit = b2;
+      version = y;
+      p5 = m % 4294967296;
+      p7 = m / 4294967296;
+      retain = r;
+      backoff = e;
+    })
 peer-fits-too q b0 b1 b2 b3 b4 b5 x y i m r e ex ey l0 l1 l2 l3 l4 l5 hi hm z = (
   z,
   record {

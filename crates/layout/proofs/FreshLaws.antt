@@ -1,21 +1,23 @@
 -- A fresh table: zeros in the head, the sheet and the words are enough; every other cell is out of use.
 -- Assumes nothing.
-use Prim.Native.Nat.{ℕ, zero, suc, _+_, _*_, _-_, _/_, _%_, _^_, _≤_, _<_}
-use mathlib.Core.Path.{_≡_, refl, sym, ap, _∙_}
+use Prim.Native.Nat.{ℕ, _+_, _*_, _/_, _%_, _^_, _≤_, _<_}
+use mathlib.Core.Path.{_≡_, refl, ap, _∙_}
 use mathlib.Core.Bool.{Bool, true, false}
-use mathlib.Core.List.{List, [], _∷_}
+use mathlib.Core.List.{List}
 use native.Mathlib.Omega.{arith}
 use native.Mathlib.Nat.{zero-div}
 use lib.ListN.{length, getD, set, replicate, List·getD-eq-default}
 use lib.Seq.{getD-set-same, getD-set-other}
 use Rattle.index.proofs.Flags.{by-order}
-use Rattle.records.specs.declared.Peer.{Peer}
-use Rattle.records.specs.declared.TopicRecord.{TopicRecord}
-use Rattle.records.specs.Records.{State, noPeer, noTopic}
+use Rattle.records.specs.Records.{noPeer, noTopic}
+use Rattle.records.specs.Records.{paramCount}
 use Rattle.layout.specs.Rows.{tab}
 use Rattle.layout.proofs.RowLaws.{tab-const, tab-same}
 use Rattle.records.specs.Records.{slotCount}
-use Rattle.layout.specs.View.{placeCount, joinedAt, usedAt, setupAt, setupOf, sheetAt, peersAt, idAt, markAt, retainAt, endsAt, topicsAt, countersAt, p3bAt, bitAt, usedOf, liveAt, counterOf, graftOf, meshOf, subscribedWord, memberWord, topicRaw, topicAt, peerRaw, endsOf, peerAt, below, codeFor, codeAt, sheetPlace, table, stateOf, zeroState}
+use Rattle.layout.specs.View.{placeCount, joinedAt, usedAt, setupAt, setupOf, sheetAt, peersAt, idAt, markAt, retainAt, endsAt}
+use Rattle.layout.specs.View.{topicsAt, countersAt, p3bAt, bitAt, liveAt, counterOf, graftOf, meshOf, subscribedWord, memberWord}
+use Rattle.layout.specs.View.{topicRaw, topicAt, peerRaw, endsOf, peerAt, below, codeFor, codeAt, sheetPlace, table, stateOf}
+use Rattle.layout.specs.View.{zeroState}
 use Rattle.layout.proofs.ViewLaws.{table-same, live-out, place-low}
 
 table-const : {A : Type 0} (n : ℕ) (x : A) → table n (λ k. x) ≡ replicate n x
@@ -33,18 +35,22 @@ module _ (c : List ℕ) (low : (x : ℕ) → x < idAt → getD c x 0 ≡ 0) (wor
   peer-zero : (s : ℕ) → s < slotCount → peerAt c s ≡ noPeer
   unfolding peerAt peerRaw endsOf
   peer-zero s h =
-      let b : (p : ℕ) → p < 6 → bitAt c (peersAt + p * 4) s ≡ 0 = λ p l. bit-zero (peersAt + p * 4) s (low (peersAt + p * 4 + s / 64) (omega arith)) in
-      let e : tab 8 (λ t. liveAt c s (endsAt + s * 8 + t)) ≡ tab 8 (λ t. 0) = tab-same 8 (λ t. liveAt c s (endsAt + s * 8 + t)) (λ t. 0) (λ t l. live-zero s (endsAt + s * 8 + t)) in
-      λ i. peerRaw (b 0 (omega arith) i) (b 1 (omega arith) i) (b 2 (omega arith) i) (b 3 (omega arith) i) (b 4 (omega arith) i) (b 5 (omega arith) i) (live-zero s (idAt + s) i) (live-zero s (markAt + s) i) (live-zero s (retainAt + s) i) (e i)
+      let b : (p : ℕ) → p < 6 → bitAt c (peersAt + p * 4) s ≡ 0 =
+      λ p l. bit-zero (peersAt + p * 4) s (low (peersAt + p * 4 + s / 64) (omega arith)) in
+      let e : tab 8 (λ t. liveAt c s (endsAt + s * 8 + t)) ≡ tab 8 (λ t. 0) =
+      tab-same 8 (λ t. liveAt c s (endsAt + s * 8 + t)) (λ t. 0) (λ t l. live-zero s (endsAt + s * 8 + t)) in
+      λ i. peerRaw (b 0 (omega arith) i) (b 1 (omega arith) i) (b 2 (omega arith) i) (b 3 (omega arith) i) (b 4 (omega arith) i)
+      (b 5 (omega arith) i) (live-zero s (idAt + s) i) (live-zero s (markAt + s) i) (live-zero s (retainAt + s) i) (e i)
 
   topic-zero : (k : ℕ) → k < placeCount → topicAt c k ≡ noTopic
   unfolding topicAt topicRaw
   topic-zero k h =
       let s = bit-zero (subscribedWord k) (k / 8) (words (subscribedWord k + k / 8 / 64) (omega arith) (omega arith)) in
       let m = bit-zero (memberWord k) (k / 8) (words (memberWord k + k / 8 / 64) (omega arith) (omega arith)) in
-      λ i. topicRaw (live-zero (k / 8) (counterOf k) i) (live-zero (k / 8) (p3bAt + k) i) (s i) (m i) (getD c (graftOf k) 0) (getD c (meshOf k) 0)
+      λ i. topicRaw (live-zero (k / 8) (counterOf k) i) (live-zero (k / 8) (p3bAt + k) i) (s i) (m i) (getD c (graftOf k) 0)
+      (getD c (meshOf k) 0)
 
-  code-zero : (i : ℕ) → i < 147 → codeAt c i ≡ 0
+  code-zero : (i : ℕ) → i < paramCount → codeAt c i ≡ 0
   unfolding codeAt codeFor
   code-zero i h = ap (codeFor (below i)) (low (sheetAt + sheetPlace i) (let l = place-low i h in omega arith)) ∙ none (below i)
     where
@@ -61,9 +67,12 @@ module _ (c : List ℕ) (low : (x : ℕ) → x < idAt → getD c x 0 ≡ 0) (wor
   fresh-form =
       let j : table 8 (λ t. getD c (joinedAt + t) 0) ≡ replicate 8 0 =
       table-same 8 (λ t. getD c (joinedAt + t) 0) (λ t. 0) (λ t l. low (joinedAt + t) (omega arith)) ∙ table-const 8 0 in
-      let k : table 147 (codeAt c) ≡ replicate 147 0 = table-same 147 (codeAt c) (λ i. 0) code-zero ∙ table-const 147 0 in
-      let p : table slotCount (peerAt c) ≡ replicate slotCount noPeer = table-same slotCount (peerAt c) (λ s. noPeer) peer-zero ∙ table-const slotCount noPeer in
-      let t : table placeCount (topicAt c) ≡ replicate placeCount noTopic = table-same placeCount (topicAt c) (λ k. noTopic) topic-zero ∙ table-const placeCount noTopic in
+      let k : table paramCount (codeAt c) ≡ replicate paramCount 0 =
+      table-same paramCount (codeAt c) (λ i. 0) code-zero ∙ table-const paramCount 0 in
+      let p : table slotCount (peerAt c) ≡ replicate slotCount noPeer =
+      table-same slotCount (peerAt c) (λ s. noPeer) peer-zero ∙ table-const slotCount noPeer in
+      let t : table placeCount (topicAt c) ≡ replicate placeCount noTopic =
+      table-same placeCount (topicAt c) (λ k. noTopic) topic-zero ∙ table-const placeCount noTopic in
       let a = low 0 (omega arith) in
       let u : setupOf c ≡ record { edition = 0 } = setup-zero in
       λ i. record { clock = a i; joined = j i; codes = k i; setup = u i; peers = p i; topics = t i }

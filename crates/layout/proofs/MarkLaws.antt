@@ -1,27 +1,30 @@
 -- The mark: cells from it on are no part of the state, and it may rise over a slot of zeros.
 -- Assumes nothing.
-use Prim.Native.Nat.{ℕ, zero, suc, _+_, _*_, _-_, _/_, _%_, _≤_, _<_}
+use Prim.Native.Nat.{ℕ, _+_, _*_, _/_, _%_, _≤_, _<_}
 use mathlib.Core.Path.{_≡_, refl, sym, ap, _∙_, subst}
 use mathlib.Core.Logic.{_≢_}
 use mathlib.Core.List.{List}
 use native.Mathlib.Omega.{arith}
-use native.Mathlib.Numerals.{add-one}
 use lib.ListN.{length, getD, set, length-set}
 use lib.Seq.{getD-set-same, getD-set-other, set-set, set-getD}
 use borrow.Author.Count.{below-more}
 use Rattle.index.proofs.Flags.{by-order}
 use Rattle.records.specs.declared.Peer.{Peer}
-use Rattle.records.specs.declared.TopicRecord.{TopicRecord}
-use Rattle.records.specs.Records.{State, setPeer, setTopic, peerIn, topicIn}
+use Rattle.records.specs.Records.{peerIn, topicIn}
+use Rattle.records.specs.Records.{paramCount}
 use Rattle.layout.specs.Rows.{tab}
 use Rattle.layout.proofs.RowLaws.{tab-same}
 use Rattle.layout.proofs.StateLaws.{peer-again, topic-again}
 use Rattle.records.specs.Records.{slotCount}
-use Rattle.layout.specs.View.{placeCount, stride, usedAt, setupAt, peersAt, idAt, markAt, retainAt, endsAt, topicsAt, memberAt, countersAt, p3bAt, graftAt, meshAt, cellCount, bitAt, usedOf, liveAt, counterOf, graftOf, meshOf, subscribedWord, memberWord, topicRaw, topicAt, peerRaw, endsOf, peerAt, stateOf, table, setColumns, sheetAt, joinedAt, codeAt, sheetPlace, ZeroUpTo, Idle}
-use Rattle.layout.proofs.BitLaws.{by-same, bit-cong, One, one-set}
-use Rattle.layout.proofs.ViewLaws.{table-same, live-in, live-out, live-cong, topic-load, peer-load, code-cong, setup-cong, TopicOnly, topic-store, PeerOnly, peer-store}
+use Rattle.layout.specs.View.{placeCount, stride, usedAt, setupAt, peersAt, idAt, markAt, retainAt, endsAt, countersAt, p3bAt}
+use Rattle.layout.specs.View.{graftAt, cellCount, bitAt, usedOf, liveAt, counterOf, graftOf, meshOf, subscribedWord, memberWord}
+use Rattle.layout.specs.View.{topicRaw, topicAt, peerRaw, endsOf, peerAt, stateOf, table, setColumns, sheetAt, joinedAt, codeAt}
+use Rattle.layout.specs.View.{sheetPlace, ZeroUpTo, Idle}
+use Rattle.layout.proofs.BitLaws.{bit-cong, One, one-set}
+use Rattle.layout.proofs.ViewLaws.{table-same, live-in, live-out, topic-load, peer-load, code-cong, setup-cong, TopicOnly}
+use Rattle.layout.proofs.ViewLaws.{topic-store, PeerOnly, peer-store}
 use Rattle.layout.proofs.PlaceLaws.{counters-only, p3b-only}
-use Rattle.layout.proofs.SlotLaws.{id-only, mark-only, retain-only, end-only, length-columns}
+use Rattle.layout.proofs.SlotLaws.{id-only, mark-only, retain-only, end-only}
 
 -- an occupied record stands below the mark
 id-none : (c : List ℕ) (s : ℕ) → usedOf c ≤ s → peerAt c s .id ≡ 0
@@ -49,18 +52,22 @@ peer-dead :
 unfolding peerAt endsOf
 peer-dead c d s u l b =
     let e : tab 8 (λ t. liveAt d s (endsAt + s * 8 + t)) ≡ tab 8 (λ t. liveAt c s (endsAt + s * 8 + t)) =
-    tab-same 8 (λ t. liveAt d s (endsAt + s * 8 + t)) (λ t. liveAt c s (endsAt + s * 8 + t)) (λ t k. live-dead c d s (endsAt + s * 8 + t) u l) in
+    tab-same 8 (λ t. liveAt d s (endsAt + s * 8 + t)) (λ t. liveAt c s (endsAt + s * 8 + t))
+    (λ t k. live-dead c d s (endsAt + s * 8 + t) u l) in
     let x = live-dead c d s (idAt + s) u l in
     let y = live-dead c d s (markAt + s) u l in
     let z = live-dead c d s (retainAt + s) u l in
-    λ i. peerRaw (b 0 (omega arith) i) (b 1 (omega arith) i) (b 2 (omega arith) i) (b 3 (omega arith) i) (b 4 (omega arith) i) (b 5 (omega arith) i) (x i) (y i) (z i) (e i)
+    λ i. peerRaw (b 0 (omega arith) i) (b 1 (omega arith) i) (b 2 (omega arith) i) (b 3 (omega arith) i) (b 4 (omega arith) i)
+    (b 5 (omega arith) i) (x i) (y i) (z i) (e i)
 
 -- a cell of a slot past the mark
-pub idle-peer : (c d : List ℕ) (s x : ℕ) → length c ≡ cellCount → s < slotCount → usedOf c ≤ s → idAt ≤ x → One c d x → PeerOnly c d s → Idle c d
+pub idle-peer : (c d : List ℕ) (s x : ℕ) → length c ≡ cellCount → s < slotCount → usedOf c ≤ s → idAt ≤ x → One c d x → PeerOnly c d s →
+    Idle c d
 idle-peer c d s x z h l g o only =
     let u : usedOf d ≡ usedOf c = o .rest usedAt (λ e. omega arith) in
     let e : peerAt d s ≡ peerIn (stateOf c) s =
-    peer-dead c d s u l (λ p k. bit-cong c d (peersAt + p * 4) s (o .rest (peersAt + p * 4 + s / 64) (λ e. omega arith))) ∙ peer-load c s h in
+    peer-dead c d s u l (λ p k. bit-cong c d (peersAt + p * 4) s (o .rest (peersAt + p * 4 + s / 64) (λ e. omega arith)))
+    ∙ peer-load c s h in
     record { size = o .len ∙ z; used = u; form = peer-store c d s (peerIn (stateOf c) s) only e ∙ peer-again (stateOf c) s }
 
 pub idle-topic :
@@ -83,7 +90,12 @@ idle-topic c d k x z h l g m o only =
     let t = o .rest (graftOf k) (λ e. omega arith) in
     let v = o .rest (meshOf k) (λ e. omega arith) in
     let q : topicAt d k ≡ topicAt c k = λ i. topicRaw (a i) (b i) (s i) (w i) (t i) (v i) in
-    record { size = o .len ∙ z; used = u; form = topic-store c d k (topicIn (stateOf c) k) only (q ∙ topic-load c k h) ∙ topic-again (stateOf c) k }
+    record {
+      size = o .len ∙ z;
+      used = u;
+      form = topic-store c d k (topicIn (stateOf c) k) only (q ∙ topic-load c k h)
+          ∙ topic-again (stateOf c) k;
+    }
 
 pub idle-then : (a b c : List ℕ) → Idle a b → Idle b c → Idle a c
 idle-then a b c p q = record { size = q .size; used = q .used ∙ p .used; form = q .form ∙ p .form }
@@ -117,7 +129,8 @@ module _ (c : List ℕ) (s : ℕ) (z : length c ≡ cellCount) (h : s < slotCoun
       let y2 = length-set c1 (markAt + s) 0 in
       record {
         ids =
-            getD-set-other c2 (retainAt + s) (idAt + s) 0 0 (λ e. omega arith) ∙ getD-set-other c1 (markAt + s) (idAt + s) 0 0 (λ e. omega arith)
+            getD-set-other c2 (retainAt + s) (idAt + s) 0 0 (λ e. omega arith)
+            ∙ getD-set-other c1 (markAt + s) (idAt + s) 0 0 (λ e. omega arith)
             ∙ getD-set-same c (idAt + s) 0 0 (omega arith);
         marks =
             getD-set-other c2 (retainAt + s) (markAt + s) 0 0 (λ e. omega arith) ∙ getD-set-same c1 (markAt + s) 0 0 (omega arith);
@@ -156,9 +169,11 @@ module _ (c : List ℕ) (s : ℕ) (z : length c ≡ cellCount) (h : s < slotCoun
         let q : (s * 8 + t) / 8 ≡ s = omega arith in
         let o1 = one-set c x1 0 in
         let i1 =
-        idle-topic c d1 (s * 8 + t) x1 z p (rw q l) (omega arith) (omega arith) o1 (counters-only c d1 (s * 8 + t) p (subst (One c d1) (sym place-is) o1)) in
+        idle-topic c d1 (s * 8 + t) x1 z p (rw q l) (omega arith) (omega arith) o1
+        (counters-only c d1 (s * 8 + t) p (subst (One c d1) (sym place-is) o1)) in
         let o2 = one-set d1 x2 0 in
-        let i2 = idle-topic d1 d2 (s * 8 + t) x2 (i1 .size) p (rw (q, i1 .used) l) (omega arith) (omega arith) o2 (p3b-only d1 d2 (s * 8 + t) p o2) in
+        let i2 = idle-topic d1 d2 (s * 8 + t) x2 (i1 .size) p (rw (q, i1 .used) l) (omega arith) (omega arith) o2
+        (p3b-only d1 d2 (s * 8 + t) p o2) in
         let i12 = idle-then c d1 d2 i1 i2 in
         let o3 = one-set d2 x3 0 in
         let i3 = idle-peer d2 d3 s x3 (i2 .size) h (rw (i12 .used) l) (omega arith) o3 (end-only d2 d3 s h t k o3) in
@@ -178,7 +193,8 @@ module _ (c : List ℕ) (s : ℕ) (z : length c ≡ cellCount) (h : s < slotCoun
           counters =
               below-more (λ u. getD d3 (countersAt + u * stride + s) 0 ≡ 0) t
               (λ u b. keeps (countersAt + u * stride + s) (λ e. omega arith) (λ e. omega arith) (λ e. omega arith) ∙ r .counters u b)
-              (getD-set-other d2 x3 x1 0 0 (λ e. omega arith) ∙ getD-set-other d1 x2 x1 0 0 (λ e. omega arith) ∙ getD-set-same c x1 0 0 (omega arith));
+              (getD-set-other d2 x3 x1 0 0 (λ e. omega arith) ∙ getD-set-other d1 x2 x1 0 0 (λ e. omega arith)
+              ∙ getD-set-same c x1 0 0 (omega arith));
           p3b =
               below-more (λ u. getD d3 (p3bAt + (s * 8 + u)) 0 ≡ 0) t
               (λ u b. keeps (p3bAt + (s * 8 + u)) (λ e. omega arith) (λ e. omega arith) (λ e. omega arith) ∙ r .p3b u b)
@@ -222,7 +238,8 @@ module _ (c : List ℕ) (s : ℕ) (z : length c ≡ cellCount) (h : s < slotCoun
       let e : tab 8 (λ t. liveAt risen j (endsAt + j * 8 + t)) ≡ tab 8 (λ t. liveAt c j (endsAt + j * 8 + t)) =
       tab-same 8 (λ t. liveAt risen j (endsAt + j * 8 + t)) (λ t. liveAt c j (endsAt + j * 8 + t)) (λ t k.
       live-risen j (endsAt + j * 8 + t) (λ e. omega arith) (λ q. rw q (r .ends t k))) in
-      λ i. peerRaw (f 0 (omega arith) i) (f 1 (omega arith) i) (f 2 (omega arith) i) (f 3 (omega arith) i) (f 4 (omega arith) i) (f 5 (omega arith) i) (x i) (y i) (w i) (e i)
+      λ i. peerRaw (f 0 (omega arith) i) (f 1 (omega arith) i) (f 2 (omega arith) i) (f 3 (omega arith) i) (f 4 (omega arith) i)
+      (f 5 (omega arith) i) (x i) (y i) (w i) (e i)
 
   topic-risen : (k : ℕ) → k < placeCount → topicAt risen k ≡ topicAt c k
   unfolding topicAt
@@ -243,10 +260,11 @@ module _ (c : List ℕ) (s : ℕ) (z : length c ≡ cellCount) (h : s < slotCoun
   mark-risen =
       let j : table 8 (λ t. getD risen (joinedAt + t) 0) ≡ table 8 (λ t. getD c (joinedAt + t) 0) =
       table-same 8 (λ t. getD risen (joinedAt + t) 0) (λ t. getD c (joinedAt + t) 0) (λ t l. rest (joinedAt + t) (λ e. omega arith)) in
-      let k : table 147 (codeAt risen) ≡ table 147 (codeAt c) =
-      table-same 147 (codeAt risen) (codeAt c) (λ i l. code-cong c risen i (rest (sheetAt + sheetPlace i) (λ e. omega arith))) in
+      let k : table paramCount (codeAt risen) ≡ table paramCount (codeAt c) =
+      table-same paramCount (codeAt risen) (codeAt c) (λ i l. code-cong c risen i (rest (sheetAt + sheetPlace i) (λ e. omega arith))) in
       let p : table slotCount (peerAt risen) ≡ table slotCount (peerAt c) = table-same slotCount (peerAt risen) (peerAt c) peer-risen in
-      let t : table placeCount (topicAt risen) ≡ table placeCount (topicAt c) = table-same placeCount (topicAt risen) (topicAt c) topic-risen in
+      let t : table placeCount (topicAt risen) ≡ table placeCount (topicAt c) =
+      table-same placeCount (topicAt risen) (topicAt c) topic-risen in
       let a : getD risen 0 0 ≡ getD c 0 0 = rest 0 (λ e. omega arith) in
       let v = setup-cong c risen (rest setupAt (λ e. omega arith)) in
       (λ i. record { clock = a i; joined = j i; codes = k i; setup = v i; peers = p i; topics = t i }, mark-new)

@@ -1,6 +1,6 @@
 -- A store to the cells of one place: lanes, a column by topic, a word by topic, a row by slot.
 -- Assumes nothing.
-use Prim.Native.Nat.{ℕ, zero, suc, _+_, _*_, _-_, _/_, _%_, _≤_, _<_}
+use Prim.Native.Nat.{ℕ, _+_, _*_, _/_, _%_, _≤_, _<_}
 use mathlib.Core.Path.{_≡_, refl, sym, ap, _∙_}
 use mathlib.Core.Logic.{_≢_}
 use mathlib.Core.List.{List}
@@ -11,7 +11,9 @@ use lib.Dec.{eqb}
 use borrow.Author.Tests.{eq-eqb, ne-eqb}
 use Rattle.records.specs.declared.TopicRecord.{TopicRecord}
 use Rattle.records.specs.Records.{setTopic, topicIn}
-use Rattle.layout.specs.View.{placeCount, usedAt, topicsAt, memberAt, countersAt, p3bAt, graftAt, meshAt, cellCount, bitAt, usedOf, keep, liveAt, counterOf, graftOf, meshOf, subscribedWord, memberWord, topicRaw, topicAt, stateOf, setBit, withSubscription, withoutMember, withMember, TopicFits}
+use Rattle.layout.specs.View.{placeCount, usedAt, topicsAt, memberAt, countersAt, p3bAt, cellCount, bitAt, usedOf, keep, liveAt}
+use Rattle.layout.specs.View.{counterOf, graftOf, meshOf, subscribedWord, memberWord, topicRaw, topicAt, stateOf, setBit}
+use Rattle.layout.specs.View.{withSubscription, withoutMember, withMember, TopicFits}
 use Rattle.layout.proofs.BitLaws.{by-same, length-bit, bit-cong, bit-put-same, place-put-other, One, one-set, one-bit}
 use Rattle.layout.proofs.ViewLaws.{live-in, live-cong, topic-parts, topic-load, TopicOnly, topic-then, topic-store}
 
@@ -76,7 +78,8 @@ parts-topic c k a b s m g t p =
     λ i. topicRaw (p .counters i) (p .p3b i) (p .subscribed i) (p .member i) (p .graft i) (p .mesh i)
 
 pub parts-of : (c : List ℕ) (k : ℕ) → length c ≡ cellCount
-    → Parts c k (liveAt c (k / 8) (counterOf k)) (liveAt c (k / 8) (p3bAt + k)) (bitAt c (subscribedWord k) (k / 8)) (bitAt c (memberWord k) (k / 8)) (getD c (graftOf k) 0) (getD c (meshOf k) 0)
+    → Parts c k (liveAt c (k / 8) (counterOf k)) (liveAt c (k / 8) (p3bAt + k)) (bitAt c (subscribedWord k) (k / 8))
+    (bitAt c (memberWord k) (k / 8)) (getD c (graftOf k) 0) (getD c (meshOf k) 0)
 parts-of c k z =
     record { size = z; counters = refl; p3b = refl; subscribed = refl; member = refl; graft = refl; mesh = refl }
 
@@ -99,7 +102,8 @@ module _ (c d : List ℕ) (k : ℕ) (h : k < placeCount) where
         others =
             λ j b n.
             let f = far j b n in
-            topic-parts c d j (o .rest usedAt (λ e. omega arith)) (o .rest (counterOf j) (f .0)) (o .rest (p3bAt + j) (f .1)) (s j b n) (m j b n)
+            topic-parts c d j (o .rest usedAt (λ e. omega arith)) (o .rest (counterOf j) (f .0)) (o .rest (p3bAt + j) (f .1)) (s j b n)
+            (m j b n)
             (o .rest (graftOf j) (f .2)) (o .rest (meshOf j) (f .3));
       }
 
@@ -116,13 +120,15 @@ module _ (c d : List ℕ) (k : ℕ) (h : k < placeCount) where
       (λ j b n. bit-cong c d (memberWord j) (j / 8) (o .rest (memberWord j + j / 8 / 64) (λ e. omega arith)))
 
   pub counters-only : One c d (counterOf k) → TopicOnly c d k
-  counters-only o = cell-only (counterOf k) (omega arith) o (λ j b n. (λ e. n (omega arith), λ e. omega arith, λ e. omega arith, λ e. omega arith))
+  counters-only o =
+      cell-only (counterOf k) (omega arith) o (λ j b n. (λ e. n (omega arith), λ e. omega arith, λ e. omega arith, λ e. omega arith))
 
   pub p3b-only : One c d (p3bAt + k) → TopicOnly c d k
   p3b-only o = cell-only (p3bAt + k) (omega arith) o (λ j b n. (λ e. omega arith, λ e. n (omega arith), λ e. omega arith, λ e. omega arith))
 
   pub graft-only : One c d (graftOf k) → TopicOnly c d k
-  graft-only o = cell-only (graftOf k) (omega arith) o (λ j b n. (λ e. omega arith, λ e. omega arith, λ e. n (omega arith), λ e. omega arith))
+  graft-only o =
+      cell-only (graftOf k) (omega arith) o (λ j b n. (λ e. omega arith, λ e. omega arith, λ e. n (omega arith), λ e. omega arith))
 
   pub mesh-only : One c d (meshOf k) → TopicOnly c d k
   mesh-only o = cell-only (meshOf k) (omega arith) o (λ j b n. (λ e. omega arith, λ e. omega arith, λ e. omega arith, λ e. n (omega arith)))
@@ -282,11 +288,13 @@ topic-written c k t z h u f c1 c2 c3 c4 c5 c6 e1 e2 e3 e4 e5 e6 =
     let p4 = mesh-part c3 c4 k h _ _ _ _ _ _ p3 (t .mesh) o4 v4 in
     let z4 = p4 .size in
     let o5 : One c4 c5 (subscribedWord k + k / 8 / 64) = rw e5 (one-bit c4 (subscribedWord k) (k / 8) (t .subscribed)) in
-    let v5 : bitAt c5 (subscribedWord k) (k / 8) ≡ t .subscribed = rw e5 (bit-put-same c4 (subscribedWord k) (k / 8) (t .subscribed) (omega arith) (f .subscribed)) in
+    let v5 : bitAt c5 (subscribedWord k) (k / 8) ≡ t .subscribed =
+    rw e5 (bit-put-same c4 (subscribedWord k) (k / 8) (t .subscribed) (omega arith) (f .subscribed)) in
     let p5 = subscribed-part c4 c5 k h _ _ _ _ _ _ p4 (t .subscribed) o5 v5 in
     let z5 = p5 .size in
     let o6 : One c5 c6 (memberWord k + k / 8 / 64) = rw e6 (one-bit c5 (memberWord k) (k / 8) (t .member)) in
-    let v6 : bitAt c6 (memberWord k) (k / 8) ≡ t .member = rw e6 (bit-put-same c5 (memberWord k) (k / 8) (t .member) (omega arith) (f .member)) in
+    let v6 : bitAt c6 (memberWord k) (k / 8) ≡ t .member =
+    rw e6 (bit-put-same c5 (memberWord k) (k / 8) (t .member) (omega arith) (f .member)) in
     let p6 = member-part c5 c6 k h _ _ _ _ _ _ p5 (t .member) o6 v6 in
     let s5 : TopicOnly c4 c5 k = rw e5 (subscribed-only c4 k h z4 (t .subscribed) (f .subscribed)) in
     let s6 : TopicOnly c5 c6 k = rw e6 (member-only c5 k h z5 (t .member) (f .member)) in
@@ -336,7 +344,8 @@ module _ (c : List ℕ) (k : ℕ) (z : length c ≡ cellCount) (h : k < placeCou
   there = sym (parts-topic c k a b s m g t (parts-of c k z)) ∙ topic-load c k h
 
   pub subscribed-written :
-      (v : ℕ) → v ≤ 1 → stateOf (setBit c (subscribedWord k) (k / 8) v) ≡ setTopic (stateOf c) k (withSubscription (topicIn (stateOf c) k) v)
+      (v : ℕ) → v ≤ 1 → stateOf (setBit c (subscribedWord k) (k / 8) v)
+      ≡ setTopic (stateOf c) k (withSubscription (topicIn (stateOf c) k) v)
   subscribed-written v l =
       let d = setBit c (subscribedWord k) (k / 8) v in
       let p =
@@ -356,7 +365,8 @@ module _ (c : List ℕ) (k : ℕ) (z : length c ≡ cellCount) (h : k < placeCou
 
   pub into-written :
       (time : ℕ) →
-      stateOf (setBit (set (set c (graftOf k) time) (meshOf k) 0) (memberWord k) (k / 8) 1) ≡ setTopic (stateOf c) k (withMember (topicIn (stateOf c) k) time)
+      stateOf (setBit (set (set c (graftOf k) time) (meshOf k) 0) (memberWord k) (k / 8) 1)
+      ≡ setTopic (stateOf c) k (withMember (topicIn (stateOf c) k) time)
   into-written time =
       let c1 = set c (graftOf k) time in
       let c2 = set c1 (meshOf k) 0 in
@@ -368,7 +378,8 @@ module _ (c : List ℕ) (k : ℕ) (z : length c ≡ cellCount) (h : k < placeCou
       let p2 = mesh-part c1 c2 k h a b s m time t p1 0 o2 (getD-set-same c1 (meshOf k) 0 0 (omega arith)) in
       let z2 = p2 .size in
       let p3 =
-      member-part c2 d k h a b s m time 0 p2 1 (one-bit c2 (memberWord k) (k / 8) 1) (bit-put-same c2 (memberWord k) (k / 8) 1 (omega arith) (omega arith)) in
+      member-part c2 d k h a b s m time 0 p2 1 (one-bit c2 (memberWord k) (k / 8) 1)
+      (bit-put-same c2 (memberWord k) (k / 8) 1 (omega arith) (omega arith)) in
       topic-store c d k (withMember (topicIn (stateOf c) k) time)
       (topic-then c c1 d k (graft-only c c1 k h o1) (topic-then c1 c2 d k (mesh-only c1 c2 k h o2) (member-only c2 k h z2 1 (omega arith))))
       (parts-topic d k a b s 1 time 0 p3 ∙ raw-into a b s m g t time ∙ ap (λ r. withMember r time) there)

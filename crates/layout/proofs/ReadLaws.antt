@@ -1,15 +1,13 @@
 -- One field of a record, and a flag of all slots.
 -- Assumes nothing.
-use Prim.Native.Nat.{ℕ, zero, suc, _+_, _*_, _-_, _/_, _%_, _^_, _≤_, _<_}
+use Prim.Native.Nat.{ℕ, zero, suc, _+_, _*_, _/_, _%_, _^_, _≤_, _<_}
 use mathlib.Core.Path.{_≡_, refl, sym, ap, ap₂, _∙_}
 use mathlib.Core.List.{List, [], _∷_}
 use native.Mathlib.Omega.{arith}
-use lib.ListN.{length, getD}
+use lib.ListN.{getD}
 use Rattle.records.specs.declared.Peer.{Peer}
-use Rattle.records.specs.declared.TopicRecord.{TopicRecord}
 use Rattle.records.specs.Records.{peerIn, topicIn, place, slotCount, topicCount}
-use Rattle.layout.specs.View.{placeCount, peersAt, idAt, topicsAt, memberAt, bitAt, liveAt, peerRaw, peerAt, stateOf}
-use Rattle.layout.specs.View.{subscribedWord, memberWord}
+use Rattle.layout.specs.View.{peersAt, idAt, topicsAt, memberAt, bitAt, liveAt, peerRaw, peerAt, stateOf}
 use Rattle.layout.proofs.DigitLaws.{digit-le}
 use Rattle.layout.proofs.ViewLaws.{peer-load}
 use Rattle.layout.proofs.CellLaws.{bits-are}

@@ -1,19 +1,19 @@
 -- The sheet: a load gives a magnitude, a store changes one code and no other.
 -- Assumes nothing.
 use Prim.Native.Nat.{ℕ, _+_, _*_, _-_, _/_, _%_, _≤_, _<_}
-use mathlib.Core.Path.{_≡_, refl, sym, ap, _∙_}
+use mathlib.Core.Path.{_≡_, sym, ap, _∙_}
 use mathlib.Core.Logic.{_≢_}
-use mathlib.Core.Bool.{Bool, true, false, cond}
+use mathlib.Core.Bool.{Bool, true, false}
 use mathlib.Core.List.{List}
 use native.Mathlib.Omega.{arith}
 use lib.ListN.{length, getD, set}
 use lib.Seq.{getD-set-same, getD-set-other}
-use lib.Dec.{ltb}
 use borrow.Author.Tests.{lt-ltb, le-ltb}
 use Rattle.index.proofs.Flags.{by-order}
 use Rattle.varint.specs.Codes.{magnitude}
 use Rattle.records.specs.Records.{codeIn, paramCount}
-use Rattle.layout.specs.View.{joinedAt, usedAt, setupAt, sheetAt, peersAt, cellCount, fieldOf, below, sheetPlace, codeFor, codeAt, table, stateOf, setCode}
+use Rattle.layout.specs.View.{joinedAt, usedAt, setupAt, sheetAt, cellCount, fieldOf, below, sheetPlace, codeFor, codeAt, table}
+use Rattle.layout.specs.View.{stateOf, setCode}
 use Rattle.layout.proofs.ViewLaws.{table-same, table-set, code-load, code-cong, place-low, setup-cong, head-same}
 
 -- where a general number and a topic's number stand
@@ -26,18 +26,21 @@ unfolding sheetPlace
 place-topic i l = rw (le-ltb i 19 l)
 
 -- the two ends of `sheet_place`
-pub at-general : (i : ℕ) → i < 19 → (i ≡ sheetPlace i) × (i < 147)
+pub at-general : (i : ℕ) → i < 19 → (i ≡ sheetPlace i) × (i < paramCount)
 at-general i l = (sym (place-general i l), omega arith)
 
-pub at-topic : (i : ℕ) → i < 147 → 19 ≤ i → (19 + (i - 19) % 16 * 8 + (i - 19) / 16 ≡ sheetPlace i) × (19 + (i - 19) % 16 * 8 + (i - 19) / 16 < 147)
+pub at-topic : (i : ℕ) → i < paramCount → 19 ≤ i → (19 + (i - 19) % 16 * 8 + (i - 19) / 16 ≡ sheetPlace i)
+    × (19 + (i - 19) % 16 * 8 + (i - 19) / 16 < paramCount)
 at-topic i h l = (sym (place-topic i l), omega arith)
 
 -- two numbers stand in two placeCount
-pub place-apart : (i j : ℕ) → i < 147 → j < 147 → j ≢ i → sheetPlace j ≢ sheetPlace i
+pub place-apart : (i j : ℕ) → i < paramCount → j < paramCount → j ≢ i → sheetPlace j ≢ sheetPlace i
 place-apart i j h l n e =
     by-order ⊥ i 19
-    (λ a. let p = place-general i a in by-order ⊥ j 19 (λ b. let q = place-general j b in n (omega arith)) (λ b. let q = place-topic j b in omega arith))
-    (λ a. let p = place-topic i a in by-order ⊥ j 19 (λ b. let q = place-general j b in omega arith) (λ b. let q = place-topic j b in n (omega arith)))
+    (λ a. let p = place-general i a in
+    by-order ⊥ j 19 (λ b. let q = place-general j b in n (omega arith)) (λ b. let q = place-topic j b in omega arith))
+    (λ a. let p = place-topic i a in
+    by-order ⊥ j 19 (λ b. let q = place-general j b in omega arith) (λ b. let q = place-topic j b in n (omega arith)))
 
 -- a code's magnitude
 size-for : (b : Bool) (m : ℕ) → (codeFor b m + 1) / 2 ≡ m
@@ -45,7 +48,7 @@ unfolding codeFor
 size-for true m = omega arith
 size-for false m = omega arith
 
-size-load : (c : List ℕ) (i : ℕ) → i < 147 → getD c (sheetAt + sheetPlace i) 0 ≡ (codeIn (stateOf c) i + 1) / 2
+size-load : (c : List ℕ) (i : ℕ) → i < paramCount → getD c (sheetAt + sheetPlace i) 0 ≡ (codeIn (stateOf c) i + 1) / 2
 unfolding codeAt
 size-load c i h = sym (ap (λ n. (n + 1) / 2) (sym (code-load c i h)) ∙ size-for (below i) (getD c (sheetAt + sheetPlace i) 0))
 
@@ -64,20 +67,24 @@ magnitude-load c i n h e = (
 pub code-store :
     (c : List ℕ) (i m : ℕ) →
     length c ≡ cellCount →
-    i < 147 →
+    i < paramCount →
     stateOf (set c (sheetAt + sheetPlace i) m) ≡ setCode (stateOf c) i (codeFor (below i) m)
 unfolding setCode stateOf codeAt
 code-store c i m z h =
     let l = place-low i h in
     let x : ℕ = sheetAt + sheetPlace i in
     let d = set c (sheetAt + sheetPlace i) m in
-    let r = head-same c d (getD-set-other c (sheetAt + sheetPlace i) usedAt m 0 (λ e. omega arith)) (λ y k. getD-set-other c (sheetAt + sheetPlace i) y m 0 (λ e. omega arith)) in
+    let r = head-same c d (getD-set-other c (sheetAt + sheetPlace i) usedAt m 0 (λ e. omega arith))
+    (λ y k. getD-set-other c (sheetAt + sheetPlace i) y m 0 (λ e. omega arith)) in
     let a : getD d 0 0 ≡ getD c 0 0 = getD-set-other c (sheetAt + sheetPlace i) 0 m 0 (λ e. omega arith) in
     let j : table 8 (λ t. getD d (joinedAt + t) 0) ≡ table 8 (λ t. getD c (joinedAt + t) 0) =
-    table-same 8 (λ t. getD d (joinedAt + t) 0) (λ t. getD c (joinedAt + t) 0) (λ t k. getD-set-other c (sheetAt + sheetPlace i) (joinedAt + t) m 0 (λ e. omega arith)) in
-    let k : table 147 (codeAt d) ≡ set (table 147 (codeAt c)) i (codeFor (below i) m) =
-    table-set 147 (codeAt c) (codeAt d) i (codeFor (below i) m) (ap (codeFor (below i)) (getD-set-same c (sheetAt + sheetPlace i) m 0 (omega arith)))
-    (λ u b n. code-cong c d u (getD-set-other c (sheetAt + sheetPlace i) (sheetAt + sheetPlace u) m 0 (λ e. place-apart i u h b n (omega arith)))) in
+    table-same 8 (λ t. getD d (joinedAt + t) 0) (λ t. getD c (joinedAt + t) 0)
+    (λ t k. getD-set-other c (sheetAt + sheetPlace i) (joinedAt + t) m 0 (λ e. omega arith)) in
+    let k : table paramCount (codeAt d) ≡ set (table paramCount (codeAt c)) i (codeFor (below i) m) =
+    table-set paramCount (codeAt c) (codeAt d) i (codeFor (below i) m)
+    (ap (codeFor (below i)) (getD-set-same c (sheetAt + sheetPlace i) m 0 (omega arith)))
+    (λ u b n. code-cong c d u
+    (getD-set-other c (sheetAt + sheetPlace i) (sheetAt + sheetPlace u) m 0 (λ e. place-apart i u h b n (omega arith)))) in
     let u = setup-cong c d (getD-set-other c (sheetAt + sheetPlace i) setupAt m 0 (λ e. omega arith)) in
     λ t. record { clock = a t; joined = j t; codes = k t; setup = u t; peers = r .0 t; topics = r .1 t }
 

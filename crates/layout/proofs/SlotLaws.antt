@@ -1,14 +1,14 @@
 -- A store to the cells of one slot: words, columns of two lanes, a row of eight ends.
 -- Assumes nothing.
-use Prim.Native.Nat.{ℕ, zero, suc, _+_, _*_, _-_, _/_, _%_, _≤_, _<_}
+use Prim.Native.Nat.{ℕ, _+_, _*_, _/_, _%_, _≤_, _<_}
 use mathlib.Core.Path.{_≡_, refl, sym, ap, _∙_, subst}
 use mathlib.Core.Logic.{_≢_}
-use mathlib.Core.Bool.{Bool, true, false, cond}
+use mathlib.Core.Bool.{cond}
 use mathlib.Core.List.{List, [], _∷_}
 use native.Mathlib.Omega.{arith}
 use native.Mathlib.Nat.{add-zero}
 use lib.ListN.{length, getD, set, length-set}
-use lib.Seq.{length-paste, getD-set-same, getD-set-other}
+use lib.Seq.{length-paste, getD-set-same}
 use lib.Dec.{eqb}
 use borrow.Author.Tests.{eq-eqb, ne-eqb}
 use Rattle.index.proofs.Flags.{by-order}
@@ -17,9 +17,10 @@ use Rattle.records.specs.Records.{setPeer, peerIn}
 use Rattle.layout.specs.Rows.{tab, put}
 use Rattle.layout.proofs.RowLaws.{tab-same, tab-set, tab-getD, getD-put-before, getD-put-in, getD-put-after}
 use Rattle.records.specs.Records.{slotCount}
-use Rattle.layout.specs.View.{usedAt, peersAt, idAt, markAt, retainAt, endsAt, topicsAt, cellCount, bitAt, usedOf, liveAt, peerRaw, endsOf, peerAt, stateOf, setBit, setFlags, setColumns, setEnd, PeerFits}
+use Rattle.layout.specs.View.{usedAt, peersAt, idAt, markAt, retainAt, endsAt, topicsAt, cellCount, bitAt, usedOf, liveAt, peerRaw}
+use Rattle.layout.specs.View.{endsOf, peerAt, stateOf, setBit, setFlags, setColumns, setEnd, PeerFits}
 use Rattle.layout.proofs.BitLaws.{by-same, length-bit, bit-cong, bit-put-same, bit-put-other, One, one-set, one-bit}
-use Rattle.layout.proofs.ViewLaws.{live-in, live-out, live-cong, ends-cong, peer-parts, peer-load, PeerOnly, peer-then, peer-store}
+use Rattle.layout.proofs.ViewLaws.{live-in, live-cong, peer-parts, peer-load, PeerOnly, peer-then, peer-store}
 
 -- a row keeps the length
 length-put : (cells : List ℕ) (at : ℕ) (vs : List ℕ) → at + length vs ≤ length cells → length (put cells at vs) ≡ length cells
@@ -41,7 +42,8 @@ two-bits n = omega arith
 pub peer-back :
     (p : Peer) →
     PeerFits p →
-    peerRaw (p .status % 2) (p .status / 2) (p .explicit) (p .outbound) (p .version % 2) (p .version / 2) (p .id + p .group * 4294967296) (p .p5 + p .p7 * 4294967296) (p .retain) (p .backoff) ≡ p
+    peerRaw (p .status % 2) (p .status / 2) (p .explicit) (p .outbound) (p .version % 2) (p .version / 2) (p .id + p .group * 4294967296)
+    (p .p5 + p .p7 * 4294967296) (p .retain) (p .backoff) ≡ p
 unfolding peerRaw
 peer-back p f =
     λ i. record {
@@ -80,7 +82,8 @@ slot-peer c s b i m r e p q =
     let x = live-in c s (idAt + s) (p .used) ∙ p .ids in
     let y = live-in c s (markAt + s) (p .used) ∙ p .marks in
     let z = live-in c s (retainAt + s) (p .used) ∙ p .retain in
-    λ t. peerRaw (p .flag 0 (omega arith) t) (p .flag 1 (omega arith) t) (p .flag 2 (omega arith) t) (p .flag 3 (omega arith) t) (p .flag 4 (omega arith) t) (p .flag 5 (omega arith) t) (x t) (y t) (z t) (q t)
+    λ t. peerRaw (p .flag 0 (omega arith) t) (p .flag 1 (omega arith) t) (p .flag 2 (omega arith) t) (p .flag 3 (omega arith) t)
+    (p .flag 4 (omega arith) t) (p .flag 5 (omega arith) t) (x t) (y t) (z t) (q t)
 
 -- ---- THE LAW OF A STORE to a cell of slot s: no other slot sees it, and nothing below or above
 
@@ -90,7 +93,8 @@ module _ (c d : List ℕ) (s : ℕ) (h : s < slotCount) where
       idAt ≤ x →
       x < topicsAt →
       One c d x →
-      ((j : ℕ) → j < slotCount → j ≢ s → (idAt + j ≢ x) × (markAt + j ≢ x) × (retainAt + j ≢ x) × ((t : ℕ) → t < 8 → endsAt + j * 8 + t ≢ x)) →
+      ((j : ℕ) → j < slotCount → j ≢ s → (idAt + j ≢ x) × (markAt + j ≢ x) × (retainAt + j ≢ x)
+      × ((t : ℕ) → t < 8 → endsAt + j * 8 + t ≢ x)) →
       PeerOnly c d s
   cell-only x l g o far =
       record {
@@ -109,16 +113,23 @@ module _ (c d : List ℕ) (s : ℕ) (h : s < slotCount) where
       }
 
   pub id-only : One c d (idAt + s) → PeerOnly c d s
-  id-only o = cell-only (idAt + s) (omega arith) (omega arith) o (λ j b n. (λ e. n (omega arith), λ e. omega arith, λ e. omega arith, λ t q e. omega arith))
+  id-only o = cell-only (idAt + s) (omega arith) (omega arith) o
+      (λ j b n. (λ e. n (omega arith), λ e. omega arith, λ e. omega arith, λ t q e. omega arith))
 
   pub mark-only : One c d (markAt + s) → PeerOnly c d s
-  mark-only o = cell-only (markAt + s) (omega arith) (omega arith) o (λ j b n. (λ e. omega arith, λ e. n (omega arith), λ e. omega arith, λ t q e. omega arith))
+  mark-only o =
+      cell-only (markAt + s) (omega arith) (omega arith) o
+      (λ j b n. (λ e. omega arith, λ e. n (omega arith), λ e. omega arith, λ t q e. omega arith))
 
   pub retain-only : One c d (retainAt + s) → PeerOnly c d s
-  retain-only o = cell-only (retainAt + s) (omega arith) (omega arith) o (λ j b n. (λ e. omega arith, λ e. omega arith, λ e. n (omega arith), λ t q e. omega arith))
+  retain-only o =
+      cell-only (retainAt + s) (omega arith) (omega arith) o
+      (λ j b n. (λ e. omega arith, λ e. omega arith, λ e. n (omega arith), λ t q e. omega arith))
 
   pub end-only : (t : ℕ) → t < 8 → One c d (endsAt + s * 8 + t) → PeerOnly c d s
-  end-only t l o = cell-only (endsAt + s * 8 + t) (omega arith) (omega arith) o (λ j b n. (λ e. omega arith, λ e. omega arith, λ e. omega arith, λ u q e. n (omega arith)))
+  end-only t l o =
+      cell-only (endsAt + s * 8 + t) (omega arith) (omega arith) o
+      (λ j b n. (λ e. omega arith, λ e. omega arith, λ e. omega arith, λ u q e. n (omega arith)))
 
   -- the same store, seen by slot s
   module _ (b : ℕ → ℕ) (i m r : ℕ) (p : Slot c s b i m r) where
@@ -321,7 +332,8 @@ module _ (c : List ℕ) (s : ℕ) (h : s < slotCount) (z : length c ≡ cellCoun
             (row-before (retainAt + j) (omega arith))
             (λ t k. by-order (getD d (endsAt + j * 8 + t) 0 ≡ getD c (endsAt + j * 8 + t) 0) j s
             (λ l. row-before (endsAt + j * 8 + t) (omega arith))
-            (λ l. row-after (endsAt + j * 8 + t) (let q : s < j = by-order (s < j) s j (λ x. x) (λ x. absurd (ne (omega arith))) in omega arith)));
+            (λ l. row-after (endsAt + j * 8 + t)
+            (let q : s < j = by-order (s < j) s j (λ x. x) (λ x. absurd (ne (omega arith))) in omega arith)));
       }
 
   pub row-part : (b : ℕ → ℕ) (i m r : ℕ) → Slot c s b i m r → Slot d s b i m r
@@ -366,16 +378,20 @@ peer-written c s p z h u f n c1 c2 c3 e1 e2 e3 =
     let y : ℕ = p .p5 + p .p7 * 4294967296 in
     let p0 = slot-of c s z u in
     let o1 : PeerOnly c c1 s =
-    rw e1 (flags-only c s h _ _ _ _ p0 (p .status % 2) (p .status / 2) (p .explicit) (p .outbound) (p .version % 2) (p .version / 2) l0 l1 (f .explicit) (f .outbound) l4 l5) in
-    let fs = flags6 c s h _ _ _ _ p0 (p .status % 2) (p .status / 2) (p .explicit) (p .outbound) (p .version % 2) (p .version / 2) l0 l1 (f .explicit) (f .outbound) l4 l5 in
+    rw e1 (flags-only c s h _ _ _ _ p0 (p .status % 2) (p .status / 2) (p .explicit) (p .outbound) (p .version % 2) (p .version / 2) l0 l1
+    (f .explicit) (f .outbound) l4 l5) in
+    let fs = flags6 c s h _ _ _ _ p0 (p .status % 2) (p .status / 2) (p .explicit) (p .outbound) (p .version % 2) (p .version / 2) l0 l1
+    (f .explicit) (f .outbound) l4 l5 in
     let q1 : Slot c1 s fs (getD c (idAt + s) 0) (getD c (markAt + s) 0) (getD c (retainAt + s) 0) =
-    rw e1 (flags-part c s h _ _ _ _ p0 (p .status % 2) (p .status / 2) (p .explicit) (p .outbound) (p .version % 2) (p .version / 2) l0 l1 (f .explicit) (f .outbound) l4 l5) in
+    rw e1 (flags-part c s h _ _ _ _ p0 (p .status % 2) (p .status / 2) (p .explicit) (p .outbound) (p .version % 2) (p .version / 2) l0 l1
+    (f .explicit) (f .outbound) l4 l5) in
     let o2 : PeerOnly c1 c2 s = rw e2 (columns-only c1 s h _ _ _ _ q1 x y (p .retain)) in
     let q2 : Slot c2 s fs x y (p .retain) = rw e2 (columns-part c1 s h _ _ _ _ q1 x y (p .retain)) in
     let o3 : PeerOnly c2 c3 s = rw e3 (row-only c2 s h (q2 .size) (p .backoff) n) in
     let q3 : Slot c3 s fs x y (p .retain) = rw e3 (row-part c2 s h (q2 .size) (p .backoff) n fs x y (p .retain) q2) in
     let r3 : endsOf c3 s ≡ p .backoff = rw e3 (row-ends c2 s h (q2 .size) (p .backoff) n (q2 .used)) in
-    peer-store c c3 s p (peer-then c c1 c3 s o1 (peer-then c1 c2 c3 s o2 o3)) (slot-peer c3 s fs x y (p .retain) (p .backoff) q3 r3 ∙ peer-back p f)
+    peer-store c c3 s p (peer-then c c1 c3 s o1 (peer-then c1 c2 c3 s o2 o3))
+    (slot-peer c3 s fs x y (p .retain) (p .backoff) q3 r3 ∙ peer-back p f)
 
 -- ---- one backoff end
 end-seen :
@@ -399,7 +415,8 @@ end-seen c s t v z h l u =
     tab-set 8 (λ k. liveAt c s (endsAt + s * 8 + k)) (λ k. liveAt d s (endsAt + s * 8 + k)) t v
     (live-in d s (endsAt + s * 8 + t) (rw w u) ∙ getD-set-same c (endsAt + s * 8 + t) v 0 (omega arith))
     (λ k j n. live-cong c d s (endsAt + s * 8 + k) w (o .rest (endsAt + s * 8 + k) (λ e. n (omega arith)))) in
-    λ i. peerRaw (b 0 (omega arith) i) (b 1 (omega arith) i) (b 2 (omega arith) i) (b 3 (omega arith) i) (b 4 (omega arith) i) (b 5 (omega arith) i) (x i) (y i) (r i) (e i)
+    λ i. peerRaw (b 0 (omega arith) i) (b 1 (omega arith) i) (b 2 (omega arith) i) (b 3 (omega arith) i) (b 4 (omega arith) i)
+    (b 5 (omega arith) i) (x i) (y i) (r i) (e i)
 
 pub end-written :
     (c : List ℕ) (s t v : ℕ) →
@@ -411,13 +428,15 @@ pub end-written :
 end-written c s t v z h l u =
     let d = set c (endsAt + s * 8 + t) v in
     let o = one-set c (endsAt + s * 8 + t) v in
-    peer-store c d s (setEnd (peerIn (stateOf c) s) t v) (end-only c d s h t l o) (end-seen c s t v z h l u ∙ ap (λ p. setEnd p t v) (peer-load c s h))
+    peer-store c d s (setEnd (peerIn (stateOf c) s) t v) (end-only c d s h t l o)
+    (end-seen c s t v z h l u ∙ ap (λ p. setEnd p t v) (peer-load c s h))
 
 -- ---- the ends of the functions
 pub length-flags : (c : List ℕ) (s a b e f g h : ℕ) → length (setFlags c s a b e f g h) ≡ length c
 unfolding setFlags
 length-flags c s a b e f g h =
-    length-bit (setBit (setBit (setBit (setBit (setBit c peersAt s a) (peersAt + 4) s b) (peersAt + 8) s e) (peersAt + 12) s f) (peersAt + 16) s g) (peersAt + 20) s h
+    length-bit (setBit (setBit (setBit (setBit (setBit c peersAt s a) (peersAt + 4) s b) (peersAt + 8) s e) (peersAt + 12) s f)
+    (peersAt + 16) s g) (peersAt + 20) s h
     ∙ length-bit (setBit (setBit (setBit (setBit c peersAt s a) (peersAt + 4) s b) (peersAt + 8) s e) (peersAt + 12) s f) (peersAt + 16) s g
     ∙ length-bit (setBit (setBit (setBit c peersAt s a) (peersAt + 4) s b) (peersAt + 8) s e) (peersAt + 12) s f
     ∙ length-bit (setBit (setBit c peersAt s a) (peersAt + 4) s b) (peersAt + 8) s e
@@ -445,7 +464,8 @@ flags-chain c s a b e f g h c1 c2 c3 c4 c5 c6 e1 e2 e3 e4 e5 e6 =
 pub length-columns : (c : List ℕ) (s i m r : ℕ) → length (setColumns c s i m r) ≡ length c
 unfolding setColumns
 length-columns c s i m r =
-    length-set (set (set c (idAt + s) i) (markAt + s) m) (retainAt + s) r ∙ length-set (set c (idAt + s) i) (markAt + s) m ∙ length-set c (idAt + s) i
+    length-set (set (set c (idAt + s) i) (markAt + s) m) (retainAt + s) r ∙ length-set (set c (idAt + s) i) (markAt + s) m
+    ∙ length-set c (idAt + s) i
 
 pub eight-ends :
     (c : List ℕ) (s x0 x1 x2 x3 x4 x5 x6 x7 : ℕ) →
@@ -492,8 +512,30 @@ pub peer-read :
     } ≡ peerIn (stateOf c) s
 unfolding peerAt peerRaw
 peer-read c s b0 b1 b2 b3 b4 b5 x y i m r e h ex ey e0 e1 e2 e3 e4 e5 ei em er ee =
-    let q : record { status = x; id = i % 4294967296; group = i / 4294967296; outbound = b3; explicit = b2; version = y; p5 = m % 4294967296; p7 = m / 4294967296; retain = r; backoff = e } ≡ peerRaw b0 b1 b2 b3 b4 b5 i m r e =
-    λ t. record { status = ex t; id = i % 4294967296; group = i / 4294967296; outbound = b3; explicit = b2; version = ey t; p5 = m % 4294967296; p7 = m / 4294967296; retain = r; backoff = e } in
+    let q : record {
+      status = x;
+      id = i % 4294967296;
+      group = i / 4294967296;
+      outbound = b3;
+      explicit = b2;
+      version = y;
+      p5 = m % 4294967296;
+      p7 = m / 4294967296;
+      retain = r;
+      backoff = e;
+    } ≡ peerRaw b0 b1 b2 b3 b4 b5 i m r e =
+    λ t. record {
+      status = ex t;
+      id = i % 4294967296;
+      group = i / 4294967296;
+      outbound = b3;
+      explicit = b2;
+      version = ey t;
+      p5 = m % 4294967296;
+      p7 = m / 4294967296;
+      retain = r;
+      backoff = e;
+    } in
     let w : peerRaw b0 b1 b2 b3 b4 b5 i m r e ≡ peerAt c s =
     λ t. peerRaw (e0 t) (e1 t) (e2 t) (e3 t) (e4 t) (e5 t) (ei t) (em t) (er t) (ee t) in
     q ∙ w ∙ peer-load c s h

@@ -1,20 +1,18 @@
 -- Laws of the state alone: what each reader sees after each store, sizes, and stores that change nothing.
 -- Assumes nothing.
-use Prim.Native.Nat.{ℕ, zero, suc, _+_, _*_, _<_, _≤_}
+use Prim.Native.Nat.{ℕ, zero, suc, _+_, _*_, _<_}
 use mathlib.Core.Path.{_≡_, refl, ap, _∙_}
 use mathlib.Core.Logic.{_≢_}
-use mathlib.Core.List.{List, [], _∷_, map}
-use lib.ListN.{length, getD, length-set, length-map}
+use mathlib.Core.List.{List}
+use lib.ListN.{length, getD, length-set}
 use lib.Seq.{getD-set-same, getD-set-other, set-getD}
-use native.Mathlib.Nat.{le-of-suc-le-suc}
-use native.Mathlib.Omega.{arith}
 use Rattle.index.proofs.Lists.{set-case}
 use Rattle.records.specs.declared.Peer.{Peer}
 use Rattle.records.specs.declared.TopicRecord.{TopicRecord}
 use Rattle.records.specs.Records.{State, noPeer, noTopic, joinedIn, codeIn, peerIn, topicIn, setClock, setJoined, setPeer, setTopic}
 use Rattle.records.specs.Records.{slotCount, topicCount, paramCount}
 use Rattle.layout.specs.Rows.{tab}
-use Rattle.layout.proofs.RowLaws.{length-tab, getD-tab}
+use Rattle.layout.proofs.RowLaws.{length-tab}
 use Rattle.layout.specs.View.{joinedAt, endsAt, placeCount, liveAt, endsOf, peerRaw, peerAt, topicAt, codeAt, table, stateOf, Sized}
 
 module _ (st : State) where
@@ -212,7 +210,8 @@ ends-length : (c : List ℕ) (s : ℕ) → length (peerAt c s .backoff) ≡ topi
 unfolding peerAt peerRaw endsOf
 ends-length c s = length-tab topicCount (λ t. liveAt c s (endsAt + s * 8 + t))
 
-tab-ends : (n : ℕ) (f : ℕ → Peer) (s : ℕ) → ((u : ℕ) → length (f u .backoff) ≡ topicCount) → length (getD (tab n f) s noPeer .backoff) ≡ topicCount
+tab-ends : (n : ℕ) (f : ℕ → Peer) (s : ℕ) → ((u : ℕ) → length (f u .backoff) ≡ topicCount) → length (getD (tab n f) s noPeer .backoff)
+    ≡ topicCount
 tab-ends zero f s h = refl
 tab-ends (suc n) f zero h = h zero
 tab-ends (suc n) f (suc s) h = tab-ends n (λ k. f (suc k)) s (λ k. h (suc k))

@@ -1,26 +1,27 @@
 -- What a table's state depends on, and what one store changes: one record, and no other region.
 -- Assumes nothing.
-use Prim.Native.Nat.{ℕ, zero, suc, _+_, _*_, _-_, _/_, _%_, _^_, _≤_, _<_}
-use mathlib.Core.Path.{_≡_, refl, sym, ap, ap₂, _∙_, subst}
+use Prim.Native.Nat.{ℕ, _+_, _*_, _-_, _/_, _%_, _≤_, _<_}
+use mathlib.Core.Path.{_≡_, refl, sym, _∙_}
 use mathlib.Core.Logic.{_≢_}
-use mathlib.Core.Bool.{Bool, true, false, cond}
-use mathlib.Core.List.{List, [], _∷_}
+use mathlib.Core.Bool.{cond}
+use mathlib.Core.List.{List}
 use native.Mathlib.Omega.{arith}
-use native.Mathlib.Nat.{mod-lt, zero-lt-suc}
-use lib.ListN.{length, getD, set, length-set}
-use lib.Seq.{getD-set-same, getD-set-other}
-use lib.Dec.{eqb, ltb}
-use borrow.Author.Tests.{lt-ltb, le-ltb, eq-eqb, ne-eqb}
-use Rattle.index.proofs.Flags.{by-order, cond-case}
+use lib.ListN.{length, getD, set}
+use lib.Seq.{getD-set-same, getD-set-other, set-getD}
+use lib.Dec.{ltb}
+use borrow.Author.Tests.{lt-ltb, le-ltb}
+use Rattle.index.proofs.Flags.{by-order}
 use Rattle.records.specs.declared.Setup.{Setup}
 use Rattle.records.specs.declared.Peer.{Peer}
 use Rattle.records.specs.declared.TopicRecord.{TopicRecord}
-use Rattle.records.specs.Records.{State, noPeer, noTopic, joinedIn, codeIn, peerIn, topicIn, setClock, setJoined, setPeer, setTopic}
-use Rattle.layout.specs.Rows.{tab}
+use Rattle.records.specs.Records.{noPeer, noTopic, joinedIn, codeIn, peerIn, topicIn, setClock, setJoined, setPeer, setTopic}
 use Rattle.layout.proofs.RowLaws.{length-tab, getD-tab, tab-same, tab-set}
 use Rattle.records.specs.Records.{slotCount, topicCount, paramCount}
-use Rattle.layout.specs.View.{placeCount, stride, joinedAt, usedAt, setupAt, setupOf, sheetAt, peersAt, idAt, markAt, retainAt, endsAt, topicsAt, memberAt, countersAt, p3bAt, graftAt, meshAt, cellCount, bitAt, usedOf, keep, liveAt, counterOf, graftOf, meshOf, subscribedWord, memberWord, topicRaw, topicAt, peerRaw, endsOf, peerAt, sheetPlace, codeAt, table, stateOf, setSetup, withBit, setBit, TopicFits, PeerFits}
-use Rattle.layout.proofs.BitLaws.{by-same, length-bit, bit-cong, bit-put-same, bit-put-other, bit-put-cell, place-put-other}
+use Rattle.layout.specs.View.{placeCount, clockAt, joinedAt, usedAt, setupAt, setupOf, sheetAt, peersAt, idAt, markAt, retainAt}
+use Rattle.layout.specs.View.{endsAt, topicsAt, p3bAt, cellCount, bitAt, usedOf, keep, liveAt, counterOf, graftOf, meshOf}
+use Rattle.layout.specs.View.{subscribedWord, memberWord, topicRaw, topicAt, peerRaw, endsOf, peerAt, sheetPlace, codeAt, table}
+use Rattle.layout.specs.View.{stateOf, setSetup}
+use Rattle.layout.proofs.BitLaws.{bit-cong}
 
 -- ---- tables by index
 
@@ -51,9 +52,9 @@ pub joined-load : (c : List ℕ) (t : ℕ) → t < 8 → getD c (joinedAt + t) 0
 unfolding stateOf joinedIn
 joined-load c t h = sym (getD-table 8 (λ t. getD c (joinedAt + t) 0) t 0 h)
 
-pub code-load : (c : List ℕ) (i : ℕ) → i < 147 → codeAt c i ≡ codeIn (stateOf c) i
+pub code-load : (c : List ℕ) (i : ℕ) → i < paramCount → codeAt c i ≡ codeIn (stateOf c) i
 unfolding stateOf codeIn
-code-load c i h = sym (getD-table 147 (codeAt c) i 0 h)
+code-load c i h = sym (getD-table paramCount (codeAt c) i 0 h)
 
 pub peer-load : (c : List ℕ) (s : ℕ) → s < slotCount → peerAt c s ≡ peerIn (stateOf c) s
 unfolding stateOf peerIn
@@ -77,10 +78,10 @@ pub live-out : (c : List ℕ) (s at : ℕ) → usedOf c ≤ s → liveAt c s at 
 unfolding liveAt
 live-out c s at h = rw (le-ltb s (usedOf c) h)
 
-pub place-low : (i : ℕ) → i < 147 → sheetPlace i < 147
+pub place-low : (i : ℕ) → i < paramCount → sheetPlace i < paramCount
 unfolding sheetPlace
 place-low i h =
-    by-order (cond (ltb i 19) i (19 + (i - 19) % 16 * 8 + (i - 19) / 16) < 147) i 19
+    by-order (cond (ltb i 19) i (19 + (i - 19) % 16 * 8 + (i - 19) / 16) < paramCount) i 19
     (λ l. rw (lt-ltb i 19 l) h)
     (λ l. rw (le-ltb i 19 l) (omega arith))
 
@@ -130,7 +131,8 @@ pub ends-cong :
     endsOf d s ≡ endsOf c s
 unfolding endsOf
 ends-cong c d s u e =
-    tab-same 8 (λ t. liveAt d s (endsAt + s * 8 + t)) (λ t. liveAt c s (endsAt + s * 8 + t)) (λ t h. live-cong c d s (endsAt + s * 8 + t) u (e t h))
+    tab-same 8 (λ t. liveAt d s (endsAt + s * 8 + t)) (λ t. liveAt c s (endsAt + s * 8 + t))
+    (λ t h. live-cong c d s (endsAt + s * 8 + t) u (e t h))
 
 pub peer-parts :
     (c d : List ℕ) (s : ℕ) →
@@ -147,7 +149,8 @@ peer-parts c d s u b ids marks retain ends =
     let y = live-cong c d s (markAt + s) u marks in
     let z = live-cong c d s (retainAt + s) u retain in
     let e = ends-cong c d s u ends in
-    λ i. peerRaw (b 0 (omega arith) i) (b 1 (omega arith) i) (b 2 (omega arith) i) (b 3 (omega arith) i) (b 4 (omega arith) i) (b 5 (omega arith) i) (x i) (y i) (z i) (e i)
+    λ i. peerRaw (b 0 (omega arith) i) (b 1 (omega arith) i) (b 2 (omega arith) i) (b 3 (omega arith) i) (b 4 (omega arith) i)
+    (b 5 (omega arith) i) (x i) (y i) (z i) (e i)
 
 pub peer-cong :
     (c d : List ℕ) (s : ℕ) →
@@ -179,12 +182,14 @@ module _ (c d : List ℕ) where
 
   pub front-same :
       ((x : ℕ) → x < peersAt → getD d x 0 ≡ getD c x 0) →
-      (stateOf d .clock ≡ stateOf c .clock) × (stateOf d .joined ≡ stateOf c .joined) × (stateOf d .codes ≡ stateOf c .codes) × (stateOf d .setup ≡ stateOf c .setup)
+      (stateOf d .clock ≡ stateOf c .clock) × (stateOf d .joined ≡ stateOf c .joined) × (stateOf d .codes ≡ stateOf c .codes)
+      × (stateOf d .setup ≡ stateOf c .setup)
   unfolding stateOf
   front-same e = (
     e 0 (omega arith),
     table-same 8 (λ t. getD d (joinedAt + t) 0) (λ t. getD c (joinedAt + t) 0) (λ t h. e (joinedAt + t) (omega arith)),
-    table-same 147 (codeAt d) (codeAt c) (λ i h. code-cong c d i (e (sheetAt + sheetPlace i) (let l = place-low i h in omega arith))),
+    table-same paramCount (codeAt d) (codeAt c)
+        (λ i h. code-cong c d i (e (sheetAt + sheetPlace i) (let l = place-low i h in omega arith))),
     setup-cong c d (e setupAt (omega arith)),
   )
 
@@ -242,12 +247,15 @@ peer-store c d s p o e =
 pub clock-store : (c : List ℕ) (n : ℕ) → length c ≡ cellCount → stateOf (set c 0 n) ≡ setClock (stateOf c) n
 unfolding setClock stateOf
 clock-store c n z =
-    let h = head-same c (set c 0 n) (getD-set-other c 0 usedAt n 0 (λ e. omega arith)) (λ x l. getD-set-other c 0 x n 0 (λ e. omega arith)) in
+    let h = head-same c (set c 0 n) (getD-set-other c 0 usedAt n 0 (λ e. omega arith))
+    (λ x l. getD-set-other c 0 x n 0 (λ e. omega arith)) in
     let a : getD (set c 0 n) 0 0 ≡ n = getD-set-same c 0 n 0 (omega arith) in
     let j : table 8 (λ t. getD (set c 0 n) (joinedAt + t) 0) ≡ table 8 (λ t. getD c (joinedAt + t) 0) =
-    table-same 8 (λ t. getD (set c 0 n) (joinedAt + t) 0) (λ t. getD c (joinedAt + t) 0) (λ t l. getD-set-other c 0 (joinedAt + t) n 0 (λ e. omega arith)) in
-    let k : table 147 (codeAt (set c 0 n)) ≡ table 147 (codeAt c) =
-    table-same 147 (codeAt (set c 0 n)) (codeAt c) (λ i l. code-cong c (set c 0 n) i (getD-set-other c 0 (sheetAt + sheetPlace i) n 0 (λ e. omega arith))) in
+    table-same 8 (λ t. getD (set c 0 n) (joinedAt + t) 0) (λ t. getD c (joinedAt + t) 0)
+    (λ t l. getD-set-other c 0 (joinedAt + t) n 0 (λ e. omega arith)) in
+    let k : table paramCount (codeAt (set c 0 n)) ≡ table paramCount (codeAt c) =
+    table-same paramCount (codeAt (set c 0 n)) (codeAt c)
+    (λ i l. code-cong c (set c 0 n) i (getD-set-other c 0 (sheetAt + sheetPlace i) n 0 (λ e. omega arith))) in
     let u = setup-cong c (set c 0 n) (getD-set-other c 0 setupAt n 0 (λ e. omega arith)) in
     λ i. record { clock = a i; joined = j i; codes = k i; setup = u i; peers = h .0 i; topics = h .1 i }
 
@@ -255,15 +263,23 @@ pub joined-store : (c : List ℕ) (t b : ℕ) → length c ≡ cellCount → t <
 unfolding setJoined stateOf
 joined-store c t b z l =
     let d = set c (joinedAt + t) b in
-    let h = head-same c d (getD-set-other c (joinedAt + t) usedAt b 0 (λ e. omega arith)) (λ x m. getD-set-other c (joinedAt + t) x b 0 (λ e. omega arith)) in
+    let h = head-same c d (getD-set-other c (joinedAt + t) usedAt b 0 (λ e. omega arith))
+    (λ x m. getD-set-other c (joinedAt + t) x b 0 (λ e. omega arith)) in
     let a : getD d 0 0 ≡ getD c 0 0 = getD-set-other c (joinedAt + t) 0 b 0 (λ e. omega arith) in
     let j : table 8 (λ u. getD d (joinedAt + u) 0) ≡ set (table 8 (λ u. getD c (joinedAt + u) 0)) t b =
-    table-set 8 (λ u. getD c (joinedAt + u) 0) (λ u. getD d (joinedAt + u) 0) t b (getD-set-same c (joinedAt + t) b 0 (omega arith)) (λ u m n.
+    table-set 8 (λ u. getD c (joinedAt + u) 0) (λ u. getD d (joinedAt + u) 0) t b (getD-set-same c (joinedAt + t) b 0 (omega arith))
+    (λ u m n.
     getD-set-other c (joinedAt + t) (joinedAt + u) b 0 (λ e. n (omega arith))) in
-    let k : table 147 (codeAt d) ≡ table 147 (codeAt c) =
-    table-same 147 (codeAt d) (codeAt c) (λ i m. code-cong c d i (getD-set-other c (joinedAt + t) (sheetAt + sheetPlace i) b 0 (λ e. omega arith))) in
+    let k : table paramCount (codeAt d) ≡ table paramCount (codeAt c) =
+    table-same paramCount (codeAt d) (codeAt c)
+    (λ i m. code-cong c d i (getD-set-other c (joinedAt + t) (sheetAt + sheetPlace i) b 0 (λ e. omega arith))) in
     let u = setup-cong c d (getD-set-other c (joinedAt + t) setupAt b 0 (λ e. omega arith)) in
     λ i. record { clock = a i; joined = j i; codes = k i; setup = u i; peers = h .0 i; topics = h .1 i }
+
+-- a clock that stands
+pub clock-again : (c : List ℕ) → set c clockAt (stateOf c .clock) ≡ c
+unfolding stateOf
+clock-again c = set-getD c clockAt 0
 
 -- the set-up
 pub setup-load : (c : List ℕ) → record { edition = getD c setupAt 0 } ≡ stateOf c .setup
@@ -275,12 +291,15 @@ unfolding setSetup stateOf setupOf
 setup-store c u z =
     let b = u .edition in
     let d = set c setupAt (u .edition) in
-    let h = head-same c d (getD-set-other c setupAt usedAt b 0 (λ e. omega arith)) (λ x m. getD-set-other c setupAt x b 0 (λ e. omega arith)) in
+    let h = head-same c d (getD-set-other c setupAt usedAt b 0 (λ e. omega arith))
+    (λ x m. getD-set-other c setupAt x b 0 (λ e. omega arith)) in
     let a : getD d 0 0 ≡ getD c 0 0 = getD-set-other c setupAt 0 b 0 (λ e. omega arith) in
     let j : table topicCount (λ t. getD d (joinedAt + t) 0) ≡ table topicCount (λ t. getD c (joinedAt + t) 0) =
-    table-same topicCount (λ t. getD d (joinedAt + t) 0) (λ t. getD c (joinedAt + t) 0) (λ t l. getD-set-other c setupAt (joinedAt + t) b 0 (λ e. omega arith)) in
+    table-same topicCount (λ t. getD d (joinedAt + t) 0) (λ t. getD c (joinedAt + t) 0)
+    (λ t l. getD-set-other c setupAt (joinedAt + t) b 0 (λ e. omega arith)) in
     let k : table paramCount (codeAt d) ≡ table paramCount (codeAt c) =
-    table-same paramCount (codeAt d) (codeAt c) (λ i m. code-cong c d i (getD-set-other c setupAt (sheetAt + sheetPlace i) b 0 (λ e. omega arith))) in
+    table-same paramCount (codeAt d) (codeAt c)
+    (λ i m. code-cong c d i (getD-set-other c setupAt (sheetAt + sheetPlace i) b 0 (λ e. omega arith))) in
     let e : getD d setupAt 0 ≡ u .edition = getD-set-same c setupAt (u .edition) 0 (omega arith) in
     λ i. record { clock = a i; joined = j i; codes = k i; setup = record { edition = e i }; peers = h .0 i; topics = h .1 i }
 

@@ -3,10 +3,10 @@
 -- No state reads the cells of a column or row from the mark on, the times of a non-member, the cells between two columns, and those that
 -- are kept for later orders.
 use Prim.Native.Nat.{ℕ, _+_, _*_, _-_, _/_, _%_, _^_, _≤_, _<_}
-use mathlib.Core.Bool.{Bool, true, false, cond, _&&_, _||_}
+use mathlib.Core.Bool.{Bool, cond, _&&_, _||_}
 use mathlib.Core.Path.{_≡_}
 use mathlib.Core.Logic.{_≢_}
-use mathlib.Core.List.{List, [], _∷_}
+use mathlib.Core.List.{List}
 use lib.ListN.{length, getD, set, replicate}
 use lib.Dec.{eqb, leb, ltb}
 use lib.Bits.{bitAnd, bitOr}
@@ -29,7 +29,10 @@ wordCells = 4
 abbrev pub stride : ℕ
 stride = 264
 
--- the head: the clock (cell 0), the joined flags, the mark, the set-up; the rest is kept for the set-up numbers of later orders
+-- the head: the clock, the joined flags, the mark, the set-up; the rest is kept for the set-up numbers of later orders
+abbrev pub clockAt : ℕ
+clockAt = 0
+
 abbrev pub joinedAt : ℕ
 joinedAt = 1
 
@@ -210,7 +213,7 @@ setupOf c = record { edition = getD c setupAt 0 }
 unfoldable pub stateOf : List ℕ → State
 stateOf c =
     record {
-      clock = getD c 0 0;
+      clock = getD c clockAt 0;
       joined = table topicCount (λ t. getD c (joinedAt + t) 0);
       codes = table paramCount (codeAt c);
       setup = setupOf c;

@@ -2,13 +2,15 @@
 // and in specs/View.antt. Everything above goes by the contracts, which speak of the state that the table holds.
 ghost use mathlib.Core.Path.{_≡_};
 ghost use Prim.Native.Nat.{ℕ, _+_, _*_, _/_, _%_, _^_, _≤_, _<_};
-ghost use lib.ListN.{length};
+ghost use lib.ListN.{length, set};
 ghost use Rattle.varint.specs.Codes.{magnitude};
 ghost use Rattle.records.specs.Records.{joinedIn, codeIn, peerIn, topicIn, place, setClock, setJoined, setPeer, setTopic, slotCount};
 ghost use Rattle.records.specs.Records.{topicCount, paramCount};
 ghost use Rattle.layout.specs.Rows.{put};
-ghost use Rattle.layout.specs.View.{placeCount, cellCount, usedOf, keep, bitAt, liveAt, withBit, setBit, topicRaw, endsOf, setFlags};
-ghost use Rattle.layout.specs.View.{setColumns, sheetPlace, fieldOf, isBelow, below, codeFor, stateOf, setEnd, setCode, setCodes, setSetup, zeroState};
+ghost use Rattle.layout.specs.View.{placeCount, clockAt, cellCount, usedOf, keep, bitAt, liveAt, withBit, setBit, topicRaw, endsOf};
+ghost use Rattle.layout.specs.View.{setFlags};
+ghost use Rattle.layout.specs.View.{setColumns, sheetPlace, fieldOf, isBelow, below, codeFor, stateOf, setEnd, setCode, setCodes};
+ghost use Rattle.layout.specs.View.{setSetup, zeroState};
 ghost use Rattle.layout.specs.View.{withSubscription, withoutMember, withMember, TopicFits, PeerFits, CodesFit, ZeroUpTo, Idle};
 use records::Peer;
 use records::SLOTS;
@@ -25,7 +27,9 @@ pub const WORDS: usize = SLOTS / 64;
 // How far apart two columns are: not a power of two, so that they fall into different sets of a cache.
 const STRIDE: usize = 264;
 
-// Where the regions begin, one after the other: the head, of which the clock is cell 0, the parameters, the peers, the topics.
+// Where the regions begin, one after the other: the head, the parameters, the peers, the topics.
+const CLOCK_AT: usize = 0;
+
 const JOINED_AT: usize = 1;
 
 const USED_AT: usize = JOINED_AT + TOPICS;
@@ -182,14 +186,16 @@ pub fn load_clock(cells: &[u64]) -> u64
     requires { ⌜ length (now cells) ≡ cellCount ⌝ }
     ensures { λ r. ⌜ r ≡ stateOf (now (cells .entry)) .clock ⌝ }
 {
-    cells[0]
+    cells[CLOCK_AT]
 }
 
+// No other cell changes.
 pub fn store_clock(cells: &mut [u64], time: u64)
     requires { ⌜ length (now cells) ≡ cellCount ⌝ }
-    ensures { λ r. ⌜ stateOf (now (cells .exit)) ≡ setClock (stateOf (now (cells .entry))) time ⌝ }
+    ensures { λ r. ⌜ (stateOf (now (cells .exit)) ≡ setClock (stateOf (now (cells .entry))) time)
+        × (now (cells .exit) ≡ set (now (cells .entry)) clockAt time) ⌝ }
 {
-    cells[0] = time;
+    cells[CLOCK_AT] = time;
 }
 
 // 1 if topic `t` is joined, else 0.
@@ -425,7 +431,10 @@ pub fn load_peer(cells: &[u64], slot: usize) -> Peer
     let marks = live(cells, slot, MARK_AT + slot);
     let e = ends(cells, slot);
     Peer {
-        status: two(bit(cells, CONNECTED_AT, slot), bit(cells, RETAINED_AT, slot)),
+        status: two(
+            bit(cells, CONNECTED_AT, slot),
+            bit(cells, RETAINED_AT, slot),
+        ),
         id: ids % HALF,
         group: ids / HALF,
         outbound: bit(cells, OUTBOUND_AT, slot),
@@ -573,7 +582,10 @@ pub fn load_status(cells: &[u64], slot: usize) -> u64
     requires { ⌜ (length (now cells) ≡ cellCount) × (slot < slotCount) ⌝ }
     ensures { λ r. ⌜ r ≡ peerIn (stateOf (now (cells .entry))) slot .status ⌝ }
 {
-    two(bit(cells, CONNECTED_AT, slot), bit(cells, RETAINED_AT, slot))
+    two(
+        bit(cells, CONNECTED_AT, slot),
+        bit(cells, RETAINED_AT, slot),
+    )
 }
 
 pub fn load_id(cells: &[u64], slot: usize) -> u64
@@ -601,14 +613,16 @@ pub fn load_member(cells: &[u64], k: usize) -> u64
 
 pub fn load_members(cells: &[u64], t: usize) -> [u64; WORDS]
     requires { ⌜ (length (now cells) ≡ cellCount) × (t < topicCount) ⌝ }
-    ensures { λ r. ⌜ (length r ≡ 4) × ((s : ℕ) → s < slotCount → bitAt r 0 s ≡ topicIn (stateOf (now (cells .entry))) (place s t) .member) ⌝ }
+    ensures { λ r. ⌜ (length r ≡ 4)
+        × ((s : ℕ) → s < slotCount → bitAt r 0 s ≡ topicIn (stateOf (now (cells .entry))) (place s t) .member) ⌝ }
 {
     word(cells, MEMBER_AT + t * WORDS)
 }
 
 pub fn load_subscribed(cells: &[u64], t: usize) -> [u64; WORDS]
     requires { ⌜ (length (now cells) ≡ cellCount) × (t < topicCount) ⌝ }
-    ensures { λ r. ⌜ (length r ≡ 4) × ((s : ℕ) → s < slotCount → bitAt r 0 s ≡ topicIn (stateOf (now (cells .entry))) (place s t) .subscribed) ⌝ }
+    ensures { λ r. ⌜ (length r ≡ 4)
+        × ((s : ℕ) → s < slotCount → bitAt r 0 s ≡ topicIn (stateOf (now (cells .entry))) (place s t) .subscribed) ⌝ }
 {
     word(cells, SUBSCRIBED_AT + t * WORDS)
 }

@@ -1,6 +1,7 @@
 // Connect, disconnect, setting P5, and the score: four of 01's calls. Each takes the lent table, a time, its arguments as wide numbers and
 // a lent action list, asks nothing of its caller, and promises the rules' reply (crate rules).
 ghost use mathlib.Core.Path.{_≡_};
+ghost use Prim.Native.Nat.{_≤_};
 ghost use lib.Dec.{leb};
 ghost use lib.IntN.{natAbs};
 ghost use Rattle.layout.specs.View.{stateOf};
@@ -8,9 +9,10 @@ ghost use Rattle.rules.specs.Calls.{connect as Calls·connect, disconnect as Ca
 ghost use Rattle.rules.specs.Calls.{rate as Calls·rate, score as Calls·score};
 ghost use Rattle.rules.specs.Step.{effect, connectIn, connectAt, connectReply};
 ghost use Rattle.effects.specs.Effects.{reclaimed};
-ghost use Rattle.effects.specs.Lent.{AtSlot};
+ghost use Rattle.effects.specs.Lent.{AtSlot, ConnectFits};
 ghost use Rattle.rules.specs.Promise.{Leaves, Follows};
 ghost use Rattle.gate.specs.Ready.{Ready};
+ghost use Rattle.peers.specs.Tested.{NumbersFit};
 use effects::connections::connect_slot;
 use effects::connections::reclaim;
 use effects::connections::retain_slot;
@@ -40,7 +42,7 @@ fn connect_at(
     version: u64,
     slot: usize,
 ) -> Answer
-    requires { ⌜ AtSlot (now table) slot ⌝ }
+    requires { ⌜ AtSlot (now table) slot × ConnectFits id group flags version ⌝ }
     ensures { λ r. ⌜ Leaves (connectAt (stateOf (now (table .entry))) time id group flags version slot) r
         (now (table .entry)) (now (table .exit)) ⌝ }
 {
@@ -57,7 +59,7 @@ fn connect_known(
     flags: u64,
     version: u64,
 ) -> Answer
-    requires { ⌜ Ready (now table) time ⌝ }
+    requires { ⌜ Ready (now table) time × ConnectFits id group flags version ⌝ }
     ensures { λ r. ⌜ Leaves
         (connectIn (stateOf (now (table .entry))) (reclaimed (stateOf (now (table .entry))) time) time id group flags
         (Named.Version version) Found.Nothing) r
@@ -82,7 +84,7 @@ fn connect_from(
     flags: u64,
     name: &[u8],
 ) -> Answer
-    requires { ⌜ Ready (now table) time ⌝ }
+    requires { ⌜ Ready (now table) time × NumbersFit id group flags ⌝ }
     ensures { λ r. ⌜ Leaves (connectReply (stateOf (now (table .entry))) time id group flags (now (name .entry))) r
         (now (table .entry)) (now (table .exit)) ⌝ }
 {
@@ -151,7 +153,7 @@ fn p5_ok(p5: i64) -> bool
 }
 
 fn rate_from(table: &mut [u64], time: u64, id: u64, p5: i64) -> Answer
-    requires { ⌜ Ready (now table) time ⌝ }
+    requires { ⌜ Ready (now table) time × (natAbs p5 ≤ 1000000000) ⌝ }
     ensures { λ r. ⌜ Leaves (effect (stateOf (now (table .entry))) (Calls·rate time id p5)) r
         (now (table .entry)) (now (table .exit)) ⌝ }
 {

@@ -1,4 +1,4 @@
 pub mod RowLaws
 pub mod ViewLaws
+pub mod SizeLaws
 pub mod Whole
-pub mod StateLaws

@@ -13,13 +13,18 @@ use Rattle.records.specs.declared.Peer.{Peer}
 use Rattle.records.specs.declared.TopicRecord.{TopicRecord}
 use Rattle.records.specs.Records.{noTopic, joinedIn, codeIn, peerIn, topicIn, setClock, setJoined, setPeer, setTopic, slotCount, topicCount}
 use Rattle.records.specs.Records.{paramCount}
-use Rattle.layout.specs.Rows.{tab, span, put, rows}
-use Rattle.layout.specs.View.{joinedAt, codesAt, setupAt, setupCells, peersAt, peerCells, topicsAt, topicCells, placeCount, cellCount}
-use Rattle.layout.specs.View.{setupOf, peerOf, topicOf, peerFrom, topicFrom, cellsOfPeer, cellsOfTopic, stateOf, setEnd, setCodes}
+use Rattle.layout.specs.Rows.{tab, put}
+use Rattle.rows.specs.Rows.{span, rows}
+use Rattle.layout.specs.View.{placeCount}
+use Rattle.rows.specs.View.{joinedAt, codesAt, setupAt, setupCells, peersAt, peerCells, topicsAt, topicCells, rowsCount}
+use Rattle.layout.specs.View.{setEnd, setCodes}
+use Rattle.rows.specs.View.{setupOf, peerOf, topicOf, peerFrom, topicFrom, cellsOfPeer, cellsOfTopic, stateOfRows}
 use Rattle.layout.specs.View.{setSetup, zeroState}
-use Rattle.layout.proofs.RowLaws.{tab-getD, getD-rows, stride, rows-put-same, rows-put-cell, rows-put-before, rows-put-after}
-use Rattle.layout.proofs.RowLaws.{span-put-before, span-put-after, getD-put-before, getD-put-in, put-one, span-put-one}
-use Rattle.layout.proofs.RowLaws.{span-put-same, span-part, getD-span, zero-span, zero-rows}
+use Rattle.layout.proofs.RowLaws.{tab-getD}
+use Rattle.rows.proofs.RowLaws.{getD-rows, stride, rows-put-same, rows-put-cell, rows-put-before, rows-put-after}
+use Rattle.layout.proofs.RowLaws.{getD-put-before, getD-put-in}
+use Rattle.rows.proofs.RowLaws.{span-put-before, span-put-after, put-one, span-put-one}
+use Rattle.rows.proofs.RowLaws.{span-put-same, span-part, getD-span, zero-span, zero-rows}
 
 pub map-set : {A B : Type 0} (f : A → B) (l : List A) (i : ℕ) (v : A) → map f (set l i v) ≡ set (map f l) i (f v)
 map-set f [] i v = refl
@@ -28,30 +33,30 @@ map-set f (x ∷ xs) (suc i) v = ap (λ r. f x ∷ r) (map-set f xs i v)
 
 -- ---- a load
 
-pub clock-load : (cells : List ℕ) → getD cells 0 0 ≡ stateOf cells .clock
-unfolding stateOf
+pub clock-load : (cells : List ℕ) → getD cells 0 0 ≡ stateOfRows cells .clock
+unfolding stateOfRows
 clock-load cells = refl
 
-pub joined-load : (cells : List ℕ) (t : ℕ) → t < topicCount → getD cells (joinedAt + t) 0 ≡ joinedIn (stateOf cells) t
-unfolding stateOf joinedIn
+pub joined-load : (cells : List ℕ) (t : ℕ) → t < topicCount → getD cells (joinedAt + t) 0 ≡ joinedIn (stateOfRows cells) t
+unfolding stateOfRows joinedIn
 joined-load cells t h = sym (getD-span cells joinedAt topicCount t h)
 
-pub code-load : (cells : List ℕ) (i : ℕ) → i < paramCount → getD cells (codesAt + i) 0 ≡ codeIn (stateOf cells) i
-unfolding stateOf codeIn
+pub code-load : (cells : List ℕ) (i : ℕ) → i < paramCount → getD cells (codesAt + i) 0 ≡ codeIn (stateOfRows cells) i
+unfolding stateOfRows codeIn
 code-load cells i h = sym (getD-span cells codesAt paramCount i h)
 
 -- the cells of a slot
-row-of : (cells : List ℕ) (s : ℕ) → s < slotCount → peerOf (span cells (peersAt + s * peerCells) peerCells) ≡ peerIn (stateOf cells) s
-unfolding peerIn stateOf peerOf
+row-of : (cells : List ℕ) (s : ℕ) → s < slotCount → peerOf (span cells (peersAt + s * peerCells) peerCells) ≡ peerIn (stateOfRows cells) s
+unfolding peerIn stateOfRows peerOf
 row-of cells s h =
     sym (List·getD-map peerOf (rows cells peersAt peerCells slotCount) s [] ∙ ap peerOf (getD-rows cells peersAt peerCells slotCount s h))
 
-pub peer-load : (cells : List ℕ) (s : ℕ) → s < slotCount → peerFrom cells (peersAt + s * peerCells) ≡ peerIn (stateOf cells) s
+pub peer-load : (cells : List ℕ) (s : ℕ) → s < slotCount → peerFrom cells (peersAt + s * peerCells) ≡ peerIn (stateOfRows cells) s
 unfolding peerOf span
 peer-load cells s h = sym (rw add-zero refl) ∙ row-of cells s h
 
-pub topic-load : (cells : List ℕ) (k : ℕ) → k < placeCount → topicFrom cells (topicsAt + k * topicCells) ≡ topicIn (stateOf cells) k
-unfolding topicIn stateOf topicOf span
+pub topic-load : (cells : List ℕ) (k : ℕ) → k < placeCount → topicFrom cells (topicsAt + k * topicCells) ≡ topicIn (stateOfRows cells) k
+unfolding topicIn stateOfRows topicOf span
 topic-load cells k h =
     let e : getD (map topicOf (rows cells topicsAt topicCells placeCount)) k noTopic
     ≡ topicOf (span cells (topicsAt + k * topicCells) topicCells) =
@@ -59,12 +64,12 @@ topic-load cells k h =
     ∙ ap topicOf (getD-rows cells topicsAt topicCells placeCount k h) in
     sym (e ∙ rw add-zero)
 
-pub setup-load : (cells : List ℕ) → record { edition = getD cells setupAt 0 } ≡ stateOf cells .setup
-unfolding stateOf setupOf span
+pub setup-load : (cells : List ℕ) → record { edition = getD cells setupAt 0 } ≡ stateOfRows cells .setup
+unfolding stateOfRows setupOf span
 setup-load cells = refl
 
-pub codes-load : (cells : List ℕ) → length cells ≡ cellCount → take paramCount (drop codesAt cells) ≡ stateOf cells .codes
-unfolding stateOf
+pub codes-load : (cells : List ℕ) → length cells ≡ rowsCount → take paramCount (drop codesAt cells) ≡ stateOfRows cells .codes
+unfolding stateOfRows
 codes-load cells e = span-part cells codesAt paramCount (omega arith)
 
 -- ---- a record, to cells and back
@@ -121,12 +126,12 @@ end-of-row cells b (suc (suc (suc (suc (suc (suc (suc (suc t)))))))) end h = abs
 
 -- ---- a store
 
-module _ (cells : List ℕ) (size : length cells ≡ cellCount) where
-  pub clock-store : (n : ℕ) → stateOf (set cells 0 n) ≡ setClock (stateOf cells) n
-  unfolding stateOf setClock
+module _ (cells : List ℕ) (size : length cells ≡ rowsCount) where
+  pub clock-store : (n : ℕ) → stateOfRows (set cells 0 n) ≡ setClock (stateOfRows cells) n
+  unfolding stateOfRows setClock
   clock-store n =
       let f : 0 + length (n ∷ []) ≤ length cells = omega arith in
-      ap stateOf (sym (put-one cells 0 n (omega arith)))
+      ap stateOfRows (sym (put-one cells 0 n (omega arith)))
       ∙ λ i. record {
         clock = getD-put-in cells 0 (n ∷ []) f 0 (omega arith) i;
         joined = span-put-after cells 0 (n ∷ []) f joinedAt topicCount (omega arith) i;
@@ -136,11 +141,11 @@ module _ (cells : List ℕ) (size : length cells ≡ cellCount) where
         topics = ap (map topicOf) (rows-put-after cells topicsAt topicCells placeCount 0 (n ∷ []) f (omega arith)) i;
       }
 
-  pub joined-store : (t b : ℕ) → t < topicCount → stateOf (set cells (joinedAt + t) b) ≡ setJoined (stateOf cells) t b
-  unfolding stateOf setJoined
+  pub joined-store : (t b : ℕ) → t < topicCount → stateOfRows (set cells (joinedAt + t) b) ≡ setJoined (stateOfRows cells) t b
+  unfolding stateOfRows setJoined
   joined-store t b h =
       let f : (joinedAt + t) + length (b ∷ []) ≤ length cells = omega arith in
-      ap stateOf (sym (put-one cells (joinedAt + t) b (omega arith)))
+      ap stateOfRows (sym (put-one cells (joinedAt + t) b (omega arith)))
       ∙ λ i. record {
         clock = getD-put-before cells (joinedAt + t) (b ∷ []) f 0 (omega arith) i;
         joined = span-put-one cells joinedAt topicCount t b h (omega arith) i;
@@ -151,8 +156,8 @@ module _ (cells : List ℕ) (size : length cells ≡ cellCount) where
       }
 
   pub codes-store :
-      (vs : List ℕ) → length vs ≡ paramCount → stateOf (put cells codesAt vs) ≡ setCodes (stateOf cells) vs
-  unfolding stateOf setCodes
+      (vs : List ℕ) → length vs ≡ paramCount → stateOfRows (put cells codesAt vs) ≡ setCodes (stateOfRows cells) vs
+  unfolding stateOfRows setCodes
   codes-store vs e =
       let f : codesAt + length vs ≤ length cells = omega arith in
       λ i. record {
@@ -164,12 +169,12 @@ module _ (cells : List ℕ) (size : length cells ≡ cellCount) where
         topics = ap (map topicOf) (rows-put-after cells topicsAt topicCells placeCount codesAt vs f (omega arith)) i;
       }
 
-  pub setup-store : (u : Setup) → stateOf (set cells setupAt (u .edition)) ≡ setSetup (stateOf cells) u
-  unfolding stateOf setSetup setupOf
+  pub setup-store : (u : Setup) → stateOfRows (set cells setupAt (u .edition)) ≡ setSetup (stateOfRows cells) u
+  unfolding stateOfRows setSetup setupOf
   setup-store u =
       let n = u .edition in
       let f : setupAt + length (n ∷ []) ≤ length cells = omega arith in
-      ap stateOf (sym (put-one cells setupAt n (omega arith)))
+      ap stateOfRows (sym (put-one cells setupAt n (omega arith)))
       ∙ λ i. record {
         clock = getD-put-before cells setupAt (n ∷ []) f 0 (omega arith) i;
         joined = span-put-before cells setupAt (n ∷ []) f joinedAt topicCount (omega arith) i;
@@ -183,8 +188,8 @@ module _ (cells : List ℕ) (size : length cells ≡ cellCount) where
       (s : ℕ) (p : Peer) →
       s < slotCount →
       length (p .backoff) ≡ 8 →
-      stateOf (put cells (peersAt + s * peerCells) (cellsOfPeer p)) ≡ setPeer (stateOf cells) s p
-  unfolding stateOf setPeer
+      stateOfRows (put cells (peersAt + s * peerCells) (cellsOfPeer p)) ≡ setPeer (stateOfRows cells) s p
+  unfolding stateOfRows setPeer
   peer-store s p h e =
       let n : length (cellsOfPeer p) ≡ peerCells = peer-count p in
       let f : (peersAt + s * peerCells) + length (cellsOfPeer p) ≤ length cells = omega arith in
@@ -205,14 +210,14 @@ module _ (cells : List ℕ) (size : length cells ≡ cellCount) where
       (s t end : ℕ) →
       s < slotCount →
       t < topicCount →
-      stateOf (set cells (peersAt + s * peerCells + (9 + t)) end) ≡ setPeer (stateOf cells) s (setEnd (peerIn (stateOf cells) s) t end)
-  unfolding stateOf setPeer peerIn
+      stateOfRows (set cells (peersAt + s * peerCells + (9 + t)) end) ≡ setPeer (stateOfRows cells) s (setEnd (peerIn (stateOfRows cells) s) t end)
+  unfolding stateOfRows setPeer peerIn
   end-store s t end h l =
       let b : s * peerCells + peerCells ≤ slotCount * peerCells = stride s slotCount peerCells h in
       let at = peersAt + s * peerCells + (9 + t) in
       let f : at + length (end ∷ []) ≤ length cells = omega arith in
       let row = span cells (peersAt + s * peerCells) peerCells in
-      ap stateOf (sym (put-one cells at end (omega arith)))
+      ap stateOfRows (sym (put-one cells at end (omega arith)))
       ∙ λ i. record {
         clock = getD-put-before cells at (end ∷ []) f 0 (omega arith) i;
         joined = span-put-before cells at (end ∷ []) f joinedAt topicCount (omega arith) i;
@@ -229,8 +234,8 @@ module _ (cells : List ℕ) (size : length cells ≡ cellCount) where
   pub topic-store :
       (k : ℕ) (t : TopicRecord) →
       k < placeCount →
-      stateOf (put cells (topicsAt + k * topicCells) (cellsOfTopic t)) ≡ setTopic (stateOf cells) k t
-  unfolding stateOf setTopic
+      stateOfRows (put cells (topicsAt + k * topicCells) (cellsOfTopic t)) ≡ setTopic (stateOfRows cells) k t
+  unfolding stateOfRows setTopic
   topic-store k t h =
       let n : length (cellsOfTopic t) ≡ topicCells = topic-count t in
       let f : (topicsAt + k * topicCells) + length (cellsOfTopic t) ≤ length cells = omega arith in
@@ -249,8 +254,8 @@ module _ (cells : List ℕ) (size : length cells ≡ cellCount) where
 
 -- ---- a table of zeros
 
-pub zero-state : (cells : List ℕ) → ((k : ℕ) → getD cells k 0 ≡ 0) → stateOf cells ≡ zeroState
-unfolding stateOf zeroState setupOf peerOf topicOf span
+pub zero-state : (cells : List ℕ) → ((k : ℕ) → getD cells k 0 ≡ 0) → stateOfRows cells ≡ zeroState
+unfolding stateOfRows zeroState setupOf peerOf topicOf span
 zero-state cells z =
     λ i. record {
       clock = z 0 i;
@@ -280,7 +285,7 @@ zero-more cells k b z j h =
     rw e (getD-set-same cells k 0 0 b))
 
 pub zero-all :
-    (cells : List ℕ) (k : ℕ) → length cells ≤ k → ((j : ℕ) → j < k → getD cells j 0 ≡ 0) → stateOf cells ≡ zeroState
+    (cells : List ℕ) (k : ℕ) → length cells ≤ k → ((j : ℕ) → j < k → getD cells j 0 ≡ 0) → stateOfRows cells ≡ zeroState
 zero-all cells k b z =
     zero-state cells (λ j.
     by-order (getD cells j 0 ≡ 0) j k (λ (l : j < k). z j l) (λ (l : k ≤ j). List·getD-eq-default cells 0 {n = j} (omega arith)))

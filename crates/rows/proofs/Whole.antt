@@ -9,11 +9,15 @@ use lib.ListN.{length, getD, length-append}
 use Rattle.records.specs.declared.Peer.{Peer}
 use Rattle.records.specs.declared.TopicRecord.{TopicRecord}
 use Rattle.records.specs.Records.{State, noPeer, peerIn, slotCount, topicCount, paramCount}
-use Rattle.layout.specs.Rows.{tab, span, rows, joins}
-use Rattle.layout.specs.View.{joinedAt, codesAt, setupAt, setupCells, peersAt, peerCells, topicsAt, topicCells, placeCount, cellCount}
-use Rattle.layout.specs.View.{setupOf, peerOf, topicOf, cellsOfSetup, cellsOfPeer, cellsOfTopic, stateOf, cellsOf, Sized}
-use Rattle.layout.proofs.RowLaws.{tab-same, span-all, span-left, span-right, rows-left, rows-right, length-joins, rows-joins}
-use Rattle.layout.proofs.ViewLaws.{peer-back, topic-back, peer-count, topic-count}
+use Rattle.layout.specs.Rows.{tab}
+use Rattle.rows.specs.Rows.{span, rows, joins}
+use Rattle.layout.specs.View.{placeCount}
+use Rattle.rows.specs.View.{joinedAt, codesAt, setupAt, setupCells, peersAt, peerCells, topicsAt, topicCells, rowsCount}
+use Rattle.layout.specs.View.{Sized}
+use Rattle.rows.specs.View.{setupOf, peerOf, topicOf, cellsOfSetup, cellsOfPeer, cellsOfTopic, stateOfRows, cellsOf}
+use Rattle.layout.proofs.RowLaws.{tab-same}
+use Rattle.rows.proofs.RowLaws.{span-all, span-left, span-right, rows-left, rows-right, length-joins, rows-joins}
+use Rattle.rows.proofs.ViewLaws.{peer-back, topic-back, peer-count, topic-count}
 
 tab-append : {A : Type 0} (m n : ℕ) (f : ℕ → A) → tab m f ++ tab n (λ k. f (m + k)) ≡ tab (m + n) f
 tab-append zero n f = tab-same n (λ k. f (0 + k)) f (λ k h. ap f (zero-add k)) ∙ ap (λ k. tab k f) (sym (zero-add n))
@@ -70,8 +74,8 @@ unfolding span
 head c = refl
 
 -- a table of the right length is the cells of its state
-pub whole : (c : List ℕ) → length c ≡ cellCount → cellsOf (stateOf c) ≡ c
-unfolding cellsOf stateOf
+pub whole : (c : List ℕ) → length c ≡ rowsCount → cellsOf (stateOfRows c) ≡ c
+unfolding cellsOf stateOfRows
 whole c e =
     let peers = joins cellsOfPeer (map peerOf (rows c peersAt peerCells slotCount)) in
     let topics = joins cellsOfTopic (map topicOf (rows c topicsAt topicCells placeCount)) in
@@ -89,7 +93,7 @@ whole c e =
     ∙ span-all c
 
 -- the state fixes every cell
-pub determined : (a b : List ℕ) → length a ≡ cellCount → length b ≡ cellCount → stateOf a ≡ stateOf b → a ≡ b
+pub determined : (a b : List ℕ) → length a ≡ rowsCount → length b ≡ rowsCount → stateOfRows a ≡ stateOfRows b → a ≡ b
 determined a b p q e = sym (whole a p) ∙ ap cellsOf e ∙ whole b q
 
 -- ---- and the other way: a state of a table's sizes is the state of its cells
@@ -131,8 +135,8 @@ module _ (st : State) (size : Sized st) where
       length-append fronted (joins cellsOfPeer (st .peers))
       ∙ omega (arith, fronted-length, length-joins cellsOfPeer peerCells peer-count (st .peers), size .peers)
 
-  pub back : stateOf (cellsOf st) ≡ st
-  unfolding stateOf cellsOf setupOf cellsOfSetup span peerIn
+  pub back : stateOfRows (cellsOf st) ≡ st
+  unfolding stateOfRows cellsOf setupOf cellsOfSetup span peerIn
   back =
       let setup : List ℕ = cellsOfSetup (st .setup) in
       let topics : List ℕ = joins cellsOfTopic (st .topics) in

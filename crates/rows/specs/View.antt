@@ -1,15 +1,14 @@
--- How one table of numbers holds the router's state: the layout, the state that a table holds, and the cells of a state.
--- The layout may be changed here and in src/lib.rt; the rules above see the state alone. No cell is left over, so the state fixes
--- every cell (proofs/Whole.antt).
+-- The table's old form (before 02, order 10): a row of cells for each peer and for each peer in a topic, flags by slot and topic. No cell
+-- is left over, so the state fixes every cell (proofs/Whole.antt).
 use Prim.Native.Nat.{ℕ, _+_, _*_}
 use mathlib.Core.List.{List, [], _∷_, _++_, map}
-use mathlib.Core.Path.{_≡_}
-use lib.ListN.{length, getD, set, replicate}
+use lib.ListN.{getD}
 use Rattle.records.specs.declared.Setup.{Setup}
 use Rattle.records.specs.declared.Peer.{Peer}
 use Rattle.records.specs.declared.TopicRecord.{TopicRecord}
-use Rattle.records.specs.Records.{State, slotCount, topicCount, paramCount, noPeer, noTopic, peerIn}
-use Rattle.layout.specs.Rows.{span, rows, joins}
+use Rattle.records.specs.Records.{State, slotCount, topicCount, paramCount}
+use Rattle.layout.specs.View.{placeCount}
+use Rattle.rows.specs.Rows.{span, rows, joins}
 
 -- the regions, one after the other: the clock (cell 0), the joined flags, the codes of the parameters, the rest of the set-up, the peers,
 -- the topic records
@@ -37,12 +36,9 @@ topicsAt = peersAt + slotCount * peerCells
 abbrev pub topicCells : ℕ
 topicCells = 8
 
-abbrev pub placeCount : ℕ
-placeCount = slotCount * topicCount
-
--- how many cells a table has: 5,341
-abbrev pub cellCount : ℕ
-cellCount = topicsAt + placeCount * topicCells
+-- how many cells a table of the old form has
+abbrev pub rowsCount : ℕ
+rowsCount = topicsAt + placeCount * topicCells
 
 -- the set-up of a run of cells, and its cells
 unfoldable pub setupOf : List ℕ → Setup
@@ -88,22 +84,6 @@ cellsOfPeer p =
     ∷ getD (p .backoff) 6 0
     ∷ getD (p .backoff) 7 0
     ∷ []
-
--- a peer's record with another backoff end for topic t
-unfoldable pub setEnd : Peer → ℕ → ℕ → Peer
-setEnd p t end =
-    record {
-      status = p .status;
-      id = p .id;
-      group = p .group;
-      outbound = p .outbound;
-      explicit = p .explicit;
-      version = p .version;
-      p5 = p .p5;
-      p7 = p .p7;
-      retain = p .retain;
-      backoff = set (p .backoff) t end;
-    }
 
 unfoldable pub topicOf : List ℕ → TopicRecord
 topicOf r =
@@ -161,8 +141,8 @@ topicFrom cells b =
     }
 
 -- the state that a table holds
-unfoldable pub stateOf : List ℕ → State
-stateOf cells =
+unfoldable pub stateOfRows : List ℕ → State
+stateOfRows cells =
     record {
       clock = getD cells 0 0;
       joined = span cells joinedAt topicCount;
@@ -180,32 +160,3 @@ cellsOf st =
     ++ cellsOfSetup (st .setup)
     ++ joins cellsOfPeer (st .peers)
     ++ joins cellsOfTopic (st .topics)
-
--- the state with other codes of the parameters, and with another set-up: what making a fresh router writes
-unfoldable pub setCodes : State → List ℕ → State
-setCodes st codes =
-    record { clock = st .clock; joined = st .joined; codes = codes; setup = st .setup; peers = st .peers; topics = st .topics }
-
-unfoldable pub setSetup : State → Setup → State
-setSetup st u =
-    record { clock = st .clock; joined = st .joined; codes = st .codes; setup = u; peers = st .peers; topics = st .topics }
-
--- the state of a table of zeros
-unfoldable pub zeroState : State
-zeroState =
-    record {
-      clock = 0;
-      joined = replicate topicCount 0;
-      codes = replicate paramCount 0;
-      setup = record { edition = 0 };
-      peers = replicate slotCount noPeer;
-      topics = replicate placeCount noTopic;
-    }
-
--- a state of a table's sizes
-pub record Sized (st : State) : Type 0 where
-  pub joined : length (st .joined) ≡ topicCount
-  pub codes : length (st .codes) ≡ paramCount
-  pub peers : length (st .peers) ≡ slotCount
-  pub topics : length (st .topics) ≡ placeCount
-  pub ends : (s : ℕ) → length (peerIn st s .backoff) ≡ topicCount

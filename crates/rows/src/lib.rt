@@ -1,20 +1,18 @@
-// How one lent table of numbers holds the router's state: the only code that computes an offset. A change of the layout is made here
-// and in specs/View.antt. Everything above goes by the contracts, which speak of the state that the table holds.
+// The table's old form (before 02, order 10), for tables that were kept in it: loads and stores. It does not change any more.
 ghost use mathlib.Core.Path.{_≡_};
 ghost use Prim.Native.Nat.{_+_, _≤_, _<_};
 ghost use lib.ListN.{length};
 ghost use Rattle.records.specs.Records.{joinedIn, codeIn, peerIn, topicIn, setClock, setJoined, setPeer, setTopic, slotCount, topicCount};
 ghost use Rattle.records.specs.Records.{paramCount};
 ghost use Rattle.layout.specs.Rows.{put};
-ghost use Rattle.layout.specs.View.{placeCount, cellCount, peerFrom, topicFrom, stateOf, setEnd, setCodes, setSetup, zeroState};
+ghost use Rattle.layout.specs.View.{placeCount, setEnd, setCodes, setSetup, zeroState};
+ghost use Rattle.rows.specs.View.{rowsCount, peerFrom, topicFrom, stateOfRows};
+use layout::PARAMS;
 use records::Peer;
 use records::SLOTS;
 use records::Setup;
 use records::TOPICS;
 use records::TopicRecord;
-
-// How many numbers the parameters are.
-pub const PARAMS: usize = 147;
 
 // Where the regions begin, one after the other: the clock is cell 0, then the joined flags, the codes of the parameters, the rest of the
 // set-up, the peers, the topic records.
@@ -30,27 +28,12 @@ const PEERS_AT: usize = SETUP_AT + SETUP_CELLS;
 
 const PEER_CELLS: usize = 17;
 
-// Where its backoff ends begin in a peer's record.
-const ENDS_AT: usize = 9;
-
 const TOPICS_AT: usize = PEERS_AT + SLOTS * PEER_CELLS;
 
 const TOPIC_CELLS: usize = 8;
 
 // How many numbers a table has.
 pub const CELLS: usize = TOPICS_AT + SLOTS * TOPICS * TOPIC_CELLS;
-
-// Copies `row` into the table from `at` on.
-pub fn write_row(cells: &mut [u64], at: usize, row: &[u64])
-    requires { ⌜ at + length (now row) ≤ length (now cells) ⌝ }
-    ensures { λ r. ⌜ now (cells .exit) ≡ put (now (cells .entry)) at (now (row .entry)) ⌝ }
-{
-    let mut k: usize = 0;
-    while k < row.len() {
-        cells[at + k] = row[k];
-        k += 1;
-    }
-}
 
 // The peer's record that starts at cell `b`.
 fn read_peer(cells: &[u64], b: usize) -> Peer
@@ -100,61 +83,61 @@ fn read_topic(cells: &[u64], b: usize) -> TopicRecord
 
 // The clock.
 pub fn load_clock(cells: &[u64]) -> u64
-    requires { ⌜ length (now cells) ≡ cellCount ⌝ }
-    ensures { λ r. ⌜ r ≡ stateOf (now (cells .entry)) .clock ⌝ }
+    requires { ⌜ length (now cells) ≡ rowsCount ⌝ }
+    ensures { λ r. ⌜ r ≡ stateOfRows (now (cells .entry)) .clock ⌝ }
 {
     cells[0]
 }
 
 pub fn store_clock(cells: &mut [u64], time: u64)
-    requires { ⌜ length (now cells) ≡ cellCount ⌝ }
-    ensures { λ r. ⌜ stateOf (now (cells .exit)) ≡ setClock (stateOf (now (cells .entry))) time ⌝ }
+    requires { ⌜ length (now cells) ≡ rowsCount ⌝ }
+    ensures { λ r. ⌜ stateOfRows (now (cells .exit)) ≡ setClock (stateOfRows (now (cells .entry))) time ⌝ }
 {
     cells[0] = time;
 }
 
 // 1 if topic `t` is joined, else 0.
 pub fn load_joined(cells: &[u64], t: usize) -> u64
-    requires { ⌜ (length (now cells) ≡ cellCount) × (t < topicCount) ⌝ }
-    ensures { λ r. ⌜ r ≡ joinedIn (stateOf (now (cells .entry))) t ⌝ }
+    requires { ⌜ (length (now cells) ≡ rowsCount) × (t < topicCount) ⌝ }
+    ensures { λ r. ⌜ r ≡ joinedIn (stateOfRows (now (cells .entry))) t ⌝ }
 {
     cells[JOINED_AT + t]
 }
 
 pub fn store_joined(cells: &mut [u64], t: usize, b: u64)
-    requires { ⌜ (length (now cells) ≡ cellCount) × (t < topicCount) ⌝ }
-    ensures { λ r. ⌜ stateOf (now (cells .exit)) ≡ setJoined (stateOf (now (cells .entry))) t b ⌝ }
+    requires { ⌜ (length (now cells) ≡ rowsCount) × (t < topicCount) ⌝ }
+    ensures { λ r. ⌜ stateOfRows (now (cells .exit)) ≡ setJoined (stateOfRows (now (cells .entry))) t b ⌝ }
 {
     cells[JOINED_AT + t] = b;
 }
 
 // The code of the parameters' number `i`.
 pub fn load_code(cells: &[u64], i: usize) -> u64
-    requires { ⌜ (length (now cells) ≡ cellCount) × (i < paramCount) ⌝ }
-    ensures { λ r. ⌜ r ≡ codeIn (stateOf (now (cells .entry))) i ⌝ }
+    requires { ⌜ (length (now cells) ≡ rowsCount) × (i < paramCount) ⌝ }
+    ensures { λ r. ⌜ r ≡ codeIn (stateOfRows (now (cells .entry))) i ⌝ }
 {
     cells[CODES_AT + i]
 }
 
 // The codes of the parameters, side by side.
 pub fn codes(cells: &[u64]) -> &[u64]
-    requires { ⌜ length (now cells) ≡ cellCount ⌝ }
-    ensures { λ r. ⌜ now r ≡ stateOf (now (cells .entry)) .codes ⌝ }
+    requires { ⌜ length (now cells) ≡ rowsCount ⌝ }
+    ensures { λ r. ⌜ now r ≡ stateOfRows (now (cells .entry)) .codes ⌝ }
 {
     &cells[CODES_AT..SETUP_AT]
 }
 
 pub fn store_codes(cells: &mut [u64], codes: &[u64])
-    requires { ⌜ (length (now cells) ≡ cellCount) × (length (now codes) ≡ paramCount) ⌝ }
-    ensures { λ r. ⌜ stateOf (now (cells .exit)) ≡ setCodes (stateOf (now (cells .entry))) (now (codes .entry)) ⌝ }
+    requires { ⌜ (length (now cells) ≡ rowsCount) × (length (now codes) ≡ paramCount) ⌝ }
+    ensures { λ r. ⌜ stateOfRows (now (cells .exit)) ≡ setCodes (stateOfRows (now (cells .entry))) (now (codes .entry)) ⌝ }
 {
-    write_row(cells, CODES_AT, codes);
+    layout::write_row(cells, CODES_AT, codes);
 }
 
 // What the router was made with beside the parameters' numbers.
 pub fn load_setup(cells: &[u64]) -> Setup
-    requires { ⌜ length (now cells) ≡ cellCount ⌝ }
-    ensures { λ r. ⌜ r ≡ stateOf (now (cells .entry)) .setup ⌝ }
+    requires { ⌜ length (now cells) ≡ rowsCount ⌝ }
+    ensures { λ r. ⌜ r ≡ stateOfRows (now (cells .entry)) .setup ⌝ }
 {
     Setup {
         edition: cells[SETUP_AT],
@@ -162,34 +145,23 @@ pub fn load_setup(cells: &[u64]) -> Setup
 }
 
 pub fn store_setup(cells: &mut [u64], setup: Setup)
-    requires { ⌜ length (now cells) ≡ cellCount ⌝ }
-    ensures { λ r. ⌜ stateOf (now (cells .exit)) ≡ setSetup (stateOf (now (cells .entry))) setup ⌝ }
+    requires { ⌜ length (now cells) ≡ rowsCount ⌝ }
+    ensures { λ r. ⌜ stateOfRows (now (cells .exit)) ≡ setSetup (stateOfRows (now (cells .entry))) setup ⌝ }
 {
     cells[SETUP_AT] = setup.edition;
 }
 
-// Makes every cell 0, whatever stood there.
-pub fn clear(cells: &mut [u64])
-    ensures { λ r. ⌜ stateOf (now (cells .exit)) ≡ zeroState ⌝ }
-{
-    let mut k: usize = 0;
-    while k < cells.len() {
-        cells[k] = 0;
-        k += 1;
-    }
-}
-
 // The peer's record in slot `slot`.
 pub fn load_peer(cells: &[u64], slot: usize) -> Peer
-    requires { ⌜ (length (now cells) ≡ cellCount) × (slot < slotCount) ⌝ }
-    ensures { λ r. ⌜ r ≡ peerIn (stateOf (now (cells .entry))) slot ⌝ }
+    requires { ⌜ (length (now cells) ≡ rowsCount) × (slot < slotCount) ⌝ }
+    ensures { λ r. ⌜ r ≡ peerIn (stateOfRows (now (cells .entry))) slot ⌝ }
 {
     read_peer(cells, PEERS_AT + slot * PEER_CELLS)
 }
 
 pub fn store_peer(cells: &mut [u64], slot: usize, p: Peer)
-    requires { ⌜ (length (now cells) ≡ cellCount) × (slot < slotCount) ⌝ }
-    ensures { λ r. ⌜ stateOf (now (cells .exit)) ≡ setPeer (stateOf (now (cells .entry))) slot p ⌝ }
+    requires { ⌜ (length (now cells) ≡ rowsCount) × (slot < slotCount) ⌝ }
+    ensures { λ r. ⌜ stateOfRows (now (cells .exit)) ≡ setPeer (stateOfRows (now (cells .entry))) slot p ⌝ }
 {
     let ends = p.backoff;
     let row = [
@@ -211,30 +183,20 @@ pub fn store_peer(cells: &mut [u64], slot: usize, p: Peer)
         ends[6],
         ends[7],
     ];
-    write_row(cells, PEERS_AT + slot * PEER_CELLS, &row);
-}
-
-// One backoff end of the record in a slot, and nothing else of it: a record that is stored whole right after one end was replaced in it
-// waits for that store.
-pub fn store_end(cells: &mut [u64], slot: usize, t: usize, end: u64)
-    requires { ⌜ (length (now cells) ≡ cellCount) × ((slot < slotCount) × (t < topicCount)) ⌝ }
-    ensures { λ r. ⌜ stateOf (now (cells .exit))
-        ≡ setPeer (stateOf (now (cells .entry))) slot (setEnd (peerIn (stateOf (now (cells .entry))) slot) t end) ⌝ }
-{
-    cells[PEERS_AT + slot * PEER_CELLS + (ENDS_AT + t)] = end;
+    layout::write_row(cells, PEERS_AT + slot * PEER_CELLS, &row);
 }
 
 // The record of slot `k / 8` for topic `k % 8`.
 pub fn load_topic(cells: &[u64], k: usize) -> TopicRecord
-    requires { ⌜ (length (now cells) ≡ cellCount) × (k < placeCount) ⌝ }
-    ensures { λ r. ⌜ r ≡ topicIn (stateOf (now (cells .entry))) k ⌝ }
+    requires { ⌜ (length (now cells) ≡ rowsCount) × (k < placeCount) ⌝ }
+    ensures { λ r. ⌜ r ≡ topicIn (stateOfRows (now (cells .entry))) k ⌝ }
 {
     read_topic(cells, TOPICS_AT + k * TOPIC_CELLS)
 }
 
 pub fn store_topic(cells: &mut [u64], k: usize, t: TopicRecord)
-    requires { ⌜ (length (now cells) ≡ cellCount) × (k < placeCount) ⌝ }
-    ensures { λ r. ⌜ stateOf (now (cells .exit)) ≡ setTopic (stateOf (now (cells .entry))) k t ⌝ }
+    requires { ⌜ (length (now cells) ≡ rowsCount) × (k < placeCount) ⌝ }
+    ensures { λ r. ⌜ stateOfRows (now (cells .exit)) ≡ setTopic (stateOfRows (now (cells .entry))) k t ⌝ }
 {
     let row = [
         t.p2,
@@ -246,41 +208,5 @@ pub fn store_topic(cells: &mut [u64], k: usize, t: TopicRecord)
         t.graft,
         t.mesh,
     ];
-    write_row(cells, TOPICS_AT + k * TOPIC_CELLS, &row);
-}
-
-// One field of a record, for a loop that wants no more.
-pub fn load_status(cells: &[u64], slot: usize) -> u64
-    requires { ⌜ (length (now cells) ≡ cellCount) × (slot < slotCount) ⌝ }
-    ensures { λ r. ⌜ r ≡ peerIn (stateOf (now (cells .entry))) slot .status ⌝ }
-{
-    cells[PEERS_AT + slot * PEER_CELLS]
-}
-
-pub fn load_id(cells: &[u64], slot: usize) -> u64
-    requires { ⌜ (length (now cells) ≡ cellCount) × (slot < slotCount) ⌝ }
-    ensures { λ r. ⌜ r ≡ peerIn (stateOf (now (cells .entry))) slot .id ⌝ }
-{
-    cells[PEERS_AT + slot * PEER_CELLS + 1]
-}
-
-pub fn load_group(cells: &[u64], slot: usize) -> u64
-    requires { ⌜ (length (now cells) ≡ cellCount) × (slot < slotCount) ⌝ }
-    ensures { λ r. ⌜ r ≡ peerIn (stateOf (now (cells .entry))) slot .group ⌝ }
-{
-    cells[PEERS_AT + slot * PEER_CELLS + 2]
-}
-
-pub fn load_member(cells: &[u64], k: usize) -> u64
-    requires { ⌜ (length (now cells) ≡ cellCount) × (k < placeCount) ⌝ }
-    ensures { λ r. ⌜ r ≡ topicIn (stateOf (now (cells .entry))) k .member ⌝ }
-{
-    cells[TOPICS_AT + k * TOPIC_CELLS + 5]
-}
-
-// The clock of a lent table: a public call takes the table whole, so that its type fixes the length.
-pub fn clock(table: &[u64; CELLS]) -> u64
-    ensures { λ r. ⌜ r ≡ stateOf (now (table .entry)) .clock ⌝ }
-{
-    load_clock(table)
+    layout::write_row(cells, TOPICS_AT + k * TOPIC_CELLS, &row);
 }

@@ -5,3 +5,4 @@ pub mod OrderLaws
 pub mod IdLaws
 pub mod Keeps
 pub mod SignLaws
+pub mod FitLaws

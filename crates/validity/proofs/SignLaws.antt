@@ -1,18 +1,19 @@
 -- Codes of numbers between their limits have their fields' signs and small magnitudes: so they can stand as magnitudes in a table.
 -- Assumes nothing.
-use Prim.Native.Nat.{ℕ, zero, suc, _+_, _*_, _-_, _/_, _%_, _<_, _≤_}
-use mathlib.Core.Path.{_≡_, refl, sym, ap, _∙_, subst}
-use mathlib.Core.Bool.{Bool, true, false, cond, _&&_, true≢false}
+use Prim.Native.Nat.{ℕ, zero, suc, _+_, _/_, _<_, _≤_}
+use mathlib.Core.Path.{_≡_, refl, sym, _∙_, subst}
+use mathlib.Core.Bool.{Bool, true, false, cond, _&&_}
 use mathlib.Core.List.{List, map}
 use native.Mathlib.Omega.{arith}
-use lib.Dec.{T, leb, ltb}
+use lib.Dec.{leb}
 use lib.ListN.{length, getD}
-use lib.IntN.{ℤ, pos, negsuc, negℤ, natAbs}
+use lib.IntN.{ℤ, pos, negℤ, natAbs}
 use lib.Signed.{leZ}
 use borrow.Author.Tests.{lt-ltb, le-ltb}
 use Rattle.index.specs.Index.{every}
 use Rattle.index.proofs.Index.{every-at}
 use Rattle.index.proofs.Flags.{by-test, by-order}
+use Rattle.index.proofs.Lists.{Built, built-done}
 use Rattle.varint.specs.Codes.{codeOf, numberOf, magnitude}
 use Rattle.records.specs.Records.{State, codeIn, paramCount}
 use Rattle.limits.specs.Limits.{fieldCount, limits, limitAt, fieldOf, at, inLimits}
@@ -20,7 +21,8 @@ use Rattle.limits.proofs.LimitLaws.{yes, sides, gain-is, loss-is}
 use Rattle.limits.proofs.FieldLaws.{Within, code-at, most-of}
 use Rattle.params.specs.Check.{acceptedCodes}
 use Rattle.params.proofs.CheckLaws.{codes-pass}
-use Rattle.layout.specs.View.{isBelow, below, codeFor, CodesFit}
+use Rattle.layout.specs.View.{isBelow, below, codeFor, stateOf, CodesFit}
+use Rattle.layout.proofs.StateLaws.{sized-of}
 
 -- the fields that a table holds below 0 are those that the limits say, and no limit is above 10^9
 signTest : ℕ → Bool
@@ -55,7 +57,8 @@ loss-fit (suc n) = omega arith
 module _ (codes : List ℕ) (ok : Within codes) (i : ℕ) (h : i < paramCount) where
   pub size-small : magnitude (getD codes i 0) ≤ 1000000000
   unfolding sizeTest
-  size-small = most-of codes ok i h (fieldOf i) refl 1000000000 (yes (sizeTest (fieldOf i)) (every-at sizeTest fieldCount (fieldOf i) sizes (field-lt i h)))
+  size-small = most-of codes ok i h (fieldOf i) refl 1000000000
+      (yes (sizeTest (fieldOf i)) (every-at sizeTest fieldCount (fieldOf i) sizes (field-lt i h)))
 
   abbrev x : ℤ
   x = at (map numberOf codes) i
@@ -84,7 +87,8 @@ codes-fit codes z ok = record { size = z; each = λ i h. sign-fit codes ok i h }
 -- ---- the ends of `params_ok`
 
 pub size-fails :
-    (st : State) (i m : ℕ) → i < paramCount → m ≡ magnitude (codeIn st i) → 1000000000 < m → false ≡ acceptedCodes (st .setup .edition) (st .codes)
+    (st : State) (i m : ℕ) → i < paramCount → m ≡ magnitude (codeIn st i) → 1000000000 < m → false
+    ≡ acceptedCodes (st .setup .edition) (st .codes)
 unfolding codeIn
 size-fails st i m h e l =
     by-test (false ≡ acceptedCodes (st .setup .edition) (st .codes)) (acceptedCodes (st .setup .edition) (st .codes))
@@ -92,3 +96,9 @@ size-fails st i m h e l =
     let s = size-small (st .codes) (codes-pass (st .setup .edition) (st .codes) t .0) i h in
     absurd (omega arith))
     (λ t. sym t)
+
+pub codes-built :
+    (c : List ℕ) (codes : List ℕ) (i : ℕ) → paramCount ≤ i → Built 0 (codeIn (stateOf c)) paramCount i codes → codes ≡ stateOf c .codes
+unfolding codeIn
+codes-built c codes i h b =
+    built-done 0 (codeIn (stateOf c)) paramCount i codes (stateOf c .codes) h b (sized-of c .codes) (λ k l. refl)

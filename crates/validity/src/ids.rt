@@ -15,7 +15,7 @@ use records::SLOTS;
 const BUCKETS: usize = 1024;
 
 // Whether two ids differ, or are none.
-fn apart(a: u64, b: u64) -> bool
+pub fn apart(a: u64, b: u64) -> bool
     ensures { λ r. ⌜ r ≡ apart a b ⌝ }
 {
     !((b == a) & !(a == 0))

@@ -96,7 +96,7 @@ fn connected_ok(p: Peer) -> bool
 }
 
 // Any record.
-fn peer_ok(p: Peer) -> bool
+pub fn peer_ok(p: Peer) -> bool
     ensures { λ r. ⌜ r ≡ peerOk p ⌝ }
 {
     let ranges = peer_ranges(p);
@@ -183,7 +183,7 @@ fn rest_ok(status: u64, explicit: u64, joined: u64, clock: u64, t: TopicRecord) 
 }
 
 // Any record for a topic.
-fn topic_ok(
+pub fn topic_ok(
     status: u64,
     explicit: u64,
     joined: u64,

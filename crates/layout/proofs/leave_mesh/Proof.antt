@@ -1,32 +1,22 @@
-use mathlib.Core.Path.{_≡_, refl, sym, ap, _∙_}
+use mathlib.Core.Path.{ap, _∙_}
 use Rattle.layout.specs.View.{stateOf}
 use Rattle.layout.proofs.PlaceLaws.{out-written}
-use lib.ListN.{length-set}
-use native.Mathlib.Omega.{arith}
 use borrow.Author.Needs.{needs}
 use Rattle.layout.proofs.leave_mesh.Statement.{statement}
 use Rattle.layout.proofs.leave_mesh.Tie as tie
-use Rattle.layout.proofs.leave_mesh.Reads as reads
-use Rattle.layout.proofs.leave_mesh.Lts as lts
-use Rattle.layout.proofs.set_bit.Reads as set-bit-reads
 
--- src/lib.rt:182:32
 mul-set-bit : tie.Need-mul-set-bit
 mul-set-bit c = search needs
 
--- src/lib.rt:182:20
 add-set-bit : tie.Need-add-set-bit
 add-set-bit c = search needs
 
--- src/lib.rt:182:5
 set-bit-requires : tie.Need-set-bit-requires
 set-bit-requires c κs = search needs
 
--- src/lib.rt:178:1
 same-length : tie.Need-same-length
 same-length c = search needs
 
--- src/lib.rt:178:1
 returns : tie.Need-returns
 returns c =
     let s = c .before .before .before .before .before in

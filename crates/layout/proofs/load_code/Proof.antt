@@ -14,7 +14,8 @@ load-code-spec =
     (λ c κs. search needs)
     (λ c κs. search needs)
     (λ c κs. search needs)
-    (λ c κs. subst (λ (n : ℕ). n < 4611686018427387904) (sym (c .before .before .load-magnitude .ensures .0)) (c .before .before .before .before .pre .1 .1))
+    (λ c κs. subst (λ (n : ℕ). n < 4611686018427387904) (sym (c .before .before .load-magnitude .ensures .0))
+    (c .before .before .before .before .pre .1 .1))
     (λ c.
     let m = c .before .before .before .load-magnitude in
     c .code-for .ensures

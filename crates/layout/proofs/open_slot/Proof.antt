@@ -1,37 +1,27 @@
 use mathlib.Core.Path.{sym, _∙_}
-use lib.ListN.{length-set}
 use Rattle.layout.proofs.MarkLaws.{open-end}
 use native.Mathlib.Omega.{arith}
-use borrow.Author.Needs.{needs}
 use Rattle.layout.proofs.open_slot.Statement.{statement}
 use Rattle.layout.proofs.open_slot.Tie as tie
-use Rattle.layout.proofs.open_slot.Reads as reads
-use Rattle.layout.proofs.open_slot.Lts as lts
-use Rattle.layout.proofs.clear_slot.Reads as clear-slot-reads
 
--- src/lib.rt:314:13
 slice-read-s : tie.Need-slice-read-s
 slice-read-s c = omega arith
 
--- src/lib.rt:315:5
 clear-slot-requires : tie.Need-clear-slot-requires
 clear-slot-requires c κs = (c .before .before .before .pre .0, (c .before .before .before .pre .1, omega arith))
 
--- src/lib.rt:316:22
 add-cells : tie.Need-add-cells
 add-cells c = omega arith
 
--- src/lib.rt:316:5
 slice-write-cells : tie.Need-slice-write-cells
 slice-write-cells c = let z = c .before .before .clear-slot .ensures .0 .size in omega arith
 
--- src/lib.rt:310:1
 same-length : tie.Need-same-length
 same-length c =
     let s = c .before .before .before .before .before .before in
-    open-end (s .args .cells .now) _ (s .pre .1) (c .before .before .clear-slot .ensures .0) (c .before .before .clear-slot .ensures .1) .1 .1 ∙ sym (s .pre .0)
+    open-end (s .args .cells .now) _ (s .pre .1) (c .before .before .clear-slot .ensures .0)
+    (c .before .before .clear-slot .ensures .1) .1 .1 ∙ sym (s .pre .0)
 
--- src/lib.rt:310:1
 returns : tie.Need-returns
 returns c =
     let s = c .before .before .before .before .before .before in

@@ -3,24 +3,17 @@ use Rattle.layout.specs.View.{TopicFits}
 use Rattle.layout.proofs.FitLaws.{raw-topic-fits}
 use Prim.Native.Nat.{_%_, _/_}
 use Rattle.layout.specs.View.{topicRaw}
-use lib.ListN.{length-set}
 use native.Mathlib.Omega.{arith}
 use borrow.Author.Needs.{needs}
 use Rattle.layout.proofs.raw_topic.Statement.{statement}
 use Rattle.layout.proofs.raw_topic.Tie as tie
-use Rattle.layout.proofs.raw_topic.Reads as reads
-use Rattle.layout.proofs.raw_topic.Lts as lts
-use Rattle.layout.proofs.keep.Reads as keep-reads
 
--- src/lib.rt:119:16
 keep-requires : tie.Need-keep-requires
 keep-requires c κs = search needs
 
--- src/lib.rt:120:15
 keep-requires-2 : tie.Need-keep-requires-2
 keep-requires-2 c κs = search needs
 
--- src/lib.rt:109:1
 returns : tie.Need-returns
 unfolding topicRaw
 returns c =
@@ -35,8 +28,12 @@ returns c =
       member = a .member;
       graft = c .before .keep .ensures i;
       mesh = c .keep2 .ensures i;
-    } in
-    (e, subst TopicFits (sym e) (raw-topic-fits (a .counters) (a .p3b) (a .subscribed) (a .member) (a .graft) (a .mesh) (omega arith) (c .before .before .pre .0) (c .before .before .pre .1)))
+    } in (
+      e,
+      subst TopicFits (sym e)
+          (raw-topic-fits (a .counters) (a .p3b) (a .subscribed) (a .member) (a .graft) (a .mesh) (omega arith) (c .before .before .pre .0)
+          (c .before .before .pre .1)),
+    )
 
 pub raw-topic-spec : {M : Type 1} → statement M
 raw-topic-spec = tie.close (tie.spec keep-requires keep-requires-2 returns)

@@ -1,4 +1,5 @@
-use mathlib.Core.Path.{_≡_, refl, sym, ap, _∙_}
+-- `layout::set_columns`: three cells are written.
+use mathlib.Core.Path.{refl}
 use Rattle.layout.specs.View.{setColumns}
 use Rattle.layout.proofs.SlotLaws.{length-columns}
 use lib.ListN.{length-set}
@@ -6,50 +7,37 @@ use native.Mathlib.Omega.{arith}
 use borrow.Author.Needs.{needs}
 use Rattle.layout.proofs.set_columns.Statement.{statement}
 use Rattle.layout.proofs.set_columns.Tie as tie
-use Rattle.layout.proofs.set_columns.Reads as reads
-use Rattle.layout.proofs.set_columns.Lts as lts
 
--- src/lib.rt:261:11
 add-cells : tie.Need-add-cells
 add-cells c = search needs
 
--- src/lib.rt:261:5
 mul-cells : tie.Need-mul-cells
 mul-cells c = search needs
 
--- src/lib.rt:261:5
 slice-write-cells : tie.Need-slice-write-cells
 slice-write-cells c = search needs
 
--- src/lib.rt:262:11
 add-cells-2 : tie.Need-add-cells-2
 add-cells-2 c = search needs
 
--- src/lib.rt:262:5
 mul-cells-2 : tie.Need-mul-cells-2
 mul-cells-2 c = search needs
 
--- src/lib.rt:262:5
 slice-write-cells-2 : tie.Need-slice-write-cells-2
 slice-write-cells-2 c = simp length-set (omega arith)
 
--- src/lib.rt:263:11
 add-cells-3 : tie.Need-add-cells-3
 add-cells-3 c = search needs
 
--- src/lib.rt:263:5
 mul-cells-3 : tie.Need-mul-cells-3
 mul-cells-3 c = search needs
 
--- src/lib.rt:263:5
 slice-write-cells-3 : tie.Need-slice-write-cells-3
 slice-write-cells-3 c = simp length-set (omega arith)
 
--- src/lib.rt:257:1
 same-length : tie.Need-same-length
 same-length c = search needs
 
--- src/lib.rt:257:1
 returns : tie.Need-returns
 unfolding setColumns
 returns c =

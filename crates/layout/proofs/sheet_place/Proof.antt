@@ -3,26 +3,19 @@ use native.Mathlib.Omega.{arith}
 use borrow.Author.Needs.{needs}
 use Rattle.layout.proofs.sheet_place.Statement.{statement}
 use Rattle.layout.proofs.sheet_place.Tie as tie
-use Rattle.layout.proofs.sheet_place.Reads as reads
-use Rattle.layout.proofs.sheet_place.Lts as lts
 
--- src/lib.rt:127:33
 mul-result : tie.Need-mul-result
 mul-result c = search needs
 
--- src/lib.rt:127:28
 add-result : tie.Need-add-result
 add-result c = search needs
 
--- src/lib.rt:127:28
 add-result-2 : tie.Need-add-result-2
 add-result-2 c = search needs
 
--- src/lib.rt:123:1
 returns : tie.Need-returns
 returns c = at-general (c .before .args .i) (c .if1 .taken)
 
--- src/lib.rt:123:1
 returns-2 : tie.Need-returns-2
 returns-2 c = at-topic (c .before .args .i) (c .before .pre) (let g = c .if1 .left in omega arith)
 

@@ -3,16 +3,17 @@ use Prim.Native.Nat.{_≤_, _<_, _-_}
 use mathlib.Core.Path.{_≡_, sym, _∙_}
 use native.Mathlib.Omega.{arith}
 use lib.ListN.{length}
+use Rattle.records.specs.Records.{paramCount}
 use Rattle.layout.specs.View.{cellCount, stateOf}
 use Rattle.layout.proofs.CopyLaws.{codesUpTo, codes-start, codes-more, codes-end}
 use Rattle.layout.proofs.store_codes.Statement.{statement}
 use Rattle.layout.proofs.store_codes.Tie as tie
 
 abbrev Inv-loop : tie.InvT-loop
-Inv-loop cells₀ codes i₀ cells i = (i ≤ 147) × (length cells ≡ cellCount) × (stateOf cells ≡ codesUpTo i codes (stateOf cells₀))
+Inv-loop cells₀ codes i₀ cells i = (i ≤ paramCount) × (length cells ≡ cellCount) × (stateOf cells ≡ codesUpTo i codes (stateOf cells₀))
 
 abbrev μ-loop : tie.MeasureT-loop
-μ-loop cells₀ codes i₀ cells i = 147 - i
+μ-loop cells₀ codes i₀ cells i = paramCount - i
 
 loop-holds : tie.Need-loop-holds Inv-loop μ-loop
 loop-holds c =
@@ -24,7 +25,7 @@ loop-again c =
     let s = c .before .before .before .before .before .before .before .before .before .before in
     let l = c .before .before .before .before .before .before .before .loop in
     let k = c .before .before .store-magnitude in
-    let h : l .i < 147 = omega arith in (
+    let h : l .i < paramCount = omega arith in (
       omega arith,
       k .kept .0 ∙ l .inv .1,
       codes-more (s .args .codes .now) (s .args .cells .now) (l .cells) _ (l .i) _ (s .pre .1) h

@@ -3,39 +3,30 @@ use mathlib.Core.Path.{ap, _∙_}
 use lib.ListN.{set}
 use Rattle.layout.specs.View.{sheetAt, stateOf}
 use Rattle.layout.proofs.SheetLaws.{code-store}
-use native.Mathlib.Omega.{arith}
 use borrow.Author.Needs.{needs}
 use Rattle.layout.proofs.store_magnitude.Statement.{statement}
 use Rattle.layout.proofs.store_magnitude.Tie as tie
-use Rattle.layout.proofs.store_magnitude.Reads as reads
-use Rattle.layout.proofs.store_magnitude.Lts as lts
-use Rattle.layout.proofs.sheet_place.Reads as sheet-place-reads
 
--- src/lib.rt:143:9
 sheet-place-requires : tie.Need-sheet-place-requires
 sheet-place-requires c κs = search needs
 
--- src/lib.rt:144:11
 add-cells : tie.Need-add-cells
 add-cells c = search needs
 
--- src/lib.rt:144:5
 mul-cells : tie.Need-mul-cells
 mul-cells c = search needs
 
--- src/lib.rt:144:5
 slice-write-cells : tie.Need-slice-write-cells
 slice-write-cells c = search needs
 
--- src/lib.rt:139:1
 same-length : tie.Need-same-length
 same-length c = search needs
 
--- src/lib.rt:139:1
 returns : tie.Need-returns
 returns c =
     let s = c .before .before in
-    ap (λ n. stateOf (set (s .args .cells .now) (sheetAt + n) (s .args .m))) (c .sheet-place .ensures .0) ∙ code-store (s .args .cells .now) (s .args .i) (s .args .m) (s .pre .0) (s .pre .1)
+    ap (λ n. stateOf (set (s .args .cells .now) (sheetAt + n) (s .args .m))) (c .sheet-place .ensures .0)
+    ∙ code-store (s .args .cells .now) (s .args .i) (s .args .m) (s .pre .0) (s .pre .1)
 
 pub store-magnitude-spec : {M : Type 1} → statement M
 store-magnitude-spec =

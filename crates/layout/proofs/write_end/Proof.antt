@@ -1,40 +1,30 @@
 use Rattle.layout.proofs.SlotLaws.{end-written}
-use lib.ListN.{length-set}
-use native.Mathlib.Omega.{arith}
 use borrow.Author.Needs.{needs}
 use Rattle.layout.proofs.write_end.Statement.{statement}
 use Rattle.layout.proofs.write_end.Tie as tie
-use Rattle.layout.proofs.write_end.Reads as reads
-use Rattle.layout.proofs.write_end.Lts as lts
 
--- src/lib.rt:289:21
 mul-cells : tie.Need-mul-cells
 mul-cells c = search needs
 
--- src/lib.rt:289:11
 add-cells : tie.Need-add-cells
 add-cells c = search needs
 
--- src/lib.rt:289:11
 add-cells-2 : tie.Need-add-cells-2
 add-cells-2 c = search needs
 
--- src/lib.rt:289:5
 mul-cells-2 : tie.Need-mul-cells-2
 mul-cells-2 c = search needs
 
--- src/lib.rt:289:5
 slice-write-cells : tie.Need-slice-write-cells
 slice-write-cells c = search needs
 
--- src/lib.rt:285:1
 same-length : tie.Need-same-length
 same-length c = search needs
 
--- src/lib.rt:285:1
 returns : tie.Need-returns
 returns c =
-    end-written (c .args .cells .now) (c .args .slot) (c .args .t) (c .args .end) (c .pre .0) (c .pre .1 .0) (c .pre .1 .1 .0) (c .pre .1 .1 .1)
+    end-written (c .args .cells .now) (c .args .slot) (c .args .t) (c .args .end) (c .pre .0) (c .pre .1 .0) (c .pre .1 .1 .0)
+    (c .pre .1 .1 .1)
 
 pub write-end-spec : {M : Type 1} → statement M
 write-end-spec =

@@ -1,4 +1,5 @@
-use mathlib.Core.Path.{_≡_, refl, sym, ap, _∙_}
+-- `layout::write_topic`: six cells of one place are written: no other place sees it, and the place reads the record.
+use mathlib.Core.Path.{_≡_, refl, ap}
 use lib.ListN.{set, length}
 use Rattle.layout.specs.View.{counterOf}
 use Rattle.layout.proofs.PlaceLaws.{topic-written, length-five, length-six}
@@ -7,126 +8,101 @@ use native.Mathlib.Omega.{arith}
 use borrow.Author.Needs.{needs}
 use Rattle.layout.proofs.write_topic.Statement.{statement}
 use Rattle.layout.proofs.write_topic.Tie as tie
-use Rattle.layout.proofs.write_topic.Reads as reads
-use Rattle.layout.proofs.write_topic.Lts as lts
-use Rattle.layout.proofs.lanes.Reads as lanes-reads
-use Rattle.layout.proofs.set_bit.Reads as set-bit-reads
 
--- src/lib.rt:151:51
 lanes-requires : tie.Need-lanes-requires
 lanes-requires c κs = search needs
 
--- src/lib.rt:151:25
 mul-cells : tie.Need-mul-cells
 mul-cells c = search needs
 
--- src/lib.rt:151:11
 add-cells : tie.Need-add-cells
 add-cells c = search needs
 
--- src/lib.rt:151:11
 add-cells-2 : tie.Need-add-cells-2
 add-cells-2 c = search needs
 
--- src/lib.rt:151:5
 mul-cells-2 : tie.Need-mul-cells-2
 mul-cells-2 c = search needs
 
--- src/lib.rt:151:5
 slice-write-cells : tie.Need-slice-write-cells
 slice-write-cells c = search needs
 
--- src/lib.rt:152:11
 add-cells-3 : tie.Need-add-cells-3
 add-cells-3 c = search needs
 
--- src/lib.rt:152:5
 mul-cells-3 : tie.Need-mul-cells-3
 mul-cells-3 c = search needs
 
--- src/lib.rt:152:5
 slice-write-cells-2 : tie.Need-slice-write-cells-2
 slice-write-cells-2 c = simp length-set (omega arith)
 
--- src/lib.rt:153:22
 mul-cells-4 : tie.Need-mul-cells-4
 mul-cells-4 c = search needs
 
--- src/lib.rt:153:11
 add-cells-4 : tie.Need-add-cells-4
 add-cells-4 c = search needs
 
--- src/lib.rt:153:11
 add-cells-5 : tie.Need-add-cells-5
 add-cells-5 c = search needs
 
--- src/lib.rt:153:5
 mul-cells-5 : tie.Need-mul-cells-5
 mul-cells-5 c = search needs
 
--- src/lib.rt:153:5
 slice-write-cells-3 : tie.Need-slice-write-cells-3
 slice-write-cells-3 c = simp length-set (omega arith)
 
--- src/lib.rt:154:21
 mul-cells-6 : tie.Need-mul-cells-6
 mul-cells-6 c = search needs
 
--- src/lib.rt:154:11
 add-cells-6 : tie.Need-add-cells-6
 add-cells-6 c = search needs
 
--- src/lib.rt:154:11
 add-cells-7 : tie.Need-add-cells-7
 add-cells-7 c = search needs
 
--- src/lib.rt:154:5
 mul-cells-7 : tie.Need-mul-cells-7
 mul-cells-7 c = search needs
 
--- src/lib.rt:154:5
 slice-write-cells-4 : tie.Need-slice-write-cells-4
 slice-write-cells-4 c = simp length-set (omega arith)
 
--- src/lib.rt:155:32
 mul-set-bit : tie.Need-mul-set-bit
 mul-set-bit c = search needs
 
--- src/lib.rt:155:20
 add-set-bit : tie.Need-add-set-bit
 add-set-bit c = search needs
 
--- src/lib.rt:155:5
 set-bit-requires : tie.Need-set-bit-requires
 set-bit-requires c κs = simp length-set (omega arith)
 
--- src/lib.rt:156:32
 mul-set-bit-2 : tie.Need-mul-set-bit-2
 mul-set-bit-2 c = search needs
 
--- src/lib.rt:156:20
 add-set-bit-2 : tie.Need-add-set-bit-2
 add-set-bit-2 c = search needs
 
--- src/lib.rt:156:5
 set-bit-requires-2 : tie.Need-set-bit-requires-2
 set-bit-requires-2 c κs =
     let z = c .before .before .before .before .before .before .before .pre in
-    let l : length (c .before .before .before .set-bit .last .0) ≡ length (c .before .before .before .before .before .before .before .args .cells .now) = length-five (c .before .before .before .before .before .before .before .args .cells .now) _ _ _ _ _ _ _ _ _ _ _ _ (c .before .before .before .set-bit .ensures .0) in
+    let l : length (c .before .before .before .set-bit .last .0)
+    ≡ length (c .before .before .before .before .before .before .before .args .cells .now) =
+    length-five (c .before .before .before .before .before .before .before .args .cells .now) _ _ _ _ _ _ _ _ _ _ _ _
+    (c .before .before .before .set-bit .ensures .0) in
     (omega arith, omega arith)
 
--- src/lib.rt:147:1
 same-length : tie.Need-same-length
 same-length c =
-    length-six (c .before .before .before .before .before .before .before .before .before .before .args .cells .now) _ _ _ _ _ (length-five (c .before .before .before .before .before .before .before .before .before .before .args .cells .now) _ _ _ _ _ _ _ _ _ _ _ _ (c .before .before .before .before .before .before .set-bit .ensures .0)) (c .before .before .set-bit2 .ensures .0)
+    length-six (c .before .before .before .before .before .before .before .before .before .before .args .cells .now) _ _ _ _ _
+    (length-five (c .before .before .before .before .before .before .before .before .before .before .args .cells .now) _ _ _ _ _ _ _ _ _
+    _ _ _ (c .before .before .before .before .before .before .set-bit .ensures .0)) (c .before .before .set-bit2 .ensures .0)
 
--- src/lib.rt:147:1
 returns : tie.Need-returns
 returns c =
     let s = c .before .before .before .before .before .before .before .before .before .before in
     let a = s .args in
     topic-written (a .cells .now) (a .k) (a .t) (s .pre .0) (s .pre .1 .0) (s .pre .1 .1 .0) (s .pre .1 .1 .1) _ _ _ _ _ _
-    (ap (set (a .cells .now) (counterOf (a .k))) (c .before .before .before .before .before .before .before .before .lanes .ensures)) refl refl refl (c .before .before .before .before .before .before .set-bit .ensures .0) (c .before .before .set-bit2 .ensures .0)
+    (ap (set (a .cells .now) (counterOf (a .k))) (c .before .before .before .before .before .before .before .before .lanes .ensures)) refl
+    refl refl (c .before .before .before .before .before .before .set-bit .ensures .0) (c .before .before .set-bit2 .ensures .0)
 
 pub write-topic-spec : {M : Type 1} → statement M
 write-topic-spec =

@@ -3,7 +3,7 @@
 use borrow.Author.Needs.{needs}
 use Rattle.rules.specs.Step.{effect}
 use Rattle.gate.proofs.CallLaws.{call-ends}
-use Rattle.peers.proofs.PeerLaws.{connect-range, quiet-connect}
+use Rattle.peers.proofs.PeerLaws.{connect-range, quiet-connect, tested-numbers}
 use Rattle.peers.proofs.connect.Statement.{statement}
 use Rattle.peers.proofs.connect.Tie as tie
 
@@ -17,6 +17,6 @@ connect-spec =
     (λ c κs. search needs)
     (λ c. search needs)
     (λ c. search needs)
-    (λ c κs. search (call-ends, needs))
+    (λ c κs. search (call-ends, tested-numbers, needs))
     (λ c. search (call-ends, connect-range))
     (λ c. search (call-ends, connect-range, quiet-connect)))

@@ -1,7 +1,7 @@
 -- `peers::connect_from`: 6, 4, or what `connect_known` leaves.
 -- Assumes nothing.
 use borrow.Author.Needs.{needs}
-use Rattle.peers.proofs.PeerLaws.{connect-unknown, connect-already, connect-new}
+use Rattle.peers.proofs.PeerLaws.{connect-unknown, connect-already, connect-new, version-fits}
 use Rattle.peers.proofs.connect_from.Statement.{statement}
 use Rattle.peers.proofs.connect_from.Tie as tie
 
@@ -30,6 +30,6 @@ connect-from-spec =
     (λ c. search needs)
     returns-2
     (λ c. search needs)
-    (λ c κs. search needs)
+    (λ c κs. search (version-fits, needs))
     (λ c. search needs)
     returns-3)

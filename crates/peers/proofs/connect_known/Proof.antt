@@ -1,6 +1,5 @@
 -- `peers::connect_known`: the retained record's slot, or an empty one, or 5.
 -- Assumes nothing.
-use mathlib.Core.Path.{_∙_}
 use borrow.Author.Needs.{needs}
 use Rattle.peers.proofs.PeerLaws.{retained-below, empty-below, connect-retained, connect-empty, connect-full}
 use Rattle.peers.proofs.connect_known.Statement.{statement}
@@ -8,13 +7,10 @@ use Rattle.peers.proofs.connect_known.Tie as tie
 
 returns-2 : tie.Need-returns-2
 returns-2 c =
-    let size = c .before .before .before .before .before .before .before .before .before .before .before .before .before .pre .standing
-    .size in
-    connect-full _ _ _ _ _ _ _ (c .before .before .before .before .before .before .before .before .before .before .reclaim .ensures) _
+    let k = c .before .before .before .before .before .before .before .before .before .before .reclaim in
+    connect-full _ _ _ _ _ _ _ (k .ensures .0) _
     (c .before .before .before .before .before .before .find-retained .ensures) (c .before .before .before .before .enum-told .given .1)
-    _ (c .before .before .lowest-empty .ensures) size
-    (c .before .before .before .before .before .before .before .before .before .before .reclaim .kept .0 ∙ size)
-    (c .enum-told2 .given .1)
+    _ (c .before .before .lowest-empty .ensures) (k .ensures .1) (c .enum-told2 .given .1)
 
 pub connect-known-spec : {M : Type 1} → statement M
 connect-known-spec =

@@ -1,7 +1,7 @@
 use borrow.Author.Needs.{needs}
-use Rattle.layout.proofs.ViewLaws.{codes-load}
-use Rattle.layout.proofs.codes.Statement.{statement}
-use Rattle.layout.proofs.codes.Tie as tie
+use Rattle.rows.proofs.ViewLaws.{codes-load}
+use Rattle.rows.proofs.codes.Statement.{statement}
+use Rattle.rows.proofs.codes.Tie as tie
 
 pub codes-spec : {M : Type 1} → statement M
 codes-spec =

@@ -1,7 +1,7 @@
-use Rattle.layout.proofs.ViewLaws.{clock-load}
+use Rattle.rows.proofs.ViewLaws.{clock-load}
 use borrow.Author.Needs.{needs}
-use Rattle.layout.proofs.load_clock.Statement.{statement}
-use Rattle.layout.proofs.load_clock.Tie as tie
+use Rattle.rows.proofs.load_clock.Statement.{statement}
+use Rattle.rows.proofs.load_clock.Tie as tie
 
 shared-slice-read-result : tie.Need-shared-slice-read-result
 shared-slice-read-result c = search needs

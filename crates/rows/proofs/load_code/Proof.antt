@@ -1,7 +1,7 @@
-use Rattle.layout.proofs.ViewLaws.{code-load}
+use Rattle.rows.proofs.ViewLaws.{code-load}
 use borrow.Author.Needs.{needs}
-use Rattle.layout.proofs.load_code.Statement.{statement}
-use Rattle.layout.proofs.load_code.Tie as tie
+use Rattle.rows.proofs.load_code.Statement.{statement}
+use Rattle.rows.proofs.load_code.Tie as tie
 
 add-result : tie.Need-add-result
 add-result c = search needs

@@ -1,7 +1,7 @@
-use Rattle.layout.proofs.ViewLaws.{joined-load}
+use Rattle.rows.proofs.ViewLaws.{joined-load}
 use borrow.Author.Needs.{needs}
-use Rattle.layout.proofs.load_joined.Statement.{statement}
-use Rattle.layout.proofs.load_joined.Tie as tie
+use Rattle.rows.proofs.load_joined.Statement.{statement}
+use Rattle.rows.proofs.load_joined.Tie as tie
 
 add-result : tie.Need-add-result
 add-result c = search needs

@@ -1,8 +1,8 @@
 use mathlib.Core.Path.{_∙_}
-use Rattle.layout.proofs.ViewLaws.{peer-load}
+use Rattle.rows.proofs.ViewLaws.{peer-load}
 use borrow.Author.Needs.{needs}
-use Rattle.layout.proofs.load_peer.Statement.{statement}
-use Rattle.layout.proofs.load_peer.Tie as tie
+use Rattle.rows.proofs.load_peer.Statement.{statement}
+use Rattle.rows.proofs.load_peer.Tie as tie
 
 mul-read-peer : tie.Need-mul-read-peer
 mul-read-peer c = search needs

@@ -1,8 +1,8 @@
 use mathlib.Core.Path.{_∙_}
-use Rattle.layout.proofs.ViewLaws.{topic-load}
+use Rattle.rows.proofs.ViewLaws.{topic-load}
 use borrow.Author.Needs.{needs}
-use Rattle.layout.proofs.load_topic.Statement.{statement}
-use Rattle.layout.proofs.load_topic.Tie as tie
+use Rattle.rows.proofs.load_topic.Statement.{statement}
+use Rattle.rows.proofs.load_topic.Tie as tie
 
 mul-read-topic : tie.Need-mul-read-topic
 mul-read-topic c = search needs

@@ -1,7 +1,7 @@
-use Rattle.layout.proofs.ViewLaws.{clock-store}
+use Rattle.rows.proofs.ViewLaws.{clock-store}
 use borrow.Author.Needs.{needs}
-use Rattle.layout.proofs.store_clock.Statement.{statement}
-use Rattle.layout.proofs.store_clock.Tie as tie
+use Rattle.rows.proofs.store_clock.Statement.{statement}
+use Rattle.rows.proofs.store_clock.Tie as tie
 
 slice-write-cells : tie.Need-slice-write-cells
 slice-write-cells c = search needs

@@ -1,9 +1,9 @@
 use mathlib.Core.Path.{_∙_, ap}
 use borrow.Author.Needs.{needs}
-use Rattle.layout.specs.View.{stateOf}
-use Rattle.layout.proofs.ViewLaws.{codes-store}
-use Rattle.layout.proofs.store_codes.Statement.{statement}
-use Rattle.layout.proofs.store_codes.Tie as tie
+use Rattle.rows.specs.View.{stateOfRows}
+use Rattle.rows.proofs.ViewLaws.{codes-store}
+use Rattle.rows.proofs.store_codes.Statement.{statement}
+use Rattle.rows.proofs.store_codes.Tie as tie
 
 pub store-codes-spec : {M : Type 1} → statement M
 store-codes-spec =
@@ -13,5 +13,5 @@ store-codes-spec =
     (λ c. search needs)
     (λ c.
     let s = c .before .before .before .before .before .before in
-    ap stateOf (c .before .before .write-row .ensures)
+    ap stateOfRows (c .before .before .write-row .ensures)
     ∙ codes-store (s .args .cells .now) (s .pre .0) (s .args .codes .now) (s .pre .1)))

@@ -1,7 +1,7 @@
-use Rattle.layout.proofs.ViewLaws.{joined-store}
+use Rattle.rows.proofs.ViewLaws.{joined-store}
 use borrow.Author.Needs.{needs}
-use Rattle.layout.proofs.store_joined.Statement.{statement}
-use Rattle.layout.proofs.store_joined.Tie as tie
+use Rattle.rows.proofs.store_joined.Statement.{statement}
+use Rattle.rows.proofs.store_joined.Tie as tie
 
 add-cells : tie.Need-add-cells
 add-cells c = search needs

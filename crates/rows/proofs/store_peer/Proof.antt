@@ -1,12 +1,12 @@
--- `layout::store_peer` meets its contract: the record is written as one row, which `peer-store` says is the state with that peer. Assumes
+-- `rows::store_peer` meets its contract: the record is written as one row, which `peer-store` says is the state with that peer. Assumes
 -- nothing.
 use mathlib.Core.Path.{_≡_, _∙_, ap}
 use lib.ListN.{length}
-use Rattle.layout.specs.View.{stateOf, cellsOfPeer}
-use Rattle.layout.proofs.ViewLaws.{peer-store}
+use Rattle.rows.specs.View.{stateOfRows, cellsOfPeer}
+use Rattle.rows.proofs.ViewLaws.{peer-store}
 use borrow.Author.Needs.{needs}
-use Rattle.layout.proofs.store_peer.Statement.{statement}
-use Rattle.layout.proofs.store_peer.Tie as tie
+use Rattle.rows.proofs.store_peer.Statement.{statement}
+use Rattle.rows.proofs.store_peer.Tie as tie
 
 array-read-t8 : tie.Need-array-read-t8
 array-read-t8 c = search needs
@@ -52,7 +52,7 @@ unfolding cellsOfPeer
 returns c =
     let s = c .before .before .before .before .before .before .before in
     let g : length (s .args .p .backoff) ≡ 8 = search needs in
-    ap stateOf (c .before .before .write-row .ensures)
+    ap stateOfRows (c .before .before .write-row .ensures)
     ∙ peer-store (s .args .cells .now) (s .pre .0) (s .args .slot) (s .args .p) (s .pre .1) g
 
 pub store-peer-spec : {M : Type 1} → statement M

@@ -1,7 +1,7 @@
-use Rattle.layout.proofs.ViewLaws.{setup-store}
+use Rattle.rows.proofs.ViewLaws.{setup-store}
 use borrow.Author.Needs.{needs}
-use Rattle.layout.proofs.store_setup.Statement.{statement}
-use Rattle.layout.proofs.store_setup.Tie as tie
+use Rattle.rows.proofs.store_setup.Statement.{statement}
+use Rattle.rows.proofs.store_setup.Tie as tie
 
 pub store-setup-spec : {M : Type 1} → statement M
 store-setup-spec =

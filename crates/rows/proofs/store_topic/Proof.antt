@@ -1,9 +1,9 @@
 use mathlib.Core.Path.{_∙_, ap}
-use Rattle.layout.specs.View.{stateOf, cellsOfTopic}
-use Rattle.layout.proofs.ViewLaws.{topic-store}
+use Rattle.rows.specs.View.{stateOfRows, cellsOfTopic}
+use Rattle.rows.proofs.ViewLaws.{topic-store}
 use borrow.Author.Needs.{needs}
-use Rattle.layout.proofs.store_topic.Statement.{statement}
-use Rattle.layout.proofs.store_topic.Tie as tie
+use Rattle.rows.proofs.store_topic.Statement.{statement}
+use Rattle.rows.proofs.store_topic.Tie as tie
 
 mul-write-row : tie.Need-mul-write-row
 mul-write-row c = search needs
@@ -24,7 +24,7 @@ returns : tie.Need-returns
 unfolding cellsOfTopic
 returns c =
     let s = c .before .before .before .before .before .before in
-    ap stateOf (c .before .before .write-row .ensures) ∙ topic-store (s .args .cells .now) (s .pre .0) (s .args .k) (s .args .t) (s .pre .1)
+    ap stateOfRows (c .before .before .write-row .ensures) ∙ topic-store (s .args .cells .now) (s .pre .0) (s .args .k) (s .args .t) (s .pre .1)
 
 pub store-topic-spec : {M : Type 1} → statement M
 store-topic-spec =

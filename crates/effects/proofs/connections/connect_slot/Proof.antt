@@ -11,7 +11,9 @@ connect-slot-spec =
     (λ c κs. search needs)
     (λ c κs. search needs)
     (λ c κs.
-    let s = c .before .before .before .before .before in
-    (s .pre .0 .size, (s .pre .0 .slot, connected-fits _ _ _ _ _ _ (c .before .before .load-peer .ensures .1) (s .pre .1) (c .connected-as .ensures))))
+    let s = c .before .before .before .before .before in (
+      s .pre .0 .size,
+      (s .pre .0 .slot, connected-fits _ _ _ _ _ _ (c .before .before .load-peer .ensures .1) (s .pre .1) (c .connected-as .ensures)),
+    ))
     (λ c. search needs)
     (λ c. cc))

@@ -20,4 +20,5 @@ pub empty-slot-spec : {M : Type 1} → statement M
 empty-slot-spec =
     tie.close (tie.spec (λ c κs. search needs) (λ c κs. search needs) (λ c κs.
     let s = c .before .before .before .before .before .before .before in
-    (c .before .before .before .before .empty-topics .kept .0 ∙ s .pre .size, (s .pre .slot, none-fits _ (c .empty-peer .ensures)))) (λ c. search needs) returns)
+    (c .before .before .before .before .empty-topics .kept .0 ∙ s .pre .size, (s .pre .slot, none-fits _ (c .empty-peer .ensures))))
+    (λ c. search needs) returns)

@@ -24,7 +24,8 @@ loop-again c =
       omega arith,
       k .kept .0 ∙ l .inv .1,
       iter-more (reclaimSlot (a .time)) (stateOf (a .table .now)) (l .slot) (stateOf (l .table)) _ (l .inv .2) (k .ensures .0),
-      λ n. k .ensures .1 (ap (λ w. reclaimable (peerIn (stateOf w) (l .slot)) (a .time)) (l .inv .3 n) ∙ n .each (l .slot) (omega arith)) ∙ l .inv .3 n,
+      λ n. k .ensures .1 (ap (λ w. reclaimable (peerIn (stateOf w) (l .slot)) (a .time)) (l .inv .3 n) ∙ n .each (l .slot) (omega arith))
+          ∙ l .inv .3 n,
     )
 
 returns : tie.Need-returns Inv-loop μ-loop

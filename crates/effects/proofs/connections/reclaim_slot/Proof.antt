@@ -1,6 +1,6 @@
 -- `effects::connections::reclaim_slot`: the record goes if it may be reclaimed.
-use mathlib.Core.Path.{_≡_, refl, sym, ap, _∙_}
-use mathlib.Core.Bool.{true, true≢false}
+use mathlib.Core.Path.{refl, sym, ap, _∙_}
+use mathlib.Core.Bool.{true≢false}
 use borrow.Author.Needs.{needs}
 use Rattle.index.proofs.Flags.{yes, no}
 use Rattle.records.specs.declared.Peer.{Peer}
