@@ -1,18 +1,16 @@
 -- Laws of runs of cells, over any place, width and count.
 -- Assumes nothing.
-use Prim.Native.Nat.{ℕ, zero, suc, _+_, _*_, _-_, _≤_, _<_, suc-le-suc}
+use Prim.Native.Nat.{ℕ, suc, _+_, _*_, _≤_, _<_}
 use mathlib.Core.Path.{_≡_, refl, sym, ap, _∙_, subst}
-use mathlib.Core.Logic.{_≢_}
 use mathlib.Core.List.{List, [], _∷_, _++_, map}
-use native.Mathlib.Nat.{not-suc-le-zero, le-of-suc-le-suc, zero-lt-suc, zero-add, add-zero, add-assoc, zero-mul, suc-mul, mul-le-mul-right}
+use native.Mathlib.Nat.{zero-add, add-zero, add-assoc, zero-mul, suc-mul, mul-le-mul-right}
 use native.Mathlib.Numerals.{add-one}
 use native.Mathlib.Omega.{arith}
 use native.Mathlib.Decide.{decLt}
-use lib.ListN.{length, getD, set, take, drop, replicate, length-append, length-drop, List·getD-append}
-use lib.Seq.{length-paste-head}
+use lib.ListN.{length, getD, set, take, drop, length-append, length-drop, List·getD-append}
 use lib.Seq.{getD-take, getD-drop, getD-append-add, length-take-le, set-split, append-snoc}
 use Rattle.layout.specs.Rows.{tab, put}
-use Rattle.layout.proofs.RowLaws.{length-tab, getD-tab, tab-same, tab-set, tab-getD, getD-put-before, getD-put-in, getD-put-after, tab-const}
+use Rattle.layout.proofs.RowLaws.{length-tab, getD-tab, tab-same, tab-set, tab-getD, getD-put-before, getD-put-in, getD-put-after}
 use Rattle.rows.specs.Rows.{span, rows, joins}
 
 -- ---- a store of a run
@@ -22,18 +20,21 @@ module _ (cells : List ℕ) (at : ℕ) (vs : List ℕ) (fits : at + length vs �
   pub span-put-same : span (put cells at vs) at (length vs) ≡ vs
   unfolding span
   span-put-same =
-      tab-same (length vs) (λ k. getD (put cells at vs) (at + k) 0) (λ k. getD vs k 0) (λ k h. getD-put-in cells at vs fits k h) ∙ tab-getD vs 0
+      tab-same (length vs) (λ k. getD (put cells at vs) (at + k) 0) (λ k. getD vs k 0) (λ k h. getD-put-in cells at vs fits k h)
+      ∙ tab-getD vs 0
 
   -- a run that ends before the store, or starts after it, is as it was
   pub span-put-before : (a w : ℕ) → a + w ≤ at → span (put cells at vs) a w ≡ span cells a w
   unfolding span
   span-put-before a w h =
-      tab-same w (λ k. getD (put cells at vs) (a + k) 0) (λ k. getD cells (a + k) 0) (λ k b. getD-put-before cells at vs fits (a + k) (omega arith))
+      tab-same w (λ k. getD (put cells at vs) (a + k) 0) (λ k. getD cells (a + k) 0)
+      (λ k b. getD-put-before cells at vs fits (a + k) (omega arith))
 
   pub span-put-after : (a w : ℕ) → at + length vs ≤ a → span (put cells at vs) a w ≡ span cells a w
   unfolding span
   span-put-after a w h =
-      tab-same w (λ k. getD (put cells at vs) (a + k) 0) (λ k. getD cells (a + k) 0) (λ k b. getD-put-after cells at vs fits (a + k) (omega arith))
+      tab-same w (λ k. getD (put cells at vs) (a + k) 0) (λ k. getD cells (a + k) 0)
+      (λ k b. getD-put-after cells at vs fits (a + k) (omega arith))
 
 -- one cell
 pub put-one : (cells : List ℕ) (i v : ℕ) → i < length cells → put cells i (v ∷ []) ≡ set cells i v
@@ -93,21 +94,6 @@ rows-put-same cells o w n i vs h e fits =
     (λ k hk ne. elim (decLt k i) [
       | yes l ↦ span-put-before cells (o + i * w) vs f (o + k * w) w (omega (arith, stride k i w l))
       | no l ↦ span-put-after cells (o + i * w) vs f (o + k * w) w (omega (arith, stride i k w (omega arith)))
-    ])
-
--- one cell of record i is replaced, and no other
-pub rows-put-cell : (cells : List ℕ) (o w n i j v : ℕ) → i < n → j < w → o + n * w ≤ length cells
-    → rows (put cells (o + i * w + j) (v ∷ [])) o w n ≡ set (rows cells o w n) i (set (span cells (o + i * w) w) j v)
-unfolding rows
-rows-put-cell cells o w n i j v h l fits =
-    let b : i * w + w ≤ n * w = stride i n w h in
-    let f : (o + i * w + j) + length (v ∷ []) ≤ length cells = omega arith in
-    tab-set n (λ k. span cells (o + k * w) w) (λ k. span (put cells (o + i * w + j) (v ∷ [])) (o + k * w) w) i
-    (set (span cells (o + i * w) w) j v)
-    (span-put-one cells (o + i * w) w j v l (omega arith))
-    (λ k hk ne. elim (decLt k i) [
-      | yes m ↦ span-put-before cells (o + i * w + j) (v ∷ []) f (o + k * w) w (omega (arith, stride k i w m))
-      | no m ↦ span-put-after cells (o + i * w + j) (v ∷ []) f (o + k * w) w (omega (arith, stride i k w (omega arith)))
     ])
 
 -- a store before or after the region leaves it
@@ -192,21 +178,3 @@ module _ {A : Type 0} (f : A → List ℕ) (w : ℕ) (each : (x : A) → length 
 
       next : (k : ℕ) → 0 + suc k * w ≡ length (f x) + (0 + k * w)
       next k = omega (arith, each x, suc-mul k w)
-
--- ---- a table of zeros
-
-pub map-tab : {A B : Type 0} (g : A → B) (n : ℕ) (f : ℕ → A) → map g (tab n f) ≡ tab n (λ k. g (f k))
-map-tab g zero f = refl
-map-tab g (suc n) f = ap (λ r. g (f zero) ∷ r) (map-tab g n (λ k. f (suc k)))
-
-module _ (c : List ℕ) (zeros : (k : ℕ) → getD c k 0 ≡ 0) where
-  pub zero-span : (o n : ℕ) → span c o n ≡ replicate n 0
-  unfolding span
-  zero-span o n = tab-same n (λ k. getD c (o + k) 0) (λ k. 0) (λ k h. zeros (o + k)) ∙ tab-const n 0
-
-  pub zero-rows : {A : Type 0} (g : List ℕ → A) (o w n : ℕ) → map g (rows c o w n) ≡ replicate n (g (replicate w 0))
-  unfolding rows
-  zero-rows g o w n =
-      map-tab g n (λ i. span c (o + i * w) w)
-      ∙ tab-same n (λ i. g (span c (o + i * w) w)) (λ i. g (replicate w 0)) (λ i h. ap g (zero-span (o + i * w) w))
-      ∙ tab-const n (g (replicate w 0))

@@ -5,9 +5,7 @@ use mathlib.Core.Path.{_≡_, refl, sym, ap, _∙_, subst}
 use mathlib.Core.List.{List, [], _∷_, map}
 use native.Mathlib.Nat.{add-zero}
 use native.Mathlib.Omega.{arith}
-use lib.ListN.{length, getD, set, take, drop, List·getD-map, List·getD-eq-default}
-use lib.Seq.{getD-set-same, getD-set-other}
-use Rattle.index.proofs.Flags.{by-order}
+use lib.ListN.{length, getD, set, take, drop, List·getD-map}
 use Rattle.records.specs.declared.Setup.{Setup}
 use Rattle.records.specs.declared.Peer.{Peer}
 use Rattle.records.specs.declared.TopicRecord.{TopicRecord}
@@ -17,14 +15,14 @@ use Rattle.layout.specs.Rows.{tab, put}
 use Rattle.rows.specs.Rows.{span, rows}
 use Rattle.layout.specs.View.{placeCount}
 use Rattle.rows.specs.View.{joinedAt, codesAt, setupAt, setupCells, peersAt, peerCells, topicsAt, topicCells, rowsCount}
-use Rattle.layout.specs.View.{setEnd, setCodes}
+use Rattle.layout.specs.View.{setCodes}
 use Rattle.rows.specs.View.{setupOf, peerOf, topicOf, peerFrom, topicFrom, cellsOfPeer, cellsOfTopic, stateOfRows}
-use Rattle.layout.specs.View.{setSetup, zeroState}
+use Rattle.layout.specs.View.{setSetup}
 use Rattle.layout.proofs.RowLaws.{tab-getD}
-use Rattle.rows.proofs.RowLaws.{getD-rows, stride, rows-put-same, rows-put-cell, rows-put-before, rows-put-after}
+use Rattle.rows.proofs.RowLaws.{getD-rows, rows-put-same, rows-put-before, rows-put-after}
 use Rattle.layout.proofs.RowLaws.{getD-put-before, getD-put-in}
 use Rattle.rows.proofs.RowLaws.{span-put-before, span-put-after, put-one, span-put-one}
-use Rattle.rows.proofs.RowLaws.{span-put-same, span-part, getD-span, zero-span, zero-rows}
+use Rattle.rows.proofs.RowLaws.{span-put-same, span-part, getD-span}
 
 pub map-set : {A B : Type 0} (f : A → B) (l : List A) (i : ℕ) (v : A) → map f (set l i v) ≡ set (map f l) i (f v)
 map-set f [] i v = refl
@@ -108,22 +106,6 @@ pub topic-count : (t : TopicRecord) → length (cellsOfTopic t) ≡ topicCells
 unfolding cellsOfTopic
 topic-count t = refl
 
--- a backoff end is a cell of its row
-end-of-row :
-    (cells : List ℕ) (b t end : ℕ) →
-    t < topicCount →
-    peerOf (set (span cells b peerCells) (9 + t) end) ≡ setEnd (peerOf (span cells b peerCells)) t end
-unfolding peerOf span setEnd
-end-of-row cells b zero end h = refl
-end-of-row cells b (suc zero) end h = refl
-end-of-row cells b (suc (suc zero)) end h = refl
-end-of-row cells b (suc (suc (suc zero))) end h = refl
-end-of-row cells b (suc (suc (suc (suc zero)))) end h = refl
-end-of-row cells b (suc (suc (suc (suc (suc zero))))) end h = refl
-end-of-row cells b (suc (suc (suc (suc (suc (suc zero)))))) end h = refl
-end-of-row cells b (suc (suc (suc (suc (suc (suc (suc zero))))))) end h = refl
-end-of-row cells b (suc (suc (suc (suc (suc (suc (suc (suc t)))))))) end h = absurd (omega arith)
-
 -- ---- a store
 
 module _ (cells : List ℕ) (size : length cells ≡ rowsCount) where
@@ -206,31 +188,6 @@ module _ (cells : List ℕ) (size : length cells ≡ rowsCount) where
             (rows-put-after cells topicsAt topicCells placeCount (peersAt + s * peerCells) (cellsOfPeer p) f (omega arith)) i;
       }
 
-  pub end-store :
-      (s t end : ℕ) →
-      s < slotCount →
-      t < topicCount →
-      stateOfRows (set cells (peersAt + s * peerCells + (9 + t)) end) ≡ setPeer (stateOfRows cells) s (setEnd (peerIn (stateOfRows cells) s) t end)
-  unfolding stateOfRows setPeer peerIn
-  end-store s t end h l =
-      let b : s * peerCells + peerCells ≤ slotCount * peerCells = stride s slotCount peerCells h in
-      let at = peersAt + s * peerCells + (9 + t) in
-      let f : at + length (end ∷ []) ≤ length cells = omega arith in
-      let row = span cells (peersAt + s * peerCells) peerCells in
-      ap stateOfRows (sym (put-one cells at end (omega arith)))
-      ∙ λ i. record {
-        clock = getD-put-before cells at (end ∷ []) f 0 (omega arith) i;
-        joined = span-put-before cells at (end ∷ []) f joinedAt topicCount (omega arith) i;
-        codes = span-put-before cells at (end ∷ []) f codesAt paramCount (omega arith) i;
-        setup = ap setupOf (span-put-before cells at (end ∷ []) f setupAt setupCells (omega arith)) i;
-        peers =
-            (ap (map peerOf) (rows-put-cell cells peersAt peerCells slotCount s (9 + t) end h (omega arith) (omega arith))
-            ∙ map-set peerOf (rows cells peersAt peerCells slotCount) s (set row (9 + t) end)
-            ∙ ap (set (map peerOf (rows cells peersAt peerCells slotCount)) s)
-            (end-of-row cells (peersAt + s * peerCells) t end l ∙ ap (λ (p : Peer). setEnd p t end) (row-of cells s h))) i;
-        topics = ap (map topicOf) (rows-put-after cells topicsAt topicCells placeCount at (end ∷ []) f (omega arith)) i;
-      }
-
   pub topic-store :
       (k : ℕ) (t : TopicRecord) →
       k < placeCount →
@@ -251,41 +208,3 @@ module _ (cells : List ℕ) (size : length cells ≡ rowsCount) where
             ∙ map-set topicOf (rows cells topicsAt topicCells placeCount) k (cellsOfTopic t)
             ∙ ap (set (map topicOf (rows cells topicsAt topicCells placeCount)) k) (topic-back t)) i;
       }
-
--- ---- a table of zeros
-
-pub zero-state : (cells : List ℕ) → ((k : ℕ) → getD cells k 0 ≡ 0) → stateOfRows cells ≡ zeroState
-unfolding stateOfRows zeroState setupOf peerOf topicOf span
-zero-state cells z =
-    λ i. record {
-      clock = z 0 i;
-      joined = zero-span cells z joinedAt topicCount i;
-      codes = zero-span cells z codesAt paramCount i;
-      setup = record { edition = z setupAt i };
-      peers = zero-rows cells z peerOf peersAt peerCells slotCount i;
-      topics = zero-rows cells z topicOf topicsAt topicCells placeCount i;
-    }
-
--- zeros up to k, and one more; zeros up to the end
-pub zero-more :
-    (cells : List ℕ) (k : ℕ) →
-    k < length cells →
-    ((j : ℕ) → j < k → getD cells j 0 ≡ 0) →
-    (j : ℕ) →
-    j < k + 1 →
-    getD (set cells k 0) j 0 ≡ 0
-zero-more cells k b z j h =
-    by-order
-    (getD (set cells k 0) j 0 ≡ 0)
-    j
-    k
-    (λ (l : j < k). getD-set-other cells k j 0 0 (λ e. omega arith) ∙ z j l)
-    (λ (l : k ≤ j).
-    let e : j ≡ k = omega arith in
-    rw e (getD-set-same cells k 0 0 b))
-
-pub zero-all :
-    (cells : List ℕ) (k : ℕ) → length cells ≤ k → ((j : ℕ) → j < k → getD cells j 0 ≡ 0) → stateOfRows cells ≡ zeroState
-zero-all cells k b z =
-    zero-state cells (λ j.
-    by-order (getD cells j 0 ≡ 0) j k (λ (l : j < k). z j l) (λ (l : k ≤ j). List·getD-eq-default cells 0 {n = j} (omega arith)))

@@ -4,8 +4,7 @@ ghost use Prim.Native.Nat.{_+_, _≤_, _<_};
 ghost use lib.ListN.{length};
 ghost use Rattle.records.specs.Records.{joinedIn, codeIn, peerIn, topicIn, setClock, setJoined, setPeer, setTopic, slotCount, topicCount};
 ghost use Rattle.records.specs.Records.{paramCount};
-ghost use Rattle.layout.specs.Rows.{put};
-ghost use Rattle.layout.specs.View.{placeCount, setEnd, setCodes, setSetup, zeroState};
+ghost use Rattle.layout.specs.View.{placeCount, setCodes, setSetup};
 ghost use Rattle.rows.specs.View.{rowsCount, peerFrom, topicFrom, stateOfRows};
 use layout::PARAMS;
 use records::Peer;
@@ -157,6 +156,14 @@ pub fn load_peer(cells: &[u64], slot: usize) -> Peer
     ensures { λ r. ⌜ r ≡ peerIn (stateOfRows (now (cells .entry))) slot ⌝ }
 {
     read_peer(cells, PEERS_AT + slot * PEER_CELLS)
+}
+
+// Its id, for a loop that wants no more.
+pub fn load_id(cells: &[u64], slot: usize) -> u64
+    requires { ⌜ (length (now cells) ≡ rowsCount) × (slot < slotCount) ⌝ }
+    ensures { λ r. ⌜ r ≡ peerIn (stateOfRows (now (cells .entry))) slot .id ⌝ }
+{
+    cells[PEERS_AT + slot * PEER_CELLS + 1]
 }
 
 pub fn store_peer(cells: &mut [u64], slot: usize, p: Peer)

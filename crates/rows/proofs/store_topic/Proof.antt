@@ -24,7 +24,8 @@ returns : tie.Need-returns
 unfolding cellsOfTopic
 returns c =
     let s = c .before .before .before .before .before .before in
-    ap stateOfRows (c .before .before .write-row .ensures) ∙ topic-store (s .args .cells .now) (s .pre .0) (s .args .k) (s .args .t) (s .pre .1)
+    ap stateOfRows (c .before .before .write-row .ensures)
+    ∙ topic-store (s .args .cells .now) (s .pre .0) (s .args .k) (s .args .t) (s .pre .1)
 
 pub store-topic-spec : {M : Type 1} → statement M
 store-topic-spec =
