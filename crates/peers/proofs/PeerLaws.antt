@@ -23,7 +23,7 @@ use Rattle.layout.proofs.StateLaws.{sized-of}
 use Rattle.lookup.specs.Find.{holds, findConnected, findRetained, lowestEmpty}
 use Rattle.lookup.specs.declared.Named.{Named}
 use Rattle.lookup.specs.declared.Named.the-variants.{Version, Unknown}
-use Rattle.lookup.specs.Name.{versionOf}
+use Rattle.lookup.specs.Name.{sameBytes, meshsub, versionOf}
 use Rattle.effects.specs.Effects.{onPeer, withP5, retainSeconds, retainedTo, endAfter, leftTopic, departed, reclaimed, NoneReclaimable}
 use Rattle.effects.proofs.EffectLaws.{full-none}
 use Rattle.effects.specs.Lent.{ConnectFits}
@@ -201,7 +201,7 @@ version-cases false false v e = let z : _≡_ {A = ℕ} 0 1 = cc in absurd (omeg
 
 version-most : (name : List ℕ) (n : Named) (v : ℕ) → n ≡ versionOf name → n ≡ Version v → v ≤ 3
 unfolding versionOf
-version-most name n v e g = version-cases _ _ v (sym e ∙ g)
+version-most name n v e g = version-cases (sameBytes name (meshsub 48)) (sameBytes name (meshsub 49)) v (sym e ∙ g)
 
 pub version-fits :
     (name : List ℕ) (n : Named) (id group flags version : ℕ) →
@@ -226,14 +226,13 @@ tested-numbers table a b room time g id group flags eg e q =
     record { id = omega arith; group = omega arith; flags = leb-true flags 3 (u .1) }
 
 pub tested-p5 :
-    (table : List ℕ) (a b d : Bool) (room time : ℕ) (g : Gate) (p5 : ℤ) →
-    SFits w64 p5 →
+    (table : List ℕ) (a b d : Bool) (room time : ℕ) (g : Gate) (x : ℕ) →
     g ≡ gateOf (stateOf table) (a && (b && d)) room time →
     g ≡ Pass →
-    d ≡ leb (natAbs (toZ w64 (ofZ w64 p5))) 1000000000 →
-    natAbs p5 ≤ 1000000000
-tested-p5 table a b d room time g p5 f eg e q =
-    leb-true (natAbs p5) 1000000000 (sym (rw (toZ-ofZ f) at q) ∙ both b d (gate-fine table a (b && d) room time g eg e) .1)
+    d ≡ leb x 1000000000 →
+    x ≤ 1000000000
+tested-p5 table a b d room time g x eg e q =
+    leb-true x 1000000000 (sym q ∙ both b d (gate-fine table a (b && d) room time g eg e) .1)
 
 code-most : (x : ℤ) → natAbs x ≤ 1000000000 → codeOf x < 4294967296
 code-most (pos n) h = omega arith

@@ -17,6 +17,6 @@ connect-spec =
     (λ c κs. search needs)
     (λ c. search needs)
     (λ c. search needs)
-    (λ c κs. search (call-ends, tested-numbers, needs))
+    (λ c κs. (search (call-ends, needs), search tested-numbers))
     (λ c. search (call-ends, connect-range))
     (λ c. search (call-ends, connect-range, quiet-connect)))

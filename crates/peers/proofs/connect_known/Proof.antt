@@ -1,5 +1,6 @@
 -- `peers::connect_known`: the retained record's slot, or an empty one, or 5.
 -- Assumes nothing.
+use mathlib.Core.Path.{_∙_}
 use borrow.Author.Needs.{needs}
 use Rattle.peers.proofs.PeerLaws.{retained-below, empty-below, connect-retained, connect-empty, connect-full}
 use Rattle.peers.proofs.connect_known.Statement.{statement}
@@ -19,7 +20,9 @@ connect-known-spec =
     (λ c κs. search needs)
     (λ c κs. search needs)
     (λ c. search needs)
-    (λ c κs. search (retained-below, needs))
+    (λ c κs.
+    let s = c .before .before .before .before .before .before .before .before .before .before .before in
+    (record { size = c .before .before .before .before .before .before .before .before .reclaim .kept .0 ∙ s .pre .0 .standing .size; slot = search retained-below }, s .pre .1))
     (λ c. search needs)
     (λ c. search connect-retained)
     (λ c. search needs)
@@ -28,6 +31,8 @@ connect-known-spec =
     (λ c. search needs)
     (λ c. search needs)
     returns-2
-    (λ c κs. search (empty-below, needs))
+    (λ c κs.
+    let s = c .before .before .before .before .before .before .before .before .before .before .before .before .before .before .before in
+    (record { size = c .before .before .before .before .before .before .before .before .before .before .before .before .reclaim .kept .0 ∙ s .pre .0 .standing .size; slot = search empty-below }, s .pre .1))
     (λ c. search needs)
     (λ c. search connect-empty))

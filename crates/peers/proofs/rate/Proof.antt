@@ -16,6 +16,6 @@ rate-spec =
     (λ c κs. search needs)
     (λ c. search needs)
     (λ c. search needs)
-    (λ c κs. search (call-ends, tested-p5, needs))
+    (λ c κs. (search (call-ends, needs), search tested-p5))
     (λ c. search (call-ends, p5-range))
     (λ c. search (call-ends, p5-range, quiet-rate, rate-leaves)))
