@@ -26,7 +26,7 @@
  *
  * All memory is yours, and is lent for the length of one call; nothing is kept between calls but the table.
  *
- * - The table, HIVEPADLET_CELLS numbers of 64 bits (42,728 bytes), is the whole router. You may have any number of routers, one
+ * - The table, HIVEPADLET_CELLS numbers of 64 bits (96,128 bytes), is the whole router. You may have any number of routers, one
  *   table each. A table may be copied, saved and restored as bytes on the same machine. Only the calls write it; a damaged
  *   table is refused (12).
  * - The action list is HIVEPADLET_ACTION_NUMBERS numbers of 32 bits, or more; under that, a call refuses (8). A call writes its
@@ -84,7 +84,7 @@ extern "C" {
 
 /* ---- sizes */
 
-#define HIVEPADLET_CELLS 5341           /* numbers of a table */
+#define HIVEPADLET_CELLS 12016          /* numbers of a table */
 #define HIVEPADLET_NUMBERS 147          /* numbers of the parameters */
 #define HIVEPADLET_ACTION_NUMBERS 192   /* numbers of an action list: three for each slot */
 #define HIVEPADLET_PARAMETER_BYTES 737  /* bytes that written parameters may take (edition 1: 735) */
