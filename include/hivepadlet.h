@@ -32,7 +32,7 @@
  * - The action list is HIVEPADLET_ACTION_NUMBERS numbers of 32 bits, or more; under that, a call refuses (8). A call writes its
  *   actions from the start of the list and leaves the numbers past them as they were. One list may serve all calls.
  * - Lengths count elements, not bytes.
- * - The stack: most calls take less than 2 KiB, hivepadlet_heartbeat 15 KiB, hivepadlet_fresh, _read and _write up to 7 KiB, as
+ * - The stack: most calls take some 2 KiB, hivepadlet_heartbeat at most 16 KiB, hivepadlet_fresh, _read and _write up to 7 KiB, as
  *   measured by tests/host_stack.c and not proved. No input makes it grow: no function calls itself but the reader and the writer
  *   of one parameter, ten deep at most.
  *
@@ -86,13 +86,14 @@ extern "C" {
 
 #define HIVEPADLET_CELLS 12016          /* numbers of a table */
 #define HIVEPADLET_NUMBERS 147          /* numbers of the parameters */
-#define HIVEPADLET_ACTION_NUMBERS 192   /* numbers of an action list: three for each slot */
+#define HIVEPADLET_ACTION_NUMBERS 768   /* numbers of an action list: three for each slot */
 #define HIVEPADLET_PARAMETER_BYTES 737  /* bytes that written parameters may take (edition 1: 735) */
 #define HIVEPADLET_SUPPLIER_BYTES 1323  /* bytes of the other supplier's parameters */
-#define HIVEPADLET_SLOTS 64             /* peers that a router holds, and numbers of a permutation */
+#define HIVEPADLET_SLOTS 256            /* peers that a router holds, and numbers of a permutation */
 #define HIVEPADLET_TOPICS 8
 #define HIVEPADLET_WHY_NUMBERS 6        /* numbers of a score: its five parts, and the score */
 #define HIVEPADLET_NAMES_BYTES 520      /* topic names: for each topic a length (0: no name, 1 to 64) and 64 bytes */
+#define HIVEPADLET_MESSAGE_ACTIONS 64   /* actions that one message may hold */
 #define HIVEPADLET_MESSAGE_BYTES 16384  /* the longest message that is read */
 #define HIVEPADLET_ENTRY_NUMBERS 24576  /* numbers of a list of entries: three for each of 8,192 */
 #define HIVEPADLET_WRITTEN_BYTES 5107   /* the longest message that is written */
@@ -123,10 +124,10 @@ enum hivepadlet_answer {
                                          1 and 2; topic names that cannot be, or a list that is no message's */
     HIVEPADLET_NOT_CONNECTED = 3,     /* no connected peer has the id */
     HIVEPADLET_ALREADY_CONNECTED = 4, /* connect of a connected id */
-    HIVEPADLET_NO_SLOT = 5,           /* all 64 slots are taken, and none can be reclaimed yet */
+    HIVEPADLET_NO_SLOT = 5,           /* all 256 slots are taken, and none can be reclaimed yet */
     HIVEPADLET_UNKNOWN_PROTOCOL = 6,  /* the protocol name is neither of the two */
-    HIVEPADLET_NOT_PERMUTATION = 7,   /* not each of 0 to 63 once */
-    HIVEPADLET_LIST_SHORT = 8,        /* action list under 192 numbers; list of entries under 24,576; in writing parameters,
+    HIVEPADLET_NOT_PERMUTATION = 7,   /* not each of 0 to 255 once */
+    HIVEPADLET_LIST_SHORT = 8,        /* action list under 768 numbers; list of entries under 24,576; in writing parameters,
                                          buffer under 735 bytes, or 737 for edition 2 */
     HIVEPADLET_BROKEN = 9,            /* a parameter outside its limits, or a broken entry of the other supplier's: its index; or
                                          a joint rule broken: 200 + the rule */
@@ -204,7 +205,7 @@ enum hivepadlet_general {
     HIVEPADLET_TOPIC_CAP = 12,               /* 0..10^9: most that all topics together add to a score; 0 is none */
     HIVEPADLET_W5 = 13,                      /* 1..100: weight of P5, application-specific score */
     HIVEPADLET_W6 = 14,                      /* -100..-1: weight of P6, IP colocation */
-    HIVEPADLET_P6_THRESHOLD = 15,            /* 1..64: peers that may share an address group freely */
+    HIVEPADLET_P6_THRESHOLD = 15,            /* 1..256: peers that may share an address group freely */
     HIVEPADLET_W7 = 16,                      /* -100..-1: weight of P7, behaviour penalty */
     HIVEPADLET_P7_DECAY = 17,                /* 1..999 */
     HIVEPADLET_DECAY_TO_ZERO = 18            /* 0..1000: a counter below it becomes 0 */
@@ -317,7 +318,7 @@ uint64_t hivepadlet_leave(uint64_t table[HIVEPADLET_CELLS], uint64_t time, uint6
  * to D_out outbound peers; if ask is 1 (else 0), a mesh whose median score is poor takes in up to two better peers. The caller
  * decides how often to ask; once a minute is usual. A peer that had a backoff in the topic is sent a GRAFT from a second after
  * its end on, so that a neighbour whose clock is a little late does not count it as one during the backoff.
- * permutation: each of 0 to 63 once (permutation_length 64), drawn anew for each call from random numbers that no peer can
+ * permutation: each of 0 to 255 once (permutation_length 256), drawn anew for each call from random numbers that no peer can
  * foresee. Of several peers that qualify, the one whose slot comes first in it is taken. 0, or 7, or 11 where the topic is not
  * joined. */
 uint64_t hivepadlet_heartbeat(uint64_t table[HIVEPADLET_CELLS], uint64_t time, uint64_t topic, uint64_t ask,
@@ -420,11 +421,11 @@ uint64_t hivepadlet_read_message(const uint8_t names[HIVEPADLET_NAMES_BYTES], co
                                  uint64_t *entries, size_t entries_length);
 
 /* Writes one message for one peer to the start of a buffer; HIVEPADLET_WRITTEN_BYTES are always enough.
- * actions: at most 64 as the calls write them, all with the same peer's id; topics: the topic of each, so that actions_length is
- * 3 * topics_length. changes: at most 8 of our own joins and leaves, pairs of 1 (join) or 0 (leave) and a topic. Every topic has a
- * name. 0 with the length of the message, 0 for empty lists; or 2 for any other list; or 13. The buffer is written only if the
- * answer is 0, and the bytes past the message are unchanged. What is read from these bytes is the joins and leaves, then the
- * GRAFTs, then the PRUNEs, each in their order. */
+ * actions: at most HIVEPADLET_MESSAGE_ACTIONS as the calls write them, all with the same peer's id; topics: the topic of each, so
+ * that actions_length is 3 * topics_length. changes: at most 8 of our own joins and leaves, pairs of 1 (join) or 0 (leave) and a
+ * topic. Every topic has a name. 0 with the length of the message, 0 for empty lists; or 2 for any other list; or 13. The buffer is
+ * written only if the answer is 0, and the bytes past the message are unchanged. What is read from these bytes is the joins and
+ * leaves, then the GRAFTs, then the PRUNEs, each in their order. */
 uint64_t hivepadlet_write_message(const uint8_t names[HIVEPADLET_NAMES_BYTES], const uint32_t *actions, size_t actions_length,
                                   const uint64_t *topics, size_t topics_length, const uint64_t *changes, size_t changes_length,
                                   uint8_t *buffer, size_t length);

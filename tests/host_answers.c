@@ -154,8 +154,8 @@ static void refusals(void)
     refuses("a connected id", hivepadlet_connect(table, 5, 7, 1, 0, NAME, LIST), HIVEPADLET_ALREADY_CONNECTED);
     refuses("an unknown name", hivepadlet_connect(table, 5, 9, 1, 0, NAME_2, LIST), HIVEPADLET_UNKNOWN_PROTOCOL);
     refuses("no name", hivepadlet_connect(table, 5, 9, 1, 0, NAME_0, LIST), HIVEPADLET_UNKNOWN_PROTOCOL);
-    refuses("no permutation", hivepadlet_heartbeat(table, 5, 0, 0, permutation, 64, LIST), HIVEPADLET_NOT_PERMUTATION);
-    refuses("191 numbers", hivepadlet_decay(table, 5, actions, 191), HIVEPADLET_LIST_SHORT);
+    refuses("no permutation", hivepadlet_heartbeat(table, 5, 0, 0, permutation, HIVEPADLET_SLOTS, LIST), HIVEPADLET_NOT_PERMUTATION);
+    refuses("a number less", hivepadlet_decay(table, 5, actions, HIVEPADLET_ACTION_NUMBERS - 1), HIVEPADLET_LIST_SHORT);
     int64_t why[HIVEPADLET_WHY_NUMBERS] = { 41, 42, 43, 44, 45, 46 };
     refuses("the score of nobody", hivepadlet_score(table, 5, 8, why, LIST), HIVEPADLET_NOT_CONNECTED);
     for (int i = 0; i < HIVEPADLET_WHY_NUMBERS; i++) {
@@ -224,14 +224,14 @@ static void example(void)
     answers("disconnect", hivepadlet_disconnect(table, 6, 7, LIST), HIVEPADLET_DONE, 0);
 }
 
-/* 7 is retained, so 63 others fit */
+/* 7 is retained, so one less than the slots fit */
 static void full(void)
 {
     uint64_t r = 0;
     for (uint64_t id = 100; id < 100 + HIVEPADLET_SLOTS - 1; id++) {
         r |= hivepadlet_connect(table, 6, id, id, HIVEPADLET_OUTBOUND, NAME, LIST);
     }
-    answers("63 peers", r, HIVEPADLET_DONE, 0);
+    answers("all slots but one", r, HIVEPADLET_DONE, 0);
     stands();
     refuses("one more", hivepadlet_connect(table, 6, 99, 0, 0, NAME, LIST), HIVEPADLET_NO_SLOT);
 }

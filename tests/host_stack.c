@@ -9,7 +9,8 @@
 #include <string.h>
 #include <ucontext.h>
 
-enum { SIZE = 1 << 18, MOST = 1 << 14, MARK = 0xa5, PEERS = 50 };
+/* all slots but one are taken, the last by the calls that are measured */
+enum { SIZE = 1 << 18, MOST = 1 << 14, MARK = 0xa5, PEERS = HIVEPADLET_SLOTS - 1 };
 
 static _Alignas(64) uint8_t stack[SIZE];
 static ucontext_t home, there;
@@ -20,8 +21,8 @@ static uint64_t edition;
 static uint64_t permutation[HIVEPADLET_SLOTS];
 static uint8_t bytes[HIVEPADLET_PARAMETER_BYTES], theirs[HIVEPADLET_SUPPLIER_BYTES];
 static uint8_t names[HIVEPADLET_NAMES_BYTES], rpc[HIVEPADLET_WRITTEN_BYTES];
-static uint32_t prunes[HIVEPADLET_ACTION_NUMBERS];
-static uint64_t topics[HIVEPADLET_SLOTS], joins[2 * HIVEPADLET_TOPICS], entries[HIVEPADLET_ENTRY_NUMBERS];
+static uint32_t prunes[3 * HIVEPADLET_MESSAGE_ACTIONS];
+static uint64_t topics[HIVEPADLET_MESSAGE_ACTIONS], joins[2 * HIVEPADLET_TOPICS], entries[HIVEPADLET_ENTRY_NUMBERS];
 static uint64_t answer;
 
 #define LIST actions, HIVEPADLET_ACTION_NUMBERS
@@ -49,8 +50,8 @@ static void imported(void) { answer = hivepadlet_import(theirs, sizeof theirs, n
 static void tests_names(void) { answer = hivepadlet_names(names); }
 static void message(void)
 {
-    answer = hivepadlet_write_message(names, prunes, HIVEPADLET_ACTION_NUMBERS, topics, HIVEPADLET_SLOTS, joins, 2 * HIVEPADLET_TOPICS,
-                                      rpc, sizeof rpc);
+    answer = hivepadlet_write_message(names, prunes, 3 * HIVEPADLET_MESSAGE_ACTIONS, topics, HIVEPADLET_MESSAGE_ACTIONS, joins,
+                                      2 * HIVEPADLET_TOPICS, rpc, sizeof rpc);
 }
 static void message_read(void)
 {
@@ -88,7 +89,7 @@ static const struct {
     {"a message read", message_read},
 };
 
-/* the longest message: a PRUNE to every slot, a join of every topic, names of 64 bytes */
+/* the longest message: as many PRUNEs as it may hold, a join of every topic, names of 64 bytes */
 static void prepare_message(void)
 {
     uint8_t k, i;
@@ -99,7 +100,7 @@ static void prepare_message(void)
         joins[2 * k] = 1;
         joins[2 * k + 1] = k;
     }
-    for (i = 0; i < HIVEPADLET_SLOTS; i++) {
+    for (i = 0; i < HIVEPADLET_MESSAGE_ACTIONS; i++) {
         prunes[3 * i] = HIVEPADLET_PRUNE;
         prunes[3 * i + 1] = 1;
         prunes[3 * i + 2] = 3600;

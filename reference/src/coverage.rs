@@ -3,12 +3,14 @@
 
 mod answers;
 mod heartbeat;
+mod traces;
 
 pub use answers::Answers;
 
 use crate::event::{Call, Event, CALL_NAMES};
 use crate::params::{self, topic, Edition, Params};
 use crate::router::{number, Answer, GraftCase, Place, Refusal, Router, Why};
+use crate::trace::TraceEdition;
 use std::collections::BTreeMap;
 use std::fmt::Write;
 
@@ -104,8 +106,31 @@ impl Coverage {
         *self.cases.entry(case.to_string()).or_default() += 1;
     }
 
+    /// Counts what an event of a trace meets by the trace's edition.
+    pub fn count_edition(&mut self, edition: TraceEdition, router: &Router, event: &Event) {
+        for case in traces::cases(edition, router, event) {
+            *self.cases.entry(format!("trace: {case}")).or_default() += 1;
+        }
+    }
+
+    /// Counts how the front and the parameters of a trace are read.
+    pub fn count_start(&mut self, bytes: &[u8]) {
+        match TraceEdition::of(bytes) {
+            Err(refusal) => self.count_stop(&format!("front, answer {}", refusal.number)),
+            Ok(edition) => {
+                let bytes = &bytes[edition.front().len()..];
+                let (trace, sheet) = (edition.number(), Edition::of(bytes).number());
+                if let Err(refusal) = params::read_prefix(bytes) {
+                    let number = refusal.number;
+                    self.count_stop(&behind_front(trace, sheet, number));
+                }
+                self.count_params(bytes);
+            }
+        }
+    }
+
     /// Counts how the parameters of a trace are read.
-    pub fn count_params(&mut self, bytes: &[u8]) {
+    fn count_params(&mut self, bytes: &[u8]) {
         let edition = Edition::of(bytes).number();
         let (answer, place) = match params::read_prefix(bytes) {
             Ok((_, length)) => (0, length),
@@ -162,7 +187,23 @@ fn wanted_cases() -> impl Iterator<Item = String> {
     let heartbeats = heartbeat::CASES.iter().chain(&heartbeat::EDITION_2_CASES);
     let heartbeats = heartbeats.map(|case| format!("heartbeat: {case}"));
     let calls = CASES.iter().chain(&PARAMETERS).map(|case| case.to_string());
-    calls.chain(heartbeats).chain(stops())
+    let traces = traces::CASES.iter().map(|case| format!("trace: {case}"));
+    calls.chain(heartbeats).chain(traces).chain(stops())
+}
+
+/// Is it a case of a trace alone, which calls by themselves do not meet?
+pub fn of_traces(case: &str) -> bool {
+    case.starts_with("trace: ") || case.starts_with("stop: ")
+}
+
+/// How parameters behind a front are counted, by the editions of both.
+fn behind_front(trace: u32, sheet: u32, answer: u32) -> String {
+    format!("trace of edition {trace}, parameters of edition {sheet}, answer {answer}")
+}
+
+/// How a permutation of another edition is counted.
+pub fn other_permutation(edition: TraceEdition) -> String {
+    format!("a permutation of another edition in edition {}", edition.number())
 }
 
 /// Is it a case that parameters of edition 1 cannot meet?
@@ -216,7 +257,14 @@ fn stops() -> impl Iterator<Item = String> {
         let pieces = ["time"].iter().chain(argument_names(kind));
         pieces.map(move |piece| format!("bad {name} {piece}"))
     });
+    let fronts = [9, 10].map(|answer| format!("front, answer {answer}"));
+    let permutations = TraceEdition::ALL.map(other_permutation);
+    let behind = TraceEdition::ALL.into_iter().flat_map(|trace| {
+        let sheets = Edition::ALL.into_iter().flat_map(|sheet| [(sheet, 9), (sheet, 10)]);
+        sheets.map(move |(sheet, answer)| behind_front(trace.number(), sheet.number(), answer))
+    });
     let fixed = fixed.map(str::to_string).into_iter().chain(of_params);
+    let fixed = fixed.chain(fronts).chain(permutations).chain(behind);
     fixed.chain(calls).map(|stop| format!("stop: {stop}"))
 }
 

@@ -66,7 +66,7 @@ impl Start {
             return None;
         }
         let topic = topic as usize;
-        let scores: Vec<i64> = (0..SLOTS).map(|slot| router.score(slot)).collect();
+        let scores = router.scores();
         let in_pool = |&slot: &usize| {
             let member = router.peers[slot].topics[topic].member;
             member && scores[slot] >= 0 || router.is_candidate(slot, topic, event.now)

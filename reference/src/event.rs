@@ -3,8 +3,13 @@
 
 use crate::params::TOPICS;
 
-/// Peer slots of a router.
-pub const SLOTS: usize = 64;
+/// Peer slots of a router (order 9 of 02: "Slots rise to 256, a draw is each of 0..255
+/// once").
+pub const SLOTS: usize = 256;
+
+/// Peer slots of a router before that, which are those that a permutation of a trace of
+/// edition 1 orders.
+pub const OLD_SLOTS: usize = 64;
 
 /// Times are milliseconds, 0 to 2^40.
 pub const LAST_TIME: u64 = 1 << 40;
@@ -17,6 +22,11 @@ pub const EXPLICIT_FLAG: u64 = 2;
 
 /// A permutation lists slots: the slot that stands first comes first.
 pub type Permutation = [u64; SLOTS];
+
+/// The slots in their own order.
+pub fn by_slot() -> Box<Permutation> {
+    Box::new(std::array::from_fn(|slot| slot as u64))
+}
 
 /// One call with its time.
 #[derive(Clone, PartialEq, Eq, Debug)]

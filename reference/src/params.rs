@@ -1,6 +1,7 @@
 //! The parameters, which 01 calls the sheet: 147 numbers, 19 general ones and
 //! then 16 for each of the eight topics, in one of two editions (order 14 of 02).
 
+use crate::event::SLOTS;
 use crate::groups;
 
 pub const TOPICS: usize = 8;
@@ -74,6 +75,7 @@ const POINTS: i64 = 1_000_000_000;
 const COUNTER: i64 = 1_000_000;
 const HOUR_MS: i64 = 3_600_000;
 
+/// Order 9 of 02: "P6's threshold may go to 256", the count of the slots.
 pub const GENERAL: [Field; GENERAL_COUNT] = [
     field("D_lo", 1, 48, 4),
     field("D", 1, 48, 6),
@@ -90,7 +92,7 @@ pub const GENERAL: [Field; GENERAL_COUNT] = [
     field("topic_cap", 0, POINTS, 50_000),
     field("w5", 1, 100, 1),
     field("w6", -100, -1, -5),
-    field("P6_threshold", 1, 64, 16),
+    field("P6_threshold", 1, SLOTS as i64, 16),
     field("w7", -100, -1, -10),
     field("P7_decay", 1, 999, 970),
     field("decay_to_zero", 0, 1000, 10),

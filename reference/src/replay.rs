@@ -33,7 +33,8 @@ pub struct Printed {
 /// Every event's line with its answer and, below each other, its actions.
 pub fn columns(trace: &Trace, output: &str) -> String {
     let mut printed = printed(output).into_iter().peekable();
-    let events: Vec<String> = trace.lines.iter().map(print_line).collect();
+    let print = |line| print_line(trace.edition, line);
+    let events: Vec<String> = trace.lines.iter().map(print).collect();
     let lengths = events.iter().map(String::len).filter(|&length| length <= WIDEST);
     let width = lengths.max().unwrap_or(0);
     let mut out = String::new();

@@ -1,15 +1,17 @@
 //! Makes a failing trace smaller, for people to read.
 
-use crate::event::Call;
+use crate::event::{by_slot, Call};
 use crate::params::{field_at, Edition, COUNT};
 use crate::text::{Line, Trace};
+use crate::trace::TraceEdition;
 
 /// A trace that still fails, with as few events, as few odd parameters and as
 /// plain permutations as can be found.
 pub fn shrink_trace(trace: Trace, fails: impl Fn(&Trace) -> bool) -> Trace {
-    let params = trace.params;
-    let with_lines = |lines: &[Line]| Trace { params: params.clone(), lines: lines.to_vec() };
-    let lines = shrink(trace.lines, |lines| fails(&with_lines(lines)));
+    let Trace { edition, params, lines } = trace;
+    let with_lines =
+        |lines: &[Line]| Trace { edition, params: params.clone(), lines: lines.to_vec() };
+    let lines = shrink(lines, |lines| fails(&with_lines(lines)));
     let mut trace = with_lines(&lines);
     // Twice, since a joint rule can hold one number until another is changed.
     for index in (0..COUNT).chain(0..COUNT) {
@@ -24,6 +26,7 @@ pub fn shrink_trace(trace: Trace, fails: impl Fn(&Trace) -> bool) -> Trace {
             params.edition = Edition::One;
         }
     });
+    try_change(&mut trace, &fails, |trace| trace.edition = TraceEdition::One);
     for place in 0..trace.lines.len() {
         try_change(&mut trace, &fails, |trace| plain_permutation(&mut trace.lines[place]));
     }
@@ -41,7 +44,7 @@ fn try_change(trace: &mut Trace, fails: impl Fn(&Trace) -> bool, change: impl Fn
 fn plain_permutation(line: &mut Line) {
     if let Line::Event(event) = line {
         if let Call::Heartbeat { permutation, .. } = &mut event.call {
-            **permutation = std::array::from_fn(|slot| slot as u64);
+            *permutation = by_slot();
         }
     }
 }

@@ -2,6 +2,7 @@
 //! fields stand in a fixed order:
 //!
 //! ```text
+//! trace edition 2                  # of the trace; without this line edition 1
 //! edition 2                        # of the parameters; without this line edition 1
 //! params ordinary                  # or: params none (no parameters at all)
 //! param D_hi 12                    # overrides a general number by name
@@ -25,17 +26,21 @@
 //!
 //! Numbers out of range can be written too: `flags=9` for the two words of a
 //! connect, `kind=9` for a delivery's, `opportunism=9`, and `hex:2f00` for a
-//! protocol name with odd bytes. A permutation's `...` stands for the slots not
-//! named yet, upward.
+//! protocol name with odd bytes. A permutation has as many slots as the trace's edition
+//! says; `9-4` are the slots from 9 down to 4, and `...` stands for the slots not named
+//! yet, upward. A line with `id=3-9` stands for one with each of these ids.
 
-use crate::event::{Call, Event, Permutation, CALL_NAMES, EXPLICIT_FLAG, OUTBOUND_FLAG, SLOTS};
+use crate::event::{
+    by_slot, Call, Event, Permutation, CALL_NAMES, EXPLICIT_FLAG, OUTBOUND_FLAG, SLOTS,
+};
 use crate::params::{self, field_at, Edition, Params, COUNT, GENERAL_COUNT, TOPICS, TOPIC_COUNT};
-use crate::trace;
+use crate::trace::{self, TraceEdition};
 use std::fmt::Write;
 
-/// A trace as lines: its parameters, if it has any, then events or bytes.
+/// A trace as lines: its edition, its parameters, if it has any, then events or bytes.
 #[derive(Clone, PartialEq, Eq, Debug)]
 pub struct Trace {
+    pub edition: TraceEdition,
     pub params: Option<Params>,
     pub lines: Vec<Line>,
 }
@@ -48,9 +53,9 @@ pub enum Line {
 }
 
 impl Line {
-    pub fn to_bytes(&self) -> Vec<u8> {
+    pub fn to_bytes(&self, edition: TraceEdition) -> Vec<u8> {
         match self {
-            Line::Event(event) => trace::write_event(event),
+            Line::Event(event) => trace::write_event(edition, event),
             Line::Bytes(bytes) => bytes.clone(),
         }
     }
@@ -58,22 +63,27 @@ impl Line {
 
 impl Trace {
     pub fn to_bytes(&self) -> Vec<u8> {
-        let mut out = self.params.as_ref().map_or(Vec::new(), Params::to_bytes);
+        let mut out = self.edition.front().to_vec();
+        out.extend(self.params.as_ref().map_or(Vec::new(), Params::to_bytes));
         for line in &self.lines {
-            out.extend(line.to_bytes());
+            out.extend(line.to_bytes(self.edition));
         }
         out
     }
 
-    /// Takes bytes apart; from where they are malformed on they stay bytes.
+    /// Takes bytes apart; from where they are malformed on they stay bytes, the front of
+    /// no edition too.
     pub fn from_bytes(bytes: &[u8]) -> Trace {
-        let (params, mut rest) = match params::read_numbers(bytes) {
-            Ok((params, length)) => (Some(params), &bytes[length..]),
-            Err(_) => (None, bytes),
+        let front = TraceEdition::of(bytes);
+        let edition = front.unwrap_or_default();
+        let rest = &bytes[edition.front().len()..];
+        let (params, mut rest) = match params::read_numbers(rest) {
+            Ok((params, length)) if front.is_ok() => (Some(params), &rest[length..]),
+            _ => (None, rest),
         };
         let mut lines = Vec::new();
         while !rest.is_empty() {
-            let event = trace::read_event(rest);
+            let event = trace::read_event(edition, rest);
             let (line, length) = match event {
                 Ok((event, length)) if params.is_some() => (Line::Event(event), length),
                 _ => (Line::Bytes(rest.to_vec()), rest.len()),
@@ -81,7 +91,7 @@ impl Trace {
             lines.push(line);
             rest = &rest[length..];
         }
-        Trace { params, lines }
+        Trace { edition, params, lines }
     }
 }
 
@@ -89,12 +99,16 @@ impl Trace {
 
 /// The whole trace as text.
 pub fn print(trace: &Trace) -> String {
-    let mut out = match &trace.params {
-        Some(params) => print_params(params),
-        None => "params none\n".to_string(),
+    let mut out = match trace.edition {
+        TraceEdition::One => String::new(),
+        edition => format!("trace edition {}\n", edition.number()),
     };
+    match &trace.params {
+        Some(params) => out.push_str(&print_params(params)),
+        None => out.push_str("params none\n"),
+    }
     for line in &trace.lines {
-        out.push_str(&print_line(line));
+        out.push_str(&print_line(trace.edition, line));
         out.push('\n');
     }
     out
@@ -121,17 +135,17 @@ fn print_params(params: &Params) -> String {
 }
 
 /// One line, without its end.
-pub fn print_line(line: &Line) -> String {
+pub fn print_line(edition: TraceEdition, line: &Line) -> String {
     match line {
         Line::Bytes(bytes) => bytes.iter().fold("bytes".to_string(), |mut out, byte| {
             let _ = write!(out, " {byte:02x}");
             out
         }),
-        Line::Event(event) => print_event(event),
+        Line::Event(event) => print_event(edition, event),
     }
 }
 
-fn print_event(Event { now, call }: &Event) -> String {
+fn print_event(edition: TraceEdition, Event { now, call }: &Event) -> String {
     match call {
         Call::Connect { id, group, flags, name } => format!(
             "connect time={now} id={id} group={group} {} {}",
@@ -154,7 +168,7 @@ fn print_event(Event { now, call }: &Event) -> String {
         Call::Heartbeat { topic, ask, permutation } => format!(
             "heartbeat time={now} topic={topic} opportunism={} permutation={}",
             print_ask(*ask),
-            print_permutation(permutation)
+            print_permutation(&permutation[..edition.permuted()])
         ),
         Call::Decay => format!("decay time={now}"),
         Call::Score { id } => format!("score time={now} id={id}"),
@@ -201,20 +215,49 @@ fn print_ask(ask: u64) -> String {
 }
 
 /// As few slots as the rest can be told from, and then `...`.
-fn print_permutation(permutation: &Permutation) -> String {
-    let told = (0..SLOTS).find(|&told| completed(&permutation[..told]) == permutation);
-    let named = &permutation[..told.unwrap_or(SLOTS)];
-    let mut words: Vec<String> = named.iter().map(u64::to_string).collect();
+fn print_permutation(permutation: &[u64]) -> String {
+    let rising = permutation.windows(2).rev().take_while(|pair| pair[0] < pair[1]).count();
+    // From here on the slots rise, so no place before this one can be the last told.
+    let first = (permutation.len() - rising).saturating_sub(1);
+    let count = permutation.len();
+    let told = (first..count).find(|&told| completed(&permutation[..told], count) == permutation);
+    let mut words = print_runs(&permutation[..told.unwrap_or(count)]);
     if told.is_some() {
         words.push("...".to_string());
     }
     words.join(",")
 }
 
-/// The named slots, then the others upward.
-fn completed(named: &[u64]) -> Vec<u64> {
-    let others = (0..SLOTS as u64).filter(|slot| !named.contains(slot));
+/// The named slots, then the others of so many upward.
+fn completed(named: &[u64], count: usize) -> Vec<u64> {
+    let others = (0..count as u64).filter(|slot| !named.contains(slot));
     named.iter().copied().chain(others).collect()
+}
+
+/// Shorter runs of neighbours are told one by one.
+const SHORTEST_RUN: usize = 4;
+
+/// The slots one by one, and runs of neighbours, upward or downward, by their ends.
+fn print_runs(slots: &[u64]) -> Vec<String> {
+    let mut words = Vec::new();
+    let mut rest = slots;
+    while let [first, ..] = rest {
+        let run = [1, u64::MAX].map(|step| run_length(rest, step)).into_iter().max().unwrap_or(1);
+        if run >= SHORTEST_RUN {
+            words.push(format!("{first}-{}", rest[run - 1]));
+            rest = &rest[run..];
+        } else {
+            words.push(first.to_string());
+            rest = &rest[1..];
+        }
+    }
+    words
+}
+
+/// How many numbers from the first on go by this step.
+fn run_length(slots: &[u64], step: u64) -> usize {
+    let follows = |pair: &&[u64]| pair[1] == pair[0].wrapping_add(step);
+    1 + slots.windows(2).take_while(follows).count()
 }
 
 // Parsing.
@@ -230,6 +273,8 @@ pub struct TextError {
 #[derive(Clone, Copy)]
 enum Start {
     Open,
+    /// The trace's edition is told.
+    TraceEdition,
     /// The edition is told, and the parameters have to follow.
     Edition(Edition),
     Done,
@@ -237,7 +282,7 @@ enum Start {
 
 /// Reads a whole text.
 pub fn parse(text: &str) -> Result<Trace, TextError> {
-    let mut trace = Trace { params: None, lines: Vec::new() };
+    let mut trace = Trace { edition: TraceEdition::One, params: None, lines: Vec::new() };
     let mut start = Start::Open;
     let mut last = 1;
     for (place, line) in text.lines().enumerate() {
@@ -247,13 +292,14 @@ pub fn parse(text: &str) -> Result<Trace, TextError> {
             continue;
         }
         last = place + 1;
-        let error = |message| TextError { line: place + 1, message };
-        let rest = &mut Words { words: &words[1..] };
         let parsed = match start {
-            Start::Done => parse_words(words[0], rest, &mut trace),
-            _ => parse_start(words[0], rest, &mut start, &mut trace),
+            Start::Done => parse_each(&words, &mut trace),
+            _ => {
+                let rest = &mut Words { words: &words[1..] };
+                parse_start(words[0], rest, &mut start, &mut trace).and_then(|()| rest.end())
+            }
         };
-        parsed.and_then(|()| rest.end()).map_err(error)?;
+        parsed.map_err(|message| TextError { line: place + 1, message })?;
     }
     match start {
         Start::Done => Ok(trace),
@@ -261,8 +307,8 @@ pub fn parse(text: &str) -> Result<Trace, TextError> {
     }
 }
 
-const START: &str =
-    "a trace starts with `params ordinary` or `params none`; before the first, `edition 2` may stand";
+const START: &str = "a trace starts with `params ordinary` or `params none`; before them \
+    `trace edition 2` may stand, and `edition 2` before the first";
 
 /// The lines up to `params`.
 fn parse_start(
@@ -272,11 +318,18 @@ fn parse_start(
     trace: &mut Trace,
 ) -> Result<(), String> {
     *start = match (word, rest.word()?, *start) {
-        ("edition", number, Start::Open) => {
+        ("trace", "edition", Start::Open) => {
+            let number = rest.word()?;
+            let mut all = TraceEdition::ALL.into_iter();
+            let named = all.find(|each| each.number().to_string() == number);
+            trace.edition = named.ok_or_else(|| format!("no trace has the edition {number}"))?;
+            Start::TraceEdition
+        }
+        ("edition", number, Start::Open | Start::TraceEdition) => {
             let named = Edition::ALL.into_iter().find(|each| each.number().to_string() == number);
             Start::Edition(named.ok_or_else(|| format!("there is no edition {number}"))?)
         }
-        ("params", "ordinary", Start::Open) => {
+        ("params", "ordinary", Start::Open | Start::TraceEdition) => {
             trace.params = Some(Params::ordinary());
             Start::Done
         }
@@ -284,10 +337,29 @@ fn parse_start(
             trace.params = Some(Params::ordinary().in_edition(edition));
             Start::Done
         }
-        ("params", "none", Start::Open) => Start::Done,
+        ("params", "none", Start::Open | Start::TraceEdition) => Start::Done,
         _ => return Err(START.to_string()),
     };
     Ok(())
+}
+
+/// A line, or with `id=3-9` in it a line for each of these ids.
+fn parse_each(words: &[&str], trace: &mut Trace) -> Result<(), String> {
+    let is_run = |word: &&str| word.starts_with("id=") && word.contains('-');
+    let Some(place) = words.iter().position(is_run) else { return parse_line(words, trace) };
+    for id in parse_run(&words[place]["id=".len()..])? {
+        let named = format!("id={id}");
+        let mut words = words.to_vec();
+        words[place] = &named;
+        parse_line(&words, trace)?;
+    }
+    Ok(())
+}
+
+fn parse_line(words: &[&str], trace: &mut Trace) -> Result<(), String> {
+    let rest = &mut Words { words: &words[1..] };
+    parse_words(words[0], rest, trace)?;
+    rest.end()
 }
 
 fn parse_words(word: &str, rest: &mut Words, trace: &mut Trace) -> Result<(), String> {
@@ -302,7 +374,7 @@ fn parse_words(word: &str, rest: &mut Words, trace: &mut Trace) -> Result<(), St
             Ok(())
         }
         _ => {
-            trace.lines.push(Line::Event(parse_event(word, rest)?));
+            trace.lines.push(Line::Event(parse_event(trace.edition, word, rest)?));
             Ok(())
         }
     }
@@ -327,17 +399,17 @@ fn override_number(trace: &mut Trace, topic: Option<u64>, rest: &mut Words) -> R
     Ok(())
 }
 
-fn parse_event(word: &str, rest: &mut Words) -> Result<Event, String> {
+fn parse_event(edition: TraceEdition, word: &str, rest: &mut Words) -> Result<Event, String> {
     if !CALL_NAMES.contains(&word) {
         return Err(format!("no event is called {word}"));
     }
     let now = rest.field("time")?;
-    Ok(Event { now, call: parse_call(word, rest)? })
+    Ok(Event { now, call: parse_call(edition, word, rest)? })
 }
 
-fn parse_call(word: &str, rest: &mut Words) -> Result<Call, String> {
+fn parse_call(edition: TraceEdition, word: &str, rest: &mut Words) -> Result<Call, String> {
     if let "join" | "leave" | "heartbeat" | "decay" = word {
-        return parse_topic_call(word, rest);
+        return parse_topic_call(edition, word, rest);
     }
     let id = rest.field("id")?;
     Ok(match word {
@@ -359,7 +431,7 @@ fn parse_call(word: &str, rest: &mut Words) -> Result<Call, String> {
 }
 
 /// The calls that name no peer.
-fn parse_topic_call(word: &str, rest: &mut Words) -> Result<Call, String> {
+fn parse_topic_call(edition: TraceEdition, word: &str, rest: &mut Words) -> Result<Call, String> {
     if word == "decay" {
         return Ok(Call::Decay);
     }
@@ -367,7 +439,10 @@ fn parse_topic_call(word: &str, rest: &mut Words) -> Result<Call, String> {
     Ok(match word {
         "join" => Call::Join { topic },
         "leave" => Call::Leave { topic },
-        _ => Call::Heartbeat { topic, ask: rest.ask()?, permutation: rest.permutation()? },
+        _ => {
+            let (ask, permutation) = (rest.ask()?, rest.permutation(edition.permuted())?);
+            Call::Heartbeat { topic, ask, permutation }
+        }
     })
 }
 
@@ -440,17 +515,21 @@ impl<'a> Words<'a> {
         }
     }
 
-    fn permutation(&mut self) -> Result<Box<Permutation>, String> {
+    /// So many slots; those that the edition does not tell follow by slot.
+    fn permutation(&mut self, count: usize) -> Result<Box<Permutation>, String> {
         let word = self.value("permutation")?;
         let named = word.strip_suffix("...").unwrap_or(word);
-        let numbers = named.split_terminator(',').map(parse_number);
-        let mut slots = numbers.collect::<Result<Vec<u64>, String>>()?;
+        let runs = named.split_terminator(',').map(parse_run);
+        let mut slots = runs.collect::<Result<Vec<_>, String>>()?.concat();
         if named.len() < word.len() {
-            slots = completed(&slots);
+            slots = completed(&slots, count);
         }
-        let count = slots.len();
-        let slots = slots.into_boxed_slice().try_into();
-        slots.map_err(|_| format!("a permutation has {SLOTS} slots, not {count}"))
+        if slots.len() != count {
+            return Err(format!("a permutation has {count} slots here, not {}", slots.len()));
+        }
+        let mut permutation = by_slot();
+        permutation[..count].copy_from_slice(&slots);
+        Ok(permutation)
     }
 
     fn hex_bytes(&mut self) -> Result<Vec<u8>, String> {
@@ -460,6 +539,16 @@ impl<'a> Words<'a> {
         }
         Ok(bytes)
     }
+}
+
+/// One number, or those from one to another, at most as many as there are slots.
+fn parse_run(word: &str) -> Result<Vec<u64>, String> {
+    let Some((first, last)) = word.split_once('-') else { return Ok(vec![parse_number(word)?]) };
+    let (first, last): (u64, u64) = (parse_number(first)?, parse_number(last)?);
+    if first.abs_diff(last) >= SLOTS as u64 {
+        return Err(format!("{word} are more than the slots"));
+    }
+    Ok(if first <= last { (first..=last).collect() } else { (last..=first).rev().collect() })
 }
 
 fn parse_number<T: std::str::FromStr>(word: &str) -> Result<T, String> {

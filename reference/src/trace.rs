@@ -1,10 +1,10 @@
 //! 01, "The trace program": parameters, then events, as bytes; one line an
 //! answer, an action or a score (order 5 of 02: "The trace prints the five after S,
-//! then the score").
+//! then the score"). Traces come in editions (order 9 of 02).
 
-use crate::event::{Call, Event, Permutation, SLOTS};
+use crate::event::{by_slot, Call, Event, Permutation, OLD_SLOTS, SLOTS};
 use crate::groups;
-use crate::params;
+use crate::params::{self, Params, Refusal};
 use crate::router::{number, Answer, Done, Router, ACTION_LIST, GRAFT};
 use std::fmt::Write;
 
@@ -18,21 +18,84 @@ pub enum Stop {
     UnknownKind,
 }
 
+/// Order 9 of 02: "Trace and saved forms get edition 2, a trace by two zero bytes and
+/// then 2 in front of its sheet ..; edition 1 is still read: an old draw orders slots
+/// 0..63 and the others follow by slot". This edition is not that of the parameters.
+#[derive(Clone, Copy, PartialEq, Eq, PartialOrd, Ord, Debug, Default)]
+pub enum TraceEdition {
+    #[default]
+    One = 1,
+    Two = 2,
+}
+
+impl TraceEdition {
+    pub const ALL: [TraceEdition; 2] = [TraceEdition::One, TraceEdition::Two];
+
+    pub fn number(self) -> u32 {
+        self as u32
+    }
+
+    /// The bytes before the parameters.
+    pub fn front(self) -> &'static [u8] {
+        match self {
+            TraceEdition::One => &[],
+            TraceEdition::Two => &[0x00, 0x00, 0x02],
+        }
+    }
+
+    /// How many numbers a permutation has.
+    pub fn permuted(self) -> usize {
+        match self {
+            TraceEdition::One => OLD_SLOTS,
+            TraceEdition::Two => SLOTS,
+        }
+    }
+
+    /// The edition that bytes are in: two zero bytes are a front's, and the third tells
+    /// the edition. "Another third byte: 9 2, and stop"; none is bytes cut short.
+    pub fn of(bytes: &[u8]) -> Result<TraceEdition, Refusal> {
+        let [0x00, 0x00, rest @ ..] = bytes else { return Ok(TraceEdition::One) };
+        match rest.first() {
+            None => Err(Refusal { number: 10, place: THIRD_BYTE }),
+            Some(0x02) => Ok(TraceEdition::Two),
+            Some(_) => Err(Refusal { number: 9, place: THIRD_BYTE }),
+        }
+    }
+}
+
+/// The place of the byte of a front that tells its edition.
+const THIRD_BYTE: usize = 2;
+
+/// Reads a trace's front and parameters; gives the length of both. "Its sheet's byte
+/// places count from the trace's first byte": those of 10 are places in bytes, those of
+/// 9 are indices and do not shift.
+pub fn read_start(bytes: &[u8]) -> Result<(TraceEdition, Params, usize), Refusal> {
+    let edition = TraceEdition::of(bytes)?;
+    let front = edition.front().len();
+    let shifted = |refusal: Refusal| match refusal.number {
+        10 => Refusal { place: front + refusal.place, ..refusal },
+        _ => refusal,
+    };
+    let (params, length) = params::read_prefix(&bytes[front..]).map_err(shifted)?;
+    Ok((edition, params, front + length))
+}
+
 /// Runs a whole trace; gives what the trace program prints.
 pub fn run(bytes: &[u8]) -> String {
-    let (params, length) = match params::read_prefix(bytes) {
-        Ok(read) => read,
-        Err(refusal) => return format!("{} {}\n", refusal.number, refusal.place),
-    };
-    run_events(Router::unchecked(params), &bytes[length..])
+    match read_start(bytes) {
+        Ok((edition, params, length)) => {
+            run_events(edition, Router::unchecked(params), &bytes[length..])
+        }
+        Err(refusal) => format!("{} {}\n", refusal.number, refusal.place),
+    }
 }
 
 /// Runs the events alone, on a fresh router whose parameters were read already.
-pub fn run_events(mut router: Router, mut rest: &[u8]) -> String {
+pub fn run_events(edition: TraceEdition, mut router: Router, mut rest: &[u8]) -> String {
     let mut list = [0; ACTION_LIST];
     let mut out = String::new();
     while !rest.is_empty() {
-        match read_event(rest) {
+        match read_event(edition, rest) {
             Ok((event, length)) => {
                 let answer = router.call(&event, &mut list);
                 out.push_str(&lines(&answer, &list));
@@ -73,8 +136,8 @@ pub fn stop_line(stop: Stop) -> &'static str {
 
 /// Reads one event, whole, with the count of bytes it took. Its kind is judged
 /// as soon as it is read.
-pub fn read_event(bytes: &[u8]) -> Result<(Event, usize), Stop> {
-    let mut reader = Reader { rest: bytes };
+pub fn read_event(edition: TraceEdition, bytes: &[u8]) -> Result<(Event, usize), Stop> {
+    let mut reader = Reader { edition, rest: bytes };
     let kind = reader.unsigned()?;
     if !(1..=13).contains(&kind) {
         return Err(Stop::UnknownKind);
@@ -85,6 +148,7 @@ pub fn read_event(bytes: &[u8]) -> Result<(Event, usize), Stop> {
 }
 
 struct Reader<'a> {
+    edition: TraceEdition,
     rest: &'a [u8],
 }
 
@@ -110,9 +174,11 @@ impl Reader<'_> {
         Ok(name.to_vec())
     }
 
+    /// The slots that an old permutation does not order follow by slot; it is one
+    /// exactly if it is each of 0..63 once.
     fn permutation(&mut self) -> Result<Box<Permutation>, Stop> {
-        let mut permutation = Box::new([0; SLOTS]);
-        for slot in permutation.iter_mut() {
+        let mut permutation = by_slot();
+        for slot in &mut permutation[..self.edition.permuted()] {
             *slot = self.unsigned()?;
         }
         Ok(permutation)
@@ -157,14 +223,15 @@ impl Reader<'_> {
     }
 }
 
-/// An event as bytes.
-pub fn write_event(event: &Event) -> Vec<u8> {
-    event_pieces(event).concat()
+/// An event as bytes. Edition 1 has no room for slots past the old ones, which follow by
+/// slot where it is read.
+pub fn write_event(edition: TraceEdition, event: &Event) -> Vec<u8> {
+    event_pieces(edition, event).concat()
 }
 
 /// An event's bytes, one piece a number: the kind, the time, the arguments. A
 /// name is one piece, after that of its length.
-pub fn event_pieces(event: &Event) -> Vec<Vec<u8>> {
+pub fn event_pieces(edition: TraceEdition, event: &Event) -> Vec<Vec<u8>> {
     let mut pieces = vec![unsigned(event.call.kind()), unsigned(event.now)];
     let arguments = match &event.call {
         Call::Connect { id, group, flags, name } => vec![
@@ -187,7 +254,8 @@ pub fn event_pieces(event: &Event) -> Vec<Vec<u8>> {
         }
         Call::Heartbeat { topic, ask, permutation } => {
             let mut pieces = vec![unsigned(*topic), unsigned(*ask)];
-            pieces.extend(permutation.iter().map(|&slot| unsigned(slot)));
+            let written = &permutation[..edition.permuted()];
+            pieces.extend(written.iter().map(|&slot| unsigned(slot)));
             pieces
         }
         Call::Decay => Vec::new(),

@@ -63,7 +63,7 @@ pub fn with_scores(trace: &Trace) -> Trace {
         }
         lines.push(line.clone());
     }
-    Trace { params: trace.params.clone(), lines }
+    Trace { lines, ..trace.clone() }
 }
 
 /// Follows a trace of events by what a program printed of it.

@@ -1,13 +1,13 @@
 //! The bench list of 01, the order of tests, and what refusals leave alone.
 
 use reference::coverage::Coverage;
-use reference::event::{Call, Event, Permutation, LAST_TIME, SLOTS};
+use reference::event::{by_slot, Call, Event, LAST_TIME, SLOTS};
 use reference::generate::params::with;
 use reference::generate::traces;
 use reference::params::{general, topic, topic_index, Edition, Params};
 use reference::random::Random;
 use reference::router::{number, Done, Router, Status, Version, ACTION_LIST, GRAFT, PRUNE};
-use reference::text::Trace;
+use reference::text::{Line, Trace};
 use reference::trace;
 
 const V11: &[u8] = b"/meshsub/1.1.0";
@@ -45,12 +45,8 @@ fn gathered_with(params: Params, inbound: u64, outbound: u64) -> Router {
     router
 }
 
-fn identity() -> Box<Permutation> {
-    Box::new(std::array::from_fn(|slot| slot as u64))
-}
-
 fn heartbeat(topic: u64, ask: u64) -> Call {
-    Call::Heartbeat { topic, ask, permutation: identity() }
+    Call::Heartbeat { topic, ask, permutation: by_slot() }
 }
 
 /// Members by decree; 01 lets a mesh pass D_hi only by outbound peers, so the
@@ -210,8 +206,8 @@ fn second_edition(d_score: i64, points: &[i64]) -> Router {
 /// The members that a heartbeat leaves, by id; first drawn are the slots named.
 fn kept(router: &Router, first: &[u64]) -> Vec<u32> {
     let mut router = router.clone();
-    let mut permutation = identity();
-    permutation.sort_by_key(|slot| first.iter().position(|each| each == slot).unwrap_or(64));
+    let mut permutation = by_slot();
+    permutation.sort_by_key(|slot| first.iter().position(|each| each == slot).unwrap_or(SLOTS));
     let heartbeat = Call::Heartbeat { topic: 0, ask: 0, permutation };
     assert_eq!(call(&mut router, 0, heartbeat).0, 0);
     router.mesh(0).iter().map(|&slot| router.peers[slot].id).collect()
@@ -272,7 +268,7 @@ fn edition_2_by_01s_rules_is_edition_1() {
         let Some(params) = trace.params.take() else { continue };
         let as_edition = |edition| {
             let params = Some(params.clone().in_edition(edition));
-            Trace { params, lines: trace.lines.clone() }.to_bytes()
+            Trace { params, ..trace.clone() }.to_bytes()
         };
         if params.clone().in_edition(Edition::One).check().is_ok() {
             let first = trace::run(&as_edition(Edition::One));
@@ -365,7 +361,7 @@ fn order_of_tests() {
         answer
     };
     let damaged = |topic| {
-        let mut permutation = identity();
+        let mut permutation = by_slot();
         permutation[0] = 1;
         Call::Heartbeat { topic, ask: 0, permutation }
     };
@@ -396,11 +392,114 @@ fn slots_run_out_and_come_back() {
     for id in 1..=SLOTS as u64 {
         assert_eq!(call(&mut router, 0, connect(id, 0)).0, 0);
     }
-    assert_eq!(call(&mut router, 0, connect(65, 0)).0, 5);
+    // 02, order 9: "Slots rise to 256".
+    assert_eq!(call(&mut router, 0, connect(257, 0)).0, 5);
     assert_eq!(call(&mut router, 0, Call::Disconnect { id: 9 }).0, 0);
-    assert_eq!(call(&mut router, 9_999, connect(65, 0)).0, 5);
-    assert_eq!(call(&mut router, 10_000, connect(65, 0)).0, 0);
-    assert_eq!(router.peers[8].id, 65);
+    assert_eq!(call(&mut router, 9_999, connect(257, 0)).0, 5);
+    assert_eq!(call(&mut router, 10_000, connect(257, 0)).0, 0);
+    assert_eq!(router.peers[8].id, 257);
+}
+
+#[test]
+fn a_permutation_is_each_of_0_to_255_once() {
+    let mut router = gathered(1, 0);
+    let with = |change: fn(&mut [u64])| {
+        let mut permutation = by_slot();
+        change(&mut permutation[..]);
+        call(&mut router.clone(), 0, Call::Heartbeat { topic: 0, ask: 0, permutation }).0
+    };
+    assert_eq!(with(|_| {}), 0);
+    assert_eq!(with(|slots| slots.reverse()), 0);
+    assert_eq!(with(|slots| slots[0] = 255), 7);
+    assert_eq!(with(|slots| slots[255] = 254), 7);
+    assert_eq!(with(|slots| slots[255] = 256), 7);
+    assert_eq!(with(|slots| slots[7] = 7 + (1 << 32)), 7);
+    assert_eq!(call(&mut router, 0, heartbeat(0, 0)), (0, vec![[GRAFT, 1, 0]]));
+}
+
+#[test]
+fn an_action_list_has_768_numbers() {
+    // Each of 256 outbound peers is grafted, past D_hi, and a leave PRUNEs them all.
+    let mut router = gathered(0, 256);
+    for id in 1..=256 {
+        assert_eq!(call(&mut router, 0, Call::Graft { id, topic: 0 }), (0, vec![]));
+    }
+    let leave = Event { now: 0, call: Call::Leave { topic: 0 } };
+    assert_eq!(number(&router.call(&leave, &mut [7; 767])), 8);
+    let mut list = [7; 768];
+    assert_eq!(router.call(&leave, &mut list), Ok(Done::Actions(256)));
+    assert_eq!(list[765..], [PRUNE, 256, 10]);
+}
+
+#[test]
+fn a_group_of_256() {
+    let threshold = |number| with(&Params::ordinary(), &[(general::P6_THRESHOLD, number)]);
+    assert_eq!(threshold(257).first_broken(), Some(15));
+    for (number, points) in [(256, 0), (255, -5), (64, -5 * 192 * 192), (1, -5 * 255 * 255)] {
+        let mut router = gathered_with(threshold(number), 256, 0);
+        router.peers.iter_mut().for_each(|peer| peer.group = 1);
+        assert_eq!(router.why(255).numbers()[3], points * 1_000_000_000);
+    }
+}
+
+#[test]
+fn no_score_passes_the_bound() {
+    // 01: "No score passes 2.6 × 10^18 either way". By topic 1000 * (-100 * 10^12 for each of P3, P3b and P4),
+    // then P5, the surplus of 255, and P7.
+    let mut changes = vec![
+        (general::TOPIC_CAP, 0),
+        (general::W5, 100),
+        (general::W6, -100),
+        (general::P6_THRESHOLD, 1),
+        (general::W7, -100),
+    ];
+    for k in 0..8 {
+        use topic::*;
+        let worst = [(WEIGHT, 1000), (W3, -100), (P3_CAP, 1_000_000), (P3_THRESHOLD, 1_000_000)];
+        let rest = [(ACTIVATION, 0), (W3B, -100), (W4, -100)];
+        changes.extend(worst.iter().chain(&rest).map(|&(place, n)| (topic_index(k, place), n)));
+    }
+    let mut router = gathered_with(with(&Params::ordinary(), &changes), 256, 0);
+    router.joined = [true; 8];
+    router.clock = 1;
+    for peer in &mut router.peers {
+        peer.group = 1;
+        peer.p5 = -1_000_000_000;
+        peer.p7 = 1_000_000;
+        for record in &mut peer.topics {
+            (record.subscribed, record.member, record.mesh_time) = (true, true, 1);
+            (record.p3b, record.p4) = (1_000_000_000_000, 1_000_000);
+        }
+    }
+    assert!(router.is_valid());
+    let (topics, p5, p6, p7) = (-24, -1_000_000, -65_025 * 1000, -1_000_000_000);
+    let score = topics * 100_000_000_000_000_000 + (p5 + p6 + p7) * 100_000_000;
+    assert_eq!(score, -2_506_602_500_000_000_000);
+    assert_eq!(router.score(255), score);
+    assert_eq!(router.scores(), [score; SLOTS]);
+}
+
+#[test]
+fn all_scores_at_once_are_the_scores() {
+    let mut random = Random::new(9);
+    let mut scores = 0;
+    for _ in 0..40 {
+        let bytes = traces::trace(&mut random, &mut Coverage::default()).bytes;
+        let trace = Trace::from_bytes(&bytes);
+        let Some(params) = trace.params.filter(|params| params.check().is_ok()) else { continue };
+        let mut router = Router::unchecked(params);
+        for line in &trace.lines {
+            if let Line::Event(event) = line {
+                let _ = router.call(event, &mut [0; ACTION_LIST]);
+            }
+        }
+        let all = router.scores();
+        for slot in (0..SLOTS).filter(|&slot| router.peers[slot].status == Status::Connected) {
+            assert_eq!(all[slot], router.score(slot));
+            scores += 1;
+        }
+    }
+    assert!(scores > 100);
 }
 
 #[test]

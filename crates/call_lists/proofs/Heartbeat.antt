@@ -23,7 +23,7 @@ use Rattle.effects.specs.Effects.{isJoined, isMember, withEnd}
 use Rattle.sets.specs.Sets.{at, size, isPermutation}
 use Rattle.sets.proofs.SetLaws.{both-left, both-right, both-in}
 use Rattle.sets.proofs.SlotLaws.{slots-length, slots-at, slots-in, size-count, both-count, except-count}
-use Rattle.mesh.specs.declared.View.{View}
+use Rattle.mesh.specs.Maintenance.{View}
 use Rattle.mesh.specs.Maintenance.{goods, Maintained, InPool as OfPool}
 use Rattle.rules.specs.declared.Answer.the-variants.{NotPermutation}
 use Rattle.rules.specs.Reply.{Reply, numberOf, refused, ignored}

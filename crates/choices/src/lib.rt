@@ -9,6 +9,20 @@ ghost use Rattle.pairs.specs.Pairs.{byPairs};
 use pairs::best_by_pairs;
 use records::SLOTS;
 use sets::walks::bests;
+use words::flags::pack;
+use words::flags::unpack;
+
+// The k best by picks: the router's own function, from flags to flags.
+fn picked(
+    k: u64,
+    scores: [u64; SLOTS],
+    members: [bool; SLOTS],
+    order: [u64; SLOTS],
+) -> [bool; SLOTS]
+    ensures { λ r. ⌜ r ≡ bests slotCount scores members order k (replicate slotCount false) ⌝ }
+{
+    unpack(bests(k, &scores, pack(members), &order))
+}
 
 // The k best, the best remaining one picked k times.
 #[no_mangle]
@@ -23,7 +37,7 @@ pub extern "C" fn choices_by_picks(
         ⌜ now (kept .exit)
         ≡ bests slotCount (now (scores .entry)) (now (members .entry)) (now (order .entry)) k (replicate slotCount false) ⌝ }
 {
-    *kept = bests(k, *scores, *members, *order);
+    *kept = picked(k, *scores, *members, *order);
 }
 
 // The k best by comparing every pair.

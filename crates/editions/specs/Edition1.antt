@@ -8,7 +8,7 @@ use lib.Dec.{ltb}
 use Rattle.sets.specs.Sets.{size, both, except, firstOf, lastOf}
 use Rattle.mesh.specs.Maintenance.{theBest, keepers, mesh3 as stepThree, Rules, Whole}
 use Rattle.mesh.specs.declared.Degrees.{Degrees}
-use Rattle.mesh.specs.declared.View.{View}
+use Rattle.mesh.specs.Maintenance.{View}
 
 -- "out goes the last drawn inbound keeper of the non-best, in comes the first left-out outbound in draw order, until D_out or none is left"
 module _ (n out : ℕ) (outbound : List Bool) (order : List ℕ) (m b : List Bool) where

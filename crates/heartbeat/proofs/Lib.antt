@@ -1,4 +1,4 @@
-pub mod ScoresLaws
 pub mod SeenLaws
 pub mod SettleLaws
 pub mod ReplyLaws
+pub mod TellLaws

@@ -18,13 +18,20 @@ use Rattle.validity.specs.Valid.{valid}
 use Rattle.validity.proofs.ValidLaws.{valid-facts}
 use Rattle.sets.specs.Sets.{bySlot, isPermutation}
 use Rattle.sets.proofs.SlotLaws.{slots-at, slots-past, slots-all}
-use Rattle.mesh.specs.declared.View.{View}
-use Rattle.mesh.specs.declared.Meshes.{Meshes}
-use Rattle.mesh.specs.declared.Changes.{Changes}
-use Rattle.mesh.specs.Maintenance.{Action as Told, meshes, changesOf, actionsOf, numbersOf as numbersIn, Writable, Written}
+use Rattle.mesh.specs.Maintenance.{
+  View,
+  Meshes,
+  Changes,
+  Action as Told,
+  meshes,
+  changesOf,
+  actionsOf,
+  numbersOf as numbersIn,
+  Writable,
+  Written,
+}
 use Rattle.effects.specs.Actions.{numbersOf}
 use Rattle.effects.specs.Effects.{isMember, endAfter, pruneBackoff}
-use Rattle.rules.specs.declared.Answer.{Answer}
 use Rattle.rules.specs.declared.Answer.the-variants.{Done}
 use Rattle.rules.specs.declared.Gate.{Gate}
 use Rattle.rules.specs.declared.Gate.the-variants.{Pass}
@@ -192,17 +199,6 @@ module _
               (em ∙ ap (λ (x : Meshes). iter slotCount (settleSlot st time t (x .fifth)) st) meshes-are));
           actions = w .list ∙ ap (sets list 0) (written-numbers size);
         }
-
--- ---- the permutation as it was copied
-module _ (order copy : List ℕ) (e : copy ≡ order) where
-  pub permutation-copied : isPermutation slotCount order ≡ true → isPermutation slotCount copy ≡ true
-  permutation-copied p = rw e p
-
-  pub gives-copied :
-      (st : State) (time t ask : ℕ) (r : Answer) (table table′ list list′ : List ℕ) →
-      Gives (maintainedReply st time t ask copy) r table table′ list list′ →
-      Gives (maintainedReply st time t ask order) r table table′ list list′
-  gives-copied st time t ask r table table′ list list′ h = rw (← e) h
 
 -- ---- the ranges that the call asks: of the topic, and of opportunism
 pub heartbeat-range : (t ask : ℕ) (b d : Bool) → b ≡ topicOk t → d ≡ leb ask 1 → b && d ≡ topicOk t && leb ask 1

@@ -2,14 +2,13 @@
 -- Assumes nothing.
 use Prim.Native.Nat.{ℕ, _+_, _-_, _*_, _≤_, _<_}
 use native.Mathlib.Omega.{arith}
-use mathlib.Core.Path.{_≡_, refl, sym, ap, _∙_}
-use mathlib.Core.Bool.{Bool, true, false, not, cond, _&&_}
+use mathlib.Core.Path.{_≡_, sym, ap, _∙_}
+use mathlib.Core.Bool.{Bool, true, false, not, _&&_}
 use mathlib.Core.List.{List}
-use lib.ListN.{length, getD, set, replicate, length-replicate, getD-replicate, List·getD-eq-default}
-use lib.Seq.{getD-set-other, set-getD}
+use lib.ListN.{length, getD}
 use lib.Dec.{eqb, leb}
 use borrow.Author.Tests.{eq-eqb, ne-eqb, lt-leb}
-use Rattle.index.proofs.Flags.{by-order, leb-same}
+use Rattle.index.proofs.Flags.{leb-same}
 use Rattle.records.specs.declared.Peer.{Peer}
 use Rattle.records.specs.declared.TopicRecord.{TopicRecord}
 use Rattle.records.specs.Records.{State, slotCount, place, codeIn, peerIn, topicIn}
@@ -17,10 +16,9 @@ use Rattle.params.proofs.ParamLaws.{general}
 use Rattle.validity.specs.Valid.{valid}
 use Rattle.validity.proofs.ValidLaws.{valid-facts}
 use Rattle.sets.specs.Sets.{bySlot}
-use Rattle.index.proofs.Lists.{Built, built-none, built-more}
-use Rattle.sets.proofs.SlotLaws.{slots-at}
+use Rattle.sets.proofs.SlotLaws.{slots-length, slots-at}
 use Rattle.mesh.specs.declared.Degrees.{Degrees}
-use Rattle.mesh.specs.declared.View.{View}
+use Rattle.mesh.specs.Maintenance.{View}
 use Rattle.mesh.specs.Maintenance.{zeroScore}
 use Rattle.varint.specs.Codes.{magnitude}
 use Rattle.effects.specs.Effects.{isMember}
@@ -64,6 +62,9 @@ pub score-at :
     getD scores s 0 ≡ heightIn st s
 score-at st scores s h e = ap (λ (l : List ℕ). getD l s 0) e ∙ slots-at 0 (heightIn st) slotCount s h
 
+pub scores-length : (st : State) (scores : List ℕ) → scores ≡ bySlot slotCount (heightIn st) → length scores ≡ slotCount
+scores-length st scores e = ap length e ∙ slots-length slotCount (heightIn st)
+
 -- the opportunistic threshold is at most 1000 points, so that the sum with it does not overflow
 pub opportunistic : (st : State) → valid st ≡ true → magnitude (codeIn st 8) ≤ 1000000
 unfolding codeIn
@@ -101,47 +102,3 @@ pub view-is :
 unfolding viewIn
 view-is st time t ask order scores members candidates outbound es em ec eo =
     λ i. record { members = em i; candidates = ec i; outbound = eo i; scores = es i; permutation = order; ask = eqb ask 1 }
-
--- ---- the seconds that each peer is told: a turn that stores nothing leaves 0
-
-pub record Telling (f : ℕ → ℕ) (i : ℕ) (r : List ℕ) : Type 0 where
-  pub built : Built 0 f slotCount i r
-  pub rest : (k : ℕ) → i ≤ k → getD r k 0 ≡ 0
-
-module _ (f : ℕ → ℕ) where
-  pub telling-none : Telling f 0 (replicate slotCount 0)
-  telling-none =
-      let zeros : List ℕ = replicate slotCount 0 in
-      let z : ℕ = 0 in
-      let l : length zeros ≡ slotCount = length-replicate slotCount z in
-      record {
-        built = built-none 0 f slotCount zeros l;
-        rest =
-            λ k h.
-            by-order
-            (getD zeros k 0 ≡ 0)
-            k
-            slotCount
-            (λ b. getD-replicate slotCount k z z b)
-            (λ b. List·getD-eq-default zeros z {n = k} (omega arith));
-      }
-
-  module _ (i : ℕ) (r r′ : List ℕ) (h : i < slotCount) (t : Telling f i r) where
-    pub telling-put : r′ ≡ set r i (f i) → Telling f (i + 1) r′
-    telling-put e =
-        rw e
-        (record {
-          built = built-more 0 f slotCount i r (f i) h (t .built) refl;
-          rest = λ k l. getD-set-other r i k (f i) 0 (λ z. omega arith) ∙ t .rest k (omega arith);
-        })
-
-    pub telling-past : r′ ≡ r → f i ≡ 0 → Telling f (i + 1) r′
-    telling-past e z =
-        telling-put (e ∙ sym (ap (set r i) (z ∙ sym (t .rest i (omega arith))) ∙ set-getD r i 0))
-
-module _ (st : State) (s seconds : ℕ) (p : Peer) (e : p ≡ peerIn st s) where
-  pub told-yes : (p .version ≡ 0 → ⊥) → seconds ≡ cond (eqb (peerIn st s .version) 0) 0 seconds
-  told-yes n = rw (← e, ne-eqb (p .version) 0 n)
-
-  pub told-no : p .version ≡ 0 → cond (eqb (peerIn st s .version) 0) 0 seconds ≡ 0
-  told-no z = rw (← e, eq-eqb (p .version) 0 z)

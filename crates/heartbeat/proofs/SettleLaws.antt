@@ -2,10 +2,11 @@
 -- Assumes nothing.
 use Prim.Native.Nat.{ℕ, _+_, _≤_, _<_}
 use native.Mathlib.Omega.{arith}
-use mathlib.Core.Path.{_≡_, refl, ap, _∙_}
-use mathlib.Core.Bool.{Bool, true, false, not, cond}
+use mathlib.Core.Path.{_≡_, refl, sym, ap, _∙_}
+use mathlib.Core.Bool.{Bool, true, false, not, cond, false≢true}
 use mathlib.Core.List.{List}
-use lib.ListN.{length, getD}
+use lib.ListN.{length, getD, set}
+use lib.Seq.{getD-set-other}
 use lib.Dec.{leb, ltb}
 use borrow.Author.Tests.{lt-ltb, le-ltb, leb-true, leb-false, not-true, not-false}
 use Rattle.index.specs.Index.{iter}
@@ -18,6 +19,9 @@ use Rattle.score.specs.declared.TopicParams.{TopicParams}
 use Rattle.score.specs.Score.{topicParamsIn}
 use Rattle.score.specs.Counters.{grownOf}
 use Rattle.score.proofs.InputLaws.{params-in}
+use Rattle.words.specs.Words.{wordCount, bitsOf, differs, lowest}
+use Rattle.words.proofs.WideLaws.{bitsOf-length}
+use Rattle.words.proofs.SlotWalk.{lowest-below, lowest-most, lowest-next, iter-sparse}
 use Rattle.sets.specs.Sets.{at}
 use Rattle.sets.proofs.SlotLaws.{slots-at}
 use Rattle.mesh.specs.Maintenance.{zeroScore}
@@ -172,6 +176,114 @@ module _
               (e ∙ as-settled st (stateOf table) t time end i mesh was stays negative (ew ∙ as-was) es (en ∙ as-negative) as-params
               (walk .backoff));
         }
+
+-- ---- a slot that stays as it is takes no turn
+
+idle : (was stays : Bool) (u out come : State) → was ≡ stays → cond was (cond stays u out) (cond stays come u) ≡ u
+idle true true u out come e = refl
+idle false false u out come e = refl
+idle true false u out come e = absurd (false≢true (sym e))
+idle false true u out come e = absurd (false≢true e)
+
+settle-idle :
+    (st u : State) (time t s : ℕ) (mesh : List Bool) → isMember st t s ≡ at mesh s → settleSlot st time t mesh s u ≡ u
+unfolding settleSlot
+settle-idle st u time t s mesh e = idle (isMember st t s) (at mesh s) u _ _ e
+
+same-flags : (x y : Bool) → differs x y ≡ false → x ≡ y
+same-flags true true e = refl
+same-flags false false e = refl
+same-flags true false e = absurd (false≢true (sym e))
+same-flags false true e = absurd (false≢true (sym e))
+
+module _
+    (table₀ : List ℕ) (t time end : ℕ) (members : List Bool) (scores : List ℕ)
+    (walk : Settle table₀ t time end members scores)
+    (mesh : List Bool)
+  where
+    skip :
+        (table : List ℕ) (i j : ℕ) →
+        i ≤ j →
+        j ≤ slotCount →
+        Settling (stateOf table₀) time t mesh i table →
+        ((s : ℕ) → i ≤ s → s < j → at members s ≡ at mesh s) →
+        Settling (stateOf table₀) time t mesh j table
+    skip table i j h l now same =
+        record {
+          low = l;
+          size = now .size;
+          state =
+              now .state
+              ∙ iter-sparse (settleSlot (stateOf table₀) time t mesh) (stateOf table₀) i j h
+              (λ s v a b.
+              settle-idle (stateOf table₀) v time t s mesh
+              (sym
+              (ap (λ (m : List Bool). at m s) (walk .was)
+              ∙ slots-at false (isMember (stateOf table₀) t) slotCount s (omega arith))
+              ∙ same s a b));
+        }
+
+    -- before the turn of the lowest slot left: the turns up to it are made, and from it on the slots that are not left stay as they are
+    pub record Rest (table left : List ℕ) (slot : ℕ) : Type 0 where
+      pub walked : Settling (stateOf table₀) time t mesh slot table
+      pub len : length left ≡ wordCount
+      pub here : slot ≡ lowest (bitsOf left)
+      pub same : (s : ℕ) → slot ≤ s → at (bitsOf left) s ≡ false → at members s ≡ at mesh s
+
+    most : (left : List ℕ) → length left ≡ wordCount → lowest (bitsOf left) ≤ slotCount
+    most left l = let a = lowest-most (bitsOf left) in let b = bitsOf-length left in omega arith
+
+    pub rest-none :
+        (left : List ℕ) (slot : ℕ) →
+        length left ≡ wordCount →
+        slot ≡ lowest (bitsOf left) →
+        ((s : ℕ) → at (bitsOf left) s ≡ differs (at members s) (at mesh s)) →
+        Rest table₀ left slot
+    rest-none left slot l e d =
+        let same : (s : ℕ) → at (bitsOf left) s ≡ false → at members s ≡ at mesh s =
+        λ s q. same-flags (at members s) (at mesh s) (sym (d s) ∙ q) in
+        let m = most left l in
+        record {
+          walked =
+              skip table₀ 0 slot (omega arith) (omega arith) (settling-none table₀ time t mesh (walk .standing .size))
+              (λ s a b. same s (lowest-below (bitsOf left) s (omega arith)));
+          len = l;
+          here = e;
+          same = λ s a q. same s q;
+        }
+
+    module _ (table left : List ℕ) (slot : ℕ) (r : Rest table left slot) (h : slot < slotCount) where
+      module _ (rest : List ℕ) (slot′ : ℕ) (er : bitsOf rest ≡ set (bitsOf left) (lowest (bitsOf left)) false) (es : slot′ ≡ lowest (bitsOf rest)) where
+        pub rest-later : slot < slot′
+        rest-later =
+            let b = bitsOf-length left in
+            let l = r .len in
+            let a = lowest-next (bitsOf left) (let c = r .here in omega arith) in
+            let c = r .here in
+            let d = es ∙ ap lowest er in
+            omega arith
+
+        pub rest-more :
+            (table′ : List ℕ) →
+            length rest ≡ wordCount →
+            Settling (stateOf table₀) time t mesh (slot + 1) table′ →
+            Rest table′ rest slot′
+        rest-more table′ l now =
+            let later = rest-later in
+            let m = most rest l in
+            let kept : (s : ℕ) → slot < s → at (bitsOf rest) s ≡ at (bitsOf left) s =
+            λ s k.
+            ap (λ (x : List Bool). at x s) er
+            ∙ getD-set-other (bitsOf left) (lowest (bitsOf left)) s false false (λ z. let c = r .here in omega arith) in
+            record {
+              walked =
+                  skip table′ (slot + 1) slot′ (omega arith) (omega arith) now
+                  (λ s a b.
+                  r .same s (omega arith) (sym (kept s (omega arith)) ∙ lowest-below (bitsOf rest) s (omega arith)));
+              len = l;
+              here = es;
+              same = λ s a q. r .same s (omega arith) (sym (kept s (omega arith)) ∙ q);
+            }
 
 pub settling-done :
     (st : State) (time t : ℕ) (mesh : List Bool) (i : ℕ) (table : List ℕ) →

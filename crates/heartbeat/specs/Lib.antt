@@ -1,2 +1,4 @@
 pub mod Settle
 pub mod Ready
+pub mod Heights
+pub mod Tell

@@ -4,12 +4,8 @@ use mathlib.Core.Path.{_≡_}
 use mathlib.Core.Bool.{true}
 use mathlib.Core.List.{List}
 use lib.ListN.{length}
-use Rattle.records.specs.Records.{slotCount, topicCount, peerIn}
+use Rattle.records.specs.Records.{slotCount, topicCount}
 use Rattle.layout.specs.View.{stateOf}
-use Rattle.score.specs.declared.Balance.{Balance}
-use Rattle.score.specs.declared.ScoreParams.{ScoreParams}
-use Rattle.score.specs.Sums.{sumOf}
-use Rattle.score.specs.Score.{scoreParamsIn, sharing, shareAt}
 use Rattle.sets.specs.Sets.{bySlot, isPermutation}
 use Rattle.rules.specs.Step.{actionRoom, heightIn}
 use Rattle.peer_score.specs.Standing.{Standing}
@@ -33,17 +29,3 @@ pub record ScoredAll (table l : List ℕ) (t : ℕ) : Type 0 where
   pub standing : Standing table
   pub topic : t < topicCount
   pub scores : l ≡ bySlot slotCount (heightIn (stateOf table))
-
--- l are the sums of the topics below t
-pub record SummedBelow (table : List ℕ) (t : ℕ) (l : List Balance) : Type 0 where
-  pub standing : Standing table
-  pub topic : t < topicCount
-  pub sums : l ≡ bySlot slotCount (λ s. sumOf t (shareAt (stateOf table) s))
-
--- what the score of the peer in slot s is made of
-pub record MadeOf (table : List ℕ) (s : ℕ) (g : ScoreParams) (b : Balance) (n : ℕ) : Type 0 where
-  pub standing : Standing table
-  pub slot : s < slotCount
-  pub general : g ≡ scoreParamsIn (stateOf table)
-  pub topics : b ≡ sumOf topicCount (shareAt (stateOf table) s)
-  pub together : n ≡ sharing (stateOf table) (peerIn (stateOf table) s .group)

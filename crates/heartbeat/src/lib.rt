@@ -1,8 +1,10 @@
 // The heartbeat's work for one topic (01's tidy), one of 01's calls: what maintenance sees is taken from the table once, into arrays by
-// slot; crate mesh makes of it the meshes that the five steps leave; the last of them and the actions are written back once.
+// slot and sets of slots; crate mesh makes of it the meshes that the five steps leave; the last of them and the actions are written back
+// once.
 pub mod scores;
 pub mod seen;
 pub mod settle;
+pub mod tell;
 
 ghost use mathlib.Core.Path.{_≡_};
 ghost use lib.Dec.{leb};
@@ -12,11 +14,11 @@ ghost use Rattle.rules.specs.Step.{heartbeatReply, maintainedReply};
 ghost use Rattle.rules.specs.Promise.{Gives, Follows};
 ghost use Rattle.gate.specs.Ready.{TopicLent};
 ghost use Rattle.heartbeat.specs.Ready.{Maintains};
+use crate::scores::scores;
 use crate::seen::degrees;
-use crate::seen::ids;
-use crate::seen::told;
 use crate::seen::view;
 use crate::settle::settle;
+use crate::tell::tell_all;
 use effects::slots::is_joined;
 use effects::slots::load_magnitude;
 use effects::values::end_after;
@@ -25,14 +27,11 @@ use gate::ignore;
 use gate::time_ok;
 use gate::topic_ok;
 use layout::CELLS;
-use mesh::actions::write_actions;
 use mesh::steps::changes;
 use mesh::steps::meshes;
-use records::SLOTS;
 use records::param;
 use rules::Answer;
 use rules::Gate;
-use sets::permutation::copied;
 use sets::permutation::is_permutation;
 
 // A joined topic's mesh, maintained.
@@ -41,35 +40,22 @@ fn maintain_topic(
     time: u64,
     topic: usize,
     ask: u64,
-    order: [u64; SLOTS],
+    order: &[u64],
     actions: &mut [u32],
 ) -> Answer
-    requires { ⌜ Maintains (now table) (now actions) order time topic ⌝ }
-    ensures { λ r. ⌜ Gives (maintainedReply (stateOf (now (table .entry))) time topic ask order) r
+    requires { ⌜ Maintains (now table) (now actions) (now order) time topic ⌝ }
+    ensures { λ r. ⌜ Gives (maintainedReply (stateOf (now (table .entry))) time topic ask (now (order .entry))) r
         (now (table .entry)) (now (table .exit)) (now (actions .entry)) (now (actions .exit)) ⌝ }
 {
-    let v = view(table, time, topic, ask, order);
-    let m = meshes(degrees(table), v);
+    let heights = scores(table);
+    let v = view(table, time, topic, ask, &heights);
+    let m = meshes(degrees(table), v, &heights, order);
     let members = v.members;
-    let scores = v.scores;
     let mesh = m.fifth;
     let seconds = load_magnitude(table, param::PRUNE_BACKOFF);
-    let n = write_actions(
-        actions,
-        changes(members, m),
-        order,
-        ids(table),
-        told(table, seconds),
-    );
-    settle(
-        table,
-        topic,
-        time,
-        end_after(time, seconds),
-        members,
-        mesh,
-        scores,
-    );
+    let n = tell_all(table, actions, changes(members, m), order, seconds);
+    let end = end_after(time, seconds);
+    settle(table, topic, time, end, members, mesh, &heights);
     layout::store_clock(table, time);
     Answer::Done(n)
 }
@@ -92,7 +78,7 @@ fn heartbeat_from(
     if !is_joined(table, topic) {
         return ignore(table, time);
     }
-    maintain_topic(table, time, topic, ask, copied(permutation), actions)
+    maintain_topic(table, time, topic, ask, permutation, actions)
 }
 
 // Whether opportunism is asked for: 0 or 1.

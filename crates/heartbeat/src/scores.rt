@@ -1,103 +1,36 @@
-// The scores of all slots, as at the call's start. What the slots share is taken once: each topic's parameters, and the groups, in narrow
-// numbers side by side, so that several are compared at once.
+// The scores of all slots, as at the call's start. The connected peers are counted by group once, in buckets, so that no two peers need be
+// compared; empty slots share one score.
 ghost use mathlib.Core.Path.{_≡_};
-ghost use mathlib.Core.Bool.{_&&_};
-ghost use Prim.Native.Nat.{_+_};
-ghost use lib.Dec.{eqb};
-ghost use lib.ListN.{length, getD};
-ghost use Rattle.index.specs.Index.{count};
-ghost use Rattle.records.specs.Records.{slotCount, peerIn, isConnected};
-ghost use Rattle.layout.specs.View.{cellCount, stateOf};
-ghost use Rattle.score.specs.Sums.{sumOf};
-ghost use Rattle.score.specs.Score.{shareAt};
-ghost use Rattle.sets.specs.Sets.{at, bySlot};
+ghost use Rattle.records.specs.Records.{slotCount};
+ghost use Rattle.layout.specs.View.{stateOf};
+ghost use Rattle.sets.specs.Sets.{bySlot};
 ghost use Rattle.rules.specs.Step.{heightIn};
 ghost use Rattle.peer_score.specs.Standing.{Standing};
-ghost use Rattle.heartbeat.specs.Ready.{SummedBelow, MadeOf};
-use peer_score::load_general;
-use peer_score::load_params;
+ghost use Rattle.heartbeat.specs.Heights.{HeightAt};
+use peer_score::buckets::BUCKETS;
+use peer_score::buckets::count_groups;
+use peer_score::buckets::empty_score;
+use peer_score::buckets::score_among;
 use records::SLOTS;
-use records::TOPICS;
-use score::Balance;
-use score::ScoreParams;
-use score::sums;
-use score::topic::share;
-
-// Who is connected.
-fn connected(table: &[u64]) -> [bool; SLOTS]
-    requires { ⌜ length (now table) ≡ cellCount ⌝ }
-    ensures { λ r. ⌜ r ≡ bySlot slotCount (λ s. isConnected (peerIn (stateOf (now (table .entry))) s)) ⌝ }
-{
-    let mut r = [false; SLOTS];
-    for s in 0..SLOTS {
-        r[s] = layout::load_status(table, s) == 1;
-    }
-    r
-}
-
-// The groups.
-fn groups(table: &[u64]) -> [u32; SLOTS]
-    requires { ⌜ Standing (now table) ⌝ }
-    ensures { λ r. ⌜ r ≡ bySlot slotCount (λ s. peerIn (stateOf (now (table .entry))) s .group) ⌝ }
-{
-    let mut r: [u32; SLOTS] = [0; SLOTS];
-    for s in 0..SLOTS {
-        let group = layout::load_group(table, s);
-        r[s] = group as u32;
-    }
-    r
-}
-
-// How many of those connected are of the group.
-fn sharing_of(connected: &[bool; SLOTS], groups: &[u32; SLOTS], group: u32) -> u32
-    ensures { λ r. ⌜ r ≡ count slotCount (λ s. at (now (connected .entry)) s && eqb (getD (now (groups .entry)) s 0) group) ⌝ }
-{
-    let mut n: u32 = 0;
-    for s in 0..SLOTS {
-        if connected[s] & (groups[s] == group) {
-            n += 1;
-        }
-    }
-    n
-}
-
-// The sums of the topics before this one, with its shares.
-fn add_topic(table: &[u64], topic: usize, before: [Balance; SLOTS]) -> [Balance; SLOTS]
-    requires { ⌜ SummedBelow (now table) topic before ⌝ }
-    ensures { λ r. ⌜ r ≡ bySlot slotCount (λ s. sumOf (topic + 1) (shareAt (stateOf (now (table .entry))) s)) ⌝ }
-{
-    let params = load_params(table, topic);
-    let mut r = before;
-    for s in 0..SLOTS {
-        let b = before[s];
-        r[s] = sums::add(b, share(params, layout::load_topic(table, s * 8 + topic)));
-    }
-    r
-}
-
-// The shares of all topics, added.
-fn topics(table: &[u64]) -> [Balance; SLOTS]
-    requires { ⌜ Standing (now table) ⌝ }
-    ensures { λ r. ⌜ r ≡ bySlot slotCount (λ s. sumOf 8 (shareAt (stateOf (now (table .entry))) s)) ⌝ }
-{
-    let none = Balance { gain: 0, loss: 0 };
-    let mut r = [none; SLOTS];
-    let mut t: usize = 0;
-    while t < TOPICS {
-        let next = add_topic(table, t, r);
-        r = next;
-        t += 1;
-    }
-    r
-}
+use score::sums::offset;
 
 // The score of the peer in a slot, moved up so that none is negative.
-fn height(table: &[u64], slot: usize, g: ScoreParams, topics: Balance, together: u64) -> u64
-    requires { ⌜ MadeOf (now table) slot g topics together ⌝ }
+fn height(
+    table: &[u64],
+    heads: &[u32; BUCKETS],
+    same: &[u16; BUCKETS],
+    others: &[u16; BUCKETS],
+    none: u64,
+    slot: usize,
+) -> u64
+    requires { ⌜ HeightAt (now table) (now heads) (now same) (now others) none slot ⌝ }
     ensures { λ r. ⌜ r ≡ heightIn (stateOf (now (table .entry))) slot ⌝ }
 {
     let p = layout::load_peer(table, slot);
-    sums::offset(sums::total(sums::parts(g, topics, p.p5, together, p.p7)))
+    if p.status == 0 {
+        return none;
+    }
+    offset(score_among(table, heads, same, others, slot, p))
 }
 
 // The scores.
@@ -105,16 +38,14 @@ pub fn scores(table: &[u64]) -> [u64; SLOTS]
     requires { ⌜ Standing (now table) ⌝ }
     ensures { λ r. ⌜ r ≡ bySlot slotCount (heightIn (stateOf (now (table .entry)))) ⌝ }
 {
-    let g = load_general(table);
-    let sums = topics(table);
-    let on = connected(table);
-    let names = groups(table);
+    let mut heads: [u32; BUCKETS] = [0; BUCKETS];
+    let mut same: [u16; BUCKETS] = [0; BUCKETS];
+    let mut others: [u16; BUCKETS] = [0; BUCKETS];
+    count_groups(table, &mut heads, &mut same, &mut others);
+    let none = offset(empty_score(table, &heads, &same, &others));
     let mut r = [0; SLOTS];
     for s in 0..SLOTS {
-        let topics = sums[s];
-        let group = names[s];
-        let together = sharing_of(&on, &names, group) as u64;
-        r[s] = height(table, s, g, topics, together);
+        r[s] = height(table, &heads, &same, &others, none, s);
     }
     r
 }

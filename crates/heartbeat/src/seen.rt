@@ -1,48 +1,52 @@
-// What maintenance sees of a table, by slot, and the numbers of the peers that its actions name. Everything is as at the call's start.
+// What maintenance sees of a table, as at the call's start: sets of slots as words.
 ghost use mathlib.Core.Path.{_≡_};
-ghost use mathlib.Core.Bool.{cond};
+ghost use mathlib.Core.List.{List};
+ghost use Prim.Native.Nat.{ℕ};
 ghost use lib.Dec.{eqb};
 ghost use lib.ListN.{length};
 ghost use Rattle.records.specs.Records.{slotCount, peerIn};
 ghost use Rattle.layout.specs.View.{cellCount, stateOf};
+ghost use Rattle.words.specs.Words.{bitsOf};
 ghost use Rattle.sets.specs.Sets.{bySlot};
+ghost use Rattle.mesh.specs.Words.{viewOf};
 ghost use Rattle.effects.specs.Effects.{isMember};
 ghost use Rattle.effects.specs.Lent.{AtTopic};
 ghost use Rattle.rules.specs.Step.{pastSlack, isCandidate, degreesIn, viewIn};
-ghost use Rattle.peer_score.specs.Standing.{Standing, TopicStanding};
+ghost use Rattle.peer_score.specs.Standing.{Standing};
 ghost use Rattle.heartbeat.specs.Ready.{ScoredAt, ScoredAll};
-use crate::scores::scores;
 use effects::slots::is_member;
 use effects::slots::load_magnitude;
 use mesh::Degrees;
-use mesh::View;
+use mesh::Seen;
 use mesh::ZERO_SCORE;
 use records::SLOTS;
 use records::param;
+use words::WORDS;
+use words::flags::pack;
 
 // The members of a topic's mesh.
-pub fn members(table: &[u64], topic: usize) -> [bool; SLOTS]
+pub fn members(table: &[u64], topic: usize) -> [u64; WORDS]
     requires { ⌜ AtTopic (now table) topic ⌝ }
-    ensures { λ r. ⌜ r ≡ bySlot slotCount (isMember (stateOf (now (table .entry))) topic) ⌝ }
+    ensures { λ r. ⌜ bitsOf r ≡ bySlot slotCount (isMember (stateOf (now (table .entry))) topic) ⌝ }
 {
     let mut r = [false; SLOTS];
     for s in 0..SLOTS {
         r[s] = is_member(table, topic, s);
     }
-    r
+    pack(r)
 }
 
 // The peers whose connection we opened.
-pub fn outbound(table: &[u64]) -> [bool; SLOTS]
+pub fn outbound(table: &[u64]) -> [u64; WORDS]
     requires { ⌜ length (now table) ≡ cellCount ⌝ }
-    ensures { λ r. ⌜ r ≡ bySlot slotCount (λ s. eqb (peerIn (stateOf (now (table .entry))) s .outbound) 1) ⌝ }
+    ensures { λ r. ⌜ bitsOf r ≡ bySlot slotCount (λ s. eqb (peerIn (stateOf (now (table .entry))) s .outbound) 1) ⌝ }
 {
     let mut r = [false; SLOTS];
     for s in 0..SLOTS {
         let p = layout::load_peer(table, s);
         r[s] = p.outbound == 1;
     }
-    r
+    pack(r)
 }
 
 // How long after a backoff's end we send no GRAFT of ours: the neighbour may count it from a later moment.
@@ -75,42 +79,15 @@ pub fn is_candidate(table: &[u64], time: u64, topic: usize, slot: usize, score: 
 }
 
 // The candidates of a topic.
-pub fn candidates(table: &[u64], time: u64, topic: usize, scores: [u64; SLOTS]) -> [bool; SLOTS]
-    requires { ⌜ ScoredAll (now table) scores topic ⌝ }
-    ensures { λ r. ⌜ r ≡ bySlot slotCount (isCandidate (stateOf (now (table .entry))) time topic) ⌝ }
+pub fn candidates(table: &[u64], time: u64, topic: usize, scores: &[u64]) -> [u64; WORDS]
+    requires { ⌜ ScoredAll (now table) (now scores) topic ⌝ }
+    ensures { λ r. ⌜ bitsOf r ≡ bySlot slotCount (isCandidate (stateOf (now (table .entry))) time topic) ⌝ }
 {
     let mut r = [false; SLOTS];
     for s in 0..SLOTS {
         r[s] = is_candidate(table, time, topic, s, scores[s]);
     }
-    r
-}
-
-// The ids of the peers.
-pub fn ids(table: &[u64]) -> [u64; SLOTS]
-    requires { ⌜ length (now table) ≡ cellCount ⌝ }
-    ensures { λ r. ⌜ r ≡ bySlot slotCount (λ s. peerIn (stateOf (now (table .entry))) s .id) ⌝ }
-{
-    let mut r = [0; SLOTS];
-    for s in 0..SLOTS {
-        r[s] = layout::load_id(table, s);
-    }
-    r
-}
-
-// The seconds that each peer is told of a backoff: none at version 1.0.0.
-pub fn told(table: &[u64], seconds: u64) -> [u64; SLOTS]
-    requires { ⌜ length (now table) ≡ cellCount ⌝ }
-    ensures { λ r. ⌜ r ≡ bySlot slotCount (λ s. cond (eqb (peerIn (stateOf (now (table .entry))) s .version) 0) 0 seconds) ⌝ }
-{
-    let mut r = [0; SLOTS];
-    for s in 0..SLOTS {
-        let p = layout::load_peer(table, s);
-        if p.version != 0 {
-            r[s] = seconds;
-        }
-    }
-    r
+    pack(r)
 }
 
 // The parameters that maintenance goes by.
@@ -128,18 +105,16 @@ pub fn degrees(table: &[u64]) -> Degrees
     }
 }
 
-// All that maintenance sees.
-pub fn view(table: &[u64], time: u64, topic: usize, ask: u64, order: [u64; SLOTS]) -> View
-    requires { ⌜ TopicStanding (now table) topic ⌝ }
-    ensures { λ r. ⌜ r ≡ viewIn (stateOf (now (table .entry))) time topic ask order ⌝ }
+// All that maintenance sees, beside the scores and the permutation.
+pub fn view(table: &[u64], time: u64, topic: usize, ask: u64, scores: &[u64]) -> Seen
+    requires { ⌜ ScoredAll (now table) (now scores) topic ⌝ }
+    ensures { λ r. ⌜ ((order : List ℕ) →
+        viewOf r (now (scores .entry)) order ≡ viewIn (stateOf (now (table .entry))) time topic ask order) ⌝ }
 {
-    let heights = scores(table);
-    View {
+    Seen {
         members: members(table, topic),
-        candidates: candidates(table, time, topic, heights),
+        candidates: candidates(table, time, topic, scores),
         outbound: outbound(table),
-        scores: heights,
-        permutation: order,
         ask: ask == 1,
     }
 }

@@ -3,6 +3,7 @@ ghost use mathlib.Core.Path.{_≡_};
 ghost use Rattle.index.specs.Index.{iter};
 ghost use Rattle.records.specs.Records.{slotCount};
 ghost use Rattle.layout.specs.View.{stateOf};
+ghost use Rattle.words.specs.Words.{bitsOf};
 ghost use Rattle.rules.specs.Step.{settleSlot};
 ghost use Rattle.leaving.specs.Slots.{Turn};
 ghost use Rattle.heartbeat.specs.Settle.{settledIf, Settle};
@@ -11,6 +12,12 @@ use effects::slots::prune_slot;
 use leaving::punish;
 use mesh::ZERO_SCORE;
 use records::SLOTS;
+use sets::number_at;
+use words::WORDS;
+use words::at;
+use words::differ;
+use words::lowest;
+use words::without_lowest;
 
 // One slot: whether it was a member, whether it is one now, and whether its score was negative at the start.
 fn settle_slot(
@@ -38,33 +45,29 @@ fn settle_slot(
     }
 }
 
-// Every slot.
+// Every slot: a turn for those that changed, since the others stay as they are.
 pub fn settle(
     table: &mut [u64],
     topic: usize,
     time: u64,
     end: u64,
-    members: [bool; SLOTS],
-    mesh: [bool; SLOTS],
-    scores: [u64; SLOTS],
+    members: [u64; WORDS],
+    mesh: [u64; WORDS],
+    scores: &[u64],
 )
-    requires { ⌜ Settle (now table) topic time end members scores ⌝ }
+    requires { ⌜ Settle (now table) topic time end (bitsOf members) (now scores) ⌝ }
     ensures { λ r. ⌜ stateOf (now (table .exit))
-        ≡ iter slotCount (settleSlot (stateOf (now (table .entry))) time topic mesh) (stateOf (now (table .entry))) ⌝ }
+        ≡ iter slotCount (settleSlot (stateOf (now (table .entry))) time topic (bitsOf mesh)) (stateOf (now (table .entry))) ⌝ }
 {
-    let mut slot: usize = 0;
-    while slot < SLOTS {
-        let negative = scores[slot] < ZERO_SCORE;
-        settle_slot(
-            table,
-            topic,
-            slot,
-            time,
-            end,
-            members[slot],
-            mesh[slot],
-            negative,
-        );
-        slot += 1;
+    let mut left = differ(members, mesh);
+    let mut slot = lowest(left);
+    while slot < SLOTS as u64 {
+        let negative = number_at(scores, slot) < ZERO_SCORE;
+        let was = at(&members, slot);
+        let stays = at(&mesh, slot);
+        settle_slot(table, topic, slot as usize, time, end, was, stays, negative);
+        let rest = without_lowest(left);
+        left = rest;
+        slot = lowest(left);
     }
 }

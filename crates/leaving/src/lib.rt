@@ -9,6 +9,7 @@ ghost use Rattle.rules.specs.Calls.{leave as Calls·leave};
 ghost use Rattle.rules.specs.Step.{leaveReply};
 ghost use Rattle.rules.specs.Promise.{Gives, Follows};
 ghost use Rattle.peer_score.specs.Standing.{TopicStanding, PlaceStanding};
+ghost use Rattle.peer_score.specs.Buckets.{Counted};
 ghost use Rattle.gate.specs.Ready.{TopicLent};
 ghost use Rattle.leaving.specs.Slots.{isNegativeMember, grownIf, Turn, LeaveTurn, Turned, Walk, Walked};
 use effects::actions::put_prune;
@@ -22,6 +23,9 @@ use gate::ignore;
 use gate::time_ok;
 use gate::topic_ok;
 use layout::CELLS;
+use peer_score::buckets::BUCKETS;
+use peer_score::buckets::count_groups;
+use peer_score::buckets::score_among;
 use records::SLOTS;
 use records::param;
 use rules::Answer;
@@ -29,26 +33,38 @@ use rules::Gate;
 use score::sums::is_negative;
 
 // Whether a slot is a member that scores below zero: nobody else's score is taken.
-fn is_negative_member(table: &[u64], topic: usize, slot: usize) -> bool
-    requires { ⌜ PlaceStanding (now table) topic slot ⌝ }
+fn is_negative_member(
+    table: &[u64],
+    heads: &[u32; BUCKETS],
+    same: &[u16; BUCKETS],
+    others: &[u16; BUCKETS],
+    topic: usize,
+    slot: usize,
+) -> bool
+    requires { ⌜ PlaceStanding (now table) topic slot × Counted (now table) (now heads) (now same) (now others) ⌝ }
     ensures { λ r. ⌜ r ≡ isNegativeMember (stateOf (now (table .entry))) topic slot ⌝ }
 {
     if !is_member(table, topic, slot) {
         return false;
     }
     let p = layout::load_peer(table, slot);
-    is_negative(peer_score::score_of(table, slot, p))
+    is_negative(score_among(table, heads, same, others, slot, p))
 }
 
-// Which members score below zero; taken before anything changes, since the rule speaks of the call's start.
+// Which members score below zero; taken before anything changes, since the rule speaks of the call's start. The connected peers are
+// counted by group once, for all members.
 fn negatives(table: &[u64], topic: usize) -> [bool; SLOTS]
     requires { ⌜ TopicStanding (now table) topic ⌝ }
     ensures { λ r. ⌜ ((s : ℕ) → s < slotCount → getD r s false ≡ isNegativeMember (stateOf (now (table .entry))) topic s) ⌝ }
 {
+    let mut heads: [u32; BUCKETS] = [0; BUCKETS];
+    let mut same: [u16; BUCKETS] = [0; BUCKETS];
+    let mut others: [u16; BUCKETS] = [0; BUCKETS];
+    count_groups(table, &mut heads, &mut same, &mut others);
     let mut flags = [false; SLOTS];
     let mut slot: usize = 0;
     while slot < SLOTS {
-        flags[slot] = is_negative_member(table, topic, slot);
+        flags[slot] = is_negative_member(table, &heads, &same, &others, topic, slot);
         slot += 1;
     }
     flags

@@ -12,7 +12,7 @@ use Rattle.index.proofs.Flags.{cond-case}
 use Rattle.index.proofs.Lists.{sets-append}
 use Rattle.sets.specs.Sets.{at, size, inOrder, ascending}
 use Rattle.mesh.specs.Maintenance.{Action, action, actionsOn, actionsOf, secondsOf, numbersOf, Narrow, Writable, Written}
-use Rattle.mesh.specs.declared.Changes.{Changes}
+use Rattle.mesh.specs.Maintenance.{Changes}
 use Rattle.sets.proofs.SetLaws.{size-unset}
 use Rattle.sets.proofs.WalkLaws.{inOrder-step, inOrder-end}
 

@@ -16,8 +16,8 @@ use Rattle.sets.specs.Sets.{at, Sub, size, except, occurs, ascending, inOrder, 
 use Rattle.mesh.specs.Maintenance.{goods, mesh1, mesh2, mesh3, mesh4, mesh5, meshes, changesOf, action, actionsOn, actionsOf}
 use Rattle.mesh.specs.Maintenance.{Rules, Whole}
 use Rattle.mesh.specs.declared.Degrees.{Degrees}
-use Rattle.mesh.specs.declared.View.{View}
-use Rattle.mesh.specs.declared.Meshes.{Meshes}
+use Rattle.mesh.specs.Maintenance.{View}
+use Rattle.mesh.specs.Maintenance.{Meshes}
 use Rattle.sets.proofs.WalkLaws.{at-below, except-at, except-length}
 use Rattle.sets.proofs.CountLaws.{size-mono, size-set-le, set-drops, fill-upper}
 use Rattle.sets.proofs.SetLaws.{both-left, size-diff, size-apart, size-unset}

@@ -31,7 +31,7 @@ use Rattle.mesh.specs.Maintenance.{
   Maintained,
 }
 use Rattle.mesh.specs.declared.Degrees.{Degrees}
-use Rattle.mesh.specs.declared.View.{View}
+use Rattle.mesh.specs.Maintenance.{View}
 use Rattle.sets.proofs.WalkLaws.{at-below, both-length, from-length}
 use Rattle.sets.proofs.CountLaws.{
   In,

@@ -11,9 +11,9 @@ use Rattle.sets.specs.Sets.{size, both, except, from, fill, bests, swapTo, sort
 use Rattle.sets.proofs.WalkLaws.{above-is}
 use Rattle.mesh.specs.Maintenance.{zeroScore, mesh1, mesh2, theBest, keepers, swapped, mesh3, mesh4, median, mesh5, meshes, changesOf}
 use Rattle.mesh.specs.declared.Degrees.{Degrees}
-use Rattle.mesh.specs.declared.View.{View}
-use Rattle.mesh.specs.declared.Meshes.{Meshes}
-use Rattle.mesh.specs.declared.Changes.{Changes}
+use Rattle.mesh.specs.Maintenance.{View}
+use Rattle.mesh.specs.Maintenance.{Meshes}
+use Rattle.mesh.specs.Maintenance.{Changes}
 
 -- ---- 1, 2, 3, 4
 pub mesh1-is : (v : View) {f r : List Bool} → f ≡ from zeroScore (v .scores) → r ≡ both (v .members) f → r ≡ mesh1 v

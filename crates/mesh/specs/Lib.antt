@@ -1,1 +1,2 @@
 pub mod Maintenance
+pub mod Words

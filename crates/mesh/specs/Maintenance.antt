@@ -26,9 +26,31 @@ use Rattle.sets.specs.Sets.{
   scoresOf,
 }
 use Rattle.mesh.specs.declared.Degrees.{Degrees}
-use Rattle.mesh.specs.declared.View.{View}
-use Rattle.mesh.specs.declared.Meshes.{Meshes}
-use Rattle.mesh.specs.declared.Changes.{Changes}
+
+-- What maintenance sees at its start, by slot, with the permutation and whether it is asked for opportunistic grafts.
+pub record View : Type 0 where
+  pub members : List Bool
+  pub candidates : List Bool
+  pub outbound : List Bool
+  pub scores : List ℕ
+  pub permutation : List ℕ
+  pub ask : Bool
+
+-- the mesh that each step leaves
+pub record Meshes : Type 0 where
+  pub first : List Bool
+  pub second : List Bool
+  pub third : List Bool
+  pub fourth : List Bool
+  pub fifth : List Bool
+
+-- what each step changes: the members that steps 1 and 3 PRUNE, and the candidates that steps 2, 4 and 5 graft
+pub record Changes : Type 0 where
+  pub first : List Bool
+  pub second : List Bool
+  pub third : List Bool
+  pub fourth : List Bool
+  pub fifth : List Bool
 
 -- The number that stands for a score of 0: a score s is given as zeroScore + s. "No score passes 2.6 × 10^18 either way."
 abbrev pub zeroScore : ℕ
@@ -90,7 +112,6 @@ meshes n t v =
 abbrev pub maintained : ℕ → Degrees → View → List Bool
 maintained n t v = meshes n t v .fifth
 
--- what each step changes: the members that steps 1 and 3 PRUNE, and the candidates that steps 2, 4 and 5 graft
 unfoldable pub changesOf : List Bool → Meshes → Changes
 changesOf start m =
     record {

@@ -3,7 +3,7 @@
 pub mod actions;
 pub mod steps;
 
-use records::SLOTS;
+use words::WORDS;
 
 // The number that stands for a score of 0: a score s is given as ZERO_SCORE + s.
 pub const ZERO_SCORE: u64 = 2_600_000_000_000_000_000;
@@ -18,30 +18,29 @@ pub struct Degrees {
     pub threshold: u64,
 }
 
-// What maintenance sees at its start, by slot, with the permutation and whether it is asked for opportunistic grafts.
-pub struct View {
-    pub members: [bool; SLOTS],
-    pub candidates: [bool; SLOTS],
-    pub outbound: [bool; SLOTS],
-    pub scores: [u64; SLOTS],
-    pub permutation: [u64; SLOTS],
+// What maintenance sees at its start: sets of slots, and whether it is asked for opportunistic grafts. The scores by slot and the
+// permutation are lent beside it; together they are the rules' view (`viewOf`).
+pub struct Seen {
+    pub members: [u64; WORDS],
+    pub candidates: [u64; WORDS],
+    pub outbound: [u64; WORDS],
     pub ask: bool,
 }
 
 // The mesh that each step leaves.
-pub struct Meshes {
-    pub first: [bool; SLOTS],
-    pub second: [bool; SLOTS],
-    pub third: [bool; SLOTS],
-    pub fourth: [bool; SLOTS],
-    pub fifth: [bool; SLOTS],
+pub struct Stages {
+    pub first: [u64; WORDS],
+    pub second: [u64; WORDS],
+    pub third: [u64; WORDS],
+    pub fourth: [u64; WORDS],
+    pub fifth: [u64; WORDS],
 }
 
 // What each step changes: the members that steps 1 and 3 PRUNE, and the candidates that steps 2, 4 and 5 graft.
-pub struct Changes {
-    pub first: [bool; SLOTS],
-    pub second: [bool; SLOTS],
-    pub third: [bool; SLOTS],
-    pub fourth: [bool; SLOTS],
-    pub fifth: [bool; SLOTS],
+pub struct Moves {
+    pub first: [u64; WORDS],
+    pub second: [u64; WORDS],
+    pub third: [u64; WORDS],
+    pub fourth: [u64; WORDS],
+    pub fifth: [u64; WORDS],
 }

@@ -1,13 +1,18 @@
-// The five steps of mesh maintenance, each from the mesh that the one before left, and all of them.
+// The five steps of mesh maintenance, each from the mesh that the one before left, and all of them. A step that reads no scores, or goes by
+// no order, keeps its promise whatever they are.
 ghost use mathlib.Core.Path.{_≡_};
+ghost use mathlib.Core.List.{List};
+ghost use Prim.Native.Nat.{ℕ};
+ghost use lib.ListN.{length};
 ghost use Rattle.records.specs.Records.{slotCount};
+ghost use Rattle.words.specs.Words.{bitsOf};
 ghost use Rattle.mesh.specs.Maintenance.{mesh1, mesh2, mesh3, mesh4, mesh5, meshes, changesOf};
-use crate::Changes;
+ghost use Rattle.mesh.specs.Words.{viewOf, meshesOf, changesIn};
 use crate::Degrees;
-use crate::Meshes;
-use crate::View;
+use crate::Moves;
+use crate::Seen;
+use crate::Stages;
 use crate::ZERO_SCORE;
-use records::SLOTS;
 use sets::at_least;
 use sets::both;
 use sets::except;
@@ -17,19 +22,20 @@ use sets::size;
 use sets::walks::bests;
 use sets::walks::fill;
 use sets::walks::swap_to;
+use words::WORDS;
 
 // 1. The members that are not negative.
-pub fn mesh1(v: View) -> [bool; SLOTS]
-    ensures { λ r. ⌜ r ≡ mesh1 v ⌝ }
+pub fn mesh1(v: Seen, scores: &[u64]) -> [u64; WORDS]
+    requires { ⌜ length (now scores) ≡ slotCount ⌝ }
+    ensures { λ r. ⌜ ((order : List ℕ) → bitsOf r ≡ mesh1 (viewOf v (now (scores .entry)) order)) ⌝ }
 {
     let members = v.members;
-    let scores = v.scores;
     both(members, at_least(ZERO_SCORE, scores))
 }
 
 // 2. Under lo: candidates up to d.
-pub fn mesh2(t: Degrees, v: View, m: [bool; SLOTS]) -> [bool; SLOTS]
-    ensures { λ r. ⌜ r ≡ mesh2 t v m ⌝ }
+pub fn mesh2(t: Degrees, v: Seen, order: &[u64], m: [u64; WORDS]) -> [u64; WORDS]
+    ensures { λ r. ⌜ ((scores : List ℕ) → bitsOf r ≡ mesh2 t (viewOf v scores (now (order .entry))) (bitsOf m)) ⌝ }
 {
     let n = size(m);
     let lo = t.lo;
@@ -37,13 +43,12 @@ pub fn mesh2(t: Degrees, v: View, m: [bool; SLOTS]) -> [bool; SLOTS]
         return m;
     }
     let candidates = v.candidates;
-    let permutation = v.permutation;
-    fill(candidates, minus(t.d, n), permutation, m)
+    fill(candidates, minus(t.d, n), order, m)
 }
 
 // 3. Over hi: the best, others to make d, the swaps.
-pub fn mesh3(t: Degrees, v: View, m: [bool; SLOTS]) -> [bool; SLOTS]
-    ensures { λ r. ⌜ r ≡ mesh3 slotCount t v m ⌝ }
+pub fn mesh3(t: Degrees, v: Seen, scores: &[u64], order: &[u64], m: [u64; WORDS]) -> [u64; WORDS]
+    ensures { λ r. ⌜ bitsOf r ≡ mesh3 slotCount t (viewOf v (now (scores .entry)) (now (order .entry))) (bitsOf m) ⌝ }
 {
     let n = size(m);
     let hi = t.hi;
@@ -51,28 +56,26 @@ pub fn mesh3(t: Degrees, v: View, m: [bool; SLOTS]) -> [bool; SLOTS]
         return m;
     }
     let outbound = v.outbound;
-    let scores = v.scores;
-    let permutation = v.permutation;
-    let best = bests(t.score, scores, m, permutation);
-    let keepers = fill(m, minus(t.d, size(best)), permutation, best);
-    swap_to(t.out, scores, outbound, permutation, m, best, keepers)
+    let best = bests(t.score, scores, m, order);
+    let keepers = fill(m, minus(t.d, size(best)), order, best);
+    swap_to(t.out, scores, outbound, order, m, best, keepers)
 }
 
 // 4. Under out outbound: outbound candidates.
-pub fn mesh4(t: Degrees, v: View, m: [bool; SLOTS]) -> [bool; SLOTS]
-    ensures { λ r. ⌜ r ≡ mesh4 t v m ⌝ }
+pub fn mesh4(t: Degrees, v: Seen, order: &[u64], m: [u64; WORDS]) -> [u64; WORDS]
+    ensures { λ r. ⌜ ((scores : List ℕ) → bitsOf r ≡ mesh4 t (viewOf v scores (now (order .entry))) (bitsOf m)) ⌝ }
 {
     let outbound = v.outbound;
     let candidates = v.candidates;
-    let permutation = v.permutation;
     let fits = both(candidates, outbound);
     let room = minus(t.out, size(both(m, outbound)));
-    fill(fits, room, permutation, m)
+    fill(fits, room, order, m)
 }
 
 // 5. If asked, and the median is under the threshold: up to two candidates above the median.
-pub fn mesh5(t: Degrees, v: View, m: [bool; SLOTS]) -> [bool; SLOTS]
-    ensures { λ r. ⌜ r ≡ mesh5 t v m ⌝ }
+pub fn mesh5(t: Degrees, v: Seen, scores: &[u64], order: &[u64], m: [u64; WORDS]) -> [u64; WORDS]
+    requires { ⌜ length (now scores) ≡ slotCount ⌝ }
+    ensures { λ r. ⌜ bitsOf r ≡ mesh5 t (viewOf v (now (scores .entry)) (now (order .entry))) (bitsOf m) ⌝ }
 {
     let ask = v.ask;
     if !ask {
@@ -82,28 +85,27 @@ pub fn mesh5(t: Degrees, v: View, m: [bool; SLOTS]) -> [bool; SLOTS]
     if n < 2 {
         return m;
     }
-    let scores = v.scores;
     let median = middle(n / 2, m, scores);
     let threshold = t.threshold;
     if threshold <= median {
         return m;
     }
     let candidates = v.candidates;
-    let permutation = v.permutation;
     let higher = at_least(median + 1, scores);
-    fill(both(candidates, higher), 2, permutation, m)
+    fill(both(candidates, higher), 2, order, m)
 }
 
 // The mesh that each step leaves.
-pub fn meshes(t: Degrees, v: View) -> Meshes
-    ensures { λ r. ⌜ r ≡ meshes slotCount t v ⌝ }
+pub fn meshes(t: Degrees, v: Seen, scores: &[u64], order: &[u64]) -> Stages
+    requires { ⌜ length (now scores) ≡ slotCount ⌝ }
+    ensures { λ r. ⌜ meshesOf r ≡ meshes slotCount t (viewOf v (now (scores .entry)) (now (order .entry))) ⌝ }
 {
-    let first = mesh1(v);
-    let second = mesh2(t, v, first);
-    let third = mesh3(t, v, second);
-    let fourth = mesh4(t, v, third);
-    let fifth = mesh5(t, v, fourth);
-    Meshes {
+    let first = mesh1(v, scores);
+    let second = mesh2(t, v, order, first);
+    let third = mesh3(t, v, scores, order, second);
+    let fourth = mesh4(t, v, order, third);
+    let fifth = mesh5(t, v, scores, order, fourth);
+    Stages {
         first: first,
         second: second,
         third: third,
@@ -113,15 +115,15 @@ pub fn meshes(t: Degrees, v: View) -> Meshes
 }
 
 // What each step changes, from the mesh at the start.
-pub fn changes(start: [bool; SLOTS], m: Meshes) -> Changes
-    ensures { λ r. ⌜ r ≡ changesOf start m ⌝ }
+pub fn changes(start: [u64; WORDS], m: Stages) -> Moves
+    ensures { λ r. ⌜ changesIn r ≡ changesOf (bitsOf start) (meshesOf m) ⌝ }
 {
     let first = m.first;
     let second = m.second;
     let third = m.third;
     let fourth = m.fourth;
     let fifth = m.fifth;
-    Changes {
+    Moves {
         first: except(start, first),
         second: except(second, first),
         third: except(second, third),

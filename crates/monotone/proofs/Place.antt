@@ -19,7 +19,7 @@ use Rattle.sets.proofs.CountLaws.{fill-only}
 use Rattle.sets.proofs.SetLaws.{both-left, both-right}
 use Rattle.mesh.specs.Maintenance.{zeroScore, goods, mesh1, mesh2, mesh3, mesh4, median, mesh5, meshes, maintained, Rules}
 use Rattle.mesh.specs.declared.Degrees.{Degrees}
-use Rattle.mesh.specs.declared.View.{View}
+use Rattle.mesh.specs.Maintenance.{View}
 use Rattle.monotone.specs.Better.{Better}
 use Rattle.mesh.proofs.Bound.{two-small, three-idle}
 use Rattle.mesh.proofs.MaintenanceLaws.{Adds, Keeps, len1, adds2, keeps3, adds4, adds5, maintained-keeps}

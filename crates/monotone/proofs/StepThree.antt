@@ -16,7 +16,7 @@ use Rattle.sets.proofs.CountLaws.{fill-sub}
 use Rattle.sets.proofs.SetLaws.{at-none}
 use Rattle.mesh.specs.Maintenance.{theBest, keepers, swapped, mesh3, Rules, Whole}
 use Rattle.mesh.specs.declared.Degrees.{Degrees}
-use Rattle.mesh.specs.declared.View.{View}
+use Rattle.mesh.specs.Maintenance.{View}
 use Rattle.sets.proofs.BestLaws.{Pushed, Chosen, chosen}
 use Rattle.sets.proofs.SwapLaws.{outbound-stays, best-stays, drawn-stayed, same-swaps, keepers-split, inbound-pushed}
 use Rattle.mesh.proofs.MaintenanceLaws.{len-best, sub-best, len-keepers, sub-keepers, upper-keepers, lower-keepers}

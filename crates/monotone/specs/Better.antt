@@ -5,7 +5,7 @@ use mathlib.Core.Bool.{true}
 use lib.ListN.{getD}
 use Rattle.sets.specs.Sets.{at}
 use Rattle.mesh.specs.Maintenance.{Whole}
-use Rattle.mesh.specs.declared.View.{View}
+use Rattle.mesh.specs.Maintenance.{View}
 
 -- Two views at one start, alike but for the score of slot x, which is no less in v′; and so for whether x is a candidate, which asks for a
 -- score that is not negative. A member is no candidate.

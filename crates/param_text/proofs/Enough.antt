@@ -18,8 +18,8 @@ use Rattle.varint.specs.declared.Read.the-variants.{Number, Bad}
 use Rattle.varint.proofs.GroupLaws.{readAt-end}
 use Rattle.params.specs.declared.Edition.{Edition}
 use Rattle.records.specs.Records.{paramCount}
-use Rattle.params_bytes.specs.Read.{Parse, numbers, malformed, then, step, parseFrom, editionIn, frontBytes, parseAll, ending, judged}
-use Rattle.params_bytes.specs.Read.{readOf}
+use Rattle.params_bytes.specs.Read.{Parse, numbers, malformed, then, step, parseFrom, editionAt, editionIn, frontBytes, parseAt}
+use Rattle.params_bytes.specs.Read.{parseAll, ending, judged, readOf}
 use Rattle.varint.proofs.GroupLaws.{after-small}
 use Rattle.params_bytes.proofs.PlaceLaws.{by-byte, read-last, read-more, next-near, placeOf, all-place}
 use Rattle.params_bytes.proofs.WriteLaws.{front-short}
@@ -105,17 +105,17 @@ ending-near s m (numbers xs next) l =
         (λ o. le-ltb next (length (take m s)) (simp length-take (omega arith)) ∙ sym (le-ltb next (length s) o))
 
 edition-near : (s : List ℕ) → editionIn (take 4096 s) ≡ editionIn s
-unfolding editionIn
+unfolding editionAt
 edition-near s = rw (getD-take 4096 s 0 0 (lit< tt), getD-take 4096 s 1 0 (lit< tt))
 
 all-near : (s : List ℕ) → parseAll (take 4096 s) ≡ parseAll s
-unfolding parseAll
+unfolding parseAt
 all-near s =
-    ap (λ (e : Edition). parseFrom paramCount (take 4096 s) (length (frontBytes e))) (edition-near s)
-    ∙ parse-near s 4096 paramCount (length (frontBytes (editionIn s))) (omega (arith, front-short (editionIn s)))
+    ap (λ (e : Edition). parseFrom paramCount (take 4096 s) (0 + length (frontBytes e))) (edition-near s)
+    ∙ parse-near s 4096 paramCount (0 + length (frontBytes (editionIn s))) (omega (arith, front-short (editionIn s)))
 
 pub enough : (s : List ℕ) → readOf (take 4096 s) ≡ readOf s
 unfolding readOf
 enough s =
     ap₂ judged (edition-near s)
-    (ap (λ (p : Parse). ending (take 4096 s) p) (all-near s) ∙ ending-near s 4096 (parseAll s) (omega (arith, all-place s)))
+    (ap (λ (p : Parse). ending (take 4096 s) p) (all-near s) ∙ ending-near s 4096 (parseAll s) (omega (arith, all-place s 0)))

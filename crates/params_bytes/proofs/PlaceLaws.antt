@@ -23,8 +23,8 @@ use Rattle.params.specs.Editions.{sheet}
 use Rattle.params.specs.Check.{firstBroken}
 use Rattle.params.proofs.CheckLaws.{broken-most}
 use Rattle.records.specs.Records.{paramCount}
-use Rattle.params_bytes.specs.Read.{Parse, numbers, malformed, then, step, parseFrom, editionIn, frontBytes, parseAll, ending}
-use Rattle.params_bytes.specs.Read.{judgedBy, judged, readOf, verdictValue}
+use Rattle.params_bytes.specs.Read.{Parse, numbers, malformed, then, step, parseFrom, editionAt, editionIn, frontBytes, parseAt, ending}
+use Rattle.params_bytes.specs.Read.{parseAll, judgedBy, judged, readOf, verdictValue}
 use Rattle.params_bytes.specs.Write.{roomFor, writeBy, writeOf, writtenValue}
 use Rattle.params_bytes.proofs.WriteLaws.{room-is, front-short}
 use Rattle.params_bytes.proofs.RoundTrip.{form-most}
@@ -179,15 +179,15 @@ parse-value e (numbers xs next) h = judged-value (sheet e xs) next (firstBroken 
 parse-value e (malformed p) h = h
 
 -- the place that all numbers come to, behind the front
-pub all-place : (s : List ℕ) → placeOf (parseAll s) ≤ 1472
-unfolding parseAll
-all-place s =
-    let front = length (frontBytes (editionIn s)) in
-    omega (arith, parse-place s paramCount front, front-short (editionIn s))
+pub all-place : (s : List ℕ) (at : ℕ) → placeOf (parseAt s at) ≤ at + 1472
+unfolding parseAt
+all-place s at =
+    let front = length (frontBytes (editionAt s at)) in
+    omega (arith, parse-place s paramCount (at + front), front-short (editionAt s at))
 
 pub read-most : (s : List ℕ) → verdictValue (readOf s .verdict) ≤ 1472
 unfolding readOf
-read-most s = parse-value (editionIn s) (ending s (parseAll s)) (omega (arith, ending-place s (parseAll s), all-place s))
+read-most s = parse-value (editionIn s) (ending s (parseAll s)) (omega (arith, ending-place s (parseAll s), all-place s 0))
 
 pub write-most : (p : Params) (buf : List ℕ) → length (p .numbers) ≡ paramCount → writtenValue (writeOf p buf .answer) ≤ 737
 unfolding writeOf

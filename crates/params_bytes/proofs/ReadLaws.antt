@@ -5,6 +5,7 @@ use mathlib.Core.Path.{_≡_, refl, sym, ap, _∙_}
 use mathlib.Core.Bool.{Bool, true, false, not, _&&_}
 use mathlib.Core.List.{List, [], _∷_, _++_, append-assoc, append-nil}
 use native.Mathlib.Omega.{arith}
+use native.Mathlib.Nat.{zero-add}
 use native.Mathlib.Numerals.{add-one}
 use borrow.Author.Tests.{lt-ltb, le-ltb, not-true, not-false}
 use lib.Dec.{eqb}
@@ -23,8 +24,8 @@ use Rattle.params.specs.declared.Params.{Params}
 use Rattle.params.specs.Editions.{sheet}
 use Rattle.params.specs.Check.{firstBroken}
 use Rattle.records.specs.Records.{paramCount}
-use Rattle.params_bytes.specs.Read.{Parse, numbers, malformed, then, step, parseFrom, editionIn, frontBytes, parseAll, outcome}
-use Rattle.params_bytes.specs.Read.{refusal, judgedBy, readOf, frontOf}
+use Rattle.params_bytes.specs.Read.{Parse, numbers, malformed, then, step, parseFrom, editionAt, frontBytes, parseAt, outcome}
+use Rattle.params_bytes.specs.Read.{refusal, judgedBy, readOf, frontAt}
 use Rattle.params_bytes.specs.declared.Verdict.the-variants.{Accepted, Malformed, Broken}
 use Rattle.params_bytes.specs.declared.Reading.{Reading}
 use Rattle.params_bytes.specs.declared.Parsed.{Parsed}
@@ -86,24 +87,25 @@ after-all N s from i xs at h k inv =
     let e : N - i ≡ 0 = omega arith in
     ap (λ (l : List ℤ). numbers l at) (sym (append-nil xs)) ∙ (rw (e, take-all i xs k) at inv)
 
--- ---- the ends of `edition_in`
-module _ (s : List ℕ) where
-  pub edition-short : length s < 2 → First ≡ editionIn s
-  unfolding editionIn
+-- ---- the ends of `edition_at`
+module _ (s : List ℕ) (at : ℕ) where
+  -- no second byte stands there
+  pub edition-short : length s ≤ at + 1 → First ≡ editionAt s at
+  unfolding editionAt
   edition-short h =
-      let z : getD s 1 0 ≡ 0 = List·getD-eq-default s 0 {n = 1} (omega arith) in
-      rw (z, and-no (eqb (getD s 0 0) 0))
+      let z : getD s (at + 1) 0 ≡ 0 = List·getD-eq-default s 0 {n = at + 1} h in
+      rw (z, and-no (eqb (getD s at 0) 0))
     where
       and-no : (b : Bool) → (b && false) ≡ false
       and-no true = refl
       and-no false = refl
 
-  pub edition-second : (eqb (getD s 0 0) 0 && eqb (getD s 1 0) 2) ≡ true → Second ≡ editionIn s
-  unfolding editionIn
+  pub edition-second : (eqb (getD s at 0) 0 && eqb (getD s (at + 1) 0) 2) ≡ true → Second ≡ editionAt s at
+  unfolding editionAt
   edition-second t = rw t
 
-  pub edition-first : (eqb (getD s 0 0) 0 && eqb (getD s 1 0) 2) ≡ false → First ≡ editionIn s
-  unfolding editionIn
+  pub edition-first : (eqb (getD s at 0) 0 && eqb (getD s (at + 1) 0) 2) ≡ false → First ≡ editionAt s at
+  unfolding editionAt
   edition-first t = rw t
 
 -- ---- the ends of `judged`
@@ -115,37 +117,49 @@ pub judged-kept : (p : Params) (next : ℕ) (f : Found) → f ≡ firstBroken p 
     ≡ judgedBy (firstBroken p) p next
 judged-kept p next f e t = rw (← e, t)
 
--- ---- the ends of `read_front` and `read`, from the edition and what was parsed
+-- ---- the ends of `read_front`, from the edition and what was parsed
 module _
-    (s : List ℕ) (d : Edition) (told : d ≡ editionIn s) (from : ℕ) (start : from ≡ length (frontBytes d)) (p : Parsed)
+    (s : List ℕ) (at : ℕ) (d : Edition) (told : d ≡ editionAt s at) (from : ℕ) (start : from ≡ at + length (frontBytes d)) (p : Parsed)
     (e : outcome p ≡ parseFrom paramCount s from) where
-  all : parseFrom paramCount s from ≡ parseAll s
-  unfolding parseAll
-  all = ap (parseFrom paramCount s) (start ∙ ap (λ (c : Edition). length (frontBytes c)) told)
+  all : parseFrom paramCount s from ≡ parseAt s at
+  unfolding parseAt
+  all = ap (parseFrom paramCount s) (start ∙ ap (λ (c : Edition). at + length (frontBytes c)) told)
 
-  bad : not (p .ok) ≡ true → malformed (p .place) ≡ parseAll s
+  bad : not (p .ok) ≡ true → malformed (p .place) ≡ parseAt s at
   bad t = (rw (not-true (p .ok) t) at e) ∙ all
 
-  good : not (p .ok) ≡ false → numbers (p .numbers) (p .place) ≡ parseAll s
+  good : not (p .ok) ≡ false → numbers (p .numbers) (p .place) ≡ parseAt s at
   good t = (rw (not-false (p .ok) t) at e) ∙ all
 
-  pub front-bad : (r : Reading) → not (p .ok) ≡ true → r ≡ refusal (Malformed (p .place)) → r ≡ frontOf s
-  unfolding frontOf
+  pub front-bad : (r : Reading) → not (p .ok) ≡ true → r ≡ refusal (Malformed (p .place)) → r ≡ frontAt s at
+  unfolding frontAt
   front-bad r t q = q ∙ rw (← bad t)
 
   pub front-good :
       (r : Reading) → not (p .ok) ≡ false → r ≡ judgedBy (firstBroken (sheet d (p .numbers))) (sheet d (p .numbers)) (p .place) → r
-      ≡ frontOf s
-  unfolding frontOf
+      ≡ frontAt s at
+  unfolding frontAt
   front-good r t q = q ∙ rw (← good t, told)
+
+-- parameters at the start of the bytes
+pub parse-start : (s : List ℕ) → parseAt s 0 ≡ parseFrom paramCount s (length (frontBytes (editionAt s 0)))
+unfolding parseAt
+parse-start s = ap (parseFrom paramCount s) (zero-add (length (frontBytes (editionAt s 0))))
+
+-- ---- the ends of `read`, from the start of the bytes
+module _
+    (s : List ℕ) (d : Edition) (told : d ≡ editionAt s 0) (from : ℕ) (start : from ≡ length (frontBytes d)) (p : Parsed)
+    (e : outcome p ≡ parseFrom paramCount s from) where
+  behind : from ≡ 0 + length (frontBytes d)
+  behind = start ∙ sym (zero-add (length (frontBytes d)))
 
   pub read-bad : (r : Reading) → not (p .ok) ≡ true → r ≡ refusal (Malformed (p .place)) → r ≡ readOf s
   unfolding readOf
-  read-bad r t q = q ∙ rw (← bad t)
+  read-bad r t q = q ∙ rw (← bad s 0 d told from behind p e t)
 
   pub read-left : (r : Reading) → not (p .ok) ≡ false → p .place < length s → r ≡ refusal (Malformed (p .place)) → r ≡ readOf s
   unfolding readOf
-  read-left r t h q = q ∙ rw (← good t, lt-ltb (p .place) (length s) h)
+  read-left r t h q = q ∙ rw (← good s 0 d told from behind p e t, lt-ltb (p .place) (length s) h)
 
   pub read-good :
       (r : Reading) →
@@ -154,4 +168,4 @@ module _
       r ≡ judgedBy (firstBroken (sheet d (p .numbers))) (sheet d (p .numbers)) (p .place) →
       r ≡ readOf s
   unfolding readOf
-  read-good r t h q = q ∙ rw (← good t, le-ltb (p .place) (length s) h, told)
+  read-good r t h q = q ∙ rw (← good s 0 d told from behind p e t, le-ltb (p .place) (length s) h, told)

@@ -31,11 +31,12 @@ use Rattle.params.specs.Editions.{sheet}
 use Rattle.params.specs.Check.{firstBroken}
 use Rattle.params.proofs.CheckLaws.{accepted-in}
 use Rattle.records.specs.Records.{paramCount}
-use Rattle.params_bytes.specs.Read.{Parse, numbers, malformed, then, step, parseFrom, editionIn, frontBytes, parseAll, judgedBy}
-use Rattle.params_bytes.specs.Read.{readOf, frontOf}
+use Rattle.params_bytes.specs.Read.{Parse, numbers, malformed, then, step, parseFrom, editionAt, editionIn, frontBytes, parseAll}
+use Rattle.params_bytes.specs.Read.{judgedBy, readOf, frontAt}
 use Rattle.params_bytes.specs.Write.{roomFor, bytesOf, formOf, Writing, writeBy, writeOf}
 use Rattle.params_bytes.specs.RoundTrip.{ReadsBack, WritesBack}
 use Rattle.params.specs.declared.Params.{Params}
+use Rattle.params_bytes.proofs.ReadLaws.{parse-start}
 use Rattle.params_bytes.specs.declared.Verdict.the-variants.{Accepted, Malformed}
 use Rattle.params_bytes.specs.declared.Written.the-variants.{Done, Short}
 use Rattle.params_bytes.proofs.WriteLaws.{accepted-few, room-is}
@@ -126,7 +127,7 @@ first-byte (negsuc n) rest a b = absurd a
 
 -- parameters of the first edition that pass the check do not begin as those of the second, since D_lo is at least 1
 first-front : (xs : List ℤ) (rest : List ℕ) → length xs ≡ paramCount → inLimits xs 0 ≡ true → editionIn (bytesOf xs ++ rest) ≡ First
-unfolding editionIn bytesOf limitAt limits
+unfolding editionAt bytesOf limitAt limits
 first-front [] rest l h = absurd (omega arith)
 first-front (x ∷ xs) rest l h =
     let b = sides (x ∷ xs) 0 h in
@@ -134,7 +135,7 @@ first-front (x ∷ xs) rest l h =
 
 form-front : (p : Params) (rest : List ℕ) → length (p .numbers) ≡ paramCount → inLimits (p .numbers) 0 ≡ true → editionIn (formOf p ++ rest)
     ≡ p .edition
-unfolding editionIn
+unfolding editionAt
 form-front p rest l h = go (p .edition)
   where
     go : (e : Edition) → editionIn ((frontBytes e ++ bytesOf (p .numbers)) ++ rest) ≡ e
@@ -153,7 +154,7 @@ second-front s t =
     go (x ∷ (y ∷ r)) a c = λ i. a i ∷ c i ∷ r
 
 front-is : (s : List ℕ) → s ≡ frontBytes (editionIn s) ++ drop (length (frontBytes (editionIn s))) s
-unfolding editionIn
+unfolding editionAt
 front-is s =
     by-test
     (s ≡ frontBytes (editionIn s) ++ drop (length (frontBytes (editionIn s))) s)
@@ -172,11 +173,10 @@ module _ (p : Params) (n147 : length (p .numbers) ≡ paramCount) (ok : firstBro
 
   -- what was written is parsed, whatever follows it
   parse-written : (rest : List ℕ) → parseAll (formOf p ++ rest) ≡ numbers (p .numbers) (length (formOf p))
-  unfolding parseAll
   parse-written rest =
       let front = frontBytes (p .edition) in
       let b = bytesOf (p .numbers) in
-      rw (form-front p rest n147 (accepted-in p ok 0 (lit< tt)), append-assoc front b rest, length-append front b)
+      rw (parse-start (formOf p ++ rest), form-front p rest n147 (accepted-in p ok 0 (lit< tt)), append-assoc front b rest, length-append front b)
       (rw n147 at (read-back (p .numbers) front rest small))
 
   edition-written : (rest : List ℕ) → editionIn (formOf p ++ rest) ≡ p .edition
@@ -192,8 +192,8 @@ module _ (p : Params) (n147 : length (p .numbers) ≡ paramCount) (ok : firstBro
       rw (d, q, le-ltb (length f) (length f) (le-refl (length f)), ok)
 
   -- the same where other bytes follow
-  pub front-written : (rest : List ℕ) → frontOf (formOf p ++ rest) ≡ record { verdict = Accepted (length (formOf p)); params = p }
-  unfolding frontOf
+  pub front-written : (rest : List ℕ) → frontAt (formOf p ++ rest) 0 ≡ record { verdict = Accepted (length (formOf p)); params = p }
+  unfolding frontAt
   front-written rest = rw (edition-written rest, parse-written rest, ok)
 
   -- the buffer holds the bytes, and past them what it held
@@ -278,12 +278,11 @@ written-back s buf p n c ok l b q =
     (m ∙ ap length (sym b), rw (m, b) (written-is p c ok buf l))
 
 pub writes-back : WritesBack
-unfolding parseAll
 writes-back s buf n h l e =
     let k = took s n e in
     let p = readOf s .params in
     let front = frontBytes (editionIn s) in
-    let w = written-from paramCount s (length front) (p .numbers) n h (k .parsed) in
+    let w = written-from paramCount s (length front) (p .numbers) n h (sym (parse-start s) ∙ k .parsed) in
     let b : s ≡ formOf p =
     front-is s
     ∙ ap (λ (r : List ℕ). front ++ r) (w .bytes ∙ rw (drop-of-length-le s (k .ended), append-nil (bytesOf (p .numbers))))

@@ -1,6 +1,6 @@
 -- Reading the parameters from bytes (01, numbers 10 and 9, in that order): 147 numbers, each by its code in seven-bit groups, behind the
 -- front that tells their edition.
-use Prim.Native.Nat.{ℕ, zero, suc}
+use Prim.Native.Nat.{ℕ, zero, suc, _+_}
 use mathlib.Core.Bool.{cond, _&&_}
 use mathlib.Core.List.{List, [], _∷_, _++_}
 use lib.Dec.{eqb, ltb}
@@ -43,17 +43,24 @@ parseFrom zero s at = numbers [] at
 parseFrom (suc n) s at = step (λ next. parseFrom n s next) at (readAt 18446744073709551615 s at)
 
 -- ---- the edition
--- "Edition 2 of the sheet has the bytes 00 02 in front [..]; the bare 147 numbers are edition 1": every other front is edition 1's
-unfoldable pub editionIn : List ℕ → Edition
-editionIn s = cond (eqb (getD s 0 0) 0 && eqb (getD s 1 0) 2) Second First
+-- "Edition 2 of the sheet has the bytes 00 02 in front [..]; the bare 147 numbers are edition 1": every other front is edition 1's. Of
+-- parameters that begin at a place: others may stand before them, as in a trace
+unfoldable pub editionAt : List ℕ → ℕ → Edition
+editionAt s at = cond (eqb (getD s at 0) 0 && eqb (getD s (at + 1) 0) 2) Second First
+
+abbrev pub editionIn : List ℕ → Edition
+editionIn s = editionAt s 0
 
 abbrev pub frontBytes : Edition → List ℕ
 frontBytes First = []
 frontBytes Second = 0 ∷ 2 ∷ []
 
--- all numbers, behind the front; so places count its bytes
-unfoldable pub parseAll : List ℕ → Parse
-parseAll s = parseFrom paramCount s (length (frontBytes (editionIn s)))
+-- all numbers, behind the front; so places count its bytes, and those before it
+unfoldable pub parseAt : List ℕ → ℕ → Parse
+parseAt s at = parseFrom paramCount s (at + length (frontBytes (editionAt s at)))
+
+abbrev pub parseAll : List ℕ → Parse
+parseAll s = parseAt s 0
 
 -- the numbers of a reading that is not yet checked
 abbrev pub outcome : Parsed → Parse
@@ -81,9 +88,9 @@ judged e (malformed p) = refusal (Malformed p)
 unfoldable pub readOf : List ℕ → Reading
 readOf s = judged (editionIn s) (ending s (parseAll s))
 
--- the bytes begin with the parameters, and others may follow
-unfoldable pub frontOf : List ℕ → Reading
-frontOf s = judged (editionIn s) (parseAll s)
+-- the parameters begin at a place, and other bytes may follow them
+unfoldable pub frontAt : List ℕ → ℕ → Reading
+frontAt s at = judged (editionAt s at) (parseAt s at)
 
 -- 01's number of each verdict, and the value that goes with it
 abbrev pub verdictNumber : Verdict → ℕ

@@ -14,7 +14,7 @@ ghost use Rattle.varint.specs.Codes.{codeOf};
 ghost use Rattle.records.specs.Records.{paramCount};
 ghost use Rattle.limits.specs.Limits.{at};
 ghost use Rattle.params.specs.Check.{firstBroken};
-ghost use Rattle.params_bytes.specs.Read.{editionIn, frontBytes, parseFrom, outcome, refusal, judgedBy, readOf, frontOf};
+ghost use Rattle.params_bytes.specs.Read.{editionAt, frontBytes, parseFrom, outcome, refusal, judgedBy, readOf, frontAt};
 ghost use Rattle.params_bytes.specs.Write.{roomFor, bytesOf, writeOf};
 
 // What reading came to: all read, and the place after them; malformed at a place; or the first number or rule that is broken.
@@ -44,14 +44,15 @@ struct Parsed {
     numbers: [i64; NUMBERS],
 }
 
-// The edition of parameters that begin with these bytes.
-fn edition_in(s: &[u8]) -> Edition
-    ensures { λ r. ⌜ r ≡ editionIn (now (s .entry)) ⌝ }
+// The edition of parameters that begin at a place.
+fn edition_at(s: &[u8], at: usize) -> Edition
+    requires { ⌜ at ≤ length (now s) ⌝ }
+    ensures { λ r. ⌜ r ≡ editionAt (now (s .entry)) at ⌝ }
 {
-    if s.len() < 2 {
+    if s.len() - at < 2 {
         return Edition::First;
     }
-    if (s[0] == 0) & (s[1] == 2) {
+    if (s[at] == 0) & (s[at + 1] == 2) {
         return Edition::Second;
     }
     Edition::First
@@ -131,12 +132,13 @@ pub fn judged(params: Params, next: usize) -> Reading
     }
 }
 
-// Read the parameters at the start of the bytes, where others may follow them.
-pub fn read_front(s: &[u8]) -> Reading
-    ensures { λ r. ⌜ r ≡ frontOf (now (s .entry)) ⌝ }
+// Read the parameters that begin at a place, where others may follow them.
+pub fn read_front(s: &[u8], at: usize) -> Reading
+    requires { ⌜ at ≤ length (now s) ⌝ }
+    ensures { λ r. ⌜ r ≡ frontAt (now (s .entry)) at ⌝ }
 {
-    let edition = edition_in(s);
-    let p = parse(s, front_length(edition));
+    let edition = edition_at(s, at);
+    let p = parse(s, at + front_length(edition));
     let place = p.place;
     if !p.ok {
         return refused(Verdict::Malformed(place));
@@ -149,7 +151,7 @@ pub fn read_front(s: &[u8]) -> Reading
 pub fn read(s: &[u8]) -> Reading
     ensures { λ r. ⌜ r ≡ readOf (now (s .entry)) ⌝ }
 {
-    let edition = edition_in(s);
+    let edition = edition_at(s, 0);
     let p = parse(s, front_length(edition));
     let place = p.place;
     if !p.ok {

@@ -1,14 +1,14 @@
 -- An idle record: its numbers by name, and its share of a score, which is nothing.
 -- Assumes nothing.
 use Prim.Native.Nat.{ℕ, _+_, _*_}
-use mathlib.Core.Path.{_≡_, sym, ap₂, _∙_}
+use mathlib.Core.Path.{_≡_, refl, sym, ap₂, _∙_}
 use mathlib.Core.Bool.{Bool, true, false}
 use native.Mathlib.Omega.{arith}
 use lib.Dec.{eqb}
 use borrow.Author.Tests.{eqb-true, not-true}
 use Rattle.index.proofs.Index.{both}
 use Rattle.records.specs.declared.TopicRecord.{TopicRecord}
-use Rattle.records.specs.Records.{State, place, topicIn}
+use Rattle.records.specs.Records.{State, noTopic, place, topicIn}
 use Rattle.score.specs.declared.TopicParams.{TopicParams}
 use Rattle.score.specs.Parts.{part1Of, part2Of, part3Of, part4Of}
 use Rattle.score.specs.Ranges.{ShareIn}
@@ -38,6 +38,10 @@ idle-of r e =
       member = not-true (eqb (r .member) 1) (d .1);
     }
 
+-- the record of zeros is idle
+pub none-idle : Idle noTopic
+none-idle = record { p2 = refl; p3 = refl; p4 = refl; p3b = refl; member = refl }
+
 nothing : (w a b c x y z : ℕ) → x ≡ 0 → y ≡ 0 → z ≡ 0 → 0 ≡ w * (a * x + b * y + c * z)
 nothing w a b c x y z ex ey ez =
     let n : a * x + b * y + c * z ≡ 0 = rw (ex, ey, ez) (omega arith) in
@@ -58,7 +62,7 @@ module _ (t : TopicParams) (r : TopicRecord) (i : Idle r) where
   idle-4 : part4Of r ≡ 0
   idle-4 = rw (i .p4)
 
-  idle-share : noBalance ≡ shareOf t r
+  pub idle-share : noBalance ≡ shareOf t r
   unfolding shareOf
   idle-share =
       let gain : 0 ≡ t .weight * (t .w1 * part1Of t r + t .w2 * part2Of r) = rw (idle-1, idle-2) (omega arith) in

@@ -1,5 +1,7 @@
 // A peer's score from the lent table: the parameters as magnitudes, the sum over the topics, the peers that share a group, and the whole.
 // What a score depends on is specs/Score.antt.
+pub mod buckets;
+
 ghost use mathlib.Core.Path.{_≡_};
 ghost use Prim.Native.Nat.{_≤_};
 ghost use lib.ListN.{length};

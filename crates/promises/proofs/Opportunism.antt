@@ -12,7 +12,7 @@ use Rattle.params.specs.declared.Params.{Params}
 use Rattle.records.specs.Records.{State, slotCount}
 use Rattle.sets.specs.Sets.{size, bySlot, both, above, fill}
 use Rattle.mesh.specs.declared.Degrees.{Degrees}
-use Rattle.mesh.specs.declared.Meshes.{Meshes}
+use Rattle.mesh.specs.Maintenance.{Meshes}
 use Rattle.mesh.specs.Maintenance.{zeroScore, median, mesh5, meshes}
 use Rattle.rules.specs.Step.{isCandidate, heightIn, degreesIn, viewIn, meshesIn}
 use Rattle.call_lists.specs.Lists.{after}

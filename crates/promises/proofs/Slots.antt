@@ -17,8 +17,8 @@ use Rattle.sets.proofs.WalkLaws.{except-at, except-length, at-past}
 use Rattle.sets.proofs.SetLaws.{both-left}
 use Rattle.sets.proofs.PermutationLaws.{permutation-once}
 use Rattle.mesh.specs.declared.Degrees.{Degrees}
-use Rattle.mesh.specs.declared.View.{View}
-use Rattle.mesh.specs.declared.Meshes.{Meshes}
+use Rattle.mesh.specs.Maintenance.{View}
+use Rattle.mesh.specs.Maintenance.{Meshes}
 use Rattle.mesh.specs.Maintenance.{goods, mesh1, meshes, changesOf, Action, action, actionsOn, actionsOf, Rules}
 use Rattle.mesh.specs.Maintenance.{Whole}
 use Rattle.mesh.proofs.Bound.{idle}

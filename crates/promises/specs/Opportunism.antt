@@ -9,7 +9,7 @@ use Rattle.limits.specs.Limits.{at}
 use Rattle.records.specs.Records.{State, slotCount}
 use Rattle.sets.specs.Sets.{size, bySlot, both, above, fill}
 use Rattle.mesh.specs.declared.Degrees.{Degrees}
-use Rattle.mesh.specs.declared.Meshes.{Meshes}
+use Rattle.mesh.specs.Maintenance.{Meshes}
 use Rattle.mesh.specs.Maintenance.{zeroScore, median}
 use Rattle.rules.specs.Step.{isCandidate, heightIn, degreesIn, meshesIn}
 use Rattle.call_lists.specs.Lists.{Made, after}

@@ -101,6 +101,7 @@ use Rattle.reached.specs.Reached.{
   refusals,
   answerOf,
   toldIn,
+  enteredBy,
   membersIn,
   mixed,
   worked,
@@ -113,6 +114,12 @@ use Rattle.reached.specs.Reached.{
   grafted,
   maintained,
   prunedFor60,
+  WorkedExample,
+  ThirteenMembers,
+  PrunedFor60,
+  EntersAt,
+  FromThirteen,
+  FromTwelve,
   Reached,
 }
 use Rattle.reached.proofs.Behind.{passes, left, given, passes-last, start, reached-left, replies-start, asked-effect}
@@ -123,47 +130,117 @@ meshAfter r = meshSize (r .state) 0
 abbrev membersAfter : Reply → List (ℕ × ℕ)
 membersAfter r = membersIn (r .state)
 
-pub table : Reached
-unfolding passes left given refusals membersIn mixed worked come enter bring eleven twelve thirteen grafted maintained prunedFor60
-    every first count iter gather ordinaryNumbers
-    codeIn joinedIn peerIn topicIn setPeer setTopic setClock setJoined
-    holds findConnected findRetained lowestEmpty meshsub sameBytes versionOf freshState
-    withEnd withP5 withP7 connectedAs withSubscribed outOfMesh intoMesh pruned isMember meshSize reclaimable emptied reclaimSlot reclaimed
-    part1Of part3Of topicSum allTopics bounded whyOf whyIn scoreIn topicScore topicParamsIn sharesGroup sharing
-    raised3Of firstDelivery insert sort scoresOf above median deliveredOf deliverReply
-    bySlot size both except from occurs isPermutation ascending inOrder fill top bests swapTo
-    mesh1 mesh2 theBest keepers swapped mesh3 mesh4 mesh5 meshes changesOf actionsOn actionsOf
-    inRange connectAt connectIn connectReply joinReply subscribeReply isNegative isGraylisted isHeard secondsOf pruneReply graftRefused
-    raisedP7 isCrowded graftCase graftReply isCandidate heightIn degreesIn viewIn meshesIn punished settleSlot
-    heartbeatActions maintainedReply heartbeatReply effect
-table =
+-- each part by computation: the calls of a list pass the first tests, and what their effects leave and give is the paper's line
+worked-example : WorkedExample
+unfolding passes left given refusals membersIn mixed worked come enter bring eleven twelve thirteen grafted maintained prunedFor60 every
+    first count iter gather ordinaryNumbers codeIn joinedIn peerIn topicIn setPeer setTopic setClock setJoined holds findConnected
+    findRetained lowestEmpty meshsub sameBytes versionOf freshState withEnd withP5 withP7 connectedAs withSubscribed outOfMesh intoMesh
+    pruned isMember meshSize reclaimable emptied reclaimSlot reclaimed part1Of part3Of topicSum allTopics bounded whyOf whyIn scoreIn
+    topicScore topicParamsIn sharesGroup sharing raised3Of firstDelivery insert sort scoresOf above median deliveredOf deliverReply bySlot
+    size both except from occurs isPermutation ascending inOrder fill top bests swapTo mesh1 mesh2 theBest keepers swapped mesh3 mesh4
+    mesh5 meshes changesOf actionsOn actionsOf inRange connectAt connectIn connectReply joinReply subscribeReply isNegative isGraylisted
+    isHeard secondsOf pruneReply graftRefused raisedP7 isCrowded graftCase graftReply isCandidate heightIn degreesIn viewIn meshesIn
+    punished settleSlot heartbeatActions maintainedReply heartbeatReply effect
+worked-example =
     let all = replies-start worked refl in
-    let pass13 : passes start thirteen ≡ true = refl in
-    let at13 = reached-left thirteen pass13 in
-    let pass60 : passes start (prunedFor60 ++ graft 69999 45 0 ∷ []) ≡ true = refl in
-    let at60 = reached-left prunedFor60 (passes-last start prunedFor60 (graft 69999 45 0) pass60 .0) in
-    let early = asked-effect prunedFor60 (graft 69999 45 0) pass60 in
+    record { workedAnswers = ap (map answerOf) all; workedActions = ap (map toldIn) all }
+
+thirteen-members : ThirteenMembers
+unfolding passes left given refusals membersIn mixed worked come enter bring eleven twelve thirteen grafted maintained prunedFor60 every
+    first count iter gather ordinaryNumbers codeIn joinedIn peerIn topicIn setPeer setTopic setClock setJoined holds findConnected
+    findRetained lowestEmpty meshsub sameBytes versionOf freshState withEnd withP5 withP7 connectedAs withSubscribed outOfMesh intoMesh
+    pruned isMember meshSize reclaimable emptied reclaimSlot reclaimed part1Of part3Of topicSum allTopics bounded whyOf whyIn scoreIn
+    topicScore topicParamsIn sharesGroup sharing raised3Of firstDelivery insert sort scoresOf above median deliveredOf deliverReply bySlot
+    size both except from occurs isPermutation ascending inOrder fill top bests swapTo mesh1 mesh2 theBest keepers swapped mesh3 mesh4
+    mesh5 meshes changesOf actionsOn actionsOf inRange connectAt connectIn connectReply joinReply subscribeReply isNegative isGraylisted
+    isHeard secondsOf pruneReply graftRefused raisedP7 isCrowded graftCase graftReply isCandidate heightIn degreesIn viewIn meshesIn
+    punished settleSlot heartbeatActions maintainedReply heartbeatReply effect
+thirteen-members =
+    let pass : passes start thirteen ≡ true = refl in
+    let there = reached-left thirteen pass in
+    record {
+      heard = ap refusals (replies-start thirteen pass);
+      members = ap membersIn there;
+      scores = ap (λ (st : State). bySlot 13 (scoreIn st)) there;
+    }
+
+pruned-for-60 : PrunedFor60
+unfolding passes left given refusals membersIn mixed worked come enter bring eleven twelve thirteen grafted maintained prunedFor60 every
+    first count iter gather ordinaryNumbers codeIn joinedIn peerIn topicIn setPeer setTopic setClock setJoined holds findConnected
+    findRetained lowestEmpty meshsub sameBytes versionOf freshState withEnd withP5 withP7 connectedAs withSubscribed outOfMesh intoMesh
+    pruned isMember meshSize reclaimable emptied reclaimSlot reclaimed part1Of part3Of topicSum allTopics bounded whyOf whyIn scoreIn
+    topicScore topicParamsIn sharesGroup sharing raised3Of firstDelivery insert sort scoresOf above median deliveredOf deliverReply bySlot
+    size both except from occurs isPermutation ascending inOrder fill top bests swapTo mesh1 mesh2 theBest keepers swapped mesh3 mesh4
+    mesh5 meshes changesOf actionsOn actionsOf inRange connectAt connectIn connectReply joinReply subscribeReply isNegative isGraylisted
+    isHeard secondsOf pruneReply graftRefused raisedP7 isCrowded graftCase graftReply isCandidate heightIn degreesIn viewIn meshesIn
+    punished settleSlot heartbeatActions maintainedReply heartbeatReply effect
+pruned-for-60 =
+    let pass : passes start (prunedFor60 ++ graft 69999 45 0 ∷ []) ≡ true = refl in
+    let there = reached-left prunedFor60 (passes-last start prunedFor60 (graft 69999 45 0) pass .0) in
+    let early = asked-effect prunedFor60 (graft 69999 45 0) pass in
     let late = asked-effect prunedFor60 (graft 70000 45 0) refl in
+    record {
+      running = ap (λ (st : State). backoffRuns (peerIn st 2) 0 69999) there;
+      over = ap (λ (st : State). backoffRuns (peerIn st 2) 0 70000) there;
+      graftAt69999 = ap toldIn early;
+      graftAt70000 = ap enteredBy late;
+    }
+
+enters-at : EntersAt
+unfolding passes left given refusals membersIn mixed worked come enter bring eleven twelve thirteen grafted maintained prunedFor60 every
+    first count iter gather ordinaryNumbers codeIn joinedIn peerIn topicIn setPeer setTopic setClock setJoined holds findConnected
+    findRetained lowestEmpty meshsub sameBytes versionOf freshState withEnd withP5 withP7 connectedAs withSubscribed outOfMesh intoMesh
+    pruned isMember meshSize reclaimable emptied reclaimSlot reclaimed part1Of part3Of topicSum allTopics bounded whyOf whyIn scoreIn
+    topicScore topicParamsIn sharesGroup sharing raised3Of firstDelivery insert sort scoresOf above median deliveredOf deliverReply bySlot
+    size both except from occurs isPermutation ascending inOrder fill top bests swapTo mesh1 mesh2 theBest keepers swapped mesh3 mesh4
+    mesh5 meshes changesOf actionsOn actionsOf inRange connectAt connectIn connectReply joinReply subscribeReply isNegative isGraylisted
+    isHeard secondsOf pruneReply graftRefused raisedP7 isCrowded graftCase graftReply isCandidate heightIn degreesIn viewIn meshesIn
+    punished settleSlot heartbeatActions maintainedReply heartbeatReply effect
+enters-at =
     let in11 = asked-effect (eleven ++ come 0 (101 ∷ [])) (graft 10000 101 0) refl in
     let in12 = asked-effect (twelve ++ come 0 (101 ∷ [])) (graft 10000 101 0) refl in
     let out12 = asked-effect (twelve ++ come 1 (101 ∷ [])) (graft 10000 101 0) refl in
-    let kept13 = asked-effect (thirteen ++ come 1 (101 ∷ [])) (heartbeat 10000 0 0 mixed) refl in
-    let kept12 = asked-effect (twelve ++ come 1 (101 ∷ 102 ∷ [])) (heartbeat 10000 0 0 mixed) refl in
     record {
-      workedAnswers = ap (map answerOf) all;
-      workedActions = ap (map toldIn) all;
-      heard = ap refusals (replies-start thirteen pass13);
-      members = ap membersIn at13;
-      scores = ap (λ (st : State). bySlot 13 (scoreIn st)) at13;
-      running = ap (λ (st : State). backoffRuns (peerIn st 2) 0 69999) at60;
-      over = ap (λ (st : State). backoffRuns (peerIn st 2) 0 70000) at60;
-      graftAt69999 = ap toldIn early;
-      graftAt70000 = (ap toldIn late, ap meshAfter late);
-      inboundAt11 = (ap meshAfter in11, ap toldIn in11);
-      inboundAt12 = (ap meshAfter in12, ap toldIn in12);
-      outboundAt12 = (ap meshAfter out12, ap toldIn out12);
-      thirteenTold = ap toldIn kept13;
-      thirteenMesh = ap membersAfter kept13;
-      twelveTold = ap toldIn kept12;
-      twelveMesh = ap meshAfter kept12;
+      inboundAt11 = ap enteredBy in11;
+      inboundAt12 = ap enteredBy in12;
+      outboundAt12 = ap enteredBy out12;
+    }
+
+from-thirteen : FromThirteen
+unfolding passes left given refusals membersIn mixed worked come enter bring eleven twelve thirteen grafted maintained prunedFor60 every
+    first count iter gather ordinaryNumbers codeIn joinedIn peerIn topicIn setPeer setTopic setClock setJoined holds findConnected
+    findRetained lowestEmpty meshsub sameBytes versionOf freshState withEnd withP5 withP7 connectedAs withSubscribed outOfMesh intoMesh
+    pruned isMember meshSize reclaimable emptied reclaimSlot reclaimed part1Of part3Of topicSum allTopics bounded whyOf whyIn scoreIn
+    topicScore topicParamsIn sharesGroup sharing raised3Of firstDelivery insert sort scoresOf above median deliveredOf deliverReply bySlot
+    size both except from occurs isPermutation ascending inOrder fill top bests swapTo mesh1 mesh2 theBest keepers swapped mesh3 mesh4
+    mesh5 meshes changesOf actionsOn actionsOf inRange connectAt connectIn connectReply joinReply subscribeReply isNegative isGraylisted
+    isHeard secondsOf pruneReply graftRefused raisedP7 isCrowded graftCase graftReply isCandidate heightIn degreesIn viewIn meshesIn
+    punished settleSlot heartbeatActions maintainedReply heartbeatReply effect
+from-thirteen =
+    let kept = asked-effect (thirteen ++ come 1 (101 ∷ [])) (heartbeat 10000 0 0 mixed) refl in
+    record { thirteenTold = ap toldIn kept; thirteenMesh = ap membersAfter kept }
+
+from-twelve : FromTwelve
+unfolding passes left given refusals membersIn mixed worked come enter bring eleven twelve thirteen grafted maintained prunedFor60 every
+    first count iter gather ordinaryNumbers codeIn joinedIn peerIn topicIn setPeer setTopic setClock setJoined holds findConnected
+    findRetained lowestEmpty meshsub sameBytes versionOf freshState withEnd withP5 withP7 connectedAs withSubscribed outOfMesh intoMesh
+    pruned isMember meshSize reclaimable emptied reclaimSlot reclaimed part1Of part3Of topicSum allTopics bounded whyOf whyIn scoreIn
+    topicScore topicParamsIn sharesGroup sharing raised3Of firstDelivery insert sort scoresOf above median deliveredOf deliverReply bySlot
+    size both except from occurs isPermutation ascending inOrder fill top bests swapTo mesh1 mesh2 theBest keepers swapped mesh3 mesh4
+    mesh5 meshes changesOf actionsOn actionsOf inRange connectAt connectIn connectReply joinReply subscribeReply isNegative isGraylisted
+    isHeard secondsOf pruneReply graftRefused raisedP7 isCrowded graftCase graftReply isCandidate heightIn degreesIn viewIn meshesIn
+    punished settleSlot heartbeatActions maintainedReply heartbeatReply effect
+from-twelve =
+    let kept = asked-effect (twelve ++ come 1 (101 ∷ 102 ∷ [])) (heartbeat 10000 0 0 mixed) refl in
+    record { twelveTold = ap toldIn kept; twelveMesh = ap meshAfter kept }
+
+pub table : Reached
+table =
+    record {
+      worked = worked-example;
+      thirteen = thirteen-members;
+      pruned = pruned-for-60;
+      enters = enters-at;
+      fromThirteen = from-thirteen;
+      fromTwelve = from-twelve;
     }

@@ -21,7 +21,7 @@ use Rattle.rules.specs.Calls.{Call, connect, join, subscribe, graft, prune, del
 use Rattle.rules.specs.Step.{actionRoom, step}
 use Rattle.call_lists.specs.Lists.{Made, after}
 
--- ---- lists of calls, the first call first, each lent an action list of 192 numbers. Crate call_lists has them the last call first
+-- ---- lists of calls, the first call first, each lent an action list of 768 numbers. Crate call_lists has them the last call first
 abbrev pub lent : Call → Made
 lent c = record { call = c; room = actionRoom }
 
@@ -60,13 +60,17 @@ told a = (a .kind, a .id, a .seconds)
 abbrev pub toldIn : Reply → List (ℕ × ℕ × ℕ)
 toldIn r = map told (r .actions)
 
+-- the mesh of topic 0 after a reply, and what is told
+abbrev pub enteredBy : Reply → ℕ × List (ℕ × ℕ × ℕ)
+enteredBy r = (meshSize (r .state) 0, toldIn r)
+
 -- the members of topic 0 by slot: id, and 1 for outbound
 unfoldable pub membersIn : State → List (ℕ × ℕ)
 membersIn st = gather slotCount (λ s. cond (isMember st 0 s) ((peerIn st s .id, peerIn st s .outbound) ∷ []) [])
 
--- a mixed permutation: 11, 48, 21, 58, 31, 4, 41, 14, ..; of the first 14 slots it is 11, 4, 7, 0, 10, 3, 13, 6, 9, 2, 12, 5, 8, 1
+-- a mixed permutation: 11, 168, 69, 226, 127, 28, 185, 86, ..; of the first 14 slots it is 11, 4, 7, 0, 10, 3, 13, 6, 9, 2, 12, 5, 8, 1
 unfoldable pub mixed : List ℕ
-mixed = map (λ (i : ℕ). (37 * i + 11) % slotCount) (ascending 0 slotCount)
+mixed = map (λ (i : ℕ). (157 * i + 11) % slotCount) (ascending 0 slotCount)
 
 -- ---- 01's worked example: "connect 7 (inbound, not explicit, /meshsub/1.1.0), join 0, subscribe 7 0, tidy, PRUNE 7 0 60, GRAFT 7 0,
 -- score 7, all at time 5, no opportunism"
@@ -103,7 +107,7 @@ eleven =
     join 1000 0
     ∷ come 0 (31 ∷ 7 ∷ 45 ∷ 12 ∷ 88 ∷ 23 ∷ [])
     ++ heartbeat 1000 0 0 mixed
-    ∷ enter (slotCount ∷ 5 ∷ 71 ∷ 19 ∷ 52 ∷ [])
+    ∷ enter (64 ∷ 5 ∷ 71 ∷ 19 ∷ 52 ∷ [])
     ++ rate 1000 12 (pos 3000000)
     ∷ bring (7 ∷ 7 ∷ 7 ∷ 45 ∷ 45 ∷ 23 ∷ 71 ∷ [])
 
@@ -127,8 +131,8 @@ maintained calls ids = asked (calls ++ come 1 ids) (heartbeat 10000 0 0 mixed)
 unfoldable pub prunedFor60 : List Call
 prunedFor60 = twelve ++ prune 10000 45 0 60 ∷ []
 
--- ---- the table
-pub record Reached : Type 0 where
+-- ---- the table, in parts
+pub record WorkedExample : Type 0 where
   -- "gives whole": 0 with no action, 0 with none, 0 with none, 0 with G 7, 0 with none, 0 with P 7 60, 0 with S -10000000000
   pub workedAnswers :
       map answerOf (replies [] worked)
@@ -144,6 +148,8 @@ pub record Reached : Type 0 where
   pub workedActions :
       map toldIn (replies [] worked)
       ≡ [] ∷ [] ∷ [] ∷ ((1, 7, 0) ∷ []) ∷ [] ∷ ((2, 7, 60) ∷ []) ∷ [] ∷ []
+
+pub record ThirteenMembers : Type 0 where
   -- every call of the lists below is answered 0
   pub heard : refusals (replies [] thirteen) ≡ 0
   -- the thirteen members, all inbound, and their scores by slot
@@ -179,15 +185,21 @@ pub record Reached : Type 0 where
       ∷ pos 0
       ∷ pos 500000000
       ∷ []
+
+pub record PrunedFor60 : Type 0 where
   -- "PRUNE at 10,000 for 60 s: running at 69,999, over at 70,000.": of its record, and what its GRAFT is told
   pub running : backoffRuns (peerIn (reached prunedFor60) 2) 0 69999 ≡ true
   pub over : backoffRuns (peerIn (reached prunedFor60) 2) 0 70000 ≡ false
   pub graftAt69999 : toldIn (asked prunedFor60 (graft 69999 45 0)) ≡ (2, 45, 60) ∷ []
-  pub graftAt70000 : (toldIn (asked prunedFor60 (graft 70000 45 0)) ≡ []) × (meshSize (asked prunedFor60 (graft 70000 45 0) .state) 0 ≡ 12)
+  pub graftAt70000 : enteredBy (asked prunedFor60 (graft 70000 45 0)) ≡ (12, [])
+
+pub record EntersAt : Type 0 where
   -- "D_hi 12: an inbound GRAFT enters at 11, not at 12; an outbound one enters at 12.": the mesh after it, and what the peer is told
-  pub inboundAt11 : (meshSize (grafted eleven 0 .state) 0 ≡ 12) × (toldIn (grafted eleven 0) ≡ [])
-  pub inboundAt12 : (meshSize (grafted twelve 0 .state) 0 ≡ 12) × (toldIn (grafted twelve 0) ≡ (2, 101, 60) ∷ [])
-  pub outboundAt12 : (meshSize (grafted twelve 1 .state) 0 ≡ 13) × (toldIn (grafted twelve 1) ≡ [])
+  pub inboundAt11 : enteredBy (grafted eleven 0) ≡ (12, [])
+  pub inboundAt12 : enteredBy (grafted twelve 0) ≡ (12, (2, 101, 60) ∷ [])
+  pub outboundAt12 : enteredBy (grafted twelve 1) ≡ (13, [])
+
+pub record FromThirteen : Type 0 where
   -- "13 inbound members, one outbound candidate: 7 PRUNEs, one GRAFT, mesh 7.": the four best are 12, 7, 45 and, of the three with half a
   -- point the first drawn, 90; then 36 and 88 are drawn
   pub thirteenTold :
@@ -204,6 +216,16 @@ pub record Reached : Type 0 where
   pub thirteenMesh :
       membersIn (maintained thirteen (101 ∷ []) .state)
       ≡ (7, 0) ∷ (45, 0) ∷ (12, 0) ∷ (88, 0) ∷ (36, 0) ∷ (90, 0) ∷ (101, 1) ∷ []
+
+pub record FromTwelve : Type 0 where
   -- "12 inbound members, two outbound candidates: mesh 14.": of the two, 102 is drawn first
   pub twelveTold : toldIn (maintained twelve (101 ∷ 102 ∷ [])) ≡ (1, 102, 0) ∷ (1, 101, 0) ∷ []
   pub twelveMesh : meshSize (maintained twelve (101 ∷ 102 ∷ []) .state) 0 ≡ 14
+
+pub record Reached : Type 0 where
+  pub worked : WorkedExample
+  pub thirteen : ThirteenMembers
+  pub pruned : PrunedFor60
+  pub enters : EntersAt
+  pub fromThirteen : FromThirteen
+  pub fromTwelve : FromTwelve

@@ -24,8 +24,8 @@ use Rattle.sets.proofs.WalkLaws.{except-at}
 use Rattle.sets.proofs.SetLaws.{both-left, both-right, both-in}
 use Rattle.sets.proofs.CountLaws.{fill-only}
 use Rattle.sets.proofs.SlotLaws.{slots-in}
-use Rattle.mesh.specs.declared.Meshes.{Meshes}
-use Rattle.mesh.specs.declared.View.{View}
+use Rattle.mesh.specs.Maintenance.{Meshes}
+use Rattle.mesh.specs.Maintenance.{View}
 use Rattle.mesh.specs.Maintenance.{Action as Tell, goods, mesh1, mesh4, meshes, changesOf, actionsOn, actionsOf}
 use Rattle.mesh.proofs.Bound.{idle}
 use Rattle.mesh.proofs.MaintenanceLaws.{Adds, len1, adds2, keeps3, adds4, adds5}

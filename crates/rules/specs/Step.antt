@@ -24,8 +24,8 @@ use Rattle.score.specs.Score.{whyIn, scoreIn, topicParamsIn}
 use Rattle.score.specs.Counters.{countMost, raisedOf, firstOf, nearFirstOf, invalidOf, grownOf, fadedOf, decayedOf}
 use Rattle.sets.specs.Sets.{bySlot, at, isPermutation}
 use Rattle.mesh.specs.declared.Degrees.{Degrees}
-use Rattle.mesh.specs.declared.View.{View}
-use Rattle.mesh.specs.declared.Meshes.{Meshes}
+use Rattle.mesh.specs.Maintenance.{View}
+use Rattle.mesh.specs.Maintenance.{Meshes}
 use Rattle.mesh.specs.Maintenance.{Action as Told, zeroScore, meshes, changesOf, actionsOf}
 use Rattle.rules.specs.declared.Answer.the-variants.{Scored, Early, OutOfRange, NotConnected, AlreadyConnected, NoSlot}
 use Rattle.rules.specs.declared.Answer.the-variants.{UnknownProtocol, NotPermutation, ListShort, NotRouter}

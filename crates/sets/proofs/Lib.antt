@@ -8,3 +8,4 @@ pub mod BestLaws
 pub mod SwapLaws
 pub mod MedianLaws
 pub mod SlotLaws
+pub mod WordSets

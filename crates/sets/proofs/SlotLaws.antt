@@ -1,17 +1,19 @@
 -- Lists by slot: the length of `bySlot`, its elements, a loop that builds it, and the size of a set as a count.
 -- Assumes nothing.
 use Prim.Native.Nat.{ℕ, zero, suc, _+_, _≤_, _<_}
-use native.Mathlib.Nat.{not-suc-le-zero, eq-or-lt-of-le, le-of-suc-le-suc}
+use native.Mathlib.Nat.{not-suc-le-zero, eq-or-lt-of-le, le-of-suc-le-suc, add-zero, add-suc, suc-add}
 use native.Mathlib.Omega.{arith}
 use mathlib.Core.Path.{_≡_, refl, sym, ap, _∙_}
 use mathlib.Core.Logic.{⊎-elim}
 use mathlib.Core.Bool.{Bool, true, false, not, _&&_, false≢true}
 use mathlib.Core.List.{List, [], _∷_, _++_}
 use lib.ListN.{length, getD, length-append, List·getD-append, List·getD-eq-default}
-use Rattle.index.specs.Index.{count, gather, one}
+use Rattle.index.specs.Index.{count, gather}
 use Rattle.index.proofs.Index.{count-same}
 use Rattle.index.proofs.Flags.{by-order}
-use Rattle.sets.specs.Sets.{bySlot, at, size, both, except}
+use Rattle.words.specs.Words.{slots}
+use Rattle.words.proofs.BitLaws.{count-first}
+use Rattle.sets.specs.Sets.{bySlot, at, size, both, except, ascending, inOrder}
 use Rattle.index.proofs.Lists.{Built, built-done}
 use Rattle.sets.proofs.WalkLaws.{both-at, both-length, except-at, except-length}
 
@@ -61,12 +63,26 @@ pub slots-built :
     {A : Type 0} (d : A) (f : ℕ → A) (n i : ℕ) (r : List A) → n ≤ i → Built d f n i r → r ≡ bySlot n f
 slots-built d f n i r h b = built-done d f n i r (bySlot n f) h b (slots-length n f) (λ k l. slots-at d f n k l)
 
--- ---- how many slots a set has
-shifted : (f : ℕ → Bool) (n : ℕ) → count (suc n) f ≡ one (f 0) + count n (λ s. f (suc s))
-unfolding count
-shifted f zero = omega arith
-shifted f (suc n) = let h = shifted f n in omega arith
+-- ---- the slots of a set by slot, as the walk over them finds them
+in-order-from :
+    (q p : List Bool) (i : ℕ) →
+    ((k : ℕ) → at q (i + k) ≡ at p k) →
+    inOrder q (ascending i (length p)) ≡ slots i p
+unfolding inOrder ascending slots
+in-order-from q [] i h = refl
+in-order-from q (true ∷ p) i h =
+    let e : at q i ≡ true = ap (at q) (sym (add-zero i)) ∙ h 0 in
+    rw e (ap (λ (l : List ℕ). i ∷ l) (in-order-from q p (suc i) (λ k. ap (at q) (suc-add i k ∙ sym (add-suc i k)) ∙ h (suc k))))
+in-order-from q (false ∷ p) i h =
+    let e : at q i ≡ false = ap (at q) (sym (add-zero i)) ∙ h 0 in
+    rw e (in-order-from q p (suc i) (λ k. ap (at q) (suc-add i k ∙ sym (add-suc i k)) ∙ h (suc k)))
 
+pub by-slot : (p : List Bool) (n : ℕ) → length p ≡ n → inOrder p (ascending 0 n) ≡ slots 0 p
+by-slot p n e =
+    ap (λ (k : ℕ). inOrder p (ascending 0 k)) (sym e)
+    ∙ in-order-from p p 0 (λ k. let z : 0 + k ≡ k = omega arith in ap (at p) z)
+
+-- ---- how many slots a set has
 pub size-count : (m : List Bool) (n : ℕ) → length m ≡ n → size m ≡ count n (at m)
 unfolding size count
 size-count [] zero e = refl
@@ -74,11 +90,11 @@ size-count [] (suc n) e = absurd (omega arith)
 size-count (x ∷ m) zero e = absurd (omega arith)
 size-count (true ∷ m) (suc n) e =
     let h = size-count m n (omega arith) in
-    let k = shifted (at (true ∷ m)) n in
+    let k = count-first (at (true ∷ m)) n in
     omega arith
 size-count (false ∷ m) (suc n) e =
     let h = size-count m n (omega arith) in
-    let k = shifted (at (false ∷ m)) n in
+    let k = count-first (at (false ∷ m)) n in
     omega arith
 
 -- of the slots of m that are in o, and of those that are not

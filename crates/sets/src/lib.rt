@@ -1,82 +1,59 @@
-// Sets of slots, as an array with a flag for each slot, and what mesh maintenance makes of them: walks along an order, the test of a
-// permutation, the median of a set's scores. The crates above use these functions and do not depend on the form of a set. Functions that
-// a loop calls at every turn take their array by reference, so that no turn copies it.
+// Sets of slots as words, and what mesh maintenance makes of them: walks along an order, the test of a permutation, the median of a set's
+// scores. Contracts speak of a set's list of flags, `bitsOf` its words, so that the definitions over lists stand. Lists of a number for each
+// slot are lent.
 ghost use mathlib.Core.Path.{_≡_};
 ghost use Prim.Native.Nat.{_-_};
-ghost use lib.ListN.{getD, set};
-ghost use Rattle.sets.specs.Sets.{at, size, both, except, from};
+ghost use lib.ListN.{getD, length};
+ghost use Rattle.records.specs.Records.{slotCount};
+ghost use Rattle.words.specs.Words.{bitsOf};
+ghost use Rattle.sets.specs.Sets.{size, both, except, from};
 use records::SLOTS;
+use words::WORDS;
+use words::flags::pack;
 
 pub mod median;
 pub mod permutation;
 pub mod walks;
 
 // How many slots are in the set.
-pub fn size(m: [bool; SLOTS]) -> u64
-    ensures { λ r. ⌜ r ≡ size m ⌝ }
+pub fn size(m: [u64; WORDS]) -> u64
+    ensures { λ r. ⌜ r ≡ size (bitsOf m) ⌝ }
 {
-    let mut n: u64 = 0;
-    for i in 0..SLOTS {
-        if m[i] {
-            n += 1;
-        }
-    }
-    n
+    words::size(m)
 }
 
 // In a and in b.
-pub fn both(a: [bool; SLOTS], b: [bool; SLOTS]) -> [bool; SLOTS]
-    ensures { λ r. ⌜ r ≡ both a b ⌝ }
+pub fn both(a: [u64; WORDS], b: [u64; WORDS]) -> [u64; WORDS]
+    ensures { λ r. ⌜ bitsOf r ≡ both (bitsOf a) (bitsOf b) ⌝ }
 {
-    let mut r = [false; SLOTS];
-    for i in 0..SLOTS {
+    let mut r = [0; WORDS];
+    for i in 0..WORDS {
         r[i] = a[i] & b[i];
     }
     r
 }
 
 // In a and not in b.
-pub fn except(a: [bool; SLOTS], b: [bool; SLOTS]) -> [bool; SLOTS]
-    ensures { λ r. ⌜ r ≡ except a b ⌝ }
+pub fn except(a: [u64; WORDS], b: [u64; WORDS]) -> [u64; WORDS]
+    ensures { λ r. ⌜ bitsOf r ≡ except (bitsOf a) (bitsOf b) ⌝ }
 {
-    let mut r = [false; SLOTS];
-    for i in 0..SLOTS {
+    let mut r = [0; WORDS];
+    for i in 0..WORDS {
         r[i] = a[i] & !b[i];
     }
     r
 }
 
 // The slots whose score is at least x.
-pub fn at_least(x: u64, scores: [u64; SLOTS]) -> [bool; SLOTS]
-    ensures { λ r. ⌜ r ≡ from x scores ⌝ }
+pub fn at_least(x: u64, scores: &[u64]) -> [u64; WORDS]
+    requires { ⌜ length (now scores) ≡ slotCount ⌝ }
+    ensures { λ r. ⌜ bitsOf r ≡ from x (now (scores .entry)) ⌝ }
 {
     let mut r = [false; SLOTS];
     for i in 0..SLOTS {
         r[i] = x <= scores[i];
     }
-    r
-}
-
-// Whether the slot s is in the set; past its end, no.
-pub fn at(m: &[bool], s: u64) -> bool
-    ensures { λ r. ⌜ r ≡ at (now (m .entry)) s ⌝ }
-{
-    if s < m.len() as u64 {
-        m[s as usize]
-    } else {
-        false
-    }
-}
-
-// The set with the slot s in, or out; past its end, unchanged.
-pub fn set(m: [bool; SLOTS], s: u64, b: bool) -> [bool; SLOTS]
-    ensures { λ r. ⌜ r ≡ set m s b ⌝ }
-{
-    let mut r = m;
-    if s < SLOTS as u64 {
-        r[s as usize] = b;
-    }
-    r
+    pack(r)
 }
 
 // The number by slot at s; past the end, 0.

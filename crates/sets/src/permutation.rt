@@ -1,12 +1,24 @@
-// The permutation that a maintenance is given: the test, the copy that the walks take, and the order by slot.
+// The permutation that a maintenance is given: the test.
 ghost use mathlib.Core.Path.{_≡_};
-ghost use lib.ListN.{length};
 ghost use Rattle.records.specs.Records.{slotCount};
-ghost use Rattle.sets.specs.Sets.{isPermutation, ascending};
-use crate::size;
+ghost use Rattle.sets.specs.Sets.{size, isPermutation};
 use records::SLOTS;
 
-// Whether p is each slot once: as long as there are slots, and after marking each slot that it names none is unmarked.
+// How many slots are marked.
+fn marks(m: [bool; SLOTS]) -> u64
+    ensures { λ r. ⌜ r ≡ size m ⌝ }
+{
+    let mut n: u64 = 0;
+    for i in 0..SLOTS {
+        if m[i] {
+            n += 1;
+        }
+    }
+    n
+}
+
+// Whether p is each slot once: as long as there are slots, and after marking each slot that it names none is unmarked. A flag for each slot
+// and not its bit, so that no mark waits for the one before.
 pub fn is_permutation(p: &[u64]) -> bool
     ensures { λ r. ⌜ r ≡ isPermutation slotCount (now (p .entry)) ⌝ }
 {
@@ -20,28 +32,5 @@ pub fn is_permutation(p: &[u64]) -> bool
             seen[s as usize] = true;
         }
     }
-    size(seen) == SLOTS as u64
-}
-
-// A lent list of one number a slot, as an array.
-pub fn copied(p: &[u64]) -> [u64; SLOTS]
-    requires { ⌜ length (now p) ≡ slotCount ⌝ }
-    ensures { λ r. ⌜ r ≡ now (p .entry) ⌝ }
-{
-    let mut r = [0; SLOTS];
-    for i in 0..SLOTS {
-        r[i] = p[i];
-    }
-    r
-}
-
-// The order by slot.
-pub fn by_slot() -> [u64; SLOTS]
-    ensures { λ r. ⌜ r ≡ ascending 0 slotCount ⌝ }
-{
-    let mut r = [0; SLOTS];
-    for i in 0..SLOTS {
-        r[i] = i as u64;
-    }
-    r
+    marks(seen) == SLOTS as u64
 }

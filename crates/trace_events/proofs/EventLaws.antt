@@ -11,8 +11,9 @@ use Rattle.varint.specs.Groups.{Got, got, none, before, decode, upTo, asRead, r
 use Rattle.varint.specs.declared.Read.{Read}
 use Rattle.varint.specs.declared.Read.the-variants.{Number, Bad}
 use Rattle.trace_events.specs.Reading.{Numbers, numbers, broken, more, numberThen, numbersFrom, cutShort, arity, callOf, Event, event}
-use Rattle.trace_events.specs.Reading.{nameMost}
-use Rattle.trace_events.specs.Reading.{unknown, malformed, short, unread, named, ofNumbers, ofKind, eventAt}
+use Rattle.trace_events.specs.Reading.{nameMost, orderSize}
+use Rattle.trace_events.specs.Reading.{unknown, malformed, short, unread, named, ordered, ofNumbers, ofKind, eventAt}
+use Rattle.trace_events.specs.declared.Edition.{Edition}
 
 -- ---- a number
 abbrev Takes : Got → Type 0
@@ -82,20 +83,29 @@ named-behind at s us next h =
     cond-case (Behind at) (leb (next + getD us 4 0) (length s)) (event _ (next + getD us 4 0)) short (λ e. omega arith) (λ e. tt))
     (λ e. tt)
 
-numbers-behind : (at next : ℕ) (s : List ℕ) (kind : ℕ) (p : Numbers) → at < next → NotBack next p → Behind at (ofNumbers s kind p)
-numbers-behind at next s kind (numbers us m) h n =
-    cond-case (Behind at) (eqb kind 1) (named s us m) (event (callOf kind us []) m) (λ e. named-behind at s us m (omega arith))
-    (λ e. omega arith)
-numbers-behind at next s kind (broken p) h n = unread-behind at s p
+order-behind : (at next : ℕ) (s us : List ℕ) (p : Numbers) → at < next → NotBack next p → Behind at (ordered s us p)
+order-behind at next s us (numbers order m) h n = omega arith
+order-behind at next s us (broken p) h n = unread-behind at s p
 
-kind-behind : (s : List ℕ) (at : ℕ) (r : Read) → Ahead at r → Behind at (ofKind s at r)
-kind-behind s at Bad a = unread-behind at s at
-kind-behind s at (Number kind next) a =
-    cond-case (Behind at) (eqb (arity kind) 0) unknown (ofNumbers s kind (numbersFrom (arity kind) s next))
-    (λ e. tt)
-    (λ e. numbers-behind at next s kind (numbersFrom (arity kind) s next) a (numbers-not-back (arity kind) s next))
+module _ (g : Edition) where
+  numbers-behind :
+      (at next : ℕ) (s : List ℕ) (kind : ℕ) (p : Numbers) → at < next → NotBack next p → Behind at (ofNumbers g s kind p)
+  numbers-behind at next s kind (numbers us m) h n =
+      cond-case (Behind at) (eqb kind 1) (named s us m) _ (λ e. named-behind at s us m (omega arith))
+      (λ e.
+      cond-case (Behind at) (eqb kind 11) (ordered s us (numbersFrom (orderSize g) s m)) (event (callOf kind us []) m)
+      (λ f. order-behind at m s us (numbersFrom (orderSize g) s m) (omega arith) (numbers-not-back (orderSize g) s m))
+      (λ f. omega arith))
+  numbers-behind at next s kind (broken p) h n = unread-behind at s p
 
-pub event-behind : (s : List ℕ) (at : ℕ) → Behind at (eventAt s at)
-unfolding eventAt
-event-behind s at =
-    kind-behind s at (readAt 18446744073709551615 s at) (read-ahead 18446744073709551615 s at)
+  kind-behind : (s : List ℕ) (at : ℕ) (r : Read) → Ahead at r → Behind at (ofKind g s at r)
+  kind-behind s at Bad a = unread-behind at s at
+  kind-behind s at (Number kind next) a =
+      cond-case (Behind at) (eqb (arity kind) 0) unknown (ofNumbers g s kind (numbersFrom (arity kind) s next))
+      (λ e. tt)
+      (λ e. numbers-behind at next s kind (numbersFrom (arity kind) s next) a (numbers-not-back (arity kind) s next))
+
+  pub event-behind : (s : List ℕ) (at : ℕ) → Behind at (eventAt g s at)
+  unfolding eventAt
+  event-behind s at =
+      kind-behind s at (readAt 18446744073709551615 s at) (read-ahead 18446744073709551615 s at)

@@ -1,3 +1,4 @@
+pub mod WidenedLaws
 pub mod ReadingLaws
 pub mod EventLaws
 pub mod LineLaws

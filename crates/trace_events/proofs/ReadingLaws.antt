@@ -8,16 +8,20 @@ use native.Mathlib.Omega.{arith}
 use native.Mathlib.Numerals.{add-one}
 use borrow.Author.Tests.{lt-ltb, le-ltb, lt-leb}
 use lib.Dec.{leb}
-use lib.ListN.{length, take, set, getD, replicate, List·getD-eq-default}
-use lib.Seq.{take-suc-set, getD-set-other}
+use lib.ListN.{length, take, set, getD, List·getD-eq-default}
+use lib.Seq.{take-suc-set, take-all, length-take-le, getD-set-other}
 use Rattle.index.specs.Index.{every}
 use Rattle.index.proofs.Index.{every-none, every-fails}
 use Rattle.varint.specs.Groups.{readAt}
 use Rattle.varint.specs.declared.Read.{Read}
 use Rattle.varint.specs.declared.Read.the-variants.{Number, Bad}
+use Rattle.records.specs.Records.{slotCount}
+use Rattle.sets.specs.Sets.{ascending}
+use Rattle.trace_events.proofs.WidenedLaws.{ascending-more}
 use lib.Dec.{T, leb→le}
 use mir.Facts.{and-yes}
-use Rattle.trace_events.specs.Reading.{Numbers, numbers, broken, more, numberThen, numbersFrom, cutShort, arities, arity}
+use Rattle.trace_events.specs.Reading.{Numbers, numbers, broken, more, numberThen, numbersFrom, widened, cutShort, arities, arity}
+use Rattle.trace_events.specs.Reading.{numberMost}
 
 -- numbers that stand before others
 abbrev then : List ℕ → Numbers → Numbers
@@ -35,7 +39,7 @@ then-then us vs (broken p) = refl
 at-least-one :
     (m : ℕ) (s : List ℕ) (at : ℕ) (r : Read) →
     0 < m →
-    r ≡ readAt 184425944073709551615 s at →
+    r ≡ readAt 18446744073709551615 s at →
     numbersFrom m s at ≡ numberThen (λ next. numbersFrom (m - 1) s next) at r
 unfolding numbersFrom
 at-least-one zero s at r h e = absurd (omega arith)
@@ -57,7 +61,7 @@ pub after-more :
     i < N →
     i < length us →
     After N s from i us at →
-    r ≡ readAt 184425944073709551615 s at →
+    r ≡ readAt 18446744073709551615 s at →
     r ≡ Number u next →
     After N s from (i + 1) (set us i u) next
 after-more N s from i us at u next r h l inv e f =
@@ -71,7 +75,7 @@ pub after-bad :
     (N : ℕ) (s : List ℕ) (from i : ℕ) (us : List ℕ) (at : ℕ) (r : Read) →
     i < N →
     After N s from i us at →
-    r ≡ readAt 184425944073709551615 s at →
+    r ≡ readAt 18446744073709551615 s at →
     r ≡ Bad →
     broken at ≡ numbersFrom N s from
 after-bad N s from i us at r h inv e f = rw (at-least-one (N - i) s at r (omega arith) e, f) at inv
@@ -87,17 +91,42 @@ after-all N s from i us at h inv =
     let g : numbers (take i us ++ []) at ≡ numbersFrom N s from = rw e at inv in
     ap (λ (k : ℕ). numbers (take k us) at) h ∙ ap (λ (l : List ℕ). numbers l at) (sym (append-nil (take i us))) ∙ g
 
--- the array's numbers past those that were read are 0
-pub zeros-none : (n k : ℕ) → _≡_ {A = ℕ} (getD (replicate n 0) k 0) 0
-zeros-none zero k = refl
-zeros-none (suc n) zero = refl
-zeros-none (suc n) (suc k) = zeros-none n k
+-- the numbers past those that were read stay
+pub past-more : (us : List ℕ) (i u k x : ℕ) → (i ≤ k → getD us k 0 ≡ x) → i + 1 ≤ k → getD (set us i u) k 0 ≡ x
+past-more us i u k x z h = getD-set-other us i k u 0 (λ e. omega arith) ∙ z (omega arith)
 
-pub zeros-more :
-    (us : List ℕ) (i u : ℕ) →
-    ((k : ℕ) → i ≤ k → getD us k 0 ≡ 0) →
-    (k : ℕ) → i + 1 ≤ k → getD (set us i u) k 0 ≡ 0
-zeros-more us i u z k h = getD-set-other us i k u 0 (λ e. omega arith) ∙ z k (omega arith)
+-- ---- the loop of `widen`: behind an order of the first n slots stand those up to k
+abbrev pub Widened : List ℕ → ℕ → ℕ → List ℕ → Type 0
+Widened order n k now = take k now ≡ take n order ++ ascending n (k - n)
+
+pub widened-none : (order : List ℕ) (n : ℕ) → Widened order n n order
+unfolding ascending
+widened-none order n = let e : n - n ≡ 0 = omega arith in rw e (sym (append-nil (take n order)))
+
+pub widened-more :
+    (order : List ℕ) (n k : ℕ) (now : List ℕ) →
+    n ≤ k →
+    k < length now →
+    Widened order n k now →
+    Widened order n (k + 1) (set now k k)
+widened-more order n k now h l inv =
+    let e : k + 1 - n ≡ suc (k - n) = omega arith in
+    let f : n + (k - n) ≡ k = omega arith in
+    rw (e, ascending-more n (k - n), f, add-one k, take-suc-set now k k l)
+    (ap (λ (a : List ℕ). a ++ (k ∷ [])) inv ∙ append-assoc (take n order) (ascending n (k - n)) (k ∷ []))
+
+pub widened-all :
+    (order : List ℕ) (n k : ℕ) (now : List ℕ) →
+    n ≤ slotCount →
+    length order ≡ slotCount →
+    length now ≡ slotCount →
+    k ≡ slotCount →
+    Widened order n k now →
+    now ≡ widened (take n order)
+unfolding widened
+widened-all order n k now h l m e inv =
+    let q : length (take n order) ≡ n = length-take-le n order (omega arith) in
+    rw (q, ← e) (sym (take-all k now (omega arith)) ∙ inv)
 
 -- ---- the ends of `cut_short`: k bytes from `at` on say that more follow
 abbrev pub tail : List ℕ → ℕ → ℕ → Bool
@@ -131,7 +160,7 @@ pub short-all :
 unfolding cutShort
 short-all s at h e = rw (lt-ltb (length s - at) 10 h) (sym e)
 
--- ---- how many numbers a kind has: at most 259, and none past the table
+-- ---- how many numbers a kind has: at most five, and none past the table
 abbrev upTo : ℕ → List ℕ → Bool
 upTo m [] = true
 upTo m (x ∷ l) = leb x m && upTo m l
@@ -141,9 +170,9 @@ few m [] t k = omega arith
 few m (x ∷ l) t zero = leb→le x m (and-yes (leb x m) (upTo m l) t .0)
 few m (x ∷ l) t (suc k) = few m l (and-yes (leb x m) (upTo m l) t .1) k
 
-pub arity-most : (kind : ℕ) → arity kind ≤ 259
+pub arity-most : (kind : ℕ) → arity kind ≤ numberMost
 unfolding arity arities
-arity-most kind = few 259 arities tt kind
+arity-most kind = few numberMost arities tt kind
 
 pub arity-past : (kind : ℕ) → 14 ≤ kind → 0 ≡ arity kind
 unfolding arity arities

@@ -70,6 +70,10 @@ unfoldable pub linesOf : Reply → List ℕ
 linesOf o =
     pairLine (numberOf (o .answer)) (actionsOf (o .answer)) ++ actionLines (o .actions) ++ scoreLine (o .answer)
 
+-- how many bytes one event may print: 256 actions of at most 44 bytes, and two lines
+abbrev pub lineRoom : ℕ
+lineRoom = 16384
+
 -- ---- the same from the answer and the numbers of the lent list, three to an action: what is printed
 abbrev pub actionAt : List ℕ → ℕ → List ℕ
 actionAt l i = actionLine (getD l (3 * i) 0) (getD l (3 * i + 1) 0) (getD l (3 * i + 2) 0)

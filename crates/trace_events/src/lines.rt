@@ -13,9 +13,12 @@ ghost use lib.ListN.{length};
 ghost use Rattle.text.specs.Text.{Stored};
 ghost use Rattle.rules.specs.Reply.{actionsOf};
 ghost use Rattle.trace_events.specs.Lines.{space, pairLine, actionLine, actionsText, partText, threeText, whyLine, scoreLine};
-ghost use Rattle.trace_events.specs.Lines.{replyText};
+ghost use Rattle.trace_events.specs.Lines.{lineRoom, replyText};
 ghost use Rattle.rules.specs.Step.{actionRoom};
 ghost use Rattle.records.specs.Records.{slotCount};
+
+// How many bytes one event may print.
+pub const LINE_ROOM: usize = 16384;
 
 // Two numbers on a line; the place after it.
 pub fn put_pair(out: &mut [u8], at: usize, a: u64, b: u64) -> usize
@@ -110,8 +113,8 @@ pub fn put_score(out: &mut [u8], at: usize, a: Answer) -> usize
 
 // Answer and action count, then one line an action or score.
 pub fn put_reply(out: &mut [u8], a: Answer, actions: &[u32]) -> usize
-    requires { ⌜ (4096 ≤ length (now out)) × (actionsOf a ≤ slotCount) × (actionRoom ≤ length (now actions)) ⌝ }
-    ensures { λ r. ⌜ Stored (now (out .entry)) 0 (replyText a (now (actions .entry))) r (now (out .exit)) × (r ≤ 4096) ⌝ }
+    requires { ⌜ (lineRoom ≤ length (now out)) × (actionsOf a ≤ slotCount) × (actionRoom ≤ length (now actions)) ⌝ }
+    ensures { λ r. ⌜ Stored (now (out .entry)) 0 (replyText a (now (actions .entry))) r (now (out .exit)) × (r ≤ lineRoom) ⌝ }
 {
     let n = actions_of(a);
     let mut k = put_pair(out, 0, number_of(a), n as u64);

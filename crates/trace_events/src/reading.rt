@@ -1,16 +1,21 @@
 // An event's numbers.
 ghost use mathlib.Core.Path.{_≡_};
 ghost use Prim.Native.Nat.{ℕ, _≤_};
-ghost use lib.ListN.{getD};
-ghost use Rattle.trace_events.specs.Reading.{outcome, numbersFrom, cutShort, arity as arityOf};
+ghost use lib.ListN.{length, getD, take};
+ghost use Rattle.records.specs.Records.{slotCount};
+ghost use Rattle.trace_events.specs.Reading.{orderSize, widened, outcome, numbersFrom, cutShort, numberMost, arity as arityOf};
+use crate::Edition;
 use crate::Readings;
+use records::SLOTS;
 use varint::Read;
 
-// Numbers that follow a kind, the time counted; 0 for an unknown kind.
-const ARITY: [usize; 14] = [0, 5, 2, 2, 2, 3, 3, 3, 4, 4, 3, 259, 1, 2];
+// The most numbers that follow a kind, the time counted; and those of each kind, 0 for an unknown one.
+pub const NUMBERS: usize = 5;
+
+const ARITY: [usize; 14] = [0, 5, 2, 2, 2, 3, 3, 3, 4, 4, 3, 3, 1, 2];
 
 pub fn arity(kind: u64) -> usize
-    ensures { λ r. ⌜ (r ≡ arityOf kind) × (r ≤ 259) ⌝ }
+    ensures { λ r. ⌜ (r ≡ arityOf kind) × (r ≤ numberMost) ⌝ }
 {
     if kind < 14 {
         let k = kind as usize;
@@ -19,12 +24,25 @@ pub fn arity(kind: u64) -> usize
     0
 }
 
-// The first n numbers from a place on.
-pub fn read_numbers(s: &[u8], at: usize, n: usize) -> Readings
-    requires { ⌜ n ≤ 259 ⌝ }
-    ensures { λ r. ⌜ (outcome n r ≡ numbersFrom n (now (s .entry)) at) × ((k : ℕ) → n ≤ k → getD (r .values) k 0 ≡ 0) ⌝ }
+// How many slots a permutation of the first edition orders.
+const OLD_SLOTS: usize = 64;
+
+// How many numbers a permutation has.
+pub fn order_size(edition: Edition) -> usize
+    ensures { λ r. ⌜ (r ≡ orderSize edition) × (r ≤ slotCount) ⌝ }
 {
-    let mut values = [0u64; 259];
+    match edition {
+        Edition::First => OLD_SLOTS,
+        Edition::Second => SLOTS,
+    }
+}
+
+// Puts the first n numbers from a place on into a lent list.
+pub fn read_numbers(s: &[u8], at: usize, n: usize, values: &mut [u64]) -> Readings
+    requires { ⌜ n ≤ length (now values) ⌝ }
+    ensures { λ r. ⌜ (outcome n r (now (values .exit)) ≡ numbersFrom n (now (s .entry)) at)
+        × ((k : ℕ) → n ≤ k → getD (now (values .exit)) k 0 ≡ getD (now (values .entry)) k 0) ⌝ }
+{
     let mut place = at;
     let mut i: usize = 0;
     while i < n {
@@ -32,7 +50,6 @@ pub fn read_numbers(s: &[u8], at: usize, n: usize) -> Readings
             return Readings {
                 ok: false,
                 place,
-                values,
             };
         };
         values[i] = u;
@@ -42,7 +59,18 @@ pub fn read_numbers(s: &[u8], at: usize, n: usize) -> Readings
     Readings {
         ok: true,
         place,
-        values,
+    }
+}
+
+// The slots that a permutation of the first n does not order, behind it by slot.
+pub fn widen(order: &mut [u64], n: usize)
+    requires { ⌜ (n ≤ slotCount) × (length (now order) ≡ slotCount) ⌝ }
+    ensures { λ r. ⌜ now (order .exit) ≡ widened (take n (now (order .entry))) ⌝ }
+{
+    let mut k = n;
+    while k < SLOTS {
+        order[k] = k as u64;
+        k += 1;
     }
 }
 

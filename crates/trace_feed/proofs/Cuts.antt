@@ -13,74 +13,84 @@ use lib.Seq.{length-sets}
 use Rattle.index.proofs.Flags.{by-test, cond-case}
 use Rattle.records.specs.Records.{State}
 use Rattle.layout.specs.View.{stateOf}
+use Rattle.trace_events.specs.declared.Edition.{Edition}
 use Rattle.trace_events.specs.Reading.{Event, event, unknown, malformed, short, eventAt}
-use Rattle.params_bytes.specs.Read.{frontOf}
+use Rattle.params_bytes.specs.Read.{frontAt}
 use Rattle.params_bytes.specs.declared.Verdict.{Verdict}
 use Rattle.params_bytes.specs.declared.Verdict.the-variants.{Accepted, Malformed, Broken}
 use Rattle.trace_feed.specs.declared.Stage.{Stage}
 use Rattle.trace_feed.specs.declared.Stage.the-variants.{Params, Events, Over}
 use Rattle.trace_feed.specs.declared.Window.{Window}
+use Rattle.trace_feed.specs.declared.Front.{Front}
+use Rattle.trace_feed.specs.declared.Front.the-variants.{Begins, Other, Cut}
+use Rattle.trace_feed.specs.Front.{frontIn}
 use Rattle.trace_feed.specs.Printed.{printedOf}
-use Rattle.trace_feed.specs.Turns.{Turn, took, ended, wants, eventTurn, eventsTurn, paramsBy, paramsTurn, turnOf, fedOf, taken}
-use Rattle.trace_feed.specs.Turns.{textOf, leftBy, stageBy, pending, Inside, windowBy, bufferBy, frontRoom, turnIn}
+use Rattle.trace_feed.specs.Turns.{Turn, took, ended, wants, eventTurn, eventsTurn, paramsBy, paramsTurn, frontBy, frontTurn}
+use Rattle.trace_feed.specs.Turns.{turnOf, fedOf, taken, textOf, leftBy, stageBy, pending, Inside, windowBy, bufferBy, frontRoom, turnIn}
 use Rattle.trace_feed.specs.Cuts.{textAfter, Standing, Starts, Turned, Filled, Ran, Coming, EveryCut}
 use Rattle.trace_feed.proofs.TextLaws.{one-turn}
 use Rattle.trace_feed.proofs.WindowLaws.{front-of, part-taken, part-moved, part-filled}
 
 -- ---- no turn wants more bytes where none come
 abbrev asks : Turn → Bool
-asks (took n text st) = false
+asks (took g n text st) = false
 asks (ended text) = false
 asks wants = true
 
-event-asks : (st : State) (x : Event) → asks (eventTurn true st x) ≡ false
-event-asks st (event c next) = refl
-event-asks st unknown = refl
-event-asks st malformed = refl
-event-asks st short = refl
+event-asks : (g : Edition) (st : State) (x : Event) → asks (eventTurn g true st x) ≡ false
+event-asks g st (event c next) = refl
+event-asks g st unknown = refl
+event-asks g st malformed = refl
+event-asks g st short = refl
 
-params-ask : (s : List ℕ) (v : Verdict) → asks (paramsBy true s (frontOf s .params) v) ≡ false
-params-ask s (Accepted next) = refl
-params-ask s (Malformed place) = refl
-params-ask s (Broken i) = refl
+params-ask : (g : Edition) (at : ℕ) (s : List ℕ) (v : Verdict) → asks (paramsBy g true s (frontAt s at .params) v) ≡ false
+params-ask g at s (Accepted next) = refl
+params-ask g at s (Malformed place) = refl
+params-ask g at s (Broken i) = refl
+
+front-asks : (s : List ℕ) (x : Front) → asks (frontBy true s x) ≡ false
+unfolding paramsTurn
+front-asks s (Begins g at) = params-ask g at s (frontAt s at .verdict)
+front-asks s Other = refl
+front-asks s Cut = refl
 
 asks-not : (stage : Stage) (st : State) (s : List ℕ) → asks (turnOf stage true st s) ≡ false
-unfolding paramsTurn eventsTurn
-asks-not Params st s = params-ask s (frontOf s .verdict)
-asks-not Events st s =
-    cond-case (λ (t : Turn). asks t ≡ false) (eqb (length s) 0) (ended []) (eventTurn true st (eventAt s 0)) (λ e. refl)
-    (λ e. event-asks st (eventAt s 0))
+unfolding frontTurn eventsTurn
+asks-not Params st s = front-asks s (frontIn s)
+asks-not (Events g) st s =
+    cond-case (λ (t : Turn). asks t ≡ false) (eqb (length s) 0) (ended []) (eventTurn g true st (eventAt g s 0)) (λ e. refl)
+    (λ e. event-asks g st (eventAt g s 0))
 asks-not Over st s = refl
 
 -- ---- what a turn leaves of the window
 module _ (w : Window) (buf : List ℕ) (i : Inside w buf) where
   stage-is : (t : Turn) → windowBy w (fedOf t) .stage ≡ stageBy (w .stage) t
-  stage-is (took n text st) = refl
+  stage-is (took g n text st) = refl
   stage-is (ended text) = refl
   stage-is wants = refl
 
   written-is : (t : Turn) → windowBy w (fedOf t) .written ≡ length (textOf t)
-  written-is (took n text st) = refl
+  written-is (took g n text st) = refl
   written-is (ended text) = refl
   written-is wants = refl
 
   more-is : (t : Turn) → windowBy w (fedOf t) .more ≡ w .more
-  more-is (took n text st) = refl
+  more-is (took g n text st) = refl
   more-is (ended text) = refl
   more-is wants = refl
 
   wants-is : (t : Turn) → windowBy w (fedOf t) .wants ≡ asks t
-  wants-is (took n text st) = refl
+  wants-is (took g n text st) = refl
   wants-is (ended text) = refl
   wants-is wants = refl
 
   size-is : (t : Turn) → length (bufferBy w buf (fedOf t)) ≡ length buf
-  size-is (took n text st) = refl
+  size-is (took g n text st) = refl
   size-is (ended text) = refl
   size-is wants = length-sets buf 0 (pending w buf)
 
   pending-is : (t : Turn) → pending (windowBy w (fedOf t)) (bufferBy w buf (fedOf t)) ≡ drop (taken t) (pending w buf)
-  pending-is (took n text st) = part-taken (w .at) (w .end) buf (i .low) (i .high) n
+  pending-is (took g n text st) = part-taken (w .at) (w .end) buf (i .low) (i .high) n
   pending-is (ended text) = refl
   pending-is wants = part-moved (w .at) (w .end) buf (i .low) (i .high)
 

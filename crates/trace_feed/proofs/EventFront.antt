@@ -15,8 +15,12 @@ use Rattle.index.proofs.Flags.{by-test, cond-case}
 use Rattle.varint.specs.Groups.{readAt}
 use Rattle.varint.specs.declared.Read.{Read}
 use Rattle.varint.specs.declared.Read.the-variants.{Number, Bad}
-use Rattle.trace_events.specs.Reading.{Numbers, numbers, broken, more, numberThen, numbersFrom, cutShort, arities, arity, callOf, Event}
-use Rattle.trace_events.specs.Reading.{event, unknown, malformed, short, unread, nameMost, named, ofNumbers, ofKind, eventAt}
+use Rattle.records.specs.Records.{slotCount}
+use Rattle.trace_events.specs.declared.Edition.{Edition}
+use Rattle.trace_events.specs.declared.Edition.the-variants.{First, Second}
+use Rattle.trace_events.specs.Reading.{orderSize, Numbers, numbers, broken, more, numberThen, numbersFrom, cutShort, arities, arity, callOf}
+use Rattle.trace_events.specs.Reading.{Event, event, unknown, malformed, short, unread, nameMost, named, ordered, ofNumbers, ofKind}
+use Rattle.trace_events.specs.Reading.{eventAt}
 use Rattle.trace_events.proofs.ReadingLaws.{arity-most}
 use Rattle.trace_feed.proofs.ReadFront.{most, cut-few, cut-bad, read-stays, cut-stays, read-within, read-near}
 
@@ -114,40 +118,61 @@ module _ (w r : List ℕ) where
       (λ i. let f : true ≡ false = rw (t, i) at h in absurd (false≢true (sym f))))
       (λ t. rw t)
 
-  numbers-of : (kind : ℕ) (p : Numbers) → isShort (ofNumbers w kind p) ≡ false → ofNumbers (w ++ r) kind p ≡ ofNumbers w kind p
+  order-of : (us : List ℕ) (p : Numbers) → isShort (ordered w us p) ≡ false → ordered (w ++ r) us p ≡ ordered w us p
+  order-of us (numbers order next) h = refl
+  order-of us (broken p) h = unread-stays p h
+
+  order-whole : (us : List ℕ) (p : Numbers) → isShort (ordered w us p) ≡ false → Whole w p
+  order-whole us (numbers order next) h = tt
+  order-whole us (broken p) h = unread-whole w p h
+
+  order-stays :
+      (us : List ℕ) (n next : ℕ) →
+      isShort (ordered w us (numbersFrom n w next)) ≡ false →
+      ordered (w ++ r) us (numbersFrom n (w ++ r) next) ≡ ordered w us (numbersFrom n w next)
+  order-stays us n next h =
+      ap (ordered (w ++ r) us) (numbers-stay w r n next (order-whole us (numbersFrom n w next) h))
+      ∙ order-of us (numbersFrom n w next) h
+
+  of-whole : (g : Edition) (kind : ℕ) (p : Numbers) → isShort (ofNumbers g w kind p) ≡ false → Whole w p
+  of-whole g kind (numbers us next) h = tt
+  of-whole g kind (broken p) h = unread-whole w p h
+
+-- in every edition
+module _ (g : Edition) (w r : List ℕ) where
+  numbers-of : (kind : ℕ) (p : Numbers) → isShort (ofNumbers g w kind p) ≡ false → ofNumbers g (w ++ r) kind p ≡ ofNumbers g w kind p
   numbers-of kind (numbers us next) h =
-      by-test (ofNumbers (w ++ r) kind (numbers us next) ≡ ofNumbers w kind (numbers us next)) (eqb kind 1)
-      (λ t. rw t (named-stays us next (rw t at h)))
-      (λ t. rw t)
-  numbers-of kind (broken p) h = unread-stays p h
+      by-test (ofNumbers g (w ++ r) kind (numbers us next) ≡ ofNumbers g w kind (numbers us next)) (eqb kind 1)
+      (λ t. rw t (named-stays w r us next (rw t at h)))
+      (λ t.
+      by-test (ofNumbers g (w ++ r) kind (numbers us next) ≡ ofNumbers g w kind (numbers us next)) (eqb kind 11)
+      (λ k. rw (t, k) (order-stays w r us (orderSize g) next (rw (t, k) at h)))
+      (λ k. rw (t, k)))
+  numbers-of kind (broken p) h = unread-stays w r p h
 
-  of-whole : (kind : ℕ) (p : Numbers) → isShort (ofNumbers w kind p) ≡ false → Whole w p
-  of-whole kind (numbers us next) h = tt
-  of-whole kind (broken p) h = unread-whole w p h
-
-  kind-stays : (at : ℕ) (q : Read) → isShort (ofKind w at q) ≡ false → ofKind (w ++ r) at q ≡ ofKind w at q
-  kind-stays at Bad h = unread-stays at h
+  kind-stays : (at : ℕ) (q : Read) → isShort (ofKind g w at q) ≡ false → ofKind g (w ++ r) at q ≡ ofKind g w at q
+  kind-stays at Bad h = unread-stays w r at h
   kind-stays at (Number kind next) h =
-      by-test (ofKind (w ++ r) at (Number kind next) ≡ ofKind w at (Number kind next)) (eqb (arity kind) 0)
+      by-test (ofKind g (w ++ r) at (Number kind next) ≡ ofKind g w at (Number kind next)) (eqb (arity kind) 0)
       (λ t. rw t)
       (λ t.
       let n : Numbers = numbersFrom (arity kind) w next in
-      let f : isShort (ofNumbers w kind n) ≡ false = rw t at h in
-      rw t (ap (ofNumbers (w ++ r) kind) (numbers-stay w r (arity kind) next (of-whole kind n f)) ∙ numbers-of kind n f))
+      let f : isShort (ofNumbers g w kind n) ≡ false = rw t at h in
+      rw t (ap (ofNumbers g (w ++ r) kind) (numbers-stay w r (arity kind) next (of-whole w r g kind n f)) ∙ numbers-of kind n f))
 
-  pub event-stays : (at : ℕ) → isShort (eventAt w at) ≡ false → eventAt (w ++ r) at ≡ eventAt w at
+  pub event-stays : (at : ℕ) → isShort (eventAt g w at) ≡ false → eventAt g (w ++ r) at ≡ eventAt g w at
   unfolding eventAt
   event-stays at h =
-      by-test (eventAt (w ++ r) at ≡ eventAt w at) (cutShort w at)
+      by-test (eventAt g (w ++ r) at ≡ eventAt g w at) (cutShort w at)
       (λ t.
       let f : isShort (unread w at) ≡ false = rw (cut-bad w at t most) at h in
       absurd (false≢true (sym (unread-whole w at f) ∙ t)))
       (λ t. rw (read-stays w at r t) (kind-stays at (readAt most w at) h))
 
 -- ---- where an event ends: within the bytes; and one that is not whole has few
--- 68 numbers of ten bytes and nine of one more, or six numbers and a name of 64
+-- 260 numbers of ten bytes and nine of one more, or six numbers and a name of 64
 abbrev pub eventRoom : ℕ
-eventRoom = 690
+eventRoom = 2610
 
 abbrev pub Closes : ℕ → ℕ → Event → Type 0
 Closes len at (event c next) = next ≤ len
@@ -155,8 +180,12 @@ Closes len at unknown = Unit {0}
 Closes len at malformed = Unit {0}
 Closes len at short = len < at + eventRoom
 
-module _ (s : List ℕ) (at : ℕ) where
-  unread-closes : (p : ℕ) → p ≤ at + 680 → Closes (length s) at (unread s p)
+order-most : (g : Edition) → orderSize g ≤ slotCount
+order-most First = omega arith
+order-most Second = omega arith
+
+module _ (g : Edition) (s : List ℕ) (at : ℕ) where
+  unread-closes : (p : ℕ) → p ≤ at + 2600 → Closes (length s) at (unread s p)
   unread-closes p h =
       cond-case (Closes (length s) at) (cutShort s p) short malformed (λ e. let f = cut-few s p e in omega arith) (λ e. tt)
 
@@ -171,33 +200,46 @@ module _ (s : List ℕ) (at : ℕ) where
       (λ f. let j = leb-false (next + getD us 4 0) (length s) f in omega arith))
       (λ e. tt)
 
+  order-closes : (us : List ℕ) (p : Numbers) → Ends (length s) (at + 2600) p → Closes (length s) at (ordered s us p)
+  order-closes us (numbers order next) h = h .0
+  order-closes us (broken p) h = unread-closes p h
+
+  -- the permutation of a heartbeat begins behind four numbers
   numbers-close :
       (kind to : ℕ) (p : Numbers) →
-      (kind ≡ 1 → to ≤ at + 60) →
-      to ≤ at + 680 →
+      (kind ≡ 11 → to ≤ at + 40) →
+      to ≤ at + 60 →
       Ends (length s) to p →
-      Closes (length s) at (ofNumbers s kind p)
-  numbers-close kind to (numbers us next) one all h =
-      cond-case (Closes (length s) at) (eqb kind 1) (named s us next) (event (callOf kind us []) next)
-      (λ e. let i = one (eqb-true kind 1 e) in named-closes us next (omega (arith, h .1)))
-      (λ e. h .0)
-  numbers-close kind to (broken p) one all h = unread-closes p (omega arith)
+      Closes (length s) at (ofNumbers g s kind p)
+  numbers-close kind to (numbers us next) four all h =
+      cond-case (Closes (length s) at) (eqb kind 1) (named s us next) _
+      (λ e. named-closes us next (omega (arith, h .1)))
+      (λ e.
+      cond-case (Closes (length s) at) (eqb kind 11) (ordered s us (numbersFrom (orderSize g) s next)) (event (callOf kind us []) next)
+      (λ f.
+      let i = four (eqb-true kind 11 f) in
+      let m = order-most g in
+      order-closes us (numbersFrom (orderSize g) s next)
+      (ends-later (length s) (next + 10 * orderSize g) (at + 2600) (numbersFrom (orderSize g) s next) (omega (arith, h .1))
+      (numbers-end s (orderSize g) next (h .0))))
+      (λ f. h .0))
+  numbers-close kind to (broken p) four all h = unread-closes p (omega arith)
 
-  kind-closes : (q : Read) → readAt most s at ≡ q → Closes (length s) at (ofKind s at q)
+  kind-closes : (q : Read) → readAt most s at ≡ q → Closes (length s) at (ofKind g s at q)
   unfolding arity arities
   kind-closes Bad e = unread-closes at (omega arith)
   kind-closes (Number kind next) e =
       let i = read-within s at kind next e in
       let j = read-near s at kind next e in
       let k = arity-most kind in
-      cond-case (Closes (length s) at) (eqb (arity kind) 0) unknown (ofNumbers s kind (numbersFrom (arity kind) s next))
+      cond-case (Closes (length s) at) (eqb (arity kind) 0) unknown (ofNumbers g s kind (numbersFrom (arity kind) s next))
       (λ t. tt)
       (λ t.
       numbers-close kind (next + 10 * arity kind) (numbersFrom (arity kind) s next)
-      (λ o. let a : arity kind ≡ 5 = rw o in omega arith)
+      (λ o. let a : arity kind ≡ 3 = rw o in omega arith)
       (omega arith)
       (numbers-end s (arity kind) next i))
 
-  pub event-closes : Closes (length s) at (eventAt s at)
+  pub event-closes : Closes (length s) at (eventAt g s at)
   unfolding eventAt
   event-closes = kind-closes (readAt most s at) refl

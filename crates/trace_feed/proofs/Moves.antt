@@ -10,7 +10,7 @@ use borrow.Rule.Slice.PartMut.{midOf, putMid, same-len-mid, take-put}
 use lib.ListN.{length, take, drop, length-drop}
 use lib.Seq.{length-take-le}
 use Rattle.index.proofs.Flags.{by-test}
-use Rattle.trace_step.specs.Replay.{lineRoom}
+use Rattle.trace_events.specs.Lines.{lineRoom}
 use Rattle.trace_feed.specs.declared.Window.{Window}
 use Rattle.trace_feed.specs.Turns.{Inside, Refills, filledBy, startWindow, frontRoom, Turns}
 use Rattle.trace_feed.specs.Cuts.{Ran}

@@ -7,7 +7,7 @@ use mathlib.Core.List.{List, [], _++_}
 use lib.ListN.{length, take, drop}
 use Rattle.records.specs.Records.{State}
 use Rattle.layout.specs.View.{stateOf}
-use Rattle.trace_step.specs.Replay.{lineRoom}
+use Rattle.trace_events.specs.Lines.{lineRoom}
 use Rattle.trace_feed.specs.declared.Stage.{Stage}
 use Rattle.trace_feed.specs.declared.Stage.the-variants.{Params, Events, Over}
 use Rattle.trace_feed.specs.declared.Window.{Window}
@@ -17,7 +17,7 @@ use Rattle.trace_feed.specs.Turns.{turnOf, taken, textOf, leftBy, stageB
 -- what the program prints of the bytes that are not done with, from where it stands
 abbrev pub textAfter : Stage → State → List ℕ → List ℕ
 textAfter Params st s = printedOf s
-textAfter Events st s = eventsText st s
+textAfter (Events e) st s = eventsText e st s
 textAfter Over st s = []
 
 -- one turn on a window, whatever comes behind it: what it prints, and then what the rest prints from where it stands after it

@@ -1,3 +1,4 @@
+pub mod Front
 pub mod Printed
 pub mod Turns
 pub mod Cuts

@@ -1,4 +1,5 @@
--- What the trace program prints for a whole input (01, "The trace program"): "sheet (147 numbers), then events".
+-- What the trace program prints for a whole input (01, "The trace program"): "sheet (147 numbers), then events", behind the front of its
+-- edition.
 use Prim.Native.Nat.{ℕ, zero, suc}
 use mathlib.Core.List.{List, [], _∷_, _++_}
 use lib.ListN.{length, drop}
@@ -6,11 +7,15 @@ use Rattle.records.specs.Records.{State}
 use Rattle.params.specs.declared.Params.{Params}
 use Rattle.params_bytes.specs.declared.Verdict.{Verdict}
 use Rattle.params_bytes.specs.declared.Verdict.the-variants.{Accepted, Malformed, Broken}
-use Rattle.params_bytes.specs.Read.{frontOf}
+use Rattle.params_bytes.specs.Read.{frontAt}
 use Rattle.lookup.specs.Fresh.{freshState}
 use Rattle.rules.specs.Step.{step, actionRoom}
+use Rattle.trace_events.specs.declared.Edition.{Edition}
 use Rattle.trace_events.specs.Reading.{Event, event, unknown, malformed, short, eventAt}
 use Rattle.trace_events.specs.Lines.{pairLine, linesOf}
+use Rattle.trace_feed.specs.declared.Front.{Front}
+use Rattle.trace_feed.specs.declared.Front.the-variants.{Begins, Other, Cut}
+use Rattle.trace_feed.specs.Front.{frontIn}
 
 -- ---- the events
 -- "Output: answer and action count, then one line an action or score. [..] bad bytes or a name-length over 64 print 10 0, an unknown kind 2
@@ -28,20 +33,27 @@ unlessEnd [] text = []
 unlessEnd (b ∷ s) text = text
 
 -- of at most n events from a state on
-unfoldable pub textFrom : ℕ → State → List ℕ → List ℕ
-textFrom zero st s = []
-textFrom (suc n) st s = unlessEnd s (eventText (λ left next. textFrom n left (drop next s)) st (eventAt s 0))
+unfoldable pub textFrom : Edition → ℕ → State → List ℕ → List ℕ
+textFrom e zero st s = []
+textFrom e (suc n) st s = unlessEnd s (eventText (λ left next. textFrom e n left (drop next s)) st (eventAt e s 0))
 
 -- of all events: each takes a byte at least
-unfoldable pub eventsText : State → List ℕ → List ℕ
-eventsText st s = textFrom (length s) st s
+unfoldable pub eventsText : Edition → State → List ℕ → List ℕ
+eventsText e st s = textFrom e (length s) st s
 
 -- ---- the parameters before them
 -- "A bad sheet prints its number and place and stops"
-abbrev pub textBy : List ℕ → Params → Verdict → List ℕ
-textBy s params (Accepted next) = eventsText (freshState params) (drop next s)
-textBy s params (Malformed place) = pairLine 10 place
-textBy s params (Broken i) = pairLine 9 i
+abbrev pub textBy : Edition → List ℕ → Params → Verdict → List ℕ
+textBy e s params (Accepted next) = eventsText e (freshState params) (drop next s)
+textBy e s params (Malformed place) = pairLine 10 place
+textBy e s params (Broken i) = pairLine 9 i
+
+-- ---- the front before these
+-- "another third byte: 9 2, and stop"; an input that ends with the two zero bytes is cut short there
+abbrev pub textBehind : List ℕ → Front → List ℕ
+textBehind s (Begins e at) = textBy e s (frontAt s at .params) (frontAt s at .verdict)
+textBehind s Other = pairLine 9 2
+textBehind s Cut = pairLine 10 2
 
 unfoldable pub printedOf : List ℕ → List ℕ
-printedOf s = textBy s (frontOf s .params) (frontOf s .verdict)
+printedOf s = textBehind s (frontIn s)

@@ -11,13 +11,16 @@ use Rattle.records.specs.Records.{State}
 use Rattle.params.specs.declared.Params.{Params as Parameters}
 use Rattle.params_bytes.specs.declared.Verdict.{Verdict}
 use Rattle.params_bytes.specs.declared.Verdict.the-variants.{Accepted, Malformed, Broken}
-use Rattle.params_bytes.specs.Read.{frontOf}
+use Rattle.params_bytes.specs.Read.{frontAt}
 use Rattle.layout.specs.View.{stateOf}
 use Rattle.lookup.specs.Fresh.{freshState}
 use Rattle.rules.specs.Step.{step, actionRoom}
+use Rattle.trace_events.specs.declared.Edition.{Edition}
 use Rattle.trace_events.specs.Reading.{Event, event, unknown, malformed, short, cutShort, eventAt}
-use Rattle.trace_events.specs.Lines.{pairLine, linesOf}
-use Rattle.trace_step.specs.Replay.{lineRoom}
+use Rattle.trace_events.specs.Lines.{pairLine, linesOf, lineRoom}
+use Rattle.trace_feed.specs.declared.Front.{Front}
+use Rattle.trace_feed.specs.declared.Front.the-variants.{Begins, Other, Cut}
+use Rattle.trace_feed.specs.Front.{frontIn}
 use Rattle.trace_feed.specs.declared.Stage.{Stage}
 use Rattle.trace_feed.specs.declared.Stage.the-variants.{Params, Events, Over}
 use Rattle.trace_feed.specs.declared.Fed.{Fed}
@@ -26,58 +29,72 @@ use Rattle.trace_feed.specs.declared.Window.{Window}
 
 -- ---- what a turn comes to
 pub data Turn : Type 0 where
-  -- the first bytes are done with: how many, what they print, and the state that they leave
-  took : ℕ → List ℕ → State → Turn
+  -- the first bytes are done with: the edition of the events that follow, how many bytes, what they print, and the state that they leave
+  took : Edition → ℕ → List ℕ → State → Turn
   -- the trace is over, after this text
   ended : List ℕ → Turn
   -- what stands at the front is not whole: nothing is done before more bytes are there
   wants : Turn
 
-abbrev pub eventTurn : Bool → State → Event → Turn
-eventTurn last st (event c next) = took next (linesOf (step st c actionRoom)) (step st c actionRoom .state)
-eventTurn last st unknown = ended (pairLine 2 0)
-eventTurn last st malformed = ended (pairLine 10 0)
-eventTurn last st short = cond last (ended (pairLine 10 0)) wants
+-- of bytes that the input may end with
+abbrev pub cutTurn : Bool → List ℕ → Turn
+cutTurn last text = cond last (ended text) wants
 
-unfoldable pub eventsTurn : Bool → State → List ℕ → Turn
-eventsTurn last st s = cond (last && eqb (length s) 0) (ended []) (eventTurn last st (eventAt s 0))
+abbrev pub eventTurn : Edition → Bool → State → Event → Turn
+eventTurn e last st (event c next) = took e next (linesOf (step st c actionRoom)) (step st c actionRoom .state)
+eventTurn e last st unknown = ended (pairLine 2 0)
+eventTurn e last st malformed = ended (pairLine 10 0)
+eventTurn e last st short = cutTurn last (pairLine 10 0)
 
-abbrev pub paramsBy : Bool → List ℕ → Parameters → Verdict → Turn
-paramsBy last s params (Accepted next) = took next [] (freshState params)
-paramsBy last s params (Malformed place) = cond (not last && cutShort s place) wants (ended (pairLine 10 place))
-paramsBy last s params (Broken i) = ended (pairLine 9 i)
+unfoldable pub eventsTurn : Edition → Bool → State → List ℕ → Turn
+eventsTurn e last st s = cond (last && eqb (length s) 0) (ended []) (eventTurn e last st (eventAt e s 0))
 
-unfoldable pub paramsTurn : Bool → List ℕ → Turn
-paramsTurn last s = paramsBy last s (frontOf s .params) (frontOf s .verdict)
+abbrev pub paramsBy : Edition → Bool → List ℕ → Parameters → Verdict → Turn
+paramsBy e last s params (Accepted next) = took e next [] (freshState params)
+paramsBy e last s params (Malformed place) = cond (not last && cutShort s place) wants (ended (pairLine 10 place))
+paramsBy e last s params (Broken i) = ended (pairLine 9 i)
+
+-- the parameters at a place
+unfoldable pub paramsTurn : Edition → ℕ → Bool → List ℕ → Turn
+paramsTurn e at last s = paramsBy e last s (frontAt s at .params) (frontAt s at .verdict)
+
+abbrev pub frontBy : Bool → List ℕ → Front → Turn
+frontBy last s (Begins e at) = paramsTurn e at last s
+frontBy last s Other = ended (pairLine 9 2)
+frontBy last s Cut = cutTurn last (pairLine 10 2)
+
+-- the front of the trace, and the parameters behind it
+unfoldable pub frontTurn : Bool → List ℕ → Turn
+frontTurn last s = frontBy last s (frontIn s)
 
 abbrev pub turnOf : Stage → Bool → State → List ℕ → Turn
-turnOf Params last st s = paramsTurn last s
-turnOf Events last st s = eventsTurn last st s
+turnOf Params last st s = frontTurn last s
+turnOf (Events e) last st s = eventsTurn e last st s
 turnOf Over last st s = ended []
 
 -- ---- its parts
 abbrev pub fedOf : Turn → Fed
-fedOf (took n text st) = Took n (length text)
+fedOf (took e n text st) = Took e n (length text)
 fedOf (ended text) = Ended (length text)
 fedOf wants = Wants
 
 abbrev pub taken : Turn → ℕ
-taken (took n text st) = n
+taken (took e n text st) = n
 taken (ended text) = 0
 taken wants = 0
 
 abbrev pub textOf : Turn → List ℕ
-textOf (took n text st) = text
+textOf (took e n text st) = text
 textOf (ended text) = text
 textOf wants = []
 
 abbrev pub leftBy : State → Turn → State
-leftBy st (took n text left) = left
+leftBy st (took e n text left) = left
 leftBy st (ended text) = st
 leftBy st wants = st
 
 abbrev pub stageBy : Stage → Turn → Stage
-stageBy stage (took n text st) = Events
+stageBy stage (took e n text st) = Events e
 stageBy stage (ended text) = Over
 stageBy stage wants = stage
 
@@ -99,12 +116,12 @@ pub record Inside (w : Window) (buf : List ℕ) : Type 0 where
 
 -- the window after a turn: where more bytes are wanted, those that are there stand at the buffer's front
 abbrev pub windowBy : Window → Fed → Window
-windowBy w (Took n k) = record { at = w .at + n; end = w .end; more = w .more; wants = false; stage = Events; written = k }
+windowBy w (Took e n k) = record { at = w .at + n; end = w .end; more = w .more; wants = false; stage = Events e; written = k }
 windowBy w (Ended k) = record { at = w .at; end = w .end; more = w .more; wants = false; stage = Over; written = k }
 windowBy w Wants = record { at = 0; end = w .end - w .at; more = w .more; wants = true; stage = w .stage; written = 0 }
 
 abbrev pub bufferBy : Window → List ℕ → Fed → List ℕ
-bufferBy w buf (Took n k) = buf
+bufferBy w buf (Took e n k) = buf
 bufferBy w buf (Ended k) = buf
 bufferBy w buf Wants = sets buf 0 (pending w buf)
 
@@ -129,9 +146,10 @@ pub record Refills (w w′ : Window) (buf buf′ : List ℕ) : Type 0 where
 abbrev pub startWindow : Window
 startWindow = record { at = 0; end = 0; more = true; wants = false; stage = Params; written = 0 }
 
--- how many bytes can be there and still not be whole: 147 numbers of ten bytes, and a last one of nine
+-- how many bytes can be there and still not be whole: of a heartbeat, its kind, three numbers and all of its permutation but the last, of
+-- ten bytes each, and nine of that
 abbrev pub frontRoom : ℕ
-frontRoom = 1482
+frontRoom = 2610
 
 -- ---- what `turn` promises
 abbrev pub turnIn : Window → List ℕ → List ℕ → Turn

@@ -6,28 +6,40 @@ ghost use mathlib.Core.Path.{_≡_};
 ghost use lib.ListN.{length, take, drop};
 ghost use lib.Seq.{sets};
 ghost use Rattle.layout.specs.View.{stateOf};
-ghost use Rattle.trace_step.specs.Replay.{lineRoom};
-ghost use Rattle.trace_feed.specs.Turns.{paramsTurn, eventsTurn, turnOf, Feeds, Inside, filledBy, startWindow, Turns};
+ghost use Rattle.trace_events.specs.Lines.{lineRoom};
+ghost use Rattle.trace_feed.specs.Front.{ofThird, frontIn};
+ghost use Rattle.trace_feed.specs.Turns.{paramsTurn, frontTurn, eventsTurn, turnOf, Feeds, Inside, filledBy, startWindow, Turns};
 use layout::CELLS;
 use params_bytes::Verdict;
+use trace_events::Edition;
 use trace_events::lines::put_pair;
 use trace_events::reading::cut_short;
 use trace_step::Replayed;
 
+// The front of a trace.
+enum Front {
+    // its edition, and where its parameters begin
+    Begins(Edition, usize),
+    // the third byte is no edition's number
+    Other,
+    // there is no third byte
+    Cut,
+}
+
 // What is to be read next.
 pub enum Stage {
-    // the parameters
+    // the front and the parameters
     Params,
-    // events
-    Events,
+    // events of an edition
+    Events(Edition),
     // nothing: the trace has ended
     Over,
 }
 
 // What became of the bytes that are there.
 pub enum Fed {
-    // the first are done with: how many, and how many bytes were printed
-    Took(usize, usize),
+    // the first are done with: the edition of the events that follow, how many, and how many bytes were printed
+    Took(Edition, usize, usize),
     // the trace is over: how many bytes were printed
     Ended(usize),
     // more bytes are wanted
@@ -45,18 +57,52 @@ pub struct Window {
     pub written: usize,
 }
 
-// The parameters, at the front of the input.
-fn feed_params(table: &mut [u64; CELLS], s: &[u8], last: bool, out: &mut [u8]) -> Fed
-    requires { ⌜ lineRoom ≤ length (now out) ⌝ }
-    ensures { λ r. ⌜
-        Feeds (paramsTurn last (now (s .entry))) r (now (table .entry)) (now (table .exit)) (now (out .entry)) (now (out .exit)) ⌝ }
+// The edition that a third byte says.
+fn of_third(b: u8) -> Front
+    ensures { λ r. ⌜ r ≡ ofThird b ⌝ }
 {
-    let reading = params_bytes::read_front(s);
+    if b == 2 {
+        return Front::Begins(Edition::Second, 3);
+    }
+    Front::Other
+}
+
+// The edition of the bytes, and where the parameters begin.
+fn front_in(s: &[u8]) -> Front
+    ensures { λ r. ⌜ r ≡ frontIn (now (s .entry)) ⌝ }
+{
+    if s.len() < 2 {
+        return Front::Begins(Edition::First, 0);
+    }
+    if !((s[0] == 0) & (s[1] == 0)) {
+        return Front::Begins(Edition::First, 0);
+    }
+    if s.len() == 2 {
+        return Front::Cut;
+    }
+    of_third(s[2])
+}
+
+// The parameters, at a place of the input.
+fn feed_params(
+    table: &mut [u64; CELLS],
+    edition: Edition,
+    s: &[u8],
+    at: usize,
+    last: bool,
+    out: &mut [u8],
+) -> Fed
+    requires { ⌜ (lineRoom ≤ length (now out)) × (at ≤ length (now s)) ⌝ }
+    ensures { λ r. ⌜
+        Feeds (paramsTurn edition at last (now (s .entry))) r (now (table .entry)) (now (table .exit)) (now (out .entry))
+        (now (out .exit)) ⌝ }
+{
+    let reading = params_bytes::read_front(s, at);
     let verdict = reading.verdict;
     match verdict {
         Verdict::Accepted(next) => {
             router::fresh(reading.params, table);
-            Fed::Took(next, 0)
+            Fed::Took(edition, next, 0)
         }
         Verdict::Malformed(place) => {
             if !last & cut_short(s, place) {
@@ -68,19 +114,44 @@ fn feed_params(table: &mut [u64; CELLS], s: &[u8], last: bool, out: &mut [u8]) -
     }
 }
 
-// One event.
-fn feed_events(table: &mut [u64; CELLS], s: &[u8], last: bool, out: &mut [u8]) -> Fed
+// The front of the trace, and the parameters behind it.
+fn feed_front(table: &mut [u64; CELLS], s: &[u8], last: bool, out: &mut [u8]) -> Fed
     requires { ⌜ lineRoom ≤ length (now out) ⌝ }
     ensures { λ r. ⌜
-        Feeds (eventsTurn last (stateOf (now (table .entry))) (now (s .entry))) r (now (table .entry)) (now (table .exit))
+        Feeds (frontTurn last (now (s .entry))) r (now (table .entry)) (now (table .exit)) (now (out .entry)) (now (out .exit)) ⌝ }
+{
+    let front = front_in(s);
+    match front {
+        Front::Begins(edition, at) => feed_params(table, edition, s, at, last, out),
+        Front::Other => Fed::Ended(put_pair(out, 0, 9, 2)),
+        Front::Cut => {
+            if last {
+                return Fed::Ended(put_pair(out, 0, 10, 2));
+            }
+            Fed::Wants
+        }
+    }
+}
+
+// One event.
+fn feed_events(
+    table: &mut [u64; CELLS],
+    edition: Edition,
+    s: &[u8],
+    last: bool,
+    out: &mut [u8],
+) -> Fed
+    requires { ⌜ lineRoom ≤ length (now out) ⌝ }
+    ensures { λ r. ⌜
+        Feeds (eventsTurn edition last (stateOf (now (table .entry))) (now (s .entry))) r (now (table .entry)) (now (table .exit))
         (now (out .entry)) (now (out .exit)) ⌝ }
 {
     if last & (s.len() == 0) {
         return Fed::Ended(0);
     }
-    let done = trace_step::replay(table, s, 0, out);
+    let done = trace_step::replay(table, edition, s, 0, out);
     match done {
-        Replayed::Called(next, n) => Fed::Took(next, n),
+        Replayed::Called(next, n) => Fed::Took(edition, next, n),
         Replayed::Stopped(n) => Fed::Ended(n),
         Replayed::Short => {
             if last {
@@ -100,8 +171,8 @@ pub fn feed(table: &mut [u64; CELLS], stage: Stage, s: &[u8], last: bool, out: &
         (now (out .entry)) (now (out .exit)) ⌝ }
 {
     match stage {
-        Stage::Params => feed_params(table, s, last, out),
-        Stage::Events => feed_events(table, s, last, out),
+        Stage::Params => feed_front(table, s, last, out),
+        Stage::Events(edition) => feed_events(table, edition, s, last, out),
         Stage::Over => Fed::Ended(0),
     }
 }
@@ -163,12 +234,12 @@ pub fn turn(table: &mut [u64; CELLS], buf: &mut [u8], w: Window, out: &mut [u8])
     let stage = w.stage;
     let fed = feed(table, stage, &buf[at..end], !more, out);
     match fed {
-        Fed::Took(n, written) => Window {
+        Fed::Took(edition, n, written) => Window {
             at: at + n,
             end,
             more,
             wants: false,
-            stage: Stage::Events,
+            stage: Stage::Events(edition),
             written,
         },
         Fed::Ended(written) => Window {

@@ -30,6 +30,7 @@ use Rattle.lookup.specs.declared.Made.the-variants.{Done, Broken}
 use Rattle.lookup.specs.Fresh.{freshState, madeOf, leftBy, Makes}
 use Rattle.rules.specs.declared.Answer.{Answer}
 use Rattle.rules.specs.Step.{step}
+use Rattle.trace_events.specs.declared.Edition.{Edition}
 use Rattle.trace_events.specs.Reading.{Event, event, unknown, malformed, short, cutShort, eventAt}
 use Rattle.trace_events.proofs.EventLaws.{Behind, event-behind}
 use Rattle.call_lists.specs.Lists.{Made, after}
@@ -72,53 +73,53 @@ actions-length params (c ∷ before) list =
 
 -- ---- the loop: the calls made so far, which the events from `at` on complete to the whole list. list₀ and told₀ are what stood in the
 -- lists that were lent
-pub record Going (params : Params) (s list₀ told₀ : List ℕ) (at calls : ℕ) (table list told : List ℕ) : Type 0 where
+pub record Going (d : Edition) (params : Params) (s list₀ told₀ : List ℕ) (at calls : ℕ) (table list told : List ℕ) : Type 0 where
   pub before : List Made
   pub many : length before ≡ calls
-  pub rest : callsFrom (length list₀) (length told₀ - calls) s at before ≡ recordingOf (length list₀) (length told₀) s
+  pub rest : callsFrom d (length list₀) (length told₀ - calls) s at before ≡ recordingOf d (length list₀) (length told₀) s
   pub state : stateOf table ≡ after params before
   pub actions : list ≡ actionsAfter params before list₀
   pub answers : told ≡ sets told₀ 0 (answersTo params before)
 
 pub going-none :
-    (params : Params) (s table list told : List ℕ) → stateOf table ≡ freshState params → Going params s list told 0 0 table list told
+    (d : Edition) (params : Params) (s table list told : List ℕ) → stateOf table ≡ freshState params → Going d params s list told 0 0 table list told
 unfolding recordingOf after actionsAfter answersTo
-going-none params s table list told e =
+going-none d params s table list told e =
     let z : length told - 0 ≡ length told = omega arith in
     record { before = []; many = refl; rest = rw z; state = e; actions = refl; answers = refl }
 
 -- one event of at least one
 one-event :
-    (room m : ℕ) (s : List ℕ) (at : ℕ) (before : List Made) (x : Event) →
+    (d : Edition) (room m : ℕ) (s : List ℕ) (at : ℕ) (before : List Made) (x : Event) →
     0 < m →
-    eventAt s at ≡ x →
-    callsFrom room m s at before ≡ joins room (λ next calls. callsFrom room (m - 1) s next calls) at before x
+    eventAt d s at ≡ x →
+    callsFrom d room m s at before ≡ joins room (λ next calls. callsFrom d room (m - 1) s next calls) at before x
 unfolding callsFrom
-one-event room zero s at before x h e = absurd (omega arith)
-one-event room (suc m) s at before x h e = let f : suc m - 1 ≡ m = omega arith in rw (f, e)
+one-event d room zero s at before x h e = absurd (omega arith)
+one-event d room (suc m) s at before x h e = let f : suc m - 1 ≡ m = omega arith in rw (f, e)
 
-module _ (params : Params) (s list₀ told₀ : List ℕ) (at calls : ℕ) (table table′ list list′ told : List ℕ) (r : Performed)
-    (g : Going params s list₀ told₀ at calls table list told) (h : calls < length told₀)
-    (p : Performs (performEvent (stateOf table) (length list) (eventAt s at)) r table′ list list′) where
+module _ (d : Edition) (params : Params) (s list₀ told₀ : List ℕ) (at calls : ℕ) (table table′ list list′ told : List ℕ) (r : Performed)
+    (g : Going d params s list₀ told₀ at calls table list told) (h : calls < length told₀)
+    (p : Performs (performEvent (stateOf table) (length list) (eventAt d s at)) r table′ list list′) where
   room-is : length list ≡ length list₀
   room-is = ap length (g .actions) ∙ actions-length params (g .before) list₀
 
   module _ (next : ℕ) (a : Answer) (e : r ≡ Answered next a) where
-    pub going-more : (code : ℕ) → code ≡ answerCode a → Going params s list₀ told₀ next (calls + 1) table′ list′ (set told calls code)
+    pub going-more : (code : ℕ) → code ≡ answerCode a → Going d params s list₀ told₀ next (calls + 1) table′ list′ (set told calls code)
     unfolding performEvent after actionsAfter
     going-more code f =
-        let t = told-event (stateOf table) (length list) (eventAt s at) (Answered next a) (sym e ∙ p .answer) in
+        let t = told-event (stateOf table) (length list) (eventAt d s at) (Answered next a) (sym e ∙ p .answer) in
         let made : Made = record { call = t .0; room = length list₀ } in
         let o : step (stateOf table) (t .0) (length list) ≡ replyTo params (g .before) made =
         ap₂ (λ (st : State) (room : ℕ). step st (t .0) room) (g .state) room-is in
         let k : length told₀ - calls - 1 ≡ length told₀ - (calls + 1) = omega arith in
-        let q : callsFrom (length list₀) (length told₀ - calls) s at (g .before)
-        ≡ callsFrom (length list₀) (length told₀ - calls - 1) s next (made ∷ g .before) =
-        one-event (length list₀) (length told₀ - calls) s at (g .before) (event (t .0) next) (omega arith) (t .1) in
+        let q : callsFrom d (length list₀) (length told₀ - calls) s at (g .before)
+        ≡ callsFrom d (length list₀) (length told₀ - calls - 1) s next (made ∷ g .before) =
+        one-event d (length list₀) (length told₀ - calls) s at (g .before) (event (t .0) next) (omega arith) (t .1) in
         record {
           before = made ∷ g .before;
           many = omega (arith, g .many);
-          rest = ap (λ (m : ℕ). callsFrom (length list₀) m s next (made ∷ g .before)) (sym k) ∙ sym q ∙ g .rest;
+          rest = ap (λ (m : ℕ). callsFrom d (length list₀) m s next (made ∷ g .before)) (sym k) ∙ sym q ∙ g .rest;
           state = p .state ∙ ap (λ (x : Event). performEvent (stateOf table) (length list) x .state) (t .1)
               ∙ ap (λ (y : Reply). y .state) o;
           actions =
@@ -165,9 +166,9 @@ leaves-all st room unknown e = (refl, refl)
 leaves-all st room malformed e = (refl, refl)
 leaves-all st room short e = (refl, refl)
 
-module _ (params : Params) (s list₀ told₀ : List ℕ) (l : length (params .numbers) ≡ paramCount) where
+module _ (d : Edition) (params : Params) (s list₀ told₀ : List ℕ) (l : length (params .numbers) ≡ paramCount) where
   abbrev whole : Recording
-  whole = recordingOf (length list₀) (length told₀) s
+  whole = recordingOf d (length list₀) (length told₀) s
 
   -- demand 3 of the list, for parameters that pass the check
   holds : firstBroken params ≡ Nothing → Holds params (whole .calls)
@@ -175,13 +176,13 @@ module _ (params : Params) (s list₀ told₀ : List ℕ) (l : length (params .n
 
   -- the calls made are all
   module _ (at calls : ℕ) (start table list told : List ℕ) (n : firstBroken params ≡ Nothing)
-      (g : Going params s list₀ told₀ at calls table list told) where
+      (g : Going d params s list₀ told₀ at calls table list told) where
     ran :
         (table′ list′ : List ℕ) →
-        callsFrom (length list₀) (length told₀ - calls) s at (g .before) ≡ record { calls = g .before; place = at } →
+        callsFrom d (length list₀) (length told₀ - calls) s at (g .before) ≡ record { calls = g .before; place = at } →
         stateOf table′ ≡ stateOf table →
         list′ ≡ list →
-        Runs params s (Ran at calls) start table′ list₀ list′ told₀ told
+        Runs d params s (Ran at calls) start table′ list₀ list′ told₀ told
     ran table′ list′ e k same =
         let q : whole ≡ record { calls = g .before; place = at } = sym (g .rest) ∙ e in
         record {
@@ -194,36 +195,36 @@ module _ (params : Params) (s list₀ told₀ : List ℕ) (l : length (params .n
         }
 
     -- as many calls as there is room for
-    pub ran-all : length told₀ ≤ calls → Runs params s (Ran at calls) start table list₀ list told₀ told
+    pub ran-all : length told₀ ≤ calls → Runs d params s (Ran at calls) start table list₀ list told₀ told
     unfolding callsFrom
     ran-all h = let z : length told₀ - calls ≡ 0 = omega arith in ran table list (rw z) refl refl
 
     pub ran-stopped :
         (table′ list′ : List ℕ) (r : Performed) →
         calls < length told₀ →
-        Performs (performEvent (stateOf table) (length list) (eventAt s at)) r table′ list list′ →
+        Performs (performEvent (stateOf table) (length list) (eventAt d s at)) r table′ list list′ →
         OneOf (1 ∷ 2 ∷ 3 ∷ []) (tagOf the-type r) →
-        Runs params s (Ran at calls) start table′ list₀ list′ told₀ told
+        Runs d params s (Ran at calls) start table′ list₀ list′ told₀ told
     unfolding numbersOf
     ran-stopped table′ list′ r h p o =
-        let t = told-event (stateOf table) (length list) (eventAt s at) r (p .answer) in
-        let f = no-event (stateOf table) (length list) (eventAt s at) r o t in
-        let x = leaves-all (stateOf table) (length list) (eventAt s at) f in
+        let t = told-event (stateOf table) (length list) (eventAt d s at) r (p .answer) in
+        let f = no-event (stateOf table) (length list) (eventAt d s at) r o t in
+        let x = leaves-all (stateOf table) (length list) (eventAt d s at) f in
         ran table′ list′
-        (one-event (length list₀) (length told₀ - calls) s at (g .before) (eventAt s at) (omega arith) refl
-        ∙ ends-there (length list₀) (λ next made. callsFrom (length list₀) (length told₀ - calls - 1) s next made) at (g .before)
-        (eventAt s at) f)
+        (one-event d (length list₀) (length told₀ - calls) s at (g .before) (eventAt d s at) (omega arith) refl
+        ∙ ends-there (length list₀) (λ next made. callsFrom d (length list₀) (length told₀ - calls - 1) s next made) at (g .before)
+        (eventAt d s at) f)
         (p .state ∙ x .0)
         (p .actions ∙ ap (λ (m : List Action). sets list 0 (numbersOf m)) (x .1))
 
 -- the answer of `fresh` tells whether the parameters pass
 passes : (f : Found) (r : Fresh) → r ≡ madeOf f → r ≡ Done → f ≡ Nothing
-passes (At i) r e d = let z : _≡_ {A = ℕ} 0 1 = cc in absurd (omega arith)
-passes Nothing r e d = refl
+passes (At i) r e g = let z : _≡_ {A = ℕ} 0 1 = cc in absurd (omega arith)
+passes Nothing r e g = refl
 
 breaks : (f : Found) (r : Fresh) (i : ℕ) → r ≡ madeOf f → r ≡ Broken i → f ≡ At i
-breaks (At j) r i e d = cc
-breaks Nothing r i e d = let z : _≡_ {A = ℕ} 0 1 = cc in absurd (omega arith)
+breaks (At j) r i e g = cc
+breaks Nothing r i e g = let z : _≡_ {A = ℕ} 0 1 = cc in absurd (omega arith)
 
 no-both : {P : Type 0} (i : ℕ) → At i ≡ Nothing → P
 no-both i e = let z : _≡_ {A = ℕ} 0 1 = cc in absurd (omega arith)
@@ -236,9 +237,9 @@ module _ (params : Params) (r : Fresh) (table table′ : List ℕ) (m : Makes pa
   begins e = m .state ∙ ap (λ (f : Found). leftBy f params (stateOf table)) (accepted e)
 
   pub run-refused :
-      (s list told : List ℕ) (i : ℕ) → length (params .numbers) ≡ paramCount → r ≡ Broken i →
-      Runs params s (Refused i) table table′ list list told told
-  run-refused s list told i l e =
+      (d : Edition) (s list told : List ℕ) (i : ℕ) → length (params .numbers) ≡ paramCount → r ≡ Broken i →
+      Runs d params s (Refused i) table table′ list list told told
+  run-refused d s list told i l e =
       let f = breaks (firstBroken params) r i (m .answer) e in
       let k = m .kept i e in
       record {
@@ -247,41 +248,41 @@ module _ (params : Params) (r : Fresh) (table table′ : List ℕ) (m : Makes pa
         answers = λ g. no-both i (sym f ∙ g);
         actions = λ g. no-both i (sym f ∙ g);
         kept = λ g. (k, refl, refl);
-        demand3 = holds params s list told l;
+        demand3 = holds d params s list told l;
       }
 
 -- ---- the list is all that stands in the bytes
-past-end : (s : List ℕ) (at : ℕ) → length s ≤ at → isEvent (eventAt s at) ≡ false
+past-end : (d : Edition) (s : List ℕ) (at : ℕ) → length s ≤ at → isEvent (eventAt d s at) ≡ false
 unfolding eventAt
-past-end s at h =
+past-end d s at h =
     rw (readAt-end 18446744073709551615 s at h)
     (cond-case (λ (x : Event). isEvent x ≡ false) (cutShort s at) short malformed (λ e. refl) (λ e. refl))
 
 -- from one event to the next, which stands behind it
 all-next :
-    (room m : ℕ) (s : List ℕ) (at : ℕ) (before : List Made) (rest : ℕ → List Made → Recording) (x : Event) →
-    ((next : ℕ) (calls : List Made) → length s ≤ next + m → isEvent (eventAt s (rest next calls .place)) ≡ false) →
-    eventAt s at ≡ x →
+    (d : Edition) (room m : ℕ) (s : List ℕ) (at : ℕ) (before : List Made) (rest : ℕ → List Made → Recording) (x : Event) →
+    ((next : ℕ) (calls : List Made) → length s ≤ next + m → isEvent (eventAt d s (rest next calls .place)) ≡ false) →
+    eventAt d s at ≡ x →
     Behind at x →
     length s ≤ at + suc m →
-    isEvent (eventAt s (joins room rest at before x .place)) ≡ false
-all-next room m s at before rest (event c next) f e b h = f next _ (omega arith)
-all-next room m s at before rest unknown f e b h = ap isEvent e
-all-next room m s at before rest malformed f e b h = ap isEvent e
-all-next room m s at before rest short f e b h = ap isEvent e
+    isEvent (eventAt d s (joins room rest at before x .place)) ≡ false
+all-next d room m s at before rest (event c next) f e b h = f next _ (omega arith)
+all-next d room m s at before rest unknown f e b h = ap isEvent e
+all-next d room m s at before rest malformed f e b h = ap isEvent e
+all-next d room m s at before rest short f e b h = ap isEvent e
 
 all-from :
-    (room m : ℕ) (s : List ℕ) (at : ℕ) (before : List Made) →
+    (d : Edition) (room m : ℕ) (s : List ℕ) (at : ℕ) (before : List Made) →
     length s ≤ at + m →
-    isEvent (eventAt s (callsFrom room m s at before .place)) ≡ false
+    isEvent (eventAt d s (callsFrom d room m s at before .place)) ≡ false
 unfolding callsFrom
-all-from room zero s at before h = past-end s at (omega arith)
-all-from room (suc m) s at before h =
-    all-next room m s at before (λ next calls. callsFrom room m s next calls) (eventAt s at)
-    (λ next calls k. all-from room m s next calls k) refl
-    (event-behind s at)
+all-from d room zero s at before h = past-end d s at (omega arith)
+all-from d room (suc m) s at before h =
+    all-next d room m s at before (λ next calls. callsFrom d room m s next calls) (eventAt d s at)
+    (λ next calls k. all-from d room m s next calls k) refl
+    (event-behind d s at)
     h
 
 pub all : All
 unfolding recordingOf
-all room most s h = all-from room most s 0 [] (omega arith)
+all d room most s h = all-from d room most s 0 [] (omega arith)

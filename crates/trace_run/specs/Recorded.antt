@@ -16,6 +16,7 @@ use Rattle.effects.specs.Actions.{numbersOf}
 use Rattle.rules.specs.Reply.{Reply}
 use Rattle.rules.specs.Step.{step}
 use Rattle.answers.specs.Answers.{answerCode}
+use Rattle.trace_events.specs.declared.Edition.{Edition}
 use Rattle.trace_events.specs.Reading.{Event, event, unknown, malformed, short, eventAt}
 use Rattle.call_lists.specs.Lists.{Made, after}
 use Rattle.call_lists.specs.Demand3.{Holds}
@@ -35,13 +36,13 @@ joins room rest at before malformed = record { calls = before; place = at }
 joins room rest at before short = record { calls = before; place = at }
 
 -- the calls of at most n events from a place on, after the calls before it
-unfoldable pub callsFrom : ℕ → ℕ → List ℕ → ℕ → List Made → Recording
-callsFrom room zero s at before = record { calls = before; place = at }
-callsFrom room (suc n) s at before = joins room (λ next calls. callsFrom room n s next calls) at before (eventAt s at)
+unfoldable pub callsFrom : Edition → ℕ → ℕ → List ℕ → ℕ → List Made → Recording
+callsFrom e room zero s at before = record { calls = before; place = at }
+callsFrom e room (suc n) s at before = joins room (λ next calls. callsFrom e room n s next calls) at before (eventAt e s at)
 
 -- as many as there is room to answer; with room for as many as bytes these are all (`All`)
-unfoldable pub recordingOf : ℕ → ℕ → List ℕ → Recording
-recordingOf room most s = callsFrom room most s 0 []
+unfoldable pub recordingOf : Edition → ℕ → ℕ → List ℕ → Recording
+recordingOf e room most s = callsFrom e room most s 0 []
 
 abbrev pub isEvent : Event → Bool
 isEvent (event c next) = true
@@ -51,7 +52,8 @@ isEvent short = false
 
 -- where the list ends no whole event is left
 abbrev pub All : Type 0
-All = (room most : ℕ) (s : List ℕ) → length s ≤ most → isEvent (eventAt s (recordingOf room most s .place)) ≡ false
+All =
+    (e : Edition) (room most : ℕ) (s : List ℕ) → length s ≤ most → isEvent (eventAt e s (recordingOf e room most s .place)) ≡ false
 
 -- ---- what the calls are answered
 -- the rules' reply to a call, after the calls before it
@@ -89,14 +91,14 @@ recordedValues (Ran place calls) = place ∷ calls ∷ []
 
 -- what a run promises: r is the answer; table, list and told are what stood in the table, in the lent action list and in the lent list of
 -- answers, and table′, list′ and told′ are what stands there after it
-pub record Runs (params : Params) (s : List ℕ) (r : Recorded) (table table′ list list′ told told′ : List ℕ) : Type 0 where
-  pub answer : r ≡ answerOf (firstBroken params) (recordingOf (length list) (length told) s)
+pub record Runs (e : Edition) (params : Params) (s : List ℕ) (r : Recorded) (table table′ list list′ told told′ : List ℕ) : Type 0 where
+  pub answer : r ≡ answerOf (firstBroken params) (recordingOf e (length list) (length told) s)
   -- the table holds the rules' state after the whole list
-  pub state : stateOf table′ ≡ leftOf (firstBroken params) params (recordingOf (length list) (length told) s) (stateOf table)
+  pub state : stateOf table′ ≡ leftOf (firstBroken params) params (recordingOf e (length list) (length told) s) (stateOf table)
   -- the answers, and the actions of the last calls
-  pub answers : firstBroken params ≡ Nothing → told′ ≡ sets told 0 (answersTo params (recordingOf (length list) (length told) s .calls))
-  pub actions : firstBroken params ≡ Nothing → list′ ≡ actionsAfter params (recordingOf (length list) (length told) s .calls) list
+  pub answers : firstBroken params ≡ Nothing → told′ ≡ sets told 0 (answersTo params (recordingOf e (length list) (length told) s .calls))
+  pub actions : firstBroken params ≡ Nothing → list′ ≡ actionsAfter params (recordingOf e (length list) (length told) s .calls) list
   -- refused parameters change nothing
   pub kept : recordedNumber r ≡ 9 → (table′ ≡ table) × (list′ ≡ list) × (told′ ≡ told)
   -- and demand 3 holds of the list
-  pub demand3 : firstBroken params ≡ Nothing → Holds params (recordingOf (length list) (length told) s .calls)
+  pub demand3 : firstBroken params ≡ Nothing → Holds params (recordingOf e (length list) (length told) s .calls)

@@ -4,6 +4,7 @@ ghost use Rattle.trace_run.specs.Recorded.{Runs};
 use layout::CELLS;
 use lookup::Made;
 use params::Params;
+use trace_events::Edition;
 use trace_step::Performed;
 
 // What came of a recorded list.
@@ -14,17 +15,18 @@ pub enum Recorded {
     Ran(usize, usize),
 }
 
-// Makes a fresh router with these parameters, and calls the events of the bytes, up to the first that is unknown, malformed or cut short,
+// Makes a fresh router with these parameters, and calls the events of the bytes, in an edition, up to the first that is unknown, malformed or cut short,
 // or as many as there is room for answers: the lent list `told` takes one number for each. All calls are lent the same action list, of any
 // length.
 pub fn run(
+    edition: Edition,
     params: Params,
     s: &[u8],
     table: &mut [u64; CELLS],
     actions: &mut [u32],
     told: &mut [u64],
 ) -> Recorded
-    ensures { λ r. ⌜ Runs params (now (s .entry)) r (now (table .entry)) (now (table .exit)) (now (actions .entry))
+    ensures { λ r. ⌜ Runs edition params (now (s .entry)) r (now (table .entry)) (now (table .exit)) (now (actions .entry))
         (now (actions .exit)) (now (told .entry)) (now (told .exit)) ⌝ }
 {
     if let Made::Broken(i) = router::fresh(params, table) {
@@ -33,7 +35,7 @@ pub fn run(
     let mut at: usize = 0;
     let mut calls: usize = 0;
     while calls < told.len() {
-        let Performed::Answered(next, a) = trace_step::perform(table, s, at, actions) else {
+        let Performed::Answered(next, a) = trace_step::perform(table, edition, s, at, actions) else {
             return Recorded::Ran(at, calls);
         };
         told[calls] = answers::code(a);

@@ -1,20 +1,20 @@
 -- The ends of one event's functions: which call a kind is, how the numbers become an event, and what is printed of a reply.
 -- Assumes nothing.
-use Prim.Native.Nat.{ℕ, _+_, _-_, _≤_, _<_}
+use Prim.Native.Nat.{ℕ, zero, suc, _+_, _-_, _≤_, _<_}
 use mathlib.Core.Path.{_≡_, refl, sym, ap, ap₂, _∙_}
 use mathlib.Core.Logic.{_≢_}
 use mathlib.Core.Bool.{Bool, true, false, cond}
 use mathlib.Core.List.{List, []}
 use native.Mathlib.Omega.{arith}
 use native.Mathlib.Nat.{zero-add}
-use borrow.Author.Tests.{lt-leb, le-leb, lt-ltb, le-ltb, ne-eqb, eqb-true}
+use borrow.Author.Tests.{lt-leb, le-leb, lt-ltb, le-ltb, ne-eqb}
 use lib.Dec.{eqb}
 use lib.IntN.{ℤ}
 use mir.Syntax.{w64}
 use mir.Val.{SFits, toZ, ofZ}
 use mir.Facts.{toZ-ofZ}
-use lib.ListN.{length, getD, take, drop, List·getD-eq-default, length-take, length-drop}
-use lib.Seq.{sets, getD-take, take-all}
+use lib.ListN.{length, getD, take, drop, replicate, List·getD-eq-default, length-take}
+use lib.Seq.{sets, getD-take}
 use Rattle.index.proofs.Flags.{by-order, by-test}
 use Rattle.varint.specs.Groups.{readAt}
 use Rattle.varint.specs.Codes.{numberOf}
@@ -32,15 +32,22 @@ use Rattle.rules.specs.Step.{step, actionRoom}
 use Rattle.rules.specs.Promise.{Follows}
 use Rattle.rules.proofs.CountLaws.{Counted, counted}
 use Rattle.trace_events.specs.declared.Readings.{Readings}
-use Rattle.trace_events.specs.Reading.{numbers, broken, numbersFrom, outcome, arities, arity, callOf, Event, event, unknown, malformed}
-use Rattle.trace_events.specs.Reading.{short, cutShort, unread, nameMost, named, ofNumbers, ofKind, eventAt}
-use Rattle.trace_events.specs.Lines.{pairLine, linesOf, replyText}
+use Rattle.trace_events.specs.declared.Edition.{Edition}
+use Rattle.trace_events.specs.Reading.{orderSize, widened, Numbers, numbers, broken, numbersFrom, outcome, arity, callOf, Event, event}
+use Rattle.trace_events.specs.Reading.{unknown, malformed, short, cutShort, unread, nameMost, named, ordered, ofNumbers, ofKind, eventAt}
+use Rattle.trace_events.specs.Lines.{pairLine, linesOf, replyText, lineRoom}
 use Rattle.trace_events.proofs.LineLaws.{lines-are}
 use Rattle.trace_step.specs.declared.Performed.{Performed}
 use Rattle.trace_step.specs.declared.Performed.the-variants.{Answered, Unknown, Malformed, CutShort}
 use Rattle.trace_step.specs.declared.Replayed.{Replayed}
 use Rattle.trace_step.specs.declared.Replayed.the-variants.{Called, Stopped, Short, Full}
 use Rattle.trace_step.specs.Replay.{idle, performEvent, Performs, stopped, replayEvent, replayOf, Replays}
+
+-- an array of zeros
+pub zeros : (m k : ℕ) → _≡_ {A = ℕ} (getD (replicate m 0) k 0) 0
+zeros zero k = refl
+zeros (suc m) zero = refl
+zeros (suc m) (suc k) = zeros m k
 
 -- ---- the call of the numbers that were read is the call of the array that holds them: its numbers past them are 0
 module _ (n : ℕ) (v : List ℕ) (z : (k : ℕ) → n ≤ k → getD v k 0 ≡ 0) where
@@ -54,18 +61,14 @@ module _ (n : ℕ) (v : List ℕ) (z : (k : ℕ) → n ≤ k → getD v k 0 ≡ 
   unfolding named callOf
   named-take s next = rw (take-same 4, take-same 0, take-same 1, take-same 2, take-same 3)
 
-  -- a heartbeat has as many numbers as the array
-  module _ (kind : ℕ) (e : n ≡ arity kind) (l : length v ≡ 259) where
-    take-whole : kind ≡ 11 → take n v ≡ v
-    unfolding arity arities
-    take-whole k = let m : n ≡ 259 = rw k at e in take-all n v (omega arith)
+  order-take : (s : List ℕ) (q : Numbers) → ordered s (take n v) q ≡ ordered s v q
+  unfolding callOf
+  order-take s (numbers order next) = rw (take-same 0, take-same 1, take-same 2)
+  order-take s (broken p) = refl
 
-    callOf-take : callOf kind (take n v) [] ≡ callOf kind v []
-    unfolding callOf
-    callOf-take =
-        by-test (callOf kind (take n v) [] ≡ callOf kind v []) (eqb kind 11)
-        (λ k. rw (take-whole (eqb-true kind 11 k)))
-        (λ k. rw (k, take-same 0, take-same 1, take-same 2, take-same 3))
+  callOf-take : (kind : ℕ) → callOf kind (take n v) [] ≡ callOf kind v []
+  unfolding callOf
+  callOf-take kind = rw (take-same 0, take-same 1, take-same 2, take-same 3)
 
 -- ---- which call a kind is
 module _ (kind : ℕ) (v : List ℕ) where
@@ -78,12 +81,6 @@ module _ (kind : ℕ) (v : List ℕ) where
       callOf kind v [] ≡ rate (getD v 0 0) (getD v 1 0) (toZ w64 (ofZ w64 z))
   unfolding callOf
   call-10 z g f e = rw (toZ-ofZ g, e, f)
-
-  -- the permutation is the array's part from 3 on
-  pub call-11 :
-      length v ≡ 259 → kind ≡ 11 → callOf kind v [] ≡ heartbeat (getD v 0 0) (getD v 1 0) (getD v 2 0) (take slotCount (drop 3 v))
-  unfolding callOf
-  call-11 l e = rw (e, take-all slotCount (drop 3 v) (omega (arith, length-drop 3 v)))
 
   pub call-score :
       kind ≢ 1 → kind ≢ 2 → kind ≢ 3 → kind ≢ 4 → kind ≢ 5 → kind ≢ 6 → kind ≢ 7 → kind ≢ 8 → kind ≢ 9 → kind ≢ 10 → kind ≢ 11 → kind ≢ 12 →
@@ -205,80 +202,126 @@ module _ (s v : List ℕ) (at : ℕ) where
       as-event (stateOf table) (length list) (named s v at) _ _ table′ list list′ (named-whole h l)
       (performed _ a table table′ list list′ (at + getD v 4 0) (rw e at f))
 
+-- ---- numbers that were read into a lent list
+module _ (s : List ℕ) (at n : ℕ) (us : Readings) (v : List ℕ) (e : outcome n us v ≡ numbersFrom n s at) where
+  read-whole : us .ok ≡ true → numbersFrom n s at ≡ numbers (take n v) (us .place)
+  read-whole g = sym e ∙ ap (λ (b : Bool). cond b (numbers (take n v) (us .place)) (broken (us .place))) g
+
+  read-broken : us .ok ≡ false → numbersFrom n s at ≡ broken (us .place)
+  read-broken g = sym e ∙ ap (λ (b : Bool). cond b (numbers (take n v) (us .place)) (broken (us .place))) g
+
+-- ---- the ends of `heartbeat`
+module _ (s v : List ℕ) (at n : ℕ) (g : Edition) (told : n ≡ orderSize g) (us : Readings) (order : List ℕ)
+    (e : outcome n us order ≡ numbersFrom n s at) where
+  at-order :
+      (q : Numbers) (table table′ list list′ : List ℕ) (r : Performed) →
+      numbersFrom n s at ≡ q →
+      Performs (performEvent (stateOf table) (length list) (ordered s v q)) r table′ list list′ →
+      Performs (performEvent (stateOf table) (length list) (ordered s v (numbersFrom (orderSize g) s at))) r table′ list list′
+  at-order q table table′ list list′ r f p =
+      as-event (stateOf table) (length list) (ordered s v (numbersFrom (orderSize g) s at)) (ordered s v q) r table′ list list′
+      (ap (ordered s v) (ap (λ (k : ℕ). numbersFrom k s at) (sym told) ∙ f)) p
+
+  pub heartbeat-unread :
+      (table list : List ℕ) (r : Performed) →
+      us .ok ≡ false →
+      r ≡ cond (cutShort s (us .place)) CutShort Malformed →
+      Performs (performEvent (stateOf table) (length list) (ordered s v (numbersFrom (orderSize g) s at))) r table list list
+  heartbeat-unread table list r f h =
+      at-order (broken (us .place)) table table list list r (read-broken s at n us order e f) (unread-is s (us .place) r table list h)
+
+  pub heartbeat-called :
+      (wide : List ℕ) (a : Answer) (table table′ list list′ : List ℕ) →
+      us .ok ≡ true →
+      wide ≡ widened (take n order) →
+      Follows (heartbeat (getD v 0 0) (getD v 1 0) (getD v 2 0) wide) a table table′ list list′ →
+      Performs (performEvent (stateOf table) (length list) (ordered s v (numbersFrom (orderSize g) s at))) (Answered (us .place) a) table′
+      list list′
+  unfolding callOf
+  heartbeat-called wide a table table′ list list′ f w p =
+      at-order (numbers (take n order) (us .place)) table table′ list list′ (Answered (us .place) a) (read-whole s at n us order e f)
+      (performed _ a table table′ list list′ (us .place) (rw w at p))
+
 -- ---- the ends of `perform_kind`
-module _ (s : List ℕ) (kind at n : ℕ) (us : Readings) (e : outcome n us ≡ numbersFrom n s at) where
+module _ (g : Edition) (s : List ℕ) (kind at n : ℕ) (us : Readings) (v : List ℕ) (e : outcome n us v ≡ numbersFrom n s at) where
   pub kind-unread :
       (table list : List ℕ) (r : Performed) →
       us .ok ≡ false →
       r ≡ cond (cutShort s (us .place)) CutShort Malformed →
-      Performs (performEvent (stateOf table) (length list) (ofNumbers s kind (numbersFrom n s at))) r table list list
-  kind-unread table list r g h =
-      as-event (stateOf table) (length list) (ofNumbers s kind (numbersFrom n s at)) (unread s (us .place)) r table list list
-      (ap (ofNumbers s kind) (sym e ∙ ap (λ (b : Bool). cond b (numbers (take n (us .values)) (us .place)) (broken (us .place))) g))
+      Performs (performEvent (stateOf table) (length list) (ofNumbers g s kind (numbersFrom n s at))) r table list list
+  kind-unread table list r f h =
+      as-event (stateOf table) (length list) (ofNumbers g s kind (numbersFrom n s at)) (unread s (us .place)) r table list list
+      (ap (ofNumbers g s kind) (read-broken s at n us v e f))
       (unread-is s (us .place) r table list h)
 
-  module _ (z : (k : ℕ) → n ≤ k → getD (us .values) k 0 ≡ 0) (g : us .ok ≡ true) where
-    whole : numbersFrom n s at ≡ numbers (take n (us .values)) (us .place)
-    whole = sym e ∙ ap (λ (b : Bool). cond b (numbers (take n (us .values)) (us .place)) (broken (us .place))) g
+  module _ (z : (k : ℕ) → n ≤ k → getD v k 0 ≡ 0) (f : us .ok ≡ true) where
+    whole : numbersFrom n s at ≡ numbers (take n v) (us .place)
+    whole = read-whole s at n us v e f
 
     pub kind-connect :
         (table table′ list list′ : List ℕ) (r : Performed) →
         kind ≡ 1 →
-        Performs (performEvent (stateOf table) (length list) (named s (us .values) (us .place))) r table′ list list′ →
-        Performs (performEvent (stateOf table) (length list) (ofNumbers s kind (numbersFrom n s at))) r table′ list list′
+        Performs (performEvent (stateOf table) (length list) (named s v (us .place))) r table′ list list′ →
+        Performs (performEvent (stateOf table) (length list) (ofNumbers g s kind (numbersFrom n s at))) r table′ list list′
     kind-connect table table′ list list′ r k h =
-        as-event (stateOf table) (length list) (ofNumbers s kind (numbersFrom n s at)) (named s (us .values) (us .place)) r table′ list
-        list′
-        (ap₂ (ofNumbers s) k whole ∙ named-take n (us .values) z s (us .place))
+        as-event (stateOf table) (length list) (ofNumbers g s kind (numbersFrom n s at)) (named s v (us .place)) r table′ list list′
+        (ap₂ (ofNumbers g s) k whole ∙ named-take n v z s (us .place))
+        h
+
+    pub kind-heartbeat :
+        (table table′ list list′ : List ℕ) (r : Performed) →
+        kind ≡ 11 →
+        Performs (performEvent (stateOf table) (length list) (ordered s v (numbersFrom (orderSize g) s (us .place)))) r table′ list list′ →
+        Performs (performEvent (stateOf table) (length list) (ofNumbers g s kind (numbersFrom n s at))) r table′ list list′
+    kind-heartbeat table table′ list list′ r k h =
+        as-event (stateOf table) (length list) (ofNumbers g s kind (numbersFrom n s at))
+        (ordered s v (numbersFrom (orderSize g) s (us .place))) r table′ list list′
+        (ap₂ (ofNumbers g s) k whole ∙ order-take n v z s (numbersFrom (orderSize g) s (us .place)))
         h
 
     pub kind-other :
         (table table′ list list′ : List ℕ) (a : Answer) →
-        n ≡ arity kind →
-        length (us .values) ≡ 259 →
         kind ≢ 1 →
-        Follows (callOf kind (us .values) []) a table table′ list list′ →
-        Performs (performEvent (stateOf table) (length list) (ofNumbers s kind (numbersFrom n s at))) (Answered (us .place) a) table′ list
+        kind ≢ 11 →
+        Follows (callOf kind v []) a table table′ list list′ →
+        Performs (performEvent (stateOf table) (length list) (ofNumbers g s kind (numbersFrom n s at))) (Answered (us .place) a) table′ list
         list′
-    kind-other table table′ list list′ a i l k f =
-        as-event (stateOf table) (length list) (ofNumbers s kind (numbersFrom n s at)) (event (callOf kind (us .values) []) (us .place)) _
-        table′ list list′
-        (ap (ofNumbers s kind) whole
-        ∙ ap
-        (λ (b : Bool). cond b (named s (take n (us .values)) (us .place)) (event (callOf kind (take n (us .values)) []) (us .place)))
-        (ne-eqb kind 1 k)
-        ∙ ap (λ (c : Call). event c (us .place)) (callOf-take n (us .values) z kind i l))
-        (performed (callOf kind (us .values) []) a table table′ list list′ (us .place) f)
+    kind-other table table′ list list′ a k m p =
+        as-event (stateOf table) (length list) (ofNumbers g s kind (numbersFrom n s at)) (event (callOf kind v []) (us .place)) _ table′
+        list list′
+        (ap (ofNumbers g s kind) whole
+        ∙ rw (ne-eqb kind 1 k, ne-eqb kind 11 m) (ap (λ (c : Call). event c (us .place)) (callOf-take n v z kind)))
+        (performed (callOf kind v []) a table table′ list list′ (us .place) p)
 
 -- ---- the ends of `perform`
-module _ (s : List ℕ) (at : ℕ) (q : Read) (e : q ≡ readAt 18446744073709551615 s at) where
+module _ (g : Edition) (s : List ℕ) (at : ℕ) (q : Read) (e : q ≡ readAt 18446744073709551615 s at) where
   at-kind :
       (x : Event) (table table′ list list′ : List ℕ) (r : Performed) →
-      ofKind s at q ≡ x →
+      ofKind g s at q ≡ x →
       Performs (performEvent (stateOf table) (length list) x) r table′ list list′ →
-      Performs (performEvent (stateOf table) (length list) (eventAt s at)) r table′ list list′
+      Performs (performEvent (stateOf table) (length list) (eventAt g s at)) r table′ list list′
   unfolding eventAt
-  at-kind x table table′ list list′ r g p =
-      as-event (stateOf table) (length list) (eventAt s at) x r table′ list list′ (ap (ofKind s at) (sym e) ∙ g) p
+  at-kind x table table′ list list′ r f p =
+      as-event (stateOf table) (length list) (eventAt g s at) x r table′ list list′ (ap (ofKind g s at) (sym e) ∙ f) p
 
   pub perform-bad :
       (table list : List ℕ) (r : Performed) →
       q ≡ Bad →
       r ≡ cond (cutShort s at) CutShort Malformed →
-      Performs (performEvent (stateOf table) (length list) (eventAt s at)) r table list list
-  perform-bad table list r g h =
-      at-kind (unread s at) table table list list r (ap (ofKind s at) g) (unread-is s at r table list h)
+      Performs (performEvent (stateOf table) (length list) (eventAt g s at)) r table list list
+  perform-bad table list r f h =
+      at-kind (unread s at) table table list list r (ap (ofKind g s at) f) (unread-is s at r table list h)
 
   pub perform-unknown :
       (table list : List ℕ) (kind next n : ℕ) →
       q ≡ Number kind next →
       n ≡ arity kind →
       n ≡ 0 →
-      Performs (performEvent (stateOf table) (length list) (eventAt s at)) Unknown table list list
+      Performs (performEvent (stateOf table) (length list) (eventAt g s at)) Unknown table list list
   unfolding performEvent
-  perform-unknown table list kind next n g a z =
+  perform-unknown table list kind next n f a z =
       at-kind unknown table table list list Unknown
-      (ap (ofKind s at) g ∙ ap (λ (k : ℕ). cond (eqb k 0) unknown (ofNumbers s kind (numbersFrom (arity kind) s next))) (sym a ∙ z))
+      (ap (ofKind g s at) f ∙ ap (λ (k : ℕ). cond (eqb k 0) unknown (ofNumbers g s kind (numbersFrom (arity kind) s next))) (sym a ∙ z))
       (idles table list Unknown)
 
   pub perform-known :
@@ -286,21 +329,21 @@ module _ (s : List ℕ) (at : ℕ) (q : Read) (e : q ≡ readAt 1844674407370955
       q ≡ Number kind next →
       n ≡ arity kind →
       n ≢ 0 →
-      Performs (performEvent (stateOf table) (length list) (ofNumbers s kind (numbersFrom n s next))) r table′ list list′ →
-      Performs (performEvent (stateOf table) (length list) (eventAt s at)) r table′ list list′
-  perform-known table table′ list list′ r kind next n g a z p =
-      at-kind (ofNumbers s kind (numbersFrom n s next)) table table′ list list′ r
-      (ap (ofKind s at) g
-      ∙ ap (λ (k : ℕ). cond (eqb k 0) unknown (ofNumbers s kind (numbersFrom k s next))) (sym a)
-      ∙ ap (λ (b : Bool). cond b unknown (ofNumbers s kind (numbersFrom n s next))) (ne-eqb n 0 z))
+      Performs (performEvent (stateOf table) (length list) (ofNumbers g s kind (numbersFrom n s next))) r table′ list list′ →
+      Performs (performEvent (stateOf table) (length list) (eventAt g s at)) r table′ list list′
+  perform-known table table′ list list′ r kind next n f a z p =
+      at-kind (ofNumbers g s kind (numbersFrom n s next)) table table′ list list′ r
+      (ap (ofKind g s at) f
+      ∙ ap (λ (k : ℕ). cond (eqb k 0) unknown (ofNumbers g s kind (numbersFrom k s next))) (sym a)
+      ∙ ap (λ (b : Bool). cond b unknown (ofNumbers g s kind (numbersFrom n s next))) (ne-eqb n 0 z))
       p
 
 -- ---- the ends of `replay`
-pub replay-full : (table s : List ℕ) (at : ℕ) (out : List ℕ) → length out < 16384 →
-    Replays (replayOf (stateOf table) s at out) Full table out
+pub replay-full : (g : Edition) (table s : List ℕ) (at : ℕ) (out : List ℕ) → length out < lineRoom →
+    Replays (replayOf g (stateOf table) s at out) Full table out
 unfolding replayOf
-replay-full table s at out h =
-    rw (lt-ltb (length out) 16384 h) (record { answer = refl; state = refl; bytes = refl; room = omega arith })
+replay-full g table s at out h =
+    rw (lt-ltb (length out) lineRoom h) (record { answer = refl; state = refl; bytes = refl; room = omega arith })
 
 -- what a reply prints
 text-is :
@@ -347,7 +390,7 @@ module _ (st : State) (table′ list list′ : List ℕ) (x : Event) (r : Perfor
         (next n : ℕ) (a : Answer) →
         length list ≡ actionRoom →
         r ≡ Answered next a →
-        Stored out 0 (replyText a list′) n out′ × (n ≤ 16384) →
+        Stored out 0 (replyText a list′) n out′ × (n ≤ lineRoom) →
         Replays (replayEvent st out x) (Called next n) table′ out′
     unfolding performEvent
     event-called next n a l e s =
@@ -406,9 +449,9 @@ module _ (st : State) (table′ list list′ : List ℕ) (x : Event) (r : Perfor
       })
 
 pub replay-event :
-    (st : State) (table′ s : List ℕ) (at : ℕ) (out out′ : List ℕ) (r : Replayed) →
-    16384 ≤ length out →
-    Replays (replayEvent st out (eventAt s at)) r table′ out′ →
-    Replays (replayOf st s at out) r table′ out′
+    (g : Edition) (st : State) (table′ s : List ℕ) (at : ℕ) (out out′ : List ℕ) (r : Replayed) →
+    lineRoom ≤ length out →
+    Replays (replayEvent st out (eventAt g s at)) r table′ out′ →
+    Replays (replayOf g st s at out) r table′ out′
 unfolding replayOf
-replay-event st table′ s at out out′ r h p = rw (le-ltb (length out) 16384 h) p
+replay-event g st table′ s at out out′ r h p = rw (le-ltb (length out) lineRoom h) p

@@ -15,8 +15,9 @@ use Rattle.trace_step.specs.declared.Performed.{Performed}
 use Rattle.trace_step.specs.declared.Performed.the-variants.{Answered, Unknown, Malformed, CutShort}
 use Rattle.trace_step.specs.declared.Replayed.{Replayed}
 use Rattle.trace_step.specs.declared.Replayed.the-variants.{Called, Stopped, Short, Full}
+use Rattle.trace_events.specs.declared.Edition.{Edition}
 use Rattle.trace_events.specs.Reading.{Event, event, unknown, malformed, short, eventAt}
-use Rattle.trace_events.specs.Lines.{pairLine, linesOf}
+use Rattle.trace_events.specs.Lines.{pairLine, linesOf, lineRoom}
 
 -- ---- the event's call
 -- the answer, the state that is left, and the actions for the lent list
@@ -77,15 +78,11 @@ replayEvent st out unknown = stopped st (performedNumber Unknown) out
 replayEvent st out malformed = stopped st (performedNumber Malformed) out
 replayEvent st out short = record { answer = Short; state = st; bytes = out }
 
--- how many bytes one event may print: 256 actions of at most 44 bytes, and two lines
-abbrev pub lineRoom : ℕ
-lineRoom = 16384
-
-unfoldable pub replayOf : State → List ℕ → ℕ → List ℕ → Outcome
-replayOf st s at out =
+unfoldable pub replayOf : Edition → State → List ℕ → ℕ → List ℕ → Outcome
+replayOf e st s at out =
     cond (ltb (length out) lineRoom)
     (record { answer = Full; state = st; bytes = out })
-    (replayEvent st out (eventAt s at))
+    (replayEvent st out (eventAt e s at))
 
 -- how many bytes were printed
 abbrev pub printedBy : Replayed → ℕ

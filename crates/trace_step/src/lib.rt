@@ -6,21 +6,24 @@ ghost use mathlib.Core.List.{[]};
 ghost use lib.ListN.{length};
 ghost use Rattle.layout.specs.View.{stateOf};
 ghost use Rattle.rules.specs.Promise.{Follows};
-ghost use Rattle.trace_events.specs.Reading.{arity as arityOf, callOf, cutShort, named, ofNumbers, numbersFrom, eventAt};
+ghost use Rattle.trace_events.specs.Reading.{orderSize, numbersFrom, cutShort, arity as arityOf, callOf, named, ordered, ofNumbers, eventAt};
 ghost use Rattle.trace_step.specs.declared.Performed.the-variants.{Malformed, CutShort};
 ghost use Rattle.trace_step.specs.Replay.{performEvent, Performs, Replays, replayOf};
 use layout::CELLS;
 use records::ACTION_ROOM;
+use records::SLOTS;
 use rules::Answer;
+use trace_events::Edition;
+use trace_events::lines::LINE_ROOM;
 use trace_events::lines::put_pair;
 use trace_events::lines::put_reply;
+use trace_events::reading::NUMBERS;
 use trace_events::reading::arity;
 use trace_events::reading::cut_short;
+use trace_events::reading::order_size;
 use trace_events::reading::read_numbers;
+use trace_events::reading::widen;
 use varint::Read;
-
-// How many bytes one event may print.
-const LINE_ROOM: usize = 16384;
 
 // The longest protocol name that is read.
 const NAME_MOST: u64 = 64;
@@ -50,9 +53,14 @@ pub enum Replayed {
 }
 
 // The calls that come from peers, and decay and score.
-fn call_peer(table: &mut [u64; CELLS], kind: u64, v: [u64; 259], actions: &mut [u32]) -> Answer
+fn call_peer(
+    table: &mut [u64; CELLS],
+    kind: u64,
+    v: &[u64; NUMBERS],
+    actions: &mut [u32],
+) -> Answer
     requires { ⌜ (kind ≢ 1) × ((kind ≢ 3) × ((kind ≢ 4) × ((kind ≢ 5) × ((kind ≢ 6) × (kind ≢ 11))))) ⌝ }
-    ensures { λ r. ⌜ Follows (callOf kind v []) r (now (table .entry)) (now (table .exit)) (now (actions .entry)) (now (actions .exit)) ⌝ }
+    ensures { λ r. ⌜ Follows (callOf kind (now (v .entry)) []) r (now (table .entry)) (now (table .exit)) (now (actions .entry)) (now (actions .exit)) ⌝ }
 {
     let time = v[0];
     let a = v[1];
@@ -69,10 +77,10 @@ fn call_peer(table: &mut [u64; CELLS], kind: u64, v: [u64; 259], actions: &mut [
     }
 }
 
-// Every call but connect.
-fn call(table: &mut [u64; CELLS], kind: u64, v: [u64; 259], actions: &mut [u32]) -> Answer
-    requires { ⌜ kind ≢ 1 ⌝ }
-    ensures { λ r. ⌜ Follows (callOf kind v []) r (now (table .entry)) (now (table .exit)) (now (actions .entry)) (now (actions .exit)) ⌝ }
+// Every call but connect and heartbeat.
+fn call(table: &mut [u64; CELLS], kind: u64, v: &[u64; NUMBERS], actions: &mut [u32]) -> Answer
+    requires { ⌜ (kind ≢ 1) × (kind ≢ 11) ⌝ }
+    ensures { λ r. ⌜ Follows (callOf kind (now (v .entry)) []) r (now (table .entry)) (now (table .exit)) (now (actions .entry)) (now (actions .exit)) ⌝ }
 {
     let time = v[0];
     let a = v[1];
@@ -82,7 +90,6 @@ fn call(table: &mut [u64; CELLS], kind: u64, v: [u64; 259], actions: &mut [u32])
         4 => router::leave(table, time, a, actions),
         5 => router::subscribe(table, time, a, b, actions),
         6 => router::unsubscribe(table, time, a, b, actions),
-        11 => router::heartbeat(table, time, a, b, &v[3..259], actions),
         _ => call_peer(table, kind, v, actions),
     }
 }
@@ -101,12 +108,12 @@ fn unread(s: &[u8], at: usize) -> Performed
 fn connect(
     table: &mut [u64; CELLS],
     s: &[u8],
-    v: [u64; 259],
+    v: &[u64; NUMBERS],
     at: usize,
     actions: &mut [u32],
 ) -> Performed
     ensures { λ r. ⌜
-        Performs (performEvent (stateOf (now (table .entry))) (length (now (actions .entry))) (named (now (s .entry)) v at)) r
+        Performs (performEvent (stateOf (now (table .entry))) (length (now (actions .entry))) (named (now (s .entry)) (now (v .entry)) at)) r
         (now (table .exit)) (now (actions .entry)) (now (actions .exit)) ⌝ }
 {
     let size = v[4];
@@ -125,9 +132,36 @@ fn connect(
     Performed::Answered(next, a)
 }
 
+// A heartbeat, whose permutation follows its numbers.
+fn heartbeat(
+    table: &mut [u64; CELLS],
+    edition: Edition,
+    s: &[u8],
+    v: &[u64; NUMBERS],
+    at: usize,
+    actions: &mut [u32],
+) -> Performed
+    ensures { λ r. ⌜
+        Performs (performEvent (stateOf (now (table .entry))) (length (now (actions .entry)))
+        (ordered (now (s .entry)) (now (v .entry)) (numbersFrom (orderSize edition) (now (s .entry)) at))) r (now (table .exit))
+        (now (actions .entry)) (now (actions .exit)) ⌝ }
+{
+    let mut order = [0u64; SLOTS];
+    let n = order_size(edition);
+    let us = read_numbers(s, at, n, &mut order);
+    let place = us.place;
+    if !us.ok {
+        return unread(s, place);
+    }
+    widen(&mut order, n);
+    let a = router::heartbeat(table, v[0], v[1], v[2], &order, actions);
+    Performed::Answered(place, a)
+}
+
 // The event of a known kind whose n numbers start at a place.
 fn perform_kind(
     table: &mut [u64; CELLS],
+    edition: Edition,
     s: &[u8],
     kind: u64,
     at: usize,
@@ -137,25 +171,32 @@ fn perform_kind(
     requires { ⌜ n ≡ arityOf kind ⌝ }
     ensures { λ r. ⌜
         Performs (performEvent (stateOf (now (table .entry))) (length (now (actions .entry)))
-        (ofNumbers (now (s .entry)) kind (numbersFrom n (now (s .entry)) at))) r (now (table .exit)) (now (actions .entry))
+        (ofNumbers edition (now (s .entry)) kind (numbersFrom n (now (s .entry)) at))) r (now (table .exit)) (now (actions .entry))
         (now (actions .exit)) ⌝ }
 {
-    let us = read_numbers(s, at, n);
+    let mut v = [0u64; NUMBERS];
+    let us = read_numbers(s, at, n, &mut v);
     let place = us.place;
     if !us.ok {
         return unread(s, place);
     }
-    let v = us.values;
-    if kind == 1 {
-        return connect(table, s, v, place, actions);
+    match kind {
+        1 => connect(table, s, &v, place, actions),
+        11 => heartbeat(table, edition, s, &v, place, actions),
+        _ => Performed::Answered(place, call(table, kind, &v, actions)),
     }
-    Performed::Answered(place, call(table, kind, v, actions))
 }
 
 // The call of the event at a place.
-pub fn perform(table: &mut [u64; CELLS], s: &[u8], at: usize, actions: &mut [u32]) -> Performed
+pub fn perform(
+    table: &mut [u64; CELLS],
+    edition: Edition,
+    s: &[u8],
+    at: usize,
+    actions: &mut [u32],
+) -> Performed
     ensures { λ r. ⌜
-        Performs (performEvent (stateOf (now (table .entry))) (length (now (actions .entry))) (eventAt (now (s .entry)) at)) r
+        Performs (performEvent (stateOf (now (table .entry))) (length (now (actions .entry))) (eventAt edition (now (s .entry)) at)) r
         (now (table .exit)) (now (actions .entry)) (now (actions .exit)) ⌝ }
 {
     let Read::Number(kind, next) = varint::read_u64(s, at) else {
@@ -165,19 +206,26 @@ pub fn perform(table: &mut [u64; CELLS], s: &[u8], at: usize, actions: &mut [u32
     if n == 0 {
         return Performed::Unknown;
     }
-    perform_kind(table, s, kind, next, n, actions)
+    perform_kind(table, edition, s, kind, next, n, actions)
 }
 
 // The event at a place, called and printed.
-pub fn replay(table: &mut [u64; CELLS], s: &[u8], at: usize, out: &mut [u8]) -> Replayed
+pub fn replay(
+    table: &mut [u64; CELLS],
+    edition: Edition,
+    s: &[u8],
+    at: usize,
+    out: &mut [u8],
+) -> Replayed
     ensures { λ r. ⌜
-        Replays (replayOf (stateOf (now (table .entry))) (now (s .entry)) at (now (out .entry))) r (now (table .exit)) (now (out .exit)) ⌝ }
+        Replays (replayOf edition (stateOf (now (table .entry))) (now (s .entry)) at (now (out .entry))) r (now (table .exit))
+        (now (out .exit)) ⌝ }
 {
     if out.len() < LINE_ROOM {
         return Replayed::Full;
     }
     let mut actions = [0u32; ACTION_ROOM];
-    let done = perform(table, s, at, &mut actions);
+    let done = perform(table, edition, s, at, &mut actions);
     match done {
         Performed::Answered(next, a) => Replayed::Called(next, put_reply(out, a, &actions)),
         Performed::Unknown => Replayed::Stopped(put_pair(out, 0, 2, 0)),

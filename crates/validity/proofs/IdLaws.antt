@@ -1,103 +1,143 @@
 -- Buckets of ids: an id that stands in a lower slot has marked its bucket, so an id whose bucket is unmarked is new.
 -- Assumes nothing.
-use Prim.Native.Nat.{ℕ, _+_, _<_, _≤_, _%_}
-use native.Mathlib.Nat.{not-suc-le-zero}
+use Prim.Native.Nat.{ℕ, _+_, _<_, _/_, _%_, _^_}
+use native.Mathlib.Nat.{mod-lt, not-suc-le-zero, one-mul, zero-lt-suc}
 use native.Mathlib.Omega.{arith}
 use mathlib.Core.Path.{_≡_, refl, sym, ap, _∙_}
 use mathlib.Core.Bool.{Bool, true, false, not, _&&_, _||_}
 use mathlib.Core.List.{List}
+use lib.Bits.{bitOr, or-add-and, and-le-l, and-le-r, or-lt, or-mod, or-shr}
 use lib.Dec.{eqb}
-use lib.ListN.{length, getD, set}
-use lib.Seq.{getD-set-same, getD-set-other}
-use borrow.Author.Tests.{eqb-true, eqb-false, ne-eqb}
+use lib.ListN.{length, getD, length-set}
+use lib.Pow.{shl-shr}
+use lib.Seq.{getD-set-same}
+use borrow.Author.Tests.{eqb-true, eqb-false, eq-eqb}
 use Rattle.index.proofs.Flags.{by-test, by-order}
 use Rattle.index.proofs.Index.{every-by}
+use Rattle.index.proofs.Lists.{set-case}
 use Rattle.records.specs.Records.{State, peerIn}
 use Rattle.validity.specs.Valid.{apart, newId}
-use Rattle.validity.specs.Order.{bucketCount}
+use Rattle.validity.specs.Order.{bucketCount, wordBits, wordCount, isMarked, marked, Seen}
 
-module _ (st : State) where
-  -- the bucket of the id in slot k
-  abbrev pub at : ℕ → ℕ
-  at k = peerIn st k .id % bucketCount
+-- ---- marks
 
-  -- every id of the slots below s has marked its bucket
-  abbrev pub Seen : List Bool → ℕ → Type 0
-  Seen seen s = (k : ℕ) → k < s → (peerIn st k .id ≡ 0 → ⊥) → getD seen (at k) false ≡ true
+-- a union is odd where one of the two is
+odd-left : (x y : ℕ) → x % 2 ≡ 1 → bitOr x y % 2 ≡ 1
+odd-left x y e =
+    or-mod x y 1
+    ∙ omega (
+      arith,
+      e,
+      or-add-and (x % 2) (y % 2),
+      and-le-r (x % 2) (y % 2),
+      or-lt 1 (x % 2) (y % 2) (mod-lt x (zero-lt-suc 1)) (mod-lt y (zero-lt-suc 1)),
+    )
 
-  pub seen-none : (seen : List Bool) → Seen seen 0
-  seen-none seen k h n = absurd (not-suc-le-zero h)
+odd-right : (x y : ℕ) → y % 2 ≡ 1 → bitOr x y % 2 ≡ 1
+odd-right x y e =
+    or-mod x y 1
+    ∙ omega (
+      arith,
+      e,
+      or-add-and (x % 2) (y % 2),
+      and-le-l (x % 2) (y % 2),
+      or-lt 1 (x % 2) (y % 2) (mod-lt x (zero-lt-suc 1)) (mod-lt y (zero-lt-suc 1)),
+    )
 
-  -- a mark stays, and another bucket's mark is not touched
-  kept : (seen : List Bool) (b k : ℕ) (v : Bool) → b < length seen → (getD seen b false ≡ true → v ≡ true) → getD seen k false ≡ true →
-      getD (set seen b v) k false ≡ true
-  kept seen b k v l h e =
-      let P : Type 0 = getD (set seen b v) k false ≡ true in
-      by-order P b k
-      (λ (o : b < k). getD-set-other seen b k v false (λ z. omega arith) ∙ e)
-      (λ (o : k ≤ b).
-      by-order P k b
-      (λ (u : k < b). getD-set-other seen b k v false (λ z. omega arith) ∙ e)
-      (λ (u : b ≤ k).
-      let z : k ≡ b = omega arith in
-      let e′ : getD seen b false ≡ true = rw z at e in
-      rw z (getD-set-same seen b v false l ∙ h e′)))
+module _ (seen : List ℕ) (b : ℕ) where
+  -- a mark stays
+  mark-stays : (k : ℕ) → isMarked seen k ≡ true → isMarked (marked seen b) k ≡ true
+  unfolding isMarked marked
+  mark-stays k m =
+      let j = k % wordBits in
+      set-case (λ (w : ℕ). eqb (w / 2 ^ j % 2) 1 ≡ true) seen (b / wordBits) (k / wordBits) _ 0
+      (λ e.
+      let o : getD seen (b / wordBits) 0 / 2 ^ j % 2 ≡ 1 = rw (← e) (eqb-true (getD seen (k / wordBits) 0 / 2 ^ j % 2) 1 m) in
+      eq-eqb _ 1
+      (ap (λ (x : ℕ). x % 2) (or-shr (getD seen (b / wordBits) 0) (2 ^ (b % wordBits)) j)
+      ∙ odd-left (getD seen (b / wordBits) 0 / 2 ^ j) (2 ^ (b % wordBits) / 2 ^ j) o))
+      m
 
-  module _ (seen : List Bool) (s : ℕ) (h : Seen seen s) where
-    pub seen-more :
-        (b : ℕ) (v : Bool) →
-        b ≡ at s →
-        b < length seen →
-        v ≡ getD seen b false || not (eqb (peerIn st s .id) 0) →
-        Seen (set seen b v) (s + 1)
-    seen-more b v eb l ev k m n =
-        by-order
-        (getD (set seen b v) (at k) false ≡ true)
-        k
-        s
-        (λ (o : k < s). kept seen b (at k) v l (λ e. ev ∙ rw e refl) (h k o n))
-        (λ (o : s ≤ k).
-        let z : k ≡ s = omega arith in
-        let n′ : peerIn st s .id ≡ 0 → ⊥ = λ e. n (ap (λ (j : ℕ). peerIn st j .id) z ∙ e) in
-        ap (λ (j : ℕ). getD (set seen b v) (at j) false) z
-        ∙ ap (λ (j : ℕ). getD (set seen b v) j false) (sym eb)
-        ∙ getD-set-same seen b v false l
-        ∙ ev
-        ∙ rw (ne-eqb (peerIn st s .id) 0 n′) (or-true (getD seen b false)))
-      where
-        or-true : (a : Bool) → a || true ≡ true
-        or-true true = refl
-        or-true false = refl
+  -- and the new one is there
+  mark-here : length seen ≡ wordCount → b < bucketCount → isMarked (marked seen b) b ≡ true
+  unfolding isMarked marked
+  mark-here l h =
+      let j = b % wordBits in
+      let w = getD seen (b / wordBits) 0 in
+      let p : 2 ^ j / 2 ^ j ≡ 1 = ap (λ (x : ℕ). x / 2 ^ j) (sym (one-mul (2 ^ j))) ∙ shl-shr 1 j in
+      eq-eqb _ 1
+      (ap (λ (x : ℕ). x / 2 ^ j % 2) (getD-set-same seen (b / wordBits) (bitOr w (2 ^ j)) 0 (omega (arith, l, h)))
+      ∙ ap (λ (x : ℕ). x % 2) (or-shr w (2 ^ j) j)
+      ∙ odd-right (w / 2 ^ j) (2 ^ j / 2 ^ j) (ap (λ (x : ℕ). x % 2) p))
 
-    -- an id whose bucket is not marked stands in no lower slot
-    unmarked : getD seen (at s) false ≡ false → newId st s ≡ true
-    unfolding newId apart
-    unmarked u =
-        every-by (λ k. apart (peerIn st s .id) (peerIn st k .id)) s (λ k l.
-        let P : Type 0 = apart (peerIn st s .id) (peerIn st k .id) ≡ true in
-        by-test P (eqb (peerIn st s .id) 0)
-        (λ z. go (eqb (peerIn st k .id) (peerIn st s .id)) (eqb (peerIn st s .id) 0) z)
-        (λ z.
-        by-test P (eqb (peerIn st k .id) (peerIn st s .id))
-        (λ e.
-        let i : peerIn st k .id ≡ peerIn st s .id = eqb-true (peerIn st k .id) (peerIn st s .id) e in
-        let n : peerIn st k .id ≡ 0 → ⊥ = λ o. eqb-false (peerIn st s .id) 0 z (sym i ∙ o) in
-        let m : getD seen (at s) false ≡ true = ap (λ (j : ℕ). getD seen (j % bucketCount) false) (sym i) ∙ h k l n in
-        let q : false ≡ true = sym u ∙ m in
-        let w : _≡_ {A = ℕ} 0 1 = cc in
-        absurd (omega arith))
-        (λ e. rw e refl)))
-      where
-        go : (a b : Bool) → b ≡ true → not (a && not b) ≡ true
-        go true true e = refl
-        go false b e = refl
-        go true false e = e
+-- ---- ids
 
-    pub new-told : (known : Bool) → known ≡ getD seen (at s) false → not known || newId st s ≡ true → newId st s ≡ true
-    new-told true ek e = e
-    new-told false ek e = unmarked (sym ek)
+pub seen-none : (st : State) (seen : List ℕ) → length seen ≡ wordCount → Seen st seen 0
+seen-none st seen l = record { size = l; marks = λ k h n. absurd (not-suc-le-zero h) }
 
-pub old-told : (known new : Bool) → not known || new ≡ false → new ≡ false
-old-told true new e = e
-old-told false true e = e
-old-told false false e = refl
+module _ (st : State) (seen : List ℕ) (s : ℕ) (h : Seen st seen s) where
+  -- a slot without an id
+  pub seen-past : peerIn st s .id ≡ 0 → Seen st seen (s + 1)
+  seen-past z =
+      record {
+        size = h .size;
+        marks = λ k m n.
+            by-order _ k s (h .marks k)
+            (λ o. let e : k ≡ s = omega arith in absurd (n (ap (λ (j : ℕ). peerIn st j .id) e ∙ z))) n;
+      }
+
+  -- a slot whose id marks its bucket
+  pub seen-more : (b : ℕ) → b ≡ peerIn st s .id % bucketCount → Seen st (marked seen b) (s + 1)
+  unfolding marked
+  seen-more b e =
+      record {
+        size = length-set seen _ _ ∙ h .size;
+        marks = λ k m n.
+            by-order (isMarked (marked seen b) (peerIn st k .id % bucketCount) ≡ true) k s
+            (λ o. mark-stays seen b (peerIn st k .id % bucketCount) (h .marks k o n))
+            (λ o.
+            let z : k ≡ s = omega arith in
+            let q : peerIn st k .id % bucketCount ≡ b = ap (λ (j : ℕ). peerIn st j .id % bucketCount) z ∙ sym e in
+            rw q (mark-here seen b (h .size) (rw e (mod-lt (peerIn st s .id) (zero-lt-suc _)))));
+      }
+
+  -- an id whose bucket is not marked stands in no lower slot
+  unmarked : isMarked seen (peerIn st s .id % bucketCount) ≡ false → newId st s ≡ true
+  unfolding newId apart
+  unmarked u =
+      every-by (λ k. apart (peerIn st s .id) (peerIn st k .id)) s (λ k l.
+      let P : Type 0 = apart (peerIn st s .id) (peerIn st k .id) ≡ true in
+      by-test P (eqb (peerIn st s .id) 0)
+      (λ z. go (eqb (peerIn st k .id) (peerIn st s .id)) (eqb (peerIn st s .id) 0) z)
+      (λ z.
+      by-test P (eqb (peerIn st k .id) (peerIn st s .id))
+      (λ e.
+      let i : peerIn st k .id ≡ peerIn st s .id = eqb-true (peerIn st k .id) (peerIn st s .id) e in
+      let n : peerIn st k .id ≡ 0 → ⊥ = λ o. eqb-false (peerIn st s .id) 0 z (sym i ∙ o) in
+      let m : isMarked seen (peerIn st s .id % bucketCount) ≡ true =
+      ap (λ (j : ℕ). isMarked seen (j % bucketCount)) (sym i) ∙ h .marks k l n in
+      let q : false ≡ true = sym u ∙ m in
+      let w : _≡_ {A = ℕ} 0 1 = cc in
+      absurd (omega arith))
+      (λ e. rw e refl)))
+    where
+      go : (a b : Bool) → b ≡ true → not (a && not b) ≡ true
+      go true true e = refl
+      go false b e = refl
+      go true false e = e
+
+  -- what is asked of the bucket first, and of the ids only if it is marked
+  pub new-told : (known : Bool) → known ≡ isMarked seen (peerIn st s .id % bucketCount) → not known || newId st s ≡ newId st s
+  new-told true e = refl
+  new-told false e = sym (unmarked (sym e))
+
+-- 0 is no id
+pub new-none : (st : State) (s : ℕ) → peerIn st s .id ≡ 0 → newId st s ≡ true
+unfolding newId apart
+new-none st s z =
+    every-by (λ k. apart (peerIn st s .id) (peerIn st k .id)) s
+    (λ k l. rw z (go (eqb (peerIn st k .id) 0)))
+  where
+    go : (a : Bool) → not (a && not true) ≡ true
+    go true = refl
+    go false = refl

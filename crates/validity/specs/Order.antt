@@ -1,13 +1,15 @@
 -- The parts of test 12's tests of a topic record in the order in which the code asks them, and what its walks rely on. No rule stands here:
 -- each test is a part of a definition of Valid.antt, and together they are `topicOk` (proofs/OrderLaws.antt).
-use Prim.Native.Nat.{ℕ, _<_}
+use Prim.Native.Nat.{ℕ, _/_, _%_, _^_, _<_}
 use mathlib.Core.Path.{_≡_}
 use mathlib.Core.Bool.{Bool, true, _&&_}
 use mathlib.Core.List.{List}
-use lib.Dec.{leb}
-use lib.ListN.{getD}
+use lib.Bits.{bitOr}
+use lib.Dec.{eqb, leb}
+use lib.ListN.{length, getD, set}
 use Rattle.records.specs.declared.TopicRecord.{TopicRecord}
-use Rattle.records.specs.Records.{State, topicCount, place, peerIn, topicIn}
+use Rattle.records.specs.Records.{State, slotCount, topicCount, place, peerIn, topicIn}
+use Rattle.layout.specs.View.{cellCount, stateOf}
 use Rattle.validity.specs.Valid.{maxTime, maxEnd, endsUpTo, zeroTopic, emptyTopicOk, outsideOk, retainedOk, memberOk, timesOk, cap2}
 use Rattle.validity.specs.Valid.{cap3}
 
@@ -41,6 +43,30 @@ pub record Caps (st : State) (caps2 caps3 : List ℕ) : Type 0 where
   pub p2 : (t : ℕ) → t < topicCount → getD caps2 t 0 ≡ cap2 st t
   pub p3 : (t : ℕ) → t < topicCount → getD caps3 t 0 ≡ cap3 st t
 
--- how many buckets the ids fall into
+-- ---- ids by buckets
+-- how many buckets the ids fall into; bit b % 64 of word b / 64 is the mark of bucket b
 abbrev pub bucketCount : ℕ
-bucketCount = 1024
+bucketCount = 8192
+
+abbrev pub wordBits : ℕ
+wordBits = 64
+
+abbrev pub wordCount : ℕ
+wordCount = 128
+
+unfoldable pub isMarked : List ℕ → ℕ → Bool
+isMarked seen b = eqb (getD seen (b / wordBits) 0 / 2 ^ (b % wordBits) % 2) 1
+
+unfoldable pub marked : List ℕ → ℕ → List ℕ
+marked seen b = set seen (b / wordBits) (bitOr (getD seen (b / wordBits) 0) (2 ^ (b % wordBits)))
+
+-- every id of the slots below s has marked its bucket
+pub record Seen (st : State) (seen : List ℕ) (s : ℕ) : Type 0 where
+  pub size : length seen ≡ wordCount
+  pub marks : (k : ℕ) → k < s → (peerIn st k .id ≡ 0 → ⊥) → isMarked seen (peerIn st k .id % bucketCount) ≡ true
+
+-- what the look at a slot's id relies on
+pub record Seeing (table seen : List ℕ) (s : ℕ) : Type 0 where
+  pub cells : length table ≡ cellCount
+  pub slot : s < slotCount
+  pub marks : Seen (stateOf table) seen s

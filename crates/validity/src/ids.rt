@@ -2,17 +2,21 @@
 // table of random ids is asked little; of the worst ids every pair is compared.
 ghost use mathlib.Core.Path.{_≡_};
 ghost use mathlib.Core.Bool.{not, _||_};
-ghost use Prim.Native.Nat.{_<_, _%_};
+ghost use Prim.Native.Nat.{_+_, _<_, _%_, _^_};
 ghost use lib.ListN.{length};
 ghost use Rattle.index.specs.Index.{every};
 ghost use Rattle.records.specs.Records.{slotCount};
 ghost use Rattle.layout.specs.View.{stateOf, cellCount};
-ghost use Rattle.validity.specs.Order.{bucketCount};
+ghost use Rattle.validity.specs.Order.{wordBits, bucketCount, isMarked, marked, Seen, Seeing};
 ghost use Rattle.validity.specs.Valid.{apart, newId};
 use records::SLOTS;
 
-// How many buckets there are. Any number will do; a power of two is divided by at no cost.
-const BUCKETS: usize = 1024;
+// How many buckets there are, in words of a bit for each. Any number will do; a power of two is divided by at no cost.
+const BUCKETS: u64 = 8192;
+
+const WORD_BITS: u64 = 64;
+
+const WORDS: usize = 128;
 
 // Whether two ids differ, or are none.
 pub fn apart(a: u64, b: u64) -> bool
@@ -49,10 +53,51 @@ fn new_where(known: bool, table: &[u64], slot: usize) -> bool
 }
 
 // The bucket of an id.
-fn bucket(id: u64) -> usize
+fn bucket(id: u64) -> u64
     ensures { λ r. ⌜ (r ≡ id % bucketCount) × (r < bucketCount) ⌝ }
 {
-    (id % BUCKETS as u64) as usize
+    id % BUCKETS
+}
+
+// The bit k alone.
+fn single(k: u64) -> u64
+    requires { ⌜ k < wordBits ⌝ }
+    ensures { λ r. ⌜ r ≡ 2 ^ k ⌝ }
+{
+    1 << k
+}
+
+// Whether a bucket is marked.
+fn is_marked(seen: &[u64; WORDS], b: u64) -> bool
+    requires { ⌜ b < bucketCount ⌝ }
+    ensures { λ r. ⌜ r ≡ isMarked (now (seen .entry)) b ⌝ }
+{
+    let w = (b / WORD_BITS) as usize;
+    (seen[w] >> (b % WORD_BITS)) % 2 == 1
+}
+
+// Marks a bucket.
+fn mark(seen: &mut [u64; WORDS], b: u64)
+    requires { ⌜ b < bucketCount ⌝ }
+    ensures { λ r. ⌜ now (seen .exit) ≡ marked (now (seen .entry)) b ⌝ }
+{
+    let w = (b / WORD_BITS) as usize;
+    seen[w] = seen[w] | single(b % WORD_BITS);
+}
+
+// Whether the id in a slot stands in no lower slot, of which every id has marked its bucket; then it has marked its own.
+fn next_new(table: &[u64], seen: &mut [u64; WORDS], slot: usize) -> bool
+    requires { ⌜ Seeing (now table) (now seen) slot ⌝ }
+    ensures { λ r. ⌜ (r ≡ newId (stateOf (now (table .entry))) slot) × Seen (stateOf (now (table .entry))) (now (seen .exit)) (slot + 1) ⌝ }
+{
+    let id = layout::load_id(table, slot);
+    if id == 0 {
+        return true;
+    }
+    let b = bucket(id);
+    let known = is_marked(seen, b);
+    mark(seen, b);
+    new_where(known, table, slot)
 }
 
 // Whether no id stands twice.
@@ -60,16 +105,12 @@ pub fn ids_distinct(table: &[u64]) -> bool
     requires { ⌜ length (now table) ≡ cellCount ⌝ }
     ensures { λ r. ⌜ r ≡ every slotCount (newId (stateOf (now (table .entry)))) ⌝ }
 {
-    let mut seen = [false; BUCKETS];
+    let mut seen: [u64; WORDS] = [0; WORDS];
     let mut slot: usize = 0;
     while slot < SLOTS {
-        let id = layout::load_id(table, slot);
-        let b = bucket(id);
-        let known = seen[b];
-        if !new_where(known, table, slot) {
+        if !next_new(table, &mut seen, slot) {
             return false;
         }
-        seen[b] = known | (id != 0);
         slot += 1;
     }
     true

@@ -4,10 +4,11 @@
 //! callgrind, which counts what `measured_plain` or `measured_proved` takes.
 
 use crate::{counts, filled, Timed};
-use bench::load::Load;
+use bench::load::{load, Load, CONNECTED};
 use bench::plain;
-use reference::event::{Event, CALL_NAMES};
+use reference::event::{Event, CALL_NAMES, SLOTS};
 use reference::router::{Answer, ACTION_LIST};
+use std::path::{Path, PathBuf};
 use std::process::Command;
 
 #[cfg(linked)]
@@ -47,8 +48,11 @@ fn run<T: Timed>(
     }
 }
 
-/// What callgrind runs.
-pub fn only(load: &Load, kind: u64, which: &str) {
+/// What callgrind runs: the load was written to a folder.
+pub fn only(folder: &str, kind: u64, which: &str) {
+    let bytes =
+        |name| std::fs::read(Path::new(folder).join(name)).expect("a load that was written");
+    let load = &Load::from_bytes(0, &bytes(OPENING), &bytes(EVENTS));
     match which {
         "plain" => run(load, plain::Router::new(&load.params), kind, measured_plain),
         #[cfg(linked)]
@@ -114,20 +118,67 @@ pub fn print_missing() {
     println!("valgrind is missing on this machine, or the proved library is");
 }
 
-pub fn print_instructions(load: &Load) {
+/// The files of a load in its folder.
+const OPENING: &str = "opening";
+const EVENTS: &str = "events";
+
+/// A load in a folder of its own, which goes with it.
+struct Written(PathBuf);
+
+impl Written {
+    fn new(load: &Load) -> std::io::Result<Written> {
+        let name = format!("hivepadlet-bench-{}-{}", std::process::id(), load.connected);
+        let written = Written(std::env::temp_dir().join(name));
+        let (opening, events) = load.to_bytes();
+        std::fs::create_dir_all(&written.0)?;
+        std::fs::write(written.0.join(OPENING), opening)?;
+        std::fs::write(written.0.join(EVENTS), events)?;
+        Ok(written)
+    }
+}
+
+impl Drop for Written {
+    fn drop(&mut self) {
+        let _ = std::fs::remove_dir_all(&self.0);
+    }
+}
+
+/// What each call of a load takes, plain and proved.
+fn costs(load: &Load) -> Option<Vec<(Cost, Cost)>> {
     let _ = filled(plain::Router::new(&load.params), load);
-    println!("64 connected peers; a call with test 12, plain and proved");
-    println!(
-        "{:12}{:>25}{:>16}{:>12}{:>12}",
-        "call", "instructions, ratio", "branches", "wrong", "misses"
-    );
-    for (place, (name, (all, _))) in CALL_NAMES.iter().zip(counts(load)).enumerate() {
+    let written = Written::new(load).ok()?;
+    let folder = written.0.to_str()?;
+    let cost = |(place, (all, _)): (usize, (usize, usize))| {
         let kind = (place + 1).to_string();
-        let of =
-            |which: &str| collected(&["--only", &kind, which], &format!("measured_{which}"), all);
-        let (Some(plain), Some(proved)) = (of("plain"), of("proved")) else {
-            return print_missing();
+        let of = |which: &str| {
+            collected(&["--only", folder, &kind, which], &format!("measured_{which}"), all)
         };
-        println!("{name:12}{}", plain.beside(&proved));
+        Some((of("plain")?, of("proved")?))
+    };
+    counts(load).into_iter().enumerate().map(cost).collect()
+}
+
+pub fn print_instructions() {
+    let loads = CONNECTED.map(load);
+    let (Some(some), Some(all)) = (costs(&loads[0]), costs(&loads[1])) else {
+        return print_missing();
+    };
+    let [few, many] = CONNECTED;
+    for (connected, costs) in [(few, &some), (many, &all)] {
+        println!("{connected} of {SLOTS} peers connected; a call with test 12, plain and proved");
+        println!(
+            "{:12}{:>25}{:>16}{:>12}{:>12}",
+            "call", "instructions, ratio", "branches", "wrong", "misses"
+        );
+        for (name, (plain, proved)) in CALL_NAMES.iter().zip(costs) {
+            println!("{name:12}{}", plain.beside(proved));
+        }
+    }
+    println!("instructions with {many} connected over those with {few}");
+    println!("{:12}{:>8}{:>8}", "call", "plain", "proved");
+    for ((name, some), all) in CALL_NAMES.iter().zip(&some).zip(&all) {
+        let plain = all.0.instructions / some.0.instructions;
+        let proved = all.1.instructions / some.1.instructions;
+        println!("{name:12}{plain:>8.2}{proved:>8.2}");
     }
 }

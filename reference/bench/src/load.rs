@@ -1,15 +1,20 @@
-//! The load that is timed: a fixed list of calls on a router with 64 connected
+//! The load that is timed: a fixed list of calls on a router with so many connected
 //! peers, in which each of the thirteen calls comes hundreds of times and nearly
 //! all are answered by 0. The second program is the guide while it is recorded.
 
-use reference::event::{Call, Event, Permutation, OUTBOUND_FLAG, SLOTS};
+use reference::event::{by_slot, Call, Event, OLD_SLOTS, OUTBOUND_FLAG, SLOTS};
 use reference::params::{Params, TOPICS};
 use reference::random::Random;
 use reference::router::{Router, ACTION_LIST};
+use reference::trace::{self, TraceEdition};
 
 const ROUNDS: u64 = 250;
 
+/// How many peers are connected in the loads that are timed: some of the slots, and all.
+pub const CONNECTED: [usize; 2] = [OLD_SLOTS, SLOTS];
+
 pub struct Load {
+    pub connected: usize,
     pub params: Params,
     /// The calls that fill the router.
     pub opening: Vec<Event>,
@@ -18,6 +23,7 @@ pub struct Load {
 }
 
 struct Recorder {
+    connected: usize,
     router: Router,
     random: Random,
     now: u64,
@@ -25,17 +31,45 @@ struct Recorder {
 }
 
 /// The recorded load, always the same.
-pub fn load() -> Load {
+pub fn load(connected: usize) -> Load {
     let params = Params::ordinary();
     let router = Router::new(params.clone()).expect("the ordinary parameters are accepted");
-    let mut recorder = Recorder { router, random: Random::new(64), now: 0, events: Vec::new() };
+    let (random, events) = (Random::new(64), Vec::new());
+    let mut recorder = Recorder { connected, router, random, now: 0, events };
     recorder.open();
     let opening = std::mem::take(&mut recorder.events);
     for round in 0..ROUNDS {
         recorder.now += 1000;
         recorder.round(round);
     }
-    Load { params, opening, events: recorder.events }
+    Load { connected, params, opening, events: recorder.events }
+}
+
+impl Load {
+    /// The calls as a trace's bytes, those of the opening first and apart, so that a
+    /// program need not record them again.
+    pub fn to_bytes(&self) -> (Vec<u8>, Vec<u8>) {
+        let bytes = |events: &[Event]| {
+            events.iter().flat_map(|event| trace::write_event(TraceEdition::Two, event)).collect()
+        };
+        (bytes(&self.opening), bytes(&self.events))
+    }
+
+    pub fn from_bytes(connected: usize, opening: &[u8], events: &[u8]) -> Load {
+        let (opening, events) = (read(opening), read(events));
+        Load { connected, params: Params::ordinary(), opening, events }
+    }
+}
+
+fn read(mut bytes: &[u8]) -> Vec<Event> {
+    let mut events = Vec::new();
+    while !bytes.is_empty() {
+        let (event, length) =
+            trace::read_event(TraceEdition::Two, bytes).expect("events that were written");
+        events.push(event);
+        bytes = &bytes[length..];
+    }
+    events
 }
 
 impl Recorder {
@@ -45,10 +79,10 @@ impl Recorder {
         self.events.push(event);
     }
 
-    /// Peers 1 to 64, four to a group, every fourth outbound, all subscribed to all
+    /// Peers 1 to as many as are connected, four to a group, every fourth outbound, all subscribed to all
     /// topics; meshes are filled by a heartbeat each.
     fn open(&mut self) {
-        for id in 1..=SLOTS as u64 {
+        for id in 1..=self.connected as u64 {
             self.connect(id);
         }
         for topic in 0..TOPICS as u64 {
@@ -69,13 +103,13 @@ impl Recorder {
     }
 
     fn heartbeat(&mut self, topic: u64) {
-        let mut permutation: Box<Permutation> = Box::new(std::array::from_fn(|slot| slot as u64));
+        let mut permutation = by_slot();
         self.random.shuffle(&mut permutation[..]);
         self.push(Call::Heartbeat { topic, ask: self.now / 1000 % 2, permutation });
     }
 
     fn id(&mut self) -> u64 {
-        1 + self.random.below(SLOTS) as u64
+        1 + self.random.below(self.connected) as u64
     }
 
     /// A topic other than the last, which is left and joined in every round.

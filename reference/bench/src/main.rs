@@ -3,9 +3,9 @@
 //! nanoseconds; each event's is the best of many rounds, so that the state, the
 //! arguments and the answer are the same for both.
 
-use bench::load::{load, Load};
+use bench::load::{load, Load, CONNECTED};
 use bench::plain;
-use reference::event::{Event, CALL_NAMES};
+use reference::event::{Event, CALL_NAMES, SLOTS};
 use reference::router::{number, Answer, Router, ACTION_LIST};
 use std::hint::black_box;
 use std::time::Instant;
@@ -101,11 +101,13 @@ fn main() {
     match words.iter().map(String::as_str).collect::<Vec<_>>()[..] {
         [] => print_all_times(ROUNDS),
         ["--instructions"] => {
-            count::print_instructions(&load());
+            count::print_instructions();
             println!();
             messages::print_instructions();
         }
-        ["--only", kind, which] => count::only(&load(), kind.parse().expect("a kind"), which),
+        ["--only", folder, kind, which] => {
+            count::only(folder, kind.parse().expect("a kind"), which)
+        }
         ["--only-message", place, which] => messages::only(place.parse().expect("a place"), which),
         [rounds] => print_all_times(rounds.parse().expect("a number of rounds")),
         _ => panic!("usage: bench [ROUNDS | --instructions]"),
@@ -120,34 +122,78 @@ fn print_all_times(rounds: usize) {
     supplier::print_times(rounds);
 }
 
-fn print_times(rounds: usize) {
-    let load = load();
-    let clock = clock_time();
-    let plain = filled(plain::Router::new(&load.params), &load);
-    let plain_times = means(&load.events, &best_times(&plain, &load.events, rounds), clock);
-    let plain_test = time(|| black_box(&plain).is_valid());
-    #[cfg(linked)]
-    let (proved_times, proved_test) = {
-        let proved = filled(proved::Router::new(&load.params), &load);
-        let times = means(&load.events, &best_times(&proved, &load.events, rounds), clock);
-        (times, time(|| black_box(&proved).is_valid()))
-    };
-    #[cfg(not(linked))]
-    let (proved_times, proved_test) = (vec![f64::NAN; CALL_NAMES.len()], f64::NAN);
-    println!("64 connected peers, nanoseconds a call, test 12 included; its share of the proved call in the last column");
-    println!(
-        "{:12}{:>8}{:>8}{:>9}{:>9}{:>7}{:>9}",
-        "call", "events", "done", "plain", "proved", "ratio", "test 12"
-    );
-    for (place, (name, (all, done))) in CALL_NAMES.iter().zip(counts(&load)).enumerate() {
-        let (plain, proved) = (plain_times[place], proved_times[place]);
-        let (ratio, share) = (proved / plain, 100.0 * proved_test / proved);
-        println!("{name:12}{all:>8}{done:>8}{plain:>9.0}{proved:>9.0}{ratio:>7.2}{share:>8.0}%");
+/// What the calls of one load take by one router: the mean by kind, and test 12 alone.
+struct Times {
+    calls: Vec<f64>,
+    test: f64,
+}
+
+impl Times {
+    fn of<T: Timed>(fresh: T, load: &Load, rounds: usize, is_valid: impl Fn(&T) -> bool) -> Times {
+        let clock = clock_time();
+        let router = filled(fresh, load);
+        let calls = means(&load.events, &best_times(&router, &load.events, rounds), clock);
+        Times { calls, test: time(|| is_valid(black_box(&router))) }
     }
-    let ratio = proved_test / plain_test;
+
+    fn plain(load: &Load, rounds: usize) -> Times {
+        Times::of(plain::Router::new(&load.params), load, rounds, |router| router.is_valid())
+    }
+
+    #[cfg(linked)]
+    fn proved(load: &Load, rounds: usize) -> Times {
+        Times::of(proved::Router::new(&load.params), load, rounds, |router| router.is_valid())
+    }
+
+    #[cfg(not(linked))]
+    fn proved(_: &Load, _: usize) -> Times {
+        Times { calls: vec![f64::NAN; CALL_NAMES.len()], test: f64::NAN }
+    }
+}
+
+/// Both routers on one load.
+struct Beside {
+    plain: Times,
+    proved: Times,
+}
+
+fn print_times(rounds: usize) {
+    let loads = CONNECTED.map(load);
+    let beside = |load: &Load| Beside {
+        plain: Times::plain(load, rounds),
+        proved: Times::proved(load, rounds),
+    };
+    let [some, all] = [beside(&loads[0]), beside(&loads[1])];
+    let [few, many] = CONNECTED;
+    println!("nanoseconds a call, test 12 included, its share of the proved call beside; {few} and {many} of {SLOTS} peers connected");
     println!(
-        "test 12 alone: plain {plain_test:.0} ns, proved {proved_test:.0} ns, ratio {ratio:.2}"
+        "{:20}{:>33}{:>33}{:>16}",
+        "",
+        format!("{few} connected"),
+        format!("{many} connected"),
+        format!("{many} / {few}")
     );
+    let head = format!("{:>9}{:>9}{:>7}{:>8}", "plain", "proved", "ratio", "test 12");
+    println!("{:12}{:>8}{head}{head}{:>8}{:>8}", "call", "events", "plain", "proved");
+    for (place, (name, (events, _))) in CALL_NAMES.iter().zip(counts(&loads[0])).enumerate() {
+        let columns = |of: &Beside| {
+            let (plain, proved) = (of.plain.calls[place], of.proved.calls[place]);
+            let (ratio, share) = (proved / plain, 100.0 * of.proved.test / proved);
+            format!("{plain:>9.0}{proved:>9.0}{ratio:>7.2}{share:>7.0}%")
+        };
+        let grown = |many: &Times, few: &Times| many.calls[place] / few.calls[place];
+        let (plain, proved) = (grown(&all.plain, &some.plain), grown(&all.proved, &some.proved));
+        println!(
+            "{name:12}{events:>8}{}{}{plain:>8.2}{proved:>8.2}",
+            columns(&some),
+            columns(&all)
+        );
+    }
+    for (connected, Beside { plain, proved }) in CONNECTED.iter().zip([&some, &all]) {
+        let (plain, proved) = (plain.test, proved.test);
+        let ratio = proved / plain;
+        println!("test 12 alone, {connected} connected: plain {plain:.0} ns, proved {proved:.0} ns, ratio {ratio:.2}");
+    }
 }
 
 /// The nanoseconds of one run of `test`, the best of many short rounds.

@@ -7,6 +7,7 @@
 mod calls;
 mod heartbeat;
 mod score;
+mod slots;
 mod valid;
 
 use reference::event::{Call, Event, LAST_TIME, SLOTS};

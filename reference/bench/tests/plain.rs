@@ -3,7 +3,7 @@
 
 use bench::plain;
 use reference::coverage::Coverage;
-use reference::event::{Call, Event};
+use reference::event::{by_slot, Call, Event, SLOTS};
 use reference::generate::traces;
 use reference::params::{Edition, Params, TOPICS};
 use reference::random::Random;
@@ -88,8 +88,8 @@ fn same_answers_and_states() {
 /// Puts a number into one field of the second program's tables, within what the
 /// plain router's narrower types hold.
 fn damage(router: &mut Router, random: &mut Random) {
-    let slot = random.below(64);
-    let other = router.peers[random.below(64)].id;
+    let slot = random.below(SLOTS);
+    let other = router.peers[random.below(SLOTS)].id;
     let clock = router.clock;
     let time = *random.pick(&[0, 1, clock, clock + 1, 1 << 40, (1 << 40) + 1, u64::MAX]);
     let counter = *random.pick(&[0, 1, 1000, 1_000_000, 1_000_001]);
@@ -153,8 +153,7 @@ fn grafts(end: u64, now: u64) -> Answer {
     second.peers[0] = Peer { status: Status::Connected, id: 7, ..Peer::default() };
     second.peers[0].topics[0] = record;
     second.peers[0].backoff_ends[0] = end;
-    let permutation = Box::new(std::array::from_fn(|slot| slot as u64));
-    let event = Event { now, call: Call::Heartbeat { topic: 0, ask: 0, permutation } };
+    let event = Event { now, call: Call::Heartbeat { topic: 0, ask: 0, permutation: by_slot() } };
     plain_of(&second).call(&event, &mut [0; ACTION_LIST])
 }
 

@@ -111,6 +111,11 @@ pub fn write(router: &Router, cells: &mut Cells) {
     let peers = peers.chunks_exact_mut(PEER_CELLS);
     let records = records.chunks_exact_mut(TOPICS * RECORD_CELLS);
     for ((row, records), peer) in peers.zip(records).zip(&router.peers) {
+        if peer.is_zero() {
+            row.fill(0);
+            records.fill(0);
+            continue;
+        }
         write_peer(peer, row);
         for (row, record) in records.chunks_exact_mut(RECORD_CELLS).zip(&peer.topics) {
             write_record(record, row);
@@ -216,11 +221,11 @@ mod tests {
 
     #[test]
     fn regions_begin_where_the_crate_cells_says() {
-        assert_eq!((CODES, PEERS, RECORDS), (9, 157, 1245));
+        assert_eq!((CODES, PEERS, RECORDS), (9, 157, 4509));
         assert_eq!(Spot::of(155), Spot::Number(146));
         assert_eq!(Spot::of(156), Spot::Edition);
-        assert_eq!(Spot::of(1244), Spot::Peer { slot: 63, field: 16 });
-        assert_eq!(Spot::of(5340), Spot::Record { slot: 63, topic: 7, field: 7 });
+        assert_eq!(Spot::of(4508), Spot::Peer { slot: 255, field: 16 });
+        assert_eq!(Spot::of(20_892), Spot::Record { slot: 255, topic: 7, field: 7 });
     }
 
     #[test]

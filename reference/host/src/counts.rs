@@ -3,7 +3,7 @@
 use crate::library::{number, value};
 use crate::request::{Request, LONG_LISTS, ODD_PERMUTATIONS, SHORT_LISTS};
 use crate::stand_in::code;
-use reference::coverage::{Answers, Coverage};
+use reference::coverage::{of_traces, Answers, Coverage};
 use reference::event::{CALL_NAMES, SLOTS};
 use reference::router::{Answer, Done, Router, ACTION_LIST};
 use std::collections::BTreeMap;
@@ -21,7 +21,7 @@ pub struct Counts {
     made: u64,
     /// By kind and length of the list: refused for it where it is short, done where it is not.
     lists: BTreeMap<(u64, usize), u64>,
-    /// By length: refused for it, or done with 64 slots.
+    /// By length: refused for it, or done with all slots.
     permutations: BTreeMap<usize, u64>,
     full_lists: BTreeMap<&'static str, u64>,
     coverage: Coverage,
@@ -87,7 +87,7 @@ impl Counts {
         let absent = lengths.filter(|length| !self.permutations.contains_key(length));
         missing.extend(absent.map(|length| format!("permutation of {length} numbers")));
         let absent = FULL_LISTS.iter().filter(|name| !self.full_lists.contains_key(*name));
-        missing.extend(absent.map(|name| format!("{name} with 64 actions in 192 numbers")));
+        missing.extend(absent.map(|name| full_list(name)));
         missing.extend(cases(&self.coverage.missing_with_made()));
         missing.extend(wanted.into_iter().filter(|what| self.of(what) == 0));
         missing
@@ -134,16 +134,18 @@ impl Counts {
             let _ = writeln!(out, "{what:62}{count:>9}");
         }
         for (name, count) in &self.full_lists {
-            let what = format!("{name} with 64 actions in 192 numbers");
-            let _ = writeln!(out, "{what:62}{count:>9}");
+            let _ = writeln!(out, "{:62}{count:>9}", full_list(name));
         }
         let _ = writeln!(out, "scores from {} to {}", self.lowest_score, self.highest_score);
     }
 }
 
+fn full_list(name: &str) -> String {
+    format!("{name} with {SLOTS} actions in {ACTION_LIST} numbers")
+}
+
 /// Of the second program's counts the cases inside the rules: not the answers, which are counted here
-/// with 8 and 12, and not the ways in which a trace stops.
+/// with 8 and 12, and not what a trace alone meets.
 fn cases(lines: &[String]) -> impl Iterator<Item = String> + '_ {
-    let of_calls = lines.iter().filter(|line| line.contains(": ") && !line.starts_with("stop: "));
-    of_calls.cloned()
+    lines.iter().filter(|line| line.contains(": ") && !of_traces(line)).cloned()
 }

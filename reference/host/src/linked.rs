@@ -36,7 +36,7 @@ pub fn call(table: &mut Cells, event: &Event, why: &mut Why, list: &mut [u32]) -
 }
 
 impl Library for Linked {
-    /// A request's permutation may have any length; an event's has 64 numbers.
+    /// A request's permutation may have any length; an event's has one number for each slot.
     fn call(&self, request: &Request, table: &mut Cells, why: &mut Why, list: &mut [u32]) -> u64 {
         let event = &request.event;
         match event.call {

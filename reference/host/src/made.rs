@@ -7,6 +7,7 @@ use reference::generate::{params as generate_params, traces};
 use reference::params::{field_at, general, topic, topic_index, Params, TOPICS};
 use reference::random::Random;
 use reference::router::{Peer, Router, Status, TopicRecord, Version};
+use reference::trace::TraceEdition;
 
 pub const P4_P7_LIMIT: i64 = 1_000_000;
 pub const P3B_LIMIT: i64 = 1_000_000_000_000;
@@ -24,14 +25,17 @@ pub fn router(random: &mut Random) -> Router {
     router.clock = clock(random);
     let joined = 1 + random.below(4);
     router.joined = std::array::from_fn(|_| random.chance(joined, 4));
-    let filled = *random.pick(&[8, 40, 56, 60, 64, 64, 64]);
+    // A part of all slots, by the hundred; often all of them.
+    let filled = *random.pick(&[4, 12, 60, 90, 97, 100, 100]);
     let groups = *random.pick(&[1, 4, 1u64 << 32]);
+    // Of 256 slots some retained one can nearly always be reclaimed; so often none is retained.
+    let retained = if random.chance(2, 3) { 1 } else { 0 };
     let first_id = first_id(random);
     for slot in 0..SLOTS {
-        if random.chance(filled, SLOTS) {
-            // Seven steps through 64 ids meet each once, out of order.
+        if random.chance(filled, 100) {
+            // Seven steps through the ids meet each once, out of order.
             let id = first_id + ((slot * 7) % SLOTS) as u32;
-            router.peers[slot] = peer(&router, id, groups, random);
+            router.peers[slot] = peer(&router, id, groups, retained, random);
         }
     }
     assert!(router.is_valid(), "made tables are a router's");
@@ -74,7 +78,7 @@ fn clock(random: &mut Random) -> u64 {
     }
 }
 
-/// The lowest of 64 ids in a row; at both ends of their range now and then.
+/// The lowest of as many ids in a row as there are slots; at both ends of their range now and then.
 fn first_id(random: &mut Random) -> u32 {
     let last = u32::MAX - SLOTS as u32 + 1;
     match random.below(4) {
@@ -84,8 +88,9 @@ fn first_id(random: &mut Random) -> u32 {
     }
 }
 
-fn peer(router: &Router, id: u32, groups: u64, random: &mut Random) -> Peer {
-    let status = if random.chance(1, 5) { Status::Retained } else { Status::Connected };
+/// A peer's record; of five so many are retained.
+fn peer(router: &Router, id: u32, groups: u64, retained: usize, random: &mut Random) -> Peer {
+    let status = if random.chance(retained, 5) { Status::Retained } else { Status::Connected };
     let retained = status == Status::Retained;
     let mut peer = Peer {
         status,
@@ -235,7 +240,7 @@ pub fn early(random: &mut Random) -> Router {
 
 /// A scene for a made router: its own ids, and a few more.
 pub fn scene(router: &Router, random: &mut Random) -> Scene {
-    let mut scene = traces::scene(300, random);
+    let mut scene = traces::scene(TraceEdition::Two, 300, random);
     let held = router.peers.iter().filter(|peer| peer.id != 0).map(|peer| u64::from(peer.id));
     scene.ids.truncate(8);
     scene.ids.extend(held);

@@ -9,6 +9,7 @@ use reference::params::{field_at, COUNT};
 use reference::router::{Peer, Router, ACTION_LIST};
 use reference::shrink::shrink;
 use reference::text::{self, Trace};
+use reference::trace::TraceEdition;
 use std::fmt::Write;
 use std::time::{Duration, Instant};
 
@@ -81,7 +82,8 @@ fn shrunk<L: Library>(
 
 /// The start: its parameters, and its state where it is not fresh.
 fn write_start(start: &Router, out: &mut String) {
-    let trace = Trace { params: Some(start.params.clone()), lines: Vec::new() };
+    let edition = TraceEdition::Two;
+    let trace = Trace { edition, params: Some(start.params.clone()), lines: Vec::new() };
     *out += &text::print(&trace);
     if *start == Router::unchecked(start.params.clone()) {
         return;

@@ -1,24 +1,42 @@
 //! A call as it is made on both sides: an event of the second program, the length of the action list,
 //! and a permutation of any length.
 
-use reference::event::{Call, Event, Permutation, LAST_TIME, SLOTS};
+use reference::event::{by_slot, Call, Event, Permutation, LAST_TIME, OLD_SLOTS, SLOTS};
 use reference::random::Random;
 use reference::router::{Router, Status, ACTION_LIST};
 use reference::text::{self, Line};
+use reference::trace::TraceEdition;
 
 /// The lengths of action lists that every call is to meet: refused, and long enough.
-pub const SHORT_LISTS: [usize; 7] = [0, 1, 2, 3, 189, 190, 191];
-pub const LONG_LISTS: [usize; 5] = [192, 193, 194, 195, 300];
+pub const SHORT_LISTS: [usize; 8] =
+    [0, 1, 2, 3, OLD_LIST, ACTION_LIST - 3, ACTION_LIST - 2, ACTION_LIST - 1];
+pub const LONG_LISTS: [usize; 5] =
+    [ACTION_LIST, ACTION_LIST + 1, ACTION_LIST + 2, ACTION_LIST + 3, ACTION_LIST + 100];
+
+/// What was enough for the old slots.
+const OLD_LIST: usize = 3 * OLD_SLOTS;
 
 /// The lengths of lists of slots that are no permutation by their length alone.
-pub const ODD_PERMUTATIONS: [usize; 11] = [0, 1, 32, 61, 62, 63, 65, 66, 67, 128, 1000];
+pub const ODD_PERMUTATIONS: [usize; 11] = [
+    0,
+    1,
+    32,
+    OLD_SLOTS - 1,
+    OLD_SLOTS,
+    SLOTS - 2,
+    SLOTS - 1,
+    SLOTS + 1,
+    SLOTS + 2,
+    2 * SLOTS,
+    1000,
+];
 
 const ODD_NAMES: [usize; 9] = [0, 1, 13, 15, 16, 28, 65, 256, 1000];
 
 #[derive(Clone, PartialEq, Eq, Debug)]
 pub struct Request {
     pub event: Event,
-    /// A heartbeat's list of slots, where it has another length than 64.
+    /// A heartbeat's list of slots, where it has another length than theirs.
     odd_permutation: Option<Vec<u64>>,
     /// How many numbers the lent action list has.
     pub list: usize,
@@ -57,8 +75,8 @@ impl Request {
         request
     }
 
-    /// Cuts or lengthens a heartbeat's permutation. The second program takes 64 slots and no other
-    /// number of them; it gets 64 that are no permutation, since a list of another length is none.
+    /// Cuts or lengthens a heartbeat's permutation. The second program takes all slots and no other
+    /// number of them; it gets so many that are no permutation, since a list of another length is none.
     fn set_permutation(&mut self, length: usize, random: &mut Random) {
         let Call::Heartbeat { permutation, .. } = &mut self.event.call else { return };
         let more = match random.below(3) {
@@ -66,7 +84,9 @@ impl Request {
             1 => vec![0; length],
             _ => (SLOTS as u64..).take(length).collect(),
         };
-        let slots = permutation.iter().chain(more.iter().cycle());
+        // Often each of the first so many slots once.
+        let lowest = if random.chance(1, 2) { length as u64 } else { u64::MAX };
+        let slots = permutation.iter().filter(|&&slot| slot < lowest).chain(more.iter().cycle());
         self.odd_permutation = Some(slots.copied().take(length).collect());
         **permutation = [SLOTS as u64; SLOTS];
     }
@@ -86,7 +106,8 @@ impl Request {
 
     /// The call as text, as in traces, with what a trace cannot say as a comment.
     pub fn text(&self) -> String {
-        let mut out = text::print_line(&Line::Event(self.event.clone()));
+        let line = Line::Event(self.event.clone());
+        let mut out = text::print_line(TraceEdition::Two, &line);
         if let Some(slots) = &self.odd_permutation {
             out += &format!("  # permutation of {} numbers: {slots:?}", slots.len());
         }
@@ -115,7 +136,7 @@ pub fn thirteen(router: &Router, random: &mut Random) -> Vec<Request> {
     let id = if connected.is_empty() { 1 } else { *random.pick(&connected) };
     let joined: Vec<u64> = (0..8).filter(|&k| router.joined[k as usize]).collect();
     let topic = if joined.is_empty() { 0 } else { *random.pick(&joined) };
-    let mut permutation: Box<Permutation> = Box::new(std::array::from_fn(|slot| slot as u64));
+    let mut permutation = by_slot();
     random.shuffle(&mut permutation[..]);
     let name = random.pick(&[b"/meshsub/1.0.0", b"/meshsub/1.1.0"]).to_vec();
     let new = new_id(router, random);
@@ -155,7 +176,7 @@ fn new_id(router: &Router, random: &mut Random) -> u64 {
         return *random.pick(&retained);
     }
     let taken = |id: u64| router.peers.iter().any(|peer| u64::from(peer.id) == id);
-    (1..).find(|&id| !taken(id)).expect("64 records hold at most 64 ids")
+    (1..).find(|&id| !taken(id)).expect("no more ids than records")
 }
 
 /// The calls again, each with one more reason to be refused: too large a time, a short list, an early

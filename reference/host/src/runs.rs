@@ -6,12 +6,13 @@ use crate::made;
 use crate::pair::{Difference, Pair};
 use crate::request::Request;
 use reference::coverage;
-use reference::event::{Call, SLOTS};
+use reference::event::{by_slot, Call, SLOTS};
 use reference::generate::calls::{Caller, Scene};
 use reference::generate::traces;
 use reference::params::{field_at, general, topic, topic_index, Params, TOPICS};
 use reference::random::Random;
 use reference::router::{Router, ACTION_LIST};
+use reference::trace::TraceEdition;
 use std::collections::VecDeque;
 
 /// A run's start and the calls made so far: all that is needed to make it again.
@@ -119,10 +120,7 @@ fn source(random: &mut Random) -> Source {
         2..=6 => rounds(random),
         7..=12 => from_made(random),
         13 | 14 => early(random),
-        15 => {
-            let lowest = random.chance(1, 2);
-            with_script(made::extreme(lowest), VecDeque::new(), 100, random)
-        }
+        15 => extreme(random),
         _ => {
             let params = traces::params(&mut random);
             ordinary(params, random)
@@ -151,7 +149,7 @@ fn source_of(router: Router, scene: Scene, left: usize, mut random: Random) -> S
 /// A fresh router and what comes; mostly many peers come first.
 fn ordinary(params: Params, mut random: Random) -> Source {
     let length = length(&mut random);
-    let scene = traces::scene(length, &mut random);
+    let scene = traces::scene(TraceEdition::Two, length, &mut random);
     let mut source = source_of(fresh(params), scene, length, random);
     if source.random.chance(2, 3) {
         source.caller.plan_opening();
@@ -188,7 +186,7 @@ fn rounds(mut random: Random) -> Source {
     for k in 0..TOPICS {
         params.numbers[topic_index(k, topic::WEIGHT)] = 0;
     }
-    let mut scene = traces::scene(300, &mut random);
+    let mut scene = traces::scene(TraceEdition::Two, 300, &mut random);
     scene.outbound = 1 + random.below(2);
     let topic = random.below(TOPICS) as u64;
     let left = 1000 + random.below(2000);
@@ -227,6 +225,13 @@ fn limits(mut random: Random) -> Source {
     with_script(fresh(params), script, 200, random)
 }
 
+/// The scores that pass no other either way, asked for before anything changes them.
+fn extreme(mut random: Random) -> Source {
+    let router = made::extreme(random.chance(1, 2));
+    let scores = [1, SLOTS as u64].map(|id| Request::at(router.clock, Call::Score { id }));
+    with_script(router, VecDeque::from(scores), 100, random)
+}
+
 /// Heartbeats of the first two seconds, over backoff ends under 1000.
 fn early(mut random: Random) -> Source {
     let router = made::early(&mut random);
@@ -234,7 +239,7 @@ fn early(mut random: Random) -> Source {
     let mut script = VecDeque::new();
     while now < 2000 {
         let (topic, ask) = (random.below(TOPICS) as u64, random.below(2) as u64);
-        let mut permutation = Box::new(std::array::from_fn(|slot| slot as u64));
+        let mut permutation = by_slot();
         random.shuffle(&mut permutation[..]);
         script.push_back(Request::at(now, Call::Heartbeat { topic, ask, permutation }));
         now += 1 + random.below(300) as u64;
@@ -242,8 +247,8 @@ fn early(mut random: Random) -> Source {
     with_script(router, script, 50, random)
 }
 
-/// 64 outbound members: a leave, and a heartbeat of which none is wanted any more, give 64 actions each,
-/// which fill a list of 192 numbers to its end.
+/// Every slot an outbound member: a leave, and a heartbeat of which none is wanted any more, give as many
+/// actions each, which fill the shortest list to its end.
 fn crowd(mut random: Random) -> Source {
     let topic = random.below(TOPICS) as u64;
     let ids = || 1..=SLOTS as u64;
@@ -260,7 +265,7 @@ fn crowd(mut random: Random) -> Source {
             for id in ids() {
                 add(Call::SetP5 { id, value: -1 });
             }
-            let mut permutation = Box::new(std::array::from_fn(|slot| slot as u64));
+            let mut permutation = by_slot();
             random.shuffle(&mut permutation[..]);
             add(Call::Heartbeat { topic, ask: 1, permutation });
         } else {

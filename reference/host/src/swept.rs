@@ -7,18 +7,25 @@ use crate::damage::{self, Damage};
 use crate::library::Library;
 use crate::pair::{Difference, Pair};
 use crate::request::{also_bad, thirteen, Request};
+use reference::event::{Call, SLOTS};
 use reference::random::Random;
 use reference::router::{number, Router, ACTION_LIST};
 
-/// Of the damages of one state every so-many-th is done, others in the next state. A prime, so that the
-/// fields of the records take turns.
+/// Of the damages of one state every so-many-th is done, others in the next state. Primes, so that the
+/// fields of the records take turns: one for the cells before the peers', which are few, and one for theirs,
+/// of which each gets its turn in some state. The first and the last slot are damaged in every state.
 const STRIDE: usize = 13;
+const PEERS_STRIDE: usize = 61;
+
+/// Every so-many-th damaged table is handed to all thirteen calls, the others to a few.
+const THOROUGH: u64 = 8;
+const FEW: usize = 3;
 
 /// In every so-many-th state the largest number is put into cells as well.
 const LARGEST: usize = 4;
 
 /// How many random changes each state gets.
-const CHANGES: usize = 1000;
+const CHANGES: usize = 400;
 
 /// A difference on a damaged table.
 pub struct Failure {
@@ -51,10 +58,10 @@ pub fn compare<L: Library>(
     let mut past_range = vec![false; CELLS];
     for (place, state) in states.iter().enumerate() {
         let mut sweep = Sweep::new(library, state, random, counts);
-        let turn = |damage: &Damage| damage.changes[0].0 % STRIDE == place % STRIDE;
+        let turn = |damage: &Damage| has_turn(damage.changes[0].0, place);
         let largest = place.is_multiple_of(LARGEST);
         for damage in damage::all(state, largest).into_iter().filter(turn) {
-            let found = sweep.damage(&damage);
+            let found = sweep.damage(&damage, tables.damaged.is_multiple_of(THOROUGH));
             found.map_err(|found| failure(place, damage.kind, &damage.changes, found))?;
             tables.damaged += 1;
             let alone = damage.changes.len() == 1 && damage.kind != damage::LARGEST;
@@ -73,7 +80,16 @@ pub fn compare<L: Library>(
     Ok(tables)
 }
 
-/// Each of the 5341 cells alone, one past its range or at odds with the others.
+/// Whether the damage of a cell is done in a state.
+fn has_turn(cell: usize, state: usize) -> bool {
+    let stride = if cell < cells::PEERS { STRIDE } else { PEERS_STRIDE };
+    let (Spot::Peer { slot, .. } | Spot::Record { slot, .. }) = Spot::of(cell) else {
+        return cell % stride == state % stride;
+    };
+    cell % stride == state % stride || slot == 0 || slot == SLOTS - 1
+}
+
+/// Each cell alone, one past its range or at odds with the others.
 const EVERY_CELL: &str = "every cell damaged by itself";
 
 /// The names that a comparison counts here.
@@ -109,6 +125,8 @@ fn failure(state: usize, kind: &str, changes: &[(usize, u64)], found: Found) -> 
 /// One state, and its table in room to be damaged.
 struct Sweep<'a, L> {
     pair: Pair<'a, L>,
+    /// The slot of the peer that the calls are about, if there is one.
+    slot: usize,
     table: Box<Cells>,
     requests: Vec<Request>,
     random: &'a mut Random,
@@ -124,11 +142,16 @@ impl<'a, L: Library> Sweep<'a, L> {
     ) -> Sweep<'a, L> {
         let requests = thirteen(router, random);
         let pair = Pair::new(library, router);
-        Sweep { pair, table: cells::table_of(router), requests, random, counts }
+        let slot = requests.iter().find_map(|request| match request.event.call {
+            Call::Score { id } => router.connected(id as u32).ok(),
+            _ => None,
+        });
+        let (slot, table) = (slot.unwrap_or(0), cells::table_of(router));
+        Sweep { pair, slot, table, requests, random, counts }
     }
 
-    /// The table damaged so is no router's by both, and all thirteen calls refuse it.
-    fn damage(&mut self, damage: &Damage) -> Result<(), Found> {
+    /// The table damaged so is no router's by both, and the calls refuse it: all thirteen, or a few.
+    fn damage(&mut self, damage: &Damage, thorough: bool) -> Result<(), Found> {
         let (valid, mut router) =
             self.agree(&damage.changes).map_err(|difference| (None, difference))?;
         if valid {
@@ -136,6 +159,10 @@ impl<'a, L: Library> Sweep<'a, L> {
             return Err((None, Difference(vec![told])));
         }
         let mut requests = self.requests.clone();
+        if !thorough {
+            self.random.shuffle(&mut requests);
+            requests.truncate(FEW);
+        }
         also_bad(&mut requests, self.random);
         for request in &requests {
             self.refuse(&mut router, request)?;
@@ -190,11 +217,13 @@ impl<'a, L: Library> Sweep<'a, L> {
         (0..count).map(|_| self.random_change()).collect()
     }
 
-    /// A cell of any region, the small ones as likely as the large; and a value near the old one, a small
-    /// one, one bit turned, that of another record, or any.
+    /// A cell of any region, the small ones as likely as the large, and often one of the peer that the calls
+    /// are about; and a value near the old one, a small one, one bit turned, that of another record, or any.
     fn random_change(&mut self) -> (usize, u64) {
         let random = &mut *self.random;
+        let own = cells::peer_cell(self.slot, 0);
         let (from, to) = *random.pick(&[
+            (own, own + cells::PEER_CELLS),
             (cells::CLOCK, cells::JOINED),
             (cells::JOINED, cells::CODES),
             (cells::CODES, cells::EDITION),

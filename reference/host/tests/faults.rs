@@ -9,7 +9,7 @@ use host_compare::library::{packed, Library, Numbers, Why};
 use host_compare::request::Request;
 use host_compare::stand_in::StandIn;
 use host_compare::{edges, made, parameters, report, runs, swept};
-use reference::event::{Call, LAST_TIME, P5_LIMIT, SLOTS};
+use reference::event::{by_slot, Call, LAST_TIME, OLD_SLOTS, P5_LIMIT, SLOTS};
 use reference::params::{general, topic, topic_index, COUNT};
 use reference::random::Random;
 use reference::router::{Router, ACTION_LIST};
@@ -120,7 +120,7 @@ fn with_number(
 
 #[test]
 fn wrong_answers_lists_and_tables_are_seen() {
-    let faults: [(&str, Faulty); 12] = [
+    let faults: [(&str, Faulty); 14] = [
         (
             "11 in the place of 3",
             with_call(|request, table, why, list| match StandIn.call(request, table, why, list) {
@@ -203,7 +203,7 @@ fn wrong_answers_lists_and_tables_are_seen() {
             }),
         ),
         (
-            "a list of 191 numbers is taken",
+            "a list of one number less is taken",
             with_call(|request, table, why, list| {
                 if list.len() != ACTION_LIST - 1 {
                     return StandIn.call(request, table, why, list);
@@ -216,7 +216,7 @@ fn wrong_answers_lists_and_tables_are_seen() {
             }),
         ),
         (
-            "a permutation is read by its first 64 numbers",
+            "a permutation is read by its first 256 numbers",
             with_call(|request, table, why, list| {
                 let mut event = request.event.clone();
                 if let Call::Heartbeat { permutation, .. } = &mut event.call {
@@ -225,6 +225,33 @@ fn wrong_answers_lists_and_tables_are_seen() {
                     }
                 }
                 StandIn.call(&Request::plain(event), table, why, list)
+            }),
+        ),
+        (
+            "an old permutation is taken, the others by slot",
+            with_call(|request, table, why, list| {
+                let mut event = request.event.clone();
+                if let Call::Heartbeat { permutation, .. } = &mut event.call {
+                    let given = request.permutation(permutation).to_vec();
+                    if given.len() == OLD_SLOTS {
+                        *permutation = by_slot();
+                        permutation[..OLD_SLOTS].copy_from_slice(&given);
+                    }
+                }
+                StandIn.call(&Request::plain(event), table, why, list)
+            }),
+        ),
+        (
+            "the slots past the old ones are not given",
+            with_call(|request, table, why, list| {
+                let before = *table;
+                let result = StandIn.call(request, table, why, list);
+                let cell = peer_cell(OLD_SLOTS, peer::STATUS);
+                if (before[cell], table[cell]) == (0, 1) {
+                    *table = before;
+                    return 5;
+                }
+                result
             }),
         ),
         (
@@ -580,9 +607,17 @@ fn a_test_12_that_misses_something_is_seen() {
             })),
         ),
         (
+            "the slots past the old ones",
+            blind_to!(|table| {
+                let records = record_cell(OLD_SLOTS, 0, 0);
+                table[peer_cell(OLD_SLOTS, 0)..cells::RECORDS].fill(0);
+                table[records..].fill(0);
+            }),
+        ),
+        (
             "the last cell",
             blind_to!(|table| {
-                if table[record_cell(63, 7, record::MEMBER)] == 0 {
+                if table[record_cell(SLOTS - 1, 7, record::MEMBER)] == 0 {
                     table[CELLS - 1] = 0;
                 }
             }),

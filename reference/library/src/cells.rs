@@ -3,7 +3,7 @@
 use crate::{NUMBERS, SLOTS, TOPICS};
 
 /// How many numbers a table has, and where its regions begin.
-pub const CELLS: usize = 5341;
+pub const CELLS: usize = 20_893;
 pub const CLOCK: usize = 0;
 pub const JOINED: usize = 1;
 pub const CODES: usize = JOINED + TOPICS;

@@ -32,7 +32,7 @@ pub use cells::{Cells, CELLS};
 pub use linked::*;
 
 /// Peers that a router holds, and numbers of a permutation.
-pub const SLOTS: usize = 64;
+pub const SLOTS: usize = 256;
 pub const TOPICS: usize = 8;
 
 /// Numbers of the parameters, of an action list, and of a score with its parts.

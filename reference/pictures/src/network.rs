@@ -3,7 +3,7 @@
 
 use crate::history::History;
 use crate::router::{Action, Delivery, Numbers, Router};
-use reference::event::SLOTS;
+use reference::event::{by_slot, OLD_SLOTS};
 use reference::random::Random;
 use std::collections::BTreeMap;
 
@@ -248,8 +248,9 @@ impl Network {
 
     fn heartbeat(&mut self, id: u32) {
         let now = self.now;
-        let mut permutation: Vec<u64> = (0..SLOTS as u64).collect();
-        self.random.shuffle(&mut permutation);
+        // No hub has a peer past the old slots, so only these are drawn.
+        let mut permutation = by_slot();
+        self.random.shuffle(&mut permutation[..OLD_SLOTS]);
         let hub = self.hubs.get_mut(&id).expect("only hubs have heartbeats");
         hub.heartbeats += 1;
         let ask = hub.heartbeats.is_multiple_of(OPPORTUNISM);
@@ -257,7 +258,7 @@ impl Network {
         if id == self.watched {
             self.history.rate(now, &mut hub.router);
         }
-        let actions = hub.router.heartbeat(now, ask, &permutation);
+        let actions = hub.router.heartbeat(now, ask, &permutation[..]);
         if id == self.watched {
             self.history.note_heartbeat(now, &hub.router);
         }

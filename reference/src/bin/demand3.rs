@@ -13,6 +13,7 @@ use reference::random::Random;
 use reference::router::{number, Answer, Router, ACTION_LIST};
 use reference::shrink::shrink_trace;
 use reference::text::{self, Line, Trace};
+use reference::trace::TraceEdition;
 use std::process::ExitCode;
 
 const LISTS: u64 = 1000;
@@ -133,7 +134,7 @@ fn run_list(
     mut random: Random,
     counts: &mut Counts,
 ) -> Result<(), (Vec<Lent>, String)> {
-    let scene = traces::scene(calls as usize, &mut random);
+    let scene = traces::scene(TraceEdition::Two, calls as usize, &mut random);
     let rounds = random.chance(1, 2).then(|| random.below(TOPICS) as u64);
     let mut caller = Caller::new(fresh.clone(), scene, random);
     match rounds {
@@ -169,7 +170,7 @@ fn run_list(
 fn report(fresh: &Router, mut calls: Vec<Lent>) {
     calls.retain(|lent| lent.list == ACTION_LIST);
     let lines = calls.into_iter().map(|lent| Line::Event(lent.event)).collect();
-    let trace = Trace { params: Some(fresh.params.clone()), lines };
+    let trace = Trace { edition: TraceEdition::Two, params: Some(fresh.params.clone()), lines };
     let trace = shrink_trace(trace, |trace| breaks(fresh.waived_rule, trace));
     print!("{}", text::print(&trace));
 }

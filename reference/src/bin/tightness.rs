@@ -168,8 +168,9 @@ fn without_rule(program: &str, folder: &str) -> Shown {
     }
     let mut router = Router::unchecked(params);
     router.waived_rule = Some(SCORE_RULE);
-    let events: Vec<u8> = trace.lines.iter().flat_map(Line::to_bytes).collect();
-    let watch = watch::follow(&trace, &trace::run_events(router, &events))?;
+    let bytes = |line: &Line| line.to_bytes(trace.edition);
+    let events: Vec<u8> = trace.lines.iter().flat_map(bytes).collect();
+    let watch = watch::follow(&trace, &trace::run_events(trace.edition, router, &events))?;
     let d_out = watch.general(general::D_OUT);
     let left = find(&watch, |left| left.outbound < d_out && left.pool_outbound_outside > 0)?;
     match watch.demand_3() {

@@ -10,7 +10,7 @@ use std::cmp::Reverse;
 pub const CASES: [&str; 38] = [
     "ask over 1",
     "permutation: a slot twice",
-    "permutation: a number over 63",
+    "permutation: a number past the slots",
     "permutation: bad, and the topic not joined",
     "topic not joined",
     "step 1 prunes",
@@ -86,7 +86,7 @@ fn facts(router: &Router, event: &Event) -> Facts {
         let over = permutation.iter().any(|&slot| slot >= SLOTS as u64);
         vec![
             ("permutation: a slot twice", !over),
-            ("permutation: a number over 63", over),
+            ("permutation: a number past the slots", over),
             ("permutation: bad, and the topic not joined", !joined),
         ]
     } else if joined {
@@ -158,7 +158,7 @@ impl Seen<'_> {
             asked,
             plan,
             hasty,
-            scores: (0..SLOTS).map(|slot| router.score(slot)).collect(),
+            scores: router.scores(),
             candidates: order.iter().copied().filter(is_candidate).collect(),
             order,
             members: router.mesh(topic),

@@ -5,7 +5,7 @@ use crate::groups;
 use crate::params::{general, topic, TOPICS};
 use crate::random::Random;
 use crate::router::{Answer, Router, Status, ACTION_LIST, GRAFT_SLACK};
-use crate::trace;
+use crate::trace::{self, TraceEdition};
 use std::collections::VecDeque;
 
 const NAMES: [&[u8]; 2] = [b"/meshsub/1.0.0", b"/meshsub/1.1.0"];
@@ -20,7 +20,7 @@ const EDGES: [u64; 18] = [
     4,
     7,
     8,
-    63,
+    SLOTS as u64 - 1,
     u32::MAX as u64,
     1 << 32,
     (1 << 32) + 7,
@@ -36,8 +36,10 @@ const EDGES: [u64; 18] = [
 /// A backoff that ends within so many milliseconds is waited for.
 const SOON: u64 = 70_000;
 
-/// The size of a run: which ids come, in how many groups and topics.
+/// The size of a run: which ids come, in how many groups and topics; and the edition that
+/// tells how many slots a permutation orders.
 pub struct Scene {
+    pub edition: TraceEdition,
     pub ids: Vec<u64>,
     pub groups: u64,
     pub topics: usize,
@@ -275,20 +277,22 @@ impl Caller {
     /// Mostly a shuffle; sometimes one that sets outbound members last, so that
     /// they are left out and swapped in; sometimes damaged.
     fn permutation(&mut self) -> Box<Permutation> {
-        let mut permutation: Box<Permutation> = Box::new(std::array::from_fn(|slot| slot as u64));
-        let style = self.random.below(12);
+        let mut permutation = by_slot();
+        let ordered = &mut permutation[..self.scene.edition.permuted()];
+        let (count, style) = (ordered.len(), self.random.below(12));
         if style > 0 {
-            self.random.shuffle(&mut permutation[..]);
+            self.random.shuffle(ordered);
         }
         if style > 6 {
-            permutation.sort_by_key(|&slot| self.router.peers[slot as usize].outbound);
+            ordered.sort_by_key(|&slot| self.router.peers[slot as usize].outbound);
         }
         if self.random.chance(1, 30) {
-            let place = self.random.below(SLOTS);
-            permutation[place] = match self.random.below(3) {
+            let place = self.random.below(count);
+            ordered[place] = match self.random.below(4) {
                 0 => SLOTS as u64,
-                1 => self.random.of_any_width(),
-                _ => permutation[(place + 1) % SLOTS],
+                1 => count as u64,
+                2 => self.random.of_any_width(),
+                _ => ordered[(place + 1) % count],
             };
         }
         permutation
@@ -329,7 +333,7 @@ impl Caller {
 
     fn heartbeat_call(&mut self, topic: u64) -> Call {
         let ask = u64::from(self.random.chance(2, 3));
-        Call::Heartbeat { topic, ask, permutation: Box::new([0; SLOTS]) }
+        Call::Heartbeat { topic, ask, permutation: by_slot() }
     }
 
     // Bursts: calls that belong together.
@@ -396,6 +400,39 @@ impl Caller {
                 self.plan(call);
             }
         }
+    }
+
+    /// Every id connects, in the order of the scene.
+    pub fn plan_all(&mut self) {
+        for id in self.scene.ids.clone() {
+            let call = self.connect_of(id);
+            self.plan(call);
+        }
+    }
+
+    /// With all slots taken: some peers of the first slots and of the last ones come to a
+    /// topic, and a heartbeat chooses of them; many more of the last ask for the mesh, and
+    /// heartbeats follow; then some go, and others come in their place.
+    pub fn plan_full(&mut self, topic: u64) {
+        let ids = self.ids_of(Status::Connected);
+        let last = &ids[ids.len().saturating_sub(40)..];
+        for few in [&ids[..3.min(ids.len())], &last[..5.min(last.len())]] {
+            self.plan_for(few, |id| Call::Subscribe { id, topic });
+        }
+        let call = self.heartbeat_call(topic);
+        self.plan(call);
+        self.plan_for(last, |id| Call::Subscribe { id, topic });
+        self.plan_for(last, |id| Call::Graft { id, topic });
+        self.plan_heartbeats(topic);
+        self.plan_for(&ids[..3.min(ids.len())], |id| Call::Disconnect { id });
+        self.queue.push_back((60_000, Call::Decay));
+        let count = self.scene.ids.len();
+        for place in count.saturating_sub(4)..count {
+            let call = self.connect_of(self.scene.ids[place]);
+            self.plan(call);
+        }
+        self.plan_heartbeats(topic);
+        self.plan_for(&ids[ids.len() - 2.min(ids.len())..], |id| Call::Score { id });
     }
 
     /// Many peers come to a topic, and all or some ask to be grafted; outbound
@@ -626,7 +663,8 @@ impl Caller {
 
     /// Puts such a number in the place of the time or of an argument.
     fn spoil(&mut self, event: &mut Event) {
-        let mut pieces = trace::event_pieces(event);
+        let edition = self.scene.edition;
+        let mut pieces = trace::event_pieces(edition, event);
         // Further places are a permutation's, which has damage of its own.
         let place = 1 + self.random.below(pieces.len().min(6) - 1);
         let wide = self.random.of_any_width();
@@ -639,7 +677,7 @@ impl Caller {
         pieces[place].clear();
         groups::write_unsigned(number, &mut pieces[place]);
         // A name's length may not fit now; such bytes are made elsewhere.
-        let read = trace::read_event(&pieces.concat());
+        let read = trace::read_event(edition, &pieces.concat());
         if let Ok((spoilt, _)) = read {
             *event = spoilt;
         }

@@ -3,12 +3,12 @@
 use super::calls::{Caller, Scene};
 use super::params as generate_params;
 use crate::coverage::{self, Coverage};
-use crate::event::{Call, Event, CALL_NAMES, SLOTS};
+use crate::event::{Call, Event, CALL_NAMES, OLD_SLOTS, SLOTS};
 use crate::groups;
 use crate::params::{field_at, general, topic, topic_index, Edition, Params, TOPICS};
 use crate::random::Random;
 use crate::router::Router;
-use crate::trace;
+use crate::trace::{self, TraceEdition};
 
 /// A trace as bytes, and how many whole events it has.
 pub struct Generated {
@@ -22,18 +22,26 @@ pub fn trace(random: &mut Random, coverage: &mut Coverage) -> Generated {
     match random.below(160) {
         0..=9 => bad_params(&mut random, coverage),
         10 => limits(&mut random, coverage),
-        11..=26 => mesh_rounds(random, coverage),
+        11..=12 => full_house(random, coverage),
+        13..=14 => bad_front(&mut random, coverage),
+        15..=30 => mesh_rounds(random, coverage),
         _ => ordinary_trace(random, coverage),
     }
+}
+
+/// Either edition of a trace.
+fn edition(random: &mut Random) -> TraceEdition {
+    *random.pick(&TraceEdition::ALL)
 }
 
 fn ordinary_trace(mut random: Random, coverage: &mut Coverage) -> Generated {
     let params = params(&mut random);
     let length = length(&mut random);
-    let scene = scene(length, &mut random);
+    let edition = edition(&mut random);
+    let scene = scene(edition, length, &mut random);
     let end = Random::new(random.bits());
     let router = Router::new(params.clone()).expect("the parameters are good");
-    let mut run = Run::new(Caller::new(router, scene, random), coverage);
+    let mut run = Run::new(edition, Caller::new(router, scene, random), coverage);
     if run.caller.random.chance(2, 3) {
         run.caller.plan_opening();
     }
@@ -49,18 +57,20 @@ fn ordinary_trace(mut random: Random, coverage: &mut Coverage) -> Generated {
 
 /// A trace on its way: each event is made on the caller's router and counted.
 struct Run<'a> {
+    edition: TraceEdition,
     caller: Caller,
     coverage: &'a mut Coverage,
     events: Vec<Event>,
 }
 
 impl<'a> Run<'a> {
-    fn new(caller: Caller, coverage: &'a mut Coverage) -> Run<'a> {
-        Run { caller, coverage, events: Vec::new() }
+    fn new(edition: TraceEdition, caller: Caller, coverage: &'a mut Coverage) -> Run<'a> {
+        Run { edition, caller, coverage, events: Vec::new() }
     }
 
     fn push(&mut self, event: Event) {
         let cases = coverage::cases(&self.caller.router, &event);
+        self.coverage.count_edition(self.edition, &self.caller.router, &event);
         let answer = self.caller.apply(&event);
         self.coverage.count_call(&event, &answer, &cases);
         self.events.push(event);
@@ -75,11 +85,13 @@ impl<'a> Run<'a> {
 
     fn finish(self, params: Params, mut random: Random) -> Generated {
         self.coverage.count_made(&params);
-        let mut bytes = params.to_bytes();
-        bytes.extend(self.events.iter().flat_map(trace::write_event));
+        let edition = self.edition;
+        let mut bytes = edition.front().to_vec();
+        bytes.extend(params.to_bytes());
+        bytes.extend(self.events.iter().flat_map(|event| trace::write_event(edition, event)));
         if random.chance(3, 4) {
             let event = event_of_any_kind(&self.events, &mut random);
-            bytes.extend(damaged_end(event, &mut random, self.coverage));
+            bytes.extend(damaged_end(edition, event, &mut random, self.coverage));
         }
         Generated { bytes, events: self.events.len() }
     }
@@ -174,16 +186,19 @@ fn lively_topic(params: &mut Params, k: usize, random: &mut Random) {
     }
 }
 
-/// A short run has few peers, so that they still come to something.
-pub fn scene(length: usize, random: &mut Random) -> Scene {
-    let count = match random.below(6) {
-        0 => 1 + random.below(6),
-        1 | 2 if length > 300 => SLOTS + random.below(20),
-        _ => 6 + random.below((length / 10).clamp(8, SLOTS)),
+/// A short run has few peers, so that they still come to something. Few runs have many:
+/// every rule shows with some, and a peer costs both programs time in every call.
+pub fn scene(edition: TraceEdition, length: usize, random: &mut Random) -> Scene {
+    let count = match random.below(24) {
+        0..=3 => 1 + random.below(6),
+        4 if length > 300 => SLOTS + random.below(20),
+        5..=7 if length > 300 => OLD_SLOTS + random.below(20),
+        _ => 6 + random.below((length / 10).clamp(8, OLD_SLOTS)),
     };
     let groups = if random.chance(1, 4) { 4 } else { 60 };
     let topics = if random.chance(1, 4) { TOPICS } else { 2 };
     Scene {
+        edition,
         ids: ids(count, random),
         groups: 1 + random.below(groups) as u64,
         topics: 1 + random.below(topics),
@@ -233,11 +248,12 @@ pub fn mesh_params(random: &mut Random) -> Params {
 fn mesh_rounds(mut random: Random, coverage: &mut Coverage) -> Generated {
     let params = mesh_params(&mut random);
     let router = Router::new(params.clone()).expect("the parameters are good");
-    let mut scene = scene(300, &mut random);
+    let edition = edition(&mut random);
+    let mut scene = scene(edition, 300, &mut random);
     scene.outbound = 1 + random.below(2);
     let end = Random::new(random.bits());
     let topic = random.below(TOPICS) as u64;
-    let mut run = Run::new(Caller::new(router, scene, random), coverage);
+    let mut run = Run::new(edition, Caller::new(router, scene, random), coverage);
     run.push(Event { now: 0, call: Call::Join { topic } });
     run.caller.plan_arrival();
     run.push_planned();
@@ -251,6 +267,28 @@ fn mesh_rounds(mut random: Random, coverage: &mut Coverage) -> Generated {
     run.finish(params, end)
 }
 
+/// Every slot is taken and some more peers come; then some go, and others come into their
+/// slots. Heartbeats then find all slots full, those past the old ones too.
+fn full_house(mut random: Random, coverage: &mut Coverage) -> Generated {
+    let mut params = mesh_params(&mut random);
+    params.numbers[general::P6_THRESHOLD] = random.often_an_end(OLD_SLOTS as i64, SLOTS as i64 - 1);
+    params.numbers[general::RETAIN] = random.between(0, 2);
+    let router = Router::new(params.clone()).expect("the parameters are good");
+    let edition = edition(&mut random);
+    let mut scene = scene(edition, 0, &mut random);
+    // Of each twenty some come with a name or a number that is refused.
+    scene.ids = ids(SLOTS + 40, &mut random);
+    let end = Random::new(random.bits());
+    let topic = random.below(TOPICS) as u64;
+    let mut run = Run::new(edition, Caller::new(router, scene, random), coverage);
+    run.push(Event { now: 0, call: Call::Join { topic } });
+    run.caller.plan_all();
+    run.push_planned();
+    run.caller.plan_full(topic);
+    run.push_planned();
+    run.finish(params, end)
+}
+
 /// Counters driven to their limits, which takes a thousand events each: P4 by
 /// an explicit peer, who is never graylisted, and P7 where no score is under
 /// the graylist threshold.
@@ -259,8 +297,10 @@ fn limits(random: &mut Random, coverage: &mut Coverage) -> Generated {
     params.numbers[general::GRAYLIST_THRESHOLD] = field_at(general::GRAYLIST_THRESHOLD).low;
     params.numbers[general::W7] = -1;
     let router = Router::new(params.clone()).expect("the parameters are good");
-    let scene = scene(0, random);
-    let mut run = Run::new(Caller::new(router, scene, Random::new(random.bits())), coverage);
+    let edition = edition(random);
+    let scene = scene(edition, 0, random);
+    let caller = Caller::new(router, scene, Random::new(random.bits()));
+    let mut run = Run::new(edition, caller, coverage);
     let explicit = random.chance(1, 2);
     let flags = if explicit { 2 } else { random.below(2) as u64 };
     let name = b"/meshsub/1.1.0".to_vec();
@@ -302,19 +342,46 @@ fn bad_params(random: &mut Random, coverage: &mut Coverage) -> Generated {
     };
     let more = random.below(20);
     bytes.extend(random.bytes(more));
-    coverage.count_params(&bytes);
+    if random.chance(1, 2) {
+        bytes.splice(0..0, TraceEdition::Two.front().iter().copied());
+    }
+    coverage.count_start(&bytes);
+    Generated { bytes, events: 0 }
+}
+
+/// Two zero bytes, and then another byte than an edition's, or none; or one zero byte
+/// alone, which is a parameter. What follows a bad front nobody reads.
+fn bad_front(random: &mut Random, coverage: &mut Coverage) -> Generated {
+    let mut bytes = vec![0x00; 1 + random.below(8).min(1)];
+    if bytes.len() == 2 && random.chance(3, 4) {
+        bytes.push(match random.below(4) {
+            0 => random.below(5) as u8,
+            1 => 0x82,
+            _ => random.bits() as u8,
+        });
+        bytes.extend(params(random).to_bytes());
+    }
+    coverage.count_start(&bytes);
     Generated { bytes, events: 0 }
 }
 
 // Damaged ends.
 
 /// Bytes that stop the run: an unknown kind, or an event damaged in one place.
-fn damaged_end(event: &Event, random: &mut Random, coverage: &mut Coverage) -> Vec<u8> {
+fn damaged_end(
+    edition: TraceEdition,
+    event: &Event,
+    random: &mut Random,
+    coverage: &mut Coverage,
+) -> Vec<u8> {
     if random.chance(1, 8) {
         coverage.count_stop("unknown kind");
         return unknown_kind(random);
     }
-    let mut pieces = trace::event_pieces(event);
+    if matches!(event.call, Call::Heartbeat { .. }) && random.chance(1, 4) {
+        return other_editions(edition, event, coverage);
+    }
+    let mut pieces = trace::event_pieces(edition, event);
     let place = random.below(pieces.len().min(7));
     let name = coverage::piece_name(&event.call, place);
     if name == "name" {
@@ -326,11 +393,22 @@ fn damaged_end(event: &Event, random: &mut Random, coverage: &mut Coverage) -> V
         damage(&mut pieces, place, name, random);
     }
     let bytes = pieces.concat();
-    let stopped = trace::read_event(&bytes).is_err();
+    let stopped = trace::read_event(edition, &bytes).is_err();
     if stopped && !bytes.is_empty() {
         coverage.count_stop(&coverage::bad_bytes(&event.call, place));
     }
     bytes
+}
+
+/// A heartbeat as another edition has it: an old permutation in edition 2 is cut short; in
+/// edition 1 the rest of a new one is taken for events.
+fn other_editions(edition: TraceEdition, event: &Event, coverage: &mut Coverage) -> Vec<u8> {
+    coverage.count_stop(&coverage::other_permutation(edition));
+    let other = match edition {
+        TraceEdition::One => TraceEdition::Two,
+        TraceEdition::Two => TraceEdition::One,
+    };
+    trace::write_event(other, event)
 }
 
 /// Cuts the bytes before a number or in it, or makes it overlong or too wide.

@@ -1,7 +1,7 @@
 //! 01, "Tidy": the heartbeat's work for one topic.
 
 use super::{refuse_if, Actions, Refusal, Router, Status};
-use crate::event::{Permutation, SLOTS};
+use crate::event::Permutation;
 use crate::params::{general, Edition};
 use std::cmp::Reverse;
 use std::collections::BTreeSet;
@@ -103,13 +103,10 @@ impl Router {
 
     fn heartbeat_start(&self, now: u64, topic: usize, permutation: &Permutation) -> Start<'_> {
         let order: Vec<usize> = permutation.iter().map(|&slot| slot as usize).collect();
-        let is_candidate = |slot: &usize| self.is_candidate(*slot, topic, now);
-        Start {
-            router: self,
-            candidates: order.iter().copied().filter(is_candidate).collect(),
-            order,
-            scores: (0..SLOTS).map(|slot| self.score(slot)).collect(),
-        }
+        let scores = self.scores();
+        let is_candidate = |&slot: &usize| self.is_free(slot, topic, now) && scores[slot] >= 0;
+        let candidates = order.iter().copied().filter(is_candidate).collect();
+        Start { router: self, order, candidates, scores }
     }
 
     /// The threshold of step 5 as a score.
@@ -121,13 +118,17 @@ impl Router {
     /// score ≥ 0, backoff not running"; order 3 of 02 puts its slack in the place
     /// of the last.
     pub fn is_candidate(&self, slot: usize, topic: usize, now: u64) -> bool {
+        self.is_free(slot, topic, now) && self.score(slot) >= 0
+    }
+
+    /// All of that but the score.
+    fn is_free(&self, slot: usize, topic: usize, now: u64) -> bool {
         let peer = &self.peers[slot];
         let record = &peer.topics[topic];
         peer.status == Status::Connected
             && record.subscribed
             && !peer.explicit
             && !record.member
-            && self.score(slot) >= 0
             && peer.slack_over(topic, now)
     }
 }
@@ -263,7 +264,7 @@ impl Start<'_> {
     }
 }
 
-/// 01, answer 7: "draw not each of 0..63 once".
+/// 01, answer 7, with the slots of order 9 of 02: a "draw is each of 0..255 once".
 pub fn is_permutation(permutation: &Permutation) -> bool {
     let mut sorted = *permutation;
     sorted.sort_unstable();

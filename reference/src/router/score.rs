@@ -4,6 +4,7 @@
 use super::tables::{P3B_LIMIT, P4_P7_LIMIT};
 use super::{Peer, Refusal, Router, Status, TopicRecord};
 use crate::params::{general, topic, Params, TOPICS};
+use std::collections::HashMap;
 
 /// A delivery adds one whole message to a counter of thousandths.
 pub const MESSAGE: i64 = 1000;
@@ -37,13 +38,33 @@ impl Router {
         self.why(slot).score()
     }
 
+    /// The scores of all connected records, by slot; 0 in the place of the others. The
+    /// peers of each group are counted once.
+    pub fn scores(&self) -> Vec<i64> {
+        let connected = |peer: &&Peer| peer.status == Status::Connected;
+        let mut groups: HashMap<u32, i64> = HashMap::new();
+        for peer in self.peers.iter().filter(connected) {
+            *groups.entry(peer.group).or_default() += 1;
+        }
+        let score = |peer: &Peer| match peer.status {
+            Status::Connected => self.why_among(peer, groups[&peer.group]).score(),
+            _ => 0,
+        };
+        self.peers.iter().map(score).collect()
+    }
+
     /// The parts of a record's score, which depends on it, the parameters, and how
     /// many connected peers its group has.
     pub fn why(&self, slot: usize) -> Why {
         let peer = &self.peers[slot];
+        self.why_among(peer, self.sharing(slot))
+    }
+
+    fn why_among(&self, peer: &Peer, sharing: i64) -> Why {
         let g = |place| i128::from(self.params.general(place));
         let total = (0..TOPICS).map(|k| topic_score(&self.params, k, &peer.topics[k])).sum();
-        let surplus = i128::from(self.surplus(peer));
+        // P6: how many connected peers share the group, above the threshold.
+        let surplus = (i128::from(sharing) - g(general::P6_THRESHOLD)).max(0);
         let p7 = i128::from(peer.p7);
         let part = |part| i64::try_from(part).expect("no part passes 2.6 * 10^18");
         Why {
@@ -55,11 +76,11 @@ impl Router {
         }
     }
 
-    /// P6: how many connected peers share the group, above the threshold.
-    pub fn surplus(&self, peer: &Peer) -> i64 {
+    /// How many connected peers share the group, itself counted.
+    pub fn sharing(&self, slot: usize) -> i64 {
+        let peer = &self.peers[slot];
         let shares = |other: &&Peer| other.status == Status::Connected && other.group == peer.group;
-        let sharing = self.peers.iter().filter(shares).count() as i64;
-        (sharing - self.params.general(general::P6_THRESHOLD)).max(0)
+        self.peers.iter().filter(shares).count() as i64
     }
 
     /// P3 of a record as it stands, in millionths.

@@ -61,7 +61,38 @@ pub struct Peer {
     pub backoff_ends: [u64; TOPICS],
 }
 
+impl TopicRecord {
+    /// All its numbers, joined bit by bit.
+    fn bits(&self) -> u64 {
+        let TopicRecord { subscribed, member, graft_time, mesh_time, p2, p3, p3b, p4 } = *self;
+        let flags = u64::from(subscribed | member);
+        flags | graft_time | mesh_time | (p2 | p3 | p3b | p4) as u64
+    }
+}
+
 impl Peer {
+    /// "Empty records are all zero": as the default one. Most records of most routers are
+    /// empty, and every call asks, so all numbers are looked at together.
+    pub fn is_zero(&self) -> bool {
+        let Peer {
+            status,
+            id,
+            group,
+            outbound,
+            explicit,
+            version,
+            p5,
+            p7,
+            retain_end,
+            topics,
+            backoff_ends,
+        } = self;
+        let flags = *status as u64 | u64::from(outbound | explicit) | *version as u64;
+        let own = u64::from(id | group) | flags | (p5 | p7) as u64 | retain_end;
+        let of_topics = topics.iter().fold(0, |bits, record| bits | record.bits());
+        own | of_topics | backoff_ends.iter().fold(0, |bits, end| bits | end) == 0
+    }
+
     pub fn leave_mesh(&mut self, topic: usize) {
         let record = &mut self.topics[topic];
         record.member = false;
@@ -116,7 +147,7 @@ impl Router {
 
     fn is_valid_peer(&self, peer: &Peer) -> bool {
         if peer.status == Status::Empty {
-            return *peer == Peer::default();
+            return peer.is_zero();
         }
         peer.in_ranges() && (0..TOPICS).all(|k| self.is_valid_topic(peer, k))
     }

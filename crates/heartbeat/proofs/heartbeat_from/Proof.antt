@@ -5,8 +5,6 @@ use Rattle.rules.specs.Step.{heartbeatReply}
 use Rattle.rules.proofs.PromiseLaws.{gives-refused}
 use Rattle.rules.proofs.StepLaws.{gives-then, gives-else}
 use Rattle.rules.proofs.EndLaws.{gives-ignored}
-use Rattle.sets.proofs.PermutationLaws.{permutation-length}
-use Rattle.heartbeat.proofs.ReplyLaws.{permutation-copied, gives-copied}
 use Rattle.heartbeat.proofs.heartbeat_from.Statement.{statement}
 use Rattle.heartbeat.proofs.heartbeat_from.Tie as tie
 
@@ -21,8 +19,7 @@ heartbeat-from-spec =
     (λ c κs. search needs)
     (λ c. search needs)
     (λ c. search (gives-then, gives-else, gives-ignored, failed, passed))
-    (λ c κs. search (permutation-length, passed))
-    (λ c κs. record { ready = search needs; topic = search needs; room = search needs; permutation = search (permutation-copied, passed) })
+    (λ c κs. record { ready = search needs; topic = search needs; room = search needs; permutation = search passed })
     (λ c. search needs)
     (λ c. search needs)
-    (λ c. search (gives-then, gives-copied, passed)))
+    (λ c. search (gives-then, passed)))

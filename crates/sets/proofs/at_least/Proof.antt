@@ -1,8 +1,7 @@
--- `sets::at_least` meets its contract. The loop builds the set from the front.
+-- `sets::at_least` meets its contract. The loop builds the flags from the front, and they are packed.
 -- Assumes nothing.
 use Prim.Native.Nat.{_-_}
 use native.Mathlib.Omega.{arith}
-use borrow.Author.Needs.{needs}
 use mathlib.Core.Path.{_≡_, refl, _∙_}
 use mathlib.Core.Bool.{false}
 use lib.ListN.{length, getD}
@@ -20,21 +19,20 @@ Inv-loop x scores r₀ i₀ r i = (length scores ≡ slotCount) × Built false (
 abbrev μ-loop : tie.MeasureT-loop
 μ-loop x scores r₀ i₀ r i = slotCount - i
 
-loop-holds : tie.Need-loop-holds Inv-loop μ-loop
-loop-holds c = (search needs, built-none _ _ _ _ refl)
-
 loop-again : tie.Need-loop-again Inv-loop μ-loop
 loop-again c =
-    let l = c .before .loop in
+    let l = c .before .before .loop in
     (l .inv .0, built-more _ _ _ (l .i) (l .r) _ (omega arith) (l .inv .1) refl)
 
 returns : tie.Need-returns Inv-loop μ-loop
 returns c =
-    let a = c .before .before .args in
-    let l = c .before .loop in
-    built-done _ _ _ (l .i) (l .r) (from (a .x) (a .t2)) (omega arith) (l .inv .1)
-    (from-length (a .x) (a .t2) ∙ l .inv .0)
-    (λ k h. from-at (a .x) (a .t2) k (let e = l .inv .0 in omega arith))
+    let a = c .before .before .before .before .args in
+    let l = c .before .before .loop in
+    let scores = a .scores .now in
+    c .pack .ensures
+    ∙ built-done _ _ _ (l .i) (l .r) (from (a .x) scores) (omega arith) (l .inv .1)
+    (from-length (a .x) scores ∙ l .inv .0)
+    (λ k h. from-at (a .x) scores k (let e = l .inv .0 in omega arith))
 
 pub at-least-spec : {M : Type 1} → statement M
 at-least-spec =
@@ -42,11 +40,12 @@ at-least-spec =
     (tie.spec
     Inv-loop
     μ-loop
-    loop-holds
+    (λ c. (c .before .pre, built-none _ _ _ _ refl))
     (λ c. omega arith)
-    (λ c. omega arith)
+    (λ c. let l = c .before .before .loop .inv .0 in omega arith)
     (λ c. omega arith)
     (λ c. omega arith)
     (λ c. omega arith)
     loop-again
+    (λ c κs. tt)
     returns)

@@ -1,27 +1,25 @@
--- `sets::except` meets its contract. The loop builds the set from the front.
+-- `sets::except` meets its contract. The loop builds the words from the front.
 -- Assumes nothing.
-use Prim.Native.Nat.{_-_}
+use Prim.Native.Nat.{ℕ, _-_, _^_, _<_}
 use native.Mathlib.Omega.{arith}
+use mir.Syntax.{w64}
+use mir.Val.{Fits}
 use borrow.Author.Needs.{needs}
-use mathlib.Core.Path.{_≡_, refl, _∙_}
-use mathlib.Core.Bool.{false, not, _&&_}
-use lib.ListN.{length}
-use Rattle.records.specs.Records.{slotCount}
-use Rattle.sets.specs.Sets.{at, except}
-use Rattle.index.proofs.Lists.{Built, built-none, built-more, built-done}
-use Rattle.sets.proofs.WalkLaws.{except-at, except-length}
+use mathlib.Core.Path.{_≡_, refl}
+use lib.ListN.{length, getD}
+use lib.Bits.{bitAnd}
+use Rattle.words.specs.Words.{wordBits, wordCount}
+use Rattle.index.proofs.Lists.{Built, built-none, built-more}
+use Rattle.sets.proofs.WordSets.{except-words}
 use Rattle.sets.proofs.except.Statement.{statement}
 use Rattle.sets.proofs.except.Tie as tie
 
 abbrev Inv-loop : tie.InvT-loop
 Inv-loop a b r₀ i₀ r i =
-    (length a ≡ slotCount) × (length b ≡ slotCount) × Built false (λ k. at a k && not (at b k)) slotCount i r
+    (length a ≡ wordCount) × (length b ≡ wordCount) × Built 0 (λ k. bitAnd (getD a k 0) (2 ^ wordBits - 1 - getD b k 0)) wordCount i r
 
 abbrev μ-loop : tie.MeasureT-loop
-μ-loop a b r₀ i₀ r i = slotCount - i
-
-loop-holds : tie.Need-loop-holds Inv-loop μ-loop
-loop-holds c = (search needs, search needs, built-none _ _ _ _ refl)
+μ-loop a b r₀ i₀ r i = wordCount - i
 
 loop-again : tie.Need-loop-again Inv-loop μ-loop
 loop-again c =
@@ -32,8 +30,9 @@ returns : tie.Need-returns Inv-loop μ-loop
 returns c =
     let a = c .before .before .args in
     let l = c .before .loop in
-    built-done _ _ _ (l .i) (l .r) (except (a .t1) (a .t2)) (omega arith) (l .inv .2) (except-length (a .t1) (a .t2) ∙ l .inv .0)
-    (λ k h. except-at (a .t1) (a .t2) k)
+    except-words (a .t1) (a .t2) (l .r) wordCount (l .inv .0) (l .inv .1) (l .inv .2 .len)
+    (λ k h. l .inv .2 .below k (omega arith))
+    (λ k. let f : Fits w64 (getD (a .t2) k 0) = search needs in f .fits)
 
 pub except-spec : {M : Type 1} → statement M
 except-spec =
@@ -41,7 +40,10 @@ except-spec =
     (tie.spec
     Inv-loop
     μ-loop
-    loop-holds
+    (λ c. (search needs, search needs, built-none _ _ _ _ refl))
+    (λ c. omega arith)
+    (λ c. omega arith)
+    (λ c. omega arith)
     (λ c. omega arith)
     (λ c. omega arith)
     (λ c. omega arith)

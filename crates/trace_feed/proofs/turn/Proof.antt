@@ -5,10 +5,10 @@ use Rattle.trace_feed.proofs.TurnEnds.{turn-takes, turn-done}
 use Rattle.trace_feed.proofs.turn.Statement.{statement}
 use Rattle.trace_feed.proofs.turn.Tie as tie
 
-add-t22 : tie.Need-add-t22
-add-t22 c =
+add-t23 : tie.Need-add-t23
+add-t23 c =
     let h = turn-takes _ _ (c .before .before .before .before .before .before .before .before .before .before .before .before .pre .0) _ _ _
-    _ _ (c .before .before .before .before .before .feed .ensures) _ _ (c .before .fed .given .1) in
+    _ _ (c .before .before .before .before .before .feed .ensures) _ _ _ (c .before .fed .given .1) in
     search needs
 
 returns : tie.Need-returns
@@ -36,7 +36,7 @@ turn-spec =
     (λ c. search needs)
     (λ c κs. search needs)
     (λ c. search needs)
-    add-t22
+    add-t23
     (λ c. search needs)
     (λ c. search needs)
     (λ c κs. search needs)

@@ -15,20 +15,20 @@ use Rattle.trace_run.proofs.run.Tie as tie
 
 -- the table that the loop starts from is a fresh router's
 abbrev Inv-loop : tie.InvT-loop
-Inv-loop s table₀ actions₀ told₀ at₀ calls₀ table actions told at calls =
+Inv-loop edition s table₀ actions₀ told₀ at₀ calls₀ table actions told at calls =
     (length actions ≡ length actions₀)
     × ((length told ≡ length told₀)
-    × ((params : Params) → stateOf table₀ ≡ freshState params → Going params s actions₀ told₀ at calls table actions told))
+    × ((params : Params) → stateOf table₀ ≡ freshState params → Going edition params s actions₀ told₀ at calls table actions told))
 
 abbrev μ-loop : tie.MeasureT-loop
-μ-loop s table₀ actions₀ told₀ at₀ calls₀ table actions told at calls = length told₀ - calls
+μ-loop edition s table₀ actions₀ told₀ at₀ calls₀ table actions told at calls = length told₀ - calls
 
 returns : tie.Need-returns Inv-loop μ-loop
 returns c =
-    run-refused _ _ _ _ (c .before .before .before .fresh .ensures) _ _ _ _ (search needs) (c .before .i .given .1)
+    run-refused _ _ _ _ (c .before .before .before .fresh .ensures) _ _ _ _ _ (search needs) (c .before .i .given .1)
 
 loop-holds : tie.Need-loop-holds Inv-loop μ-loop
-loop-holds c = (refl, (refl, λ params e. going-none params _ _ _ _ e))
+loop-holds c = (refl, (refl, λ params e. going-none _ params _ _ _ _ e))
 
 returns-2 : tie.Need-returns-2 Inv-loop μ-loop
 returns-2 c =
@@ -37,7 +37,7 @@ returns-2 c =
     let d = c .before .before .before .before .before .before .before .before .enum-told .given .1 in
     let t = c .before .before .before .before .before .before .loop-test .taken in
     let k = l .inv .1 .0 in
-    ran-stopped _ _ _ _ (search needs) (l .at) (l .calls) _ _ _ _ (accepted _ _ _ _ m d) (l .inv .1 .1 _ (begins _ _ _ _ m d)) _ _ _
+    ran-stopped _ _ _ _ _ (search needs) (l .at) (l .calls) _ _ _ _ (accepted _ _ _ _ m d) (l .inv .1 .1 _ (begins _ _ _ _ m d)) _ _ _
     (omega arith) (c .before .before .before .perform .ensures) (c .match2 .keys2)
 
 loop-again : tie.Need-loop-again Inv-loop μ-loop
@@ -49,7 +49,7 @@ loop-again c =
       (
         simp length-set k,
         λ params e.
-            going-more params _ _ _ _ _ _ _ _ _ _ _ (l .inv .1 .1 params e) (omega arith)
+            going-more _ params _ _ _ _ _ _ _ _ _ _ _ (l .inv .1 .1 params e) (omega arith)
             (c .before .before .before .before .before .before .perform .ensures) _ _ (c .before .before .next .given .1) _
             (c .code .ensures),
       ),
@@ -62,7 +62,7 @@ returns-3 c =
     let d = c .before .before .enum-told .given .1 in
     let t = c .loop-test .left in
     let k = l .inv .1 .0 in
-    ran-all _ _ _ _ (search needs) (l .at) (l .calls) _ _ _ _ (accepted _ _ _ _ m d) (l .inv .1 .1 _ (begins _ _ _ _ m d)) (omega arith)
+    ran-all _ _ _ _ _ (search needs) (l .at) (l .calls) _ _ _ _ (accepted _ _ _ _ m d) (l .inv .1 .1 _ (begins _ _ _ _ m d)) (omega arith)
 
 pub run-spec : {M : Type 1} → statement M
 run-spec =

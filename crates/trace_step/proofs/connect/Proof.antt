@@ -18,9 +18,9 @@ returns-3 c =
 
 returns-4 : tie.Need-returns-4
 returns-4 c =
-    let h = c .before .before .before .before .before .before .if3 .left in
-    let g = c .before .before .before .before .before .before .before .if2 .left in
-    connect-called _ _ _ _ _ _ _ _ (c .before .before .before .before .before .before .before .before .if1 .left) (omega arith)
+    let h = c .before .before .before .before .before .before .before .before .before .before .if3 .left in
+    let g = c .before .before .before .before .before .before .before .before .before .before .before .if2 .left in
+    connect-called _ _ _ _ _ _ _ _ (c .before .before .before .before .before .before .before .before .before .before .before .before .if1 .left) (omega arith)
     (c .before .before .connect .ensures)
 
 pub connect-spec : {M : Type 1} → statement M

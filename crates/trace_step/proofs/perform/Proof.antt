@@ -5,16 +5,16 @@ use Rattle.trace_step.proofs.perform.Statement.{statement}
 use Rattle.trace_step.proofs.perform.Tie as tie
 
 returns : tie.Need-returns
-returns c = perform-bad _ _ _ (c .before .before .before .read-u64 .ensures) _ _ _ (c .before .enum-told .given .1) (c .unread .ensures)
+returns c = perform-bad _ _ _ _ (c .before .before .before .read-u64 .ensures) _ _ _ (c .before .enum-told .given .1) (c .unread .ensures)
 
 returns-2 : tie.Need-returns-2
 returns-2 c =
-    perform-unknown _ _ _ (c .before .before .before .before .before .read-u64 .ensures) _ _ _ _ _
+    perform-unknown _ _ _ _ (c .before .before .before .before .before .read-u64 .ensures) _ _ _ _ _
     (c .before .before .before .kind .given .1) (c .before .arity .ensures .0) (c .if1 .taken)
 
 returns-3 : tie.Need-returns-3
 returns-3 c =
-    perform-known _ _ _ (c .before .before .before .before .before .before .before .before .before .before .read-u64 .ensures) _ _ _ _ _ _ _
+    perform-known _ _ _ _ (c .before .before .before .before .before .before .before .before .before .before .read-u64 .ensures) _ _ _ _ _ _ _
     _ (c .before .before .before .before .before .before .before .before .kind .given .1)
     (c .before .before .before .before .before .before .arity .ensures .0) (c .before .before .before .before .before .if1 .left)
     (c .before .before .perform-kind .ensures)

@@ -1,5 +1,6 @@
 //! Connections, joining and leaving, subscriptions, GRAFT and PRUNE.
 
+use super::slots::Slots;
 use super::{is_id, is_topic, Actions, Peer, Router, Status};
 use reference::event::SLOTS;
 use reference::params::{general, TOPICS};
@@ -12,7 +13,7 @@ const LONGEST_BACKOFF: u64 = 3600;
 struct Found {
     resumed: Option<usize>,
     free: Option<usize>,
-    reclaimable: u64,
+    reclaimable: Slots,
 }
 
 impl Router {
@@ -33,7 +34,7 @@ impl Router {
         };
         let found = self.find_for(id as u32, now)?;
         let slot = found.resumed.or(found.free).ok_or(Refusal::NoSlot)?;
-        for reclaimed in (0..SLOTS).filter(|&slot| found.reclaimable >> slot & 1 == 1) {
+        for reclaimed in found.reclaimable.each() {
             self.peers[reclaimed] = Peer::default();
         }
         let peer = &mut self.peers[slot];
@@ -60,7 +61,7 @@ impl Router {
             if peer.status == Status::Empty || reclaimable {
                 found.free = found.free.or(Some(slot));
             }
-            found.reclaimable |= u64::from(reclaimable) << slot;
+            found.reclaimable.put(slot, reclaimable);
         }
         Ok(found)
     }

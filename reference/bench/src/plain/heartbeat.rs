@@ -1,5 +1,6 @@
-//! The heartbeat's work for one topic. Sets of slots are the bits of a word.
+//! The heartbeat's work for one topic. Sets of slots are bits.
 
+use super::slots::Slots;
 use super::{is_topic, Actions, Router, Status};
 use reference::event::{Permutation, SLOTS};
 use reference::params::general;
@@ -10,41 +11,32 @@ struct Start {
     /// The slots in the permutation's order.
     order: [u8; SLOTS],
     scores: [i64; SLOTS],
-    members: u64,
-    candidates: u64,
-    outbound: u64,
-    negative: u64,
+    members: Slots,
+    candidates: Slots,
+    outbound: Slots,
+    negative: Slots,
 }
 
-fn bit(slot: u8) -> u64 {
-    1 << slot
-}
+/// Places of a table of groups, four for each slot.
+const PLACES: usize = 4 * SLOTS;
 
-fn size(set: u64) -> usize {
-    set.count_ones() as usize
-}
-
-/// The slots of a set, upward.
-fn slots(mut set: u64) -> impl Iterator<Item = usize> {
-    std::iter::from_fn(move || {
-        let slot = set.trailing_zeros() as usize;
-        set &= set.wrapping_sub(1);
-        (slot < SLOTS).then_some(slot)
-    })
+/// Where a group is looked for first.
+fn first_place(group: u32) -> usize {
+    group.wrapping_mul(0x9e37_79b1) as usize >> (u32::BITS - PLACES.trailing_zeros())
 }
 
 /// The permutation as an order of slots, if it is one.
 fn order_of(permutation: &Permutation) -> Option<[u8; SLOTS]> {
-    let mut seen = 0_u64;
+    let mut seen = Slots::default();
     let mut order = [0; SLOTS];
     for (place, &slot) in order.iter_mut().zip(permutation) {
         if slot >= SLOTS as u64 {
             return None;
         }
-        seen |= 1 << slot;
+        seen.put(slot as usize, true);
         *place = slot as u8;
     }
-    (seen == u64::MAX).then_some(order)
+    (seen == Slots::ALL).then_some(order)
 }
 
 impl Router {
@@ -73,10 +65,10 @@ impl Router {
         let mut start = Start {
             order,
             scores: [0; SLOTS],
-            members: 0,
-            candidates: 0,
-            outbound: 0,
-            negative: 0,
+            members: Slots::default(),
+            candidates: Slots::default(),
+            outbound: Slots::default(),
+            negative: Slots::default(),
         };
         for (slot, peer) in self.peers.iter().enumerate() {
             let member = peer.is_member(k);
@@ -88,25 +80,30 @@ impl Router {
             let free = (end == 0) | (now >= end + GRAFT_SLACK);
             let candidate = !member & (score >= 0) & free;
             start.scores[slot] = score;
-            start.members |= u64::from(member) << slot;
-            start.candidates |= u64::from(candidate) << slot;
-            start.outbound |= u64::from(peer.outbound) << slot;
-            start.negative |= u64::from(score < 0) << slot;
+            start.members.put(slot, member);
+            start.candidates.put(slot, candidate);
+            start.outbound.put(slot, peer.outbound);
+            start.negative.put(slot, score < 0);
         }
         start
     }
 
-    /// How many connected peers share each peer's group; groups are copied side by
-    /// side, so that the compiler compares several at once.
+    /// How many connected peers share each connected peer's group. The groups are counted
+    /// in a table of four places for each slot, a group beside its count.
     fn sharing(&self) -> [i64; SLOTS] {
-        let groups: [u32; SLOTS] = std::array::from_fn(|slot| self.peers[slot].group);
-        let connected: [u32; SLOTS] =
-            std::array::from_fn(|slot| u32::from(self.peers[slot].status == Status::Connected));
-        let shares = |group: u32| {
-            let pairs = groups.iter().zip(&connected);
-            pairs.map(|(&other, &connected)| u32::from(other == group) & connected).sum::<u32>()
-        };
-        std::array::from_fn(|slot| i64::from(shares(groups[slot])))
+        let mut table = [(0_u32, 0_u32); PLACES];
+        let mut places = [0; SLOTS];
+        for (place, peer) in places.iter_mut().zip(&self.peers) {
+            if peer.status != Status::Connected {
+                continue;
+            }
+            *place = first_place(peer.group);
+            while table[*place].1 != 0 && table[*place].0 != peer.group {
+                *place = (*place + 1) % PLACES;
+            }
+            table[*place] = (peer.group, table[*place].1 + 1);
+        }
+        places.map(|place| i64::from(table[place].1))
     }
 
     fn steps(&mut self, now: u64, k: usize, ask: bool, start: &Start, to: &mut Actions) -> usize {
@@ -115,23 +112,23 @@ impl Router {
         let (d_out, d_score) = (d(general::D_OUT), d(general::D_SCORE));
         let threshold = self.general(general::OPPORTUNISTIC_THRESHOLD) * 1_000_000;
         let mut mesh = start.members & !start.negative;
-        for slot in slots(start.members & start.negative) {
+        for slot in (start.members & start.negative).each() {
             self.punish(slot, k);
         }
         self.prune_all(start.members & start.negative, k, now, to);
-        if size(mesh) < d_lo {
-            let missing = d_mid - size(mesh);
-            mesh |= self.graft_first(start.candidates, missing, k, now, start, to);
+        if mesh.size() < d_lo {
+            let missing = d_mid - mesh.size();
+            mesh = mesh | self.graft_first(start.candidates, missing, k, now, start, to);
         }
-        if size(mesh) > d_hi {
+        if mesh.size() > d_hi {
             let kept = start.cut(mesh, d_score, d_mid, d_out);
             self.prune_all(mesh & !kept, k, now, to);
             mesh = kept;
         }
-        let missing = d_out.saturating_sub(size(mesh & start.outbound));
+        let missing = d_out.saturating_sub((mesh & start.outbound).size());
         let free = start.candidates & start.outbound & !mesh;
-        mesh |= self.graft_first(free, missing, k, now, start, to);
-        if ask && size(mesh) >= 2 {
+        mesh = mesh | self.graft_first(free, missing, k, now, start, to);
+        if ask && mesh.size() >= 2 {
             let median = start.median(mesh);
             if median < threshold {
                 let better = start.above(start.candidates & !mesh, median);
@@ -141,9 +138,9 @@ impl Router {
         to.count
     }
 
-    fn prune_all(&mut self, set: u64, k: usize, now: u64, to: &mut Actions) {
+    fn prune_all(&mut self, set: Slots, k: usize, now: u64, to: &mut Actions) {
         let seconds = self.prune_backoff();
-        for slot in slots(set) {
+        for slot in set.each() {
             self.send_prune(slot, k, now + 1000 * seconds, seconds, to);
         }
     }
@@ -151,17 +148,22 @@ impl Router {
     /// Grafts the first so many of a set in the permutation's order; gives them.
     fn graft_first(
         &mut self,
-        set: u64,
+        set: Slots,
         most: usize,
         k: usize,
         now: u64,
         start: &Start,
         to: &mut Actions,
-    ) -> u64 {
-        let grafted = start.first(set, most);
-        if grafted != 0 {
-            for &slot in start.order.iter().filter(|&&slot| grafted & bit(slot) != 0) {
-                self.send_graft(slot as usize, k, now, to);
+    ) -> Slots {
+        let (mut grafted, mut left) = (Slots::default(), most.min(set.size()));
+        for slot in start.order.iter().map(|&slot| slot as usize) {
+            if left == 0 {
+                break;
+            }
+            if set.has(slot) {
+                grafted.put(slot, true);
+                self.send_graft(slot, k, now, to);
+                left -= 1;
             }
         }
         grafted
@@ -170,78 +172,89 @@ impl Router {
 
 impl Start {
     /// The first so many of a set in the permutation's order.
-    fn first(&self, set: u64, most: usize) -> u64 {
-        let (mut taken, mut left) = (0, most.min(size(set)));
-        for &slot in &self.order {
+    fn first(&self, set: Slots, most: usize) -> Slots {
+        let (mut taken, mut left) = (Slots::default(), most.min(set.size()));
+        for slot in self.order.iter().map(|&slot| slot as usize) {
             if left == 0 {
                 break;
             }
-            if set & bit(slot) != 0 {
-                taken |= bit(slot);
+            if set.has(slot) {
+                taken.put(slot, true);
                 left -= 1;
             }
         }
         taken
     }
 
-    fn above(&self, set: u64, median: i64) -> u64 {
-        slots(set).filter(|&slot| self.scores[slot] > median).fold(0, |set, slot| set | 1 << slot)
+    fn above(&self, set: Slots, median: i64) -> Slots {
+        let mut above = Slots::default();
+        for slot in set.each() {
+            above.put(slot, self.scores[slot] > median);
+        }
+        above
+    }
+
+    /// The slots of a set in the permutation's order.
+    fn drawn(&self, set: Slots) -> impl DoubleEndedIterator<Item = usize> + '_ {
+        self.order.iter().map(|&slot| slot as usize).filter(move |&slot| set.has(slot))
     }
 
     /// Step 3's keepers: the best, others to make D, and the swaps. By edition 1's rule
     /// the drawn keepers are always enough, so one swap does for both editions.
-    fn cut(&self, mesh: u64, d_score: usize, d: usize, d_out: usize) -> u64 {
+    fn cut(&self, mesh: Slots, d_score: usize, d: usize, d_out: usize) -> Slots {
         let best = self.best(mesh, d_score);
-        let mut kept = best | self.first(mesh & !best, d - d_score);
-        let mut missing = d_out.saturating_sub(size(kept & self.outbound));
+        let kept = best | self.first(mesh & !best, d - d_score);
+        let mut missing = d_out.saturating_sub((kept & self.outbound).size());
         // Who goes out is inbound and who comes in is outbound, so neither set grows.
-        let mut goes =
-            self.order.iter().rev().filter(|&&slot| kept & !best & !self.outbound & bit(slot) != 0);
-        let mut comes =
-            self.order.iter().filter(|&&slot| mesh & !kept & self.outbound & bit(slot) != 0);
-        let mut changed = 0;
+        let mut goes = self.drawn(kept & !best & !self.outbound).rev();
+        let mut comes = self.drawn(mesh & !kept & self.outbound);
+        let mut changed = Slots::default();
         while missing > 0 {
-            let Some(&into) = comes.next() else { break };
+            let Some(into) = comes.next() else { break };
             let out = match goes.next() {
-                Some(&slot) => bit(slot),
+                Some(slot) => Slots::of(slot),
                 None => self.lowest(best & !self.outbound & !changed),
             };
-            if out == 0 {
+            if out.is_empty() {
                 break;
             }
-            changed |= out | bit(into);
+            changed = changed | out | Slots::of(into);
             missing -= 1;
         }
-        kept ^= changed;
-        kept
+        kept ^ changed
     }
 
     /// The lowest of a set by score; of equals the later in the permutation.
-    fn lowest(&self, set: u64) -> u64 {
-        let members = self.order.iter().rev().filter(|&&slot| set & bit(slot) != 0);
-        members.min_by_key(|&&slot| self.scores[slot as usize]).map_or(0, |&slot| bit(slot))
+    fn lowest(&self, set: Slots) -> Slots {
+        let lowest = self.drawn(set).rev().min_by_key(|&slot| self.scores[slot]);
+        lowest.map_or(Slots::default(), Slots::of)
     }
 
     /// The best by score; of equals the earlier in the permutation.
-    fn best(&self, mesh: u64, count: usize) -> u64 {
+    fn best(&self, mesh: Slots, count: usize) -> Slots {
+        let mut best = Slots::default();
         if count == 0 {
-            return 0;
+            return best;
         }
         let mut ranked = [(0, 0); SLOTS];
-        let members = self.order.iter().enumerate().filter(|(_, &slot)| mesh & bit(slot) != 0);
         let mut filled = 0;
-        for (place, &slot) in members {
-            ranked[filled] = (-self.scores[slot as usize], place);
-            filled += 1;
+        for (place, &slot) in self.order.iter().enumerate() {
+            if mesh.has(slot as usize) {
+                ranked[filled] = (-self.scores[slot as usize], place);
+                filled += 1;
+            }
         }
         ranked[..filled].select_nth_unstable(count - 1);
-        ranked[..count].iter().fold(0, |set, &(_, place)| set | bit(self.order[place]))
+        for &(_, place) in &ranked[..count] {
+            best.put(self.order[place] as usize, true);
+        }
+        best
     }
 
-    fn median(&self, mesh: u64) -> i64 {
+    fn median(&self, mesh: Slots) -> i64 {
         let mut scores = [0; SLOTS];
         let mut filled = 0;
-        for slot in slots(mesh) {
+        for slot in mesh.each() {
             scores[filled] = self.scores[slot];
             filled += 1;
         }

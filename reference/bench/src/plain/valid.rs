@@ -88,7 +88,8 @@ impl Router {
         const PLACES: usize = 4 * SLOTS;
         let mut table = [0; PLACES];
         for id in self.peers.iter().map(|peer| peer.id).filter(|&id| id != 0) {
-            let mut place = id.wrapping_mul(0x9e37_79b1) as usize >> 24;
+            let shift = u32::BITS - PLACES.trailing_zeros();
+            let mut place = id.wrapping_mul(0x9e37_79b1) as usize >> shift;
             while table[place] != 0 {
                 if table[place] == id {
                     return false;
@@ -107,7 +108,7 @@ impl Router {
             p3: std::array::from_fn(|k| cap(k, topic::P3_CAP)),
         };
         self.peers.iter().all(|peer| match peer.status {
-            Status::Empty => *peer == Peer::default(),
+            Status::Empty => peer.is_zero(),
             _ => self.peer_valid(peer) && self.topics_valid(&peer.topics, &caps),
         })
     }
@@ -137,6 +138,22 @@ impl Router {
             && within(&topics.graft_times, &[self.clock; TOPICS])
             && within(&topics.mesh_times, &differences)
             && topics.no_times_outside()
+    }
+}
+
+impl Peer {
+    /// All zero, as the default one; the columns are joined side by side.
+    fn is_zero(&self) -> bool {
+        let Topics { graft_times, mesh_times, p3b, p2, p3, p4, subscribed, member } = &self.topics;
+        let (mut wide, mut narrow) = (0, 0);
+        for k in 0..TOPICS {
+            wide |= graft_times[k] | mesh_times[k] | p3b[k] | self.backoff_ends[k];
+            narrow |= p2[k] | p3[k] | p4[k];
+        }
+        let flags = self.outbound | self.explicit | self.v11;
+        let sets = u32::from(subscribed | member) | u32::from(flags);
+        let own = self.id | self.group | self.p5 as u32 | self.p7 | sets;
+        wide | self.retain_end | u64::from(narrow | own) == 0
     }
 }
 

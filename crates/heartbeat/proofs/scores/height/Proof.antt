@@ -1,28 +1,29 @@
--- `heartbeat::scores::height`: the parts, their total, moved up.
+-- `heartbeat::scores::height`: an empty slot's score, or the peer's, moved up.
 use borrow.Author.Needs.{needs}
-use Rattle.score.proofs.InputLaws.{slot-in}
-use Rattle.heartbeat.proofs.ScoresLaws.{height-ready, height-is}
+use mathlib.Core.Path.{sym, ap, _∙_}
+use Rattle.records.specs.declared.Peer.{Peer}
+use Rattle.rules.proofs.HeartbeatLaws.{height-of}
 use Rattle.heartbeat.proofs.scores.height.Statement.{statement}
 use Rattle.heartbeat.proofs.scores.height.Tie as tie
 
-parts-requires : tie.Need-parts-requires
-parts-requires c κs =
-    let p = c .before .before .pre in
-    height-ready _ _ (slot-in _ (p .standing .router) _ (p .slot)) _ _ _ _ (c .load-peer .ensures .0) (p .general) (p .topics) (p .together)
-
 returns : tie.Need-returns
 returns c =
-    let loaded = c .before .before .before in
-    let p = loaded .before .before .pre in
-    height-is _ _ (slot-in _ (p .standing .router) _ (p .slot)) _ _ _ _ (loaded .load-peer .ensures .0) (p .general) (p .topics) (p .together)
-    _ _ _ (c .before .before .parts .ensures .0) (c .before .total .ensures .0) (c .offset .ensures)
+    let l = c .before .before in
+    let p = l .before .before .pre in
+    p .empty _ (p .slot) (sym (ap (λ (o : Peer). o .status) (l .load-peer .ensures .0)) ∙ c .if1 .taken)
+
+score-among-requires : tie.Need-score-among-requires
+score-among-requires c κs =
+    let l = c .before .before in
+    let p = l .before .before .pre in
+    record { peer = record { standing = p .standing; slot = p .slot; peer = l .load-peer .ensures .0 }; buckets = p .buckets }
 
 pub height-spec : {M : Type 1} → statement M
 height-spec =
     tie.close
     (tie.spec
     (λ c κs. search needs)
-    parts-requires
-    (λ c κs. search needs)
-    (λ c κs. search needs)
-    returns)
+    returns
+    score-among-requires
+    (λ c κs. c .score-among .ensures .range)
+    (λ c. c .offset .ensures ∙ height-of _ _ _ (c .before .score-among .ensures)))

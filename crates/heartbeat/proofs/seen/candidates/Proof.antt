@@ -1,11 +1,11 @@
--- `heartbeat::seen::candidates`: the loop builds the set from the front.
-use Rattle.index.proofs.Kit.{_-_, refl, arith, false}
+-- `heartbeat::seen::candidates`: the loop builds the flags from the front, and they are packed.
+use Rattle.index.proofs.Kit.{_-_, refl, _∙_, arith, false}
 use Rattle.records.specs.Records.{slotCount}
 use Rattle.layout.specs.View.{stateOf}
 use Rattle.index.proofs.Lists.{Built, built-none, built-more}
 use Rattle.sets.proofs.SlotLaws.{slots-built}
 use Rattle.rules.specs.Step.{isCandidate}
-use Rattle.heartbeat.proofs.SeenLaws.{score-at}
+use Rattle.heartbeat.proofs.SeenLaws.{score-at, scores-length}
 use Rattle.heartbeat.proofs.seen.candidates.Statement.{statement}
 use Rattle.heartbeat.proofs.seen.candidates.Tie as tie
 
@@ -17,17 +17,18 @@ abbrev μ-loop : tie.MeasureT-loop
 
 is-candidate-requires : tie.Need-is-candidate-requires Inv-loop μ-loop
 is-candidate-requires c κs =
-    let p = c .before .before .before .pre in
+    let l = c .before .before .loop in
+    let p = c .before .before .before .before .before .pre in
     record {
       standing = p .standing;
       topic = p .topic;
       slot = omega arith;
-      score = score-at _ _ (c .before .loop .s) (omega arith) (p .scores);
+      score = score-at _ _ (l .s) (omega arith) (p .scores);
     }
 
 loop-again : tie.Need-loop-again Inv-loop μ-loop
 loop-again c =
-    let l = c .before .before .loop in
+    let l = c .before .before .before .loop in
     built-more _ _ _ (l .s) (l .r) _ (omega arith) (l .inv) (c .is-candidate .ensures)
 
 pub candidates-spec : {M : Type 1} → statement M
@@ -38,10 +39,11 @@ candidates-spec =
     μ-loop
     (λ c. built-none _ _ _ _ refl)
     (λ c. omega arith)
-    (λ c. omega arith)
+    (λ c. let n = scores-length _ _ (c .before .before .before .before .before .pre .scores) in omega arith)
     is-candidate-requires
     (λ c. omega arith)
     (λ c. omega arith)
     (λ c. omega arith)
     loop-again
-    (λ c. let l = c .before .loop in slots-built _ _ _ (l .s) (l .r) (omega arith) (l .inv)))
+    (λ c κs. tt)
+    (λ c. let l = c .before .before .loop in c .pack .ensures ∙ slots-built _ _ _ (l .s) (l .r) (omega arith) (l .inv)))

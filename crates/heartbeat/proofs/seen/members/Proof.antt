@@ -1,5 +1,5 @@
--- `heartbeat::seen::members`: the loop builds the set from the front.
-use Rattle.index.proofs.Kit.{_-_, refl, arith, false}
+-- `heartbeat::seen::members`: the loop builds the flags from the front, and they are packed.
+use Rattle.index.proofs.Kit.{_-_, refl, _∙_, arith, false}
 use Rattle.records.specs.Records.{slotCount}
 use Rattle.layout.specs.View.{stateOf}
 use Rattle.index.proofs.Lists.{Built, built-none, built-more}
@@ -31,4 +31,5 @@ members-spec =
     (λ c. omega arith)
     (λ c. omega arith)
     loop-again
-    (λ c. let l = c .before .loop in slots-built _ _ _ (l .s) (l .r) (omega arith) (l .inv)))
+    (λ c κs. tt)
+    (λ c. let l = c .before .before .loop in c .pack .ensures ∙ slots-built _ _ _ (l .s) (l .r) (omega arith) (l .inv)))

@@ -1,5 +1,5 @@
--- `heartbeat::seen::outbound`: the loop builds the set from the front.
-use Rattle.index.proofs.Kit.{_-_, refl, ap, arith, false}
+-- `heartbeat::seen::outbound`: the loop builds the flags from the front, and they are packed.
+use Rattle.index.proofs.Kit.{_-_, refl, ap, _∙_, arith, false}
 use lib.Dec.{eqb}
 use Rattle.records.specs.declared.Peer.{Peer}
 use Rattle.records.specs.Records.{slotCount, peerIn}
@@ -34,4 +34,5 @@ outbound-spec =
     (λ c. omega arith)
     (λ c. omega arith)
     loop-again
-    (λ c. let l = c .before .loop in slots-built _ _ _ (l .s) (l .r) (omega arith) (l .inv)))
+    (λ c κs. tt)
+    (λ c. let l = c .before .before .loop in c .pack .ensures ∙ slots-built _ _ _ (l .s) (l .r) (omega arith) (l .inv)))

@@ -1,19 +1,25 @@
 -- `mesh::steps::mesh3` meets its contract.
 -- Assumes nothing.
 use Rattle.records.specs.Records.{slotCount}
+use Rattle.words.specs.Words.{bitsOf}
+use Rattle.mesh.specs.Words.{viewOf}
 use Rattle.mesh.proofs.StepLaws.{mesh3-over, mesh3-else}
 use Rattle.mesh.proofs.steps.mesh3.Statement.{statement}
 use Rattle.mesh.proofs.steps.mesh3.Tie as tie
 
 returns : tie.Need-returns
-returns c = let s = c .before .before .args in mesh3-else (s .t) (s .v) (s .m) (c .before .size .ensures) slotCount (c .if1 .taken)
+returns c =
+    let s = c .before .before .before .before .args in
+    mesh3-else (s .t) (viewOf (s .v) (s .scores .now) (s .order .now)) (bitsOf (s .m)) (c .before .size .ensures) slotCount (c .if1 .taken)
 
 returns-2 : tie.Need-returns-2
 returns-2 c =
-    let c₄ = c .before .before .before .before in
-    let c₈ = c₄ .before .before .before .before in
-    let s = c₈ .before .before .args in
-    mesh3-over (s .t) (s .v) (s .m) (c₈ .before .size .ensures) slotCount (c₈ .if1 .left) (c₄ .bests .ensures)
+    let b = c .before .before .before .before in
+    let n = b .before .before .before in
+    let s = n .before .before .before .args in
+    mesh3-over (s .t) (viewOf (s .v) (s .scores .now) (s .order .now)) (bitsOf (s .m)) (n .size .ensures) slotCount
+    (b .before .before .if1 .left)
+    (b .bests .ensures)
     (c .before .before .before .size2 .ensures)
     (c .before .before .minus .ensures)
     (c .before .fill .ensures)

@@ -3,38 +3,50 @@
 use native.Mathlib.Omega.{arith}
 use borrow.Author.Needs.{needs}
 use borrow.Author.Tests.{not-true, not-false}
+use Rattle.words.specs.Words.{bitsOf}
+use Rattle.mesh.specs.declared.Seen.{Seen}
+use Rattle.mesh.specs.Maintenance.{View}
+use Rattle.mesh.specs.Words.{viewOf}
 use Rattle.mesh.proofs.StepLaws.{mesh5-unasked, mesh5-few, mesh5-high, mesh5-low}
 use Rattle.mesh.proofs.steps.mesh5.Statement.{statement}
 use Rattle.mesh.proofs.steps.mesh5.Tie as tie
 
+abbrev seen : tie.Start → View
+seen s = viewOf (s .args .v) (s .args .scores .now) (s .args .order .now)
+
 returns : tie.Need-returns
 returns c =
-    let s = c .before .args in
-    mesh5-unasked (s .t) (s .v) (s .m) (not-true (s .v .ask) (c .if1 .taken))
+    let s = c .before .before .before in
+    mesh5-unasked (s .args .t) (seen s) (bitsOf (s .args .m)) (not-true (s .args .v .ask) (c .if1 .taken))
 
 returns-2 : tie.Need-returns-2
 returns-2 c =
-    let s = c .before .before .before .args in
-    mesh5-few (s .t) (s .v) (s .m) (c .before .size .ensures) (c .if2 .taken)
+    let s = c .before .before .before .before .before in
+    mesh5-few (s .args .t) (seen s) (bitsOf (s .args .m)) (c .before .size .ensures) (c .if2 .taken)
 
 returns-3 : tie.Need-returns-3
 returns-3 c =
-    let c₄ = c .before .before .before .before in
-    let s = c₄ .before .before .args in
-    mesh5-high (s .t) (s .v) (s .m) (c₄ .size .ensures) (c .before .middle .ensures) (c .if3 .taken)
+    let n = c .before .before .before in
+    let s = n .before .before .before .before in
+    mesh5-high (s .args .t) (seen s) (bitsOf (s .args .m)) (n .size .ensures) (c .before .middle .ensures) (c .if3 .taken)
 
 returns-4 : tie.Need-returns-4
 returns-4 c =
-    let c₅ = c .before .before .before .before .before in
-    let c₈ = c₅ .before .before .before in
-    let c₉ = c₈ .before in
-    let s = c₉ .before .before .args in
-    mesh5-low (s .t) (s .v) (s .m) (not-false (s .v .ask) (c₉ .before .if1 .left)) (c₉ .size .ensures) (c₈ .if2 .left)
-    (c₅ .before .middle .ensures)
-    (c₅ .if3 .left)
+    let m = c .before .before .before .before .before in
+    let n = m .before .before in
+    let s = n .before .before .before .before in
+    mesh5-low (s .args .t) (seen s) (bitsOf (s .args .m)) (not-false (s .args .v .ask) (n .before .if1 .left)) (n .size .ensures)
+    (m .before .if2 .left)
+    (m .middle .ensures)
+    (c .before .before .before .before .if3 .left)
     (c .before .before .at-least .ensures)
     (c .before .both .ensures)
     (c .fill .ensures)
+
+middle-requires : tie.Need-middle-requires
+middle-requires c κs =
+    let s = c .before .before .before .before .before in
+    (s .pre, omega (arith, c .before .size .ensures, c .if2 .left))
 
 pub mesh5-spec : {M : Type 1} → statement M
 mesh5-spec =
@@ -43,10 +55,10 @@ mesh5-spec =
     returns
     (λ c κs. tt)
     returns-2
-    (λ c κs. search needs)
+    middle-requires
     returns-3
     (λ c. omega arith)
-    (λ c κs. tt)
+    (λ c κs. c .before .before .before .before .before .before .before .before .pre)
     (λ c κs. tt)
     (λ c κs. tt)
     returns-4)

@@ -6,5 +6,5 @@ use Rattle.sets.proofs.median.few_below.Tie as tie
 pub few-below-spec : {M : Type 1} → statement M
 few-below-spec =
     tie.close
-    (tie.spec (λ c κs. tt) (λ c κs. tt) (λ c κs. tt)
+    (tie.spec (λ c κs. c .before .pre) (λ c κs. tt) (λ c κs. tt)
     (λ c. rw (c .size .ensures, c .before .except .ensures, c .before .before .at-least .ensures)))

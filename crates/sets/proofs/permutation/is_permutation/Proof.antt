@@ -51,7 +51,7 @@ returns-2 c =
     let l = c .before .before .loop in
     let p = c .before .before .before .before .before .args .p .now in
     ap (λ (k : ℕ). eqb k slotCount)
-    (c .size .ensures ∙ ap size (sym (marked-end p (l .i) (l .seen) (omega arith)) ∙ l .inv .3))
+    (c .marks .ensures ∙ ap size (sym (marked-end p (l .i) (l .seen) (omega arith)) ∙ l .inv .3))
     ∙ marked-permutation slotCount p (l .inv .1)
 
 pub is-permutation-spec : {M : Type 1} → statement M

@@ -7,40 +7,46 @@ use mathlib.Core.Path.{_≡_, refl, sym, _∙_}
 use mathlib.Core.Bool.{true, false}
 use lib.ListN.{length, drop}
 use Rattle.records.specs.Records.{slotCount}
+use Rattle.words.specs.Words.{bitsOf}
 use Rattle.sets.specs.Sets.{firstOf}
 use Rattle.sets.proofs.WalkLaws.{first-step, first-end}
 use Rattle.sets.proofs.walks.first_of.Statement.{statement}
 use Rattle.sets.proofs.walks.first_of.Tie as tie
 
 abbrev Inv-loop : tie.InvT-loop
-Inv-loop p order i₀ i =
-    (i ≤ slotCount) × (firstOf p (drop i order) slotCount ≡ firstOf p order slotCount) × (length order ≡ slotCount)
+Inv-loop order p i₀ i-end i =
+    (i ≤ length order)
+    × (i-end ≡ length order)
+    × (firstOf (bitsOf p) (drop i order) slotCount ≡ firstOf (bitsOf p) order slotCount)
 
 abbrev μ-loop : tie.MeasureT-loop
-μ-loop p order i₀ i = slotCount - i
+μ-loop order p i₀ i-end i = length order - i
 
 returns : tie.Need-returns Inv-loop μ-loop
 returns c =
-    let a = c .before .before .before .before .before .args in
-    let l = c .before .before .before .before .loop in
-    sym (first-step (a .t1) (a .t2) (l .i) (omega arith) true slotCount (sym (c .before .at .ensures) ∙ c .if1 .taken))
-    ∙ l .inv .1
+    let h = c .before .before .before .before .before in
+    let a = h .before .before .args in
+    let l = h .loop in
+    sym
+    (first-step (bitsOf (a .t1)) (a .order .now) (l .i) (omega arith) true slotCount (sym (c .before .at .ensures) ∙ c .if1 .taken))
+    ∙ l .inv .2
 
 loop-again : tie.Need-loop-again Inv-loop μ-loop
 loop-again c =
-    let a = c .before .before .before .before .before .args in
-    let l = c .before .before .before .before .loop in
+    let h = c .before .before .before .before .before in
+    let a = h .before .before .args in
+    let l = h .loop in
     let e = sym (c .before .at .ensures) ∙ c .if1 .left in (
       omega arith,
-      sym (first-step (a .t1) (a .t2) (l .i) (omega arith) false slotCount e) ∙ l .inv .1,
-      l .inv .2,
+      refl,
+      sym (first-step (bitsOf (a .t1)) (a .order .now) (l .i) (omega arith) false slotCount e) ∙ l .inv .2,
     )
 
 returns-2 : tie.Need-returns-2 Inv-loop μ-loop
 returns-2 c =
-    let a = c .before .before .args in
+    let a = c .before .before .before .args in
     let l = c .before .loop in
-    sym (first-end (a .t1) (a .t2) (l .i) (omega arith) slotCount) ∙ l .inv .1
+    sym (first-end (bitsOf (a .t1)) (a .order .now) (l .i) (omega arith) slotCount) ∙ l .inv .2
 
 pub first-of-spec : {M : Type 1} → statement M
 first-of-spec =
@@ -48,7 +54,7 @@ first-of-spec =
     (tie.spec
     Inv-loop
     μ-loop
-    (λ c. (search needs, refl, search needs))
+    (λ c. (omega arith, refl, refl))
     (λ c. omega arith)
     (λ c. omega arith)
     (λ c. search needs)

@@ -1,22 +1,26 @@
 -- `sets::walks::goer` meets its contract.
 -- Assumes nothing.
 use Rattle.records.specs.Records.{slotCount}
+use Rattle.words.specs.Words.{bitsOf}
 use Rattle.sets.proofs.WalkLaws.{goer-lowest, goer-last}
 use Rattle.sets.proofs.walks.goer.Statement.{statement}
 use Rattle.sets.proofs.walks.goer.Tie as tie
 
 returns : tie.Need-returns
 returns c =
-    let a = c .before .before .before .before .args in
-    goer-lowest slotCount (a .scores) (a .order) (a .b) (a .p) (c .before .before .before .except .ensures)
+    let e = c .before .before .before in
+    let a = e .before .before .before .args in
+    goer-lowest slotCount (a .scores .now) (a .order .now) (bitsOf (a .b)) (bitsOf (a .p)) (e .except .ensures)
     (c .before .before .size .ensures)
     (c .before .if1 .taken)
     (c .bottom .ensures)
 
 returns-2 : tie.Need-returns-2
 returns-2 c =
-    let a = c .before .before .before .before .args in
-    goer-last slotCount (a .scores) (a .order) (a .b) (a .p) (c .before .before .before .except .ensures) (c .before .before .size .ensures)
+    let e = c .before .before .before in
+    let a = e .before .before .before .args in
+    goer-last slotCount (a .scores .now) (a .order .now) (bitsOf (a .b)) (bitsOf (a .p)) (e .except .ensures)
+    (c .before .before .size .ensures)
     (c .before .if1 .left)
     (c .last-of .ensures)
 

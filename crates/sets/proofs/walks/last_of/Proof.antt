@@ -8,43 +8,49 @@ use mathlib.Core.Bool.{true, false}
 use mathlib.Core.Logic.{⊎-elim}
 use lib.ListN.{length, drop}
 use Rattle.records.specs.Records.{slotCount}
+use Rattle.words.specs.Words.{bitsOf}
 use Rattle.sets.specs.Sets.{lastOf}
 use Rattle.sets.proofs.WalkLaws.{last-step, last-end}
 use Rattle.sets.proofs.walks.last_of.Statement.{statement}
 use Rattle.sets.proofs.walks.last_of.Tie as tie
 
 abbrev Inv-loop : tie.InvT-loop
-Inv-loop p order last₀ i₀ last i =
-    (i ≤ slotCount) × (lastOf p (drop i order) last ≡ lastOf p order slotCount) × (length order ≡ slotCount)
+Inv-loop order p last₀ i₀ i-end last i =
+    (i ≤ length order)
+    × (i-end ≡ length order)
+    × (lastOf (bitsOf p) (drop i order) last ≡ lastOf (bitsOf p) order slotCount)
 
 abbrev μ-loop : tie.MeasureT-loop
-μ-loop p order last₀ i₀ last i = slotCount - i
+μ-loop order p last₀ i₀ i-end last i = length order - i
 
 loop-again : tie.Need-loop-again Inv-loop μ-loop
 loop-again c =
-    let a = c .before .before .before .before .before .args in
-    let l = c .before .before .before .before .loop in
-    let rest : ℕ → ℕ = λ s. lastOf (a .t1) (drop (l .i + 1) (a .t2)) s in
-    let lt : l .i < length (a .t2) = omega arith in
+    let h = c .before .before .before .before .before in
+    let a = h .before .before .args in
+    let l = h .loop in
+    let p = bitsOf (a .t1) in
+    let order = a .order .now in
+    let rest : ℕ → ℕ = λ s. lastOf p (drop (l .i + 1) order) s in
+    let lt : l .i < length order = omega arith in
     let e = c .before .at .ensures in
     ⊎-elim
     (λ w. (
       omega arith,
-      ap rest (w .1) ∙ sym (last-step (a .t1) (a .t2) (l .i) lt true (l .last) (sym e ∙ w .0 .taken)) ∙ l .inv .1,
-      l .inv .2,
+      refl,
+      ap rest (w .1) ∙ sym (last-step p order (l .i) lt true (l .last) (sym e ∙ w .0 .taken)) ∙ l .inv .2,
     ))
     (λ w. (
       omega arith,
-      ap rest (w .1) ∙ sym (last-step (a .t1) (a .t2) (l .i) lt false (l .last) (sym e ∙ w .0 .left)) ∙ l .inv .1,
-      l .inv .2,
+      refl,
+      ap rest (w .1) ∙ sym (last-step p order (l .i) lt false (l .last) (sym e ∙ w .0 .left)) ∙ l .inv .2,
     ))
     (c .if1 .came)
 
 returns : tie.Need-returns Inv-loop μ-loop
 returns c =
-    let a = c .before .before .args in
+    let a = c .before .before .before .args in
     let l = c .before .loop in
-    sym (last-end (a .t1) (a .t2) (l .i) (omega arith) (l .last)) ∙ l .inv .1
+    sym (last-end (bitsOf (a .t1)) (a .order .now) (l .i) (omega arith) (l .last)) ∙ l .inv .2
 
 pub last-of-spec : {M : Type 1} → statement M
 last-of-spec =
@@ -52,7 +58,7 @@ last-of-spec =
     (tie.spec
     Inv-loop
     μ-loop
-    (λ c. (search needs, refl, search needs))
+    (λ c. (omega arith, refl, refl))
     (λ c. omega arith)
     (λ c. omega arith)
     (λ c. search needs)

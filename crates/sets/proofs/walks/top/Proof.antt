@@ -7,6 +7,7 @@ use mathlib.Core.Bool.{true, false}
 use mathlib.Core.Logic.{⊎-elim}
 use lib.ListN.{length, getD, drop}
 use Rattle.records.specs.Records.{slotCount}
+use Rattle.words.specs.Words.{bitsOf}
 use Rattle.sets.specs.Sets.{top}
 use Rattle.sets.proofs.WalkLaws.{beats-by, top-step, top-end}
 use Rattle.sets.proofs.walks.top.Statement.{statement}
@@ -16,7 +17,7 @@ abbrev Inv-loop : tie.InvT-loop
 Inv-loop scores p order best₀ high₀ i₀ i-end best high i =
     (i ≤ length order)
     × (i-end ≡ length order)
-    × (top slotCount scores p (drop i order) best ≡ top slotCount scores p order slotCount)
+    × (top slotCount scores (bitsOf p) (drop i order) best ≡ top slotCount scores (bitsOf p) order slotCount)
     × (high ≡ getD scores best 0)
 
 abbrev μ-loop : tie.MeasureT-loop
@@ -27,7 +28,7 @@ loop-again c =
     let l = c .before .before .before .before .before .loop in
     let a = c .before .before .before .before .before .before .before .before .before .before .args in
     let scores = a .scores .now in
-    let p = a .p .now in
+    let p = bitsOf (a .p .now) in
     let order = a .order .now in
     let s = getD order (l .i) 0 in
     let score = c .before .before .number-at2 in
@@ -53,7 +54,7 @@ returns : tie.Need-returns Inv-loop μ-loop
 returns c =
     let a = c .before .before .before .before .before .before .args in
     let l = c .before .loop in
-    sym (top-end (a .p .now) (a .order .now) (l .i) (omega arith) slotCount (a .scores .now) (l .best)) ∙ l .inv .2
+    sym (top-end (bitsOf (a .p .now)) (a .order .now) (l .i) (omega arith) slotCount (a .scores .now) (l .best)) ∙ l .inv .2
 
 pub top-spec : {M : Type 1} → statement M
 top-spec =
