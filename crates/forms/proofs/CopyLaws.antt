@@ -1,11 +1,10 @@
 -- A copy of every part of a state is the state.
 -- Assumes nothing.
-use Prim.Native.Nat.{ℕ, zero, suc, _+_, _*_, _/_, _%_, _≤_, _<_}
+use Prim.Native.Nat.{ℕ, zero, suc, _+_, _/_, _%_, _≤_, _<_}
 use mathlib.Core.Path.{_≡_, refl, sym, ap, _∙_, subst}
 use mathlib.Core.Bool.{true}
 use mathlib.Core.List.{List}
 use native.Mathlib.Omega.{arith}
-use lib.ListN.{length, getD, set}
 use Rattle.index.specs.Index.{iter}
 use Rattle.index.proofs.Index.{iter-none, iter-more, iter-done}
 use Rattle.records.specs.declared.Peer.{Peer}

@@ -7,18 +7,14 @@ use mathlib.Core.List.{List}
 use native.Mathlib.Omega.{arith}
 use lib.ListN.{length}
 use Rattle.records.specs.Records.{State}
-use Rattle.effects.specs.Actions.{Action, numbersOf}
+use Rattle.effects.specs.Actions.{numbersOf}
 use lib.Seq.{sets}
 use Rattle.index.proofs.Flags.{failed, passed}
 use Rattle.layout.specs.View.{stateOf}
 use Rattle.rows.specs.View.{stateOfRows}
 use Rattle.rows.proofs.Whole.{determined}
 use Rattle.validity.specs.Valid.{valid}
-use Rattle.rules.specs.declared.Answer.{Answer}
-use Rattle.rules.specs.Reply.{Reply}
-use Rattle.rules.specs.Calls.{Call}
 use Rattle.rules.specs.Step.{step}
-use Rattle.forms.specs.declared.Turned.{Turned}
 use Rattle.forms.specs.declared.Turned.the-variants.{Done, NotRouter}
 use Rattle.forms.specs.Turns.{turnedOf, FromRows, ToRows, RowsReturn, TableReturns}
 use Rattle.forms.specs.Same.{SameCalls}

@@ -4,7 +4,7 @@ ghost use mathlib.Core.Bool.{true};
 ghost use lib.ListN.{length};
 ghost use Rattle.records.specs.Records.{slotCount, topicCount};
 ghost use Rattle.layout.specs.View.{placeCount, cellCount, stateOf};
-ghost use Rattle.rows.specs.View.{rowsCount, stateOfRows};
+ghost use Rattle.rows.specs.View.{stateOfRows};
 ghost use Rattle.validity.specs.Valid.{valid};
 ghost use Rattle.forms.specs.Turns.{copyJoined, copyPeers, copyTopics, Between, Back};
 use layout::PARAMS;
@@ -16,7 +16,8 @@ const PLACES: usize = SLOTS * TOPICS;
 
 fn joined_from(rows: &[u64], table: &mut [u64])
     requires { ⌜ Between (now rows) (now table) ⌝ }
-    ensures { λ r. ⌜ stateOf (now (table .exit)) ≡ copyJoined topicCount (stateOfRows (now (rows .entry))) (stateOf (now (table .entry))) ⌝ }
+    ensures { λ r. ⌜ stateOf (now (table .exit))
+        ≡ copyJoined topicCount (stateOfRows (now (rows .entry))) (stateOf (now (table .entry))) ⌝ }
 {
     let mut t: usize = 0;
     while t < TOPICS {
@@ -38,7 +39,8 @@ fn peers_from(rows: &[u64], table: &mut [u64])
 
 fn topics_from(rows: &[u64], table: &mut [u64])
     requires { ⌜ Between (now rows) (now table) ⌝ }
-    ensures { λ r. ⌜ stateOf (now (table .exit)) ≡ copyTopics placeCount (stateOfRows (now (rows .entry))) (stateOf (now (table .entry))) ⌝ }
+    ensures { λ r. ⌜ stateOf (now (table .exit))
+        ≡ copyTopics placeCount (stateOfRows (now (rows .entry))) (stateOf (now (table .entry))) ⌝ }
 {
     let mut k: usize = 0;
     while k < PLACES {
@@ -63,7 +65,8 @@ pub fn fill_table(rows: &[u64], table: &mut [u64])
 
 fn joined_to(table: &[u64], rows: &mut [u64])
     requires { ⌜ Back (now table) (now rows) ⌝ }
-    ensures { λ r. ⌜ stateOfRows (now (rows .exit)) ≡ copyJoined topicCount (stateOf (now (table .entry))) (stateOfRows (now (rows .entry))) ⌝ }
+    ensures { λ r. ⌜ stateOfRows (now (rows .exit))
+        ≡ copyJoined topicCount (stateOf (now (table .entry))) (stateOfRows (now (rows .entry))) ⌝ }
 {
     let mut t: usize = 0;
     while t < TOPICS {
@@ -74,7 +77,8 @@ fn joined_to(table: &[u64], rows: &mut [u64])
 
 fn peers_to(table: &[u64], rows: &mut [u64])
     requires { ⌜ Back (now table) (now rows) ⌝ }
-    ensures { λ r. ⌜ stateOfRows (now (rows .exit)) ≡ copyPeers slotCount (stateOf (now (table .entry))) (stateOfRows (now (rows .entry))) ⌝ }
+    ensures { λ r. ⌜ stateOfRows (now (rows .exit))
+        ≡ copyPeers slotCount (stateOf (now (table .entry))) (stateOfRows (now (rows .entry))) ⌝ }
 {
     let mut s: usize = 0;
     while s < SLOTS {
@@ -85,7 +89,8 @@ fn peers_to(table: &[u64], rows: &mut [u64])
 
 fn topics_to(table: &[u64], rows: &mut [u64])
     requires { ⌜ Back (now table) (now rows) ⌝ }
-    ensures { λ r. ⌜ stateOfRows (now (rows .exit)) ≡ copyTopics placeCount (stateOf (now (table .entry))) (stateOfRows (now (rows .entry))) ⌝ }
+    ensures { λ r. ⌜ stateOfRows (now (rows .exit))
+        ≡ copyTopics placeCount (stateOf (now (table .entry))) (stateOfRows (now (rows .entry))) ⌝ }
 {
     let mut k: usize = 0;
     while k < PLACES {

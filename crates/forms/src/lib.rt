@@ -3,7 +3,6 @@
 pub mod copy;
 pub mod test;
 
-ghost use mathlib.Core.Path.{_≡_};
 ghost use Rattle.forms.specs.Turns.{FromRows, ToRows};
 
 // Whether a table was turned: test 12 is made first, and a table that is no router's leaves the other memory as it was.

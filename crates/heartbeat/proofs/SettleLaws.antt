@@ -253,7 +253,8 @@ module _
         }
 
     module _ (table left : List ℕ) (slot : ℕ) (r : Rest table left slot) (h : slot < slotCount) where
-      module _ (rest : List ℕ) (slot′ : ℕ) (er : bitsOf rest ≡ set (bitsOf left) (lowest (bitsOf left)) false) (es : slot′ ≡ lowest (bitsOf rest)) where
+      module _ (rest : List ℕ) (slot′ : ℕ) (er : bitsOf rest ≡ set (bitsOf left) (lowest (bitsOf left)) false)
+          (es : slot′ ≡ lowest (bitsOf rest)) where
         pub rest-later : slot < slot′
         rest-later =
             let b = bitsOf-length left in

@@ -1,8 +1,8 @@
--- Actions written by a walk: what an action says of a peer, and the walk over the slots of a set, which has the rest of them still to write.
--- Assumes nothing.
+-- Actions written by a walk: what an action says of a peer, and the walk over the slots of a set, which has the rest of them still to
+-- write. Assumes nothing.
 use Prim.Native.Nat.{ℕ, _+_, _*_, _≤_, _<_}
 use native.Mathlib.Omega.{arith}
-use mathlib.Core.Path.{_≡_, refl, sym, ap, ap₂, _∙_}
+use mathlib.Core.Path.{_≡_, refl, sym, ap, _∙_}
 use mathlib.Core.Bool.{Bool, false, cond}
 use mathlib.Core.List.{List, [], _∷_, map}
 use lib.ListN.{length, getD, set}

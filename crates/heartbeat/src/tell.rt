@@ -1,6 +1,6 @@
-// The actions that tell the peers, written into a lent list of numbers, three each. A peer's id, and the seconds that it is told, are looked
-// up in the table when its action is written. PRUNEs stand by slot, by a walk over the slots of the set alone; GRAFTs in the permutation's
-// order.
+// The actions that tell the peers, written into a lent list of numbers, three each. A peer's id, and the seconds that it is told, are
+// looked up in the table when its action is written. PRUNEs stand by slot, by a walk over the slots of the set alone; GRAFTs in the
+// permutation's order.
 ghost use mathlib.Core.Path.{_≡_};
 ghost use mathlib.Core.List.{_∷_, []};
 ghost use Prim.Native.Nat.{_+_, _*_, _<_};

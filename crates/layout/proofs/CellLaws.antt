@@ -11,7 +11,7 @@ use Rattle.records.specs.declared.TopicRecord.{TopicRecord}
 use Rattle.records.specs.Records.{peerIn, topicIn}
 use Rattle.layout.proofs.RowLaws.{getD-tab}
 use Rattle.records.specs.Records.{slotCount}
-use Rattle.layout.specs.View.{placeCount, idAt, markAt, endsAt, p3bAt, bitAt, usedOf, liveAt, counterOf, graftOf, meshOf}
+use Rattle.layout.specs.View.{placeCount, idAt, p57At, endsAt, p3bAt, bitAt, usedOf, liveAt, counterOf, graftOf, meshOf}
 use Rattle.layout.specs.View.{subscribedWord, memberWord, topicRaw, topicAt, peerRaw, endsOf, peerAt, stateOf}
 use Rattle.layout.proofs.ViewLaws.{live-in, topic-load, peer-load}
 use Rattle.layout.proofs.PlaceLaws.{packed}
@@ -74,9 +74,9 @@ module _ (c : List ℕ) (s : ℕ) (h : s < slotCount) (u : s < usedOf c) where
   unfolding peerAt peerRaw
   raw-ids = halves-whole (liveAt c s (idAt + s))
 
-  raw-marks : peerAt c s .p5 + peerAt c s .p7 * 4294967296 ≡ liveAt c s (markAt + s)
+  raw-p57 : peerAt c s .p5 + peerAt c s .p7 * 4294967296 ≡ liveAt c s (p57At + s)
   unfolding peerAt peerRaw
-  raw-marks = halves-whole (liveAt c s (markAt + s))
+  raw-p57 = halves-whole (liveAt c s (p57At + s))
 
   raw-end : (t : ℕ) → t < 8 → getD (peerAt c s .backoff) t 0 ≡ liveAt c s (endsAt + s * 8 + t)
   unfolding peerAt peerRaw endsOf
@@ -88,8 +88,8 @@ module _ (c : List ℕ) (s : ℕ) (h : s < slotCount) (u : s < usedOf c) where
   pub ids-are : p .id + p .group * 4294967296 ≡ getD c (idAt + s) 0
   ids-are = ap (λ (q : Peer). q .id + q .group * 4294967296) (sym (peer-load c s h)) ∙ raw-ids ∙ live-in c s (idAt + s) u
 
-  pub marks-are : p .p5 + p .p7 * 4294967296 ≡ getD c (markAt + s) 0
-  marks-are = ap (λ (q : Peer). q .p5 + q .p7 * 4294967296) (sym (peer-load c s h)) ∙ raw-marks ∙ live-in c s (markAt + s) u
+  pub p57-is : p .p5 + p .p7 * 4294967296 ≡ getD c (p57At + s) 0
+  p57-is = ap (λ (q : Peer). q .p5 + q .p7 * 4294967296) (sym (peer-load c s h)) ∙ raw-p57 ∙ live-in c s (p57At + s) u
 
   pub end-is : (t : ℕ) → t < 8 → getD (p .backoff) t 0 ≡ getD c (endsAt + s * 8 + t) 0
   end-is t l = ap (λ (q : Peer). getD (q .backoff) t 0) (sym (peer-load c s h)) ∙ raw-end t l ∙ live-in c s (endsAt + s * 8 + t) u

@@ -1,4 +1,4 @@
--- A fresh table: zeros in the head, the sheet and the words are enough; every other cell is out of use.
+-- A fresh table: zeros in the head, the parameters and the words are enough; every other cell is out of use.
 -- Assumes nothing.
 use Prim.Native.Nat.{ℕ, _+_, _*_, _/_, _%_, _^_, _≤_, _<_}
 use mathlib.Core.Path.{_≡_, refl, ap, _∙_}
@@ -14,9 +14,9 @@ use Rattle.records.specs.Records.{paramCount}
 use Rattle.layout.specs.Rows.{tab}
 use Rattle.layout.proofs.RowLaws.{tab-const, tab-same}
 use Rattle.records.specs.Records.{slotCount}
-use Rattle.layout.specs.View.{placeCount, joinedAt, usedAt, setupAt, setupOf, sheetAt, peersAt, idAt, markAt, retainAt, endsAt}
+use Rattle.layout.specs.View.{placeCount, joinedAt, usedAt, setupAt, setupOf, paramsAt, peersAt, idAt, p57At, retainAt, endsAt}
 use Rattle.layout.specs.View.{topicsAt, countersAt, p3bAt, bitAt, liveAt, counterOf, graftOf, meshOf, subscribedWord, memberWord}
-use Rattle.layout.specs.View.{topicRaw, topicAt, peerRaw, endsOf, peerAt, below, codeFor, codeAt, sheetPlace, table, stateOf}
+use Rattle.layout.specs.View.{topicRaw, topicAt, peerRaw, endsOf, peerAt, below, codeFor, codeAt, paramPlace, table, stateOf}
 use Rattle.layout.specs.View.{zeroState}
 use Rattle.layout.proofs.ViewLaws.{table-same, live-out, place-low}
 
@@ -40,7 +40,7 @@ module _ (c : List ℕ) (low : (x : ℕ) → x < idAt → getD c x 0 ≡ 0) (wor
       let e : tab 8 (λ t. liveAt c s (endsAt + s * 8 + t)) ≡ tab 8 (λ t. 0) =
       tab-same 8 (λ t. liveAt c s (endsAt + s * 8 + t)) (λ t. 0) (λ t l. live-zero s (endsAt + s * 8 + t)) in
       λ i. peerRaw (b 0 (omega arith) i) (b 1 (omega arith) i) (b 2 (omega arith) i) (b 3 (omega arith) i) (b 4 (omega arith) i)
-      (b 5 (omega arith) i) (live-zero s (idAt + s) i) (live-zero s (markAt + s) i) (live-zero s (retainAt + s) i) (e i)
+      (b 5 (omega arith) i) (live-zero s (idAt + s) i) (live-zero s (p57At + s) i) (live-zero s (retainAt + s) i) (e i)
 
   topic-zero : (k : ℕ) → k < placeCount → topicAt c k ≡ noTopic
   unfolding topicAt topicRaw
@@ -52,7 +52,7 @@ module _ (c : List ℕ) (low : (x : ℕ) → x < idAt → getD c x 0 ≡ 0) (wor
 
   code-zero : (i : ℕ) → i < paramCount → codeAt c i ≡ 0
   unfolding codeAt codeFor
-  code-zero i h = ap (codeFor (below i)) (low (sheetAt + sheetPlace i) (let l = place-low i h in omega arith)) ∙ none (below i)
+  code-zero i h = ap (codeFor (below i)) (low (paramsAt + paramPlace i) (let l = place-low i h in omega arith)) ∙ none (below i)
     where
       none : (b : Bool) → codeFor b 0 ≡ 0
       none true = refl

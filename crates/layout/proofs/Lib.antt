@@ -7,7 +7,7 @@ pub mod PlaceLaws
 pub mod SlotLaws
 pub mod MarkLaws
 pub mod FitLaws
-pub mod SheetLaws
+pub mod ParamLaws
 pub mod CellLaws
 pub mod FreshLaws
 pub mod ReadLaws

@@ -16,15 +16,15 @@ use Rattle.layout.specs.Rows.{tab}
 use Rattle.layout.proofs.RowLaws.{tab-same}
 use Rattle.layout.proofs.StateLaws.{peer-again, topic-again}
 use Rattle.records.specs.Records.{slotCount}
-use Rattle.layout.specs.View.{placeCount, stride, usedAt, setupAt, peersAt, idAt, markAt, retainAt, endsAt, countersAt, p3bAt}
+use Rattle.layout.specs.View.{placeCount, stride, usedAt, setupAt, peersAt, idAt, p57At, retainAt, endsAt, countersAt, p3bAt}
 use Rattle.layout.specs.View.{graftAt, cellCount, bitAt, usedOf, liveAt, counterOf, graftOf, meshOf, subscribedWord, memberWord}
-use Rattle.layout.specs.View.{topicRaw, topicAt, peerRaw, endsOf, peerAt, stateOf, table, setColumns, sheetAt, joinedAt, codeAt}
-use Rattle.layout.specs.View.{sheetPlace, ZeroUpTo, Idle}
+use Rattle.layout.specs.View.{topicRaw, topicAt, peerRaw, endsOf, peerAt, stateOf, table, setColumns, paramsAt, joinedAt, codeAt}
+use Rattle.layout.specs.View.{paramPlace, ZeroUpTo, Idle}
 use Rattle.layout.proofs.BitLaws.{bit-cong, One, one-set}
 use Rattle.layout.proofs.ViewLaws.{table-same, live-in, live-out, topic-load, peer-load, code-cong, setup-cong, TopicOnly}
 use Rattle.layout.proofs.ViewLaws.{topic-store, PeerOnly, peer-store}
 use Rattle.layout.proofs.PlaceLaws.{counters-only, p3b-only}
-use Rattle.layout.proofs.SlotLaws.{id-only, mark-only, retain-only, end-only}
+use Rattle.layout.proofs.SlotLaws.{id-only, p57-only, retain-only, end-only}
 
 -- an occupied record stands below the mark
 id-none : (c : List ℕ) (s : ℕ) → usedOf c ≤ s → peerAt c s .id ≡ 0
@@ -55,7 +55,7 @@ peer-dead c d s u l b =
     tab-same 8 (λ t. liveAt d s (endsAt + s * 8 + t)) (λ t. liveAt c s (endsAt + s * 8 + t))
     (λ t k. live-dead c d s (endsAt + s * 8 + t) u l) in
     let x = live-dead c d s (idAt + s) u l in
-    let y = live-dead c d s (markAt + s) u l in
+    let y = live-dead c d s (p57At + s) u l in
     let z = live-dead c d s (retainAt + s) u l in
     λ i. peerRaw (b 0 (omega arith) i) (b 1 (omega arith) i) (b 2 (omega arith) i) (b 3 (omega arith) i) (b 4 (omega arith) i)
     (b 5 (omega arith) i) (x i) (y i) (z i) (e i)
@@ -109,12 +109,12 @@ module _ (c : List ℕ) (s : ℕ) (z : length c ≡ cellCount) (h : s < slotCoun
   unfolding setColumns
   columns-idle =
       let c1 = set c (idAt + s) 0 in
-      let c2 = set c1 (markAt + s) 0 in
+      let c2 = set c1 (p57At + s) 0 in
       let c3 = set c2 (retainAt + s) 0 in
       let o1 = one-set c (idAt + s) 0 in
       let i1 = idle-peer c c1 s (idAt + s) z h l (omega arith) o1 (id-only c c1 s h o1) in
-      let o2 = one-set c1 (markAt + s) 0 in
-      let i2 = idle-peer c1 c2 s (markAt + s) (i1 .size) h (rw (i1 .used) l) (omega arith) o2 (mark-only c1 c2 s h o2) in
+      let o2 = one-set c1 (p57At + s) 0 in
+      let i2 = idle-peer c1 c2 s (p57At + s) (i1 .size) h (rw (i1 .used) l) (omega arith) o2 (p57-only c1 c2 s h o2) in
       let i12 = idle-then c c1 c2 i1 i2 in
       let o3 = one-set c2 (retainAt + s) 0 in
       let i3 = idle-peer c2 c3 s (retainAt + s) (i2 .size) h (rw (i12 .used) l) (omega arith) o3 (retain-only c2 c3 s h o3) in
@@ -124,16 +124,16 @@ module _ (c : List ℕ) (s : ℕ) (z : length c ≡ cellCount) (h : s < slotCoun
   unfolding setColumns
   columns-zero =
       let c1 = set c (idAt + s) 0 in
-      let c2 = set c1 (markAt + s) 0 in
+      let c2 = set c1 (p57At + s) 0 in
       let y1 = length-set c (idAt + s) 0 in
-      let y2 = length-set c1 (markAt + s) 0 in
+      let y2 = length-set c1 (p57At + s) 0 in
       record {
         ids =
             getD-set-other c2 (retainAt + s) (idAt + s) 0 0 (λ e. omega arith)
-            ∙ getD-set-other c1 (markAt + s) (idAt + s) 0 0 (λ e. omega arith)
+            ∙ getD-set-other c1 (p57At + s) (idAt + s) 0 0 (λ e. omega arith)
             ∙ getD-set-same c (idAt + s) 0 0 (omega arith);
-        marks =
-            getD-set-other c2 (retainAt + s) (markAt + s) 0 0 (λ e. omega arith) ∙ getD-set-same c1 (markAt + s) 0 0 (omega arith);
+        p57 =
+            getD-set-other c2 (retainAt + s) (p57At + s) 0 0 (λ e. omega arith) ∙ getD-set-same c1 (p57At + s) 0 0 (omega arith);
         retain = getD-set-same c2 (retainAt + s) 0 0 (omega arith);
         counters = λ t k. absurd (omega arith);
         p3b = λ t k. absurd (omega arith);
@@ -188,7 +188,7 @@ module _ (c : List ℕ) (s : ℕ) (z : length c ≡ cellCount) (h : s < slotCoun
         let y2 = length-set d1 x2 0 in
         record {
           ids = keeps (idAt + s) (λ e. omega arith) (λ e. omega arith) (λ e. omega arith) ∙ r .ids;
-          marks = keeps (markAt + s) (λ e. omega arith) (λ e. omega arith) (λ e. omega arith) ∙ r .marks;
+          p57 = keeps (p57At + s) (λ e. omega arith) (λ e. omega arith) (λ e. omega arith) ∙ r .p57;
           retain = keeps (retainAt + s) (λ e. omega arith) (λ e. omega arith) (λ e. omega arith) ∙ r .retain;
           counters =
               below-more (λ u. getD d3 (countersAt + u * stride + s) 0 ≡ 0) t
@@ -233,7 +233,7 @@ module _ (c : List ℕ) (s : ℕ) (z : length c ≡ cellCount) (h : s < slotCoun
       let f : (p : ℕ) → p < 6 → bitAt risen (peersAt + p * 4) j ≡ bitAt c (peersAt + p * 4) j =
       λ p k. bit-cong c risen (peersAt + p * 4) j (rest (peersAt + p * 4 + j / 64) (λ e. omega arith)) in
       let x = live-risen j (idAt + j) (λ e. omega arith) (λ q. rw q (r .ids)) in
-      let y = live-risen j (markAt + j) (λ e. omega arith) (λ q. rw q (r .marks)) in
+      let y = live-risen j (p57At + j) (λ e. omega arith) (λ q. rw q (r .p57)) in
       let w = live-risen j (retainAt + j) (λ e. omega arith) (λ q. rw q (r .retain)) in
       let e : tab 8 (λ t. liveAt risen j (endsAt + j * 8 + t)) ≡ tab 8 (λ t. liveAt c j (endsAt + j * 8 + t)) =
       tab-same 8 (λ t. liveAt risen j (endsAt + j * 8 + t)) (λ t. liveAt c j (endsAt + j * 8 + t)) (λ t k.
@@ -261,7 +261,7 @@ module _ (c : List ℕ) (s : ℕ) (z : length c ≡ cellCount) (h : s < slotCoun
       let j : table 8 (λ t. getD risen (joinedAt + t) 0) ≡ table 8 (λ t. getD c (joinedAt + t) 0) =
       table-same 8 (λ t. getD risen (joinedAt + t) 0) (λ t. getD c (joinedAt + t) 0) (λ t l. rest (joinedAt + t) (λ e. omega arith)) in
       let k : table paramCount (codeAt risen) ≡ table paramCount (codeAt c) =
-      table-same paramCount (codeAt risen) (codeAt c) (λ i l. code-cong c risen i (rest (sheetAt + sheetPlace i) (λ e. omega arith))) in
+      table-same paramCount (codeAt risen) (codeAt c) (λ i l. code-cong c risen i (rest (paramsAt + paramPlace i) (λ e. omega arith))) in
       let p : table slotCount (peerAt risen) ≡ table slotCount (peerAt c) = table-same slotCount (peerAt risen) (peerAt c) peer-risen in
       let t : table placeCount (topicAt risen) ≡ table placeCount (topicAt c) =
       table-same placeCount (topicAt risen) (topicAt c) topic-risen in
@@ -331,7 +331,7 @@ pub zero-kept : (c : List ℕ) (s n v : ℕ) → s < slotCount → n ≤ 8 → Z
 zero-kept c s n v h l r =
     record {
       ids = getD-set-other c usedAt (idAt + s) v 0 (λ e. omega arith) ∙ r .ids;
-      marks = getD-set-other c usedAt (markAt + s) v 0 (λ e. omega arith) ∙ r .marks;
+      p57 = getD-set-other c usedAt (p57At + s) v 0 (λ e. omega arith) ∙ r .p57;
       retain = getD-set-other c usedAt (retainAt + s) v 0 (λ e. omega arith) ∙ r .retain;
       counters = λ t k. getD-set-other c usedAt (countersAt + t * stride + s) v 0 (λ e. omega arith) ∙ r .counters t k;
       p3b = λ t k. getD-set-other c usedAt (p3bAt + (s * 8 + t)) v 0 (λ e. omega arith) ∙ r .p3b t k;

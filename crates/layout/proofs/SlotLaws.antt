@@ -17,7 +17,7 @@ use Rattle.records.specs.Records.{setPeer, peerIn}
 use Rattle.layout.specs.Rows.{tab, put}
 use Rattle.layout.proofs.RowLaws.{tab-same, tab-set, tab-getD, getD-put-before, getD-put-in, getD-put-after}
 use Rattle.records.specs.Records.{slotCount}
-use Rattle.layout.specs.View.{usedAt, peersAt, idAt, markAt, retainAt, endsAt, topicsAt, cellCount, bitAt, usedOf, liveAt, peerRaw}
+use Rattle.layout.specs.View.{usedAt, peersAt, idAt, p57At, retainAt, endsAt, topicsAt, cellCount, bitAt, usedOf, liveAt, peerRaw}
 use Rattle.layout.specs.View.{endsOf, peerAt, stateOf, setBit, setFlags, setColumns, setEnd, PeerFits}
 use Rattle.layout.proofs.BitLaws.{by-same, length-bit, bit-cong, bit-put-same, bit-put-other, One, one-set, one-bit}
 use Rattle.layout.proofs.ViewLaws.{live-in, live-cong, peer-parts, peer-load, PeerOnly, peer-then, peer-store}
@@ -65,12 +65,12 @@ pub record Slot (c : List ℕ) (s : ℕ) (b : ℕ → ℕ) (i m r : ℕ) : Type 
   pub used : s < usedOf c
   pub flag : (p : ℕ) → p < 6 → bitAt c (peersAt + p * 4) s ≡ b p
   pub ids : getD c (idAt + s) 0 ≡ i
-  pub marks : getD c (markAt + s) 0 ≡ m
+  pub p57 : getD c (p57At + s) 0 ≡ m
   pub retain : getD c (retainAt + s) 0 ≡ r
 
 pub slot-of : (c : List ℕ) (s : ℕ) → length c ≡ cellCount → s < usedOf c
-    → Slot c s (λ p. bitAt c (peersAt + p * 4) s) (getD c (idAt + s) 0) (getD c (markAt + s) 0) (getD c (retainAt + s) 0)
-slot-of c s z u = record { size = z; used = u; flag = λ p h. refl; ids = refl; marks = refl; retain = refl }
+    → Slot c s (λ p. bitAt c (peersAt + p * 4) s) (getD c (idAt + s) 0) (getD c (p57At + s) 0) (getD c (retainAt + s) 0)
+slot-of c s z u = record { size = z; used = u; flag = λ p h. refl; ids = refl; p57 = refl; retain = refl }
 
 pub slot-peer :
     (c : List ℕ) (s : ℕ) (b : ℕ → ℕ) (i m r : ℕ) (e : List ℕ) →
@@ -80,7 +80,7 @@ pub slot-peer :
 unfolding peerAt
 slot-peer c s b i m r e p q =
     let x = live-in c s (idAt + s) (p .used) ∙ p .ids in
-    let y = live-in c s (markAt + s) (p .used) ∙ p .marks in
+    let y = live-in c s (p57At + s) (p .used) ∙ p .p57 in
     let z = live-in c s (retainAt + s) (p .used) ∙ p .retain in
     λ t. peerRaw (p .flag 0 (omega arith) t) (p .flag 1 (omega arith) t) (p .flag 2 (omega arith) t) (p .flag 3 (omega arith) t)
     (p .flag 4 (omega arith) t) (p .flag 5 (omega arith) t) (x t) (y t) (z t) (q t)
@@ -93,7 +93,7 @@ module _ (c d : List ℕ) (s : ℕ) (h : s < slotCount) where
       idAt ≤ x →
       x < topicsAt →
       One c d x →
-      ((j : ℕ) → j < slotCount → j ≢ s → (idAt + j ≢ x) × (markAt + j ≢ x) × (retainAt + j ≢ x)
+      ((j : ℕ) → j < slotCount → j ≢ s → (idAt + j ≢ x) × (p57At + j ≢ x) × (retainAt + j ≢ x)
       × ((t : ℕ) → t < 8 → endsAt + j * 8 + t ≢ x)) →
       PeerOnly c d s
   cell-only x l g o far =
@@ -107,7 +107,7 @@ module _ (c d : List ℕ) (s : ℕ) (h : s < slotCount) where
             peer-parts c d j (o .rest usedAt (λ e. omega arith))
             (λ p q. bit-cong c d (peersAt + p * 4) j (o .rest (peersAt + p * 4 + j / 64) (λ e. omega arith)))
             (o .rest (idAt + j) (f .0))
-            (o .rest (markAt + j) (f .1))
+            (o .rest (p57At + j) (f .1))
             (o .rest (retainAt + j) (f .2))
             (λ t q. o .rest (endsAt + j * 8 + t) (f .3 t q));
       }
@@ -116,9 +116,9 @@ module _ (c d : List ℕ) (s : ℕ) (h : s < slotCount) where
   id-only o = cell-only (idAt + s) (omega arith) (omega arith) o
       (λ j b n. (λ e. n (omega arith), λ e. omega arith, λ e. omega arith, λ t q e. omega arith))
 
-  pub mark-only : One c d (markAt + s) → PeerOnly c d s
-  mark-only o =
-      cell-only (markAt + s) (omega arith) (omega arith) o
+  pub p57-only : One c d (p57At + s) → PeerOnly c d s
+  p57-only o =
+      cell-only (p57At + s) (omega arith) (omega arith) o
       (λ j b n. (λ e. omega arith, λ e. n (omega arith), λ e. omega arith, λ t q e. omega arith))
 
   pub retain-only : One c d (retainAt + s) → PeerOnly c d s
@@ -143,18 +143,18 @@ module _ (c d : List ℕ) (s : ℕ) (h : s < slotCount) where
           used = rw (o .rest usedAt (λ e. omega arith)) (p .used);
           flag = flags-stand (idAt + s) (omega arith) o;
           ids = e;
-          marks = o .rest (markAt + s) (λ e. omega arith) ∙ p .marks;
+          p57 = o .rest (p57At + s) (λ e. omega arith) ∙ p .p57;
           retain = o .rest (retainAt + s) (λ e. omega arith) ∙ p .retain;
         }
 
-    pub mark-part : (v : ℕ) → One c d (markAt + s) → getD d (markAt + s) 0 ≡ v → Slot d s b i v r
-    mark-part v o e =
+    pub p57-part : (v : ℕ) → One c d (p57At + s) → getD d (p57At + s) 0 ≡ v → Slot d s b i v r
+    p57-part v o e =
         record {
           size = o .len ∙ p .size;
           used = rw (o .rest usedAt (λ e. omega arith)) (p .used);
-          flag = flags-stand (markAt + s) (omega arith) o;
+          flag = flags-stand (p57At + s) (omega arith) o;
           ids = o .rest (idAt + s) (λ e. omega arith) ∙ p .ids;
-          marks = e;
+          p57 = e;
           retain = o .rest (retainAt + s) (λ e. omega arith) ∙ p .retain;
         }
 
@@ -165,7 +165,7 @@ module _ (c d : List ℕ) (s : ℕ) (h : s < slotCount) where
           used = rw (o .rest usedAt (λ e. omega arith)) (p .used);
           flag = flags-stand (retainAt + s) (omega arith) o;
           ids = o .rest (idAt + s) (λ e. omega arith) ∙ p .ids;
-          marks = o .rest (markAt + s) (λ e. omega arith) ∙ p .marks;
+          p57 = o .rest (p57At + s) (λ e. omega arith) ∙ p .p57;
           retain = e;
         }
 
@@ -196,7 +196,7 @@ module _ (c : List ℕ) (s : ℕ) (h : s < slotCount) (z : length c ≡ cellCoun
             (λ e. rw e (bit-put-other c (peersAt + q * 4) s v j (omega arith) l n))
             (λ m. other-word j p b k m))
             (o .rest (idAt + j) (λ e. omega arith))
-            (o .rest (markAt + j) (λ e. omega arith))
+            (o .rest (p57At + j) (λ e. omega arith))
             (o .rest (retainAt + j) (λ e. omega arith))
             (λ t k. o .rest (endsAt + j * 8 + t) (λ e. omega arith));
       }
@@ -212,7 +212,7 @@ module _ (c : List ℕ) (s : ℕ) (h : s < slotCount) (z : length c ≡ cellCoun
             (λ e. rw (eq-eqb k q e) (rw e (bit-put-same c (peersAt + q * 4) s v (omega arith) l)))
             (λ n. rw (ne-eqb k q n) (other-word s k h f n ∙ p .flag k f));
         ids = o .rest (idAt + s) (λ e. omega arith) ∙ p .ids;
-        marks = o .rest (markAt + s) (λ e. omega arith) ∙ p .marks;
+        p57 = o .rest (p57At + s) (λ e. omega arith) ∙ p .p57;
         retain = o .rest (retainAt + s) (λ e. omega arith) ∙ p .retain;
       }
 
@@ -279,7 +279,7 @@ module _ (c : List ℕ) (s : ℕ) (h : s < slotCount) (b : ℕ → ℕ) (i m r :
     k1 = set c (idAt + s) u
 
     abbrev k2 : List ℕ
-    k2 = set k1 (markAt + s) v
+    k2 = set k1 (p57At + s) v
 
     abbrev k3 : List ℕ
     k3 = set k2 (retainAt + s) w
@@ -288,7 +288,7 @@ module _ (c : List ℕ) (s : ℕ) (h : s < slotCount) (b : ℕ → ℕ) (i m r :
     unfolding setColumns
     columns-only =
         peer-then c k1 k3 s (id-only c k1 s h (one-set c (idAt + s) u))
-        (peer-then k1 k2 k3 s (mark-only k1 k2 s h (one-set k1 (markAt + s) v)) (retain-only k2 k3 s h (one-set k2 (retainAt + s) w)))
+        (peer-then k1 k2 k3 s (p57-only k1 k2 s h (one-set k1 (p57At + s) v)) (retain-only k2 k3 s h (one-set k2 (retainAt + s) w)))
 
     pub columns-part : Slot (setColumns c s u v w) s b u v w
     unfolding setColumns
@@ -296,7 +296,7 @@ module _ (c : List ℕ) (s : ℕ) (h : s < slotCount) (b : ℕ → ℕ) (i m r :
         let z = p .size in
         let a1 = id-part c k1 s h b i m r p u (one-set c (idAt + s) u) (getD-set-same c (idAt + s) u 0 (omega arith)) in
         let y1 = a1 .size in
-        let a2 = mark-part k1 k2 s h b u m r a1 v (one-set k1 (markAt + s) v) (getD-set-same k1 (markAt + s) v 0 (omega arith)) in
+        let a2 = p57-part k1 k2 s h b u m r a1 v (one-set k1 (p57At + s) v) (getD-set-same k1 (p57At + s) v 0 (omega arith)) in
         let y2 = a2 .size in
         retain-part k2 k3 s h b u v r a2 w (one-set k2 (retainAt + s) w) (getD-set-same k2 (retainAt + s) w 0 (omega arith))
 
@@ -328,7 +328,7 @@ module _ (c : List ℕ) (s : ℕ) (h : s < slotCount) (z : length c ≡ cellCoun
             peer-parts c d j (row-before usedAt (omega arith))
             (λ p k. bit-cong c d (peersAt + p * 4) j (row-before (peersAt + p * 4 + j / 64) (omega arith)))
             (row-before (idAt + j) (omega arith))
-            (row-before (markAt + j) (omega arith))
+            (row-before (p57At + j) (omega arith))
             (row-before (retainAt + j) (omega arith))
             (λ t k. by-order (getD d (endsAt + j * 8 + t) 0 ≡ getD c (endsAt + j * 8 + t) 0) j s
             (λ l. row-before (endsAt + j * 8 + t) (omega arith))
@@ -343,7 +343,7 @@ module _ (c : List ℕ) (s : ℕ) (h : s < slotCount) (z : length c ≡ cellCoun
         used = rw (row-before usedAt (omega arith)) (p .used);
         flag = λ q k. bit-cong c d (peersAt + q * 4) s (row-before (peersAt + q * 4 + s / 64) (omega arith)) ∙ p .flag q k;
         ids = row-before (idAt + s) (omega arith) ∙ p .ids;
-        marks = row-before (markAt + s) (omega arith) ∙ p .marks;
+        p57 = row-before (p57At + s) (omega arith) ∙ p .p57;
         retain = row-before (retainAt + s) (omega arith) ∙ p .retain;
       }
 
@@ -382,7 +382,7 @@ peer-written c s p z h u f n c1 c2 c3 e1 e2 e3 =
     (f .explicit) (f .outbound) l4 l5) in
     let fs = flags6 c s h _ _ _ _ p0 (p .status % 2) (p .status / 2) (p .explicit) (p .outbound) (p .version % 2) (p .version / 2) l0 l1
     (f .explicit) (f .outbound) l4 l5 in
-    let q1 : Slot c1 s fs (getD c (idAt + s) 0) (getD c (markAt + s) 0) (getD c (retainAt + s) 0) =
+    let q1 : Slot c1 s fs (getD c (idAt + s) 0) (getD c (p57At + s) 0) (getD c (retainAt + s) 0) =
     rw e1 (flags-part c s h _ _ _ _ p0 (p .status % 2) (p .status / 2) (p .explicit) (p .outbound) (p .version % 2) (p .version / 2) l0 l1
     (f .explicit) (f .outbound) l4 l5) in
     let o2 : PeerOnly c1 c2 s = rw e2 (columns-only c1 s h _ _ _ _ q1 x y (p .retain)) in
@@ -409,7 +409,7 @@ end-seen c s t v z h l u =
     let b : (q : ℕ) → q < 6 → bitAt d (peersAt + q * 4) s ≡ bitAt c (peersAt + q * 4) s =
     λ q k. bit-cong c d (peersAt + q * 4) s (o .rest (peersAt + q * 4 + s / 64) (λ e. omega arith)) in
     let x = live-cong c d s (idAt + s) w (o .rest (idAt + s) (λ e. omega arith)) in
-    let y = live-cong c d s (markAt + s) w (o .rest (markAt + s) (λ e. omega arith)) in
+    let y = live-cong c d s (p57At + s) w (o .rest (p57At + s) (λ e. omega arith)) in
     let r = live-cong c d s (retainAt + s) w (o .rest (retainAt + s) (λ e. omega arith)) in
     let e : tab 8 (λ k. liveAt d s (endsAt + s * 8 + k)) ≡ set (tab 8 (λ k. liveAt c s (endsAt + s * 8 + k))) t v =
     tab-set 8 (λ k. liveAt c s (endsAt + s * 8 + k)) (λ k. liveAt d s (endsAt + s * 8 + k)) t v
@@ -464,7 +464,7 @@ flags-chain c s a b e f g h c1 c2 c3 c4 c5 c6 e1 e2 e3 e4 e5 e6 =
 pub length-columns : (c : List ℕ) (s i m r : ℕ) → length (setColumns c s i m r) ≡ length c
 unfolding setColumns
 length-columns c s i m r =
-    length-set (set (set c (idAt + s) i) (markAt + s) m) (retainAt + s) r ∙ length-set (set c (idAt + s) i) (markAt + s) m
+    length-set (set (set c (idAt + s) i) (p57At + s) m) (retainAt + s) r ∙ length-set (set c (idAt + s) i) (p57At + s) m
     ∙ length-set c (idAt + s) i
 
 pub eight-ends :
@@ -495,7 +495,7 @@ pub peer-read :
     b4 ≡ bitAt c (peersAt + 16) s →
     b5 ≡ bitAt c (peersAt + 20) s →
     i ≡ liveAt c s (idAt + s) →
-    m ≡ liveAt c s (markAt + s) →
+    m ≡ liveAt c s (p57At + s) →
     r ≡ liveAt c s (retainAt + s) →
     e ≡ endsOf c s →
     record {

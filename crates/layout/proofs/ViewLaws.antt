@@ -17,9 +17,9 @@ use Rattle.records.specs.declared.TopicRecord.{TopicRecord}
 use Rattle.records.specs.Records.{noPeer, noTopic, joinedIn, codeIn, peerIn, topicIn, setClock, setJoined, setPeer, setTopic}
 use Rattle.layout.proofs.RowLaws.{length-tab, getD-tab, tab-same, tab-set}
 use Rattle.records.specs.Records.{slotCount, topicCount, paramCount}
-use Rattle.layout.specs.View.{placeCount, clockAt, joinedAt, usedAt, setupAt, setupOf, sheetAt, peersAt, idAt, markAt, retainAt}
+use Rattle.layout.specs.View.{placeCount, clockAt, joinedAt, usedAt, setupAt, setupOf, paramsAt, peersAt, idAt, p57At, retainAt}
 use Rattle.layout.specs.View.{endsAt, topicsAt, p3bAt, cellCount, bitAt, usedOf, keep, liveAt, counterOf, graftOf, meshOf}
-use Rattle.layout.specs.View.{subscribedWord, memberWord, topicRaw, topicAt, peerRaw, endsOf, peerAt, sheetPlace, codeAt, table}
+use Rattle.layout.specs.View.{subscribedWord, memberWord, topicRaw, topicAt, peerRaw, endsOf, peerAt, paramPlace, codeAt, table}
 use Rattle.layout.specs.View.{stateOf, setSetup}
 use Rattle.layout.proofs.BitLaws.{bit-cong}
 
@@ -78,14 +78,14 @@ pub live-out : (c : List ℕ) (s at : ℕ) → usedOf c ≤ s → liveAt c s at 
 unfolding liveAt
 live-out c s at h = rw (le-ltb s (usedOf c) h)
 
-pub place-low : (i : ℕ) → i < paramCount → sheetPlace i < paramCount
-unfolding sheetPlace
+pub place-low : (i : ℕ) → i < paramCount → paramPlace i < paramCount
+unfolding paramPlace
 place-low i h =
     by-order (cond (ltb i 19) i (19 + (i - 19) % 16 * 8 + (i - 19) / 16) < paramCount) i 19
     (λ l. rw (lt-ltb i 19 l) h)
     (λ l. rw (le-ltb i 19 l) (omega arith))
 
-pub code-cong : (c d : List ℕ) (i : ℕ) → getD d (sheetAt + sheetPlace i) 0 ≡ getD c (sheetAt + sheetPlace i) 0 → codeAt d i ≡ codeAt c i
+pub code-cong : (c d : List ℕ) (i : ℕ) → getD d (paramsAt + paramPlace i) 0 ≡ getD c (paramsAt + paramPlace i) 0 → codeAt d i ≡ codeAt c i
 unfolding codeAt
 code-cong c d i e = rw e
 
@@ -139,14 +139,14 @@ pub peer-parts :
     usedOf d ≡ usedOf c →
     ((p : ℕ) → p < 6 → bitAt d (peersAt + p * 4) s ≡ bitAt c (peersAt + p * 4) s) →
     getD d (idAt + s) 0 ≡ getD c (idAt + s) 0 →
-    getD d (markAt + s) 0 ≡ getD c (markAt + s) 0 →
+    getD d (p57At + s) 0 ≡ getD c (p57At + s) 0 →
     getD d (retainAt + s) 0 ≡ getD c (retainAt + s) 0 →
     ((t : ℕ) → t < 8 → getD d (endsAt + s * 8 + t) 0 ≡ getD c (endsAt + s * 8 + t) 0) →
     peerAt d s ≡ peerAt c s
 unfolding peerAt
-peer-parts c d s u b ids marks retain ends =
+peer-parts c d s u b ids p57 retain ends =
     let x = live-cong c d s (idAt + s) u ids in
-    let y = live-cong c d s (markAt + s) u marks in
+    let y = live-cong c d s (p57At + s) u p57 in
     let z = live-cong c d s (retainAt + s) u retain in
     let e = ends-cong c d s u ends in
     λ i. peerRaw (b 0 (omega arith) i) (b 1 (omega arith) i) (b 2 (omega arith) i) (b 3 (omega arith) i) (b 4 (omega arith) i)
@@ -162,14 +162,14 @@ peer-cong c d s h u e =
     peer-parts c d s u
     (λ p l. bit-cong c d (peersAt + p * 4) s (e (peersAt + p * 4 + s / 64) (omega arith) (omega arith)))
     (e (idAt + s) (omega arith) (omega arith))
-    (e (markAt + s) (omega arith) (omega arith))
+    (e (p57At + s) (omega arith) (omega arith))
     (e (retainAt + s) (omega arith) (omega arith))
     (λ t l. e (endsAt + s * 8 + t) (omega arith) (omega arith))
 
 -- ---- THE LAWS OF A STORE, by region: what lies outside stands, what is stored is one entry
 
 module _ (c d : List ℕ) where
-  -- only cells of the head and the sheet change, and the mark does not
+  -- only cells of the head and the parameters change, and the mark does not
   pub head-same :
       usedOf d ≡ usedOf c →
       ((x : ℕ) → peersAt ≤ x → getD d x 0 ≡ getD c x 0) →
@@ -189,7 +189,7 @@ module _ (c d : List ℕ) where
     e 0 (omega arith),
     table-same 8 (λ t. getD d (joinedAt + t) 0) (λ t. getD c (joinedAt + t) 0) (λ t h. e (joinedAt + t) (omega arith)),
     table-same paramCount (codeAt d) (codeAt c)
-        (λ i h. code-cong c d i (e (sheetAt + sheetPlace i) (let l = place-low i h in omega arith))),
+        (λ i h. code-cong c d i (e (paramsAt + paramPlace i) (let l = place-low i h in omega arith))),
     setup-cong c d (e setupAt (omega arith)),
   )
 
@@ -255,7 +255,7 @@ clock-store c n z =
     (λ t l. getD-set-other c 0 (joinedAt + t) n 0 (λ e. omega arith)) in
     let k : table paramCount (codeAt (set c 0 n)) ≡ table paramCount (codeAt c) =
     table-same paramCount (codeAt (set c 0 n)) (codeAt c)
-    (λ i l. code-cong c (set c 0 n) i (getD-set-other c 0 (sheetAt + sheetPlace i) n 0 (λ e. omega arith))) in
+    (λ i l. code-cong c (set c 0 n) i (getD-set-other c 0 (paramsAt + paramPlace i) n 0 (λ e. omega arith))) in
     let u = setup-cong c (set c 0 n) (getD-set-other c 0 setupAt n 0 (λ e. omega arith)) in
     λ i. record { clock = a i; joined = j i; codes = k i; setup = u i; peers = h .0 i; topics = h .1 i }
 
@@ -272,7 +272,7 @@ joined-store c t b z l =
     getD-set-other c (joinedAt + t) (joinedAt + u) b 0 (λ e. n (omega arith))) in
     let k : table paramCount (codeAt d) ≡ table paramCount (codeAt c) =
     table-same paramCount (codeAt d) (codeAt c)
-    (λ i m. code-cong c d i (getD-set-other c (joinedAt + t) (sheetAt + sheetPlace i) b 0 (λ e. omega arith))) in
+    (λ i m. code-cong c d i (getD-set-other c (joinedAt + t) (paramsAt + paramPlace i) b 0 (λ e. omega arith))) in
     let u = setup-cong c d (getD-set-other c (joinedAt + t) setupAt b 0 (λ e. omega arith)) in
     λ i. record { clock = a i; joined = j i; codes = k i; setup = u i; peers = h .0 i; topics = h .1 i }
 
@@ -299,7 +299,7 @@ setup-store c u z =
     (λ t l. getD-set-other c setupAt (joinedAt + t) b 0 (λ e. omega arith)) in
     let k : table paramCount (codeAt d) ≡ table paramCount (codeAt c) =
     table-same paramCount (codeAt d) (codeAt c)
-    (λ i m. code-cong c d i (getD-set-other c setupAt (sheetAt + sheetPlace i) b 0 (λ e. omega arith))) in
+    (λ i m. code-cong c d i (getD-set-other c setupAt (paramsAt + paramPlace i) b 0 (λ e. omega arith))) in
     let e : getD d setupAt 0 ≡ u .edition = getD-set-same c setupAt (u .edition) 0 (omega arith) in
     λ i. record { clock = a i; joined = j i; codes = k i; setup = record { edition = e i }; peers = h .0 i; topics = h .1 i }
 

@@ -43,8 +43,8 @@ abbrev pub setupAt : ℕ
 setupAt = 10
 
 -- the parameters: 19 general numbers, then each field's eight topics side by side
-abbrev pub sheetAt : ℕ
-sheetAt = 24
+abbrev pub paramsAt : ℕ
+paramsAt = 24
 
 -- the peers: six words (connected, retained, explicit, outbound, two of the version), then columns, then the backoff ends by slot
 abbrev pub peersAt : ℕ
@@ -54,8 +54,8 @@ abbrev pub idAt : ℕ
 idAt = 200
 
 -- two columns between are kept for further groups
-abbrev pub markAt : ℕ
-markAt = 992
+abbrev pub p57At : ℕ
+p57At = 992
 
 abbrev pub retainAt : ℕ
 retainAt = 1256
@@ -146,8 +146,8 @@ topicAt c k =
     (getD c (meshOf k) 0)
 
 -- id and group in lanes of 32 bits, and so P5 and P7
-unfoldable pub peerRaw : (connected retained explicit outbound low high ids marks retain : ℕ) → List ℕ → Peer
-peerRaw connected retained explicit outbound low high ids marks retain ends =
+unfoldable pub peerRaw : (connected retained explicit outbound low high ids p57 retain : ℕ) → List ℕ → Peer
+peerRaw connected retained explicit outbound low high ids p57 retain ends =
     record {
       status = connected + 2 * retained;
       id = ids % 4294967296;
@@ -155,8 +155,8 @@ peerRaw connected retained explicit outbound low high ids marks retain ends =
       outbound = outbound;
       explicit = explicit;
       version = low + 2 * high;
-      p5 = marks % 4294967296;
-      p7 = marks / 4294967296;
+      p5 = p57 % 4294967296;
+      p7 = p57 / 4294967296;
       retain = retain;
       backoff = ends;
     }
@@ -174,7 +174,7 @@ peerAt c s =
     (bitAt c (peersAt + 16) s)
     (bitAt c (peersAt + 20) s)
     (liveAt c s (idAt + s))
-    (liveAt c s (markAt + s))
+    (liveAt c s (p57At + s))
     (liveAt c s (retainAt + s))
     (endsOf c s)
 
@@ -191,15 +191,15 @@ abbrev pub below : ℕ → Bool
 below i = isBelow (fieldOf i)
 
 -- where number i stands
-unfoldable pub sheetPlace : ℕ → ℕ
-sheetPlace i = cond (ltb i 19) i (19 + (i - 19) % 16 * 8 + (i - 19) / 16)
+unfoldable pub paramPlace : ℕ → ℕ
+paramPlace i = cond (ltb i 19) i (19 + (i - 19) % 16 * 8 + (i - 19) / 16)
 
 -- the code of a number of this sign and this magnitude: 2n, or 2n - 1 below 0
 unfoldable pub codeFor : Bool → ℕ → ℕ
 codeFor b m = cond b (2 * m - 1) (2 * m)
 
 unfoldable pub codeAt : List ℕ → ℕ → ℕ
-codeAt c i = codeFor (below i) (getD c (sheetAt + sheetPlace i) 0)
+codeAt c i = codeFor (below i) (getD c (paramsAt + paramPlace i) 0)
 
 -- ---- the state
 
@@ -244,8 +244,8 @@ setFlags c s b0 b1 b2 b3 b4 b5 =
     b5
 
 -- the three columns of slot s
-unfoldable pub setColumns : List ℕ → ℕ → (ids marks retain : ℕ) → List ℕ
-setColumns c s ids marks retain = set (set (set c (idAt + s) ids) (markAt + s) marks) (retainAt + s) retain
+unfoldable pub setColumns : List ℕ → ℕ → (ids p57 retain : ℕ) → List ℕ
+setColumns c s ids p57 retain = set (set (set c (idAt + s) ids) (p57At + s) p57) (retainAt + s) retain
 
 -- what a packed record needs
 pub record TopicFits (t : TopicRecord) : Type 0 where
@@ -293,7 +293,7 @@ withMember t time =
 -- the cells of slot s are 0, those by topic up to topic n: what the mark may pass over
 pub record ZeroUpTo (c : List ℕ) (s n : ℕ) : Type 0 where
   pub ids : getD c (idAt + s) 0 ≡ 0
-  pub marks : getD c (markAt + s) 0 ≡ 0
+  pub p57 : getD c (p57At + s) 0 ≡ 0
   pub retain : getD c (retainAt + s) 0 ≡ 0
   pub counters : (t : ℕ) → t < n → getD c (countersAt + t * stride + s) 0 ≡ 0
   pub p3b : (t : ℕ) → t < n → getD c (p3bAt + (s * 8 + t)) 0 ≡ 0

@@ -9,7 +9,7 @@ ghost use Rattle.records.specs.Records.{topicCount, paramCount};
 ghost use Rattle.layout.specs.Rows.{put};
 ghost use Rattle.layout.specs.View.{placeCount, clockAt, cellCount, usedOf, keep, bitAt, liveAt, withBit, setBit, topicRaw, endsOf};
 ghost use Rattle.layout.specs.View.{setFlags};
-ghost use Rattle.layout.specs.View.{setColumns, sheetPlace, fieldOf, isBelow, below, codeFor, stateOf, setEnd, setCode, setCodes};
+ghost use Rattle.layout.specs.View.{setColumns, paramPlace, fieldOf, isBelow, below, codeFor, stateOf, setEnd, setCode, setCodes};
 ghost use Rattle.layout.specs.View.{setSetup, zeroState};
 ghost use Rattle.layout.specs.View.{withSubscription, withoutMember, withMember, TopicFits, PeerFits, CodesFit, ZeroUpTo, Idle};
 use records::Peer;
@@ -36,7 +36,7 @@ const USED_AT: usize = JOINED_AT + TOPICS;
 
 const SETUP_AT: usize = USED_AT + 1;
 
-const SHEET_AT: usize = 24;
+const PARAMS_AT: usize = 24;
 
 // The six words of the peers.
 const CONNECTED_AT: usize = 176;
@@ -54,9 +54,9 @@ const VERSION_HIGH_AT: usize = VERSION_AT + WORDS;
 // Their columns; two after the ids are kept for further groups.
 const ID_AT: usize = VERSION_HIGH_AT + WORDS;
 
-const MARK_AT: usize = ID_AT + 3 * STRIDE;
+const P57_AT: usize = ID_AT + 3 * STRIDE;
 
-const RETAIN_AT: usize = MARK_AT + STRIDE;
+const RETAIN_AT: usize = P57_AT + STRIDE;
 
 const ENDS_AT: usize = RETAIN_AT + STRIDE;
 
@@ -233,9 +233,9 @@ pub fn store_setup(cells: &mut [u64], setup: Setup)
 // ---- the parameters
 
 // Where number i stands among the parameters.
-fn sheet_place(i: usize) -> usize
+fn param_place(i: usize) -> usize
     requires { ⌜ i < paramCount ⌝ }
-    ensures { λ r. ⌜ (r ≡ sheetPlace i) × (r < paramCount) ⌝ }
+    ensures { λ r. ⌜ (r ≡ paramPlace i) × (r < paramCount) ⌝ }
 {
     if i < 19 {
         i
@@ -250,7 +250,7 @@ pub fn load_magnitude(cells: &[u64], i: usize) -> u64
     ensures { λ r. ⌜ (r ≡ magnitude (codeIn (stateOf (now (cells .entry))) i))
         × (codeFor (below i) r ≡ codeIn (stateOf (now (cells .entry))) i) ⌝ }
 {
-    cells[SHEET_AT + sheet_place(i)]
+    cells[PARAMS_AT + param_place(i)]
 }
 
 // The field of number i.
@@ -296,8 +296,8 @@ fn store_magnitude(cells: &mut [u64], i: usize, m: u64)
     requires { ⌜ (length (now cells) ≡ cellCount) × (i < paramCount) ⌝ }
     ensures { λ r. ⌜ stateOf (now (cells .exit)) ≡ setCode (stateOf (now (cells .entry))) i (codeFor (below i) m) ⌝ }
 {
-    let p = sheet_place(i);
-    cells[SHEET_AT + p] = m;
+    let p = param_place(i);
+    cells[PARAMS_AT + p] = m;
 }
 
 pub fn store_codes(cells: &mut [u64], codes: &[u64])
@@ -428,7 +428,7 @@ pub fn load_peer(cells: &[u64], slot: usize) -> Peer
     ensures { λ r. ⌜ (r ≡ peerIn (stateOf (now (cells .entry))) slot) × PeerFits r ⌝ }
 {
     let ids = live(cells, slot, ID_AT + slot);
-    let marks = live(cells, slot, MARK_AT + slot);
+    let p57 = live(cells, slot, P57_AT + slot);
     let e = ends(cells, slot);
     Peer {
         status: two(
@@ -443,8 +443,8 @@ pub fn load_peer(cells: &[u64], slot: usize) -> Peer
             bit(cells, VERSION_AT, slot),
             bit(cells, VERSION_HIGH_AT, slot),
         ),
-        p5: marks % HALF,
-        p7: marks / HALF,
+        p5: p57 % HALF,
+        p7: p57 / HALF,
         retain: live(cells, slot, RETAIN_AT + slot),
         backoff: e,
     }
@@ -465,13 +465,13 @@ fn set_flags(cells: &mut [u64], s: usize, a: u64, b: u64, e: u64, f: u64, g: u64
 }
 
 // Its three columns.
-fn set_columns(cells: &mut [u64], s: usize, ids: u64, marks: u64, retain: u64)
+fn set_columns(cells: &mut [u64], s: usize, ids: u64, p57: u64, retain: u64)
     requires { ⌜ (length (now cells) ≡ cellCount) × (s < slotCount) ⌝ }
-    ensures { λ r. ⌜ (now (cells .exit) ≡ setColumns (now (cells .entry)) s ids marks retain)
+    ensures { λ r. ⌜ (now (cells .exit) ≡ setColumns (now (cells .entry)) s ids p57 retain)
         × (length (now (cells .exit)) ≡ length (now (cells .entry))) ⌝ }
 {
     cells[ID_AT + s] = ids;
-    cells[MARK_AT + s] = marks;
+    cells[P57_AT + s] = p57;
     cells[RETAIN_AT + s] = retain;
 }
 

@@ -47,19 +47,13 @@ pub fn read_numbers(s: &[u8], at: usize, n: usize, values: &mut [u64]) -> Readin
     let mut i: usize = 0;
     while i < n {
         let Read::Number(u, next) = varint::read_u64(s, place) else {
-            return Readings {
-                ok: false,
-                place,
-            };
+            return Readings { ok: false, place };
         };
         values[i] = u;
         place = next;
         i += 1;
     }
-    Readings {
-        ok: true,
-        place,
-    }
+    Readings { ok: true, place }
 }
 
 // The slots that a permutation of the first n does not order, behind it by slot.

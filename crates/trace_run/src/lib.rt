@@ -35,7 +35,8 @@ pub fn run(
     let mut at: usize = 0;
     let mut calls: usize = 0;
     while calls < told.len() {
-        let Performed::Answered(next, a) = trace_step::perform(table, edition, s, at, actions) else {
+        let Performed::Answered(next, a) = trace_step::perform(table, edition, s, at, actions)
+        else {
             return Recorded::Ran(at, calls);
         };
         told[calls] = answers::code(a);

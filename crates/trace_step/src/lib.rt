@@ -53,12 +53,7 @@ pub enum Replayed {
 }
 
 // The calls that come from peers, and decay and score.
-fn call_peer(
-    table: &mut [u64; CELLS],
-    kind: u64,
-    v: &[u64; NUMBERS],
-    actions: &mut [u32],
-) -> Answer
+fn call_peer(table: &mut [u64; CELLS], kind: u64, v: &[u64; NUMBERS], actions: &mut [u32]) -> Answer
     requires { ⌜ (kind ≢ 1) × ((kind ≢ 3) × ((kind ≢ 4) × ((kind ≢ 5) × ((kind ≢ 6) × (kind ≢ 11))))) ⌝ }
     ensures { λ r. ⌜ Follows (callOf kind (now (v .entry)) []) r (now (table .entry)) (now (table .exit)) (now (actions .entry)) (now (actions .exit)) ⌝ }
 {

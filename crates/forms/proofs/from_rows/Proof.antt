@@ -16,4 +16,5 @@ from-rows-spec =
       to = search needs;
       router = passed (c .before .before .before .is-router .ensures) (c .before .before .if1 .left);
     })
-    (λ c. from-done _ _ _ (c .before .before .before .before .is-router .ensures) _ (c .before .before .before .if1 .left) (c .fill-table .ensures)))
+    (λ c. from-done _ _ _ (c .before .before .before .before .is-router .ensures) _ (c .before .before .before .if1 .left)
+    (c .fill-table .ensures)))

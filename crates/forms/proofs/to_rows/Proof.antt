@@ -16,4 +16,5 @@ to-rows-spec =
       to = search needs;
       router = passed (c .before .before .before .is-router .ensures) (c .before .before .if1 .left);
     })
-    (λ c. to-done _ _ _ (c .before .before .before .before .is-router .ensures) _ (c .before .before .before .if1 .left) (c .fill-rows .ensures)))
+    (λ c. to-done _ _ _ (c .before .before .before .before .is-router .ensures) _ (c .before .before .before .if1 .left)
+    (c .fill-rows .ensures)))

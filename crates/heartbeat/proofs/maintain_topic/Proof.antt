@@ -106,7 +106,11 @@ maintain-topic-spec =
     (λ c κs. c .before .before .before .before .before .before .before .before .before .pre .ready .standing)
     (λ c. search needs)
     (λ c κs. scores-length _ _ (c .before .before .before .before .before .before .scores .ensures))
-    (λ c κs. record { size = c .before .before .before .before .before .before .before .before .before .before .before .before .before .before .before .pre .ready .standing .size; param = omega arith })
+    (λ c κs. record {
+      size = c .before .before .before .before .before .before .before .before .before .before .before .before .before .before .before
+          .pre .ready .standing .size;
+      param = omega arith;
+    })
     (λ c κs. tt)
     tell-all-requires
     end-after-requires

@@ -1,5 +1,5 @@
 use borrow.Author.Needs.{needs}
-use Rattle.layout.proofs.SheetLaws.{below-zero, below-more, above-code}
+use Rattle.layout.proofs.ParamLaws.{below-zero, below-more, above-code}
 use Rattle.layout.proofs.code_for.Statement.{statement}
 use Rattle.layout.proofs.code_for.Tie as tie
 

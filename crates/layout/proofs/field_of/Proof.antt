@@ -1,5 +1,5 @@
 use borrow.Author.Needs.{needs}
-use Rattle.layout.proofs.SheetLaws.{field-general, field-topic}
+use Rattle.layout.proofs.ParamLaws.{field-general, field-topic}
 use Rattle.layout.proofs.field_of.Statement.{statement}
 use Rattle.layout.proofs.field_of.Tie as tie
 

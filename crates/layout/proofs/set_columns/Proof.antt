@@ -41,7 +41,7 @@ same-length c = search needs
 returns : tie.Need-returns
 unfolding setColumns
 returns c =
-    (refl, length-columns (c .args .cells .now) (c .args .s) (c .args .ids) (c .args .marks) (c .args .retain))
+    (refl, length-columns (c .args .cells .now) (c .args .s) (c .args .ids) (c .args .p57) (c .args .retain))
 
 pub set-columns-spec : {M : Type 1} → statement M
 set-columns-spec =

@@ -1,14 +1,14 @@
 use Prim.Native.Nat.{_+_}
 use mathlib.Core.Path.{ap, _∙_}
 use lib.ListN.{set}
-use Rattle.layout.specs.View.{sheetAt, stateOf}
-use Rattle.layout.proofs.SheetLaws.{code-store}
+use Rattle.layout.specs.View.{paramsAt, stateOf}
+use Rattle.layout.proofs.ParamLaws.{code-store}
 use borrow.Author.Needs.{needs}
 use Rattle.layout.proofs.store_magnitude.Statement.{statement}
 use Rattle.layout.proofs.store_magnitude.Tie as tie
 
-sheet-place-requires : tie.Need-sheet-place-requires
-sheet-place-requires c κs = search needs
+param-place-requires : tie.Need-param-place-requires
+param-place-requires c κs = search needs
 
 add-cells : tie.Need-add-cells
 add-cells c = search needs
@@ -25,10 +25,10 @@ same-length c = search needs
 returns : tie.Need-returns
 returns c =
     let s = c .before .before in
-    ap (λ n. stateOf (set (s .args .cells .now) (sheetAt + n) (s .args .m))) (c .sheet-place .ensures .0)
+    ap (λ n. stateOf (set (s .args .cells .now) (paramsAt + n) (s .args .m))) (c .param-place .ensures .0)
     ∙ code-store (s .args .cells .now) (s .args .i) (s .args .m) (s .pre .0) (s .pre .1)
 
 pub store-magnitude-spec : {M : Type 1} → statement M
 store-magnitude-spec =
     tie.close
-    (tie.spec sheet-place-requires add-cells mul-cells slice-write-cells same-length returns)
+    (tie.spec param-place-requires add-cells mul-cells slice-write-cells same-length returns)

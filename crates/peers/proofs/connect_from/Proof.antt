@@ -31,7 +31,10 @@ connect-from-spec =
     returns-2
     (λ c. search needs)
     (λ c κs.
-    let s = c .before .before .before .before .before .before .before .before .before .before .before in
-    (s .pre .0, version-fits _ _ _ _ _ _ (c .before .before .before .before .before .before .before .before .version-of .ensures) (c .before .before .before .before .before .before .version .given .1) (s .pre .1)))
+    let s = c .before .before .before .before .before .before .before .before .before .before .before in (
+      s .pre .0,
+      version-fits _ _ _ _ _ _ (c .before .before .before .before .before .before .before .before .version-of .ensures)
+          (c .before .before .before .before .before .before .version .given .1) (s .pre .1),
+    ))
     (λ c. search needs)
     returns-3)

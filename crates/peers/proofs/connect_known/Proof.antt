@@ -21,8 +21,13 @@ connect-known-spec =
     (λ c κs. search needs)
     (λ c. search needs)
     (λ c κs.
-    let s = c .before .before .before .before .before .before .before .before .before .before .before in
-    (record { size = c .before .before .before .before .before .before .before .before .reclaim .kept .0 ∙ s .pre .0 .standing .size; slot = search retained-below }, s .pre .1))
+    let s = c .before .before .before .before .before .before .before .before .before .before .before in (
+      record {
+        size = c .before .before .before .before .before .before .before .before .reclaim .kept .0 ∙ s .pre .0 .standing .size;
+        slot = search retained-below;
+      },
+      s .pre .1,
+    ))
     (λ c. search needs)
     (λ c. search connect-retained)
     (λ c. search needs)
@@ -32,7 +37,13 @@ connect-known-spec =
     (λ c. search needs)
     returns-2
     (λ c κs.
-    let s = c .before .before .before .before .before .before .before .before .before .before .before .before .before .before .before in
-    (record { size = c .before .before .before .before .before .before .before .before .before .before .before .before .reclaim .kept .0 ∙ s .pre .0 .standing .size; slot = search empty-below }, s .pre .1))
+    let s = c .before .before .before .before .before .before .before .before .before .before .before .before .before .before .before in (
+      record {
+        size = c .before .before .before .before .before .before .before .before .before .before .before .before .reclaim .kept .0
+            ∙ s .pre .0 .standing .size;
+        slot = search empty-below;
+      },
+      s .pre .1,
+    ))
     (λ c. search needs)
     (λ c. search connect-empty))

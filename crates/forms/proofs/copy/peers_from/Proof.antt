@@ -4,16 +4,17 @@ use mathlib.Core.Path.{_≡_, sym, _∙_}
 use native.Mathlib.Omega.{arith}
 use borrow.Author.Needs.{needs}
 use lib.ListN.{length}
-use Rattle.records.specs.Records.{slotCount, topicCount}
-use Rattle.layout.specs.View.{placeCount, cellCount, stateOf}
-use Rattle.rows.specs.View.{rowsCount, stateOfRows}
+use Rattle.records.specs.Records.{slotCount}
+use Rattle.layout.specs.View.{cellCount, stateOf}
+use Rattle.rows.specs.View.{stateOfRows}
 use Rattle.forms.specs.Turns.{copyPeers}
 use Rattle.forms.proofs.CopyLaws.{peers-start, peers-more, peers-end, peer-fit}
 use Rattle.forms.proofs.copy.peers_from.Statement.{statement}
 use Rattle.forms.proofs.copy.peers_from.Tie as tie
 
 abbrev Inv-loop : tie.InvT-loop
-Inv-loop rows table₀ s₀ table s = (s ≤ slotCount) × (length table ≡ cellCount) × (stateOf table ≡ copyPeers s (stateOfRows rows) (stateOf table₀))
+Inv-loop rows table₀ s₀ table s =
+    (s ≤ slotCount) × (length table ≡ cellCount) × (stateOf table ≡ copyPeers s (stateOfRows rows) (stateOf table₀))
 
 abbrev μ-loop : tie.MeasureT-loop
 μ-loop rows table₀ s₀ table s = slotCount - s
@@ -21,8 +22,11 @@ abbrev μ-loop : tie.MeasureT-loop
 loop-again : tie.Need-loop-again Inv-loop μ-loop
 loop-again c =
     let k = c .before .before in
-    let l = c .before .before .before .before .before .before .loop in
-    (omega arith, k .store-peer .kept .0 ∙ l .inv .1, peers-more _ _ _ _ (l .s) _ (l .inv .2) (k .store-peer .ensures) (c .before .before .before .load-peer .ensures))
+    let l = c .before .before .before .before .before .before .loop in (
+      omega arith,
+      k .store-peer .kept .0 ∙ l .inv .1,
+      peers-more _ _ _ _ (l .s) _ (l .inv .2) (k .store-peer .ensures) (c .before .before .before .load-peer .ensures),
+    )
 
 returns : tie.Need-returns Inv-loop μ-loop
 returns c =

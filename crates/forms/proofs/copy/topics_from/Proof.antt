@@ -4,16 +4,16 @@ use mathlib.Core.Path.{_≡_, sym, _∙_}
 use native.Mathlib.Omega.{arith}
 use borrow.Author.Needs.{needs}
 use lib.ListN.{length}
-use Rattle.records.specs.Records.{slotCount, topicCount}
 use Rattle.layout.specs.View.{placeCount, cellCount, stateOf}
-use Rattle.rows.specs.View.{rowsCount, stateOfRows}
+use Rattle.rows.specs.View.{stateOfRows}
 use Rattle.forms.specs.Turns.{copyTopics}
 use Rattle.forms.proofs.CopyLaws.{topics-start, topics-more, topics-end, topic-fit}
 use Rattle.forms.proofs.copy.topics_from.Statement.{statement}
 use Rattle.forms.proofs.copy.topics_from.Tie as tie
 
 abbrev Inv-loop : tie.InvT-loop
-Inv-loop rows table₀ k₀ table k = (k ≤ placeCount) × (length table ≡ cellCount) × (stateOf table ≡ copyTopics k (stateOfRows rows) (stateOf table₀))
+Inv-loop rows table₀ k₀ table k =
+    (k ≤ placeCount) × (length table ≡ cellCount) × (stateOf table ≡ copyTopics k (stateOfRows rows) (stateOf table₀))
 
 abbrev μ-loop : tie.MeasureT-loop
 μ-loop rows table₀ k₀ table k = placeCount - k
@@ -21,8 +21,11 @@ abbrev μ-loop : tie.MeasureT-loop
 loop-again : tie.Need-loop-again Inv-loop μ-loop
 loop-again c =
     let k = c .before .before in
-    let l = c .before .before .before .before .before .before .loop in
-    (omega arith, k .store-topic .kept .0 ∙ l .inv .1, topics-more _ _ _ _ (l .k) _ (l .inv .2) (k .store-topic .ensures) (c .before .before .before .load-topic .ensures))
+    let l = c .before .before .before .before .before .before .loop in (
+      omega arith,
+      k .store-topic .kept .0 ∙ l .inv .1,
+      topics-more _ _ _ _ (l .k) _ (l .inv .2) (k .store-topic .ensures) (c .before .before .before .load-topic .ensures),
+    )
 
 returns : tie.Need-returns Inv-loop μ-loop
 returns c =

@@ -10,7 +10,8 @@ use Rattle.forms.proofs.test.new_id.Statement.{statement}
 use Rattle.forms.proofs.test.new_id.Tie as tie
 
 abbrev Inv-loop : tie.InvT-loop
-Inv-loop table slot id k₀ k = (k ≤ slot) × (every k (λ j. apart (peerIn (stateOfRows table) slot .id) (peerIn (stateOfRows table) j .id)) ≡ true)
+Inv-loop table slot id k₀ k =
+    (k ≤ slot) × (every k (λ j. apart (peerIn (stateOfRows table) slot .id) (peerIn (stateOfRows table) j .id)) ≡ true)
 
 abbrev μ-loop : tie.MeasureT-loop
 μ-loop table slot id k₀ k = slot - k

@@ -1,10 +1,10 @@
--- `heartbeat::settle::settle`: before each turn the walk stands where the rules' walk does, since the slots between stay as they are (`Rest`).
+-- `heartbeat::settle::settle`: before each turn the walk stands where the rules' walk does, since the slots between stay as they are
+-- (`Rest`).
 use borrow.Author.Needs.{needs}
 use lib.ListN.{length}
 use lib.Dec.{ltb}
 use Rattle.records.specs.Records.{slotCount}
 use Rattle.index.proofs.Kit.{ℕ, _≡_, _-_, sym, ap, _∙_, arith}
-use Rattle.layout.specs.View.{stateOf}
 use Rattle.words.specs.Words.{wordCount, bitsOf}
 use Rattle.mesh.specs.Maintenance.{zeroScore}
 use Rattle.heartbeat.specs.Settle.{Settle}
@@ -82,7 +82,8 @@ settle-spec =
     (λ c κs. tt)
     loop-less
     loop-again
-    (λ c. let s = c .before .before .before .before .before .before in c .before .loop .inv (s .pre) .walked .size ∙ sym (s .pre .standing .size))
+    (λ c. let s = c .before .before .before .before .before .before in c .before .loop .inv (s .pre) .walked .size
+    ∙ sym (s .pre .standing .size))
     (λ c. let l = c .before .loop in
     let s = c .before .before .before .before .before .before in
     settling-done _ _ _ _ (l .slot) (l .table) (c .loop-test .left) (l .inv (s .pre) .walked)))

@@ -2,7 +2,7 @@
 use native.Mathlib.Omega.{arith}
 use Prim.Native.Nat.{ℕ, _*_}
 use mathlib.Core.Path.{sym, ap₂, _∙_}
-use mathlib.Core.List.{List, [], _∷_}
+use mathlib.Core.List.{[], _∷_}
 use lib.Seq.{sets}
 use Rattle.layout.specs.View.{stateOf}
 use Rattle.heartbeat.specs.Tell.{toldBy}
@@ -18,7 +18,8 @@ put-requires c κs =
       omega (arith, w .room),
       (
         id-narrow _ _ _ (s .pre .1) (w .narrow-ids) (g .load-id .ensures),
-        told-narrow (s .args .kind) (toldBy (stateOf (s .args .table .now)) (s .args .seconds)) (s .args .slot) _ (w .narrow-seconds) (c .before .seconds-of .ensures),
+        told-narrow (s .args .kind) (toldBy (stateOf (s .args .table .now)) (s .args .seconds)) (s .args .slot) _ (w .narrow-seconds)
+            (c .before .seconds-of .ensures),
       ),
     )
 

@@ -1,7 +1,7 @@
 -- `heartbeat::tell::tell_by_slot`: the walk has the actions on the slots that are left still to write (`Telling`).
 use native.Mathlib.Omega.{arith}
 use borrow.Author.Needs.{needs}
-use Prim.Native.Nat.{ℕ, _+_, _-_}
+use Prim.Native.Nat.{_-_}
 use mathlib.Core.Path.{_≡_}
 use lib.ListN.{length}
 use Rattle.records.specs.Records.{slotCount}

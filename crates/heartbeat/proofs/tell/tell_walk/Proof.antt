@@ -7,7 +7,6 @@ use mathlib.Core.List.{List, [], _∷_}
 use mathlib.Core.Logic.{⊎-elim}
 use lib.ListN.{length, drop, getD}
 use lib.Seq.{sets, length-sets}
-use Rattle.records.specs.Records.{slotCount}
 use Rattle.layout.specs.View.{stateOf}
 use Rattle.words.specs.Words.{wordCount, bitsOf}
 use Rattle.words.proofs.WideLaws.{bitsOf-length}

@@ -1,8 +1,8 @@
-use Rattle.layout.proofs.SheetLaws.{at-general, at-topic}
+use Rattle.layout.proofs.ParamLaws.{at-general, at-topic}
 use native.Mathlib.Omega.{arith}
 use borrow.Author.Needs.{needs}
-use Rattle.layout.proofs.sheet_place.Statement.{statement}
-use Rattle.layout.proofs.sheet_place.Tie as tie
+use Rattle.layout.proofs.param_place.Statement.{statement}
+use Rattle.layout.proofs.param_place.Tie as tie
 
 mul-result : tie.Need-mul-result
 mul-result c = search needs
@@ -19,5 +19,5 @@ returns c = at-general (c .before .args .i) (c .if1 .taken)
 returns-2 : tie.Need-returns-2
 returns-2 c = at-topic (c .before .args .i) (c .before .pre) (let g = c .if1 .left in omega arith)
 
-pub sheet-place-spec : {M : Type 1} → statement M
-sheet-place-spec = tie.close (tie.spec mul-result add-result add-result-2 returns returns-2)
+pub param-place-spec : {M : Type 1} → statement M
+param-place-spec = tie.close (tie.spec mul-result add-result add-result-2 returns returns-2)
