@@ -12,3 +12,4 @@ pub mod CellLaws
 pub mod FreshLaws
 pub mod ReadLaws
 pub mod CopyLaws
+pub mod EndLaws

@@ -13,7 +13,7 @@ use lib.Bits.{bitAnd, bitOr}
 use Rattle.records.specs.declared.Setup.{Setup}
 use Rattle.records.specs.declared.Peer.{Peer}
 use Rattle.records.specs.declared.TopicRecord.{TopicRecord}
-use Rattle.records.specs.Records.{State, slotCount, topicCount, paramCount, noPeer, noTopic, peerIn}
+use Rattle.records.specs.Records.{State, slotCount, topicCount, paramCount, noPeer, noTopic, place, peerIn, topicIn}
 use Rattle.layout.specs.Rows.{tab}
 
 -- ---- the regions, one after the other
@@ -304,6 +304,11 @@ pub record Idle (c d : List ℕ) : Type 0 where
   pub size : length d ≡ cellCount
   pub used : usedOf d ≡ usedOf c
   pub form : stateOf d ≡ stateOf c
+
+-- every record from slot n on is empty
+pub record EmptyFrom (st : State) (n : ℕ) : Type 0 where
+  pub peer : (s : ℕ) → n ≤ s → s < slotCount → peerIn st s ≡ noPeer
+  pub topic : (s t : ℕ) → n ≤ s → s < slotCount → t < topicCount → topicIn st (place s t) ≡ noTopic
 
 -- ---- what the stores make of a state
 

@@ -11,7 +11,7 @@ ghost use Rattle.layout.specs.View.{placeCount, clockAt, cellCount, used
 ghost use Rattle.layout.specs.View.{setFlags};
 ghost use Rattle.layout.specs.View.{setColumns, paramPlace, fieldOf, isBelow, below, codeFor, stateOf, setEnd, setCode, setCodes};
 ghost use Rattle.layout.specs.View.{setSetup, zeroState};
-ghost use Rattle.layout.specs.View.{withSubscription, withoutMember, withMember, TopicFits, PeerFits, CodesFit, ZeroUpTo, Idle};
+ghost use Rattle.layout.specs.View.{withSubscription, withoutMember, withMember, EmptyFrom, TopicFits, PeerFits, CodesFit, ZeroUpTo, Idle};
 use records::Peer;
 use records::SLOTS;
 use records::Setup;
@@ -647,6 +647,61 @@ pub fn load_outbound(cells: &[u64]) -> [u64; WORDS]
     ensures { λ r. ⌜ (length r ≡ 4) × ((s : ℕ) → s < slotCount → bitAt r 0 s ≡ peerIn (stateOf (now (cells .entry))) s .outbound) ⌝ }
 {
     word(cells, OUTBOUND_AT)
+}
+
+// ---- where the records end
+
+// The bits of word i, of slots from `used` on, moved down.
+fn past_word(w: u64, i: usize, used: u64) -> u64
+    requires { ⌜ i < 4 ⌝ }
+    ensures { λ r. ⌜ (r ≡ 0 → (s : ℕ) → s / 64 ≡ i → used ≤ s → w / 2 ^ (s % 64) % 2 ≡ 0) ⌝ }
+{
+    let first = 64 * i as u64;
+    if used <= first {
+        return w;
+    }
+    if 63 < used - first {
+        return 0;
+    }
+    w >> (used - first)
+}
+
+// Whether no slot from `used` on has its bit in the word that starts at cell o.
+fn past(cells: &[u64], o: usize, used: u64) -> u64
+    requires { ⌜ o + 4 ≤ length (now cells) ⌝ }
+    ensures { λ r. ⌜ (r ≡ 0 → (s : ℕ) → s < slotCount → used ≤ s → bitAt (now (cells .entry)) o s ≡ 0) ⌝ }
+{
+    past_word(cells[o], 0, used) | past_word(cells[o + 1], 1, used) | past_word(cells[o + 2], 2, used)
+        | past_word(cells[o + 3], 3, used)
+}
+
+// The same of n words, one after the other.
+fn all_past(cells: &[u64], o: usize, n: usize, used: u64) -> u64
+    requires { ⌜ (o + 4 * n ≤ length (now cells)) × (length (now cells) ≡ cellCount) ⌝ }
+    ensures { λ r. ⌜ (r ≡ 0 → (p s : ℕ) → p < n → s < slotCount → used ≤ s → bitAt (now (cells .entry)) (o + p * 4) s ≡ 0) ⌝ }
+{
+    let mut acc: u64 = 0;
+    let mut p: usize = 0;
+    while p < n {
+        acc = acc | past(cells, o + p * WORDS, used);
+        p += 1;
+    }
+    acc
+}
+
+// A slot from which on every record is empty: the mark, where no word has a bit past it.
+pub fn records_end(cells: &[u64]) -> usize
+    requires { ⌜ length (now cells) ≡ cellCount ⌝ }
+    ensures { λ r. ⌜ (r ≤ slotCount) × EmptyFrom (stateOf (now (cells .entry))) r ⌝ }
+{
+    let used = cells[USED_AT];
+    if SLOTS as u64 <= used {
+        return SLOTS;
+    }
+    if (all_past(cells, CONNECTED_AT, 6, used) | all_past(cells, SUBSCRIBED_AT, 16, used)) != 0 {
+        return SLOTS;
+    }
+    used as usize
 }
 
 // The clock of a lent table: a public call takes the table whole, so that its type fixes the length.
