@@ -6,3 +6,4 @@ pub mod IdLaws
 pub mod Keeps
 pub mod SignLaws
 pub mod FitLaws
+pub mod RestLaws

@@ -10,13 +10,12 @@ ghost use Rattle.index.specs.Index.{every};
 ghost use Rattle.params.specs.Check.{acceptedCodes};
 ghost use Rattle.records.specs.Records.{peerIn, slotCount, topicCount};
 ghost use Rattle.layout.specs.View.{stateOf, cellCount};
-ghost use Rattle.validity.specs.Order.{counterRanges, flagRanges, restOk, smallOk, Small, zeroTopicAt, Caps};
+ghost use Rattle.validity.specs.Order.{counterRanges, flagRanges, restOk, smallOk, Small, zeroTopicAt, Caps, UpTo};
 ghost use Rattle.validity.specs.Valid.{maxTime, maxEnd, peerRanges, endsUpTo, zeroPeer, peerOk, zeroTopic, memberOk, topicOk};
 ghost use Rattle.validity.specs.Valid.{topicParam, joinedOk, topicOkAt, slotOk, valid};
 use crate::ids::ids_distinct;
 use layout::PARAMS;
 use records::Peer;
-use records::SLOTS;
 use records::TOPICS;
 use records::TopicRecord;
 use records::param;
@@ -397,14 +396,15 @@ fn slot_ok(table: &[u64], caps2: &[u64; TOPICS], caps3: &[u64; TOPICS], slot: us
     other_slot(table, slot)
 }
 
-fn slots_ok(table: &[u64]) -> bool
-    requires { ⌜ (length (now table) ≡ cellCount) × (stateOf (now table) .clock ≤ maxTime) ⌝ }
+// The slots up to `end`, from which on every record is empty.
+fn slots_ok(table: &[u64], end: usize) -> bool
+    requires { ⌜ UpTo (now table) end × (stateOf (now table) .clock ≤ maxTime) ⌝ }
     ensures { λ r. ⌜ r ≡ every slotCount (slotOk (stateOf (now (table .entry)))) ⌝ }
 {
     let caps2 = caps(table, param::P2_CAP);
     let caps3 = caps(table, param::P3_CAP);
     let mut slot: usize = 0;
-    while slot < SLOTS {
+    while slot < end {
         if !slot_ok(table, &caps2, &caps3, slot) {
             return false;
         }
@@ -461,7 +461,8 @@ pub fn is_router(table: &[u64]) -> bool
     }
     let params = params_ok(table);
     let joined = joined_ok(table);
-    let slots = slots_ok(table);
-    let ids = ids_distinct(table);
+    let end = layout::records_end(table);
+    let slots = slots_ok(table, end);
+    let ids = ids_distinct(table, end);
     params & joined & slots & ids
 }

@@ -12,13 +12,21 @@ returns c = clock-fails _ (subst (λ (n : ℕ). maxTime < n) (c .before .load-cl
 
 slots-ok-requires : tie.Need-slots-ok-requires
 slots-ok-requires c κs =
-    let i = c .before .before in
-    (i .before .before .before .pre, subst (λ (n : ℕ). n ≤ maxTime) (i .before .load-clock .ensures) (i .if1 .left))
+    let i = c .before .before .before in
+    let s = i .before .before .before in (
+      record { size = s .pre; low = c .records-end .ensures .0; empty = c .records-end .ensures .1 },
+      subst (λ (n : ℕ). n ≤ maxTime) (i .before .load-clock .ensures) (i .if1 .left),
+    )
+
+ids-distinct-requires : tie.Need-ids-distinct-requires
+ids-distinct-requires c κs =
+    let e = c .before .records-end in
+    record { size = c .before .before .before .before .before .before .before .pre; low = e .ensures .0; empty = e .ensures .1 }
 
 returns-2 : tie.Need-returns-2
 returns-2 c =
     let s = c .before in
-    let j = s .before in
+    let j = s .before .before in
     let a = j .before in
     let i = a .before in
     clock-passes _ (subst (λ (n : ℕ). n ≤ maxTime) (i .before .load-clock .ensures) (i .if1 .left)) _ _ _ _
@@ -35,6 +43,7 @@ is-router-spec =
     returns
     (λ c κs. search needs)
     (λ c κs. search needs)
-    slots-ok-requires
     (λ c κs. search needs)
+    slots-ok-requires
+    ids-distinct-requires
     returns-2)
