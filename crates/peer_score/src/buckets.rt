@@ -21,15 +21,15 @@ use score::Balance;
 use score::Sharers;
 use score::sums;
 
-// How many buckets there are; a power of two is divided by at no cost.
-pub const BUCKETS: usize = 512;
+// How many buckets there are: as many as slots, so that few groups share one.
+pub const BUCKETS: usize = SLOTS;
 
 // The bucket of a group.
 fn bucket(group: u64) -> usize
     requires { ⌜ group ≤ maxId ⌝ }
     ensures { λ r. ⌜ (r ≡ bucketOf group) × (r < bucketCount) ⌝ }
 {
-    (group * 2654435769 / 8388608 % BUCKETS as u64) as usize
+    (group * 2654435769 / 16777216 % BUCKETS as u64) as usize
 }
 
 fn wide(n: u16) -> u64
