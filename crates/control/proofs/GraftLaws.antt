@@ -1,11 +1,12 @@
 -- A GRAFT that comes in: what its refusal may rely on, and what it gives in its case.
 -- Assumes nothing.
-use Rattle.index.proofs.Kit.{ℕ, _≡_, refl, Bool}
+use Rattle.index.proofs.Kit.{ℕ, _≡_, refl, Bool, arith}
 use mathlib.Core.List.{List, [], _∷_}
 use lib.Seq.{sets}
 use Rattle.records.specs.declared.Peer.{Peer}
 use Rattle.records.specs.Records.{peerIn, setClock, setPeer}
-use Rattle.layout.specs.View.{stateOf}
+use Rattle.layout.specs.View.{stateOf, PeerFits}
+use Rattle.validity.proofs.FitLaws.{peer-fits}
 use Rattle.validity.proofs.ValidLaws.{valid-facts}
 use Rattle.effects.specs.Actions.{pruneOf, numbersOf}
 use Rattle.effects.specs.Effects.{pruneBackoff, withEnd, withP7, endAfter}
@@ -19,6 +20,35 @@ use Rattle.rules.proofs.PromiseLaws.{leaves-moved}
 use Rattle.gate.proofs.StandingLaws.{sizes}
 use Rattle.gate.specs.Ready.{PlaceLent}
 use Rattle.control.specs.Refusable.{Refusable}
+
+-- ---- P7 stops at 10^6, and an end is a cell of its own
+raised-fits : (p q : Peer) → PeerFits p → q ≡ raisedP7 p → PeerFits q
+unfolding raisedP7 withP7
+raised-fits p q f e =
+    rw e (record {
+      status = f .status;
+      id = f .id;
+      group = f .group;
+      outbound = f .outbound;
+      explicit = f .explicit;
+      version = f .version;
+      p5 = f .p5;
+      p7 = omega arith;
+    })
+
+pub end-fits : (p q : Peer) (t end : ℕ) → PeerFits p → q ≡ withEnd p t end → PeerFits q
+unfolding withEnd
+end-fits p q t end f e =
+    rw e (record {
+      status = f .status;
+      id = f .id;
+      group = f .group;
+      outbound = f .outbound;
+      explicit = f .explicit;
+      version = f .version;
+      p5 = f .p5;
+      p7 = f .p7;
+    })
 
 -- ---- what the refusal may rely on: the peer's record as seen, or with P7 raised
 module _
@@ -36,6 +66,7 @@ module _
           slot = h .slot;
           room = h .room;
           id = rw e (valid-facts (stateOf table) (h .ready .standing .router) .peer s (h .slot) .id);
+          fits = rw e (peer-fits (stateOf table) (h .ready .standing .router) s (h .slot));
           backoff = sizes (stateOf table) (h .ready .standing .router) .prune;
           latest = h .ready .latest;
         }
@@ -49,6 +80,7 @@ module _
           slot = h .slot;
           room = h .room;
           id = rw eq (refusable .id);
+          fits = raised-fits (v .sender .peer) q (refusable .fits) eq;
           backoff = refusable .backoff;
           latest = refusable .latest;
         }

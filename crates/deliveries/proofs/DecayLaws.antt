@@ -14,7 +14,8 @@ use Rattle.records.specs.declared.Peer.{Peer}
 use Rattle.records.specs.declared.TopicRecord.{TopicRecord}
 use Rattle.records.specs.Records.{State, place, codeIn, peerIn, topicIn, setPeer, setTopic, setClock, isConnected, slotCount}
 use Rattle.layout.proofs.StateLaws.{peer-case, topic-case, topic-again}
-use Rattle.layout.specs.View.{cellCount, stateOf}
+use Rattle.layout.specs.View.{cellCount, stateOf, TopicFits, PeerFits}
+use borrow.Author.Tests.{ne-eqb}
 use Rattle.validity.specs.Valid.{valid}
 use Rattle.score.specs.declared.TopicParams.{TopicParams}
 use Rattle.score.specs.Ranges.{TopicParamsIn, CountersIn}
@@ -142,6 +143,24 @@ module _ (st : State) (time s t floor : ℕ) (p : TopicParams) (r : TopicRecord)
     pub topic-ready : Decays st → s < slotCount → t < 8 → TopicParamsIn p × (CountersIn r × (floor ≤ 1000))
     topic-ready d h l = (rw ep (d .params t l), (rw er (d .counters s t h l), omega (arith, d .floor)))
 
+    pub decayed-fits : (q : TopicRecord) → Decays st → s < slotCount → t < 8 → TopicFits r → q ≡ decayedOf p floor time r → TopicFits q
+    unfolding decayedOf meshOf
+    decayed-fits q d h l f eq =
+        let y = topic-ready d h l in
+        let k = decayed-in p floor time r (y .0) (y .1 .0) in
+        let a : decayedOf p floor time r .p2 ≤ 1000000 = k .p2 in
+        let b : decayedOf p floor time r .p3 ≤ 1000000 = k .p3 in
+        let c : decayedOf p floor time r .p4 ≤ 1000000 = k .p4 in
+        rw eq (record {
+          p2 = omega arith;
+          p3 = omega arith;
+          p4 = omega arith;
+          subscribed = f .subscribed;
+          member = f .member;
+          graft = f .graft;
+          mesh = λ n. rw (ne-eqb (r .member) 1 n) (f .mesh n);
+        })
+
     pub topic-decayed :
         (q : TopicRecord) (u : State) →
         q ≡ decayedOf p floor time r →
@@ -189,6 +208,27 @@ module _ (st : State) (s floor factor x : ℕ) (p q : Peer) (u : State) where
       u ≡ decayP7 s st
   unfolding decayP7
   p7-decayed ep ef eg ex eq eu = cc
+
+pub p7-fits :
+    (floor factor x : ℕ) (p q : Peer) →
+    factor ≤ 1000 →
+    PeerFits p →
+    x ≡ fadedOf floor factor (p .p7) →
+    q ≡ withP7 p x →
+    PeerFits q
+unfolding withP7
+p7-fits floor factor x p q h f ex eq =
+    let l = faded-less floor factor (p .p7) h in
+    rw eq (record {
+      status = f .status;
+      id = f .id;
+      group = f .group;
+      outbound = f .outbound;
+      explicit = f .explicit;
+      version = f .version;
+      p5 = f .p5;
+      p7 = let m = f .p7 in omega arith;
+    })
 
 pub p7-ready :
     (st : State) (s factor : ℕ) (p : Peer) →

@@ -1,20 +1,24 @@
 -- What a delivery comes to at each of its ends.
 -- Assumes nothing.
-use Prim.Native.Nat.{ℕ, _<_}
+use Prim.Native.Nat.{ℕ, _<_, _≤_}
 use mathlib.Core.Path.{_≡_, refl, sym, ap₂, _∙_}
-use mathlib.Core.Bool.{Bool, true, _&&_}
+use mathlib.Core.Bool.{Bool, true, cond, _&&_}
+use native.Mathlib.Omega.{arith}
 use mathlib.Core.List.{List, []}
-use lib.Dec.{leb}
+use lib.Dec.{leb, eqb}
 use Rattle.index.proofs.Index.{both}
 use Rattle.index.proofs.Flags.{cond-case}
 use Rattle.records.specs.declared.TopicRecord.{TopicRecord}
 use Rattle.records.specs.Records.{State, place, topicIn, setTopic, slotCount}
-use Rattle.layout.specs.View.{stateOf}
+use Rattle.layout.specs.View.{stateOf, TopicFits}
 use Rattle.validity.specs.Valid.{valid}
+use Rattle.validity.proofs.FitLaws.{topic-fits}
 use Rattle.score.specs.declared.TopicParams.{TopicParams}
 use Rattle.score.specs.Score.{topicParamsIn}
 use Rattle.score.specs.Ranges.{CountersWithin}
-use Rattle.score.proofs.InputLaws.{counters-within}
+use Rattle.score.specs.Parts.{isMember}
+use Rattle.score.specs.Counters.{raised3Of, firstOf, nearFirstOf, invalidOf}
+use Rattle.score.proofs.InputLaws.{params-in, counters-within}
 use Rattle.credits.specs.Credits.{creditedOf}
 use Rattle.credits.proofs.CreditLaws.{credited-is}
 use Rattle.effects.specs.Effects.{onTopic}
@@ -46,6 +50,76 @@ pub slot-delivered :
     u ≡ onTopic st s t (deliveredOf kind (topicParamsIn st t))
 slot-delivered st u t s kind p r q v l h er ep eq eu =
     let e = credited-delivers (topicParamsIn st t) (topicIn st (place s t)) (counters-within st v s h t l) kind in cc
+
+-- ---- what is credited fits: the counters stop at their caps
+
+raised3-fits : (t : TopicParams) (r : TopicRecord) → t .cap3 ≤ 1000000 → r .p3 < 2097152 → raised3Of t r < 2097152
+unfolding raised3Of
+raised3-fits t r m k = cond-case (λ (n : ℕ). n < 2097152) (isMember r) _ _ (λ h. omega arith) (λ h. k)
+
+delivered-fits :
+    (kind : ℕ) (t : TopicParams) (r : TopicRecord) →
+    t .cap2 ≤ 1000000 →
+    t .cap3 ≤ 1000000 →
+    TopicFits r →
+    TopicFits (deliveredOf kind t r)
+unfolding deliveredOf firstOf nearFirstOf invalidOf
+delivered-fits kind t r c2 c3 f =
+    let p3 = raised3-fits t r c3 (f .p3) in
+    cond-case
+    TopicFits
+    (eqb kind 1)
+    (firstOf t r)
+    (cond (eqb kind 2) (nearFirstOf t r) (invalidOf r))
+    (λ h. record {
+      p2 = omega arith;
+      p3 = p3;
+      p4 = f .p4;
+      subscribed = f .subscribed;
+      member = f .member;
+      graft = f .graft;
+      mesh = f .mesh;
+    })
+    (λ h.
+    cond-case
+    TopicFits
+    (eqb kind 2)
+    (nearFirstOf t r)
+    (invalidOf r)
+    (λ h. record {
+      p2 = f .p2;
+      p3 = p3;
+      p4 = f .p4;
+      subscribed = f .subscribed;
+      member = f .member;
+      graft = f .graft;
+      mesh = f .mesh;
+    })
+    (λ h. record {
+      p2 = f .p2;
+      p3 = f .p3;
+      p4 = omega arith;
+      subscribed = f .subscribed;
+      member = f .member;
+      graft = f .graft;
+      mesh = f .mesh;
+    }))
+
+pub credited-fits :
+    (st : State) (t s kind : ℕ) (p : TopicParams) (r q : TopicRecord) →
+    valid st ≡ true →
+    t < 8 →
+    s < slotCount →
+    r ≡ topicIn st (place s t) →
+    p ≡ topicParamsIn st t →
+    q ≡ creditedOf kind p r →
+    TopicFits q
+credited-fits st t s kind p r q v l h er ep eq =
+    let i = params-in st v t l in
+    let e : q ≡ deliveredOf kind (topicParamsIn st t) (topicIn st (place s t)) =
+    eq ∙ ap₂ (λ (x : TopicParams) (y : TopicRecord). creditedOf kind x y) ep er
+    ∙ credited-delivers (topicParamsIn st t) (topicIn st (place s t)) (counters-within st v s h t l) kind in
+    rw e (delivered-fits kind (topicParamsIn st t) (topicIn st (place s t)) (i .cap2) (i .cap3) (topic-fits st v s t h l))
 
 -- ---- no action
 

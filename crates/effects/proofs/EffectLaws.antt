@@ -7,7 +7,7 @@ use mathlib.Core.Logic.{_≢_}
 use mathlib.Core.Bool.{true, false, cond, not, _&&_}
 use mathlib.Core.List.{List}
 use lib.ListN.{length, getD, length-set}
-use lib.Seq.{getD-set-same, getD-set-other}
+use lib.Seq.{getD-set-same, getD-set-other, set-set}
 use lib.Dec.{eqb, leb}
 use borrow.Author.Tests.{leb-true, ltb-false, eqb-true, not-true, ne-eqb}
 use Rattle.index.specs.Index.{every, first, iter}
@@ -15,16 +15,18 @@ use Rattle.index.specs.declared.Found.the-variants.{Nothing}
 use Rattle.index.proofs.Index.{both, every-at, iter-keeps, first-passed}
 use Rattle.index.proofs.Flags.{by-test, cond-case}
 use Rattle.index.proofs.Lists.{set-case}
+use Rattle.records.specs.declared.Groups.{Groups}
 use Rattle.records.specs.declared.Peer.{Peer}
 use Rattle.records.specs.declared.TopicRecord.{TopicRecord}
 use Rattle.records.specs.Records.{State, slotCount, noPeer, noTopic, place, joinedIn, peerIn, topicIn, setPeer, setTopic, isEmpty}
 use Rattle.records.specs.Records.{isConnected, isRetained}
-use Rattle.layout.specs.View.{Sized, setEnd}
+use Rattle.layout.specs.View.{Sized, setEnd, withoutMember, withMember, withSubscription, PeerFits, TopicFits}
 use Rattle.layout.proofs.StateLaws.{peer-same, peer-other, peer-case, topic-same, topic-other, topic-case, peer-after-topic}
 use Rattle.layout.proofs.StateLaws.{topic-after-peer, sized-peer, sized-topic}
-use Rattle.effects.specs.Effects.{withEnd, outOfMesh, intoMesh, withSubscribed, onPeer, onTopic}
+use Rattle.effects.specs.Effects.{withEnd, withP5, connectedAs, retainedTo, outOfMesh, intoMesh, withSubscribed, onPeer, onTopic}
+use Rattle.effects.specs.Lent.{ConnectFits}
 use Rattle.effects.specs.Effects.{isMember, backoffRuns, pruned, leftTopic, departed, reclaimable, emptied}
-use Rattle.effects.specs.Effects.{reclaimSlot, reclaimed}
+use Rattle.effects.specs.Effects.{reclaimSlot, reclaimed, NoneReclaimable}
 use Rattle.effects.proofs.Walks.{iter-kept, iter-before, iter-once, iter-still}
 
 -- ---- places of topic records
@@ -507,12 +509,12 @@ pub none-reclaimed :
 unfolding reclaimed
 none-reclaimed st time h = iter-still (reclaimSlot time) slotCount st (λ s k. reclaim-no st s time (h s k))
 
-pub full-stays :
+pub full-none :
     (st : State) (time : ℕ) →
     Sized st →
     first slotCount (λ s. isEmpty (peerIn (reclaimed st time) s)) ≡ Nothing →
-    reclaimed st time ≡ st
-full-stays st time size e = none-reclaimed st time not-one
+    NoneReclaimable st time
+full-none st time size e = record { each = not-one }
   where
     not-one : (s : ℕ) → s < slotCount → reclaimable (peerIn st s) time ≡ false
     not-one s h =
@@ -527,3 +529,115 @@ full-stays st time size e = none-reclaimed st time not-one
         let z : _≡_ {A = ℕ} 0 1 = cc in
         absurd (omega arith))
         (λ r. r)
+
+pub full-stays :
+    (st : State) (time : ℕ) →
+    Sized st →
+    first slotCount (λ s. isEmpty (peerIn (reclaimed st time) s)) ≡ Nothing →
+    reclaimed st time ≡ st
+full-stays st time size e = none-reclaimed st time (full-none st time size e .each)
+
+-- ---- one flag of a record, stored alone: the record with that flag
+
+pub out-stored : (st u : State) (k : ℕ) → u ≡ setTopic st k (withoutMember (topicIn st k)) → u ≡ setTopic st k (outOfMesh (topicIn st k))
+unfolding outOfMesh withoutMember
+out-stored st u k e = e
+
+pub into-stored :
+    (st u : State) (k time : ℕ) → u ≡ setTopic st k (withMember (topicIn st k) time) → u ≡ setTopic st k (intoMesh (topicIn st k) time)
+unfolding intoMesh withMember
+into-stored st u k time e = e
+
+pub subscribed-stored :
+    (st u : State) (k b : ℕ) → u ≡ setTopic st k (withSubscription (topicIn st k) b) → u ≡ setTopic st k (withSubscribed (topicIn st k) b)
+unfolding withSubscribed withSubscription
+subscribed-stored st u k b e = e
+
+topic-twice : (st : State) (k : ℕ) (a b : TopicRecord) → setTopic (setTopic st k a) k b ≡ setTopic st k b
+unfolding setTopic
+topic-twice st k a b =
+    ap
+    (λ (l : List TopicRecord). record
+    { clock = st .clock; joined = st .joined; codes = st .codes; setup = st .setup; peers = st .peers; topics = l })
+    (set-set (st .topics) k a b)
+
+pub gone-stored :
+    (st u v : State) (k : ℕ) →
+    k < length (st .topics) →
+    u ≡ setTopic st k (withoutMember (topicIn st k)) →
+    v ≡ setTopic u k (withSubscription (topicIn u k) 0) →
+    v ≡ setTopic st k (withSubscribed (outOfMesh (topicIn st k)) 0)
+gone-stored st u v k h p q =
+    let a = outOfMesh (topicIn st k) in
+    let e : u ≡ setTopic st k (outOfMesh (topicIn st k)) = out-stored st u k p in
+    subscribed-stored u v k 0 q
+    ∙ ap (λ (w : State). setTopic w k (withSubscribed (topicIn w k) 0)) e
+    ∙ ap (λ (x : TopicRecord). setTopic (setTopic st k a) k (withSubscribed x 0)) (topic-same st k a h)
+    ∙ topic-twice st k a (withSubscribed a 0)
+
+-- ---- what the calls store fits
+
+pub p5-fits : (p q : Peer) (code : ℕ) → PeerFits p → code < 4294967296 → q ≡ withP5 p code → PeerFits q
+unfolding withP5
+p5-fits p q code f h e =
+    rw e (record {
+      status = f .status;
+      outbound = f .outbound;
+      explicit = f .explicit;
+      version = f .version;
+      p5 = h;
+      p7 = f .p7;
+    })
+
+pub connected-fits :
+    (p q : Peer) (id : ℕ) (groups : Groups) (flags version : ℕ) →
+    PeerFits p →
+    ConnectFits flags version →
+    q ≡ connectedAs p id groups flags version →
+    PeerFits q
+unfolding connectedAs
+connected-fits p q id groups flags version f h e =
+    let l = h .flags in
+    rw e (record {
+      status = omega arith;
+      outbound = omega arith;
+      explicit = omega arith;
+      version = h .version;
+      p5 = f .p5;
+      p7 = f .p7;
+    })
+
+pub retained-fits : (p q : Peer) (end : ℕ) → PeerFits p → q ≡ retainedTo p end → PeerFits q
+unfolding retainedTo
+retained-fits p q end f e =
+    rw e (record {
+      status = omega arith;
+      outbound = f .outbound;
+      explicit = f .explicit;
+      version = f .version;
+      p5 = f .p5;
+      p7 = f .p7;
+    })
+
+pub none-fits : (q : Peer) → q ≡ noPeer → PeerFits q
+none-fits q e =
+    rw e (record {
+      status = omega arith;
+      outbound = omega arith;
+      explicit = omega arith;
+      version = omega arith;
+      p5 = omega arith;
+      p7 = omega arith;
+    })
+
+pub no-topic-fits : (q : TopicRecord) → q ≡ noTopic → TopicFits q
+no-topic-fits q e =
+    rw e (record {
+      p2 = omega arith;
+      p3 = omega arith;
+      p4 = omega arith;
+      subscribed = omega arith;
+      member = omega arith;
+      graft = λ n. refl;
+      mesh = λ n. refl;
+    })

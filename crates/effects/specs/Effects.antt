@@ -1,6 +1,7 @@
 -- What the calls do to a record and to the state, in 01's words. Each changes what it names and nothing else.
-use Prim.Native.Nat.{ℕ, _+_, _*_, _/_, _%_, max}
-use mathlib.Core.Bool.{Bool, cond, not, _&&_}
+use Prim.Native.Nat.{ℕ, _+_, _*_, _/_, _%_, _<_, max}
+use mathlib.Core.Path.{_≡_}
+use mathlib.Core.Bool.{Bool, false, cond, not, _&&_}
 use lib.ListN.{getD, set}
 use lib.Dec.{eqb, leb, ltb}
 use Rattle.index.specs.Index.{every, count, iter}
@@ -200,3 +201,7 @@ reclaimSlot time s st = cond (reclaimable (peerIn st s) time) (emptied st s) st
 
 unfoldable pub reclaimed : State → ℕ → State
 reclaimed st time = iter slotCount (reclaimSlot time) st
+
+-- no record may be emptied
+pub record NoneReclaimable (st : State) (time : ℕ) : Type 0 where
+  pub each : (s : ℕ) → s < slotCount → reclaimable (peerIn st s) time ≡ false

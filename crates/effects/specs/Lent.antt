@@ -35,3 +35,8 @@ pub record PruneFits (list : List ℕ) (at : ℕ) (p : Peer) (n : ℕ) : Type 0 
   pub room : at + 3 ≤ length list
   pub id : p .id ≤ 4294967295
   pub seconds : n ≤ 4294967295
+
+-- a connected record's numbers, as they are stored
+pub record ConnectFits (f v : ℕ) : Type 0 where
+  pub flags : f ≤ 3
+  pub version : v ≤ 3

@@ -1,13 +1,13 @@
 // Connecting, disconnecting, and the emptying of records whose time is over.
 ghost use mathlib.Core.Path.{_≡_};
-ghost use mathlib.Core.Bool.{not};
+ghost use mathlib.Core.Bool.{false, not};
 ghost use lib.ListN.{length};
 ghost use Rattle.index.specs.Index.{every, iter};
-ghost use Rattle.records.specs.Records.{noPeer, noTopic, place, setTopic};
+ghost use Rattle.records.specs.Records.{noPeer, noTopic, place, peerIn, setTopic};
 ghost use Rattle.layout.specs.View.{cellCount, stateOf};
 ghost use Rattle.effects.specs.Effects.{backoffRuns, onPeer, connectedAs, retainedTo, leftTopic};
-ghost use Rattle.effects.specs.Effects.{reclaimable as reclaimableOf, emptied, reclaimSlot, reclaimed};
-ghost use Rattle.effects.specs.Lent.{AtSlot};
+ghost use Rattle.effects.specs.Effects.{reclaimable as reclaimableOf, emptied, reclaimSlot, reclaimed, NoneReclaimable};
+ghost use Rattle.effects.specs.Lent.{AtSlot, ConnectFits};
 use crate::slots::unsubscribe_slot;
 use crate::values::connected_as;
 use crate::values::retained_to;
@@ -26,7 +26,7 @@ pub fn connect_slot(
     flags: u64,
     version: u64,
 )
-    requires { ⌜ AtSlot (now table) slot ⌝ }
+    requires { ⌜ AtSlot (now table) slot × ConnectFits flags version ⌝ }
     ensures { λ r. ⌜ stateOf (now (table .exit))
         ≡ onPeer (stateOf (now (table .entry))) slot (λ p. connectedAs p id groups flags version) ⌝ }
 {
@@ -141,7 +141,8 @@ fn empty_slot(table: &mut [u64], slot: usize)
 // Empties a slot if its record is reclaimable.
 fn reclaim_slot(table: &mut [u64], slot: usize, time: u64)
     requires { ⌜ AtSlot (now table) slot ⌝ }
-    ensures { λ r. ⌜ stateOf (now (table .exit)) ≡ reclaimSlot time slot (stateOf (now (table .entry))) ⌝ }
+    ensures { λ r. ⌜ (stateOf (now (table .exit)) ≡ reclaimSlot time slot (stateOf (now (table .entry))))
+        × (reclaimableOf (peerIn (stateOf (now (table .entry))) slot) time ≡ false → now (table .exit) ≡ now (table .entry)) ⌝ }
 {
     let p = layout::load_peer(table, slot);
     if reclaimable(p, time) {
@@ -149,10 +150,11 @@ fn reclaim_slot(table: &mut [u64], slot: usize, time: u64)
     }
 }
 
-// Empties every reclaimable record.
+// Empties every reclaimable record; where there is none, no cell changes.
 pub fn reclaim(table: &mut [u64], time: u64)
     requires { ⌜ length (now table) ≡ cellCount ⌝ }
-    ensures { λ r. ⌜ stateOf (now (table .exit)) ≡ reclaimed (stateOf (now (table .entry))) time ⌝ }
+    ensures { λ r. ⌜ (stateOf (now (table .exit)) ≡ reclaimed (stateOf (now (table .entry))) time)
+        × (NoneReclaimable (stateOf (now (table .entry))) time → now (table .exit) ≡ now (table .entry)) ⌝ }
 {
     let mut slot: usize = 0;
     while slot < SLOTS {

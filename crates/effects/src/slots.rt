@@ -1,6 +1,6 @@
 // One slot of the table, in one topic.
 ghost use mathlib.Core.Path.{_≡_};
-ghost use Prim.Native.Nat.{_≤_};
+ghost use Prim.Native.Nat.{_≤_, _<_};
 ghost use Rattle.records.specs.Records.{codeIn, slotCount};
 ghost use Rattle.layout.specs.View.{stateOf};
 ghost use Rattle.varint.specs.Codes.{magnitude as magnitudeOf};
@@ -8,11 +8,8 @@ ghost use Rattle.effects.specs.Effects.{withEnd, withP5, outOfMesh, into
 ghost use Rattle.effects.specs.Effects.{onPeer, onTopic, isJoined, isMember, meshSize, pruned};
 ghost use Rattle.effects.specs.Lent.{AtParam, AtTopic, AtSlot, AtPlace};
 ghost use Rattle.index.specs.Index.{one};
-use crate::values::into_mesh;
-use crate::values::out_of_mesh;
 use crate::values::with_end;
 use crate::values::with_p5;
-use crate::values::with_subscribed;
 use records::SLOTS;
 
 // A number of the parameters without its sign.
@@ -20,7 +17,7 @@ pub fn load_magnitude(table: &[u64], i: usize) -> u64
     requires { ⌜ AtParam (now table) i ⌝ }
     ensures { λ r. ⌜ r ≡ magnitudeOf (codeIn (stateOf (now (table .entry))) i) ⌝ }
 {
-    varint::magnitude(layout::load_code(table, i))
+    layout::load_magnitude(table, i)
 }
 
 pub fn is_joined(table: &[u64], topic: usize) -> bool
@@ -62,8 +59,7 @@ pub fn take_out(table: &mut [u64], topic: usize, slot: usize)
     requires { ⌜ AtPlace (now table) topic slot ⌝ }
     ensures { λ r. ⌜ stateOf (now (table .exit)) ≡ onTopic (stateOf (now (table .entry))) slot topic outOfMesh ⌝ }
 {
-    let r = layout::load_topic(table, slot * 8 + topic);
-    layout::store_topic(table, slot * 8 + topic, out_of_mesh(r));
+    layout::leave_mesh(table, slot * 8 + topic);
 }
 
 // The backoff end at least `end`.
@@ -89,16 +85,14 @@ pub fn graft_slot(table: &mut [u64], topic: usize, slot: usize, time: u64)
     requires { ⌜ AtPlace (now table) topic slot ⌝ }
     ensures { λ r. ⌜ stateOf (now (table .exit)) ≡ onTopic (stateOf (now (table .entry))) slot topic (λ r. intoMesh r time) ⌝ }
 {
-    let r = layout::load_topic(table, slot * 8 + topic);
-    layout::store_topic(table, slot * 8 + topic, into_mesh(r, time));
+    layout::enter_mesh(table, slot * 8 + topic, time);
 }
 
 pub fn subscribe_slot(table: &mut [u64], topic: usize, slot: usize)
     requires { ⌜ AtPlace (now table) topic slot ⌝ }
     ensures { λ r. ⌜ stateOf (now (table .exit)) ≡ onTopic (stateOf (now (table .entry))) slot topic (λ r. withSubscribed r 1) ⌝ }
 {
-    let r = layout::load_topic(table, slot * 8 + topic);
-    layout::store_topic(table, slot * 8 + topic, with_subscribed(r, 1));
+    layout::store_subscribed(table, slot * 8 + topic, 1);
 }
 
 // Out of the mesh, and not subscribed.
@@ -107,12 +101,12 @@ pub fn unsubscribe_slot(table: &mut [u64], topic: usize, slot: usize)
     ensures { λ r. ⌜ stateOf (now (table .exit))
         ≡ onTopic (stateOf (now (table .entry))) slot topic (λ r. withSubscribed (outOfMesh r) 0) ⌝ }
 {
-    let r = layout::load_topic(table, slot * 8 + topic);
-    layout::store_topic(table, slot * 8 + topic, with_subscribed(out_of_mesh(r), 0));
+    layout::leave_mesh(table, slot * 8 + topic);
+    layout::store_subscribed(table, slot * 8 + topic, 0);
 }
 
 pub fn rate_slot(table: &mut [u64], slot: usize, code: u64)
-    requires { ⌜ AtSlot (now table) slot ⌝ }
+    requires { ⌜ AtSlot (now table) slot × (code < 4294967296) ⌝ }
     ensures { λ r. ⌜ stateOf (now (table .exit)) ≡ onPeer (stateOf (now (table .entry))) slot (λ p. withP5 p code) ⌝ }
 {
     let p = layout::load_peer(table, slot);

@@ -2,11 +2,10 @@
 ghost use mathlib.Core.Path.{_≡_};
 ghost use Prim.Native.Nat.{_+_, _≤_, _<_, max};
 ghost use Rattle.effects.specs.Effects.{endAfter, withEnd, withP5, withP7, connectedAs};
-ghost use Rattle.effects.specs.Effects.{retainedTo, outOfMesh, intoMesh, withSubscribed};
+ghost use Rattle.effects.specs.Effects.{retainedTo};
 ghost use Rattle.effects.specs.Lent.{EndFits};
 use records::Groups;
 use records::Peer;
-use records::TopicRecord;
 
 pub fn later(a: u64, b: u64) -> u64
     ensures { λ r. ⌜ r ≡ max a b ⌝ }
@@ -69,33 +68,5 @@ pub fn retained_to(p: Peer, end: u64) -> Peer
     let mut q = p;
     q.status = 2;
     q.retain = end;
-    q
-}
-
-pub fn out_of_mesh(r: TopicRecord) -> TopicRecord
-    ensures { λ q. ⌜ q ≡ outOfMesh r ⌝ }
-{
-    let mut q = r;
-    q.member = 0;
-    q.graft = 0;
-    q.mesh = 0;
-    q
-}
-
-pub fn into_mesh(r: TopicRecord, time: u64) -> TopicRecord
-    ensures { λ q. ⌜ q ≡ intoMesh r time ⌝ }
-{
-    let mut q = r;
-    q.member = 1;
-    q.graft = time;
-    q.mesh = 0;
-    q
-}
-
-pub fn with_subscribed(r: TopicRecord, flag: u64) -> TopicRecord
-    ensures { λ q. ⌜ q ≡ withSubscribed r flag ⌝ }
-{
-    let mut q = r;
-    q.subscribed = flag;
     q
 }

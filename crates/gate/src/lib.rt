@@ -1,8 +1,8 @@
 // The tests that every call begins with (12, 2, 8, 1), the two ends that move the clock, and what a peer's score says of it.
 ghost use mathlib.Core.Path.{_≡_};
-ghost use lib.ListN.{length};
+ghost use lib.ListN.{length, set};
 ghost use Rattle.records.specs.Records.{setClock};
-ghost use Rattle.layout.specs.View.{cellCount, stateOf};
+ghost use Rattle.layout.specs.View.{clockAt, cellCount, stateOf};
 ghost use Rattle.rules.specs.Calls.{idOk, topicOk, timeOk};
 ghost use Rattle.rules.specs.Step.{gateOf, senderIn, seenIn, heard};
 ghost use Rattle.peer_score.specs.Standing.{SlotStanding, PlaceStanding};
@@ -68,7 +68,8 @@ pub fn finish(table: &mut [u64], time: u64) -> Answer
 // 11.
 pub fn ignore(table: &mut [u64], time: u64) -> Answer
     requires { ⌜ length (now table) ≡ cellCount ⌝ }
-    ensures { λ r. ⌜ (r ≡ Answer.Ignored) × (stateOf (now (table .exit)) ≡ setClock (stateOf (now (table .entry))) time) ⌝ }
+    ensures { λ r. ⌜ (r ≡ Answer.Ignored) × (stateOf (now (table .exit)) ≡ setClock (stateOf (now (table .entry))) time)
+        × (now (table .exit) ≡ set (now (table .entry)) clockAt time) ⌝ }
 {
     layout::store_clock(table, time);
     Answer::Ignored

@@ -1,6 +1,6 @@
 -- What maintenance sees: a candidate by the numbers loaded, and the records of the degrees and of the view.
 -- Assumes nothing.
-use Prim.Native.Nat.{ℕ, _+_, _-_, _*_, _≤_, _<_}
+use Prim.Native.Nat.{ℕ, _+_, _-_, _*_, _/_, _%_, _^_, _≤_, _<_}
 use native.Mathlib.Omega.{arith}
 use mathlib.Core.Path.{_≡_, sym, ap, _∙_}
 use mathlib.Core.Bool.{Bool, true, false, not, _&&_}
@@ -16,7 +16,11 @@ use Rattle.params.proofs.ParamLaws.{general}
 use Rattle.validity.specs.Valid.{valid}
 use Rattle.validity.proofs.ValidLaws.{valid-facts}
 use Rattle.sets.specs.Sets.{bySlot}
-use Rattle.sets.proofs.SlotLaws.{slots-length, slots-at}
+use Rattle.sets.proofs.SlotLaws.{slots-length, slots-at, slots-built}
+use Rattle.layout.specs.View.{bitAt}
+use Rattle.words.specs.Words.{wordBits, bitsOf}
+use Rattle.words.proofs.BitLaws.{bits-at}
+use Rattle.words.proofs.WideLaws.{bitsOf-length, at-slot}
 use Rattle.mesh.specs.declared.Degrees.{Degrees}
 use Rattle.mesh.specs.Maintenance.{View}
 use Rattle.mesh.specs.Maintenance.{zeroScore}
@@ -102,3 +106,23 @@ pub view-is :
 unfolding viewIn
 view-is st time t ask order scores members candidates outbound es em ec eo =
     λ i. record { members = em i; candidates = ec i; outbound = eo i; scores = es i; permutation = order; ask = eqb ask 1 }
+
+-- words whose bits are a flag of every slot are the set of those that have it
+pub words-are :
+    (r : List ℕ) (f : ℕ → Bool) →
+    length r ≡ 4 →
+    ((s : ℕ) → s < slotCount → eqb (bitAt r 0 s) 1 ≡ f s) →
+    bitsOf r ≡ bySlot slotCount f
+unfolding bitAt
+words-are r f z h =
+    slots-built false f slotCount slotCount (bitsOf r) (omega arith)
+    (record {
+      low = omega arith;
+      len = bitsOf-length r ∙ (let e : wordBits * length r ≡ slotCount = omega arith in e);
+      below = λ s l.
+          let e : s / wordBits ≡ 0 + s / wordBits = omega arith in
+          sym (at-slot r s (omega arith))
+          ∙ bits-at (s % wordBits) wordBits (getD r (s / wordBits) 0) (omega arith)
+          ∙ ap (λ (n : ℕ). eqb (getD r n 0 / 2 ^ (s % wordBits) % 2) 1) e
+          ∙ h s l;
+    })

@@ -14,7 +14,6 @@ ghost use Rattle.effects.specs.Lent.{AtTopic};
 ghost use Rattle.rules.specs.Step.{pastSlack, isCandidate, degreesIn, viewIn};
 ghost use Rattle.peer_score.specs.Standing.{Standing};
 ghost use Rattle.heartbeat.specs.Ready.{ScoredAt, ScoredAll};
-use effects::slots::is_member;
 use effects::slots::load_magnitude;
 use mesh::Degrees;
 use mesh::Seen;
@@ -29,11 +28,7 @@ pub fn members(table: &[u64], topic: usize) -> [u64; WORDS]
     requires { ⌜ AtTopic (now table) topic ⌝ }
     ensures { λ r. ⌜ bitsOf r ≡ bySlot slotCount (isMember (stateOf (now (table .entry))) topic) ⌝ }
 {
-    let mut r = [false; SLOTS];
-    for s in 0..SLOTS {
-        r[s] = is_member(table, topic, s);
-    }
-    pack(r)
+    layout::load_members(table, topic)
 }
 
 // The peers whose connection we opened.
@@ -41,12 +36,7 @@ pub fn outbound(table: &[u64]) -> [u64; WORDS]
     requires { ⌜ length (now table) ≡ cellCount ⌝ }
     ensures { λ r. ⌜ bitsOf r ≡ bySlot slotCount (λ s. eqb (peerIn (stateOf (now (table .entry))) s .outbound) 1) ⌝ }
 {
-    let mut r = [false; SLOTS];
-    for s in 0..SLOTS {
-        let p = layout::load_peer(table, s);
-        r[s] = p.outbound == 1;
-    }
-    pack(r)
+    layout::load_outbound(table)
 }
 
 // How long after a backoff's end we send no GRAFT of ours: the neighbour may count it from a later moment.

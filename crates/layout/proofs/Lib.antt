@@ -1,4 +1,15 @@
 pub mod RowLaws
-pub mod ViewLaws
-pub mod Whole
+pub mod DigitLaws
+pub mod BitLaws
 pub mod StateLaws
+pub mod ViewLaws
+pub mod PlaceLaws
+pub mod SlotLaws
+pub mod MarkLaws
+pub mod FitLaws
+pub mod ParamLaws
+pub mod CellLaws
+pub mod FreshLaws
+pub mod ReadLaws
+pub mod CopyLaws
+pub mod EndLaws

@@ -1,20 +1,19 @@
 -- Laws of the state alone: what each reader sees after each store, sizes, and stores that change nothing.
 -- Assumes nothing.
-use Prim.Native.Nat.{ℕ, zero, suc, _<_}
+use Prim.Native.Nat.{ℕ, zero, suc, _+_, _*_, _<_}
 use mathlib.Core.Path.{_≡_, refl, ap, _∙_}
 use mathlib.Core.Logic.{_≢_}
-use mathlib.Core.List.{List, [], _∷_, map}
-use lib.ListN.{length, getD, length-set, length-map}
+use mathlib.Core.List.{List}
+use lib.ListN.{length, getD, length-set}
 use lib.Seq.{getD-set-same, getD-set-other, set-getD}
 use Rattle.index.proofs.Lists.{set-case}
 use Rattle.records.specs.declared.Peer.{Peer}
 use Rattle.records.specs.declared.TopicRecord.{TopicRecord}
 use Rattle.records.specs.Records.{State, noPeer, noTopic, joinedIn, codeIn, peerIn, topicIn, setClock, setJoined, setPeer, setTopic}
 use Rattle.records.specs.Records.{slotCount, topicCount, paramCount}
-use Rattle.layout.specs.Rows.{rows}
-use Rattle.layout.specs.View.{joinedAt, codesAt, peersAt, peerCells, topicsAt, topicCells, placeCount, peerOf, topicOf, stateOf}
-use Rattle.layout.specs.View.{Sized}
-use Rattle.layout.proofs.RowLaws.{length-rows, length-span}
+use Rattle.layout.specs.Rows.{tab}
+use Rattle.layout.proofs.RowLaws.{length-tab}
+use Rattle.layout.specs.View.{joinedAt, endsAt, placeCount, liveAt, endsOf, peerRaw, peerAt, topicAt, codeAt, table, stateOf, Sized}
 
 module _ (st : State) where
   -- ---- the place that was stored
@@ -151,7 +150,13 @@ module _ (st : State) where
       { clock = st .clock; joined = st .joined; codes = st .codes; setup = st .setup; peers = st .peers; topics = l })
       (set-getD (st .topics) k noTopic)
 
-  -- ---- the order of two stores of different kinds does not matter
+  pub peer-again : (s : ℕ) → setPeer st s (peerIn st s) ≡ st
+  unfolding setPeer peerIn
+  peer-again s =
+      ap
+      (λ (l : List Peer). record
+      { clock = st .clock; joined = st .joined; codes = st .codes; setup = st .setup; peers = l; topics = st .topics })
+      (set-getD (st .peers) s noPeer)
 
   -- ---- sizes
 
@@ -201,22 +206,31 @@ module _ (st : State) where
         }
 
 -- a table's state has a table's sizes
-ends-length : (r : List ℕ) → length (peerOf r .backoff) ≡ 8
-unfolding peerOf
-ends-length r = refl
+ends-length : (c : List ℕ) (s : ℕ) → length (peerAt c s .backoff) ≡ topicCount
+unfolding peerAt peerRaw endsOf
+ends-length c s = length-tab topicCount (λ t. liveAt c s (endsAt + s * 8 + t))
 
-map-ends : (l : List (List ℕ)) (s : ℕ) → length (getD (map peerOf l) s noPeer .backoff) ≡ 8
-map-ends [] s = refl
-map-ends (r ∷ l) zero = ends-length r
-map-ends (r ∷ l) (suc s) = map-ends l s
+tab-ends : (n : ℕ) (f : ℕ → Peer) (s : ℕ) → ((u : ℕ) → length (f u .backoff) ≡ topicCount) → length (getD (tab n f) s noPeer .backoff)
+    ≡ topicCount
+tab-ends zero f s h = refl
+tab-ends (suc n) f zero h = h zero
+tab-ends (suc n) f (suc s) h = tab-ends n (λ k. f (suc k)) s (λ k. h (suc k))
+
+length-table : {A : Type 0} (n : ℕ) (f : ℕ → A) → length (table n f) ≡ n
+unfolding table
+length-table n f = length-tab n f
+
+table-ends : (c : List ℕ) (s : ℕ) → length (getD (table slotCount (peerAt c)) s noPeer .backoff) ≡ topicCount
+unfolding table
+table-ends c s = tab-ends slotCount (peerAt c) s (ends-length c)
 
 pub sized-of : (cells : List ℕ) → Sized (stateOf cells)
 unfolding stateOf peerIn
 sized-of cells =
     record {
-      joined = length-span cells joinedAt topicCount;
-      codes = length-span cells codesAt paramCount;
-      peers = length-map (rows cells peersAt peerCells slotCount) peerOf ∙ length-rows cells peersAt peerCells slotCount;
-      topics = length-map (rows cells topicsAt topicCells placeCount) topicOf ∙ length-rows cells topicsAt topicCells placeCount;
-      ends = map-ends (rows cells peersAt peerCells slotCount);
+      joined = length-table topicCount (λ t. getD cells (joinedAt + t) 0);
+      codes = length-table paramCount (codeAt cells);
+      peers = length-table slotCount (peerAt cells);
+      topics = length-table placeCount (topicAt cells);
+      ends = table-ends cells;
     }

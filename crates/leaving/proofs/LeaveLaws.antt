@@ -16,7 +16,7 @@ use Rattle.index.proofs.Lists.{sets-append}
 use Rattle.records.specs.declared.Peer.{Peer}
 use Rattle.records.specs.declared.TopicRecord.{TopicRecord}
 use Rattle.records.specs.Records.{State, slotCount, place, codeIn, peerIn, topicIn, setClock, setJoined, setTopic}
-use Rattle.layout.specs.View.{cellCount, stateOf}
+use Rattle.layout.specs.View.{cellCount, stateOf, TopicFits}
 use Rattle.layout.proofs.StateLaws.{peer-after-topic}
 use Rattle.validity.proofs.ValidLaws.{valid-facts}
 use Rattle.score.specs.declared.TopicParams.{TopicParams}
@@ -138,6 +138,19 @@ pub grown-then :
 unfolding grownIf
 grown-then u v f t s p r q e er ep eq ev =
     rw e (ev ∙ ap (setTopic u (place s t)) (eq ∙ ap₂ grownOf ep er))
+
+pub grown-fits : (p : TopicParams) (r q : TopicRecord) → TopicFits r → q ≡ grownOf p r → TopicFits q
+unfolding grownOf
+grown-fits p r q f e =
+    rw e (record {
+      p2 = f .p2;
+      p3 = f .p3;
+      p4 = f .p4;
+      subscribed = f .subscribed;
+      member = f .member;
+      graft = f .graft;
+      mesh = f .mesh;
+    })
 
 pub grown-else : (u : State) (f : Bool) (t s : ℕ) → f ≡ false → u ≡ grownIf f t s u
 unfolding grownIf

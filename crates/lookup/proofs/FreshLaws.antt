@@ -2,19 +2,20 @@
 -- Assumes nothing.
 use Rattle.index.proofs.Kit.{ℕ, _<_, _≤_, _≡_, refl, ap, _∙_, true, arith, by-order}
 use mathlib.Core.List.{List, map}
-use lib.ListN.{length, getD, replicate, length-replicate, getD-replicate, List·getD-eq-default}
+use lib.ListN.{length, getD, replicate, length-map, length-replicate, getD-replicate, List·getD-eq-default}
 use Rattle.index.specs.declared.Found.{Found}
 use Rattle.index.specs.declared.Found.the-variants.{At, Nothing}
 use Rattle.varint.specs.Codes.{codeOf}
 use Rattle.params.specs.declared.Params.{Params}
 use Rattle.params.specs.Editions.{editionNumber}
 use Rattle.params.specs.Check.{firstBroken}
-use Rattle.params.proofs.CheckLaws.{accepted-back}
+use Rattle.params.proofs.CheckLaws.{accepted-back, codes-pass}
 use Rattle.records.specs.Records.{State, place, noPeer, noTopic, joinedIn, peerIn, topicIn, slotCount, topicCount, paramCount}
-use Rattle.layout.specs.View.{placeCount, zeroState, setCodes, setSetup, stateOf}
+use Rattle.layout.specs.View.{placeCount, zeroState, setCodes, setSetup, stateOf, CodesFit}
 use Rattle.lookup.specs.declared.Made.the-variants.{Done, Broken}
 use Rattle.lookup.specs.Fresh.{setupOf, freshState, Makes}
 use Rattle.validity.specs.Valid.{valid}
+use Rattle.validity.proofs.SignLaws.{codes-fit}
 use Rattle.validity.proofs.ValidLaws.{Facts, no-peer, no-topic, facts-valid}
 
 -- a cleared table with the codes and the edition of the parameters is a fresh router's
@@ -30,6 +31,18 @@ filled p codes edition st u st′ a b c d e =
     ∙ ap (λ (v : State). setSetup v (record { edition = edition })) (b ∙ ap (λ (v : State). setCodes v codes) c ∙ ap (setCodes zeroState) d)
     ∙ ap (λ (n : ℕ). setSetup (setCodes zeroState (map codeOf (p .numbers))) (record { edition = n })) e
     ∙ fresh-codes p
+
+-- codes of parameters that pass the check can stand as magnitudes
+pub fresh-fit :
+    (p : Params) (codes : List ℕ) →
+    codes ≡ map codeOf (p .numbers) →
+    length (p .numbers) ≡ paramCount →
+    firstBroken p ≡ Nothing →
+    CodesFit codes
+fresh-fit p codes q l e =
+    let z : length (map codeOf (p .numbers)) ≡ paramCount = length-map (p .numbers) codeOf ∙ l in
+    let w = codes-pass (editionNumber (p .edition)) (map codeOf (p .numbers)) (accepted-back p l e) .0 in
+    rw q (codes-fit (map codeOf (p .numbers)) z w)
 
 -- ---- the ends of `fresh`
 module _ (p : Params) (table : List ℕ) (f : Found) (e : f ≡ firstBroken p) where

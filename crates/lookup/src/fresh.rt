@@ -1,6 +1,8 @@
 // The table of a fresh router. The definitions are specs/Fresh.antt.
 ghost use mathlib.Core.Path.{_≡_};
 ghost use lib.ListN.{length};
+ghost use Rattle.index.specs.declared.Found.the-variants.{Nothing};
+ghost use Rattle.params.specs.Check.{firstBroken};
 ghost use Rattle.layout.specs.View.{cellCount, stateOf};
 ghost use Rattle.lookup.specs.Fresh.{freshState, Makes};
 use crate::Made;
@@ -8,9 +10,9 @@ use index::Found;
 use params::Params;
 use records::Setup;
 
-// Writes every cell of a fresh router.
+// Writes every cell of a fresh router: parameters that pass the check have their fields' signs, and stand as magnitudes.
 fn fill(params: Params, table: &mut [u64])
-    requires { ⌜ length (now table) ≡ cellCount ⌝ }
+    requires { ⌜ (length (now table) ≡ cellCount) × (firstBroken params ≡ Nothing) ⌝ }
     ensures { λ r. ⌜ stateOf (now (table .exit)) ≡ freshState params ⌝ }
 {
     let numbers = params.numbers;

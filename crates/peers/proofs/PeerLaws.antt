@@ -1,13 +1,14 @@
 -- What the four calls come to at each of their ends.
 -- Assumes nothing.
 use Rattle.rules.proofs.ConnectLaws.{by-connect}
-use Prim.Native.Nat.{ℕ, _<_}
+use Prim.Native.Nat.{ℕ, _<_, _≤_}
 use mathlib.Core.Path.{_≡_, refl, sym, ap, ap₂, _∙_}
-use mathlib.Core.Bool.{Bool, _&&_}
+use mathlib.Core.Bool.{Bool, true, false, cond, _&&_}
 use mathlib.Core.List.{List, []}
 use lib.Dec.{leb}
-use lib.ListN.{length}
-use lib.IntN.{ℤ, natAbs}
+use lib.IntN.{ℤ, pos, negsuc, natAbs}
+use native.Mathlib.Omega.{arith}
+use borrow.Author.Tests.{leb-true}
 use mir.Val.{SFits, toZ, ofZ}
 use mir.Syntax.{w64}
 use mir.Facts.{toZ-ofZ}
@@ -15,23 +16,27 @@ use Rattle.varint.specs.Codes.{codeOf}
 use Rattle.index.specs.declared.Found.{Found}
 use Rattle.index.specs.declared.Found.the-variants.{At, Nothing}
 use Rattle.index.specs.Index.{iter}
-use Rattle.index.proofs.Index.{first-is}
+use Rattle.index.proofs.Index.{both, first-is}
 use Rattle.records.specs.declared.Groups.{Groups}
 use Rattle.records.specs.Records.{State, peerIn, isEmpty, setClock, slotCount}
-use Rattle.layout.specs.View.{cellCount, stateOf, Sized}
+use Rattle.layout.specs.View.{stateOf, Sized}
 use Rattle.layout.proofs.StateLaws.{sized-of}
-use Rattle.layout.proofs.Whole.{determined}
 use Rattle.lookup.specs.Find.{holds, findConnected, findRetained, lowestEmpty}
 use Rattle.lookup.specs.declared.Named.{Named}
 use Rattle.lookup.specs.declared.Named.the-variants.{Version, Unknown}
-use Rattle.lookup.specs.Name.{versionOf}
-use Rattle.effects.specs.Effects.{onPeer, withP5, retainSeconds, retainedTo, endAfter, leftTopic, departed, reclaimed}
-use Rattle.effects.proofs.EffectLaws.{full-stays}
+use Rattle.lookup.specs.Name.{sameBytes, meshsub, versionOf}
+use Rattle.effects.specs.Effects.{onPeer, withP5, retainSeconds, retainedTo, endAfter, leftTopic, departed, reclaimed, NoneReclaimable}
+use Rattle.effects.proofs.EffectLaws.{full-none}
+use Rattle.effects.specs.Lent.{ConnectFits}
+use Rattle.gate.proofs.CallLaws.{gate-fine}
+use Rattle.rules.specs.declared.Gate.{Gate}
+use Rattle.rules.specs.declared.Gate.the-variants.{Pass}
+use Rattle.peers.specs.Tested.{NumbersFit}
 use Rattle.rules.specs.declared.Answer.{Answer}
 use Rattle.rules.specs.declared.Answer.the-variants.{Done, NoSlot, UnknownProtocol, AlreadyConnected}
 use Rattle.rules.specs.Reply.{Reply, done}
 use Rattle.rules.specs.Calls.{connect, disconnect, rate, score, idOk, groupsOk, groupsOf}
-use Rattle.rules.specs.Step.{effect, connectAt, connectIn, connectReply}
+use Rattle.rules.specs.Step.{gateOf, effect, connectAt, connectIn, connectReply}
 use Rattle.rules.specs.Promise.{Leaves}
 use Rattle.rules.proofs.PromiseLaws.{leaves-moved, leaves-refused}
 use Rattle.rules.proofs.EndLaws.{leaves-done, quiet-peer}
@@ -117,9 +122,9 @@ pub empty-below : (st : State) (s : ℕ) (r : Found) → r ≡ lowestEmpty st �
 unfolding lowestEmpty
 empty-below st s r e g = first-is (λ i. isEmpty (peerIn st i)) slotCount s (sym e ∙ g) .0
 
-full-as : (st : State) (time : ℕ) → Sized st → lowestEmpty (reclaimed st time) ≡ Nothing → reclaimed st time ≡ st
+full-as : (st : State) (time : ℕ) → Sized st → lowestEmpty (reclaimed st time) ≡ Nothing → NoneReclaimable st time
 unfolding lowestEmpty
-full-as st time size e = full-stays st time size e
+full-as st time size e = full-none st time size e
 
 module _ (table mid : List ℕ) (time id : ℕ) (groups : Groups) (flags version : ℕ) (e : stateOf mid ≡ reclaimed (stateOf table) time) where
   abbrev known : Reply
@@ -153,15 +158,18 @@ module _ (table mid : List ℕ) (time id : ℕ) (groups : Groups) (flags version
 
       -- nothing empty after reclaiming: nothing was reclaimed, and no cell changed
       pub connect-full :
-          length table ≡ cellCount →
-          length mid ≡ cellCount →
+          (NoneReclaimable (stateOf table) time → mid ≡ table) →
           f ≡ Nothing →
           Leaves known NoSlot table mid
       unfolding connectIn
-      connect-full lt lm g =
-          let m : mid ≡ table =
-          determined mid table lm lt (e ∙ full-as (stateOf table) time (sized-of table) (sym (ap lowestEmpty e) ∙ sym q ∙ g)) in
-          rw (← e, ← p, n, ← q, g) (record { answer = refl; state = ap stateOf m; kept = λ _. m })
+      connect-full still g =
+          let m : mid ≡ table = still (full-as (stateOf table) time (sized-of table) (sym (ap lowestEmpty e) ∙ sym q ∙ g)) in
+          rw (← e, ← p, n, ← q, g) (record {
+            answer = refl;
+            state = ap stateOf m;
+            kept = λ _. m;
+            clock = λ z. let y : _≡_ {A = ℕ} 0 1 = cc in absurd (omega arith);
+          })
 
 -- ---- connect: tests 6 and 4
 
@@ -186,6 +194,49 @@ module _ (table name : List ℕ) (time id : ℕ) (groups : Groups) (flags : ℕ)
         Leaves reply a table table′
     unfolding connectReply
     connect-new a table′ held h k l = rw (← e, g, ← p, h, ← k) l
+
+-- ---- what test 2 leaves of the arguments
+
+version-cases : (a b : Bool) (v : ℕ) → cond a (Version 0) (cond b (Version 1) Unknown) ≡ Version v → v ≤ 3
+version-cases true b v e = let z : 0 ≡ v = cc in omega arith
+version-cases false true v e = let z : 1 ≡ v = cc in omega arith
+version-cases false false v e = let z : _≡_ {A = ℕ} 0 1 = cc in absurd (omega arith)
+
+version-most : (name : List ℕ) (n : Named) (v : ℕ) → n ≡ versionOf name → n ≡ Version v → v ≤ 3
+unfolding versionOf
+version-most name n v e g = version-cases (sameBytes name (meshsub 48)) (sameBytes name (meshsub 49)) v (sym e ∙ g)
+
+pub version-fits :
+    (name : List ℕ) (n : Named) (flags version : ℕ) → n ≡ versionOf name → n ≡ Version version → flags ≤ 3 → ConnectFits flags version
+version-fits name n flags version e g f = record { flags = f; version = version-most name n version e g }
+
+pub tested-flags :
+    (table : List ℕ) (a b d : Bool) (room time : ℕ) (g : Gate) (flags : ℕ) →
+    g ≡ gateOf (stateOf table) (a && (b && (d && leb flags 3))) room time →
+    g ≡ Pass →
+    flags ≤ 3
+tested-flags table a b d room time g flags eg e =
+    let t = both b (d && leb flags 3) (gate-fine table a _ room time g eg e) in
+    leb-true flags 3 (both d (leb flags 3) (t .1) .1)
+
+pub tested-p5 :
+    (table : List ℕ) (a b d : Bool) (room time : ℕ) (g : Gate) (x : ℕ) →
+    g ≡ gateOf (stateOf table) (a && (b && d)) room time →
+    g ≡ Pass →
+    d ≡ leb x 1000000000 →
+    x ≤ 1000000000
+tested-p5 table a b d room time g x eg e q =
+    leb-true x 1000000000 (sym q ∙ both b d (gate-fine table a (b && d) room time g eg e) .1)
+
+code-most : (x : ℤ) → natAbs x ≤ 1000000000 → codeOf x < 4294967296
+code-most (pos n) h = omega arith
+code-most (negsuc n) h = omega arith
+
+pub rated-fits : (code : ℕ) (p5 : ℤ) → SFits w64 p5 → code ≡ codeOf (toZ w64 (ofZ w64 p5)) → natAbs p5 ≤ 1000000000 → code < 4294967296
+rated-fits code p5 f e h =
+    let l = code-most p5 h in
+    let q : code ≡ codeOf p5 = rw (toZ-ofZ f) at e in
+    omega arith
 
 -- ---- connect gives no action
 

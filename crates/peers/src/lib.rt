@@ -2,7 +2,7 @@
 // a lent action list, asks nothing of its caller, and promises the rules' reply (crate rules).
 ghost use mathlib.Core.Path.{_≡_};
 ghost use mathlib.Core.Bool.{true};
-ghost use Prim.Native.Nat.{_<_};
+ghost use Prim.Native.Nat.{_≤_, _<_};
 ghost use lib.Dec.{leb};
 ghost use lib.ListN.{length};
 ghost use Rattle.index.specs.Index.{every};
@@ -13,7 +13,7 @@ ghost use Rattle.rules.specs.Calls.{groupOk, groupsOk, groupAt, groupsOf};
 ghost use Rattle.rules.specs.Calls.{rate as Calls·rate, score as Calls·score};
 ghost use Rattle.rules.specs.Step.{effect, connectIn, connectAt, connectReply};
 ghost use Rattle.effects.specs.Effects.{reclaimed};
-ghost use Rattle.effects.specs.Lent.{AtSlot};
+ghost use Rattle.effects.specs.Lent.{AtSlot, ConnectFits};
 ghost use Rattle.rules.specs.Promise.{Leaves, Follows};
 ghost use Rattle.gate.specs.Ready.{Ready};
 use effects::connections::connect_slot;
@@ -104,7 +104,7 @@ fn connect_at(
     version: u64,
     slot: usize,
 ) -> Answer
-    requires { ⌜ AtSlot (now table) slot ⌝ }
+    requires { ⌜ AtSlot (now table) slot × ConnectFits flags version ⌝ }
     ensures { λ r. ⌜ Leaves (connectAt (stateOf (now (table .entry))) time id groups flags version slot) r
         (now (table .entry)) (now (table .exit)) ⌝ }
 {
@@ -121,7 +121,7 @@ fn connect_known(
     flags: u64,
     version: u64,
 ) -> Answer
-    requires { ⌜ Ready (now table) time ⌝ }
+    requires { ⌜ Ready (now table) time × ConnectFits flags version ⌝ }
     ensures { λ r. ⌜ Leaves
         (connectIn (stateOf (now (table .entry))) (reclaimed (stateOf (now (table .entry))) time) time id groups flags
         (Named.Version version) Found.Nothing) r
@@ -146,7 +146,7 @@ fn connect_from(
     flags: u64,
     name: &[u8],
 ) -> Answer
-    requires { ⌜ Ready (now table) time × (groupsOk (now groups) ≡ true) ⌝ }
+    requires { ⌜ Ready (now table) time × (groupsOk (now groups) ≡ true) × (flags ≤ 3) ⌝ }
     ensures { λ r. ⌜ Leaves
         (connectReply (stateOf (now (table .entry))) time id (groupsOf (now (groups .entry))) flags (now (name .entry))) r
         (now (table .entry)) (now (table .exit)) ⌝ }
@@ -216,7 +216,7 @@ fn p5_ok(p5: i64) -> bool
 }
 
 fn rate_from(table: &mut [u64], time: u64, id: u64, p5: i64) -> Answer
-    requires { ⌜ Ready (now table) time ⌝ }
+    requires { ⌜ Ready (now table) time × (natAbs p5 ≤ 1000000000) ⌝ }
     ensures { λ r. ⌜ Leaves (effect (stateOf (now (table .entry))) (Calls·rate time id p5)) r
         (now (table .entry)) (now (table .exit)) ⌝ }
 {

@@ -1,5 +1,5 @@
 -- Demand 1: every reply behind the gate is a refusal, an `ignored` or a `done`, and each of the three is so by its definition; of the
--- program, what a promise fixes of the state fixes every cell.
+-- program, a promise says it of every cell.
 -- Assumes nothing.
 use Rattle.rules.proofs.ConnectLaws.{by-connect}
 use Rattle.records.specs.declared.Peer.{Peer}
@@ -10,16 +10,14 @@ use mathlib.Core.Logic.{_≢_}
 use mathlib.Core.Bool.{Bool, true, false, cond}
 use mathlib.Core.List.{List, []}
 use lib.Dec.{leb}
-use lib.ListN.{length, set, length-set}
+use lib.ListN.{length, set}
 use lib.Seq.{sets}
 use Rattle.index.specs.declared.Found.{Found}
 use Rattle.index.specs.declared.Found.the-variants.{At, Nothing}
 use Rattle.index.proofs.Flags.{cond-case}
 use Rattle.records.specs.declared.Groups.{Groups}
 use Rattle.records.specs.Records.{State, slotCount, setClock}
-use Rattle.layout.specs.View.{stateOf, cellCount}
-use Rattle.layout.proofs.Whole.{determined}
-use Rattle.layout.proofs.ViewLaws.{clock-store}
+use Rattle.layout.specs.View.{clockAt, stateOf}
 use Rattle.validity.specs.Valid.{valid}
 use Rattle.lookup.specs.Find.{findConnected}
 use Rattle.sets.specs.Sets.{isPermutation}
@@ -145,6 +143,24 @@ refuses-by ListShort x y = refl
 refuses-by Ignored x y = absurd (y refl)
 refuses-by NotRouter x y = refl
 
+is-ignored : (r : Answer) → numberOf r ≡ 11 → r ≡ Ignored
+is-ignored (Done n) e = absurd (omega arith)
+is-ignored (Scored w) e = absurd (omega arith)
+is-ignored Early e = absurd (omega arith)
+is-ignored OutOfRange e = absurd (omega arith)
+is-ignored NotConnected e = absurd (omega arith)
+is-ignored AlreadyConnected e = absurd (omega arith)
+is-ignored NoSlot e = absurd (omega arith)
+is-ignored UnknownProtocol e = absurd (omega arith)
+is-ignored NotPermutation e = absurd (omega arith)
+is-ignored ListShort e = absurd (omega arith)
+is-ignored Ignored e = refl
+is-ignored NotRouter e = absurd (omega arith)
+
+clock-set : (st : State) (time : ℕ) → setClock st time .clock ≡ time
+unfolding setClock
+clock-set st time = refl
+
 same-list : (list list′ : List ℕ) (acts : List Action) → list′ ≡ sets list 0 (numbersOf acts) → acts ≡ [] → list′ ≡ list
 unfolding numbersOf
 same-list list list′ acts e z = e ∙ rw z
@@ -160,12 +176,13 @@ program-demand1 c r table table′ list list′ f =
           (f .leaves .kept (refuses-by r x y), same-list list list′ (o .actions) (f .actions) (w .1));
       ignored = λ e.
           let w = u .ignored (sym n ∙ e) in
-          (λ l l′. moved (w .0) l (omega (arith, l′)), same-list list list′ (o .actions) (f .actions) (w .1));
+          (moved (w .0) e, same-list list list′ (o .actions) (f .actions) (w .1));
     }
   where
     moved :
-        step (stateOf table) c (length list) .state ≡ setClock (stateOf table) (timeOf c) → length table ≡ cellCount →
-        length table′ ≡ cellCount → table′ ≡ set table 0 (timeOf c)
-    moved e l l′ =
-        determined table′ (set table 0 (timeOf c)) l′ (length-set table 0 (timeOf c) ∙ l)
-        (f .leaves .state ∙ e ∙ sym (clock-store table l (timeOf c)))
+        step (stateOf table) c (length list) .state ≡ setClock (stateOf table) (timeOf c) →
+        numberOf r ≡ 11 →
+        table′ ≡ set table clockAt (timeOf c)
+    moved e n =
+        f .leaves .clock (is-ignored r n)
+        ∙ ap (set table clockAt) (ap (λ (u : State). u .clock) e ∙ clock-set (stateOf table) (timeOf c))

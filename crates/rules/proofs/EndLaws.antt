@@ -1,18 +1,19 @@
 -- The ends of a call in which only the clock moves, or which are 0 with no action; and which replies have no action.
 -- Assumes nothing.
 use Prim.Native.Nat.{ℕ}
-use mathlib.Core.Path.{_≡_, refl, ap, _∙_}
-use mathlib.Core.Bool.{Bool, cond}
+use mathlib.Core.Path.{_≡_, refl, sym, ap, _∙_}
+use mathlib.Core.Bool.{Bool, cond, false≢true}
 use mathlib.Core.List.{List, []}
 use Rattle.index.specs.declared.Found.{Found}
 use Rattle.index.specs.declared.Found.the-variants.{At, Nothing}
 use Rattle.index.proofs.Flags.{cond-case}
 use Rattle.records.specs.Records.{State, setClock}
-use Rattle.layout.specs.View.{stateOf}
+use lib.ListN.{set}
+use Rattle.layout.specs.View.{clockAt, stateOf}
 use Rattle.lookup.specs.Find.{findConnected}
 use Rattle.rules.specs.declared.Answer.{Answer}
 use Rattle.rules.specs.declared.Answer.the-variants.{Done, Ignored}
-use Rattle.rules.specs.Reply.{Reply, ignored, done}
+use Rattle.rules.specs.Reply.{Reply, refuses, ignored, done}
 use Rattle.rules.specs.Step.{ofPeer, onFound}
 use Rattle.rules.specs.Promise.{Leaves, Gives}
 use Rattle.rules.proofs.PromiseLaws.{leaves-moved, gives-quiet}
@@ -20,9 +21,16 @@ use Rattle.rules.proofs.PromiseLaws.{leaves-moved, gives-quiet}
 -- 11
 pub leaves-ignored :
     (table table′ : List ℕ) (time : ℕ) (a : Answer) →
-    (a ≡ Ignored) × (stateOf table′ ≡ setClock (stateOf table) time) →
+    (a ≡ Ignored) × (stateOf table′ ≡ setClock (stateOf table) time) × (table′ ≡ set table clockAt time) →
     Leaves (ignored (stateOf table) time) a table table′
-leaves-ignored table table′ time a h = leaves-moved (ignored (stateOf table) time) a table table′ (h .0) refl (h .1)
+unfolding setClock
+leaves-ignored table table′ time a h =
+    record {
+      answer = h .0;
+      state = h .1;
+      kept = λ e. absurd (false≢true (sym (ap refuses (h .0)) ∙ e));
+      clock = λ e. h .2;
+    }
 
 -- 0: the state is u, in the table `mid`, and then the clock moved
 pub leaves-done :
@@ -36,7 +44,7 @@ leaves-done table mid table′ u time a e h =
 -- the same with the lent list
 pub gives-ignored :
     (table table′ list : List ℕ) (time : ℕ) (a : Answer) →
-    (a ≡ Ignored) × (stateOf table′ ≡ setClock (stateOf table) time) →
+    (a ≡ Ignored) × (stateOf table′ ≡ setClock (stateOf table) time) × (table′ ≡ set table clockAt time) →
     Gives (ignored (stateOf table) time) a table table′ list list
 gives-ignored table table′ list time a h = gives-quiet _ a table table′ list refl (leaves-ignored table table′ time a h)
 

@@ -2,40 +2,53 @@
 -- Assumes nothing.
 use Prim.Native.Nat.{ℕ}
 use mathlib.Core.Path.{_≡_, refl, sym, ap, _∙_}
-use mathlib.Core.Bool.{true, false}
+use mathlib.Core.Bool.{true, false≢true}
 use mathlib.Core.List.{List, []}
-use native.Mathlib.Omega.{arith}
 use lib.ListN.{length}
 use Rattle.layout.specs.View.{stateOf}
+use Rattle.layout.proofs.ViewLaws.{clock-again}
 use Rattle.effects.specs.Actions.{numbersOf}
 use Rattle.rules.specs.declared.Answer.{Answer}
+use Rattle.rules.specs.declared.Answer.the-variants.{Done, Scored, Early, OutOfRange, NotConnected, AlreadyConnected, NoSlot}
+use Rattle.rules.specs.declared.Answer.the-variants.{UnknownProtocol, NotPermutation, ListShort, Ignored, NotRouter}
 use Rattle.rules.specs.declared.Gate.the-variants.{Pass, Refuse}
-use Rattle.rules.specs.Reply.{Reply, refuses, refused}
+use Rattle.rules.specs.Reply.{Reply, refuses, changes, refused}
 use Rattle.rules.specs.Calls.{Call, timeOf, inRange}
 use Rattle.rules.specs.Step.{gateOf, effect, step}
 use Rattle.rules.specs.Promise.{Leaves, Gives, Follows}
 
--- an answer that is no refusal: table and clock are the rules'
+no-refusal : (r : Answer) → changes r ≡ true → refuses r ≡ true → ⊥
+no-refusal (Done n) e f = false≢true f
+no-refusal (Scored w) e f = false≢true f
+no-refusal Early e f = false≢true e
+no-refusal OutOfRange e f = false≢true e
+no-refusal NotConnected e f = false≢true e
+no-refusal AlreadyConnected e f = false≢true e
+no-refusal NoSlot e f = false≢true e
+no-refusal UnknownProtocol e f = false≢true e
+no-refusal NotPermutation e f = false≢true e
+no-refusal ListShort e f = false≢true e
+no-refusal Ignored e f = false≢true e
+no-refusal NotRouter e f = false≢true e
+
+-- 0: the state is the rules'
 pub leaves-moved :
     (o : Reply) (r : Answer) (table table′ : List ℕ) →
     r ≡ o .answer →
-    refuses (o .answer) ≡ false →
+    changes (o .answer) ≡ true →
     stateOf table′ ≡ o .state →
     Leaves o r table table′
 leaves-moved o r table table′ a n s =
     record {
       answer = a;
       state = s;
-      kept =
-          λ e.
-          let z : true ≡ false = sym e ∙ ap refuses a ∙ n in
-          let y : _≡_ {A = ℕ} 0 1 = cc in
-          absurd (omega arith);
+      kept = λ e. absurd (no-refusal r (ap changes a ∙ n) e);
+      clock = λ e. absurd (false≢true (sym (ap changes e) ∙ ap changes a ∙ n));
     }
 
 -- a refusal
 pub leaves-refused : (a : Answer) (table : List ℕ) → Leaves (refused a (stateOf table)) a table table
-leaves-refused a table = record { answer = refl; state = refl; kept = λ e. refl }
+leaves-refused a table = record { answer = refl; state = refl; kept = λ e. refl; clock = λ e. sym (clock-again table) }
 
 -- no action: the lent list is as it was
 pub gives-quiet :

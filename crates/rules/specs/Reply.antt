@@ -54,6 +54,21 @@ refuses ListShort = true
 refuses Ignored = false
 refuses NotRouter = true
 
+-- the answers that change more: 0
+abbrev pub changes : Answer → Bool
+changes (Done n) = true
+changes (Scored w) = true
+changes Early = false
+changes OutOfRange = false
+changes NotConnected = false
+changes AlreadyConnected = false
+changes NoSlot = false
+changes UnknownProtocol = false
+changes NotPermutation = false
+changes ListShort = false
+changes Ignored = false
+changes NotRouter = false
+
 pub record Reply : Type 0 where
   pub answer : Answer
   pub state : State

@@ -4,10 +4,10 @@ use Prim.Native.Nat.{ℕ}
 use mathlib.Core.Path.{_≡_, refl, ap, ap₂, _∙_}
 use mathlib.Core.Bool.{Bool, true, false, cond, _&&_}
 use mathlib.Core.List.{List, []}
-use lib.ListN.{length}
+use lib.ListN.{length, set}
 use Rattle.index.proofs.Flags.{yes, no}
 use Rattle.records.specs.Records.{State, setClock, setJoined}
-use Rattle.layout.specs.View.{stateOf}
+use Rattle.layout.specs.View.{clockAt, stateOf}
 use Rattle.effects.specs.Effects.{isJoined, onTopic, withSubscribed, outOfMesh}
 use Rattle.rules.specs.declared.Answer.{Answer}
 use Rattle.rules.specs.declared.Answer.the-variants.{Done, Ignored}
@@ -24,7 +24,8 @@ use Rattle.topics.specs.Change.{change, changed, changeReply}
 -- "11 if t, else 0": t is the rule's test, and f what the code computed of it
 module _ (table mid table′ : List ℕ) (u : State) (time : ℕ) (t f : Bool) (a : Answer) (e : f ≡ t) where
   pub else-ignored :
-      f ≡ true → (a ≡ Ignored) × (stateOf table′ ≡ setClock (stateOf table) time) →
+      f ≡ true →
+      (a ≡ Ignored) × (stateOf table′ ≡ setClock (stateOf table) time) × (table′ ≡ set table clockAt time) →
       Leaves (cond t (ignored (stateOf table) time) (done u time [])) a table table′
   else-ignored g h = rw (yes e g) (leaves-ignored table table′ time a h)
 

@@ -4,3 +4,6 @@ pub mod ValidLaws
 pub mod OrderLaws
 pub mod IdLaws
 pub mod Keeps
+pub mod SignLaws
+pub mod FitLaws
+pub mod RestLaws

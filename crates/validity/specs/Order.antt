@@ -1,6 +1,6 @@
 -- The parts of test 12's tests of a topic record in the order in which the code asks them, and what its walks rely on. No rule stands here:
 -- each test is a part of a definition of Valid.antt, and together they are `topicOk` (proofs/OrderLaws.antt).
-use Prim.Native.Nat.{ℕ, _/_, _%_, _^_, _<_}
+use Prim.Native.Nat.{ℕ, _/_, _%_, _^_, _≤_, _<_}
 use mathlib.Core.Path.{_≡_}
 use mathlib.Core.Bool.{Bool, true, _&&_}
 use mathlib.Core.List.{List}
@@ -9,7 +9,7 @@ use lib.Dec.{eqb, leb}
 use lib.ListN.{length, getD, set}
 use Rattle.records.specs.declared.TopicRecord.{TopicRecord}
 use Rattle.records.specs.Records.{State, slotCount, topicCount, place, peerIn, topicIn}
-use Rattle.layout.specs.View.{cellCount, stateOf}
+use Rattle.layout.specs.View.{cellCount, stateOf, EmptyFrom}
 use Rattle.validity.specs.Valid.{maxTime, maxEnd, endsUpTo, zeroTopic, emptyTopicOk, outsideOk, retainedOk, memberOk, timesOk, cap2}
 use Rattle.validity.specs.Valid.{cap3}
 
@@ -70,3 +70,9 @@ pub record Seeing (table seen : List ℕ) (s : ℕ) : Type 0 where
   pub cells : length table ≡ cellCount
   pub slot : s < slotCount
   pub marks : Seen (stateOf table) seen s
+
+-- a table, and a slot from which on its records are empty: test 12 looks no further
+pub record UpTo (table : List ℕ) (end : ℕ) : Type 0 where
+  pub size : length table ≡ cellCount
+  pub low : end ≤ slotCount
+  pub empty : EmptyFrom (stateOf table) end

@@ -7,9 +7,8 @@ ghost use lib.ListN.{length};
 ghost use Rattle.index.specs.Index.{every};
 ghost use Rattle.records.specs.Records.{slotCount};
 ghost use Rattle.layout.specs.View.{stateOf, cellCount};
-ghost use Rattle.validity.specs.Order.{wordBits, bucketCount, isMarked, marked, Seen, Seeing};
+ghost use Rattle.validity.specs.Order.{wordBits, bucketCount, isMarked, marked, Seen, Seeing, UpTo};
 ghost use Rattle.validity.specs.Valid.{apart, newId};
-use records::SLOTS;
 
 // How many buckets there are, in words of a bit for each. Any number will do; a power of two is divided by at no cost.
 const BUCKETS: u64 = 8192;
@@ -19,7 +18,7 @@ const WORD_BITS: u64 = 64;
 const WORDS: usize = 128;
 
 // Whether two ids differ, or are none.
-fn apart(a: u64, b: u64) -> bool
+pub fn apart(a: u64, b: u64) -> bool
     ensures { λ r. ⌜ r ≡ apart a b ⌝ }
 {
     !((b == a) & !(a == 0))
@@ -100,14 +99,14 @@ fn next_new(table: &[u64], seen: &mut [u64; WORDS], slot: usize) -> bool
     new_where(known, table, slot)
 }
 
-// Whether no id stands twice.
-pub fn ids_distinct(table: &[u64]) -> bool
-    requires { ⌜ length (now table) ≡ cellCount ⌝ }
+// Whether no id stands twice, where every record from `end` on is empty.
+pub fn ids_distinct(table: &[u64], end: usize) -> bool
+    requires { ⌜ UpTo (now table) end ⌝ }
     ensures { λ r. ⌜ r ≡ every slotCount (newId (stateOf (now (table .entry)))) ⌝ }
 {
     let mut seen: [u64; WORDS] = [0; WORDS];
     let mut slot: usize = 0;
-    while slot < SLOTS {
+    while slot < end {
         if !next_new(table, &mut seen, slot) {
             return false;
         }

@@ -7,16 +7,17 @@ ghost use Prim.Native.Nat.{ℕ, _+_, _<_, _≤_};
 ghost use lib.ListN.{length, getD};
 ghost use lib.Dec.{leb};
 ghost use Rattle.index.specs.Index.{every};
+ghost use Rattle.params.specs.Check.{acceptedCodes};
 ghost use Rattle.records.specs.Records.{peerIn, slotCount, topicCount};
 ghost use Rattle.layout.specs.View.{stateOf, cellCount};
-ghost use Rattle.validity.specs.Order.{counterRanges, flagRanges, restOk, smallOk, Small, zeroTopicAt, Caps};
+ghost use Rattle.validity.specs.Order.{counterRanges, flagRanges, restOk, smallOk, Small, zeroTopicAt, Caps, UpTo};
 ghost use Rattle.validity.specs.Valid.{maxTime, maxEnd, risingOk, peerRanges, endsUpTo, zeroGroups, zeroPeer, peerOk, zeroTopic};
 ghost use Rattle.validity.specs.Valid.{memberOk, topicOk};
 ghost use Rattle.validity.specs.Valid.{topicParam, joinedOk, topicOkAt, slotOk, valid};
 use crate::ids::ids_distinct;
+use layout::PARAMS;
 use records::Groups;
 use records::Peer;
-use records::SLOTS;
 use records::TOPICS;
 use records::TopicRecord;
 use records::param;
@@ -31,6 +32,9 @@ pub const MAX_RETAIN: u64 = 1099598027776;
 pub const MAX_ID: u64 = 4294967295;
 
 const MAX_GROUP: u64 = MAX_ID + 1;
+
+// The greatest magnitude of a parameter.
+const MAX_SIZE: u64 = 1000000000;
 
 // Where the numbers of topic 0 begin among the parameters, how many each topic has, and which of them are the caps of P2 and P3.
 const TOPIC_PARAMS: usize = 19;
@@ -114,7 +118,7 @@ fn connected_ok(p: Peer) -> bool
 }
 
 // Any record.
-fn peer_ok(p: Peer) -> bool
+pub fn peer_ok(p: Peer) -> bool
     ensures { λ r. ⌜ r ≡ peerOk p ⌝ }
 {
     let ranges = peer_ranges(p);
@@ -201,7 +205,7 @@ fn rest_ok(status: u64, explicit: u64, joined: u64, clock: u64, t: TopicRecord) 
 }
 
 // Any record for a topic.
-fn topic_ok(
+pub fn topic_ok(
     status: u64,
     explicit: u64,
     joined: u64,
@@ -254,7 +258,7 @@ fn topic_param(table: &[u64], t: usize, j: usize) -> u64
     requires { ⌜ (length (now table) ≡ cellCount) × ((t < topicCount) × (j < 16)) ⌝ }
     ensures { λ r. ⌜ r ≡ topicParam (stateOf (now (table .entry))) t j ⌝ }
 {
-    varint::magnitude(layout::load_code(table, TOPIC_PARAMS + PER_TOPIC * t + j))
+    layout::load_magnitude(table, TOPIC_PARAMS + PER_TOPIC * t + j)
 }
 
 fn topic_at(table: &[u64], slot: usize, status: u64, explicit: u64, t: usize) -> bool
@@ -415,14 +419,15 @@ fn slot_ok(table: &[u64], caps2: &[u64; TOPICS], caps3: &[u64; TOPICS], slot: us
     other_slot(table, slot)
 }
 
-fn slots_ok(table: &[u64]) -> bool
-    requires { ⌜ (length (now table) ≡ cellCount) × (stateOf (now table) .clock ≤ maxTime) ⌝ }
+// The slots up to `end`, from which on every record is empty.
+fn slots_ok(table: &[u64], end: usize) -> bool
+    requires { ⌜ UpTo (now table) end × (stateOf (now table) .clock ≤ maxTime) ⌝ }
     ensures { λ r. ⌜ r ≡ every slotCount (slotOk (stateOf (now (table .entry)))) ⌝ }
 {
     let caps2 = caps(table, param::P2_CAP);
     let caps3 = caps(table, param::P3_CAP);
     let mut slot: usize = 0;
-    while slot < SLOTS {
+    while slot < end {
         if !slot_ok(table, &caps2, &caps3, slot) {
             return false;
         }
@@ -451,6 +456,24 @@ fn joined_ok(table: &[u64]) -> bool
     ok
 }
 
+// Whether the parameters pass the check. No magnitude above the greatest limit is one of theirs.
+fn params_ok(table: &[u64]) -> bool
+    requires { ⌜ length (now table) ≡ cellCount ⌝ }
+    ensures { λ r. ⌜ r ≡ acceptedCodes (stateOf (now (table .entry)) .setup .edition) (stateOf (now (table .entry)) .codes) ⌝ }
+{
+    let setup = layout::load_setup(table);
+    let mut codes = [0u64; PARAMS];
+    let mut i: usize = 0;
+    while i < PARAMS {
+        if MAX_SIZE < layout::load_magnitude(table, i) {
+            return false;
+        }
+        codes[i] = layout::load_code(table, i);
+        i += 1;
+    }
+    params::accepts_codes(setup.edition, &codes)
+}
+
 // Whether a table is a router's.
 pub fn is_router(table: &[u64]) -> bool
     requires { ⌜ length (now table) ≡ cellCount ⌝ }
@@ -459,10 +482,10 @@ pub fn is_router(table: &[u64]) -> bool
     if MAX_TIME < layout::load_clock(table) {
         return false;
     }
-    let setup = layout::load_setup(table);
-    let params = params::accepts_codes(setup.edition, layout::codes(table));
+    let params = params_ok(table);
     let joined = joined_ok(table);
-    let slots = slots_ok(table);
-    let ids = ids_distinct(table);
+    let end = layout::records_end(table);
+    let slots = slots_ok(table, end);
+    let ids = ids_distinct(table, end);
     params & joined & slots & ids
 }

@@ -1,13 +1,14 @@
 -- `deliveries::deliver_reply`: heard by what was seen, the record that was seen is credited; else 11.
 -- Assumes nothing.
 use mathlib.Core.Path.{ap, _∙_}
+use native.Mathlib.Omega.{arith}
 use borrow.Author.Needs.{needs}
 use Rattle.rules.specs.declared.Seen.{Seen}
 use Rattle.rules.specs.Step.{deliverReply}
 use Rattle.rules.proofs.StepLaws.{leaves-then, leaves-else}
 use Rattle.rules.proofs.EndLaws.{leaves-ignored, leaves-done}
 use Rattle.gate.proofs.StandingLaws.{heard-is}
-use Rattle.deliveries.proofs.DeliverLaws.{slot-delivered}
+use Rattle.deliveries.proofs.DeliverLaws.{slot-delivered, credited-fits}
 use Rattle.deliveries.proofs.deliver_reply.Statement.{statement}
 use Rattle.deliveries.proofs.deliver_reply.Tie as tie
 
@@ -36,6 +37,21 @@ returns c =
     (stored .store-topic .ensures) in
     search (leaves-then, leaves-done)
 
+store-topic-requires : tie.Need-store-topic-requires
+store-topic-requires c κs =
+    let loaded = c .before .before in
+    let seen = loaded .before .before .before .before in
+    let pre = seen .before .before .before .pre in
+    let s = pre .slot in
+    let t = pre .topic in (
+      pre .ready .standing .size,
+      (
+        omega arith,
+        credited-fits _ _ _ _ _ _ _ (pre .ready .standing .router) (pre .topic) (pre .slot)
+            (ap (λ (v : Seen). v .topic) (seen .see .ensures)) (loaded .load-params .ensures) (c .credited .ensures),
+      ),
+    )
+
 pub deliver-reply-spec : {M : Type 1} → statement M
 unfolding deliverReply
 deliver-reply-spec =
@@ -47,7 +63,7 @@ deliver-reply-spec =
     (λ c. search needs)
     (λ c. search needs)
     (λ c κs. search needs)
-    (λ c κs. search needs)
+    store-topic-requires
     finish-requires
     (λ c. search needs)
     returns

@@ -92,7 +92,7 @@ returns c =
     let w = z .before .before .before .before in
     let a = w .before .before .before .before .before .before in
     maintained-gives _ _ _ _ _ _ _ _ _ _ _ (computed (a .before)) _ _ _ _ _ _ (sized-of _) (a .tell-all .ensures) (w .settle .ensures)
-    (z .store-clock .ensures)
+    (z .store-clock .ensures .0)
 
 pub maintain-topic-spec : {M : Type 1} → statement M
 maintain-topic-spec =

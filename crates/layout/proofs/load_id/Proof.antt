@@ -1,7 +1,5 @@
-use mathlib.Core.Path.{ap}
 use borrow.Author.Needs.{needs}
-use Rattle.records.specs.declared.Peer.{Peer}
-use Rattle.layout.proofs.ViewLaws.{peer-load}
+use Rattle.layout.proofs.ReadLaws.{id-load}
 use Rattle.layout.proofs.load_id.Statement.{statement}
 use Rattle.layout.proofs.load_id.Tie as tie
 
@@ -10,8 +8,5 @@ load-id-spec =
     tie.close
     (tie.spec
     (λ c. search needs)
-    (λ c. search needs)
-    (λ c. search needs)
-    (λ c. search needs)
-    (λ c. search needs)
-    (λ c. ap (λ (r : Peer). r .id) (peer-load (c .before .args .cells .now) (c .before .args .slot) (c .before .pre .1))))
+    (λ c κs. search needs)
+    (λ c. let s = c .before .before in id-load (s .args .cells .now) (s .args .slot) (s .pre .1) _ (c .live .ensures)))

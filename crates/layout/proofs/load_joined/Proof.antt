@@ -13,7 +13,8 @@ shared-slice-read-result : tie.Need-shared-slice-read-result
 shared-slice-read-result c = search needs
 
 returns : tie.Need-returns
-returns c = joined-load (c .before .args .cells .now) (c .before .args .t) (c .before .pre .1)
+returns c =
+    joined-load (c .before .args .cells .now) (c .before .args .t) (c .before .pre .1)
 
 pub load-joined-spec : {M : Type 1} → statement M
 load-joined-spec = tie.close (tie.spec add-result mul-result shared-slice-read-result returns)

@@ -1,7 +1,6 @@
-use mathlib.Core.Path.{ap}
 use borrow.Author.Needs.{needs}
-use Rattle.records.specs.declared.TopicRecord.{TopicRecord}
-use Rattle.layout.proofs.ViewLaws.{topic-load}
+use mathlib.Core.Path.{_∙_, sym}
+use Rattle.layout.proofs.CellLaws.{bits-are}
 use Rattle.layout.proofs.load_member.Statement.{statement}
 use Rattle.layout.proofs.load_member.Tie as tie
 
@@ -11,7 +10,7 @@ load-member-spec =
     (tie.spec
     (λ c. search needs)
     (λ c. search needs)
-    (λ c. search needs)
-    (λ c. search needs)
-    (λ c. search needs)
-    (λ c. ap (λ (r : TopicRecord). r .member) (topic-load (c .before .args .cells .now) (c .before .args .k) (c .before .pre .1))))
+    (λ c κs. search needs)
+    (λ c.
+    let s = c .before .before in
+    c .bit .ensures .0 ∙ sym (bits-are (s .args .cells .now) (s .args .k) (s .pre .1) .1)))

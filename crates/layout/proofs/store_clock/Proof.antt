@@ -1,4 +1,5 @@
 use Rattle.layout.proofs.ViewLaws.{clock-store}
+use mathlib.Core.Path.{refl}
 use borrow.Author.Needs.{needs}
 use Rattle.layout.proofs.store_clock.Statement.{statement}
 use Rattle.layout.proofs.store_clock.Tie as tie
@@ -10,7 +11,7 @@ same-length : tie.Need-same-length
 same-length c = search needs
 
 returns : tie.Need-returns
-returns c = clock-store (c .args .cells .now) (c .pre) (c .args .time)
+returns c = (clock-store (c .args .cells .now) (c .args .time) (c .pre), refl)
 
 pub store-clock-spec : {M : Type 1} → statement M
 store-clock-spec = tie.close (tie.spec slice-write-cells same-length returns)

@@ -16,7 +16,8 @@ same-length : tie.Need-same-length
 same-length c = search needs
 
 returns : tie.Need-returns
-returns c = joined-store (c .args .cells .now) (c .pre .0) (c .args .t) (c .args .b) (c .pre .1)
+returns c =
+    joined-store (c .args .cells .now) (c .args .t) (c .args .b) (c .pre .0) (c .pre .1)
 
 pub store-joined-spec : {M : Type 1} → statement M
 store-joined-spec = tie.close (tie.spec add-cells mul-cells slice-write-cells same-length returns)

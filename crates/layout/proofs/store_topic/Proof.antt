@@ -1,38 +1,23 @@
-use mathlib.Core.Path.{_∙_, ap}
-use Rattle.layout.specs.View.{stateOf, cellsOfTopic}
-use Rattle.layout.proofs.ViewLaws.{topic-store}
+use mathlib.Core.Path.{ap, _∙_}
+use Rattle.records.specs.Records.{setTopic}
 use borrow.Author.Needs.{needs}
 use Rattle.layout.proofs.store_topic.Statement.{statement}
 use Rattle.layout.proofs.store_topic.Tie as tie
 
-mul-write-row : tie.Need-mul-write-row
-mul-write-row c = search needs
+need-slot-requires : tie.Need-need-slot-requires
+need-slot-requires c κs = search needs
 
-add-write-row : tie.Need-add-write-row
-add-write-row c = search needs
-
-slice-aggregate-write-row : tie.Need-slice-aggregate-write-row
-slice-aggregate-write-row c = search needs
-
-write-row-requires : tie.Need-write-row-requires
-write-row-requires c κs = search needs
+write-topic-requires : tie.Need-write-topic-requires
+write-topic-requires c κs = search needs
 
 same-length : tie.Need-same-length
 same-length c = search needs
 
 returns : tie.Need-returns
-unfolding cellsOfTopic
 returns c =
-    let s = c .before .before .before .before .before .before in
-    ap stateOf (c .before .before .write-row .ensures) ∙ topic-store (s .args .cells .now) (s .pre .0) (s .args .k) (s .args .t) (s .pre .1)
+    let s = c .before .before .before .before .before .before .before .before .before in
+    c .before .before .write-topic .ensures
+    ∙ ap (λ st. setTopic st (s .args .k) (s .args .t)) (c .before .before .before .before .before .before .need-slot .ensures .0)
 
 pub store-topic-spec : {M : Type 1} → statement M
-store-topic-spec =
-    tie.close
-    (tie.spec
-    mul-write-row
-    add-write-row
-    slice-aggregate-write-row
-    write-row-requires
-    same-length
-    returns)
+store-topic-spec = tie.close (tie.spec need-slot-requires write-topic-requires same-length returns)

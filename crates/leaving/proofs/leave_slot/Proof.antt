@@ -11,7 +11,7 @@ put-prune-requires c κs =
     let l = c .before .before .before .before .before in
     let m = l .before .before .before .before in
     let s = m .before .before .before .before .before .before .before in
-    let i = grown-id _ _ _ _ _ _ (m .punish .ensures) (l .load-peer .ensures) in
+    let i = grown-id _ _ _ _ _ _ (m .punish .ensures) (l .load-peer .ensures .0) in
     record { room = s .pre .room; id = omega (arith, i, s .pre .turn .id); seconds = s .pre .seconds }
 
 pub leave-slot-spec : {M : Type 1} → statement M

@@ -1,7 +1,7 @@
 -- `leaving::punish`: the counter grows where the flag says so.
 use native.Mathlib.Omega.{arith}
 use borrow.Author.Needs.{needs}
-use Rattle.leaving.proofs.LeaveLaws.{grown-then, grown-else}
+use Rattle.leaving.proofs.LeaveLaws.{grown-then, grown-else, grown-fits}
 use Rattle.leaving.proofs.punish.Statement.{statement}
 use Rattle.leaving.proofs.punish.Tie as tie
 
@@ -16,7 +16,7 @@ punish-spec =
     (λ c. omega arith)
     (λ c. omega arith)
     (λ c κs. rw (c .before .load-params .ensures) (c .before .before .before .before .before .before .before .pre .threshold))
-    (λ c κs. search needs)
+    (λ c κs. search (grown-fits, needs))
     (λ c. c .before .before .store-topic .kept .0)
     (λ c. search grown-then)
     (λ c. search grown-else))

@@ -4,7 +4,7 @@ use borrow.Author.Needs.{needs}
 use Rattle.rules.specs.Step.{effect}
 use Rattle.gate.proofs.CallLaws.{call-ends, gate-ready}
 use Rattle.peers.proofs.GroupLaws.{gate-groups}
-use Rattle.peers.proofs.PeerLaws.{connect-range, quiet-connect}
+use Rattle.peers.proofs.PeerLaws.{connect-range, quiet-connect, tested-flags}
 use Rattle.peers.proofs.connect.Statement.{statement}
 use Rattle.peers.proofs.connect.Tie as tie
 
@@ -16,6 +16,7 @@ connect-from-requires c κs =
       gate-ready _ _ _ _ _ _ (d .admit .ensures) told (o .before .before .time-ok .ensures) (search needs),
       gate-groups _ (o .before .before .time-ok .result) (o .before .id-ok .result) (o .groups-ok .result) _ _ _ _ (d .admit .ensures) told
           _ (o .groups-ok .ensures),
+      tested-flags _ (o .before .before .time-ok .result) (o .before .id-ok .result) (o .groups-ok .result) _ _ _ _ (d .admit .ensures) told,
     )
 
 pub connect-spec : {M : Type 1} → statement M

@@ -1,7 +1,7 @@
 -- `peers::connect_from`: 6, 4, or what `connect_known` leaves.
 -- Assumes nothing.
 use borrow.Author.Needs.{needs}
-use Rattle.peers.proofs.PeerLaws.{connect-unknown, connect-already, connect-new}
+use Rattle.peers.proofs.PeerLaws.{connect-unknown, connect-already, connect-new, version-fits}
 use Rattle.peers.proofs.connect_from.Statement.{statement}
 use Rattle.peers.proofs.connect_from.Tie as tie
 
@@ -18,6 +18,9 @@ returns-3 c =
     connect-new _ _ _ _ _ _ _ (v .before .before .version-of .ensures) _ (v .version .given .1) _ (search) _ _ _
     (f .enum-told3 .given .1) (g .groups-of .ensures) (c .before .before .connect-known .ensures)
 
+connect-known-requires : tie.Need-connect-known-requires
+connect-known-requires c κs = ?
+
 pub connect-from-spec : {M : Type 1} → statement M
 connect-from-spec =
     tie.close
@@ -32,6 +35,6 @@ connect-from-spec =
     returns-2
     (λ c. search needs)
     (λ c κs. search needs)
-    (λ c κs. search needs)
+    connect-known-requires
     (λ c. search needs)
     returns-3)

@@ -8,13 +8,10 @@ use Rattle.peers.proofs.connect_known.Tie as tie
 
 returns-2 : tie.Need-returns-2
 returns-2 c =
-    let size = c .before .before .before .before .before .before .before .before .before .before .before .before .before .pre .standing
-    .size in
-    connect-full _ _ _ _ _ _ _ (c .before .before .before .before .before .before .before .before .before .before .reclaim .ensures) _
+    let k = c .before .before .before .before .before .before .before .before .before .before .reclaim in
+    connect-full _ _ _ _ _ _ _ (k .ensures .0) _
     (c .before .before .before .before .before .before .find-retained .ensures) (c .before .before .before .before .enum-told .given .1)
-    _ (c .before .before .lowest-empty .ensures) size
-    (c .before .before .before .before .before .before .before .before .before .before .reclaim .kept .0 ∙ size)
-    (c .enum-told2 .given .1)
+    _ (c .before .before .lowest-empty .ensures) (k .ensures .1) (c .enum-told2 .given .1)
 
 pub connect-known-spec : {M : Type 1} → statement M
 connect-known-spec =
@@ -23,7 +20,14 @@ connect-known-spec =
     (λ c κs. search needs)
     (λ c κs. search needs)
     (λ c. search needs)
-    (λ c κs. search (retained-below, needs))
+    (λ c κs.
+    let s = c .before .before .before .before .before .before .before .before .before .before .before in (
+      record {
+        size = c .before .before .before .before .before .before .before .before .reclaim .kept .0 ∙ s .pre .0 .standing .size;
+        slot = search retained-below;
+      },
+      s .pre .1,
+    ))
     (λ c. search needs)
     (λ c. search connect-retained)
     (λ c. search needs)
@@ -32,6 +36,14 @@ connect-known-spec =
     (λ c. search needs)
     (λ c. search needs)
     returns-2
-    (λ c κs. search (empty-below, needs))
+    (λ c κs.
+    let s = c .before .before .before .before .before .before .before .before .before .before .before .before .before .before .before in (
+      record {
+        size = c .before .before .before .before .before .before .before .before .before .before .before .before .reclaim .kept .0
+            ∙ s .pre .0 .standing .size;
+        slot = search empty-below;
+      },
+      s .pre .1,
+    ))
     (λ c. search needs)
     (λ c. search connect-empty))

@@ -3,7 +3,7 @@
 use borrow.Author.Needs.{needs}
 use Rattle.rules.specs.Step.{effect}
 use Rattle.rules.proofs.StepLaws.{found-below, peer-none, peer-at}
-use Rattle.peers.proofs.PeerLaws.{rated-done}
+use Rattle.peers.proofs.PeerLaws.{rated-done, rated-fits}
 use Rattle.peers.proofs.rate_from.Statement.{statement}
 use Rattle.peers.proofs.rate_from.Tie as tie
 
@@ -28,7 +28,7 @@ rate-from-spec =
     (λ c. search needs)
     (λ c. search peer-none)
     (λ c κs. search needs)
-    (λ c κs. search (found-below, needs))
+    (λ c κs. search (found-below, rated-fits, needs))
     (λ c κs. search needs)
     (λ c. search needs)
     returns-2)

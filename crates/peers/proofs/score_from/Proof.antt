@@ -13,7 +13,8 @@ returns-2 : tie.Need-returns-2
 unfolding effect
 returns-2 c =
     peer-at _ _ _ _ (search) _ _ _ (c .before .before .before .before .before .before .before .before .slot .given .1)
-    (leaves-moved _ _ _ _ (ap Scored (c .before .before .before .before .why-of .ensures)) refl (c .before .before .store-clock .ensures))
+    (leaves-moved _ _ _ _ (ap Scored (c .before .before .before .before .why-of .ensures)) refl
+    (c .before .before .store-clock .ensures .0))
 
 pub score-from-spec : {M : Type 1} → statement M
 unfolding effect

@@ -3,6 +3,7 @@
 use mathlib.Core.Path.{ap, _∙_}
 use Rattle.records.specs.Records.{State, noPeer, setPeer}
 use Rattle.effects.specs.Effects.{emptied}
+use Rattle.effects.proofs.EffectLaws.{none-fits}
 use borrow.Author.Needs.{needs}
 use Rattle.effects.proofs.connections.empty_slot.Statement.{statement}
 use Rattle.effects.proofs.connections.empty_slot.Tie as tie
@@ -17,4 +18,7 @@ returns c =
 
 pub empty-slot-spec : {M : Type 1} → statement M
 empty-slot-spec =
-    tie.close (tie.spec (λ c κs. search needs) (λ c κs. search needs) (λ c κs. search needs) (λ c. search needs) returns)
+    tie.close (tie.spec (λ c κs. search needs) (λ c κs. search needs) (λ c κs.
+    let s = c .before .before .before .before .before .before .before in
+    (c .before .before .before .before .empty-topics .kept .0 ∙ s .pre .size, (s .pre .slot, none-fits _ (c .empty-peer .ensures))))
+    (λ c. search needs) returns)

@@ -4,6 +4,7 @@ use Rattle.index.proofs.Index.{iter-none, iter-more, iter-done}
 use lib.ListN.{length}
 use Rattle.layout.specs.View.{cellCount, stateOf}
 use Rattle.records.specs.Records.{State, setTopic, place, noTopic}
+use Rattle.effects.proofs.EffectLaws.{no-topic-fits}
 use Rattle.effects.proofs.connections.empty_topics.Statement.{statement}
 use Rattle.effects.proofs.connections.empty_topics.Tie as tie
 
@@ -40,7 +41,10 @@ empty-topics-spec =
     (λ c. search needs)
     (λ c. search needs)
     (λ c κs. search needs)
-    (λ c κs. search needs)
+    (λ c κs.
+    let s = c .before .before .before .before .before in
+    let h = s .pre .slot in
+    (c .before .before .before .loop .inv .1, (omega arith, no-topic-fits _ (c .empty-topic .ensures))))
     (λ c. omega arith)
     (λ c. omega arith)
     loop-again

@@ -1,5 +1,6 @@
 -- `effects::connections::reclaim_slot`: the record goes if it may be reclaimed.
-use mathlib.Core.Path.{sym, ap, _∙_}
+use mathlib.Core.Path.{refl, sym, ap, _∙_}
+use mathlib.Core.Bool.{true≢false}
 use borrow.Author.Needs.{needs}
 use Rattle.index.proofs.Flags.{yes, no}
 use Rattle.records.specs.declared.Peer.{Peer}
@@ -12,15 +13,16 @@ returns : tie.Need-returns
 returns c =
     let b = c .before .before .before .before .before in
     let a = b .before .before .before .before .args in
-    let e = b .reclaimable .ensures ∙ ap (λ (p : Peer). reclaimable p (a .time)) (b .before .load-peer .ensures) in
-    c .before .before .empty-slot .ensures ∙ sym (reclaim-yes _ _ _ (yes e (c .before .before .before .before .if1 .taken)))
+    let e = b .reclaimable .ensures ∙ ap (λ (p : Peer). reclaimable p (a .time)) (b .before .load-peer .ensures .0) in
+    let t = yes e (c .before .before .before .before .if1 .taken) in
+    (c .before .before .empty-slot .ensures ∙ sym (reclaim-yes _ _ _ t), λ f. absurd (true≢false (sym t ∙ f)))
 
 returns-2 : tie.Need-returns-2
 returns-2 c =
     let b = c .before in
     let a = b .before .before .before .before .args in
-    let e = b .reclaimable .ensures ∙ ap (λ (p : Peer). reclaimable p (a .time)) (b .before .load-peer .ensures) in
-    sym (reclaim-no _ _ _ (no e (c .if1 .left)))
+    let e = b .reclaimable .ensures ∙ ap (λ (p : Peer). reclaimable p (a .time)) (b .before .load-peer .ensures .0) in
+    (sym (reclaim-no _ _ _ (no e (c .if1 .left))), λ f. refl)
 
 pub reclaim-slot-spec : {M : Type 1} → statement M
 reclaim-slot-spec =

@@ -1,5 +1,7 @@
--- `effects::connections::retain_slot`: out of every topic, then the record loaded, changed and stored.
+-- `effects::connections::retain_slot`: the record loaded, changed and stored.
+use mathlib.Core.Path.{_∙_}
 use borrow.Author.Needs.{needs}
+use Rattle.effects.proofs.EffectLaws.{retained-fits}
 use Rattle.effects.proofs.connections.retain_slot.Statement.{statement}
 use Rattle.effects.proofs.connections.retain_slot.Tie as tie
 
@@ -10,6 +12,9 @@ retain-slot-spec =
     (λ c κs. search needs)
     (λ c κs. search needs)
     (λ c κs. search needs)
-    (λ c κs. search needs)
+    (λ c κs.
+    let s = c .before .before .before .before .before .before .before .before .before in
+    let k = c .before .before .before .before .before .before .leave-topics in
+    (k .kept .0 ∙ s .pre .size, (s .pre .slot, retained-fits _ _ _ (c .before .before .load-peer .ensures .1) (c .retained-to .ensures))))
     (λ c. search needs)
     (λ c. cc))

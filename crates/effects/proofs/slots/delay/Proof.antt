@@ -14,7 +14,7 @@ returns : tie.Need-returns
 returns c =
     let w = c .before .before .before .before .before in
     let l = w .before in
-    let e = l .load-peer .ensures in
+    let e = l .load-peer .ensures .0 in
     let g : length (l .load-peer .result .backoff) ≡ 8 = ap (λ (p : Peer). length (p .backoff)) e ∙ sized-of _ .ends _ in
     stored-end _ _ _ _ _ _ _ (omega (arith, g)) e (w .with-end .ensures) (c .before .before .store-end .ensures)
 

@@ -1,5 +1,6 @@
--- `effects::slots::graft_slot`: the topic record loaded, changed and stored.
+-- `effects::slots::graft_slot`: the times and the bit.
 use borrow.Author.Needs.{needs}
+use Rattle.effects.proofs.EffectLaws.{into-stored}
 use Rattle.effects.proofs.slots.graft_slot.Statement.{statement}
 use Rattle.effects.proofs.slots.graft_slot.Tie as tie
 
@@ -11,8 +12,4 @@ graft-slot-spec =
     (λ c. search needs)
     (λ c κs. search needs)
     (λ c. search needs)
-    (λ c. search needs)
-    (λ c κs. search needs)
-    (λ c κs. search needs)
-    (λ c. search needs)
-    (λ c. cc))
+    (λ c. into-stored _ _ _ _ (c .before .before .enter-mesh .ensures)))

@@ -1,5 +1,6 @@
 -- `effects::slots::rate_slot`: the record loaded, changed and stored.
 use borrow.Author.Needs.{needs}
+use Rattle.effects.proofs.EffectLaws.{p5-fits}
 use Rattle.effects.proofs.slots.rate_slot.Statement.{statement}
 use Rattle.effects.proofs.slots.rate_slot.Tie as tie
 
@@ -9,6 +10,8 @@ rate-slot-spec =
     (tie.spec
     (λ c κs. search needs)
     (λ c κs. search needs)
-    (λ c κs. search needs)
+    (λ c κs.
+    let s = c .before .before .before .before .before in
+    (s .pre .0 .size, (s .pre .0 .slot, p5-fits _ _ _ (c .before .before .load-peer .ensures .1) (s .pre .1) (c .with-p5 .ensures))))
     (λ c. search needs)
     (λ c. cc))

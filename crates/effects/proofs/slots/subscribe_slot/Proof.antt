@@ -1,5 +1,6 @@
--- `effects::slots::subscribe_slot`: the topic record loaded, changed and stored.
+-- `effects::slots::subscribe_slot`: the bit.
 use borrow.Author.Needs.{needs}
+use Rattle.effects.proofs.EffectLaws.{subscribed-stored}
 use Rattle.effects.proofs.slots.subscribe_slot.Statement.{statement}
 use Rattle.effects.proofs.slots.subscribe_slot.Tie as tie
 
@@ -11,8 +12,4 @@ subscribe-slot-spec =
     (λ c. search needs)
     (λ c κs. search needs)
     (λ c. search needs)
-    (λ c. search needs)
-    (λ c κs. search needs)
-    (λ c κs. search needs)
-    (λ c. search needs)
-    (λ c. cc))
+    (λ c. subscribed-stored _ _ _ _ (c .before .before .store-subscribed .ensures)))

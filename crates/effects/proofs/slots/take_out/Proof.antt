@@ -1,5 +1,6 @@
--- `effects::slots::take_out`: the topic record loaded, changed and stored.
+-- `effects::slots::take_out`: the bit goes.
 use borrow.Author.Needs.{needs}
+use Rattle.effects.proofs.EffectLaws.{out-stored}
 use Rattle.effects.proofs.slots.take_out.Statement.{statement}
 use Rattle.effects.proofs.slots.take_out.Tie as tie
 
@@ -11,8 +12,4 @@ take-out-spec =
     (λ c. search needs)
     (λ c κs. search needs)
     (λ c. search needs)
-    (λ c. search needs)
-    (λ c κs. search needs)
-    (λ c κs. search needs)
-    (λ c. search needs)
-    (λ c. cc))
+    (λ c. out-stored _ _ _ (c .before .before .leave-mesh .ensures)))

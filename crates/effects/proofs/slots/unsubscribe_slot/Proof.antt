@@ -1,5 +1,10 @@
--- `effects::slots::unsubscribe_slot`: the topic record loaded, changed and stored.
+-- `effects::slots::unsubscribe_slot`: the two bits go.
+use native.Mathlib.Omega.{arith}
+use Rattle.records.specs.Records.{place}
+use Rattle.layout.specs.View.{stateOf}
+use Rattle.layout.proofs.StateLaws.{sized-of}
 use borrow.Author.Needs.{needs}
+use Rattle.effects.proofs.EffectLaws.{gone-stored}
 use Rattle.effects.proofs.slots.unsubscribe_slot.Statement.{statement}
 use Rattle.effects.proofs.slots.unsubscribe_slot.Tie as tie
 
@@ -13,7 +18,11 @@ unsubscribe-slot-spec =
     (λ c. search needs)
     (λ c. search needs)
     (λ c κs. search needs)
-    (λ c κs. search needs)
-    (λ c κs. search needs)
     (λ c. search needs)
-    (λ c. cc))
+    (λ c.
+    let s = c .before .before .before .before .before .before .before .before .before in
+    let z = sized-of (s .args .table .now) .topics in
+    let h = s .pre .slot in
+    let l = s .pre .topic in
+    gone-stored (stateOf (s .args .table .now)) _ _ (place (s .args .slot) (s .args .topic)) (omega arith)
+    (c .before .before .before .before .before .before .leave-mesh .ensures) (c .before .before .store-subscribed .ensures)))

@@ -10,7 +10,8 @@ returns c =
     let t = f .before .before in
     let p = t .before in
     let s = p .before .before .pre in
-    candidate-is _ _ _ _ _ _ _ _ (f .past-slack .ensures) (s .standing .router) (s .slot) (p .load-peer .ensures) (t .load-topic .ensures)
+    candidate-is _ _ _ _ _ _ _ _ (f .past-slack .ensures) (s .standing .router) (s .slot) (p .load-peer .ensures .0)
+    (t .load-topic .ensures .0)
     (s .score)
 
 pub is-candidate-spec : {M : Type 1} → statement M

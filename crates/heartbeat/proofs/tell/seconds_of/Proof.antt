@@ -9,13 +9,13 @@ returns-2 : tie.Need-returns-2
 returns-2 c =
     let p = c .before .before in
     let s = p .before .before .before .pre in
-    seconds-none _ _ _ _ (s .1) (p .before .if1 .left) _ (p .load-peer .ensures) (c .if2 .taken)
+    seconds-none _ _ _ _ (s .1) (p .before .if1 .left) _ (p .load-peer .ensures .0) (c .if2 .taken)
 
 returns-3 : tie.Need-returns-3
 returns-3 c =
     let p = c .before .before in
     let s = p .before .before .before .pre in
-    seconds-some _ _ _ _ (s .1) (p .before .if1 .left) _ (p .load-peer .ensures) (c .if2 .left)
+    seconds-some _ _ _ _ (s .1) (p .before .if1 .left) _ (p .load-peer .ensures .0) (c .if2 .left)
 
 pub seconds-of-spec : {M : Type 1} → statement M
 seconds-of-spec =

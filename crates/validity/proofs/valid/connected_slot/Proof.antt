@@ -17,14 +17,14 @@ small c = c .before .is-small .ensures (passed refl (c .if1 .left))
 
 connected-ok-requires : tie.Need-connected-ok-requires
 connected-ok-requires c κs =
-    let e = c .load-peer .ensures in (
+    let e = c .load-peer .ensures .0 in (
       ap (λ (p : Peer). p .status) e ∙ c .before .before .before .before .pre .1 .1 .1 .1,
       ap (endsUpTo maxEnd) e ∙ small (c .before) .ends,
     )
 
 returns-2 : tie.Need-returns-2
 returns-2 c =
-    peer-fails _ _ (failed (c .before .connected-ok .ensures ∙ ap peerOk (c .before .before .load-peer .ensures)) (c .if2 .taken))
+    peer-fails _ _ (failed (c .before .connected-ok .ensures ∙ ap peerOk (c .before .before .load-peer .ensures .0)) (c .if2 .taken))
 
 small-topics-requires : tie.Need-small-topics-requires
 small-topics-requires c κs =
@@ -37,10 +37,10 @@ returns-3 c =
     let j = c .before in
     let l = j .before .before in
     let s = l .before .before .before .before in
-    topics-are _ _ (s .pre .1 .1 .1 .1) (passed (j .before .connected-ok .ensures ∙ ap peerOk (l .load-peer .ensures)) (j .if2 .left)) _
+    topics-are _ _ (s .pre .1 .1 .1 .1) (passed (j .before .connected-ok .ensures ∙ ap peerOk (l .load-peer .ensures .0)) (j .if2 .left)) _
     (c .small-topics .ensures
     ∙ ap (λ (p : Peer). every topicCount (topicOkAt (stateOf (s .args .table .now)) (s .args .slot) 1 (p .explicit)))
-    (l .load-peer .ensures))
+    (l .load-peer .ensures .0))
 
 pub connected-slot-spec : {M : Type 1} → statement M
 connected-slot-spec =

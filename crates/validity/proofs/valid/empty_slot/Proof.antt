@@ -11,14 +11,14 @@ returns : tie.Need-returns
 returns c =
     let l = c .before .before in
     zero-fails _ _ (l .before .before .pre .1 .1)
-    (failed (c .before .zero-peer .ensures ∙ ap zeroPeer (l .load-peer .ensures)) (c .if1 .taken))
+    (failed (c .before .zero-peer .ensures ∙ ap zeroPeer (l .load-peer .ensures .0)) (c .if1 .taken))
 
 returns-2 : tie.Need-returns-2
 returns-2 c =
     let i = c .before in
     let l = i .before .before in
     zeros-are _ _ (l .before .before .pre .1 .1)
-    (passed (i .before .zero-peer .ensures ∙ ap zeroPeer (l .load-peer .ensures)) (i .if1 .left)) _ (c .zero-topics .ensures)
+    (passed (i .before .zero-peer .ensures ∙ ap zeroPeer (l .load-peer .ensures .0)) (i .if1 .left)) _ (c .zero-topics .ensures)
 
 pub empty-slot-spec : {M : Type 1} → statement M
 empty-slot-spec =

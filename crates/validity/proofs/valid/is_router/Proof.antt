@@ -1,10 +1,7 @@
 -- `validity::valid::is_router`: the clock, then the rest. Assumes nothing.
 use Prim.Native.Nat.{ℕ, _<_, _≤_}
-use mathlib.Core.Path.{subst, _∙_, ap₂}
-use mathlib.Core.List.{List}
+use mathlib.Core.Path.{subst}
 use borrow.Author.Needs.{needs}
-use Rattle.records.specs.declared.Setup.{Setup}
-use Rattle.params.specs.Check.{acceptedCodes}
 use Rattle.validity.specs.Valid.{maxTime}
 use Rattle.validity.proofs.OrderLaws.{clock-fails, clock-passes}
 use Rattle.validity.proofs.valid.is_router.Statement.{statement}
@@ -15,19 +12,25 @@ returns c = clock-fails _ (subst (λ (n : ℕ). maxTime < n) (c .before .load-cl
 
 slots-ok-requires : tie.Need-slots-ok-requires
 slots-ok-requires c κs =
-    let i = c .before .before .before .before in
-    (i .before .before .before .pre, subst (λ (n : ℕ). n ≤ maxTime) (i .before .load-clock .ensures) (i .if1 .left))
+    let i = c .before .before .before in
+    let s = i .before .before .before in (
+      record { size = s .pre; low = c .records-end .ensures .0; empty = c .records-end .ensures .1 },
+      subst (λ (n : ℕ). n ≤ maxTime) (i .before .load-clock .ensures) (i .if1 .left),
+    )
+
+ids-distinct-requires : tie.Need-ids-distinct-requires
+ids-distinct-requires c κs =
+    let e = c .before .records-end in
+    record { size = c .before .before .before .before .before .before .before .pre; low = e .ensures .0; empty = e .ensures .1 }
 
 returns-2 : tie.Need-returns-2
 returns-2 c =
     let s = c .before in
-    let j = s .before in
+    let j = s .before .before in
     let a = j .before in
-    let i = a .before .before .before in
+    let i = a .before in
     clock-passes _ (subst (λ (n : ℕ). n ≤ maxTime) (i .before .load-clock .ensures) (i .if1 .left)) _ _ _ _
-    (a .accepts-codes .ensures
-    ∙ ap₂ (λ (u : Setup) (l : List ℕ). acceptedCodes (u .edition) l) (a .before .before .load-setup .ensures)
-    (a .before .codes .ensures))
+    (a .params-ok .ensures)
     (j .joined-ok .ensures)
     (s .slots-ok .ensures)
     (c .ids-distinct .ensures)
@@ -41,7 +44,6 @@ is-router-spec =
     (λ c κs. search needs)
     (λ c κs. search needs)
     (λ c κs. search needs)
-    (λ c κs. search needs)
     slots-ok-requires
-    (λ c κs. search needs)
+    ids-distinct-requires
     returns-2)

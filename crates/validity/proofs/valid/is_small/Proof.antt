@@ -26,7 +26,7 @@ abbrev μ-loop : tie.MeasureT-loop
 loop-again : tie.Need-loop-again Inv-loop μ-loop
 loop-again c =
     let l = c .before .before .before .before .before .loop in
-    let e = c .before .before .before .load-topic .ensures in (
+    let e = c .before .before .before .load-topic .ensures .0 in (
       omega arith,
       union-more _ _ _ _ (l .inv .1) (ap (λ (r : TopicRecord). r .p4) e),
       union-more _ _ _ _ (l .inv .2) (ap (λ (r : TopicRecord). r .p3b) e),
@@ -39,7 +39,7 @@ ends :
     let s = c .before .before .before .before in
     union (λ t. getD (peerIn (stateOf (s .args .table .now)) (s .args .slot) .backoff) t 0) 8 ≤ maxEnd
 unfolding union
-ends c = subst (λ (q : Peer). union (λ t. getD (q .backoff) t 0) 8 ≤ maxEnd) (c .before .before .load-peer .ensures) (c .if1 .left)
+ends c = subst (λ (q : Peer). union (λ t. getD (q .backoff) t 0) 8 ≤ maxEnd) (c .before .before .load-peer .ensures .0) (c .if1 .left)
 
 returns-2 : tie.Need-returns-2 Inv-loop μ-loop
 returns-2 c e =

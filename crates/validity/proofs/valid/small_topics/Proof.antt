@@ -34,7 +34,7 @@ told g =
     (t .before .before .before .before .load-clock .ensures)
     (s .pre .1 .1 .0 .p2 _ (omega arith))
     (s .pre .1 .1 .0 .p3 _ (omega arith))
-    (t .load-topic .ensures)
+    (t .load-topic .ensures .0)
 
 returns : tie.Need-returns Inv-loop μ-loop
 returns c = every-out _ _ _ (omega arith) (failed (told (c .before)) (c .if1 .taken))
@@ -64,7 +64,7 @@ small-topics-spec =
     (λ c κs.
     let t = c .before .before in
     let s = t .before .before .before .before .before .before in (
-      ap smallOk (t .load-topic .ensures) ∙ s .pre .1 .1 .1 .0 .topics _ (omega arith),
+      ap smallOk (t .load-topic .ensures .0) ∙ s .pre .1 .1 .1 .0 .topics _ (omega arith),
       subst (λ (n : ℕ). n ≤ maxTime) (sym (t .before .before .before .before .load-clock .ensures)) (s .pre .1 .1 .1 .1),
     ))
     returns

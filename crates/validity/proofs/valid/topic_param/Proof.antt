@@ -12,5 +12,4 @@ topic-param-spec =
     (λ c. search needs)
     (λ c. search needs)
     (λ c κs. search needs)
-    (λ c κs. search needs)
-    (λ c. cc))
+    (λ c. c .load-magnitude .ensures .0))

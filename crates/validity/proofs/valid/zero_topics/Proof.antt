@@ -25,7 +25,7 @@ told :
     (g : tie.After-zero-topic Inv-loop μ-loop) →
     let l = g .before .before .before in
     g .zero-topic .result ≡ zeroTopicAt (stateOf (l .before .before .args .table .now)) (l .before .before .args .slot) (l .loop .t)
-told g = zero-told _ _ _ _ _ (g .zero-topic .ensures) (g .before .load-topic .ensures)
+told g = zero-told _ _ _ _ _ (g .zero-topic .ensures) (g .before .load-topic .ensures .0)
 
 pub zero-topics-spec : {M : Type 1} → statement M
 zero-topics-spec =

@@ -1,0 +1,14 @@
+use borrow.Author.Needs.{needs}
+use Rattle.validity.specs.Valid.{slotOk}
+use Rattle.forms.proofs.test.slot_ok.Statement.{statement}
+use Rattle.forms.proofs.test.slot_ok.Tie as tie
+
+pub slot-ok-spec : {M : Type 1} → statement M
+unfolding slotOk
+slot-ok-spec =
+    tie.close
+    (tie.spec
+    (λ c κs. search needs)
+    (λ c κs. search needs)
+    (λ c κs. search needs)
+    (λ c. cc))
