@@ -29,13 +29,21 @@ slot-ok-requires c κs =
     (s .pre .0 .size, (omega arith, (record { p2 = k .before .caps .ensures; p3 = k .caps2 .ensures }, s .pre .1)))
 
 returns : tie.Need-returns Inv-loop μ-loop
-returns c = ?
+returns c =
+    let b = c .before .before .before .before .before .before .before .before .before .pre .0 .low in
+    let t = c .before .before .before .before .loop-test .taken in
+    every-out _ slotCount (c .before .before .before .before .before .loop .slot) (omega arith) (failed (c .before .slot-ok .ensures) (c .if1 .taken))
 
 loop-again : tie.Need-loop-again Inv-loop μ-loop
-loop-again c = ?
+loop-again c =
+    let l = c .before .before .before .before .before .loop in
+    (omega arith, every-more _ _ (l .inv .1) (passed (c .before .slot-ok .ensures) (c .if1 .left)))
 
 returns-2 : tie.Need-returns-2 Inv-loop μ-loop
-returns-2 c = ?
+returns-2 c =
+    let s = c .before .before .before .before .before in
+    let l = c .before .loop in
+    sym (slots-rest _ _ (s .pre .0 .low) (s .pre .0 .empty) (every-done _ _ (l .slot) (l .inv .0) (omega arith) (l .inv .1)))
 
 pub slots-ok-spec : {M : Type 1} → statement M
 slots-ok-spec =
@@ -48,7 +56,7 @@ slots-ok-spec =
     (λ c. (omega arith, every-none _))
     slot-ok-requires
     returns
-    (λ c. let b = c .before .before .before .before .before .before .before .before .pre .0 .low in omega arith)
+    (λ c. let b = c .before .before .before .before .before .before .before .before .before .pre .0 .low in omega arith)
     (λ c. omega arith)
     loop-again
     returns-2)
