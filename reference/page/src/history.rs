@@ -3,8 +3,8 @@
 
 use crate::causes::{foresee, Cause, Foreseen, Ledger};
 use crate::changes::Changes;
-use crate::reasons::sentences;
-use crate::standing::{standing, Standing};
+use crate::reasons::Seen;
+use crate::standing::Standing;
 use crate::subject::Subject;
 use reference::event::{Call, Event};
 use reference::params::TOPICS;
@@ -97,15 +97,38 @@ impl History {
     }
 
     /// The event at which the page opens: of those after which the most peers are held
-    /// out, the first with the least points among these.
+    /// out, the first with the least points among these; where none ever is, the first
+    /// with the lowest score below zero, or else the last event.
     pub fn opening(&self) -> usize {
-        let rank = |event: &usize| {
-            let held = self.peers.values().filter(|peer| peer.is_held_out(*event));
-            let scores = held.filter_map(|peer| *peer.scores.at(*event)?);
-            let scores: Vec<i128> = scores.map(|why| i128::from(why.score())).collect();
-            (scores.len(), Reverse(scores.iter().sum::<i128>()), Reverse(*event))
-        };
-        (0..self.happened.len()).max_by_key(rank).unwrap_or(0)
+        let last = self.happened.len().saturating_sub(1);
+        let best = (0..=last).max_by_key(|&event| (self.rank(event), Reverse(event)));
+        best.filter(|&event| self.rank(event) != Rank::default()).unwrap_or(last)
+    }
+
+    fn rank(&self, event: usize) -> Rank {
+        let score = |peer: &PeerHistory| peer.scores.at(event).copied().flatten();
+        let held = self.peers.values().filter(|peer| peer.is_held_out(event));
+        let points: Vec<i128> = held.filter_map(score).map(|why| i128::from(why.score())).collect();
+        let lowest = self.peers.values().filter_map(score).map(|why| why.score()).min();
+        Rank {
+            held: points.len(),
+            points: Reverse(points.iter().sum()),
+            lowest: Reverse(lowest.unwrap_or(0).min(0)),
+        }
+    }
+}
+
+/// How much there is to see after an event, the first number first.
+#[derive(PartialEq, Eq, PartialOrd, Ord)]
+struct Rank {
+    held: usize,
+    points: Reverse<i128>,
+    lowest: Reverse<i64>,
+}
+
+impl Default for Rank {
+    fn default() -> Rank {
+        Rank { held: 0, points: Reverse(0), lowest: Reverse(0) }
     }
 }
 
@@ -151,8 +174,15 @@ impl Run {
                 (stop.map_or_else(Vec::new, |stop| lines_of(trace::stop_line(stop))), Vec::new())
             }
         };
+        // A refused call changes nothing.
+        let heard = printed.first().is_some_and(|answer| is_heard(answer));
         self.history.happened.push(Happened { clock: self.router.clock, printed, causes });
-        self.note(place);
+        if heard || place == 0 {
+            self.note(place);
+        } else {
+            self.history.connected.push(self.history.connected[place - 1].clone());
+            self.history.rescored.push(Vec::new());
+        }
     }
 
     fn event(&mut self, event: &Event) -> (Vec<String>, Vec<String>) {
@@ -176,7 +206,7 @@ impl Run {
         let actions = printed.iter().skip(1).filter(|line| !line.starts_with('S'));
         let told: Vec<String> =
             actions.map(|line| cause_of(line.split(' ').nth(1).unwrap_or_default())).collect();
-        let heard = printed.iter().any(|line| line.starts_with("0 ") || line.starts_with("11 "));
+        let heard = printed.first().is_some_and(|answer| is_heard(answer));
         let graft = heard && matches!(event.call, Call::Graft { .. });
         match foreseen.first() {
             Some((_, _, Cause::Refused(case))) if graft && told.is_empty() => {
@@ -219,16 +249,17 @@ impl Run {
     /// Says whether the score changed.
     fn note_peer(&mut self, event: usize, id: u32, slot: Option<usize>, why: Option<Why>) -> bool {
         let peer = self.history.peers.entry(id).or_default();
+        let seen = slot.map(|slot| Seen::new(&self.router, slot, why));
         for &topic in &self.history.topics {
-            let told = match slot {
-                Some(slot) => {
-                    let how = standing(&self.router, slot, topic);
-                    let turns = self.ledger.of(id, topic);
-                    let words = sentences(&self.router, slot, topic, &how, &turns);
-                    Told { standing: how, words }
+            let told = match &seen {
+                Some(seen) => {
+                    let standing = seen.standing(topic);
+                    let words = seen.sentences(topic, &standing, &self.ledger.of(id, topic));
+                    Told { standing, words }
                 }
                 None => {
-                    Told { standing: Standing::ABSENT, words: "Its record is gone.".to_string() }
+                    let words = "Its record is gone.".to_string();
+                    Told { standing: Standing::ABSENT, words }
                 }
             };
             peer.topics[topic].note(event, told);
@@ -241,6 +272,11 @@ impl Run {
         let outbound = mesh.iter().filter(|&&slot| self.router.peers[slot].outbound).count();
         Size { outbound, inbound: mesh.len() - outbound }
     }
+}
+
+/// Whether a call with this answer moves the clock at least.
+fn is_heard(answer: &str) -> bool {
+    answer.starts_with("0 ") || answer.starts_with("11 ")
 }
 
 fn lines_of(text: &str) -> Vec<String> {

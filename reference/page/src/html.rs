@@ -4,12 +4,13 @@
 use crate::history::{Happened, History, PeerHistory, Told};
 use crate::json::Json;
 use crate::subject::Subject;
-use crate::words::{runs, said};
+use crate::words::{hubs, runs, said};
 use reference::params::{general, Params, TOPICS};
 use reference::replay::{in_words, meaning, points};
 use reference::router::Why;
 use reference::text::{print_line, Line};
 use std::collections::HashMap;
+use std::iter::repeat;
 
 const FRAME: &str = include_str!("page.html");
 const LOOK: &str = include_str!("page.css");
@@ -35,6 +36,7 @@ pub fn escaped(text: &str) -> String {
         '>' => "&gt;".to_string(),
         '"' => "&quot;".to_string(),
         '\'' => "&#39;".to_string(),
+        '{' => "&#123;".to_string(),
         _ => letter.to_string(),
     };
     text.chars().map(escape).collect()
@@ -67,6 +69,7 @@ pub fn data(subject: &Subject, history: &History) -> Json {
                 history.topics.iter().map(|&topic| topic_data(topic, &ids, subject, history)),
             ),
         ),
+        ("scores", rows_data(&alike(&ids, subject, score_code(history)), &ids)),
         ("peers", Json::List(peers)),
         ("sentences", Json::texts(sentences.all)),
     ])
@@ -126,23 +129,58 @@ fn event(subject: &Subject, place: usize, happened: &Happened) -> Json {
     ])
 }
 
-/// Actions, scores and causes in words.
+/// Actions, scores and causes in words; actions that follow each other, of one kind and
+/// for one cause, are told together.
 pub fn results(happened: &Happened) -> Vec<String> {
     let printed: Vec<&String> = happened.printed.iter().skip(1).collect();
     if printed.is_empty() {
         return happened.causes.clone();
     }
-    let causes = happened.causes.iter().map(String::as_str).chain(std::iter::repeat(""));
-    let told = |(line, cause): (&String, &str)| {
+    let causes = happened.causes.iter().map(String::as_str).chain(repeat(""));
+    let acted: Vec<(Option<Action>, &String)> = printed
+        .into_iter()
+        .zip(causes)
+        .map(|(line, cause)| (Action::read(line, cause), line))
+        .collect();
+    let together = acted.chunk_by(|one, other| match (&one.0, &other.0) {
+        (Some(one), Some(other)) => one.is_like(other),
+        _ => false,
+    });
+    together.flat_map(told_together).collect()
+}
+
+/// An action as it is printed, and its cause.
+struct Action<'a> {
+    kind: &'a str,
+    id: u32,
+    seconds: &'a str,
+    cause: &'a str,
+}
+
+impl Action<'_> {
+    fn read<'a>(line: &'a str, cause: &'a str) -> Option<Action<'a>> {
         let words: Vec<&str> = line.split(' ').collect();
-        match words.as_slice() {
-            ["G", id] => vec![format!("GRAFT to hub {id}: {cause}")],
-            ["P", id, "0"] => vec![format!("PRUNE to hub {id}: {cause}")],
-            ["P", id, seconds] => vec![format!("PRUNE to hub {id} for {seconds} s: {cause}")],
-            _ => in_words(line),
-        }
+        let (kind, id, seconds) = match words.as_slice() {
+            ["G", id] => ("GRAFT", id, "0"),
+            ["P", id, seconds] => ("PRUNE", id, *seconds),
+            _ => return None,
+        };
+        Some(Action { kind, id: id.parse().ok()?, seconds, cause })
+    }
+
+    fn is_like(&self, other: &Action) -> bool {
+        (self.kind, self.seconds, self.cause) == (other.kind, other.seconds, other.cause)
+    }
+}
+
+fn told_together(acted: &[(Option<Action>, &String)]) -> Vec<String> {
+    let actions: Vec<&Action> = acted.iter().filter_map(|act| act.0.as_ref()).collect();
+    let Some(Action { kind, seconds, cause, .. }) = actions.first() else {
+        return acted.iter().flat_map(|act| in_words(act.1)).collect();
     };
-    printed.into_iter().zip(causes).flat_map(told).collect()
+    let ids: Vec<u32> = actions.iter().map(|action| action.id).collect();
+    let time = if *seconds == "0" { String::new() } else { format!(" for {seconds} s") };
+    vec![format!("{kind} to {}{time}: {cause}", hubs(&ids))]
 }
 
 /// A topic's sizes, and its rows: peers that stand alike at the end of every step.
@@ -162,6 +200,11 @@ fn topic_data(topic: usize, ids: &[u32], subject: &Subject, history: &History) -
         ("sizes", Json::list(sizes)),
         ("rows", rows_data(&rows, ids)),
     ])
+}
+
+/// All numbers of a score, as one text.
+fn score_code(history: &History) -> impl Fn(u32, usize) -> String + '_ {
+    |id, event| format!("{:?}", history.peers[&id].scores.at(event))
 }
 
 /// Rows of ids, by what `code` says of each at the end of every step, in the order of

@@ -1,119 +1,131 @@
 //! Why a peer is in a mesh or out of it, in plain sentences.
 
 use crate::causes::Turns;
-use crate::standing::{Level, Place, Standing};
+use crate::standing::{self, Level, Place, Standing};
 use crate::words::clock;
 use reference::params::{general, TOPICS};
 use reference::replay::points;
-use reference::router::{Router, GRAFT_SLACK};
+use reference::router::{Peer, Router, Why, GRAFT_SLACK};
 
-/// The sentences for the peer of a slot in a topic.
-pub fn sentences(
-    router: &Router,
-    slot: usize,
-    topic: usize,
-    how: &Standing,
-    turns: &Turns,
-) -> String {
-    let mut said = vec![past(router, how, turns)];
-    if how.place.is_member() {
-        said.push(match how.level {
-            Level::ZeroOrMore => "Its score is zero or more, so it stays.".to_string(),
-            _ => format!("{} The next heartbeat prunes it.", score(router, slot, how.level)),
-        });
-        return said.join(" ");
-    }
-    if let Some(refused) = turns.refused {
-        let (time, cause) = (clock(refused.time), refused.cause.words(router));
-        said.push(format!("Its GRAFT at {time} was not taken: {cause}."));
-    }
-    said.extend(hindrances(router, slot, topic, how));
-    said.join(" ")
+/// A peer that has a record, seen after an event.
+pub struct Seen<'a> {
+    router: &'a Router,
+    peer: &'a Peer,
+    pub level: Level,
+    /// What is said of a score below zero.
+    score: String,
 }
 
-fn past(router: &Router, how: &Standing, turns: &Turns) -> String {
-    let side = if how.place.is_member() { "In" } else { "Out" };
-    match turns.last {
-        Some(turn) => format!("{side} since {}: {}.", clock(turn.time), turn.cause.words(router)),
-        None => "Not in this mesh so far.".to_string(),
+impl Seen<'_> {
+    /// The peer of a slot; its score's parts, if it is connected.
+    pub fn new(router: &Router, slot: usize, why: Option<Why>) -> Seen<'_> {
+        let peer = &router.peers[slot];
+        let level = why.map_or(Level::ZeroOrMore, |why| standing::level(router, peer, why.score()));
+        let below = why.filter(|_| level > Level::ZeroOrMore);
+        let score = below.map_or_else(String::new, |why| score(router, slot, &why, level));
+        Seen { router, peer, level, score }
     }
-}
 
-/// All that keeps a peer out now.
-fn hindrances(router: &Router, slot: usize, topic: usize, how: &Standing) -> Vec<String> {
-    let peer = &router.peers[slot];
-    let mut said = Vec::new();
-    if how.place == Place::Kept {
-        let end = clock(peer.retain_end);
-        return vec![format!(
-            "It is not connected; its record is kept until {end}, or its backoffs' end."
-        )];
+    pub fn standing(&self, topic: usize) -> Standing {
+        standing::standing(self.router, self.peer, topic, self.level)
     }
-    if how.place == Place::Explicit {
-        return vec!["It is an explicit hub: it is in no mesh, and gets every message.".to_string()];
-    }
-    if how.level > Level::ZeroOrMore {
-        said.push(score(router, slot, how.level));
-    }
-    said.extend(backoff(router, slot, topic));
-    if !router.joined[topic] {
-        said.push("We are not in this topic.".to_string());
-    } else if !peer.topics[topic].subscribed {
-        said.push("It has not subscribed to this topic.".to_string());
-    }
-    if how.place == Place::Free && how.level == Level::ZeroOrMore {
-        said.push(
-            "Nothing keeps it out: the heartbeat takes it in when the mesh needs hubs.".to_string(),
-        );
-    }
-    said
-}
 
-fn backoff(router: &Router, slot: usize, topic: usize) -> Option<String> {
-    let end = router.peers[slot].backoff_ends[topic];
-    let waits = clock(end + GRAFT_SLACK);
-    if router.clock < end {
-        let end = clock(end);
-        return Some(format!(
-            "Its backoff runs until {end}, and our own GRAFT waits until {waits}."
-        ));
+    /// The sentences about the peer in a topic.
+    pub fn sentences(&self, topic: usize, how: &Standing, turns: &Turns) -> String {
+        let mut said = vec![self.past(how, turns)];
+        if how.place.is_member() {
+            said.push(match how.level {
+                Level::ZeroOrMore => "Its score is zero or more, so it stays.".to_string(),
+                _ => format!("{} The next heartbeat prunes it.", self.score),
+            });
+            return said.join(" ");
+        }
+        if let Some(refused) = turns.refused {
+            let (time, cause) = (clock(refused.time), refused.cause.words(self.router));
+            said.push(format!("Its GRAFT at {time} was not taken: {cause}."));
+        }
+        said.extend(self.hindrances(topic, how));
+        said.join(" ")
     }
-    let over = router.peers[slot].slack_over(topic, router.clock);
-    (!over).then(|| format!("Its backoff is over, and our own GRAFT waits until {waits}."))
+
+    fn past(&self, how: &Standing, turns: &Turns) -> String {
+        let side = if how.place.is_member() { "In" } else { "Out" };
+        let Some(turn) = turns.last else { return "Not in this mesh so far.".to_string() };
+        format!("{side} since {}: {}.", clock(turn.time), turn.cause.words(self.router))
+    }
+
+    /// All that keeps a peer out now.
+    fn hindrances(&self, topic: usize, how: &Standing) -> Vec<String> {
+        let mut said = Vec::new();
+        if how.place == Place::Kept {
+            let end = clock(self.peer.retain_end);
+            said.push(format!(
+                "It is not connected; its record is kept until {end}, or its backoffs' end."
+            ));
+            return said;
+        }
+        if how.place == Place::Explicit {
+            said.push(
+                "It is an explicit hub: it is in no mesh, and gets every message.".to_string(),
+            );
+            return said;
+        }
+        if how.level > Level::ZeroOrMore {
+            said.push(self.score.clone());
+        }
+        said.extend(self.backoff(topic));
+        if !self.router.joined[topic] {
+            said.push("We are not in this topic.".to_string());
+        } else if !self.peer.topics[topic].subscribed {
+            said.push("It has not subscribed to this topic.".to_string());
+        }
+        if how.place == Place::Free && how.level == Level::ZeroOrMore {
+            let free = "Nothing keeps it out: the heartbeat takes it in when the mesh needs hubs.";
+            said.push(free.to_string());
+        }
+        said
+    }
+
+    fn backoff(&self, topic: usize) -> Option<String> {
+        let end = self.peer.backoff_ends[topic];
+        let waits = clock(end + GRAFT_SLACK);
+        if self.router.clock < end {
+            let end = clock(end);
+            return Some(format!(
+                "Its backoff runs until {end}, and our own GRAFT waits until {waits}."
+            ));
+        }
+        let over = self.peer.slack_over(topic, self.router.clock);
+        (!over).then(|| format!("Its backoff is over, and our own GRAFT waits until {waits}."))
+    }
 }
 
 /// A score below zero: what costs, the dearest first, and what speaks for the peer.
-fn score(router: &Router, slot: usize, level: Level) -> String {
-    let why = router.why(slot);
+fn score(router: &Router, slot: usize, why: &Why, level: Level) -> String {
+    let offences = " (GRAFTs during a backoff)".to_string();
     let parts = [
-        (format!("topics{}", topic_faults(router, slot)), why.capped),
-        ("application".to_string(), why.p5),
-        (format!("address group{}", crowds(router, slot)), why.p6),
-        ("behaviour penalty (GRAFTs during a backoff)".to_string(), why.p7),
+        ("topics", topic_faults(router, slot), why.capped),
+        ("application", String::new(), why.p5),
+        ("address group", crowds(router, slot), why.p6),
+        ("behaviour penalty", offences, why.p7),
     ];
-    let told = |(name, part): &(String, i64)| {
-        let (name, note) = name.split_once(" (").map_or((name.as_str(), ""), |halves| halves);
-        let note = if note.is_empty() { String::new() } else { format!(" ({note}") };
-        format!("{name} {}{}", points(*part), if *part < 0 { note } else { String::new() })
-    };
-    let (mut costs, mut gains): (Vec<_>, Vec<_>) = parts.iter().partition(|part| part.1 < 0);
-    costs.sort_by_key(|part| part.1);
-    gains.retain(|part| part.1 > 0);
-    let list =
-        |parts: Vec<&(String, i64)>| parts.into_iter().map(told).collect::<Vec<_>>().join(", ");
-    let against =
-        if gains.is_empty() { String::new() } else { format!(", offset by {}", list(gains)) };
-    let graylist = match level {
-        Level::Graylisted => {
-            let threshold = router.params.general(general::GRAYLIST_THRESHOLD) * 1_000_000;
-            format!(
-                " That is under the graylist threshold {}: what it sends is ignored.",
-                points(threshold)
-            )
-        }
-        _ => String::new(),
-    };
-    format!("Its score is {} points: {}{against}.{graylist}", points(why.score()), list(costs))
+    let mut costs: Vec<_> = parts.iter().filter(|part| part.2 < 0).collect();
+    costs.sort_by_key(|part| part.2);
+    let costs: Vec<String> =
+        costs.iter().map(|(name, note, part)| format!("{name} {}{note}", points(*part))).collect();
+    let gains = parts.iter().filter(|part| part.2 > 0);
+    let gains: Vec<String> =
+        gains.map(|(name, _, part)| format!("{name} {}", points(*part))).collect();
+    let offset =
+        if gains.is_empty() { String::new() } else { format!(", offset by {}", gains.join(", ")) };
+    let graylist = if level == Level::Graylisted { graylisted(router) } else { String::new() };
+    let score = points(why.score());
+    format!("Its score is {score} points: {}{offset}.{graylist}", costs.join(", "))
+}
+
+fn graylisted(router: &Router) -> String {
+    let threshold = points(router.params.general(general::GRAYLIST_THRESHOLD) * 1_000_000);
+    format!(" That is under the graylist threshold {threshold}: what it sends is ignored.")
 }
 
 /// The groups that have more hubs than are free.

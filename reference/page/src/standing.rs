@@ -1,5 +1,6 @@
 //! How a peer stands in a topic after an event.
 
+use reference::params::general;
 use reference::router::{Peer, Router, Status};
 
 /// The first that holds, in this order.
@@ -12,10 +13,10 @@ pub enum Place {
     Outbound,
     Inbound,
     Explicit,
-    /// Its backoff runs.
-    Backoff,
     /// We are not in the topic.
     NotJoined,
+    /// Its backoff runs.
+    Backoff,
     NotSubscribed,
     /// Its backoff is over, and our own GRAFT still waits.
     Waits,
@@ -32,8 +33,8 @@ impl Place {
             Place::Outbound => 'O',
             Place::Inbound => 'I',
             Place::Explicit => 'E',
-            Place::Backoff => 'B',
             Place::NotJoined => 'N',
+            Place::Backoff => 'B',
             Place::NotSubscribed => 'U',
             Place::Waits => 'W',
             Place::Free => 'F',
@@ -86,15 +87,21 @@ impl Standing {
     }
 }
 
-/// How the peer of a slot stands.
-pub fn standing(router: &Router, slot: usize, topic: usize) -> Standing {
-    let peer = &router.peers[slot];
+/// The level of the score of a connected peer.
+pub fn level(router: &Router, peer: &Peer, score: i64) -> Level {
+    let graylist = router.params.general(general::GRAYLIST_THRESHOLD) * 1_000_000;
+    if !peer.explicit && score < graylist {
+        Level::Graylisted
+    } else if score < 0 {
+        Level::BelowZero
+    } else {
+        Level::ZeroOrMore
+    }
+}
+
+/// How a peer stands whose score has a level.
+pub fn standing(router: &Router, peer: &Peer, topic: usize, level: Level) -> Standing {
     let place = place(router, peer, topic);
-    let level = match peer.status {
-        Status::Connected if router.graylisted(slot) => Level::Graylisted,
-        Status::Connected if router.score(slot) < 0 => Level::BelowZero,
-        _ => Level::ZeroOrMore,
-    };
     let runs = peer.backoff_running(topic, router.clock);
     Standing { place, level, backoff_end: if runs { peer.backoff_ends[topic] } else { 0 } }
 }
@@ -108,8 +115,8 @@ fn place(router: &Router, peer: &Peer, topic: usize) -> Place {
         (Place::Outbound, record.member && peer.outbound),
         (Place::Inbound, record.member),
         (Place::Explicit, peer.explicit),
-        (Place::Backoff, peer.backoff_running(topic, now)),
         (Place::NotJoined, !router.joined[topic]),
+        (Place::Backoff, peer.backoff_running(topic, now)),
         (Place::NotSubscribed, !record.subscribed),
         (Place::Waits, !peer.slack_over(topic, now)),
     ];
