@@ -22,6 +22,10 @@ const minus = (text) => String(text).replace("-", "\u2212");
 const signs = (words) => words.replace(/ -(?=\d)/g, " \u2212");
 const named = (row) => (row.peers.length === 1 ? "Hub " : "Hubs ") + row.name.replaceAll("-", "\u2013");
 
+/** So many things are told one by one in a name. */
+const TOLD = 40;
+const some = (words) => words.slice(0, TOLD).join("; ") + (words.length > TOLD ? `; and ${words.length - TOLD} changes more` : "");
+
 /** Points to a few digits, for pictures; the table has them all. */
 function short(text) {
   const number = Number(text);
@@ -156,7 +160,7 @@ const cursors = [];
 function follows(picture, shape) {
   const move = (pointer) => {
     const x = pointer.clientX - picture.getBoundingClientRect().left;
-    if (x >= shape.left - 4) show(eventAt(shape, x));
+    if (x >= shape.left - 4) show(eventAt(shape, x), true);
   };
   picture.addEventListener("pointerdown", (pointer) => { picture.dataset.held = "yes"; move(pointer); });
   picture.addEventListener("pointermove", (pointer) => { if (picture.dataset.held) move(pointer); });
@@ -196,7 +200,7 @@ function rowOf(topic, index, row, shape, y) {
   const name = row.name.length > (shape.left - 40) / 7 ? row.name.slice(0, Math.floor((shape.left - 50) / 7)) + "\u2026" : row.name;
   const words = spans(changes).map((span) => `${told(span.code)} from event ${steps[span.from].start + 1}`);
   const marks = svg("g", { class: "row", role: "button", tabindex: "0", "data-row": index, "data-peer": row.peers[0],
-    "aria-label": `${named(row)}: ${words.join("; ") || "no record"}` });
+    "aria-label": `${named(row)}: ${some(words) || "no record"}` });
   marks.append(svg("rect", { class: "back", x: 0, y, width: shape.width, height: ROW }),
     svg("text", { class: "name", x: 4, y: y + 16 }, (row.peers.length === 1 ? "hub " : "hubs ") + name.replaceAll("-", "\u2013")));
   for (const span of spans(changes)) {
@@ -347,7 +351,7 @@ function scorePicture(holder) {
   const { high, low } = bounds(all);
   const y = (value) => bottom - ((bottom - top) * (value - low)) / (high - low);
   const picture = svg("svg", { width: shape.width, height: bottom + 20, role: "img",
-    "aria-label": `The score of hub ${peers[state.peer].id} over time: ${all.map(([from, , numbers]) => `${minus(numbers[5])} from event ${from + 1}`).join(", ")}` });
+    "aria-label": `The score of hub ${peers[state.peer].id} over time: ${some(all.map(([from, , numbers]) => `${minus(numbers[5])} from event ${from + 1}`))}` });
   picture.append(...ticks(shape, top, bottom));
   for (const level of levels(low, high)) {
     picture.append(svg("line", { class: level === 0 ? "axis" : "grid", x1: shape.left, x2: shape.right, y1: y(level), y2: y(level) }),
@@ -369,6 +373,9 @@ function drawScore() {
   figure.append(scorePicture(figure));
 }
 
+/** A small picture of more pieces has the sum alone. */
+const MANY = 300;
+
 function smallPicture(peer) {
   const width = 180, height = 44, all = pieces(peer), { high, low } = bounds(all);
   const marks = edges();
@@ -380,7 +387,8 @@ function smallPicture(peer) {
   const y = (value) => 2 + (height - 4) * (1 - (value - low) / (high - low));
   const shape = { x };
   return svg("svg", { viewBox: `0 0 ${width} ${height}`, width: "100%", height, preserveAspectRatio: "none", "aria-hidden": "true" },
-    ...all.flatMap((piece) => stack(piece, shape, y)), svg("line", { class: "axis", x1: 0, x2: width, y1: y(0), y2: y(0) }), ...scoreLine(all, shape, y));
+    ...(all.length > MANY ? [] : all.flatMap((piece) => stack(piece, shape, y))),
+    svg("line", { class: "axis", x1: 0, x2: width, y1: y(0), y2: y(0) }), ...scoreLine(all, shape, y));
 }
 
 function drawAllScores() {
@@ -526,13 +534,16 @@ function showEvent(before) {
 
 // ---- the cursor
 
-function show(event) {
-  const before = state.event;
+function show(event, held) {
+  const before = state.event, top = byId("topics").parentNode.getBoundingClientRect().top;
   state.event = Math.max(0, Math.min(events.length - 1, event));
   showEvent(before);
   showVerdict();
   showParts();
   for (const draw of cursors) draw();
+  // What is told above the pictures may take more or less room now: those that are looked at stay where they are.
+  const passed = byId("verdict").getBoundingClientRect().top < byId("bar").getBoundingClientRect().bottom;
+  if (held || passed) scrollBy(0, byId("topics").parentNode.getBoundingClientRect().top - top);
   try { history.replaceState(null, "", `#event=${state.event + 1}`); } catch (error) { /* a page in a frame may not */ }
 }
 
