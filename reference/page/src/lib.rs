@@ -7,6 +7,7 @@ pub mod changes;
 pub mod history;
 pub mod html;
 pub mod json;
+pub mod outside;
 pub mod proved;
 pub mod reasons;
 pub mod standing;

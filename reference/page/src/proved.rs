@@ -2,6 +2,7 @@
 //! shows is shown only if it prints the same.
 
 use crate::history::History;
+use crate::outside;
 use crate::subject::Subject;
 use reference::child;
 use reference::event::{Call, Event};
@@ -9,8 +10,8 @@ use reference::params::Params;
 use reference::text::Line;
 use reference::trace::{self, TraceEdition};
 
-/// Compares all that the first program prints of the trace, and then every score
-/// that the page draws. `tick` is told what is being done.
+/// Compares all that the first program prints of the trace, the meshes that this
+/// amounts to, and then every score that the page draws. `tick` is told what is being done.
 pub fn compare(
     program: &str,
     subject: &Subject,
@@ -21,6 +22,7 @@ pub fn compare(
     tick("the proved program replays the trace");
     let printed = run(program, &subject.trace.to_bytes())?;
     same(&printed, &history.printed())?;
+    outside::compare(subject, history)?;
     let Some(params) = subject.trace.params.as_ref().filter(|_| history.refused.is_none()) else {
         return Ok(());
     };
@@ -35,8 +37,8 @@ fn run(program: &str, bytes: &[u8]) -> Result<String, String> {
 }
 
 fn same(first: &str, second: &str) -> Result<(), String> {
-    let pairs = first.lines().zip(second.lines()).enumerate();
-    let differing = pairs.filter(|(_, (first, second))| first != second).next();
+    let mut pairs = first.lines().zip(second.lines()).enumerate();
+    let differing = pairs.find(|(_, (first, second))| first != second);
     match differing {
         Some((place, (first, second))) => Err(format!(
             "no page: the programs differ in line {}: `{first}` and `{second}`",

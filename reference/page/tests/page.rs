@@ -4,7 +4,7 @@
 use page::history::{History, Size};
 use page::standing::Place;
 use page::subject::Subject;
-use page::{html, story};
+use page::{html, outside, story};
 use reference::coverage::Coverage;
 use reference::generate::traces;
 use reference::params::TOPICS;
@@ -48,6 +48,7 @@ fn agrees(subject: &Subject) {
         return;
     };
     assert_eq!(history.happened.len(), subject.trace.lines.len());
+    assert_eq!(outside::compare(subject, &history), Ok(()));
     let mut router = Router::new(params).expect("good parameters");
     let mut list = [0; ACTION_LIST];
     for (event, line) in subject.trace.lines.iter().enumerate() {
@@ -105,6 +106,14 @@ fn random_traces() {
         events += subject.trace.lines.len();
     }
     assert!(events > 2000, "{events}");
+}
+
+#[test]
+fn a_mesh_that_was_not_printed_is_seen() {
+    let subject = read("why_hub_19");
+    let mut history = history(&subject);
+    history.happened[12].printed = vec!["0 0".to_string()];
+    assert!(outside::compare(&subject, &history).is_err_and(|words| words.ends_with("event 13")));
 }
 
 #[test]
@@ -171,6 +180,34 @@ fn nothing_of_a_trace_is_markup() {
     assert!(page.contains("default-src 'none'"));
 }
 
+/// Words of every sentence.
+const SENTENCES: [&str; 24] = [
+    "its own GRAFT was taken",
+    "under D_lo",
+    "fewer outbound hubs than D_out",
+    "above the median",
+    "as its score was below zero",
+    "over D_hi",
+    "for an outbound hub",
+    "it sent a PRUNE",
+    "it unsubscribed",
+    "we left the topic",
+    "its connection ended",
+    "it is an explicit hub",
+    "its backoff was still running, an offence",
+    "not taken: its score was below zero",
+    "it had not subscribed",
+    "was full at D_hi",
+    "graylist threshold",
+    "Its backoff is over",
+    "too few messages in topic",
+    "too few messages when it was pruned",
+    "invalid messages in topic",
+    "Nothing keeps it out",
+    "The next heartbeat prunes it",
+    "Its record is gone",
+];
+
 /// Every sentence is there, and every cause is reached, by the traces for people and
 /// random ones together.
 #[test]
@@ -191,33 +228,7 @@ fn every_standing_is_reached() {
         let written = text::print(&Trace::from_bytes(&bytes));
         note(&Subject::read("random", &written).expect("a good text"));
     }
-    let wanted = [
-        "its own GRAFT was taken",
-        "under D_lo",
-        "fewer outbound hubs than D_out",
-        "above the median",
-        "as its score was below zero",
-        "over D_hi",
-        "for an outbound hub",
-        "it sent a PRUNE",
-        "it unsubscribed",
-        "we left the topic",
-        "its connection ended",
-        "it is an explicit hub",
-        "its backoff was still running, an offence",
-        "not taken: its score was below zero",
-        "it had not subscribed",
-        "was full at D_hi",
-        "graylist threshold",
-        "Its backoff is over",
-        "too few messages in topic",
-        "too few messages when it was pruned",
-        "invalid messages in topic",
-        "Nothing keeps it out",
-        "The next heartbeat prunes it",
-        "Its record is gone",
-    ];
-    let missing: Vec<&&str> = wanted.iter().filter(|words| !seen.contains(**words)).collect();
+    let missing: Vec<&&str> = SENTENCES.iter().filter(|words| !seen.contains(**words)).collect();
     assert!(missing.is_empty(), "never said: {missing:?}");
     for letter in ["O", "I", "E", "B", "N", "U", "W", "F", "K", "I-", "B-", "F!"] {
         assert!(seen.contains(&format!("\n{letter} ")), "never shown: {letter}");
