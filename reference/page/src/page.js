@@ -88,6 +88,9 @@ events.forEach((event, place) => {
 });
 const stepOf = (event) => events[event].step;
 
+/** In true time the last event has so much of the whole. */
+const SPARE = 0.03;
+
 /** The left edges of the steps, and the right edge of the last, from 0 to 1. */
 function edges() {
   const sizes = steps.map((step, place) => {
@@ -95,7 +98,7 @@ function edges() {
     const next = steps[place + 1];
     return next ? Math.max(0, events[next.start].clock - events[step.start].clock) : 0;
   });
-  const spare = state.scale === "time" ? Math.max(1, sizes.reduce((sum, size) => sum + size, 0)) * 0.03 : 0;
+  const spare = state.scale === "time" ? Math.max(1, sizes.reduce((sum, size) => sum + size, 0)) * SPARE : 0;
   if (spare) sizes[sizes.length - 1] = spare;
   const whole = sizes.reduce((sum, size) => sum + size, 0) || 1;
   const found = [0];
@@ -114,7 +117,9 @@ function frame(holder) {
     const step = steps[stepOf(event)], share = (event - step.start) / (step.end - step.start + 1);
     return edge(step.step) + (edge(step.step + 1) - edge(step.step)) * share;
   };
-  return { width, left, right, edge, x };
+  const begin = events[0].clock, whole = (events[events.length - 1].clock - begin || 1) * (1 + SPARE);
+  const at = (time) => left + ((right - left) * (time - begin)) / whole;
+  return { width, left, right, edge, x, at };
 }
 
 /** The event under a place of a picture. */
@@ -204,14 +209,22 @@ function rowOf(topic, index, row, shape, y) {
   marks.append(svg("rect", { class: "back", x: 0, y, width: shape.width, height: ROW }),
     svg("text", { class: "name", x: 4, y: y + 16 }, (row.peers.length === 1 ? "hub " : "hubs ") + name.replaceAll("-", "\u2013")));
   for (const span of spans(changes)) {
-    const x = shape.edge(span.from), width = Math.max(1.5, shape.edge(span.to) - x - 1);
-    marks.append(bar(x, y + 3, width, span.code, `${named(row)}: ${told(span.code)}, events ${steps[span.from].start + 1} to ${steps[span.to - 1].end + 1}`));
+    const where = `events ${steps[span.from].start + 1} to ${steps[span.to - 1].end + 1}`;
+    const x = shape.edge(span.from), width = Math.max(1.5, shape.edge(span.to) - x - 1), left = width - overAt(changes, span, shape, x);
+    if (left <= 1 || left >= width) marks.append(bar(x, y + 3, width, span.code, `${named(row)}: ${told(span.code)}, ${where}`));
+    else marks.append(bar(x, y + 3, width - left, span.code, `${named(row)}: ${told(span.code)}, ${where}`), bar(x + width - left, y + 3, left, `F${span.code.slice(1)}`, `${named(row)}: its backoff is over`));
   }
   for (const event of prunes(topic, row.peers[0])) marks.append(pruneMark(shape.edge(stepOf(event)), y));
   const choose = () => choosePeer(row.peers[0]);
   marks.addEventListener("click", choose);
   marks.addEventListener("keydown", (key) => { if (key.key === "Enter" || key.key === " ") { key.preventDefault(); choose(); } });
   return marks;
+}
+
+/** In true time a backoff is over before the next event may come: how far it reaches from the left edge of its span. */
+function overAt(changes, span, shape, x) {
+  if (state.scale !== "time" || span.code[0] !== "B") return Infinity;
+  return shape.at(at(changes, steps[span.to - 1].end)[3]) - x;
 }
 
 /** The events that take a peer out of the mesh, or give it a new backoff. */
@@ -273,7 +286,8 @@ function drawTopics() {
 
 function drawLegend() {
   const seen = new Set(peers.flatMap((peer) => peer.topics.flatMap((changes) => changes.map((change) => change[1]))));
-  const codes = Object.keys(PLACES).filter((place) => [...seen].some((code) => code[0] === place));
+  const isSeen = (place) => [...seen].some((code) => code[0] === place);
+  const codes = Object.keys(PLACES).filter((place) => isSeen(place) || (place === "F" && isSeen("B")));
   const entry = (code, words) => html("li", {}, svg("svg", { width: 30, height: 22, "aria-hidden": "true" }, bar(1, 1, 28, code, words)), `${code[0]}: ${words}`);
   const items = codes.map((place) => entry(place, PLACES[place]));
   if ([...seen].some((code) => code.length > 1)) {
