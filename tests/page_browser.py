@@ -112,10 +112,11 @@ class Tab:
 
     def press(self, key, shift=False):
         for kind in ("rawKeyDown", "keyUp"):
-            self.call("Input.dispatchKeyEvent", type=kind, key=key, code=key, windowsVirtualKeyCode=KEYS[key], modifiers=SHIFT if shift else 0)
+            modifiers = SHIFT if shift else 0
+            self.call("Input.dispatchKeyEvent", type=kind, key=key, code=key, windowsVirtualKeyCode=KEYS[key], modifiers=modifiers)
 
     def draw(self, places):
-        """A finger that goes from place to place; gives what `seen` says at each."""
+        """A finger that goes from place to place."""
         self.call("Input.dispatchTouchEvent", type="touchStart", touchPoints=[places[0]])
         for place in places[1:]:
             self.call("Input.dispatchTouchEvent", type="touchMove", touchPoints=[place])

@@ -22,18 +22,22 @@
 
   const topic = (picture) => ({
     topic: Number(picture.dataset.topic), letters: all(".letter", picture).length, cursors: all(".cursor", picture).length,
-    rows: all(".row", picture).map((row) => ({ label: row.getAttribute("aria-label"), spans: all(".span", row).map((span) => span.dataset.code) })),
+    rows: all(".row", picture).map((row) => ({
+      label: row.getAttribute("aria-label"), spans: all(".span", row).map((span) => span.dataset.code),
+    })),
   });
   const told = (node) => ({ code: node.dataset.code, words: words(node) });
   const current = all('#events button[aria-current="true"]');
   const picture = all("#topics svg, #score svg")[0];
   const box = picture ? picture.getBoundingClientRect() : null;
   return {
-    topics: all("svg[data-topic]").map(topic), cards: all(".card").map(told), lines: all(".others li").map(told), legend: all("#legend li").map(words),
-    event: current.length === 1 ? Number(current[0].dataset.event) : null, events: all("#events li.event").length, results: all("#events .result").length,
+    topics: all("svg[data-topic]").map(topic), cards: all(".card").map(told), lines: all(".others li").map(told),
+    event: current.length === 1 ? Number(current[0].dataset.event) : null,
+    events: all("#events li.event").length, results: all("#events .result").length,
     now: words(byId("now")), refused: words(byId("refused")), fragment: location.hash,
     peer: byId("peer").selectedOptions.length ? words(byId("peer").selectedOptions[0]) : "", chosen: all("#topics .row.chosen").length,
-    parts: all("#score .part").map((part) => part.dataset.part), table: all("#parts td").map(words), small: all("#all-scores button").length,
+    parts: all("#score .part").map((part) => part.dataset.part), table: all("#parts td").map(words),
+    small: all("#all-scores button").length,
     unnamed: unnamed(), cut: cut(), wide: document.documentElement.scrollWidth - innerWidth, width: innerWidth,
     paper: getComputedStyle(document.body).backgroundColor, ink: getComputedStyle(document.body).color,
     picture: box && { left: box.left, right: box.right, top: box.top },

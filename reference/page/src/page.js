@@ -189,14 +189,19 @@ function spans(changes) {
 function bar(x, y, width, code, words) {
   const place = code[0], parts = [];
   if (place === "K") parts.push(svg("line", { class: "kept", x1: x, x2: x + width, y1: y + 9, y2: y + 9 }));
-  else parts.push(svg("rect", { class: place, x, y: place === "U" || place === "N" ? y + 5 : y, width, height: place === "U" || place === "N" ? 8 : 18 }));
-  for (let at = x + 4; place === "B" && at + 8 <= x + width; at += 8) parts.push(svg("line", { class: "hatch", x1: at, y1: y + 18, x2: at + 8, y2: y }));
+  else if (place === "U" || place === "N") parts.push(svg("rect", { class: place, x, y: y + 5, width, height: 8 }));
+  else parts.push(svg("rect", { class: place, x, y, width, height: 18 }));
+  for (let at = x + 4; place === "B" && at + 8 <= x + width; at += 8) {
+    parts.push(svg("line", { class: "hatch", x1: at, y1: y + 18, x2: at + 8, y2: y }));
+  }
   if (code.length > 1) {
     parts.push(svg("rect", { class: "below", x, y: y + 12, width, height: 8 }));
-    for (let at = x + 3; at + 4 <= x + width; at += 7) parts.push(svg("line", { class: "below-line", x1: at, x2: at + 4, y1: y + 16, y2: y + 16 }));
+    for (let at = x + 3; at + 4 <= x + width; at += 7) {
+      parts.push(svg("line", { class: "below-line", x1: at, x2: at + 4, y1: y + 16, y2: y + 16 }));
+    }
   }
-  const letter = place + minus(code.slice(1));
-  if (width >= 8 + 7 * letter.length) parts.push(svg("text", { class: `letter ${place}`, x: x + 4, y: y + (code.length > 1 ? 10.5 : 13) }, letter));
+  const letter = place + minus(code.slice(1)), base = y + (code.length > 1 ? 10.5 : 13);
+  if (width >= 8 + 7 * letter.length) parts.push(svg("text", { class: `letter ${place}`, x: x + 4, y: base }, letter));
   return svg("g", { class: "span", "data-code": code }, svg("title", {}, words), ...parts);
 }
 
@@ -209,10 +214,11 @@ function rowOf(topic, index, row, shape, y) {
   marks.append(svg("rect", { class: "back", x: 0, y, width: shape.width, height: ROW }),
     svg("text", { class: "name", x: 4, y: y + 16 }, (row.peers.length === 1 ? "hub " : "hubs ") + name.replaceAll("-", "\u2013")));
   for (const span of spans(changes)) {
-    const where = `events ${steps[span.from].start + 1} to ${steps[span.to - 1].end + 1}`;
-    const x = shape.edge(span.from), width = Math.max(1.5, shape.edge(span.to) - x - 1), left = width - overAt(changes, span, shape, x);
-    if (left <= 1 || left >= width) marks.append(bar(x, y + 3, width, span.code, `${named(row)}: ${told(span.code)}, ${where}`));
-    else marks.append(bar(x, y + 3, width - left, span.code, `${named(row)}: ${told(span.code)}, ${where}`), bar(x + width - left, y + 3, left, `F${span.code.slice(1)}`, `${named(row)}: its backoff is over`));
+    const words = `${named(row)}: ${told(span.code)}, events ${steps[span.from].start + 1} to ${steps[span.to - 1].end + 1}`;
+    const x = shape.edge(span.from), width = Math.max(1.5, shape.edge(span.to) - x - 1), over = overAt(changes, span, shape, x);
+    const isCut = over > 1 && over < width - 1;
+    marks.append(bar(x, y + 3, isCut ? over : width, span.code, words));
+    if (isCut) marks.append(bar(x + over, y + 3, width - over, `F${span.code.slice(1)}`, `${named(row)}: its backoff is over`));
   }
   for (const event of prunes(topic, row.peers[0])) marks.append(pruneMark(shape.edge(stepOf(event)), y));
   const choose = () => choosePeer(row.peers[0]);
@@ -288,11 +294,10 @@ function drawLegend() {
   const seen = new Set(peers.flatMap((peer) => peer.topics.flatMap((changes) => changes.map((change) => change[1]))));
   const isSeen = (place) => [...seen].some((code) => code[0] === place);
   const codes = Object.keys(PLACES).filter((place) => isSeen(place) || (place === "F" && isSeen("B")));
-  const entry = (code, words) => html("li", {}, svg("svg", { width: 30, height: 22, "aria-hidden": "true" }, bar(1, 1, 28, code, words)), `${code[0]}: ${words}`);
-  const items = codes.map((place) => entry(place, PLACES[place]));
+  const sample = (code) => svg("svg", { width: 30, height: 22, "aria-hidden": "true" }, bar(1, 1, 28, code, ""));
+  const items = codes.map((place) => html("li", {}, sample(place), `${place}: ${PLACES[place]}`));
   if ([...seen].some((code) => code.length > 1)) {
-    const sign = svg("svg", { width: 30, height: 22, "aria-hidden": "true" }, bar(1, 1, 28, "F-", ""));
-    items.push(html("li", {}, sign, "\u2212: score below zero; !: so low that it is ignored"));
+    items.push(html("li", {}, sample("F-"), "\u2212: score below zero; !: so low that it is ignored"));
   }
   const mark = svg("svg", { width: 16, height: 14, "aria-hidden": "true" }, pruneMark(8, 1));
   items.push(html("li", {}, mark, "PRUNE, a backoff starts"));
@@ -364,14 +369,16 @@ function scorePicture(holder) {
   const shape = frame(holder), top = 12, bottom = 252, all = pieces(state.peer);
   const { high, low } = bounds(all);
   const y = (value) => bottom - ((bottom - top) * (value - low)) / (high - low);
+  const told = all.map(([from, , numbers]) => `${minus(numbers[5])} from event ${from + 1}`);
   const picture = svg("svg", { width: shape.width, height: bottom + 20, role: "img",
-    "aria-label": `The score of hub ${peers[state.peer].id} over time: ${some(all.map(([from, , numbers]) => `${minus(numbers[5])} from event ${from + 1}`))}` });
+    "aria-label": `The score of hub ${peers[state.peer].id} over time: ${some(told)}` });
   picture.append(...ticks(shape, top, bottom));
   for (const level of levels(low, high)) {
     picture.append(svg("line", { class: level === 0 ? "axis" : "grid", x1: shape.left, x2: shape.right, y1: y(level), y2: y(level) }),
       svg("text", { class: "tick", x: shape.left - 6, y: y(level) + 4, "text-anchor": "end" }, short(level)));
   }
-  picture.append(...all.flatMap((piece) => stack(piece, shape, y)), svg("line", { class: "axis", x1: shape.left, x2: shape.right, y1: y(0), y2: y(0) }));
+  const zero = svg("line", { class: "axis", x1: shape.left, x2: shape.right, y1: y(0), y2: y(0) });
+  picture.append(...all.flatMap((piece) => stack(piece, shape, y)), zero);
   const gray = Number(limits.graylist);
   if (gray >= low) picture.append(svg("line", { class: "gray-line", x1: shape.left, x2: shape.right, y1: y(gray), y2: y(gray) }),
     svg("text", { class: "tick", x: shape.left + 4, y: y(gray) - 4 }, "graylist: below this it is ignored"));
@@ -407,7 +414,8 @@ function smallPicture(peer) {
 
 function drawAllScores() {
   const buttons = data.scores.map((row) => {
-    const button = html("button", { type: "button", "data-peer": row.peers[0] }, html("b", {}, named(row)), html("span", { class: "score-now" }), smallPicture(row.peers[0]));
+    const button = html("button", { type: "button", "data-peer": row.peers[0] },
+      html("b", {}, named(row)), html("span", { class: "score-now" }), smallPicture(row.peers[0]));
     button.addEventListener("click", () => choosePeer(row.peers[0]));
     return button;
   });
@@ -416,7 +424,8 @@ function drawAllScores() {
 
 function drawPartsLegend() {
   const swatch = (name, words) => html("li", {}, html("span", { class: `swatch ${name}`, "aria-hidden": "true" }), words);
-  byId("parts-legend").replaceChildren(...PARTS.map(([name, words]) => swatch(name, words)), swatch("cut", "Topics, cut off by the cap"), swatch("score", "Score, the sum"));
+  byId("parts-legend").replaceChildren(...PARTS.map(([name, words]) => swatch(name, words)),
+    swatch("cut", "Topics, cut off by the cap"), swatch("score", "Score, the sum"));
 }
 
 /** The table of the five parts at the cursor. */
@@ -424,9 +433,10 @@ function showParts() {
   if (peers.length === 0) return;
   const change = at(peers[state.peer].scores, state.event), numbers = change ? change[1] : [];
   const names = ["Topics, before the cap", ...PARTS.map((part) => part[1]), "Score: the last four together"];
-  const rows = names.map((name, place) => html("tr", {}, html("th", { scope: "row" }, name), html("td", {}, numbers.length ? minus(numbers[place]) : "\u2013")));
-  const words = numbers.length ? "" : " (not connected)";
-  byId("parts").replaceChildren(html("caption", {}, `Hub ${peers[state.peer].id} after event ${state.event + 1}${words}, in points`), html("tbody", {}, ...rows));
+  const value = (place) => (numbers.length ? minus(numbers[place]) : "\u2013");
+  const rows = names.map((name, place) => html("tr", {}, html("th", { scope: "row" }, name), html("td", {}, value(place))));
+  const words = `Hub ${peers[state.peer].id} after event ${state.event + 1}${numbers.length ? "" : " (not connected)"}, in points`;
+  byId("parts").replaceChildren(html("caption", {}, words), html("tbody", {}, ...rows));
   for (const button of byId("all-scores").children) {
     const own = at(peers[Number(button.dataset.peer)].scores, state.event);
     button.querySelector(".score-now").textContent = own && own[1].length ? `now ${short(own[1][5])} points` : "not connected";
@@ -467,18 +477,22 @@ function runs(ids) {
 function bars(numbers) {
   const { up, down } = reach(numbers), score = Number(numbers[5]);
   const high = Math.max(up, score, 0), low = Math.min(down, score, 0), whole = high - low || 1;
-  const track = (name, value, cut) => {
-    const place = (value) => ((value - low) / whole) * 100;
-    const box = (name, from, to) => html("span", { class: `bar ${name}`, style: `left:${place(Math.min(from, to))}%;width:${Math.abs(to - from) / whole * 100}%` });
-    return html("span", { class: "track" }, ...(value ? [box(name, 0, value)] : []), ...(cut > 0 ? [box("cut", value, value + cut)] : []), html("span", { class: "zero", style: `left:calc(${place(0)}% - 1px)` }));
-  };
-  const cut = Number(numbers[0]) - Number(numbers[1]);
+  const percent = (value) => (value / whole) * 100;
+  const box = (name, from, to) => html("span", { class: `bar ${name}`,
+    style: `left:${percent(Math.min(from, to) - low)}%;width:${percent(Math.abs(to - from))}%` });
+  const zero = () => html("span", { class: "zero", style: `left:calc(${percent(-low)}% - 1px)` });
+  const track = (name, value, cut) => html("span", { class: "track" },
+    ...(value ? [box(name, 0, value)] : []), ...(cut > 0 ? [box("cut", value, value + cut)] : []), zero());
+  const over = Number(numbers[0]) - Number(numbers[1]);
   const rows = PARTS.flatMap(([name, words, place]) => {
-    const note = name === "topics" && cut > 0 ? ` of ${short(numbers[0])}` : "";
-    return [html("span", {}, words.replace(", after the cap", "")), track(name, Number(numbers[place]), name === "topics" ? cut : 0), html("span", { class: "value" }, short(numbers[place]) + note)];
+    const cut = name === "topics" ? over : 0, note = cut > 0 ? ` of ${short(numbers[0])}` : "";
+    return [html("span", {}, words.replace(", after the cap", "")), track(name, Number(numbers[place]), cut),
+      html("span", { class: "value" }, short(numbers[place]) + note)];
   });
-  return html("div", { class: "bars", role: "img", "aria-label": `The parts of the score: ${PARTS.map(([, words, place]) => `${words} ${minus(numbers[place])}`).join(", ")}; score ${minus(numbers[5])}` },
-    ...rows, html("span", { class: "sum" }, "Score"), html("span", { class: "sum" }, track("whole", score, 0)), html("span", { class: "value sum" }, short(numbers[5])));
+  const told = PARTS.map(([, words, place]) => `${words} ${minus(numbers[place])}`).join(", ");
+  return html("div", { class: "bars", role: "img", "aria-label": `The parts of the score: ${told}; score ${minus(numbers[5])}` },
+    ...rows, html("span", { class: "sum" }, "Score"), html("span", { class: "sum" }, track("whole", score, 0)),
+    html("span", { class: "value sum" }, short(numbers[5])));
 }
 
 function card(group, topic) {
@@ -496,7 +510,8 @@ function card(group, topic) {
 function line(group) {
   const kind = verdict(group.code), sorted = [...group.scores].sort((one, other) => one - other), most = sorted[sorted.length - 1];
   const score = sorted.length === 0 ? "" : sorted[0] === most ? `, score ${short(most)}` : `, scores ${short(sorted[0])} to ${short(most)}`;
-  return html("li", { "data-code": group.code }, html("span", { class: `badge ${kind}` }, BADGES[kind]), " ", html("b", {}, named(group)), `${score}: ${signs(group.words)}`);
+  const badge = html("span", { class: `badge ${kind}` }, BADGES[kind]);
+  return html("li", { "data-code": group.code }, badge, " ", html("b", {}, named(group)), `${score}: ${signs(group.words)}`);
 }
 
 function headline(topic, all) {
@@ -504,7 +519,8 @@ function headline(topic, all) {
   const size = at(topic.sizes, state.event) || [0, 0, 0], out = count("out") + count("wait");
   const held = out === 0 ? "no hub is kept out" : out === 1 ? "1 hub is kept out" : `${out} hubs are kept out`;
   return html("p", { class: "headline" }, html("b", {}, `Topic ${topic.topic}: ${held}`),
-    `; ${size[1] + size[2]} in the mesh (${size[1]} inbound, ${size[2]} outbound). It wants ${limits.D_lo} to ${limits.D_hi}, ${limits.D_out} of them outbound.`);
+    `; ${size[1] + size[2]} in the mesh (${size[1]} inbound, ${size[2]} outbound).`,
+    ` It wants ${limits.D_lo} to ${limits.D_hi}, ${limits.D_out} of them outbound.`);
 }
 
 function showVerdict() {
@@ -514,7 +530,8 @@ function showVerdict() {
     const others = all.filter((group) => !hasCard(verdict(group.code))).map(line);
     return [headline(topic, all), html("div", { class: "cards" }, ...cards), html("ul", { class: "others" }, ...others)];
   });
-  if (topics.length === 0) parts.push(html("p", { class: "quiet" }, "No event of this trace speaks of a topic, so there is no mesh; the scores are below."));
+  const none = "No event of this trace speaks of a topic, so there is no mesh; the scores are below.";
+  if (topics.length === 0) parts.push(html("p", { class: "quiet" }, none));
   byId("verdict").replaceChildren(...parts);
 }
 
@@ -526,7 +543,8 @@ function entry(event, place) {
     html("span", { class: "number" }, `${place + 1} \u00b7 ${clock(event.time)} `), event.said,
     html("span", { class: refused ? "refused" : "answer" }, ` \u2014 ${refused ? "answer " : ""}${event.answer}`),
     ...event.results.map((result) => html("span", { class: "result" }, signs(result))),
-    ...(event.beside ? [html("span", { class: "beside" }, event.beside)] : []), html("code", {}, [event.line, ...event.printed].join(" \u00b7 ")));
+    ...(event.beside ? [html("span", { class: "beside" }, event.beside)] : []),
+    html("code", {}, [event.line, ...event.printed].join(" \u00b7 ")));
   button.addEventListener("click", () => show(place));
   const before = event.before.map((words) => html("p", { class: "before" }, words));
   return html("li", { class: "event" }, ...before, button);
@@ -541,7 +559,8 @@ function showEvent(before) {
   const seen = top >= list.scrollTop && top + height <= list.scrollTop + room;
   if (!seen) list.scrollTop = top - Math.max(0, Math.min(room / 3, room - height));
   const event = events[state.event];
-  byId("now").replaceChildren(html("b", {}, `Event ${state.event + 1} of ${events.length}, ${clock(event.time)}`), `: ${event.said} \u2014 ${event.answer}`);
+  const place = html("b", {}, `Event ${state.event + 1} of ${events.length}, ${clock(event.time)}`);
+  byId("now").replaceChildren(place, `: ${event.said} \u2014 ${event.answer}`);
   byId("slider").value = state.event + 1;
   byId("slider").setAttribute("aria-valuetext", `Event ${state.event + 1} of ${events.length}: ${event.said}`);
 }
@@ -579,7 +598,10 @@ function redraw() {
 function keys(key) {
   if (key.altKey || key.ctrlKey || key.metaKey || ["INPUT", "SELECT"].includes(key.target.tagName)) return;
   const step = steps[stepOf(state.event)];
-  const moves = { ArrowRight: key.shiftKey ? step.end + 1 : state.event + 1, ArrowLeft: key.shiftKey ? step.start - 1 : state.event - 1, Home: 0, End: events.length - 1 };
+  const moves = {
+    ArrowRight: key.shiftKey ? step.end + 1 : state.event + 1, ArrowLeft: key.shiftKey ? step.start - 1 : state.event - 1,
+    Home: 0, End: events.length - 1,
+  };
   if (!(key.key in moves)) return;
   key.preventDefault();
   show(moves[key.key]);
@@ -608,9 +630,16 @@ function asked(otherwise) {
 
 /** The hub that the page opens with: of those held out the one with the least points. */
 function openingPeer() {
-  const score = (place) => { const own = at(peers[place].scores, state.event); return own && own[1].length ? Number(own[1][5]) : Infinity; };
-  const held = peers.map((peer, place) => place).filter((place) => peers[place].topics.some((changes) => { const own = at(changes, state.event); return own && isHeld(verdict(own[1])); }));
-  const all = held.length ? held : peers.map((peer, place) => place);
+  const score = (place) => {
+    const own = at(peers[place].scores, state.event);
+    return own && own[1].length ? Number(own[1][5]) : Infinity;
+  };
+  const isOut = (changes) => {
+    const own = at(changes, state.event);
+    return own && isHeld(verdict(own[1]));
+  };
+  const every = peers.map((peer, place) => place), held = every.filter((place) => peers[place].topics.some(isOut));
+  const all = held.length ? held : every;
   return all.reduce((best, place) => (score(place) < score(best) ? place : best), all[0]);
 }
 
