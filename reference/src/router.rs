@@ -4,17 +4,21 @@
 mod connection;
 mod control;
 mod heartbeat;
+mod notices;
 mod score;
 mod tables;
 
 pub use connection::Place;
 pub use control::GraftCase;
 pub use heartbeat::{is_permutation, Plan, Swap};
+pub use notices::{Notice, NoticeCase, IDONTWANT, MOST_NOTICES, NOTICE_LIFE, RELAY};
 pub use score::Why;
 pub use tables::{Groups, Peer, Status, TopicRecord, Version, GRAFT_SLACK};
 
 use crate::event::{Call, Event, SLOTS};
+use crate::gossip::{GossipCall, GossipEvent};
 use crate::params::{self, general, Params, TOPICS};
+use crate::set_up::SetUp;
 
 /// An action list has three numbers for each slot.
 pub const ACTION_LIST: usize = 3 * SLOTS;
@@ -47,17 +51,44 @@ pub enum Done {
 
 pub type Answer = Result<Done, Refusal>;
 
+/// What an accepted call of order 6 gives back.
+#[derive(Clone, Copy, PartialEq, Eq, Debug, Default)]
+pub struct Given {
+    pub actions: usize,
+    /// Order 6: "with a 64-bit message number carried beside the list", that of an ask.
+    pub beside: Option<u64>,
+}
+
+pub type GossipAnswer = Result<Given, Refusal>;
+
 /// The number of 01's table for an answer.
-pub fn number(answer: &Answer) -> u32 {
+pub fn number<T>(answer: &Result<T, Refusal>) -> u32 {
     match answer {
         Ok(_) => 0,
         Err(refusal) => *refusal as u32,
     }
 }
 
+/// Which rules of later orders are kept that change what older calls answer.
+#[derive(Clone, Copy, PartialEq, Eq, Debug)]
+pub struct Landed {
+    /// Order 6: "Accept /meshsub/1.2.0."
+    pub version_12: bool,
+}
+
+impl Landed {
+    pub const ALL: Landed = Landed { version_12: true };
+}
+
+/// The rules of a router for which nobody says otherwise. An order that lands is turned on
+/// here.
+pub const LANDED: Landed = Landed { version_12: false };
+
 #[derive(Clone, PartialEq, Eq, Debug)]
 pub struct Router {
     pub params: Params,
+    pub set_up: SetUp,
+    pub landed: Landed,
     pub clock: u64,
     pub joined: [bool; TOPICS],
     pub peers: Vec<Peer>,
@@ -73,10 +104,19 @@ impl Router {
         Ok(Router::unchecked(params))
     }
 
+    /// A fresh router of all orders, with set-up numbers: 2 if one is out of its range,
+    /// "tested before the sheet".
+    pub fn with_set_up(params: Params, set_up: SetUp) -> Result<Router, params::Refusal> {
+        set_up.check()?;
+        Ok(Router { set_up, landed: Landed::ALL, ..Router::new(params)? })
+    }
+
     /// A fresh router whose parameters nobody has checked.
     pub fn unchecked(params: Params) -> Router {
         Router {
             params,
+            set_up: SetUp::ORDINARY,
+            landed: LANDED,
             clock: 0,
             joined: [false; TOPICS],
             peers: vec![Peer::default(); SLOTS],
@@ -141,6 +181,48 @@ impl Router {
         Ok(None)
     }
 
+    /// Makes a call of order 6; what is refused or ignored leaves alone what it does in
+    /// `call`.
+    pub fn gossip(&mut self, event: &GossipEvent, list: &mut [u32]) -> GossipAnswer {
+        let answer = self.attempt_gossip(event, list);
+        if matches!(answer, Ok(_) | Err(Refusal::Ignored)) {
+            self.clock = event.now;
+        }
+        answer
+    }
+
+    /// Tests in 01's order, those of a number that a call cannot get left out: 12, 2, 8, 1,
+    /// 3, 11.
+    fn attempt_gossip(&mut self, event: &GossipEvent, list: &mut [u32]) -> GossipAnswer {
+        refuse_if(!self.is_valid(), Refusal::NotARouter)?;
+        refuse_if(!event.in_range(), Refusal::OutOfRange)?;
+        refuse_if(list.len() < ACTION_LIST, Refusal::ShortActionList)?;
+        refuse_if(event.now < self.clock, Refusal::ClockBack)?;
+        let mut actions = Actions { list, count: 0 };
+        let beside = self.dispatch_gossip(&event.call, &mut actions)?;
+        Ok(Given { actions: actions.count, beside })
+    }
+
+    /// Hands a call, whose arguments are in range, to its rule.
+    fn dispatch_gossip(
+        &mut self,
+        call: &GossipCall,
+        actions: &mut Actions,
+    ) -> Result<Option<u64>, Refusal> {
+        match *call {
+            GossipCall::Ask { topic, number, sender } => {
+                self.ask(topic as usize, sender as u32, actions)?;
+                return Ok(Some(number));
+            }
+            GossipCall::Notice { id, number } => self.notice(id as u32, number)?,
+            GossipCall::Relay { topic, number, sender } => {
+                self.relay(topic as usize, number, sender as u32, actions)?;
+            }
+            GossipCall::Beat => self.beat(),
+        }
+        Ok(None)
+    }
+
     /// 01, answer 3: "no connected record holds the id".
     pub fn connected(&self, id: u32) -> Result<usize, Refusal> {
         let holds = |peer: &Peer| peer.status == Status::Connected && peer.id == id;
@@ -182,7 +264,7 @@ impl Router {
         peer.extend_backoff(topic, now + 1000 * seconds);
         let told = match peer.version {
             Version::V10 => 0,
-            Version::V11 => seconds as u32,
+            Version::V11 | Version::V12 => seconds as u32,
         };
         actions.push([PRUNE, peer.id, told]);
     }

@@ -1,6 +1,6 @@
 //! 01, "Connect" and "Disconnect", "Join / leave".
 
-use super::{refuse_if, Actions, Peer, Refusal, Router, Status, Version};
+use super::{refuse_if, Actions, Landed, Peer, Refusal, Router, Status, Version};
 use crate::event::{EXPLICIT_FLAG, OUTBOUND_FLAG};
 use crate::params::{general, TOPICS};
 
@@ -12,11 +12,13 @@ pub enum Place {
     Fresh(usize),
 }
 
-/// 01: "protocol name exactly /meshsub/1.0.0 or /meshsub/1.1.0".
-fn version_of(name: &[u8]) -> Result<Version, Refusal> {
+/// 01: "protocol name exactly /meshsub/1.0.0 or /meshsub/1.1.0"; order 6 of 02: "Accept
+/// /meshsub/1.2.0".
+fn version_of(name: &[u8], landed: Landed) -> Result<Version, Refusal> {
     match name {
         b"/meshsub/1.0.0" => Ok(Version::V10),
         b"/meshsub/1.1.0" => Ok(Version::V11),
+        b"/meshsub/1.2.0" if landed.version_12 => Ok(Version::V12),
         _ => Err(Refusal::UnknownProtocol),
     }
 }
@@ -30,7 +32,7 @@ impl Router {
         flags: u64,
         name: &[u8],
     ) -> Result<(), Refusal> {
-        let version = version_of(name)?;
+        let version = version_of(name, self.landed)?;
         refuse_if(self.connected(id).is_ok(), Refusal::AlreadyConnected)?;
         let place = self.place_for(id, now).ok_or(Refusal::NoSlot)?;
         self.reclaim(now);
@@ -67,7 +69,8 @@ impl Router {
     }
 
     /// "Leaves every mesh, loses subscriptions, keeps counters and backoffs,
-    /// starts the retain period".
+    /// starts the retain period". Order 6 of 02: an entry of the set goes "at a disconnect";
+    /// the count of this heartbeat is the record's and stays.
     pub(super) fn disconnect(&mut self, now: u64, id: u32) -> Result<(), Refusal> {
         let slot = self.connected(id)?;
         let peer = &mut self.peers[slot];
@@ -75,6 +78,7 @@ impl Router {
             peer.leave_mesh(k);
             peer.topics[k].subscribed = false;
         }
+        peer.notices.clear();
         peer.status = Status::Retained;
         peer.retain_end = now + 1000 * self.params.general(general::RETAIN) as u64;
         Ok(())

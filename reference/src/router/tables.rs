@@ -1,6 +1,6 @@
 //! The records of peers, and the test that tables are a router's.
 
-use super::Router;
+use super::{Notice, Router};
 use crate::event::{GROUPS, LAST_TIME, P5_LIMIT};
 use crate::params::{general, topic, TOPICS};
 
@@ -29,6 +29,8 @@ pub enum Version {
     #[default]
     V10,
     V11,
+    /// Order 6 of 02.
+    V12,
 }
 
 /// A peer's record in one topic. P2, P3 and P4 count thousandths, P3b
@@ -63,6 +65,10 @@ pub struct Peer {
     pub retain_end: u64,
     pub topics: [TopicRecord; TOPICS],
     pub backoff_ends: [u64; TOPICS],
+    /// Order 6 of 02: the message numbers that the peer does not want, by arrival, and how
+    /// many were put in since the last heartbeat call.
+    pub notices: Vec<Notice>,
+    pub notices_in: u64,
 }
 
 impl TopicRecord {
@@ -90,12 +96,14 @@ impl Peer {
             retain_end,
             topics,
             backoff_ends,
+            notices,
+            notices_in,
         } = self;
         let flags = *status as u64 | u64::from(outbound | explicit) | *version as u64;
-        let own = u64::from(*id) | flags | (p5 | p7) as u64 | retain_end;
+        let own = u64::from(*id) | flags | (p5 | p7) as u64 | retain_end | notices_in;
         let of_topics = topics.iter().fold(0, |bits, record| bits | record.bits());
         let numbers = own | of_topics | backoff_ends.iter().fold(0, |bits, end| bits | end);
-        numbers == 0 && *groups == Groups::default()
+        numbers == 0 && *groups == Groups::default() && notices.is_empty()
     }
 
     pub fn leave_mesh(&mut self, topic: usize) {
@@ -157,6 +165,7 @@ impl Router {
     pub fn is_valid(&self) -> bool {
         let broken = self.params.first_broken_but(self.waived_rule);
         broken.is_none()
+            && self.set_up.in_range()
             && self.clock <= LAST_TIME
             && self.ids_are_distinct()
             && self.peers.iter().all(|peer| self.is_valid_peer(peer))
@@ -173,7 +182,9 @@ impl Router {
         if peer.status == Status::Empty {
             return peer.is_zero();
         }
-        peer.in_ranges() && (0..TOPICS).all(|k| self.is_valid_topic(peer, k))
+        peer.in_ranges()
+            && peer.notices_are_valid(self.set_up.notice_limit)
+            && (0..TOPICS).all(|k| self.is_valid_topic(peer, k))
     }
 
     fn is_valid_topic(&self, peer: &Peer, k: usize) -> bool {

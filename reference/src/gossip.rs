@@ -1,0 +1,71 @@
+//! The calls of orders 6 and 7 of 02, with arguments as wide as a caller may give them. They
+//! have no kind in a trace: a host makes them directly.
+
+use crate::event::LAST_TIME;
+use crate::params::TOPICS;
+
+/// One call with its time: "New calls, order 7's too, take a time and action list like 01's."
+#[derive(Clone, PartialEq, Eq, Debug)]
+pub struct GossipEvent {
+    pub now: u64,
+    pub call: GossipCall,
+}
+
+/// A message number has 64 bits and no range. A sender of 0 is ourselves.
+#[derive(Clone, PartialEq, Eq, Debug)]
+pub enum GossipCall {
+    /// Order 6: IDONTWANT to the members, for a large message that we have.
+    Ask { topic: u64, number: u64, sender: u64 },
+    /// Order 6: an IDONTWANT that a peer sent us.
+    Notice { id: u64, number: u64 },
+    /// Order 6: to whom a message is passed on.
+    Relay { topic: u64, number: u64, sender: u64 },
+    /// Order 6: "A new heartbeat call". 01's tidy of one topic is `Call::Heartbeat`.
+    Beat,
+}
+
+/// The calls by name.
+pub const GOSSIP_NAMES: [&str; 4] = ["ask", "notice", "relay", "beat"];
+
+impl GossipCall {
+    /// The place of the call's name.
+    pub fn index(&self) -> usize {
+        match self {
+            GossipCall::Ask { .. } => 0,
+            GossipCall::Notice { .. } => 1,
+            GossipCall::Relay { .. } => 2,
+            GossipCall::Beat => 3,
+        }
+    }
+
+    pub fn name(&self) -> &'static str {
+        GOSSIP_NAMES[self.index()]
+    }
+}
+
+impl GossipEvent {
+    /// 01, answer 2: is every argument in its range?
+    pub fn in_range(&self) -> bool {
+        let arguments = match self.call {
+            GossipCall::Ask { topic, sender, .. } | GossipCall::Relay { topic, sender, .. } => {
+                is_topic(topic) && is_sender(sender)
+            }
+            GossipCall::Notice { id, .. } => is_peer(id),
+            GossipCall::Beat => true,
+        };
+        arguments && self.now <= LAST_TIME
+    }
+}
+
+fn is_topic(topic: u64) -> bool {
+    topic < TOPICS as u64
+}
+
+fn is_peer(id: u64) -> bool {
+    id != 0 && is_sender(id)
+}
+
+/// A peer's id, or 0 for ourselves.
+fn is_sender(sender: u64) -> bool {
+    u32::try_from(sender).is_ok()
+}

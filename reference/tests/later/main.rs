@@ -1,0 +1,4 @@
+//! Orders 6, 7 and 8 of 02, sentence by sentence; the expected values are worked out by hand.
+
+mod host;
+mod notices;
