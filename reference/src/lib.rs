@@ -14,6 +14,7 @@ pub mod params;
 pub mod random;
 pub mod replay;
 pub mod router;
+pub mod saves;
 pub mod set_up;
 pub mod shrink;
 pub mod supplier;

@@ -13,7 +13,10 @@ pub use control::GraftCase;
 pub use heartbeat::{is_permutation, Plan, Swap};
 pub use notices::{Notice, NoticeCase, IDONTWANT, MOST_NOTICES, NOTICE_LIFE, RELAY};
 pub use score::Why;
-pub use tables::{Groups, Peer, Status, TopicRecord, Version, GRAFT_SLACK};
+pub use tables::{
+    Groups, Peer, Status, TopicRecord, Version, GRAFT_SLACK, LONGEST_BACKOFF_MS, LONGEST_RETAIN_MS,
+    P3B_LIMIT, P4_P7_LIMIT,
+};
 
 use crate::event::{Call, Event, SLOTS};
 use crate::gossip::{GossipCall, GossipEvent};
@@ -40,6 +43,8 @@ pub enum Refusal {
     ShortActionList = 8,
     Ignored = 11,
     NotARouter = 12,
+    /// Order 8 of 02: "a buffer shorter than the save is 13".
+    NoRoom = 13,
 }
 
 /// What an accepted call gives back.
@@ -74,15 +79,18 @@ pub fn number<T>(answer: &Result<T, Refusal>) -> u32 {
 pub struct Landed {
     /// Order 6: "Accept /meshsub/1.2.0."
     pub version_12: bool,
+    /// Order 8: "remaining retain times go to 86,400,000, backoffs to 3,600,000, in test 12
+    /// too, from the clock".
+    pub ends_from_clock: bool,
 }
 
 impl Landed {
-    pub const ALL: Landed = Landed { version_12: true };
+    pub const ALL: Landed = Landed { version_12: true, ends_from_clock: true };
 }
 
 /// The rules of a router for which nobody says otherwise. An order that lands is turned on
 /// here.
-pub const LANDED: Landed = Landed { version_12: false };
+pub const LANDED: Landed = Landed { version_12: false, ends_from_clock: false };
 
 #[derive(Clone, PartialEq, Eq, Debug)]
 pub struct Router {

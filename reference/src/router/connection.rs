@@ -51,7 +51,7 @@ impl Router {
     /// 01: "A retained id resumes its record ...; another takes the lowest
     /// empty slot", both after every reclaimable record is emptied.
     pub fn place_for(&self, id: u32, now: u64) -> Option<Place> {
-        let stays = |peer: &Peer| peer.status != Status::Empty && !reclaimable(peer, now);
+        let stays = |peer: &Peer| peer.status != Status::Empty && !peer.is_reclaimable(now);
         let resumed = self.peers.iter().position(|peer| peer.id == id && stays(peer));
         let fresh = || self.peers.iter().position(|peer| !stays(peer));
         resumed.map(Place::Resumed).or_else(|| fresh().map(Place::Fresh))
@@ -59,7 +59,7 @@ impl Router {
 
     /// The slots that a connect empties first.
     pub fn reclaimable_slots(&self, now: u64) -> Vec<usize> {
-        (0..self.peers.len()).filter(|&slot| reclaimable(&self.peers[slot], now)).collect()
+        (0..self.peers.len()).filter(|&slot| self.peers[slot].is_reclaimable(now)).collect()
     }
 
     fn reclaim(&mut self, now: u64) {
@@ -79,8 +79,7 @@ impl Router {
             peer.topics[k].subscribed = false;
         }
         peer.notices.clear();
-        peer.status = Status::Retained;
-        peer.retain_end = now + 1000 * self.params.general(general::RETAIN) as u64;
+        peer.retain_from(now, &self.params);
         Ok(())
     }
 
@@ -109,10 +108,4 @@ impl Router {
         self.joined[topic] = false;
         Ok(())
     }
-}
-
-/// 01: "retained, retain period over (now ≥ its end), all eight backoffs over".
-fn reclaimable(peer: &Peer, now: u64) -> bool {
-    let backoffs_over = (0..TOPICS).all(|k| !peer.backoff_running(k, now));
-    peer.status == Status::Retained && now >= peer.retain_end && backoffs_over
 }

@@ -2,7 +2,7 @@
 
 use super::{Notice, Router};
 use crate::event::{GROUPS, LAST_TIME, P5_LIMIT};
-use crate::params::{general, topic, TOPICS};
+use crate::params::{general, topic, Params, TOPICS};
 
 /// P4 and P7 stop at 10^6 thousandths, P3b at 10^12 millionths.
 pub const P4_P7_LIMIT: i64 = 1_000_000;
@@ -11,9 +11,13 @@ pub const P3B_LIMIT: i64 = 1_000_000_000_000;
 /// Our own GRAFT waits so many milliseconds after a backoff's end.
 pub const GRAFT_SLACK: u64 = 1000;
 
+/// The longest backoff and retain period, in milliseconds.
+pub const LONGEST_BACKOFF_MS: u64 = 3_600_000;
+pub const LONGEST_RETAIN_MS: u64 = 86_400_000;
+
 /// The latest ends of a backoff and of a retain period.
-const LAST_BACKOFF_END: u64 = LAST_TIME + 3_600_000;
-const LAST_RETAIN_END: u64 = LAST_TIME + 86_400_000;
+const LAST_BACKOFF_END: u64 = LAST_TIME + LONGEST_BACKOFF_MS;
+const LAST_RETAIN_END: u64 = LAST_TIME + LONGEST_RETAIN_MS;
 
 #[derive(Clone, Copy, PartialEq, Eq, Debug, Default)]
 pub enum Status {
@@ -131,6 +135,25 @@ impl Peer {
         end == 0 || now >= end + GRAFT_SLACK
     }
 
+    /// 01: "retained, retain period over (now ≥ its end), all eight backoffs over".
+    pub fn is_reclaimable(&self, now: u64) -> bool {
+        let backoffs_over = (0..TOPICS).all(|k| !self.backoff_running(k, now));
+        self.status == Status::Retained && now >= self.retain_end && backoffs_over
+    }
+
+    /// Starts the retain period.
+    pub fn retain_from(&mut self, now: u64, params: &Params) {
+        self.status = Status::Retained;
+        self.retain_end = now + 1000 * params.general(general::RETAIN) as u64;
+    }
+
+    /// Order 8 of 02, of test 12: remaining times "from the clock".
+    fn ends_near(&self, clock: u64) -> bool {
+        let remaining = |end: u64| end.saturating_sub(clock);
+        remaining(self.retain_end) <= LONGEST_RETAIN_MS
+            && self.backoff_ends.iter().all(|&end| remaining(end) <= LONGEST_BACKOFF_MS)
+    }
+
     /// The groups, lowest first.
     pub fn groups(&self) -> impl Iterator<Item = u32> + '_ {
         self.groups.iter().copied().flatten()
@@ -183,6 +206,7 @@ impl Router {
             return peer.is_zero();
         }
         peer.in_ranges()
+            && (peer.ends_near(self.clock) || !self.landed.ends_from_clock)
             && peer.notices_are_valid(self.set_up.notice_limit)
             && (0..TOPICS).all(|k| self.is_valid_topic(peer, k))
     }
