@@ -1,8 +1,12 @@
 //! The calls of orders 6 and 7 of 02, with arguments as wide as a caller may give them. They
 //! have no kind in a trace: a host makes them directly.
 
-use crate::event::LAST_TIME;
+use crate::event::{Permutation, LAST_TIME};
 use crate::params::TOPICS;
+
+/// Order 7: "a lent list of 192 numbers", and "IHAVE of up to 192 numbers". Order 9 leaves
+/// both alone.
+pub const NUMBER_LIST: usize = 192;
 
 /// One call with its time: "New calls, order 7's too, take a time and action list like 01's."
 #[derive(Clone, PartialEq, Eq, Debug)]
@@ -22,10 +26,19 @@ pub enum GossipCall {
     Relay { topic: u64, number: u64, sender: u64 },
     /// Order 6: "A new heartbeat call". 01's tidy of one topic is `Call::Heartbeat`.
     Beat,
+    /// Order 7: a message number is stored in a topic.
+    Store { topic: u64, number: u64 },
+    /// Order 7: IHAVE to the rest.
+    Announce { topic: u64, permutation: Box<Permutation> },
+    /// Order 7: an IHAVE that a peer sent us.
+    IHave { id: u64, topic: u64, numbers: Vec<u64> },
+    /// Order 7: an IWANT that a peer sent us; an answer 0 is the reply.
+    IWant { id: u64, number: u64 },
 }
 
 /// The calls by name.
-pub const GOSSIP_NAMES: [&str; 4] = ["ask", "notice", "relay", "beat"];
+pub const GOSSIP_NAMES: [&str; 8] =
+    ["ask", "notice", "relay", "beat", "store", "announce", "ihave", "iwant"];
 
 impl GossipCall {
     /// The place of the call's name.
@@ -35,7 +48,16 @@ impl GossipCall {
             GossipCall::Notice { .. } => 1,
             GossipCall::Relay { .. } => 2,
             GossipCall::Beat => 3,
+            GossipCall::Store { .. } => 4,
+            GossipCall::Announce { .. } => 5,
+            GossipCall::IHave { .. } => 6,
+            GossipCall::IWant { .. } => 7,
         }
+    }
+
+    /// Is the call lent a list of numbers besides its action list?
+    pub fn lends_numbers(&self) -> bool {
+        matches!(self, GossipCall::Announce { .. } | GossipCall::IHave { .. })
     }
 
     pub fn name(&self) -> &'static str {
@@ -44,13 +66,18 @@ impl GossipCall {
 }
 
 impl GossipEvent {
-    /// 01, answer 2: is every argument in its range?
+    /// 01, answer 2: is every argument in its range? A permutation has an answer of its own.
     pub fn in_range(&self) -> bool {
         let arguments = match self.call {
             GossipCall::Ask { topic, sender, .. } | GossipCall::Relay { topic, sender, .. } => {
                 is_topic(topic) && is_sender(sender)
             }
-            GossipCall::Notice { id, .. } => is_peer(id),
+            GossipCall::Notice { id, .. } | GossipCall::IWant { id, .. } => is_peer(id),
+            GossipCall::Store { topic, .. } | GossipCall::Announce { topic, .. } => is_topic(topic),
+            // "IHAVE of up to 192 numbers (more: 2)"
+            GossipCall::IHave { id, topic, ref numbers } => {
+                is_peer(id) && is_topic(topic) && numbers.len() <= NUMBER_LIST
+            }
             GossipCall::Beat => true,
         };
         arguments && self.now <= LAST_TIME

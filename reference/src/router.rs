@@ -3,23 +3,26 @@
 
 mod connection;
 mod control;
+mod gossip;
 mod heartbeat;
 mod notices;
 mod score;
+mod stores;
 mod tables;
 
 pub use connection::Place;
 pub use control::GraftCase;
+pub use gossip::{Given, GossipAnswer};
 pub use heartbeat::{is_permutation, Plan, Swap};
 pub use notices::{Notice, NoticeCase, IDONTWANT, MOST_NOTICES, NOTICE_LIFE, RELAY};
 pub use score::Why;
+pub use stores::{IHaveCase, IWantCase, Store, StoreCase, IHAVE, MOST_STORED, STORED_HEARTBEATS};
 pub use tables::{
     Groups, Peer, Status, TopicRecord, Version, GRAFT_SLACK, LONGEST_BACKOFF_MS, LONGEST_RETAIN_MS,
     P3B_LIMIT, P4_P7_LIMIT,
 };
 
 use crate::event::{Call, Event, SLOTS};
-use crate::gossip::{GossipCall, GossipEvent};
 use crate::params::{self, general, Params, TOPICS};
 use crate::set_up::SetUp;
 
@@ -43,7 +46,7 @@ pub enum Refusal {
     ShortActionList = 8,
     Ignored = 11,
     NotARouter = 12,
-    /// Order 8 of 02: "a buffer shorter than the save is 13".
+    /// 02: a save's buffer (order 8) or a heartbeat's store (order 7) has no room for it.
     NoRoom = 13,
 }
 
@@ -55,16 +58,6 @@ pub enum Done {
 }
 
 pub type Answer = Result<Done, Refusal>;
-
-/// What an accepted call of order 6 gives back.
-#[derive(Clone, Copy, PartialEq, Eq, Debug, Default)]
-pub struct Given {
-    pub actions: usize,
-    /// Order 6: "with a 64-bit message number carried beside the list", that of an ask.
-    pub beside: Option<u64>,
-}
-
-pub type GossipAnswer = Result<Given, Refusal>;
 
 /// The number of 01's table for an answer.
 pub fn number<T>(answer: &Result<T, Refusal>) -> u32 {
@@ -100,6 +93,8 @@ pub struct Router {
     pub clock: u64,
     pub joined: [bool; TOPICS],
     pub peers: Vec<Peer>,
+    /// Order 7 of 02: the message numbers of each topic.
+    pub stores: [Store; TOPICS],
     /// A joint rule that this router does without: none, but in the experiment
     /// that shows what the rule is for.
     pub waived_rule: Option<usize>,
@@ -128,6 +123,7 @@ impl Router {
             clock: 0,
             joined: [false; TOPICS],
             peers: vec![Peer::default(); SLOTS],
+            stores: Default::default(),
             waived_rule: None,
         }
     }
@@ -186,48 +182,6 @@ impl Router {
                 return Ok(Some(Done::Score(self.why(slot))));
             }
         }?;
-        Ok(None)
-    }
-
-    /// Makes a call of order 6; what is refused or ignored leaves alone what it does in
-    /// `call`.
-    pub fn gossip(&mut self, event: &GossipEvent, list: &mut [u32]) -> GossipAnswer {
-        let answer = self.attempt_gossip(event, list);
-        if matches!(answer, Ok(_) | Err(Refusal::Ignored)) {
-            self.clock = event.now;
-        }
-        answer
-    }
-
-    /// Tests in 01's order, those of a number that a call cannot get left out: 12, 2, 8, 1,
-    /// 3, 11.
-    fn attempt_gossip(&mut self, event: &GossipEvent, list: &mut [u32]) -> GossipAnswer {
-        refuse_if(!self.is_valid(), Refusal::NotARouter)?;
-        refuse_if(!event.in_range(), Refusal::OutOfRange)?;
-        refuse_if(list.len() < ACTION_LIST, Refusal::ShortActionList)?;
-        refuse_if(event.now < self.clock, Refusal::ClockBack)?;
-        let mut actions = Actions { list, count: 0 };
-        let beside = self.dispatch_gossip(&event.call, &mut actions)?;
-        Ok(Given { actions: actions.count, beside })
-    }
-
-    /// Hands a call, whose arguments are in range, to its rule.
-    fn dispatch_gossip(
-        &mut self,
-        call: &GossipCall,
-        actions: &mut Actions,
-    ) -> Result<Option<u64>, Refusal> {
-        match *call {
-            GossipCall::Ask { topic, number, sender } => {
-                self.ask(topic as usize, sender as u32, actions)?;
-                return Ok(Some(number));
-            }
-            GossipCall::Notice { id, number } => self.notice(id as u32, number)?,
-            GossipCall::Relay { topic, number, sender } => {
-                self.relay(topic as usize, number, sender as u32, actions)?;
-            }
-            GossipCall::Beat => self.beat(),
-        }
         Ok(None)
     }
 

@@ -70,7 +70,8 @@ impl Router {
 
     /// "Leaves every mesh, loses subscriptions, keeps counters and backoffs,
     /// starts the retain period". Order 6 of 02: an entry of the set goes "at a disconnect";
-    /// the count of this heartbeat is the record's and stays.
+    /// the counts of this heartbeat are the record's and stay, those of replies (order 7) are
+    /// the connection's.
     pub(super) fn disconnect(&mut self, now: u64, id: u32) -> Result<(), Refusal> {
         let slot = self.connected(id)?;
         let peer = &mut self.peers[slot];
@@ -79,6 +80,7 @@ impl Router {
             peer.topics[k].subscribed = false;
         }
         peer.notices.clear();
+        peer.replies.clear();
         peer.retain_from(now, &self.params);
         Ok(())
     }
@@ -89,7 +91,8 @@ impl Router {
         Ok(())
     }
 
-    /// "Leave PRUNEs every member by slot, with the unsubscribe backoff".
+    /// "Leave PRUNEs every member by slot, with the unsubscribe backoff"; order 7 of 02: "a
+    /// leave empties its topic's store".
     pub(super) fn leave(
         &mut self,
         now: u64,
@@ -106,6 +109,7 @@ impl Router {
             self.send_prune(slot, topic, now, seconds, actions);
         }
         self.joined[topic] = false;
+        self.empty_store(topic);
         Ok(())
     }
 }

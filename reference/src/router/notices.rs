@@ -1,5 +1,5 @@
-//! Order 6 of 02: IDONTWANT asked for, received and heeded, and the heartbeat call that lets
-//! notices go. "No notice touches a mesh or a score."
+//! Order 6 of 02: IDONTWANT asked for, received and heeded. "No notice touches a mesh or a
+//! score."
 
 use super::{refuse_if, Actions, Peer, Refusal, Router, Status, Version};
 
@@ -143,12 +143,5 @@ impl Router {
         ];
         let first = cases.iter().find(|(_, holds)| *holds);
         first.map_or(NoticeCase::PutIn, |&(case, _)| case)
-    }
-
-    /// "A new heartbeat call sets the counts to 0", also those of retained records.
-    pub(super) fn beat(&mut self) {
-        for peer in &mut self.peers {
-            peer.age_notices();
-        }
     }
 }

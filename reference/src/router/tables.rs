@@ -3,6 +3,7 @@
 use super::{Notice, Router};
 use crate::event::{GROUPS, LAST_TIME, P5_LIMIT};
 use crate::params::{general, topic, Params, TOPICS};
+use std::collections::BTreeMap;
 
 /// P4 and P7 stop at 10^6 thousandths, P3b at 10^12 millionths.
 pub const P4_P7_LIMIT: i64 = 1_000_000;
@@ -73,6 +74,10 @@ pub struct Peer {
     /// many were put in since the last heartbeat call.
     pub notices: Vec<Notice>,
     pub notices_in: u64,
+    /// Order 7 of 02: the IHAVEs answered since the last heartbeat call, and the replies to
+    /// IWANT in this connection, by message number.
+    pub ihaves_in: u64,
+    pub replies: BTreeMap<u64, u64>,
 }
 
 impl TopicRecord {
@@ -102,12 +107,17 @@ impl Peer {
             backoff_ends,
             notices,
             notices_in,
+            ihaves_in,
+            replies,
         } = self;
         let flags = *status as u64 | u64::from(outbound | explicit) | *version as u64;
-        let own = u64::from(*id) | flags | (p5 | p7) as u64 | retain_end | notices_in;
+        let own = u64::from(*id) | flags | (p5 | p7) as u64 | retain_end;
+        let counts = notices_in | ihaves_in;
         let of_topics = topics.iter().fold(0, |bits, record| bits | record.bits());
-        let numbers = own | of_topics | backoff_ends.iter().fold(0, |bits, end| bits | end);
-        numbers == 0 && *groups == Groups::default() && notices.is_empty()
+        let numbers =
+            own | counts | of_topics | backoff_ends.iter().fold(0, |bits, end| bits | end);
+        let sets = notices.is_empty() && replies.is_empty();
+        numbers == 0 && *groups == Groups::default() && sets
     }
 
     pub fn leave_mesh(&mut self, topic: usize) {
@@ -191,6 +201,7 @@ impl Router {
             && self.set_up.in_range()
             && self.clock <= LAST_TIME
             && self.ids_are_distinct()
+            && self.gossip_is_valid()
             && self.peers.iter().all(|peer| self.is_valid_peer(peer))
     }
 

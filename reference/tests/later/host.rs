@@ -2,7 +2,7 @@
 
 use reference::event::{by_slot, Call, Event};
 use reference::generate::params::with;
-use reference::gossip::{GossipCall, GossipEvent};
+use reference::gossip::{GossipCall, GossipEvent, NUMBER_LIST};
 use reference::params::Params;
 use reference::router::{number, Done, Router, ACTION_LIST};
 use reference::set_up::SetUp;
@@ -44,9 +44,26 @@ impl Host {
     }
 
     pub fn gossip_at(&mut self, now: u64, call: GossipCall) -> (u32, Vec<Action>) {
+        let (answer, actions, numbers) = self.told_at(now, call);
+        assert!(numbers.is_empty());
+        (answer, actions)
+    }
+
+    /// A call with the numbers that it leaves in the lent list.
+    pub fn told(&mut self, call: GossipCall) -> (u32, Vec<Action>, Vec<u64>) {
+        let now = self.router.clock;
+        self.told_at(now, call)
+    }
+
+    fn told_at(&mut self, now: u64, call: GossipCall) -> (u32, Vec<Action>, Vec<u64>) {
         let mut list = [MARK; ACTION_LIST + 3];
-        let answer = self.router.gossip(&GossipEvent { now, call }, &mut list);
-        (number(&answer), actions_of(&list, answer.map_or(0, |given| given.actions)))
+        let mut numbers = [u64::from(MARK); NUMBER_LIST + 1];
+        let answer = self.router.gossip(&GossipEvent { now, call }, &mut list, &mut numbers);
+        let given = answer.unwrap_or_default();
+        let past = &numbers[given.numbers..];
+        assert!(past.iter().all(|&number| number == u64::from(MARK)), "numbers past those told");
+        let told = numbers[..given.numbers].to_vec();
+        (number(&answer), actions_of(&list, given.actions), told)
     }
 
     pub fn beat(&mut self) {

@@ -110,8 +110,8 @@ fn an_ask_carries_its_number() {
     let mut router = house(SetUp::ORDINARY).router;
     for message in [0, 5, u64::MAX] {
         let event = GossipEvent { now: 0, call: ask(0, message, 0) };
-        let given = router.gossip(&event, &mut [0; ACTION_LIST]);
-        assert_eq!(given, Ok(Given { actions: 2, beside: Some(message) }));
+        let given = router.gossip(&event, &mut [0; ACTION_LIST], &mut []);
+        assert_eq!(given, Ok(Given { actions: 2, beside: Some(message), numbers: 0 }));
     }
 }
 
@@ -439,17 +439,17 @@ fn the_order_of_tests() {
     for call in cases {
         // 2 before 8 and 1.
         let event = GossipEvent { now: 9, call };
-        assert_eq!(number(&host.router.gossip(&event, &mut [])), 2, "{event:?}");
+        assert_eq!(number(&host.router.gossip(&event, &mut [], &mut [])), 2, "{event:?}");
     }
     for call in [ask(1, 9, 99), relay(1, 9, 99), notice(99, 9), GossipCall::Beat] {
         let before = host.router.clone();
         let mut event = GossipEvent { now: 9, call };
         let mut short = [5; ACTION_LIST - 1];
-        assert_eq!(number(&host.router.gossip(&event, &mut short)), 8);
+        assert_eq!(number(&host.router.gossip(&event, &mut short, &mut [])), 8);
         assert_eq!(short, [5; ACTION_LIST - 1]);
-        assert_eq!(number(&host.router.gossip(&event, &mut [0; ACTION_LIST])), 1);
+        assert_eq!(number(&host.router.gossip(&event, &mut [0; ACTION_LIST], &mut [])), 1);
         event.now = LAST_TIME + 1;
-        assert_eq!(number(&host.router.gossip(&event, &mut [])), 2);
+        assert_eq!(number(&host.router.gossip(&event, &mut [], &mut [])), 2);
         assert_eq!(host.router, before);
     }
     assert_eq!(host.gossip(notice(99, 9)).0, 3);
