@@ -96,6 +96,7 @@ pub fn wrong(random: &mut Random, names: &Names, wrong: Wrong) -> Option<Lists> 
         Wrong::ChangeTopic => change[1] = *random.pick(&NO_TOPIC),
         Wrong::ChangeTopicUnnamed if unnamed.is_empty() => return None,
         Wrong::ChangeTopicUnnamed => change[1] = *random.pick(&unnamed),
+        Wrong::NoticeThird | Wrong::NumberNotInTable | Wrong::Table => return None,
     }
     Some(lists)
 }

@@ -4,3 +4,4 @@ mod gossip;
 mod host;
 mod notices;
 mod saves;
+mod wire;
