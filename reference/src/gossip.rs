@@ -1,8 +1,9 @@
 //! The calls of orders 6 and 7 of 02, with arguments as wide as a caller may give them. They
 //! have no kind in a trace: a host makes them directly.
 
-use crate::event::{Permutation, LAST_TIME};
+use crate::event::{Event, Permutation, LAST_TIME};
 use crate::params::TOPICS;
+use crate::router::{number, Done, Router};
 
 /// Order 7: "a lent list of 192 numbers", and "IHAVE of up to 192 numbers". Order 9 leaves
 /// both alone.
@@ -81,6 +82,47 @@ impl GossipEvent {
             GossipCall::Beat => true,
         };
         arguments && self.now <= LAST_TIME
+    }
+}
+
+/// A call of 01, or one of orders 6 and 7.
+#[derive(Clone, PartialEq, Eq, Debug)]
+pub enum AnyEvent {
+    Old(Event),
+    New(GossipEvent),
+}
+
+/// What an event came to: its answer's number, and how many actions and numbers were told.
+#[derive(Clone, Copy, PartialEq, Eq, Debug)]
+pub struct Outcome {
+    pub answer: u32,
+    pub actions: usize,
+    pub numbers: usize,
+}
+
+impl AnyEvent {
+    pub fn now(&self) -> u64 {
+        match self {
+            AnyEvent::Old(event) => event.now,
+            AnyEvent::New(event) => event.now,
+        }
+    }
+
+    /// Makes the call with the lent lists.
+    pub fn make(&self, router: &mut Router, actions: &mut [u32], numbers: &mut [u64]) -> Outcome {
+        match self {
+            AnyEvent::Old(event) => {
+                let answer = router.call(event, actions);
+                let actions = if let Ok(Done::Actions(count)) = answer { count } else { 0 };
+                Outcome { answer: number(&answer), actions, numbers: 0 }
+            }
+            AnyEvent::New(event) => {
+                let answer = router.gossip(event, actions, numbers);
+                let given = answer.unwrap_or_default();
+                let (actions, numbers) = (given.actions, given.numbers);
+                Outcome { answer: number(&answer), actions, numbers }
+            }
+        }
     }
 }
 

@@ -2,6 +2,7 @@
 
 mod gossip;
 mod host;
+mod lists;
 mod notices;
 mod saves;
 mod wire;
