@@ -6,6 +6,7 @@ pub mod gossip;
 pub mod lists;
 pub mod messages;
 pub mod names;
+pub mod notices;
 pub mod params;
 pub mod saves;
 pub mod supplier;
