@@ -9,6 +9,7 @@ use crate::generate::damage::Damage;
 use crate::generate::gossip::{set_up, GossipCaller};
 use crate::generate::{saves, traces};
 use crate::gossip::{AnyEvent, Outcome, NUMBER_LIST};
+use crate::params::TOPICS;
 use crate::random::Random;
 use crate::replies::Replies;
 use crate::router::{Router, ACTION_LIST};
@@ -154,7 +155,7 @@ fn check_change(
         }
         _ => ensure(after == before, "a refused call changed something")?,
     }
-    let meshes = |router: &Router| (0..8).map(|topic| router.mesh(topic)).collect::<Vec<_>>();
+    let meshes = |router: &Router| (0..TOPICS).map(|topic| router.mesh(topic)).collect::<Vec<_>>();
     match event {
         AnyEvent::New(_) => ensure(
             meshes(before) == meshes(after) && before.scores() == after.scores(),

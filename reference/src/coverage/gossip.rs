@@ -5,7 +5,9 @@ use super::{fact, Answers, Facts, Rows};
 use crate::event::{Call, Event};
 use crate::generate::damage::Damage;
 use crate::gossip::{AnyEvent, GossipCall, GossipEvent, NUMBER_LIST};
-use crate::router::*;
+use crate::router::{IHaveCase, IWantCase, NoticeCase, Place, StoreCase};
+use crate::router::{Notice, Peer, Router, Status, Store, Version};
+use crate::router::{MOST_NOTICES, MOST_STORED, NOTICE_LIFE, STORED_HEARTBEATS};
 use std::collections::BTreeMap;
 use std::fmt::Write;
 

@@ -2,6 +2,7 @@
 //! score."
 
 use super::{refuse_if, Actions, Peer, Refusal, Router, Status, Version};
+use std::collections::BTreeSet;
 
 /// The first numbers of the actions.
 pub const IDONTWANT: u32 = 3;
@@ -53,13 +54,15 @@ impl Peer {
     /// Test 12: "sets, counts .. are within bounds, no peer's set .. holding a number twice,
     /// or any if not connected".
     pub(super) fn notices_are_valid(&self, limit: u64) -> bool {
-        let mut numbers: Vec<u64> = self.notices.iter().map(|notice| notice.number).collect();
-        numbers.sort_unstable();
-        self.notices.len() <= MOST_NOTICES
+        self.notices_in <= limit && (self.notices.is_empty() || self.is_valid_set())
+    }
+
+    fn is_valid_set(&self) -> bool {
+        let distinct: BTreeSet<u64> = self.notices.iter().map(|notice| notice.number).collect();
+        self.status == Status::Connected
+            && self.notices.len() <= MOST_NOTICES
+            && distinct.len() == self.notices.len()
             && self.notices.iter().all(|notice| notice.age < NOTICE_LIFE)
-            && numbers.windows(2).all(|pair| pair[0] != pair[1])
-            && (self.status == Status::Connected || self.notices.is_empty())
-            && self.notices_in <= limit
     }
 }
 

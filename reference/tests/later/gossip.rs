@@ -106,6 +106,9 @@ fn sixty_four_a_heartbeat_and_13() {
     stored(&mut host, 0, &[64]);
     assert_eq!(host.router.stores[0].heartbeats[0], [64]);
     assert_eq!(host.router.stores[0].heartbeats[1], first);
+    stored(&mut host, 0, &(65..128).collect::<Vec<_>>());
+    assert_eq!(host.gossip(store(0, 128)).0, 13);
+    assert_eq!(host.gossip(store(0, 63)).0, 0, "there since the heartbeat before");
 }
 
 // "a call with a tidy's draw and tests announces the last three's in IHAVE, oldest first in a
