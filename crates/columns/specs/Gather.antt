@@ -40,7 +40,7 @@ pub record Halves (u : ℕ) : Type 0 where
 pub record Lanes (u : ℕ) : Type 0 where
   pub first : u % 2097152 < laneTop
   pub second : u / 2097152 % 2097152 < laneTop
-  pub third : u / 2097152 / 2097152 < laneTop
+  pub third : u / 4398046511104 < laneTop
 
 -- the counters of topic t, by its caps
 unfoldable pub countersGathered : List ℕ → (n : ℕ) → (caps2 caps3 : List ℕ) → (p4 t : ℕ) → ℕ

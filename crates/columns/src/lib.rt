@@ -108,7 +108,7 @@ fn halves(x: u64) -> bool
 fn lanes(x: u64) -> bool
     ensures { λ r. ⌜ (r ≡ true → Lanes x) ⌝ }
 {
-    (x % LANE < LANE_TOP) & (x / LANE % LANE < LANE_TOP) & (x / LANE / LANE < LANE_TOP)
+    (x % LANE < LANE_TOP) & (x / LANE % LANE < LANE_TOP) & (x / LANES < LANE_TOP)
 }
 
 // ---- the peers

@@ -1,0 +1,19 @@
+use lib.ListN.{length-set}
+use native.Mathlib.Omega.{arith}
+use borrow.Author.Needs.{needs}
+use Rattle.columns.proofs.no_retain.Statement.{statement}
+use Rattle.columns.proofs.no_retain.Tie as tie
+use Rattle.columns.proofs.no_retain.Reads as reads
+use Rattle.columns.proofs.no_retain.Lts as lts
+use Rattle.columns.proofs.gathered.Reads as gathered-reads
+
+-- src/lib.rt:166:5
+gathered-requires : tie.Need-gathered-requires
+gathered-requires c κs = search needs
+
+-- src/lib.rt:162:1
+returns : tie.Need-returns
+returns c = ?
+
+pub no-retain-spec : {M : Type 1} → statement M
+no-retain-spec = tie.close (tie.spec gathered-requires returns)
