@@ -1,13 +1,15 @@
 -- What the unions of the passes tell of the state: each cell is within its limit, and the cells in use are the records.
 -- Assumes nothing.
 use Prim.Native.Nat.{ℕ, _+_, _*_, _/_, _%_, _≤_, _<_}
-use mathlib.Core.Path.{_≡_, refl, _∙_}
+use mathlib.Core.Path.{_≡_, refl, sym, ap, _∙_, subst}
 use mathlib.Core.Bool.{true, _&&_}
 use mathlib.Core.List.{List}
 use native.Mathlib.Omega.{arith}
 use lib.ListN.{getD}
-use lib.Dec.{ltb}
-use borrow.Author.Tests.{ltb-true}
+use lib.Dec.{ltb, eqb}
+use lib.Bits.{bitOr}
+use native.Mathlib.Decide.{decLt}
+use borrow.Author.Tests.{ltb-true, eqb-true}
 use Rattle.index.proofs.Index.{both}
 use Rattle.records.specs.Records.{topicCount}
 use Rattle.layout.specs.View.{stride, idAt, groupsAt, p57At, retainAt, endsAt, countersAt, p3bAt, stateOf}
@@ -47,6 +49,49 @@ pub lanes-room :
     a + b * 2097152 + d * 4398046511104 ≡ lanesRoom first second third
 unfolding lanesRoom
 lanes-room a b d first second third e f g = rw (e, f, g) refl
+
+-- ---- a test of what a pass gathered, with a computed room
+
+pub below-top :
+    (c : List ℕ) (at n u k j : ℕ) →
+    u ≡ gathered c at k n →
+    k ≡ j →
+    ltb u cellTop ≡ true →
+    gathered c at j n < cellTop
+below-top c at n u k j e f t =
+    let p : u ≡ gathered c at j n = e ∙ ap (λ (i : ℕ). gathered c at i n) f in
+    subst (λ (x : ℕ). x < cellTop) p (ltb-true u cellTop t)
+
+pub all-zero : (c : List ℕ) (at n u : ℕ) → u ≡ gathered c at 0 n → eqb u 0 ≡ true → gathered c at 0 n ≡ 0
+all-zero c at n u e t = sym e ∙ eqb-true u 0 t
+
+pub in-halves :
+    (c : List ℕ) (at n u k j : ℕ) →
+    u ≡ gathered c at k n →
+    k ≡ j →
+    Halves u →
+    Halves (gathered c at j n)
+in-halves c at n u k j e f h = subst Halves (e ∙ ap (λ (i : ℕ). gathered c at i n) f) h
+
+-- ---- the counters, topic by topic
+
+pub topics-more :
+    (c : List ℕ) (n : ℕ) (caps2 caps3 : List ℕ) (p4 t acc u k : ℕ) →
+    (Lanes acc → (j : ℕ) → j < t → Lanes (countersGathered c n caps2 caps3 p4 j)) →
+    u ≡ gathered c (countersAt + t * stride) k n →
+    k ≡ lanesRoom (getD caps2 t 0) (getD caps3 t 0) p4 →
+    Lanes (bitOr acc u) →
+    (j : ℕ) →
+    j < t + 1 →
+    Lanes (countersGathered c n caps2 caps3 p4 j)
+unfolding countersGathered
+topics-more c n caps2 caps3 p4 t acc u k before e f h j l =
+    elim (decLt j t) [
+      | yes b ↦ before (lanes-left acc u h) j b
+      | no b ↦
+          let q : j ≡ t = omega arith in
+          rw q (subst Lanes (e ∙ ap (λ (i : ℕ). gathered c (countersAt + t * stride) i n) f) (lanes-right acc u h))
+    ]
 
 -- ---- each cell of a run
 

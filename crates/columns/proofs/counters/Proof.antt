@@ -1,3 +1,9 @@
+use Prim.Native.Nat.{ℕ, _≤_, _<_, _-_}
+use native.Mathlib.Nat.{not-suc-le-zero}
+use native.Mathlib.Omega.{arith}
+use Rattle.records.specs.Records.{topicCount}
+use Rattle.columns.specs.Gather.{Lanes, countersGathered}
+use Rattle.columns.proofs.WithinLaws.{topics-more}
 use borrow.Author.Needs.{needs}
 use Rattle.columns.proofs.counters.Statement.{statement}
 use Rattle.columns.proofs.counters.Tie as tie
@@ -7,14 +13,15 @@ use Rattle.columns.proofs.gathered.Reads as gathered-reads
 use Rattle.columns.proofs.lanes_room.Reads as lanes-room-reads
 
 abbrev Inv-loop : tie.InvT-loop
-Inv-loop cells n caps2 caps3 p4 acc₀ t₀ acc t = ?
+Inv-loop cells n caps2 caps3 p4 acc₀ t₀ acc t =
+    (t ≤ topicCount) × (Lanes acc → (j : ℕ) → j < t → Lanes (countersGathered cells n caps2 caps3 p4 j))
 
 abbrev μ-loop : tie.MeasureT-loop
-μ-loop cells n caps2 caps3 p4 acc₀ t₀ acc t = ?
+μ-loop cells n caps2 caps3 p4 acc₀ t₀ acc t = topicCount - t
 
 -- src/lib.rt:187:5
 loop-holds : tie.Need-loop-holds Inv-loop μ-loop
-loop-holds c = search needs
+loop-holds c = (omega arith, (λ h j l. absurd (not-suc-le-zero l)))
 
 -- src/lib.rt:191:31
 mul-gathered : tie.Need-mul-gathered Inv-loop μ-loop
@@ -58,11 +65,17 @@ loop-less c = search needs
 
 -- src/lib.rt:187:5
 loop-again : tie.Need-loop-again Inv-loop μ-loop
-loop-again c = search needs
+loop-again c =
+    let k = c .before in
+    let l = k .before .before .before .before .loop in
+    (omega arith, topics-more _ _ _ _ _ _ _ _ _ (l .inv .1) (c .gathered .ensures) (k .lanes-room .ensures))
 
 -- src/lib.rt:180:1
 returns : tie.Need-returns Inv-loop μ-loop
-returns c = search needs
+returns c =
+    λ h j l.
+    let t = c .before .loop .inv .0 in
+    c .before .loop .inv .1 h j (omega arith)
 
 pub counters-spec : {M : Type 1} → statement M
 counters-spec =

@@ -1,3 +1,4 @@
+use Rattle.columns.proofs.WithinLaws.{below-top, ends-within}
 use lib.ListN.{length-set}
 use native.Mathlib.Omega.{arith}
 use borrow.Author.Needs.{needs}
@@ -22,7 +23,10 @@ gathered-requires c κs = search needs
 
 -- src/lib.rt:170:1
 returns : tie.Need-returns
-returns c = ?
+returns c =
+    λ t.
+    let g = c .gathered .ensures in
+    ends-within _ _ (c .before .before .before .pre) _ (below-top _ _ _ _ _ _ g (c .before .room .ensures .0) t)
 
 pub ends-within-spec : {M : Type 1} → statement M
 ends-within-spec = tie.close (tie.spec mul-gathered room-requires gathered-requires returns)

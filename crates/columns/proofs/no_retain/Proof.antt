@@ -1,3 +1,4 @@
+use Rattle.columns.proofs.WithinLaws.{all-zero, no-retain}
 use lib.ListN.{length-set}
 use native.Mathlib.Omega.{arith}
 use borrow.Author.Needs.{needs}
@@ -13,7 +14,7 @@ gathered-requires c κs = search needs
 
 -- src/lib.rt:162:1
 returns : tie.Need-returns
-returns c = ?
+returns c = λ t. no-retain _ _ (c .before .before .pre) (all-zero _ _ _ _ (c .gathered .ensures) t)
 
 pub no-retain-spec : {M : Type 1} → statement M
 no-retain-spec = tie.close (tie.spec gathered-requires returns)

@@ -1,3 +1,5 @@
+use Rattle.index.proofs.Index.{both}
+use Rattle.columns.proofs.WithinLaws.{all-zero, one-group}
 use lib.ListN.{length-set}
 use native.Mathlib.Omega.{arith}
 use borrow.Author.Needs.{needs}
@@ -33,7 +35,19 @@ three-requires c κs = search needs
 
 -- src/lib.rt:144:1
 returns : tie.Need-returns
-returns c = ?
+returns c =
+    λ t.
+    let b = both _ _ t in
+    let a = both _ _ (b .0) in
+    let u = c .before .before .before in
+    let e = u .three .ensures in
+    one-group
+    _
+    _
+    (u .before .before .pre)
+    (all-zero _ _ _ _ (e .0) (a .0))
+    (all-zero _ _ _ _ (e .1 .0) (a .1))
+    (all-zero _ _ _ _ (e .1 .1) (b .1))
 
 pub one-group-spec : {M : Type 1} → statement M
 one-group-spec =

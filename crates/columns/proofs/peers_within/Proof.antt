@@ -1,3 +1,5 @@
+use Rattle.index.proofs.Index.{both}
+use Rattle.columns.proofs.WithinLaws.{below-top, in-halves, peers-within}
 use lib.ListN.{length-set}
 use native.Mathlib.Omega.{arith}
 use borrow.Author.Needs.{needs}
@@ -32,7 +34,24 @@ halves-requires c κs = search needs
 
 -- src/lib.rt:117:1
 returns : tie.Need-returns
-returns c = ?
+returns c =
+    λ t.
+    let b = both _ _ t in
+    let a = both _ _ (b .0) in
+    let u = c .before .before .before in
+    let e = u .three .ensures in
+    let k = u .before in
+    peers-within
+    _
+    _
+    (k .before .before .before .before .pre)
+    _
+    _
+    _
+    _
+    (below-top _ _ _ _ _ _ (e .0) (k .before .before .room .ensures .0) (a .0))
+    (below-top _ _ _ _ _ _ (e .1 .0) (k .before .room2 .ensures .0) (a .1))
+    (in-halves _ _ _ _ _ _ (e .1 .1) (k .halves-room .ensures) (c .halves .ensures (b .1)))
 
 pub peers-within-spec : {M : Type 1} → statement M
 peers-within-spec =
