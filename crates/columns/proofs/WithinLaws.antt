@@ -13,9 +13,10 @@ use borrow.Author.Tests.{ltb-true, eqb-true}
 use Rattle.index.proofs.Index.{both}
 use Rattle.records.specs.Records.{topicCount}
 use Rattle.layout.specs.View.{stride, idAt, groupsAt, p57At, retainAt, endsAt, countersAt, p3bAt, stateOf}
-use Rattle.columns.specs.Gather.{gathered, cellTop, laneTop, halfTop, room, halvesRoom, lanesRoom, Halves, Lanes, countersGathered}
+use Rattle.columns.specs.Gather.{gathered, cellTop, laneTop, halfTop, room, halvesRoom, lanesRoom, Halves, Lanes, RunWithin}
+use Rattle.columns.specs.Gather.{countersGathered}
 use Rattle.columns.specs.Within.{InUse, PeersWithin, Named, OneGroup, NoRetain, EndsWithin, CountersWithin}
-use Rattle.columns.proofs.GatherLaws.{gathered-each}
+use Rattle.columns.proofs.GatherLaws.{in-left, in-right, gathered-each}
 use Rattle.columns.proofs.LaneLaws.{low-left, low-right, zero-left, zero-right, halves-left, halves-right, lanes-left, lanes-right}
 use Rattle.columns.proofs.LaneLaws.{low-limit, low-one, halves-limit, lanes-limit}
 use Rattle.columns.proofs.CellLaws.{id-cell, first-cell, second-cell, third-cell, fourth-cell, p5-cell, p7-cell, retain-cell, end-cell}
@@ -101,6 +102,16 @@ module _ (c : List ℕ) (at n : ℕ) where
       let e = gathered-each (λ x. x < cellTop) low-left low-right c at (room cellTop limit) n h i l in
       low-limit (getD c (at + i) 0) limit (e .0) (e .1)
 
+  pub run-limit : (limit : ℕ) → gathered c at (room cellTop limit) n < cellTop → RunWithin c at n limit
+  run-limit limit h = record { cell = cell-limit limit h }
+
+  -- no cell is above the union
+  pub run-union : (u limit : ℕ) → u ≡ gathered c at 0 n → u ≤ limit → RunWithin c at n limit
+  run-union u limit e h =
+      let left : (a b : ℕ) → bitOr a b ≤ limit → a ≤ limit = λ a b l. omega (arith, in-left a b) in
+      let right : (a b : ℕ) → bitOr a b ≤ limit → b ≤ limit = λ a b l. omega (arith, in-right a b) in
+      record { cell = λ i l. gathered-each (λ x. x ≤ limit) left right c at 0 n (subst (λ x. x ≤ limit) e h) i l .0 }
+
   cell-one : gathered c at 18446744073709551615 n < cellTop → (i : ℕ) → i < n → 1 ≤ getD c (at + i) 0
   cell-one h i l =
       let e = gathered-each (λ x. x < cellTop) low-left low-right c at 18446744073709551615 n h i l in
@@ -181,18 +192,18 @@ module _ (c : List ℕ) (n : ℕ) (u : InUse c n) where
   pub no-retain : gathered c retainAt 0 n ≡ 0 → NoRetain (stateOf c) n
   no-retain a = record { retain = λ s h. retain-cell c n u s h ∙ cell-zero c retainAt n a s h }
 
-  pub ends-within : (m : ℕ) → gathered c endsAt (room cellTop m) (n * topicCount) < cellTop → EndsWithin (stateOf c) n m
+  pub ends-within : (m : ℕ) → RunWithin c endsAt (n * topicCount) m → EndsWithin (stateOf c) n m
   ends-within m a =
       record {
         end = λ s t h l.
-            at-most _ _ _ (end-cell c n u s h t l) (cell-limit c endsAt (n * topicCount) m a (s * topicCount + t) (place-below s t n h l));
+            at-most _ _ _ (end-cell c n u s h t l) (a .cell (s * topicCount + t) (place-below s t n h l));
       }
 
   module _
       (caps2 caps3 : List ℕ)
       (p4 p3b : ℕ)
       (a : (t : ℕ) → t < topicCount → Lanes (countersGathered c n caps2 caps3 p4 t))
-      (b : gathered c p3bAt (room cellTop p3b) (n * topicCount) < cellTop) where
+      (b : RunWithin c p3bAt (n * topicCount) p3b) where
     each :
         (s t : ℕ) →
         s < n →
@@ -211,5 +222,5 @@ module _ (c : List ℕ) (n : ℕ) (u : InUse c n) where
           p4 = λ s t h l. at-most _ _ _ (p4-cell c n u s h t l) (each s t h l .1 .1);
           p3b = λ s t h l.
               at-most _ _ _ (p3b-cell c n u s h t l)
-              (cell-limit c p3bAt (n * topicCount) p3b b (s * topicCount + t) (place-below s t n h l));
+              (b .cell (s * topicCount + t) (place-below s t n h l));
         }

@@ -1,6 +1,6 @@
 -- What a pass over cells gathers: the union of the cells and of their sums with k. The unions tell at once whether every cell is within its
 -- limit, each lane by the free bit above it.
-use Prim.Native.Nat.{ℕ, zero, suc, _+_, _*_, _-_, _/_, _%_, _^_, _<_}
+use Prim.Native.Nat.{ℕ, zero, suc, _+_, _*_, _-_, _/_, _%_, _^_, _≤_, _<_}
 use mathlib.Core.List.{List}
 use lib.ListN.{getD}
 use lib.Bits.{bitOr}
@@ -41,6 +41,10 @@ pub record Lanes (u : ℕ) : Type 0 where
   pub first : u % 2097152 < laneTop
   pub second : u / 2097152 % 2097152 < laneTop
   pub third : u / 4398046511104 < laneTop
+
+-- n cells, from cell `at` on, are at most a limit
+pub record RunWithin (c : List ℕ) (at n limit : ℕ) : Type 0 where
+  pub cell : (i : ℕ) → i < n → getD c (at + i) 0 ≤ limit
 
 -- the counters of topic t, by its caps
 unfoldable pub countersGathered : List ℕ → (n : ℕ) → (caps2 caps3 : List ℕ) → (p4 t : ℕ) → ℕ

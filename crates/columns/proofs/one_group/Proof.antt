@@ -1,39 +1,10 @@
+-- `columns::one_group`: three unions of 0. Assumes nothing.
 use Rattle.index.proofs.Index.{both}
 use Rattle.columns.proofs.WithinLaws.{all-zero, one-group}
-use lib.ListN.{length-set}
-use native.Mathlib.Omega.{arith}
 use borrow.Author.Needs.{needs}
 use Rattle.columns.proofs.one_group.Statement.{statement}
 use Rattle.columns.proofs.one_group.Tie as tie
-use Rattle.columns.proofs.one_group.Reads as reads
-use Rattle.columns.proofs.one_group.Lts as lts
-use Rattle.columns.proofs.three.Reads as three-reads
 
--- src/lib.rt:150:9
-add-three : tie.Need-add-three
-add-three c = search needs
-
--- src/lib.rt:151:21
-mul-three : tie.Need-mul-three
-mul-three c = search needs
-
--- src/lib.rt:151:9
-add-three-2 : tie.Need-add-three-2
-add-three-2 c = search needs
-
--- src/lib.rt:152:21
-mul-three-2 : tie.Need-mul-three-2
-mul-three-2 c = search needs
-
--- src/lib.rt:152:9
-add-three-3 : tie.Need-add-three-3
-add-three-3 c = search needs
-
--- src/lib.rt:148:9
-three-requires : tie.Need-three-requires
-three-requires c κs = search needs
-
--- src/lib.rt:144:1
 returns : tie.Need-returns
 returns c =
     λ t.
@@ -52,4 +23,4 @@ returns c =
 pub one-group-spec : {M : Type 1} → statement M
 one-group-spec =
     tie.close
-    (tie.spec add-three mul-three add-three-2 mul-three-2 add-three-3 three-requires returns)
+    (tie.spec (λ c. search needs) (λ c. search needs) (λ c. search needs) (λ c. search needs) (λ c. search needs) (λ c κs. search needs) returns)
