@@ -1,6 +1,7 @@
 -- What the unions of the passes tell of the state: each cell is within its limit, and the cells in use are the records.
 -- Assumes nothing.
-use Prim.Native.Nat.{ℕ, _+_, _*_, _/_, _%_, _≤_, _<_}
+use Prim.Native.Nat.{ℕ, _+_, _*_, _-_, _/_, _%_, _≤_, _<_}
+use native.Mathlib.Nat.{not-suc-le-zero}
 use mathlib.Core.Path.{_≡_, refl, sym, ap, _∙_, subst}
 use mathlib.Core.Bool.{true, _&&_}
 use mathlib.Core.List.{List}
@@ -74,6 +75,83 @@ pub in-halves :
     Halves (gathered c at j n)
 in-halves c at n u k j e f h = subst Halves (e ∙ ap (λ (i : ℕ). gathered c at i n) f) h
 
+-- ---- four runs side by side: no cell is above the union
+
+-- what four more cells leave below
+module _ (c : List ℕ) (u v : ℕ) (l : u ≤ v) where
+  pub run-more : (at i x : ℕ) → RunWithin c at i u → x ≡ getD c (at + i) 0 → x ≤ v → RunWithin c at (i + 1) v
+  run-more at i x r e h =
+      record {
+        cell = λ j b.
+            elim (decLt j i) [
+              | yes d ↦ let q = r .cell j d in omega arith
+              | no d ↦
+                  let q : j ≡ i = omega arith in
+                  rw (q, sym e) h
+            ];
+      }
+
+pub four-below :
+    (u a b d e : ℕ) →
+    (u ≤ bitOr u (bitOr (bitOr a b) (bitOr d e)))
+    × ((a ≤ bitOr u (bitOr (bitOr a b) (bitOr d e)))
+    × ((b ≤ bitOr u (bitOr (bitOr a b) (bitOr d e)))
+    × ((d ≤ bitOr u (bitOr (bitOr a b) (bitOr d e))) × (e ≤ bitOr u (bitOr (bitOr a b) (bitOr d e))))))
+four-below u a b d e =
+    let p = in-left u (bitOr (bitOr a b) (bitOr d e)) in
+    let q = in-right u (bitOr (bitOr a b) (bitOr d e)) in
+    let l = in-left (bitOr a b) (bitOr d e) in
+    let r = in-right (bitOr a b) (bitOr d e) in (
+      p,
+      (
+        omega (arith, q, l, in-left a b),
+        (omega (arith, q, l, in-right a b), (omega (arith, q, r, in-left d e), omega (arith, q, r, in-right d e))),
+      ),
+    )
+
+pub run-none : (c : List ℕ) (at u : ℕ) → RunWithin c at 0 u
+run-none c at u = record { cell = λ i l. absurd (not-suc-le-zero l) }
+
+pub run-join :
+    (c : List ℕ) (at n i u : ℕ) →
+    n ≤ i →
+    RunWithin c at i u →
+    RunWithin c (at + n) i u →
+    RunWithin c (at + 2 * n) i u →
+    RunWithin c (at + 3 * n) i u →
+    RunWithin c at (4 * n) u
+run-join c at n i u l w x y z =
+    record {
+      cell = λ j b.
+          elim (decLt j n) [
+            | yes d ↦ w .cell j (omega arith)
+            | no d ↦
+                elim (decLt j (2 * n)) [
+                  | yes e ↦
+                      let q : at + j ≡ at + n + (j - n) = omega arith in
+                      rw q (x .cell (j - n) (omega arith))
+                  | no e ↦
+                      elim (decLt j (3 * n)) [
+                        | yes f ↦
+                            let q : at + j ≡ at + 2 * n + (j - 2 * n) = omega arith in
+                            rw q (y .cell (j - 2 * n) (omega arith))
+                        | no f ↦
+                            let q : at + j ≡ at + 3 * n + (j - 3 * n) = omega arith in
+                            rw q (z .cell (j - 3 * n) (omega arith))
+                      ]
+                ]
+          ];
+    }
+
+-- the union of eight cells a slot, below a limit
+pub rows-below : (c : List ℕ) (at n u limit : ℕ) → RunWithin c at (4 * (2 * n)) u → u ≤ limit → RunWithin c at (8 * n) limit
+rows-below c at n u limit r l =
+    record {
+      cell = λ i h.
+          let q = r .cell i (omega arith) in
+          omega arith;
+    }
+
 -- ---- the counters, topic by topic
 
 pub topics-more :
@@ -104,13 +182,6 @@ module _ (c : List ℕ) (at n : ℕ) where
 
   pub run-limit : (limit : ℕ) → gathered c at (room cellTop limit) n < cellTop → RunWithin c at n limit
   run-limit limit h = record { cell = cell-limit limit h }
-
-  -- no cell is above the union
-  pub run-union : (u limit : ℕ) → u ≡ united c at n → u ≤ limit → RunWithin c at n limit
-  run-union u limit e h =
-      let left : (a b : ℕ) → bitOr a b ≤ limit → a ≤ limit = λ a b l. omega (arith, in-left a b) in
-      let right : (a b : ℕ) → bitOr a b ≤ limit → b ≤ limit = λ a b l. omega (arith, in-right a b) in
-      record { cell = λ i l. united-each (λ x. x ≤ limit) left right c at n (subst (λ x. x ≤ limit) e h) i l }
 
   cell-one : gathered c at 18446744073709551615 n < cellTop → (i : ℕ) → i < n → 1 ≤ getD c (at + i) 0
   cell-one h i l =
@@ -149,7 +220,7 @@ at-most x y m e h = rw e h
 at-least : (x y m : ℕ) → x ≡ y → m ≤ y → m ≤ x
 at-least x y m e h = rw e h
 
-place-below : (s t n : ℕ) → s < n → t < topicCount → s * topicCount + t < n * topicCount
+place-below : (s t n : ℕ) → s < n → t < topicCount → s * topicCount + t < 8 * n
 place-below s t n h l = omega arith
 
 module _ (c : List ℕ) (n : ℕ) (u : InUse c n) where
@@ -192,7 +263,7 @@ module _ (c : List ℕ) (n : ℕ) (u : InUse c n) where
   pub no-retain : united c retainAt n ≡ 0 → NoRetain (stateOf c) n
   no-retain a = record { retain = λ s h. retain-cell c n u s h ∙ cell-zero c retainAt n a s h }
 
-  pub ends-within : (m : ℕ) → RunWithin c endsAt (n * topicCount) m → EndsWithin (stateOf c) n m
+  pub ends-within : (m : ℕ) → RunWithin c endsAt (8 * n) m → EndsWithin (stateOf c) n m
   ends-within m a =
       record {
         end = λ s t h l.
@@ -203,7 +274,7 @@ module _ (c : List ℕ) (n : ℕ) (u : InUse c n) where
       (caps2 caps3 : List ℕ)
       (p4 p3b : ℕ)
       (a : (t : ℕ) → t < topicCount → Lanes (countersGathered c n caps2 caps3 p4 t))
-      (b : RunWithin c p3bAt (n * topicCount) p3b) where
+      (b : RunWithin c p3bAt (8 * n) p3b) where
     each :
         (s t : ℕ) →
         s < n →

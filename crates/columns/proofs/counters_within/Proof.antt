@@ -11,8 +11,8 @@ returns c =
     let b = both _ _ t in
     let f = c .before in
     let u = f .before in
-    counters-within _ _ (u .before .before .pre) _ _ _ _ (u .counters .ensures (f .lanes .ensures (b .0))) (c .run-within .ensures (b .1))
+    counters-within _ _ (u .before .before .pre) _ _ _ _ (u .counters .ensures (f .lanes .ensures (b .0))) (c .rows-within .ensures (b .1))
 
 pub counters-within-spec : {M : Type 1} → statement M
 counters-within-spec =
-    tie.close (tie.spec (λ c κs. search needs) (λ c κs. search needs) (λ c. search needs) (λ c κs. search needs) returns)
+    tie.close (tie.spec (λ c κs. search needs) (λ c κs. search needs) (λ c κs. search needs) returns)
