@@ -27,7 +27,7 @@ pub const PARAMS: usize = 147;
 pub const WORDS: usize = SLOTS / 64;
 
 // How far apart two columns are: not a power of two, so that they fall into different sets of a cache.
-const STRIDE: usize = 264;
+pub const STRIDE: usize = 264;
 
 // Where the regions begin, one after the other: the head, the parameters, the peers, the topics.
 const CLOCK_AT: usize = 0;
@@ -54,24 +54,24 @@ const VERSION_AT: usize = OUTBOUND_AT + WORDS;
 const VERSION_HIGH_AT: usize = VERSION_AT + WORDS;
 
 // Their columns.
-const ID_AT: usize = VERSION_HIGH_AT + WORDS;
+pub const ID_AT: usize = VERSION_HIGH_AT + WORDS;
 
-const GROUPS_AT: usize = ID_AT + STRIDE;
+pub const GROUPS_AT: usize = ID_AT + STRIDE;
 
-const P57_AT: usize = GROUPS_AT + 4 * STRIDE;
+pub const P57_AT: usize = GROUPS_AT + 4 * STRIDE;
 
-const RETAIN_AT: usize = P57_AT + STRIDE;
+pub const RETAIN_AT: usize = P57_AT + STRIDE;
 
-const ENDS_AT: usize = RETAIN_AT + STRIDE;
+pub const ENDS_AT: usize = RETAIN_AT + STRIDE;
 
 // What they hold for the topics.
 const SUBSCRIBED_AT: usize = ENDS_AT + SLOTS * TOPICS;
 
 const MEMBER_AT: usize = SUBSCRIBED_AT + TOPICS * WORDS;
 
-const COUNTERS_AT: usize = MEMBER_AT + TOPICS * WORDS;
+pub const COUNTERS_AT: usize = MEMBER_AT + TOPICS * WORDS;
 
-const P3B_AT: usize = COUNTERS_AT + TOPICS * STRIDE;
+pub const P3B_AT: usize = COUNTERS_AT + TOPICS * STRIDE;
 
 const GRAFT_AT: usize = P3B_AT + SLOTS * TOPICS;
 
@@ -81,11 +81,11 @@ const MESH_AT: usize = GRAFT_AT + TOPICS * STRIDE;
 pub const CELLS: usize = MESH_AT + TOPICS * STRIDE;
 
 // The lanes of a packed cell: P2 and P3, each below the first, P4 above both; and two numbers of 32 bits.
-const LANE: u64 = 2097152;
+pub const LANE: u64 = 2097152;
 
-const LANES: u64 = 4398046511104;
+pub const LANES: u64 = 4398046511104;
 
-const HALF: u64 = 4294967296;
+pub const HALF: u64 = 4294967296;
 
 // ---- bits, lanes, cells in use
 
