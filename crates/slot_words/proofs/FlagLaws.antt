@@ -3,7 +3,7 @@
 use Prim.Native.Nat.{ℕ, zero, suc, _+_, _*_, _-_, _/_, _%_, _^_, _≤_, _<_, max}
 use mathlib.Core.Path.{_≡_, refl, sym, ap, _∙_}
 use mathlib.Core.Bool.{Bool, true, false, _&&_, _||_}
-use mathlib.Core.List.{List}
+use mathlib.Core.List.{List, [], _∷_}
 use native.Mathlib.Omega.{arith}
 use lib.ListN.{getD}
 use lib.Dec.{eqb, leb}
@@ -15,7 +15,7 @@ use Rattle.records.specs.Records.{State, slotCount, place, joinedIn, peerIn, to
 use Rattle.layout.specs.View.{bitAt}
 use Rattle.layout.proofs.DigitLaws.{digit-le}
 use Rattle.layout.proofs.EndLaws.{or-none}
-use Rattle.slot_words.specs.Flags.{PeerFlags, TopicFlags, TimesWithin, MembersIn}
+use Rattle.slot_words.specs.Flags.{FreeSlots, PeerFlags, TopicFlags, TimesWithin, MembersIn}
 use Rattle.slot_words.proofs.WordLaws.{at-word, each-word}
 
 -- ---- small numbers
@@ -59,6 +59,28 @@ module _ (st : State) (held : List ℕ)
       let a = z .0 in
       let b = z .1 in
       omega arith
+
+  -- the complement
+  free-bit : (w : List ℕ) → ((s : ℕ) → s < slotCount → bitAt w 0 s ≡ 1 - bitAt held 0 s) → FreeSlots st w
+  free-bit w f =
+      record {
+        empty = λ s h e. unheld-empty s h (let b = f s h in let l = bit-le held s in omega arith);
+        every = λ s h e. let b = f s h in let z = unheld s h e in omega arith;
+      }
+
+  pub free-told :
+      (w0 w1 w2 w3 : ℕ) →
+      ((j : ℕ) → j < 64 → w0 / 2 ^ j % 2 ≡ 1 - getD held 0 0 / 2 ^ j % 2) →
+      ((j : ℕ) → j < 64 → w1 / 2 ^ j % 2 ≡ 1 - getD held 1 0 / 2 ^ j % 2) →
+      ((j : ℕ) → j < 64 → w2 / 2 ^ j % 2 ≡ 1 - getD held 2 0 / 2 ^ j % 2) →
+      ((j : ℕ) → j < 64 → w3 / 2 ^ j % 2 ≡ 1 - getD held 3 0 / 2 ^ j % 2) →
+      FreeSlots st (w0 ∷ w1 ∷ w2 ∷ w3 ∷ [])
+  free-told w0 w1 w2 w3 f0 f1 f2 f3 =
+      let w : List ℕ = w0 ∷ w1 ∷ w2 ∷ w3 ∷ [] in
+      free-bit w (λ s h.
+      at-word w s
+      ∙ each-word (λ i j. getD w i 0 / 2 ^ j % 2 ≡ 1 - getD held i 0 / 2 ^ j % 2) f0 f1 f2 f3 s h
+      ∙ ap (λ (n : ℕ). 1 - n) (sym (at-word held s)))
 
   pub peers-told :
       (used : ℕ) (connected retained explicit outbound version high : List ℕ) (x0 x1 x2 x3 x4 x5 : ℕ) →

@@ -1,7 +1,14 @@
 -- What the words tell of the flags of all slots, and the walk over members of their times.
 use Prim.Native.Nat.{ℕ, _+_, _*_, _/_, _%_, _^_, _≤_, _<_}
 use mathlib.Core.Path.{_≡_}
+use mathlib.Core.List.{List}
 use Rattle.records.specs.Records.{State, slotCount, place, joinedIn, peerIn, topicIn}
+use Rattle.layout.specs.View.{bitAt}
+
+-- the bits of w are the empty slots
+pub record FreeSlots (st : State) (w : List ℕ) : Type 0 where
+  pub empty : (s : ℕ) → s < slotCount → bitAt w 0 s ≡ 1 → peerIn st s .status ≡ 0
+  pub every : (s : ℕ) → s < slotCount → peerIn st s .status ≡ 0 → bitAt w 0 s ≡ 1
 
 -- the flags of the peers: an empty record has none, and from slot n on all are empty
 pub record PeerFlags (st : State) (n : ℕ) : Type 0 where

@@ -6,7 +6,7 @@ ghost use Prim.Native.Nat.{ℕ, _<_, max, _%_, _/_};
 ghost use lib.ListN.{length};
 ghost use Rattle.records.specs.Records.{peerIn, slotCount, topicCount};
 ghost use Rattle.layout.specs.View.{cellCount, stateOf, bitAt};
-ghost use Rattle.slot_words.specs.Flags.{PeerFlags, TopicFlags};
+ghost use Rattle.slot_words.specs.Flags.{FreeSlots, PeerFlags, TopicFlags};
 use crate::word;
 use layout::WORDS;
 use records::TOPICS;
@@ -23,6 +23,20 @@ pub fn held(table: &[u64]) -> [u64; WORDS]
         &layout::load_connected(table),
         &layout::load_retained(table),
     )
+}
+
+// The slots that are.
+pub fn free(table: &[u64]) -> [u64; WORDS]
+    requires { ⌜ length (now table) ≡ cellCount ⌝ }
+    ensures { λ r. ⌜ (length r ≡ 4) × FreeSlots (stateOf (now (table .entry))) r ⌝ }
+{
+    let h = held(table);
+    [
+        word::without(h[0]),
+        word::without(h[1]),
+        word::without(h[2]),
+        word::without(h[3]),
+    ]
 }
 
 // Whether the flags of the peers are a router's, with no record from `used` on.

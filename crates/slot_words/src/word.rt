@@ -1,6 +1,6 @@
 // Two flags of all slots, compared word by word. Each test is 0 where it passes, so that several can be gathered.
 ghost use mathlib.Core.Path.{_≡_};
-ghost use Prim.Native.Nat.{ℕ, _/_, _%_, _^_, _<_, max};
+ghost use Prim.Native.Nat.{ℕ, _-_, _/_, _%_, _^_, _<_, max};
 ghost use lib.ListN.{length};
 ghost use Rattle.records.specs.Records.{slotCount};
 ghost use Rattle.layout.specs.View.{bitAt};
@@ -16,6 +16,13 @@ fn common_word(a: u64, b: u64) -> u64
     ensures { λ r. ⌜ (r ≡ 0 → (j : ℕ) → j < 64 → a / 2 ^ j % 2 ≡ 1 → b / 2 ^ j % 2 ≡ 0) ⌝ }
 {
     a & b
+}
+
+// The bits that are not set.
+pub fn without(w: u64) -> u64
+    ensures { λ r. ⌜ ((j : ℕ) → j < 64 → r / 2 ^ j % 2 ≡ 1 - w / 2 ^ j % 2) ⌝ }
+{
+    !w
 }
 
 // The slots of a that are not in b.
