@@ -1,11 +1,11 @@
--- `validity::valid::is_router`: the clock, then the rest. Assumes nothing.
+-- `validity::valid::each_right`: the clock, then the rest. Assumes nothing.
 use Prim.Native.Nat.{ℕ, _<_, _≤_}
 use mathlib.Core.Path.{subst}
 use borrow.Author.Needs.{needs}
 use Rattle.validity.specs.Valid.{maxTime}
 use Rattle.validity.proofs.OrderLaws.{clock-fails, clock-passes}
-use Rattle.validity.proofs.valid.is_router.Statement.{statement}
-use Rattle.validity.proofs.valid.is_router.Tie as tie
+use Rattle.validity.proofs.valid.each_right.Statement.{statement}
+use Rattle.validity.proofs.valid.each_right.Tie as tie
 
 returns : tie.Need-returns
 returns c = clock-fails _ (subst (λ (n : ℕ). maxTime < n) (c .before .load-clock .ensures) (c .if1 .taken))
@@ -35,8 +35,8 @@ returns-2 c =
     (s .slots-ok .ensures)
     (c .ids-distinct .ensures)
 
-pub is-router-spec : {M : Type 1} → statement M
-is-router-spec =
+pub each-right-spec : {M : Type 1} → statement M
+each-right-spec =
     tie.close
     (tie.spec
     (λ c κs. search needs)
