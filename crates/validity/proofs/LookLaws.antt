@@ -142,6 +142,15 @@ module _ (c : List ℕ) (n : ℕ) (low : n ≤ slotCount) (w : WordsRight (state
     pub slots-told : FlagsFrom st n → every slotCount (slotOk st) ≡ true
     slots-told f = slots-rest st n low (rest-empty f) (every-by (slotOk st) n slot-right)
 
+pub words-told :
+    (st : State) (n clock : ℕ) →
+    PeerFlags st n →
+    ((t : ℕ) → t < topicCount → TopicFlags st t) →
+    ((t : ℕ) → t < topicCount → TimesWithin st t clock) →
+    clock ≡ st .clock →
+    WordsRight st n
+words-told st n clock p f g e = record { peers = p; topics = f; times = λ t k. subst (TimesWithin st t) e (g t k) }
+
 -- ---- the caps of the topics
 pub columns-told :
     (st : State) (n m : ℕ) (caps2 caps3 : List ℕ) →
