@@ -322,6 +322,26 @@ pub record Idle (c d : List ℕ) : Type 0 where
   pub used : usedOf d ≡ usedOf c
   pub form : stateOf d ≡ stateOf c
 
+-- from slot n on a record is its flags alone: one without a flag is empty
+pub record FlagsFrom (st : State) (n : ℕ) : Type 0 where
+  pub peer :
+      (s : ℕ) →
+      n ≤ s →
+      s < slotCount →
+      peerIn st s .status ≡ 0 →
+      peerIn st s .explicit ≡ 0 →
+      peerIn st s .outbound ≡ 0 →
+      peerIn st s .version ≡ 0 →
+      peerIn st s ≡ noPeer
+  pub topic :
+      (s t : ℕ) →
+      n ≤ s →
+      s < slotCount →
+      t < topicCount →
+      topicIn st (place s t) .subscribed ≡ 0 →
+      topicIn st (place s t) .member ≡ 0 →
+      topicIn st (place s t) ≡ noTopic
+
 -- every record from slot n on is empty
 pub record EmptyFrom (st : State) (n : ℕ) : Type 0 where
   pub peer : (s : ℕ) → n ≤ s → s < slotCount → peerIn st s ≡ noPeer

@@ -11,7 +11,8 @@ ghost use Rattle.layout.specs.View.{placeCount, clockAt, cellCount, used
 ghost use Rattle.layout.specs.View.{setFlags};
 ghost use Rattle.layout.specs.View.{setColumns, paramPlace, fieldOf, isBelow, below, codeFor, stateOf, setEnd, setCode, setCodes};
 ghost use Rattle.layout.specs.View.{setSetup, zeroState};
-ghost use Rattle.layout.specs.View.{withSubscription, withoutMember, withMember, EmptyFrom, TopicFits, PeerFits, CodesFit, ZeroUpTo, Idle};
+ghost use Rattle.layout.specs.View.{withSubscription, withoutMember, withMember, EmptyFrom, FlagsFrom, TopicFits, PeerFits, CodesFit};
+ghost use Rattle.layout.specs.View.{ZeroUpTo, Idle};
 use records::Groups;
 use records::Peer;
 use records::SLOTS;
@@ -628,6 +629,30 @@ pub fn load_member(cells: &[u64], k: usize) -> u64
     bit(cells, MEMBER_AT + k % 8 * WORDS, k / 8)
 }
 
+pub fn load_retain(cells: &[u64], slot: usize) -> u64
+    requires { ⌜ (length (now cells) ≡ cellCount) × (slot < slotCount) ⌝ }
+    ensures { λ r. ⌜ r ≡ peerIn (stateOf (now (cells .entry))) slot .retain ⌝ }
+{
+    live(cells, slot, RETAIN_AT + slot)
+}
+
+// The graft time and the mesh time of a member.
+pub fn load_graft(cells: &[u64], slot: usize, t: usize) -> u64
+    requires { ⌜ (length (now cells) ≡ cellCount)
+        × ((slot < slotCount) × ((t < topicCount) × (topicIn (stateOf (now cells)) (place slot t) .member ≡ 1))) ⌝ }
+    ensures { λ r. ⌜ r ≡ topicIn (stateOf (now (cells .entry))) (place slot t) .graft ⌝ }
+{
+    cells[GRAFT_AT + t * STRIDE + slot]
+}
+
+pub fn load_mesh(cells: &[u64], slot: usize, t: usize) -> u64
+    requires { ⌜ (length (now cells) ≡ cellCount)
+        × ((slot < slotCount) × ((t < topicCount) × (topicIn (stateOf (now cells)) (place slot t) .member ≡ 1))) ⌝ }
+    ensures { λ r. ⌜ r ≡ topicIn (stateOf (now (cells .entry))) (place slot t) .mesh ⌝ }
+{
+    cells[MESH_AT + t * STRIDE + slot]
+}
+
 // ---- a flag of all slots, as a word
 
 pub fn load_members(cells: &[u64], t: usize) -> [u64; WORDS]
@@ -654,6 +679,14 @@ pub fn load_connected(cells: &[u64]) -> [u64; WORDS]
     word(cells, CONNECTED_AT)
 }
 
+// The high bit of the status: of a router's tables, 1 for a retained record.
+pub fn load_retained(cells: &[u64]) -> [u64; WORDS]
+    requires { ⌜ length (now cells) ≡ cellCount ⌝ }
+    ensures { λ r. ⌜ (length r ≡ 4) × ((s : ℕ) → s < slotCount → bitAt r 0 s ≡ peerIn (stateOf (now (cells .entry))) s .status / 2) ⌝ }
+{
+    word(cells, RETAINED_AT)
+}
+
 pub fn load_explicit(cells: &[u64]) -> [u64; WORDS]
     requires { ⌜ length (now cells) ≡ cellCount ⌝ }
     ensures { λ r. ⌜ (length r ≡ 4) × ((s : ℕ) → s < slotCount → bitAt r 0 s ≡ peerIn (stateOf (now (cells .entry))) s .explicit) ⌝ }
@@ -666,6 +699,21 @@ pub fn load_outbound(cells: &[u64]) -> [u64; WORDS]
     ensures { λ r. ⌜ (length r ≡ 4) × ((s : ℕ) → s < slotCount → bitAt r 0 s ≡ peerIn (stateOf (now (cells .entry))) s .outbound) ⌝ }
 {
     word(cells, OUTBOUND_AT)
+}
+
+// The two bits of the version.
+pub fn load_version(cells: &[u64]) -> [u64; WORDS]
+    requires { ⌜ length (now cells) ≡ cellCount ⌝ }
+    ensures { λ r. ⌜ (length r ≡ 4) × ((s : ℕ) → s < slotCount → bitAt r 0 s ≡ peerIn (stateOf (now (cells .entry))) s .version % 2) ⌝ }
+{
+    word(cells, VERSION_AT)
+}
+
+pub fn load_version_high(cells: &[u64]) -> [u64; WORDS]
+    requires { ⌜ length (now cells) ≡ cellCount ⌝ }
+    ensures { λ r. ⌜ (length r ≡ 4) × ((s : ℕ) → s < slotCount → bitAt r 0 s ≡ peerIn (stateOf (now (cells .entry))) s .version / 2) ⌝ }
+{
+    word(cells, VERSION_HIGH_AT)
 }
 
 // ---- where the records end
@@ -686,7 +734,7 @@ fn past_word(w: u64, i: usize, used: u64) -> u64
 }
 
 // Whether no slot from `used` on has its bit in the word that starts at cell o.
-fn past(cells: &[u64], o: usize, used: u64) -> u64
+pub fn past(cells: &[u64], o: usize, used: u64) -> u64
     requires { ⌜ o + 4 ≤ length (now cells) ⌝ }
     ensures { λ r. ⌜ (r ≡ 0 → (s : ℕ) → s < slotCount → used ≤ s → bitAt (now (cells .entry)) o s ≡ 0) ⌝ }
 {
@@ -708,6 +756,14 @@ fn all_past(cells: &[u64], o: usize, n: usize, used: u64) -> u64
         p += 1;
     }
     acc
+}
+
+// The mark: from it on a record is its flags alone.
+pub fn load_used(cells: &[u64]) -> u64
+    requires { ⌜ length (now cells) ≡ cellCount ⌝ }
+    ensures { λ r. ⌜ (r ≡ usedOf (now (cells .entry))) × FlagsFrom (stateOf (now (cells .entry))) r ⌝ }
+{
+    cells[USED_AT]
 }
 
 // A slot from which on every record is empty: the mark, where no word has a bit past it.
