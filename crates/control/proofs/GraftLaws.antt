@@ -27,8 +27,6 @@ unfolding raisedP7 withP7
 raised-fits p q f e =
     rw e (record {
       status = f .status;
-      id = f .id;
-      group = f .group;
       outbound = f .outbound;
       explicit = f .explicit;
       version = f .version;
@@ -41,8 +39,6 @@ unfolding withEnd
 end-fits p q t end f e =
     rw e (record {
       status = f .status;
-      id = f .id;
-      group = f .group;
       outbound = f .outbound;
       explicit = f .explicit;
       version = f .version;

@@ -221,8 +221,6 @@ p7-fits floor factor x p q h f ex eq =
     let l = faded-less floor factor (p .p7) h in
     rw eq (record {
       status = f .status;
-      id = f .id;
-      group = f .group;
       outbound = f .outbound;
       explicit = f .explicit;
       version = f .version;

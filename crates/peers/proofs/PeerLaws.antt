@@ -31,7 +31,6 @@ use Rattle.effects.specs.Lent.{ConnectFits}
 use Rattle.gate.proofs.CallLaws.{gate-fine}
 use Rattle.rules.specs.declared.Gate.{Gate}
 use Rattle.rules.specs.declared.Gate.the-variants.{Pass}
-use Rattle.peers.specs.Tested.{NumbersFit}
 use Rattle.rules.specs.declared.Answer.{Answer}
 use Rattle.rules.specs.declared.Answer.the-variants.{Done, NoSlot, UnknownProtocol, AlreadyConnected}
 use Rattle.rules.specs.Reply.{Reply, done}

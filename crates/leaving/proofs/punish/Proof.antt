@@ -16,7 +16,9 @@ punish-spec =
     (λ c. omega arith)
     (λ c. omega arith)
     (λ c κs. rw (c .before .load-params .ensures) (c .before .before .before .before .before .before .before .pre .threshold))
-    (λ c κs. search (grown-fits, needs))
+    (λ c κs.
+    let s = c .before .before .before .before .before .before .before .before in
+    (search needs, (search needs, grown-fits _ _ _ (c .before .before .before .before .load-topic .ensures .1) (c .grown .ensures))))
     (λ c. c .before .before .store-topic .kept .0)
     (λ c. search grown-then)
     (λ c. search grown-else))

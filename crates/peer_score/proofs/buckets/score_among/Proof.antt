@@ -16,7 +16,7 @@ gather-requires c κs =
     record {
       standing = k .standing;
       buckets = p .buckets;
-      rising = loaded-rise _ (k .standing .router) _ (k .slot) _ (ap (λ (o : Peer). o .groups) (l .load-peer .ensures));
+      rising = loaded-rise _ (k .standing .router) _ (k .slot) _ (ap (λ (o : Peer). o .groups) (l .load-peer .ensures .0));
     }
 
 parts-requires : tie.Need-parts-requires
@@ -25,7 +25,7 @@ parts-requires c κs =
     let g = t .before in
     let l = g .before in
     let k = l .before .before .pre .at in
-    parts-ready _ _ (slot-in _ (k .standing .router) _ (k .slot)) _ _ _ _ (l .load-peer .ensures) (g .load-general .ensures)
+    parts-ready _ _ (slot-in _ (k .standing .router) _ (k .slot)) _ _ _ _ (l .load-peer .ensures .0) (g .load-general .ensures)
     (c .topics-at .ensures .1) (gathered-in _ _ _ _ (t .gather .ensures))
 
 returns : tie.Need-returns
@@ -37,7 +37,7 @@ returns c =
     let k = l .before .before .pre .at in
     let i = slot-in _ (k .standing .router) _ (k .slot) in
     scores _ _ i _ _
-    (parts-among _ _ i _ _ _ _ (l .load-peer .ensures) (g .load-general .ensures) _ (c .before .parts .ensures .0)
+    (parts-among _ _ i _ _ _ _ (l .load-peer .ensures .0) (g .load-general .ensures) _ (c .before .parts .ensures .0)
     (a .topics-at .ensures .0) (gathered-crowd _ _ _ _ (t .gather .ensures)))
     (c .total .ensures .0)
 

@@ -11,12 +11,12 @@ share-requires : tie.Need-share-requires
 share-requires c κs =
     let l = c .before .before .before in
     let p = l .before .before .pre .place in
-    share-ready _ _ _ _ _ (slot-in _ (p .standing .router) _ (p .slot)) (p .topic) (c .load-params .ensures) (l .load-topic .ensures)
+    share-ready _ _ _ _ _ (slot-in _ (p .standing .router) _ (p .slot)) (p .topic) (c .load-params .ensures) (l .load-topic .ensures .0)
 
 returns : tie.Need-returns
 returns c =
     let a = c .before in (
-      share-is-at _ _ _ _ _ _ (c .share .ensures .0) (a .load-params .ensures) (a .before .before .before .load-topic .ensures),
+      share-is-at _ _ _ _ _ _ (c .share .ensures .0) (a .load-params .ensures) (a .before .before .before .load-topic .ensures .0),
       c .share .ensures .1,
     )
 
@@ -25,7 +25,7 @@ outside-requires c κs =
     let l = c .before .before .before .before .before in
     let q = l .before .before .pre in
     let p = q .place in
-    outside-ready _ _ _ (slot-in _ (p .standing .router) _ (p .slot)) (p .topic) _ _ _ (q .weights) _ (l .load-topic .ensures)
+    outside-ready _ _ _ (slot-in _ (p .standing .router) _ (p .slot)) (p .topic) _ _ _ (q .weights) _ (l .load-topic .ensures .0)
 
 returns-2 : tie.Need-returns-2
 returns-2 c =
@@ -33,7 +33,7 @@ returns-2 c =
     let l = i .before .before in
     let q = l .before .before .pre in
     let p = q .place in (
-      outside-is _ _ _ (slot-in _ (p .standing .router) _ (p .slot)) (p .topic) _ _ _ (q .weights) _ (l .load-topic .ensures) _
+      outside-is _ _ _ (slot-in _ (p .standing .router) _ (p .slot)) (p .topic) _ _ _ (q .weights) _ (l .load-topic .ensures .0) _
           (i .if1 .left) (c .outside .ensures .0),
       c .outside .ensures .1,
     )
