@@ -1,20 +1,18 @@
 -- Tables of one state have the same cells in use: a state's numbers say each cell that it is read from.
 -- Assumes nothing.
-use Prim.Native.Nat.{ℕ, zero, suc, _+_, _*_, _/_, _%_, _^_, _≤_, _<_}
+use Prim.Native.Nat.{ℕ, zero, suc, _+_, _*_, _/_, _%_, _≤_, _<_}
 use mathlib.Core.Path.{_≡_, refl, sym, ap, _∙_}
-use mathlib.Core.Bool.{Bool, true, false}
+use mathlib.Core.Bool.{true}
 use mathlib.Core.List.{List}
 use native.Mathlib.Omega.{arith}
 use lib.ListN.{getD}
 use lib.Dec.{eqb}
 use borrow.Author.Tests.{eq-eqb}
-use Rattle.records.specs.declared.Setup.{Setup}
 use Rattle.records.specs.declared.Peer.{Peer}
 use Rattle.records.specs.declared.TopicRecord.{TopicRecord}
-use Rattle.records.specs.Records.{State, slotCount, topicCount, paramCount, joinedIn, codeIn, peerIn, topicIn}
+use Rattle.records.specs.Records.{State, slotCount, topicCount, joinedIn, codeIn, peerIn, topicIn}
 use Rattle.varint.specs.Codes.{magnitude}
-use Rattle.layout.specs.Rows.{tab}
-use Rattle.layout.specs.View.{placeCount, wordCells, columnCount, clockAt, joinedAt, setupAt, paramsAt, peersAt, endsAt, p3bAt, keep}
+use Rattle.layout.specs.View.{placeCount, wordCells, columnCount, clockAt, setupAt, peersAt, endsAt, p3bAt, keep}
 use Rattle.layout.specs.View.{bitAt, liveAt, counterOf, graftOf, meshOf, subscribedWord, memberWord, topicRaw, topicAt, columnOf, endsOf}
 use Rattle.layout.specs.View.{peerRaw, peerAt, paramPlace, setupOf, stateOf}
 use Rattle.layout.proofs.DigitLaws.{digit-le}
@@ -25,7 +23,7 @@ use Rattle.forms.specs.Turns.{flagCount, SameCells}
 
 bit-le : (c : List ℕ) (o s : ℕ) → bitAt c o s ≤ 1
 unfolding bitAt
-bit-le c o s = digit-le (getD c (o + s / 64) 0) (s % 64)
+bit-le c o s = digit-le _ _
 
 -- a number is its two halves, and its three lanes
 halves-same : (x y : ℕ) → x % 4294967296 ≡ y % 4294967296 → x / 4294967296 ≡ y / 4294967296 → x ≡ y

@@ -16,7 +16,10 @@ use Rattle.forms.proofs.CellLaws.{same-cells}
 use Rattle.host.specs.Turning.{turnedCode, HostsFromOld, HostsToOld, OldReturns, TodayReturns}
 
 pub hosts-from-old :
-    (old table table′ : List ℕ) (t : Turned) (r : ℕ) → FromRows t old table table′ → r ≡ packed (turnedNumber t) 0 → HostsFromOld old r table table′
+    (old table table′ : List ℕ) (t : Turned) (r : ℕ) →
+    FromRows t old table table′ →
+    r ≡ packed (turnedNumber t) 0 →
+    HostsFromOld old r table table′
 hosts-from-old old table table′ t r f e =
     record {
       answer = e ∙ ap (λ (x : Turned). packed (turnedNumber x) 0) (f .answer);
@@ -25,7 +28,10 @@ hosts-from-old old table table′ t r f e =
     }
 
 pub hosts-to-old :
-    (table old old′ : List ℕ) (t : Turned) (r : ℕ) → ToRows t table old old′ → r ≡ packed (turnedNumber t) 0 → HostsToOld table r old old′
+    (table old old′ : List ℕ) (t : Turned) (r : ℕ) →
+    ToRows t table old old′ →
+    r ≡ packed (turnedNumber t) 0 →
+    HostsToOld table r old old′
 hosts-to-old table old old′ t r f e =
     record {
       answer = e ∙ ap (λ (x : Turned). packed (turnedNumber x) 0) (f .answer);

@@ -1,5 +1,5 @@
 -- `host::turned` meets its contract. Assumes nothing.
-use Rattle.index.proofs.Kit.{arith, needs, sym, ap, _∙_}
+use Rattle.index.proofs.Kit.{needs, sym, ap, _∙_}
 use Rattle.answers.specs.Answers.{packed}
 use Rattle.forms.specs.declared.Turned.{Turned}
 use Rattle.forms.specs.Turns.{turnedNumber}
