@@ -15,6 +15,9 @@ enum { JOINED = 1, CODES = 9, EDITION = 156, PEERS = 157, PEER_CELLS = 20, TOPIC
 enum { STATUS, ID, GROUPS, OUTBOUND = 6, EXPLICIT, VERSION, P5, P7, RETAIN, ENDS };
 enum { P2, P3, P4, P3B, SUBSCRIBED, MEMBER, GRAFT_TIME, MESH_TIME };
 
+/* where a table of today keeps its mark, the slot from which on none was taken */
+enum { USED = 9 };
+
 static uint64_t table[HIVEPADLET_CELLS], turned[HIVEPADLET_CELLS], kept[HIVEPADLET_CELLS];
 static uint64_t old[HIVEPADLET_OLD_CELLS], back[HIVEPADLET_OLD_CELLS], old_kept[HIVEPADLET_OLD_CELLS];
 static uint32_t actions[HIVEPADLET_ACTION_NUMBERS], actions_turned[HIVEPADLET_ACTION_NUMBERS];
@@ -93,6 +96,7 @@ static void hand_made(void)
     memset(back, 0xA5, sizeof back);
     check("a table by hand is turned", hivepadlet_from_old(old, table) == 0);
     check("it is a router's", hivepadlet_is_router(table) == 1);
+    check("its mark is past the last record", table[USED] == 201);
     check("it is turned back", hivepadlet_to_old(table, back) == 0);
     check("every number came back", memcmp(old, back, sizeof old) == 0);
     memset(turned, 0x5A, sizeof turned);
