@@ -26,15 +26,15 @@
  *
  * All memory is yours, and is lent for the length of one call; nothing is kept between calls but the table.
  *
- * - The table, HIVEPADLET_CELLS numbers of 64 bits (173,288 bytes), is the whole router. You may have any number of routers, one
+ * - The table, HIVEPADLET_CELLS numbers of 64 bits (100,352 bytes), is the whole router. You may have any number of routers, one
  *   table each. A table may be copied, saved and restored as bytes on the same machine. Only the calls write it; a damaged
  *   table is refused (12).
  * - The action list is HIVEPADLET_ACTION_NUMBERS numbers of 32 bits, or more; under that, a call refuses (8). A call writes its
  *   actions from the start of the list and leaves the numbers past them as they were. One list may serve all calls.
  * - Lengths count elements, not bytes.
- * - The stack: most calls take some 2 KiB, hivepadlet_leave, _fresh, _read and _write up to 7 KiB, hivepadlet_heartbeat 11 KiB, as
- *   measured by tests/host_stack.c and not proved. No input makes it grow: no function calls itself but the reader and the writer
- *   of one parameter, ten deep at most.
+ * - The stack: most calls take some 3 KiB, hivepadlet_to_old 4 KiB, hivepadlet_leave, _fresh, _read and _write up to 7 KiB,
+ *   hivepadlet_heartbeat 11 KiB, as measured by tests/host_stack.c and not proved. No input makes it grow: no function calls
+ *   itself but the reader and the writer of one parameter, ten deep at most.
  *
  * What C cannot check is up to you: a pointer is aligned, is not NULL (also where its length is 0), points to as much memory
  * as its type and length say, and what a call writes overlaps nothing else that it is given. Calls on one table must not
@@ -47,7 +47,8 @@
  *
  * A call makes its tests in the order 12, 2, 8, 1, 6, 7, 3, 4, 5, 11, those that can concern it, and answers the first that
  * fails; hivepadlet_read in the order 10, 9; hivepadlet_write 2, 8, 9; hivepadlet_import 10, 9; hivepadlet_export 13, 9;
- * hivepadlet_fresh 2, 9; hivepadlet_names 2; hivepadlet_read_message 8, 10; hivepadlet_write_message 2, 13.
+ * hivepadlet_fresh 2, 9; hivepadlet_from_old and hivepadlet_to_old 12; hivepadlet_names 2; hivepadlet_read_message 8, 10;
+ * hivepadlet_write_message 2, 13.
  *
  * TIMES AND UNITS
  *
@@ -84,7 +85,8 @@ extern "C" {
 
 /* ---- sizes */
 
-#define HIVEPADLET_CELLS 21661          /* numbers of a table */
+#define HIVEPADLET_CELLS 12544          /* numbers of a table */
+#define HIVEPADLET_OLD_CELLS 21661      /* numbers of a table of the old form */
 #define HIVEPADLET_NUMBERS 147          /* numbers of the parameters */
 #define HIVEPADLET_ACTION_NUMBERS 768   /* numbers of an action list: three for each slot */
 #define HIVEPADLET_PARAMETER_BYTES 737  /* bytes that written parameters may take (edition 1: 735) */
@@ -280,6 +282,18 @@ uint64_t hivepadlet_fresh(const int64_t numbers[HIVEPADLET_NUMBERS], uint64_t ed
 
 /* 1 if the table is a router's, else 0. Every call makes this test itself. */
 uint32_t hivepadlet_is_router(const uint64_t table[HIVEPADLET_CELLS]);
+
+/* The old form of a table, HIVEPADLET_OLD_CELLS numbers (173,288 bytes), is that of the editions of this library before members
+ * were bits: a row of numbers for each peer, and one for each peer in a topic. The calls work on a table of today's form; these
+ * two turn a router from each form into the other, where a table was kept in the old one. */
+
+/* Fills a table, whatever was in it, from one of the old form: the same router, which answers and acts as it did. 0; or 12 where
+ * the old table is no router's, and then nothing is written. */
+uint64_t hivepadlet_from_old(const uint64_t old[HIVEPADLET_OLD_CELLS], uint64_t table[HIVEPADLET_CELLS]);
+
+/* Fills a table of the old form, every number of it, from a table of today's. 0, or 12. What hivepadlet_from_old made of an old
+ * table comes back number for number; a table that is turned and turned back is the same router. */
+uint64_t hivepadlet_to_old(const uint64_t table[HIVEPADLET_CELLS], uint64_t old[HIVEPADLET_OLD_CELLS]);
 
 /* ---- what happens to peers */
 

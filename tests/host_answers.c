@@ -189,10 +189,10 @@ static void ignored_and_damaged(void)
     check("11 changes one number, the clock", changed == 1);
     stands();
     refuses("a time before it", hivepadlet_decay(table, 5, LIST), HIVEPADLET_EARLY);
-    table[HIVEPADLET_CELLS - 1] = UINT64_MAX;
+    table[0] = UINT64_MAX; /* the clock */
     stands();
     refuses("a damaged table", hivepadlet_decay(table, 6, LIST), HIVEPADLET_NOT_ROUTER);
-    table[HIVEPADLET_CELLS - 1] = 0;
+    table[0] = 6;
 }
 
 /* a member below the graylist threshold: its PRUNE and its unsubscribing are ignored and leave it in, so a leave prunes it */
