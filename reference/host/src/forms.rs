@@ -159,8 +159,9 @@ impl<L: Library> Turns<'_, L> {
         let mut pair = Pair::new(self.library, state);
         for request in thirteen(state, self.random) {
             pair.load(table);
-            let answer = pair.make(&mut state.clone(), &request);
-            answer.map_err(|difference| (CALLED, Some(request), difference))?;
+            if let Err(difference) = pair.make(&mut state.clone(), &request) {
+                return Err((CALLED, Some(request), difference));
+            }
             self.counts.count(CALLED);
         }
         Ok(())

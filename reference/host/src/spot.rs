@@ -36,10 +36,24 @@ pub enum Spot {
     Mark,
     Edition,
     Number(usize),
-    PeerBits { word: usize, first: usize },
-    Peer { column: usize, slot: usize },
-    TopicBits { member: bool, topic: usize, first: usize },
-    Record { field: Field, slot: usize, topic: usize },
+    PeerBits {
+        word: usize,
+        first: usize,
+    },
+    Peer {
+        column: usize,
+        slot: usize,
+    },
+    TopicBits {
+        member: bool,
+        topic: usize,
+        first: usize,
+    },
+    Record {
+        field: Field,
+        slot: usize,
+        topic: usize,
+    },
     /// Kept for later orders.
     Kept,
     /// Between two columns.
@@ -209,7 +223,10 @@ mod tests {
     #[test]
     fn spots_are_where_the_crate_layout_says() {
         assert_eq!(Spot::of(9), Spot::Mark);
-        assert_eq!((Spot::of(11), Spot::of(23), Spot::of(171)), (Spot::Kept, Spot::Kept, Spot::Kept));
+        assert_eq!(
+            (Spot::of(11), Spot::of(23), Spot::of(171)),
+            (Spot::Kept, Spot::Kept, Spot::Kept)
+        );
         assert_eq!((Spot::of(43), Spot::of(44)), (Spot::Number(19), Spot::Number(35)));
         assert_eq!(Spot::of(179), Spot::PeerBits { word: 0, first: 192 });
         assert_eq!(Spot::of(455), Spot::Peer { column: 0, slot: 255 });

@@ -241,8 +241,9 @@ impl<'a, L: Library> Sweep<'a, L> {
         let table = self.changed(&change.changes);
         for request in self.some_requests(thorough) {
             self.pair.load(&table);
-            let answer = self.pair.make(&mut self.router.clone(), &request);
-            answer.map_err(|difference| Box::new((Some(request), difference)))?;
+            if let Err(difference) = self.pair.make(&mut self.router.clone(), &request) {
+                return Err(Box::new((Some(request), difference)));
+            }
         }
         self.counts.count(harmless_name(change.kind));
         Ok(())

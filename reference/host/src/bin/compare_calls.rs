@@ -69,7 +69,9 @@ fn compare<L: Library>(
     let tables = swept::compare(library, &states, random, &mut counts)
         .map_err(|failure| report::of_damage(&failure))?;
     let swept::Tables { damaged, harmless, changed } = tables;
-    println!("{damaged} damaged tables, {harmless} changed where no state reads, {changed} at random");
+    println!(
+        "{damaged} damaged tables, {harmless} changed where no state reads, {changed} at random"
+    );
     turn(library, &states, random, &mut counts)?;
     let parameters = parameters::compare(library, INPUTS, longest, random, &mut counts)
         .map_err(|failure| report::of_parameters(&failure))?;
