@@ -26,13 +26,16 @@
  *
  * All memory is yours, and is lent for the length of one call; nothing is kept between calls but the table.
  *
- * - The table, HIVEPADLET_CELLS numbers of 64 bits (173,288 bytes), is the whole router. You may have any number of routers, one
+ * - The table, HIVEPADLET_CELLS numbers of 64 bits (100,352 bytes), is the whole router. You may have any number of routers, one
  *   table each. A table may be copied, saved and restored as bytes on the same machine. Only the calls write it; a damaged
  *   table is refused (12).
+ *   Some of its numbers are no part of the router's state: those of slots that no peer has taken yet, the times of a peer in a
+ *   topic whose mesh it is not in, and some between the others that are kept for later. No call goes by them, so they may hold
+ *   anything, and two tables of the same state may differ there: compare routers by what the calls answer, not byte by byte.
  * - The action list is HIVEPADLET_ACTION_NUMBERS numbers of 32 bits, or more; under that, a call refuses (8). A call writes its
  *   actions from the start of the list and leaves the numbers past them as they were. One list may serve all calls.
  * - Lengths count elements, not bytes.
- * - The stack: most calls take some 2 KiB, hivepadlet_leave, _fresh, _read and _write up to 7 KiB, hivepadlet_heartbeat 11 KiB, as
+ * - The stack: most calls take some 3 KiB, hivepadlet_leave, _fresh, _read and _write up to 8 KiB, hivepadlet_heartbeat 12 KiB, as
  *   measured by tests/host_stack.c and not proved. No input makes it grow: no function calls itself but the reader and the writer
  *   of one parameter, ten deep at most.
  *
@@ -84,7 +87,7 @@ extern "C" {
 
 /* ---- sizes */
 
-#define HIVEPADLET_CELLS 21661          /* numbers of a table */
+#define HIVEPADLET_CELLS 12544          /* numbers of a table */
 #define HIVEPADLET_NUMBERS 147          /* numbers of the parameters */
 #define HIVEPADLET_ACTION_NUMBERS 768   /* numbers of an action list: three for each slot */
 #define HIVEPADLET_PARAMETER_BYTES 737  /* bytes that written parameters may take (edition 1: 735) */
