@@ -58,7 +58,8 @@ pub fn compare<L: Library>(
 ) -> Result<u64, Box<Failure>> {
     let mut turns = Turns { library, random, counts, made: 0 };
     for (place, state) in states.iter().enumerate() {
-        turns.all(state, place).map_err(|(kind, request, difference)| {
+        turns.all(state, place).map_err(|found| {
+            let (kind, request, difference) = *found;
             Box::new(Failure { state: place, kind: kind.to_string(), request, difference })
         })?;
     }
@@ -72,7 +73,7 @@ struct Turns<'a, L> {
     made: u64,
 }
 
-type Found = (&'static str, Option<Request>, Difference);
+type Found = Box<(&'static str, Option<Request>, Difference)>;
 
 fn differ_if(differs: bool, told: impl FnOnce() -> String) -> Result<(), Difference> {
     if differs {
@@ -89,12 +90,12 @@ fn answered(result: u64, due: u64) -> Result<(), Difference> {
 impl<L: Library> Turns<'_, L> {
     fn all(&mut self, state: &Router, place: usize) -> Result<(), Found> {
         let rows = rows::rows_of(state);
-        let told = |kind| move |difference| (kind, None, difference);
-        let table = self.from_rows(&rows, state).map_err(told(TURNED))?;
-        self.to_rows(&table, &rows).map_err(told(TURNED))?;
+        let told = |kind| move |difference| Box::new((kind, None, difference));
+        let table = self.rows(&rows, state).map_err(told(TURNED))?;
+        self.table(&table, &rows).map_err(told(TURNED))?;
         self.counts.count(TURNED);
         let noisy = Pair::new(self.library, state);
-        self.to_rows(noisy.table(), &rows).map_err(told(FROM_NOISE))?;
+        self.table(noisy.table(), &rows).map_err(told(FROM_NOISE))?;
         self.counts.count(FROM_NOISE);
         self.calls(&table, state)?;
         for change in damage::all(state, &table, true) {
@@ -119,10 +120,10 @@ impl<L: Library> Turns<'_, L> {
     }
 
     /// The table that the rows become: of this state, a router's, and nothing else written.
-    fn from_rows(&mut self, rows: &Rows, state: &Router) -> Result<Box<Cells>, Difference> {
+    fn rows(&mut self, rows: &Rows, state: &Router) -> Result<Box<Cells>, Difference> {
         let mut lent: Lent<u64> = Lent::new(CELLS, self.next_salt());
         let cells = lent.lent_mut().try_into().expect("a table has its cells");
-        answered(self.library.from_rows(rows, cells), DONE)?;
+        answered(self.library.turn_rows(rows, cells), DONE)?;
         differ_if(!lent.guards_stand(), || "the library wrote outside of the table".to_string())?;
         let mut table = Box::new([0; CELLS]);
         table.copy_from_slice(lent.lent());
@@ -140,10 +141,10 @@ impl<L: Library> Turns<'_, L> {
     }
 
     /// The rows that the table becomes, every one of them.
-    fn to_rows(&mut self, table: &Cells, due: &Rows) -> Result<(), Difference> {
+    fn table(&mut self, table: &Cells, due: &Rows) -> Result<(), Difference> {
         let mut lent: Lent<u64> = Lent::new(ROWS, self.next_salt());
         let rows = lent.lent_mut().try_into().expect("all rows");
-        answered(self.library.to_rows(table, rows), DONE)?;
+        answered(self.library.turn_table(table, rows), DONE)?;
         differ_if(!lent.guards_stand(), || "the library wrote outside of the rows".to_string())?;
         match (0..ROWS).find(|&cell| lent.lent()[cell] != due[cell]) {
             None => Ok(()),
@@ -160,7 +161,7 @@ impl<L: Library> Turns<'_, L> {
         for request in thirteen(state, self.random) {
             pair.load(table);
             if let Err(difference) = pair.make(&mut state.clone(), &request) {
-                return Err((CALLED, Some(request), difference));
+                return Err(Box::new((CALLED, Some(request), difference)));
             }
             self.counts.count(CALLED);
         }
@@ -171,7 +172,7 @@ impl<L: Library> Turns<'_, L> {
     fn refuse_table(&mut self, table: &Cells) -> Result<(), Difference> {
         let mut lent: Lent<u64> = Lent::new(ROWS, self.next_salt());
         let rows = lent.lent_mut().try_into().expect("all rows");
-        answered(self.library.to_rows(table, rows), NOT_ROUTER)?;
+        answered(self.library.turn_table(table, rows), NOT_ROUTER)?;
         let untouched = lent.guards_stand() && lent.stands_from(0);
         differ_if(!untouched, || "a refused table wrote rows".to_string())?;
         self.counts.count(TABLE_REFUSED);
@@ -187,14 +188,14 @@ impl<L: Library> Turns<'_, L> {
         let value = [0, 1, 2, 3, rows[cell].wrapping_add(1), self.random.of_any_width(), u64::MAX];
         changed[cell] = *self.random.pick(&value);
         if let Some(router) = rows::router_of(&changed).filter(Router::is_valid) {
-            let table = self.from_rows(&changed, &router)?;
-            self.to_rows(&table, &changed)?;
+            let table = self.rows(&changed, &router)?;
+            self.table(&table, &changed)?;
             self.counts.count(ROWS_TAKEN);
             return Ok(());
         }
         let mut lent: Lent<u64> = Lent::new(CELLS, self.next_salt());
         let cells = lent.lent_mut().try_into().expect("a table has its cells");
-        answered(self.library.from_rows(&changed, cells), NOT_ROUTER)?;
+        answered(self.library.turn_rows(&changed, cells), NOT_ROUTER)?;
         let untouched = lent.guards_stand() && lent.stands_from(0);
         differ_if(!untouched, || format!("refused rows wrote a table, row cell {cell} changed"))?;
         self.counts.count(ROWS_REFUSED);

@@ -27,6 +27,6 @@ pub trait Library {
     fn is_router(&self, table: &Cells) -> u32;
 
     /// A table of the old form as one of the new, and back: 0, or 12.
-    fn from_rows(&self, rows: &Rows, table: &mut Cells) -> u64;
-    fn to_rows(&self, table: &Cells, rows: &mut Rows) -> u64;
+    fn turn_rows(&self, rows: &Rows, table: &mut Cells) -> u64;
+    fn turn_table(&self, table: &Cells, rows: &mut Rows) -> u64;
 }

@@ -70,23 +70,23 @@ impl Library for Linked {
     }
 
     #[cfg(forms)]
-    fn from_rows(&self, rows: &Rows, table: &mut Cells) -> u64 {
+    fn turn_rows(&self, rows: &Rows, table: &mut Cells) -> u64 {
         hivepadlet::forms::from_rows(rows, table)
     }
 
     #[cfg(forms)]
-    fn to_rows(&self, table: &Cells, rows: &mut Rows) -> u64 {
+    fn turn_table(&self, table: &Cells, rows: &mut Rows) -> u64 {
         hivepadlet::forms::to_rows(table, rows)
     }
 
     /// Where the library does not turn tables, nobody is asked.
     #[cfg(not(forms))]
-    fn from_rows(&self, _: &Rows, _: &mut Cells) -> u64 {
+    fn turn_rows(&self, _: &Rows, _: &mut Cells) -> u64 {
         unreachable!("{}", crate::forms::UNLINKED)
     }
 
     #[cfg(not(forms))]
-    fn to_rows(&self, _: &Cells, _: &mut Rows) -> u64 {
+    fn turn_table(&self, _: &Cells, _: &mut Rows) -> u64 {
         unreachable!("{}", crate::forms::UNLINKED)
     }
 }

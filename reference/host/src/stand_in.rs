@@ -78,7 +78,7 @@ impl Library for StandIn {
         u32::from(cells::router_of(table).is_some_and(|router| router.is_valid()))
     }
 
-    fn from_rows(&self, rows: &Rows, table: &mut Cells) -> u64 {
+    fn turn_rows(&self, rows: &Rows, table: &mut Cells) -> u64 {
         match rows::router_of(rows).filter(Router::is_valid) {
             Some(router) => {
                 table[cells::USED] = 0;
@@ -89,7 +89,7 @@ impl Library for StandIn {
         }
     }
 
-    fn to_rows(&self, table: &Cells, rows: &mut Rows) -> u64 {
+    fn turn_table(&self, table: &Cells, rows: &mut Rows) -> u64 {
         match cells::router_of(table).filter(Router::is_valid) {
             Some(router) => {
                 rows::write(&router, rows);

@@ -26,8 +26,8 @@ struct Faulty {
     write: fn(&Numbers, u64, &mut [u8]) -> u64,
     fresh: fn(&Numbers, u64, &mut Cells) -> u64,
     is_router: fn(&Cells) -> u32,
-    from_rows: fn(&Rows, &mut Cells) -> u64,
-    to_rows: fn(&Cells, &mut Rows) -> u64,
+    turn_rows: fn(&Rows, &mut Cells) -> u64,
+    turn_table: fn(&Cells, &mut Rows) -> u64,
 }
 
 impl Library for Faulty {
@@ -49,11 +49,11 @@ impl Library for Faulty {
     fn is_router(&self, table: &Cells) -> u32 {
         (self.is_router)(table)
     }
-    fn from_rows(&self, rows: &Rows, table: &mut Cells) -> u64 {
-        (self.from_rows)(rows, table)
+    fn turn_rows(&self, rows: &Rows, table: &mut Cells) -> u64 {
+        (self.turn_rows)(rows, table)
     }
-    fn to_rows(&self, table: &Cells, rows: &mut Rows) -> u64 {
-        (self.to_rows)(table, rows)
+    fn turn_table(&self, table: &Cells, rows: &mut Rows) -> u64 {
+        (self.turn_table)(table, rows)
     }
 }
 
@@ -64,8 +64,8 @@ const SOUND: Faulty = Faulty {
     write: |numbers, edition, buffer| StandIn.write(numbers, edition, buffer),
     fresh: |numbers, edition, table| StandIn.fresh(numbers, edition, table),
     is_router: |table| StandIn.is_router(table),
-    from_rows: |rows, table| StandIn.from_rows(rows, table),
-    to_rows: |table, rows| StandIn.to_rows(table, rows),
+    turn_rows: |rows, table| StandIn.turn_rows(rows, table),
+    turn_table: |table, rows| StandIn.turn_table(table, rows),
 };
 
 fn with_call(call: CallOf) -> Faulty {
@@ -694,7 +694,7 @@ fn a_test_12_that_misses_something_is_seen() {
             })),
         ),
         ("the version's higher bit", blind_to!(|table| table[VERSION_HIGH..ID].fill(0))),
-        ("bits past the mark", blind_to!(|table| clear_past_mark(table))),
+        ("bits past the mark", blind_to!(clear_past_mark)),
         (
             "bits past the mark, of the last topic's members",
             blind_to!(|table| {
@@ -893,7 +893,7 @@ fn wrong_turns_are_seen() {
         (
             "damaged rows are taken",
             Faulty {
-                from_rows: |rows, table| match StandIn.from_rows(rows, table) {
+                turn_rows: |rows, table| match StandIn.turn_rows(rows, table) {
                     12 => 0,
                     other => other,
                 },
@@ -903,8 +903,8 @@ fn wrong_turns_are_seen() {
         (
             "refused rows clear the table",
             Faulty {
-                from_rows: |rows, table| {
-                    let result = StandIn.from_rows(rows, table);
+                turn_rows: |rows, table| {
+                    let result = StandIn.turn_rows(rows, table);
                     if result == 12 {
                         table[ID] = 0;
                     }
@@ -916,8 +916,8 @@ fn wrong_turns_are_seen() {
         (
             "a refused table writes a row",
             Faulty {
-                to_rows: |table, rows| {
-                    let result = StandIn.to_rows(table, rows);
+                turn_table: |table, rows| {
+                    let result = StandIn.turn_table(table, rows);
                     if result == 12 {
                         rows[0] = 0;
                     }
@@ -929,9 +929,9 @@ fn wrong_turns_are_seen() {
         (
             "the mark is that of before",
             Faulty {
-                from_rows: |rows, table| {
+                turn_rows: |rows, table| {
                     let mark = table[USED];
-                    let result = StandIn.from_rows(rows, table);
+                    let result = StandIn.turn_rows(rows, table);
                     table[USED] = mark.min(12);
                     result
                 },
@@ -941,8 +941,8 @@ fn wrong_turns_are_seen() {
         (
             "a parameter loses its sign",
             Faulty {
-                to_rows: |table, rows| {
-                    let result = StandIn.to_rows(table, rows);
+                turn_table: |table, rows| {
+                    let result = StandIn.turn_table(table, rows);
                     if result == 0 {
                         let code = &mut rows[host_compare::rows::CODES + general::W7];
                         *code += *code % 2;
@@ -955,10 +955,10 @@ fn wrong_turns_are_seen() {
         (
             "the last row is not written",
             Faulty {
-                to_rows: |table, rows| {
+                turn_table: |table, rows| {
                     let last = host_compare::rows::ROWS - 1;
                     let before = rows[last];
-                    let result = StandIn.to_rows(table, rows);
+                    let result = StandIn.turn_table(table, rows);
                     rows[last] = before;
                     result
                 },
