@@ -65,29 +65,7 @@ pub fn compare<L: Library>(
         // Even states have the highest mark, so that every slot's cells are read; odd ones the lowest.
         let mark = if place.is_multiple_of(2) { SLOTS } else { cells::records_end(state) };
         let mut sweep = Sweep::new(library, (state, mark), random, counts);
-        for change in damage::all(state, &sweep.table, place.is_multiple_of(LARGEST)) {
-            if !has_turn(&change, place, state) {
-                continue;
-            }
-            let found = sweep.damage(&change, tables.damaged.is_multiple_of(THOROUGH));
-            found.map_err(|found| failure(place, change.kind, &change.changes, *found))?;
-            tables.damaged += 1;
-            seen[change.place] |= change.changes.len() == 1 && change.kind != damage::LARGEST;
-        }
-        for change in harmless::all(state, &sweep.table) {
-            if !has_turn(&change, place, state) {
-                continue;
-            }
-            let found = sweep.harmless(&change, tables.harmless.is_multiple_of(THOROUGH));
-            found.map_err(|found| failure(place, change.kind, &change.changes, *found))?;
-            tables.harmless += 1;
-        }
-        for _ in 0..CHANGES {
-            let changes = sweep.random_changes();
-            let found = sweep.change(&changes);
-            found.map_err(|found| failure(place, "changed at random", &changes, *found))?;
-            tables.changed += 1;
-        }
+        sweep.all(place, &mut tables, &mut seen)?;
     }
     if damage::alone().all(|place| seen[place]) {
         counts.count(EVERY_PLACE);
@@ -196,6 +174,38 @@ impl<'a, L: Library> Sweep<'a, L> {
         let mut table = cells::table_of(router);
         table[USED] = mark as u64;
         Sweep { pair, router, own, table, requests, random, counts }
+    }
+
+    /// Every change that has its turn; places damaged by themselves are noted.
+    fn all(
+        &mut self,
+        place: usize,
+        tables: &mut Tables,
+        seen: &mut [bool],
+    ) -> Result<(), Box<Failure>> {
+        let state = self.router;
+        let mut damages = damage::all(state, &self.table, place.is_multiple_of(LARGEST));
+        damages.retain(|change| has_turn(change, place, state));
+        for change in damages {
+            let found = self.damage(&change, tables.damaged.is_multiple_of(THOROUGH));
+            found.map_err(|found| failure(place, change.kind, &change.changes, *found))?;
+            tables.damaged += 1;
+            seen[change.place] |= change.changes.len() == 1 && change.kind != damage::LARGEST;
+        }
+        let mut changes = harmless::all(state, &self.table);
+        changes.retain(|change| has_turn(change, place, state));
+        for change in changes {
+            let found = self.harmless(&change, tables.harmless.is_multiple_of(THOROUGH));
+            found.map_err(|found| failure(place, change.kind, &change.changes, *found))?;
+            tables.harmless += 1;
+        }
+        for _ in 0..CHANGES {
+            let changes = self.random_changes();
+            let found = self.change(&changes);
+            found.map_err(|found| failure(place, "changed at random", &changes, *found))?;
+            tables.changed += 1;
+        }
+        Ok(())
     }
 
     /// All thirteen requests, or a few.
