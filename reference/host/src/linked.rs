@@ -71,12 +71,12 @@ impl Library for Linked {
 
     #[cfg(forms)]
     fn turn_rows(&self, rows: &Rows, table: &mut Cells) -> u64 {
-        hivepadlet::forms::from_rows(rows, table)
+        hivepadlet::forms::from_old(rows, table)
     }
 
     #[cfg(forms)]
     fn turn_table(&self, table: &Cells, rows: &mut Rows) -> u64 {
-        hivepadlet::forms::to_rows(table, rows)
+        hivepadlet::forms::to_old(table, rows)
     }
 
     /// Where the library does not turn tables, nobody is asked.
