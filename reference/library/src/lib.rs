@@ -20,10 +20,13 @@
 //! `tests/host.rs` is a small host.
 
 pub mod cells;
+#[cfg(forms)]
+pub mod forms;
 #[cfg(linked)]
 mod linked;
 #[cfg(linked)]
 pub mod messages;
+pub mod rows;
 #[cfg(linked)]
 pub mod supplier;
 

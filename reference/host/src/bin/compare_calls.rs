@@ -3,9 +3,10 @@
 
 use host_compare::counts::Counts;
 use host_compare::library::Library;
-use host_compare::{edges, made, parameters, report, runs, swept, UNLINKED};
+use host_compare::{edges, forms, made, parameters, report, runs, swept, UNLINKED};
 use reference::command;
 use reference::random::Random;
+use reference::router::Router;
 use std::process::ExitCode;
 
 #[cfg(linked)]
@@ -60,13 +61,18 @@ fn compare<L: Library>(
         .map_err(|failure| report::of_run(library, &failure))?;
     println!("{calls} calls in runs");
     states.extend((0..MADE).map(|_| made::router(random)));
+    // Every slot a member of every topic, so that every time is read.
+    states.push(made::extreme(true));
     let edges = edges::compare(library, &states, random, &mut counts)
         .map_err(|failure| report::of_edge(&failure))?;
     println!("{edges} calls at the ends of ranges");
     let tables = swept::compare(library, &states, random, &mut counts)
         .map_err(|failure| report::of_damage(&failure))?;
-    let swept::Tables { damaged, changed } = tables;
-    println!("{damaged} damaged tables, {changed} changed at random");
+    let swept::Tables { damaged, harmless, changed } = tables;
+    println!(
+        "{damaged} damaged tables, {harmless} changed where no state reads, {changed} at random"
+    );
+    turn(library, &states, random, &mut counts)?;
     let parameters = parameters::compare(library, INPUTS, longest, random, &mut counts)
         .map_err(|failure| report::of_parameters(&failure))?;
     print!("{}", counts.table());
@@ -81,9 +87,27 @@ fn compare<L: Library>(
     Ok(reached)
 }
 
+/// Tables from each form into the other, where the library does that.
+fn turn<L: Library>(
+    library: &L,
+    states: &[Router],
+    random: &mut Random,
+    counts: &mut Counts,
+) -> Result<(), String> {
+    if !forms::LINKED {
+        println!("{}", forms::UNLINKED);
+        return Ok(());
+    }
+    let turned = forms::compare(library, states, random, counts)
+        .map_err(|failure| report::of_forms(&failure))?;
+    println!("{turned} tables turned from each form into the other, or refused");
+    Ok(())
+}
+
 /// Whether the comparison reached all that it should, and nothing that 01 rules out.
 fn tell_missing(counts: &Counts) -> bool {
     let wanted = parameters::wanted().chain(swept::wanted()).chain(edges::wanted());
+    let wanted = wanted.chain(forms::wanted());
     let (missing, strange) = (counts.missing(wanted), counts.not_permitted());
     for what in &missing {
         println!("never reached: {what}");
