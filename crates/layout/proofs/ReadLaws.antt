@@ -9,8 +9,10 @@ use Rattle.records.specs.declared.Groups.{Groups}
 use Rattle.records.specs.declared.Peer.{Peer}
 use Rattle.records.specs.declared.TopicRecord.{TopicRecord}
 use Rattle.records.specs.Records.{peerIn, topicIn, place, slotCount, topicCount}
-use Rattle.layout.specs.View.{stride, peersAt, columnOf, topicsAt, memberAt, graftAt, meshAt, bitAt, liveAt, peerRaw, peerAt, stateOf}
+use Rattle.layout.specs.View.{stride, peersAt, columnOf, endsAt, topicsAt, memberAt, graftAt, meshAt, bitAt, liveAt, peerRaw, endsOf}
+use Rattle.layout.specs.View.{peerAt, stateOf}
 use Rattle.layout.proofs.DigitLaws.{digit-le}
+use Rattle.layout.proofs.RowLaws.{getD-tab}
 use Rattle.layout.proofs.ViewLaws.{peer-load}
 use Rattle.layout.proofs.CellLaws.{bits-are, graft-is, mesh-is, outside-none}
 
@@ -100,6 +102,13 @@ module _ (c : List ℕ) (s : ℕ) (h : s < slotCount) where
 
   pub version-high-bit : bitAt c (peersAt + 20) s ≡ p .version / 2
   version-high-bit = let l = bit-le (peersAt + 16) in omega (arith, version-is)
+
+  raw-end : (t : ℕ) → t < 8 → getD (peerAt c s .backoff) t 0 ≡ liveAt c s (endsAt + s * 8 + t)
+  unfolding peerAt peerRaw endsOf
+  raw-end t l = getD-tab 8 (λ j. liveAt c s (endsAt + s * 8 + j)) t 0 l
+
+  pub end-load : (t x : ℕ) → t < 8 → x ≡ liveAt c s (endsAt + s * 8 + t) → x ≡ getD (p .backoff) t 0
+  end-load t x l e = e ∙ sym (raw-end t l) ∙ ap (λ (q : Peer). getD (q .backoff) t 0) (peer-load c s h)
 
   pub explicit-bit : bitAt c (peersAt + 8) s ≡ p .explicit
   explicit-bit = sym raw-explicit ∙ ap (λ (q : Peer). q .explicit) (peer-load c s h)
