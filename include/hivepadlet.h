@@ -50,7 +50,8 @@
  *
  * A call makes its tests in the order 12, 2, 8, 1, 6, 7, 3, 4, 5, 11, those that can concern it, and answers the first that
  * fails; hivepadlet_read in the order 10, 9; hivepadlet_write 2, 8, 9; hivepadlet_import 10, 9; hivepadlet_export 13, 9;
- * hivepadlet_fresh 2, 9; hivepadlet_names 2; hivepadlet_read_message 8, 10; hivepadlet_write_message 2, 13.
+ * hivepadlet_fresh 2, 9; hivepadlet_from_old and hivepadlet_to_old 12; hivepadlet_names 2; hivepadlet_read_message 8, 10;
+ * hivepadlet_write_message 2, 13.
  *
  * TIMES AND UNITS
  *
@@ -88,6 +89,7 @@ extern "C" {
 /* ---- sizes */
 
 #define HIVEPADLET_CELLS 12544          /* numbers of a table */
+#define HIVEPADLET_OLD_CELLS 21661      /* numbers of a table of the old form */
 #define HIVEPADLET_NUMBERS 147          /* numbers of the parameters */
 #define HIVEPADLET_ACTION_NUMBERS 768   /* numbers of an action list: three for each slot */
 #define HIVEPADLET_PARAMETER_BYTES 737  /* bytes that written parameters may take (edition 1: 735) */
@@ -283,6 +285,18 @@ uint64_t hivepadlet_fresh(const int64_t numbers[HIVEPADLET_NUMBERS], uint64_t ed
 
 /* 1 if the table is a router's, else 0. Every call makes this test itself. */
 uint32_t hivepadlet_is_router(const uint64_t table[HIVEPADLET_CELLS]);
+
+/* The old form of a table, HIVEPADLET_OLD_CELLS numbers (173,288 bytes), is that of the editions of this library before members
+ * were bits: a row of numbers for each peer, and one for each peer in a topic. The calls work on a table of today's form; these
+ * two turn a router from each form into the other, where a table was kept in the old one. */
+
+/* Fills a table, whatever was in it, from one of the old form: the same router, which answers and acts as it did. 0; or 12 where
+ * the old table is no router's, and then nothing is written. */
+uint64_t hivepadlet_from_old(const uint64_t old[HIVEPADLET_OLD_CELLS], uint64_t table[HIVEPADLET_CELLS]);
+
+/* Fills a table of the old form, every number of it, from a table of today's. 0, or 12. What hivepadlet_from_old made of an old
+ * table comes back number for number; a table that is turned and turned back is the same router. */
+uint64_t hivepadlet_to_old(const uint64_t table[HIVEPADLET_CELLS], uint64_t old[HIVEPADLET_OLD_CELLS]);
 
 /* ---- what happens to peers */
 

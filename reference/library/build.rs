@@ -3,7 +3,7 @@
 //! constants and the answers are there.
 
 /// Whether libhost.a has the functions that turn a table from each form into the other (src/forms.rs).
-const FORMS: bool = false;
+const FORMS: bool = true;
 
 fn main() {
     println!("cargo:rustc-check-cfg=cfg(linked)");

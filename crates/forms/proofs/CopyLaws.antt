@@ -1,11 +1,14 @@
 -- A copy of every part of a state is the state.
 -- Assumes nothing.
-use Prim.Native.Nat.{ℕ, zero, suc, _+_, _/_, _%_, _≤_, _<_}
+use Prim.Native.Nat.{ℕ, zero, suc, _+_, _*_, _/_, _%_, _≤_, _<_}
 use mathlib.Core.Path.{_≡_, refl, sym, ap, _∙_, subst}
 use mathlib.Core.Bool.{true}
 use mathlib.Core.List.{List}
 use native.Mathlib.Omega.{arith}
+use lib.ListN.{length, getD, set, replicate, length-set, getD-replicate}
+use lib.Seq.{getD-set-same, getD-set-other, ext-getD}
 use Rattle.index.specs.Index.{iter}
+use Rattle.index.proofs.Flags.{by-order}
 use Rattle.index.proofs.Index.{iter-none, iter-more, iter-done}
 use Rattle.records.specs.declared.Peer.{Peer}
 use Rattle.records.specs.declared.TopicRecord.{TopicRecord}
@@ -13,10 +16,10 @@ use Rattle.records.specs.Records.{State, noTopic, noPeer, place, codeIn, joined
 use Rattle.records.specs.Records.{slotCount, topicCount, paramCount}
 use Rattle.varint.specs.Codes.{magnitude}
 use Rattle.params.proofs.ParamLaws.{within}
-use Rattle.layout.specs.View.{placeCount, setCodes, setSetup, Sized, TopicFits, PeerFits, CodesFit}
+use Rattle.layout.specs.View.{placeCount, setCodes, setSetup, zeroState, Sized, EmptyFrom, TopicFits, PeerFits, CodesFit}
 use Rattle.layout.proofs.CopyLaws.{copied, copied-all}
 use Rattle.validity.specs.Valid.{valid}
-use Rattle.validity.proofs.ValidLaws.{valid-facts}
+use Rattle.validity.proofs.ValidLaws.{valid-facts, zero-is}
 use Rattle.validity.proofs.FitLaws.{peer-fits, topic-fits}
 use Rattle.validity.proofs.SignLaws.{codes-fit, size-small}
 use Rattle.forms.specs.Turns.{copyJoined, copyPeers, copyTopics}
@@ -61,7 +64,122 @@ module _ (st u : State) (a : Sized st) (b : Sized u) where
   topics-all =
       topics-copied st u placeCount ∙ ap (withTopics u) (copied-all noTopic (st .topics) (u .topics) placeCount (a .topics) (b .topics))
 
--- part by part, whatever stood there
+peer-is : (st : State) (k : ℕ) → getD (st .peers) k noPeer ≡ peerIn st k
+unfolding peerIn
+peer-is st k = refl
+
+topic-is : (st : State) (k : ℕ) → getD (st .topics) k noTopic ≡ topicIn st k
+unfolding topicIn
+topic-is st k = refl
+
+-- ---- the first n entries of a list, where the others are the same already
+
+length-copied : {A : Type 0} (d : A) (from l : List A) (n : ℕ) → length (copied d from l n) ≡ length l
+unfolding iter
+length-copied d from l zero = refl
+length-copied d from l (suc n) = length-set (copied d from l n) n (getD from n d) ∙ length-copied d from l n
+
+copied-at :
+    {A : Type 0} (d : A) (from l : List A) (n k : ℕ) →
+    n ≤ length l →
+    (n ≤ k → getD l k d ≡ getD from k d) →
+    getD (copied d from l n) k d ≡ getD from k d
+unfolding iter
+copied-at d from l zero k b h = h (omega arith)
+copied-at d from l (suc n) k b h =
+    let z = length-copied d from l n in
+    by-order (getD (set (copied d from l n) n (getD from n d)) k d ≡ getD from k d) k n
+    (λ (q : k < n). getD-set-other (copied d from l n) n k (getD from n d) d (λ e. omega arith)
+    ∙ copied-at d from l n k (omega arith) (λ (w : n ≤ k). absurd (omega arith)))
+    (λ (q : n ≤ k).
+    by-order (getD (set (copied d from l n) n (getD from n d)) k d ≡ getD from k d) n k
+    (λ (w : n < k). getD-set-other (copied d from l n) n k (getD from n d) d (λ e. omega arith)
+    ∙ copied-at d from l n k (omega arith) (λ x. h (omega arith)))
+    (λ (w : k ≤ n).
+    let e : k ≡ n = omega arith in
+    rw e (getD-set-same (copied d from l n) n (getD from n d) d (omega arith))))
+
+copied-rest :
+    {A : Type 0} (d : A) (from l : List A) (n m : ℕ) →
+    length from ≡ m →
+    length l ≡ m →
+    n ≤ m →
+    ((k : ℕ) → n ≤ k → k < m → getD l k d ≡ getD from k d) →
+    copied d from l n ≡ from
+copied-rest d from l n m e f b h =
+    let z = length-copied d from l n in
+    ext-getD d (copied d from l n) from (z ∙ f ∙ sym e) (λ k j. copied-at d from l n k (omega arith) (λ w. h k w (omega arith)))
+
+-- ---- part by part, into a table of zeros: empty records are there already
+module _ (st u : State) (n : ℕ) (a : Sized st) (b : Sized u) (low : n ≤ slotCount) (rest : EmptyFrom st n) where
+  peers-rest : u .peers ≡ replicate slotCount noPeer → copyPeers n st u ≡ withPeers u (st .peers)
+  peers-rest e =
+      peers-copied st u n
+      ∙ ap (withPeers u)
+      (copied-rest noPeer (st .peers) (u .peers) n slotCount (a .peers) (b .peers) low
+      (λ k l h. ap (λ (p : List Peer). getD p k noPeer) e ∙ getD-replicate slotCount k noPeer noPeer h ∙ sym (empty k l h)))
+    where
+      empty : (k : ℕ) → n ≤ k → k < slotCount → getD (st .peers) k noPeer ≡ noPeer
+      empty k l h = peer-is st k ∙ rest .peer k l h
+
+  topics-rest : u .topics ≡ replicate placeCount noTopic → copyTopics (n * topicCount) st u ≡ withTopics u (st .topics)
+  topics-rest e =
+      topics-copied st u (n * topicCount)
+      ∙ ap (withTopics u)
+      (copied-rest noTopic (st .topics) (u .topics) (n * topicCount) placeCount (a .topics) (b .topics) (omega arith)
+      (λ k l h. ap (λ (p : List TopicRecord). getD p k noTopic) e ∙ getD-replicate placeCount k noTopic noTopic h ∙ sym (empty k l h)))
+    where
+      empty : (k : ℕ) → n * topicCount ≤ k → k < placeCount → getD (st .topics) k noTopic ≡ noTopic
+      empty k l h =
+          let w : k ≡ place (k / 8) (k % 8) = omega arith in
+          topic-is st k ∙ ap (topicIn st) w ∙ rest .topic (k / 8) (k % 8) (omega arith) (omega arith) (omega arith)
+
+pub all-from :
+    (st u0 u1 u2 u3 u4 u5 u6 : State) (n : ℕ) →
+    Sized st →
+    Sized u1 →
+    Sized u4 →
+    Sized u5 →
+    n ≤ slotCount →
+    EmptyFrom st n →
+    u0 ≡ zeroState →
+    u1 ≡ setClock u0 (st .clock) →
+    u2 ≡ copyJoined topicCount st u1 →
+    u3 ≡ setCodes u2 (st .codes) →
+    u4 ≡ setSetup u3 (st .setup) →
+    u5 ≡ copyPeers n st u4 →
+    u6 ≡ copyTopics (n * topicCount) st u5 →
+    u6 ≡ st
+unfolding setClock setCodes setSetup zeroState
+all-from st u0 u1 u2 u3 u4 u5 u6 n z z1 z4 z5 low rest e0 e1 e2 e3 e4 e5 e6 =
+    let f1 : u1 ≡ setClock zeroState (st .clock) = e1 ∙ ap (λ (w : State). setClock w (st .clock)) e0 in
+    let f4 : u4
+    ≡ record {
+      clock = st .clock;
+      joined = st .joined;
+      codes = st .codes;
+      setup = st .setup;
+      peers = replicate slotCount noPeer;
+      topics = replicate placeCount noTopic;
+    } =
+    e4
+    ∙ ap (λ (w : State). setSetup w (st .setup))
+    (e3 ∙ ap (λ (w : State). setCodes w (st .codes)) (e2 ∙ joined-all st u1 z z1 ∙ ap (λ (w : State). withJoined w (st .joined)) f1)) in
+    let f5 : u5
+    ≡ record {
+      clock = st .clock;
+      joined = st .joined;
+      codes = st .codes;
+      setup = st .setup;
+      peers = st .peers;
+      topics = replicate placeCount noTopic;
+    } =
+    e5 ∙ peers-rest st u4 n z z4 low rest (ap (λ (w : State). w .peers) f4) ∙ ap (λ (w : State). withPeers w (st .peers)) f4 in
+    e6
+    ∙ topics-rest st u5 n z z5 low rest (ap (λ (w : State). w .topics) f5)
+    ∙ ap (λ (w : State). withTopics w (st .topics)) f5
+
+-- ---- part by part, whatever stood there
 pub all-copied :
     (st u0 u1 u2 u3 u4 u5 u6 : State) →
     Sized st →
@@ -103,6 +221,31 @@ module _ (st : State) (ok : valid st ≡ true) where
   pub code-small : (i : ℕ) → i < paramCount → magnitude (codeIn st i) < 4611686018427387904
   unfolding codeIn
   code-small i h = let l = size-small (st .codes) (within (st .codes) (valid-facts st ok .params)) i h in omega arith
+
+  pub empty-last : EmptyFrom st slotCount
+  empty-last = record { peer = λ s l h. absurd (omega arith); topic = λ s t l h k. absurd (omega arith) }
+
+  -- a record without an id is empty, and so is what it holds for the topics
+  no-id : (s : ℕ) → s < slotCount → peerIn st s .id ≡ 0 → peerIn st s .status ≡ 0
+  no-id s h e =
+      let f = valid-facts st ok .peer s h in
+      by-order (peerIn st s .status ≡ 0) (peerIn st s .status) 1 (λ (l : peerIn st s .status < 1). omega arith)
+      (λ (l : 1 ≤ peerIn st s .status). absurd (let u = f .used (λ z. omega arith) in omega arith))
+
+  pub empty-more : (n : ℕ) → Sized st → n < slotCount → EmptyFrom st (n + 1) → peerIn st n .id ≡ 0 → EmptyFrom st n
+  empty-more n z h e d =
+      let f = valid-facts st ok in
+      let q = no-id n h d in
+      record {
+        peer = λ s l b. by-order (peerIn st s ≡ noPeer) n s (λ (w : n < s). e .peer s (omega arith) b)
+            (λ (w : s ≤ n).
+            let a : s ≡ n = omega arith in
+            rw a (zero-is (peerIn st n) (f .peer n h .empty q) q (z .ends n)));
+        topic = λ s t l b k. by-order (topicIn st (place s t) ≡ noTopic) n s (λ (w : n < s). e .topic s t (omega arith) b k)
+            (λ (w : s ≤ n).
+            let a : s ≡ n = omega arith in
+            rw a (f .topic n t h k .empty q));
+      }
 
 -- ---- a loop that copies
 module _ (st u : State) where

@@ -12,12 +12,15 @@ use lib.Seq.{sets}
 use Rattle.index.proofs.Flags.{failed, passed}
 use Rattle.layout.specs.View.{stateOf}
 use Rattle.rows.specs.View.{stateOfRows}
-use Rattle.rows.proofs.Whole.{determined}
+use Rattle.layout.proofs.StateLaws.{sized-of}
+use Rattle.rows.proofs.Whole.{determined, back, cells-length}
 use Rattle.validity.specs.Valid.{valid}
 use Rattle.rules.specs.Step.{step}
 use Rattle.forms.specs.declared.Turned.the-variants.{Done, NotRouter}
 use Rattle.forms.specs.Turns.{turnedOf, FromRows, ToRows, RowsReturn, TableReturns}
-use Rattle.forms.specs.Same.{SameCalls}
+use Rattle.forms.specs.Same.{SameCalls, HasRows, SameBetween}
+use Rattle.rules.proofs.Keeps.{keeps}
+use Rattle.forms.proofs.CellLaws.{same-cells}
 
 -- ---- the ends of the two functions
 other : (P : Type 0) → Done ≡ NotRouter → P
@@ -50,7 +53,7 @@ pub table-returns : TableReturns
 table-returns r q table rows rows′ out table′ v t f =
     let a = t .state (t .answer ∙ ap turnedOf v) in
     let b = f .state (f .answer ∙ ap turnedOf (ap valid a ∙ v)) in
-    b ∙ a
+    (b ∙ a, same-cells table′ table (b ∙ a))
 
 -- ---- the calls
 pub same-calls : SameCalls
@@ -61,3 +64,13 @@ same-calls c r table table′ rows rows′ list list′ l l′ e e′ f =
       kept = λ h. determined rows′ rows l′ l (e′ ∙ ap stateOf (f .leaves .kept h) ∙ sym e);
       actions = f .actions ∙ ap (λ (u : State). sets list 0 (numbersOf (step u c (length list) .actions))) (sym e);
     }
+
+pub has-rows : HasRows
+has-rows table = (cells-length (stateOf table) (sized-of table), back (stateOf table) (sized-of table))
+
+pub same-between : SameBetween
+same-between c r p q rows rows′ table table₁ table₂ out list list′ l l′ v f g t =
+    let a = f .state (f .answer ∙ ap turnedOf v) in
+    let k = keeps (stateOf table₁) c (length list) (sized-of table₁) (ap valid a ∙ v) in
+    let b = t .state (t .answer ∙ ap turnedOf (ap valid (g .leaves .state) ∙ k)) in
+    same-calls c r table₁ table₂ rows rows′ list list′ l l′ (sym a) b g

@@ -7,12 +7,15 @@ use lib.ListN.{length}
 use lib.Seq.{sets}
 use Rattle.effects.specs.Actions.{numbersOf}
 use Rattle.layout.specs.View.{stateOf}
-use Rattle.rows.specs.View.{rowsCount, stateOfRows}
+use Rattle.rows.specs.View.{rowsCount, stateOfRows, cellsOf}
+use Rattle.validity.specs.Valid.{valid}
 use Rattle.rules.specs.declared.Answer.{Answer}
 use Rattle.rules.specs.Reply.{refuses}
 use Rattle.rules.specs.Calls.{Call}
 use Rattle.rules.specs.Step.{step}
 use Rattle.rules.specs.Promise.{Follows}
+use Rattle.forms.specs.declared.Turned.{Turned}
+use Rattle.forms.specs.Turns.{FromRows, ToRows}
 
 -- the promise of a call on a table of the old form, as it was: rows stood there, and rows′ stands there after it
 pub record OldFollows (c : Call) (r : Answer) (rows rows′ list list′ : List ℕ) : Type 0 where
@@ -30,4 +33,20 @@ SameCalls =
     stateOfRows rows ≡ stateOf table →
     stateOfRows rows′ ≡ stateOf table′ →
     Follows c r table table′ list list′ →
+    OldFollows c r rows rows′ list list′
+
+-- there is such a table of the old form for every table, a router's or not
+abbrev pub HasRows : Type 0
+HasRows = (table : List ℕ) → (length (cellsOf (stateOf table)) ≡ rowsCount) × (stateOfRows (cellsOf (stateOf table)) ≡ stateOf table)
+
+-- a call between two turns: a router's table of the old form is turned, the call is made, and what it leaves is turned back
+abbrev pub SameBetween : Type 0
+SameBetween =
+    (c : Call) (r : Answer) (p q : Turned) (rows rows′ table table₁ table₂ out list list′ : List ℕ) →
+    length rows ≡ rowsCount →
+    length rows′ ≡ rowsCount →
+    valid (stateOfRows rows) ≡ true →
+    FromRows p rows table table₁ →
+    Follows c r table₁ table₂ list list′ →
+    ToRows q table₂ out rows′ →
     OldFollows c r rows rows′ list list′

@@ -1,13 +1,14 @@
 -- The two forms of a table, each turned into the other (02, order 10: "a router's tables turn from each form into the other without
 -- loss").
-use Prim.Native.Nat.{ℕ}
+use Prim.Native.Nat.{ℕ, _+_, _*_, _/_, _<_}
 use mathlib.Core.Path.{_≡_}
 use mathlib.Core.Bool.{Bool, true, false}
 use mathlib.Core.List.{List}
-use lib.ListN.{length}
+use lib.ListN.{length, getD}
 use Rattle.index.specs.Index.{iter}
-use Rattle.records.specs.Records.{State, joinedIn, peerIn, topicIn, setJoined, setPeer, setTopic}
-use Rattle.layout.specs.View.{cellCount, stateOf}
+use Rattle.records.specs.Records.{State, slotCount, topicCount, paramCount, joinedIn, peerIn, topicIn, setJoined, setPeer, setTopic}
+use Rattle.layout.specs.View.{placeCount, wordCells, columnCount, clockAt, joinedAt, setupAt, paramsAt, peersAt, endsAt, p3bAt, cellCount}
+use Rattle.layout.specs.View.{bitAt, liveAt, counterOf, graftOf, meshOf, subscribedWord, memberWord, columnOf, paramPlace, stateOf}
 use Rattle.rows.specs.View.{rowsCount, stateOfRows}
 use Rattle.validity.specs.Valid.{valid}
 use Rattle.forms.specs.declared.Turned.{Turned}
@@ -66,11 +67,31 @@ RowsReturn =
     ToRows q table′ out rows′ →
     rows′ ≡ rows
 
--- and to the old form and back: the state comes back, which is every cell that a state reads
+-- how many words by slot the peers have
+abbrev pub flagCount : ℕ
+flagCount = 6
+
+-- the cells in use of two tables are the same: a column's below the mark, past it a cell counts as 0; a member's times
+pub record SameCells (c d : List ℕ) : Type 0 where
+  pub clock : getD c clockAt 0 ≡ getD d clockAt 0
+  pub joined : (t : ℕ) → t < topicCount → getD c (joinedAt + t) 0 ≡ getD d (joinedAt + t) 0
+  pub setup : getD c setupAt 0 ≡ getD d setupAt 0
+  pub params : (i : ℕ) → i < paramCount → getD c (paramsAt + paramPlace i) 0 ≡ getD d (paramsAt + paramPlace i) 0
+  pub flags : (p s : ℕ) → p < flagCount → s < slotCount → bitAt c (peersAt + p * wordCells) s ≡ bitAt d (peersAt + p * wordCells) s
+  pub columns : (j s : ℕ) → j < columnCount → s < slotCount → liveAt c s (columnOf j s) ≡ liveAt d s (columnOf j s)
+  pub ends : (s t : ℕ) → s < slotCount → t < topicCount → liveAt c s (endsAt + s * 8 + t) ≡ liveAt d s (endsAt + s * 8 + t)
+  pub subscribed : (k : ℕ) → k < placeCount → bitAt c (subscribedWord k) (k / 8) ≡ bitAt d (subscribedWord k) (k / 8)
+  pub member : (k : ℕ) → k < placeCount → bitAt c (memberWord k) (k / 8) ≡ bitAt d (memberWord k) (k / 8)
+  pub counters : (k : ℕ) → k < placeCount → liveAt c (k / 8) (counterOf k) ≡ liveAt d (k / 8) (counterOf k)
+  pub p3b : (k : ℕ) → k < placeCount → liveAt c (k / 8) (p3bAt + k) ≡ liveAt d (k / 8) (p3bAt + k)
+  pub graft : (k : ℕ) → k < placeCount → bitAt c (memberWord k) (k / 8) ≡ 1 → getD c (graftOf k) 0 ≡ getD d (graftOf k) 0
+  pub mesh : (k : ℕ) → k < placeCount → bitAt c (memberWord k) (k / 8) ≡ 1 → getD c (meshOf k) 0 ≡ getD d (meshOf k) 0
+
+-- and to the old form and back: the state comes back, and so does every cell in use
 abbrev pub TableReturns : Type 0
 TableReturns =
     (r q : Turned) (table rows rows′ out table′ : List ℕ) →
     valid (stateOf table) ≡ true →
     ToRows r table rows rows′ →
     FromRows q rows′ out table′ →
-    stateOf table′ ≡ stateOf table
+    (stateOf table′ ≡ stateOf table) × SameCells table′ table

@@ -1,10 +1,11 @@
 // A router's state copied from one form into the other, part by part.
 ghost use mathlib.Core.Path.{_≡_};
 ghost use mathlib.Core.Bool.{true};
+ghost use Prim.Native.Nat.{_*_, _≤_};
 ghost use lib.ListN.{length};
 ghost use Rattle.records.specs.Records.{slotCount, topicCount};
-ghost use Rattle.layout.specs.View.{placeCount, cellCount, stateOf};
-ghost use Rattle.rows.specs.View.{stateOfRows};
+ghost use Rattle.layout.specs.View.{placeCount, cellCount, stateOf, EmptyFrom};
+ghost use Rattle.rows.specs.View.{rowsCount, stateOfRows};
 ghost use Rattle.validity.specs.Valid.{valid};
 ghost use Rattle.forms.specs.Turns.{copyJoined, copyPeers, copyTopics, Between, Back};
 use layout::PARAMS;
@@ -26,24 +27,40 @@ fn joined_from(rows: &[u64], table: &mut [u64])
     }
 }
 
-fn peers_from(rows: &[u64], table: &mut [u64])
-    requires { ⌜ Between (now rows) (now table) ⌝ }
-    ensures { λ r. ⌜ stateOf (now (table .exit)) ≡ copyPeers slotCount (stateOfRows (now (rows .entry))) (stateOf (now (table .entry))) ⌝ }
+// The slot after the last record that is not empty, which is the last with an id.
+fn records_end(rows: &[u64]) -> usize
+    requires { ⌜ (length (now rows) ≡ rowsCount) × (valid (stateOfRows (now rows)) ≡ true) ⌝ }
+    ensures { λ r. ⌜ (r ≤ slotCount) × EmptyFrom (stateOfRows (now (rows .entry))) r ⌝ }
+{
+    let mut n: usize = SLOTS;
+    while 0 < n {
+        if rows::load_id(rows, n - 1) != 0 {
+            return n;
+        }
+        n -= 1;
+    }
+    0
+}
+
+// The first n records: what lies past the last one that is not empty is not stored, so that the table's mark stays there.
+fn peers_from(rows: &[u64], table: &mut [u64], n: usize)
+    requires { ⌜ Between (now rows) (now table) × (n ≤ slotCount) ⌝ }
+    ensures { λ r. ⌜ stateOf (now (table .exit)) ≡ copyPeers n (stateOfRows (now (rows .entry))) (stateOf (now (table .entry))) ⌝ }
 {
     let mut s: usize = 0;
-    while s < SLOTS {
+    while s < n {
         layout::store_peer(table, s, rows::load_peer(rows, s));
         s += 1;
     }
 }
 
-fn topics_from(rows: &[u64], table: &mut [u64])
-    requires { ⌜ Between (now rows) (now table) ⌝ }
+fn topics_from(rows: &[u64], table: &mut [u64], n: usize)
+    requires { ⌜ Between (now rows) (now table) × (n ≤ slotCount) ⌝ }
     ensures { λ r. ⌜ stateOf (now (table .exit))
-        ≡ copyTopics placeCount (stateOfRows (now (rows .entry))) (stateOf (now (table .entry))) ⌝ }
+        ≡ copyTopics (n * topicCount) (stateOfRows (now (rows .entry))) (stateOf (now (table .entry))) ⌝ }
 {
     let mut k: usize = 0;
-    while k < PLACES {
+    while k < n * TOPICS {
         layout::store_topic(table, k, rows::load_topic(rows, k));
         k += 1;
     }
@@ -59,8 +76,9 @@ pub fn fill_table(rows: &[u64], table: &mut [u64])
     joined_from(rows, table);
     layout::store_codes(table, rows::codes(rows));
     layout::store_setup(table, rows::load_setup(rows));
-    peers_from(rows, table);
-    topics_from(rows, table);
+    let n = records_end(rows);
+    peers_from(rows, table, n);
+    topics_from(rows, table, n);
 }
 
 fn joined_to(table: &[u64], rows: &mut [u64])

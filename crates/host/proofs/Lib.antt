@@ -1,4 +1,5 @@
 pub mod HostLaws
 pub mod MessageLaws
 pub mod SupplierLaws
+pub mod TurningLaws
 pub mod WritingLaws

@@ -1,4 +1,5 @@
 pub mod Host
 pub mod Messages
 pub mod Supplier
+pub mod Turning
 pub mod Writing

@@ -4,4 +4,5 @@ pub mod calls;
 pub mod messages;
 pub mod parameters;
 pub mod supplier;
+pub mod turning;
 pub mod writing;

@@ -84,7 +84,7 @@ peer-back p e =
     λ i. record {
       status = p .status;
       id = p .id;
-      group = p .group;
+      groups = p .groups;
       outbound = p .outbound;
       explicit = p .explicit;
       version = p .version;

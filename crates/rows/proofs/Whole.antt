@@ -135,6 +135,12 @@ module _ (st : State) (size : Sized st) where
       length-append fronted (joins cellsOfPeer (st .peers))
       ∙ omega (arith, fronted-length, length-joins cellsOfPeer peerCells peer-count (st .peers), size .peers)
 
+  pub cells-length : length (cellsOf st) ≡ rowsCount
+  unfolding cellsOf
+  cells-length =
+      length-append peered (joins cellsOfTopic (st .topics))
+      ∙ omega (arith, peered-length, length-joins cellsOfTopic topicCells topic-count (st .topics), size .topics)
+
   pub back : stateOfRows (cellsOf st) ≡ st
   unfolding stateOfRows cellsOf setupOf cellsOfSetup span peerIn
   back =

@@ -28,7 +28,7 @@ abbrev pub peersAt : ℕ
 peersAt = setupAt + setupCells
 
 abbrev pub peerCells : ℕ
-peerCells = 17
+peerCells = 20
 
 abbrev pub topicsAt : ℕ
 topicsAt = peersAt + slotCount * peerCells
@@ -36,7 +36,7 @@ topicsAt = peersAt + slotCount * peerCells
 abbrev pub topicCells : ℕ
 topicCells = 8
 
--- how many cells a table of the old form has
+-- how many cells a table of the old form has: 21,661
 abbrev pub rowsCount : ℕ
 rowsCount = topicsAt + placeCount * topicCells
 
@@ -53,22 +53,25 @@ peerOf r =
     record {
       status = getD r 0 0;
       id = getD r 1 0;
-      group = getD r 2 0;
-      outbound = getD r 3 0;
-      explicit = getD r 4 0;
-      version = getD r 5 0;
-      p5 = getD r 6 0;
-      p7 = getD r 7 0;
-      retain = getD r 8 0;
+      groups = record { first = getD r 2 0; second = getD r 3 0; third = getD r 4 0; fourth = getD r 5 0 };
+      outbound = getD r 6 0;
+      explicit = getD r 7 0;
+      version = getD r 8 0;
+      p5 = getD r 9 0;
+      p7 = getD r 10 0;
+      retain = getD r 11 0;
       backoff =
-          getD r 9 0 ∷ getD r 10 0 ∷ getD r 11 0 ∷ getD r 12 0 ∷ getD r 13 0 ∷ getD r 14 0 ∷ getD r 15 0 ∷ getD r 16 0 ∷ [];
+          getD r 12 0 ∷ getD r 13 0 ∷ getD r 14 0 ∷ getD r 15 0 ∷ getD r 16 0 ∷ getD r 17 0 ∷ getD r 18 0 ∷ getD r 19 0 ∷ [];
     }
 
 unfoldable pub cellsOfPeer : Peer → List ℕ
 cellsOfPeer p =
     p .status
     ∷ p .id
-    ∷ p .group
+    ∷ p .groups .first
+    ∷ p .groups .second
+    ∷ p .groups .third
+    ∷ p .groups .fourth
     ∷ p .outbound
     ∷ p .explicit
     ∷ p .version
@@ -108,22 +111,28 @@ peerFrom cells b =
     record {
       status = getD cells b 0;
       id = getD cells (b + 1) 0;
-      group = getD cells (b + 2) 0;
-      outbound = getD cells (b + 3) 0;
-      explicit = getD cells (b + 4) 0;
-      version = getD cells (b + 5) 0;
-      p5 = getD cells (b + 6) 0;
-      p7 = getD cells (b + 7) 0;
-      retain = getD cells (b + 8) 0;
+      groups =
+          record {
+            first = getD cells (b + 2) 0;
+            second = getD cells (b + 3) 0;
+            third = getD cells (b + 4) 0;
+            fourth = getD cells (b + 5) 0;
+          };
+      outbound = getD cells (b + 6) 0;
+      explicit = getD cells (b + 7) 0;
+      version = getD cells (b + 8) 0;
+      p5 = getD cells (b + 9) 0;
+      p7 = getD cells (b + 10) 0;
+      retain = getD cells (b + 11) 0;
       backoff =
-          getD cells (b + 9) 0
-          ∷ getD cells (b + 10) 0
-          ∷ getD cells (b + 11) 0
-          ∷ getD cells (b + 12) 0
+          getD cells (b + 12) 0
           ∷ getD cells (b + 13) 0
           ∷ getD cells (b + 14) 0
           ∷ getD cells (b + 15) 0
           ∷ getD cells (b + 16) 0
+          ∷ getD cells (b + 17) 0
+          ∷ getD cells (b + 18) 0
+          ∷ getD cells (b + 19) 0
           ∷ [];
     }
 

@@ -7,6 +7,7 @@ ghost use Rattle.records.specs.Records.{paramCount};
 ghost use Rattle.layout.specs.View.{placeCount, setCodes, setSetup};
 ghost use Rattle.rows.specs.View.{rowsCount, peerFrom, topicFrom, stateOfRows};
 use layout::PARAMS;
+use records::Groups;
 use records::Peer;
 use records::SLOTS;
 use records::Setup;
@@ -25,7 +26,7 @@ const SETUP_CELLS: usize = 1;
 
 const PEERS_AT: usize = SETUP_AT + SETUP_CELLS;
 
-const PEER_CELLS: usize = 17;
+const PEER_CELLS: usize = 20;
 
 const TOPICS_AT: usize = PEERS_AT + SLOTS * PEER_CELLS;
 
@@ -36,29 +37,34 @@ pub const CELLS: usize = TOPICS_AT + SLOTS * TOPICS * TOPIC_CELLS;
 
 // The peer's record that starts at cell `b`.
 fn read_peer(cells: &[u64], b: usize) -> Peer
-    requires { ⌜ b + 17 ≤ length (now cells) ⌝ }
+    requires { ⌜ b + 20 ≤ length (now cells) ⌝ }
     ensures { λ r. ⌜ r ≡ peerFrom (now (cells .entry)) b ⌝ }
 {
     let ends = [
-        cells[b + 9],
-        cells[b + 10],
-        cells[b + 11],
         cells[b + 12],
         cells[b + 13],
         cells[b + 14],
         cells[b + 15],
         cells[b + 16],
+        cells[b + 17],
+        cells[b + 18],
+        cells[b + 19],
     ];
     Peer {
         status: cells[b],
         id: cells[b + 1],
-        group: cells[b + 2],
-        outbound: cells[b + 3],
-        explicit: cells[b + 4],
-        version: cells[b + 5],
-        p5: cells[b + 6],
-        p7: cells[b + 7],
-        retain: cells[b + 8],
+        groups: Groups {
+            first: cells[b + 2],
+            second: cells[b + 3],
+            third: cells[b + 4],
+            fourth: cells[b + 5],
+        },
+        outbound: cells[b + 6],
+        explicit: cells[b + 7],
+        version: cells[b + 8],
+        p5: cells[b + 9],
+        p7: cells[b + 10],
+        retain: cells[b + 11],
         backoff: ends,
     }
 }
@@ -174,7 +180,10 @@ pub fn store_peer(cells: &mut [u64], slot: usize, p: Peer)
     let row = [
         p.status,
         p.id,
-        p.group,
+        p.groups.first,
+        p.groups.second,
+        p.groups.third,
+        p.groups.fourth,
         p.outbound,
         p.explicit,
         p.version,

@@ -6,7 +6,7 @@ use Rattle.layout.specs.View.{setCodes, setSetup}
 use Rattle.layout.proofs.StateLaws.{sized-of}
 use Rattle.rows.specs.View.{stateOfRows}
 use Rattle.rows.proofs.SizeLaws.{sized-of as sized-rows}
-use Rattle.forms.proofs.CopyLaws.{all-copied, codes-fit-in}
+use Rattle.forms.proofs.CopyLaws.{all-from, codes-fit-in}
 use Rattle.forms.proofs.copy.fill_table.Statement.{statement}
 use Rattle.forms.proofs.copy.fill_table.Tie as tie
 
@@ -21,36 +21,63 @@ store-codes-requires c κs =
       codes-fit-in _ (s .pre .router) _ (sized-rows _) (c .codes .ensures),
     )
 
-topics-from-requires : tie.Need-topics-from-requires
-topics-from-requires c κs =
-    let peers = c .before .before .before in
-    let setup = peers .before .before .before .before in
+peers-from-requires : tie.Need-peers-from-requires
+peers-from-requires c κs =
+    let last = c .before in
+    let setup = last .before .before .before in
     let codes = setup .before .before .before .before .before in
     let joined = codes .before .before .before .before .before in
     let clock = joined .before .before .before .before in
     let clear = clock .before .before .before .before .before in
-    let s = clear .before .before .before .before in
-    record {
-      from = s .pre .from;
-      to =
-          peers .peers-from .kept .1 .0 ∙ setup .store-setup .kept .0 ∙ codes .store-codes .kept .0 ∙ joined .joined-from .kept .1 .0
-          ∙ clock .store-clock .kept .0
-          ∙ clear .clear .kept .0
-          ∙ s .pre .to;
-      router = s .pre .router;
-    }
+    let s = clear .before .before .before .before in (
+      record {
+        from = s .pre .from;
+        to =
+            setup .store-setup .kept .0 ∙ codes .store-codes .kept .0 ∙ joined .joined-from .kept .1 .0 ∙ clock .store-clock .kept .0
+            ∙ clear .clear .kept .0
+            ∙ s .pre .to;
+        router = s .pre .router;
+      },
+      last .records-end .ensures .0,
+    )
+
+topics-from-requires : tie.Need-topics-from-requires
+topics-from-requires c κs =
+    let peers = c .before .before .before in
+    let last = peers .before .before in
+    let setup = last .before .before .before in
+    let codes = setup .before .before .before .before .before in
+    let joined = codes .before .before .before .before .before in
+    let clock = joined .before .before .before .before in
+    let clear = clock .before .before .before .before .before in
+    let s = clear .before .before .before .before in (
+      record {
+        from = s .pre .from;
+        to =
+            peers .peers-from .kept .1 .0 ∙ setup .store-setup .kept .0 ∙ codes .store-codes .kept .0 ∙ joined .joined-from .kept .1 .0
+            ∙ clock .store-clock .kept .0
+            ∙ clear .clear .kept .0
+            ∙ s .pre .to;
+        router = s .pre .router;
+      },
+      last .records-end .ensures .0,
+    )
 
 returns : tie.Need-returns
 returns c =
     let topics = c .before .before in
     let peers = topics .before .before .before .before in
-    let setup = peers .before .before .before .before in
+    let last = peers .before .before in
+    let setup = last .before .before .before in
     let codes = setup .before .before .before .before .before in
     let joined = codes .before .before .before .before .before in
     let clock = joined .before .before .before .before in
     let clear = clock .before .before .before .before .before in
     let s = clear .before .before .before .before in
-    all-copied (stateOfRows (s .args .rows .now)) _ _ _ _ _ _ _ (sized-rows (s .args .rows .now)) (sized-of _) (sized-of _) (sized-of _)
+    all-from (stateOfRows (s .args .rows .now)) _ _ _ _ _ _ _ _ (sized-rows (s .args .rows .now)) (sized-of _) (sized-of _) (sized-of _)
+    (last .records-end .ensures .0)
+    (last .records-end .ensures .1)
+    (clear .clear .ensures)
     (clock .store-clock .ensures .0 ∙ ap (setClock _) (clock .before .load-clock .ensures))
     (joined .joined-from .ensures)
     (codes .store-codes .ensures ∙ ap (setCodes _) (codes .before .codes .ensures))
@@ -71,6 +98,7 @@ fill-table-spec =
     (λ c κs. search needs)
     (λ c κs. search needs)
     (λ c κs. search needs)
+    peers-from-requires
     topics-from-requires
     (λ c. search needs)
     returns)

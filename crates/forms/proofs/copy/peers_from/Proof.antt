@@ -13,11 +13,11 @@ use Rattle.forms.proofs.copy.peers_from.Statement.{statement}
 use Rattle.forms.proofs.copy.peers_from.Tie as tie
 
 abbrev Inv-loop : tie.InvT-loop
-Inv-loop rows table₀ s₀ table s =
-    (s ≤ slotCount) × (length table ≡ cellCount) × (stateOf table ≡ copyPeers s (stateOfRows rows) (stateOf table₀))
+Inv-loop rows table₀ n s₀ table s =
+    (s ≤ n) × (length table ≡ cellCount) × (stateOf table ≡ copyPeers s (stateOfRows rows) (stateOf table₀))
 
 abbrev μ-loop : tie.MeasureT-loop
-μ-loop rows table₀ s₀ table s = slotCount - s
+μ-loop rows table₀ n s₀ table s = n - s
 
 loop-again : tie.Need-loop-again Inv-loop μ-loop
 loop-again c =
@@ -31,7 +31,7 @@ loop-again c =
 returns : tie.Need-returns Inv-loop μ-loop
 returns c =
     let l = c .before .loop in
-    peers-end _ _ _ (l .s) slotCount (l .inv .0) (omega arith) (l .inv .2)
+    peers-end _ _ _ (l .s) _ (l .inv .0) (omega arith) (l .inv .2)
 
 pub peers-from-spec : {M : Type 1} → statement M
 peers-from-spec =
@@ -39,15 +39,15 @@ peers-from-spec =
     (tie.spec
     Inv-loop
     μ-loop
-    (λ c. (omega arith, c .before .before .pre .to, peers-start _ _))
+    (λ c. (omega arith, c .before .before .pre .0 .to, peers-start _ _))
     (λ c κs. search needs)
     (λ c κs.
     let s = c .before .before .before .before .before .before in
     let l = c .before .before .before .loop in
     let h : l .s < slotCount = omega arith in
-    (l .inv .1, (h, peer-fit _ (s .pre .router) (l .s) _ h (c .load-peer .ensures))))
+    (l .inv .1, (h, peer-fit _ (s .pre .0 .router) (l .s) _ h (c .load-peer .ensures))))
     (λ c. omega arith)
     (λ c. omega arith)
     loop-again
-    (λ c. c .before .loop .inv .1 ∙ sym (c .before .before .before .before .pre .to))
+    (λ c. c .before .loop .inv .1 ∙ sym (c .before .before .before .before .pre .0 .to))
     returns)
