@@ -1,10 +1,7 @@
-//! Sets cfg(linked) where package hivepadlet links the proved library, and cfg(forms) where it turns tables
-//! from each form into the other.
+//! Sets cfg(linked) where package hivepadlet links the proved library.
 fn main() {
-    for name in ["linked", "forms"] {
-        println!("cargo:rustc-check-cfg=cfg({name})");
-        if std::env::var_os(format!("DEP_HOST_{}", name.to_uppercase())).is_some() {
-            println!("cargo:rustc-cfg={name}");
-        }
+    println!("cargo:rustc-check-cfg=cfg(linked)");
+    if std::env::var_os("DEP_HOST_LINKED").is_some() {
+        println!("cargo:rustc-cfg=linked");
     }
 }

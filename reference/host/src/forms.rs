@@ -12,11 +12,6 @@ use crate::rows::{self, Rows, ROWS};
 use reference::random::Random;
 use reference::router::Router;
 
-/// Whether the library turns tables: a constant of ../../library/build.rs says so. The stand-in does.
-pub const LINKED: bool = cfg!(any(not(linked), forms));
-
-pub const UNLINKED: &str = "libhost.a does not turn tables from each form into the other";
-
 /// Of the damages of one state every so-many-th is tried.
 const STRIDE: usize = 61;
 
@@ -46,7 +41,7 @@ const TABLE_REFUSED: &str = "turned: a damaged table, 12";
 /// The names that a comparison counts here.
 pub fn wanted() -> impl Iterator<Item = String> {
     let names = [TURNED, FROM_NOISE, CALLED, ROWS_TAKEN, ROWS_REFUSED, TABLE_REFUSED];
-    names.into_iter().filter(|_| LINKED).map(str::to_string)
+    names.into_iter().map(str::to_string)
 }
 
 /// Turns the tables of each state; gives how many tables were turned or refused.

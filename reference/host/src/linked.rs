@@ -69,24 +69,11 @@ impl Library for Linked {
         hivepadlet::is_router(table)
     }
 
-    #[cfg(forms)]
     fn turn_rows(&self, rows: &Rows, table: &mut Cells) -> u64 {
         hivepadlet::forms::from_old(rows, table)
     }
 
-    #[cfg(forms)]
     fn turn_table(&self, table: &Cells, rows: &mut Rows) -> u64 {
         hivepadlet::forms::to_old(table, rows)
-    }
-
-    /// Where the library does not turn tables, nobody is asked.
-    #[cfg(not(forms))]
-    fn turn_rows(&self, _: &Rows, _: &mut Cells) -> u64 {
-        unreachable!("{}", crate::forms::UNLINKED)
-    }
-
-    #[cfg(not(forms))]
-    fn turn_table(&self, _: &Cells, _: &mut Rows) -> u64 {
-        unreachable!("{}", crate::forms::UNLINKED)
     }
 }

@@ -20,7 +20,7 @@
 //! `tests/host.rs` is a small host.
 
 pub mod cells;
-#[cfg(forms)]
+#[cfg(linked)]
 pub mod forms;
 #[cfg(linked)]
 mod linked;

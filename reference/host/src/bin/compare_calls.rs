@@ -6,7 +6,6 @@ use host_compare::library::Library;
 use host_compare::{edges, forms, made, parameters, report, runs, swept, UNLINKED};
 use reference::command;
 use reference::random::Random;
-use reference::router::Router;
 use std::process::ExitCode;
 
 #[cfg(linked)]
@@ -72,7 +71,9 @@ fn compare<L: Library>(
     println!(
         "{damaged} damaged tables, {harmless} changed where no state reads, {changed} at random"
     );
-    turn(library, &states, random, &mut counts)?;
+    let turned = forms::compare(library, &states, random, &mut counts)
+        .map_err(|failure| report::of_forms(&failure))?;
+    println!("{turned} tables turned from each form into the other, or refused");
     let parameters = parameters::compare(library, INPUTS, longest, random, &mut counts)
         .map_err(|failure| report::of_parameters(&failure))?;
     print!("{}", counts.table());
@@ -85,23 +86,6 @@ fn compare<L: Library>(
         "compare_calls: {calls} calls, {damaged} damaged tables, {inputs} parameters, 0 differences"
     );
     Ok(reached)
-}
-
-/// Tables from each form into the other, where the library does that.
-fn turn<L: Library>(
-    library: &L,
-    states: &[Router],
-    random: &mut Random,
-    counts: &mut Counts,
-) -> Result<(), String> {
-    if !forms::LINKED {
-        println!("{}", forms::UNLINKED);
-        return Ok(());
-    }
-    let turned = forms::compare(library, states, random, counts)
-        .map_err(|failure| report::of_forms(&failure))?;
-    println!("{turned} tables turned from each form into the other, or refused");
-    Ok(())
 }
 
 /// Whether the comparison reached all that it should, and nothing that 01 rules out.
