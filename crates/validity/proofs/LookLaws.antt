@@ -261,14 +261,12 @@ module _ (st : State) (w : List ℕ) (f : FreeSlots st w) where
 
 -- ---- the whole
 pub valid-told :
-    (st : State) (p j : Bool) →
+    (st : State) (j : Bool) →
     st .clock ≤ maxTime →
-    p ≡ acceptedCodes (st .setup .edition) (st .codes) →
-    p ≡ true →
+    acceptedCodes (st .setup .edition) (st .codes) ≡ true →
     j ≡ every topicCount (joinedOk st) →
     j ≡ true →
     RecordsRight st →
     valid st ≡ true
 unfolding valid
-valid-told st p j h ep tp ej tj r =
-    rw (sym ep ∙ tp, le-leb (st .clock) maxTime h, sym ej ∙ tj, r .slots h, r .ids)
+valid-told st j h p ej tj r = rw (p, le-leb (st .clock) maxTime h, sym ej ∙ tj, r .slots h, r .ids)

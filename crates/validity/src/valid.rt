@@ -483,7 +483,7 @@ fn looks_right(table: &[u64]) -> bool
     if MAX_TIME < layout::load_clock(table) {
         return false;
     }
-    if !params_ok(table) {
+    if !magnitudes::accepted(table) {
         return false;
     }
     if !joined_ok(table) {

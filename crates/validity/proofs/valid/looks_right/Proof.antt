@@ -10,9 +10,8 @@ use Rattle.validity.proofs.valid.looks_right.Tie as tie
 
 returns-4 : tie.Need-returns-4
 returns-4 c e =
-    valid-told _ _ _ (subst (λ (n : ℕ). n ≤ maxTime) (c .before .before .before .before .before .before .load-clock .ensures) (c .before .before .before .before .before .if1 .left))
-    (c .before .before .before .before .params-ok .ensures)
-    (passed refl (c .before .before .before .if2 .left))
+    valid-told _ _ (subst (λ (n : ℕ). n ≤ maxTime) (c .before .before .before .before .before .before .load-clock .ensures) (c .before .before .before .before .before .if1 .left))
+    (c .before .before .before .before .accepted .ensures (passed refl (c .before .before .before .if2 .left)))
     (c .before .before .joined-ok .ensures)
     (passed refl (c .before .if3 .left))
     (c .records-right .ensures e)
