@@ -9,7 +9,7 @@ use mathlib.Core.Path.{_≡_, refl}
 use mathlib.Core.List.{List}
 use lib.ListN.{getD}
 use lib.Bits.{bitOr, or-add-and, and-le-l, and-le-r}
-use Rattle.columns.specs.Gather.{union, withSum, gathered, united}
+use Rattle.columns.specs.Gather.{gathered}
 
 pub in-left : (a b : ℕ) → a ≤ bitOr a b
 in-left a b = omega (arith, or-add-and a b, and-le-r a b)
@@ -19,59 +19,41 @@ in-right a b = omega (arith, or-add-and a b, and-le-l a b)
 
 -- ---- the turns of a pass
 
-module _ (f : ℕ → ℕ) (c : List ℕ) (at : ℕ) where
-  pub union-none : 0 ≡ union f c at 0
-  unfolding union
-  union-none = refl
+pub gathered-none : (c : List ℕ) (at k : ℕ) → 0 ≡ gathered c at k 0
+unfolding gathered
+gathered-none c at k = refl
 
-  pub union-more : (i u x : ℕ) → u ≡ union f c at i → x ≡ f (getD c (at + i) 0) → bitOr u x ≡ union f c at (i + 1)
-  unfolding union
-  union-more i u x p q = rw (add-one, q, p) refl
-
-  pub union-end : (n i u : ℕ) → i ≤ n → n ≤ i → u ≡ union f c at i → u ≡ union f c at n
-  union-end n i u l h p = rw (le-antisymm h l) p
-
-pub sum-more :
+pub gathered-more :
     (c : List ℕ) (at k i u x w : ℕ) →
     u ≡ gathered c at k i →
     x ≡ getD c (at + i) 0 →
     w ≡ (x + k) % 2 ^ 64 →
-    bitOr u (bitOr x w) ≡ gathered c at k (i + 1)
-unfolding withSum
-sum-more c at k i u x w p q r = union-more (withSum k) c at i u (bitOr x w) p (rw (r, q) refl)
+    bitOr (bitOr u x) w ≡ gathered c at k (i + 1)
+unfolding gathered
+gathered-more c at k i u x w p q r = rw (add-one, r, q, p) refl
 
--- ---- each cell: what a union tells of both its parts, the union of a pass tells of each cell
+pub gathered-end : (c : List ℕ) (at k n i u : ℕ) → i ≤ n → n ≤ i → u ≡ gathered c at k i → u ≡ gathered c at k n
+gathered-end c at k n i u l h p = rw (le-antisymm h l) p
+
+-- ---- each cell: what a union tells of both its parts, the union of a pass tells of each cell and of its sum
 
 module _
     (P : ℕ → Type 0)
     (left : (u v : ℕ) → P (bitOr u v) → P u)
     (right : (u v : ℕ) → P (bitOr u v) → P v)
     (c : List ℕ)
-    (at : ℕ) where
-  union-each : (f : ℕ → ℕ) (n : ℕ) → P (union f c at n) → (i : ℕ) → i < n → P (f (getD c (at + i) 0))
-  unfolding union
-  union-each f zero h i b = absurd (not-suc-le-zero b)
-  union-each f (suc n) h i b =
-      let x = f (getD c (at + n) 0) in
-      let g = union f c at n in
+    (at k : ℕ) where
+  pub gathered-each : (n : ℕ) → P (gathered c at k n) → (i : ℕ) → i < n → P (getD c (at + i) 0) × P ((getD c (at + i) 0 + k) % 2 ^ 64)
+  unfolding gathered
+  gathered-each zero h i b = absurd (not-suc-le-zero b)
+  gathered-each (suc n) h i b =
+      let x = getD c (at + n) 0 in
+      let g = gathered c at k n in
+      let r = (x + k) % 2 ^ 64 in
+      let both = left (bitOr g x) r h in
       elim (decLt i n) [
-        | yes l ↦ union-each f n (left g x h) i l
+        | yes l ↦ gathered-each n (left g x both) i l
         | no l ↦
             let e : i ≡ n = omega arith in
-            rw e (right g x h)
+            rw e (right g x both, right (bitOr g x) r h)
       ]
-
-  pub united-each : (n : ℕ) → P (united c at n) → (i : ℕ) → i < n → P (getD c (at + i) 0)
-  united-each n h i b = union-each (λ x. x) n h i b
-
-  pub gathered-each :
-      (k n : ℕ) →
-      P (gathered c at k n) →
-      (i : ℕ) →
-      i < n →
-      P (getD c (at + i) 0) × P ((getD c (at + i) 0 + k) % 2 ^ 64)
-  unfolding withSum
-  gathered-each k n h i b =
-      let x = getD c (at + i) 0 in
-      let e = union-each (withSum k) n h i b in
-      (left x ((x + k) % 2 ^ 64) e, right x ((x + k) % 2 ^ 64) e)

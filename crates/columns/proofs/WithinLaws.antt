@@ -14,10 +14,10 @@ use borrow.Author.Tests.{ltb-true, eqb-true}
 use Rattle.index.proofs.Index.{both}
 use Rattle.records.specs.Records.{topicCount}
 use Rattle.layout.specs.View.{stride, idAt, groupsAt, p57At, retainAt, endsAt, countersAt, p3bAt, stateOf}
-use Rattle.columns.specs.Gather.{gathered, united, cellTop, laneTop, halfTop, room, halvesRoom, lanesRoom, Halves, Lanes, RunWithin}
+use Rattle.columns.specs.Gather.{gathered, cellTop, laneTop, halfTop, room, halvesRoom, lanesRoom, Halves, Lanes, RunWithin}
 use Rattle.columns.specs.Gather.{countersGathered}
 use Rattle.columns.specs.Within.{InUse, PeersWithin, Named, OneGroup, NoRetain, EndsWithin, CountersWithin}
-use Rattle.columns.proofs.GatherLaws.{in-left, in-right, united-each, gathered-each}
+use Rattle.columns.proofs.GatherLaws.{in-left, in-right, gathered-each}
 use Rattle.columns.proofs.LaneLaws.{low-left, low-right, zero-left, zero-right, halves-left, halves-right, lanes-left, lanes-right}
 use Rattle.columns.proofs.LaneLaws.{low-limit, low-one, halves-limit, lanes-limit}
 use Rattle.columns.proofs.CellLaws.{id-cell, first-cell, second-cell, third-cell, fourth-cell, p5-cell, p7-cell, retain-cell, end-cell}
@@ -64,7 +64,7 @@ below-top c at n u k j e f t =
     let p : u ≡ gathered c at j n = e ∙ ap (λ (i : ℕ). gathered c at i n) f in
     subst (λ (x : ℕ). x < cellTop) p (ltb-true u cellTop t)
 
-pub all-zero : (c : List ℕ) (at n u : ℕ) → u ≡ united c at n → eqb u 0 ≡ true → united c at n ≡ 0
+pub all-zero : (c : List ℕ) (at n u : ℕ) → u ≡ gathered c at 0 n → eqb u 0 ≡ true → gathered c at 0 n ≡ 0
 all-zero c at n u e t = sym e ∙ eqb-true u 0 t
 
 pub in-halves :
@@ -188,8 +188,8 @@ module _ (c : List ℕ) (at n : ℕ) where
       let e = gathered-each (λ x. x < cellTop) low-left low-right c at 18446744073709551615 n h i l in
       low-one (getD c (at + i) 0) (e .0) (e .1)
 
-  cell-zero : united c at n ≡ 0 → (i : ℕ) → i < n → getD c (at + i) 0 ≡ 0
-  cell-zero h i l = united-each (λ x. x ≡ 0) zero-left zero-right c at n h i l
+  cell-zero : gathered c at 0 n ≡ 0 → (i : ℕ) → i < n → getD c (at + i) 0 ≡ 0
+  cell-zero h i l = gathered-each (λ x. x ≡ 0) zero-left zero-right c at 0 n h i l .0
 
   cell-halves :
       (low high : ℕ) →
@@ -249,9 +249,9 @@ module _ (c : List ℕ) (n : ℕ) (u : InUse c n) where
       }
 
   pub one-group :
-      united c (groupsAt + stride) n ≡ 0 →
-      united c (groupsAt + 2 * stride) n ≡ 0 →
-      united c (groupsAt + 3 * stride) n ≡ 0 →
+      gathered c (groupsAt + stride) 0 n ≡ 0 →
+      gathered c (groupsAt + 2 * stride) 0 n ≡ 0 →
+      gathered c (groupsAt + 3 * stride) 0 n ≡ 0 →
       OneGroup (stateOf c) n
   one-group a b e =
       record {
@@ -260,7 +260,7 @@ module _ (c : List ℕ) (n : ℕ) (u : InUse c n) where
         fourth = λ s h. fourth-cell c n u s h ∙ cell-zero c (groupsAt + 3 * stride) n e s h;
       }
 
-  pub no-retain : united c retainAt n ≡ 0 → NoRetain (stateOf c) n
+  pub no-retain : gathered c retainAt 0 n ≡ 0 → NoRetain (stateOf c) n
   no-retain a = record { retain = λ s h. retain-cell c n u s h ∙ cell-zero c retainAt n a s h }
 
   pub ends-within : (m : ℕ) → RunWithin c endsAt (8 * n) m → EndsWithin (stateOf c) n m

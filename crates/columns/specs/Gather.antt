@@ -6,20 +6,10 @@ use lib.ListN.{getD}
 use lib.Bits.{bitOr}
 use Rattle.layout.specs.View.{countersAt, stride}
 
--- the union of what f makes of n cells, from cell `at` on
-unfoldable pub union : (ℕ → ℕ) → List ℕ → ℕ → ℕ → ℕ
-union f c at zero = 0
-union f c at (suc n) = bitOr (union f c at n) (f (getD c (at + n) 0))
-
-unfoldable pub withSum : ℕ → ℕ → ℕ
-withSum k x = bitOr x ((x + k) % 2 ^ 64)
-
-abbrev pub gathered : List ℕ → ℕ → ℕ → ℕ → ℕ
-gathered c at k n = union (withSum k) c at n
-
--- of the cells alone
-abbrev pub united : List ℕ → ℕ → ℕ → ℕ
-united c at n = union (λ x. x) c at n
+-- of n cells, from cell `at` on
+unfoldable pub gathered : List ℕ → ℕ → ℕ → ℕ → ℕ
+gathered c at k zero = 0
+gathered c at k (suc n) = bitOr (bitOr (gathered c at k n) (getD c (at + n) 0)) ((getD c (at + n) 0 + k) % 2 ^ 64)
 
 -- the free bit above a whole cell, a lane of 21 bits, one of 32
 abbrev pub cellTop : ℕ

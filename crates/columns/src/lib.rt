@@ -7,7 +7,7 @@ ghost use Prim.Native.Nat.{ℕ, _+_, _*_, _≤_, _<_};
 ghost use lib.ListN.{length};
 ghost use Rattle.records.specs.Records.{topicCount};
 ghost use Rattle.layout.specs.View.{stateOf, cellCount};
-ghost use Rattle.columns.specs.Gather.{gathered, united, room, halvesRoom, lanesRoom, Halves, Lanes, RunWithin, countersGathered};
+ghost use Rattle.columns.specs.Gather.{gathered, room, halvesRoom, lanesRoom, Halves, Lanes, RunWithin, countersGathered};
 ghost use Rattle.columns.specs.Within.{InUse, PeersWithin, Named, OneGroup, NoRetain, EndsWithin, CountersWithin};
 use layout::COUNTERS_AT;
 use layout::ENDS_AT;
@@ -43,21 +43,7 @@ fn gathered(cells: &[u64], at: usize, n: usize, k: u64) -> u64
     let mut i: usize = 0;
     while i < n {
         let x = cells[at + i];
-        acc = acc | (x | std::num::wrapping_add_u64(x, k));
-        i += 1;
-    }
-    acc
-}
-
-// The union of n cells alone.
-fn united(cells: &[u64], at: usize, n: usize) -> u64
-    requires { ⌜ at + n ≤ length (now cells) ⌝ }
-    ensures { λ r. ⌜ r ≡ united (now (cells .entry)) at n ⌝ }
-{
-    let mut acc: u64 = 0;
-    let mut i: usize = 0;
-    while i < n {
-        acc = acc | cells[at + i];
+        acc = acc | x | std::num::wrapping_add_u64(x, k);
         i += 1;
     }
     acc
@@ -69,7 +55,7 @@ struct Unions {
     e: u64,
 }
 
-// What `gathered` makes of three columns, side by side.
+// The same of three columns, side by side.
 fn three(cells: &[u64], a: usize, b: usize, e: usize, n: usize, ka: u64, kb: u64, ke: u64) -> Unions
     requires { ⌜ (a + n ≤ length (now cells)) × ((b + n ≤ length (now cells)) × (e + n ≤ length (now cells))) ⌝ }
     ensures { λ r. ⌜ (r .a ≡ gathered (now (cells .entry)) a ka n)
@@ -83,9 +69,9 @@ fn three(cells: &[u64], a: usize, b: usize, e: usize, n: usize, ka: u64, kb: u64
         let x = cells[a + i];
         let y = cells[b + i];
         let z = cells[e + i];
-        u = u | (x | std::num::wrapping_add_u64(x, ka));
-        v = v | (y | std::num::wrapping_add_u64(y, kb));
-        w = w | (z | std::num::wrapping_add_u64(z, ke));
+        u = u | x | std::num::wrapping_add_u64(x, ka);
+        v = v | y | std::num::wrapping_add_u64(y, kb);
+        w = w | z | std::num::wrapping_add_u64(z, ke);
         i += 1;
     }
     Unions { a: u, b: v, e: w }
@@ -185,9 +171,17 @@ pub fn one_group(cells: &[u64], n: usize) -> bool
     requires { ⌜ InUse (now cells) n ⌝ }
     ensures { λ r. ⌜ (r ≡ true → OneGroup (stateOf (now (cells .entry))) n) ⌝ }
 {
-    (united(cells, GROUPS_AT + STRIDE, n) == 0)
-        & (united(cells, GROUPS_AT + 2 * STRIDE, n) == 0)
-        & (united(cells, GROUPS_AT + 3 * STRIDE, n) == 0)
+    let u = three(
+        cells,
+        GROUPS_AT + STRIDE,
+        GROUPS_AT + 2 * STRIDE,
+        GROUPS_AT + 3 * STRIDE,
+        n,
+        0,
+        0,
+        0,
+    );
+    (u.a == 0) & (u.b == 0) & (u.e == 0)
 }
 
 // Whether none of n slots has a retain end.
@@ -195,7 +189,7 @@ pub fn no_retain(cells: &[u64], n: usize) -> bool
     requires { ⌜ InUse (now cells) n ⌝ }
     ensures { λ r. ⌜ (r ≡ true → NoRetain (stateOf (now (cells .entry))) n) ⌝ }
 {
-    united(cells, RETAIN_AT, n) == 0
+    gathered(cells, RETAIN_AT, n, 0) == 0
 }
 
 // Whether every backoff end of n slots is at most m.

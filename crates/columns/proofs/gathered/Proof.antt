@@ -3,7 +3,7 @@ use Prim.Native.Nat.{_≤_, _-_}
 use mathlib.Core.Path.{_≡_, refl}
 use native.Mathlib.Omega.{arith}
 use Rattle.columns.specs.Gather.{gathered}
-use Rattle.columns.proofs.GatherLaws.{union-none, union-end, sum-more}
+use Rattle.columns.proofs.GatherLaws.{gathered-none, gathered-more, gathered-end}
 use borrow.Author.Needs.{needs}
 use Rattle.columns.proofs.gathered.Statement.{statement}
 use Rattle.columns.proofs.gathered.Tie as tie
@@ -15,13 +15,13 @@ abbrev μ-loop : tie.MeasureT-loop
 μ-loop cells at n k acc₀ i₀ acc i = n - i
 
 loop-holds : tie.Need-loop-holds Inv-loop μ-loop
-loop-holds c = (omega arith, union-none _ _ _)
+loop-holds c = (omega arith, gathered-none _ _ _)
 
 loop-again : tie.Need-loop-again Inv-loop μ-loop
-loop-again c = (omega arith, sum-more _ _ _ _ _ _ _ (c .before .before .before .loop .inv .1) refl (c .wrapping-add-u64 .ensures))
+loop-again c = (omega arith, gathered-more _ _ _ _ _ _ _ (c .before .before .before .loop .inv .1) refl (c .wrapping-add-u64 .ensures))
 
 returns : tie.Need-returns Inv-loop μ-loop
-returns c = union-end _ _ _ _ _ _ (omega arith) (omega arith) (c .before .loop .inv .1)
+returns c = gathered-end _ _ _ _ _ _ (omega arith) (omega arith) (c .before .loop .inv .1)
 
 pub gathered-spec : {M : Type 1} → statement M
 gathered-spec =

@@ -3,7 +3,7 @@ use Prim.Native.Nat.{_≤_, _-_}
 use mathlib.Core.Path.{_≡_, refl}
 use native.Mathlib.Omega.{arith}
 use Rattle.columns.specs.Gather.{gathered}
-use Rattle.columns.proofs.GatherLaws.{union-none, union-end, sum-more}
+use Rattle.columns.proofs.GatherLaws.{gathered-none, gathered-more, gathered-end}
 use borrow.Author.Needs.{needs}
 use Rattle.columns.proofs.three.Statement.{statement}
 use Rattle.columns.proofs.three.Tie as tie
@@ -16,7 +16,7 @@ abbrev μ-loop : tie.MeasureT-loop
 μ-loop cells a b e n ka kb ke u₀ v₀ w₀ i₀ u v w i = n - i
 
 loop-holds : tie.Need-loop-holds Inv-loop μ-loop
-loop-holds c = (omega arith, (union-none _ _ _, (union-none _ _ _, union-none _ _ _)))
+loop-holds c = (omega arith, (gathered-none _ _ _, (gathered-none _ _ _, gathered-none _ _ _)))
 
 loop-again : tie.Need-loop-again Inv-loop μ-loop
 loop-again c =
@@ -25,10 +25,10 @@ loop-again c =
     let l = u .before .before .before .before .before .loop in (
       omega arith,
       (
-        sum-more _ _ _ _ _ _ _ (l .inv .1 .0) refl (u .wrapping-add-u64 .ensures),
+        gathered-more _ _ _ _ _ _ _ (l .inv .1 .0) refl (u .wrapping-add-u64 .ensures),
         (
-          sum-more _ _ _ _ _ _ _ (l .inv .1 .1 .0) refl (v .wrapping-add-u642 .ensures),
-          sum-more _ _ _ _ _ _ _ (l .inv .1 .1 .1) refl (c .wrapping-add-u643 .ensures),
+          gathered-more _ _ _ _ _ _ _ (l .inv .1 .1 .0) refl (v .wrapping-add-u642 .ensures),
+          gathered-more _ _ _ _ _ _ _ (l .inv .1 .1 .1) refl (c .wrapping-add-u643 .ensures),
         ),
       ),
     )
@@ -36,10 +36,10 @@ loop-again c =
 returns : tie.Need-returns Inv-loop μ-loop
 returns c =
     let l = c .before .loop in (
-      union-end _ _ _ _ _ _ (omega arith) (omega arith) (l .inv .1 .0),
+      gathered-end _ _ _ _ _ _ (omega arith) (omega arith) (l .inv .1 .0),
       (
-        union-end _ _ _ _ _ _ (omega arith) (omega arith) (l .inv .1 .1 .0),
-        union-end _ _ _ _ _ _ (omega arith) (omega arith) (l .inv .1 .1 .1),
+        gathered-end _ _ _ _ _ _ (omega arith) (omega arith) (l .inv .1 .1 .0),
+        gathered-end _ _ _ _ _ _ (omega arith) (omega arith) (l .inv .1 .1 .1),
       ),
     )
 
