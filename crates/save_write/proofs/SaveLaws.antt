@@ -12,8 +12,11 @@ use lib.ListN.{length, take, drop, length-append}
 use lib.Seq.{sets, take-at, length-take-le}
 use Rattle.index.proofs.Flags.{cond-case}
 use Rattle.index.proofs.Lists.{sets-append}
-use Rattle.records.specs.Records.{State, slotCount}
+use Rattle.params.proofs.ParamLaws.{general}
+use Rattle.records.specs.Records.{State, slotCount, codeIn}
+use Rattle.effects.specs.Effects.{retainSeconds}
 use Rattle.validity.specs.Valid.{maxTime, valid}
+use Rattle.validity.proofs.ValidLaws.{valid-facts}
 use Rattle.saves.specs.Save.{isSaved, edition, order, bytesOf, saveOf, Saving, storing, savingOf}
 use Rattle.saves.specs.declared.Saved.{Saved}
 use Rattle.saves.specs.declared.Saved.the-variants.{Done, Early, OutOfRange, NotRouter, Short}
@@ -74,6 +77,13 @@ module _ (st : State) (v : valid st ≡ true) (time : ℕ) (keys : List ℕ) (e 
           ∙ rw (s .left, s .end) (sym (sets-append buf 0 front rest))
           ∙ ap (sets buf 0) (sym whole) in
           (rw (f, size), rw f w)
+
+pub few-fit : {n a b : ℕ} → n ≤ slotCount → a ≡ b → b ≡ slotCount → n ≤ a
+few-fit h e f = omega arith
+
+pub retain-small : (st : State) → valid st ≡ true → retainSeconds st ≤ 86400
+unfolding codeIn
+retain-small st v = let f = valid-facts st v in general (st .codes) (f .params) .retain-most
 
 -- ---- the keys in the front of an array, sorted there
 pub sorted-front :

@@ -85,7 +85,7 @@ written-from (suc n) s at l end h e =
     (λ next m f. written-from n s next m end h f) e
 
 -- ---- the second pass: number by number through numbers that the first has read
-abbrev after : List ℕ → Parse → Parse
+abbrev pub after : List ℕ → Parse → Parse
 after a (numbers l next) = numbers (a ++ l) next
 after a (malformed p) = malformed p
 
@@ -98,7 +98,7 @@ after-none (numbers l next) = refl
 after-none (malformed p) = refl
 
 -- i numbers, and then k more
-parse-split :
+pub parse-split :
     (i k : ℕ) (s : List ℕ) (at : ℕ) (a : List ℕ) (place : ℕ) →
     parseFrom i s at ≡ numbers a place →
     parseFrom (i + k) s at ≡ after a (parseFrom k s place)

@@ -1,0 +1,2 @@
+pub mod SkimLaws
+pub mod JudgeLaws
