@@ -160,7 +160,7 @@ module _ (p : Params) (clock : ℕ) (s : List ℕ) (r : Read) (e : r ≡ readAt 
         let z : opened p clock s (readAt top s 0) ≡ counted p clock s most next (readAt top s next) = rw (sym e ∙ q, sym d ∙ t) in
         rw z g
 
--- ---- the ends of `check`
+-- ---- the ends of `check_all`
 module _ (p : Params) (clock : ℕ) (s : List ℕ) (f : Found) (e : f ≡ firstBroken p) where
   pub check-sheet : (i : ℕ) → f ≡ At i → Checks p clock s (loadOf true p clock s) (Refuse (Broken i))
   unfolding loadOf
