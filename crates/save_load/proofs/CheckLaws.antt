@@ -199,3 +199,45 @@ load-refused p clock s table (Refuse b) a g q =
     go (broken i) e r = refl
     go (bad i) e r = refl
 load-refused p clock s table (Fine n at) a g q = let z : _≡_ {A = ℕ} 0 1 = cc in absurd (omega arith)
+
+-- ---- the end of `make`
+pub make-is :
+    (p : Params) (clock n : ℕ) (l : List ℕ) → n ≤ slotCount → firstBroken p ≡ Nothing → (r : Made) (t₀ t₁ t₂ t₃ : List ℕ) → Makes p r t₀ t₁ →
+    stateOf t₂ ≡ setClock (stateOf t₁) clock → stateOf t₃ ≡ storedAll clock n l (stateOf t₂) → stateOf t₃ ≡ loadedState p clock n l
+make-is p clock n l few ok r t₀ t₁ t₂ t₃ m b c =
+    let a : stateOf t₁ ≡ freshState p = let s = m .state in rw ok at s in
+    c
+    ∙ ap (storedAll clock n l) (b ∙ ap (λ (v : State). setClock v clock) a)
+    ∙ all-stored p clock l n few
+
+pub load-made :
+    (p : Params) (clock : ℕ) (s table table′ : List ℕ) (k : Check) (n at : ℕ) → Checks p clock s (loadOf true p clock s) k → k ≡ Fine n at →
+    ((l : List ℕ) (end : ℕ) → parseFrom (n * 44) s at ≡ numbers l end → stateOf table′ ≡ loadedState p clock n l) →
+    Loads (loadOf true p clock s) Done table table′
+load-made p clock s table table′ (Refuse a) n at g q f = let z : _≡_ {A = ℕ} 0 1 = cc in absurd (omega arith)
+load-made p clock s table table′ (Fine m b) n at g q f =
+    let x : m ≡ n = cc in
+    let y : b ≡ at = cc in
+    let h : Good p clock s (loadOf true p clock s) n at = rw (x, y) at (g .0) in
+    let d = h .fits in
+    let e = h .gives (d .l) (d .end) (d .whole) in
+    record {
+      answer = sym (ap answerOf e);
+      state = f (d .l) (d .end) (d .whole) ∙ sym (ap (λ (o : Loading). Rattle.saves.specs.Load.leftBy o (stateOf table)) e);
+      kept = λ r. let z : _≡_ {A = ℕ} 0 1 = cc in absurd (omega arith);
+    }
+
+pub fine-parts :
+    (p : Params) (clock : ℕ) (s : List ℕ) (k : Check) (n at : ℕ) → Checks p clock s (loadOf true p clock s) k → k ≡ Fine n at →
+    (n ≤ slotCount) × ((clock ≤ maxTime) × ((firstBroken p ≡ Nothing) × Loadable s at n))
+fine-parts p clock s (Refuse a) n at g q = let z : _≡_ {A = ℕ} 0 1 = cc in absurd (omega arith)
+fine-parts p clock s (Fine m b) n at g q =
+    let x : m ≡ n = cc in
+    let y : b ≡ at = cc in
+    let h : Good p clock s (loadOf true p clock s) n at = rw (x, y) at (g .0) in
+    (h .few, (g .1 .early, (g .1 .passes, h .fits)))
+
+-- the fresh router of the parameters has their codes
+pub fresh-coded : (p : Params) (codes : List ℕ) → Coded p codes → freshState p .codes ≡ codes
+unfolding freshState
+fresh-coded p codes c = sym (c .same)

@@ -13,12 +13,4 @@ pub check-all-spec : {M : Type 1} → statement M
 check-all-spec =
     tie.close
     (tie.spec
-    ?
-    ?
-    ?
-    ?
-    ?
-    ?
-    ?
-    ?
     ?)

@@ -28,4 +28,4 @@ put-topic-spec =
     (λ c. omega arith)
     (λ c. simp length-set (omega arith))
     (λ c. simp length-set)
-    (λ c. five _ _ _ _ _ _ _))
+    (λ c. five (c .args .most .now) (c .args .at) (c .args .cap2) (c .args .cap3) 1000000000000 1000000 3600000))
