@@ -25,7 +25,8 @@ use Rattle.lookup.specs.declared.Made.{Made}
 use Rattle.lookup.specs.Fresh.{freshState, Makes}
 use Rattle.lookup.proofs.FreshLaws.{fresh-valid}
 use Rattle.saves.specs.Save.{edition}
-use Rattle.saves.specs.Load.{Parse, numbers, malformed, parseFrom, ending, mostOf, ascends, outside, loadedState, Loading, loaded, outOfRange}
+use Rattle.saves.specs.Load.{Parse, numbers, malformed, parseFrom, ending, mostOf, ascends, outside, loadedState, Loading, loaded}
+use Rattle.saves.specs.Load.{outOfRange}
 use Rattle.saves.specs.Load.{broken, bad, slotsOf, judgedBy, judged, records, counted, ofEdition, opened, timed, sheeted, loadOf, answerOf}
 use Rattle.saves.specs.Load.{refuses, Loads}
 use Rattle.saves.specs.declared.Loaded.{Loaded}
@@ -67,7 +68,8 @@ skim-end (malformed p) next e = let z : _≡_ {A = ℕ} 0 1 = cc in absurd (omeg
 pub skim-read : (s : List ℕ) (at n next : ℕ) (k : Skim) → k ≡ skimOf (parseFrom n s at) → k ≡ End next → isRead (parseFrom n s at) ≡ true
 skim-read s at n next k e q = let r = skim-end (parseFrom n s at) next (sym e ∙ q) in ap isRead (r .1)
 
-module _ (p : Params) (clock : ℕ) (s codes : List ℕ) (n at : ℕ) (c : Coded p codes) (few : n ≤ slotCount) (k : Skim) (e : k ≡ skimOf (parseFrom (n * 44) s at)) where
+module _ (p : Params) (clock : ℕ) (s codes : List ℕ) (n at : ℕ) (c : Coded p codes) (few : n ≤ slotCount) (k : Skim)
+    (e : k ≡ skimOf (parseFrom (n * 44) s at)) where
   pub records-broken : (place : ℕ) → k ≡ Cut place → Says p clock s (records p clock s n at) (Refuse (Malformed place))
   unfolding records
   records-broken place q =
@@ -140,7 +142,8 @@ module _ (p : Params) (clock : ℕ) (s : List ℕ) (most at : ℕ) (r : Read) (e
     pub count-over : most < n → Says p clock s (counted p clock s most at (readAt top s at)) (Refuse (Broken at))
     count-over h = (rw (sym e ∙ q, lt-leb n most h), refl)
 
-    pub count-fine : n ≤ most → (a : Check) → Says p clock s (records p clock s n next) a → Says p clock s (counted p clock s most at (readAt top s at)) a
+    pub count-fine : n ≤ most → (a : Check) → Says p clock s (records p clock s n next) a →
+        Says p clock s (counted p clock s most at (readAt top s at)) a
     count-fine h a g =
         let z : counted p clock s most at (readAt top s at) ≡ records p clock s n next = rw (sym e ∙ q, le-leb n most h) in
         rw z g
@@ -171,7 +174,8 @@ module _ (p : Params) (clock : ℕ) (s : List ℕ) (f : Found) (e : f ≡ firstB
     unfolding loadOf
     check-clock h = (rw (sym e ∙ q, lt-leb clock maxTime h), refl)
 
-    pub check-fine : clock ≤ maxTime → (a : Check) → Says p clock s (opened p clock s (readAt top s 0)) a → Checks p clock s (loadOf true p clock s) a
+    pub check-fine : clock ≤ maxTime → (a : Check) → Says p clock s (opened p clock s (readAt top s 0)) a →
+        Checks p clock s (loadOf true p clock s) a
     unfolding loadOf
     check-fine h a g = go a g
       where
@@ -202,7 +206,8 @@ load-refused p clock s table (Fine n at) a g q = let z : _≡_ {A = ℕ} 0 1 = c
 
 -- ---- the end of `make`
 pub make-is :
-    (p : Params) (clock n : ℕ) (l : List ℕ) → n ≤ slotCount → firstBroken p ≡ Nothing → (r : Made) (t₀ t₁ t₂ t₃ : List ℕ) → Makes p r t₀ t₁ →
+    (p : Params) (clock n : ℕ) (l : List ℕ) → n ≤ slotCount → firstBroken p ≡ Nothing → (r : Made) (t₀ t₁ t₂ t₃ : List ℕ) →
+    Makes p r t₀ t₁ →
     stateOf t₂ ≡ setClock (stateOf t₁) clock → stateOf t₃ ≡ storedAll clock n l (stateOf t₂) → stateOf t₃ ≡ loadedState p clock n l
 make-is p clock n l few ok r t₀ t₁ t₂ t₃ m b c =
     let a : stateOf t₁ ≡ freshState p = let s = m .state in rw ok at s in

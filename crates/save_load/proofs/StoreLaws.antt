@@ -28,7 +28,8 @@ use Rattle.save_load.specs.Judge.{isRead}
 use Rattle.save_load.specs.Store.{widest, RowFits, stored, Loadable, storedAll}
 
 -- ---- the ranges of a row
-wide-topic : (t i : ℕ) → t < 8 → i < 5 → getD widest (4 + (t * 5 + i)) 0 ≡ getD (1000000 ∷ 1000000 ∷ 1000000000000 ∷ 1000000 ∷ mostBackoff ∷ []) i 0
+wide-topic : (t i : ℕ) → t < 8 → i < 5 →
+    getD widest (4 + (t * 5 + i)) 0 ≡ getD (1000000 ∷ 1000000 ∷ 1000000000000 ∷ 1000000 ∷ mostBackoff ∷ []) i 0
 unfolding widest
 wide-topic t i h b =
     getD-append-add (maxId ∷ mostRetain ∷ 2000000000 ∷ 1000000 ∷ [])
@@ -135,7 +136,8 @@ module _ (n : ℕ) (s : List ℕ) (at : ℕ) (l : List ℕ) (end : ℕ) (whole :
       let x = next-is n i s at l end (f .0) whole h (f .1) in
       (x .next, x .more)
 
-after-numbers : (a : List ℕ) (p : Parse) (b : List ℕ) (next : ℕ) → after a p ≡ numbers b next → (m : List ℕ) × ((p ≡ numbers m next) × (a ++ m ≡ b))
+after-numbers : (a : List ℕ) (p : Parse) (b : List ℕ) (next : ℕ) → after a p ≡ numbers b next →
+    (m : List ℕ) × ((p ≡ numbers m next) × (a ++ m ≡ b))
 after-numbers a (numbers m e) b next f =
     let q : e ≡ next = cc in
     (m, (ap (numbers m) q, cc))
@@ -169,7 +171,8 @@ pub record-read : (s : List ℕ) (at : ℕ) (l : List ℕ) (k place : ℕ) → R
 record-read s at l k place r = ap isRead (r .here)
 
 pub record-row :
-    (s : List ℕ) (at : ℕ) (l : List ℕ) (k place : ℕ) (r : Record s at l k place) (row : List ℕ) (next : ℕ) → parseFrom 44 s place ≡ numbers row next →
+    (s : List ℕ) (at : ℕ) (l : List ℕ) (k place : ℕ) (r : Record s at l k place) (row : List ℕ) (next : ℕ) →
+    parseFrom 44 s place ≡ numbers row next →
     (row ≡ rowAt l k) × (r .next ≡ next)
 record-row s at l k place r row next e =
     let q : numbers (rowAt l k) (r .next) ≡ numbers row next = sym (r .here) ∙ e in
@@ -178,7 +181,8 @@ record-row s at l k place r row next e =
     (sym a, b)
 
 pub row-fits :
-    (n : ℕ) (l : List ℕ) → ((i : ℕ) → i < n * 44 → getD l i 0 ≤ getD widest (i % 44) 0) → (k : ℕ) → k < n → (row : List ℕ) → row ≡ rowAt l k →
+    (n : ℕ) (l : List ℕ) → ((i : ℕ) → i < n * 44 → getD l i 0 ≤ getD widest (i % 44) 0) → (k : ℕ) → k < n → (row : List ℕ) →
+    row ≡ rowAt l k →
     RowFits row
 unfolding span
 row-fits n l f k h row e =

@@ -90,6 +90,7 @@ module _ (time : ℕ) (p : Peer) (topic : ℕ → TopicRecord) where
 
 -- the row of a slot
 pub saved-is :
-    (st : State) (time s : ℕ) (row : List ℕ) → row ≡ rowOf time (asLeft st time (peerIn st s)) (λ t. topicIn st (place s t)) → row ≡ savedRow st time s
+    (st : State) (time s : ℕ) (row : List ℕ) → row ≡ rowOf time (asLeft st time (peerIn st s)) (λ t. topicIn st (place s t)) →
+    row ≡ savedRow st time s
 unfolding savedRow
 saved-is st time s row e = e

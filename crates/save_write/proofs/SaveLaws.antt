@@ -69,9 +69,11 @@ module _ (st : State) (v : valid st ≡ true) (time : ℕ) (keys : List ℕ) (e 
       pub write-rest : a + b ≤ length buf → length mid ≡ length buf → at + length rest ≤ length mid
       write-rest h n = omega (arith, s .end)
 
-      pub write-done : a + b ≤ length buf → (place : ℕ) (out : List ℕ) → Stands rest at mid place out → Gives (storing (saveOf st time) buf) (Done (a + b)) out
+      pub write-done : a + b ≤ length buf → (place : ℕ) (out : List ℕ) → Stands rest at mid place out →
+          Gives (storing (saveOf st time) buf) (Done (a + b)) out
       write-done h place out t =
-          let f : ltb (length buf) (length (saveOf st time)) ≡ false = le-ltb (length buf) (length (saveOf st time)) (omega (arith, size)) in
+          let f : ltb (length buf) (length (saveOf st time))
+          ≡ false = le-ltb (length buf) (length (saveOf st time)) (omega (arith, size)) in
           let w : out ≡ sets buf 0 (saveOf st time) =
           t .left
           ∙ rw (s .left, s .end) (sym (sets-append buf 0 front rest))
@@ -108,6 +110,7 @@ module _ (st : State) (time : ℕ) (buf : List ℕ) where
       unfolding savingOf
       save-early l = let t = le-ltb maxTime time h in let u = lt-ltb time (st .clock) l in (rw (v, t, u), rw (v, t, u))
 
-      pub save-done : st .clock ≤ time → (r : Saved) (out : List ℕ) → Gives (storing (saveOf st time) buf) r out → Gives (savingOf st time buf) r out
+      pub save-done : st .clock ≤ time → (r : Saved) (out : List ℕ) → Gives (storing (saveOf st time) buf) r out →
+          Gives (savingOf st time buf) r out
       unfolding savingOf
       save-done l r out g = let t = le-ltb maxTime time h in let u = le-ltb time (st .clock) l in (rw (v, t, u) (g .0), rw (v, t, u) (g .1))

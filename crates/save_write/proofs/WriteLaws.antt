@@ -176,7 +176,8 @@ module _ (st : State) (time : ℕ) where
   length-slots (x ∷ keys) = ap suc (length-slots keys)
 
   -- the whole save
-  pub save-is : (keys : List ℕ) → map slotOf keys ≡ order st time → saveOf st time ≡ bytesOf (edition ∷ length keys ∷ []) ++ bytesOf (rowsOf st time keys)
+  pub save-is : (keys : List ℕ) → map slotOf keys ≡ order st time →
+      saveOf st time ≡ bytesOf (edition ∷ length keys ∷ []) ++ bytesOf (rowsOf st time keys)
   unfolding saveOf numbersOf bodyOf
   save-is keys e =
       ap (λ (l : List ℕ). bytesOf (edition ∷ length l ∷ joins (savedRow st time) l)) (sym e)
@@ -204,7 +205,8 @@ module _
         ∙ ap (λ (n : ℕ). done ++ bytesOf (savedRow st time n)) (sym es)
         ∙ ap (λ (l : List ℕ). done ++ bytesOf l) (sym er)
 
-    pub rows-sum : (sum r : ℕ) → sum ≡ length done → r ≡ length (bytesOf row) → sum + r ≡ length (bytesOf (rowsOf st time (take (k + 1) keys)))
+    pub rows-sum : (sum r : ℕ) → sum ≡ length done → r ≡ length (bytesOf row) →
+        sum + r ≡ length (bytesOf (rowsOf st time (take (k + 1) keys)))
     rows-sum sum r e f = omega (arith, ap length row-is, length-append done (bytesOf row))
 
     module _ (from : ℕ) (buf : List ℕ) (place : ℕ) (out : List ℕ) (s : Stands done from buf place out) where
@@ -227,10 +229,12 @@ module _ (st : State) (time : ℕ) (keys : List ℕ) where
   unfolding bytesOf joins
   rows-begin from buf = stands-none from buf
 
-  pub rows-total : (k sum : ℕ) → length keys ≤ k → sum ≡ length (bytesOf (rowsOf st time (take k keys))) → sum ≡ length (bytesOf (rowsOf st time keys))
+  pub rows-total : (k sum : ℕ) → length keys ≤ k → sum ≡ length (bytesOf (rowsOf st time (take k keys))) →
+      sum ≡ length (bytesOf (rowsOf st time keys))
   rows-total k sum h e = e ∙ ap (λ (l : List ℕ). length (bytesOf (rowsOf st time l))) (take-all k keys h)
 
   pub rows-written :
-      (from : ℕ) (buf : List ℕ) (k place : ℕ) (out : List ℕ) → length keys ≤ k → Stands (bytesOf (rowsOf st time (take k keys))) from buf place out →
+      (from : ℕ) (buf : List ℕ) (k place : ℕ) (out : List ℕ) → length keys ≤ k →
+      Stands (bytesOf (rowsOf st time (take k keys))) from buf place out →
       Stands (bytesOf (rowsOf st time keys)) from buf place out
   rows-written from buf k place out h s = rw (take-all k keys h) at s

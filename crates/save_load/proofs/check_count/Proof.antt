@@ -15,11 +15,15 @@ check-count-spec =
     (tie.spec
     (λ c κs. tt)
     (λ c. search needs)
-    (λ c p clock d. count-over p clock (c .before .before .before .before .before .before .before .args .s .now) _ _ _ (c .before .before .before .before .read-u64 .ensures) _ _ (c .before .before .n .given .1) (c .if1 .taken))
-    (λ c κs. let h = c .if1 .left in let p = c .before .before .before .before .before .before .before .pre .1 in (c .before .before .before .before .before .before .before .pre .0, omega arith))
+    (λ c p clock d. count-over p clock (c .before .before .before .before .before .before .before .args .s .now) _ _ _
+    (c .before .before .before .before .read-u64 .ensures) _ _ (c .before .before .n .given .1) (c .if1 .taken))
+    (λ c κs. let h = c .if1 .left in let p = c .before .before .before .before .before .before .before .pre .1 in
+    (c .before .before .before .before .before .before .before .pre .0, omega arith))
     (λ c. search needs)
     (λ c p clock d.
-    count-fine p clock (c .before .before .before .before .before .before .before .before .args .s .now) _ _ _ (c .before .before .before .before .before .read-u64 .ensures) _ _ (c .before .before .before .n .given .1) (c .before .if1 .left)
+    count-fine p clock (c .before .before .before .before .before .before .before .before .args .s .now) _ _ _
+    (c .before .before .before .before .before .read-u64 .ensures) _ _ (c .before .before .before .n .given .1) (c .before .if1 .left)
     (c .check-records .result)
     (c .check-records .ensures p clock d))
-    (λ c p clock d. count-bad p clock (c .before .before .before .before .before .args .s .now) _ _ _ (c .before .before .read-u64 .ensures) (c .enum-told .given .1)))
+    (λ c p clock d. count-bad p clock (c .before .before .before .before .before .args .s .now) _ _ _
+    (c .before .before .read-u64 .ensures) (c .enum-told .given .1)))

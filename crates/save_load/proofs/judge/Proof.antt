@@ -21,4 +21,5 @@ judge-spec =
     (λ c st e.
     let a = c .before .before .before .before .before .before .before .args in
     c .first-outside .ensures
-    ∙ ap (λ (m : List ℕ). judgeOf m (a .s .now) (a .at) (a .n) (parseFrom (a .n) (a .s .now) (a .at))) (c .before .before .before .fill-most .ensures st e)))
+    ∙ ap (λ (m : List ℕ). judgeOf m (a .s .now) (a .at) (a .n) (parseFrom (a .n) (a .s .now) (a .at)))
+    (c .before .before .before .fill-most .ensures st e)))

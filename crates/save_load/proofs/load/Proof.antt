@@ -16,6 +16,12 @@ load-spec =
     (λ c κs. tt)
     (λ c. search needs)
     (λ c. search needs)
-    (λ c κs. (search needs, fine-parts _ _ _ (c .before .before .before .before .check-all .result) _ _ (c .before .before .before .before .check-all .ensures) (c .before .before .n .given .1)))
-    (λ c. load-refused _ _ _ _ (c .before .before .before .check-all .result) _ (c .before .before .before .check-all .ensures) (c .before .a .given .1))
-    (λ c. load-made _ _ _ _ _ (c .before .before .before .before .before .check-all .result) _ _ (c .before .before .before .before .before .check-all .ensures) (c .before .before .before .n .given .1) (c .make .ensures)))
+    (λ c κs. (
+      search needs,
+      fine-parts _ _ _ (c .before .before .before .before .check-all .result) _ _
+          (c .before .before .before .before .check-all .ensures) (c .before .before .n .given .1),
+    ))
+    (λ c. load-refused _ _ _ _ (c .before .before .before .check-all .result) _ (c .before .before .before .check-all .ensures)
+    (c .before .a .given .1))
+    (λ c. load-made _ _ _ _ _ (c .before .before .before .before .before .check-all .result) _ _
+    (c .before .before .before .before .before .check-all .ensures) (c .before .before .before .n .given .1) (c .make .ensures)))

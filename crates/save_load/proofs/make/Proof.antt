@@ -16,15 +16,17 @@ make-spec =
     (λ c κs. c .before .before .before .pre .0)
     (λ c κs. c .before .before .before .fresh .kept .1 .0 ∙ c .before .before .before .before .before .before .before .pre .0)
     (λ c κs.
-    let s = c .before .before .before .before .before .before .before .before .before .before .before in
-    (
-      c .before .before .before .store-clock .kept .0 ∙ c .before .before .before .before .before .before .before .fresh .kept .1 .0 ∙ s .pre .0,
+    let s = c .before .before .before .before .before .before .before .before .before .before .before in (
+      c .before .before .before .store-clock .kept .0 ∙ c .before .before .before .before .before .before .before .fresh .kept .1 .0
+          ∙ s .pre .0,
       (s .pre .1 .0, (s .pre .1 .1 .0, s .pre .1 .1 .1 .1)),
     ))
-    (λ c. c .before .before .store-rows .kept .0 ∙ c .before .before .before .before .before .before .store-clock .kept .0 ∙ c .before .before .before .before .before .before .before .before .before .before .fresh .kept .1 .0)
+    (λ c. c .before .before .store-rows .kept .0 ∙ c .before .before .before .before .before .before .store-clock .kept .0
+    ∙ c .before .before .before .before .before .before .before .before .before .before .fresh .kept .1 .0)
     (λ c l end w.
     let s = c .before .before .before .before .before .before .before .before .before .before .before .before .before .before in
-    make-is (s .args .params) (s .args .clock) (s .args .n) l (s .pre .1 .0) (s .pre .1 .1 .1 .0) (c .before .before .before .before .before .before .before .before .before .before .fresh .result) (s .args .table .now)
+    make-is (s .args .params) (s .args .clock) (s .args .n) l (s .pre .1 .0) (s .pre .1 .1 .1 .0)
+    (c .before .before .before .before .before .before .before .before .before .before .fresh .result) (s .args .table .now)
     (c .before .before .before .before .before .before .before .before .before .before .fresh .last .1 .0)
     (c .before .before .before .before .before .before .store-clock .last .0)
     (c .before .before .store-rows .last .0)

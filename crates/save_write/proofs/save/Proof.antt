@@ -19,19 +19,32 @@ save-spec =
     (λ c. save-out _ _ _ (passed (c .before .before .is-router .ensures) (c .before .if1 .left)) (c .if2 .taken))
     (λ c κs. search needs)
     (λ c.
-    save-early _ _ _ (passed (c .before .before .before .before .before .is-router .ensures) (c .before .before .before .before .if1 .left)) (c .before .before .before .if2 .left)
+    save-early _ _ _
+    (passed (c .before .before .before .before .before .is-router .ensures) (c .before .before .before .before .if1 .left))
+    (c .before .before .before .if2 .left)
     (omega (arith, c .before .load-clock .ensures, c .if3 .taken)))
     (λ c κs. (
       search needs,
       (
-        passed (c .before .before .before .before .before .before .before .is-router .ensures) (c .before .before .before .before .before .before .if1 .left),
-        (c .before .before .before .before .before .if2 .left, omega (arith, c .before .before .before .load-clock .ensures, c .before .before .if3 .left)),
+        passed (c .before .before .before .before .before .before .before .is-router .ensures)
+            (c .before .before .before .before .before .before .if1 .left),
+        (
+          c .before .before .before .before .before .if2 .left,
+          omega (arith, c .before .before .before .load-clock .ensures, c .before .before .if3 .left),
+        ),
       ),
     ))
     (λ c. c .before .before .save-records .kept .1 .1 .0)
     (λ c.
-    save-done _ _ _ (passed (c .before .before .before .before .before .before .before .before .before .before .is-router .ensures) (c .before .before .before .before .before .before .before .before .before .if1 .left)) (c .before .before .before .before .before .before .before .before .if2 .left)
-    (omega (arith, c .before .before .before .before .before .before .load-clock .ensures, c .before .before .before .before .before .if3 .left))
+    save-done _ _ _
+    (passed (c .before .before .before .before .before .before .before .before .before .before .is-router .ensures)
+    (c .before .before .before .before .before .before .before .before .before .if1 .left))
+    (c .before .before .before .before .before .before .before .before .if2 .left)
+    (omega (
+      arith,
+      c .before .before .before .before .before .before .load-clock .ensures,
+      c .before .before .before .before .before .if3 .left,
+    ))
     _
     _
     (c .before .before .save-records .ensures)))

@@ -31,7 +31,8 @@ save-records-spec =
         router = s .pre .1 .0;
         early = s .pre .1 .1 .0;
         late = s .pre .1 .1 .1;
-        retain = c .before .before .before .end-after .ensures .0 ∙ ap (endAfter (s .args .time)) (c .before .before .before .before .load-magnitude .ensures);
+        retain = c .before .before .before .end-after .ensures .0
+            ∙ ap (endAfter (s .args .time)) (c .before .before .before .before .load-magnitude .ensures);
       },
       (refl, refl),
     ))

@@ -16,36 +16,68 @@ save-sorted-spec =
     tie.close
     (tie.spec
     (λ c κs. (c .before .before .before .before .before .pre .0, c .before .before .before .before .before .pre .1 .0))
-    (λ c. (few-fit (c .before .before .collect-keys .ensures .0) (c .before .before .collect-keys .kept .1 .0) (c .before .before .before .before .before .before .before .before .pre .1 .0)))
-    (λ c. sym (length-take-le (c .before .before .before .collect-keys .result) (c .before .before .before .collect-keys .last .1 .0) (few-fit (c .before .before .before .collect-keys .ensures .0) (c .before .before .before .collect-keys .kept .1 .0) (c .before .before .before .before .before .before .before .before .before .pre .1 .0))))
+    (λ c.
+    (few-fit (c .before .before .collect-keys .ensures .0) (c .before .before .collect-keys .kept .1 .0)
+    (c .before .before .before .before .before .before .before .before .pre .1 .0)))
+    (λ c. sym
+    (length-take-le (c .before .before .before .collect-keys .result) (c .before .before .before .collect-keys .last .1 .0)
+    (few-fit (c .before .before .before .collect-keys .ensures .0) (c .before .before .before .collect-keys .kept .1 .0)
+    (c .before .before .before .before .before .before .before .before .before .pre .1 .0))))
     (λ c κs.
-    let e = length-take-le (c .before .before .before .before .collect-keys .result) (c .before .before .before .before .collect-keys .last .1 .0) (few-fit (c .before .before .before .before .collect-keys .ensures .0) (c .before .before .before .before .collect-keys .kept .1 .0) (c .before .before .before .before .before .before .before .before .before .before .pre .1 .0)) in
+    let e = length-take-le (c .before .before .before .before .collect-keys .result)
+    (c .before .before .before .before .collect-keys .last .1 .0)
+    (few-fit (c .before .before .before .before .collect-keys .ensures .0)
+    (c .before .before .before .before .collect-keys .kept .1 .0)
+    (c .before .before .before .before .before .before .before .before .before .before .pre .1 .0)) in
     let n = c .before .before .before .before .collect-keys .ensures .0 in
     let p = c .before .before .before .before .before .before .before .before .before .before .pre .1 .1 in
     omega arith)
     (λ c.
     let n = c .before .before .before .before .before .before .before .before .before .collect-keys .result in
-    let e = length-front (c .before .before .before .before .before .before .before .before .before .collect-keys .last .1 .0) (c .before .before .before .before .sort-keys .last .0) n (c .before .before .before .before .sort-keys .kept .0) in
-    let l = (few-fit (c .before .before .before .before .before .before .before .before .before .collect-keys .ensures .0) (c .before .before .before .before .before .before .before .before .before .collect-keys .kept .1 .0) (c .before .before .before .before .before .before .before .before .before .before .before .before .before .before .before .pre .1 .0)) in
+    let e = length-front (c .before .before .before .before .before .before .before .before .before .collect-keys .last .1 .0)
+    (c .before .before .before .before .sort-keys .last .0) n (c .before .before .before .before .sort-keys .kept .0) in
+    let l =
+    (few-fit (c .before .before .before .before .before .before .before .before .before .collect-keys .ensures .0)
+    (c .before .before .before .before .before .before .before .before .before .collect-keys .kept .1 .0)
+    (c .before .before .before .before .before .before .before .before .before .before .before .before .before .before
+    .before .pre .1 .0)) in
     omega arith)
     (λ c.
     let n = c .before .before .before .before .before .before .before .before .before .before .collect-keys .result in
-    let e = length-front (c .before .before .before .before .before .before .before .before .before .before .collect-keys .last .1 .0) (c .before .before .before .before .before .sort-keys .last .0) n (c .before .before .before .before .before .sort-keys .kept .0) in
-    let l = (few-fit (c .before .before .before .before .before .before .before .before .before .before .collect-keys .ensures .0) (c .before .before .before .before .before .before .before .before .before .before .collect-keys .kept .1 .0) (c .before .before .before .before .before .before .before .before .before .before .before .before .before .before .before .before .pre .1 .0)) in
+    let e = length-front (c .before .before .before .before .before .before .before .before .before .before .collect-keys .last .1 .0)
+    (c .before .before .before .before .before .sort-keys .last .0) n
+    (c .before .before .before .before .before .sort-keys .kept .0) in
+    let l =
+    (few-fit (c .before .before .before .before .before .before .before .before .before .before .collect-keys .ensures .0)
+    (c .before .before .before .before .before .before .before .before .before .before .collect-keys .kept .1 .0)
+    (c .before .before .before .before .before .before .before .before .before .before .before .before .before .before .before
+    .before .pre .1 .0)) in
     sym (length-take-le n _ (omega arith)))
     (λ c κs.
-    let s = c .before .before .before .before .before .before .before .before .before .before .before .before .before .before .before .before .before in (
+    let s = c .before .before .before .before .before .before .before .before .before .before .before .before .before .before .before
+    .before .before in (
       s .pre .0,
-      sorted-front (stateOf (s .args .table .now)) (s .args .time) (c .before .before .before .before .before .before .before .before .before .before .before .collect-keys .result) (c .before .before .before .before .before .before .before .before .before .before .before .collect-keys .last .1 .0)
+      sorted-front (stateOf (s .args .table .now)) (s .args .time)
+          (c .before .before .before .before .before .before .before .before .before .before .before .collect-keys .result)
+          (c .before .before .before .before .before .before .before .before .before .before .before .collect-keys .last .1 .0)
           (c .before .before .before .before .before .before .sort-keys .last .0)
-          (few-fit (c .before .before .before .before .before .before .before .before .before .before .before .collect-keys .ensures .0) (c .before .before .before .before .before .before .before .before .before .before .before .collect-keys .kept .1 .0) (c .before .before .before .before .before .before .before .before .before .before .before .before .before .before .before .before .before .pre .1 .0))
+          (few-fit (c .before .before .before .before .before .before .before .before .before .before .before .collect-keys .ensures .0)
+          (c .before .before .before .before .before .before .before .before .before .before .before .collect-keys .kept .1 .0)
+          (c .before .before .before .before .before .before .before .before .before .before .before .before .before .before .before
+          .before .before .pre .1 .0))
           (c .before .before .before .before .before .before .before .before .before .before .before .collect-keys .ensures .1)
           (c .before .before .before .before .before .before .sort-keys .kept .0)
           (c .before .before .before .before .before .before .sort-keys .ensures),
     ))
     (λ c.
-    length-front (c .before .before .before .before .before .before .before .before .before .before .before .before .before .before .collect-keys .last .1 .0) (c .before .before .before .before .before .before .before .before .before .sort-keys .last .0) (c .before .before .before .before .before .before .before .before .before .before .before .before .before .before .collect-keys .result) (c .before .before .before .before .before .before .before .before .before .sort-keys .kept .0)
-    ∙ c .before .before .before .before .before .before .before .before .before .before .before .before .before .before .collect-keys .kept .1 .0)
+    length-front
+    (c .before .before .before .before .before .before .before .before .before .before .before .before .before
+    .before .collect-keys .last .1 .0)
+    (c .before .before .before .before .before .before .before .before .before .sort-keys .last .0)
+    (c .before .before .before .before .before .before .before .before .before .before .before .before .before
+    .before .collect-keys .result) (c .before .before .before .before .before .before .before .before .before .sort-keys .kept .0)
+    ∙ c .before .before .before .before .before .before .before .before .before .before .before .before .before
+    .before .collect-keys .kept .1 .0)
     (λ c. c .before .before .before .before .before .before .before .before .before .sort-keys .kept .1 .0)
     (λ c. c .before .before .write-save .kept .1 .1 .1 .1 .0)
     (λ c. c .before .before .write-save .ensures))

@@ -31,7 +31,8 @@ put-rows-requires c κs =
 
 returns-2 : tie.Need-returns-2
 returns-2 c =
-    let s = c .before .before .before .before .before .before .before .before .before .before .before .before .before .before .before .before in
+    let s = c .before .before .before .before .before .before .before .before .before .before .before .before .before .before .before
+    .before in
     let p = c .before .before .before .before .before .before .put-row in
     let q = c .before .before .put-rows in
     write-done (stateOf (s .args .table .now)) (s .pre .0 .router) (s .args .time) (s .args .keys .now) (s .pre .1) _ _

@@ -17,13 +17,16 @@ abbrev μ-loop : tie.MeasureT-loop
 returns : tie.Need-returns Inv-loop μ-loop
 returns c =
     let l = c .before .before .before .before .loop in
-    absurd (going-read _ _ _ _ _ _ _ _ (l .inv) (c .before .before .before .loop-test .taken) _ (c .before .before .read-u64 .ensures) (c .enum-told .given .1))
+    absurd
+    (going-read _ _ _ _ _ _ _ _ (l .inv) (c .before .before .before .loop-test .taken) _ (c .before .before .read-u64 .ensures)
+    (c .enum-told .given .1))
 
 returns-2 : tie.Need-returns-2 Inv-loop μ-loop
 returns-2 c =
     let k = c .before .before .before .before in
     let l = k .before .before .before .before .loop in
-    going-out _ _ _ _ _ _ _ _ (l .inv) (k .before .before .before .loop-test .taken) _ (k .before .before .read-u64 .ensures) _ _ (k .v .given .1)
+    going-out _ _ _ _ _ _ _ _ (l .inv) (k .before .before .before .loop-test .taken) _ (k .before .before .read-u64 .ensures) _ _
+    (k .v .given .1)
     (sym (c .before .is-outside .ensures) ∙ c .if1 .taken)
 
 loop-again : tie.Need-loop-again Inv-loop μ-loop
@@ -31,7 +34,8 @@ loop-again c =
     let i = c .before .before in
     let k = i .before .before .before .before in
     let l = k .before .before .before .before .loop in
-    going-more _ _ _ _ _ _ _ _ (l .inv) (k .before .before .before .loop-test .taken) _ (k .before .before .read-u64 .ensures) _ _ (k .v .given .1)
+    going-more _ _ _ _ _ _ _ _ (l .inv) (k .before .before .before .loop-test .taken) _ (k .before .before .read-u64 .ensures) _ _
+    (k .v .given .1)
     (sym (i .before .is-outside .ensures) ∙ i .if1 .left) _ _ (c .before .id-after .ensures) (c .column-after .ensures)
 
 pub first-outside-spec : {M : Type 1} → statement M

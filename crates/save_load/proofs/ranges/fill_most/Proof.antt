@@ -19,7 +19,11 @@ loop-again : tie.Need-loop-again Inv-loop μ-loop
 loop-again c =
     let l = c .before .before .before .before .before .before .before .before .before .loop in
     let p = c .before .before .put-topic in
-    fill-more (c .before .before .before .before .before .before .before .before .before .before .before .before .before .before .before .before .args .codes .now) (l .t) _ _ (c .before .before .before .before .before .before .before .before .before .before .before .before .put-peer .last .0) (l .most) (p .last .0) (c .before .before .before .before .before .before .before .before .loop-test .taken) (l .inv) (p .kept .0)
+    fill-more
+    (c .before .before .before .before .before .before .before .before .before .before .before .before .before .before .before
+    .before .args .codes .now) (l .t) _ _
+    (c .before .before .before .before .before .before .before .before .before .before .before .before .put-peer .last .0) (l .most)
+    (p .last .0) (c .before .before .before .before .before .before .before .before .loop-test .taken) (l .inv) (p .kept .0)
     (p .ensures)
     (c .before .before .before .before .before .before .magnitude .ensures)
     (c .before .before .before .before .magnitude2 .ensures)
@@ -58,7 +62,8 @@ fill-most-spec =
     (λ c st e.
     let l = c .before .loop in
     let s = c .before .before .before .before .before .before .before .before in
-    fill-done (s .args .codes .now) (l .t) (s .args .most .now) (c .before .before .before .before .put-peer .last .0) (l .most) (c .loop-test .left) (s .pre .1)
+    fill-done (s .args .codes .now) (l .t) (s .args .most .now) (c .before .before .before .before .put-peer .last .0) (l .most)
+    (c .loop-test .left) (s .pre .1)
     (c .before .before .before .before .put-peer .ensures)
     (l .inv)
     st

@@ -28,13 +28,15 @@ read-row-spec =
     (λ c. c .before .before .before .before .loop .inv .long ∙ sym (c .before .before .before .before .before .before .before .pre .1))
     (λ c.
     let l = c .before .before .before .before .loop in
-    reading-read _ _ _ _ _ (l .inv) (c .before .before .before .loop-test .taken) _ (c .before .before .read-u64 .ensures) (c .enum-told .given .1))
+    reading-read _ _ _ _ _ (l .inv) (c .before .before .before .loop-test .taken) _ (c .before .before .read-u64 .ensures)
+    (c .enum-told .given .1))
     (λ c. omega arith)
     (λ c. let n = c .before .before .before .before .before .loop .inv .long in omega arith)
     (λ c. omega arith)
     (λ c. omega arith)
     (λ c.
     let l = c .before .before .before .before .before .loop in
-    reading-more _ _ _ _ _ (l .inv) (c .before .before .before .before .loop-test .taken) _ (c .before .before .before .read-u64 .ensures) _ _ (c .before .v .given .1))
+    reading-more _ _ _ _ _ (l .inv) (c .before .before .before .before .loop-test .taken) _
+    (c .before .before .before .read-u64 .ensures) _ _ (c .before .v .given .1))
     (λ c. c .before .loop .inv .long ∙ sym (c .before .before .before .before .pre .1))
     (λ c. reading-done _ _ _ _ _ (c .before .loop .inv) (c .loop-test .left)))

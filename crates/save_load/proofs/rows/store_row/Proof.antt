@@ -18,7 +18,8 @@ returns c =
     let a = c .before .before .before .before .before .before .before .before .before .before .before .args in
     c .before .before .store-peer .ensures
     ∙ ap (setPeer _ (a .slot)) (c .before .before .before .loaded-peer .ensures)
-    ∙ ap (λ (v : State). setPeer v (a .slot) (loadedPeer (a .clock) (a .row .now))) (c .before .before .before .before .before .before .before .store-topics .ensures)
+    ∙ ap (λ (v : State). setPeer v (a .slot) (loadedPeer (a .clock) (a .row .now)))
+    (c .before .before .before .before .before .before .before .store-topics .ensures)
 
 pub store-row-spec : {M : Type 1} → statement M
 store-row-spec =
@@ -26,6 +27,7 @@ store-row-spec =
     (tie.spec
     (λ c κs. let s = c .before .before .before in (s .pre .0, (s .pre .1 .0, s .pre .1 .1 .1)))
     (λ c κs. let s = c .before .before .before .before .before .before .before in (s .pre .1 .1 .0, s .pre .1 .1 .1))
-    (λ c κs. let s = c .before .before .before .before .before .before .before .before in (c .before .before .before .before .store-topics .kept .0 ∙ s .pre .0, s .pre .1 .0))
+    (λ c κs. let s = c .before .before .before .before .before .before .before .before in
+    (c .before .before .before .before .store-topics .kept .0 ∙ s .pre .0, s .pre .1 .0))
     (λ c. c .before .before .store-peer .kept .0 ∙ c .before .before .before .before .before .before .before .store-topics .kept .0)
     returns)

@@ -77,7 +77,8 @@ loop-again c =
           r .kept .1 .1 .0 ∙ l .inv .1 .1 .0,
           λ m end e.
               let g = l .inv .1 .1 .1 m end e in
-              store-more (a .n) (a .s .now) (a .at) (a .clock) m end e (l .k) (l .place) h (g .0) (r .last .1 .1 .0) (r .result) (r .ensures)
+              store-more (a .n) (a .s .now) (a .at) (a .clock) m end e (l .k) (l .place) h (g .0) (r .last .1 .1 .0) (r .result)
+              (r .ensures)
               (stateOf (a .table .now))
               (stateOf (l .table))
               (stateOf (w .last .0))
@@ -105,5 +106,6 @@ store-rows-spec =
     (λ c l end w.
     let i = c .before .loop in
     let a = c .before .before .before .before .args in
-    iter-done (λ j. stored (a .clock) (rowAt l j) j) (stateOf (a .table .now)) (a .n) (i .k) (stateOf (i .table)) (i .inv .0) (c .loop-test .left)
+    iter-done (λ j. stored (a .clock) (rowAt l j) j) (stateOf (a .table .now)) (a .n) (i .k) (stateOf (i .table)) (i .inv .0)
+    (c .loop-test .left)
     (i .inv .1 .1 .1 l end w .1)))

@@ -12,7 +12,8 @@ use Rattle.save_write.proofs.bytes.put_row.Statement.{statement}
 use Rattle.save_write.proofs.bytes.put_row.Tie as tie
 
 abbrev Inv-loop : tie.InvT-loop
-Inv-loop buf₀ at row place₀ i₀ buf place i = (i ≤ length row) × ((length buf ≡ length buf₀) × Stands (bytesOf (take i row)) at buf₀ place buf)
+Inv-loop buf₀ at row place₀ i₀ buf place i = (i ≤ length row)
+    × ((length buf ≡ length buf₀) × Stands (bytesOf (take i row)) at buf₀ place buf)
 
 abbrev μ-loop : tie.MeasureT-loop
 μ-loop buf₀ at row place₀ i₀ buf place i = length row - i
@@ -39,7 +40,8 @@ loop-again c =
       omega arith,
       (
         w .kept .0 ∙ l .inv .1 .0,
-        row-more (s .args .row .now) (s .args .at) (s .args .buf .now) (l .i) (l .place) (l .buf) (l .inv .1 .1) t (s .pre) (w .result) (w .last .0)
+        row-more (s .args .row .now) (s .args .at) (s .args .buf .now) (l .i) (l .place) (l .buf) (l .inv .1 .1) t (s .pre) (w .result)
+            (w .last .0)
             (w .ensures)
             _
             (c .before .next .given .1),
@@ -58,7 +60,8 @@ put-row-spec =
     (λ c κs. tt)
     (λ c. search needs)
     (λ c. search needs)
-    (λ c. c .before .before .before .before .write-u64 .kept .0 ∙ c .before .before .before .before .before .before .before .before .loop .inv .1 .0)
+    (λ c. c .before .before .before .before .write-u64 .kept .0
+    ∙ c .before .before .before .before .before .before .before .before .loop .inv .1 .0)
     returns
     (λ c. omega arith)
     (λ c. omega arith)

@@ -73,14 +73,24 @@ put-rows-spec =
     Inv-loop
     μ-loop
     (λ c.
-    let s = c .before .before .before in
-    (omega arith, (refl, (refl, rows-begin (stateOf (s .args .table .now)) (s .args .time) (s .args .keys .now) (s .args .at) (s .args .buf .now)))))
+    let s = c .before .before .before in (
+      omega arith,
+      (
+        refl,
+        (refl, rows-begin (stateOf (s .args .table .now)) (s .args .time) (s .args .keys .now) (s .args .at) (s .args .buf .now)),
+      ),
+    ))
     (λ c. omega arith)
     (λ c. omega arith)
     (λ c κs. tt)
     (λ c. sym (c .before .before .before .before .loop .inv .1 .0))
-    (λ c κs. (c .before .before .before .before .before .before .before .before .pre .0, (c .before .slot-of .ensures .1, c .before .before .before .before .loop .inv .1 .0)))
-    (λ c. sym (c .before .before .before .fill-row .kept .1 .1 .1 .1 .0 ∙ c .before .before .before .before .before .before .before .before .loop .inv .1 .0))
+    (λ c κs. (
+      c .before .before .before .before .before .before .before .before .pre .0,
+      (c .before .slot-of .ensures .1, c .before .before .before .before .loop .inv .1 .0),
+    ))
+    (λ c. sym
+    (c .before .before .before .fill-row .kept .1 .1 .1 .1 .0
+    ∙ c .before .before .before .before .before .before .before .before .loop .inv .1 .0))
     put-row-requires
     (λ c. omega arith)
     (λ c. omega arith)
@@ -89,6 +99,7 @@ put-rows-spec =
     (λ c.
     let l = c .before .loop in
     let s = c .before .before .before .before .before in
-    rows-written (stateOf (s .args .table .now)) (s .args .time) (s .args .keys .now) (s .args .at) (s .args .buf .now) (l .k) (l .place) (l .buf)
+    rows-written (stateOf (s .args .table .now)) (s .args .time) (s .args .keys .now) (s .args .at) (s .args .buf .now) (l .k)
+    (l .place) (l .buf)
     (c .loop-test .left)
     (l .inv .1 .1 .1)))

@@ -20,8 +20,10 @@ loop-again : tie.Need-loop-again Inv-loop μ-loop
 loop-again c =
     let l = c .before .before .before .loop in
     let s = c .before .before .before .before .before in
-    let t = c .before .before .loop-test .taken in
-    (omega arith, (sum-more (s .args .row .now) (l .i) (l .sum) (c .size-of .result) t (l .inv .1 .0) (c .size-of .ensures .0), omega arith))
+    let t = c .before .before .loop-test .taken in (
+      omega arith,
+      (sum-more (s .args .row .now) (l .i) (l .sum) (c .size-of .result) t (l .inv .1 .0) (c .size-of .ensures .0), omega arith),
+    )
 
 pub row-size-spec : {M : Type 1} → statement M
 row-size-spec =

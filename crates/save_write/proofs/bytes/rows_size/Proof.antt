@@ -55,9 +55,14 @@ rows-size-spec =
     (λ c. omega arith)
     (λ c κs. tt)
     (λ c. sym (c .before .before .before .before .loop .inv .1 .0))
-    (λ c κs. (c .before .before .before .before .before .before .before .pre .0, (c .before .slot-of .ensures .1, c .before .before .before .before .loop .inv .1 .0)))
-    (λ c. sym (c .before .before .fill-row .kept .1 .1 .1 .1 .0 ∙ c .before .before .before .before .before .before .before .loop .inv .1 .0))
-    (λ c κs. let e = c .before .before .fill-row .kept .1 .1 .1 .1 .0 ∙ c .before .before .before .before .before .before .before .loop .inv .1 .0 in omega arith)
+    (λ c κs. (
+      c .before .before .before .before .before .before .before .pre .0,
+      (c .before .slot-of .ensures .1, c .before .before .before .before .loop .inv .1 .0),
+    ))
+    (λ c. sym
+    (c .before .before .fill-row .kept .1 .1 .1 .1 .0 ∙ c .before .before .before .before .before .before .before .loop .inv .1 .0))
+    (λ c κs. let e = c .before .before .fill-row .kept .1 .1 .1 .1 .0
+    ∙ c .before .before .before .before .before .before .before .loop .inv .1 .0 in omega arith)
     (λ c. omega arith)
     (λ c. omega arith)
     (λ c. omega arith)
@@ -65,6 +70,7 @@ rows-size-spec =
     (λ c.
     let l = c .before .loop in
     let s = c .before .before .before .before in (
-      rows-total (stateOf (s .args .table .now)) (s .args .time) (s .args .keys .now) (l .k) (l .sum) (c .loop-test .left) (l .inv .1 .1 .0),
+      rows-total (stateOf (s .args .table .now)) (s .args .time) (s .args .keys .now) (l .k) (l .sum) (c .loop-test .left)
+          (l .inv .1 .1 .0),
       omega arith,
     )))

@@ -35,11 +35,15 @@ put-topic-requires c κs =
 loop-again : tie.Need-loop-again Inv-loop μ-loop
 loop-again c =
     let l = c .before .before .before .before .before .before .before .loop in
-    let s = c .before .before .before .before .before .before .before .before .before .before .before .before .before .before .before .before in
-    fill-more _ _ _ (l .t) _ _ _ _ _ (c .before .before .before .before .before .before .loop-test .taken) (l .inv) (c .before .before .put-topic .kept .0)
+    let s = c .before .before .before .before .before .before .before .before .before .before .before .before .before .before .before
+    .before in
+    fill-more _ _ _ (l .t) _ _ _ _ _ (c .before .before .before .before .before .before .loop-test .taken) (l .inv)
+    (c .before .before .put-topic .kept .0)
     (c .before .before .put-topic .ensures)
     (c .before .before .before .before .before .load-topic .ensures)
-    (c .before .before .before .left-of .ensures ∙ ap (λ (p : Peer). getD (p .backoff) (l .t) 0 - s .args .time) (c .before .before .before .before .before .before .before .before .before .before .before .before .before .left-at .ensures))
+    (c .before .before .before .left-of .ensures
+    ∙ ap (λ (p : Peer). getD (p .backoff) (l .t) 0 - s .args .time)
+    (c .before .before .before .before .before .before .before .before .before .before .before .before .before .left-at .ensures))
 
 returns : tie.Need-returns Inv-loop μ-loop
 returns c =
@@ -48,7 +52,8 @@ returns c =
     saved-is _ _ _ _
     (fill-done _ _ _ (l .t) (s .args .row .now) _ _ (c .loop-test .left) (s .pre .1 .1)
     (c .before .before .before .before .put-peer .ensures
-    ∙ ap (λ (p : Peer). sets (s .args .row .now) 0 (p .id ∷ (p .retain - s .args .time) ∷ p .p5 ∷ p .p7 ∷ [])) (c .before .before .before .before .before .before .before .left-at .ensures))
+    ∙ ap (λ (p : Peer). sets (s .args .row .now) 0 (p .id ∷ (p .retain - s .args .time) ∷ p .p5 ∷ p .p7 ∷ []))
+    (c .before .before .before .before .before .before .before .left-at .ensures))
     (l .inv))
 
 pub fill-row-spec : {M : Type 1} → statement M
