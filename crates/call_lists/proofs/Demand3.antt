@@ -21,12 +21,12 @@ use Rattle.rules.specs.Calls.{score, topicOk, argumentsOk}
 use Rattle.rules.specs.Step.{ofPeer, effect, step}
 use Rattle.rules.proofs.CaseLaws.{topic-in, topic-of-both, arguments, by-peer, by-gate}
 use Rattle.rules.proofs.Keeps.{keeps, keeps-sizes}
-use Rattle.call_lists.specs.Lists.{Made, after, answered, outbound}
+use Rattle.call_lists.specs.Lists.{Start, Made, after, answered, outbound}
 use Rattle.call_lists.specs.Demand3.{Accepted, member, outboundAt, members, outboundMembers, inboundMembers, Maintained, Demand3}
 use Rattle.call_lists.proofs.Fewer.{Fewer, fewer-self}
 use Rattle.call_lists.proofs.Frames.{fewer-still, fewer-disconnect, fewer-join, fewer-leave, fewer-rate, fewer-decay}
 use Rattle.call_lists.proofs.Frames.{fewer-subscribe, fewer-unsubscribe, fewer-prune, fewer-deliver}
-use Rattle.call_lists.proofs.Standing.{Standing, isInbound, inbounds, member-connected, stands-fresh}
+use Rattle.call_lists.proofs.Standing.{Standing, isInbound, inbounds, member-connected, stands-start}
 use Rattle.call_lists.proofs.Replies.{heardOf, After, Stays, after-refused, after-fewer}
 use Rattle.call_lists.proofs.Connect.{stands-connect}
 use Rattle.call_lists.proofs.Graft.{stands-graft}
@@ -83,65 +83,65 @@ module _ (params : Params) (dir : ℕ → Bool) (st : State) (h : Standing param
       maintained-heartbeat params dir st h time t ask order (topic-in t (both (topicOk t) (leb ask 1) a .0)))
 
 -- ---- every list of calls
-module _ (params : Params) (ok : Accepted params) where
-  pub standing : (calls : List Made) → Standing params (outbound params calls) (after params calls)
+module _ (start : Start) (ok : Accepted start) where
+  pub standing : (calls : List Made) → Standing (start .params) (outbound start calls) (after start calls)
   unfolding after outbound answered
-  standing [] = stands-fresh params ok (outbound params [])
-  standing (c ∷ before) = stands-step params (outbound params before) (after params before) (standing before) (c .call) (c .room)
+  standing [] = stands-start start ok (outbound start [])
+  standing (c ∷ before) = stands-step (start .params) (outbound start before) (after start before) (standing before) (c .call) (c .room)
 
   -- the flag of a connected peer's record is the direction that its last connect answered 0 said
   pub direction-tied :
       (calls : List Made) (s : ℕ) →
       s < slotCount →
-      peerIn (after params calls) s .status ≡ 1 →
-      eqb (peerIn (after params calls) s .outbound) 1 ≡ outbound params calls (peerIn (after params calls) s .id)
+      peerIn (after start calls) s .status ≡ 1 →
+      eqb (peerIn (after start calls) s .outbound) 1 ≡ outbound start calls (peerIn (after start calls) s .id)
   direction-tied calls = standing calls .tied
 
   -- ---- the inbound members of a joined topic
-  joined-below : (calls : List Made) (t : ℕ) → isJoined (after params calls) t ≡ true → t < 8
+  joined-below : (calls : List Made) (t : ℕ) → isJoined (after start calls) t ≡ true → t < 8
   unfolding joinedIn
   joined-below calls t e =
       by-order (t < 8) t 8 (λ l. l) (λ l.
       let z = standing calls .size .joined in
-      let n = List·getD-eq-default (after params calls .joined) 0 {n = t} (omega arith) in
-      absurd (omega (arith, eqb-true (joinedIn (after params calls) t) 1 e)))
+      let n = List·getD-eq-default (after start calls .joined) 0 {n = t} (omega arith) in
+      absurd (omega (arith, eqb-true (joinedIn (after start calls) t) 1 e)))
 
   inbound-same :
       (calls : List Made) (t s : ℕ) →
       t < 8 →
       s < slotCount →
-      member params calls t s && not (outboundAt params calls s) ≡ isInbound (after params calls) t s
+      member start calls t s && not (outboundAt start calls s) ≡ isInbound (after start calls) t s
   inbound-same calls t s k l =
-      by-test _ (isMember (after params calls) t s)
+      by-test _ (isMember (after start calls) t s)
       (λ m.
       rw m
-      (sym (ap not (direction-tied calls s l (member-connected (after params calls) (standing calls .router) t s k l m)))))
+      (sym (ap not (direction-tied calls s l (member-connected (after start calls) (standing calls .router) t s k l m)))))
       (λ m. rw m)
 
-  inbound-count : (calls : List Made) (t : ℕ) → t < 8 → inboundMembers params calls t ≡ inbounds (after params calls) t
+  inbound-count : (calls : List Made) (t : ℕ) → t < 8 → inboundMembers start calls t ≡ inbounds (after start calls) t
   unfolding inboundMembers inbounds
   inbound-count calls t k =
       count-same
-      (λ s. member params calls t s && not (outboundAt params calls s))
-      (isInbound (after params calls) t)
+      (λ s. member start calls t s && not (outboundAt start calls s))
+      (isInbound (after start calls) t)
       slotCount
       (λ s l. inbound-same calls t s k l)
 
   -- ---- after a heartbeat
   maintained-last :
       (time t ask room : ℕ) (order : List ℕ) (before : List Made) →
-      answered params (record { call = heartbeat time t ask order; room = room }) before ≡ 0 →
-      Maintained params (record { call = heartbeat time t ask order; room = room } ∷ before) before time t
+      answered start (record { call = heartbeat time t ask order; room = room }) before ≡ 0 →
+      Maintained start (record { call = heartbeat time t ask order; room = room } ∷ before) before time t
   unfolding after outbound answered members outboundMembers
   maintained-last time t ask room order before zero =
-      let w = maintained-step params (outbound params before) (after params before) (standing before) time t ask room order zero in
+      let w = maintained-step (start .params) (outbound start before) (after start before) (standing before) time t ask room order zero in
       record { good = w .good; outs = w .outs; enough = w .enough }
 
 pub demand3 : Demand3
-demand3 params calls ok =
+demand3 start calls ok =
     record {
       inbound = λ t j.
-          let k = joined-below params ok calls t j in
-          omega (arith, inbound-count params ok calls t k, standing params ok calls .few t k);
-      maintained = λ time t ask room order before e zero. rw e (maintained-last params ok time t ask room order before zero);
+          let k = joined-below start ok calls t j in
+          omega (arith, inbound-count start ok calls t k, standing start ok calls .few t k);
+      maintained = λ time t ask room order before e zero. rw e (maintained-last start ok time t ask room order before zero);
     }

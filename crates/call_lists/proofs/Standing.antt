@@ -1,5 +1,5 @@
 -- The invariant of demand 3: what stands after every list of calls, for the parameters and for the directions that the list's connects
--- said. It holds of a fresh router, and stays where nobody comes (Fewer).
+-- said. It holds of a fresh or loaded router, and stays where nobody comes (Fewer).
 -- Assumes nothing.
 use Prim.Native.Nat.{ℕ, zero, suc, _+_, _<_, _≤_}
 use native.Mathlib.Omega.{arith}
@@ -14,7 +14,9 @@ use Rattle.index.specs.Index.{count}
 use Rattle.index.proofs.Index.{both, count-less}
 use Rattle.index.proofs.Flags.{by-order}
 use Rattle.varint.specs.Codes.{codeOf, magnitude}
+use Rattle.index.specs.declared.Found.the-variants.{Nothing}
 use Rattle.params.specs.declared.Params.{Params}
+use Rattle.params.specs.Check.{firstBroken}
 use Rattle.limits.specs.Limits.{at}
 use Rattle.records.specs.declared.Peer.{Peer}
 use Rattle.records.specs.declared.TopicRecord.{TopicRecord}
@@ -25,6 +27,8 @@ use Rattle.lookup.specs.Fresh.{setupOf, freshState}
 use Rattle.validity.proofs.ValidLaws.{valid-facts}
 use Rattle.lookup.proofs.FreshLaws.{fresh-valid}
 use Rattle.effects.specs.Effects.{isMember}
+use Rattle.saves.proofs.Promised.{router}
+use Rattle.call_lists.specs.Lists.{Start, Loaded, Begins, from-fresh, from-load}
 use Rattle.call_lists.specs.Demand3.{Accepted, dHi}
 use Rattle.call_lists.proofs.Fewer.{Fewer}
 
@@ -117,7 +121,33 @@ stands-fewer params dir dir′ st u h f same size v =
           omega arith;
     }
 
--- ---- and holds of a fresh router
+-- ---- and holds of a router in which nobody is connected, since a member is
+count-no : (n : ℕ) → count n (λ s. false) ≡ 0
+unfolding count
+count-no zero = refl
+count-no (suc n) = omega (arith, count-no n)
+
+module _ (params : Params) (st : State) (v : valid st ≡ true) (off : (s : ℕ) → s < slotCount → peerIn st s .status ≡ 1 → ⊥) where
+  no-inbound : (t : ℕ) → t < 8 → inbounds st t ≤ 0
+  unfolding inbounds
+  no-inbound t k =
+      let a : count slotCount (isInbound st t) ≤ count slotCount (λ s. false) =
+      count-less (isInbound st t) (λ s. false) slotCount (λ s l e.
+      absurd (off s l (member-connected st v t s k l (both (isMember st t s) _ e .0)))) in
+      omega (arith, count-no slotCount)
+
+  stands-off : Sized st → st .codes ≡ map codeOf (params .numbers) → st .setup ≡ setupOf params → (dir : ℕ → Bool) → Standing params dir st
+  stands-off size codes setup dir =
+      record {
+        size = size;
+        router = v;
+        codes = codes;
+        setup = setup;
+        tied = λ s l on. absurd (off s l on);
+        few = λ t k. omega (arith, no-inbound t k);
+      }
+
+-- ---- a fresh router
 module _ (params : Params) where
   always : {A : Type 0} (n k : ℕ) (a : A) → getD (replicate n a) k a ≡ a
   always n k a =
@@ -128,9 +158,8 @@ module _ (params : Params) where
   unfolding peerIn freshState
   fresh-peer s = always slotCount s noPeer
 
-  pub fresh-topic : (k : ℕ) → topicIn (freshState params) k ≡ noTopic
-  unfolding topicIn freshState
-  fresh-topic k = always placeCount k noTopic
+  fresh-off : (s : ℕ) → s < slotCount → peerIn (freshState params) s .status ≡ 1 → ⊥
+  fresh-off s h on = let z = ap (λ (p : Peer). p .status) (fresh-peer s) in omega arith
 
   fresh-sized : length (params .numbers) ≡ paramCount → Sized (freshState params)
   unfolding freshState
@@ -143,33 +172,30 @@ module _ (params : Params) where
         ends = λ s. ap (λ (p : Peer). length (p .backoff)) (fresh-peer s);
       }
 
-  fresh-member : (t s : ℕ) → isMember (freshState params) t s ≡ false
-  unfolding isMember
-  fresh-member t s = ap (λ (r : TopicRecord). eqb (r .member) 1) (fresh-topic (place s t))
-
-  count-no : (n : ℕ) → count n (λ s. false) ≡ 0
-  unfolding count
-  count-no zero = refl
-  count-no (suc n) = omega (arith, count-no n)
-
-  fresh-few : (t : ℕ) → inbounds (freshState params) t ≤ 0
-  unfolding inbounds
-  fresh-few t =
-      let a : count slotCount (isInbound (freshState params) t) ≤ count slotCount (λ s. false) =
-      count-less (isInbound (freshState params) t) (λ s. false) slotCount (λ s l e.
-      sym (fresh-member t s) ∙ both (isMember (freshState params) t s) _ e .0) in
-      omega (arith, count-no slotCount)
-
-  pub stands-fresh : Accepted params → (dir : ℕ → Bool) → Standing params dir (freshState params)
+  fresh-made : (freshState params .codes ≡ map codeOf (params .numbers)) × (freshState params .setup ≡ setupOf params)
   unfolding freshState
-  stands-fresh ok dir =
-      record {
-        size = fresh-sized (ok .size);
-        router = fresh-valid params (ok .size) (ok .passes);
-        codes = refl;
-        setup = refl;
-        tied = λ s l on.
-            let z = ap (λ (p : Peer). p .status) (fresh-peer s) in
-            absurd (omega arith);
-        few = λ t k. omega (arith, fresh-few t);
-      }
+  fresh-made = (refl, refl)
+
+  stands-fresh : length (params .numbers) ≡ paramCount → firstBroken params ≡ Nothing → (dir : ℕ → Bool) →
+      Standing params dir (freshState params)
+  stands-fresh l e = stands-off params (freshState params) (fresh-valid params l e) fresh-off (fresh-sized l) (fresh-made .0)
+      (fresh-made .1)
+
+-- ---- a fresh or a loaded one
+off-begun : (start : Start) → Accepted start → Begins start → (s : ℕ) → s < slotCount → peerIn (start .state) s .status ≡ 1 → ⊥
+off-begun start ok (from-fresh e) s h on = fresh-off (start .params) s h (rw e at on)
+off-begun start ok (from-load l) s h on =
+    router (l .fine) (start .params) (l .clock) (l .bytes) (start .state) (ok .size) (l .byte) (l .load) .off s h on
+
+-- a list starts with nobody connected
+pub off-start : (start : Start) → Accepted start → (s : ℕ) → s < slotCount → peerIn (start .state) s .status ≡ 1 → ⊥
+off-start start ok = off-begun start ok (ok .begins)
+
+stands-begun : (start : Start) → Accepted start → Begins start → (dir : ℕ → Bool) → Standing (start .params) dir (start .state)
+stands-begun start ok (from-fresh e) dir = rw e (stands-fresh (start .params) (ok .size) (ok .passes) dir)
+stands-begun start ok (from-load l) dir =
+    let r = router (l .fine) (start .params) (l .clock) (l .bytes) (start .state) (ok .size) (l .byte) (l .load) in
+    stands-off (start .params) (start .state) (r .router) (r .off) (r .size) (r .sheet .codes) (r .sheet .setup) dir
+
+pub stands-start : (start : Start) → Accepted start → (dir : ℕ → Bool) → Standing (start .params) dir (start .state)
+stands-start start ok = stands-begun start ok (ok .begins)

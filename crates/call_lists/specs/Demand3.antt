@@ -15,12 +15,14 @@ use Rattle.records.specs.Records.{State, slotCount, paramCount, peerIn}
 use Rattle.effects.specs.Effects.{isJoined, isMember}
 use Rattle.rules.specs.Calls.{heartbeat}
 use Rattle.rules.specs.Step.{isNegative, isCandidate}
-use Rattle.call_lists.specs.Lists.{Made, after, answered, outbound}
+use Rattle.call_lists.specs.Lists.{Start, Begins, Made, after, answered, outbound}
 
--- "an accepted sheet": 147 numbers that pass 9
-pub record Accepted (params : Params) : Type 0 where
-  pub size : length (params .numbers) ≡ paramCount
-  pub passes : firstBroken params ≡ Nothing
+-- "The list starts from a fresh router with an accepted sheet" (01), or from a loaded one (02, order 8): 147 numbers that pass 9, and the
+-- router is made with them
+pub record Accepted (start : Start) : Type 0 where
+  pub size : length (start .params .numbers) ≡ paramCount
+  pub passes : firstBroken (start .params) ≡ Nothing
+  pub begins : Begins start
 
 abbrev pub dLo : Params → ℕ
 dLo params = natAbs (at (params .numbers) 0)
@@ -33,22 +35,22 @@ dOut params = natAbs (at (params .numbers) 3)
 
 -- ---- after a list of calls, by slot
 -- the direction of the peer in slot s
-abbrev pub outboundAt : Params → List Made → ℕ → Bool
-outboundAt params calls s = outbound params calls (peerIn (after params calls) s .id)
+abbrev pub outboundAt : Start → List Made → ℕ → Bool
+outboundAt start calls s = outbound start calls (peerIn (after start calls) s .id)
 
 -- the mesh of topic t
-module _ (params : Params) (calls : List Made) (t : ℕ) where
+module _ (start : Start) (calls : List Made) (t : ℕ) where
   abbrev pub member : ℕ → Bool
-  member s = isMember (after params calls) t s
+  member s = isMember (after start calls) t s
 
   unfoldable pub members : ℕ
   members = count slotCount member
 
   unfoldable pub outboundMembers : ℕ
-  outboundMembers = count slotCount (λ s. member s && outboundAt params calls s)
+  outboundMembers = count slotCount (λ s. member s && outboundAt start calls s)
 
   unfoldable pub inboundMembers : ℕ
-  inboundMembers = count slotCount (λ s. member s && not (outboundAt params calls s))
+  inboundMembers = count slotCount (λ s. member s && not (outboundAt start calls s))
 
 -- "The pool is the members at that start whose score was zero or more, and all candidates at that start."
 -- "A tidy's start is the state handed to it, with the tidy's own time."
@@ -56,34 +58,33 @@ abbrev pub InPool : State → ℕ → ℕ → ℕ → Type 0
 InPool start time t s = ((isMember start t s ≡ true) × (isNegative start s ≡ false)) ⊎ (isCandidate start time t s ≡ true)
 
 -- what holds after a heartbeat (01's tidy) of topic t at a time, the last of the calls: `before` are the calls before it
-pub record Maintained (params : Params) (calls before : List Made) (time t : ℕ) : Type 0 where
+pub record Maintained (start : Start) (calls before : List Made) (time t : ℕ) : Type 0 where
   -- "the tidied topic's mesh then holds only peers whose score at that tidy's start was zero or more"
-  pub good : (s : ℕ) → s < slotCount → member params calls t s ≡ true → isNegative (after params before) s ≡ false
+  pub good : (s : ℕ) → s < slotCount → member start calls t s ≡ true → isNegative (after start before) s ≡ false
   -- "it also holds at least D_out outbound peers or every outbound one in the pool"
   pub outs :
-      (dOut params ≤ outboundMembers params calls t) ⊎
+      (dOut (start .params) ≤ outboundMembers start calls t) ⊎
       ((s : ℕ) →
       s < slotCount →
-      InPool (after params before) time t s →
-      outboundAt params calls s ≡ true →
-      member params calls t s ≡ true)
+      InPool (after start before) time t s →
+      outboundAt start calls s ≡ true →
+      member start calls t s ≡ true)
   -- "and at least D_lo peers or the whole pool"
   pub enough :
-      (dLo params ≤ members params calls t) ⊎
-      ((s : ℕ) → s < slotCount → InPool (after params before) time t s → member params calls t s ≡ true)
+      (dLo (start .params) ≤ members start calls t) ⊎
+      ((s : ℕ) → s < slotCount → InPool (after start before) time t s → member start calls t s ≡ true)
 
-pub record Holds (params : Params) (calls : List Made) : Type 0 where
+pub record Holds (start : Start) (calls : List Made) : Type 0 where
   -- "After every such list a joined topic's mesh holds at most D_hi + 2 inbound peers."
   pub inbound :
-      (t : ℕ) → isJoined (after params calls) t ≡ true → inboundMembers params calls t ≤ dHi params + 2
+      (t : ℕ) → isJoined (after start calls) t ≡ true → inboundMembers start calls t ≤ dHi (start .params) + 2
   -- "If the last call was a tidy answered by 0, .."
   pub maintained :
       (time t ask room : ℕ) (order : List ℕ) (before : List Made) →
       calls ≡ record { call = heartbeat time t ask order; room = room } ∷ before →
-      answered params (record { call = heartbeat time t ask order; room = room }) before ≡ 0 →
-      Maintained params calls before time t
+      answered start (record { call = heartbeat time t ask order; room = room }) before ≡ 0 →
+      Maintained start calls before time t
 
--- "take every list of the calls [..], in any order, with any arguments, refused and ignored calls included. The list starts from a fresh
--- router with an accepted sheet"
+-- "take every list of the calls [..], in any order, with any arguments, refused and ignored calls included"
 abbrev pub Demand3 : Type 0
-Demand3 = (params : Params) (calls : List Made) → Accepted params → Holds params calls
+Demand3 = (start : Start) (calls : List Made) → Accepted start → Holds start calls

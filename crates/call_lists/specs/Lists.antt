@@ -1,9 +1,11 @@
 -- Lists of calls, the last call first: what a whole list leaves, what each call was answered, and which way a peer was connected.
 -- A later call joins the list by its constructor (crate rules, specs/Calls.antt) and by a line of `heard`.
-use Prim.Native.Nat.{ℕ, _%_}
+use Prim.Native.Nat.{ℕ, _%_, _<_}
+use mathlib.Core.Path.{_≡_}
 use mathlib.Core.Bool.{Bool, false, cond, _&&_}
 use mathlib.Core.List.{List, [], _∷_}
 use lib.Dec.{eqb}
+use lib.ListN.{getD}
 use Rattle.params.specs.declared.Params.{Params}
 use Rattle.records.specs.Records.{State}
 use Rattle.lookup.specs.Fresh.{freshState}
@@ -11,21 +13,43 @@ use Rattle.rules.specs.Reply.{numberOf}
 use Rattle.rules.specs.Calls.{Call, connect, disconnect, join, leave, subscribe, unsubscribe, graft, prune, deliver, rate, heartbeat, decay}
 use Rattle.rules.specs.Calls.{score}
 use Rattle.rules.specs.Step.{step}
+use Rattle.saves.specs.Load.{loaded, loadOf}
 
 -- a call, and how many numbers the action list has that it is lent
 pub record Made : Type 0 where
   pub call : Call
   pub room : ℕ
 
--- "The list starts from a fresh router [..], all records empty and no topic joined. Each call gets the tables and the clock that the last
--- one left, and nobody else writes them."
-unfoldable pub after : Params → List Made → State
-after params [] = freshState params
-after params (c ∷ before) = step (after params before) (c .call) (c .room) .state
+-- what a list starts from: the parameters, and a router made with them
+pub record Start : Type 0 where
+  pub params : Params
+  pub state : State
+
+abbrev pub fresh : Params → Start
+fresh params = record { params = params; state = freshState params }
+
+-- a load of some bytes gave it
+pub record Loaded (start : Start) : Type 0 where
+  pub fine : Bool
+  pub clock : ℕ
+  pub bytes : List ℕ
+  pub byte : (k : ℕ) → getD bytes k 0 < 256
+  pub load : loadOf fine (start .params) clock bytes ≡ loaded (start .state)
+
+-- "The list starts from a fresh router [..], all records empty and no topic joined." (01); "Demand 3 reads from a fresh or loaded router;
+-- the clock rule starts anew at a load." (02, order 8): the clock of a loaded state is the load's
+pub data Begins (start : Start) : Type 0 where
+  from-fresh : start .state ≡ freshState (start .params) → Begins start
+  from-load : Loaded start → Begins start
+
+-- "Each call gets the tables and the clock that the last one left, and nobody else writes them."
+unfoldable pub after : Start → List Made → State
+after start [] = start .state
+after start (c ∷ before) = step (after start before) (c .call) (c .room) .state
 
 -- the number that call c was answered, after the calls before it
-unfoldable pub answered : Params → Made → List Made → ℕ
-answered params c before = numberOf (step (after params before) (c .call) (c .room) .answer)
+unfoldable pub answered : Start → Made → List Made → ℕ
+answered start c before = numberOf (step (after start before) (c .call) (c .room) .answer)
 
 -- the direction of a peer after a call: a connect of it that was answered 0 says it (flags: 1 outbound + 2 explicit), else it stays as it
 -- was
@@ -45,6 +69,6 @@ heard (decay time) done peer was = was
 heard (score time id) done peer was = was
 
 -- "A peer is outbound if its last connect answered 0 said so, else inbound."
-unfoldable pub outbound : Params → List Made → ℕ → Bool
-outbound params [] peer = false
-outbound params (c ∷ before) peer = heard (c .call) (eqb (answered params c before) 0) peer (outbound params before peer)
+unfoldable pub outbound : Start → List Made → ℕ → Bool
+outbound start [] peer = false
+outbound start (c ∷ before) peer = heard (c .call) (eqb (answered start c before) 0) peer (outbound start before peer)

@@ -1,10 +1,9 @@
 -- A router keeps the set-up that it was made with, whatever calls come: the edition of its parameters (02, order 14).
 use mathlib.Core.Path.{_≡_}
 use mathlib.Core.List.{List}
-use Rattle.params.specs.declared.Params.{Params}
 use Rattle.lookup.specs.Fresh.{setupOf}
-use Rattle.call_lists.specs.Lists.{Made, after}
+use Rattle.call_lists.specs.Lists.{Start, Made, after}
 use Rattle.call_lists.specs.Demand3.{Accepted}
 
 abbrev pub SetupStands : Type 0
-SetupStands = (params : Params) (calls : List Made) → Accepted params → after params calls .setup ≡ setupOf params
+SetupStands = (start : Start) (calls : List Made) → Accepted start → after start calls .setup ≡ setupOf (start .params)

@@ -20,7 +20,7 @@ use Rattle.answers.specs.Answers.{packed, answerCode, whyOr}
 use Rattle.rules.specs.Calls.{score}
 use Rattle.rules.specs.Step.{step}
 use Rattle.host.specs.Host.{HostsFresh}
-use Rattle.call_lists.specs.Lists.{after}
+use Rattle.call_lists.specs.Lists.{fresh, from-fresh, after}
 use Rattle.call_lists.proofs.Demand3.{demand3}
 use Rattle.host_lists.specs.Hosted.{HostCall, made, Hosted, SameNumbers, EveryHostAgrees, EveryScoreAgrees}
 
@@ -41,7 +41,7 @@ module _ (params : Params) where
   accepted [] table p = passes (firstBroken params) (made-fresh table p .1 .answer)
   accepted (c ∷ before) table p = accepted before (p .0) (p .1)
 
-  same-state : (calls : List HostCall) (table : List ℕ) → Hosted params calls table → stateOf table ≡ after params (map made calls)
+  same-state : (calls : List HostCall) (table : List ℕ) → Hosted params calls table → stateOf table ≡ after (fresh params) (map made calls)
   unfolding Hosted after
   same-state [] table p =
       let q = made-fresh table p .1 in
@@ -64,7 +64,8 @@ every-host-agrees params calls table size p =
     record {
       numbers = same-numbers params calls table p;
       state = same-state params calls table p;
-      demand3 = demand3 params (map made calls) (record { size = size; passes = accepted params calls table p });
+      demand3 = demand3 (fresh params) (map made calls)
+          (record { size = size; passes = accepted params calls table p; begins = from-fresh refl });
     }
 
 pub every-score-agrees : EveryScoreAgrees

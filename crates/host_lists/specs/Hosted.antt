@@ -17,7 +17,7 @@ use Rattle.rules.specs.Reply.{Reply}
 use Rattle.rules.specs.Calls.{Call, score}
 use Rattle.rules.specs.Step.{step}
 use Rattle.host.specs.Host.{Hosts, HostsFresh}
-use Rattle.call_lists.specs.Lists.{Made, after}
+use Rattle.call_lists.specs.Lists.{Made, fresh, after}
 use Rattle.call_lists.specs.Demand3.{Holds}
 
 -- a host's call, the number that came back, and the action list that it lent: what stood there, and what stands there after it
@@ -41,7 +41,7 @@ Hosted params (c ∷ before) table =
 
 -- the rules' reply to a call, after the calls before it
 abbrev pub replyTo : Params → List HostCall → HostCall → Reply
-replyTo params before c = step (after params (map made before)) (c .call) (length (c .list))
+replyTo params before c = step (after (fresh params) (map made before)) (c .call) (length (c .list))
 
 -- the number of each call of the list is that of the rules' answer, and its action list begins with the rules' actions
 unfoldable pub SameNumbers : Params → List HostCall → Type 0
@@ -55,9 +55,9 @@ pub record HostAgrees (params : Params) (calls : List HostCall) (table : List �
   -- "the program's calls give the same answers"
   pub numbers : SameNumbers params calls
   -- "the tables they leave hold the same joined topics and meshes": the same state
-  pub state : stateOf table ≡ after params (map made calls)
+  pub state : stateOf table ≡ after (fresh params) (map made calls)
   -- and demand 3 holds of it
-  pub demand3 : Holds params (map made calls)
+  pub demand3 : Holds (fresh params) (map made calls)
 
 -- the parameters are 147 numbers by the type of the C ABI, `params[147]`
 abbrev pub EveryHostAgrees : Type 0
@@ -74,4 +74,4 @@ EveryScoreAgrees =
     length (params .numbers) ≡ paramCount →
     Hosted params calls table →
     why′ ≡ whyOr (step (stateOf table) (score time id) room .answer) why →
-    why′ ≡ whyOr (step (after params (map made calls)) (score time id) room .answer) why
+    why′ ≡ whyOr (step (after (fresh params) (map made calls)) (score time id) room .answer) why

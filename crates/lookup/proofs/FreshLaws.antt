@@ -76,7 +76,7 @@ module _ (p : Params) where
         params = record { passes = accepted-back p l e };
         clock = omega arith;
         joined = λ t h. rw (fresh-joined t) (omega arith);
-        peer = λ s h. rw (fresh-peer s h) no-peer;
+        peer = λ s h. rw (fresh-peer s h) (no-peer 0);
         topic = λ s t h k. rw (fresh-topic s t h k) (no-topic _ _ _ _ _ _);
         ids = λ s k h b q. rw (fresh-peer s h);
       }

@@ -127,18 +127,18 @@ module _ (params : Params) (st : State) (size : Sized st) (codes : st .codes ≡
 
 pub deliveries : Deliveries
 unfolding effect
-deliveries params calls fine time t kind s room h on =
-    let st = after params calls in
-    let w = standing params fine calls in
+deliveries start calls fine time t kind s room h on =
+    let st = after start calls in
+    let w = standing start fine calls in
     let id = peerIn st s .id in
     let at-slot : findConnected st id ≡ At s = connected-is st (valid-facts st (w .router)) s h on in
-    by-gate (λ (r : Reply). numberOf (r .answer) ≡ 0 → Delivered params t kind s st (r .state)) st (deliver time id t kind) room
+    by-gate (λ (r : Reply). numberOf (r .answer) ≡ 0 → Delivered (start .params) t kind s st (r .state)) st (deliver time id t kind) room
     (λ a e z. absurd (eqb-false (numberOf a) 0 e z))
     (λ p.
     let a = both (idOk id && topicOk t) (leb 1 kind && leb kind 3) (arguments (deliver time id t kind) (p .ranges)) in
     let b = both (leb 1 kind) (leb kind 3) (a .1) in
     rw at-slot
-    (delivered-0 params st (w .size) (w .codes) time t kind s h (topic-in t (both (idOk id) (topicOk t) (a .0) .1))
+    (delivered-0 (start .params) st (w .size) (w .codes) time t kind s h (topic-in t (both (idOk id) (topicOk t) (a .0) .1))
     (leb-true 1 kind (b .0)) (leb-true kind 3 (b .1))))
 
 -- ---- decay
@@ -269,9 +269,9 @@ module _ (params : Params) (time : ℕ) where
 
 pub decay-is : Decay
 unfolding effect decayReply
-decay-is params calls fine time room =
-    let st = after params calls in
-    let w = standing params fine calls in
-    by-gate (λ (r : Reply). numberOf (r .answer) ≡ 0 → Decayed params time st (r .state)) st (decay time) room
+decay-is start calls fine time room =
+    let st = after start calls in
+    let w = standing start fine calls in
+    by-gate (λ (r : Reply). numberOf (r .answer) ≡ 0 → Decayed (start .params) time st (r .state)) st (decay time) room
     (λ a e z. absurd (eqb-false (numberOf a) 0 e z))
-    (λ p z. decayed params time st (record { sized = w .size; codes = w .codes }))
+    (λ p z. decayed (start .params) time st (record { sized = w .size; codes = w .codes }))

@@ -310,16 +310,16 @@ module _ (params : Params) (st : State) (ok : valid st ≡ true) (codes : st .co
 
 pub p3b-grows : P3bGrows
 unfolding effect
-p3b-grows params calls fine =
-    let st = after params calls in
-    let w = standing params fine calls in
+p3b-grows start calls fine =
+    let st = after start calls in
+    let w = standing start fine calls in
     record {
-      left = grown-by-leave params st (w .codes) (w .size);
-      maintained = grown-by-heartbeat params st (w .codes) (w .size);
-      only = λ c room s t h k. only params st (w .router) (w .codes) (w .size) c room s t k;
+      left = grown-by-leave (start .params) st (w .codes) (w .size);
+      maintained = grown-by-heartbeat (start .params) st (w .codes) (w .size);
+      only = λ c room s t h k. only (start .params) st (w .router) (w .codes) (w .size) c room s t k;
       anew = λ time id groups flags room s t name h k.
-          by-gate (New params st (w .router) (w .codes) (w .size) time id (groupsOf groups) flags name s t h k) st
+          by-gate (New (start .params) st (w .router) (w .codes) (w .size) time id (groupsOf groups) flags name s t h k) st
           (connect time id groups flags name) room
           (λ a e n. absurd (n refl))
-          (λ p. new-connect params st (w .router) (w .codes) (w .size) time id (groupsOf groups) flags name s t h k);
+          (λ p. new-connect (start .params) st (w .router) (w .codes) (w .size) time id (groupsOf groups) flags name s t h k);
     }

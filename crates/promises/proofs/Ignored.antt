@@ -190,18 +190,18 @@ module _ (params : Params) (st : State) (ok : valid st ≡ true) (codes : st .co
   effect-11 (score time id) = iff-no (peer-not11 st id _ (λ s. refl)) (λ x. x)
 
 pub row11 : Row11
-row11 params calls fine c room =
-    let st = after params calls in
-    let w = standing params fine calls in
-    row-behind st c room 11 _ refl (λ p. effect-11 params st (w .router) (w .codes) c)
+row11 start calls fine c room =
+    let st = after start calls in
+    let w = standing start fine calls in
+    row-behind st c room 11 _ refl (λ p. effect-11 (start .params) st (w .router) (w .codes) c)
 
 -- ---- 0: behind the gate, and none of the other numbers
 pub row0 : Row0
-row0 params calls fine c room =
-    let st = after params calls in
-    let w = standing params fine calls in
+row0 start calls fine c room =
+    let st = after start calls in
+    let w = standing start fine calls in
     let b = behind st c in
-    let e = effect-11 params st (w .router) (w .codes) c in
+    let e = effect-11 (start .params) st (w .router) (w .codes) c in
     let z = row-behind st c room 0 (numberOf (effect st c .answer) ≡ 0) refl (λ p. (λ q. q, λ q. q)) in (
       λ n.
           let q = z .0 n .1 in

@@ -4,7 +4,7 @@
 use Prim.Native.Nat.{ℕ, _+_, _≤_, _<_}
 use native.Mathlib.Omega.{arith}
 use mathlib.Core.Path.{_≡_, refl, sym, ap, _∙_}
-use mathlib.Core.Logic.{_≢_, _⊎_, ⊎-elim}
+use mathlib.Core.Logic.{_≢_, _⊎_, inr, ⊎-elim}
 use mathlib.Core.Bool.{Bool, true, false, not, _&&_, false≢true}
 use mathlib.Core.List.{List, [], _∷_, map}
 use lib.Dec.{eqb, leb}
@@ -21,8 +21,8 @@ use Rattle.records.specs.Records.{State, slotCount, place, peerIn}
 use Rattle.layout.specs.View.{Sized}
 use Rattle.validity.specs.Valid.{valid}
 use Rattle.validity.proofs.ValidLaws.{valid-facts}
-use Rattle.lookup.specs.Find.{findConnected}
-use Rattle.lookup.proofs.FindLaws.{connected-at}
+use Rattle.lookup.specs.Find.{findConnected, findRetained}
+use Rattle.lookup.proofs.FindLaws.{connected-at, retained-at}
 use Rattle.sets.specs.Sets.{at, isPermutation}
 use Rattle.effects.specs.Effects.{isJoined, isMember}
 use Rattle.rules.specs.declared.Answer.{Answer}
@@ -33,15 +33,15 @@ use Rattle.rules.specs.Calls.{score, topicOk, argumentsOk}
 use Rattle.rules.specs.Step.{onFound, ofPeer, maintainedReply, heartbeatReply, meshesIn, effect, step}
 use Rattle.rules.proofs.CaseLaws.{topic-in, topic-of-both, arguments, by-gate}
 use Rattle.rules.proofs.Words.{candidate-past}
-use Rattle.call_lists.specs.Lists.{Made, after}
+use Rattle.call_lists.specs.Lists.{Start, Made, after}
 use Rattle.call_lists.specs.Demand3.{Accepted}
-use Rattle.call_lists.proofs.Standing.{member-connected, fresh-topic}
+use Rattle.call_lists.proofs.Standing.{member-connected, off-start}
 use Rattle.call_lists.proofs.Demand3.{standing}
 use Rattle.call_lists.specs.Played.{made}
 use Rattle.call_lists.proofs.Played.{agrees}
 use Rattle.promises.specs.Ends.{endIn}
 use Rattle.promises.specs.Told.{times}
-use Rattle.promises.specs.KeptOut.{shutBy, shutUntil, KeptOutOf, KeptOut, ProgramKeptOut}
+use Rattle.promises.specs.KeptOut.{shutBy, shutAtStart, shutUntil, KeptOutOf, KeptOut, ProgramKeptOut}
 use Rattle.promises.proofs.Members.{Out, out-step, new-candidate}
 use Rattle.promises.proofs.Told.{id-is, left-member, told-maintained}
 use Rattle.promises.proofs.Shut.{Held, held-zero, held-max, held-hold, hold-effect, Shuts, quiet, graft-shuts, leave-shuts}
@@ -144,30 +144,37 @@ module _ (params : Params) (st : State) (size : Sized st) (ok : valid st ≡ tru
       (λ j n. absurd (n refl)))
       (λ wrong n. absurd (n refl)))
 
+-- what a retained record holds at the start
+held-start : (st : State) (id t : ℕ) (f : Found) → findRetained st id ≡ f → Held (shutAtStart st t f) st id t
+held-start st id t (At s) e =
+    let q = retained-at st id s e in
+    inr (s, q .0, (λ z. omega (arith, z, q .1)), q .2, omega arith)
+held-start st id t Nothing e = held-zero st id t
+
 -- ---- every list of calls
-module _ (params : Params) (fine : Accepted params) where
-  outs : (calls : List Made) → Out (after params calls)
+module _ (start : Start) (fine : Accepted start) where
+  outs : (calls : List Made) → Out (after start calls)
   unfolding after
   outs [] = λ s t h k m.
-      let z = ap (λ (r : TopicRecord). r .member) (fresh-topic params (place s t)) in
-      absurd (omega (arith, z, m))
-  outs (c ∷ before) = out-step (after params before) (c .call) (c .room) (outs before)
+      let v = standing start fine [] .router in
+      absurd (off-start start fine s h (valid-facts (start .state) v .topic s t h k .inside m .0))
+  outs (c ∷ before) = out-step (after start before) (c .call) (c .room) (outs before)
 
-  held : (calls : List Made) (id t : ℕ) → t < 8 → Held (shutUntil params calls id t) (after params calls) id t
+  held : (calls : List Made) (id t : ℕ) → t < 8 → Held (shutUntil start calls id t) (after start calls) id t
   unfolding after shutUntil
-  held [] id t k = held-zero _ id t
+  held [] id t k = held-start (start .state) id t (findRetained (start .state) id) refl
   held (c ∷ before) id t k =
-      let st = after params before in
-      let w = standing params fine before in
+      let st = after start before in
+      let w = standing start fine before in
       held-max _ _ (step st (c .call) (c .room) .state) id t
-      (hold-step params st (w .size) (w .router) (w .codes) (c .call) (c .room) _ id t k (held before id t k))
-      (shut-step params st (w .size) (w .router) (w .codes) (c .call) (c .room) id t k)
+      (hold-step (start .params) st (w .size) (w .router) (w .codes) (c .call) (c .room) _ id t k (held before id t k))
+      (shut-step (start .params) st (w .size) (w .router) (w .codes) (c .call) (c .room) id t k)
 
-  kept-of : (calls : List Made) (s t : ℕ) → s < slotCount → t < 8 → isMember (after params calls) t s ≡ true → KeptOutOf params calls s t
+  kept-of : (calls : List Made) (s t : ℕ) → s < slotCount → t < 8 → isMember (after start calls) t s ≡ true → KeptOutOf start calls s t
   unfolding isMember
   kept-of calls s t h k m =
-      let st = after params calls in
-      let w = standing params fine calls in
+      let st = after start calls in
+      let w = standing start fine calls in
       let on = member-connected st (w .router) t s k h m in
       let o = outs calls s t h k (eqb-true _ _ m) in
       let g = valid-facts st (w .router) .topic s t h k .times in
@@ -185,10 +192,10 @@ module _ (params : Params) (fine : Accepted params) where
       }
 
 pub kept-out : KeptOut
-kept-out params calls fine =
-    let w = standing params fine calls in
-    record { members = kept-of params fine calls; grafts = grafts-free params (after params calls) (w .size) (w .router) (w .codes) }
+kept-out start calls fine =
+    let w = standing start fine calls in
+    record { members = kept-of start fine calls; grafts = grafts-free (start .params) (after start calls) (w .size) (w .router) (w .codes) }
 
 pub program-kept-out : ProgramKeptOut
-program-kept-out params calls table fine p =
-    record { state = agrees params calls table fine p .state; out = kept-out params (map made calls) fine }
+program-kept-out start calls table fine p =
+    record { state = agrees start calls table fine p .state; out = kept-out start (map made calls) fine }

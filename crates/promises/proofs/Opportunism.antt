@@ -70,7 +70,7 @@ module _ (params : Params) (st : State) (codes : st .codes ≡ map codeOf (param
         }
 
 pub opportunism : Opportunism
-opportunism params calls fine =
-    let st = after params calls in
-    let w = standing params fine calls in
-    record { degrees = degrees-are params st (w .codes); fifth = fifth-is params st (w .codes) }
+opportunism start calls fine =
+    let st = after start calls in
+    let w = standing start fine calls in
+    record { degrees = degrees-are (start .params) st (w .codes); fifth = fifth-is (start .params) st (w .codes) }

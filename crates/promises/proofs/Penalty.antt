@@ -336,13 +336,13 @@ module _ (params : Params) (st : State) (ok : valid st ≡ true) (codes : st .co
       (raised-same time t s size h)
 
 pub p7-rises : P7Rises
-p7-rises params calls fine s h =
-    let st = after params calls in
-    let w = standing params fine calls in
+p7-rises start calls fine s h =
+    let st = after start calls in
+    let w = standing start fine calls in
     record {
-      rises = λ time t room. rises-early params st (w .router) (w .codes) time t s room (w .size) h;
+      rises = λ time t room. rises-early (start .params) st (w .router) (w .codes) time t s room (w .size) h;
       only = λ c room.
-          by-gate (λ (r : Reply). (p7In (r .state) s ≤ p7In st s) ⊎ Cause params st (w .codes) c s) st c room
+          by-gate (λ (r : Reply). (p7In (r .state) s ≤ p7In st s) ⊎ Cause (start .params) st (w .codes) c s) st c room
           (λ a e. inl (omega arith))
-          (λ p. only-effect params st (w .router) (w .codes) c s);
+          (λ p. only-effect (start .params) st (w .router) (w .codes) c s);
     }

@@ -115,21 +115,24 @@ module _ (st : State) (size : Sized st) (ok : valid st ≡ true) where
 
 pub told-seconds : ToldSeconds
 unfolding effect Each
-told-seconds params calls fine time t room =
-    let st = after params calls in
-    let w = standing params fine calls in (
-      by-gate (λ (r : Reply). Each (Seconds st (natAbs (at (params .numbers) 6))) (r .actions)) st (leave time t) room
+told-seconds start calls fine time t room =
+    let st = after start calls in
+    let w = standing start fine calls in (
+      by-gate (λ (r : Reply). Each (Seconds st (natAbs (at (start .params .numbers) 6))) (r .actions)) st (leave time t) room
           (λ a e. tt)
-          (λ p. leave-seconds st (w .size) (w .router) time t (natAbs (at (params .numbers) 6)) (degree-is st params (w .codes) 6)),
+          (λ p. leave-seconds st (w .size) (w .router) time t (natAbs (at (start .params .numbers) 6))
+          (degree-is st (start .params) (w .codes) 6)),
       λ ask order.
-          by-gate (λ (r : Reply). Each (Seconds st (natAbs (at (params .numbers) 5))) (r .actions)) st (heartbeat time t ask order) room
+          by-gate (λ (r : Reply). Each (Seconds st (natAbs (at (start .params .numbers) 5))) (r .actions)) st
+          (heartbeat time t ask order) room
           (λ a e. tt)
-          (λ p. heartbeat-seconds st (w .size) (w .router) time t ask (natAbs (at (params .numbers) 5)) order
-          (degree-is st params (w .codes) 5)),
+          (λ p. heartbeat-seconds st (w .size) (w .router) time t ask (natAbs (at (start .params .numbers) 5)) order
+          (degree-is st (start .params) (w .codes) 5)),
       λ id.
-          by-gate (λ (r : Reply). Each (Seconds st (natAbs (at (params .numbers) 5))) (r .actions)) st (graft time id t) room
+          by-gate (λ (r : Reply). Each (Seconds st (natAbs (at (start .params .numbers) 5))) (r .actions)) st (graft time id t) room
           (λ a e. tt)
           (λ p.
-          by-peer (λ (r : Reply). Each (Seconds st (natAbs (at (params .numbers) 5))) (r .actions)) st id _ tt (λ s h on.
-          graft-seconds st (w .size) (w .router) time t s (natAbs (at (params .numbers) 5)) (degree-is st params (w .codes) 5))),
+          by-peer (λ (r : Reply). Each (Seconds st (natAbs (at (start .params .numbers) 5))) (r .actions)) st id _ tt (λ s h on.
+          graft-seconds st (w .size) (w .router) time t s (natAbs (at (start .params .numbers) 5))
+          (degree-is st (start .params) (w .codes) 5))),
     )

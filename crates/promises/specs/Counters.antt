@@ -13,7 +13,7 @@ use Rattle.records.specs.Records.{State, slotCount, topicCount, place, joinedIn
 use Rattle.rules.specs.Reply.{numberOf}
 use Rattle.rules.specs.Calls.{deliver, decay}
 use Rattle.rules.specs.Step.{step}
-use Rattle.call_lists.specs.Lists.{Made, after}
+use Rattle.call_lists.specs.Lists.{Start, Made, after}
 use Rattle.call_lists.specs.Demand3.{Accepted}
 use Rattle.promises.specs.Parameters.{topicNumber}
 
@@ -44,14 +44,14 @@ pub record Delivered (params : Params) (t kind s : ℕ) (st u : State) : Type 0 
 
 abbrev pub Deliveries : Type 0
 Deliveries =
-    (params : Params) (calls : List Made) →
-    Accepted params →
+    (start : Start) (calls : List Made) →
+    Accepted start →
     (time t kind s room : ℕ) →
     s < slotCount →
-    peerIn (after params calls) s .status ≡ 1 →
-    numberOf (step (after params calls) (deliver time (peerIn (after params calls) s .id) t kind) room .answer) ≡ 0 →
-    Delivered params t kind s (after params calls)
-    (step (after params calls) (deliver time (peerIn (after params calls) s .id) t kind) room .state)
+    peerIn (after start calls) s .status ≡ 1 →
+    numberOf (step (after start calls) (deliver time (peerIn (after start calls) s .id) t kind) room .answer) ≡ 0 →
+    Delivered (start .params) t kind s (after start calls)
+    (step (after start calls) (deliver time (peerIn (after start calls) s .id) t kind) room .state)
 
 -- ---- decay: number 18 is decay-to-zero, 17 P7's factor; a topic's factors are its numbers 5, 8, 13 and 15
 -- "counter × factor / 1000, rounded down; below decay-to-zero [..] it becomes 0"
@@ -88,8 +88,8 @@ pub record Decayed (params : Params) (time : ℕ) (st u : State) : Type 0 where
 
 abbrev pub Decay : Type 0
 Decay =
-    (params : Params) (calls : List Made) →
-    Accepted params →
+    (start : Start) (calls : List Made) →
+    Accepted start →
     (time room : ℕ) →
-    numberOf (step (after params calls) (decay time) room .answer) ≡ 0 →
-    Decayed params time (after params calls) (step (after params calls) (decay time) room .state)
+    numberOf (step (after start calls) (decay time) room .answer) ≡ 0 →
+    Decayed (start .params) time (after start calls) (step (after start calls) (decay time) room .state)

@@ -15,7 +15,7 @@ use Rattle.effects.specs.Effects.{isMember}
 use Rattle.score.specs.Score.{scoreIn}
 use Rattle.rules.specs.Calls.{Call, connect, leave, heartbeat}
 use Rattle.rules.specs.Step.{step}
-use Rattle.call_lists.specs.Lists.{Made, after}
+use Rattle.call_lists.specs.Lists.{Start, Made, after}
 use Rattle.call_lists.specs.Demand3.{Accepted}
 use Rattle.promises.specs.Parameters.{topicNumber}
 
@@ -68,4 +68,4 @@ pub record Deficits (params : Params) (st : State) : Type 0 where
       p3bIn (step st (connect time id groups flags name) room .state) s t ≡ 0
 
 abbrev pub P3bGrows : Type 0
-P3bGrows = (params : Params) (calls : List Made) → Accepted params → Deficits params (after params calls)
+P3bGrows = (start : Start) (calls : List Made) → Accepted start → Deficits (start .params) (after start calls)

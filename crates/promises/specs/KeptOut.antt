@@ -8,16 +8,19 @@ use mathlib.Core.Bool.{true, cond, _&&_}
 use mathlib.Core.List.{List, [], _∷_, map}
 use lib.Dec.{eqb, ltb}
 use lib.IntN.{natAbs}
+use Rattle.index.specs.declared.Found.{Found}
+use Rattle.index.specs.declared.Found.the-variants.{At, Nothing}
 use Rattle.params.specs.declared.Params.{Params}
 use Rattle.limits.specs.Limits.{at}
-use Rattle.records.specs.Records.{slotCount, topicCount, place, peerIn, topicIn}
+use Rattle.records.specs.Records.{State, slotCount, topicCount, place, peerIn, topicIn}
 use Rattle.layout.specs.View.{stateOf}
 use Rattle.effects.specs.Effects.{isMember, endAfter}
+use Rattle.lookup.specs.Find.{findRetained}
 use Rattle.rules.specs.Reply.{Reply, numberOf}
 use Rattle.rules.specs.Calls.{Call, connect, disconnect, join, leave, subscribe, unsubscribe, graft, prune, deliver, rate, heartbeat, decay}
 use Rattle.rules.specs.Calls.{score}
 use Rattle.rules.specs.Step.{step}
-use Rattle.call_lists.specs.Lists.{Made, after}
+use Rattle.call_lists.specs.Lists.{Start, Made, after}
 use Rattle.call_lists.specs.Demand3.{Accepted}
 use Rattle.call_lists.specs.Played.{Called, made, Played}
 use Rattle.promises.specs.Ends.{endIn}
@@ -54,41 +57,46 @@ shutBy params (heartbeat time u ask order) r id t = told time (pruneSeconds para
 shutBy params (decay time) r id t = 0
 shutBy params (score time p) r id t = 0
 
--- the latest of these ends in a list of calls
-unfoldable pub shutUntil : Params → List Made → ℕ → ℕ → ℕ
-shutUntil params [] id t = 0
-shutUntil params (c ∷ before) id t =
-    max (shutUntil params before id t) (shutBy params (c .call) (step (after params before) (c .call) (c .room)) id t)
+-- what a loaded router remembers of a peer, and a fresh one of nobody: its record's end (02, order 8)
+abbrev pub shutAtStart : State → ℕ → Found → ℕ
+shutAtStart st t (At s) = endIn st s t
+shutAtStart st t Nothing = 0
 
-pub record KeptOutOf (params : Params) (calls : List Made) (s t : ℕ) : Type 0 where
+-- the latest of these ends in a list of calls, and of what the router began with
+unfoldable pub shutUntil : Start → List Made → ℕ → ℕ → ℕ
+shutUntil start [] id t = shutAtStart (start .state) t (findRetained (start .state) id)
+shutUntil start (c ∷ before) id t =
+    max (shutUntil start before id t) (shutBy (start .params) (c .call) (step (after start before) (c .call) (c .room)) id t)
+
+pub record KeptOutOf (start : Start) (calls : List Made) (s t : ℕ) : Type 0 where
   -- the backoff of a member ended when it came in, or before, and it came in at the clock, or before
-  pub over : endIn (after params calls) s t ≤ topicIn (after params calls) (place s t) .graft
-  pub since : topicIn (after params calls) (place s t) .graft ≤ after params calls .clock
-  -- every PRUNE between us and this peer, in this topic, is over
-  pub prunes : shutUntil params calls (peerIn (after params calls) s .id) t ≤ after params calls .clock
+  pub over : endIn (after start calls) s t ≤ topicIn (after start calls) (place s t) .graft
+  pub since : topicIn (after start calls) (place s t) .graft ≤ after start calls .clock
+  -- every PRUNE between us and this peer, in this topic, is over, and what a load remembered of the time before it
+  pub prunes : shutUntil start calls (peerIn (after start calls) s .id) t ≤ after start calls .clock
 
-pub record KeptOutAfter (params : Params) (calls : List Made) : Type 0 where
+pub record KeptOutAfter (start : Start) (calls : List Made) : Type 0 where
   pub members :
-      (s t : ℕ) → s < slotCount → t < topicCount → isMember (after params calls) t s ≡ true → KeptOutOf params calls s t
+      (s t : ℕ) → s < slotCount → t < topicCount → isMember (after start calls) t s ≡ true → KeptOutOf start calls s t
   -- a heartbeat after these calls tells GRAFT only to whom 02's order 3 allows: "now ≥ backoff end + 1000 ms, or an end of 0 (never set)"
   pub grafts :
       (time t ask room : ℕ) (order : List ℕ) (s : ℕ) →
       s < slotCount →
-      peerIn (after params calls) s .status ≡ 1 →
-      times 1 (peerIn (after params calls) s .id) (step (after params calls) (heartbeat time t ask order) room .actions) ≢ 0 →
-      (endIn (after params calls) s t ≡ 0) ⊎ (endIn (after params calls) s t + 1000 ≤ time)
+      peerIn (after start calls) s .status ≡ 1 →
+      times 1 (peerIn (after start calls) s .id) (step (after start calls) (heartbeat time t ask order) room .actions) ≢ 0 →
+      (endIn (after start calls) s t ≡ 0) ⊎ (endIn (after start calls) s t + 1000 ≤ time)
 
 abbrev pub KeptOut : Type 0
-KeptOut = (params : Params) (calls : List Made) → Accepted params → KeptOutAfter params calls
+KeptOut = (start : Start) (calls : List Made) → Accepted start → KeptOutAfter start calls
 
 -- the same of the program's calls, one after the other on one table, as history's `Agrees` says demand 3 of them
-pub record ProgramKeeps (params : Params) (calls : List Called) (table : List ℕ) : Type 0 where
-  pub state : stateOf table ≡ after params (map made calls)
-  pub out : KeptOutAfter params (map made calls)
+pub record ProgramKeeps (start : Start) (calls : List Called) (table : List ℕ) : Type 0 where
+  pub state : stateOf table ≡ after start (map made calls)
+  pub out : KeptOutAfter start (map made calls)
 
 abbrev pub ProgramKeptOut : Type 0
 ProgramKeptOut =
-    (params : Params) (calls : List Called) (table : List ℕ) →
-    Accepted params →
-    Played params calls table →
-    ProgramKeeps params calls table
+    (start : Start) (calls : List Called) (table : List ℕ) →
+    Accepted start →
+    Played start calls table →
+    ProgramKeeps start calls table

@@ -12,7 +12,7 @@ use Rattle.mesh.specs.declared.Degrees.{Degrees}
 use Rattle.mesh.specs.Maintenance.{Meshes}
 use Rattle.mesh.specs.Maintenance.{zeroScore, median}
 use Rattle.rules.specs.Step.{isCandidate, heightIn, degreesIn, meshesIn}
-use Rattle.call_lists.specs.Lists.{Made, after}
+use Rattle.call_lists.specs.Lists.{Start, Made, after}
 use Rattle.call_lists.specs.Demand3.{Accepted}
 
 -- "General, index 0 on: D_lo, D, D_hi [..]; D_out [..]; D_score [..]; opportunistic threshold [..] in thousandths of a point" (index 8).
@@ -54,4 +54,4 @@ pub record FromSheet (params : Params) (st : State) : Type 0 where
   pub fifth : (time t ask : ℕ) (order : List ℕ) → Fifth params st time t ask order (meshesIn st time t ask order)
 
 abbrev pub Opportunism : Type 0
-Opportunism = (params : Params) (calls : List Made) → Accepted params → FromSheet params (after params calls)
+Opportunism = (start : Start) (calls : List Made) → Accepted start → FromSheet (start .params) (after start calls)

@@ -9,7 +9,7 @@ use Rattle.records.specs.Records.{State, slotCount, peerIn, joinedIn}
 use Rattle.effects.specs.Effects.{isMember}
 use Rattle.rules.specs.Calls.{Call, graft}
 use Rattle.rules.specs.Step.{step}
-use Rattle.call_lists.specs.Lists.{Made, after}
+use Rattle.call_lists.specs.Lists.{Start, Made, after}
 use Rattle.call_lists.specs.Demand3.{Accepted}
 use Rattle.promises.specs.Ends.{endIn}
 use Rattle.promises.specs.Numbers.{Admitted}
@@ -43,8 +43,8 @@ pub record Penalty (params : Params) (st : State) (s : ℕ) : Type 0 where
 
 abbrev pub P7Rises : Type 0
 P7Rises =
-    (params : Params) (calls : List Made) →
-    Accepted params →
+    (start : Start) (calls : List Made) →
+    Accepted start →
     (s : ℕ) →
     s < slotCount →
-    Penalty params (after params calls) s
+    Penalty (start .params) (after start calls) s

@@ -8,7 +8,6 @@ use mathlib.Core.List.{List, [], _∷_}
 use lib.Dec.{eqb}
 use lib.IntN.{natAbs}
 use Rattle.index.specs.Index.{one}
-use Rattle.params.specs.declared.Params.{Params}
 use Rattle.limits.specs.Limits.{at}
 use Rattle.records.specs.Records.{State, slotCount, peerIn}
 use Rattle.layout.specs.View.{Sized}
@@ -17,7 +16,7 @@ use Rattle.effects.specs.Effects.{isMember}
 use Rattle.rules.specs.Reply.{Reply}
 use Rattle.rules.specs.Calls.{leave, graft, heartbeat}
 use Rattle.rules.specs.Step.{step}
-use Rattle.call_lists.specs.Lists.{Made, after}
+use Rattle.call_lists.specs.Lists.{Start, Made, after}
 use Rattle.call_lists.specs.Demand3.{Accepted}
 
 -- how many actions of a kind (1 GRAFT, 2 PRUNE) go to an id
@@ -69,12 +68,12 @@ Seconds st seconds a =
 -- of the parameters: 5 the prune backoff, 6 the unsubscribe backoff
 abbrev pub ToldSeconds : Type 0
 ToldSeconds =
-    (params : Params) (calls : List Made) →
-    Accepted params →
+    (start : Start) (calls : List Made) →
+    Accepted start →
     (time t room : ℕ) →
-    Each (Seconds (after params calls) (natAbs (at (params .numbers) 6))) (step (after params calls) (leave time t) room .actions)
+    Each (Seconds (after start calls) (natAbs (at (start .params .numbers) 6))) (step (after start calls) (leave time t) room .actions)
     × ((ask : ℕ) (order : List ℕ) →
-    Each (Seconds (after params calls) (natAbs (at (params .numbers) 5)))
-    (step (after params calls) (heartbeat time t ask order) room .actions))
+    Each (Seconds (after start calls) (natAbs (at (start .params .numbers) 5)))
+    (step (after start calls) (heartbeat time t ask order) room .actions))
     × ((id : ℕ) →
-    Each (Seconds (after params calls) (natAbs (at (params .numbers) 5))) (step (after params calls) (graft time id t) room .actions))
+    Each (Seconds (after start calls) (natAbs (at (start .params .numbers) 5))) (step (after start calls) (graft time id t) room .actions))

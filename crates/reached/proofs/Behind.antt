@@ -17,7 +17,7 @@ use Rattle.rules.specs.Reply.{Reply}
 use Rattle.rules.specs.Calls.{Call, timeOf, inRange}
 use Rattle.rules.specs.Step.{actionRoom, through, effect, step}
 use Rattle.rules.proofs.GateLaws.{gate-0}
-use Rattle.call_lists.specs.Lists.{Made, after}
+use Rattle.call_lists.specs.Lists.{Made, fresh, from-fresh, after}
 use Rattle.call_lists.specs.Demand3.{Accepted}
 use Rattle.call_lists.proofs.Demand3.{standing}
 use Rattle.reached.specs.Reached.{lent, behind, reply, replies, reached, asked}
@@ -38,12 +38,12 @@ unfoldable pub given : State → List Call → List Reply
 given st [] = []
 given st (c ∷ rest) = let r : Reply = effect st c in r ∷ given (r .state) rest
 
-accepted : Accepted ordinaryParams
-accepted = record { size = ordinary-length; passes = ordinary-accepted }
+accepted : Accepted (fresh ordinaryParams)
+accepted = record { size = ordinary-length; passes = ordinary-accepted; begins = from-fresh refl }
 
 -- the state behind a list, as `after` has it
 abbrev at : List Made → State
-at before = after ordinaryParams before
+at before = after (fresh ordinaryParams) before
 
 reply-effect : (before : List Made) (c : Call) → passes-one (at before) c ≡ true → reply before c ≡ effect (at before) c
 unfolding reply step
@@ -52,7 +52,7 @@ reply-effect before c e =
     ap (λ (g : Gate). through g (at before) (effect (at before) c))
     (sym
     (gate-0 (at before) (inRange c) actionRoom (timeOf c) (at before .clock)
-    (standing ordinaryParams accepted before .router)
+    (standing (fresh ordinaryParams) accepted before .router)
     (q .0)
     (omega arith)
     refl

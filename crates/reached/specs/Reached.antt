@@ -19,7 +19,7 @@ use Rattle.rules.specs.declared.Answer.the-variants.{Done, Scored}
 use Rattle.rules.specs.Reply.{Reply, numberOf}
 use Rattle.rules.specs.Calls.{Call, connect, join, subscribe, graft, prune, deliver, rate, heartbeat, score}
 use Rattle.rules.specs.Step.{actionRoom, step}
-use Rattle.call_lists.specs.Lists.{Made, after}
+use Rattle.call_lists.specs.Lists.{Made, fresh, after}
 
 -- ---- lists of calls, the first call first, each lent an action list of 768 numbers. Crate call_lists has them the last call first
 abbrev pub lent : Call → Made
@@ -32,7 +32,7 @@ behind before (c ∷ rest) = behind (lent c ∷ before) rest
 
 -- a call behind a list of calls, and all the replies to a list
 unfoldable pub reply : List Made → Call → Reply
-reply before c = step (after ordinaryParams before) c actionRoom
+reply before c = step (after (fresh ordinaryParams) before) c actionRoom
 
 unfoldable pub replies : List Made → List Call → List Reply
 replies before [] = []
@@ -40,7 +40,7 @@ replies before (c ∷ rest) = reply before c ∷ replies (lent c ∷ before) res
 
 -- the state that a list of calls reaches, and what a call is answered there
 unfoldable pub reached : List Call → State
-reached calls = after ordinaryParams (behind [] calls)
+reached calls = after (fresh ordinaryParams) (behind [] calls)
 
 unfoldable pub asked : List Call → Call → Reply
 asked calls c = reply (behind [] calls) c

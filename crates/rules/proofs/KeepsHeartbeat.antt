@@ -62,7 +62,7 @@ module _ (time : ℕ) (st : State) (g : RouterAt time st) (t : ℕ) (k : t < 8) 
   abbrev end : ℕ
   end = endAfter time (pruneBackoff st)
 
-  bound : end ≤ maxEnd
+  bound : end ≤ maxEnd time
   bound = end-most time st g (pruneBackoff st) (prune-most time st g)
 
   -- out of the mesh, with a backoff

@@ -46,7 +46,7 @@ unfolding withP5
 keeps-rate time st g s h on p5 b =
     router-end time (onPeer st s (λ p. withP5 p (codeOf p5)))
     (router-numbers time st g s (withP5 (peerIn st s) (codeOf p5)) (g .size .ends s)
-    (peer-p5 (peerIn st s) (peer-of time st g s h) on (codeOf p5) (p5-code p5 b))
+    (peer-p5 time (peerIn st s) (peer-of time st g s h) on (codeOf p5) (p5-code p5 b))
     h refl refl refl)
 
 -- ---- disconnect
@@ -76,7 +76,7 @@ module _ (time : ℕ) (st : State) (g : RouterAt time st) (s : ℕ) (h : s < slo
       let p = retainedTo (peerIn left s) end in
       router-end time (setPeer left s p)
       (router-same-id time left (walked .at) s p (walked .at .size .ends s)
-      (peer-retained (peerIn left s) (peer-of time left (walked .at) s h) (walked .status s ∙ on) end (retain-most time st g))
+      (peer-retained time (peerIn left s) (peer-of time left (walked .at) s h) (walked .status s ∙ on) end (retain-most time st g))
       h
       refl
       (λ t k.
@@ -104,7 +104,7 @@ module _ (time : ℕ) (s : ℕ) (h : s < slotCount) (u : State) (g : RouterAt ti
   router-emptied : RouterAt time (emptied u s)
   unfolding emptied
   router-emptied =
-      router-peer time cleared cleared-router s noPeer refl no-peer
+      router-peer time cleared cleared-router s noPeer refl (no-peer time)
       (λ t k. rw (cleared-topic t k) (no-topic _ _ _ _ _ _))
       (λ k l n q. refl)
 
@@ -141,7 +141,7 @@ module _
           let p = connectedAs (peerIn u s) id groups flags version in
           router-end time (setPeer u s p)
           (router-peer time u g s p (g .size .ends s)
-          (peer-connected (peerIn u s) (peer-of time u g s h) id groups flags version least most rising one few known)
+          (peer-connected time (peerIn u s) (peer-of time u g s h) id groups flags version least most rising one few known)
           (λ t k.
           let f = topic-of time u g s t h k in
           topic-under _ _ _ _ _ _ (topicIn u (place s t)) f 1 (flags / 2) (joinedIn u t)

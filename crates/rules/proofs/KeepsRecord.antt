@@ -183,7 +183,7 @@ topic-left status explicit joined clock c2 c3 r f =
 
 -- ---- a peer's record
 -- a connected record with another P5, another P7 and other ends
-module _ (p : Peer) (f : PeerFacts p) (on : p .status ≡ 1) where
+module _ (clock : ℕ) (p : Peer) (f : PeerFacts clock p) (on : p .status ≡ 1) where
   abbrev numbers : ℕ → ℕ → List ℕ → Peer
   numbers p5 p7 backoff =
       record {
@@ -203,8 +203,8 @@ module _ (p : Peer) (f : PeerFacts p) (on : p .status ≡ 1) where
       (p5 p7 : ℕ) (backoff : List ℕ) →
       p5 ≤ 2000000000 →
       p7 ≤ 1000000 →
-      ((t : ℕ) → t < 8 → getD backoff t 0 ≤ maxEnd) →
-      PeerFacts (numbers p5 p7 backoff)
+      ((t : ℕ) → t < 8 → getD backoff t 0 ≤ maxEnd clock) →
+      PeerFacts clock (numbers p5 p7 backoff)
   connected-facts p5 p7 backoff h5 h7 h =
       record {
         status = f .status;
@@ -223,20 +223,20 @@ module _ (p : Peer) (f : PeerFacts p) (on : p .status ≡ 1) where
         over = f .over;
       }
 
-  pub peer-p5 : (n : ℕ) → n ≤ 2000000000 → PeerFacts (withP5 p n)
+  pub peer-p5 : (n : ℕ) → n ≤ 2000000000 → PeerFacts clock (withP5 p n)
   unfolding withP5
   peer-p5 n h = connected-facts n (p .p7) (p .backoff) h (f .p7) (f .ends)
 
-  pub peer-p7 : (n : ℕ) → n ≤ 1000000 → PeerFacts (withP7 p n)
+  pub peer-p7 : (n : ℕ) → n ≤ 1000000 → PeerFacts clock (withP7 p n)
   unfolding withP7
   peer-p7 n h = connected-facts (p .p5) n (p .backoff) (f .p5) h (f .ends)
 
-  pub peer-end : (t end : ℕ) → t < 8 → end ≤ maxEnd → PeerFacts (withEnd p t end)
+  pub peer-end : (t end : ℕ) → t < 8 → end ≤ maxEnd clock → PeerFacts clock (withEnd p t end)
   unfolding withEnd
   peer-end t end l h =
       connected-facts (p .p5) (p .p7) (set (p .backoff) t (max (getD (p .backoff) t 0) end)) (f .p5) (f .p7) (λ u k.
       set-case
-      (λ (e : ℕ). e ≤ maxEnd)
+      (λ (e : ℕ). e ≤ maxEnd clock)
       (p .backoff)
       t
       u
@@ -245,7 +245,7 @@ module _ (p : Peer) (f : PeerFacts p) (on : p .status ≡ 1) where
       (λ q. omega (arith, f .ends t l))
       (f .ends u k))
 
-  pub peer-retained : (end : ℕ) → end ≤ maxRetain → PeerFacts (retainedTo p end)
+  pub peer-retained : (end : ℕ) → end ≤ maxRetain clock → PeerFacts clock (retainedTo p end)
   unfolding retainedTo
   peer-retained end h =
       record {
@@ -267,8 +267,8 @@ module _ (p : Peer) (f : PeerFacts p) (on : p .status ≡ 1) where
 
 -- a connect
 pub peer-connected :
-    (p : Peer) →
-    PeerFacts p →
+    (clock : ℕ) (p : Peer) →
+    PeerFacts clock p →
     (id : ℕ) (groups : Groups) (flags version : ℕ) →
     1 ≤ id →
     id ≤ maxId →
@@ -276,9 +276,9 @@ pub peer-connected :
     1 ≤ groups .first →
     flags ≤ 3 →
     version ≤ 1 →
-    PeerFacts (connectedAs p id groups flags version)
+    PeerFacts clock (connectedAs p id groups flags version)
 unfolding connectedAs
-peer-connected p f id groups flags version i j g o l v =
+peer-connected clock p f id groups flags version i j g o l v =
     record {
       status = omega arith;
       id = j;

@@ -54,7 +54,7 @@ module _ (time : ℕ) (st : State) (g : RouterAt time st) where
   unfolding setClock
   latest = g .facts .clock
 
-  pub peer-of : (s : ℕ) → s < slotCount → PeerFacts (peerIn st s)
+  pub peer-of : (s : ℕ) → s < slotCount → PeerFacts time (peerIn st s)
   unfolding setClock peerIn
   peer-of s h = g .facts .peer s h
 
@@ -72,7 +72,7 @@ module _ (time : ℕ) (st : State) (g : RouterAt time st) where
   params-of = general (st .codes) (g .facts .params)
 
   -- ends of backoffs and of the retain period
-  pub end-most : (seconds : ℕ) → seconds ≤ 3600 → endAfter time seconds ≤ maxEnd
+  pub end-most : (seconds : ℕ) → seconds ≤ 3600 → endAfter time seconds ≤ maxEnd time
   end-most seconds h = omega (arith, latest)
 
   pub prune-most : pruneBackoff st ≤ 3600
@@ -83,7 +83,7 @@ module _ (time : ℕ) (st : State) (g : RouterAt time st) where
   unfolding codeIn
   leave-most = params-of .leaveBackoff-most
 
-  pub retain-most : endAfter time (retainSeconds st) ≤ maxRetain
+  pub retain-most : endAfter time (retainSeconds st) ≤ maxRetain time
   unfolding codeIn
   retain-most = omega (arith, latest, params-of .retain-most)
 
@@ -96,7 +96,7 @@ module _ (time : ℕ) (st : State) (g : RouterAt time st) where
         facts = facts-topic (setClock st time) (g .facts) s t r k ok;
       }
 
-  module _ (s : ℕ) (p : Peer) (ends : length (p .backoff) ≡ 8) (ok : PeerFacts p) where
+  module _ (s : ℕ) (p : Peer) (ends : length (p .backoff) ≡ 8) (ok : PeerFacts time p) where
     -- its topic records have to fit, and no other slot may hold its id
     pub router-peer :
         ((t : ℕ) → t < 8 → FitsAs time st (p .status) (p .explicit) t (topicIn st (place s t))) →
@@ -141,14 +141,14 @@ module _ (time : ℕ) (st : State) (g : RouterAt time st) where
   -- ---- a connected slot
   module _ (s : ℕ) (h : s < slotCount) (on : peerIn st s .status ≡ 1) where
     -- a backoff's end
-    pub router-backoff : (t end : ℕ) → t < 8 → end ≤ maxEnd → RouterAt time (onPeer st s (λ p. withEnd p t end))
+    pub router-backoff : (t end : ℕ) → t < 8 → end ≤ maxEnd time → RouterAt time (onPeer st s (λ p. withEnd p t end))
     unfolding withEnd
     router-backoff t end k b =
         router-numbers
         s
         (withEnd (peerIn st s) t end)
         (ends-with (peerIn st s) t end ∙ g .size .ends s)
-        (peer-end (peerIn st s) (peer-of s h) on t end k b)
+        (peer-end time (peerIn st s) (peer-of s h) on t end k b)
         h
         refl
         refl
@@ -157,7 +157,7 @@ module _ (time : ℕ) (st : State) (g : RouterAt time st) where
     pub router-p7 : (n : ℕ) → n ≤ 1000000 → RouterAt time (onPeer st s (λ p. withP7 p n))
     unfolding withP7
     router-p7 n b =
-        router-numbers s (withP7 (peerIn st s) n) (g .size .ends s) (peer-p7 (peerIn st s) (peer-of s h) on n b) h refl refl refl
+        router-numbers s (withP7 (peerIn st s) n) (g .size .ends s) (peer-p7 time (peerIn st s) (peer-of s h) on n b) h refl refl refl
 
 -- the state u, on the way of a walk from st: still a router's, with the statuses of st
 pub record Walked (time : ℕ) (st u : State) : Type 0 where
@@ -188,7 +188,7 @@ pub router-pruned :
     s < slotCount →
     t < 8 →
     peerIn st s .status ≡ 1 →
-    end ≤ maxEnd →
+    end ≤ maxEnd time →
     RouterAt time (pruned st s t end)
 unfolding pruned
 router-pruned time st g s t end h k on b =

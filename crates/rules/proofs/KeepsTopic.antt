@@ -105,7 +105,7 @@ module _ (time : ℕ) (st : State) (g : RouterAt time st) (t : ℕ) (k : t < 8) 
         router-end time _
         (router-numbers time st g s (withEnd (withP7 p n) t end)
         (ends-with (withP7 p n) t end ∙ g .size .ends s)
-        (peer-end (withP7 p n) (peer-p7 p (peer-of time st g s h) on n (omega arith)) on t end k b)
+        (peer-end time (withP7 p n) (peer-p7 time p (peer-of time st g s h) on n (omega arith)) on t end k b)
         h
         refl
         refl
@@ -121,7 +121,7 @@ module _ (time : ℕ) (st : State) (g : RouterAt time st) (t : ℕ) (k : t < 8) 
         keeps-entered
 
 -- ---- leave: every member by slot
-module _ (time : ℕ) (st : State) (g : RouterAt time st) (t : ℕ) (k : t < 8) (end : ℕ) (b : end ≤ maxEnd) where
+module _ (time : ℕ) (st : State) (g : RouterAt time st) (t : ℕ) (k : t < 8) (end : ℕ) (b : end ≤ maxEnd time) where
   pub member-on : (s : ℕ) → s < slotCount → isMember st t s ≡ true → peerIn st s .status ≡ 1
   unfolding isMember
   member-on s h m = topic-of time st g s t h k .inside (eqb-true (topicIn st (place s t) .member) 1 m) .0
@@ -186,7 +186,7 @@ pub keeps-leave : (time : ℕ) (st : State) → RouterAt time st → (t : ℕ) �
 unfolding leaveReply isMember
 keeps-leave time st g t k =
     let end = endAfter time (unsubscribeBackoff st) in
-    let b : end ≤ maxEnd = end-most time st g (unsubscribeBackoff st) (leave-most time st g) in
+    let b : end ≤ maxEnd time = end-most time st g (unsubscribeBackoff st) (leave-most time st g) in
     let w = iter slotCount (leaveSlot st t end) st in
     either (isJoined st t) _ (ignored st time)
     (λ e.

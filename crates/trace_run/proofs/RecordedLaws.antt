@@ -33,7 +33,7 @@ use Rattle.rules.specs.Step.{step}
 use Rattle.trace_events.specs.declared.Edition.{Edition}
 use Rattle.trace_events.specs.Reading.{Event, event, unknown, malformed, short, cutShort, eventAt}
 use Rattle.trace_events.proofs.EventLaws.{Behind, event-behind}
-use Rattle.call_lists.specs.Lists.{Made, after}
+use Rattle.call_lists.specs.Lists.{Made, fresh, from-fresh, after}
 use Rattle.call_lists.specs.Demand3.{Holds}
 use Rattle.call_lists.proofs.Demand3.{demand3}
 use Rattle.trace_step.specs.declared.Performed.{Performed}
@@ -77,7 +77,7 @@ pub record Going (d : Edition) (params : Params) (s list₀ told₀ : List ℕ) 
   pub before : List Made
   pub many : length before ≡ calls
   pub rest : callsFrom d (length list₀) (length told₀ - calls) s at before ≡ recordingOf d (length list₀) (length told₀) s
-  pub state : stateOf table ≡ after params before
+  pub state : stateOf table ≡ after (fresh params) before
   pub actions : list ≡ actionsAfter params before list₀
   pub answers : told ≡ sets told₀ 0 (answersTo params before)
 
@@ -172,8 +172,8 @@ module _ (d : Edition) (params : Params) (s list₀ told₀ : List ℕ) (l : len
   whole = recordingOf d (length list₀) (length told₀) s
 
   -- demand 3 of the list, for parameters that pass the check
-  holds : firstBroken params ≡ Nothing → Holds params (whole .calls)
-  holds e = demand3 params (whole .calls) (record { size = l; passes = e })
+  holds : firstBroken params ≡ Nothing → Holds (fresh params) (whole .calls)
+  holds e = demand3 (fresh params) (whole .calls) (record { size = l; passes = e; begins = from-fresh refl })
 
   -- the calls made are all
   module _ (at calls : ℕ) (start table list told : List ℕ) (n : firstBroken params ≡ Nothing)

@@ -18,7 +18,7 @@ use Rattle.rules.specs.Step.{step}
 use Rattle.answers.specs.Answers.{answerCode}
 use Rattle.trace_events.specs.declared.Edition.{Edition}
 use Rattle.trace_events.specs.Reading.{Event, event, unknown, malformed, short, eventAt}
-use Rattle.call_lists.specs.Lists.{Made, after}
+use Rattle.call_lists.specs.Lists.{Made, fresh, after}
 use Rattle.call_lists.specs.Demand3.{Holds}
 use Rattle.trace_run.specs.declared.Recorded.{Recorded}
 use Rattle.trace_run.specs.declared.Recorded.the-variants.{Refused, Ran}
@@ -58,7 +58,7 @@ All =
 -- ---- what the calls are answered
 -- the rules' reply to a call, after the calls before it
 abbrev pub replyTo : Params → List Made → Made → Reply
-replyTo params before c = step (after params before) (c .call) (c .room)
+replyTo params before c = step (after (fresh params) before) (c .call) (c .room)
 
 -- the answers, the first call's first: 01's number in the low byte, how many actions above it
 unfoldable pub answersTo : Params → List Made → List ℕ
@@ -77,7 +77,7 @@ answerOf Nothing q = Ran (q .place) (length (q .calls))
 
 abbrev pub leftOf : Found → Params → Recording → State → State
 leftOf (At i) params q st = st
-leftOf Nothing params q st = after params (q .calls)
+leftOf Nothing params q st = after (fresh params) (q .calls)
 
 -- 01's number of an answer, and the values that go with it: 9 with the first index or 200 + the first rule; 0 with the place after the last
 -- event and how many calls were made
@@ -101,4 +101,4 @@ pub record Runs (e : Edition) (params : Params) (s : List ℕ) (r : Recorded) (t
   -- refused parameters change nothing
   pub kept : recordedNumber r ≡ 9 → (table′ ≡ table) × (list′ ≡ list) × (told′ ≡ told)
   -- and demand 3 holds of the list
-  pub demand3 : firstBroken params ≡ Nothing → Holds params (recordingOf e (length list) (length told) s .calls)
+  pub demand3 : firstBroken params ≡ Nothing → Holds (fresh params) (recordingOf e (length list) (length told) s .calls)

@@ -52,6 +52,26 @@ module _ (status explicit joined clock c2 c3 : ℕ) (t : TopicRecord) (f : Topic
         times = f .times;
       }
 
+-- a peer's record under a later clock
+pub peer-later : (clock later : ℕ) (p : Peer) → clock ≤ later → PeerFacts clock p → PeerFacts later p
+peer-later clock later p h f =
+    record {
+      status = f .status;
+      id = f .id;
+      groups = f .groups;
+      outbound = f .outbound;
+      explicit = f .explicit;
+      version = f .version;
+      p5 = f .p5;
+      p7 = f .p7;
+      retain = omega (arith, f .retain);
+      ends = λ t k. omega (arith, f .ends t k);
+      used = f .used;
+      held = f .held;
+      empty = f .empty;
+      over = f .over;
+    }
+
 -- two slots do not hold one id
 pub ids-apart :
     (st : State) →
@@ -86,7 +106,7 @@ module _ (st : State) (f : Facts st) where
         params = f .params;
         clock = b;
         joined = f .joined;
-        peer = f .peer;
+        peer = λ s k. peer-later (st .clock) n (peerIn st s) h (f .peer s k);
         topic = λ s t k l.
             topic-later (peerIn st s .status) (peerIn st s .explicit) (joinedIn st t) (st .clock) (cap2 st t) (cap3 st t)
             (topicIn st (place s t))
@@ -97,7 +117,7 @@ module _ (st : State) (f : Facts st) where
   -- the record's topic records have to fit it, and no other slot may hold its id
   pub facts-peer :
       (s : ℕ) (p : Peer) →
-      PeerFacts p →
+      PeerFacts (st .clock) p →
       ((t : ℕ) → t < topicCount → FitsAt st s (p .status) (p .explicit) t) →
       ((k : ℕ) → k < slotCount → k ≢ s → peerIn st k .id ≡ p .id → p .id ≡ 0) →
       Facts (setPeer st s p)
@@ -107,7 +127,7 @@ module _ (st : State) (f : Facts st) where
         params = f .params;
         clock = f .clock;
         joined = f .joined;
-        peer = λ u h. peer-case st PeerFacts s p u (λ e. ok) (f .peer u h);
+        peer = λ u h. peer-case st (PeerFacts (st .clock)) s p u (λ e. ok) (f .peer u h);
         topic = λ u t h l.
             peer-case st (λ (q : Peer). FitsAt st u (q .status) (q .explicit) t) s p u (λ e. rw e (fits t l)) (f .topic u t h l);
         ids = λ u k h l.

@@ -17,9 +17,9 @@ use Rattle.params.specs.Check.{acceptedCodes}
 use Rattle.records.specs.Records.{State, slotCount, topicCount, place, joinedIn, peerIn, topicIn}
 use Rattle.records.specs.declared.Peer.{Peer}
 use Rattle.records.specs.declared.TopicRecord.{TopicRecord}
-use Rattle.validity.specs.Valid.{maxTime, maxEnd, peerRanges, endsUpTo, usedOk, zeroPeer, emptyOk, retainOk, peerOk, zeroTopic}
+use Rattle.validity.specs.Valid.{maxTime, maxEnd, maxRetain, peerRanges, endsUpTo, usedOk, zeroPeer, emptyOk, retainOk, peerOk}
 use Rattle.validity.specs.Valid.{topicRanges, emptyTopicOk, outsideOk, retainedOk, memberOk, timesOk, topicOk, topicOkAt, cap2, cap3}
-use Rattle.validity.specs.Valid.{risingOk, zeroGroups, joinedOk, slotOk, newId, valid}
+use Rattle.validity.specs.Valid.{risingOk, zeroGroups, zeroTopic, joinedOk, slotOk, newId, valid}
 use Rattle.validity.specs.Order.{counterRanges, flagRanges, restOk, smallOk, Small, zeroTopicAt}
 use Rattle.validity.proofs.Conditions.{all3, all4, all8, all9}
 use Rattle.validity.proofs.ValidLaws.{zero-groups}
@@ -225,7 +225,7 @@ module _ (st : State) (s : ℕ) where
       (n a b c : ℕ) →
       topicCount ≤ n →
       n ≤ topicCount →
-      union (λ t. getD (peerIn st s .backoff) t 0) 8 ≤ maxEnd →
+      endsUpTo (maxEnd (st .clock)) (peerIn st s) ≡ true →
       a ≡ union (λ k. topicIn st (place s k) .p4) n →
       b ≡ union (λ k. topicIn st (place s k) .p3b) n →
       c ≡ union (λ k. topicIn st (place s k) .subscribed) n →
@@ -238,8 +238,7 @@ module _ (st : State) (s : ℕ) where
       let y = leb-true b 1000000000000 (q .1) in
       let z = leb-true c 1 (q .2) in
       record {
-        ends = every-by (λ t. leb (getD (peerIn st s .backoff) t 0) maxEnd) 8
-            (λ t h. le-leb _ maxEnd (le-trans (under-union (λ k. getD (peerIn st s .backoff) k 0) 8 t h) ends));
+        ends = ends;
         topics = λ t h.
             let r = topicIn st (place s t) in
             let i : t < n = omega arith in
@@ -251,16 +250,17 @@ module _ (st : State) (s : ℕ) where
       }
 
 -- ---- a connected peer's record
-module _ (p : Peer) where
+module _ (clock : ℕ) (p : Peer) where
   module _ (on : p .status ≡ 1) where
     parts-on : (usedOk p ≡ leb 1 (p .id) && leb 1 (p .groups .first)) × (emptyOk p ≡ true) × (retainOk p ≡ eqb (p .retain) 0)
     unfolding usedOk emptyOk retainOk
     parts-on = (rw on refl, rw on refl, rw on refl)
 
-    turned : peerOk p ≡ ((leb 1 (p .id) && leb 1 (p .groups .first) && eqb (p .retain) 0) && endsUpTo maxEnd p) && peerRanges p
+    turned : peerOk clock p
+        ≡ ((leb 1 (p .id) && leb 1 (p .groups .first) && eqb (p .retain) 0) && endsUpTo (maxEnd clock) p) && peerRanges clock p
     unfolding peerOk
     turned = rw (parts-on .0, parts-on .1, parts-on .2)
-        (turn (peerRanges p) (endsUpTo maxEnd p) (leb 1 (p .id) && leb 1 (p .groups .first)) (eqb (p .retain) 0))
+        (turn (peerRanges clock p) (endsUpTo (maxEnd clock) p) (leb 1 (p .id) && leb 1 (p .groups .first)) (eqb (p .retain) 0))
       where
         turn : (a b c d : Bool) → a && b && c && true && d ≡ ((c && d) && b) && a
         turn true true true true = refl
@@ -271,19 +271,19 @@ module _ (p : Peer) where
         turn true false false d = refl
         turn false b c d = sym (and-false ((c && d) && b))
 
-    pub id-fails : leb 1 (p .id) && leb 1 (p .groups .first) && eqb (p .retain) 0 ≡ false → false ≡ peerOk p
+    pub id-fails : leb 1 (p .id) && leb 1 (p .groups .first) && eqb (p .retain) 0 ≡ false → false ≡ peerOk clock p
     id-fails e = sym (turned ∙ rw e refl)
 
     pub ranges-are :
         leb 1 (p .id) && leb 1 (p .groups .first) && eqb (p .retain) 0 ≡ true →
-        endsUpTo maxEnd p ≡ true →
+        endsUpTo (maxEnd clock) p ≡ true →
         (r : Bool) →
-        r ≡ peerRanges p →
-        r ≡ peerOk p
+        r ≡ peerRanges clock p →
+        r ≡ peerOk clock p
     ranges-are a e r er = er ∙ sym (turned ∙ rw (a, e) refl)
 
 -- ---- an empty slot: what is all zero passes every other test
-module _ (p : Peer) (none : p .status ≡ 0) where
+module _ (clock : ℕ) (p : Peer) (none : p .status ≡ 0) where
   four : (a b c d : Bool) → a && b && c && false && d ≡ false
   four true true true d = refl
   four true true false d = refl
@@ -296,19 +296,19 @@ module _ (p : Peer) (none : p .status ≡ 0) where
       let h : eqb (p .status) 0 ≡ true = rw none refl in
       rw (h, e) refl
 
-  peer-not : zeroPeer p ≡ false → peerOk p ≡ false
+  peer-not : zeroPeer p ≡ false → peerOk clock p ≡ false
   unfolding peerOk
-  peer-not e = rw (not-empty e) (four (peerRanges p) (endsUpTo maxEnd p) (usedOk p) (retainOk p))
+  peer-not e = rw (not-empty e) (four (peerRanges clock p) (endsUpTo (maxEnd clock) p) (usedOk p) (retainOk p))
 
-  peer-all : zeroPeer p ≡ true → peerOk p ≡ zeroPeer p
+  peer-all : zeroPeer p ≡ true → peerOk clock p ≡ zeroPeer p
   unfolding peerOk peerRanges risingOk endsUpTo usedOk emptyOk retainOk zeroPeer zeroGroups
   peer-all e =
       let q = all9 (eqb (p .id) 0) (zeroGroups (p .groups)) (eqb (p .outbound) 0) (eqb (p .explicit) 0) (eqb (p .version) 0) (eqb (p .p5) 0)
       (eqb (p .p7) 0) (eqb (p .retain) 0) (endsUpTo 0 p) e in
-      let ends : every topicCount (λ t. leb (getD (p .backoff) t 0) maxEnd) ≡ true
-      = every-by (λ t. leb (getD (p .backoff) t 0) maxEnd) topicCount
+      let ends : every topicCount (λ t. leb (getD (p .backoff) t 0) (maxEnd clock)) ≡ true
+      = every-by (λ t. leb (getD (p .backoff) t 0) (maxEnd clock)) topicCount
       (λ t h. let l = leb-true (getD (p .backoff) t 0) 0 (every-at (λ k. leb (getD (p .backoff) k 0) 0) topicCount t (q .8) h) in
-      le-leb (getD (p .backoff) t 0) maxEnd (omega arith)) in
+      le-leb (getD (p .backoff) t 0) (maxEnd clock) (omega arith)) in
       rw (
         ends,
         q .8,
@@ -321,10 +321,11 @@ module _ (p : Peer) (none : p .status ≡ 0) where
         eqb-true (p .p5) 0 (q .5),
         eqb-true (p .p7) 0 (q .6),
         eqb-true (p .retain) 0 (q .7),
+        leb·zero (maxRetain clock),
       ) refl
 
-  pub zero-is : peerOk p ≡ zeroPeer p
-  zero-is = by-test (peerOk p ≡ zeroPeer p) (zeroPeer p) peer-all (λ e. peer-not e ∙ sym e)
+  pub zero-is : peerOk clock p ≡ zeroPeer p
+  zero-is = by-test (peerOk clock p ≡ zeroPeer p) (zeroPeer p) peer-all (λ e. peer-not e ∙ sym e)
 
 module _ (explicit joined clock cap2 cap3 : ℕ) (t : TopicRecord) where
   topic-not : zeroTopic t ≡ false → topicOk 0 explicit joined clock cap2 cap3 t ≡ false
@@ -369,13 +370,13 @@ module _ (st : State) (s : ℕ) where
   unfolding topicOkAt
   topic-told explicit t joined clock c2 c3 u r e ej ec e2 e3 eu = e ∙ rw (ej, ec, e2, e3, eu) refl
 
-  pub peer-fails : peerOk (peerIn st s) ≡ false → false ≡ slotOk st s
+  pub peer-fails : peerOk (st .clock) (peerIn st s) ≡ false → false ≡ slotOk st s
   unfolding slotOk
   peer-fails e = rw e refl
 
   pub topics-are :
       peerIn st s .status ≡ 1 →
-      peerOk (peerIn st s) ≡ true →
+      peerOk (st .clock) (peerIn st s) ≡ true →
       (b : Bool) →
       b ≡ every topicCount (topicOkAt st s 1 (peerIn st s .explicit)) →
       b ≡ slotOk st s
@@ -396,10 +397,10 @@ module _ (st : State) (s : ℕ) where
       ∙ every-same (zeroTopicAt st s) (topicOkAt st s 0 (p .explicit)) topicCount
       (λ t h. sym (zero-topic-is (p .explicit) (joinedIn st t) (st .clock) (cap2 st t) (cap3 st t) (topicIn st (place s t))))
       ∙ ap (λ (x : ℕ). every topicCount (topicOkAt st s x (p .explicit))) (sym none)
-      ∙ sym (rw (zero-is p none ∙ e) refl)
+      ∙ sym (rw (zero-is (st .clock) p none ∙ e) refl)
 
   pub zero-fails : peerIn st s .status ≡ 0 → zeroPeer (peerIn st s) ≡ false → false ≡ slotOk st s
-  zero-fails none e = peer-fails (zero-is (peerIn st s) none ∙ e)
+  zero-fails none e = peer-fails (zero-is (st .clock) (peerIn st s) none ∙ e)
 
 -- ---- the tables, the clock asked first
 module _ (st : State) where

@@ -24,7 +24,7 @@ use Rattle.validity.specs.Valid.{cap2, cap3, joinedOk, topicOkAt, slotOk
 use Rattle.validity.proofs.Conditions.{all4, all6, all8, all9, then, then-by, else, else-by}
 
 -- ---- a peer's record
-pub record PeerFacts (p : Peer) : Type 0 where
+pub record PeerFacts (clock : ℕ) (p : Peer) : Type 0 where
   pub status : p .status ≤ 2
   pub id : p .id ≤ maxId
   pub groups : risingOk (p .groups) ≡ true
@@ -33,8 +33,8 @@ pub record PeerFacts (p : Peer) : Type 0 where
   pub version : p .version ≤ 1
   pub p5 : p .p5 ≤ 2000000000
   pub p7 : p .p7 ≤ 1000000
-  pub retain : p .retain ≤ maxRetain
-  pub ends : (t : ℕ) → t < topicCount → getD (p .backoff) t 0 ≤ maxEnd
+  pub retain : p .retain ≤ maxRetain clock
+  pub ends : (t : ℕ) → t < topicCount → getD (p .backoff) t 0 ≤ maxEnd clock
   pub used : (p .status ≡ 0 → ⊥) → 1 ≤ p .id
   pub held : (p .status ≡ 0 → ⊥) → 1 ≤ p .groups .first
   pub empty : p .status ≡ 0 → zeroPeer p ≡ true
@@ -50,9 +50,9 @@ unfolding endsUpTo
 ends-by m p h =
     every-by (λ k. leb (getD (p .backoff) k 0) m) 8 (λ t b. le-leb (getD (p .backoff) t 0) m (h t b))
 
-pub peer-facts : (p : Peer) → peerOk p ≡ true → PeerFacts p
+pub peer-facts : (clock : ℕ) (p : Peer) → peerOk clock p ≡ true → PeerFacts clock p
 unfolding peerOk peerRanges usedOk emptyOk retainOk
-peer-facts p e =
+peer-facts clock p e =
     let q = all5 _ _ _ _ _ e in
     let r = all9 _ _ _ _ _ _ _ _ _ (q .0) in
     let has : (p .status ≡ 0 → ⊥) → (leb 1 (p .id) ≡ true) × (leb 1 (p .groups .first) ≡ true) =
@@ -67,17 +67,17 @@ peer-facts p e =
       version = leb-true (p .version) 1 (r .5);
       p5 = leb-true (p .p5) 2000000000 (r .6);
       p7 = leb-true (p .p7) 1000000 (r .7);
-      retain = leb-true (p .retain) maxRetain (r .8);
-      ends = ends-at maxEnd p (q .1);
+      retain = leb-true (p .retain) (maxRetain clock) (r .8);
+      ends = ends-at (maxEnd clock) p (q .1);
       used = λ n. leb-true 1 (p .id) (has n .0);
       held = λ n. leb-true 1 (p .groups .first) (has n .1);
       empty = λ h. then (isEmpty p) (zeroPeer p) (q .3) (eq-eqb (p .status) 0 h);
       over = λ n. eqb-true (p .retain) 0 (else (isRetained p) (eqb (p .retain) 0) (q .4) (ne-eqb (p .status) 2 n));
     }
 
-pub peer-holds : (p : Peer) → PeerFacts p → peerOk p ≡ true
+pub peer-holds : (clock : ℕ) (p : Peer) → PeerFacts clock p → peerOk clock p ≡ true
 unfolding peerOk peerRanges usedOk emptyOk retainOk
-peer-holds p f =
+peer-holds clock p f =
     let b : usedOk p ≡ true =
     else-by (isEmpty p) (leb 1 (p .id) && leb 1 (p .groups .first)) (λ n.
     let u = eqb-false (p .status) 0 n in
@@ -94,8 +94,8 @@ peer-holds p f =
       le-leb (p .version) 1 (f .version),
       le-leb (p .p5) 2000000000 (f .p5),
       le-leb (p .p7) 1000000 (f .p7),
-      le-leb (p .retain) maxRetain (f .retain),
-      ends-by maxEnd p (f .ends),
+      le-leb (p .retain) (maxRetain clock) (f .retain),
+      ends-by (maxEnd clock) p (f .ends),
       b,
       d,
       g,
@@ -149,9 +149,9 @@ zero-is p e s l =
       backoff = b i;
     }
 
-pub no-peer : PeerFacts noPeer
+pub no-peer : (clock : ℕ) → PeerFacts clock noPeer
 unfolding zeroPeer zeroGroups risingOk endsUpTo every
-no-peer =
+no-peer clock =
     record {
       status = omega arith;
       id = omega arith;
@@ -162,7 +162,7 @@ no-peer =
       p5 = omega arith;
       p7 = omega arith;
       retain = omega arith;
-      ends = ends-at maxEnd noPeer refl;
+      ends = λ t h. let a = ends-at 0 noPeer refl t h in omega arith;
       used = λ n. absurd (n refl);
       held = λ n. absurd (n refl);
       empty = λ h. refl;
@@ -302,7 +302,7 @@ pub record Facts (st : State) : Type 0 where
   pub params : Accepts (st .setup .edition) (st .codes)
   pub clock : st .clock ≤ maxTime
   pub joined : (t : ℕ) → t < topicCount → joinedIn st t ≤ 1
-  pub peer : (s : ℕ) → s < slotCount → PeerFacts (peerIn st s)
+  pub peer : (s : ℕ) → s < slotCount → PeerFacts (st .clock) (peerIn st s)
   pub topic : (s t : ℕ) → s < slotCount → t < topicCount → FitsAt st s (peerIn st s .status) (peerIn st s .explicit) t
   pub ids : (s k : ℕ) → s < slotCount → k < s → peerIn st k .id ≡ peerIn st s .id → peerIn st s .id ≡ 0
 
@@ -331,15 +331,15 @@ valid-facts st e =
     let slot :
     (s : ℕ) →
     s < slotCount →
-    (peerOk (peerIn st s) ≡ true)
+    (peerOk (st .clock) (peerIn st s) ≡ true)
     × (every topicCount (topicOkAt st s (peerIn st s .status) (peerIn st s .explicit)) ≡ true) =
-    λ s h. both (peerOk (peerIn st s)) (every topicCount (topicOkAt st s (peerIn st s .status) (peerIn st s .explicit)))
+    λ s h. both (peerOk (st .clock) (peerIn st s)) (every topicCount (topicOkAt st s (peerIn st s .status) (peerIn st s .explicit)))
     (every-at (slotOk st) slotCount s (q .3) h) in
     record {
       params = record { passes = q .0 };
       clock = leb-true (st .clock) maxTime (q .1);
       joined = λ t h. leb-true (joinedIn st t) 1 (every-at (joinedOk st) 8 t (q .2) h);
-      peer = λ s h. peer-facts (peerIn st s) (slot s h .0);
+      peer = λ s h. peer-facts (st .clock) (peerIn st s) (slot s h .0);
       topic = λ s t h k.
           topic-facts (peerIn st s .status) (peerIn st s .explicit) (joinedIn st t) (st .clock) (cap2 st t) (cap3 st t)
           (topicIn st (place s t))
@@ -358,7 +358,7 @@ facts-valid st f =
     topic-holds (peerIn st s .status) (peerIn st s .explicit) (joinedIn st t) (st .clock) (cap2 st t) (cap3 st t) (topicIn st (place s t))
     (f .topic s t h k)) in
     let p : every slotCount (slotOk st) ≡ true =
-    every-by (slotOk st) slotCount (λ s h. rw (peer-holds (peerIn st s) (f .peer s h), topics s h)) in
+    every-by (slotOk st) slotCount (λ s h. rw (peer-holds (st .clock) (peerIn st s) (f .peer s h), topics s h)) in
     let i : every slotCount (newId st) ≡ true =
     every-by (newId st) slotCount (λ s h.
     every-by (λ j. apart (peerIn st s .id) (peerIn st j .id)) s (λ k l. apart-by (peerIn st s .id) (peerIn st k .id) (f .ids s k h l))) in

@@ -31,7 +31,7 @@ smallOk t = leb (t .p4) 1000000 && leb (t .p3b) 1000000000000 && leb (t .subscri
 
 -- of a slot: its backoff ends, and its record for every topic
 pub record Small (st : State) (s : ℕ) : Type 0 where
-  pub ends : endsUpTo maxEnd (peerIn st s) ≡ true
+  pub ends : endsUpTo (maxEnd (st .clock)) (peerIn st s) ≡ true
   pub topics : (t : ℕ) → t < topicCount → smallOk (topicIn st (place s t)) ≡ true
 
 -- topic t of an empty slot

@@ -17,12 +17,13 @@ use Rattle.records.specs.Parameters.{p2CapAt, p3CapAt}
 abbrev pub maxTime : ℕ
 maxTime = 1099511627776
 
--- "backoff ends to 2^40 + 3,600,000, retain ends to 2^40 + 86,400,000"
-abbrev pub maxEnd : ℕ
-maxEnd = 1099515227776
+-- 02, order 8: "remaining retain times go to 86,400,000, backoffs to 3,600,000, in test 12 too, from the clock". 01's "backoff ends to 2^40 +
+-- 3,600,000, retain ends to 2^40 + 86,400,000" follow, since the clock is at most 2^40
+abbrev pub maxEnd : ℕ → ℕ
+maxEnd clock = clock + 3600000
 
-abbrev pub maxRetain : ℕ
-maxRetain = 1099598027776
+abbrev pub maxRetain : ℕ → ℕ
+maxRetain clock = clock + 86400000
 
 -- "Peer ids are 1 to 4,294,967,295"
 abbrev pub maxId : ℕ
@@ -45,8 +46,8 @@ risingOk g =
     && follows (g .third) (g .fourth)
 
 -- "every number is in its range": P5 is the code of a number up to 10^9 either way, so at most 2 * 10^9; "P4 and P7 stop at 10^6"
-unfoldable pub peerRanges : Peer → Bool
-peerRanges p =
+unfoldable pub peerRanges : (clock : ℕ) → Peer → Bool
+peerRanges clock p =
     leb (p .status) 2
     && leb (p .id) maxId
     && risingOk (p .groups)
@@ -55,7 +56,7 @@ peerRanges p =
     && leb (p .version) 1
     && leb (p .p5) 2000000000
     && leb (p .p7) 1000000
-    && leb (p .retain) maxRetain
+    && leb (p .retain) (maxRetain clock)
 
 -- each backoff end is at most m
 unfoldable pub endsUpTo : ℕ → Peer → Bool
@@ -88,8 +89,8 @@ emptyOk p = not (isEmpty p) || zeroPeer p
 unfoldable pub retainOk : Peer → Bool
 retainOk p = isRetained p || eqb (p .retain) 0
 
-unfoldable pub peerOk : Peer → Bool
-peerOk p = peerRanges p && endsUpTo maxEnd p && usedOk p && emptyOk p && retainOk p
+unfoldable pub peerOk : (clock : ℕ) → Peer → Bool
+peerOk clock p = peerRanges clock p && endsUpTo (maxEnd clock) p && usedOk p && emptyOk p && retainOk p
 
 -- ---- what a record holds for one topic, by the status and the explicit flag of its peer, the topic's joined flag, the clock, and the caps
 -- "P2, P3 counters to their caps"; "P4 and P7 stop at 10^6, P3b at 10^12"
@@ -168,7 +169,7 @@ topicOkAt st s status explicit t =
 
 unfoldable pub slotOk : State → ℕ → Bool
 slotOk st s =
-    peerOk (peerIn st s) && every topicCount (topicOkAt st s (peerIn st s .status) (peerIn st s .explicit))
+    peerOk (st .clock) (peerIn st s) && every topicCount (topicOkAt st s (peerIn st s .status) (peerIn st s .explicit))
 
 -- "no id stands twice"; ids start at 1, so 0 is none
 unfoldable pub apart : ℕ → ℕ → Bool

@@ -23,12 +23,13 @@ use records::TOPICS;
 use records::TopicRecord;
 use records::param;
 
-// The greatest time, backoff end, retain end, id, and group, which a record holds as the group + 1.
+// The greatest time; how far from the clock a backoff and a retain period end at most; the greatest id, and group, which a record holds as
+// the group + 1.
 pub const MAX_TIME: u64 = 1099511627776;
 
-pub const MAX_END: u64 = 1099515227776;
+pub const MAX_BACKOFF: u64 = 3600000;
 
-pub const MAX_RETAIN: u64 = 1099598027776;
+pub const MAX_RETAIN: u64 = 86400000;
 
 pub const MAX_ID: u64 = 4294967295;
 
@@ -60,9 +61,11 @@ fn zero_groups(g: Groups) -> bool
 }
 
 // Whether each number of a peer's record is in its range, but for the backoff ends.
-fn peer_ranges(p: Peer) -> bool
-    ensures { λ r. ⌜ r ≡ peerRanges p ⌝ }
+fn peer_ranges(clock: u64, p: Peer) -> bool
+    requires { ⌜ clock ≤ maxTime ⌝ }
+    ensures { λ r. ⌜ r ≡ peerRanges clock p ⌝ }
 {
+    let most = clock + MAX_RETAIN;
     let rising = rising_ok(p.groups);
     (p.status <= 2)
         & (p.id <= MAX_ID)
@@ -72,7 +75,7 @@ fn peer_ranges(p: Peer) -> bool
         & (p.version <= 1)
         & (p.p5 <= 2000000000)
         & (p.p7 <= 1000000)
-        & (p.retain <= MAX_RETAIN)
+        & (p.retain <= most)
 }
 
 // Whether each backoff end is at most m.
@@ -107,23 +110,24 @@ fn zero_peer(p: Peer) -> bool
         & ends
 }
 
-// A connected peer's record, its backoff ends apart.
-fn connected_ok(p: Peer) -> bool
-    requires { ⌜ (p .status ≡ 1) × (endsUpTo maxEnd p ≡ true) ⌝ }
-    ensures { λ r. ⌜ r ≡ peerOk p ⌝ }
+// The same by value.
+fn connected_ok(clock: u64, p: Peer) -> bool
+    requires { ⌜ (clock ≤ maxTime) × ((p .status ≡ 1) × (endsUpTo (maxEnd clock) p ≡ true)) ⌝ }
+    ensures { λ r. ⌜ r ≡ peerOk clock p ⌝ }
 {
     if !((1 <= p.id) & (1 <= p.groups.first) & (p.retain == 0)) {
         return false;
     }
-    peer_ranges(p)
+    peer_ranges(clock, p)
 }
 
 // Any record.
-pub fn peer_ok(p: Peer) -> bool
-    ensures { λ r. ⌜ r ≡ peerOk p ⌝ }
+pub fn peer_ok(clock: u64, p: Peer) -> bool
+    requires { ⌜ clock ≤ maxTime ⌝ }
+    ensures { λ r. ⌜ r ≡ peerOk clock p ⌝ }
 {
-    let ranges = peer_ranges(p);
-    let ends = ends_up_to(MAX_END, p);
+    let ranges = peer_ranges(clock, p);
+    let ends = ends_up_to(clock + MAX_BACKOFF, p);
     let zeros = zero_peer(p);
     ranges
         & ends
@@ -301,15 +305,24 @@ pub fn caps(table: &[u64], j: usize) -> [u64; TOPICS]
     r
 }
 
-// Whether the backoff ends, the counters of P4 and P3b and the subscribed flags of a slot are surely in their ranges. No number is above
-// the union of its bits with others', and that is nearly always small enough, so that one test does for eight numbers.
+// Whether each backoff end of a slot is near the clock.
+fn ends_near(table: &[u64], slot: usize) -> bool
+    requires { ⌜ (length (now table) ≡ cellCount) × ((slot < slotCount) × (stateOf (now table) .clock ≤ maxTime)) ⌝ }
+    ensures { λ r. ⌜ r ≡ endsUpTo (maxEnd (stateOf (now (table .entry)) .clock)) (peerIn (stateOf (now (table .entry))) slot) ⌝ }
+{
+    let clock = layout::load_clock(table);
+    let p = layout::load_peer(table, slot);
+    ends_up_to(clock + MAX_BACKOFF, p)
+}
+
+// Whether the backoff ends, the counters of P4 and P3b and the subscribed flags of a slot are surely in their ranges. No counter is above
+// the union of its bits with others', and that is nearly always small enough, so that one test does for eight. The ends are asked one by
+// one: the union of times on either side of a power of two is far from the clock.
 fn is_small(table: &[u64], slot: usize) -> bool
-    requires { ⌜ (length (now table) ≡ cellCount) × (slot < slotCount) ⌝ }
+    requires { ⌜ (length (now table) ≡ cellCount) × ((slot < slotCount) × (stateOf (now table) .clock ≤ maxTime)) ⌝ }
     ensures { λ r. ⌜ (r ≡ true → Small (stateOf (now (table .entry))) slot) ⌝ }
 {
-    let p = layout::load_peer(table, slot);
-    let b = p.backoff;
-    if MAX_END < (b[0] | b[1] | b[2] | b[3] | b[4] | b[5] | b[6] | b[7]) {
+    if !ends_near(table, slot) {
         return false;
     }
     let mut p4: u64 = 0;
@@ -354,13 +367,28 @@ fn small_topics(
 
 // Any slot.
 fn other_slot(table: &[u64], slot: usize) -> bool
-    requires { ⌜ (length (now table) ≡ cellCount) × (slot < slotCount) ⌝ }
+    requires { ⌜ (length (now table) ≡ cellCount) × ((slot < slotCount) × (stateOf (now table) .clock ≤ maxTime)) ⌝ }
     ensures { λ r. ⌜ r ≡ slotOk (stateOf (now (table .entry))) slot ⌝ }
 {
+    let clock = layout::load_clock(table);
     let p = layout::load_peer(table, slot);
-    let peer = peer_ok(p);
+    let peer = peer_ok(clock, p);
     let topics = topics_ok(table, slot, p.status, p.explicit);
     peer & topics
+}
+
+// A connected peer's record, where its backoff ends are known to be near the clock.
+fn connected_at(table: &[u64], slot: usize) -> bool
+    requires { ⌜ (length (now table) ≡ cellCount)
+        × ((slot < slotCount)
+        × ((stateOf (now table) .clock ≤ maxTime)
+        × ((peerIn (stateOf (now table)) slot .status ≡ 1)
+        × (endsUpTo (maxEnd (stateOf (now table) .clock)) (peerIn (stateOf (now table)) slot) ≡ true)))) ⌝ }
+    ensures { λ r. ⌜ r ≡ peerOk (stateOf (now (table .entry)) .clock) (peerIn (stateOf (now (table .entry))) slot) ⌝ }
+{
+    let clock = layout::load_clock(table);
+    let p = layout::load_peer(table, slot);
+    connected_ok(clock, p)
 }
 
 fn connected_slot(table: &[u64], caps2: &[u64; TOPICS], caps3: &[u64; TOPICS], slot: usize) -> bool
@@ -373,10 +401,10 @@ fn connected_slot(table: &[u64], caps2: &[u64; TOPICS], caps3: &[u64; TOPICS], s
     if !is_small(table, slot) {
         return other_slot(table, slot);
     }
-    let p = layout::load_peer(table, slot);
-    if !connected_ok(p) {
+    if !connected_at(table, slot) {
         return false;
     }
+    let p = layout::load_peer(table, slot);
     small_topics(table, caps2, caps3, slot, p.explicit)
 }
 

@@ -10,12 +10,12 @@ returns-2 : tie.Need-returns-2
 returns-2 c =
     let i = c .before in
     let s = i .before .before .before .before in
-    ranges-are _ (s .pre .0) (passed refl (i .if1 .left)) (s .pre .1) _ (c .peer-ranges .ensures)
+    ranges-are _ _ (s .pre .1 .0) (passed refl (i .if1 .left)) (s .pre .1 .1) _ (c .peer-ranges .ensures)
 
 pub connected-ok-spec : {M : Type 1} → statement M
 connected-ok-spec =
     tie.close
     (tie.spec
-    (λ c. id-fails _ (c .before .before .before .before .pre .0) (failed refl (c .if1 .taken)))
+    (λ c. id-fails _ _ (c .before .before .before .before .pre .1 .0) (failed refl (c .if1 .taken)))
     (λ c κs. search needs)
     returns-2)

@@ -6,7 +6,7 @@ use Rattle.index.proofs.Flags.{failed, passed}
 use Rattle.records.specs.declared.Peer.{Peer}
 use Rattle.records.specs.Records.{topicCount}
 use Rattle.layout.specs.View.{stateOf}
-use Rattle.validity.specs.Valid.{maxEnd, endsUpTo, peerOk, topicOkAt}
+use Rattle.validity.specs.Valid.{topicOkAt}
 use Rattle.validity.specs.Order.{Small}
 use Rattle.validity.proofs.OrderLaws.{peer-fails, topics-are}
 use Rattle.validity.proofs.valid.connected_slot.Statement.{statement}
@@ -15,16 +15,10 @@ use Rattle.validity.proofs.valid.connected_slot.Tie as tie
 small : (c : tie.Else1) → let a = c .before .before .before .args in Small (stateOf (a .table .now)) (a .slot)
 small c = c .before .is-small .ensures (passed refl (c .if1 .left))
 
-connected-ok-requires : tie.Need-connected-ok-requires
-connected-ok-requires c κs =
-    let e = c .load-peer .ensures .0 in (
-      ap (λ (p : Peer). p .status) e ∙ c .before .before .before .before .pre .1 .1 .1 .1,
-      ap (endsUpTo maxEnd) e ∙ small (c .before) .ends,
-    )
-
-returns-2 : tie.Need-returns-2
-returns-2 c =
-    peer-fails _ _ (failed (c .before .connected-ok .ensures ∙ ap peerOk (c .before .before .load-peer .ensures .0)) (c .if2 .taken))
+connected-at-requires : tie.Need-connected-at-requires
+connected-at-requires c κs =
+    let p = c .before .before .before .pre in
+    (p .0, (p .1 .0, (p .1 .1 .1 .0, (p .1 .1 .1 .1, small c .ends))))
 
 small-topics-requires : tie.Need-small-topics-requires
 small-topics-requires c κs =
@@ -34,10 +28,10 @@ small-topics-requires c κs =
 
 returns-3 : tie.Need-returns-3
 returns-3 c =
-    let j = c .before in
-    let l = j .before .before in
-    let s = l .before .before .before .before in
-    topics-are _ _ (s .pre .1 .1 .1 .1) (passed (j .before .connected-ok .ensures ∙ ap peerOk (l .load-peer .ensures .0)) (j .if2 .left)) _
+    let l = c .before in
+    let j = l .before in
+    let s = j .before .before .before .before .before in
+    topics-are _ _ (s .pre .1 .1 .1 .1) (passed (j .before .connected-at .ensures) (j .if2 .left)) _
     (c .small-topics .ensures
     ∙ ap (λ (p : Peer). every topicCount (topicOkAt (stateOf (s .args .table .now)) (s .args .slot) 1 (p .explicit)))
     (l .load-peer .ensures .0))
@@ -49,8 +43,8 @@ connected-slot-spec =
     (λ c κs. search needs)
     (λ c κs. search needs)
     (λ c. search needs)
+    connected-at-requires
+    (λ c. peer-fails _ _ (failed (c .before .connected-at .ensures) (c .if2 .taken)))
     (λ c κs. search needs)
-    connected-ok-requires
-    returns-2
     small-topics-requires
     returns-3)

@@ -1,14 +1,12 @@
 -- `validity::valid::is_small`: the backoff ends; then, after t turns, the unions have the bits of the topics below t. Assumes nothing.
 use Prim.Native.Nat.{ℕ, _≤_, _-_}
-use mathlib.Core.Path.{_≡_, ap, subst}
+use mathlib.Core.Path.{_≡_, refl, ap}
 use native.Mathlib.Omega.{arith}
 use borrow.Author.Needs.{needs}
-use lib.ListN.{getD}
-use Rattle.records.specs.declared.Peer.{Peer}
+use Rattle.index.proofs.Flags.{passed}
 use Rattle.records.specs.declared.TopicRecord.{TopicRecord}
-use Rattle.records.specs.Records.{topicCount, place, peerIn, topicIn}
+use Rattle.records.specs.Records.{topicCount, place, topicIn}
 use Rattle.layout.specs.View.{stateOf}
-use Rattle.validity.specs.Valid.{maxEnd}
 use Rattle.validity.proofs.OrderLaws.{union, union-none, union-more, small-all}
 use Rattle.validity.proofs.valid.is_small.Statement.{statement}
 use Rattle.validity.proofs.valid.is_small.Tie as tie
@@ -33,18 +31,12 @@ loop-again c =
       union-more _ _ _ _ (l .inv .3) (ap (λ (r : TopicRecord). r .subscribed) e),
     )
 
--- the backoff ends of the record that was loaded
-ends :
-    (c : tie.Else1 Inv-loop μ-loop) →
-    let s = c .before .before .before .before in
-    union (λ t. getD (peerIn (stateOf (s .args .table .now)) (s .args .slot) .backoff) t 0) 8 ≤ maxEnd
-unfolding union
-ends c = subst (λ (q : Peer). union (λ t. getD (q .backoff) t 0) 8 ≤ maxEnd) (c .before .before .load-peer .ensures .0) (c .if1 .left)
-
 returns-2 : tie.Need-returns-2 Inv-loop μ-loop
 returns-2 c e =
     let l = c .before .loop in
-    small-all _ _ _ _ _ _ (omega arith) (omega arith) (ends (c .before .before)) (l .inv .1) (l .inv .2) (l .inv .3) e
+    let i = c .before .before in
+    small-all _ _ _ _ _ _ (omega arith) (omega arith) (passed (i .before .ends-near .ensures) (i .if1 .left))
+    (l .inv .1) (l .inv .2) (l .inv .3) e
 
 pub is-small-spec : {M : Type 1} → statement M
 is-small-spec =
@@ -53,14 +45,6 @@ is-small-spec =
     Inv-loop
     μ-loop
     (λ c κs. search needs)
-    (λ c. search needs)
-    (λ c. search needs)
-    (λ c. search needs)
-    (λ c. search needs)
-    (λ c. search needs)
-    (λ c. search needs)
-    (λ c. search needs)
-    (λ c. search needs)
     (λ c e. let z : _≡_ {A = ℕ} 0 1 = cc in absurd (omega arith))
     (λ c. (omega arith, union-none _, union-none _, union-none _))
     (λ c. search needs)

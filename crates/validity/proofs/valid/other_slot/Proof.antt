@@ -1,3 +1,4 @@
+use native.Mathlib.Omega.{arith}
 use borrow.Author.Needs.{needs}
 use Rattle.validity.specs.Valid.{slotOk}
 use Rattle.validity.proofs.valid.other_slot.Statement.{statement}
@@ -10,5 +11,6 @@ other-slot-spec =
     (tie.spec
     (λ c κs. search needs)
     (λ c κs. search needs)
+    (λ c κs. omega (arith, c .before .load-clock .ensures, c .before .before .before .pre .1 .1))
     (λ c κs. search needs)
     (λ c. cc))

@@ -1,4 +1,5 @@
 use borrow.Author.Needs.{needs}
+use borrow.Author.Needs.{needs}
 use Rattle.validity.specs.Valid.{peerRanges}
 use Rattle.validity.proofs.valid.peer_ranges.Statement.{statement}
 use Rattle.validity.proofs.valid.peer_ranges.Tie as tie
@@ -8,5 +9,6 @@ unfolding peerRanges
 peer-ranges-spec =
     tie.close
     (tie.spec
+    (λ c. search needs)
     (λ c κs. search needs)
     (λ c. cc))

@@ -1,0 +1,6 @@
+pub mod SkimLaws
+pub mod JudgeLaws
+pub mod StoreLaws
+pub mod LoadLaws
+pub mod RangeLaws
+pub mod CheckLaws

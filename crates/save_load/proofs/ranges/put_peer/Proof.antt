@@ -1,0 +1,20 @@
+-- `save_load::ranges::put_peer` meets its contract. Assumes nothing.
+use Prim.{tt}
+use Prim.Native.Nat.{ℕ, _+_, _*_, _-_, _≤_, _<_}
+use mathlib.Core.Path.{_≡_, refl, sym, ap, _∙_}
+use native.Mathlib.Omega.{arith}
+use borrow.Author.Needs.{needs}
+use lib.ListN.{length, getD, take, length-set}
+use Rattle.save_load.proofs.ranges.put_peer.Statement.{statement}
+use Rattle.save_load.proofs.ranges.put_peer.Tie as tie
+
+pub put-peer-spec : {M : Type 1} → statement M
+put-peer-spec =
+    tie.close
+    (tie.spec
+    (λ c. omega arith)
+    (λ c. simp length-set (omega arith))
+    (λ c. simp length-set (omega arith))
+    (λ c. simp length-set (omega arith))
+    (λ c. simp length-set)
+    (λ c. refl))

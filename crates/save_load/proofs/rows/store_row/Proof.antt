@@ -1,0 +1,33 @@
+-- `save_load::rows::store_row`: the topics, then the peer. Assumes nothing.
+use Prim.{tt}
+use Prim.Native.Nat.{ℕ, _+_, _*_, _-_, _≤_, _<_}
+use mathlib.Core.Path.{_≡_, refl, sym, ap, _∙_}
+use native.Mathlib.Omega.{arith}
+use borrow.Author.Needs.{needs}
+use lib.ListN.{length, getD, take, length-set}
+use Rattle.records.specs.Records.{State, setPeer}
+use Rattle.layout.specs.View.{stateOf}
+use Rattle.saves.specs.Load.{loadedPeer}
+use Rattle.save_load.specs.Store.{stored}
+use Rattle.save_load.proofs.rows.store_row.Statement.{statement}
+use Rattle.save_load.proofs.rows.store_row.Tie as tie
+
+returns : tie.Need-returns
+unfolding stored
+returns c =
+    let a = c .before .before .before .before .before .before .before .before .before .before .before .args in
+    c .before .before .store-peer .ensures
+    ∙ ap (setPeer _ (a .slot)) (c .before .before .before .loaded-peer .ensures)
+    ∙ ap (λ (v : State). setPeer v (a .slot) (loadedPeer (a .clock) (a .row .now)))
+    (c .before .before .before .before .before .before .before .store-topics .ensures)
+
+pub store-row-spec : {M : Type 1} → statement M
+store-row-spec =
+    tie.close
+    (tie.spec
+    (λ c κs. let s = c .before .before .before in (s .pre .0, (s .pre .1 .0, s .pre .1 .1 .1)))
+    (λ c κs. let s = c .before .before .before .before .before .before .before in (s .pre .1 .1 .0, s .pre .1 .1 .1))
+    (λ c κs. let s = c .before .before .before .before .before .before .before .before in
+    (c .before .before .before .before .store-topics .kept .0 ∙ s .pre .0, s .pre .1 .0))
+    (λ c. c .before .before .store-peer .kept .0 ∙ c .before .before .before .before .before .before .before .store-topics .kept .0)
+    returns)

@@ -1,0 +1,4 @@
+pub mod Skim
+pub mod Judge
+pub mod Store
+pub mod Checked

@@ -1,0 +1,5 @@
+pub mod SortLaws
+pub mod KeyLaws
+pub mod WriteLaws
+pub mod FillLaws
+pub mod SaveLaws

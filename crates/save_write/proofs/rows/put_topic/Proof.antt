@@ -1,0 +1,31 @@
+-- `save_write::rows::put_topic`: five numbers one after the other. Assumes nothing.
+use Prim.{tt}
+use Prim.Native.Nat.{ℕ, _+_, _*_, _-_, _≤_, _<_}
+use mathlib.Core.Path.{_≡_, refl, sym, ap, _∙_}
+use native.Mathlib.Omega.{arith}
+use borrow.Author.Needs.{needs}
+use lib.ListN.{length, getD, take, length-set}
+use Rattle.save_write.proofs.FillLaws.{topic-is}
+use Rattle.save_write.proofs.rows.put_topic.Statement.{statement}
+use Rattle.save_write.proofs.rows.put_topic.Tie as tie
+
+pub put-topic-spec : {M : Type 1} → statement M
+put-topic-spec =
+    tie.close
+    (tie.spec
+    (λ c. omega arith)
+    (λ c. omega arith)
+    (λ c. omega arith)
+    (λ c. omega arith)
+    (λ c. simp length-set (omega arith))
+    (λ c. omega arith)
+    (λ c. omega arith)
+    (λ c. simp length-set (omega arith))
+    (λ c. omega arith)
+    (λ c. omega arith)
+    (λ c. simp length-set (omega arith))
+    (λ c. omega arith)
+    (λ c. omega arith)
+    (λ c. simp length-set (omega arith))
+    (λ c. simp length-set)
+    (λ c. topic-is _ _ _ _))

@@ -1,0 +1,13 @@
+pub mod Lists
+pub mod Parsing
+pub mod Ordering
+pub mod Rows
+pub mod SaveLoads
+pub mod LoadedState
+pub mod Opened
+pub mod LoadSaves
+pub mod LoadedRouter
+pub mod Sheets
+pub mod Remembering
+pub mod Promised
+pub mod Examples

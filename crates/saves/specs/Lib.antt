@@ -1,0 +1,5 @@
+pub mod Save
+pub mod Rising
+pub mod Load
+pub mod Promises
+pub mod Examples
