@@ -57,8 +57,9 @@ fn slot_ok(rows: &[u64], slot: usize) -> bool
     requires { ⌜ (length (now rows) ≡ rowsCount) × (slot < slotCount) ⌝ }
     ensures { λ r. ⌜ r ≡ slotOk (stateOfRows (now (rows .entry))) slot ⌝ }
 {
+    let clock = rows::load_clock(rows);
     let p = rows::load_peer(rows, slot);
-    let peer = peer_ok(p);
+    let peer = peer_ok(clock, p);
     let topics = topics_ok(rows, slot, p.status, p.explicit);
     peer & topics
 }

@@ -12,8 +12,8 @@ use Rattle.layout.specs.View.{TopicFits, PeerFits}
 use Rattle.validity.specs.Valid.{topicParam, cap2, cap3, valid}
 use Rattle.validity.proofs.ValidLaws.{PeerFacts, TopicFacts, Facts, valid-facts}
 
-pub peer-facts-fit : (p : Peer) → PeerFacts p → PeerFits p
-peer-facts-fit p f =
+pub peer-facts-fit : (clock : ℕ) (p : Peer) → PeerFacts clock p → PeerFits p
+peer-facts-fit clock p f =
     record {
       status = let a = f .status in omega arith;
       outbound = f .outbound;
@@ -45,7 +45,7 @@ module _ (st : State) (ok : valid st ≡ true) where
   facts = valid-facts st ok
 
   pub peer-fits : (s : ℕ) → s < slotCount → PeerFits (peerIn st s)
-  peer-fits s h = peer-facts-fit (peerIn st s) (facts .peer s h)
+  peer-fits s h = peer-facts-fit (st .clock) (peerIn st s) (facts .peer s h)
 
   cap2-most : (t : ℕ) → t < topicCount → cap2 st t ≤ 1000000
   unfolding topicParam codeIn

@@ -65,8 +65,8 @@ module _ (c : List ℕ) (n : ℕ) (low : n ≤ slotCount) (w : WordsRight (state
   pub up-to : length c ≡ cellCount → FlagsFrom st n → UpTo c n
   up-to e f = record { size = e; low = low; empty = rest-empty f }
 
-  module _ (clock : st .clock ≤ maxTime) (q : ColumnsRight st n maxEnd) (p : SlotsRight st n maxRetain) where
-    peer-right : (s : ℕ) → s < n → (peerIn st s .status ≡ 0 → ⊥) → PeerFacts (peerIn st s)
+  module _ (clock : st .clock ≤ maxTime) (q : ColumnsRight st n (maxEnd (st .clock))) (p : SlotsRight st n (maxRetain (st .clock))) where
+    peer-right : (s : ℕ) → s < n → (peerIn st s .status ≡ 0 → ⊥) → PeerFacts (st .clock) (peerIn st s)
     peer-right s l u =
         let h : s < slotCount = omega arith in
         record {
@@ -133,7 +133,7 @@ module _ (c : List ℕ) (n : ℕ) (low : n ≤ slotCount) (w : WordsRight (state
         (λ e.
         let u = eqb-false (peerIn st s .status) 0 e in
         rw (
-          peer-holds (peerIn st s) (peer-right s l u),
+          peer-holds (st .clock) (peerIn st s) (peer-right s l u),
           every-by (topicOkAt st s (peerIn st s .status) (peerIn st s .explicit)) topicCount (λ t k.
               topic-holds (peerIn st s .status) (peerIn st s .explicit) (joinedIn st t) (st .clock) (cap2 st t) (cap3 st t)
               (topicIn st (place s t)) (topic-right s t l k u)),
@@ -141,6 +141,13 @@ module _ (c : List ℕ) (n : ℕ) (low : n ≤ slotCount) (w : WordsRight (state
 
     pub slots-told : FlagsFrom st n → every slotCount (slotOk st) ≡ true
     slots-told f = slots-rest st n low (rest-empty f) (every-by (slotOk st) n slot-right)
+
+-- the limits from the clock that was loaded
+pub ends-near : (st : State) (n k : ℕ) → k ≡ st .clock → ColumnsRight st n (k + 3600000) → ColumnsRight st n (maxEnd (st .clock))
+ends-near st n k e q = subst (λ (x : ℕ). ColumnsRight st n (x + 3600000)) e q
+
+pub retains-near : (st : State) (n k : ℕ) → k ≡ st .clock → SlotsRight st n (k + 86400000) → SlotsRight st n (maxRetain (st .clock))
+retains-near st n k e p = subst (λ (x : ℕ). SlotsRight st n (x + 86400000)) e p
 
 pub words-told :
     (st : State) (n clock : ℕ) →

@@ -14,8 +14,8 @@ use Rattle.validity.specs.Valid.{peerOk, topicOk, topicOkAt, slotOk, apa
 use Rattle.validity.proofs.ValidLaws.{no-peer, no-topic, peer-holds, topic-holds}
 
 module _ (st : State) (n : ℕ) (low : n ≤ slotCount) (e : EmptyFrom st n) where
-  peer-right : (s : ℕ) → n ≤ s → s < slotCount → peerOk (peerIn st s) ≡ true
-  peer-right s l h = ap peerOk (e .peer s l h) ∙ peer-holds noPeer no-peer
+  peer-right : (s : ℕ) → n ≤ s → s < slotCount → peerOk (st .clock) (peerIn st s) ≡ true
+  peer-right s l h = ap (peerOk (st .clock)) (e .peer s l h) ∙ peer-holds (st .clock) noPeer (no-peer (st .clock))
 
   topic-right : (s t : ℕ) (status explicit : ℕ) → n ≤ s → s < slotCount → t < topicCount → topicOkAt st s status explicit t ≡ true
   unfolding topicOkAt

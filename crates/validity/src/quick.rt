@@ -9,11 +9,11 @@ ghost use Rattle.records.specs.Records.{slotCount};
 ghost use Rattle.layout.specs.View.{stateOf, cellCount};
 ghost use Rattle.columns.specs.Within.{InUse};
 ghost use Rattle.validity.specs.Order.{UpTo};
-ghost use Rattle.validity.specs.Valid.{slotOk, newId};
+ghost use Rattle.validity.specs.Valid.{maxTime, slotOk, newId};
 ghost use Rattle.validity.specs.Looks.{WordsRight, ColumnsRight, RecordsRight};
 use crate::ids::ids_distinct;
 use crate::slots::slots_right;
-use crate::valid::MAX_END;
+use crate::valid::MAX_BACKOFF;
 use crate::valid::MAX_GROUP;
 use crate::valid::MAX_ID;
 use crate::valid::MAX_RETAIN;
@@ -53,9 +53,10 @@ fn columns_right(table: &[u64], n: usize, m: u64) -> bool
 
 // Whether every record is surely a router's, and no id stands twice.
 pub fn records_right(table: &[u64]) -> bool
-    requires { ⌜ length (now table) ≡ cellCount ⌝ }
+    requires { ⌜ (length (now table) ≡ cellCount) × (stateOf (now table) .clock ≤ maxTime) ⌝ }
     ensures { λ r. ⌜ (r ≡ true → RecordsRight (stateOf (now (table .entry)))) ⌝ }
 {
+    let clock = layout::load_clock(table);
     let used = layout::load_used(table);
     if (SLOTS as u64) < used {
         return false;
@@ -63,10 +64,10 @@ pub fn records_right(table: &[u64]) -> bool
     if !words_right(table, used) {
         return false;
     }
-    if !columns_right(table, used as usize, MAX_END) {
+    if !columns_right(table, used as usize, clock + MAX_BACKOFF) {
         return false;
     }
-    if !slots_right(table, used as usize, MAX_RETAIN) {
+    if !slots_right(table, used as usize, clock + MAX_RETAIN) {
         return false;
     }
     ids_distinct(table, used as usize)

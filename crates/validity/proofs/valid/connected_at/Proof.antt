@@ -10,7 +10,7 @@ use Rattle.validity.proofs.valid.connected_at.Tie as tie
 
 connected-ok-requires : tie.Need-connected-ok-requires
 connected-ok-requires c κs =
-    let e = c .load-peer .ensures in
+    let e = c .load-peer .ensures .0 in
     let k = c .before .load-clock .ensures in
     let pre = c .before .before .before .pre in (
       omega (arith, k, pre .1 .1 .0),
@@ -24,4 +24,4 @@ connected-at-spec =
     (λ c κs. search needs)
     (λ c κs. search needs)
     connected-ok-requires
-    (λ c. c .connected-ok .ensures ∙ ap₂ peerOk (c .before .before .load-clock .ensures) (c .before .load-peer .ensures)))
+    (λ c. c .connected-ok .ensures ∙ ap₂ peerOk (c .before .before .load-clock .ensures) (c .before .load-peer .ensures .0)))

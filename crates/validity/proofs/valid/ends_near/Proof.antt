@@ -18,4 +18,4 @@ ends-near-spec =
     (λ c κs. search needs)
     (λ c.
     c .ends-up-to .ensures
-    ∙ ap₂ (λ (n : ℕ) (p : Peer). endsUpTo (maxEnd n) p) (c .before .before .load-clock .ensures) (c .before .load-peer .ensures)))
+    ∙ ap₂ (λ (n : ℕ) (p : Peer). endsUpTo (maxEnd n) p) (c .before .before .load-clock .ensures) (c .before .load-peer .ensures .0)))
