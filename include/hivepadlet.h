@@ -29,6 +29,9 @@
  * - The table, HIVEPADLET_CELLS numbers of 64 bits (100,352 bytes), is the whole router. You may have any number of routers, one
  *   table each. A table may be copied, saved and restored as bytes on the same machine. Only the calls write it; a damaged
  *   table is refused (12).
+ *   Some of its numbers are no part of the router's state: those of slots that no peer has taken yet, the times of a peer in a
+ *   topic whose mesh it is not in, and some between the others that are kept for later. No call goes by them, so they may hold
+ *   anything, and two tables of the same state may differ there: compare routers by what the calls answer, not byte by byte.
  * - The action list is HIVEPADLET_ACTION_NUMBERS numbers of 32 bits, or more; under that, a call refuses (8). A call writes its
  *   actions from the start of the list and leaves the numbers past them as they were. One list may serve all calls.
  * - Lengths count elements, not bytes.

@@ -177,6 +177,39 @@ static void refusals(void)
     }
 }
 
+/* cells of the table by their place: what a host need not know, and a damage may hit */
+enum {
+    CLOCK = 0,
+    MARK = 9,
+    RETAINED = 180,
+    VERSION_HIGH = 196,
+    FIRST_ID = 200,
+    LAST_MEMBERS = 4159, /* the last cell of the last topic's members */
+    FIRST_GRAFT = 8320
+};
+
+/* another number in a cell: 12, and nothing changed */
+static void damaged(const char *what, size_t cell, uint64_t value)
+{
+    uint64_t old = table[cell];
+    table[cell] = value;
+    stands();
+    check(what, hivepadlet_is_router(table) == 0);
+    refuses(what, hivepadlet_decay(table, 6, LIST), HIVEPADLET_NOT_ROUTER);
+    table[cell] = old;
+}
+
+/* a number that no state reads may be any */
+static void not_read(const char *what, size_t cell)
+{
+    uint64_t old = table[cell];
+    table[cell] = UINT64_MAX;
+    check(what, hivepadlet_is_router(table) == 1);
+    answers(what, hivepadlet_join(table, 6, 0, LIST), HIVEPADLET_IGNORED, 0);
+    check(what, table[cell] == UINT64_MAX);
+    table[cell] = old;
+}
+
 /* 11 moves the clock and nothing else; 12 is the answer to a damaged table */
 static void ignored_and_damaged(void)
 {
@@ -189,10 +222,16 @@ static void ignored_and_damaged(void)
     check("11 changes one number, the clock", changed == 1);
     stands();
     refuses("a time before it", hivepadlet_decay(table, 5, LIST), HIVEPADLET_EARLY);
-    table[0] = UINT64_MAX; /* the clock */
-    stands();
-    refuses("a damaged table", hivepadlet_decay(table, 6, LIST), HIVEPADLET_NOT_ROUTER);
-    table[0] = 6;
+    damaged("a clock past its range", CLOCK, HIVEPADLET_MAX_TIME + 1);
+    damaged("a mark at a record", MARK, 0);
+    damaged("connected and retained", RETAINED, 1);
+    damaged("a version that there is not", VERSION_HIGH, 1);
+    damaged("a member past the mark", LAST_MEMBERS, UINT64_C(1) << 63);
+    damaged("an id of 33 bits", FIRST_ID, UINT64_C(1) << 32);
+    not_read("an id past the mark", FIRST_ID + 1);
+    not_read("a time of a non-member", FIRST_GRAFT);
+    not_read("a cell that is kept", MARK + 2);
+    not_read("the last cell", HIVEPADLET_CELLS - 1);
 }
 
 /* a member below the graylist threshold: its PRUNE and its unsubscribing are ignored and leave it in, so a leave prunes it */

@@ -2,10 +2,11 @@
 //! cases inside the rules. A run that misses one of them proves too little.
 
 mod answers;
+pub mod gossip;
 mod heartbeat;
 mod traces;
 
-pub use answers::Answers;
+pub use answers::{Answers, Rows};
 
 use crate::event::{Call, Event, CALL_NAMES, GROUPS};
 use crate::params::{self, topic, Edition, Params};

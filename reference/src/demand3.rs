@@ -18,16 +18,22 @@ const OVER_D_HI: usize = 2;
 pub fn checked_call(router: &mut Router, lent: &Lent) -> Result<Answer, String> {
     let start = Start::of(router, &lent.event);
     let answer = router.call(&lent.event, &mut vec![0; lent.list]);
-    if number(&answer) == 12 {
+    check_after(router, start.as_ref(), number(&answer))?;
+    Ok(answer)
+}
+
+/// What demand 3 says of the state after a call, a heartbeat's start given.
+pub fn check_after(router: &Router, start: Option<&Start>, answer: u32) -> Result<(), String> {
+    if answer == 12 {
         return Err("a call left tables that are no router's".to_string());
     }
     for topic in (0..router.joined.len()).filter(|&topic| router.joined[topic]) {
         check_inbound(router, topic)?;
     }
-    if let (Some(start), Ok(_)) = (start, &answer) {
-        start.check_end(router)?;
+    match start {
+        Some(start) if answer == 0 => start.check_end(router),
+        _ => Ok(()),
     }
-    Ok(answer)
 }
 
 /// "A joined topic's mesh holds at most D_hi + 2 inbound peers."
@@ -53,14 +59,15 @@ pub fn is_tight(router: &Router) -> bool {
 
 /// What a heartbeat's start fixes: the scores, and the pool, which is "the
 /// members at that start whose score was zero or more, and all candidates".
-struct Start {
+pub struct Start {
     topic: usize,
     scores: Vec<i64>,
     pool: Vec<usize>,
 }
 
 impl Start {
-    fn of(router: &Router, event: &Event) -> Option<Start> {
+    /// None of a call that is no heartbeat.
+    pub fn of(router: &Router, event: &Event) -> Option<Start> {
         let Call::Heartbeat { topic, .. } = event.call else { return None };
         if !event.in_range() {
             return None;

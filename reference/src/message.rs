@@ -1,18 +1,21 @@
 //! Gossipsub's RPC as bytes: the topics' names, the reader and the writer. Written from
-//! 02's orders 1 and 4, sentence by sentence; clear, not fast.
+//! 02's orders 1, 4 and 6, sentence by sentence; clear, not fast. IDONTWANT is read and
+//! written where a table of message ids is lent; without one, control's field 5 is unknown.
 
 pub mod census;
 mod field;
 pub mod holder;
+mod ids;
 mod names;
 mod reader;
 pub mod tree;
 mod writer;
 
 pub use field::{Broken, Part, Reason, LEVELS};
+pub use ids::{Ids, LONGEST_ID};
 pub use names::{check_names, Names, NamesTable, LONGEST_NAME, NAMES_BYTES, NAME_ROW};
-pub use reader::{entries, read};
-pub use writer::{write, written, Lists, Wrong, LONGEST_WRITTEN};
+pub use reader::{entries, entries_with, read, read_with};
+pub use writer::{write, write_with, written, written_with, Lists, Wrong, LONGEST_WRITTEN};
 
 /// 02, order 1: "A message over 16,384 bytes gives 10 with place 16,384."
 pub const LONGEST_MESSAGE: usize = 16_384;
@@ -38,6 +41,10 @@ pub mod control {
     pub const IWANT: u64 = 2;
     pub const GRAFT: u64 = 3;
     pub const PRUNE: u64 = 4;
+    pub const IDONTWANT: u64 = 5;
+}
+pub mod idontwant {
+    pub const MESSAGE_IDS: u64 = 1;
 }
 pub mod graft {
     pub const TOPIC_ID: u64 = 1;
@@ -62,15 +69,19 @@ pub enum Kind {
     Subscription = 0,
     Graft = 1,
     Prune = 2,
+    /// One id of an IDONTWANT.
+    Notice = 3,
 }
 
 /// One entry of a message.
 #[derive(Clone, Copy, PartialEq, Eq, Debug)]
 pub struct Entry {
     pub kind: Kind,
-    /// None where the topic is absent or unknown.
+    /// None where the topic is absent or unknown. A notice has no topic: 0 stands here where
+    /// the table has its id, none where it has not.
     pub topic: Option<usize>,
-    /// 1 or 0 of a subscription, 0 of a GRAFT, the seconds of a PRUNE.
+    /// 1 or 0 of a subscription, 0 of a GRAFT, the seconds of a PRUNE, the message's number of
+    /// a notice (0 of one whose id is not in the table).
     pub value: u64,
 }
 
@@ -85,7 +96,7 @@ impl Entry {
 /// Why a message is not read or not written.
 #[derive(Clone, Copy, PartialEq, Eq, Debug)]
 pub enum Refusal {
-    /// Names at set-up, or a list to be written.
+    /// Names at set-up, a list to be written, or a table of message ids.
     OutOfRange,
     ShortList,
     TooLong,

@@ -7,7 +7,7 @@ use std::fmt::Write;
 const WIDEST: usize = 88;
 
 /// What an answer's number means, for people.
-fn meaning(number: &str) -> &'static str {
+pub fn meaning(number: &str) -> &'static str {
     match number {
         "0" => "done",
         "1" => "clock back",
@@ -92,7 +92,7 @@ pub fn score_numbers(line: &str) -> Option<[i64; 6]> {
 
 /// A printed line for people: of a score the points, which parts hold it below zero,
 /// and then all parts.
-fn in_words(line: &str) -> Vec<String> {
+pub fn in_words(line: &str) -> Vec<String> {
     let Some(numbers) = score_numbers(line) else { return vec![line.to_string()] };
     let [total, capped, p5, p6, p7, score] = numbers;
     let parts =
@@ -115,7 +115,7 @@ fn losses(parts: &[(&str, i64)]) -> String {
 }
 
 /// A number of 10^-9 points in points, with the digits that it needs and at least one.
-fn points(number: i64) -> String {
+pub fn points(number: i64) -> String {
     let sign = if number < 0 { "-" } else { "" };
     let size = number.unsigned_abs();
     let fraction = format!("{:09}", size % 1_000_000_000);

@@ -3,18 +3,28 @@
 
 mod connection;
 mod control;
+mod gossip;
 mod heartbeat;
+mod notices;
 mod score;
+mod stores;
 mod tables;
 
 pub use connection::Place;
 pub use control::GraftCase;
+pub use gossip::{Given, GossipAnswer};
 pub use heartbeat::{is_permutation, Plan, Swap};
+pub use notices::{Notice, NoticeCase, IDONTWANT, MOST_NOTICES, NOTICE_LIFE, RELAY};
 pub use score::Why;
-pub use tables::{Groups, Peer, Status, TopicRecord, Version, GRAFT_SLACK};
+pub use stores::{IHaveCase, IWantCase, Store, StoreCase, IHAVE, MOST_STORED, STORED_HEARTBEATS};
+pub use tables::{
+    Groups, Peer, Status, TopicRecord, Version, GRAFT_SLACK, LONGEST_BACKOFF_MS, LONGEST_RETAIN_MS,
+    P3B_LIMIT, P4_P7_LIMIT,
+};
 
 use crate::event::{Call, Event, SLOTS};
 use crate::params::{self, general, Params, TOPICS};
+use crate::set_up::SetUp;
 
 /// An action list has three numbers for each slot.
 pub const ACTION_LIST: usize = 3 * SLOTS;
@@ -36,6 +46,8 @@ pub enum Refusal {
     ShortActionList = 8,
     Ignored = 11,
     NotARouter = 12,
+    /// 02: a save's buffer (order 8) or a heartbeat's store (order 7) has no room for it.
+    NoRoom = 13,
 }
 
 /// What an accepted call gives back.
@@ -48,19 +60,41 @@ pub enum Done {
 pub type Answer = Result<Done, Refusal>;
 
 /// The number of 01's table for an answer.
-pub fn number(answer: &Answer) -> u32 {
+pub fn number<T>(answer: &Result<T, Refusal>) -> u32 {
     match answer {
         Ok(_) => 0,
         Err(refusal) => *refusal as u32,
     }
 }
 
+/// Which rules of later orders are kept that change what older calls answer.
+#[derive(Clone, Copy, PartialEq, Eq, Debug)]
+pub struct Landed {
+    /// Order 6: "Accept /meshsub/1.2.0."
+    pub version_12: bool,
+    /// Order 8: "remaining retain times go to 86,400,000, backoffs to 3,600,000, in test 12
+    /// too, from the clock".
+    pub ends_from_clock: bool,
+}
+
+impl Landed {
+    pub const ALL: Landed = Landed { version_12: true, ends_from_clock: true };
+}
+
+/// The rules of a router for which nobody says otherwise. An order that lands is turned on
+/// here.
+pub const LANDED: Landed = Landed { version_12: false, ends_from_clock: false };
+
 #[derive(Clone, PartialEq, Eq, Debug)]
 pub struct Router {
     pub params: Params,
+    pub set_up: SetUp,
+    pub landed: Landed,
     pub clock: u64,
     pub joined: [bool; TOPICS],
     pub peers: Vec<Peer>,
+    /// Order 7 of 02: the message numbers of each topic.
+    pub stores: [Store; TOPICS],
     /// A joint rule that this router does without: none, but in the experiment
     /// that shows what the rule is for.
     pub waived_rule: Option<usize>,
@@ -73,13 +107,23 @@ impl Router {
         Ok(Router::unchecked(params))
     }
 
+    /// A fresh router of all orders, with set-up numbers: 2 if one is out of its range,
+    /// "tested before the sheet".
+    pub fn with_set_up(params: Params, set_up: SetUp) -> Result<Router, params::Refusal> {
+        set_up.check()?;
+        Ok(Router { set_up, landed: Landed::ALL, ..Router::new(params)? })
+    }
+
     /// A fresh router whose parameters nobody has checked.
     pub fn unchecked(params: Params) -> Router {
         Router {
             params,
+            set_up: SetUp::ORDINARY,
+            landed: LANDED,
             clock: 0,
             joined: [false; TOPICS],
             peers: vec![Peer::default(); SLOTS],
+            stores: Default::default(),
             waived_rule: None,
         }
     }
@@ -182,7 +226,7 @@ impl Router {
         peer.extend_backoff(topic, now + 1000 * seconds);
         let told = match peer.version {
             Version::V10 => 0,
-            Version::V11 => seconds as u32,
+            Version::V11 | Version::V12 => seconds as u32,
         };
         actions.push([PRUNE, peer.id, told]);
     }

@@ -296,7 +296,13 @@ enum Start {
 
 /// Reads a whole text.
 pub fn parse(text: &str) -> Result<Trace, TextError> {
+    parse_placed(text).map(|(trace, _)| trace)
+}
+
+/// The same, and of each line of the trace its line in the text (from 1 on).
+pub fn parse_placed(text: &str) -> Result<(Trace, Vec<usize>), TextError> {
     let mut trace = Trace { edition: TraceEdition::One, params: None, lines: Vec::new() };
+    let mut places = Vec::new();
     let mut start = Start::Open;
     let mut last = 1;
     for (place, line) in text.lines().enumerate() {
@@ -314,9 +320,10 @@ pub fn parse(text: &str) -> Result<Trace, TextError> {
             }
         };
         parsed.map_err(|message| TextError { line: place + 1, message })?;
+        places.resize(trace.lines.len(), place + 1);
     }
     match start {
-        Start::Done => Ok(trace),
+        Start::Done => Ok((trace, places)),
         _ => Err(TextError { line: last, message: START.to_string() }),
     }
 }

@@ -5,7 +5,7 @@ use mathlib.Core.Path.{_≡_, refl, sym, ap, _∙_}
 use mathlib.Core.List.{List}
 use native.Mathlib.Omega.{arith}
 use lib.ListN.{getD}
-use borrow.Author.Tests.{eq-eqb}
+use borrow.Author.Tests.{eq-eqb, ne-eqb}
 use Rattle.records.specs.declared.Peer.{Peer}
 use Rattle.records.specs.declared.TopicRecord.{TopicRecord}
 use Rattle.records.specs.Records.{peerIn, topicIn}
@@ -63,6 +63,16 @@ module _ (c : List ℕ) (k : ℕ) (h : k < placeCount) where
   mesh-is e =
       let q = topic-load c k h in
       ap (λ (t : TopicRecord). t .mesh) (sym q) ∙ raw-mesh (ap (λ (t : TopicRecord). t .member) q ∙ e)
+
+  raw-outside : (topicAt c k .member ≡ 1 → ⊥) → (topicAt c k .graft ≡ 0) × (topicAt c k .mesh ≡ 0)
+  unfolding topicAt topicRaw
+  raw-outside n = let f = ne-eqb (bitAt c (memberWord k) (k / 8)) 1 n in (rw f, rw f)
+
+  pub outside-none : (r .member ≡ 1 → ⊥) → (r .graft ≡ 0) × (r .mesh ≡ 0)
+  outside-none n =
+      let q = sym (topic-load c k h) in
+      let z = raw-outside (λ e. n (ap (λ (t : TopicRecord). t .member) q ∙ e)) in
+      (ap (λ (t : TopicRecord). t .graft) q ∙ z .0, ap (λ (t : TopicRecord). t .mesh) q ∙ z .1)
 
   pub bits-are : (r .subscribed ≡ bitAt c (subscribedWord k) (k / 8)) × (r .member ≡ bitAt c (memberWord k) (k / 8))
   bits-are =

@@ -13,9 +13,11 @@ use Rattle.records.specs.Records.{noPeer, noTopic, place, peerIn, topicIn, slot
 use Rattle.layout.specs.Rows.{tab}
 use Rattle.layout.specs.View.{placeCount, peersAt, columnOf, endsAt, topicsAt, memberAt, p3bAt, bitAt, usedOf, liveAt}
 use Rattle.layout.specs.View.{counterOf, graftOf, meshOf, subscribedWord, memberWord, topicRaw, topicAt, peerRaw, endsOf, peerAt, stateOf}
-use Rattle.layout.specs.View.{EmptyFrom}
+use Rattle.layout.specs.View.{EmptyFrom, FlagsFrom}
 use Rattle.layout.proofs.RowLaws.{tab-same}
 use Rattle.layout.proofs.ViewLaws.{live-out, peer-load, topic-load}
+use Rattle.layout.proofs.ReadLaws.{connected-bit, retained-bit, explicit-bit, outbound-bit, version-bit, version-high-bit, member-bit}
+use Rattle.layout.proofs.ReadLaws.{subscribed-bit}
 
 -- ---- one word
 pub or-none : (a b : ℕ) → bitOr a b ≡ 0 → (a ≡ 0) × (b ≡ 0)
@@ -99,41 +101,76 @@ past-more c o used n acc r f g z p s h k l =
     rw q (g (e .1) s k l))
 
 -- ---- the records
-module _ (c : List ℕ) (used : ℕ) (u : usedOf c ≡ used) (a : Past c peersAt used 6) (b : Past c topicsAt used 16) where
+module _ (c : List ℕ) (used : ℕ) (u : usedOf c ≡ used) where
   dead : (s x : ℕ) → used ≤ s → liveAt c s x ≡ 0
   dead s x l = live-out c s x (omega arith)
 
-  peer-none : (s : ℕ) → used ≤ s → s < slotCount → peerAt c s ≡ noPeer
+  peer-none : (s : ℕ) → used ≤ s → ((p : ℕ) → p < 6 → bitAt c (peersAt + p * 4) s ≡ 0) → peerAt c s ≡ noPeer
   unfolding peerAt peerRaw endsOf
-  peer-none s l h =
+  peer-none s l b =
       let e : tab 8 (λ t. liveAt c s (endsAt + s * 8 + t)) ≡ tab 8 (λ t. 0) =
       tab-same 8 (λ t. liveAt c s (endsAt + s * 8 + t)) (λ t. 0) (λ t k. dead s (endsAt + s * 8 + t) l) in
-      let b0 = a 0 s (omega arith) h l in
-      let b1 = a 1 s (omega arith) h l in
-      let b2 = a 2 s (omega arith) h l in
-      let b3 = a 3 s (omega arith) h l in
-      let b4 = a 4 s (omega arith) h l in
-      let b5 = a 5 s (omega arith) h l in
+      let b0 = b 0 (omega arith) in
+      let b1 = b 1 (omega arith) in
+      let b2 = b 2 (omega arith) in
+      let b3 = b 3 (omega arith) in
+      let b4 = b 4 (omega arith) in
+      let b5 = b 5 (omega arith) in
       let d : (j : ℕ) → liveAt c s (columnOf j s) ≡ 0 = λ j. dead s (columnOf j s) l in
       λ i. peerRaw (b0 i) (b1 i) (b2 i) (b3 i) (b4 i) (b5 i) (d 0 i) (d 1 i) (d 2 i) (d 3 i) (d 4 i) (d 5 i) (d 6 i) (e i)
 
-  topic-none : (s t : ℕ) → used ≤ s → s < slotCount → t < topicCount → topicAt c (place s t) ≡ noTopic
+  topic-none :
+      (s t : ℕ) →
+      used ≤ s →
+      t < topicCount →
+      bitAt c (topicsAt + t * 4) s ≡ 0 →
+      bitAt c (memberAt + t * 4) s ≡ 0 →
+      topicAt c (place s t) ≡ noTopic
   unfolding topicAt topicRaw
-  topic-none s t l h k =
+  topic-none s t l k b m =
       let q : place s t / 8 ≡ s = omega arith in
-      let m : place s t % 8 ≡ t = omega arith in
-      let x : bitAt c (subscribedWord (place s t)) (place s t / 8) ≡ 0 = rw (q, m) (b t s (omega arith) h l) in
-      let w : topicsAt + (8 + t) * 4 ≡ memberAt + t * 4 = omega arith in
-      let y : bitAt c (memberWord (place s t)) (place s t / 8) ≡ 0 = rw (q, m, ← w) (b (8 + t) s (omega arith) h l) in
+      let r : place s t % 8 ≡ t = omega arith in
+      let x : bitAt c (subscribedWord (place s t)) (place s t / 8) ≡ 0 = rw (q, r) b in
+      let y : bitAt c (memberWord (place s t)) (place s t / 8) ≡ 0 = rw (q, r) m in
       let d : (n : ℕ) → liveAt c (place s t / 8) n ≡ 0 = λ n. rw q (dead s n l) in
       λ i. topicRaw (d (counterOf (place s t)) i) (d (p3bAt + place s t) i) (x i) (y i) (getD c (graftOf (place s t)) 0)
       (getD c (meshOf (place s t)) 0)
 
-  pub empty-from : EmptyFrom (stateOf c) used
-  empty-from =
+  pub empty-from : Past c peersAt used 6 → Past c topicsAt used 16 → EmptyFrom (stateOf c) used
+  empty-from a b =
       record {
-        peer = λ s l h. sym (peer-load c s h) ∙ peer-none s l h;
-        topic = λ s t l h k. sym (topic-load c (place s t) (omega arith)) ∙ topic-none s t l h k;
+        peer = λ s l h. sym (peer-load c s h) ∙ peer-none s l (λ p m. a p s m h l);
+        topic = λ s t l h k.
+            let w : topicsAt + (8 + t) * 4 ≡ memberAt + t * 4 = omega arith in
+            let y : bitAt c (memberAt + t * 4) s ≡ 0 = rw (← w) (b (8 + t) s (omega arith) h l) in
+            sym (topic-load c (place s t) (omega arith)) ∙ topic-none s t l k (b t s (omega arith) h l) y;
+      }
+
+  -- the bits of a record without a flag
+  bits-none :
+      (s : ℕ) (h : s < slotCount) →
+      peerIn (stateOf c) s .status ≡ 0 →
+      peerIn (stateOf c) s .explicit ≡ 0 →
+      peerIn (stateOf c) s .outbound ≡ 0 →
+      peerIn (stateOf c) s .version ≡ 0 →
+      (p : ℕ) →
+      p < 6 →
+      bitAt c (peersAt + p * 4) s ≡ 0
+  bits-none s h es ee eo ev zero l = connected-bit c s h ∙ rw es
+  bits-none s h es ee eo ev (suc zero) l = retained-bit c s h ∙ rw es
+  bits-none s h es ee eo ev (suc (suc zero)) l = explicit-bit c s h ∙ ee
+  bits-none s h es ee eo ev (suc (suc (suc zero))) l = outbound-bit c s h ∙ eo
+  bits-none s h es ee eo ev (suc (suc (suc (suc zero)))) l = version-bit c s h ∙ rw ev
+  bits-none s h es ee eo ev (suc (suc (suc (suc (suc zero))))) l = version-high-bit c s h ∙ rw ev
+  bits-none s h es ee eo ev (suc (suc (suc (suc (suc (suc p)))))) l = absurd (omega arith)
+
+  pub flags-from : FlagsFrom (stateOf c) used
+  flags-from =
+      record {
+        peer = λ s l h es ee eo ev. sym (peer-load c s h) ∙ peer-none s l (bits-none s h es ee eo ev);
+        topic = λ s t l h k e m.
+            sym (topic-load c (place s t) (omega arith))
+            ∙ topic-none s t l k (subscribed-bit c t s k h ∙ e) (member-bit c t s k h ∙ m);
       }
 
 -- no slot is past the last

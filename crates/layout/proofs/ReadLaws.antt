@@ -7,11 +7,14 @@ use native.Mathlib.Omega.{arith}
 use lib.ListN.{getD}
 use Rattle.records.specs.declared.Groups.{Groups}
 use Rattle.records.specs.declared.Peer.{Peer}
+use Rattle.records.specs.declared.TopicRecord.{TopicRecord}
 use Rattle.records.specs.Records.{peerIn, topicIn, place, slotCount, topicCount}
-use Rattle.layout.specs.View.{peersAt, columnOf, topicsAt, memberAt, bitAt, liveAt, peerRaw, peerAt, stateOf}
+use Rattle.layout.specs.View.{stride, peersAt, columnOf, endsAt, topicsAt, memberAt, graftAt, meshAt, bitAt, liveAt, peerRaw, endsOf}
+use Rattle.layout.specs.View.{peerAt, stateOf}
 use Rattle.layout.proofs.DigitLaws.{digit-le}
+use Rattle.layout.proofs.RowLaws.{getD-tab}
 use Rattle.layout.proofs.ViewLaws.{peer-load}
-use Rattle.layout.proofs.CellLaws.{bits-are}
+use Rattle.layout.proofs.CellLaws.{bits-are, graft-is, mesh-is, outside-none}
 
 module _ (c : List ℕ) (s : ℕ) (h : s < slotCount) where
   abbrev p : Peer
@@ -35,6 +38,14 @@ module _ (c : List ℕ) (s : ℕ) (h : s < slotCount) where
   unfolding peerAt peerRaw
   raw-groups = refl
 
+  raw-version : peerAt c s .version ≡ bitAt c (peersAt + 16) s + 2 * bitAt c (peersAt + 20) s
+  unfolding peerAt peerRaw
+  raw-version = refl
+
+  raw-retain : peerAt c s .retain ≡ liveAt c s (columnOf 6 s)
+  unfolding peerAt peerRaw
+  raw-retain = refl
+
   raw-explicit : peerAt c s .explicit ≡ bitAt c (peersAt + 8) s
   unfolding peerAt peerRaw
   raw-explicit = refl
@@ -49,6 +60,9 @@ module _ (c : List ℕ) (s : ℕ) (h : s < slotCount) where
 
   pub id-load : (x : ℕ) → x ≡ liveAt c s (columnOf 0 s) → x ≡ p .id
   id-load x e = e ∙ sym raw-id ∙ ap (λ (q : Peer). q .id) (peer-load c s h)
+
+  pub retain-load : (x : ℕ) → x ≡ liveAt c s (columnOf 6 s) → x ≡ p .retain
+  retain-load x e = e ∙ sym raw-retain ∙ ap (λ (q : Peer). q .retain) (peer-load c s h)
 
   pub groups-load :
       (x y z w : ℕ) →
@@ -71,18 +85,43 @@ module _ (c : List ℕ) (s : ℕ) (h : s < slotCount) where
   unfolding bitAt
   bit-le o = digit-le (getD c (o + s / 64) 0) (s % 64)
 
+  status-is : p .status ≡ bitAt c peersAt s + 2 * bitAt c (peersAt + 4) s
+  status-is = ap (λ (q : Peer). q .status) (sym (peer-load c s h)) ∙ raw-status
+
+  version-is : p .version ≡ bitAt c (peersAt + 16) s + 2 * bitAt c (peersAt + 20) s
+  version-is = ap (λ (q : Peer). q .version) (sym (peer-load c s h)) ∙ raw-version
+
   pub connected-bit : bitAt c peersAt s ≡ p .status % 2
-  connected-bit =
-      let e : p .status ≡ bitAt c peersAt s + 2 * bitAt c (peersAt + 4) s =
-      ap (λ (q : Peer). q .status) (sym (peer-load c s h)) ∙ raw-status in
-      let l = bit-le peersAt in
-      omega arith
+  connected-bit = let l = bit-le peersAt in omega (arith, status-is)
+
+  pub retained-bit : bitAt c (peersAt + 4) s ≡ p .status / 2
+  retained-bit = let l = bit-le peersAt in omega (arith, status-is)
+
+  pub version-bit : bitAt c (peersAt + 16) s ≡ p .version % 2
+  version-bit = let l = bit-le (peersAt + 16) in omega (arith, version-is)
+
+  pub version-high-bit : bitAt c (peersAt + 20) s ≡ p .version / 2
+  version-high-bit = let l = bit-le (peersAt + 16) in omega (arith, version-is)
+
+  raw-end : (t : ℕ) → t < 8 → getD (peerAt c s .backoff) t 0 ≡ liveAt c s (endsAt + s * 8 + t)
+  unfolding peerAt peerRaw endsOf
+  raw-end t l = getD-tab 8 (λ j. liveAt c s (endsAt + s * 8 + j)) t 0 l
+
+  pub end-load : (t x : ℕ) → t < 8 → x ≡ liveAt c s (endsAt + s * 8 + t) → x ≡ getD (p .backoff) t 0
+  end-load t x l e = e ∙ sym (raw-end t l) ∙ ap (λ (q : Peer). getD (q .backoff) t 0) (peer-load c s h)
 
   pub explicit-bit : bitAt c (peersAt + 8) s ≡ p .explicit
   explicit-bit = sym raw-explicit ∙ ap (λ (q : Peer). q .explicit) (peer-load c s h)
 
   pub outbound-bit : bitAt c (peersAt + 12) s ≡ p .outbound
   outbound-bit = sym raw-outbound ∙ ap (λ (q : Peer). q .outbound) (peer-load c s h)
+
+  -- a flag of one bit
+  pub explicit-le : p .explicit ≤ 1
+  explicit-le = let l = bit-le (peersAt + 8) in omega (arith, explicit-bit)
+
+  pub outbound-le : p .outbound ≤ 1
+  outbound-le = let l = bit-le (peersAt + 12) in omega (arith, outbound-bit)
 
 module _ (c : List ℕ) (t s : ℕ) (l : t < topicCount) (h : s < slotCount) where
   low : place s t % 8 ≡ t
@@ -98,6 +137,29 @@ module _ (c : List ℕ) (t s : ℕ) (l : t < topicCount) (h : s < slotCount) whe
   pub subscribed-bit : bitAt c (topicsAt + t * 4) s ≡ topicIn (stateOf c) (place s t) .subscribed
   subscribed-bit =
       ap₂ (λ (x y : ℕ). bitAt c (topicsAt + x * 4) y) (sym low) (sym high) ∙ sym (bits-are c (place s t) (omega arith) .0)
+
+  abbrev r : TopicRecord
+  r = topicIn (stateOf c) (place s t)
+
+  pub member-le : r .member ≤ 1
+  unfolding bitAt
+  member-le = let k = digit-le (getD c (memberAt + t * 4 + s / 64) 0) (s % 64) in omega (arith, member-bit)
+
+  pub subscribed-le : r .subscribed ≤ 1
+  unfolding bitAt
+  subscribed-le = let k = digit-le (getD c (topicsAt + t * 4 + s / 64) 0) (s % 64) in omega (arith, subscribed-bit)
+
+  -- a member's times, and a non-member's
+  pub graft-load : r .member ≡ 1 → getD c (graftAt + t * stride + s) 0 ≡ r .graft
+  graft-load e =
+      ap₂ (λ (x y : ℕ). getD c (graftAt + x * stride + y) 0) (sym low) (sym high) ∙ sym (graft-is c (place s t) (omega arith) e)
+
+  pub mesh-load : r .member ≡ 1 → getD c (meshAt + t * stride + s) 0 ≡ r .mesh
+  mesh-load e =
+      ap₂ (λ (x y : ℕ). getD c (meshAt + x * stride + y) 0) (sym low) (sym high) ∙ sym (mesh-is c (place s t) (omega arith) e)
+
+  pub no-times : (r .member ≡ 1 → ⊥) → (r .graft ≡ 0) × (r .mesh ≡ 0)
+  no-times n = outside-none c (place s t) (omega arith) n
 
 -- four cells by value
 four :

@@ -286,6 +286,18 @@ pub record PeerFits (p : Peer) : Type 0 where
   pub p5 : p .p5 < 4294967296
   pub p7 : p .p7 < 4294967296
 
+-- a record in which nothing is counted, and of no member
+pub record Bare (t : TopicRecord) : Type 0 where
+  pub p2 : t .p2 ≡ 0
+  pub p3 : t .p3 ≡ 0
+  pub p4 : t .p4 ≡ 0
+  pub p3b : t .p3b ≡ 0
+  pub member : t .member ≡ 0
+
+-- the cells of its counters are 0
+abbrev pub Uncounted : List ℕ → ℕ → ℕ → Type 0
+Uncounted c s t = (liveAt c s (countersAt + t * stride + s) ≡ 0) × (liveAt c s (p3bAt + (s * 8 + t)) ≡ 0)
+
 -- each code has its field's sign
 pub record CodesFit (codes : List ℕ) : Type 0 where
   pub size : length codes ≡ paramCount
@@ -321,6 +333,26 @@ pub record Idle (c d : List ℕ) : Type 0 where
   pub size : length d ≡ cellCount
   pub used : usedOf d ≡ usedOf c
   pub form : stateOf d ≡ stateOf c
+
+-- from slot n on a record is its flags alone: one without a flag is empty
+pub record FlagsFrom (st : State) (n : ℕ) : Type 0 where
+  pub peer :
+      (s : ℕ) →
+      n ≤ s →
+      s < slotCount →
+      peerIn st s .status ≡ 0 →
+      peerIn st s .explicit ≡ 0 →
+      peerIn st s .outbound ≡ 0 →
+      peerIn st s .version ≡ 0 →
+      peerIn st s ≡ noPeer
+  pub topic :
+      (s t : ℕ) →
+      n ≤ s →
+      s < slotCount →
+      t < topicCount →
+      topicIn st (place s t) .subscribed ≡ 0 →
+      topicIn st (place s t) .member ≡ 0 →
+      topicIn st (place s t) ≡ noTopic
 
 -- every record from slot n on is empty
 pub record EmptyFrom (st : State) (n : ℕ) : Type 0 where

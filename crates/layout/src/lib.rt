@@ -1,8 +1,9 @@
 // How one lent table of numbers holds the router's state: the only code that computes an offset. A change of the layout is made here
 // and in specs/View.antt. Everything above goes by the contracts, which speak of the state that the table holds.
 ghost use mathlib.Core.Path.{_≡_};
+ghost use mathlib.Core.Bool.{true};
 ghost use Prim.Native.Nat.{ℕ, _+_, _*_, _/_, _%_, _^_, _≤_, _<_};
-ghost use lib.ListN.{length, set};
+ghost use lib.ListN.{length, getD, set};
 ghost use Rattle.varint.specs.Codes.{magnitude};
 ghost use Rattle.records.specs.Records.{joinedIn, codeIn, peerIn, topicIn, place, setClock, setJoined, setPeer, setTopic, slotCount};
 ghost use Rattle.records.specs.Records.{topicCount, paramCount};
@@ -11,7 +12,8 @@ ghost use Rattle.layout.specs.View.{placeCount, clockAt, cellCount, used
 ghost use Rattle.layout.specs.View.{setFlags};
 ghost use Rattle.layout.specs.View.{setColumns, paramPlace, fieldOf, isBelow, below, codeFor, stateOf, setEnd, setCode, setCodes};
 ghost use Rattle.layout.specs.View.{setSetup, zeroState};
-ghost use Rattle.layout.specs.View.{withSubscription, withoutMember, withMember, EmptyFrom, TopicFits, PeerFits, CodesFit, ZeroUpTo, Idle};
+ghost use Rattle.layout.specs.View.{withSubscription, withoutMember, withMember, EmptyFrom, FlagsFrom, TopicFits, PeerFits, CodesFit};
+ghost use Rattle.layout.specs.View.{ZeroUpTo, Idle, memberAt, Bare, Uncounted};
 use records::Groups;
 use records::Peer;
 use records::SLOTS;
@@ -26,7 +28,7 @@ pub const PARAMS: usize = 147;
 pub const WORDS: usize = SLOTS / 64;
 
 // How far apart two columns are: not a power of two, so that they fall into different sets of a cache.
-const STRIDE: usize = 264;
+pub const STRIDE: usize = 264;
 
 // Where the regions begin, one after the other: the head, the parameters, the peers, the topics.
 const CLOCK_AT: usize = 0;
@@ -53,24 +55,24 @@ const VERSION_AT: usize = OUTBOUND_AT + WORDS;
 const VERSION_HIGH_AT: usize = VERSION_AT + WORDS;
 
 // Their columns.
-const ID_AT: usize = VERSION_HIGH_AT + WORDS;
+pub const ID_AT: usize = VERSION_HIGH_AT + WORDS;
 
-const GROUPS_AT: usize = ID_AT + STRIDE;
+pub const GROUPS_AT: usize = ID_AT + STRIDE;
 
-const P57_AT: usize = GROUPS_AT + 4 * STRIDE;
+pub const P57_AT: usize = GROUPS_AT + 4 * STRIDE;
 
-const RETAIN_AT: usize = P57_AT + STRIDE;
+pub const RETAIN_AT: usize = P57_AT + STRIDE;
 
-const ENDS_AT: usize = RETAIN_AT + STRIDE;
+pub const ENDS_AT: usize = RETAIN_AT + STRIDE;
 
 // What they hold for the topics.
 const SUBSCRIBED_AT: usize = ENDS_AT + SLOTS * TOPICS;
 
 const MEMBER_AT: usize = SUBSCRIBED_AT + TOPICS * WORDS;
 
-const COUNTERS_AT: usize = MEMBER_AT + TOPICS * WORDS;
+pub const COUNTERS_AT: usize = MEMBER_AT + TOPICS * WORDS;
 
-const P3B_AT: usize = COUNTERS_AT + TOPICS * STRIDE;
+pub const P3B_AT: usize = COUNTERS_AT + TOPICS * STRIDE;
 
 const GRAFT_AT: usize = P3B_AT + SLOTS * TOPICS;
 
@@ -80,11 +82,11 @@ const MESH_AT: usize = GRAFT_AT + TOPICS * STRIDE;
 pub const CELLS: usize = MESH_AT + TOPICS * STRIDE;
 
 // The lanes of a packed cell: P2 and P3, each below the first, P4 above both; and two numbers of 32 bits.
-const LANE: u64 = 2097152;
+pub const LANE: u64 = 2097152;
 
-const LANES: u64 = 4398046511104;
+pub const LANES: u64 = 4398046511104;
 
-const HALF: u64 = 4294967296;
+pub const HALF: u64 = 4294967296;
 
 // ---- bits, lanes, cells in use
 
@@ -621,11 +623,83 @@ pub fn load_groups(cells: &[u64], slot: usize) -> Groups
     }
 }
 
+// One backoff end.
+pub fn load_end(cells: &[u64], slot: usize, t: usize) -> u64
+    requires { ⌜ (length (now cells) ≡ cellCount) × ((slot < slotCount) × (t < topicCount)) ⌝ }
+    ensures { λ r. ⌜ r ≡ getD (peerIn (stateOf (now (cells .entry))) slot .backoff) t 0 ⌝ }
+{
+    live(cells, slot, ENDS_AT + slot * 8 + t)
+}
+
 pub fn load_member(cells: &[u64], k: usize) -> u64
     requires { ⌜ (length (now cells) ≡ cellCount) × (k < placeCount) ⌝ }
     ensures { λ r. ⌜ r ≡ topicIn (stateOf (now (cells .entry))) k .member ⌝ }
 {
     bit(cells, MEMBER_AT + k % 8 * WORDS, k / 8)
+}
+
+pub fn load_retain(cells: &[u64], slot: usize) -> u64
+    requires { ⌜ (length (now cells) ≡ cellCount) × (slot < slotCount) ⌝ }
+    ensures { λ r. ⌜ r ≡ peerIn (stateOf (now (cells .entry))) slot .retain ⌝ }
+{
+    live(cells, slot, RETAIN_AT + slot)
+}
+
+// The graft time and the mesh time of a member.
+pub fn load_graft(cells: &[u64], slot: usize, t: usize) -> u64
+    requires { ⌜ (length (now cells) ≡ cellCount)
+        × ((slot < slotCount) × ((t < topicCount) × (topicIn (stateOf (now cells)) (place slot t) .member ≡ 1))) ⌝ }
+    ensures { λ r. ⌜ r ≡ topicIn (stateOf (now (cells .entry))) (place slot t) .graft ⌝ }
+{
+    cells[GRAFT_AT + t * STRIDE + slot]
+}
+
+pub fn load_mesh(cells: &[u64], slot: usize, t: usize) -> u64
+    requires { ⌜ (length (now cells) ≡ cellCount)
+        × ((slot < slotCount) × ((t < topicCount) × (topicIn (stateOf (now cells)) (place slot t) .member ≡ 1))) ⌝ }
+    ensures { λ r. ⌜ r ≡ topicIn (stateOf (now (cells .entry))) (place slot t) .mesh ⌝ }
+{
+    cells[MESH_AT + t * STRIDE + slot]
+}
+
+// The bits of a slot's counters in all topics, together.
+fn counted(cells: &[u64], slot: usize) -> u64
+    requires { ⌜ (length (now cells) ≡ cellCount) × (slot < slotCount) ⌝ }
+    ensures { λ r. ⌜ (r ≡ 0 → (t : ℕ) → t < topicCount → Uncounted (now (cells .entry)) slot t) ⌝ }
+{
+    let mut acc: u64 = 0;
+    let mut t: usize = 0;
+    while t < TOPICS {
+        acc = acc | cells[COUNTERS_AT + t * STRIDE + slot] | cells[P3B_AT + (slot * 8 + t)];
+        t += 1;
+    }
+    keep((slot as u64) < cells[USED_AT], acc)
+}
+
+// The i-th cells of the words of all topics' members, together.
+fn meshed(cells: &[u64], i: usize) -> u64
+    requires { ⌜ (length (now cells) ≡ cellCount) × (i < 4) ⌝ }
+    ensures { λ r. ⌜ ((j : ℕ) → r / 2 ^ j % 2 ≡ 0 →
+        (t : ℕ) → t < topicCount → getD (now (cells .entry)) (memberAt + t * 4 + i) 0 / 2 ^ j % 2 ≡ 0) ⌝ }
+{
+    let mut acc: u64 = 0;
+    let mut t: usize = 0;
+    while t < TOPICS {
+        acc = acc | cells[MEMBER_AT + t * WORDS + i];
+        t += 1;
+    }
+    acc
+}
+
+// Whether nothing is counted of the peer in a slot, in no topic, and it is in no mesh.
+pub fn is_bare(cells: &[u64], slot: usize) -> bool
+    requires { ⌜ (length (now cells) ≡ cellCount) × (slot < slotCount) ⌝ }
+    ensures { λ r. ⌜ (r ≡ true → (t : ℕ) → t < topicCount → Bare (topicIn (stateOf (now (cells .entry))) (place slot t))) ⌝ }
+{
+    if (meshed(cells, slot / 64) >> (slot % 64)) % 2 != 0 {
+        return false;
+    }
+    counted(cells, slot) == 0
 }
 
 // ---- a flag of all slots, as a word
@@ -654,6 +728,14 @@ pub fn load_connected(cells: &[u64]) -> [u64; WORDS]
     word(cells, CONNECTED_AT)
 }
 
+// The high bit of the status: of a router's tables, 1 for a retained record.
+pub fn load_retained(cells: &[u64]) -> [u64; WORDS]
+    requires { ⌜ length (now cells) ≡ cellCount ⌝ }
+    ensures { λ r. ⌜ (length r ≡ 4) × ((s : ℕ) → s < slotCount → bitAt r 0 s ≡ peerIn (stateOf (now (cells .entry))) s .status / 2) ⌝ }
+{
+    word(cells, RETAINED_AT)
+}
+
 pub fn load_explicit(cells: &[u64]) -> [u64; WORDS]
     requires { ⌜ length (now cells) ≡ cellCount ⌝ }
     ensures { λ r. ⌜ (length r ≡ 4) × ((s : ℕ) → s < slotCount → bitAt r 0 s ≡ peerIn (stateOf (now (cells .entry))) s .explicit) ⌝ }
@@ -666,6 +748,21 @@ pub fn load_outbound(cells: &[u64]) -> [u64; WORDS]
     ensures { λ r. ⌜ (length r ≡ 4) × ((s : ℕ) → s < slotCount → bitAt r 0 s ≡ peerIn (stateOf (now (cells .entry))) s .outbound) ⌝ }
 {
     word(cells, OUTBOUND_AT)
+}
+
+// The two bits of the version.
+pub fn load_version(cells: &[u64]) -> [u64; WORDS]
+    requires { ⌜ length (now cells) ≡ cellCount ⌝ }
+    ensures { λ r. ⌜ (length r ≡ 4) × ((s : ℕ) → s < slotCount → bitAt r 0 s ≡ peerIn (stateOf (now (cells .entry))) s .version % 2) ⌝ }
+{
+    word(cells, VERSION_AT)
+}
+
+pub fn load_version_high(cells: &[u64]) -> [u64; WORDS]
+    requires { ⌜ length (now cells) ≡ cellCount ⌝ }
+    ensures { λ r. ⌜ (length r ≡ 4) × ((s : ℕ) → s < slotCount → bitAt r 0 s ≡ peerIn (stateOf (now (cells .entry))) s .version / 2) ⌝ }
+{
+    word(cells, VERSION_HIGH_AT)
 }
 
 // ---- where the records end
@@ -686,7 +783,7 @@ fn past_word(w: u64, i: usize, used: u64) -> u64
 }
 
 // Whether no slot from `used` on has its bit in the word that starts at cell o.
-fn past(cells: &[u64], o: usize, used: u64) -> u64
+pub fn past(cells: &[u64], o: usize, used: u64) -> u64
     requires { ⌜ o + 4 ≤ length (now cells) ⌝ }
     ensures { λ r. ⌜ (r ≡ 0 → (s : ℕ) → s < slotCount → used ≤ s → bitAt (now (cells .entry)) o s ≡ 0) ⌝ }
 {
@@ -708,6 +805,14 @@ fn all_past(cells: &[u64], o: usize, n: usize, used: u64) -> u64
         p += 1;
     }
     acc
+}
+
+// The mark: from it on a record is its flags alone.
+pub fn load_used(cells: &[u64]) -> u64
+    requires { ⌜ length (now cells) ≡ cellCount ⌝ }
+    ensures { λ r. ⌜ (r ≡ usedOf (now (cells .entry))) × FlagsFrom (stateOf (now (cells .entry))) r ⌝ }
+{
+    cells[USED_AT]
 }
 
 // A slot from which on every record is empty: the mark, where no word has a bit past it.

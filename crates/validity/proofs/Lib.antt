@@ -7,3 +7,4 @@ pub mod Keeps
 pub mod SignLaws
 pub mod FitLaws
 pub mod RestLaws
+pub mod LookLaws

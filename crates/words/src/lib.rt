@@ -2,11 +2,11 @@
 // contract speaks of that list, so that a definition over lists of flags says what a function over words does.
 ghost use mathlib.Core.Path.{_≡_};
 ghost use mathlib.Core.Bool.{false};
-ghost use Prim.Native.Nat.{ℕ, _<_, _^_};
-ghost use lib.ListN.{getD, set, replicate};
+ghost use Prim.Native.Nat.{ℕ, _*_, _≤_, _<_, _^_};
+ghost use lib.ListN.{length, getD, set, replicate};
 ghost use Rattle.records.specs.Records.{slotCount};
 ghost use Rattle.index.specs.Index.{count};
-ghost use Rattle.words.specs.Words.{wordBits, bits, bitsOf, differs, lowest};
+ghost use Rattle.words.specs.Words.{wordBits, wordCount, bits, bitsOf, differs, lowest, Next};
 use records::SLOTS;
 
 pub mod flags;
@@ -111,6 +111,36 @@ pub fn lowest(m: [u64; WORDS]) -> u64
         }
     }
     SLOTS as u64
+}
+
+// The lowest slot from the i-th word on; SLOTS for none.
+fn lowest_from(m: &[u64], i: usize) -> u64
+    requires { ⌜ (length (now m) ≡ wordCount) × (i ≤ wordCount) ⌝ }
+    ensures { λ r. ⌜ Next (bitsOf (now (m .entry))) (wordBits * i) r ⌝ }
+{
+    for k in i..WORDS {
+        let w = m[k];
+        if w != 0 {
+            return (WORD_BITS * k) as u64 + u64::trailing_zeros(w) as u64;
+        }
+    }
+    SLOTS as u64
+}
+
+// The lowest slot of the set from s on; SLOTS for none. A walk by slot that changes no set takes it again and again.
+pub fn next(m: &[u64], s: u64) -> u64
+    requires { ⌜ (length (now m) ≡ wordCount) × (s ≤ slotCount) ⌝ }
+    ensures { λ r. ⌜ Next (bitsOf (now (m .entry))) s r ⌝ }
+{
+    if SLOTS as u64 <= s {
+        return SLOTS as u64;
+    }
+    let i = (s / WORD_BITS as u64) as usize;
+    let w = m[i] >> (s % WORD_BITS as u64);
+    if w != 0 {
+        return s + u64::trailing_zeros(w) as u64;
+    }
+    lowest_from(m, i + 1)
 }
 
 // The set without its lowest slot.

@@ -41,19 +41,30 @@ struct Recorder {
     events: Vec<Event>,
 }
 
-/// The recorded load, always the same.
-pub fn load(size: Size) -> Load {
+/// A router after the opening.
+fn recorder(size: Size) -> Recorder {
     let params = Params::ordinary();
-    let router = Router::new(params.clone()).expect("the ordinary parameters are accepted");
+    let router = Router::new(params).expect("the ordinary parameters are accepted");
     let (random, events) = (Random::new(64), Vec::new());
     let mut recorder = Recorder { size, router, random, now: 0, events };
     recorder.open();
+    recorder
+}
+
+/// The second program's router after the opening of a load.
+pub fn opened(size: Size) -> Router {
+    recorder(size).router
+}
+
+/// The recorded load, always the same.
+pub fn load(size: Size) -> Load {
+    let mut recorder = recorder(size);
     let opening = std::mem::take(&mut recorder.events);
     for round in 0..ROUNDS {
         recorder.now += 1000;
         recorder.round(round);
     }
-    Load { size, params, opening, events: recorder.events }
+    Load { size, params: Params::ordinary(), opening, events: recorder.events }
 }
 
 impl Load {

@@ -15,6 +15,7 @@ mod messages;
 #[cfg(linked)]
 mod proved;
 mod supplier;
+mod test_12;
 
 /// How many rounds are timed where no number is given.
 const ROUNDS: usize = 200;
@@ -103,8 +104,11 @@ fn main() {
         ["--instructions"] => {
             count::print_instructions();
             println!();
+            test_12::print_instructions();
+            println!();
             messages::print_instructions();
         }
+        ["--only-test-12", place, which] => test_12::only(place.parse().expect("a place"), which),
         ["--only", folder, kind, which] => {
             count::only(folder, kind.parse().expect("a kind"), which)
         }
@@ -116,6 +120,8 @@ fn main() {
 
 fn print_all_times(rounds: usize) {
     print_times(rounds);
+    println!();
+    test_12::print_times();
     println!();
     messages::print_times(rounds);
     println!();

@@ -4,7 +4,7 @@ use crate::Timed;
 use hivepadlet::{number, value, Cells, CELLS};
 use reference::event::{Call, Event};
 use reference::params::Params;
-use reference::router::{Answer, Done, Refusal, Why};
+use reference::router::{Answer, Done, Refusal, Router as Second, Why};
 
 /// A router of the library: a lent table.
 #[derive(Clone)]
@@ -20,6 +20,11 @@ impl Router {
             hivepadlet::fresh(&params.numbers, u64::from(params.edition.number()), &mut table);
         assert_eq!(number(result), 0, "accepted parameters");
         Router { table }
+    }
+
+    /// The second program's state in a table.
+    pub fn of(router: &Second) -> Router {
+        Router { table: host_compare::cells::table_of(router) }
     }
 
     pub fn is_valid(&self) -> bool {

@@ -1,65 +1,17 @@
 //! The plain router against the second program: every answer, every action, and
 //! the state that each call leaves.
 
+use bench::converted::plain_of;
 use bench::plain;
 use reference::coverage::Coverage;
 use reference::event::{by_slot, Call, Event, SLOTS};
 use reference::generate::traces;
-use reference::params::{Edition, Params, TOPICS};
+use reference::params::{Edition, Params};
 use reference::random::Random;
-use reference::router::{Answer, Done, Peer, Router, Status, TopicRecord, Version, ACTION_LIST};
+use reference::router::{Answer, Done, Peer, Router, Status, TopicRecord, ACTION_LIST};
 use reference::text::{Line, Trace};
 
 const TRACES: usize = 300;
-
-/// Bit k as topic k says.
-fn bits(says: impl Fn(usize) -> bool) -> u8 {
-    (0..TOPICS).filter(|&k| says(k)).fold(0, |bits, k| bits | 1 << k)
-}
-
-fn plain_topics(records: &[TopicRecord; TOPICS]) -> plain::Topics {
-    plain::Topics {
-        graft_times: std::array::from_fn(|k| records[k].graft_time),
-        mesh_times: std::array::from_fn(|k| records[k].mesh_time),
-        p3b: std::array::from_fn(|k| records[k].p3b as u64),
-        p2: std::array::from_fn(|k| records[k].p2 as u32),
-        p3: std::array::from_fn(|k| records[k].p3 as u32),
-        p4: std::array::from_fn(|k| records[k].p4 as u32),
-        subscribed: bits(|k| records[k].subscribed),
-        member: bits(|k| records[k].member),
-    }
-}
-
-fn plain_peer(peer: &Peer) -> plain::Peer {
-    plain::Peer {
-        id: peer.id,
-        groups: peer.groups.map(|group| group.unwrap_or(0)),
-        group_count: peer.groups().count() as u8,
-        p5: peer.p5 as i32,
-        p7: peer.p7 as u32,
-        status: match peer.status {
-            Status::Empty => plain::Status::Empty,
-            Status::Connected => plain::Status::Connected,
-            Status::Retained => plain::Status::Retained,
-        },
-        outbound: peer.outbound,
-        explicit: peer.explicit,
-        v11: peer.version == Version::V11,
-        retain_end: peer.retain_end,
-        backoff_ends: peer.backoff_ends,
-        topics: plain_topics(&peer.topics),
-    }
-}
-
-fn plain_of(router: &Router) -> Box<plain::Router> {
-    let mut plain = plain::Router::new(&router.params);
-    plain.clock = router.clock;
-    plain.joined = bits(|k| router.joined[k]);
-    for (slot, peer) in router.peers.iter().enumerate() {
-        plain.peers[slot] = plain_peer(peer);
-    }
-    plain
-}
 
 /// The routers of a random trace, after each of its events.
 fn each_event(random: &mut Random, mut check: impl FnMut(&Router, &mut plain::Router)) {

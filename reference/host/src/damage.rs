@@ -1,18 +1,19 @@
-//! The ways in which a router's table is damaged here: each cell one past its range, and cells in their
+//! The ways in which a router's table is damaged here: each number one past its range, and numbers in their
 //! ranges that do not go together. None of what comes out is a router's (01: "Tables are a router's if").
 
 use crate::cells::*;
 use crate::made::{LAST_BACKOFF_END, LAST_RETAIN_END, P3B_LIMIT, P4_P7_LIMIT};
 use reference::event::{GROUPS, LAST_TIME, P5_LIMIT, SLOTS};
-use reference::groups::code_from_signed;
 use reference::params::{
     field_at, general, topic, topic_index, Edition, Params, COUNT, FIRST_RULE, TOPICS,
 };
-use reference::router::{Router, Status};
+use reference::router::{Router, Status, TopicRecord};
 
-/// Cells, and what is put there.
-pub struct Damage {
+/// Cells of a table, and what is put there.
+pub struct Change {
     pub kind: &'static str,
+    /// Of what it is a change: the first of its cells, or a bit of a word (`bit_place`).
+    pub place: usize,
     pub changes: Vec<(usize, u64)>,
 }
 
@@ -30,38 +31,58 @@ pub const RULES: [&str; 8] = [
     "parameters: rule 7 broken",
 ];
 
-/// An empty record's cells, by their names; all backoff ends are one kind.
-const EMPTY_PEER: [&str; 13] = [
-    "empty record: status connected",
-    "empty record: id",
+/// A record past the mark has its flags still, and the id 0.
+pub const MARKS: [&str; 3] =
+    ["mark: at the last record", "mark: at the first record", "mark: 0 with a record"];
+
+/// The words, first those of the peers; all topics' are one kind.
+const WORDS: usize = 8;
+
+const EMPTY_BITS: [&str; WORDS] = [
+    "empty record: connected",
+    "empty record: retained",
+    "empty record: explicit",
+    "empty record: outbound",
+    "empty record: version",
+    "empty record: version's higher bit",
+    "empty record: subscribed",
+    "empty record: member",
+];
+
+const BITS_PAST_MARK: [&str; WORDS] = [
+    "past the mark: connected",
+    "past the mark: retained",
+    "past the mark: explicit",
+    "past the mark: outbound",
+    "past the mark: version",
+    "past the mark: version's higher bit",
+    "past the mark: subscribed",
+    "past the mark: member",
+];
+
+const EMPTY_GROUPS: [&str; GROUPS] = [
     "empty record: first group",
     "empty record: second group",
     "empty record: third group",
     "empty record: fourth group",
-    "empty record: outbound",
-    "empty record: explicit",
-    "empty record: version",
+];
+
+const EMPTY_NUMBERS: [&str; 9] = [
+    "empty record: id",
     "empty record: P5",
     "empty record: P7",
     "empty record: retain end",
     "empty record: backoff end",
-];
-
-const EMPTY_TOPIC: [&str; RECORD_CELLS] = [
     "empty record: P2",
     "empty record: P3",
     "empty record: P4",
     "empty record: P3b",
-    "empty record: subscribed",
-    "empty record: member",
-    "empty record: graft time",
-    "empty record: mesh time",
 ];
 
 /// The kind that tries no range's end.
-pub const LARGEST: &str = "any cell: 2^64 - 1";
+pub const LARGEST: &str = "any number: 2^64 - 1";
 
-const OTHERS: [&str; 54] = [
+const OTHERS: [&str; 51] = [
     LARGEST,
     "clock: past 2^40",
     "clock: under a member's graft and mesh time",
@@ -72,9 +93,8 @@ const OTHERS: [&str; 54] = [
     "edition: 0",
     "edition: 3",
     "edition: 1 of parameters that only edition 2 takes",
-    "empty record: status retained",
-    "empty record: status 3",
-    "status: 3",
+    "empty record: connected and retained",
+    "status: connected and retained",
     "status: empty, the record not zero",
     "status: retained with a subscription",
     "status: connected with a retain end",
@@ -88,51 +108,77 @@ const OTHERS: [&str; 54] = [
     "groups: one twice",
     "groups: out of order",
     "groups: the last below the one before it",
-    "outbound: 2",
-    "explicit: 2",
     "explicit: a member",
-    "version: 2",
+    "version: its higher bit",
     "P5: under -10^9",
     "P5: over 10^9",
+    "P5: its lane full",
     "P7: past 10^6",
     "retain end: past its range",
     "retain end: of a connected record",
     "backoff end: past its range",
     "P2: past its cap",
+    "P2: its lane full",
     "P3: past its cap",
+    "P3: its lane full",
     "P4: past 10^6",
+    "P4: its lane full",
     "P3b: past 10^12",
-    "subscribed: 2",
     "subscribed: not, and a member",
     "subscribed: a retained record",
-    "member: 2",
     "member: not subscribed",
     "member: in a topic not joined",
     "member: explicit",
     "member: retained",
     "graft time: past the clock, with the mesh time",
-    "graft time: of a non-member",
     "graft time: its sum with the mesh time past 2^64",
     "mesh time: past the clock, with the graft time",
-    "mesh time: of a non-member",
     "mesh time: past 2^40",
 ];
 
 /// Every kind of damage, each of which a comparison is to do.
 pub fn kinds() -> impl Iterator<Item = &'static str> {
-    RULES.into_iter().chain(EMPTY_PEER).chain(EMPTY_TOPIC).chain(OTHERS)
+    let empty = EMPTY_BITS.into_iter().chain(EMPTY_GROUPS).chain(EMPTY_NUMBERS);
+    let others = BITS_PAST_MARK.into_iter().chain(OTHERS);
+    RULES.into_iter().chain(MARKS).chain(empty).chain(others)
 }
 
-/// Every damage of the router's table; with `largest`, 2^64 - 1 in every cell too.
-pub fn all(router: &Router, largest: bool) -> Vec<Damage> {
-    let mut list = Damages { router, list: Vec::new() };
+/// How many places there are to be damaged: the cells, and then the bits of the words by slot.
+pub const PLACES: usize = CELLS + (6 + 2 * TOPICS) * SLOTS;
+
+/// A slot's bit of a word as a place, behind the cells.
+pub fn bit_place(word: usize, slot: usize) -> usize {
+    let number = match word {
+        CONNECTED..ID => (word - CONNECTED) / WORD,
+        _ => 6 + (word - SUBSCRIBED) / WORD,
+    };
+    CELLS + number * SLOTS + slot
+}
+
+/// The places that can be damaged by themselves, whatever the others are.
+pub fn alone() -> impl Iterator<Item = usize> {
+    let is_number = |cell: &usize| match Spot::of(*cell) {
+        Spot::Kept | Spot::Between => false,
+        spot => !spot.is_word(),
+    };
+    let words = [CONNECTED, RETAINED, VERSION_HIGH];
+    let bits = words.into_iter().flat_map(|word| (0..SLOTS).map(move |slot| bit_place(word, slot)));
+    (0..CELLS).filter(is_number).chain(bits)
+}
+
+/// Every damage of the router's table; with `largest`, 2^64 - 1 in every number too.
+pub fn all(router: &Router, table: &Cells, largest: bool) -> Vec<Change> {
+    let mut list = Damages { router, table, list: Vec::new() };
     list.clock();
     list.joined();
     list.limits();
     list.rules();
     list.edition();
+    list.mark();
     for slot in 0..SLOTS {
-        if router.peers[slot].status == Status::Empty {
+        if slot >= used(table) {
+            list.bits_set(slot, BITS_PAST_MARK);
+        } else if router.peers[slot].status == Status::Empty {
             list.empty_record(slot);
         } else {
             list.peer(slot);
@@ -143,7 +189,8 @@ pub fn all(router: &Router, largest: bool) -> Vec<Damage> {
             }
         }
     }
-    for cell in (0..CELLS).filter(|_| largest) {
+    let is_number = |cell: &usize| *cell != USED && !Spot::of(*cell).is_word();
+    for cell in (0..CELLS).filter(|cell| largest && is_number(cell) && is_read(table, *cell)) {
         list.add(LARGEST, &[(cell, u64::MAX)]);
     }
     list.list
@@ -151,17 +198,34 @@ pub fn all(router: &Router, largest: bool) -> Vec<Damage> {
 
 struct Damages<'a> {
     router: &'a Router,
-    list: Vec<Damage>,
+    table: &'a Cells,
+    list: Vec<Change>,
 }
 
 impl Damages<'_> {
     fn add(&mut self, kind: &'static str, changes: &[(usize, u64)]) {
-        self.list.push(Damage { kind, changes: changes.to_vec() });
+        self.list.push(Change { kind, place: changes[0].0, changes: changes.to_vec() });
     }
 
     fn add_if(&mut self, holds: bool, kind: &'static str, changes: &[(usize, u64)]) {
         if holds {
             self.add(kind, changes);
+        }
+    }
+
+    /// A slot's bits of words, each turned.
+    fn turn(&mut self, kind: &'static str, slot: usize, words: &[usize]) {
+        let turned = |&word: &usize| {
+            let cell = word + slot / 64;
+            (cell, self.table[cell] ^ 1 << (slot % 64))
+        };
+        let changes = words.iter().map(turned).collect();
+        self.list.push(Change { kind, place: bit_place(words[0], slot), changes });
+    }
+
+    fn turn_if(&mut self, holds: bool, kind: &'static str, slot: usize, words: &[usize]) {
+        if holds {
+            self.turn(kind, slot, words);
         }
     }
 
@@ -182,12 +246,15 @@ impl Damages<'_> {
         }
     }
 
+    /// One past the limits, where a number with the sign of its field can be.
     fn limits(&mut self) {
         for index in 0..COUNT {
             let field = field_at(index);
-            let (under, over) = (code_from_signed(field.low - 1), code_from_signed(field.high + 1));
-            self.add("parameter: under its lower limit", &[(CODES + index, under)]);
-            self.add("parameter: over its upper limit", &[(CODES + index, over)]);
+            let (under, over) = (field.low - 1, field.high + 1);
+            let fits = |number: i64| if is_below(index) { number <= 0 } else { number >= 0 };
+            let change = |number: i64| [(number_cell(index), number.unsigned_abs())];
+            self.add_if(fits(under), "parameter: under its lower limit", &change(under));
+            self.add_if(fits(over), "parameter: over its upper limit", &change(over));
         }
     }
 
@@ -200,7 +267,7 @@ impl Damages<'_> {
             }
             let cells: Vec<(usize, u64)> = changes
                 .iter()
-                .map(|&(index, value)| (CODES + index, code_from_signed(value)))
+                .map(|&(index, value)| (number_cell(index), value.unsigned_abs()))
                 .collect();
             let alone = params.first_broken() == Some(FIRST_RULE + rule);
             self.add_if(alone, RULES[rule], &cells);
@@ -219,44 +286,70 @@ impl Damages<'_> {
         let d_score = second.general(general::D_SCORE);
         let kind = "edition: 1 of parameters that only edition 2 takes";
         let first = (EDITION, edition_cell(Edition::One));
-        let most = (CODES + general::D_SCORE, code_from_signed(d_score));
+        let most = (number_cell(general::D_SCORE), d_score.unsigned_abs());
         self.add_if(only_2, kind, &[first, most]);
+    }
+
+    /// Some record stands past it.
+    fn mark(&mut self) {
+        let Some(first) = self.router.peers.iter().position(|peer| !peer.is_zero()) else { return };
+        let places = [records_end(self.router) - 1, first, 0];
+        for (kind, slot) in MARKS.into_iter().zip(places) {
+            self.add(kind, &[(USED, slot as u64)]);
+        }
+    }
+
+    /// Each bit of a slot that has none.
+    fn bits_set(&mut self, slot: usize, kinds: [&'static str; WORDS]) {
+        let of_peer = (0..6).map(|place| CONNECTED + place * WORD);
+        for (word, kind) in of_peer.zip(kinds) {
+            self.turn(kind, slot, &[word]);
+        }
+        for k in 0..TOPICS {
+            self.turn(kinds[6], slot, &[subscribed_word(k)]);
+            self.turn(kinds[7], slot, &[member_word(k)]);
+        }
     }
 
     /// "Empty records are all zero".
     fn empty_record(&mut self, slot: usize) {
-        for field in 0..PEER_CELLS {
-            let kind = EMPTY_PEER[field.min(peer::BACKOFF_ENDS)];
-            self.add(kind, &[(peer_cell(slot, field), 1)]);
+        self.bits_set(slot, EMPTY_BITS);
+        self.turn("empty record: connected and retained", slot, &[CONNECTED, RETAINED]);
+        for (place, kind) in EMPTY_GROUPS.into_iter().enumerate() {
+            self.add(kind, &[(group_place(slot, place), 1)]);
         }
-        self.add("empty record: status retained", &[(peer_cell(slot, peer::STATUS), 2)]);
-        self.add("empty record: status 3", &[(peer_cell(slot, peer::STATUS), 3)]);
+        self.add("empty record: id", &[(ID + slot, 1)]);
+        self.add("empty record: P5", &[(P5_P7 + slot, 1)]);
+        self.add("empty record: P7", &[(P5_P7 + slot, P7_LANE)]);
+        self.add("empty record: retain end", &[(RETAIN_END + slot, 1)]);
         for k in 0..TOPICS {
-            for (field, kind) in EMPTY_TOPIC.into_iter().enumerate() {
-                self.add(kind, &[(record_cell(slot, k, field), 1)]);
-            }
+            self.add("empty record: backoff end", &[(end_cell(slot, k), 1)]);
+            self.add("empty record: P2", &[(counters_cell(slot, k), 1)]);
+            self.add("empty record: P3", &[(counters_cell(slot, k), P3_LANE)]);
+            self.add("empty record: P4", &[(counters_cell(slot, k), P4_LANE)]);
+            self.add("empty record: P3b", &[(p3b_cell(slot, k), 1)]);
         }
     }
 
     fn peer(&mut self, slot: usize) {
-        let cell = |field| peer_cell(slot, field);
+        let peer = &self.router.peers[slot];
         self.status(slot);
         self.id(slot);
         self.groups(slot);
-        self.add("outbound: 2", &[(cell(peer::OUTBOUND), 2)]);
-        self.add("explicit: 2", &[(cell(peer::EXPLICIT), 2)]);
-        self.add("version: 2", &[(cell(peer::VERSION), 2)]);
-        self.add("P5: under -10^9", &[(cell(peer::P5), code_from_signed(-P5_LIMIT - 1))]);
-        self.add("P5: over 10^9", &[(cell(peer::P5), code_from_signed(P5_LIMIT + 1))]);
-        self.add("P7: past 10^6", &[(cell(peer::P7), P4_P7_LIMIT as u64 + 1)]);
-        if self.router.peers[slot].status == Status::Retained {
+        self.turn("version: its higher bit", slot, &[VERSION_HIGH]);
+        let cell = P5_P7 + slot;
+        self.add("P5: under -10^9", &[(cell, p5_p7(-P5_LIMIT - 1, peer.p7))]);
+        self.add("P5: over 10^9", &[(cell, p5_p7(P5_LIMIT + 1, peer.p7))]);
+        self.add("P5: its lane full", &[(cell, self.table[cell] | (P7_LANE - 1))]);
+        self.add("P7: past 10^6", &[(cell, p5_p7(peer.p5, P4_P7_LIMIT + 1))]);
+        if peer.status == Status::Retained {
             let end = LAST_RETAIN_END + 1;
-            self.add("retain end: past its range", &[(cell(peer::RETAIN_END), end)]);
+            self.add("retain end: past its range", &[(RETAIN_END + slot, end)]);
         } else {
-            self.add("retain end: of a connected record", &[(cell(peer::RETAIN_END), 1)]);
+            self.add("retain end: of a connected record", &[(RETAIN_END + slot, 1)]);
         }
         for k in 0..TOPICS {
-            let change = (cell(peer::BACKOFF_ENDS + k), LAST_BACKOFF_END + 1);
+            let change = (end_cell(slot, k), LAST_BACKOFF_END + 1);
             self.add("backoff end: past its range", &[change]);
         }
     }
@@ -265,15 +358,19 @@ impl Damages<'_> {
         let peer = &self.router.peers[slot];
         let (subscribes, retained) =
             (peer.topics.iter().any(|record| record.subscribed), peer.retain_end > 0);
-        let status = |value| [(peer_cell(slot, peer::STATUS), value)];
-        self.add("status: 3", &status(3));
-        self.add("status: empty, the record not zero", &status(0));
-        self.add_if(subscribes, "status: retained with a subscription", &status(2));
-        self.add_if(retained, "status: connected with a retain end", &status(1));
+        let (own, other) = match peer.status {
+            Status::Retained => (RETAINED, CONNECTED),
+            _ => (CONNECTED, RETAINED),
+        };
+        self.turn("status: connected and retained", slot, &[other]);
+        self.turn("status: empty, the record not zero", slot, &[own]);
+        let both = [own, other];
+        self.turn_if(subscribes, "status: retained with a subscription", slot, &both);
+        self.turn_if(retained, "status: connected with a retain end", slot, &both);
     }
 
     fn id(&mut self, slot: usize) {
-        let cell = peer_cell(slot, peer::ID);
+        let cell = ID + slot;
         self.add("id: 0", &[(cell, 0)]);
         self.add("id: past 2^32 - 1", &[(cell, WIDE)]);
         let peers = &self.router.peers;
@@ -289,7 +386,7 @@ impl Damages<'_> {
 
     /// "One to four different address groups .., lowest first", a cell each, the group and one.
     fn groups(&mut self, slot: usize) {
-        let cell = |place: usize| peer_cell(slot, peer::GROUPS + place);
+        let cell = |place: usize| group_place(slot, place);
         let set = |values: [u64; GROUPS]| [0, 1, 2, 3].map(|place| (cell(place), values[place]));
         for place in 0..GROUPS {
             self.add("group: past 2^32 - 1", &[(cell(place), WIDE + 1)]);
@@ -313,14 +410,24 @@ impl Damages<'_> {
         }
     }
 
+    /// One past the range, and all bits of a lane, the numbers beside it as they are.
     fn counters(&mut self, slot: usize, k: usize) {
-        let past = |cap: i64| cap as u64 + 1;
         let params = &self.router.params;
-        let (p2, p3) = (params.topic(k, topic::P2_CAP), params.topic(k, topic::P3_CAP));
-        self.add("P2: past its cap", &[(record_cell(slot, k, record::P2), past(p2))]);
-        self.add("P3: past its cap", &[(record_cell(slot, k, record::P3), past(p3))]);
-        self.add("P4: past 10^6", &[(record_cell(slot, k, record::P4), past(P4_P7_LIMIT))]);
-        self.add("P3b: past 10^12", &[(record_cell(slot, k, record::P3B), past(P3B_LIMIT))]);
+        let caps = (params.topic(k, topic::P2_CAP), params.topic(k, topic::P3_CAP));
+        let record = &self.router.peers[slot].topics[k];
+        let full = [P3_LANE, P3_LANE, u64::MAX / P4_LANE + 1].map(|lane| lane as i64 - 1);
+        let packed = |p2, p3, p4| {
+            let record = TopicRecord { p2, p3, p4, ..TopicRecord::default() };
+            [(counters_cell(slot, k), counters(&record))]
+        };
+        let TopicRecord { p2, p3, p4, .. } = *record;
+        self.add("P2: past its cap", &packed(caps.0 + 1, p3, p4));
+        self.add("P2: its lane full", &packed(full[0], p3, p4));
+        self.add("P3: past its cap", &packed(p2, caps.1 + 1, p4));
+        self.add("P3: its lane full", &packed(p2, full[1], p4));
+        self.add("P4: past 10^6", &packed(p2, p3, P4_P7_LIMIT + 1));
+        self.add("P4: its lane full", &packed(p2, p3, full[2]));
+        self.add("P3b: past 10^12", &[(p3b_cell(slot, k), P3B_LIMIT as u64 + 1)]);
     }
 
     /// "A retained record has no subscription and no membership; a member is connected, subscribed, not
@@ -330,45 +437,38 @@ impl Damages<'_> {
         let (subscribed, member) = (peer.topics[k].subscribed, peer.topics[k].member);
         let (joined, explicit) = (self.router.joined[k], peer.explicit);
         let (connected, outside) = (peer.status == Status::Connected, !member);
-        let subscription = |value| (record_cell(slot, k, record::SUBSCRIBED), value);
-        let membership = |value| (record_cell(slot, k, record::MEMBER), value);
-        self.add("subscribed: 2", &[subscription(2)]);
-        self.add("member: 2", &[membership(2)]);
-        self.add_if(member, "subscribed: not, and a member", &[subscription(0)]);
-        let flag = (peer_cell(slot, peer::EXPLICIT), 1);
-        self.add_if(member, "explicit: a member", &[flag]);
-        self.add_if(!connected, "subscribed: a retained record", &[subscription(1)]);
+        let (subscription, membership) = (subscribed_word(k), member_word(k));
+        self.turn_if(member, "subscribed: not, and a member", slot, &[subscription]);
+        self.turn_if(member, "explicit: a member", slot, &[EXPLICIT]);
+        self.turn_if(!connected, "subscribed: a retained record", slot, &[subscription]);
         let allowed = joined && !explicit;
-        let changes = [subscription(1), membership(1)];
-        self.add_if(!connected && allowed, "member: retained", &changes);
+        let both = [subscription, membership];
+        self.turn_if(!connected && allowed, "member: retained", slot, &both);
         let alone = connected && outside;
         let no_subscription = alone && allowed && !subscribed;
-        self.add_if(no_subscription, "member: not subscribed", &[membership(1)]);
+        self.turn_if(no_subscription, "member: not subscribed", slot, &[membership]);
         let not_joined = alone && subscribed && !joined && !explicit;
-        self.add_if(not_joined, "member: in a topic not joined", &[membership(1)]);
+        self.turn_if(not_joined, "member: in a topic not joined", slot, &[membership]);
         let by_explicit = alone && subscribed && joined && explicit;
-        self.add_if(by_explicit, "member: explicit", &[membership(1)]);
+        self.turn_if(by_explicit, "member: explicit", slot, &[membership]);
     }
 
-    /// "Graft time plus mesh time is at most the clock", both 0 for a non-member.
+    /// "Graft time plus mesh time is at most the clock", of a member.
     fn times(&mut self, slot: usize, k: usize) {
         let record = &self.router.peers[slot].topics[k];
-        let (graft, mesh) =
-            (record_cell(slot, k, record::GRAFT), record_cell(slot, k, record::MESH));
-        let clock = self.router.clock;
-        if record.member {
-            let (graft_room, mesh_room) = (clock - record.mesh_time, clock - record.graft_time);
-            let kind = "graft time: past the clock, with the mesh time";
-            self.add(kind, &[(graft, graft_room + 1)]);
-            let kind = "mesh time: past the clock, with the graft time";
-            self.add(kind, &[(mesh, mesh_room + 1)]);
-            self.add("mesh time: past 2^40", &[(mesh, LAST_TIME + 1)]);
-            let kind = "graft time: its sum with the mesh time past 2^64";
-            self.add(kind, &[(graft, u64::MAX), (mesh, 1)]);
-        } else {
-            self.add("graft time: of a non-member", &[(graft, 1)]);
-            self.add("mesh time: of a non-member", &[(mesh, 1)]);
+        if !record.member {
+            return;
         }
+        let (graft, mesh) = (graft_cell(slot, k), mesh_cell(slot, k));
+        let clock = self.router.clock;
+        let (graft_room, mesh_room) = (clock - record.mesh_time, clock - record.graft_time);
+        let kind = "graft time: past the clock, with the mesh time";
+        self.add(kind, &[(graft, graft_room + 1)]);
+        let kind = "mesh time: past the clock, with the graft time";
+        self.add(kind, &[(mesh, mesh_room + 1)]);
+        self.add("mesh time: past 2^40", &[(mesh, LAST_TIME + 1)]);
+        let kind = "graft time: its sum with the mesh time past 2^64";
+        self.add(kind, &[(graft, u64::MAX), (mesh, 1)]);
     }
 }
 

@@ -1,10 +1,12 @@
 //! The in-process comparison: the proved library, by its C functions, and the second program's router
-//! get the same calls; answers, action lists and every cell of the table must be the same after each.
+//! get the same calls; answers, action lists and every cell that the state reads must be the same after each.
 
 pub mod cells;
 pub mod counts;
 pub mod damage;
 pub mod edges;
+pub mod forms;
+pub mod harmless;
 pub mod lent;
 pub mod library;
 #[cfg(linked)]
@@ -15,7 +17,9 @@ pub mod pair;
 pub mod parameters;
 pub mod report;
 pub mod request;
+pub mod rows;
 pub mod runs;
+pub mod spot;
 pub mod stand_in;
 pub mod swept;
 

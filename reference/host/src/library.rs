@@ -5,6 +5,7 @@ pub use hivepadlet::{number, packed, value, Numbers, Why};
 
 use crate::cells::Cells;
 use crate::request::Request;
+use crate::rows::Rows;
 
 pub trait Library {
     /// Makes one of the thirteen calls. The answer's number is the low eight bits of what comes back, the
@@ -24,4 +25,8 @@ pub trait Library {
 
     /// 1 if the table is a router's, else 0.
     fn is_router(&self, table: &Cells) -> u32;
+
+    /// A table of the old form as one of the new, and back: 0, or 12.
+    fn turn_rows(&self, rows: &Rows, table: &mut Cells) -> u64;
+    fn turn_table(&self, table: &Cells, rows: &mut Rows) -> u64;
 }

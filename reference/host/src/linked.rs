@@ -3,6 +3,7 @@
 use crate::cells::Cells;
 use crate::library::{Library, Numbers, Why};
 use crate::request::Request;
+use crate::rows::Rows;
 use reference::event::{Call, Event};
 
 pub struct Linked;
@@ -66,5 +67,13 @@ impl Library for Linked {
 
     fn is_router(&self, table: &Cells) -> u32 {
         hivepadlet::is_router(table)
+    }
+
+    fn turn_rows(&self, rows: &Rows, table: &mut Cells) -> u64 {
+        hivepadlet::forms::from_old(rows, table)
+    }
+
+    fn turn_table(&self, table: &Cells, rows: &mut Rows) -> u64 {
+        hivepadlet::forms::to_old(table, rows)
     }
 }

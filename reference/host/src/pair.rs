@@ -1,6 +1,6 @@
 //! The two sides of one call: the library with its lent memory, and the second program's router.
 
-use crate::cells::{self, Cells, Spot, CELLS, CLOCK};
+use crate::cells::{self, Cells, Spot, CELLS, CLOCK, USED};
 use crate::lent::Lent;
 use crate::library::{number, value, Library};
 use crate::request::Request;
@@ -27,7 +27,7 @@ pub struct Pair<'a, L> {
     list: Lent<u32>,
     /// A score and its parts.
     why: Lent<i64>,
-    /// The table before the call; after it, by the second program.
+    /// The table before the call; after it, by the second program, where the state reads it.
     before: Box<Cells>,
     expected: Box<Cells>,
     /// The second program's list.
@@ -47,7 +47,11 @@ impl<'a, L: Library> Pair<'a, L> {
             other_list: Vec::new(),
             made: 0,
         };
-        pair.load(&cells::table_of(start));
+        // The cells that no state reads are full of other numbers.
+        let table = pair.table_mut();
+        table[USED] = 0;
+        cells::write(start, table);
+        pair.before.copy_from_slice(pair.table.lent());
         pair
     }
 
@@ -61,18 +65,22 @@ impl<'a, L: Library> Pair<'a, L> {
         self.table.lent().try_into().expect("a table has its cells")
     }
 
+    fn table_mut(&mut self) -> &mut Cells {
+        self.table.lent_mut().try_into().expect("a table has its cells")
+    }
+
     /// Makes a call on both sides. The router is the second program's, and holds the state of the table.
     pub fn make(&mut self, router: &mut Router, request: &Request) -> Result<Answer, Difference> {
         let result = self.make_here(request);
         let answer = router.call(&request.event, &mut self.other_list);
-        cells::write(router, &mut self.expected);
+        self.expect(router);
         let mut found = Vec::new();
         self.compare_answer(result, &answer, &mut found);
         self.compare_list(&mut found);
         self.compare_table(&mut found);
         self.judge(request, result, &mut found);
         if found.is_empty() {
-            // The table is the second program's, cell by cell.
+            // The table is what is expected, cell by cell.
             std::mem::swap(&mut self.before, &mut self.expected);
             Ok(answer)
         } else {
@@ -124,6 +132,14 @@ impl<'a, L: Library> Pair<'a, L> {
         self.library.call(request, table, why, self.list.lent_mut())
     }
 
+    /// The table as the second program has it: what its state reads, and the mark, which rises to the last
+    /// record and never falls. The other cells are as they came.
+    fn expect(&mut self, router: &Router) {
+        self.expected.copy_from_slice(self.table.lent());
+        self.expected[USED] = self.before[USED];
+        cells::write(router, &mut self.expected);
+    }
+
     fn compare_answer(&self, result: u64, answer: &Answer, found: &mut Vec<String>) {
         let due = code(answer);
         if result != due {
@@ -156,8 +172,9 @@ impl<'a, L: Library> Pair<'a, L> {
         let differ: Vec<usize> =
             (0..CELLS).filter(|&cell| self.table()[cell] != self.expected[cell]).collect();
         for &cell in differ.iter().take(SHOWN) {
-            let (library, second) = (self.table()[cell], self.expected[cell]);
-            let (spot, before) = (Spot::of(cell), self.before[cell]);
+            let spot = Spot::of(cell);
+            let [library, second, before] =
+                [self.table(), &self.expected, &self.before].map(|table| spot.shown(table[cell]));
             found.push(format!(
                 "cell {cell}, {spot}: library {library}, second program {second}, before {before}"
             ));

@@ -188,14 +188,14 @@ impl<L: Library> Sides<'_, L> {
         differ_if(!same || !whole, || "read does not undo write".to_string())
     }
 
-    /// The table is full of other numbers before.
+    /// The table is full of other numbers before; what no state reads may be anything after.
     fn fresh(&mut self, params: &Params) -> Result<(), Difference> {
         let mut lent: Lent<u64> = Lent::new(CELLS, self.next_salt());
-        let mut other = Box::new([0; CELLS]);
-        other.copy_from_slice(lent.lent());
         let table = lent.lent_mut().try_into().expect("a table has its cells");
         let edition = cells::edition_cell(params.edition);
         let library = self.library.fresh(&params.numbers, edition, table);
+        let mut other = Box::new([0; CELLS]);
+        other.copy_from_slice(lent.lent());
         let second = StandIn.fresh(&params.numbers, edition, &mut other);
         same_result("fresh", library, second)?;
         if lent.lent() != &other[..] {

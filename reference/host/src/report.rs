@@ -3,7 +3,7 @@
 use crate::cells::{Spot, CELLS};
 use crate::library::Library;
 use crate::request::Request;
-use crate::{edges, parameters, runs, swept};
+use crate::{edges, forms, parameters, runs, swept};
 use reference::event::SLOTS;
 use reference::params::{field_at, COUNT};
 use reference::router::{Peer, Router, ACTION_LIST};
@@ -104,13 +104,23 @@ pub fn of_edge(failure: &edges::Failure) -> String {
 pub fn of_damage(failure: &swept::Failure) -> String {
     let mut out = format!("a difference on state {}, {}:\n", failure.state, failure.kind);
     for &(cell, value) in failure.changes.iter().filter(|&&(cell, _)| cell < CELLS) {
-        let _ = writeln!(out, "  cell {cell}, {}, set to {value}", Spot::of(cell));
+        let spot = Spot::of(cell);
+        let _ = writeln!(out, "  cell {cell}, {spot}, set to {}", spot.shown(value));
     }
     match &failure.request {
         Some(request) => {
             let _ = writeln!(out, "  {}", request.text());
         }
         None => out += "  is_router\n",
+    }
+    write_lines(&failure.difference.0, &mut out);
+    out
+}
+
+pub fn of_forms(failure: &forms::Failure) -> String {
+    let mut out = format!("a difference on state {}, {}:\n", failure.state, failure.kind);
+    if let Some(request) = &failure.request {
+        let _ = writeln!(out, "  {}", request.text());
     }
     write_lines(&failure.difference.0, &mut out);
     out

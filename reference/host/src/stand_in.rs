@@ -4,6 +4,7 @@
 use crate::cells::{self, Cells};
 use crate::library::{packed, Library, Numbers, Why};
 use crate::request::Request;
+use crate::rows::{self, Rows};
 use reference::params::{self, Params};
 use reference::router::{number, Answer, Done, Refusal, Router};
 
@@ -65,6 +66,7 @@ impl Library for StandIn {
         let Some(edition) = cells::edition_of(edition) else { return OUT_OF_RANGE };
         match Router::new(Params { edition, numbers: *numbers }) {
             Ok(router) => {
+                table[cells::USED] = 0;
                 cells::write(&router, table);
                 packed(0, 0)
             }
@@ -74,5 +76,26 @@ impl Library for StandIn {
 
     fn is_router(&self, table: &Cells) -> u32 {
         u32::from(cells::router_of(table).is_some_and(|router| router.is_valid()))
+    }
+
+    fn turn_rows(&self, rows: &Rows, table: &mut Cells) -> u64 {
+        match rows::router_of(rows).filter(Router::is_valid) {
+            Some(router) => {
+                table[cells::USED] = 0;
+                cells::write(&router, table);
+                packed(0, 0)
+            }
+            None => code(&Err(Refusal::NotARouter)),
+        }
+    }
+
+    fn turn_table(&self, table: &Cells, rows: &mut Rows) -> u64 {
+        match cells::router_of(table).filter(Router::is_valid) {
+            Some(router) => {
+                rows::write(&router, rows);
+                packed(0, 0)
+            }
+            None => code(&Err(Refusal::NotARouter)),
+        }
     }
 }

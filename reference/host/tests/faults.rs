@@ -1,14 +1,16 @@
 //! The comparison notices faults: each is set into the stand-in, and the part that is to find it does. The
 //! stand-in without a fault shows no difference.
 
-use host_compare::cells::{
-    self, peer, peer_cell, record, record_cell, Cells, CELLS, CLOCK, JOINED,
-};
+use host_compare::cells::{self, bit, set_bit, Cells, CELLS, CLOCK, CONNECTED, ID, JOINED, USED};
+use host_compare::cells::{end_cell, graft_cell, group_place, member_word, mesh_cell, number_cell};
+use host_compare::cells::{subscribed_word, EXPLICIT, P5_P7, P7_LANE, RETAINED, RETAIN_END};
+use host_compare::cells::{STRIDE, VERSION_HIGH};
 use host_compare::counts::Counts;
 use host_compare::library::{packed, Library, Numbers, Why};
 use host_compare::request::Request;
+use host_compare::rows::Rows;
 use host_compare::stand_in::StandIn;
-use host_compare::{edges, made, parameters, report, runs, swept};
+use host_compare::{edges, forms, made, parameters, report, runs, swept};
 use reference::event::{by_slot, Call, GROUPS, LAST_TIME, OLD_SLOTS, P5_LIMIT, SLOTS};
 use reference::params::{general, topic, topic_index, COUNT};
 use reference::random::Random;
@@ -24,6 +26,8 @@ struct Faulty {
     write: fn(&Numbers, u64, &mut [u8]) -> u64,
     fresh: fn(&Numbers, u64, &mut Cells) -> u64,
     is_router: fn(&Cells) -> u32,
+    turn_rows: fn(&Rows, &mut Cells) -> u64,
+    turn_table: fn(&Cells, &mut Rows) -> u64,
 }
 
 impl Library for Faulty {
@@ -45,6 +49,12 @@ impl Library for Faulty {
     fn is_router(&self, table: &Cells) -> u32 {
         (self.is_router)(table)
     }
+    fn turn_rows(&self, rows: &Rows, table: &mut Cells) -> u64 {
+        (self.turn_rows)(rows, table)
+    }
+    fn turn_table(&self, table: &Cells, rows: &mut Rows) -> u64 {
+        (self.turn_table)(table, rows)
+    }
 }
 
 const SOUND: Faulty = Faulty {
@@ -54,6 +64,8 @@ const SOUND: Faulty = Faulty {
     write: |numbers, edition, buffer| StandIn.write(numbers, edition, buffer),
     fresh: |numbers, edition, table| StandIn.fresh(numbers, edition, table),
     is_router: |table| StandIn.is_router(table),
+    turn_rows: |rows, table| StandIn.turn_rows(rows, table),
+    turn_table: |table, rows| StandIn.turn_table(table, rows),
 };
 
 fn with_call(call: CallOf) -> Faulty {
@@ -94,6 +106,10 @@ fn tables_differ(library: &Faulty) -> bool {
     swept::compare(library, &states(), &mut Random::new(6), &mut Counts::default()).is_err()
 }
 
+fn forms_differ(library: &Faulty) -> bool {
+    forms::compare(library, &states(), &mut Random::new(8), &mut Counts::default()).is_err()
+}
+
 fn parameters_differ(library: &Faulty) -> bool {
     let mut counts = Counts::default();
     parameters::compare(library, 4000, usize::MAX, &mut Random::new(7), &mut counts).is_err()
@@ -110,6 +126,7 @@ fn without_a_fault_there_is_no_difference() {
     assert!(run(&SOUND, 30_000).is_none());
     assert!(!edges_differ(&SOUND));
     assert!(!tables_differ(&SOUND));
+    assert!(!forms_differ(&SOUND));
     assert!(!parameters_differ(&SOUND));
 }
 
@@ -121,9 +138,9 @@ fn with_number(
     list: &mut [u32],
     (index, step): (usize, u64),
 ) -> u64 {
-    let cell = cells::CODES + index;
+    let cell = number_cell(index);
     let before = table[cell];
-    table[cell] += 2 * step;
+    table[cell] += step;
     if StandIn.is_router(table) == 0 {
         table[cell] = before;
     }
@@ -207,10 +224,10 @@ fn wrong_answers_lists_and_tables_are_seen() {
         (
             "one backoff end of one slot stands",
             with_call(|request, table, why, list| {
-                let cell = peer_cell(40, peer::BACKOFF_ENDS);
+                let cell = end_cell(40, 0);
                 let before = table[cell];
                 let result = StandIn.call(request, table, why, list);
-                if table[peer_cell(40, peer::STATUS)] == 1 {
+                if bit(table, CONNECTED, 40) && table[USED] > 41 {
                     table[cell] = before;
                 }
                 result
@@ -271,8 +288,8 @@ fn wrong_answers_lists_and_tables_are_seen() {
             with_call(|request, table, why, list| {
                 let before = *table;
                 let result = StandIn.call(request, table, why, list);
-                let cell = peer_cell(OLD_SLOTS, peer::STATUS);
-                if (before[cell], table[cell]) == (0, 1) {
+                let is_taken = |table: &Cells| bit(table, CONNECTED, OLD_SLOTS);
+                if !is_taken(&before) && is_taken(table) {
                     *table = before;
                     return 5;
                 }
@@ -367,9 +384,10 @@ fn wrong_scores_are_seen() {
             with_call(|request, table, why, list| {
                 let mut other = *table;
                 each_slot(&mut other, |t, slot| {
-                    if t[peer_cell(slot, peer::STATUS)] == 2 {
-                        t[peer_cell(slot, peer::STATUS)] = 1;
-                        t[peer_cell(slot, peer::RETAIN_END)] = 0;
+                    if bit(t, RETAINED, slot) {
+                        set_bit(t, RETAINED, slot, false);
+                        set_bit(t, CONNECTED, slot, true);
+                        t[RETAIN_END + slot] = 0;
                     }
                 });
                 let result = StandIn.call(request, table, &mut [0; 6], list);
@@ -400,11 +418,6 @@ fn wrong_scores_are_seen() {
     each_is_seen(&faults, |faulty| run(faulty, 60_000).is_some());
 }
 
-/// The cell of a slot's backoff end in a topic.
-fn end_cell(slot: usize, topic: u64) -> usize {
-    peer_cell(slot, peer::BACKOFF_ENDS + (topic % 8) as usize)
-}
-
 /// The call on a table in which a topic's backoff ends are changed before, by the time; those that the call
 /// leaves as they are become the old ones again.
 fn with_ends(
@@ -416,8 +429,9 @@ fn with_ends(
 ) -> u64 {
     let before = *table;
     let mut changed = *table;
-    for slot in (0..SLOTS).filter(|&slot| before[peer_cell(slot, peer::STATUS)] == 1) {
-        let cell = end_cell(slot, topic);
+    let end_of = |slot: usize| end_cell(slot, (topic % 8) as usize);
+    for slot in (0..SLOTS).filter(|&slot| bit(&before, CONNECTED, slot)) {
+        let cell = end_of(slot);
         changed[cell] = other(before[cell], request.event.now);
     }
     if StandIn.is_router(&changed) == 0 {
@@ -425,7 +439,7 @@ fn with_ends(
     }
     *table = changed;
     let result = StandIn.call(request, table, why, list);
-    for cell in (0..SLOTS).map(|slot| end_cell(slot, topic)) {
+    for cell in (0..SLOTS).map(end_of) {
         if table[cell] == changed[cell] {
             table[cell] = before[cell];
         }
@@ -581,9 +595,25 @@ fn each_slot(table: &mut Cells, change: impl Fn(&mut Cells, usize)) {
 /// Each group's cell, with its place among the groups of its record.
 fn each_group(table: &mut Cells, change: impl Fn(&mut u64, usize)) {
     each_slot(table, |t, slot| {
-        let row = &mut t[peer_cell(slot, peer::GROUPS)..][..GROUPS];
-        row.iter_mut().enumerate().for_each(|(place, group)| change(group, place));
+        for place in 0..GROUPS {
+            change(&mut t[group_place(slot, place)], place);
+        }
     });
+}
+
+/// The groups' cells of each record.
+fn each_row(table: &mut Cells, change: impl Fn(&mut [u64; GROUPS])) {
+    each_slot(table, |t, slot| {
+        let mut row = std::array::from_fn(|place| t[group_place(slot, place)]);
+        change(&mut row);
+        for (place, group) in row.into_iter().enumerate() {
+            t[group_place(slot, place)] = group;
+        }
+    });
+}
+
+fn is_empty(table: &Cells, slot: usize) -> bool {
+    !bit(table, CONNECTED, slot) && !bit(table, RETAINED, slot)
 }
 
 fn each_record(table: &mut Cells, change: impl Fn(&mut Cells, usize, usize)) {
@@ -603,16 +633,16 @@ fn a_test_12_that_misses_something_is_seen() {
         (
             "the last parameter",
             blind_to!(|table| {
-                let cell = cells::CODES + COUNT - 1;
-                table[cell] = table[cell].min(2 * 999);
+                let cell = number_cell(COUNT - 1);
+                table[cell] = table[cell].min(999);
             }),
         ),
         (
             "the seventh joint rule",
             blind_to!(|table| {
                 for k in 0..8 {
-                    let cell = cells::CODES + topic_index(k, topic::P3_CAP);
-                    let threshold = cells::CODES + topic_index(k, topic::P3_THRESHOLD);
+                    let cell = number_cell(topic_index(k, topic::P3_CAP));
+                    let threshold = number_cell(topic_index(k, topic::P3_THRESHOLD));
                     table[cell] = table[cell].max(table[threshold]);
                 }
             }),
@@ -624,23 +654,21 @@ fn a_test_12_that_misses_something_is_seen() {
         (
             "groups of empty records",
             blind_to!(|table| each_slot(table, |t, slot| {
-                if t[peer_cell(slot, peer::STATUS)] == 0 {
-                    t[peer_cell(slot, peer::GROUPS)..][..GROUPS].fill(0);
+                if is_empty(t, slot) {
+                    (0..GROUPS).for_each(|place| t[group_place(slot, place)] = 0);
                 }
             })),
         ),
         (
             "the order of groups",
-            blind_to!(|table| each_slot(table, |t, slot| {
-                let row = &mut t[peer_cell(slot, peer::GROUPS)..][..GROUPS];
+            blind_to!(|table| each_row(table, |row| {
                 let count = row.iter().take_while(|&&group| group != 0).count();
                 row[..count].sort_unstable();
             })),
         ),
         (
             "a group that stands twice",
-            blind_to!(|table| each_slot(table, |t, slot| {
-                let row = &mut t[peer_cell(slot, peer::GROUPS)..][..GROUPS];
+            blind_to!(|table| each_row(table, |row| {
                 let mut groups: Vec<u64> =
                     row.iter().copied().filter(|&group| group != 0).collect();
                 groups.dedup();
@@ -651,52 +679,73 @@ fn a_test_12_that_misses_something_is_seen() {
         (
             "a record without groups",
             blind_to!(|table| each_slot(table, |t, slot| {
-                let (status, group) =
-                    (peer_cell(slot, peer::STATUS), peer_cell(slot, peer::GROUPS));
-                if t[status] != 0 && t[group..][..GROUPS] == [0; GROUPS] {
-                    t[group] = 1;
+                let none = (0..GROUPS).all(|place| t[group_place(slot, place)] == 0);
+                if !is_empty(t, slot) && none {
+                    t[group_place(slot, 0)] = 1;
                 }
             })),
         ),
         (
+            "connected and retained at once",
+            blind_to!(|table| each_slot(table, |t, slot| {
+                if bit(t, CONNECTED, slot) {
+                    set_bit(t, RETAINED, slot, false);
+                }
+            })),
+        ),
+        ("the version's higher bit", blind_to!(|table| table[VERSION_HIGH..ID].fill(0))),
+        ("bits past the mark", blind_to!(clear_past_mark)),
+        (
+            "bits past the mark, of the last topic's members",
+            blind_to!(|table| {
+                let mark = table[USED].min(SLOTS as u64) as usize;
+                (mark..SLOTS).for_each(|slot| set_bit(table, member_word(7), slot, false));
+            }),
+        ),
+        (
             "retain ends of connected records",
             blind_to!(|table| each_slot(table, |t, slot| {
-                if t[peer_cell(slot, peer::STATUS)] == 1 {
-                    t[peer_cell(slot, peer::RETAIN_END)] = 0;
+                if bit(t, CONNECTED, slot) {
+                    t[RETAIN_END + slot] = 0;
                 }
             })),
         ),
         (
             "ids that stand twice",
             blind_to!(|table| each_slot(table, |t, slot| {
-                let ids: Vec<u64> = (0..slot).map(|other| t[peer_cell(other, peer::ID)]).collect();
-                let cell = peer_cell(slot, peer::ID);
-                if t[cell] != 0 && ids.contains(&t[cell]) {
-                    t[cell] = 1_000_000 + slot as u64;
+                let ids = t[ID..ID + slot].to_vec();
+                if t[ID + slot] != 0 && ids.contains(&t[ID + slot]) {
+                    t[ID + slot] = 1_000_000 + slot as u64;
                 }
             })),
         ),
         (
             "members that are not subscribed",
             blind_to!(|table| each_record(table, |t, slot, k| {
-                if t[record_cell(slot, k, record::MEMBER)] == 1 {
-                    t[record_cell(slot, k, record::SUBSCRIBED)] = 1;
+                if bit(t, member_word(k), slot) {
+                    set_bit(t, subscribed_word(k), slot, true);
                 }
             })),
         ),
         (
-            "graft times of non-members",
+            "explicit members",
             blind_to!(|table| each_record(table, |t, slot, k| {
-                if t[record_cell(slot, k, record::MEMBER)] == 0 {
-                    t[record_cell(slot, k, record::GRAFT)] = 0;
+                if bit(t, member_word(k), slot) {
+                    set_bit(t, EXPLICIT, slot, false);
                 }
+            })),
+        ),
+        (
+            "P7 above P5",
+            blind_to!(|table| each_slot(table, |t, slot| {
+                let (p5, p7) = (t[P5_P7 + slot] % P7_LANE, t[P5_P7 + slot] / P7_LANE);
+                t[P5_P7 + slot] = p5 + p7.min(1_000_000) * P7_LANE;
             })),
         ),
         (
             "sums of graft and mesh time that do not fit",
             blind_to!(|table| each_record(table, |t, slot, k| {
-                let (graft, mesh) =
-                    (record_cell(slot, k, record::GRAFT), record_cell(slot, k, record::MESH));
+                let (graft, mesh) = (graft_cell(slot, k), mesh_cell(slot, k));
                 if t[graft].checked_add(t[mesh]).is_none() {
                     t[graft] = 0;
                     t[mesh] = 0;
@@ -706,21 +755,218 @@ fn a_test_12_that_misses_something_is_seen() {
         (
             "the slots past the old ones",
             blind_to!(|table| {
-                let records = record_cell(OLD_SLOTS, 0, 0);
-                table[peer_cell(OLD_SLOTS, 0)..cells::RECORDS].fill(0);
-                table[records..].fill(0);
+                table[USED] = table[USED].min(OLD_SLOTS as u64);
+                clear_past_mark(table);
             }),
         ),
-        (
-            "the last cell",
-            blind_to!(|table| {
-                if table[record_cell(SLOTS - 1, 7, record::MEMBER)] == 0 {
-                    table[CELLS - 1] = 0;
+        ("the last slot's last mesh time", blind_to!(|table| table[mesh_cell(SLOTS - 1, 7)] = 0)),
+    ];
+    each_is_seen(&faults, tables_differ);
+}
+
+/// No slot from the mark on has a bit.
+fn clear_past_mark(table: &mut Cells) {
+    let mark = table[USED].min(SLOTS as u64) as usize;
+    let words = (CONNECTED..ID).chain(cells::SUBSCRIBED..cells::COUNTERS).step_by(cells::WORD);
+    for word in words {
+        (mark..SLOTS).for_each(|slot| set_bit(table, word, slot, false));
+    }
+}
+
+/// The stand-in with a test 12 that also asks for something else.
+macro_rules! strict {
+    ($holds:expr) => {
+        Faulty {
+            call: |request, table, why, list| {
+                let holds: fn(&Cells) -> bool = $holds;
+                if !holds(table) {
+                    return 12;
                 }
+                StandIn.call(request, table, why, list)
+            },
+            is_router: |table| {
+                let holds: fn(&Cells) -> bool = $holds;
+                u32::from(holds(table)) & StandIn.is_router(table)
+            },
+            ..SOUND
+        }
+    };
+}
+
+fn is_zero_past_mark(table: &Cells, column: usize) -> bool {
+    let mark = table[USED].min(SLOTS as u64) as usize;
+    table[column + mark..column + SLOTS].iter().all(|&cell| cell == 0)
+}
+
+#[test]
+fn a_library_that_reads_more_than_the_state_is_seen() {
+    let faults = [
+        ("a mark above the slots", strict!(|table| table[USED] <= SLOTS as u64)),
+        ("ids past the mark", strict!(|table| is_zero_past_mark(table, ID))),
+        ("retain ends past the mark", strict!(|table| is_zero_past_mark(table, RETAIN_END))),
+        ("counters past the mark", strict!(|table| is_zero_past_mark(table, cells::COUNTERS))),
+        (
+            "graft times of non-members",
+            strict!(|table| (0..SLOTS).all(|slot| {
+                bit(table, member_word(3), slot) || table[graft_cell(slot, 3)] == 0
+            })),
+        ),
+        (
+            "mesh times of non-members",
+            strict!(|table| (0..SLOTS).all(|slot| {
+                bit(table, member_word(0), slot) || table[mesh_cell(slot, 0)] <= table[CLOCK]
+            })),
+        ),
+        ("a kept cell", strict!(|table| table[cells::PARAMETERS - 1] == 0)),
+        ("a cell between columns", strict!(|table| table[ID + STRIDE - 1] == 0)),
+        ("the last cell", strict!(|table| table[CELLS - 1] == 0)),
+        (
+            "a connect finds an id past the mark",
+            with_call(|request, table, why, list| {
+                if let Call::Connect { id, .. } = request.event.call {
+                    let mark = table[USED].min(SLOTS as u64) as usize;
+                    if StandIn.is_router(table) == 1 && table[ID + mark..ID + SLOTS].contains(&id) {
+                        return 4;
+                    }
+                }
+                StandIn.call(request, table, why, list)
             }),
         ),
     ];
     each_is_seen(&faults, tables_differ);
+}
+
+#[test]
+fn wrong_marks_and_stale_cells_are_seen() {
+    let faults = [
+        (
+            "the mark does not rise",
+            with_call(|request, table, why, list| {
+                let mark = table[USED];
+                let result = StandIn.call(request, table, why, list);
+                table[USED] = mark;
+                result
+            }),
+        ),
+        (
+            "the mark falls with the last record",
+            with_call(|request, table, why, list| {
+                let result = StandIn.call(request, table, why, list);
+                if let (0, Some(router)) = (result % 256, cells::router_of(table)) {
+                    table[USED] = cells::records_end(&router) as u64;
+                }
+                result
+            }),
+        ),
+        (
+            "a member's mesh time is what stood there",
+            with_call(|request, table, why, list| {
+                let before = *table;
+                let result = StandIn.call(request, table, why, list);
+                each_record(table, |t, slot, k| {
+                    if bit(t, member_word(k), slot) && !bit(&before, member_word(k), slot) {
+                        t[mesh_cell(slot, k)] = before[mesh_cell(slot, k)];
+                    }
+                });
+                result
+            }),
+        ),
+        (
+            "a record taken keeps a backoff end that stood past the mark",
+            with_call(|request, table, why, list| {
+                let before = *table;
+                let result = StandIn.call(request, table, why, list);
+                if table[USED] > before[USED] {
+                    let cell = end_cell(before[USED] as usize, 7);
+                    table[cell] = before[cell];
+                }
+                result
+            }),
+        ),
+    ];
+    each_is_seen(&faults, |faulty| run(faulty, 60_000).is_some());
+}
+
+#[test]
+fn wrong_turns_are_seen() {
+    let faults = [
+        (
+            "damaged rows are taken",
+            Faulty {
+                turn_rows: |rows, table| match StandIn.turn_rows(rows, table) {
+                    12 => 0,
+                    other => other,
+                },
+                ..SOUND
+            },
+        ),
+        (
+            "refused rows clear the table",
+            Faulty {
+                turn_rows: |rows, table| {
+                    let result = StandIn.turn_rows(rows, table);
+                    if result == 12 {
+                        table[ID] = 0;
+                    }
+                    result
+                },
+                ..SOUND
+            },
+        ),
+        (
+            "a refused table writes a row",
+            Faulty {
+                turn_table: |table, rows| {
+                    let result = StandIn.turn_table(table, rows);
+                    if result == 12 {
+                        rows[0] = 0;
+                    }
+                    result
+                },
+                ..SOUND
+            },
+        ),
+        (
+            "the mark is that of before",
+            Faulty {
+                turn_rows: |rows, table| {
+                    let mark = table[USED];
+                    let result = StandIn.turn_rows(rows, table);
+                    table[USED] = mark.min(12);
+                    result
+                },
+                ..SOUND
+            },
+        ),
+        (
+            "a parameter loses its sign",
+            Faulty {
+                turn_table: |table, rows| {
+                    let result = StandIn.turn_table(table, rows);
+                    if result == 0 {
+                        let code = &mut rows[host_compare::rows::CODES + general::W7];
+                        *code += *code % 2;
+                    }
+                    result
+                },
+                ..SOUND
+            },
+        ),
+        (
+            "the last row is not written",
+            Faulty {
+                turn_table: |table, rows| {
+                    let last = host_compare::rows::ROWS - 1;
+                    let before = rows[last];
+                    let result = StandIn.turn_table(table, rows);
+                    rows[last] = before;
+                    result
+                },
+                ..SOUND
+            },
+        ),
+    ];
+    each_is_seen(&faults, forms_differ);
 }
 
 #[test]
@@ -895,9 +1141,21 @@ fn wrong_parameters_are_seen() {
             "a fresh table keeps a cell",
             Faulty {
                 fresh: |numbers, edition, table| {
-                    let before = table[CELLS - 1];
+                    let before = table[member_word(7)];
                     let result = StandIn.fresh(numbers, edition, table);
-                    table[CELLS - 1] = before;
+                    table[member_word(7)] = before;
+                    result
+                },
+                ..SOUND
+            },
+        ),
+        (
+            "a fresh table keeps its mark",
+            Faulty {
+                fresh: |numbers, edition, table| {
+                    let before = table[USED];
+                    let result = StandIn.fresh(numbers, edition, table);
+                    table[USED] = before;
                     result
                 },
                 ..SOUND
@@ -926,17 +1184,18 @@ fn a_difference_is_told_by_few_calls() {
     let faulty = with_call(|request, table, why, list| {
         let before = *table;
         let result = StandIn.call(request, table, why, list);
+        let p7 = |table: &Cells, slot: usize| cells::live(table, slot, P5_P7 + slot) / P7_LANE;
         for slot in 0..SLOTS {
-            let cell = peer_cell(slot, peer::P7);
-            if table[cell] > before[cell] {
-                table[cell] += 1;
+            if p7(table, slot) > p7(&before, slot) {
+                table[P5_P7 + slot] += P7_LANE;
             }
         }
         result
     });
     let failure = run(&faulty, 60_000).expect("the fault is noticed");
     let told = report::of_run(&faulty, &failure);
-    assert!(told.contains("P7: library 1001, second program 1000, before 0"), "{told}");
+    let words = "library P5 code 0, P7 1001, second program P5 code 0, P7 1000";
+    assert!(told.contains(words), "{told}");
     let shortest = told.split("the shortest list").nth(1).expect("a shorter list is told");
     let calls = shortest.lines().filter(|line| line.contains("time=")).count();
     // Connect, join, PRUNE and GRAFT would do; the shrinking may stop a little before.

@@ -21,9 +21,12 @@
 
 pub mod cells;
 #[cfg(linked)]
+pub mod forms;
+#[cfg(linked)]
 mod linked;
 #[cfg(linked)]
 pub mod messages;
+pub mod rows;
 #[cfg(linked)]
 pub mod supplier;
 

@@ -1,7 +1,9 @@
 //! A small host in Rust, as far as libhost.a is linked: every function of the binding once.
 #![cfg(linked)]
 
+use hivepadlet::forms::{from_old, to_old};
 use hivepadlet::messages::{names, read_message, write_message};
+use hivepadlet::rows::ROWS;
 use hivepadlet::*;
 
 const V11: &[u8] = b"/meshsub/1.1.0";
@@ -44,6 +46,19 @@ fn a_peer_comes_and_goes() {
     assert_eq!(number(decay(&mut table, 12, &mut [])), 8);
     assert_eq!(number(connect(&mut table, 12, 8, &[9], EXPLICIT, b"", &mut actions)), 6);
     assert_eq!(number(connect(&mut table, 12, 8, &[9, 9], EXPLICIT, V11, &mut actions)), 2);
+}
+
+#[test]
+fn a_table_of_the_old_form() {
+    let mut actions = [0; ACTION_NUMBERS];
+    let table = joined(&mut actions);
+    let (mut old, mut turned) = (Box::new([0; ROWS]), Box::new([7; CELLS]));
+    assert_eq!(from_old(&old, &mut turned), 12);
+    assert_eq!(*turned, [7; CELLS]);
+    assert_eq!(to_old(&table, &mut old), 0);
+    assert_eq!(from_old(&old, &mut turned), 0);
+    assert_eq!(is_router(&turned), 1);
+    assert_eq!(number(join(&mut turned, 1, 0, &mut actions)), 11);
 }
 
 #[test]

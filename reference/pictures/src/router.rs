@@ -3,7 +3,7 @@
 
 pub use hivepadlet::Numbers;
 
-use hivepadlet::cells::{peer, peer_cell, record, record_cell};
+use hivepadlet::cells::{self, bit, end_cell, member_word};
 use hivepadlet::{number, value, Cells, ACTION_NUMBERS, CELLS, GRAFT, NUMBERS, OUTBOUND, PRUNE};
 use hivepadlet::{SLOTS, WHY_NUMBERS};
 
@@ -137,16 +137,16 @@ impl Router {
     }
 
     fn peer(&self, slot: usize) -> Option<Peer> {
-        let of_peer = |field| self.table[peer_cell(slot, field)];
         let topic = TOPIC as usize;
+        let flag = |word| bit(&self.table, word, slot);
         let seen = Peer {
-            id: of_peer(peer::ID) as u32,
-            connected: of_peer(peer::STATUS) == 1,
-            outbound: of_peer(peer::OUTBOUND) == 1,
-            member: self.table[record_cell(slot, topic, record::MEMBER)] == 1,
-            backoff_end: of_peer(peer::BACKOFF_ENDS + topic),
+            id: self.table[cells::ID + slot] as u32,
+            connected: flag(cells::CONNECTED),
+            outbound: flag(cells::OUTBOUND),
+            member: flag(member_word(topic)),
+            backoff_end: self.table[end_cell(slot, topic)],
         };
-        (of_peer(peer::STATUS) != 0).then_some(seen)
+        (flag(cells::CONNECTED) || flag(cells::RETAINED)).then_some(seen)
     }
 
     /// Makes a call and gives its actions. A refusal would be a fault of the simulation,

@@ -112,7 +112,7 @@ impl Caller {
 
     /// Mostly the clock or a little later; now and then just beside an instant
     /// at which something ends, or a time to be refused.
-    fn next_time(&mut self) -> u64 {
+    pub(super) fn next_time(&mut self) -> u64 {
         let clock = self.router.clock;
         if self.scene.slow_start && clock < GRAFT_SLACK && self.random.chance(19, 20) {
             return clock + self.random.below(10) as u64;
@@ -165,12 +165,12 @@ impl Caller {
 
     // Arguments.
 
-    fn ids_of(&self, status: Status) -> Vec<u64> {
+    pub(super) fn ids_of(&self, status: Status) -> Vec<u64> {
         let peers = self.router.peers.iter().filter(|peer| peer.status == status);
         peers.map(|peer| u64::from(peer.id)).collect()
     }
 
-    fn id(&mut self) -> u64 {
+    pub(super) fn id(&mut self) -> u64 {
         let status = match self.random.below(20) {
             0 => Status::Retained,
             1 => return *self.random.pick(&self.scene.ids),
@@ -184,7 +184,7 @@ impl Caller {
         }
     }
 
-    fn topic(&mut self) -> u64 {
+    pub(super) fn topic(&mut self) -> u64 {
         let joined: Vec<u64> =
             (0..TOPICS as u64).filter(|&k| self.router.joined[k as usize]).collect();
         match self.random.below(20) {
@@ -287,7 +287,7 @@ impl Caller {
     }
 
     /// The P5 that brings a peer's score near the target, if one can.
-    fn p5_for(&self, id: u64, target: i64) -> i64 {
+    pub(super) fn p5_for(&self, id: u64, target: i64) -> i64 {
         let router = &self.router;
         let Ok(slot) = router.connected(id as u32) else { return 0 };
         let step = router.params.general(general::W5) * 1000;
@@ -297,7 +297,7 @@ impl Caller {
 
     /// Mostly a shuffle; sometimes one that sets outbound members last, so that
     /// they are left out and swapped in; sometimes damaged.
-    fn permutation(&mut self) -> Box<Permutation> {
+    pub(super) fn permutation(&mut self) -> Box<Permutation> {
         let mut permutation = by_slot();
         let ordered = &mut permutation[..self.scene.edition.permuted()];
         let (count, style) = (ordered.len(), self.random.below(12));
@@ -348,7 +348,7 @@ impl Caller {
         self.connect_of(id)
     }
 
-    fn connect_of(&mut self, id: u64) -> Call {
+    pub(super) fn connect_of(&mut self, id: u64) -> Call {
         Call::Connect { id, groups: self.groups(), flags: self.flags(), name: self.name() }
     }
 

@@ -52,13 +52,13 @@ fn an_action(random: &mut Random, id: u32) -> [u32; 3] {
 /// Numbers that are no topics; the low 32 bits of some are.
 const NO_TOPIC: [u64; 8] = [8, 9, 11, 255, 256, 1 << 32, (1 << 32) + 1, u64::MAX];
 
-/// Lists with one thing wrong; none where the names do not allow it.
+/// Lists with one thing wrong; none where the names do not allow it, or where it takes a table
+/// of message ids.
 pub fn wrong(random: &mut Random, names: &Names, wrong: Wrong) -> Option<Lists> {
     let topics = named_topics(names);
-    if topics.is_empty() {
+    if topics.is_empty() || Wrong::OF_NOTICES.contains(&wrong) {
         return None;
     }
-    let unnamed: Vec<u64> = (0..TOPICS as u64).filter(|topic| !topics.contains(topic)).collect();
     let actions = match wrong {
         Wrong::TooManyActions => *random.pick(&[65, 66, 100, 128, 256, 300]),
         Wrong::TwoIds => 2 + random.below(63),
@@ -69,12 +69,19 @@ pub fn wrong(random: &mut Random, names: &Names, wrong: Wrong) -> Option<Lists> 
         _ => 1 + random.below(8),
     };
     let mut lists = of_sizes(random, &topics, actions, changes);
-    let place = random.below(actions);
+    let unnamed: Vec<u64> = (0..TOPICS as u64).filter(|topic| !topics.contains(topic)).collect();
+    put_wrong(random, &mut lists, &unnamed, wrong)?;
+    Some(lists)
+}
+
+/// Puts the wrong thing into lists with an action and a change at least.
+fn put_wrong(random: &mut Random, lists: &mut Lists, unnamed: &[u64], wrong: Wrong) -> Option<()> {
+    let place = random.below(lists.topics.len());
     let (action, topic) = (&mut lists.actions[3 * place..][..3], &mut lists.topics[place]);
+    let changes = lists.changes.len() / 2;
     let change = &mut lists.changes[2 * random.below(changes)..][..2];
     match wrong {
-        Wrong::TooManyActions | Wrong::TooManyChanges => {}
-        Wrong::NotATopicEach => not_a_topic_each(random, &mut lists),
+        Wrong::NotATopicEach => not_a_topic_each(random, lists),
         Wrong::ActionKind => {
             (action[0], action[2]) = (*random.pick(&[0, 3, 4, 5, 255, 257, u32::MAX]), 0);
         }
@@ -87,17 +94,18 @@ pub fn wrong(random: &mut Random, names: &Names, wrong: Wrong) -> Option<Lists> 
             (action[0], action[2]) = (PRUNE, *random.pick(&[3601, 3602, 65_536, u32::MAX]));
         }
         Wrong::ActionTopic => *topic = *random.pick(&NO_TOPIC),
-        Wrong::ActionTopicUnnamed if unnamed.is_empty() => return None,
-        Wrong::ActionTopicUnnamed => *topic = *random.pick(&unnamed),
+        Wrong::ActionTopicUnnamed | Wrong::ChangeTopicUnnamed if unnamed.is_empty() => return None,
+        Wrong::ActionTopicUnnamed => *topic = *random.pick(unnamed),
         Wrong::HalfAChange => {
             lists.changes.pop();
         }
         Wrong::ChangeKind => change[0] = *random.pick(&[2, 3, 256, 1 << 32, u64::MAX]),
         Wrong::ChangeTopic => change[1] = *random.pick(&NO_TOPIC),
-        Wrong::ChangeTopicUnnamed if unnamed.is_empty() => return None,
-        Wrong::ChangeTopicUnnamed => change[1] = *random.pick(&unnamed),
+        Wrong::ChangeTopicUnnamed => change[1] = *random.pick(unnamed),
+        // Too many actions or changes are so already.
+        _ => {}
     }
-    Some(lists)
+    Some(())
 }
 
 /// Numbers of actions, or topics, too many or missing.

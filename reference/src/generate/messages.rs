@@ -2,7 +2,7 @@
 //! and bytes that are none.
 
 use crate::message::holder::Holder;
-use crate::message::{wire, Names, LONGEST_MESSAGE, LONGEST_NAME};
+use crate::message::{control, idontwant, wire, Ids, Names, LONGEST_MESSAGE, LONGEST_NAME};
 use crate::params::TOPICS;
 use crate::random::Random;
 
@@ -14,19 +14,29 @@ pub struct Input {
 
 /// A well-formed message.
 pub fn good(random: &mut Random, names: &Names) -> Input {
-    let bytes = Maker { random, names, faults: 0 }.inside(Holder::Rpc);
+    good_with(random, names, None)
+}
+
+/// The same with notices, where a table of message ids is given.
+pub fn good_with(random: &mut Random, names: &Names, ids: Option<&Ids>) -> Input {
+    let bytes = Maker { random, names, ids, faults: 0 }.inside(Holder::Rpc);
     Input { kind: "good", bytes }
 }
 
 /// A message with one field or more broken at any level, or one that was good before some
 /// of its bytes were changed.
 pub fn damaged(random: &mut Random, names: &Names) -> Input {
+    damaged_with(random, names, None)
+}
+
+/// The same with notices, where a table of message ids is given.
+pub fn damaged_with(random: &mut Random, names: &Names, ids: Option<&Ids>) -> Input {
     if random.chance(1, 2) {
         let faults = *random.pick(&[1, 1, 1, 2, 3]);
-        let bytes = Maker { random, names, faults }.inside(Holder::Rpc);
+        let bytes = Maker { random, names, ids, faults }.inside(Holder::Rpc);
         return Input { kind: "broken fields", bytes };
     }
-    let mut bytes = good(random, names).bytes;
+    let mut bytes = good_with(random, names, ids).bytes;
     if bytes.is_empty() {
         bytes = vec![0x0a, 0x00];
     }
@@ -168,6 +178,8 @@ pub fn overlong(value: u64, length: usize) -> Vec<u8> {
 struct Maker<'a> {
     random: &'a mut Random,
     names: &'a Names,
+    /// Without it no notice is made.
+    ids: Option<&'a Ids>,
     faults: usize,
 }
 
@@ -196,6 +208,11 @@ impl Maker<'_> {
 
     /// A field, mostly one that is read.
     fn field(&mut self, holder: Holder) -> Vec<u8> {
+        if let (Some(ids), Holder::Control) = (self.ids, holder) {
+            if self.random.chance(1, 2) {
+                return self.notices(ids);
+            }
+        }
         let known = *self.random.pick(holder.known());
         match self.random.below(8) {
             0 => self.unknown_field(holder),
@@ -207,6 +224,41 @@ impl Maker<'_> {
             }
             _ => self.known_field(holder, known),
         }
+    }
+
+    /// An IDONTWANT, its fields mostly ids; now and then one of them is broken.
+    fn notices(&mut self, ids: &Ids) -> Vec<u8> {
+        let mut inside = Vec::new();
+        for _ in 0..self.random.below(4) {
+            let id = self.id(ids);
+            inside.extend(match self.random.below(8) {
+                0 => self.of_wire_type(2, wire::LENGTH),
+                1 => self.of_wire_type(idontwant::MESSAGE_IDS, wire::NUMBER),
+                2 => self.of_wire_type(idontwant::MESSAGE_IDS, wire::EIGHT_BYTES),
+                _ => self.with_length(idontwant::MESSAGE_IDS, &id),
+            });
+        }
+        if self.faults > 0 && self.random.chance(1, 2) {
+            self.faults -= 1;
+            inside.extend(self.broken_field());
+        }
+        self.with_length(control::IDONTWANT, &inside)
+    }
+
+    /// An id of the table, or one that is near it.
+    fn id(&mut self, ids: &Ids) -> Vec<u8> {
+        if ids.rows.is_empty() {
+            return self.some_bytes();
+        }
+        let mut id = self.random.pick(&ids.rows).0.clone();
+        match self.random.below(12) {
+            0 => id.clear(),
+            1 => id.push(0),
+            2 => id[0] ^= 1,
+            3 => id.truncate(id.len() - 1),
+            _ => {}
+        }
+        id
     }
 
     fn known_field(&mut self, holder: Holder, (number, wire_type): (u64, u64)) -> Vec<u8> {
@@ -225,9 +277,11 @@ impl Maker<'_> {
     /// A number that the holder does not name, at times one far too large whose low bits are
     /// those of a known one.
     fn unknown_field(&mut self, holder: Holder) -> Vec<u8> {
+        let notices = self.ids.is_some() && holder == Holder::Control;
         let named = |number: u64| {
             holder.skipped().contains(&number)
                 || holder.known().iter().any(|known| known.0 == number)
+                || notices && number == control::IDONTWANT
         };
         let number = loop {
             let any = (self.random.of_any_width() >> 3).max(1);

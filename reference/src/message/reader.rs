@@ -1,21 +1,35 @@
-//! 02, order 1: "Read the real messages."
+//! 02, order 1: "Read the real messages", and order 6's notices.
 
 use super::field::{Broken, Content, Field, Fields};
-use super::{control, graft, prune, rpc, subscription};
-use super::{Entry, Kind, Names, Refusal, ENTRY_LIST, LONGEST_MESSAGE};
+use super::{control, graft, idontwant, prune, rpc, subscription};
+use super::{Entry, Ids, Kind, Names, Refusal, ENTRY_LIST, LONGEST_MESSAGE};
 
 /// Reads a message into the lent list and says how many entries it has. A refusal leaves
 /// the list as it was, and so are the numbers past the entries.
 pub fn read(names: &Names, message: &[u8], list: &mut [u64]) -> Result<usize, Refusal> {
+    read_with(names, None, message, list)
+}
+
+/// The same with a lent table of message ids: then IDONTWANT is read too.
+pub fn read_with(
+    names: &Names,
+    ids: Option<&Ids>,
+    message: &[u8],
+    list: &mut [u64],
+) -> Result<usize, Refusal> {
     // "A lent list with no room for 8,192 entries is 8, tested first."
     if list.len() < ENTRY_LIST {
         return Err(Refusal::ShortList);
+    }
+    // "(else 2, after 8)"
+    if ids.is_some_and(|ids| !ids.is_good()) {
+        return Err(Refusal::OutOfRange);
     }
     // "A message over 16,384 bytes gives 10 with place 16,384."
     if message.len() > LONGEST_MESSAGE {
         return Err(Refusal::TooLong);
     }
-    let entries = entries(names, message).map_err(Refusal::Malformed)?;
+    let entries = entries_with(names, ids, message).map_err(Refusal::Malformed)?;
     for (numbers, entry) in list.chunks_exact_mut(3).zip(&entries) {
         numbers.copy_from_slice(&entry.numbers());
     }
@@ -24,22 +38,41 @@ pub fn read(names: &Names, message: &[u8], list: &mut [u64]) -> Result<usize, Re
 
 /// The entries of a message in their order, or the field that is found broken first.
 pub fn entries(names: &Names, message: &[u8]) -> Result<Vec<Entry>, Broken> {
-    let mut found = Found { names, subscriptions: vec![], grafts: vec![], prunes: vec![] };
+    entries_with(names, None, message)
+}
+
+/// The same with a lent table of message ids.
+pub fn entries_with(
+    names: &Names,
+    ids: Option<&Ids>,
+    message: &[u8],
+) -> Result<Vec<Entry>, Broken> {
+    let mut found = Found {
+        names,
+        ids,
+        subscriptions: vec![],
+        grafts: vec![],
+        prunes: vec![],
+        notices: vec![],
+    };
     let mut fields = Fields::of_message(message);
     while let Some(field) = fields.next_field()? {
         found.take_of_rpc(field)?;
     }
-    // "subscriptions come first, then GRAFTs, then PRUNEs, each in message order"
-    Ok([found.subscriptions, found.grafts, found.prunes].concat())
+    // "subscriptions come first, then GRAFTs, then PRUNEs, each in message order"; order 6:
+    // "an entry for each id, after the PRUNEs".
+    Ok([found.subscriptions, found.grafts, found.prunes, found.notices].concat())
 }
 
 /// The entries found so far. A repeated control field adds to them: "Entries of a repeated
 /// control field are joined."
 struct Found<'a> {
     names: &'a Names,
+    ids: Option<&'a Ids>,
     subscriptions: Vec<Entry>,
     grafts: Vec<Entry>,
     prunes: Vec<Entry>,
+    notices: Vec<Entry>,
 }
 
 // In each match below: "Unknown fields, and known ones of another wire type, are skipped".
@@ -64,7 +97,8 @@ impl Found<'_> {
         Ok(())
     }
 
-    /// "control holds ihave 1, iwant 2 (both skipped), graft 3, prune 4"
+    /// "control holds ihave 1, iwant 2 (both skipped), graft 3, prune 4"; order 6: "Control
+    /// entry 5 (messageIDs 1) is read".
     fn take_of_control(&mut self, field: Field) -> Result<(), Broken> {
         match (field.number, field.content) {
             (control::GRAFT, Content::Bytes(inside)) => {
@@ -75,7 +109,25 @@ impl Found<'_> {
                 let entry = self.prune(inside.fields())?;
                 self.prunes.push(entry);
             }
+            (control::IDONTWANT, Content::Bytes(inside)) => {
+                if let Some(ids) = self.ids {
+                    self.notices(ids, inside.fields())?;
+                }
+            }
             _ => {}
+        }
+        Ok(())
+    }
+
+    /// "an id not in it is 11"
+    fn notices(&mut self, ids: &Ids, mut fields: Fields) -> Result<(), Broken> {
+        while let Some(field) = fields.next_field()? {
+            if let (idontwant::MESSAGE_IDS, Content::Bytes(inside)) = (field.number, field.content)
+            {
+                let number = ids.number(inside.bytes());
+                let (topic, value) = (number.map(|_| 0), number.unwrap_or(0));
+                self.notices.push(Entry { kind: Kind::Notice, topic, value });
+            }
         }
         Ok(())
     }

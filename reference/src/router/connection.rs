@@ -1,6 +1,6 @@
 //! 01, "Connect" and "Disconnect", "Join / leave".
 
-use super::{refuse_if, Actions, Peer, Refusal, Router, Status, Version};
+use super::{refuse_if, Actions, Landed, Peer, Refusal, Router, Status, Version};
 use crate::event::{EXPLICIT_FLAG, OUTBOUND_FLAG};
 use crate::params::{general, TOPICS};
 
@@ -12,11 +12,13 @@ pub enum Place {
     Fresh(usize),
 }
 
-/// 01: "protocol name exactly /meshsub/1.0.0 or /meshsub/1.1.0".
-fn version_of(name: &[u8]) -> Result<Version, Refusal> {
+/// 01: "protocol name exactly /meshsub/1.0.0 or /meshsub/1.1.0"; order 6 of 02: "Accept
+/// /meshsub/1.2.0".
+fn version_of(name: &[u8], landed: Landed) -> Result<Version, Refusal> {
     match name {
         b"/meshsub/1.0.0" => Ok(Version::V10),
         b"/meshsub/1.1.0" => Ok(Version::V11),
+        b"/meshsub/1.2.0" if landed.version_12 => Ok(Version::V12),
         _ => Err(Refusal::UnknownProtocol),
     }
 }
@@ -30,7 +32,7 @@ impl Router {
         flags: u64,
         name: &[u8],
     ) -> Result<(), Refusal> {
-        let version = version_of(name)?;
+        let version = version_of(name, self.landed)?;
         refuse_if(self.connected(id).is_ok(), Refusal::AlreadyConnected)?;
         let place = self.place_for(id, now).ok_or(Refusal::NoSlot)?;
         self.reclaim(now);
@@ -49,7 +51,7 @@ impl Router {
     /// 01: "A retained id resumes its record ...; another takes the lowest
     /// empty slot", both after every reclaimable record is emptied.
     pub fn place_for(&self, id: u32, now: u64) -> Option<Place> {
-        let stays = |peer: &Peer| peer.status != Status::Empty && !reclaimable(peer, now);
+        let stays = |peer: &Peer| peer.status != Status::Empty && !peer.is_reclaimable(now);
         let resumed = self.peers.iter().position(|peer| peer.id == id && stays(peer));
         let fresh = || self.peers.iter().position(|peer| !stays(peer));
         resumed.map(Place::Resumed).or_else(|| fresh().map(Place::Fresh))
@@ -57,7 +59,7 @@ impl Router {
 
     /// The slots that a connect empties first.
     pub fn reclaimable_slots(&self, now: u64) -> Vec<usize> {
-        (0..self.peers.len()).filter(|&slot| reclaimable(&self.peers[slot], now)).collect()
+        (0..self.peers.len()).filter(|&slot| self.peers[slot].is_reclaimable(now)).collect()
     }
 
     fn reclaim(&mut self, now: u64) {
@@ -67,7 +69,9 @@ impl Router {
     }
 
     /// "Leaves every mesh, loses subscriptions, keeps counters and backoffs,
-    /// starts the retain period".
+    /// starts the retain period". Order 6 of 02: an entry of the set goes "at a disconnect";
+    /// the counts of this heartbeat are the record's and stay, those of replies (order 7) are
+    /// the connection's.
     pub(super) fn disconnect(&mut self, now: u64, id: u32) -> Result<(), Refusal> {
         let slot = self.connected(id)?;
         let peer = &mut self.peers[slot];
@@ -75,8 +79,9 @@ impl Router {
             peer.leave_mesh(k);
             peer.topics[k].subscribed = false;
         }
-        peer.status = Status::Retained;
-        peer.retain_end = now + 1000 * self.params.general(general::RETAIN) as u64;
+        peer.notices.clear();
+        peer.replies.clear();
+        peer.retain_from(now, &self.params);
         Ok(())
     }
 
@@ -86,7 +91,8 @@ impl Router {
         Ok(())
     }
 
-    /// "Leave PRUNEs every member by slot, with the unsubscribe backoff".
+    /// "Leave PRUNEs every member by slot, with the unsubscribe backoff"; order 7 of 02: "a
+    /// leave empties its topic's store".
     pub(super) fn leave(
         &mut self,
         now: u64,
@@ -103,12 +109,7 @@ impl Router {
             self.send_prune(slot, topic, now, seconds, actions);
         }
         self.joined[topic] = false;
+        self.empty_store(topic);
         Ok(())
     }
-}
-
-/// 01: "retained, retain period over (now ≥ its end), all eight backoffs over".
-fn reclaimable(peer: &Peer, now: u64) -> bool {
-    let backoffs_over = (0..TOPICS).all(|k| !peer.backoff_running(k, now));
-    peer.status == Status::Retained && now >= peer.retain_end && backoffs_over
 }

@@ -1,8 +1,9 @@
 //! The records of peers, and the test that tables are a router's.
 
-use super::Router;
+use super::{Notice, Router};
 use crate::event::{GROUPS, LAST_TIME, P5_LIMIT};
-use crate::params::{general, topic, TOPICS};
+use crate::params::{general, topic, Params, TOPICS};
+use std::collections::BTreeMap;
 
 /// P4 and P7 stop at 10^6 thousandths, P3b at 10^12 millionths.
 pub const P4_P7_LIMIT: i64 = 1_000_000;
@@ -11,9 +12,13 @@ pub const P3B_LIMIT: i64 = 1_000_000_000_000;
 /// Our own GRAFT waits so many milliseconds after a backoff's end.
 pub const GRAFT_SLACK: u64 = 1000;
 
+/// The longest backoff and retain period, in milliseconds.
+pub const LONGEST_BACKOFF_MS: u64 = 3_600_000;
+pub const LONGEST_RETAIN_MS: u64 = 86_400_000;
+
 /// The latest ends of a backoff and of a retain period.
-const LAST_BACKOFF_END: u64 = LAST_TIME + 3_600_000;
-const LAST_RETAIN_END: u64 = LAST_TIME + 86_400_000;
+const LAST_BACKOFF_END: u64 = LAST_TIME + LONGEST_BACKOFF_MS;
+const LAST_RETAIN_END: u64 = LAST_TIME + LONGEST_RETAIN_MS;
 
 #[derive(Clone, Copy, PartialEq, Eq, Debug, Default)]
 pub enum Status {
@@ -29,6 +34,8 @@ pub enum Version {
     #[default]
     V10,
     V11,
+    /// Order 6 of 02.
+    V12,
 }
 
 /// A peer's record in one topic. P2, P3 and P4 count thousandths, P3b
@@ -63,6 +70,14 @@ pub struct Peer {
     pub retain_end: u64,
     pub topics: [TopicRecord; TOPICS],
     pub backoff_ends: [u64; TOPICS],
+    /// Order 6 of 02: the message numbers that the peer does not want, by arrival, and how
+    /// many were put in since the last heartbeat call.
+    pub notices: Vec<Notice>,
+    pub notices_in: u64,
+    /// Order 7 of 02: the IHAVEs answered since the last heartbeat call, and the replies to
+    /// IWANT in this connection, by message number.
+    pub ihaves_in: u64,
+    pub replies: BTreeMap<u64, u64>,
 }
 
 impl TopicRecord {
@@ -90,12 +105,19 @@ impl Peer {
             retain_end,
             topics,
             backoff_ends,
+            notices,
+            notices_in,
+            ihaves_in,
+            replies,
         } = self;
         let flags = *status as u64 | u64::from(outbound | explicit) | *version as u64;
         let own = u64::from(*id) | flags | (p5 | p7) as u64 | retain_end;
+        let counts = notices_in | ihaves_in;
         let of_topics = topics.iter().fold(0, |bits, record| bits | record.bits());
-        let numbers = own | of_topics | backoff_ends.iter().fold(0, |bits, end| bits | end);
-        numbers == 0 && *groups == Groups::default()
+        let numbers =
+            own | counts | of_topics | backoff_ends.iter().fold(0, |bits, end| bits | end);
+        let sets = notices.is_empty() && replies.is_empty();
+        numbers == 0 && *groups == Groups::default() && sets
     }
 
     pub fn leave_mesh(&mut self, topic: usize) {
@@ -121,6 +143,25 @@ impl Peer {
     pub fn slack_over(&self, topic: usize, now: u64) -> bool {
         let end = self.backoff_ends[topic];
         end == 0 || now >= end + GRAFT_SLACK
+    }
+
+    /// 01: "retained, retain period over (now ≥ its end), all eight backoffs over".
+    pub fn is_reclaimable(&self, now: u64) -> bool {
+        let backoffs_over = (0..TOPICS).all(|k| !self.backoff_running(k, now));
+        self.status == Status::Retained && now >= self.retain_end && backoffs_over
+    }
+
+    /// Starts the retain period.
+    pub fn retain_from(&mut self, now: u64, params: &Params) {
+        self.status = Status::Retained;
+        self.retain_end = now + 1000 * params.general(general::RETAIN) as u64;
+    }
+
+    /// Order 8 of 02, of test 12: remaining times "from the clock".
+    fn ends_near(&self, clock: u64) -> bool {
+        let remaining = |end: u64| end.saturating_sub(clock);
+        remaining(self.retain_end) <= LONGEST_RETAIN_MS
+            && self.backoff_ends.iter().all(|&end| remaining(end) <= LONGEST_BACKOFF_MS)
     }
 
     /// The groups, lowest first.
@@ -157,8 +198,10 @@ impl Router {
     pub fn is_valid(&self) -> bool {
         let broken = self.params.first_broken_but(self.waived_rule);
         broken.is_none()
+            && self.set_up.in_range()
             && self.clock <= LAST_TIME
             && self.ids_are_distinct()
+            && self.gossip_is_valid()
             && self.peers.iter().all(|peer| self.is_valid_peer(peer))
     }
 
@@ -173,7 +216,10 @@ impl Router {
         if peer.status == Status::Empty {
             return peer.is_zero();
         }
-        peer.in_ranges() && (0..TOPICS).all(|k| self.is_valid_topic(peer, k))
+        peer.in_ranges()
+            && (peer.ends_near(self.clock) || !self.landed.ends_from_clock)
+            && peer.notices_are_valid(self.set_up.notice_limit)
+            && (0..TOPICS).all(|k| self.is_valid_topic(peer, k))
     }
 
     fn is_valid_topic(&self, peer: &Peer, k: usize) -> bool {

@@ -3,7 +3,7 @@
 
 use host_compare::counts::Counts;
 use host_compare::library::Library;
-use host_compare::{edges, made, parameters, report, runs, swept, UNLINKED};
+use host_compare::{edges, forms, made, parameters, report, runs, swept, UNLINKED};
 use reference::command;
 use reference::random::Random;
 use std::process::ExitCode;
@@ -60,13 +60,20 @@ fn compare<L: Library>(
         .map_err(|failure| report::of_run(library, &failure))?;
     println!("{calls} calls in runs");
     states.extend((0..MADE).map(|_| made::router(random)));
+    // Every slot a member of every topic, so that every time is read.
+    states.push(made::extreme(true));
     let edges = edges::compare(library, &states, random, &mut counts)
         .map_err(|failure| report::of_edge(&failure))?;
     println!("{edges} calls at the ends of ranges");
     let tables = swept::compare(library, &states, random, &mut counts)
         .map_err(|failure| report::of_damage(&failure))?;
-    let swept::Tables { damaged, changed } = tables;
-    println!("{damaged} damaged tables, {changed} changed at random");
+    let swept::Tables { damaged, harmless, changed } = tables;
+    println!(
+        "{damaged} damaged tables, {harmless} changed where no state reads, {changed} at random"
+    );
+    let turned = forms::compare(library, &states, random, &mut counts)
+        .map_err(|failure| report::of_forms(&failure))?;
+    println!("{turned} tables turned from each form into the other, or refused");
     let parameters = parameters::compare(library, INPUTS, longest, random, &mut counts)
         .map_err(|failure| report::of_parameters(&failure))?;
     print!("{}", counts.table());
@@ -84,6 +91,7 @@ fn compare<L: Library>(
 /// Whether the comparison reached all that it should, and nothing that 01 rules out.
 fn tell_missing(counts: &Counts) -> bool {
     let wanted = parameters::wanted().chain(swept::wanted()).chain(edges::wanted());
+    let wanted = wanted.chain(forms::wanted());
     let (missing, strange) = (counts.missing(wanted), counts.not_permitted());
     for what in &missing {
         println!("never reached: {what}");

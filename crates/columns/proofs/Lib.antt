@@ -1,0 +1,4 @@
+pub mod GatherLaws
+pub mod LaneLaws
+pub mod CellLaws
+pub mod WithinLaws

@@ -1,0 +1,82 @@
+use Rattle.slot_words.proofs.WordLaws.{slot-told, each-test}
+use lib.ListN.{getD}
+use Prim.Native.Nat.{ℕ, _/_, _%_, _^_}
+use mathlib.Core.Path.{_≡_, refl, sym, ap, _∙_}
+use borrow.Author.Needs.{needs}
+use Rattle.slot_words.proofs.word.outside.Statement.{statement}
+use Rattle.slot_words.proofs.word.outside.Tie as tie
+
+-- src/word.rt:25:18
+element-copy-out-outside-word : tie.Need-element-copy-out-outside-word
+element-copy-out-outside-word c = search needs
+
+-- src/word.rt:25:24
+element-copy-out-outside-word-2 : tie.Need-element-copy-out-outside-word-2
+element-copy-out-outside-word-2 c = search needs
+
+-- src/word.rt:25:5
+outside-word-requires : tie.Need-outside-word-requires
+outside-word-requires c κs = search needs
+
+-- src/word.rt:26:24
+element-copy-out-outside-word-3 : tie.Need-element-copy-out-outside-word-3
+element-copy-out-outside-word-3 c = search needs
+
+-- src/word.rt:26:30
+element-copy-out-outside-word-4 : tie.Need-element-copy-out-outside-word-4
+element-copy-out-outside-word-4 c = search needs
+
+-- src/word.rt:26:11
+outside-word-requires-2 : tie.Need-outside-word-requires-2
+outside-word-requires-2 c κs = search needs
+
+-- src/word.rt:27:24
+element-copy-out-outside-word-5 : tie.Need-element-copy-out-outside-word-5
+element-copy-out-outside-word-5 c = search needs
+
+-- src/word.rt:27:30
+element-copy-out-outside-word-6 : tie.Need-element-copy-out-outside-word-6
+element-copy-out-outside-word-6 c = search needs
+
+-- src/word.rt:27:11
+outside-word-requires-3 : tie.Need-outside-word-requires-3
+outside-word-requires-3 c κs = search needs
+
+-- src/word.rt:28:24
+element-copy-out-outside-word-7 : tie.Need-element-copy-out-outside-word-7
+element-copy-out-outside-word-7 c = search needs
+
+-- src/word.rt:28:30
+element-copy-out-outside-word-8 : tie.Need-element-copy-out-outside-word-8
+element-copy-out-outside-word-8 c = search needs
+
+-- src/word.rt:28:11
+outside-word-requires-4 : tie.Need-outside-word-requires-4
+outside-word-requires-4 c κs = search needs
+
+-- src/word.rt:22:1
+returns : tie.Need-returns
+returns c =
+    let a = c .before .before .before .before .before .before .before .before .before .before .before .before .args .a .now in
+    let b = c .before .before .before .before .before .before .before .before .before .before .before .before .args .b .now in
+    λ z. slot-told a b 1
+    (each-test (λ i j. getD a i 0 / 2 ^ j % 2 ≡ 1 → getD b i 0 / 2 ^ j % 2 ≡ 1) _ _ _ _
+    (c .before .before .before .before .before .before .before .before .before .outside-word .ensures) (c .before .before .before .before .before .before .outside-word2 .ensures) (c .before .before .before .outside-word3 .ensures) (c .outside-word4 .ensures) z)
+
+pub outside-spec : {M : Type 1} → statement M
+outside-spec =
+    tie.close
+    (tie.spec
+    element-copy-out-outside-word
+    element-copy-out-outside-word-2
+    outside-word-requires
+    element-copy-out-outside-word-3
+    element-copy-out-outside-word-4
+    outside-word-requires-2
+    element-copy-out-outside-word-5
+    element-copy-out-outside-word-6
+    outside-word-requires-3
+    element-copy-out-outside-word-7
+    element-copy-out-outside-word-8
+    outside-word-requires-4
+    returns)
