@@ -1,12 +1,12 @@
 // Test 12 of a table in the old form, record by record (crate validity has the definitions and the tests of a record).
 ghost use mathlib.Core.Path.{_≡_};
-ghost use Prim.Native.Nat.{_<_};
+ghost use Prim.Native.Nat.{_<_, _≤_};
 ghost use lib.ListN.{length};
 ghost use Rattle.index.specs.Index.{every};
 ghost use Rattle.records.specs.Records.{slotCount, topicCount};
 ghost use Rattle.params.specs.Check.{acceptedCodes};
 ghost use Rattle.rows.specs.View.{rowsCount, stateOfRows};
-ghost use Rattle.validity.specs.Valid.{topicParam, topicOkAt, slotOk, newId, joinedOk, valid};
+ghost use Rattle.validity.specs.Valid.{maxTime, topicParam, topicOkAt, slotOk, newId, joinedOk, valid};
 use records::SLOTS;
 use records::TOPICS;
 use records::param;
@@ -54,7 +54,7 @@ fn topics_ok(rows: &[u64], slot: usize, status: u64, explicit: u64) -> bool
 }
 
 fn slot_ok(rows: &[u64], slot: usize) -> bool
-    requires { ⌜ (length (now rows) ≡ rowsCount) × (slot < slotCount) ⌝ }
+    requires { ⌜ (length (now rows) ≡ rowsCount) × (slot < slotCount) × (stateOfRows (now rows) .clock ≤ maxTime) ⌝ }
     ensures { λ r. ⌜ r ≡ slotOk (stateOfRows (now (rows .entry))) slot ⌝ }
 {
     let clock = rows::load_clock(rows);
@@ -65,7 +65,7 @@ fn slot_ok(rows: &[u64], slot: usize) -> bool
 }
 
 fn slots_ok(rows: &[u64]) -> bool
-    requires { ⌜ length (now rows) ≡ rowsCount ⌝ }
+    requires { ⌜ (length (now rows) ≡ rowsCount) × (stateOfRows (now rows) .clock ≤ maxTime) ⌝ }
     ensures { λ r. ⌜ r ≡ every slotCount (slotOk (stateOfRows (now (rows .entry)))) ⌝ }
 {
     let mut ok = true;

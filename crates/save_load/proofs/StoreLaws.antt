@@ -18,13 +18,18 @@ use Rattle.varint.specs.Groups.{readAt}
 use Rattle.varint.specs.declared.Read.{Read}
 use Rattle.varint.specs.declared.Read.the-variants.{Number, Bad}
 use Rattle.records.specs.Records.{State}
-use Rattle.layout.specs.Rows.{tab, span}
-use Rattle.layout.proofs.RowLaws.{length-tab, getD-tab, getD-span}
+use Rattle.layout.specs.Rows.{tab}
+use Rattle.rows.specs.Rows.{span}
+use Rattle.layout.proofs.RowLaws.{length-tab, getD-tab}
+use Rattle.rows.proofs.RowLaws.{getD-span}
 use Rattle.validity.specs.Valid.{maxId}
 use Rattle.saves.specs.Load.{mostRetain, mostBackoff, Parse, numbers, malformed, parseFrom, endFrom, loadedPeer, loadedTopic, rowAt}
 use Rattle.saves.proofs.Lists.{getD-gather}
 use Rattle.saves.proofs.Parsing.{top, after, parse-split, parse-count, Next, next-is}
 use Rattle.save_load.specs.Judge.{isRead}
+use Rattle.records.specs.declared.Peer.{Peer}
+use Rattle.records.specs.declared.TopicRecord.{TopicRecord}
+use Rattle.layout.specs.View.{TopicFits, PeerFits}
 use Rattle.save_load.specs.Store.{widest, RowFits, stored, Loadable, storedAll}
 
 -- ---- the ranges of a row
@@ -47,6 +52,52 @@ module _ (row : List ℕ) (f : RowFits row) where
   pub retain-fits : getD row 1 0 ≤ 86400000
   unfolding widest
   retain-fits = f .most 1 (omega arith)
+
+  -- number i of topic t is at most its widest
+  within : (t i most : ℕ) → t < 8 → i < 5 → getD (1000000 ∷ 1000000 ∷ 1000000000000 ∷ 1000000 ∷ mostBackoff ∷ []) i 0 ≡ most →
+      getD row (4 + i + t * 5) 0 ≤ most
+  within t i most h b e =
+      let j : 4 + i + t * 5 ≡ 4 + (t * 5 + i) = omega arith in
+      let a : getD row (4 + i + t * 5) 0 ≤ getD widest (4 + i + t * 5) 0 = f .most (4 + i + t * 5) (omega arith) in
+      let w : getD widest (4 + i + t * 5) 0 ≡ most = ap (λ (k : ℕ). getD widest k 0) j ∙ wide-topic t i h b ∙ e in
+      omega arith
+
+  -- what is loaded fits where it is stored
+  pub topic-fits : (r : TopicRecord) (t : ℕ) → t < 8 → r ≡ loadedTopic row t → TopicFits r
+  unfolding loadedTopic
+  topic-fits r t h e =
+      let a = within t 0 1000000 h (omega arith) refl in
+      let b = within t 1 1000000 h (omega arith) refl in
+      let d = within t 3 1000000 h (omega arith) refl in
+      rw e (record {
+        p2 = omega (arith, a);
+        p3 = omega (arith, b);
+        p4 = omega (arith, d);
+        subscribed = omega arith;
+        member = omega arith;
+        graft = λ n. refl;
+        mesh = λ n. refl;
+      })
+
+  p5-most : getD row 2 0 ≤ 2000000000
+  unfolding widest
+  p5-most = f .most 2 (omega arith)
+
+  p7-most : getD row 3 0 ≤ 1000000
+  unfolding widest
+  p7-most = f .most 3 (omega arith)
+
+  pub peer-fits : (clock : ℕ) (p : Peer) → p ≡ loadedPeer clock row → PeerFits p
+  unfolding loadedPeer
+  peer-fits clock p e =
+      rw e (record {
+        status = omega arith;
+        outbound = omega arith;
+        explicit = omega arith;
+        version = omega arith;
+        p5 = omega (arith, p5-most);
+        p7 = omega (arith, p7-most);
+      })
 
 -- ---- the ends of `end_from`
 pub end-none : (clock left : ℕ) → left ≡ 0 → 0 ≡ endFrom clock left

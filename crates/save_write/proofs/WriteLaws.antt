@@ -21,7 +21,7 @@ use Rattle.varint.proofs.GroupLaws.{put-fits, put-next, put-full, length-last, 
 use Rattle.records.specs.declared.Peer.{Peer}
 use Rattle.records.specs.declared.TopicRecord.{TopicRecord}
 use Rattle.records.specs.Records.{State, slotCount, topicCount, place, peerIn, topicIn}
-use Rattle.layout.specs.Rows.{joins}
+use Rattle.rows.specs.Rows.{joins}
 use Rattle.saves.specs.Save.{topicRow, rowOf, asLeft, savedRow, order, bodyOf, numbersOf, bytesOf, saveOf, edition, storing}
 use Rattle.saves.specs.declared.Saved.{Saved}
 use Rattle.saves.specs.declared.Saved.the-variants.{Done, Short}

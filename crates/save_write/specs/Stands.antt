@@ -5,7 +5,7 @@ use mathlib.Core.List.{List}
 use lib.ListN.{length}
 use lib.Seq.{sets}
 use Rattle.records.specs.Records.{State}
-use Rattle.layout.specs.Rows.{joins}
+use Rattle.rows.specs.Rows.{joins}
 use Rattle.saves.specs.Save.{savedRow}
 use Rattle.save_write.specs.Sorting.{slotOf}
 

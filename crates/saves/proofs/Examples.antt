@@ -5,7 +5,7 @@ use Rattle.index.specs.Index.{every, first, iter, gather}
 use Rattle.varint.specs.Groups.{groups, encode, decode, readAt}
 use Rattle.params.specs.Ordinary.{ordinaryNumbers}
 use Rattle.records.specs.Records.{codeIn, peerIn, topicIn}
-use Rattle.layout.specs.Rows.{span, joins}
+use Rattle.rows.specs.Rows.{span, joins}
 use Rattle.validity.specs.Valid.{topicParam}
 use Rattle.lookup.specs.Fresh.{freshState}
 use Rattle.effects.specs.Effects.{retainedTo, reclaimable}

@@ -12,9 +12,10 @@ use mathlib.Core.Bool.{Bool, false}
 use Rattle.index.specs.Index.{first, gather}
 use Rattle.index.specs.declared.Found.the-variants.{Nothing}
 use Rattle.index.proofs.Flags.{by-order}
-use Rattle.layout.specs.Rows.{tab, span, joins}
-use Rattle.layout.proofs.RowLaws.{stride}
-use Rattle.layout.proofs.Whole.{span-append}
+use Rattle.layout.specs.Rows.{tab}
+use Rattle.rows.specs.Rows.{span, joins}
+use Rattle.rows.proofs.RowLaws.{stride}
+use Rattle.rows.proofs.Whole.{span-append}
 
 -- ---- gathered parts
 pub gather-upto :

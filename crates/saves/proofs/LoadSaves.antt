@@ -21,8 +21,10 @@ use Rattle.params.specs.Check.{firstBroken}
 use Rattle.records.specs.declared.Peer.{Peer}
 use Rattle.records.specs.declared.TopicRecord.{TopicRecord}
 use Rattle.records.specs.Records.{State, slotCount, topicCount, paramCount, place, noPeer, peerIn, topicIn, isConnected, isRetained}
-use Rattle.layout.specs.Rows.{tab, span, joins}
-use Rattle.layout.proofs.RowLaws.{length-tab, getD-tab, span-all}
+use Rattle.layout.specs.Rows.{tab}
+use Rattle.rows.specs.Rows.{span, joins}
+use Rattle.layout.proofs.RowLaws.{length-tab, getD-tab}
+use Rattle.rows.proofs.RowLaws.{span-all}
 use Rattle.validity.specs.Valid.{maxTime}
 use Rattle.lookup.specs.Fresh.{freshState}
 use Rattle.effects.specs.Effects.{reclaimable}

@@ -20,9 +20,11 @@ use Rattle.params.proofs.ParamLaws.{Accepts}
 use Rattle.records.specs.declared.Peer.{Peer}
 use Rattle.records.specs.declared.TopicRecord.{TopicRecord}
 use Rattle.records.specs.Records.{State, slotCount, topicCount, paramCount, place, noPeer, noTopic, joinedIn, peerIn, topicIn}
-use Rattle.layout.specs.Rows.{tab, span}
+use Rattle.layout.specs.Rows.{tab}
+use Rattle.rows.specs.Rows.{span}
 use Rattle.layout.specs.View.{placeCount, Sized}
-use Rattle.layout.proofs.RowLaws.{length-tab, getD-tab, getD-span}
+use Rattle.layout.proofs.RowLaws.{length-tab, getD-tab}
+use Rattle.rows.proofs.RowLaws.{getD-span}
 use Rattle.validity.specs.Valid.{maxTime, maxEnd, maxId, risingOk, cap2, cap3, valid}
 use Rattle.validity.proofs.ValidLaws.{PeerFacts, TopicFacts, Facts, FitsAt, no-peer, no-topic, valid-facts, facts-valid}
 use Rattle.lookup.specs.Fresh.{freshState}

@@ -17,8 +17,10 @@ use Rattle.params.specs.Check.{firstBroken}
 use Rattle.records.specs.declared.Peer.{Peer}
 use Rattle.records.specs.declared.TopicRecord.{TopicRecord}
 use Rattle.records.specs.Records.{State, slotCount, topicCount, place, noPeer, peerIn, topicIn, isConnected}
-use Rattle.layout.specs.Rows.{tab, joins}
-use Rattle.layout.proofs.RowLaws.{getD-tab, getD-span}
+use Rattle.layout.specs.Rows.{tab}
+use Rattle.rows.specs.Rows.{joins}
+use Rattle.layout.proofs.RowLaws.{getD-tab}
+use Rattle.rows.proofs.RowLaws.{getD-span}
 use Rattle.effects.specs.Effects.{retainedTo}
 use Rattle.validity.specs.Valid.{maxTime, valid}
 use Rattle.validity.proofs.ValidLaws.{valid-facts}

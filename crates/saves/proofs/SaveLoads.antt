@@ -21,8 +21,8 @@ use Rattle.varint.specs.declared.Read.the-variants.{Number, Bad}
 use Rattle.varint.proofs.GroupLaws.{readAt-encode}
 use Rattle.params.specs.Check.{firstBroken}
 use Rattle.records.specs.Records.{State, slotCount, peerIn, paramCount}
-use Rattle.layout.specs.Rows.{joins}
-use Rattle.layout.proofs.RowLaws.{length-joins}
+use Rattle.rows.specs.Rows.{joins}
+use Rattle.rows.proofs.RowLaws.{length-joins}
 use Rattle.validity.specs.Valid.{maxTime, valid}
 use Rattle.validity.proofs.ValidLaws.{Facts, valid-facts}
 use Rattle.lookup.specs.Fresh.{freshState}

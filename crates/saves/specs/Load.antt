@@ -19,7 +19,8 @@ use Rattle.records.specs.declared.Groups.{Groups}
 use Rattle.records.specs.declared.Peer.{Peer}
 use Rattle.records.specs.declared.TopicRecord.{TopicRecord}
 use Rattle.records.specs.Records.{State, slotCount, topicCount, noPeer, noTopic}
-use Rattle.layout.specs.Rows.{tab, span}
+use Rattle.layout.specs.Rows.{tab}
+use Rattle.rows.specs.Rows.{span}
 use Rattle.layout.specs.View.{placeCount, stateOf}
 use Rattle.validity.specs.Valid.{maxTime, maxId, cap2, cap3}
 use Rattle.lookup.specs.Fresh.{setupOf, freshState}

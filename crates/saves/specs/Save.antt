@@ -11,7 +11,7 @@ use Rattle.varint.specs.Groups.{encode}
 use Rattle.records.specs.declared.Peer.{Peer}
 use Rattle.records.specs.declared.TopicRecord.{TopicRecord}
 use Rattle.records.specs.Records.{State, slotCount, topicCount, place, peerIn, topicIn, isConnected, isRetained}
-use Rattle.layout.specs.Rows.{joins}
+use Rattle.rows.specs.Rows.{joins}
 use Rattle.effects.specs.Effects.{retainedTo, endAfter, retainSeconds, reclaimable}
 use Rattle.validity.specs.Valid.{maxTime, valid}
 use Rattle.saves.specs.declared.Saved.{Saved}

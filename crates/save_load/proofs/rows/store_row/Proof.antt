@@ -9,6 +9,7 @@ use Rattle.records.specs.Records.{State, setPeer}
 use Rattle.layout.specs.View.{stateOf}
 use Rattle.saves.specs.Load.{loadedPeer}
 use Rattle.save_load.specs.Store.{stored}
+use Rattle.save_load.proofs.StoreLaws.{peer-fits}
 use Rattle.save_load.proofs.rows.store_row.Statement.{statement}
 use Rattle.save_load.proofs.rows.store_row.Tie as tie
 
@@ -28,6 +29,6 @@ store-row-spec =
     (λ c κs. let s = c .before .before .before in (s .pre .0, (s .pre .1 .0, s .pre .1 .1 .1)))
     (λ c κs. let s = c .before .before .before .before .before .before .before in (s .pre .1 .1 .0, s .pre .1 .1 .1))
     (λ c κs. let s = c .before .before .before .before .before .before .before .before in
-    (c .before .before .before .before .store-topics .kept .0 ∙ s .pre .0, s .pre .1 .0))
+    (c .before .before .before .before .store-topics .kept .0 ∙ s .pre .0, (s .pre .1 .0, peer-fits _ (s .pre .1 .1 .1) _ _ (c .loaded-peer .ensures))))
     (λ c. c .before .before .store-peer .kept .0 ∙ c .before .before .before .before .before .before .before .store-topics .kept .0)
     returns)

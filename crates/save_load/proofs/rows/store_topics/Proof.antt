@@ -10,6 +10,7 @@ use Rattle.index.proofs.Index.{iter-none, iter-more, iter-done}
 use Rattle.records.specs.Records.{State, setTopic, place}
 use Rattle.layout.specs.View.{cellCount, stateOf}
 use Rattle.save_load.specs.Store.{storedTopic}
+use Rattle.save_load.proofs.StoreLaws.{topic-fits}
 use Rattle.save_load.proofs.rows.store_topics.Statement.{statement}
 use Rattle.save_load.proofs.rows.store_topics.Tie as tie
 
@@ -44,7 +45,10 @@ store-topics-spec =
     (λ c. omega arith)
     (λ c. omega arith)
     (λ c κs. (c .before .before .before .before .before .pre .1 .1 .long, c .before .loop-test .taken))
-    (λ c κs. (c .before .before .before .loop .inv .1 .0, omega arith))
+    (λ c κs. (
+      c .before .before .before .loop .inv .1 .0,
+      (omega arith, topic-fits _ (c .before .before .before .before .before .before .pre .1 .1) _ _ (omega arith) (c .loaded-topic .ensures)),
+    ))
     (λ c. omega arith)
     (λ c. omega arith)
     loop-again

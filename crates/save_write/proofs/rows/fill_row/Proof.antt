@@ -40,7 +40,7 @@ loop-again c =
     fill-more _ _ _ (l .t) _ _ _ _ _ (c .before .before .before .before .before .before .loop-test .taken) (l .inv)
     (c .before .before .put-topic .kept .0)
     (c .before .before .put-topic .ensures)
-    (c .before .before .before .before .before .load-topic .ensures)
+    (c .before .before .before .before .before .load-topic .ensures .0)
     (c .before .before .before .left-of .ensures
     ∙ ap (λ (p : Peer). getD (p .backoff) (l .t) 0 - s .args .time)
     (c .before .before .before .before .before .before .before .before .before .before .before .before .before .left-at .ensures))
