@@ -3,7 +3,7 @@
 // then into their slots.
 pub mod passes;
 pub mod ranges;
-pub mod rows;
+pub mod row;
 
 ghost use mathlib.Core.Path.{_≡_};
 ghost use Prim.Native.Nat.{ℕ, _*_, _≤_};
@@ -21,7 +21,7 @@ ghost use Rattle.saves.specs.Load.{numbers, parseFrom, mostOf, slotsOf, records
 ghost use Rattle.save_load.specs.Judge.{isRead, judgeOf};
 ghost use Rattle.save_load.specs.Store.{Loadable};
 ghost use Rattle.save_load.specs.Checked.{Coded, Says, Checks};
-use crate::rows::ROW;
+use crate::row::ROW;
 use index::Found;
 use layout::CELLS;
 use params::Params;
@@ -144,7 +144,7 @@ fn make(params: Params, clock: u64, s: &[u8], n: usize, at: usize, table: &mut [
 {
     lookup::fresh::fresh(params, table);
     layout::store_clock(table, clock);
-    rows::store_rows(table, s, at, n, clock);
+    row::store_rows(table, s, at, n, clock);
 }
 
 // Loads a save with parameters, at a clock: 9 and 2, then edition and count, then 10 before 9; a refusal leaves the table as it was.

@@ -8,8 +8,8 @@ ghost use Rattle.layout.specs.View.{stateOf};
 ghost use Rattle.saves.specs.Save.{rowSize, bytesOf};
 ghost use Rattle.save_write.specs.Sorting.{slotOf, Saves};
 ghost use Rattle.save_write.specs.Stands.{rowsOf, Stands};
-use crate::rows::ROW;
-use crate::rows::fill_row;
+use crate::row::ROW;
+use crate::row::fill_row;
 use varint::Put;
 
 // How many bytes a number takes.

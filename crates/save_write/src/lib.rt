@@ -1,7 +1,7 @@
 // Writing a save (02, order 8). The definitions are crate saves: `savingOf` says what is answered and what stands in the buffer.
 pub mod bytes;
 pub mod keys;
-pub mod rows;
+pub mod row;
 
 ghost use mathlib.Core.Path.{_≡_};
 ghost use Prim.Native.Nat.{_≤_};

@@ -31,5 +31,5 @@ make-spec =
     (c .before .before .before .before .before .before .store-clock .last .0)
     (c .before .before .store-rows .last .0)
     (c .before .before .before .before .before .before .before .before .before .before .fresh .ensures)
-    (c .before .before .before .before .before .before .store-clock .ensures)
+    (c .before .before .before .before .before .before .store-clock .ensures .0)
     (c .before .before .store-rows .ensures l end w)))

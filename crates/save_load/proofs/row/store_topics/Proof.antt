@@ -1,4 +1,4 @@
--- `save_load::rows::store_topics`: after t turns the topics below t are stored. Assumes nothing.
+-- `save_load::row::store_topics`: after t turns the topics below t are stored. Assumes nothing.
 use Prim.{tt}
 use Prim.Native.Nat.{ℕ, _+_, _*_, _-_, _≤_, _<_}
 use mathlib.Core.Path.{_≡_, refl, sym, ap, _∙_}
@@ -11,8 +11,8 @@ use Rattle.records.specs.Records.{State, setTopic, place}
 use Rattle.layout.specs.View.{cellCount, stateOf}
 use Rattle.save_load.specs.Store.{storedTopic}
 use Rattle.save_load.proofs.StoreLaws.{topic-fits}
-use Rattle.save_load.proofs.rows.store_topics.Statement.{statement}
-use Rattle.save_load.proofs.rows.store_topics.Tie as tie
+use Rattle.save_load.proofs.row.store_topics.Statement.{statement}
+use Rattle.save_load.proofs.row.store_topics.Tie as tie
 
 abbrev Inv-loop : tie.InvT-loop
 Inv-loop table₀ slot row t₀ table t =

@@ -1,4 +1,4 @@
--- `save_load::rows::store_row`: the topics, then the peer. Assumes nothing.
+-- `save_load::row::store_row`: the topics, then the peer. Assumes nothing.
 use Prim.{tt}
 use Prim.Native.Nat.{ℕ, _+_, _*_, _-_, _≤_, _<_}
 use mathlib.Core.Path.{_≡_, refl, sym, ap, _∙_}
@@ -10,8 +10,8 @@ use Rattle.layout.specs.View.{stateOf}
 use Rattle.saves.specs.Load.{loadedPeer}
 use Rattle.save_load.specs.Store.{stored}
 use Rattle.save_load.proofs.StoreLaws.{peer-fits}
-use Rattle.save_load.proofs.rows.store_row.Statement.{statement}
-use Rattle.save_load.proofs.rows.store_row.Tie as tie
+use Rattle.save_load.proofs.row.store_row.Statement.{statement}
+use Rattle.save_load.proofs.row.store_row.Tie as tie
 
 returns : tie.Need-returns
 unfolding stored

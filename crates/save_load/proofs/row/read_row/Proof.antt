@@ -1,4 +1,4 @@
--- `save_load::rows::read_row`: after i numbers the row has them (`Reading`). Assumes nothing.
+-- `save_load::row::read_row`: after i numbers the row has them (`Reading`). Assumes nothing.
 use Prim.{tt}
 use Prim.Native.Nat.{ℕ, _+_, _*_, _-_, _≤_, _<_}
 use mathlib.Core.Path.{_≡_, refl, sym, ap, _∙_}
@@ -6,8 +6,8 @@ use native.Mathlib.Omega.{arith}
 use borrow.Author.Needs.{needs}
 use lib.ListN.{length, getD, take, length-set}
 use Rattle.save_load.proofs.StoreLaws.{Reading, reading-none, reading-read, reading-more, reading-done}
-use Rattle.save_load.proofs.rows.read_row.Statement.{statement}
-use Rattle.save_load.proofs.rows.read_row.Tie as tie
+use Rattle.save_load.proofs.row.read_row.Statement.{statement}
+use Rattle.save_load.proofs.row.read_row.Tie as tie
 
 abbrev Inv-loop : tie.InvT-loop
 Inv-loop s at row₀ place₀ i₀ row place i = Reading s at i place row

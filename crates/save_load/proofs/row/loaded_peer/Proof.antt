@@ -1,4 +1,4 @@
--- `save_load::rows::loaded_peer` meets its contract. Assumes nothing.
+-- `save_load::row::loaded_peer` meets its contract. Assumes nothing.
 use Prim.{tt}
 use Prim.Native.Nat.{ℕ, _+_, _*_, _-_, _≤_, _<_}
 use mathlib.Core.Path.{_≡_, refl, sym, ap, _∙_}
@@ -6,8 +6,8 @@ use native.Mathlib.Omega.{arith}
 use borrow.Author.Needs.{needs}
 use lib.ListN.{length, getD, take, length-set}
 use Rattle.save_load.proofs.StoreLaws.{retain-fits, peer-is}
-use Rattle.save_load.proofs.rows.loaded_peer.Statement.{statement}
-use Rattle.save_load.proofs.rows.loaded_peer.Tie as tie
+use Rattle.save_load.proofs.row.loaded_peer.Statement.{statement}
+use Rattle.save_load.proofs.row.loaded_peer.Tie as tie
 
 pub loaded-peer-spec : {M : Type 1} → statement M
 loaded-peer-spec =

@@ -1,12 +1,12 @@
--- `save_write::rows::put_peer` meets its contract. Assumes nothing.
+-- `save_write::row::put_peer` meets its contract. Assumes nothing.
 use Prim.{tt}
 use Prim.Native.Nat.{ℕ, _+_, _*_, _-_, _≤_, _<_}
 use mathlib.Core.Path.{_≡_, refl, sym, ap, _∙_}
 use native.Mathlib.Omega.{arith}
 use borrow.Author.Needs.{needs}
 use lib.ListN.{length, getD, take, set, length-set}
-use Rattle.save_write.proofs.rows.put_peer.Statement.{statement}
-use Rattle.save_write.proofs.rows.put_peer.Tie as tie
+use Rattle.save_write.proofs.row.put_peer.Statement.{statement}
+use Rattle.save_write.proofs.row.put_peer.Tie as tie
 
 pub put-peer-spec : {M : Type 1} → statement M
 put-peer-spec =

@@ -1,8 +1,8 @@
--- `save_load::rows::end_from` meets its contract. Assumes nothing.
+-- `save_load::row::end_from` meets its contract. Assumes nothing.
 use native.Mathlib.Omega.{arith}
 use Rattle.save_load.proofs.StoreLaws.{end-none, end-some}
-use Rattle.save_load.proofs.rows.end_from.Statement.{statement}
-use Rattle.save_load.proofs.rows.end_from.Tie as tie
+use Rattle.save_load.proofs.row.end_from.Statement.{statement}
+use Rattle.save_load.proofs.row.end_from.Tie as tie
 
 pub end-from-spec : {M : Type 1} → statement M
 end-from-spec =

@@ -1,4 +1,4 @@
--- `save_load::rows::store_rows`: after k records, they are stored, and the next stands at `place`. Assumes nothing.
+-- `save_load::row::store_rows`: after k records, they are stored, and the next stands at `place`. Assumes nothing.
 use Prim.{tt}
 use Prim.Native.Nat.{ℕ, _+_, _*_, _-_, _≤_, _<_}
 use mathlib.Core.Path.{_≡_, refl, sym, ap, _∙_}
@@ -11,8 +11,8 @@ use Rattle.layout.specs.View.{cellCount, stateOf}
 use Rattle.saves.specs.Load.{numbers, parseFrom, rowAt}
 use Rattle.save_load.specs.Store.{stored, storedAll}
 use Rattle.save_load.proofs.StoreLaws.{record-at, record-read, record-row, row-fits, store-none, store-more}
-use Rattle.save_load.proofs.rows.store_rows.Statement.{statement}
-use Rattle.save_load.proofs.rows.store_rows.Tie as tie
+use Rattle.save_load.proofs.row.store_rows.Statement.{statement}
+use Rattle.save_load.proofs.row.store_rows.Tie as tie
 
 abbrev Inv-loop : tie.InvT-loop
 Inv-loop table₀ s at n clock row₀ place₀ k₀ table row place k =

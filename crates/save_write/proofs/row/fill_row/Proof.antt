@@ -1,4 +1,4 @@
--- `save_write::rows::fill_row`: after t topics the row is filled so far (`Filled`). Assumes nothing.
+-- `save_write::row::fill_row`: after t topics the row is filled so far (`Filled`). Assumes nothing.
 use Prim.{tt}
 use Prim.Native.Nat.{ℕ, _+_, _*_, _-_, _≤_, _<_}
 use mathlib.Core.Path.{_≡_, refl, sym, ap, _∙_}
@@ -12,8 +12,8 @@ use Rattle.records.specs.Records.{place, peerIn, topicIn}
 use Rattle.saves.specs.Save.{asLeft}
 use Rattle.layout.specs.View.{stateOf}
 use Rattle.save_write.proofs.FillLaws.{Filled, fill-none, fill-more, fill-done, saved-is}
-use Rattle.save_write.proofs.rows.fill_row.Statement.{statement}
-use Rattle.save_write.proofs.rows.fill_row.Tie as tie
+use Rattle.save_write.proofs.row.fill_row.Statement.{statement}
+use Rattle.save_write.proofs.row.fill_row.Tie as tie
 
 abbrev Inv-loop : tie.InvT-loop
 Inv-loop table slot time end row₀ ends t₀ row t =

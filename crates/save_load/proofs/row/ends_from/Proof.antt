@@ -1,4 +1,4 @@
--- `save_load::rows::ends_from`: below t the ends are those of the row. Assumes nothing.
+-- `save_load::row::ends_from`: below t the ends are those of the row. Assumes nothing.
 use Prim.{tt}
 use Prim.Native.Nat.{ℕ, _+_, _*_, _-_, _≤_, _<_}
 use mathlib.Core.Path.{_≡_, refl, sym, ap, _∙_}
@@ -10,8 +10,8 @@ use Rattle.index.proofs.Lists.{Built, built-none, built-more, built-done}
 use Rattle.layout.proofs.RowLaws.{length-tab, getD-tab}
 use Rattle.saves.specs.Load.{endFrom}
 use Rattle.save_load.proofs.StoreLaws.{end-fits}
-use Rattle.save_load.proofs.rows.ends_from.Statement.{statement}
-use Rattle.save_load.proofs.rows.ends_from.Tie as tie
+use Rattle.save_load.proofs.row.ends_from.Statement.{statement}
+use Rattle.save_load.proofs.row.ends_from.Tie as tie
 
 abbrev Inv-loop : tie.InvT-loop
 Inv-loop clock row ends₀ t₀ ends t = Built 0 (λ k. endFrom clock (getD row (8 + k * 5) 0)) 8 t ends
