@@ -1,7 +1,7 @@
 -- The check of the parameters by their magnitudes: a magnitude between those of its field's limits, with its field's sign, is a number
 -- between the limits; and the joint rules compare numbers of one sign.
 -- Assumes nothing.
-use Prim.Native.Nat.{ℕ, zero, suc, _+_, _*_, _-_, _/_, _≤_, _<_}
+use Prim.Native.Nat.{ℕ, zero, suc, _+_, _*_, _-_, _≤_, _<_}
 use mathlib.Core.Path.{_≡_, refl, sym, ap, _∙_}
 use mathlib.Core.Bool.{Bool, true, false, cond, _&&_}
 use mathlib.Core.List.{List, map}
@@ -16,7 +16,7 @@ use borrow.Author.Tests.{le-leb, leb-true, lt-ltb, le-ltb, ltb-true, eq-eqb}
 use Rattle.index.specs.Index.{every}
 use Rattle.index.proofs.Index.{both, every-at, every-by}
 use Rattle.index.proofs.Flags.{by-test, by-order}
-use Rattle.varint.specs.Codes.{codeOf, numberOf, magnitude}
+use Rattle.varint.specs.Codes.{numberOf, magnitude}
 use Rattle.varint.proofs.CodeLaws.{number-code}
 use Rattle.records.specs.Records.{State, codeIn, paramCount, topicCount}
 use Rattle.limits.specs.Limits.{generalCount, ofTopic, fieldCount, place, limits, limitAt, fieldOf, lies, inLimits}
@@ -91,19 +91,22 @@ loss-number (suc m) = let e : 2 * suc m - 1 ≡ 2 * m + 1 = omega arith in ap nu
 
 module _ (st : State) (i : ℕ) (h : i < paramCount) (m : ℕ) (e : codeFor (below i) m ≡ codeIn st i) where
   number-lies :
-      getD least (fieldOf i) 0 ≤ m → m ≤ getD most (fieldOf i) 0 → lies (numberOf (codeFor (isBelow (fieldOf i)) m)) (limitAt (fieldOf i)) ≡ true
+      getD least (fieldOf i) 0 ≤ m →
+      m ≤ getD most (fieldOf i) 0 →
+      lies (numberOf (codeFor (isBelow (fieldOf i)) m)) (limitAt (fieldOf i)) ≡ true
   unfolding sizeTest
   number-lies a b =
       let f = fieldOf i in
-      let P : Bool → Type 0 = λ s. lies (numberOf (codeFor s m)) (limitAt f) ≡ true in
       let t = every-at sizeTest fieldCount f sizes (field-lt i h) in
       by-test (lies (numberOf (codeFor (isBelow f) m)) (limitAt f) ≡ true) (isBelow f)
       (λ s.
       let q = both _ _ (sym (rw s) ∙ t) in
-      rw (s, loss-number m) (rw (loss-up (limitAt f .low) (getD most f 0) m (q .0) b, loss-down (limitAt f .high) (getD least f 0) m (q .1) a)))
+      rw (s, loss-number m)
+      (rw (loss-up (limitAt f .low) (getD most f 0) m (q .0) b, loss-down (limitAt f .high) (getD least f 0) m (q .1) a)))
       (λ s.
       let q = both _ _ (sym (rw s) ∙ t) in
-      rw (s, gain-number m) (rw (gain-up (limitAt f .low) (getD least f 0) m (q .0) a, gain-down (limitAt f .high) (getD most f 0) m (q .1) b)))
+      rw (s, gain-number m)
+      (rw (gain-up (limitAt f .low) (getD least f 0) m (q .0) a, gain-down (limitAt f .high) (getD most f 0) m (q .1) b)))
 
   pub lies-told : (low high : ℕ) → low ≡ getD least (fieldOf i) 0 → high ≡ getD most (fieldOf i) 0 → leb low m && leb m high ≡ true →
       inLimits (map numberOf (st .codes)) i ≡ true
@@ -284,7 +287,11 @@ general-row l r i h e = ap (λ (x : List ℕ). getD x i 0) e ∙ ap (λ (f : ℕ
 pub topic-row : (r : List ℕ) (t j x : ℕ) → j < ofTopic → x ≡ getD r (generalCount + j) 0 → x ≡ getD r (fieldOf (place t j)) 0
 topic-row r t j x h e = e ∙ ap (λ (f : ℕ). getD r f 0) (sym (topic-field t j h))
 
-pub score-told : {e d : Edition} (codes : List ℕ) → e ≡ d → scoreRule (map numberOf codes) d ≡ true → scoreRule (map numberOf codes) e ≡ true
+pub score-told :
+    {e d : Edition} (codes : List ℕ) →
+    e ≡ d →
+    scoreRule (map numberOf codes) d ≡ true →
+    scoreRule (map numberOf codes) e ≡ true
 score-told codes q t = ap (scoreRule (map numberOf codes)) q ∙ t
 
 -- the rule on D_score, of magnitudes of the state's

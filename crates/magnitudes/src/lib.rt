@@ -147,7 +147,8 @@ fn generals_lie(table: &[u64], low: &[u64; FIELDS], high: &[u64; FIELDS]) -> boo
 fn field_lies(table: &[u64], j: usize, low: u64, high: u64) -> bool
     requires { ⌜ (length (now table) ≡ cellCount)
         × ((j < ofTopic) × ((low ≡ getD least (generalCount + j) 0) × (high ≡ getD most (generalCount + j) 0))) ⌝ }
-    ensures { λ r. ⌜ (r ≡ true → every topicCount (λ k. inLimits (map numberOf (stateOf (now (table .entry)) .codes)) (place k j)) ≡ true) ⌝ }
+    ensures { λ r. ⌜ (r ≡ true
+        → every topicCount (λ k. inLimits (map numberOf (stateOf (now (table .entry)) .codes)) (place k j)) ≡ true) ⌝ }
 {
     let mut t: usize = 0;
     while t < TOPICS {

@@ -1,6 +1,6 @@
 -- A walk over the set bits of a word, the lowest first: what is left to look at, and what its end says.
 -- Assumes nothing.
-use Prim.Native.Nat.{ℕ, zero, suc, _+_, _-_, _/_, _%_, _^_, _≤_, _<_}
+use Prim.Native.Nat.{ℕ, _+_, _-_, _/_, _%_, _^_, _≤_, _<_}
 use native.Mathlib.Nat.{not-suc-le-zero, le-of-suc-le-suc, zero-div}
 use native.Mathlib.Omega.{arith}
 use mathlib.Core.Path.{_≡_, refl, sym, ap, _∙_, subst}
@@ -9,12 +9,11 @@ use mathlib.Core.Bool.{Bool, true, false}
 use mathlib.Core.List.{List, [], _∷_}
 use lib.ListN.{length, getD}
 use lib.Seq.{getD-set-same, getD-set-other}
-use lib.Dec.{eqb}
 use lib.Count.{trailingZeros}
 use lib.Bits.{bitAnd, and-le-r}
 use borrow.Author.Tests.{eqb-true, eq-eqb}
 use Rattle.index.proofs.Flags.{by-order}
-use Rattle.words.specs.Words.{odd, bits, lowest}
+use Rattle.words.specs.Words.{bits, lowest}
 use Rattle.words.proofs.BitLaws.{bits-length, bits-at, bits-lowest, bits-less, lowest-lt}
 use Rattle.words.proofs.SlotWalk.{lowest-below}
 
@@ -63,7 +62,10 @@ module _ (b : ℕ) (pos : 0 < b) (small : b < 2 ^ 64) where
       sym (ap (λ (m : List Bool). getD m j false) less) ∙ flag-of (bitAnd b (b - 1)) j l e in
       let k : t < length (bits 64 b) = rw (bits-length 64 b) lowest-low in
       let n : j ≡ t → ⊥ = λ q.
-      never (sym (getD-set-same (bits 64 b) t false false k) ∙ ap (λ (i : ℕ). getD (lib.ListN.set (bits 64 b) t false) i false) (sym q) ∙ f) in
+      never
+      (sym (getD-set-same (bits 64 b) t false false k)
+      ∙ ap (λ (i : ℕ). getD (lib.ListN.set (bits 64 b) t false) i false) (sym q)
+      ∙ f) in
       bit-of b j l (sym (getD-set-other (bits 64 b) t j false false n) ∙ f)
 
   above : (j : ℕ) → j < 64 → b / 2 ^ j % 2 ≡ 1 → t ≤ j
@@ -103,7 +105,12 @@ module _ (P : ℕ → Type 0) (w : ℕ) where
           small = let f = falls b pos (k .small) in let s = k .small in omega arith;
         }
       where
-        at : (j : ℕ) → j < 64 → (j ≡ trailingZeros 64 b) ⊎ (j ≡ trailingZeros 64 b → ⊥) → b / 2 ^ j % 2 ≡ 1 → (bitAnd b (b - 1) / 2 ^ j % 2 ≡ 1) ⊎ P j
+        at :
+            (j : ℕ) →
+            j < 64 →
+            (j ≡ trailingZeros 64 b) ⊎ (j ≡ trailingZeros 64 b → ⊥) →
+            b / 2 ^ j % 2 ≡ 1 →
+            (bitAnd b (b - 1) / 2 ^ j % 2 ≡ 1) ⊎ P j
         at j l (inl e) h = inr (subst P (sym e) ok)
         at j l (inr n) h = inl (kept b pos (k .small) j l n h)
 

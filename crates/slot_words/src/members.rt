@@ -3,7 +3,6 @@ ghost use mathlib.Core.Path.{_≡_};
 ghost use mathlib.Core.Bool.{true};
 ghost use Prim.Native.Nat.{ℕ, _+_, _*_, _/_, _%_, _^_, _<_, _≤_};
 ghost use lib.ListN.{length};
-ghost use lib.Dec.{leb};
 ghost use Rattle.records.specs.Records.{topicIn, place, slotCount, topicCount};
 ghost use Rattle.layout.specs.View.{cellCount, stateOf};
 ghost use Rattle.slot_words.specs.Flags.{TimesWithin, MembersIn};

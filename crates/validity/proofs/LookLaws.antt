@@ -1,14 +1,13 @@
 -- The parts of the quick test (specs/Looks.antt) are test 12's rule of every slot: an empty slot is looked at whole, any other has each
 -- fact from one part.
 -- Assumes nothing.
-use Prim.Native.Nat.{ℕ, zero, suc, _+_, _*_, _/_, _%_, _^_, _≤_, _<_}
-use mathlib.Core.Path.{_≡_, refl, sym, ap, _∙_, subst}
-use mathlib.Core.Bool.{Bool, true, false, not, _&&_, _||_}
+use Prim.Native.Nat.{ℕ, _+_, _*_, _/_, _%_, _^_, _≤_, _<_}
+use mathlib.Core.Path.{_≡_, sym, ap, _∙_, subst}
+use mathlib.Core.Bool.{Bool, true, _&&_, _||_}
 use mathlib.Core.List.{List}
 use native.Mathlib.Omega.{arith}
-use native.Mathlib.Nat.{le-trans}
 use lib.ListN.{length, getD}
-use lib.Dec.{eqb, leb, ltb}
+use lib.Dec.{eqb, leb}
 use borrow.Author.Tests.{eqb-true, eqb-false, ne-eqb, le-leb, leb-true}
 use Rattle.index.specs.Index.{every}
 use Rattle.index.proofs.Index.{both, every-by}
@@ -21,11 +20,11 @@ use Rattle.layout.proofs.ReadLaws.{explicit-le, outbound-le, member-le, subscri
 use Rattle.slot_words.specs.Flags.{PeerFlags, TopicFlags, TimesWithin, FreeSlots}
 use Rattle.slot_words.proofs.WordLaws.{at-word, each-word}
 use Rattle.columns.specs.Within.{PeersWithin, EndsWithin, CountersWithin, Named, OneGroup, NoRetain}
-use Rattle.validity.specs.Valid.{maxTime, maxEnd, maxGroup, maxRetain, risingOk, cap2, cap3, joinedOk, slotOk, topicOkAt, newId, valid}
+use Rattle.validity.specs.Valid.{maxTime, maxEnd, maxGroup, maxRetain, risingOk, cap2, cap3, joinedOk, slotOk, topicOkAt, valid}
 use Rattle.validity.specs.Order.{Caps, UpTo}
 use Rattle.validity.specs.Looks.{WordsRight, ColumnsRight, GroupsAt, NameAt, RetainAt, HoleAt, SlotsRight, FreeIn, RecordsRight}
 use Rattle.validity.proofs.Conditions.{else}
-use Rattle.validity.proofs.ValidLaws.{PeerFacts, TopicFacts, FitsAt, peer-holds, topic-holds}
+use Rattle.validity.proofs.ValidLaws.{PeerFacts, FitsAt, peer-holds, topic-holds}
 use Rattle.validity.proofs.RestLaws.{slots-rest}
 
 zero-or-one : (x : ℕ) → x ≤ 1 → (x ≡ 1 → ⊥) → x ≡ 0

@@ -1,14 +1,14 @@
 -- Empty records are right, and have no id: so test 12 may stop where the records end.
 -- Assumes nothing.
 use Prim.Native.Nat.{ℕ, _<_, _≤_}
-use mathlib.Core.Path.{_≡_, refl, sym, ap, _∙_}
+use mathlib.Core.Path.{_≡_, refl, ap, _∙_}
 use mathlib.Core.Bool.{Bool, true, false, not, _&&_}
 use lib.Dec.{eqb}
 use Rattle.index.specs.Index.{every}
 use Rattle.index.proofs.Index.{every-at, every-by}
 use Rattle.index.proofs.Flags.{by-order}
 use Rattle.records.specs.declared.Peer.{Peer}
-use Rattle.records.specs.Records.{State, noPeer, noTopic, place, joinedIn, peerIn, topicIn, slotCount, topicCount}
+use Rattle.records.specs.Records.{State, noPeer, noTopic, joinedIn, peerIn, slotCount, topicCount}
 use Rattle.layout.specs.View.{EmptyFrom}
 use Rattle.validity.specs.Valid.{peerOk, topicOk, topicOkAt, slotOk, apart, newId, cap2, cap3}
 use Rattle.validity.proofs.ValidLaws.{no-peer, no-topic, peer-holds, topic-holds}

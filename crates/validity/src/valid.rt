@@ -1,6 +1,6 @@
-// Test 12: whether a table is a router's. Every call pays for it, so what most records are is asked first, a test that fails ends all, and
-// many numbers are asked at once where the union of their bits is small enough (docs/PERFORMANCE.md says what that saves). The definitions
-// are specs/Valid.antt, in 01's order, and specs/Order.antt.
+// Test 12: whether a table is a router's. Every call pays for it: what passes the quick test (quick.rt, by words and columns) is one, and
+// only a table that does not is asked here, record by record and exactly. The definitions are specs/Valid.antt, in 01's order, and
+// specs/Order.antt.
 ghost use mathlib.Core.Path.{_≡_};
 ghost use mathlib.Core.Bool.{true};
 ghost use Prim.Native.Nat.{ℕ, _+_, _<_, _≤_};

@@ -8,7 +8,9 @@ use Rattle.magnitudes.proofs.accepted.Tie as tie
 
 returns : tie.Need-returns
 returns c e =
-    accepted-in _ _ _ _ (c .before .before .before .before .edition-of .ensures ∙ ap (λ (u : Setup). editionOf (u .edition)) (c .before .before .before .before .before .load-setup .ensures))
+    let m = c .before .before .before .before .before in
+    accepted-in _ _ _ _
+    (c .before .before .before .before .edition-of .ensures ∙ ap (λ (u : Setup). editionOf (u .edition)) (m .load-setup .ensures))
     (c .before .before .e .given .1)
     (c .accepted-by .ensures e)
 

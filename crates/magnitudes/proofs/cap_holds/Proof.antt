@@ -1,4 +1,3 @@
-use borrow.Author.Needs.{needs}
 use native.Mathlib.Omega.{arith}
 use Rattle.layout.specs.View.{stateOf}
 use Rattle.limits.specs.Limits.{place}

@@ -1,4 +1,3 @@
-use borrow.Author.Needs.{needs}
 use native.Mathlib.Omega.{arith}
 use Rattle.layout.specs.View.{stateOf}
 use Rattle.magnitudes.proofs.SizeLaws.{size-of, out-few, degrees-told}
@@ -13,7 +12,8 @@ mul-result c =
 
 returns : tie.Need-returns
 returns c =
-    degrees-told _ _ _ _ _ (size-of _ 0 _ (c .before .before .before .load-magnitude .ensures .0)) (size-of _ 1 _ (c .before .before .load-magnitude2 .ensures .0))
+    degrees-told _ _ _ _ _ (size-of _ 0 _ (c .before .before .before .load-magnitude .ensures .0))
+    (size-of _ 1 _ (c .before .before .load-magnitude2 .ensures .0))
     (size-of _ 2 _ (c .before .load-magnitude3 .ensures .0))
     (size-of _ 3 _ (c .load-magnitude4 .ensures .0))
 

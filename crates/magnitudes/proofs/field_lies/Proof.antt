@@ -1,5 +1,4 @@
-use Prim.Native.Nat.{ℕ, _-_, _≤_}
-use borrow.Author.Needs.{needs}
+use Prim.Native.Nat.{_-_, _≤_}
 use native.Mathlib.Omega.{arith}
 use mathlib.Core.Path.{_≡_, refl}
 use mathlib.Core.Bool.{true}
@@ -40,8 +39,13 @@ field-lies-spec =
     (λ c κs.
     let s = c .before .before .before .pre in
     let a = c .before .before .before .args in
-    let t = c .before .loop .t in
-    (s .0, (omega arith, (topic-row least t (a .j) (a .low) (s .1 .0) (s .1 .1 .0), topic-row most t (a .j) (a .high) (s .1 .0) (s .1 .1 .1)))))
+    let t = c .before .loop .t in (
+      s .0,
+      (
+        omega arith,
+        (topic-row least t (a .j) (a .low) (s .1 .0) (s .1 .1 .0), topic-row most t (a .j) (a .high) (s .1 .0) (s .1 .1 .1)),
+      ),
+    ))
     (λ c e. never e)
     (λ c. omega arith)
     (λ c. omega arith)

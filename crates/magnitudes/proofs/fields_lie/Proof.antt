@@ -20,7 +20,9 @@ use Rattle.magnitudes.proofs.fields_lie.Statement.{statement}
 use Rattle.magnitudes.proofs.fields_lie.Tie as tie
 
 abbrev Inv-loop : tie.InvT-loop
-Inv-loop table low high j₀ j = (j ≤ ofTopic) × (every j (λ j. every topicCount (λ k. inLimits (map numberOf (stateOf table .codes)) (place k j))) ≡ true)
+Inv-loop table low high j₀ j =
+    (j ≤ ofTopic)
+    × (every j (λ j. every topicCount (λ k. inLimits (map numberOf (stateOf table .codes)) (place k j))) ≡ true)
 
 abbrev μ-loop : tie.MeasureT-loop
 μ-loop table low high j₀ j = ofTopic - j

@@ -16,4 +16,6 @@ numbers-lie-spec =
     (λ c e. never e)
     (λ c κs. search needs)
     (λ c e.
-    numbers-told (stateOf (c .before .before .before .before .before .before .before .before .before .before .args .table .now) .codes) (c .before .before .before .before .generals-lie .ensures (passed refl (c .before .before .before .if1 .left))) (c .fields-lie .ensures e)))
+    numbers-told (stateOf (c .before .before .before .before .before .before .before .before .before .before .args .table .now) .codes)
+    (c .before .before .before .before .generals-lie .ensures (passed refl (c .before .before .before .if1 .left)))
+    (c .fields-lie .ensures e)))

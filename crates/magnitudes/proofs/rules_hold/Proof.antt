@@ -17,7 +17,9 @@ rules-hold-spec =
     (λ c e. never e)
     (λ c κs. search needs)
     (λ c e.
-    rules-told _ (c .before .before .before .before .before .before .before .before .pre .1) _ (c .before .before .before .before .before .before .degrees-hold .ensures (passed refl (c .before .before .before .before .before .if1 .left)))
+    rules-told _ (c .before .before .before .before .before .before .before .before .pre .1) _
+    (c .before .before .before .before .before .before .degrees-hold .ensures
+    (passed refl (c .before .before .before .before .before .if1 .left)))
     (c .before .before .before .before .score-holds .ensures (passed refl (c .before .before .before .if2 .left)))
     (c .before .before .thresholds-hold .ensures (passed refl (c .before .if3 .left)))
     (c .caps-hold .ensures e)))

@@ -7,22 +7,28 @@ use Rattle.magnitudes.proofs.score_holds.Tie as tie
 
 add-result : tie.Need-add-result
 add-result c =
-    let s = c .before .before .before .before .before .before in
+    let m = c .before .before .before .before .before in
+    let s = m .before in
     let h =
-    sum-few (stateOf (s .args .table .now)) (s .pre .1) _ _ _ (c .before .before .before .before .load-magnitude .ensures .0) (c .before .before .before .load-magnitude2 .ensures .0)
+    sum-few (stateOf (s .args .table .now)) (s .pre .1) _ _ _ (c .before .before .before .before .load-magnitude .ensures .0)
+    (c .before .before .before .load-magnitude2 .ensures .0)
     (c .before .before .load-magnitude3 .ensures .0) in
     omega arith
 
 returns : tie.Need-returns
 returns c e =
-    score-told (stateOf (c .before .before .before .before .before .before .args .table .now) .codes) (c .enum-told .given .1)
-    (first-read (stateOf (c .before .before .before .before .before .before .args .table .now)) (c .before .before .before .before .before .before .pre .1) _ _ _ (c .before .before .before .before .load-magnitude .ensures .0)
+    let m = c .before .before .before .before .before in
+    score-told (stateOf (m .before .args .table .now) .codes) (c .enum-told .given .1)
+    (first-read (stateOf (m .before .args .table .now)) (m .before .pre .1) _ _ _
+    (c .before .before .before .before .load-magnitude .ensures .0)
     (c .before .before .before .load-magnitude2 .ensures .0) (c .before .before .load-magnitude3 .ensures .0) e)
 
 returns-2 : tie.Need-returns-2
 returns-2 c e =
-    score-told (stateOf (c .before .before .before .before .before .before .args .table .now) .codes) (c .enum-told2 .given .1)
-    (second-read (stateOf (c .before .before .before .before .before .before .args .table .now)) (c .before .before .before .before .before .before .pre .1) _ _ _ (c .before .before .before .before .load-magnitude .ensures .0)
+    let m = c .before .before .before .before .before in
+    score-told (stateOf (m .before .args .table .now) .codes) (c .enum-told2 .given .1)
+    (second-read (stateOf (m .before .args .table .now)) (m .before .pre .1) _ _ _
+    (c .before .before .before .before .load-magnitude .ensures .0)
     (c .before .before .before .load-magnitude2 .ensures .0) (c .before .before .load-magnitude3 .ensures .0) e)
 
 pub score-holds-spec : {M : Type 1} → statement M

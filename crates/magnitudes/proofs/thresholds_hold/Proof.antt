@@ -1,5 +1,4 @@
 use borrow.Author.Needs.{needs}
-use native.Mathlib.Omega.{arith}
 use Rattle.magnitudes.proofs.SizeLaws.{size-of, thresholds-told}
 use Rattle.magnitudes.proofs.thresholds_hold.Statement.{statement}
 use Rattle.magnitudes.proofs.thresholds_hold.Tie as tie
@@ -11,5 +10,6 @@ thresholds-hold-spec =
     (λ c κs. search needs)
     (λ c κs. search needs)
     (λ c κs. search needs)
-    (λ c. thresholds-told _ _ _ _ (size-of _ 9 _ (c .before .before .load-magnitude .ensures .0)) (size-of _ 10 _ (c .before .load-magnitude2 .ensures .0))
+    (λ c. thresholds-told _ _ _ _ (size-of _ 9 _ (c .before .before .load-magnitude .ensures .0))
+    (size-of _ 10 _ (c .before .load-magnitude2 .ensures .0))
     (size-of _ 11 _ (c .load-magnitude3 .ensures .0))))

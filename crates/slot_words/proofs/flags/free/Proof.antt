@@ -7,7 +7,8 @@ use Rattle.slot_words.proofs.flags.free.Tie as tie
 returns : tie.Need-returns
 returns c = (
   refl,
-  free-told _ _ (c .before .before .before .before .held .ensures .1) _ _ _ _ (c .before .before .before .without .ensures) (c .before .before .without2 .ensures) (c .before .without3 .ensures)
+  free-told _ _ (c .before .before .before .before .held .ensures .1) _ _ _ _ (c .before .before .before .without .ensures)
+      (c .before .before .without2 .ensures) (c .before .without3 .ensures)
       (c .without4 .ensures),
 )
 

@@ -20,7 +20,8 @@ union-requires c κs = search needs
 returns : tie.Need-returns
 returns c = (
   c .union .ensures .0,
-  λ s h. c .union .ensures .1 s h ∙ ap₂ max (c .before .before .before .before .load-connected .ensures .1 s h) (c .before .before .load-retained .ensures .1 s h),
+  λ s h. c .union .ensures .1 s h ∙ ap₂ max (c .before .before .before .before .load-connected .ensures .1 s h)
+      (c .before .before .load-retained .ensures .1 s h),
 )
 
 pub held-spec : {M : Type 1} → statement M

@@ -62,10 +62,17 @@ past-requires c κs = search needs
 -- src/flags.rt:29:1
 returns : tie.Need-returns
 returns c =
-    peers-told _ _ (c .before .before .before .before .before .before .before .before .before .before .before .before .before .before .before .before .held .ensures .1) _ _ _ _ _ _ _ _ _ _ _ _ _ (c .before .before .before .before .before .before .before .before .before .before .before .before .before .before .before .before .before .before .before .before .before .before .load-connected .ensures .1) (c .before .before .before .before .before .before .before .before .before .before .before .before .before .before .before .before .before .before .before .before .before .load-retained .ensures .1)
-    (c .before .before .before .before .before .before .before .before .before .before .before .before .before .before .before .before .before .before .before .before .load-explicit .ensures .1) (c .before .before .before .before .before .before .before .before .before .before .before .before .before .before .before .before .before .before .before .load-outbound .ensures .1) (c .before .before .before .before .before .before .before .before .before .before .before .before .before .before .before .before .before .before .load-version .ensures .1)
-    (c .before .before .before .before .before .before .before .before .before .before .before .before .before .before .before .before .before .load-version-high .ensures .1) (c .before .before .before .before .before .before .before .before .before .before .before .before .before .common .ensures) (c .before .before .before .before .before .before .before .before .before .before .before .any .ensures) (c .before .before .before .before .before .before .before .before .outside .ensures)
-    (c .before .before .before .before .before .outside2 .ensures) (c .before .before .outside3 .ensures) (c .past .ensures)
+    let m = c .before .before .before .before .before in
+    let n = m .before .before .before .before .before in
+    let o = n .before .before .before .before .before in
+    let p = o .before .before .before .before .before in
+    peers-told _ _ (o .before .held .ensures .1) _ _ _ _ _ _ _ _ _ _ _ _ _ (p .before .before .load-connected .ensures .1)
+    (p .before .load-retained .ensures .1)
+    (p .load-explicit .ensures .1) (o .before .before .before .before .load-outbound .ensures .1)
+    (o .before .before .before .load-version .ensures .1)
+    (o .before .before .load-version-high .ensures .1) (n .before .before .before .common .ensures) (n .before .any .ensures)
+    (m .before .before .before .outside .ensures)
+    (m .outside2 .ensures) (c .before .before .outside3 .ensures) (c .past .ensures)
 
 pub peer-flags-spec : {M : Type 1} → statement M
 peer-flags-spec =

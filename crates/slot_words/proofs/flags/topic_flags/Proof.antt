@@ -42,9 +42,13 @@ any-requires c κs = search needs
 -- src/flags.rt:49:1
 returns : tie.Need-returns
 returns c =
-    topic-told _ _ _ (c .before .before .before .before .before .before .before .before .before .before .before .before .load-members .ensures .1) _ _ _ _ _ _ _ _ (c .before .before .before .before .before .before .before .before .before .before .before .before .before .before .before .load-connected .ensures .1)
-    (c .before .before .before .before .before .before .before .before .before .before .before .before .before .before .load-explicit .ensures .1) (c .before .before .before .before .before .before .before .before .before .before .before .before .before .load-subscribed .ensures .1) (c .before .before .before .before .before .before .before .before .outside .ensures) (c .before .before .before .before .before .outside2 .ensures)
-    (c .before .before .common .ensures) (c .any .ensures) (c .before .before .before .before .before .before .before .before .before .before .before .load-joined .ensures)
+    let m = c .before .before .before .before .before in
+    let n = m .before .before .before .before .before in
+    let o = n .before .before .before .before .before in
+    topic-told _ _ _ (n .before .before .load-members .ensures .1) _ _ _ _ _ _ _ _ (o .load-connected .ensures .1)
+    (n .before .before .before .before .load-explicit .ensures .1) (n .before .before .before .load-subscribed .ensures .1)
+    (m .before .before .before .outside .ensures) (m .outside2 .ensures)
+    (c .before .before .common .ensures) (c .any .ensures) (n .before .load-joined .ensures)
 
 pub topic-flags-spec : {M : Type 1} → statement M
 topic-flags-spec =

@@ -10,12 +10,18 @@ topic-in-time-spec =
     (tie.spec
     (λ c κs. search needs)
     (λ c. search needs)
-    (λ c κs. let s = c .before .before .pre in (s .0, (s .1, (omega arith, members-in _ _ _ (c .load-members .ensures .1) 0 (omega arith)))))
+    (λ c κs. let s = c .before .before .pre in
+    (s .0, (s .1, (omega arith, members-in _ _ _ (c .load-members .ensures .1) 0 (omega arith)))))
     (λ c. search needs)
-    (λ c κs. let s = c .before .before .before .pre in (s .0, (s .1, (omega arith, members-in _ _ _ (c .before .load-members .ensures .1) 1 (omega arith)))))
+    (λ c κs. let s = c .before .before .before .pre in
+    (s .0, (s .1, (omega arith, members-in _ _ _ (c .before .load-members .ensures .1) 1 (omega arith)))))
     (λ c. search needs)
-    (λ c κs. let s = c .before .before .before .before .pre in (s .0, (s .1, (omega arith, members-in _ _ _ (c .before .before .load-members .ensures .1) 2 (omega arith)))))
+    (λ c κs. let s = c .before .before .before .before .pre in
+    (s .0, (s .1, (omega arith, members-in _ _ _ (c .before .before .load-members .ensures .1) 2 (omega arith)))))
     (λ c. search needs)
-    (λ c κs. let s = c .before .before .before .before .before .pre in (s .0, (s .1, (omega arith, members-in _ _ _ (c .before .before .before .load-members .ensures .1) 3 (omega arith)))))
-    (λ c. times-told _ _ _ (c .before .before .before .before .load-members .ensures .1) _ _ _ _ _ (c .before .before .before .word-in-time .ensures) (c .before .before .word-in-time2 .ensures)
+    (λ c κs.
+    let m = c .before .before .before .before .before in
+    let s = m .pre in (s .0, (s .1, (omega arith, members-in _ _ _ (c .before .before .before .load-members .ensures .1) 3 (omega arith)))))
+    (λ c. times-told _ _ _ (c .before .before .before .before .load-members .ensures .1) _ _ _ _ _
+    (c .before .before .before .word-in-time .ensures) (c .before .before .word-in-time2 .ensures)
     (c .before .word-in-time3 .ensures) (c .word-in-time4 .ensures)))

@@ -1,6 +1,5 @@
 -- `slot_words::members::word_in_time`: a walk over the set bits. Assumes nothing.
-use Prim.Native.Nat.{ℕ, _+_, _*_, _≤_, _<_}
-use borrow.Author.Needs.{needs}
+use Prim.Native.Nat.{_+_, _*_, _≤_}
 use native.Mathlib.Omega.{arith}
 use lib.Count.{trailing-le}
 use mathlib.Core.Path.{refl}

@@ -1,7 +1,7 @@
 use Rattle.slot_words.proofs.WordLaws.{slot-none, each-test, word-none}
 use lib.ListN.{getD}
-use Prim.Native.Nat.{ℕ, _/_, _%_, _^_}
-use mathlib.Core.Path.{_≡_, refl, sym, ap, _∙_}
+use Prim.Native.Nat.{_/_, _%_, _^_}
+use mathlib.Core.Path.{_≡_}
 use borrow.Author.Needs.{needs}
 use Rattle.slot_words.proofs.word.any.Statement.{statement}
 use Rattle.slot_words.proofs.word.any.Tie as tie

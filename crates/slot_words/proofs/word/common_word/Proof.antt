@@ -1,5 +1,4 @@
 use Rattle.slot_words.proofs.WordLaws.{common-bit}
-use borrow.Author.Needs.{needs}
 use Rattle.slot_words.proofs.word.common_word.Statement.{statement}
 use Rattle.slot_words.proofs.word.common_word.Tie as tie
 

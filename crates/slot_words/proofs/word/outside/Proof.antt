@@ -1,7 +1,7 @@
 use Rattle.slot_words.proofs.WordLaws.{slot-told, each-test}
 use lib.ListN.{getD}
-use Prim.Native.Nat.{ℕ, _/_, _%_, _^_}
-use mathlib.Core.Path.{_≡_, refl, sym, ap, _∙_}
+use Prim.Native.Nat.{_/_, _%_, _^_}
+use mathlib.Core.Path.{_≡_}
 use borrow.Author.Needs.{needs}
 use Rattle.slot_words.proofs.word.outside.Statement.{statement}
 use Rattle.slot_words.proofs.word.outside.Tie as tie
@@ -57,11 +57,14 @@ outside-word-requires-4 c κs = search needs
 -- src/word.rt:22:1
 returns : tie.Need-returns
 returns c =
-    let a = c .before .before .before .before .before .before .before .before .before .before .before .before .args .a .now in
-    let b = c .before .before .before .before .before .before .before .before .before .before .before .before .args .b .now in
+    let m = c .before .before .before .before .before in
+    let n = m .before .before .before .before .before in
+    let a = n .before .before .args .a .now in
+    let b = n .before .before .args .b .now in
     λ z. slot-told a b 1
     (each-test (λ i j. getD a i 0 / 2 ^ j % 2 ≡ 1 → getD b i 0 / 2 ^ j % 2 ≡ 1) _ _ _ _
-    (c .before .before .before .before .before .before .before .before .before .outside-word .ensures) (c .before .before .before .before .before .before .outside-word2 .ensures) (c .before .before .before .outside-word3 .ensures) (c .outside-word4 .ensures) z)
+    (m .before .before .before .before .outside-word .ensures) (m .before .outside-word2 .ensures)
+    (c .before .before .before .outside-word3 .ensures) (c .outside-word4 .ensures) z)
 
 pub outside-spec : {M : Type 1} → statement M
 outside-spec =

@@ -1,6 +1,5 @@
 use native.Mathlib.Omega.{arith}
 use Rattle.slot_words.proofs.WordLaws.{outside-bit}
-use borrow.Author.Needs.{needs}
 use Rattle.slot_words.proofs.word.outside_word.Statement.{statement}
 use Rattle.slot_words.proofs.word.outside_word.Tie as tie
 

@@ -1,5 +1,5 @@
 use Rattle.slot_words.proofs.WordLaws.{union-slot}
-use mathlib.Core.Path.{_≡_, refl, sym, ap, _∙_}
+use mathlib.Core.Path.{refl}
 use borrow.Author.Needs.{needs}
 use Rattle.slot_words.proofs.word.union.Statement.{statement}
 use Rattle.slot_words.proofs.word.union.Tie as tie
@@ -38,7 +38,9 @@ element-copy-out-t29 c = search needs
 
 -- src/word.rt:49:1
 returns : tie.Need-returns
-returns c = (refl, union-slot (c .before .before .before .before .before .before .before .before .args .a .now) (c .before .before .before .before .before .before .before .before .args .b .now))
+returns c =
+    let m = c .before .before .before .before .before in
+    (refl, union-slot (m .before .before .before .args .a .now) (m .before .before .before .args .b .now))
 
 pub union-spec : {M : Type 1} → statement M
 union-spec =

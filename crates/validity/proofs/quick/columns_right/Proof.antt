@@ -9,8 +9,9 @@ use Rattle.validity.proofs.quick.columns_right.Tie as tie
 
 returns-3 : tie.Need-returns-3
 returns-3 c e =
-    columns-told _ _ _ _ _ (record { p2 = c .before .before .before .before .before .before .before .before .caps .ensures; p3 = c .before .before .before .before .before .before .before .caps2 .ensures })
-    (c .before .before .before .before .before .before .peers-within .ensures (passed refl (c .before .before .before .before .before .if1 .left)))
+    let m = c .before .before .before .before .before in
+    columns-told _ _ _ _ _ (record { p2 = m .before .before .before .caps .ensures; p3 = m .before .before .caps2 .ensures })
+    (m .before .peers-within .ensures (passed refl (m .if1 .left)))
     (c .before .before .before .before .ends-within .ensures (passed refl (c .before .before .before .if2 .left)))
     (c .counters-within .ensures e)
 

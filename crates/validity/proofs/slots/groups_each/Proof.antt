@@ -18,8 +18,11 @@ abbrev μ-loop : tie.MeasureT-loop
 
 loop-again : tie.Need-loop-again Inv-loop μ-loop
 loop-again c =
-    let l = c .before .before .before .before .loop in
-    (omega arith, up-more _ (l .s) (l .inv .1) (rising-told _ (l .s) _ _ (c .before .before .load-groups .ensures) (c .before .rising-ok .ensures) (passed refl (c .if1 .left))))
+    let l = c .before .before .before .before .loop in (
+      omega arith,
+      up-more _ (l .s) (l .inv .1)
+          (rising-told _ (l .s) _ _ (c .before .before .load-groups .ensures) (c .before .rising-ok .ensures) (passed refl (c .if1 .left))),
+    )
 
 pub groups-each-spec : {M : Type 1} → statement M
 groups-each-spec =

@@ -14,8 +14,14 @@ holes-right-spec =
     (λ c. search needs)
     (λ c κs. (c .before .before .before .pre .size, (omega arith, free-in _ _ (c .before .free .ensures .1) 1 (omega arith))))
     (λ c. search needs)
-    (λ c κs. (c .before .before .before .before .pre .size, (omega arith, free-in _ _ (c .before .before .free .ensures .1) 2 (omega arith))))
+    (λ c κs.
+    (c .before .before .before .before .pre .size, (omega arith, free-in _ _ (c .before .before .free .ensures .1) 2 (omega arith))))
     (λ c. search needs)
-    (λ c κs. (c .before .before .before .before .before .pre .size, (omega arith, free-in _ _ (c .before .before .before .free .ensures .1) 3 (omega arith))))
-    (λ c. holes-told _ _ (c .before .before .before .before .free .ensures .1) _ _ _ _ _ (c .before .before .before .before .before .before .pre .slots) (c .before .before .before .holes-word .ensures) (c .before .before .holes-word2 .ensures)
+    (λ c κs.
+    let m = c .before .before .before .before .before in
+    (m .pre .size, (omega arith, free-in _ _ (c .before .before .before .free .ensures .1) 3 (omega arith))))
+    (λ c.
+    let m = c .before .before .before .before .before in
+    holes-told _ _ (c .before .before .before .before .free .ensures .1) _ _ _ _ _ (m .before .pre .slots)
+    (c .before .before .before .holes-word .ensures) (c .before .before .holes-word2 .ensures)
     (c .before .holes-word3 .ensures) (c .holes-word4 .ensures)))

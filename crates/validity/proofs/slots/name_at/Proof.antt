@@ -12,4 +12,5 @@ name-at-spec =
     (λ c κs. search needs)
     (λ c κs. search needs)
     (λ c κs. search needs)
-    (λ c. name-told _ _ _ _ _ (c .before .before .before .load-status .ensures) (c .before .before .load-id .ensures) (ap (λ (g : Groups). g .first) (c .before .load-groups .ensures))))
+    (λ c. name-told _ _ _ _ _ (c .before .before .before .load-status .ensures) (c .before .before .load-id .ensures)
+    (ap (λ (g : Groups). g .first) (c .before .load-groups .ensures))))

@@ -7,8 +7,9 @@ use Rattle.validity.proofs.slots.slots_right.Tie as tie
 
 returns-4 : tie.Need-returns-4
 returns-4 c e =
+    let m = c .before .before .before .before .before in
     record {
-      groups = c .before .before .before .before .before .before .groups-right .ensures (passed refl (c .before .before .before .before .before .if1 .left));
+      groups = m .before .groups-right .ensures (passed refl (m .if1 .left));
       names = c .before .before .before .before .names-right .ensures (passed refl (c .before .before .before .if2 .left));
       retains = c .before .before .retains-right .ensures (passed refl (c .before .if3 .left));
       holes = c .holes-right .ensures e;

@@ -1,6 +1,6 @@
 -- `validity::valid::slots_ok`: after s turns the slots below s are right, and those from the end on are empty. Assumes nothing.
-use Prim.Native.Nat.{_≤_, _<_, _-_}
-use mathlib.Core.Path.{_≡_, sym, ap, _∙_}
+use Prim.Native.Nat.{_≤_, _-_}
+use mathlib.Core.Path.{_≡_, sym}
 use mathlib.Core.Bool.{true}
 use native.Mathlib.Omega.{arith}
 use borrow.Author.Needs.{needs}
@@ -30,9 +30,10 @@ slot-ok-requires c κs =
 
 returns : tie.Need-returns Inv-loop μ-loop
 returns c =
-    let b = c .before .before .before .before .before .before .before .before .before .pre .0 .low in
+    let m = c .before .before .before .before .before in
+    let b = m .before .before .before .before .pre .0 .low in
     let t = c .before .before .before .before .loop-test .taken in
-    every-out _ slotCount (c .before .before .before .before .before .loop .slot) (omega arith) (failed (c .before .slot-ok .ensures) (c .if1 .taken))
+    every-out _ slotCount (m .loop .slot) (omega arith) (failed (c .before .slot-ok .ensures) (c .if1 .taken))
 
 loop-again : tie.Need-loop-again Inv-loop μ-loop
 loop-again c =
