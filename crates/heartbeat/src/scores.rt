@@ -16,6 +16,8 @@ use records::SLOTS;
 use records::TOPICS;
 use records::param;
 use score::sums::offset;
+use words::WORDS;
+use words::next;
 
 // The score of the peer in a slot, moved up so that none is negative.
 fn height(
@@ -26,34 +28,37 @@ fn height(
     w2: &[u64; TOPICS],
     w3b: &[u64; TOPICS],
     w4: &[u64; TOPICS],
-    none: u64,
     slot: usize,
 ) -> u64
-    requires { ⌜ HeightAt (now table) (now heads) (now same) (now others) (now w2) (now w3b) (now w4) none slot ⌝ }
+    requires { ⌜ Among (now table) (now heads) (now same) (now others) (now w2) (now w3b) (now w4) slot ⌝ }
     ensures { λ r. ⌜ r ≡ heightIn (stateOf (now (table .entry))) slot ⌝ }
 {
-    if layout::load_status(table, slot) == 0 {
-        return none;
-    }
     offset(score_among(table, heads, same, others, w2, w3b, w4, slot))
 }
 
-// The scores.
-pub fn scores(table: &[u64]) -> [u64; SLOTS]
-    requires { ⌜ Standing (now table) ⌝ }
-    ensures { λ r. ⌜ r ≡ bySlot slotCount (heightIn (stateOf (now (table .entry)))) ⌝ }
+// The score of an empty slot, the same.
+pub fn empty_height(table: &[u64]) -> u64
 {
-    let mut heads: [u32; BUCKETS] = [0; BUCKETS];
-    let mut same: [u16; BUCKETS] = [0; BUCKETS];
-    let mut others: [u16; BUCKETS] = [0; BUCKETS];
-    count_groups(table, &mut heads, &mut same, &mut others);
-    let none = offset(empty_score(table));
+    offset(empty_score(table))
+}
+
+// Takes the scores of a set's slots; those of the others stand.
+pub fn score_slots(
+    table: &[u64],
+    heads: &[u32; BUCKETS],
+    same: &[u16; BUCKETS],
+    others: &[u16; BUCKETS],
+    set: [u64; WORDS],
+    heights: &mut [u64; SLOTS],
+)
+{
     let w2 = weights(table, param::W2);
     let w3b = weights(table, param::W3B);
     let w4 = weights(table, param::W4);
-    let mut r = [0; SLOTS];
-    for s in 0..SLOTS {
-        r[s] = height(table, &heads, &same, &others, &w2, &w3b, &w4, none, s);
+    let left = set;
+    let mut slot = next(&left, 0);
+    while slot < SLOTS as u64 {
+        heights[slot as usize] = height(table, heads, same, others, &w2, &w3b, &w4, slot as usize);
+        slot = next(&left, slot + 1);
     }
-    r
 }

@@ -21,7 +21,11 @@ use mesh::ZERO_SCORE;
 use records::SLOTS;
 use records::param;
 use words::WORDS;
-use words::flags::pack;
+use words::next;
+use words::put;
+use words::union;
+use sets::both;
+use sets::except;
 
 // The members of a topic's mesh.
 pub fn members(table: &[u64], topic: usize) -> [u64; WORDS]
@@ -55,29 +59,42 @@ fn past_slack(end: u64, time: u64) -> bool
     end <= time - GRAFT_SLACK
 }
 
-// Whether the peer in a slot, with this score, may be grafted.
-pub fn is_candidate(table: &[u64], time: u64, topic: usize, slot: usize, score: u64) -> bool
-    requires { ⌜ ScoredAt (now table) topic slot score ⌝ }
-    ensures { λ r. ⌜ r ≡ isCandidate (stateOf (now (table .entry))) time topic slot ⌝ }
+// Who may be grafted but for score and backoff: connected, subscribed, not explicit and no member.
+fn eligible(table: &[u64], topic: usize) -> [u64; WORDS]
 {
-    let p = layout::load_peer(table, slot);
-    let r = layout::load_topic(table, slot * 8 + topic);
-    let free = past_slack(p.backoff[topic], time);
-    (p.status == 1)
-        & ((r.subscribed == 1)
-            & ((p.explicit == 0) & (!(r.member == 1) & ((ZERO_SCORE <= score) & free))))
+    except(
+        except(
+            both(
+                layout::load_connected(table),
+                layout::load_subscribed(table, topic),
+            ),
+            layout::load_explicit(table),
+        ),
+        layout::load_members(table, topic),
+    )
 }
 
-// The candidates of a topic.
-pub fn candidates(table: &[u64], time: u64, topic: usize, scores: &[u64]) -> [u64; WORDS]
-    requires { ⌜ ScoredAll (now table) (now scores) topic ⌝ }
-    ensures { λ r. ⌜ bitsOf r ≡ bySlot slotCount (isCandidate (stateOf (now (table .entry))) time topic) ⌝ }
+// Whether an eligible peer is a candidate: its score is not negative, and its backoff is past.
+fn is_free(table: &[u64], time: u64, topic: usize, slot: usize, score: u64) -> bool
 {
-    let mut r = [false; SLOTS];
-    for s in 0..SLOTS {
-        r[s] = is_candidate(table, time, topic, s, scores[s]);
+    (ZERO_SCORE <= score) & past_slack(layout::load_end(table, slot, topic), time)
+}
+
+// The candidates of a topic: the eligible, without those that fail.
+pub fn candidates(table: &[u64], time: u64, topic: usize, scores: &[u64]) -> [u64; WORDS]
+{
+    let all = eligible(table, topic);
+    let mut r = all;
+    let left = all;
+    let mut slot = next(&left, 0);
+    while slot < SLOTS as u64 {
+        let s = slot as usize;
+        if !is_free(table, time, topic, s, scores[s]) {
+            r = put(r, slot, false);
+        }
+        slot = next(&left, slot + 1);
     }
-    pack(r)
+    r
 }
 
 // The parameters that maintenance goes by.
@@ -93,6 +110,11 @@ pub fn degrees(table: &[u64]) -> Degrees
         score: load_magnitude(table, param::D_SCORE),
         threshold: ZERO_SCORE + load_magnitude(table, param::OPPORTUNISTIC_THRESHOLD) * 1000000,
     }
+}
+
+// The slots that are not empty.
+pub fn occupied(table: &[u64]) -> [u64; WORDS] {
+    union(layout::load_connected(table), layout::load_retained(table))
 }
 
 // All that maintenance sees, beside the scores and the permutation.

@@ -13,3 +13,4 @@ pub mod FreshLaws
 pub mod ReadLaws
 pub mod CopyLaws
 pub mod EndLaws
+pub mod BareLaws

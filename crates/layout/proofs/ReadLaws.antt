@@ -8,8 +8,9 @@ use lib.ListN.{getD}
 use Rattle.records.specs.declared.Groups.{Groups}
 use Rattle.records.specs.declared.Peer.{Peer}
 use Rattle.records.specs.Records.{peerIn, topicIn, place, slotCount, topicCount}
-use Rattle.layout.specs.View.{peersAt, columnOf, topicsAt, memberAt, bitAt, liveAt, peerRaw, peerAt, stateOf}
+use Rattle.layout.specs.View.{peersAt, columnOf, endsAt, topicsAt, memberAt, bitAt, liveAt, peerRaw, endsOf, peerAt, stateOf}
 use Rattle.layout.proofs.DigitLaws.{digit-le}
+use Rattle.layout.proofs.RowLaws.{getD-tab}
 use Rattle.layout.proofs.ViewLaws.{peer-load}
 use Rattle.layout.proofs.CellLaws.{bits-are}
 
@@ -77,6 +78,20 @@ module _ (c : List ℕ) (s : ℕ) (h : s < slotCount) where
       ap (λ (q : Peer). q .status) (sym (peer-load c s h)) ∙ raw-status in
       let l = bit-le peersAt in
       omega arith
+
+  pub retained-bit : bitAt c (peersAt + 4) s ≡ p .status / 2
+  retained-bit =
+      let e : p .status ≡ bitAt c peersAt s + 2 * bitAt c (peersAt + 4) s =
+      ap (λ (q : Peer). q .status) (sym (peer-load c s h)) ∙ raw-status in
+      let l = bit-le peersAt in
+      omega arith
+
+  raw-end : (t : ℕ) → t < 8 → getD (peerAt c s .backoff) t 0 ≡ liveAt c s (endsAt + s * 8 + t)
+  unfolding peerAt peerRaw endsOf
+  raw-end t l = getD-tab 8 (λ j. liveAt c s (endsAt + s * 8 + j)) t 0 l
+
+  pub end-load : (t x : ℕ) → t < 8 → x ≡ liveAt c s (endsAt + s * 8 + t) → x ≡ getD (p .backoff) t 0
+  end-load t x l e = e ∙ sym (raw-end t l) ∙ ap (λ (q : Peer). getD (q .backoff) t 0) (peer-load c s h)
 
   pub explicit-bit : bitAt c (peersAt + 8) s ≡ p .explicit
   explicit-bit = sym raw-explicit ∙ ap (λ (q : Peer). q .explicit) (peer-load c s h)

@@ -286,6 +286,18 @@ pub record PeerFits (p : Peer) : Type 0 where
   pub p5 : p .p5 < 4294967296
   pub p7 : p .p7 < 4294967296
 
+-- a record in which nothing is counted, and of no member
+pub record Bare (t : TopicRecord) : Type 0 where
+  pub p2 : t .p2 ≡ 0
+  pub p3 : t .p3 ≡ 0
+  pub p4 : t .p4 ≡ 0
+  pub p3b : t .p3b ≡ 0
+  pub member : t .member ≡ 0
+
+-- the cells of its counters are 0
+abbrev pub Uncounted : List ℕ → ℕ → ℕ → Type 0
+Uncounted c s t = (liveAt c s (countersAt + t * stride + s) ≡ 0) × (liveAt c s (p3bAt + (s * 8 + t)) ≡ 0)
+
 -- each code has its field's sign
 pub record CodesFit (codes : List ℕ) : Type 0 where
   pub size : length codes ≡ paramCount

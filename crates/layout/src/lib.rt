@@ -1,8 +1,9 @@
 // How one lent table of numbers holds the router's state: the only code that computes an offset. A change of the layout is made here
 // and in specs/View.antt. Everything above goes by the contracts, which speak of the state that the table holds.
 ghost use mathlib.Core.Path.{_≡_};
+ghost use mathlib.Core.Bool.{true};
 ghost use Prim.Native.Nat.{ℕ, _+_, _*_, _/_, _%_, _^_, _≤_, _<_};
-ghost use lib.ListN.{length, set};
+ghost use lib.ListN.{length, getD, set};
 ghost use Rattle.varint.specs.Codes.{magnitude};
 ghost use Rattle.records.specs.Records.{joinedIn, codeIn, peerIn, topicIn, place, setClock, setJoined, setPeer, setTopic, slotCount};
 ghost use Rattle.records.specs.Records.{topicCount, paramCount};
@@ -12,6 +13,7 @@ ghost use Rattle.layout.specs.View.{setFlags};
 ghost use Rattle.layout.specs.View.{setColumns, paramPlace, fieldOf, isBelow, below, codeFor, stateOf, setEnd, setCode, setCodes};
 ghost use Rattle.layout.specs.View.{setSetup, zeroState};
 ghost use Rattle.layout.specs.View.{withSubscription, withoutMember, withMember, EmptyFrom, TopicFits, PeerFits, CodesFit, ZeroUpTo, Idle};
+ghost use Rattle.layout.specs.View.{memberAt, Bare, Uncounted};
 use records::Groups;
 use records::Peer;
 use records::SLOTS;
@@ -621,11 +623,61 @@ pub fn load_groups(cells: &[u64], slot: usize) -> Groups
     }
 }
 
+// One backoff end.
+pub fn load_end(cells: &[u64], slot: usize, t: usize) -> u64
+    requires { ⌜ (length (now cells) ≡ cellCount) × ((slot < slotCount) × (t < topicCount)) ⌝ }
+    ensures { λ r. ⌜ r ≡ getD (peerIn (stateOf (now (cells .entry))) slot .backoff) t 0 ⌝ }
+{
+    live(cells, slot, ENDS_AT + slot * 8 + t)
+}
+
 pub fn load_member(cells: &[u64], k: usize) -> u64
     requires { ⌜ (length (now cells) ≡ cellCount) × (k < placeCount) ⌝ }
     ensures { λ r. ⌜ r ≡ topicIn (stateOf (now (cells .entry))) k .member ⌝ }
 {
     bit(cells, MEMBER_AT + k % 8 * WORDS, k / 8)
+}
+
+// The bits of a slot's counters in all topics, together.
+fn counted(cells: &[u64], slot: usize) -> u64
+    requires { ⌜ (length (now cells) ≡ cellCount) × (slot < slotCount) ⌝ }
+    ensures { λ r. ⌜ (r ≡ 0 → (t : ℕ) → t < topicCount → Uncounted (now (cells .entry)) slot t) ⌝ }
+{
+    let mut acc: u64 = 0;
+    let mut t: usize = 0;
+    while t < TOPICS {
+        acc = acc
+            | cells[COUNTERS_AT + t * STRIDE + slot]
+            | cells[P3B_AT + (slot * 8 + t)];
+        t += 1;
+    }
+    keep((slot as u64) < cells[USED_AT], acc)
+}
+
+// The i-th cells of the words of all topics' members, together.
+fn meshed(cells: &[u64], i: usize) -> u64
+    requires { ⌜ (length (now cells) ≡ cellCount) × (i < 4) ⌝ }
+    ensures { λ r. ⌜ ((j : ℕ) → r / 2 ^ j % 2 ≡ 0 →
+        (t : ℕ) → t < topicCount → getD (now (cells .entry)) (memberAt + t * 4 + i) 0 / 2 ^ j % 2 ≡ 0) ⌝ }
+{
+    let mut acc: u64 = 0;
+    let mut t: usize = 0;
+    while t < TOPICS {
+        acc = acc | cells[MEMBER_AT + t * WORDS + i];
+        t += 1;
+    }
+    acc
+}
+
+// Whether nothing is counted of the peer in a slot, in no topic, and it is in no mesh.
+pub fn is_bare(cells: &[u64], slot: usize) -> bool
+    requires { ⌜ (length (now cells) ≡ cellCount) × (slot < slotCount) ⌝ }
+    ensures { λ r. ⌜ (r ≡ true → (t : ℕ) → t < topicCount → Bare (topicIn (stateOf (now (cells .entry))) (place slot t))) ⌝ }
+{
+    if (meshed(cells, slot / 64) >> (slot % 64)) % 2 != 0 {
+        return false;
+    }
+    counted(cells, slot) == 0
 }
 
 // ---- a flag of all slots, as a word
@@ -652,6 +704,14 @@ pub fn load_connected(cells: &[u64]) -> [u64; WORDS]
     ensures { λ r. ⌜ (length r ≡ 4) × ((s : ℕ) → s < slotCount → bitAt r 0 s ≡ peerIn (stateOf (now (cells .entry))) s .status % 2) ⌝ }
 {
     word(cells, CONNECTED_AT)
+}
+
+// Its high bit: 1 for a peer that is retained.
+pub fn load_retained(cells: &[u64]) -> [u64; WORDS]
+    requires { ⌜ length (now cells) ≡ cellCount ⌝ }
+    ensures { λ r. ⌜ (length r ≡ 4) × ((s : ℕ) → s < slotCount → bitAt r 0 s ≡ peerIn (stateOf (now (cells .entry))) s .status / 2) ⌝ }
+{
+    word(cells, RETAINED_AT)
 }
 
 pub fn load_explicit(cells: &[u64]) -> [u64; WORDS]

@@ -21,14 +21,14 @@ use Rattle.score.specs.Score.{sharesGroup, sharing, sharingAt, Scores}
 use Rattle.peer_score.specs.Standing.{Standing, SlotStanding}
 use Rattle.peer_score.specs.Weights.{Weights}
 
--- any number will do
+-- as many as slots, though any number would do
 abbrev pub bucketCount : ℕ
-bucketCount = 512
+bucketCount = slotCount
 
--- Groups are often prefixes of addresses, alike in their low bits: of their product with 2^32 over the golden ratio, the nine bits below
+-- Groups are often prefixes of addresses, alike in their low bits: of their product with 2^32 over the golden ratio, the eight bits below
 -- 2^32 are the bucket.
 unfoldable pub bucketOf : ℕ → ℕ
-bucketOf group = group * 2654435769 / 8388608 % bucketCount
+bucketOf group = group * 2654435769 / 16777216 % bucketCount
 
 -- c, and one more peer of the group
 abbrev pub withOne : (ℕ → ℕ) → ℕ → ℕ → ℕ

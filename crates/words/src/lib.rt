@@ -82,6 +82,16 @@ pub fn differ(a: [u64; WORDS], b: [u64; WORDS]) -> [u64; WORDS]
     r
 }
 
+// The slots that are in one of the two sets, or in both.
+pub fn union(a: [u64; WORDS], b: [u64; WORDS]) -> [u64; WORDS]
+{
+    let mut r = [0; WORDS];
+    for i in 0..WORDS {
+        r[i] = a[i] | b[i];
+    }
+    r
+}
+
 // How many bits of the word are set.
 fn ones(w: u64) -> u64
     ensures { λ r. ⌜ r ≡ count wordBits (λ s. getD (bits wordBits w) s false) ⌝ }
@@ -111,6 +121,32 @@ pub fn lowest(m: [u64; WORDS]) -> u64
         }
     }
     SLOTS as u64
+}
+
+// The lowest slot from the i-th word on; SLOTS for none.
+fn lowest_from(m: &[u64; WORDS], i: usize) -> u64
+{
+    for k in i..WORDS {
+        let w = m[k];
+        if w != 0 {
+            return (WORD_BITS * k) as u64 + u64::trailing_zeros(w) as u64;
+        }
+    }
+    SLOTS as u64
+}
+
+// The lowest slot of the set from s on; SLOTS for none. A walk by slot that changes no set takes it again and again.
+pub fn next(m: &[u64; WORDS], s: u64) -> u64
+{
+    if SLOTS as u64 <= s {
+        return SLOTS as u64;
+    }
+    let i = (s / WORD_BITS as u64) as usize;
+    let w = m[i] >> (s % WORD_BITS as u64);
+    if w != 0 {
+        return s + u64::trailing_zeros(w) as u64;
+    }
+    lowest_from(m, i + 1)
 }
 
 // The set without its lowest slot.
