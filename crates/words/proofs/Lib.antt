@@ -1,3 +1,4 @@
 pub mod BitLaws
 pub mod WideLaws
 pub mod SlotWalk
+pub mod NextLaws

@@ -204,7 +204,7 @@ passed-all ws i h p =
     let e = ap (λ (l : List ℕ). lowest (bitsOf l)) (drop-of-length-le ws {i = i} h) in
     omega arith
 
-pow-le : {i j : ℕ} → i ≤ j → 2 ^ i ≤ 2 ^ j
+pub pow-le : {i j : ℕ} → i ≤ j → 2 ^ i ≤ 2 ^ j
 pow-le {i} {j} h = ⊎-elim (λ e. rw e (omega arith)) (λ l. let p = pow-lt l in omega arith) (eq-or-lt-of-le h)
 
 -- ---- a word made of the flags of its slots: the first j of them are in, and no bit above

@@ -1,5 +1,5 @@
 -- Sets of slots as words: the list of flags that the words stand for. Definitions only.
-use Prim.Native.Nat.{ℕ, zero, suc, _+_, _*_, _/_, _%_, _<_}
+use Prim.Native.Nat.{ℕ, zero, suc, _+_, _*_, _/_, _%_, _≤_, _<_}
 use mathlib.Core.Path.{_≡_}
 use mathlib.Core.Bool.{Bool, true, false, not}
 use mathlib.Core.List.{List, [], _∷_, _++_}
@@ -51,3 +51,10 @@ slots i (false ∷ m) = slots (suc i) m
 -- the word w has the flags of the slots from 64 * i on
 abbrev pub PackedFrom : List Bool → ℕ → ℕ → Type 0
 PackedFrom flags i w = (s : ℕ) → s < wordBits → getD (bits wordBits w) s false ≡ getD flags (wordBits * i + s) false
+
+-- r is the lowest slot of the set m from s on, or the count of the slots where none is in
+pub record Next (m : List Bool) (s r : ℕ) : Type 0 where
+  pub later : s ≤ r
+  pub most : r ≤ slotCount
+  pub none : (k : ℕ) → s ≤ k → k < r → getD m k false ≡ false
+  pub here : r < slotCount → getD m r false ≡ true

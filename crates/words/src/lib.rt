@@ -2,11 +2,11 @@
 // contract speaks of that list, so that a definition over lists of flags says what a function over words does.
 ghost use mathlib.Core.Path.{_≡_};
 ghost use mathlib.Core.Bool.{false};
-ghost use Prim.Native.Nat.{ℕ, _<_, _^_};
-ghost use lib.ListN.{getD, set, replicate};
+ghost use Prim.Native.Nat.{ℕ, _*_, _≤_, _<_, _^_};
+ghost use lib.ListN.{length, getD, set, replicate};
 ghost use Rattle.records.specs.Records.{slotCount};
 ghost use Rattle.index.specs.Index.{count};
-ghost use Rattle.words.specs.Words.{wordBits, bits, bitsOf, differs, lowest};
+ghost use Rattle.words.specs.Words.{wordBits, wordCount, bits, bitsOf, differs, lowest, Next};
 use records::SLOTS;
 
 pub mod flags;
@@ -82,16 +82,6 @@ pub fn differ(a: [u64; WORDS], b: [u64; WORDS]) -> [u64; WORDS]
     r
 }
 
-// The slots that are in one of the two sets, or in both.
-pub fn union(a: [u64; WORDS], b: [u64; WORDS]) -> [u64; WORDS]
-{
-    let mut r = [0; WORDS];
-    for i in 0..WORDS {
-        r[i] = a[i] | b[i];
-    }
-    r
-}
-
 // How many bits of the word are set.
 fn ones(w: u64) -> u64
     ensures { λ r. ⌜ r ≡ count wordBits (λ s. getD (bits wordBits w) s false) ⌝ }
@@ -124,7 +114,9 @@ pub fn lowest(m: [u64; WORDS]) -> u64
 }
 
 // The lowest slot from the i-th word on; SLOTS for none.
-fn lowest_from(m: &[u64; WORDS], i: usize) -> u64
+fn lowest_from(m: &[u64], i: usize) -> u64
+    requires { ⌜ (length (now m) ≡ wordCount) × (i ≤ wordCount) ⌝ }
+    ensures { λ r. ⌜ Next (bitsOf (now (m .entry))) (wordBits * i) r ⌝ }
 {
     for k in i..WORDS {
         let w = m[k];
@@ -136,7 +128,9 @@ fn lowest_from(m: &[u64; WORDS], i: usize) -> u64
 }
 
 // The lowest slot of the set from s on; SLOTS for none. A walk by slot that changes no set takes it again and again.
-pub fn next(m: &[u64; WORDS], s: u64) -> u64
+pub fn next(m: &[u64], s: u64) -> u64
+    requires { ⌜ (length (now m) ≡ wordCount) × (s ≤ slotCount) ⌝ }
+    ensures { λ r. ⌜ Next (bitsOf (now (m .entry))) s r ⌝ }
 {
     if SLOTS as u64 <= s {
         return SLOTS as u64;
