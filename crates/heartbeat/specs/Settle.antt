@@ -8,9 +8,9 @@ use Rattle.records.specs.Records.{State, slotCount}
 use Rattle.layout.specs.View.{stateOf}
 use Rattle.sets.specs.Sets.{bySlot}
 use Rattle.effects.specs.Effects.{onTopic, intoMesh, isMember, pruned, endAfter, pruneBackoff}
-use Rattle.rules.specs.Step.{heightIn}
 use Rattle.peer_score.specs.Standing.{Standing}
 use Rattle.leaving.specs.Slots.{grownIf}
+use Rattle.heartbeat.specs.Heights.{HeightsOn}
 
 -- slot s in topic t, from whether it was a member, whether it stays or comes in, and whether its score was negative
 unfoldable pub settledIf : Bool → Bool → Bool → ℕ → ℕ → ℕ → ℕ → State → State
@@ -19,10 +19,10 @@ settledIf was stays negative t time end s u =
     (cond stays u (pruned (grownIf negative t s u) s t end))
     (cond stays (onTopic u s t (λ r. intoMesh r time)) u)
 
--- what the walk relies on: the members and the scores are those of the table it starts from
+-- what the walk relies on: the members, and their scores, are those of the table it starts from
 pub record Settle (table : List ℕ) (t time end : ℕ) (members : List Bool) (scores : List ℕ) : Type 0 where
   pub standing : Standing table
   pub topic : t < 8
   pub backoff : end ≡ endAfter time (pruneBackoff (stateOf table))
   pub was : members ≡ bySlot slotCount (isMember (stateOf table) t)
-  pub heights : scores ≡ bySlot slotCount (heightIn (stateOf table))
+  pub heights : HeightsOn (stateOf table) members scores

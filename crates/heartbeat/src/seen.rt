@@ -1,31 +1,30 @@
 // What maintenance sees of a table, as at the call's start: sets of slots as words.
 ghost use mathlib.Core.Path.{_≡_};
 ghost use mathlib.Core.List.{List};
-ghost use Prim.Native.Nat.{ℕ};
+ghost use Prim.Native.Nat.{ℕ, _<_};
 ghost use lib.Dec.{eqb};
 ghost use lib.ListN.{length};
 ghost use Rattle.records.specs.Records.{slotCount, peerIn};
 ghost use Rattle.layout.specs.View.{cellCount, stateOf};
 ghost use Rattle.words.specs.Words.{bitsOf};
-ghost use Rattle.sets.specs.Sets.{bySlot};
+ghost use Rattle.sets.specs.Sets.{at, bySlot};
 ghost use Rattle.mesh.specs.Words.{viewOf};
 ghost use Rattle.effects.specs.Effects.{isMember};
 ghost use Rattle.effects.specs.Lent.{AtTopic};
 ghost use Rattle.rules.specs.Step.{pastSlack, isCandidate, degreesIn, viewIn};
-ghost use Rattle.peer_score.specs.Standing.{Standing};
-ghost use Rattle.heartbeat.specs.Ready.{ScoredAt, ScoredAll};
+ghost use Rattle.peer_score.specs.Standing.{Standing, TopicStanding};
+ghost use Rattle.heartbeat.specs.Ready.{isEligible, isFree, ScoredAt, ScoredAll};
 use effects::slots::load_magnitude;
 use mesh::Degrees;
 use mesh::Seen;
 use mesh::ZERO_SCORE;
 use records::SLOTS;
 use records::param;
+use sets::both;
+use sets::except;
 use words::WORDS;
 use words::next;
 use words::put;
-use words::union;
-use sets::both;
-use sets::except;
 
 // The members of a topic's mesh.
 pub fn members(table: &[u64], topic: usize) -> [u64; WORDS]
@@ -61,38 +60,38 @@ fn past_slack(end: u64, time: u64) -> bool
 
 // Who may be grafted but for score and backoff: connected, subscribed, not explicit and no member.
 fn eligible(table: &[u64], topic: usize) -> [u64; WORDS]
+    requires { ⌜ TopicStanding (now table) topic ⌝ }
+    ensures { λ r. ⌜ ((s : ℕ) → s < slotCount → at (bitsOf r) s ≡ isEligible (stateOf (now (table .entry))) topic s) ⌝ }
 {
-    except(
-        except(
-            both(
-                layout::load_connected(table),
-                layout::load_subscribed(table, topic),
-            ),
-            layout::load_explicit(table),
-        ),
-        layout::load_members(table, topic),
-    )
+    let connected = layout::load_connected(table);
+    let subscribed = layout::load_subscribed(table, topic);
+    let explicit = layout::load_explicit(table);
+    let members = layout::load_members(table, topic);
+    except(except(both(connected, subscribed), explicit), members)
 }
 
-// Whether an eligible peer is a candidate: its score is not negative, and its backoff is past.
+// Whether an eligible peer, with this score, is a candidate.
 fn is_free(table: &[u64], time: u64, topic: usize, slot: usize, score: u64) -> bool
+    requires { ⌜ ScoredAt (now table) topic slot score ⌝ }
+    ensures { λ r. ⌜ r ≡ isFree (stateOf (now (table .entry))) time topic slot ⌝ }
 {
-    (ZERO_SCORE <= score) & past_slack(layout::load_end(table, slot, topic), time)
+    let free = past_slack(layout::load_end(table, slot, topic), time);
+    (ZERO_SCORE <= score) & free
 }
 
-// The candidates of a topic: the eligible, without those that fail.
+// The candidates of a topic: the eligible, each asked for score and backoff.
 pub fn candidates(table: &[u64], time: u64, topic: usize, scores: &[u64]) -> [u64; WORDS]
+    requires { ⌜ ScoredAll (now table) (now scores) topic ⌝ }
+    ensures { λ r. ⌜ bitsOf r ≡ bySlot slotCount (isCandidate (stateOf (now (table .entry))) time topic) ⌝ }
 {
     let all = eligible(table, topic);
     let mut r = all;
-    let left = all;
-    let mut slot = next(&left, 0);
+    let mut slot = next(&all, 0);
     while slot < SLOTS as u64 {
         let s = slot as usize;
-        if !is_free(table, time, topic, s, scores[s]) {
-            r = put(r, slot, false);
-        }
-        slot = next(&left, slot + 1);
+        let more = put(r, slot, is_free(table, time, topic, s, scores[s]));
+        r = more;
+        slot = next(&all, slot + 1);
     }
     r
 }
@@ -110,11 +109,6 @@ pub fn degrees(table: &[u64]) -> Degrees
         score: load_magnitude(table, param::D_SCORE),
         threshold: ZERO_SCORE + load_magnitude(table, param::OPPORTUNISTIC_THRESHOLD) * 1000000,
     }
-}
-
-// The slots that are not empty.
-pub fn occupied(table: &[u64]) -> [u64; WORDS] {
-    union(layout::load_connected(table), layout::load_retained(table))
 }
 
 // All that maintenance sees, beside the scores and the permutation.

@@ -95,45 +95,6 @@ pub fn mesh5(t: Degrees, v: Seen, scores: &[u64], order: &[u64], m: [u64; WORDS]
     fill(both(candidates, higher), 2, order, m)
 }
 
-// Whether step 5 grafts from the mesh m, if there is a candidate.
-pub fn is_low(threshold: u64, ask: bool, scores: &[u64], m: [u64; WORDS]) -> bool {
-    if !ask {
-        return false;
-    }
-    let n = size(m);
-    if n < 2 {
-        return false;
-    }
-    middle(n / 2, m, scores) < threshold
-}
-
-// Whether no step changes the mesh m that step 1 left.
-pub fn is_still(
-    t: Degrees,
-    outbound: [u64; WORDS],
-    ask: bool,
-    scores: &[u64],
-    m: [u64; WORDS],
-) -> bool {
-    let n = size(m);
-    let outs = size(both(m, outbound));
-    if (n < t.lo) | (t.hi < n) | (outs < t.out) {
-        return false;
-    }
-    !is_low(t.threshold, ask, scores, m)
-}
-
-// A mesh that every step leaves as it is.
-pub fn still(m: [u64; WORDS]) -> Stages {
-    Stages {
-        first: m,
-        second: m,
-        third: m,
-        fourth: m,
-        fifth: m,
-    }
-}
-
 // The mesh that each step leaves.
 pub fn meshes(t: Degrees, v: Seen, scores: &[u64], order: &[u64]) -> Stages
     requires { ⌜ length (now scores) ≡ slotCount ⌝ }

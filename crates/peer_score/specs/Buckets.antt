@@ -67,10 +67,11 @@ pub record Noting (same others : List ℕ) (group most : ℕ) : Type 0 where
   pub room : (b : ℕ) → getD same b 0 + getD others b 0 < 65535
   pub fits : group ≤ most
 
--- what counting relies on: a router's table, and the slots before slot s counted
+-- what counting relies on: a router's table, a connected peer in slot s, and the slots before it counted
 pub record Counting (table : List ℕ) (s : ℕ) (heads same others : List ℕ) : Type 0 where
   pub standing : Standing table
   pub slot : s < slotCount
+  pub connected : peerIn (stateOf table) s .status ≡ 1
   pub buckets : Tells (below (stateOf table) s) (pairs s) heads same others
 
 -- n stands for the number of connected peers that hold a group where P6 is taken: it has the same surplus
