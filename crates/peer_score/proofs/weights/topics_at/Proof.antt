@@ -20,7 +20,7 @@ Inv-loop table w2 w3b w4 slot sum₀ t₀ sum t = (t ≤ 8) × (sum ≡ sumOf t 
 abbrev μ-loop : tie.MeasureT-loop
 μ-loop table w2 w3b w4 slot sum₀ t₀ sum t = 8 - t
 
-returns : tie.Need-returns
+returns : tie.Need-returns Inv-loop μ-loop
 returns c =
     let b = c .before in
     let p = b .before .before .pre .at in
