@@ -2,15 +2,16 @@
 -- start, are `settleSlot` of crate rules; that the two agree is proved (proofs/SettleLaws.antt).
 use Prim.Native.Nat.{ℕ, _<_}
 use mathlib.Core.Path.{_≡_}
-use mathlib.Core.Bool.{Bool, cond}
+use mathlib.Core.Bool.{Bool, true, cond}
 use mathlib.Core.List.{List}
+use lib.ListN.{getD}
 use Rattle.records.specs.Records.{State, slotCount}
 use Rattle.layout.specs.View.{stateOf}
-use Rattle.sets.specs.Sets.{bySlot}
+use Rattle.sets.specs.Sets.{at, bySlot}
 use Rattle.effects.specs.Effects.{onTopic, intoMesh, isMember, pruned, endAfter, pruneBackoff}
+use Rattle.rules.specs.Step.{heightIn}
 use Rattle.peer_score.specs.Standing.{Standing}
 use Rattle.leaving.specs.Slots.{grownIf}
-use Rattle.heartbeat.specs.Heights.{HeightsOn}
 
 -- slot s in topic t, from whether it was a member, whether it stays or comes in, and whether its score was negative
 unfoldable pub settledIf : Bool → Bool → Bool → ℕ → ℕ → ℕ → ℕ → State → State
@@ -25,4 +26,4 @@ pub record Settle (table : List ℕ) (t time end : ℕ) (members : List Bool) (s
   pub topic : t < 8
   pub backoff : end ≡ endAfter time (pruneBackoff (stateOf table))
   pub was : members ≡ bySlot slotCount (isMember (stateOf table) t)
-  pub heights : HeightsOn (stateOf table) members scores
+  pub heights : (s : ℕ) → s < slotCount → at members s ≡ true → getD scores s 0 ≡ heightIn (stateOf table) s

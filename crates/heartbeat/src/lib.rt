@@ -1,9 +1,10 @@
-// The heartbeat's work for one topic (01's tidy), one of 01's calls: what maintenance sees is taken from the table once, into arrays by
-// slot and sets of slots; crate mesh makes of it the meshes that the five steps leave; the last of them and the actions are written back
-// once.
+// The heartbeat's work for one topic (01's tidy), one of 01's calls: what maintenance sees is taken from the table once, into scores by slot
+// and sets of slots, and no more of it than the five steps ask for; crate mesh makes of it the meshes that they leave; the last of them and
+// the actions are written back once.
 pub mod scores;
 pub mod seen;
 pub mod settle;
+pub mod stages;
 pub mod tell;
 
 ghost use mathlib.Core.Path.{_≡_};
@@ -15,13 +16,9 @@ ghost use Rattle.rules.specs.Promise.{Gives, Follows};
 ghost use Rattle.gate.specs.Ready.{TopicLent};
 ghost use Rattle.heartbeat.specs.Ready.{Maintains};
 use crate::scores::empty_height;
-use crate::scores::score_slots;
-use crate::seen::degrees;
 use crate::seen::members;
-use crate::seen::occupied;
-use crate::seen::outbound;
-use crate::seen::view;
 use crate::settle::settle;
+use crate::stages::stages;
 use crate::tell::tell_all;
 use effects::slots::is_joined;
 use effects::slots::load_magnitude;
@@ -32,63 +29,11 @@ use gate::time_ok;
 use gate::topic_ok;
 use layout::CELLS;
 use mesh::steps::changes;
-use mesh::Stages;
-use mesh::ZERO_SCORE;
-use mesh::steps::is_still;
-use mesh::steps::meshes;
-use mesh::steps::still;
-use peer_score::buckets::BUCKETS;
-use peer_score::buckets::count_groups;
 use records::SLOTS;
-use sets::at_least;
-use sets::both;
-use sets::except;
 use records::param;
 use rules::Answer;
 use rules::Gate;
 use sets::permutation::is_permutation;
-
-// The meshes of the five steps where the members' scores do not tell them: those of all slots are taken.
-fn all_stages(
-    table: &[u64],
-    heads: &[u32; BUCKETS],
-    same: &[u16; BUCKETS],
-    others: &[u16; BUCKETS],
-    time: u64,
-    topic: usize,
-    ask: u64,
-    order: &[u64],
-    heights: &mut [u64; SLOTS],
-) -> Stages
-{
-    let rest = except(occupied(table), members(table, topic));
-    score_slots(table, heads, same, others, rest, heights);
-    let v = view(table, time, topic, ask, heights);
-    meshes(degrees(table), v, heights, order)
-}
-
-// The meshes of the five steps. The members' scores are taken first: in most heartbeats no step changes anything after the first.
-fn stages(
-    table: &[u64],
-    time: u64,
-    topic: usize,
-    ask: u64,
-    order: &[u64],
-    heights: &mut [u64; SLOTS],
-) -> Stages
-{
-    let mut heads: [u32; BUCKETS] = [0; BUCKETS];
-    let mut same: [u16; BUCKETS] = [0; BUCKETS];
-    let mut others: [u16; BUCKETS] = [0; BUCKETS];
-    count_groups(table, &mut heads, &mut same, &mut others);
-    let all = members(table, topic);
-    score_slots(table, &heads, &same, &others, all, heights);
-    let first = both(all, at_least(ZERO_SCORE, heights));
-    if is_still(degrees(table), outbound(table), ask == 1, heights, first) {
-        return still(first);
-    }
-    all_stages(table, &heads, &same, &others, time, topic, ask, order, heights)
-}
 
 // A joined topic's mesh, maintained.
 fn maintain_topic(
