@@ -1,11 +1,11 @@
 -- The scores by slot, taken by walks over sets of slots; and the meshes that the members' scores tell.
 -- Assumes nothing.
-use Prim.Native.Nat.{ℕ, _+_, _/_, _%_, _≤_, _<_}
+use Prim.Native.Nat.{ℕ, zero, suc, _+_, _/_, _%_, _≤_, _<_}
 use native.Mathlib.Omega.{arith}
-use mathlib.Core.Path.{_≡_, refl, sym, ap, _∙_}
+use mathlib.Core.Path.{_≡_, refl, sym, ap, ap₂, _∙_}
 use mathlib.Core.Bool.{Bool, true, false, not, _&&_, false≢true}
 use mathlib.Core.List.{List}
-use lib.ListN.{length, getD, set, length-set}
+use lib.ListN.{length, getD, set, length-set, replicate}
 use lib.Seq.{getD-set-same, getD-set-other}
 use lib.Dec.{eqb}
 use borrow.Author.Tests.{eqb-true, eq-eqb}
@@ -18,13 +18,18 @@ use Rattle.sets.specs.Sets.{at, bySlot, except, from, both}
 use Rattle.sets.proofs.WalkLaws.{except-at}
 use Rattle.sets.proofs.SlotLaws.{slots-length, slots-at, slots-built, slots-in}
 use Rattle.mesh.specs.declared.Degrees.{Degrees}
-use Rattle.mesh.specs.Maintenance.{Meshes, zeroScore}
+use Rattle.mesh.specs.Maintenance.{View, Meshes, zeroScore, meshes}
 use Rattle.mesh.specs.Still.{isStill, stillOf}
 use Rattle.mesh.proofs.StillLaws.{still-by-members}
 use Rattle.effects.specs.Effects.{isMember}
 use Rattle.rules.specs.Step.{heightIn, degreesIn, viewIn, meshesIn}
 use Rattle.peer_score.proofs.ConnectedLaws.{flag-at}
 use Rattle.heartbeat.specs.Heights.{HeightsOn, EmptyHeights, Taken}
+
+getD-replicate : (n x s d : ℕ) → s < n → getD (replicate n x) s d ≡ x
+getD-replicate zero x s d h = absurd (omega arith)
+getD-replicate (suc n) x zero d h = refl
+getD-replicate (suc n) x (suc s) d h = getD-replicate n x s d (omega arith)
 
 by-flag : (P : Type 0) (b : Bool) → (b ≡ true → P) → (b ≡ false → P) → P
 by-flag P true f g = f refl
@@ -163,3 +168,22 @@ still-stages st time t ask order heights members goods first outbound d m em l o
     first
     (ef ∙ rw (em, eg))
     (rw (← ed, ← eo) e)
+
+-- ---- the five steps from what was computed
+pub stages-are :
+    (st : State) (time t ask : ℕ) (order : List ℕ) (m : Meshes) (d : Degrees) (v : View) →
+    m ≡ meshes slotCount d v →
+    d ≡ degreesIn st →
+    v ≡ viewIn st time t ask order →
+    m ≡ meshesIn st time t ask order
+unfolding meshesIn
+stages-are st time t ask order m d v e ed ev = e ∙ ap₂ (meshes slotCount) ed ev
+
+-- the scores of empty slots stay, or are taken again
+pub empty-kept : (st : State) (m : List Bool) (before after : List ℕ) → Taken st m before after → EmptyHeights st before → EmptyHeights st after
+empty-kept st m before after t e s h z =
+    by-flag (getD after s 0 ≡ heightIn st s) (at m s) (λ f. t .taken s h f) (λ f. t .kept s f ∙ e s h z)
+
+pub empty-filled :
+    (st : State) (x : ℕ) → ((s : ℕ) → s < slotCount → peerIn st s .status ≡ 0 → x ≡ heightIn st s) → EmptyHeights st (replicate slotCount x)
+empty-filled st x e s h z = getD-replicate slotCount x s 0 h ∙ e s h z
