@@ -1,11 +1,11 @@
 -- The scores by slot, taken by walks over sets of slots; and the meshes that the members' scores tell.
 -- Assumes nothing.
-use Prim.Native.Nat.{ℕ, zero, suc, _+_, _/_, _%_, _≤_, _<_}
+use Prim.Native.Nat.{ℕ, _+_, _/_, _%_, _≤_, _<_}
 use native.Mathlib.Omega.{arith}
 use mathlib.Core.Path.{_≡_, refl, sym, ap, ap₂, _∙_}
 use mathlib.Core.Bool.{Bool, true, false, not, _&&_, false≢true}
 use mathlib.Core.List.{List}
-use lib.ListN.{length, getD, set, length-set, replicate}
+use lib.ListN.{length, getD, set, length-set, replicate, getD-replicate}
 use lib.Seq.{getD-set-same, getD-set-other}
 use lib.Dec.{eqb}
 use borrow.Author.Tests.{eqb-true, eq-eqb}
@@ -25,11 +25,6 @@ use Rattle.effects.specs.Effects.{isMember}
 use Rattle.rules.specs.Step.{heightIn, degreesIn, viewIn, meshesIn}
 use Rattle.peer_score.proofs.ConnectedLaws.{flag-at}
 use Rattle.heartbeat.specs.Heights.{HeightsOn, EmptyHeights, Taken}
-
-getD-replicate : (n x s d : ℕ) → s < n → getD (replicate n x) s d ≡ x
-getD-replicate zero x s d h = absurd (omega arith)
-getD-replicate (suc n) x zero d h = refl
-getD-replicate (suc n) x (suc s) d h = getD-replicate n x s d (omega arith)
 
 by-flag : (P : Type 0) (b : Bool) → (b ≡ true → P) → (b ≡ false → P) → P
 by-flag P true f g = f refl
@@ -140,10 +135,6 @@ module _ (st : State) (c r : List ℕ) (m : List Bool) (zc : length c ≡ 4) (zr
               e))));
         })
 
--- what is there of all slots is there of the members
-pub heights-all : (st : State) (m : List Bool) (heights : List ℕ) → heights ≡ bySlot slotCount (heightIn st) → HeightsOn st m heights
-heights-all st m heights e s h q = ap (λ (l : List ℕ). getD l s 0) e ∙ slots-at 0 (heightIn st) slotCount s h
-
 -- ---- a still mesh
 pub still-stages :
     (st : State) (time t ask : ℕ) (order : List ℕ) (heights : List ℕ) (members goods first outbound : List Bool) (d : Degrees) (m : Meshes) →
@@ -186,4 +177,4 @@ empty-kept st m before after t e s h z =
 
 pub empty-filled :
     (st : State) (x : ℕ) → ((s : ℕ) → s < slotCount → peerIn st s .status ≡ 0 → x ≡ heightIn st s) → EmptyHeights st (replicate slotCount x)
-empty-filled st x e s h z = getD-replicate slotCount x s 0 h ∙ e s h z
+empty-filled st x e s h z = getD-replicate slotCount s x 0 h ∙ e s h z

@@ -68,5 +68,15 @@ pub fn stages(
     if is_still(degrees(table), outbound(table), ask == 1, heights, first) {
         return still(first);
     }
-    all_stages(table, &heads, &same, &others, time, topic, ask, order, heights)
+    all_stages(
+        table,
+        &heads,
+        &same,
+        &others,
+        time,
+        topic,
+        ask,
+        order,
+        heights,
+    )
 }

@@ -646,9 +646,7 @@ fn counted(cells: &[u64], slot: usize) -> u64
     let mut acc: u64 = 0;
     let mut t: usize = 0;
     while t < TOPICS {
-        acc = acc
-            | cells[COUNTERS_AT + t * STRIDE + slot]
-            | cells[P3B_AT + (slot * 8 + t)];
+        acc = acc | cells[COUNTERS_AT + t * STRIDE + slot] | cells[P3B_AT + (slot * 8 + t)];
         t += 1;
     }
     keep((slot as u64) < cells[USED_AT], acc)

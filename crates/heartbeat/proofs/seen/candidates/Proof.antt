@@ -48,8 +48,7 @@ loop-again c =
     let n = c .next2 .ensures in
     let t = c .before .before .before .before .before .loop-test .taken in
     let l = c .before .before .before .before .before .before .loop in
-    let e = c .before .before .before .before .before .before .before .before .before .eligible .ensures in
-    (
+    let e = c .before .before .before .before .before .before .before .before .before .eligible .ensures in (
       n .most,
       n .here,
       sifted-next _ _ _ _ e _ _ _ n

@@ -1,7 +1,7 @@
 -- `heartbeat::stages::all_stages`: the rules' view, and what the five steps make of it.
 use Rattle.index.proofs.Kit.{sym, _∙_}
-use Rattle.heartbeat.proofs.SeenLaws.{scores-length}
-use Rattle.heartbeat.proofs.HeightLaws.{heights-all, stages-are}
+use Rattle.heartbeat.proofs.SeenLaws.{score-at, scores-length}
+use Rattle.heartbeat.proofs.HeightLaws.{stages-are}
 use Rattle.heartbeat.proofs.stages.all_stages.Statement.{statement}
 use Rattle.heartbeat.proofs.stages.all_stages.Tie as tie
 
@@ -14,7 +14,7 @@ returns : tie.Need-returns
 returns c =
     let s = c .before .before .before .before .before .before .before .score-others .ensures in (
       stages-are _ _ _ _ _ _ _ _ (c .meshes .ensures) (c .before .before .degrees .ensures) (c .before .before .before .view .ensures (c .before .before .before .before .before .before .before .before .before .before .before .before .args .order .now)),
-      heights-all _ _ _ s,
+      λ k h q. score-at _ _ k h s,
     )
 
 pub all-stages-spec : {M : Type 1} → statement M

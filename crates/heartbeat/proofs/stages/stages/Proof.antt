@@ -49,5 +49,5 @@ stages-spec =
     (λ c. c .before .before .before .before .before .before .before .before .before .before .before .score-slots .ensures .size)
     returns
     all-stages-requires
-    (λ c. ?)
+    (λ c. c .before .before .all-stages .kept .1 .1 .1 .1 .1 .1 .1 .1 .0 ∙ c .before .before .before .before .before .before .before .before .before .before .before .before .before .before .before .before .before .score-slots .ensures .size)
     (λ c. c .before .before .all-stages .ensures))
