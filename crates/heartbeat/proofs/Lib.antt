@@ -1,4 +1,5 @@
 pub mod SeenLaws
+pub mod HeightLaws
 pub mod SettleLaws
 pub mod ReplyLaws
 pub mod TellLaws

@@ -3,7 +3,7 @@
 use Prim.Native.Nat.{ℕ, _≤_, _<_}
 use native.Mathlib.Omega.{arith}
 use mathlib.Core.Path.{_≡_, refl, sym, ap, ap₂, _∙_}
-use mathlib.Core.Bool.{Bool, true, cond, _&&_}
+use mathlib.Core.Bool.{Bool, true, false, cond, _&&_}
 use mathlib.Core.List.{List, [], _∷_, map}
 use lib.ListN.{length, getD, length-map, List·getD-eq-default}
 use lib.Seq.{sets}
@@ -19,11 +19,9 @@ use Rattle.validity.proofs.ValidLaws.{valid-facts}
 use Rattle.sets.specs.Sets.{bySlot, isPermutation}
 use Rattle.sets.proofs.SlotLaws.{slots-at, slots-past, slots-all}
 use Rattle.mesh.specs.Maintenance.{
-  View,
   Meshes,
   Changes,
   Action as Told,
-  meshes,
   changesOf,
   actionsOf,
   numbersOf as numbersIn,
@@ -37,7 +35,7 @@ use Rattle.rules.specs.declared.Gate.{Gate}
 use Rattle.rules.specs.declared.Gate.the-variants.{Pass}
 use Rattle.rules.specs.Calls.{topicOk}
 use Rattle.rules.specs.Reply.{done}
-use Rattle.rules.specs.Step.{gateOf, degreesIn, viewIn, meshesIn, settleSlot, toldIn, actionIn, heartbeatActions, maintainedReply}
+use Rattle.rules.specs.Step.{gateOf, viewIn, meshesIn, settleSlot, toldIn, actionIn, heartbeatActions, maintainedReply}
 use Rattle.rules.specs.Step.{actionRoom}
 use Rattle.rules.specs.Promise.{Gives}
 use Rattle.rules.proofs.CaseLaws.{topic-in}
@@ -46,6 +44,7 @@ use Rattle.rules.proofs.HeartbeatLaws.{told-few}
 use Rattle.peer_score.specs.Standing.{Standing}
 use Rattle.gate.proofs.CallLaws.{gate-fine}
 use Rattle.gate.proofs.StandingLaws.{sizes}
+use Rattle.heartbeat.specs.Heights.{HeightsOn}
 use Rattle.heartbeat.specs.Settle.{Settle}
 
 -- ---- the numbers of the actions
@@ -82,29 +81,21 @@ slots-most f b h s =
 
 -- what is computed of the state st before anything is written
 pub record Computed
-    (st : State) (time t ask : ℕ) (order : List ℕ) (v : View) (m : Meshes) (c : Changes) (ids told : List ℕ) (seconds : ℕ)
+    (st : State) (time t ask : ℕ) (order : List ℕ) (members : List Bool) (m : Meshes) (c : Changes) (ids told : List ℕ) (seconds : ℕ)
     : Type 0 where
-  pub view : v ≡ viewIn st time t ask order
-  pub steps : m ≡ meshes slotCount (degreesIn st) v
-  pub changes : c ≡ changesOf (v .members) m
+  pub was : members ≡ bySlot slotCount (isMember st t)
+  pub steps : m ≡ meshesIn st time t ask order
+  pub changes : c ≡ changesOf members m
   pub backoff : seconds ≡ pruneBackoff st
   pub id : ids ≡ bySlot slotCount (λ s. peerIn st s .id)
   pub wait : told ≡ bySlot slotCount (λ s. cond (eqb (peerIn st s .version) 0) 0 seconds)
 
 module _
-    (st : State) (time t ask : ℕ) (order : List ℕ) (v : View) (m : Meshes) (c : Changes) (ids told : List ℕ) (seconds : ℕ)
-    (k : Computed st time t ask order v m c ids told seconds)
+    (st : State) (time t ask : ℕ) (order : List ℕ) (members : List Bool) (m : Meshes) (c : Changes) (ids told : List ℕ) (seconds : ℕ)
+    (k : Computed st time t ask order members m c ids told seconds)
   where
-    meshes-are : m ≡ meshesIn st time t ask order
-    unfolding meshesIn
-    meshes-are = k .steps ∙ ap (meshes slotCount (degreesIn st)) (k .view)
-
-    members-are : v .members ≡ bySlot slotCount (isMember st t)
-    unfolding viewIn
-    members-are = ap (λ (w : View). w .members) (k .view)
-
     changes-are : c ≡ changesOf (bySlot slotCount (isMember st t)) (meshesIn st time t ask order)
-    changes-are = k .changes ∙ ap₂ changesOf members-are meshes-are
+    changes-are = k .changes ∙ ap₂ changesOf (k .was) (k .steps)
 
     told-are : told ≡ bySlot slotCount (toldIn st)
     told-are =
@@ -165,15 +156,16 @@ module _
         Standing table →
         t < 8 →
         end ≡ endAfter time seconds →
-        Settle table t time end (v .members) (v .scores)
-    unfolding viewIn
-    settles table end e standing topic ends =
+        (heights : List ℕ) →
+        HeightsOn st (bySlot slotCount (isMember st t)) heights →
+        Settle table t time end members heights
+    settles table end e standing topic ends heights on =
         record {
           standing = standing;
           topic = topic;
           backoff = rw (← e) (ends ∙ ap (endAfter time) (k .backoff));
-          was = rw (← e) (ap (λ (w : View). w .members) (k .view));
-          heights = rw (← e) (ap (λ (w : View). w .scores) (k .view));
+          was = rw (← e) (k .was);
+          heights = rw (← e) (λ s h q. on s h (ap (λ (x : List Bool). getD x s false) (sym (k .was)) ∙ q));
         }
 
     -- `mid` is the table after the walk
@@ -196,7 +188,7 @@ module _
               (et
               ∙ ap
               (λ (u : State). setClock u time)
-              (em ∙ ap (λ (x : Meshes). iter slotCount (settleSlot st time t (x .fifth)) st) meshes-are));
+              (em ∙ ap (λ (x : Meshes). iter slotCount (settleSlot st time t (x .fifth)) st) (k .steps)));
           actions = w .list ∙ ap (sets list 0) (written-numbers size);
         }
 

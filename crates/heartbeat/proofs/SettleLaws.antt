@@ -31,7 +31,6 @@ use Rattle.rules.proofs.HeartbeatLaws.{height-good, settled-peer, settled-kept}
 use Rattle.leaving.specs.Slots.{grownIf, Turn}
 use Rattle.leaving.proofs.LeaveLaws.{params-same}
 use Rattle.heartbeat.specs.Settle.{settledIf, Settle}
-use Rattle.heartbeat.proofs.SeenLaws.{score-at}
 
 -- ---- the four ways of a turn
 
@@ -69,7 +68,7 @@ same-settled :
     (u : State) (s t time end last : ℕ) (w x m n f g : Bool) (p q : TopicParams) →
     w ≡ x →
     m ≡ n →
-    f ≡ g →
+    (w ≡ true → f ≡ g) →
     p ≡ q →
     end ≡ last →
     cond w
@@ -78,13 +77,14 @@ same-settled :
     ≡ cond x
     (cond n u (pruned (cond g (onTopic u s t (grownOf q)) u) s t last))
     (cond n (onTopic u s t (λ r. intoMesh r time)) u)
-same-settled u s t time end last w x m n f g p q a b c d e = rw (a, b, c, d, e)
+same-settled u s t time end last true x m n f g p q a b c d e = rw (← a, b, c refl, d, e)
+same-settled u s t time end last false x m n f g p q a b c d e = rw (← a, b)
 
 as-settled :
     (st u : State) (t time end i : ℕ) (mesh : List Bool) (was stays negative : Bool) →
     was ≡ isMember st t i →
     stays ≡ at mesh i →
-    negative ≡ isNegative st i →
+    (was ≡ true → negative ≡ isNegative st i) →
     topicParamsIn u t ≡ topicParamsIn st t →
     end ≡ endAfter time (pruneBackoff st) →
     settledIf was stays negative t time end i u ≡ settleSlot st time t mesh i u
@@ -146,11 +146,11 @@ module _
           id = rw as-id (valid-facts (stateOf table₀) v .peer i h .id);
         }
 
-    as-negative : ltb (getD scores i 0) zeroScore ≡ isNegative (stateOf table₀) i
-    as-negative =
+    as-negative : at members i ≡ true → ltb (getD scores i 0) zeroScore ≡ isNegative (stateOf table₀) i
+    as-negative e =
         let st = stateOf table₀ in
         below-zero (getD scores i 0) (isNegative st i)
-        (ap (leb zeroScore) (score-at st scores i h (walk .heights)) ∙ height-good st (walk .standing .router) i h)
+        (ap (leb zeroScore) (walk .heights i h e) ∙ height-good st (walk .standing .router) i h)
 
     as-was : getD members i false ≡ isMember (stateOf table₀) t i
     as-was =
@@ -173,7 +173,7 @@ module _
           size = l ∙ now .size;
           state =
               iter-more (settleSlot st time t mesh) st i (stateOf table) (stateOf table′) (now .state)
-              (e ∙ as-settled st (stateOf table) t time end i mesh was stays negative (ew ∙ as-was) es (en ∙ as-negative) as-params
+              (e ∙ as-settled st (stateOf table) t time end i mesh was stays negative (ew ∙ as-was) es (λ q. en ∙ as-negative (sym ew ∙ q)) as-params
               (walk .backoff));
         }
 

@@ -1,4 +1,4 @@
+pub mod Heights
 pub mod Settle
 pub mod Ready
-pub mod Heights
 pub mod Tell

@@ -1,13 +1,15 @@
 -- What the inner functions of a heartbeat rely on. No public call asks it of its caller.
 use Prim.Native.Nat.{ℕ, _≤_, _<_}
 use mathlib.Core.Path.{_≡_}
-use mathlib.Core.Bool.{true}
+use mathlib.Core.Bool.{Bool, true, not, _&&_}
 use mathlib.Core.List.{List}
-use lib.ListN.{length}
-use Rattle.records.specs.Records.{slotCount, topicCount}
+use lib.ListN.{length, getD}
+use lib.Dec.{eqb}
+use Rattle.records.specs.Records.{State, slotCount, topicCount, isConnected, peerIn}
 use Rattle.layout.specs.View.{stateOf}
 use Rattle.sets.specs.Sets.{bySlot, isPermutation}
-use Rattle.rules.specs.Step.{actionRoom, heightIn}
+use Rattle.rules.specs.Step.{actionRoom, heightIn, isNegative, pastSlack}
+use Rattle.effects.specs.Effects.{isMember, isSubscribed}
 use Rattle.peer_score.specs.Standing.{Standing}
 use Rattle.gate.specs.Ready.{Ready}
 
@@ -29,3 +31,11 @@ pub record ScoredAll (table l : List ℕ) (t : ℕ) : Type 0 where
   pub standing : Standing table
   pub topic : t < topicCount
   pub scores : l ≡ bySlot slotCount (heightIn (stateOf table))
+
+-- a candidate in two halves: what words by slot tell, and what is asked of each slot that they leave
+unfoldable pub isEligible : State → ℕ → ℕ → Bool
+isEligible st t s =
+    isConnected (peerIn st s) && (isSubscribed st t s && (eqb (peerIn st s .explicit) 0 && not (isMember st t s)))
+
+unfoldable pub isFree : State → ℕ → ℕ → ℕ → Bool
+isFree st time t s = not (isNegative st s) && pastSlack (getD (peerIn st s .backoff) t 0) time

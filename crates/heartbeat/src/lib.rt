@@ -1,9 +1,10 @@
-// The heartbeat's work for one topic (01's tidy), one of 01's calls: what maintenance sees is taken from the table once, into arrays by
-// slot and sets of slots; crate mesh makes of it the meshes that the five steps leave; the last of them and the actions are written back
-// once.
+// The heartbeat's work for one topic (01's tidy), one of 01's calls: what maintenance sees is taken from the table once, into scores by slot
+// and sets of slots, and no more of it than the five steps ask for; crate mesh makes of it the meshes that they leave; the last of them and
+// the actions are written back once.
 pub mod scores;
 pub mod seen;
 pub mod settle;
+pub mod stages;
 pub mod tell;
 
 ghost use mathlib.Core.Path.{_≡_};
@@ -14,10 +15,10 @@ ghost use Rattle.rules.specs.Step.{heartbeatReply, maintainedReply};
 ghost use Rattle.rules.specs.Promise.{Gives, Follows};
 ghost use Rattle.gate.specs.Ready.{TopicLent};
 ghost use Rattle.heartbeat.specs.Ready.{Maintains};
-use crate::scores::scores;
-use crate::seen::degrees;
-use crate::seen::view;
+use crate::scores::empty_height;
+use crate::seen::members;
 use crate::settle::settle;
+use crate::stages::stages;
 use crate::tell::tell_all;
 use effects::slots::is_joined;
 use effects::slots::load_magnitude;
@@ -28,7 +29,7 @@ use gate::time_ok;
 use gate::topic_ok;
 use layout::CELLS;
 use mesh::steps::changes;
-use mesh::steps::meshes;
+use records::SLOTS;
 use records::param;
 use rules::Answer;
 use rules::Gate;
@@ -47,10 +48,9 @@ fn maintain_topic(
     ensures { λ r. ⌜ Gives (maintainedReply (stateOf (now (table .entry))) time topic ask (now (order .entry))) r
         (now (table .entry)) (now (table .exit)) (now (actions .entry)) (now (actions .exit)) ⌝ }
 {
-    let heights = scores(table);
-    let v = view(table, time, topic, ask, &heights);
-    let m = meshes(degrees(table), v, &heights, order);
-    let members = v.members;
+    let mut heights = [empty_height(table); SLOTS];
+    let m = stages(table, time, topic, ask, order, &mut heights);
+    let members = members(table, topic);
     let mesh = m.fifth;
     let seconds = load_magnitude(table, param::PRUNE_BACKOFF);
     let n = tell_all(table, actions, changes(members, m), order, seconds);

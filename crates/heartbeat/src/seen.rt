@@ -1,27 +1,30 @@
 // What maintenance sees of a table, as at the call's start: sets of slots as words.
 ghost use mathlib.Core.Path.{_≡_};
 ghost use mathlib.Core.List.{List};
-ghost use Prim.Native.Nat.{ℕ};
+ghost use Prim.Native.Nat.{ℕ, _<_};
 ghost use lib.Dec.{eqb};
 ghost use lib.ListN.{length};
 ghost use Rattle.records.specs.Records.{slotCount, peerIn};
 ghost use Rattle.layout.specs.View.{cellCount, stateOf};
 ghost use Rattle.words.specs.Words.{bitsOf};
-ghost use Rattle.sets.specs.Sets.{bySlot};
+ghost use Rattle.sets.specs.Sets.{at, bySlot};
 ghost use Rattle.mesh.specs.Words.{viewOf};
 ghost use Rattle.effects.specs.Effects.{isMember};
 ghost use Rattle.effects.specs.Lent.{AtTopic};
 ghost use Rattle.rules.specs.Step.{pastSlack, isCandidate, degreesIn, viewIn};
-ghost use Rattle.peer_score.specs.Standing.{Standing};
-ghost use Rattle.heartbeat.specs.Ready.{ScoredAt, ScoredAll};
+ghost use Rattle.peer_score.specs.Standing.{Standing, TopicStanding};
+ghost use Rattle.heartbeat.specs.Ready.{isEligible, isFree, ScoredAt, ScoredAll};
 use effects::slots::load_magnitude;
 use mesh::Degrees;
 use mesh::Seen;
 use mesh::ZERO_SCORE;
 use records::SLOTS;
 use records::param;
+use sets::both;
+use sets::except;
 use words::WORDS;
-use words::flags::pack;
+use words::next;
+use words::put;
 
 // The members of a topic's mesh.
 pub fn members(table: &[u64], topic: usize) -> [u64; WORDS]
@@ -55,29 +58,42 @@ fn past_slack(end: u64, time: u64) -> bool
     end <= time - GRAFT_SLACK
 }
 
-// Whether the peer in a slot, with this score, may be grafted.
-pub fn is_candidate(table: &[u64], time: u64, topic: usize, slot: usize, score: u64) -> bool
-    requires { ⌜ ScoredAt (now table) topic slot score ⌝ }
-    ensures { λ r. ⌜ r ≡ isCandidate (stateOf (now (table .entry))) time topic slot ⌝ }
+// Who may be grafted but for score and backoff: connected, subscribed, not explicit and no member.
+fn eligible(table: &[u64], topic: usize) -> [u64; WORDS]
+    requires { ⌜ TopicStanding (now table) topic ⌝ }
+    ensures { λ r. ⌜ ((s : ℕ) → s < slotCount → at (bitsOf r) s ≡ isEligible (stateOf (now (table .entry))) topic s) ⌝ }
 {
-    let p = layout::load_peer(table, slot);
-    let r = layout::load_topic(table, slot * 8 + topic);
-    let free = past_slack(p.backoff[topic], time);
-    (p.status == 1)
-        & ((r.subscribed == 1)
-            & ((p.explicit == 0) & (!(r.member == 1) & ((ZERO_SCORE <= score) & free))))
+    let connected = layout::load_connected(table);
+    let subscribed = layout::load_subscribed(table, topic);
+    let explicit = layout::load_explicit(table);
+    let members = layout::load_members(table, topic);
+    except(except(both(connected, subscribed), explicit), members)
 }
 
-// The candidates of a topic.
+// Whether an eligible peer, with this score, is a candidate.
+fn is_free(table: &[u64], time: u64, topic: usize, slot: usize, score: u64) -> bool
+    requires { ⌜ ScoredAt (now table) topic slot score ⌝ }
+    ensures { λ r. ⌜ r ≡ isFree (stateOf (now (table .entry))) time topic slot ⌝ }
+{
+    let free = past_slack(layout::load_end(table, slot, topic), time);
+    (ZERO_SCORE <= score) & free
+}
+
+// The candidates of a topic: the eligible, each asked for score and backoff.
 pub fn candidates(table: &[u64], time: u64, topic: usize, scores: &[u64]) -> [u64; WORDS]
     requires { ⌜ ScoredAll (now table) (now scores) topic ⌝ }
     ensures { λ r. ⌜ bitsOf r ≡ bySlot slotCount (isCandidate (stateOf (now (table .entry))) time topic) ⌝ }
 {
-    let mut r = [false; SLOTS];
-    for s in 0..SLOTS {
-        r[s] = is_candidate(table, time, topic, s, scores[s]);
+    let all = eligible(table, topic);
+    let mut r = all;
+    let mut slot = next(&all, 0);
+    while slot < SLOTS as u64 {
+        let s = slot as usize;
+        let more = put(r, slot, is_free(table, time, topic, s, scores[s]));
+        r = more;
+        slot = next(&all, slot + 1);
     }
-    pack(r)
+    r
 }
 
 // The parameters that maintenance goes by.

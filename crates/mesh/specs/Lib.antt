@@ -1,2 +1,3 @@
 pub mod Maintenance
 pub mod Words
+pub mod Still

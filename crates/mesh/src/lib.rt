@@ -2,6 +2,7 @@
 // to the actions that tell the peers. Its promises cite specs/Maintenance.antt, which follows the paper's words.
 pub mod actions;
 pub mod steps;
+pub mod still;
 
 use words::WORDS;
 

@@ -464,7 +464,7 @@ parts-among st s k p g b n ep eg r er eb t =
 abbrev nobody : Sharers
 nobody = record { first = 0; second = 0; third = 0; fourth = 0 }
 
-sum-nothing : (f : ℕ → Balance) (n : ℕ) → ((t : ℕ) → t < n → f t ≡ noBalance) → sumOf n f ≡ noBalance
+pub sum-nothing : (f : ℕ → Balance) (n : ℕ) → ((t : ℕ) → t < n → f t ≡ noBalance) → sumOf n f ≡ noBalance
 unfolding sumOf
 sum-nothing f zero h = refl
 sum-nothing f (suc n) h = rw (sum-nothing f n (λ t l. h t (omega arith)), h n (omega arith))

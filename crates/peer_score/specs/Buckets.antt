@@ -21,14 +21,14 @@ use Rattle.score.specs.Score.{sharesGroup, sharing, sharingAt, Scores}
 use Rattle.peer_score.specs.Standing.{Standing, SlotStanding}
 use Rattle.peer_score.specs.Weights.{Weights}
 
--- any number will do
+-- as many as slots, though any number would do
 abbrev pub bucketCount : ℕ
-bucketCount = 512
+bucketCount = slotCount
 
--- Groups are often prefixes of addresses, alike in their low bits: of their product with 2^32 over the golden ratio, the nine bits below
+-- Groups are often prefixes of addresses, alike in their low bits: of their product with 2^32 over the golden ratio, the eight bits below
 -- 2^32 are the bucket.
 unfoldable pub bucketOf : ℕ → ℕ
-bucketOf group = group * 2654435769 / 8388608 % bucketCount
+bucketOf group = group * 2654435769 / 16777216 % bucketCount
 
 -- c, and one more peer of the group
 abbrev pub withOne : (ℕ → ℕ) → ℕ → ℕ → ℕ
@@ -67,10 +67,11 @@ pub record Noting (same others : List ℕ) (group most : ℕ) : Type 0 where
   pub room : (b : ℕ) → getD same b 0 + getD others b 0 < 65535
   pub fits : group ≤ most
 
--- what counting relies on: a router's table, and the slots before slot s counted
+-- what counting relies on: a router's table, a connected peer in slot s, and the slots before it counted
 pub record Counting (table : List ℕ) (s : ℕ) (heads same others : List ℕ) : Type 0 where
   pub standing : Standing table
   pub slot : s < slotCount
+  pub connected : peerIn (stateOf table) s .status ≡ 1
   pub buckets : Tells (below (stateOf table) s) (pairs s) heads same others
 
 -- n stands for the number of connected peers that hold a group where P6 is taken: it has the same surplus

@@ -20,16 +20,17 @@ use records::TOPICS;
 use score::Balance;
 use score::Sharers;
 use score::sums;
+use words::next;
 
-// How many buckets there are; a power of two is divided by at no cost.
-pub const BUCKETS: usize = 512;
+// How many buckets there are: as many as slots, so that few groups share one.
+pub const BUCKETS: usize = SLOTS;
 
 // The bucket of a group.
 fn bucket(group: u64) -> usize
     requires { ⌜ group ≤ maxId ⌝ }
     ensures { λ r. ⌜ (r ≡ bucketOf group) × (r < bucketCount) ⌝ }
 {
-    (group * 2654435769 / 8388608 % BUCKETS as u64) as usize
+    (group * 2654435769 / 16777216 % BUCKETS as u64) as usize
 }
 
 fn wide(n: u16) -> u64
@@ -89,7 +90,7 @@ fn note_held(
     }
 }
 
-// Counts the peer in a slot once for each of its groups, if it is connected.
+// Counts the connected peer in a slot, once for each of its groups.
 fn note_slot(
     table: &[u64],
     heads: &mut [u32; BUCKETS],
@@ -101,13 +102,11 @@ fn note_slot(
     ensures { λ r. ⌜ Tells (below (stateOf (now (table .entry))) (slot + 1)) (pairs (slot + 1))
         (now (heads .exit)) (now (same .exit)) (now (others .exit)) ⌝ }
 {
-    if layout::load_status(table, slot) == 1 {
-        let g = layout::load_groups(table, slot);
-        note_held(heads, same, others, g.first);
-        note_held(heads, same, others, g.second);
-        note_held(heads, same, others, g.third);
-        note_held(heads, same, others, g.fourth);
-    }
+    let g = layout::load_groups(table, slot);
+    note_held(heads, same, others, g.first);
+    note_held(heads, same, others, g.second);
+    note_held(heads, same, others, g.third);
+    note_held(heads, same, others, g.fourth);
 }
 
 // Counts the connected peers by group.
@@ -120,10 +119,11 @@ pub fn count_groups(
     requires { ⌜ Standing (now table) × Unused (now heads) (now same) (now others) ⌝ }
     ensures { λ r. ⌜ Counted (now (table .entry)) (now (heads .exit)) (now (same .exit)) (now (others .exit)) ⌝ }
 {
-    let mut slot: usize = 0;
-    while slot < SLOTS {
-        note_slot(table, heads, same, others, slot);
-        slot += 1;
+    let left = layout::load_connected(table);
+    let mut slot = next(&left, 0);
+    while slot < SLOTS as u64 {
+        note_slot(table, heads, same, others, slot as usize);
+        slot = next(&left, slot + 1);
     }
 }
 

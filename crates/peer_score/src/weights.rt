@@ -90,6 +90,9 @@ pub fn topics_at(
     ensures { λ r. ⌜ (r ≡ sumOf topicCount (shareAt (stateOf (now (table .entry))) slot)) × TopicsIn r ⌝ }
 {
     let mut sum = Balance { gain: 0, loss: 0 };
+    if layout::is_bare(table, slot) {
+        return sum;
+    }
     let mut t: usize = 0;
     while t < TOPICS {
         sum = sums::add(sum, share_at(table, w2, w3b, w4, t, slot));

@@ -1,34 +1,20 @@
--- `heartbeat::maintain_topic`: the scores and the view, the maintained mesh, its actions, the walk and the clock.
+-- `heartbeat::maintain_topic`: the meshes of the five steps, their actions, the walk and the clock.
 use borrow.Author.Needs.{needs}
-use Rattle.index.proofs.Kit.{refl, sym, ap, _∙_, arith}
-use Rattle.mesh.specs.declared.Degrees.{Degrees}
-use Rattle.mesh.specs.Maintenance.{meshes}
-use Rattle.mesh.specs.Words.{viewOf, meshesOf, changesIn}
-use Rattle.records.specs.Records.{slotCount}
+use Rattle.index.proofs.Kit.{refl, _∙_, arith}
+use Rattle.mesh.specs.Words.{meshesOf, changesIn}
+use Rattle.words.specs.Words.{bitsOf}
 use Rattle.layout.specs.View.{stateOf}
 use Rattle.layout.proofs.StateLaws.{sized-of}
 use Rattle.gate.proofs.StandingLaws.{sizes}
 use Rattle.heartbeat.specs.Tell.{idsIn, toldBy}
-use Rattle.heartbeat.proofs.SeenLaws.{scores-length}
+use Rattle.heartbeat.proofs.HeightLaws.{empty-filled}
 use Rattle.heartbeat.proofs.ReplyLaws.{Computed, writable, settles, maintained-gives}
 use Rattle.heartbeat.proofs.maintain_topic.Statement.{statement}
 use Rattle.heartbeat.proofs.maintain_topic.Tie as tie
 
-abbrev seen : tie.After-meshes → tie.After-view
-seen m = m .before .before .before .before
-
-abbrev scored : tie.After-view → tie.After-scores
-scored v = v .before .before .before
-
-abbrev start : tie.After-scores → tie.Start
-start h = h .before .before .before .before .before
-
-abbrev made : tie.After-changes → tie.After-meshes
-made k = k .before .before .before .before .before .before .before
-
 -- what the call began with
 abbrev begun : tie.After-changes → tie.Start
-begun k = start (scored (seen (made k)))
+begun k = k .before .before .before .before .before .before .before .before .before .before .before .before .before .before .before .before .before
 
 computed :
     (k : tie.After-changes) →
@@ -38,26 +24,30 @@ computed :
     (begun k .args .topic)
     (begun k .args .ask)
     (begun k .args .order .now)
-    (viewOf (seen (made k) .view .result) (scored (seen (made k)) .scores .result) (begun k .args .order .now))
-    (meshesOf (made k .meshes .result))
+    (bitsOf (k .before .before .before .before .before .before .members .result))
+    (meshesOf (k .before .before .before .before .before .before .before .before .before .stages .result))
     (changesIn (k .changes .result))
     (idsIn (stateOf (begun k .args .table .now)))
     (toldBy (stateOf (begun k .args .table .now)) (k .before .before .before .load-magnitude .result))
     (k .before .before .before .load-magnitude .result)
 computed k =
     record {
-      view = seen (made k) .view .ensures (begun k .args .order .now);
-      steps =
-          made k .meshes .ensures
-          ∙ ap
-          (λ (g : Degrees).
-          meshes slotCount g
-          (viewOf (seen (made k) .view .result) (scored (seen (made k)) .scores .result) (begun k .args .order .now)))
-          (made k .before .before .degrees .ensures);
+      was = k .before .before .before .before .before .before .members .ensures;
+      steps = k .before .before .before .before .before .before .before .before .before .stages .ensures .0;
       changes = k .changes .ensures;
       backoff = k .before .before .before .load-magnitude .ensures;
       id = refl;
       wait = refl;
+    }
+
+stages-requires : tie.Need-stages-requires
+stages-requires c κs =
+    let p = c .before .before .before .before .before .before .before .pre in
+    record {
+      standing = p .ready .standing;
+      topic = p .topic;
+      size = search needs;
+      empty = empty-filled _ _ (c .before .before .empty-height .ensures);
     }
 
 tell-all-requires : tie.Need-tell-all-requires
@@ -79,20 +69,16 @@ settle-requires : tie.Need-settle-requires
 settle-requires c κs =
     let k = c .before .before .before .before .before .before in
     let s = begun k .pre in
-    settles _ _ _ _ _ _ _ _ _ _ _ (computed k) _ _ refl (s .ready .standing) (s .topic) (c .before .before .end-after .ensures .0)
+    settles _ _ _ _ _ _ _ _ _ _ _ (computed k) _ _ refl (s .ready .standing) (s .topic) (c .before .before .end-after .ensures .0) _
+    (k .before .before .before .before .before .before .before .before .before .stages .ensures .1)
 
 store-clock-requires : tie.Need-store-clock-requires
-store-clock-requires c κs =
-    let w = c .before .before .before in
-    w .settle .kept .0 ∙ begun (w .before .before .before .before .before .before .before) .pre .ready .standing .size
+store-clock-requires c κs = c .before .before .before .settle .kept .0 ∙ c .before .before .before .before .before .before .before .before .before .before .before .before .before .before .before .before .before .before .before .before .before .before .before .before .before .before .before .pre .ready .standing .size
 
 returns : tie.Need-returns
 returns c =
-    let z = c .before .before in
-    let w = z .before .before .before .before in
-    let a = w .before .before .before .before .before .before in
-    maintained-gives _ _ _ _ _ _ _ _ _ _ _ (computed (a .before)) _ _ _ _ _ _ (sized-of _) (a .tell-all .ensures) (w .settle .ensures)
-    (z .store-clock .ensures .0)
+    maintained-gives _ _ _ _ _ _ _ _ _ _ _ (computed (c .before .before .before .before .before .before .before .before .before .before .before .before .before)) _ _ _ _ _ _ (sized-of _) (c .before .before .before .before .before .before .before .before .before .before .before .before .tell-all .ensures) (c .before .before .before .before .before .before .settle .ensures)
+    (c .before .before .store-clock .ensures .0)
 
 pub maintain-topic-spec : {M : Type 1} → statement M
 maintain-topic-spec =
@@ -100,23 +86,15 @@ maintain-topic-spec =
     (tie.spec
     (λ c κs. c .before .before .before .before .pre .ready .standing)
     (λ c. search needs)
-    (λ c κs. let h = c .before .before in
-    let s = start h .pre in
-    record { standing = s .ready .standing; topic = s .topic; scores = h .scores .ensures })
-    (λ c κs. c .before .before .before .before .before .before .before .before .before .pre .ready .standing)
-    (λ c. search needs)
-    (λ c κs. scores-length _ _ (c .before .before .before .before .before .before .scores .ensures))
-    (λ c κs. record {
-      size = c .before .before .before .before .before .before .before .before .before .before .before .before .before .before .before
-          .pre .ready .standing .size;
-      param = omega arith;
-    })
+    stages-requires
+    (λ c κs. let p = c .before .before .before .before .before .before .before .before .before .before .pre in record { size = p .ready .standing .size; topic = p .topic })
+    (λ c κs. record { size = c .before .before .before .before .before .before .before .before .before .before .before .before .before .pre .ready .standing .size; param = omega arith })
     (λ c κs. tt)
     tell-all-requires
     end-after-requires
-    (λ c. sym (scores-length _ _ (scored (seen (made (c .before .before .before .before .before .before))) .scores .ensures)))
+    (λ c. search needs)
     settle-requires
     store-clock-requires
-    (λ c. let z = c .before .before in z .store-clock .kept .0 ∙ z .before .before .before .before .settle .kept .0)
+    (λ c. c .before .before .store-clock .kept .0 ∙ c .before .before .before .before .before .before .settle .kept .0)
     (λ c. c .before .before .before .before .before .before .before .before .before .before .before .before .tell-all .kept .1 .0)
     returns)
