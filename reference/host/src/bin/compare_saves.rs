@@ -2,7 +2,6 @@
 //! `compare_saves [ROUTERS] [SEED]`.
 
 use host_compare::saves::{compare, Compared, Reached};
-#[cfg(not(saves))]
 use host_compare::UNLINKED;
 use reference::command;
 use reference::random::Random;
@@ -27,8 +26,9 @@ fn run(arguments: &[String]) -> Result<bool, String> {
     if arguments.len() > 2 {
         return Err(USAGE.to_string());
     }
-    #[cfg(not(saves))]
-    println!("compare_saves: {UNLINKED}; the second program is compared with itself");
+    if cfg!(not(saves)) {
+        return Err(UNLINKED.to_string());
+    }
     println!("seed {seed}");
     let mut reached = Reached::default();
     let compared = compare(&Tested, routers as usize, &mut Random::new(seed), &mut reached);
