@@ -206,8 +206,15 @@ impl<'a, L: Library> Sweep<'a, L> {
         }
         let mut changes = harmless::all(state, &self.table);
         changes.retain(|change| has_turn(change, place, state));
+        let ids = self.requests.iter().filter_map(|request| match request.event.call {
+            Call::Connect { id, .. } => Some(id),
+            _ => None,
+        });
+        changes.extend(ids.filter_map(|id| harmless::id_past_mark(id, &self.table)));
         for change in changes {
-            let found = self.harmless(&change, tables.harmless.is_multiple_of(THOROUGH));
+            let thorough =
+                change.kind == harmless::OWN_ID || tables.harmless.is_multiple_of(THOROUGH);
+            let found = self.harmless(&change, thorough);
             found.map_err(|found| failure(place, change.kind, &change.changes, *found))?;
             tables.harmless += 1;
         }
