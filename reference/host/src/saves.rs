@@ -345,16 +345,16 @@ impl<L: Saving> Sides<'_, L> {
         Ok(())
     }
 
-    /// Breaks the clock, the parameters or the edition, or all of them; gives what is due.
+    /// Breaks the clock, the parameters or the edition, one or more of them; gives what is due.
     fn spoil(&mut self, loading: &mut Loading) -> (u32, usize) {
-        let which = self.random.below(4);
+        let which = 1 + self.random.below(7);
         let mut due = (0, 0);
         // In the order of the tests, the last to be made first.
-        if matches!(which, 0 | 3) {
+        if which & 1 != 0 {
             loading.clock = *self.random.pick(&[LAST_TIME + 1, u64::MAX]);
             due = (2, 0);
         }
-        if matches!(which, 1 | 3) {
+        if which & 2 != 0 {
             let outside = self.random.chance(1, 2);
             let numbers = &mut loading.params.numbers;
             if outside {
@@ -366,7 +366,7 @@ impl<L: Saving> Sides<'_, L> {
             }
             due = (9, if outside { general::D_OUT } else { 200 });
         }
-        if matches!(which, 2 | 3) {
+        if which & 4 != 0 {
             loading.edition = *self.random.pick(&NO_EDITIONS);
             due = (2, 0);
         }
