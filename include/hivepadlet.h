@@ -50,13 +50,14 @@
  *
  * A call makes its tests in the order 12, 2, 8, 1, 6, 7, 3, 4, 5, 11, those that can concern it, and answers the first that
  * fails; hivepadlet_read in the order 10, 9; hivepadlet_write 2, 8, 9; hivepadlet_import 10, 9; hivepadlet_export 13, 9;
- * hivepadlet_fresh 2, 9; hivepadlet_from_old and hivepadlet_to_old 12; hivepadlet_names 2; hivepadlet_read_message 8, 10;
+ * hivepadlet_fresh 2, 9; hivepadlet_save 12, 2, 1, 13; hivepadlet_load 2 for the edition, 9 for the parameters, 2 for the clock, then
+ * as it says below; hivepadlet_from_old and hivepadlet_to_old 12; hivepadlet_names 2; hivepadlet_read_message 8, 10;
  * hivepadlet_write_message 2, 13.
  *
  * TIMES AND UNITS
  *
  * - Times are milliseconds, 0 to HIVEPADLET_MAX_TIME, of a clock of yours that never goes back (1). The router's clock is the
- *   time of the last call that answered 0 or 11; that of a fresh router is 0.
+ *   time of the last call that answered 0 or 11; that of a fresh router is 0, and that of a loaded one the clock of the load.
  * - Peer ids are yours: 1 to 4294967295, one for each peer, the same when the peer comes back. Topics are 0 to 7.
  * - A score, and each of its parts, is a whole number of 10^-9 points, never beyond 2.6 * 10^18 either way.
  *
@@ -94,6 +95,7 @@ extern "C" {
 #define HIVEPADLET_ACTION_NUMBERS 768   /* numbers of an action list: three for each slot */
 #define HIVEPADLET_PARAMETER_BYTES 737  /* bytes that written parameters may take (edition 1: 735) */
 #define HIVEPADLET_SUPPLIER_BYTES 1323  /* bytes of the other supplier's parameters */
+#define HIVEPADLET_SAVE_BYTES 43267     /* the longest save: 3 bytes, and 169 for each of 256 records */
 #define HIVEPADLET_SLOTS 256            /* peers that a router holds, and numbers of a permutation */
 #define HIVEPADLET_TOPICS 8
 #define HIVEPADLET_GROUPS 4             /* address groups that a peer may have */
@@ -124,8 +126,8 @@ enum hivepadlet_why {
 /* ---- the answers' numbers, and the value that goes with each */
 
 enum hivepadlet_answer {
-    HIVEPADLET_DONE = 0,              /* done; of a call the number of actions, of reading and writing the number of bytes, of
-                                         reading a message the number of entries */
+    HIVEPADLET_DONE = 0,              /* done; of a call the number of actions, of reading, writing and saving the number of
+                                         bytes, of reading a message the number of entries */
     HIVEPADLET_EARLY = 1,             /* the time is before the router's clock */
     HIVEPADLET_OUT_OF_RANGE = 2,      /* time, id, group, flags, topic, kind, ask or P5 outside its range; groups that are none,
                                          more than four, repeated or not in order; an edition other than 1 and 2; topic names
@@ -138,8 +140,9 @@ enum hivepadlet_answer {
     HIVEPADLET_LIST_SHORT = 8,        /* action list under 768 numbers; list of entries under 24,576; in writing parameters,
                                          buffer under 735 bytes, or 737 for edition 2 */
     HIVEPADLET_BROKEN = 9,            /* a parameter outside its limits, or a broken entry of the other supplier's: its index; or
-                                         a joint rule broken: 200 + the rule */
-    HIVEPADLET_MALFORMED = 10,        /* bytes that are no parameters: the place where the first bad number begins, also where
+                                         a joint rule broken: 200 + the rule. Of a save: the place where the edition, the count or
+                                         the first number outside its range begins */
+    HIVEPADLET_MALFORMED = 10,        /* bytes that are no parameters, or no save: the place where the first bad number begins, also where
                                          the bytes end inside it; or the first byte left over; or the length if the bytes end
                                          between numbers. Of the other supplier's parameters: their length, which is not 1323
                                          (a length beyond 4294967295 is told as that). Of a message: where the innermost broken
@@ -148,7 +151,7 @@ enum hivepadlet_answer {
                                          clock */
     HIVEPADLET_NOT_ROUTER = 12,       /* the table is no router's: damaged, or never made by hivepadlet_fresh */
     HIVEPADLET_NO_ROOM = 13           /* in writing a message, a buffer shorter than it; in exporting parameters, one under 1323
-                                         bytes */
+                                         bytes; in saving, one shorter than the save */
 };
 
 static inline unsigned hivepadlet_number(uint64_t r)
@@ -297,6 +300,33 @@ uint64_t hivepadlet_from_old(const uint64_t old[HIVEPADLET_OLD_CELLS], uint64_t 
 /* Fills a table of the old form, every number of it, from a table of today's. 0, or 12. What hivepadlet_from_old made of an old
  * table comes back number for number; a table that is turned and turned back is the same router. */
 uint64_t hivepadlet_to_old(const uint64_t table[HIVEPADLET_CELLS], uint64_t old[HIVEPADLET_OLD_CELLS]);
+
+/* Over a power cycle. A save is what the router remembers of its peers, in few bytes and free of the table's form, so that who was
+ * penalised in the evening is still so in the morning. For each peer it holds the id, the retain time that is left, P5 and P7,
+ * and for each topic the counters of P2, P3, P3b and P4 and the backoff that is left. A connected peer is saved as if it
+ * disconnected at that moment; one whose record may be given up by then is left out. It holds no parameters (write them beside
+ * it), no topic joined, no subscription, no mesh, no address group and no clock. Unlike a copy of the table, it may be loaded by
+ * another machine, at a clock that begins anew, by a later edition of this library, and with other parameters where its
+ * counters keep to their caps.
+ *
+ *     uint64_t r = hivepadlet_save(table, time, buffer, HIVEPADLET_SAVE_BYTES);     (keep buffer, hivepadlet_value(r) bytes)
+ *     ... the power goes, and comes back ...
+ *     r = hivepadlet_load(numbers, HIVEPADLET_EDITION_1, clock, buffer, length, table);
+ */
+
+/* Saves the records as they are at a time, to the start of a buffer; HIVEPADLET_SAVE_BYTES are always enough. The table is not
+ * changed, nor is its clock. 0 with the length; or 12, 2, 1; or 13 where the buffer is shorter than the save, and then nothing is
+ * written. The bytes past the save are unchanged. */
+uint64_t hivepadlet_save(const uint64_t table[HIVEPADLET_CELLS], uint64_t time, uint8_t *buffer, size_t length);
+
+/* Makes a router of a save, all of the bytes, with parameters and a clock of yours, whatever was in the table: nobody connected, no
+ * topic joined, and of each saved peer its record, with as much of its times left, counted from the clock. A save loads with the
+ * parameters of the router that it was saved of. 0; or, the first of these: 2 for a number that is no edition of parameters; 9 for
+ * the parameters, as in hivepadlet_fresh; 2 for the clock; 10 or 9 for the edition of the save (1 and 2 are known) and 10 or 9 for
+ * the count of records, each with its place; 10 for numbers that do not stand there, or bytes left over; 9 for the first number
+ * outside its range, or id that is not above the one before it. A load that refuses writes nothing. */
+uint64_t hivepadlet_load(const int64_t numbers[HIVEPADLET_NUMBERS], uint64_t edition, uint64_t clock, const uint8_t *bytes,
+                         size_t length, uint64_t table[HIVEPADLET_CELLS]);
 
 /* ---- what happens to peers */
 

@@ -3,6 +3,7 @@
 pub mod calls;
 pub mod messages;
 pub mod parameters;
+pub mod saving;
 pub mod supplier;
 pub mod turning;
 pub mod writing;
