@@ -131,10 +131,6 @@ module _ (st : State) (time : ℕ) where
   unfolding joins
   joins-one x = append-nil (savedRow st time (slotOf x))
 
-  pub rows-none : (keys : List ℕ) → rowsOf st time (take 0 keys) ≡ []
-  unfolding joins
-  rows-none keys = refl
-
   pub rows-more :
       (keys : List ℕ) (k : ℕ) → k < length keys → bytesOf (rowsOf st time (take (k + 1) keys))
       ≡ bytesOf (rowsOf st time (take k keys)) ++ bytesOf (savedRow st time (slotOf (getD keys k 0)))
