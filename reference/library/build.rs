@@ -3,7 +3,7 @@
 //! constants and the answers are there.
 
 /// Whether the library has hivepadlet_save and hivepadlet_load.
-const SAVES: bool = false;
+const SAVES: bool = true;
 
 fn main() {
     println!("cargo:rustc-check-cfg=cfg(linked)");
