@@ -157,9 +157,15 @@ fn shown(result: u64) -> String {
 }
 
 impl<L: Saving> Sides<'_, L> {
-    /// Made field by field; a few at the ends of all ranges, and one with nothing to save.
+    /// Made field by field, some that retain nobody; a few at the ends of all ranges, and one with nothing to
+    /// save.
     fn router(&mut self, place: usize) -> Router {
         match place {
+            _ if place % (2 * PARTED) == PARTED => {
+                let mut router = made::router(self.random);
+                router.params.numbers[general::RETAIN] = 0;
+                router
+            }
             0 => Router::new(Params::ordinary()).expect("the ordinary parameters are accepted"),
             1 | 2 => made::extreme(place == 1),
             _ => made::router(self.random),
