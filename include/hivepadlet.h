@@ -50,8 +50,8 @@
  *
  * A call makes its tests in the order 12, 2, 8, 1, 6, 7, 3, 4, 5, 11, those that can concern it, and answers the first that
  * fails; hivepadlet_read in the order 10, 9; hivepadlet_write 2, 8, 9; hivepadlet_import 10, 9; hivepadlet_export 13, 9;
- * hivepadlet_fresh 2, 9; hivepadlet_save 12, 2, 1, 13; hivepadlet_load 2 for the edition, 9 for the parameters, 2 for the clock, then
- * as it says below; hivepadlet_from_old and hivepadlet_to_old 12; hivepadlet_names 2; hivepadlet_read_message 8, 10;
+ * hivepadlet_fresh 2, 9; hivepadlet_save 12, 2, 1, 13; hivepadlet_load in the order that it tells below;
+ * hivepadlet_from_old and hivepadlet_to_old 12; hivepadlet_names 2; hivepadlet_read_message 8, 10;
  * hivepadlet_write_message 2, 13.
  *
  * TIMES AND UNITS
@@ -142,9 +142,9 @@ enum hivepadlet_answer {
     HIVEPADLET_BROKEN = 9,            /* a parameter outside its limits, or a broken entry of the other supplier's: its index; or
                                          a joint rule broken: 200 + the rule. Of a save: the place where the edition, the count or
                                          the first number outside its range begins */
-    HIVEPADLET_MALFORMED = 10,        /* bytes that are no parameters, or no save: the place where the first bad number begins, also where
-                                         the bytes end inside it; or the first byte left over; or the length if the bytes end
-                                         between numbers. Of the other supplier's parameters: their length, which is not 1323
+    HIVEPADLET_MALFORMED = 10,        /* bytes that are no parameters, or no save: the place where the first bad number begins,
+                                         also where the bytes end inside it; or the first byte left over; or the length if the
+                                         bytes end between numbers. Of the other supplier's parameters: their length, which is not 1323
                                          (a length beyond 4294967295 is told as that). Of a message: where the innermost broken
                                          field begins, the first from the front; 16384 where it is longer */
     HIVEPADLET_IGNORED = 11,          /* ignored: only the clock moved. In the place of an entry's topic: no topic of ours, and no
