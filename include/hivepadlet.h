@@ -149,7 +149,7 @@ enum hivepadlet_answer {
                                          field begins, the first from the front; 16384 where it is longer */
     HIVEPADLET_IGNORED = 11,          /* ignored: only the clock moved. In the place of an entry's topic: no topic of ours, and no
                                          clock */
-    HIVEPADLET_NOT_ROUTER = 12,       /* the table is no router's: damaged, or never made by hivepadlet_fresh */
+    HIVEPADLET_NOT_ROUTER = 12,       /* the table is no router's: damaged, or never made by a call */
     HIVEPADLET_NO_ROOM = 13           /* in writing a message, a buffer shorter than it; in exporting parameters, one under 1323
                                          bytes; in saving, one shorter than the save */
 };
