@@ -20,7 +20,8 @@ pub fn wanted() -> Vec<String> {
     wanted
 }
 
-const SAVES: [&str; 11] = [
+/// What a save can meet; the last is said of the buffer.
+pub const SAVES: [&str; 11] = [
     "no record",
     "over 64 records",
     "a connected peer",
@@ -178,7 +179,12 @@ fn parted(router: &Router, now: u64) -> Result<Vec<Peer>, String> {
 }
 
 /// "Every save loads with its sheet", with the records that disconnects would have left.
-fn check_saved(router: &Router, now: u64, bytes: &[u8], random: &mut Random) -> Result<(), String> {
+pub fn check_saved(
+    router: &Router,
+    now: u64,
+    bytes: &[u8],
+    random: &mut Random,
+) -> Result<(), String> {
     let clock = made::clock(random);
     let loaded = load(&router.params, router.set_up, clock, bytes);
     let loaded = loaded.map_err(|refusal| format!("a save was refused by {refusal:?}"))?;
@@ -211,7 +217,14 @@ fn moved(record: &Peer, now: u64, clock: u64) -> Peer {
 }
 
 fn count_save(router: &Router, now: u64, coverage: &mut GossipCoverage) {
-    let Ok(written) = parted(router, now) else { return };
+    for case in save_cases(router, now) {
+        coverage.count_case(&format!("save: {case}"));
+    }
+}
+
+/// The cases, but for those of the buffer, that the save of a moment is one of.
+pub fn save_cases(router: &Router, now: u64) -> Vec<&'static str> {
+    let Ok(written) = parted(router, now) else { return Vec::new() };
     let is_written = |peer: &Peer| written.iter().any(|other| other.id == peer.id);
     let any = |holds: &dyn Fn(&Peer) -> bool| router.peers.iter().any(holds);
     let connected = |peer: &Peer| peer.status == Status::Connected;
@@ -229,7 +242,5 @@ fn count_save(router: &Router, now: u64, coverage: &mut GossipCoverage) {
         ends().any(|end| end > now),
         now > router.clock,
     ];
-    for (case, _) in SAVES.iter().zip(facts).filter(|(_, holds)| *holds) {
-        coverage.count_case(&format!("save: {case}"));
-    }
+    SAVES.into_iter().zip(facts).filter(|(_, holds)| *holds).map(|(case, _)| case).collect()
 }

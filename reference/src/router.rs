@@ -83,7 +83,7 @@ impl Landed {
 
 /// The rules of a router for which nobody says otherwise. An order that lands is turned on
 /// here.
-pub const LANDED: Landed = Landed { version_12: false, ends_from_clock: false };
+pub const LANDED: Landed = Landed { version_12: false, ends_from_clock: true };
 
 #[derive(Clone, PartialEq, Eq, Debug)]
 pub struct Router {

@@ -14,6 +14,7 @@ mod count;
 mod messages;
 #[cfg(linked)]
 mod proved;
+mod saves;
 mod supplier;
 mod test_12;
 
@@ -126,6 +127,8 @@ fn print_all_times(rounds: usize) {
     messages::print_times(rounds);
     println!();
     supplier::print_times(rounds);
+    println!();
+    saves::print_times(rounds);
 }
 
 /// What the calls of one load take by one router: the mean by kind, and test 12 alone.

@@ -7,7 +7,7 @@ use std::hint::black_box;
 use std::time::Instant;
 
 /// Nanoseconds of the best round.
-fn best(rounds: usize, mut work: impl FnMut()) -> f64 {
+pub fn best(rounds: usize, mut work: impl FnMut()) -> f64 {
     let one = |_| {
         let start = Instant::now();
         work();

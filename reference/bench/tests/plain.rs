@@ -61,9 +61,13 @@ fn damage(router: &mut Router, random: &mut Random) {
         8 => peer.id = *random.pick(&[0, other]),
         9 => peer.p5 = *random.pick(&[0, 1_000_000_000, 1_000_000_001, -1_000_000_001]),
         10 => peer.p7 = counter,
-        11 => peer.retain_end = time.min((1 << 40) + 86_400_001),
+        11 => {
+            let ends = [time.min((1 << 40) + 86_400_001), clock + 86_400_000, clock + 86_400_001];
+            peer.retain_end = *random.pick(&ends);
+        }
         12 => {
-            peer.backoff_ends[3] = *random.pick(&[0, (1 << 40) + 3_600_000, (1 << 40) + 3_600_001])
+            let ends = [0, clock + 3_600_000, clock + 3_600_001, (1 << 40) + 3_600_001];
+            peer.backoff_ends[3] = *random.pick(&ends);
         }
         13 => peer.explicit ^= true,
         17 => {

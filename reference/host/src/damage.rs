@@ -7,7 +7,7 @@ use reference::event::{GROUPS, LAST_TIME, P5_LIMIT, SLOTS};
 use reference::params::{
     field_at, general, topic, topic_index, Edition, Params, COUNT, FIRST_RULE, TOPICS,
 };
-use reference::router::{Router, Status, TopicRecord};
+use reference::router::{Router, Status, TopicRecord, LONGEST_BACKOFF_MS, LONGEST_RETAIN_MS};
 
 /// Cells of a table, and what is put there.
 pub struct Change {
@@ -82,10 +82,12 @@ const EMPTY_NUMBERS: [&str; 9] = [
 /// The kind that tries no range's end.
 pub const LARGEST: &str = "any number: 2^64 - 1";
 
-const OTHERS: [&str; 51] = [
+const OTHERS: [&str; 55] = [
     LARGEST,
     "clock: past 2^40",
     "clock: under a member's graft and mesh time",
+    "clock: more than an hour before a backoff end",
+    "clock: more than a day before a retain end",
     "joined flag: 2",
     "joined flag: 0 with a member",
     "parameter: under its lower limit",
@@ -115,8 +117,10 @@ const OTHERS: [&str; 51] = [
     "P5: its lane full",
     "P7: past 10^6",
     "retain end: past its range",
+    "retain end: one past a day from the clock",
     "retain end: of a connected record",
     "backoff end: past its range",
+    "backoff end: one past an hour from the clock",
     "P2: past its cap",
     "P2: its lane full",
     "P3: past its cap",
@@ -196,6 +200,30 @@ pub fn all(router: &Router, table: &Cells, largest: bool) -> Vec<Change> {
     list.list
 }
 
+/// Numbers at the very end of their range from the clock (02, order 8): the table is a router's still.
+pub const AT_THE_END: [&str; 2] =
+    ["backoff end: an hour from the clock", "retain end: a day from the clock"];
+
+/// Every such change of the router's table.
+pub fn at_the_end(router: &Router) -> Vec<Change> {
+    let mut list = Vec::new();
+    let mut add = |kind: &'static str, cell: usize, value: u64| {
+        list.push(Change { kind, place: cell, changes: vec![(cell, value)] });
+    };
+    let [backoff, retain] = AT_THE_END;
+    for (slot, peer) in router.peers.iter().enumerate() {
+        if peer.status != Status::Empty {
+            for k in 0..TOPICS {
+                add(backoff, end_cell(slot, k), router.clock + LONGEST_BACKOFF_MS);
+            }
+        }
+        if peer.status == Status::Retained {
+            add(retain, RETAIN_END + slot, router.clock + LONGEST_RETAIN_MS);
+        }
+    }
+    list
+}
+
 struct Damages<'a> {
     router: &'a Router,
     table: &'a Cells,
@@ -235,6 +263,16 @@ impl Damages<'_> {
         let last = records.map(|record| record.graft_time + record.mesh_time).max().unwrap_or(0);
         if let Some(before) = last.checked_sub(1) {
             self.add("clock: under a member's graft and mesh time", &[(CLOCK, before)]);
+        }
+        let last = |ends: &mut dyn Iterator<Item = u64>| ends.max().unwrap_or(0);
+        let peers = &self.router.peers;
+        let backoff_end = last(&mut peers.iter().flat_map(|peer| peer.backoff_ends));
+        let retain_end = last(&mut peers.iter().map(|peer| peer.retain_end));
+        if let Some(clock) = backoff_end.checked_sub(LONGEST_BACKOFF_MS + 1) {
+            self.add("clock: more than an hour before a backoff end", &[(CLOCK, clock)]);
+        }
+        if let Some(clock) = retain_end.checked_sub(LONGEST_RETAIN_MS + 1) {
+            self.add("clock: more than a day before a retain end", &[(CLOCK, clock)]);
         }
     }
 
@@ -343,14 +381,18 @@ impl Damages<'_> {
         self.add("P5: its lane full", &[(cell, self.table[cell] | (P7_LANE - 1))]);
         self.add("P7: past 10^6", &[(cell, p5_p7(peer.p5, P4_P7_LIMIT + 1))]);
         if peer.status == Status::Retained {
-            let end = LAST_RETAIN_END + 1;
-            self.add("retain end: past its range", &[(RETAIN_END + slot, end)]);
+            let cell = RETAIN_END + slot;
+            self.add("retain end: past its range", &[(cell, LAST_RETAIN_END + 1)]);
+            let late = self.router.clock + LONGEST_RETAIN_MS + 1;
+            self.add("retain end: one past a day from the clock", &[(cell, late)]);
         } else {
             self.add("retain end: of a connected record", &[(RETAIN_END + slot, 1)]);
         }
         for k in 0..TOPICS {
-            let change = (end_cell(slot, k), LAST_BACKOFF_END + 1);
-            self.add("backoff end: past its range", &[change]);
+            let cell = end_cell(slot, k);
+            self.add("backoff end: past its range", &[(cell, LAST_BACKOFF_END + 1)]);
+            let late = self.router.clock + LONGEST_BACKOFF_MS + 1;
+            self.add("backoff end: one past an hour from the clock", &[(cell, late)]);
         }
     }
 

@@ -8,7 +8,7 @@ use reference::router::Router;
 
 pub const EVERY: &str = "every cell that no state reads";
 const HIGHER_MARK: &str = "a higher mark";
-const OWN_ID: &str = "an id of a record, past the mark";
+pub const OWN_ID: &str = "an id of a record, past the mark";
 
 const KINDS: [&str; 11] = [
     EVERY,
@@ -64,6 +64,12 @@ pub fn all(router: &Router, table: &Cells) -> Vec<Change> {
         list.push(change(OWN_ID, vec![(ID + slot, id)]));
     }
     list
+}
+
+/// An id right past the mark, if there is a slot.
+pub fn id_past_mark(id: u64, table: &Cells) -> Option<Change> {
+    let slot = used(table);
+    (slot < SLOTS).then(|| change(OWN_ID, vec![(ID + slot, id)]))
 }
 
 fn change(kind: &'static str, changes: Vec<(usize, u64)>) -> Change {

@@ -19,6 +19,7 @@ pub mod report;
 pub mod request;
 pub mod rows;
 pub mod runs;
+pub mod saves;
 pub mod spot;
 pub mod stand_in;
 pub mod swept;

@@ -30,3 +30,19 @@ pub trait Library {
     fn turn_rows(&self, rows: &Rows, table: &mut Cells) -> u64;
     fn turn_table(&self, table: &Cells, rows: &mut Rows) -> u64;
 }
+
+/// Its functions that remember records across a power cycle (02, order 8).
+pub trait Saving {
+    /// 0 with the length, 12, 2, 1, or 13.
+    fn save(&self, table: &Cells, time: u64, buffer: &mut [u8]) -> u64;
+
+    /// 0, 2, 9 with the index, rule or place, or 10 with the place.
+    fn load(
+        &self,
+        numbers: &Numbers,
+        edition: u64,
+        clock: u64,
+        bytes: &[u8],
+        table: &mut Cells,
+    ) -> u64;
+}

@@ -1,6 +1,8 @@
 //! The proved library, libhost.a.
 
 use crate::cells::Cells;
+#[cfg(saves)]
+use crate::library::Saving;
 use crate::library::{Library, Numbers, Why};
 use crate::request::Request;
 use crate::rows::Rows;
@@ -75,5 +77,23 @@ impl Library for Linked {
 
     fn turn_table(&self, table: &Cells, rows: &mut Rows) -> u64 {
         hivepadlet::forms::to_old(table, rows)
+    }
+}
+
+#[cfg(saves)]
+impl Saving for Linked {
+    fn save(&self, table: &Cells, time: u64, buffer: &mut [u8]) -> u64 {
+        hivepadlet::saves::save(table, time, buffer)
+    }
+
+    fn load(
+        &self,
+        numbers: &Numbers,
+        edition: u64,
+        clock: u64,
+        bytes: &[u8],
+        table: &mut Cells,
+    ) -> u64 {
+        hivepadlet::saves::load(numbers, edition, clock, bytes, table)
     }
 }

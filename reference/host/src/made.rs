@@ -6,13 +6,15 @@ use reference::generate::calls::Scene;
 use reference::generate::{params as generate_params, traces};
 use reference::params::{field_at, general, topic, topic_index, Params, TOPICS};
 use reference::random::Random;
-use reference::router::{Groups, Peer, Router, Status, TopicRecord, Version};
+use reference::router::{
+    Groups, Peer, Router, Status, TopicRecord, Version, LONGEST_BACKOFF_MS, LONGEST_RETAIN_MS,
+};
 use reference::trace::TraceEdition;
 
 pub const P4_P7_LIMIT: i64 = 1_000_000;
 pub const P3B_LIMIT: i64 = 1_000_000_000_000;
-pub const LAST_BACKOFF_END: u64 = LAST_TIME + 3_600_000;
-pub const LAST_RETAIN_END: u64 = LAST_TIME + 86_400_000;
+pub const LAST_BACKOFF_END: u64 = LAST_TIME + LONGEST_BACKOFF_MS;
+pub const LAST_RETAIN_END: u64 = LAST_TIME + LONGEST_RETAIN_MS;
 
 /// A random router of this kind.
 pub fn router(random: &mut Random) -> Router {
@@ -101,13 +103,13 @@ fn peer(router: &Router, id: u32, groups: u64, retained: usize, random: &mut Ran
         version: *random.pick(&[Version::V10, Version::V11]),
         p5: p5(random),
         p7: counter(P4_P7_LIMIT, random),
-        retain_end: if retained { end(router.clock, LAST_RETAIN_END, random) } else { 0 },
+        retain_end: if retained { end(router.clock, LONGEST_RETAIN_MS, random) } else { 0 },
         ..Peer::default()
     };
     let running = random.chance(1, 2);
     for end_of_topic in &mut peer.backoff_ends {
-        let limit = if running { LAST_BACKOFF_END } else { router.clock };
-        *end_of_topic = end(router.clock, limit, random);
+        let longest = if running { LONGEST_BACKOFF_MS } else { 0 };
+        *end_of_topic = end(router.clock, longest, random);
     }
     for k in 0..TOPICS {
         peer.topics[k] = record(router, &peer, k, random);
@@ -142,14 +144,17 @@ fn counter(limit: i64, random: &mut Random) -> i64 {
     }
 }
 
-/// Over, running, or as late as can be; under 1000, where no call leaves an end, as well.
-fn end(clock: u64, limit: u64, random: &mut Random) -> u64 {
-    match random.below(6) {
+/// Over, running, or as late as can be, `longest` after the clock; under 1000, where no call leaves an end,
+/// as well.
+fn end(clock: u64, longest: u64, random: &mut Random) -> u64 {
+    let limit = clock + longest;
+    match random.below(7) {
         0 => 0,
         1 => limit,
         2 => clock.min(limit),
         3 => limit.min(clock + random.below(60_000) as u64),
         4 => limit.min(1 + random.below(999) as u64),
+        5 => clock + random.bits() % (longest + 1),
         _ => random.bits() % (limit + 1),
     }
 }

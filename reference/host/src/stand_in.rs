@@ -2,11 +2,13 @@
 //! where there is no libhost.a, and its tests set faults into it.
 
 use crate::cells::{self, Cells};
-use crate::library::{packed, Library, Numbers, Why};
+use crate::library::{packed, Library, Numbers, Saving, Why};
 use crate::request::Request;
 use crate::rows::{self, Rows};
 use reference::params::{self, Params};
 use reference::router::{number, Answer, Done, Refusal, Router};
+use reference::saves;
+use reference::set_up::SetUp;
 
 pub struct StandIn;
 
@@ -96,6 +98,38 @@ impl Library for StandIn {
                 packed(0, 0)
             }
             None => code(&Err(Refusal::NotARouter)),
+        }
+    }
+}
+
+impl Saving for StandIn {
+    fn save(&self, table: &Cells, time: u64, buffer: &mut [u8]) -> u64 {
+        let Some(router) = cells::router_of(table) else {
+            return code(&Err(Refusal::NotARouter));
+        };
+        match router.save(time, buffer) {
+            Ok(length) => packed(0, length),
+            Err(refusal) => code(&Err(refusal)),
+        }
+    }
+
+    fn load(
+        &self,
+        numbers: &Numbers,
+        edition: u64,
+        clock: u64,
+        bytes: &[u8],
+        table: &mut Cells,
+    ) -> u64 {
+        let Some(edition) = cells::edition_of(edition) else { return OUT_OF_RANGE };
+        let params = Params { edition, numbers: *numbers };
+        match saves::load(&params, SetUp::ORDINARY, clock, bytes) {
+            Ok(router) => {
+                table[cells::USED] = 0;
+                cells::write(&router, table);
+                packed(0, 0)
+            }
+            Err(refusal) => code_of_refusal(refusal),
         }
     }
 }

@@ -1,7 +1,7 @@
 //! Damaged tables on both sides: those that are no router's are refused by every call, cells that no state
 //! reads may hold anything, and cells changed at random are judged alike.
 
-use crate::cells::{self, Cells, Field, Spot, CELLS, USED};
+use crate::cells::{self, Cells, Field, Spot, CELLS, CLOCK, USED};
 use crate::counts::Counts;
 use crate::damage::{self, Change};
 use crate::harmless;
@@ -73,12 +73,12 @@ pub fn compare<L: Library>(
     Ok(tables)
 }
 
-/// Whether a change has its turn in a state. Joint rules, the mark and all unread cells at once are few, and
-/// have it in every state; so have the times of a state in which each is read.
+/// Whether a change has its turn in a state. Joint rules, the mark, the clock and all unread cells at once are
+/// few, and have it in every state; so have the times of a state in which each is read.
 fn has_turn(change: &Change, state: usize, router: &Router) -> bool {
     let in_turn = |stride: usize| change.place % stride == state % stride;
     let few = damage::RULES.contains(&change.kind)
-        || change.changes[0].0 == USED
+        || matches!(change.changes[0].0, USED | CLOCK)
         || change.kind == harmless::EVERY;
     let slot = if change.place >= CELLS {
         Some((change.place - CELLS) % SLOTS)
@@ -112,8 +112,13 @@ pub fn wanted() -> impl Iterator<Item = String> {
     let refused = read().map(|region| changed(region, false));
     let regions = REGIONS.into_iter().map(|region| changed(region, true)).chain(refused);
     let answers = [0, 3, 5, 11].map(answered);
+    let regions = regions.chain(damage::AT_THE_END.into_iter().map(taken));
     let damaged = damaged.chain(harmless).chain(read().map(damaged_region));
     damaged.chain(regions).chain(answers).chain([EVERY_PLACE.to_string()])
+}
+
+fn taken(kind: &str) -> String {
+    format!("taken {kind}")
 }
 
 fn harmless_name(kind: &str) -> String {
@@ -192,10 +197,24 @@ impl<'a, L: Library> Sweep<'a, L> {
             tables.damaged += 1;
             seen[change.place] |= change.changes.len() == 1 && change.kind != damage::LARGEST;
         }
+        let mut ends = damage::at_the_end(state);
+        ends.retain(|change| has_turn(change, place, state));
+        for change in ends {
+            let found = self.at_the_end(&change);
+            found.map_err(|found| failure(place, change.kind, &change.changes, *found))?;
+            tables.changed += 1;
+        }
         let mut changes = harmless::all(state, &self.table);
         changes.retain(|change| has_turn(change, place, state));
+        let ids = self.requests.iter().filter_map(|request| match request.event.call {
+            Call::Connect { id, .. } => Some(id),
+            _ => None,
+        });
+        changes.extend(ids.filter_map(|id| harmless::id_past_mark(id, &self.table)));
         for change in changes {
-            let found = self.harmless(&change, tables.harmless.is_multiple_of(THOROUGH));
+            let thorough =
+                change.kind == harmless::OWN_ID || tables.harmless.is_multiple_of(THOROUGH);
+            let found = self.harmless(&change, thorough);
             found.map_err(|found| failure(place, change.kind, &change.changes, *found))?;
             tables.harmless += 1;
         }
@@ -237,6 +256,25 @@ impl<'a, L: Library> Sweep<'a, L> {
         }
         self.counts.count(format!("damaged {}", damage.kind));
         self.counts.count(damaged_region(Spot::of(damage.changes[0].0).region()));
+        Ok(())
+    }
+
+    /// The table with a number at the end of its range is a router's by both, and a few calls are answered alike.
+    fn at_the_end(&mut self, change: &Change) -> Result<(), Found> {
+        let (_, router) =
+            self.agree(&change.changes).map_err(|difference| Box::new((None, difference)))?;
+        let Some(router) = router.filter(Router::is_valid) else {
+            let told = "both sides refuse the table".to_string();
+            return Err(Box::new((None, Difference(vec![told]))));
+        };
+        let table = self.changed(&change.changes);
+        for request in self.some_requests(false) {
+            self.pair.load(&table);
+            if let Err(difference) = self.pair.make(&mut router.clone(), &request) {
+                return Err(Box::new((Some(request), difference)));
+            }
+        }
+        self.counts.count(taken(change.kind));
         Ok(())
     }
 

@@ -27,6 +27,8 @@ mod linked;
 #[cfg(linked)]
 pub mod messages;
 pub mod rows;
+#[cfg(saves)]
+pub mod saves;
 #[cfg(linked)]
 pub mod supplier;
 
@@ -52,6 +54,9 @@ pub const PARAMETER_BYTES: usize = 737;
 /// The editions of the parameters.
 pub const EDITION_1: u64 = 1;
 pub const EDITION_2: u64 = 2;
+
+/// Bytes that a save may take.
+pub const SAVE_BYTES: usize = 3 + SLOTS * (17 + TOPICS * 19);
 
 /// Bytes of the topics' names: for each topic a length, 0 for no name, and 64 bytes.
 pub const NAMES_BYTES: usize = TOPICS * 65;

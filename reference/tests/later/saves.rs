@@ -321,9 +321,6 @@ fn test_12_counts_from_the_clock() {
     assert_eq!(host.damaged(|router| router.peers[1].retain_end = 86_401_000), 0);
     assert_eq!(host.damaged(|router| router.peers[1].retain_end = 86_401_001), 12);
     assert_eq!(host.damaged(|router| router.peers[1].retain_end = 0), 0, "before the clock");
-    let mut old = Router { landed: reference::router::LANDED, ..host.router.clone() };
-    old.peers[1].retain_end = 86_401_001;
-    assert!(old.is_valid(), "until the order lands");
 }
 
 // "Saving what was loaded, at the load's time, gives the same bytes if no record was

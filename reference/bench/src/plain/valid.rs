@@ -9,8 +9,8 @@ use reference::params::{
 
 const P4_P7_LIMIT: u32 = 1_000_000;
 const P3B_LIMIT: u64 = 1_000_000_000_000;
-const LAST_BACKOFF_END: u64 = LAST_TIME + 3_600_000;
-const LAST_RETAIN_END: u64 = LAST_TIME + 86_400_000;
+const LONGEST_BACKOFF_MS: u64 = 3_600_000;
+const LONGEST_RETAIN_MS: u64 = 86_400_000;
 
 /// The limits of all 147 numbers, laid out as the numbers are.
 const LIMITS: ([i32; COUNT], [i32; COUNT]) = limits();
@@ -115,7 +115,7 @@ impl Router {
 
     fn peer_valid(&self, peer: &Peer) -> bool {
         let connected = peer.status == Status::Connected;
-        let retain_limit = if connected { 0 } else { LAST_RETAIN_END };
+        let retain_limit = if connected { 0 } else { self.clock + LONGEST_RETAIN_MS };
         let may_subscribe = if connected { u8::MAX } else { 0 };
         let may_enter = if peer.explicit { 0 } else { peer.topics.subscribed & self.joined };
         (peer.id != 0)
@@ -125,7 +125,7 @@ impl Router {
             & (peer.retain_end <= retain_limit)
             & (peer.topics.subscribed & !may_subscribe == 0)
             & (peer.topics.member & !may_enter == 0)
-            && within(&peer.backoff_ends, &[LAST_BACKOFF_END; TOPICS])
+            && within(&peer.backoff_ends, &[self.clock + LONGEST_BACKOFF_MS; TOPICS])
     }
 
     /// Counters and times; a member is subscribed and so connected. A branch after
