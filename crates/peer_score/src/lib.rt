@@ -98,14 +98,15 @@ fn shares(table: &[u64], group: u64, slot: usize) -> u64
     if (status == 1) & holds { 1 } else { 0 }
 }
 
-// How many connected peers hold the group.
+// How many connected peers hold the group. No slot from where the records end on has one.
 fn sharing_of(table: &[u64], group: u64) -> u64
     requires { ⌜ length (now table) ≡ cellCount ⌝ }
     ensures { λ r. ⌜ r ≡ sharing (stateOf (now (table .entry))) group ⌝ }
 {
+    let end = layout::records_end(table);
     let mut n: u64 = 0;
     let mut slot: usize = 0;
-    while slot < SLOTS {
+    while slot < end {
         n += shares(table, group, slot);
         slot += 1;
     }
