@@ -22,7 +22,6 @@ use crate::weights::weights;
 use effects::slots::load_magnitude;
 use records::Groups;
 use records::Peer;
-use records::SLOTS;
 use records::TopicRecord;
 use records::param;
 use score::Balance;
