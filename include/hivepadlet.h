@@ -14,7 +14,7 @@
  *     uint64_t r = hivepadlet_join(table, time, 0, actions, HIVEPADLET_ACTION_NUMBERS);
  *     if (hivepadlet_number(r) == HIVEPADLET_DONE) ...
  *
- * examples/three_hubs.c is a whole host.
+ * examples/three_hubs.c is a whole host; examples/power_cycle.c keeps what it remembers over a loss of power.
  *
  * WHAT EVERY CALL PROMISES
  *
@@ -35,8 +35,8 @@
  * - The action list is HIVEPADLET_ACTION_NUMBERS numbers of 32 bits, or more; under that, a call refuses (8). A call writes its
  *   actions from the start of the list and leaves the numbers past them as they were. One list may serve all calls.
  * - Lengths count elements, not bytes.
- * - The stack: most calls take some 3 KiB, hivepadlet_to_old 4 KiB, hivepadlet_leave, _fresh, _read and _write up to 7 KiB,
- *   hivepadlet_heartbeat 11 KiB, as measured by tests/host_stack.c and not proved. No input makes it grow: no function calls
+ * - The stack: most calls take some 3 KiB, hivepadlet_to_old 4 KiB, hivepadlet_leave, _fresh, _save, _load, _read and _write up to
+ *   7 KiB, hivepadlet_heartbeat 11 KiB, as measured by tests/host_stack.c and not proved. No input makes it grow: no function calls
  *   itself but the reader and the writer of one parameter, ten deep at most.
  *
  * What C cannot check is up to you: a pointer is aligned, is not NULL (also where its length is 0), points to as much memory
@@ -50,8 +50,8 @@
  *
  * A call makes its tests in the order 12, 2, 8, 1, 6, 7, 3, 4, 5, 11, those that can concern it, and answers the first that
  * fails; hivepadlet_read in the order 10, 9; hivepadlet_write 2, 8, 9; hivepadlet_import 10, 9; hivepadlet_export 13, 9;
- * hivepadlet_fresh 2, 9; hivepadlet_save 12, 2, 1, 13; hivepadlet_load 2 for the edition, 9 for the parameters, 2 for the clock, then
- * as it says below; hivepadlet_from_old and hivepadlet_to_old 12; hivepadlet_names 2; hivepadlet_read_message 8, 10;
+ * hivepadlet_fresh 2, 9; hivepadlet_save 12, 2, 1, 13; hivepadlet_load in the order that it tells below;
+ * hivepadlet_from_old and hivepadlet_to_old 12; hivepadlet_names 2; hivepadlet_read_message 8, 10;
  * hivepadlet_write_message 2, 13.
  *
  * TIMES AND UNITS
@@ -142,14 +142,14 @@ enum hivepadlet_answer {
     HIVEPADLET_BROKEN = 9,            /* a parameter outside its limits, or a broken entry of the other supplier's: its index; or
                                          a joint rule broken: 200 + the rule. Of a save: the place where the edition, the count or
                                          the first number outside its range begins */
-    HIVEPADLET_MALFORMED = 10,        /* bytes that are no parameters, or no save: the place where the first bad number begins, also where
-                                         the bytes end inside it; or the first byte left over; or the length if the bytes end
-                                         between numbers. Of the other supplier's parameters: their length, which is not 1323
+    HIVEPADLET_MALFORMED = 10,        /* bytes that are no parameters, or no save: the place where the first bad number begins,
+                                         also where the bytes end inside it; or the first byte left over; or the length if the
+                                         bytes end between numbers. Of the other supplier's parameters: their length, which is not 1323
                                          (a length beyond 4294967295 is told as that). Of a message: where the innermost broken
                                          field begins, the first from the front; 16384 where it is longer */
     HIVEPADLET_IGNORED = 11,          /* ignored: only the clock moved. In the place of an entry's topic: no topic of ours, and no
                                          clock */
-    HIVEPADLET_NOT_ROUTER = 12,       /* the table is no router's: damaged, or never made by hivepadlet_fresh */
+    HIVEPADLET_NOT_ROUTER = 12,       /* the table is no router's: damaged, or never made by a call */
     HIVEPADLET_NO_ROOM = 13           /* in writing a message, a buffer shorter than it; in exporting parameters, one under 1323
                                          bytes; in saving, one shorter than the save */
 };

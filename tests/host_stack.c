@@ -15,6 +15,7 @@ enum { SIZE = 1 << 18, MOST = 1 << 14, MARK = 0xa5, PEERS = HIVEPADLET_SLOTS - 1
 static _Alignas(64) uint8_t stack[SIZE];
 static ucontext_t home, there;
 static uint64_t table[HIVEPADLET_CELLS], fresh_table[HIVEPADLET_CELLS], old_table[HIVEPADLET_OLD_CELLS];
+static uint8_t save[HIVEPADLET_SAVE_BYTES];
 static uint32_t actions[HIVEPADLET_ACTION_NUMBERS];
 static int64_t numbers[HIVEPADLET_NUMBERS], why[HIVEPADLET_WHY_NUMBERS];
 static uint64_t edition;
@@ -56,6 +57,11 @@ static void leave(void) { answer = hivepadlet_leave(table, 1, 0, LIST); }
 static void is_router(void) { answer = hivepadlet_is_router(table) ? 0 : HIVEPADLET_NOT_ROUTER; }
 static void to_old(void) { answer = hivepadlet_to_old(table, old_table); }
 static void from_old(void) { answer = hivepadlet_from_old(old_table, fresh_table); }
+static void saved(void) { answer = hivepadlet_save(table, 2, save, sizeof save); }
+static void loaded(void)
+{
+    answer = hivepadlet_load(numbers, HIVEPADLET_EDITION_1, 0, save, hivepadlet_value(answer), fresh_table);
+}
 static void fresh(void) { answer = hivepadlet_fresh(numbers, HIVEPADLET_EDITION_2, fresh_table); }
 static void written(void) { answer = hivepadlet_write(numbers, HIVEPADLET_EDITION_2, bytes, sizeof bytes); }
 static void exported(void) { answer = hivepadlet_export(numbers, theirs, sizeof theirs); }
@@ -94,6 +100,8 @@ static const struct {
     {"test 12", is_router},
     {"into the old form", to_old},
     {"out of the old form", from_old},
+    {"a save", saved},
+    {"a load", loaded},
     {"a fresh router", fresh},
     {"parameters written", written},
     {"parameters read", read_back},

@@ -9,7 +9,7 @@ use Rattle.records.specs.Records.{State}
 use Rattle.layout.specs.View.{stateOf}
 use Rattle.effects.specs.Actions.{numbersOf}
 use Rattle.rules.specs.Step.{step}
-use Rattle.call_lists.specs.Lists.{Start, Loaded, after}
+use Rattle.call_lists.specs.Lists.{Start, after}
 use Rattle.call_lists.specs.Demand3.{Accepted}
 use Rattle.call_lists.specs.Played.{Opened, made-fresh, read-back, Called, made, Played, SameReplies, ProgramAgrees}
 use Rattle.call_lists.proofs.Demand3.{demand3}

@@ -19,8 +19,7 @@ use Rattle.params.specs.declared.Params.{Params}
 use Rattle.params.specs.Check.{firstBroken}
 use Rattle.limits.specs.Limits.{at}
 use Rattle.records.specs.declared.Peer.{Peer}
-use Rattle.records.specs.declared.TopicRecord.{TopicRecord}
-use Rattle.records.specs.Records.{paramCount, State, slotCount, noPeer, noTopic, place, codeIn, peerIn, topicIn}
+use Rattle.records.specs.Records.{paramCount, State, slotCount, noPeer, noTopic, place, codeIn, peerIn}
 use Rattle.layout.specs.View.{Sized, placeCount}
 use Rattle.validity.specs.Valid.{valid}
 use Rattle.lookup.specs.Fresh.{setupOf, freshState}
@@ -28,7 +27,7 @@ use Rattle.validity.proofs.ValidLaws.{valid-facts}
 use Rattle.lookup.proofs.FreshLaws.{fresh-valid}
 use Rattle.effects.specs.Effects.{isMember}
 use Rattle.saves.proofs.Promised.{router}
-use Rattle.call_lists.specs.Lists.{Start, Loaded, Begins, from-fresh, from-load}
+use Rattle.call_lists.specs.Lists.{Start, Begins, from-fresh, from-load}
 use Rattle.call_lists.specs.Demand3.{Accepted, dHi}
 use Rattle.call_lists.proofs.Fewer.{Fewer}
 

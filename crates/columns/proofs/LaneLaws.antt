@@ -1,10 +1,10 @@
--- One cell: the free bits of a number and of its sum with the room of a limit tell that it is within the limit, lane by lane. A sum that keeps
--- the free bits clear is a sum in each lane.
+-- One cell: the free bits of a number and of its sum with the room of a limit tell that it is within the limit, lane by lane. A sum that
+-- keeps the free bits clear is a sum in each lane.
 -- Assumes nothing.
-use Prim.Native.Nat.{ℕ, _+_, _*_, _-_, _/_, _%_, _^_, _≤_, _<_}
+use Prim.Native.Nat.{ℕ, _+_, _*_, _/_, _%_, _^_, _≤_, _<_}
 use native.Mathlib.Nat.{mod-eq-of-lt}
 use native.Mathlib.Omega.{arith}
-use mathlib.Core.Path.{_≡_, refl, ap, _∙_}
+use mathlib.Core.Path.{_≡_, ap, _∙_}
 use lib.Bits.{bitOr, or-shr, or-mod}
 use Rattle.columns.specs.Gather.{cellTop, laneTop, halfTop, room, halvesRoom, lanesRoom, Halves, Lanes}
 use Rattle.columns.proofs.GatherLaws.{in-left, in-right}

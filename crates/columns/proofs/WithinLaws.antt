@@ -20,7 +20,8 @@ use Rattle.columns.specs.Within.{InUse, PeersWithin, Named, OneGroup, No
 use Rattle.columns.proofs.GatherLaws.{in-left, in-right, gathered-each}
 use Rattle.columns.proofs.LaneLaws.{low-left, low-right, zero-left, zero-right, halves-left, halves-right, lanes-left, lanes-right}
 use Rattle.columns.proofs.LaneLaws.{low-limit, low-one, halves-limit, lanes-limit}
-use Rattle.columns.proofs.CellLaws.{id-cell, first-cell, second-cell, third-cell, fourth-cell, p5-cell, p7-cell, retain-cell, end-cell}
+use Rattle.columns.proofs.CellLaws.{id-cell, first-cell, second-cell, third-cell, fourth-cell, p5-cell, p7-cell, retain-cell}
+use Rattle.columns.proofs.CellLaws.{end-cell}
 use Rattle.columns.proofs.CellLaws.{p2-cell, p3-cell, p4-cell, p3b-cell}
 
 -- ---- the tests of free bits, and the rooms

@@ -8,11 +8,10 @@ use mathlib.Core.List.{List}
 use lib.ListN.{length, getD, set, length-set, replicate, getD-replicate}
 use lib.Seq.{getD-set-same, getD-set-other}
 use lib.Dec.{eqb}
-use borrow.Author.Tests.{eqb-true, eq-eqb}
+use borrow.Author.Tests.{eq-eqb}
 use Rattle.index.proofs.Flags.{by-order}
 use Rattle.records.specs.Records.{State, slotCount, peerIn}
-use Rattle.layout.specs.View.{stateOf, bitAt}
-use Rattle.validity.specs.Valid.{valid}
+use Rattle.layout.specs.View.{bitAt}
 use Rattle.words.specs.Words.{bitsOf, Next}
 use Rattle.sets.specs.Sets.{at, bySlot, except, from, both}
 use Rattle.sets.proofs.WalkLaws.{except-at}
@@ -137,7 +136,8 @@ module _ (st : State) (c r : List ℕ) (m : List Bool) (zc : length c ≡ 4) (zr
 
 -- ---- a still mesh
 pub still-stages :
-    (st : State) (time t ask : ℕ) (order : List ℕ) (heights : List ℕ) (members goods first outbound : List Bool) (d : Degrees) (m : Meshes) →
+    (st : State) (time t ask : ℕ) (order : List ℕ) (heights : List ℕ) (members goods first outbound : List Bool) (d : Degrees)
+    (m : Meshes) →
     members ≡ bySlot slotCount (isMember st t) →
     length heights ≡ slotCount →
     HeightsOn st members heights →
@@ -171,7 +171,8 @@ unfolding meshesIn
 stages-are st time t ask order m d v e ed ev = e ∙ ap₂ (meshes slotCount) ed ev
 
 -- the scores of empty slots stay, or are taken again
-pub empty-kept : (st : State) (m : List Bool) (before after : List ℕ) → Taken st m before after → EmptyHeights st before → EmptyHeights st after
+pub empty-kept : (st : State) (m : List Bool) (before after : List ℕ) → Taken st m before after → EmptyHeights st before →
+    EmptyHeights st after
 empty-kept st m before after t e s h z =
     by-flag (getD after s 0 ≡ heightIn st s) (at m s) (λ f. t .taken s h f) (λ f. t .kept s f ∙ e s h z)
 

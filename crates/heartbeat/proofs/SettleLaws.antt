@@ -173,7 +173,8 @@ module _
           size = l ∙ now .size;
           state =
               iter-more (settleSlot st time t mesh) st i (stateOf table) (stateOf table′) (now .state)
-              (e ∙ as-settled st (stateOf table) t time end i mesh was stays negative (ew ∙ as-was) es (λ q. en ∙ as-negative (sym ew ∙ q)) as-params
+              (e ∙ as-settled st (stateOf table) t time end i mesh was stays negative (ew ∙ as-was) es (λ q. en ∙ as-negative (sym ew ∙ q))
+              as-params
               (walk .backoff));
         }
 

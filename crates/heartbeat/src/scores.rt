@@ -1,5 +1,5 @@
-// The scores of a set of slots, as at the call's start. The connected peers are counted by group once, in buckets, so that no two peers need
-// be compared; the topics' weights are multiplied out once; empty slots share one score.
+// The scores of a set of slots, as at the call's start. The connected peers are counted by group once, in buckets, so that no two peers
+// need be compared; the topics' weights are multiplied out once; empty slots share one score.
 ghost use mathlib.Core.Path.{_≡_};
 ghost use Prim.Native.Nat.{ℕ, _<_};
 ghost use Rattle.records.specs.Records.{slotCount, peerIn};

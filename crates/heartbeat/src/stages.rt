@@ -38,7 +38,8 @@ fn all_stages(
 ) -> Stages
     requires { ⌜ Partial (now table) (now heads) (now same) (now others) topic (now heights) ⌝ }
     ensures { λ r. ⌜ (meshesOf r ≡ meshesIn (stateOf (now (table .entry))) time topic ask (now (order .entry)))
-        × HeightsOn (stateOf (now (table .entry))) (bySlot slotCount (isMember (stateOf (now (table .entry))) topic)) (now (heights .exit)) ⌝ }
+        × HeightsOn (stateOf (now (table .entry))) (bySlot slotCount (isMember (stateOf (now (table .entry))) topic))
+        (now (heights .exit)) ⌝ }
 {
     score_others(table, heads, same, others, topic, heights);
     let v = view(table, time, topic, ask, heights);
@@ -56,7 +57,8 @@ pub fn stages(
 ) -> Stages
     requires { ⌜ Unscored (now table) topic (now heights) ⌝ }
     ensures { λ r. ⌜ (meshesOf r ≡ meshesIn (stateOf (now (table .entry))) time topic ask (now (order .entry)))
-        × HeightsOn (stateOf (now (table .entry))) (bySlot slotCount (isMember (stateOf (now (table .entry))) topic)) (now (heights .exit)) ⌝ }
+        × HeightsOn (stateOf (now (table .entry))) (bySlot slotCount (isMember (stateOf (now (table .entry))) topic))
+        (now (heights .exit)) ⌝ }
 {
     let mut heads: [u32; BUCKETS] = [0; BUCKETS];
     let mut same: [u16; BUCKETS] = [0; BUCKETS];

@@ -1,10 +1,10 @@
 -- How far a load can read: no number takes more than ten bytes, and so the value that goes with its answer is small.
 -- Assumes nothing.
-use Prim.Native.Nat.{ℕ, zero, suc, _+_, _*_, _<_, _≤_}
+use Prim.Native.Nat.{ℕ, zero, suc, _+_, _*_, _≤_}
 use native.Mathlib.Omega.{arith}
-use mathlib.Core.Path.{_≡_, refl, sym, ap, _∙_}
-use mathlib.Core.Bool.{true, cond}
-use mathlib.Core.List.{List, [], _∷_}
+use mathlib.Core.Path.{_≡_, refl}
+use mathlib.Core.Bool.{true}
+use mathlib.Core.List.{List}
 use borrow.Author.Tests.{leb-true}
 use lib.Dec.{leb, ltb}
 use lib.ListN.{length}
@@ -24,9 +24,9 @@ use Rattle.records.specs.Records.{slotCount}
 use Rattle.validity.specs.Valid.{maxTime}
 use Rattle.lookup.specs.Fresh.{freshState}
 use Rattle.saves.specs.Save.{rowSize}
-use Rattle.saves.specs.Load.{Parse, numbers, malformed, then, step, parseFrom, ending, endOf, placeOf, mostOf, outside, Loading, loaded}
-use Rattle.saves.specs.Load.{outOfRange, broken, bad, slotsOf, judgedBy, judged, records, counted, ofEdition, opened, timed, sheeted, loadOf}
-use Rattle.saves.specs.Load.{answerOf, loadedState, loadedValue}
+use Rattle.saves.specs.Load.{Parse, numbers, malformed, then, step, parseFrom, ending, endOf, placeOf, mostOf, outside, Loading}
+use Rattle.saves.specs.Load.{outOfRange, broken, slotsOf, judgedBy, judged, records, counted, ofEdition, opened, sheeted, loadOf}
+use Rattle.saves.specs.Load.{answerOf, loadedValue}
 use Rattle.saves.proofs.Parsing.{top}
 use Rattle.saves.proofs.Opened.{slots-most}
 
@@ -79,7 +79,8 @@ module _ (p : Params) (clock : ℕ) (s : List ℕ) where
       judged-most n at (ending s (parseFrom (n * rowSize) s at))
       (omega (arith, ending-end (parseFrom (n * rowSize) s at), parse-end s (n * rowSize) at))
 
-  counted-most : (most at : ℕ) (r : Read) → most ≤ slotCount → at ≤ 10 → readAt top s at ≡ r → value (counted p clock s most at r) ≤ farthest
+  counted-most :
+      (most at : ℕ) (r : Read) → most ≤ slotCount → at ≤ 10 → readAt top s at ≡ r → value (counted p clock s most at r) ≤ farthest
   counted-most most at Bad h l e = omega arith
   counted-most most at (Number n next) h l e =
       cond-case (λ (o : Loading). value o ≤ farthest) (leb n most) (records p clock s n next) (broken at)

@@ -3,25 +3,23 @@
 use Prim.Native.Nat.{ℕ, zero, suc, _+_, _*_, _/_, _<_, _≤_, suc-le-suc}
 use native.Mathlib.Omega.{arith}
 use mathlib.Core.Path.{_≡_, refl, sym, ap, _∙_}
-use mathlib.Core.Bool.{true, cond}
+use mathlib.Core.Bool.{true}
 use mathlib.Core.List.{List, [], _∷_, _++_, map}
-use lib.Dec.{ltb}
 use lib.ListN.{length, getD, length-append}
 use Rattle.index.specs.Index.{gather}
-use Rattle.index.proofs.Flags.{by-order, cond-case}
+use Rattle.index.proofs.Flags.{by-order}
 use Rattle.varint.specs.Codes.{codeOf, numberOf}
 use Rattle.varint.specs.Groups.{encode}
 use Rattle.varint.proofs.CodeLaws.{code-number}
 use Rattle.varint.proofs.GroupLaws.{length-last, length-more, length-pos}
 use Rattle.params.specs.declared.Edition.the-variants.{First}
-use Rattle.params.specs.declared.Params.{Params}
 use Rattle.params.specs.Editions.{coded}
 use Rattle.records.specs.Records.{State, slotCount, topicCount, codeIn}
 use Rattle.rows.specs.Rows.{joins}
-use Rattle.validity.specs.Valid.{maxTime, maxId, topicParam, valid}
+use Rattle.validity.specs.Valid.{maxId, topicParam, valid}
 use Rattle.validity.proofs.ValidLaws.{valid-facts}
 use Rattle.lookup.specs.Fresh.{freshState}
-use Rattle.saves.specs.Save.{isSaved, savedRow, order, bodyOf, numbersOf, bytesOf, saveOf, savingOf, savedValue, storing}
+use Rattle.saves.specs.Save.{isSaved, savedRow, order, bodyOf, numbersOf, bytesOf, saveOf}
 use Rattle.saves.specs.Load.{mostOf, mostRetain, mostBackoff}
 use Rattle.saves.proofs.Lists.{Each, below-at}
 use Rattle.saves.proofs.Ordering.{Ordered, ordered}
@@ -118,7 +116,9 @@ module _ (st : State) (v : valid st ≡ true) (time : ℕ) (late : st .clock ≤
 
   -- ---- all of them
   rows-most :
-      (l : List ℕ) → Each (λ k. (k < slotCount) × (isSaved st time k ≡ true)) l → length (bytesOf (joins (savedRow st time) l)) ≤ length l * 169
+      (l : List ℕ) →
+      Each (λ k. (k < slotCount) × (isSaved st time k ≡ true)) l →
+      length (bytesOf (joins (savedRow st time) l)) ≤ length l * 169
   unfolding joins bytesOf
   rows-most [] e = omega arith
   rows-most (s ∷ l) e =

@@ -1,10 +1,10 @@
 -- From what save and load promise to what a host gets: the answer as one number; and over a power cycle.
 -- Assumes nothing.
-use Prim.Native.Nat.{ℕ, _+_, _*_, _<_, _≤_}
+use Prim.Native.Nat.{ℕ, _+_, _≤_}
 use native.Mathlib.Omega.{arith}
 use mathlib.Core.Path.{_≡_, refl, sym, ap, _∙_}
-use mathlib.Core.Bool.{Bool, true, false, not, cond}
-use mathlib.Core.List.{List, [], _∷_, _++_}
+use mathlib.Core.Bool.{true}
+use mathlib.Core.List.{List}
 use borrow.Author.Tests.{ltb-false}
 use lib.Dec.{ltb}
 use lib.IntN.{ℤ}
@@ -24,10 +24,9 @@ use Rattle.saves.specs.declared.Saved.{Saved}
 use Rattle.saves.specs.declared.Saved.the-variants.{Done, Early, OutOfRange, NotRouter, Short}
 use Rattle.saves.specs.declared.Loaded.{Loaded}
 use Rattle.saves.specs.Save.{order, bodyOf, saveOf, Saving, kept, storing, savingOf, savedNumber, savedValue}
-use Rattle.saves.specs.Load.{Loading, loaded, outOfRange, loadedState, loadOf, answerOf, leftBy, refuses, Loads, loadedNumber, loadedValue}
-use Rattle.saves.specs.Promises.{Sheet, Remembered}
+use Rattle.saves.specs.Load.{Loading, loaded, loadedState, loadOf, answerOf, leftBy, refuses, Loads, loadedNumber, loadedValue}
 use Rattle.saves.proofs.Promised.{every-save-loads, remember}
-use Rattle.host.specs.Saving.{longestSave, HostsSave, loadingBy, loadCode, HostsLoad, CyclesRemember}
+use Rattle.host.specs.Saving.{HostsSave, loadCode, HostsLoad, CyclesRemember}
 use Rattle.host.proofs.SaveSize.{save-most}
 use Rattle.host.proofs.LoadPlaces.{load-most}
 

@@ -40,7 +40,8 @@ module _ (c : List ℕ) (s : ℕ) where
   kept true x y f e = f e
   kept false x y f e = refl
 
-  pub counts-done : (acc r : ℕ) → r ≡ keep (ltb s (usedOf c)) acc → (acc ≡ 0 → Counts 8) → r ≡ 0 → (t : ℕ) → t < topicCount → Uncounted c s t
+  pub counts-done : (acc r : ℕ) → r ≡ keep (ltb s (usedOf c)) acc → (acc ≡ 0 → Counts 8) → r ≡ 0 → (t : ℕ) → t < topicCount →
+      Uncounted c s t
   unfolding liveAt
   counts-done acc r e f z t l = (
     kept (ltb s (usedOf c)) acc (getD c (countersAt + t * stride + s) 0) (λ q. f q t l .0) (sym e ∙ z),
@@ -65,7 +66,8 @@ module _ (c : List ℕ) (i : ℕ) where
 
 -- ---- both
 module _ (c : List ℕ) (s t : ℕ) (h : s < slotCount) (l : t < topicCount) where
-  counters-none : liveAt c s (countersAt + t * stride + s) ≡ 0 → liveAt c (place s t / 8) (countersAt + place s t % 8 * stride + place s t / 8) ≡ 0
+  counters-none : liveAt c s (countersAt + t * stride + s) ≡ 0 →
+      liveAt c (place s t / 8) (countersAt + place s t % 8 * stride + place s t / 8) ≡ 0
   counters-none z =
       let q : place s t / 8 ≡ s = omega arith in
       let m : place s t % 8 ≡ t = omega arith in

@@ -12,7 +12,7 @@ use lib.Bits.{bitAnd, bitOr}
 use lib.Pow.{pow-lt}
 use borrow.Author.Tests.{eq-eqb, ne-eqb}
 use Rattle.index.proofs.Flags.{by-order}
-use Rattle.layout.specs.View.{bitAt, withBit, setBit}
+use Rattle.layout.specs.View.{placeCount, bitAt, withBit, setBit}
 use Rattle.layout.proofs.DigitLaws.{digit-le, and-digit, or-digit, not-digit, own-digit, other-digit}
 
 -- two numbers are the same or not
@@ -111,8 +111,8 @@ pub place-put-other :
     (c : List ℕ) (b k v j : ℕ) →
     b + k % 8 * 4 + k / 8 / 64 < length c →
     v ≤ 1 →
-    k < 2048 →
-    j < 2048 →
+    k < placeCount →
+    j < placeCount →
     j ≢ k →
     bitAt (setBit c (b + k % 8 * 4) (k / 8) v) (b + j % 8 * 4) (j / 8) ≡ bitAt c (b + j % 8 * 4) (j / 8)
 place-put-other c b k v j h l bk bj ne =

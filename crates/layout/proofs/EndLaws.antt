@@ -2,21 +2,23 @@
 -- Assumes nothing.
 use Prim.Native.Nat.{ℕ, zero, suc, _+_, _*_, _-_, _/_, _%_, _^_, _≤_, _<_}
 use mathlib.Core.Path.{_≡_, refl, sym, ap, _∙_}
-use mathlib.Core.List.{List, []}
+use mathlib.Core.List.{List}
 use native.Mathlib.Omega.{arith}
 use native.Mathlib.Nat.{zero-div}
-use lib.ListN.{length, getD}
+use lib.ListN.{getD}
 use lib.Bits.{bitOr, or-add-and, and-le-l, and-le-r}
 use lib.Pow.{shr-shr}
 use Rattle.index.proofs.Flags.{by-order}
-use Rattle.records.specs.Records.{noPeer, noTopic, place, peerIn, topicIn, slotCount, topicCount}
+use Rattle.records.specs.Records.{noPeer, noTopic, place, peerIn, slotCount, topicCount}
 use Rattle.layout.specs.Rows.{tab}
-use Rattle.layout.specs.View.{placeCount, peersAt, columnOf, endsAt, topicsAt, memberAt, p3bAt, bitAt, usedOf, liveAt}
-use Rattle.layout.specs.View.{counterOf, graftOf, meshOf, subscribedWord, memberWord, topicRaw, topicAt, peerRaw, endsOf, peerAt, stateOf}
+use Rattle.layout.specs.View.{peersAt, columnOf, endsAt, topicsAt, memberAt, p3bAt, bitAt, usedOf, liveAt}
+use Rattle.layout.specs.View.{counterOf, graftOf, meshOf, subscribedWord, memberWord, topicRaw, topicAt, peerRaw, endsOf, peerAt}
+use Rattle.layout.specs.View.{stateOf}
 use Rattle.layout.specs.View.{EmptyFrom, FlagsFrom}
 use Rattle.layout.proofs.RowLaws.{tab-same}
 use Rattle.layout.proofs.ViewLaws.{live-out, peer-load, topic-load}
-use Rattle.layout.proofs.ReadLaws.{connected-bit, retained-bit, explicit-bit, outbound-bit, version-bit, version-high-bit, member-bit}
+use Rattle.layout.proofs.ReadLaws.{connected-bit, retained-bit, explicit-bit, outbound-bit, version-bit, version-high-bit}
+use Rattle.layout.proofs.ReadLaws.{member-bit}
 use Rattle.layout.proofs.ReadLaws.{subscribed-bit}
 
 -- ---- one word

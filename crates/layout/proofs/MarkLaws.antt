@@ -127,7 +127,8 @@ clear-size c s zero = refl
 clear-size c s (suc n) = length-set (columns-clear c s n) (columnOf n s) 0 ∙ clear-size c s n
 
 clear-cell :
-    (c : List ℕ) (s n j : ℕ) → length c ≡ cellCount → s < slotCount → n ≤ columnCount → j < n → getD (columns-clear c s n) (columnOf j s) 0 ≡ 0
+    (c : List ℕ) (s n j : ℕ) → length c ≡ cellCount → s < slotCount → n ≤ columnCount → j < n → getD (columns-clear c s n) (columnOf j s) 0
+    ≡ 0
 unfolding columns-clear
 clear-cell c s zero j z h k b = absurd (omega arith)
 clear-cell c s (suc n) j z h k b =

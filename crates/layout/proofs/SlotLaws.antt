@@ -18,7 +18,8 @@ use Rattle.records.specs.Records.{setPeer, peerIn}
 use Rattle.layout.specs.Rows.{tab, put}
 use Rattle.layout.proofs.RowLaws.{tab-same, tab-set, tab-getD, getD-put-before, getD-put-in, getD-put-after}
 use Rattle.records.specs.Records.{slotCount}
-use Rattle.layout.specs.View.{usedAt, peersAt, idAt, columnCount, columnOf, endsAt, topicsAt, cellCount, bitAt, usedOf, liveAt, peerRaw}
+use Rattle.layout.specs.View.{usedAt, peersAt, idAt, columnCount, columnOf, endsAt, topicsAt, cellCount, bitAt, usedOf, liveAt}
+use Rattle.layout.specs.View.{peerRaw}
 use Rattle.layout.specs.View.{endsOf, peerAt, stateOf, setBit, setFlags, setColumns, setEnd, PeerFits}
 use Rattle.layout.proofs.BitLaws.{by-same, length-bit, bit-cong, bit-put-same, bit-put-other, One, one-set, one-bit}
 use Rattle.layout.proofs.ViewLaws.{live-in, live-cong, peer-parts, peer-load, PeerOnly, peer-then, peer-store}

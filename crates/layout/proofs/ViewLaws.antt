@@ -15,7 +15,7 @@ use Rattle.records.specs.declared.Setup.{Setup}
 use Rattle.records.specs.declared.Peer.{Peer}
 use Rattle.records.specs.declared.TopicRecord.{TopicRecord}
 use Rattle.records.specs.Records.{noPeer, noTopic, joinedIn, codeIn, peerIn, topicIn, setClock, setJoined, setPeer, setTopic}
-use Rattle.layout.proofs.RowLaws.{length-tab, getD-tab, tab-same, tab-set}
+use Rattle.layout.proofs.RowLaws.{getD-tab, tab-same, tab-set}
 use Rattle.records.specs.Records.{slotCount, topicCount, paramCount}
 use Rattle.layout.specs.View.{placeCount, clockAt, joinedAt, usedAt, setupAt, setupOf, paramsAt, peersAt, columnCount, columnOf}
 use Rattle.layout.specs.View.{endsAt, topicsAt, p3bAt, cellCount, bitAt, usedOf, keep, liveAt, counterOf, graftOf, meshOf}
@@ -37,10 +37,6 @@ table-set n f g i v e h = tab-set n f g i v e h
 pub getD-table : {A : Type 0} (n : ℕ) (f : ℕ → A) (i : ℕ) (d : A) → i < n → getD (table n f) i d ≡ f i
 unfolding table
 getD-table n f i d h = getD-tab n f i d h
-
-pub length-table : {A : Type 0} (n : ℕ) (f : ℕ → A) → length (table n f) ≡ n
-unfolding table
-length-table n f = length-tab n f
 
 -- ---- loads
 

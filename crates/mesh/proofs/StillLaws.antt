@@ -1,19 +1,19 @@
 -- A still mesh: where the tests of steps 2 to 5 fail, each leaves the mesh of the first; and what is asked of the scores is asked of the
 -- members' alone.
 -- Assumes nothing.
-use Prim.Native.Nat.{ℕ, zero, suc, _+_, _-_, _/_, _≤_, _<_}
+use Prim.Native.Nat.{ℕ, suc, _-_, _/_, _≤_, _<_}
 use native.Mathlib.Omega.{arith}
 use mathlib.Core.Path.{_≡_, refl, sym, ap, ap₂, _∙_}
-use mathlib.Core.Bool.{Bool, true, false, not, cond, _&&_, and-false}
+use mathlib.Core.Bool.{Bool, true, false, not, _&&_, and-false}
 use mathlib.Core.List.{List, [], _∷_}
 use lib.ListN.{length, getD}
 use lib.Dec.{leb, ltb}
-use borrow.Author.Tests.{lt-ltb, le-ltb, le-leb, lt-leb, leb-true, not-true}
+use borrow.Author.Tests.{le-leb, lt-leb, leb-true, not-true}
 use Rattle.index.proofs.Index.{both as and-both}
-use Rattle.sets.specs.Sets.{at, Sub, size, both, from, fill, sort, scoresOf}
+use Rattle.sets.specs.Sets.{at, size, both, from, sort, scoresOf}
 use Rattle.sets.proofs.CountLaws.{fill-zero}
 use Rattle.sets.proofs.SetLaws.{both-left}
-use Rattle.mesh.specs.Maintenance.{View, Meshes, zeroScore, mesh1, mesh2, mesh3, mesh4, mesh5, median, meshes}
+use Rattle.mesh.specs.Maintenance.{View, zeroScore, mesh1, mesh4, mesh5, median, meshes}
 use Rattle.mesh.specs.Still.{isLow, isStill, stillOf}
 use Rattle.mesh.specs.declared.Degrees.{Degrees}
 use Rattle.mesh.proofs.StepLaws.{mesh2-else, mesh3-else, meshes-are}

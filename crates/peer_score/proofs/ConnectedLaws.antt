@@ -1,9 +1,9 @@
 -- A flag of all slots as words, and the walk over the connected ones: the slots between two of them count nothing.
 -- Assumes nothing.
-use Prim.Native.Nat.{ℕ, zero, suc, _+_, _*_, _/_, _%_, _^_, _≤_, _<_}
+use Prim.Native.Nat.{ℕ, zero, suc, _+_, _/_, _%_, _^_, _≤_, _<_}
 use native.Mathlib.Omega.{arith}
 use mathlib.Core.Path.{_≡_, refl, sym, ap, _∙_}
-use mathlib.Core.Bool.{Bool, true, false, false≢true}
+use mathlib.Core.Bool.{true, false, false≢true}
 use mathlib.Core.List.{List}
 use lib.ListN.{length, getD}
 use lib.Dec.{eqb}
@@ -14,7 +14,7 @@ use Rattle.records.specs.declared.TopicRecord.{TopicRecord}
 use Rattle.layout.specs.View.{bitAt, Bare}
 use Rattle.validity.specs.Valid.{valid}
 use Rattle.validity.proofs.ValidLaws.{valid-facts}
-use Rattle.words.specs.Words.{wordBits, wordCount, bitsOf, Next}
+use Rattle.words.specs.Words.{wordBits, bitsOf, Next}
 use Rattle.words.proofs.BitLaws.{bits-at}
 use Rattle.words.proofs.WideLaws.{at-slot}
 use Rattle.peer_score.specs.Buckets.{Tells, below, pairs}

@@ -16,8 +16,7 @@ use Rattle.index.proofs.Index.{both}
 use Rattle.index.proofs.Flags.{cond-case}
 use Rattle.varint.specs.Codes.{codeOf}
 use Rattle.params.specs.declared.Params.{Params}
-use Rattle.records.specs.declared.TopicRecord.{TopicRecord}
-use Rattle.records.specs.Records.{State, slotCount, place, peerIn}
+use Rattle.records.specs.Records.{State, slotCount, peerIn}
 use Rattle.layout.specs.View.{Sized}
 use Rattle.validity.specs.Valid.{valid}
 use Rattle.validity.proofs.ValidLaws.{valid-facts}

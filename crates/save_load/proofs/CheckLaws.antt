@@ -1,19 +1,18 @@
 -- The ends of the tests of a load.
 -- Assumes nothing.
-use Prim.Native.Nat.{ℕ, zero, suc, _+_, _*_, _%_, _<_, _≤_}
+use Prim.Native.Nat.{ℕ, _*_, _%_, _<_, _≤_}
 use native.Mathlib.Omega.{arith}
 use mathlib.Core.Path.{_≡_, refl, sym, ap, _∙_}
-use mathlib.Core.Bool.{Bool, true, false, not, cond, _&&_}
-use mathlib.Core.List.{List, [], _∷_, map}
-use borrow.Author.Tests.{lt-ltb, le-ltb, le-leb, lt-leb, eq-eqb, ne-eqb, leb-true, not-false}
-use lib.Dec.{eqb, leb, ltb}
+use mathlib.Core.Bool.{true}
+use mathlib.Core.List.{List}
+use borrow.Author.Tests.{lt-ltb, le-ltb, le-leb, lt-leb, ne-eqb, leb-true, not-false}
+use lib.Dec.{leb}
 use lib.ListN.{length, getD}
 use Rattle.index.specs.Index.{first}
 use Rattle.index.specs.declared.Found.{Found}
 use Rattle.index.specs.declared.Found.the-variants.{At, Nothing}
 use Rattle.index.proofs.Index.{both, first-passed}
 use Rattle.varint.specs.Groups.{readAt}
-use Rattle.varint.specs.Codes.{codeOf}
 use Rattle.varint.specs.declared.Read.{Read}
 use Rattle.varint.specs.declared.Read.the-variants.{Number, Bad}
 use Rattle.params.specs.declared.Params.{Params}
@@ -24,10 +23,9 @@ use Rattle.validity.specs.Valid.{maxTime}
 use Rattle.lookup.specs.declared.Made.{Made}
 use Rattle.lookup.specs.Fresh.{freshState, Makes}
 use Rattle.lookup.proofs.FreshLaws.{fresh-valid}
-use Rattle.saves.specs.Save.{edition}
-use Rattle.saves.specs.Load.{Parse, numbers, malformed, parseFrom, ending, mostOf, ascends, outside, loadedState, Loading, loaded}
+use Rattle.saves.specs.Load.{Parse, numbers, malformed, parseFrom, mostOf, ascends, outside, loadedState, Loading, loaded}
 use Rattle.saves.specs.Load.{outOfRange}
-use Rattle.saves.specs.Load.{broken, bad, slotsOf, judgedBy, judged, records, counted, ofEdition, opened, timed, sheeted, loadOf, answerOf}
+use Rattle.saves.specs.Load.{broken, bad, slotsOf, judgedBy, records, counted, opened, sheeted, loadOf, answerOf}
 use Rattle.saves.specs.Load.{refuses, Loads}
 use Rattle.saves.specs.declared.Loaded.{Loaded}
 use Rattle.saves.specs.declared.Loaded.the-variants.{Done, OutOfRange, Broken, Malformed}
@@ -36,10 +34,10 @@ use Rattle.save_load.specs.declared.Skim.{Skim}
 use Rattle.save_load.specs.declared.Skim.the-variants.{End, Broken as Cut}
 use Rattle.save_load.specs.Skim.{skimOf}
 use Rattle.save_load.specs.Judge.{isRead, placeBy, judgeOf}
-use Rattle.save_load.specs.Store.{widest, Loadable, storedAll}
+use Rattle.save_load.specs.Store.{Loadable, storedAll}
 use Rattle.save_load.specs.declared.Check.{Check}
 use Rattle.save_load.specs.declared.Check.the-variants.{Fine, Refuse}
-use Rattle.save_load.specs.Checked.{Coded, Good, Says, Admits, Checks}
+use Rattle.save_load.specs.Checked.{Coded, Good, Says, Checks}
 use Rattle.save_load.proofs.RangeLaws.{most-wide}
 use Rattle.save_load.proofs.LoadLaws.{all-stored}
 

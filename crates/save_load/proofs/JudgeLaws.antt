@@ -1,24 +1,23 @@
 -- The second pass of a load, number by number.
 -- Assumes nothing.
-use Prim.Native.Nat.{ℕ, zero, suc, _+_, _*_, _-_, _/_, _%_, _<_, _≤_}
+use Prim.Native.Nat.{ℕ, _+_, _*_, _-_, _/_, _%_, _<_, _≤_}
 use native.Mathlib.Omega.{arith}
 use native.Mathlib.Numerals.{add-one}
-use mathlib.Core.Path.{_≡_, refl, sym, ap, ap₂, _∙_}
-use mathlib.Core.Bool.{Bool, true, false, not, cond, _&&_}
-use mathlib.Core.List.{List, []}
+use mathlib.Core.Path.{_≡_, refl, sym, _∙_}
+use mathlib.Core.Bool.{true, false, cond}
+use mathlib.Core.List.{List}
 use borrow.Author.Tests.{eq-eqb, ne-eqb, eqb-true, eqb-false, lt-ltb, le-ltb}
-use lib.Dec.{eqb, leb, ltb}
-use lib.ListN.{length, getD, take}
+use lib.Dec.{eqb}
+use lib.ListN.{getD, take}
 use Rattle.index.specs.Index.{first}
-use Rattle.index.specs.declared.Found.{Found}
 use Rattle.index.specs.declared.Found.the-variants.{At, Nothing}
 use Rattle.index.proofs.Index.{first-none, first-more, first-done, first-hit}
 use Rattle.index.proofs.Flags.{by-test}
 use Rattle.varint.specs.Groups.{readAt}
 use Rattle.varint.specs.declared.Read.{Read}
 use Rattle.varint.specs.declared.Read.the-variants.{Number, Bad}
-use Rattle.saves.specs.Load.{Parse, numbers, malformed, parseFrom, endOf, placeOf, prior, ascends, outside}
-use Rattle.save_load.specs.Judge.{isRead, placeBy, judgeOf, outsideNow}
+use Rattle.saves.specs.Load.{Parse, numbers, malformed, parseFrom, placeOf, prior, ascends, outside}
+use Rattle.save_load.specs.Judge.{isRead, judgeOf, outsideNow}
 use Rattle.saves.proofs.Parsing.{top, Next, next-is}
 
 -- the id that was read last before number i

@@ -1,22 +1,22 @@
 -- The ranges of a record, filled from the front.
 -- Assumes nothing.
 use Prim.{tt}
-use Prim.Native.Nat.{ℕ, zero, suc, _+_, _-_, _*_, _/_, _%_, _<_, _≤_}
+use Prim.Native.Nat.{ℕ, suc, _+_, _*_, _<_, _≤_}
 use native.Mathlib.Omega.{arith}
 use native.Mathlib.Numerals.{add-one}
 use mathlib.Core.Path.{_≡_, refl, sym, ap, _∙_}
 use mathlib.Core.Bool.{true}
 use mathlib.Core.List.{List, [], _∷_, _++_, append-nil}
-use lib.ListN.{length, getD, drop, set, drop-of-length-le}
+use lib.ListN.{length, getD, set, drop-of-length-le}
 use lib.Seq.{sets, sets-eq}
 use Rattle.index.specs.Index.{gather}
 use Rattle.index.proofs.Index.{gather-none, gather-more}
 use Rattle.index.proofs.Lists.{sets-append}
 use Rattle.varint.specs.Codes.{magnitude}
 use Rattle.params.proofs.ParamLaws.{topic}
-use Rattle.records.specs.Records.{State, topicCount, codeIn}
+use Rattle.records.specs.Records.{State, codeIn}
 use Rattle.validity.specs.Valid.{maxId, topicParam, cap2, cap3, valid}
-use Rattle.validity.proofs.ValidLaws.{Facts, valid-facts}
+use Rattle.validity.proofs.ValidLaws.{valid-facts}
 use Rattle.saves.specs.Load.{mostRetain, mostBackoff, mostOf}
 use Rattle.saves.proofs.Lists.{length-gather, Below, below-at, below-gather}
 use Rattle.saves.proofs.Rows.{length-most}

@@ -2,14 +2,13 @@
 -- Assumes nothing.
 use Prim.Native.Nat.{ℕ, zero, suc, _-_, _<_, _≤_}
 use native.Mathlib.Omega.{arith}
-use mathlib.Core.Path.{_≡_, refl, sym, ap, _∙_}
+use mathlib.Core.Path.{_≡_, refl, sym, _∙_}
 use mathlib.Core.List.{List}
 use Rattle.varint.specs.Groups.{readAt}
 use Rattle.varint.specs.declared.Read.{Read}
 use Rattle.varint.specs.declared.Read.the-variants.{Number, Bad}
-use Rattle.save_load.specs.declared.Skim.{Skim}
 use Rattle.save_load.specs.declared.Skim.the-variants.{End, Broken}
-use Rattle.saves.specs.Load.{Parse, numbers, malformed, then, step, parseFrom}
+use Rattle.saves.specs.Load.{Parse, numbers, malformed, then, parseFrom}
 use Rattle.save_load.specs.Skim.{skimOf}
 use Rattle.saves.proofs.Parsing.{top}
 

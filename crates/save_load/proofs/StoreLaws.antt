@@ -1,19 +1,16 @@
 -- The third pass of a load: the numbers that stand in each record, and what storing all records leaves.
 -- Assumes nothing.
-use Prim.{tt}
-use Prim.Native.Nat.{ℕ, zero, suc, _+_, _*_, _-_, _/_, _%_, _<_, _≤_}
+use Prim.Native.Nat.{ℕ, zero, suc, _+_, _*_, _%_, _<_, _≤_}
 use native.Mathlib.Omega.{arith}
 use native.Mathlib.Numerals.{add-one}
 use mathlib.Core.Path.{_≡_, refl, sym, ap, _∙_}
-use mathlib.Core.Bool.{Bool, true, false, cond}
+use mathlib.Core.Bool.{true}
 use mathlib.Core.List.{List, [], _∷_, _++_}
 use borrow.Author.Tests.{eq-eqb, ne-eqb}
-use lib.Dec.{eqb}
 use lib.ListN.{length, getD, take, drop, set, length-set, length-drop}
 use lib.Seq.{getD-append-add, take-suc, take-suc-set, take-all, take-add, length-take-le, drop-at, getD-take, getD-drop, ext-getD}
 use Rattle.index.specs.Index.{gather}
 use Rattle.index.proofs.Index.{iter-more}
-use Rattle.index.proofs.Flags.{by-test}
 use Rattle.varint.specs.Groups.{readAt}
 use Rattle.varint.specs.declared.Read.{Read}
 use Rattle.varint.specs.declared.Read.the-variants.{Number, Bad}
@@ -30,7 +27,7 @@ use Rattle.save_load.specs.Judge.{isRead}
 use Rattle.records.specs.declared.Peer.{Peer}
 use Rattle.records.specs.declared.TopicRecord.{TopicRecord}
 use Rattle.layout.specs.View.{TopicFits, PeerFits}
-use Rattle.save_load.specs.Store.{widest, RowFits, stored, Loadable, storedAll}
+use Rattle.save_load.specs.Store.{widest, RowFits, stored, storedAll}
 
 -- ---- the ranges of a row
 wide-topic : (t i : ℕ) → t < 8 → i < 5 →

@@ -7,7 +7,7 @@ use Rattle.index.specs.Index.{iter, gather}
 use Rattle.records.specs.Records.{State, topicCount, place, setPeer, setTopic}
 use Rattle.validity.specs.Valid.{maxId}
 use Rattle.saves.specs.Save.{rowSize}
-use Rattle.saves.specs.Load.{mostRetain, mostBackoff, Parse, numbers, parseFrom, loadedPeer, loadedTopic, rowAt}
+use Rattle.saves.specs.Load.{mostRetain, mostBackoff, numbers, parseFrom, loadedPeer, loadedTopic, rowAt}
 
 -- the most of each number of a record under any parameters
 unfoldable pub widest : List ℕ

@@ -1,18 +1,18 @@
 -- A row filled from the front: the peer's four numbers, then each topic's five.
 -- Assumes nothing.
-use Prim.Native.Nat.{ℕ, zero, suc, _+_, _-_, _*_, _<_, _≤_}
+use Prim.Native.Nat.{ℕ, suc, _+_, _-_, _*_, _<_, _≤_}
 use native.Mathlib.Omega.{arith}
 use native.Mathlib.Numerals.{add-one}
 use mathlib.Core.Path.{_≡_, refl, sym, ap, _∙_}
 use mathlib.Core.List.{List, [], _∷_, _++_, append-nil}
-use lib.ListN.{length, getD, take, drop, set, drop-of-length-le}
+use lib.ListN.{length, getD, set, drop-of-length-le}
 use lib.Seq.{sets, sets-eq}
 use Rattle.index.specs.Index.{gather}
 use Rattle.index.proofs.Index.{gather-none, gather-more}
 use Rattle.index.proofs.Lists.{sets-append}
 use Rattle.records.specs.declared.Peer.{Peer}
 use Rattle.records.specs.declared.TopicRecord.{TopicRecord}
-use Rattle.records.specs.Records.{State, topicCount, place, peerIn, topicIn}
+use Rattle.records.specs.Records.{State, place, peerIn, topicIn}
 use Rattle.saves.specs.Save.{topicRow, rowOf, asLeft, savedRow}
 use Rattle.saves.proofs.Lists.{length-gather}
 use Rattle.saves.proofs.Rows.{length-row}

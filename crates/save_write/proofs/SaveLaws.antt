@@ -2,10 +2,9 @@
 -- Assumes nothing.
 use Prim.Native.Nat.{ℕ, zero, suc, _+_, _<_, _≤_}
 use native.Mathlib.Omega.{arith}
-use native.Mathlib.Nat.{zero-add}
-use mathlib.Core.Path.{_≡_, refl, sym, ap, _∙_}
-use mathlib.Core.Bool.{Bool, true, false, not, cond}
-use mathlib.Core.List.{List, [], _∷_, _++_, map}
+use mathlib.Core.Path.{_≡_, sym, ap, _∙_}
+use mathlib.Core.Bool.{true, false}
+use mathlib.Core.List.{List, [], _∷_, _++_}
 use borrow.Author.Tests.{lt-ltb, le-ltb}
 use lib.Dec.{ltb}
 use lib.ListN.{length, take, drop, length-append}
@@ -17,10 +16,10 @@ use Rattle.records.specs.Records.{State, slotCount, codeIn}
 use Rattle.effects.specs.Effects.{retainSeconds}
 use Rattle.validity.specs.Valid.{maxTime, valid}
 use Rattle.validity.proofs.ValidLaws.{valid-facts}
-use Rattle.saves.specs.Save.{isSaved, edition, order, bytesOf, saveOf, Saving, storing, savingOf}
+use Rattle.saves.specs.Save.{isSaved, edition, bytesOf, saveOf, Saving, storing, savingOf}
 use Rattle.saves.specs.declared.Saved.{Saved}
 use Rattle.saves.specs.declared.Saved.the-variants.{Done, Early, OutOfRange, NotRouter, Short}
-use Rattle.save_write.specs.Sorting.{sorted, slotOf, keyOf, keysBelow, keysOf}
+use Rattle.save_write.specs.Sorting.{sorted, keyOf, keysBelow, keysOf}
 use Rattle.save_write.specs.Stands.{rowsOf, Stands}
 use Rattle.save_write.proofs.SortLaws.{length-sorted}
 use Rattle.save_write.proofs.KeyLaws.{slots-are}

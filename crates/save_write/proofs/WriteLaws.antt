@@ -1,31 +1,20 @@
 -- Numbers written one after the other: after each, the bytes of those before it and its own stand in the buffer.
 -- Assumes nothing.
-use Prim.Native.Nat.{ℕ, zero, suc, _+_, _-_, _*_, _/_, _^_, _<_, _≤_}
+use Prim.Native.Nat.{ℕ, suc, _+_, _/_, _<_, _≤_}
 use native.Mathlib.Omega.{arith}
 use native.Mathlib.Numerals.{add-one}
-use native.Mathlib.Nat.{zero-add}
 use mathlib.Core.Path.{_≡_, refl, sym, ap, _∙_}
-use mathlib.Core.Bool.{Bool, true, false, not, cond}
 use mathlib.Core.List.{List, [], _∷_, _++_, map, append-assoc, append-nil}
-use borrow.Author.Tests.{lt-ltb, le-ltb}
-use lib.Dec.{ltb}
-use lib.ListN.{length, getD, take, drop, set, length-append, take-append-drop}
-use lib.Seq.{sets, take-suc, take-all, length-sets, sets-eq, drop-length}
-use Rattle.index.specs.Index.{gather}
-use Rattle.index.proofs.Index.{gather-more}
+use lib.ListN.{length, getD, take, drop, length-append, take-append-drop}
+use lib.Seq.{take-suc, take-all, length-sets}
 use Rattle.index.proofs.Lists.{sets-append}
 use Rattle.varint.specs.Groups.{encode, putOf}
 use Rattle.varint.specs.declared.Put.{Put}
 use Rattle.varint.specs.declared.Put.the-variants.{Next, Full}
 use Rattle.varint.proofs.GroupLaws.{put-fits, put-next, put-full, length-last, length-more, length-le}
-use Rattle.records.specs.declared.Peer.{Peer}
-use Rattle.records.specs.declared.TopicRecord.{TopicRecord}
-use Rattle.records.specs.Records.{State, slotCount, topicCount, place, peerIn, topicIn}
+use Rattle.records.specs.Records.{State, place}
 use Rattle.rows.specs.Rows.{joins}
-use Rattle.saves.specs.Save.{topicRow, rowOf, asLeft, savedRow, order, bodyOf, numbersOf, bytesOf, saveOf, edition, storing}
-use Rattle.saves.specs.declared.Saved.{Saved}
-use Rattle.saves.specs.declared.Saved.the-variants.{Done, Short}
-use Rattle.saves.proofs.Rows.{length-saved, length-row}
+use Rattle.saves.specs.Save.{savedRow, order, bodyOf, numbersOf, bytesOf, saveOf, edition}
 use Rattle.save_write.specs.Sorting.{slotOf}
 use Rattle.save_write.specs.Stands.{rowsOf, Stands}
 

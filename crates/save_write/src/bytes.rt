@@ -1,6 +1,6 @@
 // Numbers as bytes: how many they take, and writing them where there is room.
 ghost use mathlib.Core.Path.{_≡_};
-ghost use Prim.Native.Nat.{_+_, _*_, _≤_, _<_};
+ghost use Prim.Native.Nat.{_+_, _≤_, _<_};
 ghost use lib.ListN.{length};
 ghost use Rattle.varint.specs.Groups.{encode};
 ghost use Rattle.records.specs.Records.{slotCount};

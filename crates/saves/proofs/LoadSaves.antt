@@ -4,7 +4,7 @@ use Prim.{tt}
 use Prim.Native.Nat.{ℕ, zero, suc, _+_, _*_, _-_, _<_, _≤_}
 use native.Mathlib.Omega.{arith}
 use mathlib.Core.Path.{_≡_, refl, sym, ap, _∙_}
-use mathlib.Core.Bool.{Bool, true, false, not, cond, _&&_}
+use mathlib.Core.Bool.{true, false}
 use mathlib.Core.List.{List, [], _∷_, _++_}
 use native.Mathlib.Nat.{zero-add}
 use borrow.Author.Tests.{eqb-true}
@@ -14,13 +14,12 @@ use lib.ListN.{length, getD}
 use Rattle.index.specs.Index.{first, iter, gather}
 use Rattle.index.specs.declared.Found.the-variants.{Nothing}
 use Rattle.index.proofs.Flags.{by-test, by-order}
-use Rattle.varint.specs.Groups.{encode, readAt}
-use Rattle.varint.specs.declared.Read.{Read}
+use Rattle.varint.specs.Groups.{encode}
 use Rattle.varint.specs.declared.Read.the-variants.{Number}
 use Rattle.params.specs.Check.{firstBroken}
 use Rattle.records.specs.declared.Peer.{Peer}
 use Rattle.records.specs.declared.TopicRecord.{TopicRecord}
-use Rattle.records.specs.Records.{State, slotCount, topicCount, paramCount, place, noPeer, peerIn, topicIn, isConnected, isRetained}
+use Rattle.records.specs.Records.{State, slotCount, paramCount, place, peerIn, topicIn}
 use Rattle.layout.specs.Rows.{tab}
 use Rattle.rows.specs.Rows.{span, joins}
 use Rattle.layout.proofs.RowLaws.{length-tab, getD-tab}
@@ -28,14 +27,14 @@ use Rattle.rows.proofs.RowLaws.{span-all}
 use Rattle.validity.specs.Valid.{maxTime}
 use Rattle.lookup.specs.Fresh.{freshState}
 use Rattle.effects.specs.Effects.{reclaimable}
-use Rattle.saves.specs.Save.{rowSize, edition, topicRow, rowOf, asLeft, isSaved, savedRow, insert, placed, order, bodyOf, numbersOf}
+use Rattle.saves.specs.Save.{rowSize, edition, topicRow, rowOf, asLeft, isSaved, savedRow, placed, order, bodyOf, numbersOf}
 use Rattle.saves.specs.Save.{bytesOf, saveOf}
-use Rattle.saves.specs.Load.{mostOf, outside, endFrom, loadedPeer, loadedTopic, rowAt, loadedState, loaded, loadOf}
+use Rattle.saves.specs.Load.{mostOf, outside, endFrom, loadedPeer, loadedTopic, rowAt, loadedState}
 use Rattle.saves.specs.Promises.{SavesBack}
 use Rattle.saves.proofs.Lists.{Each, gather-upto, joins-spans}
 use Rattle.saves.proofs.Ordering.{insert-last}
 use Rattle.saves.proofs.LoadedState.{peer-there, peer-none, topic-there, id-less}
-use Rattle.saves.proofs.Opened.{Opened, opened-is}
+use Rattle.saves.proofs.Opened.{opened-is}
 
 -- ---- one record
 left-back : (clock b : ℕ) → endFrom clock b - clock ≡ b

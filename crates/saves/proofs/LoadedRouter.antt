@@ -3,17 +3,14 @@
 -- Assumes nothing.
 use Prim.Native.Nat.{ℕ, _<_}
 use native.Mathlib.Omega.{arith}
-use mathlib.Core.Path.{_≡_, refl, sym, ap, _∙_}
-use mathlib.Core.Bool.{Bool, true}
-use mathlib.Core.List.{List, map}
+use mathlib.Core.Path.{_≡_, refl}
+use mathlib.Core.Bool.{Bool}
+use mathlib.Core.List.{List}
 use Rattle.params.specs.declared.Params.{Params}
 use lib.ListN.{length, getD}
-use Rattle.varint.specs.Codes.{codeOf}
 use Rattle.records.specs.declared.Peer.{Peer}
-use Rattle.records.specs.Records.{State, slotCount, paramCount, joinedIn, peerIn}
-use Rattle.layout.specs.View.{Sized}
-use Rattle.validity.specs.Valid.{valid}
-use Rattle.saves.specs.Load.{loadedPeer, loadedState, rowAt, loaded, loadOf}
+use Rattle.records.specs.Records.{State, slotCount, paramCount, peerIn}
+use Rattle.saves.specs.Load.{loadedPeer, loadedState, loaded, loadOf}
 use Rattle.saves.specs.Promises.{Sheet, FromLoad}
 use Rattle.saves.proofs.LoadedState.{loaded-joined, loaded-sized, loaded-valid, slot-case}
 use Rattle.saves.proofs.Opened.{Opened, opened-is}

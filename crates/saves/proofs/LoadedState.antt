@@ -2,30 +2,28 @@
 -- Assumes nothing.
 use Prim.Native.Nat.{ℕ, zero, suc, _+_, _*_, _-_, _/_, _%_, _<_, _≤_}
 use native.Mathlib.Omega.{arith}
-use mathlib.Core.Path.{_≡_, refl, sym, ap, _∙_}
-use mathlib.Core.Bool.{Bool, true, false, not, cond, _&&_}
-use mathlib.Core.List.{List, [], _∷_, map}
-use borrow.Author.Tests.{le-leb, leb-true, lt-ltb, le-ltb, eq-eqb, ltb-true, ltb-false, not-false, not-true}
+use mathlib.Core.Path.{_≡_, refl, ap, _∙_}
+use mathlib.Core.Bool.{true, false, cond}
+use mathlib.Core.List.{List, [], _∷_}
+use borrow.Author.Tests.{leb-true, lt-ltb, le-ltb, eq-eqb, ltb-true, ltb-false, not-false}
 use lib.Dec.{eqb, leb, ltb}
 use Rattle.params.specs.declared.Params.{Params}
 use lib.ListN.{length, getD, replicate, length-map, length-replicate, getD-replicate, List·getD-eq-default}
 use lib.Seq.{getD-append-add}
-use Rattle.index.specs.Index.{first, gather, every}
+use Rattle.index.specs.Index.{first, gather}
 use Rattle.index.specs.declared.Found.the-variants.{Nothing}
 use Rattle.index.proofs.Index.{both, first-passed}
-use Rattle.index.proofs.Flags.{by-test, by-order, cond-case}
+use Rattle.index.proofs.Flags.{by-order, cond-case}
 use Rattle.varint.specs.Codes.{codeOf}
 use Rattle.params.specs.Check.{firstBroken}
 use Rattle.params.proofs.ParamLaws.{Accepts}
 use Rattle.records.specs.declared.Peer.{Peer}
-use Rattle.records.specs.declared.TopicRecord.{TopicRecord}
 use Rattle.records.specs.Records.{State, slotCount, topicCount, paramCount, place, noPeer, noTopic, joinedIn, peerIn, topicIn}
 use Rattle.layout.specs.Rows.{tab}
-use Rattle.rows.specs.Rows.{span}
 use Rattle.layout.specs.View.{placeCount, Sized}
 use Rattle.layout.proofs.RowLaws.{length-tab, getD-tab}
 use Rattle.rows.proofs.RowLaws.{getD-span}
-use Rattle.validity.specs.Valid.{maxTime, maxEnd, maxId, risingOk, cap2, cap3, valid}
+use Rattle.validity.specs.Valid.{maxTime, maxId, risingOk, cap2, cap3, valid}
 use Rattle.validity.proofs.ValidLaws.{PeerFacts, TopicFacts, Facts, FitsAt, no-peer, no-topic, valid-facts, facts-valid}
 use Rattle.lookup.specs.Fresh.{freshState}
 use Rattle.lookup.proofs.FreshLaws.{fresh-valid}

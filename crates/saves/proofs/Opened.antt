@@ -1,11 +1,11 @@
 -- What stood in bytes that a load accepted.
 -- Assumes nothing.
-use Prim.Native.Nat.{ℕ, zero, suc, _+_, _*_, _<_, _≤_}
+use Prim.Native.Nat.{ℕ, _*_, _<_, _≤_}
 use native.Mathlib.Omega.{arith}
 use mathlib.Core.Path.{_≡_, refl, sym, ap, _∙_}
 use mathlib.Core.Bool.{Bool, true, false, cond}
-use mathlib.Core.List.{List, [], _∷_, _++_, append-nil}
-use borrow.Author.Tests.{leb-true, ltb-false, eqb-true}
+use mathlib.Core.List.{List, [], _++_, append-nil}
+use borrow.Author.Tests.{leb-true, ltb-false}
 use lib.Dec.{leb, ltb, eqb}
 use Rattle.params.specs.declared.Params.{Params}
 use lib.ListN.{length, getD, drop, drop-of-length-le}
@@ -16,13 +16,13 @@ use Rattle.index.proofs.Flags.{by-test}
 use Rattle.varint.specs.Groups.{encode, readAt}
 use Rattle.varint.specs.declared.Read.{Read}
 use Rattle.varint.specs.declared.Read.the-variants.{Number, Bad}
-use Rattle.varint.proofs.GroupLaws.{readAt-written, Front}
+use Rattle.varint.proofs.GroupLaws.{readAt-written}
 use Rattle.params.specs.Check.{firstBroken}
 use Rattle.records.specs.Records.{State, slotCount}
 use Rattle.validity.specs.Valid.{maxTime}
 use Rattle.lookup.specs.Fresh.{freshState}
 use Rattle.saves.specs.Save.{edition, rowSize, bytesOf}
-use Rattle.saves.specs.Load.{mostOf, Parse, numbers, malformed, parseFrom, ending, outside, loadedState, Loading, loaded}
+use Rattle.saves.specs.Load.{mostOf, Parse, numbers, malformed, parseFrom, ending, outside, loadedState, loaded}
 use Rattle.saves.specs.Load.{outOfRange, broken, bad, slotsOf, judgedBy, judged, records, counted, ofEdition, opened, timed}
 use Rattle.saves.specs.Load.{sheeted, loadOf}
 use Rattle.saves.proofs.Parsing.{top, Rest, written-from}

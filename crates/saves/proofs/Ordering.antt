@@ -1,10 +1,10 @@
 -- The slots of the saved records: which they are, that their ids ascend, and how many there are.
 -- Assumes nothing.
 use Prim.{tt}
-use Prim.Native.Nat.{ℕ, zero, suc, _+_, _<_, _≤_, suc-le-suc}
+use Prim.Native.Nat.{ℕ, zero, suc, _<_, _≤_, suc-le-suc}
 use mathlib.Core.Path.{_≡_, refl, sym, ap, _∙_}
 use mathlib.Core.Logic.{_≢_, _⊎_, inl, inr, ⊎-elim}
-use mathlib.Core.Bool.{Bool, true, false, cond}
+use mathlib.Core.Bool.{true}
 use mathlib.Core.List.{List, [], _∷_, _++_}
 use native.Mathlib.Nat.{le-of-suc-le-suc, not-suc-le-zero}
 use native.Mathlib.Omega.{arith}
@@ -12,7 +12,7 @@ use borrow.Author.Tests.{ltb-true, ltb-false, lt-ltb, le-ltb}
 use lib.Dec.{ltb}
 use lib.ListN.{length, getD, take, drop}
 use Rattle.index.specs.Index.{iter}
-use Rattle.index.proofs.Flags.{by-test, by-order, cond-case}
+use Rattle.index.proofs.Flags.{by-order, cond-case}
 use Rattle.records.specs.Records.{State, slotCount, peerIn}
 use Rattle.saves.specs.Rising.{idAt, Rises}
 use Rattle.saves.specs.Save.{isSaved, insert, placed, order}

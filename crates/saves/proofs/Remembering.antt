@@ -1,32 +1,30 @@
 -- What a load of a save holds: slot k of the loaded router has the record of the k-th slot by id, since the numbers that are read there are
 -- the row of that slot. Assumes nothing.
-use Prim.Native.Nat.{ℕ, zero, suc, _+_, _*_, _-_, _<_, _≤_}
+use Prim.Native.Nat.{ℕ, zero, suc, _+_, _*_, _-_, _<_}
 use native.Mathlib.Omega.{arith}
 use mathlib.Core.Path.{_≡_, refl, sym, ap, _∙_}
 use mathlib.Core.Logic.{_⊎_, inl, inr, ⊎-elim}
-use mathlib.Core.Bool.{Bool, true, false, cond}
-use mathlib.Core.List.{List, [], _∷_, map}
+use mathlib.Core.Bool.{true}
+use mathlib.Core.List.{List, [], _∷_}
 use borrow.Author.Tests.{lt-ltb, le-ltb}
 use lib.ListN.{length, getD}
 use lib.Seq.{getD-append-add}
 use Rattle.index.specs.Index.{gather}
-use Rattle.index.specs.declared.Found.the-variants.{Nothing}
 use Rattle.index.proofs.Flags.{by-order, cond-case}
 use Rattle.params.specs.declared.Params.{Params}
-use Rattle.params.specs.Check.{firstBroken}
 use Rattle.records.specs.declared.Peer.{Peer}
 use Rattle.records.specs.declared.TopicRecord.{TopicRecord}
-use Rattle.records.specs.Records.{State, slotCount, topicCount, place, noPeer, peerIn, topicIn, isConnected}
+use Rattle.records.specs.Records.{State, slotCount, place, noPeer, peerIn, topicIn, isConnected}
 use Rattle.layout.specs.Rows.{tab}
 use Rattle.rows.specs.Rows.{joins}
 use Rattle.layout.proofs.RowLaws.{getD-tab}
 use Rattle.rows.proofs.RowLaws.{getD-span}
 use Rattle.effects.specs.Effects.{retainedTo}
-use Rattle.validity.specs.Valid.{maxTime, valid}
+use Rattle.validity.specs.Valid.{valid}
 use Rattle.validity.proofs.ValidLaws.{valid-facts}
-use Rattle.saves.specs.Save.{topicRow, rowOf, asLeft, isSaved, savedRow, order, bodyOf, saveOf}
-use Rattle.saves.specs.Load.{endFrom, loadedPeer, loadedTopic, rowAt, loadedState, loaded, loadOf}
-use Rattle.saves.specs.Promises.{Sheet, Remembers, Remembered, SavesRemember}
+use Rattle.saves.specs.Save.{topicRow, rowOf, asLeft, isSaved, savedRow, order, bodyOf}
+use Rattle.saves.specs.Load.{endFrom, loadedPeer, loadedTopic, rowAt, loadedState, loaded}
+use Rattle.saves.specs.Promises.{Remembers, Remembered, SavesRemember}
 use Rattle.saves.proofs.Lists.{each-at, getD-gather, getD-joins}
 use Rattle.saves.proofs.Ordering.{In, Ordered, ordered, order-all}
 use Rattle.saves.proofs.Rows.{length-saved, row-id, saved-used}

@@ -4,24 +4,24 @@ use Prim.{tt}
 use Prim.Native.Nat.{ℕ, _+_, _*_, _-_, _/_, _<_, _≤_}
 use native.Mathlib.Omega.{arith}
 use mathlib.Core.Path.{_≡_, refl, sym, ap, _∙_}
-use mathlib.Core.Bool.{Bool, true, false, not, cond, _&&_}
-use mathlib.Core.List.{List, [], _∷_, _++_, map}
-use borrow.Author.Tests.{eqb-true, eqb-false, eq-eqb, ne-eqb}
+use mathlib.Core.Bool.{true, false}
+use mathlib.Core.List.{List, [], _∷_, map}
+use borrow.Author.Tests.{eqb-true, eq-eqb, ne-eqb}
 use lib.Dec.{eqb}
 use Rattle.params.specs.declared.Params.{Params}
 use lib.ListN.{length, getD}
 use Rattle.index.specs.Index.{gather}
 use Rattle.index.proofs.Index.{both}
-use Rattle.index.proofs.Flags.{cond-case, by-test}
+use Rattle.index.proofs.Flags.{cond-case}
 use Rattle.varint.specs.Codes.{codeOf}
-use Rattle.params.proofs.ParamLaws.{General, general, topic}
+use Rattle.params.proofs.ParamLaws.{general, topic}
 use Rattle.records.specs.declared.Peer.{Peer}
 use Rattle.records.specs.declared.TopicRecord.{TopicRecord}
 use Rattle.records.specs.Records.{State, slotCount, topicCount, place, codeIn, peerIn, topicIn, isConnected, isRetained}
-use Rattle.validity.specs.Valid.{maxId, topicParam, cap2, cap3}
-use Rattle.validity.proofs.ValidLaws.{PeerFacts, TopicFacts, Facts}
+use Rattle.validity.specs.Valid.{topicParam, cap2, cap3}
+use Rattle.validity.proofs.ValidLaws.{Facts}
 use Rattle.lookup.specs.Fresh.{freshState}
-use Rattle.effects.specs.Effects.{retainedTo, endAfter, retainSeconds, reclaimable}
+use Rattle.effects.specs.Effects.{retainedTo, endAfter, retainSeconds}
 use Rattle.saves.specs.Save.{topicRow, rowOf, asLeft, isSaved, savedRow}
 use Rattle.saves.specs.Load.{mostRetain, mostBackoff, mostOf}
 use Rattle.saves.proofs.Lists.{Each, each-gather, Below, below-gather}

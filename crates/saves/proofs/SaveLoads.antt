@@ -2,22 +2,18 @@
 -- Assumes nothing.
 use Prim.Native.Nat.{ℕ, zero, suc, _+_, _*_, _-_, _/_, _%_, _<_, _≤_}
 use native.Mathlib.Omega.{arith}
-use mathlib.Core.Path.{_≡_, refl, sym, ap, _∙_}
-use mathlib.Core.Bool.{Bool, true, false, not, cond, _&&_}
-use mathlib.Core.List.{List, [], _∷_, _++_, map, append-assoc, append-nil}
-use borrow.Author.Tests.{le-leb, lt-ltb, le-ltb, eqb-true, ltb-true, ltb-false}
-use native.Mathlib.Nat.{le-refl}
-use lib.Dec.{eqb, leb, ltb}
+use mathlib.Core.Path.{_≡_, ap, _∙_}
+use mathlib.Core.Bool.{Bool, true, false, cond}
+use mathlib.Core.List.{List, [], _++_, map, append-assoc, append-nil}
+use borrow.Author.Tests.{le-leb, lt-ltb, le-ltb, eqb-true}
+use lib.Dec.{eqb, ltb}
 use Rattle.params.specs.declared.Params.{Params}
 use lib.ListN.{length, getD, length-append}
-use Rattle.index.specs.Index.{first}
-use Rattle.index.specs.declared.Found.{Found}
-use Rattle.index.specs.declared.Found.the-variants.{At, Nothing}
-use Rattle.index.proofs.Flags.{by-test, by-order, cond-case}
+use Rattle.index.specs.declared.Found.the-variants.{Nothing}
+use Rattle.index.proofs.Flags.{by-test}
 use Rattle.varint.specs.Codes.{codeOf}
 use Rattle.varint.specs.Groups.{encode, readAt}
-use Rattle.varint.specs.declared.Read.{Read}
-use Rattle.varint.specs.declared.Read.the-variants.{Number, Bad}
+use Rattle.varint.specs.declared.Read.the-variants.{Number}
 use Rattle.varint.proofs.GroupLaws.{readAt-encode}
 use Rattle.params.specs.Check.{firstBroken}
 use Rattle.records.specs.Records.{State, slotCount, peerIn, paramCount}
@@ -27,13 +23,12 @@ use Rattle.validity.specs.Valid.{maxTime, valid}
 use Rattle.validity.proofs.ValidLaws.{Facts, valid-facts}
 use Rattle.lookup.specs.Fresh.{freshState}
 use Rattle.lookup.proofs.FreshLaws.{fresh-valid}
-use Rattle.saves.specs.Save.{rowSize, edition, isSaved, savedRow, order, bodyOf, numbersOf, bytesOf, saveOf}
-use Rattle.saves.specs.Load.{Parse, numbers, malformed, parseFrom, ending, mostOf, prior, ascends, outside, loadedState, Loading}
-use Rattle.saves.specs.Load.{loaded, outOfRange, broken, bad, slotsOf, judgedBy, judged, records, counted, ofEdition, opened, timed}
+use Rattle.saves.specs.Save.{edition, savedRow, order, bodyOf, numbersOf, bytesOf, saveOf}
+use Rattle.saves.specs.Load.{numbers, parseFrom, mostOf, prior, ascends, outside, loadedState}
+use Rattle.saves.specs.Load.{loaded, broken, slotsOf, records, counted, opened, timed}
 use Rattle.saves.specs.Load.{sheeted, loadOf}
-use Rattle.saves.proofs.Lists.{Each, each-at, below-at, getD-joins, first-by}
+use Rattle.saves.proofs.Lists.{each-at, below-at, getD-joins, first-by}
 use Rattle.saves.proofs.Parsing.{top, Small, parse-back}
-use Rattle.saves.specs.Rising.{idAt, Rises}
 use Rattle.saves.proofs.Ordering.{rises-at, rises-next, Ordered, ordered}
 use Rattle.saves.proofs.Rows.{length-saved, length-most, row-id, most-small, saved-used, row-below}
 

@@ -2,14 +2,8 @@
 -- Assumes nothing.
 use mathlib.Core.Path.{_≡_, sym, ap, _∙_}
 use mathlib.Core.Bool.{true}
-use mathlib.Core.List.{List, map}
-use native.Mathlib.Omega.{arith}
-use Prim.Native.Nat.{ℕ}
-use Rattle.index.specs.declared.Found.{Found}
 use Rattle.index.specs.declared.Found.the-variants.{Nothing}
-use Rattle.varint.specs.Codes.{codeOf}
 use Rattle.params.specs.declared.Edition.{Edition}
-use Rattle.params.specs.declared.Numbered.{Numbered}
 use Rattle.params.specs.declared.Numbered.the-variants.{Known}
 use Rattle.params.specs.declared.Params.{Params}
 use Rattle.params.specs.Editions.{editionNumber, editionOf, coded}

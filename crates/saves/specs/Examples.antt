@@ -1,11 +1,11 @@
 -- Worked examples of save and load.
-use Prim.Native.Nat.{ℕ, zero, suc}
+use Prim.Native.Nat.{ℕ}
 use mathlib.Core.Path.{_≡_}
-use mathlib.Core.Bool.{true, false, cond}
+use mathlib.Core.Bool.{false, cond}
 use mathlib.Core.List.{List, [], _∷_, _++_, map}
 use lib.Dec.{eqb}
 use Rattle.index.specs.declared.Found.the-variants.{Nothing}
-use lib.ListN.{replicate, length}
+use lib.ListN.{replicate}
 use Rattle.varint.specs.Codes.{codeOf}
 use Rattle.params.specs.declared.Params.{Params}
 use Rattle.params.specs.Ordinary.{ordinaryNumbers, ordinaryParams}
@@ -13,7 +13,7 @@ use Rattle.records.specs.declared.Peer.{Peer}
 use Rattle.records.specs.Records.{State, slotCount, topicCount, noPeer, noTopic}
 use Rattle.layout.specs.Rows.{tab}
 use Rattle.layout.specs.View.{placeCount}
-use Rattle.saves.specs.Save.{saveOf, bytesOf}
+use Rattle.saves.specs.Save.{saveOf}
 use Rattle.saves.specs.Load.{Loading, loaded, outOfRange, broken, bad, loadedState, sheeted, loadOf}
 
 -- a hub by its status, id, P5 (as a code), P7, retain end and backoff ends

@@ -17,8 +17,8 @@ use Rattle.records.specs.Parameters.{p2CapAt, p3CapAt}
 abbrev pub maxTime : ℕ
 maxTime = 1099511627776
 
--- 02, order 8: "remaining retain times go to 86,400,000, backoffs to 3,600,000, in test 12 too, from the clock". 01's "backoff ends to 2^40 +
--- 3,600,000, retain ends to 2^40 + 86,400,000" follow, since the clock is at most 2^40
+-- 02, order 8: "remaining retain times go to 86,400,000, backoffs to 3,600,000, in test 12 too, from the clock". 01's "backoff ends to 2^40
+-- + 3,600,000, retain ends to 2^40 + 86,400,000" follow, since the clock is at most 2^40
 abbrev pub maxEnd : ℕ → ℕ
 maxEnd clock = clock + 3600000
 

@@ -2,9 +2,8 @@
 // router's; what it does not, the test record by record decides.
 ghost use mathlib.Core.Path.{_≡_};
 ghost use mathlib.Core.Bool.{true};
-ghost use Prim.Native.Nat.{_≤_, _<_};
+ghost use Prim.Native.Nat.{_≤_};
 ghost use lib.ListN.{length};
-ghost use Rattle.index.specs.Index.{every};
 ghost use Rattle.layout.specs.View.{stateOf, cellCount};
 ghost use Rattle.columns.specs.Within.{InUse};
 ghost use Rattle.validity.specs.Valid.{maxTime};

@@ -1,6 +1,6 @@
 -- The lowest slot of a set from a slot on: within the word where it starts, or the first of a later word that is not 0.
 -- Assumes nothing.
-use Prim.Native.Nat.{ℕ, zero, suc, _+_, _*_, _-_, _/_, _%_, _^_, _≤_, _<_}
+use Prim.Native.Nat.{ℕ, _+_, _*_, _-_, _/_, _%_, _^_, _≤_, _<_}
 use native.Mathlib.Omega.{arith}
 use native.Mathlib.Nat.{not-suc-le-zero, le-of-suc-le-suc, div-eq-of-lt, div-le-self}
 use mathlib.Core.Path.{_≡_, refl, sym, ap, _∙_}
@@ -11,7 +11,7 @@ use lib.Pow.{shr-shr}
 use Rattle.index.proofs.Flags.{by-order}
 use Rattle.records.specs.Records.{slotCount}
 use Rattle.words.specs.Words.{wordBits, wordCount, odd, bits, bitsOf, lowest, Next}
-use Rattle.words.proofs.BitLaws.{bits-at, bits-length, bits-lowest, lowest-lt, none-at}
+use Rattle.words.proofs.BitLaws.{bits-at, bits-length, lowest-lt, none-at}
 use Rattle.words.proofs.SlotWalk.{lowest-below}
 use Rattle.words.proofs.WideLaws.{at-word, pow-le}
 

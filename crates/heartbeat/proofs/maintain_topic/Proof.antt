@@ -14,7 +14,8 @@ use Rattle.heartbeat.proofs.maintain_topic.Tie as tie
 
 -- what the call began with
 abbrev begun : tie.After-changes → tie.Start
-begun k = k .before .before .before .before .before .before .before .before .before .before .before .before .before .before .before .before .before
+begun k = k .before .before .before .before .before .before .before .before .before .before .before .before .before .before .before .before
+    .before
 
 computed :
     (k : tie.After-changes) →
@@ -73,11 +74,17 @@ settle-requires c κs =
     (k .before .before .before .before .before .before .before .before .before .stages .ensures .1)
 
 store-clock-requires : tie.Need-store-clock-requires
-store-clock-requires c κs = c .before .before .before .settle .kept .0 ∙ c .before .before .before .before .before .before .before .before .before .before .before .before .before .before .before .before .before .before .before .before .before .before .before .before .before .before .before .pre .ready .standing .size
+store-clock-requires c κs =
+    c .before .before .before .settle .kept .0
+    ∙ c .before .before .before .before .before .before .before .before .before .before .before .before .before .before .before .before
+    .before .before .before .before .before .before .before .before .before .before .before .pre .ready .standing .size
 
 returns : tie.Need-returns
 returns c =
-    maintained-gives _ _ _ _ _ _ _ _ _ _ _ (computed (c .before .before .before .before .before .before .before .before .before .before .before .before .before)) _ _ _ _ _ _ (sized-of _) (c .before .before .before .before .before .before .before .before .before .before .before .before .tell-all .ensures) (c .before .before .before .before .before .before .settle .ensures)
+    maintained-gives _ _ _ _ _ _ _ _ _ _ _
+    (computed (c .before .before .before .before .before .before .before .before .before .before .before .before .before)) _ _ _ _ _ _
+    (sized-of _) (c .before .before .before .before .before .before .before .before .before .before .before .before .tell-all .ensures)
+    (c .before .before .before .before .before .before .settle .ensures)
     (c .before .before .store-clock .ensures .0)
 
 pub maintain-topic-spec : {M : Type 1} → statement M
@@ -87,8 +94,13 @@ maintain-topic-spec =
     (λ c κs. c .before .before .before .before .pre .ready .standing)
     (λ c. search needs)
     stages-requires
-    (λ c κs. let p = c .before .before .before .before .before .before .before .before .before .before .pre in record { size = p .ready .standing .size; topic = p .topic })
-    (λ c κs. record { size = c .before .before .before .before .before .before .before .before .before .before .before .before .before .pre .ready .standing .size; param = omega arith })
+    (λ c κs. let p = c .before .before .before .before .before .before .before .before .before .before .pre in
+    record { size = p .ready .standing .size; topic = p .topic })
+    (λ c κs. record {
+      size = c .before .before .before .before .before .before .before .before .before .before .before .before .before .pre .ready
+          .standing .size;
+      param = omega arith;
+    })
     (λ c κs. tt)
     tell-all-requires
     end-after-requires

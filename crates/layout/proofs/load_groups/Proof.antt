@@ -1,13 +1,8 @@
 -- `layout::load_groups`: four columns in use.
 use Rattle.layout.proofs.ReadLaws.{groups-load}
-use lib.ListN.{length-set}
-use native.Mathlib.Omega.{arith}
 use borrow.Author.Needs.{needs}
 use Rattle.layout.proofs.load_groups.Statement.{statement}
 use Rattle.layout.proofs.load_groups.Tie as tie
-use Rattle.layout.proofs.load_groups.Reads as reads
-use Rattle.layout.proofs.load_groups.Lts as lts
-use Rattle.layout.proofs.live.Reads as live-reads
 
 add-live : tie.Need-add-live
 add-live c = search needs
@@ -51,7 +46,8 @@ live-requires-4 c κs = search needs
 returns : tie.Need-returns
 returns c =
     let s = c .before .before .before .before .before in
-    groups-load (s .args .cells .now) (s .args .slot) (s .pre .1) _ _ _ _ (c .before .before .before .live .ensures) (c .before .before .live2 .ensures)
+    groups-load (s .args .cells .now) (s .args .slot) (s .pre .1) _ _ _ _ (c .before .before .before .live .ensures)
+    (c .before .before .live2 .ensures)
     (c .before .live3 .ensures) (c .live4 .ensures)
 
 pub load-groups-spec : {M : Type 1} → statement M

@@ -1,18 +1,10 @@
 -- `layout::load_peer`: each part is what the view reads, and a lane of a cell below 2^64 fits.
 use Rattle.layout.proofs.FitLaws.{peer-fits-too}
 use Rattle.layout.proofs.SlotLaws.{peer-read}
-use lib.ListN.{length-set}
 use native.Mathlib.Omega.{arith}
 use borrow.Author.Needs.{needs}
 use Rattle.layout.proofs.load_peer.Statement.{statement}
 use Rattle.layout.proofs.load_peer.Tie as tie
-use Rattle.layout.proofs.load_peer.Reads as reads
-use Rattle.layout.proofs.load_peer.Lts as lts
-use Rattle.layout.proofs.bit.Reads as bit-reads
-use Rattle.layout.proofs.ends.Reads as ends-reads
-use Rattle.layout.proofs.live.Reads as live-reads
-use Rattle.layout.proofs.load_groups.Reads as load-groups-reads
-use Rattle.layout.proofs.two.Reads as two-reads
 
 add-live : tie.Need-add-live
 add-live c = search needs
@@ -75,7 +67,10 @@ returns c =
     let y = c .before .two2 .ensures in
     peer-fits-too _ _ _ _ _ _ _ _ _ _ _ _ _ _ x y (b0 .1) (b1 .1) (b2 .1) (b3 .1) (b4 .1) (b5 .1) (omega arith)
     (peer-read (s .args .cells .now) (s .args .slot) _ _ _ _ _ _ _ _ _ _ _ _ _ (s .pre .1) x y (b0 .0) (b1 .0) (b2 .0) (b3 .0) (b4 .0)
-    (b5 .0) (c .before .before .before .before .before .before .live2 .ensures) (c .before .before .before .before .before .before .before .before .before .before .before .load-groups .ensures) (c .before .before .before .before .before .before .before .before .before .before .before .before .live .ensures) (c .live3 .ensures)
+    (b5 .0) (c .before .before .before .before .before .before .live2 .ensures)
+    (c .before .before .before .before .before .before .before .before .before .before .before .load-groups .ensures)
+    (c .before .before .before .before .before .before .before .before .before .before .before .before .live .ensures)
+    (c .live3 .ensures)
     (c .before .before .before .before .before .before .before .before .before .before .ends .ensures))
 
 pub load-peer-spec : {M : Type 1} → statement M

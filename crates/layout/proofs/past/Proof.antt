@@ -1,5 +1,4 @@
 -- `layout::past`: four words.
-use native.Mathlib.Omega.{arith}
 use borrow.Author.Needs.{needs}
 use Rattle.layout.proofs.EndLaws.{past-four}
 use Rattle.layout.proofs.past.Statement.{statement}

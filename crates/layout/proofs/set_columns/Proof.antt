@@ -7,8 +7,6 @@ use native.Mathlib.Omega.{arith}
 use borrow.Author.Needs.{needs}
 use Rattle.layout.proofs.set_columns.Statement.{statement}
 use Rattle.layout.proofs.set_columns.Tie as tie
-use Rattle.layout.proofs.set_columns.Reads as reads
-use Rattle.layout.proofs.set_columns.Lts as lts
 
 add-cells : tie.Need-add-cells
 add-cells c = search needs

@@ -1,20 +1,12 @@
 -- `layout::write_peer`: six bits, seven cells and a row of one slot are written: no other slot sees it, and the slot reads the record.
-use Prim.Native.Nat.{ℕ}
 use mathlib.Core.Path.{_≡_, sym, _∙_}
 use lib.ListN.{length}
 use Rattle.layout.specs.View.{setColumns}
 use Rattle.layout.proofs.SlotLaws.{peer-written}
-use lib.ListN.{length-set}
 use native.Mathlib.Omega.{arith}
 use borrow.Author.Needs.{needs}
 use Rattle.layout.proofs.write_peer.Statement.{statement}
 use Rattle.layout.proofs.write_peer.Tie as tie
-use Rattle.layout.proofs.write_peer.Reads as reads
-use Rattle.layout.proofs.write_peer.Lts as lts
-use Rattle.layout.proofs.halves.Reads as halves-reads
-use Rattle.layout.proofs.set_columns.Reads as set-columns-reads
-use Rattle.layout.proofs.set_flags.Reads as set-flags-reads
-use Rattle.layout.proofs.write_row.Reads as write-row-reads
 
 -- the row is an array of eight
 ends-eight : (s : tie.Start) → length (s .args .p .backoff) ≡ 8
@@ -30,17 +22,25 @@ set-columns-requires : tie.Need-set-columns-requires
 set-columns-requires c κs = search needs
 
 mul-write-row : tie.Need-mul-write-row
-mul-write-row c = let h = c .before .before .before .before .before .before .before .before .before .before .before .before .before .before .before .before .pre .1 .0 in omega (arith, h)
+mul-write-row c = let h =
+    c .before .before .before .before .before .before .before .before .before .before .before .before .before .before .before .before .pre
+    .1 .0 in omega (arith, h)
 
 add-write-row : tie.Need-add-write-row
-add-write-row c = let h = c .before .before .before .before .before .before .before .before .before .before .before .before .before .before .before .before .pre .1 .0 in omega (arith, h)
+add-write-row c = let h =
+    c .before .before .before .before .before .before .before .before .before .before .before .before .before .before .before .before .pre
+    .1 .0 in omega (arith, h)
 
 slice-aggregate-write-row : tie.Need-slice-aggregate-write-row
-slice-aggregate-write-row c = sym (ends-eight (c .before .before .before .before .before .before .before .before .before .before .before .before .before .before .before .before .before))
+slice-aggregate-write-row c =
+    sym (ends-eight
+    (c .before .before .before .before .before .before .before .before .before .before .before .before .before .before .before .before
+    .before))
 
 write-row-requires : tie.Need-write-row-requires
 write-row-requires c κs =
-    let s = c .before .before .before .before .before .before .before .before .before .before .before .before .before .before .before .before .before in
+    let s = c .before .before .before .before .before .before .before .before .before .before .before .before .before .before .before
+    .before .before in
     let n = ends-eight s in
     let l = c .before .before .before .before .before .before .before .before .set-flags .ensures .1 in
     let m = c .before .before .before .before .set-columns .ensures .1 in
@@ -53,14 +53,16 @@ same-length c = search needs
 
 returns : tie.Need-returns
 returns c =
-    let s = c .before .before .before .before .before .before .before .before .before .before .before .before .before .before .before .before .before .before .before .before in
+    let s = c .before .before .before .before .before .before .before .before .before .before .before .before .before .before .before
+    .before .before .before .before .before in
     let g = s .args .p .groups in
     let f = c .before .before .before .before .before .before .before .before .before .before .before .set-flags in
     peer-written (s .args .cells .now) (s .args .slot) (s .args .p) (s .pre .0) (s .pre .1 .0) (s .pre .1 .1 .0) (s .pre .1 .1 .1)
     (ends-eight s) _ _ _ (f .ensures .0)
     (c .before .before .before .before .before .before .before .set-columns .ensures .0
     ∙ λ i. setColumns (f .last .0) (s .args .slot) (s .args .p .id) (g .first) (g .second) (g .third) (g .fourth)
-    (c .before .before .before .before .before .before .before .before .before .before .before .before .before .before .before .before .before .halves .ensures i) (s .args .p .retain))
+    (c .before .before .before .before .before .before .before .before .before .before .before .before .before .before .before .before
+    .before .halves .ensures i) (s .args .p .retain))
     (c .before .before .write-row .ensures)
 
 pub write-peer-spec : {M : Type 1} → statement M

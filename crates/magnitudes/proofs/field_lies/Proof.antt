@@ -1,3 +1,4 @@
+-- `magnitudes::field_lies`: after t turns the numbers of t topics lie between the two.
 use Prim.Native.Nat.{_-_, _≤_}
 use native.Mathlib.Omega.{arith}
 use mathlib.Core.Path.{_≡_, refl}

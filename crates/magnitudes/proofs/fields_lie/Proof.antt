@@ -1,3 +1,4 @@
+-- `magnitudes::fields_lie`: after j turns the first j numbers of every topic lie in their ranges.
 use Prim.Native.Nat.{ℕ, _-_, _≤_}
 use borrow.Author.Needs.{needs}
 use native.Mathlib.Omega.{arith}

@@ -1,3 +1,4 @@
+-- `magnitudes::generals_lie`: after i turns the first i general numbers lie in their ranges.
 use Prim.Native.Nat.{_-_, _≤_}
 use borrow.Author.Needs.{needs}
 use native.Mathlib.Omega.{arith}

@@ -1,3 +1,4 @@
+-- `magnitudes::score_holds`: the rule of either edition, on magnitudes.
 use borrow.Author.Needs.{needs}
 use native.Mathlib.Omega.{arith}
 use Rattle.layout.specs.View.{stateOf}

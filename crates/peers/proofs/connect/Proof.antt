@@ -16,7 +16,8 @@ connect-from-requires c κs =
       gate-ready _ _ _ _ _ _ (d .admit .ensures) told (o .before .before .time-ok .ensures) (search needs),
       gate-groups _ (o .before .before .time-ok .result) (o .before .id-ok .result) (o .groups-ok .result) _ _ _ _ (d .admit .ensures) told
           _ (o .groups-ok .ensures),
-      tested-flags _ (o .before .before .time-ok .result) (o .before .id-ok .result) (o .groups-ok .result) _ _ _ _ (d .admit .ensures) told,
+      tested-flags _ (o .before .before .time-ok .result) (o .before .id-ok .result) (o .groups-ok .result) _ _ _ _ (d .admit .ensures)
+          told,
     )
 
 pub connect-spec : {M : Type 1} → statement M

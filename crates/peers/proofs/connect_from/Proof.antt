@@ -20,8 +20,11 @@ returns-3 c =
 
 connect-known-requires : tie.Need-connect-known-requires
 connect-known-requires c κs =
-    let s = c .before .before .before .before .before .before .before .before .before .before .before .before .before in
-    (s .pre .0, version-fits _ _ _ _ (c .before .before .before .before .before .before .before .before .before .version-of .ensures) (c .before .before .before .before .before .before .before .version .given .1) (s .pre .2))
+    let s = c .before .before .before .before .before .before .before .before .before .before .before .before .before in (
+      s .pre .0,
+      version-fits _ _ _ _ (c .before .before .before .before .before .before .before .before .before .version-of .ensures)
+          (c .before .before .before .before .before .before .before .version .given .1) (s .pre .2),
+    )
 
 pub connect-from-spec : {M : Type 1} → statement M
 connect-from-spec =

@@ -1,11 +1,10 @@
 -- `save_load::check_all`: each end by its case. Assumes nothing.
 use Prim.{tt}
-use Prim.Native.Nat.{ℕ, _+_, _*_, _-_, _≤_, _<_}
-use mathlib.Core.Path.{_≡_, refl, sym, ap, _∙_}
-use native.Mathlib.Omega.{arith}
+use mathlib.Core.Path.{_≡_, sym, _∙_}
 use borrow.Author.Needs.{needs}
-use lib.ListN.{length, getD, take, length-set}
+use lib.ListN.{length}
 use Rattle.save_load.proofs.CheckLaws.{check-sheet, check-clock, check-fine}
+use Rattle.records.specs.Records.{paramCount}
 use Rattle.save_load.proofs.check_all.Statement.{statement}
 use Rattle.save_load.proofs.check_all.Tie as tie
 
@@ -23,7 +22,7 @@ check-all-spec =
     (λ c. check-sheet _ _ _ _ (c .before .before .before .first-broken .ensures) _ (c .before .i .given .1))
     (λ c.
     let s = c .before .before .before .before .before .before .before .before .before .before in
-    let n : length (s .args .params .numbers) ≡ 147 = search needs in
+    let n : length (s .args .params .numbers) ≡ paramCount = search needs in
     check-fine (s .args .params) (s .args .clock) (s .args .s .now) _
     (c .before .before .before .before .before .before .before .before .first-broken .ensures)
     (c .before .before .before .before .before .before .enum-told .given .1)

@@ -1,12 +1,8 @@
 -- `save_load::judge`: the ranges, then the numbers. Assumes nothing.
-use Prim.{tt}
-use Prim.Native.Nat.{ℕ, _+_, _*_, _-_, _≤_, _<_}
-use mathlib.Core.Path.{_≡_, refl, sym, ap, _∙_}
-use native.Mathlib.Omega.{arith}
-use borrow.Author.Needs.{needs}
+use Prim.Native.Nat.{ℕ}
+use mathlib.Core.Path.{refl, ap, _∙_}
 use mathlib.Core.List.{List}
 use Rattle.saves.specs.Load.{parseFrom}
-use lib.ListN.{length, getD, take, length-set}
 use Rattle.save_load.specs.Judge.{judgeOf}
 use Rattle.save_load.proofs.judge.Statement.{statement}
 use Rattle.save_load.proofs.judge.Tie as tie

@@ -1,10 +1,4 @@
 -- `save_load::slots_of`: each end by its test. Assumes nothing.
-use Prim.{tt}
-use Prim.Native.Nat.{ℕ, _+_, _*_, _-_, _≤_, _<_}
-use mathlib.Core.Path.{_≡_, refl, sym, ap, _∙_}
-use native.Mathlib.Omega.{arith}
-use borrow.Author.Needs.{needs}
-use lib.ListN.{length, getD, take, length-set}
 use Rattle.save_load.proofs.CheckLaws.{slots-one, slots-two, slots-none}
 use Rattle.save_load.proofs.slots_of.Statement.{statement}
 use Rattle.save_load.proofs.slots_of.Tie as tie

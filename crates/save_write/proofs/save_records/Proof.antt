@@ -1,10 +1,6 @@
 -- `save_write::save_records`: when a retain period ends, and two lists to sort in. Assumes nothing.
-use Prim.{tt}
-use Prim.Native.Nat.{ℕ, _+_, _*_, _-_, _≤_, _<_}
-use mathlib.Core.Path.{_≡_, refl, sym, ap, _∙_}
+use mathlib.Core.Path.{refl, ap, _∙_}
 use native.Mathlib.Omega.{arith}
-use borrow.Author.Needs.{needs}
-use lib.ListN.{length, getD, take, length-set}
 use Rattle.layout.specs.View.{stateOf}
 use Rattle.effects.specs.Effects.{endAfter}
 use Rattle.save_write.proofs.SaveLaws.{retain-small}

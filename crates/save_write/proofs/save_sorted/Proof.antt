@@ -1,11 +1,7 @@
 -- `save_write::save_sorted`: the keys are collected, sorted in the front of their list, and written. Assumes nothing.
-use Prim.{tt}
-use Prim.Native.Nat.{ℕ, _+_, _*_, _-_, _≤_, _<_}
-use mathlib.Core.Path.{_≡_, refl, sym, ap, _∙_}
+use mathlib.Core.Path.{sym, _∙_}
 use native.Mathlib.Omega.{arith}
-use borrow.Author.Needs.{needs}
 use lib.Seq.{length-take-le, length-front}
-use lib.ListN.{length, getD, take, length-set}
 use Rattle.layout.specs.View.{stateOf}
 use Rattle.save_write.proofs.SaveLaws.{few-fit, sorted-front}
 use Rattle.save_write.proofs.save_sorted.Statement.{statement}

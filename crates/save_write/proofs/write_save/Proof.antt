@@ -1,11 +1,7 @@
 -- `save_write::write_save`: the sizes first; then the front and the rows. Assumes nothing.
-use Prim.{tt}
-use Prim.Native.Nat.{ℕ, _+_, _*_, _-_, _≤_, _<_}
-use mathlib.Core.Path.{_≡_, refl, sym, ap, _∙_}
+use mathlib.Core.Path.{refl, _∙_}
 use native.Mathlib.Omega.{arith}
-use borrow.Author.Needs.{needs}
 use Rattle.layout.specs.View.{stateOf}
-use lib.ListN.{length, getD, take, length-set}
 use Rattle.save_write.proofs.SaveLaws.{keys-few, write-short, write-room, write-rest, write-done}
 use Rattle.save_write.proofs.write_save.Statement.{statement}
 use Rattle.save_write.proofs.write_save.Tie as tie

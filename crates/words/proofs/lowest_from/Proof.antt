@@ -1,11 +1,10 @@
 -- `words::lowest_from`: the words passed are 0.
-use Prim.Native.Nat.{ℕ, _+_, _*_, _-_, _/_, _^_, _≤_}
+use Prim.Native.Nat.{_+_, _*_, _-_, _≤_}
 use native.Mathlib.Omega.{arith}
-use borrow.Author.Needs.{needs}
-use mathlib.Core.Path.{_≡_, refl, sym, ap, _∙_}
+use mathlib.Core.Path.{_≡_, ap}
 use lib.ListN.{length, getD}
 use lib.Count.{trailing-le}
-use Rattle.words.specs.Words.{wordBits, wordCount, bits, bitsOf, lowest}
+use Rattle.words.specs.Words.{wordBits, wordCount, bitsOf}
 use Rattle.words.proofs.BitLaws.{bits-lowest}
 use Rattle.words.proofs.NextLaws.{Clear, clear-more, hit-first, next-after, next-end}
 use Rattle.words.proofs.lowest_from.Statement.{statement}
@@ -23,7 +22,8 @@ returns c =
     let m = c .before .before .before .before .args .m .now in
     let w = getD m (l .k) 0 in
     next-after (bitsOf m) _ (wordBits * l .k) _ (let a = l .inv .0 in omega arith) (l .inv .3)
-    (hit-first m (l .inv .2) (l .k) (omega arith) _ (omega (arith, c .before .shared-slice-known .given (l .k))) (omega arith) (ap (λ n. wordBits * l .k + n) (bits-lowest wordBits w)))
+    (hit-first m (l .inv .2) (l .k) (omega arith) _ (omega (arith, c .before .shared-slice-known .given (l .k))) (omega arith)
+    (ap (λ n. wordBits * l .k + n) (bits-lowest wordBits w)))
 
 loop-again : tie.Need-loop-again Inv-loop μ-loop
 loop-again c =
@@ -48,8 +48,14 @@ lowest-from-spec =
     (λ c. omega arith)
     (λ c. omega arith)
     (λ c. omega arith)
-    (λ c. omega (arith, trailing-le wordBits (getD (c .before .before .before .before .args .m .now) (c .before .before .before .loop .k) 0)))
-    (λ c. omega (arith, trailing-le wordBits (getD (c .before .before .before .before .args .m .now) (c .before .before .before .loop .k) 0)))
+    (λ c. omega (
+      arith,
+      trailing-le wordBits (getD (c .before .before .before .before .args .m .now) (c .before .before .before .loop .k) 0),
+    ))
+    (λ c. omega (
+      arith,
+      trailing-le wordBits (getD (c .before .before .before .before .args .m .now) (c .before .before .before .loop .k) 0),
+    ))
     returns
     (λ c. omega arith)
     (λ c. omega arith)

@@ -1,11 +1,11 @@
 -- `words::next`: in the word where it starts, or in a later one.
-use Prim.Native.Nat.{ℕ, _+_, _*_, _/_, _%_, _^_, _≤_}
+use Prim.Native.Nat.{_+_, _/_, _%_, _^_}
 use native.Mathlib.Omega.{arith}
 use borrow.Author.Needs.{needs}
-use mathlib.Core.Path.{_≡_, refl, sym, ap, _∙_}
-use lib.ListN.{length, getD}
+use mathlib.Core.Path.{ap}
+use lib.ListN.{getD}
 use lib.Count.{trailing-le}
-use Rattle.words.specs.Words.{wordBits, wordCount, bits, bitsOf, lowest}
+use Rattle.words.specs.Words.{wordBits, bitsOf}
 use Rattle.words.proofs.BitLaws.{bits-lowest}
 use Rattle.words.proofs.NextLaws.{next-end, hit-slot, pass-slot}
 use Rattle.words.proofs.next.Statement.{statement}
@@ -19,7 +19,8 @@ returns-2 c =
     let n = c .before .before .before in
     let s = n .before in
     let w = getD (s .args .m .now) (s .args .s / wordBits) 0 in
-    hit-slot (s .args .m .now) (s .pre .0) (s .args .s) (omega arith) _ (omega (arith, n .shared-slice-known .given (s .args .s / wordBits))) (omega arith)
+    hit-slot (s .args .m .now) (s .pre .0) (s .args .s) (omega arith) _
+    (omega (arith, n .shared-slice-known .given (s .args .s / wordBits))) (omega arith)
     (ap (λ n. s .args .s + n) (bits-lowest wordBits (w / 2 ^ (s .args .s % wordBits))))
 
 returns-3 : tie.Need-returns-3

@@ -30,6 +30,9 @@ is-router-spec =
     returns
     (λ c κs. search needs)
     (λ c κs. search needs)
-    (λ c κs. search needs)
+    (λ c κs. (
+      c .before .before .before .before .before .pre,
+      subst (λ (n : ℕ). n ≤ maxTime) (c .before .before .before .load-clock .ensures) (c .before .before .if1 .left),
+    ))
     (λ c κs. search needs)
     returns-2)

@@ -22,7 +22,7 @@ slots-ok-spec =
     Inv-loop
     μ-loop
     (λ c. search (flag-loop, needs))
-    (λ c κs. search needs)
+    (λ c κs. (c .before .before .before .pre .0, c .loop-test .taken, c .before .before .before .pre .1))
     (λ c. search needs)
     (λ c. search needs)
     (λ c. search (flag-loop, needs))

@@ -19,7 +19,9 @@ returns c =
     let p = c .before .before .before .before .before .before .before .before .before .before .before .before .before .before .pre in
     others-taken _ _ _ _ (n .ensures .0) (r .0) (n .ensures .1) (r .1)
     (λ s h. valid-facts _ (p .taking .standing .router) .peer s h .status) _ _ _ _
-    (c .before .before .before .before .before .before .before .before .before .except .ensures ∙ ap (except (bitsOf (n .result))) (c .before .before .before .before .before .before .before .before .before .before .members .ensures))
+    (c .before .before .before .before .before .before .before .before .before .except .ensures
+    ∙ ap (except (bitsOf (n .result)))
+    (c .before .before .before .before .before .before .before .before .before .before .members .ensures))
     (p .taking .size)
     (p .members)
     (p .empty)
@@ -36,5 +38,6 @@ score-others-spec =
     (λ c κs. c .before .before .before .before .before .before .pre .taking)
     (λ c κs. c .before .before .before .before .before .before .before .before .before .pre .taking .standing .size)
     score-slots-requires-2
-    (λ c. c .before .before .score-slots2 .ensures .size ∙ c .before .before .before .before .before .before .before .score-slots .ensures .size)
+    (λ c. c .before .before .score-slots2 .ensures .size
+    ∙ c .before .before .before .before .before .before .before .score-slots .ensures .size)
     returns)

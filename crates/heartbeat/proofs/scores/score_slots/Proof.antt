@@ -1,11 +1,11 @@
 -- `heartbeat::scores::score_slots`: before the turn of a slot of the set the scores of those below it are taken.
-use Rattle.index.proofs.Kit.{ℕ, _≡_, _-_, _≤_, _<_, sym, _∙_, arith}
+use Rattle.index.proofs.Kit.{_≡_, _-_, _≤_, _<_, arith}
 use borrow.Author.Needs.{needs}
 use mathlib.Core.Bool.{false, true}
-use lib.ListN.{length, getD}
+use lib.ListN.{getD}
 use Rattle.records.specs.Records.{slotCount}
 use Rattle.layout.specs.View.{stateOf}
-use Rattle.words.specs.Words.{wordCount, bitsOf}
+use Rattle.words.specs.Words.{bitsOf}
 use Rattle.peer_score.proofs.WeightLaws.{weighing-p2, weighing-p3b, weighing-p4}
 use Rattle.heartbeat.proofs.HeightLaws.{Walked, walked-none, walked-next, walked-more, walked-done}
 use Rattle.heartbeat.proofs.scores.score_slots.Statement.{statement}
@@ -31,7 +31,12 @@ height-requires c κs =
     record {
       at = record { standing = p .standing; slot = c .before .before .before .loop-test .taken };
       buckets = p .buckets;
-      weights = record { p2 = c .before .before .before .before .before .before .before .before .before .weights .ensures; p3b = c .before .before .before .before .before .before .before .before .weights2 .ensures; p4 = c .before .before .before .before .before .before .before .weights3 .ensures };
+      weights = record {
+        p2 = c .before .before .before .before .before .before .before .before .before .weights .ensures;
+        p3b = c .before .before .before .before .before .before .before .before .weights2 .ensures;
+        p4 =
+            c .before .before .before .before .before .before .before .weights3 .ensures;
+      };
     }
 
 loop-less : tie.Need-loop-less Inv-loop μ-loop
@@ -47,8 +52,13 @@ loop-again c =
     let l = c .before .before .before .before .before .before .before .loop in
     let w = l .inv .2 in
     let z = w .size in
-    let p = c .before .before .before .before .before .before .before .before .before .before .before .before .before .before .before .pre .size in
-    (n .most, n .here, walked-next _ _ _ _ _ _ n (walked-more _ _ _ (l .slot) _ (l .heights) (omega arith) (l .inv .1 t) (c .before .before .height .ensures) w))
+    let p = c .before .before .before .before .before .before .before .before .before .before .before .before .before .before .before .pre
+    .size in (
+      n .most,
+      n .here,
+      walked-next _ _ _ _ _ _ n
+          (walked-more _ _ _ (l .slot) _ (l .heights) (omega arith) (l .inv .1 t) (c .before .before .height .ensures) w),
+    )
 
 pub score-slots-spec : {M : Type 1} → statement M
 score-slots-spec =
@@ -64,7 +74,9 @@ score-slots-spec =
     loop-holds
     height-requires
     (λ c. search needs)
-    (λ c. let w = c .before .before .before .before .before .loop .inv .2 .size in let p = c .before .before .before .before .before .before .before .before .before .before .before .before .before .pre .size in let t = c .before .before .before .before .loop-test .taken in omega arith)
+    (λ c. let w = c .before .before .before .before .before .loop .inv .2 .size in
+    let p = c .before .before .before .before .before .before .before .before .before .before .before .before .before .pre .size in
+    let t = c .before .before .before .before .loop-test .taken in omega arith)
     (λ c. search needs)
     (λ c. search needs)
     (λ c κs. (search needs, omega (arith, c .before .before .before .before .before .loop-test .taken)))

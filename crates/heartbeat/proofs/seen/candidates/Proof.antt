@@ -1,12 +1,13 @@
 -- `heartbeat::seen::candidates`: before the turn of an eligible slot those below it are sifted.
-use Rattle.index.proofs.Kit.{ℕ, _≡_, _-_, _≤_, _<_, sym, _∙_, arith}
+use Rattle.index.proofs.Kit.{_≡_, _-_, _≤_, _<_, sym, _∙_, arith}
 use borrow.Author.Needs.{needs}
 use mathlib.Core.Bool.{false, true}
 use lib.ListN.{length, getD}
 use Rattle.records.specs.Records.{slotCount}
 use Rattle.layout.specs.View.{stateOf}
 use Rattle.words.specs.Words.{wordCount, bitsOf}
-use Rattle.heartbeat.proofs.SeenLaws.{score-at, scores-length, flags-length, Sifted, sifted-none, sifted-next, sifted-more, sifted-done}
+use Rattle.heartbeat.proofs.SeenLaws.{score-at, scores-length, flags-length, Sifted, sifted-none, sifted-next, sifted-more}
+use Rattle.heartbeat.proofs.SeenLaws.{sifted-done}
 use Rattle.heartbeat.proofs.seen.candidates.Statement.{statement}
 use Rattle.heartbeat.proofs.seen.candidates.Tie as tie
 
@@ -52,7 +53,8 @@ loop-again c =
       n .most,
       n .here,
       sifted-next _ _ _ _ e _ _ _ n
-          (sifted-more _ _ _ (l .slot) _ _ _ t (sym (e (l .slot) t) ∙ l .inv .1 t) (c .before .before .before .is-free .ensures) (c .before .before .put .ensures) (l .inv .2)),
+          (sifted-more _ _ _ (l .slot) _ _ _ t (sym (e (l .slot) t) ∙ l .inv .1 t) (c .before .before .before .is-free .ensures)
+          (c .before .before .put .ensures) (l .inv .2)),
     )
 
 pub candidates-spec : {M : Type 1} → statement M
@@ -66,7 +68,8 @@ candidates-spec =
     (λ c κs. (search needs, omega arith))
     loop-holds
     (λ c. search needs)
-    (λ c. let n = scores-length _ _ (c .before .before .before .before .before .before .before .before .pre .scores) in let t = c .before .loop-test .taken in omega arith)
+    (λ c. let n = scores-length _ _ (c .before .before .before .before .before .before .before .before .pre .scores) in
+    let t = c .before .loop-test .taken in omega arith)
     is-free-requires
     (λ c κs. tt)
     (λ c. search needs)

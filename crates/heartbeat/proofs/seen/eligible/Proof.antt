@@ -1,5 +1,4 @@
 -- `heartbeat::seen::eligible`: four words as they stand in the table, together.
-use borrow.Author.Needs.{needs}
 use Rattle.heartbeat.proofs.SeenLaws.{eligible-is}
 use Rattle.heartbeat.proofs.seen.eligible.Statement.{statement}
 use Rattle.heartbeat.proofs.seen.eligible.Tie as tie
@@ -20,7 +19,8 @@ eligible-spec =
     let u = c .before .before .before .before .before .load-subscribed .ensures in
     let x = c .before .before .before .before .load-explicit .ensures in
     let m = c .before .before .before .load-members .ensures in
-    eligible-is _ _ s (c .before .before .before .before .before .before .before .before .pre .standing .router) h _ _ _ _ _ _ _ (n .0) (u .0) (x .0) (m .0) (n .1 s h) (u .1 s h) (x .1 s h) (m .1 s h)
+    eligible-is _ _ s (c .before .before .before .before .before .before .before .before .pre .standing .router) h _ _ _ _ _ _ _ (n .0)
+    (u .0) (x .0) (m .0) (n .1 s h) (u .1 s h) (x .1 s h) (m .1 s h)
     (c .before .before .both .ensures)
     (c .before .except .ensures)
     (c .except2 .ensures)))

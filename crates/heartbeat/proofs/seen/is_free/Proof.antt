@@ -1,5 +1,4 @@
 -- `heartbeat::seen::is_free`: the rules' two tests, of the numbers loaded.
-use native.Mathlib.Omega.{arith}
 use Rattle.heartbeat.proofs.SeenLaws.{free-is}
 use Rattle.heartbeat.proofs.seen.is_free.Statement.{statement}
 use Rattle.heartbeat.proofs.seen.is_free.Tie as tie

@@ -13,7 +13,9 @@ view-requires c κs =
 returns : tie.Need-returns
 returns c =
     let s = c .before .before .before .before .before .before .before .score-others .ensures in (
-      stages-are _ _ _ _ _ _ _ _ (c .meshes .ensures) (c .before .before .degrees .ensures) (c .before .before .before .view .ensures (c .before .before .before .before .before .before .before .before .before .before .before .before .args .order .now)),
+      stages-are _ _ _ _ _ _ _ _ (c .meshes .ensures) (c .before .before .degrees .ensures)
+          (c .before .before .before .view .ensures
+          (c .before .before .before .before .before .before .before .before .before .before .before .before .args .order .now)),
       λ k h q. score-at _ _ k h s,
     )
 
@@ -25,5 +27,6 @@ all-stages-spec =
     view-requires
     (λ c κs. c .before .before .before .before .before .before .before .before .before .pre .taking .standing)
     (λ c κs. scores-length _ _ (c .before .before .before .before .before .before .score-others .ensures))
-    (λ c. scores-length _ _ (c .before .before .before .before .before .before .before .score-others .ensures) ∙ sym (c .before .before .before .before .before .before .before .before .before .before .before .before .pre .taking .size))
+    (λ c. scores-length _ _ (c .before .before .before .before .before .before .before .score-others .ensures)
+    ∙ sym (c .before .before .before .before .before .before .before .before .before .before .before .before .pre .taking .size))
     returns)

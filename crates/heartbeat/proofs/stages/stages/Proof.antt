@@ -16,20 +16,36 @@ score-slots-requires c κs =
 returns : tie.Need-returns
 returns c =
     let t = c .before .before .before .before .before .before .before .before .before .before .before .score-slots .ensures in
-    let m = c .before .before .before .before .before .before .before .before .before .before .before .before .before .before .before .before .members .ensures in (
-      still-stages _ _ _ _ _ _ _ _ _ _ _ _ m (t .size ∙ c .before .before .before .before .before .before .before .before .before .before .before .before .before .before .before .before .before .before .before .before .before .before .before .before .pre .size) (t .taken) (c .before .before .before .before .before .before .before .at-least .ensures) (c .before .before .before .before .before .before .both .ensures)
-          (c .before .before .before .before .before .degrees .ensures) (c .before .before .before .before .outbound .ensures) (sym (c .before .before .is-still .ensures) ∙ c .before .if1 .taken) (c .still .ensures),
+    let m = c .before .before .before .before .before .before .before .before .before .before .before .before .before .before .before
+    .before .members .ensures in (
+      still-stages _ _ _ _ _ _ _ _ _ _ _ _ m
+          (t .size ∙ c .before .before .before .before .before .before .before .before .before .before .before .before .before .before
+          .before .before .before .before .before .before .before .before .before .before .pre .size) (t .taken)
+          (c .before .before .before .before .before .before .before .at-least .ensures)
+          (c .before .before .before .before .before .before .both .ensures)
+          (c .before .before .before .before .before .degrees .ensures) (c .before .before .before .before .outbound .ensures)
+          (sym (c .before .before .is-still .ensures) ∙ c .before .if1 .taken) (c .still .ensures),
       λ s h q. t .taken s h (ap (λ (x : List Bool). at x s) m ∙ q),
     )
 
 all-stages-requires : tie.Need-all-stages-requires
 all-stages-requires c κs =
-    let p = c .before .before .before .before .before .before .before .before .before .before .before .before .before .before .before .before .before .before .before .before .before .before .before .before .before .before .before .pre in
-    let t = c .before .before .before .before .before .before .before .before .before .before .before .before .before .before .score-slots .ensures in
+    let p = c .before .before .before .before .before .before .before .before .before .before .before .before .before .before .before
+    .before .before .before .before .before .before .before .before .before .before .before .before .pre in
+    let t = c .before .before .before .before .before .before .before .before .before .before .before .before .before .before .score-slots
+    .ensures in
     record {
-      taking = record { standing = p .standing; buckets = c .before .before .before .before .before .before .before .before .before .before .before .before .before .before .before .before .before .before .before .before .count-groups .ensures; size = t .size ∙ p .size };
+      taking = record {
+        standing = p .standing;
+        buckets = c .before .before .before .before .before .before .before .before .before .before .before .before .before .before
+            .before .before .before .before .before .before .count-groups .ensures;
+        size = t .size ∙ p .size;
+      };
       topic = p .topic;
-      members = λ s h q. t .taken s h (ap (λ (x : List Bool). at x s) (c .before .before .before .before .before .before .before .before .before .before .before .before .before .before .before .before .before .before .before .members .ensures) ∙ q);
+      members = λ s h q. t .taken s h
+          (ap (λ (x : List Bool). at x s)
+          (c .before .before .before .before .before .before .before .before .before .before .before .before .before .before .before .before
+          .before .before .before .members .ensures) ∙ q);
       empty = empty-kept _ _ _ _ t (p .empty);
     }
 
@@ -38,16 +54,25 @@ stages-spec =
     tie.close
     (tie.spec
     (λ c κs. (c .before .before .before .before .before .before .pre .standing, tells-none))
-    (λ c κs. let p = c .before .before .before .before .before .before .before .pre in record { size = p .standing .size; topic = p .topic })
+    (λ c κs. let p = c .before .before .before .before .before .before .before .pre in
+    record { size = p .standing .size; topic = p .topic })
     score-slots-requires
-    (λ c κs. c .before .before .before .score-slots .ensures .size ∙ c .before .before .before .before .before .before .before .before .before .before .before .before .before .before .before .before .pre .size)
+    (λ c κs. c .before .before .before .score-slots .ensures .size
+    ∙ c .before .before .before .before .before .before .before .before .before .before .before .before .before .before .before .before
+    .pre .size)
     (λ c κs. tt)
-    (λ c κs. c .before .before .before .before .before .before .before .before .before .before .before .before .before .before .before .before .before .before .pre .standing)
-    (λ c κs. c .before .before .before .before .before .before .before .before .before .before .before .before .before .before .before .before .before .before .before .pre .standing .size)
-    (λ c κs. c .before .before .before .before .before .before .before .before .score-slots .ensures .size ∙ c .before .before .before .before .before .before .before .before .before .before .before .before .before .before .before .before .before .before .before .before .before .pre .size)
+    (λ c κs. c .before .before .before .before .before .before .before .before .before .before .before .before .before .before .before
+    .before .before .before .pre .standing)
+    (λ c κs. c .before .before .before .before .before .before .before .before .before .before .before .before .before .before .before
+    .before .before .before .before .pre .standing .size)
+    (λ c κs. c .before .before .before .before .before .before .before .before .score-slots .ensures .size
+    ∙ c .before .before .before .before .before .before .before .before .before .before .before .before .before .before .before .before
+    .before .before .before .before .before .pre .size)
     (λ c κs. tt)
     (λ c. c .before .before .before .before .before .before .before .before .before .before .before .score-slots .ensures .size)
     returns
     all-stages-requires
-    (λ c. c .before .before .all-stages .kept .1 .1 .1 .1 .1 .1 .1 .1 .0 ∙ c .before .before .before .before .before .before .before .before .before .before .before .before .before .before .before .before .before .score-slots .ensures .size)
+    (λ c. c .before .before .all-stages .kept .1 .1 .1 .1 .1 .1 .1 .1 .0
+    ∙ c .before .before .before .before .before .before .before .before .before .before .before .before .before .before .before .before
+    .before .score-slots .ensures .size)
     (λ c. c .before .before .all-stages .ensures))

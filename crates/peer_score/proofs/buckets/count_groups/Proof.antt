@@ -1,5 +1,5 @@
 -- `peer_score::buckets::count_groups`: before the turn of a connected slot those below it are counted.
-use Rattle.index.proofs.Kit.{ℕ, _≡_, _-_, _≤_, _<_, arith}
+use Rattle.index.proofs.Kit.{_≡_, _-_, _≤_, _<_, arith}
 use borrow.Author.Needs.{needs}
 use mathlib.Core.Bool.{false, true}
 use lib.ListN.{getD}
@@ -50,8 +50,14 @@ loop-less c =
 loop-again : tie.Need-loop-again Inv-loop μ-loop
 loop-again c =
     let n = c .next2 .ensures in
-    let l = c .before .before .before .before .before .before .before .before .before .before .load-connected .ensures in
-    (n .most, n .here, below-next _ _ _ _ (c .before .before .before .before .before .before .before .before .before .before .before .before .pre .0 .router) _ (l .0) (l .1) _ _ n (c .before .before .note-slot .ensures))
+    let l = c .before .before .before .before .before .before .before .before .before .before .load-connected .ensures in (
+      n .most,
+      n .here,
+      below-next _ _ _ _
+          (c .before .before .before .before .before .before .before .before .before .before .before .before .pre .0 .router) _ (l .0)
+          (l .1)
+          _ _ n (c .before .before .note-slot .ensures),
+    )
 
 returns : tie.Need-returns Inv-loop μ-loop
 returns c = let l = c .before .loop in below-all _ (l .slot) _ _ _ (l .inv .0) (c .loop-test .left) (l .inv .2)
@@ -69,7 +75,10 @@ count-groups-spec =
     note-slot-requires
     (λ c. search needs)
     (λ c. search needs)
-    (λ c κs. (c .before .before .before .before .before .before .before .before .before .load-connected .ensures .0, omega (arith, c .before .before .before .before .before .loop-test .taken)))
+    (λ c κs. (
+      c .before .before .before .before .before .before .before .before .before .load-connected .ensures .0,
+      omega (arith, c .before .before .before .before .before .loop-test .taken),
+    ))
     loop-less
     loop-again
     returns)

@@ -1,7 +1,7 @@
 -- `save_load::passes::first_outside`: the numbers before i are inside (JudgeLaws). Assumes nothing.
 use Prim.{tt}
-use Prim.Native.Nat.{ℕ, _-_}
-use mathlib.Core.Path.{_≡_, refl, sym, ap₂, subst, _∙_}
+use Prim.Native.Nat.{_-_}
+use mathlib.Core.Path.{sym, _∙_}
 use native.Mathlib.Omega.{arith}
 use borrow.Author.Needs.{needs}
 use Rattle.save_load.proofs.JudgeLaws.{Going, going-none, going-done, going-read, going-out, going-more}

@@ -1,6 +1,5 @@
 -- `save_load::passes::skim_numbers`: what is left to read ends where the whole does. Assumes nothing.
 use Prim.{tt}
-use Prim.Native.Nat.{_≤_}
 use mathlib.Core.Path.{_≡_, refl, _∙_}
 use native.Mathlib.Omega.{arith}
 use borrow.Author.Needs.{needs}

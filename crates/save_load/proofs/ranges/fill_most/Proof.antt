@@ -1,10 +1,9 @@
 -- `save_load::ranges::fill_most`: after t topics the ranges are filled so far (`Filled`). Assumes nothing.
 use Prim.{tt}
-use Prim.Native.Nat.{ℕ, _+_, _*_, _-_, _≤_, _<_}
-use mathlib.Core.Path.{_≡_, refl, sym, ap, _∙_}
+use Prim.Native.Nat.{_-_}
+use mathlib.Core.Path.{_∙_}
 use native.Mathlib.Omega.{arith}
 use borrow.Author.Needs.{needs}
-use lib.ListN.{length, getD, take, length-set}
 use Rattle.save_load.proofs.RangeLaws.{Filled, fill-none, fill-more, fill-done}
 use Rattle.save_load.proofs.ranges.fill_most.Statement.{statement}
 use Rattle.save_load.proofs.ranges.fill_most.Tie as tie

@@ -1,10 +1,7 @@
 -- `save_load::ranges::put_peer` meets its contract. Assumes nothing.
-use Prim.{tt}
-use Prim.Native.Nat.{ℕ, _+_, _*_, _-_, _≤_, _<_}
-use mathlib.Core.Path.{_≡_, refl, sym, ap, _∙_}
+use mathlib.Core.Path.{refl}
 use native.Mathlib.Omega.{arith}
-use borrow.Author.Needs.{needs}
-use lib.ListN.{length, getD, take, length-set}
+use lib.ListN.{length-set}
 use Rattle.save_load.proofs.ranges.put_peer.Statement.{statement}
 use Rattle.save_load.proofs.ranges.put_peer.Tie as tie
 

@@ -1,10 +1,6 @@
 -- `save_load::ranges::put_topic` meets its contract. Assumes nothing.
-use Prim.{tt}
-use Prim.Native.Nat.{ℕ, _+_, _*_, _-_, _≤_, _<_}
-use mathlib.Core.Path.{_≡_, refl, sym, ap, _∙_}
 use native.Mathlib.Omega.{arith}
-use borrow.Author.Needs.{needs}
-use lib.ListN.{length, getD, take, length-set}
+use lib.ListN.{length-set}
 use Rattle.save_load.proofs.RangeLaws.{five}
 use Rattle.save_load.proofs.ranges.put_topic.Statement.{statement}
 use Rattle.save_load.proofs.ranges.put_topic.Tie as tie

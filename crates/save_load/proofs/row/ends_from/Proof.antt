@@ -1,11 +1,9 @@
 -- `save_load::row::ends_from`: below t the ends are those of the row. Assumes nothing.
-use Prim.{tt}
-use Prim.Native.Nat.{ℕ, _+_, _*_, _-_, _≤_, _<_}
-use mathlib.Core.Path.{_≡_, refl, sym, ap, _∙_}
+use Prim.Native.Nat.{ℕ, _+_, _*_, _-_}
+use mathlib.Core.Path.{refl}
 use native.Mathlib.Omega.{arith}
-use borrow.Author.Needs.{needs}
 use Rattle.layout.specs.Rows.{tab}
-use lib.ListN.{length, getD, take, length-set}
+use lib.ListN.{getD}
 use Rattle.index.proofs.Lists.{Built, built-none, built-more, built-done}
 use Rattle.layout.proofs.RowLaws.{length-tab, getD-tab}
 use Rattle.saves.specs.Load.{endFrom}

@@ -1,10 +1,5 @@
 -- `save_load::row::loaded_peer` meets its contract. Assumes nothing.
-use Prim.{tt}
-use Prim.Native.Nat.{ℕ, _+_, _*_, _-_, _≤_, _<_}
-use mathlib.Core.Path.{_≡_, refl, sym, ap, _∙_}
 use native.Mathlib.Omega.{arith}
-use borrow.Author.Needs.{needs}
-use lib.ListN.{length, getD, take, length-set}
 use Rattle.save_load.proofs.StoreLaws.{retain-fits, peer-is}
 use Rattle.save_load.proofs.row.loaded_peer.Statement.{statement}
 use Rattle.save_load.proofs.row.loaded_peer.Tie as tie

@@ -1,10 +1,6 @@
 -- `save_load::row::loaded_topic` meets its contract. Assumes nothing.
-use Prim.{tt}
-use Prim.Native.Nat.{ℕ, _+_, _*_, _-_, _≤_, _<_}
-use mathlib.Core.Path.{_≡_, refl, sym, ap, _∙_}
+use mathlib.Core.Path.{refl}
 use native.Mathlib.Omega.{arith}
-use borrow.Author.Needs.{needs}
-use lib.ListN.{length, getD, take, length-set}
 use Rattle.saves.specs.Load.{loadedTopic}
 use Rattle.save_load.proofs.row.loaded_topic.Statement.{statement}
 use Rattle.save_load.proofs.row.loaded_topic.Tie as tie

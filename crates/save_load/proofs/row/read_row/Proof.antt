@@ -1,10 +1,9 @@
 -- `save_load::row::read_row`: after i numbers the row has them (`Reading`). Assumes nothing.
 use Prim.{tt}
-use Prim.Native.Nat.{ℕ, _+_, _*_, _-_, _≤_, _<_}
-use mathlib.Core.Path.{_≡_, refl, sym, ap, _∙_}
+use Prim.Native.Nat.{_-_}
+use mathlib.Core.Path.{sym, _∙_}
 use native.Mathlib.Omega.{arith}
 use borrow.Author.Needs.{needs}
-use lib.ListN.{length, getD, take, length-set}
 use Rattle.save_load.proofs.StoreLaws.{Reading, reading-none, reading-read, reading-more, reading-done}
 use Rattle.save_load.proofs.row.read_row.Statement.{statement}
 use Rattle.save_load.proofs.row.read_row.Tie as tie

@@ -1,12 +1,6 @@
 -- `save_load::row::store_row`: the topics, then the peer. Assumes nothing.
-use Prim.{tt}
-use Prim.Native.Nat.{ℕ, _+_, _*_, _-_, _≤_, _<_}
-use mathlib.Core.Path.{_≡_, refl, sym, ap, _∙_}
-use native.Mathlib.Omega.{arith}
-use borrow.Author.Needs.{needs}
-use lib.ListN.{length, getD, take, length-set}
+use mathlib.Core.Path.{ap, _∙_}
 use Rattle.records.specs.Records.{State, setPeer}
-use Rattle.layout.specs.View.{stateOf}
 use Rattle.saves.specs.Load.{loadedPeer}
 use Rattle.save_load.specs.Store.{stored}
 use Rattle.save_load.proofs.StoreLaws.{peer-fits}
@@ -28,7 +22,9 @@ store-row-spec =
     (tie.spec
     (λ c κs. let s = c .before .before .before in (s .pre .0, (s .pre .1 .0, s .pre .1 .1 .1)))
     (λ c κs. let s = c .before .before .before .before .before .before .before in (s .pre .1 .1 .0, s .pre .1 .1 .1))
-    (λ c κs. let s = c .before .before .before .before .before .before .before .before in
-    (c .before .before .before .before .store-topics .kept .0 ∙ s .pre .0, (s .pre .1 .0, peer-fits _ (s .pre .1 .1 .1) _ _ (c .loaded-peer .ensures))))
+    (λ c κs. let s = c .before .before .before .before .before .before .before .before in (
+      c .before .before .before .before .store-topics .kept .0 ∙ s .pre .0,
+      (s .pre .1 .0, peer-fits _ (s .pre .1 .1 .1) _ _ (c .loaded-peer .ensures)),
+    ))
     (λ c. c .before .before .store-peer .kept .0 ∙ c .before .before .before .before .before .before .before .store-topics .kept .0)
     returns)

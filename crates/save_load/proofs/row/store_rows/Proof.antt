@@ -1,10 +1,8 @@
 -- `save_load::row::store_rows`: after k records, they are stored, and the next stands at `place`. Assumes nothing.
-use Prim.{tt}
-use Prim.Native.Nat.{ℕ, _+_, _*_, _-_, _≤_, _<_}
-use mathlib.Core.Path.{_≡_, refl, sym, ap, _∙_}
+use Prim.Native.Nat.{ℕ, _*_, _-_, _≤_}
+use mathlib.Core.Path.{_≡_, refl, sym, _∙_}
 use native.Mathlib.Omega.{arith}
-use borrow.Author.Needs.{needs}
-use lib.ListN.{length, getD, take, length-set}
+use lib.ListN.{length, take}
 use mathlib.Core.List.{List}
 use Rattle.index.proofs.Index.{iter-none, iter-done}
 use Rattle.layout.specs.View.{cellCount, stateOf}

@@ -1,13 +1,11 @@
 -- `save_load::row::store_topics`: after t turns the topics below t are stored. Assumes nothing.
-use Prim.{tt}
-use Prim.Native.Nat.{ℕ, _+_, _*_, _-_, _≤_, _<_}
-use mathlib.Core.Path.{_≡_, refl, sym, ap, _∙_}
+use Prim.Native.Nat.{_-_, _≤_}
+use mathlib.Core.Path.{_≡_, sym, ap, _∙_}
 use native.Mathlib.Omega.{arith}
-use borrow.Author.Needs.{needs}
-use lib.ListN.{length, getD, take, length-set}
+use lib.ListN.{length}
 use Rattle.index.specs.Index.{iter}
 use Rattle.index.proofs.Index.{iter-none, iter-more, iter-done}
-use Rattle.records.specs.Records.{State, setTopic, place}
+use Rattle.records.specs.Records.{setTopic, place}
 use Rattle.layout.specs.View.{cellCount, stateOf}
 use Rattle.save_load.specs.Store.{storedTopic}
 use Rattle.save_load.proofs.StoreLaws.{topic-fits}
@@ -47,7 +45,10 @@ store-topics-spec =
     (λ c κs. (c .before .before .before .before .before .pre .1 .1 .long, c .before .loop-test .taken))
     (λ c κs. (
       c .before .before .before .loop .inv .1 .0,
-      (omega arith, topic-fits _ (c .before .before .before .before .before .before .pre .1 .1) _ _ (omega arith) (c .loaded-topic .ensures)),
+      (
+        omega arith,
+        topic-fits _ (c .before .before .before .before .before .before .pre .1 .1) _ _ (omega arith) (c .loaded-topic .ensures),
+      ),
     ))
     (λ c. omega arith)
     (λ c. omega arith)

@@ -1,10 +1,10 @@
 -- `save_write::bytes::put_row`: after i numbers their bytes stand in the buffer (`Stands`), and the next one has room. Assumes nothing.
 use Prim.{tt}
-use Prim.Native.Nat.{ℕ, _+_, _*_, _-_, _≤_, _<_}
-use mathlib.Core.Path.{_≡_, refl, sym, ap, _∙_}
+use Prim.Native.Nat.{_-_, _≤_}
+use mathlib.Core.Path.{_≡_, refl, _∙_}
 use native.Mathlib.Omega.{arith}
 use borrow.Author.Needs.{needs}
-use lib.ListN.{length, getD, take, length-set}
+use lib.ListN.{length, take}
 use Rattle.saves.specs.Save.{bytesOf}
 use Rattle.save_write.specs.Stands.{Stands}
 use Rattle.save_write.proofs.WriteLaws.{row-none, row-full, row-more, row-all}

@@ -1,11 +1,10 @@
 -- `save_write::bytes::put_rows`: after k keys the bytes of their rows stand in the buffer. Assumes nothing.
 use Prim.{tt}
-use Prim.Native.Nat.{ℕ, _+_, _*_, _-_, _≤_, _<_}
-use mathlib.Core.Path.{_≡_, refl, sym, ap, _∙_}
+use Prim.Native.Nat.{_-_, _≤_}
+use mathlib.Core.Path.{_≡_, refl, sym, _∙_}
 use native.Mathlib.Omega.{arith}
-use borrow.Author.Needs.{needs}
 use Rattle.save_write.proofs.WriteLaws.{rows-begin, rows-room, rows-put, rows-written}
-use lib.ListN.{length, getD, take, length-set}
+use lib.ListN.{length, take}
 use Rattle.layout.specs.View.{stateOf}
 use Rattle.saves.specs.Save.{bytesOf}
 use Rattle.save_write.specs.Stands.{rowsOf, Stands}

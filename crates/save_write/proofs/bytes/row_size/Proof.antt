@@ -1,10 +1,9 @@
 -- `save_write::bytes::row_size`: after i numbers, the sum of their sizes. Assumes nothing.
 use Prim.{tt}
-use Prim.Native.Nat.{ℕ, _+_, _*_, _-_, _≤_, _<_}
-use mathlib.Core.Path.{_≡_, refl, sym, ap, _∙_}
+use Prim.Native.Nat.{_*_, _-_, _≤_}
+use mathlib.Core.Path.{_≡_}
 use native.Mathlib.Omega.{arith}
-use borrow.Author.Needs.{needs}
-use lib.ListN.{length, getD, take, length-set}
+use lib.ListN.{length, take}
 use Rattle.saves.specs.Save.{bytesOf}
 use Rattle.save_write.proofs.WriteLaws.{sum-none, sum-more, sum-all}
 use Rattle.save_write.proofs.bytes.row_size.Statement.{statement}

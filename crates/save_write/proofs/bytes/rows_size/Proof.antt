@@ -1,10 +1,9 @@
 -- `save_write::bytes::rows_size`: after k keys, the sum of their rows' sizes. Assumes nothing.
 use Prim.{tt}
-use Prim.Native.Nat.{ℕ, _+_, _*_, _-_, _≤_, _<_}
-use mathlib.Core.Path.{_≡_, refl, sym, ap, _∙_}
+use Prim.Native.Nat.{_*_, _-_, _≤_}
+use mathlib.Core.Path.{_≡_, refl, sym, _∙_}
 use native.Mathlib.Omega.{arith}
-use borrow.Author.Needs.{needs}
-use lib.ListN.{length, getD, take, length-set}
+use lib.ListN.{length, take}
 use Rattle.layout.specs.View.{stateOf}
 use Rattle.saves.specs.Save.{bytesOf}
 use Rattle.save_write.specs.Stands.{rowsOf}

@@ -1,10 +1,10 @@
 -- `save_write::row::fill_row`: after t topics the row is filled so far (`Filled`). Assumes nothing.
 use Prim.{tt}
-use Prim.Native.Nat.{ℕ, _+_, _*_, _-_, _≤_, _<_}
-use mathlib.Core.Path.{_≡_, refl, sym, ap, _∙_}
+use Prim.Native.Nat.{_-_}
+use mathlib.Core.Path.{ap, _∙_}
 use native.Mathlib.Omega.{arith}
 use borrow.Author.Needs.{needs}
-use lib.ListN.{length, getD, take, length-set}
+use lib.ListN.{getD}
 use mathlib.Core.List.{[], _∷_}
 use lib.Seq.{sets}
 use Rattle.records.specs.declared.Peer.{Peer}

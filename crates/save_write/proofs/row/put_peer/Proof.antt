@@ -1,10 +1,9 @@
 -- `save_write::row::put_peer` meets its contract. Assumes nothing.
 use Prim.{tt}
-use Prim.Native.Nat.{ℕ, _+_, _*_, _-_, _≤_, _<_}
-use mathlib.Core.Path.{_≡_, refl, sym, ap, _∙_}
+use Prim.Native.Nat.{ℕ}
+use mathlib.Core.Path.{ap}
 use native.Mathlib.Omega.{arith}
-use borrow.Author.Needs.{needs}
-use lib.ListN.{length, getD, take, set, length-set}
+use lib.ListN.{set, length-set}
 use Rattle.save_write.proofs.row.put_peer.Statement.{statement}
 use Rattle.save_write.proofs.row.put_peer.Tie as tie
 

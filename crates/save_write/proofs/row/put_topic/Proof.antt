@@ -1,10 +1,6 @@
 -- `save_write::row::put_topic`: five numbers one after the other. Assumes nothing.
-use Prim.{tt}
-use Prim.Native.Nat.{ℕ, _+_, _*_, _-_, _≤_, _<_}
-use mathlib.Core.Path.{_≡_, refl, sym, ap, _∙_}
 use native.Mathlib.Omega.{arith}
-use borrow.Author.Needs.{needs}
-use lib.ListN.{length, getD, take, length-set}
+use lib.ListN.{length-set}
 use Rattle.save_write.proofs.FillLaws.{topic-is}
 use Rattle.save_write.proofs.row.put_topic.Statement.{statement}
 use Rattle.save_write.proofs.row.put_topic.Tie as tie

@@ -4,19 +4,15 @@ use borrow.Author.Needs.{needs}
 use Rattle.slot_words.proofs.flags.held.Statement.{statement}
 use Rattle.slot_words.proofs.flags.held.Tie as tie
 
--- src/flags.rt:23:10
 load-connected-requires : tie.Need-load-connected-requires
 load-connected-requires c κs = search needs
 
--- src/flags.rt:24:10
 load-retained-requires : tie.Need-load-retained-requires
 load-retained-requires c κs = search needs
 
--- src/flags.rt:22:5
 union-requires : tie.Need-union-requires
 union-requires c κs = search needs
 
--- src/flags.rt:15:1
 returns : tie.Need-returns
 returns c = (
   c .union .ensures .0,

@@ -1,65 +1,51 @@
+-- `slot_words::flags::peer_flags`: each test on whole words is one on every slot's bit.
 use Rattle.slot_words.proofs.FlagLaws.{peers-told}
 use borrow.Author.Needs.{needs}
 use Rattle.slot_words.proofs.flags.peer_flags.Statement.{statement}
 use Rattle.slot_words.proofs.flags.peer_flags.Tie as tie
 
--- src/flags.rt:33:21
 load-connected-requires : tie.Need-load-connected-requires
 load-connected-requires c κs = search needs
 
--- src/flags.rt:34:20
 load-retained-requires : tie.Need-load-retained-requires
 load-retained-requires c κs = search needs
 
--- src/flags.rt:35:20
 load-explicit-requires : tie.Need-load-explicit-requires
 load-explicit-requires c κs = search needs
 
--- src/flags.rt:36:20
 load-outbound-requires : tie.Need-load-outbound-requires
 load-outbound-requires c κs = search needs
 
--- src/flags.rt:37:19
 load-version-requires : tie.Need-load-version-requires
 load-version-requires c κs = search needs
 
--- src/flags.rt:38:16
 load-version-high-requires : tie.Need-load-version-high-requires
 load-version-high-requires c κs = search needs
 
--- src/flags.rt:39:16
 held-requires : tie.Need-held-requires
 held-requires c κs = search needs
 
--- src/flags.rt:40:6
 common-requires : tie.Need-common-requires
 common-requires c κs = search needs
 
--- src/flags.rt:41:11
 any-requires : tie.Need-any-requires
 any-requires c κs = search needs
 
--- src/flags.rt:42:11
 outside-requires : tie.Need-outside-requires
 outside-requires c κs = search needs
 
--- src/flags.rt:43:11
 outside-requires-2 : tie.Need-outside-requires-2
 outside-requires-2 c κs = search needs
 
--- src/flags.rt:44:11
 outside-requires-3 : tie.Need-outside-requires-3
 outside-requires-3 c κs = search needs
 
--- src/flags.rt:45:24
 slice-aggregate-past : tie.Need-slice-aggregate-past
 slice-aggregate-past c = search needs
 
--- src/flags.rt:45:11
 past-requires : tie.Need-past-requires
 past-requires c κs = search needs
 
--- src/flags.rt:29:1
 returns : tie.Need-returns
 returns c =
     let m = c .before .before .before .before .before in

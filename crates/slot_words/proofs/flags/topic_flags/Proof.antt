@@ -1,45 +1,36 @@
+-- `slot_words::flags::topic_flags`: each test on whole words is one on every slot's bit.
 use Rattle.slot_words.proofs.FlagLaws.{topic-told}
 use borrow.Author.Needs.{needs}
 use Rattle.slot_words.proofs.flags.topic_flags.Statement.{statement}
 use Rattle.slot_words.proofs.flags.topic_flags.Tie as tie
 
--- src/flags.rt:53:21
 load-connected-requires : tie.Need-load-connected-requires
 load-connected-requires c κs = search needs
 
--- src/flags.rt:54:20
 load-explicit-requires : tie.Need-load-explicit-requires
 load-explicit-requires c κs = search needs
 
--- src/flags.rt:55:22
 load-subscribed-requires : tie.Need-load-subscribed-requires
 load-subscribed-requires c κs = search needs
 
--- src/flags.rt:56:19
 load-members-requires : tie.Need-load-members-requires
 load-members-requires c κs = search needs
 
--- src/flags.rt:57:9
 load-joined-requires : tie.Need-load-joined-requires
 load-joined-requires c κs = search needs
 
--- src/flags.rt:58:17
 outside-requires : tie.Need-outside-requires
 outside-requires c κs = search needs
 
--- src/flags.rt:59:11
 outside-requires-2 : tie.Need-outside-requires-2
 outside-requires-2 c κs = search needs
 
--- src/flags.rt:60:11
 common-requires : tie.Need-common-requires
 common-requires c κs = search needs
 
--- src/flags.rt:61:38
 any-requires : tie.Need-any-requires
 any-requires c κs = search needs
 
--- src/flags.rt:49:1
 returns : tie.Need-returns
 returns c =
     let m = c .before .before .before .before .before in

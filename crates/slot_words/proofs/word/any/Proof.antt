@@ -6,23 +6,18 @@ use borrow.Author.Needs.{needs}
 use Rattle.slot_words.proofs.word.any.Statement.{statement}
 use Rattle.slot_words.proofs.word.any.Tie as tie
 
--- src/word.rt:45:5
 element-copy-out-result : tie.Need-element-copy-out-result
 element-copy-out-result c = search needs
 
--- src/word.rt:45:12
 element-copy-out-result-2 : tie.Need-element-copy-out-result-2
 element-copy-out-result-2 c = search needs
 
--- src/word.rt:45:19
 element-copy-out-result-3 : tie.Need-element-copy-out-result-3
 element-copy-out-result-3 c = search needs
 
--- src/word.rt:45:26
 element-copy-out-result-4 : tie.Need-element-copy-out-result-4
 element-copy-out-result-4 c = search needs
 
--- src/word.rt:42:1
 returns : tie.Need-returns
 returns c =
     let a = c .before .before .before .before .args .a .now in

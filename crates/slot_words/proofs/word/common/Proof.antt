@@ -1,3 +1,4 @@
+-- `slot_words::word::common`: a word of both is 0 exactly where no slot has both bits.
 use Rattle.slot_words.proofs.WordLaws.{slot-told, each-test}
 use lib.ListN.{getD}
 use Prim.Native.Nat.{_/_, _%_, _^_}
@@ -6,55 +7,42 @@ use borrow.Author.Needs.{needs}
 use Rattle.slot_words.proofs.word.common.Statement.{statement}
 use Rattle.slot_words.proofs.word.common.Tie as tie
 
--- src/word.rt:35:17
 element-copy-out-common-word : tie.Need-element-copy-out-common-word
 element-copy-out-common-word c = search needs
 
--- src/word.rt:35:23
 element-copy-out-common-word-2 : tie.Need-element-copy-out-common-word-2
 element-copy-out-common-word-2 c = search needs
 
--- src/word.rt:35:5
 common-word-requires : tie.Need-common-word-requires
 common-word-requires c κs = search needs
 
--- src/word.rt:36:23
 element-copy-out-common-word-3 : tie.Need-element-copy-out-common-word-3
 element-copy-out-common-word-3 c = search needs
 
--- src/word.rt:36:29
 element-copy-out-common-word-4 : tie.Need-element-copy-out-common-word-4
 element-copy-out-common-word-4 c = search needs
 
--- src/word.rt:36:11
 common-word-requires-2 : tie.Need-common-word-requires-2
 common-word-requires-2 c κs = search needs
 
--- src/word.rt:37:23
 element-copy-out-common-word-5 : tie.Need-element-copy-out-common-word-5
 element-copy-out-common-word-5 c = search needs
 
--- src/word.rt:37:29
 element-copy-out-common-word-6 : tie.Need-element-copy-out-common-word-6
 element-copy-out-common-word-6 c = search needs
 
--- src/word.rt:37:11
 common-word-requires-3 : tie.Need-common-word-requires-3
 common-word-requires-3 c κs = search needs
 
--- src/word.rt:38:23
 element-copy-out-common-word-7 : tie.Need-element-copy-out-common-word-7
 element-copy-out-common-word-7 c = search needs
 
--- src/word.rt:38:29
 element-copy-out-common-word-8 : tie.Need-element-copy-out-common-word-8
 element-copy-out-common-word-8 c = search needs
 
--- src/word.rt:38:11
 common-word-requires-4 : tie.Need-common-word-requires-4
 common-word-requires-4 c κs = search needs
 
--- src/word.rt:32:1
 returns : tie.Need-returns
 returns c =
     let m = c .before .before .before .before .before in

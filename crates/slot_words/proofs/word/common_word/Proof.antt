@@ -2,7 +2,6 @@ use Rattle.slot_words.proofs.WordLaws.{common-bit}
 use Rattle.slot_words.proofs.word.common_word.Statement.{statement}
 use Rattle.slot_words.proofs.word.common_word.Tie as tie
 
--- src/word.rt:15:1
 returns : tie.Need-returns
 returns c = common-bit (c .args .a) (c .args .b)
 

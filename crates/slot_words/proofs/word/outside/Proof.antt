@@ -1,3 +1,4 @@
+-- `slot_words::word::outside`: a word of the one without the other is 0 exactly where every bit of the one is in the other.
 use Rattle.slot_words.proofs.WordLaws.{slot-told, each-test}
 use lib.ListN.{getD}
 use Prim.Native.Nat.{_/_, _%_, _^_}
@@ -6,55 +7,42 @@ use borrow.Author.Needs.{needs}
 use Rattle.slot_words.proofs.word.outside.Statement.{statement}
 use Rattle.slot_words.proofs.word.outside.Tie as tie
 
--- src/word.rt:25:18
 element-copy-out-outside-word : tie.Need-element-copy-out-outside-word
 element-copy-out-outside-word c = search needs
 
--- src/word.rt:25:24
 element-copy-out-outside-word-2 : tie.Need-element-copy-out-outside-word-2
 element-copy-out-outside-word-2 c = search needs
 
--- src/word.rt:25:5
 outside-word-requires : tie.Need-outside-word-requires
 outside-word-requires c κs = search needs
 
--- src/word.rt:26:24
 element-copy-out-outside-word-3 : tie.Need-element-copy-out-outside-word-3
 element-copy-out-outside-word-3 c = search needs
 
--- src/word.rt:26:30
 element-copy-out-outside-word-4 : tie.Need-element-copy-out-outside-word-4
 element-copy-out-outside-word-4 c = search needs
 
--- src/word.rt:26:11
 outside-word-requires-2 : tie.Need-outside-word-requires-2
 outside-word-requires-2 c κs = search needs
 
--- src/word.rt:27:24
 element-copy-out-outside-word-5 : tie.Need-element-copy-out-outside-word-5
 element-copy-out-outside-word-5 c = search needs
 
--- src/word.rt:27:30
 element-copy-out-outside-word-6 : tie.Need-element-copy-out-outside-word-6
 element-copy-out-outside-word-6 c = search needs
 
--- src/word.rt:27:11
 outside-word-requires-3 : tie.Need-outside-word-requires-3
 outside-word-requires-3 c κs = search needs
 
--- src/word.rt:28:24
 element-copy-out-outside-word-7 : tie.Need-element-copy-out-outside-word-7
 element-copy-out-outside-word-7 c = search needs
 
--- src/word.rt:28:30
 element-copy-out-outside-word-8 : tie.Need-element-copy-out-outside-word-8
 element-copy-out-outside-word-8 c = search needs
 
--- src/word.rt:28:11
 outside-word-requires-4 : tie.Need-outside-word-requires-4
 outside-word-requires-4 c κs = search needs
 
--- src/word.rt:22:1
 returns : tie.Need-returns
 returns c =
     let m = c .before .before .before .before .before in

@@ -3,7 +3,6 @@ use Rattle.slot_words.proofs.WordLaws.{outside-bit}
 use Rattle.slot_words.proofs.word.outside_word.Statement.{statement}
 use Rattle.slot_words.proofs.word.outside_word.Tie as tie
 
--- src/word.rt:9:1
 returns : tie.Need-returns
 returns c = outside-bit (c .args .a) (c .args .b) (omega arith)
 

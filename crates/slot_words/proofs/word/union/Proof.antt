@@ -1,42 +1,34 @@
+-- `slot_words::word::union`: a slot has its bit where one of the two words has it.
 use Rattle.slot_words.proofs.WordLaws.{union-slot}
 use mathlib.Core.Path.{refl}
 use borrow.Author.Needs.{needs}
 use Rattle.slot_words.proofs.word.union.Statement.{statement}
 use Rattle.slot_words.proofs.word.union.Tie as tie
 
--- src/word.rt:53:6
 element-copy-out-t5 : tie.Need-element-copy-out-t5
 element-copy-out-t5 c = search needs
 
--- src/word.rt:53:13
 element-copy-out-t8 : tie.Need-element-copy-out-t8
 element-copy-out-t8 c = search needs
 
--- src/word.rt:53:19
 element-copy-out-t12 : tie.Need-element-copy-out-t12
 element-copy-out-t12 c = search needs
 
--- src/word.rt:53:26
 element-copy-out-t15 : tie.Need-element-copy-out-t15
 element-copy-out-t15 c = search needs
 
--- src/word.rt:53:32
 element-copy-out-t19 : tie.Need-element-copy-out-t19
 element-copy-out-t19 c = search needs
 
--- src/word.rt:53:39
 element-copy-out-t22 : tie.Need-element-copy-out-t22
 element-copy-out-t22 c = search needs
 
--- src/word.rt:53:45
 element-copy-out-t26 : tie.Need-element-copy-out-t26
 element-copy-out-t26 c = search needs
 
--- src/word.rt:53:52
 element-copy-out-t29 : tie.Need-element-copy-out-t29
 element-copy-out-t29 c = search needs
 
--- src/word.rt:49:1
 returns : tie.Need-returns
 returns c =
     let m = c .before .before .before .before .before in

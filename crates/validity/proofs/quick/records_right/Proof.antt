@@ -27,7 +27,8 @@ slots-right-requires c κs =
 ids-distinct-requires : tie.Need-ids-distinct-requires
 ids-distinct-requires c κs =
     let u = c .before .before .before .before .before .before .before .load-used in
-    up-to _ _ (omega arith) (c .before .before .before .before .before .words-right .ensures (passed refl (c .before .before .before .before .if2 .left)))
+    up-to _ _ (omega arith)
+    (c .before .before .before .before .before .words-right .ensures (passed refl (c .before .before .before .before .if2 .left)))
     (c .before .before .before .before .before .before .before .before .before .before .pre .0) (u .ensures .1)
 
 returns-5 : tie.Need-returns-5
@@ -38,7 +39,9 @@ returns-5 c e =
     let p = c .before .before .slots-right .ensures (passed refl (c .before .if4 .left)) in
     record {
       slots = λ h.
-          slots-told _ _ (omega arith) (c .before .before .before .before .before .before .words-right .ensures (passed refl (c .before .before .before .before .before .if2 .left))) h
+          slots-told _ _ (omega arith)
+          (c .before .before .before .before .before .before .words-right .ensures
+          (passed refl (c .before .before .before .before .before .if2 .left))) h
           (ends-near _ _ _ k q)
           (retains-near _ _ _ k p)
           (u .ensures .1);
@@ -54,10 +57,12 @@ records-right-spec =
     (λ c e. refused e)
     (λ c κs. search needs)
     (λ c e. refused e)
-    (λ c. let k = c .before .before .before .before .load-clock .ensures in let m = c .before .before .before .before .before .before .pre .1 in omega (arith, k, m))
+    (λ c. let k = c .before .before .before .before .load-clock .ensures in
+    let m = c .before .before .before .before .before .before .pre .1 in omega (arith, k, m))
     columns-right-requires
     (λ c e. refused e)
-    (λ c. let k = c .before .before .before .before .before .before .load-clock .ensures in let m = c .before .before .before .before .before .before .before .before .pre .1 in omega (arith, k, m))
+    (λ c. let k = c .before .before .before .before .before .before .load-clock .ensures in
+    let m = c .before .before .before .before .before .before .before .before .pre .1 in omega (arith, k, m))
     slots-right-requires
     (λ c e. refused e)
     ids-distinct-requires

@@ -1,6 +1,6 @@
 -- `validity::valid::is_small`: the backoff ends; then, after t turns, the unions have the bits of the topics below t. Assumes nothing.
 use Prim.Native.Nat.{ℕ, _≤_, _-_}
-use mathlib.Core.Path.{_≡_, refl, ap}
+use mathlib.Core.Path.{_≡_, ap}
 use native.Mathlib.Omega.{arith}
 use borrow.Author.Needs.{needs}
 use Rattle.index.proofs.Flags.{passed}
