@@ -61,6 +61,33 @@ fn a_table_of_the_old_form() {
     assert_eq!(number(join(&mut turned, 1, 0, &mut actions)), 11);
 }
 
+#[cfg(saves)]
+#[test]
+fn a_power_cycle() {
+    let mut actions = [0; ACTION_NUMBERS];
+    let mut table = joined(&mut actions);
+    assert_eq!(number(connect(&mut table, 1, 7, &[9], 0, V11, &mut actions)), 0);
+    assert_eq!(number(rate(&mut table, 2, 7, -1_000_000, &mut actions)), 0);
+    let mut bytes = vec![0; SAVE_BYTES];
+    assert_eq!(saves::save(&table, 1, &mut bytes), 1);
+    assert_eq!(saves::save(&table, 3, &mut bytes[..40]), 13);
+    let result = saves::save(&table, 3, &mut bytes);
+    assert_eq!(number(result), 0);
+    bytes.truncate(value(result) as usize);
+    let (mut numbers, mut loaded) = ([0; NUMBERS], Box::new([7; CELLS]));
+    ordinary(&mut numbers);
+    // Seven is no edition of a save.
+    assert_eq!(saves::load(&numbers, EDITION_1, 0, &bytes[2..], &mut loaded), packed(9, 0));
+    assert_eq!(*loaded, [7; CELLS]);
+    assert_eq!(saves::load(&numbers, EDITION_1, 0, &bytes, &mut loaded), 0);
+    assert_eq!(is_router(&loaded), 1);
+    // Who comes back has the points of before.
+    let mut why = [0; WHY_NUMBERS];
+    assert_eq!(number(connect(&mut loaded, 1, 7, &[9], 0, V11, &mut actions)), 0);
+    assert_eq!(number(score(&mut loaded, 2, 7, &mut why, &mut actions)), 0);
+    assert_eq!(why[5], -1_000_000_000);
+}
+
 #[test]
 fn parameters_as_bytes() {
     let (mut numbers, mut other) = ([0; NUMBERS], [0; NUMBERS]);
