@@ -1,0 +1,4 @@
+pub mod Notes
+pub mod Valid
+pub mod Calls
+pub mod Step
