@@ -45,8 +45,8 @@ risingOk g =
     && follows (g .second) (g .third)
     && follows (g .third) (g .fourth)
 
--- "every number is in its range": three versions have a name (01; 02, order 6); P5 is the code of a number up to 10^9 either way, so at most
--- 2 * 10^9; "P4 and P7 stop at 10^6"
+-- "every number is in its range": three versions have a name (01, and 02, order 6); P5 is the code of a number up to 10^9 either way, so at
+-- most 2 * 10^9; "P4 and P7 stop at 10^6"
 unfoldable pub peerRanges : (clock : ℕ) → Peer → Bool
 peerRanges clock p =
     leb (p .status) 2
