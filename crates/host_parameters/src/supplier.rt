@@ -35,7 +35,7 @@ pub fn import(bytes: &[u8], numbers: &mut [i64; NUMBERS]) -> u64
 }
 
 // Exports parameters given by value, of which it is known that they are 147.
-fn put(all: Params, buffer: &mut [u8]) -> u64
+fn put_theirs(all: Params, buffer: &mut [u8]) -> u64
     ensures { λ r. ⌜ HostsExport (all .numbers) r (now (buffer .entry)) (now (buffer .exit)) ⌝ }
 {
     match supplier_params::export(all, buffer) {
@@ -53,5 +53,5 @@ pub fn export(numbers: &[i64; NUMBERS], buffer: &mut [u8]) -> u64
         numbers: *numbers,
         edition: Edition::First,
     };
-    put(all, buffer)
+    put_theirs(all, buffer)
 }
