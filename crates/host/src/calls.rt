@@ -8,9 +8,7 @@ ghost use Rattle.rules.specs.Calls.{leave as Calls·leave, prune as Calls·prun
 ghost use Rattle.rules.specs.Calls.{subscribe as Calls·subscribe, unsubscribe as Calls·unsubscribe};
 ghost use Rattle.rules.specs.Step.{step};
 ghost use Rattle.answers.specs.Answers.{whyOr as whyOrOf};
-ghost use Rattle.host.specs.Host.{HostsLent};
-use answers::code;
-use answers::why_or;
+ghost use Rattle.host_calls.specs.Host.{HostsLent};
 use layout::CELLS;
 
 // A peer connects, with one to four address groups, lowest first. Flags: 1 outbound + 2 explicit.
@@ -26,7 +24,7 @@ pub extern "C" fn hivepadlet_connect(
 ) -> u64
     ensures { λ r. ⌜ HostsLent (Calls·connect time id (now (groups .entry)) flags (now (name .entry))) r table actions ⌝ }
 {
-    code(router::connect(table, time, id, groups, flags, name, actions))
+    host_calls::connect(table, time, id, groups, flags, name, actions)
 }
 
 // A peer disconnects.
@@ -39,7 +37,7 @@ pub extern "C" fn hivepadlet_disconnect(
 ) -> u64
     ensures { λ r. ⌜ HostsLent (Calls·disconnect time id) r table actions ⌝ }
 {
-    code(router::disconnect(table, time, id, actions))
+    host_calls::disconnect(table, time, id, actions)
 }
 
 // We join a topic.
@@ -52,7 +50,7 @@ pub extern "C" fn hivepadlet_join(
 ) -> u64
     ensures { λ r. ⌜ HostsLent (Calls·join time topic) r table actions ⌝ }
 {
-    code(router::join(table, time, topic, actions))
+    host_calls::join(table, time, topic, actions)
 }
 
 // We leave a topic.
@@ -65,7 +63,7 @@ pub extern "C" fn hivepadlet_leave(
 ) -> u64
     ensures { λ r. ⌜ HostsLent (Calls·leave time topic) r table actions ⌝ }
 {
-    code(router::leave(table, time, topic, actions))
+    host_calls::leave(table, time, topic, actions)
 }
 
 // A peer subscribes to a topic.
@@ -79,7 +77,7 @@ pub extern "C" fn hivepadlet_subscribe(
 ) -> u64
     ensures { λ r. ⌜ HostsLent (Calls·subscribe time id topic) r table actions ⌝ }
 {
-    code(router::subscribe(table, time, id, topic, actions))
+    host_calls::subscribe(table, time, id, topic, actions)
 }
 
 // A peer unsubscribes from a topic.
@@ -93,7 +91,7 @@ pub extern "C" fn hivepadlet_unsubscribe(
 ) -> u64
     ensures { λ r. ⌜ HostsLent (Calls·unsubscribe time id topic) r table actions ⌝ }
 {
-    code(router::unsubscribe(table, time, id, topic, actions))
+    host_calls::unsubscribe(table, time, id, topic, actions)
 }
 
 // A GRAFT came in.
@@ -107,7 +105,7 @@ pub extern "C" fn hivepadlet_graft(
 ) -> u64
     ensures { λ r. ⌜ HostsLent (Calls·graft time id topic) r table actions ⌝ }
 {
-    code(router::graft(table, time, id, topic, actions))
+    host_calls::graft(table, time, id, topic, actions)
 }
 
 // A PRUNE came in, with the seconds of its backoff.
@@ -122,7 +120,7 @@ pub extern "C" fn hivepadlet_prune(
 ) -> u64
     ensures { λ r. ⌜ HostsLent (Calls·prune time id topic seconds) r table actions ⌝ }
 {
-    code(router::prune(table, time, id, topic, seconds, actions))
+    host_calls::prune(table, time, id, topic, seconds, actions)
 }
 
 // A delivery: 1 first, 2 near-first, 3 invalid.
@@ -137,7 +135,7 @@ pub extern "C" fn hivepadlet_deliver(
 ) -> u64
     ensures { λ r. ⌜ HostsLent (Calls·deliver time id topic kind) r table actions ⌝ }
 {
-    code(router::deliver(table, time, id, topic, kind, actions))
+    host_calls::deliver(table, time, id, topic, kind, actions)
 }
 
 // Sets P5 of a peer.
@@ -151,7 +149,7 @@ pub extern "C" fn hivepadlet_rate(
 ) -> u64
     ensures { λ r. ⌜ HostsLent (Calls·rate time id p5) r table actions ⌝ }
 {
-    code(router::rate(table, time, id, p5, actions))
+    host_calls::rate(table, time, id, p5, actions)
 }
 
 // The heartbeat's work for one topic, with a permutation of the slots, and opportunism where `ask` is 1.
@@ -166,7 +164,7 @@ pub extern "C" fn hivepadlet_heartbeat(
 ) -> u64
     ensures { λ r. ⌜ HostsLent (Calls·heartbeat time topic ask (now (permutation .entry))) r table actions ⌝ }
 {
-    code(router::heartbeat(table, time, topic, ask, permutation, actions))
+    host_calls::heartbeat(table, time, topic, ask, permutation, actions)
 }
 
 // The counters decay.
@@ -174,7 +172,7 @@ pub extern "C" fn hivepadlet_heartbeat(
 pub extern "C" fn hivepadlet_decay(table: &mut [u64; CELLS], time: u64, actions: &mut [u32]) -> u64
     ensures { λ r. ⌜ HostsLent (Calls·decay time) r table actions ⌝ }
 {
-    code(router::decay(table, time, actions))
+    host_calls::decay(table, time, actions)
 }
 
 // The score of a peer through six lent numbers, which stand where the call is refused: the topics' total before its cap and after it, the
@@ -192,8 +190,5 @@ pub extern "C" fn hivepadlet_score(
         ≡ whyOrOf (step (stateOf (now (table .entry))) (Calls·score time id) (length (now (actions .entry))) .answer)
         (now (why .entry))) ⌝ }
 {
-    let a = router::score(table, time, id, actions);
-    let stood = *why;
-    *why = why_or(a, stood);
-    code(a)
+    host_calls::score(table, time, id, why, actions)
 }

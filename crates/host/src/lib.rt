@@ -1,9 +1,9 @@
-// What a host links (C ABI), over memory that it lends. include/hivepadlet.h says the same to a reader of C. Every function is thin: its
-// promise (specs/Host.antt) is that of the call below, with the answer as one number. None asks anything of its caller.
+// What a host links (C ABI), over memory that it lends. include/hivepadlet.h says the same to a reader of C. Only what this crate itself
+// exports is in the archive, so every function is one call of a function of crates host_calls, host_parameters, host_messages, host_saves
+// and host_forms, whose promise is its own. None asks anything of its caller.
 pub mod calls;
+pub mod forms;
 pub mod messages;
 pub mod parameters;
-pub mod saving;
-pub mod supplier;
-pub mod turning;
-pub mod writing;
+pub mod saves;
+pub mod tables;

@@ -1,10 +1,9 @@
-// Messages between peers (02, order 1): the topics' names, tested at set-up, and the reader of an RPC.
+// Messages between peers (02, orders 1 and 4): the topics' names, tested at set-up, the reader of an RPC and its writer.
 ghost use mathlib.Core.Path.{_≡_};
 ghost use Rattle.answers.specs.Answers.{packed as packedOf};
-ghost use Rattle.host.specs.Messages.{namesNumber, HostsMessage};
+ghost use Rattle.host_messages.specs.Messages.{namesNumber, HostsMessage};
 ghost use Rattle.rpc.specs.Names.{namesOk};
-use answers::packed;
-use rpc::Answer;
+ghost use Rattle.host_messages.specs.Writing.{HostsWriteMessage};
 use rpc::NAMES_BYTES;
 
 // Tests the names of topics, eight rows of a length and 64 bytes: 0, or 2.
@@ -12,11 +11,7 @@ use rpc::NAMES_BYTES;
 pub extern "C" fn hivepadlet_names(names: &[u8; NAMES_BYTES]) -> u64
     ensures { λ r. ⌜ r ≡ packedOf (namesNumber (namesOk (now (names .entry)))) 0 ⌝ }
 {
-    if rpc::names_ok(names) {
-        packed(0, 0)
-    } else {
-        packed(2, 0)
-    }
+    host_messages::names(names)
 }
 
 // Reads an RPC into a lent list, three numbers an entry: 0 with the number of entries, 8, or 10 with the place.
@@ -28,9 +23,19 @@ pub extern "C" fn hivepadlet_read_message(
 ) -> u64
     ensures { λ r. ⌜ HostsMessage (now (names .entry)) (now (message .entry)) r (now (entries .entry)) (now (entries .exit)) ⌝ }
 {
-    match rpc::read(names, message, entries) {
-        Answer::Done(n) => packed(0, n as u64),
-        Answer::ListShort => packed(8, 0),
-        Answer::Malformed(place) => packed(10, place as u64),
-    }
+    host_messages::read(names, message, entries)
+}
+
+// Writes an RPC of an action list for one peer with a topic beside each action, and of joins and leaves: 0 with the length, 2, or 13.
+#[no_mangle]
+pub extern "C" fn hivepadlet_write_message(
+    names: &[u8; NAMES_BYTES],
+    actions: &[u32],
+    topics: &[u64],
+    changes: &[u64],
+    buffer: &mut [u8],
+) -> u64
+    ensures { λ r. ⌜ HostsWriteMessage names actions topics changes r buffer ⌝ }
+{
+    host_messages::write(names, actions, topics, changes, buffer)
 }

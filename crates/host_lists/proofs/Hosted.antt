@@ -19,7 +19,7 @@ use Rattle.effects.specs.Actions.{numbersOf}
 use Rattle.answers.specs.Answers.{packed, answerCode, whyOr}
 use Rattle.rules.specs.Calls.{score}
 use Rattle.rules.specs.Step.{step}
-use Rattle.host.specs.Host.{HostsFresh}
+use Rattle.host_calls.specs.Host.{HostsFresh}
 use Rattle.call_lists.specs.Lists.{fresh, from-fresh, after}
 use Rattle.call_lists.proofs.Demand3.{demand3}
 use Rattle.host_lists.specs.Hosted.{HostCall, made, Hosted, SameNumbers, EveryHostAgrees, EveryScoreAgrees}

@@ -16,7 +16,7 @@ use Rattle.answers.specs.Answers.{answerCode, whyOr}
 use Rattle.rules.specs.Reply.{Reply}
 use Rattle.rules.specs.Calls.{Call, score}
 use Rattle.rules.specs.Step.{step}
-use Rattle.host.specs.Host.{Hosts, HostsFresh}
+use Rattle.host_calls.specs.Host.{Hosts, HostsFresh}
 use Rattle.call_lists.specs.Lists.{Made, fresh, after}
 use Rattle.call_lists.specs.Demand3.{Holds}
 

@@ -1,7 +1,0 @@
--- `host::number` meets its contract. Assumes nothing.
-use Rattle.index.proofs.Kit.{sym, ap, one}
-use Rattle.host.proofs.parameters.number.Statement.{statement}
-use Rattle.host.proofs.parameters.number.Tie as tie
-
-pub number-spec : {M : Type 1} → statement M
-number-spec = tie.close (tie.spec (λ c. sym (ap one (c .if1 .taken))) (λ c. sym (ap one (c .if1 .left))))

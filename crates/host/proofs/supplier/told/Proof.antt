@@ -1,7 +1,0 @@
--- `host::told` meets its contract. Assumes nothing.
-use native.Mathlib.Omega.{arith}
-use Rattle.host.proofs.supplier.told.Statement.{statement}
-use Rattle.host.proofs.supplier.told.Tie as tie
-
-pub told-spec : {M : Type 1} → statement M
-told-spec = tie.close (tie.spec (λ c. (omega arith, omega arith)) (λ c. (omega arith, omega arith)))

@@ -1,0 +1,3 @@
+pub mod LoadPlaces
+pub mod SaveSize
+pub mod SavingLaws
