@@ -262,7 +262,6 @@ besides st (heartbeat time t ask order) g = g
 besides st (decay time) g = g
 besides st (score time id) g = g
 
--- 01's call: test 12 asks the new parts too, before all else
 abbrev pub extended : Extended → Call → Reply → FullReply
 extended x c r =
     record {
@@ -275,9 +274,27 @@ extended x c r =
       numbers = [];
     }
 
+-- "Test 12 also asks that sets, counts and stores are within bounds": of the array that holds them, where a call is handed it. Ten of 01's
+-- calls read and change nothing there, and are handed the table alone
+abbrev pub handed : Call → Bool
+handed (connect time id group flags name) = true
+handed (disconnect time id) = true
+handed (join time t) = false
+handed (leave time t) = true
+handed (subscribe time id t) = false
+handed (unsubscribe time id t) = false
+handed (graft time id t) = false
+handed (prune time id t seconds) = false
+handed (deliver time id t kind) = false
+handed (rate time id p5) = false
+handed (heartbeat time t ask order) = false
+handed (decay time) = false
+handed (score time id) = false
+
+-- 01's call: test 12 comes before all else
 unfoldable pub oldStep : Extended → Call → ℕ → FullReply
 oldStep x c room =
-    cond (gossipOk (x .base) (x .gossip)) (extended x c (step (x .base) c room)) (refusedAll 12 x)
+    cond (not (handed c) || gossipOk (x .base) (x .gossip)) (extended x c (step (x .base) c room)) (refusedAll 12 x)
 
 unfoldable pub newStep : Extended → New → ℕ → FullReply
 newStep x c room =

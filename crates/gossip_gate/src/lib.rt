@@ -1,0 +1,1 @@
+// The tests that every call with the array begins with.

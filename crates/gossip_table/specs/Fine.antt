@@ -1,0 +1,89 @@
+-- What a function on the array relies on: its length, and that test 12 found it right beside some table's state.
+use Prim.Native.Nat.{ℕ, _≤_, _<_}
+use mathlib.Core.Path.{_≡_}
+use mathlib.Core.Bool.{true}
+use mathlib.Core.List.{List}
+use lib.Dec.{ltb}
+use lib.ListN.{length}
+use Rattle.records.specs.Records.{State, slotCount, topicCount}
+use Rattle.layout.specs.View.{cellCount}
+use Rattle.gossip.specs.Notes.{noteIn, storeIn, stored, countIn, windowMost, rowsMost, numbersMost}
+use Rattle.gossip.specs.Valid.{all, windowOk, gossipOk}
+use Rattle.gossip.specs.Step.{hasRoom, running}
+use Rattle.gossip_table.specs.View.{gossipCells, gossipOf}
+
+pub record Fine (gossip : List ℕ) : Type 0 where
+  pub size : length gossip ≡ gossipCells
+  pub base : State
+  pub ok : gossipOk base (gossipOf gossip) ≡ true
+
+pub record FineSlot (gossip : List ℕ) (s : ℕ) : Type 0 where
+  pub fine : Fine gossip
+  pub slot : s < slotCount
+
+pub record FineTopic (gossip : List ℕ) (t : ℕ) : Type 0 where
+  pub fine : Fine gossip
+  pub topic : t < topicCount
+
+-- an array of any content, and a slot
+pub record Lent (gossip : List ℕ) (s : ℕ) : Type 0 where
+  pub size : length gossip ≡ gossipCells
+  pub slot : s < slotCount
+
+-- a number more may be put into the set of a slot
+pub record HasRoom (gossip : List ℕ) (s : ℕ) : Type 0 where
+  pub fine : Fine gossip
+  pub slot : s < slotCount
+  pub room : hasRoom (gossipOf gossip .setup) (noteIn (gossipOf gossip) s) ≡ true
+
+-- this heartbeat of a topic has room
+pub record StoreFits (gossip : List ℕ) (t : ℕ) : Type 0 where
+  pub fine : Fine gossip
+  pub topic : t < topicCount
+  pub room : ltb (running (storeIn (gossipOf gossip) t)) windowMost ≡ true
+
+-- an IWANT may be answered
+pub record ReplyFits (gossip : List ℕ) (n s : ℕ) : Type 0 where
+  pub fine : Fine gossip
+  pub slot : s < slotCount
+  pub kept : stored (gossipOf gossip) n ≡ true
+  pub few : countIn (gossipOf gossip .replies) n s < 32
+
+-- lent lists of numbers
+pub record Announces (gossip : List ℕ) (t : ℕ) (list : List ℕ) : Type 0 where
+  pub fine : Fine gossip
+  pub topic : t < topicCount
+  pub room : numbersMost ≤ length list
+
+pub record Wants (gossip given list : List ℕ) : Type 0 where
+  pub fine : Fine gossip
+  pub few : length given ≤ numbersMost
+  pub room : numbersMost ≤ length list
+
+-- the sizes of stores and replies alone, which a store to one of them keeps
+pub record Kept (gossip : List ℕ) : Type 0 where
+  pub size : length gossip ≡ gossipCells
+  pub windows : (t : ℕ) → t < topicCount → all windowOk (storeIn (gossipOf gossip) t) ≡ true
+  pub rows : length (gossipOf gossip .replies) ≤ rowsMost
+
+pub record KeptSlot (gossip : List ℕ) (s : ℕ) : Type 0 where
+  pub kept : Kept gossip
+  pub slot : s < slotCount
+
+pub record KeptRow (gossip : List ℕ) (r : ℕ) : Type 0 where
+  pub kept : Kept gossip
+  pub row : r < length (gossipOf gossip .replies)
+
+-- a table and an array of any content
+pub record Both (table gossip : List ℕ) : Type 0 where
+  pub size : length table ≡ cellCount
+  pub sizes : length gossip ≡ gossipCells
+
+pub record BothSlot (table gossip : List ℕ) (s : ℕ) : Type 0 where
+  pub both : Both table gossip
+  pub slot : s < slotCount
+
+-- two of the set-up numbers
+pub record SetupIs (gossip : List ℕ) (limit ihaves : ℕ) : Type 0 where
+  pub puts : limit ≡ gossipOf gossip .setup .limit
+  pub answers : ihaves ≡ gossipOf gossip .setup .ihaves
