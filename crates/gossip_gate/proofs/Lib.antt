@@ -1,2 +1,3 @@
 pub mod PromiseLaws
 pub mod GateLaws
+pub mod ReplyLaws
