@@ -1,0 +1,13 @@
+pub mod LifeLaws
+pub mod Cases
+pub mod Stays
+pub mod Frame
+pub mod Demand
+pub mod Tied
+pub mod TiedNew
+pub mod TiedOld
+pub mod Bound
+pub mod FineLaws
+pub mod Keeps
+pub mod Fresh
+pub mod Fits
