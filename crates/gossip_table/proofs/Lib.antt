@@ -1,3 +1,5 @@
 pub mod PartLaws
 pub mod ViewLaws
 pub mod FineLaws
+pub mod NoteParts
+pub mod StoreParts

@@ -8,9 +8,11 @@ use lib.ListN.{length}
 use Rattle.records.specs.Records.{State, slotCount, topicCount}
 use Rattle.layout.specs.View.{cellCount}
 use Rattle.gossip.specs.Notes.{noteIn, storeIn, stored, countIn, windowMost, rowsMost, numbersMost}
-use Rattle.gossip.specs.Valid.{all, windowOk, gossipOk}
+use Rattle.gossip.specs.Valid.{gossipOk}
+use Rattle.stores.specs.View.{Windows}
+use Rattle.replies.specs.View.{repliesOf}
 use Rattle.gossip.specs.Step.{hasRoom, running}
-use Rattle.gossip_table.specs.View.{gossipCells, gossipOf}
+use Rattle.gossip_table.specs.View.{gossipCells, gossipOf, storesPart, repliesPart}
 
 pub record Fine (gossip : List ℕ) : Type 0 where
   pub size : length gossip ≡ gossipCells
@@ -63,8 +65,8 @@ pub record Wants (gossip given list : List ℕ) : Type 0 where
 -- the sizes of stores and replies alone, which a store to one of them keeps
 pub record Kept (gossip : List ℕ) : Type 0 where
   pub size : length gossip ≡ gossipCells
-  pub windows : (t : ℕ) → t < topicCount → all windowOk (storeIn (gossipOf gossip) t) ≡ true
-  pub rows : length (gossipOf gossip .replies) ≤ rowsMost
+  pub windows : Windows (storesPart gossip)
+  pub rows : length (repliesOf (repliesPart gossip)) ≤ rowsMost
 
 pub record KeptSlot (gossip : List ℕ) (s : ℕ) : Type 0 where
   pub kept : Kept gossip
@@ -72,7 +74,7 @@ pub record KeptSlot (gossip : List ℕ) (s : ℕ) : Type 0 where
 
 pub record KeptRow (gossip : List ℕ) (r : ℕ) : Type 0 where
   pub kept : Kept gossip
-  pub row : r < length (gossipOf gossip .replies)
+  pub row : r < length (repliesOf (repliesPart gossip))
 
 -- a table and an array of any content
 pub record Both (table gossip : List ℕ) : Type 0 where

@@ -4,7 +4,7 @@ use mathlib.Core.Path.{_≡_}
 use mathlib.Core.List.{List}
 use lib.ListN.{length, getD}
 use Rattle.records.specs.Records.{slotCount}
-use Rattle.gossip.specs.Notes.{Entry, setMost, aged}
+use Rattle.gossip.specs.Notes.{setMost, putIn, aged}
 use Rattle.notes.specs.View.{notesCells, rowCells, setIn, noteAt}
 
 pub record AtSlot (cells : List ℕ) (s : ℕ) : Type 0 where
@@ -44,5 +44,12 @@ pub record AgedRow (c d : List ℕ) (at n m : ℕ) : Type 0 where
   pub size : length d ≡ length c
   pub few : m ≤ n
   pub held : setIn d at m ≡ aged (setIn c at n)
+  pub below : (k : ℕ) → k < at → getD d k 0 ≡ getD c k 0
+  pub above : (k : ℕ) → at + rowCells ≤ k → getD d k 0 ≡ getD c k 0
+
+-- a row with one number more
+pub record PutRow (c d : List ℕ) (at n x : ℕ) : Type 0 where
+  pub size : length d ≡ length c
+  pub held : setIn d at (n + 1) ≡ putIn x (setIn c at n)
   pub below : (k : ℕ) → k < at → getD d k 0 ≡ getD c k 0
   pub above : (k : ℕ) → at + rowCells ≤ k → getD d k 0 ≡ getD c k 0

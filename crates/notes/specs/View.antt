@@ -2,14 +2,14 @@
 -- cells a slot: 32 numbers, rising, and their ages as the digits of one number. Only the numbers and ages below the length are read, so a
 -- column of zeros holds nothing. The layout may be changed here and in src/lib.rt.
 use Prim.Native.Nat.{ℕ, _+_, _*_, _/_, _%_, _^_}
-use mathlib.Core.Bool.{cond}
+use mathlib.Core.Bool.{Bool, cond, not, _&&_, _||_}
 use mathlib.Core.List.{List}
-use lib.Dec.{leb}
+use lib.Dec.{eqb, leb}
 use lib.ListN.{getD}
 use Rattle.records.specs.Records.{slotCount}
 use Rattle.layout.specs.Rows.{tab}
 use Rattle.layout.specs.View.{table}
-use Rattle.gossip.specs.Notes.{Entry, Note, noNote, setMost}
+use Rattle.gossip.specs.Notes.{Entry, Note, noNote}
 
 -- the cells of a row, and of all
 abbrev pub rowCells : ℕ
@@ -45,6 +45,10 @@ few n = cond (leb n 32) n 33
 unfoldable pub setIn : List ℕ → ℕ → ℕ → List Entry
 setIn c at n = tab n (entryAt c at)
 
+-- its numbers alone
+unfoldable pub numbersIn : List ℕ → ℕ → ℕ → List ℕ
+numbersIn c at n = tab n (λ k. getD c (at + k) 0)
+
 -- what a cell of the column and a row are
 unfoldable pub noteFrom : ℕ → List Entry → Note
 noteFrom head held = record { held = held; puts = head % 64; ihaves = head / 64 % 64 }
@@ -58,3 +62,8 @@ notesOf c = table slotCount (noteOf c)
 
 unfoldable pub noteAt : List ℕ → ℕ → Note
 noteAt c s = getD (notesOf c) s noNote
+
+-- `countsOk` of a set-up with these two numbers
+abbrev pub countsFit : ℕ → ℕ → Bool → Note → Bool
+countsFit limit most empty n =
+    leb (n .puts) limit && leb (n .ihaves) most && (not empty || (eqb (n .puts) 0 && eqb (n .ihaves) 0))

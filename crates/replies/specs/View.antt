@@ -1,10 +1,10 @@
 -- How a region of cells holds how often IWANTs were answered: the number of rows in use, then the rows, each a number, a hint that is no part
 -- of the view, and the counts of all slots, ten lanes of six bits in a cell. No view reads a row past those in use.
-use Prim.Native.Nat.{ℕ, zero, suc, _+_, _*_, _/_, _%_, _^_}
+use Prim.Native.Nat.{ℕ, zero, suc, _+_, _*_, _/_, _%_, _^_, _≤_, _<_}
 use mathlib.Core.Path.{_≡_}
 use mathlib.Core.Logic.{_≢_}
 use mathlib.Core.List.{List, [], _∷_}
-use lib.ListN.{length, getD}
+use lib.ListN.{length, getD, replicate}
 use Rattle.records.specs.Records.{slotCount}
 use Rattle.layout.specs.Rows.{tab}
 use Rattle.layout.specs.View.{table}
@@ -67,12 +67,30 @@ pub record LaneSet (x y j v : ℕ) : Type 0 where
   pub here : laneIn y j ≡ v
   pub others : (i : ℕ) → i ≢ j → laneIn y i ≡ laneIn x i
 
+-- the n cells from b on are what f says, and no other changed
+pub record Run (c d : List ℕ) (b n : ℕ) (f : ℕ → ℕ) : Type 0 where
+  pub size : length d ≡ length c
+  pub within : (k : ℕ) → k < n → getD d (b + k) 0 ≡ f k
+  pub before : (x : ℕ) → x < b → getD d x 0 ≡ getD c x 0
+  pub after : (x : ℕ) → b + n ≤ x → getD d x 0 ≡ getD c x 0
+
 -- row r is `row`, and no other changed
 pub record RowSet (c d : List ℕ) (r : ℕ) (row : Row) : Type 0 where
   pub size : length d ≡ length c
   pub rows : rowsIn d ≡ rowsIn c
   pub here : rowAt d r ≡ row
   pub others : (k : ℕ) → k ≢ r → rowAt d k ≡ rowAt c k
+
+-- the rows from p on are one place higher, and place p is free
+pub record Opened (c d : List ℕ) (p u : ℕ) : Type 0 where
+  pub size : length d ≡ length c
+  pub rows : rowsIn d ≡ rowsIn c
+  pub low : (k : ℕ) → k < p → rowAt d k ≡ rowAt c k
+  pub high : (k : ℕ) → p ≤ k → k < u → rowAt d (k + 1) ≡ rowAt c k
+
+-- a row with no count
+abbrev pub blank : ℕ → Row
+blank n = record { number = n; counts = replicate slotCount 0 }
 
 -- a row more, at place p
 unfoldable pub inserted : ℕ → Row → List Row → List Row

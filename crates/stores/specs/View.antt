@@ -8,7 +8,7 @@ use mathlib.Core.List.{List}
 use lib.ListN.{length, getD}
 use Rattle.records.specs.Records.{topicCount}
 use Rattle.layout.specs.Rows.{tab}
-use Rattle.gossip.specs.Notes.{windowCount, windowMost, noStore, storedIn, some}
+use Rattle.gossip.specs.Notes.{windowCount, windowMost, noStore, storedIn, some, moved}
 
 -- the windows of all topics, the places for numbers, and the cells
 abbrev pub allWindows : ℕ
@@ -71,8 +71,28 @@ pub record Changed (c d : List ℕ) (t : ℕ) (s : List (List ℕ)) : Type 0 whe
   pub here : fiveAt d t ≡ s
   pub others : (u : ℕ) → u < topicCount → u ≢ t → fiveAt d u ≡ fiveAt c u
 
+-- d is c with the n cells from `at` on copied, so far on as a window goes
+pub record CopiedOn (c d : List ℕ) (at n : ℕ) : Type 0 where
+  pub size : length d ≡ length c
+  pub inside : (k : ℕ) → k < n → getD d (at + windowMost + k) 0 ≡ getD c (at + k) 0
+  pub before : (i : ℕ) → i < at + windowMost → getD d i 0 ≡ getD c i 0
+  pub behind : (i : ℕ) → at + windowMost + n ≤ i → getD d i 0 ≡ getD c i 0
+
+-- d is c with w counts from p on gone
+pub record Emptied (c d : List ℕ) (p w : ℕ) : Type 0 where
+  pub size : length d ≡ length c
+  pub gone : (v : ℕ) → v < w → countAt d (p + v) ≡ 0
+  pub before : (i : ℕ) → i < p → getD d i 0 ≡ getD c i 0
+  pub behind : (i : ℕ) → p + w ≤ i → getD d i 0 ≡ getD c i 0
+
 -- d is c with window p in place of the one behind it
 pub record Shifted (c d : List ℕ) (p : ℕ) : Type 0 where
   pub windows : Windows d
-  pub here : windowAt d (p + 1) ≡ windowAt c p
+  pub here : (q : ℕ) → q ≡ p + 1 → windowAt d q ≡ windowAt c p
   pub others : (q : ℕ) → q < allWindows → q ≢ p + 1 → windowAt d q ≡ windowAt c q
+
+-- d is c with a new heartbeat of each topic below t
+pub record MovedTo (c d : List ℕ) (t : ℕ) : Type 0 where
+  pub windows : Windows d
+  pub below : (u : ℕ) → u < t → fiveAt d u ≡ moved (fiveAt c u)
+  pub above : (u : ℕ) → u < topicCount → t ≤ u → fiveAt d u ≡ fiveAt c u

@@ -1,0 +1,5 @@
+pub mod LaneLaws
+pub mod ListLaws
+pub mod RowLaws
+pub mod CallLaws
+pub mod TestLaws

@@ -1,0 +1,4 @@
+pub mod HasLaws
+pub mod ViewLaws
+pub mod ChangeLaws
+pub mod ListLaws
