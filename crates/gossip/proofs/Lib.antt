@@ -5,3 +5,6 @@ pub mod RowLaws
 pub mod NoteOk
 pub mod RepliesOk
 pub mod Fine
+pub mod FineLaws
+pub mod Cases
+pub mod Sound

@@ -23,7 +23,7 @@ use Rattle.gossip.specs.Step.{FullReply, refusedAll, ignoredAll, doneAll, tellO
 use Rattle.gossip.specs.Step.{relayReply, running, storeReply, isTarget, inDraw, chosen, oldestFirst, announced, ifAny, announceReply}
 use Rattle.gossip.specs.Step.{wanted, isAnswered, ihaveReply, isServed, iwantReply, newEffect}
 use Rattle.gossip_lists.specs.Kept.{Fits, FitsNew}
-use Rattle.gossip_lists.proofs.Cases.{PassedNew, by-first, by-slot, by-sender, by-joined}
+use Rattle.gossip.proofs.Cases.{PassedNew, by-first, by-slot, by-sender, by-joined}
 use Rattle.gossip.proofs.ListLaws.{windows-take}
 use Rattle.gossip.proofs.NoteOk.{store-parts}
 use Rattle.gossip.proofs.Fine.{fine-of}

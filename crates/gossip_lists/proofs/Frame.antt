@@ -24,7 +24,7 @@ use Rattle.gossip.specs.Calls.{New, askAll, idontwant, relay, beat, store, anno
 use Rattle.gossip.specs.Step.{FullReply, refusedAll, at, ignoredAll, doneAll, hasRoom, isHeeded, askReply, idontwantReply, relayReply}
 use Rattle.gossip.specs.Step.{running, storeReply, announceReply, isAnswered, ihaveReply, isServed, iwantReply, newEffect, newStep}
 use Rattle.gossip_lists.specs.Frame.{NewTouchesNothing}
-use Rattle.gossip_lists.proofs.Cases.{by-first, by-slot, by-sender, by-joined}
+use Rattle.gossip.proofs.Cases.{by-first, by-slot, by-sender, by-joined}
 
 -- ---- whatever a new call does, it refuses, or moves the clock to its time and changes notes and stores
 module _

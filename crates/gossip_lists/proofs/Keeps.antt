@@ -1,63 +1,79 @@
--- Every call keeps the tables a router's.
+-- Every call keeps the tables a router's: 01's state as crate rules shows it, the new parts as crate gossip does (Sound).
 -- Assumes nothing.
 use Prim.Native.Nat.{ℕ, _<_, _≤_}
 use native.Mathlib.Omega.{arith}
 use mathlib.Core.Path.{_≡_, refl, sym, ap, _∙_}
-use mathlib.Core.Bool.{Bool, true, false, cond, not, _&&_, _||_}
+use mathlib.Core.Bool.{Bool, true, false, cond, not, _||_}
 use mathlib.Core.List.{List, []}
-use lib.Dec.{eqb, ltb}
-use lib.ListN.{length, getD, set}
+use lib.Dec.{eqb}
+use lib.ListN.{getD}
 use lib.Seq.{getD-set-other}
-use borrow.Author.Tests.{eqb-true, eqb-false, eq-eqb, leb-true, ltb-true}
+use borrow.Author.Tests.{eqb-true, eqb-false, eq-eqb, leb-true}
 use Rattle.index.specs.declared.Found.{Found}
 use Rattle.index.specs.declared.Found.the-variants.{At, Nothing}
 use Rattle.index.proofs.Index.{both}
 use Rattle.index.proofs.Flags.{by-test, cond-case}
 use Rattle.index.proofs.Lists.{set-case}
 use Rattle.records.specs.declared.Peer.{Peer}
-use Rattle.records.specs.Records.{State, slotCount, topicCount, noPeer, peerIn, setClock, setJoined, setPeer}
+use Rattle.records.specs.Records.{State, slotCount, topicCount, joinedIn, peerIn, setClock, setJoined, setPeer}
 use Rattle.layout.specs.View.{Sized}
 use Rattle.layout.proofs.StateLaws.{peer-after-clock, peer-other, peer-same}
 use Rattle.validity.specs.Valid.{maxTime, valid}
 use Rattle.lookup.specs.Find.{findConnected}
 use Rattle.lookup.proofs.FindLaws.{connected-at, retained-at, empty-at}
-use Rattle.effects.specs.Effects.{connectedAs, isJoined, departed, reclaimable, reclaimed}
+use Rattle.effects.specs.Effects.{connectedAs, isJoined, departed, reclaimed}
 use Rattle.effects.proofs.EffectLaws.{reclaimed-peer, reclaimed-stays, reclaimable-connected, sized-reclaimed}
-use Rattle.sets.specs.Sets.{bySlot, isPermutation}
-use Rattle.sets.proofs.SlotLaws.{slots-length, slots-at}
 use Rattle.rules.specs.declared.Answer.{Answer}
 use Rattle.rules.specs.declared.Answer.the-variants.{AlreadyConnected, NoSlot, UnknownProtocol, NotConnected}
 use Rattle.rules.specs.Reply.{Reply, numberOf, refused, ignored, done}
 use Rattle.rules.specs.Calls.{Call, connect, disconnect, join, leave, subscribe, unsubscribe, graft, prune, deliver, rate, heartbeat}
-use Rattle.rules.specs.Calls.{decay, score, timeOk, argumentsOk, groupsOf}
+use Rattle.rules.specs.Calls.{decay}
+use Rattle.rules.specs.Calls.{score, timeOk, argumentsOk, groupsOf}
 use Rattle.rules.specs.Step.{onFound, ofPeer, connectAt, connectReply, joinReply, leaveReply, heartbeatReply, decayReply, effect, step}
 use Rattle.rules.proofs.CaseLaws.{topic-in, arguments, by-peer, by-gate}
 use Rattle.rules.proofs.ConnectLaws.{by-connect}
 use Rattle.rules.proofs.Keeps.{keeps, keeps-sizes}
 use Rattle.rules.proofs.KeepsState.{router-start, router-end}
-use Rattle.gossip.specs.Notes.{Note, Gossip, Extended, windowMost, noNote, noStore, noteIn, storeIn, holds, storedIn}
-use Rattle.gossip.specs.Notes.{stored, setNote, setStore, setReplies, added, countIn, replied, ended}
-use Rattle.gossip.specs.Valid.{SizedGossip, noteOk, storeOk, gossipOk, validAll}
-use Rattle.gossip.specs.Calls.{New, askAll, idontwant, relay, beat, store, announce, ihave, iwant, old, new, timeOfNew, newArgumentsOk}
-use Rattle.gossip.specs.Calls.{newInRange}
-use Rattle.gossip.specs.Step.{FullReply, refusedAll, at, ignoredAll, doneAll, hasRoom, withPut, isHeeded, askReply, idontwantReply}
-use Rattle.gossip.specs.Step.{relayReply, beatOf, running, storeReply, announceReply, underGossip, isAnswered, withIhave, ihaveReply}
-use Rattle.gossip.specs.Step.{isServed, iwantReply, newEffect, newStep, parted, kept, besides, handed, extended, oldStep, stepAll}
+use Rattle.gossip.specs.Notes.{Gossip, Extended, storeIn}
+use Rattle.gossip.specs.Valid.{storeOk, gossipOk, validAll}
+use Rattle.gossip.specs.Calls.{New, old, new, timeOfNew, newArgumentsOk, newInRange}
+use Rattle.gossip.specs.Step.{FullReply, refusedAll, newEffect, newStep, onFoundNote, besides, handed, extended, oldStep, stepAll}
+use Rattle.gossip.proofs.ListLaws.{and-by}
+use Rattle.gossip.proofs.NoteOk.{store-joined}
+use Rattle.gossip.proofs.RepliesOk.{Remain}
+use Rattle.gossip.proofs.Fine.{fine-of, of-fine}
+use Rattle.gossip.proofs.FineLaws.{fine-stands}
+use Rattle.gossip.proofs.Cases.{PassedNew, by-first}
+use Rattle.gossip.proofs.Sound.{Sound, sound-effect, sound-leave, sound-parted, sound-connect}
 use Rattle.gossip_lists.specs.Kept.{Whole, KeepsAll}
-use Rattle.gossip.proofs.NoteLaws.{sized-note, sized-store, sized-replies, sized-forget, sized-beat, added-length}
-use Rattle.gossip.proofs.RepliesOk.{Remain, replies-remain}
-use Rattle.gossip.proofs.Fine.{Fine, fine-of, of-fine}
-use Rattle.gossip_lists.proofs.Cases.{PassedNew, by-first, by-slot, by-sender, by-joined}
 use Rattle.gossip_lists.proofs.Stays.{Calm, Turned, calm-self, calm-clock, calm-ignored, calm-rate, calm-decay, calm-subscribe}
 use Rattle.gossip_lists.proofs.Stays.{calm-unsubscribe, calm-prune, calm-deliver, calm-graft, calm-heartbeat, turned-join}
 use Rattle.gossip_lists.proofs.Stays.{turned-leave, left, departed-status, departed-other, departed-joined, reclaimed-joined}
-use Rattle.gossip.proofs.NoteOk.{note-none, note-peer, note-connected, note-parted, note-put, note-ihave}
-use Rattle.gossip.proofs.NoteOk.{store-joined, store-added}
-use Rattle.gossip.proofs.ListLaws.{and-by}
-use Rattle.gossip_lists.proofs.FineLaws.{joined-same, joined-list, joined-clock, joined-peer, remain-same, fine-calm, fine-by}
-use Rattle.gossip_lists.proofs.FineLaws.{fine-note, fine-ended, fine-store, fine-reply, added-more, fine-beat, fine-leave}
+use Rattle.gossip_lists.proofs.Frame.{still-effect}
 
--- ---- the new calls
+-- ---- the joined flags, by their list
+joined-list : (u : State) (v : ℕ) {l : List ℕ} → u .joined ≡ l → isJoined u v ≡ eqb (getD l v 0) 1
+unfolding joinedIn
+joined-list u v e = ap (λ (l : List ℕ). eqb (getD l v 0) 1) e
+
+joined-same : (st u : State) (t : ℕ) → u .joined ≡ st .joined → isJoined u t ≡ isJoined st t
+joined-same st u t e = joined-list u t e ∙ sym (joined-list st t refl)
+
+joined-clock : (u : State) (n : ℕ) → setClock u n .joined ≡ u .joined
+unfolding setClock
+joined-clock u n = refl
+
+joined-peer : (u : State) (s : ℕ) (p : Peer) (n : ℕ) → setClock (setPeer u s p) n .joined ≡ u .joined
+unfolding setClock setPeer
+joined-peer u s p n = refl
+
+sound-calm : (st u : State) (g : Gossip) → Sound st g → Calm st u → Sound u g
+sound-calm st u g w c =
+    record {
+      sizes = w .sizes;
+      fine = fine-stands st u g (w .fine) (c .same .status) (λ t l. rw (joined-same st u t (c .joined)) (w .fine .store t l));
+    }
+
 module _ (x : Extended) (w : Whole x) where
   abbrev st : State
   st = x .base
@@ -69,17 +85,18 @@ module _ (x : Extended) (w : Whole x) where
   unfolding validAll
   base-ok = both (valid st) (gossipOk st g) (w .router) .0
 
-  fine : Fine st g
+  sound : Sound st g
   unfolding validAll
-  fine = fine-of st g (both (valid st) (gossipOk st g) (w .router) .1)
+  sound = record { sizes = w .sizes; fine = fine-of st g (both (valid st) (gossipOk st g) (w .router) .1) }
 
-  whole-by : (y : Extended) → Sized (y .base) → SizedGossip (y .gossip) → valid (y .base) ≡ true → Fine (y .base) (y .gossip) → Whole y
+  whole-by : (y : Extended) → Sized (y .base) → valid (y .base) ≡ true → Sound (y .base) (y .gossip) → Whole y
   unfolding validAll
-  whole-by y size sizes v f = record { size = size; sizes = sizes; router = and-by v (of-fine (y .base) (y .gossip) f) }
+  whole-by y size v f = record { size = size; sizes = f .sizes; router = and-by v (of-fine (y .base) (y .gossip) (f .fine)) }
 
   abbrev Kept : FullReply → Type 0
   Kept r = Whole (r .state)
 
+  -- ---- the new calls: the clock moves, and the new parts are within their bounds
   module _ (c : New) (p : PassedNew x c) where
     abbrev time : ℕ
     time = timeOfNew c
@@ -88,111 +105,25 @@ module _ (x : Extended) (w : Whole x) where
     unfolding newInRange
     last = leb-true time maxTime (both (timeOk time) (newArgumentsOk c) (p .ranges) .0)
 
-    right : newArgumentsOk c ≡ true
-    unfolding newInRange
-    right = both (timeOk time) (newArgumentsOk c) (p .ranges) .1
+    moves : (r : FullReply) → r .state .base ≡ setClock st time → Sound st (r .state .gossip) → Kept r
+    moves r e f =
+        let v = router-end time st (router-start time st (w .size) base-ok (p .clock) last) in
+        whole-by (r .state) (rw e (v .size)) (rw e (v .router))
+        (rw e (sound-calm st (setClock st time) (r .state .gossip) f (calm-clock st time)))
 
-    -- notes and stores as they are to be, and the clock
-    ends : (h : Gossip) → SizedGossip h → Fine st h → Whole (at x time h)
-    ends h sizes f =
-        let r = router-end time st (router-start time st (w .size) base-ok (p .clock) last) in
-        whole-by (at x time h) (r .size) sizes (r .router) (fine-calm st (setClock st time) h f (calm-clock st time))
-
-    quiet : Whole (at x time g)
-    quiet = ends g (w .sizes) fine
-
-    noted : (s : ℕ) (n : Note) → s < slotCount → noteOk (g .setup) (peerIn st s) n ≡ true → Whole (at x time (setNote g s n))
-    noted s n l ok =
-        ends (setNote g s n) (sized-note g (w .sizes) s n)
-        (fine-note st st g fine (w .sizes) s l (λ t. refl) (λ i k d. refl) n ok (λ i k on. on))
-
-  room-ihave : (t s : ℕ) → isAnswered x t s ≡ true → ltb (noteIn g s .ihaves) (g .setup .ihaves) ≡ true
-  unfolding isAnswered
-  room-ihave t s e =
-      let q = both (isJoined st t) (not (underGossip st s) && ltb (noteIn g s .ihaves) (g .setup .ihaves)) e in
-      both (not (underGossip st s)) (ltb (noteIn g s .ihaves) (g .setup .ihaves)) (q .1) .1
-
-  room-iwant :
-      (n s : ℕ) → isServed x n s ≡ true → (stored g n ≡ true) × (countIn (g .replies) n s < g .setup .replies)
-  unfolding isServed
-  room-iwant n s e =
-      let q = both (not (underGossip st s)) (stored g n && ltb (countIn (g .replies) n s) (g .setup .replies)) e in
-      let r = both (stored g n) (ltb (countIn (g .replies) n s) (g .setup .replies)) (q .1) in
-      (r .0, ltb-true (countIn (g .replies) n s) (g .setup .replies) (r .1))
-
-  refuses : (a : ℕ) → eqb a 0 ≡ false → Kept (refusedAll a x)
-  refuses a e = w
-
-  keeps-effect : (c : New) → PassedNew x c → Kept (newEffect x c)
-  unfolding newEffect askReply relayReply idontwantReply storeReply announceReply ihaveReply iwantReply
-  keeps-effect (askAll time t sender n) p =
-      let c = askAll time t sender n in
-      by-sender Kept x refuses sender _ (by-joined Kept x refuses time t _ (quiet c p) (λ j. quiet c p))
-  keeps-effect (idontwant time id n) p =
-      let c = idontwant time id n in
-      by-slot Kept x refuses id _ (λ s l on i.
-      cond-case Kept (isHeeded st s) _ (ignoredAll x time)
-      (λ e.
-      cond-case Kept (holds (noteIn g s) n) (doneAll x time g [] []) _ (λ k. quiet c p) (λ k.
-      cond-case Kept (hasRoom (g .setup) (noteIn g s)) _ (ignoredAll x time)
-      (λ r.
-      noted c p s (withPut n (noteIn g s)) l
-      (note-put (g .setup) (peerIn st s) (noteIn g s) (fine .note s l) on n k r))
-      (λ r. quiet c p)))
-      (λ e. quiet c p))
-  keeps-effect (relay time t sender n) p =
-      let c = relay time t sender n in
-      by-sender Kept x refuses sender _ (by-joined Kept x refuses time t _ (quiet c p) (λ j. quiet c p))
-  keeps-effect (beat time) p = ends (beat time) p (beatOf g) (sized-beat g (w .sizes)) (fine-beat st g fine)
-  keeps-effect (store time t n) p =
-      let c = store time t n in
-      let k = topic-in t (right c p) in
-      let s = storeIn g t in
-      by-joined Kept x refuses time t _ (quiet c p) (λ j.
-      cond-case Kept (storedIn s n) (doneAll x time g [] []) _ (λ e. quiet c p) (λ e.
-      cond-case Kept (ltb (running s) windowMost) _ (refusedAll 13 x)
-      (λ r.
-      ends c p (setStore g t (added n s)) (sized-store g (w .sizes) t (added n s) k (added-length n s ∙ w .sizes .windows t))
-      (fine-store st g fine (w .sizes) t k (added n s) (added-more n s) (store-added (isJoined st t) s (fine .store t k) n j e r)))
-      (λ r. w)))
-  keeps-effect (announce time t order list) p =
-      let c = announce time t order list in
-      cond-case Kept (isPermutation slotCount order) _ (refusedAll 7 x)
-      (λ e. by-joined Kept x refuses time t _ (quiet c p) (λ j. quiet c p))
-      (λ e. w)
-  keeps-effect (ihave time id t numbers list) p =
-      let c = ihave time id t numbers list in
-      by-slot Kept x refuses id _ (λ s l on i.
-      cond-case Kept (isAnswered x t s) _ (ignoredAll x time)
-      (λ e.
-      noted c p s (withIhave (noteIn g s)) l
-      (note-ihave (g .setup) (peerIn st s) (noteIn g s) (fine .note s l) on (room-ihave t s e)))
-      (λ e. quiet c p))
-  keeps-effect (iwant time id n) p =
-      let c = iwant time id n in
-      by-slot Kept x refuses id _ (λ s l on i.
-      cond-case Kept (isServed x n s) _ (ignoredAll x time)
-      (λ e.
-      let q = room-iwant n s e in
-      ends c p (setReplies g (replied n s (g .replies))) (sized-replies g (w .sizes) _)
-      (fine-reply st g fine (w .sizes) n s l (eq-eqb (peerIn st s .status) 1 on) (q .0) (q .1)))
-      (λ e. quiet c p))
+    keeps-effect : Kept (newEffect x c)
+    keeps-effect =
+        still-effect (λ (r : FullReply). Sound st (r .state .gossip) → Kept r) x (λ a e f. w) c moves (sound-effect x sound c p)
 
   keeps-new : (c : New) (room : ℕ) → Kept (newStep x c room)
-  keeps-new c room = by-first Kept x refuses c room (keeps-effect c)
+  keeps-new c room = by-first Kept x (λ a e. w) c room (keeps-effect c)
 
   -- ---- 01's calls
-  pub record Rest (u : State) (h : Gossip) : Type 0 where
-    pub sizes : SizedGossip h
-    pub fine : Fine u h
-
   abbrev Left : Call → Reply → Type 0
-  Left c r = Rest (r .state) (extended x c r .state .gossip)
+  Left c r = Sound (r .state) (extended x c r .state .gossip)
 
   alone : (c : Call) (r : Reply) → extended x c r .state .gossip ≡ g → Calm st (r .state) → Left c r
-  alone c r e f =
-      let q : Rest (r .state) g = record { sizes = w .sizes; fine = fine-calm st (r .state) g fine f } in
-      rw e q
+  alone c r e f = rw e (sound-calm st (r .state) g sound f)
 
   refused-rest : (c : Call) (a : Answer) → eqb (numberOf a) 0 ≡ false → Left c (refused a st)
   refused-rest c a e = alone c (refused a st) (rw e) (calm-self st)
@@ -207,66 +138,44 @@ module _ (x : Extended) (w : Whole x) where
     of-peer id f k = by-peer (Left c) st id f (refused-rest c NotConnected refl) (λ s l on. calm (f s) (k s))
 
   -- join: the topic may store
+  into : {u : State} {time t : ℕ} → Turned st time t 1 u → (v : ℕ) → v < topicCount → storeOk (isJoined u v) (storeIn g v) ≡ true
+  into {u} {time} {t} f v l =
+      rw (joined-list u v (f .joined))
+      (set-case (λ (b : ℕ). storeOk (eqb b 1) (storeIn g v) ≡ true) (st .joined) t v 1 0
+      (λ q. store-joined (isJoined st v) (storeIn g v) (sound .fine .store v l))
+      (ap (λ (b : Bool). storeOk b (storeIn g v)) (sym (joined-list st v refl)) ∙ sound .fine .store v l))
+
   rest-join : (time t : ℕ) → Left (join time t) (joinReply st time t)
   unfolding joinReply besides
   rest-join time t =
       cond-case (Left (join time t)) (isJoined st t) (ignored st time) _
       (λ e. alone (join time t) (ignored st time) refl (calm-ignored st time))
-      (λ e. record { sizes = w .sizes; fine = fine-join (turned-join st time t) })
-    where
-      fine-join : {u : State} → Turned st time t 1 u → Fine u g
-      fine-join {u} f =
-          record {
-            setup = fine .setup;
-            note = λ s l. note-peer (g .setup) (peerIn st s) (noteIn g s) (fine .note s l) (peerIn u s) (f .same .status s);
-            store = λ v l. rw (joined-list u v (f .joined)) (into v l);
-            replies =
-                replies-remain st (g .setup .replies) (stored g) (g .replies) (fine .replies) u (stored g)
-                (remain-same st u (f .same .status))
-                (λ n e. e);
-          }
-        where
-          into : (v : ℕ) → v < topicCount → storeOk (eqb (getD (set (st .joined) t 1) v 0) 1) (storeIn g v) ≡ true
-          into v l =
-              set-case (λ (b : ℕ). storeOk (eqb b 1) (storeIn g v) ≡ true) (st .joined) t v 1 0
-              (λ q. store-joined (isJoined st v) (storeIn g v) (fine .store v l))
-              (ap (λ (b : Bool). storeOk b (storeIn g v)) (sym (joined-list st v refl)) ∙ fine .store v l)
+      (λ e.
+      let f = turned-join st time t in
+      let u = setClock (setJoined st t 1) time in
+      record { sizes = w .sizes; fine = fine-stands st u g (sound .fine) (f .same .status) (into f) })
 
   -- leave
   rest-leave : (time t : ℕ) → t < topicCount → Left (leave time t) (leaveReply st time t)
-  unfolding leaveReply besides
+  unfolding leaveReply
   rest-leave time t k =
       cond-case (Left (leave time t)) (isJoined st t) _ (ignored st time)
       (λ e.
       let f = turned-leave st time t in
       let u = setClock (setJoined (left st time t) t 0) time in
-      record {
-        sizes = sized-forget (setStore g t noStore) (sized-store g (w .sizes) t noStore k refl);
-        fine =
-            fine-leave st u g fine (w .sizes) t k (f .same .status) (λ v d.
-            joined-list u v (f .joined) ∙ ap (λ (b : ℕ). eqb b 1) (getD-set-other (st .joined) t v 0 0 d) ∙ sym (joined-list st v refl));
-      })
+      sound-leave st u g sound time t k (f .same .status) (λ v d.
+      joined-list u v (f .joined) ∙ ap (λ (b : ℕ). eqb b 1) (getD-set-other (st .joined) t v 0 0 d) ∙ sym (joined-list st v refl)))
       (λ e. alone (leave time t) (ignored st time) refl (calm-ignored st time))
 
   -- disconnect
   module _ (time id : ℕ) where
-    parts-with :
-        (s : ℕ) →
-        s < slotCount →
-        Rest (setClock (departed st s time) time) (setReplies (setNote g s (parted (noteIn g s))) (ended s (g .replies)))
+    parts-with : (s : ℕ) → s < slotCount → Sound (setClock (departed st s time) time) (onFoundNote (At s) g)
     parts-with s l =
         let u = setClock (departed st s time) time in
-        let n = parted (noteIn g s) in
-        record {
-          sizes = sized-replies (setNote g s n) (sized-note g (w .sizes) s n) _;
-          fine =
-              fine-ended st u g fine (w .sizes) s l
-              (λ t. joined-same st u t (joined-clock (departed st s time) time ∙ departed-joined st s time))
-              (λ i k d. ap (λ (q : Peer). q .status) (peer-after-clock (departed st s time) time i ∙ departed-other st s time i d))
-              n
-              (note-parted (g .setup) (peerIn st s) (noteIn g s) (fine .note s l) (peerIn u s)
-              (ap (λ (q : Peer). q .status) (peer-after-clock (departed st s time) time s) ∙ departed-status st s time (w .size) l));
-        }
+        sound-parted st u g sound s l
+        (λ t. joined-same st u t (joined-clock (departed st s time) time ∙ departed-joined st s time))
+        (λ i k d. ap (λ (q : Peer). q .status) (peer-after-clock (departed st s time) time i ∙ departed-other st s time i d))
+        (ap (λ (q : Peer). q .status) (peer-after-clock (departed st s time) time s) ∙ departed-status st s time (w .size) l)
 
     found :
         (r : Found) →
@@ -283,40 +192,6 @@ module _ (x : Extended) (w : Whole x) where
 
     abbrev base : State
     base = reclaimed st time
-
-    abbrev after : Gossip
-    after = record { setup = g .setup; notes = bySlot slotCount (kept st time g); stores = g .stores; replies = g .replies }
-
-    note-after : (s : ℕ) → s < slotCount → noteIn after s ≡ kept st time g s
-    unfolding noteIn
-    note-after s l = slots-at noNote (kept st time g) slotCount s l
-
-    store-after : (t : ℕ) → storeIn after t ≡ storeIn g t
-    unfolding storeIn
-    store-after t = refl
-
-    stored-after : (n : ℕ) → stored g n ≡ true → stored after n ≡ true
-    unfolding stored storeIn
-    stored-after n e = e
-
-    sizes-after : SizedGossip after
-    sizes-after =
-        record {
-          notes = slots-length slotCount (kept st time g);
-          stores = w .sizes .stores;
-          windows = λ t. ap length (store-after t) ∙ w .sizes .windows t;
-        }
-
-    -- once the reclaimable records are emptied
-    cleared : (s : ℕ) → s < slotCount → noteOk (g .setup) (peerIn base s) (noteIn after s) ≡ true
-    unfolding kept
-    cleared s l =
-        let b = reclaimable (peerIn st s) time in
-        ap (noteOk (g .setup) (peerIn base s)) (note-after s l)
-        ∙ ap (λ (q : Peer). noteOk (g .setup) q (cond b noNote (noteIn g s))) (reclaimed-peer st time (w .size) s l)
-        ∙ by-test (noteOk (g .setup) (cond b noPeer (peerIn st s)) (cond b noNote (noteIn g s)) ≡ true) b
-        (λ e. rw e (note-none (g .setup) noPeer))
-        (λ e. rw e (fine .note s l))
 
     module _ (version s : ℕ) (l : s < slotCount) where
       abbrev p : Peer
@@ -345,27 +220,12 @@ module _ (x : Extended) (w : Whole x) where
           ap (λ (n : ℕ). eqb n 1) (apart i (eqb-false i s a) ∙ ap (λ (q : Peer). q .status) same) ∙ on)
 
       taken : Left con (connectAt base time id (groupsOf groups) flags version s)
-      unfolding connectAt besides
+      unfolding connectAt
       taken =
-          record {
-            sizes = sizes-after;
-            fine =
-                fine-by st u g after fine refl
-                (λ i k.
-                by-test _ (eqb i s)
-                (λ a.
-                let q : i ≡ s = eqb-true i s a in
-                ap (λ (v : ℕ). noteOk (g .setup) (peerIn u v) (noteIn after v)) q
-                ∙ note-connected (g .setup) (peerIn base s) (noteIn after s) (cleared s l) (peerIn u s) up)
-                (λ a.
-                note-peer (g .setup) (peerIn base i) (noteIn after i) (cleared i k) (peerIn u i) (apart i (eqb-false i s a))))
-                (λ t k.
-                ap (storeOk (isJoined u t)) (store-after t)
-                ∙ ap (λ (b : Bool). storeOk b (storeIn g t)) (joined-same st u t (joined-peer base s p time ∙ reclaimed-joined st time))
-                ∙ fine .store t k)
-                refl
-                (replies-remain st (g .setup .replies) (stored g) (g .replies) (fine .replies) u (stored after) on-still stored-after);
-          }
+          sound-connect st g sound time id groups flags name u s up
+          (λ i k d. apart i d ∙ ap (λ (q : Peer). q .status) (reclaimed-peer st time (w .size) i k))
+          on-still
+          (λ t. joined-same st u t (joined-peer base s p time ∙ reclaimed-joined st time))
 
     rest-connect : Left con (connectReply st time id (groupsOf groups) flags name)
     rest-connect =
@@ -399,13 +259,10 @@ module _ (x : Extended) (w : Whole x) where
   keeps-old c room =
       cond-case Kept (not (handed c) || gossipOk st g) (extended x c (step st c room)) (refusedAll 12 x)
       (λ ok.
-      let q : Left c (step st c room) =
-      by-gate (Left c) st c room (refused-rest c) (λ p. rest c (arguments c (p .ranges))) in
       whole-by (extended x c (step st c room) .state)
       (keeps-sizes st c room (w .size))
-      (q .sizes)
       (keeps st c room (w .size) base-ok)
-      (q .fine))
+      (by-gate (Left c) st c room (refused-rest c) (λ p. rest c (arguments c (p .ranges)))))
       (λ bad. w)
 
 pub keeps-all : KeepsAll

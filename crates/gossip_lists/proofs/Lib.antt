@@ -1,5 +1,4 @@
 pub mod LifeLaws
-pub mod Cases
 pub mod Stays
 pub mod Frame
 pub mod Demand
@@ -7,7 +6,6 @@ pub mod Tied
 pub mod TiedNew
 pub mod TiedOld
 pub mod Bound
-pub mod FineLaws
 pub mod Keeps
 pub mod Fresh
 pub mod Fits

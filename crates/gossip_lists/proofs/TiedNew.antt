@@ -34,7 +34,7 @@ use Rattle.gossip.proofs.RowLaws.{count-keep, count-replied}
 use Rattle.gossip.proofs.RepliesOk.{replies-parts, replies-sized}
 use Rattle.gossip.proofs.Fine.{fine-of}
 use Rattle.gossip_lists.proofs.LifeLaws.{lifeIn, life-stored, life-moved, life-added}
-use Rattle.gossip_lists.proofs.Cases.{PassedNew, by-first, by-slot, by-sender, by-joined}
+use Rattle.gossip.proofs.Cases.{PassedNew, by-first, by-slot, by-sender, by-joined}
 use Rattle.gossip_lists.proofs.Stays.{Stay, stay-fewer}
 use Rattle.gossip_lists.proofs.Tied.{Tied, aliveAfter, gaveAfter, After, tie, shown, plain}
 

@@ -1,65 +1,52 @@
 -- Test 12 of the new parts, after each change of notes, stores, replies, statuses and joined topics.
 -- Assumes nothing.
-use Prim.Native.Nat.{ℕ, _+_, _<_}
+use Prim.Native.Nat.{ℕ, _<_}
 use native.Mathlib.Omega.{arith}
-use mathlib.Core.Path.{_≡_, refl, ap, _∙_}
-use mathlib.Core.Bool.{Bool, true, false, _||_}
-use mathlib.Core.List.{List, [], _∷_, _++_}
+use mathlib.Core.Path.{_≡_, ap, _∙_}
+use mathlib.Core.Bool.{Bool, true, _||_}
+use mathlib.Core.List.{List, [], _∷_}
 use lib.Dec.{eqb}
-use lib.ListN.{getD}
 use borrow.Author.Tests.{eqb-true, eqb-false}
 use Rattle.index.proofs.Flags.{by-test}
-use Rattle.records.specs.declared.Peer.{Peer}
-use Rattle.records.specs.Records.{State, slotCount, topicCount, joinedIn, peerIn, setClock, setPeer, isConnected}
+use Rattle.records.specs.Records.{State, slotCount, topicCount, peerIn, isConnected}
 use Rattle.effects.specs.Effects.{isJoined}
 use Rattle.gossip.specs.Notes.{Setup, Note, Row, Gossip, noStore, noteIn, storeIn, has, storedIn}
 use Rattle.gossip.specs.Notes.{stored, setNote, setStore, setReplies, added, countIn, replied, ended, keep, forget}
 use Rattle.gossip.specs.Valid.{SizedGossip, setupOk, noteOk, storeOk, repliesOk}
 use Rattle.gossip.specs.Calls.{store}
 use Rattle.gossip.specs.Step.{at}
 use Rattle.gossip.specs.Step.{beatOf}
 use Rattle.gossip.proofs.NoteLaws.{note-same, note-other, store-after-note, stored-after-note, setup-after-note, replies-after-note}
-use Rattle.gossip.proofs.NoteLaws.{note-after-store, store-same, store-other, setup-after-store, replies-after-store, note-after-replies}
-use Rattle.gossip.proofs.NoteLaws.{store-after-replies, stored-after-replies, setup-after-replies, replies-after-replies, note-forget}
-use Rattle.gossip.proofs.NoteLaws.{store-forget, setup-forget, replies-forget-after, note-beat, store-beat, setup-beat, replies-beat}
+use Rattle.gossip.proofs.NoteLaws.{note-after-store, store-same, store-other, setup-after-store, replies-after-store}
+use Rattle.gossip.proofs.NoteLaws.{note-after-replies}
+use Rattle.gossip.proofs.NoteLaws.{store-after-replies, stored-after-replies, setup-after-replies, replies-after-replies}
+use Rattle.gossip.proofs.NoteLaws.{note-forget}
+use Rattle.gossip.proofs.NoteLaws.{store-forget, setup-forget, replies-forget-after, note-beat, store-beat, setup-beat}
+use Rattle.gossip.proofs.NoteLaws.{replies-beat}
 use Rattle.gossip.proofs.StoredLaws.{stored-more}
 use Rattle.gossip.proofs.RepliesOk.{Remain, replies-remain, replies-keep, replies-ended, replies-replied}
+use Rattle.gossip.proofs.ListLaws.{or-true, has-append}
 use Rattle.gossip.proofs.Fine.{Fine, room-for-reply}
-use Rattle.gossip_lists.proofs.Stays.{Calm}
 use Rattle.gossip.proofs.NoteOk.{note-peer, note-beaten, store-none}
 use Rattle.gossip.proofs.NoteOk.{store-moved}
-use Rattle.gossip.proofs.ListLaws.{has-occurs, occurs-has, occurs-append}
-
--- ---- the joined flags, by their list
-pub joined-same : (st u : State) (t : ℕ) → u .joined ≡ st .joined → isJoined u t ≡ isJoined st t
-unfolding joinedIn
-joined-same st u t e = ap (λ (l : List ℕ). eqb (getD l t 0) 1) e
-
-pub joined-list : (u : State) (v : ℕ) {l : List ℕ} → u .joined ≡ l → isJoined u v ≡ eqb (getD l v 0) 1
-unfolding joinedIn
-joined-list u v e = ap (λ (l : List ℕ). eqb (getD l v 0) 1) e
-
-pub joined-clock : (u : State) (n : ℕ) → setClock u n .joined ≡ u .joined
-unfolding setClock
-joined-clock u n = refl
-
-pub joined-peer : (u : State) (s : ℕ) (p : Peer) (n : ℕ) → setClock (setPeer u s p) n .joined ≡ u .joined
-unfolding setClock setPeer
-joined-peer u s p n = refl
 
 -- ---- what stands where the peers' statuses and the joined topics stand
 pub remain-same : (st u : State) → ((s : ℕ) → peerIn u s .status ≡ peerIn st s .status) → Remain st u
 remain-same st u e s l on = ap (λ (n : ℕ). eqb n 1) (e s) ∙ on
 
-pub fine-calm : (st u : State) (g : Gossip) → Fine st g → Calm st u → Fine u g
-fine-calm st u g f c =
+pub fine-stands :
+    (st u : State) (g : Gossip) →
+    Fine st g →
+    ((s : ℕ) → peerIn u s .status ≡ peerIn st s .status) →
+    ((t : ℕ) → t < topicCount → storeOk (isJoined u t) (storeIn g t) ≡ true) →
+    Fine u g
+fine-stands st u g f same joined =
     record {
       setup = f .setup;
-      note = λ s l. note-peer (g .setup) (peerIn st s) (noteIn g s) (f .note s l) (peerIn u s) (c .same .status s);
-      store = λ t l. rw (joined-same st u t (c .joined)) (f .store t l);
+      note = λ s l. note-peer (g .setup) (peerIn st s) (noteIn g s) (f .note s l) (peerIn u s) (same s);
+      store = joined;
       replies =
-          replies-remain st (g .setup .replies) (stored g) (g .replies) (f .replies) u (stored g) (remain-same st u (c .same .status))
-          (λ n e. e);
+          replies-remain st (g .setup .replies) (stored g) (g .replies) (f .replies) u (stored g) (remain-same st u same) (λ n e. e);
     }
 
 -- ---- notes, stores and replies change, and the set-up numbers stand
@@ -189,16 +176,10 @@ pub added-more : (m : ℕ) (w : List (List ℕ)) (n : ℕ) → storedIn w n ≡ 
 unfolding storedIn added
 added-more m [] n e = e
 added-more m (x ∷ w) n e =
-    by-test _ (has n x)
-    (λ y. ap (λ (b : Bool). b || storedIn w n) (has-more x y))
-    (λ y. let a : storedIn w n ≡ true = rw y at e in rw a (or-yes (has n (x ++ (m ∷ [])))))
-  where
-    has-more : (x : List ℕ) → has n x ≡ true → has n (x ++ (m ∷ [])) ≡ true
-    has-more x y = occurs-has n (x ++ (m ∷ [])) (let a = has-occurs n x y in omega (arith, occurs-append n x (m ∷ [])))
-
-    or-yes : (b : Bool) → b || true ≡ true
-    or-yes true = refl
-    or-yes false = refl
+    ap (λ (b : Bool). b || storedIn w n) (has-append n x (m ∷ []))
+    ∙ by-test _ (has n x)
+    (λ y. rw y)
+    (λ y. let a : storedIn w n ≡ true = rw y at e in rw a (or-true (has n x || has n (m ∷ []))))
 
 -- ---- a heartbeat, and a leave
 pub fine-beat : (st : State) (g : Gossip) → Fine st g → Fine st (beatOf g)
