@@ -1,54 +1,28 @@
 -- What test 12 says of the array, part by part.
 -- Assumes nothing.
-use Rattle.index.proofs.Kit.{ℕ, _≤_, _<_, _≡_, refl, sym, ap, _∙_, Bool, true, false, not, every, arith}
+use Rattle.index.proofs.Kit.{ℕ, _≤_, _<_, _≡_, Bool, true, arith}
 use mathlib.Core.Bool.{_&&_, _||_}
 use mathlib.Core.List.{List, map}
 use lib.Dec.{eqb, leb}
 use lib.ListN.{length, getD}
 use borrow.Author.Tests.{leb-true, eqb-true}
-use Rattle.index.proofs.Index.{both, every-at}
+use Rattle.index.proofs.Index.{both}
 use Rattle.records.specs.Records.{State, slotCount, topicCount, peerIn, isConnected, isEmpty}
-use Rattle.effects.specs.Effects.{isJoined}
 use Rattle.gossip.specs.Notes.{Setup, Note, Row, Entry, Gossip, setMost, windowMost, rowsMost, noteIn, storeIn, stored, numberOf}
 use Rattle.gossip.specs.Valid.{all, none, rises, apart, flat, setupOk, entryOk, setOk, countsOk, noteOk, windowOk, storeOk, rowOk, rowNumber}
 use Rattle.gossip.specs.Valid.{repliesOk, gossipOk}
+use Rattle.gossip.proofs.Fine.{Fine, fine-of}
 
 module _ (st : State) (g : Gossip) (ok : gossipOk st g ≡ true) where
-  abbrev Notes : Bool
-  Notes = every slotCount (λ s. noteOk (g .setup) (peerIn st s) (noteIn g s))
-
-  abbrev Stores : Bool
-  Stores = every topicCount (λ t. storeOk (isJoined st t) (storeIn g t))
-
-  abbrev Replies : Bool
-  Replies = repliesOk st (g .setup .replies) (stored g) (g .replies)
-
-  parts : (setupOk (g .setup) ≡ true) × (Notes ≡ true) × (Stores ≡ true) × (Replies ≡ true)
-  unfolding gossipOk
-  parts =
-      let a = both (setupOk (g .setup) && Notes && Stores) Replies ok in
-      let b = both (setupOk (g .setup) && Notes) Stores (a .0) in
-      let d = both (setupOk (g .setup)) Notes (b .0) in
-      (d .0, d .1, b .1, a .1)
-
-  pub fine-setup : setupOk (g .setup) ≡ true
-  fine-setup = parts .0
-
-  pub fine-note : (s : ℕ) → s < slotCount → noteOk (g .setup) (peerIn st s) (noteIn g s) ≡ true
-  fine-note s l = every-at (λ k. noteOk (g .setup) (peerIn st k) (noteIn g k)) slotCount s (parts .1) l
-
-  pub fine-store : (t : ℕ) → t < topicCount → storeOk (isJoined st t) (storeIn g t) ≡ true
-  fine-store t l = every-at (λ k. storeOk (isJoined st k) (storeIn g k)) topicCount t (parts .2) l
-
-  pub fine-replies : Replies ≡ true
-  fine-replies = parts .3
+  abbrev fine : Fine st g
+  fine = fine-of st g ok
 
   -- the set-up numbers
   pub fine-limit : (1 ≤ g .setup .limit) × (g .setup .limit ≤ 32)
   unfolding setupOk
   fine-limit =
       let p = g .setup in
-      let a = both (leb 1 (p .limit) && leb (p .limit) 32 && leb (p .lazy) 48 && leb (p .factor) 1000 && (leb 1 (p .ihaves) && leb (p .ihaves) 32)) _ fine-setup in
+      let a = both (leb 1 (p .limit) && leb (p .limit) 32 && leb (p .lazy) 48 && leb (p .factor) 1000 && (leb 1 (p .ihaves) && leb (p .ihaves) 32)) _ (fine .setup) in
       let b = both (leb 1 (p .limit) && leb (p .limit) 32 && leb (p .lazy) 48 && leb (p .factor) 1000) _ (a .0) in
       let d = both (leb 1 (p .limit) && leb (p .limit) 32 && leb (p .lazy) 48) _ (b .0) in
       let e = both (leb 1 (p .limit) && leb (p .limit) 32) _ (d .0) in
@@ -59,7 +33,7 @@ module _ (st : State) (g : Gossip) (ok : gossipOk st g ≡ true) where
   unfolding setupOk
   fine-lazy =
       let p = g .setup in
-      let a = both (leb 1 (p .limit) && leb (p .limit) 32 && leb (p .lazy) 48 && leb (p .factor) 1000 && (leb 1 (p .ihaves) && leb (p .ihaves) 32)) _ fine-setup in
+      let a = both (leb 1 (p .limit) && leb (p .limit) 32 && leb (p .lazy) 48 && leb (p .factor) 1000 && (leb 1 (p .ihaves) && leb (p .ihaves) 32)) _ (fine .setup) in
       let b = both (leb 1 (p .limit) && leb (p .limit) 32 && leb (p .lazy) 48 && leb (p .factor) 1000) _ (a .0) in
       let d = both (leb 1 (p .limit) && leb (p .limit) 32 && leb (p .lazy) 48) _ (b .0) in
       let e = both (leb 1 (p .limit) && leb (p .limit) 32) _ (d .0) in
@@ -69,7 +43,7 @@ module _ (st : State) (g : Gossip) (ok : gossipOk st g ≡ true) where
   unfolding setupOk
   fine-bounds =
       let p = g .setup in
-      let a = both (leb 1 (p .limit) && leb (p .limit) 32 && leb (p .lazy) 48 && leb (p .factor) 1000 && (leb 1 (p .ihaves) && leb (p .ihaves) 32)) _ fine-setup in
+      let a = both (leb 1 (p .limit) && leb (p .limit) 32 && leb (p .lazy) 48 && leb (p .factor) 1000 && (leb 1 (p .ihaves) && leb (p .ihaves) 32)) _ (fine .setup) in
       let b = both (leb 1 (p .limit) && leb (p .limit) 32 && leb (p .lazy) 48 && leb (p .factor) 1000) _ (a .0) in
       let d = both (leb 1 (p .ihaves)) (leb (p .ihaves) 32) (b .1) in
       let e = both (leb 1 (p .replies)) (leb (p .replies) 32) (a .1) in
@@ -81,7 +55,7 @@ module _ (st : State) (g : Gossip) (ok : gossipOk st g ≡ true) where
 
     note-two : (setOk (isConnected (peerIn st s)) (here .held) ≡ true) × (countsOk (g .setup) (isEmpty (peerIn st s)) here ≡ true)
     unfolding noteOk
-    note-two = both (setOk (isConnected (peerIn st s)) (here .held)) (countsOk (g .setup) (isEmpty (peerIn st s)) here) (fine-note s l)
+    note-two = both (setOk (isConnected (peerIn st s)) (here .held)) (countsOk (g .setup) (isEmpty (peerIn st s)) here) (fine .note s l)
 
     set-three :
         (leb (length (here .held)) setMost ≡ true) × (rises (map numberOf (here .held)) ≡ true) × (all entryOk (here .held) ≡ true)
@@ -112,7 +86,7 @@ module _ (st : State) (g : Gossip) (ok : gossipOk st g ≡ true) where
   unfolding repliesOk
   fine-rows =
       let r = g .replies in
-      let a = both (leb (length r) rowsMost && rises (map rowNumber r) && all (stored g) (map rowNumber r)) _ fine-replies in
+      let a = both (leb (length r) rowsMost && rises (map rowNumber r) && all (stored g) (map rowNumber r)) _ (fine .replies) in
       let b = both (leb (length r) rowsMost && rises (map rowNumber r)) _ (a .0) in
       let d = both (leb (length r) rowsMost) _ (b .0) in
       (leb-true (length r) rowsMost (d .0), d .1, b .1, a .1)
@@ -121,5 +95,5 @@ module _ (st : State) (g : Gossip) (ok : gossipOk st g ≡ true) where
   unfolding storeOk
   fine-windows t l =
       let w = storeIn g t in
-      let a = both (all windowOk w && apart (flat w)) _ (fine-store t l) in
+      let a = both (all windowOk w && apart (flat w)) _ (fine .store t l) in
       both (all windowOk w) (apart (flat w)) (a .0) .0
