@@ -8,7 +8,7 @@ use mathlib.Core.Logic.{_≢_}
 use mathlib.Core.Bool.{Bool, true, false, _&&_, _||_}
 use mathlib.Core.List.{List, [], _∷_, _++_, map}
 use lib.ListN.{length, getD, set, take, drop, replicate, List·getD-eq-default, length-set, length-take, length-drop, getD-replicate}
-use lib.Seq.{ext-getD, getD-take, getD-drop, getD-set-same, getD-set-other, slice}
+use lib.Seq.{ext-getD, getD-take, getD-drop, getD-set-same, getD-set-other, take-take}
 use borrow.Author.Tests.{leb-true}
 use Rattle.index.specs.Index.{every}
 use Rattle.index.proofs.Index.{every-at, both}
@@ -67,6 +67,16 @@ pub window-part :
 window-part {c} {p} {a} {n} h e f =
     let z : a + n - a ≡ countAt c p = omega arith in
     rw (z, e) (sym (window-slice c p h))
+
+pub window-front :
+    {c : List ℕ} {p a : ℕ} (k : ℕ) →
+    Window c p →
+    k ≤ countAt c p →
+    a ≡ startOf p →
+    take (a + k - a) (drop a c) ≡ take k (windowAt c p)
+window-front {c} {p} {a} k h l e =
+    let z : a + k - a ≡ k = omega arith in
+    rw (z, e, window-slice c p h) (sym (take-take k (countAt c p) (drop (startOf p) c) l))
 
 -- ---- a topic's windows
 

@@ -14,6 +14,9 @@ ghost use Rattle.stores.specs.View.{allWindows, placeCount, storesCells,
 ghost use Rattle.stores.specs.View.{Window, Store, Windows, CopiedOn, Changed, Shifted};
 use records::TOPICS;
 
+pub mod marks;
+pub mod valid;
+
 // The windows of a topic, and of all; the numbers that a window has room for.
 const WINDOWS: usize = 5;
 
