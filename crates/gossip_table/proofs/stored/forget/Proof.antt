@@ -17,7 +17,7 @@ forget-spec =
     let k = c .before .before .before .before .before .before .before .before .before .before in
     let size = k .pre .size in
     forget-back (k .args .gossip .now) (c .before .before .keep-rows .last .0)
-    (c .before .before .before .before .before .before .rows-that-stay .last .0) size
+    (c .before .before .before .before .before .before .rows-that-stay .last .1 .0) size
     (c .before .before .keep-rows .kept .0 ∙ replies-size (k .args .gossip .now) size)
     (c .before .before .before .before .before .before .rows-that-stay .ensures)
     (c .before .before .keep-rows .ensures)))
