@@ -60,7 +60,7 @@ module _ (params : Params) (dir : ℕ → Bool) (st : State) (h : Standing param
   stands-effect (decay time) a = less _ (fewer-decay st time)
   stands-effect (score time id) a = of-peer id _ (λ s. fewer-still st time)
 
-  stands-step : (c : Call) (room : ℕ) → Standing params (heardOf c (step st c room .answer) dir) (step st c room .state)
+  pub stands-step : (c : Call) (room : ℕ) → Standing params (heardOf c (step st c room .answer) dir) (step st c room .state)
   stands-step c room =
       by-gate (After params dir c) st c room
       (after-refused params dir st h c)
@@ -69,7 +69,7 @@ module _ (params : Params) (dir : ℕ → Bool) (st : State) (h : Standing param
       (keeps st c room (h .size) (h .router))
 
   -- a heartbeat that was answered 0
-  maintained-step :
+  pub maintained-step :
       (time t ask room : ℕ) (order : List ℕ) → numberOf (step st (heartbeat time t ask order) room .answer) ≡ 0 →
       MaintainedIn params dir st (step st (heartbeat time t ask order) room .state) time t
   unfolding effect

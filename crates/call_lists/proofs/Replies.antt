@@ -29,7 +29,7 @@ abbrev pub Stays : Params → (ℕ → Bool) → Reply → Type 0
 Stays params dir r = Sized (r .state) → valid (r .state) ≡ true → Standing params dir (r .state)
 
 -- no call that is refused says a direction
-unheard : (c : Call) (peer : ℕ) (was : Bool) → heard c false peer was ≡ was
+pub unheard : (c : Call) (peer : ℕ) (was : Bool) → heard c false peer was ≡ was
 unheard (connect time id groups flags name) peer was =
     ap (λ (b : Bool). cond b (eqb (flags % 2) 1) was) (and-false (eqb id peer))
 unheard (disconnect time id) peer was = refl

@@ -1,0 +1,10 @@
+pub mod ListLaws
+pub mod NoteLaws
+pub mod StoredLaws
+pub mod RowLaws
+pub mod NoteOk
+pub mod RepliesOk
+pub mod Fine
+pub mod FineLaws
+pub mod Cases
+pub mod Sound

@@ -1,0 +1,11 @@
+pub mod LifeLaws
+pub mod Stays
+pub mod Frame
+pub mod Demand
+pub mod Tied
+pub mod TiedNew
+pub mod TiedOld
+pub mod Bound
+pub mod Keeps
+pub mod Fresh
+pub mod Fits

@@ -1,0 +1,3 @@
+pub mod SiftLaws
+pub mod PeerLaws
+pub mod TellLaws

@@ -1,0 +1,5 @@
+pub mod DigitLaws
+pub mod MoveLaws
+pub mod SetLaws
+pub mod HeldLaws
+pub mod NoteLaws
