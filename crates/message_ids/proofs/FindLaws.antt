@@ -11,7 +11,7 @@ use lib.Dec.{eqb}
 use lib.ListN.{length, getD}
 use Rattle.index.specs.declared.Found.{Found}
 use Rattle.index.specs.declared.Found.the-variants.{At, Nothing}
-use Rattle.index.proofs.Index.{both}
+use Rattle.index.proofs.Index.{both, first-is}
 use Rattle.message_ids.specs.Ids.{idSize, idStart, sameAt, isId, rowOf, numberRow, codeOf, rowCode, idsOk, numberBy, numbersOk, Compared}
 use Rattle.message_ids.specs.Once.{NoIdTwice, NoNumberTwice}
 use Rattle.message_ids.specs.declared.Order.{Order}
@@ -212,3 +212,13 @@ pub mid-low :
     (numbers order : List ℕ) (v low high : ℕ) → numbersOk numbers order ≡ true → Parted numbers order v low high → low < high →
     getD order (low + (high - low) / 2) 0 < length numbers
 mid-low numbers order v low high e w h = let o = w .high-low in row-low numbers order e (low + (high - low) / 2) (omega arith)
+
+-- a number's row is one of the table, and has it
+pub row-below : (numbers : List ℕ) (v k : ℕ) → numberRow numbers v ≡ At k → k < length numbers
+unfolding numberRow
+row-below numbers v k e = first-is (λ i. eqb (getD numbers i 0) v) (length numbers) k e .0
+
+pub row-number : (numbers : List ℕ) (v k : ℕ) → numberRow numbers v ≡ At k → getD numbers k 0 ≡ v
+unfolding numberRow
+row-number numbers v k e =
+    eqb-true (getD numbers k 0) v (first-is (λ i. eqb (getD numbers i 0) v) (length numbers) k e .1)
