@@ -1,3 +1,5 @@
 pub mod PromiseLaws
 pub mod GateLaws
 pub mod ReplyLaws
+pub mod EndLaws
+pub mod AdmittedLaws
