@@ -32,7 +32,14 @@ const IDONTWANT: u32 = 3;
 
 const MESSAGE: u32 = 4;
 
-fn ask_from(table: &mut [u64], gossip: &[u64], time: u64, topic: usize, sender: u64, actions: &mut [u32]) -> u64
+fn ask_from(
+    table: &mut [u64],
+    gossip: &[u64],
+    time: u64,
+    topic: usize,
+    sender: u64,
+    actions: &mut [u32],
+) -> u64
     requires { ⌜ TopicLent (now table) (now gossip) time topic (now actions) ⌝ }
     ensures { λ r. ⌜ GivesAll (askReply (extendedOf (now (table .entry)) (now (gossip .entry))) time topic sender) r (now (table .entry))
         (now (table .exit)) (now (gossip .entry)) (now (gossip .entry)) (now (actions .entry)) (now (actions .exit)) ⌝ }

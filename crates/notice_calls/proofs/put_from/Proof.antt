@@ -23,7 +23,7 @@ put-from-spec =
     (λ c. search needs)
     (λ c. search needs)
     (λ c. search put-full)
-    (λ c κs. search room-there)
+    (λ c κs. room-there (c .before .before .before .before .before .before .before .before .before .before .before .before .pre) _ (c .before .before .has-room .ensures) (c .before .if3 .left))
     (λ c κs. search needs)
     (λ c. search needs)
     (λ c. search needs)
