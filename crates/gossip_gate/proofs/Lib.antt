@@ -3,3 +3,4 @@ pub mod GateLaws
 pub mod ReplyLaws
 pub mod EndLaws
 pub mod AdmittedLaws
+pub mod CallLaws

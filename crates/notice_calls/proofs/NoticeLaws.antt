@@ -2,28 +2,35 @@
 -- joined topic, an action for each slot of a set.
 -- Assumes nothing.
 use Rattle.index.proofs.Kit.{ℕ, _+_, _*_, _≤_, _≡_, refl, sym, ap, _∙_, Bool, true, false, not, arith}
+use mathlib.Core.Path.{ap₂}
 use mathlib.Core.Bool.{cond, _&&_}
 use mathlib.Core.List.{List, [], _∷_}
+use lib.Dec.{leb}
 use lib.ListN.{length}
 use Rattle.index.proofs.Index.{gather-short}
 use Rattle.index.proofs.Flags.{cond-case, failed, passed, yes, no}
 use Rattle.records.specs.Records.{State, slotCount, setClock}
-use Rattle.layout.specs.View.{stateOf}
+use Rattle.layout.specs.View.{cellCount, stateOf}
 use Rattle.words.specs.Words.{wordCount, bitsOf}
 use Rattle.words.proofs.WideLaws.{bitsOf-length}
 use Rattle.sets.specs.Sets.{at, bySlot}
 use Rattle.sets.proofs.SlotLaws.{slots-at}
 use Rattle.effects.specs.Actions.{Action}
 use Rattle.effects.specs.Effects.{isJoined}
+use Rattle.rules.specs.Calls.{timeOk, topicOk}
+use Rattle.rules.specs.Step.{actionRoom}
 use Rattle.gossip.specs.Notes.{Note, Extended, noteIn, holds, setNote}
+use Rattle.gossip.specs.Calls.{idontwant, senderOk}
 use Rattle.gossip.specs.Step.{FullReply, refusedAll, ignoredAll, doneAll, ofSender, ifJoined, tellOne, tellBySlot, isRelayed}
-use Rattle.gossip.specs.Step.{isHeeded, hasRoom, withPut, idontwantReply}
-use Rattle.gossip_table.specs.View.{gossipOf, extendedOf}
+use Rattle.gossip.specs.Step.{isHeeded, hasRoom, withPut, idontwantReply, newEffect}
+use Rattle.gossip_table.specs.View.{gossipCells, gossipOf, extendedOf}
 use Rattle.gossip_table.specs.Fine.{HasRoom}
-use Rattle.gossip_gate.specs.Promise.{LeavesAll, GivesAll}
-use Rattle.gossip_gate.specs.Admitted.{SlotAdmitted}
+use Rattle.gossip_gate.specs.Promise.{LeavesAll, GivesAll, gateAll}
+use Rattle.gossip_gate.specs.Admitted.{SlotAdmitted, TopicLent}
 use Rattle.gossip_gate.proofs.AdmittedLaws.{admitted-fine}
 use Rattle.gossip_gate.proofs.ReplyLaws.{heeds-not, holds-it, no-room, puts-in}
+use Rattle.gossip_gate.proofs.GateLaws.{gate-admitted}
+use Rattle.gossip_gate.proofs.CallLaws.{quiet-peer, call-topic, call-room}
 use Rattle.gossip_gate.proofs.EndLaws.{ends-ignored, ends-done, gives-refusal, gives-nothing, gives-actions}
 use Rattle.gossip_peers.specs.Peers.{isKnown, isReached, Tells}
 use Rattle.gossip_peers.proofs.PeerLaws.{sender-is, relayed-is}
@@ -169,6 +176,44 @@ relayed-are x t sender n all r ea er =
     ap (λ (y : List Bool). at y s && not (holds (noteIn (x .gossip) s) n)) ea
     ∙ ap (λ (b : Bool). b && not (holds (noteIn (x .gossip) s) n)) (slots-at false (isReached (x .base) t sender) slotCount s h)
     ∙ sym (relayed-is x t sender n s))
+
+-- ---- what the tests of the public functions come to
+pub topics-senders : (t sender : ℕ) (a b : Bool) → a ≡ topicOk t → b ≡ senderOk sender → a && b ≡ topicOk t && senderOk sender
+topics-senders t sender a b ea eb = ap₂ _&&_ ea eb
+
+pub topic-lent :
+    (table gossip list : List ℕ) (a b d : Bool) (time n t : ℕ) →
+    n ≡ gateAll (extendedOf table gossip) (a && (b && d)) (leb actionRoom (length list)) time →
+    n ≡ 0 →
+    a ≡ timeOk time →
+    b ≡ topicOk t →
+    length table ≡ cellCount →
+    length gossip ≡ gossipCells →
+    TopicLent table gossip time t list
+topic-lent table gossip list a b d time n t en e ea eb l m =
+    record {
+      admitted = gate-admitted table gossip a (b && d) (leb actionRoom (length list)) time n en e ea l m;
+      topic = call-topic table gossip a b d (leb actionRoom (length list)) time n t en e eb;
+      room = call-room table gossip list a (b && d) time n en e;
+    }
+
+-- an IDONTWANT that came in gives no action
+put-silent : (x : Extended) (time n s : ℕ) → idontwantReply x time n s .actions ≡ []
+unfolding idontwantReply
+put-silent x time n s =
+    go (isHeeded (x .base) s) (holds (noteIn (x .gossip) s) n) (hasRoom (x .gossip .setup) (noteIn (x .gossip) s))
+  where
+    go : (a b d : Bool) → cond a (cond b (doneAll x time (x .gossip) [] [])
+        (cond d (doneAll x time (setNote (x .gossip) s (withPut n (noteIn (x .gossip) s))) [] []) (ignoredAll x time)))
+        (ignoredAll x time) .actions ≡ []
+    go true true d = refl
+    go true false true = refl
+    go true false false = refl
+    go false b d = refl
+
+pub quiet-put : (x : Extended) (time id n : ℕ) → newEffect x (idontwant time id n) .actions ≡ []
+unfolding newEffect
+quiet-put x time id n = quiet-peer x id (idontwantReply x time n) (put-silent x time n)
 
 -- ---- words of a set
 pub flags-length : (w : List ℕ) → length w ≡ wordCount → length (bitsOf w) ≡ slotCount

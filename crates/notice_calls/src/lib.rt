@@ -5,33 +5,40 @@ ghost use Rattle.records.specs.Records.{slotCount};
 ghost use Rattle.sets.specs.Sets.{at, bySlot};
 ghost use Rattle.words.specs.Words.{bitsOf};
 ghost use Rattle.gossip.specs.Notes.{noteIn, holds as holdsOf};
+ghost use Rattle.gossip.specs.Calls.{new, askAll, idontwant as Calls·idontwant, relay as Calls·relay};
 ghost use Rattle.gossip.specs.Step.{ofPeerAll, askReply, idontwantReply, relayReply};
 ghost use Rattle.gossip_table.specs.View.{gossipOf, extendedOf};
 ghost use Rattle.gossip_table.specs.Fine.{Fine};
-ghost use Rattle.gossip_gate.specs.Promise.{LeavesAll, GivesAll};
+ghost use Rattle.gossip_gate.specs.Promise.{LeavesAll, GivesAll, FollowsAll};
 ghost use Rattle.gossip_gate.specs.Admitted.{Admitted, SlotAdmitted, TopicLent};
 use effects::slots::is_joined;
+use gate::id_ok;
+use gate::time_ok;
+use gate::topic_ok;
 use gossip_gate::NOT_CONNECTED;
+use gossip_gate::admit;
 use gossip_gate::finish;
 use gossip_gate::ignore;
+use gossip_gate::sender_ok;
 use gossip_peers::relays::asked;
 use gossip_peers::relays::relayed;
 use gossip_peers::senders::is_heeded;
 use gossip_peers::senders::sender_known;
+use gossip_peers::tell::ASK;
+use gossip_peers::tell::SEND;
 use gossip_peers::tell::tell;
+use gossip_table::GOSSIP_CELLS;
 use gossip_table::peers::has_room;
 use gossip_table::peers::holds;
 use gossip_table::peers::put;
 use index::Found;
+use layout::CELLS;
 use lookup::find::find_connected;
+use records::ACTION_ROOM;
 use records::SLOTS;
 use words::WORDS;
 
-// The kinds of actions.
-const IDONTWANT: u32 = 3;
-
-const MESSAGE: u32 = 4;
-
+// 3 for an unknown sender, 11 outside a joined topic, or the notices.
 fn ask_from(
     table: &mut [u64],
     gossip: &[u64],
@@ -51,8 +58,29 @@ fn ask_from(
         return ignore(table, time);
     }
     let set = asked(table, topic, sender);
-    let n = tell(table, IDONTWANT, &set, actions);
+    let n = tell(table, ASK, &set, actions);
     finish(table, time, n, 0)
+}
+
+// We have a large message: all 1.2.0 members of its topic but the sender (0: ourselves) are told.
+pub fn send_idontwant(
+    table: &mut [u64; CELLS],
+    gossip: &[u64; GOSSIP_CELLS],
+    time: u64,
+    topic: u64,
+    sender: u64,
+    number: u64,
+    actions: &mut [u32],
+) -> u64
+    ensures { λ r. ⌜ FollowsAll (new (askAll time topic sender number)) r (now (table .entry)) (now (table .exit))
+        (now (gossip .entry)) (now (gossip .entry)) (now (actions .entry)) (now (actions .exit)) ⌝ }
+{
+    let fine = time_ok(time) & (topic_ok(topic) & sender_ok(sender));
+    let gate = admit(table, gossip, fine, ACTION_ROOM <= actions.len(), time);
+    if gate != 0 {
+        return gate;
+    }
+    ask_from(table, gossip, time, topic as usize, sender, actions)
 }
 
 // The number goes into the peer's set, unless it is there already.
@@ -74,6 +102,7 @@ fn put_from(table: &mut [u64], gossip: &mut [u64], time: u64, number: u64, slot:
     finish(table, time, 0, 0)
 }
 
+// 3 for a peer that is not connected.
 fn idontwant_from(table: &mut [u64], gossip: &mut [u64], time: u64, id: u64, number: u64) -> u64
     requires { ⌜ Admitted (now table) (now gossip) time ⌝ }
     ensures { λ r. ⌜ LeavesAll (ofPeerAll (extendedOf (now (table .entry)) (now (gossip .entry))) id
@@ -84,6 +113,26 @@ fn idontwant_from(table: &mut [u64], gossip: &mut [u64], time: u64, id: u64, num
         return NOT_CONNECTED;
     };
     put_from(table, gossip, time, number, slot)
+}
+
+// A peer does not want a message.
+pub fn idontwant(
+    table: &mut [u64; CELLS],
+    gossip: &mut [u64; GOSSIP_CELLS],
+    time: u64,
+    id: u64,
+    number: u64,
+    actions: &mut [u32],
+) -> u64
+    ensures { λ r. ⌜ FollowsAll (new (Calls·idontwant time id number)) r (now (table .entry)) (now (table .exit))
+        (now (gossip .entry)) (now (gossip .exit)) (now (actions .entry)) (now (actions .exit)) ⌝ }
+{
+    let fine = time_ok(time) & id_ok(id);
+    let gate = admit(table, gossip, fine, ACTION_ROOM <= actions.len(), time);
+    if gate != 0 {
+        return gate;
+    }
+    idontwant_from(table, gossip, time, id, number)
 }
 
 // Those of a set whose own set does not hold the number.
@@ -102,6 +151,7 @@ fn without_holders(gossip: &[u64], all: [u64; WORDS], number: u64) -> [u64; WORD
     r
 }
 
+// The same tests, and the message to whom it is passed on.
 fn relay_from(
     table: &mut [u64],
     gossip: &[u64],
@@ -123,6 +173,27 @@ fn relay_from(
     }
     let all = relayed(table, topic, sender);
     let set = without_holders(gossip, all, number);
-    let n = tell(table, MESSAGE, &set, actions);
+    let n = tell(table, SEND, &set, actions);
     finish(table, time, n, 0)
+}
+
+// To whom a message from a sender (0: ourselves) is passed on.
+pub fn relay(
+    table: &mut [u64; CELLS],
+    gossip: &[u64; GOSSIP_CELLS],
+    time: u64,
+    topic: u64,
+    sender: u64,
+    number: u64,
+    actions: &mut [u32],
+) -> u64
+    ensures { λ r. ⌜ FollowsAll (new (Calls·relay time topic sender number)) r (now (table .entry)) (now (table .exit))
+        (now (gossip .entry)) (now (gossip .entry)) (now (actions .entry)) (now (actions .exit)) ⌝ }
+{
+    let fine = time_ok(time) & (topic_ok(topic) & sender_ok(sender));
+    let gate = admit(table, gossip, fine, ACTION_ROOM <= actions.len(), time);
+    if gate != 0 {
+        return gate;
+    }
+    relay_from(table, gossip, time, topic as usize, sender, number, actions)
 }
