@@ -34,7 +34,11 @@ use Rattle.gossip_gate.proofs.CallLaws.{quiet-peer, call-topic, call-room}
 use Rattle.gossip_gate.proofs.EndLaws.{ends-ignored, ends-done, gives-refusal, gives-nothing, gives-actions}
 use Rattle.gossip_peers.specs.Peers.{isKnown, isReached, Tells}
 use Rattle.gossip_peers.proofs.PeerLaws.{sender-is, relayed-is}
-use Rattle.gossip_peers.proofs.SiftLaws.{flags-same}
+use Rattle.gossip_peers.proofs.SiftLaws.{flags-are, flags-same}
+
+-- the words of a set
+pub flags-length : (w : List ℕ) → length w ≡ wordCount → length (bitsOf w) ≡ slotCount
+flags-length w z = let e = bitsOf-length w in omega arith
 
 -- ---- to the slots of a set: `done` is the reply where the sender is known and the topic joined
 abbrev sent : Extended → (time t sender : ℕ) → FullReply → FullReply
@@ -97,14 +101,19 @@ module _
             list′
             (w .list)
 
--- so many actions fit one number
-pub told-most : (st : State) (kind n : ℕ) (f : ℕ → Bool) (l l′ : List ℕ) → Tells (tellBySlot st kind f) l l′ n → n ≤ slotCount
+-- as many actions as a set has slots fit one number
+pub told-most :
+    (st : State) (kind n : ℕ) (w l l′ : List ℕ) →
+    ((f : ℕ → Bool) → bitsOf w ≡ bySlot slotCount f → Tells (tellBySlot st kind f) l l′ n) →
+    length w ≡ wordCount →
+    n ≤ slotCount
 unfolding tellBySlot
-told-most st kind n f l l′ w =
+told-most st kind n w l l′ t z =
+    let f : ℕ → Bool = at (bitsOf w) in
     let h : length (tellBySlot st kind f) ≤ slotCount =
     gather-short _ slotCount
     (λ s. cond-case (λ (x : List Action). length x ≤ 1) (f s) (tellOne st kind s ∷ []) [] (λ e. omega arith) (λ e. omega arith)) in
-    omega (arith, w .many, h)
+    omega (arith, t f (flags-are (bitsOf w) f (flags-length w z) (λ s l. refl)) .many, h)
 
 -- ---- into a peer's set
 module _
@@ -131,7 +140,11 @@ module _
           (r ≡ 256 * 0 + 16777216 * 0) × (stateOf table′ ≡ setClock (stateOf table) time) →
           LeavesAll (idontwantReply x time n s) r table table′ gossip gossip
       put-there t h =
-          ends-done _ time r table table′ gossip gossip (gossipOf gossip) [] [] 0 0 h (holds-it x time n s (passed eh e) (yes et t)) refl refl refl
+          ends-done _ time r table table′ gossip gossip (gossipOf gossip) [] [] 0 0 h
+          (holds-it x time n s (passed eh e) (yes et t))
+          refl
+          refl
+          refl
 
       module _ (t : there ≡ false) (room : Bool) (er : room ≡ hasRoom (gossipOf gossip .setup) note) where
         pub put-full :
@@ -214,7 +227,3 @@ put-silent x time n s =
 pub quiet-put : (x : Extended) (time id n : ℕ) → newEffect x (idontwant time id n) .actions ≡ []
 unfolding newEffect
 quiet-put x time id n = quiet-peer x id (idontwantReply x time n) (put-silent x time n)
-
--- ---- words of a set
-pub flags-length : (w : List ℕ) → length w ≡ wordCount → length (bitsOf w) ≡ slotCount
-flags-length w z = let e = bitsOf-length w in omega arith

@@ -19,16 +19,15 @@ finish-requires : tie.Need-finish-requires
 finish-requires c κs =
     record {
       size = search needs;
-      few =
-          told-most _ _ _ _ _ _
-          (c .before .before .before .tell .ensures _ (c .before .before .before .before .before .before .before .asked .ensures));
+      few = told-most _ _ _ _ _ _ (c .before .before .before .tell .ensures) (search needs);
       some = omega arith;
     }
 
 returns-3 : tie.Need-returns-3
 unfolding askReply
 returns-3 c =
-    let w = c .before .before .before .before .before .before .tell .ensures _ (c .before .before .before .before .before .before .before .before .before .before .asked .ensures) in
+    let b = c .before .before .before .before .before .before in
+    let w = b .tell .ensures _ (b .before .before .before .before .asked .ensures) in
     search sent-told
 
 pub ask-from-spec : {M : Type 1} → statement M

@@ -5,6 +5,11 @@ use Rattle.notice_calls.proofs.NoticeLaws.{put-unheeded, put-there, put
 use Rattle.notice_calls.proofs.put_from.Statement.{statement}
 use Rattle.notice_calls.proofs.put_from.Tie as tie
 
+put-requires : tie.Need-put-requires
+put-requires c κs =
+    let b = c .before .before in
+    room-there (b .before .before .before .before .before .before .before .before .before .before .pre) _ (b .has-room .ensures) (c .before .if3 .left)
+
 pub put-from-spec : {M : Type 1} → statement M
 put-from-spec =
     tie.close
@@ -23,7 +28,7 @@ put-from-spec =
     (λ c. search needs)
     (λ c. search needs)
     (λ c. search put-full)
-    (λ c κs. room-there (c .before .before .before .before .before .before .before .before .before .before .before .before .pre) _ (c .before .before .has-room .ensures) (c .before .if3 .left))
+    put-requires
     (λ c κs. search needs)
     (λ c. search needs)
     (λ c. search needs)

@@ -18,22 +18,20 @@ returns-2 c = search sent-ignored
 
 finish-requires : tie.Need-finish-requires
 finish-requires c κs =
-    let a = c .before .before .before .before .before .before .before .before .before .before .before .before .before .before .before .before .before .before .before .args in
     record {
       size = search needs;
-      few =
-          told-most _ _ _ _ _ _
-          (c .before .before .before .tell .ensures _ (relayed-are (extendedOf (a .table .now) (a .gossip .now)) _ _ _ _ _ (c .before .before .before .before .before .before .before .before .relayed .ensures) (c .before .before .before .before .before .before .before .without-holders .ensures)));
+      few = told-most _ _ _ _ _ _ (c .before .before .before .tell .ensures) (search needs);
       some = omega arith;
     }
 
 returns-3 : tie.Need-returns-3
 unfolding relayReply
 returns-3 c =
-    let a = c .before .before .before .before .before .before .before .before .before .before .before .before .before .before .before .before .before .before .before .before .before .before .args in
-    let w = c .before .before .before .before .before .before .tell .ensures _
-    (relayed-are (extendedOf (a .table .now) (a .gossip .now)) _ _ _ _ _ (c .before .before .before .before .before .before .before .before .before .before .before .relayed .ensures)
-    (c .before .before .before .before .before .before .before .before .before .before .without-holders .ensures)) in
+    let b = c .before .before .before .before .before .before in
+    let d = b .before .before .before .before in
+    let a = d .before .before .before .before .before .before .before .before .before .before .before .before .args in
+    let x = extendedOf (a .table .now) (a .gossip .now) in
+    let w = b .tell .ensures _ (relayed-are x _ _ _ _ _ (d .before .relayed .ensures) (d .without-holders .ensures)) in
     search sent-told
 
 pub relay-from-spec : {M : Type 1} → statement M

@@ -11,9 +11,9 @@ returns c = search (call-refused, topics-senders, c .if1 .taken)
 
 ask-from-requires : tie.Need-ask-from-requires
 ask-from-requires c κs =
-    let t = c .before .before .before .before .before .before .before .before .before in
-    topic-lent _ _ _ _ _ _ _ _ _ (c .before .before .before .before .admit .ensures) (c .before .before .before .if1 .left) (t .before .time-ok .ensures)
-    (t .topic-ok .ensures)
+    let b = c .before .before .before in
+    let t = b .before .before .before .before .before .before in
+    topic-lent _ _ _ _ _ _ _ _ _ (b .before .admit .ensures) (b .if1 .left) (t .before .time-ok .ensures) (t .topic-ok .ensures)
     (search needs)
     (search needs)
 
