@@ -163,7 +163,8 @@ fn relay_from(
 ) -> u64
     requires { ⌜ TopicLent (now table) (now gossip) time topic (now actions) ⌝ }
     ensures { λ r. ⌜ GivesAll (relayReply (extendedOf (now (table .entry)) (now (gossip .entry))) time topic sender number) r
-        (now (table .entry)) (now (table .exit)) (now (gossip .entry)) (now (gossip .entry)) (now (actions .entry)) (now (actions .exit)) ⌝ }
+        (now (table .entry)) (now (table .exit)) (now (gossip .entry)) (now (gossip .entry))
+        (now (actions .entry)) (now (actions .exit)) ⌝ }
 {
     if !sender_known(table, sender) {
         return NOT_CONNECTED;

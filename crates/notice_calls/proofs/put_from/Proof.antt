@@ -8,7 +8,8 @@ use Rattle.notice_calls.proofs.put_from.Tie as tie
 put-requires : tie.Need-put-requires
 put-requires c κs =
     let b = c .before .before in
-    room-there (b .before .before .before .before .before .before .before .before .before .before .pre) _ (b .has-room .ensures) (c .before .if3 .left)
+    let s = b .before .before .before .before .before .before .before .before .before .before in
+    room-there (s .pre) _ (b .has-room .ensures) (c .before .if3 .left)
 
 pub put-from-spec : {M : Type 1} → statement M
 put-from-spec =
