@@ -1,14 +1,15 @@
 -- What a function on the array relies on: its length, and that test 12 found it right beside some table's state.
 use Prim.Native.Nat.{ℕ, _≤_, _<_}
 use mathlib.Core.Path.{_≡_}
-use mathlib.Core.Bool.{true}
-use mathlib.Core.List.{List}
+use mathlib.Core.Bool.{Bool, true}
+use mathlib.Core.List.{List, map}
 use lib.Dec.{ltb}
-use lib.ListN.{length}
+use lib.ListN.{length, getD}
 use Rattle.records.specs.Records.{State, slotCount, topicCount}
-use Rattle.layout.specs.View.{cellCount}
-use Rattle.gossip.specs.Notes.{noteIn, storeIn, stored, countIn, windowMost, rowsMost, numbersMost}
-use Rattle.gossip.specs.Valid.{gossipOk}
+use Rattle.layout.specs.View.{cellCount, stateOf}
+use Rattle.validity.specs.Valid.{valid}
+use Rattle.gossip.specs.Notes.{Gossip, noteIn, storeIn, stored, countIn, windowMost, rowsMost, numbersMost}
+use Rattle.gossip.specs.Valid.{rowNumber, gossipOk}
 use Rattle.stores.specs.View.{Windows}
 use Rattle.replies.specs.View.{repliesOf}
 use Rattle.gossip.specs.Step.{hasRoom, running}
@@ -73,19 +74,37 @@ pub record KeptSlot (gossip : List ℕ) (s : ℕ) : Type 0 where
   pub slot : s < slotCount
 
 pub record KeptRow (gossip : List ℕ) (r : ℕ) : Type 0 where
-  pub kept : Kept gossip
+  pub size : length gossip ≡ gossipCells
+  pub windows : Windows (storesPart gossip)
+  pub rows : length (repliesOf (repliesPart gossip)) ≤ rowsMost
   pub row : r < length (repliesOf (repliesPart gossip))
+
+-- whether the number of a row is stored
+abbrev pub isKept : Gossip → ℕ → Bool
+isKept g k = stored g (getD (map rowNumber (g .replies)) k 0)
 
 -- a table and an array of any content
 pub record Both (table gossip : List ℕ) : Type 0 where
   pub size : length table ≡ cellCount
   pub sizes : length gossip ≡ gossipCells
 
-pub record BothSlot (table gossip : List ℕ) (s : ℕ) : Type 0 where
-  pub both : Both table gossip
-  pub slot : s < slotCount
+-- a router's table, and an array of any content beside it
+pub record Beside (table gossip : List ℕ) : Type 0 where
+  pub size : length table ≡ cellCount
+  pub router : valid (stateOf table) ≡ true
+  pub sizes : length gossip ≡ gossipCells
 
--- two of the set-up numbers
-pub record SetupIs (gossip : List ℕ) (limit ihaves : ℕ) : Type 0 where
+-- the stores were found right
+pub record Stored (table gossip : List ℕ) : Type 0 where
+  pub size : length table ≡ cellCount
+  pub router : valid (stateOf table) ≡ true
+  pub sizes : length gossip ≡ gossipCells
+  pub windows : Windows (storesPart gossip)
+
+-- one of the slots, and two of the set-up numbers
+pub record Noted (table gossip : List ℕ) (s limit ihaves : ℕ) : Type 0 where
+  pub size : length table ≡ cellCount
+  pub sizes : length gossip ≡ gossipCells
+  pub slot : s < slotCount
   pub puts : limit ≡ gossipOf gossip .setup .limit
   pub answers : ihaves ≡ gossipOf gossip .setup .ihaves

@@ -1,15 +1,15 @@
 // The array of orders 6 and 7: five set-up numbers, then three parts, each known to a crate of its own. A function here lends one part to
 // that crate, and promises what becomes of the whole.
 pub mod peers;
+pub mod stored;
+pub mod tests;
 
 ghost use mathlib.Core.Path.{_≡_};
 ghost use lib.ListN.{length};
 ghost use Rattle.gossip_table.specs.View.{gossipCells, gossipOf};
 use notes::NOTES_CELLS;
-
-const REPLIES_CELLS: usize = 71681;
-
-const STORES_CELLS: usize = 2600;
+use replies::REPLIES_CELLS;
+use stores::STORES_CELLS;
 
 // Where the parts begin.
 pub const NOTES_AT: usize = 8;

@@ -3,8 +3,8 @@
 -- Assumes nothing.
 use Prim.Native.Nat.{ℕ, zero, suc, _+_, _*_, _-_, _/_, _%_, _^_, _≤_, _<_}
 use mathlib.Core.Path.{_≡_, refl, sym, ap, _∙_}
-use native.Mathlib.Nat.{pow-suc, pow-succ', pow-le-pow-right, mod-lt, mod-one, mod-le, div-eq-of-lt, not-suc-le-zero, le-of-suc-le-suc}
-use native.Mathlib.Nat.{zero-lt-suc, mul-assoc, one-mul, div-div-eq-div-mul, mod-add-div, add-mul-div-left, add-mul-mod-self-left}
+use native.Mathlib.Nat.{pow-suc, pow-succ', pow-le-pow-right, mod-lt, mod-one, mod-le, not-suc-le-zero, le-of-suc-le-suc}
+use native.Mathlib.Nat.{zero-lt-suc, mul-assoc, one-mul, div-div-eq-div-mul, mod-add-div}
 use native.Mathlib.Numerals.{add-one}
 use native.Mathlib.Omega.{arith}
 use lib.Arith.{mod-mul}

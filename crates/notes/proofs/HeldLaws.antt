@@ -1,8 +1,8 @@
 -- What stands in a row after a number was put in, and while a heartbeat goes through it.
 -- Assumes nothing.
-use Prim.Native.Nat.{ℕ, zero, suc, _+_, _*_, _-_, _%_, _^_, _≤_, _<_}
+use Prim.Native.Nat.{ℕ, suc, _+_, _*_, _-_, _%_, _^_, _≤_, _<_}
 use mathlib.Core.Path.{_≡_, refl, sym, ap, _∙_}
-use mathlib.Core.Bool.{Bool, true, false}
+use mathlib.Core.Bool.{true, false}
 use mathlib.Core.Logic.{_≢_}
 use mathlib.Core.List.{List, [], _∷_, _++_, append-nil}
 use native.Mathlib.Omega.{arith}
@@ -13,11 +13,11 @@ use lib.Seq.{getD-set-same, getD-set-other}
 use borrow.Author.Tests.{lt-ltb, le-ltb}
 use Rattle.layout.specs.Rows.{tab}
 use Rattle.layout.proofs.RowLaws.{tab-same}
-use Rattle.gossip.specs.Notes.{Entry, older, aged}
+use Rattle.gossip.specs.Notes.{Entry, aged}
 use Rattle.notes.specs.View.{digit, entryOf, entryAt, setIn}
 use Rattle.notes.specs.Moves.{MovedUp, Placed}
 use Rattle.notes.specs.Lent.{PutRow, AgedRow}
-use Rattle.notes.proofs.DigitLaws.{gapped, Gapped, digit-lt, top-lt, top-other, top-here}
+use Rattle.notes.proofs.DigitLaws.{gapped, Gapped, top-lt, top-other, top-here}
 use Rattle.notes.proofs.SetLaws.{PutAt, put-tab, tab-more, aged-more}
 
 abbrev entry : ℕ → ℕ → Entry

@@ -7,7 +7,7 @@ use native.Mathlib.Omega.{arith}
 use lib.ListN.{length, getD, set, length-set}
 use lib.Seq.{getD-set-same, getD-set-other}
 use Rattle.index.proofs.Flags.{by-order}
-use Rattle.notes.specs.Moves.{MovedUp, Placed}
+use Rattle.notes.specs.Moves.{MovedUp}
 
 -- the cells from k on are moved
 pub move-start : (c : List ℕ) (end w : ℕ) → MovedUp c c end end w

@@ -1,27 +1,26 @@
 -- The notes that the cells hold: what each depends on, and what a store into the column or a row changes.
 -- Assumes nothing.
-use Prim.Native.Nat.{ℕ, zero, suc, _+_, _*_, _-_, _/_, _%_, _≤_, _<_}
+use Prim.Native.Nat.{ℕ, _+_, _*_, _-_, _/_, _%_, _≤_, _<_}
 use mathlib.Core.Path.{_≡_, refl, sym, ap, subst, _∙_}
-use mathlib.Core.Bool.{Bool, true, false, cond, not, _&&_, _||_}
+use mathlib.Core.Bool.{Bool, true, false, not, _&&_, _||_}
 use mathlib.Core.Logic.{_≢_}
-use mathlib.Core.List.{List, [], _∷_, map}
+use mathlib.Core.List.{List, [], map}
 use native.Mathlib.Omega.{arith}
 use lib.Bits.{bitOr}
-use lib.Dec.{eqb, leb, ltb}
-use lib.ListN.{length, getD, set, replicate, length-set}
+use lib.Dec.{eqb, leb, ltb, leb·zero}
+use lib.ListN.{length, getD, set, replicate}
 use lib.Seq.{getD-set-same, getD-set-other}
 use borrow.Author.Tests.{le-leb, lt-leb, le-ltb}
 use Rattle.index.specs.Index.{every}
-use Rattle.index.proofs.Index.{every-same}
 use Rattle.index.proofs.Flags.{by-order}
-use Rattle.records.specs.Records.{slotCount}
-use Rattle.layout.specs.Rows.{tab}
+use Rattle.records.specs.declared.Peer.{Peer}
+use Rattle.records.specs.Records.{slotCount, isConnected, isEmpty}
 use Rattle.layout.specs.View.{table}
 use Rattle.layout.proofs.RowLaws.{tab-same, tab-const, length-tab}
 use Rattle.layout.proofs.ViewLaws.{table-same, table-set, getD-table}
 use Rattle.layout.proofs.EndLaws.{or-none}
 use Rattle.gossip.specs.Notes.{Entry, Note, Setup, noNote, has, holds, numberOf, putIn, aged}
-use Rattle.gossip.specs.Valid.{all, none, rises, entryOk, setOk, countsOk}
+use Rattle.gossip.specs.Valid.{all, none, rises, entryOk, setOk, noteOk}
 use Rattle.gossip.specs.Step.{withPut, withIhave, beaten, parted}
 use Rattle.notes.specs.View.{notesCells, rowAt, headOf, digit, entryOf, entryAt, few, setIn, numbersIn, noteFrom, noteOf, notesOf}
 use Rattle.notes.specs.View.{noteAt, countsFit}
@@ -413,6 +412,21 @@ room-at c s limit h =
     few-room (headOf c s / 4096) ∙ ap (λ (m : ℕ). ltb m 32) (sym (length-at c s h)) in
     λ i. ltb (p i) limit && q i
 
--- with a set-up's numbers it is test 12
-pub counts-tested : (p : Setup) (e : Bool) (n : Note) → countsFit (p .limit) (p .ihaves) e n ≡ countsOk p e n
-counts-tested p e n = refl
+-- ---- test 12 of a record's note
+
+-- what `note_ok` says, asked with a set-up's numbers
+pub note-judged :
+    (p : Setup) (peer : Peer) (n : Note) (r : Bool)
+    → r ≡ (setOk (isConnected peer) (n .held) && countsFit (p .limit) (p .ihaves) (isEmpty peer) n) → r ≡ noteOk p peer n
+unfolding noteOk
+note-judged p peer n r e = e
+
+-- no note passes, whatever the record
+pub nothing-passes : (p : Setup) (peer : Peer) → noteOk p peer noNote ≡ true
+unfolding noteOk setOk rises all
+nothing-passes p peer =
+    rw (leb·zero (p .limit), leb·zero (p .ihaves), either (isConnected peer), either (not (isEmpty peer))) refl
+  where
+    either : (b : Bool) → (b || true) ≡ true
+    either true = refl
+    either false = refl

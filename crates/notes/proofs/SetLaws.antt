@@ -4,19 +4,19 @@
 use Prim.Native.Nat.{ℕ, zero, suc, _+_, _-_, _≤_, _<_}
 use mathlib.Core.Path.{_≡_, refl, sym, ap, _∙_}
 use mathlib.Core.Bool.{Bool, true, false, cond, _&&_, _||_, and-false}
-use mathlib.Core.List.{List, [], _∷_, _++_, map, append-assoc}
+use mathlib.Core.List.{List, [], _∷_, _++_, map}
 use native.Mathlib.Nat.{le-antisymm, not-suc-le-zero, le-of-suc-le-suc, zero-lt-suc}
 use native.Mathlib.Numerals.{add-one}
 use native.Mathlib.Omega.{arith}
 use lib.Dec.{eqb, leb, ltb, eqb·suc-zero}
-use lib.ListN.{length, getD}
+use lib.ListN.{getD}
 use borrow.Author.Tests.{ltb-true, lt-ltb, le-ltb}
 use Rattle.index.specs.Index.{every}
 use Rattle.index.proofs.Index.{every-at, every-by, every-fails}
 use Rattle.index.proofs.Flags.{by-test}
 use Rattle.layout.specs.Rows.{tab}
 use Rattle.layout.proofs.RowLaws.{tab-same}
-use Rattle.gossip.specs.Notes.{Entry, has, some, numberOf, putIn, older, aged}
+use Rattle.gossip.specs.Notes.{Entry, has, some, putIn, older, aged}
 use Rattle.gossip.specs.Valid.{all, none, rises}
 use Rattle.notes.specs.View.{digit, numbersIn}
 

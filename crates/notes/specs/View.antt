@@ -1,6 +1,6 @@
--- How a run of numbers holds the notes of all slots: a column of one cell a slot with its counts and the length of its set, then a row of 33
--- cells a slot: 32 numbers, rising, and their ages as the digits of one number. Only the numbers and ages below the length are read, so a
--- column of zeros holds nothing. The layout may be changed here and in src/lib.rt.
+-- How a run of numbers holds the notes of all slots: a column of one cell a slot with its counts and the length of its set, then a row of
+-- 33 cells a slot: 32 numbers, and their ages as the digits of one number. Only the numbers and ages below the length are read, so a column
+-- of zeros holds nothing. The layout may be changed here and in src/lib.rt.
 use Prim.Native.Nat.{ℕ, _+_, _*_, _/_, _%_, _^_}
 use mathlib.Core.Bool.{Bool, cond, not, _&&_, _||_}
 use mathlib.Core.List.{List}

@@ -1,17 +1,17 @@
-// How a lent run of numbers holds what the peers' records have besides 01's: each slot's IDONTWANT set and its two counts of this heartbeat.
+// How a lent run of numbers holds what the peers' records have besides 01's: each slot's IDONTWANT set and two counts of this heartbeat.
 // The only code that computes an offset in it; specs/View.antt says which notes the cells hold, whatever they are.
 ghost use mathlib.Core.Path.{_≡_};
-ghost use mathlib.Core.Bool.{true, _&&_, _||_, not};
+ghost use mathlib.Core.Bool.{true, _&&_};
 ghost use mathlib.Core.List.{[], map};
-ghost use Prim.Native.Nat.{ℕ, _+_, _*_, _-_, _/_, _%_, _^_, _≤_, _<_};
-ghost use lib.Dec.{eqb, leb, ltb};
-ghost use lib.ListN.{length, getD, set, replicate};
+ghost use Prim.Native.Nat.{ℕ, _+_, _*_, _-_, _%_, _^_, _≤_, _<_};
+ghost use lib.Dec.{leb, ltb};
+ghost use lib.ListN.{length, set, replicate};
 ghost use Rattle.records.specs.Records.{slotCount};
 ghost use Rattle.index.specs.Index.{every};
 ghost use Rattle.gossip.specs.Notes.{noNote, setMost, lastAge, has, holds};
 ghost use Rattle.gossip.specs.Valid.{rises, setOk};
 ghost use Rattle.gossip.specs.Step.{withPut, withIhave, beaten, parted};
-ghost use Rattle.notes.specs.View.{notesCells, rowCells, rowAt, headOf, digit, numbersIn, noteFrom, notesOf, noteAt, countsFit};
+ghost use Rattle.notes.specs.View.{notesCells, rowCells, rowAt, digit, numbersIn, noteFrom, notesOf, noteAt, countsFit};
 ghost use Rattle.notes.specs.Moves.{MovedUp, Placed};
 ghost use Rattle.notes.specs.Lent.{AtSlot, SetFits, PutFits, IhaveFits, AllFit, RowFits, AgedRow, PutRow};
 use records::SLOTS;

@@ -1,21 +1,20 @@
 -- The steps of the calls: what each turn of a loop keeps, and how the rows that are left are those that the definitions say.
 -- Assumes nothing.
-use Prim.Native.Nat.{ℕ, zero, suc, _+_, _*_, _-_, _/_, _%_, _≤_, _<_}
+use Prim.Native.Nat.{ℕ, suc, _+_, _-_, _≤_, _<_}
 use mathlib.Core.Path.{_≡_, refl, sym, ap, _∙_}
 use mathlib.Core.Logic.{_≢_}
-use mathlib.Core.Bool.{Bool, true, false, not, cond}
+use mathlib.Core.Bool.{Bool, true, false, not}
 use mathlib.Core.List.{List, [], _∷_, _++_, map, append-nil}
 use native.Mathlib.Nat.{not-suc-le-zero, le-antisymm}
 use native.Mathlib.Numerals.{add-one}
 use native.Mathlib.Omega.{arith}
-use lib.Dec.{eqb, leb, ltb}
-use lib.ListN.{length, getD, set, replicate, getD-replicate}
-use lib.Seq.{getD-set-other}
-use borrow.Author.Tests.{lt-ltb, le-ltb, ltb-true, ltb-false, eqb-true, eqb-false, leb-true}
+use lib.Dec.{eqb, leb}
+use lib.ListN.{length, getD, set, replicate, getD-replicate, length-map}
+use borrow.Author.Tests.{lt-ltb, le-ltb, eqb-true, eqb-false, leb-true}
 use borrow.Author.Count.{below-more}
 use Rattle.index.specs.Index.{gather}
 use Rattle.index.proofs.Index.{gather-none, gather-more}
-use Rattle.index.proofs.Flags.{by-test, by-order}
+use Rattle.index.proofs.Flags.{by-order}
 use Rattle.records.specs.Records.{slotCount}
 use Rattle.layout.specs.Rows.{tab}
 use Rattle.layout.proofs.RowLaws.{tab-same}
@@ -26,7 +25,7 @@ use Rattle.replies.specs.View.{repliesCells, rowsIn, startOf, rowAt, rep
 use Rattle.replies.specs.Asked.{FlagsSay, Passed, Placed, isRow}
 use Rattle.replies.proofs.ListLaws.{numberAt, replied-here, replied-new, count-here, count-none, set-inserted, getD-inserted}
 use Rattle.replies.proofs.ListLaws.{length-inserted, tab-inserted, ended-tab, keptOf, keep-tab, gather-below, tab-end, rises-at}
-use Rattle.replies.proofs.RowLaws.{rows-length, row-load, number-load, number-is, run-more, rows-same, row-set-rows, used-same}
+use Rattle.replies.proofs.RowLaws.{rows-length, row-load, number-load, number-is, run-more, row-set-rows, used-same}
 use Rattle.replies.proofs.RowLaws.{used-is}
 
 -- ---- no row
@@ -116,11 +115,7 @@ module _ (l : List Row) (n : ℕ) where
 
   module _ (rise : rises (map rowNumber l) ≡ true) (low high mid : ℕ) (a : low ≤ mid) (b : mid < high) (h : Halved l n low high) where
     sorted : (i j : ℕ) → i < j → j < length l → numberAt l i < numberAt l j
-    sorted i j q m = rises-at (map rowNumber l) i j rise q (rw (length-numbers l) m)
-      where
-        length-numbers : (l : List Row) → length (map rowNumber l) ≡ length l
-        length-numbers [] = refl
-        length-numbers (r ∷ l) = ap suc (length-numbers l)
+    sorted i j q m = rises-at (map rowNumber l) i j rise q (rw (length-map l rowNumber) m)
 
     pub halve-up : numberAt l mid < n → Halved l n (mid + 1) high
     halve-up t =
@@ -212,12 +207,8 @@ module _ (c : List ℕ) (n s p : ℕ) (at : Placed (repliesOf c) n p) where
       (λ o.
       let m : p < length (repliesOf c) = omega arith in
       let a = missed t m in
-      let b = rises-at (map rowNumber (repliesOf c)) p k rise (omega arith) (rw (length-numbers (repliesOf c)) h) in
+      let b = rises-at (map rowNumber (repliesOf c)) p k rise (omega arith) (rw (length-map (repliesOf c) rowNumber) h) in
       omega arith)))
-    where
-      length-numbers : (l : List Row) → length (map rowNumber l) ≡ length l
-      length-numbers [] = refl
-      length-numbers (r ∷ l) = ap suc (length-numbers l)
 
   -- ---- a reply
 

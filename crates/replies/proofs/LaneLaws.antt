@@ -1,11 +1,10 @@
 -- Lanes of a cell: one more in a lane, or none, leaves every other lane as it is. A cell is the digits from a lane on, and those below.
 -- Assumes nothing.
-use Prim.Native.Nat.{ℕ, zero, suc, _+_, _*_, _-_, _/_, _%_, _^_, _≤_, _<_}
-use mathlib.Core.Path.{_≡_, refl, sym, ap, _∙_}
-use mathlib.Core.Logic.{_≢_}
+use Prim.Native.Nat.{ℕ, suc, _+_, _*_, _-_, _/_, _%_, _^_, _≤_, _<_}
+use mathlib.Core.Path.{_≡_, sym, ap, _∙_}
 use native.Mathlib.Nat.{mod-lt, div-lt-iff-lt-mul, add-mul, one-mul, zero-div}
 use native.Mathlib.Omega.{arith}
-use lib.Pow.{pow-pos, pow-add, shr-lt, shr-shr, split, high, low, field, mod-mod-pow}
+use lib.Pow.{pow-pos, pow-add, shr-shr, split, high, low, field, mod-mod-pow}
 use Rattle.index.proofs.Flags.{by-order}
 use Rattle.replies.specs.View.{laneIn, LaneSet}
 
@@ -80,7 +79,11 @@ module _ (x j : ℕ) (h : laneIn x j < 63) where
 
 -- none in a lane
 module _ (x j : ℕ) where
-  none-split : (q d : ℕ) → d ≤ q → x ≡ q * 2 ^ (6 * j) + x % 2 ^ (6 * j) → (d * 2 ^ (6 * j) ≤ x) × (x - d * 2 ^ (6 * j) ≡ (q - d) * 2 ^ (6 * j) + x % 2 ^ (6 * j))
+  none-split :
+      (q d : ℕ) →
+      d ≤ q →
+      x ≡ q * 2 ^ (6 * j) + x % 2 ^ (6 * j) →
+      (d * 2 ^ (6 * j) ≤ x) × (x - d * 2 ^ (6 * j) ≡ (q - d) * 2 ^ (6 * j) + x % 2 ^ (6 * j))
   none-split q d h e =
       let m : (q - d + d) * 2 ^ (6 * j) ≡ (q - d) * 2 ^ (6 * j) + d * 2 ^ (6 * j) = add-mul (q - d) d (2 ^ (6 * j)) in
       let z : q - d + d ≡ q = omega arith in

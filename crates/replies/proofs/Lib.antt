@@ -3,3 +3,4 @@ pub mod ListLaws
 pub mod RowLaws
 pub mod CallLaws
 pub mod TestLaws
+pub mod LimitLaws

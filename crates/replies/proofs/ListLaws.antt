@@ -2,17 +2,17 @@
 -- Assumes nothing.
 use Prim.Native.Nat.{ℕ, zero, suc, _+_, _≤_, _<_, suc-le-suc}
 use mathlib.Core.Path.{_≡_, refl, sym, ap, _∙_}
-use mathlib.Core.Bool.{Bool, true, false, cond, _&&_, and-false}
-use mathlib.Core.List.{List, [], _∷_, _++_, map, append-assoc, append-nil}
+use mathlib.Core.Bool.{Bool, true, false}
+use mathlib.Core.List.{List, [], _∷_, _++_, map}
 use native.Mathlib.Nat.{not-suc-le-zero, le-of-suc-le-suc, zero-lt-suc}
 use native.Mathlib.Omega.{arith}
-use lib.Dec.{eqb, leb, ltb}
+use lib.Dec.{ltb}
 use lib.ListN.{length, getD, set}
-use borrow.Author.Tests.{lt-ltb, le-ltb, le-leb, ltb-true, eq-eqb, ne-eqb}
-use Rattle.index.specs.Index.{every, gather}
+use borrow.Author.Tests.{lt-ltb, le-ltb, ltb-true, eq-eqb, ne-eqb}
+use Rattle.index.specs.Index.{gather}
 use Rattle.index.proofs.Index.{both, gather-first}
-use Rattle.index.proofs.Flags.{by-test, cond-case}
 use Rattle.layout.specs.Rows.{tab}
+use Rattle.layout.proofs.RowLaws.{tab-same}
 use Rattle.gossip.specs.Notes.{Row, countIn, firstReply, oneMore, replied, endedRow, ended, also, keep}
 use Rattle.gossip.specs.Valid.{all, rises, rowNumber}
 use Rattle.replies.specs.View.{inserted}
@@ -119,12 +119,7 @@ pub tab-inserted :
     tab (suc u) g ≡ inserted p x (tab u f)
 unfolding inserted
 tab-inserted zero u x f g h a b c =
-    λ i. b i ∷ tab-up u (λ k. g (suc k)) f (λ k l. c k (omega arith) l) i
-  where
-    tab-up : (u : ℕ) (f g : ℕ → Row) → ((k : ℕ) → k < u → f k ≡ g k) → tab u f ≡ tab u g
-    tab-up zero f g h = refl
-    tab-up (suc u) f g h =
-        λ i. h zero (zero-lt-suc u) i ∷ tab-up u (λ k. f (suc k)) (λ k. g (suc k)) (λ k b. h (suc k) (suc-le-suc b)) i
+    λ i. b i ∷ tab-same u (λ k. g (suc k)) f (λ k l. c k (omega arith) l) i
 tab-inserted (suc p) zero x f g h a b c = absurd (not-suc-le-zero h)
 tab-inserted (suc p) (suc u) x f g h a b c =
     λ i. a zero (zero-lt-suc p) i

@@ -1,11 +1,10 @@
 -- Rows in cells: what a row reads, and what a store, a run of stores and a change of the rows in use leave of every row.
 -- Assumes nothing.
-use Prim.Native.Nat.{ℕ, zero, suc, _+_, _*_, _/_, _%_, _^_, _≤_, _<_}
+use Prim.Native.Nat.{ℕ, zero, suc, _+_, _/_, _%_, _≤_, _<_}
 use mathlib.Core.Path.{_≡_, refl, sym, ap, _∙_}
 use mathlib.Core.Logic.{_≢_}
-use mathlib.Core.List.{List, [], _∷_, map}
+use mathlib.Core.List.{List, map}
 use native.Mathlib.Nat.{not-suc-le-zero, le-of-suc-le-suc, add-zero, le-antisymm}
-use native.Mathlib.Numerals.{add-one}
 use native.Mathlib.Omega.{arith}
 use lib.ListN.{length, getD, set, replicate, length-set}
 use lib.Seq.{getD-set-same, getD-set-other}
@@ -17,7 +16,7 @@ use Rattle.layout.specs.View.{table}
 use Rattle.layout.proofs.RowLaws.{length-tab, getD-tab, tab-same, tab-set, tab-const}
 use Rattle.layout.proofs.BitLaws.{by-same}
 use Rattle.layout.proofs.ViewLaws.{table-same, table-set, getD-table}
-use Rattle.gossip.specs.Notes.{Row, oneMore, endedRow}
+use Rattle.gossip.specs.Notes.{Row, oneMore}
 use Rattle.gossip.specs.Valid.{rowNumber}
 use Rattle.replies.specs.View.{repliesCells, rowsIn, startOf, laneIn, laneAt, rowFrom, rowAt, repliesOf, LaneSet, Run, RowSet}
 use Rattle.replies.proofs.LaneLaws.{lane-zero}

@@ -2,17 +2,17 @@
 -- Assumes nothing.
 use Prim.Native.Nat.{ℕ, zero, suc, _+_, _*_, _-_, _/_, _%_, _≤_, _<_}
 use mathlib.Core.Path.{_≡_, refl, sym, ap, _∙_}
-use mathlib.Core.Bool.{Bool, true, false, not, cond, _&&_, _||_, and-false}
+use mathlib.Core.Bool.{Bool, true, false, cond, _&&_, _||_}
 use mathlib.Core.List.{List, [], _∷_, map}
 use native.Mathlib.Nat.{not-suc-le-zero}
 use native.Mathlib.Omega.{arith}
 use lib.Dec.{eqb, leb, ltb}
 use lib.ListN.{length, getD, length-map}
-use borrow.Author.Tests.{lt-ltb, ltb-true, le-leb, lt-leb, leb-true, leb-false, eq-eqb, ne-eqb, eqb-true, eqb-false}
+use borrow.Author.Tests.{lt-ltb, ltb-true, le-leb, lt-leb, leb-true, eq-eqb, ne-eqb, eqb-true, eqb-false}
 use borrow.Author.Count.{below-more}
 use Rattle.index.specs.Index.{every}
 use Rattle.index.proofs.Index.{both, every-at, every-by, every-same}
-use Rattle.index.proofs.Flags.{by-test, by-order}
+use Rattle.index.proofs.Flags.{by-order}
 use Rattle.records.specs.Records.{State, slotCount, peerIn, isConnected}
 use Rattle.layout.specs.View.{table}
 use Rattle.layout.proofs.RowLaws.{length-tab}
@@ -20,7 +20,7 @@ use Rattle.gossip.specs.Notes.{Row, rowsMost}
 use Rattle.gossip.specs.Valid.{all, rises, rowNumber, rowOk, repliesOk}
 use Rattle.replies.specs.View.{laneCount, rowsIn, startOf, laneIn, laneAt, rowFrom, rowAt, repliesOf}
 use Rattle.replies.specs.Asked.{rowFits, rowsOk, laneFits, cellFits, lanesFit, stepAt}
-use Rattle.replies.proofs.ListLaws.{numberAt, all-at, all-by, rises-at, Steps, rises-by}
+use Rattle.replies.proofs.ListLaws.{numberAt, all-at, all-by, rises-at, rises-by}
 use Rattle.replies.proofs.LaneLaws.{lane-zero}
 use Rattle.replies.proofs.RowLaws.{rows-length, row-load, number-load, count-lane}
 
@@ -44,11 +44,11 @@ or-right : (a b : Bool) → a ≡ false → a || b ≡ true → b ≡ true
 or-right true b e h = absurd (no-truth (sym e))
 or-right false b e h = h
 
-or-left : (a b : Bool) → a ≡ true → a || b ≡ true
+pub or-left : (a b : Bool) → a ≡ true → a || b ≡ true
 or-left true b e = refl
 or-left false b e = absurd (no-truth e)
 
-or-also : (a b : Bool) → b ≡ true → a || b ≡ true
+pub or-also : (a b : Bool) → b ≡ true → a || b ≡ true
 or-also true b e = refl
 or-also false b e = e
 

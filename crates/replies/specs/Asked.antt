@@ -12,7 +12,8 @@ use Rattle.layout.specs.Rows.{tab}
 use Rattle.words.specs.Words.{bitsOf}
 use Rattle.gossip.specs.Notes.{Row, rowsMost, countIn, replied, also}
 use Rattle.gossip.specs.Valid.{all, rises, rowNumber}
-use Rattle.replies.specs.View.{laneCount, laneCells, repliesCells, rowsIn, startOf, laneIn, rowAt, repliesOf, blank, inserted}
+use Rattle.replies.specs.View.{laneCount, laneEnd, laneCells, repliesCells, rowsIn, startOf, laneIn, rowAt, repliesOf, blank}
+use Rattle.replies.specs.View.{inserted}
 
 -- the region, with no more rows than it has room for
 pub record Rows (c : List ℕ) : Type 0 where
@@ -141,3 +142,35 @@ lanesFit on most c r = every laneCells (λ k. cellFits on most k (getD c (startO
 -- the number of row r is above that of the row before it
 abbrev pub stepAt : List ℕ → ℕ → Bool
 stepAt c r = eqb r 0 || ltb (getD c (startOf (r - 1)) 0) (getD c (startOf r) 0)
+
+-- the limit of a slot's count, as a lane holds it
+pub record Limit (on : ℕ → Bool) (most s limit : ℕ) : Type 0 where
+  pub small : limit < laneEnd
+  pub allows : (v : ℕ) → v ≤ limit → laneFits on most s v ≡ true
+
+-- a cell of limits, lane by lane: no count above its lane's limit fails the test
+abbrev pub Allows : (ℕ → Bool) → ℕ → ℕ → ℕ → Type 0
+Allows on most k limits = (j : ℕ) → j < laneCount → (v : ℕ) → v ≤ laneIn limits j → laneFits on most (laneCount * k + j) v ≡ true
+
+-- the same of every cell of a row
+abbrev pub AllAllow : (ℕ → Bool) → ℕ → List ℕ → Type 0
+AllAllow on most l = (k : ℕ) → k < laneCells → Allows on most k (getD l k 0)
+
+-- no lane of x is above that of l
+abbrev pub Under : ℕ → ℕ → Type 0
+Under x l = (j : ℕ) → j < laneCount → laneIn x j ≤ laneIn l j
+
+-- the same of every second lane
+abbrev pub EvenUnder : ℕ → ℕ → Type 0
+EvenUnder x l = (i : ℕ) → i < 5 → laneIn x (2 * i) ≤ laneIn l (2 * i)
+
+-- what the tests of a row and of all rows ask
+pub record RowLimits (on : ℕ → Bool) (most : ℕ) (c l : List ℕ) (r : ℕ) : Type 0 where
+  pub size : length c ≡ repliesCells
+  pub row : r < rowsMost
+  pub limits : AllAllow on most l
+
+pub record RowsLimits (on : ℕ → Bool) (most : ℕ) (c l : List ℕ) : Type 0 where
+  pub size : length c ≡ repliesCells
+  pub few : length (repliesOf c) ≤ rowsMost
+  pub limits : AllAllow on most l

@@ -1,5 +1,5 @@
--- How a region of cells holds how often IWANTs were answered: the number of rows in use, then the rows, each a number, a hint that is no part
--- of the view, and the counts of all slots, ten lanes of six bits in a cell. No view reads a row past those in use.
+-- How a region of cells holds how often IWANTs were answered: the number of rows in use, then the rows, each a number, a hint that is no
+-- part of the view, and the counts of all slots, ten lanes of six bits in a cell. No view reads a row past those in use.
 use Prim.Native.Nat.{ℕ, zero, suc, _+_, _*_, _/_, _%_, _^_, _≤_, _<_}
 use mathlib.Core.Path.{_≡_}
 use mathlib.Core.Logic.{_≢_}

@@ -1,15 +1,17 @@
 // How often IWANTs were answered, in one region of cells: rows by rising message number, each with a count for every slot. The only code
 // that knows how the region is laid out (specs/View.antt).
 ghost use mathlib.Core.Path.{_≡_};
-ghost use mathlib.Core.Bool.{Bool, false};
+ghost use mathlib.Core.Bool.{Bool, true, false};
 ghost use mathlib.Core.List.{[], map};
-ghost use Prim.Native.Nat.{ℕ, _+_, _*_, _^_, _≤_, _<_};
+ghost use Prim.Native.Nat.{ℕ, _+_, _*_, _^_, _<_};
 ghost use lib.ListN.{length, getD};
 ghost use Rattle.gossip.specs.Notes.{rowsMost, countIn, oneMore, replied, endedRow, ended, keep};
 ghost use Rattle.gossip.specs.Valid.{rowNumber};
-ghost use Rattle.replies.specs.View.{laneCount, laneBits, laneCells, repliesCells, laneIn, rowAt, repliesOf, LaneSet, RowSet, Opened, blank};
+ghost use Rattle.replies.specs.View.{laneCount, laneBits, laneCells, repliesCells, laneIn, rowAt, repliesOf, LaneSet, RowSet};
+ghost use Rattle.replies.specs.View.{Opened, blank};
 ghost use Rattle.replies.specs.Asked.{Rows, RowOf, SlotOf, Ordered, Room, Flagged, FlagsSay, InRow, OneMore, Copies, Opens, Inserts};
-ghost use Rattle.replies.specs.Asked.{Inserted, Passes, Passed, Searched, Placed, isRow, onBits, rowsOk, laneFits, cellFits, lanesFit, stepAt};
+ghost use Rattle.replies.specs.Asked.{Inserted, Passes, Passed, Searched, Placed, isRow, onBits, rowsOk, laneFits, cellFits};
+ghost use Rattle.replies.specs.Asked.{lanesFit, stepAt, Limit, Allows, AllAllow, Under, EvenUnder, RowLimits, RowsLimits};
 use records::SLOTS;
 use words::WORDS;
 
@@ -22,6 +24,11 @@ const LANES: usize = 10;
 const LANE_BITS: usize = 6;
 
 const LANE: u64 = 64;
+
+// Every second lane, and the bit above each.
+const EVENS: u64 = 17737253917028415;
+
+const GUARDS: u64 = 18018797629997120;
 
 // A row: its number, its hint, and the cells of its lanes.
 const LANE_CELLS: usize = (SLOTS + LANES - 1) / LANES;
@@ -292,14 +299,66 @@ fn lane_ok(v: u64, s: usize, connected: &[u64; WORDS], most: u64) -> bool
     (SLOTS <= s) | (v == 0) | (words::at(connected, s as u64) & (v <= most))
 }
 
-// The same of the lanes of the k-th cell of a row.
-fn cell_ok(x: u64, k: usize, connected: &[u64; WORDS], most: u64) -> bool
+// What no count of a slot may be above, as a lane holds it.
+fn limit(s: usize, connected: &[u64; WORDS], most: u64) -> u64
+    ensures { λ r. ⌜ Limit (onBits (now (connected .entry))) most s r ⌝ }
+{
+    if SLOTS <= s {
+        return LANE - 1;
+    }
+    if !words::at(connected, s as u64) {
+        return 0;
+    }
+    if most < LANE {
+        return most;
+    }
+    LANE - 1
+}
+
+// The limits of the k-th cell of a row, from its last lane down.
+fn limits_of(k: usize, connected: &[u64; WORDS], most: u64) -> u64
+    requires { ⌜ k < laneCells ⌝ }
+    ensures { λ r. ⌜ Allows (onBits (now (connected .entry))) most k r ⌝ }
+{
+    let mut w: u64 = 0;
+    let mut j: usize = LANES;
+    while 0 < j {
+        j -= 1;
+        w = w * LANE + limit(LANES * k + j, connected, most);
+    }
+    w
+}
+
+// The limits of a whole row.
+fn limits(connected: &[u64; WORDS], most: u64) -> [u64; LANE_CELLS]
+    ensures { λ r. ⌜ AllAllow (onBits (now (connected .entry))) most r ⌝ }
+{
+    let mut l = [0; LANE_CELLS];
+    for k in 0..LANE_CELLS {
+        l[k] = limits_of(k, connected, most);
+    }
+    l
+}
+
+// Whether none of every second lane of x is above that of l: then the bit above it is left. False says nothing.
+fn even_under(x: u64, l: u64) -> bool
+    ensures { λ r. ⌜ (r ≡ true → EvenUnder x l) ⌝ }
+{
+    ((l & EVENS) + GUARDS - (x & EVENS)) & GUARDS == GUARDS
+}
+
+// Whether no lane of x is above that of l. False says nothing.
+fn under(x: u64, l: u64) -> bool
+    ensures { λ r. ⌜ (r ≡ true → Under x l) ⌝ }
+{
+    even_under(x, l) & even_under(x / LANE, l / LANE)
+}
+
+// Whether the lanes of the k-th cell of a row are within their bounds, one by one.
+fn lanes_ok(x: u64, k: usize, connected: &[u64; WORDS], most: u64) -> bool
     requires { ⌜ k < laneCells ⌝ }
     ensures { λ r. ⌜ r ≡ cellFits (onBits (now (connected .entry))) most k x ⌝ }
 {
-    if x == 0 {
-        return true;
-    }
     let mut j: usize = 0;
     while j < LANES {
         if !lane_ok(lane(x, j), LANES * k + j, connected, most) {
@@ -310,13 +369,33 @@ fn cell_ok(x: u64, k: usize, connected: &[u64; WORDS], most: u64) -> bool
     true
 }
 
-fn row_ok(cells: &[u64], r: usize, connected: &[u64; WORDS], most: u64) -> bool
-    requires { ⌜ (length (now cells) ≡ repliesCells) × (r < rowsMost) ⌝ }
+// The same, mostly by one look at all lanes; l are their limits.
+fn cell_ok(x: u64, k: usize, l: u64, connected: &[u64; WORDS], most: u64) -> bool
+    requires { ⌜ (k < laneCells) × Allows (onBits (now connected)) most k l ⌝ }
+    ensures { λ r. ⌜ r ≡ cellFits (onBits (now (connected .entry))) most k x ⌝ }
+{
+    if x == 0 {
+        return true;
+    }
+    if under(x, l) {
+        return true;
+    }
+    lanes_ok(x, k, connected, most)
+}
+
+fn row_ok(
+    cells: &[u64],
+    r: usize,
+    l: &[u64; LANE_CELLS],
+    connected: &[u64; WORDS],
+    most: u64,
+) -> bool
+    requires { ⌜ RowLimits (onBits (now connected)) most (now cells) (now l) r ⌝ }
     ensures { λ b. ⌜ b ≡ lanesFit (onBits (now (connected .entry))) most (now (cells .entry)) r ⌝ }
 {
     let mut k: usize = 0;
     while k < LANE_CELLS {
-        if !cell_ok(cells[1 + r * ROW_CELLS + (2 + k)], k, connected, most) {
+        if !cell_ok(cells[1 + r * ROW_CELLS + (2 + k)], k, l[k], connected, most) {
             return false;
         }
         k += 1;
@@ -335,24 +414,36 @@ fn rises_at(cells: &[u64], r: usize) -> bool
     cells[1 + (r - 1) * ROW_CELLS] < cells[1 + r * ROW_CELLS]
 }
 
-// Whether the rows are few enough, rise, and hold no count above `most`, and none of a slot that is not connected.
-pub fn rows_ok(cells: &[u64], connected: &[u64; WORDS], most: u64) -> bool
-    requires { ⌜ length (now cells) ≡ repliesCells ⌝ }
+// Whether the rows, which are few enough, rise and are within their bounds; l are the limits of a row.
+fn all_ok(cells: &[u64], l: &[u64; LANE_CELLS], connected: &[u64; WORDS], most: u64) -> bool
+    requires { ⌜ RowsLimits (onBits (now connected)) most (now cells) (now l) ⌝ }
     ensures { λ b. ⌜ b ≡ rowsOk (onBits (now (connected .entry))) most (repliesOf (now (cells .entry))) ⌝ }
 {
     let u = cells[0] as usize;
-    if ROWS < u {
-        return false;
-    }
     let mut r: usize = 0;
     while r < u {
         if !rises_at(cells, r) {
             return false;
         }
-        if !row_ok(cells, r, connected, most) {
+        if !row_ok(cells, r, l, connected, most) {
             return false;
         }
         r += 1;
     }
     true
+}
+
+// Whether the rows are few enough, rise, and hold no count above `most`, and none of a slot that is not connected.
+pub fn rows_ok(cells: &[u64], connected: &[u64; WORDS], most: u64) -> bool
+    requires { ⌜ length (now cells) ≡ repliesCells ⌝ }
+    ensures { λ b. ⌜ b ≡ rowsOk (onBits (now (connected .entry))) most (repliesOf (now (cells .entry))) ⌝ }
+{
+    if cells[0] == 0 {
+        return true;
+    }
+    if (ROWS as u64) < cells[0] {
+        return false;
+    }
+    let l = limits(connected, most);
+    all_ok(cells, &l, connected, most)
 }

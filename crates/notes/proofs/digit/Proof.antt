@@ -1,5 +1,5 @@
 use borrow.Author.Needs.{needs}
-use Rattle.notes.proofs.DigitLaws.{shifted, digit-lt}
+use Rattle.notes.proofs.DigitLaws.{shifted}
 use native.Mathlib.Omega.{arith}
 use Rattle.notes.proofs.digit.Statement.{statement}
 use Rattle.notes.proofs.digit.Tie as tie

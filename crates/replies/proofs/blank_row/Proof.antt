@@ -1,6 +1,6 @@
 -- `replies::blank_row`: after k turns the first k cells of the row are 0.
-use Prim.Native.Nat.{_+_, _-_, _≤_}
-use mathlib.Core.Path.{_≡_, refl, _∙_}
+use Prim.Native.Nat.{_-_, _≤_}
+use mathlib.Core.Path.{refl}
 use native.Mathlib.Omega.{arith}
 use lib.ListN.{length-set}
 use Rattle.replies.specs.View.{startOf, Run}

@@ -1,6 +1,5 @@
 -- `replies::copy_row`: after k turns the first k cells of the row are those of the other.
 use Prim.Native.Nat.{_+_, _-_, _≤_}
-use mathlib.Core.Path.{_≡_, _∙_}
 use native.Mathlib.Omega.{arith}
 use lib.ListN.{getD}
 use Rattle.replies.specs.View.{startOf, Run}

@@ -1,8 +1,7 @@
 -- `replies::count`: the first row from which on no number is smaller is the only one that can be that of n.
-use mathlib.Core.Path.{_≡_, sym, _∙_}
+use mathlib.Core.Path.{sym, _∙_}
 use native.Mathlib.Omega.{arith}
 use borrow.Author.Needs.{needs}
-use Rattle.replies.specs.View.{rowsIn, repliesOf}
 use Rattle.replies.proofs.RowLaws.{rows-length}
 use Rattle.replies.proofs.CallLaws.{found-here, not-found}
 use Rattle.replies.proofs.count.Statement.{statement}
@@ -12,7 +11,8 @@ count-at-requires : tie.Need-count-at-requires
 count-at-requires c κs =
     let s = c .before .before .before .before in
     let p = c .before .before .place-of in
-    let f = found-here (s .args .cells .now) (s .args .n) (s .args .slot) (p .result) (p .ensures) (sym (c .before .is-row .ensures) ∙ c .if1 .taken) in
+    let t = sym (c .before .is-row .ensures) ∙ c .if1 .taken in
+    let f = found-here (s .args .cells .now) (s .args .n) (s .args .slot) (p .result) (p .ensures) t in
     let e = rows-length (s .args .cells .now) in
     let h = f .0 in
     record { size = s .pre .size; row = omega arith; slot = s .pre .slot }

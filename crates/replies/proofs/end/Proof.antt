@@ -30,7 +30,8 @@ loop-again : tie.Need-loop-again Inv-loop μ-loop
 loop-again c =
     let s = c .before .before .before .before .before .before .before .before in
     let l = c .before .before .before .before .before .loop in
-    (omega arith, l .inv .1, ending-more (s .args .cells .now) (l .cells) _ (s .args .slot) (l .r) (l .inv .2) (c .before .before .end-count .ensures))
+    let e = c .before .before .end-count .ensures in
+    (omega arith, l .inv .1, ending-more (s .args .cells .now) (l .cells) _ (s .args .slot) (l .r) (l .inv .2) e)
 
 returns : tie.Need-returns Inv-loop μ-loop
 returns c =

@@ -1,5 +1,5 @@
 -- `replies::insert`: a place is opened, a row put there, and one row more is in use.
-use mathlib.Core.Path.{_≡_, refl, _∙_}
+use mathlib.Core.Path.{refl, _∙_}
 use native.Mathlib.Omega.{arith}
 use lib.ListN.{length-set}
 use Rattle.replies.proofs.CallLaws.{insert-rows}
@@ -12,7 +12,16 @@ open-rows-requires c κs =
     record { size = s .pre .size; place = s .pre .place; room = s .pre .room }
 
 blank-row-requires : tie.Need-blank-row-requires
-blank-row-requires c κs = let s = c .before .before .before .before .before .before .before in (c .before .before .before .open-rows .ensures .size ∙ s .pre .size, omega arith)
+blank-row-requires c κs =
+    let o = c .before .before .before in
+    let s = o .before .before .before .before in
+    (o .open-rows .ensures .size ∙ s .pre .size, omega arith)
+
+same-length : tie.Need-same-length
+same-length c =
+    let b = c .before .before in
+    let o = b .before .before .before .before in
+    simp length-set (b .blank-row .ensures .size ∙ o .open-rows .ensures .size)
 
 returns : tie.Need-returns
 returns c =
@@ -33,5 +42,5 @@ insert-spec =
     blank-row-requires
     (λ c. omega arith)
     (λ c. let r = c .before .before .blank-row .ensures .size in omega arith)
-    (λ c. simp length-set (c .before .before .blank-row .ensures .size ∙ c .before .before .before .before .before .before .open-rows .ensures .size))
+    same-length
     returns)

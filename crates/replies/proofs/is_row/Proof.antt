@@ -1,8 +1,7 @@
 -- `replies::is_row`: the number of a row in use is compared; any other place has none.
-use mathlib.Core.Path.{_≡_, sym, ap, _∙_}
+use mathlib.Core.Path.{sym, ap, _∙_}
 use native.Mathlib.Omega.{arith}
 use lib.Dec.{eqb}
-use borrow.Author.Needs.{needs}
 use Rattle.replies.specs.View.{repliesOf}
 use Rattle.replies.proofs.RowLaws.{rows-length, number-load}
 use Rattle.replies.proofs.CallLaws.{row-in, row-out}

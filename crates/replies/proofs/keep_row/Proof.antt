@@ -1,5 +1,4 @@
 -- `replies::keep_row`: the rows below the next place are those before it and, if it is kept, the row itself.
-use mathlib.Core.Path.{_≡_}
 use native.Mathlib.Omega.{arith}
 use Rattle.replies.proofs.CallLaws.{passed-over, passed-stay, passed-down}
 use Rattle.replies.proofs.keep_row.Statement.{statement}
@@ -18,8 +17,9 @@ copy-row-requires c κs =
 returns-2 : tie.Need-returns-2
 returns-2 c =
     let s = c .before .before .before .before .before .before .before in
-    passed-down (s .args .cells .now) (s .args .from) (s .args .to) (s .pre .low) _ (s .args .kept) (c .before .before .before .before .before .if1 .left)
-    (c .before .before .before .before .if2 .taken) (c .before .before .copy-row .ensures)
+    let i = c .before .before .before .before in
+    passed-down (s .args .cells .now) (s .args .from) (s .args .to) (s .pre .low) _ (s .args .kept) (i .before .if1 .left)
+    (i .if2 .taken) (c .before .before .copy-row .ensures)
 
 returns-3 : tie.Need-returns-3
 returns-3 c =

@@ -29,10 +29,11 @@ keep-row-requires c κs =
 loop-again : tie.Need-loop-again Inv-loop μ-loop
 loop-again c =
     let s = c .before .before .before .before .before .before .before .before .before .before in
-    let l = c .before .before .before .before .before .before .loop in (
+    let l = c .before .before .before .before .before .before .loop in
+    let k = c .before .before .keep-row .ensures in (
       omega arith,
       l .inv .1,
-      keeping-more (s .args .cells .now) (s .args .flags .now) (l .cells) _ (l .r) (l .w) _ (l .inv .2) (c .before .before .keep-row .ensures),
+      keeping-more (s .args .cells .now) (s .args .flags .now) (l .cells) _ (l .r) (l .w) _ (l .inv .2) k,
     )
 
 returns : tie.Need-returns Inv-loop μ-loop
@@ -40,7 +41,8 @@ returns c =
     let s = c .before .before .before .before .before in
     let l = c .before .loop in
     λ f say.
-    keeping-done (s .args .cells .now) (s .args .flags .now) (l .cells) (l .r) (l .w) f (s .pre .size) (omega arith) (l .inv .0) (l .inv .2) say
+    keeping-done (s .args .cells .now) (s .args .flags .now) (l .cells) (l .r) (l .w) f (s .pre .size) (omega arith) (l .inv .0)
+    (l .inv .2) say
 
 pub keep-rows-spec : {M : Type 1} → statement M
 keep-rows-spec =

@@ -3,7 +3,6 @@ use mathlib.Core.Path.{ap, _∙_}
 use mathlib.Core.Bool.{Bool, _&&_, _||_}
 use lib.Dec.{leb, eqb}
 use Rattle.records.specs.Records.{slotCount}
-use borrow.Author.Needs.{needs}
 use Rattle.replies.specs.Asked.{onBits}
 use Rattle.replies.proofs.TestLaws.{lane-test}
 use Rattle.replies.proofs.lane_ok.Statement.{statement}

@@ -1,6 +1,6 @@
 -- `replies::open_rows`: when k rows are left to look at, those from k on below u are one place higher.
 use Prim.Native.Nat.{_-_, _≤_}
-use mathlib.Core.Path.{_≡_, _∙_}
+use mathlib.Core.Path.{_∙_}
 use native.Mathlib.Omega.{arith}
 use Rattle.replies.specs.View.{Opened}
 use Rattle.replies.proofs.CallLaws.{open-none, open-more, open-done}
@@ -33,7 +33,8 @@ loop-again : tie.Need-loop-again Inv-loop μ-loop
 loop-again c =
     let s = c .before .before .before .before .before .before .before in
     let l = c .before .before .before .before .before .loop in
-    (omega arith, omega arith, open-more (s .args .cells .now) (l .cells) _ (l .k) (s .args .u) (omega arith) (l .inv .2) (c .before .before .copy-row .ensures))
+    let r = c .before .before .copy-row .ensures in
+    (omega arith, omega arith, open-more (s .args .cells .now) (l .cells) _ (l .k) (s .args .u) (omega arith) (l .inv .2) r)
 
 returns : tie.Need-returns Inv-loop μ-loop
 returns c =

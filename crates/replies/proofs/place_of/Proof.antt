@@ -1,6 +1,6 @@
 -- `replies::place_of`: below `low` every number is smaller, and from `high` on none is.
-use Prim.Native.Nat.{_-_, _≤_, _+_, _/_}
-use mathlib.Core.Path.{_≡_, sym, _∙_}
+use Prim.Native.Nat.{_-_, _+_, _/_}
+use mathlib.Core.Path.{_≡_, sym}
 use native.Mathlib.Omega.{arith}
 use lib.ListN.{length}
 use Rattle.replies.specs.View.{rowsIn, repliesOf}

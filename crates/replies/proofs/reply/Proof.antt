@@ -1,6 +1,5 @@
 -- `replies::reply`: the row of n is there, or is put at its place in order; then its count is one more.
-use Prim.Native.Nat.{_<_}
-use mathlib.Core.Path.{_≡_, sym, _∙_}
+use mathlib.Core.Path.{sym, _∙_}
 use native.Mathlib.Omega.{arith}
 use borrow.Author.Needs.{needs}
 use Rattle.replies.proofs.RowLaws.{rows-length}
@@ -22,7 +21,8 @@ returns : tie.Need-returns
 returns c =
     let s = c .before .before .before .before .before .before .before .before .before .before in
     let p = c .before .before .before .before .before .before .before .place-of in
-    let t = sym (c .before .before .before .before .before .is-row .ensures) ∙ c .before .before .before .before .if1 .taken in
+    let w = c .before .before .before .before in
+    let t = sym (w .before .is-row .ensures) ∙ w .if1 .taken in
     reply-here (s .args .cells .now) (s .args .n) (s .args .slot) (p .result) (p .ensures) _ t (c .before .before .add-count .ensures)
 
 insert-requires : tie.Need-insert-requires
@@ -42,7 +42,8 @@ add-count-requires-2 : tie.Need-add-count-requires-2
 add-count-requires-2 c κs =
     let s = c .before .before .before .before .before .before .before .before .before .before .before in
     let p = c .before .before .before .before .before .before .before .before .place-of in
-    let t = sym (c .before .before .before .before .before .before .is-row .ensures) ∙ c .before .before .before .before .before .if1 .left in
+    let w = c .before .before .before .before .before in
+    let t = sym (w .before .is-row .ensures) ∙ w .if1 .left in
     let i = c .before .before .before .insert .ensures in
     let e = rows-length (s .args .cells .now) in
     let l = p .ensures .low in
@@ -56,10 +57,12 @@ add-count-requires-2 c κs =
 
 returns-2 : tie.Need-returns-2
 returns-2 c =
-    let s = c .before .before .before .before .before .before .before .before .before .before .before .before .before .before in
-    let p = c .before .before .before .before .before .before .before .before .before .before .before .place-of in
-    let t = sym (c .before .before .before .before .before .before .before .before .before .is-row .ensures) ∙ c .before .before .before .before .before .before .before .before .if1 .left in
-    reply-new (s .args .cells .now) (s .args .n) (s .args .slot) (p .result) (p .ensures) _ (c .before .before .before .before .before .before .insert .ensures .rows) _ t
+    let i = c .before .before .before .before .before .before in
+    let w = i .before .before in
+    let p = w .before .before .before .place-of in
+    let s = w .before .before .before .before .before .before in
+    let t = sym (w .before .is-row .ensures) ∙ w .if1 .left in
+    reply-new (s .args .cells .now) (s .args .n) (s .args .slot) (p .result) (p .ensures) _ (i .insert .ensures .rows) _ t
     (c .before .before .add-count2 .ensures) (s .pre .slot)
 
 pub reply-spec : {M : Type 1} → statement M

@@ -1,0 +1,18 @@
+use mathlib.Core.Path.{refl}
+use borrow.Author.Needs.{needs}
+use Rattle.stores.specs.Marks.{isMarked}
+use Rattle.stores.proofs.marks.is_marked.Statement.{statement}
+use Rattle.stores.proofs.marks.is_marked.Tie as tie
+
+returns : tie.Need-returns
+unfolding isMarked
+returns c = refl
+
+pub is-marked-spec : {M : Type 1} → statement M
+is-marked-spec =
+    tie.close
+    (tie.spec
+    (λ c. search needs)
+    (λ c. search needs)
+    (λ c. search needs)
+    returns)

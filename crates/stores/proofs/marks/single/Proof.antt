@@ -1,0 +1,16 @@
+use Prim.Native.Nat.{_^_}
+use native.Mathlib.Nat.{one-mul}
+use native.Mathlib.Omega.{arith}
+use mathlib.Core.Path.{_∙_}
+use lib.Pow.{shl-exact}
+use borrow.Author.Needs.{needs}
+use Rattle.stores.specs.Marks.{wordBits}
+use Rattle.stores.proofs.marks.single.Statement.{statement}
+use Rattle.stores.proofs.marks.single.Tie as tie
+
+pub single-spec : {M : Type 1} → statement M
+single-spec =
+    tie.close
+    (tie.spec
+    (λ c. search needs)
+    (λ c. shl-exact 1 (c .args .k) wordBits (omega arith) (omega arith) ∙ one-mul (2 ^ c .args .k)))
