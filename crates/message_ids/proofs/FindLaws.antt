@@ -12,7 +12,8 @@ use lib.ListN.{length, getD}
 use Rattle.index.specs.declared.Found.{Found}
 use Rattle.index.specs.declared.Found.the-variants.{At, Nothing}
 use Rattle.index.proofs.Index.{both, first-is}
-use Rattle.message_ids.specs.Ids.{idSize, idStart, sameAt, isId, rowOf, numberRow, codeOf, rowCode, idsOk, numberBy, numbersOk, Compared}
+use Rattle.message_ids.specs.Ids.{idSize, idStart, sameAt, isId, rowOf, numberRow, codeOf, rowCode, idsOk, numberBy, numbersOk}
+use Rattle.message_ids.specs.Ids.{Compared}
 use Rattle.message_ids.specs.Once.{NoIdTwice, NoNumberTwice}
 use Rattle.message_ids.specs.declared.Order.{Order}
 use Rattle.message_ids.specs.declared.Order.the-variants.{Before, Same, After}

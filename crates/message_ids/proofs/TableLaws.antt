@@ -10,7 +10,8 @@ use lib.Dec.{eqb, ltb, leb}
 use lib.ListN.{length, getD}
 use Rattle.index.proofs.Kit.{by-order}
 use Rattle.index.proofs.Index.{both, every-at}
-use Rattle.message_ids.specs.Ids.{idBytes, rowBytes, idSize, idStart, rowCode, codeOf, idOk, idsOk, numberBy, placeOk, numbersOk, tableOk}
+use Rattle.message_ids.specs.Ids.{idBytes, rowBytes, idSize, idStart, rowCode, codeOf, idOk, idsOk, numberBy, placeOk, numbersOk}
+use Rattle.message_ids.specs.Ids.{tableOk}
 use Rattle.message_ids.specs.Ids.{Compared}
 use Rattle.message_ids.specs.declared.Order.{Order}
 use Rattle.message_ids.specs.declared.Order.the-variants.{Before, Same, After}

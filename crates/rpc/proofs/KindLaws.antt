@@ -157,7 +157,8 @@ module _ (number wire : ℕ) where
       let c = cond (eqb number 5 && eqb wire 2) (Inner idontwant) Skipped in
       let b = cond (eqb number 4 && eqb wire 2) (Entry prune) c in
       let z = id-row (eqb number 3 && eqb wire 2) (Entry graft) b refl
-      (id-row (eqb number 4 && eqb wire 2) (Entry prune) c refl (id-row (eqb number 5 && eqb wire 2) (Inner idontwant) Skipped refl refl)) in
+      (id-row (eqb number 4 && eqb wire 2) (Entry prune) c refl (id-row (eqb number 5 && eqb wire 2) (Inner idontwant) Skipped refl refl))
+      in
       omega (arith, sym z ∙ ap idIn e)
 
   pub rpc-id : roleOf rpc number wire ≡ Id → ⊥
@@ -213,7 +214,9 @@ kindIn Value = 0
 by-rows :
     (a b c d e f g h i j k : Bool) →
     kindIn
-    (cond a (Entry subscription) (cond b (Inner control) (cond c (Entry graft) (cond d (Entry prune) (cond e (Inner idontwant) (cond f Value (cond g Name (cond h Name (cond i Name (cond j Value (cond k Id Skipped)))))))))))
+    (cond a (Entry subscription) (cond b (Inner control) (cond c (Entry graft)
+    (cond d (Entry prune) (cond e (Inner idontwant) (cond f Value
+    (cond g Name (cond h Name (cond i Name (cond j Value (cond k Id Skipped)))))))))))
     ≤ 2
 by-rows true b c d e f g h i j k = omega arith
 by-rows false true c d e f g h i j k = omega arith

@@ -63,7 +63,7 @@ named-long names topic number a b h =
     let p = part-one number N h (omega arith) in
     omega (arith, length-append a (partField number N ++ b), length-append (partField number N) b)
 
-named-most :
+pub named-most :
     (lent : Known) (kind topic v : ℕ) → Fits lent kind topic v → (kind ≡ 3 → ⊥) →
     length (namedBytes (lent .names) kind topic v) + one (eqb kind 0) ≤ 69
 unfolding namedBytes
@@ -169,7 +169,7 @@ module _ (lent : Known) (short : ShortIds lent) where
       omega (arith, part-long 5 I (omega arith) (omega arith))))
 
   -- ---- the control message, the message
-  control-most :
+  pub control-most :
       (list : List ℕ) (n : ℕ) → listOk lent list n ≡ true →
       length (kindBytes lent list n 0 1) + length (controlBytes lent list n) + count n (isSub list) ≤ 71 * n
   unfolding controlBytes kindBytes

@@ -1,5 +1,6 @@
 -- An RPC written from a list of entries (02, orders 4 and 6), three numbers each, as the reader lists them: kind, topic, value; of an
--- IDONTWANT entry 0 and the message's number. "fields in ascending order, one control field or none, shortest numbers, absent rather than zero."
+-- IDONTWANT entry 0 and the message's number. "fields in ascending order, one control field or none, shortest numbers, absent rather than
+-- zero."
 use Prim.Native.Nat.{ℕ, _+_, _-_, _*_, _≤_, _<_}
 use mathlib.Core.Path.{_≡_}
 use mathlib.Core.Bool.{Bool, true, false, _&&_, _||_, cond}
@@ -132,8 +133,8 @@ pub record Writing : Type 0 where
   pub answer : Wrote
   pub bytes : List ℕ
 
--- "a buffer shorter than the message, and here only that, a new number 13. The buffer is unchanged by either, and past the message." Order 6:
--- a table with an id or number twice is 2 too.
+-- "a buffer shorter than the message, and here only that, a new number 13. The buffer is unchanged by either, and past the message." Order
+-- 6: a table with an id or number twice is 2 too.
 unfoldable pub writeOf : Known → List ℕ → List ℕ → ℕ → List ℕ → Writing
 writeOf k order list n buf =
     cond (tableOk (k .ids) (k .numbers) order && listOk k list n)

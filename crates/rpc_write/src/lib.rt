@@ -332,7 +332,8 @@ fn one_size(
     number: u64,
 ) -> usize
     requires { ⌜ (tableOk (now ids) (now numbers) (now order) ≡ true) × (((own ≡ idontwant → ⊥) → v < 16384) × (number < 16)) ⌝ }
-    ensures { λ r. ⌜ (r ≡ length (oneBytes (known (now (names .entry)) (now (ids .entry)) (now (numbers .entry))) own topic v kind number)) × (r ≤ 80) ⌝ }
+    ensures { λ r. ⌜ (r ≡ length (oneBytes (known (now (names .entry)) (now (ids .entry)) (now (numbers .entry))) own topic v kind number))
+        × (r ≤ 80) ⌝ }
 {
     if own != kind {
         return 0;
@@ -356,8 +357,10 @@ fn put_one(
     kind: u64,
     number: u64,
 ) -> usize
-    requires { ⌜ (tableOk (now ids) (now numbers) (now order) ≡ true) × (((own ≡ idontwant → ⊥) → v < 16384) × ((number < 16) × (at < 800000))) ⌝ }
-    ensures { λ r. ⌜ Puts buf at (oneBytes (known (now (names .entry)) (now (ids .entry)) (now (numbers .entry))) own topic v kind number) 80 r ⌝ }
+    requires { ⌜ (tableOk (now ids) (now numbers) (now order) ≡ true) ×
+        (((own ≡ idontwant → ⊥) → v < 16384) × ((number < 16) × (at < 800000))) ⌝ }
+    ensures { λ r. ⌜ Puts buf at (oneBytes (known (now (names .entry)) (now (ids .entry)) (now (numbers .entry))) own topic v kind number)
+        80 r ⌝ }
 {
     if own != kind {
         return at;
@@ -384,7 +387,8 @@ fn kind_size(
     number: u64,
 ) -> usize
     requires { ⌜ (Given (now names) (now ids) (now numbers) (now order) (now list) n) × (number < 16) ⌝ }
-    ensures { λ r. ⌜ (r ≡ length (kindBytes (known (now (names .entry)) (now (ids .entry)) (now (numbers .entry))) (now (list .entry)) n kind number)) × (r ≤ 5760) ⌝ }
+    ensures { λ r. ⌜ (r ≡ length (kindBytes (known (now (names .entry)) (now (ids .entry)) (now (numbers .entry))) (now (list .entry)) n
+        kind number)) × (r ≤ 5760) ⌝ }
 {
     let mut size: usize = 0;
     let mut i: usize = 0;
@@ -419,7 +423,8 @@ fn put_kind(
     number: u64,
 ) -> usize
     requires { ⌜ (Given (now names) (now ids) (now numbers) (now order) (now list) n) × ((number < 16) × (at < 700000)) ⌝ }
-    ensures { λ r. ⌜ Puts buf at (kindBytes (known (now (names .entry)) (now (ids .entry)) (now (numbers .entry))) (now (list .entry)) n kind number) 5760 r ⌝ }
+    ensures { λ r. ⌜ Puts buf at (kindBytes (known (now (names .entry)) (now (ids .entry)) (now (numbers .entry))) (now (list .entry)) n
+        kind number) 5760 r ⌝ }
 {
     let mut place = at;
     let mut i: usize = 0;
@@ -454,7 +459,8 @@ fn notices_size(
     n: usize,
 ) -> usize
     requires { ⌜ Given (now names) (now ids) (now numbers) (now order) (now list) n ⌝ }
-    ensures { λ r. ⌜ (r ≡ length (innerField 5 (kindBytes (known (now (names .entry)) (now (ids .entry)) (now (numbers .entry))) (now (list .entry)) n idontwant 1)))
+    ensures { λ r. ⌜ (r ≡ length (innerField 5 (kindBytes (known (now (names .entry)) (now (ids .entry)) (now (numbers .entry)))
+        (now (list .entry)) n idontwant 1)))
         × (r ≤ 5764) ⌝ }
 {
     let size = kind_size(names, ids, numbers, order, list, n, IDONTWANT, MESSAGE_ID);
@@ -475,7 +481,8 @@ fn put_notices(
     n: usize,
 ) -> usize
     requires { ⌜ Given (now names) (now ids) (now numbers) (now order) (now list) n × (at < 650000) ⌝ }
-    ensures { λ r. ⌜ Puts buf at (innerField 5 (kindBytes (known (now (names .entry)) (now (ids .entry)) (now (numbers .entry))) (now (list .entry)) n idontwant 1))
+    ensures { λ r. ⌜ Puts buf at (innerField 5 (kindBytes (known (now (names .entry)) (now (ids .entry)) (now (numbers .entry)))
+        (now (list .entry)) n idontwant 1))
         5764 r ⌝ }
 {
     let size = kind_size(names, ids, numbers, order, list, n, IDONTWANT, MESSAGE_ID);
@@ -524,7 +531,8 @@ fn put_control(
     n: usize,
 ) -> usize
     requires { ⌜ Given (now names) (now ids) (now numbers) (now order) (now list) n × (at < 600000) ⌝ }
-    ensures { λ r. ⌜ Puts buf at (controlBytes (known (now (names .entry)) (now (ids .entry)) (now (numbers .entry))) (now (list .entry)) n) 17284 r ⌝ }
+    ensures { λ r. ⌜ Puts buf at (controlBytes (known (now (names .entry)) (now (ids .entry)) (now (numbers .entry))) (now (list .entry)) n)
+        17284 r ⌝ }
 {
     let a = put_kind(buf, at, names, ids, numbers, order, list, n, GRAFT, GRAFTS);
     let b = put_kind(buf, a, names, ids, numbers, order, list, n, PRUNE, PRUNES);
@@ -542,8 +550,10 @@ fn put_control_field(
     n: usize,
     size: usize,
 ) -> usize
-    requires { ⌜ (Given (now names) (now ids) (now numbers) (now order) (now list) n) × (ControlSize (known (now names) (now ids) (now numbers)) (now list) n size × (at < 500000)) ⌝ }
-    ensures { λ r. ⌜ Puts buf at (innerField 3 (controlBytes (known (now (names .entry)) (now (ids .entry)) (now (numbers .entry))) (now (list .entry)) n)) 17288 r ⌝ }
+    requires { ⌜ (Given (now names) (now ids) (now numbers) (now order) (now list) n) ×
+        (ControlSize (known (now names) (now ids) (now numbers)) (now list) n size × (at < 500000)) ⌝ }
+    ensures { λ r. ⌜ Puts buf at (innerField 3 (controlBytes (known (now (names .entry)) (now (ids .entry)) (now (numbers .entry)))
+        (now (list .entry)) n)) 17288 r ⌝ }
 {
     if size == 0 {
         return at;
@@ -563,7 +573,8 @@ fn message_size(
     n: usize,
     control: usize,
 ) -> usize
-    requires { ⌜ (Given (now names) (now ids) (now numbers) (now order) (now list) n) × ControlSize (known (now names) (now ids) (now numbers)) (now list) n control ⌝ }
+    requires { ⌜ (Given (now names) (now ids) (now numbers) (now order) (now list) n) × ControlSize
+        (known (now names) (now ids) (now numbers)) (now list) n control ⌝ }
     ensures { λ r. ⌜ r ≡ length (messageOf (known (now (names .entry)) (now (ids .entry)) (now (numbers .entry))) (now (list .entry)) n) ⌝ }
 {
     let a = kind_size(
@@ -592,8 +603,10 @@ fn put_message(
     n: usize,
     control: usize,
 ) -> usize
-    requires { ⌜ (Given (now names) (now ids) (now numbers) (now order) (now list) n) × ControlSize (known (now names) (now ids) (now numbers)) (now list) n control ⌝ }
-    ensures { λ r. ⌜ Stored (now (buf .entry)) 0 (messageOf (known (now (names .entry)) (now (ids .entry)) (now (numbers .entry))) (now (list .entry)) n) r (now (buf .exit)) ⌝ }
+    requires { ⌜ (Given (now names) (now ids) (now numbers) (now order) (now list) n) × ControlSize
+        (known (now names) (now ids) (now numbers)) (now list) n control ⌝ }
+    ensures { λ r. ⌜ Stored (now (buf .entry)) 0 (messageOf (known (now (names .entry)) (now (ids .entry)) (now (numbers .entry)))
+        (now (list .entry)) n) r (now (buf .exit)) ⌝ }
 {
     let a = put_kind(
         buf,
@@ -691,7 +704,8 @@ pub fn write(
     n: usize,
     buf: &mut [u8],
 ) -> Wrote
-    ensures { λ r. ⌜ Writes (writeOf (known (now (names .entry)) (now (ids .entry)) (now (numbers .entry))) (now (order .entry)) (now (list .entry)) n (now (buf .entry))) r buf ⌝ }
+    ensures { λ r. ⌜ Writes (writeOf (known (now (names .entry)) (now (ids .entry)) (now (numbers .entry))) (now (order .entry))
+        (now (list .entry)) n (now (buf .entry))) r buf ⌝ }
 {
     if !table_ok(ids, numbers, order) {
         return Wrote::NotList;

@@ -20,11 +20,13 @@ compare-spec =
     (λ c. omega arith) (λ c. omega arith) (λ c. omega arith) (λ c. omega arith)
     (λ c.
     let w = c .before .before .before .before .loop .inv .1 in
-    let y = c .before .shared-slice-known2 .given (c .before .before .before .before .before .before .before .args .j + c .before .before .before .before .loop .k) in
+    let y = c .before .shared-slice-known2 .given (c .before .before .before .before .before .before .before .args .j +
+    c .before .before .before .before .loop .k) in
     compared-less _ _ _ _ _ _ (omega arith) (omega arith) _ w (omega arith) (omega (arith, y)) (c .if3 .taken))
     (λ c.
     let w = c .before .before .before .before .before .loop .inv .1 in
-    let y = c .before .before .before .shared-slice-known .given (c .before .before .before .before .before .before .before .before .args .i + c .before .before .before .before .before .loop .k) in
+    let y = c .before .before .before .shared-slice-known .given
+    (c .before .before .before .before .before .before .before .before .args .i + c .before .before .before .before .before .loop .k) in
     compared-more _ _ _ _ _ _ (omega arith) (omega arith) _ w (omega arith) (omega (arith, y)) (c .if4 .taken))
     (λ c. omega arith) (λ c. omega arith)
     (λ c.

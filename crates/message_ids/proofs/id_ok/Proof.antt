@@ -18,10 +18,13 @@ id-ok-spec =
     (λ c. search needs) (λ c. search needs) (λ c. search needs)
     (λ c.
     let r = c .before .before .compare-row .ensures in
-    id-rises _ _ _ (c .before .before .before .before .before .before .wide .ensures) (c .before .before .before .before .before .if1 .left) (c .before .before .before .before .if2 .left) (c .before .before .before .if3 .left) _ r (c .enum-told .given .1))
+    id-rises _ _ _ (c .before .before .before .before .before .before .wide .ensures) (c .before .before .before .before .before .if1 .left)
+    (c .before .before .before .before .if2 .left) (c .before .before .before .if3 .left) _ r (c .enum-told .given .1))
     (λ c.
     let r = c .before .before .compare-row .ensures in
-    id-same _ _ _ (c .before .before .before .before .before .before .wide .ensures) (c .before .before .before .before .before .if1 .left) (c .before .before .before .before .if2 .left) (c .before .before .before .if3 .left) _ r (c .enum-told2 .given .1))
+    id-same _ _ _ (c .before .before .before .before .before .before .wide .ensures) (c .before .before .before .before .before .if1 .left)
+    (c .before .before .before .before .if2 .left) (c .before .before .before .if3 .left) _ r (c .enum-told2 .given .1))
     (λ c.
     let r = c .before .before .compare-row .ensures in
-    id-falls _ _ _ (c .before .before .before .before .before .before .wide .ensures) (c .before .before .before .before .before .if1 .left) (c .before .before .before .before .if2 .left) (c .before .before .before .if3 .left) _ r (c .enum-told3 .given .1)))
+    id-falls _ _ _ (c .before .before .before .before .before .before .wide .ensures) (c .before .before .before .before .before .if1 .left)
+    (c .before .before .before .before .if2 .left) (c .before .before .before .if3 .left) _ r (c .enum-told3 .given .1)))

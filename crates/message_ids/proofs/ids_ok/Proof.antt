@@ -19,7 +19,9 @@ ids-ok-spec =
     (λ c κs. (omega arith, (omega arith, c .before .loop .inv .1)))
     (λ c.
     let t = failed (c .before .id-ok .ensures) (c .if3 .taken) in
-    ids-bad _ _ (c .before .before .before .before .before .if1 .left) (c .before .before .before .before .if2 .left) _ (c .before .before .loop-test .taken) t)
+    ids-bad _ _ (c .before .before .before .before .before .if1 .left) (c .before .before .before .before .if2 .left) _
+    (c .before .before .loop-test .taken) t)
     (λ c. search needs) (λ c. search needs)
     (λ c. (omega arith, every-more _ _ (c .before .before .before .loop .inv .1) (passed (c .before .id-ok .ensures) (c .if3 .left))))
-    (λ c. ids-good _ _ (c .before .before .before .if1 .left) (c .before .before .if2 .left) _ (omega arith) (omega arith) (c .before .loop .inv .1)))
+    (λ c. ids-good _ _ (c .before .before .before .if1 .left) (c .before .before .if2 .left) _ (omega arith) (omega arith)
+    (c .before .loop .inv .1)))

@@ -28,12 +28,16 @@ number-row-spec =
     (λ c.
     let l = mid-low _ _ _ _ _ (c .before .before .before .pre) (c .before .before .loop .inv) (c .before .loop-test .taken) in
     search needs)
-    (λ c. mid-low _ _ _ _ _ (c .before .before .before .before .pre) (c .before .before .before .loop .inv) (c .before .before .loop-test .taken))
-    (λ c. parted-found _ _ (good-numbers _ _ (c .before .before .before .before .before .pre)) _ _ _ _ (c .before .before .before .before .loop .inv) (omega arith) (omega arith) (c .if1 .taken))
+    (λ c. mid-low _ _ _ _ _ (c .before .before .before .before .pre) (c .before .before .before .loop .inv)
+    (c .before .before .loop-test .taken))
+    (λ c. parted-found _ _ (good-numbers _ _ (c .before .before .before .before .before .pre)) _ _ _ _
+    (c .before .before .before .before .loop .inv) (omega arith) (omega arith) (c .if1 .taken))
     (λ c. omega arith) (λ c. omega arith)
-    (λ c. parted-up _ _ (good-numbers _ _ (c .before .before .before .before .before .before .pre)) _ _ _ _ (c .before .before .before .before .before .loop .inv) (omega arith) (omega arith) (c .if2 .taken))
+    (λ c. parted-up _ _ (good-numbers _ _ (c .before .before .before .before .before .before .pre)) _ _ _ _
+    (c .before .before .before .before .before .loop .inv) (omega arith) (omega arith) (c .if2 .taken))
     (λ c. omega arith)
     (λ c.
     let g = good-numbers _ _ (c .before .before .before .before .before .before .pre) in
-    parted-down _ _ g _ _ _ _ (c .before .before .before .before .before .loop .inv) (omega arith) (omega arith) (c .if2 .left) (c .before .if1 .left))
+    parted-down _ _ g _ _ _ _ (c .before .before .before .before .before .loop .inv) (omega arith) (omega arith) (c .if2 .left)
+    (c .before .if1 .left))
     (λ c. parted-all _ _ (good-numbers _ _ (c .before .before .pre)) _ _ _ (c .before .loop .inv) (c .loop-test .left)))

@@ -8,5 +8,6 @@ pub check-in-ids-spec : {M : Type 1} → statement M
 check-in-ids-spec =
     tie.close (tie.spec
     (λ c κs. search needs) (λ c κs. omega arith)
-    (λ c. counts-id _ (c .before .before .before .args .p) _ (c .before .before .is-id .ensures) _ (c .before .if1 .taken) (c .one-more .ensures))
+    (λ c. counts-id _ (c .before .before .before .args .p) _ (c .before .before .is-id .ensures) _ (c .before .if1 .taken)
+    (c .one-more .ensures))
     (λ c. counts-none _ (c .before .before .args .p) _ (c .before .is-id .ensures) (c .if1 .left)))

@@ -1,5 +1,5 @@
--- `rpc::put_ids` meets its contract: the loop's invariant is `Gathering`: the ids up to `place` are in the list, at the place of their kind;
--- and they are no more than the bytes. Assumes nothing.
+-- `rpc::put_ids` meets its contract: the loop's invariant is `Gathering`: the ids up to `place` are in the list, at the place of their
+-- kind; and they are no more than the bytes. Assumes nothing.
 use Rattle.index.proofs.Kit.{ℕ, _-_, _+_, _≤_, _≡_, refl, _∙_, needs, arith}
 use mathlib.Core.List.{List}
 use lib.ListN.{length}
@@ -40,7 +40,8 @@ put-ids-spec =
     let g = c .before .before .before .before .before .p .given .1 in
     let o = c .before .before .put-in-ids in
     let e = o .ensures in
-    let s = c .before .before .before .before .before .before .before .before .before .before .before .before .before .before .before .args .s .now in
+    let s = c .before .before .before .before .before .before .before .before .before .before .before .before .before .before .before .args
+    .s .now in
     let q = read-placed _ _ _ _ f g in
     let d = q .two in (
       o .kept .1 .1 .1 .1 .0 ∙ w .0,

@@ -1,5 +1,5 @@
--- `rpc::put_in_control` meets its contract: one field is an entry (`adds-entry`), an IDONTWANT with entries of its own, or skipped; the list
--- has room, since a field has more bytes than entries. Assumes nothing.
+-- `rpc::put_in_control` meets its contract: one field is an entry (`adds-entry`), an IDONTWANT with entries of its own, or skipped; the
+-- list has room, since a field has more bytes than entries. Assumes nothing.
 use Rattle.index.proofs.Kit.{needs, arith}
 use Rattle.rpc.proofs.CheckLaws.{take-count, take-below, take-from, take-room}
 use Rattle.rpc.proofs.KindLaws.{place-below}
@@ -29,7 +29,8 @@ put-in-control-spec =
     adds-entry _ _ _ _ _ _ _ _ ρ 1 _ _ _ _ _ (omega arith) k at (o _ _) (c .one-more .ensures))
     (λ c. search needs)
     (λ c.
-    let q = c .before .before .before .before .before .before .before .before .before .before .before .before .before .before .pre .1 .1 .1 .0 in
+    let q = c .before .before .before .before .before .before .before .before .before .before .before .before .before .before .pre .1 .1 .1
+    .0 in
     let ρ = c .before .before .before .before .before .before .before .role-of .ensures in
     let u = c .before .before .before .before .before .enum-told .given .1 in
     let o = c .before .before .put-ids .ensures in

@@ -15,5 +15,6 @@ control-size-spec =
     (λ c. omega (arith, c .before .before .kind-size .ensures .1, c .before .kind-size2 .ensures .1, c .notices-size .ensures .1))
     (λ c.
     let q = c .before .before .before .before .before .before .before .pre in
-    let e = control-length _ _ _ _ _ _ (c .before .before .kind-size .ensures .0) (c .before .kind-size2 .ensures .0) (c .notices-size .ensures .0) in
+    let e = control-length _ _ _ _ _ _ (c .before .before .kind-size .ensures .0) (c .before .kind-size2 .ensures .0)
+    (c .notices-size .ensures .0) in
     (e, control-long _ _ _ _ _ (q .0) (q .1) e)))

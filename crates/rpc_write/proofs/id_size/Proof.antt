@@ -10,15 +10,19 @@ id-size-spec =
     tie.close (tie.spec
     (λ c κs. table-parts _ _ _ (c .before .before .before .pre) .1) (λ c. search needs)
     (λ c.
-    let q = id-row _ _ _ (c .before .before .before .before .before .before .before .pre) _ _ (c .before .before .before .number-row .ensures) _ (c .before .k .given .1) in
+    let q = id-row _ _ _ (c .before .before .before .before .before .before .before .pre) _ _
+    (c .before .before .before .number-row .ensures) _ (c .before .k .given .1) in
     let l = q .low in
     let g = q .long in
     omega arith)
     (λ c.
-    let q = id-row _ _ _ (c .before .before .before .before .before .before .before .before .pre) _ _ (c .before .before .before .before .number-row .ensures) _ (c .before .before .k .given .1) in
+    let q = id-row _ _ _ (c .before .before .before .before .before .before .before .before .pre) _ _
+    (c .before .before .before .before .number-row .ensures) _ (c .before .before .k .given .1) in
     let l = q .low in
     let g = q .long in
     omega arith)
     (λ c κs. search needs) (λ c. search needs)
-    (λ c. id-size-is _ _ _ (c .before .before .before .before .before .before .before .before .before .pre) _ _ (c .before .before .before .before .before .number-row .ensures) _ (c .before .before .before .k .given .1) _ (c .wide .ensures))
-    (λ c. no-id _ _ _ (c .before .before .before .before .before .before .pre) _ _ (c .before .before .number-row .ensures) (c .enum-told .given .1)))
+    (λ c. id-size-is _ _ _ (c .before .before .before .before .before .before .before .before .before .pre) _ _
+    (c .before .before .before .before .before .number-row .ensures) _ (c .before .before .before .k .given .1) _ (c .wide .ensures))
+    (λ c. no-id _ _ _ (c .before .before .before .before .before .before .pre) _ _ (c .before .before .number-row .ensures)
+    (c .enum-told .given .1)))

@@ -1,4 +1,5 @@
--- `rpc_write::kind_size` meets its contract: the loop's invariant: the sum so far is the length of the first i entries' bytes, at most 80 each. Assumes nothing.
+-- `rpc_write::kind_size` meets its contract: the loop's invariant: the sum so far is the length of the first i entries' bytes, at most 80
+-- each. Assumes nothing.
 use Rattle.index.proofs.Kit.{arith, _-_, _*_, _≤_, _≡_, gather}
 use lib.ListN.{length}
 use Rattle.rpc.specs.Reading.{known}
@@ -30,9 +31,11 @@ kind-size-spec =
     (λ c. let g = good _ _ _ (c .before .before .before .before .before .before .before .before .before .pre .0 .1) in omega arith)
     (λ c κs. let q = c .before .before .before .before .before .before .before .before .before .pre in let g = good _ _ _ (q .0 .1) in
     (q .0 .0, (g .little _ (c .before .before .before .loop-test .taken), q .1)))
-    (λ c. let g = good _ _ _ (c .before .before .before .before .before .before .before .before .before .before .pre .0 .1) in omega (arith, c .one-size .ensures .1, c .before .before .before .before .before .loop .inv .1 .0))
+    (λ c. let g = good _ _ _ (c .before .before .before .before .before .before .before .before .before .before .pre .0 .1) in omega
+    (arith, c .one-size .ensures .1, c .before .before .before .before .before .loop .inv .1 .0))
     (λ c. omega arith) (λ c. omega arith)
-    (λ c. let l = c .before .before .before .before .before .loop in let a = c .before .before .before .before .before .before .before .before .before .before .args in (
+    (λ c. let l = c .before .before .before .before .before .loop in let a =
+    c .before .before .before .before .before .before .before .before .before .before .args in (
       omega arith,
       (
         omega (arith, c .one-size .ensures .1, l .inv .1 .0),
@@ -40,6 +43,7 @@ kind-size-spec =
             (a .number) _ _ _ (l .inv .1 .1) (c .one-size .ensures .0),
       ),
     ))
-    (λ c. let g = good _ _ _ (c .before .before .before .before .before .before .pre .0 .1) in let l = c .before .loop in let a = c .before .before .before .before .before .before .args in
+    (λ c. let g = good _ _ _ (c .before .before .before .before .before .before .pre .0 .1) in let l = c .before .loop in let a =
+    c .before .before .before .before .before .before .args in
     length-all (known (a .names .now) (a .ids .now) (a .numbers .now)) (a .list .now) (a .kind) (a .number) _ _ _ (l .inv .0)
     (c .loop-test .left) (g .few) (l .inv .1 .0) (l .inv .1 .1)))

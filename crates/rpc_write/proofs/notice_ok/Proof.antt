@@ -10,5 +10,7 @@ notice-ok-spec =
     (λ c. notice-other _ _ _ _ (c .if1 .taken))
     (λ c. notice-topic _ _ _ _ (c .before .if1 .left) (c .if2 .taken))
     (λ c κs. c .before .before .before .before .pre) (λ c. search needs) (λ c. search needs)
-    (λ c. notice-found _ _ _ _ (c .before .before .before .before .if1 .left) (c .before .before .before .if2 .left) _ (c .before .before .number-row .ensures) _ (c .enum-told .given .1))
-    (λ c. notice-none _ _ _ _ (c .before .before .before .before .if1 .left) (c .before .before .before .if2 .left) _ (c .before .before .number-row .ensures) (c .enum-told2 .given .1)))
+    (λ c. notice-found _ _ _ _ (c .before .before .before .before .if1 .left) (c .before .before .before .if2 .left) _
+    (c .before .before .number-row .ensures) _ (c .enum-told .given .1))
+    (λ c. notice-none _ _ _ _ (c .before .before .before .before .if1 .left) (c .before .before .before .if2 .left) _
+    (c .before .before .number-row .ensures) (c .enum-told2 .given .1)))

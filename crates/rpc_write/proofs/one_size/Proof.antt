@@ -8,5 +8,6 @@ pub one-size-spec : {M : Type 1} → statement M
 one-size-spec =
     tie.close (tie.spec
     (λ c. one-none _ _ _ _ _ _ (c .if1 .taken))
-    (λ c κs. (c .before .before .before .before .pre .0, c .before .before .before .before .pre .1 .0)) (λ c κs. (c .before .before .before .before .before .pre .1 .1, omega (arith, c .entry-size .ensures .1)))
+    (λ c κs. (c .before .before .before .before .pre .0, c .before .before .before .before .pre .1 .0))
+    (λ c κs. (c .before .before .before .before .before .pre .1 .1, omega (arith, c .entry-size .ensures .1)))
     (λ c. one-length _ _ _ _ _ _ _ _ (c .before .before .if1 .left) (c .before .entry-size .ensures) (c .part-size .ensures)))

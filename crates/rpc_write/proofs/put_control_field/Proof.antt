@@ -8,8 +8,12 @@ pub put-control-field-spec : {M : Type 1} → statement M
 put-control-field-spec =
     tie.close (tie.spec
     (λ c. inner-none _ _ 3 _ 17284 _ (c .before .before .before .before .before .before .pre .1 .0 .0) (c .if1 .taken))
-    (λ c κs. let p = c .before .before .before .before .before .before .before .pre .1 in (omega arith, (omega (arith, p .0 .1), omega (arith, p .1))))
-    (λ c κs. let p = c .before .before .before .before .before .before .before .before .before .before .before .pre in (p .0, omega (arith, p .1 .1, c .before .before .before .put-head .ensures .1)))
+    (λ c κs. let p = c .before .before .before .before .before .before .before .pre .1 in
+    (omega arith, (omega (arith, p .0 .1), omega (arith, p .1))))
+    (λ c κs. let p = c .before .before .before .before .before .before .before .before .before .before .before .pre in
+    (p .0, omega (arith, p .1 .1, c .before .before .before .put-head .ensures .1)))
     (λ c. search needs)
-    (λ c. inner-some _ _ 3 _ 17284 _ _ _ _ _ (c .before .before .before .before .before .before .before .before .before .before .before .before .before .before .pre .1 .0 .0) (c .before .before .before .before .before .before .before .before .if1 .left) (c .before .before .before .before .before .before .put-head .ensures)
+    (λ c. inner-some _ _ 3 _ 17284 _ _ _ _ _ (c .before .before .before .before .before .before .before .before .before .before .before
+    .before .before .before .pre .1 .0 .0) (c .before .before .before .before .before .before .before .before .if1 .left)
+    (c .before .before .before .before .before .before .put-head .ensures)
     (c .before .before .put-control .ensures)))

@@ -10,30 +10,46 @@ put-id-spec =
     tie.close (tie.spec
     (λ c κs. table-parts _ _ _ (c .before .before .before .before .pre .0) .1) (λ c. search needs)
     (λ c.
-    let q = id-row _ _ _ (c .before .before .before .before .before .before .before .before .pre .0) _ _ (c .before .before .before .number-row .ensures) _ (c .before .k .given .1) in
+    let q = id-row _ _ _ (c .before .before .before .before .before .before .before .before .pre .0) _ _
+    (c .before .before .before .number-row .ensures) _ (c .before .k .given .1) in
     let l = q .low in
     let g = q .long in
     omega arith)
     (λ c.
-    let q = id-row _ _ _ (c .before .before .before .before .before .before .before .before .before .pre .0) _ _ (c .before .before .before .before .number-row .ensures) _ (c .before .before .k .given .1) in
+    let q = id-row _ _ _ (c .before .before .before .before .before .before .before .before .before .pre .0) _ _
+    (c .before .before .before .before .number-row .ensures) _ (c .before .before .k .given .1) in
     let l = q .low in
     let g = q .long in
     omega arith)
     (λ c.
-    let q = id-row _ _ _ (c .before .before .before .before .before .before .before .before .before .before .pre .0) _ _ (c .before .before .before .before .before .number-row .ensures) _ (c .before .before .before .k .given .1) in
+    let q = id-row _ _ _ (c .before .before .before .before .before .before .before .before .before .before .pre .0) _ _
+    (c .before .before .before .before .before .number-row .ensures) _ (c .before .before .before .k .given .1) in
     let l = q .low in
     let g = q .long in
     omega arith)
     (λ c κs. search needs)
     (λ c κs.
-    let q = id-row _ _ _ (c .before .before .before .before .before .before .before .before .before .before .before .pre .0) _ _ (c .before .before .before .before .before .before .number-row .ensures) _ (c .before .before .before .before .k .given .1) in
+    let q = id-row _ _ _ (c .before .before .before .before .before .before .before .before .before .before .before .pre .0) _ _
+    (c .before .before .before .before .before .before .number-row .ensures) _ (c .before .before .before .before .k .given .1) in
     let l = q .low in
     let g = q .long in
     let s = q .short in
-    let w = c .wide .ensures in
-    (omega arith, (omega arith, omega (arith, c .before .before .before .before .before .before .before .before .before .before .before .pre .1))))
+    let w = c .wide .ensures in (
+      omega arith,
+      (
+        omega arith,
+        omega (
+          arith,
+          c .before .before .before .before .before .before .before .before .before .before .before .pre
+              .1,
+        ),
+      ),
+    ))
     (λ c. search needs) (λ c. search needs)
     (λ c.
     let w = c .before .before .before .wide .ensures in
-    id-stored _ _ _ (c .before .before .before .before .before .before .before .before .before .before .before .before .before .before .pre .0) _ _ (c .before .before .before .before .before .before .before .before .before .number-row .ensures) _ (c .before .before .before .before .before .before .before .k .given .1) _ _ _ _ _ w (c .before .before .put-run .ensures))
-    (λ c. no-id-stored _ _ _ (c .before .before .before .before .before .before .before .pre .0) _ _ (c .before .before .number-row .ensures) _ _ (c .enum-told .given .1)))
+    id-stored _ _ _ (c .before .before .before .before .before .before .before .before .before .before .before .before .before .before .pre
+    .0) _ _ (c .before .before .before .before .before .before .before .before .before .number-row .ensures) _
+    (c .before .before .before .before .before .before .before .k .given .1) _ _ _ _ _ w (c .before .before .put-run .ensures))
+    (λ c. no-id-stored _ _ _ (c .before .before .before .before .before .before .before .pre .0) _ _
+    (c .before .before .number-row .ensures) _ _ (c .enum-told .given .1)))

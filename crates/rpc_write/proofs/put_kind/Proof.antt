@@ -1,4 +1,5 @@
--- `rpc_write::put_kind` meets its contract: the loop's invariant: the first i entries' bytes stand one after the other, at most 80 each. Assumes nothing.
+-- `rpc_write::put_kind` meets its contract: the loop's invariant: the first i entries' bytes stand one after the other, at most 80 each.
+-- Assumes nothing.
 use Rattle.index.proofs.Kit.{_+_, _-_, _*_, _≤_, gather, _≡_, refl, _∙_, arith}
 use lib.ListN.{length}
 use Rattle.rpc.specs.Reading.{known}
@@ -30,7 +31,8 @@ put-kind-spec =
     (λ c. let g = good _ _ _ (c .before .before .before .before .before .before .before .before .before .before .pre .0 .1) in omega arith)
     (λ c. let g = good _ _ _ (c .before .before .before .before .before .before .before .before .before .before .pre .0 .1) in omega arith)
     (λ c. let g = good _ _ _ (c .before .before .before .before .before .before .before .before .before .before .pre .0 .1) in omega arith)
-    (λ c. let g = good _ _ _ (c .before .before .before .before .before .before .before .before .before .before .before .pre .0 .1) in omega arith)
+    (λ c. let g = good _ _ _ (c .before .before .before .before .before .before .before .before .before .before .before .pre .0 .1) in omega
+    arith)
     (λ c κs.
     let q = c .before .before .before .before .before .before .before .before .before .before .before .pre in
     let g = good _ _ _ (q .0 .1) in

@@ -25,5 +25,6 @@ put-run-spec =
     (λ c. omega arith)
     (λ c. c .before .loop .inv .1 .0)
     (λ c. let l = c .before .loop in let a = c .before .before .before .before .before .args in
-    copy-all (a .src .now) (a .start) (a .buf .now) (a .at) _ _ _ _ (c .before .before .before .before .before .pre .1 .0) (c .before .before .fitting .ensures) (l .inv .0)
+    copy-all (a .src .now) (a .start) (a .buf .now) (a .at) _ _ _ _ (c .before .before .before .before .before .pre .1 .0)
+    (c .before .before .fitting .ensures) (l .inv .0)
     (c .loop-test .left) (l .inv .1)))
