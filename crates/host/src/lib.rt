@@ -3,6 +3,7 @@
 // and host_forms, whose promise is its own. None asks anything of its caller.
 pub mod calls;
 pub mod forms;
+pub mod gossip;
 pub mod messages;
 pub mod parameters;
 pub mod saves;
