@@ -9,10 +9,14 @@ pub tell-any-spec : {M : Type 1} → statement M
 tell-any-spec =
     tie.close
     (tie.spec
-    (λ c. λ l e. told-nobody _ _ _ l (search needs) e)
+    (λ c l e. told-nobody _ _ _ l (search needs) e)
     (λ c κs. search (admitted-valid, needs))
     (λ c κs. search needs)
     (λ c κs. search needs)
     (λ c κs. search (telling-drawn, needs))
     (λ c. search needs)
-    (λ c. ?))
+    (λ c l e.
+    told-some _ _ _ _ _ _ _ _ _ _ _ l (c .before .before .before .before .before .before .before .before .if1 .left) e (c .before .before .before .before .before .load-lazy .ensures)
+    (c .before .before .before .before .load-factor .ensures)
+    (c .before .before .before .before .before .before .before .targets .ensures)
+    (c .before .before .tell-targets .ensures)))

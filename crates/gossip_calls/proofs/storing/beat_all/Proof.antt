@@ -9,7 +9,7 @@ beat-all-spec =
     tie.close
     (tie.spec
     (λ c κs. search needs)
-    (λ c κs. search (notes-keep, needs))
+    (λ c κs. notes-keep _ _ _ (c .before .before .before .before .before .before .pre) (search needs) (c .before .before .before .beat .ensures))
     (λ c κs. search needs)
     (λ c. search needs)
     (λ c. search beat-is))
