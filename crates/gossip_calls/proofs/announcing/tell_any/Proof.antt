@@ -1,5 +1,6 @@
 -- `gossip_calls::announcing::tell_any`: nobody, or the first of the targets in draw order.
 use borrow.Author.Needs.{needs}
+use Rattle.gossip_table.specs.View.{gossipOf}
 use Rattle.gossip_gate.proofs.AdmittedLaws.{admitted-valid}
 use Rattle.gossip_calls.proofs.AnnounceLaws.{told-nobody, told-some, telling-drawn}
 use Rattle.gossip_calls.proofs.announcing.tell_any.Statement.{statement}
@@ -16,7 +17,7 @@ tell-any-spec =
     (λ c κs. search (telling-drawn, needs))
     (λ c. search needs)
     (λ c l e.
-    told-some _ _ _ _ _ _ _ _ _ _ _ l (c .before .before .before .before .before .before .before .before .if1 .left) e (c .before .before .before .before .before .load-lazy .ensures)
+    told-some _ (gossipOf (c .before .before .before .before .before .before .before .before .before .before .before .before .before .args .gossip .now) .setup) _ _ _ _ _ _ _ _ _ l (c .before .before .before .before .before .before .before .before .if1 .left) e (c .before .before .before .before .before .load-lazy .ensures)
     (c .before .before .before .before .load-factor .ensures)
     (c .before .before .before .before .before .before .before .targets .ensures)
     (c .before .before .tell-targets .ensures)))
