@@ -4,3 +4,4 @@ pub mod ReplyLaws
 pub mod EndLaws
 pub mod AdmittedLaws
 pub mod CallLaws
+pub mod CaseLaws

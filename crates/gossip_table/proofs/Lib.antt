@@ -3,3 +3,5 @@ pub mod ViewLaws
 pub mod FineLaws
 pub mod NoteParts
 pub mod StoreParts
+pub mod TestLaws
+pub mod MadeLaws

@@ -1,7 +1,9 @@
 // The array of orders 6 and 7: five set-up numbers, then three parts, each known to a crate of its own. A function here lends one part to
 // that crate, and promises what becomes of the whole.
+pub mod made;
 pub mod peers;
 pub mod stored;
+pub mod tests;
 
 ghost use mathlib.Core.Path.{_≡_};
 ghost use lib.ListN.{length};
