@@ -19,9 +19,11 @@ use Rattle.gossip.specs.Notes.{Setup, Extended, storeIn, windowMost, announcedW
 use Rattle.gossip.specs.Valid.{all, windowOk}
 use Rattle.gossip.specs.Step.{FullReply, tellOne, isTarget, inDraw, chosen, oldestFirst, announced, ifAny, announceReply}
 use Rattle.gossip.proofs.ListLaws.{windows-take}
+use Rattle.gossip.proofs.NoteOk.{store-parts}
+use Rattle.gossip.proofs.Fine.{fine-of}
 use Rattle.gossip_table.specs.View.{gossipOf, extendedOf}
 use Rattle.gossip_table.specs.Fine.{Fine}
-use Rattle.gossip_table.proofs.FineLaws.{fine-lazy, fine-windows}
+use Rattle.gossip_table.proofs.FineLaws.{fine-lazy}
 use Rattle.gossip_gate.specs.Promise.{GivesAll}
 use Rattle.gossip_gate.specs.Admitted.{Admitted}
 use Rattle.gossip_gate.proofs.AdmittedLaws.{admitted-valid, admitted-fine}
@@ -30,6 +32,7 @@ use Rattle.gossip_gate.proofs.EndLaws.{gives-refusal, gives-nothing, gives-acti
 use Rattle.gossip_peers.specs.Peers.{Tells, Drawn}
 use Rattle.gossip_peers.proofs.TellLaws.{tells-none, in-short, order-length}
 use Rattle.gossip_calls.specs.Asked.{Announcing, Telling}
+use Rattle.gossip_calls.proofs.NumberLaws.{no-numbers}
 
 -- ---- who is told
 pub told-nobody : (acts : List Action) (list : List ℕ) (count : ℕ) (l : List ℕ) → count ≡ 0 → count ≡ length l → Tells (ifAny l acts) list list 0
@@ -113,14 +116,12 @@ pub announced-most :
 announced-most {table} {gossip} {list} {numbers} {time} {t} a m e =
     let f = admitted-fine (a .admitted) in
     let w = storeIn (gossipOf gossip) t in
-    let q = oldest-most (take announcedWindows w) (windows-take announcedWindows w (fine-windows (f .base) (gossipOf gossip) (f .ok) t (a .topic))) in
+    let ok = store-parts _ w (fine-of (f .base) (gossipOf gossip) (f .ok) .store t (a .topic)) .0 in
+    let q = oldest-most (take announcedWindows w) (windows-take announcedWindows w ok) in
     let d : length (take announcedWindows w) ≤ 3 = simp length-take (omega arith) in
     omega (arith, e, q, d)
 
 -- ---- the ends
-no-numbers : (numbers : List ℕ) (o p : FullReply) → o ≡ p → p .numbers ≡ [] → numbers ≡ sets numbers 0 (o .numbers)
-no-numbers numbers o p e z = sym (ap (λ (q : FullReply). sets numbers 0 (q .numbers)) e ∙ ap (sets numbers 0) z)
-
 module _
     (table gossip order list numbers : List ℕ)
     (time t : ℕ)

@@ -1,27 +1,35 @@
 -- What an IHAVE and an IWANT come to at each of their ends.
 -- Assumes nothing.
 use Rattle.index.proofs.Kit.{ℕ, _+_, _*_, _≤_, _<_, _≡_, refl, sym, ap, _∙_, Bool, true, false, not, arith}
-use mathlib.Core.Bool.{_&&_}
-use mathlib.Core.List.{List, []}
+use mathlib.Core.Bool.{cond, _&&_, _||_}
+use mathlib.Core.List.{List, [], _∷_, _++_}
 use lib.Dec.{ltb}
-use lib.ListN.{length}
+use lib.ListN.{length, length-append}
+use lib.Seq.{sets}
 use borrow.Author.Tests.{ltb-true}
 use Rattle.index.proofs.Index.{both}
-use Rattle.index.proofs.Flags.{failed, passed}
+use Rattle.index.proofs.Flags.{failed, passed, cond-case}
+use Rattle.index.specs.declared.Found.{Found}
+use Rattle.index.specs.declared.Found.the-variants.{At, Nothing}
 use Rattle.records.specs.Records.{slotCount, setClock}
 use Rattle.layout.specs.View.{stateOf}
+use Rattle.lookup.specs.Find.{findConnected}
 use Rattle.effects.specs.Effects.{isJoined}
-use Rattle.gossip.specs.Notes.{Extended, noteIn, stored, setReplies, countIn, replied, rowsMost}
-use Rattle.gossip.specs.Step.{underGossip, isAnswered, isServed, iwantReply}
+use Rattle.gossip.specs.Notes.{Extended, noteIn, has, stored, setNote, setReplies, countIn, replied, rowsMost, numbersMost}
+use Rattle.gossip.specs.Calls.{ihave, iwant}
+use Rattle.gossip.specs.Step.{FullReply, ignoredAll, doneAll, ofPeerAll, underGossip, wanted, withIhave, isAnswered, ihaveReply, isServed, iwantReply}
+use Rattle.gossip.specs.Step.{newEffect}
 use Rattle.gossip_table.specs.View.{gossipOf, extendedOf}
 use Rattle.gossip_table.specs.Fine.{ReplyFits}
 use Rattle.gossip_table.proofs.FineLaws.{fine-bounds}
 use Rattle.gossip_gate.specs.Promise.{LeavesAll}
 use Rattle.gossip_gate.specs.Admitted.{Admitted, SlotAdmitted}
 use Rattle.gossip_gate.proofs.AdmittedLaws.{admitted-fine}
-use Rattle.gossip_gate.proofs.ReplyLaws.{iwant-ignored, iwant-serves}
-use Rattle.gossip_gate.proofs.EndLaws.{ends-ignored, ends-done}
-use Rattle.gossip_calls.specs.Asked.{Wanting}
+use Rattle.gossip_gate.proofs.ReplyLaws.{peer-found, peer-missing, ihave-ignored, ihave-answers, iwant-ignored, iwant-serves}
+use Rattle.gossip_gate.proofs.EndLaws.{ends-ignored, ends-done, ends-missing, ends-found}
+use Rattle.gossip_gate.proofs.CallLaws.{quiet-peer}
+use Rattle.gossip_calls.specs.Asked.{Wanting, HavingAt}
+use Rattle.gossip_calls.proofs.NumberLaws.{no-numbers}
 
 -- a score is taken only where the other two tests are passed
 early : (a u b : Bool) → not (a && b) ≡ true → false ≡ (a && (not u && b))
@@ -87,6 +95,114 @@ module _
     served-is u eu e =
         ap not eu ∙ late (ltb place rowsMost) (underGossip (stateOf table) s) (ltb k m) e ∙ sym tests
 
+-- ---- an IHAVE
+wanted-length : (f : ℕ → Bool) (l r : List ℕ) → length (wanted f l r) ≤ length l + length r
+unfolding wanted
+wanted-length f l [] = omega arith
+wanted-length f l (n ∷ r) =
+    let h = wanted-length f (cond (f n || has n l) l (l ++ (n ∷ []))) r in
+    let k : length (cond (f n || has n l) l (l ++ (n ∷ []))) ≤ length l + 1 =
+    cond-case (λ (y : List ℕ). length y ≤ length l + 1) (f n || has n l) l (l ++ (n ∷ [])) (λ e. omega arith)
+    (λ e. omega (arith, length-append l (n ∷ []))) in
+    omega (arith, h, k)
+
+pub wanted-most :
+    {table gossip given numbers : List ℕ} {time t s : ℕ} →
+    HavingAt table gossip time t s given numbers →
+    (m : ℕ) →
+    m ≡ length (wanted (stored (gossipOf gossip)) [] given) →
+    m ≤ 192
+wanted-most {table} {gossip} {given} a m e =
+    let h = wanted-length (stored (gossipOf gossip)) [] given in
+    let k : length given ≤ numbersMost = a .few in
+    omega (arith, e, h, k)
+
+module _
+    (table table′ gossip given numbers : List ℕ)
+    (time t s r : ℕ)
+    (b : Bool)
+    (eb : b ≡ isAnswered (extendedOf table gossip) t s)
+  where
+    abbrev answered : FullReply
+    answered = ihaveReply (extendedOf table gossip) time t given s
+
+    pub answer-not :
+        not b ≡ true →
+        (r ≡ 11) × (stateOf table′ ≡ setClock (stateOf table) time) →
+        LeavesAll answered r table table′ gossip gossip × (numbers ≡ sets numbers 0 (answered .numbers))
+    answer-not e h =
+        let q = ihave-ignored (extendedOf table gossip) time t s given (failed eb e) in
+        (ends-ignored answered time r table table′ gossip h q, no-numbers numbers answered _ q refl)
+
+    pub answer-one :
+        not b ≡ false →
+        (gossip′ numbers′ : List ℕ) (m : ℕ) →
+        (numbers′ ≡ sets numbers 0 (wanted (stored (gossipOf gossip)) [] given))
+        × (m ≡ length (wanted (stored (gossipOf gossip)) [] given)) →
+        gossipOf gossip′ ≡ setNote (gossipOf gossip) s (withIhave (noteIn (gossipOf gossip) s)) →
+        (r ≡ 256 * 0 + 16777216 * m) × (stateOf table′ ≡ setClock (stateOf table) time) →
+        LeavesAll answered r table table′ gossip gossip′ × (numbers′ ≡ sets numbers 0 (answered .numbers))
+    answer-one e gossip′ numbers′ m k eg h =
+        let q = ihave-answers (extendedOf table gossip) time t s given (passed eb e) in
+        let list = wanted (stored (gossipOf gossip)) [] given in
+        (
+          ends-done answered time r table table′ gossip gossip′ (setNote (gossipOf gossip) s (withIhave (noteIn (gossipOf gossip) s))) []
+          list
+          0
+          m
+          h
+          q
+          refl
+          (k .1)
+          eg,
+          k .0 ∙ sym (ap (λ (o : FullReply). sets numbers 0 (o .numbers)) q),
+        )
+
+-- of a peer: 3, or its slot's reply
+module _
+    (table gossip numbers : List ℕ)
+    (id : ℕ)
+    (f : ℕ → FullReply)
+    (k : Found)
+    (e : k ≡ findConnected (stateOf table) id)
+  where
+    abbrev reply : FullReply
+    reply = ofPeerAll (extendedOf table gossip) id f
+
+    pub asks-missing :
+        k ≡ Nothing → LeavesAll reply 3 table table gossip gossip × (numbers ≡ sets numbers 0 (reply .numbers))
+    asks-missing g =
+        (
+          ends-missing table gossip id f k e g,
+          no-numbers numbers reply _ (peer-missing (extendedOf table gossip) id f (sym e ∙ g)) refl,
+        )
+
+    pub asks-found :
+        (s r : ℕ) (table′ gossip′ numbers′ : List ℕ) →
+        k ≡ At s →
+        LeavesAll (f s) r table table′ gossip gossip′ × (numbers′ ≡ sets numbers 0 (f s .numbers)) →
+        LeavesAll reply r table table′ gossip gossip′ × (numbers′ ≡ sets numbers 0 (reply .numbers))
+    asks-found s r table′ gossip′ numbers′ g h =
+        (
+          ends-found table gossip id f k e s r table′ gossip′ g (h .0),
+          h .1
+          ∙ sym (ap (λ (o : FullReply). sets numbers 0 (o .numbers)) (peer-found (extendedOf table gossip) id f s (sym e ∙ g))),
+        )
+
+answer-silent : (x : Extended) (time t : ℕ) (given : List ℕ) (s : ℕ) → ihaveReply x time t given s .actions ≡ []
+unfolding ihaveReply
+answer-silent x time t given s = go (isAnswered x t s)
+  where
+    go : (b : Bool) → cond b
+        (doneAll x time (setNote (x .gossip) s (withIhave (noteIn (x .gossip) s))) [] (wanted (stored (x .gossip)) [] given))
+        (ignoredAll x time) .actions ≡ []
+    go true = refl
+    go false = refl
+
+pub quiet-ihave : (x : Extended) (time id t : ℕ) (given : List ℕ) (k : ℕ) → newEffect x (ihave time id t given k) .actions ≡ []
+unfolding newEffect
+quiet-ihave x time id t given k = quiet-peer x id (ihaveReply x time t given) (answer-silent x time t given)
+
 -- ---- an IWANT
 module _
     (table table′ gossip : List ℕ)
@@ -129,3 +245,16 @@ serve-fits {table} {gossip} {time} {s} a n b eb e =
     let l = ltb-true (countIn (g .replies) n s) (g .setup .replies) (q .1) in
     let m = fine-bounds (f .base) g (f .ok) .1 in
     record { fine = f; slot = a .slot; kept = q .0; few = omega (arith, l, m) }
+
+serve-silent : (x : Extended) (time n s : ℕ) → iwantReply x time n s .actions ≡ []
+unfolding iwantReply
+serve-silent x time n s = go (isServed x n s)
+  where
+    go : (b : Bool) → cond b (doneAll x time (setReplies (x .gossip) (replied n s (x .gossip .replies))) [] []) (ignoredAll x time) .actions
+        ≡ []
+    go true = refl
+    go false = refl
+
+pub quiet-iwant : (x : Extended) (time id n : ℕ) → newEffect x (iwant time id n) .actions ≡ []
+unfolding newEffect
+quiet-iwant x time id n = quiet-peer x id (iwantReply x time n) (serve-silent x time n)

@@ -5,20 +5,28 @@ ghost use Prim.Native.Nat.{ℕ};
 ghost use lib.ListN.{length};
 ghost use lib.Seq.{sets};
 ghost use Rattle.layout.specs.View.{stateOf};
+ghost use Rattle.gossip.specs.Calls.{new, announce as Calls·announce};
 ghost use Rattle.gossip.specs.Step.{tellOne, chosen, inDraw, ifAny, announceReply};
 ghost use Rattle.gossip_table.specs.View.{gossipOf, extendedOf};
-ghost use Rattle.gossip_gate.specs.Promise.{GivesAll};
+ghost use Rattle.gossip_gate.specs.Promise.{GivesAll, FollowsAll, Tells};
 ghost use Rattle.gossip_peers.specs.Peers.{Tells as Told};
 ghost use Rattle.gossip_calls.specs.Asked.{Announcing, Telling};
+use crate::NUMBERS;
 use effects::slots::is_joined;
+use gate::time_ok;
+use gate::topic_ok;
 use gossip_gate::NOT_PERMUTATION;
+use gossip_gate::admit;
 use gossip_gate::finish;
 use gossip_gate::ignore;
 use gossip_peers::targets::targets;
 use gossip_peers::tell::tell_targets;
+use gossip_table::GOSSIP_CELLS;
 use gossip_table::load_factor;
 use gossip_table::load_lazy;
 use gossip_table::stored;
+use layout::CELLS;
+use records::ACTION_ROOM;
 use sets::permutation::is_permutation;
 
 // Who is told: nobody where there is no number.
@@ -68,4 +76,28 @@ fn announce_from(
     let count = stored::announce(gossip, topic, numbers);
     let told = tell_any(table, gossip, time, topic, order, count, actions);
     finish(table, time, told, count)
+}
+
+// To whom, and with which numbers, IHAVEs of a topic go.
+pub fn announce(
+    table: &mut [u64; CELLS],
+    gossip: &[u64; GOSSIP_CELLS],
+    time: u64,
+    topic: u64,
+    permutation: &[u64],
+    numbers: &mut [u64],
+    actions: &mut [u32],
+) -> u64
+    ensures { λ r. ⌜ FollowsAll (new (Calls·announce time topic (now (permutation .entry)) (length (now (numbers .entry))))) r
+        (now (table .entry)) (now (table .exit)) (now (gossip .entry)) (now (gossip .entry)) (now (actions .entry)) (now (actions .exit))
+        × Tells (new (Calls·announce time topic (now (permutation .entry)) (length (now (numbers .entry)))))
+        (now (table .entry)) (now (gossip .entry)) (now (actions .entry)) (now (numbers .entry)) (now (numbers .exit)) ⌝ }
+{
+    let fine = time_ok(time) & topic_ok(topic);
+    let fits = (ACTION_ROOM <= actions.len()) & (NUMBERS <= numbers.len());
+    let gate = admit(table, gossip, fine, fits, time);
+    if gate != 0 {
+        return gate;
+    }
+    announce_from(table, gossip, time, topic as usize, permutation, numbers, actions)
 }

@@ -2,3 +2,6 @@
 pub mod announcing;
 pub mod asking;
 pub mod storing;
+
+// The lent list of numbers.
+pub const NUMBERS: usize = 192;
