@@ -1,8 +1,7 @@
 -- What announcing comes to at each of its ends.
 -- Assumes nothing.
-use Rattle.index.proofs.Kit.{ℕ, _+_, _*_, _≤_, _<_, _≡_, refl, sym, ap, _∙_, Bool, true, false, not, arith}
-use Prim.Native.Nat.{_/_, max}
-use mathlib.Core.List.{List, [], _∷_, _++_, map}
+use Rattle.index.proofs.Kit.{ℕ, _+_, _*_, _≤_, _≡_, refl, sym, ap, _∙_, Bool, true, false, not, arith}
+use mathlib.Core.List.{List, [], _∷_, map}
 use lib.ListN.{length, take, length-append, length-take, length-map}
 use lib.Seq.{sets}
 use borrow.Author.Tests.{leb-true}
@@ -14,18 +13,15 @@ use Rattle.words.specs.Words.{bitsOf}
 use Rattle.sets.specs.Sets.{bySlot, inOrder, isPermutation}
 use Rattle.effects.specs.Actions.{Action}
 use Rattle.effects.specs.Effects.{isJoined}
-use Rattle.peer_score.specs.Standing.{Standing}
-use Rattle.gossip.specs.Notes.{Setup, Extended, storeIn, windowMost, announcedWindows, numbersMost}
+use Rattle.gossip.specs.Notes.{Setup, Extended, storeIn, windowMost, announcedWindows}
 use Rattle.gossip.specs.Valid.{all, windowOk}
 use Rattle.gossip.specs.Step.{FullReply, tellOne, isTarget, inDraw, chosen, oldestFirst, announced, ifAny, announceReply}
 use Rattle.gossip.proofs.ListLaws.{windows-take}
 use Rattle.gossip.proofs.NoteOk.{store-parts}
 use Rattle.gossip.proofs.Fine.{fine-of}
 use Rattle.gossip_table.specs.View.{gossipOf, extendedOf}
-use Rattle.gossip_table.specs.Fine.{Fine}
 use Rattle.gossip_table.proofs.FineLaws.{fine-lazy}
 use Rattle.gossip_gate.specs.Promise.{GivesAll}
-use Rattle.gossip_gate.specs.Admitted.{Admitted}
 use Rattle.gossip_gate.proofs.AdmittedLaws.{admitted-valid, admitted-fine}
 use Rattle.gossip_gate.proofs.ReplyLaws.{announce-draw, announce-outside, announce-tells}
 use Rattle.gossip_gate.proofs.EndLaws.{gives-refusal, gives-nothing, gives-actions}
@@ -35,7 +31,8 @@ use Rattle.gossip_calls.specs.Asked.{Announcing, Telling}
 use Rattle.gossip_calls.proofs.NumberLaws.{no-numbers}
 
 -- ---- who is told
-pub told-nobody : (acts : List Action) (list : List ℕ) (count : ℕ) (l : List ℕ) → count ≡ 0 → count ≡ length l → Tells (ifAny l acts) list list 0
+pub told-nobody : (acts : List Action) (list : List ℕ) (count : ℕ) (l : List ℕ) → count ≡ 0 → count ≡ length l →
+    Tells (ifAny l acts) list list 0
 told-nobody acts list count [] z e = tells-none list
 told-nobody acts list count (n ∷ l) z e = absurd (omega arith)
 
@@ -166,14 +163,13 @@ module _
             (r ≡ 256 * n + 16777216 * m) × (stateOf table′ ≡ setClock (stateOf table) time) →
             GivesAll reply r table table′ gossip gossip list list′ × (numbers′ ≡ sets numbers 0 (reply .numbers))
         announce-told j n m list′ numbers′ w k h =
-            let q = announce-tells x time t order (passed ed e) (passed ej j) in
-            (
+            let q = announce-tells x time t order (passed ed e) (passed ej j) in (
               gives-actions reply time r table table′ gossip gossip (gossipOf gossip) _ (announced (storeIn (gossipOf gossip) t)) n m h q
-              (w .many)
-              (k .1)
-              refl
-              list
-              list′
-              (w .list),
+                  (w .many)
+                  (k .1)
+                  refl
+                  list
+                  list′
+                  (w .list),
               k .0 ∙ sym (ap (λ (o : FullReply). sets numbers 0 (o .numbers)) q),
             )

@@ -1,6 +1,6 @@
 -- What an IHAVE and an IWANT come to at each of their ends.
 -- Assumes nothing.
-use Rattle.index.proofs.Kit.{ℕ, _+_, _*_, _≤_, _<_, _≡_, refl, sym, ap, _∙_, Bool, true, false, not, arith}
+use Rattle.index.proofs.Kit.{ℕ, _+_, _*_, _≤_, _≡_, refl, sym, ap, _∙_, Bool, true, false, not, arith}
 use mathlib.Core.Bool.{cond, _&&_, _||_}
 use mathlib.Core.List.{List, [], _∷_, _++_}
 use lib.Dec.{ltb}
@@ -11,19 +11,20 @@ use Rattle.index.proofs.Index.{both}
 use Rattle.index.proofs.Flags.{failed, passed, cond-case}
 use Rattle.index.specs.declared.Found.{Found}
 use Rattle.index.specs.declared.Found.the-variants.{At, Nothing}
-use Rattle.records.specs.Records.{slotCount, setClock}
+use Rattle.records.specs.Records.{setClock}
 use Rattle.layout.specs.View.{stateOf}
 use Rattle.lookup.specs.Find.{findConnected}
 use Rattle.effects.specs.Effects.{isJoined}
 use Rattle.gossip.specs.Notes.{Extended, noteIn, has, stored, setNote, setReplies, countIn, replied, rowsMost, numbersMost}
 use Rattle.gossip.specs.Calls.{ihave, iwant}
-use Rattle.gossip.specs.Step.{FullReply, ignoredAll, doneAll, ofPeerAll, underGossip, wanted, withIhave, isAnswered, ihaveReply, isServed, iwantReply}
+use Rattle.gossip.specs.Step.{FullReply, ignoredAll, doneAll, ofPeerAll, underGossip, wanted, withIhave, isAnswered, ihaveReply, isServed}
+use Rattle.gossip.specs.Step.{iwantReply}
 use Rattle.gossip.specs.Step.{newEffect}
 use Rattle.gossip_table.specs.View.{gossipOf, extendedOf}
 use Rattle.gossip_table.specs.Fine.{ReplyFits}
 use Rattle.gossip_table.proofs.FineLaws.{fine-bounds}
 use Rattle.gossip_gate.specs.Promise.{LeavesAll}
-use Rattle.gossip_gate.specs.Admitted.{Admitted, SlotAdmitted}
+use Rattle.gossip_gate.specs.Admitted.{SlotAdmitted}
 use Rattle.gossip_gate.proofs.AdmittedLaws.{admitted-fine}
 use Rattle.gossip_gate.proofs.ReplyLaws.{peer-found, peer-missing, ihave-ignored, ihave-answers, iwant-ignored, iwant-serves}
 use Rattle.gossip_gate.proofs.EndLaws.{ends-ignored, ends-done, ends-missing, ends-found}
@@ -144,17 +145,16 @@ module _
         LeavesAll answered r table table′ gossip gossip′ × (numbers′ ≡ sets numbers 0 (answered .numbers))
     answer-one e gossip′ numbers′ m k eg h =
         let q = ihave-answers (extendedOf table gossip) time t s given (passed eb e) in
-        let list = wanted (stored (gossipOf gossip)) [] given in
-        (
+        let list = wanted (stored (gossipOf gossip)) [] given in (
           ends-done answered time r table table′ gossip gossip′ (setNote (gossipOf gossip) s (withIhave (noteIn (gossipOf gossip) s))) []
-          list
-          0
-          m
-          h
-          q
-          refl
-          (k .1)
-          eg,
+              list
+              0
+              m
+              h
+              q
+              refl
+              (k .1)
+              eg,
           k .0 ∙ sym (ap (λ (o : FullReply). sets numbers 0 (o .numbers)) q),
         )
 
@@ -171,23 +171,21 @@ module _
 
     pub asks-missing :
         k ≡ Nothing → LeavesAll reply 3 table table gossip gossip × (numbers ≡ sets numbers 0 (reply .numbers))
-    asks-missing g =
-        (
-          ends-missing table gossip id f k e g,
-          no-numbers numbers reply _ (peer-missing (extendedOf table gossip) id f (sym e ∙ g)) refl,
-        )
+    asks-missing g = (
+      ends-missing table gossip id f k e g,
+      no-numbers numbers reply _ (peer-missing (extendedOf table gossip) id f (sym e ∙ g)) refl,
+    )
 
     pub asks-found :
         (s r : ℕ) (table′ gossip′ numbers′ : List ℕ) →
         k ≡ At s →
         LeavesAll (f s) r table table′ gossip gossip′ × (numbers′ ≡ sets numbers 0 (f s .numbers)) →
         LeavesAll reply r table table′ gossip gossip′ × (numbers′ ≡ sets numbers 0 (reply .numbers))
-    asks-found s r table′ gossip′ numbers′ g h =
-        (
-          ends-found table gossip id f k e s r table′ gossip′ g (h .0),
-          h .1
+    asks-found s r table′ gossip′ numbers′ g h = (
+      ends-found table gossip id f k e s r table′ gossip′ g (h .0),
+      h .1
           ∙ sym (ap (λ (o : FullReply). sets numbers 0 (o .numbers)) (peer-found (extendedOf table gossip) id f s (sym e ∙ g))),
-        )
+    )
 
 answer-silent : (x : Extended) (time t : ℕ) (given : List ℕ) (s : ℕ) → ihaveReply x time t given s .actions ≡ []
 unfolding ihaveReply
@@ -240,7 +238,8 @@ unfolding isServed
 serve-fits {table} {gossip} {time} {s} a n b eb e =
     let f = admitted-fine (a .admitted) in
     let g = gossipOf gossip in
-    let p = both (not (underGossip (stateOf table) s)) (stored g n && ltb (countIn (g .replies) n s) (g .setup .replies)) (passed eb e) .1 in
+    let p = both (not (underGossip (stateOf table) s)) (stored g n && ltb (countIn (g .replies) n s) (g .setup .replies))
+    (passed eb e) .1 in
     let q = both (stored g n) (ltb (countIn (g .replies) n s) (g .setup .replies)) p in
     let l = ltb-true (countIn (g .replies) n s) (g .setup .replies) (q .1) in
     let m = fine-bounds (f .base) g (f .ok) .1 in

@@ -1,7 +1,7 @@
 -- From the number of `admit` to what a public call promises and what its inner function may rely on: for a call that is lent a list of
 -- numbers besides the action list, and for a topic that is the only argument.
 -- Assumes nothing.
-use Rattle.index.proofs.Kit.{ℕ, _≤_, _<_, _≡_, refl, sym, ap, _∙_, Bool, true, false}
+use Rattle.index.proofs.Kit.{ℕ, _≡_, sym, ap, _∙_, Bool, true}
 use mathlib.Core.Path.{ap₂}
 use mathlib.Core.Bool.{_&&_}
 use mathlib.Core.List.{List, []}
@@ -10,14 +10,13 @@ use lib.ListN.{length}
 use lib.Seq.{sets}
 use borrow.Author.Tests.{leb-true}
 use Rattle.index.proofs.Index.{both}
-use Rattle.records.specs.Records.{topicCount}
 use Rattle.layout.specs.View.{cellCount}
 use Rattle.rules.specs.Calls.{idOk, timeOk, topicOk}
 use Rattle.rules.specs.Step.{actionRoom}
 use Rattle.rules.proofs.CaseLaws.{topic-in}
-use Rattle.gossip.specs.Notes.{Extended, numbersMost}
+use Rattle.gossip.specs.Notes.{numbersMost}
 use Rattle.gossip.specs.Calls.{New, new, timeOfNew, newArgumentsOk, listOk}
-use Rattle.gossip.specs.Step.{FullReply, newEffect, stepAll}
+use Rattle.gossip.specs.Step.{FullReply, newEffect}
 use Rattle.gossip_table.specs.View.{gossipCells, extendedOf}
 use Rattle.gossip_gate.specs.Promise.{LeavesAll, GivesAll, FollowsAll, Tells, gateAll}
 use Rattle.gossip_gate.specs.Admitted.{TopicAdmitted}
@@ -42,11 +41,10 @@ module _
     pub lists-refused :
         (n ≡ 0 → ⊥) →
         FollowsAll (new c) n table table gossip gossip list list × Tells (new c) table gossip list numbers numbers
-    lists-refused ne =
-        (
-          gate-refusal c table gossip list a b d n ea eb ed en ne,
-          sym (ap (sets numbers 0) (gate-silent c table gossip list a b d n ea eb ed en ne)),
-        )
+    lists-refused ne = (
+      gate-refusal c table gossip list a b d n ea eb ed en ne,
+      sym (ap (sets numbers 0) (gate-silent c table gossip list a b d n ea eb ed en ne)),
+    )
 
     module _ (e : n ≡ 0) (r : ℕ) (table′ gossip′ numbers′ : List ℕ) where
       pub lists-given :
@@ -54,11 +52,10 @@ module _
           GivesAll (newEffect (extendedOf table gossip) c) r table table′ gossip gossip′ list list′
           × (numbers′ ≡ sets numbers 0 (newEffect (extendedOf table gossip) c .numbers)) →
           FollowsAll (new c) r table table′ gossip gossip′ list list′ × Tells (new c) table gossip list numbers numbers′
-      lists-given list′ h =
-          (
-            gate-gives c table gossip list a b d n ea eb ed en e r table′ gossip′ list′ (h .0),
-            h .1 ∙ sym (ap (sets numbers 0) (gate-numbers c table gossip list a b d n ea eb ed en e)),
-          )
+      lists-given list′ h = (
+        gate-gives c table gossip list a b d n ea eb ed en e r table′ gossip′ list′ (h .0),
+        h .1 ∙ sym (ap (sets numbers 0) (gate-numbers c table gossip list a b d n ea eb ed en e)),
+      )
 
       -- a call that gives no action
       pub lists-quiet :
@@ -91,7 +88,7 @@ module _
     (a b : Bool)
     (time n t : ℕ)
     (en : n
-        ≡ gateAll (extendedOf table gossip) (a && b) (leb actionRoom (length list) && leb numbersMost (length numbers)) time)
+    ≡ gateAll (extendedOf table gossip) (a && b) (leb actionRoom (length list) && leb numbersMost (length numbers)) time)
     (e : n ≡ 0)
     (ea : a ≡ timeOk time)
     (l : length table ≡ cellCount)

@@ -1,6 +1,6 @@
 -- What storing comes to at each of its ends, and what a heartbeat makes of the array.
 -- Assumes nothing.
-use Rattle.index.proofs.Kit.{ℕ, _+_, _*_, _≤_, _≡_, refl, sym, ap, _∙_, Bool, true, false, not, arith}
+use Rattle.index.proofs.Kit.{ℕ, _+_, _*_, _≡_, refl, ap, _∙_, Bool, true, false, not, arith}
 use mathlib.Core.Bool.{cond, _&&_}
 use mathlib.Core.List.{List, [], map}
 use lib.Dec.{ltb}
@@ -12,7 +12,7 @@ use Rattle.layout.specs.View.{stateOf}
 use Rattle.effects.specs.Effects.{isJoined}
 use Rattle.stores.proofs.ApartLaws.{windows-right}
 use Rattle.replies.specs.View.{repliesOf}
-use Rattle.gossip.specs.Notes.{Note, Row, Gossip, Extended, storeIn, storedIn, setStore, added, moved, windowMost, forget}
+use Rattle.gossip.specs.Notes.{Note, Gossip, Extended, storeIn, storedIn, setStore, added, moved, windowMost, forget}
 use Rattle.gossip.specs.Valid.{storeOk}
 use Rattle.gossip.proofs.Fine.{fine-of}
 use Rattle.gossip.specs.Calls.{store}
@@ -121,7 +121,8 @@ notes-keep g g′ notes f l e =
       size = l;
       windows = windows-right (storesPart g′) (isJoined (f .base)) (stores-size g′ l)
           (every-by _ topicCount
-          (λ t h. ap (storeOk (isJoined (f .base) t)) (store-part g′ t ∙ same-store t) ∙ fine-of (f .base) (gossipOf g) (f .ok) .store t h));
+          (λ t h. ap (storeOk (isJoined (f .base) t)) (store-part g′ t ∙ same-store t)
+          ∙ fine-of (f .base) (gossipOf g) (f .ok) .store t h));
       rows = omega (arith, q, z);
     }
   where

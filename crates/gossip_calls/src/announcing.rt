@@ -49,7 +49,14 @@ fn tell_any(
         return 0;
     }
     let set = targets(table, topic);
-    tell_targets(table, order, &set, load_lazy(gossip), load_factor(gossip), actions)
+    tell_targets(
+        table,
+        order,
+        &set,
+        load_lazy(gossip),
+        load_factor(gossip),
+        actions,
+    )
 }
 
 fn announce_from(
@@ -99,5 +106,13 @@ pub fn announce(
     if gate != 0 {
         return gate;
     }
-    announce_from(table, gossip, time, topic as usize, permutation, numbers, actions)
+    announce_from(
+        table,
+        gossip,
+        time,
+        topic as usize,
+        permutation,
+        numbers,
+        actions,
+    )
 }

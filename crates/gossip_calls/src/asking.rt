@@ -117,7 +117,14 @@ pub fn ihave(
 
 // Whether an IWANT of the peer in a slot is answered, with a number that was found at a place. A score costs more than the other tests, and
 // comes last.
-fn is_served(table: &[u64], gossip: &[u64], time: u64, number: u64, slot: usize, place: usize) -> bool
+fn is_served(
+    table: &[u64],
+    gossip: &[u64],
+    time: u64,
+    number: u64,
+    slot: usize,
+    place: usize,
+) -> bool
     requires { ⌜ Wanting (now table) (now gossip) time number slot place ⌝ }
     ensures { λ r. ⌜ r ≡ isServed (extendedOf (now (table .entry)) (now (gossip .entry))) number slot ⌝ }
 {

@@ -78,11 +78,22 @@ fn beat_from(table: &mut [u64], gossip: &mut [u64], time: u64) -> u64
 }
 
 // A heartbeat of all topics.
-pub fn beat(table: &mut [u64; CELLS], gossip: &mut [u64; GOSSIP_CELLS], time: u64, actions: &mut [u32]) -> u64
+pub fn beat(
+    table: &mut [u64; CELLS],
+    gossip: &mut [u64; GOSSIP_CELLS],
+    time: u64,
+    actions: &mut [u32],
+) -> u64
     ensures { λ r. ⌜ FollowsAll (new (Calls·beat time)) r (now (table .entry)) (now (table .exit))
         (now (gossip .entry)) (now (gossip .exit)) (now (actions .entry)) (now (actions .exit)) ⌝ }
 {
-    let gate = admit(table, gossip, time_ok(time), ACTION_ROOM <= actions.len(), time);
+    let gate = admit(
+        table,
+        gossip,
+        time_ok(time),
+        ACTION_ROOM <= actions.len(),
+        time,
+    );
     if gate != 0 {
         return gate;
     }

@@ -1,18 +1,18 @@
 -- The replies of the calls, case by case, in the form in which a search finds them.
 -- Assumes nothing.
-use Rattle.index.proofs.Kit.{ℕ, _≤_, _<_, _≡_, refl, sym, ap, _∙_, Bool, true, false, not, arith}
-use mathlib.Core.Bool.{cond, _&&_, _||_}
+use Rattle.index.proofs.Kit.{ℕ, _≡_, ap, _∙_, Bool, true, false}
+use mathlib.Core.Bool.{cond}
 use mathlib.Core.List.{List, []}
-use lib.Dec.{eqb, ltb}
-use lib.ListN.{length}
+use lib.Dec.{ltb}
 use Rattle.index.specs.declared.Found.{Found}
 use Rattle.index.specs.declared.Found.the-variants.{At, Nothing}
 use Rattle.lookup.specs.Find.{findConnected}
 use Rattle.sets.specs.Sets.{isPermutation}
 use Rattle.records.specs.Records.{slotCount}
 use Rattle.effects.specs.Effects.{isJoined}
-use Rattle.gossip.specs.Notes.{Extended, Gossip, noteIn, storeIn, setNote, setStore, setReplies, holds, storedIn, windowMost, added, replied, stored}
-use Rattle.gossip.specs.Step.{FullReply, refusedAll, ignoredAll, doneAll, onSlot, ofPeerAll, tellBySlot, isAsked, isRelayed, askReply, relayReply}
+use Rattle.gossip.specs.Notes.{Extended, noteIn, storeIn, setNote, setStore, setReplies, holds, storedIn, windowMost, added, replied}
+use Rattle.gossip.specs.Notes.{stored}
+use Rattle.gossip.specs.Step.{FullReply, refusedAll, ignoredAll, doneAll, onSlot, ofPeerAll}
 use Rattle.gossip.specs.Step.{isHeeded, hasRoom, withPut, idontwantReply, running, storeReply, isAnswered, withIhave, ihaveReply, wanted}
 use Rattle.gossip.specs.Step.{isServed, iwantReply, announceReply, announced, ifAny, tellOne, chosen, inDraw}
 use mathlib.Core.List.{map}

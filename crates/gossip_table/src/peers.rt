@@ -1,13 +1,10 @@
 // The notes of the peers: their IDONTWANT sets, and the counts of a heartbeat.
 ghost use mathlib.Core.Path.{_≡_};
-ghost use mathlib.Core.Bool.{Bool, true, false, not, _&&_};
-ghost use mathlib.Core.List.{List, map};
-ghost use Prim.Native.Nat.{ℕ, _<_};
+ghost use mathlib.Core.List.{map};
 ghost use lib.Dec.{ltb};
-ghost use Rattle.records.specs.Records.{slotCount};
-ghost use Rattle.gossip.specs.Notes.{Note, noNote, noteIn, setNote, holds as holdsOf};
+ghost use Rattle.gossip.specs.Notes.{noNote, noteIn, setNote, holds as holdsOf};
 ghost use Rattle.gossip.specs.Step.{hasRoom, withPut, withIhave, parted, beaten};
-ghost use Rattle.gossip_table.specs.View.{gossipCells, gossipOf, setNotes};
+ghost use Rattle.gossip_table.specs.View.{gossipOf, setNotes};
 ghost use Rattle.gossip_table.specs.Fine.{Fine, FineSlot, HasRoom, Lent};
 use crate::NOTES_AT;
 use crate::STORES_AT;

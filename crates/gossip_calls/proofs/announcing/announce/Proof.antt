@@ -20,7 +20,8 @@ returns c =
 
 announce-from-requires : tie.Need-announce-from-requires
 announce-from-requires c κs =
-    announcing _ _ _ _ _ _ _ _ _ (c .before .before .before .before .before .admit .ensures) (c .before .before .before .before .if1 .left) (c .before .before .before .before .before .before .before .before .before .before .time-ok .ensures)
+    announcing _ _ _ _ _ _ _ _ _ (c .before .before .before .before .before .admit .ensures) (c .before .before .before .before .if1 .left)
+    (c .before .before .before .before .before .before .before .before .before .before .time-ok .ensures)
     (search needs)
     (search needs)
     (c .before .before .before .before .before .before .before .before .before .topic-ok .ensures)
@@ -28,9 +29,11 @@ announce-from-requires c κs =
 returns-2 : tie.Need-returns-2
 unfolding newEffect
 returns-2 c =
-    let a = c .before .before .before .before .before .before .before .before .before .before .before .before .before .before .before .before .before .before .before .args in
+    let a = c .before .before .before .before .before .before .before .before .before .before .before .before .before .before .before
+    .before .before .before .before .args in
     lists-given (announce (a .time) (a .topic) (a .permutation .now) (length (a .numbers .now))) _ _ _ _ _ _ _ _
-    (c .before .before .before .before .before .before .before .before .before .before .before .before .before .before .before .time-ok .ensures)
+    (c .before .before .before .before .before .before .before .before .before .before .before .before .before .before .before .time-ok
+    .ensures)
     (c .before .before .before .before .before .before .before .before .before .before .before .before .before .before .topic-ok .ensures)
     refl
     (c .before .before .before .before .before .before .before .before .before .before .admit .ensures)

@@ -12,23 +12,35 @@ use Rattle.gossip_calls.proofs.announcing.announce_from.Tie as tie
 
 finish-requires : tie.Need-finish-requires
 finish-requires c κs =
-    let a = c .before .before .before .before .before .before .before .before .before .before .before .before .before .before .before .before .before .before .before .before .args in
+    let a = c .before .before .before .before .before .before .before .before .before .before .before .before .before .before .before
+    .before .before .before .before .before .args in
     let g = gossipOf (a .gossip .now) in
     let m = c .before .before .before .before .before .before .before .before .announce .ensures .1 in
     record {
       size = search needs;
       few =
           told-most (stateOf (a .table .now)) (g .setup) (a .topic) (a .order .now) (announced (storeIn g (a .topic))) _ _ _
-          (passed (c .before .before .before .before .before .before .before .before .before .before .before .before .before .before .is-permutation .ensures) (c .before .before .before .before .before .before .before .before .before .before .before .before .before .if1 .left))
+          (passed (c .before .before .before .before .before .before .before .before .before .before .before .before .before .before
+          .is-permutation .ensures)
+          (c .before .before .before .before .before .before .before .before .before .before .before .before .before .if1 .left))
           (c .before .before .before .tell-any .ensures (announced (storeIn g (a .topic))) m);
-      some = announced-most (c .before .before .before .before .before .before .before .before .before .before .before .before .before .before .before .before .before .before .before .before .pre) _ m;
+      some = announced-most
+          (c .before .before .before .before .before .before .before .before .before .before .before .before .before .before .before .before
+          .before .before .before .before .pre) _ m;
     }
 
 returns-3 : tie.Need-returns-3
 returns-3 c =
-    let a = c .before .before .before .before .before .before .before .before .before .before .before .before .before .before .before .before .before .before .before .before .before .before .before .args in
-    let told = c .before .before .before .before .before .before .tell-any .ensures (announced (storeIn (gossipOf (a .gossip .now)) (a .topic))) (c .before .before .before .before .before .before .before .before .before .before .before .announce .ensures .1) in
-    announce-told _ _ _ _ _ _ _ _ (c .before .before .before .before .before .before .before .before .before .before .before .before .before .before .before .before .before .is-permutation .ensures) (c .before .before .before .before .before .before .before .before .before .before .before .before .before .before .before .before .if1 .left) _
+    let a = c .before .before .before .before .before .before .before .before .before .before .before .before .before .before .before
+    .before .before .before .before .before .before .before .before .args in
+    let told = c .before .before .before .before .before .before .tell-any .ensures
+    (announced (storeIn (gossipOf (a .gossip .now)) (a .topic)))
+    (c .before .before .before .before .before .before .before .before .before .before .before .announce .ensures .1) in
+    announce-told _ _ _ _ _ _ _ _
+    (c .before .before .before .before .before .before .before .before .before .before .before .before .before .before .before .before
+    .before .is-permutation .ensures)
+    (c .before .before .before .before .before .before .before .before .before .before .before .before .before .before .before .before
+    .if1 .left) _
     (c .before .before .before .before .before .before .before .before .before .before .before .before .before .before .is-joined .ensures)
     _
     _
@@ -51,7 +63,8 @@ announce-from-spec =
     (λ c κs. search needs)
     (λ c. search needs)
     (λ c.
-    announce-ignored _ _ _ _ _ _ _ _ (c .before .before .before .before .before .before .before .before .is-permutation .ensures) (c .before .before .before .before .before .before .before .if1 .left) _
+    announce-ignored _ _ _ _ _ _ _ _ (c .before .before .before .before .before .before .before .before .is-permutation .ensures)
+    (c .before .before .before .before .before .before .before .if1 .left) _
     (c .before .before .before .before .before .is-joined .ensures)
     _
     _

@@ -17,7 +17,10 @@ tell-any-spec =
     (λ c κs. search (telling-drawn, needs))
     (λ c. search needs)
     (λ c l e.
-    told-some _ (gossipOf (c .before .before .before .before .before .before .before .before .before .before .before .before .before .args .gossip .now) .setup) _ _ _ _ _ _ _ _ _ l (c .before .before .before .before .before .before .before .before .if1 .left) e (c .before .before .before .before .before .load-lazy .ensures)
+    told-some _ (gossipOf
+    (c .before .before .before .before .before .before .before .before .before .before .before .before .before .args .gossip .now)
+    .setup) _ _ _ _ _ _ _ _ _ l (c .before .before .before .before .before .before .before .before .if1 .left) e
+    (c .before .before .before .before .before .load-lazy .ensures)
     (c .before .before .before .before .load-factor .ensures)
     (c .before .before .before .before .before .before .before .targets .ensures)
     (c .before .before .tell-targets .ensures)))

@@ -11,7 +11,9 @@ finish-requires c κs =
     record {
       size = search needs;
       few = omega arith;
-      some = wanted-most (c .before .before .before .before .before .before .before .before .before .before .before .before .before .before .before .before .before .before .pre) _ (c .before .before .before .before .before .before .before .want .ensures .1);
+      some = wanted-most
+          (c .before .before .before .before .before .before .before .before .before .before .before .before .before .before .before .before
+          .before .before .pre) _ (c .before .before .before .before .before .before .before .want .ensures .1);
     }
 
 pub answer-spec : {M : Type 1} → statement M
@@ -22,7 +24,8 @@ answer-spec =
     (λ c κs. search needs)
     (λ c. search needs)
     (λ c. search needs)
-    (λ c. answer-not _ _ _ _ _ _ _ _ _ _ (c .before .before .before .before .before .is-answered .ensures) (c .before .before .before .before .if1 .taken) (c .before .before .ignore .ensures))
+    (λ c. answer-not _ _ _ _ _ _ _ _ _ _ (c .before .before .before .before .before .is-answered .ensures)
+    (c .before .before .before .before .if1 .taken) (c .before .before .ignore .ensures))
     (λ c κs. search (admitted-fine, needs))
     (λ c κs. search (admitted-slot, needs))
     finish-requires
@@ -30,6 +33,9 @@ answer-spec =
     (λ c. search needs)
     (λ c. search needs)
     (λ c.
-    answer-one _ _ _ _ _ _ _ _ _ _ (c .before .before .before .before .before .before .before .before .before .before .before .before .before .before .is-answered .ensures) (c .before .before .before .before .before .before .before .before .before .before .before .before .before .if1 .left) _ _ _ (c .before .before .before .before .before .before .before .before .before .before .want .ensures)
+    answer-one _ _ _ _ _ _ _ _ _ _
+    (c .before .before .before .before .before .before .before .before .before .before .before .before .before .before .is-answered
+    .ensures) (c .before .before .before .before .before .before .before .before .before .before .before .before .before .if1 .left) _ _
+    _ (c .before .before .before .before .before .before .before .before .before .before .want .ensures)
     (c .before .before .before .before .before .before .count-ihave .ensures)
     (c .before .before .finish .ensures)))

@@ -14,15 +14,19 @@ returns c =
     let a = c .before .before .before .before .before .before .before .before .before .before .before .before .args in
     lists-refused (ihave (a .time) (a .id) (a .topic) (a .given .now) (length (a .numbers .now))) _ _ _ _ _ _ _ _
     (c .before .before .before .before .before .before .before .before .time-ok .ensures)
-    (arguments-are (a .id) (a .topic) (length (a .given .now)) _ _ (c .before .before .before .before .before .before .before .id-ok .ensures) (c .before .before .before .before .before .before .topic-ok .ensures))
+    (arguments-are (a .id) (a .topic) (length (a .given .now)) _ _
+    (c .before .before .before .before .before .before .before .id-ok .ensures)
+    (c .before .before .before .before .before .before .topic-ok .ensures))
     refl
     (c .before .admit .ensures)
     (c .if1 .taken)
 
 ihave-from-requires : tie.Need-ihave-from-requires
 ihave-from-requires c κs =
-    let a = c .before .before .before .before .before .before .before .before .before .before .before .before .before .before .before .args in
-    having _ _ (a .actions .now) _ _ _ _ _ _ (c .before .before .before .before .admit .ensures) (c .before .before .before .if1 .left) (c .before .before .before .before .before .before .before .before .before .before .before .time-ok .ensures)
+    let a = c .before .before .before .before .before .before .before .before .before .before .before .before .before .before .before
+    .args in
+    having _ _ (a .actions .now) _ _ _ _ _ _ (c .before .before .before .before .admit .ensures) (c .before .before .before .if1 .left)
+    (c .before .before .before .before .before .before .before .before .before .before .before .time-ok .ensures)
     (search needs)
     (search needs)
     _
@@ -34,10 +38,13 @@ ihave-from-requires c κs =
 returns-2 : tie.Need-returns-2
 unfolding newEffect
 returns-2 c =
-    let a = c .before .before .before .before .before .before .before .before .before .before .before .before .before .before .before .before .before .before .args in
+    let a = c .before .before .before .before .before .before .before .before .before .before .before .before .before .before .before
+    .before .before .before .args in
     lists-quiet (ihave (a .time) (a .id) (a .topic) (a .given .now) (length (a .numbers .now))) _ _ _ _ _ _ _ _
     (c .before .before .before .before .before .before .before .before .before .before .before .before .before .before .time-ok .ensures)
-    (arguments-are (a .id) (a .topic) (length (a .given .now)) _ _ (c .before .before .before .before .before .before .before .before .before .before .before .before .before .id-ok .ensures) (c .before .before .before .before .before .before .before .before .before .before .before .before .topic-ok .ensures))
+    (arguments-are (a .id) (a .topic) (length (a .given .now)) _ _
+    (c .before .before .before .before .before .before .before .before .before .before .before .before .before .id-ok .ensures)
+    (c .before .before .before .before .before .before .before .before .before .before .before .before .topic-ok .ensures))
     refl
     (c .before .before .before .before .before .before .before .admit .ensures)
     (c .before .before .before .before .before .before .if1 .left)

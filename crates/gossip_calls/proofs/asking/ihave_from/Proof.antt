@@ -16,7 +16,8 @@ returns c =
 
 returns-2 : tie.Need-returns-2
 returns-2 c =
-    let a = c .before .before .before .before .before .before .before .before .before .before .before .before .before .before .before .before .before .before .before .args in
+    let a = c .before .before .before .before .before .before .before .before .before .before .before .before .before .before .before
+    .before .before .before .before .args in
     asks-found _ _ _ _ (ihaveReply (extendedOf (a .table .now) (a .gossip .now)) (a .time) (a .topic) (a .given .now)) _
     (c .before .before .before .before .before .before .before .before .before .before .before .before .before .find-connected .ensures)
     _

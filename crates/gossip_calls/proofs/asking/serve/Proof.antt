@@ -15,7 +15,8 @@ serve-spec =
     (λ c. search needs)
     (λ c. search needs)
     (λ c. search serve-not)
-    (λ c κs. serve-fits (c .before .before .before .before .before .before .before .before .before .pre) _ _ (c .before .before .is-served .ensures) (c .before .if1 .left))
+    (λ c κs. serve-fits (c .before .before .before .before .before .before .before .before .before .pre) _ _
+    (c .before .before .is-served .ensures) (c .before .if1 .left))
     (λ c κs. search needs)
     (λ c. search needs)
     (λ c. search needs)

@@ -12,7 +12,8 @@ returns c = search (call-refused, time-alone, c .if1 .taken)
 
 beat-from-requires : tie.Need-beat-from-requires
 beat-from-requires c κs =
-    gate-admitted _ _ _ _ _ _ _ (time-alone _ _ _ _ _ _ (c .before .before .before .admit .ensures)) (c .before .before .if1 .left) (c .before .before .before .before .time-ok .ensures)
+    gate-admitted _ _ _ _ _ _ _ (time-alone _ _ _ _ _ _ (c .before .before .before .admit .ensures)) (c .before .before .if1 .left)
+    (c .before .before .before .before .time-ok .ensures)
     (search needs)
     (search needs)
 

@@ -9,7 +9,8 @@ beat-all-spec =
     tie.close
     (tie.spec
     (λ c κs. search needs)
-    (λ c κs. notes-keep _ _ _ (c .before .before .before .before .before .before .pre) (search needs) (c .before .before .before .beat .ensures))
+    (λ c κs. notes-keep _ _ _ (c .before .before .before .before .before .before .pre) (search needs)
+    (c .before .before .before .beat .ensures))
     (λ c κs. search needs)
     (λ c. search needs)
     (λ c. search beat-is))

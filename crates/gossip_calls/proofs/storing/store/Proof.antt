@@ -12,7 +12,9 @@ returns c = search (call-refused, c .if1 .taken)
 
 store-from-requires : tie.Need-store-from-requires
 store-from-requires c κs =
-    topic-admitted _ _ _ _ _ _ _ _ (c .before .before .before .admit .ensures) (c .before .before .if1 .left) (c .before .before .before .before .before .before .before .before .before .time-ok .ensures) (c .before .before .before .before .before .before .before .before .topic-ok .ensures)
+    topic-admitted _ _ _ _ _ _ _ _ (c .before .before .before .admit .ensures) (c .before .before .if1 .left)
+    (c .before .before .before .before .before .before .before .before .before .time-ok .ensures)
+    (c .before .before .before .before .before .before .before .before .topic-ok .ensures)
     (search needs)
     (search needs)
 

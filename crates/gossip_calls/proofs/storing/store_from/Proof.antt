@@ -22,7 +22,8 @@ store-from-spec =
     (λ c. search needs)
     (λ c. search needs)
     (λ c. search stored-full)
-    (λ c κs. store-room (c .before .before .before .before .before .before .before .before .before .before .before .before .pre) _ (c .before .before .has-room .ensures) (c .before .if3 .left))
+    (λ c κs. store-room (c .before .before .before .before .before .before .before .before .before .before .before .before .pre) _
+    (c .before .before .has-room .ensures) (c .before .if3 .left))
     (λ c κs. search needs)
     (λ c. search needs)
     (λ c. search needs)
