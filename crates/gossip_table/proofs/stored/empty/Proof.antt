@@ -8,5 +8,8 @@ pub empty-spec : {M : Type 1} → statement M
 empty-spec =
     tie.close (tie.spec
     (λ c κs. search needs)
-    (λ c κs. c .before .empty-store .ensures .1)
-    (λ c. c .forget .ensures ∙ ap forget (c .before .before .empty-store .ensures .0)))
+    (λ c κs. c .before .before .before .empty-store .ensures .1)
+    (λ c. search needs)
+    (λ c.
+    c .before .before .forget .ensures
+    ∙ ap forget (c .before .before .before .before .before .before .empty-store .ensures .0)))
