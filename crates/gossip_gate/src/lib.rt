@@ -5,6 +5,9 @@ ghost use lib.ListN.{length};
 ghost use Rattle.records.specs.Records.{setClock};
 ghost use Rattle.layout.specs.View.{cellCount, stateOf};
 ghost use Rattle.gossip.specs.Calls.{senderOk};
+ghost use Rattle.gossip_table.specs.View.{extendedOf};
+ghost use Rattle.gossip_table.specs.Fine.{Both};
+ghost use Rattle.gossip_gate.specs.Promise.{gateAll};
 ghost use Rattle.gossip_gate.specs.Admitted.{Ending};
 use validity::valid::MAX_ID;
 
@@ -35,6 +38,29 @@ pub fn sender_ok(sender: u64) -> bool
     ensures { λ r. ⌜ r ≡ senderOk sender ⌝ }
 {
     sender <= MAX_ID
+}
+
+// 0 where all tests are passed. `fine` says that each argument is in its range, `fits` that each lent list is long enough.
+pub fn admit(table: &[u64], gossip: &[u64], fine: bool, fits: bool, time: u64) -> u64
+    requires { ⌜ Both (now table) (now gossip) ⌝ }
+    ensures { λ r. ⌜ r ≡ gateAll (extendedOf (now (table .entry)) (now (gossip .entry))) fine fits time ⌝ }
+{
+    if !validity::valid::is_router(table) {
+        return NOT_ROUTER;
+    }
+    if !gossip_table::tests::is_gossip(table, gossip) {
+        return NOT_ROUTER;
+    }
+    if !fine {
+        return OUT_OF_RANGE;
+    }
+    if !fits {
+        return LIST_SHORT;
+    }
+    if time < layout::load_clock(table) {
+        return EARLY;
+    }
+    0
 }
 
 // 0, with so many actions and numbers.

@@ -90,10 +90,3 @@ module _ (st : State) (g : Gossip) (ok : gossipOk st g ≡ true) where
       let b = both (leb (length r) rowsMost && rises (map rowNumber r)) _ (a .0) in
       let d = both (leb (length r) rowsMost) _ (b .0) in
       (leb-true (length r) rowsMost (d .0), d .1, b .1, a .1)
-
-  pub fine-windows : (t : ℕ) → t < topicCount → all windowOk (storeIn g t) ≡ true
-  unfolding storeOk
-  fine-windows t l =
-      let w = storeIn g t in
-      let a = both (all windowOk w && apart (flat w)) _ (fine .store t l) in
-      both (all windowOk w) (apart (flat w)) (a .0) .0

@@ -3,3 +3,4 @@ pub mod ViewLaws
 pub mod FineLaws
 pub mod NoteParts
 pub mod StoreParts
+pub mod TestLaws

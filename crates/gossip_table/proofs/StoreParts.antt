@@ -8,11 +8,12 @@ use lib.Dec.{leb, ltb}
 use lib.ListN.{length, getD, set}
 use borrow.Author.Tests.{leb-true, le-leb, ltb-true}
 use borrow.Rule.Slice.PartMut.{putMid, same-len-mid}
-use Rattle.index.proofs.Index.{both}
+use Rattle.index.proofs.Index.{every-by}
 use Rattle.records.specs.Records.{State, slotCount, topicCount}
-use Rattle.layout.proofs.RowLaws.{getD-tab}
-use Rattle.stores.specs.View.{storesCells, storesOf, storeAt, storedAt, windowAt, fiveAt, countAt, allWindows, Windows, Store}
-use Rattle.stores.proofs.ViewLaws.{length-window, store-five, length-store, length-stores, stored-state}
+use Rattle.stores.specs.View.{storesCells, storesOf, storeAt, storedAt, Windows, Store}
+use Rattle.stores.proofs.ViewLaws.{length-store, length-stores, stored-state}
+use Rattle.stores.proofs.ApartLaws.{windows-right}
+use Rattle.effects.specs.Effects.{isJoined}
 use Rattle.replies.specs.View.{repliesCells, repliesOf}
 use Rattle.replies.specs.Asked.{Rows, RowOf, SlotOf, Ordered, Room, Flagged, FlagsSay}
 use Rattle.notes.proofs.NoteLaws.{notes-length}
@@ -25,7 +26,7 @@ use Rattle.gossip_table.specs.View.{storesAt, repliesAt, gossipCells, no
 use Rattle.gossip_table.specs.Fine.{Fine, FineSlot, FineTopic, Kept, KeptSlot, KeptRow, StoreFits, ReplyFits, Announces}
 use Rattle.gossip_table.proofs.PartLaws.{part-length, part-same, part-before, part-behind}
 use Rattle.gossip_table.proofs.ViewLaws.{stores-put, replies-put}
-use Rattle.gossip_table.proofs.FineLaws.{fine-windows, fine-rows}
+use Rattle.gossip_table.proofs.FineLaws.{fine-rows}
 
 -- ---- the parts
 pub stores-size : (c : List ℕ) → length c ≡ gossipCells → length (storesPart c) ≡ storesCells
@@ -44,44 +45,13 @@ replies-part c = refl
 
 pub stored-part : (c : List ℕ) (n : ℕ) → storedAt (storesPart c) n ≡ stored (gossipOf c) n
 unfolding gossipOf
-stored-part c n = sym (stored-state (gossipOf c) (storesPart c) n refl)
+stored-part c n = sym (stored-state (gossipOf c) (storesPart c) refl n)
 
 -- ---- the windows
-all-nth : {A : Type 0} (f : A → Bool) (l : List A) (k : ℕ) (d : A) → all f l ≡ true → k < length l → f (getD l k d) ≡ true
-unfolding all
-all-nth f [] k d e h = absurd (omega arith)
-all-nth f (a ∷ l) zero d e h = both (f a) (all f l) e .0
-all-nth f (a ∷ l) (suc k) d e h = all-nth f l k d (both (f a) (all f l) e .1) (omega arith)
-
-window-of : (c : List ℕ) (t w : ℕ) → t < topicCount → w < windowCount → getD (storeAt c t) w [] ≡ windowAt c (t * windowCount + w)
-unfolding fiveAt
-window-of c t w l h =
-    ap (λ (s : List (List ℕ)). getD s w []) (store-five c t l)
-    ∙ getD-tab windowCount (λ k. windowAt c (t * windowCount + k)) w [] h
-
-pub windows-by :
-    (c : List ℕ) →
-    length c ≡ storesCells →
-    ((t : ℕ) → t < topicCount → all windowOk (storeAt c t) ≡ true) →
-    Windows c
-windows-by c size ok =
-    record {
-      cells = size;
-      most = λ p l.
-          let t = p / 5 in
-          let w = p % 5 in
-          let a : t < topicCount = omega arith in
-          let b : w < windowCount = omega arith in
-          let q : t * windowCount + w ≡ p = omega arith in
-          let n = all-nth windowOk (storeAt c t) w [] (ok t a) (rw (length-store c t) b) in
-          let m = leb-true (length (getD (storeAt c t) w [])) windowMost n in
-          let e = ap length (window-of c t w a b) ∙ length-window c (t * windowCount + w) ∙ ap (countAt c) q in
-          omega (arith, m, e);
-    }
-
 pub fine-stores : {c : List ℕ} → Fine c → Windows (storesPart c)
 fine-stores {c} f =
-    windows-by (storesPart c) (stores-size c (f .size)) (λ t l. rw (store-part c t) (fine-windows (f .base) (gossipOf c) (f .ok) t l))
+    windows-right (storesPart c) (isJoined (f .base)) (stores-size c (f .size))
+    (every-by _ topicCount (λ t l. rw (store-part c t) (fine-of (f .base) (gossipOf c) (f .ok) .store t l)))
 
 pub fine-topic : {c : List ℕ} {t : ℕ} → FineTopic c t → Store (storesPart c) t
 fine-topic {c} {t} h =

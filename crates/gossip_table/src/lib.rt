@@ -2,6 +2,7 @@
 // that crate, and promises what becomes of the whole.
 pub mod peers;
 pub mod stored;
+pub mod tests;
 
 ghost use mathlib.Core.Path.{_≡_};
 ghost use lib.ListN.{length};

@@ -1,30 +1,30 @@
 -- Test 12 of a store, window by window and number by number: each number is looked for among those before it.
 -- Assumes nothing.
 use Prim.Native.Nat.{ℕ, zero, suc, _+_, _*_, _/_, _%_, _≤_, _<_}
-use native.Mathlib.Nat.{add-zero, not-suc-le-zero, le-of-suc-le-suc, eq-or-lt-of-le}
+use native.Mathlib.Nat.{not-suc-le-zero, le-of-suc-le-suc, eq-or-lt-of-le}
 use native.Mathlib.Numerals.{add-one}
 use native.Mathlib.Omega.{arith}
-use mathlib.Core.Path.{_≡_, refl, sym, ap, _∙_}
-use mathlib.Core.Logic.{⊎-elim}
 use mathlib.Core.Bool.{Bool, true, false, not, _&&_, _||_, and-false}
 use mathlib.Core.List.{List, [], _∷_, _++_, append-assoc, append-nil}
+use mathlib.Core.Logic.{⊎-elim}
+use mathlib.Core.Path.{_≡_, refl, sym, ap, _∙_}
 use lib.Dec.{eqb, leb}
 use lib.ListN.{length, getD, take, drop, take-append-drop}
 use lib.Seq.{take-suc, take-all}
-use borrow.Author.Tests.{eqb-true, eqb-false, eq-eqb, ne-eqb, leb-true, not-true, not-false}
-use Rattle.index.specs.Index.{every, gather}
-use Rattle.index.proofs.Index.{every-at, both, gather-more}
+use borrow.Author.Tests.{eqb-true, eqb-false, eq-eqb, ne-eqb, leb-true}
 use Rattle.index.proofs.Flags.{by-test}
+use Rattle.index.proofs.Index.{every-at, both, gather-more}
+use Rattle.index.specs.Index.{every, gather}
 use Rattle.records.specs.Records.{topicCount}
 use Rattle.layout.proofs.RowLaws.{getD-tab}
 use Rattle.gossip.specs.Notes.{windowCount, windowMost, has}
 use Rattle.gossip.specs.Valid.{all, none, flat, apart, windowOk, storeOk}
-use Rattle.stores.specs.View.{allWindows, storesCells, countAt, windowAt, fiveAt, storeAt, Store, Windows}
 use Rattle.stores.specs.Marks.{bucketCount, wordCount, isMarked, marked, windowsOf, before, upTo, Seen, Looking}
+use Rattle.stores.specs.View.{storesCells, countAt, windowAt, fiveAt, storeAt, Store, Windows}
+use Rattle.stores.proofs.ChangeLaws.{five-is}
 use Rattle.stores.proofs.HasLaws.{has-append, has-none, or-true}
 use Rattle.stores.proofs.MarkLaws.{seen-none, seen-more, new-told}
 use Rattle.stores.proofs.ViewLaws.{length-window, store-five}
-use Rattle.stores.proofs.ChangeLaws.{five-is}
 
 -- ---- none twice, from the front
 

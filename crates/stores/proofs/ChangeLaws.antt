@@ -4,22 +4,22 @@ use Prim.Native.Nat.{ℕ, zero, suc, _+_, _*_, _-_, _≤_, _<_}
 use native.Mathlib.Nat.{add-zero, not-suc-le-zero}
 use native.Mathlib.Numerals.{add-one}
 use native.Mathlib.Omega.{arith}
-use mathlib.Core.Path.{_≡_, refl, sym, ap, _∙_}
-use mathlib.Core.Logic.{_≢_}
 use mathlib.Core.List.{List, [], _∷_, _++_, map}
-use lib.ListN.{length, getD, set, take, length-set}
+use mathlib.Core.Logic.{_≢_}
+use mathlib.Core.Path.{_≡_, refl, sym, ap, _∙_}
+use lib.ListN.{length, getD, set, length-set}
 use lib.Seq.{getD-set-same, getD-set-other}
 use borrow.Author.Count.{below-more}
 use Rattle.index.proofs.Flags.{by-order}
 use Rattle.index.proofs.Lists.{set-case}
 use Rattle.records.specs.Records.{topicCount}
+use Rattle.layout.proofs.RowLaws.{tab-same}
 use Rattle.layout.specs.Rows.{tab}
-use Rattle.layout.proofs.RowLaws.{tab-same, tab-set}
 use Rattle.gossip.specs.Notes.{windowCount, windowMost, noStore, added, moved}
 use Rattle.gossip.specs.Step.{running}
-use Rattle.stores.specs.View.{allWindows, storesCells, startOf, countAt, windowAt, fiveAt, storesOf, storeAt}
-use Rattle.stores.specs.View.{Window, Store, Windows, CopiedOn, Emptied, Changed, Shifted, MovedTo}
-use Rattle.stores.proofs.ViewLaws.{length-window, window-like, window-none, five-none, five-same, store-five, changed-stores}
+use Rattle.stores.specs.View.{allWindows, storesCells, startOf, countAt, windowAt, fiveAt, storesOf, storeAt, Window, Store}
+use Rattle.stores.specs.View.{Windows, CopiedOn, Emptied, Changed, Shifted, MovedTo}
+use Rattle.stores.proofs.ViewLaws.{length-window, window-like, window-none, five-none, five-same, store-five}
 
 ≢-above : (p q : ℕ) → p ≤ q → q ≢ p → p + 1 ≤ q
 ≢-above p q a y = by-order (p + 1 ≤ q) p q (λ b. omega arith) (λ b. absurd (y (omega arith)))
@@ -137,10 +137,6 @@ added-cells c t n h l r =
 
 -- ---- no number
 
-pub emptied-none : (c : List ℕ) (p : ℕ) → Emptied c c p 0
-emptied-none c p =
-    record { size = refl; gone = λ v l. absurd (not-suc-le-zero l); before = λ i l. refl; behind = λ i l. refl }
-
 pub emptied-more :
     (c d : List ℕ) (p w : ℕ) → Emptied c d p w → p + w < length d → Emptied c (set d (p + w) 0) p (w + 1)
 emptied-more c d p w h l =
@@ -187,10 +183,6 @@ emptied-cells c d t h l m =
     }
 
 -- ---- a window in place of the one behind it
-
-pub copied-none : (c : List ℕ) (at : ℕ) → CopiedOn c c at 0
-copied-none c at =
-    record { size = refl; inside = λ k l. absurd (not-suc-le-zero l); before = λ i l. refl; behind = λ i l. refl }
 
 pub copied-more :
     (c d : List ℕ) (at k : ℕ) →

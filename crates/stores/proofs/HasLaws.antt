@@ -1,13 +1,13 @@
 -- Whether a list has a number, as loops that go along it find it; whether some index below n fits, by parts.
 -- Assumes nothing.
 use Prim.Native.Nat.{ℕ, zero, suc, _+_, _*_, _≤_, _<_}
-use native.Mathlib.Nat.{le-antisymm, not-suc-le-zero, eq-or-lt-of-le, le-of-suc-le-suc, zero-add, add-zero, add-suc, suc-mul, zero-mul}
+use native.Mathlib.Nat.{le-antisymm, not-suc-le-zero, eq-or-lt-of-le, le-of-suc-le-suc, add-zero, add-suc, suc-mul, zero-mul}
 use native.Mathlib.Numerals.{add-one}
 use native.Mathlib.Omega.{arith}
-use mathlib.Core.Path.{_≡_, refl, sym, ap, _∙_}
-use mathlib.Core.Logic.{⊎-elim}
 use mathlib.Core.Bool.{Bool, true, false, _||_}
 use mathlib.Core.List.{List, [], _∷_, _++_}
+use mathlib.Core.Logic.{⊎-elim}
+use mathlib.Core.Path.{_≡_, refl, sym, ap, _∙_}
 use lib.Dec.{eqb, ltb}
 use lib.ListN.{length, getD, take}
 use lib.Seq.{take-suc, take-all}
@@ -125,6 +125,3 @@ pub some-same : (f g : ℕ → Bool) (n : ℕ) → ((i : ℕ) → i < n → f i 
 unfolding some
 some-same f g zero h = refl
 some-same f g (suc n) h = rw (some-same f g n (λ i l. h i (omega arith)), h n (omega arith))
-
--- what a loop that looks for one asks
-pub ruleset some-loop = (some-none, some-more, some-out, some-in)

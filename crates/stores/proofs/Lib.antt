@@ -4,3 +4,4 @@ pub mod ChangeLaws
 pub mod ListLaws
 pub mod MarkLaws
 pub mod ApartLaws
+pub mod WantLaws

@@ -4,9 +4,9 @@ use Prim.Native.Nat.{ℕ, _+_, _*_, _/_, _%_, _≤_, _<_}
 use native.Mathlib.Nat.{zero-add}
 use native.Mathlib.Numerals.{add-one}
 use native.Mathlib.Omega.{arith}
-use mathlib.Core.Path.{_≡_, refl, sym, ap, _∙_}
-use mathlib.Core.Bool.{Bool, true, _&&_}
+use mathlib.Core.Bool.{true, _&&_}
 use mathlib.Core.List.{List, [], _∷_, _++_}
+use mathlib.Core.Path.{_≡_, sym, ap, _∙_}
 use lib.Bits.{bitOr, bitAnd, or-add-and, and-le-l, and-le-r}
 use lib.Dec.{eqb, ltb}
 use lib.ListN.{length, getD, set, take, length-append}
@@ -18,10 +18,10 @@ use Rattle.index.proofs.Lists.{sets-append}
 use Rattle.records.specs.Records.{topicCount}
 use Rattle.gossip.specs.Notes.{windowCount, windowMost, has}
 use Rattle.gossip.specs.Step.{oldestFirst, announced}
-use Rattle.stores.specs.View.{allWindows, placeCount, storesCells, startOf, countAt, windowAt, storeAt, storedAt, Window, Windows}
+use Rattle.stores.specs.View.{allWindows, placeCount, startOf, countAt, windowAt, storeAt, storedAt, Window}
+use Rattle.stores.proofs.ChangeLaws.{five-is}
 use Rattle.stores.proofs.HasLaws.{has-at, some-hit}
 use Rattle.stores.proofs.ViewLaws.{length-window, window-getD, store-five, stored-all}
-use Rattle.stores.proofs.ChangeLaws.{five-is}
 
 -- ---- places
 

@@ -3,9 +3,9 @@
 use Prim.Native.Nat.{ℕ, _<_, _/_, _%_, _^_}
 use native.Mathlib.Nat.{mod-lt, one-mul, zero-lt-suc}
 use native.Mathlib.Omega.{arith}
-use mathlib.Core.Path.{_≡_, refl, sym, ap, _∙_}
 use mathlib.Core.Bool.{Bool, true, false, not, _||_}
 use mathlib.Core.List.{List, [], _∷_, _++_}
+use mathlib.Core.Path.{_≡_, refl, sym, ap, _∙_}
 use lib.Bits.{bitOr, or-add-and, and-le-l, and-le-r, or-lt, or-mod, or-shr}
 use lib.Dec.{eqb}
 use lib.ListN.{length, getD, length-set}

@@ -1,26 +1,20 @@
 -- Laws of the view: a window's numbers, a topic's windows, the topics' stores.
 -- Assumes nothing.
-use Prim.Native.Nat.{ℕ, zero, suc, _+_, _*_, _-_, _≤_, _<_}
+use Prim.Native.Nat.{ℕ, _+_, _*_, _-_, _≤_, _<_}
 use native.Mathlib.Omega.{arith}
-use native.Mathlib.Numerals.{add-one}
+use mathlib.Core.Bool.{Bool, true, false, _||_}
+use mathlib.Core.List.{List, []}
 use mathlib.Core.Path.{_≡_, refl, sym, ap, _∙_}
-use mathlib.Core.Logic.{_≢_}
-use mathlib.Core.Bool.{Bool, true, false, _&&_, _||_}
-use mathlib.Core.List.{List, [], _∷_, _++_, map}
-use lib.ListN.{length, getD, set, take, drop, replicate, List·getD-eq-default, length-set, length-take, length-drop, getD-replicate}
-use lib.Seq.{ext-getD, getD-take, getD-drop, getD-set-same, getD-set-other, take-take}
-use borrow.Author.Tests.{leb-true}
-use Rattle.index.specs.Index.{every}
-use Rattle.index.proofs.Index.{every-at, both}
+use lib.ListN.{length, getD, set, take, drop, replicate, List·getD-eq-default, length-take, length-drop, getD-replicate}
+use lib.Seq.{ext-getD, getD-take, getD-drop, take-take}
 use Rattle.index.proofs.Flags.{by-order}
 use Rattle.records.specs.Records.{topicCount}
+use Rattle.layout.proofs.RowLaws.{length-tab, getD-tab, tab-same, tab-set}
 use Rattle.layout.specs.Rows.{tab}
-use Rattle.layout.proofs.RowLaws.{length-tab, getD-tab, tab-same, tab-set, tab-const}
-use Rattle.gossip.specs.Notes.{Gossip, windowCount, windowMost, noStore, has, storedIn, some, stored, storeIn, added, moved}
-use Rattle.gossip.specs.Valid.{all, windowOk, storeOk}
-use Rattle.stores.specs.View.{allWindows, storesCells, startOf, countAt, windowAt, fiveAt, storesOf, storeAt, storedAt}
-use Rattle.stores.specs.View.{Window, Store, Windows, Changed, Shifted}
-use Rattle.stores.proofs.HasLaws.{or-assoc, or-false, some-runs, some-same}
+use Rattle.gossip.specs.Notes.{Gossip, windowCount, windowMost, noStore, has, storedIn, some, stored, storeIn}
+use Rattle.stores.specs.View.{allWindows, storesCells, startOf, countAt, windowAt, fiveAt, storesOf, storeAt, storedAt, Window}
+use Rattle.stores.specs.View.{Windows, Changed}
+use Rattle.stores.proofs.HasLaws.{some-runs, some-same}
 
 -- ---- a window
 
@@ -164,6 +158,10 @@ stored-all c n =
     ∙ sym (some-runs (λ p. has n (windowAt c p)) topicCount windowCount)
 
 -- of a state that holds these stores
-pub stored-state : (g : Gossip) (c : List ℕ) (n : ℕ) → g .stores ≡ storesOf c → stored g n ≡ storedAt c n
+pub stored-state : (g : Gossip) (c : List ℕ) → g .stores ≡ storesOf c → (n : ℕ) → stored g n ≡ storedAt c n
 unfolding stored storedAt storeIn
-stored-state g c n e = ap (λ (l : List (List (List ℕ))). some topicCount (λ t. storedIn (getD l t noStore) n)) e
+stored-state g c e n = ap (λ (l : List (List (List ℕ))). some topicCount (λ t. storedIn (getD l t noStore) n)) e
+
+-- the same as functions, for what takes one
+pub stored-is : (g : Gossip) (c : List ℕ) → g .stores ≡ storesOf c → stored g ≡ storedAt c
+stored-is g c e = λ i n. stored-state g c e n i

@@ -1,11 +1,12 @@
 -- Buckets of numbers: what a list has, marked in words of a bit for each bucket; and the walks along a topic's windows that rely on it.
 use Prim.Native.Nat.{ℕ, _+_, _*_, _/_, _%_, _^_, _≤_, _<_}
 use mathlib.Core.Path.{_≡_}
-use mathlib.Core.Bool.{Bool, true, false}
-use mathlib.Core.List.{List, _++_}
+use mathlib.Core.Bool.{Bool, true, false, cond, _||_}
+use mathlib.Core.List.{List, [], _∷_, _++_}
 use lib.Bits.{bitOr}
 use lib.Dec.{eqb}
 use lib.ListN.{length, getD, set, take}
+use lib.Seq.{sets}
 use Rattle.index.specs.Index.{gather}
 use Rattle.gossip.specs.Notes.{windowCount, numbersMost, has}
 use Rattle.gossip.specs.Valid.{apart}
@@ -61,7 +62,34 @@ pub record Walking (c seen : List ℕ) (t w : ℕ) : Type 0 where
 
 -- ---- given numbers
 
--- a flag for each: whether f holds of it
-pub record Known (f : ℕ → Bool) (numbers : List ℕ) (known : List Bool) : Type 0 where
+-- few enough of them, and a flag for each
+pub record Given (numbers : List ℕ) (known : List Bool) : Type 0 where
+  pub few : length numbers ≤ numbersMost
   pub size : length known ≡ numbersMost
-  pub flags : (i : ℕ) → i < length numbers → getD known i false ≡ f (getD numbers i 0)
+
+-- the flags b are the flags a, and up for those of which f holds
+pub record Flags (f : ℕ → Bool) (numbers : List ℕ) (a b : List Bool) : Type 0 where
+  pub size : length b ≡ length a
+  pub flags : (i : ℕ) → i < length numbers → getD b i false ≡ getD a i false || f (getD numbers i 0)
+
+-- the same of the first k, and no change of the others
+pub record FlagsTo (f : ℕ → Bool) (numbers : List ℕ) (a b : List Bool) (k : ℕ) : Type 0 where
+  pub size : length b ≡ length a
+  pub low : k ≤ length numbers
+  pub flags : (i : ℕ) → i < k → getD b i false ≡ getD a i false || f (getD numbers i 0)
+  pub rest : (i : ℕ) → k ≤ i → getD b i false ≡ getD a i false
+
+-- a list a of which `size` numbers are in use becomes b, where number n goes in unless it is stored or in use; r are in use then
+abbrev pub passes : Bool → ℕ → ℕ → List ℕ → Bool
+passes stored n size a = stored || has n (take size a)
+
+pub record Next (stored : Bool) (n size : ℕ) (a b seen : List ℕ) (r : ℕ) : Type 0 where
+  pub list : b ≡ cond (passes stored n size a) a (set a size n)
+  pub count : r ≡ cond (passes stored n size a) size (size + 1)
+  pub marks : Seen (cond (passes stored n size a) (take size a) (take size a ++ (n ∷ []))) seen
+
+-- list b is a with the numbers l in front, which have marked their buckets
+pub record Listed (l a b seen : List ℕ) (size : ℕ) : Type 0 where
+  pub list : b ≡ sets a 0 l
+  pub count : size ≡ length l
+  pub marks : Seen l seen

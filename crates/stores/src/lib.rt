@@ -10,12 +10,13 @@ ghost use lib.Seq.{sets};
 ghost use Rattle.records.specs.Records.{topicCount};
 ghost use Rattle.gossip.specs.Notes.{noStore, has, storedIn, moved, added, windowCount, windowMost, numbersMost};
 ghost use Rattle.gossip.specs.Step.{running, announced};
-ghost use Rattle.stores.specs.View.{allWindows, placeCount, storesCells, startOf, countAt, windowAt, fiveAt, storesOf, storeAt, storedAt};
-ghost use Rattle.stores.specs.View.{Window, Store, Windows, CopiedOn, Changed, Shifted};
+ghost use Rattle.stores.specs.View.{allWindows, placeCount, storesCells, startOf, countAt, windowAt, fiveAt, storesOf, storeAt};
+ghost use Rattle.stores.specs.View.{storedAt, Window, Store, Windows, CopiedOn, Changed, Shifted};
 use records::TOPICS;
 
 pub mod marks;
 pub mod valid;
+pub mod wants;
 
 // The windows of a topic, and of all; the numbers that a window has room for.
 const WINDOWS: usize = 5;
@@ -43,6 +44,14 @@ fn size(cells: &[u64], p: usize) -> usize
     ensures { λ r. ⌜ (r ≡ countAt (now (cells .entry)) p) × (r ≤ windowMost) ⌝ }
 {
     cells[p] as usize
+}
+
+// Number k of a window.
+fn number(cells: &[u64], p: usize, k: usize) -> u64
+    requires { ⌜ Window (now cells) p × (k < countAt (now cells) p) ⌝ }
+    ensures { λ r. ⌜ r ≡ getD (windowAt (now (cells .entry)) p) k 0 ⌝ }
+{
+    cells[start(p) + k]
 }
 
 // Whether a list has a number. It goes to the end, so that no look waits for the one before.

@@ -7,7 +7,7 @@ ghost use lib.ListN.{length, getD};
 ghost use Rattle.records.specs.Records.{topicCount};
 ghost use Rattle.gossip.specs.Notes.{has, windowCount};
 ghost use Rattle.gossip.specs.Valid.{all, none, flat, apart, windowOk, storeOk};
-ghost use Rattle.stores.specs.View.{storesCells, countAt, windowAt, fiveAt, storeAt, Window, Store};
+ghost use Rattle.stores.specs.View.{storesCells, countAt, fiveAt, storeAt, Store};
 ghost use Rattle.stores.specs.Marks.{windowsOf, before, upTo, Seen, Looking, Walking};
 use crate::WINDOW_MOST;
 use crate::WINDOWS;
@@ -17,6 +17,7 @@ use crate::marks::WORDS;
 use crate::marks::bucket;
 use crate::marks::is_marked;
 use crate::marks::mark;
+use crate::number;
 use crate::size;
 use crate::start;
 
@@ -69,14 +70,6 @@ fn is_new(known: bool, cells: &[u64], t: usize, w: usize, k: usize, n: u64) -> b
         return true;
     }
     !is_earlier(cells, t, w, k, n)
-}
-
-// Number k of a window.
-fn number(cells: &[u64], p: usize, k: usize) -> u64
-    requires { ⌜ Window (now cells) p × (k < countAt (now cells) p) ⌝ }
-    ensures { λ r. ⌜ r ≡ getD (windowAt (now (cells .entry)) p) k 0 ⌝ }
-{
-    cells[start(p) + k]
 }
 
 // Whether number k of window w is not among those before it, which have marked their buckets; then it has marked its own.

@@ -1,9 +1,9 @@
 -- `stores::is_in`: after k turns, whether the first k numbers have it. Assumes nothing.
 use Prim.Native.Nat.{_≤_, _-_}
 use native.Mathlib.Omega.{arith}
-use borrow.Author.Needs.{needs}
 use mathlib.Core.Path.{_≡_}
 use lib.ListN.{length, take}
+use borrow.Author.Needs.{needs}
 use Rattle.gossip.specs.Notes.{has}
 use Rattle.stores.proofs.HasLaws.{has-none, has-more, has-done}
 use Rattle.stores.proofs.is_in.Statement.{statement}

@@ -1,23 +1,17 @@
+-- `stores::is_stored_in`: the first w windows lack it. Assumes nothing.
+use Prim.Native.Nat.{_+_, _*_, _-_, _≤_}
+use native.Mathlib.Omega.{arith}
+use mathlib.Core.Bool.{false}
+use mathlib.Core.Path.{_≡_, sym, _∙_}
+use borrow.Author.Needs.{needs}
 use Rattle.index.proofs.Flags.{yes, no}
+use Rattle.gossip.specs.Notes.{windowCount, has, some}
+use Rattle.stores.specs.View.{windowAt}
+use Rattle.stores.proofs.ChangeLaws.{window-in}
 use Rattle.stores.proofs.HasLaws.{some-none, some-more, some-out, some-in}
 use Rattle.stores.proofs.ViewLaws.{stored-store}
-use Rattle.stores.proofs.ChangeLaws.{window-in}
-use lib.ListN.{length-set}
-use Prim.Native.Nat.{ℕ, _+_, _*_, _-_, _≤_, _<_}
-use native.Mathlib.Omega.{arith}
-use mathlib.Core.Path.{_≡_, refl, sym, ap, _∙_}
-use mathlib.Core.Bool.{true, false}
-use lib.ListN.{length, getD, take}
-use lib.Seq.{sets}
-use Rattle.records.specs.Records.{topicCount}
-use Rattle.gossip.specs.Notes.{windowCount, windowMost, has, some}
-use Rattle.stores.specs.View.{allWindows, storesCells, countAt, windowAt, CopiedOn, Emptied, MovedTo}
-use borrow.Author.Needs.{needs}
 use Rattle.stores.proofs.is_stored_in.Statement.{statement}
 use Rattle.stores.proofs.is_stored_in.Tie as tie
-use Rattle.stores.proofs.is_stored_in.Reads as reads
-use Rattle.stores.proofs.is_stored_in.Lts as lts
-use Rattle.stores.proofs.is_in_window.Reads as is-in-window-reads
 
 abbrev Inv-loop : tie.InvT-loop
 Inv-loop cells t n w₀ w = (w ≤ windowCount) × (some w (λ v. has n (windowAt cells (t * windowCount + v))) ≡ false)
@@ -25,23 +19,12 @@ Inv-loop cells t n w₀ w = (w ≤ windowCount) × (some w (λ v. has n (windowA
 abbrev μ-loop : tie.MeasureT-loop
 μ-loop cells t n w₀ w = windowCount - w
 
--- src/lib.rt:124:5
 loop-holds : tie.Need-loop-holds Inv-loop μ-loop
 loop-holds c = (omega arith, some-none _)
 
--- src/lib.rt:125:32
-mul-is-in-window : tie.Need-mul-is-in-window Inv-loop μ-loop
-mul-is-in-window c = search needs
-
--- src/lib.rt:125:32
-add-is-in-window : tie.Need-add-is-in-window Inv-loop μ-loop
-add-is-in-window c = search needs
-
--- src/lib.rt:125:12
 is-in-window-requires : tie.Need-is-in-window-requires Inv-loop μ-loop
 is-in-window-requires c κs = window-in _ _ _ (c .before .before .before .pre) (omega arith)
 
--- src/lib.rt:126:13
 returns : tie.Need-returns Inv-loop μ-loop
 returns c =
     let w = c .before in
@@ -49,21 +32,11 @@ returns c =
     some-out _ _ (w .before .before .loop .w) (omega arith) (yes (w .is-in-window .ensures) (c .if1 .taken))
     ∙ sym (stored-store _ _ _ (s .pre .low))
 
--- src/lib.rt:128:9
-add-w : tie.Need-add-w Inv-loop μ-loop
-add-w c = search needs
-
--- src/lib.rt:124:5
-loop-less : tie.Need-loop-less Inv-loop μ-loop
-loop-less c = search needs
-
--- src/lib.rt:124:5
 loop-again : tie.Need-loop-again Inv-loop μ-loop
 loop-again c =
     let w = c .before in
     (omega arith, some-more _ _ (w .before .before .loop .inv .1) (no (w .is-in-window .ensures) (c .if1 .left)))
 
--- src/lib.rt:119:1
 returns-2 : tie.Need-returns-2 Inv-loop μ-loop
 returns-2 c =
     let l = c .before .loop in
@@ -76,11 +49,11 @@ is-stored-in-spec =
     Inv-loop
     μ-loop
     loop-holds
-    mul-is-in-window
-    add-is-in-window
+    (λ c. search needs)
+    (λ c. search needs)
     is-in-window-requires
     returns
-    add-w
-    loop-less
+    (λ c. search needs)
+    (λ c. search needs)
     loop-again
     returns-2)

@@ -1,11 +1,11 @@
 -- `stores::make`: after p turns the first p windows are empty. Assumes nothing.
 use Prim.Native.Nat.{ℕ, _≤_, _<_, _-_}
 use native.Mathlib.Omega.{arith}
-use borrow.Author.Needs.{needs}
-use borrow.Author.Count.{below-none, below-more}
 use mathlib.Core.Path.{_≡_, sym, _∙_}
 use lib.ListN.{length, length-set}
 use lib.Seq.{getD-set-same, getD-set-other}
+use borrow.Author.Count.{below-none, below-more}
+use borrow.Author.Needs.{needs}
 use Rattle.stores.specs.View.{storesCells, allWindows, countAt}
 use Rattle.stores.proofs.ViewLaws.{stores-none, windows-none}
 use Rattle.stores.proofs.make.Statement.{statement}

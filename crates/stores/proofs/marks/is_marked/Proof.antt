@@ -1,5 +1,5 @@
-use borrow.Author.Needs.{needs}
 use mathlib.Core.Path.{refl}
+use borrow.Author.Needs.{needs}
 use Rattle.stores.specs.Marks.{isMarked}
 use Rattle.stores.proofs.marks.is_marked.Statement.{statement}
 use Rattle.stores.proofs.marks.is_marked.Tie as tie

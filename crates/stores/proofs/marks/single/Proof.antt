@@ -1,9 +1,9 @@
-use borrow.Author.Needs.{needs}
-use native.Mathlib.Omega.{arith}
-use native.Mathlib.Nat.{one-mul}
-use mathlib.Core.Path.{_∙_}
 use Prim.Native.Nat.{_^_}
+use native.Mathlib.Nat.{one-mul}
+use native.Mathlib.Omega.{arith}
+use mathlib.Core.Path.{_∙_}
 use lib.Pow.{shl-exact}
+use borrow.Author.Needs.{needs}
 use Rattle.stores.specs.Marks.{wordBits}
 use Rattle.stores.proofs.marks.single.Statement.{statement}
 use Rattle.stores.proofs.marks.single.Tie as tie

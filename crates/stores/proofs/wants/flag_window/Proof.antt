@@ -1,0 +1,49 @@
+-- `stores::wants::flag_window`: after k turns the given numbers among the window's first k are flagged. Assumes nothing.
+use Prim.Native.Nat.{_-_, _≤_}
+use native.Mathlib.Omega.{arith}
+use lib.ListN.{take}
+use borrow.Author.Needs.{needs}
+use Rattle.gossip.specs.Notes.{has}
+use Rattle.stores.specs.Marks.{before, Flags}
+use Rattle.stores.specs.View.{windowAt}
+use Rattle.stores.proofs.ViewLaws.{length-window}
+use Rattle.stores.proofs.WantLaws.{window-none, window-more, window-done}
+use Rattle.stores.proofs.wants.flag_window.Statement.{statement}
+use Rattle.stores.proofs.wants.flag_window.Tie as tie
+
+abbrev Inv-loop : tie.InvT-loop
+Inv-loop cells p numbers given known₀ n k₀ known k = (k ≤ n) × Flags (λ x. has x (take k (windowAt cells p))) numbers known₀ known
+
+abbrev μ-loop : tie.MeasureT-loop
+μ-loop cells p numbers given known₀ n k₀ known k = n - k
+
+loop-holds : tie.Need-loop-holds Inv-loop μ-loop
+loop-holds c = (omega arith, window-none _ _)
+
+loop-again : tie.Need-loop-again Inv-loop μ-loop
+loop-again c =
+    let l = c .before .before .before .before .loop in (
+      omega arith,
+      window-more _ _ (l .k) _ _ _ _ (rw length-window (omega arith)) (c .before .before .number .ensures) (l .inv .1)
+          (c .flag-where .ensures),
+    )
+
+returns : tie.Need-returns Inv-loop μ-loop
+returns c =
+    let l = c .before .loop in
+    window-done _ _ (l .k) _ _ (rw length-window (omega arith)) (l .inv .1)
+
+pub flag-window-spec : {M : Type 1} → statement M
+flag-window-spec =
+    tie.close
+    (tie.spec
+    Inv-loop
+    μ-loop
+    (λ c κs. search needs)
+    loop-holds
+    (λ c κs. search needs)
+    (λ c κs. search needs)
+    (λ c. search needs)
+    (λ c. search needs)
+    loop-again
+    returns)
