@@ -31,12 +31,12 @@ use Rattle.gossip.specs.Notes.{Gossip, noStore, setNote, setStore, setReplies, 
 use Rattle.gossip.specs.Valid.{gossipOk, validAll}
 use Rattle.gossip.specs.Calls.{old}
 use Rattle.gossip.specs.Step.{refusedAll, kept, parted, onFoundNote, besides, extended, handed, oldStep, stepAll}
-use Rattle.gossip_table.specs.View.{gossipOf, extendedOf}
+use Rattle.gossip_table.specs.View.{gossipCells, gossipOf, extendedOf}
 use Rattle.gossip_table.specs.Fine.{Fine, FineTopic, KeptSlot, Lent}
 use Rattle.gossip_table.proofs.StoreParts.{fine-kept}
 use Rattle.gossip_gate.specs.Promise.{refusal, replyCode, FollowsAll}
 use Rattle.gossip_gate.proofs.PromiseLaws.{gives-refused}
-use Rattle.gossip_old.specs.Tested.{Tested, GivesOld, inSlots, FineFound, emptied}
+use Rattle.gossip_old.specs.Tested.{Tested, GivesOld, FineFound, emptied}
 
 -- an answer that is neither 0 nor 11 is a refusal
 refused-too : (a : Answer) → refusal (numberOf a) ≡ true → refuses a ≡ true
@@ -106,6 +106,20 @@ module _ (c : Call) (a : Answer) (table table′ gossip list list′ : List ℕ)
       }
 
 -- ---- test 12
+module _ (table gossip : List ℕ) where
+  pub test-table : valid (stateOf table) ≡ false → false ≡ validAll (extendedOf table gossip)
+  unfolding validAll
+  test-table e = sym (ap (λ (b : Bool). b && gossipOk (stateOf table) (gossipOf gossip)) e)
+
+  pub test-array :
+      (r : Bool) → valid (stateOf table) ≡ true → r ≡ gossipOk (stateOf table) (gossipOf gossip) → r ≡ validAll (extendedOf table gossip)
+  unfolding validAll
+  test-array r e g = g ∙ sym (ap (λ (b : Bool). b && gossipOk (stateOf table) (gossipOf gossip)) e)
+
+pub tested : (table gossip : List ℕ) → validAll (extendedOf table gossip) ≡ true → Tested table gossip
+unfolding validAll
+tested table gossip e = both (valid (stateOf table)) (gossipOk (stateOf table) (gossipOf gossip)) e .1
+
 module _ (c : Call) (table gossip list : List ℕ) (h : handed c ≡ true) where
   step-behind :
       gossipOk (stateOf table) (gossipOf gossip) ≡ true →
@@ -119,7 +133,7 @@ module _ (c : Call) (table gossip list : List ℕ) (h : handed c ≡ true) where
       Tested table gossip →
       GivesOld c r table table′ gossip gossip′ list list′ →
       FollowsAll (old c) r table table′ gossip gossip′ list list′
-  old-passes r table′ gossip′ list′ t g = rw (step-behind (t .ok)) g
+  old-passes r table′ gossip′ list′ t g = rw (step-behind t) g
 
   -- where the table is no router's 01's call is refused as the call is, whatever the array holds
   step-refused :
@@ -138,15 +152,17 @@ module _ (c : Call) (table gossip list : List ℕ) (h : handed c ≡ true) where
   old-refused e = rw (step-refused e) (gives-refused 12 table gossip list)
 
 -- ---- what the inner functions rely on, and what they leave
-pub tested-fine : {table gossip : List ℕ} → Tested table gossip → Fine gossip
-tested-fine {table} t = record { size = t .sizes; base = stateOf table; ok = t .ok }
-
-pub found-in : (st : State) (id : ℕ) (r : Found) → r ≡ findConnected st id → inSlots r
-found-in st id r e s z = connected-at st id s (sym e ∙ z) .0
+tested-fine : (table gossip : List ℕ) → length gossip ≡ gossipCells → Tested table gossip → Fine gossip
+tested-fine table gossip l t = record { size = l; base = stateOf table; ok = t }
 
 pub tested-found :
-    {table gossip : List ℕ} (id : ℕ) (r : Found) → Tested table gossip → r ≡ findConnected (stateOf table) id → FineFound gossip r
-tested-found {table} id r t e = record { fine = tested-fine t; slot = found-in (stateOf table) id r e }
+    (table gossip : List ℕ) (id : ℕ) (r : Found) →
+    length gossip ≡ gossipCells →
+    Tested table gossip →
+    r ≡ findConnected (stateOf table) id →
+    FineFound gossip r
+tested-found table gossip id r l t e =
+    record { fine = tested-fine table gossip l t; slot = λ s z. connected-at (stateOf table) id s (sym e ∙ z) .0 }
 
 pub found-kept : {gossip : List ℕ} {r : Found} (s : ℕ) → FineFound gossip r → r ≡ At s → KeptSlot gossip s
 found-kept s f e = record { kept = fine-kept (f .fine); slot = f .slot s e }
@@ -188,8 +204,9 @@ pub besides-leave :
 unfolding besides
 besides-leave st time t g u e = e
 
-pub leave-fits : {table gossip : List ℕ} (t : ℕ) → Tested table gossip → t < topicCount → FineTopic gossip t
-leave-fits t h l = record { fine = tested-fine h; topic = l }
+pub leave-fits :
+    (table gossip : List ℕ) (t : ℕ) → length gossip ≡ gossipCells → Tested table gossip → t < topicCount → FineTopic gossip t
+leave-fits table gossip t l h b = record { fine = tested-fine table gossip l h; topic = b }
 
 -- a leave that is answered 0 was of a topic
 pub leave-topic :

@@ -6,23 +6,22 @@ use mathlib.Core.Bool.{Bool, true, cond}
 use mathlib.Core.List.{List}
 use lib.ListN.{length}
 use Rattle.index.specs.declared.Found.{Found}
-use Rattle.index.specs.declared.Found.the-variants.{At, Nothing}
+use Rattle.index.specs.declared.Found.the-variants.{At}
 use Rattle.records.specs.Records.{slotCount}
-use Rattle.layout.specs.View.{cellCount, stateOf}
+use Rattle.layout.specs.View.{stateOf}
 use Rattle.sets.specs.Sets.{bySlot}
 use Rattle.rules.specs.Calls.{Call}
 use Rattle.rules.specs.Step.{step}
 use Rattle.gossip.specs.Notes.{Gossip, noNote, noteIn}
 use Rattle.gossip.specs.Valid.{gossipOk}
 use Rattle.gossip.specs.Step.{extended}
-use Rattle.gossip_table.specs.View.{gossipCells, gossipOf, extendedOf, setNotes}
+use Rattle.gossip_table.specs.View.{gossipOf, extendedOf, setNotes}
 use Rattle.gossip_table.specs.Fine.{Fine}
 use Rattle.gossip_gate.specs.Promise.{GivesAll}
 
-pub record Tested (table gossip : List ℕ) : Type 0 where
-  pub size : length table ≡ cellCount
-  pub sizes : length gossip ≡ gossipCells
-  pub ok : gossipOk (stateOf table) (gossipOf gossip) ≡ true
+-- the array is right beside the table
+abbrev pub Tested : (table gossip : List ℕ) → Type 0
+Tested table gossip = gossipOk (stateOf table) (gossipOf gossip) ≡ true
 
 -- behind test 12 the reply is 01's, and what the call does besides
 abbrev pub GivesOld : Call → ℕ → (table table′ gossip gossip′ list list′ : List ℕ) → Type 0

@@ -8,9 +8,13 @@ ghost use Rattle.records.specs.Records.{slotCount};
 ghost use Rattle.words.specs.Words.{bitsOf};
 ghost use Rattle.sets.specs.Sets.{bySlot};
 ghost use Rattle.rules.specs.Calls.{connect as Calls·connect, disconnect as Calls·disconnect, leave as Calls·leave};
+ghost use Rattle.gossip.specs.Calls.{old};
 ghost use Rattle.gossip.specs.Step.{onFoundNote};
-ghost use Rattle.gossip_table.specs.View.{gossipCells, gossipOf};
+ghost use Rattle.gossip.specs.Valid.{validAll};
+ghost use Rattle.gossip_table.specs.View.{gossipCells, gossipOf, extendedOf};
+ghost use Rattle.gossip_gate.specs.Promise.{FollowsAll};
 ghost use Rattle.gossip_old.specs.Tested.{Tested, GivesOld, FineFound, emptied};
+use gossip_gate::NOT_ROUTER;
 use gossip_peers::reclaim::reclaimed_slots;
 use gossip_table::GOSSIP_CELLS;
 use index::Found;
@@ -19,6 +23,16 @@ use lookup::find::find_connected;
 use records::SLOTS;
 use words::WORDS;
 use words::next;
+
+// Test 12: the table is a router's, and the array is beside it.
+pub fn is_router(table: &[u64; CELLS], gossip: &[u64; GOSSIP_CELLS]) -> bool
+    ensures { λ r. ⌜ r ≡ validAll (extendedOf (now (table .entry)) (now (gossip .entry))) ⌝ }
+{
+    if !validity::valid::is_router(table) {
+        return false;
+    }
+    gossip_table::tests::is_gossip(table, gossip)
+}
 
 // The records of a set of slots are given up, and their notes with them.
 fn clear_slots(gossip: &mut [u64], set: &[u64; WORDS])
@@ -110,4 +124,61 @@ fn leave_from(
     }
     gossip_table::stored::empty(gossip, topic as usize);
     answers::code(a)
+}
+
+// A connection is there, as crate peers has it. A record that is given up takes its note with it.
+pub fn connect(
+    table: &mut [u64; CELLS],
+    gossip: &mut [u64; GOSSIP_CELLS],
+    time: u64,
+    id: u64,
+    groups: &[u64],
+    flags: u64,
+    name: &[u8],
+    actions: &mut [u32],
+) -> u64
+    ensures { λ r. ⌜ FollowsAll (old (Calls·connect time id (now (groups .entry)) flags (now (name .entry)))) r
+        (now (table .entry)) (now (table .exit)) (now (gossip .entry)) (now (gossip .exit))
+        (now (actions .entry)) (now (actions .exit)) ⌝ }
+{
+    if !is_router(table, gossip) {
+        return NOT_ROUTER;
+    }
+    connect_from(table, gossip, time, id, groups, flags, name, actions)
+}
+
+// A connection is gone, and with it its set and its replies.
+pub fn disconnect(
+    table: &mut [u64; CELLS],
+    gossip: &mut [u64; GOSSIP_CELLS],
+    time: u64,
+    id: u64,
+    actions: &mut [u32],
+) -> u64
+    ensures { λ r. ⌜ FollowsAll (old (Calls·disconnect time id)) r
+        (now (table .entry)) (now (table .exit)) (now (gossip .entry)) (now (gossip .exit))
+        (now (actions .entry)) (now (actions .exit)) ⌝ }
+{
+    if !is_router(table, gossip) {
+        return NOT_ROUTER;
+    }
+    disconnect_from(table, gossip, time, id, actions)
+}
+
+// We leave a topic: its store is emptied, and the replies with what only it had.
+pub fn leave(
+    table: &mut [u64; CELLS],
+    gossip: &mut [u64; GOSSIP_CELLS],
+    time: u64,
+    topic: u64,
+    actions: &mut [u32],
+) -> u64
+    ensures { λ r. ⌜ FollowsAll (old (Calls·leave time topic)) r
+        (now (table .entry)) (now (table .exit)) (now (gossip .entry)) (now (gossip .exit))
+        (now (actions .entry)) (now (actions .exit)) ⌝ }
+{
+    if !is_router(table, gossip) {
+        return NOT_ROUTER;
+    }
+    leave_from(table, gossip, time, topic, actions)
 }

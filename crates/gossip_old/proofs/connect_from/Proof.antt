@@ -14,8 +14,15 @@ connect-from-spec =
     (λ c κs. search needs)
     (λ c κs. few-actions _ _ _ _ _ _ (c .before .before .before .before .connect .ensures))
     (λ c. search needs)
-    (λ c. old-else _ _ _ _ _ _ _ (c .before .before .before .before .before .connect .ensures) _ _ (c .before .before .number-of .ensures) (search needs) (c .code .ensures))
+    (λ c.
+    let a = c .before .before .number-of .ensures in
+    old-else _ _ _ _ _ _ _ (c .before .before .before .before .before .connect .ensures) _ _ a (search needs) (c .code .ensures))
     (λ c κs. search needs)
     (λ c κs. few-actions _ _ _ _ _ _ (c .before .before .before .before .before .before .before .connect .ensures))
     (λ c. search needs)
-    (λ c. old-done _ _ _ _ _ _ _ (c .before .before .before .before .before .before .before .before .connect .ensures) _ _ _ (c .before .before .before .before .before .number-of .ensures) (search needs) (c .code2 .ensures) ((c .before .clear-slots .ensures) _ (c .before .before .before .before .before .before .before .before .before .before .before .reclaimed-slots .ensures) ∙ besides-connect _ _ _ _ _ _ _)))
+    (λ c.
+    let a = c .before .before .before .before .before .number-of .ensures in
+    old-done _ _ _ _ _ _ _ (c .before .before .before .before .before .before .before .before .connect .ensures) _ _ _ a (search needs) (c .code2 .ensures)
+    (
+    let set = c .before .before .before .before .before .before .before .before .before .before .before .reclaimed-slots .ensures in
+    c .before .clear-slots .ensures _ set ∙ besides-connect _ _ _ _ _ _ _)))

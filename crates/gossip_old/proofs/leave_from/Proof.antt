@@ -13,8 +13,16 @@ leave-from-spec =
     (λ c κs. search needs)
     (λ c κs. few-actions _ _ _ _ _ _ (c .before .before .before .before .leave .ensures))
     (λ c. search needs)
-    (λ c. old-else _ _ _ _ _ _ _ (c .before .before .before .before .before .leave .ensures) _ _ (c .before .before .number-of .ensures) (search needs) (c .code .ensures))
-    (λ c κs. leave-fits _ (c .before .before .before .before .before .before .before .before .before .pre) (leave-topic _ _ _ _ _ _ _ _ (c .before .before .before .before .before .leave .ensures) (c .before .before .number-of .ensures) (search needs)))
+    (λ c.
+    let a = c .before .before .number-of .ensures in
+    old-else _ _ _ _ _ _ _ (c .before .before .before .before .before .leave .ensures) _ _ a (search needs) (c .code .ensures))
+    (λ c κs.
+    let a = c .before .before .number-of .ensures in
+    leave-fits _ _ _ (search needs) (c .before .before .before .before .before .before .before .before .before .pre)
+    (leave-topic _ _ _ _ _ _ _ _ (c .before .before .before .before .before .leave .ensures) a (search needs)))
     (λ c κs. few-actions _ _ _ _ _ _ (c .before .before .before .before .before .before .leave .ensures))
     (λ c. search needs)
-    (λ c. old-done _ _ _ _ _ _ _ (c .before .before .before .before .before .before .before .leave .ensures) _ _ _ (c .before .before .before .before .number-of .ensures) (search needs) (c .code2 .ensures) (besides-leave _ _ _ _ _ (c .before .empty .ensures))))
+    (λ c.
+    let a = c .before .before .before .before .number-of .ensures in
+    old-done _ _ _ _ _ _ _ (c .before .before .before .before .before .before .before .leave .ensures) _ _ _ a (search needs) (c .code2 .ensures)
+    (besides-leave _ _ _ _ _ (c .before .empty .ensures))))

@@ -34,10 +34,11 @@ stores-ok-spec =
     (λ c. omega arith)
     (λ c. omega arith)
     (λ c.
-    let t = c .before .before .before .before .loop-test .taken in
-    (omega (arith, t),
-    every-more _ _ (c .before .before .before .before .before .loop .inv .1)
-    (passed (store-judged (c .before .before .before .before .before .before .before .before .args .gossip .now) _ (c .before .before .before .is-joined .ensures) (c .before .store-ok .ensures)) (c .if1 .left))))
+    let t = c .before .before .before .before .loop-test .taken in (
+      omega (arith, t),
+      every-more _ _ (c .before .before .before .before .before .loop .inv .1)
+          (passed (store-judged (c .before .before .before .before .before .before .before .before .args .gossip .now) _ (c .before .before .before .is-joined .ensures) (c .before .store-ok .ensures)) (c .if1 .left)),
+    ))
     (λ c.
     let l = c .before .loop in
     sym (every-done _ topicCount (l .t) (l .inv .0) (omega arith) (l .inv .1))))
