@@ -4,3 +4,4 @@ pub mod FineLaws
 pub mod NoteParts
 pub mod StoreParts
 pub mod TestLaws
+pub mod MadeLaws

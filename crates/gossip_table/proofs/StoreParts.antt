@@ -11,7 +11,7 @@ use borrow.Rule.Slice.PartMut.{putMid, same-len-mid}
 use Rattle.index.proofs.Index.{every-by}
 use Rattle.records.specs.Records.{State, slotCount, topicCount}
 use Rattle.stores.specs.View.{storesCells, storesOf, storeAt, storedAt, Windows, Store}
-use Rattle.stores.proofs.ViewLaws.{length-store, length-stores, stored-state}
+use Rattle.stores.proofs.ViewLaws.{length-store, length-stores, stored-state, stored-is}
 use Rattle.stores.proofs.ApartLaws.{windows-right}
 use Rattle.effects.specs.Effects.{isJoined}
 use Rattle.replies.specs.View.{repliesCells, repliesOf}
@@ -21,9 +21,10 @@ use Rattle.gossip.proofs.Fine.{fine-of, room-for-reply}
 use Rattle.gossip.specs.Notes.{Gossip, Row, windowCount, windowMost, rowsMost, numbersMost, noStore, storeIn, stored, setStore, setReplies, countIn, replied, ended}
 use Rattle.gossip.specs.Notes.{moved, added, keep, forget}
 use Rattle.gossip.specs.Valid.{all, rises, windowOk, rowNumber, SizedGossip}
-use Rattle.gossip.specs.Step.{running}
+use lib.Seq.{sets}
+use Rattle.gossip.specs.Step.{running, wanted}
 use Rattle.gossip_table.specs.View.{storesAt, repliesAt, gossipCells, notesPart, storesPart, repliesPart, gossipOf, setStores}
-use Rattle.gossip_table.specs.Fine.{Fine, FineSlot, FineTopic, Kept, KeptSlot, KeptRow, StoreFits, ReplyFits, Announces}
+use Rattle.gossip_table.specs.Fine.{Fine, FineSlot, FineTopic, Kept, KeptSlot, KeptRow, StoreFits, ReplyFits, Announces, Wants}
 use Rattle.gossip_table.proofs.PartLaws.{part-length, part-same, part-before, part-behind}
 use Rattle.gossip_table.proofs.ViewLaws.{stores-put, replies-put}
 use Rattle.gossip_table.proofs.FineLaws.{fine-rows}
@@ -206,3 +207,18 @@ forget-back c l flags size long say kept =
 
 pub replies-count : (c : List ℕ) → length (repliesOf (repliesPart c)) ≡ length (gossipOf c .replies)
 replies-count c = ap length (replies-part c)
+
+pub want-fits :
+    {c given l : List ℕ} →
+    Wants c given l →
+    Windows (storesPart c) × ((length given ≤ numbersMost) × (numbersMost ≤ length l))
+want-fits h = (fine-stores (h .fine), (h .few, h .room))
+
+pub want-by :
+    (c given l l′ : List ℕ) (r : ℕ) →
+    (l′ ≡ sets l 0 (wanted (storedAt (storesPart c)) [] given)) × (r ≡ length (wanted (storedAt (storesPart c)) [] given)) →
+    (l′ ≡ sets l 0 (wanted (stored (gossipOf c)) [] given)) × (r ≡ length (wanted (stored (gossipOf c)) [] given))
+unfolding gossipOf
+want-by c given l l′ r e =
+    let q = sym (stored-is (gossipOf c) (storesPart c) refl) in
+    (e .0 ∙ ap (λ (f : ℕ → Bool). sets l 0 (wanted f [] given)) q, e .1 ∙ ap (λ (f : ℕ → Bool). length (wanted f [] given)) q)

@@ -17,7 +17,7 @@ use Rattle.gossip_table.proofs.PartLaws.{part-same, part-before, part-b
 abbrev built : Setup → List Note → List (List (List ℕ)) → List Row → Gossip
 built p n s r = record { setup = p; notes = n; stores = s; replies = r }
 
-whole :
+pub whole :
     {p p′ : Setup} {n n′ : List Note} {s s′ : List (List (List ℕ))} {r r′ : List Row} →
     p ≡ p′ → n ≡ n′ → s ≡ s′ → r ≡ r′ → built p n s r ≡ built p′ n′ s′ r′
 whole a b d e = cc

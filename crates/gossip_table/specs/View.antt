@@ -53,6 +53,9 @@ abbrev pub extendedOf : List ℕ → List ℕ → Extended
 extendedOf table gossip = record { base = stateOf table; gossip = gossipOf gossip }
 
 -- ---- what a store to one part makes of the state
+abbrev pub setSetup : Gossip → Setup → Gossip
+setSetup g p = record { setup = p; notes = g .notes; stores = g .stores; replies = g .replies }
+
 abbrev pub setNotes : Gossip → List Note → Gossip
 setNotes g l = record { setup = g .setup; notes = l; stores = g .stores; replies = g .replies }
 

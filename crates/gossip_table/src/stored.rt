@@ -1,17 +1,17 @@
 // The message numbers that the topics store, and the replies that were given with them.
 ghost use mathlib.Core.Path.{_≡_};
 ghost use mathlib.Core.Bool.{false};
-ghost use mathlib.Core.List.{map};
+ghost use mathlib.Core.List.{[], map};
 ghost use Prim.Native.Nat.{ℕ, _<_};
 ghost use lib.Dec.{ltb};
 ghost use lib.ListN.{length, getD};
 ghost use lib.Seq.{sets};
 ghost use Rattle.gossip.specs.Notes.{noStore, storeIn, setStore, setReplies, storedIn, stored, countIn, replied, ended, moved, added};
 ghost use Rattle.gossip.specs.Notes.{windowMost, rowsMost, forget as forgetOf};
-ghost use Rattle.gossip.specs.Step.{running, announced};
+ghost use Rattle.gossip.specs.Step.{running, announced, wanted};
 ghost use Rattle.gossip.specs.Valid.{rowNumber};
 ghost use Rattle.gossip_table.specs.View.{gossipCells, gossipOf, setStores};
-ghost use Rattle.gossip_table.specs.Fine.{Fine, FineSlot, FineTopic, Kept, KeptRow, KeptSlot, ReplyFits, StoreFits, Announces};
+ghost use Rattle.gossip_table.specs.Fine.{Fine, FineSlot, FineTopic, Kept, KeptRow, KeptSlot, ReplyFits, StoreFits, Announces, Wants};
 use crate::GOSSIP_CELLS;
 use crate::REPLIES_AT;
 use crate::STORES_AT;
@@ -52,6 +52,16 @@ pub fn announce(gossip: &[u64], topic: usize, list: &mut [u64]) -> usize
         × (r ≡ length (announced (storeIn (gossipOf (now (gossip .entry))) topic))) ⌝ }
 {
     stores::announce(&gossip[STORES_AT..REPLIES_AT], topic, list)
+}
+
+// Those of the given numbers that no topic stores, each once; how many they are.
+pub fn want(gossip: &[u64], given: &[u64], list: &mut [u64]) -> usize
+    requires { ⌜ Wants (now gossip) (now given) (now list) ⌝ }
+    ensures { λ r. ⌜ (now (list .exit)
+        ≡ sets (now (list .entry)) 0 (wanted (stored (gossipOf (now (gossip .entry)))) [] (now (given .entry))))
+        × (r ≡ length (wanted (stored (gossipOf (now (gossip .entry)))) [] (now (given .entry)))) ⌝ }
+{
+    stores::wants::want(&gossip[STORES_AT..REPLIES_AT], given, list)
 }
 
 // The place of a stored number; PLACES where no topic stores it.
