@@ -1,5 +1,7 @@
 // Connect, disconnect and leave of a router with the array of orders 6 and 7: what 01's call does, and where it is answered 0, what becomes
 // of the array besides. Each is handed the table and the array, asks nothing of its caller, and promises the rules' reply (crate gossip).
+pub mod made;
+
 ghost use mathlib.Core.Path.{_≡_};
 ghost use mathlib.Core.Bool.{Bool};
 ghost use Prim.Native.Nat.{ℕ, _<_};
@@ -23,6 +25,14 @@ use lookup::find::find_connected;
 use records::SLOTS;
 use words::WORDS;
 use words::next;
+
+// What came of making a fresh router with an array: both are made, or a set-up number is out of its range, or the first number or rule of
+// the parameters that is broken.
+pub enum Making {
+    Done,
+    OutOfRange,
+    Broken(usize),
+}
 
 // Test 12: the table is a router's, and the array is beside it.
 pub fn is_router(table: &[u64; CELLS], gossip: &[u64; GOSSIP_CELLS]) -> bool
