@@ -62,7 +62,7 @@ fn beat_all(gossip: &mut [u64])
     requires { ⌜ Fine (now gossip) ⌝ }
     ensures { λ r. ⌜ gossipOf (now (gossip .exit)) ≡ beatOf (gossipOf (now (gossip .entry))) ⌝ }
 {
-    gossip_table::peers::beat(gossip);
+    gossip_table::noted::beat(gossip);
     stored::move_on(gossip);
     stored::forget(gossip);
 }

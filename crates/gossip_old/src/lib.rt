@@ -52,7 +52,7 @@ fn clear_slots(gossip: &mut [u64], set: &[u64; WORDS])
 {
     let mut slot = next(set, 0);
     while slot < SLOTS as u64 {
-        gossip_table::peers::clear(gossip, slot as usize);
+        gossip_table::noted::clear(gossip, slot as usize);
         slot = next(set, slot + 1);
     }
 }
@@ -66,7 +66,7 @@ fn part_found(gossip: &mut [u64], found: Found)
         return;
     };
     gossip_table::stored::end(gossip, slot);
-    gossip_table::peers::part(gossip, slot);
+    gossip_table::noted::part(gossip, slot);
 }
 
 // Which records are reclaimed is known before the call only.

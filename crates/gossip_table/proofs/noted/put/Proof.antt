@@ -1,8 +1,8 @@
--- `gossip_table::peers::put`: what the notes hold after it, in its part of the array.
+-- `gossip_table::noted::put`: what the notes hold after it, in its part of the array.
 use borrow.Author.Needs.{needs}
 use Rattle.gossip_table.proofs.NoteParts.{put-fits, put-back}
-use Rattle.gossip_table.proofs.peers.put.Statement.{statement}
-use Rattle.gossip_table.proofs.peers.put.Tie as tie
+use Rattle.gossip_table.proofs.noted.put.Statement.{statement}
+use Rattle.gossip_table.proofs.noted.put.Tie as tie
 
 pub put-spec : {M : Type 1} → statement M
 put-spec =

@@ -1,11 +1,11 @@
--- `gossip_table::peers::holds`: the note is the one in its part.
+-- `gossip_table::noted::holds`: the note is the one in its part.
 use borrow.Author.Needs.{needs}
 use Rattle.gossip.specs.Notes.{noteIn}
 use Rattle.notes.specs.View.{noteAt}
 use Rattle.gossip_table.specs.View.{gossipOf}
 use Rattle.gossip_table.proofs.NoteParts.{set-fits}
-use Rattle.gossip_table.proofs.peers.holds.Statement.{statement}
-use Rattle.gossip_table.proofs.peers.holds.Tie as tie
+use Rattle.gossip_table.proofs.noted.holds.Statement.{statement}
+use Rattle.gossip_table.proofs.noted.holds.Tie as tie
 
 pub holds-spec : {M : Type 1} → statement M
 unfolding gossipOf noteIn noteAt

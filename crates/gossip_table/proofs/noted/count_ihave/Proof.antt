@@ -1,8 +1,8 @@
--- `gossip_table::peers::count_ihave`: one more in the count of a note, in its part of the array.
+-- `gossip_table::noted::count_ihave`: one more in the count of a note, in its part of the array.
 use borrow.Author.Needs.{needs}
 use Rattle.gossip_table.proofs.NoteParts.{ihave-fits, ihave-back}
-use Rattle.gossip_table.proofs.peers.count_ihave.Statement.{statement}
-use Rattle.gossip_table.proofs.peers.count_ihave.Tie as tie
+use Rattle.gossip_table.proofs.noted.count_ihave.Statement.{statement}
+use Rattle.gossip_table.proofs.noted.count_ihave.Tie as tie
 
 pub count-ihave-spec : {M : Type 1} → statement M
 count-ihave-spec =

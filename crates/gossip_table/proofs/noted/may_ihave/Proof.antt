@@ -1,8 +1,8 @@
--- `gossip_table::peers::may_ihave`: the note is the one in its part.
+-- `gossip_table::noted::may_ihave`: the note is the one in its part.
 use borrow.Author.Needs.{needs}
 use Rattle.gossip_table.proofs.NoteParts.{fine-slot, ihave-by}
-use Rattle.gossip_table.proofs.peers.may_ihave.Statement.{statement}
-use Rattle.gossip_table.proofs.peers.may_ihave.Tie as tie
+use Rattle.gossip_table.proofs.noted.may_ihave.Statement.{statement}
+use Rattle.gossip_table.proofs.noted.may_ihave.Tie as tie
 
 pub may-ihave-spec : {M : Type 1} → statement M
 may-ihave-spec =

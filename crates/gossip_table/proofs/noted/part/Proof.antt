@@ -1,8 +1,8 @@
--- `gossip_table::peers::part`: a set emptied, in its part of the array.
+-- `gossip_table::noted::part`: a set emptied, in its part of the array.
 use borrow.Author.Needs.{needs}
 use Rattle.gossip_table.proofs.NoteParts.{at-slot, part-back}
-use Rattle.gossip_table.proofs.peers.part.Statement.{statement}
-use Rattle.gossip_table.proofs.peers.part.Tie as tie
+use Rattle.gossip_table.proofs.noted.part.Statement.{statement}
+use Rattle.gossip_table.proofs.noted.part.Tie as tie
 
 pub part-spec : {M : Type 1} → statement M
 part-spec =

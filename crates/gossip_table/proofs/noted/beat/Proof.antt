@@ -1,8 +1,8 @@
--- `gossip_table::peers::beat`: every note older, in its part of the array.
+-- `gossip_table::noted::beat`: every note older, in its part of the array.
 use borrow.Author.Needs.{needs}
 use Rattle.gossip_table.proofs.NoteParts.{all-fit, beat-back}
-use Rattle.gossip_table.proofs.peers.beat.Statement.{statement}
-use Rattle.gossip_table.proofs.peers.beat.Tie as tie
+use Rattle.gossip_table.proofs.noted.beat.Statement.{statement}
+use Rattle.gossip_table.proofs.noted.beat.Tie as tie
 
 pub beat-spec : {M : Type 1} → statement M
 beat-spec =

@@ -1,8 +1,8 @@
--- `gossip_table::peers::clear`: a note emptied, in its part of the array.
+-- `gossip_table::noted::clear`: a note emptied, in its part of the array.
 use borrow.Author.Needs.{needs}
 use Rattle.gossip_table.proofs.NoteParts.{at-slot, clear-back}
-use Rattle.gossip_table.proofs.peers.clear.Statement.{statement}
-use Rattle.gossip_table.proofs.peers.clear.Tie as tie
+use Rattle.gossip_table.proofs.noted.clear.Statement.{statement}
+use Rattle.gossip_table.proofs.noted.clear.Tie as tie
 
 pub clear-spec : {M : Type 1} → statement M
 clear-spec =
