@@ -22,7 +22,7 @@ use Rattle.gossip.proofs.Fine.{fine-of}
 use Rattle.gossip_table.specs.View.{gossipOf, extendedOf}
 use Rattle.gossip_table.proofs.FineLaws.{fine-lazy}
 use Rattle.gossip_gate.specs.Promise.{GivesAll}
-use Rattle.gossip_gate.proofs.AdmittedLaws.{admitted-valid, admitted-fine}
+use Rattle.gossip_gate.proofs.AdmittedLaws.{admitted-fine}
 use Rattle.gossip_gate.proofs.ReplyLaws.{announce-draw, announce-outside, announce-tells}
 use Rattle.gossip_gate.proofs.EndLaws.{gives-refusal, gives-nothing, gives-actions}
 use Rattle.gossip_peers.specs.Peers.{Tells, Drawn}
@@ -31,7 +31,10 @@ use Rattle.gossip_calls.specs.Asked.{Announcing, Telling}
 use Rattle.gossip_calls.proofs.NumberLaws.{no-numbers}
 
 -- ---- who is told
-pub told-nobody : (acts : List Action) (list : List ℕ) (count : ℕ) (l : List ℕ) → count ≡ 0 → count ≡ length l →
+pub told-nobody :
+    (acts : List Action) (list : List ℕ) (count : ℕ) (l : List ℕ) →
+    count ≡ 0 →
+    count ≡ length l →
     Tells (ifAny l acts) list list 0
 told-nobody acts list count [] z e = tells-none list
 told-nobody acts list count (n ∷ l) z e = absurd (omega arith)
@@ -58,17 +61,17 @@ told-some st p t count r lazy factor set order list list′ l z e el ef es h =
 
 -- what the draw goes by
 pub telling-drawn :
-    {table gossip order list : List ℕ} {time t : ℕ} →
-    Telling table gossip time t order list →
+    {table gossip order list : List ℕ} {t : ℕ} →
+    Telling table gossip t order list →
     (lazy factor : ℕ) →
     lazy ≡ gossipOf gossip .setup .lazy →
     factor ≡ gossipOf gossip .setup .factor →
     Drawn table list order lazy factor
 telling-drawn {table} {gossip} a lazy factor el ef =
-    let f = admitted-fine (a .admitted) in
+    let f = a .fine in
     let b = fine-lazy (f .base) (gossipOf gossip) (f .ok) in
     record {
-      lent = record { standing = record { size = a .admitted .size; router = admitted-valid (a .admitted) }; room = a .room };
+      lent = record { standing = a .standing; room = a .room };
       permutation = a .permutation;
       lazy = omega (arith, el, b .0);
       factor = omega (arith, ef, b .1);

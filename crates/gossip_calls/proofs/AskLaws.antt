@@ -17,9 +17,9 @@ use Rattle.lookup.specs.Find.{findConnected}
 use Rattle.effects.specs.Effects.{isJoined}
 use Rattle.gossip.specs.Notes.{Extended, noteIn, has, stored, setNote, setReplies, countIn, replied, rowsMost, numbersMost}
 use Rattle.gossip.specs.Calls.{ihave, iwant}
-use Rattle.gossip.specs.Step.{FullReply, ignoredAll, doneAll, ofPeerAll, underGossip, wanted, withIhave, isAnswered, ihaveReply, isServed}
-use Rattle.gossip.specs.Step.{iwantReply}
-use Rattle.gossip.specs.Step.{newEffect}
+use Rattle.gossip.specs.Step.{FullReply, ignoredAll, doneAll, ofPeerAll, newEffect, underGossip, wanted, withIhave, isAnswered, ihaveReply}
+use Rattle.gossip.specs.Step.{isServed, iwantReply}
+use Rattle.gossip.proofs.ListLaws.{clash}
 use Rattle.gossip_table.specs.View.{gossipOf, extendedOf}
 use Rattle.gossip_table.specs.Fine.{ReplyFits}
 use Rattle.gossip_table.proofs.FineLaws.{fine-bounds}
@@ -40,19 +40,10 @@ early true false false e = refl
 early false u b e = refl
 
 late : (a u b : Bool) → not (a && b) ≡ false → not u ≡ (a && (not u && b))
-late true u true e = go u
-  where
-    go : (v : Bool) → not v ≡ (not v && true)
-    go true = refl
-    go false = refl
-late true u false e = absurd (let z : _≡_ {A = Bool} true false = e in clash z)
-  where
-    clash : _≡_ {A = Bool} true false → ⊥
-    clash z = let k : _≡_ {A = ℕ} 0 1 = cc in omega arith
-late false u b e = absurd (let z : _≡_ {A = Bool} true false = e in clash z)
-  where
-    clash : _≡_ {A = Bool} true false → ⊥
-    clash z = let k : _≡_ {A = ℕ} 0 1 = cc in omega arith
+late true true true e = refl
+late true false true e = refl
+late true u false e = clash refl e
+late false u b e = clash refl e
 
 module _
     (table gossip : List ℕ)
@@ -77,8 +68,8 @@ served-as false a b = refl
 
 module _
     (table gossip : List ℕ)
-    (time n s place k m : ℕ)
-    (w : Wanting table gossip time n s place)
+    (n s place k m : ℕ)
+    (w : Wanting table gossip n s place)
     (ek : k ≡ countIn (gossipOf gossip .replies) n s)
     (em : m ≡ gossipOf gossip .setup .replies)
   where
@@ -238,9 +229,8 @@ unfolding isServed
 serve-fits {table} {gossip} {time} {s} a n b eb e =
     let f = admitted-fine (a .admitted) in
     let g = gossipOf gossip in
-    let p = both (not (underGossip (stateOf table) s)) (stored g n && ltb (countIn (g .replies) n s) (g .setup .replies))
-    (passed eb e) .1 in
-    let q = both (stored g n) (ltb (countIn (g .replies) n s) (g .setup .replies)) p in
+    let few = ltb (countIn (g .replies) n s) (g .setup .replies) in
+    let q = both (stored g n) few (both (not (underGossip (stateOf table) s)) (stored g n && few) (passed eb e) .1) in
     let l = ltb-true (countIn (g .replies) n s) (g .setup .replies) (q .1) in
     let m = fine-bounds (f .base) g (f .ok) .1 in
     record { fine = f; slot = a .slot; kept = q .0; few = omega (arith, l, m) }

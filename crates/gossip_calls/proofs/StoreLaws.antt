@@ -121,7 +121,8 @@ notes-keep g g′ notes f l e =
       size = l;
       windows = windows-right (storesPart g′) (isJoined (f .base)) (stores-size g′ l)
           (every-by _ topicCount
-          (λ t h. ap (storeOk (isJoined (f .base) t)) (store-part g′ t ∙ same-store t)
+          (λ t h.
+          ap (storeOk (isJoined (f .base) t)) (store-part g′ t ∙ same-store t)
           ∙ fine-of (f .base) (gossipOf g) (f .ok) .store t h));
       rows = omega (arith, q, z);
     }

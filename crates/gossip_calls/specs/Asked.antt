@@ -8,9 +8,11 @@ use lib.Dec.{ltb}
 use lib.ListN.{length}
 use Rattle.records.specs.Records.{slotCount, topicCount}
 use Rattle.sets.specs.Sets.{isPermutation}
+use Rattle.peer_score.specs.Standing.{Standing}
 use Rattle.rules.specs.Step.{actionRoom}
 use Rattle.gossip.specs.Notes.{numbersMost, rowsMost, stored}
 use Rattle.gossip_table.specs.View.{gossipOf}
+use Rattle.gossip_table.specs.Fine.{Fine}
 use Rattle.gossip_gate.specs.Admitted.{Admitted}
 
 -- announce: room for every action, and for every number
@@ -21,8 +23,9 @@ pub record Announcing (table gossip : List ℕ) (time t : ℕ) (list numbers : L
   pub fits : numbersMost ≤ length numbers
 
 -- and a draw that is one
-pub record Telling (table gossip : List ℕ) (time t : ℕ) (order list : List ℕ) : Type 0 where
-  pub admitted : Admitted table gossip time
+pub record Telling (table gossip : List ℕ) (t : ℕ) (order list : List ℕ) : Type 0 where
+  pub standing : Standing table
+  pub fine : Fine gossip
   pub topic : t < topicCount
   pub permutation : isPermutation slotCount order ≡ true
   pub room : actionRoom ≤ length list
@@ -41,8 +44,16 @@ pub record HavingAt (table gossip : List ℕ) (time t s : ℕ) (given numbers : 
   pub few : length given ≤ numbersMost
   pub fits : numbersMost ≤ length numbers
 
+-- and what tells whether it is answered
+pub record Answering (table gossip : List ℕ) (t s : ℕ) : Type 0 where
+  pub standing : Standing table
+  pub fine : Fine gossip
+  pub topic : t < topicCount
+  pub slot : s < slotCount
+
 -- iwant: a peer, and the place that a number was found at
-pub record Wanting (table gossip : List ℕ) (time n s place : ℕ) : Type 0 where
-  pub admitted : Admitted table gossip time
+pub record Wanting (table gossip : List ℕ) (n s place : ℕ) : Type 0 where
+  pub standing : Standing table
+  pub fine : Fine gossip
   pub slot : s < slotCount
   pub found : ltb place rowsMost ≡ stored (gossipOf gossip) n

@@ -33,13 +33,12 @@ use sets::permutation::is_permutation;
 fn tell_any(
     table: &[u64],
     gossip: &[u64],
-    time: u64,
     topic: usize,
     order: &[u64],
     count: usize,
     actions: &mut [u32],
 ) -> usize
-    requires { ⌜ Telling (now table) (now gossip) time topic (now order) (now actions) ⌝ }
+    requires { ⌜ Telling (now table) (now gossip) topic (now order) (now actions) ⌝ }
     ensures { λ r. ⌜ ((l : List ℕ) → count ≡ length l →
         Told (ifAny l (map (tellOne (stateOf (now (table .entry))) 5)
         (chosen (gossipOf (now (gossip .entry)) .setup) (inDraw (stateOf (now (table .entry))) topic (now (order .entry))))))
@@ -81,7 +80,7 @@ fn announce_from(
         return ignore(table, time);
     }
     let count = stored::announce(gossip, topic, numbers);
-    let told = tell_any(table, gossip, time, topic, order, count, actions);
+    let told = tell_any(table, gossip, topic, order, count, actions);
     finish(table, time, told, count)
 }
 

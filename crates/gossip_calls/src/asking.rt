@@ -6,8 +6,8 @@ ghost use Rattle.gossip.specs.Calls.{new, ihave as Calls·ihave, iwant as Calls
 ghost use Rattle.gossip.specs.Step.{ofPeerAll, isServed, iwantReply, isAnswered, ihaveReply};
 ghost use Rattle.gossip_table.specs.View.{extendedOf};
 ghost use Rattle.gossip_gate.specs.Promise.{LeavesAll, FollowsAll, Tells};
-ghost use Rattle.gossip_gate.specs.Admitted.{Admitted, SlotAdmitted, PlaceAdmitted};
-ghost use Rattle.gossip_calls.specs.Asked.{Wanting, Having, HavingAt};
+ghost use Rattle.gossip_gate.specs.Admitted.{Admitted, SlotAdmitted};
+ghost use Rattle.gossip_calls.specs.Asked.{Having, HavingAt, Answering, Wanting};
 use crate::NUMBERS;
 use effects::slots::is_joined;
 use gate::id_ok;
@@ -32,8 +32,8 @@ use records::ACTION_ROOM;
 const PLACES: usize = 2560;
 
 // Whether an IHAVE of the peer in a slot is answered. A score costs more than the other tests, and comes last.
-fn is_answered(table: &[u64], gossip: &[u64], time: u64, topic: usize, slot: usize) -> bool
-    requires { ⌜ PlaceAdmitted (now table) (now gossip) time topic slot ⌝ }
+fn is_answered(table: &[u64], gossip: &[u64], topic: usize, slot: usize) -> bool
+    requires { ⌜ Answering (now table) (now gossip) topic slot ⌝ }
     ensures { λ r. ⌜ r ≡ isAnswered (extendedOf (now (table .entry)) (now (gossip .entry))) topic slot ⌝ }
 {
     if !(is_joined(table, topic) & may_ihave(gossip, slot)) {
@@ -59,7 +59,7 @@ fn answer(
         × (now (numbers .exit) ≡ sets (now (numbers .entry)) 0
         (ihaveReply (extendedOf (now (table .entry)) (now (gossip .entry))) time topic (now (given .entry)) slot .numbers)) ⌝ }
 {
-    if !is_answered(table, gossip, time, topic, slot) {
+    if !is_answered(table, gossip, topic, slot) {
         return ignore(table, time);
     }
     let count = stored::want(gossip, given, numbers);
@@ -117,15 +117,8 @@ pub fn ihave(
 
 // Whether an IWANT of the peer in a slot is answered, with a number that was found at a place. A score costs more than the other tests, and
 // comes last.
-fn is_served(
-    table: &[u64],
-    gossip: &[u64],
-    time: u64,
-    number: u64,
-    slot: usize,
-    place: usize,
-) -> bool
-    requires { ⌜ Wanting (now table) (now gossip) time number slot place ⌝ }
+fn is_served(table: &[u64], gossip: &[u64], number: u64, slot: usize, place: usize) -> bool
+    requires { ⌜ Wanting (now table) (now gossip) number slot place ⌝ }
     ensures { λ r. ⌜ r ≡ isServed (extendedOf (now (table .entry)) (now (gossip .entry))) number slot ⌝ }
 {
     if !((place < PLACES) & (stored::count(gossip, number, slot) < load_reply_bound(gossip))) {
@@ -141,7 +134,7 @@ fn serve(table: &mut [u64], gossip: &mut [u64], time: u64, number: u64, slot: us
         (now (table .entry)) (now (table .exit)) (now (gossip .entry)) (now (gossip .exit)) ⌝ }
 {
     let place = stored::find(gossip, number);
-    if !is_served(table, gossip, time, number, slot, place) {
+    if !is_served(table, gossip, number, slot, place) {
         return ignore(table, time);
     }
     stored::reply(gossip, number, slot, place as u64);

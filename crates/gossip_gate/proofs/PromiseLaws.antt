@@ -92,15 +92,6 @@ pub gives-refused :
 gives-refused n table gossip list =
     gives-quiet (refusedAll n (extendedOf table gossip)) n table table gossip gossip list refl (leaves-refused n table gossip)
 
-pub gives-ignored :
-    (time : ℕ) (table table′ gossip gossip′ list : List ℕ) →
-    stateOf table′ ≡ setClock (stateOf table) time →
-    gossipOf gossip′ ≡ gossipOf gossip →
-    GivesAll (ignoredAll (extendedOf table gossip) time) 11 table table′ gossip gossip′ list list
-gives-ignored time table table′ gossip gossip′ list e f =
-    gives-quiet (ignoredAll (extendedOf table gossip) time) 11 table table′ gossip gossip′ list refl
-    (leaves-ignored time table table′ gossip gossip′ e f)
-
 pub gives-done :
     (time r : ℕ) (g : Gossip) (acts : List Action) (numbers : List ℕ) (table table′ gossip gossip′ list list′ : List ℕ) →
     r ≡ 256 * length acts + 16777216 * length numbers →

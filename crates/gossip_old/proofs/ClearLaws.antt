@@ -1,12 +1,11 @@
 -- A walk over the slots of a set empties their notes one after the other; the others' stay.
 -- Assumes nothing.
-use Rattle.index.proofs.Kit.{ℕ, _≤_, _<_, _+_, _≡_, refl, sym, ap, _∙_, Bool, true, false, arith}
+use Rattle.index.proofs.Kit.{ℕ, _<_, _+_, _≡_, refl, sym, ap, _∙_, Bool, true, false, arith}
 use mathlib.Core.Bool.{cond, false≢true}
 use mathlib.Core.List.{List}
-use lib.ListN.{length, getD, set, length-set}
+use lib.ListN.{length, getD, length-set}
 use lib.Seq.{getD-set-same, getD-set-other}
 use Rattle.index.proofs.Flags.{by-test, by-order}
-use Rattle.index.proofs.Lists.{Built}
 use Rattle.records.specs.Records.{slotCount}
 use Rattle.words.specs.Words.{Next}
 use Rattle.sets.specs.Sets.{at, bySlot}
@@ -89,7 +88,8 @@ pub cleared-all :
     (m : List Bool) (g h : Gossip) (f : ℕ → Bool) → m ≡ bySlot slotCount f → Cleared m slotCount g h → h ≡ emptied f g
 cleared-all m g h f e k =
     let new : ℕ → Note = λ s. cond (f s) noNote (noteIn g s) in
-    whole (k .setup) (slots-built noNote new slotCount slotCount (h .notes) (omega arith) (record { low = omega arith; len = k .len; below = each }))
+    whole (k .setup)
+    (slots-built noNote new slotCount slotCount (h .notes) (omega arith) (record { low = omega arith; len = k .len; below = each }))
     (k .stores) (k .replies)
   where
     whole : {p p′ : Setup} {n n′ : List Note} {s s′ : List (List (List ℕ))} {r r′ : List Row} →

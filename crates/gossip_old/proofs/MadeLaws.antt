@@ -11,25 +11,26 @@ use Rattle.params.specs.declared.Params.{Params}
 use Rattle.params.specs.Check.{firstBroken}
 use Rattle.lookup.specs.declared.Made.{Made}
 use Rattle.lookup.specs.declared.Made.the-variants.{Done as MadeDone, Broken as MadeBroken}
-use Rattle.lookup.specs.Fresh.{freshState, madeOf, leftBy as freshLeft, Makes}
+use Rattle.lookup.specs.Fresh.{madeOf, leftBy as freshLeft, Makes}
 use Rattle.saves.specs.declared.Loaded.{Loaded}
-use Rattle.saves.specs.declared.Loaded.the-variants.{Done as LoadedDone, OutOfRange as LoadedOutOfRange, Broken as LoadedBroken, Malformed}
+use Rattle.saves.specs.declared.Loaded.the-variants.{Done as LoadedDone, OutOfRange as LoadedOutOfRange}
 use Rattle.saves.specs.Load.{Loading, loaded, outOfRange, broken, bad, loadOf, answerOf, leftBy, refuses, Loads}
 use Rattle.gossip.specs.Notes.{Setup, Gossip, Extended, freshGossip}
 use Rattle.gossip.specs.Valid.{setupOk}
 use Rattle.gossip_table.specs.View.{gossipOf, extendedOf}
-use Rattle.gossip_old.specs.declared.Making.{Making}
 use Rattle.gossip_old.specs.declared.Making.the-variants.{Done, OutOfRange, Broken}
-use Rattle.gossip_old.specs.Made.{sheeted, makingOf, madeBy, isMade, MakesAll, loadedBy, LoadsAll}
+use Rattle.gossip_old.specs.Made.{sheeted, makingOf, MakesAll, loadedBy, LoadsAll}
 
 -- both are made
-both-are : {s st : State} {g h : Gossip} → s ≡ st → g ≡ h → _≡_ {A = Extended} (record { base = s; gossip = g }) (record { base = st; gossip = h })
+both-are : {s st : State} {g h : Gossip} → s ≡ st → g ≡ h →
+    _≡_ {A = Extended} (record { base = s; gossip = g }) (record { base = st; gossip = h })
 both-are e f = cc
 
 module _ (p : Setup) (all : Params) (table gossip : List ℕ) where
   pub fresh-range : setupOk p ≡ false → MakesAll p all OutOfRange table table gossip gossip
   unfolding makingOf
-  fresh-range e = record { answer = sym (ap (λ (b : Bool). cond b (sheeted (firstBroken all)) OutOfRange) e); state = refl; kept = λ z. (refl, refl) }
+  fresh-range e =
+      record { answer = sym (ap (λ (b : Bool). cond b (sheeted (firstBroken all)) OutOfRange) e); state = refl; kept = λ z. (refl, refl) }
 
   making : setupOk p ≡ true → makingOf p all ≡ sheeted (firstBroken all)
   unfolding makingOf

@@ -1,28 +1,27 @@
 -- From what 01's call promises, and what is done to the array besides, to what the call with the array promises.
 -- Assumes nothing.
-use Rattle.index.proofs.Kit.{ℕ, _≤_, _<_, _+_, _*_, _≡_, refl, sym, ap, _∙_, Bool, true, false, not, arith}
-use mathlib.Core.Bool.{cond, false≢true, _&&_, _||_}
-use mathlib.Core.List.{List, []}
+use Rattle.index.proofs.Kit.{ℕ, _<_, _≡_, refl, sym, ap, _∙_, Bool, true, false, arith}
+use mathlib.Core.Bool.{cond, false≢true, _&&_}
+use mathlib.Core.List.{List}
 use lib.Dec.{eqb}
 use lib.ListN.{length}
-use borrow.Author.Tests.{ne-eqb, eqb-true}
+use borrow.Author.Tests.{ne-eqb}
 use Rattle.index.specs.declared.Found.{Found}
 use Rattle.index.specs.declared.Found.the-variants.{At, Nothing}
 use Rattle.index.proofs.Index.{both}
 use Rattle.index.proofs.Flags.{by-test}
-use Rattle.records.specs.Records.{State, slotCount, topicCount, peerIn}
+use Rattle.records.specs.Records.{State, topicCount, peerIn}
 use Rattle.layout.specs.View.{stateOf}
 use Rattle.validity.specs.Valid.{valid}
 use Rattle.lookup.specs.Find.{findConnected}
 use Rattle.lookup.proofs.FindLaws.{connected-at}
-use Rattle.effects.specs.Actions.{numbersOf}
 use Rattle.effects.specs.Effects.{reclaimable}
 use Rattle.answers.specs.Answers.{answerCode}
 use Rattle.rules.specs.declared.Answer.{Answer}
 use Rattle.rules.specs.declared.Answer.the-variants.{Done, Scored, Early, OutOfRange, NotConnected, AlreadyConnected, NoSlot}
 use Rattle.rules.specs.declared.Answer.the-variants.{UnknownProtocol, NotPermutation, ListShort, Ignored, NotRouter}
 use Rattle.rules.specs.Reply.{Reply, numberOf, actionsOf, refuses}
-use Rattle.rules.specs.Calls.{Call, connect, disconnect, leave, topicOk}
+use Rattle.rules.specs.Calls.{Call, connect, disconnect, leave}
 use Rattle.rules.specs.Step.{step, gateOf}
 use Rattle.rules.specs.Promise.{Follows}
 use Rattle.rules.proofs.CaseLaws.{by-gate, topic-in, arguments}

@@ -4,7 +4,7 @@ pub mod made;
 
 ghost use mathlib.Core.Path.{_≡_};
 ghost use mathlib.Core.Bool.{Bool};
-ghost use Prim.Native.Nat.{ℕ, _<_};
+ghost use Prim.Native.Nat.{ℕ};
 ghost use lib.ListN.{length};
 ghost use Rattle.records.specs.Records.{slotCount};
 ghost use Rattle.words.specs.Words.{bitsOf};

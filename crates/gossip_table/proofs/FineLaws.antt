@@ -76,9 +76,6 @@ module _ (st : State) (g : Gossip) (ok : gossipOk st g ≡ true) where
     pub fine-held : length (here .held) ≤ setMost
     fine-held = leb-true (length (here .held)) setMost (set-three .0)
 
-    pub fine-rises : rises (map numberOf (here .held)) ≡ true
-    fine-rises = set-three .1
-
     pub fine-counts : (here .puts ≤ 32) × (here .ihaves ≤ 32)
     fine-counts =
         let a = both (leb (here .puts) (g .setup .limit) && leb (here .ihaves) (g .setup .ihaves)) _ (note-two .1) in

@@ -13,7 +13,7 @@ use Rattle.stores.proofs.ViewLaws.{length-store, length-stores, stored-state, s
 use Rattle.stores.proofs.ApartLaws.{windows-right}
 use Rattle.effects.specs.Effects.{isJoined}
 use Rattle.replies.specs.View.{repliesCells, repliesOf}
-use Rattle.replies.specs.Asked.{Rows, RowOf, SlotOf, Ordered, Room, Flagged, FlagsSay}
+use Rattle.replies.specs.Asked.{RowOf, SlotOf, Ordered, Room, Flagged, FlagsSay}
 use Rattle.notes.proofs.NoteLaws.{notes-length}
 use Rattle.gossip.proofs.Fine.{fine-of, room-for-reply}
 use Rattle.gossip.specs.Notes.{Row, windowCount, windowMost, rowsMost, numbersMost, storeIn, stored, setStore, setReplies, countIn, replied}
@@ -70,8 +70,6 @@ fine-kept {c} f =
     }
 
 -- ---- the rows
-pub rows-kept : {c : List ℕ} → Kept c → Rows (repliesPart c)
-rows-kept {c} k = record { size = replies-size c (k .size); few = k .rows }
 
 pub row-kept : {c : List ℕ} {r : ℕ} → KeptRow c r → RowOf (repliesPart c) r
 row-kept {c} k = record { size = replies-size c (k .size); few = k .rows; here = k .row }

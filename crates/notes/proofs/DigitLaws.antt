@@ -43,10 +43,6 @@ unfolding digit
 digit-suc x k =
     ap (λ (n : ℕ). x / n % 4) (pow-succ' 4 k) ∙ ap (λ (n : ℕ). n % 4) (sym (div-div-eq-div-mul x 4 (4 ^ k)))
 
-pub digit-lt : (x k : ℕ) → digit x k < 4
-unfolding digit
-digit-lt x k = mod-lt (x / 4 ^ k) (zero-lt-suc 3)
-
 -- a number by its lowest digit and the others
 pub digit-low : (a b : ℕ) → a < 4 → digit (a + 4 * b) 0 ≡ a
 digit-low a b h = digit-zero (a + 4 * b) ∙ omega arith

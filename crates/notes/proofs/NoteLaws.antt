@@ -414,13 +414,6 @@ room-at c s limit h =
 
 -- ---- test 12 of a record's note
 
--- what `note_ok` says, asked with a set-up's numbers
-pub note-judged :
-    (p : Setup) (peer : Peer) (n : Note) (r : Bool)
-    → r ≡ (setOk (isConnected peer) (n .held) && countsFit (p .limit) (p .ihaves) (isEmpty peer) n) → r ≡ noteOk p peer n
-unfolding noteOk
-note-judged p peer n r e = e
-
 -- no note passes, whatever the record
 pub nothing-passes : (p : Setup) (peer : Peer) → noteOk p peer noNote ≡ true
 unfolding noteOk setOk rises all

@@ -81,12 +81,6 @@ row-cong c d a b e f =
     row-parts c d a b e
     (table-same slotCount (laneAt d b) (laneAt c a) (λ s h. lane-cong c d a b s (f (s / 10) (omega arith))))
 
-pub rows-same :
-    (c d : List ℕ) → rowsIn d ≡ rowsIn c → ((k : ℕ) → k < rowsIn c → rowAt d k ≡ rowAt c k) → repliesOf d ≡ repliesOf c
-unfolding repliesOf
-rows-same c d e h =
-    ap (λ (u : ℕ). tab u (rowAt d)) e ∙ tab-same (rowsIn c) (rowAt d) (rowAt c) h
-
 pub row-set-rows : (c d : List ℕ) (r : ℕ) (row : Row) → RowSet c d r row → repliesOf d ≡ set (repliesOf c) r row
 unfolding repliesOf
 row-set-rows c d r row t =
@@ -267,12 +261,3 @@ used-same c u k =
 
 pub used-is : (c : List ℕ) (u : ℕ) → length c ≡ repliesCells → rowsIn (set c 0 u) ≡ u
 used-is c u e = getD-set-same c 0 u 0 (omega arith)
-
-pub hint-same : (c : List ℕ) (r v : ℕ) → repliesOf (set c (startOf r + 1) v) ≡ repliesOf c
-unfolding rowAt
-hint-same c r v =
-    let at : ℕ = startOf r + 1 in
-    rows-same c (set c at v) (getD-set-other c at 0 v 0 (λ z. omega arith))
-    (λ k h.
-    row-cong c (set c at v) (startOf k) (startOf k) (getD-set-other c at (startOf k) v 0 (λ z. omega arith))
-    (λ j b. getD-set-other c at (startOf k + (2 + j)) v 0 (λ z. omega arith)))

@@ -200,13 +200,6 @@ pub fn row_hint(cells: &[u64], r: usize) -> u64
     cells[1 + r * ROW_CELLS + 1]
 }
 
-pub fn set_hint(cells: &mut [u64], r: usize, place: u64)
-    requires { ⌜ RowOf (now cells) r ⌝ }
-    ensures { λ _. ⌜ repliesOf (now (cells .exit)) ≡ repliesOf (now (cells .entry)) ⌝ }
-{
-    cells[1 + r * ROW_CELLS + 1] = place;
-}
-
 // Whether row p is that of n.
 fn is_row(cells: &[u64], p: usize, n: u64) -> bool
     requires { ⌜ Rows (now cells) ⌝ }

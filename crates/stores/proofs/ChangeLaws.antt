@@ -33,9 +33,6 @@ tab-snoc (suc n) f = ap (λ l. f zero ∷ l) (tab-snoc n (λ k. f (suc k)))
 pub window-of : (c : List ℕ) (p : ℕ) → Windows c → p < allWindows → Window c p
 window-of c p h l = record { cells = h .cells; low = l; most = h .most p l }
 
-pub store-of : (c : List ℕ) (t : ℕ) → Windows c → t < topicCount → Store c t
-store-of c t h l = record { cells = h .cells; low = l; most = λ w b. h .most (t * windowCount + w) (omega arith) }
-
 pub window-in : (c : List ℕ) (t w : ℕ) → Store c t → w < windowCount → Window c (t * windowCount + w)
 window-in c t w h l = record { cells = h .cells; low = let b : t < topicCount = h .low in omega arith; most = h .most w l }
 

@@ -5,7 +5,7 @@ use native.Mathlib.Omega.{arith}
 use mathlib.Core.Bool.{Bool, true, false, _||_}
 use mathlib.Core.List.{List, []}
 use mathlib.Core.Path.{_≡_, refl, sym, ap, _∙_}
-use lib.ListN.{length, getD, set, take, drop, replicate, List·getD-eq-default, length-take, length-drop, getD-replicate}
+use lib.ListN.{length, getD, set, take, drop, replicate, List·getD-eq-default, length-take, length-drop}
 use lib.Seq.{ext-getD, getD-take, getD-drop, take-take}
 use Rattle.index.proofs.Flags.{by-order}
 use Rattle.records.specs.Records.{topicCount}
@@ -113,13 +113,6 @@ stores-none c h =
 pub windows-none :
     (c : List ℕ) → length c ≡ storesCells → ((p : ℕ) → p < allWindows → countAt c p ≡ 0) → Windows c
 windows-none c s h = record { cells = s; most = λ p l. let e : countAt c p ≡ 0 = h p l in omega arith }
-
-pub store-none : (c : List ℕ) → storesOf c ≡ replicate topicCount noStore → (t : ℕ) → storeAt c t ≡ noStore
-store-none c e t =
-    ap (λ (l : List (List (List ℕ))). getD l t noStore) e
-    ∙ by-order (getD (replicate topicCount noStore) t noStore ≡ noStore) t topicCount
-    (getD-replicate topicCount t noStore noStore)
-    (λ l. List·getD-eq-default (replicate topicCount noStore) noStore l)
 
 -- one topic's windows replaced
 pub changed-stores :

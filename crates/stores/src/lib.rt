@@ -170,12 +170,30 @@ fn is_at(cells: &[u64], place: u64, n: u64) -> bool
     (i % WINDOW_MOST < count) & (cells[ALL_WINDOWS + i] == n)
 }
 
+// Whether the number stands at a place, or where its window has moved since, one on at each heartbeat.
+fn is_near(cells: &[u64], place: u64, n: u64) -> bool
+    requires { ⌜ Windows (now cells) ⌝ }
+    ensures { λ r. ⌜ (r ≡ true → storedAt (now (cells .entry)) n ≡ true) ⌝ }
+{
+    if place >= PLACES as u64 {
+        return false;
+    }
+    let mut moved: u64 = 0;
+    while moved < WINDOWS as u64 {
+        if is_at(cells, place + moved * WINDOW_MOST as u64, n) {
+            return true;
+        }
+        moved += 1;
+    }
+    false
+}
+
 // Whether some topic stores a number, with a place where it may stand: only where it does not, all places are searched.
 pub fn is_stored_at(cells: &[u64], place: u64, n: u64) -> bool
     requires { ⌜ Windows (now cells) ⌝ }
     ensures { λ r. ⌜ r ≡ storedAt (now (cells .entry)) n ⌝ }
 {
-    if is_at(cells, place, n) {
+    if is_near(cells, place, n) {
         return true;
     }
     find(cells, n) < PLACES

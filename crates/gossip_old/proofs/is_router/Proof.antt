@@ -16,4 +16,5 @@ is-router-spec =
       router = passed (c .before .before .before .is-router .ensures) (c .before .before .if1 .left);
       sizes = search needs;
     })
-    (λ c. test-array _ _ _ (passed (c .before .before .before .before .is-router .ensures) (c .before .before .before .if1 .left)) (c .is-gossip .ensures)))
+    (λ c. test-array _ _ _ (passed (c .before .before .before .before .is-router .ensures) (c .before .before .before .if1 .left))
+    (c .is-gossip .ensures)))

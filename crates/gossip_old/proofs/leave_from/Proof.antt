@@ -24,5 +24,6 @@ leave-from-spec =
     (λ c. search needs)
     (λ c.
     let a = c .before .before .before .before .number-of .ensures in
-    old-done _ _ _ _ _ _ _ (c .before .before .before .before .before .before .before .leave .ensures) _ _ _ a (search needs) (c .code2 .ensures)
+    old-done _ _ _ _ _ _ _ (c .before .before .before .before .before .before .before .leave .ensures) _ _ _ a (search needs)
+    (c .code2 .ensures)
     (besides-leave _ _ _ _ _ (c .before .empty .ensures))))

@@ -1,3 +1,4 @@
+-- `notes::beat_slot`: the row is aged in place, and the column cell keeps its new length alone.
 use native.Mathlib.Omega.{arith}
 use borrow.Author.Needs.{needs}
 use Rattle.notes.proofs.NoteLaws.{size-at, notes-beaten}

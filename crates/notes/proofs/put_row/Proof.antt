@@ -1,3 +1,4 @@
+-- `notes::put_row`: the cells from the place on move up by one, numbers and ages alike, and the number stands there with age 0.
 use native.Mathlib.Omega.{arith}
 use borrow.Author.Needs.{needs}
 use lib.ListN.{length-set}

@@ -1,3 +1,4 @@
+-- `stores::announce`: the three windows are copied one behind the other, the oldest first.
 use native.Mathlib.Omega.{arith}
 use mathlib.Core.Path.{refl}
 use borrow.Author.Needs.{needs}

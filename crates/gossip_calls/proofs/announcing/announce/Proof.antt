@@ -20,30 +20,37 @@ returns c =
 
 announce-from-requires : tie.Need-announce-from-requires
 announce-from-requires c κs =
-    announcing _ _ _ _ _ _ _ _ _ (c .before .before .before .before .before .admit .ensures) (c .before .before .before .before .if1 .left)
-    (c .before .before .before .before .before .before .before .before .before .before .time-ok .ensures)
+    let p = c .before .before .before .before in
+    let q = p .before in
+    let s = q .before .before .before .before in
+    let u = s .before in
+    announcing _ _ _ _ _ _ _ _ _ (q .admit .ensures) (p .if1 .left) (u .time-ok .ensures)
     (search needs)
     (search needs)
-    (c .before .before .before .before .before .before .before .before .before .topic-ok .ensures)
+    (s .topic-ok .ensures)
 
 returns-2 : tie.Need-returns-2
 unfolding newEffect
 returns-2 c =
-    let a = c .before .before .before .before .before .before .before .before .before .before .before .before .before .before .before
-    .before .before .before .before .args in
+    let p = c .before .before .before .before in
+    let q = p .before .before .before .before .before in
+    let s = q .before in
+    let u = s .before .before .before .before in
+    let v = u .before in
+    let w = v .before .before .before .before in
+    let a = w .args in
     lists-given (announce (a .time) (a .topic) (a .permutation .now) (length (a .numbers .now))) _ _ _ _ _ _ _ _
-    (c .before .before .before .before .before .before .before .before .before .before .before .before .before .before .before .time-ok
-    .ensures)
-    (c .before .before .before .before .before .before .before .before .before .before .before .before .before .before .topic-ok .ensures)
+    (v .time-ok .ensures)
+    (u .topic-ok .ensures)
     refl
-    (c .before .before .before .before .before .before .before .before .before .before .admit .ensures)
-    (c .before .before .before .before .before .before .before .before .before .if1 .left)
+    (s .admit .ensures)
+    (q .if1 .left)
     _
     _
     _
     _
     _
-    (c .before .before .before .before .announce-from .ensures)
+    (p .announce-from .ensures)
 
 pub announce-spec : {M : Type 1} → statement M
 announce-spec =

@@ -5,52 +5,60 @@ use Rattle.layout.specs.View.{stateOf}
 use Rattle.gossip.specs.Notes.{storeIn}
 use Rattle.gossip.specs.Step.{announced}
 use Rattle.gossip_table.specs.View.{gossipOf}
-use Rattle.gossip_gate.proofs.AdmittedLaws.{admitted-fine}
+use Rattle.gossip_gate.proofs.AdmittedLaws.{admitted-valid, admitted-fine}
 use Rattle.gossip_calls.proofs.AnnounceLaws.{announce-refused, announce-ignored, announce-told, announced-most, told-most}
 use Rattle.gossip_calls.proofs.announcing.announce_from.Statement.{statement}
 use Rattle.gossip_calls.proofs.announcing.announce_from.Tie as tie
 
 finish-requires : tie.Need-finish-requires
 finish-requires c κs =
-    let a = c .before .before .before .before .before .before .before .before .before .before .before .before .before .before .before
-    .before .before .before .before .before .args in
+    let p = c .before .before .before in
+    let q = p .before .before .before .before .before in
+    let s = q .before .before .before .before .before in
+    let u = s .before in
+    let v = u .before .before .before .before .before .before in
+    let a = v .args in
     let g = gossipOf (a .gossip .now) in
-    let m = c .before .before .before .before .before .before .before .before .announce .ensures .1 in
+    let m = q .announce .ensures .1 in
     record {
       size = search needs;
       few =
           told-most (stateOf (a .table .now)) (g .setup) (a .topic) (a .order .now) (announced (storeIn g (a .topic))) _ _ _
-          (passed (c .before .before .before .before .before .before .before .before .before .before .before .before .before .before
-          .is-permutation .ensures)
-          (c .before .before .before .before .before .before .before .before .before .before .before .before .before .if1 .left))
-          (c .before .before .before .tell-any .ensures (announced (storeIn g (a .topic))) m);
-      some = announced-most
-          (c .before .before .before .before .before .before .before .before .before .before .before .before .before .before .before .before
-          .before .before .before .before .pre) _ m;
+          (passed (u .is-permutation .ensures) (s .if1 .left))
+          (p .tell-any .ensures (announced (storeIn g (a .topic))) m);
+      some = announced-most (v .pre) _ m;
     }
+
+returns-2 : tie.Need-returns-2
+returns-2 c =
+    let p = c .before .before .before .before in
+    let q = p .before .before .before in
+    announce-ignored _ _ _ _ _ _ _ _ (q .before .is-permutation .ensures) (q .if1 .left) _ (p .before .is-joined .ensures) _ _
+    (p .if2 .taken)
+    (c .before .before .ignore .ensures)
 
 returns-3 : tie.Need-returns-3
 returns-3 c =
-    let a = c .before .before .before .before .before .before .before .before .before .before .before .before .before .before .before
-    .before .before .before .before .before .before .before .before .args in
-    let told = c .before .before .before .before .before .before .tell-any .ensures
-    (announced (storeIn (gossipOf (a .gossip .now)) (a .topic)))
-    (c .before .before .before .before .before .before .before .before .before .before .before .announce .ensures .1) in
-    announce-told _ _ _ _ _ _ _ _
-    (c .before .before .before .before .before .before .before .before .before .before .before .before .before .before .before .before
-    .before .is-permutation .ensures)
-    (c .before .before .before .before .before .before .before .before .before .before .before .before .before .before .before .before
-    .if1 .left) _
-    (c .before .before .before .before .before .before .before .before .before .before .before .before .before .before .is-joined .ensures)
+    let p = c .before .before .before .before .before .before in
+    let q = p .before .before .before .before .before in
+    let s = q .before .before in
+    let u = s .before in
+    let v = u .before .before in
+    let w = v .before in
+    let y = w .before .before .before .before .before .before in
+    let a = y .args in
+    let told = p .tell-any .ensures (announced (storeIn (gossipOf (a .gossip .now)) (a .topic))) (q .announce .ensures .1) in
+    announce-told _ _ _ _ _ _ _ _ (w .is-permutation .ensures) (v .if1 .left) _
+    (u .is-joined .ensures)
     _
     _
-    (c .before .before .before .before .before .before .before .before .before .before .before .before .before .if2 .left)
+    (s .if2 .left)
     _
     _
     _
     _
     told
-    (c .before .before .before .before .before .before .before .before .before .before .before .announce .ensures)
+    (q .announce .ensures)
     (c .before .before .finish .ensures)
 
 pub announce-from-spec : {M : Type 1} → statement M
@@ -62,16 +70,9 @@ announce-from-spec =
     (λ c κs. search needs)
     (λ c κs. search needs)
     (λ c. search needs)
-    (λ c.
-    announce-ignored _ _ _ _ _ _ _ _ (c .before .before .before .before .before .before .before .before .is-permutation .ensures)
-    (c .before .before .before .before .before .before .before .if1 .left) _
-    (c .before .before .before .before .before .is-joined .ensures)
-    _
-    _
-    (c .before .before .before .before .if2 .taken)
-    (c .before .before .ignore .ensures))
+    returns-2
     (λ c κs. search (admitted-fine, needs))
-    (λ c κs. search (passed, needs))
+    (λ c κs. search (passed, admitted-valid, admitted-fine, needs))
     finish-requires
     (λ c. search needs)
     (λ c. search needs)

@@ -11,43 +11,49 @@ use Rattle.gossip_calls.proofs.asking.ihave.Tie as tie
 
 returns : tie.Need-returns
 returns c =
-    let a = c .before .before .before .before .before .before .before .before .before .before .before .before .args in
+    let p = c .before .before .before .before .before .before in
+    let q = p .before in
+    let s = q .before in
+    let u = s .before .before .before .before in
+    let a = u .args in
     lists-refused (ihave (a .time) (a .id) (a .topic) (a .given .now) (length (a .numbers .now))) _ _ _ _ _ _ _ _
-    (c .before .before .before .before .before .before .before .before .time-ok .ensures)
-    (arguments-are (a .id) (a .topic) (length (a .given .now)) _ _
-    (c .before .before .before .before .before .before .before .id-ok .ensures)
-    (c .before .before .before .before .before .before .topic-ok .ensures))
+    (s .time-ok .ensures)
+    (arguments-are (a .id) (a .topic) (length (a .given .now)) _ _ (q .id-ok .ensures) (p .topic-ok .ensures))
     refl
     (c .before .admit .ensures)
     (c .if1 .taken)
 
 ihave-from-requires : tie.Need-ihave-from-requires
 ihave-from-requires c κs =
-    let a = c .before .before .before .before .before .before .before .before .before .before .before .before .before .before .before
-    .args in
-    having _ _ (a .actions .now) _ _ _ _ _ _ (c .before .before .before .before .admit .ensures) (c .before .before .before .if1 .left)
-    (c .before .before .before .before .before .before .before .before .before .before .before .time-ok .ensures)
+    let p = c .before .before .before in
+    let q = p .before .before .before .before .before .before in
+    having _ _ (q .before .before .before .before .before .before .args .actions .now) _ _ _ _ _ _ (p .before .admit .ensures)
+    (p .if1 .left)
+    (q .before .before .time-ok .ensures)
     (search needs)
     (search needs)
     _
-    (c .before .before .before .before .before .before .before .before .before .before .id-ok .result)
+    (q .before .id-ok .result)
     _
     refl
-    (c .before .before .before .before .before .before .before .before .before .topic-ok .ensures)
+    (q .topic-ok .ensures)
 
 returns-2 : tie.Need-returns-2
 unfolding newEffect
 returns-2 c =
-    let a = c .before .before .before .before .before .before .before .before .before .before .before .before .before .before .before
-    .before .before .before .args in
+    let p = c .before .before .before .before .before .before in
+    let q = p .before in
+    let s = q .before .before .before .before .before in
+    let u = s .before in
+    let v = u .before in
+    let w = v .before .before .before .before in
+    let a = w .args in
     lists-quiet (ihave (a .time) (a .id) (a .topic) (a .given .now) (length (a .numbers .now))) _ _ _ _ _ _ _ _
-    (c .before .before .before .before .before .before .before .before .before .before .before .before .before .before .time-ok .ensures)
-    (arguments-are (a .id) (a .topic) (length (a .given .now)) _ _
-    (c .before .before .before .before .before .before .before .before .before .before .before .before .before .id-ok .ensures)
-    (c .before .before .before .before .before .before .before .before .before .before .before .before .topic-ok .ensures))
+    (v .time-ok .ensures)
+    (arguments-are (a .id) (a .topic) (length (a .given .now)) _ _ (u .id-ok .ensures) (s .topic-ok .ensures))
     refl
-    (c .before .before .before .before .before .before .before .admit .ensures)
-    (c .before .before .before .before .before .before .if1 .left)
+    (q .admit .ensures)
+    (p .if1 .left)
     _
     _
     _

@@ -16,17 +16,19 @@ returns c =
 
 returns-2 : tie.Need-returns-2
 returns-2 c =
-    let a = c .before .before .before .before .before .before .before .before .before .before .before .before .before .before .before
-    .before .before .before .before .args in
+    let p = c .before .before .before .before .before .before in
+    let q = p .before .before .before .before .before .before .before in
+    let s = q .before .before .before .before .before .before in
+    let a = s .args in
     asks-found _ _ _ _ (ihaveReply (extendedOf (a .table .now) (a .gossip .now)) (a .time) (a .topic) (a .given .now)) _
-    (c .before .before .before .before .before .before .before .before .before .before .before .before .before .find-connected .ensures)
+    (q .find-connected .ensures)
     _
     _
     _
     _
     _
     (search needs)
-    (c .before .before .before .before .before .before .answer .ensures)
+    (p .answer .ensures)
 
 pub ihave-from-spec : {M : Type 1} → statement M
 ihave-from-spec =

@@ -12,8 +12,9 @@ returns c = search (call-refused, time-alone, c .if1 .taken)
 
 beat-from-requires : tie.Need-beat-from-requires
 beat-from-requires c κs =
-    gate-admitted _ _ _ _ _ _ _ (time-alone _ _ _ _ _ _ (c .before .before .before .admit .ensures)) (c .before .before .if1 .left)
-    (c .before .before .before .before .time-ok .ensures)
+    let p = c .before .before .before in
+    let q = p .before in
+    gate-admitted _ _ _ _ _ _ _ (time-alone _ _ _ _ _ _ (p .admit .ensures)) (c .before .before .if1 .left) (q .time-ok .ensures)
     (search needs)
     (search needs)
 

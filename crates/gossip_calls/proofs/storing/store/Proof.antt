@@ -12,9 +12,10 @@ returns c = search (call-refused, c .if1 .taken)
 
 store-from-requires : tie.Need-store-from-requires
 store-from-requires c κs =
-    topic-admitted _ _ _ _ _ _ _ _ (c .before .before .before .admit .ensures) (c .before .before .if1 .left)
-    (c .before .before .before .before .before .before .before .before .before .time-ok .ensures)
-    (c .before .before .before .before .before .before .before .before .topic-ok .ensures)
+    let p = c .before .before .before in
+    let q = p .before .before .before .before .before in
+    let s = q .before in
+    topic-admitted _ _ _ _ _ _ _ _ (p .admit .ensures) (c .before .before .if1 .left) (s .time-ok .ensures) (q .topic-ok .ensures)
     (search needs)
     (search needs)
 

@@ -5,6 +5,12 @@ use Rattle.gossip_calls.proofs.StoreLaws.{stored-outside, stored-there,
 use Rattle.gossip_calls.proofs.storing.store_from.Statement.{statement}
 use Rattle.gossip_calls.proofs.storing.store_from.Tie as tie
 
+add-requires : tie.Need-add-requires
+add-requires c κs =
+    let p = c .before .before in
+    let q = p .before .before .before .before .before .before .before .before .before .before in
+    store-room (q .pre) _ (p .has-room .ensures) (c .before .if3 .left)
+
 pub store-from-spec : {M : Type 1} → statement M
 store-from-spec =
     tie.close
@@ -22,8 +28,7 @@ store-from-spec =
     (λ c. search needs)
     (λ c. search needs)
     (λ c. search stored-full)
-    (λ c κs. store-room (c .before .before .before .before .before .before .before .before .before .before .before .before .pre) _
-    (c .before .before .has-room .ensures) (c .before .if3 .left))
+    add-requires
     (λ c κs. search needs)
     (λ c. search needs)
     (λ c. search needs)

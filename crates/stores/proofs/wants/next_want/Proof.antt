@@ -1,3 +1,4 @@
+-- `stores::wants::next_want`: a number that is known or stood before is left out; another is put behind those so far.
 use borrow.Author.Needs.{needs}
 use Rattle.index.proofs.Flags.{yes, no}
 use Rattle.stores.proofs.WantLaws.{next-stored, next-listed, next-new}
