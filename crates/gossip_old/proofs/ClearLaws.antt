@@ -6,6 +6,7 @@ use mathlib.Core.List.{List}
 use lib.ListN.{length, getD, length-set}
 use lib.Seq.{getD-set-same, getD-set-other}
 use Rattle.index.proofs.Flags.{by-test, by-order}
+use Rattle.index.proofs.Lists.{Built}
 use Rattle.records.specs.Records.{slotCount}
 use Rattle.words.specs.Words.{Next}
 use Rattle.sets.specs.Sets.{at, bySlot}
@@ -88,8 +89,8 @@ pub cleared-all :
     (m : List Bool) (g h : Gossip) (f : ℕ → Bool) → m ≡ bySlot slotCount f → Cleared m slotCount g h → h ≡ emptied f g
 cleared-all m g h f e k =
     let new : ℕ → Note = λ s. cond (f s) noNote (noteIn g s) in
-    whole (k .setup)
-    (slots-built noNote new slotCount slotCount (h .notes) (omega arith) (record { low = omega arith; len = k .len; below = each }))
+    let b : Built noNote new slotCount slotCount (h .notes) = record { low = omega arith; len = k .len; below = each } in
+    whole (k .setup) (slots-built noNote new slotCount slotCount (h .notes) (omega arith) b)
     (k .stores) (k .replies)
   where
     whole : {p p′ : Setup} {n n′ : List Note} {s s′ : List (List (List ℕ))} {r r′ : List Row} →

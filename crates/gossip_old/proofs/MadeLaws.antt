@@ -22,15 +22,21 @@ use Rattle.gossip_old.specs.declared.Making.the-variants.{Done, OutOfRan
 use Rattle.gossip_old.specs.Made.{sheeted, makingOf, MakesAll, loadedBy, LoadsAll}
 
 -- both are made
-both-are : {s st : State} {g h : Gossip} → s ≡ st → g ≡ h →
-    _≡_ {A = Extended} (record { base = s; gossip = g }) (record { base = st; gossip = h })
+abbrev pair : State → Gossip → Extended
+pair st g = record { base = st; gossip = g }
+
+both-are : {s st : State} {g h : Gossip} → s ≡ st → g ≡ h → pair s g ≡ pair st h
 both-are e f = cc
 
 module _ (p : Setup) (all : Params) (table gossip : List ℕ) where
   pub fresh-range : setupOk p ≡ false → MakesAll p all OutOfRange table table gossip gossip
   unfolding makingOf
   fresh-range e =
-      record { answer = sym (ap (λ (b : Bool). cond b (sheeted (firstBroken all)) OutOfRange) e); state = refl; kept = λ z. (refl, refl) }
+      record {
+        answer = sym (ap (λ (b : Bool). cond b (sheeted (firstBroken all)) OutOfRange) e);
+        state = refl;
+        kept = λ z. (refl, refl);
+      }
 
   making : setupOk p ≡ true → makingOf p all ≡ sheeted (firstBroken all)
   unfolding makingOf
@@ -90,7 +96,7 @@ module _ (p : Setup) (all : Params) (clock : ℕ) (s : List ℕ) (table gossip :
     stands (bad i) e = refl
 
     left : (q : Loading) → refuses (answerOf q) ≡ false → (g : Gossip) → g ≡ freshGossip p →
-        _≡_ {A = Extended} (record { base = leftBy q (stateOf table); gossip = g }) (loadedBy q p (extendedOf table gossip))
+        pair (leftBy q (stateOf table)) g ≡ loadedBy q p (extendedOf table gossip)
     left (loaded st) e g f = both-are refl f
     left outOfRange e g f = absurd (false≢true (sym e))
     left (broken i) e g f = absurd (false≢true (sym e))

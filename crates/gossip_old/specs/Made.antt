@@ -21,6 +21,11 @@ abbrev pub sheeted : Found → Making
 sheeted (At i) = Broken i
 sheeted Nothing = Done
 
+abbrev pub isMade : Making → Bool
+isMade Done = true
+isMade OutOfRange = false
+isMade (Broken i) = false
+
 unfoldable pub makingOf : Setup → Params → Making
 makingOf p all = cond (setupOk p) (sheeted (firstBroken all)) OutOfRange
 
@@ -28,11 +33,6 @@ abbrev pub madeBy : Making → Setup → Params → Extended → Extended
 madeBy Done p all x = record { base = freshState all; gossip = freshGossip p }
 madeBy OutOfRange p all x = x
 madeBy (Broken i) p all x = x
-
-abbrev pub isMade : Making → Bool
-isMade Done = true
-isMade OutOfRange = false
-isMade (Broken i) = false
 
 -- 01's number of an answer, and the value that goes with it
 abbrev pub makingNumber : Making → ℕ

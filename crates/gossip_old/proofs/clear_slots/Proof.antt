@@ -27,12 +27,6 @@ loop-holds c =
     let g = c .before .before .before .args .gossip .now in
     (n .most, n .here, refl, cleared-next _ _ _ _ _ n (cleared-none _ (gossipOf g) (gossip-sized g .notes)))
 
-clear-requires : tie.Need-clear-requires Inv-loop μ-loop
-clear-requires c κs =
-    let l = c .before .before .loop in
-    let e = c .before .before .before .before .before .before .pre in
-    record { size = l .inv .2 ∙ e; slot = c .before .loop-test .taken }
-
 loop-less : tie.Need-loop-less Inv-loop μ-loop
 loop-less c =
     let t = c .before .before .before .before .before .before .loop-test .taken in
@@ -43,12 +37,11 @@ loop-again : tie.Need-loop-again Inv-loop μ-loop
 loop-again c =
     let n = c .next2 .ensures in
     let l = c .before .before .before .before .before .before .before .loop in
-    let t = c .before .before .before .before .before .before .loop-test .taken in
-    let k = c .before .before .before .before .clear in (
+    let t = c .before .before .before .before .before .before .loop-test .taken in (
       n .most,
       n .here,
-      k .kept .0 ∙ l .inv .2,
-      cleared-next _ _ _ _ _ n (cleared-more _ (l .slot) _ _ t (l .inv .1 t) (l .inv .3) _ (k .ensures)),
+      search needs ∙ l .inv .2,
+      cleared-next _ _ _ _ _ n (cleared-more _ (l .slot) _ (gossipOf (l .gossip)) t (l .inv .1 t) (l .inv .3) _ (search needs)),
     )
 
 returns : tie.Need-returns Inv-loop μ-loop
@@ -66,7 +59,9 @@ clear-slots-spec =
     μ-loop
     (λ c κs. (search needs, omega arith))
     loop-holds
-    clear-requires
+    (λ c κs.
+    let l = c .before .before .loop in
+    record { size = l .inv .2 ∙ c .before .before .before .before .before .before .pre; slot = c .before .loop-test .taken })
     (λ c. search needs)
     (λ c κs. (search needs, omega (arith, c .before .before .before .before .before .loop-test .taken)))
     loop-less

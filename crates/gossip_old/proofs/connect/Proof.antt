@@ -13,6 +13,6 @@ connect-spec =
     (λ c κs. tested _ _ (passed (c .before .before .before .before .is-router .ensures) (c .before .before .before .if1 .left)))
     (λ c. search needs)
     (λ c.
-    let t = passed (c .before .before .before .before .before .before .before .is-router .ensures)
-    (c .before .before .before .before .before .before .if1 .left) in
-    old-passes _ _ _ _ refl _ _ _ _ (tested _ _ t) (c .before .before .connect-from .ensures)))
+    let s = c .before .before .before .before .before .before in
+    old-passes _ _ _ _ refl _ _ _ _ (tested _ _ (passed (s .before .is-router .ensures) (s .if1 .left)))
+    (c .before .before .connect-from .ensures)))

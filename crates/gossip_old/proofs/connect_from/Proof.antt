@@ -22,8 +22,7 @@ connect-from-spec =
     (λ c. search needs)
     (λ c.
     let a = c .before .before .before .before .before .number-of .ensures in
-    old-done _ _ _ _ _ _ _ (c .before .before .before .before .before .before .before .before .connect .ensures) _ _ _ a (search needs)
-    (c .code2 .ensures)
-    (
-    let set = c .before .before .before .before .before .before .before .before .before .before .before .reclaimed-slots .ensures in
+    old-done _ _ _ _ _ _ _ (c .before .before .before .before .before .before .before .before .connect .ensures) _ _ _ a
+    (search needs) (c .code2 .ensures)
+    (let set = c .before .before .before .before .before .before .before .before .before .before .before .reclaimed-slots .ensures in
     c .before .clear-slots .ensures _ set ∙ besides-connect _ _ _ _ _ _ _)))

@@ -19,14 +19,13 @@ disconnect-from-spec =
     old-else _ _ _ _ _ _ _ (c .before .before .before .before .before .disconnect .ensures) _ _ a (search needs) (c .code .ensures))
     (λ c κs.
     let f = c .before .before .before .before .before .before .before .before .find-connected .ensures in
-    tested-found _ _ _ _ (search needs)
-    (c .before .before .before .before .before .before .before .before .before .before .before .before .pre) f)
+    let s = c .before .before .before .before .before .before in
+    tested-found _ _ _ _ (search needs) (s .before .before .before .before .before .before .pre) f)
     (λ c κs. few-actions _ _ _ _ _ _ (c .before .before .before .before .before .before .disconnect .ensures))
     (λ c. search needs)
     (λ c.
     let a = c .before .before .before .before .number-of .ensures in
-    old-done _ _ _ _ _ _ _ (c .before .before .before .before .before .before .before .disconnect .ensures) _ _ _ a (search needs)
-    (c .code2 .ensures)
-    (
-    let f = c .before .before .before .before .before .before .before .before .before .before .find-connected .ensures in
+    old-done _ _ _ _ _ _ _ (c .before .before .before .before .before .before .before .disconnect .ensures) _ _ _ a
+    (search needs) (c .code2 .ensures)
+    (let f = c .before .before .before .before .before .before .before .before .before .before .find-connected .ensures in
     besides-disconnect _ _ _ _ _ _ f (c .before .part-found .ensures))))

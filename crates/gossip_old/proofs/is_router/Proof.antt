@@ -16,5 +16,6 @@ is-router-spec =
       router = passed (c .before .before .before .is-router .ensures) (c .before .before .if1 .left);
       sizes = search needs;
     })
-    (λ c. test-array _ _ _ (passed (c .before .before .before .before .is-router .ensures) (c .before .before .before .if1 .left))
-    (c .is-gossip .ensures)))
+    (λ c.
+    let s = c .before .before .before in
+    test-array _ _ _ (passed (s .before .is-router .ensures) (s .if1 .left)) (c .is-gossip .ensures)))

@@ -11,11 +11,7 @@ part-found-spec =
     (λ c. search needs)
     (λ c. search needs)
     (λ c. parted-none _ _ (c .enum-told .given .1))
-    (λ c κs. found-kept _ (c .before .before .before .before .before .pre) (c .before .before .found .given .1))
-    (λ c κs.
-    found-lent _ _ (c .before .before .before .before .before .before .before .before .before .pre)
-    (c .before .before .before .before .before .before .found .given .1) (search needs))
+    (λ c κs. search (found-kept, found-lent, needs))
+    (λ c κs. search (found-kept, found-lent, needs))
     (λ c. search needs)
-    (λ c.
-    parted-both _ _ _ _ _ (c .before .before .before .before .before .before .before .before .before .found .given .1)
-    (c .before .before .before .before .before .before .end .ensures) (c .before .before .part .ensures)))
+    (λ c. search (parted-both, needs)))

@@ -15,11 +15,11 @@ fresh-spec =
     (λ c. search needs)
     (λ c κs. search needs)
     (λ c.
-    let fine = passed (c .before .before .before .before .before .before .setup-ok .ensures)
-    (c .before .before .before .before .before .if1 .left) in
+    let s = c .before .before .before .before .before in
+    let fine = passed (s .before .setup-ok .ensures) (s .if1 .left) in
     fresh-broken _ _ _ _ _ _ fine (c .before .before .before .fresh .ensures) _ (c .before .i .given .1))
     (λ c.
-    let fine = passed (c .before .before .before .before .before .before .before .setup-ok .ensures)
-    (c .before .before .before .before .before .before .if1 .left) in
-    fresh-done _ _ _ _ _ _ fine (c .before .before .before .before .fresh .ensures) _ (c .before .before .enum-told .given .1)
-    (c .make-array .ensures)))
+    let s = c .before .before .before .before .before .before in
+    let fine = passed (s .before .setup-ok .ensures) (s .if1 .left) in
+    fresh-done _ _ _ _ _ _ fine (c .before .before .before .before .fresh .ensures) _
+    (c .before .before .enum-told .given .1) (c .make-array .ensures)))

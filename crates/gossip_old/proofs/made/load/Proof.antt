@@ -17,18 +17,19 @@ load-spec =
     (λ c. search needs)
     (λ c. search needs)
     (λ c.
-    let fine = passed (c .before .before .before .before .before .before .before .setup-ok .ensures)
-    (c .before .before .before .before .before .before .if1 .left) in
-    load-done _ _ _ _ _ _ _ _ fine (c .before .before .before .before .load .ensures) _ (c .before .before .enum-told .given .1)
-    (c .make-array .ensures))
+    let s = c .before .before .before .before .before .before in
+    let fine = passed (s .before .setup-ok .ensures) (s .if1 .left) in
+    load-done _ _ _ _ _ _ _ _ fine (c .before .before .before .before .load .ensures) _
+    (c .before .before .enum-told .given .1) (c .make-array .ensures))
     (λ c.
-    let fine = passed (c .before .before .before .before .before .setup-ok .ensures) (c .before .before .before .before .if1 .left) in
+    let s = c .before .before .before .before in
+    let fine = passed (s .before .setup-ok .ensures) (s .if1 .left) in
     load-refused _ _ _ _ _ _ _ _ fine (c .before .before .load .ensures) _ (c .enum-told2 .given .1) refl)
     (λ c.
-    let fine = passed (c .before .before .before .before .before .before .setup-ok .ensures)
-    (c .before .before .before .before .before .if1 .left) in
+    let s = c .before .before .before .before .before in
+    let fine = passed (s .before .setup-ok .ensures) (s .if1 .left) in
     load-refused _ _ _ _ _ _ _ _ fine (c .before .before .before .load .ensures) _ (c .before .i .given .1) refl)
     (λ c.
-    let fine = passed (c .before .before .before .before .before .before .setup-ok .ensures)
-    (c .before .before .before .before .before .if1 .left) in
+    let s = c .before .before .before .before .before in
+    let fine = passed (s .before .setup-ok .ensures) (s .if1 .left) in
     load-refused _ _ _ _ _ _ _ _ fine (c .before .before .before .load .ensures) _ (c .before .i2 .given .1) refl))
