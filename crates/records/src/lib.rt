@@ -36,7 +36,7 @@ pub struct Peer {
     pub outbound: u64,
     // 1 for an explicit peer
     pub explicit: u64,
-    // 0 for /meshsub/1.0.0, 1 for /meshsub/1.1.0, 2 for /meshsub/1.2.0
+    // 0 for /meshsub/1.0.0, 1 for /meshsub/1.1.0
     pub version: u64,
     // P5, the application-specific score: set by the host, as the code of a signed number (crate varint)
     pub p5: u64,
