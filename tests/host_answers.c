@@ -376,19 +376,20 @@ static void notices_read(void)
 {
     static uint64_t entries[HIVEPADLET_ENTRY_NUMBERS];
     static const uint64_t want[] = { HIVEPADLET_IDONTWANT, 0, UINT64_C(1) << 40, HIVEPADLET_IDONTWANT, 11, 0, HIVEPADLET_IDONTWANT, 0, 3 };
-    answers("ids read", hivepadlet_read_message(names, IDS, notices, sizeof notices, entries, HIVEPADLET_ENTRY_NUMBERS), HIVEPADLET_DONE, 3);
+    answers("ids read", hivepadlet_read_message(names, IDS, notices, sizeof notices, entries, HIVEPADLET_ENTRY_NUMBERS),
+            HIVEPADLET_DONE, 3);
     check("their numbers", memcmp(entries, want, sizeof want) == 0);
     answers("without a table", hivepadlet_read_message(names, NO_IDS, notices, sizeof notices, entries, HIVEPADLET_ENTRY_NUMBERS),
             HIVEPADLET_DONE, 3);
     check("11 for each", hivepadlet_entry_topic(entries, 0) == HIVEPADLET_IGNORED && hivepadlet_entry_value(entries, 0) == 0);
     id_numbers[1] = id_numbers[0];
-    answers("a number twice", hivepadlet_read_message(names, IDS, notices, sizeof notices - 1, entries, HIVEPADLET_ENTRY_NUMBERS),
+    answers("2 before 10", hivepadlet_read_message(names, IDS, notices, sizeof notices - 1, entries, HIVEPADLET_ENTRY_NUMBERS),
             HIVEPADLET_OUT_OF_RANGE, 0);
     answers("8 before the table", hivepadlet_read_message(names, IDS, notices, sizeof notices, entries, HIVEPADLET_ENTRY_NUMBERS - 1),
             HIVEPADLET_LIST_SHORT, 0);
     id_numbers[1] = 3;
-    answers("the table before 10", hivepadlet_read_message(names, IDS, notices, sizeof notices - 1, entries, HIVEPADLET_ENTRY_NUMBERS),
-            HIVEPADLET_MALFORMED, 10);
+    answers("the control field cut", hivepadlet_read_message(names, IDS, notices, sizeof notices - 1, entries, HIVEPADLET_ENTRY_NUMBERS),
+            HIVEPADLET_MALFORMED, 0);
 }
 
 static void notices_written(void)
