@@ -49,6 +49,10 @@ static struct hub hubs[HUBS] = {
 
 static uint64_t now; /* milliseconds */
 static uint8_t names[HIVEPADLET_NAMES_BYTES];
+
+/* the hubs send no IDONTWANT: a table of message ids without rows */
+static const uint8_t no_ids[1];
+static const uint64_t no_numbers[1];
 static uint64_t entries[HIVEPADLET_ENTRY_NUMBERS]; /* of the message that is being read */
 
 /* ---- what is printed */
@@ -143,7 +147,8 @@ static struct message action_message(int from, const uint32_t *action)
 {
     static const uint64_t topic[] = { TOPIC };
     struct message m = { .from = from };
-    m.length = written(hivepadlet_write_message(names, action, 3, topic, 1, topic, 0, m.bytes, MOST_BYTES));
+    m.length = written(hivepadlet_write_message(names, no_ids, 0, no_numbers, 0, no_numbers, 0, action, 3, topic, 1, topic, 0, m.bytes,
+                                                MOST_BYTES));
     return m;
 }
 
@@ -153,7 +158,8 @@ static struct message change_message(int from, uint64_t join)
     const uint64_t change[] = { join, TOPIC };
     static const uint32_t none[1];
     struct message m = { .from = from };
-    m.length = written(hivepadlet_write_message(names, none, 0, change, 0, change, 2, m.bytes, MOST_BYTES));
+    m.length = written(hivepadlet_write_message(names, no_ids, 0, no_numbers, 0, no_numbers, 0, none, 0, change, 0, change, 2, m.bytes,
+                                                MOST_BYTES));
     return m;
 }
 
@@ -256,7 +262,8 @@ static void take(int hub, const struct message *m)
         carry(hub, hivepadlet_deliver(h->table, now, id_of(m->from), TOPIC, m->notice, h->actions, HIVEPADLET_ACTION_NUMBERS));
         return;
     }
-    uint64_t r = hivepadlet_read_message(names, m->bytes, m->length, entries, HIVEPADLET_ENTRY_NUMBERS);
+    uint64_t r = hivepadlet_read_message(names, no_ids, 0, no_numbers, 0, no_numbers, 0, m->bytes, m->length, entries,
+                                         HIVEPADLET_ENTRY_NUMBERS);
     if (hivepadlet_number(r) != HIVEPADLET_DONE) {
         say(hub, "cannot read what comes from ", hubs[m->from].name, "");
         return;

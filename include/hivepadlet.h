@@ -51,7 +51,7 @@
  * A call makes its tests in the order 12, 2, 8, 1, 6, 7, 3, 4, 5, 11, those that can concern it, and answers the first that
  * fails; hivepadlet_read in the order 10, 9; hivepadlet_write 2, 8, 9; hivepadlet_import 10, 9; hivepadlet_export 13, 9;
  * hivepadlet_fresh 2, 9; hivepadlet_save 12, 2, 1, 13; hivepadlet_load in the order that it tells below;
- * hivepadlet_from_old and hivepadlet_to_old 12; hivepadlet_names 2; hivepadlet_read_message 8, 10;
+ * hivepadlet_from_old and hivepadlet_to_old 12; hivepadlet_names 2; hivepadlet_read_message 8, 2, 10;
  * hivepadlet_write_message 2, 13.
  *
  * TIMES AND UNITS
@@ -101,6 +101,7 @@ extern "C" {
 #define HIVEPADLET_GROUPS 4             /* address groups that a peer may have */
 #define HIVEPADLET_WHY_NUMBERS 6        /* numbers of a score: its five parts, and the score */
 #define HIVEPADLET_NAMES_BYTES 520      /* topic names: for each topic a length (0: no name, 1 to 64) and 64 bytes */
+#define HIVEPADLET_ID_ROW 65            /* bytes of a message id in its table: a length (1 to 64) and 64 bytes */
 #define HIVEPADLET_MESSAGE_ACTIONS 64   /* actions that one message may hold */
 #define HIVEPADLET_MESSAGE_BYTES 16384  /* the longest message that is read */
 #define HIVEPADLET_ENTRY_NUMBERS 24576  /* numbers of a list of entries: three for each of 8,192 */
@@ -131,7 +132,7 @@ enum hivepadlet_answer {
     HIVEPADLET_EARLY = 1,             /* the time is before the router's clock */
     HIVEPADLET_OUT_OF_RANGE = 2,      /* time, id, group, flags, topic, kind, ask or P5 outside its range; groups that are none,
                                          more than four, repeated or not in order; an edition other than 1 and 2; topic names
-                                         that cannot be, or a list that is no message's */
+                                         or a table of message ids that cannot be, or a list that is no message's */
     HIVEPADLET_NOT_CONNECTED = 3,     /* no connected peer has the id */
     HIVEPADLET_ALREADY_CONNECTED = 4, /* connect of a connected id */
     HIVEPADLET_NO_SLOT = 5,           /* all 256 slots are taken, and none can be reclaimed yet */
@@ -147,8 +148,8 @@ enum hivepadlet_answer {
                                          bytes end between numbers. Of the other supplier's parameters: their length, which is not 1323
                                          (a length beyond 4294967295 is told as that). Of a message: where the innermost broken
                                          field begins, the first from the front; 16384 where it is longer */
-    HIVEPADLET_IGNORED = 11,          /* ignored: only the clock moved. In the place of an entry's topic: no topic of ours, and no
-                                         clock */
+    HIVEPADLET_IGNORED = 11,          /* ignored: only the clock moved. In the place of an entry's topic: no topic of ours, or no
+                                         id of the table, and no clock */
     HIVEPADLET_NOT_ROUTER = 12,       /* the table is no router's: damaged, or never made by a call */
     HIVEPADLET_NO_ROOM = 13           /* in writing a message, a buffer shorter than it; in exporting parameters, one under 1323
                                          bytes; in saving, one shorter than the save */
@@ -168,7 +169,8 @@ static inline uint32_t hivepadlet_value(uint64_t r)
 
 enum hivepadlet_action {
     HIVEPADLET_GRAFT = 1,
-    HIVEPADLET_PRUNE = 2
+    HIVEPADLET_PRUNE = 2,
+    HIVEPADLET_IDONTWANT = 3
 };
 
 static inline uint32_t hivepadlet_action_kind(const uint32_t *actions, size_t i)
@@ -412,8 +414,8 @@ uint64_t hivepadlet_deliver(uint64_t table[HIVEPADLET_CELLS], uint64_t time, uin
 
 /* ---- messages: the bytes that peers send each other, gossipsub's RPC as protobuf
  *
- * These three functions use no table and no clock. What they read and write of an RPC are subscriptions, GRAFTs and PRUNEs; the
- * messages of topics (publish), IHAVE and IWANT, which are in the same bytes, are skipped.
+ * These three functions use no router and no clock. What they read and write of an RPC are subscriptions, GRAFTs, PRUNEs and
+ * IDONTWANTs; the messages of topics (publish), IHAVE and IWANT, which are in the same bytes, are skipped.
  *
  * Peers name a topic by bytes. Topic k's name is in row k of the names: names[65 * k] is its length, 1 to 64, or 0 where the
  * topic has none; its bytes follow. Test the names once, at set-up:
@@ -423,9 +425,23 @@ uint64_t hivepadlet_deliver(uint64_t table[HIVEPADLET_CELLS], uint64_t time, uin
  *     memcpy(names + 1, "notices", 7);
  *     if (hivepadlet_number(hivepadlet_names(names)) != HIVEPADLET_DONE) ...
  *
- * A message that comes in is read into a list of entries, subscriptions first, then GRAFTs, then PRUNEs. Each is a call:
+ * IDONTWANT names messages by their ids, bytes too. A message is a number of 64 bits here, any number of yours, one for each. A
+ * table that you lend with each call has ids and numbers, n rows, as many as you like; with none, no id is known, and a host that
+ * sends no IDONTWANT needs no more (pass any pointers that are not NULL, and the lengths 0).
  *
- *     uint64_t r = hivepadlet_read_message(names, message, length, entries, HIVEPADLET_ENTRY_NUMBERS);
+ *     uint8_t ids[HIVEPADLET_ID_ROW * n]; row k: ids[65 * k] is the length of its id, 1 to 64; the id's bytes follow. Shorter ids
+ *                                         come first, and those of one length as memcmp sorts them; none twice.
+ *     uint64_t numbers[n];                row k's number; none twice.
+ *     uint64_t order[n];                  the rows by rising number: order[0] is the row of the smallest, order[1] of the next.
+ *
+ * A table in another order, or with an id or number twice, is refused (2). Both functions test all of it at each call, in time that
+ * grows with n, and search it by halves: keep the rows sorted as ids come and go.
+ *
+ * A message that comes in is read into a list of entries, subscriptions first, then GRAFTs, then PRUNEs, then an entry for each id
+ * of the IDONTWANTs. Each of the first three is a call:
+ *
+ *     uint64_t r = hivepadlet_read_message(names, ids, HIVEPADLET_ID_ROW * n, numbers, n, order, n, message, length, entries,
+ *                                          HIVEPADLET_ENTRY_NUMBERS);
  *     for (uint32_t i = 0; hivepadlet_number(r) == HIVEPADLET_DONE && i < hivepadlet_value(r); i++) {
  *         uint64_t topic = hivepadlet_entry_topic(entries, i);
  *         uint64_t value = hivepadlet_entry_value(entries, i);
@@ -437,6 +453,7 @@ uint64_t hivepadlet_deliver(uint64_t table[HIVEPADLET_CELLS], uint64_t time, uin
  *             break;
  *         case HIVEPADLET_GRAFT: hivepadlet_graft(table, time, id, topic, ...); break;
  *         case HIVEPADLET_PRUNE: hivepadlet_prune(table, time, id, topic, value, ...); break;
+ *         case HIVEPADLET_IDONTWANT: ... the peer does not want the message of the number value
  *         }
  *     }
  *
@@ -445,7 +462,7 @@ uint64_t hivepadlet_deliver(uint64_t table[HIVEPADLET_CELLS], uint64_t time, uin
 /* Tests names: 0, or 2 where a length is over 64 or two names are alike. The bytes of a row past its name are not looked at. */
 uint64_t hivepadlet_names(const uint8_t names[HIVEPADLET_NAMES_BYTES]);
 
-/* the kinds of entries: this one, HIVEPADLET_GRAFT and HIVEPADLET_PRUNE */
+/* the kinds of entries: this one, HIVEPADLET_GRAFT, HIVEPADLET_PRUNE and HIVEPADLET_IDONTWANT */
 enum hivepadlet_entry {
     HIVEPADLET_SUBSCRIPTION = 0
 };
@@ -455,32 +472,38 @@ static inline uint64_t hivepadlet_entry_kind(const uint64_t *entries, size_t i)
     return entries[3 * i];
 }
 
-/* 0 to 7, or HIVEPADLET_IGNORED where the entry names no topic of ours */
+/* 0 to 7, or HIVEPADLET_IGNORED where the entry names no topic of ours; of an IDONTWANT 0, or HIVEPADLET_IGNORED where its id is not
+ * in the table */
 static inline uint64_t hivepadlet_entry_topic(const uint64_t *entries, size_t i)
 {
     return entries[3 * i + 1];
 }
 
-/* of a subscription 1, or 0 for the end of one; of a GRAFT 0; of a PRUNE the seconds of its backoff, 0 where it has none */
+/* of a subscription 1, or 0 for the end of one; of a GRAFT 0; of a PRUNE the seconds of its backoff, 0 where it has none; of an
+ * IDONTWANT the message's number, all 64 bits of it, 0 where its id is not in the table */
 static inline uint64_t hivepadlet_entry_value(const uint64_t *entries, size_t i)
 {
     return entries[3 * i + 2];
 }
 
-/* Reads a message into a list of at least HIVEPADLET_ENTRY_NUMBERS numbers. 0 with the number of entries, or 8, or 10 with the
- * place. The list is written only if the answer is 0, and the numbers past the entries are unchanged. */
-uint64_t hivepadlet_read_message(const uint8_t names[HIVEPADLET_NAMES_BYTES], const uint8_t *message, size_t length,
-                                 uint64_t *entries, size_t entries_length);
+/* Reads a message into a list of at least HIVEPADLET_ENTRY_NUMBERS numbers. 0 with the number of entries, or 8, or 2 for the table of
+ * ids, or 10 with the place. The list is written only if the answer is 0, and the numbers past the entries are unchanged. */
+uint64_t hivepadlet_read_message(const uint8_t names[HIVEPADLET_NAMES_BYTES], const uint8_t *ids, size_t ids_length,
+                                 const uint64_t *numbers, size_t numbers_length, const uint64_t *order, size_t order_length,
+                                 const uint8_t *message, size_t length, uint64_t *entries, size_t entries_length);
 
 /* Writes one message for one peer to the start of a buffer; HIVEPADLET_WRITTEN_BYTES are always enough.
- * actions: at most HIVEPADLET_MESSAGE_ACTIONS as the calls write them, all with the same peer's id; topics: the topic of each, so
- * that actions_length is 3 * topics_length. changes: at most 8 of our own joins and leaves, pairs of 1 (join) or 0 (leave) and a
- * topic. Every topic has a name. 0 with the length of the message, 0 for empty lists; or 2 for any other list; or 13. The buffer is
- * written only if the answer is 0, and the bytes past the message are unchanged. What is read from these bytes is the joins and
- * leaves, then the GRAFTs, then the PRUNEs, each in their order. */
-uint64_t hivepadlet_write_message(const uint8_t names[HIVEPADLET_NAMES_BYTES], const uint32_t *actions, size_t actions_length,
-                                  const uint64_t *topics, size_t topics_length, const uint64_t *changes, size_t changes_length,
-                                  uint8_t *buffer, size_t length);
+ * actions: at most HIVEPADLET_MESSAGE_ACTIONS as the calls write them, GRAFTs, PRUNEs and IDONTWANTs, all with the same peer's id;
+ * topics: the topic of each, of an IDONTWANT the message's number, so that actions_length is 3 * topics_length. changes: at most 8
+ * of our own joins and leaves, pairs of 1 (join) or 0 (leave) and a topic. Every topic has a name, every number of a message is in
+ * the table, and the third number of an IDONTWANT is 0. 0 with the length of the message, 0 for empty lists; or 2 for any other
+ * list or for the table of ids; or 13. The buffer is written only if the answer is 0, and the bytes past the message are unchanged.
+ * What is read from these bytes is the joins and leaves, then the GRAFTs, then the PRUNEs, then the IDONTWANTs, each in their
+ * order. */
+uint64_t hivepadlet_write_message(const uint8_t names[HIVEPADLET_NAMES_BYTES], const uint8_t *ids, size_t ids_length,
+                                  const uint64_t *numbers, size_t numbers_length, const uint64_t *order, size_t order_length,
+                                  const uint32_t *actions, size_t actions_length, const uint64_t *topics, size_t topics_length,
+                                  const uint64_t *changes, size_t changes_length, uint8_t *buffer, size_t length);
 
 #ifdef __cplusplus
 }

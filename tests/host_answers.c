@@ -310,12 +310,23 @@ static void names_tested(void)
 static const uint8_t rpc[] = { 0x0A, 0x08, 0x08, 0x01, 0x12, 0x04, 'b', 'e', 't', 'a', 0x1A, 0x0B, 0x22, 0x09,
                                0x0A, 0x05, 'a', 'l', 'p', 'h', 'a', 0x18, 0x3C };
 
+/* two message ids, "m" with the number 2^40 and "aa" with 3: the shorter comes first, and `order` names the rows by rising number */
+static uint8_t ids[2 * HIVEPADLET_ID_ROW] = { [0] = 1, 'm', [HIVEPADLET_ID_ROW] = 2, 'a', 'a' };
+static uint64_t id_numbers[] = { UINT64_C(1) << 40, 3 };
+static uint64_t id_order[] = { 1, 0 };
+
+#define NO_IDS ids, 0, id_numbers, 0, id_order, 0
+#define IDS ids, sizeof ids, id_numbers, 2, id_order, 2
+
+/* field 3, control: an IDONTWANT of "m", "x" and "aa" */
+static const uint8_t notices[] = { 0x1A, 0x0C, 0x2A, 0x0A, 0x0A, 0x01, 'm', 0x0A, 0x01, 'x', 0x0A, 0x02, 'a', 'a' };
+
 static uint64_t write_rpc(uint32_t first_id, uint64_t topic, size_t length)
 {
     const uint32_t list[] = { HIVEPADLET_PRUNE, first_id, 60 };
     const uint64_t topics[] = { topic }, changes[] = { 1, 1 };
     memset(buffer, 0xA5, sizeof buffer);
-    return hivepadlet_write_message(names, list, 3, topics, 1, changes, 2, buffer, length);
+    return hivepadlet_write_message(names, NO_IDS, list, 3, topics, 1, changes, 2, buffer, length);
 }
 
 static int buffer_stands(size_t from)
@@ -338,24 +349,65 @@ static void messages_written(void)
     answers("no topic", write_rpc(7, 8, 0), HIVEPADLET_OUT_OF_RANGE, 0);
     answers("id 0, before 13", write_rpc(0, 0, 0), HIVEPADLET_OUT_OF_RANGE, 0);
     check("2 leaves the buffer", buffer_stands(0));
-    answers("empty lists", hivepadlet_write_message(names, actions, 0, permutation, 0, permutation, 0, buffer, 0), HIVEPADLET_DONE, 0);
+    answers("empty lists", hivepadlet_write_message(names, NO_IDS, actions, 0, permutation, 0, permutation, 0, buffer, 0),
+            HIVEPADLET_DONE, 0);
 }
 
 static void messages_read(void)
 {
     static uint64_t entries[HIVEPADLET_ENTRY_NUMBERS];
     static const uint64_t want[] = { HIVEPADLET_SUBSCRIPTION, 1, 1, HIVEPADLET_PRUNE, 0, 60, 0 };
-    answers("a short list of entries", hivepadlet_read_message(names, rpc, sizeof rpc, entries, HIVEPADLET_ENTRY_NUMBERS - 1),
+    answers("a short list of entries", hivepadlet_read_message(names, NO_IDS, rpc, sizeof rpc, entries, HIVEPADLET_ENTRY_NUMBERS - 1),
             HIVEPADLET_LIST_SHORT, 0);
-    answers("a byte cut off", hivepadlet_read_message(names, rpc, sizeof rpc - 1, entries, HIVEPADLET_ENTRY_NUMBERS),
+    answers("a byte cut off", hivepadlet_read_message(names, NO_IDS, rpc, sizeof rpc - 1, entries, HIVEPADLET_ENTRY_NUMBERS),
             HIVEPADLET_MALFORMED, 10);
     check("a refused message writes nothing", entries[0] == 0 && entries[1] == 0 && entries[2] == 0);
-    answers("a message read", hivepadlet_read_message(names, rpc, sizeof rpc, entries, HIVEPADLET_ENTRY_NUMBERS), HIVEPADLET_DONE, 2);
+    answers("a message read", hivepadlet_read_message(names, NO_IDS, rpc, sizeof rpc, entries, HIVEPADLET_ENTRY_NUMBERS),
+            HIVEPADLET_DONE, 2);
     check("its entries", memcmp(entries, want, sizeof want) == 0);
     names[0] = 0;
-    answers("a name that is not ours", hivepadlet_read_message(names, rpc, sizeof rpc, entries, HIVEPADLET_ENTRY_NUMBERS),
+    answers("a name that is not ours", hivepadlet_read_message(names, NO_IDS, rpc, sizeof rpc, entries, HIVEPADLET_ENTRY_NUMBERS),
             HIVEPADLET_DONE, 2);
     check("11 for that entry", hivepadlet_entry_topic(entries, 1) == HIVEPADLET_IGNORED && hivepadlet_entry_value(entries, 1) == 60);
+}
+
+/* IDONTWANTs by a table of message ids: 8, then 2, then 10; the numbers go out and come back */
+static void notices_read(void)
+{
+    static uint64_t entries[HIVEPADLET_ENTRY_NUMBERS];
+    static const uint64_t want[] = { HIVEPADLET_IDONTWANT, 0, UINT64_C(1) << 40, HIVEPADLET_IDONTWANT, 11, 0, HIVEPADLET_IDONTWANT, 0, 3 };
+    answers("ids read", hivepadlet_read_message(names, IDS, notices, sizeof notices, entries, HIVEPADLET_ENTRY_NUMBERS),
+            HIVEPADLET_DONE, 3);
+    check("their numbers", memcmp(entries, want, sizeof want) == 0);
+    answers("without a table", hivepadlet_read_message(names, NO_IDS, notices, sizeof notices, entries, HIVEPADLET_ENTRY_NUMBERS),
+            HIVEPADLET_DONE, 3);
+    check("11 for each", hivepadlet_entry_topic(entries, 0) == HIVEPADLET_IGNORED && hivepadlet_entry_value(entries, 0) == 0);
+    id_numbers[1] = id_numbers[0];
+    answers("2 before 10", hivepadlet_read_message(names, IDS, notices, sizeof notices - 1, entries, HIVEPADLET_ENTRY_NUMBERS),
+            HIVEPADLET_OUT_OF_RANGE, 0);
+    answers("8 before the table", hivepadlet_read_message(names, IDS, notices, sizeof notices, entries, HIVEPADLET_ENTRY_NUMBERS - 1),
+            HIVEPADLET_LIST_SHORT, 0);
+    id_numbers[1] = 3;
+    answers("the control field cut", hivepadlet_read_message(names, IDS, notices, sizeof notices - 1, entries, HIVEPADLET_ENTRY_NUMBERS),
+            HIVEPADLET_MALFORMED, 0);
+}
+
+static void notices_written(void)
+{
+    static const uint32_t list[] = { HIVEPADLET_IDONTWANT, 7, 0, HIVEPADLET_IDONTWANT, 7, 0 };
+    static const uint8_t want[] = { 0x1A, 0x09, 0x2A, 0x07, 0x0A, 0x02, 'a', 'a', 0x0A, 0x01, 'm' };
+    uint64_t beside[] = { 3, UINT64_C(1) << 40 };
+    memset(buffer, 0xA5, sizeof buffer);
+    answers("ids written", hivepadlet_write_message(names, IDS, list, 6, beside, 2, beside, 0, buffer, sizeof want), HIVEPADLET_DONE,
+            sizeof want);
+    check("all in one field", memcmp(buffer, want, sizeof want) == 0 && buffer_stands(sizeof want));
+    beside[0] = 4;
+    answers("a number that is not in the table", hivepadlet_write_message(names, IDS, list, 6, beside, 2, beside, 0, buffer, 0),
+            HIVEPADLET_OUT_OF_RANGE, 0);
+    id_order[0] = 0;
+    answers("the order of the numbers", hivepadlet_write_message(names, IDS, actions, 0, beside, 0, beside, 0, buffer, 0),
+            HIVEPADLET_OUT_OF_RANGE, 0);
+    id_order[0] = 1;
 }
 
 int main(void)
@@ -371,6 +423,8 @@ int main(void)
     names_tested();
     messages_written();
     messages_read();
+    notices_read();
+    notices_written();
     printf("%u passed, %u failed\n", passed, failed);
     return failed != 0;
 }

@@ -22,6 +22,8 @@ static uint64_t edition;
 static uint64_t permutation[HIVEPADLET_SLOTS];
 static uint8_t bytes[HIVEPADLET_PARAMETER_BYTES], theirs[HIVEPADLET_SUPPLIER_BYTES];
 static uint8_t names[HIVEPADLET_NAMES_BYTES], rpc[HIVEPADLET_WRITTEN_BYTES];
+static uint8_t ids[HIVEPADLET_ID_ROW] = { 64 };
+static const uint64_t id_number = 7, id_row = 0;
 static uint32_t prunes[3 * HIVEPADLET_MESSAGE_ACTIONS];
 static uint64_t topics[HIVEPADLET_MESSAGE_ACTIONS], joins[2 * HIVEPADLET_TOPICS], entries[HIVEPADLET_ENTRY_NUMBERS];
 static uint64_t answer;
@@ -69,12 +71,13 @@ static void imported(void) { answer = hivepadlet_import(theirs, sizeof theirs, n
 static void tests_names(void) { answer = hivepadlet_names(names); }
 static void message(void)
 {
-    answer = hivepadlet_write_message(names, prunes, 3 * HIVEPADLET_MESSAGE_ACTIONS, topics, HIVEPADLET_MESSAGE_ACTIONS, joins,
-                                      2 * HIVEPADLET_TOPICS, rpc, sizeof rpc);
+    answer = hivepadlet_write_message(names, ids, sizeof ids, &id_number, 1, &id_row, 1, prunes, 3 * HIVEPADLET_MESSAGE_ACTIONS, topics,
+                                      HIVEPADLET_MESSAGE_ACTIONS, joins, 2 * HIVEPADLET_TOPICS, rpc, sizeof rpc);
 }
 static void message_read(void)
 {
-    answer = hivepadlet_read_message(names, rpc, hivepadlet_value(answer), entries, HIVEPADLET_ENTRY_NUMBERS);
+    answer = hivepadlet_read_message(names, ids, sizeof ids, &id_number, 1, &id_row, 1, rpc, hivepadlet_value(answer), entries,
+                                     HIVEPADLET_ENTRY_NUMBERS);
 }
 static void read_back(void) { answer = hivepadlet_read(bytes, hivepadlet_value(answer), numbers, &edition); }
 

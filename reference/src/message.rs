@@ -1,6 +1,6 @@
 //! Gossipsub's RPC as bytes: the topics' names, the reader and the writer. Written from
 //! 02's orders 1, 4 and 6, sentence by sentence; clear, not fast. IDONTWANT is read and
-//! written where a table of message ids is lent; without one, control's field 5 is unknown.
+//! written by a lent table of message ids; functions that take none go by one without rows.
 
 pub mod census;
 mod field;
@@ -12,7 +12,7 @@ pub mod tree;
 mod writer;
 
 pub use field::{Broken, Part, Reason, LEVELS};
-pub use ids::{Ids, LONGEST_ID};
+pub use ids::{IdTable, Ids, ID_ROW, LONGEST_ID};
 pub use names::{check_names, Names, NamesTable, LONGEST_NAME, NAMES_BYTES, NAME_ROW};
 pub use reader::{entries, entries_with, read, read_with};
 pub use writer::{write, write_with, written, written_with, Lists, Wrong, LONGEST_WRITTEN};

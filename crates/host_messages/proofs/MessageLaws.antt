@@ -4,7 +4,7 @@ use Rattle.index.proofs.Kit.{ℕ, _≤_, Bool, _≡_, sym, ap, _∙_, arith}
 use mathlib.Core.List.{List}
 use Rattle.answers.specs.Answers.{packed}
 use Rattle.rpc.specs.declared.Answer.{Answer}
-use Rattle.rpc.specs.Reading.{readOf, answerNumber, answerValue}
+use Rattle.rpc.specs.Reading.{Known, readOf, answerNumber, answerValue}
 use Rattle.rpc.proofs.PlaceLaws.{read-most}
 use Rattle.host_messages.specs.Messages.{namesNumber, HostsMessage}
 
@@ -15,14 +15,14 @@ names-told r flag accepted b e t p = p ∙ ap (λ (x : Bool). packed (namesNumbe
 
 -- ---- a message
 module _
-    (names s list out : List ℕ) (a v : Answer)
-    (e : (a ≡ readOf names s list .answer) × (out ≡ readOf names s list .list)) (t : a ≡ v)
+    (k : Known) (order s list out : List ℕ) (a v : Answer)
+    (e : (a ≡ readOf k order s list .answer) × (out ≡ readOf k order s list .list)) (t : a ≡ v)
   where
-    answer-is : v ≡ readOf names s list .answer
+    answer-is : v ≡ readOf k order s list .answer
     answer-is = sym t ∙ e .0
 
     pub message-fits : answerValue v ≤ 4294967295
-    message-fits = omega (arith, ap answerValue answer-is, read-most names s list)
+    message-fits = omega (arith, ap answerValue answer-is, read-most k order s list)
 
-    pub hosts-message : (r : ℕ) → r ≡ packed (answerNumber v) (answerValue v) → HostsMessage names s r list out
+    pub hosts-message : (r : ℕ) → r ≡ packed (answerNumber v) (answerValue v) → HostsMessage (readOf k order s list) r out
     hosts-message r p = record { answer = p ∙ ap (λ (x : Answer). packed (answerNumber x) (answerValue x)) answer-is; entries = e .1 }

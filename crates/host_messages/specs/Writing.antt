@@ -4,6 +4,7 @@ use mathlib.Core.Path.{_≡_}
 use mathlib.Core.List.{List}
 use Rattle.answers.specs.Answers.{packed}
 use denote.Ref.{now}
+use Rattle.rpc.specs.Reading.{known}
 use Rattle.rpc_write.specs.Writing.{Writing, wroteNumber, wroteValue, Lent}
 use Rattle.rpc_actions.specs.Actions.{writeActionsOf}
 
@@ -12,9 +13,10 @@ pub record HostsWritten (w : Writing) (r : ℕ) (buf′ : List ℕ) : Type 0 whe
   pub answer : r ≡ packed (wroteNumber (w .answer)) (wroteValue (w .answer))
   pub bytes : buf′ ≡ w .bytes
 
-abbrev pub HostsWriteMessage : Lent → Lent → Lent → Lent → ℕ → Lent → Type 0
-HostsWriteMessage names actions topics changes r buf =
+abbrev pub HostsWriteMessage : Lent → Lent → Lent → Lent → Lent → Lent → Lent → ℕ → Lent → Type 0
+HostsWriteMessage names ids numbers order actions topics changes r buf =
     HostsWritten
-    (writeActionsOf (now (names .entry)) (now (actions .entry)) (now (topics .entry)) (now (changes .entry)) (now (buf .entry)))
+    (writeActionsOf (known (now (names .entry)) (now (ids .entry)) (now (numbers .entry))) (now (order .entry)) (now (actions .entry))
+    (now (topics .entry)) (now (changes .entry)) (now (buf .entry)))
     r
     (now (buf .exit))

@@ -52,8 +52,7 @@ fn an_action(random: &mut Random, id: u32) -> [u32; 3] {
 /// Numbers that are no topics; the low 32 bits of some are.
 const NO_TOPIC: [u64; 8] = [8, 9, 11, 255, 256, 1 << 32, (1 << 32) + 1, u64::MAX];
 
-/// Lists with one thing wrong; none where the names do not allow it, or where it takes a table
-/// of message ids.
+/// Lists with one thing wrong; none where the names do not allow it, or where it takes notices.
 pub fn wrong(random: &mut Random, names: &Names, wrong: Wrong) -> Option<Lists> {
     let topics = named_topics(names);
     if topics.is_empty() || Wrong::OF_NOTICES.contains(&wrong) {
@@ -83,7 +82,7 @@ fn put_wrong(random: &mut Random, lists: &mut Lists, unnamed: &[u64], wrong: Wro
     match wrong {
         Wrong::NotATopicEach => not_a_topic_each(random, lists),
         Wrong::ActionKind => {
-            (action[0], action[2]) = (*random.pick(&[0, 3, 4, 5, 255, 257, u32::MAX]), 0);
+            (action[0], action[2]) = (*random.pick(&[0, 4, 5, 255, 257, u32::MAX]), 0);
         }
         Wrong::IdZero => lists.actions.chunks_mut(3).for_each(|action| action[1] = 0),
         Wrong::TwoIds => action[1] = if action[1] == 1 { 2 } else { action[1] - 1 },

@@ -2,7 +2,7 @@
 //! and bytes that are none.
 
 use crate::message::holder::Holder;
-use crate::message::{control, idontwant, wire, Ids, Names, LONGEST_MESSAGE, LONGEST_NAME};
+use crate::message::{wire, Ids, Names, LONGEST_ID, LONGEST_MESSAGE, LONGEST_NAME};
 use crate::params::TOPICS;
 use crate::random::Random;
 
@@ -14,11 +14,11 @@ pub struct Input {
 
 /// A well-formed message.
 pub fn good(random: &mut Random, names: &Names) -> Input {
-    good_with(random, names, None)
+    good_with(random, names, &Ids::default())
 }
 
-/// The same with notices, where a table of message ids is given.
-pub fn good_with(random: &mut Random, names: &Names, ids: Option<&Ids>) -> Input {
+/// The same with ids of a table, or near them.
+pub fn good_with(random: &mut Random, names: &Names, ids: &Ids) -> Input {
     let bytes = Maker { random, names, ids, faults: 0 }.inside(Holder::Rpc);
     Input { kind: "good", bytes }
 }
@@ -26,11 +26,11 @@ pub fn good_with(random: &mut Random, names: &Names, ids: Option<&Ids>) -> Input
 /// A message with one field or more broken at any level, or one that was good before some
 /// of its bytes were changed.
 pub fn damaged(random: &mut Random, names: &Names) -> Input {
-    damaged_with(random, names, None)
+    damaged_with(random, names, &Ids::default())
 }
 
-/// The same with notices, where a table of message ids is given.
-pub fn damaged_with(random: &mut Random, names: &Names, ids: Option<&Ids>) -> Input {
+/// The same with ids of a table, or near them.
+pub fn damaged_with(random: &mut Random, names: &Names, ids: &Ids) -> Input {
     if random.chance(1, 2) {
         let faults = *random.pick(&[1, 1, 1, 2, 3]);
         let bytes = Maker { random, names, ids, faults }.inside(Holder::Rpc);
@@ -74,8 +74,14 @@ pub fn every_cut(bytes: &[u8]) -> impl Iterator<Item = Input> + '_ {
 /// Messages of no byte and of one, and all two bytes as a message and in each field that holds
 /// fields.
 pub fn every_short() -> impl Iterator<Item = Input> {
-    const FRONTS: [&[u8]; 5] =
-        [&[], &[0x0a, 0x02], &[0x1a, 0x02], &[0x1a, 0x04, 0x1a, 0x02], &[0x1a, 0x04, 0x22, 0x02]];
+    const FRONTS: [&[u8]; 6] = [
+        &[],
+        &[0x0a, 0x02],
+        &[0x1a, 0x02],
+        &[0x1a, 0x04, 0x1a, 0x02],
+        &[0x1a, 0x04, 0x22, 0x02],
+        &[0x1a, 0x04, 0x2a, 0x02],
+    ];
     let pairs = (0..=u16::MAX).map(u16::to_le_bytes);
     let in_fronts = pairs.flat_map(|pair| FRONTS.map(|front| [front, &pair].concat()));
     let single = (0..=u8::MAX).map(|byte| vec![byte]);
@@ -85,9 +91,9 @@ pub fn every_short() -> impl Iterator<Item = Input> {
 
 /// Bytes that were never a message: any, or those that tags, lengths and ends are made of.
 pub fn noise(random: &mut Random) -> Input {
-    const LIKELY: [u8; 16] = [
-        0x0a, 0x0a, 0x12, 0x12, 0x1a, 0x1a, 0x22, 0x08, 0x18, 0x00, 0x01, 0x02, 0x03, 0x04, 0x80,
-        0x07,
+    const LIKELY: [u8; 17] = [
+        0x0a, 0x0a, 0x12, 0x12, 0x1a, 0x1a, 0x22, 0x2a, 0x08, 0x18, 0x00, 0x01, 0x02, 0x03, 0x04,
+        0x80, 0x07,
     ];
     let most = *random.pick(&[4, 16, 64]);
     let length = random.often_an_end(0, most) as usize;
@@ -104,7 +110,7 @@ pub fn noise(random: &mut Random) -> Input {
 
 /// Messages about as long as the longest that is read: one good message again and again,
 /// and a last field that makes up the length; sometimes a broken field in front or behind.
-pub fn long(random: &mut Random, names: &Names) -> Input {
+pub fn long(random: &mut Random, names: &Names, ids: &Ids) -> Input {
     let length = *random.pick(&[16_383, 16_384, 16_384, 16_385, 16_386, 20_000, 70_000]);
     let mut bytes = Vec::new();
     if random.chance(1, 4) {
@@ -112,7 +118,7 @@ pub fn long(random: &mut Random, names: &Names) -> Input {
     }
     let room = length - random.below(length - 32) - 16;
     loop {
-        let next = good(random, names).bytes;
+        let next = good_with(random, names, ids).bytes;
         if bytes.len() + next.len() > room {
             break;
         }
@@ -138,16 +144,19 @@ fn fill_up(bytes: &mut Vec<u8>, length: usize) {
 /// The longest messages of short fields, each filled up with two-byte fields.
 pub fn full(random: &mut Random) -> Vec<Input> {
     let prunes = [&[0x1a, 0xfa, 0x7f][..], &[0x22, 0x00].repeat(8189)].concat();
-    let repeated: [&[u8]; 7] = [
+    let front = [0x1a, 0xfd, 0x7f, 0x2a, 0xfa, 0x7f];
+    let ids = [&front[..], &[0x0a, 0x00].repeat(8189)].concat();
+    let repeated: [&[u8]; 8] = [
         &[0x0a, 0x00],
         &[0x1a, 0x00],
         &[0x28, 0x00],
         &[0x1a, 0x02, 0x1a, 0x00],
         &[0x1a, 0x02, 0x22, 0x00],
+        &[0x1a, 0x04, 0x2a, 0x02, 0x0a, 0x00],
         &[0x0a, 0x02, 0x08, 0x01],
         &[0x1a, 0x06, 0x22, 0x02, 0x18, 0x01, 0x1a, 0x00],
     ];
-    let mut inputs = vec![prunes];
+    let mut inputs = vec![prunes, ids];
     for bytes in repeated {
         inputs.push(bytes.repeat(LONGEST_MESSAGE / bytes.len()));
     }
@@ -178,8 +187,7 @@ pub fn overlong(value: u64, length: usize) -> Vec<u8> {
 struct Maker<'a> {
     random: &'a mut Random,
     names: &'a Names,
-    /// Without it no notice is made.
-    ids: Option<&'a Ids>,
+    ids: &'a Ids,
     faults: usize,
 }
 
@@ -208,11 +216,6 @@ impl Maker<'_> {
 
     /// A field, mostly one that is read.
     fn field(&mut self, holder: Holder) -> Vec<u8> {
-        if let (Some(ids), Holder::Control) = (self.ids, holder) {
-            if self.random.chance(1, 2) {
-                return self.notices(ids);
-            }
-        }
         let known = *self.random.pick(holder.known());
         match self.random.below(8) {
             0 => self.unknown_field(holder),
@@ -226,36 +229,18 @@ impl Maker<'_> {
         }
     }
 
-    /// An IDONTWANT, its fields mostly ids; now and then one of them is broken.
-    fn notices(&mut self, ids: &Ids) -> Vec<u8> {
-        let mut inside = Vec::new();
-        for _ in 0..self.random.below(4) {
-            let id = self.id(ids);
-            inside.extend(match self.random.below(8) {
-                0 => self.of_wire_type(2, wire::LENGTH),
-                1 => self.of_wire_type(idontwant::MESSAGE_IDS, wire::NUMBER),
-                2 => self.of_wire_type(idontwant::MESSAGE_IDS, wire::EIGHT_BYTES),
-                _ => self.with_length(idontwant::MESSAGE_IDS, &id),
-            });
-        }
-        if self.faults > 0 && self.random.chance(1, 2) {
-            self.faults -= 1;
-            inside.extend(self.broken_field());
-        }
-        self.with_length(control::IDONTWANT, &inside)
-    }
-
     /// An id of the table, or one that is near it.
-    fn id(&mut self, ids: &Ids) -> Vec<u8> {
-        if ids.rows.is_empty() {
+    fn id(&mut self) -> Vec<u8> {
+        if self.ids.rows.is_empty() {
             return self.some_bytes();
         }
-        let mut id = self.random.pick(&ids.rows).0.clone();
+        let mut id = self.random.pick(&self.ids.rows).0.clone();
         match self.random.below(12) {
             0 => id.clear(),
             1 => id.push(0),
             2 => id[0] ^= 1,
             3 => id.truncate(id.len() - 1),
+            4 => id.resize(LONGEST_ID + 1, 0),
             _ => {}
         }
         id
@@ -269,6 +254,7 @@ impl Maker<'_> {
         }
         let bytes = match holder.inside(number) {
             Some(inner) => self.inside(inner),
+            None if holder.is_id(number) => self.id(),
             None => self.name(),
         };
         self.with_length(number, &bytes)
@@ -277,11 +263,9 @@ impl Maker<'_> {
     /// A number that the holder does not name, at times one far too large whose low bits are
     /// those of a known one.
     fn unknown_field(&mut self, holder: Holder) -> Vec<u8> {
-        let notices = self.ids.is_some() && holder == Holder::Control;
         let named = |number: u64| {
             holder.skipped().contains(&number)
                 || holder.known().iter().any(|known| known.0 == number)
-                || notices && number == control::IDONTWANT
         };
         let number = loop {
             let any = (self.random.of_any_width() >> 3).max(1);

@@ -2,7 +2,7 @@
 //! wire. Messages with notices are made in `messages`.
 
 use super::lists;
-use crate::message::{Ids, Lists, Names, Wrong, LONGEST_ID};
+use crate::message::{IdTable, Ids, Lists, Names, Wrong, ID_ROW, LONGEST_ID};
 use crate::random::Random;
 use crate::router::IDONTWANT;
 
@@ -51,6 +51,54 @@ pub fn bad(random: &mut Random) -> (&'static str, Ids) {
         _ => ids.rows[place].1 = ids.rows[other].1,
     }
     (kind, ids)
+}
+
+/// The kinds of lent tables that are refused besides.
+pub const BAD_LENT: [&str; 8] = [
+    "rows in another order",
+    "numbers in another order",
+    "a row named twice in the order",
+    "no row named in the order",
+    "ids one byte short",
+    "ids one row longer",
+    "numbers one short",
+    "order one longer",
+];
+
+/// A lent table that is refused, and why.
+pub fn bad_lent(random: &mut Random) -> (&'static str, IdTable) {
+    if random.chance(1, 3) {
+        let (kind, ids) = bad(random);
+        return (kind, IdTable::sorted(&ids));
+    }
+    let mut ids = good(random);
+    while ids.rows.len() < 2 {
+        ids = good(random);
+    }
+    let mut table = IdTable::sorted(&ids);
+    let rows = table.numbers.len();
+    let place = random.below(rows - 1);
+    let kind = *random.pick(&BAD_LENT);
+    match kind {
+        "rows in another order" => {
+            let (front, back) = table.ids.split_at_mut(ID_ROW * (place + 1));
+            front[ID_ROW * place..].swap_with_slice(&mut back[..ID_ROW]);
+        }
+        "numbers in another order" => table.order.swap(place, place + 1),
+        "a row named twice in the order" => table.order[place + 1] = table.order[place],
+        "no row named in the order" => {
+            table.order[place] = *random.pick(&[rows as u64, 1 << 32, u64::MAX]);
+        }
+        "ids one byte short" => {
+            table.ids.pop();
+        }
+        "ids one row longer" => table.ids.extend([LONGEST_ID as u8; ID_ROW]),
+        "numbers one short" => {
+            table.numbers.pop();
+        }
+        _ => table.order.push(rows as u64),
+    }
+    (kind, table)
 }
 
 /// Lists that are written, some of their actions notices where the table has ids.
@@ -119,31 +167,50 @@ mod tests {
         assert_eq!(reached.len(), BAD.len());
     }
 
-    /// A reader without the table finds the same but the notices, and breaks no later.
+    /// A table without rows changes the notices alone, and no break.
     #[test]
     fn messages_with_and_without_the_table() {
         let mut random = Random::new(2);
         let (mut known, mut unknown, mut inside) = (0, 0, 0);
         for _ in 0..6000 {
             let (names, ids) = (any_names(&mut random), good(&mut random));
-            let message = messages::good_with(&mut random, &names, Some(&ids)).bytes;
-            let entries = entries_with(&names, Some(&ids), &message).expect("a good message");
-            let is_notice = |entry: &&Entry| entry.kind == Kind::Notice;
-            known += entries.iter().filter(is_notice).filter(|e| e.topic.is_some()).count();
-            unknown += entries.iter().filter(is_notice).filter(|e| e.topic.is_none()).count();
-            let others: Vec<Entry> = entries.into_iter().filter(|e| !is_notice(&e)).collect();
-            assert_eq!(crate::message::entries(&names, &message), Ok(others));
-            let input = messages::damaged_with(&mut random, &names, Some(&ids));
-            let with = entries_with(&names, Some(&ids), &input.bytes);
-            let without = crate::message::entries(&names, &input.bytes);
-            assert!(with.is_err() || input.kind != "broken fields", "{:02x?}", input.bytes);
-            match (with, without) {
-                (Err(with), Err(without)) => assert!(with.place <= without.place),
-                (Err(_), Ok(_)) => inside += 1,
-                (Ok(_), without) => assert!(without.is_ok()),
+            let message = messages::good_with(&mut random, &names, &ids).bytes;
+            let entries = entries_with(&names, &ids, &message).expect("a good message");
+            let is_notice = |entry: &Entry| entry.kind == Kind::Notice;
+            let without = crate::message::entries(&names, &message).expect("a good message");
+            assert_eq!(without.len(), entries.len());
+            for (with, without) in entries.iter().zip(&without) {
+                assert_eq!(with == without, !is_notice(with) || with.topic.is_none());
+                known += usize::from(is_notice(with) && with.topic.is_some());
+                unknown += usize::from(is_notice(with) && with.topic.is_none());
             }
+            let bytes = messages::damaged_with(&mut random, &names, &ids).bytes;
+            let with = entries_with(&names, &ids, &bytes).err();
+            assert_eq!(with, crate::message::entries(&names, &bytes).err());
+            inside += usize::from(with.is_some_and(|broken| broken.level == 2));
         }
         assert!(known > 100 && unknown > 100 && inside > 100, "{known} {unknown} {inside}");
+    }
+
+    /// Tables as they are lent: the sorted ones are accepted, with the same rows; in another
+    /// order they are not.
+    #[test]
+    fn lent_tables() {
+        let mut random = Random::new(4);
+        let mut reached = BTreeSet::new();
+        for _ in 0..3000 {
+            let ids = good(&mut random);
+            let found = IdTable::sorted(&ids).accepted().expect("a good table");
+            assert_eq!(found.rows.len(), ids.rows.len());
+            for (id, number) in &ids.rows {
+                assert_eq!(found.number(id), Some(*number));
+            }
+            let (kind, table) = bad_lent(&mut random);
+            assert_eq!(table.accepted(), None, "{kind}");
+            assert!(!table.ids().is_good());
+            reached.insert(kind);
+        }
+        assert_eq!(reached.len(), BAD.len() + BAD_LENT.len());
     }
 
     /// "Order 1 reads it back as the same entries, in its order, and writing those again gives
@@ -156,20 +223,20 @@ mod tests {
             let (names, ids) = (any_names(&mut random), good(&mut random));
             let list = list(&mut random, &names, &ids);
             let mut buffer = vec![0x55; *random.pick(&[LONGEST_WRITTEN, LONGEST_WRITTEN, 40])];
-            let answer = write_with(&names, Some(&ids), &list, &mut buffer);
+            let answer = write_with(&names, &ids, &list, &mut buffer);
             answers.insert(answer.map_or_else(|refusal| refusal.number(), |_| 0));
             if let Ok(length) = answer {
-                let found = entries_with(&names, Some(&ids), &buffer[..length]).expect("written");
+                let found = entries_with(&names, &ids, &buffer[..length]).expect("written");
                 assert_eq!(found, list.entries());
                 let again = Lists::of_entries(&found, 9).expect("all known");
-                let message = written_with(&names, Some(&ids), &again.entries());
+                let message = written_with(&names, &ids, &again.entries());
                 assert_eq!(message, &buffer[..length]);
             }
             let kind = Wrong::OF_NOTICES[round % Wrong::OF_NOTICES.len()];
             let Some((list, ids)) = wrong(&mut random, &names, &ids, kind) else { continue };
-            let wrongs: Vec<Wrong> = list.wrongs_with(&names, Some(&ids)).into_iter().collect();
+            let wrongs: Vec<Wrong> = list.wrongs_with(&names, &ids).into_iter().collect();
             assert_eq!(wrongs, [kind]);
-            let answer = write_with(&names, Some(&ids), &list, &mut []);
+            let answer = write_with(&names, &ids, &list, &mut []);
             answers.insert(answer.expect_err("a wrong list").number());
         }
         assert_eq!(answers.into_iter().collect::<Vec<_>>(), [0, 2, 13]);

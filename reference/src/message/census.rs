@@ -2,7 +2,7 @@
 
 use super::field::{Broken, Content, Field, Fields};
 use super::holder::Holder;
-use super::{wire, Names};
+use super::{wire, Ids, Names};
 use std::collections::BTreeMap;
 
 /// The largest field number that protobuf has.
@@ -53,11 +53,27 @@ const NAMED: [&str; 7] = [
     "known after an unknown one",
 ];
 
+/// The message ids that are told apart.
+const IDS: [&str; 6] = [
+    "known",
+    "unknown",
+    "of 0 bytes",
+    "of 64 bytes, known",
+    "of 65 bytes",
+    "of 65 bytes, the front of it known",
+];
+
+fn with_id(what: &str) -> String {
+    format!("IDontWant: id {what}")
+}
+
 const CONTROLS: &str = "Rpc: several control fields";
+const SEVERAL_IDS: &str = "IDontWant: several ids";
 
 /// All names that can be counted.
 pub fn wanted() -> Vec<String> {
-    let mut wanted = vec![CONTROLS.to_string()];
+    let mut wanted = vec![CONTROLS.to_string(), SEVERAL_IDS.to_string()];
+    wanted.extend(IDS.map(with_id));
     for holder in Holder::ALL {
         wanted.extend(WIRE_TYPES.map(|wire_type| unknown(holder, wire_type)));
         wanted.extend(holder.skipped().iter().map(|&number| skipped(holder, number)));
@@ -77,14 +93,15 @@ pub fn wanted() -> Vec<String> {
 }
 
 /// What a well-formed message holds; of a malformed one, what stands before the break.
-pub fn census(names: &Names, message: &[u8]) -> BTreeMap<String, u64> {
-    let mut census = Census { names, counts: BTreeMap::new() };
+pub fn census(names: &Names, ids: &Ids, message: &[u8]) -> BTreeMap<String, u64> {
+    let mut census = Census { names, ids, counts: BTreeMap::new() };
     let _ = census.walk(Holder::Rpc, Fields::of_message(message));
     census.counts
 }
 
 struct Census<'a> {
     names: &'a Names,
+    ids: &'a Ids,
     counts: BTreeMap<String, u64>,
 }
 
@@ -108,6 +125,9 @@ impl Census<'_> {
             let Content::Bytes(inside) = &field.content else { continue };
             if holder.is_topic(field.number) {
                 topic_known = Some(self.name(holder, inside.bytes(), topic_known));
+            }
+            if holder.is_id(field.number) {
+                self.id(inside.bytes());
             }
             if let Some(inner) = holder.inside(field.number) {
                 self.walk(inner, inside.fields())?;
@@ -157,6 +177,9 @@ impl Census<'_> {
         if times == 2 && holder.inside(number) == Some(Holder::Control) {
             self.count(CONTROLS.to_string());
         }
+        if times == 2 && holder.is_id(number) {
+            self.count(SEVERAL_IDS.to_string());
+        }
     }
 
     /// Counts a topic's name, and says whether it is known.
@@ -176,6 +199,22 @@ impl Census<'_> {
             _ => {}
         }
         known
+    }
+
+    /// Counts a message id.
+    fn id(&mut self, id: &[u8]) {
+        let known = self.ids.number(id).is_some();
+        let mut count = |what| self.count(with_id(what));
+        count(if known { "known" } else { "unknown" });
+        match (id.len(), known) {
+            (0, _) => count("of 0 bytes"),
+            (64, true) => count("of 64 bytes, known"),
+            (65, _) => count("of 65 bytes"),
+            _ => {}
+        }
+        if id.len() == 65 && self.ids.number(&id[..64]).is_some() {
+            self.count(with_id("of 65 bytes, the front of it known"));
+        }
     }
 }
 

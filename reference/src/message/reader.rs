@@ -4,16 +4,17 @@ use super::field::{Broken, Content, Field, Fields};
 use super::{control, graft, idontwant, prune, rpc, subscription};
 use super::{Entry, Ids, Kind, Names, Refusal, ENTRY_LIST, LONGEST_MESSAGE};
 
-/// Reads a message into the lent list and says how many entries it has. A refusal leaves
-/// the list as it was, and so are the numbers past the entries.
+/// Reads a message into the lent list and says how many entries it has, with a table of
+/// message ids that has none. A refusal leaves the list as it was, and so are the numbers past
+/// the entries.
 pub fn read(names: &Names, message: &[u8], list: &mut [u64]) -> Result<usize, Refusal> {
-    read_with(names, None, message, list)
+    read_with(names, &Ids::default(), message, list)
 }
 
-/// The same with a lent table of message ids: then IDONTWANT is read too.
+/// The same with a lent table of message ids.
 pub fn read_with(
     names: &Names,
-    ids: Option<&Ids>,
+    ids: &Ids,
     message: &[u8],
     list: &mut [u64],
 ) -> Result<usize, Refusal> {
@@ -22,7 +23,7 @@ pub fn read_with(
         return Err(Refusal::ShortList);
     }
     // "(else 2, after 8)"
-    if ids.is_some_and(|ids| !ids.is_good()) {
+    if !ids.is_good() {
         return Err(Refusal::OutOfRange);
     }
     // "A message over 16,384 bytes gives 10 with place 16,384."
@@ -38,15 +39,11 @@ pub fn read_with(
 
 /// The entries of a message in their order, or the field that is found broken first.
 pub fn entries(names: &Names, message: &[u8]) -> Result<Vec<Entry>, Broken> {
-    entries_with(names, None, message)
+    entries_with(names, &Ids::default(), message)
 }
 
 /// The same with a lent table of message ids.
-pub fn entries_with(
-    names: &Names,
-    ids: Option<&Ids>,
-    message: &[u8],
-) -> Result<Vec<Entry>, Broken> {
+pub fn entries_with(names: &Names, ids: &Ids, message: &[u8]) -> Result<Vec<Entry>, Broken> {
     let mut found = Found {
         names,
         ids,
@@ -68,7 +65,7 @@ pub fn entries_with(
 /// control field are joined."
 struct Found<'a> {
     names: &'a Names,
-    ids: Option<&'a Ids>,
+    ids: &'a Ids,
     subscriptions: Vec<Entry>,
     grafts: Vec<Entry>,
     prunes: Vec<Entry>,
@@ -110,9 +107,7 @@ impl Found<'_> {
                 self.prunes.push(entry);
             }
             (control::IDONTWANT, Content::Bytes(inside)) => {
-                if let Some(ids) = self.ids {
-                    self.notices(ids, inside.fields())?;
-                }
+                self.notices(inside.fields())?;
             }
             _ => {}
         }
@@ -120,11 +115,11 @@ impl Found<'_> {
     }
 
     /// "an id not in it is 11"
-    fn notices(&mut self, ids: &Ids, mut fields: Fields) -> Result<(), Broken> {
+    fn notices(&mut self, mut fields: Fields) -> Result<(), Broken> {
         while let Some(field) = fields.next_field()? {
             if let (idontwant::MESSAGE_IDS, Content::Bytes(inside)) = (field.number, field.content)
             {
-                let number = ids.number(inside.bytes());
+                let number = self.ids.number(inside.bytes());
                 let (topic, value) = (number.map(|_| 0), number.unwrap_or(0));
                 self.notices.push(Entry { kind: Kind::Notice, topic, value });
             }

@@ -56,7 +56,7 @@ pub enum Wrong {
 }
 
 impl Wrong {
-    /// Those that a list has only where a table of message ids is lent.
+    /// Those of lists with notices.
     pub const OF_NOTICES: [Wrong; 3] = [Wrong::NoticeThird, Wrong::NumberNotInTable, Wrong::Table];
 
     /// The others.
@@ -82,13 +82,13 @@ impl Wrong {
 /// 2, first; a buffer shorter than the message, and here only that, a new number 13. The
 /// buffer is unchanged by either, and past the message."
 pub fn write(names: &Names, lists: &Lists, buffer: &mut [u8]) -> Result<usize, Refusal> {
-    write_with(names, None, lists, buffer)
+    write_with(names, &Ids::default(), lists, buffer)
 }
 
 /// The same with a lent table of message ids: "order 4's list takes kind 3".
 pub fn write_with(
     names: &Names,
-    ids: Option<&Ids>,
+    ids: &Ids,
     lists: &Lists,
     buffer: &mut [u8],
 ) -> Result<usize, Refusal> {
@@ -120,29 +120,29 @@ impl Wrongs {
 }
 
 impl Lists {
-    /// Everything that is wrong where no table of message ids is lent.
+    /// Everything that is wrong where the table of message ids has none.
     pub fn wrongs(&self, names: &Names) -> BTreeSet<Wrong> {
-        self.wrongs_with(names, None)
+        self.wrongs_with(names, &Ids::default())
     }
 
     /// Everything that is wrong: each list must be "an action list for one peer (at most 64
     /// actions of 01's form) and at most 8 joins and leaves of ours, each with a named
     /// topic".
-    pub fn wrongs_with(&self, names: &Names, ids: Option<&Ids>) -> BTreeSet<Wrong> {
+    pub fn wrongs_with(&self, names: &Names, ids: &Ids) -> BTreeSet<Wrong> {
         let mut wrongs = Wrongs(BTreeSet::new());
-        wrongs.add_if(ids.is_some_and(|ids| !ids.is_good()), Wrong::Table);
+        wrongs.add_if(!ids.is_good(), Wrong::Table);
         wrongs.add_if(self.actions.len() != 3 * self.topics.len(), Wrong::NotATopicEach);
         wrongs.add_if(self.topics.len() > MOST_ACTIONS, Wrong::TooManyActions);
-        self.add_actions(ids.is_some(), &mut wrongs);
+        self.add_actions(&mut wrongs);
         self.add_topics(names, ids, &mut wrongs);
         self.add_changes(names, &mut wrongs);
         wrongs.0
     }
 
-    fn add_actions(&self, notices: bool, wrongs: &mut Wrongs) {
+    fn add_actions(&self, wrongs: &mut Wrongs) {
         for action in self.actions.chunks_exact(3) {
             let (kind, id, third) = (action[0], action[1], action[2]);
-            let notice = notices && kind == IDONTWANT;
+            let notice = kind == IDONTWANT;
             wrongs.add_if(kind != GRAFT && kind != PRUNE && !notice, Wrong::ActionKind);
             wrongs.add_if(id == 0, Wrong::IdZero);
             wrongs.add_if(id != self.actions[1], Wrong::TwoIds);
@@ -152,14 +152,12 @@ impl Lists {
         }
     }
 
-    fn add_topics(&self, names: &Names, ids: Option<&Ids>, wrongs: &mut Wrongs) {
+    fn add_topics(&self, names: &Names, ids: &Ids, wrongs: &mut Wrongs) {
         for (place, &topic) in self.topics.iter().enumerate() {
-            let notice = self.actions.get(3 * place) == Some(&IDONTWANT);
-            match ids.filter(|_| notice) {
-                Some(ids) => wrongs.add_if(ids.id(topic).is_none(), Wrong::NumberNotInTable),
-                None => {
-                    wrongs.add_topic(names, topic, Wrong::ActionTopic, Wrong::ActionTopicUnnamed);
-                }
+            if self.actions.get(3 * place) == Some(&IDONTWANT) {
+                wrongs.add_if(ids.id(topic).is_none(), Wrong::NumberNotInTable);
+            } else {
+                wrongs.add_topic(names, topic, Wrong::ActionTopic, Wrong::ActionTopicUnnamed);
             }
         }
     }
@@ -222,13 +220,13 @@ fn action_entry((action, &beside): (&[u32], &u64)) -> Entry {
 
 /// The message of entries without notices.
 pub fn written(names: &Names, entries: &[Entry]) -> Vec<u8> {
-    written_with(names, None, entries)
+    written_with(names, &Ids::default(), entries)
 }
 
 /// The message of entries that all have named topics, or numbers in the table, and stand in
 /// their order: "fields in ascending order, one control field or none, shortest numbers,
 /// absent rather than zero". Order 6: "written, all ids in one field".
-pub fn written_with(names: &Names, ids: Option<&Ids>, entries: &[Entry]) -> Vec<u8> {
+pub fn written_with(names: &Names, ids: &Ids, entries: &[Entry]) -> Vec<u8> {
     let (mut message, mut inside_control, mut wanted_not) = (Vec::new(), Vec::new(), Vec::new());
     for entry in entries {
         let topic = || entry.topic.and_then(|topic| names.name(topic as u64)).expect("a name");
@@ -249,7 +247,7 @@ pub fn written_with(names: &Names, ids: Option<&Ids>, entries: &[Entry]) -> Vec<
                 put_bytes(control::PRUNE, &inside, &mut inside_control);
             }
             Kind::Notice => {
-                let id = ids.and_then(|ids| ids.id(entry.value)).expect("an id");
+                let id = ids.id(entry.value).expect("an id");
                 put_bytes(idontwant::MESSAGE_IDS, id, &mut wanted_not);
             }
         }

@@ -28,13 +28,13 @@ fn hex(text: &str) -> Vec<u8> {
 
 /// The entries of a good message, with the table.
 fn of(text: &str) -> Vec<[u64; 3]> {
-    let entries = entries_with(&names(), Some(&ids()), &hex(text)).expect("a good message");
+    let entries = entries_with(&names(), &ids(), &hex(text)).expect("a good message");
     entries.iter().map(|entry| entry.numbers()).collect()
 }
 
 /// The place and the level of a malformed message, with the table.
 fn broken(text: &str) -> (usize, usize) {
-    let broken = entries_with(&names(), Some(&ids()), &hex(text)).expect_err("malformed");
+    let broken = entries_with(&names(), &ids(), &hex(text)).expect_err("malformed");
     (broken.place, broken.level)
 }
 
@@ -45,7 +45,7 @@ fn list(actions: &[[u32; 3]], beside: &[u64], changes: &[u64]) -> Lists {
 /// The message of a list, with the table.
 fn written(list: &Lists) -> Result<Vec<u8>, Refusal> {
     let mut buffer = [0x55; 6000];
-    let length = write_with(&names(), Some(&ids()), list, &mut buffer)?;
+    let length = write_with(&names(), &ids(), list, &mut buffer)?;
     assert!(buffer[length..].iter().all(|&byte| byte == 0x55), "bytes past the message");
     Ok(buffer[..length].to_vec())
 }
@@ -86,7 +86,7 @@ fn an_id_not_in_the_table_is_11() {
     assert_eq!(of("1A 07 2A 05 0A 03 6D 31 31"), [[3, 11, 0]], "another's front");
     let long = format!("1A 45 2A 43 0A 41{}", " FF".repeat(65));
     assert_eq!(of(&long), [[3, 11, 0]], "65 bytes");
-    let entries = entries_with(&names(), Some(&Ids::default()), &hex("1A 05 2A 03 0A 01 6D"));
+    let entries = entries_with(&names(), &Ids::default(), &hex("1A 05 2A 03 0A 01 6D"));
     assert_eq!(entries.unwrap()[0].numbers(), [3, 11, 0], "an empty table");
     assert_eq!(of("1A 0B 2A 09 0A 01 6D 0A 00 0A 02 6D 31"), [[3, 0, 11], [3, 11, 0], [3, 0, 5]]);
 }
@@ -106,10 +106,10 @@ fn overlong_numbers_are_read() {
 }
 
 #[test]
-fn without_a_table_field_5_is_unknown() {
-    for text in ["1A 06 2A 04 0A 02 6D 31", "1A 03 2A 01 0A", "1A 03 2A 01 00"] {
-        assert_eq!(entries(&names(), &hex(text)), Ok(vec![]), "its contents are not looked at");
-    }
+fn a_table_without_rows_knows_no_id() {
+    let found = entries(&names(), &hex("1A 06 2A 04 0A 02 6D 31")).expect("a good message");
+    assert_eq!(found.iter().map(|entry| entry.numbers()).collect::<Vec<_>>(), [[3, 11, 0]]);
+    assert_eq!(entries(&names(), &hex("1A 03 2A 01 0A")).map_err(|broken| broken.place), Err(4));
 }
 
 #[test]
@@ -137,32 +137,32 @@ fn tables_that_are_2() {
     let too_long = vec![0; LONGEST_MESSAGE + 1];
     for table in &bad {
         let mut read =
-            |message: &[u8]| read_with(&names(), Some(table), message, &mut entries).unwrap_err();
+            |message: &[u8]| read_with(&names(), table, message, &mut entries).unwrap_err();
         assert_eq!(read(&[]), Refusal::OutOfRange, "{table:?}");
         assert_eq!(read(&too_long), Refusal::OutOfRange, "before the length");
         assert_eq!(read(&[0]), Refusal::OutOfRange, "before malformed bytes");
-        let short = read_with(&names(), Some(table), &[], &mut [0; ENTRY_LIST - 1]);
+        let short = read_with(&names(), table, &[], &mut [0; ENTRY_LIST - 1]);
         assert_eq!(short, Err(Refusal::ShortList), "after 8");
-        let empty = write_with(&names(), Some(table), &Lists::default(), &mut []);
+        let empty = write_with(&names(), table, &Lists::default(), &mut []);
         assert_eq!(empty, Err(Refusal::OutOfRange));
     }
     for table in [Ids::default(), ids(), ids_of(&[(b"a", 1), (b"aa", 2)])] {
-        assert_eq!(read_with(&names(), Some(&table), &[], &mut entries), Ok(0));
-        assert_eq!(write_with(&names(), Some(&table), &Lists::default(), &mut []), Ok(0));
+        assert_eq!(read_with(&names(), &table, &[], &mut entries), Ok(0));
+        assert_eq!(write_with(&names(), &table, &Lists::default(), &mut []), Ok(0));
     }
     let many = (0..5000u64).map(|number| (number.to_le_bytes().to_vec(), number)).collect();
-    assert_eq!(read_with(&names(), Some(&Ids { rows: many }), &[], &mut entries), Ok(0));
+    assert_eq!(read_with(&names(), &Ids { rows: many }, &[], &mut entries), Ok(0));
 }
 
 #[test]
 fn the_list_is_filled_from_its_start() {
     let mut entries = vec![77; ENTRY_LIST];
     let message = hex("1A 09 2A 07 0A 01 6D 0A 02 6D 7A");
-    assert_eq!(read_with(&names(), Some(&ids()), &message, &mut entries), Ok(2));
+    assert_eq!(read_with(&names(), &ids(), &message, &mut entries), Ok(2));
     assert_eq!(entries[..7], [3, 0, 11, 3, 11, 0, 77]);
     let mut entries = vec![77; ENTRY_LIST];
     let malformed =
-        read_with(&names(), Some(&ids()), &hex("1A 06 2A 04 0A 01 6D 00"), &mut entries);
+        read_with(&names(), &ids(), &hex("1A 06 2A 04 0A 01 6D 00"), &mut entries);
     assert_eq!(malformed.map_err(|refusal| (refusal.number(), refusal.place())), Err((10, 7)));
     assert!(entries.iter().all(|&number| number == 77), "no event");
 }
@@ -174,7 +174,7 @@ fn as_many_ids_as_a_message_holds() {
     message.extend(hex("0A 00").repeat(8189));
     assert_eq!(message.len(), LONGEST_MESSAGE);
     let mut entries = vec![0; ENTRY_LIST];
-    assert_eq!(read_with(&names(), Some(&ids()), &message, &mut entries), Ok(8189));
+    assert_eq!(read_with(&names(), &ids(), &message, &mut entries), Ok(8189));
 }
 
 // "and written, all ids in one field; order 4's list takes kind 3, each with its number for a
@@ -196,7 +196,7 @@ fn the_field_comes_after_the_prunes() {
     assert_eq!(written(&mixed), Ok(hex(message)));
     assert_eq!(of(message), [[0, 7, 1], [1, 7, 0], [2, 0, 60], [3, 0, 5], [3, 0, 11]]);
     // Read back and written again it is the same.
-    let entries = entries_with(&names(), Some(&ids()), &hex(message)).expect("a good message");
+    let entries = entries_with(&names(), &ids(), &hex(message)).expect("a good message");
     let again = Lists::of_entries(&entries, 9).expect("all topics known");
     assert_eq!(written(&again), Ok(hex(message)));
     assert_eq!(again.entries(), entries);
@@ -205,7 +205,7 @@ fn the_field_comes_after_the_prunes() {
 #[test]
 fn lists_that_are_2() {
     let wrongs = |list: &Lists| -> Vec<Wrong> {
-        list.wrongs_with(&names(), Some(&ids())).into_iter().collect()
+        list.wrongs_with(&names(), &ids()).into_iter().collect()
     };
     let good = list(&[[3, 9, 0]], &[5], &[]);
     assert_eq!(wrongs(&good), []);
@@ -223,9 +223,9 @@ fn lists_that_are_2() {
     assert_eq!(wrongs(&list(&[[3, 9, 0]], &[11], &[])), []);
     assert_eq!(wrongs(&list(&[[1, 9, 0]], &[5], &[])), [Wrong::ActionTopicUnnamed]);
     let bad = ids_of(&[(b"", 5)]);
-    let table: Vec<Wrong> = good.wrongs_with(&names(), Some(&bad)).into_iter().collect();
+    let table: Vec<Wrong> = good.wrongs_with(&names(), &bad).into_iter().collect();
     assert_eq!(table, [Wrong::Table]);
-    // Without a table kind 3 is none of order 4's.
+    // A table without rows has no number.
     let mut buffer = [0; 100];
     assert_eq!(write(&names(), &good, &mut buffer), Err(Refusal::OutOfRange));
 }
@@ -235,7 +235,7 @@ fn every_2_comes_before_13() {
     let good = list(&[[3, 9, 0]], &[5], &[]);
     let write = |list: &Lists, ids: &Ids, room: usize| {
         let mut buffer = vec![0x55; room];
-        let answer = write_with(&names(), Some(ids), list, &mut buffer);
+        let answer = write_with(&names(), ids, list, &mut buffer);
         assert!(answer.is_ok() || buffer.iter().all(|&byte| byte == 0x55), "unchanged");
         answer.map_err(|refusal| refusal.number())
     };
