@@ -135,7 +135,7 @@ enum hivepadlet_answer {
     HIVEPADLET_NOT_CONNECTED = 3,     /* no connected peer has the id */
     HIVEPADLET_ALREADY_CONNECTED = 4, /* connect of a connected id */
     HIVEPADLET_NO_SLOT = 5,           /* all 256 slots are taken, and none can be reclaimed yet */
-    HIVEPADLET_UNKNOWN_PROTOCOL = 6,  /* the protocol name is neither of the two */
+    HIVEPADLET_UNKNOWN_PROTOCOL = 6,  /* the protocol name is none of the three */
     HIVEPADLET_NOT_PERMUTATION = 7,   /* not each of 0 to 255 once */
     HIVEPADLET_LIST_SHORT = 8,        /* action list under 768 numbers; list of entries under 24,576; in writing parameters,
                                          buffer under 735 bytes, or 737 for edition 2 */
@@ -337,8 +337,8 @@ enum hivepadlet_flag {
 
 /* A peer connects. groups: its address groups, one to HIVEPADLET_GROUPS different ones, lowest first; each is any 32-bit number,
  * as the first bytes of an address, one for each way to it (wired and wireless). flags: the sum of the above.
- * name: the protocol it speaks, "/meshsub/1.0.0" or "/meshsub/1.1.0", with no closing zero. A peer that comes back while its
- * record is kept has its counters and backoffs again, and the groups that it now has. 0, or 6, 4, 5. */
+ * name: the protocol it speaks, "/meshsub/1.0.0", "/meshsub/1.1.0" or "/meshsub/1.2.0", with no closing zero. A peer that comes
+ * back while its record is kept has its counters and backoffs again, and the groups that it now has. 0, or 6, 4, 5. */
 uint64_t hivepadlet_connect(uint64_t table[HIVEPADLET_CELLS], uint64_t time, uint64_t id, const uint64_t *groups,
                             size_t groups_length, uint64_t flags, const uint8_t *name, size_t name_length, uint32_t *actions,
                             size_t actions_length);

@@ -21,7 +21,7 @@ static unsigned passed, failed;
 #define LIST actions, HIVEPADLET_ACTION_NUMBERS
 #define NAME (const uint8_t *)"/meshsub/1.1.0", 14
 #define GROUP group, 1
-#define NAME_2 (const uint8_t *)"/meshsub/1.2.0", 14
+#define NAME_3 (const uint8_t *)"/meshsub/1.3.0", 14
 #define NAME_0 (const uint8_t *)"/meshsub/1.1.0", 0
 
 static void check(const char *what, int holds)
@@ -166,7 +166,7 @@ static void refusals(void)
     refuses("kind 4", hivepadlet_deliver(table, 5, 7, 0, 4, LIST), HIVEPADLET_OUT_OF_RANGE);
     refuses("an unknown id", hivepadlet_disconnect(table, 5, 8, LIST), HIVEPADLET_NOT_CONNECTED);
     refuses("a connected id", hivepadlet_connect(table, 5, 7, GROUP, 0, NAME, LIST), HIVEPADLET_ALREADY_CONNECTED);
-    refuses("an unknown name", hivepadlet_connect(table, 5, 9, GROUP, 0, NAME_2, LIST), HIVEPADLET_UNKNOWN_PROTOCOL);
+    refuses("an unknown name", hivepadlet_connect(table, 5, 9, GROUP, 0, NAME_3, LIST), HIVEPADLET_UNKNOWN_PROTOCOL);
     refuses("no name", hivepadlet_connect(table, 5, 9, GROUP, 0, NAME_0, LIST), HIVEPADLET_UNKNOWN_PROTOCOL);
     refuses("no permutation", hivepadlet_heartbeat(table, 5, 0, 0, permutation, HIVEPADLET_SLOTS, LIST), HIVEPADLET_NOT_PERMUTATION);
     refuses("a number less", hivepadlet_decay(table, 5, actions, HIVEPADLET_ACTION_NUMBERS - 1), HIVEPADLET_LIST_SHORT);

@@ -10,7 +10,9 @@ pub use answers::{Answers, Rows};
 
 use crate::event::{Call, Event, CALL_NAMES, GROUPS};
 use crate::params::{self, topic, Edition, Params};
-use crate::router::{number, Answer, GraftCase, Peer, Place, Refusal, Router, Status, Why};
+use crate::router::{
+    number, Answer, GraftCase, Peer, Place, Refusal, Router, Status, Version, Why,
+};
 use crate::trace::TraceEdition;
 use std::collections::BTreeMap;
 use std::fmt::Write;
@@ -20,12 +22,13 @@ use std::fmt::Write;
 const REACHABLE: [u32; 9] = [0, 1, 2, 3, 4, 5, 6, 7, 11];
 
 /// The cases that every run reaches.
-const CASES: [&str; 50] = [
+const CASES: [&str; 53] = [
     "connect: fresh slot",
     "connect: resumed record",
     "connect: own record reclaimed",
     "connect: other records reclaimed",
     "connect: a record reclaimed in a backoff's slack",
+    "connect: by /meshsub/1.2.0",
     "connect: one group",
     "connect: four groups",
     "connect: resumed with other groups",
@@ -35,6 +38,7 @@ const CASES: [&str; 50] = [
     "disconnect: member",
     "leave: PRUNEs",
     "leave: P3b grows",
+    "leave: a 1.2.0 peer is told seconds",
     "unsubscribe: member",
     "graft: NotJoined",
     "graft: Graylisted",
@@ -48,6 +52,7 @@ const CASES: [&str; 50] = [
     "graft: outbound into a full mesh",
     "graft: accepted in the slack",
     "graft: P7 at its limit",
+    "graft: a 1.2.0 peer is told seconds",
     "prune: member",
     "prune: not a member",
     "prune: the old end is later",
@@ -306,7 +311,9 @@ pub fn cases(router: &Router, event: &Event) -> Vec<String> {
         return named(event, refused_groups(event));
     }
     let facts = match event.call {
-        Call::Connect { id, ref groups, .. } => connect_cases(router, id as u32, groups, event.now),
+        Call::Connect { id, ref groups, ref name, .. } => {
+            connect_cases(router, id as u32, groups, name, event.now)
+        }
         Call::Leave { topic } => leave_cases(router, topic as usize),
         Call::Disconnect { id }
         | Call::Unsubscribe { id, .. }
@@ -349,7 +356,7 @@ fn refused_groups(event: &Event) -> Facts {
     ]
 }
 
-fn connect_cases(router: &Router, id: u32, groups: &[u64], now: u64) -> Facts {
+fn connect_cases(router: &Router, id: u32, groups: &[u64], name: &[u8], now: u64) -> Facts {
     let place = router.place_for(id, now);
     let reclaimed = router.reclaimable_slots(now);
     let own = |slot: &usize| router.peers[*slot].id == id;
@@ -357,6 +364,7 @@ fn connect_cases(router: &Router, id: u32, groups: &[u64], now: u64) -> Facts {
     let in_slack = |slot: &usize| ends(*slot).any(|&end| heartbeat::in_slack(end, now));
     let other = |slot: usize| router.peers[slot].groups().map(u64::from).ne(groups.iter().copied());
     vec![
+        fact("by /meshsub/1.2.0", name == b"/meshsub/1.2.0"),
         fact("one group", groups.len() == 1),
         fact("four groups", groups.len() == GROUPS),
         fact(
@@ -371,10 +379,27 @@ fn connect_cases(router: &Router, id: u32, groups: &[u64], now: u64) -> Facts {
     ]
 }
 
+/// Order 6 of 02: a PRUNE of ours to a peer of version 1.2.0, whose backoff is at least a second.
+const TOLD: &str = "a 1.2.0 peer is told seconds";
+
+fn is_newest(router: &Router, slot: usize) -> bool {
+    router.peers[slot].version == Version::V12
+}
+
+/// Is a GRAFT answered by a PRUNE?
+fn is_pruned(case: GraftCase) -> bool {
+    use GraftCase::{Accepted, AlreadyMember, Graylisted, NotJoined};
+    !matches!(case, NotJoined | Graylisted | AlreadyMember | Accepted)
+}
+
 fn leave_cases(router: &Router, topic: usize) -> Facts {
     let mesh = router.mesh(topic);
     let fails = |&slot: &usize| router.score(slot) < 0 && router.p3(slot, topic) > 0;
-    vec![fact("PRUNEs", !mesh.is_empty()), fact("P3b grows", mesh.iter().any(fails))]
+    vec![
+        fact("PRUNEs", !mesh.is_empty()),
+        fact("P3b grows", mesh.iter().any(fails)),
+        fact(TOLD, mesh.iter().any(|&slot| is_newest(router, slot))),
+    ]
 }
 
 fn peer_cases(router: &Router, slot: usize, event: &Event) -> Facts {
@@ -435,6 +460,7 @@ fn graft_cases(router: &Router, slot: usize, topic: usize, now: u64) -> Facts {
         fact("outbound into a full mesh", case == GraftCase::Accepted && full),
         fact("accepted in the slack", case == GraftCase::Accepted && slack),
         fact("P7 at its limit", case == GraftCase::BackoffRunning && peer.p7 == 1_000_000),
+        fact(TOLD, is_pruned(case) && is_newest(router, slot)),
     ]
 }
 

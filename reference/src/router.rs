@@ -67,29 +67,10 @@ pub fn number<T>(answer: &Result<T, Refusal>) -> u32 {
     }
 }
 
-/// Which rules of later orders are kept that change what older calls answer.
-#[derive(Clone, Copy, PartialEq, Eq, Debug)]
-pub struct Landed {
-    /// Order 6: "Accept /meshsub/1.2.0."
-    pub version_12: bool,
-    /// Order 8: "remaining retain times go to 86,400,000, backoffs to 3,600,000, in test 12
-    /// too, from the clock".
-    pub ends_from_clock: bool,
-}
-
-impl Landed {
-    pub const ALL: Landed = Landed { version_12: true, ends_from_clock: true };
-}
-
-/// The rules of a router for which nobody says otherwise. An order that lands is turned on
-/// here.
-pub const LANDED: Landed = Landed { version_12: false, ends_from_clock: true };
-
 #[derive(Clone, PartialEq, Eq, Debug)]
 pub struct Router {
     pub params: Params,
     pub set_up: SetUp,
-    pub landed: Landed,
     pub clock: u64,
     pub joined: [bool; TOPICS],
     pub peers: Vec<Peer>,
@@ -111,7 +92,7 @@ impl Router {
     /// "tested before the sheet".
     pub fn with_set_up(params: Params, set_up: SetUp) -> Result<Router, params::Refusal> {
         set_up.check()?;
-        Ok(Router { set_up, landed: Landed::ALL, ..Router::new(params)? })
+        Ok(Router { set_up, ..Router::new(params)? })
     }
 
     /// A fresh router whose parameters nobody has checked.
@@ -119,7 +100,6 @@ impl Router {
         Router {
             params,
             set_up: SetUp::ORDINARY,
-            landed: LANDED,
             clock: 0,
             joined: [false; TOPICS],
             peers: vec![Peer::default(); SLOTS],

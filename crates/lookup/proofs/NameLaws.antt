@@ -1,4 +1,4 @@
--- Laws of protocol names: the ends of the comparison, that it is one of lists, and the two names.
+-- Laws of protocol names: the ends of the comparison, that it is one of lists, and the three names.
 -- Assumes nothing.
 use Rattle.index.proofs.Kit.{ℕ, _<_, _≤_, _≡_, refl, sym, arith, Bool, true, false, every, every-done, every-fails}
 use mathlib.Core.Bool.{cond, and-false}
@@ -50,16 +50,25 @@ module _ (name : List ℕ) where
   unfolding versionOf
   second-name e f = rw (e, f)
 
-  pub no-name : sameBytes name (meshsub 48) ≡ false → sameBytes name (meshsub 49) ≡ false → Unknown ≡ versionOf name
+  pub third-name :
+      sameBytes name (meshsub 48) ≡ false → sameBytes name (meshsub 49) ≡ false → sameBytes name (meshsub 50) ≡ true →
+      Version 2 ≡ versionOf name
   unfolding versionOf
-  no-name e f = rw (e, f)
+  third-name e f g = rw (e, f, g)
 
-  -- a version is 0 or 1
-  pub version-small : (v : ℕ) → versionOf name ≡ Version v → v ≤ 1
+  pub no-name :
+      sameBytes name (meshsub 48) ≡ false → sameBytes name (meshsub 49) ≡ false → sameBytes name (meshsub 50) ≡ false →
+      Unknown ≡ versionOf name
   unfolding versionOf
-  version-small v e = go (sameBytes name (meshsub 48)) (sameBytes name (meshsub 49)) e
+  no-name e f g = rw (e, f, g)
+
+  -- a version is 0, 1 or 2
+  pub version-small : (v : ℕ) → versionOf name ≡ Version v → v ≤ 2
+  unfolding versionOf
+  version-small v e = go (sameBytes name (meshsub 48)) (sameBytes name (meshsub 49)) (sameBytes name (meshsub 50)) e
     where
-      go : (p q : Bool) → cond p (Version 0) (cond q (Version 1) Unknown) ≡ Version v → v ≤ 1
-      go true q e = let z : 0 ≡ v = cc in omega arith
-      go false true e = let z : 1 ≡ v = cc in omega arith
-      go false false e = let z : _≡_ {A = ℕ} 0 1 = cc in absurd (omega arith)
+      go : (p q r : Bool) → cond p (Version 0) (cond q (Version 1) (cond r (Version 2) Unknown)) ≡ Version v → v ≤ 2
+      go true q r e = let z : 0 ≡ v = cc in omega arith
+      go false true r e = let z : 1 ≡ v = cc in omega arith
+      go false false true e = let z : 2 ≡ v = cc in omega arith
+      go false false false e = let z : _≡_ {A = ℕ} 0 1 = cc in absurd (omega arith)

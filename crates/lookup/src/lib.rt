@@ -3,7 +3,7 @@ pub mod find;
 pub mod fresh;
 pub mod name;
 
-// What a protocol name stands for: version 0 for 1.0.0 and 1 for 1.1.0, or none that is known.
+// What a protocol name stands for: version 0 for 1.0.0, 1 for 1.1.0 and 2 for 1.2.0, or none that is known.
 pub enum Named {
     Version(u64),
     Unknown,

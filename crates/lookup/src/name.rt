@@ -32,6 +32,12 @@ fn is_second(name: &[u8]) -> bool
     same_bytes(name, b"/meshsub/1.1.0")
 }
 
+fn is_third(name: &[u8]) -> bool
+    ensures { λ r. ⌜ r ≡ sameBytes (now (name .entry)) (meshsub 50) ⌝ }
+{
+    same_bytes(name, b"/meshsub/1.2.0")
+}
+
 // The version that a protocol name stands for.
 pub fn version_of(name: &[u8]) -> Named
     ensures { λ r. ⌜ r ≡ versionOf (now (name .entry)) ⌝ }
@@ -41,6 +47,9 @@ pub fn version_of(name: &[u8]) -> Named
     }
     if is_second(name) {
         return Named::Version(1);
+    }
+    if is_third(name) {
+        return Named::Version(2);
     }
     Named::Unknown
 }

@@ -3,7 +3,7 @@
 use Rattle.rules.proofs.ConnectLaws.{by-connect}
 use Prim.Native.Nat.{ℕ, _<_, _≤_}
 use mathlib.Core.Path.{_≡_, refl, sym, ap, ap₂, _∙_}
-use mathlib.Core.Bool.{Bool, true, false, cond, _&&_}
+use mathlib.Core.Bool.{Bool, _&&_}
 use mathlib.Core.List.{List, []}
 use lib.Dec.{leb}
 use lib.IntN.{ℤ, pos, negsuc, natAbs}
@@ -24,7 +24,8 @@ use Rattle.layout.proofs.StateLaws.{sized-of}
 use Rattle.lookup.specs.Find.{holds, findConnected, findRetained, lowestEmpty}
 use Rattle.lookup.specs.declared.Named.{Named}
 use Rattle.lookup.specs.declared.Named.the-variants.{Version, Unknown}
-use Rattle.lookup.specs.Name.{sameBytes, meshsub, versionOf}
+use Rattle.lookup.specs.Name.{versionOf}
+use Rattle.lookup.proofs.NameLaws.{version-small}
 use Rattle.effects.specs.Effects.{onPeer, withP5, retainSeconds, retainedTo, endAfter, leftTopic, departed, reclaimed, NoneReclaimable}
 use Rattle.effects.proofs.EffectLaws.{full-none}
 use Rattle.effects.specs.Lent.{ConnectFits}
@@ -196,18 +197,10 @@ module _ (table name : List ℕ) (time id : ℕ) (groups : Groups) (flags : ℕ)
 
 -- ---- what test 2 leaves of the arguments
 
-version-cases : (a b : Bool) (v : ℕ) → cond a (Version 0) (cond b (Version 1) Unknown) ≡ Version v → v ≤ 3
-version-cases true b v e = let z : 0 ≡ v = cc in omega arith
-version-cases false true v e = let z : 1 ≡ v = cc in omega arith
-version-cases false false v e = let z : _≡_ {A = ℕ} 0 1 = cc in absurd (omega arith)
-
-version-most : (name : List ℕ) (n : Named) (v : ℕ) → n ≡ versionOf name → n ≡ Version v → v ≤ 3
-unfolding versionOf
-version-most name n v e g = version-cases (sameBytes name (meshsub 48)) (sameBytes name (meshsub 49)) v (sym e ∙ g)
-
 pub version-fits :
     (name : List ℕ) (n : Named) (flags version : ℕ) → n ≡ versionOf name → n ≡ Version version → flags ≤ 3 → ConnectFits flags version
-version-fits name n flags version e g f = record { flags = f; version = version-most name n version e g }
+version-fits name n flags version e g f =
+    record { flags = f; version = let l = version-small name version (sym e ∙ g) in omega arith }
 
 pub tested-flags :
     (table : List ℕ) (a b d : Bool) (room time : ℕ) (g : Gate) (flags : ℕ) →

@@ -16,7 +16,7 @@ use Rattle.index.proofs.Index.{every-by}
 use Rattle.records.specs.declared.Peer.{Peer}
 use Rattle.layout.specs.View.{Sized}
 use Rattle.validity.proofs.ValidLaws.{valid-facts}
-use Rattle.lookup.proofs.NameLaws.{same-bytes, same-self, first-name, second-name}
+use Rattle.lookup.proofs.NameLaws.{same-bytes, same-self}
 use Rattle.effects.proofs.EffectLaws.{reclaimed-peer, reclaimable-retained, reclaimable-end, reclaimable-over, none-reclaimed, full-stays}
 use Rattle.index.specs.declared.Found.{Found}
 use Rattle.index.specs.declared.Found.the-variants.{At, Nothing}
@@ -166,26 +166,29 @@ known-of name v e =
     (λ a. inl (same-bytes name (meshsub 48) a))
     (λ a.
     by-test _ (sameBytes name (meshsub 49))
-    (λ b. inr (same-bytes name (meshsub 49) b))
-    (λ b. let w : Unknown ≡ Version v = rw (a, b) at e in let z : _≡_ {A = ℕ} 0 1 = cc in absurd (omega (arith, z))))
+    (λ b. inr (inl (same-bytes name (meshsub 49) b)))
+    (λ b.
+    by-test _ (sameBytes name (meshsub 50))
+    (λ d. inr (inr (same-bytes name (meshsub 50) d)))
+    (λ d. let w : Unknown ≡ Version v = rw (a, b, d) at e in let z : _≡_ {A = ℕ} 0 1 = cc in absurd (omega (arith, z)))))
 
 strange-of : (name : List ℕ) → versionOf name ≡ Unknown → Strange name
 unfolding versionOf
-strange-of name e = (
-  λ q.
-      let a : sameBytes name (meshsub 48) ≡ true = ap (λ (l : List ℕ). sameBytes l (meshsub 48)) q ∙ same-self (meshsub 48) in
-      let w : Version 0 ≡ Unknown = first-name name a ∙ e in
-      let z : _≡_ {A = ℕ} 0 1 = cc in
-      omega (arith, z),
-  λ q.
-      let b : sameBytes name (meshsub 49) ≡ true = ap (λ (l : List ℕ). sameBytes l (meshsub 49)) q ∙ same-self (meshsub 49) in
-      by-test _ (sameBytes name (meshsub 48))
-      (λ a. let w : Version 0 ≡ Unknown = first-name name a ∙ e in let z : _≡_ {A = ℕ} 0 1 = cc in omega (arith, z))
-      (λ a. let w : Version 1 ≡ Unknown = second-name name a b ∙ e in let z : _≡_ {A = ℕ} 0 1 = cc in omega (arith, z)),
-)
+strange-of name e = none (sameBytes name (meshsub 48)) (sameBytes name (meshsub 49)) (sameBytes name (meshsub 50)) e (other 48) (other 49)
+    (other 50)
+  where
+    other : (m : ℕ) → sameBytes name (meshsub m) ≡ false → name ≢ meshsub m
+    other m f q = false≢true (sym f ∙ ap (λ (l : List ℕ). sameBytes l (meshsub m)) q ∙ same-self (meshsub m))
+
+    none : {A B C : Type 0} (p q r : Bool) → cond p (Version 0) (cond q (Version 1) (cond r (Version 2) Unknown)) ≡ Unknown →
+        (p ≡ false → A) → (q ≡ false → B) → (r ≡ false → C) → A × B × C
+    none true q r e f g h = let z : _≡_ {A = ℕ} 0 1 = cc in absurd (omega (arith, z))
+    none false true r e f g h = let z : _≡_ {A = ℕ} 0 1 = cc in absurd (omega (arith, z))
+    none false false true e f g h = let z : _≡_ {A = ℕ} 0 1 = cc in absurd (omega (arith, z))
+    none false false false e f g h = (f refl, g refl, h refl)
 
 not-known : (name : List ℕ) → Strange name → Known name → ⊥
-not-known name x k = ⊎-elim (x .0) (x .1) k
+not-known name x k = ⊎-elim (x .0) (⊎-elim (x .1) (x .2)) k
 
 module _ (st : State) (time id : ℕ) (groups : Groups) (flags : ℕ) (name : List ℕ) where
   abbrev u : State

@@ -163,12 +163,13 @@ Connects (heartbeat time t ask order) P = ⊥
 Connects (decay time) P = ⊥
 Connects (score time id) P = ⊥
 
--- "protocol name exactly /meshsub/1.0.0 or /meshsub/1.1.0": 48 and 49 are the bytes of 0 and 1
+-- "protocol name exactly /meshsub/1.0.0 or /meshsub/1.1.0", and 02, order 6: "Accept /meshsub/1.2.0": 48, 49 and 50 are the bytes of 0, 1
+-- and 2
 abbrev pub Known : List ℕ → Type 0
-Known name = (name ≡ meshsub 48) ⊎ (name ≡ meshsub 49)
+Known name = (name ≡ meshsub 48) ⊎ (name ≡ meshsub 49) ⊎ (name ≡ meshsub 50)
 
 abbrev pub Strange : List ℕ → Type 0
-Strange name = (name ≢ meshsub 48) × (name ≢ meshsub 49)
+Strange name = (name ≢ meshsub 48) × (name ≢ meshsub 49) × (name ≢ meshsub 50)
 
 -- 6: "protocol name not known"
 abbrev pub Words6 : Call → Type 0

@@ -127,7 +127,7 @@ module _
     (rising : risingOk groups ≡ true)
     (one : 1 ≤ groups .first)
     (few : flags ≤ 3)
-    (known : version ≤ 1)
+    (known : version ≤ 2)
   where
     module _ (u : State) (g : RouterAt time u) where
       connect-at :

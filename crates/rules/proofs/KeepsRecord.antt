@@ -275,7 +275,7 @@ pub peer-connected :
     risingOk groups ≡ true →
     1 ≤ groups .first →
     flags ≤ 3 →
-    version ≤ 1 →
+    version ≤ 2 →
     PeerFacts clock (connectedAs p id groups flags version)
 unfolding connectedAs
 peer-connected clock p f id groups flags version i j g o l v =

@@ -83,7 +83,7 @@ module _ (st : State) (held : List ℕ)
       ∙ ap (λ (n : ℕ). 1 - n) (sym (at-word held s)))
 
   pub peers-told :
-      (used : ℕ) (connected retained explicit outbound version high : List ℕ) (x0 x1 x2 x3 x4 x5 : ℕ) →
+      (used : ℕ) (connected retained explicit outbound version high : List ℕ) (x0 x1 x2 x3 x4 x5 x6 : ℕ) →
       ((s : ℕ) → s < slotCount → bitAt connected 0 s ≡ peerIn st s .status % 2) →
       ((s : ℕ) → s < slotCount → bitAt retained 0 s ≡ peerIn st s .status / 2) →
       ((s : ℕ) → s < slotCount → bitAt explicit 0 s ≡ peerIn st s .explicit) →
@@ -91,29 +91,33 @@ module _ (st : State) (held : List ℕ)
       ((s : ℕ) → s < slotCount → bitAt version 0 s ≡ peerIn st s .version % 2) →
       ((s : ℕ) → s < slotCount → bitAt high 0 s ≡ peerIn st s .version / 2) →
       (x0 ≡ 0 → (s : ℕ) → s < slotCount → bitAt connected 0 s ≡ 1 → bitAt retained 0 s ≡ 0) →
-      (x1 ≡ 0 → (s : ℕ) → s < slotCount → bitAt high 0 s ≡ 0) →
+      (x1 ≡ 0 → (s : ℕ) → s < slotCount → bitAt version 0 s ≡ 1 → bitAt high 0 s ≡ 0) →
       (x2 ≡ 0 → (s : ℕ) → s < slotCount → bitAt explicit 0 s ≡ 1 → bitAt held 0 s ≡ 1) →
       (x3 ≡ 0 → (s : ℕ) → s < slotCount → bitAt outbound 0 s ≡ 1 → bitAt held 0 s ≡ 1) →
       (x4 ≡ 0 → (s : ℕ) → s < slotCount → bitAt version 0 s ≡ 1 → bitAt held 0 s ≡ 1) →
-      (x5 ≡ 0 → (s : ℕ) → s < slotCount → used ≤ s → bitAt held 0 s ≡ 0) →
-      eqb (bitOr (bitOr (bitOr (bitOr (bitOr x0 x1) x2) x3) x4) x5) 0 ≡ true →
+      (x5 ≡ 0 → (s : ℕ) → s < slotCount → bitAt high 0 s ≡ 1 → bitAt held 0 s ≡ 1) →
+      (x6 ≡ 0 → (s : ℕ) → s < slotCount → used ≤ s → bitAt held 0 s ≡ 0) →
+      eqb (bitOr (bitOr (bitOr (bitOr (bitOr (bitOr x0 x1) x2) x3) x4) x5) x6) 0 ≡ true →
       PeerFlags st used
-  peers-told used connected retained explicit outbound version high x0 x1 x2 x3 x4 x5 bc br be bo bv bg t0 t1 t2 t3 t4 t5 e =
-      let z5 = or-none (bitOr (bitOr (bitOr (bitOr x0 x1) x2) x3) x4) x5 (eqb-true _ 0 e) in
+  peers-told used connected retained explicit outbound version high x0 x1 x2 x3 x4 x5 x6 bc br be bo bv bg t0 t1 t2 t3 t4 t5 t6 e =
+      let z6 = or-none (bitOr (bitOr (bitOr (bitOr (bitOr x0 x1) x2) x3) x4) x5) x6 (eqb-true _ 0 e) in
+      let z5 = or-none (bitOr (bitOr (bitOr (bitOr x0 x1) x2) x3) x4) x5 (z6 .0) in
       let z4 = or-none (bitOr (bitOr (bitOr x0 x1) x2) x3) x4 (z5 .0) in
       let z3 = or-none (bitOr (bitOr x0 x1) x2) x3 (z4 .0) in
       let z2 = or-none (bitOr x0 x1) x2 (z3 .0) in
       let z1 = or-none x0 x1 (z2 .0) in
-      let high-none : (s : ℕ) → s < slotCount → peerIn st s .version / 2 ≡ 0 = λ s h. sym (bg s h) ∙ t1 (z1 .1) s h in
       record {
         status = λ s h.
             not-three (peerIn st s .status) (let l = bit-le retained s in omega (arith, br s h)) (λ o.
             sym (br s h) ∙ t0 (z1 .0) s h (bc s h ∙ o));
-        version = λ s h. omega (arith, high-none s h);
+        version = λ s h.
+            not-three (peerIn st s .version) (let l = bit-le high s in omega (arith, bg s h)) (λ o.
+            sym (bg s h) ∙ t1 (z1 .1) s h (bv s h ∙ o));
         no-explicit = λ s h n. sym (be s h) ∙ flag-none explicit (t2 (z2 .1)) s h n;
         no-outbound = λ s h n. sym (bo s h) ∙ flag-none outbound (t3 (z3 .1)) s h n;
-        no-version = λ s h n. omega (arith, high-none s h, sym (bv s h) ∙ flag-none version (t4 (z4 .1)) s h n);
-        rest = λ s l h. unheld-empty s h (t5 (z5 .1) s h l);
+        no-version = λ s h n.
+            omega (arith, sym (bv s h) ∙ flag-none version (t4 (z4 .1)) s h n, sym (bg s h) ∙ flag-none high (t5 (z5 .1)) s h n);
+        rest = λ s l h. unheld-empty s h (t6 (z6 .1) s h l);
       }
 
 -- ---- a topic's flags

@@ -13,7 +13,7 @@ pub record FreeSlots (st : State) (w : List ℕ) : Type 0 where
 -- the flags of the peers: an empty record has none, and from slot n on all are empty
 pub record PeerFlags (st : State) (n : ℕ) : Type 0 where
   pub status : (s : ℕ) → s < slotCount → peerIn st s .status ≤ 2
-  pub version : (s : ℕ) → s < slotCount → peerIn st s .version ≤ 1
+  pub version : (s : ℕ) → s < slotCount → peerIn st s .version ≤ 2
   pub no-explicit : (s : ℕ) → s < slotCount → peerIn st s .status ≡ 0 → peerIn st s .explicit ≡ 0
   pub no-outbound : (s : ℕ) → s < slotCount → peerIn st s .status ≡ 0 → peerIn st s .outbound ≡ 0
   pub no-version : (s : ℕ) → s < slotCount → peerIn st s .status ≡ 0 → peerIn st s .version ≡ 0

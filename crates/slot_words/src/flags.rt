@@ -52,10 +52,11 @@ pub fn peer_flags(table: &[u64], used: u64) -> bool
     let high = layout::load_version_high(table);
     let held = held(table);
     (word::common(&connected, &retained)
-        | word::any(&high)
+        | word::common(&version, &high)
         | word::outside(&explicit, &held)
         | word::outside(&outbound, &held)
         | word::outside(&version, &held)
+        | word::outside(&high, &held)
         | layout::past(&held, 0, used))
         == 0
 }

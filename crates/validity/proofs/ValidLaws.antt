@@ -30,7 +30,7 @@ pub record PeerFacts (clock : ℕ) (p : Peer) : Type 0 where
   pub groups : risingOk (p .groups) ≡ true
   pub outbound : p .outbound ≤ 1
   pub explicit : p .explicit ≤ 1
-  pub version : p .version ≤ 1
+  pub version : p .version ≤ 2
   pub p5 : p .p5 ≤ 2000000000
   pub p7 : p .p7 ≤ 1000000
   pub retain : p .retain ≤ maxRetain clock
@@ -64,7 +64,7 @@ peer-facts clock p e =
       groups = r .2;
       outbound = leb-true (p .outbound) 1 (r .3);
       explicit = leb-true (p .explicit) 1 (r .4);
-      version = leb-true (p .version) 1 (r .5);
+      version = leb-true (p .version) 2 (r .5);
       p5 = leb-true (p .p5) 2000000000 (r .6);
       p7 = leb-true (p .p7) 1000000 (r .7);
       retain = leb-true (p .retain) (maxRetain clock) (r .8);
@@ -91,7 +91,7 @@ peer-holds clock p f =
       f .groups,
       le-leb (p .outbound) 1 (f .outbound),
       le-leb (p .explicit) 1 (f .explicit),
-      le-leb (p .version) 1 (f .version),
+      le-leb (p .version) 2 (f .version),
       le-leb (p .p5) 2000000000 (f .p5),
       le-leb (p .p7) 1000000 (f .p7),
       le-leb (p .retain) (maxRetain clock) (f .retain),

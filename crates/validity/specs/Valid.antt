@@ -45,7 +45,8 @@ risingOk g =
     && follows (g .second) (g .third)
     && follows (g .third) (g .fourth)
 
--- "every number is in its range": P5 is the code of a number up to 10^9 either way, so at most 2 * 10^9; "P4 and P7 stop at 10^6"
+-- "every number is in its range": three versions have a name (01, and 02, order 6); P5 is the code of a number up to 10^9 either way, so at
+-- most 2 * 10^9; "P4 and P7 stop at 10^6"
 unfoldable pub peerRanges : (clock : ℕ) → Peer → Bool
 peerRanges clock p =
     leb (p .status) 2
@@ -53,7 +54,7 @@ peerRanges clock p =
     && risingOk (p .groups)
     && leb (p .outbound) 1
     && leb (p .explicit) 1
-    && leb (p .version) 1
+    && leb (p .version) 2
     && leb (p .p5) 2000000000
     && leb (p .p7) 1000000
     && leb (p .retain) (maxRetain clock)

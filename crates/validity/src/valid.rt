@@ -72,7 +72,7 @@ fn peer_ranges(clock: u64, p: Peer) -> bool
         & rising
         & (p.outbound <= 1)
         & (p.explicit <= 1)
-        & (p.version <= 1)
+        & (p.version <= 2)
         & (p.p5 <= 2000000000)
         & (p.p7 <= 1000000)
         & (p.retain <= most)

@@ -36,7 +36,7 @@ fn plain_peer(peer: &Peer) -> plain::Peer {
         },
         outbound: peer.outbound,
         explicit: peer.explicit,
-        v11: peer.version == Version::V11,
+        v11: peer.version != Version::V10,
         retain_end: peer.retain_end,
         backoff_ends: peer.backoff_ends,
         topics: plain_topics(&peer.topics),

@@ -48,7 +48,7 @@ pub struct Peer {
     pub group_count: u8,
     pub outbound: bool,
     pub explicit: bool,
-    /// Speaks /meshsub/1.1.0 and not /meshsub/1.0.0.
+    /// Speaks /meshsub/1.1.0 or /meshsub/1.2.0, and not /meshsub/1.0.0.
     pub v11: bool,
     pub retain_end: u64,
     pub backoff_ends: [u64; TOPICS],

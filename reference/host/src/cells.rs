@@ -126,6 +126,7 @@ fn write_bits(peer: &Peer, slot: usize, cells: &mut Cells) {
     set_bit(cells, EXPLICIT, slot, peer.explicit);
     set_bit(cells, OUTBOUND, slot, peer.outbound);
     set_bit(cells, VERSION, slot, peer.version == Version::V11);
+    set_bit(cells, VERSION_HIGH, slot, peer.version == Version::V12);
     for (topic, record) in peer.topics.iter().enumerate() {
         set_bit(cells, subscribed_word(topic), slot, record.subscribed);
         set_bit(cells, member_word(topic), slot, record.member);
@@ -179,7 +180,8 @@ fn read_peer(cells: &Cells, slot: usize) -> Option<Peer> {
         version: match (bit(cells, VERSION, slot), bit(cells, VERSION_HIGH, slot)) {
             (false, false) => Version::V10,
             (true, false) => Version::V11,
-            _ => return None,
+            (false, true) => Version::V12,
+            (true, true) => return None,
         },
         p5: signed_from_code(p5_p7 % P7_LANE),
         p7: (p5_p7 / P7_LANE) as i64,

@@ -7,7 +7,9 @@ use reference::event::{GROUPS, LAST_TIME, P5_LIMIT, SLOTS};
 use reference::params::{
     field_at, general, topic, topic_index, Edition, Params, COUNT, FIRST_RULE, TOPICS,
 };
-use reference::router::{Router, Status, TopicRecord, LONGEST_BACKOFF_MS, LONGEST_RETAIN_MS};
+use reference::router::{
+    Router, Status, TopicRecord, Version, LONGEST_BACKOFF_MS, LONGEST_RETAIN_MS,
+};
 
 /// Cells of a table, and what is put there.
 pub struct Change {
@@ -111,7 +113,7 @@ const OTHERS: [&str; 55] = [
     "groups: out of order",
     "groups: the last below the one before it",
     "explicit: a member",
-    "version: its higher bit",
+    "version: both bits",
     "P5: under -10^9",
     "P5: over 10^9",
     "P5: its lane full",
@@ -165,7 +167,7 @@ pub fn alone() -> impl Iterator<Item = usize> {
         Spot::Kept | Spot::Between => false,
         spot => !spot.is_word(),
     };
-    let words = [CONNECTED, RETAINED, VERSION_HIGH];
+    let words = [CONNECTED, RETAINED];
     let bits = words.into_iter().flat_map(|word| (0..SLOTS).map(move |slot| bit_place(word, slot)));
     (0..CELLS).filter(is_number).chain(bits)
 }
@@ -374,7 +376,12 @@ impl Damages<'_> {
         self.status(slot);
         self.id(slot);
         self.groups(slot);
-        self.turn("version: its higher bit", slot, &[VERSION_HIGH]);
+        let unset: &[usize] = match peer.version {
+            Version::V10 => &[VERSION, VERSION_HIGH],
+            Version::V11 => &[VERSION_HIGH],
+            Version::V12 => &[VERSION],
+        };
+        self.turn("version: both bits", slot, unset);
         let cell = P5_P7 + slot;
         self.add("P5: under -10^9", &[(cell, p5_p7(-P5_LIMIT - 1, peer.p7))]);
         self.add("P5: over 10^9", &[(cell, p5_p7(P5_LIMIT + 1, peer.p7))]);

@@ -100,7 +100,7 @@ fn peer(router: &Router, id: u32, groups: u64, retained: usize, random: &mut Ran
         groups: groups_of(groups, random),
         outbound: random.chance(1, 2),
         explicit: random.chance(1, 8),
-        version: *random.pick(&[Version::V10, Version::V11]),
+        version: *random.pick(&[Version::V10, Version::V11, Version::V12]),
         p5: p5(random),
         p7: counter(P4_P7_LIMIT, random),
         retain_end: if retained { end(router.clock, LONGEST_RETAIN_MS, random) } else { 0 },

@@ -147,7 +147,7 @@ pub fn thirteen(router: &Router, random: &mut Random) -> Vec<Request> {
     let topic = if joined.is_empty() { 0 } else { *random.pick(&joined) };
     let mut permutation = by_slot();
     random.shuffle(&mut permutation[..]);
-    let name = random.pick(&[b"/meshsub/1.0.0", b"/meshsub/1.1.0"]).to_vec();
+    let name = random.pick(&[b"/meshsub/1.0.0", b"/meshsub/1.1.0", b"/meshsub/1.2.0"]).to_vec();
     let new = new_id(router, random);
     let (kind, ask) = (1 + random.below(3) as u64, random.below(2) as u64);
     let calls = [

@@ -92,7 +92,8 @@ fn read_peer(rows: &Rows, slot: usize) -> Option<Peer> {
         groups,
         outbound: flag(row[peer::OUTBOUND])?,
         explicit: flag(row[peer::EXPLICIT])?,
-        version: if flag(row[peer::VERSION])? { Version::V11 } else { Version::V10 },
+        version: *[Version::V10, Version::V11, Version::V12]
+            .get(usize::try_from(row[peer::VERSION]).ok()?)?,
         p5: signed_from_code(row[peer::P5]),
         p7: i64::try_from(row[peer::P7]).ok()?,
         retain_end: row[peer::RETAIN_END],

@@ -4,7 +4,7 @@
 use host_compare::cells::{self, bit, set_bit, Cells, CELLS, CLOCK, CONNECTED, ID, JOINED, USED};
 use host_compare::cells::{end_cell, graft_cell, group_place, member_word, mesh_cell, number_cell};
 use host_compare::cells::{subscribed_word, EXPLICIT, P5_P7, P7_LANE, RETAINED, RETAIN_END};
-use host_compare::cells::{STRIDE, VERSION_HIGH};
+use host_compare::cells::{STRIDE, VERSION, VERSION_HIGH};
 use host_compare::counts::Counts;
 use host_compare::library::{packed, Library, Numbers, Why};
 use host_compare::request::Request;
@@ -694,6 +694,14 @@ fn a_test_12_that_misses_something_is_seen() {
             })),
         ),
         ("the version's higher bit", blind_to!(|table| table[VERSION_HIGH..ID].fill(0))),
+        (
+            "both bits of a version",
+            blind_to!(|table| each_slot(table, |t, slot| {
+                if bit(t, VERSION, slot) {
+                    set_bit(t, VERSION_HIGH, slot, false);
+                }
+            })),
+        ),
         ("bits past the mark", blind_to!(clear_past_mark)),
         (
             "bits past the mark, of the last topic's members",

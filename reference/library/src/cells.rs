@@ -35,7 +35,7 @@ pub const CONNECTED: usize = 176;
 pub const RETAINED: usize = CONNECTED + WORD;
 pub const EXPLICIT: usize = RETAINED + WORD;
 pub const OUTBOUND: usize = EXPLICIT + WORD;
-/// 0 is /meshsub/1.0.0, 1 /meshsub/1.1.0; a second word has the higher bit.
+/// 0 is /meshsub/1.0.0, 1 /meshsub/1.1.0, 2 /meshsub/1.2.0; a second word has the higher bit.
 pub const VERSION: usize = OUTBOUND + WORD;
 pub const VERSION_HIGH: usize = VERSION + WORD;
 pub const ID: usize = VERSION_HIGH + WORD;

@@ -7,7 +7,7 @@ use std::cmp::Reverse;
 
 /// The cases that every run reaches. Each is counted once a heartbeat. Those of
 /// edition 2 stand apart.
-pub const CASES: [&str; 38] = [
+pub const CASES: [&str; 39] = [
     "ask over 1",
     "permutation: a slot twice",
     "permutation: a number past the slots",
@@ -37,6 +37,7 @@ pub const CASES: [&str; 38] = [
     "asked: median at or over the threshold",
     "asked: median at the threshold",
     "nothing to do",
+    super::TOLD,
     "step 2 goes without one for its slack alone",
     "step 4 goes without one for its slack alone",
     "step 5 goes without one for its slack alone",
@@ -175,6 +176,7 @@ impl Seen<'_> {
         ];
         let mut facts = steps.concat();
         facts.push(("nothing to do", self.pruned() + grafted_by(&self.plan).len() == 0));
+        facts.push((super::TOLD, self.tells_newest()));
         facts
     }
 
@@ -188,6 +190,11 @@ impl Seen<'_> {
 
     fn pruned(&self) -> usize {
         self.plan.negative.len() + self.plan.surplus.len()
+    }
+
+    fn tells_newest(&self) -> bool {
+        let mut pruned = self.plan.negative.iter().chain(&self.plan.surplus);
+        pruned.any(|&slot| super::is_newest(self.router, slot))
     }
 
     /// The mesh that step 3 sees when it acts, since step 2 then did not.

@@ -8,7 +8,7 @@ use crate::router::{Answer, Router, Status, ACTION_LIST, GRAFT_SLACK};
 use crate::trace::{self, TraceEdition};
 use std::collections::VecDeque;
 
-const NAMES: [&[u8]; 2] = [b"/meshsub/1.0.0", b"/meshsub/1.1.0"];
+const NAMES: [&[u8]; 3] = [b"/meshsub/1.0.0", b"/meshsub/1.1.0", b"/meshsub/1.2.0"];
 
 /// The ends of the ranges of ids, groups, topics, flags, kinds, asks, times and
 /// (as codes) P5, and the numbers one past them.
@@ -242,7 +242,7 @@ impl Caller {
         let mut name = self.random.pick(&NAMES).to_vec();
         if self.random.chance(1, 30) {
             match self.random.below(6) {
-                0 => name = b"/meshsub/1.2.0".to_vec(),
+                0 => name = b"/meshsub/1.3.0".to_vec(),
                 1 => name.truncate(self.random.below(14)),
                 2 => name.push(0),
                 3 => name[self.random.below(14)] ^= 1 << self.random.below(8),

@@ -1,6 +1,6 @@
 //! 01, "Connect" and "Disconnect", "Join / leave".
 
-use super::{refuse_if, Actions, Landed, Peer, Refusal, Router, Status, Version};
+use super::{refuse_if, Actions, Peer, Refusal, Router, Status, Version};
 use crate::event::{EXPLICIT_FLAG, OUTBOUND_FLAG};
 use crate::params::{general, TOPICS};
 
@@ -14,11 +14,11 @@ pub enum Place {
 
 /// 01: "protocol name exactly /meshsub/1.0.0 or /meshsub/1.1.0"; order 6 of 02: "Accept
 /// /meshsub/1.2.0".
-fn version_of(name: &[u8], landed: Landed) -> Result<Version, Refusal> {
+fn version_of(name: &[u8]) -> Result<Version, Refusal> {
     match name {
         b"/meshsub/1.0.0" => Ok(Version::V10),
         b"/meshsub/1.1.0" => Ok(Version::V11),
-        b"/meshsub/1.2.0" if landed.version_12 => Ok(Version::V12),
+        b"/meshsub/1.2.0" => Ok(Version::V12),
         _ => Err(Refusal::UnknownProtocol),
     }
 }
@@ -32,7 +32,7 @@ impl Router {
         flags: u64,
         name: &[u8],
     ) -> Result<(), Refusal> {
-        let version = version_of(name, self.landed)?;
+        let version = version_of(name)?;
         refuse_if(self.connected(id).is_ok(), Refusal::AlreadyConnected)?;
         let place = self.place_for(id, now).ok_or(Refusal::NoSlot)?;
         self.reclaim(now);

@@ -217,7 +217,7 @@ impl Router {
             return peer.is_zero();
         }
         peer.in_ranges()
-            && (peer.ends_near(self.clock) || !self.landed.ends_from_clock)
+            && peer.ends_near(self.clock)
             && peer.notices_are_valid(self.set_up.notice_limit)
             && (0..TOPICS).all(|k| self.is_valid_topic(peer, k))
     }

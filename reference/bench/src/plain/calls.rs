@@ -36,7 +36,7 @@ impl Router {
         self.admit(is_id(id) && are_groups(groups) && flags <= 3, now, list)?;
         let v11 = match name {
             b"/meshsub/1.0.0" => false,
-            b"/meshsub/1.1.0" => true,
+            b"/meshsub/1.1.0" | b"/meshsub/1.2.0" => true,
             _ => return Err(Refusal::UnknownProtocol),
         };
         let found = self.find_for(id as u32, now)?;

@@ -28,8 +28,8 @@ held-requires c κs = search needs
 common-requires : tie.Need-common-requires
 common-requires c κs = search needs
 
-any-requires : tie.Need-any-requires
-any-requires c κs = search needs
+common-requires-2 : tie.Need-common-requires-2
+common-requires-2 c κs = search needs
 
 outside-requires : tie.Need-outside-requires
 outside-requires c κs = search needs
@@ -39,6 +39,9 @@ outside-requires-2 c κs = search needs
 
 outside-requires-3 : tie.Need-outside-requires-3
 outside-requires-3 c κs = search needs
+
+outside-requires-4 : tie.Need-outside-requires-4
+outside-requires-4 c κs = search needs
 
 slice-aggregate-past : tie.Need-slice-aggregate-past
 slice-aggregate-past c = search needs
@@ -52,13 +55,14 @@ returns c =
     let n = m .before .before .before .before .before in
     let o = n .before .before .before .before .before in
     let p = o .before .before .before .before .before in
-    peers-told _ _ (o .before .held .ensures .1) _ _ _ _ _ _ _ _ _ _ _ _ _ (p .before .before .load-connected .ensures .1)
-    (p .before .load-retained .ensures .1)
-    (p .load-explicit .ensures .1) (o .before .before .before .before .load-outbound .ensures .1)
-    (o .before .before .before .load-version .ensures .1)
-    (o .before .before .load-version-high .ensures .1) (n .before .before .before .common .ensures) (n .before .any .ensures)
-    (m .before .before .before .outside .ensures)
-    (m .outside2 .ensures) (c .before .before .outside3 .ensures) (c .past .ensures)
+    let q = p .before .before .before .before .before in
+    peers-told _ _ (p .held .ensures .1) _ _ _ _ _ _ _ _ _ _ _ _ _ _ (q .before .load-connected .ensures .1)
+    (q .load-retained .ensures .1)
+    (p .before .before .before .before .load-explicit .ensures .1) (p .before .before .before .load-outbound .ensures .1)
+    (p .before .before .load-version .ensures .1)
+    (p .before .load-version-high .ensures .1) (o .before .before .common .ensures) (n .before .before .before .before .common2 .ensures)
+    (n .before .outside .ensures) (m .before .before .before .outside2 .ensures)
+    (m .outside3 .ensures) (c .before .before .outside4 .ensures) (c .past .ensures)
 
 pub peer-flags-spec : {M : Type 1} → statement M
 peer-flags-spec =
@@ -72,10 +76,11 @@ peer-flags-spec =
     load-version-high-requires
     held-requires
     common-requires
-    any-requires
+    common-requires-2
     outside-requires
     outside-requires-2
     outside-requires-3
+    outside-requires-4
     slice-aggregate-past
     past-requires
     returns)
