@@ -24,7 +24,7 @@ const REPLIED: usize = 6;
 /// What a list begins with.
 #[derive(Clone)]
 pub enum Begin {
-    Origin(Origin),
+    Origin(Box<Origin>),
     Made(Box<Router>),
 }
 
@@ -61,7 +61,7 @@ pub fn compare<L: Gossiping>(
     for _ in 0..lists {
         list(library, calls, Random::new(random.bits()), reached)?;
     }
-    let fresh = Begin::Origin(script::fresh());
+    let fresh = Begin::Origin(Box::new(script::fresh()));
     scripted(library, fresh.clone(), script::crowd(), reached)?;
     scripted(library, fresh, script::lengths(), reached)?;
     let full = Begin::Made(Box::new(script::full(REPLIED)));
@@ -90,7 +90,7 @@ fn list<L: Gossiping>(
     let mut beside = Random::new(random.bits());
     let start = Origin::of(&mut random);
     reached.count_list(start.name(), start.save.is_some());
-    let mut told = Told { begin: Begin::Origin(start.clone()), asked: Vec::new() };
+    let mut told = Told { begin: Begin::Origin(Box::new(start.clone())), asked: Vec::new() };
     let (mut sides, _) =
         starts::begun(library, &start).map_err(|difference| told.failure(difference, None))?;
     let mut trial = Sides::unmade(library);
@@ -165,6 +165,6 @@ pub fn replay<L: Gossiping>(library: &L, begin: &Begin, asked: &[Asked]) -> Opti
         Ok(begun) => begun,
         Err(difference) => return Some(difference),
     };
-    let mut make = |asked| sides.make(&mut router, asked).and_then(|_| sides.judges_as(true)).err();
-    asked.iter().find_map(|asked| make(asked))
+    let make = |asked| sides.make(&mut router, asked).and_then(|_| sides.judges_as(true)).err();
+    asked.iter().find_map(make)
 }
