@@ -178,3 +178,71 @@ fn read_replies(gossip: &Gossip, stores: &[Store; TOPICS]) -> Option<BTreeMap<(u
 fn read_reply(gossip: &Gossip, row: usize, slot: usize) -> u64 {
     gossip[reply_cell(row, slot)] >> reply_shift(slot) & ((1 << LANE_BITS) - 1)
 }
+
+#[cfg(test)]
+mod tests {
+    use super::*;
+    use crate::gossip::script;
+    use reference::gossip::NUMBER_LIST;
+    use reference::mixed::Origin;
+    use reference::random::Random;
+    use reference::router::ACTION_LIST;
+
+    #[test]
+    fn regions_begin_where_the_crate_gossip_table_says() {
+        assert_eq!((NOTES, STORES, REPLIES, GOSSIP_CELLS), (8, 8712, 11_312, 82_993));
+        assert_eq!((set_cell(0), set_cell(1), ages_cell(0)), (264, 297, 296));
+        assert_eq!((window_cell(1, 2), numbers_cell(1, 2)), (8719, 9200));
+        assert_eq!((row_cell(1), reply_cell(0, 10), reply_shift(19)), (11_341, 11_316, 54));
+    }
+
+    fn noise(number: u64) -> Box<Gossip> {
+        vec![number; GOSSIP_CELLS].try_into().expect("an array has its cells")
+    }
+
+    /// Over any noise what was written is read, and the state reads nothing else.
+    fn undoes(router: &Router) {
+        let due = Held::of(router);
+        for number in [0, 1, u64::MAX] {
+            let mut gossip = noise(number);
+            due.write(&mut gossip);
+            assert_eq!(Held::read(&gossip).as_ref(), Some(&due));
+            let mut other = router.clone();
+            Held::read(&gossip).expect("in form").put_into(&mut other);
+            assert_eq!(Held::of(&other), due);
+        }
+    }
+
+    #[test]
+    fn reading_undoes_writing() {
+        undoes(&script::members());
+        undoes(&script::full(3));
+        let mut random = Random::new(5);
+        for _ in 0..20 {
+            let origin = Origin::of(&mut random);
+            let mut caller = origin.caller(300, Random::new(random.bits()));
+            for _ in 0..300 {
+                let event = caller.next_event();
+                let mut numbers = [0; NUMBER_LIST];
+                event.make(caller.router(), &mut [0; ACTION_LIST], &mut numbers);
+            }
+            undoes(caller.router());
+        }
+    }
+
+    #[test]
+    fn what_is_not_in_form_is_none() {
+        let mut gossip = noise(0);
+        Held::of(&script::full(3)).write(&mut gossip);
+        let refused = |cell: usize, value: u64| {
+            let mut gossip = gossip.clone();
+            gossip[cell] = value;
+            Held::read(&gossip).is_none()
+        };
+        assert!(refused(set_cell(4), u64::MAX), "a set that falls");
+        assert!(refused(REPLIES, ROWS as u64 + 1), "too many rows");
+        assert!(refused(row_cell(0), u64::MAX), "rows that fall");
+        assert!(!refused(row_cell(0) + HINT, u64::MAX), "no state reads a hint");
+        assert!(!refused(counts_cell(4), 40 * LENGTH_LANE), "too long is for test 12");
+    }
+}
