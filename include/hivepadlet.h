@@ -14,7 +14,8 @@
  *     uint64_t r = hivepadlet_join(table, time, 0, actions, HIVEPADLET_ACTION_NUMBERS);
  *     if (hivepadlet_number(r) == HIVEPADLET_DONE) ...
  *
- * examples/three_hubs.c is a whole host; examples/power_cycle.c keeps what it remembers over a loss of power.
+ * examples/three_hubs.c is a whole host; examples/power_cycle.c keeps what it remembers over a loss of power;
+ * examples/large_message.c and examples/gossip_news.c send IDONTWANT, IHAVE and IWANT.
  *
  * WHAT EVERY CALL PROMISES
  *
@@ -96,6 +97,9 @@ extern "C" {
 #define HIVEPADLET_PARAMETER_BYTES 737  /* bytes that written parameters may take (edition 1: 735) */
 #define HIVEPADLET_SUPPLIER_BYTES 1323  /* bytes of the other supplier's parameters */
 #define HIVEPADLET_SAVE_BYTES 43267     /* the longest save: 3 bytes, and 169 for each of 256 records */
+#define HIVEPADLET_GOSSIP_CELLS 82993   /* numbers of the array of IDONTWANT, IHAVE and IWANT */
+#define HIVEPADLET_SETUP_NUMBERS 5      /* set-up numbers beside the parameters */
+#define HIVEPADLET_MESSAGE_NUMBERS 192  /* numbers of a list of message numbers */
 #define HIVEPADLET_SLOTS 256            /* peers that a router holds, and numbers of a permutation */
 #define HIVEPADLET_TOPICS 8
 #define HIVEPADLET_GROUPS 4             /* address groups that a peer may have */
@@ -130,15 +134,16 @@ enum hivepadlet_answer {
                                          bytes, of reading a message the number of entries */
     HIVEPADLET_EARLY = 1,             /* the time is before the router's clock */
     HIVEPADLET_OUT_OF_RANGE = 2,      /* time, id, group, flags, topic, kind, ask or P5 outside its range; groups that are none,
-                                         more than four, repeated or not in order; an edition other than 1 and 2; topic names
-                                         that cannot be, or a list that is no message's */
+                                         more than four, repeated or not in order; an edition other than 1 and 2; a set-up
+                                         number outside its range; an IHAVE of more than 192 numbers; topic names that cannot
+                                         be, or a list that is no message's */
     HIVEPADLET_NOT_CONNECTED = 3,     /* no connected peer has the id */
     HIVEPADLET_ALREADY_CONNECTED = 4, /* connect of a connected id */
     HIVEPADLET_NO_SLOT = 5,           /* all 256 slots are taken, and none can be reclaimed yet */
     HIVEPADLET_UNKNOWN_PROTOCOL = 6,  /* the protocol name is none of the three */
     HIVEPADLET_NOT_PERMUTATION = 7,   /* not each of 0 to 255 once */
-    HIVEPADLET_LIST_SHORT = 8,        /* action list under 768 numbers; list of entries under 24,576; in writing parameters,
-                                         buffer under 735 bytes, or 737 for edition 2 */
+    HIVEPADLET_LIST_SHORT = 8,        /* action list under 768 numbers; list of message numbers under 192; list of entries under
+                                         24,576; in writing parameters, buffer under 735 bytes, or 737 for edition 2 */
     HIVEPADLET_BROKEN = 9,            /* a parameter outside its limits, or a broken entry of the other supplier's: its index; or
                                          a joint rule broken: 200 + the rule. Of a save: the place where the edition, the count or
                                          the first number outside its range begins */
@@ -149,9 +154,11 @@ enum hivepadlet_answer {
                                          field begins, the first from the front; 16384 where it is longer */
     HIVEPADLET_IGNORED = 11,          /* ignored: only the clock moved. In the place of an entry's topic: no topic of ours, and no
                                          clock */
-    HIVEPADLET_NOT_ROUTER = 12,       /* the table is no router's: damaged, or never made by a call */
+    HIVEPADLET_NOT_ROUTER = 12,       /* the table (with its array, where a call is handed one) is no router's: damaged, or never
+                                         made by a call */
     HIVEPADLET_NO_ROOM = 13           /* in writing a message, a buffer shorter than it; in exporting parameters, one under 1323
-                                         bytes; in saving, one shorter than the save */
+                                         bytes; in saving, one shorter than the save; in storing a message number, 64 of this
+                                         heartbeat are stored */
 };
 
 static inline unsigned hivepadlet_number(uint64_t r)
@@ -168,7 +175,10 @@ static inline uint32_t hivepadlet_value(uint64_t r)
 
 enum hivepadlet_action {
     HIVEPADLET_GRAFT = 1,
-    HIVEPADLET_PRUNE = 2
+    HIVEPADLET_PRUNE = 2,
+    HIVEPADLET_IDONTWANT = 3, /* these three by the calls with a second array alone; their third number is 0 */
+    HIVEPADLET_RELAY = 4,     /* the message itself */
+    HIVEPADLET_IHAVE = 5
 };
 
 static inline uint32_t hivepadlet_action_kind(const uint32_t *actions, size_t i)
@@ -211,7 +221,7 @@ enum hivepadlet_general {
     HIVEPADLET_RETAIN = 7,                   /* 0..86400 seconds for which the record of a disconnected peer is kept */
     HIVEPADLET_OPPORTUNISTIC_THRESHOLD = 8,  /* 0..10^6 */
     HIVEPADLET_GRAYLIST_THRESHOLD = 9,       /* -10^9..-1: below it a peer is not heard */
-    HIVEPADLET_GOSSIP_THRESHOLD = 10,        /* -10^9..-1: for the host's own use */
+    HIVEPADLET_GOSSIP_THRESHOLD = 10,        /* -10^9..-1: below it a peer gets no IHAVE, and its IHAVE and IWANT are ignored */
     HIVEPADLET_PUBLISH_THRESHOLD = 11,       /* -10^9..-1: for the host's own use */
     HIVEPADLET_TOPIC_CAP = 12,               /* 0..10^9: most that all topics together add to a score; 0 is none */
     HIVEPADLET_W5 = 13,                      /* 1..100: weight of P5, application-specific score */
@@ -409,6 +419,132 @@ enum hivepadlet_delivery {
 /* A message came in from a peer. 0, or 11 also where the topic is not joined. */
 uint64_t hivepadlet_deliver(uint64_t table[HIVEPADLET_CELLS], uint64_t time, uint64_t id, uint64_t topic, uint64_t kind,
                             uint32_t *actions, size_t actions_length);
+
+/* ---- IDONTWANT, IHAVE and IWANT: version 1.2 notices, and gossip to peers outside the mesh
+ *
+ * A router that takes part in these has a second array beside its table, HIVEPADLET_GOSSIP_CELLS numbers of 64 bits (663,944
+ * bytes, of which a quiet router touches a few; it may lie in slower memory). It holds the numbers that each peer told us not to
+ * send (at most 32), the message numbers of the last five heartbeats of each topic (at most 64 a heartbeat), and how often each
+ * peer was sent each of them. Such a router is made by hivepadlet_gossip_fresh or hivepadlet_gossip_load, and three calls are
+ * made by their forms below, which are handed both: hivepadlet_gossip_connect, _disconnect and _leave. The other ten calls change
+ * nothing there and stay as they are. A host without gossip needs none of this.
+ *
+ * A message is a number of 64 bits here, any number, one for each message: a hash of its id, or a count of yours. The router never
+ * sees the message; keep those of the last five heartbeats, to answer IWANT, and a list of what you have seen.
+ *
+ * What a host does:
+ *
+ *     a message comes in (or is ours: sender 0), not seen before, in a topic that we joined:
+ *         if it is large:  r = hivepadlet_send_idontwant(table, gossip, time, topic, sender, number, ...);
+ *                          send IDONTWANT with its id to each peer of the actions (kind 3)
+ *         r = hivepadlet_relay(table, gossip, time, topic, sender, number, ...);
+ *                          send the message to each peer of the actions (kind 4)
+ *         hivepadlet_store(table, gossip, time, topic, number, ...);
+ *     IDONTWANT comes in, for each id:  hivepadlet_idontwant(table, gossip, time, id, number, ...);
+ *     once a second:
+ *         hivepadlet_beat(table, gossip, time, ...);
+ *         for each joined topic:  r = hivepadlet_announce(table, gossip, time, topic, permutation, ..., numbers, ...);
+ *                          send IHAVE with these numbers' ids to each peer of the actions (kind 5)
+ *     IHAVE comes in:      r = hivepadlet_ihave(table, gossip, time, id, topic, given, ..., numbers, ...);
+ *                          send IWANT for these numbers, without those that are seen or asked for already
+ *     IWANT comes in, for each id:  if hivepadlet_iwant(table, gossip, time, id, number, ...) answers 0, send the message
+ *
+ * These calls make their tests in the order 12, 2, 8, 1, 7, 3, 11, 13, those that can concern them; none of them changes a mesh, a
+ * score or a backoff. The actions' third number is 0. What comes back: the answer's number, then how many actions were written
+ * (hivepadlet_actions), then how many numbers (hivepadlet_numbers). */
+
+/* how many actions, and how many message numbers, a call below has written */
+static inline uint32_t hivepadlet_actions(uint64_t result)
+{
+    return (uint32_t)(result >> 8 & 65535);
+}
+
+static inline uint32_t hivepadlet_numbers(uint64_t result)
+{
+    return (uint32_t)(result >> 24);
+}
+
+/* the set-up numbers, in their order */
+enum hivepadlet_setup {
+    HIVEPADLET_IDONTWANT_LIMIT = 0, /* 1 to 32: numbers that a peer may put into its set in a heartbeat */
+    HIVEPADLET_D_LAZY = 1,          /* 0 to 48: peers that are sent IHAVE, at least */
+    HIVEPADLET_GOSSIP_FACTOR = 2,   /* 0 to 1000: and at least so many thousandths of those that could be */
+    HIVEPADLET_IHAVE_BOUND = 3,     /* 1 to 32: IHAVEs of a peer that are answered in a heartbeat */
+    HIVEPADLET_REPLY_BOUND = 4      /* 1 to 32: times that a peer is sent one message by IWANT in one connection */
+};
+
+/* The ordinary set-up numbers: 10, 6, 250, 10, 3. */
+void hivepadlet_ordinary_setup(uint64_t setup[HIVEPADLET_SETUP_NUMBERS]);
+
+/* Makes a fresh router with an array: 0; or 2 where a set-up number is out of range; or as hivepadlet_fresh. Nothing is written but
+ * with 0. */
+uint64_t hivepadlet_gossip_fresh(const int64_t numbers[HIVEPADLET_NUMBERS], uint64_t edition,
+                                 const uint64_t setup[HIVEPADLET_SETUP_NUMBERS], uint64_t table[HIVEPADLET_CELLS],
+                                 uint64_t gossip[HIVEPADLET_GOSSIP_CELLS]);
+
+/* Makes a router of a save, with an array in which nothing is held: 2 for the set-up numbers comes before all that hivepadlet_load
+ * tests. Nothing is written but with 0. */
+uint64_t hivepadlet_gossip_load(const int64_t numbers[HIVEPADLET_NUMBERS], uint64_t edition,
+                                const uint64_t setup[HIVEPADLET_SETUP_NUMBERS], uint64_t clock, const uint8_t *bytes,
+                                size_t length, uint64_t table[HIVEPADLET_CELLS], uint64_t gossip[HIVEPADLET_GOSSIP_CELLS]);
+
+/* Test 12 of both: 1 if they are a router's, else 0. */
+uint32_t hivepadlet_gossip_is_router(const uint64_t table[HIVEPADLET_CELLS], const uint64_t gossip[HIVEPADLET_GOSSIP_CELLS]);
+
+/* hivepadlet_connect of a router with an array: a record that is given up takes its counts with it. */
+uint64_t hivepadlet_gossip_connect(uint64_t table[HIVEPADLET_CELLS], uint64_t gossip[HIVEPADLET_GOSSIP_CELLS], uint64_t time,
+                                   uint64_t id, const uint64_t *groups, size_t groups_length, uint64_t flags,
+                                   const uint8_t *name, size_t name_length, uint32_t *actions, size_t actions_length);
+
+/* hivepadlet_disconnect: the peer's set and what it was sent end with its connection. */
+uint64_t hivepadlet_gossip_disconnect(uint64_t table[HIVEPADLET_CELLS], uint64_t gossip[HIVEPADLET_GOSSIP_CELLS],
+                                      uint64_t time, uint64_t id, uint32_t *actions, size_t actions_length);
+
+/* hivepadlet_leave: the topic's message numbers go. */
+uint64_t hivepadlet_gossip_leave(uint64_t table[HIVEPADLET_CELLS], uint64_t gossip[HIVEPADLET_GOSSIP_CELLS], uint64_t time,
+                                 uint64_t topic, uint32_t *actions, size_t actions_length);
+
+/* We have a large message of a topic, from a sender (0: ourselves): whom to send IDONTWANT. All /meshsub/1.2.0 members of the topic
+ * but the sender, kind 3, by slot. The number goes with the actions. 0, 3, or 11. */
+uint64_t hivepadlet_send_idontwant(uint64_t table[HIVEPADLET_CELLS], const uint64_t gossip[HIVEPADLET_GOSSIP_CELLS],
+                                   uint64_t time, uint64_t topic, uint64_t sender, uint64_t number, uint32_t *actions,
+                                   size_t actions_length);
+
+/* A peer sent IDONTWANT: the number goes into its set, where it stays for two more heartbeats. 0 where it is put in or held
+ * already; 3; 11 from a peer of an older version or below the graylist threshold, beyond the limit, or with a full set. */
+uint64_t hivepadlet_idontwant(uint64_t table[HIVEPADLET_CELLS], uint64_t gossip[HIVEPADLET_GOSSIP_CELLS], uint64_t time,
+                              uint64_t id, uint64_t number, uint32_t *actions, size_t actions_length);
+
+/* To whom a message is passed on: the members and the connected, subscribed explicit peers but the sender (0: ourselves) and those
+ * whose set holds the number, kind 4, by slot. 0, 3, or 11. */
+uint64_t hivepadlet_relay(uint64_t table[HIVEPADLET_CELLS], const uint64_t gossip[HIVEPADLET_GOSSIP_CELLS], uint64_t time,
+                          uint64_t topic, uint64_t sender, uint64_t number, uint32_t *actions, size_t actions_length);
+
+/* A heartbeat of all topics: the counts of this heartbeat begin anew, an IDONTWANT ends at the third after its arrival, and the
+ * message numbers of five heartbeats ago go. 0. */
+uint64_t hivepadlet_beat(uint64_t table[HIVEPADLET_CELLS], uint64_t gossip[HIVEPADLET_GOSSIP_CELLS], uint64_t time,
+                         uint32_t *actions, size_t actions_length);
+
+/* We have a message of a topic. 0 also where it is stored there already; 11; 13 where this heartbeat has 64. */
+uint64_t hivepadlet_store(uint64_t table[HIVEPADLET_CELLS], uint64_t gossip[HIVEPADLET_GOSSIP_CELLS], uint64_t time,
+                          uint64_t topic, uint64_t number, uint32_t *actions, size_t actions_length);
+
+/* IHAVE of a topic: the numbers of the last three heartbeats, oldest first, into a list of at least HIVEPADLET_MESSAGE_NUMBERS, and
+ * to whom, kind 5, in the order of the permutation; nobody where there is no number. 0, 7, or 11. */
+uint64_t hivepadlet_announce(uint64_t table[HIVEPADLET_CELLS], uint64_t gossip[HIVEPADLET_GOSSIP_CELLS], uint64_t time,
+                             uint64_t topic, const uint64_t *permutation, size_t permutation_length, uint64_t *numbers,
+                             size_t numbers_length, uint32_t *actions, size_t actions_length);
+
+/* A peer sent IHAVE with at most 192 numbers of a topic: those that no topic stores, each once, in their order, go into a list of
+ * at least HIVEPADLET_MESSAGE_NUMBERS. 0, 3, or 11. */
+uint64_t hivepadlet_ihave(uint64_t table[HIVEPADLET_CELLS], uint64_t gossip[HIVEPADLET_GOSSIP_CELLS], uint64_t time,
+                          uint64_t id, uint64_t topic, const uint64_t *given, size_t given_length, uint64_t *numbers,
+                          size_t numbers_length, uint32_t *actions, size_t actions_length);
+
+/* A peer sent IWANT for a message: 0 is the reply, send it; 3; 11 where it is not stored, the peer is below the gossip threshold, or
+ * it was sent this message as often as the bound says in this connection. */
+uint64_t hivepadlet_iwant(uint64_t table[HIVEPADLET_CELLS], uint64_t gossip[HIVEPADLET_GOSSIP_CELLS], uint64_t time,
+                          uint64_t id, uint64_t number, uint32_t *actions, size_t actions_length);
 
 /* ---- messages: the bytes that peers send each other, gossipsub's RPC as protobuf
  *

@@ -27,8 +27,15 @@ static uint64_t topics[HIVEPADLET_MESSAGE_ACTIONS], joins[2 * HIVEPADLET_TOPICS]
 static uint64_t answer;
 static uint64_t groups[HIVEPADLET_GROUPS];
 
+/* a router with a second array */
+static uint64_t second[HIVEPADLET_CELLS], gossip[HIVEPADLET_GOSSIP_CELLS], setup[HIVEPADLET_SETUP_NUMBERS];
+static uint64_t given[HIVEPADLET_MESSAGE_NUMBERS], told[HIVEPADLET_MESSAGE_NUMBERS];
+static size_t saved_bytes;
+
 #define LIST actions, HIVEPADLET_ACTION_NUMBERS
 #define NAME (const uint8_t *)"/meshsub/1.1.0", 14
+#define BOTH second, gossip
+#define NEWEST (const uint8_t *)"/meshsub/1.2.0", 14
 
 /* four groups that no other peer has */
 static const uint64_t *own(uint64_t id)
@@ -57,11 +64,12 @@ static void leave(void) { answer = hivepadlet_leave(table, 1, 0, LIST); }
 static void is_router(void) { answer = hivepadlet_is_router(table) ? 0 : HIVEPADLET_NOT_ROUTER; }
 static void to_old(void) { answer = hivepadlet_to_old(table, old_table); }
 static void from_old(void) { answer = hivepadlet_from_old(old_table, fresh_table); }
-static void saved(void) { answer = hivepadlet_save(table, 2, save, sizeof save); }
-static void loaded(void)
+static void saved(void)
 {
-    answer = hivepadlet_load(numbers, HIVEPADLET_EDITION_1, 0, save, hivepadlet_value(answer), fresh_table);
+    answer = hivepadlet_save(table, 2, save, sizeof save);
+    saved_bytes = hivepadlet_value(answer);
 }
+static void loaded(void) { answer = hivepadlet_load(numbers, HIVEPADLET_EDITION_1, 0, save, saved_bytes, fresh_table); }
 static void fresh(void) { answer = hivepadlet_fresh(numbers, HIVEPADLET_EDITION_2, fresh_table); }
 static void written(void) { answer = hivepadlet_write(numbers, HIVEPADLET_EDITION_2, bytes, sizeof bytes); }
 static void exported(void) { answer = hivepadlet_export(numbers, theirs, sizeof theirs); }
@@ -76,6 +84,37 @@ static void message_read(void)
 {
     answer = hivepadlet_read_message(names, rpc, hivepadlet_value(answer), entries, HIVEPADLET_ENTRY_NUMBERS);
 }
+static void gossip_connect(void)
+{
+    answer = hivepadlet_gossip_connect(BOTH, 1, PEERS + 1, own(PEERS + 1), HIVEPADLET_GROUPS, 1, NEWEST, LIST);
+}
+static void send_idontwant(void) { answer = hivepadlet_send_idontwant(BOTH, 1, 0, 0, 5, LIST); }
+static void idontwant(void) { answer = hivepadlet_idontwant(BOTH, 1, 1, 5, LIST); }
+static void relay(void) { answer = hivepadlet_relay(BOTH, 1, 0, 0, 5, LIST); }
+static void store(void) { answer = hivepadlet_store(BOTH, 1, 0, 5, LIST); }
+static void announce(void)
+{
+    answer = hivepadlet_announce(BOTH, 1, 0, permutation, HIVEPADLET_SLOTS, told, HIVEPADLET_MESSAGE_NUMBERS, LIST);
+}
+static void ihave(void)
+{
+    answer = hivepadlet_ihave(BOTH, 1, 1, 0, given, HIVEPADLET_MESSAGE_NUMBERS, told, HIVEPADLET_MESSAGE_NUMBERS, LIST);
+}
+static void iwant(void) { answer = hivepadlet_iwant(BOTH, 1, 1, 5, LIST); }
+static void beat(void) { answer = hivepadlet_beat(BOTH, 1, LIST); }
+static void is_gossip_router(void) { answer = hivepadlet_gossip_is_router(BOTH) ? 0 : HIVEPADLET_NOT_ROUTER; }
+static void gossip_disconnect(void) { answer = hivepadlet_gossip_disconnect(BOTH, 1, 1, LIST); }
+static void gossip_leave(void) { answer = hivepadlet_gossip_leave(BOTH, 1, 0, LIST); }
+static void gossip_loaded(void)
+{
+    answer = hivepadlet_gossip_load(numbers, HIVEPADLET_EDITION_1, setup, 0, save, saved_bytes, BOTH);
+}
+static void ordinary_setup(void)
+{
+    hivepadlet_ordinary_setup(setup);
+    answer = 0;
+}
+static void gossip_fresh(void) { answer = hivepadlet_gossip_fresh(numbers, HIVEPADLET_EDITION_2, setup, BOTH); }
 static void read_back(void) { answer = hivepadlet_read(bytes, hivepadlet_value(answer), numbers, &edition); }
 
 static const struct {
@@ -110,6 +149,21 @@ static const struct {
     {"names", tests_names},
     {"a message written", message},
     {"a message read", message_read},
+    {"connect, array", gossip_connect},
+    {"sending IDONTWANT", send_idontwant},
+    {"IDONTWANT in", idontwant},
+    {"relay", relay},
+    {"storing a number", store},
+    {"announcing", announce},
+    {"IHAVE in", ihave},
+    {"IWANT in", iwant},
+    {"heartbeat, array", beat},
+    {"test 12, array", is_gossip_router},
+    {"disconnect, array", gossip_disconnect},
+    {"leave, array", gossip_leave},
+    {"a load, array", gossip_loaded},
+    {"set-up numbers", ordinary_setup},
+    {"a fresh array", gossip_fresh},
 };
 
 /* the longest message: as many PRUNEs as it may hold, a join of every topic, names of 64 bytes */
@@ -131,6 +185,29 @@ static void prepare_message(void)
     }
 }
 
+/* half of the peers members, the others to be told by IHAVE; stores, replies and sets in use */
+static void prepare_gossip(void)
+{
+    uint64_t id;
+
+    hivepadlet_ordinary_setup(setup);
+    hivepadlet_gossip_fresh(numbers, HIVEPADLET_EDITION_1, setup, BOTH);
+    hivepadlet_join(second, 0, 0, LIST);
+    for (id = 1; id <= PEERS; id++) {
+        hivepadlet_gossip_connect(BOTH, 0, id, own(id), HIVEPADLET_GROUPS, 1, NEWEST, LIST);
+        hivepadlet_subscribe(second, 0, id, 0, LIST);
+        if (id % 2 == 0)
+            hivepadlet_graft(second, 0, id, 0, LIST);
+        hivepadlet_idontwant(BOTH, 0, id, 4, LIST);
+    }
+    for (id = 0; id < HIVEPADLET_MESSAGE_NUMBERS; id++) {
+        given[id] = 1000 + id;
+        if (id < 60)
+            hivepadlet_store(BOTH, 0, 0, 1000 + 2 * id, LIST);
+        hivepadlet_iwant(BOTH, 0, 2, 1000 + 2 * id, LIST);
+    }
+}
+
 /* a router with a mesh far over D_hi, so that a heartbeat has all to do */
 static void prepare(void)
 {
@@ -147,6 +224,7 @@ static void prepare(void)
     for (id = 0; id < HIVEPADLET_SLOTS; id++)
         permutation[id] = HIVEPADLET_SLOTS - 1 - id;
     prepare_message();
+    prepare_gossip();
 }
 
 /* the bytes of stack that a call takes, with what making it takes */

@@ -5,9 +5,13 @@
 /// Whether the library has hivepadlet_save and hivepadlet_load.
 const SAVES: bool = true;
 
+/// Whether it has the functions of IDONTWANT, IHAVE and IWANT.
+const GOSSIP: bool = false;
+
 fn main() {
     println!("cargo:rustc-check-cfg=cfg(linked)");
     println!("cargo:rustc-check-cfg=cfg(saves)");
+    println!("cargo:rustc-check-cfg=cfg(gossip)");
     println!("cargo:rerun-if-env-changed=HIVEPADLET_LIB");
     if let Ok(dir) = std::env::var("HIVEPADLET_LIB") {
         println!("cargo:rustc-cfg=linked");
@@ -15,6 +19,10 @@ fn main() {
         if SAVES {
             println!("cargo:rustc-cfg=saves");
             println!("cargo:saves=yes");
+        }
+        if GOSSIP {
+            println!("cargo:rustc-cfg=gossip");
+            println!("cargo:gossip=yes");
         }
         println!("cargo:rustc-link-search=native={dir}");
         println!("cargo:rustc-link-lib=static=host");

@@ -9,11 +9,12 @@ use crate::generate::damage::Damage;
 use crate::generate::gossip::{set_up, GossipCaller};
 use crate::generate::{saves, traces};
 use crate::gossip::{AnyEvent, Outcome, NUMBER_LIST};
-use crate::params::TOPICS;
+use crate::params::{Params, TOPICS};
 use crate::random::Random;
 use crate::replies::Replies;
 use crate::router::{Router, ACTION_LIST};
 use crate::saves::load;
+use crate::set_up::SetUp;
 use crate::trace::TraceEdition;
 
 /// What the lent lists hold before a call.
@@ -67,25 +68,66 @@ fn ensure(holds: bool, otherwise: &str) -> Result<(), String> {
     }
 }
 
+/// A save that a router is made of, and the clock that it is given.
+#[derive(Clone, Debug)]
+pub struct Saved {
+    pub clock: u64,
+    pub bytes: Vec<u8>,
+}
+
+/// How a list's router is made: fresh, or of a save.
+#[derive(Clone, Debug)]
+pub struct Origin {
+    pub params: Params,
+    pub set_up: SetUp,
+    pub save: Option<Saved>,
+}
+
+impl Origin {
+    pub fn of(random: &mut Random) -> Origin {
+        let rounds = random.chance(1, 2);
+        let params = if rounds { traces::mesh_params(random) } else { traces::params(random) };
+        let set_up = set_up(random);
+        let save = random.chance(1, 3).then(|| {
+            let save = saves::good(&params, random);
+            Saved { clock: saves::clock(random), bytes: save.bytes }
+        });
+        Origin { params, set_up, save }
+    }
+
+    /// The name of the case.
+    pub fn name(&self) -> &'static str {
+        match self.save {
+            Some(_) => "list: from a loaded router",
+            None => "list: from a fresh router",
+        }
+    }
+
+    pub fn router(&self) -> Router {
+        let Origin { params, set_up, save } = self;
+        match save {
+            Some(Saved { clock, bytes }) => {
+                load(params, *set_up, *clock, bytes).expect("a good save")
+            }
+            None => Router::with_set_up(params.clone(), *set_up).expect("good numbers"),
+        }
+    }
+
+    /// Makes a list of so many calls on the router.
+    pub fn caller(&self, calls: usize, mut random: Random) -> GossipCaller {
+        let scene = traces::scene(TraceEdition::Three, calls, &mut random);
+        let mut caller = Caller::new(self.router(), scene, random);
+        caller.plan_opening();
+        GossipCaller::new(caller)
+    }
+}
+
 impl List {
     /// From a fresh router, or from one that is loaded.
     pub fn new(calls: usize, mut random: Random, coverage: &mut GossipCoverage) -> List {
-        let rounds = random.chance(1, 2);
-        let params =
-            if rounds { traces::mesh_params(&mut random) } else { traces::params(&mut random) };
-        let set_up = set_up(&mut random);
-        let router = if random.chance(1, 3) {
-            coverage.count_case("list: from a loaded router");
-            let (save, clock) = (saves::good(&params, &mut random), saves::clock(&mut random));
-            load(&params, set_up, clock, &save.bytes).expect("a good save")
-        } else {
-            coverage.count_case("list: from a fresh router");
-            Router::with_set_up(params, set_up).expect("good numbers")
-        };
-        let scene = traces::scene(TraceEdition::Three, calls, &mut random);
-        let mut caller = Caller::new(router, scene, random);
-        caller.plan_opening();
-        List { caller: GossipCaller::new(caller), replies: Replies::default(), tight: 0 }
+        let origin = Origin::of(&mut random);
+        coverage.count_case(origin.name());
+        List { caller: origin.caller(calls, random), replies: Replies::default(), tight: 0 }
     }
 
     /// Makes the next call and checks everything.

@@ -11,6 +11,7 @@ use std::hint::black_box;
 use std::time::Instant;
 
 mod count;
+mod gossip;
 mod messages;
 #[cfg(linked)]
 mod proved;
@@ -129,6 +130,8 @@ fn print_all_times(rounds: usize) {
     supplier::print_times(rounds);
     println!();
     saves::print_times(rounds);
+    println!();
+    gossip::print_times(rounds);
 }
 
 /// What the calls of one load take by one router: the mean by kind, and test 12 alone.

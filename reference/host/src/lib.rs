@@ -6,6 +6,7 @@ pub mod counts;
 pub mod damage;
 pub mod edges;
 pub mod forms;
+pub mod gossip;
 pub mod harmless;
 pub mod lent;
 pub mod library;
@@ -23,6 +24,7 @@ pub mod saves;
 pub mod spot;
 pub mod stand_in;
 pub mod swept;
+pub mod table;
 
 /// What a comparison says where there is nothing to compare with.
 pub const UNLINKED: &str =

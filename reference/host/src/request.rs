@@ -84,20 +84,10 @@ impl Request {
         request
     }
 
-    /// Cuts or lengthens a heartbeat's permutation. The second program takes all slots and no other
-    /// number of them; it gets so many that are no permutation, since a list of another length is none.
+    /// Cuts or lengthens a heartbeat's permutation.
     fn set_permutation(&mut self, length: usize, random: &mut Random) {
         let Call::Heartbeat { permutation, .. } = &mut self.event.call else { return };
-        let more = match random.below(3) {
-            0 => permutation.to_vec(),
-            1 => vec![0; length],
-            _ => (SLOTS as u64..).take(length).collect(),
-        };
-        // Often each of the first so many slots once.
-        let lowest = if random.chance(1, 2) { length as u64 } else { u64::MAX };
-        let slots = permutation.iter().filter(|&&slot| slot < lowest).chain(more.iter().cycle());
-        self.odd_permutation = Some(slots.copied().take(length).collect());
-        **permutation = [SLOTS as u64; SLOTS];
+        self.odd_permutation = Some(odd_slots(permutation, length, random));
     }
 
     /// The slots that the library is handed.
@@ -127,7 +117,23 @@ impl Request {
     }
 }
 
-fn list_length(random: &mut Random) -> usize {
+/// A permutation cut or lengthened. The second program takes all slots and no other number of them; it gets so
+/// many that are no permutation, since a list of another length is none.
+pub fn odd_slots(permutation: &mut Permutation, length: usize, random: &mut Random) -> Vec<u64> {
+    let more = match random.below(3) {
+        0 => permutation.to_vec(),
+        1 => vec![0; length],
+        _ => (SLOTS as u64..).take(length).collect(),
+    };
+    // Often each of the first so many slots once.
+    let lowest = if random.chance(1, 2) { length as u64 } else { u64::MAX };
+    let slots = permutation.iter().filter(|&&slot| slot < lowest).chain(more.iter().cycle());
+    let slots = slots.copied().take(length).collect();
+    *permutation = [SLOTS as u64; SLOTS];
+    slots
+}
+
+pub fn list_length(random: &mut Random) -> usize {
     match random.below(100) {
         0..=4 => *random.pick(&SHORT_LISTS),
         5 => random.below(ACTION_LIST),

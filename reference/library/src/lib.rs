@@ -22,6 +22,7 @@
 pub mod cells;
 #[cfg(linked)]
 pub mod forms;
+pub mod gossip;
 #[cfg(linked)]
 mod linked;
 #[cfg(linked)]
@@ -69,7 +70,8 @@ pub const WRITTEN_BYTES: usize = 5107;
 pub const OUTBOUND: u64 = 1;
 pub const EXPLICIT: u64 = 2;
 
-/// The first number of an action: its kind. The peer's id and the seconds of a PRUNE follow.
+/// The first number of an action: its kind (those of IDONTWANT, IHAVE and IWANT are in `gossip`). The peer's id
+/// and the seconds of a PRUNE follow.
 pub const GRAFT: u32 = 1;
 pub const PRUNE: u32 = 2;
 

@@ -88,6 +88,55 @@ fn a_power_cycle() {
     assert_eq!(why[5], -1_000_000_000);
 }
 
+#[cfg(gossip)]
+#[test]
+fn a_message_is_passed_on_and_told_of() {
+    use gossip::*;
+    const V12: &[u8] = b"/meshsub/1.2.0";
+    let (mut numbers, mut setup) = ([0; NUMBERS], [0; SETUP_NUMBERS]);
+    let mut table = Box::new([0; CELLS]);
+    let mut array: Box<Gossip> = vec![0; GOSSIP_CELLS].try_into().expect("its cells");
+    let (mut actions, mut told) = ([0; ACTION_NUMBERS], [0; MESSAGE_NUMBERS]);
+    ordinary(&mut numbers);
+    ordinary_setup(&mut setup);
+    assert_eq!(setup, [10, 6, 250, 10, 3]);
+    assert_eq!(gossip::is_router(&table, &array), 0);
+    let result = gossip::fresh(&numbers, EDITION_1, &[0; SETUP_NUMBERS], &mut table, &mut array);
+    assert_eq!(result, 2);
+    assert_eq!(gossip::fresh(&numbers, EDITION_1, &setup, &mut table, &mut array), 0);
+    assert_eq!(gossip::is_router(&table, &array), 1);
+    assert_eq!(number(join(&mut table, 0, 0, &mut actions)), 0);
+    // 7 is a member, 8 is not.
+    for id in [7, 8] {
+        let result = gossip::connect(&mut table, &mut array, 1, id, &[9], 0, V12, &mut actions);
+        assert_eq!(number(result), 0);
+        assert_eq!(number(subscribe(&mut table, 1, id, 0, &mut actions)), 0);
+    }
+    assert_eq!(number(graft(&mut table, 1, 7, 0, &mut actions)), 0);
+    let result = send_idontwant(&mut table, &array, 2, 0, 0, 99, &mut actions);
+    assert_eq!((result, &actions[..3]), (packed(0, 1, 0), &[IDONTWANT, 7, 0][..]));
+    let result = relay(&mut table, &array, 2, 0, 0, 99, &mut actions);
+    assert_eq!((result, &actions[..3]), (packed(0, 1, 0), &[RELAY, 7, 0][..]));
+    assert_eq!(idontwant(&mut table, &mut array, 2, 7, 99, &mut actions), 0);
+    assert_eq!(relay(&mut table, &array, 2, 0, 0, 99, &mut actions), 0);
+    assert_eq!(store(&mut table, &mut array, 2, 0, 99, &mut actions), 0);
+    assert_eq!(beat(&mut table, &mut array, 3, &mut actions), 0);
+    let slots: Vec<u64> = (0..SLOTS as u64).collect();
+    let result = announce(&mut table, &mut array, 3, 0, &slots, &mut told, &mut actions);
+    assert_eq!((gossip::actions(result), gossip::numbers(result)), (1, 1));
+    assert_eq!((told[0], &actions[..3]), (99, &[IHAVE, 8, 0][..]));
+    let result = ihave(&mut table, &mut array, 3, 8, 0, &[99, 98], &mut told, &mut actions);
+    assert_eq!((result, told[0]), (packed(0, 0, 1), 98));
+    let mut wants = || iwant(&mut table, &mut array, 3, 8, 99, &mut actions);
+    assert_eq!([wants(), wants(), wants(), wants()], [0, 0, 0, 11]);
+    assert_eq!(gossip::disconnect(&mut table, &mut array, 4, 8, &mut actions), 0);
+    assert_eq!(number(gossip::leave(&mut table, &mut array, 4, 0, &mut actions)), 0);
+    assert_eq!(iwant(&mut table, &mut array, 4, 7, 99, &mut actions), 11);
+    // A save of no record.
+    let result = gossip::load(&numbers, EDITION_1, &setup, 5, &[2, 0], &mut table, &mut array);
+    assert_eq!((result, gossip::is_router(&table, &array)), (0, 1));
+}
+
 #[test]
 fn parameters_as_bytes() {
     let (mut numbers, mut other) = ([0; NUMBERS], [0; NUMBERS]);
