@@ -1,9 +1,9 @@
 -- What orders 6 and 7 add to the router's state: set-up numbers, a note for each slot, a store for each topic, and the replies.
 -- Every list has one form for one content: a set and the replies rise by number, a store goes by heartbeat and arrival.
 use Prim.Native.Nat.{ℕ, zero, suc, _+_}
-use mathlib.Core.Bool.{Bool, true, false, cond, _&&_, _||_}
+use mathlib.Core.Bool.{Bool, false, cond, _||_}
 use mathlib.Core.List.{List, [], _∷_, _++_, map}
-use lib.Dec.{eqb, leb, ltb}
+use lib.Dec.{eqb, ltb}
 use lib.ListN.{getD, set, take, replicate}
 use Rattle.records.specs.Records.{State, slotCount, topicCount}
 

@@ -3,14 +3,13 @@ use Prim.Native.Nat.{ℕ, _+_, _*_, _/_, max}
 use mathlib.Core.Bool.{Bool, true, false, cond, not, _&&_, _||_}
 use mathlib.Core.List.{List, [], _∷_, _++_, map}
 use lib.Dec.{eqb, leb, ltb}
-use lib.IntN.{ℤ, pos, _*ℤ_}
+use lib.IntN.{pos, _*ℤ_}
 use lib.Signed.{ltZ}
 use lib.ListN.{length, take}
 use Rattle.index.specs.Index.{gather}
 use Rattle.index.specs.declared.Found.{Found}
 use Rattle.index.specs.declared.Found.the-variants.{At, Nothing}
 use Rattle.varint.specs.Codes.{numberOf}
-use Rattle.records.specs.declared.Peer.{Peer}
 use Rattle.records.specs.Records.{State, slotCount, codeIn, peerIn, setClock, isConnected}
 use Rattle.lookup.specs.Find.{findConnected}
 use Rattle.records.specs.Parameters.{gossipThresholdAt}
@@ -19,13 +18,16 @@ use Rattle.sets.specs.Sets.{bySlot, inOrder, isPermutation}
 use Rattle.effects.specs.Actions.{Action}
 use Rattle.effects.specs.Effects.{isJoined, isMember, isSubscribed, reclaimable}
 use Rattle.rules.specs.Reply.{Reply, numberOf as answerNumber}
-use Rattle.rules.specs.Calls.{Call, connect, disconnect, join, leave, subscribe, unsubscribe, graft, prune, deliver, rate, heartbeat, decay, score}
+use Rattle.rules.specs.Calls.{Call, connect, disconnect, join, leave, subscribe, unsubscribe, graft, prune, deliver, rate, heartbeat, decay}
+use Rattle.rules.specs.Calls.{score}
 use Rattle.rules.specs.Step.{actionRoom, isGraylisted, step}
 use Rattle.gossip.specs.Notes.{Setup, Note, Gossip, Extended, setMost, windowMost, announcedWindows, noNote, noStore, noteIn, storeIn}
-use Rattle.gossip.specs.Notes.{has, holds, storedIn, stored, setNote, setStore, setReplies, putIn, aged, moved, added, countIn, replied}
+use Rattle.gossip.specs.Notes.{has, holds, storedIn, stored, setNote, setStore, setReplies, putIn, aged, moved, added, countIn}
+use Rattle.gossip.specs.Notes.{replied}
 use Rattle.gossip.specs.Notes.{ended, forget}
 use Rattle.gossip.specs.Valid.{gossipOk, validAll}
-use Rattle.gossip.specs.Calls.{New, askAll, idontwant, relay, beat, store, announce, ihave, iwant, Any, old, new, timeOfNew, newInRange, listOk}
+use Rattle.gossip.specs.Calls.{New, askAll, idontwant, relay, beat, store, announce, ihave, iwant, Any, old, new, timeOfNew}
+use Rattle.gossip.specs.Calls.{newInRange, listOk}
 
 -- ---- replies: 01's number, the state, the actions, and the numbers for the lent list of numbers
 pub record FullReply : Type 0 where

@@ -1,6 +1,6 @@
--- Test 12 of the new parts: "Test 12 also asks that sets, counts and stores are within bounds, no peer's set or topic's store holding a number
--- twice, or any if not connected or not joined."
-use Prim.Native.Nat.{ℕ, zero, suc}
+-- Test 12 of the new parts: "Test 12 also asks that sets, counts and stores are within bounds, no peer's set or topic's store holding a
+-- number twice, or any if not connected or not joined."
+use Prim.Native.Nat.{ℕ}
 use mathlib.Core.Path.{_≡_}
 use mathlib.Core.Bool.{Bool, true, false, cond, not, _&&_, _||_}
 use mathlib.Core.List.{List, [], _∷_, _++_, map}

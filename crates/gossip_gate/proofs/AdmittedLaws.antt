@@ -7,7 +7,7 @@ use Rattle.records.specs.Records.{slotCount, topicCount}
 use Rattle.layout.specs.View.{stateOf}
 use Rattle.validity.specs.Valid.{valid}
 use Rattle.gossip.specs.Valid.{gossipOk, validAll}
-use Rattle.gossip_table.specs.View.{gossipOf, extendedOf}
+use Rattle.gossip_table.specs.View.{gossipOf}
 use Rattle.gossip_table.specs.Fine.{Fine, FineSlot, FineTopic}
 use Rattle.gossip_gate.specs.Admitted.{Admitted}
 

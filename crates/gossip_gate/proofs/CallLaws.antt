@@ -1,7 +1,7 @@
 -- From the number of `admit` to what a public call promises and what its inner function may rely on, for a call that is lent an action list
 -- and no list of numbers: its code tests that list's length alone.
 -- Assumes nothing.
-use Rattle.index.proofs.Kit.{ℕ, _≤_, _<_, _≡_, refl, sym, ap, _∙_, Bool, true, false}
+use Rattle.index.proofs.Kit.{ℕ, _≤_, _<_, _≡_, refl, sym, _∙_, Bool, true, false}
 use mathlib.Core.Bool.{_&&_}
 use mathlib.Core.List.{List, []}
 use lib.Dec.{leb}

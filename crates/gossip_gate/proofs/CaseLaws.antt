@@ -4,12 +4,11 @@ use Rattle.index.proofs.Kit.{ℕ, _≤_, _<_, _≡_, refl, sym, ap, _∙_, Bool
 use mathlib.Core.Bool.{cond, _&&_}
 use mathlib.Core.List.{List}
 use lib.Dec.{leb}
-use lib.ListN.{length}
 use borrow.Author.Tests.{le-leb, lt-leb}
-use Rattle.layout.specs.View.{cellCount, stateOf}
+use Rattle.layout.specs.View.{stateOf}
 use Rattle.validity.specs.Valid.{valid}
 use Rattle.gossip.specs.Valid.{gossipOk, validAll}
-use Rattle.gossip_table.specs.View.{gossipCells, gossipOf, extendedOf}
+use Rattle.gossip_table.specs.View.{gossipOf, extendedOf}
 use Rattle.gossip_table.specs.Fine.{Both, Beside}
 use Rattle.gossip_gate.specs.Promise.{gateAll}
 

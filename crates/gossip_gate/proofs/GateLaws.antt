@@ -1,6 +1,6 @@
 -- From the number of the tests 12, 2, 8 and 1 to what a new call promises and what its inner function may rely on: one law for every call.
 -- Assumes nothing.
-use Rattle.index.proofs.Kit.{ℕ, _≤_, _<_, _≡_, refl, sym, ap, _∙_, Bool, true, false, arith}
+use Rattle.index.proofs.Kit.{ℕ, _≤_, _≡_, refl, sym, ap, _∙_, Bool, true, false, arith}
 use mathlib.Core.Path.{ap₂}
 use mathlib.Core.Bool.{cond, _&&_}
 use mathlib.Core.List.{List, []}
@@ -8,7 +8,7 @@ use lib.Dec.{leb}
 use lib.ListN.{length}
 use borrow.Author.Tests.{leb-true}
 use Rattle.index.proofs.Index.{both}
-use Rattle.layout.specs.View.{cellCount, stateOf}
+use Rattle.layout.specs.View.{cellCount}
 use Rattle.validity.specs.Valid.{maxTime}
 use Rattle.effects.specs.Actions.{numbersOf}
 use Rattle.rules.specs.Calls.{timeOk}
@@ -17,7 +17,7 @@ use Rattle.gossip.specs.Notes.{Extended}
 use Rattle.gossip.specs.Valid.{validAll}
 use Rattle.gossip.specs.Calls.{New, new, timeOfNew, newArgumentsOk, newInRange, listOk}
 use Rattle.gossip.specs.Step.{FullReply, refusedAll, gated, newEffect, newStep, stepAll}
-use Rattle.gossip_table.specs.View.{gossipCells, gossipOf, extendedOf}
+use Rattle.gossip_table.specs.View.{gossipCells, extendedOf}
 use Rattle.gossip_gate.specs.Promise.{GivesAll, FollowsAll, gateAll}
 use Rattle.gossip_gate.specs.Admitted.{Admitted}
 use Rattle.gossip_gate.proofs.PromiseLaws.{gated-passes, gated-refuses, leaves-refused}
@@ -74,13 +74,15 @@ module _
     pub gate-refusal : (n ≡ 0 → ⊥) → FollowsAll (new c) n table table gossip gossip list list
     unfolding numbersOf
     gate-refusal ne =
-        rw (step-is (refusedAll n x) (gated-refuses x (newInRange c) (leb actionRoom (length list) && listOk c) (timeOfNew c) (newEffect x c) n word ne))
+        rw (step-is (refusedAll n x)
+        (gated-refuses x (newInRange c) (leb actionRoom (length list) && listOk c) (timeOfNew c) (newEffect x c) n word ne))
         (record { leaves = leaves-refused n table gossip; actions = refl })
 
     pub gate-silent : (n ≡ 0 → ⊥) → stepAll x (new c) (length list) .numbers ≡ []
     gate-silent ne =
         ap (λ (o : FullReply). o .numbers)
-        (step-is (refusedAll n x) (gated-refuses x (newInRange c) (leb actionRoom (length list) && listOk c) (timeOfNew c) (newEffect x c) n word ne))
+        (step-is (refusedAll n x)
+        (gated-refuses x (newInRange c) (leb actionRoom (length list) && listOk c) (timeOfNew c) (newEffect x c) n word ne))
 
     module _ (e : n ≡ 0) where
       passes : stepAll x (new c) (length list) ≡ newEffect x c

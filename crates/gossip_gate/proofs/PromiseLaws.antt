@@ -1,20 +1,19 @@
 -- Whatever a call answers, its promise is one of three: a refusal that changes nothing, an answer that moves the clock alone, an answer 0.
 -- Assumes nothing.
-use Rattle.index.proofs.Kit.{ℕ, _≤_, _<_, _+_, _*_, _≡_, refl, sym, ap, _∙_, Bool, true, false, not, arith}
-use mathlib.Core.Bool.{cond, _||_}
+use Rattle.index.proofs.Kit.{ℕ, _+_, _*_, _≡_, refl, sym, ap, _∙_, Bool, true, false, arith}
+use mathlib.Core.Bool.{cond}
 use mathlib.Core.List.{List, []}
-use lib.Dec.{eqb, leb}
-use lib.ListN.{length, set}
-use Rattle.index.proofs.Flags.{cond-case, by-test}
-use Rattle.records.specs.Records.{State, setClock}
-use Rattle.layout.specs.View.{clockAt, stateOf}
+use lib.Dec.{leb}
+use lib.ListN.{length}
+use Rattle.records.specs.Records.{setClock}
+use Rattle.layout.specs.View.{stateOf}
 use lib.Seq.{sets}
 use Rattle.effects.specs.Actions.{Action, numbersOf}
 use Rattle.gossip.specs.Notes.{Gossip, Extended}
 use Rattle.gossip.specs.Valid.{validAll}
 use Rattle.gossip.specs.Step.{FullReply, refusedAll, ignoredAll, doneAll, gated}
 use Rattle.gossip_table.specs.View.{gossipOf, extendedOf}
-use Rattle.gossip_gate.specs.Promise.{replyCode, LeavesAll, GivesAll, gateAll}
+use Rattle.gossip_gate.specs.Promise.{LeavesAll, GivesAll, gateAll}
 
 -- what `gated` gives where the tests are passed, and where one is not
 pub gated-passes :

@@ -1,25 +1,21 @@
 -- The replies of the calls, case by case, in the form in which a search finds them.
 -- Assumes nothing.
-use Rattle.index.proofs.Kit.{ℕ, _≤_, _<_, _≡_, refl, sym, ap, _∙_, Bool, true, false, not, arith}
-use mathlib.Core.Bool.{cond, _&&_, _||_}
+use Rattle.index.proofs.Kit.{ℕ, _≡_, ap, _∙_, Bool, true, false}
+use mathlib.Core.Bool.{cond}
 use mathlib.Core.List.{List, []}
-use lib.Dec.{eqb, ltb}
-use lib.ListN.{length}
+use lib.Dec.{ltb}
 use Rattle.index.specs.declared.Found.{Found}
 use Rattle.index.specs.declared.Found.the-variants.{At, Nothing}
 use Rattle.lookup.specs.Find.{findConnected}
 use Rattle.sets.specs.Sets.{isPermutation}
 use Rattle.records.specs.Records.{slotCount}
 use Rattle.effects.specs.Effects.{isJoined}
-use Rattle.gossip.specs.Notes.{Extended, Gossip, noteIn, storeIn, setNote, setStore, setReplies, holds, storedIn, windowMost, added, replied, stored}
-use Rattle.gossip.specs.Step.{FullReply, refusedAll, ignoredAll, doneAll, onSlot, ofPeerAll, tellBySlot, isAsked, isRelayed, askReply, relayReply}
+use Rattle.gossip.specs.Notes.{Extended, noteIn, storeIn, setNote, setStore, setReplies, holds, storedIn, windowMost, added, replied}
+use Rattle.gossip.specs.Notes.{stored}
+use Rattle.gossip.specs.Step.{FullReply, refusedAll, ignoredAll, doneAll, onSlot, ofPeerAll}
 use Rattle.gossip.specs.Step.{isHeeded, hasRoom, withPut, idontwantReply, running, storeReply, isAnswered, withIhave, ihaveReply, wanted}
 use Rattle.gossip.specs.Step.{isServed, iwantReply, announceReply, announced, ifAny, tellOne, chosen, inDraw}
 use mathlib.Core.List.{map}
-
-abbrev found : Found → Bool
-found (At s) = true
-found Nothing = false
 
 -- where one of two branches is taken
 taken : {A : Type 0} (b : Bool) (x y : A) → b ≡ true → cond b x y ≡ x
@@ -68,49 +64,6 @@ module _ (x : Extended) (time n s : ℕ) where
       taken (isHeeded (x .base) s) _ _ e
       ∙ left (holds (noteIn (x .gossip) s) n) _ _ h
       ∙ taken (hasRoom (x .gossip .setup) (noteIn (x .gossip) s)) _ _ r
-
--- ---- to the members, and to whom a message is passed on: a known sender, a joined topic
-abbrev known : Extended → ℕ → Bool
-known x id = eqb id 0 || found (findConnected (x .base) id)
-
-sent-by : (x : Extended) (id : ℕ) (r : FullReply) → cond (eqb id 0) r (ofPeerAll x id (λ s. r)) ≡ cond (known x id) r (refusedAll 3 x)
-sent-by x id r = go (eqb id 0) (findConnected (x .base) id)
-  where
-    go : (b : Bool) (f : Found) → cond b r (onSlot f (λ s. r) (refusedAll 3 x)) ≡ cond (b || found f) r (refusedAll 3 x)
-    go true f = refl
-    go false (At s) = refl
-    go false Nothing = refl
-
-module _ (x : Extended) (time t sender n : ℕ) where
-  pub ask-unknown : known x sender ≡ false → askReply x time t sender ≡ refusedAll 3 x
-  unfolding askReply
-  ask-unknown e = sent-by x sender _ ∙ left (known x sender) _ _ e
-
-  pub ask-outside : known x sender ≡ true → isJoined (x .base) t ≡ false → askReply x time t sender ≡ ignoredAll x time
-  unfolding askReply
-  ask-outside e j = sent-by x sender _ ∙ taken (known x sender) _ _ e ∙ left (isJoined (x .base) t) _ _ j
-
-  pub ask-tells :
-      known x sender ≡ true →
-      isJoined (x .base) t ≡ true →
-      askReply x time t sender ≡ doneAll x time (x .gossip) (tellBySlot (x .base) 3 (isAsked (x .base) t sender)) []
-  unfolding askReply
-  ask-tells e j = sent-by x sender _ ∙ taken (known x sender) _ _ e ∙ taken (isJoined (x .base) t) _ _ j
-
-  pub relay-unknown : known x sender ≡ false → relayReply x time t sender n ≡ refusedAll 3 x
-  unfolding relayReply
-  relay-unknown e = sent-by x sender _ ∙ left (known x sender) _ _ e
-
-  pub relay-outside : known x sender ≡ true → isJoined (x .base) t ≡ false → relayReply x time t sender n ≡ ignoredAll x time
-  unfolding relayReply
-  relay-outside e j = sent-by x sender _ ∙ taken (known x sender) _ _ e ∙ left (isJoined (x .base) t) _ _ j
-
-  pub relay-tells :
-      known x sender ≡ true →
-      isJoined (x .base) t ≡ true →
-      relayReply x time t sender n ≡ doneAll x time (x .gossip) (tellBySlot (x .base) 4 (isRelayed x t sender n)) []
-  unfolding relayReply
-  relay-tells e j = sent-by x sender _ ∙ taken (known x sender) _ _ e ∙ taken (isJoined (x .base) t) _ _ j
 
 -- ---- store
 module _ (x : Extended) (time t n : ℕ) where

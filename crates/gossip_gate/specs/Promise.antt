@@ -5,11 +5,11 @@ use mathlib.Core.Path.{_≡_}
 use mathlib.Core.Bool.{Bool, true, cond, not, _||_}
 use mathlib.Core.List.{List}
 use lib.Dec.{eqb, leb}
-use lib.ListN.{length, set}
+use lib.ListN.{length}
 use lib.Seq.{sets}
-use Rattle.layout.specs.View.{clockAt, stateOf}
+use Rattle.layout.specs.View.{stateOf}
 use Rattle.effects.specs.Actions.{numbersOf}
-use Rattle.gossip.specs.Notes.{Gossip, Extended}
+use Rattle.gossip.specs.Notes.{Extended}
 use Rattle.gossip.specs.Valid.{validAll}
 use Rattle.gossip.specs.Calls.{Any}
 use Rattle.gossip.specs.Step.{FullReply, stepAll}

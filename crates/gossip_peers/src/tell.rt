@@ -2,13 +2,13 @@
 ghost use mathlib.Core.Path.{_≡_};
 ghost use mathlib.Core.Bool.{Bool};
 ghost use mathlib.Core.List.{_∷_, [], map};
-ghost use Prim.Native.Nat.{ℕ, _+_, _*_, _≤_, _<_, _/_, max};
+ghost use Prim.Native.Nat.{ℕ, _+_, _*_, _≤_, _/_, max};
 ghost use lib.ListN.{length, take};
 ghost use lib.Seq.{sets};
 ghost use Rattle.records.specs.Records.{slotCount};
 ghost use Rattle.layout.specs.View.{stateOf};
 ghost use Rattle.words.specs.Words.{bitsOf};
-ghost use Rattle.sets.specs.Sets.{bySlot, inOrder, size};
+ghost use Rattle.sets.specs.Sets.{bySlot, inOrder};
 ghost use Rattle.effects.specs.Actions.{numbersOf};
 ghost use Rattle.peer_score.specs.Standing.{SlotStanding};
 ghost use Rattle.gossip.specs.Notes.{Setup};

@@ -1,15 +1,15 @@
 -- What test 12 says of the array, part by part.
 -- Assumes nothing.
-use Rattle.index.proofs.Kit.{ℕ, _≤_, _<_, _≡_, Bool, true, arith}
-use mathlib.Core.Bool.{_&&_, _||_}
-use mathlib.Core.List.{List, map}
-use lib.Dec.{eqb, leb}
-use lib.ListN.{length, getD}
-use borrow.Author.Tests.{leb-true, eqb-true}
+use Rattle.index.proofs.Kit.{ℕ, _≤_, _<_, _≡_, true, arith}
+use mathlib.Core.Bool.{_&&_}
+use mathlib.Core.List.{map}
+use lib.Dec.{leb}
+use lib.ListN.{length}
+use borrow.Author.Tests.{leb-true}
 use Rattle.index.proofs.Index.{both}
-use Rattle.records.specs.Records.{State, slotCount, topicCount, peerIn, isConnected, isEmpty}
-use Rattle.gossip.specs.Notes.{Setup, Note, Row, Entry, Gossip, setMost, windowMost, rowsMost, noteIn, storeIn, stored, numberOf}
-use Rattle.gossip.specs.Valid.{all, none, rises, apart, flat, setupOk, entryOk, setOk, countsOk, noteOk, windowOk, storeOk, rowOk, rowNumber}
+use Rattle.records.specs.Records.{State, slotCount, peerIn, isConnected, isEmpty}
+use Rattle.gossip.specs.Notes.{Note, Gossip, setMost, rowsMost, noteIn, stored, numberOf}
+use Rattle.gossip.specs.Valid.{all, rises, setupOk, entryOk, setOk, countsOk, noteOk, rowOk, rowNumber}
 use Rattle.gossip.specs.Valid.{repliesOk, gossipOk}
 use Rattle.gossip.proofs.Fine.{Fine, fine-of}
 
@@ -22,7 +22,9 @@ module _ (st : State) (g : Gossip) (ok : gossipOk st g ≡ true) where
   unfolding setupOk
   fine-limit =
       let p = g .setup in
-      let a = both (leb 1 (p .limit) && leb (p .limit) 32 && leb (p .lazy) 48 && leb (p .factor) 1000 && (leb 1 (p .ihaves) && leb (p .ihaves) 32)) _ (fine .setup) in
+      let a = both
+      (leb 1 (p .limit) && leb (p .limit) 32 && leb (p .lazy) 48 && leb (p .factor) 1000 && (leb 1 (p .ihaves) && leb (p .ihaves) 32)) _
+      (fine .setup) in
       let b = both (leb 1 (p .limit) && leb (p .limit) 32 && leb (p .lazy) 48 && leb (p .factor) 1000) _ (a .0) in
       let d = both (leb 1 (p .limit) && leb (p .limit) 32 && leb (p .lazy) 48) _ (b .0) in
       let e = both (leb 1 (p .limit) && leb (p .limit) 32) _ (d .0) in
@@ -33,7 +35,9 @@ module _ (st : State) (g : Gossip) (ok : gossipOk st g ≡ true) where
   unfolding setupOk
   fine-lazy =
       let p = g .setup in
-      let a = both (leb 1 (p .limit) && leb (p .limit) 32 && leb (p .lazy) 48 && leb (p .factor) 1000 && (leb 1 (p .ihaves) && leb (p .ihaves) 32)) _ (fine .setup) in
+      let a = both
+      (leb 1 (p .limit) && leb (p .limit) 32 && leb (p .lazy) 48 && leb (p .factor) 1000 && (leb 1 (p .ihaves) && leb (p .ihaves) 32)) _
+      (fine .setup) in
       let b = both (leb 1 (p .limit) && leb (p .limit) 32 && leb (p .lazy) 48 && leb (p .factor) 1000) _ (a .0) in
       let d = both (leb 1 (p .limit) && leb (p .limit) 32 && leb (p .lazy) 48) _ (b .0) in
       let e = both (leb 1 (p .limit) && leb (p .limit) 32) _ (d .0) in
@@ -43,7 +47,9 @@ module _ (st : State) (g : Gossip) (ok : gossipOk st g ≡ true) where
   unfolding setupOk
   fine-bounds =
       let p = g .setup in
-      let a = both (leb 1 (p .limit) && leb (p .limit) 32 && leb (p .lazy) 48 && leb (p .factor) 1000 && (leb 1 (p .ihaves) && leb (p .ihaves) 32)) _ (fine .setup) in
+      let a = both
+      (leb 1 (p .limit) && leb (p .limit) 32 && leb (p .lazy) 48 && leb (p .factor) 1000 && (leb 1 (p .ihaves) && leb (p .ihaves) 32)) _
+      (fine .setup) in
       let b = both (leb 1 (p .limit) && leb (p .limit) 32 && leb (p .lazy) 48 && leb (p .factor) 1000) _ (a .0) in
       let d = both (leb 1 (p .ihaves)) (leb (p .ihaves) 32) (b .1) in
       let e = both (leb 1 (p .replies)) (leb (p .replies) 32) (a .1) in

@@ -1,6 +1,6 @@
 -- An array in which nothing is held, part by part.
 -- Assumes nothing.
-use Rattle.index.proofs.Kit.{ℕ, _≤_, _<_, _+_, _≡_, refl, sym, ap, _∙_, arith}
+use Rattle.index.proofs.Kit.{ℕ, _≤_, _<_, _≡_, refl, ap, _∙_, arith}
 use mathlib.Core.List.{List, [], _∷_}
 use lib.ListN.{length, set, take, replicate}
 use lib.Seq.{drop-set-lt}
@@ -77,7 +77,9 @@ pub all-made :
     g4 ≡ setSetup g3 p →
     g4 ≡ freshGossip p
 unfolding freshGossip setReplies
-all-made g0 g1 g2 g3 g4 p a b d e = e ∙ ap (λ (g : Gossip). setSetup g p) (d ∙ ap (λ (g : Gossip). setReplies′ g) (b ∙ ap (λ (g : Gossip). setStores g (replicate topicCount noStore)) a))
+all-made g0 g1 g2 g3 g4 p a b d e =
+    e ∙ ap (λ (g : Gossip). setSetup g p)
+    (d ∙ ap (λ (g : Gossip). setReplies′ g) (b ∙ ap (λ (g : Gossip). setStores g (replicate topicCount noStore)) a))
   where
     setReplies′ : Gossip → Gossip
     setReplies′ g = setReplies g []

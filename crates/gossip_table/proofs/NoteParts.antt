@@ -1,6 +1,6 @@
 -- From test 12 of the array to what the crate of the notes relies on, and from what it promises to the array's state.
 -- Assumes nothing.
-use Rattle.index.proofs.Kit.{ℕ, _≤_, _<_, _≡_, refl, sym, ap, _∙_, Bool, true, false, arith}
+use Rattle.index.proofs.Kit.{ℕ, _≤_, _<_, _≡_, refl, ap, _∙_, Bool, arith}
 use mathlib.Core.Bool.{_&&_}
 use mathlib.Core.List.{List, map}
 use lib.Dec.{ltb}
@@ -11,7 +11,7 @@ use Rattle.index.proofs.Index.{both}
 use Rattle.records.specs.Records.{slotCount}
 use Rattle.notes.specs.View.{notesCells, notesOf, noteAt}
 use Rattle.notes.specs.Lent.{AtSlot, SetFits, PutFits, IhaveFits, AllFit}
-use Rattle.gossip.specs.Notes.{Note, Gossip, noNote, setMost, noteIn, setNote, holds}
+use Rattle.gossip.specs.Notes.{Note, noNote, setMost, noteIn, setNote}
 use Rattle.gossip.specs.Step.{hasRoom, withPut, withIhave, parted, beaten}
 use Rattle.gossip_table.specs.View.{notesAt, gossipCells, notesPart, gossipOf, setNotes}
 use Rattle.gossip_table.specs.Fine.{Fine, FineSlot, Lent, HasRoom}

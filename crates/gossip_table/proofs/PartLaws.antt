@@ -1,11 +1,11 @@
 -- A part of a list after another part was put back: of the same place it is what was put, of a place before or behind it what it was.
 -- Assumes nothing.
-use Rattle.index.proofs.Kit.{ℕ, _≤_, _<_, _+_, _-_, _≡_, refl, sym, ap, _∙_, arith}
+use Rattle.index.proofs.Kit.{ℕ, _≤_, _<_, _+_, _-_, _≡_, sym, ap, _∙_, arith}
 use Prim.Native.Nat.{suc, zero}
 use mathlib.Core.List.{List, [], _∷_, _++_}
 use lib.ListN.{length, getD, take, drop, length-drop}
-use lib.Seq.{length-take-le, drop-drop, take-take, getD-take, take-at, drop-at, take-nil, drop-nil}
-use borrow.Rule.Slice.PartMut.{putMid, postOf, take-put, post-is}
+use lib.Seq.{length-take-le, drop-drop, take-take, getD-take, take-at, drop-at, take-nil}
+use borrow.Rule.Slice.PartMut.{putMid, postOf, take-put}
 use Rattle.gossip_table.specs.Parts.{part}
 
 pub part-length : (a n : ℕ) (l : List ℕ) → a + n ≤ length l → length (part a n l) ≡ n
@@ -29,7 +29,8 @@ module _ (a n : ℕ) (xs ys : List ℕ) (fits : a + n ≤ length xs) (size : len
   pub part-before : (b m : ℕ) → b + m ≤ a → part b m (putMid a n xs ys) ≡ part b m xs
   part-before b m h =
       within b m (putMid a n xs ys)
-      ∙ ap (drop b) (sym (take-take (b + m) a (putMid a n xs ys) h) ∙ ap (take (b + m)) (take-put a n xs ys (omega arith)) ∙ take-take (b + m) a xs h)
+      ∙ ap (drop b)
+      (sym (take-take (b + m) a (putMid a n xs ys) h) ∙ ap (take (b + m)) (take-put a n xs ys (omega arith)) ∙ take-take (b + m) a xs h)
       ∙ sym (within b m xs)
 
   behind : drop (a + n) (putMid a n xs ys) ≡ drop (a + n) xs

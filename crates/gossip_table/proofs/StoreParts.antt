@@ -1,15 +1,13 @@
 -- From test 12 of the array to what the crates of the stores and of the replies rely on, and from what they promise to the array's state.
 -- Assumes nothing.
-use Rattle.index.proofs.Kit.{ℕ, _≤_, _<_, _+_, _*_, _≡_, refl, sym, ap, _∙_, Bool, true, false, arith}
-use Prim.Native.Nat.{zero, suc, _/_, _%_}
-use mathlib.Core.Bool.{_&&_}
-use mathlib.Core.List.{List, [], _∷_, map}
-use lib.Dec.{leb, ltb}
+use Rattle.index.proofs.Kit.{ℕ, _≤_, _<_, _+_, _*_, _≡_, refl, sym, ap, _∙_, Bool, false, arith}
+use mathlib.Core.List.{List, [], map}
+use lib.Dec.{ltb}
 use lib.ListN.{length, getD, set}
-use borrow.Author.Tests.{leb-true, le-leb, ltb-true}
+use borrow.Author.Tests.{le-leb, ltb-true}
 use borrow.Rule.Slice.PartMut.{putMid, same-len-mid}
 use Rattle.index.proofs.Index.{every-by}
-use Rattle.records.specs.Records.{State, slotCount, topicCount}
+use Rattle.records.specs.Records.{topicCount}
 use Rattle.stores.specs.View.{storesCells, storesOf, storeAt, storedAt, Windows, Store}
 use Rattle.stores.proofs.ViewLaws.{length-store, length-stores, stored-state, stored-is}
 use Rattle.stores.proofs.ApartLaws.{windows-right}
@@ -18,14 +16,14 @@ use Rattle.replies.specs.View.{repliesCells, repliesOf}
 use Rattle.replies.specs.Asked.{Rows, RowOf, SlotOf, Ordered, Room, Flagged, FlagsSay}
 use Rattle.notes.proofs.NoteLaws.{notes-length}
 use Rattle.gossip.proofs.Fine.{fine-of, room-for-reply}
-use Rattle.gossip.specs.Notes.{Gossip, Row, windowCount, windowMost, rowsMost, numbersMost, noStore, storeIn, stored, setStore, setReplies, countIn, replied, ended}
-use Rattle.gossip.specs.Notes.{moved, added, keep, forget}
-use Rattle.gossip.specs.Valid.{all, rises, windowOk, rowNumber, SizedGossip}
+use Rattle.gossip.specs.Notes.{Row, windowCount, windowMost, rowsMost, numbersMost, storeIn, stored, setStore, setReplies, countIn, replied}
+use Rattle.gossip.specs.Notes.{moved, keep, forget}
+use Rattle.gossip.specs.Valid.{rowNumber, SizedGossip}
 use lib.Seq.{sets}
 use Rattle.gossip.specs.Step.{running, wanted}
 use Rattle.gossip_table.specs.View.{storesAt, repliesAt, gossipCells, notesPart, storesPart, repliesPart, gossipOf, setStores}
 use Rattle.gossip_table.specs.Fine.{Fine, FineSlot, FineTopic, Kept, KeptSlot, KeptRow, StoreFits, ReplyFits, Announces, Wants}
-use Rattle.gossip_table.proofs.PartLaws.{part-length, part-same, part-before, part-behind}
+use Rattle.gossip_table.proofs.PartLaws.{part-length, part-same, part-behind}
 use Rattle.gossip_table.proofs.ViewLaws.{stores-put, replies-put}
 use Rattle.gossip_table.proofs.FineLaws.{fine-rows}
 
@@ -107,7 +105,8 @@ room-fits {c} {n} {s} h =
     let q = fine-rows (h .fine .base) (gossipOf c) (h .fine .ok) in
     let e = replies-part c in
     let few : countIn (gossipOf c .replies) n s < 32 = h .few in
-    let room = room-for-reply (h .fine .base) (gossipOf c) (gossip-sized c) (fine-of (h .fine .base) (gossipOf c) (h .fine .ok)) n (h .kept) s in
+    let room = room-for-reply (h .fine .base) (gossipOf c) (gossip-sized c) (fine-of (h .fine .base) (gossipOf c) (h .fine .ok)) n (h .kept)
+    s in
     record {
       size = replies-size c (h .fine .size);
       few = rw e (q .0);

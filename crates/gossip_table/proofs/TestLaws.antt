@@ -1,28 +1,27 @@
 -- Test 12 of the array, from what the crates of its parts say of them.
 -- Assumes nothing.
-use Rattle.index.proofs.Kit.{ℕ, _≤_, _<_, _+_, _≡_, refl, sym, ap, _∙_, Bool, true, false, every, arith}
-use Prim.Native.Nat.{zero, suc, _%_}
-use mathlib.Core.Bool.{cond, _&&_}
-use mathlib.Core.List.{List, [], _∷_, map}
+use Rattle.index.proofs.Kit.{ℕ, _≤_, _<_, _≡_, refl, sym, ap, _∙_, Bool, true, false, every}
+use Prim.Native.Nat.{_%_}
+use mathlib.Core.Bool.{_&&_}
+use mathlib.Core.List.{List, map}
 use lib.Dec.{eqb, leb}
 use lib.ListN.{length, getD, length-map}
 use borrow.Author.Tests.{eq-eqb, ne-eqb, leb-true}
-use Rattle.index.proofs.Index.{both, every-at, every-by, every-same}
+use Rattle.index.proofs.Index.{both, every-at, every-by}
 use Rattle.index.proofs.Flags.{by-test}
-use Rattle.records.specs.Records.{State, slotCount, topicCount, peerIn, isConnected, isEmpty}
-use Rattle.layout.specs.View.{bitAt, stateOf}
+use Rattle.records.specs.Records.{State, slotCount, topicCount, peerIn, isConnected}
+use Rattle.layout.specs.View.{bitAt}
 use Rattle.validity.specs.Valid.{valid}
 use Rattle.effects.specs.Effects.{isJoined}
-use Rattle.words.specs.Words.{bitsOf}
 use Rattle.peer_score.proofs.ConnectedLaws.{connected-on, connected-off}
 use Rattle.notes.specs.View.{noteAt, countsFit}
-use Rattle.notes.proofs.NoteLaws.{note-judged, nothing-passes}
+use Rattle.notes.proofs.NoteLaws.{nothing-passes}
 use Rattle.stores.specs.View.{storesCells, storeAt, Windows}
 use Rattle.replies.specs.View.{repliesOf}
 use Rattle.replies.specs.Asked.{onBits, rowsOk}
 use Rattle.replies.proofs.TestLaws.{rows-ok-test}
-use Rattle.gossip.specs.Notes.{Note, Row, Gossip, noNote, rowsMost, noteIn, storeIn, stored}
-use Rattle.gossip.specs.Valid.{all, rises, setupOk, setOk, noteOk, storeOk, windowOk, rowNumber, repliesOk, gossipOk}
+use Rattle.gossip.specs.Notes.{Row, Gossip, noNote, rowsMost, noteIn, storeIn, stored}
+use Rattle.gossip.specs.Valid.{all, rises, setupOk, setOk, noteOk, storeOk, rowNumber, repliesOk, gossipOk}
 use Rattle.stores.proofs.ApartLaws.{windows-right}
 use Rattle.gossip.proofs.ListLaws.{clash}
 use Rattle.replies.proofs.ListLaws.{all-at, all-by}
@@ -32,7 +31,8 @@ use Rattle.gossip_table.proofs.NoteParts.{note-part}
 use Rattle.gossip_table.proofs.StoreParts.{store-part, replies-part}
 
 -- ---- notes
-pub still-passes : (c : List ℕ) (st : State) (s : ℕ) → noteAt (notesPart c) s ≡ noNote → true ≡ noteOk (gossipOf c .setup) (peerIn st s) (noteIn (gossipOf c) s)
+pub still-passes : (c : List ℕ) (st : State) (s : ℕ) → noteAt (notesPart c) s ≡ noNote → true
+    ≡ noteOk (gossipOf c .setup) (peerIn st s) (noteIn (gossipOf c) s)
 still-passes c st s e = rw (← note-part c s, e) (sym (nothing-passes (gossipOf c .setup) (peerIn st s)))
 
 pub quiet-passes :
@@ -40,7 +40,8 @@ pub quiet-passes :
     ((s : ℕ) → s < slotCount → noteAt (notesPart c) s ≡ noNote) →
     true ≡ every slotCount (λ s. noteOk (gossipOf c .setup) (peerIn st s) (noteIn (gossipOf c) s))
 quiet-passes c st h =
-    sym (every-by (λ s. noteOk (gossipOf c .setup) (peerIn st s) (noteIn (gossipOf c) s)) slotCount (λ s l. sym (still-passes c st s (h s l))))
+    sym (every-by (λ s. noteOk (gossipOf c .setup) (peerIn st s) (noteIn (gossipOf c) s)) slotCount
+    (λ s l. sym (still-passes c st s (h s l))))
 
 pub judged-passes :
     (c : List ℕ) (st : State) (s status limit ihaves : ℕ) (r : Bool) →
@@ -95,12 +96,14 @@ module _ (st : State) (c : List ℕ) (most : ℕ) (on : ℕ → Bool) (e : most 
   abbrev g : Gossip
   g = gossipOf c
 
-  test : rowsOk on most (g .replies) && all (stored g) (map rowNumber (g .replies)) ≡ repliesOk st (g .setup .replies) (stored g) (g .replies)
+  test : rowsOk on most (g .replies) && all (stored g) (map rowNumber (g .replies))
+      ≡ repliesOk st (g .setup .replies) (stored g) (g .replies)
   test = rows-ok-test st on (stored g) most (g .replies) h ∙ ap (λ (k : ℕ). repliesOk st k (stored g) (g .replies)) e
 
   pub rows-broken :
       rowsOk on most (repliesOf (repliesPart c)) ≡ false → false ≡ repliesOk st (g .setup .replies) (stored g) (g .replies)
-  rows-broken f = sym (ap (λ (b : Bool). b && all (stored g) (map rowNumber (g .replies))) (sym (ap (rowsOk on most) (replies-part c)) ∙ f)) ∙ test
+  rows-broken f =
+      sym (ap (λ (b : Bool). b && all (stored g) (map rowNumber (g .replies))) (sym (ap (rowsOk on most) (replies-part c)) ∙ f)) ∙ test
 
   pub rows-judged :
       (r : Bool) →

@@ -1,6 +1,6 @@
 -- What the array holds after one of its parts was put back: that part's state is the new one, all else stands.
 -- Assumes nothing.
-use Rattle.index.proofs.Kit.{ℕ, _≤_, _<_, _+_, _≡_, refl, sym, ap, _∙_, arith}
+use Rattle.index.proofs.Kit.{ℕ, _≤_, _<_, _+_, _≡_, ap, arith}
 use mathlib.Core.List.{List}
 use lib.ListN.{length, getD}
 use borrow.Rule.Slice.PartMut.{putMid}
@@ -8,8 +8,7 @@ use Rattle.notes.specs.View.{notesCells, notesOf}
 use Rattle.stores.specs.View.{storesCells, storesOf}
 use Rattle.replies.specs.View.{repliesCells, repliesOf}
 use Rattle.gossip.specs.Notes.{Setup, Note, Row, Gossip, setReplies}
-use Rattle.gossip_table.specs.Parts.{part}
-use Rattle.gossip_table.specs.View.{notesAt, storesAt, repliesAt, gossipCells, setupOf, notesPart, storesPart, repliesPart, gossipOf}
+use Rattle.gossip_table.specs.View.{notesAt, storesAt, repliesAt, gossipCells, setupOf, gossipOf}
 use Rattle.gossip_table.specs.View.{setNotes, setStores}
 use Rattle.gossip_table.proofs.PartLaws.{part-same, part-before, part-behind, cell-before}
 

@@ -1,12 +1,12 @@
 -- How one lent array holds what orders 6 and 7 add to the state: the set-up numbers, then three parts, each known to a crate of its own.
-use Prim.Native.Nat.{ℕ, _+_, _≤_, _<_}
+use Prim.Native.Nat.{ℕ, _+_}
 use mathlib.Core.List.{List}
 use lib.ListN.{getD}
 use Rattle.layout.specs.View.{stateOf}
 use Rattle.notes.specs.View.{notesCells, notesOf}
 use Rattle.stores.specs.View.{storesCells, storesOf}
 use Rattle.replies.specs.View.{repliesCells, repliesOf}
-use Rattle.gossip.specs.Notes.{Setup, Note, Row, Gossip, Extended}
+use Rattle.gossip.specs.Notes.{Setup, Note, Gossip, Extended}
 use Rattle.gossip_table.specs.Parts.{part}
 
 -- the head has room for eight numbers, of which five are in use

@@ -10,7 +10,7 @@ ghost use Rattle.gossip.specs.Notes.{noStore, storeIn, setStore, setReplies, st
 ghost use Rattle.gossip.specs.Notes.{windowMost, rowsMost, forget as forgetOf};
 ghost use Rattle.gossip.specs.Step.{running, announced, wanted};
 ghost use Rattle.gossip.specs.Valid.{rowNumber};
-ghost use Rattle.gossip_table.specs.View.{gossipCells, gossipOf, setStores};
+ghost use Rattle.gossip_table.specs.View.{gossipOf, setStores};
 ghost use Rattle.gossip_table.specs.Fine.{Fine, FineSlot, FineTopic, Kept, KeptRow, KeptSlot, ReplyFits, StoreFits, Announces, Wants};
 use crate::GOSSIP_CELLS;
 use crate::REPLIES_AT;

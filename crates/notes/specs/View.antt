@@ -20,7 +20,7 @@ notesCells = 8704
 
 -- where the row of a slot begins
 abbrev pub rowAt : ℕ → ℕ
-rowAt s = 256 + 33 * s
+rowAt s = slotCount + 33 * s
 
 -- the cell of a slot in the column
 abbrev pub headOf : List ℕ → ℕ → ℕ

@@ -1,7 +1,7 @@
 // How often IWANTs were answered, in one region of cells: rows by rising message number, each with a count for every slot. The only code
 // that knows how the region is laid out (specs/View.antt).
 ghost use mathlib.Core.Path.{_≡_};
-ghost use mathlib.Core.Bool.{Bool, true, false};
+ghost use mathlib.Core.Bool.{Bool, true};
 ghost use mathlib.Core.List.{[], map};
 ghost use Prim.Native.Nat.{ℕ, _+_, _*_, _^_, _<_};
 ghost use lib.ListN.{length, getD};

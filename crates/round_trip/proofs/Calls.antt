@@ -8,9 +8,7 @@ use borrow.Author.Tests.{ltb-false, le-ltb}
 use lib.Dec.{ltb}
 use lib.ListN.{length, take, drop}
 use lib.Seq.{sets, sets-eq, take-append-seam}
-use Rattle.index.proofs.Index.{both}
-use Rattle.message_ids.specs.Ids.{tableOk}
-use Rattle.rpc.specs.Reading.{Known, readOf}
+use Rattle.rpc.specs.Reading.{readOf}
 use Rattle.rpc_write.specs.declared.Wrote.{Wrote}
 use Rattle.rpc_write.specs.declared.Wrote.the-variants.{Done, NotList, Short}
 use Rattle.rpc_write.specs.Writing.{Writing, listOk, messageOf, writeOf, wroteNumber, wroteValue}
@@ -23,8 +21,8 @@ use Rattle.round_trip.proofs.RoundTrip.{reads-back}
 front : (buf m : List ℕ) → length m ≤ length buf → take (length m) (sets buf 0 m) ≡ m
 front buf m h = ap (take (length m)) (sets-eq m buf 0 (omega arith)) ∙ take-append-seam m (drop (0 + length m) buf)
 
-module _ (k : Known) (order actions topics changes buf : List ℕ) (size : ℕ)
-    (e : writeActionsOf k order actions topics changes buf .answer ≡ Done size) where
+module _ (names actions topics changes buf : List ℕ) (size : ℕ)
+    (e : writeActionsOf names actions topics changes buf .answer ≡ Done size) where
   abbrev L : List ℕ
   L = entriesOf actions topics changes
 
@@ -32,62 +30,52 @@ module _ (k : Known) (order actions topics changes buf : List ℕ) (size : ℕ)
   n = entryCount topics changes
 
   pub record Accepted : Type 0 where
-    pub call : writeActionsOf k order actions topics changes buf ≡ writeOf k order L n buf
-    pub table : tableOk (k .ids) (k .numbers) order ≡ true
-    pub ok : listOk k L n ≡ true
-    pub room : length (messageOf k L n) ≤ length buf
-    pub size-is : size ≡ length (messageOf k L n)
+    pub call : writeActionsOf names actions topics changes buf ≡ writeOf names L n buf
+    pub ok : listOk names L n ≡ true
+    pub room : length (messageOf names L n) ≤ length buf
+    pub size-is : size ≡ length (messageOf names L n)
 
-  not-done : (a : Wrote) → writeActionsOf k order actions topics changes buf .answer ≡ a → (wroteNumber a ≡ 0 → ⊥) → Accepted
+  not-done : (a : Wrote) → writeActionsOf names actions topics changes buf .answer ≡ a → (wroteNumber a ≡ 0 → ⊥) → Accepted
   not-done a f h = absurd (h (ap wroteNumber (sym f ∙ e)))
 
   pub accepted : Accepted
   unfolding writeActionsOf writeOf
   accepted =
-      let T = tableOk (k .ids) (k .numbers) order in
       by-test Accepted (actionsOk actions topics && changesOk changes)
       (λ t.
-      by-test Accepted (T && listOk k L n)
+      by-test Accepted (listOk names L n)
       (λ u.
-      by-test Accepted (ltb (length buf) (length (messageOf k L n)))
+      by-test Accepted (ltb (length buf) (length (messageOf names L n)))
       (λ v. not-done Short (rw (t, u, v)) (λ q. omega arith))
       (λ v.
-      let d : writeActionsOf k order actions topics changes buf .answer ≡ Done (length (messageOf k L n)) = rw (t, u, v) in
-      let p = both T (listOk k L n) u in
-      record {
-        call = rw t;
-        table = p .0;
-        ok = p .1;
-        room = ltb-false (length buf) (length (messageOf k L n)) v;
-        size-is = ap wroteValue (sym e ∙ d);
-      }))
+      let d : writeActionsOf names actions topics changes buf .answer ≡ Done (length (messageOf names L n)) = rw (t, u, v) in
+      record { call = rw t; ok = u; room = ltb-false (length buf) (length (messageOf names L n)) v; size-is = ap wroteValue (sym e ∙ d) }))
       (λ u. not-done NotList (rw (t, u)) (λ q. omega arith)))
       (λ t. not-done NotList (rw t) (λ q. omega arith))
 
-  left : take size (writeActionsOf k order actions topics changes buf .bytes) ≡ messageOf k L n
+  left : take size (writeActionsOf names actions topics changes buf .bytes) ≡ messageOf names L n
   unfolding writeOf
   left =
       let a = accepted in
-      let M = messageOf k L n in
-      let b : writeActionsOf k order actions topics changes buf .bytes ≡ sets buf 0 M =
-      ap (λ (w : Writing). w .bytes) (a .call) ∙ rw (a .table, a .ok, le-ltb (length buf) (length M) (a .room)) in
+      let M = messageOf names L n in
+      let b : writeActionsOf names actions topics changes buf .bytes ≡ sets buf 0 M =
+      ap (λ (w : Writing). w .bytes) (a .call) ∙ rw (a .ok, le-ltb (length buf) (length M) (a .room)) in
       rw (b, a .size-is) (front buf M (a .room))
 
 pub call-reads-back : CallReadsBack
-call-reads-back k order actions topics changes buf lent size set e h =
-    let a = accepted k order actions topics changes buf size e in
-    ap (λ (x : List ℕ). readOf k order x lent) (left k order actions topics changes buf size e)
-    ∙ reads-back k order (entriesOf actions topics changes) lent (entryCount topics changes) set (a .table) (a .ok) h
+call-reads-back names actions topics changes buf lent size set e h =
+    let a = accepted names actions topics changes buf size e in
+    ap (λ (x : List ℕ). readOf names x lent) (left names actions topics changes buf size e)
+    ∙ reads-back names (entriesOf actions topics changes) lent (entryCount topics changes) set (a .ok) h
 
 -- the entries in order 1's order, written again
 pub order-again :
-    (k : Known) (order actions topics changes buf : List ℕ) (size : ℕ) →
-    writeActionsOf k order actions topics changes buf .answer ≡ Done size →
-    writeOf k order (inOrder (entriesOf actions topics changes) (entryCount topics changes)) (entryCount topics changes) buf
-    ≡ writeActionsOf k order actions topics changes buf
+    (names actions topics changes buf : List ℕ) (size : ℕ) → writeActionsOf names actions topics changes buf .answer ≡ Done size →
+    writeOf names (inOrder (entriesOf actions topics changes) (entryCount topics changes)) (entryCount topics changes) buf
+    ≡ writeActionsOf names actions topics changes buf
 unfolding writeOf
-order-again k order actions topics changes buf size e =
-    let a = accepted k order actions topics changes buf size e in
+order-again names actions topics changes buf size e =
+    let a = accepted names actions topics changes buf size e in
     let l = entriesOf actions topics changes in
-    let c = entryCount topics changes in
-    rw (a .table, order-ok k l c (a .ok), writes-again k l c (a .ok)) (sym (a .call ∙ rw (a .table, a .ok)))
+    let k = entryCount topics changes in
+    rw (order-ok names l k (a .ok), writes-again names l k (a .ok)) (sym (a .call ∙ rw (a .ok)))

@@ -7,15 +7,12 @@ use borrow.Author.Tests.{eqb-true, eq-eqb, ne-eqb}
 use lib.Dec.{eqb}
 use lib.ListN.{length, length-append}
 use Rattle.fields.specs.Fields.{varint, delimited}
-use Prim.Native.Nat.{zero, suc}
-use Rattle.rpc.specs.Messages.{Item, subscription, graft, prune, idontwant, rpc, control, idItem, roleOf, inside}
+use Rattle.rpc.specs.Messages.{Item, subscription, graft, prune, rpc, control, roleOf}
 use Rattle.rpc.specs.Reading.{only}
-use Rattle.fields.specs.Walk.{Items, items}
-use Rattle.fields.specs.declared.Part.{Part}
-use Rattle.rpc.specs.Passes.{total, oneMore, tally, placeOf, isIdField}
+use Rattle.rpc.specs.Passes.{total, oneMore, tally, placeOf}
 use Rattle.rpc.specs.declared.Counts.{Counts}
 use Rattle.rpc.specs.declared.Role.{Role}
-use Rattle.rpc.specs.declared.Role.the-variants.{Skipped, Name, Value, Inner, Entry, Id}
+use Rattle.rpc.specs.declared.Role.the-variants.{Skipped, Name, Value, Inner, Entry}
 
 pub only-append : (kind : ℕ) (xs ys : List Item) → only kind (xs ++ ys) ≡ only kind xs ++ only kind ys
 unfolding only
@@ -34,37 +31,30 @@ only-one kind x = go (eqb (x .kind) kind)
     go true = refl
     go false = refl
 
--- ---- an entry is of one kind at most, and of one of the four if its kind is below 4
-abbrev pub kindsOf : ℕ → ℕ
-kindsOf k = one (eqb k subscription) + one (eqb k graft) + one (eqb k prune) + one (eqb k idontwant)
-
-one-few : (k : ℕ) → kindsOf k ≤ 1
-one-few zero = omega arith
-one-few (suc zero) = omega arith
-one-few (suc (suc zero)) = omega arith
-one-few (suc (suc (suc zero))) = omega arith
-one-few (suc (suc (suc (suc k)))) =
-    let n = suc (suc (suc (suc k))) in
-    rw (ne-eqb n 0 (λ e. omega arith), ne-eqb n 1 (λ e. omega arith), ne-eqb n 2 (λ e. omega arith), ne-eqb n 3 (λ e. omega arith))
-    (omega arith)
-
-pub one-kind : (k : ℕ) → k ≤ 3 → kindsOf k ≡ 1
-one-kind zero h = refl
-one-kind (suc zero) h = refl
-one-kind (suc (suc zero)) h = refl
-one-kind (suc (suc (suc zero))) h = refl
-one-kind (suc (suc (suc (suc k)))) h = absurd (omega arith)
+-- ---- an entry is of one kind at most
+one-few : (k : ℕ) → one (eqb k subscription) + one (eqb k graft) + one (eqb k prune) ≤ 1
+one-few k = go (eqb k subscription) refl (eqb k graft) refl (eqb k prune) refl
+  where
+    go : (a : Bool) → eqb k subscription ≡ a → (b : Bool) → eqb k graft ≡ b → (c : Bool) → eqb k prune ≡ c → one a + one b + one c ≤ 1
+    go true p true q c r = absurd (omega (arith, eqb-true k 0 p, eqb-true k 1 q))
+    go true p false q true r = absurd (omega (arith, eqb-true k 0 p, eqb-true k 2 r))
+    go true p false q false r = omega arith
+    go false p true q true r = absurd (omega (arith, eqb-true k 1 q, eqb-true k 2 r))
+    go false p true q false r = omega arith
+    go false p false q true r = omega arith
+    go false p false q false r = omega arith
 
 abbrev pub allKinds : List Item → ℕ
-allKinds xs = length (only subscription xs) + length (only graft xs) + length (only prune xs) + length (only idontwant xs)
+allKinds xs = length (only subscription xs) + length (only graft xs) + length (only prune xs)
 
-kinds-more : (x : Item) (xs : List Item) → allKinds (x ∷ xs) ≡ kindsOf (x .kind) + allKinds xs
+kinds-more :
+    (x : Item) (xs : List Item) →
+    allKinds (x ∷ xs) ≡ one (eqb (x .kind) subscription) + one (eqb (x .kind) graft) + one (eqb (x .kind) prune) + allKinds xs
 kinds-more x xs =
     let a = only-lengths subscription (x ∷ []) xs in
     let b = only-lengths graft (x ∷ []) xs in
     let c = only-lengths prune (x ∷ []) xs in
-    let d = only-lengths idontwant (x ∷ []) xs in
-    omega (arith, a, b, c, d, only-one subscription x, only-one graft x, only-one prune x, only-one idontwant x)
+    omega (arith, a, b, c, only-one subscription x, only-one graft x, only-one prune x)
 
 pub only-few : (xs : List Item) → allKinds xs ≤ length xs
 unfolding only
@@ -72,17 +62,16 @@ only-few [] = omega arith
 only-few (x ∷ xs) = omega (arith, kinds-more x xs, one-few (x .kind), only-few xs)
 
 -- ---- counting
-counts-same :
-    (m n : Counts) → m .subscriptions ≡ n .subscriptions → m .grafts ≡ n .grafts → m .prunes ≡ n .prunes → m .notices ≡ n .notices → m ≡ n
-counts-same m n a b c d = rw (a, b, c, d)
+counts-same : (m n : Counts) → m .subscriptions ≡ n .subscriptions → m .grafts ≡ n .grafts → m .prunes ≡ n .prunes → m ≡ n
+counts-same m n a b c = rw (a, b, c)
 
 pub tally-none : (n : Counts) → tally n [] ≡ n
 unfolding tally only
-tally-none n = counts-same (tally n []) n (omega arith) (omega arith) (omega arith) (omega arith)
+tally-none n = counts-same (tally n []) n (omega arith) (omega arith) (omega arith)
 
 pub tally-one : (n : Counts) (x : Item) → tally n (x ∷ []) ≡ oneMore n (x .kind)
 unfolding tally
-tally-one n x = rw (only-one subscription x, only-one graft x, only-one prune x, only-one idontwant x)
+tally-one n x = rw (only-one subscription x, only-one graft x, only-one prune x)
 
 pub tally-append : (n : Counts) (xs ys : List Item) → tally n (xs ++ ys) ≡ tally (tally n xs) ys
 unfolding tally
@@ -91,7 +80,6 @@ tally-append n xs ys =
     (omega (arith, only-lengths subscription xs ys))
     (omega (arith, only-lengths graft xs ys))
     (omega (arith, only-lengths prune xs ys))
-    (omega (arith, only-lengths idontwant xs ys))
 
 pub tally-total : (n : Counts) (xs : List Item) → total (tally n xs) ≡ total n + allKinds xs
 unfolding tally
@@ -116,120 +104,65 @@ module _ (n : Counts) (kind : ℕ) (m : kind ≡ 0 → ⊥) where
   unfolding placeOf
   place-second e = rw (ne-eqb kind 0 m, eq-eqb kind 1 e)
 
-  module _ (o : kind ≡ 1 → ⊥) where
-    pub place-third : kind ≡ 2 → n .prunes ≡ placeOf n kind
-    unfolding placeOf
-    place-third e = rw (ne-eqb kind 0 m, ne-eqb kind 1 o, eq-eqb kind 2 e)
-
-    pub place-fourth : (kind ≡ 2 → ⊥) → n .notices ≡ placeOf n kind
-    unfolding placeOf
-    place-fourth p = rw (ne-eqb kind 0 m, ne-eqb kind 1 o, ne-eqb kind 2 p)
+  pub place-third : (kind ≡ 1 → ⊥) → n .prunes ≡ placeOf n kind
+  unfolding placeOf
+  place-third o = rw (ne-eqb kind 0 m, ne-eqb kind 1 o)
 
 place-total : (n : Counts) (kind : ℕ) → placeOf n kind ≤ total n
 unfolding placeOf
 place-total n kind =
     by-test (placeOf n kind ≤ total n) (eqb kind 0) (λ t. rw t (omega arith))
-    (λ t.
-    by-test (placeOf n kind ≤ total n) (eqb kind 1) (λ u. rw (t, u) (omega arith))
-    (λ u. by-test (placeOf n kind ≤ total n) (eqb kind 2) (λ v. rw (t, u, v) (omega arith)) (λ v. rw (t, u, v) (omega arith))))
+    (λ t. by-test (placeOf n kind ≤ total n) (eqb kind 1) (λ u. rw (t, u) (omega arith)) (λ u. rw (t, u) (omega arith)))
 
 pub place-below : (n : Counts) (kind r m : ℕ) → r ≡ placeOf n kind → total n < m → r < m
 place-below n kind r m e h = omega (arith, e, place-total n kind)
 
 -- ---- the table by the message that a field stands in
-abbrev idIn : Role → ℕ
-idIn Id = 1
-idIn (Inner k) = 0
-idIn (Entry k) = 0
-idIn Skipped = 0
-idIn Name = 0
-idIn Value = 0
+pub control-inner : (number wire k : ℕ) → roleOf control number wire ≡ Inner k → ⊥
+unfolding roleOf
+control-inner number wire k e =
+    by-test ⊥ (eqb number 3 && eqb wire 2)
+    (λ t. let f : Entry 1 ≡ Inner k = rw t at e in let z : _≡_ {A = ℕ} 0 1 = cc in omega arith)
+    (λ t.
+    by-test ⊥ (eqb number 4 && eqb wire 2)
+    (λ u. let f : Entry 2 ≡ Inner k = rw (t, u) at e in let z : _≡_ {A = ℕ} 0 1 = cc in omega arith)
+    (λ u. let f : Skipped ≡ Inner k = rw (t, u) at e in let z : _≡_ {A = ℕ} 0 1 = cc in omega arith))
 
-id-row : (b : Bool) (r others : Role) → idIn r ≡ 0 → idIn others ≡ 0 → idIn (cond b r others) ≡ 0
-id-row true r others h l = h
-id-row false r others h l = l
+pub rpc-inner : (number wire k : ℕ) → roleOf rpc number wire ≡ Inner k → k ≡ control
+unfolding roleOf
+rpc-inner number wire k e =
+    by-test (k ≡ control) (eqb number 1 && eqb wire 2)
+    (λ t. let f : Entry 0 ≡ Inner k = rw t at e in let z : _≡_ {A = ℕ} 0 1 = cc in absurd (omega arith))
+    (λ t.
+    by-test (k ≡ control) (eqb number 3 && eqb wire 2)
+    (λ u. let f : Inner 9 ≡ Inner k = rw (t, u) at e in let z : 9 ≡ k = cc in sym z)
+    (λ u. let f : Skipped ≡ Inner k = rw (t, u) at e in let z : _≡_ {A = ℕ} 0 1 = cc in absurd (omega arith)))
 
-module _ (number wire : ℕ) where
-  -- an id stands neither in a control message nor in an RPC
-  pub control-id : roleOf control number wire ≡ Id → ⊥
-  unfolding roleOf
-  control-id e =
-      let c = cond (eqb number 5 && eqb wire 2) (Inner idontwant) Skipped in
-      let b = cond (eqb number 4 && eqb wire 2) (Entry prune) c in
-      let z = id-row (eqb number 3 && eqb wire 2) (Entry graft) b refl
-      (id-row (eqb number 4 && eqb wire 2) (Entry prune) c refl (id-row (eqb number 5 && eqb wire 2) (Inner idontwant) Skipped refl refl))
-      in
-      omega (arith, sym z ∙ ap idIn e)
-
-  pub rpc-id : roleOf rpc number wire ≡ Id → ⊥
-  unfolding roleOf
-  rpc-id e =
-      let b = cond (eqb number 3 && eqb wire 2) (Inner control) Skipped in
-      let z = id-row (eqb number 1 && eqb wire 2) (Entry subscription) b refl
-      (id-row (eqb number 3 && eqb wire 2) (Inner control) Skipped refl refl) in
-      omega (arith, sym z ∙ ap idIn e)
-
-  pub rpc-inner : (k : ℕ) → roleOf rpc number wire ≡ Inner k → k ≡ control
-  unfolding roleOf
-  rpc-inner k e =
-      by-test (k ≡ control) (eqb number 1 && eqb wire 2)
-      (λ t. let f : Entry 0 ≡ Inner k = rw t at e in let z : _≡_ {A = ℕ} 0 1 = cc in absurd (omega arith))
-      (λ t.
-      by-test (k ≡ control) (eqb number 3 && eqb wire 2)
-      (λ u. let f : Inner 9 ≡ Inner k = rw (t, u) at e in let z : 9 ≡ k = cc in sym z)
-      (λ u. let f : Skipped ≡ Inner k = rw (t, u) at e in let z : _≡_ {A = ℕ} 0 1 = cc in absurd (omega arith)))
-
-  pub control-inner : (k : ℕ) → roleOf control number wire ≡ Inner k → k ≡ idontwant
-  unfolding roleOf
-  control-inner k e =
-      by-test (k ≡ idontwant) (eqb number 3 && eqb wire 2)
-      (λ t. let f : Entry 1 ≡ Inner k = rw t at e in let z : _≡_ {A = ℕ} 0 1 = cc in absurd (omega arith))
-      (λ t.
-      by-test (k ≡ idontwant) (eqb number 4 && eqb wire 2)
-      (λ u. let f : Entry 2 ≡ Inner k = rw (t, u) at e in let z : _≡_ {A = ℕ} 0 1 = cc in absurd (omega arith))
-      (λ u.
-      by-test (k ≡ idontwant) (eqb number 5 && eqb wire 2)
-      (λ v. let f : Inner 3 ≡ Inner k = rw (t, u, v) at e in let z : 3 ≡ k = cc in sym z)
-      (λ v. let f : Skipped ≡ Inner k = rw (t, u, v) at e in let z : _≡_ {A = ℕ} 0 1 = cc in absurd (omega arith))))
-
--- ---- a field of an IDONTWANT
-module _ (s : List ℕ) (p : Part) where
-  pub ids-yes : isIdField p ≡ true → inside 1 idontwant s p ≡ idItem p
-  unfolding inside roleOf
-  ids-yes e = rw e
-
-  pub ids-no : isIdField p ≡ false → inside 1 idontwant s p ≡ items []
-  unfolding inside roleOf
-  ids-no e = rw e
-
--- ---- every entry with a message is of one of the first three kinds
+-- ---- every entry is of one of the three kinds
 abbrev kindIn : Role → ℕ
 kindIn (Entry k) = k
 kindIn (Inner k) = 0
-kindIn Id = 0
 kindIn Skipped = 0
 kindIn Name = 0
 kindIn Value = 0
 
 by-rows :
-    (a b c d e f g h i j k : Bool) →
+    (a b c d e f g h i : Bool) →
     kindIn
-    (cond a (Entry subscription) (cond b (Inner control) (cond c (Entry graft)
-    (cond d (Entry prune) (cond e (Inner idontwant) (cond f Value
-    (cond g Name (cond h Name (cond i Name (cond j Value (cond k Id Skipped)))))))))))
+    (cond a (Entry subscription)
+    (cond b (Inner control)
+    (cond c (Entry graft) (cond d (Entry prune) (cond e Value (cond f Name (cond g Name (cond h Name (cond i Value Skipped)))))))))
     ≤ 2
-by-rows true b c d e f g h i j k = omega arith
-by-rows false true c d e f g h i j k = omega arith
-by-rows false false true d e f g h i j k = omega arith
-by-rows false false false true e f g h i j k = omega arith
-by-rows false false false false true f g h i j k = omega arith
-by-rows false false false false false true g h i j k = omega arith
-by-rows false false false false false false true h i j k = omega arith
-by-rows false false false false false false false true i j k = omega arith
-by-rows false false false false false false false false true j k = omega arith
-by-rows false false false false false false false false false true k = omega arith
-by-rows false false false false false false false false false false true = omega arith
-by-rows false false false false false false false false false false false = omega arith
+by-rows true b c d e f g h i = omega arith
+by-rows false true c d e f g h i = omega arith
+by-rows false false true d e f g h i = omega arith
+by-rows false false false true e f g h i = omega arith
+by-rows false false false false true f g h i = omega arith
+by-rows false false false false false true g h i = omega arith
+by-rows false false false false false false true h i = omega arith
+by-rows false false false false false false false true i = omega arith
+by-rows false false false false false false false false true = omega arith
+by-rows false false false false false false false false false = omega arith
 
 all-listed : (kind number wire : ℕ) → kindIn (roleOf kind number wire) ≤ 2
 unfolding roleOf
@@ -239,13 +172,11 @@ all-listed kind number wire =
     (eqb kind rpc && eqb number 3 && eqb wire delimited)
     (eqb kind control && eqb number 3 && eqb wire delimited)
     (eqb kind control && eqb number 4 && eqb wire delimited)
-    (eqb kind control && eqb number 5 && eqb wire delimited)
     (eqb kind subscription && eqb number 1 && eqb wire varint)
     (eqb kind subscription && eqb number 2 && eqb wire delimited)
     (eqb kind graft && eqb number 1 && eqb wire delimited)
     (eqb kind prune && eqb number 1 && eqb wire delimited)
     (eqb kind prune && eqb number 3 && eqb wire varint)
-    (eqb kind idontwant && eqb number 1 && eqb wire delimited)
 
 pub entry-kind : (kind number wire k : ℕ) → roleOf kind number wire ≡ Entry k → k ≤ 2
 entry-kind kind number wire k e = omega (arith, all-listed kind number wire, ap kindIn e)

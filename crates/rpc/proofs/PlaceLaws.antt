@@ -13,12 +13,11 @@ use Rattle.fields.specs.declared.Part.{Part}
 use Rattle.fields.specs.declared.Field.the-variants.{Whole}
 use Rattle.fields.proofs.FieldLaws.{field-placed}
 use Rattle.fields.proofs.WalkLaws.{over-place}
-use Rattle.message_ids.specs.Ids.{tableOk}
-use Rattle.rpc.specs.Messages.{Item, rpc, itemOf, itemAt, idItem, byRole, roleOf, inside, rpcAt}
-use Rattle.rpc.specs.Reading.{messageBytes, listNumbers, Known, answered, readOf, answerValue}
+use Rattle.rpc.specs.Messages.{Item, rpc, itemOf, itemAt, byRole, roleOf, inside, rpcAt}
+use Rattle.rpc.specs.Reading.{messageBytes, listNumbers, answered, readOf, answerValue}
 use Rattle.rpc.specs.Room.{PlaceInside}
 use Rattle.rpc.specs.declared.Role.{Role}
-use Rattle.rpc.specs.declared.Role.the-variants.{Skipped, Name, Value, Inner, Entry, Id}
+use Rattle.rpc.specs.declared.Role.the-variants.{Skipped, Name, Value, Inner, Entry}
 use Rattle.rpc.proofs.CheckLaws.{message-few}
 
 fields-place : (s : List ℕ) (at q : ℕ) → fieldsOf s at ≡ broken q → q < length s
@@ -33,21 +32,17 @@ entry-place : (kind : ℕ) (s : List ℕ) (at q : ℕ) → itemAt kind s at ≡ 
 unfolding itemAt
 entry-place kind s at q e = item-place kind s (fieldsOf s at) q (fields-place s at) e
 
-own-place : (p : Part) (q n : ℕ) → idItem p ≡ broken q → q < n
-own-place p q n e = let z : _≡_ {A = ℕ} 0 1 = cc in absurd (omega arith)
-
 nowhere : (q n : ℕ) → _≡_ {A = Items Item} (items []) (broken q) → q < n
 nowhere q n e = let z : _≡_ {A = ℕ} 0 1 = cc in absurd (omega arith)
 
 role-place :
-    (r : Role) (inner one : ℕ → Items Item) (own : Items Item) (n q : ℕ) → ((k : ℕ) → inner k ≡ broken q → q < n) →
-    ((k : ℕ) → one k ≡ broken q → q < n) → (own ≡ broken q → q < n) → byRole r inner one own ≡ broken q → q < n
-role-place (Entry k) inner one own n q f g o e = g k e
-role-place (Inner k) inner one own n q f g o e = f k e
-role-place Id inner one own n q f g o e = o e
-role-place Skipped inner one own n q f g o e = nowhere q n e
-role-place Name inner one own n q f g o e = nowhere q n e
-role-place Value inner one own n q f g o e = nowhere q n e
+    (r : Role) (inner one : ℕ → Items Item) (n q : ℕ) → ((k : ℕ) → inner k ≡ broken q → q < n) → ((k : ℕ) → one k ≡ broken q → q < n) →
+    byRole r inner one ≡ broken q → q < n
+role-place (Entry k) inner one n q f g e = g k e
+role-place (Inner k) inner one n q f g e = f k e
+role-place Skipped inner one n q f g e = nowhere q n e
+role-place Name inner one n q f g e = nowhere q n e
+role-place Value inner one n q f g e = nowhere q n e
 
 inside-place : (d kind : ℕ) (s : List ℕ) (at : ℕ) (p : Part) (q : ℕ) → fieldAt s at ≡ Whole p → inside d kind s p ≡ broken q → q < length s
 unfolding inside
@@ -56,30 +51,26 @@ inside-place (suc d) kind s at p q f e =
     let h = field-placed s at p f .high in
     let S = take (p .next) s in
     let below : q < length S → q < length s = λ l. omega (arith, length-take-le (p .next) s h) in
-    role-place (roleOf kind (p .number) (p .wire)) (λ k. over (λ x. inside d k S x) S (p .start)) (λ k. itemAt k S (p .start)) (idItem p)
-    (length s) q
+    role-place (roleOf kind (p .number) (p .wire)) (λ k. over (λ x. inside d k S x) S (p .start)) (λ k. itemAt k S (p .start)) (length s) q
     (λ k i. below (over-place (λ x. inside d k S x) S (inside-place d k S) (p .start) q i))
-    (λ k i. below (entry-place k S (p .start) q i)) (own-place p q (length s)) e
+    (λ k i. below (entry-place k S (p .start) q i)) e
 
 pub place-inside : PlaceInside
-place-inside s q e = over-place (inside 3 rpc s) s (inside-place 3 rpc s) 0 q e
+place-inside s q e = over-place (inside 2 rpc s) s (inside-place 2 rpc s) 0 q e
 
 -- ---- the number that goes with an answer
 answered-most :
-    (k : Known) (s list : List ℕ) (x : Items Item) → rpcAt s 0 ≡ x → length s ≤ messageBytes →
-    answerValue (answered k s list x .answer) ≤ messageBytes
-answered-most k s list (items xs) e h = omega (arith, message-few 3 rpc s 0 xs e)
-answered-most k s list (broken q) e h = omega (arith, place-inside s q e)
+    (names s list : List ℕ) (x : Items Item) → rpcAt s 0 ≡ x → length s ≤ messageBytes →
+    answerValue (answered names s list x .answer) ≤ messageBytes
+answered-most names s list (items xs) e h = omega (arith, message-few 2 rpc s 0 xs e)
+answered-most names s list (broken q) e h = omega (arith, place-inside s q e)
 
-pub read-most : (k : Known) (order s list : List ℕ) → answerValue (readOf k order s list .answer) ≤ messageBytes
+pub read-most : (names s list : List ℕ) → answerValue (readOf names s list .answer) ≤ messageBytes
 unfolding readOf
-read-most k order s list =
-    by-test (answerValue (readOf k order s list .answer) ≤ messageBytes) (ltb (length list) listNumbers)
+read-most names s list =
+    by-test (answerValue (readOf names s list .answer) ≤ messageBytes) (ltb (length list) listNumbers)
     (λ t. rw t (omega arith))
     (λ t.
-    by-test (answerValue (readOf k order s list .answer) ≤ messageBytes) (tableOk (k .ids) (k .numbers) order)
-    (λ v.
-    by-test (answerValue (readOf k order s list .answer) ≤ messageBytes) (ltb messageBytes (length s))
-    (λ u. rw (t, v, u) (omega arith))
-    (λ u. rw (t, v, u) (answered-most k s list (rpcAt s 0) refl (ltb-false messageBytes (length s) u))))
-    (λ v. rw (t, v) (omega arith)))
+    by-test (answerValue (readOf names s list .answer) ≤ messageBytes) (ltb messageBytes (length s))
+    (λ u. rw (t, u) (omega arith))
+    (λ u. rw (t, u) (answered-most names s list (rpcAt s 0) refl (ltb-false messageBytes (length s) u))))

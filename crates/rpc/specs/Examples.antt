@@ -1,20 +1,19 @@
--- Worked examples of 02, orders 1 and 6: what the definitions give for some messages. To be changed with 02's text alone.
+-- Worked examples of 02, order 1: what the definitions give for some messages. To be changed with 02's text alone.
 use Prim.Native.Nat.{ℕ}
 use mathlib.Core.Path.{_≡_}
 use mathlib.Core.List.{List, [], _∷_, _++_}
 use lib.ListN.{replicate}
 use Rattle.fields.specs.Walk.{Items, items, broken}
-use Rattle.message_ids.specs.Examples.{someIds, someNumbers}
-use Rattle.rpc.specs.Messages.{Item, subscription, graft, prune, idontwant, rpcAt}
-use Rattle.rpc.specs.Reading.{noTopic, known, numbersOf, ordered}
+use Rattle.rpc.specs.Messages.{Item, subscription, graft, prune, rpcAt}
+use Rattle.rpc.specs.Reading.{noTopic, numbersOf, ordered}
 
 -- topic 0 is "a", topic 1 is "ab", the others have no name
 abbrev pub someNames : List ℕ
 someNames = (1 ∷ 0x61 ∷ []) ++ replicate 63 0 ++ (2 ∷ 0x61 ∷ 0x62 ∷ []) ++ replicate 62 0 ++ replicate 390 0
 
--- the numbers that stand in the list after a message is read; the ids "b" and "aa" have the numbers 9 and 0
+-- the numbers that stand in the list after a message is read
 abbrev pub listed : List ℕ → Items Item → Items ℕ
-listed s (items xs) = items (numbersOf (known someNames someIds someNumbers) s (ordered xs))
+listed s (items xs) = items (numbersOf someNames s (ordered xs))
 listed s (broken q) = broken q
 
 abbrev pub numbersIn : List ℕ → Items ℕ
@@ -53,14 +52,3 @@ pub record Examples : Type 0 where
       ∷ 0x0A ∷ 0x05 ∷ 0x08 ∷ 0x05 ∷ 0x12 ∷ 0x01 ∷ 0x61
       ∷ [])
       ≡ items (subscription ∷ 0 ∷ 1 ∷ graft ∷ 1 ∷ 0 ∷ prune ∷ 0 ∷ 60 ∷ [])
-  -- ---- IDONTWANT: "aa", "a", the empty id and "b" twice, then a GRAFT of "a": the ids come last, each in its place
-  pub notices :
-      numbersIn
-      (0x1A ∷ 0x16 ∷ 0x2A ∷ 0x0F ∷ 0x0A ∷ 0x02 ∷ 0x61 ∷ 0x61 ∷ 0x0A ∷ 0x01 ∷ 0x61 ∷ 0x0A ∷ 0x00 ∷ 0x0A ∷ 0x01 ∷ 0x62 ∷ 0x0A ∷ 0x01 ∷ 0x62
-      ∷ 0x1A ∷ 0x03 ∷ 0x0A ∷ 0x01 ∷ 0x61
-      ∷ [])
-      ≡ items
-      (graft ∷ 0 ∷ 0 ∷ idontwant ∷ 0 ∷ 0 ∷ idontwant ∷ noTopic ∷ 0 ∷ idontwant ∷ noTopic ∷ 0 ∷ idontwant ∷ 0 ∷ 9 ∷ idontwant ∷ 0 ∷ 9 ∷ [])
-  -- a broken field inside, and a message id of another wire type
-  pub notice-broken : numbersIn (0x1A ∷ 0x05 ∷ 0x2A ∷ 0x03 ∷ 0x0A ∷ 0x02 ∷ 0x61 ∷ []) ≡ broken 4
-  pub notice-number : numbersIn (0x1A ∷ 0x04 ∷ 0x2A ∷ 0x02 ∷ 0x08 ∷ 0x01 ∷ []) ≡ items []

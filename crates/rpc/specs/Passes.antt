@@ -2,19 +2,16 @@
 -- the message is whole and counts the entries of each kind; the second puts each entry at the next place of its kind.
 use Prim.Native.Nat.{ℕ, _+_, _*_, _≤_}
 use mathlib.Core.Path.{_≡_}
-use mathlib.Core.Bool.{Bool, true, _&&_, cond}
+use mathlib.Core.Bool.{cond}
 use mathlib.Core.List.{List}
 use lib.Dec.{eqb}
 use lib.ListN.{length}
 use lib.Seq.{sets}
 use Rattle.index.specs.Index.{one}
-use Rattle.fields.specs.Fields.{delimited}
 use Rattle.fields.specs.Walk.{Items, items, broken, fieldsOf}
 use Rattle.fields.specs.declared.Part.{Part}
-use Rattle.message_ids.specs.Ids.{idsOk}
-use Rattle.rpc.specs.Messages.{Item, subscription, graft, prune, idontwant, idItem, inside, rpcAt, heldOf, noneHeld}
-use Rattle.rpc.specs.Reading.{namesBytes, Known, known, numbersOf, only, ordered, Reading}
-use Rattle.rpc.specs.declared.Answer.{Answer}
+use Rattle.rpc.specs.Messages.{Item, subscription, graft, prune, rpcAt, heldOf, noneHeld}
+use Rattle.rpc.specs.Reading.{numbersOf, only, ordered}
 use Rattle.rpc.specs.declared.Held.{Held}
 use Rattle.rpc.specs.declared.Check.{Check}
 use Rattle.rpc.specs.declared.Check.the-variants.{Whole, Torn}
@@ -32,7 +29,7 @@ checked (items xs) = Whole
 checked (broken q) = Torn q
 
 abbrev pub total : Counts → ℕ
-total n = n .subscriptions + n .grafts + n .prunes + n .notices
+total n = n .subscriptions + n .grafts + n .prunes
 
 abbrev pub oneMore : Counts → ℕ → Counts
 oneMore n kind =
@@ -40,7 +37,6 @@ oneMore n kind =
       subscriptions = n .subscriptions + one (eqb kind subscription);
       grafts = n .grafts + one (eqb kind graft);
       prunes = n .prunes + one (eqb kind prune);
-      notices = n .notices + one (eqb kind idontwant);
     }
 
 -- counting goes on from n
@@ -50,22 +46,14 @@ tally n xs =
       subscriptions = n .subscriptions + length (only subscription xs);
       grafts = n .grafts + length (only graft xs);
       prunes = n .prunes + length (only prune xs);
-      notices = n .notices + length (only idontwant xs);
     }
 
 abbrev pub counted : Counts → Items Item → Count
 counted n (items xs) = Entries (tally n xs)
 counted n (broken q) = Cut q
 
--- a field of an IDONTWANT, an id or not, whatever bytes it stands in
-abbrev pub isIdField : Part → Bool
-isIdField p = eqb (p .number) 1 && eqb (p .wire) delimited
-
-abbrev pub CountsId : Counts → Part → Counts → Type 0
-CountsId n p r = (s : List ℕ) → Entries r ≡ counted n (inside 1 idontwant s p)
-
 abbrev pub noneCounted : Counts
-noneCounted = record { subscriptions = 0; grafts = 0; prunes = 0; notices = 0 }
+noneCounted = record { subscriptions = 0; grafts = 0; prunes = 0 }
 
 -- ---- the second pass
 -- what an entry's message holds, if it is whole; its name lies in the message
@@ -76,72 +64,38 @@ pub record Holds (kind : ℕ) (s : List ℕ) (at : ℕ) (h : Held) : Type 0 wher
 
 -- the place of the next entry of a kind
 unfoldable pub placeOf : Counts → ℕ → ℕ
-placeOf n kind =
-    cond (eqb kind subscription) (n .subscriptions) (cond (eqb kind graft) (n .grafts) (cond (eqb kind prune) (n .prunes) (n .notices)))
-
--- eight names, and ids that are accepted
-abbrev pub Ready : List ℕ → List ℕ → List ℕ → Type 0
-Ready names ids numbers = (length names ≡ namesBytes) × (idsOk ids (length numbers) ≡ true)
+placeOf n kind = cond (eqb kind subscription) (n .subscriptions) (cond (eqb kind graft) (n .grafts) (n .prunes))
 
 -- an entry is put at a place
-abbrev pub Puts : Known → List ℕ → Items Item → ℕ → List ℕ → List ℕ → Type 0
-Puts k s x n list out = (xs : List Item) → x ≡ items xs → out ≡ sets list (3 * n) (numbersOf k s xs)
-
--- one with a topic's name, whatever the ids are; and an id, whatever the names are
-abbrev pub PutsNamed : List ℕ → List ℕ → ℕ → Items Item → ℕ → List ℕ → List ℕ → Type 0
-PutsNamed names s kind x n list out = (ids numbers : List ℕ) → kind ≤ 2 → Puts (known names ids numbers) s x n list out
-
-abbrev pub PutsId : List ℕ → List ℕ → List ℕ → Part → ℕ → List ℕ → List ℕ → Type 0
-PutsId ids numbers s p n list out = (names : List ℕ) → Puts (known names ids numbers) s (idItem p) n list out
+abbrev pub Puts : List ℕ → List ℕ → Items Item → ℕ → List ℕ → List ℕ → Type 0
+Puts names s x n list out = (xs : List Item) → x ≡ items xs → out ≡ sets list (3 * n) (numbersOf names s xs)
 
 -- the entries of each kind, one after the other from the place of the kind on
-unfoldable pub filed : Known → List ℕ → Counts → List Item → List ℕ → List ℕ
-filed k s n xs list =
+unfoldable pub filed : List ℕ → List ℕ → Counts → List Item → List ℕ → List ℕ
+filed names s n xs list =
     sets
-    (sets
-    (sets (sets list (3 * n .subscriptions) (numbersOf k s (only subscription xs))) (3 * n .grafts) (numbersOf k s (only graft xs)))
+    (sets (sets list (3 * n .subscriptions) (numbersOf names s (only subscription xs))) (3 * n .grafts) (numbersOf names s (only graft xs)))
     (3 * n .prunes)
-    (numbersOf k s (only prune xs)))
-    (3 * n .notices)
-    (numbersOf k s (only idontwant xs))
+    (numbersOf names s (only prune xs))
 
 -- no kind reaches the place of the next
 pub record Apart (n : Counts) (xs : List Item) : Type 0 where
   pub first : n .subscriptions + length (only subscription xs) ≤ n .grafts
   pub second : n .grafts + length (only graft xs) ≤ n .prunes
-  pub third : n .prunes + length (only prune xs) ≤ n .notices
 
 -- where the kinds start in the list, if there are n of each
 abbrev pub starts : Counts → Counts
-starts n =
-    record {
-      subscriptions = 0;
-      grafts = n .subscriptions;
-      prunes = n .subscriptions + n .grafts;
-      notices = n .subscriptions + n .grafts + n .prunes;
-    }
+starts n = record { subscriptions = 0; grafts = n .subscriptions; prunes = n .subscriptions + n .grafts }
 
 -- what a part of the pass leaves, if its part of the message is whole: the next places, and the list
-abbrev pub Collects : Known → List ℕ → Items Item → Counts → List ℕ → Counts → List ℕ → Type 0
-Collects k s x n list r out = (xs : List Item) → x ≡ items xs → Apart n xs → (r ≡ tally n xs) × (out ≡ filed k s n xs list)
-
--- a part that holds ids alone, whatever the names are
-abbrev pub CollectsIds : List ℕ → List ℕ → List ℕ → Items Item → Counts → List ℕ → Counts → List ℕ → Type 0
-CollectsIds ids numbers s x n list r out = (names : List ℕ) → Collects (known names ids numbers) s x n list r out
-
--- one field of an IDONTWANT
-abbrev pub PutsIds : List ℕ → List ℕ → List ℕ → Part → Counts → List ℕ → Counts → List ℕ → Type 0
-PutsIds ids numbers all p n list r out =
-    ((s : List ℕ) → CollectsIds ids numbers all (inside 1 idontwant s p) n list r out) × (total r ≤ total n + 1)
+abbrev pub Collects : List ℕ → List ℕ → Items Item → Counts → List ℕ → Counts → List ℕ → Type 0
+Collects names s x n list r out =
+    (xs : List Item) → x ≡ items xs → Apart n xs → (r ≡ tally n xs) × (out ≡ filed names s n xs list)
 
 -- what the whole pass leaves, if the first one counted n
-abbrev pub Fills : Known → List ℕ → Counts → List ℕ → ℕ → List ℕ → Type 0
-Fills k s n list r out =
+abbrev pub Fills : List ℕ → List ℕ → Counts → List ℕ → ℕ → List ℕ → Type 0
+Fills names s n list r out =
     (xs : List Item) →
     rpcAt s 0 ≡ items xs →
     n ≡ tally noneCounted xs →
-    (r ≡ length xs) × (out ≡ sets list 0 (numbersOf k s (ordered xs)))
-
--- what `read` gives
-abbrev pub Reads : Reading → Answer → List ℕ → Type 0
-Reads w r out = (r ≡ w .answer) × (out ≡ w .list)
+    (r ≡ length xs) × (out ≡ sets list 0 (numbersOf names s (ordered xs)))

@@ -11,10 +11,9 @@ use lib.ListN.{length, getD, List·getD-append}
 use lib.Seq.{getD-append-add}
 use Rattle.index.proofs.Index.{both}
 use Rattle.varint.specs.Groups.{encode, groups}
-use Rattle.message_ids.specs.Ids.{tableOk}
-use Rattle.rpc_write.specs.Writing.{valueField, partField, nameSize, nameOf, namedBytes, entryBytes, oneBytes, kindBytes, controlBytes}
-use Rattle.rpc_write.specs.Writing.{innerField, namedOk, entryOk, messageOf, listOk, writeOf, wroteValue}
-use Rattle.rpc_write.proofs.LengthLaws.{isSub, message-long, short-ids}
+use Rattle.rpc_write.specs.Writing.{valueField, partField, nameSize, nameOf, entryBytes, oneBytes, kindBytes, controlBytes, controlField}
+use Rattle.rpc_write.specs.Writing.{entryOk, messageOf, listOk, writeOf, wroteValue}
+use Rattle.rpc_write.proofs.LengthLaws.{isSub, message-long}
 use Rattle.rpc_actions.specs.Actions.{actionsOk, changesOk, changeAt, actionAt, entriesOf, entryCount, writeActionsOf}
 use Rattle.rpc_actions.specs.Longest.{longest, Longest, AnswersLongest, Reached}
 use Rattle.rpc_actions.proofs.ActionLaws.{sizes, gather-length}
@@ -57,13 +56,13 @@ unfolding changesOk
 few changes e = leb-true (length changes / 2) 8 (both (leb (length changes / 2) 8) (eqb (length changes) (2 * (length changes / 2))) e .0)
 
 pub longest-message : Longest
-longest-message lent order actions topics changes k a c ok =
+longest-message names actions topics changes a c ok =
     let L = entriesOf actions topics changes in
     let n = entryCount topics changes in
     let z = sizes actions topics a in
     omega (
       arith,
-      message-long lent (short-ids lent order k) L n ok,
+      message-long names L n ok,
       front-count (isSub L) (length changes / 2) n (sub-front actions topics changes),
       few changes c,
       z .few,
@@ -71,24 +70,22 @@ longest-message lent order actions topics changes k a c ok =
 
 pub write-most : AnswersLongest
 unfolding writeActionsOf writeOf
-write-most lent order actions topics changes buf =
+write-most names actions topics changes buf =
     let L = entriesOf actions topics changes in
     let n = entryCount topics changes in
-    let P = wroteValue (writeActionsOf lent order actions topics changes buf .answer) ≤ longest in
+    let P = wroteValue (writeActionsOf names actions topics changes buf .answer) ≤ longest in
     by-test P (actionsOk actions topics && changesOk changes)
     (λ t.
-    by-test P (tableOk (lent .ids) (lent .numbers) order && listOk lent L n)
+    by-test P (listOk names L n)
     (λ u.
-    by-test P (ltb (length buf) (length (messageOf lent L n)))
+    by-test P (ltb (length buf) (length (messageOf names L n)))
     (λ v. rw (t, u, v) (omega arith))
-    (λ v.
-    let p = both (actionsOk actions topics) (changesOk changes) t in
-    let q = both (tableOk (lent .ids) (lent .numbers) order) (listOk lent L n) u in
-    rw (t, u, v) (longest-message lent order actions topics changes (q .0) (p .0) (p .1) (q .1))))
+    (λ v. rw (t, u, v) (longest-message names actions topics changes (both (actionsOk actions topics) (changesOk changes) t .0)
+    (both (actionsOk actions topics) (changesOk changes) t .1) u)))
     (λ u. rw (t, u) (omega arith)))
     (λ t. rw t (omega arith))
 
 pub reached : Reached
-unfolding gather every groups encode entriesOf valueField partField nameSize nameOf namedBytes entryBytes oneBytes kindBytes controlBytes
-    innerField namedOk entryOk messageOf listOk
+unfolding gather every groups encode entriesOf valueField partField nameSize nameOf entryBytes oneBytes kindBytes controlBytes controlField
+    entryOk messageOf listOk
 reached = (refl, refl)

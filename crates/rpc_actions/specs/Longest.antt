@@ -1,6 +1,5 @@
 -- The longest message that is written: 8 joins of topics with names of 64 bytes, 70 bytes each, 64 PRUNEs of 3600 seconds, 71 bytes each,
--- and the control field's tag and length, 3 bytes. An id takes less than a
--- PRUNE, with its part of the head of all.
+-- and the control field's tag and length, 3 bytes.
 use Prim.Native.Nat.{ℕ, _≤_}
 use mathlib.Core.Path.{_≡_}
 use mathlib.Core.Bool.{true}
@@ -8,8 +7,7 @@ use mathlib.Core.List.{List, [], _∷_}
 use lib.ListN.{length}
 use Rattle.index.specs.Index.{gather}
 use Rattle.rpc.specs.Messages.{prune}
-use Rattle.message_ids.specs.Ids.{tableOk}
-use Rattle.rpc.specs.Reading.{topics, nameBytes, Known, known}
+use Rattle.rpc.specs.Reading.{topics, nameBytes}
 use Rattle.rpc_write.specs.Writing.{mostSeconds, mostActions, mostChanges, messageOf, listOk, wroteValue}
 use Rattle.rpc_actions.specs.Actions.{actionsOk, changesOk, entriesOf, entryCount, writeActionsOf}
 
@@ -19,18 +17,16 @@ longest = 5107
 -- the message of every list that is accepted
 abbrev pub Longest : Type 0
 Longest =
-    (k : Known) (order actions topics changes : List ℕ) →
-    tableOk (k .ids) (k .numbers) order ≡ true →
+    (names actions topics changes : List ℕ) →
     actionsOk actions topics ≡ true →
     changesOk changes ≡ true →
-    listOk k (entriesOf actions topics changes) (entryCount topics changes) ≡ true →
-    length (messageOf k (entriesOf actions topics changes) (entryCount topics changes)) ≤ longest
+    listOk names (entriesOf actions topics changes) (entryCount topics changes) ≡ true →
+    length (messageOf names (entriesOf actions topics changes) (entryCount topics changes)) ≤ longest
 
 -- and so the length in every answer
 abbrev pub AnswersLongest : Type 0
 AnswersLongest =
-    (k : Known) (order actions topics changes buf : List ℕ) →
-    wroteValue (writeActionsOf k order actions topics changes buf .answer) ≤ longest
+    (names actions topics changes buf : List ℕ) → wroteValue (writeActionsOf names actions topics changes buf .answer) ≤ longest
 
 -- ---- one that is as long: eight names of 64 bytes, of which no two are alike
 abbrev pub fullNames : List ℕ
@@ -45,10 +41,7 @@ fullTopics = gather mostActions (λ i. 0 ∷ [])
 abbrev pub fullChanges : List ℕ
 fullChanges = gather mostChanges (λ k. 1 ∷ k ∷ [])
 
-abbrev pub full : Known
-full = known fullNames [] []
-
 abbrev pub Reached : Type 0
 Reached =
-    (listOk full (entriesOf fullActions fullTopics fullChanges) (entryCount fullTopics fullChanges) ≡ true)
-    × (length (messageOf full (entriesOf fullActions fullTopics fullChanges) (entryCount fullTopics fullChanges)) ≡ longest)
+    (listOk fullNames (entriesOf fullActions fullTopics fullChanges) (entryCount fullTopics fullChanges) ≡ true)
+    × (length (messageOf fullNames (entriesOf fullActions fullTopics fullChanges) (entryCount fullTopics fullChanges)) ≡ longest)

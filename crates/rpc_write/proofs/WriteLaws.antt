@@ -7,7 +7,7 @@ use Prim.Native.Nat.{zero, suc, _/_, _%_}
 use mathlib.Core.Bool.{_&&_, _||_}
 use mathlib.Core.List.{List, [], _∷_, _++_, append-assoc, append-nil}
 use native.Mathlib.Numerals.{add-one}
-use borrow.Author.Tests.{lt-ltb, le-ltb, ltb-true, le-leb, lt-leb, leb-true, eq-eqb, ne-eqb, eqb-true}
+use borrow.Author.Tests.{lt-ltb, le-ltb, le-leb, lt-leb, leb-true, eq-eqb, ne-eqb, eqb-true}
 use lib.Dec.{ltb, leb, eqb}
 use lib.ListN.{length, getD, set, length-append, length-set}
 use lib.Seq.{sets, length-sets, set-out}
@@ -15,15 +15,10 @@ use Rattle.index.proofs.Index.{both, every-at, gather-none, gather-more}
 use Rattle.index.proofs.Lists.{sets-append}
 use Rattle.varint.specs.Groups.{encode}
 use Rattle.varint.proofs.GroupLaws.{encode-last, encode-more}
-use Rattle.index.specs.declared.Found.{Found}
-use Rattle.index.specs.declared.Found.the-variants.{At, Nothing}
-use Rattle.message_ids.specs.Ids.{idSize, idStart, numberRow, tableOk}
-use Rattle.message_ids.proofs.TableLaws.{table-parts, good-ids}
-use Rattle.message_ids.proofs.FindLaws.{row-below}
-use Rattle.rpc.specs.Reading.{rowBytes, nameBytes, Known}
-use Rattle.rpc_write.specs.Writing.{Stored, Fitting, partSize, valueField, headBytes, partField, nameSize, run, nameOf, idOf, early}
-use Rattle.rpc_write.specs.Writing.{late, nameNumber, namedBytes, entryBytes, oneBytes, kindBytes, controlBytes, innerField}
-use Rattle.rpc_write.specs.Writing.{messageOf, namedOk, isFound, noticeOk, entryOk, listOk, writeOf}
+use Rattle.rpc.specs.Reading.{rowBytes, nameBytes}
+use Rattle.rpc_write.specs.Writing.{Stored, Fitting, partSize, valueField, headBytes, partField, nameSize, nameByte, nameOf, early}
+use Rattle.rpc_write.specs.Writing.{late, nameNumber, entryBytes, oneBytes, kindBytes, controlBytes, controlField, messageOf}
+use Rattle.rpc_write.specs.Writing.{entryOk, listOk, writeOf}
 use Rattle.rpc_write.specs.declared.Wrote.{Wrote}
 use Rattle.rpc_write.specs.declared.Wrote.the-variants.{Done, NotList, Short}
 
@@ -121,78 +116,40 @@ module _ (names : List ℕ) (topic : ℕ) where
 
   pub name-far : (b : List ℕ) (at : ℕ) → 8 ≤ topic → Stored b at (nameOf names topic) at b × (at ≤ at + nameBytes)
   unfolding nameOf
-  name-far b at h = rw (← size-far h .0, gather-none (λ i. getD names (rowBytes * topic + 1 + i) 0 ∷ [])) (stored-none b at, omega arith)
+  name-far b at h = rw (← size-far h .0, gather-none (nameByte names topic)) (stored-none b at, omega arith)
 
   -- how long a name is
   pub name-length : nameSize names topic ≡ length (nameOf names topic)
   unfolding nameOf
   name-length = sym (singles (λ i. getD names (rowBytes * topic + 1 + i) 0) (nameSize names topic))
 
-  pub name-run :
-      (b : List ℕ) (at size q : ℕ) (out : List ℕ) → (size ≡ nameSize names topic) × (size ≤ nameBytes) →
-      Stored b at (run names (rowBytes * topic + 1) size) q out × (q ≤ at + nameBytes) →
-      Stored b at (nameOf names topic) q out × (q ≤ at + nameBytes)
+  -- the copy: none of its bytes, one more, all
+  abbrev pub Copied : List ℕ → ℕ → ℕ → List ℕ → Type 0
+  Copied b at i out = (length out ≡ length b) × (out ≡ sets b at (gather i (nameByte names topic)))
+
+  pub name-none : (b : List ℕ) (at : ℕ) → Copied b at 0 b
+  name-none b at = (refl, rw (gather-none (nameByte names topic)))
+
+  pub name-more : (b : List ℕ) (at i : ℕ) (out : List ℕ) → Copied b at i out → Copied b at (i + 1)
+      (set out (at + i) (getD names (rowBytes * topic + 1 + i) 0))
+  name-more b at i out e =
+      let x = getD names (rowBytes * topic + 1 + i) 0 in (
+        length-set out (at + i) x ∙ e .0,
+        one-more (λ k. getD names (rowBytes * topic + 1 + k) 0) b at i out (set out (at + i) x)
+            (e .1) refl,
+      )
+
+  pub name-all :
+      (b : List ℕ) (at i n size : ℕ) (out : List ℕ) → (size ≡ nameSize names topic) × (size ≤ nameBytes) → Fitting (length b) at size n →
+      i ≤ n → n ≤ i → Copied b at i out → Stored b at (nameOf names topic) (at + size) out × (at + size ≤ at + nameBytes)
   unfolding nameOf
-  name-run b at size q out z s = rw (z .0) at s
-
--- ---- a copy: none of its bytes, one more, all
-module _ (src : List ℕ) (start : ℕ) (b : List ℕ) (at : ℕ) where
-  abbrev pub Copied : ℕ → List ℕ → Type 0
-  Copied i out = (length out ≡ length b) × (out ≡ sets b at (run src start i))
-
-  pub copy-none : Copied 0 b
-  copy-none = (refl, rw (gather-none (λ i. getD src (start + i) 0 ∷ [])))
-
-  pub copy-more : (i : ℕ) (out : List ℕ) → Copied i out → Copied (i + 1) (set out (at + i) (getD src (start + i) 0))
-  copy-more i out e =
-      let x = getD src (start + i) 0 in
-      (length-set out (at + i) x ∙ e .0, one-more (λ k. getD src (start + k) 0) b at i out (set out (at + i) x) (e .1) refl)
-
-  pub copy-all :
-      (i n size : ℕ) (out : List ℕ) → size ≤ nameBytes → Fitting (length b) at size n → i ≤ n → n ≤ i → Copied i out →
-      Stored b at (run src start size) (at + size) out × (at + size ≤ at + nameBytes)
-  copy-all i n size out z t l h q =
+  name-all b at i n size out z t l h q =
+      let B = nameByte names topic in
       let j : i ≡ n = omega arith in
-      let k : at + size ≡ at + length (run src start size) = omega (arith, singles (λ k. getD src (start + k) 0) size) in
-      let e : out ≡ sets b at (run src start size) =
-      q .1 ∙ ap (λ (x : ℕ). sets b at (run src start x)) j ∙ fitted (λ k. getD src (start + k) 0) b at n size t in
-      ((k, e), omega arith)
-
--- ---- ids
-module _ (ids numbers order : List ℕ) (ok : tableOk ids numbers order ≡ true) (v : ℕ) (row : Found) (r : row ≡ numberRow numbers v) where
-  module _ (k : ℕ) (e : row ≡ At k) where
-    -- the row is in the table
-    pub record Row : Type 0 where
-      pub low : k < length numbers
-      pub long : length ids ≡ 65 * length numbers
-      pub short : idSize ids k ≤ nameBytes
-      pub is : idOf ids numbers v ≡ run ids (idStart k) (idSize ids k)
-
-    pub id-row : Row
-    unfolding idOf
-    id-row =
-        let g = good-ids ids (length numbers) (table-parts ids numbers order ok .0) in
-        let l = row-below numbers v k (sym r ∙ e) in
-        record { low = l; long = g .long; short = g .each k l .short; is = rw (← r, e) }
-
-    pub id-size-is : (size : ℕ) → size ≡ idSize ids k → (size ≡ length (idOf ids numbers v)) × (size ≤ nameBytes)
-    id-size-is size z =
-        let q = id-row in
-        let s = q .short in
-        (rw (q .is) (z ∙ sym (singles (λ i. getD ids (idStart k + i) 0) (idSize ids k))), omega arith)
-
-    pub id-stored :
-        (b : List ℕ) (at size q : ℕ) (out : List ℕ) → size ≡ idSize ids k →
-        Stored b at (run ids (idStart k) size) q out × (q ≤ at + nameBytes) → Stored b at (idOf ids numbers v) q out × (q ≤ at + nameBytes)
-    id-stored b at size q out z s = rw (id-row .is, ← z) s
-
-  pub no-id : row ≡ Nothing → (0 ≡ length (idOf ids numbers v)) × (0 ≤ nameBytes)
-  unfolding idOf
-  no-id e = (rw (← r, e), omega arith)
-
-  pub no-id-stored : (b : List ℕ) (at : ℕ) → row ≡ Nothing → Stored b at (idOf ids numbers v) at b × (at ≤ at + nameBytes)
-  unfolding idOf
-  no-id-stored b at e = rw (← r, e) (stored-none b at, omega arith)
+      let k : at + size ≡ at + length (gather size B) = omega (arith, singles (λ k. getD names (rowBytes * topic + 1 + k) 0) size) in
+      let e : out ≡ sets b at (gather size B) =
+      q .1 ∙ ap (λ (x : ℕ). sets b at (gather x B)) j ∙ fitted (λ k. getD names (rowBytes * topic + 1 + k) 0) b at n size t in
+      (rw (← z .0) (k, e), omega (arith, z .1))
 
 -- ---- fields
 pub value-none : (b : List ℕ) (at number v : ℕ) → v ≡ 0 → Stored b at (valueField number v) at b × (at ≤ at + 4)
@@ -243,26 +200,26 @@ part-stored b at number size content p a q out e s t =
     (stored-then b at p (encode (8 * number + 2) ++ encode (length content)) a q content out s′ t)
 
 -- ---- an entry
-pub named-stored :
+pub entry-stored :
     (names b : List ℕ) (at kind topic v e m l p : ℕ) (a : List ℕ) (q : ℕ) (c : List ℕ) (r : ℕ) (out : List ℕ) → e ≡ early kind v →
     m ≡ nameNumber kind → l ≡ late kind v → Stored b at (valueField 1 e) p a × (p ≤ at + 4) →
     Stored a p (partField m (nameOf names topic)) q c × (q ≤ p + 68) → Stored c q (valueField 3 l) r out × (r ≤ q + 4) →
-    Stored b at (namedBytes names kind topic v) r out × (r ≤ at + 76)
-unfolding namedBytes
-named-stored names b at kind topic v e m l p a q c r out ee em el s t u =
+    Stored b at (entryBytes names kind topic v) r out × (r ≤ at + 76)
+unfolding entryBytes
+entry-stored names b at kind topic v e m l p a q c r out ee em el s t u =
     rw (← ee, ← em, ← el) (
       stored-then b at p (valueField 1 e) a r (partField m (nameOf names topic) ++ valueField 3 l) out (s .0)
           (stored-then a p q (partField m (nameOf names topic)) c r (valueField 3 l) out (t .0) (u .0)),
       omega (arith, s .1, t .1, u .1),
     )
 
-pub named-length :
+pub entry-length :
     (names : List ℕ) (kind topic v e m l size a b d : ℕ) → (e ≡ early kind v) × (e ≤ v) → m ≡ nameNumber kind →
     (l ≡ late kind v) × (l ≤ v) → (size ≡ nameSize names topic) × (size ≤ nameBytes) → (a ≡ length (valueField 1 e)) × (a ≤ 4) →
     (b ≡ partSize m size) × (b ≤ size + 4) → (d ≡ length (valueField 3 l)) × (d ≤ 4) →
-    (a + b + d ≡ length (namedBytes names kind topic v)) × (a + b + d ≤ 76)
-unfolding namedBytes
-named-length names kind topic v e m l size a b d ee em el z s t u =
+    (a + b + d ≡ length (entryBytes names kind topic v)) × (a + b + d ≤ 76)
+unfolding entryBytes
+entry-length names kind topic v e m l size a b d ee em el z s t u =
     let N = nameOf names topic in
     let U = valueField 1 e in
     let P = partField m N in
@@ -273,328 +230,229 @@ named-length names kind topic v e m l size a b d ee em el z s t u =
       omega (arith, s .1, t .1, u .1, z .1),
     )
 
-module _ (lent : Known) (kind topic v : ℕ) where
-  -- an IDONTWANT, and any other
-  module _ (e : kind ≡ 3) where
-    pub entry-id : (size : ℕ) → (size ≡ length (idOf (lent .ids) (lent .numbers) v)) × (size ≤ nameBytes) →
-        (size ≡ length (entryBytes lent kind topic v)) × (size ≤ 76)
-    unfolding entryBytes
-    entry-id size z = (rw (eq-eqb kind 3 e) (z .0), omega (arith, z .1))
-
-    pub entry-id-stored :
-        (b : List ℕ) (at q : ℕ) (out : List ℕ) → Stored b at (idOf (lent .ids) (lent .numbers) v) q out × (q ≤ at + nameBytes) →
-        Stored b at (entryBytes lent kind topic v) q out × (q ≤ at + 76)
-    unfolding entryBytes
-    entry-id-stored b at q out s = (rw (eq-eqb kind 3 e) (s .0), omega (arith, s .1))
-
-  module _ (n : kind ≡ 3 → ⊥) where
-    pub entry-named : (size : ℕ) → (size ≡ length (namedBytes (lent .names) kind topic v)) × (size ≤ 76) →
-        (size ≡ length (entryBytes lent kind topic v)) × (size ≤ 76)
-    unfolding entryBytes
-    entry-named size z = rw (ne-eqb kind 3 n) z
-
-    pub entry-named-stored :
-        (b : List ℕ) (at q : ℕ) (out : List ℕ) → Stored b at (namedBytes (lent .names) kind topic v) q out × (q ≤ at + 76) →
-        Stored b at (entryBytes lent kind topic v) q out × (q ≤ at + 76)
-    unfolding entryBytes
-    entry-named-stored b at q out s = rw (ne-eqb kind 3 n) s
-
-pub one-none : (lent : Known) (own topic v kind number : ℕ) → (own ≡ kind → ⊥) →
-    (0 ≡ length (oneBytes lent own topic v kind number)) × (0 ≤ 80)
+pub one-none : (names : List ℕ) (own topic v kind number : ℕ) → (own ≡ kind → ⊥) →
+    (0 ≡ length (oneBytes names own topic v kind number)) × (0 ≤ 80)
 unfolding oneBytes
-one-none lent own topic v kind number n = (rw (ne-eqb own kind n), omega arith)
+one-none names own topic v kind number n = (rw (ne-eqb own kind n), omega arith)
 
 pub one-length :
-    (lent : Known) (own topic v kind number size r : ℕ) → own ≡ kind → (size ≡ length (entryBytes lent own topic v)) × (size ≤ 76) →
-    (r ≡ partSize number size) × (r ≤ size + 4) → (r ≡ length (oneBytes lent own topic v kind number)) × (r ≤ 80)
+    (names : List ℕ) (own topic v kind number size r : ℕ) → own ≡ kind → (size ≡ length (entryBytes names own topic v)) × (size ≤ 76) →
+    (r ≡ partSize number size) × (r ≤ size + 4) → (r ≡ length (oneBytes names own topic v kind number)) × (r ≤ 80)
 unfolding oneBytes
-one-length lent own topic v kind number size r e z t = (
-  t .0 ∙ rw (z .0, eq-eqb own kind e) (sym (part-length number (entryBytes lent own topic v))),
+one-length names own topic v kind number size r e z t = (
+  t .0 ∙ rw (z .0, eq-eqb own kind e) (sym (part-length number (entryBytes names own topic v))),
   omega (arith, z .1, t .1),
 )
 
-pub one-other : (lent : Known) (b : List ℕ) (at own topic v kind number : ℕ) → (own ≡ kind → ⊥) → Stored b at
-    (oneBytes lent own topic v kind number) at b × (at ≤ at + 80)
+pub one-other : (names b : List ℕ) (at own topic v kind number : ℕ) → (own ≡ kind → ⊥) → Stored b at
+    (oneBytes names own topic v kind number) at b × (at ≤ at + 80)
 unfolding oneBytes
-one-other lent b at own topic v kind number n = rw (ne-eqb own kind n) (stored-none b at, omega arith)
+one-other names b at own topic v kind number n = rw (ne-eqb own kind n) (stored-none b at, omega arith)
 
 pub one-stored :
-    (lent : Known) (b : List ℕ) (at own topic v kind number size p : ℕ) (a : List ℕ) (q : ℕ) (out : List ℕ) → own ≡ kind →
-    (size ≡ length (entryBytes lent own topic v)) × (size ≤ 76) → Stored b at (headBytes number size) p a × (p ≤ at + 4) →
-    Stored a p (entryBytes lent own topic v) q out × (q ≤ p + 76) →
-    Stored b at (oneBytes lent own topic v kind number) q out × (q ≤ at + 80)
+    (names b : List ℕ) (at own topic v kind number size p : ℕ) (a : List ℕ) (q : ℕ) (out : List ℕ) → own ≡ kind →
+    (size ≡ length (entryBytes names own topic v)) × (size ≤ 76) → Stored b at (headBytes number size) p a × (p ≤ at + 4) →
+    Stored a p (entryBytes names own topic v) q out × (q ≤ p + 76) →
+    Stored b at (oneBytes names own topic v kind number) q out × (q ≤ at + 80)
 unfolding oneBytes
-one-stored lent b at own topic v kind number size p a q out e z s t =
+one-stored names b at own topic v kind number size p a q out e z s t =
     rw (eq-eqb own kind e) (
-      part-stored b at number size (entryBytes lent own topic v) p a q out (z .0) (s .0) (t .0),
+      part-stored b at number size (entryBytes names own topic v) p a q out (z .0) (s .0) (t .0),
       omega (arith, s .1, t .1),
     )
 
 -- ---- the entries of a kind
-abbrev pub bytesAt : Known → List ℕ → ℕ → ℕ → ℕ → List ℕ
-bytesAt lent list kind number i = oneBytes lent (getD list (3 * i) 0) (getD list (3 * i + 1) 0) (getD list (3 * i + 2) 0) kind number
+abbrev pub bytesAt : List ℕ → List ℕ → ℕ → ℕ → ℕ → List ℕ
+bytesAt names list kind number i = oneBytes names (getD list (3 * i) 0) (getD list (3 * i + 1) 0) (getD list (3 * i + 2) 0) kind number
 
-module _ (lent : Known) (list : List ℕ) (kind number : ℕ) (b : List ℕ) (at : ℕ) where
-  pub kind-none : Stored b at (gather 0 (bytesAt lent list kind number)) at b
-  kind-none = rw (gather-none (bytesAt lent list kind number)) (stored-none b at)
+module _ (names list : List ℕ) (kind number : ℕ) (b : List ℕ) (at : ℕ) where
+  pub kind-none : Stored b at (gather 0 (bytesAt names list kind number)) at b
+  kind-none = rw (gather-none (bytesAt names list kind number)) (stored-none b at)
 
   pub kind-more :
-      (i p : ℕ) (c : List ℕ) (q : ℕ) (d : List ℕ) → Stored b at (gather i (bytesAt lent list kind number)) p c →
-      Stored c p (bytesAt lent list kind number i) q d → Stored b at (gather (i + 1) (bytesAt lent list kind number)) q d
+      (i p : ℕ) (c : List ℕ) (q : ℕ) (d : List ℕ) → Stored b at (gather i (bytesAt names list kind number)) p c →
+      Stored c p (bytesAt names list kind number i) q d → Stored b at (gather (i + 1) (bytesAt names list kind number)) q d
   kind-more i p c q d s t =
-      rw (gather-more (bytesAt lent list kind number) i)
-      (stored-then b at p (gather i (bytesAt lent list kind number)) c q (bytesAt lent list kind number i) d s t)
+      rw (gather-more (bytesAt names list kind number) i)
+      (stored-then b at p (gather i (bytesAt names list kind number)) c q (bytesAt names list kind number i) d s t)
 
   pub kind-all :
-      (n i p : ℕ) (c : List ℕ) → i ≤ n → n ≤ i → n ≤ 72 → p ≤ at + 80 * i → Stored b at (gather i (bytesAt lent list kind number)) p c →
-      Stored b at (kindBytes lent list n kind number) p c × (p ≤ at + 5760)
+      (n i p : ℕ) (c : List ℕ) → i ≤ n → n ≤ i → n ≤ 72 → p ≤ at + 80 * i → Stored b at (gather i (bytesAt names list kind number)) p c →
+      Stored b at (kindBytes names list n kind number) p c × (p ≤ at + 5760)
   unfolding kindBytes
   kind-all n i p c l h m k s =
       let e : i ≡ n = omega arith in
       ((rw e at s), omega arith)
 
 -- ---- how long they are
-module _ (lent : Known) (list : List ℕ) (kind number : ℕ) where
-  pub length-none : 0 ≡ length (gather 0 (bytesAt lent list kind number))
-  length-none = rw (gather-none (bytesAt lent list kind number))
+module _ (names list : List ℕ) (kind number : ℕ) where
+  pub length-none : 0 ≡ length (gather 0 (bytesAt names list kind number))
+  length-none = rw (gather-none (bytesAt names list kind number))
 
   pub length-more :
-      (i size a : ℕ) → size ≡ length (gather i (bytesAt lent list kind number)) → a ≡ length (bytesAt lent list kind number i) →
-      size + a ≡ length (gather (i + 1) (bytesAt lent list kind number))
+      (i size a : ℕ) → size ≡ length (gather i (bytesAt names list kind number)) → a ≡ length (bytesAt names list kind number i) →
+      size + a ≡ length (gather (i + 1) (bytesAt names list kind number))
   length-more i size a e f =
-      let g = gather i (bytesAt lent list kind number) in
-      let x = bytesAt lent list kind number i in
-      rw (gather-more (bytesAt lent list kind number) i) (omega (arith, length-append g x))
+      let g = gather i (bytesAt names list kind number) in
+      let x = bytesAt names list kind number i in
+      rw (gather-more (bytesAt names list kind number) i) (omega (arith, length-append g x))
 
   pub length-all :
-      (n i size : ℕ) → i ≤ n → n ≤ i → n ≤ 72 → size ≤ 80 * i → size ≡ length (gather i (bytesAt lent list kind number)) →
-      (size ≡ length (kindBytes lent list n kind number)) × (size ≤ 5760)
+      (n i size : ℕ) → i ≤ n → n ≤ i → n ≤ 72 → size ≤ 80 * i → size ≡ length (gather i (bytesAt names list kind number)) →
+      (size ≡ length (kindBytes names list n kind number)) × (size ≤ 5760)
   unfolding kindBytes
   length-all n i size l h m k e =
       let z : i ≡ n = omega arith in
       ((rw z at e), omega arith)
 
--- ---- a field with a content or none
-pub inner-none : (b : List ℕ) (at number size most : ℕ) (content : List ℕ) → size ≡ length content → size ≡ 0 →
-    Stored b at (innerField number content) at b × (at ≤ at + (most + 4))
-unfolding innerField
-inner-none b at number size most content z e = rw (eq-eqb (length content) 0 (sym z ∙ e)) (stored-none b at, omega arith)
+-- ---- the control field, the message
+pub control-length :
+    (names list : List ℕ) (n a b : ℕ) → (a ≡ length (kindBytes names list n 1 3)) × (a ≤ 5760) →
+    (b ≡ length (kindBytes names list n 2 4)) × (b ≤ 5760) → (a + b ≡ length (controlBytes names list n)) × (a + b ≤ 11520)
+unfolding controlBytes
+control-length names list n a b s t =
+    (omega (arith, s .0, t .0, length-append (kindBytes names list n 1 3) (kindBytes names list n 2 4)), omega (arith, s .1, t .1))
 
-pub inner-some :
-    (b : List ℕ) (at number size most : ℕ) (content : List ℕ) (p : ℕ) (a : List ℕ) (q : ℕ) (out : List ℕ) → size ≡ length content →
-    (size ≡ 0 → ⊥) → Stored b at (headBytes number size) p a × (p ≤ at + 4) → Stored a p content q out × (q ≤ p + most) →
-    Stored b at (innerField number content) q out × (q ≤ at + (most + 4))
-unfolding innerField
-inner-some b at number size most content p a q out z n s t =
+pub control-stored :
+    (names list : List ℕ) (n : ℕ) (b : List ℕ) (at : ℕ) (p : ℕ) (a : List ℕ) (q : ℕ) (out : List ℕ) →
+    Stored b at (kindBytes names list n 1 3) p a × (p ≤ at + 5760) → Stored a p (kindBytes names list n 2 4) q out × (q ≤ p + 5760) →
+    Stored b at (controlBytes names list n) q out × (q ≤ at + 11520)
+unfolding controlBytes
+control-stored names list n b at p a q out s t =
+    (stored-then b at p (kindBytes names list n 1 3) a q (kindBytes names list n 2 4) out (s .0) (t .0), omega (arith, s .1, t .1))
+
+pub field-none : (b : List ℕ) (at size : ℕ) (content : List ℕ) → size ≡ length content → size ≡ 0 → Stored b at
+    (controlField content) at b × (at ≤ at + 11524)
+unfolding controlField
+field-none b at size content z e = rw (eq-eqb (length content) 0 (sym z ∙ e)) (stored-none b at, omega arith)
+
+pub field-some :
+    (b : List ℕ) (at size : ℕ) (content : List ℕ) (p : ℕ) (a : List ℕ) (q : ℕ) (out : List ℕ) → size ≡ length content → (size ≡ 0 → ⊥) →
+    Stored b at (headBytes 3 size) p a × (p ≤ at + 4) → Stored a p content q out × (q ≤ p + 11520) →
+    Stored b at (controlField content) q out × (q ≤ at + 11524)
+unfolding controlField
+field-some b at size content p a q out z n s t =
     rw (ne-eqb (length content) 0 (λ e. n (z ∙ e)))
-    (part-stored b at number size content p a q out z (s .0) (t .0), omega (arith, s .1, t .1))
+    (part-stored b at 3 size content p a q out z (s .0) (t .0), omega (arith, s .1, t .1))
 
-pub inner-empty : (number size : ℕ) (content : List ℕ) → size ≡ length content → size ≡ 0 → 0 ≡ length (innerField number content)
-unfolding innerField
-inner-empty number size content z e = rw (eq-eqb (length content) 0 (sym z ∙ e))
-
-pub inner-length :
-    (number size r : ℕ) (content : List ℕ) → size ≡ length content → (size ≡ 0 → ⊥) → r ≡ partSize number size →
-    r ≡ length (innerField number content)
-unfolding innerField
-inner-length number size r content z n t =
-    t ∙ rw (ne-eqb (length content) 0 (λ e. n (z ∙ e)), z) (sym (part-length number content))
-
--- ---- the control message, the message
-module _ (lent : Known) (list : List ℕ) (n : ℕ) where
+module _ (names list : List ℕ) (n : ℕ) where
   abbrev subs : List ℕ
-  subs = kindBytes lent list n 0 1
+  subs = kindBytes names list n 0 1
 
   abbrev control : List ℕ
-  control = controlBytes lent list n
-
-  abbrev notices : List ℕ
-  notices = innerField 5 (kindBytes lent list n 3 1)
-
-  pub control-length :
-      (a b c : ℕ) → a ≡ length (kindBytes lent list n 1 3) → b ≡ length (kindBytes lent list n 2 4) →
-      c ≡ length (innerField 5 (kindBytes lent list n 3 1)) → a + b + c ≡ length (controlBytes lent list n)
-  unfolding controlBytes
-  control-length a b c s t u =
-      let G = kindBytes lent list n 1 3 in
-      let P = kindBytes lent list n 2 4 in
-      omega (arith, length-append G (P ++ notices), length-append P notices)
-
-  pub control-stored :
-      (b : List ℕ) (at : ℕ) (p : ℕ) (a : List ℕ) (q : ℕ) (c : List ℕ) (r : ℕ) (out : List ℕ) →
-      Stored b at (kindBytes lent list n 1 3) p a × (p ≤ at + 5760) → Stored a p (kindBytes lent list n 2 4) q c × (q ≤ p + 5760) →
-      Stored c q (innerField 5 (kindBytes lent list n 3 1)) r out × (r ≤ q + 5764) →
-      Stored b at (controlBytes lent list n) r out × (r ≤ at + 17284)
-  unfolding controlBytes
-  control-stored b at p a q c r out s t u =
-      let G = kindBytes lent list n 1 3 in
-      let P = kindBytes lent list n 2 4 in (
-        stored-then b at p G a r (P ++ notices) out (s .0) (stored-then a p q P c r notices out (t .0) (u .0)),
-        omega (arith, s .1, t .1, u .1),
-      )
+  control = controlBytes names list n
 
   pub message-stored :
-      (b : List ℕ) (p : ℕ) (a : List ℕ) (q : ℕ) (out : List ℕ) → Stored b 0 (kindBytes lent list n 0 1) p a × (p ≤ 0 + 5760) →
-      Stored a p (innerField 3 (controlBytes lent list n)) q out × (q ≤ p + 17288) → Stored b 0 (messageOf lent list n) q out
+      (b : List ℕ) (p : ℕ) (a : List ℕ) (q : ℕ) (out : List ℕ) → Stored b 0 (kindBytes names list n 0 1) p a × (p ≤ 0 + 5760) →
+      Stored a p (controlField (controlBytes names list n)) q out × (q ≤ p + 11524) → Stored b 0 (messageOf names list n) q out
   unfolding messageOf
-  message-stored b p a q out s t = stored-then b 0 p subs a q (innerField 3 control) out (s .0) (t .0)
+  message-stored b p a q out s t = stored-then b 0 p subs a q (controlField control) out (s .0) (t .0)
 
-  module _ (size a : ℕ) (z : size ≡ length (controlBytes lent list n)) (s : (a ≡ length (kindBytes lent list n 0 1)) × (a ≤ 5760)) where
-    pub no-control : size ≡ 0 → a ≡ length (messageOf lent list n)
-    unfolding messageOf innerField
+  module _ (size a : ℕ) (z : size ≡ length (controlBytes names list n)) (s : (a ≡ length (kindBytes names list n 0 1)) × (a ≤ 5760)) where
+    pub no-control : size ≡ 0 → a ≡ length (messageOf names list n)
+    unfolding messageOf controlField
     no-control e = s .0 ∙ rw (eq-eqb (length control) 0 (sym z ∙ e), append-nil subs)
 
-    pub with-control : (size ≡ 0 → ⊥) → (b : ℕ) → (b ≡ partSize 3 size) × (b ≤ size + 4) → a + b ≡ length (messageOf lent list n)
-    unfolding messageOf innerField
+    pub with-control : (size ≡ 0 → ⊥) → (b : ℕ) → (b ≡ partSize 3 size) × (b ≤ size + 4) → a + b ≡ length (messageOf names list n)
+    unfolding messageOf controlField
     with-control k b t =
         let P = partField 3 control in
         let p : b ≡ length P = t .0 ∙ rw z (sym (part-length 3 control)) in
         rw (ne-eqb (length control) 0 (λ e. k (z ∙ e))) (omega (arith, s .0, length-append subs P))
 
 -- ---- what an accepted list is
-abbrev pub okAt : Known → List ℕ → ℕ → Bool
-okAt lent list i = entryOk lent (getD list (3 * i) 0) (getD list (3 * i + 1) 0) (getD list (3 * i + 2) 0)
+abbrev pub okAt : List ℕ → List ℕ → ℕ → Bool
+okAt names list i = entryOk names (getD list (3 * i) 0) (getD list (3 * i + 1) 0) (getD list (3 * i + 2) 0)
 
 -- the kinds, and the values that go with them
-pub data Fits (lent : Known) : ℕ → ℕ → ℕ → Type 0 where
-  sub : {t v : ℕ} → 0 < nameSize (lent .names) t → v ≤ 1 → Fits lent 0 t v
-  graft : {t : ℕ} → 0 < nameSize (lent .names) t → Fits lent 1 t 0
-  prune : {t v : ℕ} → 0 < nameSize (lent .names) t → v ≤ 3600 → Fits lent 2 t v
-  notice : {v : ℕ} → isFound (numberRow (lent .numbers) v) ≡ true → Fits lent 3 0 v
+pub data Fits : ℕ → ℕ → Type 0 where
+  sub : {v : ℕ} → v ≤ 1 → Fits 0 v
+  graft : Fits 1 0
+  prune : {v : ℕ} → v ≤ 3600 → Fits 2 v
 
 either : {P : Type 0} (a b : Bool) → (a ≡ true → P) → (b ≡ true → P) → (a || b) ≡ true → P
 either true b f g e = f refl
 either false b f g e = g e
 
-fits-named : (lent : Known) (kind topic v : ℕ) → namedOk (lent .names) kind topic v ≡ true → Fits lent kind topic v
-unfolding namedOk
-fits-named lent kind topic v e =
-    let s = nameSize (lent .names) topic in
-    let h = both (ltb 0 s) ((eqb kind 0 && leb v 1) || (eqb kind 1 && eqb v 0) || (eqb kind 2 && leb v 3600)) e in
-    let n = ltb-true 0 s (h .0) in
+pub fits : (names : List ℕ) (kind topic v : ℕ) → entryOk names kind topic v ≡ true → Fits kind v
+unfolding entryOk
+fits names kind topic v e =
     either ((eqb kind 0 && leb v 1) || (eqb kind 1 && eqb v 0)) (eqb kind 2 && leb v 3600)
     (either (eqb kind 0 && leb v 1) (eqb kind 1 && eqb v 0)
-    (λ a. let b = both (eqb kind 0) (leb v 1) a in rw (eqb-true kind 0 (b .0)) (sub n (leb-true v 1 (b .1))))
-    (λ a. let b = both (eqb kind 1) (eqb v 0) a in rw (eqb-true kind 1 (b .0), eqb-true v 0 (b .1)) (graft n)))
-    (λ a. let b = both (eqb kind 2) (leb v 3600) a in rw (eqb-true kind 2 (b .0)) (prune n (leb-true v 3600 (b .1))))
-    (h .1)
+    (λ a. let b = both (eqb kind 0) (leb v 1) a in rw (eqb-true kind 0 (b .0)) (sub (leb-true v 1 (b .1))))
+    (λ a. let b = both (eqb kind 1) (eqb v 0) a in rw (eqb-true kind 1 (b .0), eqb-true v 0 (b .1)) graft))
+    (λ a. let b = both (eqb kind 2) (leb v 3600) a in rw (eqb-true kind 2 (b .0)) (prune (leb-true v 3600 (b .1))))
+    (both (ltb 0 (nameSize names topic)) ((eqb kind 0 && leb v 1) || (eqb kind 1 && eqb v 0) || (eqb kind 2 && leb v 3600)) e .1)
 
-fits-notice : (lent : Known) (kind topic v : ℕ) → noticeOk (lent .numbers) kind topic v ≡ true → Fits lent kind topic v
-unfolding noticeOk
-fits-notice lent kind topic v e =
-    let f = isFound (numberRow (lent .numbers) v) in
-    let h = both (eqb kind 3) (eqb topic 0 && f) e in
-    let k = both (eqb topic 0) f (h .1) in
-    rw (eqb-true kind 3 (h .0), eqb-true topic 0 (k .0)) (notice (k .1))
+small : (kind v : ℕ) → Fits kind v → v < 16384
+small kind v (sub h) = omega arith
+small kind v graft = omega arith
+small kind v (prune h) = omega arith
 
-pub fits : (lent : Known) (kind topic v : ℕ) → entryOk lent kind topic v ≡ true → Fits lent kind topic v
-unfolding entryOk
-fits lent kind topic v e =
-    either (namedOk (lent .names) kind topic v) (noticeOk (lent .numbers) kind topic v) (fits-named lent kind topic v)
-    (fits-notice lent kind topic v) e
-
-small : (lent : Known) (kind topic v : ℕ) → Fits lent kind topic v → (kind ≡ 3 → ⊥) → v < 16384
-small lent kind topic v (sub n h) k = omega arith
-small lent kind topic v (graft n) k = omega arith
-small lent kind topic v (prune n h) k = omega arith
-small lent kind topic v (notice h) k = absurd (k refl)
-
-pub record Good (lent : Known) (list : List ℕ) (n : ℕ) : Type 0 where
+pub record Good (names list : List ℕ) (n : ℕ) : Type 0 where
   pub few : n ≤ 72
   pub room : 3 * n ≤ length list
-  pub each : (i : ℕ) → i < n → okAt lent list i ≡ true
-  pub little : (i : ℕ) → i < n → (getD list (3 * i) 0 ≡ 3 → ⊥) → getD list (3 * i + 2) 0 < 16384
+  pub each : (i : ℕ) → i < n → okAt names list i ≡ true
+  pub little : (i : ℕ) → i < n → getD list (3 * i + 2) 0 < 16384
 
-pub good : (lent : Known) (list : List ℕ) (n : ℕ) → listOk lent list n ≡ true → Good lent list n
+pub good : (names list : List ℕ) (n : ℕ) → listOk names list n ≡ true → Good names list n
 unfolding listOk
-good lent list n e =
-    let p = both (leb n 72) (leb (3 * n) (length list) && every n (okAt lent list)) e in
-    let q = both (leb (3 * n) (length list)) (every n (okAt lent list)) (p .1) in
+good names list n e =
+    let p = both (leb n 72) (leb (3 * n) (length list) && every n (okAt names list)) e in
+    let q = both (leb (3 * n) (length list)) (every n (okAt names list)) (p .1) in
     record {
       few = leb-true n 72 (p .0);
       room = leb-true (3 * n) (length list) (q .0);
-      each = λ i h. every-at (okAt lent list) n i (q .1) h;
+      each = λ i h. every-at (okAt names list) n i (q .1) h;
       little =
           λ i h.
-          small lent (getD list (3 * i) 0) (getD list (3 * i + 1) 0) (getD list (3 * i + 2) 0)
-          (fits lent (getD list (3 * i) 0) (getD list (3 * i + 1) 0) (getD list (3 * i + 2) 0) (every-at (okAt lent list) n i (q .1) h));
+          small (getD list (3 * i) 0) (getD list (3 * i + 2) 0)
+          (fits names (getD list (3 * i) 0) (getD list (3 * i + 1) 0) (getD list (3 * i + 2) 0) (every-at (okAt names list) n i (q .1) h));
     }
 
 -- ---- the ends of `list_ok`
-module _ (lent : Known) (list : List ℕ) (n : ℕ) where
-  pub list-many : 72 < n → false ≡ listOk lent list n
+module _ (names list : List ℕ) (n : ℕ) where
+  pub list-many : 72 < n → false ≡ listOk names list n
   unfolding listOk
   list-many h = rw (lt-leb n 72 h)
 
   module _ (h : n ≤ 72) where
-    pub list-short : length list < 3 * n → false ≡ listOk lent list n
+    pub list-short : length list < 3 * n → false ≡ listOk names list n
     unfolding listOk
     list-short l = rw (le-leb n 72 h, lt-leb (3 * n) (length list) l)
 
     module _ (l : 3 * n ≤ length list) where
-      pub list-bad : (i : ℕ) → i < n → okAt lent list i ≡ false → false ≡ listOk lent list n
+      pub list-bad : (i : ℕ) → i < n → okAt names list i ≡ false → false ≡ listOk names list n
       unfolding listOk
-      list-bad i k e = rw (le-leb n 72 h, le-leb (3 * n) (length list) l, every-fails (okAt lent list) n i k e)
+      list-bad i k e = rw (le-leb n 72 h, le-leb (3 * n) (length list) l, every-fails (okAt names list) n i k e)
 
-      pub list-good : (i : ℕ) → i ≤ n → n ≤ i → every i (okAt lent list) ≡ true → true ≡ listOk lent list n
+      pub list-good : (i : ℕ) → i ≤ n → n ≤ i → every i (okAt names list) ≡ true → true ≡ listOk names list n
       unfolding listOk
-      list-good i j k e = rw (le-leb n 72 h, le-leb (3 * n) (length list) l, every-done (okAt lent list) n i j k e)
+      list-good i j k e = rw (le-leb n 72 h, le-leb (3 * n) (length list) l, every-done (okAt names list) n i j k e)
 
 -- ---- the ends of `write`
-abbrev pub Writes : Known → List ℕ → List ℕ → ℕ → List ℕ → Wrote → List ℕ → Type 0
-Writes lent order list n buf r out = (r ≡ writeOf lent order list n buf .answer) × (out ≡ writeOf lent order list n buf .bytes)
+abbrev pub Writes : List ℕ → List ℕ → ℕ → List ℕ → Wrote → List ℕ → Type 0
+Writes names list n buf r out = (r ≡ writeOf names list n buf .answer) × (out ≡ writeOf names list n buf .bytes)
 
-module _ (lent : Known) (order list : List ℕ) (n : ℕ) (buf : List ℕ) where
-  pub writes-no-table : tableOk (lent .ids) (lent .numbers) order ≡ false → Writes lent order list n buf NotList buf
+module _ (names list : List ℕ) (n : ℕ) (buf : List ℕ) where
+  pub writes-not : listOk names list n ≡ false → Writes names list n buf NotList buf
   unfolding writeOf
-  writes-no-table e = (rw e, rw e)
+  writes-not e = (rw e, rw e)
 
-  module _ (k : tableOk (lent .ids) (lent .numbers) order ≡ true) where
-    pub writes-not : listOk lent list n ≡ false → Writes lent order list n buf NotList buf
+  module _ (e : listOk names list n ≡ true) where
+    pub writes-short : length buf < length (messageOf names list n) → Writes names list n buf Short buf
     unfolding writeOf
-    writes-not e = (rw (k, e), rw (k, e))
+    writes-short h = let t = lt-ltb (length buf) (length (messageOf names list n)) h in (rw (e, t), rw (e, t))
 
-    module _ (e : listOk lent list n ≡ true) where
-      pub writes-short : length buf < length (messageOf lent list n) → Writes lent order list n buf Short buf
-      unfolding writeOf
-      writes-short h = let t = lt-ltb (length buf) (length (messageOf lent list n)) h in (rw (k, e, t), rw (k, e, t))
+    pub writes-done : (k : ℕ) (out : List ℕ) → length (messageOf names list n) ≤ length buf → Stored buf 0
+        (messageOf names list n) k out → Writes names list n buf (Done k) out
+    unfolding writeOf
+    writes-done k out h s =
+        let t = le-ltb (length buf) (length (messageOf names list n)) h in
+        let z : k ≡ length (messageOf names list n) = omega (arith, s .0) in
+        (rw (e, t, z), rw (e, t) (s .1))
 
-      pub writes-done :
-          (size : ℕ) (out : List ℕ) → length (messageOf lent list n) ≤ length buf → Stored buf 0 (messageOf lent list n) size out →
-          Writes lent order list n buf (Done size) out
-      unfolding writeOf
-      writes-done size out h s =
-          let t = le-ltb (length buf) (length (messageOf lent list n)) h in
-          let z : size ≡ length (messageOf lent list n) = omega (arith, s .0) in
-          (rw (k, e, t, z), rw (k, e, t) (s .1))
-
--- ---- the ends of `named_ok`, `notice_ok` and `entry_ok`
-pub named-is : (names : List ℕ) (kind topic v size : ℕ) → size ≡ nameSize names topic → ltb 0 size &&
-    ((eqb kind 0 && leb v 1) || (eqb kind 1 && eqb v 0) || (eqb kind 2 && leb v 3600)) ≡ namedOk names kind topic v
-unfolding namedOk
-named-is names kind topic v size e = rw e
-
-module _ (numbers : List ℕ) (kind topic v : ℕ) where
-  pub notice-other : (kind ≡ 3 → ⊥) → false ≡ noticeOk numbers kind topic v
-  unfolding noticeOk
-  notice-other n = rw (ne-eqb kind 3 n)
-
-  module _ (e : kind ≡ 3) where
-    pub notice-topic : (topic ≡ 0 → ⊥) → false ≡ noticeOk numbers kind topic v
-    unfolding noticeOk
-    notice-topic n = rw (eq-eqb kind 3 e, ne-eqb topic 0 n)
-
-    module _ (f : topic ≡ 0) (row : Found) (r : row ≡ numberRow numbers v) where
-      pub notice-found : (k : ℕ) → row ≡ At k → true ≡ noticeOk numbers kind topic v
-      unfolding noticeOk
-      notice-found k h = rw (eq-eqb kind 3 e, eq-eqb topic 0 f, ← r, h)
-
-      pub notice-none : row ≡ Nothing → false ≡ noticeOk numbers kind topic v
-      unfolding noticeOk
-      notice-none h = rw (eq-eqb kind 3 e, eq-eqb topic 0 f, ← r, h)
-
-pub entry-is :
-    (names numbers : List ℕ) (kind topic v : ℕ) (a b : Bool) → a ≡ namedOk names kind topic v → b ≡ noticeOk numbers kind topic v →
-    (ids : List ℕ) → (a || b) ≡ entryOk (record { names = names; ids = ids; numbers = numbers }) kind topic v
+pub entry-is : (names : List ℕ) (kind topic v size : ℕ) → size ≡ nameSize names topic → ltb 0 size &&
+    ((eqb kind 0 && leb v 1) || (eqb kind 1 && eqb v 0) || (eqb kind 2 && leb v 3600)) ≡ entryOk names kind topic v
 unfolding entryOk
-entry-is names numbers kind topic v a b e f ids = rw (e, f)
+entry-is names kind topic v size e = rw e

@@ -1,9 +1,8 @@
--- An RPC written from a list of entries (02, orders 4 and 6), three numbers each, as the reader lists them: kind, topic, value; of an
--- IDONTWANT entry 0 and the message's number. "fields in ascending order, one control field or none, shortest numbers, absent rather than
--- zero."
+-- An RPC written from a list of entries (02, order 4), three numbers each, as order 1's reader lists them: kind, topic, value. "fields in
+-- ascending order, one control field or none, shortest numbers, absent rather than zero."
 use Prim.Native.Nat.{ℕ, _+_, _-_, _*_, _≤_, _<_}
 use mathlib.Core.Path.{_≡_}
-use mathlib.Core.Bool.{Bool, true, false, _&&_, _||_, cond}
+use mathlib.Core.Bool.{Bool, _&&_, _||_, cond}
 use mathlib.Core.List.{List, [], _∷_, _++_}
 use lib.Dec.{eqb, leb, ltb}
 use lib.ListN.{length, getD}
@@ -12,11 +11,8 @@ use denote.Ref.{RefT, now}
 use denote.Triple.Both.{Both}
 use Rattle.index.specs.Index.{every, gather}
 use Rattle.varint.specs.Groups.{encode}
-use Rattle.index.specs.declared.Found.{Found}
-use Rattle.index.specs.declared.Found.the-variants.{At, Nothing}
-use Rattle.message_ids.specs.Ids.{idSize, idStart, numberRow, tableOk}
-use Rattle.rpc.specs.Messages.{subscription, graft, prune, idontwant}
-use Rattle.rpc.specs.Reading.{topics, nameBytes, rowBytes, Known, known}
+use Rattle.rpc.specs.Messages.{subscription, graft, prune}
+use Rattle.rpc.specs.Reading.{topics, nameBytes, rowBytes}
 use Rattle.rpc_write.specs.declared.Wrote.{Wrote}
 use Rattle.rpc_write.specs.declared.Wrote.the-variants.{Done, NotList, Short}
 
@@ -49,20 +45,11 @@ unfoldable pub nameSize : List ℕ → ℕ → ℕ
 nameSize names topic =
     cond (ltb topic topics) (cond (leb (getD names (rowBytes * topic) 0) nameBytes) (getD names (rowBytes * topic) 0) 0) 0
 
--- so many bytes of a list, from a place on
-abbrev pub run : List ℕ → ℕ → ℕ → List ℕ
-run src start size = gather size (λ i. getD src (start + i) 0 ∷ [])
+abbrev pub nameByte : List ℕ → ℕ → ℕ → List ℕ
+nameByte names topic i = getD names (rowBytes * topic + 1 + i) 0 ∷ []
 
 unfoldable pub nameOf : List ℕ → ℕ → List ℕ
-nameOf names topic = run names (rowBytes * topic + 1) (nameSize names topic)
-
--- ---- message ids: the id of a number's row
-abbrev pub idAt : List ℕ → Found → List ℕ
-idAt ids (At k) = run ids (idStart k) (idSize ids k)
-idAt ids Nothing = []
-
-unfoldable pub idOf : List ℕ → List ℕ → ℕ → List ℕ
-idOf ids numbers v = idAt ids (numberRow numbers v)
+nameOf names topic = gather (nameSize names topic) (nameByte names topic)
 
 -- ---- entries
 -- "subscriptions 1 (subscribe 1, topic 2)"; "GRAFT has topicID 1; PRUNE topicID 1, [..] backoff 3": a subscription's number stands before
@@ -76,70 +63,54 @@ late kind v = cond (eqb kind prune) v 0
 abbrev pub nameNumber : ℕ → ℕ
 nameNumber kind = cond (eqb kind subscription) 2 1
 
-unfoldable pub namedBytes : List ℕ → ℕ → ℕ → ℕ → List ℕ
-namedBytes names kind topic v =
+unfoldable pub entryBytes : List ℕ → ℕ → ℕ → ℕ → List ℕ
+entryBytes names kind topic v =
     valueField 1 (early kind v) ++ (partField (nameNumber kind) (nameOf names topic) ++ valueField 3 (late kind v))
 
--- an entry's content: of an IDONTWANT the id's bytes
-unfoldable pub entryBytes : Known → ℕ → ℕ → ℕ → List ℕ
-entryBytes k kind topic v = cond (eqb kind idontwant) (idOf (k .ids) (k .numbers) v) (namedBytes (k .names) kind topic v)
-
 -- an entry as a field of the number, if it is of the kind
-unfoldable pub oneBytes : Known → ℕ → ℕ → ℕ → ℕ → ℕ → List ℕ
-oneBytes k own topic v kind number = cond (eqb own kind) (partField number (entryBytes k own topic v)) []
+unfoldable pub oneBytes : List ℕ → ℕ → ℕ → ℕ → ℕ → ℕ → List ℕ
+oneBytes names own topic v kind number = cond (eqb own kind) (partField number (entryBytes names own topic v)) []
 
 -- all entries of a kind, as listed
-unfoldable pub kindBytes : Known → List ℕ → ℕ → ℕ → ℕ → List ℕ
-kindBytes k list n kind number =
-    gather n (λ i. oneBytes k (getD list (3 * i) 0) (getD list (3 * i + 1) 0) (getD list (3 * i + 2) 0) kind number)
+unfoldable pub kindBytes : List ℕ → List ℕ → ℕ → ℕ → ℕ → List ℕ
+kindBytes names list n kind number =
+    gather n (λ i. oneBytes names (getD list (3 * i) 0) (getD list (3 * i + 1) 0) (getD list (3 * i + 2) 0) kind number)
 
--- a field with a content, or none
-unfoldable pub innerField : ℕ → List ℕ → List ℕ
-innerField number content = cond (eqb (length content) 0) [] (partField number content)
+-- "control holds [..] graft 3, prune 4"
+unfoldable pub controlBytes : List ℕ → List ℕ → ℕ → List ℕ
+controlBytes names list n = kindBytes names list n graft 3 ++ kindBytes names list n prune 4
 
--- "control holds [..] graft 3, prune 4"; order 6: "Control entry 5 (messageIDs 1) is [..] written, all ids in one field"
-unfoldable pub controlBytes : Known → List ℕ → ℕ → List ℕ
-controlBytes k list n = kindBytes k list n graft 3 ++ (kindBytes k list n prune 4 ++ innerField 5 (kindBytes k list n idontwant 1))
+-- "one control field or none"
+unfoldable pub controlField : List ℕ → List ℕ
+controlField content = cond (eqb (length content) 0) [] (partField 3 content)
 
--- "RPC subscriptions 1, [..] control 3"; "one control field or none"
-unfoldable pub messageOf : Known → List ℕ → ℕ → List ℕ
-messageOf k list n = kindBytes k list n subscription 1 ++ innerField 3 (controlBytes k list n)
+-- "RPC subscriptions 1, [..] control 3"
+unfoldable pub messageOf : List ℕ → List ℕ → ℕ → List ℕ
+messageOf names list n = kindBytes names list n subscription 1 ++ controlField (controlBytes names list n)
 
 -- ---- "Any other list is 2, first"
 -- a topic that has a name; a join (1) or leave (0), a GRAFT, a PRUNE and its seconds
-unfoldable pub namedOk : List ℕ → ℕ → ℕ → ℕ → Bool
-namedOk names kind topic v =
+unfoldable pub entryOk : List ℕ → ℕ → ℕ → ℕ → Bool
+entryOk names kind topic v =
     ltb 0 (nameSize names topic)
     && ((eqb kind subscription && leb v 1) || (eqb kind graft && eqb v 0) || (eqb kind prune && leb v mostSeconds))
 
--- an IDONTWANT: 0 in the topic's place, and a number of the table ("a number not in it 2")
-abbrev pub isFound : Found → Bool
-isFound (At k) = true
-isFound Nothing = false
-
-unfoldable pub noticeOk : List ℕ → ℕ → ℕ → ℕ → Bool
-noticeOk numbers kind topic v = eqb kind idontwant && (eqb topic 0 && isFound (numberRow numbers v))
-
-unfoldable pub entryOk : Known → ℕ → ℕ → ℕ → Bool
-entryOk k kind topic v = namedOk (k .names) kind topic v || noticeOk (k .numbers) kind topic v
-
-unfoldable pub listOk : Known → List ℕ → ℕ → Bool
-listOk k list n =
+unfoldable pub listOk : List ℕ → List ℕ → ℕ → Bool
+listOk names list n =
     leb n (mostChanges + mostActions)
     && (leb (3 * n) (length list)
-    && every n (λ i. entryOk k (getD list (3 * i) 0) (getD list (3 * i + 1) 0) (getD list (3 * i + 2) 0)))
+    && every n (λ i. entryOk names (getD list (3 * i) 0) (getD list (3 * i + 1) 0) (getD list (3 * i + 2) 0)))
 
 pub record Writing : Type 0 where
   pub answer : Wrote
   pub bytes : List ℕ
 
--- "a buffer shorter than the message, and here only that, a new number 13. The buffer is unchanged by either, and past the message." Order
--- 6: a table with an id or number twice is 2 too.
-unfoldable pub writeOf : Known → List ℕ → List ℕ → ℕ → List ℕ → Writing
-writeOf k order list n buf =
-    cond (tableOk (k .ids) (k .numbers) order && listOk k list n)
-    (cond (ltb (length buf) (length (messageOf k list n))) (record { answer = Short; bytes = buf })
-    (record { answer = Done (length (messageOf k list n)); bytes = sets buf 0 (messageOf k list n) }))
+-- "a buffer shorter than the message, and here only that, a new number 13. The buffer is unchanged by either, and past the message."
+unfoldable pub writeOf : List ℕ → List ℕ → ℕ → List ℕ → Writing
+writeOf names list n buf =
+    cond (listOk names list n)
+    (cond (ltb (length buf) (length (messageOf names list n))) (record { answer = Short; bytes = buf })
+    (record { answer = Done (length (messageOf names list n)); bytes = sets buf 0 (messageOf names list n) }))
     (record { answer = NotList; bytes = buf })
 
 -- ---- the answer's number, and the value that goes with it
@@ -168,12 +139,8 @@ Puts buf at bytes most next = Stored (now (buf .entry)) at bytes next (now (buf 
 abbrev pub Writes : Writing → Wrote → Lent → Type 0
 Writes w r buf = (r ≡ w .answer) × (now (buf .exit) ≡ w .bytes)
 
-abbrev pub ControlSize : Known → List ℕ → ℕ → ℕ → Type 0
-ControlSize k list n size = (size ≡ length (controlBytes k list n)) × (size ≤ 11520)
-
--- a table and a list that are accepted
-abbrev pub Given : List ℕ → List ℕ → List ℕ → List ℕ → List ℕ → ℕ → Type 0
-Given names ids numbers order list n = (tableOk ids numbers order ≡ true) × (listOk (known names ids numbers) list n ≡ true)
+abbrev pub ControlSize : List ℕ → List ℕ → ℕ → ℕ → Type 0
+ControlSize names list n size = (size ≡ length (controlBytes names list n)) × (size ≤ 11520)
 
 -- how many bytes a field of wire type 2 has
 abbrev pub partSize : ℕ → ℕ → ℕ

@@ -3,12 +3,12 @@
 ghost use mathlib.Core.Path.{_≡_};
 ghost use mathlib.Core.Bool.{true};
 ghost use mathlib.Core.List.{map};
-ghost use Prim.Native.Nat.{ℕ, _+_, _*_, _≤_, _<_};
+ghost use Prim.Native.Nat.{_+_, _≤_, _<_};
 ghost use lib.Dec.{ltb};
-ghost use lib.ListN.{length, getD, set, take, drop, replicate};
+ghost use lib.ListN.{length, getD, set, replicate};
 ghost use lib.Seq.{sets};
 ghost use Rattle.records.specs.Records.{topicCount};
-ghost use Rattle.gossip.specs.Notes.{noStore, has, storedIn, moved, added, windowCount, windowMost, numbersMost};
+ghost use Rattle.gossip.specs.Notes.{noStore, has, storedIn, moved, added, windowMost, numbersMost};
 ghost use Rattle.gossip.specs.Step.{running, announced};
 ghost use Rattle.stores.specs.View.{allWindows, placeCount, storesCells, startOf, countAt, windowAt, fiveAt, storesOf, storeAt};
 ghost use Rattle.stores.specs.View.{storedAt, Window, Store, Windows, CopiedOn, Changed, Shifted};

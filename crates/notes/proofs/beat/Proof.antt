@@ -3,6 +3,7 @@ use Prim.Native.Nat.{_-_}
 use mathlib.Core.Path.{sym, _∙_}
 use mathlib.Core.Logic.{⊎-elim}
 use native.Mathlib.Omega.{arith}
+use Rattle.records.specs.Records.{slotCount}
 use Rattle.notes.proofs.NoteLaws.{Beating, beating-start, beating-in, beating-out, beating-fits, beating-done}
 use Rattle.notes.proofs.beat.Statement.{statement}
 use Rattle.notes.proofs.beat.Tie as tie
@@ -11,7 +12,7 @@ abbrev Inv-loop : tie.InvT-loop
 Inv-loop cells₀ s₀ cells s = Beating cells₀ cells s
 
 abbrev μ-loop : tie.MeasureT-loop
-μ-loop cells₀ s₀ cells s = 256 - s
+μ-loop cells₀ s₀ cells s = slotCount - s
 
 slice-read-if1 : tie.Need-slice-read-if1 Inv-loop μ-loop
 slice-read-if1 c = let e = c .before .before .loop .inv .size in omega arith

@@ -3,15 +3,16 @@ use Prim.Native.Nat.{_≤_, _-_}
 use mathlib.Core.Path.{_≡_}
 use native.Mathlib.Omega.{arith}
 use borrow.Author.Tests.{eqb-true}
+use Rattle.records.specs.Records.{slotCount}
 use Rattle.notes.proofs.NoteLaws.{Zeros, union-more, still-at}
 use Rattle.notes.proofs.is_quiet.Statement.{statement}
 use Rattle.notes.proofs.is_quiet.Tie as tie
 
 abbrev Inv-loop : tie.InvT-loop
-Inv-loop cells acc₀ s₀ acc s = (s ≤ 256) × (acc ≡ 0 → Zeros cells s)
+Inv-loop cells acc₀ s₀ acc s = (s ≤ slotCount) × (acc ≡ 0 → Zeros cells s)
 
 abbrev μ-loop : tie.MeasureT-loop
-μ-loop cells acc₀ s₀ acc s = 256 - s
+μ-loop cells acc₀ s₀ acc s = slotCount - s
 
 loop-again : tie.Need-loop-again Inv-loop μ-loop
 loop-again c =

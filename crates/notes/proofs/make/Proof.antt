@@ -3,15 +3,16 @@ use Prim.Native.Nat.{_≤_, _-_}
 use mathlib.Core.Path.{_≡_, refl, _∙_}
 use native.Mathlib.Omega.{arith}
 use lib.ListN.{length, length-set}
+use Rattle.records.specs.Records.{slotCount}
 use Rattle.notes.proofs.NoteLaws.{Zeros, zeros-more, notes-made}
 use Rattle.notes.proofs.make.Statement.{statement}
 use Rattle.notes.proofs.make.Tie as tie
 
 abbrev Inv-loop : tie.InvT-loop
-Inv-loop cells₀ s₀ cells s = (s ≤ 256) × ((length cells ≡ length cells₀) × Zeros cells s)
+Inv-loop cells₀ s₀ cells s = (s ≤ slotCount) × ((length cells ≡ length cells₀) × Zeros cells s)
 
 abbrev μ-loop : tie.MeasureT-loop
-μ-loop cells₀ s₀ cells s = 256 - s
+μ-loop cells₀ s₀ cells s = slotCount - s
 
 loop-again : tie.Need-loop-again Inv-loop μ-loop
 loop-again c =

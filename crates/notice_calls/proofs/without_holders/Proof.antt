@@ -1,6 +1,6 @@
 -- `notice_calls::without_holders`: before the turn of a slot of the set those below it are asked for the number.
 use borrow.Author.Needs.{needs}
-use Rattle.index.proofs.Kit.{_≡_, _-_, _≤_, _<_, ℕ, Bool, not, ap, arith}
+use Rattle.index.proofs.Kit.{_≡_, _-_, _≤_, _<_, not, ap, arith}
 use mathlib.Core.Bool.{false, true}
 use lib.ListN.{length, getD}
 use Rattle.records.specs.Records.{slotCount}

@@ -1,5 +1,4 @@
 -- `replies::limits_of`: when j lanes are left, those from j on are put together.
-use Prim.Native.Nat.{_-_}
 use native.Mathlib.Omega.{arith}
 use borrow.Author.Needs.{needs}
 use Rattle.replies.specs.Asked.{onBits}

@@ -9,7 +9,7 @@ use Rattle.rpc.proofs.check_control.Statement.{statement}
 use Rattle.rpc.proofs.check_control.Tie as tie
 
 abbrev Inv-loop : tie.InvT-loop
-Inv-loop s at place₀ m₀ place m = Counting (inside 2 control s) s at place m₀ m
+Inv-loop s at place₀ m₀ place m = Counting (inside 1 control s) s at place m₀ m
 
 abbrev μ-loop : tie.MeasureT-loop
 μ-loop s at place₀ m₀ place m = length s - place

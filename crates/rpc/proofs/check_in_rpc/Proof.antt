@@ -1,7 +1,7 @@
 -- `rpc::check_in_rpc` meets its contract. Assumes nothing.
 use Rattle.index.proofs.Kit.{needs, arith}
-use Rattle.rpc.proofs.CheckLaws.{take-count, take-from, take-room, inside-entry, inside-control, no-id-in-rpc, inside-skipped}
-use Rattle.rpc.proofs.CheckLaws.{inside-name, inside-value}
+use Rattle.rpc.proofs.CheckLaws.{take-count, take-from, take-room, inside-entry, inside-control, inside-skipped, inside-name}
+use Rattle.rpc.proofs.CheckLaws.{inside-value}
 use Rattle.rpc.proofs.check_in_rpc.Statement.{statement}
 use Rattle.rpc.proofs.check_in_rpc.Tie as tie
 
@@ -13,16 +13,15 @@ check-in-rpc-spec =
     (λ c κs.
     let q = c .before .before .before .before .before .pre in
     (take-from _ _ _ (q .1 .0) (q .0), take-room _ _ _ _ _ (q .1 .0) (q .1 .1)))
-    (λ c. search needs) (λ c. search needs) (λ c. search needs) (λ c. search needs)
+    (λ c. search needs) (λ c. search needs) (λ c. search needs)
     (λ c.
     let ρ = c .before .before .before .before .before .role-of .ensures in
     let k = c .before .before .before .k .given .1 in
-    inside-entry _ _ _ _ _ ρ 2 _ _ k (c .check-entry .ensures))
+    inside-entry _ _ _ _ _ ρ 1 _ _ k (c .check-entry .ensures))
     (λ c.
     let u = c .before .before .enum-told .given .1 in
     let ρ = c .before .before .before .before .role-of .ensures in
     inside-control _ _ _ _ _ u ρ _ (c .check-control .ensures))
-    (λ c. no-id-in-rpc _ _ _ _ (c .enum-told2 .given .1) _ (c .before .before .role-of .ensures))
-    (λ c. inside-skipped _ _ _ _ _ (c .before .before .role-of .ensures) 2 (c .enum-told3 .given .1))
-    (λ c. inside-name _ _ _ _ _ (c .before .before .role-of .ensures) 2 (c .enum-told4 .given .1))
-    (λ c. inside-value _ _ _ _ _ (c .before .before .role-of .ensures) 2 (c .enum-told5 .given .1)))
+    (λ c. inside-skipped _ _ _ _ _ (c .before .before .role-of .ensures) 1 (c .enum-told2 .given .1))
+    (λ c. inside-name _ _ _ _ _ (c .before .before .role-of .ensures) 1 (c .enum-told3 .given .1))
+    (λ c. inside-value _ _ _ _ _ (c .before .before .role-of .ensures) 1 (c .enum-told4 .given .1)))

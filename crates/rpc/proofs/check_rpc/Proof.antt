@@ -9,7 +9,7 @@ use Rattle.rpc.proofs.check_rpc.Statement.{statement}
 use Rattle.rpc.proofs.check_rpc.Tie as tie
 
 abbrev Inv-loop : tie.InvT-loop
-Inv-loop s place₀ m₀ place m = Counting (inside 3 rpc s) s 0 place m₀ m
+Inv-loop s place₀ m₀ place m = Counting (inside 2 rpc s) s 0 place m₀ m
 
 abbrev μ-loop : tie.MeasureT-loop
 μ-loop s place₀ m₀ place m = length s - place

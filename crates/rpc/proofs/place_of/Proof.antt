@@ -1,5 +1,5 @@
 -- `rpc::place_of` meets its contract. Assumes nothing.
-use Rattle.rpc.proofs.KindLaws.{place-first, place-second, place-third, place-fourth}
+use Rattle.rpc.proofs.KindLaws.{place-first, place-second, place-third}
 use Rattle.rpc.proofs.place_of.Statement.{statement}
 use Rattle.rpc.proofs.place_of.Tie as tie
 
@@ -8,5 +8,4 @@ place-of-spec =
     tie.close (tie.spec
     (λ c. place-first _ _ (c .if1 .taken))
     (λ c. place-second _ _ (c .before .if1 .left) (c .if2 .taken))
-    (λ c. place-third _ _ (c .before .before .if1 .left) (c .before .if2 .left) (c .if3 .taken))
-    (λ c. place-fourth _ _ (c .before .before .if1 .left) (c .before .if2 .left) (c .if3 .left)))
+    (λ c. place-third _ _ (c .before .if1 .left) (c .if2 .left)))

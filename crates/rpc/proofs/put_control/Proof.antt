@@ -5,19 +5,17 @@ use lib.ListN.{length}
 use Rattle.fields.proofs.FieldLaws.{read-placed, read-falls}
 use Rattle.rpc.specs.Messages.{control, inside}
 use Rattle.rpc.specs.Passes.{total}
-use Rattle.rpc.specs.Reading.{known}
 use Rattle.rpc.proofs.ListLaws.{Gathering, gathering-none, gathering-more, gathering-bad, gathering-all}
 use Rattle.rpc.proofs.put_control.Statement.{statement}
 use Rattle.rpc.proofs.put_control.Tie as tie
 
 abbrev Inv-loop : tie.InvT-loop
-Inv-loop all names ids numbers s at list₀ place₀ m₀ list place m =
+Inv-loop all names s at list₀ place₀ m₀ list place m =
     (length list ≡ length list₀)
-    × ((place ≤ length s)
-    × ((total m + at ≤ total m₀ + place) × Gathering (known names ids numbers) all (inside 2 control s) s at place m₀ m list₀ list))
+    × ((place ≤ length s) × ((total m + at ≤ total m₀ + place) × Gathering names all (inside 1 control s) s at place m₀ m list₀ list))
 
 abbrev μ-loop : tie.MeasureT-loop
-μ-loop all names ids numbers s at list₀ place₀ m₀ list place m = length s - place
+μ-loop all names s at list₀ place₀ m₀ list place m = length s - place
 
 pub put-control-spec : {M : Type 1} → statement M
 put-control-spec =
@@ -27,8 +25,8 @@ put-control-spec =
     (λ c. (search gathering-bad, omega arith))
     (λ c κs.
     let i = read-placed _ _ _ _ (c .before .before .before .before .field-at .ensures) (c .before .before .p .given .1) in
-    let q = c .before .before .before .before .before .before .before .before .before .before .before .before .before .pre in
-    (q .0, (q .1 .0, (i .order, (i .high, omega arith)))))
+    let q = c .before .before .before .before .before .before .before .before .before .before .before .pre in
+    (q .0, (q .1 .0, (i .high, omega arith))))
     (λ c. search read-falls)
     (λ c.
     let w = c .before .before .before .before .before .before .before .before .before .loop .inv in
@@ -38,6 +36,6 @@ put-control-spec =
     let e = o .ensures in
     let q = read-placed _ _ _ _ f g in
     let d = q .two in
-    (o .kept .1 .1 .1 .1 .1 .1 .0 ∙ w .0, (q .high, (omega arith, search gathering-more))))
+    (o .kept .1 .1 .1 .1 .0 ∙ w .0, (q .high, (omega arith, search gathering-more))))
     (λ c. c .before .loop .inv .0)
     (λ c. (search gathering-all, omega arith)))

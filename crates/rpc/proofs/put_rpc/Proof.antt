@@ -5,19 +5,17 @@ use lib.ListN.{length}
 use Rattle.fields.proofs.FieldLaws.{read-placed, read-falls}
 use Rattle.rpc.specs.Messages.{rpc, inside}
 use Rattle.rpc.specs.Passes.{total}
-use Rattle.rpc.specs.Reading.{known}
 use Rattle.rpc.proofs.ListLaws.{Gathering, gathering-none, gathering-more, gathering-bad, gathering-all}
 use Rattle.rpc.proofs.put_rpc.Statement.{statement}
 use Rattle.rpc.proofs.put_rpc.Tie as tie
 
 abbrev Inv-loop : tie.InvT-loop
-Inv-loop names ids numbers s list₀ place₀ m₀ list place m =
+Inv-loop names s list₀ place₀ m₀ list place m =
     (length list ≡ length list₀)
-    × ((place ≤ length s)
-    × ((total m ≤ total m₀ + place) × Gathering (known names ids numbers) s (inside 3 rpc s) s 0 place m₀ m list₀ list))
+    × ((place ≤ length s) × ((total m ≤ total m₀ + place) × Gathering names s (inside 2 rpc s) s 0 place m₀ m list₀ list))
 
 abbrev μ-loop : tie.MeasureT-loop
-μ-loop names ids numbers s list₀ place₀ m₀ list place m = length s - place
+μ-loop names s list₀ place₀ m₀ list place m = length s - place
 
 pub put-rpc-spec : {M : Type 1} → statement M
 put-rpc-spec =
@@ -27,7 +25,7 @@ put-rpc-spec =
     (λ c. search gathering-bad)
     (λ c κs.
     let i = read-placed _ _ _ _ (c .before .before .before .before .field-at .ensures) (c .before .before .p .given .1) in
-    let q = c .before .before .before .before .before .before .before .before .before .before .before .before .pre in
+    let q = c .before .before .before .before .before .before .before .before .before .before .pre in
     (q .0, (i .order, (i .high, omega arith))))
     (λ c. search read-falls)
     (λ c.
@@ -38,6 +36,6 @@ put-rpc-spec =
     let e = o .ensures in
     let q = read-placed _ _ _ _ f g in
     let d = q .two in
-    (o .kept .1 .1 .1 .1 .1 .0 ∙ w .0, (q .high, (omega arith, search gathering-more))))
+    (o .kept .1 .1 .1 .0 ∙ w .0, (q .high, (omega arith, search gathering-more))))
     (λ c. c .before .loop .inv .0)
     (λ c. search gathering-all))

@@ -1,13 +1,15 @@
 -- `rpc_write::entry_size` meets its contract. Assumes nothing.
-use Rattle.index.proofs.Kit.{needs, arith}
-use Rattle.rpc_write.proofs.WriteLaws.{entry-id, entry-named}
+use borrow.Author.Needs.{needs}
+use Rattle.rpc_write.proofs.WriteLaws.{entry-length}
 use Rattle.rpc_write.proofs.entry_size.Statement.{statement}
 use Rattle.rpc_write.proofs.entry_size.Tie as tie
 
 pub entry-size-spec : {M : Type 1} → statement M
 entry-size-spec =
     tie.close (tie.spec
-    (λ c κs. c .before .before .before .before .pre .0)
-    (λ c. entry-id _ _ _ _ (c .before .if1 .taken) _ (c .id-size .ensures))
-    (λ c κs. c .before .before .before .before .pre .1 (c .if1 .left))
-    (λ c. entry-named _ _ _ _ (c .before .if1 .left) _ (c .named-size .ensures)))
+    (λ c κs. search needs) (λ c κs. search needs) (λ c κs. search needs) (λ c κs. search needs) (λ c κs. search needs)
+    (λ c κs. search needs) (λ c κs. search needs) (λ c. search needs) (λ c. search needs)
+    (λ c. entry-length _ _ _ _ _ _ _ _ _ _ _ (c .before .before .before .before .before .before .early-value .ensures)
+    (c .before .before .before .before .name-number .ensures .0) (c .before .late-value .ensures)
+    (c .before .before .before .name-size .ensures) (c .before .before .before .before .before .value-size .ensures)
+    (c .before .before .part-size .ensures) (c .value-size2 .ensures)))

@@ -1,5 +1,5 @@
 -- `rpc_write::put_one` meets its contract. Assumes nothing.
-use Rattle.index.proofs.Kit.{needs, arith}
+use borrow.Author.Needs.{needs}
 use Rattle.rpc_write.proofs.WriteLaws.{one-other, one-stored}
 use Rattle.rpc_write.proofs.put_one.Statement.{statement}
 use Rattle.rpc_write.proofs.put_one.Tie as tie
@@ -8,13 +8,8 @@ pub put-one-spec : {M : Type 1} → statement M
 put-one-spec =
     tie.close (tie.spec
     (λ c. one-other _ _ _ _ _ _ _ _ (c .if1 .taken))
-    (λ c κs. (c .before .before .before .before .before .before .pre .0, c .before .before .before .before .before .before .pre .1 .0))
-    (λ c κs. let q = c .before .before .before .before .before .before .before .pre .1 .1 in
-    (q .0, (omega (arith, c .entry-size .ensures .1), omega (arith, q .1))))
-    (λ c κs. let q = c .before .before .before .before .before .before .before .before .before .before .before .pre in
-    (q .0, (q .1 .0, omega (arith, q .1 .1 .1, c .before .before .before .put-head .ensures .1))))
-    (λ c. search needs)
-    (λ c. one-stored _ _ _ _ _ _ _ _ _ _ _ _ _ (c .before .before .before .before .before .before .before .before .before .if1 .left)
+    (λ c κs. search needs) (λ c κs. search needs) (λ c κs. search needs) (λ c. search needs)
+    (λ c. one-stored _ _ _ _ _ _ _ _ _ _ _ _ _
+    (c .before .before .before .before .before .before .before .before .before .if1 .left)
     (c .before .before .before .before .before .before .before .entry-size .ensures)
-    (c .before .before .before .before .before .before .put-head .ensures)
-    (c .before .before .put-entry .ensures)))
+    (c .before .before .before .before .before .before .put-head .ensures) (c .before .before .put-entry .ensures)))

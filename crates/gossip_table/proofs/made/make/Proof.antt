@@ -11,5 +11,9 @@ make-spec =
     (λ c κs. search needs) (λ c κs. search needs) (λ c κs. search needs) (λ c κs. search needs)
     (λ c. search needs)
     (λ c.
-    all-made (gossipOf (c .before .before .before .before .before .before .before .before .before .before .before .before .before .before .before .before .before .args .gossip .now)) _ _ _ _ _
-    (c .before .before .before .before .before .before .before .before .before .before .before .before .before .before .make-notes .ensures) (c .before .before .before .before .before .before .before .before .before .before .make-stores .ensures) (c .before .before .before .before .before .before .make-replies .ensures) (c .before .before .make-head .ensures)))
+    all-made (gossipOf
+    (c .before .before .before .before .before .before .before .before .before .before .before .before .before .before .before .before
+    .before .args .gossip .now)) _ _ _ _ _
+    (c .before .before .before .before .before .before .before .before .before .before .before .before .before .before .make-notes .ensures)
+    (c .before .before .before .before .before .before .before .before .before .before .make-stores .ensures)
+    (c .before .before .before .before .before .before .make-replies .ensures) (c .before .before .make-head .ensures)))

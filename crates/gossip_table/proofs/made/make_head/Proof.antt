@@ -1,5 +1,5 @@
 -- `gossip_table::made::make_head`: five stores in front of all parts.
-use Rattle.index.proofs.Kit.{arith, needs}
+use Rattle.index.proofs.Kit.{needs}
 use Rattle.gossip_table.proofs.MadeLaws.{head-made}
 use Rattle.gossip_table.proofs.made.make_head.Statement.{statement}
 use Rattle.gossip_table.proofs.made.make_head.Tie as tie

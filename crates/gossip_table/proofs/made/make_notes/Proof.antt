@@ -15,4 +15,5 @@ make-notes-spec =
     (λ c.
     let s = c .before .before .before .before .before in
     let g = s .args .gossip .now in
-    notes-made g (c .before .before .make .last .0) (s .pre) (c .before .before .make .kept .0 ∙ notes-size g (s .pre)) (c .before .before .make .ensures)))
+    notes-made g (c .before .before .make .last .0) (s .pre) (c .before .before .make .kept .0 ∙ notes-size g (s .pre))
+    (c .before .before .make .ensures)))

@@ -15,4 +15,5 @@ make-replies-spec =
     (λ c.
     let s = c .before .before .before .before .before in
     let g = s .args .gossip .now in
-    replies-made g (c .before .before .make .last .0) (s .pre) (c .before .before .make .kept .0 ∙ replies-size g (s .pre)) (c .before .before .make .ensures)))
+    replies-made g (c .before .before .make .last .0) (s .pre) (c .before .before .make .kept .0 ∙ replies-size g (s .pre))
+    (c .before .before .make .ensures)))

@@ -15,4 +15,5 @@ make-stores-spec =
     (λ c.
     let s = c .before .before .before .before .before in
     let g = s .args .gossip .now in
-    stores-made g (c .before .before .make .last .0) (s .pre) (c .before .before .make .kept .0 ∙ stores-size g (s .pre)) (c .before .before .make .ensures .0)))
+    stores-made g (c .before .before .make .last .0) (s .pre) (c .before .before .make .kept .0 ∙ stores-size g (s .pre))
+    (c .before .before .make .ensures .0)))

@@ -9,4 +9,5 @@ use Rattle.gossip_table.proofs.stored.announce.Tie as tie
 pub announce-spec : {M : Type 1} → statement M
 unfolding gossipOf storeIn
 announce-spec =
-    tie.close (tie.spec (λ c. search needs) (λ c. search needs) (λ c. search needs) (λ c κs. search announce-fits) (λ c. search needs) (λ c. search needs))
+    tie.close (tie.spec (λ c. search needs) (λ c. search needs) (λ c. search needs) (λ c κs. search announce-fits) (λ c. search needs)
+    (λ c. search needs))

@@ -7,4 +7,5 @@ use Rattle.gossip_table.proofs.stored.count.Tie as tie
 
 pub count-spec : {M : Type 1} → statement M
 unfolding gossipOf
-count-spec = tie.close (tie.spec (λ c. search needs) (λ c. search needs) (λ c. search needs) (λ c κs. search fine-ordered) (λ c. search needs))
+count-spec = tie.close
+    (tie.spec (λ c. search needs) (λ c. search needs) (λ c. search needs) (λ c κs. search fine-ordered) (λ c. search needs))

@@ -1,6 +1,6 @@
 -- `gossip_table::stored::empty`: the store, and then the replies with what only it had.
 use Rattle.index.proofs.Kit.{ap, _∙_, needs}
-use Rattle.gossip.specs.Notes.{Gossip, forget}
+use Rattle.gossip.specs.Notes.{forget}
 use Rattle.gossip_table.proofs.stored.empty.Statement.{statement}
 use Rattle.gossip_table.proofs.stored.empty.Tie as tie
 

@@ -5,4 +5,5 @@ use Rattle.gossip_table.proofs.stored.find.Statement.{statement}
 use Rattle.gossip_table.proofs.stored.find.Tie as tie
 
 pub find-spec : {M : Type 1} → statement M
-find-spec = tie.close (tie.spec (λ c. search needs) (λ c. search needs) (λ c. search needs) (λ c κs. search fine-stores) (λ c. search (find-by, needs)))
+find-spec = tie.close
+    (tie.spec (λ c. search needs) (λ c. search needs) (λ c. search needs) (λ c κs. search fine-stores) (λ c. search (find-by, needs)))

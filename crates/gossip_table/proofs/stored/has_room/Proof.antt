@@ -8,4 +8,6 @@ use Rattle.gossip_table.proofs.stored.has_room.Tie as tie
 
 pub has-room-spec : {M : Type 1} → statement M
 unfolding gossipOf storeIn
-has-room-spec = tie.close (tie.spec (λ c. search needs) (λ c. search needs) (λ c. search needs) (λ c κs. let t = fine-topic (c .before .before .pre) in search needs) (λ c. search needs))
+has-room-spec =
+    tie.close (tie.spec (λ c. search needs) (λ c. search needs) (λ c. search needs)
+    (λ c κs. let t = fine-topic (c .before .before .pre) in search needs) (λ c. search needs))

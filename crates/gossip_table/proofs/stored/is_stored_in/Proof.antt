@@ -8,4 +8,5 @@ use Rattle.gossip_table.proofs.stored.is_stored_in.Tie as tie
 
 pub is-stored-in-spec : {M : Type 1} → statement M
 unfolding gossipOf storeIn
-is-stored-in-spec = tie.close (tie.spec (λ c. search needs) (λ c. search needs) (λ c. search needs) (λ c κs. search fine-topic) (λ c. search needs))
+is-stored-in-spec =
+    tie.close (tie.spec (λ c. search needs) (λ c. search needs) (λ c. search needs) (λ c κs. search fine-topic) (λ c. search needs))

@@ -2,11 +2,10 @@
 use Rattle.index.proofs.Kit.{ℕ, _≤_, _-_, Bool, false, arith, needs}
 use Rattle.index.proofs.Lists.{Built, built-none, built-more}
 use mathlib.Core.List.{List, map}
-use lib.ListN.{length, getD}
+use lib.ListN.{getD}
 use Rattle.gossip.specs.Notes.{rowsMost, stored}
 use Rattle.gossip.specs.Valid.{rowNumber}
-use Rattle.replies.specs.View.{repliesOf}
-use Rattle.gossip_table.specs.View.{gossipOf, repliesPart}
+use Rattle.gossip_table.specs.View.{gossipOf}
 use Rattle.gossip_table.proofs.StoreParts.{replies-size, replies-count}
 use Rattle.gossip_table.proofs.stored.rows_that_stay.Statement.{statement}
 use Rattle.gossip_table.proofs.stored.rows_that_stay.Tie as tie

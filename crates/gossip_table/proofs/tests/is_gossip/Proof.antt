@@ -1,5 +1,5 @@
 -- `gossip_table::tests::is_gossip`: the four tests in the order of the definition.
-use Rattle.index.proofs.Kit.{sym, ap, _∙_, needs}
+use Rattle.index.proofs.Kit.{needs}
 use Rattle.index.proofs.Flags.{failed, passed}
 use Rattle.gossip_table.proofs.StoreParts.{stores-size}
 use Rattle.gossip_table.proofs.TestLaws.{stores-judged, gossip-broken1, gossip-broken2, gossip-broken3, gossip-judged}

@@ -15,7 +15,9 @@ note-ok-spec =
     still-passes (p .args .gossip .now) _ _ (c .before .is-still .ensures (c .if1 .taken)))
     (λ c κs. search needs)
     (λ c. search needs) (λ c. search needs) (λ c. search needs)
-    (λ c κs. let p = c .before .before .before .before .before .before .before in record { size = notes-size (p .args .gossip .now) (p .pre .sizes); slot = p .pre .slot })
+    (λ c κs. let p = c .before .before .before .before .before .before .before in
+    record { size = notes-size (p .args .gossip .now) (p .pre .sizes); slot = p .pre .slot })
     (λ c.
     let p = c .before .before .before .before .before .before .before .before in
-    judged-passes (p .args .gossip .now) _ _ _ _ _ _ (c .before .before .load-status .ensures) (p .pre .puts) (p .pre .answers) (c .note-ok .ensures)))
+    judged-passes (p .args .gossip .now) _ _ _ _ _ _ (c .before .before .load-status .ensures) (p .pre .puts) (p .pre .answers)
+    (c .note-ok .ensures)))

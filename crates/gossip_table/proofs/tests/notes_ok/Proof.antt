@@ -1,5 +1,5 @@
 -- `gossip_table::tests::notes_ok`: where nothing is held all pass; else the loop asks slot by slot.
-use Rattle.index.proofs.Kit.{_≤_, _-_, _≡_, sym, _∙_, arith, needs, every, true}
+use Rattle.index.proofs.Kit.{_≤_, _-_, _≡_, sym, arith, needs, every, true}
 use Rattle.index.proofs.Index.{every-none, every-more, every-out, every-done}
 use Rattle.index.proofs.Flags.{failed, passed}
 use Rattle.records.specs.Records.{slotCount, peerIn}
@@ -25,7 +25,8 @@ notes-ok-spec =
     tie.close (tie.spec Inv-loop μ-loop
     (λ c. search needs) (λ c. search needs) (λ c. search needs)
     (λ c κs. let p = c .before .before .before in notes-size (p .args .gossip .now) (p .pre .sizes))
-    (λ c. let p = c .before .before .before .before .before in quiet-passes (p .args .gossip .now) _ (c .before .is-quiet .ensures (c .if1 .taken)))
+    (λ c. let p = c .before .before .before .before .before in
+    quiet-passes (p .args .gossip .now) _ (c .before .is-quiet .ensures (c .if1 .taken)))
     (λ c κs. search needs)
     (λ c κs. search needs)
     (λ c. (omega arith, every-none _))

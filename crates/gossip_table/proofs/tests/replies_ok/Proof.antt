@@ -1,7 +1,7 @@
 -- `gossip_table::tests::replies_ok`: the rows, and then whether their numbers are stored.
 use Rattle.index.proofs.Kit.{arith, needs}
 use Rattle.index.proofs.Flags.{failed, passed}
-use Rattle.gossip_table.proofs.StoreParts.{replies-size, replies-part}
+use Rattle.gossip_table.proofs.StoreParts.{replies-size}
 use Rattle.gossip_table.proofs.TestLaws.{connected-is, rows-broken, rows-judged, rows-few}
 use Rattle.gossip_table.proofs.tests.replies_ok.Statement.{statement}
 use Rattle.gossip_table.proofs.tests.replies_ok.Tie as tie

@@ -1,5 +1,5 @@
 -- `gossip_table::tests::rows_stored`: the loop asks row by row.
-use Rattle.index.proofs.Kit.{_≤_, _-_, _≡_, sym, _∙_, arith, needs, every, true}
+use Rattle.index.proofs.Kit.{_≤_, _-_, _≡_, sym, arith, needs, every, true}
 use Rattle.index.proofs.Index.{every-none, every-more, every-out, every-done}
 use Rattle.index.proofs.Flags.{failed, passed}
 use Rattle.gossip_table.specs.View.{gossipOf}

@@ -1,5 +1,5 @@
 -- `gossip_table::tests::stores_ok`: the loop asks topic by topic.
-use Rattle.index.proofs.Kit.{_≤_, _-_, _≡_, sym, _∙_, arith, needs, every, true}
+use Rattle.index.proofs.Kit.{_≤_, _-_, _≡_, sym, arith, needs, every, true}
 use Rattle.index.proofs.Index.{every-none, every-more, every-out, every-done}
 use Rattle.index.proofs.Flags.{failed, passed}
 use Rattle.records.specs.Records.{topicCount}
@@ -26,18 +26,21 @@ stores-ok-spec =
     (λ c. (omega arith, every-none _))
     (λ c κs. search needs)
     (λ c. search needs) (λ c. search needs) (λ c. let e = c .before .before .before .before .before .pre .sizes in omega (arith, e))
-    (λ c κs. let p = c .before .before .before .before .before .before in (stores-size (p .args .gossip .now) (p .pre .sizes), c .before .before .loop-test .taken))
+    (λ c κs. let p = c .before .before .before .before .before .before in
+    (stores-size (p .args .gossip .now) (p .pre .sizes), c .before .before .loop-test .taken))
     (λ c.
     let t = c .before .before .before .before .loop-test .taken in
     every-out _ topicCount (c .before .before .before .before .before .loop .t) (omega (arith, t))
-    (failed (store-judged (c .before .before .before .before .before .before .before .before .args .gossip .now) _ (c .before .before .before .is-joined .ensures) (c .before .store-ok .ensures)) (c .if1 .taken)))
+    (failed (store-judged (c .before .before .before .before .before .before .before .before .args .gossip .now) _
+    (c .before .before .before .is-joined .ensures) (c .before .store-ok .ensures)) (c .if1 .taken)))
     (λ c. omega arith)
     (λ c. omega arith)
     (λ c.
     let t = c .before .before .before .before .loop-test .taken in (
       omega (arith, t),
       every-more _ _ (c .before .before .before .before .before .loop .inv .1)
-          (passed (store-judged (c .before .before .before .before .before .before .before .before .args .gossip .now) _ (c .before .before .before .is-joined .ensures) (c .before .store-ok .ensures)) (c .if1 .left)),
+          (passed (store-judged (c .before .before .before .before .before .before .before .before .args .gossip .now) _
+          (c .before .before .before .is-joined .ensures) (c .before .store-ok .ensures)) (c .if1 .left)),
     ))
     (λ c.
     let l = c .before .loop in
