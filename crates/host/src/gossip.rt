@@ -1,13 +1,72 @@
-// The calls of a router with the array of IDONTWANT, IHAVE and IWANT (02, orders 6 and 7). Each is handed the table and the array.
+// A router with the array of IDONTWANT, IHAVE and IWANT (02, orders 6 and 7): made, tested, and its calls. Each call is handed the table and
+// the array.
 ghost use mathlib.Core.Path.{_≡_};
 ghost use lib.ListN.{length};
 ghost use Rattle.index.specs.Index.{one};
 ghost use Rattle.rules.specs.Calls.{connect as Calls·connect, disconnect as Calls·disconnect, leave as Calls·leave};
 ghost use Rattle.gossip.specs.Calls.{announce as Calls·announce, askAll, beat as Calls·beat, idontwant as Calls·idontwant};
 ghost use Rattle.gossip.specs.Calls.{ihave as Calls·ihave, iwant as Calls·iwant, new, old, relay as Calls·relay, store as Calls·store};
+ghost use Rattle.gossip.specs.Valid.{validAll};
 ghost use Rattle.gossip_gate.specs.Promise.{FollowsAll, Tells};
+ghost use Rattle.gossip_table.specs.View.{extendedOf, setupOf};
+ghost use Rattle.host_gossip.specs.Routers.{HostsLoadAll, HostsMade, ordinarySetup};
+ghost use Rattle.params.specs.Editions.{editionOf};
 use gossip_table::GOSSIP_CELLS;
+use gossip_table::SETUP;
 use layout::CELLS;
+use limits::NUMBERS;
+
+// The ordinary set-up numbers.
+#[no_mangle]
+pub extern "C" fn hivepadlet_ordinary_setup(setup: &mut [u64; SETUP])
+    ensures { λ r. ⌜ now (setup .exit) ≡ ordinarySetup ⌝ }
+{
+    host_gossip::ordinary_setup(setup);
+}
+
+// Makes a fresh router with its array: 0, 2, or 9 with the index or rule.
+#[no_mangle]
+pub extern "C" fn hivepadlet_gossip_fresh(
+    numbers: &[i64; NUMBERS],
+    edition: u64,
+    setup: &[u64; SETUP],
+    table: &mut [u64; CELLS],
+    gossip: &mut [u64; GOSSIP_CELLS],
+) -> u64
+    ensures { λ r. ⌜ HostsMade (setupOf (now (setup .entry))) (editionOf edition) (now (numbers .entry)) r
+        (now (table .entry)) (now (table .exit)) (now (gossip .entry)) (now (gossip .exit)) ⌝ }
+{
+    host_gossip::fresh(numbers, edition, setup, table, gossip)
+}
+
+// Makes a router of a save, its parameters and the set-up numbers, at a clock: 0, 2, 9 with the index, the rule or the place, or 10 with
+// the place.
+#[no_mangle]
+pub extern "C" fn hivepadlet_gossip_load(
+    numbers: &[i64; NUMBERS],
+    edition: u64,
+    setup: &[u64; SETUP],
+    clock: u64,
+    bytes: &[u8],
+    table: &mut [u64; CELLS],
+    gossip: &mut [u64; GOSSIP_CELLS],
+) -> u64
+    ensures { λ r. ⌜ HostsLoadAll (setupOf (now (setup .entry))) (editionOf edition) (now (numbers .entry)) clock (now (bytes .entry)) r
+        (now (table .entry)) (now (table .exit)) (now (gossip .entry)) (now (gossip .exit)) ⌝ }
+{
+    host_gossip::load(numbers, edition, setup, clock, bytes, table, gossip)
+}
+
+// Test 12: 1 if the table is a router's and the array is beside it, else 0.
+#[no_mangle]
+pub extern "C" fn hivepadlet_gossip_is_router(
+    table: &[u64; CELLS],
+    gossip: &[u64; GOSSIP_CELLS],
+) -> u32
+    ensures { λ r. ⌜ r ≡ one (validAll (extendedOf (now (table .entry)) (now (gossip .entry)))) ⌝ }
+{
+    host_gossip::is_router(table, gossip)
+}
 
 // A peer connects; a record that is given up takes its counts with it.
 #[no_mangle]
