@@ -283,7 +283,7 @@ fn wrong_entries_are_seen() {
             with_read(|tables, message, entries| {
                 let unnamed = tables.names.chunks(NAME_ROW).position(|row| row[0] == 0);
                 read_entries(tables, message, entries, |entries| {
-                    if let (Some(topic), [0x0a, 0x02, 0x12, 0x00]) = (unnamed, message) {
+                    if let (Some(topic), [0x0a, 0x02, 0x12, 0x00, ..]) = (unnamed, message) {
                         entries[1] = topic as u64;
                     }
                 })
@@ -388,7 +388,7 @@ fn wrong_ids_are_seen() {
             with_write(|tables, lists, buffer| {
                 write_changed(tables, lists, buffer, |lists| {
                     let ids = tables.ids.ids();
-                    let last = lists.topics.len().wrapping_sub(1);
+                    let Some(last) = lists.topics.len().checked_sub(1) else { return };
                     let notice = lists.actions.get(3 * last) == Some(&3);
                     if notice && ids.id(lists.topics[last]).is_none() {
                         lists.actions.truncate(3 * last);
