@@ -46,7 +46,7 @@ def make_names(rng, utf8):
             names.append(name)
     known = {rng.randbytes(rng.choice([1, 2, 20, 40, 63, 64])) for _ in some(rng, 12)}
     known |= {name + b"x" for name in known if len(name) < ID_BYTES and rng.random() < 0.2}
-    names.ids = dict(zip(sorted(known), rng.sample(range(1 << 63), len(known))))
+    names.ids = dict(zip(sorted(known), rng.sample(range(1 << 62), len(known))))
     if known and rng.random() < 0.5:
         names.ids[rng.choice(sorted(known))] = (1 << 64) - 1
     return names
