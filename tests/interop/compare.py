@@ -7,12 +7,13 @@ import subprocess
 import sys
 from collections import Counter
 
-from make import ABSENT, LONGEST_LISTS, LONGEST_NAMES, TOPICS, compose, damage, make_lists, make_names, make_words, sized_words, table
+from make import ABSENT, IDONTWANT, LONGEST_LISTS, LONGEST_NAMES, TOPICS, Names, compose, damage, id_line, make_lists, make_names
+from make import make_words, sized_words, table
 from walk import DIALECTS, KINDS, LONGEST, walk
 
 WRITTEN, DAMAGED, COMPOSED, OURS = 2000, 3000, 6000, 1500  # messages: of each implementation, damaged of each, composed, of ours
 PER_NAMES = 50  # messages for one set of names
-MOST = [1, 2, 3, 4] * 10 + [100]  # subscriptions, GRAFTs and PRUNEs of a message
+MOST = [1, 2, 3, 4] * 10 + [100]  # subscriptions, GRAFTs and PRUNEs of a message, and ids of an IDONTWANT
 PEER = 7
 UNKNOWN_TOPIC = 11
 MALFORMED = 10
@@ -55,7 +56,7 @@ def check(what, faults):
 # entries
 
 def raw(words):
-    """the entries of words: kind, topic or None, value or None"""
+    """the entries of words: kind, topic or None (of an IDONTWANT the id), value or None"""
     if words == "refused":
         return None
     topic = lambda word: None if word == ABSENT else bytes.fromhex(word)
@@ -64,15 +65,17 @@ def raw(words):
     subs = [(0, topic(i[2]), value(i[1])) for i in items if i[0] == "sub"]
     grafts = [(1, topic(i[1]), None) for i in items if i[0] == "graft"]
     prunes = [(2, topic(i[1]), value(i[2])) for i in items if i[0] == "prune"]
-    return subs + grafts + prunes
+    notices = [(IDONTWANT, topic(name), None) for i in items if i[0] == "idontwant" for name in i[1:]]
+    return subs + grafts + prunes + notices
 
 
 def ours_of(entries, names):
-    """entries as order 1 gives them: a topic's number, or 11; 0 for what is absent"""
+    """entries as orders 1 and 6 give them: a topic's number, or 11; 0 for what is absent; of an id 0 and its number, or 11 and 0"""
     if entries is None:
         return None
     number = {name: topic for topic, name in enumerate(names) if name}
-    return [(kind, number.get(topic, UNKNOWN_TOPIC), int(value or 0)) for kind, topic, value in entries]
+    return [(kind, 0 if topic in names.ids else UNKNOWN_TOPIC, names.ids.get(topic, 0)) if kind == IDONTWANT
+            else (kind, number.get(topic, UNKNOWN_TOPIC), int(value or 0)) for kind, topic, value in entries]
 
 
 def read_ours(messages):
@@ -81,14 +84,14 @@ def read_ours(messages):
     before = None
     for data, names in messages:
         if names is not before:
-            lines.append("names " + table(rng, names).hex())
+            lines += ["names " + table(rng, names).hex(), id_line(rng, names.ids)]
             before = names
         lines.append("read " + data.hex())
     answers = []
     for line, out in zip(lines, run("ours", [], lines)):
         answer, value, *entries = out.split(" ")
-        if line.startswith("names"):
-            assert out == "0 0", f"names: {out}"
+        if line.startswith(("names", "ids")):
+            assert out == "0 0", f"names or ids: {out}"
         elif answer == "0" and len(entries) == int(value):
             answers.append(([tuple(map(int, entry.split(","))) for entry in entries], None))
         elif answer == str(MALFORMED) and not entries:
@@ -154,7 +157,7 @@ def written_by(name):
         names.append(n)
         said.append(make_words(rng, n, utf8, rng.choice(MOST)))
     for words in [sized_words(size) for size in range(LONGEST - 5, LONGEST + 6)] + [" ".join(["sub,-,-"] * (LONGEST // 2))]:
-        names.append([b"a"] + [b""] * (TOPICS - 1))
+        names.append(Names([b"a"] + [b""] * (TOPICS - 1)))
         said.append(words)
     messages = [(bytes.fromhex(line), n) for line, n in zip(run(name, ["write"], said), names)]
     ours = read_ours(messages)
@@ -189,6 +192,9 @@ def words_of(changes, actions, names):
     items += ["control"] if actions else []
     items += [f"graft,{names[topic].hex()}" for kind, _, topic in actions if kind == 1]
     items += [f"prune,{names[topic].hex()},{seconds or ABSENT}" for kind, seconds, topic in actions if kind == 2]
+    id_of = {number: name.hex() for name, number in names.ids.items()}
+    ids = [id_of[number] for kind, _, number in actions if kind == IDONTWANT]
+    items += [",".join(["idontwant"] + ids)] if ids else []
     return " ".join(items)
 
 
@@ -206,13 +212,14 @@ def written_by_ours(utf8, readers, writers):
         items = "".join(f" a,{kind},{PEER},{seconds},{topic}" for kind, seconds, topic in actions)
         items += "".join(f" c,{join},{topic}" for join, topic in changes)
         room = len(data) // 2
-        lines += ["names " + table(rng, n).hex(), f"write {room}{items}", f"write {max(0, room - 1)}{items}"]
+        lines += ["names " + table(rng, n).hex(), id_line(rng, n.ids), f"write {room}{items}", f"write {max(0, room - 1)}{items}"]
     out = run("ours", [], lines)
-    ours = [line.split(" ")[-1] for line in out[1::3]]
+    exact, short = out[2::4], out[3::4]
+    ours = [line.split(" ")[-1] for line in exact]
     check(f"{what}: into a buffer of exactly their length", [
-        (words, got) for words, data, got in zip(said, wanted, out[1::3]) if got != f"0 {len(data) // 2} {data}"])
+        (words, got) for words, data, got in zip(said, wanted, exact) if got != f"0 {len(data) // 2} {data}"])
     check(f"{what}: a buffer of one byte less is refused", [
-        (words, got) for words, data, got in zip(said, wanted, out[2::3]) if got != (f"{NO_ROOM} 0 " if data else "0 0 ")])
+        (words, got) for words, data, got in zip(said, wanted, short) if got != (f"{NO_ROOM} 0 " if data else "0 0 ")])
     for name in readers:
         check(f"{what}: {name} reads what was to be said", [
             (words, got) for words, got in zip(said, run(name, ["read"], ours)) if got != words])

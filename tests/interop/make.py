@@ -1,14 +1,22 @@
-"""Messages for the comparison, from a seed: names of topics, what is to be said (in the words of README.md), damage, and messages composed
-field by field."""
+"""Messages for the comparison, from a seed: names of topics and message ids, what is to be said (in the words of README.md), damage, and
+messages composed field by field."""
 
 from walk import BITS_64, FIXED_32, FIXED_64, GROUP, GROUP_END, LENGTH, SCHEMA, VARINT, WIRE_TYPES
 
 TOPICS = 8
 NAME_BYTES = 64
+ID_BYTES = 64
 ABSENT = "-"
+IDONTWANT = 3
+
+
+class Names(list):
+    """the names of eight topics, and message ids with their numbers"""
+    ids = {}
+
 
 # what makes the longest message that ours writes: pairs (join, topic), and (kind, seconds, topic)
-LONGEST_NAMES = [bytes([65 + topic]) * NAME_BYTES for topic in range(TOPICS)]
+LONGEST_NAMES = Names(bytes([65 + topic]) * NAME_BYTES for topic in range(TOPICS))
 LONGEST_LISTS = [(1, topic) for topic in range(TOPICS)], [(2, 3600, topic) for topic in range(TOPICS)] * 8
 
 
@@ -24,8 +32,8 @@ def text(rng, length, utf8):
 
 
 def make_names(rng, utf8):
-    """the names of eight topics, no two alike, b"" for none"""
-    names = []
+    """the names of eight topics, no two alike, b"" for none; and some message ids, no two alike, with numbers of which no two are"""
+    names = Names()
     while len(names) < TOPICS:
         kind = rng.random()
         if kind < 0.15 and names:
@@ -36,6 +44,11 @@ def make_names(rng, utf8):
             name = text(rng, rng.choice([1, 2, 3, 8, 20, 63, 64, rng.randint(1, NAME_BYTES)]), utf8)
         if name == b"" or name not in names and (not utf8 or clean(name) == name):
             names.append(name)
+    known = {rng.randbytes(rng.choice([1, 2, 20, 40, 63, 64])) for _ in some(rng, 12)}
+    known |= {name + b"x" for name in known if len(name) < ID_BYTES and rng.random() < 0.2}
+    names.ids = dict(zip(sorted(known), rng.sample(range(1 << 62), len(known))))
+    if known and rng.random() < 0.5:
+        names.ids[rng.choice(sorted(known))] = (1 << 64) - 1
     return names
 
 
@@ -46,6 +59,29 @@ def clean(name):
 def table(rng, names):
     """the table of names that the library takes; bytes past a name are anything"""
     return b"".join(bytes([len(name)]) + name + rng.randbytes(NAME_BYTES - len(name)) for name in names)
+
+
+def id_line(rng, ids):
+    """the table of ids that the library takes: rows, the shorter first, their numbers, and the rows by rising number"""
+    rows = sorted(ids, key=lambda name: (len(name), name))
+    numbers = [ids[name] for name in rows]
+    order = sorted(range(len(rows)), key=lambda row: numbers[row])
+    data = b"".join(bytes([len(name)]) + name + rng.randbytes(ID_BYTES - len(name)) for name in rows)
+    listed = lambda values: ",".join(map(str, values)) or ABSENT
+    return f"ids {data.hex() or ABSENT} {listed(numbers)} {listed(order)}"
+
+
+def an_id(rng, ids):
+    """a message id of the table, or one near it, or any"""
+    kind = rng.random()
+    known = rng.choice(list(ids)) if ids else b"none"
+    if kind < 0.6:
+        return known
+    if kind < 0.7:
+        return known[:-1]
+    if kind < 0.8:
+        return known + b"\0"
+    return rng.randbytes(rng.choice([0, 1, 20, 64, 65]))
 
 
 def a_topic(rng, names, utf8):
@@ -102,7 +138,8 @@ def make_words(rng, names, utf8, most=5):
         for _ in some(rng, most):
             peers = "".join(f",{a_word(rng)}/{a_word(rng)}" for _ in some(rng, 2))
             items.append(f"prune,{topic()},{rng.choice([ABSENT, str(number(rng))])}{peers}")
-        items += [f"idontwant{ids(rng)}" for _ in some(rng, 2)]
+        for _ in some(rng, 2):
+            items.append("idontwant" + "".join("," + an_id(rng, names.ids).hex() for _ in some(rng, most)))
     return " ".join(items)
 
 
@@ -192,6 +229,8 @@ def compose_field(rng, kind, names, field, wire):
         contents = compose(rng, known, names)
     elif known == "string":
         contents = a_topic(rng, names, rng.random() < 0.9) or b""
+    elif kind == "idontwant":
+        contents = an_id(rng, names.ids)
     else:
         contents = rng.randbytes(rng.randint(0, 8))
     length = len(contents)
@@ -201,13 +240,17 @@ def compose_field(rng, kind, names, field, wire):
 
 
 def make_lists(rng, names):
-    """joins and leaves, and actions for one peer, on named topics: pairs (join, topic), and (kind, seconds, topic)"""
+    """joins and leaves, and actions for one peer, on named topics: pairs (join, topic), and (kind, seconds, topic); of kind 3 a message's
+    number in the place of the topic"""
     named = [topic for topic in range(TOPICS) if names[topic]]
     few = rng.random() < 0.5
     changes = [(rng.randint(0, 1), rng.choice(named)) for _ in some(rng, 2 if few else 8)]
     actions = []
     for _ in some(rng, 4 if few else 64):
-        kind = rng.randint(1, 2)
+        kind = rng.randint(1, IDONTWANT if names.ids else 2)
+        if kind == IDONTWANT:
+            actions.append((kind, 0, rng.choice(list(names.ids.values()))))
+            continue
         seconds = 0 if kind == 1 else rng.choice([0, 1, 10, 60, 127, 128, 3600, rng.randint(0, 3600)])
         actions.append((kind, seconds, rng.choice(named)))
     return changes, actions

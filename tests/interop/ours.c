@@ -1,9 +1,10 @@
 /*
  * The proved reader and writer of RPCs, a line of standard input each:
  *   names HEX              sets the names of the topics                     prints the answer
+ *   ids HEX N,N.. ROW,ROW..  sets the table of message ids, - for none      prints 0 0
  *   read HEX               reads a message                                  prints answer and value, then each entry: kind,topic,value
  *   write ROOM ITEM..      writes a message into a buffer of ROOM bytes,    prints answer and value, then the message in hex
- *                          of actions a,KIND,ID,THIRD,TOPIC and changes c,JOIN,TOPIC
+ *                          of actions a,KIND,ID,THIRD,TOPIC (of kind 3 the message's number) and changes c,JOIN,TOPIC
  * A line ends with `changed` if a call wrote where it must not.
  */
 #include "hivepadlet.h"
@@ -22,6 +23,9 @@
 static char line[LINE_BYTES];
 static uint8_t message[LINE_BYTES / 2];
 static uint8_t names[HIVEPADLET_NAMES_BYTES];
+static uint8_t ids[ITEMS * HIVEPADLET_ID_ROW];
+static uint64_t numbers[ITEMS], order[ITEMS];
+static size_t ids_length, rows, places;
 static uint64_t entries[HIVEPADLET_ENTRY_NUMBERS];
 static uint8_t buffer[ROOM_BYTES];
 
@@ -66,10 +70,36 @@ static void set_names(const char *text)
     answer(hivepadlet_names(names));
 }
 
+static size_t from_list(const char *text, uint64_t *list)
+{
+    size_t length = 0;
+    char *end = NULL;
+    for (; *text != '-' && *text != '\0'; text = *end == ',' ? end + 1 : end) {
+        if (length == ITEMS) {
+            fail("too many numbers");
+        }
+        list[length++] = strtoull(text, &end, 10);
+    }
+    return length;
+}
+
+static void set_ids(char *text)
+{
+    const char *data = strtok(text, " "), *listed = strtok(NULL, " "), *named = strtok(NULL, " ");
+    if (data == NULL || listed == NULL || named == NULL) {
+        fail("not a table of ids");
+    }
+    ids_length = *data == '-' ? 0 : from_hex(data, ids, sizeof ids);
+    rows = from_list(listed, numbers);
+    places = from_list(named, order);
+    answer(0);
+}
+
 static void read_message(const char *text)
 {
     size_t length = from_hex(text, message, sizeof message);
-    uint64_t r = hivepadlet_read_message(names, message, length, entries, HIVEPADLET_ENTRY_NUMBERS);
+    uint64_t r = hivepadlet_read_message(names, ids, ids_length, numbers, rows, order, places, message, length, entries,
+                                         HIVEPADLET_ENTRY_NUMBERS);
     uint64_t said = (r & 0xFF) == 0 ? 3 * (r >> 8) : 0;
     int changed = 0;
     answer(r);
@@ -109,7 +139,8 @@ static void write_message(char *text)
         }
     }
     memset(buffer, BYTE_MARK, sizeof buffer);
-    uint64_t r = hivepadlet_write_message(names, actions, 3 * acts, topics, acts, changes, 2 * joins, buffer, room);
+    uint64_t r = hivepadlet_write_message(names, ids, ids_length, numbers, rows, order, places, actions, 3 * acts, topics, acts, changes,
+                                          2 * joins, buffer, room);
     uint64_t said = (r & 0xFF) == 0 ? r >> 8 : 0;
     int changed = 0;
     answer(r);
@@ -133,6 +164,8 @@ int main(void)
         line[strcspn(line, "\n")] = '\0';
         if (strncmp(line, "names ", 6) == 0) {
             set_names(line + 6);
+        } else if (strncmp(line, "ids ", 4) == 0) {
+            set_ids(line + 4);
         } else if (strncmp(line, "read ", 5) == 0) {
             read_message(line + 5);
         } else if (strncmp(line, "write ", 6) == 0) {

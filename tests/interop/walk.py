@@ -1,7 +1,7 @@
 """An independent walk over the bytes of an RPC, and the kinds in which the three implementations differ from it.
 
-Without kinds it reads as order 1 asks. Each kind is one way in which an implementation reads otherwise; with all kinds of an implementation
-the walk must say exactly what that implementation says, so a difference that no kind explains is seen."""
+Without kinds it reads as orders 1 and 6 ask. Each kind is one way in which an implementation reads otherwise; with all kinds of an
+implementation the walk must say exactly what that implementation says, so a difference that no kind explains is seen."""
 
 LONGEST = 16_384
 BITS_32 = (1 << 32) - 1
@@ -21,7 +21,7 @@ KINDS = {
     "other wire type": ("refuses a known field of another wire type", "known ones of another wire type, are skipped"),
     "group": ("skips a group up to its end of the same number", "Malformed bytes (wire types other than 0, 1, 2 and 5 too) give 10"),
     "loose group": ("skips a group up to its end of any number", "Malformed bytes (wire types other than 0, 1, 2 and 5 too) give 10"),
-    "contents": ("reads publish, ihave, iwant, peers and idontwant", "skipped; unknown fields are skipped"),
+    "contents": ("reads publish, ihave, iwant and peers", "skipped; unknown fields are skipped"),
     "required": ("refuses a publish without its required topic", "publish 2 skipped"),
     "UTF-8": ("refuses a string that is not UTF-8", "Topic names of 1 to 64 bytes"),
     "last control": ("takes the last control field alone", "Entries of a repeated control field are joined"),
@@ -47,7 +47,7 @@ SCHEMA = {
     "peer": {1: "bytes", 2: "bytes"},
     "idontwant": {1: "bytes"},
 }
-SKIPPED = ("publish", "ihave", "iwant", "idontwant", "peer")
+SKIPPED = ("publish", "ihave", "iwant", "peer")
 WIRE_TYPES = {"bool": VARINT, "uint64": VARINT}  # all others are LENGTH
 
 
@@ -153,7 +153,8 @@ class Walk:
         return got
 
     def entries(self):
-        """kind, topic (None: absent) and value (None: absent) of each subscription, GRAFT and PRUNE"""
+        """kind, topic (None: absent) and value (None: absent) of each subscription, GRAFT and PRUNE; kind, id and None of each id of the
+        IDONTWANTs"""
         if len(self.data) > LONGEST and "any length" not in self.kinds:
             raise Broken(LONGEST)
         rpc = self.message("rpc", 0, 0, len(self.data))
@@ -163,7 +164,8 @@ class Walk:
         subs = [(0, last(s, 2), last(s, 1)) for s in rpc.get(1, [])]
         grafts = [(1, last(g, 1), None) for c in controls for g in c.get(3, [])]
         prunes = [(2, last(p, 1), last(p, 3)) for c in controls for p in c.get(4, [])]
-        return subs + grafts + prunes
+        notices = [(3, name, None) for c in controls for i in c.get(5, []) for name in i.get(1, [])]
+        return subs + grafts + prunes + notices
 
 
 def last(message, number):

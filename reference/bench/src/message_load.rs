@@ -1,13 +1,13 @@
 //! The messages that are timed: an ordinary one, and those of 16,384 bytes that may take a
-//! reader longest; and the longest message that is written.
+//! reader longest; the longest message that is written; and message ids, by a table of 256.
 
 use reference::generate::messages::overlong;
 use reference::message::{
-    check_names, written, Entry, Kind, Lists, Names, NamesTable, LONGEST_MESSAGE, LONGEST_NAME,
-    NAMES_BYTES, NAME_ROW,
+    check_names, written, written_with, Entry, IdTable, Ids, Kind, Lists, Names, NamesTable,
+    LONGEST_MESSAGE, LONGEST_NAME, NAMES_BYTES, NAME_ROW,
 };
 use reference::params::TOPICS;
-use reference::router::PRUNE;
+use reference::router::{IDONTWANT, PRUNE};
 
 /// What is timed.
 pub enum Work {
@@ -18,6 +18,7 @@ pub enum Work {
 pub struct Line {
     pub name: &'static str,
     pub names: NamesTable,
+    pub ids: IdTable,
     pub work: Work,
 }
 
@@ -26,7 +27,10 @@ impl Line {
     pub fn length(&self) -> usize {
         match &self.work {
             Work::Read(message) => message.len(),
-            Work::Write(lists) => written(&Names::of_table(&self.names), &lists.entries()).len(),
+            Work::Write(lists) => {
+                let names = Names::of_table(&self.names);
+                written_with(&names, &self.ids.ids(), &lists.entries()).len()
+            }
         }
     }
 }
@@ -66,6 +70,19 @@ fn long_names() -> NamesTable {
     }))
 }
 
+/// The rows of the table of ids.
+const ROWS: u64 = 256;
+
+/// Ids of 20 bytes that are alike but for two in the middle, and numbers in another order.
+fn some_ids() -> Ids {
+    let row = |row: u64| {
+        let mut id = vec![b'i'; 20];
+        id[9..11].copy_from_slice(&[row as u8, b'.']);
+        (id, row.wrapping_mul(0x9e37_79b9_7f4a_7c15))
+    };
+    Ids { rows: (0..ROWS).map(row).collect() }
+}
+
 fn entry(kind: Kind, topic: usize, value: u64) -> Entry {
     Entry { kind, topic: Some(topic), value }
 }
@@ -90,6 +107,11 @@ fn filled(front: &[u8], bytes: &[u8]) -> Vec<u8> {
 /// A field with a length of two bytes.
 fn with_length(tag: u8, bytes: &[u8]) -> Vec<u8> {
     [&[tag][..], &overlong(bytes.len() as u64, 2), bytes].concat()
+}
+
+/// A field with a length of one byte.
+fn of_length(tag: u8, bytes: &[u8]) -> Vec<u8> {
+    [&[tag, bytes.len() as u8], bytes].concat()
 }
 
 /// Some of everything: entries of the three kinds with topics, without and with unknown ones,
@@ -119,7 +141,14 @@ pub fn lines() -> Vec<Line> {
     let last_name = written(&Names::of_table(&long), &last_name);
     let ten_bytes = [&[0x28][..], &overlong(1, 10)].concat();
     let prunes = with_length(0x1a, &[0x22, 0x00].repeat(8189));
-    let read = |name, names, message| Line { name, names, work: Work::Read(message) };
+    let read = |name, names, message| {
+        let ids = IdTable::default();
+        Line { name, names, ids, work: Work::Read(message) }
+    };
+    let (ids, table) = (some_ids(), IdTable::sorted(&some_ids()));
+    let fields: Vec<Vec<u8>> = ids.rows.iter().map(|(id, _)| of_length(0x0a, id)).collect();
+    let notices = with_length(0x1a, &with_length(0x2a, &fields.concat()));
+    let empty_ids = with_length(0x1a, &with_length(0x2a, &[0x0a, 0x00].repeat(8189)));
     vec![
         read("ordinary: 8 subscriptions, 8 GRAFTs", names, written(&known, &entries)),
         read("one publish", names, with_length(0x12, &[0xff; LONGEST_MESSAGE - 3])),
@@ -130,10 +159,30 @@ pub fn lines() -> Vec<Line> {
         read("8189 empty PRUNEs in one control", names, filled(&prunes, &[0x28, 0x80, 0x00])),
         read("4096 controls of an empty PRUNE", names, filled(&[], &[0x1a, 0x02, 0x22, 0x00])),
         read("a mixture of all", names, filled(&[], &mixture(&known))),
+        read("8189 empty ids in one IDONTWANT", names, empty_ids),
+        Line {
+            name: "256 ids of 20 bytes, all in a table of 256",
+            names,
+            ids: table.clone(),
+            work: Work::Read(notices),
+        },
+        Line {
+            name: "no entry, by a table of 256 ids",
+            names,
+            ids: table.clone(),
+            work: Work::Read(Vec::new()),
+        },
         Line {
             name: "written: 64 PRUNEs, 8 joins",
             names: long,
+            ids: IdTable::default(),
             work: Work::Write(longest_lists()),
+        },
+        Line {
+            name: "written: 64 ids of a table of 256",
+            names,
+            ids: table,
+            work: Work::Write(notice_lists(&ids)),
         },
     ]
 }
@@ -147,10 +196,16 @@ fn longest_lists() -> Lists {
     }
 }
 
+/// 64 notices.
+fn notice_lists(ids: &Ids) -> Lists {
+    let topics = ids.rows.iter().step_by(4).map(|row| row.1).collect();
+    Lists { actions: [IDONTWANT, 7, 0].repeat(64), topics, changes: Vec::new() }
+}
+
 #[cfg(test)]
 mod tests {
     use super::*;
-    use reference::message::{entries, LONGEST_WRITTEN};
+    use reference::message::{entries_with, LONGEST_WRITTEN};
 
     #[test]
     fn lines_hold_what_their_names_say() {
@@ -159,7 +214,8 @@ mod tests {
             .map(|line| match &line.work {
                 Work::Read(message) => {
                     let names = Names::of_table(&line.names);
-                    (message.len(), entries(&names, message).expect("a good message").len())
+                    let found = entries_with(&names, &line.ids.ids(), message);
+                    (message.len(), found.expect("a good message").len())
                 }
                 Work::Write(lists) => (line.length(), lists.entries().len()),
             })
@@ -172,6 +228,7 @@ mod tests {
         let expected =
             [full(0), full(0), full(0), full(234), full(8192), full(8189), full(4096), full(some)];
         assert_eq!(counts[1..9], expected);
-        assert_eq!(counts[9], (LONGEST_WRITTEN, 72));
+        assert_eq!(counts[9..12], [full(8189), (5638, 256), (0, 0)]);
+        assert_eq!(counts[12..], [(LONGEST_WRITTEN, 72), (1414, 64)]);
     }
 }

@@ -4,7 +4,9 @@
 use crate::count::{collected, print_missing};
 use bench::message_load::{lines, Line, Work};
 use bench::plain_message;
-use reference::message::{read, write, Lists, Names, NamesTable, ENTRY_LIST, LONGEST_WRITTEN};
+use reference::message::{
+    read_with, write_with, IdTable, Lists, Names, NamesTable, ENTRY_LIST, LONGEST_WRITTEN,
+};
 use std::hint::black_box;
 use std::time::Instant;
 
@@ -12,8 +14,8 @@ use std::time::Instant;
 const RUNS: u32 = 10;
 
 /// The functions that are timed.
-type ReadOf = fn(&NamesTable, &[u8], &mut [u64]) -> u64;
-type WriteOf = fn(&NamesTable, &Lists, &mut [u8]) -> u64;
+type ReadOf = fn(&NamesTable, &IdTable, &[u8], &mut [u64]) -> u64;
+type WriteOf = fn(&NamesTable, &IdTable, &Lists, &mut [u8]) -> u64;
 
 #[derive(Clone, Copy)]
 struct Timed {
@@ -26,11 +28,20 @@ const PLAIN: Timed =
 
 #[cfg(linked)]
 const PROVED: Option<Timed> = Some(Timed {
-    read: hivepadlet::messages::read_message,
-    write: |names, Lists { actions, topics, changes }, buffer| {
-        hivepadlet::messages::write_message(names, actions, topics, changes, buffer)
+    read: |names, ids, message, entries| {
+        hivepadlet::messages::read_message(names, lent_ids(ids), message, entries)
+    },
+    write: |names, ids, Lists { actions, topics, changes }, buffer| {
+        let ids = lent_ids(ids);
+        hivepadlet::messages::write_message(names, ids, actions, topics, changes, buffer)
     },
 });
+#[cfg(linked)]
+fn lent_ids(table: &IdTable) -> hivepadlet::messages::Ids<'_> {
+    let IdTable { ids, numbers, order } = table;
+    hivepadlet::messages::Ids { ids, numbers, order }
+}
+
 #[cfg(not(linked))]
 const PROVED: Option<Timed> = None;
 
@@ -50,18 +61,18 @@ impl Timed {
     #[inline(always)]
     fn run(&self, line: &Line, lent: &mut Lent) -> u64 {
         match &line.work {
-            Work::Read(message) => (self.read)(&line.names, message, &mut lent.entries),
-            Work::Write(lists) => (self.write)(&line.names, lists, &mut lent.buffer),
+            Work::Read(message) => (self.read)(&line.names, &line.ids, message, &mut lent.entries),
+            Work::Write(lists) => (self.write)(&line.names, &line.ids, lists, &mut lent.buffer),
         }
     }
 
     /// The answer, the entries and the bytes are the second program's.
     fn check(&self, line: &Line) {
         let (mut got, mut expected) = (Lent::new(), Lent::new());
-        let names = Names::of_table(&line.names);
+        let (names, ids) = (Names::of_table(&line.names), line.ids.ids());
         let due = match &line.work {
-            Work::Read(message) => read(&names, message, &mut expected.entries),
-            Work::Write(lists) => write(&names, lists, &mut expected.buffer),
+            Work::Read(message) => read_with(&names, &ids, message, &mut expected.entries),
+            Work::Write(lists) => write_with(&names, &ids, lists, &mut expected.buffer),
         };
         let due = 256 * due.expect("good messages and lists") as u64;
         assert_eq!(self.run(line, &mut got), due, "{}", line.name);

@@ -7,6 +7,6 @@ pub mod report;
 pub mod runs;
 pub mod sides;
 
-pub use library::MessageLibrary;
+pub use library::{MessageLibrary, Tables};
 pub use reached::Reached;
 pub use runs::{compare, Failure, Subject, PARTS};

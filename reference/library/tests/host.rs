@@ -2,7 +2,7 @@
 #![cfg(linked)]
 
 use hivepadlet::forms::{from_old, to_old};
-use hivepadlet::messages::{names, read_message, write_message};
+use hivepadlet::messages::{names, read_message, write_message, Ids};
 use hivepadlet::rows::ROWS;
 use hivepadlet::*;
 
@@ -155,11 +155,20 @@ fn messages_as_bytes() {
     table[..4].copy_from_slice(b"\x03abc");
     assert_eq!(self::names(&table), 0);
     let mut buffer = [0; WRITTEN_BYTES];
-    let result = write_message(&table, &[PRUNE, 7, 60], &[0], &[1, 0], &mut buffer);
+    let none = Ids::default();
+    let result = write_message(&table, none, &[PRUNE, 7, 60], &[0], &[1, 0], &mut buffer);
     assert_eq!(number(result), 0);
     let mut entries = vec![0; ENTRY_NUMBERS];
     let message = &buffer[..value(result) as usize];
     // A subscription to topic 0, and a PRUNE of 60 seconds there.
-    assert_eq!(read_message(&table, message, &mut entries), packed(0, 2));
+    assert_eq!(read_message(&table, none, message, &mut entries), packed(0, 2));
     assert_eq!(entries[..6], [0, 0, 1, 2, 0, 60]);
+    // An IDONTWANT of the message with the number 9, whose id is "m".
+    let mut row = [0; 65];
+    row[..2].copy_from_slice(b"\x01m");
+    let ids = Ids { ids: &row, numbers: &[9], order: &[0] };
+    let result = write_message(&table, ids, &[3, 7, 0], &[9], &[], &mut buffer);
+    assert_eq!((result, &buffer[..7]), (packed(0, 7), &b"\x1a\x05\x2a\x03\x0a\x01m"[..]));
+    assert_eq!(read_message(&table, ids, &buffer[..7], &mut entries), packed(0, 1));
+    assert_eq!(entries[..3], [3, 0, 9]);
 }

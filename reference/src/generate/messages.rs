@@ -238,8 +238,8 @@ impl Maker<'_> {
         match self.random.below(12) {
             0 => id.clear(),
             1 => id.push(0),
-            2 => id[0] ^= 1,
-            3 => id.truncate(id.len() - 1),
+            2 => id.iter_mut().take(1).for_each(|byte| *byte ^= 1),
+            3 => id.truncate(id.len().saturating_sub(1)),
             4 => id.resize(LONGEST_ID + 1, 0),
             _ => {}
         }

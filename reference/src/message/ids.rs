@@ -49,7 +49,7 @@ impl IdTable {
     /// The rows sorted; of an id that is too long the first 64 bytes.
     pub fn sorted(ids: &Ids) -> IdTable {
         let mut rows = ids.rows.clone();
-        rows.sort_by_key(|(id, _)| (id.len(), id.clone()));
+        rows.sort_by(|(a, _), (b, _)| (a.len(), a).cmp(&(b.len(), b)));
         let numbers: Vec<u64> = rows.iter().map(|row| row.1).collect();
         let mut order: Vec<u64> = (0..rows.len() as u64).collect();
         order.sort_by_key(|&row| numbers[row as usize]);
@@ -72,14 +72,12 @@ impl IdTable {
         let id = |row: &[u8]| row.get(1..=usize::from(row[0])).unwrap_or_default().to_vec();
         let rows = self.ids.chunks(ID_ROW).map(id).zip(self.numbers.iter().copied()).collect();
         let ids = Ids { rows };
-        (ids.is_good() && IdTable::sorted(&ids).order == self.order && self.rises()).then_some(ids)
-    }
-
-    /// Each row's id is after that of the row before it.
-    fn rises(&self) -> bool {
-        let key = |row: &[u8]| (row[0], row[1..=usize::from(row[0])].to_vec());
-        let keys: Vec<(u8, Vec<u8>)> = self.ids.chunks(ID_ROW).map(key).collect();
-        keys.windows(2).all(|pair| pair[0] < pair[1])
+        let number = |&row: &u64| self.numbers.get(usize::try_from(row).ok()?);
+        let by_number = self.order.iter().all(|row| number(row).is_some())
+            && self.order.windows(2).all(|pair| number(&pair[0]) < number(&pair[1]));
+        let key = |row: &(Vec<u8>, u64)| (row.0.len(), row.0.clone());
+        let by_id = ids.rows.windows(2).all(|pair| key(&pair[0]) < key(&pair[1]));
+        (ids.is_good() && by_number && by_id).then_some(ids)
     }
 
     /// The ids and their numbers; of a table that is not accepted some that are not either.

@@ -161,8 +161,7 @@ fn the_list_is_filled_from_its_start() {
     assert_eq!(read_with(&names(), &ids(), &message, &mut entries), Ok(2));
     assert_eq!(entries[..7], [3, 0, 11, 3, 11, 0, 77]);
     let mut entries = vec![77; ENTRY_LIST];
-    let malformed =
-        read_with(&names(), &ids(), &hex("1A 06 2A 04 0A 01 6D 00"), &mut entries);
+    let malformed = read_with(&names(), &ids(), &hex("1A 06 2A 04 0A 01 6D 00"), &mut entries);
     assert_eq!(malformed.map_err(|refusal| (refusal.number(), refusal.place())), Err((10, 7)));
     assert!(entries.iter().all(|&number| number == 77), "no event");
 }
@@ -204,9 +203,8 @@ fn the_field_comes_after_the_prunes() {
 
 #[test]
 fn lists_that_are_2() {
-    let wrongs = |list: &Lists| -> Vec<Wrong> {
-        list.wrongs_with(&names(), &ids()).into_iter().collect()
-    };
+    let wrongs =
+        |list: &Lists| -> Vec<Wrong> { list.wrongs_with(&names(), &ids()).into_iter().collect() };
     let good = list(&[[3, 9, 0]], &[5], &[]);
     assert_eq!(wrongs(&good), []);
     assert_eq!(wrongs(&list(&[[3, 9, 0]], &[6], &[])), [Wrong::NumberNotInTable]);

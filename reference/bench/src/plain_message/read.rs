@@ -1,7 +1,7 @@
 //! Reading.
 
-use super::{packed, topic_of};
-use reference::message::{NamesTable, ENTRY_LIST, LONGEST_MESSAGE, NO_TOPIC};
+use super::{good_table, number_of, packed, topic_of};
+use reference::message::{IdTable, NamesTable, ENTRY_LIST, LONGEST_MESSAGE, NO_TOPIC};
 
 /// The tags of the fields that are read: number and wire type as one.
 mod tag {
@@ -11,6 +11,8 @@ mod tag {
     pub const CONTROL: u64 = 3 << 3 | 2;
     pub const GRAFT: u64 = 3 << 3 | 2;
     pub const PRUNE: u64 = 4 << 3 | 2;
+    pub const IDONTWANT: u64 = 5 << 3 | 2;
+    pub const MESSAGE_ID: u64 = 1 << 3 | 2;
     pub const TOPIC_ID: u64 = 1 << 3 | 2;
     pub const BACKOFF: u64 = 3 << 3;
 }
@@ -97,6 +99,7 @@ struct Counts {
     subscriptions: usize,
     grafts: usize,
     prunes: usize,
+    notices: usize,
 }
 
 /// A broken field: so many bytes are left from its tag on, up to the end of what holds it.
@@ -136,9 +139,23 @@ fn check_control(bytes: &[u8], counts: &mut Counts) -> Result<(), Left> {
         match tag {
             tag::GRAFT => counts.grafts += 1,
             tag::PRUNE => counts.prunes += 1,
+            tag::IDONTWANT => {
+                deeper(&cursor, check_ids(inside, counts))?;
+                continue;
+            }
             _ => continue,
         }
         deeper(&cursor, check_fields(inside))?;
+    }
+    Ok(())
+}
+
+fn check_ids(bytes: &[u8], counts: &mut Counts) -> Result<(), Left> {
+    let mut cursor = Cursor { rest: bytes };
+    while !cursor.rest.is_empty() {
+        let left = cursor.rest.len();
+        let (tag, _) = cursor.field().ok_or(Left(left))?;
+        counts.notices += usize::from(tag == tag::MESSAGE_ID);
     }
     Ok(())
 }
@@ -153,10 +170,13 @@ fn check_fields(bytes: &[u8]) -> Result<(), Left> {
     Ok(())
 }
 
-/// Reads a message: 0 with the number of entries, 8, or 10 with the place.
-pub fn read_message(names: &NamesTable, message: &[u8], entries: &mut [u64]) -> u64 {
+/// Reads a message: 0 with the number of entries, 8, 2, or 10 with the place.
+pub fn read_message(names: &NamesTable, ids: &IdTable, message: &[u8], entries: &mut [u64]) -> u64 {
     if entries.len() < ENTRY_LIST {
         return packed(8, 0);
+    }
+    if !good_table(ids) {
+        return packed(2, 0);
     }
     if message.len() > LONGEST_MESSAGE {
         return packed(10, LONGEST_MESSAGE);
@@ -165,20 +185,24 @@ pub fn read_message(names: &NamesTable, message: &[u8], entries: &mut [u64]) -> 
         Ok(counts) => counts,
         Err(Left(left)) => return packed(10, message.len() - left),
     };
-    let Counts { subscriptions, grafts, prunes } = counts;
-    if subscriptions + grafts + prunes == 0 {
+    let Counts { subscriptions, grafts, prunes, notices } = counts;
+    let count = subscriptions + grafts + prunes + notices;
+    if count == 0 {
         return packed(0, 0);
     }
     let (first, rest) = entries.split_at_mut(3 * subscriptions);
     let (second, rest) = rest.split_at_mut(3 * grafts);
+    let (third, rest) = rest.split_at_mut(3 * prunes);
     let mut lists = Lists {
         names,
+        ids,
         subscriptions: first.chunks_exact_mut(3),
         grafts: second.chunks_exact_mut(3),
-        prunes: rest[..3 * prunes].chunks_exact_mut(3),
+        prunes: third.chunks_exact_mut(3),
+        notices: rest[..3 * notices].chunks_exact_mut(3),
     };
     lists.fill(message);
-    packed(0, subscriptions + grafts + prunes)
+    packed(0, count)
 }
 
 type Rows<'a> = std::slice::ChunksExactMut<'a, u64>;
@@ -186,9 +210,11 @@ type Rows<'a> = std::slice::ChunksExactMut<'a, u64>;
 /// The entries of each kind that are still to be written.
 struct Lists<'a> {
     names: &'a NamesTable,
+    ids: &'a IdTable,
     subscriptions: Rows<'a>,
     grafts: Rows<'a>,
     prunes: Rows<'a>,
+    notices: Rows<'a>,
 }
 
 /// Each field of bytes that were tested.
@@ -229,7 +255,18 @@ impl Lists<'_> {
                 let (topic, seconds) = self.entry(inside, tag::TOPIC_ID, tag::BACKOFF);
                 put(&mut self.prunes, [2, topic, seconds]);
             }
+            (tag::IDONTWANT, Value::Bytes(inside)) => self.fill_ids(inside),
             _ => {}
+        });
+    }
+
+    fn fill_ids(&mut self, bytes: &[u8]) {
+        each_field(bytes, |tag, value| {
+            if let (tag::MESSAGE_ID, Value::Bytes(id)) = (tag, value) {
+                let number = number_of(self.ids, id);
+                let topic = if number.is_some() { 0 } else { NO_TOPIC };
+                put(&mut self.notices, [3, topic, number.unwrap_or(0)]);
+            }
         });
     }
 

@@ -1,12 +1,13 @@
 //! What the comparison of messages reached. A run that misses something shows too little, and fails.
 
 use super::runs::{BUFFERS, LONG_LISTS, SHORT_LISTS};
-use reference::generate::names;
+use reference::generate::{names, notices};
 use reference::message::census;
 use reference::message::{
-    Broken, Entry, Kind, Lists, Names, Part, Reason, Refusal, Wrong, LEVELS, LONGEST_MESSAGE,
+    Broken, Entry, Ids, Kind, Lists, Names, Part, Reason, Refusal, Wrong, LEVELS, LONGEST_MESSAGE,
     LONGEST_WRITTEN,
 };
+use reference::router::IDONTWANT;
 use std::collections::BTreeMap;
 use std::fmt::Write;
 
@@ -31,6 +32,10 @@ fn answer(part: &str, number: u32) -> String {
 
 fn table(kind: &str) -> String {
     format!("names: {kind}")
+}
+
+fn ids(kind: &str) -> String {
+    format!("ids: {kind}")
 }
 
 fn broken(level: usize, reason: Reason) -> String {
@@ -85,7 +90,7 @@ fn wanted(part: &str) -> Vec<String> {
         _ => {
             let mut wanted = vec![ALL_BUT_ONE.to_string()];
             wanted.extend([0, 2, 13].map(|number| answer(WRITE, number)));
-            wanted.extend(Wrong::ALL.map(wrong));
+            wanted.extend(Wrong::ALL.into_iter().chain(Wrong::OF_NOTICES).map(wrong));
             wanted.extend(BUFFERS.map(buffer));
             wanted.extend(counted_lists());
             wanted
@@ -95,7 +100,8 @@ fn wanted(part: &str) -> Vec<String> {
 
 fn wanted_of_reading() -> Vec<String> {
     let mut wanted = vec![FULL.to_string(), BROKEN_AND_TOO_LONG.to_string()];
-    wanted.extend([0, 8, 10].map(|number| answer(READ, number)));
+    wanted.extend([0, 2, 8, 10].map(|number| answer(READ, number)));
+    wanted.extend(notices::BAD.into_iter().chain(notices::BAD_LENT).map(ids));
     wanted.extend(SHORT_LISTS.iter().chain(&LONG_LISTS).map(|&room| list(room)));
     for level in 0..LEVELS {
         wanted.extend(reasons().into_iter().map(|reason| broken(level, reason)));
@@ -108,16 +114,21 @@ fn wanted_of_reading() -> Vec<String> {
         wanted.extend([0, 1].map(|value| entry(Kind::Subscription, topic, value)));
         wanted.push(entry(Kind::Graft, topic, 0));
         wanted.extend([0, 1, 3601].map(|value| entry(Kind::Prune, topic, value)));
+        wanted.push(entry(Kind::Notice, topic, 0));
     }
+    wanted.extend([1, 3601].map(|value| entry(Kind::Notice, true, value)));
     wanted.extend(census::wanted());
     wanted
 }
 
 /// The sizes of lists that are counted where they are written.
-fn counted_lists() -> [String; 6] {
-    let actions = |count| format!("write: {count} actions");
-    let changes = |count| format!("write: {count} joins and leaves");
-    [actions(0), actions(1), actions(64), changes(0), changes(1), changes(8)]
+fn counted_lists() -> [String; 9] {
+    let actions = |count: usize| format!("write: {count} actions");
+    let changes = |count: usize| format!("write: {count} joins and leaves");
+    let notices = |count: usize| format!("write: {count} notices");
+    let of = |size: &dyn Fn(usize) -> String, most| [size(0), size(1), size(most)];
+    let all = [of(&actions, 64), of(&changes, 8), of(&notices, 64)].concat();
+    all.try_into().expect("three of each")
 }
 
 impl Reached {
@@ -134,9 +145,13 @@ impl Reached {
         self.count(answer(NAMES, given.as_ref().map_or_else(Refusal::number, |_| 0)));
     }
 
+    pub fn count_ids(&mut self, kind: &str) {
+        self.count(ids(kind));
+    }
+
     pub fn count_read(
         &mut self,
-        names: &Names,
+        (names, ids): (&Names, &Ids),
         message: &[u8],
         room: usize,
         given: &Result<usize, Refusal>,
@@ -151,7 +166,7 @@ impl Reached {
         }
         match given {
             Ok(_) => {
-                for (what, count) in census::census(names, message) {
+                for (what, count) in census::census(names, ids, message) {
                     *self.counts.entry(what).or_default() += count;
                 }
             }
@@ -174,14 +189,14 @@ impl Reached {
 
     pub fn count_write(
         &mut self,
-        names: &Names,
+        (names, ids): (&Names, &Ids),
         lists: &Lists,
         (room, told): (usize, &str),
         given: &Result<Vec<u8>, Refusal>,
     ) {
         let number = given.as_ref().map_or_else(Refusal::number, |_| 0);
         self.count(answer(WRITE, number));
-        let wrongs: Vec<Wrong> = lists.wrongs(names).into_iter().collect();
+        let wrongs: Vec<Wrong> = lists.wrongs_with(names, ids).into_iter().collect();
         match (number, &wrongs[..]) {
             (2, [alone]) => self.count(wrong(*alone)),
             (0 | 13, _) => self.count(buffer(told)),
@@ -191,8 +206,9 @@ impl Reached {
             self.count(ALL_BUT_ONE);
         }
         if number == 0 {
-            let sizes = [lists.topics.len(), lists.changes.len() / 2];
-            let names = ["actions", "joins and leaves"];
+            let notices = lists.actions.iter().step_by(3).filter(|&&kind| kind == IDONTWANT);
+            let sizes = [lists.topics.len(), lists.changes.len() / 2, notices.count()];
+            let names = ["actions", "joins and leaves", "notices"];
             for (size, name) in sizes.into_iter().zip(names) {
                 self.count(format!("write: {size} {name}"));
             }
@@ -208,7 +224,8 @@ impl Reached {
     /// The counts as text; of the sizes of lists those that are wanted.
     pub fn table(&self) -> String {
         let sizes = counted_lists();
-        let is_size = |what: &str| what.ends_with("actions") || what.ends_with("joins and leaves");
+        let names = [" actions", " joins and leaves", " notices"];
+        let is_size = |what: &str| names.into_iter().any(|name| what.ends_with(name));
         let mut out = String::new();
         for (what, count) in &self.counts {
             if !is_size(what) || sizes.contains(what) {

@@ -1,9 +1,11 @@
 //! A difference told to people, with the shortest message or list found that still shows one.
 
-use super::library::MessageLibrary;
+use super::library::{MessageLibrary, Tables};
 use super::runs::{again, Failure, Subject};
 use reference::message::tree::shrink_message;
-use reference::message::{Lists, Names, NamesTable, ENTRY_LIST, LONGEST_WRITTEN, NAME_ROW};
+use reference::message::{
+    IdTable, Ids, Lists, Names, NamesTable, ENTRY_LIST, ID_ROW, LONGEST_WRITTEN, NAME_ROW,
+};
 use reference::params::TOPICS;
 use reference::shrink::shrink;
 use std::fmt::Write;
@@ -17,11 +19,12 @@ pub fn of_failure<L: MessageLibrary>(library: &L, failure: &Failure) -> String {
     for line in &failure.difference.0 {
         let _ = writeln!(out, "  {line}");
     }
-    let (table, subject) = shrunk(library, failure.table, failure.subject.clone());
+    let (tables, subject) = shrunk(library, failure.tables.clone(), failure.subject.clone());
     out += "the smallest found:\n";
-    write_names(&table, &mut out);
+    write_names(&tables.names, &mut out);
+    write_ids(&tables.ids, &mut out);
     write_subject(&subject, &mut out);
-    match again(library, &table, &subject) {
+    match again(library, &tables, &subject) {
         Some(difference) => {
             for line in &difference.0 {
                 let _ = writeln!(out, "  {line}");
@@ -43,26 +46,26 @@ fn part_of(subject: &Subject) -> &'static str {
 /// Fewer bytes, lists of the usual length, fewer and shorter names, and small numbers.
 fn shrunk<L: MessageLibrary>(
     library: &L,
-    mut table: NamesTable,
+    mut tables: Tables,
     subject: Subject,
-) -> (NamesTable, Subject) {
-    let fails = |table: &NamesTable, subject: &Subject| again(library, table, subject).is_some();
+) -> (Tables, Subject) {
+    let fails = |tables: &Tables, subject: &Subject| again(library, tables, subject).is_some();
     let subject = match subject {
         Subject::Names => Subject::Names,
         Subject::Read { message, room, then_written } => {
-            shrunk_message(message, room, then_written, |subject| fails(&table, subject))
+            shrunk_message(message, room, then_written, |subject| fails(&tables, subject))
         }
         Subject::Write { lists, length } => {
-            shrunk_lists(lists, length, |subject| fails(&table, subject))
+            shrunk_lists(lists, length, |subject| fails(&tables, subject))
         }
     };
     for topic in 0..TOPICS {
         let mut attempt = |change: &dyn Fn(&mut [u8])| {
-            let mut other = table;
-            change(&mut other[NAME_ROW * topic..][..NAME_ROW]);
+            let mut other = tables.clone();
+            change(&mut other.names[NAME_ROW * topic..][..NAME_ROW]);
             let still = fails(&other, &subject);
             if still {
-                table = other;
+                tables = other;
             }
             still
         };
@@ -71,7 +74,17 @@ fn shrunk<L: MessageLibrary>(
             attempt(&|row| row[1..].fill(b'a' + topic as u8));
         }
     }
-    (table, subject)
+    let ids = shrunk_ids(&tables.ids, |ids| {
+        fails(&Tables { names: tables.names, ids: ids.clone() }, &subject)
+    });
+    (Tables { names: tables.names, ids }, subject)
+}
+
+/// Fewer rows, where the table is accepted.
+fn shrunk_ids(table: &IdTable, fails: impl Fn(&IdTable) -> bool) -> IdTable {
+    let Some(ids) = table.accepted() else { return table.clone() };
+    let of = |rows: &[(Vec<u8>, u64)]| IdTable::sorted(&Ids { rows: rows.to_vec() });
+    of(&shrink(ids.rows, |rows| fails(&of(rows))))
 }
 
 fn shrunk_message(
@@ -131,6 +144,18 @@ fn write_names(table: &NamesTable, out: &mut String) {
         let name =
             Names::of_table(table).name(topic as u64).map_or(&row[1..], |name| name).to_vec();
         let _ = writeln!(out, "  topic {topic}, {} bytes:{}", row[0], hex(&name));
+    }
+}
+
+fn write_ids(table: &IdTable, out: &mut String) {
+    for (row, id) in table.ids.chunks(ID_ROW).enumerate() {
+        let length = usize::from(id[0]);
+        let bytes = id.get(1..=length).unwrap_or(&id[1..]);
+        let number = table.numbers.get(row);
+        let _ = writeln!(out, "  id of {length} bytes:{}, number {number:?}", hex(bytes));
+    }
+    if !table.order.is_empty() {
+        let _ = writeln!(out, "  rows by number {:?}", table.order);
     }
 }
 

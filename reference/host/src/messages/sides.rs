@@ -1,11 +1,12 @@
 //! One function for messages on both sides, with lent memory.
 
-use super::library::{code, MessageLibrary};
+use super::library::{code, MessageLibrary, Tables};
 use crate::lent::Lent;
 use crate::library::{number, value};
 use crate::pair::Difference;
 use reference::message::{
-    check_names, read, write, Entry, Lists, Names, NamesTable, Refusal, ENTRY_LIST,
+    check_names, entries_with, read_with, write_with, Entry, Lists, Names, NamesTable, Refusal,
+    ENTRY_LIST,
 };
 
 /// The id that stands in lists made of entries; it is not written.
@@ -74,13 +75,14 @@ impl<'a, L: MessageLibrary> Sides<'a, L> {
     /// Reads a message into a list of so many numbers.
     pub fn read(
         &mut self,
-        table: &NamesTable,
+        tables: &Tables,
         message: &[u8],
         room: usize,
     ) -> Result<Result<usize, Refusal>, Difference> {
         self.lend_list(room);
-        let second = read(&Names::of_table(table), message, &mut self.expected);
-        let library = self.library.read_message(table, message, self.list.lent_mut());
+        let names = Names::of_table(&tables.names);
+        let second = read_with(&names, &tables.ids.ids(), message, &mut self.expected);
+        let library = self.library.read_message(tables, message, self.list.lent_mut());
         let written = 3 * second.unwrap_or(0);
         let found = self.judge_read(library, &second);
         if found.is_ok() {
@@ -104,15 +106,16 @@ impl<'a, L: MessageLibrary> Sides<'a, L> {
     /// Writes lists into a buffer of so many bytes.
     pub fn write(
         &mut self,
-        table: &NamesTable,
+        tables: &Tables,
         lists: &Lists,
         length: usize,
     ) -> Result<Result<Vec<u8>, Refusal>, Difference> {
         self.salt += 1;
         let mut buffer: Lent<u8> = Lent::new(length, self.salt);
         let mut expected = buffer.lent().to_vec();
-        let second = write(&Names::of_table(table), lists, &mut expected);
-        let library = self.library.write_message(table, lists, buffer.lent_mut());
+        let names = Names::of_table(&tables.names);
+        let second = write_with(&names, &tables.ids.ids(), lists, &mut expected);
+        let library = self.library.write_message(tables, lists, buffer.lent_mut());
         same_answer("write", library, code(&second))?;
         same_numbers("write: byte", buffer.lent(), &expected)?;
         let written = second.unwrap_or(0);
@@ -126,17 +129,17 @@ impl<'a, L: MessageLibrary> Sides<'a, L> {
     /// bytes."
     pub fn read_back(
         &mut self,
-        table: &NamesTable,
+        tables: &Tables,
         message: &[u8],
         entries: &[Entry],
     ) -> Result<(), Difference> {
-        let read = self.read(table, message, ENTRY_LIST)?;
-        let names = Names::of_table(table);
-        let found = reference::message::entries(&names, message);
+        let read = self.read(tables, message, ENTRY_LIST)?;
+        let names = Names::of_table(&tables.names);
+        let found = entries_with(&names, &tables.ids.ids(), message);
         let same = read == Ok(entries.len()) && found.as_deref() == Ok(entries);
         differ_if(!same, || "what was written is not read back".to_string())?;
         let lists = Lists::of_entries(entries, ANY_ID);
-        let again = lists.map(|lists| self.write(table, &lists, message.len())).transpose()?;
+        let again = lists.map(|lists| self.write(tables, &lists, message.len())).transpose()?;
         let same = again.is_some_and(|again| again.as_deref() == Ok(message));
         differ_if(!same, || "written again the bytes are others".to_string())
     }
