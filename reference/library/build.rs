@@ -6,7 +6,7 @@
 const SAVES: bool = true;
 
 /// Whether it has the functions of IDONTWANT, IHAVE and IWANT.
-const GOSSIP: bool = false;
+const GOSSIP: bool = true;
 
 fn main() {
     println!("cargo:rustc-check-cfg=cfg(linked)");
