@@ -1,5 +1,5 @@
-// A router with the array of IDONTWANT, IHAVE and IWANT (02, orders 6 and 7): made, tested, and its calls. Each call is handed the table and
-// the array.
+// A router with the array of IDONTWANT, IHAVE and IWANT (02, orders 6 and 7): made, tested, and its calls. Each call is handed the table
+// and the array.
 ghost use mathlib.Core.Path.{_≡_};
 ghost use lib.ListN.{length};
 ghost use Rattle.index.specs.Index.{one};
@@ -80,7 +80,8 @@ pub extern "C" fn hivepadlet_gossip_connect(
     name: &[u8],
     actions: &mut [u32],
 ) -> u64
-    ensures { λ r. ⌜ FollowsAll (old (Calls·connect time id (now (groups .entry)) flags (now (name .entry)))) r (now (table .entry)) (now (table .exit))
+    ensures { λ r. ⌜
+        FollowsAll (old (Calls·connect time id (now (groups .entry)) flags (now (name .entry)))) r (now (table .entry)) (now (table .exit))
         (now (gossip .entry)) (now (gossip .exit)) (now (actions .entry)) (now (actions .exit)) ⌝ }
 {
     gossip_old::connect(table, gossip, time, id, groups, flags, name, actions)
@@ -207,7 +208,9 @@ pub extern "C" fn hivepadlet_announce(
     numbers: &mut [u64],
     actions: &mut [u32],
 ) -> u64
-    ensures { λ r. ⌜ FollowsAll (new (Calls·announce time topic (now (permutation .entry)) (length (now (numbers .entry))))) r (now (table .entry)) (now (table .exit))
+    ensures { λ r. ⌜
+        FollowsAll (new (Calls·announce time topic (now (permutation .entry)) (length (now (numbers .entry))))) r (now (table .entry))
+        (now (table .exit))
         (now (gossip .entry)) (now (gossip .entry)) (now (actions .entry)) (now (actions .exit))
         × Tells (new (Calls·announce time topic (now (permutation .entry)) (length (now (numbers .entry)))))
         (now (table .entry)) (now (gossip .entry)) (now (actions .entry)) (now (numbers .entry)) (now (numbers .exit)) ⌝ }
@@ -227,7 +230,9 @@ pub extern "C" fn hivepadlet_ihave(
     numbers: &mut [u64],
     actions: &mut [u32],
 ) -> u64
-    ensures { λ r. ⌜ FollowsAll (new (Calls·ihave time id topic (now (given .entry)) (length (now (numbers .entry))))) r (now (table .entry)) (now (table .exit))
+    ensures { λ r. ⌜
+        FollowsAll (new (Calls·ihave time id topic (now (given .entry)) (length (now (numbers .entry))))) r (now (table .entry))
+        (now (table .exit))
         (now (gossip .entry)) (now (gossip .exit)) (now (actions .entry)) (now (actions .exit))
         × Tells (new (Calls·ihave time id topic (now (given .entry)) (length (now (numbers .entry)))))
         (now (table .entry)) (now (gossip .entry)) (now (actions .entry)) (now (numbers .entry)) (now (numbers .exit)) ⌝ }

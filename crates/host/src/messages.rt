@@ -1,5 +1,5 @@
-// Messages between peers (02, orders 1, 4 and 6): the topics' names, tested at set-up, the reader of an RPC and its writer. `ids`, `numbers`
-// and `order` are the table of message ids (crate message_ids).
+// Messages between peers (02, orders 1, 4 and 6): the topics' names, tested at set-up, the reader of an RPC and its writer. `ids`,
+// `numbers` and `order` are the table of message ids (crate message_ids).
 ghost use mathlib.Core.Path.{_≡_};
 ghost use Rattle.answers.specs.Answers.{packed as packedOf};
 ghost use Rattle.host_messages.specs.Messages.{namesNumber, HostsReadMessage};

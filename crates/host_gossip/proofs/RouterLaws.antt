@@ -1,6 +1,6 @@
 -- From what making a router with its array promises to what a host gets: the answer as one number.
 -- Assumes nothing.
-use Rattle.index.proofs.Kit.{ℕ, _≤_, _≡_, refl, sym, ap, _∙_, Bool, true, false, by-test, arith}
+use Rattle.index.proofs.Kit.{ℕ, _≤_, _≡_, refl, sym, ap, _∙_, by-test, arith}
 use mathlib.Core.List.{List}
 use lib.IntN.{ℤ}
 use Rattle.index.specs.declared.Found.{Found}
@@ -16,7 +16,7 @@ use Rattle.saves.specs.declared.Loaded.{Loaded}
 use Rattle.saves.specs.Load.{loadOf, answerOf, refuses, loadedNumber, loadedValue}
 use Rattle.host_saves.proofs.LoadPlaces.{farthest, load-most}
 use Rattle.answers.specs.Answers.{packed}
-use Rattle.gossip.specs.Notes.{Setup, Extended}
+use Rattle.gossip.specs.Notes.{Setup}
 use Rattle.gossip.specs.Valid.{setupOk}
 use Rattle.gossip_table.specs.View.{setupOf, extendedOf}
 use Rattle.gossip_old.specs.declared.Making.{Making}

@@ -1,15 +1,14 @@
 -- The order of ids: of two runs of digits the first that differs decides, and more digits make a number no smaller.
 -- Assumes nothing.
-use Rattle.index.proofs.Kit.{ℕ, _+_, _-_, _*_, _<_, _≤_, _≡_, refl, sym, ap, _∙_, true, arith, by-order, every-more}
+use Rattle.index.proofs.Kit.{ℕ, _+_, _<_, _≤_, _≡_, refl, true, arith, by-order, every-more}
 use Rattle.index.specs.Index.{every}
-use Prim.Native.Nat.{zero, suc, _%_}
+use Prim.Native.Nat.{zero, suc}
 use mathlib.Core.List.{List}
 use borrow.Author.Tests.{eqb-true, eq-eqb}
 use lib.Dec.{eqb}
 use lib.ListN.{getD}
 use Rattle.index.proofs.Index.{both}
 use Rattle.message_ids.specs.Ids.{sameAt, digits, codeOf, Compared}
-use Rattle.message_ids.specs.declared.Order.{Order}
 use Rattle.message_ids.specs.declared.Order.the-variants.{Before, Same, After}
 
 -- further digits keep the order of two runs

@@ -1,24 +1,22 @@
 -- A search by halves finds what a search from the front finds: rows below `low` come before what is looked for, rows from `high` on after
 -- it, and no id or number stands in two rows.
 -- Assumes nothing.
-use Rattle.index.proofs.Kit.{ℕ, _+_, _-_, _*_, _<_, _≤_, _≡_, refl, sym, ap, _∙_, Bool, true, false, arith, first-hit, by-order, by-test}
+use Rattle.index.proofs.Kit.{ℕ, _+_, _-_, _<_, _≤_, _≡_, refl, sym, ap, _∙_, Bool, true, false, arith, first-hit, by-order, by-test}
 use Rattle.index.specs.Index.{every, first}
 use Prim.Native.Nat.{zero, suc, _/_}
 use mathlib.Core.List.{List}
-use mathlib.Core.Bool.{_&&_}
 use borrow.Author.Tests.{eq-eqb, ne-eqb, eqb-true}
 use lib.Dec.{eqb}
 use lib.ListN.{length, getD}
-use Rattle.index.specs.declared.Found.{Found}
 use Rattle.index.specs.declared.Found.the-variants.{At, Nothing}
 use Rattle.index.proofs.Index.{both, first-is}
-use Rattle.message_ids.specs.Ids.{idSize, idStart, sameAt, isId, rowOf, numberRow, codeOf, rowCode, idsOk, numberBy, numbersOk}
+use Rattle.message_ids.specs.Ids.{idSize, idStart, sameAt, isId, rowOf, numberRow, codeOf, rowCode, numberBy, numbersOk}
 use Rattle.message_ids.specs.Ids.{Compared}
 use Rattle.message_ids.specs.Once.{NoIdTwice, NoNumberTwice}
 use Rattle.message_ids.specs.declared.Order.{Order}
 use Rattle.message_ids.specs.declared.Order.the-variants.{Before, Same, After}
 use Rattle.message_ids.proofs.CodeLaws.{digits-same}
-use Rattle.message_ids.proofs.RoomLaws.{Different, Named, all-named}
+use Rattle.message_ids.proofs.RoomLaws.{Named, all-named}
 use Rattle.message_ids.proofs.TableLaws.{GoodIds, good-ids, ids-rise, GoodNumbers, good-numbers, row-low, numbers-rise}
 
 pub none-below : (f : ℕ → Bool) (k : ℕ) → ((j : ℕ) → j < k → f j ≡ false) → first k f ≡ Nothing

@@ -1,6 +1,6 @@
 -- Where n different numbers below n are named, every number below n is: without a number v, they would be n different ones below n - 1.
 -- Assumes nothing.
-use Rattle.index.proofs.Kit.{ℕ, _+_, _-_, _<_, _≤_, _≡_, refl, sym, ap, _∙_, Bool, true, false, arith, first, by-test, by-order}
+use Rattle.index.proofs.Kit.{ℕ, _-_, _<_, _≤_, _≡_, refl, arith, first, by-test, by-order}
 use Prim.Native.Nat.{zero, suc}
 use mathlib.Core.Bool.{cond}
 use borrow.Author.Tests.{ltb-true, ltb-false, eqb-true, eqb-false}

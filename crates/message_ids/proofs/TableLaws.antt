@@ -1,7 +1,7 @@
 -- The table's test: its ends, and what an accepted table has: sizes in bounds, rows that are there, and two orders that rise from neighbour
 -- to neighbour and so between any two.
 -- Assumes nothing.
-use Rattle.index.proofs.Kit.{ℕ, _+_, _-_, _*_, _<_, _≤_, _≡_, refl, sym, ap, _∙_, Bool, true, false, arith, every, every-fails, every-done}
+use Rattle.index.proofs.Kit.{ℕ, _-_, _*_, _<_, _≤_, _≡_, refl, sym, _∙_, Bool, true, false, arith, every, every-fails, every-done}
 use Prim.Native.Nat.{zero, suc, _/_, _%_}
 use mathlib.Core.Bool.{_&&_, _||_}
 use mathlib.Core.List.{List}

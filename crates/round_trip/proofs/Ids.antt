@@ -1,6 +1,6 @@
 -- An id that stands in a message is found as its row, and its number is that of the entry.
 -- Assumes nothing.
-use Rattle.index.proofs.Kit.{ℕ, _+_, _-_, _<_, _≤_, _≡_, refl, sym, ap, _∙_, Bool, true, false, arith, first-hit, by-test}
+use Rattle.index.proofs.Kit.{ℕ, _+_, _-_, _<_, _≡_, refl, sym, ap, _∙_, true, false, arith, first-hit, by-test}
 use mathlib.Core.List.{List, _++_}
 use borrow.Author.Tests.{eq-eqb}
 use lib.ListN.{length, getD, length-append, List·getD-append}
@@ -8,7 +8,7 @@ use lib.Seq.{getD-append-add}
 use Rattle.index.specs.declared.Found.{Found}
 use Rattle.index.specs.declared.Found.the-variants.{At, Nothing}
 use Rattle.index.proofs.Index.{every-by}
-use Rattle.message_ids.specs.Ids.{idSize, idStart, sameAt, isId, rowOf, numberRow, codeOf, rowCode}
+use Rattle.message_ids.specs.Ids.{idSize, idStart, sameAt, isId, rowOf, numberRow}
 use Rattle.message_ids.proofs.TableLaws.{GoodIds, ids-rise}
 use Rattle.message_ids.proofs.FindLaws.{none-below, id-code, row-below, row-number}
 use Rattle.rpc_write.specs.Writing.{run, isFound, idOf}

@@ -3,14 +3,14 @@
 use Rattle.index.proofs.Kit.{ℕ, _+_, _≤_, _<_, _≡_, refl, sym, ap, _∙_, Bool, true, false, arith, one, by-test}
 use mathlib.Core.Bool.{_&&_, cond}
 use mathlib.Core.List.{List, [], _∷_, _++_, append-assoc}
-use borrow.Author.Tests.{eqb-true, eq-eqb, ne-eqb}
+use borrow.Author.Tests.{eq-eqb, ne-eqb}
 use lib.Dec.{eqb}
 use lib.ListN.{length, length-append}
 use Rattle.fields.specs.Fields.{varint, delimited}
 use Prim.Native.Nat.{zero, suc}
 use Rattle.rpc.specs.Messages.{Item, subscription, graft, prune, idontwant, rpc, control, idItem, roleOf, inside}
 use Rattle.rpc.specs.Reading.{only}
-use Rattle.fields.specs.Walk.{Items, items}
+use Rattle.fields.specs.Walk.{items}
 use Rattle.fields.specs.declared.Part.{Part}
 use Rattle.rpc.specs.Passes.{total, oneMore, tally, placeOf, isIdField}
 use Rattle.rpc.specs.declared.Counts.{Counts}

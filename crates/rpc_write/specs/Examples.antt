@@ -1,9 +1,8 @@
 -- Worked examples of what is written (02, orders 4 and 6), with the names and the table of the reader's examples: topic 0 is "a"; the ids
 -- "b" and "aa" have the numbers 9 and 0.
-use Prim.Native.Nat.{ℕ}
 use mathlib.Core.Path.{_≡_}
 use mathlib.Core.Bool.{true, false}
-use mathlib.Core.List.{List, [], _∷_}
+use mathlib.Core.List.{[], _∷_}
 use Rattle.message_ids.specs.Examples.{someIds, someNumbers}
 use Rattle.rpc.specs.Messages.{subscription, prune, idontwant}
 use Rattle.rpc.specs.Examples.{someNames}

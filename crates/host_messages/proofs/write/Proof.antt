@@ -8,7 +8,10 @@ pub write-spec : {M : Type 1} → statement M
 write-spec =
     tie.close (tie.spec
     (λ c κs. search needs) (λ c. search needs)
-    (λ c κs. (omega arith, write-fits _ _ _ _ _ _ _ _ _ (c .before .before .before .before .before .write .ensures) (c .before .n .given .1)))
+    (λ c κs. (
+      omega arith,
+      write-fits _ _ _ _ _ _ _ _ _ (c .before .before .before .before .before .write .ensures) (c .before .n .given .1),
+    ))
     (λ c. search needs) (λ c κs. search needs) (λ c. search needs) (λ c κs. search needs) (λ c. search needs)
     (λ c. hosts-written _ _ _ _ _ _ _ _ _ (c .before .before .before .before .before .before .write .ensures)
     (c .before .before .n .given .1) _ (c .packed .ensures))

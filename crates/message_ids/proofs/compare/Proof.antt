@@ -1,5 +1,5 @@
 -- `message_ids::compare` meets its contract: the loop's invariant: the first k bytes are the same. Assumes nothing.
-use Rattle.index.proofs.Kit.{_+_, _-_, _≤_, _≡_, true, needs, arith, every, every-none}
+use Rattle.index.proofs.Kit.{_+_, _-_, _≤_, _≡_, true, arith, every, every-none}
 use Rattle.message_ids.specs.Ids.{sameAt}
 use Rattle.message_ids.proofs.CodeLaws.{compared-short, compared-long, compared-less, compared-more, compared-same, same-next}
 use Rattle.message_ids.proofs.compare.Statement.{statement}

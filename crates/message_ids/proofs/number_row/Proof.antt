@@ -1,7 +1,6 @@
 -- `message_ids::number_row` meets its contract: the loop's invariant is `Parted`: places below `low` have smaller numbers, those from
 -- `high` on greater ones. Assumes nothing.
-use Rattle.index.proofs.Kit.{_-_, _≤_, _≡_, true, needs, arith}
-use lib.ListN.{length}
+use Rattle.index.proofs.Kit.{_-_, needs, arith}
 use Rattle.message_ids.proofs.TableLaws.{good-numbers, order-long}
 use Rattle.message_ids.proofs.FindLaws.{Parted, parted-none, parted-up, parted-down, parted-found, parted-all, mid-low}
 use Rattle.message_ids.proofs.number_row.Statement.{statement}

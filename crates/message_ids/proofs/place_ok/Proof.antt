@@ -1,5 +1,5 @@
 -- `message_ids::place_ok` meets its contract. Assumes nothing.
-use Rattle.index.proofs.Kit.{needs, arith}
+use Rattle.index.proofs.Kit.{needs}
 use Rattle.message_ids.proofs.TableLaws.{place-far, place-first, place-after, last-low}
 use Rattle.message_ids.proofs.place_ok.Statement.{statement}
 use Rattle.message_ids.proofs.place_ok.Tie as tie

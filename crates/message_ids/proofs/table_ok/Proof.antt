@@ -1,5 +1,5 @@
 -- `message_ids::table_ok` meets its contract. Assumes nothing.
-use Rattle.index.proofs.Kit.{needs, arith, failed, passed}
+use Rattle.index.proofs.Kit.{needs, failed, passed}
 use Rattle.message_ids.proofs.TableLaws.{table-no, table-as}
 use Rattle.message_ids.proofs.table_ok.Statement.{statement}
 use Rattle.message_ids.proofs.table_ok.Tie as tie

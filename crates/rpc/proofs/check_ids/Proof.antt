@@ -2,7 +2,7 @@
 -- Assumes nothing.
 use Rattle.index.proofs.Kit.{_-_, refl, needs, arith}
 use lib.ListN.{length}
-use Rattle.fields.proofs.FieldLaws.{read-placed, read-falls}
+use Rattle.fields.proofs.FieldLaws.{read-falls}
 use Rattle.rpc.specs.Messages.{idontwant, inside}
 use Rattle.rpc.proofs.CheckLaws.{Counting, counting-none, counting-next, counting-bad, counting-all, inside-each}
 use Rattle.rpc.proofs.check_ids.Statement.{statement}

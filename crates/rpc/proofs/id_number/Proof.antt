@@ -1,5 +1,5 @@
 -- `rpc::id_number` meets its contract. Assumes nothing.
-use Rattle.index.proofs.Kit.{needs, arith}
+use Rattle.index.proofs.Kit.{needs}
 use Rattle.rpc.proofs.ListLaws.{number-here, number-past}
 use Rattle.rpc.proofs.id_number.Statement.{statement}
 use Rattle.rpc.proofs.id_number.Tie as tie

@@ -1,5 +1,5 @@
 -- `rpc_write::control_size` meets its contract. Assumes nothing.
-use Rattle.index.proofs.Kit.{needs, arith}
+use Rattle.index.proofs.Kit.{arith}
 use Rattle.rpc_write.proofs.WriteLaws.{control-length}
 use Rattle.rpc_write.proofs.LengthLaws.{control-long}
 use Rattle.rpc_write.proofs.control_size.Statement.{statement}

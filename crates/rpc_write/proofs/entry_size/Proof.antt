@@ -1,5 +1,4 @@
 -- `rpc_write::entry_size` meets its contract. Assumes nothing.
-use Rattle.index.proofs.Kit.{needs, arith}
 use Rattle.rpc_write.proofs.WriteLaws.{entry-id, entry-named}
 use Rattle.rpc_write.proofs.entry_size.Statement.{statement}
 use Rattle.rpc_write.proofs.entry_size.Tie as tie

@@ -1,5 +1,5 @@
 -- `rpc_write::message_size` meets its contract. Assumes nothing.
-use Rattle.index.proofs.Kit.{needs, arith}
+use Rattle.index.proofs.Kit.{arith}
 use Rattle.rpc_write.proofs.WriteLaws.{no-control, with-control}
 use Rattle.rpc_write.proofs.message_size.Statement.{statement}
 use Rattle.rpc_write.proofs.message_size.Tie as tie

@@ -1,5 +1,5 @@
 -- `rpc_write::notice_ok` meets its contract. Assumes nothing.
-use Rattle.index.proofs.Kit.{needs, arith}
+use Rattle.index.proofs.Kit.{needs}
 use Rattle.rpc_write.proofs.WriteLaws.{notice-other, notice-topic, notice-found, notice-none}
 use Rattle.rpc_write.proofs.notice_ok.Statement.{statement}
 use Rattle.rpc_write.proofs.notice_ok.Tie as tie

@@ -1,5 +1,5 @@
 -- `rpc_write::notices_size` meets its contract. Assumes nothing.
-use Rattle.index.proofs.Kit.{needs, arith}
+use Rattle.index.proofs.Kit.{arith}
 use Rattle.rpc_write.proofs.WriteLaws.{inner-empty, inner-length}
 use Rattle.rpc_write.proofs.notices_size.Statement.{statement}
 use Rattle.rpc_write.proofs.notices_size.Tie as tie

@@ -1,5 +1,5 @@
 -- `rpc_write::one_size` meets its contract. Assumes nothing.
-use Rattle.index.proofs.Kit.{needs, arith}
+use Rattle.index.proofs.Kit.{arith}
 use Rattle.rpc_write.proofs.WriteLaws.{one-none, one-length}
 use Rattle.rpc_write.proofs.one_size.Statement.{statement}
 use Rattle.rpc_write.proofs.one_size.Tie as tie

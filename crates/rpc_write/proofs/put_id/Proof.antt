@@ -1,4 +1,4 @@
--- `rpc_write::put_id` meets its contract. Assumes nothing.
+-- `rpc_write::put_id`: the row of the number is found, as the list was accepted, and its bytes are those that are written. Assumes nothing.
 use Rattle.index.proofs.Kit.{needs, arith}
 use Rattle.message_ids.proofs.TableLaws.{table-parts}
 use Rattle.rpc_write.proofs.WriteLaws.{id-row, id-stored, no-id-stored}

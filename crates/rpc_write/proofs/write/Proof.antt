@@ -1,4 +1,4 @@
--- `rpc_write::write` meets its contract. Assumes nothing.
+-- `rpc_write::write`: 2 of the table or the list, 13 by the sizes added up first, else the bytes one part after the other. Assumes nothing.
 use Rattle.index.proofs.Kit.{needs, failed, passed}
 use Rattle.message_ids.proofs.TableLaws.{table-parts}
 use Rattle.rpc_write.proofs.WriteLaws.{writes-no-table, writes-not, writes-short, writes-done}
