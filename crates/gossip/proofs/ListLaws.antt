@@ -41,9 +41,6 @@ has-not n (m ∷ l) e =
     (λ y. clash (rw y) e)
     (λ y. rw y (has-not n l (rw y at e)))
 
-pub occurs-has : (n : ℕ) (l : List ℕ) → 1 ≤ occurs n l → has n l ≡ true
-occurs-has n l h = by-test _ (has n l) (λ e. e) (λ e. let z = has-not n l e in absurd (omega arith))
-
 pub has-append : (n : ℕ) (a b : List ℕ) → has n (a ++ b) ≡ has n a || has n b
 unfolding has
 has-append n [] b = refl

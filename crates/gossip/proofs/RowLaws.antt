@@ -162,12 +162,6 @@ blank l s =
     by-order _ s (length l) (getD-set-same l s 0 0) (λ h.
     ap (λ (w : List ℕ). getD w s 0) (set-out l s 0 h) ∙ List·getD-eq-default l 0 {n = s} h)
 
-pub count-ended : (s : ℕ) (l : List Row) (n : ℕ) → countIn (ended s l) n s ≡ 0
-unfolding ended countIn
-count-ended s [] n = refl
-count-ended s (r ∷ l) n =
-    by-test _ (eqb (r .number) n) (λ e. rw e (blank (r .counts) s)) (λ e. rw e (count-ended s l n))
-
 pub count-ended-other : (s : ℕ) (l : List Row) (n u : ℕ) → (u ≡ s → ⊥) → countIn (ended s l) n u ≡ countIn l n u
 unfolding ended countIn
 count-ended-other s [] n u d = refl

@@ -19,7 +19,7 @@ pub record Admitted (table gossip : List ℕ) (time : ℕ) : Type 0 where
   pub late : stateOf table .clock ≤ time
   pub range : time ≤ maxTime
 
--- one of its slots, one of its topics, or both
+-- one of its slots, or one of its topics
 pub record SlotAdmitted (table gossip : List ℕ) (time s : ℕ) : Type 0 where
   pub admitted : Admitted table gossip time
   pub slot : s < slotCount
@@ -27,11 +27,6 @@ pub record SlotAdmitted (table gossip : List ℕ) (time s : ℕ) : Type 0 where
 pub record TopicAdmitted (table gossip : List ℕ) (time t : ℕ) : Type 0 where
   pub admitted : Admitted table gossip time
   pub topic : t < topicCount
-
-pub record PlaceAdmitted (table gossip : List ℕ) (time t s : ℕ) : Type 0 where
-  pub admitted : Admitted table gossip time
-  pub topic : t < topicCount
-  pub slot : s < slotCount
 
 -- a topic, and a lent list that has room for every action
 pub record TopicLent (table gossip : List ℕ) (time t : ℕ) (list : List ℕ) : Type 0 where
