@@ -18,14 +18,11 @@ use limits::NUMBERS;
 use params::Numbered;
 use params::Params;
 
-// The limit of order 6, D_lazy, the factor in thousandths, and the bounds of IHAVEs and of replies.
-const ORDINARY: [u64; SETUP] = [10, 6, 250, 10, 3];
-
-// The ordinary set-up numbers.
+// The ordinary set-up numbers: the limit of order 6, D_lazy, the factor in thousandths, and the bounds of IHAVEs and of replies.
 pub fn ordinary_setup(setup: &mut [u64; SETUP])
     ensures { λ r. ⌜ now (setup .exit) ≡ ordinarySetup ⌝ }
 {
-    *setup = ORDINARY;
+    *setup = [10, 6, 250, 10, 3];
 }
 
 // Makes a fresh router of parameters given by value.

@@ -10,5 +10,5 @@ fresh-spec =
     (λ c κs. search needs) (λ c. search needs) (λ c. search needs) (λ c κs. (omega arith, omega arith))
     (λ c. made-unknown _ _ (c .before .before .before .edition-of .ensures) _ _ _ _ _ (c .before .enum-told .given .1) (c .packed .ensures))
     (λ c κs. search needs)
-    (λ c. made-known _ _ (c .before .before .before .before .before .before .edition-of .ensures) _ _ _ _ _ _ _ _
-    (c .before .before .before .before .e .given .1) (c .make .ensures)))
+    (λ c. made-known _ _ (c .before .before .before .before .before .before .before .edition-of .ensures) _ _ _ _ _ _ _ _
+    (c .before .before .before .before .before .e .given .1) (c .make .ensures)))

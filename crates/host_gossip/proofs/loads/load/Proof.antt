@@ -11,5 +11,5 @@ load-spec =
     (λ c. load-unknown _ _ (c .before .before .before .edition-of .ensures) _ _ _ _ _ _ _ (c .before .enum-told .given .1)
     (c .packed .ensures))
     (λ c κs. search needs)
-    (λ c. load-known _ _ (c .before .before .before .before .before .before .edition-of .ensures) _ _ _ _ _ _ _ _ _ _
-    (c .before .before .before .before .e .given .1) (c .fill .ensures)))
+    (λ c. load-known _ _ (c .before .before .before .before .before .before .before .edition-of .ensures) _ _ _ _ _ _ _ _ _ _
+    (c .before .before .before .before .before .e .given .1) (c .fill .ensures)))
