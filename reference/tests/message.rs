@@ -193,8 +193,8 @@ fn publish_ihave_iwant_and_peers_are_skipped_whatever_they_hold() {
     assert!(of(&field("1A", "0A 03 FF FF FF 12 02 00 00")).is_empty());
     let prune = field("22", "12 03 FF FF FF 0A 01 61 12 00 18 05");
     assert_eq!(of(&field("1A", &prune)), [[2, 0, 5]]);
-    // Control entry 5 is not known yet.
-    assert!(of(&field("1A", "2A 03 FF FF FF")).is_empty());
+    // Control entry 6 is not known.
+    assert!(of(&field("1A", "32 03 FF FF FF")).is_empty());
 }
 
 #[test]
@@ -520,7 +520,7 @@ fn any_other_list_is_2() {
     let cases = [
         (Wrong::TooManyActions, lists(&[[1, 9, 0]; 65], &[0; 65], &[])),
         (Wrong::ActionKind, graft([0, 9, 0])),
-        (Wrong::ActionKind, graft([3, 9, 0])),
+        (Wrong::NumberNotInTable, graft([3, 9, 0])),
         (Wrong::ActionKind, graft([4, 9, 0])),
         (Wrong::ActionKind, graft([5, 9, 0])),
         (Wrong::ActionKind, graft([u32::MAX, 9, 0])),

@@ -283,8 +283,11 @@ fn wrong_entries_are_seen() {
             with_read(|tables, message, entries| {
                 let unnamed = tables.names.chunks(NAME_ROW).position(|row| row[0] == 0);
                 read_entries(tables, message, entries, |entries| {
-                    if let (Some(topic), [0x0a, 0x02, 0x12, 0x00, ..]) = (unnamed, message) {
-                        entries[1] = topic as u64;
+                    let empty = message.windows(2).any(|bytes| bytes == [0x12, 0x00]);
+                    let mut subscriptions = entries.chunks_mut(3).filter(|row| row[0] == 0);
+                    let row = subscriptions.find(|row| row[1] == 11);
+                    if let (true, Some(topic), Some(row)) = (empty, unnamed, row) {
+                        row[1] = topic as u64;
                     }
                 })
             }),
