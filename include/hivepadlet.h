@@ -532,7 +532,7 @@ uint64_t hivepadlet_store(uint64_t table[HIVEPADLET_CELLS], uint64_t gossip[HIVE
 
 /* IHAVE of a topic: the numbers of the last three heartbeats, oldest first, into a list of at least HIVEPADLET_MESSAGE_NUMBERS, and
  * to whom, kind 5, in the order of the permutation; nobody where there is no number. 0, 7, or 11. */
-uint64_t hivepadlet_announce(uint64_t table[HIVEPADLET_CELLS], uint64_t gossip[HIVEPADLET_GOSSIP_CELLS], uint64_t time,
+uint64_t hivepadlet_announce(uint64_t table[HIVEPADLET_CELLS], const uint64_t gossip[HIVEPADLET_GOSSIP_CELLS], uint64_t time,
                              uint64_t topic, const uint64_t *permutation, size_t permutation_length, uint64_t *numbers,
                              size_t numbers_length, uint32_t *actions, size_t actions_length);
 

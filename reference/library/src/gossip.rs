@@ -195,7 +195,7 @@ mod linked {
         ) -> u64;
         fn hivepadlet_announce(
             table: &mut Cells,
-            gossip: &mut Gossip,
+            gossip: &Gossip,
             time: u64,
             topic: u64,
             permutation: *const u64,
@@ -283,7 +283,7 @@ mod linked {
     /// IHAVE of a topic: its numbers, and to whom, in the order of the permutation. 0, or 7, 11.
     pub fn announce(
         table: &mut Cells,
-        gossip: &mut Gossip,
+        gossip: &Gossip,
         time: u64,
         topic: u64,
         permutation: &[u64],

@@ -122,7 +122,7 @@ fn a_message_is_passed_on_and_told_of() {
     assert_eq!(store(&mut table, &mut array, 2, 0, 99, &mut actions), 0);
     assert_eq!(beat(&mut table, &mut array, 3, &mut actions), 0);
     let slots: Vec<u64> = (0..SLOTS as u64).collect();
-    let result = announce(&mut table, &mut array, 3, 0, &slots, &mut told, &mut actions);
+    let result = announce(&mut table, &array, 3, 0, &slots, &mut told, &mut actions);
     assert_eq!((gossip::actions(result), gossip::numbers(result)), (1, 1));
     assert_eq!((told[0], &actions[..3]), (99, &[IHAVE, 8, 0][..]));
     let result = ihave(&mut table, &mut array, 3, 8, 0, &[99, 98], &mut told, &mut actions);

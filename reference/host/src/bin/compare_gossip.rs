@@ -14,7 +14,7 @@ use host_compare::linked::Linked as Tested;
 #[cfg(not(gossip))]
 use host_compare::stand_in::StandIn as Tested;
 
-const LISTS: u64 = 200;
+const LISTS: u64 = 400;
 const CALLS: u64 = 500;
 const SEED: u64 = 20_261_117;
 const USAGE: &str = "usage: compare_gossip [LISTS] [CALLS] [SEED]";
