@@ -68,6 +68,11 @@ mod linked {
         fn is_router(&self) -> bool {
             gossip::is_router(black_box(&self.table), black_box(&self.gossip)) == 1
         }
+
+        /// The table without its array.
+        fn has_table(&self) -> bool {
+            hivepadlet::is_router(black_box(&self.table)) == 1
+        }
     }
 
     /// A router that calls are made on, with its lent lists.
@@ -153,7 +158,8 @@ mod linked {
             Lent::without_hints(&full(SLOTS)),
         ];
         print_calls(rounds, [&quiet, &some, &stores, &outside, &all], line);
-        println!("test 12 of table and array alone");
+        println!("test 12 by itself: one table, alone and with its array");
+        line("the table alone", time(|| quiet.has_table()));
         line("nothing held", time(|| quiet.is_router()));
         line("100 stored numbers, ten rows of replies", time(|| some.is_router()));
         line("every set full", time(|| sets.is_router()));

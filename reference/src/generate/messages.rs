@@ -171,8 +171,12 @@ pub fn full(random: &mut Random) -> Vec<Input> {
         .collect();
     let one_more: Vec<_> =
         inputs.iter().map(|bytes| [&bytes[..], &[0x28, 0x00]].concat()).collect();
+    let one_less: Vec<_> = inputs.iter().map(|bytes| bytes[..bytes.len() - 1].to_vec()).collect();
+    let good_one_less = [&[0x0a, 0x00].repeat(8190)[..], &[0x28, 0x80, 0x00]].concat();
     inputs.extend(broken_at_the_end);
     inputs.extend(one_more);
+    inputs.extend(one_less);
+    inputs.push(good_one_less);
     inputs.into_iter().map(|bytes| Input { kind: "full", bytes }).collect()
 }
 
