@@ -162,8 +162,9 @@ isTarget st t s =
     && (isSubscribed st t s
     && (not (isMember st t s) && (eqb (peerIn st s .explicit) 0 && not (underGossip st s))))
 
-abbrev pub inDraw : State → ℕ → List ℕ → List ℕ
-inDraw st t order = inOrder (bySlot slotCount (isTarget st t)) order
+-- the targets, "in draw order"
+abbrev pub eligible : State → ℕ → List ℕ → List ℕ
+eligible st t order = inOrder (bySlot slotCount (isTarget st t)) order
 
 -- "take the larger of D_lazy and floor(count × factor / 1000), or all if fewer, in draw order"
 abbrev pub chosen : Setup → List ℕ → List ℕ
@@ -187,7 +188,7 @@ announceReply x time t order =
     cond (isPermutation slotCount order)
     (ifJoined x time t
     (doneAll x time (x .gossip)
-    (ifAny (announced (storeIn (x .gossip) t)) (map (tellOne (x .base) 5) (chosen (x .gossip .setup) (inDraw (x .base) t order))))
+    (ifAny (announced (storeIn (x .gossip) t)) (map (tellOne (x .base) 5) (chosen (x .gossip .setup) (eligible (x .base) t order))))
     (announced (storeIn (x .gossip) t))))
     (refusedAll 7 x)
 

@@ -15,7 +15,7 @@ use Rattle.effects.specs.Actions.{Action}
 use Rattle.effects.specs.Effects.{isJoined}
 use Rattle.gossip.specs.Notes.{Setup, Extended, storeIn, windowMost, announcedWindows}
 use Rattle.gossip.specs.Valid.{all, windowOk}
-use Rattle.gossip.specs.Step.{FullReply, tellOne, isTarget, inDraw, chosen, oldestFirst, announced, ifAny, announceReply}
+use Rattle.gossip.specs.Step.{FullReply, tellOne, isTarget, eligible, chosen, oldestFirst, announced, ifAny, announceReply}
 use Rattle.gossip.proofs.ListLaws.{windows-take}
 use Rattle.gossip.proofs.NoteOk.{store-parts}
 use Rattle.gossip.proofs.Fine.{fine-of}
@@ -25,7 +25,7 @@ use Rattle.gossip_gate.specs.Promise.{GivesAll}
 use Rattle.gossip_gate.proofs.AdmittedLaws.{admitted-fine}
 use Rattle.gossip_gate.proofs.ReplyLaws.{announce-draw, announce-outside, announce-tells}
 use Rattle.gossip_gate.proofs.EndLaws.{gives-refusal, gives-nothing, gives-actions}
-use Rattle.gossip_peers.specs.Peers.{Tells, Drawn}
+use Rattle.gossip_peers.specs.Peers.{Tells, Picking}
 use Rattle.gossip_peers.proofs.TellLaws.{tells-none, in-short, order-length}
 use Rattle.gossip_calls.specs.Asked.{Announcing, Telling}
 use Rattle.gossip_calls.proofs.NumberLaws.{no-numbers}
@@ -52,10 +52,10 @@ pub told-some :
     bitsOf set ≡ bySlot slotCount (isTarget st t) →
     ((q : Setup) → q .lazy ≡ lazy → q .factor ≡ factor →
     Tells (map (tellOne st 5) (chosen q (inOrder (bitsOf set) order))) list list′ r) →
-    Tells (ifAny l (map (tellOne st 5) (chosen p (inDraw st t order)))) list list′ r
+    Tells (ifAny l (map (tellOne st 5) (chosen p (eligible st t order)))) list list′ r
 told-some st p t count r lazy factor set order list list′ l z e el ef es h =
     let w = h p (sym el) (sym ef) in
-    let k : map (tellOne st 5) (chosen p (inOrder (bitsOf set) order)) ≡ ifAny l (map (tellOne st 5) (chosen p (inDraw st t order))) =
+    let k : map (tellOne st 5) (chosen p (inOrder (bitsOf set) order)) ≡ ifAny l (map (tellOne st 5) (chosen p (eligible st t order))) =
     ap (λ (m : List Bool). map (tellOne st 5) (chosen p (inOrder m order))) es ∙ any-some _ count l z e in
     rw k at w
 
@@ -66,7 +66,7 @@ pub telling-drawn :
     (lazy factor : ℕ) →
     lazy ≡ gossipOf gossip .setup .lazy →
     factor ≡ gossipOf gossip .setup .factor →
-    Drawn table list order lazy factor
+    Picking table list order lazy factor
 telling-drawn {table} {gossip} a lazy factor el ef =
     let f = a .fine in
     let b = fine-lazy (f .base) (gossipOf gossip) (f .ok) in
@@ -85,10 +85,10 @@ any-most acts (n ∷ l) = omega arith
 pub told-most :
     (st : State) (p : Setup) (t : ℕ) (order l list list′ : List ℕ) (r : ℕ) →
     isPermutation slotCount order ≡ true →
-    Tells (ifAny l (map (tellOne st 5) (chosen p (inDraw st t order)))) list list′ r →
+    Tells (ifAny l (map (tellOne st 5) (chosen p (eligible st t order)))) list list′ r →
     r ≤ slotCount
 told-most st p t order l list list′ r e w =
-    let fit = inDraw st t order in
+    let fit = eligible st t order in
     let acts = map (tellOne st 5) (chosen p fit) in
     let a = any-most acts l in
     let b : length acts ≡ length (chosen p fit) = length-map (chosen p fit) (tellOne st 5) in
@@ -160,7 +160,7 @@ module _
             (n m : ℕ) (list′ numbers′ : List ℕ) →
             Tells
             (ifAny (announced (storeIn (gossipOf gossip) t))
-            (map (tellOne (stateOf table) 5) (chosen (gossipOf gossip .setup) (inDraw (stateOf table) t order)))) list list′ n →
+            (map (tellOne (stateOf table) 5) (chosen (gossipOf gossip .setup) (eligible (stateOf table) t order)))) list list′ n →
             (numbers′ ≡ sets numbers 0 (announced (storeIn (gossipOf gossip) t)))
             × (m ≡ length (announced (storeIn (gossipOf gossip) t))) →
             (r ≡ 256 * n + 16777216 * m) × (stateOf table′ ≡ setClock (stateOf table) time) →

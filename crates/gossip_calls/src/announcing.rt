@@ -6,7 +6,7 @@ ghost use lib.ListN.{length};
 ghost use lib.Seq.{sets};
 ghost use Rattle.layout.specs.View.{stateOf};
 ghost use Rattle.gossip.specs.Calls.{new, announce as Calls·announce};
-ghost use Rattle.gossip.specs.Step.{tellOne, chosen, inDraw, ifAny, announceReply};
+ghost use Rattle.gossip.specs.Step.{tellOne, chosen, eligible, ifAny, announceReply};
 ghost use Rattle.gossip_table.specs.View.{gossipOf, extendedOf};
 ghost use Rattle.gossip_gate.specs.Promise.{GivesAll, FollowsAll, Tells};
 ghost use Rattle.gossip_peers.specs.Peers.{Tells as Told};
@@ -41,7 +41,7 @@ fn tell_any(
     requires { ⌜ Telling (now table) (now gossip) topic (now order) (now actions) ⌝ }
     ensures { λ r. ⌜ ((l : List ℕ) → count ≡ length l →
         Told (ifAny l (map (tellOne (stateOf (now (table .entry))) 5)
-        (chosen (gossipOf (now (gossip .entry)) .setup) (inDraw (stateOf (now (table .entry))) topic (now (order .entry))))))
+        (chosen (gossipOf (now (gossip .entry)) .setup) (eligible (stateOf (now (table .entry))) topic (now (order .entry))))))
         (now (actions .entry)) (now (actions .exit)) r) ⌝ }
 {
     if count == 0 {

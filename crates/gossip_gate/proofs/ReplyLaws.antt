@@ -14,7 +14,7 @@ use Rattle.gossip.specs.Notes.{Extended, noteIn, storeIn, setNote, setStore, se
 use Rattle.gossip.specs.Notes.{stored}
 use Rattle.gossip.specs.Step.{FullReply, refusedAll, ignoredAll, doneAll, onSlot, ofPeerAll}
 use Rattle.gossip.specs.Step.{isHeeded, hasRoom, withPut, idontwantReply, running, storeReply, isAnswered, withIhave, ihaveReply, wanted}
-use Rattle.gossip.specs.Step.{isServed, iwantReply, announceReply, announced, ifAny, tellOne, chosen, inDraw}
+use Rattle.gossip.specs.Step.{isServed, iwantReply, announceReply, announced, ifAny, tellOne, chosen, eligible}
 use mathlib.Core.List.{map}
 
 -- where one of two branches is taken
@@ -137,7 +137,7 @@ module _ (x : Extended) (time t : ℕ) (order : List ℕ) where
       isJoined (x .base) t ≡ true →
       announceReply x time t order
       ≡ doneAll x time (x .gossip)
-      (ifAny (announced (storeIn (x .gossip) t)) (map (tellOne (x .base) 5) (chosen (x .gossip .setup) (inDraw (x .base) t order))))
+      (ifAny (announced (storeIn (x .gossip) t)) (map (tellOne (x .base) 5) (chosen (x .gossip .setup) (eligible (x .base) t order))))
       (announced (storeIn (x .gossip) t))
   unfolding announceReply
   announce-tells e j = taken (isPermutation slotCount order) _ _ e ∙ taken (isJoined (x .base) t) _ _ j

@@ -20,7 +20,7 @@ use Rattle.gossip.specs.Notes.{Setup, Extended, windowMost, numbersMost, noteIn
 use Rattle.gossip.specs.Valid.{all, windowOk}
 use Rattle.gossip.specs.Calls.{New, askAll, idontwant, relay, beat, store, announce, ihave, iwant, newInRange}
 use Rattle.gossip.specs.Step.{FullReply, refusedAll, ignoredAll, doneAll, tellOne, tellBySlot, hasRoom, isHeeded, askReply, idontwantReply}
-use Rattle.gossip.specs.Step.{relayReply, running, storeReply, isTarget, inDraw, chosen, oldestFirst, announced, ifAny, announceReply}
+use Rattle.gossip.specs.Step.{relayReply, running, storeReply, isTarget, eligible, chosen, oldestFirst, announced, ifAny, announceReply}
 use Rattle.gossip.specs.Step.{wanted, isAnswered, ihaveReply, isServed, iwantReply, newEffect}
 use Rattle.gossip_lists.specs.Kept.{Fits, FitsNew}
 use Rattle.gossip.proofs.Cases.{PassedNew, by-first, by-slot, by-sender, by-joined}
@@ -117,7 +117,7 @@ module _ (x : Extended) where
       cond-case Fits (isPermutation slotCount order) _ (refusedAll 7 x)
       (λ e.
       by-joined Fits x refuses time t _ (fits-none _ refl refl) (λ j.
-      let fit = inDraw (x .base) t order in
+      let fit = eligible (x .base) t order in
       let a = order-short (bySlot slotCount (isTarget (x .base) t)) order in
       let b = permutation-length order e in
       let c = chosen-short (x .gossip .setup) fit in

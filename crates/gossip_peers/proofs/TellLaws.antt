@@ -129,42 +129,42 @@ in-short p (x ∷ d) =
     (λ t. omega (arith, in-short p d, ap length (inOrder-cons p x d false t)))
 
 -- those on the slots of p among the first i of the order
-unfoldable pub drawnTo : State → List Bool → List ℕ → ℕ → List Action
-drawnTo st p d i = map (tellOne st 5) (inOrder p (take i d))
+unfoldable pub pickedTo : State → List Bool → List ℕ → ℕ → List Action
+pickedTo st p d i = map (tellOne st 5) (inOrder p (take i d))
 
 map-append : {A B : Type 0} (f : A → B) (a b : List A) → map f (a ++ b) ≡ map f a ++ map f b
 map-append f [] b = refl
 map-append {A} {B} f (x ∷ a) b = ap (λ (l : List B). f x ∷ l) (map-append f a b)
 
 module _ (st : State) (p : List Bool) (d : List ℕ) where
-  pub drawn-none : [] ≡ drawnTo st p d 0
-  unfolding drawnTo inOrder
-  drawn-none = refl
+  pub picked-none : [] ≡ pickedTo st p d 0
+  unfolding pickedTo inOrder
+  picked-none = refl
 
-  pub drawn-few : (i : ℕ) → length (drawnTo st p d i) ≤ i
-  unfolding drawnTo
-  drawn-few i =
+  pub picked-few : (i : ℕ) → length (pickedTo st p d i) ≤ i
+  unfolding pickedTo
+  picked-few i =
       omega (arith, length-map (inOrder p (take i d)) (tellOne st 5), in-short p (take i d), length-take i d)
 
   module _ (i : ℕ) (h : i < length d) where
-    pub drawn-in : at p (getD d i 0) ≡ true → drawnTo st p d i ++ (tellOne st 5 (getD d i 0) ∷ []) ≡ drawnTo st p d (i + 1)
-    unfolding drawnTo inOrder
-    drawn-in e =
+    pub picked-in : at p (getD d i 0) ≡ true → pickedTo st p d i ++ (tellOne st 5 (getD d i 0) ∷ []) ≡ pickedTo st p d (i + 1)
+    unfolding pickedTo inOrder
+    picked-in e =
         let z : i + 1 ≡ suc i = omega arith in
         sym
-        (ap (drawnTo st p d) z
+        (ap (pickedTo st p d) z
         ∙ ap (λ (l : List ℕ). map (tellOne st 5) (inOrder p l)) (take-suc d i 0 h)
         ∙ ap (map (tellOne st 5))
         (in-append p (take i d) (getD d i 0 ∷ [])
         ∙ ap (λ (l : List ℕ). inOrder p (take i d) ++ l) (inOrder-cons p (getD d i 0) [] true e))
         ∙ map-append (tellOne st 5) (inOrder p (take i d)) (getD d i 0 ∷ []))
 
-    pub drawn-out : at p (getD d i 0) ≡ false → drawnTo st p d i ≡ drawnTo st p d (i + 1)
-    unfolding drawnTo inOrder
-    drawn-out e =
+    pub picked-out : at p (getD d i 0) ≡ false → pickedTo st p d i ≡ pickedTo st p d (i + 1)
+    unfolding pickedTo inOrder
+    picked-out e =
         let z : i + 1 ≡ suc i = omega arith in
         sym
-        (ap (drawnTo st p d) z
+        (ap (pickedTo st p d) z
         ∙ ap (λ (l : List ℕ). map (tellOne st 5) (inOrder p l)) (take-suc d i 0 h)
         ∙ ap (map (tellOne st 5))
         (in-append p (take i d) (getD d i 0 ∷ [])
@@ -172,13 +172,13 @@ module _ (st : State) (p : List Bool) (d : List ℕ) where
         ∙ append-nil (inOrder p (take i d))))
 
   -- as many as are asked for, and no more
-  pub drawn-full :
+  pub picked-full :
       (i most : ℕ) →
       i ≤ length d →
-      length (drawnTo st p d i) ≡ most →
-      drawnTo st p d i ≡ map (tellOne st 5) (take most (inOrder p d))
-  unfolding drawnTo
-  drawn-full i most h e =
+      length (pickedTo st p d i) ≡ most →
+      pickedTo st p d i ≡ map (tellOne st 5) (take most (inOrder p d))
+  unfolding pickedTo
+  picked-full i most h e =
       ap (map (tellOne st 5))
       (sym
       (ap (λ (l : List ℕ). take most (inOrder p l)) (sym (take-append-drop i d))
@@ -186,13 +186,13 @@ module _ (st : State) (p : List Bool) (d : List ℕ) where
       ∙ take-at (inOrder p (take i d)) (inOrder p (drop i d)) most (sym (length-map (inOrder p (take i d)) (tellOne st 5)) ∙ e)))
 
   -- all of them, where they are no more
-  pub drawn-all :
+  pub picked-all :
       (i most : ℕ) →
       length d ≤ i →
-      length (drawnTo st p d i) ≤ most →
-      drawnTo st p d i ≡ map (tellOne st 5) (take most (inOrder p d))
-  unfolding drawnTo
-  drawn-all i most h e =
+      length (pickedTo st p d i) ≤ most →
+      pickedTo st p d i ≡ map (tellOne st 5) (take most (inOrder p d))
+  unfolding pickedTo
+  picked-all i most h e =
       let z = take-all i d h in
       let y = length-map (inOrder p (take i d)) (tellOne st 5) in
       let x : length (inOrder p d) ≤ most = rw z at (let w : length (inOrder p (take i d)) ≤ most = omega arith in w) in

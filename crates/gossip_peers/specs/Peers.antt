@@ -67,8 +67,8 @@ pub record Lent (table list : List ℕ) : Type 0 where
   pub standing : Standing table
   pub room : actionRoom ≤ length list
 
--- and the numbers that a draw goes by
-pub record Drawn (table list order : List ℕ) (l f : ℕ) : Type 0 where
+-- and the numbers by which targets are picked
+pub record Picking (table list order : List ℕ) (l f : ℕ) : Type 0 where
   pub lent : Lent table list
   pub permutation : isPermutation slotCount order ≡ true
   pub lazy : l ≤ 48

@@ -13,7 +13,7 @@ ghost use Rattle.effects.specs.Actions.{numbersOf};
 ghost use Rattle.peer_score.specs.Standing.{SlotStanding};
 ghost use Rattle.gossip.specs.Notes.{Setup};
 ghost use Rattle.gossip.specs.Step.{tellOne, tellBySlot, chosen};
-ghost use Rattle.gossip_peers.specs.Peers.{Tells, Lent, Drawn};
+ghost use Rattle.gossip_peers.specs.Peers.{Tells, Lent, Picking};
 use effects::values::later;
 use records::SLOTS;
 use sets::size;
@@ -98,7 +98,7 @@ pub fn tell_targets(
     factor: u64,
     actions: &mut [u32],
 ) -> usize
-    requires { ⌜ Drawn (now table) (now actions) (now order) lazy factor ⌝ }
+    requires { ⌜ Picking (now table) (now actions) (now order) lazy factor ⌝ }
     ensures { λ r. ⌜ ((p : Setup) → p .lazy ≡ lazy → p .factor ≡ factor →
         Tells (map (tellOne (stateOf (now (table .entry))) 5) (chosen p (inOrder (bitsOf (now (set .entry))) (now (order .entry)))))
         (now (actions .entry)) (now (actions .exit)) r) ⌝ }

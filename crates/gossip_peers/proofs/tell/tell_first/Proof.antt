@@ -9,7 +9,7 @@ use Rattle.words.specs.Words.{wordCount, bitsOf}
 use Rattle.words.proofs.WideLaws.{bitsOf-length}
 use Rattle.sets.proofs.WalkLaws.{at-below}
 use Rattle.gossip_peers.specs.Peers.{Tells}
-use Rattle.gossip_peers.proofs.TellLaws.{drawnTo, drawn-none, drawn-few, drawn-in, drawn-out, drawn-full, drawn-all}
+use Rattle.gossip_peers.proofs.TellLaws.{pickedTo, picked-none, picked-few, picked-in, picked-out, picked-full, picked-all}
 use Rattle.gossip_peers.proofs.TellLaws.{tells-none, tells-size, tells-as, tells-more}
 use Rattle.gossip_peers.proofs.tell.tell_first.Statement.{statement}
 use Rattle.gossip_peers.proofs.tell.tell_first.Tie as tie
@@ -19,7 +19,7 @@ Inv-loop table order set most actions₀ n₀ i₀ i-end actions n i =
     (i ≤ length order)
     × (i-end ≡ length order)
     × (n ≤ most)
-    × Tells (drawnTo (stateOf table) (bitsOf set) order i) actions₀ actions n
+    × Tells (pickedTo (stateOf table) (bitsOf set) order i) actions₀ actions n
 
 abbrev μ-loop : tie.MeasureT-loop
 μ-loop table order set most actions₀ n₀ i₀ i-end actions n i = length order - i
@@ -31,7 +31,7 @@ loop-holds c =
       refl,
       omega arith,
       tells-as
-          (drawn-none (stateOf (a .table .now)) (bitsOf (a .set .now)) (a .order .now))
+          (picked-none (stateOf (a .table .now)) (bitsOf (a .set .now)) (a .order .now))
           (tells-none (a .actions .now)),
     )
 
@@ -43,7 +43,7 @@ returns c =
     let w = l .inv .3 in
     let n = w .many in
     tells-as
-    (drawn-full (stateOf (a .table .now)) (bitsOf (a .set .now)) (a .order .now) (l .i) (a .most) (l .inv .0) (omega (arith, l .inv .2)))
+    (picked-full (stateOf (a .table .now)) (bitsOf (a .set .now)) (a .order .now) (l .i) (a .most) (l .inv .0) (omega (arith, l .inv .2)))
     w
 
 tell-slot-requires : tie.Need-tell-slot-requires Inv-loop μ-loop
@@ -54,7 +54,7 @@ tell-slot-requires c κs =
     let t = c .before .before .before .before .before .before .loop-test .taken in
     let w = l .inv .3 in
     let z = tells-size w in
-    let f = drawn-few (stateOf (a .table .now)) (bitsOf (a .set .now)) (a .order .now) (l .i) in
+    let f = picked-few (stateOf (a .table .now)) (bitsOf (a .set .now)) (a .order .now) (l .i) in
     let q : length (a .set .now) ≡ wordCount = search needs in
     let m = bitsOf-length (a .set .now) in
     let h = at-below (bitsOf (a .set .now)) (getD (a .order .now) (l .i) 0) (sym (c .before .before .at .ensures) ∙ c .before .if2
@@ -67,7 +67,7 @@ add-n c =
     let l = c .before .before .before .before .before .before .before .before .before .before .loop in
     let t = c .before .before .before .before .before .before .before .before .before .loop-test .taken in
     let w = l .inv .3 in
-    let f = drawn-few (stateOf (a .table .now)) (bitsOf (a .set .now)) (a .order .now) (l .i) in
+    let f = picked-few (stateOf (a .table .now)) (bitsOf (a .set .now)) (a .order .now) (l .i) in
     omega (arith, w .many)
 
 loop-again : tie.Need-loop-again Inv-loop μ-loop
@@ -83,14 +83,14 @@ loop-again c =
       omega arith,
       refl,
       omega (arith, w .6),
-      tells-as (drawn-in st p (a .order .now) (l .i) lt (sym (c .before .at .ensures) ∙ w .0 .taken))
+      tells-as (picked-in st p (a .order .now) (l .i) lt (sym (c .before .at .ensures) ∙ w .0 .taken))
           (rw (w .6) (tells-more _ _ (a .actions .now) (l .actions) _ (l .n) (l .inv .3) (w .5 ∙ w .2 .ensures))),
     ))
     (λ w. (
       omega arith,
       refl,
       omega (arith, w .2, l .inv .2),
-      tells-as (drawn-out st p (a .order .now) (l .i) lt (sym (c .before .at .ensures) ∙ w .0 .left))
+      tells-as (picked-out st p (a .order .now) (l .i) lt (sym (c .before .at .ensures) ∙ w .0 .left))
           (rw (w .1, w .2) (l .inv .3)),
     ))
     (c .if2 .came)
@@ -101,7 +101,7 @@ returns-2 c =
     let l = c .before .loop in
     let w = l .inv .3 in
     tells-as
-    (drawn-all (stateOf (a .table .now)) (bitsOf (a .set .now)) (a .order .now) (l .i) (a .most) (omega arith)
+    (picked-all (stateOf (a .table .now)) (bitsOf (a .set .now)) (a .order .now) (l .i) (a .most) (omega arith)
     (omega (arith, w .many, l .inv .2)))
     w
 
