@@ -1,5 +1,5 @@
 /*
- * hivepadlet.h: a gossipsub v1.1 mesh router for firmware.
+ * hivepadlet.h: a gossipsub mesh router for firmware, versions 1.1 and 1.2.
  *
  * The router keeps the score of every peer, its backoffs, and who is in the mesh of each topic. It opens no socket, reads no
  * clock, makes no random number and allocates nothing: you tell it what happened and when, it tells you what to send. Link
@@ -25,7 +25,8 @@
  *
  * MEMORY
  *
- * All memory is yours, and is lent for the length of one call; nothing is kept between calls but the table.
+ * All memory is yours, and is lent for the length of one call; nothing is kept between calls but the table, and, where a router
+ * has one, the second array (IDONTWANT, IHAVE and IWANT, below).
  *
  * - The table, HIVEPADLET_CELLS numbers of 64 bits (100,352 bytes), is the whole router. You may have any number of routers, one
  *   table each. A table may be copied, saved and restored as bytes on the same machine. Only the calls write it; a damaged
@@ -67,7 +68,8 @@
  * An action is three numbers of the list: its kind (1 GRAFT, 2 PRUNE), the peer's id, and the seconds of backoff to send with a
  * PRUNE (0 for a GRAFT, and for a /meshsub/1.0.0 peer, whose PRUNE has no such field). The topic is that of the call. Send them
  * in order: the router has already changed its mesh and its backoffs accordingly. An answer 0 has the number of actions as its
- * value. Only hivepadlet_leave, hivepadlet_graft and hivepadlet_heartbeat give any, at most one for each peer.
+ * value. Of the calls handed the table alone only hivepadlet_leave, hivepadlet_graft and hivepadlet_heartbeat give any, at most one
+ * for each peer; the kinds 3, 4 and 5 of the calls with the second array are told there.
  *
  * To know along whom to pass a topic's messages, keep a note of its mesh: a peer is in after a GRAFT sent, and after a GRAFT
  * from it that is answered 0 with no action; it is out after a PRUNE sent, and after a PRUNE from it, its unsubscribing or its
@@ -222,7 +224,7 @@ enum hivepadlet_general {
     HIVEPADLET_RETAIN = 7,                   /* 0..86400 seconds for which the record of a disconnected peer is kept */
     HIVEPADLET_OPPORTUNISTIC_THRESHOLD = 8,  /* 0..10^6 */
     HIVEPADLET_GRAYLIST_THRESHOLD = 9,       /* -10^9..-1: below it a peer is not heard */
-    HIVEPADLET_GOSSIP_THRESHOLD = 10,        /* -10^9..-1: below it a peer gets no IHAVE, and its IHAVE and IWANT are ignored */
+    HIVEPADLET_GOSSIP_THRESHOLD = 10,        /* -10^9..-1: below it a peer gets no IHAVE; its IHAVE, IWANT ignored unless explicit */
     HIVEPADLET_PUBLISH_THRESHOLD = 11,       /* -10^9..-1: for the host's own use */
     HIVEPADLET_TOPIC_CAP = 12,               /* 0..10^9: most that all topics together add to a score; 0 is none */
     HIVEPADLET_W5 = 13,                      /* 1..100: weight of P5, application-specific score */
@@ -428,7 +430,9 @@ uint64_t hivepadlet_deliver(uint64_t table[HIVEPADLET_CELLS], uint64_t time, uin
  * send (at most 32), the message numbers of the last five heartbeats of each topic (at most 64 a heartbeat), and how often each
  * peer was sent each of them. Such a router is made by hivepadlet_gossip_fresh or hivepadlet_gossip_load, and three calls are
  * made by their forms below, which are handed both: hivepadlet_gossip_connect, _disconnect and _leave. The other ten calls change
- * nothing there and stay as they are. A host without gossip needs none of this.
+ * nothing there and stay as they are; they, hivepadlet_save, _from_old and _to_old test the table alone (12), a call below both.
+ * Do not call the plain connect, disconnect or leave on such a router: they leave in the array what belonged to the peer or topic
+ * that went, which a later call refuses (12), or counts for the next peer of the slot. A host without gossip needs none of this.
  *
  * A message is a number of 64 bits here, any number, one for each message: a hash of its id, or a count of yours. The router never
  * sees the message; keep those of the last five heartbeats, to answer IWANT, and a list of what you have seen.
@@ -471,7 +475,7 @@ enum hivepadlet_setup {
     HIVEPADLET_D_LAZY = 1,          /* 0 to 48: peers that are sent IHAVE, at least */
     HIVEPADLET_GOSSIP_FACTOR = 2,   /* 0 to 1000: and at least so many thousandths of those that could be */
     HIVEPADLET_IHAVE_BOUND = 3,     /* 1 to 32: IHAVEs of a peer that are answered in a heartbeat */
-    HIVEPADLET_REPLY_BOUND = 4      /* 1 to 32: times that a peer is sent one message by IWANT in one connection */
+    HIVEPADLET_REPLY_BOUND = 4      /* 1 to 32: times that a peer is sent one message by IWANT in one connection, while it stays stored */
 };
 
 /* The ordinary set-up numbers: 10, 6, 250, 10, 3. */
@@ -512,7 +516,8 @@ uint64_t hivepadlet_send_idontwant(uint64_t table[HIVEPADLET_CELLS], const uint6
                                    size_t actions_length);
 
 /* A peer sent IDONTWANT: the number goes into its set, where it stays for two more heartbeats. 0 where it is put in or held
- * already; 3; 11 from a peer of an older version or below the graylist threshold, beyond the limit, or with a full set. */
+ * already; 3; 11 from a peer of an older version or, unless it is explicit, below the graylist threshold, beyond the limit, or with
+ * a full set. */
 uint64_t hivepadlet_idontwant(uint64_t table[HIVEPADLET_CELLS], uint64_t gossip[HIVEPADLET_GOSSIP_CELLS], uint64_t time,
                               uint64_t id, uint64_t number, uint32_t *actions, size_t actions_length);
 
@@ -542,8 +547,8 @@ uint64_t hivepadlet_ihave(uint64_t table[HIVEPADLET_CELLS], uint64_t gossip[HIVE
                           uint64_t id, uint64_t topic, const uint64_t *given, size_t given_length, uint64_t *numbers,
                           size_t numbers_length, uint32_t *actions, size_t actions_length);
 
-/* A peer sent IWANT for a message: 0 is the reply, send it; 3; 11 where it is not stored, the peer is below the gossip threshold, or
- * it was sent this message as often as the bound says in this connection. */
+/* A peer sent IWANT for a message: 0 is the reply, send it; 3; 11 where it is not stored, the peer is below the gossip threshold and
+ * not explicit, or it was sent this message as often as the bound says in this connection, while it stayed stored. */
 uint64_t hivepadlet_iwant(uint64_t table[HIVEPADLET_CELLS], uint64_t gossip[HIVEPADLET_GOSSIP_CELLS], uint64_t time,
                           uint64_t id, uint64_t number, uint32_t *actions, size_t actions_length);
 
@@ -573,7 +578,7 @@ uint64_t hivepadlet_iwant(uint64_t table[HIVEPADLET_CELLS], uint64_t gossip[HIVE
  * grows with n, and search it by halves: keep the rows sorted as ids come and go.
  *
  * A message that comes in is read into a list of entries, subscriptions first, then GRAFTs, then PRUNEs, then an entry for each id
- * of the IDONTWANTs. Each of the first three is a call:
+ * of the IDONTWANTs. Each is a call, the last of a router with the second array:
  *
  *     uint64_t r = hivepadlet_read_message(names, ids, HIVEPADLET_ID_ROW * n, numbers, n, order, n, message, length, entries,
  *                                          HIVEPADLET_ENTRY_NUMBERS);
@@ -588,7 +593,7 @@ uint64_t hivepadlet_iwant(uint64_t table[HIVEPADLET_CELLS], uint64_t gossip[HIVE
  *             break;
  *         case HIVEPADLET_GRAFT: hivepadlet_graft(table, time, id, topic, ...); break;
  *         case HIVEPADLET_PRUNE: hivepadlet_prune(table, time, id, topic, value, ...); break;
- *         case HIVEPADLET_IDONTWANT: ... the peer does not want the message of the number value
+ *         case HIVEPADLET_IDONTWANT: hivepadlet_idontwant(table, gossip, time, id, value, ...); break;
  *         }
  *     }
  *

@@ -39,7 +39,7 @@ pub record FullReply : Type 0 where
 abbrev pub refusedAll : ℕ → Extended → FullReply
 refusedAll a x = record { answer = a; state = x; actions = []; numbers = [] }
 
--- the clock moves and nothing else of 01's: "No idontwant touches a mesh or a score."
+-- the clock moves and nothing else of 01's: "No notice touches a mesh or a score."
 abbrev pub at : Extended → ℕ → Gossip → Extended
 at x time g = record { base = setClock (x .base) time; gossip = g }
 
@@ -96,7 +96,7 @@ askReply x time t sender =
     ofSender x sender
     (ifJoined x time t (doneAll x time (x .gossip) (tellBySlot (x .base) 3 (isAsked (x .base) t sender)) []))
 
--- "A idontwant from an older or graylisted peer is 11."
+-- "A notice from an older or graylisted peer is 11."
 unfoldable pub isHeeded : State → ℕ → Bool
 isHeeded st s = eqb (peerIn st s .version) noticeVersion && not (isGraylisted st s)
 

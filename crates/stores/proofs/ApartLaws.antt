@@ -17,9 +17,10 @@ use Rattle.index.proofs.Index.{every-at, both, gather-more}
 use Rattle.index.specs.Index.{every, gather}
 use Rattle.records.specs.Records.{topicCount}
 use Rattle.layout.proofs.RowLaws.{getD-tab}
+use Rattle.marks.specs.Marks.{bucketCount, wordCount, isMarked, marked}
 use Rattle.gossip.specs.Notes.{windowCount, windowMost, has}
 use Rattle.gossip.specs.Valid.{all, none, flat, apart, windowOk, storeOk}
-use Rattle.stores.specs.Marks.{bucketCount, wordCount, isMarked, marked, windowsOf, before, upTo, Seen, Looking}
+use Rattle.stores.specs.Marks.{windowsOf, before, upTo, Seen, Looking}
 use Rattle.stores.specs.View.{storesCells, countAt, windowAt, fiveAt, storeAt, Store, Windows}
 use Rattle.stores.proofs.ChangeLaws.{five-is}
 use Rattle.stores.proofs.HasLaws.{has-append, has-none, or-true}

@@ -14,9 +14,10 @@ use borrow.Author.Count.{below-more}
 use borrow.Author.Tests.{eqb-true}
 use Rattle.index.proofs.Flags.{by-test, by-order}
 use Rattle.index.proofs.Lists.{sets-append}
+use Rattle.marks.specs.Marks.{bucketCount, isMarked, marked}
 use Rattle.gossip.specs.Notes.{numbersMost, has, some}
 use Rattle.gossip.specs.Step.{wanted}
-use Rattle.stores.specs.Marks.{bucketCount, isMarked, marked, Seen, Given, Flags, FlagsTo, passes, Next, Listed}
+use Rattle.stores.specs.Marks.{Seen, Given, Flags, FlagsTo, passes, Next, Listed}
 use Rattle.stores.specs.View.{allWindows, windowAt, storedAt}
 use Rattle.stores.proofs.ApartLaws.{clash}
 use Rattle.stores.proofs.HasLaws.{or-assoc, or-false, or-true, has-none, has-more, has-at}

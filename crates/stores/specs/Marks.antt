@@ -1,32 +1,15 @@
--- Buckets of numbers: what a list has, marked in words of a bit for each bucket; and the walks along a topic's windows that rely on it.
-use Prim.Native.Nat.{ℕ, _+_, _*_, _/_, _%_, _^_, _≤_, _<_}
+-- Lists whose numbers have marked their buckets, and the walks along a topic's windows that rely on it.
+use Prim.Native.Nat.{ℕ, _+_, _*_, _%_, _≤_, _<_}
 use mathlib.Core.Path.{_≡_}
 use mathlib.Core.Bool.{Bool, true, false, cond, _||_}
 use mathlib.Core.List.{List, [], _∷_, _++_}
-use lib.Bits.{bitOr}
-use lib.Dec.{eqb}
 use lib.ListN.{length, getD, set, take}
 use lib.Seq.{sets}
 use Rattle.index.specs.Index.{gather}
+use Rattle.marks.specs.Marks.{bucketCount, wordCount, isMarked}
 use Rattle.gossip.specs.Notes.{windowCount, numbersMost, has}
 use Rattle.gossip.specs.Valid.{apart}
 use Rattle.stores.specs.View.{countAt, windowAt, Store}
-
--- bit b % 64 of word b / 64 is the mark of bucket b
-abbrev pub bucketCount : ℕ
-bucketCount = 8192
-
-abbrev pub wordBits : ℕ
-wordBits = 64
-
-abbrev pub wordCount : ℕ
-wordCount = 128
-
-unfoldable pub isMarked : List ℕ → ℕ → Bool
-isMarked seen b = eqb (getD seen (b / wordBits) 0 / 2 ^ (b % wordBits) % 2) 1
-
-unfoldable pub marked : List ℕ → ℕ → List ℕ
-marked seen b = set seen (b / wordBits) (bitOr (getD seen (b / wordBits) 0) (2 ^ (b % wordBits)))
 
 -- every number of a list has marked its bucket
 pub record Seen (l seen : List ℕ) : Type 0 where

@@ -14,7 +14,6 @@ ghost use Rattle.stores.specs.View.{allWindows, placeCount, storesCells,
 ghost use Rattle.stores.specs.View.{storedAt, Window, Store, Windows, CopiedOn, Changed, Shifted};
 use records::TOPICS;
 
-pub mod marks;
 pub mod valid;
 pub mod wants;
 

@@ -13,13 +13,13 @@ use crate::WINDOW_MOST;
 use crate::WINDOWS;
 use crate::is_in;
 use crate::is_in_window;
-use crate::marks::WORDS;
-use crate::marks::bucket;
-use crate::marks::is_marked;
-use crate::marks::mark;
 use crate::number;
 use crate::size;
 use crate::start;
+use marks::WORDS;
+use marks::bucket;
+use marks::is_marked;
+use marks::mark;
 
 // Whether no window of a topic has a number.
 fn is_vacant(cells: &[u64], t: usize) -> bool

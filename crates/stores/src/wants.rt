@@ -13,12 +13,12 @@ ghost use Rattle.stores.specs.View.{windowAt, storedAt, Window, Windows}
 ghost use Rattle.stores.specs.Marks.{Seen, Given, Flags, Next};
 use crate::ALL_WINDOWS;
 use crate::is_in;
-use crate::marks::WORDS;
-use crate::marks::bucket;
-use crate::marks::is_marked;
-use crate::marks::mark;
 use crate::number;
 use crate::size;
+use marks::WORDS;
+use marks::bucket;
+use marks::is_marked;
+use marks::mark;
 
 // How many numbers are given at most.
 const GIVEN: usize = 192;

@@ -1,12 +1,12 @@
 -- The parts of test 12's tests of a topic record in the order in which the code asks them, and what its walks rely on. No rule stands here:
 -- each test is a part of a definition of Valid.antt, and together they are `topicOk` (proofs/OrderLaws.antt).
-use Prim.Native.Nat.{ℕ, _/_, _%_, _^_, _≤_, _<_}
+use Prim.Native.Nat.{ℕ, _%_, _≤_, _<_}
 use mathlib.Core.Path.{_≡_}
 use mathlib.Core.Bool.{Bool, true, _&&_}
 use mathlib.Core.List.{List}
-use lib.Bits.{bitOr}
-use lib.Dec.{eqb, leb}
-use lib.ListN.{length, getD, set}
+use lib.Dec.{leb}
+use lib.ListN.{length, getD}
+use Rattle.marks.specs.Marks.{bucketCount, wordCount, isMarked}
 use Rattle.records.specs.declared.TopicRecord.{TopicRecord}
 use Rattle.records.specs.Records.{State, slotCount, topicCount, place, peerIn, topicIn}
 use Rattle.layout.specs.View.{cellCount, stateOf, EmptyFrom}
@@ -44,22 +44,6 @@ pub record Caps (st : State) (caps2 caps3 : List ℕ) : Type 0 where
   pub p3 : (t : ℕ) → t < topicCount → getD caps3 t 0 ≡ cap3 st t
 
 -- ---- ids by buckets
--- how many buckets the ids fall into; bit b % 64 of word b / 64 is the mark of bucket b
-abbrev pub bucketCount : ℕ
-bucketCount = 8192
-
-abbrev pub wordBits : ℕ
-wordBits = 64
-
-abbrev pub wordCount : ℕ
-wordCount = 128
-
-unfoldable pub isMarked : List ℕ → ℕ → Bool
-isMarked seen b = eqb (getD seen (b / wordBits) 0 / 2 ^ (b % wordBits) % 2) 1
-
-unfoldable pub marked : List ℕ → ℕ → List ℕ
-marked seen b = set seen (b / wordBits) (bitOr (getD seen (b / wordBits) 0) (2 ^ (b % wordBits)))
-
 -- every id of the slots below s has marked its bucket
 pub record Seen (st : State) (seen : List ℕ) (s : ℕ) : Type 0 where
   pub size : length seen ≡ wordCount

@@ -2,20 +2,17 @@
 // table of random ids is asked little; of the worst ids every pair is compared.
 ghost use mathlib.Core.Path.{_≡_};
 ghost use mathlib.Core.Bool.{not, _||_};
-ghost use Prim.Native.Nat.{_+_, _<_, _%_, _^_};
+ghost use Prim.Native.Nat.{_+_, _<_};
 ghost use lib.ListN.{length};
 ghost use Rattle.index.specs.Index.{every};
 ghost use Rattle.records.specs.Records.{slotCount};
 ghost use Rattle.layout.specs.View.{stateOf, cellCount};
-ghost use Rattle.validity.specs.Order.{wordBits, bucketCount, isMarked, marked, Seen, Seeing, UpTo};
+ghost use Rattle.validity.specs.Order.{Seen, Seeing, UpTo};
 ghost use Rattle.validity.specs.Valid.{apart, newId};
-
-// How many buckets there are, in words of a bit for each. Any number will do; a power of two is divided by at no cost.
-const BUCKETS: u64 = 8192;
-
-const WORD_BITS: u64 = 64;
-
-const WORDS: usize = 128;
+use marks::WORDS;
+use marks::bucket;
+use marks::is_marked;
+use marks::mark;
 
 // Whether two ids differ, or are none.
 pub fn apart(a: u64, b: u64) -> bool
@@ -49,39 +46,6 @@ fn new_where(known: bool, table: &[u64], slot: usize) -> bool
         return true;
     }
     new_id(table, slot)
-}
-
-// The bucket of an id.
-fn bucket(id: u64) -> u64
-    ensures { λ r. ⌜ (r ≡ id % bucketCount) × (r < bucketCount) ⌝ }
-{
-    id % BUCKETS
-}
-
-// The bit k alone.
-fn single(k: u64) -> u64
-    requires { ⌜ k < wordBits ⌝ }
-    ensures { λ r. ⌜ r ≡ 2 ^ k ⌝ }
-{
-    1 << k
-}
-
-// Whether a bucket is marked.
-fn is_marked(seen: &[u64; WORDS], b: u64) -> bool
-    requires { ⌜ b < bucketCount ⌝ }
-    ensures { λ r. ⌜ r ≡ isMarked (now (seen .entry)) b ⌝ }
-{
-    let w = (b / WORD_BITS) as usize;
-    (seen[w] >> (b % WORD_BITS)) % 2 == 1
-}
-
-// Marks a bucket.
-fn mark(seen: &mut [u64; WORDS], b: u64)
-    requires { ⌜ b < bucketCount ⌝ }
-    ensures { λ r. ⌜ now (seen .exit) ≡ marked (now (seen .entry)) b ⌝ }
-{
-    let w = (b / WORD_BITS) as usize;
-    seen[w] = seen[w] | single(b % WORD_BITS);
 }
 
 // Whether the id in a slot stands in no lower slot, of which every id has marked its bucket; then it has marked its own.

@@ -2,7 +2,7 @@
 use borrow.Author.Needs.{needs}
 use Prim.Native.Nat.{ℕ, _%_}
 use mathlib.Core.Path.{sym, ap, _∙_}
-use Rattle.validity.specs.Order.{bucketCount, isMarked}
+use Rattle.marks.specs.Marks.{bucketCount, isMarked}
 use Rattle.validity.proofs.IdLaws.{seen-past, seen-more, new-told, new-none}
 use Rattle.validity.proofs.ids.next_new.Statement.{statement}
 use Rattle.validity.proofs.ids.next_new.Tie as tie

@@ -4,9 +4,9 @@ use native.Mathlib.Omega.{arith}
 use mathlib.Core.Path.{_∙_}
 use lib.Pow.{shl-exact}
 use borrow.Author.Needs.{needs}
-use Rattle.stores.specs.Marks.{wordBits}
-use Rattle.stores.proofs.marks.single.Statement.{statement}
-use Rattle.stores.proofs.marks.single.Tie as tie
+use Rattle.marks.specs.Marks.{wordBits}
+use Rattle.marks.proofs.single.Statement.{statement}
+use Rattle.marks.proofs.single.Tie as tie
 
 pub single-spec : {M : Type 1} → statement M
 single-spec =

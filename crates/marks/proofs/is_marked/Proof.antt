@@ -1,8 +1,8 @@
 use mathlib.Core.Path.{refl}
 use borrow.Author.Needs.{needs}
-use Rattle.stores.specs.Marks.{isMarked}
-use Rattle.stores.proofs.marks.is_marked.Statement.{statement}
-use Rattle.stores.proofs.marks.is_marked.Tie as tie
+use Rattle.marks.specs.Marks.{isMarked}
+use Rattle.marks.proofs.is_marked.Statement.{statement}
+use Rattle.marks.proofs.is_marked.Tie as tie
 
 returns : tie.Need-returns
 unfolding isMarked

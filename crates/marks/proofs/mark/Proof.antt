@@ -1,7 +1,7 @@
 use borrow.Author.Needs.{needs}
-use Rattle.stores.specs.Marks.{marked}
-use Rattle.stores.proofs.marks.mark.Statement.{statement}
-use Rattle.stores.proofs.marks.mark.Tie as tie
+use Rattle.marks.specs.Marks.{marked}
+use Rattle.marks.proofs.mark.Statement.{statement}
+use Rattle.marks.proofs.mark.Tie as tie
 
 returns : tie.Need-returns
 unfolding marked

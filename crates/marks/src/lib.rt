@@ -1,9 +1,10 @@
-// Buckets of numbers, a bit for each: a number whose bucket is not marked is in no list whose numbers have marked theirs.
+// Buckets of numbers, a bit for each: what keeps numbers apart without comparing every two of them. A number whose bucket is not marked is
+// none of those that have marked theirs.
 ghost use mathlib.Core.Path.{_≡_};
 ghost use Prim.Native.Nat.{_<_, _%_, _^_};
-ghost use Rattle.stores.specs.Marks.{wordBits, bucketCount, isMarked, marked};
+ghost use Rattle.marks.specs.Marks.{wordBits, bucketCount, isMarked, marked};
 
-// How many buckets there are. Any number will do; a power of two is divided by at no cost.
+// How many buckets there are, in words of a bit for each. Any number will do; a power of two is divided by at no cost.
 const BUCKETS: u64 = 8192;
 
 const WORD_BITS: u64 = 64;
