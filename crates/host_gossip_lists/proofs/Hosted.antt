@@ -16,6 +16,9 @@ use Rattle.params.specs.Check.{firstBroken}
 use Rattle.params.proofs.CheckLaws.{edition-back}
 use Rattle.lookup.specs.Fresh.{freshState}
 use Rattle.effects.specs.Actions.{numbersOf}
+use Rattle.answers.specs.Answers.{whyOr}
+use Rattle.rules.specs.Calls.{score}
+use Rattle.rules.specs.Step.{step}
 use Rattle.saves.specs.Load.{Loading, loaded, outOfRange, broken, bad, sheeted as loadBy, loadOf}
 use Rattle.host_saves.specs.Saving.{loadCode}
 use Rattle.call_lists.specs.Lists.{from-fresh, from-load}
@@ -33,7 +36,7 @@ use Rattle.gossip_lists.proofs.Demand.{demand3-all}
 use Rattle.gossip_lists.proofs.Bound.{bounded}
 use Rattle.gossip_lists.proofs.Fresh.{whole-after}
 use Rattle.host_gossip_lists.specs.Hosted.{HostCall, did, OpenedFresh, OpenedLoad, Opened, by-fresh, by-load, HostedAll, SameReplies}
-use Rattle.host_gossip_lists.specs.Hosted.{replyTo, EveryHostAgreesAll}
+use Rattle.host_gossip_lists.specs.Hosted.{replyTo, EveryHostAgreesAll, EveryScoreAgreesAll}
 use Rattle.host_gossip_lists.proofs.Ran.{ran}
 
 -- ---- what a 0 says: neither 2, 9 nor 10 was answered
@@ -161,3 +164,7 @@ every-host-agrees-all start calls table gossip size p =
       demand3 = demand3-all start (map did calls) ok;
       bounded = λ older recent peer n split within. bounded start (map did older) (map did recent) peer n ok within;
     }
+
+pub every-score-agrees-all : EveryScoreAgreesAll
+every-score-agrees-all start calls table gossip time id room why why′ size p e =
+    e ∙ ap (λ (x : Extended). whyOr (step (x .base) (score time id) room .answer) why) (same-state start size calls table gossip p)

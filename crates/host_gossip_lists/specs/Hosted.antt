@@ -5,6 +5,7 @@ use Prim.Native.Nat.{ℕ, _≤_, _<_}
 use mathlib.Core.Path.{_≡_}
 use mathlib.Core.Bool.{Bool, true, false}
 use mathlib.Core.List.{List, [], _∷_, _++_, map}
+use lib.IntN.{ℤ}
 use lib.ListN.{length, getD}
 use lib.Seq.{sets}
 use Rattle.records.specs.Records.{paramCount}
@@ -13,7 +14,9 @@ use Rattle.params.specs.Editions.{editionNumber, editionOf}
 use Rattle.layout.specs.View.{stateOf}
 use Rattle.lookup.specs.Fresh.{freshState}
 use Rattle.effects.specs.Actions.{numbersOf}
-use Rattle.rules.specs.Calls.{Call}
+use Rattle.answers.specs.Answers.{whyOr}
+use Rattle.rules.specs.Calls.{Call, score}
+use Rattle.rules.specs.Step.{step}
 use Rattle.host_calls.specs.Host.{Hosts}
 use Rattle.gossip.specs.Calls.{New, askAll, idontwant, relay, beat, store, announce, ihave, iwant, Any, old, new}
 use Rattle.gossip.specs.Step.{FullReply, handed, stepAll}
@@ -21,7 +24,7 @@ use Rattle.gossip_table.specs.View.{extendedOf}
 use Rattle.gossip_gate.specs.Promise.{replyCode, FollowsAll, Tells}
 use Rattle.host_gossip.specs.Routers.{HostsMade, HostsLoadAll}
 use Rattle.gossip_lists.specs.Lists.{Start, Did, afterAll}
-use Rattle.gossip_lists.specs.Demand3.{HoldsAll, sheet}
+use Rattle.gossip_lists.specs.Demand3.{HoldsAll, sheet, baseAfter}
 use Rattle.gossip_lists.specs.Kept.{Whole}
 use Rattle.gossip_lists.specs.Bound.{Within, repliesIn}
 
@@ -150,3 +153,12 @@ EveryHostAgreesAll =
     length (sheet start .numbers) ≡ paramCount →
     HostedAll start calls table gossip →
     HostAgreesAll start calls table gossip
+
+-- order 5's six lent numbers, after a list: of the score by the rules, and as they stood where the call is refused
+abbrev pub EveryScoreAgreesAll : Type 0
+EveryScoreAgreesAll =
+    (start : Start) (calls : List HostCall) (table gossip : List ℕ) (time id room : ℕ) (why why′ : List ℤ) →
+    length (sheet start .numbers) ≡ paramCount →
+    HostedAll start calls table gossip →
+    why′ ≡ whyOr (step (stateOf table) (score time id) room .answer) why →
+    why′ ≡ whyOr (step (baseAfter start (map did calls)) (score time id) room .answer) why
