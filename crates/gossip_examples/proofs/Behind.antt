@@ -17,7 +17,7 @@ use Rattle.rules.specs.Step.{actionRoom, through, effect, step}
 use Rattle.rules.proofs.GateLaws.{gate-0}
 use Rattle.validity.specs.Valid.{valid}
 use Rattle.call_lists.specs.Lists.{fresh, from-fresh}
-use Rattle.gossip.specs.Notes.{Extended}
+use Rattle.gossip.specs.Notes.{Setup, Extended}
 use Rattle.gossip.specs.Valid.{setupOk, gossipOk, validAll}
 use Rattle.gossip.specs.Calls.{New, Any, old, new, timeOfNew, newInRange, listOk}
 use Rattle.gossip.specs.Step.{FullReply, gated, newEffect, handed, extended, oldStep, newStep, stepAll}
@@ -26,7 +26,7 @@ use Rattle.gossip_lists.specs.Lists.{Start, afterAll}
 use Rattle.gossip_lists.specs.Kept.{Whole}
 use Rattle.gossip_lists.proofs.Keeps.{keeps-all}
 use Rattle.gossip_lists.proofs.Fresh.{whole-after}
-use Rattle.gossip_examples.specs.Worked.{Seen, seenOf, setup, run, begin}
+use Rattle.gossip_examples.specs.Worked.{Seen, seenOf, run, begin}
 
 abbrev effectOf : Extended → Any → FullReply
 effectOf x (old c) = extended x c (effect (x .base) c)
@@ -94,11 +94,11 @@ run-is (c ∷ rest) x w (s ∷ l) e =
     ap (λ (r : FullReply). seenOf r ∷ run rest (r .state)) i ∙ ap₂ _∷_ b (run-is rest (effectOf x c .state) v l d)
 
 -- ---- from a fresh router with the ordinary parameters
-module _ (replies : ℕ) (fine : setupOk (setup replies) ≡ true) where
+module _ (p : Setup) (fine : setupOk p ≡ true) where
   abbrev start : Start
-  start = record { router = fresh ordinaryParams; setup = setup replies }
+  start = record { router = fresh ordinaryParams; setup = p }
 
-  whole-begin : Whole (begin replies)
+  whole-begin : Whole (begin p)
   unfolding begin afterAll
   whole-begin =
       whole-after start []
@@ -107,5 +107,5 @@ module _ (replies : ℕ) (fine : setupOk (setup replies) ≡ true) where
         setup = fine;
       })
 
-  pub begun : (calls : List Any) (l : List Seen) → checked calls (begin replies) ≡ map sure l → run calls (begin replies) ≡ l
-  begun calls l e = run-is calls (begin replies) whole-begin l e
+  pub begun : (calls : List Any) (l : List Seen) → checked calls (begin p) ≡ map sure l → run calls (begin p) ≡ l
+  begun calls l e = run-is calls (begin p) whole-begin l e

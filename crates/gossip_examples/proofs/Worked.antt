@@ -10,12 +10,12 @@ use Rattle.lookup.specs.Name.{meshsub, sameBytes, versionOf}
 use Rattle.score.specs.Formula.{allTopics, bounded, topicSum, whyOf}
 use Rattle.score.specs.Parts.{crowdOf, part1Of, part3Of}
 use Rattle.score.specs.Score.{scoreIn, sharersOf, sharesGroup, sharing, sharingAt, topicParamsIn, topicScore, whyIn}
-use Rattle.effects.specs.Effects.{connectedAs, departed, emptied, intoMesh, isMember, leftTopic, outOfMesh, reclaimSlot, reclaimable}
-use Rattle.effects.specs.Effects.{reclaimed, retainedTo, withSubscribed}
+use Rattle.effects.specs.Effects.{connectedAs, departed, emptied, intoMesh, isMember, leftTopic, meshSize, outOfMesh, reclaimSlot}
+use Rattle.effects.specs.Effects.{reclaimable, reclaimed, retainedTo, withSubscribed}
 use Rattle.sets.specs.Sets.{ascending, bySlot, inOrder, isPermutation, occurs}
 use Rattle.rules.specs.Calls.{groupsOf, groupsOk, inRange}
-use Rattle.rules.specs.Step.{connectAt, connectIn, connectReply, effect, isGraylisted, joinReply, leaveActions, leaveReply, leaveSlot}
-use Rattle.rules.specs.Step.{subscribeReply}
+use Rattle.rules.specs.Step.{connectAt, connectIn, connectReply, effect, graftCase, graftReply, isCrowded, isGraylisted, isNegative}
+use Rattle.rules.specs.Step.{joinReply, leaveActions, leaveReply, leaveSlot, subscribeReply}
 use Rattle.gossip.specs.Calls.{newInRange}
 use Rattle.gossip.specs.Notes.{added, aged, countIn, ended, forget, freshGossip, has, holds, keep, moved, noteIn, putIn, replied, setNote}
 use Rattle.gossip.specs.Notes.{setReplies, setStore, some, storeIn, stored, storedIn}
@@ -23,25 +23,26 @@ use Rattle.gossip.specs.Step.{announceReply, askReply, beatOf, besides, idontwa
 use Rattle.gossip.specs.Step.{isRelayed, isServed, isTarget, iwantReply, kept, newEffect, oldestFirst, relayReply, storeReply, tellBySlot}
 use Rattle.gossip.specs.Step.{underGossip, wanted}
 use Rattle.gossip.specs.Valid.{setupOk}
-use Rattle.gossip_examples.specs.Worked.{once, twice, full, news, begin, effects, pair, Worked}
+use Rattle.gossip_examples.specs.Worked.{once, twice, full, news, third, limits, crowded, setup, begin, Worked}
 use Rattle.gossip_examples.proofs.Behind.{checked, begun}
 
 pub worked : Worked
 unfolding count every first gather iter codeIn holdsGroup joinedIn peerIn setClock setJoined setPeer setTopic topicIn ordinaryNumbers
     findConnected findRetained holdsId lowestEmpty freshState meshsub sameBytes versionOf allTopics bounded topicSum whyOf crowdOf part1Of
     part3Of scoreIn sharersOf sharesGroup sharing sharingAt topicParamsIn topicScore whyIn connectedAs departed emptied intoMesh isMember
-    leftTopic outOfMesh reclaimSlot reclaimable reclaimed retainedTo withSubscribed ascending bySlot inOrder isPermutation occurs groupsOf
-    groupsOk inRange connectAt connectIn connectReply effect isGraylisted joinReply leaveActions leaveReply leaveSlot subscribeReply
-    newInRange added aged countIn ended forget freshGossip has holds keep moved noteIn putIn replied setNote setReplies setStore some
-    storeIn stored storedIn announceReply askReply beatOf besides idontwantReply ihaveReply isAnswered isAsked isHeeded isRelayed isServed
-    isTarget iwantReply kept newEffect oldestFirst relayReply storeReply tellBySlot underGossip wanted begin effects pair checked setupOk
+    leftTopic meshSize outOfMesh reclaimSlot reclaimable reclaimed retainedTo withSubscribed ascending bySlot inOrder isPermutation occurs
+    groupsOf groupsOk inRange connectAt connectIn connectReply effect graftCase graftReply isCrowded isGraylisted isNegative joinReply
+    leaveActions leaveReply leaveSlot subscribeReply newInRange added aged countIn ended forget freshGossip has holds keep moved noteIn
+    putIn replied setNote setReplies setStore some storeIn stored storedIn announceReply askReply beatOf besides idontwantReply ihaveReply
+    isAnswered isAsked isHeeded isRelayed isServed isTarget iwantReply kept newEffect oldestFirst relayReply storeReply tellBySlot
+    underGossip wanted begin checked setupOk
 worked =
     record {
-      onceAnswers = begun 1 refl once _ refl;
-      twiceAnswers = begun 2 refl twice _ refl;
-      fullAnswers = begun 1 refl full _ refl;
-      newsAnswers = begun 1 refl news _ refl;
-      thirdAnswers = refl;
-      limitsAnswers = refl;
-      crowdedAnswers = refl;
+      onceAnswers = begun (setup 2 1) refl once _ refl;
+      twiceAnswers = begun (setup 2 2) refl twice _ refl;
+      fullAnswers = begun (setup 2 1) refl full _ refl;
+      newsAnswers = begun (setup 2 1) refl news _ refl;
+      thirdAnswers = begun (setup 2 1) refl third _ refl;
+      limitsAnswers = begun (setup 2 1) refl limits _ refl;
+      crowdedAnswers = begun (setup 32 1) refl crowded _ refl;
     }

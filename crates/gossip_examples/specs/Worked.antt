@@ -3,17 +3,16 @@ use Prim.Native.Nat.{ℕ}
 use mathlib.Core.Path.{_≡_}
 use mathlib.Core.List.{List, [], _∷_, _++_, map}
 use Rattle.params.specs.Ordinary.{ordinaryParams}
-use Rattle.records.specs.Records.{State, slotCount, noPeer, noTopic, place, setJoined, setPeer, setTopic}
+use Rattle.records.specs.Records.{slotCount}
 use Rattle.lookup.specs.Fresh.{freshState}
 use Rattle.lookup.specs.Name.{meshsub}
 use Rattle.sets.specs.Sets.{ascending}
 use Rattle.effects.specs.Actions.{Action}
-use Rattle.effects.specs.Effects.{connectedAs, intoMesh, withSubscribed}
-use Rattle.rules.specs.Calls.{connect, disconnect, join, leave, subscribe, groupsOf}
+use Rattle.rules.specs.Calls.{connect, disconnect, join, leave, subscribe, graft}
 use Rattle.rules.specs.Step.{actionRoom}
 use Rattle.gossip.specs.Notes.{Setup, Extended, numbersMost, freshGossip}
-use Rattle.gossip.specs.Calls.{New, askAll, idontwant, relay, beat, store, announce, ihave, iwant, Any, old, new}
-use Rattle.gossip.specs.Step.{FullReply, noticeVersion, newEffect, stepAll}
+use Rattle.gossip.specs.Calls.{askAll, idontwant, relay, beat, store, announce, ihave, iwant, Any, old, new}
+use Rattle.gossip.specs.Step.{FullReply, stepAll}
 
 -- ---- what is seen of a reply
 pub record Seen : Type 0 where
@@ -37,20 +36,25 @@ told kind ids = record { answer = 0; actions = map (tell kind) ids; numbers = []
 abbrev pub listed : List ℕ → List ℕ → Seen
 listed numbers ids = record { answer = 0; actions = map (tell 5) ids; numbers = numbers }
 
--- two numbers a heartbeat, D_lazy 6, a quarter, one IHAVE a heartbeat, and so many replies
-abbrev pub setup : ℕ → Setup
-setup replies = record { limit = 2; lazy = 6; factor = 250; ihaves = 1; replies = replies }
+-- so many numbers a heartbeat, D_lazy 6, a quarter, one IHAVE a heartbeat, and so many replies
+abbrev pub setup : ℕ → ℕ → Setup
+setup limit replies = record { limit = limit; lazy = 6; factor = 250; ihaves = 1; replies = replies }
 
--- ---- order 7, from a fresh router with the ordinary parameters, each call with its tests 12, 2, 8 and 1
+-- ---- each list from a fresh router with the ordinary parameters, each call with its tests 12, 2, 8 and 1
 unfoldable pub run : List Any → Extended → List Seen
 run [] x = []
 run (c ∷ rest) x = let r : FullReply = stepAll x c actionRoom in seenOf r ∷ run rest (r .state)
 
-unfoldable pub begin : ℕ → Extended
-begin replies = record { base = freshState ordinaryParams; gossip = freshGossip (setup replies) }
+unfoldable pub begin : Setup → Extended
+begin p = record { base = freshState ordinaryParams; gossip = freshGossip p }
 
+-- an inbound peer connects, by /meshsub/1.m.0
+abbrev pub comeBy : ℕ → ℕ → ℕ → Any
+comeBy m time id = old (connect time id (0 ∷ []) 0 (meshsub m))
+
+-- ---- order 7
 abbrev pub come : ℕ → ℕ → Any
-come time id = old (connect time id (0 ∷ []) 0 (meshsub 49))
+come time id = comeBy 49 time id
 
 -- number 5 in topics 0 and 1 with bound 1 is answered once, also after one leave; a reconnect starts anew, and so does a number that was
 -- gone
@@ -126,24 +130,28 @@ news =
     ∷ new (iwant 6 7 9)
     ∷ []
 
--- ---- order 6, of a made-up state: peers 7 and 8 of version 1.2.0 are connected, subscribed to topic 0 and members of its mesh. The calls
--- without their first tests
-unfoldable pub effects : List New → Extended → List Seen
-effects [] x = []
-effects (c ∷ rest) x = let r : FullReply = newEffect x c in seenOf r ∷ effects rest (r .state)
+-- ---- order 6: peers 7 and 8 of version 1.2.0 come, subscribe to topic 0 and enter its mesh by their GRAFTs, 7 in slot 0 and 8 in slot 1
+abbrev pub members : List Any
+members =
+    comeBy 50 1 7
+    ∷ comeBy 50 1 8
+    ∷ old (join 1 0)
+    ∷ old (subscribe 1 7 0)
+    ∷ old (subscribe 1 8 0)
+    ∷ old (graft 1 7 0)
+    ∷ old (graft 1 8 0)
+    ∷ []
 
-abbrev pub withMember : ℕ → ℕ → State → State
-withMember s id st =
-    setTopic (setPeer st s (connectedAs noPeer id (groupsOf (0 ∷ [])) 0 noticeVersion)) (place s 0) (intoMesh (withSubscribed noTopic 1) 1)
-
-unfoldable pub pair : Setup → Extended
-pair p =
-    record { base = withMember 1 8 (withMember 0 7 (setJoined (freshState ordinaryParams) 0 1)); gossip = freshGossip p }
+-- each of them 0, without an action
+abbrev pub entered : List Seen
+entered = map quiet (0 ∷ 0 ∷ 0 ∷ 0 ∷ 0 ∷ 0 ∷ 0 ∷ [])
 
 -- an entry goes at the third heartbeat after its arrival; a repeat does not renew it; a member whose set has it not is told always
-abbrev pub third : List New
+abbrev pub third : List Any
 third =
-    idontwant 1 7 5
+    members
+    ++ map new
+    (idontwant 1 7 5
     ∷ relay 1 0 0 5
     ∷ beat 2
     ∷ relay 2 0 0 5
@@ -154,25 +162,29 @@ third =
     ∷ relay 4 0 0 5
     ∷ relay 4 0 8 5
     ∷ askAll 4 0 7 9
-    ∷ []
+    ∷ [])
 
 -- two numbers a heartbeat: the third is 11, one already held is 0; a heartbeat starts anew
-abbrev pub limits : List New
-limits = idontwant 1 7 5 ∷ idontwant 1 7 6 ∷ idontwant 1 7 7 ∷ idontwant 1 7 6 ∷ beat 2 ∷ idontwant 2 7 7 ∷ []
+abbrev pub limits : List Any
+limits =
+    members
+    ++ map new (idontwant 1 7 5 ∷ idontwant 1 7 6 ∷ idontwant 1 7 7 ∷ idontwant 1 7 6 ∷ beat 2 ∷ idontwant 2 7 7 ∷ [])
 
 -- a set of 32 is full, though the heartbeat's count is not: a further number is 11, one already held is 0
-abbrev pub crowded : List New
+abbrev pub crowded : List Any
 crowded =
-    map (idontwant 1 7) (ascending 100 30)
-    ++ (beat 2 ∷ idontwant 2 7 1 ∷ idontwant 2 7 2 ∷ idontwant 2 7 3 ∷ idontwant 2 7 100 ∷ idontwant 2 8 3 ∷ [])
+    members
+    ++ map new
+    (map (idontwant 1 7) (ascending 100 30)
+    ++ (beat 2 ∷ idontwant 2 7 1 ∷ idontwant 2 7 2 ∷ idontwant 2 7 3 ∷ idontwant 2 7 100 ∷ idontwant 2 8 3 ∷ []))
 
 pub record Worked : Type 0 where
   pub onceAnswers :
-      run once (begin 1) ≡ map quiet (0 ∷ 0 ∷ 0 ∷ 0 ∷ 0 ∷ 0 ∷ 11 ∷ 0 ∷ 11 ∷ 0 ∷ 3 ∷ 0 ∷ 0 ∷ 11 ∷ 0 ∷ 0 ∷ 11 ∷ 0 ∷ 0 ∷ [])
-  pub twiceAnswers : run twice (begin 2) ≡ map quiet (0 ∷ 0 ∷ 0 ∷ 0 ∷ 0 ∷ 0 ∷ 11 ∷ 0 ∷ 11 ∷ 0 ∷ [])
-  pub fullAnswers : run full (begin 1) ≡ map quiet (0 ∷ 0 ∷ map (λ n. 0) (ascending 0 64) ++ (13 ∷ 0 ∷ 0 ∷ 0 ∷ 0 ∷ []))
+      run once (begin (setup 2 1)) ≡ map quiet (0 ∷ 0 ∷ 0 ∷ 0 ∷ 0 ∷ 0 ∷ 11 ∷ 0 ∷ 11 ∷ 0 ∷ 3 ∷ 0 ∷ 0 ∷ 11 ∷ 0 ∷ 0 ∷ 11 ∷ 0 ∷ 0 ∷ [])
+  pub twiceAnswers : run twice (begin (setup 2 2)) ≡ map quiet (0 ∷ 0 ∷ 0 ∷ 0 ∷ 0 ∷ 0 ∷ 11 ∷ 0 ∷ 11 ∷ 0 ∷ [])
+  pub fullAnswers : run full (begin (setup 2 1)) ≡ map quiet (0 ∷ 0 ∷ map (λ n. 0) (ascending 0 64) ++ (13 ∷ 0 ∷ 0 ∷ 0 ∷ 0 ∷ []))
   pub newsAnswers :
-      run news (begin 1)
+      run news (begin (setup 2 1))
       ≡ map quiet (0 ∷ 0 ∷ 0 ∷ 0 ∷ 0 ∷ 0 ∷ 0 ∷ [])
       ++ (listed (8 ∷ 1 ∷ []) []
       ∷ quiet 11
@@ -188,8 +200,9 @@ pub record Worked : Type 0 where
       ∷ quiet 11
       ∷ [])
   pub thirdAnswers :
-      effects third (pair (setup 1))
-      ≡ quiet 0
+      run third (begin (setup 2 1))
+      ≡ entered
+      ++ (quiet 0
       ∷ told 4 (8 ∷ [])
       ∷ quiet 0
       ∷ told 4 (8 ∷ [])
@@ -200,8 +213,8 @@ pub record Worked : Type 0 where
       ∷ told 4 (7 ∷ 8 ∷ [])
       ∷ told 4 (7 ∷ [])
       ∷ told 3 (8 ∷ [])
-      ∷ []
-  pub limitsAnswers : effects limits (pair (setup 1)) ≡ map quiet (0 ∷ 0 ∷ 11 ∷ 0 ∷ 0 ∷ 0 ∷ [])
+      ∷ [])
+  pub limitsAnswers : run limits (begin (setup 2 1)) ≡ entered ++ map quiet (0 ∷ 0 ∷ 11 ∷ 0 ∷ 0 ∷ 0 ∷ [])
   pub crowdedAnswers :
-      effects crowded (pair (record { limit = 32; lazy = 6; factor = 250; ihaves = 1; replies = 1 }))
-      ≡ map quiet (map (λ n. 0) (ascending 0 30) ++ (0 ∷ 0 ∷ 0 ∷ 11 ∷ 0 ∷ 0 ∷ []))
+      run crowded (begin (setup 32 1))
+      ≡ entered ++ map quiet (map (λ n. 0) (ascending 0 30) ++ (0 ∷ 0 ∷ 0 ∷ 11 ∷ 0 ∷ 0 ∷ []))
