@@ -19,9 +19,9 @@ use Rattle.effects.specs.Actions.{numbersOf}
 use Rattle.answers.specs.Answers.{whyOr}
 use Rattle.rules.specs.Calls.{score}
 use Rattle.rules.specs.Step.{step}
-use Rattle.saves.specs.Load.{Loading, loaded, outOfRange, broken, bad, sheeted as loadBy, loadOf}
-use Rattle.host_saves.specs.Saving.{loadCode}
+use Rattle.saves.specs.Load.{Loading, loaded, loadOf}
 use Rattle.call_lists.specs.Lists.{from-fresh, from-load}
+use Rattle.host_lists.proofs.Loads.{which, load-passes}
 use Rattle.gossip.specs.Notes.{Gossip, Extended, freshGossip}
 use Rattle.gossip.specs.Valid.{setupOk}
 use Rattle.gossip.specs.Step.{FullReply, stepAll}
@@ -39,23 +39,11 @@ use Rattle.host_gossip_lists.specs.Hosted.{HostCall, did, OpenedFresh, O
 use Rattle.host_gossip_lists.specs.Hosted.{replyTo, EveryHostAgreesAll, EveryScoreAgreesAll}
 use Rattle.host_gossip_lists.proofs.Ran.{ran}
 
--- ---- what a 0 says: neither 2, 9 nor 10 was answered
+-- ---- what a 0 says: neither 2 nor 9 was answered
 made-fine : (b : Bool) (f : Found) → 0 ≡ makingCode (cond b (freshBy f) OutOfRange) → (b ≡ true) × (f ≡ Nothing)
 made-fine true (At i) e = absurd (omega (arith, e))
 made-fine true Nothing e = (refl, refl)
 made-fine false f e = absurd (omega (arith, e))
-
-module _ (all : Params) (clock : ℕ) (bytes : List ℕ) where
-  load-fine : (b : Bool) (f : Found) → 0 ≡ loadCode (cond b (loadBy all clock bytes f) outOfRange) → (b ≡ true) × (f ≡ Nothing)
-  load-fine true (At i) e = absurd (omega (arith, e))
-  load-fine true Nothing e = (refl, refl)
-  load-fine false f e = absurd (omega (arith, e))
-
-which : (o : Loading) → 0 ≡ loadCode o → (st : State) × (o ≡ loaded st)
-which (loaded st) e = (st, refl)
-which outOfRange e = absurd (omega (arith, e))
-which (broken i) e = absurd (omega (arith, e))
-which (bad i) e = absurd (omega (arith, e))
 
 abbrev both : State → Gossip → Extended
 both st g = record { base = st; gossip = g }
@@ -87,16 +75,12 @@ module _ (start : Start) (size : length (sheet start .numbers) ≡ paramCount) (
         state = s ∙ ap (λ (st : State). both st (freshGossip (start .setup))) (sym (p .begins));
       }
 
-  load-passes : (clock : ℕ) (bytes : List ℕ) → 0 ≡ loadCode (loadOf fine all clock bytes) → (fine ≡ true) × (firstBroken all ≡ Nothing)
-  unfolding loadOf
-  load-passes clock bytes e = load-fine all clock bytes fine (firstBroken all) e
-
   opens-load : OpenedLoad start table gossip → Opens start table gossip
   opens-load p =
       let m : HostsLoadAll (start .setup) (Known (all .edition)) (all .numbers) (p .clock) (p .bytes) 0 (p .was) table (p .others) gossip =
       rw (edition-back (all .edition)) at (p .loads) in
       let o = loadOf fine all (p .clock) (p .bytes) in
-      let q = load-passes (p .clock) (p .bytes) (m .answer) in
+      let q = load-passes all (p .clock) (p .bytes) fine (m .answer) in
       let w = which o (m .answer) in
       let s : extendedOf table gossip ≡ both (w .0) (freshGossip (start .setup)) =
       m .state ∙ ap (λ (l : Loading). loadedBy l (start .setup) (extendedOf (p .was) (p .others))) (w .1) in

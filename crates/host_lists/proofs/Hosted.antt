@@ -2,7 +2,8 @@
 -- first of all answered.
 -- Assumes nothing.
 use Prim.{tt}
-use Rattle.index.proofs.Kit.{ℕ, arith, _≡_, refl, ap, _∙_}
+use Rattle.index.proofs.Kit.{ℕ, arith, _≡_, refl, sym, ap, _∙_}
+use mathlib.Core.Bool.{true}
 use mathlib.Core.List.{List, [], _∷_, map}
 use lib.ListN.{length}
 use lib.Seq.{sets}
@@ -12,44 +13,82 @@ use Rattle.params.specs.declared.Params.{Params}
 use Rattle.params.specs.declared.Numbered.the-variants.{Known}
 use Rattle.params.specs.Check.{firstBroken}
 use Rattle.params.proofs.CheckLaws.{edition-back}
-use Rattle.records.specs.Records.{State}
+use Rattle.records.specs.Records.{State, paramCount}
 use Rattle.layout.specs.View.{stateOf}
-use Rattle.lookup.specs.Fresh.{madeOf, leftBy, madeNumber, madeValue}
+use Rattle.lookup.specs.Fresh.{madeOf, leftBy as freshLeft, madeNumber, madeValue}
 use Rattle.effects.specs.Actions.{numbersOf}
 use Rattle.answers.specs.Answers.{packed, answerCode, whyOr}
 use Rattle.rules.specs.Calls.{score}
 use Rattle.rules.specs.Step.{step}
+use Rattle.saves.specs.Load.{Loading, loaded, leftBy, loadOf}
 use Rattle.host_calls.specs.Host.{HostsFresh}
-use Rattle.call_lists.specs.Lists.{fresh, from-fresh, after}
+use Rattle.host_saves.specs.Saving.{HostsLoad}
+use Rattle.call_lists.specs.Lists.{Start, from-fresh, from-load, after}
+use Rattle.call_lists.specs.Demand3.{Accepted}
 use Rattle.call_lists.proofs.Demand3.{demand3}
-use Rattle.host_lists.specs.Hosted.{HostCall, made, Hosted, SameNumbers, EveryHostAgrees, EveryScoreAgrees}
+use Rattle.host_lists.specs.Hosted.{HostCall, made, OpenedFresh, OpenedLoad, Opened, by-fresh, by-load, Hosted, SameNumbers}
+use Rattle.host_lists.specs.Hosted.{EveryHostAgrees, EveryScoreAgrees}
+use Rattle.host_lists.proofs.Loads.{which, load-passes}
 
 -- 9 is not 0
 passes : (f : Found) → 0 ≡ packed (madeNumber (madeOf f)) (madeValue (madeOf f)) → f ≡ Nothing
 passes (At i) e = absurd (omega (arith, e))
 passes Nothing e = refl
 
-module _ (params : Params) where
-  -- the edition of the number that was called is the parameters'
-  made-fresh : (table : List ℕ) → Hosted params [] table → (was : List ℕ)
-      × HostsFresh (Known (params .edition)) (params .numbers) 0 was table
-  unfolding Hosted
-  made-fresh table p = rw (edition-back (params .edition)) at p
+-- ---- what the list starts from
+record Opens (start : Start) (table : List ℕ) : Type 0 where
+  accepted : Accepted start
+  state : stateOf table ≡ start .state
 
-  accepted : (calls : List HostCall) (table : List ℕ) → Hosted params calls table → firstBroken params ≡ Nothing
+module _ (start : Start) (size : length (start .params .numbers) ≡ paramCount) (table : List ℕ) where
+  abbrev all : Params
+  all = start .params
+
+  -- the edition of the number that was called is the parameters'
+  opens-fresh : OpenedFresh start table → Opens start table
+  opens-fresh p =
+      let m : HostsFresh (Known (all .edition)) (all .numbers) 0 (p .was) table = rw (edition-back (all .edition)) at (p .makes) in
+      let q = passes (firstBroken all) (m .answer) in
+      record {
+        accepted = record { size = size; passes = q; begins = from-fresh (p .begins) };
+        state = m .state ∙ ap (λ (f : Found). freshLeft f all (stateOf (p .was))) q ∙ sym (p .begins);
+      }
+
+  opens-load : OpenedLoad start table → Opens start table
+  opens-load p =
+      let m : HostsLoad (Known (all .edition)) (all .numbers) (p .clock) (p .bytes) 0 (p .was) table =
+      rw (edition-back (all .edition)) at (p .loads) in
+      let o = loadOf true all (p .clock) (p .bytes) in
+      let w = which o (m .answer) in
+      let e : w .0 ≡ start .state = sym (m .state ∙ ap (λ (l : Loading). leftBy l (stateOf (p .was))) (w .1)) ∙ sym (p .begins) in
+      record {
+        accepted = record {
+          size = size;
+          passes = load-passes all (p .clock) (p .bytes) true (m .answer) .1;
+          begins = from-load
+              (record { fine = true; clock = p .clock; bytes = p .bytes; byte = p .byte; load = w .1 ∙ ap loaded e });
+        };
+        state = sym (p .begins);
+      }
+
+  opens : Opened start table → Opens start table
+  opens (by-fresh p) = opens-fresh p
+  opens (by-load p) = opens-load p
+
+-- ---- every list
+module _ (start : Start) (size : length (start .params .numbers) ≡ paramCount) where
+  accepted : (calls : List HostCall) (table : List ℕ) → Hosted start calls table → Accepted start
   unfolding Hosted
-  accepted [] table p = passes (firstBroken params) (made-fresh table p .1 .answer)
+  accepted [] table p = opens start size table p .accepted
   accepted (c ∷ before) table p = accepted before (p .0) (p .1)
 
-  same-state : (calls : List HostCall) (table : List ℕ) → Hosted params calls table → stateOf table ≡ after (fresh params) (map made calls)
+  same-state : (calls : List HostCall) (table : List ℕ) → Hosted start calls table → stateOf table ≡ after start (map made calls)
   unfolding Hosted after
-  same-state [] table p =
-      let q = made-fresh table p .1 in
-      q .state ∙ ap (λ (f : Found). leftBy f params (stateOf (made-fresh table p .0))) (passes (firstBroken params) (q .answer))
+  same-state [] table p = opens start size table p .state
   same-state (c ∷ before) table p =
       p .2 .state ∙ ap (λ (st : State). step st (c .call) (length (c .list)) .state) (same-state before (p .0) (p .1))
 
-  same-numbers : (calls : List HostCall) (table : List ℕ) → Hosted params calls table → SameNumbers params calls
+  same-numbers : (calls : List HostCall) (table : List ℕ) → Hosted start calls table → SameNumbers start calls
   unfolding Hosted SameNumbers
   same-numbers [] table p = tt
   same-numbers (c ∷ before) table p =
@@ -60,14 +99,13 @@ module _ (params : Params) where
       )
 
 pub every-host-agrees : EveryHostAgrees
-every-host-agrees params calls table size p =
+every-host-agrees start calls table size p =
     record {
-      numbers = same-numbers params calls table p;
-      state = same-state params calls table p;
-      demand3 = demand3 (fresh params) (map made calls)
-          (record { size = size; passes = accepted params calls table p; begins = from-fresh refl });
+      numbers = same-numbers start size calls table p;
+      state = same-state start size calls table p;
+      demand3 = demand3 start (map made calls) (accepted start size calls table p);
     }
 
 pub every-score-agrees : EveryScoreAgrees
-every-score-agrees params calls table time id room why why′ size p e =
-    e ∙ ap (λ (st : State). whyOr (step st (score time id) room .answer) why) (same-state params calls table p)
+every-score-agrees start calls table time id room why why′ size p e =
+    e ∙ ap (λ (st : State). whyOr (step st (score time id) room .answer) why) (same-state start size calls table p)
