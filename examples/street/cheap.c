@@ -52,8 +52,8 @@ static void send_control(const struct target *target, const uint32_t *actions, s
 {
     static const uint8_t no_ids[1];
     static const uint64_t no_numbers[1], topics[] = { TOPIC, TOPIC }, join[] = { 1, TOPIC };
-    uint64_t r = hivepadlet_write_message(names, no_ids, 0, no_numbers, 0, no_numbers, 0, actions, 3 * count, topics, count, join, 2 * joins,
-                                          buffer, sizeof buffer);
+    uint64_t r = hivepadlet_write_message(names, no_ids, 0, no_numbers, 0, no_numbers, 0, actions, 3 * count, topics, count, join,
+                                          2 * joins, buffer, sizeof buffer);
     if (hivepadlet_number(r) != HIVEPADLET_DONE) {
         fail("a message was refused");
     }

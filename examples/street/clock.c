@@ -6,6 +6,7 @@
 
 #include "behaviours.h"
 
+#include <errno.h>
 #include <poll.h>
 #include <signal.h>
 #include <stdio.h>
@@ -30,7 +31,33 @@ _Noreturn void give_up(const char *why, uint32_t hub)
     exit(1);
 }
 
-/* ---- reports */
+/* ---- reports, and the last of them */
+
+void add_tally(uint64_t sum[TALLIES], const uint64_t tally[TALLIES])
+{
+    uint64_t most = sum[MOST_REPLIES] > tally[MOST_REPLIES] ? sum[MOST_REPLIES] : tally[MOST_REPLIES];
+    for (int i = 0; i < TALLIES; i++) {
+        sum[i] += tally[i];
+    }
+    sum[MOST_REPLIES] = most;
+}
+
+/* a process that has ended, or is about to; by a signal, from whomever, is as good as any, but not by a failure of its own */
+static void bury(struct process *p, uint64_t time)
+{
+    int status = 0;
+    waitpid(p->pid, &status, 0);
+    close(p->control);
+    p->up = false;
+    p->lives[p->life_count - 1].until = time;
+    add_tally(p->before, p->tally);
+    if (WIFEXITED(status) && WEXITSTATUS(status) != 0) {
+        give_up("a hub has failed", p->id);
+    }
+    if (!p->ending) {
+        take_end(p, time);
+    }
+}
 
 /* counts a frame that is on its way, where its receiver is there still */
 static void count_parcel(const struct parcel *parcel)
@@ -64,7 +91,8 @@ static void take_report(struct process *p, uint64_t time)
             give_up(ready < 0 ? "stopped" : "no report", p->id);
         }
         if (recv(p->control, &report, sizeof report, 0) < (ssize_t)offsetof(struct report, parcel)) {
-            give_up("a process has ended by itself", p->id);
+            bury(p, time); /* killed */
+            return;
         }
         p->next = report.next;
         p->address = report.address;
@@ -78,6 +106,9 @@ static void take_report(struct process *p, uint64_t time)
             take_note(p, &report.note[i], time);
         }
     } while (report.more);
+    if (report.last) {
+        bury(p, time);
+    }
 }
 
 /* ---- processes */
@@ -128,27 +159,10 @@ void start_process(struct process *p, uint64_t time, uint64_t seed, uint64_t run
         give_up("no process could be started", p->id);
     }
     p->up = true;
+    p->ending = false;
     p->count = p->coming_count = 0;
     p->lives[p->life_count++] = (struct life){ time, UINT64_MAX };
     take_report(p, time);
-}
-
-void add_tally(uint64_t sum[TALLIES], const uint64_t tally[TALLIES])
-{
-    uint64_t most = sum[MOST_REPLIES] > tally[MOST_REPLIES] ? sum[MOST_REPLIES] : tally[MOST_REPLIES];
-    for (int i = 0; i < TALLIES; i++) {
-        sum[i] += tally[i];
-    }
-    sum[MOST_REPLIES] = most;
-}
-
-static void bury(struct process *p, uint64_t time)
-{
-    waitpid(p->pid, NULL, 0);
-    close(p->control);
-    p->up = false;
-    p->lives[p->life_count - 1].until = time;
-    add_tally(p->before, p->tally);
 }
 
 /* the hub last heard the time when it was woken; an order brings it up to now before it saves */
@@ -157,13 +171,16 @@ void terminate_process(struct process *p, uint64_t time)
     arrive(p, time);
     order_process(p, STEP, 0, time);
     take_report(p, time);
-    kill(p->pid, SIGTERM);
-    take_report(p, time);
-    bury(p, time);
+    if (p->up) {
+        p->ending = true;
+        kill(p->pid, SIGTERM);
+        take_report(p, time);
+    }
 }
 
 void kill_process(struct process *p, uint64_t time)
 {
+    p->ending = true;
     kill(p->pid, SIGKILL);
     bury(p, time);
 }
@@ -185,10 +202,11 @@ void end_processes(void)
 
 /* ---- orders */
 
+/* where the hub has ended, the next report tells */
 static void send_order(const struct process *p, const struct order *order)
 {
-    if (send(p->control, order, sizeof *order, MSG_NOSIGNAL) != (ssize_t)sizeof *order) {
-        give_up("a process has ended by itself", p->id);
+    if (send(p->control, order, sizeof *order, MSG_NOSIGNAL) < 0 && errno != EPIPE && errno != ECONNRESET) {
+        give_up("an order was not sent", p->id);
     }
 }
 

@@ -22,6 +22,7 @@ struct life {
 struct process {
     uint32_t id, ip;
     bool up;
+    bool ending; /* the clock has told it to end */
     pid_t pid;
     int control;
     struct address address;
@@ -41,6 +42,9 @@ extern size_t process_count;
 
 /* What a note means is the caller's: it has this function. */
 void take_note(struct process *process, const struct note *note, uint64_t time);
+
+/* A hub has ended that nobody here told to: the caller's too. */
+void take_end(const struct process *process, uint64_t time);
 
 /* Ends all processes and this program. */
 _Noreturn void give_up(const char *why, uint32_t hub);

@@ -32,7 +32,6 @@ static struct {
 
 static size_t book_length;
 static uint64_t next_heartbeat;
-static bool loaded;
 
 struct peer *peer_of(uint32_t id)
 {
@@ -91,7 +90,7 @@ static bool open_peer(struct peer *peer)
     is_done(r);
     peer->state = OPEN;
     peer->heard = now;
-    if (loaded) {
+    if (hub.start->life > 0) {
         tell(RETURNED, peer->id, thousandths(peer));
     }
     return true;
@@ -268,7 +267,7 @@ static void begin(const struct start *start)
     hub.dice.state = mix(start->seed ^ mix((uint64_t)start->id << 32 | start->life));
     hivepadlet_ordinary(numbers);
     hivepadlet_ordinary_setup(setup);
-    loaded = load(numbers, setup);
+    bool loaded = load(numbers, setup);
     if (!name_topics() || (!loaded && !is_done(hivepadlet_gossip_fresh(numbers, HIVEPADLET_EDITION_1, setup, hub.table, hub.gossip)))) {
         fail("the parameters or the topic's name are refused");
     }

@@ -41,7 +41,7 @@ enum note_kind {
     SAVED,    /* the number of bytes */
     LOADED,   /* the number of bytes */
     BELOW,    /* at a save: a peer below zero; the score in thousandths */
-    RETURNED, /* a peer connected after a load; the score in thousandths */
+    RETURNED, /* a peer connected to a hub that was restarted; the score in thousandths */
     SCORE,    /* a peer; the score in thousandths */
     MEMBER    /* a peer in the mesh */
 };
@@ -78,6 +78,7 @@ enum { MOST_NOTES = 64, MOST_PARCELS = 256 };
 struct report {
     uint64_t next; /* when the hub wants to be woken, if nothing comes before */
     uint32_t more; /* 1: another report of this step follows */
+    uint32_t last; /* 1: the hub has saved, and ends */
     uint32_t notes, parcels;
     struct address address;
     uint64_t tally[TALLIES];

@@ -94,6 +94,7 @@ static void stop_if_told(void)
 {
     if (stopping) {
         does->stop();
+        report.last = 1;
         send_report(0);
         _exit(0);
     }

@@ -3,8 +3,8 @@
  *
  *     street [--hubs N] [--cheap N] [--seconds N] [--seed N] [--pace]
  *
- * Everything happens at fixed parts of the run, so that a short run has all of it; which hubs it happens to is drawn from the seed. Two runs
- * with the same numbers print the same. The exit status is 0 where all that has to hold did.
+ * Everything happens at fixed parts of the run, so that a short run has all of it; which hubs it happens to is drawn from the seed. Two
+ * runs with the same numbers print the same. The exit status is 0 where all that has to hold did.
  */
 #define _POSIX_C_SOURCE 200809L
 #include "report.h"
@@ -19,7 +19,7 @@
 #include <time.h>
 #include <unistd.h>
 
-enum { HONEST_NET = 0x7F010001, CROWD_NET = 0x7F420600, GAP_MS = 40, PARTS = 600 };
+enum { HONEST_NET = 0x7F010001, CROWD_NET = 0x7F420600, PARTS = 600, MOST_TURNS = 1000 };
 
 enum event_kind { CROWD, NOTICE, TERMINATE, LOSE_POWER, RETURN, RESTART };
 
@@ -42,19 +42,17 @@ static volatile sig_atomic_t interrupted;
 
 /* ---- what happens */
 
-static struct process *random_hub(void)
+/* one that is up, and settled where a time is given; never the corner house, whose scores are shown. NULL where there is none */
+static struct process *random_hub(const uint64_t *settled)
 {
-    return &processes[random_below(&dice, settings.hubs)];
-}
-
-/* one that is up for a while; never the corner house, whose scores are shown */
-static struct process *random_victim(void)
-{
-    struct process *p = random_hub();
-    while (!p->up || p == &processes[0]) {
-        p = random_hub();
+    struct process *fit[MOST_HUBS];
+    size_t count = 0;
+    for (size_t i = 1; i < settings.hubs; i++) {
+        if (processes[i].up && (settled == NULL || has_been_up(&processes[i], *settled))) {
+            fit[count++] = &processes[i];
+        }
     }
-    return p;
+    return count == 0 ? NULL : fit[random_below(&dice, count)];
 }
 
 static size_t share(size_t of)
@@ -71,14 +69,14 @@ static void begin_process(struct process *p, uint64_t time)
 
 static void end_some(uint64_t time, enum event_kind kind)
 {
-    struct process *chosen[MOST_HUBS];
-    size_t count = share(kind == TERMINATE ? 10 : 30);
-    for (size_t i = 0; i < count; i++) {
-        chosen[i] = random_victim();
+    struct process *chosen[MOST_HUBS], *p;
+    size_t count = 0, wanted = share(kind == TERMINATE ? 10 : 30);
+    while (count < wanted && (p = random_hub(NULL)) != NULL) {
+        chosen[count++] = p;
         if (kind == LOSE_POWER) {
-            kill_process(chosen[i], time);
+            kill_process(p, time);
         } else {
-            terminate_process(chosen[i], time);
+            terminate_process(p, time);
         }
     }
     tell_ended(time, chosen, count, kind == LOSE_POWER);
@@ -106,11 +104,10 @@ static void dial_in(uint64_t time)
 
 static void publish(uint64_t time)
 {
-    struct process *p = random_victim();
-    while (!has_been_up(p, time)) {
-        p = random_victim();
+    struct process *p = random_hub(&time);
+    if (p != NULL) {
+        order_process(p, PUBLISH, begin_notice(p, time), time);
     }
-    order_process(p, PUBLISH, begin_notice(p, time), time);
 }
 
 static void happen(const struct event *event, uint64_t time)
@@ -151,6 +148,18 @@ static void keep_pace(uint64_t time)
     clock_nanosleep(CLOCK_MONOTONIC, TIMER_ABSTIME, &until, NULL);
 }
 
+/* a hub that wakes again and again at one time would hold all others */
+static void watch_progress(uint64_t time)
+{
+    static uint64_t last;
+    static unsigned turns;
+    turns = time == last ? turns + 1 : 0;
+    if (time < last || turns > MOST_TURNS) {
+        give_up("the time does not go on", 0);
+    }
+    last = time;
+}
+
 static void run_street(void)
 {
     const uint64_t end = settings.seconds * 1000;
@@ -164,6 +173,7 @@ static void run_street(void)
         if (time > end) {
             break;
         }
+        watch_progress(time);
         keep_pace(time);
         if (event == time) {
             happen(&events[i++], time);
@@ -172,7 +182,9 @@ static void run_street(void)
         }
     }
     for (size_t h = 0; h < settings.hubs; h++) {
-        order_process(&processes[h], SCORES, 0, end);
+        if (processes[h].up) {
+            order_process(&processes[h], SCORES, 0, end);
+        }
     }
     step_processes(end);
 }
