@@ -2,7 +2,8 @@
  * cheap.c: the crowd: hubs that dial in from one address group and do no work. No router runs here.
  *
  * One kind sends PRUNE and GRAFT again and again, so that each GRAFT falls into its own backoff; one publishes notices without a proper
- * seal; one asks for every notice that it hears of, many times a second; one takes its place in the mesh and passes nothing on.
+ * seal, and bytes that are nothing; one asks for every notice that it hears of, again and again; one takes its place in the mesh and
+ * passes nothing on.
  */
 #include "behaviours.h"
 
@@ -13,7 +14,7 @@
 #include <stdbool.h>
 #include <string.h>
 
-enum { TARGETS = 8, CORNER_HOUSE = 1, JUNK_MS = 400, AGAIN_MS = 1000, MOST_KNOWN = 8, LEAVE_SECONDS = 10, MOST_HUBS = 256 };
+enum { TARGETS = 8, CORNER_HOUSE = 1, JUNK_MS = 400, AGAIN_MS = 1000, MOST_KNOWN = 8, LEAVE_SECONDS = 10, MOST_HUBS = 256, NONSENSE = 4 };
 
 static struct target {
     uint32_t id;
@@ -70,6 +71,19 @@ static void send_iwant(const struct target *target)
     send_to(target, RPC, count == 0 ? 0 : write_iwant(ids, count, buffer, sizeof buffer));
 }
 
+/* a notice without a proper seal, or any bytes */
+static size_t write_lie(void)
+{
+    size_t length = 1 + random_below(&dice, JUNK_BYTES);
+    if (random_below(&dice, NONSENSE) > 0) {
+        return write_notice(self->id, ++seqno, 0, JUNK_BYTES, mix(self->run), buffer, sizeof buffer);
+    }
+    for (size_t i = 0; i < length; i++) {
+        buffer[i] = (uint8_t)random_below(&dice, 256);
+    }
+    return length;
+}
+
 static void send_junk(const struct target *target)
 {
     const uint32_t prune[] = { HIVEPADLET_PRUNE, target->id, LEAVE_SECONDS }, graft[] = { HIVEPADLET_GRAFT, target->id, 0 };
@@ -79,7 +93,7 @@ static void send_junk(const struct target *target)
         send_control(target, graft, 1, 0);
         break;
     case LIES:
-        send_to(target, RPC, write_notice(self->id, ++seqno, 0, JUNK_BYTES, mix(self->run), buffer, sizeof buffer));
+        send_to(target, RPC, write_lie());
         break;
     case ASKS:
         send_iwant(target);

@@ -59,8 +59,8 @@ static void bury(struct process *p, uint64_t time)
     }
 }
 
-/* counts a frame that is on its way, where its receiver is there still */
-static void count_parcel(const struct parcel *parcel)
+/* counts a frame that is on its way, where its receiver is there still. One of a hub that ended unasked may be late, and is there at once */
+static void count_parcel(const struct parcel *parcel, uint64_t time)
 {
     size_t i = 0;
     while (i < process_count && processes[i].ip != parcel->to.ip) {
@@ -77,7 +77,7 @@ static void count_parcel(const struct parcel *parcel)
             give_up("no memory", 0);
         }
     }
-    p->coming[p->coming_count++] = parcel->at;
+    p->coming[p->coming_count++] = parcel->at < time ? time : parcel->at;
 }
 
 /* one report, and those that belong to it */
@@ -100,7 +100,7 @@ static void take_report(struct process *p, uint64_t time)
             p->tally[i] = report.tally[i];
         }
         for (uint32_t i = 0; i < report.parcels; i++) {
-            count_parcel(&report.parcel[i]);
+            count_parcel(&report.parcel[i], time);
         }
         for (uint32_t i = 0; i < report.notes; i++) {
             take_note(p, &report.note[i], time);

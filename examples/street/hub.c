@@ -43,11 +43,12 @@ struct peer *peer_of(uint32_t id)
     return NULL;
 }
 
-static int64_t thousandths(const struct peer *peer)
+/* a peer's score, and that of its record alone, which a save holds: without its address group. In thousandths */
+static int64_t score_of(const struct peer *peer, bool of_record)
 {
     int64_t why[HIVEPADLET_WHY_NUMBERS] = { 0 };
     is_done(hivepadlet_score(ROUTER, peer->id, why, LIST));
-    return why[HIVEPADLET_WHY_SCORE] / (HIVEPADLET_POINT / 1000);
+    return (why[HIVEPADLET_WHY_SCORE] - (of_record ? why[HIVEPADLET_WHY_P6] : 0)) / (HIVEPADLET_POINT / 1000);
 }
 
 /* ---- connections */
@@ -91,7 +92,7 @@ static bool open_peer(struct peer *peer)
     peer->state = OPEN;
     peer->heard = now;
     if (hub.start->life > 0) {
-        tell(RETURNED, peer->id, thousandths(peer));
+        tell(RETURNED, peer->id, score_of(peer, true));
     }
     return true;
 }
@@ -228,6 +229,18 @@ static void heartbeat(void)
     announce(permutation);
 }
 
+/* a hub that was restarted tells when it first has a peer in its mesh */
+static void tell_back(void)
+{
+    static bool told;
+    for (size_t i = 0; i < MOST_PEERS && hub.start->life > 0 && !told; i++) {
+        if (hub.peers[i].mesh) {
+            tell(BACK, hub.start->id, (int64_t)uptime());
+            told = true;
+        }
+    }
+}
+
 static uint64_t work(void)
 {
     if (now == hub.start->time) {
@@ -237,6 +250,7 @@ static uint64_t work(void)
         heartbeat();
         next_heartbeat += HEARTBEAT_MS;
     }
+    tell_back();
     uint64_t idle = send_waiting();
     return idle < next_heartbeat ? idle : next_heartbeat;
 }
@@ -294,8 +308,8 @@ static void stop(void)
 {
     for (size_t i = 0; i < MOST_PEERS; i++) {
         struct peer *peer = &hub.peers[i];
-        if (peer->state == OPEN && thousandths(peer) < 0) {
-            tell(BELOW, peer->id, thousandths(peer));
+        if (peer->state == OPEN && score_of(peer, true) < 0) {
+            tell(BELOW, peer->id, score_of(peer, true));
         }
         if (peer->state == OPEN) {
             send_word(peer->address, peer->id, BYE);
@@ -309,7 +323,7 @@ static void tell_scores(void)
     for (size_t i = 0; i < MOST_PEERS; i++) {
         struct peer *peer = &hub.peers[i];
         if (peer->state == OPEN) {
-            tell(SCORE, peer->id, thousandths(peer));
+            tell(SCORE, peer->id, score_of(peer, false));
         }
         if (peer->state == OPEN && peer->mesh) {
             tell(MEMBER, peer->id, 0);

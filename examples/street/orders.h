@@ -40,8 +40,9 @@ enum note_kind {
     HEARD,    /* a notice came, the first time: its number; value 1 where it was asked for by IWANT */
     SAVED,    /* the number of bytes */
     LOADED,   /* the number of bytes */
-    BELOW,    /* at a save: a peer below zero; the score in thousandths */
-    RETURNED, /* a peer connected to a hub that was restarted; the score in thousandths */
+    BELOW,    /* at a save: a peer whose record is below zero; in thousandths */
+    RETURNED, /* a peer connected to a hub that was restarted; its record's score in thousandths */
+    BACK,     /* a hub that was restarted is in a mesh again; milliseconds since its start */
     SCORE,    /* a peer; the score in thousandths */
     MEMBER    /* a peer in the mesh */
 };

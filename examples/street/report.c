@@ -38,7 +38,7 @@ static struct notice notices[MOST_NOTICES];
 static uint32_t notice_count;
 static struct memory memories[MOST_MEMORIES];
 static size_t memory_count;
-static struct range saves, corner[CHEAP_KINDS], elsewhere[CHEAP_KINDS], among_honest, mesh_sizes;
+static struct range saves, back, corner[CHEAP_KINDS], elsewhere[CHEAP_KINDS], among_honest, mesh_sizes;
 static size_t loads, places[CHEAP_KINDS], members[MOST_HUBS], failures;
 
 static void widen(struct range *range, int64_t value)
@@ -105,6 +105,9 @@ void take_note(struct process *process, const struct note *note, uint64_t time)
     case RETURNED:
         note_return(process, note);
         break;
+    case BACK:
+        widen(&back, note->value);
+        break;
     case SCORE:
         note_score(hub, note);
         break;
@@ -141,6 +144,9 @@ void tell_crowd(uint64_t time)
 
 void tell_ended(uint64_t time, struct process *const *ended, size_t count, bool power)
 {
+    if (count == 0) {
+        return;
+    }
     say_time(time);
     printf("%zu %s %s", count, count == 1 ? "hub" : "hubs", power ? "lost power (SIGKILL):" : "stopped (SIGTERM):");
     for (size_t i = 0; i < count; i++) {
@@ -157,8 +163,10 @@ void tell_ended(uint64_t time, struct process *const *ended, size_t count, bool 
 
 void tell_returned(uint64_t time, size_t count)
 {
-    say_time(time);
-    printf("%zu started again, %zu of them from a save\n", count, loads);
+    if (count > 0) {
+        say_time(time);
+        printf("%zu started again, %zu of them from a save\n", count, loads);
+    }
     loads = 0;
 }
 
@@ -242,14 +250,14 @@ static void print_range(const struct range *range)
     } else if (range->count > 0) {
         snprintf(text, sizeof text, "%.1f to %.1f", (double)range->least / 1000, (double)range->most / 1000);
     }
-    printf("  %20s", text);
+    printf("  %22s", text);
 }
 
 static void print_crowd(void)
 {
     static const char *const does[CHEAP_KINDS] = { "sends GRAFT in its backoff", "sends invalid notices", "asks for everything",
                                                    "only listens" };
-    printf("a cheap hub that            scored by the corner       and by the others  places in meshes\n");
+    printf("%-30s  %22s  %22s  %16s\n", "a cheap hub that", "scored by hub 1", "by the other hubs", "places in meshes");
     for (int i = 0; i < CHEAP_KINDS; i++) {
         printf("%-30s", does[i]);
         print_range(&corner[i]);
@@ -275,11 +283,13 @@ static void sum_tallies(uint64_t sum[TALLIES])
 
 static void print_bytes(const uint64_t sum[TALLIES])
 {
+    printf("Hubs that started again were in a mesh after %" PRId64 " to %" PRId64 " ms.\n", back.least, back.most);
     printf("Copies: %" PRIu64 " sent along meshes, %.1f MB, of which %" PRIu64 " came to a hub that had it; %" PRIu64 " sent by IWANT.\n",
            sum[COPIES], (double)sum[COPY_BYTES] / 1e6, sum[AGAIN], sum[REPLIES]);
     printf("IDONTWANT: %" PRIu64 " sent, %.1f KB; they spared %" PRIu64 " copies, %.1f MB.\n", sum[IDONTWANTS],
            (double)sum[IDONTWANT_BYTES] / 1e3, sum[SPARED], (double)sum[SPARED_BYTES] / 1e6);
-    printf("The crowd asked %" PRIu64 " times by IWANT and drew %" PRIu64 " replies, at most %" PRIu64 " for one notice from one hub.\n",
+    printf("The crowd sent %" PRIu64 " invalid notices, and %" PRIu64 " RPCs that are no protobuf.\n", sum[INVALID], sum[BROKEN]);
+    printf("It asked %" PRIu64 " times by IWANT and drew %" PRIu64 " replies, at most %" PRIu64 " for one notice from one hub.\n",
            sum[CROWD_ASKED], sum[CROWD_REPLIES], sum[MOST_REPLIES]);
 }
 

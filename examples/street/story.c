@@ -42,12 +42,13 @@ static volatile sig_atomic_t interrupted;
 
 /* ---- what happens */
 
-/* one that is up, and settled where a time is given; never the corner house, whose scores are shown. NULL where there is none */
+/* one that is up; where a time is given, settled by then, to publish, else to be ended, but not the corner house, whose scores are shown.
+ * NULL where there is none */
 static struct process *random_hub(const uint64_t *settled)
 {
     struct process *fit[MOST_HUBS];
     size_t count = 0;
-    for (size_t i = 1; i < settings.hubs; i++) {
+    for (size_t i = settled == NULL ? 1 : 0; i < settings.hubs; i++) {
         if (processes[i].up && (settled == NULL || has_been_up(&processes[i], *settled))) {
             fit[count++] = &processes[i];
         }
@@ -251,7 +252,7 @@ static void read_settings(int count, char **words)
             settings.pace = true;
             continue;
         } else if (strcmp(words[i], "--hubs") == 0) {
-            settings.hubs = read_number(value, 8, MOST_HUBS);
+            settings.hubs = read_number(value, 3, MOST_HUBS);
         } else if (strcmp(words[i], "--cheap") == 0) {
             settings.cheap = read_number(value, 0, MOST_CROWD);
         } else if (strcmp(words[i], "--seconds") == 0) {
@@ -259,7 +260,7 @@ static void read_settings(int count, char **words)
         } else if (strcmp(words[i], "--seed") == 0) {
             settings.seed = read_number(value, 0, UINT64_MAX);
         } else {
-            fprintf(stderr, "usage: street [--hubs 8..200] [--cheap 0..64] [--seconds 15..3600] [--seed N] [--pace]\n");
+            fprintf(stderr, "usage: street [--hubs 3..200] [--cheap 0..64] [--seconds 15..3600] [--seed N] [--pace]\n");
             exit(2);
         }
         i++;
