@@ -289,7 +289,7 @@ static void print_bytes(const uint64_t sum[TALLIES])
     printf("IDONTWANT: %" PRIu64 " sent, %.1f KB; they spared %" PRIu64 " copies, %.1f MB.\n", sum[IDONTWANTS],
            (double)sum[IDONTWANT_BYTES] / 1e3, sum[SPARED], (double)sum[SPARED_BYTES] / 1e6);
     printf("The crowd sent %" PRIu64 " invalid notices, and %" PRIu64 " RPCs that are no protobuf.\n", sum[INVALID], sum[BROKEN]);
-    printf("It asked %" PRIu64 " times by IWANT and drew %" PRIu64 " replies, at most %" PRIu64 " for one notice from one hub.\n",
+    printf("The crowd asked %" PRIu64 " times by IWANT and drew %" PRIu64 " replies, at most %" PRIu64 " for one notice from one hub.\n",
            sum[CROWD_ASKED], sum[CROWD_REPLIES], sum[MOST_REPLIES]);
 }
 
