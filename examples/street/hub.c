@@ -10,7 +10,6 @@
 #include "notice.h"
 
 #include <stdio.h>
-#include <string.h>
 
 enum {
     DIALS = 5,            /* connections that the hub keeps up by itself */
@@ -157,27 +156,22 @@ static void take(const struct frame *frame)
     }
 }
 
-static bool is_listed(size_t i)
-{
-    return peer_of(book[i].id) == NULL;
-}
-
 /* dials hubs of the book until there are enough; who does not answer is dropped at the next heartbeat */
 static void dial_more(void)
 {
-    size_t outbound = 0, left = 0, free_ones[MOST_BOOK];
+    size_t outbound = 0, left = 0, strangers[MOST_BOOK];
     for (size_t i = 0; i < MOST_PEERS; i++) {
         outbound += hub.peers[i].state != ABSENT && hub.peers[i].outbound;
     }
     for (size_t i = 0; i < book_length; i++) {
-        if (is_listed(i)) {
-            free_ones[left++] = i;
+        if (peer_of(book[i].id) == NULL) {
+            strangers[left++] = i;
         }
     }
     for (; outbound < DIALS && left > 0; outbound++) {
         size_t chosen = random_below(&hub.dice, left);
-        size_t i = free_ones[chosen];
-        free_ones[chosen] = free_ones[--left];
+        size_t i = strangers[chosen];
+        strangers[chosen] = strangers[--left];
         if (new_peer(book[i].id, book[i].address, true) != NULL) {
             send_word(book[i].address, book[i].id, DIAL);
         }

@@ -63,7 +63,6 @@ enum tally {
     SPARED,          /* copies that were not sent because of an IDONTWANT */
     SPARED_BYTES,
     IHAVES,          /* sent */
-    IWANTS,          /* sent */
     REPLIES,         /* notices sent for an IWANT */
     CROWD_ASKED,     /* ids in IWANTs of the crowd */
     CROWD_REPLIES,

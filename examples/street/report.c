@@ -284,11 +284,13 @@ static void sum_tallies(uint64_t sum[TALLIES])
 static void print_bytes(const uint64_t sum[TALLIES])
 {
     printf("Hubs that started again were in a mesh after %" PRId64 " to %" PRId64 " ms.\n", back.least, back.most);
-    printf("Copies: %" PRIu64 " sent along meshes, %.1f MB, of which %" PRIu64 " came to a hub that had it; %" PRIu64 " sent by IWANT.\n",
-           sum[COPIES], (double)sum[COPY_BYTES] / 1e6, sum[AGAIN], sum[REPLIES]);
+    printf("Copies: %" PRIu64 " sent along meshes, %.1f MB, and %" PRIu64 " by IWANT, after %" PRIu64 " IHAVEs; %" PRIu64
+           " came to a hub that had it.\n",
+           sum[COPIES], (double)sum[COPY_BYTES] / 1e6, sum[REPLIES], sum[IHAVES], sum[AGAIN]);
     printf("IDONTWANT: %" PRIu64 " sent, %.1f KB; they spared %" PRIu64 " copies, %.1f MB.\n", sum[IDONTWANTS],
            (double)sum[IDONTWANT_BYTES] / 1e3, sum[SPARED], (double)sum[SPARED_BYTES] / 1e6);
-    printf("The crowd sent %" PRIu64 " invalid notices, and %" PRIu64 " RPCs that are no protobuf.\n", sum[INVALID], sum[BROKEN]);
+    printf("The crowd sent %" PRIu64 " invalid notices and %" PRIu64 " RPCs that are no protobuf; the routers ignored %" PRIu64 " calls.\n",
+           sum[INVALID], sum[BROKEN], sum[IGNORED]);
     printf("The crowd asked %" PRIu64 " times by IWANT and drew %" PRIu64 " replies, at most %" PRIu64 " for one notice from one hub.\n",
            sum[CROWD_ASKED], sum[CROWD_REPLIES], sum[MOST_REPLIES]);
 }

@@ -19,7 +19,7 @@
 #include <time.h>
 #include <unistd.h>
 
-enum { HONEST_NET = 0x7F010001, CROWD_NET = 0x7F420600, PARTS = 600, MOST_TURNS = 1000 };
+enum { HONEST_NET = 0x7F010001, CROWD_NET = 0x7F420600, PARTS = 600, MOST_TURNS = 1000, MOST_FOLDER = 160 };
 
 enum event_kind { CROWD, NOTICE, TERMINATE, LOSE_POWER, RETURN, RESTART };
 
@@ -37,7 +37,7 @@ enum { EVENTS = sizeof events / sizeof events[0] };
 static struct settings settings = { .hubs = 60, .cheap = 24, .seconds = 60, .seed = 1 };
 static struct dice dice;
 static uint64_t run;
-static char folder[MOST_PATH];
+static char folder[MOST_FOLDER];
 static volatile sig_atomic_t interrupted;
 
 /* ---- what happens */
@@ -213,7 +213,7 @@ static void make_folder(void)
 {
     const char *where = getenv("TMPDIR");
     int length = snprintf(folder, sizeof folder, "%s/street.XXXXXX", where == NULL || *where == 0 ? "/tmp" : where);
-    if (length < 0 || (size_t)length + sizeof "/hub-9999.save" > sizeof folder || mkdtemp(folder) == NULL) {
+    if (length < 0 || (size_t)length >= sizeof folder || mkdtemp(folder) == NULL) {
         fprintf(stderr, "street: no folder for the saves in %s\n", where == NULL ? "/tmp" : where);
         exit(1);
     }
@@ -229,7 +229,7 @@ static void make_processes(void)
         uint32_t nth = (uint32_t)(honest_one ? i + 1 : i - settings.hubs + 1);
         processes[i].id = honest_one ? nth : FIRST_CHEAP - 1 + nth;
         processes[i].ip = honest_one ? HONEST_NET + (nth << 8) : CROWD_NET + nth;
-        snprintf(processes[i].save, sizeof processes[i].save, "%.150s/hub-%u.save", folder, (unsigned)processes[i].id);
+        snprintf(processes[i].save, sizeof processes[i].save, "%s/hub-%u.save", folder, (unsigned)processes[i].id);
     }
 }
 

@@ -11,12 +11,17 @@
 #include "notice.h"
 
 #include <stdio.h>
-#include <stdlib.h>
 #include <string.h>
 
-enum { BYTES_IN_A_MILLISECOND = 250, NEAR_MS = 500, ASK_AGAIN_MS = 1500, MOST_LEARNED = 16, MOST_QUEUE = 64, MOST_CONTROL_BYTES = 16384 };
+enum {
+    BYTES_IN_A_MILLISECOND = 250, /* of the line */
+    NEAR_MS = 500,                /* for which a message that comes again counts as near first */
+    ASK_AGAIN_MS = 1500,          /* after which a message that did not come is asked for again */
+    MOST_LEARNED = 16,            /* new ids that a peer may name between two heartbeats */
+    MOST_QUEUE = 64
+};
 
-/* a notice that goes to the mesh, or to one peer that asked for it */
+/* a notice that goes along the mesh */
 struct outgoing {
     struct row *row;
     uint32_t sender;        /* 0: ourselves */
@@ -26,7 +31,7 @@ struct outgoing {
 
 static struct outgoing queue[MOST_QUEUE];
 static size_t queued;
-static uint8_t buffer[MOST_CONTROL_BYTES];
+static uint8_t buffer[HIVEPADLET_MESSAGE_BYTES];
 static uint64_t entries[HIVEPADLET_ENTRY_NUMBERS];
 static uint64_t numbers[HIVEPADLET_MESSAGE_NUMBERS];
 
@@ -229,7 +234,7 @@ void announce(const uint64_t permutation[HIVEPADLET_SLOTS])
     }
 }
 
-/* the row of an id that a peer names. A peer may name few new ones between two heartbeats: the rows are for all */
+/* the row of an id that a peer names; the rows are for all peers, so that each may fill few */
 static struct row *learn(struct peer *peer, struct span id)
 {
     struct row *row = find_row(id);
@@ -273,7 +278,6 @@ static void take_ihave(struct peer *peer, struct span ihave)
         }
     }
     if (wanted > 0) {
-        tally[IWANTS]++;
         send_small(peer, write_iwant(ids, wanted, buffer, sizeof buffer));
     }
 }
