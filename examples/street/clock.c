@@ -59,7 +59,8 @@ static void bury(struct process *p, uint64_t time)
     }
 }
 
-/* counts a frame that is on its way, where its receiver is there still. One of a hub that ended unasked may be late, and is there at once */
+/* counts a frame that is on its way, where its receiver is there still; one of a hub that ended unasked may be late, and is there at
+ * once */
 static void count_parcel(const struct parcel *parcel, uint64_t time)
 {
     size_t i = 0;
