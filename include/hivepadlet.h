@@ -15,7 +15,7 @@
  *     if (hivepadlet_number(r) == HIVEPADLET_DONE) ...
  *
  * examples/three_hubs.c is a whole host; examples/power_cycle.c keeps what it remembers over a loss of power;
- * examples/large_message.c and examples/gossip_news.c send IDONTWANT, IHAVE and IWANT.
+ * examples/large_message.c and examples/gossip_news.c send IDONTWANT, IHAVE and IWANT; examples/street does all of it over sockets.
  *
  * WHAT EVERY CALL PROMISES
  *
