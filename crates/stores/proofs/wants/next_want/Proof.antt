@@ -13,19 +13,23 @@ element-copy-out-if1 c =
     omega arith
 
 returns : tie.Need-returns
-returns c = next-known _ _ _ _ _ _ (c .before .before .before .before .before .pre .0) (c .before .before .place-of .ensures .0) (c .if1 .taken)
+returns c =
+    let p = c .before .before in
+    next-known _ _ _ _ _ _ (p .before .before .before .pre .0) (p .place-of .ensures .0) (c .if1 .taken)
 
 element-write-known : tie.Need-element-write-known
 element-write-known c =
-    let g = c .before .before .before .before .before .pre in
-    let low = place-low _ (g .0 .order) _ _ (g .1 .0) (c .before .before .place-of .ensures .0) in
+    let p = c .before .before in
+    let g = p .before .before .before .pre in
+    let low = place-low _ (g .0 .order) _ _ (g .1 .0) (p .place-of .ensures .0) in
     let few = g .0 .few in
     omega arith
 
 returns-2 : tie.Need-returns-2
 returns-2 c =
-    let g = c .before .before .before .before .before .pre in
-    next-new _ _ _ _ _ _ (g .0) (c .before .before .place-of .ensures .0) (g .1 .0) (c .if1 .left)
+    let p = c .before .before in
+    let g = p .before .before .before .pre in
+    next-new _ _ _ _ _ _ (g .0) (p .place-of .ensures .0) (g .1 .0) (c .if1 .left)
 
 pub next-want-spec : {M : Type 1} → statement M
 next-want-spec =

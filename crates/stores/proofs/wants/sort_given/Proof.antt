@@ -10,9 +10,12 @@ use Rattle.stores.proofs.wants.sort_given.Tie as tie
 
 returns : tie.Need-returns
 returns c =
-    let s = c .before .before .before .before .before .before .before .before .before .before .before .before in
+    let o = c .before .before .before in
+    let k = o .before .before .before .before .before in
+    let s = k .before .before .before .before in
     let e = s .pre .1 in
-    c .before .before .before .sort .ensures ∙ ap sorted (c .before .before .before .before .before .before .before .before .copy .ensures ∙ take-all (length (s .args .rising .now)) (s .args .numbers .now) (omega arith))
+    o .sort .ensures
+    ∙ ap sorted (k .copy .ensures ∙ take-all (length (s .args .rising .now)) (s .args .numbers .now) (omega arith))
 
 pub sort-given-spec : {M : Type 1} → statement M
 sort-given-spec =

@@ -3,10 +3,8 @@
 use Prim.Native.Nat.{_-_, _≤_}
 use native.Mathlib.Omega.{arith}
 use mathlib.Core.List.{[]}
-use mathlib.Core.Path.{_≡_}
 use lib.ListN.{length, take}
 use borrow.Author.Needs.{needs}
-use Rattle.sorting.specs.Sorting.{sorted}
 use Rattle.gossip.specs.Step.{wanted}
 use Rattle.stores.specs.Marks.{Listed}
 use Rattle.stores.specs.View.{storedAt}
@@ -26,8 +24,9 @@ sort-given-requires c κs = let p = c .before .before .before .before .before .p
 
 flag-stored-requires : tie.Need-flag-stored-requires Inv-loop μ-loop
 flag-stored-requires c κs =
-    let p = c .before .before .before .before .before .before .before .before .before .before .pre in
-    (p .0, given-first _ _ (c .before .before .before .before .sort-given .ensures) (p .1 .0))
+    let o = c .before .before .before .before in
+    let p = o .before .before .before .before .before .before .pre in
+    (p .0, given-first _ _ (o .sort-given .ensures) (p .1 .0))
 
 loop-holds : tie.Need-loop-holds Inv-loop μ-loop
 loop-holds c = (omega arith, omega arith, listed-none _ _ _ _ (c .flag-stored .ensures))
@@ -35,8 +34,9 @@ loop-holds c = (omega arith, omega arith, listed-none _ _ _ _ (c .flag-stored .e
 next-want-requires : tie.Need-next-want-requires Inv-loop μ-loop
 next-want-requires c κs =
     let l = c .before .before .before .before .before .loop in
-    let p = c .before .before .before .before .before .before .before .before .before .before .before .before .before .before .before .before .before .pre .1 in
-    let s = c .before .before .before .before .before .before .before .before .before .before .before .sort-given .ensures in
+    let o = c .before .before .before .before .before .before .before .before .before .before .before in
+    let p = o .before .before .before .before .before .before .pre .1 in
+    let s = o .sort-given .ensures in
     let t = c .before .before .before .before .loop-test .taken in
     let i = l .inv .1 in
     let m = p .1 .1 in
@@ -48,11 +48,13 @@ next-want-requires c κs =
 
 loop-again : tie.Need-loop-again Inv-loop μ-loop
 loop-again c =
-    let l = c .before .before .before .before .before .before .before .before .loop in
-    let k = c .before .before .next-want .ensures in
-    let t = c .before .before .before .before .before .before .before .loop-test .taken in
+    let n = c .before .before in
+    let l = n .before .before .before .before .before .before .loop in
+    let s = n .before .before .before .before .before .before .before .before .before .before .before .before .sort-given .ensures in
+    let k = n .next-want .ensures in
+    let t = n .before .before .before .before .before .loop-test .taken in
     let m = next-most _ _ _ _ _ _ _ _ k in
-    (omega arith, omega arith, want-next _ _ (c .before .before .before .before .before .before .before .before .before .before .before .before .before .before .sort-given .ensures) _ _ _ _ _ _ _ _ (l .i) (omega arith) (l .inv .2) k)
+    (omega arith, omega arith, want-next _ _ s _ _ _ _ _ _ _ _ (l .i) (omega arith) (l .inv .2) k)
 
 same-length : tie.Need-same-length Inv-loop μ-loop
 same-length c = c .before .before .before .before .before .before .before .sort-given .kept .1 .0
@@ -63,7 +65,8 @@ same-length-2 c = listed-length _ _ _ _ _ _ _ (c .before .loop .inv .2)
 returns : tie.Need-returns Inv-loop μ-loop
 returns c =
     let l = c .before .loop in
-    want-done _ _ (c .before .before .before .before .before .before .before .sort-given .ensures) _ _ _ _ _ (l .i) (omega arith) (l .inv .2)
+    let s = c .before .before .before .before .before .before .before .sort-given .ensures in
+    want-done _ _ s _ _ _ _ _ (l .i) (omega arith) (l .inv .2)
 
 pub want-by-spec : {M : Type 1} → statement M
 want-by-spec =
