@@ -1,4 +1,3 @@
-pub mod SortLaws
 pub mod KeyLaws
 pub mod WriteLaws
 pub mod FillLaws

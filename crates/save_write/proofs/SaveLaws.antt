@@ -19,9 +19,10 @@ use Rattle.validity.proofs.ValidLaws.{valid-facts}
 use Rattle.saves.specs.Save.{isSaved, edition, bytesOf, saveOf, Saving, storing, savingOf}
 use Rattle.saves.specs.declared.Saved.{Saved}
 use Rattle.saves.specs.declared.Saved.the-variants.{Done, Early, OutOfRange, NotRouter, Short}
-use Rattle.save_write.specs.Sorting.{sorted, keyOf, keysBelow, keysOf}
+use Rattle.sorting.specs.Sorting.{sorted}
+use Rattle.sorting.proofs.SortLaws.{length-sorted}
+use Rattle.save_write.specs.Keys.{keyOf, keysBelow, keysOf}
 use Rattle.save_write.specs.Stands.{rowsOf, Stands}
-use Rattle.save_write.proofs.SortLaws.{length-sorted}
 use Rattle.save_write.proofs.KeyLaws.{slots-are}
 use Rattle.save_write.proofs.WriteLaws.{save-is}
 

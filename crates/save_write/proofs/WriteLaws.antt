@@ -15,7 +15,7 @@ use Rattle.varint.proofs.GroupLaws.{put-fits, put-next, put-full, length-last, 
 use Rattle.records.specs.Records.{State, place}
 use Rattle.rows.specs.Rows.{joins}
 use Rattle.saves.specs.Save.{savedRow, order, bodyOf, numbersOf, bytesOf, saveOf, edition}
-use Rattle.save_write.specs.Sorting.{slotOf}
+use Rattle.save_write.specs.Keys.{slotOf}
 use Rattle.save_write.specs.Stands.{rowsOf, Stands}
 
 -- ---- bytes of lists

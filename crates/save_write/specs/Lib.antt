@@ -1,2 +1,2 @@
-pub mod Sorting
+pub mod Keys
 pub mod Stands

@@ -7,7 +7,7 @@ use lib.Seq.{sets}
 use Rattle.records.specs.Records.{State}
 use Rattle.rows.specs.Rows.{joins}
 use Rattle.saves.specs.Save.{savedRow}
-use Rattle.save_write.specs.Sorting.{slotOf}
+use Rattle.save_write.specs.Keys.{slotOf}
 
 abbrev pub rowsOf : State → ℕ → List ℕ → List ℕ
 rowsOf st time keys = joins (λ key. savedRow st time (slotOf key)) keys

@@ -6,7 +6,7 @@ ghost use Rattle.varint.specs.Groups.{encode};
 ghost use Rattle.records.specs.Records.{slotCount};
 ghost use Rattle.layout.specs.View.{stateOf};
 ghost use Rattle.saves.specs.Save.{rowSize, bytesOf};
-ghost use Rattle.save_write.specs.Sorting.{slotOf, Saves};
+ghost use Rattle.save_write.specs.Keys.{slotOf, Saves};
 ghost use Rattle.save_write.specs.Stands.{rowsOf, Stands};
 use crate::row::ROW;
 use crate::row::fill_row;

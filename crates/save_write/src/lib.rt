@@ -11,7 +11,8 @@ ghost use Rattle.records.specs.Records.{slotCount};
 ghost use Rattle.layout.specs.View.{stateOf, cellCount};
 ghost use Rattle.validity.specs.Valid.{maxTime, valid};
 ghost use Rattle.saves.specs.Save.{saveOf, storing, savingOf};
-ghost use Rattle.save_write.specs.Sorting.{sorted, keysOf, Saves};
+ghost use Rattle.sorting.specs.Sorting.{sorted};
+ghost use Rattle.save_write.specs.Keys.{keysOf, Saves};
 use effects::slots::load_magnitude;
 use effects::values::end_after;
 use layout::CELLS;
@@ -53,7 +54,7 @@ fn save_sorted(
         × (now (buf .exit) ≡ storing (saveOf (stateOf (now (table .entry))) time) (now (buf .entry)) .bytes) ⌝ }
 {
     let n = keys::collect_keys(table, list, time, end);
-    keys::sort_keys(&mut list[..n], spare);
+    sorting::sort(&mut list[..n], spare);
     write_save(table, &list[..n], time, end, buf)
 }
 

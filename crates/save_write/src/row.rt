@@ -7,7 +7,7 @@ ghost use lib.Seq.{sets};
 ghost use Rattle.records.specs.Records.{slotCount};
 ghost use Rattle.layout.specs.View.{stateOf};
 ghost use Rattle.saves.specs.Save.{rowSize, topicRow, savedRow};
-ghost use Rattle.save_write.specs.Sorting.{Saves};
+ghost use Rattle.save_write.specs.Keys.{Saves};
 use crate::keys::left_at;
 use records::Peer;
 use records::TOPICS;

@@ -4,14 +4,15 @@ use Prim.Native.Nat.{ℕ, zero, suc, _+_, _*_, _≤_, _<_}
 use native.Mathlib.Nat.{le-antisymm, not-suc-le-zero, eq-or-lt-of-le, le-of-suc-le-suc, add-zero, add-suc, suc-mul, zero-mul}
 use native.Mathlib.Numerals.{add-one}
 use native.Mathlib.Omega.{arith}
-use mathlib.Core.Bool.{Bool, true, false, _||_}
+use mathlib.Core.Bool.{Bool, true, false, _||_, false≢true}
 use mathlib.Core.List.{List, [], _∷_, _++_}
 use mathlib.Core.Logic.{⊎-elim}
 use mathlib.Core.Path.{_≡_, refl, sym, ap, _∙_}
 use lib.Dec.{eqb, ltb}
 use lib.ListN.{length, getD, take}
 use lib.Seq.{take-suc, take-all}
-use borrow.Author.Tests.{eq-eqb, ne-eqb, lt-ltb, le-ltb}
+use borrow.Author.Tests.{eqb-true, eq-eqb, ne-eqb, lt-ltb, le-ltb}
+use Rattle.index.proofs.Flags.{by-test}
 use Rattle.gossip.specs.Notes.{has, some}
 
 pub or-assoc : (a b c : Bool) → (a || b) || c ≡ a || (b || c)
@@ -63,6 +64,14 @@ unfolding has
 has-at n [] k h e = absurd (not-suc-le-zero h)
 has-at n (m ∷ l) zero h e = rw (eq-eqb m n e)
 has-at n (m ∷ l) (suc k) h e = rw (has-at n l k (le-of-suc-le-suc h) e) (or-true (eqb m n))
+
+pub has-index : (n : ℕ) (l : List ℕ) → has n l ≡ true → (k : ℕ) × ((k < length l) × (getD l k 0 ≡ n))
+unfolding has
+has-index n [] e = absurd (false≢true e)
+has-index n (m ∷ l) e =
+    by-test ((k : ℕ) × ((k < length (m ∷ l)) × (getD (m ∷ l) k 0 ≡ n))) (eqb m n)
+    (λ t. (0, (omega arith, eqb-true m n t)))
+    (λ t. let r = has-index n l (rw t at e) in let b = r .1 .0 in (suc (r .0), (omega arith, r .1 .1)))
 
 -- a search for the first index: until then the first k lack it
 pub miss-none : (n : ℕ) → has n [] ≡ false

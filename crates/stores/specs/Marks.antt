@@ -2,11 +2,12 @@
 use Prim.Native.Nat.{ℕ, _+_, _*_, _%_, _≤_, _<_}
 use mathlib.Core.Path.{_≡_}
 use mathlib.Core.Bool.{Bool, true, false, cond, _||_}
-use mathlib.Core.List.{List, [], _∷_, _++_}
-use lib.ListN.{length, getD, set, take}
+use mathlib.Core.List.{List, _++_}
+use lib.ListN.{length, getD, set, take, replicate}
 use lib.Seq.{sets}
 use Rattle.index.specs.Index.{gather}
 use Rattle.marks.specs.Marks.{bucketCount, wordCount, isMarked}
+use Rattle.sorting.specs.Sorting.{placeIn, Ordered}
 use Rattle.gossip.specs.Notes.{windowCount, numbersMost, has}
 use Rattle.gossip.specs.Valid.{apart}
 use Rattle.stores.specs.View.{countAt, windowAt, Store}
@@ -43,36 +44,31 @@ pub record Walking (c seen : List ℕ) (t w : ℕ) : Type 0 where
   pub apart : apart (before c t w) ≡ true
   pub marks : Seen (before c t w) seen
 
--- ---- given numbers
+-- ---- given numbers, in ascending order
 
--- few enough of them, and a flag for each
-pub record Given (numbers : List ℕ) (known : List Bool) : Type 0 where
-  pub few : length numbers ≤ numbersMost
+-- few enough of them, and flags for their places
+pub record Given (rising : List ℕ) (known : List Bool) : Type 0 where
+  pub few : length rising ≤ numbersMost
+  pub order : Ordered rising
   pub size : length known ≡ numbersMost
 
+-- the flag of a number stands at its place, so equal numbers have one flag
+abbrev pub flagOf : List ℕ → List Bool → ℕ → Bool
+flagOf rising known n = getD known (placeIn n rising) false
+
 -- the flags b are the flags a, and up for those of which f holds
-pub record Flags (f : ℕ → Bool) (numbers : List ℕ) (a b : List Bool) : Type 0 where
+pub record Flags (f : ℕ → Bool) (rising : List ℕ) (a b : List Bool) : Type 0 where
   pub size : length b ≡ length a
-  pub flags : (i : ℕ) → i < length numbers → getD b i false ≡ getD a i false || f (getD numbers i 0)
+  pub flags : (n : ℕ) → has n rising ≡ true → flagOf rising b n ≡ flagOf rising a n || f n
 
--- the same of the first k, and no change of the others
-pub record FlagsTo (f : ℕ → Bool) (numbers : List ℕ) (a b : List Bool) (k : ℕ) : Type 0 where
-  pub size : length b ≡ length a
-  pub low : k ≤ length numbers
-  pub flags : (i : ℕ) → i < k → getD b i false ≡ getD a i false || f (getD numbers i 0)
-  pub rest : (i : ℕ) → k ≤ i → getD b i false ≡ getD a i false
+-- a list a of which `size` numbers are in use becomes b, where number n goes in unless its flag is up; then it is up, and r are in use
+pub record Next (rising : List ℕ) (n size : ℕ) (known left : List Bool) (a b : List ℕ) (r : ℕ) : Type 0 where
+  pub list : b ≡ cond (flagOf rising known n) a (set a size n)
+  pub count : r ≡ cond (flagOf rising known n) size (size + 1)
+  pub flags : Flags (eqb n) rising known left
 
--- a list a of which `size` numbers are in use becomes b, where number n goes in unless it is stored or in use; r are in use then
-abbrev pub passes : Bool → ℕ → ℕ → List ℕ → Bool
-passes stored n size a = stored || has n (take size a)
-
-pub record Next (stored : Bool) (n size : ℕ) (a b seen : List ℕ) (r : ℕ) : Type 0 where
-  pub list : b ≡ cond (passes stored n size a) a (set a size n)
-  pub count : r ≡ cond (passes stored n size a) size (size + 1)
-  pub marks : Seen (cond (passes stored n size a) (take size a) (take size a ++ (n ∷ []))) seen
-
--- list b is a with the numbers l in front, which have marked their buckets
-pub record Listed (l a b seen : List ℕ) (size : ℕ) : Type 0 where
+-- list b is a with the numbers l in front; the flags are up for these and for those of which f holds
+pub record Listed (f : ℕ → Bool) (rising l : List ℕ) (known : List Bool) (a b : List ℕ) (size : ℕ) : Type 0 where
   pub list : b ≡ sets a 0 l
   pub count : size ≡ length l
-  pub marks : Seen l seen
+  pub flags : Flags (λ n. f n || has n l) rising (replicate numbersMost false) known

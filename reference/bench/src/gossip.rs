@@ -29,6 +29,9 @@ mod linked {
     /// A number that nobody stores or holds.
     const NEW: u64 = 5;
 
+    /// The library keeps numbers apart by so many buckets; numbers this far from each other share one.
+    const BUCKETS: u64 = 8192;
+
     /// Of some numbers that are stored, and of some that were sent.
     const SOME: usize = 100;
     const SENT: usize = 10;
@@ -135,6 +138,21 @@ mod linked {
         router
     }
 
+    /// Number k of those that share a bucket.
+    fn in_one_bucket(k: usize) -> u64 {
+        NEW + BUCKETS * k as u64
+    }
+
+    /// Every store is full, of numbers that share a bucket; behind them come those that nobody stores.
+    fn one_bucket() -> Router {
+        let mut router = stores();
+        let heartbeats = router.stores.iter_mut().flat_map(|store| &mut store.heartbeats);
+        for (k, number) in heartbeats.flatten().enumerate() {
+            *number = in_one_bucket(k);
+        }
+        router
+    }
+
     /// Nobody is a member, so that everybody is told; the numbers of three heartbeats are.
     fn outside() -> Router {
         let mut router = stores();
@@ -148,22 +166,24 @@ mod linked {
     pub fn print_times(rounds: usize) {
         println!("IDONTWANT, IHAVE and IWANT: nanoseconds a call, test 12 of table and array included; 256 connected");
         let line = |what: &str, time: f64| println!("{what:64}{time:>9.0}");
-        let [quiet, some, sets, stores, outside, all, lost] = [
+        let [quiet, some, sets, stores, one_bucket, outside, all, lost] = [
             Lent::of(&members()),
             Lent::of(&some()),
             Lent::of(&sets()),
             Lent::of(&stores()),
+            Lent::of(&one_bucket()),
             Lent::of(&outside()),
             Lent::of(&full(SLOTS)),
             Lent::without_hints(&full(SLOTS)),
         ];
-        print_calls(rounds, [&quiet, &some, &stores, &outside, &all], line);
+        print_calls(rounds, [&quiet, &some, &stores, &one_bucket, &outside, &all], line);
         println!("test 12 by itself: one table, alone and with its array");
         line("the table alone", time(|| quiet.has_table()));
         line("nothing held", time(|| quiet.is_router()));
         line("100 stored numbers, ten rows of replies", time(|| some.is_router()));
         line("every set full", time(|| sets.is_router()));
         line("every store full", time(|| stores.is_router()));
+        line("every store full, of numbers that share a bucket", time(|| one_bucket.is_router()));
         line("everything full", best_test(rounds, &all));
         line("the same, no hint right", best_test(rounds.min(20), &lost));
     }
@@ -173,8 +193,8 @@ mod linked {
         best(rounds, || assert!(lent.is_router(), "table and array are a router's"))
     }
 
-    fn print_calls(rounds: usize, states: [&Lent; 5], line: impl Fn(&str, f64)) {
-        let [quiet, some, stores, outside, all] = states;
+    fn print_calls(rounds: usize, states: [&Lent; 6], line: impl Fn(&str, f64)) {
+        let [quiet, some, stores, one_bucket, outside, all] = states;
         let slots: Vec<u64> = (0..SLOTS as u64).rev().collect();
         let given: Vec<u64> = (0..MESSAGE_NUMBERS as u64).map(|k| NEW + 2 * k).collect();
         let stored = stored_number(1, 0, 1);
@@ -199,11 +219,21 @@ mod linked {
             announce(table, gossip, 1, TOPIC, &slots, told, list)
         });
         line("announce 192 numbers, 256 targets, 2,560 stored", time);
-        let due = (0, MESSAGE_NUMBERS);
-        let time = call(rounds, stores, due, |Lent { table, gossip }, list, told| {
-            ihave(table, gossip, 1, 1, TOPIC, &given, told, list)
-        });
-        line("IHAVE of 192 numbers, 2,560 stored", time);
+        let known: Vec<u64> =
+            (0..MESSAGE_NUMBERS).map(|k| stored_number(k % TOPICS, 0, k / TOPICS)).collect();
+        let sharing: Vec<u64> =
+            (0..MESSAGE_NUMBERS).rev().map(|k| in_one_bucket(ROWS + k)).collect();
+        let cases = [
+            ("IHAVE of 192 numbers, 2,560 stored", stores, &given, MESSAGE_NUMBERS),
+            ("IHAVE of 192 stored numbers, 2,560 stored", stores, &known, 0),
+            ("IHAVE of 192 that share a bucket, 2,560 stored that do too", one_bucket, &sharing, MESSAGE_NUMBERS),
+        ];
+        for (name, lent, numbers, new) in cases {
+            let time = call(rounds, lent, (0, new), |Lent { table, gossip }, list, told| {
+                ihave(table, gossip, 1, 1, TOPIC, numbers, told, list)
+            });
+            line(name, time);
+        }
         for (name, lent) in [("100 stored", some), ("2,560 stored", stores)] {
             let time = call(rounds, lent, (0, 0), |Lent { table, gossip }, list, _| {
                 iwant(table, gossip, 1, 1, stored, list)

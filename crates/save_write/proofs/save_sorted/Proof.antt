@@ -31,7 +31,7 @@ save-sorted-spec =
     (λ c.
     let n = c .before .before .before .before .before .before .before .before .before .collect-keys .result in
     let e = length-front (c .before .before .before .before .before .before .before .before .before .collect-keys .last .1 .0)
-    (c .before .before .before .before .sort-keys .last .0) n (c .before .before .before .before .sort-keys .kept .0) in
+    (c .before .before .before .before .sort .last .0) n (c .before .before .before .before .sort .kept .0) in
     let l =
     (few-fit (c .before .before .before .before .before .before .before .before .before .collect-keys .ensures .0)
     (c .before .before .before .before .before .before .before .before .before .collect-keys .kept .1 .0)
@@ -41,8 +41,8 @@ save-sorted-spec =
     (λ c.
     let n = c .before .before .before .before .before .before .before .before .before .before .collect-keys .result in
     let e = length-front (c .before .before .before .before .before .before .before .before .before .before .collect-keys .last .1 .0)
-    (c .before .before .before .before .before .sort-keys .last .0) n
-    (c .before .before .before .before .before .sort-keys .kept .0) in
+    (c .before .before .before .before .before .sort .last .0) n
+    (c .before .before .before .before .before .sort .kept .0) in
     let l =
     (few-fit (c .before .before .before .before .before .before .before .before .before .before .collect-keys .ensures .0)
     (c .before .before .before .before .before .before .before .before .before .before .collect-keys .kept .1 .0)
@@ -56,24 +56,24 @@ save-sorted-spec =
       sorted-front (stateOf (s .args .table .now)) (s .args .time)
           (c .before .before .before .before .before .before .before .before .before .before .before .collect-keys .result)
           (c .before .before .before .before .before .before .before .before .before .before .before .collect-keys .last .1 .0)
-          (c .before .before .before .before .before .before .sort-keys .last .0)
+          (c .before .before .before .before .before .before .sort .last .0)
           (few-fit (c .before .before .before .before .before .before .before .before .before .before .before .collect-keys .ensures .0)
           (c .before .before .before .before .before .before .before .before .before .before .before .collect-keys .kept .1 .0)
           (c .before .before .before .before .before .before .before .before .before .before .before .before .before .before .before
           .before .before .pre .1 .0))
           (c .before .before .before .before .before .before .before .before .before .before .before .collect-keys .ensures .1)
-          (c .before .before .before .before .before .before .sort-keys .kept .0)
-          (c .before .before .before .before .before .before .sort-keys .ensures),
+          (c .before .before .before .before .before .before .sort .kept .0)
+          (c .before .before .before .before .before .before .sort .ensures),
     ))
     (λ c.
     length-front
     (c .before .before .before .before .before .before .before .before .before .before .before .before .before
     .before .collect-keys .last .1 .0)
-    (c .before .before .before .before .before .before .before .before .before .sort-keys .last .0)
+    (c .before .before .before .before .before .before .before .before .before .sort .last .0)
     (c .before .before .before .before .before .before .before .before .before .before .before .before .before
-    .before .collect-keys .result) (c .before .before .before .before .before .before .before .before .before .sort-keys .kept .0)
+    .before .collect-keys .result) (c .before .before .before .before .before .before .before .before .before .sort .kept .0)
     ∙ c .before .before .before .before .before .before .before .before .before .before .before .before .before
     .before .collect-keys .kept .1 .0)
-    (λ c. c .before .before .before .before .before .before .before .before .before .sort-keys .kept .1 .0)
+    (λ c. c .before .before .before .before .before .before .before .before .before .sort .kept .1 .0)
     (λ c. c .before .before .write-save .kept .1 .1 .1 .1 .0)
     (λ c. c .before .before .write-save .ensures))

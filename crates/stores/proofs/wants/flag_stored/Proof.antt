@@ -13,10 +13,10 @@ use Rattle.stores.proofs.wants.flag_stored.Statement.{statement}
 use Rattle.stores.proofs.wants.flag_stored.Tie as tie
 
 abbrev Inv-loop : tie.InvT-loop
-Inv-loop cells numbers known₀ given p₀ known p = (p ≤ allWindows) × Flags (λ x. some p (λ q. has x (windowAt cells q))) numbers known₀ known
+Inv-loop cells rising known₀ given p₀ known p = (p ≤ allWindows) × Flags (λ x. some p (λ q. has x (windowAt cells q))) rising known₀ known
 
 abbrev μ-loop : tie.MeasureT-loop
-μ-loop cells numbers known₀ given p₀ known p = allWindows - p
+μ-loop cells rising known₀ given p₀ known p = allWindows - p
 
 mark-all-requires : tie.Need-mark-all-requires Inv-loop μ-loop
 mark-all-requires c κs = seen-none _ refl

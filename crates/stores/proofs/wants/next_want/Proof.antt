@@ -1,44 +1,46 @@
--- `stores::wants::next_want`: a number that is known or stood before is left out; another is put behind those so far.
+-- `stores::wants::next_want`: a number whose flag is up is left out; another is put behind those so far, and flagged. Assumes nothing.
+use native.Mathlib.Omega.{arith}
 use borrow.Author.Needs.{needs}
-use Rattle.index.proofs.Flags.{yes, no}
-use Rattle.stores.proofs.WantLaws.{next-stored, next-listed, next-new}
+use Rattle.stores.proofs.WantLaws.{place-low, next-known, next-new}
 use Rattle.stores.proofs.wants.next_want.Statement.{statement}
 use Rattle.stores.proofs.wants.next_want.Tie as tie
 
+element-copy-out-if1 : tie.Need-element-copy-out-if1
+element-copy-out-if1 c =
+    let g = c .before .before .before .pre in
+    let low = place-low _ (g .0 .order) _ _ (g .1 .0) (c .place-of .ensures .0) in
+    let few = g .0 .few in
+    omega arith
+
 returns : tie.Need-returns
-returns c = next-stored _ _ _ _ _ (c .before .before .pre .1) (c .if1 .taken)
+returns c =
+    let p = c .before .before in
+    next-known _ _ _ _ _ _ (p .before .before .before .pre .0) (p .place-of .ensures .0) (c .if1 .taken)
+
+element-write-known : tie.Need-element-write-known
+element-write-known c =
+    let p = c .before .before in
+    let g = p .before .before .before .pre in
+    let low = place-low _ (g .0 .order) _ _ (g .1 .0) (p .place-of .ensures .0) in
+    let few = g .0 .few in
+    omega arith
 
 returns-2 : tie.Need-returns-2
 returns-2 c =
-    let i = c .before in
-    let m = i .before .before in
-    let s = m .before .before .before .before .before in
-    next-listed _ _ _ _ _ (s .pre .1) (m .is-marked .result) (yes (i .is-listed .ensures) (c .if2 .taken))
-
-returns-3 : tie.Need-returns-3
-returns-3 c =
-    let f = c .before .before in
-    let i = f .before in
-    let m = i .before .before in
-    let b = m .before .before in
-    let o = b .before in
-    rw (c .mark .ensures)
-    (next-new _ _ _ _ _ (o .before .before .pre .1) _ _ (o .if1 .left) (b .bucket .ensures .0) (m .is-marked .ensures)
-    (no (i .is-listed .ensures) (f .if2 .left)))
+    let p = c .before .before in
+    let g = p .before .before .before .pre in
+    next-new _ _ _ _ _ _ (g .0) (p .place-of .ensures .0) (g .1 .0) (c .if1 .left)
 
 pub next-want-spec : {M : Type 1} → statement M
 next-want-spec =
     tie.close
     (tie.spec
+    (λ c κs. search needs)
+    element-copy-out-if1
     returns
-    (λ c κs. search needs)
-    (λ c κs. search needs)
-    (λ c κs. search needs)
-    (λ c. search needs)
-    returns-2
-    (λ c κs. search needs)
+    element-write-known
     (λ c. search needs)
     (λ c. search needs)
     (λ c. search needs)
     (λ c. search needs)
-    returns-3)
+    returns-2)
