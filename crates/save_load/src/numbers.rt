@@ -10,7 +10,10 @@ use varint::Read;
 // A byte of a number has seven of its bits, and its top bit set on all but the last.
 const GROUP: u64 = 128;
 
-// A number above this has no room for another byte in 64 bits.
+// A number of 64 bits has no more bytes than these.
+const MOST_BYTES: usize = 10;
+
+// One above this has no room for another byte.
 const ROOM: u64 = 144115188075855871;
 
 fn wide(x: u8) -> u64
@@ -19,13 +22,25 @@ fn wide(x: u8) -> u64
     x as u64
 }
 
-// The first place from `at` on whose byte has its top bit clear, or the last place.
+// The last place at which a number at `at` can end, of so many bytes.
+fn limit_of(at: usize, size: usize) -> usize
+    requires { ⌜ at < size ⌝ }
+    ensures { λ r. ⌜ r < size ⌝ }
+{
+    if size - at <= MOST_BYTES {
+        return size - 1;
+    }
+    at + MOST_BYTES - 1
+}
+
+// The first place from `at` on whose byte has its top bit clear, or the last at which a number can end.
 fn last_of(s: &[u8], at: usize) -> usize
     requires { ⌜ at < length (now s) ⌝ }
     ensures { λ r. ⌜ Reaches (now (s .entry)) at r ⌝ }
 {
+    let limit = limit_of(at, s.len());
     let mut place = at;
-    while place + 1 < s.len() {
+    while place < limit {
         if wide(s[place]) < GROUP {
             return place;
         }
