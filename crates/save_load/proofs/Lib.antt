@@ -1,3 +1,4 @@
+pub mod NumberLaws
 pub mod SkimLaws
 pub mod JudgeLaws
 pub mod StoreLaws

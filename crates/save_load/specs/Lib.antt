@@ -1,3 +1,4 @@
+pub mod Numbers
 pub mod Skim
 pub mod Judge
 pub mod Store

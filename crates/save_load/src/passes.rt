@@ -7,6 +7,7 @@ ghost use Rattle.saves.specs.Load.{parseFrom};
 ghost use Rattle.save_load.specs.Skim.{skimOf};
 ghost use Rattle.save_load.specs.Judge.{isRead, judgeOf, outsideNow};
 use crate::Skim;
+use crate::numbers;
 use index::Found;
 use varint::Read;
 
@@ -17,7 +18,7 @@ pub fn skim_numbers(s: &[u8], at: usize, n: usize) -> Skim
     let mut place = at;
     let mut left = n;
     while 0 < left {
-        let Read::Number(_, next) = varint::read_u64(s, place) else {
+        let Read::Number(_, next) = numbers::read_number(s, place) else {
             return Skim::Broken(place);
         };
         place = next;
@@ -58,7 +59,7 @@ pub fn first_outside(s: &[u8], at: usize, n: usize, most: &[u64; 44]) -> Found
     let mut j: usize = 0;
     let mut last: u64 = 0;
     while i < n {
-        let Read::Number(v, next) = varint::read_u64(s, place) else {
+        let Read::Number(v, next) = numbers::read_number(s, place) else {
             return Found::Nothing;
         };
         if is_outside(most[j], last, j, v) {

@@ -13,6 +13,7 @@ ghost use Rattle.saves.specs.Save.{rowSize};
 ghost use Rattle.saves.specs.Load.{numbers, parseFrom, endFrom, loadedPeer, loadedTopic};
 ghost use Rattle.save_load.specs.Judge.{isRead};
 ghost use Rattle.save_load.specs.Store.{RowFits, storedTopic, stored, Loadable, storedAll};
+use crate::numbers;
 use records::Groups;
 use records::Peer;
 use records::TOPICS;
@@ -115,7 +116,7 @@ fn read_row(s: &[u8], at: usize, row: &mut [u64]) -> usize
     let mut place = at;
     let mut i: usize = 0;
     while i < ROW {
-        let Read::Number(v, next) = varint::read_u64(s, place) else {
+        let Read::Number(v, next) = numbers::read_number(s, place) else {
             return place;
         };
         row[i] = v;

@@ -18,14 +18,14 @@ returns : tie.Need-returns Inv-loop μ-loop
 returns c =
     let l = c .before .before .before .before .loop in
     absurd
-    (going-read _ _ _ _ _ _ _ _ (l .inv) (c .before .before .before .loop-test .taken) _ (c .before .before .read-u64 .ensures)
+    (going-read _ _ _ _ _ _ _ _ (l .inv) (c .before .before .before .loop-test .taken) _ (c .before .before .read-number .ensures)
     (c .enum-told .given .1))
 
 returns-2 : tie.Need-returns-2 Inv-loop μ-loop
 returns-2 c =
     let k = c .before .before .before .before in
     let l = k .before .before .before .before .loop in
-    going-out _ _ _ _ _ _ _ _ (l .inv) (k .before .before .before .loop-test .taken) _ (k .before .before .read-u64 .ensures) _ _
+    going-out _ _ _ _ _ _ _ _ (l .inv) (k .before .before .before .loop-test .taken) _ (k .before .before .read-number .ensures) _ _
     (k .v .given .1)
     (sym (c .before .is-outside .ensures) ∙ c .if1 .taken)
 
@@ -34,7 +34,7 @@ loop-again c =
     let i = c .before .before in
     let k = i .before .before .before .before in
     let l = k .before .before .before .before .loop in
-    going-more _ _ _ _ _ _ _ _ (l .inv) (k .before .before .before .loop-test .taken) _ (k .before .before .read-u64 .ensures) _ _
+    going-more _ _ _ _ _ _ _ _ (l .inv) (k .before .before .before .loop-test .taken) _ (k .before .before .read-number .ensures) _ _
     (k .v .given .1)
     (sym (i .before .is-outside .ensures) ∙ i .if1 .left) _ _ (c .before .id-after .ensures) (c .column-after .ensures)
 

@@ -18,13 +18,13 @@ abbrev μ-loop : tie.MeasureT-loop
 returns : tie.Need-returns Inv-loop μ-loop
 returns c =
     let l = c .before .before .before .before .loop in
-    skim-bad _ _ _ (c .before .before .read-u64 .ensures) (l .left) (c .before .before .before .loop-test .taken)
+    skim-bad _ _ _ (c .before .before .read-number .ensures) (l .left) (c .before .before .before .loop-test .taken)
     (c .enum-told .given .1) ∙ l .inv
 
 loop-again : tie.Need-loop-again Inv-loop μ-loop
 loop-again c =
     let l = c .before .before .before .before .before .loop in
-    skim-more _ _ _ (c .before .before .before .read-u64 .ensures) (l .left) _ _ (c .before .before .before .before .loop-test .taken)
+    skim-more _ _ _ (c .before .before .before .read-number .ensures) (l .left) _ _ (c .before .before .before .before .loop-test .taken)
     (c .before .next .given .1) ∙ l .inv
 
 returns-2 : tie.Need-returns-2 Inv-loop μ-loop

@@ -27,7 +27,7 @@ read-row-spec =
     (λ c. c .before .before .before .before .loop .inv .long ∙ sym (c .before .before .before .before .before .before .before .pre .1))
     (λ c.
     let l = c .before .before .before .before .loop in
-    reading-read _ _ _ _ _ (l .inv) (c .before .before .before .loop-test .taken) _ (c .before .before .read-u64 .ensures)
+    reading-read _ _ _ _ _ (l .inv) (c .before .before .before .loop-test .taken) _ (c .before .before .read-number .ensures)
     (c .enum-told .given .1))
     (λ c. omega arith)
     (λ c. let n = c .before .before .before .before .before .loop .inv .long in omega arith)
@@ -36,6 +36,6 @@ read-row-spec =
     (λ c.
     let l = c .before .before .before .before .before .loop in
     reading-more _ _ _ _ _ (l .inv) (c .before .before .before .before .loop-test .taken) _
-    (c .before .before .before .read-u64 .ensures) _ _ (c .before .v .given .1))
+    (c .before .before .before .read-number .ensures) _ _ (c .before .v .given .1))
     (λ c. c .before .loop .inv .long ∙ sym (c .before .before .before .before .pre .1))
     (λ c. reading-done _ _ _ _ _ (c .before .loop .inv) (c .loop-test .left)))
