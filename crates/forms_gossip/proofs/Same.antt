@@ -1,13 +1,10 @@
 -- From the promise alone: the rules see the state of a table, which both forms hold, and the state fixes every cell of the old form.
 -- Assumes nothing.
-use Prim.Native.Nat.{ℕ}
-use mathlib.Core.Path.{_≡_, sym, ap, _∙_}
-use mathlib.Core.List.{List}
+use mathlib.Core.Path.{sym, ap, _∙_}
 use lib.ListN.{length}
 use lib.Seq.{sets}
 use Rattle.records.specs.Records.{State}
 use Rattle.layout.specs.View.{stateOf}
-use Rattle.rows.specs.View.{stateOfRows}
 use Rattle.rows.proofs.Whole.{determined}
 use Rattle.effects.specs.Actions.{numbersOf}
 use Rattle.gossip.specs.Step.{FullReply, stepAll}
