@@ -240,7 +240,8 @@ pub idle-more :
 idle-more st s t w w′ b r h er eb ew below k l e =
     by-order (isIdle (topicIn st (place s k)) ≡ true) k t
     (λ (a : k < t).
-    below k a (sym (getD-set-other (bits wordBits w) t k (not b) false (λ q. omega arith)) ∙ ap (λ (x : List Bool). getD x k false) (sym ew) ∙ e))
+    below k a (sym (getD-set-other (bits wordBits w) t k (not b) false (λ q. omega arith)) ∙ ap (λ (x : List Bool). getD x k false) (sym ew)
+    ∙ e))
     (λ (a : t ≤ k).
     let z : k ≡ t = omega arith in
     let n = bits-length wordBits w in

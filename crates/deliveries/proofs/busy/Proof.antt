@@ -18,7 +18,8 @@ loop-again : tie.Need-loop-again Inv-loop μ-loop
 loop-again c =
     let l = c .before .before .before .before .loop in (
       omega arith,
-      idle-more _ _ (l .topic) _ _ _ _ (omega arith) (c .before .before .load-topic .ensures .0) (c .before .is-idle .ensures) (c .with-bit .ensures)
+      idle-more _ _ (l .topic) _ _ _ _ (omega arith) (c .before .before .load-topic .ensures .0) (c .before .is-idle .ensures)
+          (c .with-bit .ensures)
           (l .inv .1),
     )
 

@@ -8,7 +8,8 @@ use Rattle.deliveries.proofs.decay_p7.Tie as tie
 faded-requires : tie.Need-faded-requires
 faded-requires c κs =
     let pre = c .before .before .before .before .before .before .before .before .before .before .pre in
-    p7-ready _ _ _ _ (pre .decays) (pre .slot) (c .before .before .before .before .before .before .before .load-peer .ensures .0) (c .load-magnitude2 .ensures)
+    p7-ready _ _ _ _ (pre .decays) (pre .slot) (c .before .before .before .before .before .before .before .load-peer .ensures .0)
+    (c .load-magnitude2 .ensures)
 
 store-peer-requires : tie.Need-store-peer-requires
 store-peer-requires c κs =
@@ -25,8 +26,12 @@ store-peer-requires c κs =
 
 returns-2 : tie.Need-returns-2
 returns-2 c =
-    p7-decayed _ _ _ _ _ _ _ _ (c .before .before .before .before .before .before .before .before .before .before .before .before .load-peer .ensures .0) (c .before .before .before .before .before .before .before .load-magnitude .ensures) (c .before .before .before .before .before .load-magnitude2 .ensures)
-    (c .before .before .before .before .faded .ensures) (c .before .before .before .with-p7 .ensures) (c .before .before .store-peer .ensures)
+    p7-decayed _ _ _ _ _ _ _ _
+    (c .before .before .before .before .before .before .before .before .before .before .before .before .load-peer .ensures .0)
+    (c .before .before .before .before .before .before .before .load-magnitude .ensures)
+    (c .before .before .before .before .before .load-magnitude2 .ensures)
+    (c .before .before .before .before .faded .ensures) (c .before .before .before .with-p7 .ensures)
+    (c .before .before .store-peer .ensures)
 
 pub decay-p7-spec : {M : Type 1} → statement M
 decay-p7-spec =

@@ -9,7 +9,8 @@ use Rattle.deliveries.proofs.decay_topic.Tie as tie
 decayed-requires : tie.Need-decayed-requires
 decayed-requires c κs =
     let start = c .before .before .before .before .before .before .before .before in
-    topic-ready _ (start .args .time) _ _ _ _ _ (c .before .before .before .before .before .load-topic .ensures .0) (c .before .before .before .load-params .ensures) (c .load-magnitude .ensures)
+    topic-ready _ (start .args .time) _ _ _ _ _ (c .before .before .before .before .before .load-topic .ensures .0)
+    (c .before .before .before .load-params .ensures) (c .load-magnitude .ensures)
     (start .pre .decays) (start .pre .slot) (start .pre .topic)
 
 store-topic-requires : tie.Need-store-topic-requires
@@ -21,7 +22,8 @@ store-topic-requires c κs =
       start .pre .size,
       (
         omega arith,
-        decayed-fits _ (start .args .time) _ _ _ _ _ (loaded .load-topic .ensures .0) (c .before .before .before .before .load-params .ensures)
+        decayed-fits _ (start .args .time) _ _ _ _ _ (loaded .load-topic .ensures .0)
+            (c .before .before .before .before .load-params .ensures)
             (c .before .load-magnitude .ensures) _ (start .pre .decays) (start .pre .slot) (start .pre .topic)
             (loaded .load-topic .ensures .1) (c .decayed .ensures),
       ),
@@ -29,7 +31,9 @@ store-topic-requires c κs =
 
 returns : tie.Need-returns
 returns c =
-    topic-decayed _ _ _ _ _ _ _ (c .before .before .before .before .before .before .before .before .before .load-topic .ensures .0) (c .before .before .before .before .before .before .before .load-params .ensures) (c .before .before .before .before .load-magnitude .ensures) _ _
+    topic-decayed _ _ _ _ _ _ _ (c .before .before .before .before .before .before .before .before .before .load-topic .ensures .0)
+    (c .before .before .before .before .before .before .before .load-params .ensures)
+    (c .before .before .before .before .load-magnitude .ensures) _ _
     (c .before .before .before .decayed .ensures) (c .before .before .store-topic .ensures)
 
 pub decay-topic-spec : {M : Type 1} → statement M

@@ -16,5 +16,6 @@ next-busy-spec =
     (λ c. search needs)
     (λ c. omega (arith, trailing-le wordBits (c .args .w / 2 ^ c .args .t)))
     (λ c. omega (arith, c .pre, trailing-le wordBits (c .args .w / 2 ^ c .args .t)))
-    (λ c. let a = c .before in next-topic (a .args .w) (a .args .t) _ _ (a .pre) refl (omega arith) (omega arith) (omega (arith, c .if1 .taken)))
+    (λ c. let a = c .before in
+    next-topic (a .args .w) (a .args .t) _ _ (a .pre) refl (omega arith) (omega arith) (omega (arith, c .if1 .taken)))
     (λ c. let a = c .before in next-topic (a .args .w) (a .args .t) _ _ (a .pre) refl (omega (arith, c .if1 .left)) (a .pre) (omega arith)))
