@@ -1,21 +1,27 @@
 -- A decay, record by record: what it relies on is kept from each record to the next, and its steps are the rules'.
 -- Assumes nothing.
-use Prim.Native.Nat.{ℕ, _*_, _<_, _≤_}
+use Prim.Native.Nat.{ℕ, zero, suc, _+_, _-_, _*_, _/_, _^_, _<_, _≤_}
 use mathlib.Core.Path.{_≡_, refl, sym, ap, _∙_}
-use mathlib.Core.Bool.{Bool, true, false, _&&_}
+use mathlib.Core.Bool.{Bool, true, false, not, _&&_}
 use mathlib.Core.List.{List}
 use native.Mathlib.Omega.{arith}
+use lib.Count.{trailingZeros}
 use lib.Dec.{eqb}
-use lib.ListN.{length}
+use lib.ListN.{length, getD, set}
+use lib.Pow.{shr-shr}
+use lib.Seq.{getD-set-same, getD-set-other}
 use Rattle.index.specs.Index.{iter}
 use Rattle.index.proofs.Index.{iter-keeps}
-use Rattle.index.proofs.Flags.{cond-case}
+use Rattle.index.proofs.Flags.{cond-case, by-order}
 use Rattle.records.specs.declared.Peer.{Peer}
 use Rattle.records.specs.declared.TopicRecord.{TopicRecord}
-use Rattle.records.specs.Records.{State, place, codeIn, peerIn, topicIn, setPeer, setTopic, setClock, isConnected, slotCount}
-use Rattle.layout.proofs.StateLaws.{peer-case, topic-case, topic-again}
+use Rattle.records.specs.Records.{State, place, codeIn, peerIn, topicIn, setPeer, setTopic, setClock, isConnected, slotCount, topicCount}
+use Rattle.layout.proofs.StateLaws.{peer-case, topic-case, peer-again, topic-again, topic-other}
+use Rattle.words.specs.Words.{wordBits, odd, bits}
+use Rattle.words.proofs.BitLaws.{bits-at, bits-length, bits-lowest}
+use Rattle.words.proofs.SlotWalk.{lowest-below}
 use Rattle.layout.specs.View.{cellCount, stateOf, TopicFits, PeerFits}
-use borrow.Author.Tests.{ne-eqb}
+use borrow.Author.Tests.{ne-eqb, not-false}
 use Rattle.validity.specs.Valid.{valid}
 use Rattle.score.specs.declared.TopicParams.{TopicParams}
 use Rattle.score.specs.Ranges.{TopicParamsIn, CountersIn}
@@ -38,7 +44,7 @@ use Rattle.rules.specs.Calls.{decay, timeOk}
 use Rattle.rules.specs.Step.{gateOf, effect, decayFloor, decayTopic, decayP7, decaySlot, decayReply}
 use Rattle.rules.specs.Promise.{Leaves, Follows}
 use Rattle.rules.proofs.EndLaws.{leaves-done}
-use Rattle.deliveries.specs.Decays.{Decays}
+use Rattle.deliveries.specs.Decays.{Decays, IdleBelow, NextTopic}
 
 -- behind the gate
 pub decays-of : (st : State) → valid st ≡ true → Decays st
@@ -186,7 +192,7 @@ idle-stays t floor time r e =
       faded-nothing (floor * 1000) (t .decay3b),
     )
 
-pub topic-idle :
+topic-idle :
     (st : State) (time s t : ℕ) (r : TopicRecord) →
     r ≡ topicIn st (place s t) →
     isIdle r ≡ true →
@@ -196,6 +202,87 @@ topic-idle st time s t r er e =
     sym
     (ap (setTopic st (place s t)) (idle-stays (topicParamsIn st t) (decayFloor st) time (topicIn st (place s t)) (rw (← er) e))
     ∙ topic-again st (place s t))
+
+-- ---- the walk over the topics that are not idle
+
+-- the topics before t leave its record
+still-there :
+    (st : State) (time s i t : ℕ) → i ≤ t → topicIn (iter i (decayTopic time s) st) (place s t) ≡ topicIn st (place s t)
+unfolding decayTopic
+still-there st time s i t h =
+    iter-keeps (λ (u : State). topicIn u (place s t) ≡ topicIn st (place s t)) (decayTopic time s) i st refl
+    (λ j u l e. topic-other u (place s j) _ (place s t) (λ q. omega arith) ∙ e)
+
+pub idle-on :
+    (st : State) (time s i j : ℕ) →
+    i ≤ j →
+    ((t : ℕ) → i ≤ t → t < j → isIdle (topicIn st (place s t)) ≡ true) →
+    iter i (decayTopic time s) st ≡ iter j (decayTopic time s) st
+unfolding iter
+idle-on st time s i zero h k = let e : i ≡ 0 = omega arith in ap (λ (n : ℕ). iter n (decayTopic time s) st) e
+idle-on st time s i (suc j) h k =
+    by-order (iter i (decayTopic time s) st ≡ iter (suc j) (decayTopic time s) st) j i
+    (λ l. let e : i ≡ suc j = omega arith in ap (λ (n : ℕ). iter n (decayTopic time s) st) e)
+    (λ l.
+    idle-on st time s i j l (λ t a b. k t a (omega arith))
+    ∙ topic-idle (iter j (decayTopic time s) st) time s j (topicIn st (place s j)) (sym (still-there st time s j j (omega arith)))
+    (k j l (omega arith)))
+
+-- one more topic is asked
+pub idle-more :
+    (st : State) (s t w w′ : ℕ) (b : Bool) (r : TopicRecord) →
+    t < wordBits →
+    r ≡ topicIn st (place s t) →
+    b ≡ isIdle r →
+    bits wordBits w′ ≡ set (bits wordBits w) t (not b) →
+    IdleBelow st s t w →
+    IdleBelow st s (t + 1) w′
+idle-more st s t w w′ b r h er eb ew below k l e =
+    by-order (isIdle (topicIn st (place s k)) ≡ true) k t
+    (λ (a : k < t).
+    below k a (sym (getD-set-other (bits wordBits w) t k (not b) false (λ q. omega arith)) ∙ ap (λ (x : List Bool). getD x k false) (sym ew)
+    ∙ e))
+    (λ (a : t ≤ k).
+    let z : k ≡ t = omega arith in
+    let n = bits-length wordBits w in
+    let q : getD (bits wordBits w′) t false ≡ false = rw (← z) e in
+    let f : not b ≡ false =
+    sym (getD-set-same (bits wordBits w) t (not b) false (omega arith)) ∙ ap (λ (x : List Bool). getD x t false) (sym ew) ∙ q in
+    ap (λ (n : ℕ). isIdle (topicIn st (place s n))) z ∙ ap isIdle (sym er) ∙ sym eb ∙ not-false b f)
+
+-- the bits of a word from bit t on are those of the word moved down by t
+pub next-topic :
+    (w t n r : ℕ) →
+    t ≤ topicCount →
+    n ≡ t + trailingZeros wordBits (w / 2 ^ t) →
+    r ≤ n →
+    t ≤ r →
+    r ≤ topicCount →
+    NextTopic w t r
+next-topic w t n r h en l a b =
+    record {
+      later = a;
+      most = b;
+      none = λ k u v.
+          let j : ℕ = k - t in
+          let e : t + j ≡ k = omega arith in
+          let z = bits-lowest wordBits (w / 2 ^ t) in
+          bits-at k wordBits w (omega arith)
+          ∙ ap odd (ap (λ (x : ℕ). w / 2 ^ x) (sym e) ∙ sym (shr-shr w t j))
+          ∙ sym (bits-at j wordBits (w / 2 ^ t) (omega arith))
+          ∙ lowest-below (bits wordBits (w / 2 ^ t)) j (omega arith);
+    }
+
+-- ---- P7
+
+-- 0 fades to 0, so that the record stays
+pub p7-idle : (st : State) (s : ℕ) (p : Peer) → p ≡ peerIn st s → p .p7 ≡ 0 → st ≡ decayP7 s st
+unfolding decayP7 withP7
+p7-idle st s p ep e =
+    let z : peerIn st s .p7 ≡ 0 = ap (λ (q : Peer). q .p7) (sym ep) ∙ e in
+    let f : fadedOf (decayFloor st) (magnitude (codeIn st 17)) (peerIn st s .p7) ≡ peerIn st s .p7 =
+    ap (fadedOf (decayFloor st) (magnitude (codeIn st 17))) z ∙ faded-nothing (decayFloor st) (magnitude (codeIn st 17)) ∙ sym z in
+    sym (ap (λ (x : ℕ). setPeer st s (withP7 (peerIn st s) x)) f ∙ peer-again st s)
 
 module _ (st : State) (s floor factor x : ℕ) (p q : Peer) (u : State) where
   pub p7-decayed :

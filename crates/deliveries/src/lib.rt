@@ -1,13 +1,16 @@
 // Deliveries and decay: two of 01's calls. Each takes the lent table, a time, its arguments as wide numbers and a lent action list, asks
 // nothing of its caller, and promises the rules' reply (crate rules).
 ghost use mathlib.Core.Path.{_≡_};
+ghost use Prim.Native.Nat.{_≤_};
 ghost use Rattle.index.specs.Index.{iter};
+ghost use Rattle.records.specs.Records.{topicCount};
 ghost use Rattle.layout.specs.View.{stateOf};
+ghost use Rattle.effects.specs.Lent.{AtSlot};
 ghost use Rattle.rules.specs.Calls.{deliver as Calls·deliver, decay as Calls·decay};
 ghost use Rattle.rules.specs.Step.{effect, deliverReply, decayTopic, decayP7, decaySlot, decayReply};
 ghost use Rattle.rules.specs.Promise.{Leaves, Follows};
 ghost use Rattle.gate.specs.Ready.{Ready, TopicReady, PlaceReady};
-ghost use Rattle.deliveries.specs.Decays.{DecaysIn, DecaysAt};
+ghost use Rattle.deliveries.specs.Decays.{DecaysIn, DecaysAt, IdleBelow, NextTopic};
 use credits::credited;
 use effects::slots::load_magnitude;
 use effects::values::with_p7;
@@ -28,6 +31,7 @@ use records::TOPICS;
 use records::param;
 use rules::Answer;
 use rules::Gate;
+use words::with_bit;
 
 // The counters of the peer's record in the topic grow, if it is heard. Kinds: 1 first, 2 near-first, 3 invalid.
 fn deliver_reply(table: &mut [u64], time: u64, topic: usize, slot: usize, kind: u64) -> Answer
@@ -80,9 +84,6 @@ fn decay_topic(table: &mut [u64], time: u64, topic: usize, slot: usize)
     ensures { λ r. ⌜ stateOf (now (table .exit)) ≡ decayTopic time slot topic (stateOf (now (table .entry))) ⌝ }
 {
     let r = layout::load_topic(table, slot * 8 + topic);
-    if is_idle(r) {
-        return;
-    }
     let t = peer_score::load_params(table, topic);
     layout::store_topic(
         table,
@@ -91,22 +92,53 @@ fn decay_topic(table: &mut [u64], time: u64, topic: usize, slot: usize)
     );
 }
 
+// Bit by topic: set where something has happened in the record of the peer in a slot.
+fn busy(table: &[u64], slot: usize) -> u64
+    requires { ⌜ AtSlot (now table) slot ⌝ }
+    ensures { λ r. ⌜ IdleBelow (stateOf (now (table .entry))) slot topicCount r ⌝ }
+{
+    let mut w: u64 = 0;
+    let mut topic: usize = 0;
+    while topic < TOPICS {
+        let r = layout::load_topic(table, slot * 8 + topic);
+        w = with_bit(w, topic as u64, !is_idle(r));
+        topic += 1;
+    }
+    w
+}
+
+// The lowest topic of the word from t on; TOPICS for none.
+fn next_busy(w: u64, t: usize) -> usize
+    requires { ⌜ t ≤ topicCount ⌝ }
+    ensures { λ r. ⌜ NextTopic w t r ⌝ }
+{
+    let n = t + u64::trailing_zeros(w >> t) as usize;
+    if n < TOPICS { n } else { TOPICS }
+}
+
+// All topics. A decay leaves an idle record as it is, and most are: those that are not are found first, and walked by their bits, since
+// which they are cannot be guessed.
 fn decay_topics(table: &mut [u64], time: u64, slot: usize)
     requires { ⌜ DecaysIn (now table) slot ⌝ }
     ensures { λ r. ⌜ stateOf (now (table .exit)) ≡ iter 8 (decayTopic time slot) (stateOf (now (table .entry))) ⌝ }
 {
-    let mut topic: usize = 0;
+    let left = busy(table, slot);
+    let mut topic = next_busy(left, 0);
     while topic < TOPICS {
         decay_topic(table, time, topic, slot);
-        topic += 1;
+        topic = next_busy(left, topic + 1);
     }
 }
 
+// P7's counter, which is 0 in most records: nothing is stored then.
 fn decay_p7(table: &mut [u64], slot: usize)
     requires { ⌜ DecaysIn (now table) slot ⌝ }
     ensures { λ r. ⌜ stateOf (now (table .exit)) ≡ decayP7 slot (stateOf (now (table .entry))) ⌝ }
 {
     let p = layout::load_peer(table, slot);
+    if p.p7 == 0 {
+        return;
+    }
     layout::store_peer(
         table,
         slot,

@@ -24,7 +24,7 @@ use words::WORDS;
 use words::next;
 
 // The score of the peer in a slot, moved up so that none is negative.
-fn height(
+pub fn height(
     table: &[u64],
     heads: &[u32; BUCKETS],
     same: &[u16; BUCKETS],

@@ -59,7 +59,7 @@ fn past_slack(end: u64, time: u64) -> bool
 }
 
 // Who may be grafted but for score and backoff: connected, subscribed, not explicit and no member.
-fn eligible(table: &[u64], topic: usize) -> [u64; WORDS]
+pub fn eligible(table: &[u64], topic: usize) -> [u64; WORDS]
     requires { ⌜ TopicStanding (now table) topic ⌝ }
     ensures { λ r. ⌜ ((s : ℕ) → s < slotCount → at (bitsOf r) s ≡ isEligible (stateOf (now (table .entry))) topic s) ⌝ }
 {
@@ -71,7 +71,7 @@ fn eligible(table: &[u64], topic: usize) -> [u64; WORDS]
 }
 
 // Whether an eligible peer, with this score, is a candidate.
-fn is_free(table: &[u64], time: u64, topic: usize, slot: usize, score: u64) -> bool
+pub fn is_free(table: &[u64], time: u64, topic: usize, slot: usize, score: u64) -> bool
     requires { ⌜ ScoredAt (now table) topic slot score ⌝ }
     ensures { λ r. ⌜ r ≡ isFree (stateOf (now (table .entry))) time topic slot ⌝ }
 {

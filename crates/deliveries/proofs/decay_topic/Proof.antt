@@ -1,27 +1,22 @@
--- `deliveries::decay_topic`: an idle record stays as it is, which is what decay makes of it; else it is faded and stored.
+-- `deliveries::decay_topic`: the record that is loaded is faded and stored.
 -- Assumes nothing.
 use native.Mathlib.Omega.{arith}
 use borrow.Author.Needs.{needs}
-use Rattle.index.proofs.Flags.{yes}
-use Rattle.deliveries.proofs.DecayLaws.{topic-idle, topic-ready, topic-decayed, decayed-fits}
+use Rattle.deliveries.proofs.DecayLaws.{topic-ready, topic-decayed, decayed-fits}
 use Rattle.deliveries.proofs.decay_topic.Statement.{statement}
 use Rattle.deliveries.proofs.decay_topic.Tie as tie
 
-returns : tie.Need-returns
-returns c = topic-idle _ _ _ _ _ (c .before .before .load-topic .ensures .0) (yes (c .before .is-idle .ensures) (c .if1 .taken))
-
 decayed-requires : tie.Need-decayed-requires
 decayed-requires c κs =
-    let loaded = c .before .before .before .before .before .before .before in
-    let start = loaded .before .before .before in
-    topic-ready _ (start .args .time) _ _ _ _ _ (loaded .load-topic .ensures .0) (c .before .before .before .load-params .ensures)
-    (c .load-magnitude .ensures)
+    let start = c .before .before .before .before .before .before .before .before in
+    topic-ready _ (start .args .time) _ _ _ _ _ (c .before .before .before .before .before .load-topic .ensures .0)
+    (c .before .before .before .load-params .ensures) (c .load-magnitude .ensures)
     (start .pre .decays) (start .pre .slot) (start .pre .topic)
 
 store-topic-requires : tie.Need-store-topic-requires
 store-topic-requires c κs =
-    let loaded = c .before .before .before .before .before .before .before .before in
-    let start = loaded .before .before .before in
+    let loaded = c .before .before .before .before .before .before in
+    let start = c .before .before .before .before .before .before .before .before .before in
     let s = start .pre .slot in
     let t = start .pre .topic in (
       start .pre .size,
@@ -34,12 +29,12 @@ store-topic-requires c κs =
       ),
     )
 
-returns-2 : tie.Need-returns-2
-returns-2 c =
-    let faded = c .before .before .before in
-    topic-decayed _ _ _ _ _ _ _ (faded .before .before .before .before .before .before .before .before .load-topic .ensures .0)
-    (faded .before .before .before .before .load-params .ensures) (faded .before .load-magnitude .ensures) _ _
-    (faded .decayed .ensures) (c .before .before .store-topic .ensures)
+returns : tie.Need-returns
+returns c =
+    topic-decayed _ _ _ _ _ _ _ (c .before .before .before .before .before .before .before .before .before .load-topic .ensures .0)
+    (c .before .before .before .before .before .before .before .load-params .ensures)
+    (c .before .before .before .before .load-magnitude .ensures) _ _
+    (c .before .before .before .decayed .ensures) (c .before .before .store-topic .ensures)
 
 pub decay-topic-spec : {M : Type 1} → statement M
 decay-topic-spec =
@@ -50,12 +45,9 @@ decay-topic-spec =
     (λ c κs. search needs)
     (λ c κs. search needs)
     (λ c. search needs)
-    returns
-    (λ c κs. search needs)
-    (λ c. search needs)
     (λ c. search needs)
     (λ c κs. search needs)
     decayed-requires
     store-topic-requires
     (λ c. search needs)
-    returns-2)
+    returns)

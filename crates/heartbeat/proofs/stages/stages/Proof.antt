@@ -5,6 +5,7 @@ use mathlib.Core.List.{List}
 use Rattle.sets.specs.Sets.{at}
 use Rattle.peer_score.proofs.BucketLaws.{tells-none}
 use Rattle.heartbeat.proofs.HeightLaws.{still-stages, empty-kept}
+use Rattle.heartbeat.proofs.GraftLaws.{first-is, first-scores}
 use Rattle.heartbeat.proofs.stages.stages.Statement.{statement}
 use Rattle.heartbeat.proofs.stages.stages.Tie as tie
 
@@ -28,25 +29,30 @@ returns c =
       λ s h q. t .taken s h (ap (λ (x : List Bool). at x s) m ∙ q),
     )
 
-all-stages-requires : tie.Need-all-stages-requires
-all-stages-requires c κs =
+few-stages-requires : tie.Need-few-stages-requires
+few-stages-requires c κs =
     let p = c .before .before .before .before .before .before .before .before .before .before .before .before .before .before .before
     .before .before .before .before .before .before .before .before .before .before .before .before .pre in
     let t = c .before .before .before .before .before .before .before .before .before .before .before .before .before .before .score-slots
     .ensures in
+    let m = c .before .before .before .before .before .before .before .before .before .before .before .before .before .before .before
+    .before .before .before .before .members .ensures in
     record {
-      taking = record {
-        standing = p .standing;
-        buckets = c .before .before .before .before .before .before .before .before .before .before .before .before .before .before
-            .before .before .before .before .before .before .count-groups .ensures;
-        size = t .size ∙ p .size;
+      partial = record {
+        taking = record {
+          standing = p .standing;
+          buckets = c .before .before .before .before .before .before .before .before .before .before .before .before .before .before
+              .before .before .before .before .before .before .count-groups .ensures;
+          size = t .size ∙ p .size;
+        };
+        topic = p .topic;
+        members = λ s h q. t .taken s h (ap (λ (x : List Bool). at x s) m ∙ q);
+        empty = empty-kept _ _ _ _ t (p .empty);
       };
-      topic = p .topic;
-      members = λ s h q. t .taken s h
-          (ap (λ (x : List Bool). at x s)
-          (c .before .before .before .before .before .before .before .before .before .before .before .before .before .before .before .before
-          .before .before .before .members .ensures) ∙ q);
-      empty = empty-kept _ _ _ _ t (p .empty);
+      mesh = first-is _ _ _ _ _ _ _ _ _ m (t .size ∙ p .size) (t .taken)
+          (c .before .before .before .before .before .before .before .before .before .before .at-least .ensures)
+          (c .before .before .before .before .before .before .before .before .before .both .ensures);
+      scores = first-scores _ _ _ _ _ _ t (c .before .before .before .before .before .before .before .before .before .both .ensures);
     }
 
 pub stages-spec : {M : Type 1} → statement M
@@ -71,8 +77,8 @@ stages-spec =
     (λ c κs. tt)
     (λ c. c .before .before .before .before .before .before .before .before .before .before .before .score-slots .ensures .size)
     returns
-    all-stages-requires
-    (λ c. c .before .before .all-stages .kept .1 .1 .1 .1 .1 .1 .1 .1 .0
+    few-stages-requires
+    (λ c. c .before .before .few-stages .kept .1 .1 .1 .1 .1 .1 .1 .1 .1 .0
     ∙ c .before .before .before .before .before .before .before .before .before .before .before .before .before .before .before .before
     .before .score-slots .ensures .size)
-    (λ c. c .before .before .all-stages .ensures))
+    (λ c. c .before .before .few-stages .ensures))
