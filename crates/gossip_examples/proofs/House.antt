@@ -10,7 +10,7 @@ use Rattle.lookup.specs.Name.{meshsub, sameBytes, versionOf}
 use Rattle.score.specs.Formula.{allTopics, bounded, topicSum, whyOf}
 use Rattle.score.specs.Parts.{crowdOf, part1Of, part3Of}
 use Rattle.score.specs.Score.{scoreIn, sharersOf, sharesGroup, sharing, sharingAt, topicParamsIn, topicScore, whyIn}
-use Rattle.effects.specs.Effects.{connectedAs, departed, emptied, intoMesh, isMember, meshSize, outOfMesh, reclaimSlot}
+use Rattle.effects.specs.Effects.{connectedAs, departed, emptied, intoMesh, isMember, leftTopic, meshSize, outOfMesh, reclaimSlot}
 use Rattle.effects.specs.Effects.{reclaimable, reclaimed, retainedTo, withP5, withSubscribed}
 use Rattle.sets.specs.Sets.{ascending, bySlot, inOrder, isPermutation, occurs}
 use Rattle.rules.specs.Calls.{groupsOf, groupsOk, inRange}
@@ -31,12 +31,11 @@ pub in-house : House
 unfolding count every first gather iter codeIn holdsGroup joinedIn peerIn setClock setJoined setPeer setTopic topicIn ordinaryNumbers
     findConnected findRetained holdsId lowestEmpty freshState meshsub sameBytes versionOf allTopics bounded topicSum whyOf crowdOf part1Of
     part3Of scoreIn sharersOf sharesGroup sharing sharingAt topicParamsIn topicScore whyIn connectedAs departed emptied intoMesh isMember
-    meshSize outOfMesh reclaimSlot reclaimable reclaimed retainedTo withP5 withSubscribed ascending bySlot inOrder isPermutation occurs
-    groupsOf groupsOk inRange connectAt connectIn connectReply effect graftCase graftReply isCrowded isGraylisted isNegative joinReply
-    subscribeReply newInRange added countIn ended freshGossip has holds noteIn
-    putIn replied setNote setReplies setStore some storeIn stored storedIn announceReply askReply besides idontwantReply ihaveReply
-    isAnswered isAsked isHeeded isRelayed isServed isTarget iwantReply kept newEffect oldestFirst relayReply storeReply tellBySlot
-    underGossip wanted begin checked setupOk
+    leftTopic meshSize outOfMesh reclaimSlot reclaimable reclaimed retainedTo withP5 withSubscribed ascending bySlot inOrder isPermutation
+    occurs groupsOf groupsOk inRange connectAt connectIn connectReply effect graftCase graftReply isCrowded isGraylisted isNegative
+    joinReply subscribeReply newInRange added countIn ended freshGossip has holds noteIn putIn replied setNote setReplies setStore some
+    storeIn stored storedIn announceReply askReply besides idontwantReply ihaveReply isAnswered isAsked isHeeded isRelayed isServed
+    isTarget iwantReply kept newEffect oldestFirst relayReply storeReply tellBySlot underGossip wanted begin checked setupOk
 in-house =
     record {
       said = begun roomy refl _ _ refl;

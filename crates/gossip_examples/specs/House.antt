@@ -1,6 +1,6 @@
 -- One house of twelve peers of different sorts, and what each of order 6's and 7's sentences says of them. The answers are worked out from
 -- the sentences, which stand beside them.
-use Prim.Native.Nat.{ℕ, _-_}
+use Prim.Native.Nat.{ℕ, _+_, _-_}
 use mathlib.Core.Path.{_≡_}
 use mathlib.Core.List.{List, [], _∷_, _++_, map}
 use Rattle.limits.specs.Limits.{minus}
@@ -61,10 +61,11 @@ stranger = 99
 
 -- ---- how they come to be so, all at time 1. A score is w5 × P5 × 1000 here, w5 being 1: the gossip threshold of -10,000 thousandths of a
 -- point is reached at a P5 of -10,000,000 millionths, the graylist threshold of -40,000 at -40,000,000
+-- by /meshsub/1.m.0, with flags (2: explicit)
 abbrev pub comesAs : ℕ → ℕ → ℕ → List Any
-comesAs flags m id = old (connect 1 id (0 ∷ []) flags (meshsub m)) ∷ []
+comesAs flags m id = old (connect 1 id (0 ∷ []) flags (meshsub (48 + m))) ∷ []
 
--- with a subscription to topic t: by /meshsub/1.m.0 as a byte of a digit; explicit (flags 2)
+-- subscribed to topic t
 abbrev pub guest : ℕ → ℕ → ℕ → List Any
 guest m t id = comesAs 0 m id ++ (old (subscribe 1 id t) ∷ [])
 
@@ -80,18 +81,18 @@ abbrev pub house : List Any
 house =
     old (join 1 0)
     ∷ old (join 1 1)
-    ∷ insider 50 member
-    ++ insider 49 older
-    ++ insider 50 outcast
-    ++ explicitGuest 50 0 friend
-    ++ guest 50 0 atGossip
-    ++ guest 50 0 belowGossip
-    ++ guest 49 0 aboveGossip
-    ++ guest 50 1 elsewhere
-    ++ explicitGuest 48 1 friendElsewhere
-    ++ explicitGuest 50 0 gone
-    ++ guest 48 0 oldest
-    ++ comesAs 0 50 atGraylist
+    ∷ insider 2 member
+    ++ insider 1 older
+    ++ insider 2 outcast
+    ++ explicitGuest 2 0 friend
+    ++ guest 2 0 atGossip
+    ++ guest 2 0 belowGossip
+    ++ guest 1 0 aboveGossip
+    ++ guest 2 1 elsewhere
+    ++ explicitGuest 0 1 friendElsewhere
+    ++ explicitGuest 2 0 gone
+    ++ guest 0 0 oldest
+    ++ comesAs 0 2 atGraylist
     ++ (old (disconnect 1 gone)
     ∷ new (idontwant 1 outcast 5)
     ∷ old (rate 1 outcast (minus 40000001))
@@ -263,11 +264,11 @@ tests =
 abbrev pub hall : List Any
 hall =
     old (join 1 0)
-    ∷ guest 49 0 31
-    ++ guest 49 0 32
-    ++ guest 49 0 33
-    ++ guest 49 0 34
-    ++ guest 49 0 35
+    ∷ guest 1 0 31
+    ++ guest 1 0 32
+    ++ guest 1 0 33
+    ++ guest 1 0 34
+    ++ guest 1 0 35
     ++ (new (store 2 0 4) ∷ [])
 
 abbrev pub Takes : Setup → List ℕ → Type 0
