@@ -1,7 +1,8 @@
 """What the scripts over edits share: an edit's parts, its text put in, and a copy of the tree in which an edit is tried.
 
 An edit has a line `# what the wrong program would do`, and after each `file:` line pairs of lines `old:` and `new:`. Each pair is put into
-the text that the one before left, as `rt must-fail` does.
+the text that the one before left, as `rt must-fail` does. A line `refused-by:` before them names a crate above, whose statements are to
+refuse a mistake in a definition; without it the edit's own crate is to refuse it.
 """
 import os
 import re
@@ -24,7 +25,7 @@ def parts(path):
         elif key == "new" and old is not None:
             pairs.append((file, old, value))
             old = None
-        elif key in ("crate", "refused-by"):
+        elif key == "refused-by":
             fields[key] = value
         elif line and not line.startswith("#"):
             others.append(line)

@@ -1,10 +1,10 @@
--- What a list of calls answers, computed without the first tests: every call keeps the tables a router's (crate gossip_lists), so one that
--- is in range, lent room and not early passes them, and its reply is its effect.
+-- What a list of calls answers, computed without test 12: every call keeps the tables a router's (crate gossip_lists). One of 01's calls
+-- that is in range and not early passes 2, 8 and 1 too, and its reply is its effect; a new call is computed with these.
 -- Assumes nothing.
 use Prim.Native.Nat.{ℕ}
 use native.Mathlib.Omega.{arith}
 use mathlib.Core.Path.{_≡_, refl, sym, ap, ap₂, _∙_}
-use mathlib.Core.Bool.{Bool, true, not, _&&_}
+use mathlib.Core.Bool.{Bool, true, cond, not, _&&_}
 use mathlib.Core.List.{List, [], _∷_, map}
 use lib.Dec.{leb}
 use borrow.Author.Tests.{leb-true}
@@ -20,7 +20,7 @@ use Rattle.call_lists.specs.Lists.{fresh, from-fresh}
 use Rattle.gossip.specs.Notes.{Setup, Extended}
 use Rattle.gossip.specs.Valid.{setupOk, gossipOk, validAll}
 use Rattle.gossip.specs.Calls.{New, Any, old, new, timeOfNew, newInRange, listOk}
-use Rattle.gossip.specs.Step.{FullReply, gated, newEffect, handed, extended, oldStep, newStep, stepAll}
+use Rattle.gossip.specs.Step.{FullReply, refusedAll, gated, newEffect, handed, extended, oldStep, newStep, stepAll}
 use Rattle.gossip.proofs.ListLaws.{or-true}
 use Rattle.gossip_lists.specs.Lists.{Start, afterAll}
 use Rattle.gossip_lists.specs.Kept.{Whole}
@@ -30,11 +30,14 @@ use Rattle.gossip_examples.specs.Worked.{Seen, seenOf, run, begin}
 
 abbrev effectOf : Extended → Any → FullReply
 effectOf x (old c) = extended x c (effect (x .base) c)
-effectOf x (new c) = newEffect x c
+effectOf x (new c) =
+    cond (newInRange c)
+    (cond (listOk c) (cond (leb (x .base .clock) (timeOfNew c)) (newEffect x c) (refusedAll 1 x)) (refusedAll 8 x))
+    (refusedAll 2 x)
 
 abbrev passes : Extended → Any → Bool
 passes x (old c) = inRange c && leb (x .base .clock) (timeOf c)
-passes x (new c) = newInRange c && (listOk c && leb (x .base .clock) (timeOfNew c))
+passes x (new c) = true
 
 -- whether a call passes, and what is seen of its effect
 pub record Checked : Type 0 where
@@ -66,17 +69,14 @@ module _ (x : Extended) (w : Whole x) where
       (gate-0 (x .base) (inRange c) actionRoom (timeOf c) (x .base .clock) (parts .0) (q .0) (omega arith) refl
       (leb-true (x .base .clock) (timeOf c) (q .1)))))
 
-  new-effect : (c : New) → passes x (new c) ≡ true → newStep x c actionRoom ≡ effectOf x (new c)
+  new-effect : (c : New) → newStep x c actionRoom ≡ effectOf x (new c)
   unfolding newStep gated
-  new-effect c e =
-      let q = both (newInRange c) (listOk c && leb (x .base .clock) (timeOfNew c)) e in
-      let r = both (listOk c) (leb (x .base .clock) (timeOfNew c)) (q .1) in
-      rw (w .router, q .0, r .0, r .1)
+  new-effect c = rw (w .router)
 
   is-effect : (c : Any) → passes x c ≡ true → stepAll x c actionRoom ≡ effectOf x c
   unfolding stepAll
   is-effect (old c) e = old-effect c e
-  is-effect (new c) e = new-effect c e
+  is-effect (new c) e = new-effect c
 
 -- ---- every list
 run-is : (calls : List Any) (x : Extended) → Whole x → (l : List Seen) → checked calls x ≡ map sure l → run calls x ≡ l
