@@ -37,10 +37,10 @@
  * - The action list is HIVEPADLET_ACTION_NUMBERS numbers of 32 bits, or more; under that, a call refuses (8). A call writes its
  *   actions from the start of the list and leaves the numbers past them as they were. One list may serve all calls.
  * - Lengths count elements, not bytes.
- * - The stack: most calls take some 3 KiB, hivepadlet_to_old, _announce and _beat up to 5 KiB, hivepadlet_heartbeat, _leave, _fresh,
- *   _save, _load and the functions of parameters up to 8 KiB, with the array too, as measured by tests/host_stack.c and not proved. No
- *   input makes it grow: no function calls itself but the reader and the writer of one parameter, ten deep at most, and the sorting of
- *   a save's and an IHAVE's numbers, nine deep.
+ * - The stack: most calls take some 3 KiB, hivepadlet_to_old, _announce, _ihave and _beat up to 6 KiB, hivepadlet_heartbeat, _leave,
+ *   _fresh, _save, _load and the functions of parameters up to 8 KiB, with the array too, as measured by tests/host_stack.c and not
+ *   proved. No input makes it grow: no function calls itself but the reader and the writer of one parameter, ten deep at most, and
+ *   the sorting of a save's and an IHAVE's numbers, nine deep.
  *
  * What C cannot check is up to you: a pointer is aligned, is not NULL (also where its length is 0), points to as much memory
  * as its type and length say, and what a call writes overlaps nothing else that it is given. Calls on one table must not
