@@ -10,7 +10,7 @@
 #include <ucontext.h>
 
 /* all slots but one are taken, the last by the calls that are measured */
-enum { SIZE = 1 << 18, MOST = 1 << 14, MARK = 0xa5, PEERS = HIVEPADLET_SLOTS - 1 };
+enum { SIZE = 1 << 18, MOST = 1 << 13, MARK = 0xa5, PEERS = HIVEPADLET_SLOTS - 1 };
 
 static _Alignas(64) uint8_t stack[SIZE];
 static ucontext_t home, there;
