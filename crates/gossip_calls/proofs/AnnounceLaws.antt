@@ -2,13 +2,13 @@
 -- Assumes nothing.
 use Rattle.index.proofs.Kit.{ℕ, _+_, _*_, _≤_, _≡_, refl, sym, ap, _∙_, Bool, true, false, not, arith}
 use mathlib.Core.List.{List, [], _∷_, map}
-use lib.ListN.{length, take, length-append, length-take, length-map}
+use lib.ListN.{length, take, length-append, length-take, length-map, set}
 use lib.Seq.{sets}
 use borrow.Author.Tests.{leb-true}
 use Rattle.index.proofs.Index.{both}
 use Rattle.index.proofs.Flags.{failed, passed}
 use Rattle.records.specs.Records.{State, slotCount, setClock}
-use Rattle.layout.specs.View.{stateOf}
+use Rattle.layout.specs.View.{clockAt, stateOf}
 use Rattle.words.specs.Words.{bitsOf}
 use Rattle.sets.specs.Sets.{bySlot, inOrder, isPermutation}
 use Rattle.effects.specs.Actions.{Action}
@@ -149,7 +149,7 @@ module _
       where
         pub announce-ignored :
             not joined ≡ true →
-            (r ≡ 11) × (stateOf table′ ≡ setClock (stateOf table) time) →
+            (r ≡ 11) × (stateOf table′ ≡ setClock (stateOf table) time) × (table′ ≡ set table clockAt time) →
             GivesAll reply r table table′ gossip gossip list list × (numbers ≡ sets numbers 0 (reply .numbers))
         announce-ignored j h =
             let q = announce-outside x time t order (passed ed e) (failed ej j) in

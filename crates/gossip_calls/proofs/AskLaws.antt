@@ -4,7 +4,7 @@ use Rattle.index.proofs.Kit.{ℕ, _+_, _*_, _≤_, _≡_, refl, sym, ap, _∙_,
 use mathlib.Core.Bool.{cond, _&&_, _||_}
 use mathlib.Core.List.{List, [], _∷_, _++_}
 use lib.Dec.{ltb}
-use lib.ListN.{length, length-append}
+use lib.ListN.{length, length-append, set}
 use lib.Seq.{sets}
 use borrow.Author.Tests.{ltb-true}
 use Rattle.index.proofs.Index.{both}
@@ -12,7 +12,7 @@ use Rattle.index.proofs.Flags.{failed, passed, cond-case}
 use Rattle.index.specs.declared.Found.{Found}
 use Rattle.index.specs.declared.Found.the-variants.{At, Nothing}
 use Rattle.records.specs.Records.{setClock}
-use Rattle.layout.specs.View.{stateOf}
+use Rattle.layout.specs.View.{clockAt, stateOf}
 use Rattle.lookup.specs.Find.{findConnected}
 use Rattle.effects.specs.Effects.{isJoined}
 use Rattle.gossip.specs.Notes.{Extended, noteIn, has, stored, setNote, setReplies, countIn, replied, rowsMost, numbersMost}
@@ -120,7 +120,7 @@ module _
 
     pub answer-not :
         not b ≡ true →
-        (r ≡ 11) × (stateOf table′ ≡ setClock (stateOf table) time) →
+        (r ≡ 11) × (stateOf table′ ≡ setClock (stateOf table) time) × (table′ ≡ set table clockAt time) →
         LeavesAll answered r table table′ gossip gossip × (numbers ≡ sets numbers 0 (answered .numbers))
     answer-not e h =
         let q = ihave-ignored (extendedOf table gossip) time t s given (failed eb e) in
@@ -201,7 +201,7 @@ module _
   where
     pub serve-not :
         not b ≡ true →
-        (r ≡ 11) × (stateOf table′ ≡ setClock (stateOf table) time) →
+        (r ≡ 11) × (stateOf table′ ≡ setClock (stateOf table) time) × (table′ ≡ set table clockAt time) →
         LeavesAll (iwantReply (extendedOf table gossip) time n s) r table table′ gossip gossip
     serve-not e h = ends-ignored _ time r table table′ gossip h (iwant-ignored (extendedOf table gossip) time n s (failed eb e))
 

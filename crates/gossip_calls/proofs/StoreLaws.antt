@@ -4,11 +4,11 @@ use Rattle.index.proofs.Kit.{ℕ, _+_, _*_, _≡_, refl, ap, _∙_, Bool, true,
 use mathlib.Core.Bool.{cond, _&&_}
 use mathlib.Core.List.{List, [], map}
 use lib.Dec.{ltb}
-use lib.ListN.{length}
+use lib.ListN.{length, set}
 use Rattle.index.proofs.Index.{every-by}
 use Rattle.index.proofs.Flags.{failed, passed, yes, no}
 use Rattle.records.specs.Records.{topicCount, setClock}
-use Rattle.layout.specs.View.{stateOf}
+use Rattle.layout.specs.View.{clockAt, stateOf}
 use Rattle.effects.specs.Effects.{isJoined}
 use Rattle.stores.proofs.ApartLaws.{windows-right}
 use Rattle.replies.specs.View.{repliesOf}
@@ -42,7 +42,7 @@ module _
 
     pub stored-outside :
         not joined ≡ true →
-        (r ≡ 11) × (stateOf table′ ≡ setClock (stateOf table) time) →
+        (r ≡ 11) × (stateOf table′ ≡ setClock (stateOf table) time) × (table′ ≡ set table clockAt time) →
         LeavesAll (storeReply x time t n) r table table′ gossip gossip
     stored-outside e h = ends-ignored _ time r table table′ gossip h (store-outside x time t n (failed ej e))
 

@@ -2,12 +2,12 @@
 -- Assumes nothing.
 use Rattle.index.proofs.Kit.{ℕ, _+_, _*_, _≡_, refl, sym, ap, _∙_}
 use mathlib.Core.List.{List}
-use lib.ListN.{length}
+use lib.ListN.{length, set}
 use lib.Seq.{sets}
 use Rattle.index.specs.declared.Found.{Found}
 use Rattle.index.specs.declared.Found.the-variants.{At, Nothing}
 use Rattle.records.specs.Records.{setClock}
-use Rattle.layout.specs.View.{stateOf}
+use Rattle.layout.specs.View.{clockAt, stateOf}
 use Rattle.lookup.specs.Find.{findConnected}
 use Rattle.effects.specs.Actions.{Action, numbersOf}
 use Rattle.gossip.specs.Notes.{Gossip}
@@ -26,9 +26,9 @@ module _ (o : FullReply) (time r : ℕ) (table table′ gossip : List ℕ) where
   gives-refusal list e = gives-quiet o r table table gossip gossip list (ap (λ (p : FullReply). p .actions) e) (ends-refused e)
 
   -- 11, where the clock moved last
-  module _ (h : (r ≡ 11) × (stateOf table′ ≡ setClock (stateOf table) time)) where
+  module _ (h : (r ≡ 11) × (stateOf table′ ≡ setClock (stateOf table) time) × (table′ ≡ set table clockAt time)) where
     pub ends-ignored : o ≡ ignoredAll (extendedOf table gossip) time → LeavesAll o r table table′ gossip gossip
-    ends-ignored e = rw (e, h .0) (leaves-ignored time table table′ gossip gossip (h .1) refl)
+    ends-ignored e = rw (e, h .0) (leaves-ignored time table table′ gossip (h .1) (h .2))
 
     pub gives-nothing :
         (list : List ℕ) → o ≡ ignoredAll (extendedOf table gossip) time → GivesAll o r table table′ gossip gossip list list

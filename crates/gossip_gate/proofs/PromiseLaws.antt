@@ -4,9 +4,10 @@ use Rattle.index.proofs.Kit.{ℕ, _+_, _*_, _≡_, refl, sym, ap, _∙_, Bool, 
 use mathlib.Core.Bool.{cond}
 use mathlib.Core.List.{List, []}
 use lib.Dec.{leb}
-use lib.ListN.{length}
+use lib.ListN.{length, set}
 use Rattle.records.specs.Records.{setClock}
-use Rattle.layout.specs.View.{stateOf}
+use Rattle.layout.specs.View.{clockAt, stateOf}
+use Rattle.layout.proofs.ViewLaws.{clock-again}
 use lib.Seq.{sets}
 use Rattle.effects.specs.Actions.{Action, numbersOf}
 use Rattle.gossip.specs.Notes.{Gossip, Extended}
@@ -50,16 +51,16 @@ gated-refuses x fine fits time r n e ne =
 -- a refusal
 pub leaves-refused : (n : ℕ) (table gossip : List ℕ) → LeavesAll (refusedAll n (extendedOf table gossip)) n table table gossip gossip
 leaves-refused n table gossip =
-    record { answer = omega arith; base = refl; others = refl; kept = λ e. (refl, refl) }
+    record { answer = omega arith; base = refl; others = refl; kept = λ e. (refl, refl); clock = λ e. (sym (clock-again table), refl) }
 
 -- 11: the clock moves and nothing else
 pub leaves-ignored :
-    (time : ℕ) (table table′ gossip gossip′ : List ℕ) →
+    (time : ℕ) (table table′ gossip : List ℕ) →
     stateOf table′ ≡ setClock (stateOf table) time →
-    gossipOf gossip′ ≡ gossipOf gossip →
-    LeavesAll (ignoredAll (extendedOf table gossip) time) 11 table table′ gossip gossip′
-leaves-ignored time table table′ gossip gossip′ e f =
-    record { answer = refl; base = e; others = f; kept = λ z. absurd (false-true z) }
+    table′ ≡ set table clockAt time →
+    LeavesAll (ignoredAll (extendedOf table gossip) time) 11 table table′ gossip gossip
+leaves-ignored time table table′ gossip e f =
+    record { answer = refl; base = e; others = refl; kept = λ z. absurd (false-true z); clock = λ z. (f, refl) }
   where
     false-true : _≡_ {A = Bool} false true → ⊥
     false-true z = let k : _≡_ {A = ℕ} 0 1 = ap (λ (b : Bool). cond b 1 0) z in omega arith
@@ -72,7 +73,7 @@ pub leaves-done :
     gossipOf gossip′ ≡ g →
     LeavesAll (doneAll (extendedOf table gossip) time g acts numbers) r table table′ gossip gossip′
 leaves-done time r g acts numbers table table′ gossip gossip′ q e f =
-    record { answer = q ∙ omega arith; base = e; others = f; kept = λ z. absurd (false-true z) }
+    record { answer = q ∙ omega arith; base = e; others = f; kept = λ z. absurd (false-true z); clock = λ z. absurd (omega (arith, z)) }
   where
     false-true : _≡_ {A = Bool} false true → ⊥
     false-true z = let k : _≡_ {A = ℕ} 0 1 = ap (λ (b : Bool). cond b 1 0) z in omega arith

@@ -5,9 +5,9 @@ use mathlib.Core.Path.{_≡_}
 use mathlib.Core.Bool.{Bool, true, cond, not, _||_}
 use mathlib.Core.List.{List}
 use lib.Dec.{eqb, leb}
-use lib.ListN.{length}
+use lib.ListN.{length, set}
 use lib.Seq.{sets}
-use Rattle.layout.specs.View.{stateOf}
+use Rattle.layout.specs.View.{clockAt, stateOf}
 use Rattle.effects.specs.Actions.{numbersOf}
 use Rattle.gossip.specs.Notes.{Extended}
 use Rattle.gossip.specs.Valid.{validAll}
@@ -30,6 +30,8 @@ pub record LeavesAll (o : FullReply) (r : ℕ) (table table′ gossip gossip′ 
   pub others : gossipOf gossip′ ≡ o .state .gossip
   -- a refusal changes no cell
   pub kept : refusal (o .answer) ≡ true → (table′ ≡ table) × (gossip′ ≡ gossip)
+  -- and an ignored call the clock's alone
+  pub clock : o .answer ≡ 11 → (table′ ≡ set table clockAt (o .state .base .clock)) × (gossip′ ≡ gossip)
 
 -- the same with the lent action list: it begins with the rules' actions, and the numbers past them are unchanged
 pub record GivesAll (o : FullReply) (r : ℕ) (table table′ gossip gossip′ list list′ : List ℕ) : Type 0 where

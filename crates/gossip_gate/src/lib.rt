@@ -1,9 +1,9 @@
 // The tests that every call with the array begins with (12, 2, 8, 1), and the ends that move the clock.
 ghost use mathlib.Core.Path.{_≡_};
 ghost use Prim.Native.Nat.{_+_, _*_};
-ghost use lib.ListN.{length};
+ghost use lib.ListN.{length, set};
 ghost use Rattle.records.specs.Records.{setClock};
-ghost use Rattle.layout.specs.View.{cellCount, stateOf};
+ghost use Rattle.layout.specs.View.{cellCount, clockAt, stateOf};
 ghost use Rattle.gossip.specs.Calls.{senderOk};
 ghost use Rattle.gossip_table.specs.View.{extendedOf};
 ghost use Rattle.gossip_table.specs.Fine.{Both};
@@ -76,7 +76,8 @@ pub fn finish(table: &mut [u64], time: u64, actions: usize, numbers: usize) -> u
 // 11.
 pub fn ignore(table: &mut [u64], time: u64) -> u64
     requires { ⌜ length (now table) ≡ cellCount ⌝ }
-    ensures { λ r. ⌜ (r ≡ 11) × (stateOf (now (table .exit)) ≡ setClock (stateOf (now (table .entry))) time) ⌝ }
+    ensures { λ r. ⌜ (r ≡ 11) × (stateOf (now (table .exit)) ≡ setClock (stateOf (now (table .entry))) time)
+        × (now (table .exit) ≡ set (now (table .entry)) clockAt time) ⌝ }
 {
     layout::store_clock(table, time);
     IGNORED

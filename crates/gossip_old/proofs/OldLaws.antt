@@ -52,6 +52,21 @@ refused-too ListShort e = refl
 refused-too Ignored e = absurd (false≢true e)
 refused-too NotRouter e = refl
 
+-- 11 is said by one answer alone
+ignored-too : (a : Answer) → numberOf a ≡ 11 → a ≡ Ignored
+ignored-too (Done n) e = absurd (omega (arith, e))
+ignored-too (Scored w) e = absurd (omega (arith, e))
+ignored-too Early e = absurd (omega (arith, e))
+ignored-too OutOfRange e = absurd (omega (arith, e))
+ignored-too NotConnected e = absurd (omega (arith, e))
+ignored-too AlreadyConnected e = absurd (omega (arith, e))
+ignored-too NoSlot e = absurd (omega (arith, e))
+ignored-too UnknownProtocol e = absurd (omega (arith, e))
+ignored-too NotPermutation e = absurd (omega (arith, e))
+ignored-too ListShort e = absurd (omega (arith, e))
+ignored-too Ignored e = refl
+ignored-too NotRouter e = absurd (omega (arith, e))
+
 module _ (c : Call) (a : Answer) (table table′ gossip list list′ : List ℕ) (f : Follows c a table table′ list list′) where
   abbrev o : Reply
   o = step (stateOf table) c (length list)
@@ -80,6 +95,7 @@ module _ (c : Call) (a : Answer) (table table′ gossip list list′ : List ℕ)
           base = f .leaves .state;
           others = eg ∙ sym (ap (λ (k : ℕ). cond (eqb k 0) (besides (stateOf table) c (gossipOf gossip)) (gossipOf gossip)) zero);
           kept = λ e. absurd (false≢true (sym (ap refusal zero) ∙ e));
+          clock = λ e. absurd (omega (arith, zero, e));
         };
         actions = f .actions;
       }
@@ -100,6 +116,7 @@ module _ (c : Call) (a : Answer) (table table′ gossip list list′ : List ℕ)
           base = f .leaves .state;
           others = sym (ap (λ (b : Bool). cond b (besides (stateOf table) c (gossipOf gossip)) (gossipOf gossip)) some);
           kept = λ e. (f .leaves .kept (refused-too a (ap (λ (b : Answer). refusal (numberOf b)) (f .leaves .answer) ∙ e)), refl);
+          clock = λ e. (f .leaves .clock (ignored-too a (ap numberOf (f .leaves .answer) ∙ e)), refl);
         };
         actions = f .actions;
       }

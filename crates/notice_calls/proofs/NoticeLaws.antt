@@ -6,11 +6,11 @@ use mathlib.Core.Path.{ap₂}
 use mathlib.Core.Bool.{cond, _&&_}
 use mathlib.Core.List.{List, [], _∷_}
 use lib.Dec.{leb}
-use lib.ListN.{length}
+use lib.ListN.{length, set}
 use Rattle.index.proofs.Index.{gather-short}
 use Rattle.index.proofs.Flags.{cond-case, failed, passed, yes, no}
 use Rattle.records.specs.Records.{State, slotCount, setClock}
-use Rattle.layout.specs.View.{cellCount, stateOf}
+use Rattle.layout.specs.View.{clockAt, cellCount, stateOf}
 use Rattle.words.specs.Words.{wordCount, bitsOf}
 use Rattle.words.proofs.WideLaws.{bitsOf-length}
 use Rattle.sets.specs.Sets.{at, bySlot}
@@ -79,7 +79,7 @@ module _
       where
         pub sent-ignored :
             not joined ≡ true →
-            (r ≡ 11) × (stateOf table′ ≡ setClock (stateOf table) time) →
+            (r ≡ 11) × (stateOf table′ ≡ setClock (stateOf table) time) × (table′ ≡ set table clockAt time) →
             GivesAll reply r table table′ gossip gossip list list
         sent-ignored j h =
             gives-nothing reply time r table table′ gossip h list
@@ -130,7 +130,7 @@ module _
 
     pub put-unheeded :
         not heeded ≡ true →
-        (r ≡ 11) × (stateOf table′ ≡ setClock (stateOf table) time) →
+        (r ≡ 11) × (stateOf table′ ≡ setClock (stateOf table) time) × (table′ ≡ set table clockAt time) →
         LeavesAll (idontwantReply x time n s) r table table′ gossip gossip
     put-unheeded e h = ends-ignored _ time r table table′ gossip h (heeds-not x time n s (failed eh e))
 
@@ -149,7 +149,7 @@ module _
       module _ (t : there ≡ false) (room : Bool) (er : room ≡ hasRoom (gossipOf gossip .setup) note) where
         pub put-full :
             not room ≡ true →
-            (r ≡ 11) × (stateOf table′ ≡ setClock (stateOf table) time) →
+            (r ≡ 11) × (stateOf table′ ≡ setClock (stateOf table) time) × (table′ ≡ set table clockAt time) →
             LeavesAll (idontwantReply x time n s) r table table′ gossip gossip
         put-full f h =
             ends-ignored _ time r table table′ gossip h (no-room x time n s (passed eh e) (no et t) (failed er f))
