@@ -196,7 +196,6 @@ mod linked {
     fn print_calls(rounds: usize, states: [&Lent; 6], line: impl Fn(&str, f64)) {
         let [quiet, some, stores, one_bucket, outside, all] = states;
         let slots: Vec<u64> = (0..SLOTS as u64).rev().collect();
-        let given: Vec<u64> = (0..MESSAGE_NUMBERS as u64).map(|k| NEW + 2 * k).collect();
         let stored = stored_number(1, 0, 1);
         let time = call(rounds, quiet, (SLOTS, 0), |Lent { table, gossip }, list, _| {
             send_idontwant(table, gossip, 1, TOPIC, 0, NEW, list)
@@ -219,21 +218,7 @@ mod linked {
             announce(table, gossip, 1, TOPIC, &slots, told, list)
         });
         line("announce 192 numbers, 256 targets, 2,560 stored", time);
-        let known: Vec<u64> =
-            (0..MESSAGE_NUMBERS).map(|k| stored_number(k % TOPICS, 0, k / TOPICS)).collect();
-        let sharing: Vec<u64> =
-            (0..MESSAGE_NUMBERS).rev().map(|k| in_one_bucket(ROWS + k)).collect();
-        let cases = [
-            ("IHAVE of 192 numbers, 2,560 stored", stores, &given, MESSAGE_NUMBERS),
-            ("IHAVE of 192 stored numbers, 2,560 stored", stores, &known, 0),
-            ("IHAVE of 192 that share a bucket, 2,560 stored that do too", one_bucket, &sharing, MESSAGE_NUMBERS),
-        ];
-        for (name, lent, numbers, new) in cases {
-            let time = call(rounds, lent, (0, new), |Lent { table, gossip }, list, told| {
-                ihave(table, gossip, 1, 1, TOPIC, numbers, told, list)
-            });
-            line(name, time);
-        }
+        print_ihaves(rounds, stores, one_bucket, &line);
         for (name, lent) in [("100 stored", some), ("2,560 stored", stores)] {
             let time = call(rounds, lent, (0, 0), |Lent { table, gossip }, list, _| {
                 iwant(table, gossip, 1, 1, stored, list)
@@ -246,6 +231,25 @@ mod linked {
                 beat(table, gossip, 1, list)
             });
             line(&format!("beat, {name}"), time);
+        }
+    }
+
+    fn print_ihaves(rounds: usize, stores: &Lent, one_bucket: &Lent, line: impl Fn(&str, f64)) {
+        let numbers = |number: &dyn Fn(usize) -> u64| -> Vec<u64> {
+            (0..MESSAGE_NUMBERS).map(number).collect()
+        };
+        let new = numbers(&|k| NEW + 2 * k as u64);
+        let known = numbers(&|k| stored_number(k % TOPICS, 0, k / TOPICS));
+        let sharing = numbers(&|k| in_one_bucket(ROWS + k));
+        for (name, lent, given, told) in [
+            ("192 numbers, 2,560 stored", stores, new, MESSAGE_NUMBERS),
+            ("192 stored numbers, 2,560 stored", stores, known, 0),
+            ("192 that share a bucket, 2,560 stored do too", one_bucket, sharing, MESSAGE_NUMBERS),
+        ] {
+            let time = call(rounds, lent, (0, told), |Lent { table, gossip }, list, told| {
+                ihave(table, gossip, 1, 1, TOPIC, &given, told, list)
+            });
+            line(&format!("IHAVE of {name}"), time);
         }
     }
 }
