@@ -39,9 +39,8 @@ unfolding count every first gather iter codeIn holdsGroup joinedIn peerIn setClo
 in-house =
     record {
       said = begun roomy refl _ _ refl;
-      lazy = begun (lazily 2 599) refl _ _ refl;
-      lazier = begun (lazily 3 400) refl _ _ refl;
-      factor = begun (lazily 1 600) refl _ _ refl;
-      none = begun (lazily 0 199) refl _ _ refl;
-      all = begun (lazily 48 0) refl _ _ refl;
+      lazy = begun (lazily 2 333) refl _ _ refl;
+      factor = begun (lazily 1 667) refl _ _ refl;
+      none = begun (lazily 0 333) refl _ _ refl;
+      all = begun (lazily 4 250) refl _ _ refl;
     }

@@ -260,27 +260,23 @@ tests =
     ∷ on (relay 3 0 0 6) (quiet 1)
     ∷ []
 
--- ---- how many targets are taken: a hall with five guests, 31 to 35 in slots 0 to 4
+-- ---- how many targets are taken: a hall with three guests, 31 to 33 in slots 0 to 2
 abbrev pub hall : List Any
-hall =
-    old (join 1 0)
-    ∷ guest 1 0 31
-    ++ guest 1 0 32
-    ++ guest 1 0 33
-    ++ guest 1 0 34
-    ++ guest 1 0 35
-    ++ (new (store 2 0 4) ∷ [])
+hall = old (join 1 0) ∷ guest 1 0 31 ++ guest 1 0 32 ++ guest 1 0 33 ++ (new (store 2 0 4) ∷ [])
+
+-- slot 2 first, then slot 0
+abbrev pub hallDraw : List ℕ
+hallDraw = 2 ∷ 0 ∷ 1 ∷ ascending 3 (slotCount - 3)
 
 abbrev pub Takes : Setup → List ℕ → Type 0
 Takes p ids =
-    run (hall ++ (new (announce 2 0 draw lent) ∷ [])) (begin p) ≡ map (λ c. quiet 0) hall ++ (listed (4 ∷ []) ids ∷ [])
+    run (hall ++ (new (announce 2 0 hallDraw lent) ∷ [])) (begin p) ≡ map (λ c. quiet 0) hall ++ (listed (4 ∷ []) ids ∷ [])
 
 pub record House : Type 0 where
   pub said : InHouse roomy (asks ++ relays ++ notices ++ targets ++ gossiped ++ unjoined ++ tests)
-  -- "take the larger of D_lazy and floor(count × factor / 1000)": of 2 and 2.995; of 3 and 2; of 1 and 3; of 0 and 0.995
-  pub lazy : Takes (lazily 2 599) (31 ∷ 34 ∷ [])
-  pub lazier : Takes (lazily 3 400) (31 ∷ 34 ∷ 35 ∷ [])
-  pub factor : Takes (lazily 1 600) (31 ∷ 34 ∷ 35 ∷ [])
-  pub none : Takes (lazily 0 199) []
-  -- "or all if fewer, in draw order"
-  pub all : Takes (lazily 48 0) (31 ∷ 34 ∷ 35 ∷ 32 ∷ 33 ∷ [])
+  -- "take the larger of D_lazy and floor(count × factor / 1000), or all if fewer, in draw order": of 2 and 0.999; of 1 and 2.001; of 0 and
+  -- 0.999; of 4 and 0.75, and there are three
+  pub lazy : Takes (lazily 2 333) (33 ∷ 31 ∷ [])
+  pub factor : Takes (lazily 1 667) (33 ∷ 31 ∷ [])
+  pub none : Takes (lazily 0 333) []
+  pub all : Takes (lazily 4 250) (33 ∷ 31 ∷ 32 ∷ [])

@@ -1,6 +1,6 @@
 -- The actions and the numbers of a new call fit the lent lists.
 -- Assumes nothing.
-use Prim.Native.Nat.{ℕ, _+_, _*_, _/_, _≤_, max}
+use Prim.Native.Nat.{ℕ, _+_, _*_, _≤_}
 use native.Mathlib.Omega.{arith}
 use mathlib.Core.Path.{_≡_, refl}
 use mathlib.Core.Bool.{Bool, true, false, cond, _&&_, _||_}
@@ -46,8 +46,9 @@ permutation-length : (l : List ℕ) → isPermutation slotCount l ≡ true → l
 unfolding isPermutation
 permutation-length l e = eqb-true (length l) slotCount (both (eqb (length l) slotCount) _ e .0)
 
+-- however many are taken
 chosen-short : (p : Setup) (l : List ℕ) → length (chosen p l) ≤ length l
-chosen-short p l = let z = length-take (max (p .lazy) (length l * p .factor / 1000)) l in omega arith
+chosen-short p l = rw (length-take _ l) (omega arith)
 
 any-short : (l : List ℕ) (a : List Action) (k : ℕ) → length a ≤ k → length (ifAny l a) ≤ k
 any-short [] a k h = omega arith
