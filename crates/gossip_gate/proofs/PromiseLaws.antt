@@ -59,6 +59,7 @@ pub leaves-ignored :
     stateOf table′ ≡ setClock (stateOf table) time →
     table′ ≡ set table clockAt time →
     LeavesAll (ignoredAll (extendedOf table gossip) time) 11 table table′ gossip gossip
+unfolding setClock
 leaves-ignored time table table′ gossip e f =
     record { answer = refl; base = e; others = refl; kept = λ z. absurd (false-true z); clock = λ z. (f, refl) }
   where
