@@ -1,6 +1,6 @@
 -- The ends of a call in the form in which its code reaches them: by what the rules' reply is there, and by what the last call left.
 -- Assumes nothing.
-use Rattle.index.proofs.Kit.{ℕ, _+_, _*_, _≡_, refl, sym, ap, _∙_}
+use Rattle.index.proofs.Kit.{ℕ, _+_, _*_, _≡_, sym, ap, _∙_}
 use mathlib.Core.List.{List}
 use lib.ListN.{length, set}
 use lib.Seq.{sets}
