@@ -5,3 +5,4 @@ pub mod ListLaws
 pub mod MarkLaws
 pub mod ApartLaws
 pub mod WantLaws
+pub mod SortedLaws
