@@ -29,7 +29,7 @@ use Rattle.stores.proofs.ViewLaws.{length-window, store-five}
 
 -- ---- none twice, from the front
 
-pub eqb-sym : (m n : ℕ) → eqb m n ≡ eqb n m
+eqb-sym : (m n : ℕ) → eqb m n ≡ eqb n m
 eqb-sym m n =
     by-test (eqb m n ≡ eqb n m) (eqb n m)
     (λ t. eq-eqb m n (sym (eqb-true n m t)) ∙ sym t)
@@ -63,7 +63,7 @@ apart-front (m ∷ a) b e =
 -- ---- the walk
 
 module _ (c : List ℕ) (t w : ℕ) where
-  pub before-none : before c t 0 ≡ []
+  before-none : before c t 0 ≡ []
   unfolding before gather
   before-none = refl
 

@@ -5,4 +5,3 @@ pub mod ListLaws
 pub mod MarkLaws
 pub mod ApartLaws
 pub mod WantLaws
-pub mod SortedLaws

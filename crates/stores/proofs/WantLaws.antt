@@ -37,7 +37,7 @@ seen-done l seen k h s = rw (take-all k l h) at s
 
 -- ---- a list and the same list sorted have the same numbers
 
-pub has-insert : (n x : ℕ) (l : List ℕ) → has n (insertKey x l) ≡ eqb x n || has n l
+has-insert : (n x : ℕ) (l : List ℕ) → has n (insertKey x l) ≡ eqb x n || has n l
 unfolding has insertKey
 has-insert n x [] = refl
 has-insert n x (y ∷ l) =
@@ -49,7 +49,7 @@ has-insert n x (y ∷ l) =
     swap true b c = sym (or-true b)
     swap false b c = refl
 
-pub has-sorted : (n : ℕ) (l : List ℕ) → has n (sorted l) ≡ has n l
+has-sorted : (n : ℕ) (l : List ℕ) → has n (sorted l) ≡ has n l
 unfolding has sorted
 has-sorted n [] = refl
 has-sorted n (x ∷ l) = has-insert n x (sorted l) ∙ ap (λ (b : Bool). eqb x n || b) (has-sorted n l)

@@ -20,10 +20,6 @@ placeCount = 2560
 abbrev pub storesCells : ℕ
 storesCells = 2600
 
--- how many numbers a topic has at most
-abbrev pub topicMost : ℕ
-topicMost = 320
-
 -- where the numbers of window p begin
 abbrev pub startOf : ℕ → ℕ
 startOf p = allWindows + p * windowMost

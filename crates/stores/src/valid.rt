@@ -1,19 +1,16 @@
 // Test 12 of a topic's store: at most 64 numbers a heartbeat, none twice, none at all in a topic that is not joined. A number is compared
-// with those before it only where one of them fell into the same bucket. Where that happens to many, as to numbers chosen for it, all are
-// sorted and neighbours compared, so that no choice of numbers makes the test slow.
+// with those before it only where one of them fell into the same bucket.
 ghost use mathlib.Core.Path.{_≡_};
 ghost use mathlib.Core.Bool.{true, not, _||_};
 ghost use Prim.Native.Nat.{_+_, _*_, _≤_, _<_};
-ghost use lib.ListN.{length, getD, take};
+ghost use lib.ListN.{length, getD};
 ghost use Rattle.records.specs.Records.{topicCount};
-ghost use Rattle.sorting.specs.Sorting.{Ordered};
-ghost use Rattle.gossip.specs.Notes.{has, windowCount, windowMost};
+ghost use Rattle.gossip.specs.Notes.{has, windowCount};
 ghost use Rattle.gossip.specs.Valid.{all, none, flat, apart, windowOk, storeOk};
-ghost use Rattle.stores.specs.View.{storesCells, topicMost, countAt, fiveAt, storeAt, Window, Store};
+ghost use Rattle.stores.specs.View.{storesCells, countAt, fiveAt, storeAt, Store};
 ghost use Rattle.stores.specs.Marks.{windowsOf, before, upTo, Seen, Looking, Walking};
 use crate::WINDOW_MOST;
 use crate::WINDOWS;
-use crate::append;
 use crate::is_in;
 use crate::is_in_window;
 use crate::number;
@@ -23,16 +20,6 @@ use marks::WORDS;
 use marks::bucket;
 use marks::is_marked;
 use marks::mark;
-use sorting::sort;
-
-// How many numbers a topic has at most.
-const TOPIC_MOST: usize = WINDOWS * WINDOW_MOST;
-
-// Up to so many numbers are told apart by their buckets, whatever these are: the pairs are few.
-const FEW: usize = 64;
-
-// Of more, how many may find their bucket marked before all are sorted instead.
-const ALIKE_MOST: usize = 16;
 
 // Whether no window of a topic has a number.
 fn is_vacant(cells: &[u64], t: usize) -> bool
@@ -115,8 +102,8 @@ fn window_apart(cells: &[u64], seen: &mut [u64; WORDS], t: usize, w: usize) -> b
     true
 }
 
-// Whether no number stands twice in a topic's windows, each looked for where its bucket is marked.
-fn apart_by_marks(cells: &[u64], t: usize) -> bool
+// Whether no number stands twice in a topic's windows.
+fn all_apart(cells: &[u64], t: usize) -> bool
     requires { ⌜ Store (now cells) t ⌝ }
     ensures { λ r. ⌜ r ≡ apart (flat (fiveAt (now (cells .entry)) t)) ⌝ }
 {
@@ -129,130 +116,6 @@ fn apart_by_marks(cells: &[u64], t: usize) -> bool
         w += 1;
     }
     true
-}
-
-// A topic's numbers go into the front of a list; how many.
-fn append_all(cells: &[u64], t: usize, list: &mut [u64]) -> usize
-    requires { ⌜ Store (now cells) t × (length (now list) ≡ topicMost) ⌝ }
-    ensures { λ r. ⌜ (take r (now (list .exit)) ≡ flat (fiveAt (now (cells .entry)) t))
-        × ((r ≤ topicMost) × (length (now (list .exit)) ≡ topicMost)) ⌝ }
-{
-    let mut n: usize = 0;
-    let mut w: usize = 0;
-    while w < WINDOWS {
-        n = append(cells, t * WINDOWS + w, list, n);
-        w += 1;
-    }
-    n
-}
-
-// Whether no number stands twice in an ordered list: each is looked at beside the next.
-fn is_apart(list: &[u64]) -> bool
-    requires { ⌜ Ordered (now list) ⌝ }
-    ensures { λ r. ⌜ r ≡ apart (now (list .entry)) ⌝ }
-{
-    let mut ok = true;
-    let mut k: usize = 1;
-    while k < list.len() {
-        ok = ok & (list[k - 1] < list[k]);
-        k += 1;
-    }
-    ok
-}
-
-// Whether none stands twice in a list, which is sorted for it.
-fn sort_apart(list: &mut [u64]) -> bool
-    requires { ⌜ length (now list) ≤ topicMost ⌝ }
-    ensures { λ r. ⌜ r ≡ apart (now (list .entry)) ⌝ }
-{
-    let mut spare = [0u64; TOPIC_MOST];
-    sort(list, &mut spare);
-    is_apart(list)
-}
-
-// The same of a topic's numbers.
-fn apart_sorted(cells: &[u64], t: usize) -> bool
-    requires { ⌜ Store (now cells) t ⌝ }
-    ensures { λ r. ⌜ r ≡ apart (flat (fiveAt (now (cells .entry)) t)) ⌝ }
-{
-    let mut list = [0u64; TOPIC_MOST];
-    let n = append_all(cells, t, &mut list);
-    sort_apart(&mut list[..n])
-}
-
-// 1 where a number's bucket is marked, as it is then; else 0.
-fn again(seen: &mut [u64; WORDS], n: u64) -> usize
-    ensures { λ r. ⌜ r ≤ 1 ⌝ }
-{
-    let b = bucket(n);
-    if is_marked(seen, b) {
-        return 1;
-    }
-    mark(seen, b);
-    0
-}
-
-// How many of a window's numbers find their bucket marked.
-fn window_alike(cells: &[u64], seen: &mut [u64; WORDS], p: usize) -> usize
-    requires { ⌜ Window (now cells) p ⌝ }
-    ensures { λ r. ⌜ r ≤ windowMost ⌝ }
-{
-    let n = size(cells, p);
-    let mut many: usize = 0;
-    let mut k: usize = 0;
-    while k < n {
-        many += again(seen, number(cells, p, k));
-        k += 1;
-    }
-    many
-}
-
-// How many of a topic's share a bucket with one before it. The two ways of the test tell the same, so nothing rests on this count.
-fn alike(cells: &[u64], t: usize) -> usize
-    requires { ⌜ Store (now cells) t ⌝ }
-{
-    let mut seen: [u64; WORDS] = [0; WORDS];
-    let mut many: usize = 0;
-    let mut w: usize = 0;
-    while w < WINDOWS {
-        many += window_alike(cells, &mut seen, t * WINDOWS + w);
-        w += 1;
-    }
-    many
-}
-
-// How many numbers a topic has.
-fn count(cells: &[u64], t: usize) -> usize
-    requires { ⌜ Store (now cells) t ⌝ }
-{
-    let mut n: usize = 0;
-    let mut w: usize = 0;
-    while w < WINDOWS {
-        n += size(cells, t * WINDOWS + w);
-        w += 1;
-    }
-    n
-}
-
-// Whether so many share their buckets that they are better sorted.
-fn is_crowded(cells: &[u64], t: usize) -> bool
-    requires { ⌜ Store (now cells) t ⌝ }
-{
-    if count(cells, t) <= FEW {
-        return false;
-    }
-    alike(cells, t) > ALIKE_MOST
-}
-
-// Whether no number stands twice in a topic's windows.
-fn all_apart(cells: &[u64], t: usize) -> bool
-    requires { ⌜ Store (now cells) t ⌝ }
-    ensures { λ r. ⌜ r ≡ apart (flat (fiveAt (now (cells .entry)) t)) ⌝ }
-{
-    if is_crowded(cells, t) {
-        return apart_sorted(cells, t);
-    }
-    apart_by_marks(cells, t)
 }
 
 // Whether a topic's store is right.

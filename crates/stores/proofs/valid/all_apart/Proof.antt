@@ -1,4 +1,4 @@
--- `stores::valid::apart_by_marks`: after w turns the numbers of the first w windows are apart, each with its bucket marked.
+-- `stores::valid::all_apart`: after w turns the numbers of the first w windows are apart, each with its bucket marked.
 -- Assumes nothing.
 use Prim.Native.Nat.{_-_, _≤_}
 use native.Mathlib.Omega.{arith}
@@ -11,8 +11,8 @@ use Rattle.gossip.specs.Notes.{windowCount}
 use Rattle.gossip.specs.Valid.{apart}
 use Rattle.stores.specs.Marks.{before, Seen}
 use Rattle.stores.proofs.ApartLaws.{none-apart, none-seen, all-out, all-in}
-use Rattle.stores.proofs.valid.apart_by_marks.Statement.{statement}
-use Rattle.stores.proofs.valid.apart_by_marks.Tie as tie
+use Rattle.stores.proofs.valid.all_apart.Statement.{statement}
+use Rattle.stores.proofs.valid.all_apart.Tie as tie
 
 abbrev Inv-loop : tie.InvT-loop
 Inv-loop cells t seen₀ w₀ seen w = (w ≤ windowCount) × (apart (before cells t w) ≡ true) × Seen (before cells t w) seen
@@ -41,8 +41,8 @@ returns-2 c =
     let l = c .before .loop in
     all-in _ _ (l .w) (l .inv .0) (omega arith) (l .inv .1)
 
-pub apart-by-marks-spec : {M : Type 1} → statement M
-apart-by-marks-spec =
+pub all-apart-spec : {M : Type 1} → statement M
+all-apart-spec =
     tie.close
     (tie.spec
     Inv-loop
