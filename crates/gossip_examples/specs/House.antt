@@ -182,23 +182,23 @@ lent = 192
 abbrev pub bySlots : List ℕ
 bySlots = ascending 0 slotCount
 
--- a draw that is neither by slot nor against it; one with slot 0 twice, and slot 255 not at all
-abbrev pub draw : List ℕ
-draw = 10 ∷ 0 ∷ 6 ∷ 3 ∷ 4 ∷ 9 ∷ 5 ∷ 1 ∷ 2 ∷ 8 ∷ 7 ∷ ascending 11 (slotCount - 11)
+-- a permutation that is neither by slot nor against it; what is none, with slot 0 twice and slot 255 not at all
+abbrev pub mixed : List ℕ
+mixed = 10 ∷ 0 ∷ 6 ∷ 3 ∷ 4 ∷ 9 ∷ 5 ∷ 1 ∷ 2 ∷ 8 ∷ 7 ∷ ascending 11 (slotCount - 11)
 
-abbrev pub noDraw : List ℕ
-noDraw = 0 ∷ ascending 0 (slotCount - 1)
+abbrev pub repeated : List ℕ
+repeated = 0 ∷ ascending 0 (slotCount - 1)
 
 -- "Targets are connected subscribed non-members, not explicit, scoring at least the gossip threshold", "in draw order", "none without
 -- numbers": in topic 0 those in slots 4, 6 and 10
 abbrev pub targets : List Case
 targets =
-    on (announce 2 0 draw lent) (listed [] [])
+    on (announce 2 0 mixed lent) (listed [] [])
     ∷ on (store 2 0 4) (quiet 0)
     ∷ on (store 2 1 8) (quiet 0)
     ∷ on (announce 2 0 bySlots lent) (listed (4 ∷ []) (atGossip ∷ aboveGossip ∷ oldest ∷ []))
-    ∷ on (announce 2 0 draw lent) (listed (4 ∷ []) (oldest ∷ aboveGossip ∷ atGossip ∷ []))
-    ∷ on (announce 2 1 draw lent) (listed (8 ∷ []) (elsewhere ∷ []))
+    ∷ on (announce 2 0 mixed lent) (listed (4 ∷ []) (oldest ∷ aboveGossip ∷ atGossip ∷ []))
+    ∷ on (announce 2 1 mixed lent) (listed (8 ∷ []) (elsewhere ∷ []))
     ∷ []
 
 -- "IHAVE [..], or IWANT of one number, from a non-explicit peer under the threshold is 11": a member too; at the threshold it is not
@@ -227,20 +227,20 @@ gossiped =
 
 -- ---- both orders
 -- "Ask and relay in a topic not joined are 11"; "store, announce or IHAVE in a topic not joined is 11". Of the tests 12, 2, 8, 1, 6, 7, 3,
--- 4, 5, 11, a sender that is not connected (3) and a draw that is none (7) come first
+-- 4, 5, 11, a sender that is not connected (3) and a permutation that is none (7) come first
 abbrev pub unjoined : List Case
 unjoined =
     on (askAll 2 2 member 6) (quiet 11)
     ∷ on (relay 2 2 0 6) (quiet 11)
     ∷ on (store 2 2 6) (quiet 11)
-    ∷ on (announce 2 2 draw lent) (quiet 11)
+    ∷ on (announce 2 2 mixed lent) (quiet 11)
     ∷ on (ihave 2 member 2 (7 ∷ []) lent) (quiet 11)
     ∷ on (askAll 2 2 stranger 6) (quiet 3)
     ∷ on (relay 2 2 gone 6) (quiet 3)
     ∷ on (ihave 2 stranger 2 (7 ∷ []) lent) (quiet 3)
     ∷ on (iwant 2 stranger 7) (quiet 3)
-    ∷ on (announce 2 2 noDraw lent) (quiet 7)
-    ∷ on (announce 2 0 noDraw lent) (quiet 7)
+    ∷ on (announce 2 2 repeated lent) (quiet 7)
+    ∷ on (announce 2 0 repeated lent) (quiet 7)
     ∷ []
 
 -- "IHAVE of up to 192 numbers (more: 2)"; lists of under 192 numbers are 8; 2, 8 and 1 come first, in this order. 11 moves the clock and 3
@@ -251,8 +251,8 @@ tests =
     ∷ on (ihave 1 stranger 0 (ascending 100 192) 191) (quiet 8)
     ∷ on (ihave 1 stranger 0 (ascending 100 192) 192) (quiet 1)
     ∷ on (ihave 2 stranger 0 (ascending 100 192) 192) (quiet 3)
-    ∷ on (announce 1 0 noDraw 191) (quiet 8)
-    ∷ on (announce 1 0 noDraw 192) (quiet 1)
+    ∷ on (announce 1 0 repeated 191) (quiet 8)
+    ∷ on (announce 1 0 repeated 192) (quiet 1)
     ∷ on (idontwant 2 0 6) (quiet 2)
     ∷ on (relay 2 8 0 6) (quiet 2)
     ∷ on (relay 5 0 stranger 6) (quiet 3)
@@ -265,12 +265,12 @@ abbrev pub hall : List Any
 hall = old (join 1 0) ∷ guest 1 0 31 ++ guest 1 0 32 ++ guest 1 0 33 ++ (new (store 2 0 4) ∷ [])
 
 -- slot 2 first, then slot 0
-abbrev pub hallDraw : List ℕ
-hallDraw = 2 ∷ 0 ∷ 1 ∷ ascending 3 (slotCount - 3)
+abbrev pub hallOrder : List ℕ
+hallOrder = 2 ∷ 0 ∷ 1 ∷ ascending 3 (slotCount - 3)
 
 abbrev pub Takes : Setup → List ℕ → Type 0
 Takes p ids =
-    run (hall ++ (new (announce 2 0 hallDraw lent) ∷ [])) (begin p) ≡ map (λ c. quiet 0) hall ++ (listed (4 ∷ []) ids ∷ [])
+    run (hall ++ (new (announce 2 0 hallOrder lent) ∷ [])) (begin p) ≡ map (λ c. quiet 0) hall ++ (listed (4 ∷ []) ids ∷ [])
 
 pub record House : Type 0 where
   pub said : InHouse roomy (asks ++ relays ++ notices ++ targets ++ gossiped ++ unjoined ++ tests)

@@ -13,7 +13,7 @@ ghost use mathlib.Core.List.{List};
 ghost use lib.ListN.{length};
 ghost use Rattle.index.specs.declared.Found.the-variants.{Nothing};
 ghost use Rattle.varint.specs.Groups.{readAt};
-ghost use Rattle.params.specs.declared.Params.{Params as Sheet};
+ghost use Rattle.params.specs.declared.Params.{Params as Parameters};
 ghost use Rattle.params.specs.Check.{firstBroken};
 ghost use Rattle.records.specs.Records.{State, slotCount, paramCount};
 ghost use Rattle.layout.specs.View.{cellCount, stateOf};
@@ -70,7 +70,7 @@ fn judge(codes: &[u64], s: &[u8], at: usize, n: usize) -> Found
 // The n records that stand from `at` on.
 fn check_records(codes: &[u64], s: &[u8], n: usize, at: usize) -> Check
     requires { ⌜ (length (now codes) ≡ paramCount) × (n ≤ slotCount) ⌝ }
-    ensures { λ r. ⌜ ((p : Sheet) (clock : ℕ) → Coded p (now (codes .entry)) →
+    ensures { λ r. ⌜ ((p : Parameters) (clock : ℕ) → Coded p (now (codes .entry)) →
         Says p clock (now (s .entry)) (recordsOf p clock (now (s .entry)) n at) r) ⌝ }
 {
     match passes::skim_numbers(s, at, n * ROW) {
@@ -90,7 +90,7 @@ fn check_records(codes: &[u64], s: &[u8], n: usize, at: usize) -> Check
 // The count at `at`, of an edition with at most so many records.
 fn check_count(codes: &[u64], s: &[u8], most: usize, at: usize) -> Check
     requires { ⌜ (length (now codes) ≡ paramCount) × (most ≤ slotCount) ⌝ }
-    ensures { λ r. ⌜ ((p : Sheet) (clock : ℕ) → Coded p (now (codes .entry)) →
+    ensures { λ r. ⌜ ((p : Parameters) (clock : ℕ) → Coded p (now (codes .entry)) →
         Says p clock (now (s .entry)) (counted p clock (now (s .entry)) most at (readAt 18446744073709551615 (now (s .entry)) at)) r) ⌝ }
 {
     match varint::read_u64(s, at) {
@@ -107,7 +107,7 @@ fn check_count(codes: &[u64], s: &[u8], most: usize, at: usize) -> Check
 // The edition at the front.
 fn check_edition(codes: &[u64], s: &[u8]) -> Check
     requires { ⌜ length (now codes) ≡ paramCount ⌝ }
-    ensures { λ r. ⌜ ((p : Sheet) (clock : ℕ) → Coded p (now (codes .entry)) →
+    ensures { λ r. ⌜ ((p : Parameters) (clock : ℕ) → Coded p (now (codes .entry)) →
         Says p clock (now (s .entry)) (opened p clock (now (s .entry)) (readAt 18446744073709551615 (now (s .entry)) 0)) r) ⌝ }
 {
     match varint::read_u64(s, 0) {

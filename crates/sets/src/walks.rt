@@ -134,11 +134,11 @@ pub fn bottom(scores: &[u64], p: [u64; WORDS], order: &[u64]) -> u64
 pub fn goer(scores: &[u64], order: &[u64], b: [u64; WORDS], p: [u64; WORDS]) -> u64
     ensures { λ r. ⌜ r ≡ goer slotCount (now (scores .entry)) (now (order .entry)) (bitsOf b) (bitsOf p) ⌝ }
 {
-    let drawn = except(p, b);
-    if size(drawn) == 0 {
+    let others = except(p, b);
+    if size(others) == 0 {
         return bottom(scores, p, order);
     }
-    last_of(drawn, order)
+    last_of(others, order)
 }
 
 // Step 3's swaps of the keepers k of the mesh m, whose best are b, until out of them are outbound or none is left.
