@@ -9,7 +9,7 @@ use mathlib.Core.Bool.{Bool, true, false, not, ◌&&◌}
 use mathlib.Core.List.{List}
 use lib.Dec.{eqb}
 use lib.ListN.{length}
-use borrow.Author.Tests.{eqb-true, eqb-false, not_true}
+use borrow.Author.Tests.{eqb-true, eqb-false, not-true}
 use Rattle.index.specs.Index.{count, iter}
 use Rattle.index.proofs.Index.{count_same}
 use Rattle.index.proofs.Flags.{by_test, cond_case}
@@ -128,7 +128,7 @@ module _
         (λ b.
         inl (
           (slots_in (is_member st t) slot_count s (both_left view.members (goods view) s b)).1,
-          not_true (is_negative st s)
+          not-true (is_negative st s)
               (sym (view_goods st time t ask order h.router s l) ∙ both_right view.members (goods view) s b),
         ))
         (λ c. inr (slots_in (is_candidate st time t) slot_count s c).1)
@@ -181,7 +181,7 @@ module _
       -- ---- the topic that was maintained
       maintained_good : (s : ℕ) → s < slot_count → is_member left t s ≡ true → is_negative st s ≡ false
       maintained_good s l m =
-          not_true (is_negative st s)
+          not-true (is_negative st s)
           (sym (view_goods st time t ask order h.router s l) ∙ kept.only s (sym (member_here s l) ∙ m))
 
       -- an outbound member, by the list and by the directions

@@ -1,4 +1,4 @@
--- The set_up stands after every list of calls: it is part of the invariant of demand 3.
+-- The set-up stands after every list of calls: it is part of the invariant of demand 3.
 -- Assumes nothing.
 use Rattle.call_lists.specs.Setup.{SetupStands}
 use Rattle.call_lists.proofs.Demand3.{standing}

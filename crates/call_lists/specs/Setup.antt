@@ -1,4 +1,4 @@
--- A router keeps the set_up that it was made with, whatever calls come: the edition of its parameters (02, order 14).
+-- A router keeps the set-up that it was made with, whatever calls come: the edition of its parameters (02, order 14).
 use Rattle.std.specs.Prelude.{◌≡◌, List}
 use Rattle.lookup.specs.Fresh.{setup_of}
 use Rattle.call_lists.specs.Lists.{Start, Made, after}

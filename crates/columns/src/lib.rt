@@ -39,7 +39,7 @@ fn gathered(cells: &[u64], at: usize, n: usize, k: u64) -> u64
     acc
 }
 
-#[derive(Drop)]
+#[derive(Clone, Copy)]
 struct Unions {
     a: u64,
     b: u64,

@@ -7,7 +7,7 @@ use records::TopicRecord;
 use score::TopicParams;
 
 // What a delivery adds to the counters of P2, P3 and P4.
-#[derive(Drop)]
+#[derive(Clone, Copy)]
 pub struct Addition {
     pub p2: u64,
     pub p3: u64,

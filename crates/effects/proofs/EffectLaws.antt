@@ -9,7 +9,7 @@ use mathlib.Core.List.{List}
 use lib.ListN.{length, get_or, length-set}
 use lib.Seq.{get_or-set_same, get_or-set_other, set-set}
 use lib.Dec.{eqb, leb}
-use borrow.Author.Tests.{leb-true, ltb-false, eqb-true, not_true, ne_eqb}
+use borrow.Author.Tests.{leb-true, ltb-false, eqb-true, not-true, ne_eqb}
 use Rattle.index.specs.Index.{every, first, iter}
 use Rattle.index.specs.declared.Found.TheVariants.{Nothing}
 use Rattle.index.proofs.Index.{both, every_at, iter_keeps, first_passed}
@@ -38,7 +38,7 @@ place_slot s t u v h k n e = n (omega arith)
 pub place_topic : (s t v : ℕ) → v ≢ t → place s v ≢ place s t
 place_topic s t v n e = n (omega arith)
 
--- ---- what stays: `Kept a b` says that b has a's clock, joined flags, codes and set_up
+-- ---- what stays: `Kept a b` says that b has a's clock, joined flags, codes and set-up
 
 pub record Kept (a b : State) : Type 0 where
   pub clock : b.clock ≡ a.clock
@@ -488,7 +488,7 @@ module _ (p : Peer) (time : ℕ) (h : reclaimable p time ≡ true) where
       ltb-false
       time
       (get_or p.backoff t 0)
-      (not_true (backoff_runs p t time) (every_at (λ i. not (backoff_runs p i time)) 8 t early.1 k))
+      (not-true (backoff_runs p t time) (every_at (λ i. not (backoff_runs p i time)) 8 t early.1 k))
 
 -- a record that is not retained is not reclaimable
 pub reclaimable_not : (p : Peer) (time : ℕ) → is_retained p ≡ false → reclaimable p time ≡ false

@@ -82,14 +82,14 @@ pub fn prune_slot(table: &mut [u64], topic: usize, slot: usize, end: u64)
 // Into the mesh.
 pub fn graft_slot(table: &mut [u64], topic: usize, slot: usize, time: u64)
     requires { AtPlace table.old topic slot }
-    ensures* { λ r. ⌜ state_of table.new ≡ on_topic (state_of table.old) slot topic (λ r. into_mesh r time) ⌝ }
+    ensures { state_of table.new ≡ on_topic (state_of table.old) slot topic (λ r. into_mesh r time) }
 {
     layout::enter_mesh(table, slot * 8 + topic, time);
 }
 
 pub fn subscribe_slot(table: &mut [u64], topic: usize, slot: usize)
     requires { AtPlace table.old topic slot }
-    ensures* { λ r. ⌜ state_of table.new ≡ on_topic (state_of table.old) slot topic (λ r. with_subscribed r 1) ⌝ }
+    ensures { state_of table.new ≡ on_topic (state_of table.old) slot topic (λ r. with_subscribed r 1) }
 {
     layout::store_subscribed(table, slot * 8 + topic, 1);
 }
@@ -97,8 +97,8 @@ pub fn subscribe_slot(table: &mut [u64], topic: usize, slot: usize)
 // Out of the mesh, and not subscribed.
 pub fn unsubscribe_slot(table: &mut [u64], topic: usize, slot: usize)
     requires { AtPlace table.old topic slot }
-    ensures* { λ r. ⌜ state_of table.new
-        ≡ on_topic (state_of table.old) slot topic (λ r. with_subscribed (out_of_mesh r) 0) ⌝ }
+    ensures { state_of table.new
+        ≡ on_topic (state_of table.old) slot topic (λ r. with_subscribed (out_of_mesh r) 0) }
 {
     layout::leave_mesh(table, slot * 8 + topic);
     layout::store_subscribed(table, slot * 8 + topic, 0);

@@ -6,7 +6,7 @@ pub mod test;
 ghost use Rattle.forms.specs.Turns.{FromRows, ToRows};
 
 // Whether a table was turned: test 12 is made first, and a table that is no router's leaves the other memory as it was.
-#[derive(Drop)]
+#[derive(Clone, Copy)]
 pub enum Turned {
     Done,
     NotRouter,

@@ -49,7 +49,7 @@ fine_stands st u g f same joined =
           replies_remain st g.setup.replies (stored g) g.replies f.replies u (stored g) (remain_same st u same) (λ n e. e);
     }
 
--- ---- notes, stores and replies change, and the set_up numbers stand
+-- ---- notes, stores and replies change, and the set-up numbers stand
 pub fine_by :
     (st u : State) (g h : Gossip) →
     Fine st g →

@@ -7,7 +7,7 @@ use mathlib.Core.Bool.{Bool, true, false, not, ◌&&◌, ◌||◌}
 use mathlib.Core.List.{List, [], ◌∷◌, ◌++◌, map}
 use lib.Dec.{eqb, ltb}
 use lib.ListN.{length, take}
-use borrow.Author.Tests.{eqb-true, eqb-false, eq-eqb, le-leb, ltb-true, ltb-false, lt-ltb, not_true}
+use borrow.Author.Tests.{eqb-true, eqb-false, eq-eqb, le-leb, ltb-true, ltb-false, lt-ltb, not-true}
 use Rattle.index.proofs.Index.{both}
 use Rattle.index.proofs.Flags.{by_test, not_yes}
 use Rattle.sets.specs.Sets.{occurs}
@@ -77,7 +77,7 @@ apart_at (m ∷ l) a n =
     by_test _ (eqb m n)
     (λ y.
     let i : m ≡ n = eqb-true m n y in
-    let z : occurs n l ≡ 0 = rw i at (has_not m l (not_true (has m l) q.0)) in
+    let z : occurs n l ≡ 0 = rw i at (has_not m l (not-true (has m l) q.0)) in
     rw (y, z) (omega arith))
     (λ y. rw y (apart_at l q.1 n))
 

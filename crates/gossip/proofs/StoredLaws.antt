@@ -8,7 +8,7 @@ use mathlib.Core.Bool.{Bool, true, false, cond, not, ◌||◌}
 use mathlib.Core.List.{List, [], ◌∷◌}
 use lib.Dec.{eqb}
 use lib.ListN.{length, length-append}
-use borrow.Author.Tests.{eqb-true, eq-eqb, ne_eqb, leb-true, not_true}
+use borrow.Author.Tests.{eqb-true, eq-eqb, ne_eqb, leb-true, not-true}
 use Rattle.index.specs.Index.{gather}
 use Rattle.index.proofs.Index.{both}
 use Rattle.index.proofs.Flags.{by_test, not_yes}
@@ -78,7 +78,7 @@ unfolding apart has
 apart_fits [] m a h = omega arith
 apart_fits (k ∷ l) m a h =
     let q = both (not (has k l)) (apart l) a in
-    let out = not_true (has k l) q.0 in
+    let out = not-true (has k l) q.0 in
     let z = without_length k m (h k (rw (eq-eqb k k refl))) in
     let i =
     apart_fits l (without k m) q.1 (λ n e.

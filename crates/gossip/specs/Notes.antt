@@ -1,4 +1,4 @@
--- What orders 6 and 7 add to the router's state: set_up numbers, a note for each slot, a store for each topic, and the replies.
+-- What orders 6 and 7 add to the router's state: set-up numbers, a note for each slot, a store for each topic, and the replies.
 -- Every list has one form for one content: a set and the replies rise by number, a store goes by heartbeat and arrival.
 use Rattle.std.specs.Prelude.{ℕ, zero, suc, ◌+◌, Bool, false, cond, ◌||◌, List, [], ◌∷◌, ◌++◌, map, eqb, ltb, get_or, set, take, replicate}
 use Rattle.records.specs.Records.{State, slot_count, topic_count}

@@ -1,4 +1,4 @@
--- What a list starts from, with accepted set_up numbers, is a router's, and so is what every list of calls leaves.
+-- What a list starts from, with accepted set-up numbers, is a router's, and so is what every list of calls leaves.
 -- Assumes nothing.
 use mathlib.Core.Path.{◌≡◌, ap, ◌∙◌}
 use mathlib.Core.Bool.{true, false}

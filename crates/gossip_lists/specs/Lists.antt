@@ -17,12 +17,12 @@ pub record Did : Type 0 where
   pub call : Any
   pub room : ℕ
 
--- what a list starts from: a router as in call_lists, and the set_up numbers of orders 6 and 7
+-- what a list starts from: a router as in call_lists, and the set-up numbers of orders 6 and 7
 pub record Start : Type 0 where
   pub router : Router
   pub setup : Setup
 
--- a fresh or loaded router with accepted parameters, and set_up numbers within their bounds
+-- a fresh or loaded router with accepted parameters, and set-up numbers within their bounds
 pub record AcceptedAll (start : Start) : Type 0 where
   pub router : Accepted start.router
   pub setup : setup_ok start.setup ≡ true

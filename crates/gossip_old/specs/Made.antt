@@ -13,7 +13,7 @@ use Rattle.gossip_table.specs.View.{extended_of}
 use Rattle.gossip_old.specs.declared.Making.{Making}
 use Rattle.gossip_old.specs.declared.Making.TheVariants.{Done, OutOfRange, Broken}
 
--- ---- a fresh router: the set_up numbers are "given at set_up beside the sheet (else 2, tested before the sheet)"
+-- ---- a fresh router: the set-up numbers are "given at set-up beside the sheet (else 2, tested before the sheet)"
 abbrev pub sheeted : Found → Making
 sheeted (At i) = Broken i
 sheeted Nothing = Done
@@ -48,7 +48,7 @@ pub record MakesAll (p : Setup) (all : Params) (r : Making) (table table' gossip
   pub state : extended_of table' gossip' ≡ made_by r p all (extended_of table gossip)
   pub kept : is_made r ≡ false → (table' ≡ table) × (gossip' ≡ gossip)
 
--- ---- a load: "A load tests the set_up numbers (2), the sheet (9 as in 01), the clock (2), .." (crate saves), and "all else [is] 0"
+-- ---- a load: "A load tests the set-up numbers (2), the sheet (9 as in 01), the clock (2), .." (crate saves), and "all else [is] 0"
 abbrev pub loaded_by : Loading → Setup → Extended → Extended
 loaded_by (loaded st) p x = record { base = st; gossip = fresh_gossip p }
 loaded_by out_of_range p x = x

@@ -23,9 +23,9 @@ use lookup::find::find_connected;
 use records::SLOTS;
 use words::{WORDS, next};
 
-// What came of making a fresh router with an array: both are made, or a set_up number is out of its range, or the first number or rule of
+// What came of making a fresh router with an array: both are made, or a set-up number is out of its range, or the first number or rule of
 // the parameters that is broken.
-#[derive(Drop)]
+#[derive(Clone, Copy)]
 pub enum Making {
     Done,
     OutOfRange,

@@ -1,4 +1,4 @@
-// Making a router with an array in which nothing is held: fresh, or of a save. The set_up numbers are tested first; what is not answered 0
+// Making a router with an array in which nothing is held: fresh, or of a save. The set-up numbers are tested first; what is not answered 0
 // writes nothing.
 ghost use Rattle.std.specs.Prelude.{◌≡◌, length};
 ghost use Rattle.saves.specs.Load.{load_of};
@@ -14,7 +14,7 @@ use lookup::Made;
 use params::Params;
 use saves::Loaded;
 
-// Whether the set_up numbers are in their ranges: the limit, D_lazy, the factor, and the bounds of IHAVEs and of replies.
+// Whether the set-up numbers are in their ranges: the limit, D_lazy, the factor, and the bounds of IHAVEs and of replies.
 fn setup_ok(setup: &[u64; SETUP]) -> bool
     ensures { result ≡ setup_ok (setup_of setup.now) }
 {
@@ -29,7 +29,7 @@ fn make_array(setup: &[u64; SETUP], gossip: &mut [u64])
     gossip_table::made::make(gossip, setup[0], setup[1], setup[2], setup[3], setup[4]);
 }
 
-// A fresh router with these parameters and set_up numbers.
+// A fresh router with these parameters and set-up numbers.
 pub fn fresh(
     all: Params,
     setup: &[u64; SETUP],
@@ -51,7 +51,7 @@ pub fn fresh(
     }
 }
 
-// A router of a save with parameters and set_up numbers, at a clock.
+// A router of a save with parameters and set-up numbers, at a clock.
 pub fn load(
     all: Params,
     setup: &[u64; SETUP],

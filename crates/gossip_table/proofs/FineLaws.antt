@@ -17,7 +17,7 @@ module _ (st : State) (g : Gossip) (ok : gossip_ok st g ≡ true) where
   abbrev fine : Fine st g
   fine = fine_of st g ok
 
-  -- the set_up numbers
+  -- the set-up numbers
   pub fine_limit : (1 ≤ g.setup.limit) × (g.setup.limit ≤ 32)
   unfolding setup_ok
   fine_limit =

@@ -108,7 +108,7 @@ pub beat_back :
 unfolding gossip_of notes_of
 beat_back c l size long e = notes_put c l size long ∙ ap (set_notes (gossip_of c)) e
 
--- what is read of a note, with a set_up number that was read before
+-- what is read of a note, with a set-up number that was read before
 module _ (c : List ℕ) (s : ℕ) (r : Bool) where
   pub room_by :
       (limit : ℕ) →

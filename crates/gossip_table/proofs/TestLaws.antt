@@ -137,7 +137,7 @@ rows_few on most l e =
     let a = both (leb (length l) rows_most && rises (map row_number l)) _ e in
     leb-true (length l) rows_most (both (leb (length l) rows_most) (rises (map row_number l)) a.0).0
 
--- ---- the set_up numbers, and all together
+-- ---- the set-up numbers, and all together
 pub numbers_judged :
     (c : List ℕ) (limit lazy factor ihaves replies : ℕ) (r : Bool) →
     limit ≡ (gossip_of c).setup.limit →

@@ -96,7 +96,7 @@ pub record Stored (table gossip : List ℕ) : Type 0 where
   pub sizes : length gossip ≡ gossip_cells
   pub windows : Windows (stores_part gossip)
 
--- one of the slots, and two of the set_up numbers
+-- one of the slots, and two of the set-up numbers
 pub record Noted (table gossip : List ℕ) (s limit ihaves : ℕ) : Type 0 where
   pub size : length table ≡ cell_count
   pub sizes : length gossip ≡ gossip_cells

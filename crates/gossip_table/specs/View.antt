@@ -1,4 +1,4 @@
--- How one lent array holds what orders 6 and 7 add to the state: the set_up numbers, then three parts, each known to a crate of its own.
+-- How one lent array holds what orders 6 and 7 add to the state: the set-up numbers, then three parts, each known to a crate of its own.
 use Rattle.std.specs.Prelude.{ℕ, ◌+◌, List, get_or}
 use Rattle.layout.specs.View.{state_of}
 use Rattle.notes.specs.View.{notes_cells, notes_of}

@@ -1,4 +1,4 @@
-// The array of orders 6 and 7: five set_up numbers, then three parts, each known to a crate of its own. A function here lends one part to
+// The array of orders 6 and 7: five set-up numbers, then three parts, each known to a crate of its own. A function here lends one part to
 // that crate, and promises what becomes of the whole.
 pub mod made;
 pub mod noted;
@@ -22,7 +22,7 @@ pub const REPLIES_AT: usize = STORES_AT + STORES_CELLS;
 // How many numbers the array has.
 pub const GOSSIP_CELLS: usize = REPLIES_AT + REPLIES_CELLS;
 
-// The set_up numbers.
+// The set-up numbers.
 pub const SETUP: usize = 5;
 
 pub fn load_limit(gossip: &[u64]) -> u64

@@ -27,7 +27,7 @@ fn make_replies(gossip: &mut [u64])
     replies::make(&mut gossip[REPLIES_AT..GOSSIP_CELLS]);
 }
 
-// The set_up numbers into the head.
+// The set-up numbers into the head.
 fn make_head(gossip: &mut [u64], limit: u64, lazy: u64, factor: u64, ihaves: u64, replies: u64)
     requires { length gossip.old ≡ gossip_cells }
     ensures { gossip_of gossip.new

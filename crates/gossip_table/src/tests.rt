@@ -1,4 +1,4 @@
-// Test 12 of the array: the set_up numbers, the notes, the stores, the replies. What is not in use costs nothing.
+// Test 12 of the array: the set-up numbers, the notes, the stores, the replies. What is not in use costs nothing.
 ghost use Rattle.std.specs.Prelude.{◌≡◌, length};
 ghost use Rattle.index.specs.Index.{every};
 ghost use Rattle.records.specs.Records.{slot_count, topic_count, peer_in};
@@ -17,7 +17,7 @@ use crate::{
 use effects::slots::is_joined;
 use records::{SLOTS, TOPICS};
 
-// Five set_up numbers are in their ranges.
+// Five set-up numbers are in their ranges.
 pub fn setup_ok(limit: u64, lazy: u64, factor: u64, ihaves: u64, replies: u64) -> bool
     ensures { result ≡ setup_ok (setup_by limit lazy factor ihaves replies) }
 {

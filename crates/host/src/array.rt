@@ -15,7 +15,7 @@ use gossip_table::{GOSSIP_CELLS, SETUP};
 use layout::CELLS;
 use limits::NUMBERS;
 
-// The ordinary set_up numbers.
+// The ordinary set-up numbers.
 #[unsafe(no_mangle)]
 pub extern "C" fn hivepadlet_ordinary_setup(setup: &mut [u64; SETUP])
     ensures { setup.new ≡ ordinary_setup }
@@ -38,7 +38,7 @@ pub extern "C" fn hivepadlet_gossip_fresh(
     host_gossip::fresh(numbers, edition, setup, table, gossip)
 }
 
-// Makes a router of a save, its parameters and the set_up numbers, at a clock: 0, 2, 9 with the index, the rule or the place, or 10 with
+// Makes a router of a save, its parameters and the set-up numbers, at a clock: 0, 2, 9 with the index, the rule or the place, or 10 with
 // the place.
 #[unsafe(no_mangle)]
 pub extern "C" fn hivepadlet_gossip_load(

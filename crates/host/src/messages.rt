@@ -1,4 +1,4 @@
-// Messages between peers (02, orders 1, 4 and 6): the topics' names, tested at set_up, the reader of an RPC and its writer. `ids`,
+// Messages between peers (02, orders 1, 4 and 6): the topics' names, tested at set-up, the reader of an RPC and its writer. `ids`,
 // `numbers` and `order` are the table of message ids (crate message_ids).
 ghost use Rattle.std.specs.Prelude.{◌≡◌};
 ghost use Rattle.answers.specs.Answers.{packed as packedOf};

@@ -14,7 +14,7 @@ use Rattle.gossip_old.specs.declared.Making.{Making}
 use Rattle.gossip_old.specs.declared.Making.TheVariants.{OutOfRange}
 use Rattle.gossip_old.specs.Made.{making_of, made_by, is_made, making_number, making_value, loaded_by}
 
--- ---- the ordinary set_up numbers, gossipsub's usual defaults: 10 IDONTWANT numbers per record and heartbeat, D_lazy 6, a gossip factor of
+-- ---- the ordinary set-up numbers, gossipsub's usual defaults: 10 IDONTWANT numbers per record and heartbeat, D_lazy 6, a gossip factor of
 -- 0.25, 10 IHAVE messages per record and heartbeat, 3 IWANT replies per connection and message
 abbrev pub ordinary_setup : List ℕ
 ordinary_setup = 10 ∷ 6 ∷ 250 ∷ 10 ∷ 3 ∷ []
@@ -23,7 +23,7 @@ ordinary_setup = 10 ∷ 6 ∷ 250 ∷ 10 ∷ 3 ∷ []
 abbrev pub OrdinaryPasses : Type 0
 OrdinaryPasses = setup_ok (setup_of ordinary_setup) ≡ true
 
--- ---- a fresh router: a number that is no edition's is out of range (2), as a set_up number is
+-- ---- a fresh router: a number that is no edition's is out of range (2), as a set-up number is
 abbrev pub making_by : Setup → Numbered → List ℤ → Making
 making_by p (Known e) xs = making_of p (sheet e xs)
 making_by p Unknown xs = OutOfRange

@@ -17,7 +17,7 @@ use layout::CELLS;
 use limits::NUMBERS;
 use params::{Numbered, Params};
 
-// The ordinary set_up numbers: the limit of order 6, D_lazy, the factor in thousandths, and the bounds of IHAVEs and of replies.
+// The ordinary set-up numbers: the limit of order 6, D_lazy, the factor in thousandths, and the bounds of IHAVEs and of replies.
 pub fn ordinary_setup(setup: &mut [u64; SETUP])
     ensures { setup.new ≡ ordinary_setup }
 {

@@ -30,7 +30,7 @@ fn fill(
     }
 }
 
-// Makes a router of a save, its parameters and the set_up numbers, at a clock: 0, 2, 9 with the index, the rule or the place, or 10 with
+// Makes a router of a save, its parameters and the set-up numbers, at a clock: 0, 2, 9 with the index, the rule or the place, or 10 with
 // the place.
 pub fn load(
     numbers: &[i64; NUMBERS],

@@ -1,4 +1,4 @@
--- A host's calls on one table and one array: by induction on their list, each from its own promise (Ran); that set_up numbers and
+-- A host's calls on one table and one array: by induction on their list, each from its own promise (Ran); that set-up numbers and
 -- parameters are accepted is in the 0 that the first of all answered.
 -- Assumes nothing.
 use Prim.{tt}

@@ -77,7 +77,7 @@ module _ (c : HostCall) (table table' gossip gossip' : List ℕ) where
   abbrev pub Runs : Type 0
   Runs = RunsAny c.call
 
--- ---- what the list starts from: the 0 that `hivepadlet_gossip_fresh` or `hivepadlet_gossip_load` answered says that set_up numbers and
+-- ---- what the list starts from: the 0 that `hivepadlet_gossip_fresh` or `hivepadlet_gossip_load` answered says that set-up numbers and
 -- parameters were accepted
 abbrev pub edition_in : Start → Numbered
 edition_in start = edition_of (edition_number (sheet start).edition)

@@ -1,4 +1,4 @@
-// Messages between peers for a host (02, orders 1, 4 and 6): the topics' names, tested at set_up, the reader of an RPC and its writer. Each
+// Messages between peers for a host (02, orders 1, 4 and 6): the topics' names, tested at set-up, the reader of an RPC and its writer. Each
 // promises what the function below does, with the answer as one number (specs/Messages.antt, specs/Writing.antt); none asks anything.
 // `ids`, `numbers` and `order` are the table of message ids (crate message_ids).
 ghost use Rattle.std.specs.Prelude.{◌≡◌};

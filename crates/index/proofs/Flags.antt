@@ -4,7 +4,7 @@ use Prim.Native.Nat.{ℕ, ◌<◌, ◌≤◌}
 use mathlib.Core.Path.{◌≡◌, refl, sym, ap, ◌∙◌}
 use mathlib.Core.Bool.{Bool, true, false, not, ◌&&◌, cond}
 use lib.Dec.{leb, ltb}
-use borrow.Author.Tests.{le-leb, lt-leb, leb-true, leb-false, ltb-true, ltb-false, not_true, not-false}
+use borrow.Author.Tests.{le-leb, lt-leb, leb-true, leb-false, ltb-true, ltb-false, not-true, not-false}
 use Rattle.index.proofs.Index.{both}
 
 -- a test, its two outcomes at hand as equations
@@ -26,7 +26,7 @@ leb_same a b c d f g = go (leb a b) refl
 
 -- `if !f(x) { .. }` of a call that ensures `r ≡ spec`: what the two ways say of the spec
 pub failed : {a b : Bool} → a ≡ b → not a ≡ true → b ≡ false
-failed {a} e t = sym e ∙ not_true a t
+failed {a} e t = sym e ∙ not-true a t
 
 pub passed : {a b : Bool} → a ≡ b → not a ≡ false → b ≡ true
 passed {a} e t = sym e ∙ not-false a t

@@ -2,7 +2,7 @@
 // proofs/: every other crate uses them, so that nothing generic is written twice.
 
 // An index that was found, or none.
-#[derive(Drop)]
+#[derive(Clone, Copy)]
 pub enum Found {
     At(usize),
     Nothing,

@@ -273,7 +273,7 @@ pub clock_again : (c : List ℕ) → set c clock_at (state_of c).clock ≡ c
 unfolding state_of
 clock_again c = set-get_or c clock_at 0
 
--- the set_up
+-- the set-up
 pub setup_load : (c : List ℕ) → record { edition = get_or c setup_at 0 } ≡ (state_of c).setup
 unfolding state_of setup_of
 setup_load c = refl

@@ -23,7 +23,7 @@ word_cells = 4
 abbrev pub stride : ℕ
 stride = 264
 
--- the head: the clock, the joined flags, the mark, the set_up; the rest is kept for the set_up numbers of later orders
+-- the head: the clock, the joined flags, the mark, the set-up; the rest is kept for the set-up numbers of later orders
 abbrev pub clock_at : ℕ
 clock_at = 0
 
@@ -371,7 +371,7 @@ set_end p t end =
       backoff = set p.backoff t end;
     }
 
--- another code of a parameter, other codes, another set_up: what making a fresh router writes
+-- another code of a parameter, other codes, another set-up: what making a fresh router writes
 unfoldable pub set_code : State → ℕ → ℕ → State
 set_code st i code =
     record {

@@ -23,7 +23,7 @@ pub const OF_TOPIC: usize = 16;
 pub const FIELDS: usize = GENERAL + OF_TOPIC;
 
 // The least and the greatest value of a field.
-#[derive(Drop)]
+#[derive(Clone, Copy)]
 pub struct Limit {
     pub low: i64,
     pub high: i64,

@@ -8,7 +8,7 @@ use mathlib.Core.Bool.{Bool, true, false, not, ◌&&◌, and-false}
 use mathlib.Core.List.{List, [], ◌∷◌}
 use lib.ListN.{length, get_or}
 use lib.Dec.{leb, ltb}
-use borrow.Author.Tests.{le-leb, lt-leb, leb-true, not_true}
+use borrow.Author.Tests.{le-leb, lt-leb, leb-true, not-true}
 use Rattle.index.proofs.Index.{both as and_both}
 use Rattle.sets.specs.Sets.{at, size, both, from, sort, scores_of}
 use Rattle.sets.proofs.CountLaws.{fill_zero}
@@ -80,7 +80,7 @@ module _ (n : ℕ) (t : Degrees) (v : View) (m : List Bool) (e : is_still t v.ou
   step5 : m ≡ mesh5 t v m
   unfolding mesh5 is_low
   step5 =
-      let f = not_true (is_low t.threshold v.ask v.scores m) tests.1 in
+      let f = not-true (is_low t.threshold v.ask v.scores m) tests.1 in
       rw f
 
   pub still_meshes : m ≡ mesh1 v → still_of m ≡ meshes n t v

@@ -10,7 +10,7 @@ use words::WORDS;
 pub const ZERO_SCORE: u64 = 2_600_000_000_000_000_000;
 
 // The parameters that maintenance goes by: D_lo, D, D_hi, D_out, D_score, and the opportunistic threshold as a score is given.
-#[derive(Drop)]
+#[derive(Clone, Copy)]
 pub struct Degrees {
     pub lo: u64,
     pub d: u64,
@@ -22,7 +22,7 @@ pub struct Degrees {
 
 // What maintenance sees at its start: sets of slots, and whether it is asked for opportunistic grafts. The scores by slot and the
 // permutation are lent beside it; together they are the rules' view (`view_of`).
-#[derive(Drop)]
+#[derive(Clone, Copy)]
 pub struct Seen {
     pub members: [u64; WORDS],
     pub candidates: [u64; WORDS],
@@ -31,7 +31,7 @@ pub struct Seen {
 }
 
 // The mesh that each step leaves.
-#[derive(Drop)]
+#[derive(Clone, Copy)]
 pub struct Stages {
     pub first: [u64; WORDS],
     pub second: [u64; WORDS],
@@ -41,7 +41,7 @@ pub struct Stages {
 }
 
 // What each step changes: the members that steps 1 and 3 PRUNE, and the candidates that steps 2, 4 and 5 graft.
-#[derive(Drop)]
+#[derive(Clone, Copy)]
 pub struct Moves {
     pub first: [u64; WORDS],
     pub second: [u64; WORDS],

@@ -12,7 +12,7 @@ pub const ID_BYTES: usize = 64;
 pub const ROW_BYTES: usize = 65;
 
 // How one id stands to another.
-#[derive(Drop)]
+#[derive(Clone, Copy)]
 pub enum Order {
     Before,
     Same,

@@ -59,7 +59,7 @@ notes_of c = table slot_count (note_of c)
 unfoldable pub note_at : List ℕ → ℕ → Note
 note_at c s = get_or (notes_of c) s no_note
 
--- `counts_ok` of a set_up with these two numbers
+-- `counts_ok` of a set-up with these two numbers
 abbrev pub counts_fit : ℕ → ℕ → Bool → Note → Bool
 counts_fit limit most empty n =
     leb n.puts limit && leb n.ihaves most && (not empty || (eqb n.puts 0 && eqb n.ihaves 0))

@@ -10,7 +10,7 @@ use mathlib.Core.List.{List, [], ◌∷◌}
 use lib.ListN.{length, get_or, set, length-set, replicate, length-replicate}
 use lib.Seq.{ext_get_or, set_out, get_or-set_other}
 use lib.Dec.{ltb, leb, eqb}
-use borrow.Author.Tests.{lt-ltb, le-ltb, ltb-true, le-leb, leb-true, eq-eqb, ne_eqb, eqb-true, not_true}
+use borrow.Author.Tests.{lt-ltb, le-ltb, ltb-true, le-leb, leb-true, eq-eqb, ne_eqb, eqb-true, not-true}
 use Rattle.index.proofs.Index.{both as halves, count_less}
 use Rattle.index.proofs.Flags.{by_test, by_order, cond_case}
 use Rattle.sets.specs.Sets.{at, Sub, size, except, occurs, is_permutation, better, top, bests}
@@ -34,10 +34,10 @@ earlier_not (s ∷ r) a c e f =
     let p = halves (not (eqb s c)) (eqb s a || earlier r a c) e in
     let q = halves (not (eqb s a)) (eqb s c || earlier r c a) f in
     ⊎_elim
-    (λ h. false≢true (sym (not_true (eqb s a) q.0) ∙ h))
+    (λ h. false≢true (sym (not-true (eqb s a) q.0) ∙ h))
     (λ h.
     ⊎_elim
-    (λ k. false≢true (sym (not_true (eqb s c) p.0) ∙ k))
+    (λ k. false≢true (sym (not-true (eqb s c) p.0) ∙ k))
     (λ k. earlier_not r a c h k)
     (or_case (eqb s c) (earlier r c a) q.1))
     (or_case (eqb s a) (earlier r a c) p.1)
@@ -281,7 +281,7 @@ module _ (n : ℕ) (sc : List ℕ) (m : List Bool) (order : List ℕ) (lm : leng
       })
       (λ h.
       let q = halves (at m t) (not (at b t)) (sym (except_at m b t) ∙ h.0) in
-      let free = not_true (at b t) q.1 in
+      let free = not-true (at b t) q.1 in
       let below = stands t h.0 in
       let grown = size_set_true b t free (omega arith) in
       let u' : Upper (set b t true) = λ a c x y z.

@@ -5,7 +5,7 @@ use Rattle.index.specs.Index.{first, every, or_else}
 use Prim.Native.Nat.{zero, suc}
 use mathlib.Core.Bool.{◌&&◌, cond}
 use mathlib.Core.List.{List, [], ◌∷◌, map}
-use borrow.Author.Tests.{not_true, not-false, eq-eqb, ne_eqb, eqb-true}
+use borrow.Author.Tests.{not-true, not-false, eq-eqb, ne_eqb, eqb-true}
 use lib.Dec.{eqb}
 use lib.ListN.{length, length-map}
 use lib.IntN.{ℤ}
@@ -124,7 +124,7 @@ module _ (e : Edition) (codes : List ℕ) where
     tested = rw (eq-eqb (length codes) param_count h) (sym (accepted_is (coded e codes)))
 
     pub codes_outside : not a ≡ true → false ≡ accepted_by e codes
-    codes_outside t = ap (λ (b : Bool). b && every rule_count (rule (map number_of codes) e)) (sym (not_true a t) ∙ q) ∙ tested
+    codes_outside t = ap (λ (b : Bool). b && every rule_count (rule (map number_of codes) e)) (sym (not-true a t) ∙ q) ∙ tested
 
     pub codes_within : not a ≡ false → every param_count (in_limits (map number_of codes)) ≡ true
     codes_within t = sym q ∙ not-false a t

@@ -16,21 +16,21 @@ use limits::NUMBERS;
 const FIRST_RULE: usize = 200;
 
 // The editions of the parameters: the first is 01's, and the second (02, order 14) has another rule on D_score.
-#[derive(Drop)]
+#[derive(Clone, Copy)]
 pub enum Edition {
     First,
     Second,
 }
 
 // The edition of a number, if it is one's.
-#[derive(Drop)]
+#[derive(Clone, Copy)]
 pub enum Numbered {
     Known(Edition),
     Unknown,
 }
 
 // The parameters, in 01's order: 19 general numbers, then 16 for each of the 8 topics.
-#[derive(Drop)]
+#[derive(Clone, Copy)]
 pub struct Params {
     pub numbers: [i64; NUMBERS],
     pub edition: Edition,

@@ -7,7 +7,7 @@ use mathlib.Core.List.{List, [], ◌∷◌, ◌++◌, append_assoc, append-nil}
 use native.Mathlib.Omega.{arith}
 use native.Mathlib.Nat.{zero-add}
 use native.Mathlib.Numerals.{add-one}
-use borrow.Author.Tests.{lt-ltb, le-ltb, not_true, not-false}
+use borrow.Author.Tests.{lt-ltb, le-ltb, not-true, not-false}
 use lib.Dec.{eqb}
 use lib.ListN.{length, take, set, get_or, get_or-eq_default}
 use lib.Seq.{take-suc-set, take_all}
@@ -126,7 +126,7 @@ module _
   all = ap (parse_from param_count s) (start ∙ ap (λ (c : Edition). at + length (front_bytes c)) told)
 
   bad : not p.ok ≡ true → malformed p.place ≡ parse_at s at
-  bad t = (rw (not_true p.ok t) at e) ∙ all
+  bad t = (rw (not-true p.ok t) at e) ∙ all
 
   good : not p.ok ≡ false → numbers p.numbers p.place ≡ parse_at s at
   good t = (rw (not-false p.ok t) at e) ∙ all

@@ -15,7 +15,7 @@ use params::{Edition, Params};
 use varint::{Put, Read};
 
 // What reading came to: all read, and the place after them; malformed at a place; or the first number or rule that is broken.
-#[derive(Drop)]
+#[derive(Clone, Copy)]
 pub enum Verdict {
     Accepted(usize),
     Malformed(usize),
@@ -23,14 +23,14 @@ pub enum Verdict {
 }
 
 // A verdict with the parameters, which are zeros where they were refused.
-#[derive(Drop)]
+#[derive(Clone, Copy)]
 pub struct Reading {
     pub verdict: Verdict,
     pub params: Params,
 }
 
 // What writing came to: the length; a buffer too short for any parameters; or the first number or rule that is broken.
-#[derive(Drop)]
+#[derive(Clone, Copy)]
 pub enum Written {
     Done(usize),
     Short,
@@ -38,7 +38,7 @@ pub enum Written {
 }
 
 // Numbers as they were read, before they are checked: all of them and the place after them, or the place of the first that is malformed.
-#[derive(Drop)]
+#[derive(Clone, Copy)]
 struct Parsed {
     ok: bool,
     place: usize,

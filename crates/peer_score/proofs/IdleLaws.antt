@@ -5,7 +5,7 @@ use mathlib.Core.Path.{◌≡◌, refl, ap₂}
 use mathlib.Core.Bool.{true, false}
 use native.Mathlib.Omega.{arith}
 use lib.Dec.{eqb}
-use borrow.Author.Tests.{eqb-true, not_true}
+use borrow.Author.Tests.{eqb-true, not-true}
 use Rattle.index.proofs.Index.{both}
 use Rattle.records.specs.declared.TopicRecord.{TopicRecord}
 use Rattle.records.specs.Records.{no_topic}
@@ -33,7 +33,7 @@ idle_of r e =
       p3 = eqb-true r.p3 0 b.0;
       p4 = eqb-true r.p4 0 c.0;
       p3b = eqb-true r.p3b 0 d.0;
-      member = not_true (eqb r.member 1) d.1;
+      member = not-true (eqb r.member 1) d.1;
     }
 
 -- the record of zeros is idle

@@ -8,7 +8,7 @@ use mathlib.Core.Bool.{Bool, true, false, not, cond, ◌&&◌}
 use lib.Dec.{eqb}
 use lib.IntN.{ℤ, pos, nat_abs, ◌+ℤ◌}
 use lib.Signed.{le_z, lt_z}
-use borrow.Author.Tests.{leb-true, le-leb, eqb-true, eqb-false, not_true}
+use borrow.Author.Tests.{leb-true, le-leb, eqb-true, eqb-false, not-true}
 use Rattle.index.proofs.Index.{count_same}
 use Rattle.varint.specs.Codes.{number_of, signed_of}
 use Rattle.records.specs.declared.Groups.{Groups}
@@ -161,4 +161,4 @@ module _ (st : State) (x code : ℕ) where
     not_negative n =
         let h = leb-true zero_score (height_in st x) (height_good st ok x low ∙ ap not n) in
         let u = height_up in
-        not_true (is_negative st' x) (sym (height_good st' ok' x low) ∙ le-leb zero_score (height_in st' x) (omega arith))
+        not-true (is_negative st' x) (sym (height_good st' ok' x low) ∙ le-leb zero_score (height_in st' x) (omega arith))

@@ -9,7 +9,7 @@ use mathlib.Core.List.{List, [], ◌∷◌}
 use lib.ListN.{length, get_or}
 use lib.Dec.{eqb, leb}
 use lib.Signed.{le_z}
-use borrow.Author.Tests.{not_true}
+use borrow.Author.Tests.{not-true}
 use Rattle.index.proofs.Index.{both, gather_same}
 use Rattle.index.proofs.Flags.{by_order}
 use Rattle.varint.specs.Codes.{number_of}
@@ -81,7 +81,7 @@ module _
 
   candidate_stays : (time t : ℕ) → is_candidate st time t x ≡ true → is_candidate u time t x ≡ true
   candidate_stays time t e =
-      let n = not_true (is_negative st x) (candidate_good st time t x e) in
+      let n = not-true (is_negative st x) (candidate_good st time t x e) in
       candidate_same time t x (not_negative st x code low size ok ok' up n ∙ sym n) ∙ e
 
   module _ (time t ask : ℕ) (order : List ℕ) (right : is_permutation slot_count order ≡ true) where

@@ -17,7 +17,7 @@ topic_count = 8
 abbrev pub param_count : ℕ
 param_count = 147
 
--- the router's state: the clock, a flag for each joined topic, the codes of the parameters, the rest of the set_up, the peers by slot, and
+-- the router's state: the clock, a flag for each joined topic, the codes of the parameters, the rest of the set-up, the peers by slot, and
 -- their topic records, that of slot s and topic t at s * 8 + t
 pub record State : Type 0 where
   pub clock : ℕ

@@ -13,14 +13,14 @@ pub const TOPICS: usize = 8;
 pub const ACTION_ROOM: usize = 3 * SLOTS;
 
 // What a router was made with beside the numbers of its parameters. Another such number is another field.
-#[derive(Drop)]
+#[derive(Clone, Copy)]
 pub struct Setup {
     // the number of the parameters' edition
     pub edition: u64,
 }
 
 // The address groups of a peer, lowest first, for P6 (IP colocation). Each is 0 for none, else the group + 1, since 0 is a group.
-#[derive(Drop)]
+#[derive(Clone, Copy)]
 pub struct Groups {
     pub first: u64,
     pub second: u64,
@@ -29,7 +29,7 @@ pub struct Groups {
 }
 
 // A peer's record, without what it holds for each topic.
-#[derive(Drop)]
+#[derive(Clone, Copy)]
 pub struct Peer {
     // 0 empty, 1 connected, 2 retained after a disconnect
     pub status: u64,
@@ -52,7 +52,7 @@ pub struct Peer {
 }
 
 // What a peer's record holds for one topic. The counters that a delivery adds to come first.
-#[derive(Drop)]
+#[derive(Clone, Copy)]
 pub struct TopicRecord {
     // P2, first message deliveries
     pub p2: u64,

@@ -107,7 +107,7 @@ topics_back [] = refl
 topics_back (t ∷ l) = λ i. topic_back t i ∷ topics_back l i
 
 module _ (st : State) (size : Sized st) where
-  -- the table up to the codes, up to the set_up, up to the peers, up to the topic records
+  -- the table up to the codes, up to the set-up, up to the peers, up to the topic records
   abbrev header : List ℕ
   header = st.clock ∷ st.joined
 

@@ -8,7 +8,7 @@ use Rattle.records.specs.Records.{State, slot_count, topic_count, param_count}
 use Rattle.layout.specs.View.{place_count}
 use Rattle.rows.specs.Rows.{span, rows, joins}
 
--- the regions, one after the other: the clock (cell 0), the joined flags, the codes of the parameters, the rest of the set_up, the peers,
+-- the regions, one after the other: the clock (cell 0), the joined flags, the codes of the parameters, the rest of the set-up, the peers,
 -- the topic records
 abbrev pub joined_at : ℕ
 joined_at = 1
@@ -38,7 +38,7 @@ topic_cells = 8
 abbrev pub rows_count : ℕ
 rows_count = topics_at + place_count * topic_cells
 
--- the set_up of a run of cells, and its cells
+-- the set-up of a run of cells, and its cells
 unfoldable pub setup_of : List ℕ → Setup
 setup_of r = record { edition = get_or r 0 0 }
 

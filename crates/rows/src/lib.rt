@@ -9,7 +9,7 @@ use layout::PARAMS;
 use records::{Groups, Peer, SLOTS, Setup, TOPICS, TopicRecord};
 
 // Where the regions begin, one after the other: the clock is cell 0, then the joined flags, the codes of the parameters, the rest of the
-// set_up, the peers, the topic records.
+// set-up, the peers, the topic records.
 const JOINED_AT: usize = 1;
 
 const CODES_AT: usize = JOINED_AT + TOPICS;

@@ -16,7 +16,7 @@ use index::Found;
 use message_ids::{number_row, table_ok};
 use rpc::{GRAFT, IDONTWANT, NAME_BYTES, NAMES_BYTES, PRUNE, ROW_BYTES, SUBSCRIPTION};
 
-#[derive(Drop)]
+#[derive(Clone, Copy)]
 pub enum Wrote {
     // How many bytes were written.
     Done(usize),

@@ -6,7 +6,7 @@ use mathlib.Core.Path.{◌≡◌}
 use mathlib.Core.Bool.{Bool, true, false, not, ◌&&◌}
 use mathlib.Core.List.{[]}
 use lib.Dec.{eqb}
-use borrow.Author.Tests.{not_true, not-false}
+use borrow.Author.Tests.{not-true, not-false}
 use Rattle.index.proofs.Flags.{cond_case}
 use Rattle.records.specs.Records.{State, peer_in}
 use Rattle.effects.specs.Effects.{into_mesh, on_topic, backoff_runs}
@@ -58,7 +58,7 @@ module _ (P : Reply → Type 0) (st : State) (time t s : ℕ) where
       P (graft_reply st time t s)
   unfolding graft_reply graft_case is_heard
   by_graft apart member refused early enters =
-      cond_case Of (not v.joined) _ _ (λ a. apart (silent (not_true v.joined a))) (λ a.
+      cond_case Of (not v.joined) _ _ (λ a. apart (silent (not-true v.joined a))) (λ a.
       let joined = not-false v.joined a in
       cond_case Of v.sender.graylisted _ _ (λ b. apart (low joined b)) (λ b.
       let told : heard v ≡ true = rw (joined, b) in

@@ -6,7 +6,7 @@ use mathlib.Core.Path.{◌≡◌, refl, sym, ap, ap₂, ◌∙◌}
 use mathlib.Core.Logic.{◌⊎◌, inl, inr, ⊎_elim}
 use mathlib.Core.Bool.{Bool, true, false, cond, not, false≢true}
 use mathlib.Core.List.{List, [], ◌∷◌, ◌++◌, map}
-use borrow.Author.Tests.{eqb-true, not_true}
+use borrow.Author.Tests.{eqb-true, not-true}
 use lib.Dec.{eqb}
 use lib.ListN.{length}
 use Rattle.index.specs.declared.Found.{Found}
@@ -100,7 +100,7 @@ module _ (st : State) (ok : valid st ≡ true) (time t ask : ℕ) (order : List 
 
   -- in the one and not in the other
   gone : (a b : List Bool) (s : ℕ) → at (except a b) s ≡ true → (at a s ≡ true) × (at b s ≡ false)
-  gone a b s e = let h = halves (at a s) (not (at b s)) (sym (except_at a b s) ∙ e) in (h.0, not_true (at b s) h.1)
+  gone a b s e = let h = halves (at a s) (not (at b s)) (sym (except_at a b s) ∙ e) in (h.0, not-true (at b s) h.1)
 
   member_is : (s : ℕ) → at v.members s ≡ true → (s < slot_count) × (is_member st t s ≡ true)
   unfolding view_in
@@ -157,7 +157,7 @@ module _ (st : State) (ok : valid st ≡ true) (time t ask : ℕ) (order : List 
       let a : at m.first s ≡ true = sym (ap (λ (l : List Bool). at l s) q) ∙ g.0 in
       let i = member_is s (both_left v.members (goods v) s a) in
       let b = sym (view_goods st time t ask order ok s i.0) ∙ both_right v.members (goods v) s a in
-      (i.1, not_true (is_negative st s) b))
+      (i.1, not-true (is_negative st s) b))
       (λ (q : m.third ≡ m.second). absurd (false≢true (sym g.1 ∙ ap (λ (l : List Bool). at l s) q ∙ g.0)))
       (idle slot_count (degrees_in st) v (degrees_rules st ok) (view_whole st time t ask order ok right) (view_apart st time t ask order)
       m.first)

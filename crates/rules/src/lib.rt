@@ -4,7 +4,7 @@ use records::{Peer, TopicRecord};
 use score::Why;
 
 // What a call answers. A definition (specs/Reply.antt) gives 01's number and values of each.
-#[derive(Drop)]
+#[derive(Clone, Copy)]
 pub enum Answer {
     // 0: done, with the number of actions
     Done(usize),
@@ -33,14 +33,14 @@ pub enum Answer {
 }
 
 // What the tests that every call begins with (12, 2, 8, 1) say.
-#[derive(Drop)]
+#[derive(Clone, Copy)]
 pub enum Gate {
     Pass,
     Refuse(Answer),
 }
 
 // What a call sees of the peer that sent it, at the call's start: its record, and what its score says of it.
-#[derive(Drop)]
+#[derive(Clone, Copy)]
 pub struct Sender {
     pub peer: Peer,
     pub graylisted: bool,
@@ -48,7 +48,7 @@ pub struct Sender {
 }
 
 // What a call of one peer in one topic sees. Its case is decided by this alone.
-#[derive(Drop)]
+#[derive(Clone, Copy)]
 pub struct Seen {
     pub sender: Sender,
     pub joined: bool,
@@ -56,7 +56,7 @@ pub struct Seen {
 }
 
 // The nine cases of a GRAFT that comes in, in 01's order.
-#[derive(Drop)]
+#[derive(Clone, Copy)]
 pub enum GraftCase {
     NotJoined,
     Graylisted,

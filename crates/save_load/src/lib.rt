@@ -29,14 +29,14 @@ use validity::valid::MAX_TIME;
 use varint::Read;
 
 // The place after the numbers, or the place at which they cannot go on.
-#[derive(Drop)]
+#[derive(Clone, Copy)]
 pub enum Skim {
     End(usize),
     Broken(usize),
 }
 
 // What the tests of a load come to: a refusal, or how many records stand where.
-#[derive(Drop)]
+#[derive(Clone, Copy)]
 pub enum Check {
     Fine(usize, usize),
     Refuse(Loaded),

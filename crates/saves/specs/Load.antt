@@ -1,4 +1,4 @@
--- What a load makes of bytes (02, order 8), test by test: "A load tests the set_up numbers (2), the sheet (9 as in 01), the clock (2), then
+-- What a load makes of bytes (02, order 8), test by test: "A load tests the set-up numbers (2), the sheet (9 as in 01), the clock (2), then
 -- edition and count as they are read, another edition or a count above the slots being 9 at its place; after them 10 comes before 9."
 use Rattle.std.specs.Prelude.{ℕ, zero, suc, ◌+◌, ◌-◌, ◌*◌, ◌/◌, ◌%◌, ◌≡◌, Bool, true, false, cond, not, ◌&&◌, List, [], ◌∷◌, map, eqb, leb, ltb, length, get_or, replicate}
 use Rattle.index.specs.Index.{first, gather}
@@ -180,7 +180,7 @@ module _ (p : Params) (clock : ℕ) (s : List ℕ) where
   sheeted (At i) = broken i
   sheeted Nothing = timed (leb clock max_time)
 
--- `fine` says that the set_up numbers beside the sheet are in their ranges
+-- `fine` says that the set-up numbers beside the sheet are in their ranges
 unfoldable pub load_of : Bool → Params → ℕ → List ℕ → Loading
 load_of fine p clock s = cond fine (sheeted p clock s (first_broken p)) out_of_range
 

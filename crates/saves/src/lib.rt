@@ -2,7 +2,7 @@
 // specs/Promises.antt; the code is in crates save_write and save_load. Here stand only the answers that both speak of.
 
 // What a save answers.
-#[derive(Drop)]
+#[derive(Clone, Copy)]
 pub enum Saved {
     // 0: done, with the number of bytes
     Done(usize),
@@ -17,11 +17,11 @@ pub enum Saved {
 }
 
 // What a load answers.
-#[derive(Drop)]
+#[derive(Clone, Copy)]
 pub enum Loaded {
     // 0: the table is a router's with the records
     Done,
-    // 2: the clock, or a number of the set_up beside the parameters, is outside its range
+    // 2: the clock, or a number of the set-up beside the parameters, is outside its range
     OutOfRange,
     // 9: the index or the rule of the parameters, or the place in the save
     Broken(usize),

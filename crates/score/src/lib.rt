@@ -6,7 +6,7 @@ pub mod topic;
 
 // One topic's parameters, in the order of the table of parameters. The weights that are never positive, w3, w3b and w4, stand without
 // their sign.
-#[derive(Drop)]
+#[derive(Clone, Copy)]
 pub struct TopicParams {
     pub weight: u64,
     pub w1: u64,
@@ -27,7 +27,7 @@ pub struct TopicParams {
 }
 
 // The general parameters that a score takes: the topic cap, w5, w6 and w7 (the last two without their sign), and the threshold of P6.
-#[derive(Drop)]
+#[derive(Clone, Copy)]
 pub struct ScoreParams {
     pub cap: u64,
     pub w5: u64,
@@ -37,7 +37,7 @@ pub struct ScoreParams {
 }
 
 // How many connected peers hold each of a peer's address groups, itself counted; 0 where it holds none.
-#[derive(Drop)]
+#[derive(Clone, Copy)]
 pub struct Sharers {
     pub first: u64,
     pub second: u64,
@@ -46,7 +46,7 @@ pub struct Sharers {
 }
 
 // A score, or a part of one: the number gain - loss.
-#[derive(Drop)]
+#[derive(Clone, Copy)]
 pub struct Balance {
     pub gain: u64,
     pub loss: u64,
@@ -54,7 +54,7 @@ pub struct Balance {
 
 // The parts of a score: the topics' total before the cap and after it, P5's part, and what P6 and P7 take away. The last four add up to
 // the score.
-#[derive(Drop)]
+#[derive(Clone, Copy)]
 pub struct Parts {
     pub topics: Balance,
     pub capped: Balance,
@@ -65,7 +65,7 @@ pub struct Parts {
 
 // Why a score is what it is, in 10^-9 points: the topics' total before the cap and after it, the parts of P5, P6 and P7, and the score,
 // which the last four of these add up to. A score call answers with it.
-#[derive(Drop)]
+#[derive(Clone, Copy)]
 pub struct Why {
     pub topics: i64,
     pub capped: i64,

@@ -10,7 +10,7 @@ use mathlib.Core.List.{List, [], ◌∷◌}
 use lib.ListN.{length, set, length-set}
 use lib.Seq.{get_or-set_same, set_out}
 use lib.Dec.{ltb}
-use borrow.Author.Tests.{ltb-true, ltb-false, not_true, not-false}
+use borrow.Author.Tests.{ltb-true, ltb-false, not-true, not-false}
 use Rattle.index.proofs.Index.{both as halves}
 use Rattle.index.proofs.Flags.{by_test}
 use Rattle.index.proofs.Lists.{set_case}
@@ -218,7 +218,7 @@ fill_reach n p μ lp grow (s ∷ r) k m lm =
     let e = fill_cons p k s r m true t in
     let asked = takes_at p k m s t in
     let room = takes_room p k m s t in
-    let free : at m s ≡ false = not_true (at m s) (sym (takes_free p k m s room asked) ∙ t) in
+    let free : at m s ≡ false = not-true (at m s) (sym (takes_free p k m s room asked) ∙ t) in
     let one = grow m s lm asked free in
     let below : s < length m = let b = at_below p s asked in omega arith in
     ⊎_elim

@@ -7,7 +7,7 @@ use mathlib.Core.Path.{◌≡◌, refl, sym, ap, ap₂, ◌∙◌}
 use mathlib.Core.Bool.{Bool, true, false, not, ◌&&◌, false≢true}
 use mathlib.Core.List.{List, [], ◌∷◌}
 use lib.ListN.{length, set, replicate}
-use borrow.Author.Tests.{not_true}
+use borrow.Author.Tests.{not-true}
 use Rattle.index.proofs.Index.{both as halves}
 use Rattle.sets.specs.Sets.{at, Sub, size, both, except}
 use Rattle.sets.proofs.WalkLaws.{at_below, both_at, except_at}
@@ -130,4 +130,4 @@ pub except_in : (a o : List Bool) (s : ℕ) → at a s ≡ true → at o s ≡ f
 except_in a o s p q = except_at a o s ∙ ap₂ (λ (x y : Bool). x && not y) p q
 
 pub except_out : (a o : List Bool) (s : ℕ) → at (except a o) s ≡ true → at o s ≡ false
-except_out a o s e = not_true (at o s) (halves (at a s) (not (at o s)) (sym (except_at a o s) ∙ e)).1
+except_out a o s e = not-true (at o s) (halves (at a s) (not (at o s)) (sym (except_at a o s) ∙ e)).1

@@ -15,7 +15,7 @@ use index::Found;
 use limits::Limit;
 
 // One entry: a factor, a whole number or a span.
-#[derive(Drop)]
+#[derive(Clone, Copy)]
 pub enum Entry {
     Factor(f64),
     Whole(i64),
@@ -23,21 +23,21 @@ pub enum Entry {
 }
 
 // The entry that a kind and eight bytes make, or none.
-#[derive(Drop)]
+#[derive(Clone, Copy)]
 pub enum Read {
     Good(Entry),
     Bad,
 }
 
 // The number of ours that an entry stands for, or none.
-#[derive(Drop)]
+#[derive(Clone, Copy)]
 pub enum Number {
     Is(i64),
     Broken,
 }
 
 // How the entries of a field are given: their kind, and of spans the nanoseconds of one of our units.
-#[derive(Drop)]
+#[derive(Clone, Copy)]
 pub struct Form {
     pub kind: u8,
     pub unit: u64,

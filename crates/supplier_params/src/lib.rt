@@ -82,7 +82,7 @@ const FORMS: [Form; FIELDS] = [
 ];
 
 // Numbers as the entries give them, before they are checked together: all of them, or the index of the first broken entry.
-#[derive(Drop)]
+#[derive(Clone, Copy)]
 struct Parsed {
     ok: bool,
     place: usize,

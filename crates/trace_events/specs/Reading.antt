@@ -70,7 +70,7 @@ unfoldable pub cut_short : List ℕ → ℕ → Bool
 cut_short s at = ltb (length s - at) 10 && every (length s - at) (λ k. leb 128 (get_or s (at + k) 0))
 
 -- ---- one event
--- how many numbers follow the kind, the time counted: "1 connect id group flags name_length name-bytes; 2 disconnect id; 3 join, 4 leave
+-- how many numbers follow the kind, the time counted: "1 connect id group flags name-length name-bytes; 2 disconnect id; 3 join, 4 leave
 -- topic; 5 subscribe, 6 unsubscribe id topic; 7 GRAFT id topic; 8 PRUNE id topic seconds; 9 delivery id topic kind; 10 P5 id value;
 -- 11 tidy topic ask draw; 12 decay; 13 score id"; neither the name nor the draw is counted, nor in edition 3 what follows the count of a
 -- connect's groups; 0 for an unknown kind
@@ -109,7 +109,7 @@ pub data Event : Type 0 where
   event : Call → ℕ → Event
   -- a kind that is not known: "an unknown kind 2 0, and stop"
   unknown : Event
-  -- "bad bytes or a name_length over 64 print 10 0 [..] and stop"
+  -- "bad bytes or a name-length over 64 print 10 0 [..] and stop"
   malformed : Event
   -- the bytes end inside the event: with more bytes it may be whole, and at the end of the trace it is malformed
   short : Event
@@ -117,7 +117,7 @@ pub data Event : Type 0 where
 abbrev pub unread : List ℕ → ℕ → Event
 unread s p = cond (cut_short s p) short malformed
 
--- the longest protocol name that is read: "a name_length over 64" is malformed
+-- the longest protocol name that is read: "a name-length over 64" is malformed
 abbrev pub name_most : ℕ
 name_most = 64
 
@@ -132,7 +132,7 @@ named s time id groups flags size at =
 abbrev pub alone : List ℕ → List ℕ → ℕ → Event
 alone s us next = named s (get_or us 0 0) (get_or us 1 0) (get_or us 2 0 ∷ []) (get_or us 3 0) (get_or us 4 0) next
 
--- with the groups that are counted, and behind them flags and name_length
+-- with the groups that are counted, and behind them flags and name-length
 abbrev pub grouped : List ℕ → List ℕ → Numbers → Event
 grouped s us (numbers vs next) =
     named s (get_or us 0 0) (get_or us 1 0) (take (get_or us 2 0) vs) (get_or vs (get_or us 2 0) 0) (get_or vs (get_or us 2 0 + 1) 0) next

@@ -5,7 +5,7 @@ pub mod reading;
 
 // The editions of a trace: a permutation of the first orders 64 slots (01), one of the second all 256 (02, order 9), and a connect of the
 // third has a count of groups and the groups (02, order 11).
-#[derive(Drop)]
+#[derive(Clone, Copy)]
 pub enum Edition {
     First,
     Second,
@@ -13,7 +13,7 @@ pub enum Edition {
 }
 
 // Where the numbers end, or the place of the first that cannot be read.
-#[derive(Drop)]
+#[derive(Clone, Copy)]
 pub struct Readings {
     pub ok: bool,
     pub place: usize,

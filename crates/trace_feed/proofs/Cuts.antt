@@ -6,7 +6,7 @@ use mathlib.Core.Logic.{◌⊎◌, inl, inr}
 use mathlib.Core.Bool.{Bool, true, false, not, false≢true}
 use mathlib.Core.List.{List, [], ◌++◌, append-nil, append_assoc}
 use native.Mathlib.Omega.{arith}
-use borrow.Author.Tests.{not_true}
+use borrow.Author.Tests.{not-true}
 use lib.Dec.{eqb}
 use lib.ListN.{length, take, drop}
 use lib.Seq.{length-sets}
@@ -156,7 +156,7 @@ module _ (x y : Standing) (s : Stands x) where
               λ rest c.
               let c' : Coming x rest = λ e. c (more_same ∙ e) in
               let o = one_turn x.window.stage (not x.window.more) (state_of x.table) (pending x.window x.buffer) rest
-              (λ e. c' (not_true x.window.more e)) in
+              (λ e. c' (not-true x.window.more e)) in
               ap (λ (g : List ℕ). printed_of (g ++ rest)) m.given
               ∙ s.whole rest c'
               ∙ ap (λ (l : List ℕ). x.told ++ l) (o ∙ ap (λ (l : List ℕ). text_of t ++ l) (sym (left rest)))

@@ -7,7 +7,7 @@ use mathlib.Core.Bool.{Bool, true, false, not, cond, ◌&&◌}
 use mathlib.Core.List.{List, [], ◌∷◌}
 use native.Mathlib.Omega.{arith}
 use native.Mathlib.Nat.{zero-add}
-use borrow.Author.Tests.{le-ltb, ne_eqb, not_true, not-false}
+use borrow.Author.Tests.{le-ltb, ne_eqb, not-true, not-false}
 use lib.Dec.{eqb}
 use lib.ListN.{length, get_or}
 use Rattle.index.specs.declared.Found.{Found}
@@ -127,7 +127,7 @@ pub front_first : (s : List ℕ) → 2 ≤ length s → not (eqb (get_or s 0 0) 
 unfolding front_in
 front_first [] l h = refl
 front_first (a ∷ []) l h = refl
-front_first (a ∷ (b ∷ s)) l h = let k = not_true (eqb a 0 && eqb b 0) h in rw k
+front_first (a ∷ (b ∷ s)) l h = let k = not-true (eqb a 0 && eqb b 0) h in rw k
 
 pub front_cut : (s : List ℕ) → length s ≡ 2 → not (eqb (get_or s 0 0) 0 && eqb (get_or s 1 0) 0) ≡ false → Cut ≡ front_in s
 unfolding front_in

@@ -16,7 +16,7 @@ use Rattle.trace_feed.specs.declared.Front.TheVariants.{Begins, Other, Cut}
 use Rattle.trace_feed.specs.Front.{front_in}
 
 -- ---- the events
--- "Output: answer and action count, then one line an action or score. [..] bad bytes or a name_length over 64 print 10 0, an unknown kind 2
+-- "Output: answer and action count, then one line an action or score. [..] bad bytes or a name-length over 64 print 10 0, an unknown kind 2
 -- 0, and stop." Of the event at the front, and of those behind it, which `rest` prints from the state that it leaves and the place after
 -- it. The input may end inside the event: then it is bad bytes.
 abbrev pub event_text : (State → ℕ → List ℕ) → State → Event → List ℕ

@@ -16,7 +16,7 @@ use trace_events::reading::cut_short;
 use trace_step::Replayed;
 
 // The front of a trace.
-#[derive(Drop)]
+#[derive(Clone, Copy)]
 enum Front {
     // its edition, and where its parameters begin
     Begins(Edition, usize),
@@ -27,7 +27,7 @@ enum Front {
 }
 
 // What is to be read next.
-#[derive(Drop)]
+#[derive(Clone, Copy)]
 pub enum Stage {
     // the front and the parameters
     Params,
@@ -38,7 +38,7 @@ pub enum Stage {
 }
 
 // What became of the bytes that are there.
-#[derive(Drop)]
+#[derive(Clone, Copy)]
 pub enum Fed {
     // the first are done with: the edition of the events that follow, how many, and how many bytes were printed
     Took(Edition, usize, usize),
@@ -50,7 +50,7 @@ pub enum Fed {
 
 // The bytes of the buffer from `at` to `end` are not done with. `more` is false once the input has ended; `written` bytes were printed by
 // the last turn, and `wants` is true where the next one needs more bytes.
-#[derive(Drop)]
+#[derive(Clone, Copy)]
 pub struct Window {
     pub at: usize,
     pub end: usize,

@@ -9,7 +9,7 @@ use trace_events::Edition;
 use trace_step::Performed;
 
 // What came of a recorded list.
-#[derive(Drop)]
+#[derive(Clone, Copy)]
 pub enum Recorded {
     // the parameters are refused: the first index, or 200 + the first rule
     Refused(usize),

@@ -35,7 +35,7 @@ perform_event st room unknown = idle st Unknown
 perform_event st room malformed = idle st Malformed
 perform_event st room short = idle st CutShort
 
--- 01's number of an answer: "bad bytes or a name_length over 64 print 10 0, an unknown kind 2 0"; an event that is cut short is bad where
+-- 01's number of an answer: "bad bytes or a name-length over 64 print 10 0, an unknown kind 2 0"; an event that is cut short is bad where
 -- no bytes follow
 abbrev pub performed_number : Performed → ℕ
 performed_number (Answered next a) = number_of a

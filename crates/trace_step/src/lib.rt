@@ -24,7 +24,7 @@ const GROUP_MOST: u64 = 4;
 const COUNTED: usize = 6;
 
 // What became of one event's call.
-#[derive(Drop)]
+#[derive(Clone, Copy)]
 pub enum Performed {
     // it was made: the place after the event, and the answer
     Answered(usize, Answer),
@@ -37,7 +37,7 @@ pub enum Performed {
 }
 
 // What became of one event that is printed.
-#[derive(Drop)]
+#[derive(Clone, Copy)]
 pub enum Replayed {
     // it was called: the place after it, and how many bytes were printed
     Called(usize, usize),
@@ -144,7 +144,7 @@ fn alone(
     connect(table, s, v[0], v[1], &groups, v[3], v[4], at, actions)
 }
 
-// A connect whose groups are counted: they follow the count, and behind them flags and name_length.
+// A connect whose groups are counted: they follow the count, and behind them flags and name-length.
 fn counted(
     table: &mut [u64; CELLS],
     s: &[u8],

@@ -7,7 +7,7 @@ use mathlib.Core.Bool.{Bool, true, false, not, ◌&&◌}
 use lib.ListN.{length, get_or}
 use lib.Seq.{ext_get_or}
 use lib.Dec.{eqb, leb}
-use borrow.Author.Tests.{le-leb, leb-true, eq-eqb, ne_eqb, eqb-true, eqb-false, not_true, not-false}
+use borrow.Author.Tests.{le-leb, leb-true, eq-eqb, ne_eqb, eqb-true, eqb-false, not-true, not-false}
 use Rattle.index.specs.Index.{every}
 use Rattle.index.proofs.Index.{both, every_at, every_by}
 use Rattle.index.proofs.Flags.{all5, by_test}
@@ -311,7 +311,7 @@ unfolding apart
 apart_is a b e h =
     eqb-true a 0
     (not-false (eqb a 0)
-    (either (eqb b a) (not (eqb a 0)) (not_true (eqb b a && not (eqb a 0)) e) (eq-eqb b a h)))
+    (either (eqb b a) (not (eqb a 0)) (not-true (eqb b a && not (eqb a 0)) e) (eq-eqb b a h)))
   where
     either : (p q : Bool) → p && q ≡ false → p ≡ true → q ≡ false
     either true q f g = f

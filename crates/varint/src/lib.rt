@@ -7,14 +7,14 @@ ghost use Rattle.varint.specs.Groups.{read_at, after_more, last_group, put_of};
 ghost use Rattle.varint.specs.Codes.{code_of, number_of, negative, signed_of, magnitude as magnitudeOf};
 
 // What stands at a place: a number and the place after it, or no number in its shortest form.
-#[derive(Drop)]
+#[derive(Clone, Copy)]
 pub enum Read {
     Number(u64, usize),
     Bad,
 }
 
 // What came of writing a number: the place after it, or no room for it.
-#[derive(Drop)]
+#[derive(Clone, Copy)]
 pub enum Put {
     Next(usize),
     Full,

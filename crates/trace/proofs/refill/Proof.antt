@@ -1,6 +1,6 @@
 -- `trace::refill`: the part of the buffer that is lent to the reading begins behind the window's end. Assumes nothing.
 use borrow.Author.Rules.{rules}
-use borrow.Author.Tests.{not_true, not-false}
+use borrow.Author.Tests.{not-true, not-false}
 use Rattle.trace_feed.proofs.Moves.{refill_idle, refill_done}
 use Rattle.trace.proofs.refill.Statement.{statement}
 use Rattle.trace.proofs.refill.Tie as tie
@@ -9,7 +9,7 @@ pub refill-spec : {M : Type 1} → statement M
 refill-spec =
     tie.close
     (tie.spec
-    (λ c. refill_idle _ _ (not_true _ c.if1.true))
+    (λ c. refill_idle _ _ (not-true _ c.if1.true))
     (λ c. search rules)
     (λ c. search rules)
     (λ c. search rules)

@@ -1,4 +1,4 @@
--- `gossip_old::made::fresh`: 2 of the set_up numbers, or what making the table answers.
+-- `gossip_old::made::fresh`: 2 of the set-up numbers, or what making the table answers.
 use Rattle.index.proofs.Kit.{failed, passed, needs}
 use Rattle.gossip_old.proofs.MadeLaws.{fresh_range, fresh_broken, fresh_done}
 use Rattle.gossip_old.proofs.made.fresh.Statement.{statement}

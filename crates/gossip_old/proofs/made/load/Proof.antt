@@ -1,4 +1,4 @@
--- `gossip_old::made::load`: 2 of the set_up numbers, or what loading the table answers.
+-- `gossip_old::made::load`: 2 of the set-up numbers, or what loading the table answers.
 use Rattle.index.proofs.Kit.{refl, failed, passed, needs}
 use Rattle.gossip_old.proofs.MadeLaws.{load_range, load_refused, load_done}
 use Rattle.gossip_old.proofs.made.load.Statement.{statement}

@@ -1,14 +1,14 @@
 -- `heartbeat::grafts::fifth`: the four ways out are the rule's: not asked, fewer than two members, the median not below the threshold, and
 -- the grafts. The median asks for the members' scores alone.
 use native.Mathlib.Omega.{arith}
-use borrow.Author.Tests.{not_true, not-false}
+use borrow.Author.Tests.{not-true, not-false}
 use mathlib.Core.Path.{refl}
 use Rattle.heartbeat.proofs.GraftLaws.{scored_same, fifth_unasked, fifth_few, fifth_high, fifth_low}
 use Rattle.heartbeat.proofs.grafts.fifth.Statement.{statement}
 use Rattle.heartbeat.proofs.grafts.fifth.Tie as tie
 
 returns : tie.Need-returns
-returns c = (scored_same _ _ _, fifth_unasked _ _ _ _ _ _ (not_true _ c.if1.true))
+returns c = (scored_same _ _ _, fifth_unasked _ _ _ _ _ _ (not-true _ c.if1.true))
 
 returns-2 : tie.Need-returns-2
 returns-2 c = (scored_same _ _ _, fifth_few _ _ _ _ _ _ refl _ _ c.before.size.ensures c.if2.true)

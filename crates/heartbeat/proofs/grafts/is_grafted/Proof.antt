@@ -1,7 +1,7 @@
 -- `heartbeat::grafts::is_grafted`: a slot that is not to be asked leaves all as it was; the score of another is taken and tested.
 use native.Mathlib.Omega.{arith}
 use borrow.Author.Rules.{rules}
-use borrow.Author.Tests.{not_true, not-false}
+use borrow.Author.Tests.{not-true, not-false}
 use mathlib.Core.Path.{sym, ◌∙◌}
 use Prim.Native.Nat.{◌<◌}
 use Rattle.records.specs.Records.{slot_count}
@@ -11,7 +11,7 @@ use Rattle.heartbeat.proofs.grafts.is_grafted.Statement.{statement}
 use Rattle.heartbeat.proofs.grafts.is_grafted.Tie as tie
 
 returns : tie.Need-returns
-returns c = asked_not _ _ _ _ _ _ _ (sym c.before.takes.ensures ∙ not_true _ c.if1.true)
+returns c = asked_not _ _ _ _ _ _ _ (sym c.before.takes.ensures ∙ not-true _ c.if1.true)
 
 height-requires : tie.Need-height-requires
 height-requires c κs =

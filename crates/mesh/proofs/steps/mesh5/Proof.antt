@@ -1,7 +1,7 @@
 -- `mesh::steps::mesh5` meets its contract: the four ways out are the rule's: not asked, fewer than two members, the median not below the
 -- threshold, and the grafts. Assumes nothing.
 use native.Mathlib.Omega.{arith}
-use borrow.Author.Tests.{not_true, not-false}
+use borrow.Author.Tests.{not-true, not-false}
 use Rattle.words.specs.Words.{bits_of}
 use Rattle.mesh.specs.Maintenance.{View}
 use Rattle.mesh.specs.Words.{view_of}
@@ -15,7 +15,7 @@ seen s = view_of s.args.v s.args.scores.now s.args.order.now
 returns : tie.Need-returns
 returns c =
     let s = c.before.before.before in
-    mesh5_unasked s.args.t (seen s) (bits_of s.args.m) (not_true s.args.v.ask c.if1.true)
+    mesh5_unasked s.args.t (seen s) (bits_of s.args.m) (not-true s.args.v.ask c.if1.true)
 
 returns-2 : tie.Need-returns-2
 returns-2 c =

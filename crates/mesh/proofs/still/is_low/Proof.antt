@@ -1,6 +1,6 @@
 -- `mesh::still::is_low`: not asked, fewer than two members, or the median's test.
 use native.Mathlib.Omega.{arith}
-use borrow.Author.Tests.{not_true, not-false}
+use borrow.Author.Tests.{not-true, not-false}
 use Rattle.words.specs.Words.{bits_of}
 use Rattle.mesh.proofs.StillLaws.{low_unasked, low_few, low_is}
 use Rattle.mesh.proofs.still.is_low.Statement.{statement}
@@ -9,7 +9,7 @@ use Rattle.mesh.proofs.still.is_low.Tie as tie
 returns : tie.Need-returns
 returns c =
     let s = c.before.before in
-    low_unasked s.args.threshold s.args.ask s.args.scores.now (bits_of s.args.m) (not_true s.args.ask c.if1.true)
+    low_unasked s.args.threshold s.args.ask s.args.scores.now (bits_of s.args.m) (not-true s.args.ask c.if1.true)
 
 returns-2 : tie.Need-returns-2
 returns-2 c =

@@ -1,6 +1,6 @@
 -- `mesh::still::is_still`: the numbers' tests, then step 5's.
 use mathlib.Core.Path.{refl}
-use borrow.Author.Tests.{not_true, not-false}
+use borrow.Author.Tests.{not-true, not-false}
 use Rattle.words.specs.Words.{bits_of}
 use Rattle.mesh.proofs.StillLaws.{still_not, still_is}
 use Rattle.mesh.proofs.still.is_still.Statement.{statement}
@@ -16,7 +16,7 @@ returns c =
     b.both.ensures
     k.size2.ensures
     refl
-    (not_true _ c.if1.true)
+    (not-true _ c.if1.true)
 
 returns-2 : tie.Need-returns-2
 returns-2 c =

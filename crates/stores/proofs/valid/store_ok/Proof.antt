@@ -1,7 +1,7 @@
 -- `stores::valid::store_ok`: each exit is a case of the test's definition.
 use mathlib.Core.Path.{◌∙◌}
 use borrow.Author.Rules.{rules}
-use borrow.Author.Tests.{not_true, not-false}
+use borrow.Author.Tests.{not-true, not-false}
 use Rattle.index.proofs.Flags.{yes, no, failed, passed}
 use Rattle.stores.proofs.ApartLaws.{store_vacant, store_away, store_over, store_apart, store_within}
 use Rattle.stores.proofs.valid.store_ok.Statement.{statement}
@@ -15,7 +15,7 @@ returns c =
 returns-2 : tie.Need-returns-2
 returns-2 c =
     let v = c.before.before in
-    store_away _ _ v.before.before.requires.1 _ (not_true _ c.if2.true) (no v.is-vacant.ensures c.before.if1.false)
+    store_away _ _ v.before.before.requires.1 _ (not-true _ c.if2.true) (no v.is-vacant.ensures c.before.if1.false)
 
 returns-3 : tie.Need-returns-3
 returns-3 c =
