@@ -1,0 +1,33 @@
+-- `control::graft_case`: at each return the tests before it failed.
+-- Assumes nothing.
+use borrow.Author.Rules.{rules}
+use Rattle.rules.specs.Step.{graft_case}
+use Rattle.rules.proofs.FirstLaws.{first_holds}
+use Rattle.control.proofs.graft_case.Goals as goal
+
+pub returns-then-not-v : goal.returns-then-not-v
+returns-then-not-v c = search first_holds
+
+pub returns-then-sender : goal.returns-then-sender
+returns-then-sender c = search first_holds
+
+pub returns-then-r-eq1 : goal.returns-then-r-eq1
+returns-then-r-eq1 c = search first_holds
+
+pub returns-then-p-eq1 : goal.returns-then-p-eq1
+returns-then-p-eq1 c = search first_holds
+
+pub returns-then-time-p : goal.returns-then-time-p
+returns-then-time-p c = search first_holds depth 12
+
+pub returns-then-sender-2 : goal.returns-then-sender-2
+returns-then-sender-2 c = search first_holds depth 12
+
+pub returns-then-r-ne1 : goal.returns-then-r-ne1
+returns-then-r-ne1 c = search first_holds depth 12
+
+pub returns-then-crowded-p : goal.returns-then-crowded-p
+returns-then-crowded-p c = search first_holds depth 12
+
+pub returns : goal.returns
+returns c = search first_holds depth 12

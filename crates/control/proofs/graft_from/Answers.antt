@@ -1,0 +1,15 @@
+-- `control::graft_from`: the slot that holds the id, or 3.
+-- Assumes nothing.
+use borrow.Author.Rules.{rules}
+use Rattle.rules.specs.Step.{effect}
+use Rattle.rules.proofs.StepLaws.{found_below, peer_none_gives, peer_at_gives}
+use Rattle.control.proofs.graft_from.Goals as goal
+
+pub returns-in_default : goal.returns-in_default
+returns-in_default c = search peer_none_gives
+
+pub graft_reply-requires : goal.graft_reply-requires
+graft_reply-requires c = search (found_below, rules)
+
+pub returns : goal.returns
+returns c = search peer_at_gives

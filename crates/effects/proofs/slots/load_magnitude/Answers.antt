@@ -1,0 +1,6 @@
+-- `effects::slots::load_magnitude`: as loaded.
+use borrow.Author.Rules.{rules}
+use Rattle.effects.proofs.slots.load_magnitude.Goals as goal
+
+pub returns : goal.returns
+returns c = c.load_magnitude.ensures.0

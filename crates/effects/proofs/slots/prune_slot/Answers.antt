@@ -1,0 +1,7 @@
+-- `effects::slots::prune_slot`: out of the mesh, then the end.
+use borrow.Author.Rules.{rules}
+use Rattle.effects.specs.Effects.{pruned}
+use Rattle.effects.proofs.slots.prune_slot.Goals as goal
+
+pub returns : goal.returns
+returns c = cc

@@ -1,0 +1,30 @@
+use Prim.Native.Nat.{◌≤◌, ◌-◌}
+use mathlib.Core.Path.{◌≡◌, sym, ◌∙◌}
+use native.Mathlib.Omega.{arith}
+use borrow.Author.Rules.{rules}
+use lib.ListN.{length}
+use Rattle.records.specs.Records.{topic_count}
+use Rattle.layout.specs.View.{cell_count, state_of}
+use Rattle.rows.specs.View.{state_of_rows}
+use Rattle.forms.specs.Turns.{copy_joined}
+use Rattle.forms.proofs.CopyLaws.{joined_start, joined_more, joined_end}
+use Rattle.forms.proofs.copy.joined_from.Goals as goal
+
+pub loop-t-init : goal.loop-t-init
+loop-t-init c = (omega arith, c.requires.to, joined_start _ _)
+
+pub loop-t-preserved : goal.loop-t-preserved
+loop-t-preserved c =
+    let l = c.loop-t in (
+      omega arith,
+      c.store_joined.auto.0 ∙ l.invariant.1,
+      joined_more _ _ _ _ l.t _ l.invariant.2 c.store_joined.ensures c.load_joined.ensures,
+    )
+
+pub shape_of-table : goal.shape_of-table
+shape_of-table c = c.loop-t.invariant.1 ∙ sym c.requires.to
+
+pub returns : goal.returns
+returns c =
+    let l = c.loop-t in
+    joined_end _ _ _ l.t topic_count l.invariant.0 (omega arith) l.invariant.2

@@ -1,0 +1,19 @@
+-- `forms::copy::peers_from`: after s turns the first s are copied.
+use Prim.Native.Nat.{◌≤◌, ◌<◌, ◌-◌}
+use mathlib.Core.Path.{◌≡◌, sym, ◌∙◌}
+use native.Mathlib.Omega.{arith}
+use borrow.Author.Rules.{rules}
+use lib.ListN.{length}
+use Rattle.records.specs.Records.{slot_count}
+use Rattle.layout.specs.View.{cell_count, state_of}
+use Rattle.rows.specs.View.{state_of_rows}
+use Rattle.forms.specs.Turns.{copy_peers}
+use Rattle.forms.proofs.CopyLaws.{peers_start, peers_more, peers_end, peer_fit}
+use Rattle.forms.proofs.copy.peers_from.Given as goal
+
+abbrev pub invariant-loop-s : goal.invariant-loop-s
+invariant-loop-s l =
+    (l.s ≤ l.n) × (length l.table ≡ cell_count) × (state_of l.table ≡ copy_peers l.s (state_of_rows l.rows) (state_of l.initial.table))
+
+abbrev pub decreases-loop-s : goal.decreases-loop-s
+decreases-loop-s l = l.n - l.s

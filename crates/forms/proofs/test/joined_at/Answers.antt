@@ -1,0 +1,6 @@
+use borrow.Author.Rules.{rules}
+use Rattle.validity.specs.Valid.{joined_ok}
+use Rattle.forms.proofs.test.joined_at.Goals as goal
+
+pub returns : goal.returns
+returns c = rw c.load_joined.ensures

@@ -1,0 +1,15 @@
+use Prim.Native.Nat.{◌≤◌, ◌-◌}
+use mathlib.Core.Path.{◌≡◌}
+use borrow.Author.Rules.{rules}
+use Rattle.index.specs.Index.{every}
+use Rattle.rows.specs.View.{state_of_rows}
+use Rattle.validity.specs.Valid.{joined_ok}
+use Rattle.validity.proofs.Loops.{flag-loop}
+use Rattle.records.specs.Records.{topic_count}
+use Rattle.forms.proofs.test.joined_ok.Given as goal
+
+abbrev pub invariant-loop-t : goal.invariant-loop-t
+invariant-loop-t l = (l.t ≤ topic_count) × (l.ok ≡ every l.t (joined_ok (state_of_rows l.rows)))
+
+abbrev pub decreases-loop-t : goal.decreases-loop-t
+decreases-loop-t l = 8 - l.t

@@ -1,0 +1,18 @@
+use Prim.Native.Nat.{◌≤◌, ◌-◌}
+use mathlib.Core.Path.{◌≡◌}
+use borrow.Author.Rules.{rules}
+use Rattle.index.specs.Index.{every}
+use Rattle.rows.specs.View.{state_of_rows}
+use Rattle.validity.specs.Valid.{topic_ok_at}
+use Rattle.validity.proofs.Loops.{flag-loop}
+use Rattle.records.specs.Records.{topic_count}
+use Rattle.forms.proofs.test.topics_ok.Goals as goal
+
+pub loop-t-init : goal.loop-t-init
+loop-t-init c = search (flag-loop, rules)
+
+pub loop-t-preserved : goal.loop-t-preserved
+loop-t-preserved c = search (flag-loop, rules)
+
+pub returns : goal.returns
+returns c = search (flag-loop, rules)

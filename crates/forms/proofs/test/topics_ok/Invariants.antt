@@ -1,0 +1,15 @@
+use Prim.Native.Nat.{◌≤◌, ◌-◌}
+use mathlib.Core.Path.{◌≡◌}
+use borrow.Author.Rules.{rules}
+use Rattle.index.specs.Index.{every}
+use Rattle.rows.specs.View.{state_of_rows}
+use Rattle.validity.specs.Valid.{topic_ok_at}
+use Rattle.validity.proofs.Loops.{flag-loop}
+use Rattle.records.specs.Records.{topic_count}
+use Rattle.forms.proofs.test.topics_ok.Given as goal
+
+abbrev pub invariant-loop-t : goal.invariant-loop-t
+invariant-loop-t l = (l.t ≤ topic_count) × (l.ok ≡ every l.t (topic_ok_at (state_of_rows l.rows) l.slot l.status l.explicit))
+
+abbrev pub decreases-loop-t : goal.decreases-loop-t
+decreases-loop-t l = 8 - l.t

@@ -1,0 +1,10 @@
+-- `gossip_calls::asking::is_served`: the tests in another order.
+use borrow.Author.Rules.{rules}
+use Rattle.gossip_calls.proofs.AskLaws.{served_not, served_is}
+use Rattle.gossip_calls.proofs.asking.is_served.Goals as goal
+
+pub returns-then-not-place-count : goal.returns-then-not-place-count
+returns-then-not-place-count c = search served_not
+
+pub returns : goal.returns
+returns c = search served_is

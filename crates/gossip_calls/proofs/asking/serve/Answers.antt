@@ -1,0 +1,21 @@
+-- `gossip_calls::asking::serve`: 11, or one reply more.
+use borrow.Author.Rules.{rules}
+use Rattle.gossip_gate.proofs.AdmittedLaws.{admitted_valid, admitted_fine}
+use Rattle.gossip_calls.proofs.AskLaws.{serve_not, serve_one, serve_fits}
+use Rattle.gossip_calls.proofs.asking.serve.Goals as goal
+
+pub find-place-requires : goal.find-place-requires
+find-place-requires c = search admitted_fine
+
+pub is_served-requires : goal.is_served-requires
+is_served-requires c = search (admitted_valid, admitted_fine, rules)
+
+pub returns-then-not-is_served : goal.returns-then-not-is_served
+returns-then-not-is_served c = search serve_not
+
+pub reply-requires : goal.reply-requires
+reply-requires c =
+    serve_fits c.requires _ _ c.is_served.ensures c.if-not-is_served.false
+
+pub returns : goal.returns
+returns c = search serve_one

@@ -1,0 +1,98 @@
+use borrow.Author.Rules.{rules}
+use Rattle.index.proofs.Kit.{◌≡◌, ◌-◌, ◌≤◌, ◌<◌, refl, sym, ◌∙◌, arith}
+use mathlib.Core.Logic.{⊎_elim}
+use lib.ListN.{length, get_or}
+use Rattle.layout.specs.View.{state_of}
+use Rattle.words.specs.Words.{word_count, bits_of}
+use Rattle.words.proofs.WideLaws.{bits_of_length}
+use Rattle.sets.proofs.WalkLaws.{at_below}
+use Rattle.gossip_peers.specs.Peers.{Tells}
+use Rattle.gossip_peers.proofs.TellLaws.{picked_to, picked_none, picked_few, picked_in, picked_out, picked_full, picked_all}
+use Rattle.gossip_peers.proofs.TellLaws.{tells_none, tells_size, tells_as, tells_more}
+use Rattle.gossip_peers.proofs.tell.tell_first.Goals as goal
+
+pub loop-i-init : goal.loop-i-init
+loop-i-init c =
+    let a = c.args in (
+      omega arith,
+      refl,
+      omega arith,
+      tells_as
+          (picked_none (state_of a.table.now) (bits_of a.set.now) a.order.now)
+          (tells_none a.actions.now),
+    )
+
+pub shape_of-actions-then-most-n : goal.shape_of-actions-then-most-n
+shape_of-actions-then-most-n c = tells_size c.loop-i.invariant.3
+
+pub returns-then-most-n : goal.returns-then-most-n
+returns-then-most-n c =
+    let a = c.args in
+    let l = c.loop-i in
+    let t = c.if-most-n.true in
+    let w = l.invariant.3 in
+    let n = w.many in
+    tells_as
+    (picked_full (state_of a.table.now) (bits_of a.set.now) a.order.now l.i a.most l.invariant.0 (omega (arith, l.invariant.2)))
+    w
+
+pub tell_slot-requires : goal.tell_slot-requires
+tell_slot-requires c =
+    let p = c.requires in
+    let a = c.args in
+    let l = c.loop-i in
+    let t = c.loop-i-test.true in
+    let w = l.invariant.3 in
+    let z = tells_size w in
+    let f = picked_few (state_of a.table.now) (bits_of a.set.now) a.order.now l.i in
+    let q : length a.set.now ≡ word_count = search rules in
+    let m = bits_of_length a.set.now in
+    let h = at_below (bits_of a.set.now) (get_or a.order.now l.i 0) (sym c.at.ensures ∙ c.if-at.true) in
+    (record { standing = p.0.standing; slot = omega arith }, omega (arith, p.0.room, p.1, w.many, l.invariant.1))
+
+pub overflow_add-n : goal.overflow_add-n
+overflow_add-n c =
+    let a = c.args in
+    let l = c.loop-i in
+    let t = c.loop-i-test.true in
+    let w = l.invariant.3 in
+    let f = picked_few (state_of a.table.now) (bits_of a.set.now) a.order.now l.i in
+    omega (arith, w.many)
+
+pub loop-i-preserved : goal.loop-i-preserved
+loop-i-preserved c =
+    let a = c.args in
+    let l = c.loop-i in
+    let lt : l.i < length a.order.now = omega arith in
+    let room = c.if-most-n.false in
+    let st = state_of a.table.now in
+    let p = bits_of a.set.now in
+    ⊎_elim
+    (λ w. (
+      omega arith,
+      refl,
+      omega (arith, w.6),
+      tells_as (picked_in st p a.order.now l.i lt (sym c.at.ensures ∙ w.0.taken))
+          (rw w.6 (tells_more _ _ a.actions.now l.actions _ l.n l.invariant.3 (w.5 ∙ w.2.ensures))),
+    ))
+    (λ w. (
+      omega arith,
+      refl,
+      omega (arith, w.2, l.invariant.2),
+      tells_as (picked_out st p a.order.now l.i lt (sym c.at.ensures ∙ w.0.left))
+          (rw (w.1, w.2) l.invariant.3),
+    ))
+    c.if-at.branch
+
+pub shape_of-actions : goal.shape_of-actions
+shape_of-actions c = tells_size c.loop-i.invariant.3
+
+pub returns : goal.returns
+returns c =
+    let a = c.args in
+    let l = c.loop-i in
+    let w = l.invariant.3 in
+    tells_as
+    (picked_all (state_of a.table.now) (bits_of a.set.now) a.order.now l.i a.most (omega arith)
+    (omega (arith, w.many, l.invariant.2)))
+    w

@@ -1,0 +1,21 @@
+-- `gossip_peers::tell::tell_slot`: the id of a router's peer fits, and the three numbers are the action's.
+use borrow.Author.Rules.{rules}
+use Rattle.index.proofs.Kit.{ℕ, ◌*◌, ap, ◌∙◌, arith}
+use mathlib.Core.List.{[], ◌∷◌}
+use lib.Seq.{sets}
+use Rattle.effects.specs.Actions.{numbers_of}
+use Rattle.validity.proofs.ValidLaws.{valid_facts}
+use Rattle.gossip_peers.proofs.tell.tell_slot.Goals as goal
+
+pub put-requires : goal.put-requires
+put-requires c =
+    let p = c.requires in
+    let f = ((valid_facts _ p.0.standing.router).peer _ p.0.slot).id in
+    (omega (arith, p.1), (rw c.load_id.ensures f, omega arith))
+
+pub returns : goal.returns
+unfolding numbers_of
+returns c =
+    let a = c.args in
+    c.put.ensures
+    ∙ ap (λ (x : ℕ). sets a.actions.now (3 * a.n) (a.kind ∷ x ∷ 0 ∷ [])) c.load_id.ensures

@@ -1,9 +1,0 @@
--- `gossip_table::load_ihave_bound`: a number of the head.
-use borrow.Author.Rules.{rules}
-use Rattle.gossip_table.specs.View.{gossip_of, setup_of}
-use Rattle.gossip_table.proofs.load_ihave_bound.Statement.{statement}
-use Rattle.gossip_table.proofs.load_ihave_bound.Tie as tie
-
-pub load-ihave-bound-spec : {M : Type 1} → statement M
-unfolding gossip_of setup_of
-load-ihave-bound-spec = tie.close (tie.spec (λ c. search rules) (λ c. search rules))

@@ -1,0 +1,14 @@
+-- `gossip_table::tests::rows_stored`: the loop asks row by row.
+use Rattle.index.proofs.Kit.{◌≤◌, ◌-◌, ◌≡◌, sym, arith, rules, every, true}
+use Rattle.index.proofs.Index.{every_none, every_more, every_out, every_done}
+use Rattle.index.proofs.Flags.{failed, passed}
+use Rattle.gossip_table.specs.View.{gossip_of}
+use Rattle.gossip_table.specs.Fine.{is_kept}
+use Rattle.gossip_table.proofs.StoreParts.{replies_size, replies_count}
+use Rattle.gossip_table.proofs.tests.rows_stored.Given as goal
+
+abbrev pub invariant-loop-row : goal.invariant-loop-row
+invariant-loop-row l = (l.row ≤ l.end) × (every l.row (is_kept (gossip_of l.gossip)) ≡ true)
+
+abbrev pub decreases-loop-row : goal.decreases-loop-row
+decreases-loop-row l = l.end - l.row

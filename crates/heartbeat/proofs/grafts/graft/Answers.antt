@@ -1,0 +1,89 @@
+use Prim.Native.Nat.{◌-◌, ◌≤◌, ◌<◌}
+use native.Mathlib.Omega.{arith}
+use borrow.Author.Rules.{rules}
+use mathlib.Core.Path.{◌≡◌, refl, sym, ap, ◌∙◌}
+use mathlib.Core.Logic.{⊎_elim}
+use lib.ListN.{length}
+use Rattle.layout.specs.View.{state_of}
+use Rattle.words.specs.Words.{word_count, bits_of}
+use Rattle.heartbeat.proofs.GraftLaws.{Walk, walk_none, walk_out, walk_in, walk_full, walk_end, asked_room, grafting_on}
+use Rattle.heartbeat.proofs.grafts.graft.Goals as goal
+
+pub loop-i-init : goal.loop-i-init
+loop-i-init c =
+    let z : length c.args.p ≡ word_count = search rules in
+    (omega arith, refl, z, search rules, walk_none _ _ _ _ c.args.p _ _ _ _ z)
+
+pub shape_of-heights-then-room-eq0 : goal.shape_of-heights-then-room-eq0
+shape_of-heights-then-room-eq0 c = c.loop-i.invariant.4.scores.size
+
+pub returns-then-room-eq0 : goal.returns-then-room-eq0
+returns-then-room-eq0 c =
+    let l = c.loop-i in
+    let z = c.if-room-eq0.true in
+    walk_full _ _ _ _ c.args.p _ _ _ _ l.invariant.2 l.i l.room (bits_of l.r) _
+    l.invariant.4 (omega arith)
+
+pub slice_bounds-is_grafted-end : goal.slice_bounds-is_grafted-end
+slice_bounds-is_grafted-end c = sym c.loop-i.invariant.2
+
+pub slice_bounds-is_grafted-end-in-loop-i : goal.slice_bounds-is_grafted-end-in-loop-i
+slice_bounds-is_grafted-end-in-loop-i c = sym c.loop-i.invariant.3
+
+pub is_grafted-requires : goal.is_grafted-requires
+is_grafted-requires c =
+    let l = c.loop-i in (
+      grafting_on _ _ _ _ _ _ _ _ _ _ l.invariant.4.scores.size
+          c.requires,
+      l.invariant.2,
+    )
+
+pub overflow_sub-room : goal.overflow_sub-room
+overflow_sub-room c =
+    let l = c.loop-i in
+    asked_room _ _ _ _ _ l.room
+    (bits_of c.args.p) (bits_of l.r) _ _ _ c.is_grafted.ensures c.if-is_grafted.true
+
+pub overflow_step-i : goal.overflow_step-i
+overflow_step-i c = omega (
+      arith,
+      c.well_formed.1.1.1.1.1.1.1.1.1.1.1.1.0,
+    )
+
+pub loop-i-preserved : goal.loop-i-preserved
+loop-i-preserved c =
+    let l = c.loop-i in
+    let k = c.is_grafted in
+    let lt : l.i < length
+    c.args.order.now = omega arith in
+    ⊎_elim
+    (λ w. (
+      omega arith,
+      refl,
+      l.invariant.2,
+      (let q : length w.1.result ≡ word_count = search rules in ap length w.2 ∙ q),
+      walk_in _ _ _ _
+          c.args.p _ _
+          _ _ l.invariant.2 l.i l.room (bits_of l.r) _ _ _ lt l.invariant.4 k.ensures
+          w.0.taken _ _ w.3 (ap bits_of w.2 ∙ w.1.ensures),
+    ))
+    (λ w. (
+      omega arith,
+      refl,
+      l.invariant.2,
+      ap length w.1 ∙ l.invariant.3,
+      walk_out _ _ _ _
+          c.args.p _ _
+          _ _ l.invariant.2 l.i l.room (bits_of l.r) _ _ _ lt l.invariant.4 k.ensures
+          w.0.left _ _ w.2 (ap bits_of w.1),
+    ))
+    c.if-is_grafted.branch
+
+pub shape_of-heights : goal.shape_of-heights
+shape_of-heights c = c.loop-i.invariant.4.scores.size
+
+pub returns : goal.returns
+returns c =
+    let l = c.loop-i in
+    walk_end _ _ _ _ c.args.p _ _ _ _ l.invariant.2 l.i l.room (bits_of l.r) _
+    l.invariant.4 (omega arith)

@@ -1,0 +1,22 @@
+-- `heartbeat::grafts::graft`: before each turn the rest of the walk gives the whole, whatever set has the wanted.
+use Prim.Native.Nat.{◌-◌, ◌≤◌, ◌<◌}
+use native.Mathlib.Omega.{arith}
+use borrow.Author.Rules.{rules}
+use mathlib.Core.Path.{◌≡◌, refl, sym, ap, ◌∙◌}
+use mathlib.Core.Logic.{⊎_elim}
+use lib.ListN.{length}
+use Rattle.layout.specs.View.{state_of}
+use Rattle.words.specs.Words.{word_count, bits_of}
+use Rattle.heartbeat.proofs.GraftLaws.{Walk, walk_none, walk_out, walk_in, walk_full, walk_end, asked_room, grafting_on}
+use Rattle.heartbeat.proofs.grafts.graft.Given as goal
+
+abbrev pub invariant-loop-i : goal.invariant-loop-i
+invariant-loop-i l =
+    (l.i ≤ length l.order)
+    × (l.i-end ≡ length l.order)
+    × (length l.p ≡ word_count)
+    × (length l.r ≡ word_count)
+    × Walk (state_of l.table) l.time l.topic l.least (bits_of l.p) l.order l.initial.room (bits_of l.initial.r) l.initial.heights l.i l.room (bits_of l.r) l.heights
+
+abbrev pub decreases-loop-i : goal.decreases-loop-i
+decreases-loop-i l = length l.order - l.i

@@ -1,0 +1,15 @@
+-- `heartbeat::heartbeat`: the gate's refusals, or what `heartbeat_from` gives.
+use borrow.Author.Rules.{rules}
+use Rattle.rules.specs.Step.{effect}
+use Rattle.gate.proofs.CallLaws.{call_ends}
+use Rattle.heartbeat.proofs.ReplyLaws.{heartbeat_range, heartbeat_topic}
+use Rattle.heartbeat.proofs.heartbeat.Goals as goal
+
+pub heartbeat_from-requires : goal.heartbeat_from-requires
+heartbeat_from-requires c = record { ready = search (call_ends, rules); topic = search heartbeat_topic; room = search call_ends }
+
+pub returns-in-Refuse : goal.returns-in-Refuse
+returns-in-Refuse c = search (call_ends, heartbeat_range)
+
+pub returns-in-Pass : goal.returns-in-Pass
+returns-in-Pass c = search (call_ends, heartbeat_range)

@@ -1,0 +1,81 @@
+-- `heartbeat::stages::few_stages`: step 2 keeps the members' scores, so that all scores can still be taken where step 3 has to choose.
+use mathlib.Core.Path.{◌∙◌}
+use Rattle.peer_score.proofs.WeightLaws.{weighing_p2, weighing_p3b, weighing_p4}
+use Rattle.heartbeat.proofs.GraftLaws.{grafting_on, partial_on, few_of}
+use Rattle.heartbeat.proofs.stages.few_stages.Goals as goal
+
+pub weights-w2-requires : goal.weights-w2-requires
+weights-w2-requires c = weighing_p2 _ c.requires.partial.taking.standing
+
+pub weights-w3b-requires : goal.weights-w3b-requires
+weights-w3b-requires c = weighing_p3b _ c.requires.partial.taking.standing
+
+pub weights-w4-requires : goal.weights-w4-requires
+weights-w4-requires c = weighing_p4 _ c.requires.partial.taking.standing
+
+pub second-m2-requires : goal.second-m2-requires
+second-m2-requires c =
+    let p = c.requires.partial in
+    record {
+      taking = p.taking;
+      weights = record {
+        p2 = c.weights-w2.ensures;
+        p3b = c.weights-w3b.ensures;
+        p4 = c.weights-w4.ensures;
+      };
+      topic = p.topic;
+    }
+
+pub degrees-t-requires : goal.degrees-t-requires
+degrees-t-requires c = c.requires.partial.taking.standing
+
+pub all_stages-requires : goal.all_stages-requires
+all_stages-requires c =
+    let s = c.second-m2.ensures.0 in
+    partial_on _ _ _ _ _ _ _ s.size s.kept
+    c.requires.partial
+
+pub shape_of-heights-then-t-size : goal.shape_of-heights-then-t-size
+shape_of-heights-then-t-size c = c.all_stages.auto.1.1.1.1.1.1.1.1.0
+    ∙ c.second-m2.ensures.0.size
+
+pub returns-then-t-size : goal.returns-then-t-size
+returns-then-t-size c = c.all_stages.ensures
+
+pub last_stages-requires : goal.last_stages-requires
+last_stages-requires c =
+    let b = c.requires in
+    let p = b.partial in
+    let s = c.second-m2.ensures in (
+      grafting_on _ _ _ _ _ _ _ _ _ _ s.0.size
+          (record {
+            taking = p.taking;
+            weights = record {
+              p2 = c.weights-w2.ensures;
+              p3b =
+                  c.weights-w3b.ensures;
+              p4 =
+                  c.weights-w4.ensures;
+            };
+            topic = p.topic;
+          }),
+      record {
+        first = b.mesh;
+        second = s.1
+            c.args.ask;
+        few = few_of _ _ _ _ c.degrees-t.ensures
+            c.size.ensures c.if-t-size.false;
+        scores = s.0.scored b.scores;
+      },
+    )
+
+pub shape_of-heights : goal.shape_of-heights
+shape_of-heights c = c.last_stages.auto.1.1.1.1.1.1.1.1.1.1.1.1.1.0
+    ∙ c.second-m2.ensures.0.size
+
+pub returns : goal.returns
+returns c =
+    let p = c.requires.partial in
+    let s = c.second-m2.ensures.0 in
+    let l = c.last_stages.ensures in
+    (l.0, λ k h q. l.1 k h (s.kept k h (p.members k h q)))

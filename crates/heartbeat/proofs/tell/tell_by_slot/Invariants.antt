@@ -1,0 +1,22 @@
+-- `heartbeat::tell::tell_by_slot`: the walk has the actions on the slots that are left still to write (`Telling`).
+use native.Mathlib.Omega.{arith}
+use borrow.Author.Rules.{rules}
+use Prim.Native.Nat.{◌-◌}
+use mathlib.Core.Path.{◌≡◌}
+use lib.ListN.{length}
+use Rattle.records.specs.Records.{slot_count}
+use Rattle.layout.specs.View.{state_of}
+use Rattle.words.specs.Words.{word_count, bits_of}
+use Rattle.sets.specs.Sets.{ascending}
+use Rattle.mesh.specs.Maintenance.{actions_on}
+use Rattle.heartbeat.specs.Tell.{ids_in, told_by}
+use Rattle.heartbeat.proofs.TellLaws.{Telling, telling_none, telling_room, telling_next, telling_more, telling_done}
+use Rattle.heartbeat.proofs.tell.tell_by_slot.Given as goal
+
+abbrev pub invariant-loop-slot : goal.invariant-loop-slot
+invariant-loop-slot l =
+    Telling (ids_in (state_of l.table)) (told_by (state_of l.table) l.seconds) l.kind l.n (actions_on l.kind (bits_of l.initial.left) (ascending 0 slot_count)) l.initial.actions
+    l.actions l.k l.left l.slot
+
+abbrev pub decreases-loop-slot : goal.decreases-loop-slot
+decreases-loop-slot l = slot_count - l.slot

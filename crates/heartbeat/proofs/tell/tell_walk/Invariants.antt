@@ -1,0 +1,29 @@
+-- `heartbeat::tell::tell_walk`: the loop has the rest of the walk still to write.
+use Prim.Native.Nat.{ℕ, ◌+◌, ◌*◌, ◌-◌, ◌≤◌, ◌<◌}
+use native.Mathlib.Omega.{arith}
+use borrow.Author.Rules.{rules}
+use mathlib.Core.Path.{◌≡◌, refl, sym, ap, ap₂, ◌∙◌}
+use mathlib.Core.List.{List, [], ◌∷◌}
+use mathlib.Core.Logic.{⊎_elim}
+use lib.ListN.{length, drop, get_or}
+use lib.Seq.{sets, length-sets}
+use Rattle.layout.specs.View.{state_of}
+use Rattle.words.specs.Words.{word_count, bits_of}
+use Rattle.words.proofs.WideLaws.{bits_of_length}
+use Rattle.sets.proofs.WalkLaws.{at_below}
+use Rattle.mesh.specs.Maintenance.{Action, actions_on, seconds_of, numbers_of}
+use Rattle.mesh.proofs.ActionLaws.{numbers_none, numbers_cons, acts_in, acts_out, acts_end}
+use Rattle.heartbeat.specs.Tell.{ids_in, told_by}
+use Rattle.heartbeat.proofs.tell.tell_walk.Given as goal
+
+abbrev pub invariant-loop-i : goal.invariant-loop-i
+invariant-loop-i l =
+    (l.i ≤ length l.order)
+    × (l.i-end ≡ length l.order)
+    × (length l.actions ≡ length l.initial.actions)
+    × (l.k + length (actions_on l.kind (bits_of l.p) (drop l.i l.order)) ≡ l.n + length (actions_on l.kind (bits_of l.p) l.order))
+    × (sets l.actions (3 * l.k) (numbers_of (ids_in (state_of l.table)) (told_by (state_of l.table) l.seconds) (actions_on l.kind (bits_of l.p) (drop l.i l.order)))
+    ≡ sets l.initial.actions (3 * l.n) (numbers_of (ids_in (state_of l.table)) (told_by (state_of l.table) l.seconds) (actions_on l.kind (bits_of l.p) l.order)))
+
+abbrev pub decreases-loop-i : goal.decreases-loop-i
+decreases-loop-i l = length l.order - l.i

@@ -1,0 +1,11 @@
+-- `host_calls::deliver` meets its contract. Assumes nothing.
+use borrow.Author.Rules.{rules}
+use Rattle.rules.proofs.CountLaws.{few_actions}
+use Rattle.host_calls.proofs.HostLaws.{hosts}
+use Rattle.host_calls.proofs.deliver.Goals as goal
+
+pub code-requires : goal.code-requires
+code-requires c = few_actions _ _ _ _ _ _ c.deliver.ensures
+
+pub returns : goal.returns
+returns c = hosts _ c.deliver.ensures _ c.code.ensures

@@ -1,0 +1,6 @@
+-- `host_parameters::export` meets its contract. Assumes nothing.
+use borrow.Author.Rules.{rules}
+use Rattle.host_parameters.proofs.supplier.export.Goals as goal
+
+pub returns : goal.returns
+returns c = c.put_theirs.ensures

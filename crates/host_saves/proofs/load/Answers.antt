@@ -1,0 +1,14 @@
+-- `host_saves::load` meets its contract. Assumes nothing.
+use Rattle.index.proofs.Kit.{arith, rules}
+use Rattle.host_saves.proofs.SavingLaws.{load_known, load_unknown}
+use Rattle.host_saves.proofs.load.Goals as goal
+
+pub packed-requires : goal.packed-requires
+packed-requires c = (omega arith, omega arith)
+
+pub returns-in_default : goal.returns-in_default
+returns-in_default c = load_unknown _ _ c.edition_of.ensures _ _ _ _ _ c.in_default.is c.packed.ensures
+
+pub returns : goal.returns
+returns c = load_known _ _ c.edition_of.ensures _ _ _ _ _ _ _
+    c.in-Known.is c.fill.ensures

@@ -1,0 +1,12 @@
+-- `layout::counted`: after t turns the counters of the first t topics are looked at.
+use Prim.Native.Nat.{◌≤◌, ◌-◌}
+use mathlib.Core.Path.{◌≡◌}
+use native.Mathlib.Omega.{arith}
+use Rattle.layout.proofs.BareLaws.{Counts, counts_more, counts_done}
+use Rattle.layout.proofs.counted.Given as goal
+
+abbrev pub invariant-loop-t : goal.invariant-loop-t
+invariant-loop-t l = (l.t ≤ 8) × (l.acc ≡ 0 → Counts l.cells l.slot l.t)
+
+abbrev pub decreases-loop-t : goal.decreases-loop-t
+decreases-loop-t l = 8 - l.t

@@ -1,0 +1,8 @@
+use Rattle.layout.specs.View.{live_at}
+use borrow.Author.Rules.{rules}
+use Rattle.layout.proofs.live.Goals as goal
+
+pub returns : goal.returns
+unfolding live_at
+returns c =
+    c.keep.ensures

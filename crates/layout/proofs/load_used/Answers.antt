@@ -1,0 +1,7 @@
+use mathlib.Core.Path.{refl}
+use borrow.Author.Rules.{rules}
+use Rattle.layout.proofs.EndLaws.{flags_from}
+use Rattle.layout.proofs.load_used.Goals as goal
+
+pub returns : goal.returns
+returns c = (refl, flags_from c.args.cells.now _ refl)

@@ -1,0 +1,8 @@
+use borrow.Author.Rules.{rules}
+use mathlib.Core.Path.{◌∙◌}
+use Rattle.layout.proofs.ReadLaws.{version_high_bit}
+use Rattle.layout.proofs.load_version_high.Goals as goal
+
+pub returns : goal.returns
+returns c =
+    (c.word.ensures.0, λ k h. c.word.ensures.1 k h ∙ version_high_bit c.args.cells.now k h)

@@ -1,0 +1,10 @@
+use mathlib.Core.Path.{ap, ◌∙◌}
+use Rattle.layout.specs.View.{state_of}
+use Rattle.layout.proofs.PlaceLaws.{subscribed_written}
+use borrow.Author.Rules.{rules}
+use Rattle.layout.proofs.store_subscribed.Goals as goal
+
+pub returns : goal.returns
+returns c =
+    ap state_of c.set_bit.ensures.0
+    ∙ subscribed_written c.args.cells.now c.args.k c.requires.0 c.requires.1.0 c.args.v c.requires.1.1

@@ -1,0 +1,14 @@
+-- `leaving::leave`: the gate's refusals, or what `leave_from` gives.
+use borrow.Author.Rules.{rules}
+use Rattle.rules.specs.Step.{effect}
+use Rattle.gate.proofs.CallLaws.{call_ends}
+use Rattle.leaving.proofs.leave.Goals as goal
+
+pub leave_from-requires : goal.leave_from-requires
+leave_from-requires c = record { ready = search (call_ends, rules); topic = search call_ends; room = search call_ends }
+
+pub returns-in-Refuse : goal.returns-in-Refuse
+returns-in-Refuse c = search call_ends
+
+pub returns-in-Pass : goal.returns-in-Pass
+returns-in-Pass c = search call_ends

@@ -1,0 +1,31 @@
+use Rattle.index.proofs.Kit.{◌≤◌, ◌-◌, ◌≡◌, arith, every, true, rules, every_more, failed, passed}
+use lib.ListN.{get_or}
+use mir.Syntax.{w64}
+use mir.Val.{to_z}
+use mir.Facts.{to_z-of_z}
+use Rattle.index.proofs.Index.{every-loop, every_out, every_in}
+use Rattle.varint.specs.Codes.{number_of}
+use Rattle.records.specs.Records.{topic_count}
+use Rattle.limits.specs.Limits.{place, to, lies}
+use Rattle.limits.proofs.field_lies.Goals as goal
+
+pub loop-k-init : goal.loop-k-init
+loop-k-init c = search (every-loop, rules)
+
+pub returns-then-not-code_lies : goal.returns-then-not-code_lies
+returns-then-not-code_lies c =
+    let f = c.ranges in
+    rw (← to_z-of_z f.low, ← to_z-of_z f.high) (every_out _ _ _ (omega arith) (failed c.code_lies.ensures c.if-not-code_lies.true))
+
+pub loop-k-preserved : goal.loop-k-preserved
+loop-k-preserved c = (
+      omega arith,
+      every_more _ _ c.loop-k.invariant.1 (passed c.code_lies.ensures c.if-not-code_lies.false),
+    )
+
+pub returns : goal.returns
+returns c =
+    let f = c.ranges in
+    let l = c.loop-k in
+    let e : true ≡ every topic_count _ = every_in _ topic_count l.k (omega arith) (omega arith) l.invariant.1 in
+    rw (to_z-of_z f.low, to_z-of_z f.high) at e

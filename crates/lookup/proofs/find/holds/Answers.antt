@@ -1,0 +1,6 @@
+use borrow.Author.Rules.{rules}
+use Rattle.lookup.specs.Find.{holds}
+use Rattle.lookup.proofs.find.holds.Goals as goal
+
+pub returns : goal.returns
+returns c = cc

@@ -1,0 +1,28 @@
+use Rattle.index.proofs.Kit.{◌≤◌, ◌-◌, ◌≡◌, first}
+use Rattle.index.proofs.Auto.{auto}
+use Rattle.index.specs.declared.Found.TheVariants.{Nothing}
+use Rattle.records.specs.Records.{peer_in, is_empty, slot_count}
+use Rattle.layout.specs.View.{state_of}
+use Rattle.lookup.specs.Find.{lowest_empty}
+use Rattle.lookup.proofs.find.lowest_empty.Goals as goal
+
+pub loop-lowest-init : goal.loop-lowest-init
+loop-lowest-init c = search auto
+
+pub is_empty-requires : goal.is_empty-requires
+is_empty-requires c = search auto
+
+pub overflow_add-lowest : goal.overflow_add-lowest
+overflow_add-lowest c = search auto
+
+pub loop-lowest-smaller : goal.loop-lowest-smaller
+loop-lowest-smaller c = search auto
+
+pub loop-lowest-preserved : goal.loop-lowest-preserved
+loop-lowest-preserved c = search auto
+
+pub returns-then-lowest-ge-SLOTS : goal.returns-then-lowest-ge-SLOTS
+returns-then-lowest-ge-SLOTS c = search auto
+
+pub returns-then-is_empty : goal.returns-then-is_empty
+returns-then-is_empty c = search auto

@@ -1,0 +1,16 @@
+use borrow.Author.Rules.{rules}
+use mathlib.Core.Path.{ap, ◌∙◌}
+use Rattle.records.specs.declared.Setup.{Setup}
+use Rattle.params.specs.Editions.{edition_of}
+use Rattle.magnitudes.proofs.SizeLaws.{never, accepted_in_lem}
+use Rattle.magnitudes.proofs.accepted.Goals as goal
+
+pub returns-in-Known : goal.returns-in-Known
+returns-in-Known c e =
+    accepted_in_lem _ _ _ _
+    (c.edition_of.ensures ∙ ap (λ (u : Setup). edition_of u.edition) c.load_setup-setup.ensures)
+    c.in-Known.is
+    (c.accepted_by.ensures e)
+
+pub returns-in-Unknown : goal.returns-in-Unknown
+returns-in-Unknown c e = never e

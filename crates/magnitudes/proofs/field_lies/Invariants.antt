@@ -1,0 +1,22 @@
+-- `magnitudes::field_lies`: after t turns the numbers of t topics lie between the two.
+use Prim.Native.Nat.{◌-◌, ◌≤◌}
+use native.Mathlib.Omega.{arith}
+use mathlib.Core.Path.{◌≡◌, refl}
+use mathlib.Core.Bool.{true}
+use mathlib.Core.List.{map}
+use Rattle.index.proofs.Flags.{passed}
+use Rattle.index.specs.Index.{every}
+use Rattle.index.proofs.Index.{every_none, every_more, every_done}
+use Rattle.varint.specs.Codes.{number_of}
+use Rattle.layout.specs.View.{state_of}
+use Rattle.records.specs.Records.{topic_count}
+use Rattle.limits.specs.Limits.{place, in_limits}
+use Rattle.magnitudes.specs.Sizes.{least, most}
+use Rattle.magnitudes.proofs.SizeLaws.{never, topic_row}
+use Rattle.magnitudes.proofs.field_lies.Given as goal
+
+abbrev pub invariant-loop-t : goal.invariant-loop-t
+invariant-loop-t l = (l.t ≤ topic_count) × (every l.t (λ k. in_limits (map number_of (state_of l.table).codes) (place k l.j)) ≡ true)
+
+abbrev pub decreases-loop-t : goal.decreases-loop-t
+decreases-loop-t l = topic_count - l.t

@@ -1,0 +1,8 @@
+use mathlib.Core.Path.{refl}
+use borrow.Author.Rules.{rules}
+use Rattle.marks.specs.Marks.{is_marked}
+use Rattle.marks.proofs.is_marked.Goals as goal
+
+pub returns : goal.returns
+unfolding is_marked
+returns c = refl

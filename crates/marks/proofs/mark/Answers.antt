@@ -1,0 +1,7 @@
+use borrow.Author.Rules.{rules}
+use Rattle.marks.specs.Marks.{marked}
+use Rattle.marks.proofs.mark.Goals as goal
+
+pub returns : goal.returns
+unfolding marked
+returns c = rw c.single.ensures

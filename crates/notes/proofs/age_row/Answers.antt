@@ -1,0 +1,63 @@
+use Prim.Native.Nat.{◌+◌, ◌-◌}
+use mathlib.Core.Path.{◌∙◌}
+use mathlib.Core.Logic.{⊎_elim}
+use native.Mathlib.Omega.{arith}
+use lib.ListN.{length-set}
+use Rattle.notes.proofs.HeldLaws.{Aging, aging_start, aging_in, aging_out, aging_done}
+use Rattle.notes.proofs.age_row.Goals as goal
+
+pub loop-i-init : goal.loop-i-init
+loop-i-init c = aging_start _ _ _ _
+
+pub bounds-cells-at-then-age-lt2 : goal.bounds-cells-at-then-age-lt2
+bounds-cells-at-then-age-lt2 c =
+    let l = c.loop-i in
+    let e = l.invariant.size in
+    omega arith
+
+pub overflow_add-cells-then-age-lt2 : goal.overflow_add-cells-then-age-lt2
+overflow_add-cells-then-age-lt2 c = let h = c.loop-i.invariant.few in omega arith
+
+pub offset_bounds-cells-at-then-age-lt2-2 : goal.offset_bounds-cells-at-then-age-lt2-2
+offset_bounds-cells-at-then-age-lt2-2 c = let h = c.loop-i.invariant.few in omega arith
+
+pub bounds-cells-at-then-age-lt2-2 : goal.bounds-cells-at-then-age-lt2-2
+bounds-cells-at-then-age-lt2-2 c = let l = c.loop-i.invariant in let h = l.few in let e = l.size in omega arith
+
+pub with_top-left-requires : goal.with_top-left-requires
+with_top-left-requires c =
+    let l = c.loop-i in
+    let h = l.invariant.few in
+    (omega arith, (l.invariant.small, omega arith))
+
+pub overflow_add-m : goal.overflow_add-m
+overflow_add-m c = let h = c.loop-i.invariant.few in omega arith
+
+pub loop-i-preserved : goal.loop-i-preserved
+loop-i-preserved c =
+    let l = c.loop-i in
+    let a = c.args in
+    ⊎_elim
+    (λ w.
+    aging_in a.cells.now l.cells c.if-age-lt2.cells a.at _ a.n l.i l.m c.if-age-lt2.m l.left c.if-age-lt2.left
+    c.digit-age.result (omega arith) (let p = c.requires in omega arith) l.invariant c.digit-age.ensures.0 w.0.taken w.3
+    (w.4 ∙ w.2.ensures.0) w.5)
+    (λ w.
+    aging_out a.cells.now l.cells c.if-age-lt2.cells a.at _ a.n l.i l.m c.if-age-lt2.m l.left c.if-age-lt2.left
+    c.digit-age.result (omega arith) (let p = c.requires in omega arith) l.invariant c.digit-age.ensures.0 w.0.left w.1 w.2
+    w.3)
+    c.if-age-lt2.branch
+
+pub bounds-cells-at-2 : goal.bounds-cells-at-2
+bounds-cells-at-2 c = let e = c.loop-i.invariant.size in omega arith
+
+pub shape_of-cells : goal.shape_of-cells
+shape_of-cells c =
+    let l = c.loop-i in
+    length-set l.cells (c.args.at + 32) l.left ∙ l.invariant.size
+
+pub returns : goal.returns
+returns c =
+    let l = c.loop-i in
+    aging_done c.args.cells.now l.cells c.args.at c.args.n l.i l.m l.left c.requires.row c.requires.held
+    (omega arith) l.invariant

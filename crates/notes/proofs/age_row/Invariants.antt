@@ -1,0 +1,14 @@
+-- `notes::age_row`: the first i entries are gone through, m are left.
+use Prim.Native.Nat.{◌+◌, ◌-◌}
+use mathlib.Core.Path.{◌∙◌}
+use mathlib.Core.Logic.{⊎_elim}
+use native.Mathlib.Omega.{arith}
+use lib.ListN.{length-set}
+use Rattle.notes.proofs.HeldLaws.{Aging, aging_start, aging_in, aging_out, aging_done}
+use Rattle.notes.proofs.age_row.Given as goal
+
+abbrev pub invariant-loop-i : goal.invariant-loop-i
+invariant-loop-i l = Aging l.initial.cells l.cells l.at l.ages l.n l.i l.m l.left
+
+abbrev pub decreases-loop-i : goal.decreases-loop-i
+decreases-loop-i l = l.n - l.i

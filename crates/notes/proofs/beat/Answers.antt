@@ -1,0 +1,34 @@
+use Prim.Native.Nat.{◌-◌}
+use mathlib.Core.Path.{sym, ◌∙◌}
+use mathlib.Core.Logic.{⊎_elim}
+use native.Mathlib.Omega.{arith}
+use Rattle.records.specs.Records.{slot_count}
+use Rattle.notes.proofs.NoteLaws.{Beating, beating_start, beating_in, beating_out, beating_fits, beating_done}
+use Rattle.notes.proofs.beat.Goals as goal
+
+pub loop-s-init : goal.loop-s-init
+loop-s-init c = beating_start c.args.cells.now c.requires.size
+
+pub bounds-cells-s : goal.bounds-cells-s
+bounds-cells-s c = let e = c.loop-s.invariant.size in omega arith
+
+pub beat_slot-requires : goal.beat_slot-requires
+beat_slot-requires c =
+    beating_fits c.args.cells.now c.loop-s.cells c.loop-s.s (omega arith) c.requires c.loop-s.invariant
+
+pub loop-s-preserved : goal.loop-s-preserved
+loop-s-preserved c =
+    let a = c.args in
+    let l = c.loop-s in
+    ⊎_elim
+    (λ w. beating_in a.cells.now l.cells c.if-cells-s-ne0.cells _ l.s (omega arith) l.invariant w.5 w.2.kept.0 w.2.ensures)
+    (λ w. beating_out a.cells.now l.cells c.if-cells-s-ne0.cells l.s (omega arith) l.invariant w.1 w.0.left)
+    c.if-cells-s-ne0.branch
+
+pub shape_of-cells : goal.shape_of-cells
+shape_of-cells c = c.loop-s.invariant.size ∙ sym c.requires.size
+
+pub returns : goal.returns
+returns c =
+    let l = c.loop-s in
+    beating_done c.args.cells.now l.cells l.s (omega arith) l.invariant

@@ -1,0 +1,6 @@
+use borrow.Author.Rules.{rules}
+use Rattle.notes.proofs.NoteLaws.{notes_cleared}
+use Rattle.notes.proofs.clear.Goals as goal
+
+pub returns : goal.returns
+returns c = notes_cleared c.args.cells.now c.args.slot c.requires.slot c.requires.size

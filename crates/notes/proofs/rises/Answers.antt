@@ -1,0 +1,21 @@
+use Prim.Native.Nat.{◌≤◌, ◌-◌}
+use mathlib.Core.Path.{◌≡◌}
+use native.Mathlib.Omega.{arith}
+use Rattle.index.specs.Index.{every}
+use Rattle.notes.proofs.SetLaws.{every_start, next_above, cells_from, rises_step, rises_done}
+use Rattle.notes.proofs.rises.Goals as goal
+
+pub loop-k-init : goal.loop-k-init
+loop-k-init c = (omega arith, every_start _)
+
+pub loop-k-preserved : goal.loop-k-preserved
+loop-k-preserved c =
+    let l = c.loop-k in
+    let a = c.args in
+    (omega arith, rises_step a.cells.now a.at l.k l.ok l.invariant.1)
+
+pub returns : goal.returns
+returns c =
+    let l = c.loop-k in
+    let a = c.args in
+    rises_done a.cells.now a.at a.n l.k l.ok (omega arith) (omega arith) l.invariant.1

@@ -1,0 +1,5 @@
+use borrow.Author.Rules.{rules}
+use Rattle.notes.proofs.with_gap.Goals as goal
+
+pub returns : goal.returns
+returns c = cc

@@ -1,0 +1,27 @@
+-- `params::accepts` meets its contract. Assumes nothing.
+use borrow.Author.Rules.{rules}
+use Rattle.params.proofs.CheckLaws.{codes_short, codes_outside, codes_within, codes_broken, codes_kept}
+use Rattle.params.proofs.accepts.Goals as goal
+
+pub returns-then-codes-ne-NUMBERS : goal.returns-then-codes-ne-NUMBERS
+returns-then-codes-ne-NUMBERS c = codes_short _ _ c.if-codes-ne-NUMBERS.true
+
+pub returns-then-not-codes_lie : goal.returns-then-not-codes_lie
+returns-then-not-codes_lie c = codes_outside _ _ c.if-codes-ne-NUMBERS.false _ c.codes_lie.ensures c.if-not-codes_lie.true
+
+pub first_rule-requires : goal.first_rule-requires
+first_rule-requires c = (
+      c.if-codes-ne-NUMBERS.false,
+      codes_within c.args.edition c.args.codes.now
+          c.if-codes-ne-NUMBERS.false _ c.codes_lie.ensures c.if-not-codes_lie.false,
+    )
+
+pub returns-in-At : goal.returns-in-At
+returns-in-At c =
+    codes_broken _ _ c.if-codes-ne-NUMBERS.false _ c.codes_lie.ensures _ _ c.if-not-codes_lie.false
+    c.first_rule.ensures c.in-At.is
+
+pub returns-in-Nothing : goal.returns-in-Nothing
+returns-in-Nothing c =
+    codes_kept _ _ c.if-codes-ne-NUMBERS.false _ c.codes_lie.ensures _ c.if-not-codes_lie.false
+    c.first_rule.ensures c.in-Nothing.is

@@ -1,0 +1,16 @@
+-- `params::joint::first_rule` meets its contract. Assumes nothing.
+use Rattle.index.proofs.Kit.{◌≤◌, ◌-◌, ◌≡◌, arith, first}
+use Rattle.index.proofs.Auto.{auto}
+use Rattle.index.proofs.Flags.{not_yes, not_no}
+use Rattle.index.specs.declared.Found.TheVariants.{Nothing}
+use mathlib.Core.List.{map}
+use Rattle.varint.specs.Codes.{number_of}
+use Rattle.params.specs.Joint.{rule_count}
+use Rattle.params.specs.Check.{broken}
+use Rattle.params.proofs.joint.first_rule.Given as goal
+
+abbrev pub invariant-loop-k : goal.invariant-loop-k
+invariant-loop-k l = (l.k ≤ rule_count) × (first l.k (broken (map number_of l.codes) l.edition) ≡ Nothing)
+
+abbrev pub decreases-loop-k : goal.decreases-loop-k
+decreases-loop-k l = rule_count - l.k

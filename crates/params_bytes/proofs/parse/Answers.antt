@@ -1,0 +1,32 @@
+use Prim.Native.Nat.{◌≤◌, ◌-◌}
+use mathlib.Core.Path.{◌≡◌, refl, ◌∙◌}
+use native.Mathlib.Omega.{arith}
+use borrow.Author.Rules.{rules, sfits_of}
+use lib.ListN.{length, length-set}
+use mathlib.Core.List.{[]}
+use mir.Facts.{to_z-of_z}
+use Rattle.records.specs.Records.{param_count}
+use Rattle.params_bytes.proofs.ReadLaws.{After, after_none, after_more, after_bad, after_all}
+use Rattle.params_bytes.proofs.parse.Goals as goal
+
+pub loop-i-init : goal.loop-i-init
+loop-i-init c = (search rules, (refl, after_none param_count _ _ []))
+
+pub returns-in_default : goal.returns-in_default
+returns-in_default c = let l = c.loop-i in
+    after_bad param_count _ _ l.i l.numbers _ _ c.loop-i-test.true l.invariant.1.1
+    c.read_u64.ensures c.in_default.is
+
+pub loop-i-preserved : goal.loop-i-preserved
+loop-i-preserved c = let l = c.loop-i in (
+      omega arith,
+      (
+        simp length-set l.invariant.1.0,
+        after_more param_count _ _ l.i l.numbers _ _ _ _ _ (omega arith) (omega arith) l.invariant.1.1
+            c.read_u64.ensures c.in-Number.is
+            (to_z-of_z (sfits_of c.number_of-v.type-inv) ∙ c.number_of-v.ensures),
+      ),
+    )
+
+pub returns : goal.returns
+returns c = let l = c.loop-i in after_all param_count _ _ l.i l.numbers _ (omega arith) (omega arith) l.invariant.1.1

@@ -1,0 +1,18 @@
+-- `peer_score::buckets::note`: three stores into the group's bucket (`noted`).
+use borrow.Author.Rules.{rules}
+use native.Mathlib.Omega.{arith}
+use Rattle.peer_score.proofs.BucketLaws.{noted}
+use Rattle.peer_score.proofs.buckets.note.Goals as goal
+
+pub overflow_add-same : goal.overflow_add-same
+overflow_add-same c =
+    omega (arith, c.one.ensures.1, c.requires.room c.bucket-b.result)
+
+pub overflow_add-others : goal.overflow_add-others
+overflow_add-others c =
+    omega (arith, c.one-2.ensures.1, c.requires.room c.bucket-b.result)
+
+pub returns : goal.returns
+returns c d n k =
+    noted d n _ _ _ k _ _ _ _ _ c.bucket-b.ensures.0 c.head_of-head.ensures c.one.ensures.0
+    c.one-2.ensures.0

@@ -1,0 +1,15 @@
+-- `replies::keep_rows`: after r turns the rows below w are those of the first r that are kept.
+use Prim.Native.Nat.{◌-◌, ◌≤◌}
+use mathlib.Core.Path.{◌≡◌, ◌∙◌}
+use native.Mathlib.Omega.{arith}
+use lib.ListN.{length, length-set}
+use Rattle.replies.specs.View.{rows_in, replies_of}
+use Rattle.replies.proofs.RowLaws.{rows_length}
+use Rattle.replies.proofs.CallLaws.{Keeping, keeping_none, keeping_more, keeping_done}
+use Rattle.replies.proofs.keep_rows.Given as goal
+
+abbrev pub invariant-loop-r : goal.invariant-loop-r
+invariant-loop-r l = (l.r ≤ l.u) × (length (replies_of l.initial.cells) ≡ rows_in l.initial.cells) × Keeping l.initial.cells l.cells l.flags l.r l.w
+
+abbrev pub decreases-loop-r : goal.decreases-loop-r
+decreases-loop-r l = l.u - l.r

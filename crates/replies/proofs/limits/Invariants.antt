@@ -1,0 +1,16 @@
+-- `replies::limits`: after k turns the first k cells of limits are there.
+use Prim.Native.Nat.{◌-◌, ◌≤◌}
+use mathlib.Core.Path.{◌≡◌, refl, ◌∙◌}
+use native.Mathlib.Omega.{arith}
+use native.Mathlib.Nat.{not-suc-le-zero}
+use lib.ListN.{length, length-set}
+use Rattle.replies.specs.View.{lane_cells}
+use Rattle.replies.specs.Asked.{on_bits}
+use Rattle.replies.proofs.LimitLaws.{AllowTo, allow_more}
+use Rattle.replies.proofs.limits.Given as goal
+
+abbrev pub invariant-loop-k : goal.invariant-loop-k
+invariant-loop-k l = (l.k ≤ lane_cells) × (length l.l ≡ lane_cells) × AllowTo (on_bits l.connected) l.most l.k l.l
+
+abbrev pub decreases-loop-k : goal.decreases-loop-k
+decreases-loop-k l = lane_cells - l.k

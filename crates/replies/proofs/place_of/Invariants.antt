@@ -1,0 +1,15 @@
+-- `replies::place_of`: below `low` every number is smaller, and from `high` on none is.
+use Prim.Native.Nat.{◌-◌, ◌+◌, ◌/◌}
+use mathlib.Core.Path.{◌≡◌, sym}
+use native.Mathlib.Omega.{arith}
+use lib.ListN.{length}
+use Rattle.replies.specs.View.{rows_in, replies_of}
+use Rattle.replies.proofs.RowLaws.{rows_length, number_load}
+use Rattle.replies.proofs.CallLaws.{Halved, halve_none, halve_up, halve_down, halve_done}
+use Rattle.replies.proofs.place_of.Given as goal
+
+abbrev pub invariant-loop-low : goal.invariant-loop-low
+invariant-loop-low l = (length (replies_of l.cells) ≡ rows_in l.cells) × Halved (replies_of l.cells) l.n l.low l.high
+
+abbrev pub decreases-loop-low : goal.decreases-loop-low
+decreases-loop-low l = l.high - l.low

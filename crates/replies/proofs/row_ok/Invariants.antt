@@ -1,0 +1,19 @@
+-- `replies::row_ok`: after k turns the first k cells of lanes are within their bounds.
+use Prim.Native.Nat.{◌+◌, ◌-◌, ◌≤◌}
+use mathlib.Core.Path.{◌≡◌}
+use mathlib.Core.Bool.{true}
+use native.Mathlib.Omega.{arith}
+use lib.ListN.{get_or}
+use Rattle.index.specs.Index.{every}
+use Rattle.index.proofs.Index.{every_none, every_more, every_out, every_in}
+use Rattle.index.proofs.Flags.{failed, passed}
+use Rattle.replies.specs.View.{lane_cells, start_of}
+use Rattle.replies.specs.Asked.{on_bits, cell_fits, lanes_fit}
+use Rattle.replies.proofs.row_ok.Given as goal
+
+abbrev pub invariant-loop-k : goal.invariant-loop-k
+invariant-loop-k l =
+    (l.k ≤ lane_cells) × (every l.k (λ i. cell_fits (on_bits l.connected) l.most i (get_or l.cells (start_of l.r + (2 + i)) 0)) ≡ true)
+
+abbrev pub decreases-loop-k : goal.decreases-loop-k
+decreases-loop-k l = lane_cells - l.k

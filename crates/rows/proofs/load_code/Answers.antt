@@ -1,0 +1,6 @@
+use Rattle.rows.proofs.ViewLaws.{code_load}
+use borrow.Author.Rules.{rules}
+use Rattle.rows.proofs.load_code.Goals as goal
+
+pub returns : goal.returns
+returns c = code_load c.args.cells.now c.args.i c.requires.1

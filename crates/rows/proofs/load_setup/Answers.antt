@@ -1,0 +1,6 @@
+use Rattle.rows.proofs.ViewLaws.{setup_load}
+use borrow.Author.Rules.{rules}
+use Rattle.rows.proofs.load_setup.Goals as goal
+
+pub returns : goal.returns
+returns c = setup_load c.args.cells.now

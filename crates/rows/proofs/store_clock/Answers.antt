@@ -1,0 +1,6 @@
+use Rattle.rows.proofs.ViewLaws.{clock_store}
+use borrow.Author.Rules.{rules}
+use Rattle.rows.proofs.store_clock.Goals as goal
+
+pub returns : goal.returns
+returns c = clock_store c.args.cells.now c.requires c.args.time

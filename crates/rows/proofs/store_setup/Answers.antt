@@ -1,0 +1,6 @@
+use Rattle.rows.proofs.ViewLaws.{setup_store}
+use borrow.Author.Rules.{rules}
+use Rattle.rows.proofs.store_setup.Goals as goal
+
+pub returns : goal.returns
+returns c = setup_store c.args.cells.now c.requires c.args.setup

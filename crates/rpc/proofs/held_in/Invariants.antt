@@ -1,0 +1,12 @@
+-- `rpc::held_in` meets its contract. Assumes nothing.
+use Rattle.index.proofs.Kit.{◌-◌, rules}
+use lib.ListN.{length}
+use Rattle.fields.proofs.FieldLaws.{read_falls}
+use Rattle.rpc.proofs.HeldLaws.{Holding, holding_none, holding_more, holding_bad, holding_all}
+use Rattle.rpc.proofs.held_in.Given as goal
+
+abbrev pub invariant-loop-place : goal.invariant-loop-place
+invariant-loop-place l = Holding l.kind l.s l.at l.place l.held
+
+abbrev pub decreases-loop-place : goal.decreases-loop-place
+decreases-loop-place l = length l.s - l.place

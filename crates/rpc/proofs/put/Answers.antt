@@ -1,0 +1,7 @@
+-- `rpc::put` meets its contract. Assumes nothing.
+use Rattle.index.proofs.Kit.{rules, sym}
+use lib.Seq.{set_out}
+use Rattle.rpc.proofs.put.Goals as goal
+
+pub returns-else-i-list : goal.returns-else-i-list
+returns-else-i-list c = sym (set_out _ _ _ c.if-i-list.false)

@@ -1,0 +1,12 @@
+-- `rpc::put_one` meets its contract. Assumes nothing.
+use borrow.Author.Rules.{rules}
+use Rattle.rpc.proofs.ListLaws.{entry_puts}
+use Rattle.rpc.proofs.put_one.Goals as goal
+
+pub returns : goal.returns
+returns c =
+    let h = c.held_in-h.ensures in
+    let t = c.topic_in-topic.ensures in
+    let v = c.value_of.ensures in
+    let o = c.put_entry.ensures in
+    entry_puts _ _ _ _ _ _ _ _ _ _ _ h t v o

@@ -1,0 +1,32 @@
+-- `rpc_write::id_size` meets its contract. Assumes nothing.
+use Rattle.index.proofs.Kit.{rules, arith}
+use Rattle.message_ids.proofs.TableLaws.{table_parts}
+use Rattle.rpc_write.proofs.WriteLaws.{id_row, id_size_is, no_id}
+use Rattle.rpc_write.proofs.id_size.Goals as goal
+
+pub number_row-requires : goal.number_row-requires
+number_row-requires c = (table_parts _ _ _ c.requires).1
+
+pub overflow_mul-k : goal.overflow_mul-k
+overflow_mul-k c =
+    let q = id_row _ _ _ c.requires _ _
+    c.number_row.ensures _ c.in-At.is in
+    let l = q.low in
+    let g = q.long in
+    omega arith
+
+pub bounds-ids-k : goal.bounds-ids-k
+bounds-ids-k c =
+    let q = id_row _ _ _ c.requires _ _
+    c.number_row.ensures _ c.in-At.is in
+    let l = q.low in
+    let g = q.long in
+    omega arith
+
+pub returns-in-At : goal.returns-in-At
+returns-in-At c = id_size_is _ _ _ c.requires _ _
+    c.number_row.ensures _ c.in-At.is _ c.wide.ensures
+
+pub returns-in-Nothing : goal.returns-in-Nothing
+returns-in-Nothing c = no_id _ _ _ c.requires _ _ c.number_row.ensures
+    c.in-Nothing.is

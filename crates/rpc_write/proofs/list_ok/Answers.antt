@@ -1,0 +1,34 @@
+use Rattle.index.proofs.Kit.{◌-◌, ◌≤◌, true, every, every_none, every_more, ◌≡◌, arith, failed, passed}
+use Rattle.rpc.specs.Reading.{known}
+use Rattle.rpc_write.proofs.WriteLaws.{ok_at, list_many, list_short, list_bad, list_good}
+use Rattle.rpc_write.proofs.list_ok.Goals as goal
+
+pub returns-then-n-gt-MOST_ENTRIES : goal.returns-then-n-gt-MOST_ENTRIES
+returns-then-n-gt-MOST_ENTRIES c = list_many _ _ _ c.if-n-gt-MOST_ENTRIES.true
+
+pub returns-then-list-n : goal.returns-then-list-n
+returns-then-list-n c = list_short _ _ _ c.if-n-gt-MOST_ENTRIES.false c.if-list-n.true
+
+pub loop-i-init : goal.loop-i-init
+loop-i-init c = (omega arith, every_none _)
+
+pub entry_ok-requires : goal.entry_ok-requires
+entry_ok-requires c = c.requires
+
+pub returns-then-not-entry_ok : goal.returns-then-not-entry_ok
+returns-then-not-entry_ok c =
+    let e = failed (c.entry_ok.ensures _) c.if-not-entry_ok.true in
+    list_bad _ _ _ c.if-n-gt-MOST_ENTRIES.false
+    c.if-list-n.false _ c.loop-i-test.true
+    e
+
+pub loop-i-preserved : goal.loop-i-preserved
+loop-i-preserved c = (
+      omega arith,
+      every_more _ _ c.loop-i.invariant.1
+          (passed (c.entry_ok.ensures _) c.if-not-entry_ok.false),
+    )
+
+pub returns : goal.returns
+returns c = list_good _ _ _ c.if-n-gt-MOST_ENTRIES.false c.if-list-n.false _ (omega arith) (omega arith)
+    c.loop-i.invariant.1

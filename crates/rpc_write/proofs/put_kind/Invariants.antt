@@ -1,0 +1,17 @@
+-- `rpc_write::put_kind` meets its contract: the loop's invariant: the first i entries' bytes stand one after the other, at most 80 each.
+-- Assumes nothing.
+use Rattle.index.proofs.Kit.{◌+◌, ◌-◌, ◌*◌, ◌≤◌, gather, ◌≡◌, refl, ◌∙◌, arith}
+use lib.ListN.{length}
+use Rattle.rpc.specs.Reading.{known}
+use Rattle.rpc_write.specs.Writing.{Stored}
+use Rattle.rpc_write.proofs.WriteLaws.{good, bytes_at, kind_none, kind_more, kind_all}
+use Rattle.rpc_write.proofs.put_kind.Given as goal
+
+abbrev pub invariant-loop-i : goal.invariant-loop-i
+invariant-loop-i l =
+    (l.i ≤ l.n)
+    × ((length l.buf ≡ length l.initial.buf)
+    × ((l.place ≤ l.at + 80 * l.i) × Stored l.initial.buf l.at (gather l.i (bytes_at (known l.names l.ids l.numbers) l.list l.kind l.number)) l.place l.buf))
+
+abbrev pub decreases-loop-i : goal.decreases-loop-i
+decreases-loop-i l = l.n - l.i

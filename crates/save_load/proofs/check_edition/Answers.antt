@@ -1,0 +1,32 @@
+-- `save_load::check_edition`: each end by its case. Assumes nothing.
+use Prim.{tt}
+use mathlib.Core.Path.{sym, ◌∙◌}
+use borrow.Author.Rules.{rules}
+use Rattle.saves.proofs.Opened.{slots_most}
+use Rattle.save_load.proofs.CheckLaws.{edition_bad, edition_none, edition_fine}
+use Rattle.save_load.proofs.check_edition.Goals as goal
+
+pub check_count-requires : goal.check_count-requires
+check_count-requires c = (
+      c.requires,
+      slots_most _ _ (sym c.slots_of.ensures ∙ c.in-At.is),
+    )
+
+pub returns-in-At : goal.returns-in-At
+returns-in-At c p clock d =
+    edition_fine p clock c.args.s.now _
+    c.read_u64.ensures _ _
+    c.in-Number.is _ c.slots_of.ensures _
+    c.in-At.is
+    c.check_count.result
+    (c.check_count.ensures p clock d)
+
+pub returns-in-Nothing : goal.returns-in-Nothing
+returns-in-Nothing c p clock d =
+    edition_none p clock c.args.s.now _
+    c.read_u64.ensures _ _ c.in-Number.is _
+    c.slots_of.ensures c.in-Nothing.is
+
+pub returns-in-Bad : goal.returns-in-Bad
+returns-in-Bad c p clock d = edition_bad p clock c.args.s.now _
+    c.read_u64.ensures c.in-Bad.is

@@ -1,0 +1,58 @@
+-- `save_load::check_records`: each end by its case. Assumes nothing.
+use Prim.{tt}
+use native.Mathlib.Omega.{arith}
+use borrow.Author.Rules.{rules}
+use Rattle.lookup.specs.Fresh.{fresh_state}
+use Rattle.save_load.proofs.CheckLaws.{fresh_coded, skim_read, records_broken, records_over, records_outside, records_fine}
+use Rattle.save_load.proofs.check_records.Goals as goal
+
+pub returns-then-next-s : goal.returns-then-next-s
+returns-then-next-s c p clock d = records_over p clock c.args.s.now
+    c.args.codes.now
+    c.args.n
+    c.args.at d
+    c.requires.1 c.skim_numbers.result
+    c.skim_numbers.ensures _ c.in-End.is c.if-next-s.true
+
+pub judge-requires : goal.judge-requires
+judge-requires c = (
+      c.requires.0,
+      skim_read _ _ _ _ c.skim_numbers.result
+          c.skim_numbers.ensures c.in-End.is,
+    )
+
+pub returns-in-Broken : goal.returns-in-Broken
+returns-in-Broken c p clock d = records_broken p clock c.args.s.now
+    c.args.codes.now
+    c.args.n c.args.at d
+    c.requires.1 c.skim_numbers.result
+    c.skim_numbers.ensures _ c.in-Broken.is
+
+pub returns-in-At : goal.returns-in-At
+returns-in-At c p clock d =
+    records_outside p clock c.args.s.now
+    c.args.codes.now
+    c.args.n
+    c.args.at d
+    c.requires.1
+    c.skim_numbers.result
+    c.skim_numbers.ensures _
+    c.in-End.is c.if-next-s.false
+    c.judge.result
+    (c.judge.ensures (fresh_state p) (fresh_coded p _ d))
+    _
+    c.in-At.is
+
+pub returns-in-Nothing : goal.returns-in-Nothing
+returns-in-Nothing c p clock d =
+    records_fine p clock c.args.s.now
+    c.args.codes.now
+    c.args.n
+    c.args.at d
+    c.requires.1
+    c.skim_numbers.result
+    c.skim_numbers.ensures _
+    c.in-End.is c.if-next-s.false
+    c.judge.result
+    (c.judge.ensures (fresh_state p) (fresh_coded p _ d))
+    c.in-Nothing.is

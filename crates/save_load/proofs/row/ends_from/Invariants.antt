@@ -1,0 +1,17 @@
+-- `save_load::row::ends_from`: below t the ends are those of the row. Assumes nothing.
+use Prim.Native.Nat.{ℕ, ◌+◌, ◌*◌, ◌-◌}
+use mathlib.Core.Path.{refl}
+use native.Mathlib.Omega.{arith}
+use Rattle.layout.specs.Rows.{tab}
+use lib.ListN.{get_or}
+use Rattle.index.proofs.Lists.{Built, built_none, built_more, built_done}
+use Rattle.layout.proofs.RowLaws.{length_tab, get_or_tab}
+use Rattle.saves.specs.Load.{end_from}
+use Rattle.save_load.proofs.StoreLaws.{end_fits}
+use Rattle.save_load.proofs.row.ends_from.Given as goal
+
+abbrev pub invariant-loop-t : goal.invariant-loop-t
+invariant-loop-t l = Built 0 (λ k. end_from l.clock (get_or l.row (8 + k * 5) 0)) 8 l.t l.ends
+
+abbrev pub decreases-loop-t : goal.decreases-loop-t
+decreases-loop-t l = 8 - l.t

@@ -1,0 +1,18 @@
+-- `save_write::bytes::put_row`: after i numbers their bytes stand in the buffer (`Stands`), and the next one has room. Assumes nothing.
+use Prim.{tt}
+use Prim.Native.Nat.{◌-◌, ◌≤◌}
+use mathlib.Core.Path.{◌≡◌, refl, ◌∙◌}
+use native.Mathlib.Omega.{arith}
+use borrow.Author.Rules.{rules}
+use lib.ListN.{length, take}
+use Rattle.saves.specs.Save.{bytes_of}
+use Rattle.save_write.specs.Stands.{Stands}
+use Rattle.save_write.proofs.WriteLaws.{row_none, row_full, row_more, row_all}
+use Rattle.save_write.proofs.bytes.put_row.Given as goal
+
+abbrev pub invariant-loop-i : goal.invariant-loop-i
+invariant-loop-i l = (l.i ≤ length l.row)
+    × ((length l.buf ≡ length l.initial.buf) × Stands (bytes_of (take l.i l.row)) l.at l.initial.buf l.place l.buf)
+
+abbrev pub decreases-loop-i : goal.decreases-loop-i
+decreases-loop-i l = length l.row - l.i

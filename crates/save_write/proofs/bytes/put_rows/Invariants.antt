@@ -1,0 +1,20 @@
+-- `save_write::bytes::put_rows`: after k keys the bytes of their rows stand in the buffer. Assumes nothing.
+use Prim.{tt}
+use Prim.Native.Nat.{◌-◌, ◌≤◌}
+use mathlib.Core.Path.{◌≡◌, refl, sym, ◌∙◌}
+use native.Mathlib.Omega.{arith}
+use Rattle.save_write.proofs.WriteLaws.{rows_begin, rows_room, rows_put, rows_written}
+use lib.ListN.{length, take}
+use Rattle.layout.specs.View.{state_of}
+use Rattle.saves.specs.Save.{bytes_of}
+use Rattle.save_write.specs.Stands.{rows_of, Stands}
+use Rattle.save_write.proofs.bytes.put_rows.Given as goal
+
+abbrev pub invariant-loop-k : goal.invariant-loop-k
+invariant-loop-k l =
+    (l.k ≤ length l.keys)
+    × ((length l.row ≡ 44)
+    × ((length l.buf ≡ length l.initial.buf) × Stands (bytes_of (rows_of (state_of l.table) l.time (take l.k l.keys))) l.at l.initial.buf l.place l.buf))
+
+abbrev pub decreases-loop-k : goal.decreases-loop-k
+decreases-loop-k l = length l.keys - l.k

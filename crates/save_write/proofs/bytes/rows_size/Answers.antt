@@ -1,0 +1,62 @@
+use Prim.{tt}
+use Prim.Native.Nat.{◌*◌, ◌-◌, ◌≤◌}
+use mathlib.Core.Path.{◌≡◌, refl, sym, ◌∙◌}
+use native.Mathlib.Omega.{arith}
+use lib.ListN.{length, take}
+use Rattle.layout.specs.View.{state_of}
+use Rattle.saves.specs.Save.{bytes_of}
+use Rattle.save_write.specs.Stands.{rows_of}
+use Rattle.save_write.proofs.WriteLaws.{rows_start, rows_sum, rows_total}
+use Rattle.save_write.proofs.bytes.rows_size.Goals as goal
+
+pub loop-k-init : goal.loop-k-init
+loop-k-init c =
+    (omega arith, (refl, (rows_start (state_of c.args.table.now) c.args.time c.args.keys.now, omega arith)))
+
+pub slice_bounds-fill_row-end : goal.slice_bounds-fill_row-end
+slice_bounds-fill_row-end c = sym c.loop-k.invariant.1.0
+
+pub fill_row-requires : goal.fill_row-requires
+fill_row-requires c = (
+      c.requires.0,
+      (c.slot_of.ensures.1, c.loop-k.invariant.1.0),
+    )
+
+pub slice_bounds-row_size-end : goal.slice_bounds-row_size-end
+slice_bounds-row_size-end c = sym
+    (c.fill_row.auto.1.1.1.1.0 ∙ c.loop-k.invariant.1.0)
+
+pub row_size-sum-requires : goal.row_size-sum-requires
+row_size-sum-requires c = let e = c.fill_row.auto.1.1.1.1.0
+    ∙ c.loop-k.invariant.1.0 in omega arith
+
+pub loop-k-preserved : goal.loop-k-preserved
+loop-k-preserved c =
+    let l = c.loop-k in
+    let f = c.fill_row in
+    let n = c.slot_of in
+    let t = c.loop-k-test.true in (
+      omega arith,
+      (
+        f.auto.1.1.1.1.0 ∙ l.invariant.1.0,
+        (
+          rows_sum (state_of c.args.table.now) c.args.time c.args.keys.now l.k n.result f.new.1.1.1.1.0 t
+              n.ensures.0
+              f.ensures
+              l.sum
+              c.row_size-sum.result
+              l.invariant.1.1.0
+              c.row_size-sum.ensures.0,
+          omega arith,
+        ),
+      ),
+    )
+
+pub returns : goal.returns
+returns c =
+    let l = c.loop-k in
+    (
+      rows_total (state_of c.args.table.now) c.args.time c.args.keys.now l.k l.sum c.loop-k-test.false
+          l.invariant.1.1.0,
+      omega arith,
+    )

@@ -1,0 +1,18 @@
+-- `save_write::bytes::rows_size`: after k keys, the sum of their rows' sizes. Assumes nothing.
+use Prim.{tt}
+use Prim.Native.Nat.{◌*◌, ◌-◌, ◌≤◌}
+use mathlib.Core.Path.{◌≡◌, refl, sym, ◌∙◌}
+use native.Mathlib.Omega.{arith}
+use lib.ListN.{length, take}
+use Rattle.layout.specs.View.{state_of}
+use Rattle.saves.specs.Save.{bytes_of}
+use Rattle.save_write.specs.Stands.{rows_of}
+use Rattle.save_write.proofs.WriteLaws.{rows_start, rows_sum, rows_total}
+use Rattle.save_write.proofs.bytes.rows_size.Given as goal
+
+abbrev pub invariant-loop-k : goal.invariant-loop-k
+invariant-loop-k l =
+    (l.k ≤ length l.keys) × ((length l.row ≡ 44) × ((l.sum ≡ length (bytes_of (rows_of (state_of l.table) l.time (take l.k l.keys)))) × (l.sum ≤ 440 * l.k)))
+
+abbrev pub decreases-loop-k : goal.decreases-loop-k
+decreases-loop-k l = length l.keys - l.k

@@ -1,0 +1,6 @@
+-- `score::counters::raised` meets its contract. Assumes nothing.
+use borrow.Author.Rules.{rules}
+use Rattle.score.proofs.counters.raised.Goals as goal
+
+pub returns : goal.returns
+returns c = c.sum_to.ensures

@@ -1,0 +1,8 @@
+-- `score::counters::scaled` meets its contract. Assumes nothing.
+use native.Mathlib.Omega.{arith}
+use borrow.Author.Rules.{rules}
+use native.Mathlib.Nat.{mul-le-mul}
+use Rattle.score.proofs.counters.scaled.Goals as goal
+
+pub overflow_mul-result : goal.overflow_mul-result
+overflow_mul-result c = omega (arith, mul-le-mul c.requires.1 c.requires.0)

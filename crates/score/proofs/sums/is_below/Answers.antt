@@ -1,0 +1,7 @@
+-- `score::sums::is_below` meets its contract. Assumes nothing.
+use native.Mathlib.Omega.{arith}
+use mathlib.Core.Path.{refl}
+use Rattle.score.proofs.sums.is_below.Goals as goal
+
+pub returns : goal.returns
+returns c = refl

@@ -1,0 +1,45 @@
+use Prim.Native.Nat.{ℕ, ◌+◌, ◌-◌, ◌≤◌}
+use native.Mathlib.Omega.{arith}
+use borrow.Author.Rules.{rules}
+use mathlib.Core.Path.{◌≡◌, refl, sym, ap, ◌∙◌}
+use mathlib.Core.Bool.{Bool, true, false}
+use mathlib.Core.List.{List}
+use mathlib.Core.Logic.{⊎_elim}
+use lib.ListN.{length, drop, get_or, length-set, replicate}
+use lib.Seq.{set_out}
+use lib.Dec.{eqb}
+use Rattle.records.specs.Records.{slot_count}
+use Rattle.sets.specs.Sets.{size}
+use Rattle.sets.proofs.PermutationLaws.{not_long, marked, marked_step, marked_end, marked_permutation}
+use Rattle.sets.proofs.permutation.is_permutation.Goals as goal
+
+pub returns-then-p-ne-SLOTS : goal.returns-then-p-ne-SLOTS
+returns-then-p-ne-SLOTS c = sym (not_long slot_count c.args.p.now c.if-p-ne-SLOTS.true)
+
+pub loop-i-init : goal.loop-i-init
+loop-i-init c = (search rules, search rules, refl, refl)
+
+pub loop-i-preserved : goal.loop-i-preserved
+loop-i-preserved c =
+    let l = c.loop-i in
+    let p = c.args.p.now in
+    let s = get_or p l.i 0 in
+    let rest : List Bool → List Bool = marked (drop (l.i + 1) p) in
+    let step = sym (marked_step p l.i l.seen (omega arith)) ∙ l.invariant.3 in
+    ⊎_elim
+    (λ w. (omega arith, l.invariant.1, ap length w.1 ∙ length-set l.seen s true ∙ l.invariant.2, ap rest w.1 ∙ step))
+    (λ w. (
+      omega arith,
+      l.invariant.1,
+      ap length w.1 ∙ l.invariant.2,
+      ap rest (w.1 ∙ sym (set_out l.seen s true (omega arith))) ∙ step,
+    ))
+    c.if-s.branch
+
+pub returns : goal.returns
+returns c =
+    let l = c.loop-i in
+    let p = c.args.p.now in
+    ap (λ (k : ℕ). eqb k slot_count)
+    (c.marks.ensures ∙ ap size (sym (marked_end p l.i l.seen (omega arith)) ∙ l.invariant.3))
+    ∙ marked_permutation slot_count p l.invariant.1

@@ -1,0 +1,44 @@
+use Prim.Native.Nat.{ℕ, ◌+◌, ◌-◌, ◌≤◌, ◌<◌}
+use native.Mathlib.Omega.{arith}
+use borrow.Author.Rules.{rules}
+use mathlib.Core.Path.{◌≡◌, refl, sym, ap, ◌∙◌}
+use mathlib.Core.Bool.{true, false}
+use mathlib.Core.Logic.{⊎_elim}
+use lib.ListN.{length, drop}
+use Rattle.records.specs.Records.{slot_count}
+use Rattle.words.specs.Words.{bits_of}
+use Rattle.sets.specs.Sets.{bottom}
+use Rattle.sets.proofs.WalkLaws.{bottom_step, bottom_end}
+use Rattle.sets.proofs.walks.bottom.Goals as goal
+
+pub loop-i-init : goal.loop-i-init
+loop-i-init c = (omega arith, refl, refl)
+
+pub loop-i-preserved : goal.loop-i-preserved
+loop-i-preserved c =
+    let a = c.args in
+    let l = c.loop-i in
+    let scores = a.scores.now in
+    let p = bits_of a.t2 in
+    let order = a.order.now in
+    let rest : ℕ → ℕ = λ s. bottom slot_count scores p (drop (l.i + 1) order) s in
+    let lt : l.i < length order = omega arith in
+    let e = c.sinks.ensures in
+    ⊎_elim
+    (λ w. (
+      omega arith,
+      refl,
+      ap rest w.1 ∙ sym (bottom_step p order l.i lt true slot_count scores l.low (sym e ∙ w.0.taken)) ∙ l.invariant.2,
+    ))
+    (λ w. (
+      omega arith,
+      refl,
+      ap rest w.1 ∙ sym (bottom_step p order l.i lt false slot_count scores l.low (sym e ∙ w.0.left)) ∙ l.invariant.2,
+    ))
+    c.if-sinks.branch
+
+pub returns : goal.returns
+returns c =
+    let a = c.args in
+    let l = c.loop-i in
+    sym (bottom_end (bits_of a.t2) a.order.now l.i (omega arith) slot_count a.scores.now l.low) ∙ l.invariant.2

@@ -1,0 +1,66 @@
+use Prim.Native.Nat.{ℕ, ◌+◌, ◌-◌, ◌≤◌, ◌<◌}
+use native.Mathlib.Omega.{arith}
+use borrow.Author.Rules.{rules}
+use mathlib.Core.Path.{◌≡◌, refl, sym, ap, ap₂, ◌∙◌}
+use mathlib.Core.Bool.{Bool, true, false}
+use mathlib.Core.List.{List}
+use mathlib.Core.Logic.{⊎_elim}
+use lib.ListN.{length, drop, get_or}
+use Rattle.words.specs.Words.{word_count, bits_of}
+use Rattle.sets.specs.Sets.{fill}
+use Rattle.sets.proofs.WalkLaws.{takes_room, fill_step, fill_end}
+use Rattle.sets.proofs.CountLaws.{fill_zero}
+use Rattle.sets.proofs.walks.fill.Goals as goal
+
+pub loop-i-init : goal.loop-i-init
+loop-i-init c = (omega arith, refl, refl, search rules)
+
+pub returns-then-room-eq0 : goal.returns-then-room-eq0
+returns-then-room-eq0 c =
+    let l = c.loop-i in
+    let z = c.if-room-eq0.true in
+    sym (fill_zero _ _ l.room (bits_of l.r) (omega arith)) ∙ l.invariant.2
+
+pub slice_bounds-takes-end-in-loop-i : goal.slice_bounds-takes-end-in-loop-i
+slice_bounds-takes-end-in-loop-i c = sym c.loop-i.invariant.3
+
+pub overflow_sub-room : goal.overflow_sub-room
+overflow_sub-room c =
+    let a = c.args in
+    let l = c.loop-i in
+    takes_room (bits_of a.t1) l.room (bits_of l.r) (get_or a.order.now l.i 0)
+    (sym c.takes.ensures ∙ c.if-takes.true)
+
+pub loop-i-preserved : goal.loop-i-preserved
+loop-i-preserved c =
+    let a = c.args in
+    let l = c.loop-i in
+    let p = bits_of a.t1 in
+    let order = a.order.now in
+    let rest : ℕ → List Bool → List Bool = λ k m. fill p k (drop (l.i + 1) order) m in
+    let lt : l.i < length order = omega arith in
+    let e = c.takes.ensures in
+    ⊎_elim
+    (λ w. (
+      omega arith,
+      refl,
+      ap₂ rest w.3 (ap bits_of w.2 ∙ w.1.ensures)
+          ∙ sym (fill_step p order l.i lt true l.room (bits_of l.r) (sym e ∙ w.0.taken))
+          ∙ l.invariant.2,
+      (let q : length w.1.result ≡ word_count = search rules in ap length w.2 ∙ q),
+    ))
+    (λ w. (
+      omega arith,
+      refl,
+      ap₂ rest w.2 (ap bits_of w.1)
+          ∙ sym (fill_step p order l.i lt false l.room (bits_of l.r) (sym e ∙ w.0.left))
+          ∙ l.invariant.2,
+      ap length w.1 ∙ l.invariant.3,
+    ))
+    c.if-takes.branch
+
+pub returns : goal.returns
+returns c =
+    let a = c.args in
+    let l = c.loop-i in
+    sym (fill_end (bits_of a.t1) l.room a.order.now (bits_of l.r) l.i (omega arith)) ∙ l.invariant.2

@@ -1,0 +1,47 @@
+use Prim.Native.Nat.{ℕ, ◌+◌, ◌-◌, ◌≤◌, ◌<◌}
+use native.Mathlib.Omega.{arith}
+use mathlib.Core.Path.{◌≡◌, refl, sym, ap, ◌∙◌}
+use mathlib.Core.Bool.{true, false}
+use mathlib.Core.Logic.{⊎_elim}
+use lib.ListN.{length, get_or, drop}
+use Rattle.records.specs.Records.{slot_count}
+use Rattle.words.specs.Words.{bits_of}
+use Rattle.sets.specs.Sets.{top}
+use Rattle.sets.proofs.WalkLaws.{beats_by, top_step, top_end}
+use Rattle.sets.proofs.walks.top.Goals as goal
+
+pub loop-i-init : goal.loop-i-init
+loop-i-init c = (omega arith, refl, refl, c.number_at-high.ensures)
+
+pub loop-i-preserved : goal.loop-i-preserved
+loop-i-preserved c =
+    let l = c.loop-i in
+    let a = c.args in
+    let scores = a.scores.now in
+    let p = bits_of a.p.now in
+    let order = a.order.now in
+    let s = get_or order l.i 0 in
+    let score = c.number_at-score in
+    let rest : ℕ → ℕ = top slot_count scores p (drop (l.i + 1) order) in
+    let lt : l.i < length order = omega arith in
+    let e = beats_by slot_count scores p l.best s c.at.ensures score.ensures l.invariant.3 in
+    ⊎_elim
+    (λ w. (
+      omega arith,
+      refl,
+      ap rest w.1 ∙ sym (top_step p order l.i lt true slot_count scores l.best (e ∙ w.0.taken)) ∙ l.invariant.2,
+      w.2 ∙ score.ensures ∙ ap (λ (k : ℕ). get_or scores k 0) (sym w.1),
+    ))
+    (λ w. (
+      omega arith,
+      refl,
+      ap rest w.1 ∙ sym (top_step p order l.i lt false slot_count scores l.best (e ∙ w.0.left)) ∙ l.invariant.2,
+      w.2 ∙ l.invariant.3 ∙ ap (λ (k : ℕ). get_or scores k 0) (sym w.1),
+    ))
+    c.if-at-best.branch
+
+pub returns : goal.returns
+returns c =
+    let a = c.args in
+    let l = c.loop-i in
+    sym (top_end (bits_of a.p.now) a.order.now l.i (omega arith) slot_count a.scores.now l.best) ∙ l.invariant.2

@@ -1,0 +1,15 @@
+-- `stores::copy_to`: after k turns the first k numbers are in the list. Assumes nothing.
+use Prim.Native.Nat.{◌-◌, ◌≤◌}
+use native.Mathlib.Omega.{arith}
+use mathlib.Core.Path.{◌≡◌, ap, ◌∙◌}
+use lib.ListN.{length, take}
+use lib.Seq.{length-sets, take_all, sets}
+use borrow.Author.Rules.{rules}
+use Rattle.stores.proofs.ListLaws.{sets_more}
+use Rattle.stores.proofs.copy_to.Given as goal
+
+abbrev pub invariant-loop-k : goal.invariant-loop-k
+invariant-loop-k l = (l.k ≤ length l.from) × (l.list ≡ sets l.initial.list l.at (take l.k l.from))
+
+abbrev pub decreases-loop-k : goal.decreases-loop-k
+decreases-loop-k l = length l.from - l.k

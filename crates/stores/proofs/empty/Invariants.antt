@@ -1,0 +1,16 @@
+-- `stores::empty`: after w turns the topic's first w windows are empty, and no other cell has changed. Assumes nothing.
+use Prim.Native.Nat.{◌-◌, ◌≤◌}
+use native.Mathlib.Omega.{arith}
+use mathlib.Core.Path.{◌≡◌}
+use borrow.Author.Rules.{rules}
+use Rattle.gossip.specs.Notes.{window_count}
+use Rattle.stores.specs.View.{Emptied}
+use Rattle.stores.proofs.ChangeLaws.{emptied_more, emptied_cells}
+use Rattle.stores.proofs.ViewLaws.{changed_stores}
+use Rattle.stores.proofs.empty.Given as goal
+
+abbrev pub invariant-loop-w : goal.invariant-loop-w
+invariant-loop-w l = (l.w ≤ window_count) × Emptied l.initial.cells l.cells l.p l.w
+
+abbrev pub decreases-loop-w : goal.decreases-loop-w
+decreases-loop-w l = window_count - l.w

@@ -1,0 +1,15 @@
+-- `stores::is_in`: after k turns, whether the first k numbers have it. Assumes nothing.
+use Prim.Native.Nat.{◌≤◌, ◌-◌}
+use native.Mathlib.Omega.{arith}
+use mathlib.Core.Path.{◌≡◌}
+use lib.ListN.{length, take}
+use borrow.Author.Rules.{rules}
+use Rattle.gossip.specs.Notes.{has}
+use Rattle.stores.proofs.HasLaws.{has_none, has_more, has_done}
+use Rattle.stores.proofs.is_in.Given as goal
+
+abbrev pub invariant-loop-k : goal.invariant-loop-k
+invariant-loop-k l = (l.k ≤ length l.list) × (l.found ≡ has l.n (take l.k l.list))
+
+abbrev pub decreases-loop-k : goal.decreases-loop-k
+decreases-loop-k l = length l.list - l.k

@@ -1,0 +1,19 @@
+-- `stores::is_stored_in`: the first w windows lack it. Assumes nothing.
+use Prim.Native.Nat.{◌+◌, ◌*◌, ◌-◌, ◌≤◌}
+use native.Mathlib.Omega.{arith}
+use mathlib.Core.Bool.{false}
+use mathlib.Core.Path.{◌≡◌, sym, ◌∙◌}
+use borrow.Author.Rules.{rules}
+use Rattle.index.proofs.Flags.{yes, no}
+use Rattle.gossip.specs.Notes.{window_count, has, some}
+use Rattle.stores.specs.View.{window_at}
+use Rattle.stores.proofs.ChangeLaws.{window_in}
+use Rattle.stores.proofs.HasLaws.{some_none, some_more, some_out, some_in}
+use Rattle.stores.proofs.ViewLaws.{stored_store}
+use Rattle.stores.proofs.is_stored_in.Given as goal
+
+abbrev pub invariant-loop-w : goal.invariant-loop-w
+invariant-loop-w l = (l.w ≤ window_count) × (some l.w (λ v. has l.n (window_at l.cells (l.t * window_count + v))) ≡ false)
+
+abbrev pub decreases-loop-w : goal.decreases-loop-w
+decreases-loop-w l = window_count - l.w

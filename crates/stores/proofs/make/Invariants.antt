@@ -1,0 +1,17 @@
+-- `stores::make`: after p turns the first p windows are empty. Assumes nothing.
+use Prim.Native.Nat.{ℕ, ◌≤◌, ◌<◌, ◌-◌}
+use native.Mathlib.Omega.{arith}
+use mathlib.Core.Path.{◌≡◌, sym, ◌∙◌}
+use lib.ListN.{length, length-set}
+use lib.Seq.{get_or-set_same, get_or-set_other}
+use borrow.Author.Count.{below_none, below_more}
+use borrow.Author.Rules.{rules}
+use Rattle.stores.specs.View.{stores_cells, all_windows, count_at}
+use Rattle.stores.proofs.ViewLaws.{stores_none, windows_none}
+use Rattle.stores.proofs.make.Given as goal
+
+abbrev pub invariant-loop-p : goal.invariant-loop-p
+invariant-loop-p l = (l.p ≤ all_windows) × (length l.cells ≡ stores_cells) × ((q : ℕ) → q < l.p → count_at l.cells q ≡ 0)
+
+abbrev pub decreases-loop-p : goal.decreases-loop-p
+decreases-loop-p l = all_windows - l.p

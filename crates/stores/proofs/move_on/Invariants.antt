@@ -1,0 +1,14 @@
+-- `stores::move_on`: after t turns the first t topics have a new heartbeat, and the others none. Assumes nothing.
+use Prim.Native.Nat.{◌-◌, ◌≤◌}
+use native.Mathlib.Omega.{arith}
+use borrow.Author.Rules.{rules}
+use Rattle.records.specs.Records.{topic_count}
+use Rattle.stores.specs.View.{MovedTo}
+use Rattle.stores.proofs.ChangeLaws.{moved_none, moved_more, moved_done}
+use Rattle.stores.proofs.move_on.Given as goal
+
+abbrev pub invariant-loop-t : goal.invariant-loop-t
+invariant-loop-t l = (l.t ≤ topic_count) × MovedTo l.initial.cells l.cells l.t
+
+abbrev pub decreases-loop-t : goal.decreases-loop-t
+decreases-loop-t l = topic_count - l.t

@@ -1,0 +1,8 @@
+use mathlib.Core.Path.{sym}
+use borrow.Author.Rules.{rules}
+use Rattle.stores.proofs.ViewLaws.{window_get_or}
+use Rattle.stores.proofs.number.Goals as goal
+
+pub returns : goal.returns
+returns c =
+    rw c.start.ensures (sym (window_get_or _ _ _ c.requires.1))

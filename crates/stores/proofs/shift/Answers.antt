@@ -1,0 +1,12 @@
+use native.Mathlib.Omega.{arith}
+use borrow.Author.Rules.{rules}
+use Rattle.stores.proofs.ChangeLaws.{window_of, shifted_cells}
+use Rattle.stores.proofs.shift.Goals as goal
+
+pub size-n-requires : goal.size-n-requires
+size-n-requires c = window_of _ _ c.requires.0 (omega arith)
+
+pub returns : goal.returns
+returns c =
+    rw c.size-n.ensures.0
+    (shifted_cells _ _ _ c.requires.0 c.requires.1 (rw (c.start.ensures, c.size-n.ensures.0) at c.copy_on.ensures))

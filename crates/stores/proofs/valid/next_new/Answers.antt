@@ -1,0 +1,15 @@
+-- `stores::valid::next_new`: an unmarked bucket tells that the number is new, and the number's own is marked then.
+use borrow.Author.Rules.{rules}
+use Rattle.stores.proofs.ApartLaws.{next_told}
+use Rattle.stores.proofs.ChangeLaws.{window_in}
+use Rattle.stores.proofs.valid.next_new.Goals as goal
+
+pub number-n-requires : goal.number-n-requires
+number-n-requires c =
+    (window_in _ _ _ c.requires.store c.requires.window, c.requires.number)
+
+pub returns : goal.returns
+returns c =
+    rw c.mark.ensures
+    (next_told _ _ _ _ _ _ _ _ _ c.requires c.number.ensures c.bucket.ensures.0
+    c.is_marked-known.ensures c.is_new.ensures)

@@ -1,0 +1,19 @@
+-- `stores::valid::window_apart`: after k turns the numbers up to the window's first k are apart, each with its bucket marked.
+-- Assumes nothing.
+use Prim.Native.Nat.{◌-◌, ◌≤◌}
+use native.Mathlib.Omega.{arith}
+use mathlib.Core.Bool.{true}
+use mathlib.Core.Path.{◌≡◌, ap, ◌∙◌}
+use borrow.Author.Rules.{rules}
+use Rattle.index.proofs.Flags.{failed, passed}
+use Rattle.gossip.specs.Valid.{apart}
+use Rattle.stores.specs.Marks.{before, up_to, Seen}
+use Rattle.stores.proofs.ApartLaws.{up_none, window_seen, apart_out, apart_more, window_apart, clash}
+use Rattle.stores.proofs.ChangeLaws.{window_in}
+use Rattle.stores.proofs.valid.window_apart.Given as goal
+
+abbrev pub invariant-loop-k : goal.invariant-loop-k
+invariant-loop-k l = (l.k ≤ l.n) × (apart (up_to l.cells l.t l.w l.k) ≡ true) × Seen (up_to l.cells l.t l.w l.k) l.seen
+
+abbrev pub decreases-loop-k : goal.decreases-loop-k
+decreases-loop-k l = l.n - l.k

@@ -1,0 +1,14 @@
+-- `stores::wants::mark_all`: after k turns the first k numbers have marked their buckets. Assumes nothing.
+use Prim.Native.Nat.{◌-◌, ◌≤◌}
+use native.Mathlib.Omega.{arith}
+use lib.ListN.{length, take}
+use borrow.Author.Rules.{rules}
+use Rattle.stores.specs.Marks.{before, Seen}
+use Rattle.stores.proofs.WantLaws.{seen_next, seen_done}
+use Rattle.stores.proofs.wants.mark_all.Given as goal
+
+abbrev pub invariant-loop-k : goal.invariant-loop-k
+invariant-loop-k l = (l.k ≤ length l.numbers) × Seen (take l.k l.numbers) l.seen
+
+abbrev pub decreases-loop-k : goal.decreases-loop-k
+decreases-loop-k l = length l.numbers - l.k

@@ -1,0 +1,29 @@
+-- `supplier::answer` meets its contract. Assumes nothing.
+use Rattle.index.proofs.Kit.{sym, arith, rules}
+use Rattle.text.proofs.TextLaws.{stored_same}
+use Rattle.supplier.proofs.OutputLaws.{mode_import, mode_export, mode_import_bytes, mode_export_bytes, mode_none}
+use Rattle.supplier.proofs.answer.Goals as goal
+
+pub returns-in-105 : goal.returns-in-105
+returns-in-105 c = let e = c.put_import.ensures in
+    (stored_same _ _ _ _ _ _ (sym (mode_import _ _ c.in-105.is)) e.0, e.1)
+
+pub returns-in-101 : goal.returns-in-101
+returns-in-101 c = let e = c.put_export.ensures in (
+      stored_same _ _ _ _ _ _ (sym (mode_export _ _ c.in-101.is)) e.0,
+      e.1,
+    )
+
+pub returns-in-73 : goal.returns-in-73
+returns-in-73 c = let e = c.write_import.ensures in
+    (stored_same _ _ _ _ _ _ (sym (mode_import_bytes _ _ c.in-73.is)) e.0, e.1)
+
+pub returns-in-69 : goal.returns-in-69
+returns-in-69 c = let e = c.write_export.ensures in
+    (stored_same _ _ _ _ _ _ (sym (mode_export_bytes _ _ c.in-69.is)) e.0, e.1)
+
+pub returns-in_default : goal.returns-in_default
+returns-in_default c =
+    let e = c.put_head.ensures in
+    let r = c.in_default.in_default-own.rest in
+    (stored_same _ _ _ _ _ _ (sym (mode_none _ _ r.0.0.0.1 r.0.0.1 r.0.1 r.1)) e.0, omega arith)

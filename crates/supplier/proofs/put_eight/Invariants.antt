@@ -1,0 +1,15 @@
+-- `supplier::put_eight` meets its contract. The loop keeps the digits of the first k bytes stored, two for each. Assumes nothing.
+use Rattle.index.proofs.Kit.{◌+◌, ◌-◌, ◌*◌, ◌≤◌, ◌≡◌, refl, ◌∙◌, arith}
+use mathlib.Core.List.{[], ◌∷◌}
+use lib.ListN.{length, get_or, take, drop}
+use Rattle.text.specs.Text.{Stored}
+use Rattle.supplier.specs.Output.{hex_text}
+use Rattle.supplier.proofs.TextLaws.{hex_length, eight_none, eight_more, eight_all}
+use Rattle.supplier.proofs.put_eight.Given as goal
+
+abbrev pub invariant-loop-k : goal.invariant-loop-k
+invariant-loop-k l =
+    (l.k ≤ 8) × (length l.buf ≡ length l.initial.buf) × (l.next ≡ l.at + 2 * l.k) × Stored l.initial.buf l.at (hex_text (take l.k (drop l.from l.s))) l.next l.buf
+
+abbrev pub decreases-loop-k : goal.decreases-loop-k
+decreases-loop-k l = 8 - l.k

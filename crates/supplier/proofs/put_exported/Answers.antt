@@ -1,0 +1,85 @@
+-- `supplier::put_exported` meets its contract.
+-- An export that is done has written all its bytes into the page, so that the lines are those of the page's front.
+-- Assumes nothing.
+use Rattle.index.proofs.Kit.{sym, ◌∙◌, arith, rules}
+use lib.Seq.{length-take-le}
+use Rattle.supplier.proofs.OutputLaws.{done_length, exported_done, exported_outside, exported_short}
+use Rattle.supplier.proofs.put_exported.Goals as goal
+
+pub slice_bounds-put_entries-end : goal.slice_bounds-put_entries-end
+slice_bounds-put_entries-end c =
+    let n = done_length c.args.all.numbers c.args.page.now _ _ c.requires.1
+    c.export.ensures _
+    c.in-Done.is in
+    omega (arith, c.export.auto.1.0, c.requires.1)
+
+pub slice_bounds-put_entries-end-in-Done : goal.slice_bounds-put_entries-end-in-Done
+slice_bounds-put_entries-end-in-Done c =
+    let n = done_length c.args.all.numbers c.args.page.now _ _ c.requires.1
+    c.export.ensures _
+    c.in-Done.is in
+    sym (length-take-le _ _
+    (omega (
+      arith,
+      c.export.auto.1.0,
+      c.requires.1,
+    )))
+
+pub put_entries-requires : goal.put_entries-requires
+put_entries-requires c =
+    let n = done_length c.args.all.numbers c.args.page.now _ _ c.requires.1
+    c.export.ensures _
+    c.in-Done.is in (
+      omega (arith, c.put_done-at.auto.0, c.put_done-at.ensures.1),
+      length-take-le _ _
+          (omega (
+            arith,
+            c.export.auto.1.0,
+            c.requires.1,
+          )) ∙ n,
+    )
+
+pub shape_of-buf-in-Done : goal.shape_of-buf-in-Done
+shape_of-buf-in-Done c = c.put_entries.auto.0 ∙ c.put_done-at.auto.0
+
+pub shape_of-page-in-Done : goal.shape_of-page-in-Done
+shape_of-page-in-Done c = c.export.auto.1.0
+
+pub returns-in-Done : goal.returns-in-Done
+returns-in-Done c =
+    (
+      exported_done c.args.all.numbers c.args.page.now _ _ c.requires.1
+          c.export.ensures _ c.in-Done.is _ _ _ _ _
+          c.put_done-at.ensures.0 c.put_entries.ensures.0,
+      omega (
+        arith,
+        c.put_done-at.ensures.1,
+        c.put_entries.ensures.1,
+      ),
+    )
+
+pub shape_of-buf-in-Outside : goal.shape_of-buf-in-Outside
+shape_of-buf-in-Outside c = c.put_head.auto.0
+
+pub shape_of-page-in-Outside : goal.shape_of-page-in-Outside
+shape_of-page-in-Outside c = c.export.auto.1.0
+
+pub returns-in-Outside : goal.returns-in-Outside
+returns-in-Outside c = (
+      exported_outside
+          c.args.all.numbers
+          c.args.page.now _ _
+          c.requires.1
+          c.export.ensures _ _ _ _
+          c.in-Outside.is c.put_head.ensures.0,
+      omega arith,
+    )
+
+pub shape_of-page-in-Short : goal.shape_of-page-in-Short
+shape_of-page-in-Short c = c.export.auto.1.0
+
+pub returns-in-Short : goal.returns-in-Short
+returns-in-Short c = exported_short c.args.all.numbers
+    c.args.page.now _ _
+    c.requires.1 c.export.ensures
+    c.in-Short.is

@@ -1,0 +1,18 @@
+-- `supplier::write_own` meets its contract. Assumes nothing.
+use borrow.Author.Rules.{rules}
+use Rattle.supplier.proofs.OutputLaws.{own_stored}
+use Rattle.supplier.proofs.write_own.Goals as goal
+
+pub returns-in-Done : goal.returns-in-Done
+returns-in-Done c = own_stored c.args.all _ _ _ _
+    c.in-Done.is c.requires (search rules)
+    c.write.ensures
+
+pub returns-in-Short : goal.returns-in-Short
+returns-in-Short c = own_stored c.args.all _ _ _ _ c.in-Short.is
+    c.requires (search rules) c.write.ensures
+
+pub returns-in-Outside : goal.returns-in-Outside
+returns-in-Outside c = own_stored c.args.all _ _ _ _
+    c.in-Outside.is c.requires (search rules)
+    c.write.ensures

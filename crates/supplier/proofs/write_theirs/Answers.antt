@@ -1,0 +1,18 @@
+-- `supplier::write_theirs` meets its contract. Assumes nothing.
+use borrow.Author.Rules.{rules}
+use Rattle.supplier.proofs.OutputLaws.{theirs_stored}
+use Rattle.supplier.proofs.write_theirs.Goals as goal
+
+pub returns-in-Done : goal.returns-in-Done
+returns-in-Done c = theirs_stored c.args.all.numbers _ _ _ _
+    c.in-Done.is c.requires
+    c.export.ensures
+
+pub returns-in-Short : goal.returns-in-Short
+returns-in-Short c = theirs_stored c.args.all.numbers _ _ _ _ c.in-Short.is
+    c.requires c.export.ensures
+
+pub returns-in-Outside : goal.returns-in-Outside
+returns-in-Outside c = theirs_stored c.args.all.numbers _ _ _ _
+    c.in-Outside.is c.requires
+    c.export.ensures

@@ -1,0 +1,29 @@
+use Rattle.index.proofs.Kit.{◌-◌, refl, arith, rules}
+use borrow.Author.Rules.{sfits_of}
+use mir.Syntax.{w64}
+use mir.Facts.{to_z-of_z}
+use Rattle.records.specs.Records.{param_count}
+use Rattle.supplier_params.proofs.ImportLaws.{Taken, taken_none, taken_more, taken_broken, taken_all}
+use Rattle.supplier_params.proofs.entries.Goals as goal
+
+pub loop-i-init : goal.loop-i-init
+loop-i-init c = taken_none _ _ refl
+
+pub returns-in_default : goal.returns-in_default
+returns-in_default c = let l = c.loop-i in
+    taken_broken _ l.i l.numbers _ l.invariant c.loop-i-test.true c.number_at.ensures
+    c.in_default.is
+
+pub bounds-numbers-i : goal.bounds-numbers-i
+bounds-numbers-i c = let l = c.loop-i in omega (arith, l.invariant.len)
+
+pub loop-i-preserved : goal.loop-i-preserved
+loop-i-preserved c =
+    let l = c.loop-i in
+    let f = sfits_of {w = w64} {z = c.in-Is.n} c.in-Is.known_told-1-own.given.0.1 in
+    rw (to_z-of_z f)
+    (taken_more _ l.i l.numbers _ l.invariant c.loop-i-test.true
+    c.number_at.ensures _ c.in-Is.is)
+
+pub returns : goal.returns
+returns c = let l = c.loop-i in taken_all _ l.i l.numbers c.loop-i-test.false l.invariant

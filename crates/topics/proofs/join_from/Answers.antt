@@ -1,0 +1,11 @@
+-- `topics::join_from`: 11 of a joined topic, else the flag and the clock.
+use borrow.Author.Rules.{rules}
+use Rattle.rules.specs.Step.{join_reply}
+use Rattle.topics.proofs.ReplyLaws.{else_ignored, else_done}
+use Rattle.topics.proofs.join_from.Goals as goal
+
+pub returns-then-is_joined : goal.returns-then-is_joined
+returns-then-is_joined c = search else_ignored
+
+pub returns : goal.returns
+returns c = search else_done

@@ -1,0 +1,17 @@
+-- `trace_events::reading::cut_short` meets its contract. Assumes nothing.
+use Prim.Native.Nat.{◌≤◌, ◌<◌, ◌-◌}
+use mathlib.Core.Path.{◌≡◌}
+use mathlib.Core.Bool.{true}
+use native.Mathlib.Omega.{arith}
+use lib.ListN.{length}
+use borrow.Author.Tests.{le-leb}
+use Rattle.index.specs.Index.{every}
+use Rattle.index.proofs.Index.{every_none, every_more, every_done}
+use Rattle.trace_events.proofs.ReadingLaws.{tail, short_end, short_ten, short_last, short_all}
+use Rattle.trace_events.proofs.reading.cut_short.Given as goal
+
+abbrev pub invariant-loop-k : goal.invariant-loop-k
+invariant-loop-k l = (l.k ≤ l.n) × ((l.n ≡ length l.s - l.at) × ((l.n < 10) × ((l.at < length l.s) × (every l.k (tail l.s l.at) ≡ true))))
+
+abbrev pub decreases-loop-k : goal.decreases-loop-k
+decreases-loop-k l = l.n - l.k

@@ -1,0 +1,15 @@
+-- `trace_events::reading::widen`: behind the order stand the slots up to `k` (`Widened`). Assumes nothing.
+use Prim.Native.Nat.{◌≤◌, ◌-◌}
+use mathlib.Core.Path.{◌≡◌}
+use native.Mathlib.Omega.{arith}
+use borrow.Author.Rules.{rules}
+use lib.ListN.{length, length-set}
+use Rattle.records.specs.Records.{slot_count}
+use Rattle.trace_events.proofs.ReadingLaws.{Widened, widened_none, widened_more, widened_all}
+use Rattle.trace_events.proofs.reading.widen.Given as goal
+
+abbrev pub invariant-loop-k : goal.invariant-loop-k
+invariant-loop-k l = (l.n ≤ l.k) × ((l.k ≤ slot_count) × ((length l.order ≡ slot_count) × Widened l.initial.order l.n l.k l.order))
+
+abbrev pub decreases-loop-k : goal.decreases-loop-k
+decreases-loop-k l = slot_count - l.k

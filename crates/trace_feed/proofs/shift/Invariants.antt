@@ -1,0 +1,14 @@
+-- `trace_feed::shift`: turn by turn one byte more stands at the front; the one that is read next has not been written over.
+use borrow.Author.Rules.{rules}
+use native.Mathlib.Omega.{arith}
+use Prim.Native.Nat.{◌+◌, ◌-◌, ◌≤◌}
+use mathlib.Core.Path.{◌≡◌, refl}
+use lib.ListN.{length, length-set}
+use Rattle.trace_feed.proofs.WindowLaws.{Shifted, shifted_none, shifted_more, shifted_all}
+use Rattle.trace_feed.proofs.shift.Given as goal
+
+abbrev pub invariant-loop-k : goal.invariant-loop-k
+invariant-loop-k l = (l.k ≤ l.n) × ((l.at + l.n ≤ length l.initial.buf) × ((length l.buf ≡ length l.initial.buf) × Shifted l.at l.initial.buf l.k l.buf))
+
+abbrev pub decreases-loop-k : goal.decreases-loop-k
+decreases-loop-k l = l.n - l.k

@@ -1,0 +1,23 @@
+-- `trace_run::run`: refused parameters, or the calls made so far, their answers and their actions, turn by turn, up to the first event that
+-- is not whole. Assumes nothing.
+use Prim.Native.Nat.{◌-◌}
+use mathlib.Core.Path.{◌≡◌, refl}
+use borrow.Author.Rules.{rules}
+use native.Mathlib.Omega.{arith}
+use lib.ListN.{length, length-set}
+use Rattle.params.specs.declared.Params.{Params}
+use Rattle.layout.specs.View.{state_of}
+use Rattle.lookup.specs.Fresh.{fresh_state}
+use Rattle.trace_step.proofs.ReplayLaws.{few_actions}
+use Rattle.trace_run.proofs.RecordedLaws.{Going, going_none, going_more, ran_all, ran_stopped, accepted, begins, run_refused}
+use Rattle.trace_run.proofs.run.Given as goal
+
+-- the table that the loop starts from is a fresh router's
+abbrev pub invariant-loop-calls : goal.invariant-loop-calls
+invariant-loop-calls l =
+    (length l.actions ≡ length l.initial.actions)
+    × ((length l.told ≡ length l.initial.told)
+    × ((params : Params) → state_of l.initial.table ≡ fresh_state params → Going l.edition params l.s l.initial.actions l.initial.told l.at l.calls l.table l.actions l.told))
+
+abbrev pub decreases-loop-calls : goal.decreases-loop-calls
+decreases-loop-calls l = length l.initial.told - l.calls

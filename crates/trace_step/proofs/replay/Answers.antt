@@ -1,0 +1,45 @@
+-- `trace_step::replay`: no room, or what became of the event's call, printed.
+use borrow.Author.Rules.{rules}
+use mathlib.Core.Path.{refl}
+use Rattle.trace_step.proofs.ReplayLaws.{few_actions, event_called, event_unknown, event_malformed, event_short, replay_event_lem}
+use Rattle.trace_step.proofs.ReplayLaws.{replay_full}
+use Rattle.trace_step.proofs.replay.Goals as goal
+
+pub returns-then-out-lt-LINE_ROOM : goal.returns-then-out-lt-LINE_ROOM
+returns-then-out-lt-LINE_ROOM c = replay_full _ _ _ _ _ c.if-out-lt-LINE_ROOM.true
+
+pub put_reply-requires : goal.put_reply-requires
+put_reply-requires c = (
+  search rules,
+  few_actions _ _ _ _ _ _ c.perform-done.ensures _ _
+      c.in-Answered.is,
+  search rules,
+)
+
+pub returns-in-Answered : goal.returns-in-Answered
+returns-in-Answered c =
+    let p = c.perform-done in
+    replay_event_lem _ _ _ _ _ _ _ _
+    c.if-out-lt-LINE_ROOM.false
+    (event_called _ _ _ _ _ _ p.ensures _ _ _ _ _ refl c.in-Answered.is
+    c.put_reply.ensures)
+
+pub returns-in-Unknown : goal.returns-in-Unknown
+returns-in-Unknown c =
+    let p = c.perform-done in
+    replay_event_lem _ _ _ _ _ _ _ _ c.if-out-lt-LINE_ROOM.false
+    (event_unknown _ _ _ _ _ _ p.ensures _ _ _ c.in-Unknown.is
+    c.put_pair.ensures)
+
+pub returns-in-Malformed : goal.returns-in-Malformed
+returns-in-Malformed c =
+    let p = c.perform-done in
+    replay_event_lem _ _ _ _ _ _ _ _ c.if-out-lt-LINE_ROOM.false
+    (event_malformed _ _ _ _ _ _ p.ensures _ _ _ c.in-Malformed.is
+    c.put_pair-in-Malformed.ensures)
+
+pub returns-in-CutShort : goal.returns-in-CutShort
+returns-in-CutShort c =
+    let p = c.perform-done in
+    replay_event_lem _ _ _ _ _ _ _ _ c.if-out-lt-LINE_ROOM.false
+    (event_short _ _ _ _ _ _ p.ensures _ c.in-CutShort.is)

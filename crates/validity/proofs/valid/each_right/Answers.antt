@@ -1,0 +1,30 @@
+-- `validity::valid::each_right`: the clock, then the rest. Assumes nothing.
+use Prim.Native.Nat.{ℕ, ◌<◌, ◌≤◌}
+use mathlib.Core.Path.{subst}
+use borrow.Author.Rules.{rules}
+use Rattle.validity.specs.Valid.{max_time}
+use Rattle.validity.proofs.OrderLaws.{clock_fails, clock_passes}
+use Rattle.validity.proofs.valid.each_right.Goals as goal
+
+pub returns-then-load_clock-gt-MAX_TIME : goal.returns-then-load_clock-gt-MAX_TIME
+returns-then-load_clock-gt-MAX_TIME c = clock_fails _ (subst (λ (n : ℕ). max_time < n) c.load_clock.ensures c.if-load_clock-gt-MAX_TIME.true)
+
+pub slots_ok-slots-requires : goal.slots_ok-slots-requires
+slots_ok-slots-requires c =
+    (
+      record { size = c.requires; low = c.records_end-end.ensures.0; empty = c.records_end-end.ensures.1 },
+      subst (λ (n : ℕ). n ≤ max_time) c.load_clock.ensures c.if-load_clock-gt-MAX_TIME.false,
+    )
+
+pub ids_distinct-ids-requires : goal.ids_distinct-ids-requires
+ids_distinct-ids-requires c =
+    let e = c.records_end-end in
+    record { size = c.requires; low = e.ensures.0; empty = e.ensures.1 }
+
+pub returns : goal.returns
+returns c =
+    clock_passes _ (subst (λ (n : ℕ). n ≤ max_time) c.load_clock.ensures c.if-load_clock-gt-MAX_TIME.false) _ _ _ _
+    c.params_ok-params.ensures
+    c.joined_ok-joined.ensures
+    c.slots_ok-slots.ensures
+    c.ids_distinct-ids.ensures

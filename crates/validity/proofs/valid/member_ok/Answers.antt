@@ -1,0 +1,6 @@
+use mathlib.Core.Path.{refl}
+use Rattle.validity.specs.Valid.{member_ok}
+use Rattle.validity.proofs.valid.member_ok.Goals as goal
+
+pub returns : goal.returns
+returns c = refl

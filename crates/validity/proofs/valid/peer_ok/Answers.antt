@@ -1,0 +1,6 @@
+use borrow.Author.Rules.{rules}
+use Rattle.validity.specs.Valid.{used_ok, empty_ok, retain_ok, peer_ok}
+use Rattle.validity.proofs.valid.peer_ok.Goals as goal
+
+pub returns : goal.returns
+returns c = cc

@@ -1,0 +1,7 @@
+use borrow.Author.Rules.{rules}
+use borrow.Author.Rules.{rules}
+use Rattle.validity.specs.Valid.{peer_ranges}
+use Rattle.validity.proofs.valid.peer_ranges.Goals as goal
+
+pub returns : goal.returns
+returns c = cc

@@ -1,0 +1,6 @@
+use borrow.Author.Rules.{rules}
+use Rattle.validity.specs.Valid.{topic_ok_at}
+use Rattle.validity.proofs.valid.topic_at.Goals as goal
+
+pub returns : goal.returns
+returns c = cc

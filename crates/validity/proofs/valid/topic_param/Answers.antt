@@ -1,0 +1,6 @@
+use borrow.Author.Rules.{rules}
+use Rattle.validity.specs.Valid.{topic_param}
+use Rattle.validity.proofs.valid.topic_param.Goals as goal
+
+pub returns : goal.returns
+returns c = c.load_magnitude.ensures.0

@@ -1,0 +1,6 @@
+use mathlib.Core.Path.{refl}
+use Rattle.validity.specs.Valid.{zero_groups}
+use Rattle.validity.proofs.valid.zero_groups.Goals as goal
+
+pub returns : goal.returns
+returns c = refl

@@ -1,0 +1,6 @@
+use borrow.Author.Rules.{rules}
+use Rattle.validity.specs.Valid.{zero_peer}
+use Rattle.validity.proofs.valid.zero_peer.Goals as goal
+
+pub returns : goal.returns
+returns c = cc

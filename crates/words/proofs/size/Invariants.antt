@@ -1,0 +1,20 @@
+-- `words::size` meets its contract. n counts the slots of the words passed.
+-- Assumes nothing.
+use Prim.Native.Nat.{ℕ, ◌*◌, ◌-◌, ◌≤◌}
+use native.Mathlib.Omega.{arith}
+use borrow.Author.Rules.{rules}
+use mathlib.Core.Path.{◌≡◌, sym, ap, ◌∙◌}
+use mathlib.Core.Bool.{false}
+use lib.ListN.{length, get_or}
+use Rattle.index.specs.Index.{count}
+use Rattle.index.proofs.Index.{count_none, count_bound}
+use Rattle.words.specs.Words.{word_bits, word_count, bits, bits_of}
+use Rattle.words.proofs.WideLaws.{count_word}
+use Rattle.words.proofs.size.Given as goal
+
+abbrev pub invariant-loop-i : goal.invariant-loop-i
+invariant-loop-i l =
+    (l.i ≤ word_count) × (length l.m ≡ word_count) × (l.n ≤ word_bits * l.i) × (l.n ≡ count (word_bits * l.i) (λ s. get_or (bits_of l.m) s false))
+
+abbrev pub decreases-loop-i : goal.decreases-loop-i
+decreases-loop-i l = word_count - l.i
