@@ -1,4 +1,6 @@
 // Answers as numbers: 01's number of an answer, how many actions it has, both as one number for a host, and a score with its parts.
+#![tactic(auto)]
+
 ghost use Rattle.std.specs.Prelude.{◌≡◌, ◌≤◌};
 ghost use Rattle.rules.specs.Reply.{number_of, actions_of};
 ghost use Rattle.answers.specs.Answers.{packed as packedOf, answer_code, why_numbers, why_or};

@@ -1,5 +1,7 @@
 // The two choices of the best, as a static library for the benchmark alone (02, order 2): by picks, as mesh maintenance chooses, and by
 // comparing every pair. Each writes who is kept. The router's library has none of this.
+#![tactic(auto)]
+
 ghost use Rattle.std.specs.Prelude.{◌≡◌, false, replicate};
 ghost use Rattle.records.specs.Records.{slot_count};
 ghost use Rattle.sets.specs.Sets.{bests};

@@ -1,6 +1,8 @@
 // Passes over the columns of a table: each looks at one number of all slots in use, two or more at a time. A pass gathers the union of the
 // cells, and of their sums with what is left of the limit below a free bit; the free bits of the union tell whether every cell is within.
 // Only `true` says something: each fact is one of the state, so where a pass says `false` the caller looks record by record.
+#![tactic(auto)]
+
 ghost use Rattle.std.specs.Prelude.{◌≡◌, ℕ, ◌+◌, ◌*◌, ◌<◌, ◌≤◌, true, length};
 ghost use Rattle.records.specs.Records.{topic_count};
 ghost use Rattle.layout.specs.View.{state_of, cell_count};

@@ -1,4 +1,6 @@
 // GRAFT and PRUNE that come in: two of 01's calls. Each sees its peer once, decides by what it saw, and writes.
+#![tactic(auto)]
+
 ghost use Rattle.std.specs.Prelude.{◌≡◌, ◌<◌, ◌≤◌};
 ghost use Rattle.records.specs.Records.{topic_count};
 ghost use Rattle.layout.specs.View.{state_of};

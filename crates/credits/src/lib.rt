@@ -1,5 +1,7 @@
 // A delivery's credit: what it adds to the counters of one topic record, and the one function that adds it in place (01: "A delivery
 // alters the counters of one record and no other record"). The amounts are specs/Credits.antt.
+#![tactic(auto)]
+
 ghost use Rattle.std.specs.Prelude.{◌≡◌, ◌+◌, ◌<◌, ◌^◌};
 ghost use Rattle.credits.specs.Credits.{amount_of, amount3_of, amounts_of, credited_of, Room};
 

@@ -1,5 +1,7 @@
 // Deliveries and decay: two of 01's calls. Each takes the lent table, a time, its arguments as wide numbers and a lent action list, asks
 // nothing of its caller, and promises the rules' reply (crate rules).
+#![tactic(auto)]
+
 ghost use Rattle.std.specs.Prelude.{◌≡◌, ◌≤◌};
 ghost use Rattle.index.specs.Index.{iter};
 ghost use Rattle.records.specs.Records.{topic_count};

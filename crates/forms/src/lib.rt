@@ -1,5 +1,7 @@
 // The table's two forms turned into each other (02, order 10: "a router's tables turn from each form into the other without loss"): the
 // old one, of rows (crate rows), and the one that every call works on (crate layout). The definitions are specs/Turns.antt.
+#![tactic(auto)]
+
 pub mod copy;
 pub mod test;
 

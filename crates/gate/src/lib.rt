@@ -1,4 +1,6 @@
 // The tests that every call begins with (12, 2, 8, 1), the two ends that move the clock, and what a peer's score says of it.
+#![tactic(auto)]
+
 ghost use Rattle.std.specs.Prelude.{◌≡◌, length, set};
 ghost use Rattle.records.specs.Records.{set_clock};
 ghost use Rattle.layout.specs.View.{clock_at, cell_count, state_of};

@@ -1,4 +1,6 @@
 // Gossip to the rest (02, order 7), and the heartbeat of orders 6 and 7: what is stored, what is announced, and who asks for it.
+#![tactic(auto)]
+
 pub mod announcing;
 pub mod asking;
 pub mod storing;

@@ -1,4 +1,6 @@
 // The tests that every call with the array begins with (12, 2, 8, 1), and the ends that move the clock.
+#![tactic(auto)]
+
 ghost use Rattle.std.specs.Prelude.{◌≡◌, ◌+◌, ◌*◌, length, set};
 ghost use Rattle.records.specs.Records.{set_clock};
 ghost use Rattle.layout.specs.View.{cell_count, clock_at, state_of};

@@ -1,5 +1,7 @@
 // Connect, disconnect and leave of a router with the array of orders 6 and 7: what 01's call does, and where it is answered 0, what becomes
 // of the array besides. Each is handed the table and the array, asks nothing of its caller, and promises the rules' reply (crate gossip).
+#![tactic(auto)]
+
 pub mod made;
 
 ghost use Rattle.std.specs.Prelude.{◌≡◌, Bool, ℕ, length};

@@ -1,5 +1,7 @@
 // The array of orders 6 and 7: five set-up numbers, then three parts, each known to a crate of its own. A function here lends one part to
 // that crate, and promises what becomes of the whole.
+#![tactic(auto)]
+
 pub mod made;
 pub mod noted;
 pub mod stored;

@@ -1,6 +1,8 @@
 // The heartbeat's work for one topic (01's tidy), one of 01's calls: what maintenance sees is taken from the table once, into scores by
 // slot and sets of slots, and no more of it than the five steps ask for; crate mesh makes of it the meshes that they leave; the last of
 // them and the actions are written back once.
+#![tactic(auto)]
+
 pub mod grafts;
 pub mod scores;
 pub mod seen;

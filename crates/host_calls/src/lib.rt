@@ -1,5 +1,7 @@
 // 01's thirteen calls for a host. Each takes the table, a time, its arguments and a lent action list; what comes back is one number. Each
 // promises what the call below does (specs/Host.antt); none asks anything of its caller.
+#![tactic(auto)]
+
 pub mod tables;
 
 ghost use Rattle.std.specs.Prelude.{◌≡◌, length};

@@ -1,5 +1,7 @@
 // The table's old form for a host (02, order 10), for tables that were kept in it: turned into the form of today, and back. Each function
 // promises what the one below does, with the answer as one number (specs/Turning.antt); none asks anything of its caller.
+#![tactic(auto)]
+
 ghost use Rattle.std.specs.Prelude.{◌≡◌};
 ghost use Rattle.forms.specs.Turns.{turned_number};
 ghost use Rattle.answers.specs.Answers.{packed as packedOf};

@@ -1,5 +1,7 @@
 // A router with the array of orders 6 and 7, for a host: made fresh or of a save, and test 12. Each function promises what the one below
 // does, with the answer as one number (specs/Routers.antt); none asks anything of its caller.
+#![tactic(auto)]
+
 pub mod loads;
 
 ghost use Rattle.std.specs.Prelude.{◌≡◌};

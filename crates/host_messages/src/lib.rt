@@ -1,6 +1,8 @@
 // Messages between peers for a host (02, orders 1, 4 and 6): the topics' names, tested at set-up, the reader of an RPC and its writer. Each
 // promises what the function below does, with the answer as one number (specs/Messages.antt, specs/Writing.antt); none asks anything.
 // `ids`, `numbers` and `order` are the table of message ids (crate message_ids).
+#![tactic(auto)]
+
 ghost use Rattle.std.specs.Prelude.{◌≡◌};
 ghost use Rattle.answers.specs.Answers.{packed as packedOf};
 ghost use Rattle.host_messages.specs.Messages.{names_number, HostsReadMessage};

@@ -1,6 +1,8 @@
 // The parameters for a host: as an array of 147 numbers and the number of their edition, read from bytes and written to bytes. Each
 // function promises what the call below does, with the answer as one number (specs/Parameters.antt, specs/Supplier.antt); none asks
 // anything.
+#![tactic(auto)]
+
 pub mod supplier;
 
 ghost use Rattle.std.specs.Prelude.{◌≡◌};

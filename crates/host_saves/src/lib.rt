@@ -1,5 +1,7 @@
 // The records kept over a power cycle, for a host (02, order 8): saved to a buffer, and loaded into a table. Each function promises what
 // the one below does, with the answer as one number (specs/Saving.antt); none asks anything of its caller.
+#![tactic(auto)]
+
 ghost use Rattle.params.specs.Editions.{edition_of};
 ghost use Rattle.host_saves.specs.Saving.{HostsSave, HostsLoad};
 

@@ -1,5 +1,7 @@
 // How one lent table of numbers holds the router's state: the only code that computes an offset. A change of the layout is made here
 // and in specs/View.antt. Everything above goes by the contracts, which speak of the state that the table holds.
+#![tactic(auto)]
+
 ghost use Rattle.std.specs.Prelude.{◌≡◌, true, ℕ, ◌+◌, ◌*◌, ◌/◌, ◌%◌, ◌^◌, ◌≤◌, ◌<◌, length, get_or, set};
 ghost use Rattle.varint.specs.Codes.{magnitude};
 ghost use Rattle.records.specs.Records.{joined_in, code_in, peer_in, topic_in, place, set_clock, set_joined, set_peer, set_topic, slot_count};

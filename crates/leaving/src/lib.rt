@@ -1,4 +1,6 @@
 // Leave, one of 01's calls: every member of the topic is pruned, by slot.
+#![tactic(auto)]
+
 ghost use Rattle.records.specs.Records.{slot_count, topic_count};
 ghost use Rattle.std.specs.Prelude.{◌≡◌, false, ℕ, ◌<◌, get_or};
 ghost use Rattle.layout.specs.View.{state_of};

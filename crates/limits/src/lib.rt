@@ -1,6 +1,8 @@
 // The limits of the parameters (01, "The sheet": "Each number of the sheet lies between its two limits, kept in one table"), and the tests
 // by them: of the parameters' codes, the form in which they stand in a router's tables. A limit that moves changes a row of the table here
 // and the same row of specs/Limits.antt.
+#![tactic(auto)]
+
 ghost use Rattle.std.specs.Prelude.{◌≡◌, ◌&&◌, map, ◌<◌, length, get_or};
 ghost use Rattle.std.specs.Int.Signed.{le_z};
 ghost use Rattle.index.specs.Index.{first, every};

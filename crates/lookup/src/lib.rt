@@ -1,4 +1,6 @@
 // What a call means by an id and by a protocol name, and the table of a fresh router.
+#![tactic(auto)]
+
 pub mod find;
 pub mod fresh;
 pub mod name;

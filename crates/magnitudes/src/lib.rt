@@ -1,5 +1,7 @@
 // Whether the parameters of a router's table pass the check, by their magnitudes, in which they stand there: a sign is its field's, so
 // that no code is made.
+#![tactic(auto)]
+
 ghost use Rattle.std.specs.Prelude.{◌≡◌, true, map, ◌+◌, ◌<◌, length, get_or};
 ghost use Rattle.index.specs.Index.{every};
 ghost use Rattle.varint.specs.Codes.{number_of};

@@ -1,5 +1,7 @@
 // Buckets of numbers, a bit for each: what keeps numbers apart without comparing every two of them. A number whose bucket is not marked is
 // none of those that have marked theirs.
+#![tactic(auto)]
+
 ghost use Rattle.std.specs.Prelude.{◌≡◌, ◌<◌, ◌%◌, ◌^◌};
 ghost use Rattle.marks.specs.Marks.{word_bits, bucket_count, is_marked, marked};
 

@@ -1,5 +1,7 @@
 // Mesh maintenance, the heartbeat's work for one topic: from what it sees at its start to the mesh that each of its five steps leaves, and
 // to the actions that tell the peers. Its promises cite specs/Maintenance.antt, which follows the paper's words.
+#![tactic(auto)]
+
 pub mod actions;
 pub mod steps;
 pub mod still;

@@ -1,5 +1,7 @@
 // The table of message ids that the host lends (02, order 6): whether it is accepted, and the row of an id or of a number. The definitions
 // are specs/Ids.antt. Row k is a length and 64 bytes of `ids`, and a number; `order` names the rows so that their numbers rise.
+#![tactic(auto)]
+
 ghost use Rattle.std.specs.Prelude.{◌≡◌, true, ◌+◌, ◌*◌, ◌≤◌, ◌<◌, length};
 ghost use Rattle.index.specs.Index.{every};
 ghost use Rattle.message_ids.specs.Ids.{row_bytes, id_size, id_start, row_of, number_row, id_ok, ids_ok, place_ok, numbers_ok, table_ok};

@@ -1,5 +1,7 @@
 // How a lent run of numbers holds what the peers' records have besides 01's: each slot's IDONTWANT set and two counts of this heartbeat.
 // The only code that computes an offset in it; specs/View.antt says which notes the cells hold, whatever they are.
+#![tactic(auto)]
+
 ghost use Rattle.std.specs.Prelude.{◌≡◌, true, ◌&&◌, [], map, ℕ, ◌+◌, ◌*◌, ◌-◌, ◌%◌, ◌^◌, ◌≤◌, ◌<◌, leb, ltb, length, set, replicate};
 ghost use Rattle.records.specs.Records.{slot_count};
 ghost use Rattle.index.specs.Index.{every};

@@ -1,4 +1,6 @@
 // Version 1.2 notices (02, order 6): whom we tell IDONTWANT, an IDONTWANT that came in, and to whom a message is passed on.
+#![tactic(auto)]
+
 ghost use Rattle.std.specs.Prelude.{◌≡◌, not, ◌&&◌};
 ghost use Rattle.records.specs.Records.{slot_count};
 ghost use Rattle.sets.specs.Sets.{at, by_slot};

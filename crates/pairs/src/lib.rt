@@ -1,5 +1,7 @@
 // The choice of the best by comparing every pair (02, order 2): what picking the best remaining one is proved to give
 // (proofs/PairLaws.antt). The router picks; this is here so that the two can be timed against each other.
+#![tactic(auto)]
+
 ghost use Rattle.std.specs.Prelude.{◌≡◌};
 ghost use Rattle.records.specs.Records.{slot_count};
 ghost use Rattle.sets.specs.Sets.{by_slot};

@@ -1,5 +1,7 @@
 // The parameters as text in a lent buffer, from a place on: an answer's number with its value, and the 147 numbers, one to a line. Each
 // function answers the place after what it stored; the caller shows that there is room. The text is fixed in specs/Lines.antt.
+#![tactic(auto)]
+
 ghost use Rattle.std.specs.Prelude.{◌+◌, ◌≤◌, length};
 ghost use Rattle.text.specs.Text.{Stored};
 ghost use Rattle.param_text.specs.Lines.{head_text, line_text, numbers_text};

@@ -1,5 +1,7 @@
 // The router's parameters (01, "The sheet"): 147 numbers, and the check of their limits (crate limits) and of their joint rules. Their form
 // in bytes is crate params_bytes.
+#![tactic(auto)]
+
 mod joint;
 mod ordinary;
 

@@ -1,5 +1,7 @@
 // The parameters in bytes (01, "The sheet"): 147 numbers, each by its code in seven-bit groups, behind the front that tells their edition
 // (02, order 14). Reading and writing undo each other (specs/RoundTrip.antt).
+#![tactic(auto)]
+
 ghost use Rattle.std.specs.Prelude.{◌≡◌, ℕ, ◌+◌, ◌*◌, ◌≤◌, ◌<◌, length};
 ghost use Rattle.std.proofs.lemmas.List.Edits.{sets};
 ghost use Rattle.varint.specs.Codes.{code_of};

@@ -1,6 +1,8 @@
 // A peer's score from the lent table: the parameters as magnitudes, the sum over the topics, the peers that share its groups, and the
 // whole.
 // What a score depends on is specs/Score.antt.
+#![tactic(auto)]
+
 pub mod buckets;
 pub mod weights;
 

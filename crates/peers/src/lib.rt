@@ -1,5 +1,7 @@
 // Connect, disconnect, setting P5, and the score: four of 01's calls. Each takes the lent table, a time, its arguments as wide numbers and
 // a lent action list, asks nothing of its caller, and promises the rules' reply (crate rules).
+#![tactic(auto)]
+
 ghost use Rattle.std.specs.Prelude.{◌≡◌, true, ◌≤◌, ◌<◌, leb, length, nat_abs};
 ghost use Rattle.index.specs.Index.{every};
 ghost use Rattle.layout.specs.View.{state_of};

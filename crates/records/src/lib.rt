@@ -1,6 +1,7 @@
 // The records that the router holds (01, "What the router holds"). Every field is a number, and a flag is 0 or 1, so that an empty record
 // is all zeros. A new field changes the layout (crate layout), the test of a table (crate validity) and the definitions that write a record
 // field by field (crates effects and score).
+#![tactic(auto)]
 
 pub mod param;
 

@@ -1,5 +1,7 @@
 // How often IWANTs were answered, in one region of cells: rows by rising message number, each with a count for every slot. The only code
 // that knows how the region is laid out (specs/View.antt).
+#![tactic(auto)]
+
 ghost use Rattle.std.specs.Prelude.{◌≡◌, Bool, true, [], map, ℕ, ◌+◌, ◌*◌, ◌^◌, ◌<◌, length, get_or};
 ghost use Rattle.gossip.specs.Notes.{rows_most, count_in, one_more, replied, ended_row, ended, keep};
 ghost use Rattle.gossip.specs.Valid.{row_number};

@@ -1,6 +1,8 @@
 // What a host calls. Every call takes the table that the host lends (its type fixes the length), a time, its arguments as wide numbers and
 // a lent action list, asks nothing of its caller, and promises the rules' reply (crate rules): answer, table, clock and action list, for
 // all input. The calls themselves stand in the crates below.
+#![tactic(auto)]
+
 ghost use Rattle.std.specs.Prelude.{◌≡◌};
 ghost use Rattle.layout.specs.View.{state_of};
 ghost use Rattle.validity.specs.Valid.{valid};

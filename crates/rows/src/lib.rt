@@ -1,4 +1,6 @@
 // The table's old form (before 02, order 10), for tables that were kept in it: loads and stores. It does not change any more.
+#![tactic(auto)]
+
 ghost use Rattle.std.specs.Prelude.{◌≡◌, ◌+◌, ◌≤◌, ◌<◌, length};
 ghost use Rattle.records.specs.Records.{joined_in, code_in, peer_in, topic_in, set_clock, set_joined, set_peer, set_topic, slot_count, topic_count};
 ghost use Rattle.records.specs.Records.{param_count};

@@ -2,6 +2,8 @@
 // definitions are specs/Writing.antt. Lengths are computed first, inner ones before outer ones and each once; then everything is stored
 // front to back. A byte past the end of the buffer is not stored, so that no function here requires room: `write` has checked that there is
 // enough.
+#![tactic(auto)]
+
 ghost use Rattle.std.specs.Prelude.{◌≡◌, true, List, ℕ, ◌+◌, ◌≤◌, ◌<◌, length, set};
 ghost use Rattle.varint.specs.Groups.{encode};
 ghost use Rattle.rpc_write.specs.Writing.{Stored, Fitting, part_size, name_size, name_of, value_field, part_field, head_bytes};

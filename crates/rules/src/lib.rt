@@ -1,5 +1,7 @@
 // The rules of 01 as definitions (specs/): one data type of calls, and what each call answers and leaves. The code that keeps to them is
 // crate router. Here stand only the types that both speak of.
+#![tactic(auto)]
+
 use records::{Peer, TopicRecord};
 use score::Why;
 

@@ -1,6 +1,8 @@
 // Loading a save (02, order 8). The definitions are crate saves: `load_of` says what is answered, test by test, and what router is left. The
 // numbers are read three times, so that nothing is stored before all of them are known: do they stand there, are they in their ranges, and
 // then into their slots.
+#![tactic(auto)]
+
 pub mod numbers;
 pub mod passes;
 pub mod ranges;

@@ -1,4 +1,6 @@
 // Writing a save (02, order 8). The definitions are crate saves: `saving_of` says what is answered and what stands in the buffer.
+#![tactic(auto)]
+
 pub mod bytes;
 pub mod keys;
 pub mod row;

@@ -1,5 +1,6 @@
 // Saving the records and loading them (02, order 8). The definitions are specs/Save.antt and specs/Load.antt, the theorems about them
 // specs/Promises.antt; the code is in crates save_write and save_load. Here stand only the answers that both speak of.
+#![tactic(auto)]
 
 // What a save answers.
 #[derive(Clone, Copy)]

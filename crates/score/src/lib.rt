@@ -1,5 +1,7 @@
 // Scores (01, "Scores, without rounding") and decay, by value. A score is a whole number of 10^-9 points, held as what is gained less what
 // is lost, so that all arithmetic is unsigned. A new number of a topic is a field of `TopicParams`.
+#![tactic(auto)]
+
 pub mod counters;
 pub mod sums;
 pub mod topic;

@@ -1,6 +1,8 @@
 // Sets of slots as words, and what mesh maintenance makes of them: walks along an order, the test of a permutation, the median of a set's
 // scores. Contracts speak of a set's list of flags, `bits_of` its words, so that the definitions over lists stand. Lists of a number for
 // each slot are lent.
+#![tactic(auto)]
+
 ghost use Rattle.std.specs.Prelude.{◌≡◌, ◌-◌, get_or, length};
 ghost use Rattle.records.specs.Records.{slot_count};
 ghost use Rattle.words.specs.Words.{bits_of};

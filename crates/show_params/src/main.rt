@@ -1,5 +1,7 @@
 // Reads the parameters from standard input and prints the result: `10 PLACE` or `9 INDEX` for a refusal, otherwise `0 LENGTH` and then the
 // 147 numbers, one to a line. The text is fixed in specs/Show.antt; the room for it is at most 64 bytes and 22 for each number.
+#![tactic(auto)]
+
 ghost use Rattle.std.specs.Prelude.{◌≤◌, length};
 ghost use Rattle.params_bytes.specs.Read.{read_of};
 ghost use Rattle.text.specs.Text.{Stored};

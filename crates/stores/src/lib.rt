@@ -1,5 +1,7 @@
 // The message numbers that each topic stores, in a region of cells of their own: the only code that knows where they stand. Of each of the
 // last five heartbeats, the running one first, a window: a count, and cells for at most 64 numbers in the order of storing.
+#![tactic(auto)]
+
 ghost use Rattle.std.specs.Prelude.{◌≡◌, true, map, ◌+◌, ◌≤◌, ◌<◌, ltb, length, get_or, set, replicate};
 ghost use Rattle.std.proofs.lemmas.List.Edits.{sets};
 ghost use Rattle.records.specs.Records.{topic_count};

@@ -5,6 +5,8 @@
 //   I  the supplier's bytes as our own, nothing where they are refused
 //   E  our own bytes as the supplier's, nothing where they are refused
 // Any other mode, and none, is answered by `2 0`.
+#![tactic(auto)]
+
 ghost use Rattle.std.specs.Prelude.{◌≡◌, List, [], ◌∷◌, ◌++◌, ℕ, ◌+◌, ◌≤◌, ◌<◌, length, take, drop};
 ghost use Rattle.records.specs.Records.{param_count};
 ghost use Rattle.text.specs.Text.{Stored};

@@ -1,6 +1,8 @@
 // One entry of the other supplier's parameters (02, order 12): a kind, then eight bytes, low first. An entry becomes a number of ours where
 // it has its field's kind and stands for a number within the field's limits; a number of ours becomes the eight bytes of its entry.
 // The definitions are specs/Factor.antt and specs/Entries.antt. Which field has which kind and limits is for the caller to say.
+#![tactic(auto)]
+
 ghost use Rattle.std.specs.Prelude.{◌≡◌, not, ◌∷◌, suc, ◌+◌, ◌^◌, ◌≤◌, ◌<◌, T, eqb, length, take, drop};
 ghost use Rattle.std.proofs.lemmas.List.Edits.{sets};
 ghost use Rattle.std.specs.Float.{binary64};

@@ -1,6 +1,8 @@
 // The other supplier's parameters (02, order 12): our 147 fields in our order, an entry of nine bytes each. Imported they are ours, and
 // ours are exported as theirs. The limits are those of crate params; here stands what kind each field has. Which number an entry is, is for
 // crate supplier_entry to say.
+#![tactic(auto)]
+
 ghost use Rattle.std.specs.Prelude.{◌≡◌, true, ℕ, ◌≤◌, ◌<◌, length};
 ghost use Rattle.std.proofs.lemmas.List.Edits.{sets};
 ghost use Rattle.records.specs.Records.{param_count};

@@ -1,5 +1,7 @@
 // Numbers as ASCII text, stored in a lent buffer from a place on. Each function answers the place after what it stored.
 // An inner layer of the programs: the caller shows that there is room. The text itself is fixed in specs/Text.antt.
+#![tactic(auto)]
+
 ghost use Rattle.std.specs.Prelude.{[], ◌∷◌, ◌+◌, ◌≤◌, length};
 ghost use Rattle.text.specs.Text.{decimal, signed_text, Stored};
 

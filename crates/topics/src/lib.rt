@@ -1,4 +1,6 @@
 // Join, subscribe and unsubscribe: three of 01's calls. The last two see their peer once, and differ in what they write.
+#![tactic(auto)]
+
 ghost use Rattle.std.specs.Prelude.{◌≡◌};
 ghost use Rattle.layout.specs.View.{state_of};
 ghost use Rattle.effects.specs.Effects.{on_topic};

@@ -3,6 +3,8 @@
 // bytes are moved and nothing else: main makes a turn on the window's bytes, writes the first `written` bytes of the page and, where more
 // bytes are wanted, reads what is there behind the window's end, until the trace is over. No contract can say which bytes a call of the
 // system reads and writes; but that main's turns and readings are those of which `EveryCut` speaks is its loop's invariant.
+#![tactic(auto)]
+
 ghost use Rattle.std.specs.Prelude.{◌≤◌, length};
 ghost use Rattle.trace_feed.specs.Turns.{Inside, Refills};
 

@@ -1,5 +1,7 @@
 // A trace's events (01, "The trace program"): their numbers read from a window of bytes, and a reply in text. The event as a whole is crate
 // trace_step, the program that moves the bytes crate trace.
+#![tactic(auto)]
+
 pub mod lines;
 pub mod reading;
 

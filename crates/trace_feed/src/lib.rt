@@ -1,6 +1,8 @@
 // The trace program over slices (01, "The trace program"): what it takes, prints and leaves at each turn, from the bytes of its input that
 // are there. That the turns print what the whole input prints, however it is cut, is `EveryCut` (specs/Cuts); program trace moves the
 // bytes.
+#![tactic(auto)]
+
 ghost use Rattle.std.specs.Prelude.{◌+◌, ◌-◌, ◌≤◌, ◌≡◌, length, take, drop};
 ghost use Rattle.std.proofs.lemmas.List.Edits.{sets};
 ghost use Rattle.layout.specs.View.{state_of};

@@ -1,5 +1,7 @@
 // A whole recorded list of calls, run on a fresh router: the events of a trace's bytes, one after the other. Its promise joins the calls to
 // demand 3: the table that is left is the rules' state after the list, of which demand 3 holds.
+#![tactic(auto)]
+
 ghost use Rattle.trace_run.specs.Recorded.{Runs};
 
 use layout::CELLS;

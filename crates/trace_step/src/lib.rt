@@ -1,4 +1,6 @@
 // One event of a trace: read from a window of bytes, called on the lent table, and answered in text in a lent buffer.
+#![tactic(auto)]
+
 ghost use Rattle.std.specs.Prelude.{◌≡◌, ◌≢◌, cond, [], length};
 ghost use Rattle.layout.specs.View.{state_of};
 ghost use Rattle.rules.specs.Promise.{Follows};

@@ -1,6 +1,8 @@
 // Numbers as bytes: unsigned ones as groups of seven bits, and the codes by which signed ones become unsigned (01, "In bytes").
 // The definitions are specs/Groups.antt and specs/Codes.antt. The reader and the writer are recursive, so that one law holds for every
 // width; another width is another `top` of `read_up_to`.
+#![tactic(auto)]
+
 ghost use Rattle.std.specs.Prelude.{◌≡◌, ◌≤◌, ◌<◌, ◌^◌, nat_abs};
 ghost use Rattle.std.specs.Int.Signed.{mag};
 ghost use Rattle.varint.specs.Groups.{read_at, after_more, last_group, put_of};

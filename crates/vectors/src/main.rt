@@ -1,5 +1,7 @@
 // The papers' vectors for seven-bit groups and signed numbers, printed: the bytes of some numbers, and what some bytes read as. The
 // expected output is the file stdout, written by hand from the papers.
+#![tactic(auto)]
+
 use libc::STDOUT_FILENO;
 use varint::{Put, Read};
 

@@ -1,5 +1,7 @@
 // Sets of slots as 64-bit words, bit by slot: slot s is bit s % 64 of word s / 64. A set's list of flags is `bits_of` its words, and every
 // contract speaks of that list, so that a definition over lists of flags says what a function over words does.
+#![tactic(auto)]
+
 ghost use Rattle.std.specs.Prelude.{◌≡◌, false, ℕ, ◌*◌, ◌≤◌, ◌<◌, ◌^◌, length, get_or, set, replicate};
 ghost use Rattle.records.specs.Records.{slot_count};
 ghost use Rattle.index.specs.Index.{count};

@@ -26,7 +26,7 @@ loop-slot-preserved c =
     let l = c.loop-slot in
     let k = c.decay_slot in (
       omega arith,
-      k.auto.0 ∙ l.invariant.1,
+      k.auto.table ∙ l.invariant.1,
       iter_more (decay_slot a.time) (state_of a.table.now) l.slot (state_of l.table) _ l.invariant.2 k.ensures,
     )
 
@@ -34,7 +34,7 @@ pub finish-requires : goal.finish-requires
 finish-requires c = c.loop-slot.invariant.1
 
 pub shape_of-table : goal.shape_of-table
-shape_of-table c = c.finish.auto.0 ∙ c.loop-slot.invariant.1
+shape_of-table c = c.finish.auto.table ∙ c.loop-slot.invariant.1
     ∙ sym c.requires.standing.size
 
 pub returns : goal.returns

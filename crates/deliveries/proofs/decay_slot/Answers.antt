@@ -12,7 +12,7 @@ decay_p7-requires c =
     let k = c.decay_topics in
     let pre = c.requires in
     record {
-      size = k.auto.0 ∙ pre.size;
+      size = k.auto.table ∙ pre.size;
       decays = at_topic _ _ _ _ 8 pre.decays pre.slot (omega arith) k.ensures;
       slot = pre.slot;
     }

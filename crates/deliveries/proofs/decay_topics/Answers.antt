@@ -46,7 +46,7 @@ loop-topic-preserved c =
     let n = c.next_busy-topic-in-loop-topic.ensures in
     let b = c.busy-left.ensures in (
       n.most,
-      k.auto.0 ∙ l.invariant.1,
+      k.auto.table ∙ l.invariant.1,
       iter_more (decay_topic a.time a.slot) (state_of a.table.now) l.topic (state_of l.table) _ l.invariant.2 k.ensures
           ∙ idle_on _ _ _ (l.topic + 1) _ n.later (λ t u h. b t (omega (arith, n.most)) (n.none t u h)),
     )

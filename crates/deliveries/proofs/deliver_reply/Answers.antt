@@ -27,7 +27,7 @@ store_topic-requires c =
 -- the table has its length after the store too
 pub finish-requires : goal.finish-requires
 finish-requires c =
-    c.store_topic.auto.0
+    c.store_topic.auto.cells
     ∙ c.requires.ready.standing.size
 
 -- what was seen stands behind more records than a search enters

@@ -84,11 +84,11 @@ settle-requires c =
 
 pub store_clock-requires : goal.store_clock-requires
 store_clock-requires c =
-    c.settle.auto.0
+    c.settle.auto.table
     ∙ c.requires.ready.standing.size
 
 pub shape_of-table : goal.shape_of-table
-shape_of-table c = c.store_clock.auto.0 ∙ c.settle.auto.0
+shape_of-table c = c.store_clock.auto.cells ∙ c.settle.auto.table
 
 pub shape_of-actions : goal.shape_of-actions
 shape_of-actions c = c.tell_all-n.auto.1.0

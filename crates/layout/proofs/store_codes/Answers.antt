@@ -23,7 +23,7 @@ loop-i-preserved c =
     let k = c.store_magnitude in
     let h : l.i < param_count = omega arith in (
       omega arith,
-      k.auto.0 ∙ l.invariant.1,
+      k.auto.cells ∙ l.invariant.1,
       codes_more c.args.codes.now c.args.cells.now l.cells _ l.i _ c.requires.1 h
           c.magnitude.ensures l.invariant.2 k.ensures,
     )

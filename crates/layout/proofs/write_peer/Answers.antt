@@ -40,6 +40,6 @@ returns c =
     peer_written c.args.cells.now c.args.slot c.args.p c.requires.0 c.requires.1.0 c.requires.1.1.0 c.requires.1.1.1
     (ends-eight s) _ _ _ f.ensures.0
     (c.set_columns.ensures.0
-    ∙ λ i. set_columns f.new.0 c.args.slot c.args.p.id g.first g.second g.third g.fourth
+    ∙ λ i. set_columns f.new.cells c.args.slot c.args.p.id g.first g.second g.third g.fourth
     (c.halves-p57.ensures i) c.args.p.retain)
     c.write_row.ensures

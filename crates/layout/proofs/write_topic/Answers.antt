@@ -23,7 +23,7 @@ set_bit-requires c = simp length-set (omega arith)
 pub set_bit-requires-2 : goal.set_bit-requires-2
 set_bit-requires-2 c =
     let z = c.requires in
-    let l : length c.set_bit.new.0
+    let l : length c.set_bit.new.cells
     ≡ length c.args.cells.now =
     length_five c.args.cells.now _ _ _ _ _ _ _ _ _ _ _ _
     c.set_bit.ensures.0 in

@@ -19,7 +19,7 @@ loop-slot-preserved c =
     (
       omega arith,
       walking_more c.args.table.now c.args.actions.now _ _ _ _ c.requires l.slot c.loop-slot-test.true l.table l.actions
-          l.at l.invariant.1 _ _ _ _ refl c.leave_slot-at.auto.0 c.leave_slot-at.ensures,
+          l.at l.invariant.1 _ _ _ _ refl c.leave_slot-at.auto.table c.leave_slot-at.ensures,
     )
 
 pub shape_of-table : goal.shape_of-table

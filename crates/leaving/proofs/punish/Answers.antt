@@ -12,7 +12,7 @@ store_topic-requires c =
     (search rules, (search rules, grown_fits _ _ _ c.load_topic-r.ensures.1 c.grown.ensures))
 
 pub shape_of-table : goal.shape_of-table
-shape_of-table c = c.store_topic.auto.0
+shape_of-table c = c.store_topic.auto.cells
 
 pub returns-then-negative : goal.returns-then-negative
 returns-then-negative c = search grown_then

@@ -21,7 +21,7 @@ loop-i-preserved c =
     sfits_of c.put_line-arg-in-loop-i-1.given in
     let s = c.put_line-next.ensures in (
       omega arith,
-      c.put_line-next.auto.0 ∙ l.invariant.1,
+      c.put_line-next.auto.buf ∙ l.invariant.1,
       omega arith,
       lines_more (line_at c.args.numbers) _ _
           c.args.buf.now _ _ _ _ l.invariant.3

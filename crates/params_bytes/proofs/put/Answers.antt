@@ -12,7 +12,7 @@ loop-i-init c = (search rules, stands_none _ _ _)
 
 pub shape_of-buf-in_default : goal.shape_of-buf-in_default
 shape_of-buf-in_default c = let l = c.loop-i in
-    c.write_u64.auto.0 ∙ l.invariant.1.same
+    c.write_u64.auto.buf ∙ l.invariant.1.same
 
 pub returns-in_default : goal.returns-in_default
 returns-in_default c = let l = c.loop-i in
@@ -32,7 +32,7 @@ loop-i-preserved c = let l = c.loop-i in
           (sfits_of c.code_of-arg-1.given)
           c.code_of-u.ensures
           c.write_u64.ensures
-          _ (omega arith) c.write_u64.auto.0 c.in-Next.is,
+          _ (omega arith) c.write_u64.auto.buf c.in-Next.is,
     )
 
 pub shape_of-buf : goal.shape_of-buf

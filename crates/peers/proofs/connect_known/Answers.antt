@@ -9,7 +9,7 @@ pub connect_at-requires : goal.connect_at-requires
 connect_at-requires c =
     (
       record {
-        size = c.reclaim.auto.0 ∙ c.requires.0.standing.size;
+        size = c.reclaim.auto.table ∙ c.requires.0.standing.size;
         slot = search retained_below;
       },
       c.requires.1,
@@ -29,7 +29,7 @@ pub connect_at-requires-2 : goal.connect_at-requires-2
 connect_at-requires-2 c =
     (
       record {
-        size = c.reclaim.auto.0
+        size = c.reclaim.auto.table
             ∙ c.requires.0.standing.size;
         slot = search empty_below;
       },

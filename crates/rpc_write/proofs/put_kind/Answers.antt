@@ -50,7 +50,7 @@ loop-i-preserved c =
     let k = known a.names.now a.ids.now a.numbers.now in (
       omega arith,
       (
-        c.put_one-place.auto.0 ∙ l.invariant.1.0,
+        c.put_one-place.auto.buf ∙ l.invariant.1.0,
         (
           omega (arith, c.put_one-place.ensures.1),
           kind_more k a.list.now a.kind a.number

@@ -12,13 +12,13 @@ store_clock-requires c = c.fresh.auto.1.0 ∙ c.requires.0
 pub store_rows-requires : goal.store_rows-requires
 store_rows-requires c =
     (
-      c.store_clock.auto.0 ∙ c.fresh.auto.1.0
+      c.store_clock.auto.cells ∙ c.fresh.auto.1.0
           ∙ c.requires.0,
       (c.requires.1.0, (c.requires.1.1.0, c.requires.1.1.1.1)),
     )
 
 pub shape_of-table : goal.shape_of-table
-shape_of-table c = c.store_rows.auto.0 ∙ c.store_clock.auto.0
+shape_of-table c = c.store_rows.auto.table ∙ c.store_clock.auto.cells
     ∙ c.fresh.auto.1.0
 
 pub returns : goal.returns
@@ -26,8 +26,8 @@ returns c l end w =
     make_is c.args.params c.args.clock c.args.n l c.requires.1.0 c.requires.1.1.1.0
     c.fresh.result c.args.table.now
     c.fresh.new.1.0
-    c.store_clock.new.0
-    c.store_rows.new.0
+    c.store_clock.new.cells
+    c.store_rows.new.table
     c.fresh.ensures
     c.store_clock.ensures.0
     (c.store_rows.ensures l end w)

@@ -35,7 +35,7 @@ pub slice_bounds-write_save-end : goal.slice_bounds-write_save-end
 slice_bounds-write_save-end c =
     let n = c.collect_keys-n.result in
     let e = length_front c.collect_keys-n.new.1.0
-    c.sort.new.0 n c.sort.auto.0 in
+    c.sort.new.keys n c.sort.auto.keys in
     let l =
     (few_fit c.collect_keys-n.ensures.0
     c.collect_keys-n.auto.1.0
@@ -46,8 +46,8 @@ pub slice_bounds-write_save-end-2 : goal.slice_bounds-write_save-end-2
 slice_bounds-write_save-end-2 c =
     let n = c.collect_keys-n.result in
     let e = length_front c.collect_keys-n.new.1.0
-    c.sort.new.0 n
-    c.sort.auto.0 in
+    c.sort.new.keys n
+    c.sort.auto.keys in
     let l =
     (few_fit c.collect_keys-n.ensures.0
     c.collect_keys-n.auto.1.0
@@ -61,12 +61,12 @@ write_save-requires c =
       sorted_front (state_of c.args.table.now) c.args.time
           c.collect_keys-n.result
           c.collect_keys-n.new.1.0
-          c.sort.new.0
+          c.sort.new.keys
           (few_fit c.collect_keys-n.ensures.0
           c.collect_keys-n.auto.1.0
           c.requires.1.0)
           c.collect_keys-n.ensures.1
-          c.sort.auto.0
+          c.sort.auto.keys
           c.sort.ensures,
     )
 
@@ -74,12 +74,12 @@ pub shape_of-list : goal.shape_of-list
 shape_of-list c =
     length_front
     c.collect_keys-n.new.1.0
-    c.sort.new.0
-    c.collect_keys-n.result c.sort.auto.0
+    c.sort.new.keys
+    c.collect_keys-n.result c.sort.auto.keys
     ∙ c.collect_keys-n.auto.1.0
 
 pub shape_of-spare : goal.shape_of-spare
-shape_of-spare c = c.sort.auto.1.0
+shape_of-spare c = c.sort.auto.spare
 
 pub shape_of-buf : goal.shape_of-buf
 shape_of-buf c = c.write_save.auto.1.1.1.1.0

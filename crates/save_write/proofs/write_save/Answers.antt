@@ -42,15 +42,15 @@ put_rows-requires c =
             c.rows_size.ensures.0
             c.args.buf.now
             p.result
-            p.new.0
+            p.new.buf
             p.ensures
             c.if-buf-size.false
-            p.auto.0,
+            p.auto.buf,
       ),
     )
 
 pub shape_of-buf : goal.shape_of-buf
-shape_of-buf c = c.put_rows.auto.1.1.1.1.0 ∙ c.put_row-at.auto.0
+shape_of-buf c = c.put_rows.auto.1.1.1.1.0 ∙ c.put_row-at.auto.buf
 
 pub returns : goal.returns
 returns c =
@@ -61,7 +61,7 @@ returns c =
     c.rows_size.ensures.0
     c.args.buf.now
     p.result
-    p.new.0
+    p.new.buf
     p.ensures
     c.if-buf-size.false
     q.result

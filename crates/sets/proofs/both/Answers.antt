@@ -21,5 +21,5 @@ pub returns : goal.returns
 returns c =
     let a = c.args in
     let l = c.loop-i in
-    both_words a.t1 a.t2 l.r word_count l.invariant.0 l.invariant.1 l.invariant.2.len
+    both_words a.a a.b l.r word_count l.invariant.0 l.invariant.1 l.invariant.2.len
     (λ k h. l.invariant.2.below k (omega arith))

@@ -23,6 +23,6 @@ pub returns : goal.returns
 returns c =
     let a = c.args in
     let l = c.loop-i in
-    except_words a.t1 a.t2 l.r word_count l.invariant.0 l.invariant.1 l.invariant.2.len
+    except_words a.a a.b l.r word_count l.invariant.0 l.invariant.1 l.invariant.2.len
     (λ k h. l.invariant.2.below k (omega arith))
-    (λ k. let f : Fits w64 (get_or a.t2 k 0) = search rules in f.fits)
+    (λ k. let f : Fits w64 (get_or a.b k 0) = search rules in f.fits)

@@ -15,7 +15,7 @@ loop-k-preserved c =
     let t = eight_more c.args.s.now c.args.from l.k c.args.at _ _ _ _ _ c.requires.1
     c.loop-k-test.true l.invariant.3 c.put_hex-next.ensures in (
       omega arith,
-      c.put_hex-next.auto.0 ∙ l.invariant.1,
+      c.put_hex-next.auto.buf ∙ l.invariant.1,
       omega (arith, c.put_hex-next.ensures.0, hex_length (get_or c.args.s.now (c.args.from + l.k) 0 ∷ [])),
       t,
     )

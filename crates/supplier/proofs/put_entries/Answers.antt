@@ -14,7 +14,7 @@ pub loop-i-preserved : goal.loop-i-preserved
 loop-i-preserved c =
     let l = c.loop-i in (
       omega arith,
-      c.put_entry-next.auto.0 ∙ l.invariant.1,
+      c.put_entry-next.auto.buf ∙ l.invariant.1,
       omega (arith, c.put_entry-next.ensures.1),
       lines_more (entry_text_at c.args.s.now) _ _ _ _ _ _ _ l.invariant.3
           c.put_entry-next.ensures.0,

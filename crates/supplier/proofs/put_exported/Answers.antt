@@ -30,7 +30,7 @@ put_entries-requires c =
     let n = done_length c.args.all.numbers c.args.page.now _ _ c.requires.1
     c.export.ensures _
     c.in-Done.is in (
-      omega (arith, c.put_done-at.auto.0, c.put_done-at.ensures.1),
+      omega (arith, c.put_done-at.auto.buf, c.put_done-at.ensures.1),
       length-take-le _ _
           (omega (
             arith,
@@ -40,7 +40,7 @@ put_entries-requires c =
     )
 
 pub shape_of-buf-in-Done : goal.shape_of-buf-in-Done
-shape_of-buf-in-Done c = c.put_entries.auto.0 ∙ c.put_done-at.auto.0
+shape_of-buf-in-Done c = c.put_entries.auto.buf ∙ c.put_done-at.auto.buf
 
 pub shape_of-page-in-Done : goal.shape_of-page-in-Done
 shape_of-page-in-Done c = c.export.auto.1.0
@@ -59,7 +59,7 @@ returns-in-Done c =
     )
 
 pub shape_of-buf-in-Outside : goal.shape_of-buf-in-Outside
-shape_of-buf-in-Outside c = c.put_head.auto.0
+shape_of-buf-in-Outside c = c.put_head.auto.buf
 
 pub shape_of-page-in-Outside : goal.shape_of-page-in-Outside
 shape_of-page-in-Outside c = c.export.auto.1.0

@@ -12,16 +12,16 @@ returns-then-n-lt65536 c = c.answer_all.ensures.1
 pub answer_all-requires-2 : goal.answer_all-requires-2
 answer_all-requires-2 c =
     room_after _ _ c.args.input.now _ c.requires.0
-    (omega (arith, c.count_rest-rest.auto.0, c.requires.1)) c.requires.2
+    (omega (arith, c.count_rest-rest.auto.page, c.requires.1)) c.requires.2
     (λ h. c.if-n-lt65536.false)
     c.count_rest-rest.ensures
 
 pub shape_of-buf : goal.shape_of-buf
-shape_of-buf c = c.answer_all-2.auto.0
+shape_of-buf c = c.answer_all-2.auto.buf
 
 pub shape_of-page : goal.shape_of-page
-shape_of-page c = c.answer_all-2.auto.1.0
-    ∙ c.count_rest-rest.auto.0
+shape_of-page c = c.answer_all-2.auto.page
+    ∙ c.count_rest-rest.auto.page
 
 pub returns : goal.returns
 returns c = c.answer_all-2.ensures.1

@@ -15,7 +15,7 @@ pub put_low-requires : goal.put_low-requires
 put_low-requires c = simp length-set (omega arith)
 
 pub shape_of-buf : goal.shape_of-buf
-shape_of-buf c = c.put_low.auto.0 ∙ simp length-set
+shape_of-buf c = c.put_low.auto.buf ∙ simp length-set
 
 pub returns : goal.returns
 returns c =

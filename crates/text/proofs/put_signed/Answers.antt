@@ -37,7 +37,7 @@ pub put_decimal-requires : goal.put_decimal-requires
 put_decimal-requires c = simp length-set (omega (arith, ap length (below c)))
 
 pub shape_of-buf-then-is_negative : goal.shape_of-buf-then-is_negative
-shape_of-buf-then-is_negative c = c.put_decimal.auto.0 ∙ simp length-set
+shape_of-buf-then-is_negative c = c.put_decimal.auto.buf ∙ simp length-set
 
 pub returns-then-is_negative : goal.returns-then-is_negative
 returns-then-is_negative c = stored_first _ _ _ _ _ _ _ (below c) c.put_decimal.ensures

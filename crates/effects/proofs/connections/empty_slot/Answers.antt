@@ -9,7 +9,7 @@ use Rattle.effects.proofs.connections.empty_slot.Goals as goal
 
 pub store_peer-requires : goal.store_peer-requires
 store_peer-requires c =
-    (c.empty_topics.auto.0 ∙ c.requires.size, (c.requires.slot, none_fits _ c.empty_peer.ensures))
+    (c.empty_topics.auto.table ∙ c.requires.size, (c.requires.slot, none_fits _ c.empty_peer.ensures))
 
 pub returns : goal.returns
 unfolding emptied

@@ -23,7 +23,7 @@ loop-t-preserved c =
     let l = c.loop-t in
     let k = c.store_topic in
     let e = k.ensures ∙ ap (set_topic (state_of l.table) (place a.slot l.t)) c.empty_topic.ensures in
-    (omega arith, k.auto.0 ∙ l.invariant.1, iter_more (empty a.slot) (state_of a.table.now) l.t (state_of l.table) _ l.invariant.2 e)
+    (omega arith, k.auto.cells ∙ l.invariant.1, iter_more (empty a.slot) (state_of a.table.now) l.t (state_of l.table) _ l.invariant.2 e)
 
 pub shape_of-table : goal.shape_of-table
 shape_of-table c = c.loop-t.invariant.1 ∙ sym c.requires.size

@@ -19,7 +19,7 @@ loop-t-preserved c =
     let l = c.loop-t in
     let k = c.unsubscribe_slot in (
       omega arith,
-      k.auto.0 ∙ l.invariant.1,
+      k.auto.table ∙ l.invariant.1,
       iter_more (leave a.slot) (state_of a.table.now) l.t (state_of l.table) _ l.invariant.2 k.ensures,
     )
 

@@ -15,7 +15,7 @@ loop-slot-preserved c =
     let l = c.loop-slot in
     let k = c.reclaim_slot in (
       omega arith,
-      k.auto.0 ∙ l.invariant.1,
+      k.auto.table ∙ l.invariant.1,
       iter_more (reclaim_slot a.time) (state_of a.table.now) l.slot (state_of l.table) _ l.invariant.2 k.ensures.0,
       λ n. k.ensures.1 (ap (λ w. reclaimable (peer_in (state_of w) l.slot) a.time) (l.invariant.3 n) ∙ n.each l.slot (omega arith))
           ∙ l.invariant.3 n,

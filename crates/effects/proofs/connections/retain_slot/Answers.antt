@@ -7,7 +7,7 @@ use Rattle.effects.proofs.connections.retain_slot.Goals as goal
 pub store_peer-requires : goal.store_peer-requires
 store_peer-requires c =
     let k = c.leave_topics in
-    (k.auto.0 ∙ c.requires.size, (c.requires.slot, retained_fits _ _ _ c.load_peer-p.ensures.1 c.retained_to.ensures))
+    (k.auto.table ∙ c.requires.size, (c.requires.slot, retained_fits _ _ _ c.load_peer-p.ensures.1 c.retained_to.ensures))
 
 pub returns : goal.returns
 returns c = cc

@@ -17,7 +17,7 @@ pub loop-t-preserved : goal.loop-t-preserved
 loop-t-preserved c =
     let l = c.loop-t in (
       omega arith,
-      c.store_joined.auto.0 ∙ l.invariant.1,
+      c.store_joined.auto.cells ∙ l.invariant.1,
       joined_more _ _ _ _ l.t _ l.invariant.2 c.store_joined.ensures c.load_joined.ensures,
     )
 

@@ -17,7 +17,7 @@ pub loop-s-preserved : goal.loop-s-preserved
 loop-s-preserved c =
     let l = c.loop-s in (
       omega arith,
-      c.store_peer.auto.0 ∙ l.invariant.1,
+      c.store_peer.auto.cells ∙ l.invariant.1,
       peers_more _ _ _ _ l.s _ l.invariant.2 c.store_peer.ensures c.load_peer.ensures.0,
     )
 

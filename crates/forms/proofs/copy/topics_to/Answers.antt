@@ -16,7 +16,7 @@ pub loop-k-preserved : goal.loop-k-preserved
 loop-k-preserved c =
     let l = c.loop-k in (
       omega arith,
-      c.store_topic.auto.0 ∙ l.invariant.1,
+      c.store_topic.auto.cells ∙ l.invariant.1,
       topics_more _ _ _ _ l.k _ l.invariant.2 c.store_topic.ensures c.load_topic.ensures.0,
     )
 

@@ -11,5 +11,5 @@ make-requires c = notes_size c.args.gossip.now c.requires
 pub returns : goal.returns
 returns c =
     let g = c.args.gossip.now in
-    notes_made g c.make.new.0 c.requires (c.make.auto.0 ∙ notes_size g c.requires)
+    notes_made g c.make.new.cells c.requires (c.make.auto.cells ∙ notes_size g c.requires)
     c.make.ensures

@@ -11,5 +11,5 @@ make-requires c = replies_size c.args.gossip.now c.requires
 pub returns : goal.returns
 returns c =
     let g = c.args.gossip.now in
-    replies_made g c.make.new.0 c.requires (c.make.auto.0 ∙ replies_size g c.requires)
+    replies_made g c.make.new.cells c.requires (c.make.auto.cells ∙ replies_size g c.requires)
     c.make.ensures

@@ -11,5 +11,5 @@ make-requires c = stores_size c.args.gossip.now c.requires
 pub returns : goal.returns
 returns c =
     let g = c.args.gossip.now in
-    stores_made g c.make.new.0 c.requires (c.make.auto.0 ∙ stores_size g c.requires)
+    stores_made g c.make.new.cells c.requires (c.make.auto.cells ∙ stores_size g c.requires)
     c.make.ensures.0

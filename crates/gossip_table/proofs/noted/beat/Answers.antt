@@ -8,4 +8,4 @@ beat-requires c = search all_fit
 
 pub returns : goal.returns
 returns c =
-    beat_back c.args.gossip.now c.beat.new.0 c.requires.size (search rules) (search rules)
+    beat_back c.args.gossip.now c.beat.new.cells c.requires.size (search rules) (search rules)

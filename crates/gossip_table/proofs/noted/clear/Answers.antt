@@ -8,4 +8,4 @@ clear-requires c = search at_slot
 
 pub returns : goal.returns
 returns c =
-    clear_back c.args.gossip.now c.clear.new.0 _ c.requires.size (search rules) (search rules)
+    clear_back c.args.gossip.now c.clear.new.cells _ c.requires.size (search rules) (search rules)

@@ -8,4 +8,4 @@ count_ihave-requires c = search ihave_fits
 
 pub returns : goal.returns
 returns c =
-    ihave_back c.args.gossip.now c.count_ihave.new.0 _ c.requires.fine.size (search rules) (search rules)
+    ihave_back c.args.gossip.now c.count_ihave.new.cells _ c.requires.fine.size (search rules) (search rules)

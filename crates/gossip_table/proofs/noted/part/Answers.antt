@@ -8,4 +8,4 @@ part-requires c = search at_slot
 
 pub returns : goal.returns
 returns c =
-    part_back c.args.gossip.now c.part.new.0 _ c.requires.size (search rules) (search rules)
+    part_back c.args.gossip.now c.part.new.cells _ c.requires.size (search rules) (search rules)

@@ -8,4 +8,4 @@ put-requires c = search put_fits
 
 pub returns : goal.returns
 returns c =
-    put_back c.args.gossip.now c.put.new.0 _ c.requires.fine.size (search rules) _ (search rules)
+    put_back c.args.gossip.now c.put.new.cells _ c.requires.fine.size (search rules) _ (search rules)

@@ -11,6 +11,6 @@ add-requires c = search add_fits
 pub returns : goal.returns
 returns c =
     let g = c.args.gossip.now in
-    let l = c.add.new.0 in
+    let l = c.add.new.cells in
     let size = c.requires.fine.size in
-    store_back g l _ (added _) size (c.add.auto.0 ∙ stores_size g size) c.add.ensures.0
+    store_back g l _ (added _) size (c.add.auto.cells ∙ stores_size g size) c.add.ensures.0

@@ -11,9 +11,9 @@ empty-requires c = search empty_fits
 pub returns : goal.returns
 returns c =
     let g = c.args.gossip.now in
-    let l = c.empty.new.0 in
+    let l = c.empty.new.cells in
     let size = c.requires.fine.size in
     let e = c.empty.ensures in (
-      store_back g l _ (λ w. no_store) size (c.empty.auto.0 ∙ stores_size g size) e.0,
+      store_back g l _ (λ w. no_store) size (c.empty.auto.cells ∙ stores_size g size) e.0,
       kept_stores g l (fine_kept c.requires.fine) e.1,
     )

@@ -11,6 +11,6 @@ end-requires c = search slot_kept
 pub returns : goal.returns
 returns c =
     let g = c.args.gossip.now in
-    let l = c.end.new.0 in
+    let l = c.end.new.cells in
     let size = c.requires.kept.size in
-    replies_back g l (ended _) size (c.end.auto.0 ∙ replies_size g size) (search rules)
+    replies_back g l (ended _) size (c.end.auto.cells ∙ replies_size g size) (search rules)

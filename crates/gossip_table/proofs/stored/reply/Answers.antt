@@ -10,5 +10,5 @@ reply-requires c = search room_fits
 pub returns : goal.returns
 returns c =
     let g = c.args.gossip.now in
-    let l = c.reply.new.0 in
+    let l = c.reply.new.cells in
     replies_back g l (replied _ _) c.requires.fine.size (search rules) (search rules)

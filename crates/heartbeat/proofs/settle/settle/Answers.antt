@@ -42,7 +42,7 @@ loop-slot-preserved c walk =
     c.at-was.ensures
     c.at-stays.ensures
     (ap (λ (x : ℕ). ltb x zero_score) c.number_at-negative.ensures)
-    c.settle_slot.auto.0
+    c.settle_slot.auto.table
     c.settle_slot.ensures)
 
 pub shape_of-table : goal.shape_of-table

@@ -9,14 +9,14 @@ punish-requires c = c.requires
 pub prune_slot-requires : goal.prune_slot-requires
 prune_slot-requires c =
     let s = c.requires in
-    record { size = c.punish.auto.0 ∙ s.size; topic = s.topic; slot = s.slot }
+    record { size = c.punish.auto.table ∙ s.size; topic = s.topic; slot = s.slot }
 
 pub graft_slot-requires : goal.graft_slot-requires
 graft_slot-requires c = let s = c.requires in record { size = s.size; topic = s.topic; slot = s.slot }
 
 pub shape_of-table-then-not-stays : goal.shape_of-table-then-not-stays
 shape_of-table-then-not-stays c =
-    c.prune_slot.auto.0 ∙ c.punish.auto.0
+    c.prune_slot.auto.table ∙ c.punish.auto.table
 
 pub returns-then-not-stays : goal.returns-then-not-stays
 returns-then-not-stays c =
@@ -26,7 +26,7 @@ pub returns-else-not-stays : goal.returns-else-not-stays
 returns-else-not-stays c = settled_stays _ _ _ _ _ _ _ _ c.if-was.true c.if-not-stays.false
 
 pub shape_of-table-then-stays : goal.shape_of-table-then-stays
-shape_of-table-then-stays c = c.graft_slot.auto.0
+shape_of-table-then-stays c = c.graft_slot.auto.table
 
 pub returns-then-stays : goal.returns-then-stays
 returns-then-stays c =

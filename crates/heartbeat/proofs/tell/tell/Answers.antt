@@ -27,7 +27,7 @@ put-requires c =
     )
 
 pub shape_of-actions : goal.shape_of-actions
-shape_of-actions c = c.put.auto.0
+shape_of-actions c = c.put.auto.actions
 
 pub returns : goal.returns
 returns c =

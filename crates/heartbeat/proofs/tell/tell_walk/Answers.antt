@@ -23,11 +23,11 @@ tell-requires c =
     let a = c.args in
     let l = c.loop-i in
     let hit = sym c.at.ensures ∙ c.if-at.true in
-    let n = ap length (acts_in a.kind (bits_of a.t5) a.order.now l.i (omega arith) hit) in
+    let n = ap length (acts_in a.kind (bits_of a.p) a.order.now l.i (omega arith) hit) in
     let w = c.requires.writable in
-    let q : length a.t5 ≡ word_count = search rules in
-    let m = bits_of_length a.t5 in
-    let z = at_below (bits_of a.t5) (get_or a.order.now l.i 0) hit in (
+    let q : length a.p ≡ word_count = search rules in
+    let m = bits_of_length a.p in
+    let z = at_below (bits_of a.p) (get_or a.order.now l.i 0) hit in (
       record {
         size = c.requires.size;
         writable =
@@ -41,7 +41,7 @@ overflow_add-k c =
     let a = c.args in
     let l = c.loop-i in
     let hit = sym c.at.ensures ∙ c.if-at.true in
-    let n = ap length (acts_in a.kind (bits_of a.t5) a.order.now l.i (omega arith) hit) in
+    let n = ap length (acts_in a.kind (bits_of a.p) a.order.now l.i (omega arith) hit) in
     let room = c.requires.writable.room in
     omega arith
 
@@ -50,7 +50,7 @@ loop-i-preserved c =
     let a = c.args in
     let l = c.loop-i in
     let order = a.order.now in
-    let p = bits_of a.t5 in
+    let p = bits_of a.p in
     let ids = ids_in (state_of a.table.now) in
     let told = told_by (state_of a.table.now) a.seconds in
     let s = get_or order l.i 0 in
@@ -93,7 +93,7 @@ returns c =
     let l = c.loop-i in
     let ids = ids_in (state_of a.table.now) in
     let told = told_by (state_of a.table.now) a.seconds in
-    let e = acts_end a.kind (bits_of a.t5) a.order.now l.i (omega arith) in
+    let e = acts_end a.kind (bits_of a.p) a.order.now l.i (omega arith) in
     let n = ap length e in
     record {
       many = omega arith;

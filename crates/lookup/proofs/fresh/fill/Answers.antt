@@ -8,7 +8,7 @@ use Rattle.lookup.proofs.fresh.fill.Goals as goal
 pub store_codes-requires : goal.store_codes-requires
 store_codes-requires c =
     let n : length c.args.params.numbers ≡ param_count = search rules in
-    (c.clear.auto.0 ∙ c.requires.0, fresh_fit c.args.params _ c.codes_of-codes.ensures n c.requires.1)
+    (c.clear.auto.cells ∙ c.requires.0, fresh_fit c.args.params _ c.codes_of-codes.ensures n c.requires.1)
 
 pub returns : goal.returns
 returns c =

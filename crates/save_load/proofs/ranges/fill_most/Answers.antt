@@ -12,7 +12,7 @@ loop-t-init c = fill_none _ _
 pub put_topic-requires : goal.put_topic-requires
 put_topic-requires c =
     let n = c.loop-t.invariant.same in
-    let k = c.put_peer.auto.0 in
+    let k = c.put_peer.auto.most in
     let h = c.loop-t-test.true in
     let p = c.requires.1 in
     omega arith
@@ -23,19 +23,19 @@ loop-t-preserved c =
     let p = c.put_topic in
     fill_more
     c.args.codes.now l.t _ _
-    c.put_peer.new.0 l.most
-    p.new.0 c.loop-t-test.true l.invariant p.auto.0
+    c.put_peer.new.most l.most
+    p.new.most c.loop-t-test.true l.invariant p.auto.most
     p.ensures
     c.magnitude-cap2.ensures
     c.magnitude-cap3.ensures
 
 pub shape_of-most : goal.shape_of-most
-shape_of-most c = c.loop-t.invariant.same ∙ c.put_peer.auto.0
+shape_of-most c = c.loop-t.invariant.same ∙ c.put_peer.auto.most
 
 pub returns : goal.returns
 returns c st e =
     let l = c.loop-t in
-    fill_done c.args.codes.now l.t c.args.most.now c.put_peer.new.0 l.most
+    fill_done c.args.codes.now l.t c.args.most.now c.put_peer.new.most l.most
     c.loop-t-test.false c.requires.1
     c.put_peer.ensures
     l.invariant

@@ -64,7 +64,7 @@ loop-k-preserved c =
     let w = c.store_row in (
       omega arith,
       (
-        w.auto.0 ∙ l.invariant.1.0,
+        w.auto.table ∙ l.invariant.1.0,
         (
           r.auto.1.1.0 ∙ l.invariant.1.1.0,
           λ m end e.
@@ -73,7 +73,7 @@ loop-k-preserved c =
               r.ensures
               (state_of a.table.now)
               (state_of l.table)
-              (state_of w.new.0)
+              (state_of w.new.table)
               g.1
               w.ensures,
         ),

@@ -34,7 +34,7 @@ loop-t-preserved c =
     let e = k.ensures ∙ ap (set_topic (state_of l.table) (place a.slot l.t)) c.loaded_topic.ensures in (
       omega arith,
       (
-        k.auto.0 ∙ l.invariant.1.0,
+        k.auto.cells ∙ l.invariant.1.0,
         iter_more (stored_topic a.row.now a.slot) (state_of a.table.now) l.t (state_of l.table) _ l.invariant.1.1 e,
       ),
     )

@@ -13,7 +13,7 @@ pub loop-i-init : goal.loop-i-init
 loop-i-init c = (omega arith, (refl, row_none c.args.row.now c.args.at c.args.buf.now))
 
 pub shape_of-buf-in_default : goal.shape_of-buf-in_default
-shape_of-buf-in_default c = c.write_u64.auto.0
+shape_of-buf-in_default c = c.write_u64.auto.buf
     ∙ c.loop-i.invariant.1.0
 
 pub returns-in_default : goal.returns-in_default
@@ -24,7 +24,7 @@ returns-in_default c =
     c.loop-i-test.true
     c.requires
     w.result
-    w.new.0
+    w.new.buf
     w.ensures
     c.in_default.is
 
@@ -35,9 +35,9 @@ loop-i-preserved c =
     let t = c.loop-i-test.true in (
       omega arith,
       (
-        w.auto.0 ∙ l.invariant.1.0,
+        w.auto.buf ∙ l.invariant.1.0,
         row_more c.args.row.now c.args.at c.args.buf.now l.i l.place l.buf l.invariant.1.1 t c.requires w.result
-            w.new.0
+            w.new.buf
             w.ensures
             _
             c.in-Next.is,

@@ -60,7 +60,7 @@ loop-k-preserved c =
       (
         f.auto.1.1.1.1.0 ∙ l.invariant.1.0,
         (
-          p.auto.0 ∙ l.invariant.1.1.0,
+          p.auto.buf ∙ l.invariant.1.1.0,
           rows_put (state_of c.args.table.now) c.args.time c.args.keys.now l.k n.result f.new.1.1.1.1.0 t
               n.ensures.0
               f.ensures
@@ -70,7 +70,7 @@ loop-k-preserved c =
               l.buf
               l.invariant.1.1.1
               p.result
-              p.new.0
+              p.new.buf
               p.ensures,
         ),
       ),

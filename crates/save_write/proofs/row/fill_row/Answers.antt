@@ -23,7 +23,7 @@ pub put_topic-requires : goal.put_topic-requires
 put_topic-requires c =
     let l = c.loop-t in
     let n = l.invariant.same in
-    let k = c.put_peer.auto.0 in
+    let k = c.put_peer.auto.row in
     let t = c.loop-t-test.true in
     let p = c.requires.1.1 in
     omega arith
@@ -32,7 +32,7 @@ pub loop-t-preserved : goal.loop-t-preserved
 loop-t-preserved c =
     let l = c.loop-t in
     fill_more _ _ _ l.t _ _ _ _ _ c.loop-t-test.true l.invariant
-    c.put_topic.auto.0
+    c.put_topic.auto.row
     c.put_topic.ensures
     c.load_topic-r.ensures.0
     (c.left_of.ensures
@@ -40,7 +40,7 @@ loop-t-preserved c =
     c.left_at-p.ensures)
 
 pub shape_of-row : goal.shape_of-row
-shape_of-row c = c.loop-t.invariant.same ∙ c.put_peer.auto.0
+shape_of-row c = c.loop-t.invariant.same ∙ c.put_peer.auto.row
 
 pub returns : goal.returns
 returns c =

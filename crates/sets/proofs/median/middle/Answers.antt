@@ -16,10 +16,10 @@ use Rattle.sets.proofs.median.middle.Goals as goal
 pub loop-i-init : goal.loop-i-init
 loop-i-init c =
     let a = c.args in
-    let l : length a.t2 ≡ word_count = search rules in
-    let m : length (bits_of a.t2) ≡ slot_count = let e = bits_of_length a.t2 in omega arith in
+    let l : length a.m ≡ word_count = search rules in
+    let m : length (bits_of a.m) ≡ slot_count = let e = bits_of_length a.m in omega arith in
     let s = c.requires.0 in
-    (omega arith, m, s, kept_none a.k (bits_of a.t2) a.scores.now (m ∙ sym s))
+    (omega arith, m, s, kept_none a.k (bits_of a.m) a.scores.now (m ∙ sym s))
 
 pub bounds-scores-i : goal.bounds-scores-i
 bounds-scores-i c = let l = c.loop-i.invariant.2 in omega arith
@@ -31,7 +31,7 @@ pub loop-i-preserved : goal.loop-i-preserved
 loop-i-preserved c =
     let a = c.args in
     let l = c.loop-i in
-    let m = bits_of a.t2 in
+    let m = bits_of a.m in
     let scores = a.scores.now in
     let seen : (x : Bool) → c.at.result && ltb l.r (get_or scores l.i 0) ≡ x →
     at m l.i && ltb l.r (get_or scores l.i 0) ≡ x =
@@ -49,4 +49,4 @@ pub returns : goal.returns
 returns c =
     let a = c.args in
     let l = c.loop-i in
-    kept_all a.k (bits_of a.t2) a.scores.now (l.invariant.1 ∙ sym l.invariant.2) c.requires.1 l.i l.r (omega arith) l.invariant.3
+    kept_all a.k (bits_of a.m) a.scores.now (l.invariant.1 ∙ sym l.invariant.2) c.requires.1 l.i l.r (omega arith) l.invariant.3

@@ -19,7 +19,7 @@ loop-i-preserved c =
     let a = c.args in
     let l = c.loop-i in
     let scores = a.scores.now in
-    let p = bits_of a.t2 in
+    let p = bits_of a.p in
     let order = a.order.now in
     let rest : ℕ → ℕ = λ s. bottom slot_count scores p (drop (l.i + 1) order) s in
     let lt : l.i < length order = omega arith in
@@ -41,4 +41,4 @@ pub returns : goal.returns
 returns c =
     let a = c.args in
     let l = c.loop-i in
-    sym (bottom_end (bits_of a.t2) a.order.now l.i (omega arith) slot_count a.scores.now l.low) ∙ l.invariant.2
+    sym (bottom_end (bits_of a.p) a.order.now l.i (omega arith) slot_count a.scores.now l.low) ∙ l.invariant.2

@@ -28,14 +28,14 @@ pub overflow_sub-room : goal.overflow_sub-room
 overflow_sub-room c =
     let a = c.args in
     let l = c.loop-i in
-    takes_room (bits_of a.t1) l.room (bits_of l.r) (get_or a.order.now l.i 0)
+    takes_room (bits_of a.p) l.room (bits_of l.r) (get_or a.order.now l.i 0)
     (sym c.takes.ensures ∙ c.if-takes.true)
 
 pub loop-i-preserved : goal.loop-i-preserved
 loop-i-preserved c =
     let a = c.args in
     let l = c.loop-i in
-    let p = bits_of a.t1 in
+    let p = bits_of a.p in
     let order = a.order.now in
     let rest : ℕ → List Bool → List Bool = λ k m. fill p k (drop (l.i + 1) order) m in
     let lt : l.i < length order = omega arith in
@@ -63,4 +63,4 @@ pub returns : goal.returns
 returns c =
     let a = c.args in
     let l = c.loop-i in
-    sym (fill_end (bits_of a.t1) l.room a.order.now (bits_of l.r) l.i (omega arith)) ∙ l.invariant.2
+    sym (fill_end (bits_of a.p) l.room a.order.now (bits_of l.r) l.i (omega arith)) ∙ l.invariant.2

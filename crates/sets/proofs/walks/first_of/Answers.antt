@@ -18,7 +18,7 @@ returns-then-at c =
     let a = c.args in
     let l = c.loop-i in
     sym
-    (first_step (bits_of a.t1) a.order.now l.i (omega arith) true slot_count (sym c.at.ensures ∙ c.if-at.true))
+    (first_step (bits_of a.p) a.order.now l.i (omega arith) true slot_count (sym c.at.ensures ∙ c.if-at.true))
     ∙ l.invariant.2
 
 pub loop-i-preserved : goal.loop-i-preserved
@@ -28,11 +28,11 @@ loop-i-preserved c =
     let e = sym c.at.ensures ∙ c.if-at.false in (
       omega arith,
       refl,
-      sym (first_step (bits_of a.t1) a.order.now l.i (omega arith) false slot_count e) ∙ l.invariant.2,
+      sym (first_step (bits_of a.p) a.order.now l.i (omega arith) false slot_count e) ∙ l.invariant.2,
     )
 
 pub returns : goal.returns
 returns c =
     let a = c.args in
     let l = c.loop-i in
-    sym (first_end (bits_of a.t1) a.order.now l.i (omega arith) slot_count) ∙ l.invariant.2
+    sym (first_end (bits_of a.p) a.order.now l.i (omega arith) slot_count) ∙ l.invariant.2

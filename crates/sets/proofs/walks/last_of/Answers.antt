@@ -18,7 +18,7 @@ pub loop-i-preserved : goal.loop-i-preserved
 loop-i-preserved c =
     let a = c.args in
     let l = c.loop-i in
-    let p = bits_of a.t1 in
+    let p = bits_of a.p in
     let order = a.order.now in
     let rest : ℕ → ℕ = λ s. last_of p (drop (l.i + 1) order) s in
     let lt : l.i < length order = omega arith in
@@ -40,4 +40,4 @@ pub returns : goal.returns
 returns c =
     let a = c.args in
     let l = c.loop-i in
-    sym (last_end (bits_of a.t1) a.order.now l.i (omega arith) l.last) ∙ l.invariant.2
+    sym (last_end (bits_of a.p) a.order.now l.i (omega arith) l.last) ∙ l.invariant.2

@@ -15,7 +15,7 @@ pub loop-i-preserved : goal.loop-i-preserved
 loop-i-preserved c =
     let l = c.loop-i in (
       omega arith,
-      c.put_action-k.auto.0 ∙ l.invariant.1,
+      c.put_action-k.auto.out ∙ l.invariant.1,
       omega arith,
       actions_more _ l.i _ c.args.out.now
           _ _ _ _ l.invariant.3 c.put_action-k.ensures.0,
