@@ -91,7 +91,7 @@ pub shape_of-table : goal.shape_of-table
 shape_of-table c = c.store_clock.auto.cells ∙ c.settle.auto.table
 
 pub shape_of-actions : goal.shape_of-actions
-shape_of-actions c = c.tell_all-n.auto.1.0
+shape_of-actions c = c.tell_all-n.auto.actions
 
 pub returns : goal.returns
 returns c =

@@ -17,7 +17,7 @@ put-requires c =
     (
       search rules,
       write_room _ c.args.buf.now _ c.room_for.ensures _ c.if-buf-room_for.false
-          c.first_broken.ensures _ c.put_front-from.new.1.0 c.put_front-from.ensures.0 c.put_front-from.auto.1.0,
+          c.first_broken.ensures _ c.put_front-from.new.buf c.put_front-from.ensures.0 c.put_front-from.auto.buf,
       accepted_few _ (sym c.first_broken.ensures ∙ c.in-Nothing.is),
     )
 

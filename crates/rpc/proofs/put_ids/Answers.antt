@@ -38,7 +38,7 @@ loop-place-preserved c =
     let s = c.args.s.now in
     let q = read_placed _ _ _ _ f g in
     let d = q.two in (
-      o.auto.1.1.1.1.0 ∙ w.0,
+      o.auto.list ∙ w.0,
       (
         q.high,
         (omega arith, λ names. let v = w.1.1.1 names in let x = e.0 s names in search gathering_more),

@@ -34,7 +34,7 @@ loop-place-preserved c =
     let e = o.ensures in
     let q = read_placed _ _ _ _ f g in
     let d = q.two in
-    (o.auto.1.1.1.1.1.0 ∙ w.0, (q.high, (omega arith, search gathering_more)))
+    (o.auto.list ∙ w.0, (q.high, (omega arith, search gathering_more)))
 
 pub shape_of-list : goal.shape_of-list
 shape_of-list c = c.loop-place.invariant.0

@@ -32,7 +32,7 @@ save_records-requires c = (
     )
 
 pub shape_of-buf : goal.shape_of-buf
-shape_of-buf c = c.save_records.auto.1.1.0
+shape_of-buf c = c.save_records.auto.buf
 
 pub returns : goal.returns
 returns c =

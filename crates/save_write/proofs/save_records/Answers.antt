@@ -37,7 +37,7 @@ save_sorted-requires c =
     )
 
 pub shape_of-buf : goal.shape_of-buf
-shape_of-buf c = c.save_sorted.auto.1.1.1.1.1.0
+shape_of-buf c = c.save_sorted.auto.buf
 
 pub returns : goal.returns
 returns c = c.save_sorted.ensures

@@ -50,7 +50,7 @@ put_rows-requires c =
     )
 
 pub shape_of-buf : goal.shape_of-buf
-shape_of-buf c = c.put_rows.auto.1.1.1.1.0 ∙ c.put_row-at.auto.buf
+shape_of-buf c = c.put_rows.auto.buf ∙ c.put_row-at.auto.buf
 
 pub returns : goal.returns
 returns c =
@@ -65,5 +65,5 @@ returns c =
     p.ensures
     c.if-buf-size.false
     q.result
-    q.new.1.1.1.1.0
+    q.new.buf
     q.ensures

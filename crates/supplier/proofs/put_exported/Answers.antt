@@ -11,7 +11,7 @@ slice_bounds-put_entries-end c =
     let n = done_length c.args.all.numbers c.args.page.now _ _ c.requires.1
     c.export.ensures _
     c.in-Done.is in
-    omega (arith, c.export.auto.1.0, c.requires.1)
+    omega (arith, c.export.auto.buf, c.requires.1)
 
 pub slice_bounds-put_entries-end-in-Done : goal.slice_bounds-put_entries-end-in-Done
 slice_bounds-put_entries-end-in-Done c =
@@ -21,7 +21,7 @@ slice_bounds-put_entries-end-in-Done c =
     sym (length-take-le _ _
     (omega (
       arith,
-      c.export.auto.1.0,
+      c.export.auto.buf,
       c.requires.1,
     )))
 
@@ -34,7 +34,7 @@ put_entries-requires c =
       length-take-le _ _
           (omega (
             arith,
-            c.export.auto.1.0,
+            c.export.auto.buf,
             c.requires.1,
           )) ∙ n,
     )
@@ -43,7 +43,7 @@ pub shape_of-buf-in-Done : goal.shape_of-buf-in-Done
 shape_of-buf-in-Done c = c.put_entries.auto.buf ∙ c.put_done-at.auto.buf
 
 pub shape_of-page-in-Done : goal.shape_of-page-in-Done
-shape_of-page-in-Done c = c.export.auto.1.0
+shape_of-page-in-Done c = c.export.auto.buf
 
 pub returns-in-Done : goal.returns-in-Done
 returns-in-Done c =
@@ -62,7 +62,7 @@ pub shape_of-buf-in-Outside : goal.shape_of-buf-in-Outside
 shape_of-buf-in-Outside c = c.put_head.auto.buf
 
 pub shape_of-page-in-Outside : goal.shape_of-page-in-Outside
-shape_of-page-in-Outside c = c.export.auto.1.0
+shape_of-page-in-Outside c = c.export.auto.buf
 
 pub returns-in-Outside : goal.returns-in-Outside
 returns-in-Outside c = (
@@ -76,7 +76,7 @@ returns-in-Outside c = (
     )
 
 pub shape_of-page-in-Short : goal.shape_of-page-in-Short
-shape_of-page-in-Short c = c.export.auto.1.0
+shape_of-page-in-Short c = c.export.auto.buf
 
 pub returns-in-Short : goal.returns-in-Short
 returns-in-Short c = exported_short c.args.all.numbers

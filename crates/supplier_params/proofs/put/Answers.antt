@@ -26,7 +26,7 @@ loop-i-preserved c =
     let f = sfits_of {w = w64} {z = get_or c.args.all.numbers l.i (pos 0)}
     c.export-arg-1.given in
     put_more c.args.all.numbers l.i _ l.buf _ _ c.loop-i-test.true l.invariant
-    c.form_of.ensures c.export.auto.1.1.0
+    c.form_of.ensures c.export.auto.buf
     (rw (to_z-of_z f) at c.export.ensures)
 
 pub shape_of-buf : goal.shape_of-buf

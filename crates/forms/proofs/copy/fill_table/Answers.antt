@@ -13,7 +13,7 @@ use Rattle.forms.proofs.copy.fill_table.Goals as goal
 pub store_codes-requires : goal.store_codes-requires
 store_codes-requires c =
     (
-      c.joined_from.auto.1.0 ∙ c.store_clock.auto.cells ∙ c.clear.auto.cells ∙ c.requires.to,
+      c.joined_from.auto.table ∙ c.store_clock.auto.cells ∙ c.clear.auto.cells ∙ c.requires.to,
       codes_fit_in _ c.requires.router _ (Sized-rows _) c.codes.ensures,
     )
 
@@ -23,7 +23,7 @@ peers_from-requires c =
       record {
         from = c.requires.from;
         to =
-            c.store_setup.auto.cells ∙ c.store_codes.auto.cells ∙ c.joined_from.auto.1.0 ∙ c.store_clock.auto.cells
+            c.store_setup.auto.cells ∙ c.store_codes.auto.cells ∙ c.joined_from.auto.table ∙ c.store_clock.auto.cells
             ∙ c.clear.auto.cells
             ∙ c.requires.to;
         router = c.requires.router;
@@ -37,7 +37,7 @@ topics_from-requires c =
       record {
         from = c.requires.from;
         to =
-            c.peers_from.auto.1.0 ∙ c.store_setup.auto.cells ∙ c.store_codes.auto.cells ∙ c.joined_from.auto.1.0
+            c.peers_from.auto.table ∙ c.store_setup.auto.cells ∙ c.store_codes.auto.cells ∙ c.joined_from.auto.table
             ∙ c.store_clock.auto.cells
             ∙ c.clear.auto.cells
             ∙ c.requires.to;

@@ -13,7 +13,7 @@ pub returns : goal.returns
 returns c =
     let size = c.requires.size in
     forget_back c.args.gossip.now c.keep_rows.new.cells
-    c.rows_that_stay.new.1.0 size
+    c.rows_that_stay.new.flags size
     (c.keep_rows.auto.cells ∙ replies_size c.args.gossip.now size)
     c.rows_that_stay.ensures
     c.keep_rows.ensures

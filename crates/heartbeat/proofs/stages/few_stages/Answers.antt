@@ -36,7 +36,7 @@ all_stages-requires c =
     c.requires.partial
 
 pub shape_of-heights-then-t-size : goal.shape_of-heights-then-t-size
-shape_of-heights-then-t-size c = c.all_stages.auto.1.1.1.1.1.1.1.1.0
+shape_of-heights-then-t-size c = c.all_stages.auto.heights
     ∙ c.second-m2.ensures.0.size
 
 pub returns-then-t-size : goal.returns-then-t-size
@@ -70,7 +70,7 @@ last_stages-requires c =
     )
 
 pub shape_of-heights : goal.shape_of-heights
-shape_of-heights c = c.last_stages.auto.1.1.1.1.1.1.1.1.1.1.1.1.1.0
+shape_of-heights c = c.last_stages.auto.heights
     ∙ c.second-m2.ensures.0.size
 
 pub returns : goal.returns

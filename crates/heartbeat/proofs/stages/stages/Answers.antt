@@ -73,7 +73,7 @@ few_stages-requires c =
     }
 
 pub shape_of-heights : goal.shape_of-heights
-shape_of-heights c = c.few_stages.auto.1.1.1.1.1.1.1.1.1.0
+shape_of-heights c = c.few_stages.auto.heights
     ∙ c.score_slots.ensures.size
 
 pub returns : goal.returns

@@ -17,5 +17,5 @@ returns-in-At c =
 pub returns-in-Nothing : goal.returns-in-Nothing
 returns-in-Nothing c =
     let b = c.first_broken in
-    fresh_made c.args.params c.args.table.now b.result b.ensures c.fill.new.1.0
+    fresh_made c.args.params c.args.table.now b.result b.ensures c.fill.new.table
     c.in-Nothing.is c.fill.ensures

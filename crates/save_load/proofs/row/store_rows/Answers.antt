@@ -28,7 +28,7 @@ read_row-place-requires c =
     )
 
 pub slice_bounds-store_row-end : goal.slice_bounds-store_row-end
-slice_bounds-store_row-end c = sym (c.read_row-place.auto.1.1.0 ∙ c.loop-k.invariant.1.1.0)
+slice_bounds-store_row-end c = sym (c.read_row-place.auto.row ∙ c.loop-k.invariant.1.1.0)
 
 pub store_row-requires : goal.store_row-requires
 store_row-requires c =
@@ -43,11 +43,11 @@ store_row-requires c =
         omega arith,
         (
           c.requires.1.1.0,
-          row_fits_lem a.n d.l d.fits l.k h r.new.1.1.0
+          row_fits_lem a.n d.l d.fits l.k h r.new.row
               (record_row a.s.now a.at d.l l.k l.place
               (record_at a.n a.s.now a.at d.l d.end d.whole l.k l.place h
               (l.invariant.1.1.1 d.l d.end d.whole).0)
-              r.new.1.1.0
+              r.new.row
               r.result
               r.ensures
               ).0,
@@ -66,10 +66,10 @@ loop-k-preserved c =
       (
         w.auto.table ∙ l.invariant.1.0,
         (
-          r.auto.1.1.0 ∙ l.invariant.1.1.0,
+          r.auto.row ∙ l.invariant.1.1.0,
           λ m end e.
               let g = l.invariant.1.1.1 m end e in
-              store_more a.n a.s.now a.at a.clock m end e l.k l.place h g.0 r.new.1.1.0 r.result
+              store_more a.n a.s.now a.at a.clock m end e l.k l.place h g.0 r.new.row r.result
               r.ensures
               (state_of a.table.now)
               (state_of l.table)

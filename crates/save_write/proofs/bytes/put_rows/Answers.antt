@@ -30,7 +30,7 @@ fill_row-requires c = (
 
 pub slice_bounds-put_row-end : goal.slice_bounds-put_row-end
 slice_bounds-put_row-end c = sym
-    (c.fill_row.auto.1.1.1.1.0
+    (c.fill_row.auto.row
     ∙ c.loop-k.invariant.1.0)
 
 pub put_row-place-requires : goal.put_row-place-requires
@@ -38,7 +38,7 @@ put_row-place-requires c =
     let l = c.loop-k in
     let f = c.fill_row in
     let n = c.slot_of in
-    rows_room (state_of c.args.table.now) c.args.time c.args.keys.now l.k n.result f.new.1.1.1.1.0
+    rows_room (state_of c.args.table.now) c.args.time c.args.keys.now l.k n.result f.new.row
     c.loop-k-test.true
     n.ensures.0
     f.ensures
@@ -58,10 +58,10 @@ loop-k-preserved c =
     let t = c.loop-k-test.true in (
       omega arith,
       (
-        f.auto.1.1.1.1.0 ∙ l.invariant.1.0,
+        f.auto.row ∙ l.invariant.1.0,
         (
           p.auto.buf ∙ l.invariant.1.1.0,
-          rows_put (state_of c.args.table.now) c.args.time c.args.keys.now l.k n.result f.new.1.1.1.1.0 t
+          rows_put (state_of c.args.table.now) c.args.time c.args.keys.now l.k n.result f.new.row t
               n.ensures.0
               f.ensures
               c.args.at

@@ -24,10 +24,10 @@ fill_row-requires c = (
 
 pub slice_bounds-row_size-end : goal.slice_bounds-row_size-end
 slice_bounds-row_size-end c = sym
-    (c.fill_row.auto.1.1.1.1.0 ∙ c.loop-k.invariant.1.0)
+    (c.fill_row.auto.row ∙ c.loop-k.invariant.1.0)
 
 pub row_size-sum-requires : goal.row_size-sum-requires
-row_size-sum-requires c = let e = c.fill_row.auto.1.1.1.1.0
+row_size-sum-requires c = let e = c.fill_row.auto.row
     ∙ c.loop-k.invariant.1.0 in omega arith
 
 pub loop-k-preserved : goal.loop-k-preserved
@@ -38,9 +38,9 @@ loop-k-preserved c =
     let t = c.loop-k-test.true in (
       omega arith,
       (
-        f.auto.1.1.1.1.0 ∙ l.invariant.1.0,
+        f.auto.row ∙ l.invariant.1.0,
         (
-          rows_sum (state_of c.args.table.now) c.args.time c.args.keys.now l.k n.result f.new.1.1.1.1.0 t
+          rows_sum (state_of c.args.table.now) c.args.time c.args.keys.now l.k n.result f.new.row t
               n.ensures.0
               f.ensures
               l.sum

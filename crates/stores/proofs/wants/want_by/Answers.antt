@@ -44,7 +44,7 @@ loop-i-preserved c =
     (omega arith, omega arith, want_next _ _ s _ _ _ _ _ _ _ _ l.i (omega arith) l.invariant.2 k)
 
 pub shape_of-rising : goal.shape_of-rising
-shape_of-rising c = c.sort_given.auto.1.0
+shape_of-rising c = c.sort_given.auto.rising
 
 pub shape_of-list : goal.shape_of-list
 shape_of-list c = listed_length _ _ _ _ _ _ _ c.loop-i.invariant.2
