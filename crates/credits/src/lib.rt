@@ -65,7 +65,7 @@ fn amounts(r: TopicRecord, t: TopicParams, kind: u64) -> Addition
     }
 }
 
-// In place: a delivery adds to three counters of one record. Proved by hand.
+// In place: a delivery adds to three counters of one record.
 pub fn credit(r: &mut TopicRecord, t: TopicParams, kind: u64)
     ensures { r.new ≡ credited_of kind t r.old }
 {
@@ -75,7 +75,7 @@ pub fn credit(r: &mut TopicRecord, t: TopicParams, kind: u64)
     r.p4 += a.p4;
 }
 
-// The same from value to value, for callers that hold a record by value. Proved by hand.
+// The same from value to value, for callers that hold a record by value.
 pub fn credited(mut r: TopicRecord, t: TopicParams, kind: u64) -> TopicRecord
     ensures { result ≡ credited_of kind t r }
 {

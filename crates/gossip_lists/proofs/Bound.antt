@@ -3,7 +3,7 @@
 use Prim.Native.Nat.{ℕ, ◌+◌, ◌≤◌}
 use native.Mathlib.Omega.{arith}
 use mathlib.Core.Path.{◌≡◌, refl, sym, ap, ◌∙◌}
-use mathlib.Core.Bool.{Bool, true, false, ◌&&◌, and-false, and_true}
+use mathlib.Core.Bool.{Bool, true, false, ◌&&◌, and-false, and-true}
 use mathlib.Core.List.{List, [], ◌∷◌, ◌++◌}
 use lib.Dec.{eqb}
 use Rattle.index.specs.Index.{one}
@@ -101,7 +101,7 @@ module _ (start : Start) (older : List Did) (peer n : ℕ) where
       (λ y.
       let out : connects c.call peer ≡ false = first_no (connects c.call peer) a w.0 y in
       let e = gives_is c.call peer n was out in
-      rw (y, e, and_true (wants c.call peer n)) (omega arith))
+      rw (y, e, and-true (wants c.call peer n)) (omega arith))
       (λ y. rw (y, and-false (wants c.call peer n)) (omega arith)))
     where
       first_no : (a b : Bool) → a && b ≡ false → b ≡ true → a ≡ false

@@ -1,7 +1,7 @@
 -- What a host gets of each function of the C ABI: the promise of the call below, with the answer as one number.
 use Rattle.std.specs.Prelude.{ℕ, ◌≡◌, Bool, true, false, List, length, ℤ}
 use Rattle.std.proofs.lemmas.List.Edits.{sets}
-use Rattle.std.specs.Borrow.{Bor}
+use Rattle.std.specs.Borrow.{MutBor}
 use denote.Triple.Both.{Both}
 use Rattle.records.specs.Records.{State}
 use Rattle.layout.specs.View.{state_of}
@@ -25,7 +25,7 @@ pub record Hosts (c : Call) (r : ℕ) (table table' list list' : List ℕ) : Typ
 
 -- the same of memory that is lent by `&mut`, which has a content at the call's entry and one at its exit
 abbrev pub Lent : Type 0
-Lent = Both (Bor (List ℕ)) (Bor (List ℕ))
+Lent = Both (MutBor (List ℕ)) (MutBor (List ℕ))
 
 abbrev pub HostsLent : Call → ℕ → Lent → Lent → Type 0
 HostsLent c r table list = Hosts c r table.entry.now table.exit.now list.entry.now list.exit.now

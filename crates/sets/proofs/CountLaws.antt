@@ -4,7 +4,7 @@ use Prim.Native.Nat.{ℕ, zero, suc, ◌+◌, ◌-◌, ◌≤◌, ◌<◌, zero-
 use native.Mathlib.Nat.{not-suc-le-zero, le_of_suc-le-suc}
 use native.Mathlib.Omega.{arith}
 use mathlib.Core.Path.{◌≡◌, refl, sym, ap, ◌∙◌}
-use mathlib.Core.Bool.{Bool, true, false, not, cond, ◌&&◌, and_true, false≢true}
+use mathlib.Core.Bool.{Bool, true, false, not, cond, ◌&&◌, and-true, false≢true}
 use mathlib.Core.Logic.{◌⊎◌, inl, inr, ⊎_elim}
 use mathlib.Core.List.{List, [], ◌∷◌}
 use lib.ListN.{length, set, length-set}
@@ -71,8 +71,8 @@ both_set (y ∷ m) (z ∷ o) (suc s) x = ap (λ (l : List Bool). (y && z) ∷ l)
 pub except_set : (m o : List Bool) (s : ℕ) (x : Bool) → except (set m s x) o ≡ set (except m o) s (x && not (at o s))
 unfolding except
 except_set [] o s x = refl
-except_set (y ∷ m) [] zero x = ap (λ (b : Bool). b ∷ m) (sym (and_true x))
-except_set (y ∷ m) [] (suc s) x = ap (λ (b : Bool). y ∷ set m s b) (sym (and_true x))
+except_set (y ∷ m) [] zero x = ap (λ (b : Bool). b ∷ m) (sym (and-true x))
+except_set (y ∷ m) [] (suc s) x = ap (λ (b : Bool). y ∷ set m s b) (sym (and-true x))
 except_set (y ∷ m) (z ∷ o) zero x = refl
 except_set (y ∷ m) (z ∷ o) (suc s) x = ap (λ (l : List Bool). (y && not z) ∷ l) (except_set m o s x)
 

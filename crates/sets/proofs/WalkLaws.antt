@@ -4,7 +4,7 @@ use Prim.Native.Nat.{ℕ, zero, suc, ◌+◌, ◌-◌, ◌≤◌, ◌<◌}
 use native.Mathlib.Nat.{not-suc-le-zero, le_of_suc-le-suc, suc_inj, suc-ne-zero}
 use native.Mathlib.Omega.{arith}
 use mathlib.Core.Path.{◌≡◌, refl, sym, ap, ap₂, ◌∙◌}
-use mathlib.Core.Bool.{Bool, true, false, not, cond, ◌&&◌, ◌||◌, and_true, and-false, false≢true}
+use mathlib.Core.Bool.{Bool, true, false, not, cond, ◌&&◌, ◌||◌, and-true, and-false, false≢true}
 use mathlib.Core.List.{List, [], ◌∷◌}
 use lib.ListN.{length, get_or, set, drop, drop_of_length-le, length-map}
 use lib.Dec.{ltb, leb}
@@ -62,7 +62,7 @@ both_length (x ∷ a) (y ∷ b) e = ap suc (both_length a b (suc_inj e))
 pub except_at : (a b : List Bool) (k : ℕ) → at (except a b) k ≡ (at a k && not (at b k))
 unfolding except
 except_at [] b k = refl
-except_at (x ∷ a) [] k = sym (and_true (at (x ∷ a) k))
+except_at (x ∷ a) [] k = sym (and-true (at (x ∷ a) k))
 except_at (x ∷ a) (y ∷ b) zero = refl
 except_at (x ∷ a) (y ∷ b) (suc k) = except_at a b k
 

@@ -4,7 +4,7 @@
 use Rattle.index.proofs.Kit.{ℕ, ◌+◌, ◌<◌, ◌≤◌, ◌≡◌, refl, sym, ap, ◌∙◌, Bool, true, false, not, arith, first_hit, by_test, by_order}
 use Rattle.index.specs.Index.{every, first}
 use Prim.Native.Nat.{zero, suc}
-use mathlib.Core.Bool.{◌&&◌, and_true, and-false}
+use mathlib.Core.Bool.{◌&&◌, and-true, and-false}
 use mathlib.Core.Logic.{⊎_elim}
 use native.Mathlib.Nat.{le_of_suc-le-suc, eq-or-lt_of_le}
 use borrow.Author.Tests.{eq-eqb, ne_eqb, eqb-true, le-leb, leb-true, ltb-true}
@@ -144,7 +144,7 @@ module _ (low high u : ℕ) where
 -- ---- limits that are natural numbers: the definition's test and the search's are one
 lie_from : (lo hi : ℤ) (n : ℕ) → pos (nat_abs lo) ≡ lo → pos (nat_abs hi) ≡ hi → n ≤ nat_abs hi → leb (nat_abs lo) n
     ≡ (le_z lo (pos n) && le_z (pos n) hi)
-lie_from (pos a) (pos b) n p q h = rw (le-leb n b h) (sym (and_true (leb a n)))
+lie_from (pos a) (pos b) n p q h = rw (le-leb n b h) (sym (and-true (leb a n)))
 lie_from (pos a) (negsuc b) n p q h = let z : ◌≡◌ {A = ℕ} 0 1 = cc in absurd (omega arith)
 lie_from (negsuc a) hi n p q h = let z : ◌≡◌ {A = ℕ} 0 1 = cc in absurd (omega arith)
 

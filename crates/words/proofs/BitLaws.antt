@@ -6,7 +6,7 @@ use native.Mathlib.Nat.{mod-lt, pow-suc, le_of_suc-le-suc, zero-lt-suc, not-suc-
 use native.Mathlib.Numerals.{add-one}
 use mathlib.Core.Path.{◌≡◌, refl, sym, ap, ap₂, ◌∙◌}
 use mathlib.Core.Logic.{◌⊎◌, inl, inr, ⊎_elim}
-use mathlib.Core.Bool.{Bool, true, false, not, ◌&&◌, ◌||◌, and_true, and-false}
+use mathlib.Core.Bool.{Bool, true, false, not, ◌&&◌, ◌||◌, and-true, and-false}
 use mathlib.Core.List.{List, ◌∷◌}
 use lib.Dec.{eqb}
 use lib.ListN.{length, get_or, set, length-set}
@@ -223,7 +223,7 @@ bits_drop k w s h =
     (λ j n.
     except_at k w (2 ^ s) j l
     ∙ ap (λ (x : Bool). get_or (bits k w) j false && not x) (single_other s k j n)
-    ∙ and_true (get_or (bits k w) j false))
+    ∙ and-true (get_or (bits k w) j false))
 
 -- the two ends of `with_bit`
 pub word_put :
