@@ -1,7 +1,6 @@
-"""What the scripts over the sources share: the files, their text without comments, what they import, and what they define.
+"""What the scripts over the sources share: the crates, their files, the text without comments, what they import, and what they define.
 
-A source is one .rt or .antt file. Its module is what `use` calls it, without the crate's own suffix: `Rattle·score·specs.specs.Parts`,
-as crate score itself writes it, and `Rattle·score.specs.Parts`, as the others do, are both crates/score/specs/Parts.antt.
+A source is one .rt or .antt file. `use` calls its module by crate and path: `Rattle.score.specs.Parts` is crates/score/specs/Parts.antt.
 """
 import os
 import re
@@ -10,6 +9,33 @@ top = os.path.dirname(os.path.dirname(os.path.abspath(__file__)))
 MODIFIERS = ("pub", "abbrev", "unfoldable", "opaque", "private")
 WORD = re.compile(r"[^\s(){}\[\];,.⌜⌝]+|\[\]")
 USE = re.compile(r"^(?P<kind>(?:ghost |pub )*use) (?P<module>[^\s{;]+?)(?:\.\{(?P<names>[^}]*)\}| as (?P<alias>[^\s;]+))?;?$", re.M)
+
+
+def listed():
+    """The lines of crates.txt: (the line, its crate or None, the words behind that name, as `staticlib`, and what it depends on)."""
+    for line in open(os.path.join(top, "crates.txt"), encoding="utf-8").read().split("\n"):
+        head, colon, deps = line.partition(":")
+        if colon and not line.startswith("#"):
+            yield line, head.split()[0], head.split()[1:], deps.split()
+        else:
+            yield line, None, [], []
+
+
+def marks_of(name):
+    """The words that crates.txt has behind a crate's name; None for no crate."""
+    return next((marks for _, crate, marks, _ in listed() if crate == name), None)
+
+
+def below(name=None):
+    """The crates that are proved for a crate, itself among them; for no name, all."""
+    lists = {crate: deps for _, crate, _, deps in listed() if crate}
+    found, todo = set(), [name] if name else list(lists)
+    while todo:
+        crate = todo.pop()
+        if crate in lists and crate not in found:
+            found.add(crate)
+            todo += lists[crate]
+    return found
 
 
 def words(text):

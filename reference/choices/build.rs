@@ -1,4 +1,4 @@
-//! Links the two proved choices, which `rt staticlib choices` writes; HIVEPADLET_CHOICES names its folder.
+//! Links the two proved choices, which `rt lib` writes in crates/choices; HIVEPADLET_CHOICES names its folder.
 fn main() {
     println!("cargo:rerun-if-env-changed=HIVEPADLET_CHOICES");
     let dir = std::env::var("HIVEPADLET_CHOICES")

@@ -1,4 +1,4 @@
-//! Links the proved library, which `rt staticlib host` writes, where HIVEPADLET_LIB names its folder, and
+//! Links the proved library, which `rt lib` writes in crates/host, where HIVEPADLET_LIB names its folder, and
 //! tells the packages that depend on this one. Without it the functions are missing; the table's layout, the
 //! constants and the answers are there.
 

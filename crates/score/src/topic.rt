@@ -65,7 +65,7 @@ pub fn part3(t: TopicParams, r: TopicRecord) -> u64
     }
 }
 
-// Of a member, weight × (typeof.w1.P1 + typeof.w2.P2) is gained, and weight × (typeof.w3.P3 + typeof.w3b.P3b + typeof.w4.P4) lost.
+// Of a member, weight × (w1·P1 + w2·P2) is gained, and weight × (w3·P3 + w3b·P3b + w4·P4) lost.
 fn member_share(t: TopicParams, r: TopicRecord) -> Balance
     requires { TopicParamsIn t × CountersIn r }
     ensures { (result ≡ share_of t r) × ShareIn result }

@@ -32,10 +32,9 @@ use Rattle.trace_events.specs.Lines.{space, newline, pair_line, action_line, act
 use Rattle.trace_events.specs.Lines.{lines_of, action_at, actions_text, reply_text}
 
 -- ---- the answers of the other variants, as an `else` tells them
-pub no_score :
-    (a : Answer) → OneOf (0 ∷ 2 ∷ 3 ∷ 4 ∷ 5 ∷ 6 ∷ 7 ∷ 8 ∷ 9 ∷ 10 ∷ 11 ∷ []) (tag_of the_type a) → score_line a ≡ []
+pub no_score : (a : Answer) → ((w : Why) → a ≡ Scored w → ⊥) → score_line a ≡ []
 no_score (Done n) h = refl
-no_score (Scored w) h = absurd (miss (0 ∷ 2 ∷ 3 ∷ 4 ∷ 5 ∷ 6 ∷ 7 ∷ 8 ∷ 9 ∷ 10 ∷ 11 ∷ []) 1 tt h)
+no_score (Scored w) h = absurd (h w refl)
 no_score Early h = refl
 no_score OutOfRange h = refl
 no_score NotConnected h = refl

@@ -1,6 +1,5 @@
 -- `choices::picked` meets its contract: from flags to words and back.
 -- Assumes nothing.
-use borrow.Author.Rules.{rules}
 use Rattle.choices.proofs.picked.Goals as goal
 
 pub returns : goal.returns

@@ -1,5 +1,4 @@
-use Rattle.std.proofs.Common.{◌+◌, ◌-◌, ◌*◌, ◌≤◌, refl, arith, rules}
-use Rattle.columns.specs.Gather.{RunWithin}
+use Rattle.std.proofs.Common.{refl, arith}
 use Rattle.columns.proofs.WithinLaws.{run_none, run_more, run_join, four_below}
 use Rattle.columns.proofs.above.Goals as goal
 

@@ -1,7 +1,6 @@
 -- `columns::above`: after i turns no cell of the four runs, up to i, is above the union. Assumes nothing.
-use Rattle.std.proofs.Common.{◌+◌, ◌-◌, ◌*◌, ◌≤◌, refl, arith, rules}
+use Rattle.std.proofs.Common.{◌+◌, ◌-◌, ◌*◌, ◌≤◌}
 use Rattle.columns.specs.Gather.{RunWithin}
-use Rattle.columns.proofs.WithinLaws.{run_none, run_more, run_join, four_below}
 use Rattle.columns.proofs.above.Given as goal
 
 abbrev pub invariant-loop-i : goal.invariant-loop-i

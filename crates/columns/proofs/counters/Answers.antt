@@ -1,6 +1,4 @@
-use Rattle.std.proofs.Common.{ℕ, ◌-◌, ◌<◌, ◌≤◌, not-suc-le-zero, arith, rules}
-use Rattle.records.specs.Records.{topic_count}
-use Rattle.columns.specs.Gather.{Lanes, counters_gathered}
+use Rattle.std.proofs.Common.{not-suc-le-zero, arith}
 use Rattle.columns.proofs.WithinLaws.{topics_more}
 use Rattle.columns.proofs.counters.Goals as goal
 

@@ -1,8 +1,7 @@
 -- `columns::counters`: after t turns the union's lanes tell of the unions of t topics. Assumes nothing.
-use Rattle.std.proofs.Common.{ℕ, ◌-◌, ◌<◌, ◌≤◌, not-suc-le-zero, arith, rules}
+use Rattle.std.proofs.Common.{ℕ, ◌-◌, ◌<◌, ◌≤◌}
 use Rattle.records.specs.Records.{topic_count}
 use Rattle.columns.specs.Gather.{Lanes, counters_gathered}
-use Rattle.columns.proofs.WithinLaws.{topics_more}
 use Rattle.columns.proofs.counters.Given as goal
 
 abbrev pub invariant-loop-t : goal.invariant-loop-t

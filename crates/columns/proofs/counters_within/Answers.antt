@@ -1,5 +1,4 @@
 -- `columns::counters_within`: the lanes tell of each topic, the run of P3b. Assumes nothing.
-use Rattle.std.proofs.Common.{rules}
 use Rattle.index.proofs.Index.{both}
 use Rattle.columns.proofs.WithinLaws.{counters_within}
 use Rattle.columns.proofs.counters_within.Goals as goal

@@ -1,4 +1,3 @@
-use Rattle.std.proofs.Common.{rules}
 use Rattle.columns.proofs.WithinLaws.{ends_within}
 use Rattle.columns.proofs.ends_within.Goals as goal
 

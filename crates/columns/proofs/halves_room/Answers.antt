@@ -1,5 +1,4 @@
 use Rattle.columns.proofs.WithinLaws.{halves_room_lem}
-use Rattle.std.proofs.Common.{rules}
 use Rattle.columns.proofs.halves_room.Goals as goal
 
 pub returns : goal.returns

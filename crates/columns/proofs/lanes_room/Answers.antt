@@ -1,5 +1,4 @@
 use Rattle.columns.proofs.WithinLaws.{lanes_room_lem}
-use Rattle.std.proofs.Common.{rules}
 use Rattle.columns.proofs.lanes_room.Goals as goal
 
 pub returns : goal.returns

@@ -1,5 +1,5 @@
 -- `columns::named`: the sums wrap for 0 alone. Assumes nothing.
-use Rattle.std.proofs.Common.{refl, rules}
+use Rattle.std.proofs.Common.{refl}
 use Rattle.index.proofs.Index.{both}
 use Rattle.columns.proofs.WithinLaws.{below_top, named}
 use Rattle.columns.proofs.named.Goals as goal

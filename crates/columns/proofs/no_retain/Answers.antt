@@ -1,5 +1,4 @@
 use Rattle.columns.proofs.WithinLaws.{all_zero, no_retain}
-use Rattle.std.proofs.Common.{rules}
 use Rattle.columns.proofs.no_retain.Goals as goal
 
 pub returns : goal.returns

@@ -1,7 +1,6 @@
 -- `columns::one_group`: three unions of 0. Assumes nothing.
 use Rattle.index.proofs.Index.{both}
 use Rattle.columns.proofs.WithinLaws.{all_zero, one_group}
-use Rattle.std.proofs.Common.{rules}
 use Rattle.columns.proofs.one_group.Goals as goal
 
 pub returns : goal.returns

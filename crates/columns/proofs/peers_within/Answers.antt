@@ -1,7 +1,6 @@
 -- `columns::peers_within`: the tests of the three unions, each with its room. Assumes nothing.
 use Rattle.index.proofs.Index.{both}
 use Rattle.columns.proofs.WithinLaws.{below_top, in_halves, peers_within}
-use Rattle.std.proofs.Common.{rules}
 use Rattle.columns.proofs.peers_within.Goals as goal
 
 pub returns : goal.returns

@@ -1,5 +1,4 @@
 -- `columns::rows_within`: no cell is above the union; else the free bits tell of the sums. Assumes nothing.
-use Rattle.std.proofs.Common.{rules}
 use Rattle.columns.proofs.WithinLaws.{below_top, run_limit, rows_below}
 use Rattle.columns.proofs.rows_within.Goals as goal
 

@@ -1,5 +1,4 @@
-use Rattle.std.proofs.Common.{◌≡◌, ◌-◌, ◌≤◌, refl, arith, rules}
-use Rattle.columns.specs.Gather.{gathered}
+use Rattle.std.proofs.Common.{refl, arith}
 use Rattle.columns.proofs.GatherLaws.{gathered_none, gathered_more, gathered_end}
 use Rattle.columns.proofs.three.Goals as goal
 
@@ -11,10 +10,10 @@ loop-i-preserved c =
     let l = c.loop-i in (
       omega arith,
       (
-        gathered_more _ _ _ _ _ _ _ l.invariant.1.0 refl c.wrapping_add_u64.ensures,
+        gathered_more _ _ _ _ _ _ _ l.invariant.1.0 refl c.wrapping_add_u64.ensures.value,
         (
-          gathered_more _ _ _ _ _ _ _ l.invariant.1.1.0 refl c.wrapping_add_u64-in-loop-i.ensures,
-          gathered_more _ _ _ _ _ _ _ l.invariant.1.1.1 refl c.wrapping_add_u64-in-loop-i-2.ensures,
+          gathered_more _ _ _ _ _ _ _ l.invariant.1.1.0 refl c.wrapping_add_u64-in-loop-i.ensures.value,
+          gathered_more _ _ _ _ _ _ _ l.invariant.1.1.1 refl c.wrapping_add_u64-in-loop-i-2.ensures.value,
         ),
       ),
     )

@@ -1,7 +1,6 @@
 -- `columns::three`: after i turns each union is that of i cells. Assumes nothing.
-use Rattle.std.proofs.Common.{◌≡◌, ◌-◌, ◌≤◌, refl, arith, rules}
+use Rattle.std.proofs.Common.{◌≡◌, ◌-◌, ◌≤◌}
 use Rattle.columns.specs.Gather.{gathered}
-use Rattle.columns.proofs.GatherLaws.{gathered_none, gathered_more, gathered_end}
 use Rattle.columns.proofs.three.Given as goal
 
 abbrev pub invariant-loop-i : goal.invariant-loop-i

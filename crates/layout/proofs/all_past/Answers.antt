@@ -1,7 +1,5 @@
-use Prim.Native.Nat.{◌≤◌, ◌-◌}
-use mathlib.Core.Path.{◌≡◌}
 use native.Mathlib.Omega.{arith}
-use Rattle.layout.proofs.EndLaws.{Past, past_more}
+use Rattle.layout.proofs.EndLaws.{past_more}
 use Rattle.layout.proofs.all_past.Goals as goal
 
 pub loop-p-init : goal.loop-p-init

@@ -1,8 +1,7 @@
 -- `layout::all_past`: after p turns the first p words are looked at.
 use Prim.Native.Nat.{◌≤◌, ◌-◌}
 use mathlib.Core.Path.{◌≡◌}
-use native.Mathlib.Omega.{arith}
-use Rattle.layout.proofs.EndLaws.{Past, past_more}
+use Rattle.layout.proofs.EndLaws.{Past}
 use Rattle.layout.proofs.all_past.Given as goal
 
 abbrev pub invariant-loop-p : goal.invariant-loop-p

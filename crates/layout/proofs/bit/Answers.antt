@@ -1,7 +1,6 @@
 use mathlib.Core.Path.{refl}
 use Rattle.layout.specs.View.{bit_at}
 use native.Mathlib.Omega.{arith}
-use borrow.Author.Rules.{rules}
 use Rattle.layout.proofs.bit.Goals as goal
 
 pub returns : goal.returns

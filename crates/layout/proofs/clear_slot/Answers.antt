@@ -1,7 +1,5 @@
-use Prim.Native.Nat.{◌-◌, ◌≤◌}
-use mathlib.Core.Path.{◌≡◌, sym, ◌∙◌}
-use lib.ListN.{length, length-set}
-use Rattle.layout.specs.View.{cell_count, used_of, Idle, ZeroUpTo}
+use mathlib.Core.Path.{sym, ◌∙◌}
+use lib.ListN.{length-set}
 use Rattle.layout.proofs.MarkLaws.{clear_start, clear_more, clear_end}
 use native.Mathlib.Omega.{arith}
 use Rattle.layout.proofs.clear_slot.Goals as goal

@@ -1,11 +1,9 @@
 -- `layout::clear_slot`: a slot past the mark is no part of the state, so making its cells 0 changes nothing; after t turns those of t
 -- topics are 0.
 use Prim.Native.Nat.{◌-◌, ◌≤◌}
-use mathlib.Core.Path.{◌≡◌, sym, ◌∙◌}
-use lib.ListN.{length, length-set}
+use mathlib.Core.Path.{◌≡◌}
+use lib.ListN.{length}
 use Rattle.layout.specs.View.{cell_count, used_of, Idle, ZeroUpTo}
-use Rattle.layout.proofs.MarkLaws.{clear_start, clear_more, clear_end}
-use native.Mathlib.Omega.{arith}
 use Rattle.layout.proofs.clear_slot.Given as goal
 
 abbrev pub invariant-loop-t : goal.invariant-loop-t

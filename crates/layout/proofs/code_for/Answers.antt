@@ -1,4 +1,3 @@
-use borrow.Author.Rules.{rules}
 use Rattle.layout.proofs.ParamLaws.{below_zero, below_more, above_code}
 use Rattle.layout.proofs.code_for.Goals as goal
 

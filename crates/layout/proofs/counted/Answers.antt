@@ -1,7 +1,5 @@
-use Prim.Native.Nat.{◌≤◌, ◌-◌}
-use mathlib.Core.Path.{◌≡◌}
 use native.Mathlib.Omega.{arith}
-use Rattle.layout.proofs.BareLaws.{Counts, counts_more, counts_done}
+use Rattle.layout.proofs.BareLaws.{counts_more, counts_done}
 use Rattle.layout.proofs.counted.Goals as goal
 
 pub loop-t-init : goal.loop-t-init

@@ -1,8 +1,7 @@
 -- `layout::counted`: after t turns the counters of the first t topics are looked at.
 use Prim.Native.Nat.{◌≤◌, ◌-◌}
 use mathlib.Core.Path.{◌≡◌}
-use native.Mathlib.Omega.{arith}
-use Rattle.layout.proofs.BareLaws.{Counts, counts_more, counts_done}
+use Rattle.layout.proofs.BareLaws.{Counts}
 use Rattle.layout.proofs.counted.Given as goal
 
 abbrev pub invariant-loop-t : goal.invariant-loop-t

@@ -1,6 +1,5 @@
 -- `layout::ends`: eight cells of the row, each 0 past the mark.
 use Rattle.layout.proofs.SlotLaws.{eight_ends}
-use borrow.Author.Rules.{rules}
 use Rattle.layout.proofs.ends.Goals as goal
 
 pub returns : goal.returns

@@ -5,7 +5,6 @@ use Rattle.layout.specs.View.{state_of}
 use Rattle.layout.proofs.PlaceLaws.{into_written}
 use lib.ListN.{length-set}
 use native.Mathlib.Omega.{arith}
-use borrow.Author.Rules.{rules}
 use Rattle.layout.proofs.enter_mesh.Goals as goal
 
 pub bounds-cells-k-2 : goal.bounds-cells-k-2

@@ -1,4 +1,3 @@
-use borrow.Author.Rules.{rules}
 use Rattle.layout.proofs.ParamLaws.{field_general, field_topic}
 use Rattle.layout.proofs.field_of.Goals as goal
 

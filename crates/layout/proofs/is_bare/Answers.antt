@@ -1,7 +1,6 @@
 -- `layout::is_bare`: a bit of the members' words together, then the counters together.
 use Prim.Native.Nat.{◌%◌}
 use native.Mathlib.Omega.{arith}
-use borrow.Author.Rules.{rules}
 use borrow.Author.Tests.{eqb-true}
 use mathlib.Core.Bool.{false≢true}
 use Rattle.layout.proofs.BareLaws.{bare}

@@ -1,7 +1,6 @@
 use mathlib.Core.Path.{ap, ◌∙◌}
 use Rattle.layout.specs.View.{state_of}
 use Rattle.layout.proofs.PlaceLaws.{out_written}
-use borrow.Author.Rules.{rules}
 use Rattle.layout.proofs.leave_mesh.Goals as goal
 
 pub returns : goal.returns

@@ -1,5 +1,4 @@
 use Rattle.layout.specs.View.{live_at}
-use borrow.Author.Rules.{rules}
 use Rattle.layout.proofs.live.Goals as goal
 
 pub returns : goal.returns

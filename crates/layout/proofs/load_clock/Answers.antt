@@ -1,4 +1,3 @@
-use borrow.Author.Rules.{rules}
 use Rattle.layout.proofs.ViewLaws.{clock_load}
 use Rattle.layout.proofs.load_clock.Goals as goal
 

@@ -1,4 +1,3 @@
-use borrow.Author.Rules.{rules}
 use mathlib.Core.Path.{◌∙◌}
 use Rattle.layout.proofs.ReadLaws.{connected_bit}
 use Rattle.layout.proofs.load_connected.Goals as goal

@@ -1,4 +1,3 @@
-use borrow.Author.Rules.{rules}
 use Rattle.layout.proofs.ReadLaws.{end_load}
 use Rattle.layout.proofs.load_end.Goals as goal
 

@@ -1,4 +1,3 @@
-use borrow.Author.Rules.{rules}
 use Rattle.layout.proofs.ReadLaws.{graft_load}
 use Rattle.layout.proofs.load_graft.Goals as goal
 

@@ -1,6 +1,5 @@
 -- `layout::load_groups`: four columns in use.
 use Rattle.layout.proofs.ReadLaws.{groups_load}
-use borrow.Author.Rules.{rules}
 use Rattle.layout.proofs.load_groups.Goals as goal
 
 pub returns : goal.returns

@@ -1,4 +1,3 @@
-use borrow.Author.Rules.{rules}
 use Rattle.layout.proofs.ReadLaws.{id_load}
 use Rattle.layout.proofs.load_id.Goals as goal
 

@@ -1,5 +1,4 @@
 use Rattle.layout.proofs.ParamLaws.{magnitude_load}
-use borrow.Author.Rules.{rules}
 use Rattle.layout.proofs.load_magnitude.Goals as goal
 
 pub returns : goal.returns

@@ -1,4 +1,3 @@
-use borrow.Author.Rules.{rules}
 use mathlib.Core.Path.{◌∙◌, sym}
 use Rattle.layout.proofs.CellLaws.{bits_are}
 use Rattle.layout.proofs.load_member.Goals as goal

@@ -1,4 +1,3 @@
-use borrow.Author.Rules.{rules}
 use Rattle.layout.proofs.ReadLaws.{mesh_load}
 use Rattle.layout.proofs.load_mesh.Goals as goal
 

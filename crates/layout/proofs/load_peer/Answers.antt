@@ -2,7 +2,6 @@
 use Rattle.layout.proofs.FitLaws.{peer_fits_too}
 use Rattle.layout.proofs.SlotLaws.{peer_read}
 use native.Mathlib.Omega.{arith}
-use borrow.Author.Rules.{rules}
 use Rattle.layout.proofs.load_peer.Goals as goal
 
 pub returns : goal.returns

@@ -1,4 +1,3 @@
-use borrow.Author.Rules.{rules}
 use Rattle.layout.proofs.ReadLaws.{retain_load}
 use Rattle.layout.proofs.load_retain.Goals as goal
 

@@ -1,4 +1,3 @@
-use borrow.Author.Rules.{rules}
 use mathlib.Core.Path.{◌∙◌}
 use Rattle.layout.proofs.ReadLaws.{retained_bit}
 use Rattle.layout.proofs.load_retained.Goals as goal

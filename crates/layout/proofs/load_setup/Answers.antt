@@ -1,4 +1,3 @@
-use borrow.Author.Rules.{rules}
 use Rattle.layout.proofs.ViewLaws.{setup_load}
 use Rattle.layout.proofs.load_setup.Goals as goal
 

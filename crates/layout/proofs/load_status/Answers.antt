@@ -1,4 +1,3 @@
-use borrow.Author.Rules.{rules}
 use Rattle.layout.proofs.ReadLaws.{status_load}
 use Rattle.layout.proofs.load_status.Goals as goal
 

@@ -1,5 +1,4 @@
 use mathlib.Core.Path.{refl}
-use borrow.Author.Rules.{rules}
 use Rattle.layout.proofs.EndLaws.{flags_from}
 use Rattle.layout.proofs.load_used.Goals as goal
 

@@ -1,4 +1,3 @@
-use borrow.Author.Rules.{rules}
 use mathlib.Core.Path.{◌∙◌}
 use Rattle.layout.proofs.ReadLaws.{version_bit}
 use Rattle.layout.proofs.load_version.Goals as goal

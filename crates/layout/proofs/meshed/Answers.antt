@@ -1,6 +1,5 @@
-use Prim.Native.Nat.{◌≤◌, ◌-◌}
 use native.Mathlib.Omega.{arith}
-use Rattle.layout.proofs.BareLaws.{Meshed, meshed_more}
+use Rattle.layout.proofs.BareLaws.{meshed_more}
 use Rattle.layout.proofs.meshed.Goals as goal
 
 pub loop-t-init : goal.loop-t-init

@@ -1,7 +1,6 @@
 -- `layout::meshed`: after t turns the words of the first t topics are looked at.
 use Prim.Native.Nat.{◌≤◌, ◌-◌}
-use native.Mathlib.Omega.{arith}
-use Rattle.layout.proofs.BareLaws.{Meshed, meshed_more}
+use Rattle.layout.proofs.BareLaws.{Meshed}
 use Rattle.layout.proofs.meshed.Given as goal
 
 abbrev pub invariant-loop-t : goal.invariant-loop-t

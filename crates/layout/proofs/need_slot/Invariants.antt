@@ -1,10 +1,9 @@
 -- `layout::need_slot`: the mark rises one by one, and each time the state stays.
 use Prim.Native.Nat.{◌-◌}
-use mathlib.Core.Path.{◌≡◌, refl, sym, ◌∙◌}
+use mathlib.Core.Path.{◌≡◌}
 use lib.ListN.{length}
 use Rattle.records.specs.Records.{slot_count}
 use Rattle.layout.specs.View.{cell_count, used_of, state_of}
-use native.Mathlib.Omega.{arith}
 use Rattle.layout.proofs.need_slot.Given as goal
 
 abbrev pub invariant-loop-cells : goal.invariant-loop-cells

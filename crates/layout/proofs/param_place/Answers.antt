@@ -1,6 +1,5 @@
 use Rattle.layout.proofs.ParamLaws.{at_general, at_topic}
 use native.Mathlib.Omega.{arith}
-use borrow.Author.Rules.{rules}
 use Rattle.layout.proofs.param_place.Goals as goal
 
 pub returns-then-i-lt19 : goal.returns-then-i-lt19

@@ -1,5 +1,4 @@
 -- `layout::past`: four words.
-use borrow.Author.Rules.{rules}
 use Rattle.layout.proofs.EndLaws.{past_four}
 use Rattle.layout.proofs.past.Goals as goal
 

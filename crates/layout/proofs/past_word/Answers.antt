@@ -1,6 +1,5 @@
 -- `layout::past_word`: all its slots are past, none, or those from a bit on.
 use native.Mathlib.Omega.{arith}
-use borrow.Author.Rules.{rules}
 use Rattle.layout.proofs.EndLaws.{past_all, past_none, past_some}
 use Rattle.layout.proofs.past_word.Goals as goal
 

@@ -4,7 +4,6 @@ use Rattle.layout.proofs.FitLaws.{raw_topic_fits}
 use Prim.Native.Nat.{◌%◌, ◌/◌}
 use Rattle.layout.specs.View.{topic_raw}
 use native.Mathlib.Omega.{arith}
-use borrow.Author.Rules.{rules}
 use Rattle.layout.proofs.raw_topic.Goals as goal
 
 pub returns : goal.returns

@@ -1,7 +1,6 @@
 -- `layout::records_end`: past the mark a record is its bits, and there are none.
 use mathlib.Core.Path.{refl}
 use native.Mathlib.Omega.{arith}
-use borrow.Author.Rules.{rules}
 use Rattle.layout.proofs.EndLaws.{or_none, empty_from, empty_last}
 use Rattle.layout.proofs.records_end.Goals as goal
 

@@ -4,7 +4,6 @@ use Prim.Native.Nat.{◌+◌, ◌/◌}
 use lib.ListN.{set}
 use Rattle.layout.specs.View.{set_bit}
 use lib.ListN.{length-set}
-use borrow.Author.Rules.{rules}
 use Rattle.layout.proofs.set_bit.Goals as goal
 
 pub returns : goal.returns

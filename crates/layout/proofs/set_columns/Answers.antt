@@ -4,7 +4,6 @@ use Rattle.layout.specs.View.{set_columns}
 use Rattle.layout.proofs.SlotLaws.{length_columns}
 use lib.ListN.{length-set}
 use native.Mathlib.Omega.{arith}
-use borrow.Author.Rules.{rules}
 use Rattle.layout.proofs.set_columns.Goals as goal
 
 pub bounds-cells-s-2 : goal.bounds-cells-s-2

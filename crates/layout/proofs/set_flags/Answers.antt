@@ -1,6 +1,5 @@
 -- `layout::set_flags`: six bits, one after the other.
 use Rattle.layout.proofs.SlotLaws.{flags_chain}
-use borrow.Author.Rules.{rules}
 use Rattle.layout.proofs.set_flags.Goals as goal
 
 pub returns : goal.returns

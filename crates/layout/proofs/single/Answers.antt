@@ -3,7 +3,6 @@ use native.Mathlib.Nat.{one-mul}
 use lib.Pow.{shl_exact}
 use Prim.Native.Nat.{◌^◌}
 use native.Mathlib.Omega.{arith}
-use borrow.Author.Rules.{rules}
 use Rattle.layout.proofs.single.Goals as goal
 
 pub returns : goal.returns

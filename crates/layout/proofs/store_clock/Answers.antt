@@ -1,6 +1,5 @@
 use Rattle.layout.proofs.ViewLaws.{clock_store}
 use mathlib.Core.Path.{refl}
-use borrow.Author.Rules.{rules}
 use Rattle.layout.proofs.store_clock.Goals as goal
 
 pub returns : goal.returns

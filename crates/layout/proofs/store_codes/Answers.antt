@@ -1,10 +1,8 @@
-use Prim.Native.Nat.{◌≤◌, ◌<◌, ◌-◌}
-use mathlib.Core.Path.{◌≡◌, sym, ◌∙◌}
+use Prim.Native.Nat.{◌<◌}
+use mathlib.Core.Path.{sym, ◌∙◌}
 use native.Mathlib.Omega.{arith}
-use lib.ListN.{length}
 use Rattle.records.specs.Records.{param_count}
-use Rattle.layout.specs.View.{cell_count, state_of}
-use Rattle.layout.proofs.CopyLaws.{codes_up_to, codes_start, codes_more, codes_end}
+use Rattle.layout.proofs.CopyLaws.{codes_start, codes_more, codes_end}
 use Rattle.layout.proofs.store_codes.Goals as goal
 
 pub loop-i-init : goal.loop-i-init

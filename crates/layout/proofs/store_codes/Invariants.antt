@@ -1,11 +1,10 @@
 -- `layout::store_codes`: after i turns the first i codes are stored.
-use Prim.Native.Nat.{◌≤◌, ◌<◌, ◌-◌}
-use mathlib.Core.Path.{◌≡◌, sym, ◌∙◌}
-use native.Mathlib.Omega.{arith}
+use Prim.Native.Nat.{◌≤◌, ◌-◌}
+use mathlib.Core.Path.{◌≡◌}
 use lib.ListN.{length}
 use Rattle.records.specs.Records.{param_count}
 use Rattle.layout.specs.View.{cell_count, state_of}
-use Rattle.layout.proofs.CopyLaws.{codes_up_to, codes_start, codes_more, codes_end}
+use Rattle.layout.proofs.CopyLaws.{codes_up_to}
 use Rattle.layout.proofs.store_codes.Given as goal
 
 abbrev pub invariant-loop-i : goal.invariant-loop-i

@@ -1,7 +1,6 @@
 use mathlib.Core.Path.{ap, ◌∙◌}
 use Rattle.records.specs.Records.{set_peer, peer_in}
 use Rattle.layout.specs.View.{set_end}
-use borrow.Author.Rules.{rules}
 use Rattle.layout.proofs.store_end.Goals as goal
 
 pub returns : goal.returns

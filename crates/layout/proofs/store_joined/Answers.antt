@@ -1,5 +1,4 @@
 use Rattle.layout.proofs.ViewLaws.{joined_store}
-use borrow.Author.Rules.{rules}
 use Rattle.layout.proofs.store_joined.Goals as goal
 
 pub returns : goal.returns

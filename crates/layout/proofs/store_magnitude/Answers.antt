@@ -3,7 +3,6 @@ use mathlib.Core.Path.{ap, ◌∙◌}
 use lib.ListN.{set}
 use Rattle.layout.specs.View.{params_at, state_of}
 use Rattle.layout.proofs.ParamLaws.{code_store}
-use borrow.Author.Rules.{rules}
 use Rattle.layout.proofs.store_magnitude.Goals as goal
 
 pub returns : goal.returns

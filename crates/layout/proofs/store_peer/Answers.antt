@@ -1,6 +1,5 @@
 use mathlib.Core.Path.{ap, ◌∙◌}
 use Rattle.records.specs.Records.{set_peer}
-use borrow.Author.Rules.{rules}
 use Rattle.layout.proofs.store_peer.Goals as goal
 
 pub returns : goal.returns

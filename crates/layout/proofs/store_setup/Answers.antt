@@ -1,4 +1,3 @@
-use borrow.Author.Rules.{rules}
 use Rattle.layout.proofs.ViewLaws.{setup_store}
 use Rattle.layout.proofs.store_setup.Goals as goal
 

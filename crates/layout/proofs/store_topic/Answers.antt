@@ -1,6 +1,5 @@
 use mathlib.Core.Path.{ap, ◌∙◌}
 use Rattle.records.specs.Records.{set_topic}
-use borrow.Author.Rules.{rules}
 use Rattle.layout.proofs.store_topic.Goals as goal
 
 pub returns : goal.returns

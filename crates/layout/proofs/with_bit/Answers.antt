@@ -1,5 +1,4 @@
 use Rattle.layout.proofs.BitLaws.{with_put, with_drop}
-use borrow.Author.Rules.{rules}
 use Rattle.layout.proofs.with_bit.Goals as goal
 
 pub returns-then-v-eq1 : goal.returns-then-v-eq1

@@ -1,4 +1,3 @@
-use borrow.Author.Rules.{rules}
 use mathlib.Core.Path.{refl}
 use Rattle.layout.proofs.ReadLaws.{word_read}
 use Rattle.layout.proofs.word.Goals as goal

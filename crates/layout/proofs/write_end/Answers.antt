@@ -1,5 +1,4 @@
 use Rattle.layout.proofs.SlotLaws.{end_written}
-use borrow.Author.Rules.{rules}
 use Rattle.layout.proofs.write_end.Goals as goal
 
 pub returns : goal.returns

@@ -5,7 +5,6 @@ use Rattle.layout.specs.View.{counter_of}
 use Rattle.layout.proofs.PlaceLaws.{topic_written, length_five, length_six}
 use lib.ListN.{length-set}
 use native.Mathlib.Omega.{arith}
-use borrow.Author.Rules.{rules}
 use Rattle.layout.proofs.write_topic.Goals as goal
 
 pub bounds-cells-k-2 : goal.bounds-cells-k-2

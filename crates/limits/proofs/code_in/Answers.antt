@@ -1,5 +1,5 @@
 -- `limits::code_in` meets its contract. Assumes nothing.
-use Rattle.index.proofs.Kit.{rules, refl}
+use Rattle.index.proofs.Kit.{refl}
 use lib.ListN.{get_or}
 use Rattle.varint.specs.Codes.{number_of}
 use Rattle.limits.specs.Limits.{field_of}

@@ -1,5 +1,5 @@
 -- `limits::code_lies` meets its contract. Assumes nothing.
-use borrow.Author.Rules.{rules, sfits_of}
+use borrow.Author.Rules.{sfits_of}
 use mathlib.Core.Path.{◌∙◌, ap}
 use lib.IntN.{ℤ}
 use Rattle.limits.specs.Limits.{lies}
@@ -11,5 +11,5 @@ pub returns : goal.returns
 returns c =
     let n = c.number_of in
     let l : Limit = record { low = c.args.low; high = c.args.high } in
-    lies_between n.result l _ (sfits_of n.type-inv) c.ranges.low c.ranges.high c.between.ensures
+    lies_between n.result l _ (sfits_of n.type_inv) c.ranges.low c.ranges.high c.between.ensures
     ∙ ap (λ (x : ℤ). lies x l) n.ensures

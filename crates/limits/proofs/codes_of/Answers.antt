@@ -1,9 +1,8 @@
-use Rattle.index.proofs.Kit.{◌-◌, ◌≡◌, refl, ◌∙◌, arith, rules}
+use Rattle.index.proofs.Kit.{◌≡◌, refl, ◌∙◌, arith, rules}
 use mathlib.Core.List.{map}
-use borrow.Author.Rules.{sfits_of}
 use lib.ListN.{length, get_or, length-map, get_or-map}
 use lib.IntN.{pos}
-use Rattle.index.proofs.Lists.{Built, built_none, built_more, built_done}
+use Rattle.index.proofs.Lists.{built_none, built_more, built_done}
 use Rattle.varint.specs.Codes.{code_of}
 use Rattle.records.specs.Records.{param_count}
 use Rattle.limits.proofs.LimitLaws.{code_of_given}
@@ -17,7 +16,7 @@ loop-i-preserved c =
     let l = c.loop-i in
     built_more _ _ _ l.i l.codes _ (omega arith) l.invariant
     (code_of_given (get_or c.args.numbers.now l.i (pos 0)) c.code_of.result
-    (sfits_of c.code_of-arg-1.given) c.code_of.ensures)
+    (search rules) c.code_of.ensures)
 
 pub returns : goal.returns
 returns c =

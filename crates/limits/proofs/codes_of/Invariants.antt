@@ -1,13 +1,10 @@
 -- `limits::codes_of`: the loop builds the codes from the front.
-use Rattle.index.proofs.Kit.{◌-◌, ◌≡◌, refl, ◌∙◌, arith, rules}
-use mathlib.Core.List.{map}
-use borrow.Author.Rules.{sfits_of}
-use lib.ListN.{length, get_or, length-map, get_or-map}
+use Rattle.index.proofs.Kit.{◌-◌}
+use lib.ListN.{get_or}
 use lib.IntN.{pos}
-use Rattle.index.proofs.Lists.{Built, built_none, built_more, built_done}
+use Rattle.index.proofs.Lists.{Built}
 use Rattle.varint.specs.Codes.{code_of}
 use Rattle.records.specs.Records.{param_count}
-use Rattle.limits.proofs.LimitLaws.{code_of_given}
 use Rattle.limits.proofs.codes_of.Given as goal
 
 abbrev pub invariant-loop-i : goal.invariant-loop-i

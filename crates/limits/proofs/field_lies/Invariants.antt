@@ -1,10 +1,6 @@
 -- `limits::field_lies`: after k turns the topics below k are right. Assumes nothing.
-use Rattle.index.proofs.Kit.{◌≤◌, ◌-◌, ◌≡◌, arith, every, true, rules, every_more, failed, passed}
+use Rattle.index.proofs.Kit.{◌≤◌, ◌-◌, ◌≡◌, every, true}
 use lib.ListN.{get_or}
-use mir.Syntax.{w64}
-use mir.Val.{to_z}
-use mir.Facts.{to_z-of_z}
-use Rattle.index.proofs.Index.{every-loop, every_out, every_in}
 use Rattle.varint.specs.Codes.{number_of}
 use Rattle.records.specs.Records.{topic_count}
 use Rattle.limits.specs.Limits.{place, to, lies}
@@ -12,7 +8,7 @@ use Rattle.limits.proofs.field_lies.Given as goal
 
 abbrev pub invariant-loop-k : goal.invariant-loop-k
 invariant-loop-k l =
-    (l.k ≤ topic_count) × (every l.k (λ m. lies (number_of (get_or l.codes (place m l.j) 0)) (to (to_z w64 l.low) (to_z w64 l.high))) ≡ true)
+    (l.k ≤ topic_count) × (every l.k (λ m. lies (number_of (get_or l.codes (place m l.j) 0)) (to l.low l.high)) ≡ true)
 
 abbrev pub decreases-loop-k : goal.decreases-loop-k
 decreases-loop-k l = topic_count - l.k

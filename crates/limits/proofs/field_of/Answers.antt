@@ -1,5 +1,5 @@
 -- `limits::field_of` meets its contract. Assumes nothing.
-use Rattle.index.proofs.Kit.{rules, arith}
+use Rattle.index.proofs.Kit.{arith}
 use borrow.Author.Tests.{lt-ltb, le-ltb}
 use Rattle.limits.proofs.field_of.Goals as goal
 

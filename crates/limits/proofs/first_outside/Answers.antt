@@ -1,10 +1,5 @@
-use Rattle.index.proofs.Kit.{◌≤◌, ◌-◌, ◌≡◌, arith, first}
 use Rattle.index.proofs.Auto.{auto}
 use Rattle.index.proofs.Flags.{not_yes, not_no}
-use mathlib.Core.List.{map}
-use Rattle.index.specs.declared.Found.TheVariants.{Nothing}
-use Rattle.varint.specs.Codes.{number_of}
-use Rattle.records.specs.Records.{param_count}
 use Rattle.limits.specs.Limits.{outside}
 use Rattle.limits.proofs.first_outside.Goals as goal
 

@@ -1,5 +1,5 @@
 -- `limits::limit_of` meets its contract. Assumes nothing.
-use Rattle.index.proofs.Kit.{rules, ap, ℕ}
+use Rattle.index.proofs.Kit.{ap, ℕ}
 use lib.ListN.{get_or}
 use lib.IntN.{pos}
 use Rattle.limits.specs.Limits.{limits, limit_at}

@@ -1,5 +1,4 @@
 use mathlib.Core.Path.{refl}
-use borrow.Author.Rules.{rules}
 use Rattle.marks.specs.Marks.{is_marked}
 use Rattle.marks.proofs.is_marked.Goals as goal
 

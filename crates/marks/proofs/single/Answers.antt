@@ -3,7 +3,6 @@ use native.Mathlib.Nat.{one-mul}
 use native.Mathlib.Omega.{arith}
 use mathlib.Core.Path.{◌∙◌}
 use lib.Pow.{shl_exact}
-use borrow.Author.Rules.{rules}
 use Rattle.marks.specs.Marks.{word_bits}
 use Rattle.marks.proofs.single.Goals as goal
 

@@ -1,4 +1,5 @@
-use Rattle.index.proofs.Kit.{◌-◌, ◌≤◌, ◌≡◌, true, rules, arith, every, every_none, every_more, failed, passed}
+use mathlib.Core.Path.{sym, ◌∙◌}
+use Rattle.index.proofs.Kit.{◌-◌, ◌≤◌, ◌≡◌, true, rules, arith, every, every_none, every_more}
 use Rattle.message_ids.specs.Ids.{id_ok}
 use Rattle.message_ids.proofs.TableLaws.{ids_ragged, ids_other, ids_bad, ids_good}
 use Rattle.message_ids.proofs.ids_ok.Goals as goal
@@ -17,12 +18,12 @@ id_ok-requires c = (omega arith, (omega arith, c.loop-k.invariant.1))
 
 pub returns-then-not-id_ok : goal.returns-then-not-id_ok
 returns-then-not-id_ok c =
-    let t = failed c.id_ok.ensures c.if-not-id_ok.true in
+    let t = sym c.id_ok.ensures ∙ c.if-not-id_ok.true in
     ids_bad _ _ c.if-ids-ne0.false c.if-ids-rows.false _
     c.loop-k-test.true t
 
 pub loop-k-preserved : goal.loop-k-preserved
-loop-k-preserved c = (omega arith, every_more _ _ c.loop-k.invariant.1 (passed c.id_ok.ensures c.if-not-id_ok.false))
+loop-k-preserved c = (omega arith, every_more _ _ c.loop-k.invariant.1 (sym c.id_ok.ensures ∙ c.if-not-id_ok.false))
 
 pub returns : goal.returns
 returns c = ids_good _ _ c.if-ids-ne0.false c.if-ids-rows.false _ (omega arith) (omega arith)

@@ -1,4 +1,5 @@
-use Rattle.index.proofs.Kit.{◌-◌, ◌≤◌, ◌≡◌, true, rules, arith, every, every_none, every_more, failed, passed}
+use mathlib.Core.Path.{sym, ◌∙◌}
+use Rattle.index.proofs.Kit.{◌-◌, ◌≤◌, ◌≡◌, true, rules, arith, every, every_none, every_more}
 use lib.ListN.{length}
 use Rattle.message_ids.specs.Ids.{place_ok}
 use Rattle.message_ids.proofs.TableLaws.{numbers_other, numbers_bad, numbers_good}
@@ -16,11 +17,11 @@ place_ok-requires c = (c.if-order-numbers.false, (omega arith, c.loop-k.invarian
 pub returns-then-not-place_ok : goal.returns-then-not-place_ok
 returns-then-not-place_ok c =
     let e = c.if-order-numbers.false in
-    let t = failed c.place_ok.ensures c.if-not-place_ok.true in
+    let t = sym c.place_ok.ensures ∙ c.if-not-place_ok.true in
     numbers_bad _ _ e _ c.loop-k-test.true t
 
 pub loop-k-preserved : goal.loop-k-preserved
-loop-k-preserved c = (omega arith, every_more _ _ c.loop-k.invariant.1 (passed c.place_ok.ensures c.if-not-place_ok.false))
+loop-k-preserved c = (omega arith, every_more _ _ c.loop-k.invariant.1 (sym c.place_ok.ensures ∙ c.if-not-place_ok.false))
 
 pub returns : goal.returns
 returns c = numbers_good _ _ c.if-order-numbers.false _ (omega arith) (omega arith) c.loop-k.invariant.1

@@ -1,13 +1,12 @@
-use Prim.Native.Nat.{ℕ, ◌-◌}
+use Prim.Native.Nat.{ℕ}
 use native.Mathlib.Omega.{arith}
-use borrow.Author.Rules.{rules}
 use mathlib.Core.Path.{refl, ap}
-use mathlib.Core.Bool.{false, ◌&&◌}
+use mathlib.Core.Bool.{◌&&◌}
 use lib.Dec.{ltb}
 use Rattle.records.specs.Records.{slot_count}
-use Rattle.index.proofs.Lists.{Built, built_none, built_more}
+use Rattle.index.proofs.Lists.{built_none, built_more}
 use Rattle.sets.specs.Sets.{at}
-use Rattle.pairs.proofs.PlaceLaws.{keeps, pairs_built}
+use Rattle.pairs.proofs.PlaceLaws.{pairs_built}
 use Rattle.pairs.proofs.best_by_pairs.Goals as goal
 
 pub loop-s-init : goal.loop-s-init

@@ -1,13 +1,10 @@
 -- `pairs::places` meets its contract. From i on the places are filled.
 -- Assumes nothing.
-use Prim.Native.Nat.{ℕ, ◌-◌, ◌≤◌}
-use native.Mathlib.Omega.{arith}
-use borrow.Author.Rules.{rules}
-use mathlib.Core.Path.{◌≡◌, refl, ◌∙◌, subst}
-use lib.ListN.{length, get_or, length-set}
-use lib.Seq.{set_out}
+use Prim.Native.Nat.{◌≤◌}
+use mathlib.Core.Path.{◌≡◌}
+use lib.ListN.{length}
 use Rattle.records.specs.Records.{slot_count}
-use Rattle.pairs.proofs.PlaceLaws.{Placed, placed_none, placed_more, placed_all}
+use Rattle.pairs.proofs.PlaceLaws.{Placed}
 use Rattle.pairs.proofs.places.Given as goal
 
 abbrev pub invariant-loop-i : goal.invariant-loop-i

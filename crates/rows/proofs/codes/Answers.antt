@@ -1,4 +1,3 @@
-use borrow.Author.Rules.{rules}
 use Rattle.rows.proofs.ViewLaws.{codes_load}
 use Rattle.rows.proofs.codes.Goals as goal
 

@@ -1,5 +1,4 @@
 use Rattle.rows.proofs.ViewLaws.{clock_load}
-use borrow.Author.Rules.{rules}
 use Rattle.rows.proofs.load_clock.Goals as goal
 
 pub returns : goal.returns

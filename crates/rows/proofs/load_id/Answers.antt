@@ -1,5 +1,4 @@
 use mathlib.Core.Path.{ap}
-use borrow.Author.Rules.{rules}
 use Rattle.records.specs.declared.Peer.{Peer}
 use Rattle.rows.proofs.ViewLaws.{peer_load}
 use Rattle.rows.proofs.load_id.Goals as goal

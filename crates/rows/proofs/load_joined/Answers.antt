@@ -1,5 +1,4 @@
 use Rattle.rows.proofs.ViewLaws.{joined_load}
-use borrow.Author.Rules.{rules}
 use Rattle.rows.proofs.load_joined.Goals as goal
 
 pub returns : goal.returns

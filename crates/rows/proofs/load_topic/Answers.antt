@@ -1,6 +1,5 @@
 use mathlib.Core.Path.{◌∙◌}
 use Rattle.rows.proofs.ViewLaws.{topic_load}
-use borrow.Author.Rules.{rules}
 use Rattle.rows.proofs.load_topic.Goals as goal
 
 pub returns : goal.returns

@@ -1,5 +1,4 @@
 use Rattle.rows.proofs.ViewLaws.{clock_store}
-use borrow.Author.Rules.{rules}
 use Rattle.rows.proofs.store_clock.Goals as goal
 
 pub returns : goal.returns

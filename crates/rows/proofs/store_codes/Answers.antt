@@ -1,5 +1,4 @@
 use mathlib.Core.Path.{◌∙◌, ap}
-use borrow.Author.Rules.{rules}
 use Rattle.rows.specs.View.{state_of_rows}
 use Rattle.rows.proofs.ViewLaws.{codes_store}
 use Rattle.rows.proofs.store_codes.Goals as goal

@@ -1,5 +1,4 @@
 use Rattle.rows.proofs.ViewLaws.{joined_store}
-use borrow.Author.Rules.{rules}
 use Rattle.rows.proofs.store_joined.Goals as goal
 
 pub returns : goal.returns

@@ -1,5 +1,4 @@
 use Rattle.rows.proofs.ViewLaws.{setup_store}
-use borrow.Author.Rules.{rules}
 use Rattle.rows.proofs.store_setup.Goals as goal
 
 pub returns : goal.returns

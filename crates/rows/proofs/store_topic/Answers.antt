@@ -1,7 +1,6 @@
 use mathlib.Core.Path.{◌∙◌, ap}
 use Rattle.rows.specs.View.{state_of_rows, cells_of_topic}
 use Rattle.rows.proofs.ViewLaws.{topic_store}
-use borrow.Author.Rules.{rules}
 use Rattle.rows.proofs.store_topic.Goals as goal
 
 pub returns : goal.returns

@@ -1,4 +1,5 @@
-use Rattle.index.proofs.Kit.{◌-◌, ◌≤◌, true, every, every_none, every_more, ◌≡◌, arith, failed, passed}
+use mathlib.Core.Path.{sym, ◌∙◌}
+use Rattle.index.proofs.Kit.{◌-◌, ◌≤◌, true, every, every_none, every_more, ◌≡◌, arith}
 use Rattle.rpc.specs.Reading.{known}
 use Rattle.rpc_write.proofs.WriteLaws.{ok_at, list_many, list_short, list_bad, list_good}
 use Rattle.rpc_write.proofs.list_ok.Goals as goal
@@ -17,7 +18,7 @@ entry_ok-requires c = c.requires
 
 pub returns-then-not-entry_ok : goal.returns-then-not-entry_ok
 returns-then-not-entry_ok c =
-    let e = failed (c.entry_ok.ensures _) c.if-not-entry_ok.true in
+    let e = sym (c.entry_ok.ensures _) ∙ c.if-not-entry_ok.true in
     list_bad _ _ _ c.if-n-gt-MOST_ENTRIES.false
     c.if-list-n.false _ c.loop-i-test.true
     e
@@ -26,7 +27,7 @@ pub loop-i-preserved : goal.loop-i-preserved
 loop-i-preserved c = (
       omega arith,
       every_more _ _ c.loop-i.invariant.1
-          (passed (c.entry_ok.ensures _) c.if-not-entry_ok.false),
+          (sym (c.entry_ok.ensures _) ∙ c.if-not-entry_ok.false),
     )
 
 pub returns : goal.returns

@@ -1,55 +1,49 @@
 -- `rpc_write::write`: 2 of the table or the list, 13 by the sizes added up first, else the bytes one part after the other. Assumes nothing.
-use Rattle.index.proofs.Kit.{rules, failed, passed}
+use mathlib.Core.Path.{sym, ◌∙◌}
+use Rattle.index.proofs.Kit.{rules}
 use Rattle.message_ids.proofs.TableLaws.{table_parts}
 use Rattle.rpc_write.proofs.WriteLaws.{writes_no_table, writes_not, writes_short, writes_done}
 use Rattle.rpc_write.proofs.write.Goals as goal
 
 pub returns-then-not-table_ok : goal.returns-then-not-table_ok
-returns-then-not-table_ok c = writes_no_table _ _ _ _ _ (failed c.table_ok.ensures c.if-not-table_ok.true)
+returns-then-not-table_ok c = writes_no_table _ _ _ _ _ (sym c.table_ok.ensures ∙ c.if-not-table_ok.true)
 
 pub list_ok-requires : goal.list_ok-requires
-list_ok-requires c = (table_parts _ _ _ (passed c.table_ok.ensures c.if-not-table_ok.false)).1
+list_ok-requires c = (table_parts _ _ _ (sym c.table_ok.ensures ∙ c.if-not-table_ok.false)).1
 
 pub returns-then-not-list_ok : goal.returns-then-not-list_ok
-returns-then-not-list_ok c = writes_not _ _ _ _ _ (passed c.table_ok.ensures c.if-not-table_ok.false)
-    (failed c.list_ok.ensures c.if-not-list_ok.true)
+returns-then-not-list_ok c = writes_not _ _ _ _ _ (sym c.table_ok.ensures ∙ c.if-not-table_ok.false)
+    (sym c.list_ok.ensures ∙ c.if-not-list_ok.true)
 
 pub control_size-control-requires : goal.control_size-control-requires
 control_size-control-requires c = (
-      passed c.table_ok.ensures c.if-not-table_ok.false,
-      passed c.list_ok.ensures
-          c.if-not-list_ok.false,
+      sym c.table_ok.ensures ∙ c.if-not-table_ok.false,
+      sym c.list_ok.ensures ∙ c.if-not-list_ok.false,
     )
 
 pub message_size-requires : goal.message_size-requires
 message_size-requires c = (
       (
-        passed c.table_ok.ensures c.if-not-table_ok.false,
-        passed
-            c.list_ok.ensures c.if-not-list_ok.false,
+        sym c.table_ok.ensures ∙ c.if-not-table_ok.false,
+        sym c.list_ok.ensures ∙ c.if-not-list_ok.false,
       ),
       c.control_size-control.ensures,
     )
 
 pub returns-then-buf-message_size : goal.returns-then-buf-message_size
-returns-then-buf-message_size c = writes_short _ _ _ _ _ (passed c.table_ok.ensures
-    c.if-not-table_ok.false) (passed c.list_ok.ensures
-    c.if-not-list_ok.false) (rw c.message_size.ensures at c.if-buf-message_size.true)
+returns-then-buf-message_size c = writes_short _ _ _ _ _ (sym c.table_ok.ensures ∙ c.if-not-table_ok.false) (sym c.list_ok.ensures ∙ c.if-not-list_ok.false) (rw c.message_size.ensures at c.if-buf-message_size.true)
 
 pub put_message-requires : goal.put_message-requires
 put_message-requires c = (
       (
-        passed c.table_ok.ensures
-            c.if-not-table_ok.false,
-        passed c.list_ok.ensures
-            c.if-not-list_ok.false,
+        sym c.table_ok.ensures ∙ c.if-not-table_ok.false,
+        sym c.list_ok.ensures ∙ c.if-not-list_ok.false,
       ),
       c.control_size-control.ensures,
     )
 
 pub returns : goal.returns
-returns c = writes_done _ _ _ _ _ (passed c.table_ok.ensures c.if-not-table_ok.false)
-    (passed c.list_ok.ensures
-    c.if-not-list_ok.false) _ _
+returns c = writes_done _ _ _ _ _ (sym c.table_ok.ensures ∙ c.if-not-table_ok.false)
+    (sym c.list_ok.ensures ∙ c.if-not-list_ok.false) _ _
     (rw c.message_size.ensures at c.if-buf-message_size.false)
     c.put_message.ensures

@@ -1,12 +1,7 @@
-use Prim.Native.Nat.{◌-◌}
 use native.Mathlib.Omega.{arith}
-use mathlib.Core.Path.{◌≡◌, refl, ◌∙◌}
-use mathlib.Core.Bool.{false}
-use lib.ListN.{length, get_or}
-use lib.Dec.{leb}
-use Rattle.records.specs.Records.{slot_count}
+use mathlib.Core.Path.{refl, ◌∙◌}
 use Rattle.sets.specs.Sets.{from}
-use Rattle.index.proofs.Lists.{Built, built_none, built_more, built_done}
+use Rattle.index.proofs.Lists.{built_none, built_more, built_done}
 use Rattle.sets.proofs.WalkLaws.{from_at, from_length}
 use Rattle.sets.proofs.at_least.Goals as goal
 

@@ -1,11 +1,8 @@
-use Prim.Native.Nat.{◌-◌}
 use native.Mathlib.Omega.{arith}
 use borrow.Author.Rules.{rules}
-use mathlib.Core.Path.{◌≡◌, refl}
-use lib.ListN.{length, get_or}
-use lib.Bits.{bit_and}
+use mathlib.Core.Path.{refl}
 use Rattle.words.specs.Words.{word_count}
-use Rattle.index.proofs.Lists.{Built, built_none, built_more}
+use Rattle.index.proofs.Lists.{built_none, built_more}
 use Rattle.sets.proofs.WordSets.{both_words}
 use Rattle.sets.proofs.both.Goals as goal
 

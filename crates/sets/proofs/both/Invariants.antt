@@ -1,19 +1,12 @@
 -- `sets::both` meets its contract. The loop builds the words from the front.
 -- Assumes nothing.
-use Prim.Native.Nat.{◌-◌}
-use native.Mathlib.Omega.{arith}
-use borrow.Author.Rules.{rules}
-use mathlib.Core.Path.{◌≡◌, refl}
+use mathlib.Core.Path.{◌≡◌}
 use lib.ListN.{length, get_or}
 use lib.Bits.{bit_and}
 use Rattle.words.specs.Words.{word_count}
-use Rattle.index.proofs.Lists.{Built, built_none, built_more}
-use Rattle.sets.proofs.WordSets.{both_words}
+use Rattle.index.proofs.Lists.{Built}
 use Rattle.sets.proofs.both.Given as goal
 
 abbrev pub invariant-loop-i : goal.invariant-loop-i
 invariant-loop-i l =
     (length l.a ≡ word_count) × (length l.b ≡ word_count) × Built 0 (λ k. bit_and (get_or l.a k 0) (get_or l.b k 0)) word_count l.i l.r
-
-abbrev pub decreases-loop-i : goal.decreases-loop-i
-decreases-loop-i l = word_count - l.i

@@ -1,13 +1,11 @@
-use Prim.Native.Nat.{◌-◌, ◌^◌}
 use native.Mathlib.Omega.{arith}
 use mir.Syntax.{w64}
 use mir.Val.{Fits}
 use borrow.Author.Rules.{rules}
-use mathlib.Core.Path.{◌≡◌, refl}
-use lib.ListN.{length, get_or}
-use lib.Bits.{bit_and}
-use Rattle.words.specs.Words.{word_bits, word_count}
-use Rattle.index.proofs.Lists.{Built, built_none, built_more}
+use mathlib.Core.Path.{refl}
+use lib.ListN.{get_or}
+use Rattle.words.specs.Words.{word_count}
+use Rattle.index.proofs.Lists.{built_none, built_more}
 use Rattle.sets.proofs.WordSets.{except_words}
 use Rattle.sets.proofs.except.Goals as goal
 

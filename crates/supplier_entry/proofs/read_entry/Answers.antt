@@ -15,7 +15,7 @@ pub returns-then-kind-eq0 : goal.returns-then-kind-eq0
 returns-then-kind-eq0 c = entry_factor _ _ _ c.if-kind-eq0.true c.is_nan.ensures c.if-is_nan.false
 
 pub returns-then-kind-eq1 : goal.returns-then-kind-eq1
-returns-then-kind-eq1 c = entry_whole _ _ _ c.if-kind-eq1.true (to_z-of_z (sfits_of c.signed_of.type-inv) ∙ c.signed_of.ensures)
+returns-then-kind-eq1 c = entry_whole _ _ _ c.if-kind-eq1.true (to_z-of_z (sfits_of c.signed_of.type_inv) ∙ c.signed_of.ensures)
 
 pub returns-then-kind-eq2 : goal.returns-then-kind-eq2
 returns-then-kind-eq2 c = entry_span _ _ c.if-kind-eq2.true

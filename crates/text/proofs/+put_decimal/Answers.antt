@@ -1,5 +1,5 @@
 -- `text::put_decimal` meets its contract. The measure is the number. Assumes nothing.
-use Rattle.index.proofs.Kit.{ℕ, ◌<◌, arith}
+use Rattle.index.proofs.Kit.{arith}
 use lib.ListN.{length-set}
 use Rattle.text.proofs.TextLaws.{length_pos, length_more, stored_last, stored_more}
 use Rattle.text.proofs.+put_decimal.Goals as goal
@@ -21,17 +21,17 @@ put_decimal-last-requires t c = omega (arith, length_more c.args.n c.if-n-lt10.f
 
 pub bounds-buf-last : goal.bounds-buf-last
 bounds-buf-last t c = omega (
-      arith,
-      length_more c.args.n c.if-n-lt10.false,
-      c.put_decimal-last.auto.buf,
-    )
+  arith,
+  length_more c.args.n c.if-n-lt10.false,
+  c.put_decimal-last.auto.buf,
+)
 
 pub overflow_add-result-2 : goal.overflow_add-result-2
 overflow_add-result-2 t c = omega (
-      arith,
-      length_more c.args.n c.if-n-lt10.false,
-      c.put_decimal-last.auto.buf,
-    )
+  arith,
+  length_more c.args.n c.if-n-lt10.false,
+  c.put_decimal-last.auto.buf,
+)
 
 pub shape_of-buf : goal.shape_of-buf
 shape_of-buf t c = simp length-set c.put_decimal-last.auto.buf

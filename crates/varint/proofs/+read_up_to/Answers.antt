@@ -1,6 +1,5 @@
 -- `varint::read_up_to` meets its contract. The measure is what is left of the slice from `at` on. Assumes nothing.
-use Rattle.index.proofs.Kit.{ℕ, ◌<◌, ◌-◌, sym, arith}
-use lib.ListN.{length}
+use Rattle.index.proofs.Kit.{sym, arith}
 use Rattle.varint.proofs.GroupLaws.{read_at_end, last_is, more_is, small_is}
 use Rattle.varint.proofs.+read_up_to.Goals as goal
 
@@ -18,14 +17,14 @@ read_up_to-requires t c = (omega arith, tt)
 
 pub after_more-requires : goal.after_more-requires
 after_more-requires t c = (
-      omega arith,
-      omega (
-        arith,
-        c.wide-low.ensures,
-        c.type_inv.s
-            c.args.at,
-      ),
-    )
+  omega arith,
+  omega (
+    arith,
+    c.wide-low.ensures,
+    c.type_inv.s
+        c.args.at,
+  ),
+)
 
 pub returns : goal.returns
 returns t c = more_is _ _ _ _ _ _ c.after_more.ensures c.read_up_to.ensures c.wide-low.ensures

@@ -1,5 +1,5 @@
 -- `varint::write_u64` meets its contract. The measure is the number that is left to write. Assumes nothing.
-use Rattle.index.proofs.Kit.{ℕ, ◌<◌, arith, rules}
+use Rattle.index.proofs.Kit.{arith}
 use lib.ListN.{length-set}
 use Rattle.varint.proofs.GroupLaws.{left_end, left_last, left_full, left_more}
 use Rattle.varint.proofs.+write_u64.Goals as goal

@@ -1,5 +1,5 @@
 -- `varint::code_of` meets its contract.  Assumes nothing.
-use Rattle.index.proofs.Kit.{rules, arith, sym, ◌∙◌}
+use Rattle.index.proofs.Kit.{arith, sym, ◌∙◌}
 use mir.Facts.{to_z-of_z}
 use Rattle.varint.proofs.CodeLaws.{code_neg, code_pos}
 use Rattle.varint.proofs.code_of.Goals as goal

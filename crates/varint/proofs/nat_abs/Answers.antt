@@ -1,5 +1,5 @@
 -- `varint::nat_abs` meets its contract. Assumes nothing.
-use Rattle.index.proofs.Kit.{rules, arith, sym, ◌∙◌}
+use Rattle.index.proofs.Kit.{arith, sym, ◌∙◌}
 use mir.Facts.{to_z-of_z}
 use Rattle.varint.proofs.CodeLaws.{size_neg, size_pos}
 use Rattle.varint.proofs.nat_abs.Goals as goal

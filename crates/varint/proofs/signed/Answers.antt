@@ -1,5 +1,5 @@
 -- `varint::signed` meets its contract.  Assumes nothing.
-use Rattle.index.proofs.Kit.{rules, sym, ap, ◌∙◌, Bool}
+use Rattle.index.proofs.Kit.{sym, ap, ◌∙◌, Bool}
 use mir.Syntax.{w64}
 use mir.Facts.{to_z_pos}
 use Rattle.varint.specs.Codes.{signed_of}

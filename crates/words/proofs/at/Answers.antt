@@ -1,7 +1,6 @@
 -- `words::at` meets its contract.
 -- Assumes nothing.
 use native.Mathlib.Omega.{arith}
-use borrow.Author.Rules.{rules}
 use mathlib.Core.Path.{sym, ◌∙◌}
 use Rattle.words.proofs.WideLaws.{at_slot, at_past}
 use Rattle.words.proofs.at.Goals as goal

@@ -1,6 +1,5 @@
 -- `words::bit` meets its contract.
 -- Assumes nothing.
-use borrow.Author.Rules.{rules}
 use mathlib.Core.Path.{sym}
 use Rattle.words.specs.Words.{word_bits}
 use Rattle.words.proofs.BitLaws.{bits_at}

@@ -1,10 +1,7 @@
-use Prim.Native.Nat.{◌-◌}
 use native.Mathlib.Omega.{arith}
 use borrow.Author.Rules.{rules}
-use mathlib.Core.Path.{◌≡◌, refl}
-use lib.ListN.{length, get_or}
-use lib.Bits.{bit_xor}
-use Rattle.index.proofs.Lists.{Built, built_none, built_more}
+use mathlib.Core.Path.{refl}
+use Rattle.index.proofs.Lists.{built_none, built_more}
 use Rattle.words.specs.Words.{word_count}
 use Rattle.words.proofs.WideLaws.{differ_words}
 use Rattle.words.proofs.differ.Goals as goal

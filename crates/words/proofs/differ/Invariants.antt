@@ -1,14 +1,11 @@
 -- `words::differ` meets its contract. The loop builds the words from the front.
 -- Assumes nothing.
 use Prim.Native.Nat.{◌-◌}
-use native.Mathlib.Omega.{arith}
-use borrow.Author.Rules.{rules}
-use mathlib.Core.Path.{◌≡◌, refl}
+use mathlib.Core.Path.{◌≡◌}
 use lib.ListN.{length, get_or}
 use lib.Bits.{bit_xor}
-use Rattle.index.proofs.Lists.{Built, built_none, built_more}
+use Rattle.index.proofs.Lists.{Built}
 use Rattle.words.specs.Words.{word_count}
-use Rattle.words.proofs.WideLaws.{differ_words}
 use Rattle.words.proofs.differ.Given as goal
 
 abbrev pub invariant-loop-i : goal.invariant-loop-i

@@ -1,14 +1,14 @@
-use Prim.Native.Nat.{◌+◌, ◌*◌, ◌-◌, ◌≤◌}
+use Prim.Native.Nat.{◌+◌, ◌*◌}
 use native.Mathlib.Omega.{arith}
 use mir.Syntax.{w64}
 use mir.Val.{Fits}
 use borrow.Author.Rules.{rules}
-use mathlib.Core.Path.{◌≡◌, refl, ap, ◌∙◌}
-use lib.ListN.{length, get_or}
+use mathlib.Core.Path.{refl, ap, ◌∙◌}
+use lib.ListN.{get_or}
 use lib.Count.{trailing_le}
-use Rattle.words.specs.Words.{word_bits, word_count}
+use Rattle.words.specs.Words.{word_bits}
 use Rattle.words.proofs.BitLaws.{bits_lowest}
-use Rattle.words.proofs.WideLaws.{Passed, passed_none, passed_zero, passed_hit, passed_all}
+use Rattle.words.proofs.WideLaws.{passed_none, passed_zero, passed_hit, passed_all}
 use Rattle.words.proofs.lowest.Goals as goal
 
 pub loop-i-init : goal.loop-i-init

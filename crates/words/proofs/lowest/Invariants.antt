@@ -1,16 +1,10 @@
 -- `words::lowest` meets its contract. The words passed are 0.
 -- Assumes nothing.
-use Prim.Native.Nat.{◌+◌, ◌*◌, ◌-◌, ◌≤◌}
-use native.Mathlib.Omega.{arith}
-use mir.Syntax.{w64}
-use mir.Val.{Fits}
-use borrow.Author.Rules.{rules}
-use mathlib.Core.Path.{◌≡◌, refl, ap, ◌∙◌}
-use lib.ListN.{length, get_or}
-use lib.Count.{trailing_le}
-use Rattle.words.specs.Words.{word_bits, word_count}
-use Rattle.words.proofs.BitLaws.{bits_lowest}
-use Rattle.words.proofs.WideLaws.{Passed, passed_none, passed_zero, passed_hit, passed_all}
+use Prim.Native.Nat.{◌-◌, ◌≤◌}
+use mathlib.Core.Path.{◌≡◌}
+use lib.ListN.{length}
+use Rattle.words.specs.Words.{word_count}
+use Rattle.words.proofs.WideLaws.{Passed}
 use Rattle.words.proofs.lowest.Given as goal
 
 abbrev pub invariant-loop-i : goal.invariant-loop-i

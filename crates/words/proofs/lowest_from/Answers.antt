@@ -1,11 +1,11 @@
-use Prim.Native.Nat.{◌+◌, ◌*◌, ◌-◌, ◌≤◌}
+use Prim.Native.Nat.{◌+◌, ◌*◌}
 use native.Mathlib.Omega.{arith}
-use mathlib.Core.Path.{◌≡◌, ap}
-use lib.ListN.{length, get_or}
+use mathlib.Core.Path.{ap}
+use lib.ListN.{get_or}
 use lib.Count.{trailing_le}
-use Rattle.words.specs.Words.{word_bits, word_count, bits_of}
+use Rattle.words.specs.Words.{word_bits, bits_of}
 use Rattle.words.proofs.BitLaws.{bits_lowest}
-use Rattle.words.proofs.NextLaws.{Clear, clear_more, hit_first, next_after, next_end}
+use Rattle.words.proofs.NextLaws.{clear_more, hit_first, next_after, next_end}
 use Rattle.words.proofs.lowest_from.Goals as goal
 
 pub loop-k-init : goal.loop-k-init
@@ -13,15 +13,15 @@ loop-k-init c = (omega arith, omega (arith, c.requires.1), c.requires.0, λ s l 
 
 pub overflow_cast-result : goal.overflow_cast-result
 overflow_cast-result c = omega (
-      arith,
-      trailing_le word_bits (get_or c.args.m.now c.loop-k.k 0),
-    )
+  arith,
+  trailing_le word_bits (get_or c.args.m.now c.loop-k.k 0),
+)
 
 pub overflow_add-result : goal.overflow_add-result
 overflow_add-result c = omega (
-      arith,
-      trailing_le word_bits (get_or c.args.m.now c.loop-k.k 0),
-    )
+  arith,
+  trailing_le word_bits (get_or c.args.m.now c.loop-k.k 0),
+)
 
 pub returns-then-w-ne0 : goal.returns-then-w-ne0
 returns-then-w-ne0 c =

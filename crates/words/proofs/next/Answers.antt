@@ -1,7 +1,6 @@
 -- `words::next`: in the word where it starts, or in a later one.
 use Prim.Native.Nat.{◌+◌, ◌/◌, ◌%◌, ◌^◌}
 use native.Mathlib.Omega.{arith}
-use borrow.Author.Rules.{rules}
 use mathlib.Core.Path.{ap}
 use lib.ListN.{get_or}
 use lib.Count.{trailing_le}

@@ -1,9 +1,9 @@
-use Prim.Native.Nat.{ℕ, ◌*◌, ◌-◌, ◌≤◌}
+use Prim.Native.Nat.{ℕ, ◌*◌}
 use native.Mathlib.Omega.{arith}
 use borrow.Author.Rules.{rules}
 use mathlib.Core.Path.{◌≡◌, sym, ap, ◌∙◌}
 use mathlib.Core.Bool.{false}
-use lib.ListN.{length, get_or}
+use lib.ListN.{get_or}
 use Rattle.index.specs.Index.{count}
 use Rattle.index.proofs.Index.{count_none, count_bound}
 use Rattle.words.specs.Words.{word_bits, word_count, bits, bits_of}

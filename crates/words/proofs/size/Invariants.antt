@@ -1,15 +1,11 @@
 -- `words::size` meets its contract. n counts the slots of the words passed.
 -- Assumes nothing.
-use Prim.Native.Nat.{ℕ, ◌*◌, ◌-◌, ◌≤◌}
-use native.Mathlib.Omega.{arith}
-use borrow.Author.Rules.{rules}
-use mathlib.Core.Path.{◌≡◌, sym, ap, ◌∙◌}
+use Prim.Native.Nat.{◌*◌, ◌-◌, ◌≤◌}
+use mathlib.Core.Path.{◌≡◌}
 use mathlib.Core.Bool.{false}
 use lib.ListN.{length, get_or}
 use Rattle.index.specs.Index.{count}
-use Rattle.index.proofs.Index.{count_none, count_bound}
-use Rattle.words.specs.Words.{word_bits, word_count, bits, bits_of}
-use Rattle.words.proofs.WideLaws.{count_word}
+use Rattle.words.specs.Words.{word_bits, word_count, bits_of}
 use Rattle.words.proofs.size.Given as goal
 
 abbrev pub invariant-loop-i : goal.invariant-loop-i

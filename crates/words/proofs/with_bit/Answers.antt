@@ -1,6 +1,5 @@
 -- `words::with_bit` meets its contract.
 -- Assumes nothing.
-use borrow.Author.Rules.{rules}
 use native.Mathlib.Omega.{arith}
 use Rattle.words.specs.Words.{word_bits}
 use Rattle.words.proofs.BitLaws.{word_put, word_drop}

@@ -1,13 +1,12 @@
-use Prim.Native.Nat.{◌-◌, ◌≤◌}
 use native.Mathlib.Omega.{arith}
 use mir.Syntax.{w64}
 use mir.Val.{Fits}
 use borrow.Author.Rules.{rules}
-use mathlib.Core.Path.{◌≡◌, refl, sym}
+use mathlib.Core.Path.{refl, sym}
 use mathlib.Core.Bool.{false}
-use lib.ListN.{length, get_or}
-use Rattle.words.specs.Words.{word_count, bits_of, lowest}
-use Rattle.words.proofs.WideLaws.{Passed, passed_none, passed_zero, cleared_hit, passed_all, set_past}
+use lib.ListN.{get_or}
+use Rattle.words.specs.Words.{bits_of, lowest}
+use Rattle.words.proofs.WideLaws.{passed_none, passed_zero, cleared_hit, passed_all, set_past}
 use Rattle.words.proofs.without_lowest.Goals as goal
 
 pub loop-i-init : goal.loop-i-init

@@ -17,6 +17,3 @@ invariant-loop-i l =
     × (length l.p ≡ word_count)
     × (length l.r ≡ word_count)
     × Walk (state_of l.table) l.time l.topic l.least (bits_of l.p) l.order l.initial.room (bits_of l.initial.r) l.initial.heights l.i l.room (bits_of l.r) l.heights
-
-abbrev pub decreases-loop-i : goal.decreases-loop-i
-decreases-loop-i l = length l.order - l.i

@@ -24,6 +24,3 @@ invariant-loop-i l =
     × (l.k + length (actions_on l.kind (bits_of l.p) (drop l.i l.order)) ≡ l.n + length (actions_on l.kind (bits_of l.p) l.order))
     × (sets l.actions (3 * l.k) (numbers_of (ids_in (state_of l.table)) (told_by (state_of l.table) l.seconds) (actions_on l.kind (bits_of l.p) (drop l.i l.order)))
     ≡ sets l.initial.actions (3 * l.n) (numbers_of (ids_in (state_of l.table)) (told_by (state_of l.table) l.seconds) (actions_on l.kind (bits_of l.p) l.order)))
-
-abbrev pub decreases-loop-i : goal.decreases-loop-i
-decreases-loop-i l = length l.order - l.i

@@ -2,7 +2,6 @@
 use lib.ListN.{length-set}
 use native.Mathlib.Omega.{arith}
 use native.Mathlib.Numerals.{add-one, add-two}
-use borrow.Author.Rules.{rules}
 use Rattle.mesh.proofs.actions.put.Goals as goal
 
 pub bounds-actions-at-2 : goal.bounds-actions-at-2

@@ -1,6 +1,5 @@
 -- `mesh::still::is_still`: the numbers' tests, then step 5's.
 use mathlib.Core.Path.{refl}
-use borrow.Author.Tests.{not-true, not-false}
 use Rattle.words.specs.Words.{bits_of}
 use Rattle.mesh.proofs.StillLaws.{still_not, still_is}
 use Rattle.mesh.proofs.still.is_still.Goals as goal
@@ -11,7 +10,7 @@ returns-then-not-enough c =
     c.both.ensures
     c.size-outs.ensures
     refl
-    (not-true _ c.if-not-enough.true)
+    c.if-not-enough.true
 
 pub is_low-requires : goal.is_low-requires
 is_low-requires c = c.requires
@@ -22,5 +21,5 @@ returns c =
     c.both.ensures
     c.size-outs.ensures
     refl
-    (not-false _ c.if-not-enough.false)
+    c.if-not-enough.false
     c.is_low.ensures

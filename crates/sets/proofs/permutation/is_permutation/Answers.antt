@@ -1,16 +1,16 @@
-use Prim.Native.Nat.{ℕ, ◌+◌, ◌-◌, ◌≤◌}
+use Prim.Native.Nat.{ℕ, ◌+◌}
 use native.Mathlib.Omega.{arith}
 use borrow.Author.Rules.{rules}
-use mathlib.Core.Path.{◌≡◌, refl, sym, ap, ◌∙◌}
-use mathlib.Core.Bool.{Bool, true, false}
+use mathlib.Core.Path.{refl, sym, ap, ◌∙◌}
+use mathlib.Core.Bool.{Bool, true}
 use mathlib.Core.List.{List}
-use mathlib.Core.Logic.{⊎_elim}
-use lib.ListN.{length, drop, get_or, length-set, replicate}
+use lib.ListN.{length, drop, get_or, length-set}
 use lib.Seq.{set_out}
 use lib.Dec.{eqb}
 use Rattle.records.specs.Records.{slot_count}
 use Rattle.sets.specs.Sets.{size}
 use Rattle.sets.proofs.PermutationLaws.{not_long, marked, marked_step, marked_end, marked_permutation}
+use Rattle.sets.proofs.permutation.is_permutation.Goals.{then-s, else-s}
 use Rattle.sets.proofs.permutation.is_permutation.Goals as goal
 
 pub returns-then-p-ne-SLOTS : goal.returns-then-p-ne-SLOTS
@@ -26,15 +26,15 @@ loop-i-preserved c =
     let s = get_or p l.i 0 in
     let rest : List Bool → List Bool = marked (drop (l.i + 1) p) in
     let step = sym (marked_step p l.i l.seen (omega arith)) ∙ l.invariant.3 in
-    ⊎_elim
-    (λ w. (omega arith, l.invariant.1, ap length w.1 ∙ length-set l.seen s true ∙ l.invariant.2, ap rest w.1 ∙ step))
-    (λ w. (
-      omega arith,
-      l.invariant.1,
-      ap length w.1 ∙ l.invariant.2,
-      ap rest (w.1 ∙ sym (set_out l.seen s true (omega arith))) ∙ step,
-    ))
-    c.if-s.branch
+    elim c.if-s.branch [
+      | then-s w ↦ (omega arith, l.invariant.1, ap length w.seen-is ∙ length-set l.seen s true ∙ l.invariant.2, ap rest w.seen-is ∙ step)
+      | else-s w ↦ (
+        omega arith,
+        l.invariant.1,
+        ap length w.seen-is ∙ l.invariant.2,
+        ap rest (w.seen-is ∙ sym (set_out l.seen s true (omega arith))) ∙ step,
+      )
+    ]
 
 pub returns : goal.returns
 returns c =

@@ -1,13 +1,8 @@
-use Prim.Native.Nat.{◌+◌, ◌-◌, ◌≤◌}
 use native.Mathlib.Omega.{arith}
 use borrow.Author.Rules.{rules}
-use mathlib.Core.Path.{◌≡◌}
 use mathlib.Core.Bool.{true, false}
-use mathlib.Core.Logic.{⊎_elim}
-use lib.ListN.{length, drop}
-use Rattle.records.specs.Records.{slot_count}
-use Rattle.sets.specs.Sets.{size}
 use Rattle.sets.proofs.WalkLaws.{size_step, size_end}
+use Rattle.sets.proofs.permutation.marks.Goals.{then-m-i, else-m-i}
 use Rattle.sets.proofs.permutation.marks.Goals as goal
 
 pub loop-i-init : goal.loop-i-init
@@ -17,10 +12,10 @@ pub loop-i-preserved : goal.loop-i-preserved
 loop-i-preserved c =
     let m = c.args.m in
     let l = c.loop-i in
-    ⊎_elim
-    (λ w. let e = size_step m l.i (omega arith) true w.0.taken in (omega arith, l.invariant.1, omega arith, omega arith))
-    (λ w. let e = size_step m l.i (omega arith) false w.0.left in (omega arith, l.invariant.1, omega arith, omega arith))
-    c.if-m-i.branch
+    elim c.if-m-i.branch [
+      | then-m-i w ↦ (let e = size_step m l.i (omega arith) true w.if-m-i.true in (omega arith, l.invariant.1, omega arith, omega arith))
+      | else-m-i w ↦ (let e = size_step m l.i (omega arith) false w.if-m-i.false in (omega arith, l.invariant.1, omega arith, omega arith))
+    ]
 
 pub returns : goal.returns
 returns c =

@@ -1,14 +1,13 @@
-use Prim.Native.Nat.{ℕ, ◌+◌, ◌-◌, ◌≤◌, ◌<◌}
+use Prim.Native.Nat.{ℕ, ◌+◌, ◌<◌}
 use native.Mathlib.Omega.{arith}
-use borrow.Author.Rules.{rules}
-use mathlib.Core.Path.{◌≡◌, refl, sym, ap, ◌∙◌}
+use mathlib.Core.Path.{refl, sym, ap, ◌∙◌}
 use mathlib.Core.Bool.{true, false}
-use mathlib.Core.Logic.{⊎_elim}
 use lib.ListN.{length, drop}
 use Rattle.records.specs.Records.{slot_count}
 use Rattle.words.specs.Words.{bits_of}
 use Rattle.sets.specs.Sets.{bottom}
 use Rattle.sets.proofs.WalkLaws.{bottom_step, bottom_end}
+use Rattle.sets.proofs.walks.bottom.Goals.{then-sinks, else-sinks}
 use Rattle.sets.proofs.walks.bottom.Goals as goal
 
 pub loop-i-init : goal.loop-i-init
@@ -24,18 +23,18 @@ loop-i-preserved c =
     let rest : ℕ → ℕ = λ s. bottom slot_count scores p (drop (l.i + 1) order) s in
     let lt : l.i < length order = omega arith in
     let e = c.sinks.ensures in
-    ⊎_elim
-    (λ w. (
-      omega arith,
-      refl,
-      ap rest w.1 ∙ sym (bottom_step p order l.i lt true slot_count scores l.low (sym e ∙ w.0.taken)) ∙ l.invariant.2,
-    ))
-    (λ w. (
-      omega arith,
-      refl,
-      ap rest w.1 ∙ sym (bottom_step p order l.i lt false slot_count scores l.low (sym e ∙ w.0.left)) ∙ l.invariant.2,
-    ))
-    c.if-sinks.branch
+    elim c.if-sinks.branch [
+      | then-sinks w ↦ (
+        omega arith,
+        refl,
+        ap rest w.low-is ∙ sym (bottom_step p order l.i lt true slot_count scores l.low (sym e ∙ w.if-sinks.true)) ∙ l.invariant.2,
+      )
+      | else-sinks w ↦ (
+        omega arith,
+        refl,
+        ap rest w.low-is ∙ sym (bottom_step p order l.i lt false slot_count scores l.low (sym e ∙ w.if-sinks.false)) ∙ l.invariant.2,
+      )
+    ]
 
 pub returns : goal.returns
 returns c =

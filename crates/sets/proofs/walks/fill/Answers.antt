@@ -1,15 +1,15 @@
-use Prim.Native.Nat.{ℕ, ◌+◌, ◌-◌, ◌≤◌, ◌<◌}
+use Prim.Native.Nat.{ℕ, ◌+◌, ◌<◌}
 use native.Mathlib.Omega.{arith}
 use borrow.Author.Rules.{rules}
 use mathlib.Core.Path.{◌≡◌, refl, sym, ap, ap₂, ◌∙◌}
 use mathlib.Core.Bool.{Bool, true, false}
 use mathlib.Core.List.{List}
-use mathlib.Core.Logic.{⊎_elim}
 use lib.ListN.{length, drop, get_or}
 use Rattle.words.specs.Words.{word_count, bits_of}
 use Rattle.sets.specs.Sets.{fill}
 use Rattle.sets.proofs.WalkLaws.{takes_room, fill_step, fill_end}
 use Rattle.sets.proofs.CountLaws.{fill_zero}
+use Rattle.sets.proofs.walks.fill.Goals.{then-takes, else-takes}
 use Rattle.sets.proofs.walks.fill.Goals as goal
 
 pub loop-i-init : goal.loop-i-init
@@ -40,24 +40,24 @@ loop-i-preserved c =
     let rest : ℕ → List Bool → List Bool = λ k m. fill p k (drop (l.i + 1) order) m in
     let lt : l.i < length order = omega arith in
     let e = c.takes.ensures in
-    ⊎_elim
-    (λ w. (
-      omega arith,
-      refl,
-      ap₂ rest w.3 (ap bits_of w.2 ∙ w.1.ensures)
-          ∙ sym (fill_step p order l.i lt true l.room (bits_of l.r) (sym e ∙ w.0.taken))
-          ∙ l.invariant.2,
-      (let q : length w.1.result ≡ word_count = search rules in ap length w.2 ∙ q),
-    ))
-    (λ w. (
-      omega arith,
-      refl,
-      ap₂ rest w.2 (ap bits_of w.1)
-          ∙ sym (fill_step p order l.i lt false l.room (bits_of l.r) (sym e ∙ w.0.left))
-          ∙ l.invariant.2,
-      ap length w.1 ∙ l.invariant.3,
-    ))
-    c.if-takes.branch
+    elim c.if-takes.branch [
+      | then-takes w ↦ (
+        omega arith,
+        refl,
+        ap₂ rest w.room-is (ap bits_of w.r-is ∙ w.put-r.ensures)
+            ∙ sym (fill_step p order l.i lt true l.room (bits_of l.r) (sym e ∙ w.if-takes.true))
+            ∙ l.invariant.2,
+        (let q : length w.put-r.result ≡ word_count = search rules in ap length w.r-is ∙ q),
+      )
+      | else-takes w ↦ (
+        omega arith,
+        refl,
+        ap₂ rest w.room-is (ap bits_of w.r-is)
+            ∙ sym (fill_step p order l.i lt false l.room (bits_of l.r) (sym e ∙ w.if-takes.false))
+            ∙ l.invariant.2,
+        ap length w.r-is ∙ l.invariant.3,
+      )
+    ]
 
 pub returns : goal.returns
 returns c =

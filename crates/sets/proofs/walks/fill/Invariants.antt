@@ -1,17 +1,10 @@
 -- `sets::walks::fill` meets its contract. The loop has the rest of the walk still to do.
 -- Assumes nothing.
-use Prim.Native.Nat.{ℕ, ◌+◌, ◌-◌, ◌≤◌, ◌<◌}
-use native.Mathlib.Omega.{arith}
-use borrow.Author.Rules.{rules}
-use mathlib.Core.Path.{◌≡◌, refl, sym, ap, ap₂, ◌∙◌}
-use mathlib.Core.Bool.{Bool, true, false}
-use mathlib.Core.List.{List}
-use mathlib.Core.Logic.{⊎_elim}
-use lib.ListN.{length, drop, get_or}
+use Prim.Native.Nat.{◌≤◌}
+use mathlib.Core.Path.{◌≡◌}
+use lib.ListN.{length, drop}
 use Rattle.words.specs.Words.{word_count, bits_of}
 use Rattle.sets.specs.Sets.{fill}
-use Rattle.sets.proofs.WalkLaws.{takes_room, fill_step, fill_end}
-use Rattle.sets.proofs.CountLaws.{fill_zero}
 use Rattle.sets.proofs.walks.fill.Given as goal
 
 abbrev pub invariant-loop-i : goal.invariant-loop-i
@@ -20,6 +13,3 @@ invariant-loop-i l =
     × (l.i-end ≡ length l.order)
     × (fill (bits_of l.p) l.room (drop l.i l.order) (bits_of l.r) ≡ fill (bits_of l.p) l.initial.room l.order (bits_of l.initial.r))
     × (length l.r ≡ word_count)
-
-abbrev pub decreases-loop-i : goal.decreases-loop-i
-decreases-loop-i l = length l.order - l.i

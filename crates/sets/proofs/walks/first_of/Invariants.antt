@@ -1,15 +1,11 @@
 -- `sets::walks::first_of` meets its contract. The loop has the rest of the walk still to do.
 -- Assumes nothing.
-use Prim.Native.Nat.{◌-◌, ◌≤◌}
-use native.Mathlib.Omega.{arith}
-use borrow.Author.Rules.{rules}
-use mathlib.Core.Path.{◌≡◌, refl, sym, ◌∙◌}
-use mathlib.Core.Bool.{true, false}
+use Prim.Native.Nat.{◌≤◌}
+use mathlib.Core.Path.{◌≡◌}
 use lib.ListN.{length, drop}
 use Rattle.records.specs.Records.{slot_count}
 use Rattle.words.specs.Words.{bits_of}
 use Rattle.sets.specs.Sets.{first_of}
-use Rattle.sets.proofs.WalkLaws.{first_step, first_end}
 use Rattle.sets.proofs.walks.first_of.Given as goal
 
 abbrev pub invariant-loop-i : goal.invariant-loop-i
@@ -17,6 +13,3 @@ invariant-loop-i l =
     (l.i ≤ length l.order)
     × (l.i-end ≡ length l.order)
     × (first_of (bits_of l.p) (drop l.i l.order) slot_count ≡ first_of (bits_of l.p) l.order slot_count)
-
-abbrev pub decreases-loop-i : goal.decreases-loop-i
-decreases-loop-i l = length l.order - l.i

@@ -1,14 +1,12 @@
-use Prim.Native.Nat.{ℕ, ◌+◌, ◌-◌, ◌≤◌, ◌<◌}
+use Prim.Native.Nat.{ℕ, ◌+◌, ◌<◌}
 use native.Mathlib.Omega.{arith}
-use borrow.Author.Rules.{rules}
-use mathlib.Core.Path.{◌≡◌, refl, sym, ap, ◌∙◌}
+use mathlib.Core.Path.{refl, sym, ap, ◌∙◌}
 use mathlib.Core.Bool.{true, false}
-use mathlib.Core.Logic.{⊎_elim}
 use lib.ListN.{length, drop}
-use Rattle.records.specs.Records.{slot_count}
 use Rattle.words.specs.Words.{bits_of}
 use Rattle.sets.specs.Sets.{last_of}
 use Rattle.sets.proofs.WalkLaws.{last_step, last_end}
+use Rattle.sets.proofs.walks.last_of.Goals.{then-at, else-at}
 use Rattle.sets.proofs.walks.last_of.Goals as goal
 
 pub loop-i-init : goal.loop-i-init
@@ -23,18 +21,18 @@ loop-i-preserved c =
     let rest : ℕ → ℕ = λ s. last_of p (drop (l.i + 1) order) s in
     let lt : l.i < length order = omega arith in
     let e = c.at.ensures in
-    ⊎_elim
-    (λ w. (
-      omega arith,
-      refl,
-      ap rest w.1 ∙ sym (last_step p order l.i lt true l.last (sym e ∙ w.0.taken)) ∙ l.invariant.2,
-    ))
-    (λ w. (
-      omega arith,
-      refl,
-      ap rest w.1 ∙ sym (last_step p order l.i lt false l.last (sym e ∙ w.0.left)) ∙ l.invariant.2,
-    ))
-    c.if-at.branch
+    elim c.if-at.branch [
+      | then-at w ↦ (
+        omega arith,
+        refl,
+        ap rest w.last-is ∙ sym (last_step p order l.i lt true l.last (sym e ∙ w.if-at.true)) ∙ l.invariant.2,
+      )
+      | else-at w ↦ (
+        omega arith,
+        refl,
+        ap rest w.last-is ∙ sym (last_step p order l.i lt false l.last (sym e ∙ w.if-at.false)) ∙ l.invariant.2,
+      )
+    ]
 
 pub returns : goal.returns
 returns c =

@@ -1,16 +1,11 @@
 -- `sets::walks::last_of` meets its contract. The loop has the rest of the walk still to do.
 -- Assumes nothing.
-use Prim.Native.Nat.{ℕ, ◌+◌, ◌-◌, ◌≤◌, ◌<◌}
-use native.Mathlib.Omega.{arith}
-use borrow.Author.Rules.{rules}
-use mathlib.Core.Path.{◌≡◌, refl, sym, ap, ◌∙◌}
-use mathlib.Core.Bool.{true, false}
-use mathlib.Core.Logic.{⊎_elim}
+use Prim.Native.Nat.{◌≤◌}
+use mathlib.Core.Path.{◌≡◌}
 use lib.ListN.{length, drop}
 use Rattle.records.specs.Records.{slot_count}
 use Rattle.words.specs.Words.{bits_of}
 use Rattle.sets.specs.Sets.{last_of}
-use Rattle.sets.proofs.WalkLaws.{last_step, last_end}
 use Rattle.sets.proofs.walks.last_of.Given as goal
 
 abbrev pub invariant-loop-i : goal.invariant-loop-i
@@ -18,6 +13,3 @@ invariant-loop-i l =
     (l.i ≤ length l.order)
     × (l.i-end ≡ length l.order)
     × (last_of (bits_of l.p) (drop l.i l.order) l.last ≡ last_of (bits_of l.p) l.order slot_count)
-
-abbrev pub decreases-loop-i : goal.decreases-loop-i
-decreases-loop-i l = length l.order - l.i

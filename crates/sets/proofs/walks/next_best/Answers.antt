@@ -1,6 +1,5 @@
 -- `sets::walks::next_best` meets its contract.
 -- Assumes nothing.
-use borrow.Author.Rules.{rules}
 use Rattle.sets.proofs.walks.next_best.Goals as goal
 
 pub returns : goal.returns

@@ -1,13 +1,9 @@
 -- `sets::walks::swap_to` meets its contract. The loop has the swaps that are left still to make.
 -- Assumes nothing.
-use Prim.Native.Nat.{◌-◌, ◌≤◌, ◌<◌}
-use native.Mathlib.Omega.{arith}
-use mathlib.Core.Path.{◌≡◌, refl, sym, ap, ◌∙◌}
+use mathlib.Core.Path.{◌≡◌}
 use Rattle.records.specs.Records.{slot_count}
 use Rattle.words.specs.Words.{bits_of}
-use Rattle.sets.specs.Sets.{size, both, except, comers, swap_to}
-use Rattle.sets.proofs.WalkLaws.{swap_end, swap_enough, swap_none, swap_kept, swap_go}
-use Rattle.sets.proofs.SwapLaws.{comers_is, once_is}
+use Rattle.sets.specs.Sets.{swap_to}
 use Rattle.sets.proofs.walks.swap_to.Given as goal
 
 abbrev pub invariant-loop-left : goal.invariant-loop-left

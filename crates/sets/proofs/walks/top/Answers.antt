@@ -1,13 +1,13 @@
-use Prim.Native.Nat.{ℕ, ◌+◌, ◌-◌, ◌≤◌, ◌<◌}
+use Prim.Native.Nat.{ℕ, ◌+◌, ◌<◌}
 use native.Mathlib.Omega.{arith}
-use mathlib.Core.Path.{◌≡◌, refl, sym, ap, ◌∙◌}
+use mathlib.Core.Path.{refl, sym, ap, ◌∙◌}
 use mathlib.Core.Bool.{true, false}
-use mathlib.Core.Logic.{⊎_elim}
 use lib.ListN.{length, get_or, drop}
 use Rattle.records.specs.Records.{slot_count}
 use Rattle.words.specs.Words.{bits_of}
 use Rattle.sets.specs.Sets.{top}
 use Rattle.sets.proofs.WalkLaws.{beats_by, top_step, top_end}
+use Rattle.sets.proofs.walks.top.Goals.{then-at-best, else-at-best}
 use Rattle.sets.proofs.walks.top.Goals as goal
 
 pub loop-i-init : goal.loop-i-init
@@ -25,20 +25,20 @@ loop-i-preserved c =
     let rest : ℕ → ℕ = top slot_count scores p (drop (l.i + 1) order) in
     let lt : l.i < length order = omega arith in
     let e = beats_by slot_count scores p l.best s c.at.ensures score.ensures l.invariant.3 in
-    ⊎_elim
-    (λ w. (
-      omega arith,
-      refl,
-      ap rest w.1 ∙ sym (top_step p order l.i lt true slot_count scores l.best (e ∙ w.0.taken)) ∙ l.invariant.2,
-      w.2 ∙ score.ensures ∙ ap (λ (k : ℕ). get_or scores k 0) (sym w.1),
-    ))
-    (λ w. (
-      omega arith,
-      refl,
-      ap rest w.1 ∙ sym (top_step p order l.i lt false slot_count scores l.best (e ∙ w.0.left)) ∙ l.invariant.2,
-      w.2 ∙ l.invariant.3 ∙ ap (λ (k : ℕ). get_or scores k 0) (sym w.1),
-    ))
-    c.if-at-best.branch
+    elim c.if-at-best.branch [
+      | then-at-best w ↦ (
+        omega arith,
+        refl,
+        ap rest w.best-is ∙ sym (top_step p order l.i lt true slot_count scores l.best (e ∙ w.if-at-best.true)) ∙ l.invariant.2,
+        w.high-is ∙ score.ensures ∙ ap (λ (k : ℕ). get_or scores k 0) (sym w.best-is),
+      )
+      | else-at-best w ↦ (
+        omega arith,
+        refl,
+        ap rest w.best-is ∙ sym (top_step p order l.i lt false slot_count scores l.best (e ∙ w.if-at-best.false)) ∙ l.invariant.2,
+        w.high-is ∙ l.invariant.3 ∙ ap (λ (k : ℕ). get_or scores k 0) (sym w.best-is),
+      )
+    ]
 
 pub returns : goal.returns
 returns c =

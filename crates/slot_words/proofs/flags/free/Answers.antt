@@ -1,4 +1,3 @@
-use borrow.Author.Rules.{rules}
 use mathlib.Core.Path.{refl}
 use Rattle.slot_words.proofs.FlagLaws.{free_told}
 use Rattle.slot_words.proofs.flags.free.Goals as goal

@@ -1,6 +1,5 @@
 use Prim.Native.Nat.{max}
 use mathlib.Core.Path.{ap₂, ◌∙◌}
-use borrow.Author.Rules.{rules}
 use Rattle.slot_words.proofs.flags.held.Goals as goal
 
 pub returns : goal.returns

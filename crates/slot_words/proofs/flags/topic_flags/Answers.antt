@@ -1,6 +1,5 @@
 -- `slot_words::flags::topic_flags`: each test on whole words is one on every slot's bit.
 use Rattle.slot_words.proofs.FlagLaws.{topic_told}
-use borrow.Author.Rules.{rules}
 use Rattle.slot_words.proofs.flags.topic_flags.Goals as goal
 
 pub returns : goal.returns

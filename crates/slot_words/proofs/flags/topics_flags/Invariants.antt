@@ -1,12 +1,7 @@
 use Prim.Native.Nat.{ℕ, ◌-◌, ◌≤◌, ◌<◌}
-use borrow.Author.Rules.{rules}
-use native.Mathlib.Omega.{arith}
-use mathlib.Core.Path.{refl}
-use Rattle.index.proofs.Flags.{passed}
 use Rattle.records.specs.Records.{topic_count}
 use Rattle.layout.specs.View.{state_of}
 use Rattle.slot_words.specs.Flags.{TopicFlags}
-use Rattle.slot_words.proofs.WalkLaws.{up_none, up_more, refused}
 use Rattle.slot_words.proofs.flags.topics_flags.Given as goal
 
 abbrev pub invariant-loop-t : goal.invariant-loop-t

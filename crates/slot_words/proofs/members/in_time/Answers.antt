@@ -1,4 +1,3 @@
-use borrow.Author.Rules.{rules}
 use native.Mathlib.Omega.{arith}
 use Rattle.slot_words.proofs.FlagLaws.{sum_told}
 use Rattle.slot_words.proofs.WalkLaws.{refused}

@@ -1,11 +1,4 @@
-use Prim.Native.Nat.{ℕ, ◌-◌, ◌≤◌, ◌<◌}
-use borrow.Author.Rules.{rules}
 use native.Mathlib.Omega.{arith}
-use mathlib.Core.Path.{refl}
-use Rattle.index.proofs.Flags.{passed}
-use Rattle.records.specs.Records.{topic_count}
-use Rattle.layout.specs.View.{state_of}
-use Rattle.slot_words.specs.Flags.{TimesWithin}
 use Rattle.slot_words.proofs.WalkLaws.{up_none, up_more, refused}
 use Rattle.slot_words.proofs.members.times_within.Goals as goal
 
@@ -18,7 +11,7 @@ returns-then-not-topic_in_time c e = refused e
 pub loop-t-preserved : goal.loop-t-preserved
 loop-t-preserved c =
     let l = c.loop-t in
-    (omega arith, up_more _ l.t l.invariant.1 (c.topic_in_time.ensures (passed refl c.if-not-topic_in_time.false)))
+    (omega arith, up_more _ l.t l.invariant.1 (c.topic_in_time.ensures c.if-not-topic_in_time.false))
 
 pub returns : goal.returns
 returns c e k h = c.loop-t.invariant.1 k (omega arith)

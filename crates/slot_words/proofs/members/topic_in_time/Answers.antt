@@ -1,4 +1,3 @@
-use borrow.Author.Rules.{rules}
 use native.Mathlib.Omega.{arith}
 use Rattle.slot_words.proofs.FlagLaws.{members_in, times_told}
 use Rattle.slot_words.proofs.members.topic_in_time.Goals as goal

@@ -1,11 +1,6 @@
-use Prim.Native.Nat.{◌+◌, ◌*◌, ◌≤◌}
 use native.Mathlib.Omega.{arith}
 use lib.Count.{trailing_le}
-use mathlib.Core.Path.{refl}
-use Rattle.index.proofs.Flags.{passed}
-use Rattle.records.specs.Records.{topic_in, place}
-use Rattle.layout.specs.View.{state_of}
-use Rattle.slot_words.proofs.WalkLaws.{Walked, walk_start, walk_bit, walk_more, walk_end, lowest_low, falls, refused}
+use Rattle.slot_words.proofs.WalkLaws.{walk_start, walk_bit, walk_more, walk_end, lowest_low, falls, refused}
 use Rattle.slot_words.proofs.members.word_in_time.Goals as goal
 
 pub loop-b-init : goal.loop-b-init
@@ -32,7 +27,7 @@ loop-b-smaller c = let l = c.loop-b in falls l.b (omega arith) l.invariant.small
 pub loop-b-preserved : goal.loop-b-preserved
 loop-b-preserved c =
     let l = c.loop-b in
-    walk_more _ _ l.b (omega arith) l.invariant (c.in_time.ensures (passed refl c.if-not-in_time.false))
+    walk_more _ _ l.b (omega arith) l.invariant (c.in_time.ensures c.if-not-in_time.false)
 
 pub returns : goal.returns
 returns c e = walk_end _ _ c.loop-b.b (omega arith) c.loop-b.invariant

@@ -1,12 +1,8 @@
 -- `slot_words::members::word_in_time`: a walk over the set bits. Assumes nothing.
 use Prim.Native.Nat.{◌+◌, ◌*◌, ◌≤◌}
-use native.Mathlib.Omega.{arith}
-use lib.Count.{trailing_le}
-use mathlib.Core.Path.{refl}
-use Rattle.index.proofs.Flags.{passed}
 use Rattle.records.specs.Records.{topic_in, place}
 use Rattle.layout.specs.View.{state_of}
-use Rattle.slot_words.proofs.WalkLaws.{Walked, walk_start, walk_bit, walk_more, walk_end, lowest_low, falls, refused}
+use Rattle.slot_words.proofs.WalkLaws.{Walked}
 use Rattle.slot_words.proofs.members.word_in_time.Given as goal
 
 abbrev pub invariant-loop-b : goal.invariant-loop-b

@@ -2,7 +2,6 @@ use Rattle.slot_words.proofs.WordLaws.{slot_none, each_test, word_none}
 use lib.ListN.{get_or}
 use Prim.Native.Nat.{◌/◌, ◌%◌, ◌^◌}
 use mathlib.Core.Path.{◌≡◌}
-use borrow.Author.Rules.{rules}
 use Rattle.slot_words.proofs.word.any.Goals as goal
 
 pub returns : goal.returns

@@ -3,7 +3,6 @@ use Rattle.slot_words.proofs.WordLaws.{slot_told, each_test}
 use lib.ListN.{get_or}
 use Prim.Native.Nat.{◌/◌, ◌%◌, ◌^◌}
 use mathlib.Core.Path.{◌≡◌}
-use borrow.Author.Rules.{rules}
 use Rattle.slot_words.proofs.word.common.Goals as goal
 
 pub returns : goal.returns

@@ -1,7 +1,6 @@
 -- `slot_words::word::union`: a slot has its bit where one of the two words has it.
 use Rattle.slot_words.proofs.WordLaws.{union_slot}
 use mathlib.Core.Path.{refl}
-use borrow.Author.Rules.{rules}
 use Rattle.slot_words.proofs.word.union.Goals as goal
 
 pub returns : goal.returns

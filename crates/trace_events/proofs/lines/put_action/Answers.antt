@@ -9,15 +9,11 @@ use Rattle.text.proofs.TextLaws.{decimal_length}
 use Rattle.trace_events.proofs.LineLaws.{graft_stored, prune_stored}
 use Rattle.trace_events.proofs.lines.put_action.Goals as goal
 
--- how long the id is
-size : (c : tie.Start) → length (decimal c.args.id) ≤ 20
-size c = decimal_length c.args.id (omega (arith, c.ranges.id.fits))
-
 pub put_decimal-k-requires : goal.put_decimal-k-requires
-put_decimal-k-requires c = omega (arith, size c)
+put_decimal-k-requires c = omega (arith, decimal_length c.args.id (omega (arith, c.ranges.id.fits)))
 
 pub put_byte-requires : goal.put_byte-requires
-put_byte-requires c = omega (arith, size c)
+put_byte-requires c = omega (arith, decimal_length c.args.id (omega (arith, c.ranges.id.fits)))
 
 pub returns-then-kind-eq1 : goal.returns-then-kind-eq1
 returns-then-kind-eq1 c =

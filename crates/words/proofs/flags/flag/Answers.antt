@@ -1,6 +1,5 @@
 -- `words::flags::flag` meets its contract.
 -- Assumes nothing.
-use borrow.Author.Rules.{rules}
 use Rattle.words.proofs.BitLaws.{flag_in, flag_out}
 use Rattle.words.proofs.flags.flag.Goals as goal
 

@@ -1,11 +1,8 @@
-use Prim.Native.Nat.{◌-◌}
 use native.Mathlib.Omega.{arith}
 use borrow.Author.Rules.{rules}
-use mathlib.Core.Path.{◌≡◌, refl}
-use lib.ListN.{length}
-use Rattle.records.specs.Records.{slot_count}
+use mathlib.Core.Path.{refl}
 use Rattle.words.specs.Words.{word_count}
-use Rattle.words.proofs.WideLaws.{PackedBelow, packed_none, packed_more, packed_done}
+use Rattle.words.proofs.WideLaws.{packed_none, packed_more, packed_done}
 use Rattle.words.proofs.flags.pack.Goals as goal
 
 pub loop-i-init : goal.loop-i-init

@@ -1,13 +1,11 @@
 -- `words::flags::pack` meets its contract. The words made so far have the flags of their slots.
 -- Assumes nothing.
 use Prim.Native.Nat.{◌-◌}
-use native.Mathlib.Omega.{arith}
-use borrow.Author.Rules.{rules}
-use mathlib.Core.Path.{◌≡◌, refl}
+use mathlib.Core.Path.{◌≡◌}
 use lib.ListN.{length}
 use Rattle.records.specs.Records.{slot_count}
 use Rattle.words.specs.Words.{word_count}
-use Rattle.words.proofs.WideLaws.{PackedBelow, packed_none, packed_more, packed_done}
+use Rattle.words.proofs.WideLaws.{PackedBelow}
 use Rattle.words.proofs.flags.pack.Given as goal
 
 abbrev pub invariant-loop-i : goal.invariant-loop-i

@@ -1,8 +1,6 @@
-use Prim.Native.Nat.{◌-◌}
 use native.Mathlib.Omega.{arith}
 use mathlib.Core.Path.{refl}
-use Rattle.words.specs.Words.{word_bits}
-use Rattle.words.proofs.WideLaws.{Packing, packing_none, packing_more, packing_done}
+use Rattle.words.proofs.WideLaws.{packing_none, packing_more, packing_done}
 use Rattle.words.proofs.flags.packed.Goals as goal
 
 pub loop-j-init : goal.loop-j-init

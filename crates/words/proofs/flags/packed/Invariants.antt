@@ -1,10 +1,8 @@
 -- `words::flags::packed` meets its contract. The bits below j are the flags passed, and those above are 0.
 -- Assumes nothing.
 use Prim.Native.Nat.{◌-◌}
-use native.Mathlib.Omega.{arith}
-use mathlib.Core.Path.{refl}
 use Rattle.words.specs.Words.{word_bits}
-use Rattle.words.proofs.WideLaws.{Packing, packing_none, packing_more, packing_done}
+use Rattle.words.proofs.WideLaws.{Packing}
 use Rattle.words.proofs.flags.packed.Given as goal
 
 abbrev pub invariant-loop-j : goal.invariant-loop-j

@@ -1,12 +1,8 @@
-use Prim.Native.Nat.{◌-◌}
 use native.Mathlib.Omega.{arith}
 use borrow.Author.Rules.{rules}
-use mathlib.Core.Path.{◌≡◌, refl}
-use mathlib.Core.Bool.{false}
-use lib.ListN.{length, get_or}
-use Rattle.records.specs.Records.{slot_count}
-use Rattle.index.proofs.Lists.{Built, built_none, built_more, built_done}
-use Rattle.words.specs.Words.{word_count, bits_of}
+use mathlib.Core.Path.{refl}
+use Rattle.index.proofs.Lists.{built_none, built_more, built_done}
+use Rattle.words.specs.Words.{bits_of}
 use Rattle.words.proofs.WideLaws.{bits_of_length}
 use Rattle.words.proofs.flags.unpack.Goals as goal
 

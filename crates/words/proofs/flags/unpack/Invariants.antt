@@ -1,15 +1,12 @@
 -- `words::flags::unpack` meets its contract. The loop builds the flags from the front.
 -- Assumes nothing.
 use Prim.Native.Nat.{◌-◌}
-use native.Mathlib.Omega.{arith}
-use borrow.Author.Rules.{rules}
-use mathlib.Core.Path.{◌≡◌, refl}
+use mathlib.Core.Path.{◌≡◌}
 use mathlib.Core.Bool.{false}
 use lib.ListN.{length, get_or}
 use Rattle.records.specs.Records.{slot_count}
-use Rattle.index.proofs.Lists.{Built, built_none, built_more, built_done}
+use Rattle.index.proofs.Lists.{Built}
 use Rattle.words.specs.Words.{word_count, bits_of}
-use Rattle.words.proofs.WideLaws.{bits_of_length}
 use Rattle.words.proofs.flags.unpack.Given as goal
 
 abbrev pub invariant-loop-s : goal.invariant-loop-s
