@@ -93,9 +93,9 @@ class Source:
         """What an .rt file says in contracts, ghost fields and the like."""
         return " ".join(braced(self.body, found.end() - 1) for found in CLAUSE.finditer(self.body))
 
-    def cited(self):
-        """Pairs of a module and a name of it that are cited by their whole path, as an attribute `using(crate::proofs::M::a)` does."""
-        for path in CITED.findall(self.body):
+    def cited(self, lines=None):
+        """Pairs of a module and a name that the file, or lines of it, cite by the whole path, as an attribute `using(crate::proofs::M::a)` does."""
+        for path in CITED.findall(self.body if lines is None else "\n".join(lines)):
             names = re.split(r"::|\.", path)
             crate = self.crate if names[0] == "crate" else names.pop(0) and names[0]
             yield ".".join(["Rattle", crate, *names[1:-1]]), names[-1]
