@@ -7,7 +7,9 @@ import re
 
 top = os.path.dirname(os.path.dirname(os.path.abspath(__file__)))
 MODIFIERS = ("pub", "abbrev", "unfoldable", "opaque", "private")
-WORD = re.compile(r"[^\s(){}\[\];,.⌜⌝]+|\[\]")
+WORD = re.compile(r"[^\s(){}\[\];,.]+|\[\]")
+CLAUSE = re.compile(r"\b(?:requires|ensures|invariant|decreases|ghost(?! use\b)[^{};]*?)\*?(?: [\w-]+)? \{")
+CITED = re.compile(r"\b(?:crate|Rattle\.[a-z_0-9]+)(?:::|\.)(?:specs|proofs)(?:(?:::|\.)[^\s(){}\[\];,.:]+)+")
 USE = re.compile(r"^(?P<kind>(?:ghost |pub )*use) (?P<module>[^\s{;]+?)(?:\.\{(?P<names>[^}]*)\}| as (?P<alias>[^\s;]+))?;?$", re.M)
 
 
@@ -44,14 +46,21 @@ def words(text):
 
 
 def parts_of(name):
-    """The words by which a name is used: `_≤_` as ≤."""
-    return [part for part in name.split("_") if part] if name.startswith("_") or name.endswith("_") else [name]
+    """The words by which a name is used: `◌≤◌` as ≤."""
+    return [part for part in name.split("◌") if part]
 
 
 def file_of(module):
     """The .antt file of a module of the repository, below its top; None for another."""
-    found = re.fullmatch(r"Rattle·([a-z_0-9]+)(?:·specs|·proofs)?\.(specs|proofs)\.(.+)", module)
+    found = re.fullmatch(r"Rattle\.([a-z_0-9]+)\.(specs|proofs)\.(.+)", module)
     return found and f"crates/{found[1]}/{found[2]}/{found[3].replace('.', '/')}.antt"
+
+
+def walked(folder):
+    """The folders at and below one of the repository, and the files in each; not what rt and cargo write."""
+    for place, folders, names in os.walk(os.path.join(top, folder)):
+        folders[:] = sorted(one for one in folders if one not in ("out", "target", "__pycache__"))
+        yield place, sorted(names)
 
 
 class Import:
@@ -81,18 +90,35 @@ class Source:
         self.body = "".join(self.body)
 
     def contracts(self):
-        """What an .rt file says in contracts."""
-        return " ".join(re.findall(r"⌜(.*?)⌝", self.body, re.S))
+        """What an .rt file says in contracts, ghost fields and the like."""
+        return " ".join(braced(self.body, found.end() - 1) for found in CLAUSE.finditer(self.body))
+
+    def cited(self, lines=None):
+        """Pairs of a module and a name that the file, or lines of it, cite by the whole path, as an attribute `using(crate::proofs::M::a)` does."""
+        for path in CITED.findall(self.body if lines is None else "\n".join(lines)):
+            names = re.split(r"::|\.", path)
+            crate = self.crate if names[0] == "crate" else names.pop(0) and names[0]
+            yield ".".join(["Rattle", crate, *names[1:-1]]), names[-1]
 
     def line(self, place):
         return self.text.count("\n", 0, place) + 1
 
 
+def braced(text, start):
+    """What stands between the brace at a place and the one that closes it."""
+    depth = 0
+    for place in range(start, len(text)):
+        depth += (text[place] == "{") - (text[place] == "}")
+        if not depth:
+            return text[start + 1:place]
+    return text[start + 1:]
+
+
 def sources():
     """Every source below crates/, by path."""
     found = {}
-    for place, _, names in sorted(os.walk(os.path.join(top, "crates"))):
-        for name in sorted(names):
+    for place, names in walked("crates"):
+        for name in names:
             if name.endswith((".rt", ".antt")):
                 path = os.path.relpath(os.path.join(place, name), top)
                 found[path] = Source(path)

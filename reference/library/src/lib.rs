@@ -3,7 +3,7 @@
 //! the place of pointers and lengths, so that every one is safe to call. There is no other dependency, no
 //! heap and no state between calls: the host lends a table and an action list.
 //!
-//! `libhost.a` (`rt staticlib host` writes it) is linked where `HIVEPADLET_LIB` names its folder; without it
+//! `libhost.a` (`rt lib` in crates/host writes it) is linked where `HIVEPADLET_LIB` names its folder; without it
 //! the functions are missing, and all else is there.
 //!
 //! ```ignore
