@@ -5,7 +5,7 @@ use Rattle.index.specs.Index.{first, every, or_else}
 use Prim.Native.Nat.{zero, suc}
 use mathlib.Core.Bool.{◌&&◌, cond}
 use mathlib.Core.List.{List, [], ◌∷◌, map}
-use borrow.Author.Tests.{not-true, not-false, eq-eqb, ne_eqb, eqb-true}
+use borrow.Author.Tests.{not-false, eq-eqb, ne_eqb, eqb-true}
 use lib.Dec.{eqb}
 use lib.ListN.{length, length-map}
 use lib.IntN.{ℤ}
@@ -123,14 +123,14 @@ module _ (e : Edition) (codes : List ℕ) where
     unfolding accepted_by
     tested = rw (eq-eqb (length codes) param_count h) (sym (accepted_is (coded e codes)))
 
-    pub codes_outside : not a ≡ true → false ≡ accepted_by e codes
-    codes_outside t = ap (λ (b : Bool). b && every rule_count (rule (map number_of codes) e)) (sym (not-true a t) ∙ q) ∙ tested
+    pub codes_outside : a ≡ false → false ≡ accepted_by e codes
+    codes_outside t = ap (λ (b : Bool). b && every rule_count (rule (map number_of codes) e)) (sym t ∙ q) ∙ tested
 
-    pub codes_within : not a ≡ false → every param_count (in_limits (map number_of codes)) ≡ true
-    codes_within t = sym q ∙ not-false a t
+    pub codes_within : a ≡ true → every param_count (in_limits (map number_of codes)) ≡ true
+    codes_within t = sym q ∙ t
 
     -- the joint rules decide
-    codes_judged : (f : Found) → not a ≡ false → f ≡ first rule_count (broken (map number_of codes) e) → is_nothing f ≡ accepted_by e codes
+    codes_judged : (f : Found) → a ≡ true → f ≡ first rule_count (broken (map number_of codes) e) → is_nothing f ≡ accepted_by e codes
     unfolding broken
     codes_judged f t d =
         ap is_nothing d
@@ -138,11 +138,11 @@ module _ (e : Edition) (codes : List ℕ) where
         ∙ ap (λ (b : Bool). b && every rule_count (rule (map number_of codes) e)) (sym (codes_within t))
         ∙ tested
 
-    pub codes_broken : (f : Found) (k : ℕ) → not a ≡ false → f ≡ first rule_count (broken (map number_of codes) e) → f ≡ At k → false
+    pub codes_broken : (f : Found) (k : ℕ) → a ≡ true → f ≡ first rule_count (broken (map number_of codes) e) → f ≡ At k → false
         ≡ accepted_by e codes
     codes_broken f k t d g = ap is_nothing (sym g) ∙ codes_judged f t d
 
-    pub codes_kept : (f : Found) → not a ≡ false → f ≡ first rule_count (broken (map number_of codes) e) → f ≡ Nothing → true
+    pub codes_kept : (f : Found) → a ≡ true → f ≡ first rule_count (broken (map number_of codes) e) → f ≡ Nothing → true
         ≡ accepted_by e codes
     codes_kept f t d g = ap is_nothing (sym g) ∙ codes_judged f t d
 

@@ -2,12 +2,14 @@
 // 147 numbers, one to a line. The text is fixed in specs/Show.antt; the room for it is at most 64 bytes and 22 for each number.
 #![tactic(auto)]
 
-ghost use Rattle.std.specs.Prelude.{◌≤◌, length};
+ghost use Rattle.std.specs.Prelude.{◌≤◌, length, IfOk};
 ghost use Rattle.params_bytes.specs.Read.{read_of};
 ghost use Rattle.text.specs.Text.{Stored};
 ghost use Rattle.show_params.specs.Show.{shown_text};
 
 use params_bytes::Verdict;
+use std::io;
+use std::io::{Read, Write};
 
 // What reading `bytes` comes to, at the front.
 fn show(buf: &mut [u8], bytes: &[u8]) -> usize
@@ -28,13 +30,28 @@ fn show(buf: &mut [u8], bytes: &[u8]) -> usize
     }
 }
 
+// Reads until the buffer is full or the input ends, and answers how many bytes it put at the start.
+fn read_full(input: &mut impl Read, buf: &mut [u8]) -> io::Result<usize>
+    ensures { IfOk result (λ n. n ≤ length buf.new) }
+{
+    let mut done: usize = 0;
+    while done < buf.len() {
+        let n = input.read(&mut buf[done..])?;
+        if n == 0 {
+            break;
+        }
+        done += n;
+    }
+    Ok(done)
+}
+
 // The 4,096 bytes that are read are enough of any input (`enough` of param_text/proofs/Enough.antt): a front of two bytes and 147 numbers
 // of at most ten do not pass 1,472, so whatever stands beyond is left over, and the place that is printed is that of the first byte left
 // over.
-fn main() {
-    let mut bytes = io::buffer();
-    let n = io::read_full(0, &mut bytes);
-    let mut out = io::buffer();
+fn main(rt: HostRuntime) -> io::Result<()> {
+    let mut bytes = [0u8; 4096];
+    let n = read_full(&mut rt.reader(), &mut bytes)?;
+    let mut out = [0u8; 4096];
     let end = show(&mut out, &bytes[..n]);
-    io::write_all(1, &out[..end]);
+    io::writer(&rt).write_all(&out[..end])
 }

@@ -2,65 +2,55 @@
 // expected output is the file stdout, written by hand from the papers.
 #![tactic(auto)]
 
-use libc::STDOUT_FILENO;
+use std::io;
 use varint::{Put, Read};
 
-fn end_line() {
-    io::write_all(STDOUT_FILENO, b"\n");
-}
-
 // The first n bytes in hexadecimal digits, on a line.
-fn print_bytes(buf: [u8; 10], n: usize) {
+fn print_bytes(rt: &impl Print, buf: [u8; 10], n: usize) -> io::Result<()> {
     let mut i: usize = 0;
     while i < 10 {
         if i < n {
-            io::print_hex(STDOUT_FILENO, buf[i] as u64, 2);
+            let b = buf[i];
+            print!(rt; "{b:02x}")?;
         }
         i += 1;
     }
-    end_line();
+    println!(rt;)
 }
 
 // A number's groups.
-fn print_groups(n: u64) {
+fn print_groups(rt: &impl Print, n: u64) -> io::Result<()> {
     let mut buf = [0u8; 10];
     let part: &mut [u8] = &mut buf;
     let put = varint::write_u64(part, 0, n);
     match put {
-        Put::Next(k) => print_bytes(buf, k),
-        Put::Full => end_line(),
+        Put::Next(k) => print_bytes(rt, buf, k),
+        Put::Full => println!(rt;),
     }
 }
 
 // What bytes read as: the number and the place after it, or `bad`.
-fn print_reading(s: &[u8]) {
+fn print_reading(rt: &impl Print, s: &[u8]) -> io::Result<()> {
     let read = varint::read_u64(s, 0);
     match read {
-        Read::Number(n, next) => {
-            io::print_decimal(STDOUT_FILENO, n);
-            io::write_all(STDOUT_FILENO, b" ");
-            io::print_decimal(STDOUT_FILENO, next as u64);
-        }
-        Read::Bad => {
-            io::write_all(STDOUT_FILENO, b"bad");
-        }
+        Read::Number(n, next) => println!(rt; "{n} {next}"),
+        Read::Bad => println!(rt; "bad"),
     }
-    end_line();
 }
 
-fn main() {
-    print_groups(300);
-    print_groups(0);
-    print_groups(u64::MAX);
-    print_groups(varint::code_of(-1));
-    print_groups(varint::code_of(1));
-    print_groups(varint::code_of(0));
-    print_groups(varint::code_of(i64::MIN));
-    print_reading(b"\xAC\x02");
-    print_reading(b"\x80\x00");
-    print_reading(b"\x00");
-    print_reading(b"\xFF\xFF\xFF\xFF\xFF\xFF\xFF\xFF\xFF\x01");
-    print_reading(b"\xFF\xFF\xFF\xFF\xFF\xFF\xFF\xFF\xFF\x02");
-    print_reading(b"\xAC");
-    print_reading(b"");
+fn main(rt: HostRuntime) -> io::Result<()> {
+    print_groups(&rt, 300)?;
+    print_groups(&rt, 0)?;
+    print_groups(&rt, u64::MAX)?;
+    print_groups(&rt, varint::code_of(-1))?;
+    print_groups(&rt, varint::code_of(1))?;
+    print_groups(&rt, varint::code_of(0))?;
+    print_groups(&rt, varint::code_of(i64::MIN))?;
+    print_reading(&rt, b"\xAC\x02")?;
+    print_reading(&rt, b"\x80\x00")?;
+    print_reading(&rt, b"\x00")?;
+    print_reading(&rt, b"\xFF\xFF\xFF\xFF\xFF\xFF\xFF\xFF\xFF\x01")?;
+    print_reading(&rt, b"\xFF\xFF\xFF\xFF\xFF\xFF\xFF\xFF\xFF\x02")?;
+    print_reading(&rt, b"\xAC")?;
+    print_reading(&rt, b"")
 }

@@ -1,15 +1,16 @@
 -- `gossip_old::connect`: test 12, or what `connect_from` gives.
-use Rattle.index.proofs.Kit.{refl, failed, passed, rules}
+use Rattle.index.proofs.Flags.{yes, no}
+use Rattle.index.proofs.Kit.{refl, rules}
 use Rattle.gossip_old.proofs.OldLaws.{tested, old_passes, old_refused}
 use Rattle.gossip_old.proofs.connect.Goals as goal
 
 pub returns-then-not-is_router : goal.returns-then-not-is_router
-returns-then-not-is_router c = old_refused _ _ _ _ refl (failed c.is_router.ensures c.if-not-is_router.true)
+returns-then-not-is_router c = old_refused _ _ _ _ refl (no c.is_router.ensures c.if-not-is_router.true)
 
 pub connect_from-requires : goal.connect_from-requires
-connect_from-requires c = tested _ _ (passed c.is_router.ensures c.if-not-is_router.false)
+connect_from-requires c = tested _ _ (yes c.is_router.ensures c.if-not-is_router.false)
 
 pub returns : goal.returns
 returns c =
-    old_passes _ _ _ _ refl _ _ _ _ (tested _ _ (passed c.is_router.ensures c.if-not-is_router.false))
+    old_passes _ _ _ _ refl _ _ _ _ (tested _ _ (yes c.is_router.ensures c.if-not-is_router.false))
     c.connect_from.ensures

@@ -8,7 +8,7 @@ pub returns-then-not-numbers_lie : goal.returns-then-not-numbers_lie
 returns-then-not-numbers_lie c e = never e
 
 pub rules_hold-requires : goal.rules_hold-requires
-rules_hold-requires c = (c.requires, c.numbers_lie.ensures (passed refl c.if-not-numbers_lie.false))
+rules_hold-requires c = (c.requires, c.numbers_lie.ensures c.if-not-numbers_lie.false)
 
 pub returns : goal.returns
-returns c e = accepted_told _ _ (c.numbers_lie.ensures (passed refl c.if-not-numbers_lie.false)) (c.rules_hold.ensures e)
+returns c e = accepted_told _ _ (c.numbers_lie.ensures c.if-not-numbers_lie.false) (c.rules_hold.ensures e)

@@ -25,7 +25,7 @@ returns-then-not-cap_holds c e = never e
 pub loop-t-preserved : goal.loop-t-preserved
 loop-t-preserved c =
     let l = c.loop-t in
-    (omega arith, every_more _ l.t l.invariant.1 (c.cap_holds.ensures (passed refl c.if-not-cap_holds.false)))
+    (omega arith, every_more _ l.t l.invariant.1 (c.cap_holds.ensures c.if-not-cap_holds.false))
 
 pub returns : goal.returns
 returns c e = every_done _ topic_count c.loop-t.t (omega arith) (omega arith) c.loop-t.invariant.1

@@ -35,7 +35,7 @@ returns-then-not-lies c e = never e
 pub loop-t-preserved : goal.loop-t-preserved
 loop-t-preserved c =
     let l = c.loop-t in
-    (omega arith, every_more _ l.t l.invariant.1 (c.lies.ensures (passed refl c.if-not-lies.false)))
+    (omega arith, every_more _ l.t l.invariant.1 (c.lies.ensures c.if-not-lies.false))
 
 pub returns : goal.returns
 returns c e = every_done _ topic_count c.loop-t.t (omega arith) (omega arith) c.loop-t.invariant.1

@@ -33,7 +33,7 @@ returns-then-not-field_lies c e = never e
 pub loop-j-preserved : goal.loop-j-preserved
 loop-j-preserved c =
     let l = c.loop-j in
-    (omega arith, every_more _ l.j l.invariant.1 (c.field_lies.ensures (passed refl c.if-not-field_lies.false)))
+    (omega arith, every_more _ l.j l.invariant.1 (c.field_lies.ensures c.if-not-field_lies.false))
 
 pub returns : goal.returns
 returns c e = every_done _ of_topic c.loop-j.j (omega arith) (omega arith) c.loop-j.invariant.1

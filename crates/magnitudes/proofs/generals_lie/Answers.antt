@@ -28,7 +28,7 @@ returns-then-not-lies c e = never e
 pub loop-i-preserved : goal.loop-i-preserved
 loop-i-preserved c =
     let l = c.loop-i in
-    (omega arith, every_more _ l.i l.invariant.1 (c.lies.ensures (passed refl c.if-not-lies.false)))
+    (omega arith, every_more _ l.i l.invariant.1 (c.lies.ensures c.if-not-lies.false))
 
 pub returns : goal.returns
 returns c e = every_done _ general_count c.loop-i.i (omega arith) (omega arith) c.loop-i.invariant.1

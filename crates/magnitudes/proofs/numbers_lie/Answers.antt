@@ -11,5 +11,5 @@ returns-then-not-generals_lie c e = never e
 pub returns : goal.returns
 returns c e =
     numbers_told (state_of c.args.table.now).codes
-    (c.generals_lie.ensures (passed refl c.if-not-generals_lie.false))
+    (c.generals_lie.ensures c.if-not-generals_lie.false)
     (c.fields_lie.ensures e)

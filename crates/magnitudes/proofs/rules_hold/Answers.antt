@@ -17,7 +17,7 @@ pub returns : goal.returns
 returns c e =
     rules_told _ c.requires.1 _
     (c.degrees_hold.ensures
-    (passed refl c.if-not-degrees_hold.false))
-    (c.score_holds.ensures (passed refl c.if-not-score_holds.false))
-    (c.thresholds_hold.ensures (passed refl c.if-not-thresholds_hold.false))
+    c.if-not-degrees_hold.false)
+    (c.score_holds.ensures c.if-not-score_holds.false)
+    (c.thresholds_hold.ensures c.if-not-thresholds_hold.false)
     (c.caps_hold.ensures e)

@@ -1,9 +1,9 @@
 use Prim.Native.Nat.{◌+◌, ◌-◌}
 use mathlib.Core.Path.{◌∙◌}
-use mathlib.Core.Logic.{⊎_elim}
 use native.Mathlib.Omega.{arith}
 use lib.ListN.{length-set}
 use Rattle.notes.proofs.HeldLaws.{Aging, aging_start, aging_in, aging_out, aging_done}
+use Rattle.notes.proofs.age_row.Goals.{then-age-lt2, else-age-lt2}
 use Rattle.notes.proofs.age_row.Goals as goal
 
 pub loop-i-init : goal.loop-i-init
@@ -37,16 +37,13 @@ pub loop-i-preserved : goal.loop-i-preserved
 loop-i-preserved c =
     let l = c.loop-i in
     let a = c.args in
-    ⊎_elim
-    (λ w.
-    aging_in a.cells.now l.cells c.if-age-lt2.cells a.at _ a.n l.i l.m c.if-age-lt2.m l.left c.if-age-lt2.left
-    c.digit-age.result (omega arith) (let p = c.requires in omega arith) l.invariant c.digit-age.ensures.0 w.0.taken w.3
-    (w.4 ∙ w.2.ensures.0) w.5)
-    (λ w.
-    aging_out a.cells.now l.cells c.if-age-lt2.cells a.at _ a.n l.i l.m c.if-age-lt2.m l.left c.if-age-lt2.left
-    c.digit-age.result (omega arith) (let p = c.requires in omega arith) l.invariant c.digit-age.ensures.0 w.0.left w.1 w.2
-    w.3)
-    c.if-age-lt2.branch
+    elim c.if-age-lt2.branch [
+    | then-age-lt2 w ↦ aging_in a.cells.now l.cells c.if-age-lt2.cells a.at _ a.n l.i l.m c.if-age-lt2.m l.left c.if-age-lt2.left
+    c.digit-age.result (omega arith) (let p = c.requires in omega arith) l.invariant c.digit-age.ensures.0 w.if-age-lt2.true w.cells-is
+    (w.left-is ∙ w.with_top-left.ensures.0) w.m-is
+    | else-age-lt2 w ↦ aging_out a.cells.now l.cells c.if-age-lt2.cells a.at _ a.n l.i l.m c.if-age-lt2.m l.left c.if-age-lt2.left
+    c.digit-age.result (omega arith) (let p = c.requires in omega arith) l.invariant c.digit-age.ensures.0 w.if-age-lt2.false w.cells-is w.left-is
+    w.m-is ]
 
 pub bounds-cells-at-2 : goal.bounds-cells-at-2
 bounds-cells-at-2 c = let e = c.loop-i.invariant.size in omega arith

@@ -1,9 +1,9 @@
 use Prim.Native.Nat.{◌-◌}
 use mathlib.Core.Path.{sym, ◌∙◌}
-use mathlib.Core.Logic.{⊎_elim}
 use native.Mathlib.Omega.{arith}
 use Rattle.records.specs.Records.{slot_count}
 use Rattle.notes.proofs.NoteLaws.{Beating, beating_start, beating_in, beating_out, beating_fits, beating_done}
+use Rattle.notes.proofs.beat.Goals.{then-cells-s-ne0, else-cells-s-ne0}
 use Rattle.notes.proofs.beat.Goals as goal
 
 pub loop-s-init : goal.loop-s-init
@@ -20,10 +20,9 @@ pub loop-s-preserved : goal.loop-s-preserved
 loop-s-preserved c =
     let a = c.args in
     let l = c.loop-s in
-    ⊎_elim
-    (λ w. beating_in a.cells.now l.cells c.if-cells-s-ne0.cells _ l.s (omega arith) l.invariant w.5 w.2.kept.0 w.2.ensures)
-    (λ w. beating_out a.cells.now l.cells c.if-cells-s-ne0.cells l.s (omega arith) l.invariant w.1 w.0.left)
-    c.if-cells-s-ne0.branch
+    elim c.if-cells-s-ne0.branch [
+    | then-cells-s-ne0 w ↦ beating_in a.cells.now l.cells c.if-cells-s-ne0.cells _ l.s (omega arith) l.invariant w.cells-is w.beat_slot.auto.cells w.beat_slot.ensures
+    | else-cells-s-ne0 w ↦ beating_out a.cells.now l.cells c.if-cells-s-ne0.cells l.s (omega arith) l.invariant w.cells-is w.if-cells-s-ne0.false ]
 
 pub shape_of-cells : goal.shape_of-cells
 shape_of-cells c = c.loop-s.invariant.size ∙ sym c.requires.size

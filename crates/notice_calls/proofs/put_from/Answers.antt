@@ -1,4 +1,5 @@
 -- `notice_calls::put_from`: 11 for a peer that is not heeded and for a full set, 0 for a number that is there, or is put in.
+use Rattle.index.proofs.Flags.{not_no}
 use borrow.Author.Rules.{rules}
 use Rattle.gossip_gate.proofs.AdmittedLaws.{admitted_valid, admitted_slot}
 use Rattle.notice_calls.proofs.NoticeLaws.{put_unheeded, put_there, put_full, room_there, put_new}
@@ -24,7 +25,7 @@ returns-then-not-has_room c = search put_full
 
 pub put-requires : goal.put-requires
 put-requires c =
-    room_there c.requires _ c.has_room.ensures c.if-not-has_room.false
+    room_there c.requires _ c.has_room.ensures (not_no c.if-not-has_room.false)
 
 pub returns : goal.returns
 returns c = search put_new

@@ -37,5 +37,5 @@ unfolding relay_reply
 returns c =
     let a = c.args in
     let x = extended_of a.table.now a.gossip.now in
-    let w = c.tell-n.ensures _ (relayed_are x _ _ _ _ _ c.relayed-all.ensures c.without-holders.ensures) in
+    let w = c.tell-n.ensures _ (relayed_are x _ _ _ _ _ c.relayed-all.ensures c.without_holders-set.ensures) in
     search sent_told

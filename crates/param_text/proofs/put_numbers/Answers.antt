@@ -18,7 +18,7 @@ pub loop-i-preserved : goal.loop-i-preserved
 loop-i-preserved c =
     let l = c.loop-i in
     let f : SFits w64 (get_or c.args.numbers l.i (pos 0)) =
-    sfits_of c.put_line-arg-in-loop-i-1.given in
+    search rules in
     let s = c.put_line-next.ensures in (
       omega arith,
       c.put_line-next.auto.buf ∙ l.invariant.1,

@@ -1,5 +1,4 @@
 -- `params::accepts` meets its contract. Assumes nothing.
-use borrow.Author.Rules.{rules}
 use Rattle.params.proofs.CheckLaws.{codes_short, codes_outside, codes_within, codes_broken, codes_kept}
 use Rattle.params.proofs.accepts.Goals as goal
 
@@ -11,10 +10,10 @@ returns-then-not-codes_lie c = codes_outside _ _ c.if-codes-ne-NUMBERS.false _ c
 
 pub first_rule-requires : goal.first_rule-requires
 first_rule-requires c = (
-      c.if-codes-ne-NUMBERS.false,
-      codes_within c.args.edition c.args.codes.now
-          c.if-codes-ne-NUMBERS.false _ c.codes_lie.ensures c.if-not-codes_lie.false,
-    )
+  c.if-codes-ne-NUMBERS.false,
+  codes_within c.args.edition c.args.codes.now
+      c.if-codes-ne-NUMBERS.false _ c.codes_lie.ensures c.if-not-codes_lie.false,
+)
 
 pub returns-in-At : goal.returns-in-At
 returns-in-At c =

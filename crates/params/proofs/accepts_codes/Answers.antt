@@ -1,5 +1,4 @@
 -- `params::accepts_codes` meets its contract. Assumes nothing.
-use borrow.Author.Rules.{rules}
 use Rattle.params.proofs.CheckLaws.{edition_known, edition_unknown}
 use Rattle.params.proofs.accepts_codes.Goals as goal
 

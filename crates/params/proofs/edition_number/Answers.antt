@@ -1,5 +1,5 @@
 -- `params::edition_number` meets its contract. Assumes nothing.
-use Rattle.index.proofs.Kit.{rules, sym, ap}
+use Rattle.index.proofs.Kit.{sym, ap}
 use Rattle.params.specs.Editions.{edition_number}
 use Rattle.params.proofs.edition_number.Goals as goal
 

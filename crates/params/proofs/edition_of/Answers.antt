@@ -1,4 +1,5 @@
 -- `params::edition_of` meets its contract. Assumes nothing.
+use borrow.Author.Rules.{rules}
 use Rattle.params.proofs.CheckLaws.{is_first, is_second, is_neither}
 use Rattle.params.proofs.edition_of.Goals as goal
 
@@ -9,4 +10,4 @@ pub returns-in-2 : goal.returns-in-2
 returns-in-2 c = is_second _ c.in-2.is
 
 pub returns-in_default : goal.returns-in_default
-returns-in_default c = is_neither _ c.in_default.in_default-own.rest.0.1 c.in_default.in_default-own.rest.1
+returns-in_default c = is_neither _ (search rules) (search rules)

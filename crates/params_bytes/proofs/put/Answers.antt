@@ -18,7 +18,7 @@ pub returns-in_default : goal.returns-in_default
 returns-in_default c = let l = c.loop-i in
     stands_full c.args.numbers.now _ l.i _ _ _ _ _ _
     c.loop-i-test.true c.requires.2 l.invariant.1
-    (sfits_of c.code_of-arg-1.given)
+    (search rules)
     c.code_of-u.ensures
     c.write_u64.ensures
     c.requires.1 c.in_default.is
@@ -29,7 +29,7 @@ loop-i-preserved c = let l = c.loop-i in
       omega arith,
       stands_more c.args.numbers.now _ l.i _ _ _ _ _ _
           c.loop-i-test.true c.requires.2 l.invariant.1
-          (sfits_of c.code_of-arg-1.given)
+          (search rules)
           c.code_of-u.ensures
           c.write_u64.ensures
           _ (omega arith) c.write_u64.auto.buf c.in-Next.is,

@@ -1,8 +1,8 @@
+use Rattle.index.proofs.Flags.{yes, no}
 use Prim.Native.Nat.{◌-◌, ◌≤◌}
 use mathlib.Core.Path.{◌≡◌, sym}
 use native.Mathlib.Omega.{arith}
 use lib.ListN.{length}
-use Rattle.index.proofs.Flags.{failed, passed}
 use Rattle.replies.specs.View.{rows_in, replies_of}
 use Rattle.replies.specs.Asked.{on_bits}
 use Rattle.replies.proofs.RowLaws.{rows_length}
@@ -22,7 +22,7 @@ returns-then-not-rises_at c =
     let a = c.args in
     sym
     (not_rising (on_bits a.connected.now) a.most a.cells.now c.loop-r.r (omega arith)
-    (failed c.rises_at.ensures c.if-not-rises_at.true))
+    (no c.rises_at.ensures c.if-not-rises_at.true))
 
 pub row_ok-requires : goal.row_ok-requires
 row_ok-requires c =
@@ -33,7 +33,7 @@ returns-then-not-row_ok c =
     let a = c.args in
     sym
     (not_fitting (on_bits a.connected.now) a.most a.cells.now c.loop-r.r (omega arith)
-    (failed c.row_ok.ensures c.if-not-row_ok.true))
+    (no c.row_ok.ensures c.if-not-row_ok.true))
 
 pub loop-r-preserved : goal.loop-r-preserved
 loop-r-preserved c =
@@ -42,8 +42,8 @@ loop-r-preserved c =
     (
       omega arith,
       l.invariant.1,
-      tested_more (on_bits a.connected.now) a.most a.cells.now l.r (passed c.rises_at.ensures c.if-not-rises_at.false)
-          (passed c.row_ok.ensures c.if-not-row_ok.false) l.invariant.2,
+      tested_more (on_bits a.connected.now) a.most a.cells.now l.r (yes c.rises_at.ensures c.if-not-rises_at.false)
+          (yes c.row_ok.ensures c.if-not-row_ok.false) l.invariant.2,
     )
 
 pub returns : goal.returns

@@ -1,3 +1,4 @@
+use Rattle.index.proofs.Flags.{yes, no}
 use Prim.Native.Nat.{ℕ, ◌+◌, ◌*◌, ◌-◌, ◌≤◌}
 use mathlib.Core.Path.{◌≡◌, sym, ap, ◌∙◌}
 use mathlib.Core.Bool.{Bool, true}
@@ -6,7 +7,6 @@ use native.Mathlib.Omega.{arith}
 use borrow.Author.Rules.{rules}
 use Rattle.index.specs.Index.{every}
 use Rattle.index.proofs.Index.{every_none, every_more, every_out, every_in}
-use Rattle.index.proofs.Flags.{failed, passed}
 use Rattle.replies.specs.View.{lane_count, lane_in}
 use Rattle.replies.specs.Asked.{on_bits, lane_fits, cell_fits}
 use Rattle.replies.proofs.lanes_ok.Goals as goal
@@ -25,7 +25,7 @@ returns-then-not-lane_ok c =
     let a = c.args in
     let e = sym c.lane.ensures in
     every_out (λ i. within a.connected.now a.most a.k i (lane_in a.x i)) lane_count l.j (omega arith)
-    (ap (within a.connected.now a.most a.k l.j) e ∙ failed c.lane_ok.ensures c.if-not-lane_ok.true)
+    (ap (within a.connected.now a.most a.k l.j) e ∙ no c.lane_ok.ensures c.if-not-lane_ok.true)
 
 pub loop-j-preserved : goal.loop-j-preserved
 loop-j-preserved c =
@@ -34,7 +34,7 @@ loop-j-preserved c =
     let e = sym c.lane.ensures in (
       omega arith,
       every_more _ l.j l.invariant.1
-          (ap (within a.connected.now a.most a.k l.j) e ∙ passed c.lane_ok.ensures c.if-not-lane_ok.false),
+          (ap (within a.connected.now a.most a.k l.j) e ∙ yes c.lane_ok.ensures c.if-not-lane_ok.false),
     )
 
 pub returns : goal.returns

@@ -1,6 +1,6 @@
 -- `replies::limit`: a lane holds less than 64, so that no larger limit is wanted.
+use Rattle.index.proofs.Flags.{yes, no}
 use native.Mathlib.Omega.{arith}
-use Rattle.index.proofs.Flags.{passed}
 use Rattle.replies.specs.Asked.{on_bits}
 use Rattle.replies.proofs.LimitLaws.{limit_past, limit_none, limit_most}
 use Rattle.replies.proofs.limit.Goals as goal
@@ -15,10 +15,10 @@ pub returns-then-most-lt-LANE : goal.returns-then-most-lt-LANE
 returns-then-most-lt-LANE c =
     let a = c.args in
     limit_most (on_bits a.connected.now) a.most a.s a.most c.if-most-lt-LANE.true (omega arith)
-    (passed c.at.ensures c.if-not-at.false)
+    (yes c.at.ensures c.if-not-at.false)
 
 pub returns : goal.returns
 returns c =
     let a = c.args in
     limit_most (on_bits a.connected.now) a.most a.s 63 (omega arith) (omega arith)
-    (passed c.at.ensures c.if-not-at.false)
+    (yes c.at.ensures c.if-not-at.false)

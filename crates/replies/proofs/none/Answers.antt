@@ -7,7 +7,8 @@ use Rattle.replies.proofs.none.Goals as goal
 
 pub overflow_mul-result : goal.overflow_mul-result
 overflow_mul-result c =
-    let h : c.lane.result * c.unit.result ≤ c.args.x = sub-result c in
+    let a = c.args in
+    let h : c.lane.result * c.unit.result ≤ a.x = none_in a.x a.j c.lane.result c.unit.result c.lane.ensures c.unit.ensures in
     omega arith
 
 pub overflow_sub-result : goal.overflow_sub-result

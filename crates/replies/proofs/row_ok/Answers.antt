@@ -1,3 +1,4 @@
+use Rattle.index.proofs.Flags.{yes, no}
 use Prim.Native.Nat.{◌+◌, ◌-◌, ◌≤◌}
 use mathlib.Core.Path.{◌≡◌}
 use mathlib.Core.Bool.{true}
@@ -5,7 +6,6 @@ use native.Mathlib.Omega.{arith}
 use lib.ListN.{get_or}
 use Rattle.index.specs.Index.{every}
 use Rattle.index.proofs.Index.{every_none, every_more, every_out, every_in}
-use Rattle.index.proofs.Flags.{failed, passed}
 use Rattle.replies.specs.View.{lane_cells, start_of}
 use Rattle.replies.specs.Asked.{on_bits, cell_fits, lanes_fit}
 use Rattle.replies.proofs.row_ok.Goals as goal
@@ -22,12 +22,12 @@ unfolding lanes_fit
 returns-then-not-cell_ok c =
     let a = c.args in
     every_out (λ i. cell_fits (on_bits a.connected.now) a.most i (get_or a.cells.now (start_of a.r + (2 + i)) 0)) lane_cells
-    c.loop-k.k (omega arith) (failed c.cell_ok.ensures c.if-not-cell_ok.true)
+    c.loop-k.k (omega arith) (no c.cell_ok.ensures c.if-not-cell_ok.true)
 
 pub loop-k-preserved : goal.loop-k-preserved
 loop-k-preserved c =
     let l = c.loop-k in
-    (omega arith, every_more _ l.k l.invariant.1 (passed c.cell_ok.ensures c.if-not-cell_ok.false))
+    (omega arith, every_more _ l.k l.invariant.1 (yes c.cell_ok.ensures c.if-not-cell_ok.false))
 
 pub returns : goal.returns
 unfolding lanes_fit

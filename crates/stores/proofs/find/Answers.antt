@@ -24,7 +24,7 @@ place_in-requires c =
 
 pub returns-then-is_in_window : goal.returns-then-is_in_window
 returns-then-is_in_window c =
-    let b = c.IsPlace-in.ensures in (
+    let b = c.place_in.ensures in (
       omega arith,
       lt-ltb _ _ b
           ∙ some_out _ _ c.loop-p.p (omega arith) (yes c.is_in_window.ensures c.if-is_in_window.true)

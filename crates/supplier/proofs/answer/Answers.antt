@@ -25,5 +25,4 @@ returns-in-69 c = let e = c.write_export.ensures in
 pub returns-in_default : goal.returns-in_default
 returns-in_default c =
     let e = c.put_head.ensures in
-    let r = c.in_default.in_default-own.rest in
-    (stored_same _ _ _ _ _ _ (sym (mode_none _ _ r.0.0.0.1 r.0.0.1 r.0.1 r.1)) e.0, omega arith)
+    (stored_same _ _ _ _ _ _ (sym (mode_none _ _ (search rules) (search rules) (search rules) (search rules))) e.0, omega arith)

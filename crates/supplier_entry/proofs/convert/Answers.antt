@@ -1,6 +1,7 @@
 -- `supplier_entry::convert` meets its contract. Assumes nothing.
 use borrow.Author.Rules.{rules, sfits_of}
 use mir.Syntax.{w64}
+use mir.Val.{SFits}
 use mir.Facts.{to_z-of_z}
 use Rattle.supplier_entry.proofs.EntryLaws.{sound_factor, sound_span, small_factor, convert_factor, convert_whole, convert_span}
 use Rattle.supplier_entry.proofs.convert.Goals as goal
@@ -20,7 +21,7 @@ returns-in-Factor c = convert_factor _ _ _ _ _ _ c.in-Factor.is c.thousandths.en
 
 pub returns-in-Whole : goal.returns-in-Whole
 returns-in-Whole c =
-    let f = sfits_of {w = w64} {z = c.in-Whole.z} c.in-Whole.known_told-in-Whole-1-own.given.0.1 in
+    let f : SFits w64 c.in-Whole.z = search rules in
     convert_whole _ _ _ _ _ c.in-Whole.is (rw (to_z-of_z f) at c.whole.ensures)
 
 pub returns-in-Span : goal.returns-in-Span

@@ -1,6 +1,7 @@
 use Rattle.index.proofs.Kit.{◌-◌, refl, arith, rules}
 use borrow.Author.Rules.{sfits_of}
 use mir.Syntax.{w64}
+use mir.Val.{SFits}
 use mir.Facts.{to_z-of_z}
 use Rattle.records.specs.Records.{param_count}
 use Rattle.supplier_params.proofs.ImportLaws.{Taken, taken_none, taken_more, taken_broken, taken_all}
@@ -20,7 +21,7 @@ bounds-numbers-i c = let l = c.loop-i in omega (arith, l.invariant.len)
 pub loop-i-preserved : goal.loop-i-preserved
 loop-i-preserved c =
     let l = c.loop-i in
-    let f = sfits_of {w = w64} {z = c.in-Is.n} c.in-Is.known_told-1-own.given.0.1 in
+    let f : SFits w64 c.in-Is.n = search rules in
     rw (to_z-of_z f)
     (taken_more _ l.i l.numbers _ l.invariant c.loop-i-test.true
     c.number_at.ensures _ c.in-Is.is)

@@ -3,6 +3,7 @@ use borrow.Author.Rules.{sfits_of}
 use lib.ListN.{get_or}
 use lib.IntN.{pos}
 use mir.Syntax.{w64}
+use mir.Val.{SFits}
 use mir.Facts.{to_z-of_z}
 use Rattle.records.specs.Records.{param_count}
 use Rattle.supplier_params.proofs.ExportLaws.{asks, Put, put_none, put_more, put_all}
@@ -14,7 +15,8 @@ loop-i-init c = put_none _ _
 pub export-requires : goal.export-requires
 export-requires c =
     let l = c.loop-i in
-    rw (to_z-of_z (sfits_of {w = w64} {z = get_or c.args.all.numbers l.i (pos 0)} c.export-arg-1.given)) (
+    let f : SFits w64 (get_or c.args.all.numbers l.i (pos 0)) = search rules in
+    rw (to_z-of_z f) (
       asks c.args.all.numbers l.i _ c.loop-i-test.true
           (c.requires.1 l.i c.loop-i-test.true) c.form_of.ensures,
       omega (arith, l.invariant.same),
@@ -23,8 +25,7 @@ export-requires c =
 pub loop-i-preserved : goal.loop-i-preserved
 loop-i-preserved c =
     let l = c.loop-i in
-    let f = sfits_of {w = w64} {z = get_or c.args.all.numbers l.i (pos 0)}
-    c.export-arg-1.given in
+    let f : SFits w64 (get_or c.args.all.numbers l.i (pos 0)) = search rules in
     put_more c.args.all.numbers l.i _ l.buf _ _ c.loop-i-test.true l.invariant
     c.form_of.ensures c.export.auto.buf
     (rw (to_z-of_z f) at c.export.ensures)

@@ -4,4 +4,5 @@ use Rattle.effects.specs.Effects.{pruned}
 use Rattle.effects.proofs.slots.prune_slot.Goals as goal
 
 pub returns : goal.returns
+unfolding pruned
 returns c = cc

@@ -1,4 +1,4 @@
-use Rattle.index.proofs.Kit.{◌≤◌, ◌-◌, ◌≡◌, arith, rules, every, true}
+use Rattle.index.proofs.Kit.{◌≤◌, ◌-◌, ◌≡◌, arith, rules, every, true, ap, not}
 use mathlib.Core.Path.{ap₂, ◌∙◌}
 use Rattle.index.proofs.Index.{every-loop, every_more, every_out}
 use Rattle.index.proofs.Flags.{failed, passed}
@@ -15,7 +15,7 @@ unfolding new_id
 returns-then-not-apart c =
     every_out _ _ _ (omega arith)
     (failed (c.apart.ensures ∙ ap₂ apart c.load_id-id.ensures c.load_id.ensures)
-    c.if-not-apart.true)
+    (ap not c.if-not-apart.true))
 
 pub loop-k-preserved : goal.loop-k-preserved
 loop-k-preserved c =
@@ -23,8 +23,9 @@ loop-k-preserved c =
       omega arith,
       every_more _ _ c.loop-k.invariant.1
           (passed (c.apart.ensures ∙ ap₂ apart c.load_id-id.ensures c.load_id.ensures)
-          c.if-not-apart.false),
+          (ap not c.if-not-apart.false)),
     )
 
 pub returns : goal.returns
+unfolding new_id
 returns c = search (every-loop, rules)

@@ -7,4 +7,5 @@ pub peer_ok-peer-requires : goal.peer_ok-peer-requires
 peer_ok-peer-requires c = let k = c.load_clock-clock.ensures in let m = c.requires.2 in omega (arith, k, m)
 
 pub returns : goal.returns
+unfolding slot_ok
 returns c = cc

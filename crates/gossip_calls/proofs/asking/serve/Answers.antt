@@ -1,4 +1,5 @@
 -- `gossip_calls::asking::serve`: 11, or one reply more.
+use Rattle.index.proofs.Flags.{not_no}
 use borrow.Author.Rules.{rules}
 use Rattle.gossip_gate.proofs.AdmittedLaws.{admitted_valid, admitted_fine}
 use Rattle.gossip_calls.proofs.AskLaws.{serve_not, serve_one, serve_fits}
@@ -15,7 +16,7 @@ returns-then-not-is_served c = search serve_not
 
 pub reply-requires : goal.reply-requires
 reply-requires c =
-    serve_fits c.requires _ _ c.is_served.ensures c.if-not-is_served.false
+    serve_fits c.requires _ _ c.is_served.ensures (not_no c.if-not-is_served.false)
 
 pub returns : goal.returns
 returns c = search serve_one

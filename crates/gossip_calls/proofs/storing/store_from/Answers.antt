@@ -1,4 +1,5 @@
 -- `gossip_calls::storing::store_from`: 11 in a topic not joined, 0 for a number that is there, 13 without room, or 0.
+use Rattle.index.proofs.Flags.{not_no}
 use borrow.Author.Rules.{rules}
 use Rattle.gossip_gate.proofs.AdmittedLaws.{admitted_topic}
 use Rattle.gossip_calls.proofs.StoreLaws.{stored_outside, stored_there, stored_full, stored_new, store_room}
@@ -21,7 +22,7 @@ returns-then-not-has_room c = search stored_full
 
 pub add-requires : goal.add-requires
 add-requires c =
-    store_room c.requires _ c.has_room.ensures c.if-not-has_room.false
+    store_room c.requires _ c.has_room.ensures (not_no c.if-not-has_room.false)
 
 pub returns : goal.returns
 returns c = search stored_new

@@ -1,28 +1,29 @@
 -- `gossip_old::made::load`: 2 of the set-up numbers, or what loading the table answers.
-use Rattle.index.proofs.Kit.{refl, failed, passed, rules}
+use Rattle.index.proofs.Flags.{yes, no}
+use Rattle.index.proofs.Kit.{refl, rules}
 use Rattle.gossip_old.proofs.MadeLaws.{load_range, load_refused, load_done}
 use Rattle.gossip_old.proofs.made.load.Goals as goal
 
 pub returns-then-not-setup_ok : goal.returns-then-not-setup_ok
-returns-then-not-setup_ok c = load_range _ _ _ _ _ _ (failed c.setup_ok.ensures c.if-not-setup_ok.true)
+returns-then-not-setup_ok c = load_range _ _ _ _ _ _ (no c.setup_ok.ensures c.if-not-setup_ok.true)
 
 pub returns-in-Done : goal.returns-in-Done
 returns-in-Done c =
-    let fine = passed c.setup_ok.ensures c.if-not-setup_ok.false in
+    let fine = yes c.setup_ok.ensures c.if-not-setup_ok.false in
     load_done _ _ _ _ _ _ _ _ fine c.load.ensures _
     c.in-Done.is c.make_array.ensures
 
 pub returns-in-OutOfRange : goal.returns-in-OutOfRange
 returns-in-OutOfRange c =
-    let fine = passed c.setup_ok.ensures c.if-not-setup_ok.false in
+    let fine = yes c.setup_ok.ensures c.if-not-setup_ok.false in
     load_refused _ _ _ _ _ _ _ _ fine c.load.ensures _ c.in-OutOfRange.is refl
 
 pub returns-in-Broken : goal.returns-in-Broken
 returns-in-Broken c =
-    let fine = passed c.setup_ok.ensures c.if-not-setup_ok.false in
+    let fine = yes c.setup_ok.ensures c.if-not-setup_ok.false in
     load_refused _ _ _ _ _ _ _ _ fine c.load.ensures _ c.in-Broken.is refl
 
 pub returns-in-Malformed : goal.returns-in-Malformed
 returns-in-Malformed c =
-    let fine = passed c.setup_ok.ensures c.if-not-setup_ok.false in
+    let fine = yes c.setup_ok.ensures c.if-not-setup_ok.false in
     load_refused _ _ _ _ _ _ _ _ fine c.load.ensures _ c.in-Malformed.is refl

@@ -4,4 +4,5 @@ use Rattle.gossip_table.specs.View.{setup_of}
 use Rattle.gossip_old.proofs.made.make_array.Goals as goal
 
 pub returns : goal.returns
+unfolding setup_of
 returns c = c.make.ensures

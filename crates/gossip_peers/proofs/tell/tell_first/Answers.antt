@@ -1,6 +1,5 @@
 use borrow.Author.Rules.{rules}
 use Rattle.index.proofs.Kit.{◌≡◌, ◌-◌, ◌≤◌, ◌<◌, refl, sym, ◌∙◌, arith}
-use mathlib.Core.Logic.{⊎_elim}
 use lib.ListN.{length, get_or}
 use Rattle.layout.specs.View.{state_of}
 use Rattle.words.specs.Words.{word_count, bits_of}
@@ -9,6 +8,7 @@ use Rattle.sets.proofs.WalkLaws.{at_below}
 use Rattle.gossip_peers.specs.Peers.{Tells}
 use Rattle.gossip_peers.proofs.TellLaws.{picked_to, picked_none, picked_few, picked_in, picked_out, picked_full, picked_all}
 use Rattle.gossip_peers.proofs.TellLaws.{tells_none, tells_size, tells_as, tells_more}
+use Rattle.gossip_peers.proofs.tell.tell_first.Goals.{then-at, else-at}
 use Rattle.gossip_peers.proofs.tell.tell_first.Goals as goal
 
 pub loop-i-init : goal.loop-i-init
@@ -67,22 +67,21 @@ loop-i-preserved c =
     let room = c.if-most-n.false in
     let st = state_of a.table.now in
     let p = bits_of a.set.now in
-    ⊎_elim
-    (λ w. (
+    elim c.if-at.branch [
+    | then-at w ↦ (
       omega arith,
       refl,
-      omega (arith, w.6),
-      tells_as (picked_in st p a.order.now l.i lt (sym c.at.ensures ∙ w.0.taken))
-          (rw w.6 (tells_more _ _ a.actions.now l.actions _ l.n l.invariant.3 (w.5 ∙ w.2.ensures))),
-    ))
-    (λ w. (
+      omega (arith, w.n-is),
+      tells_as (picked_in st p a.order.now l.i lt (sym c.at.ensures ∙ w.if-at.true))
+          (rw w.n-is (tells_more _ _ a.actions.now l.actions _ l.n l.invariant.3 (w.actions-is ∙ w.tell_slot.ensures))),
+    )
+    | else-at w ↦ (
       omega arith,
       refl,
-      omega (arith, w.2, l.invariant.2),
-      tells_as (picked_out st p a.order.now l.i lt (sym c.at.ensures ∙ w.0.left))
-          (rw (w.1, w.2) l.invariant.3),
-    ))
-    c.if-at.branch
+      omega (arith, w.n-is, l.invariant.2),
+      tells_as (picked_out st p a.order.now l.i lt (sym c.at.ensures ∙ w.if-at.false))
+          (rw (w.actions-is, w.n-is) l.invariant.3),
+    ) ]
 
 pub shape_of-actions : goal.shape_of-actions
 shape_of-actions c = tells_size c.loop-i.invariant.3

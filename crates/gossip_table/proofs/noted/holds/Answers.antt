@@ -8,3 +8,7 @@ use Rattle.gossip_table.proofs.noted.holds.Goals as goal
 
 pub holds-requires : goal.holds-requires
 holds-requires c = search set_fits
+
+pub returns : goal.returns
+unfolding gossip_of note_in note_at
+returns c = search rules

@@ -7,3 +7,7 @@ use Rattle.gossip_table.proofs.stored.announce.Goals as goal
 
 pub announce-requires : goal.announce-requires
 announce-requires c = search announce_fits
+
+pub returns : goal.returns
+unfolding gossip_of store_in
+returns c = search rules

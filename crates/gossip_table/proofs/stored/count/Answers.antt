@@ -6,3 +6,7 @@ use Rattle.gossip_table.proofs.stored.count.Goals as goal
 
 pub count-requires : goal.count-requires
 count-requires c = search fine_ordered
+
+pub returns : goal.returns
+unfolding gossip_of
+returns c = search rules

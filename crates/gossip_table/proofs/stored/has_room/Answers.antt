@@ -7,3 +7,7 @@ use Rattle.gossip_table.proofs.stored.has_room.Goals as goal
 
 pub has_room-requires : goal.has_room-requires
 has_room-requires c = let t = fine_topic c.requires in search rules
+
+pub returns : goal.returns
+unfolding gossip_of store_in
+returns c = search rules

@@ -7,3 +7,7 @@ use Rattle.gossip_table.proofs.stored.is_stored_in.Goals as goal
 
 pub is_stored_in-requires : goal.is_stored_in-requires
 is_stored_in-requires c = search fine_topic
+
+pub returns : goal.returns
+unfolding gossip_of store_in
+returns c = search rules

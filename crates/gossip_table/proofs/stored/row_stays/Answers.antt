@@ -13,4 +13,4 @@ pub slice_bounds-is_stored_at-end : goal.slice_bounds-is_stored_at-end
 slice_bounds-is_stored_at-end c = let e = c.requires.size in omega (arith, e)
 
 pub returns : goal.returns
-returns c = search (stays_by, rules)
+returns c = stays_by _ _ _ _ c.row_number-number.ensures c.is_stored_at.ensures

@@ -1,6 +1,6 @@
+use Rattle.index.proofs.Flags.{yes, no}
 use Rattle.index.proofs.Kit.{◌≤◌, ◌-◌, ◌≡◌, sym, arith, rules, every, true}
 use Rattle.index.proofs.Index.{every_none, every_more, every_out, every_done}
-use Rattle.index.proofs.Flags.{failed, passed}
 use Rattle.records.specs.Records.{slot_count, peer_in}
 use Rattle.layout.specs.View.{state_of}
 use Rattle.gossip.specs.Notes.{note_in}
@@ -33,12 +33,12 @@ note_ok-requires c =
 pub returns-then-not-note_ok : goal.returns-then-not-note_ok
 returns-then-not-note_ok c =
     let t = c.loop-slot-test.true in
-    every_out _ slot_count c.loop-slot.slot (omega (arith, t)) (failed c.note_ok.ensures c.if-not-note_ok.true)
+    every_out _ slot_count c.loop-slot.slot (omega (arith, t)) (no c.note_ok.ensures c.if-not-note_ok.true)
 
 pub loop-slot-preserved : goal.loop-slot-preserved
 loop-slot-preserved c =
     let t = c.loop-slot-test.true in
-    (omega (arith, t), every_more _ _ c.loop-slot.invariant.1 (passed c.note_ok.ensures c.if-not-note_ok.false))
+    (omega (arith, t), every_more _ _ c.loop-slot.invariant.1 (yes c.note_ok.ensures c.if-not-note_ok.false))
 
 pub returns : goal.returns
 returns c =

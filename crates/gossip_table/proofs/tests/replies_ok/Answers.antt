@@ -1,6 +1,6 @@
 -- `gossip_table::tests::replies_ok`: the rows, and then whether their numbers are stored.
+use Rattle.index.proofs.Flags.{yes, no}
 use Rattle.index.proofs.Kit.{arith, rules}
-use Rattle.index.proofs.Flags.{failed, passed}
 use Rattle.gossip_table.proofs.StoreParts.{replies_size}
 use Rattle.gossip_table.proofs.TestLaws.{connected_is, rows_broken, rows_judged, rows_few}
 use Rattle.gossip_table.proofs.tests.replies_ok.Goals as goal
@@ -16,16 +16,16 @@ returns-then-not-rows_ok c =
     let w = c.load_connected-connected.ensures in
     rows_broken _ c.args.gossip.now _ _ c.load_reply_bound-most.ensures
     (connected_is _ c.requires.router _ w.0 w.1)
-    (failed c.rows_ok.ensures c.if-not-rows_ok.true)
+    (no c.rows_ok.ensures c.if-not-rows_ok.true)
 
 pub rows_stored-requires : goal.rows_stored-requires
 rows_stored-requires c =
     let p = c.requires in
-    record { size = p.sizes; windows = p.windows; rows = rows_few _ _ _ (passed c.rows_ok.ensures c.if-not-rows_ok.false) }
+    record { size = p.sizes; windows = p.windows; rows = rows_few _ _ _ (yes c.rows_ok.ensures c.if-not-rows_ok.false) }
 
 pub returns : goal.returns
 returns c =
     let w = c.load_connected-connected.ensures in
     rows_judged _ c.args.gossip.now _ _ c.load_reply_bound-most.ensures
     (connected_is _ c.requires.router _ w.0 w.1)
-    _ (passed c.rows_ok.ensures c.if-not-rows_ok.false) c.rows_stored.ensures
+    _ (yes c.rows_ok.ensures c.if-not-rows_ok.false) c.rows_stored.ensures

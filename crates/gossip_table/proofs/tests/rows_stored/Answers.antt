@@ -1,6 +1,6 @@
+use Rattle.index.proofs.Flags.{yes, no}
 use Rattle.index.proofs.Kit.{◌≤◌, ◌-◌, ◌≡◌, sym, arith, rules, every, true}
 use Rattle.index.proofs.Index.{every_none, every_more, every_out, every_done}
-use Rattle.index.proofs.Flags.{failed, passed}
 use Rattle.gossip_table.specs.View.{gossip_of}
 use Rattle.gossip_table.specs.Fine.{is_kept}
 use Rattle.gossip_table.proofs.StoreParts.{replies_size, replies_count}
@@ -24,12 +24,12 @@ returns-then-not-row_stays c =
     let t = c.loop-row-test.true in
     let r = c.rows-end.ensures in
     let e = replies_count c.args.gossip.now in
-    every_out _ _ c.loop-row.row (omega (arith, t, r, e)) (failed c.row_stays.ensures c.if-not-row_stays.true)
+    every_out _ _ c.loop-row.row (omega (arith, t, r, e)) (no c.row_stays.ensures c.if-not-row_stays.true)
 
 pub loop-row-preserved : goal.loop-row-preserved
 loop-row-preserved c =
     let t = c.loop-row-test.true in
-    (omega (arith, t), every_more _ _ c.loop-row.invariant.1 (passed c.row_stays.ensures c.if-not-row_stays.false))
+    (omega (arith, t), every_more _ _ c.loop-row.invariant.1 (yes c.row_stays.ensures c.if-not-row_stays.false))
 
 pub returns : goal.returns
 returns c =

@@ -4,4 +4,5 @@ use Rattle.gossip.specs.Valid.{setup_ok}
 use Rattle.gossip_table.proofs.tests.setup_ok.Goals as goal
 
 pub returns : goal.returns
+unfolding setup_ok
 returns c = refl

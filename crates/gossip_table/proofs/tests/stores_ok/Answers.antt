@@ -1,6 +1,6 @@
+use Rattle.index.proofs.Flags.{yes, no}
 use Rattle.index.proofs.Kit.{◌≤◌, ◌-◌, ◌≡◌, sym, arith, rules, every, true}
 use Rattle.index.proofs.Index.{every_none, every_more, every_out, every_done}
-use Rattle.index.proofs.Flags.{failed, passed}
 use Rattle.records.specs.Records.{topic_count}
 use Rattle.layout.specs.View.{state_of}
 use Rattle.effects.specs.Effects.{is_joined}
@@ -29,14 +29,14 @@ store_ok-requires c = (stores_size c.args.gossip.now c.requires.sizes, c.loop-t-
 pub returns-then-not-store_ok : goal.returns-then-not-store_ok
 returns-then-not-store_ok c =
     every_out _ topic_count c.loop-t.t (let t = c.loop-t-test.true in omega (arith, t))
-    (failed (store_judged c.args.gossip.now _ c.is_joined-joined.ensures c.store_ok.ensures) c.if-not-store_ok.true)
+    (no (store_judged c.args.gossip.now _ c.is_joined-joined.ensures c.store_ok.ensures) c.if-not-store_ok.true)
 
 pub loop-t-preserved : goal.loop-t-preserved
 loop-t-preserved c =
     (
       let t = c.loop-t-test.true in omega (arith, t),
       every_more _ _ c.loop-t.invariant.1
-          (passed (store_judged c.args.gossip.now _ c.is_joined-joined.ensures c.store_ok.ensures) c.if-not-store_ok.false),
+          (yes (store_judged c.args.gossip.now _ c.is_joined-joined.ensures c.store_ok.ensures) c.if-not-store_ok.false),
     )
 
 pub returns : goal.returns

@@ -22,7 +22,9 @@ pub loop-lowest-preserved : goal.loop-lowest-preserved
 loop-lowest-preserved c = search auto
 
 pub returns-then-lowest-ge-SLOTS : goal.returns-then-lowest-ge-SLOTS
+unfolding lowest_empty
 returns-then-lowest-ge-SLOTS c = search auto
 
 pub returns-then-is_empty : goal.returns-then-is_empty
+unfolding lowest_empty
 returns-then-is_empty c = search auto

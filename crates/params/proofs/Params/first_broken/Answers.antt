@@ -1,5 +1,5 @@
 -- `params::Params::first_broken`: the parameters of the codes are the parameters. Assumes nothing.
-use Rattle.index.proofs.Kit.{rules, ◌∙◌, ap}
+use Rattle.index.proofs.Kit.{◌∙◌, ap}
 use Rattle.params.specs.Editions.{coded}
 use Rattle.params.specs.Check.{first_broken}
 use Rattle.params.proofs.CheckLaws.{coded_back}

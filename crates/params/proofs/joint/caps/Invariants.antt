@@ -1,10 +1,9 @@
 -- `params::joint::caps` meets its contract. Assumes nothing.
-use Rattle.index.proofs.Kit.{◌≤◌, ◌-◌, ◌≡◌, arith, every, rules}
+use Rattle.index.proofs.Kit.{◌≤◌, ◌-◌, ◌≡◌, every}
 use mathlib.Core.List.{map}
 use Rattle.varint.specs.Codes.{number_of}
 use Rattle.records.specs.Records.{topic_count}
 use Rattle.params.specs.Joint.{cap_rule}
-use Rattle.params.proofs.CodeRules.{every_start, every_and, cap_of}
 use Rattle.params.proofs.joint.caps.Given as goal
 
 abbrev pub invariant-loop-k : goal.invariant-loop-k

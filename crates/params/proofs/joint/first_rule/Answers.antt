@@ -1,10 +1,5 @@
-use Rattle.index.proofs.Kit.{◌≤◌, ◌-◌, ◌≡◌, arith, first}
 use Rattle.index.proofs.Auto.{auto}
 use Rattle.index.proofs.Flags.{not_yes, not_no}
-use Rattle.index.specs.declared.Found.TheVariants.{Nothing}
-use mathlib.Core.List.{map}
-use Rattle.varint.specs.Codes.{number_of}
-use Rattle.params.specs.Joint.{rule_count}
 use Rattle.params.specs.Check.{broken}
 use Rattle.params.proofs.joint.first_rule.Goals as goal
 

@@ -1,7 +1,5 @@
 -- `params::joint::first_rule` meets its contract. Assumes nothing.
-use Rattle.index.proofs.Kit.{◌≤◌, ◌-◌, ◌≡◌, arith, first}
-use Rattle.index.proofs.Auto.{auto}
-use Rattle.index.proofs.Flags.{not_yes, not_no}
+use Rattle.index.proofs.Kit.{◌≤◌, ◌-◌, ◌≡◌, first}
 use Rattle.index.specs.declared.Found.TheVariants.{Nothing}
 use mathlib.Core.List.{map}
 use Rattle.varint.specs.Codes.{number_of}

@@ -1,5 +1,5 @@
 -- `params::joint::keeps`: each arm is a rule of codes, which is that of the numbers. Assumes nothing.
-use Rattle.index.proofs.Kit.{arith, ◌≡◌, ◌∙◌}
+use Rattle.index.proofs.Kit.{arith, rules, ◌≡◌, ◌∙◌}
 use mathlib.Core.List.{map}
 use Rattle.varint.specs.Codes.{number_of}
 use Rattle.params.proofs.CodeRules.{le_lo, le_hi, lt_lo, twice_out, score_is, le_gossip, lt_publish, caps_are, out_small, rule_at}
@@ -52,9 +52,7 @@ returns-in-6 c =
 
 pub returns-in_default : goal.returns-in_default
 returns-in_default c =
-    let r = c.in_default.in_default-own.rest in
     let e : c.args.k ≡ 7 =
-    seven _ c.requires.2 r.0.0.0.0.0.0.1 r.0.0.0.0.0.1 r.0.0.0.0.1 r.0.0.0.1 r.0.0.1 r.0.1
-    r.1 in
+    seven _ c.requires.2 (search rules) (search rules) (search rules) (search rules) (search rules) (search rules) (search rules) in
     rule_at (map number_of c.args.codes.now) _ _ 7 _ e
     (c.caps.ensures ∙ caps_are c.args.codes.now c.requires.1 c.args.edition)

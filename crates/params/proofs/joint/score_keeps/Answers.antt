@@ -1,5 +1,5 @@
 -- `params::joint::score_keeps`: the rule of codes is that of the numbers. Assumes nothing.
-use Rattle.index.proofs.Kit.{rules, arith}
+use Rattle.index.proofs.Kit.{arith}
 use mathlib.Core.List.{map}
 use Rattle.varint.specs.Codes.{number_of}
 use Rattle.params.proofs.CodeRules.{sum_out, le_score, score_in, out_small, score_small}

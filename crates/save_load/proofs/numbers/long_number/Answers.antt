@@ -1,4 +1,5 @@
 use Prim.{tt}
+use Rattle.index.proofs.Kit.{ap, not}
 use Prim.Native.Nat.{◌-◌}
 use native.Mathlib.Omega.{arith}
 use Rattle.save_load.proofs.NumberLaws.{Joining, joining_start, joining_byte, joining_more, joining_all}
@@ -14,7 +15,7 @@ pub returns-then-not-value : goal.returns-then-not-value
 returns-then-not-value c = c.read_u64.ensures
 
 pub loop-place-init : goal.loop-place-init
-loop-place-init c = joining_start _ _ _ _ c.last_of-last.ensures c.wide-value.ensures c.if-not-value.false
+loop-place-init c = joining_start _ _ _ _ c.last_of-last.ensures c.wide-value.ensures (ap not c.if-not-value.false)
 
 pub returns-then-value-gt-ROOM : goal.returns-then-value-gt-ROOM
 returns-then-value-gt-ROOM c = c.read_u64-then-value-gt-ROOM.ensures

@@ -5,4 +5,5 @@ use Rattle.saves.specs.Load.{loaded_topic}
 use Rattle.save_load.proofs.row.loaded_topic.Goals as goal
 
 pub returns : goal.returns
+unfolding loaded_topic
 returns c = refl

@@ -1,10 +1,10 @@
+use Rattle.index.proofs.Flags.{yes, no}
 use Prim.Native.Nat.{◌-◌, ◌≤◌}
 use native.Mathlib.Omega.{arith}
 use mathlib.Core.Bool.{true}
 use mathlib.Core.Path.{◌≡◌, refl}
 use borrow.Author.Rules.{rules}
 use borrow.Author.Tests.{not-false}
-use Rattle.index.proofs.Flags.{failed, passed}
 use Rattle.gossip.specs.Notes.{window_count}
 use Rattle.gossip.specs.Valid.{apart}
 use Rattle.stores.specs.Marks.{before, Seen}
@@ -16,14 +16,14 @@ loop-w-init c = (omega arith, none_apart _ _, none_seen _ _ _ refl)
 
 pub returns-then-not-window_apart : goal.returns-then-not-window_apart
 returns-then-not-window_apart c =
-    all_out _ _ c.loop-w.w (omega arith) (failed c.window_apart.ensures.0 c.if-not-window_apart.true)
+    all_out _ _ c.loop-w.w (omega arith) (no c.window_apart.ensures.0 c.if-not-window_apart.true)
 
 pub loop-w-preserved : goal.loop-w-preserved
 loop-w-preserved c =
     (
       omega arith,
-      passed c.window_apart.ensures.0 c.if-not-window_apart.false,
-      c.window_apart.ensures.1 (not-false _ c.if-not-window_apart.false),
+      yes c.window_apart.ensures.0 c.if-not-window_apart.false,
+      c.window_apart.ensures.1 c.if-not-window_apart.false,
     )
 
 pub returns : goal.returns

@@ -11,5 +11,5 @@ number-n-requires c =
 pub returns : goal.returns
 returns c =
     rw c.mark.ensures
-    (next_told _ _ _ _ _ _ _ _ _ c.requires c.number.ensures c.bucket.ensures.0
+    (next_told _ _ _ _ _ _ _ _ _ c.requires c.number-n.ensures c.bucket-b.ensures.0
     c.is_marked-known.ensures c.is_new.ensures)

@@ -1,9 +1,9 @@
+use Rattle.index.proofs.Flags.{yes, no}
 use Prim.Native.Nat.{◌-◌, ◌≤◌}
 use native.Mathlib.Omega.{arith}
 use mathlib.Core.Bool.{true}
 use mathlib.Core.Path.{◌≡◌, ap, ◌∙◌}
 use borrow.Author.Rules.{rules}
-use Rattle.index.proofs.Flags.{failed, passed}
 use Rattle.gossip.specs.Valid.{apart}
 use Rattle.stores.specs.Marks.{before, up_to, Seen}
 use Rattle.stores.proofs.ApartLaws.{up_none, window_seen, apart_out, apart_more, window_apart, clash}
@@ -20,13 +20,13 @@ loop-k-init c =
 pub returns-then-not-next_new : goal.returns-then-not-next_new
 returns-then-not-next_new c =
     let l = c.loop-k in
-    (apart_out _ _ _ l.k (omega arith) (failed c.next_new.ensures.0 c.if-not-next_new.true), λ e. clash e)
+    (apart_out _ _ _ l.k (omega arith) (no c.next_new.ensures.0 c.if-not-next_new.true), λ e. clash e)
 
 pub loop-k-preserved : goal.loop-k-preserved
 loop-k-preserved c =
     let l = c.loop-k in (
       omega arith,
-      apart_more _ _ _ l.k (omega arith) l.invariant.1 (passed c.next_new.ensures.0 c.if-not-next_new.false),
+      apart_more _ _ _ l.k (omega arith) l.invariant.1 (yes c.next_new.ensures.0 c.if-not-next_new.false),
       c.next_new.ensures.1,
     )
 

@@ -15,7 +15,7 @@ sort_given-requires c = let p = c.requires.1 in (p.0, p.1.0)
 pub flag_stored-requires : goal.flag_stored-requires
 flag_stored-requires c =
     let p = c.requires in
-    (p.0, given_first _ _ c.sort-given.ensures p.1.0)
+    (p.0, given_first _ _ c.sort_given.ensures p.1.0)
 
 pub loop-i-init : goal.loop-i-init
 loop-i-init c = (omega arith, omega arith, listed_none _ _ _ _ c.flag_stored.ensures)
@@ -24,7 +24,7 @@ pub next_want-size-requires : goal.next_want-size-requires
 next_want-size-requires c =
     let l = c.loop-i in
     let p = c.requires.1 in
-    let s = c.sort-given.ensures in
+    let s = c.sort_given.ensures in
     let t = c.loop-i-test.true in
     let i = l.invariant.1 in
     let m = p.1.1 in

@@ -1,3 +1,4 @@
+use mathlib.Core.Path.{◌∙◌}
 use Rattle.index.proofs.Kit.{◌≤◌, ◌-◌, ◌≡◌, refl, sym, arith, rules, every, true}
 use Rattle.index.proofs.Index.{every-loop, every_more, every_out, every_done}
 use Rattle.index.proofs.Flags.{failed, passed}
@@ -20,12 +21,12 @@ next_new-requires c =
 pub returns-then-not-next_new : goal.returns-then-not-next_new
 returns-then-not-next_new c =
     let b = c.requires.low in
-    every_out _ slot_count c.loop-slot.slot (omega arith) (failed c.next_new.ensures.0 c.if-not-next_new.true)
+    every_out _ slot_count c.loop-slot.slot (omega arith) (sym c.next_new.ensures.0 ∙ c.if-not-next_new.true)
 
 pub loop-slot-preserved : goal.loop-slot-preserved
 loop-slot-preserved c =
     let l = c.loop-slot in
-    (omega arith, every_more _ _ l.invariant.1 (passed c.next_new.ensures.0 c.if-not-next_new.false), c.next_new.ensures.1)
+    (omega arith, every_more _ _ l.invariant.1 (sym c.next_new.ensures.0 ∙ c.if-not-next_new.false), c.next_new.ensures.1)
 
 pub returns : goal.returns
 returns c =

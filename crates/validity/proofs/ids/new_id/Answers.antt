@@ -1,5 +1,5 @@
 use Rattle.index.proofs.Kit.{◌≤◌, ◌-◌, ◌≡◌, arith, rules, every, true}
-use mathlib.Core.Path.{ap₂, ◌∙◌}
+use mathlib.Core.Path.{ap₂, ◌∙◌, sym}
 use Rattle.index.proofs.Index.{every-loop, every_more, every_out}
 use Rattle.index.proofs.Flags.{failed, passed}
 use Rattle.records.specs.Records.{peer_in}
@@ -14,17 +14,16 @@ pub returns-then-not-apart : goal.returns-then-not-apart
 unfolding new_id
 returns-then-not-apart c =
     every_out _ _ _ (omega arith)
-    (failed (c.apart.ensures ∙ ap₂ apart c.load_id-id.ensures c.load_id.ensures)
-    c.if-not-apart.true)
+    (sym (c.apart.ensures ∙ ap₂ apart c.load_id-id.ensures c.load_id.ensures) ∙ c.if-not-apart.true)
 
 pub loop-k-preserved : goal.loop-k-preserved
 loop-k-preserved c =
     (
       omega arith,
       every_more _ _ c.loop-k.invariant.1
-          (passed (c.apart.ensures ∙ ap₂ apart c.load_id-id.ensures c.load_id.ensures)
-          c.if-not-apart.false),
+          (sym (c.apart.ensures ∙ ap₂ apart c.load_id-id.ensures c.load_id.ensures) ∙ c.if-not-apart.false),
     )
 
 pub returns : goal.returns
+unfolding new_id
 returns c = search (every-loop, rules)

@@ -21,6 +21,6 @@ returns-then-not-ends_within c e = refused e
 pub returns : goal.returns
 returns c e =
     columns_told _ _ _ _ _ (record { p2 = c.caps-caps2.ensures; p3 = c.caps-caps3.ensures })
-    (c.peers_within.ensures (passed refl c.if-not-peers_within.false))
-    (c.ends_within.ensures (passed refl c.if-not-ends_within.false))
+    (c.peers_within.ensures c.if-not-peers_within.false)
+    (c.ends_within.ensures c.if-not-ends_within.false)
     (c.counters_within.ensures e)

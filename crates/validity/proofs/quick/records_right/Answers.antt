@@ -47,20 +47,20 @@ pub ids_distinct-requires : goal.ids_distinct-requires
 ids_distinct-requires c =
     let u = c.load_used-used in
     up_to _ _ (omega arith)
-    (c.words_right.ensures (passed refl c.if-not-words_right.false))
+    (c.words_right.ensures c.if-not-words_right.false)
     c.requires.0 u.ensures.1
 
 pub returns : goal.returns
 returns c e =
     let u = c.load_used-used in
     let k = c.load_clock-clock.ensures in
-    let q = c.columns_right.ensures (passed refl c.if-not-columns_right.false) in
-    let p = c.slots_right.ensures (passed refl c.if-not-slots_right.false) in
+    let q = c.columns_right.ensures c.if-not-columns_right.false in
+    let p = c.slots_right.ensures c.if-not-slots_right.false in
     record {
       slots = λ h.
           slots_told _ _ (omega arith)
           (c.words_right.ensures
-          (passed refl c.if-not-words_right.false)) h
+          c.if-not-words_right.false) h
           (ends_near _ _ _ k q)
           (retains_near _ _ _ k p)
           u.ensures.1;

@@ -13,7 +13,7 @@ returns-then-not-topics_flags c e = refused e
 
 pub returns : goal.returns
 returns c e =
-    words_told _ _ _ (c.peer_flags.ensures (passed refl c.if-not-peer_flags.false))
-    (c.topics_flags.ensures (passed refl c.if-not-topics_flags.false))
+    words_told _ _ _ (c.peer_flags.ensures c.if-not-peer_flags.false)
+    (c.topics_flags.ensures c.if-not-topics_flags.false)
     (c.times_within.ensures e)
     c.load_clock-clock.ensures

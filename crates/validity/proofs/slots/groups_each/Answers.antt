@@ -23,7 +23,7 @@ loop-s-preserved c =
     let l = c.loop-s in (
       omega arith,
       up_more _ l.s l.invariant.1
-          (rising_told _ l.s _ _ c.load_groups.ensures c.rising_ok.ensures (passed refl c.if-not-rising_ok.false)),
+          (rising_told _ l.s _ _ c.load_groups.ensures c.rising_ok.ensures c.if-not-rising_ok.false),
     )
 
 pub returns : goal.returns

@@ -1,5 +1,5 @@
 use Prim.Native.Nat.{◌+◌, ◌*◌, ◌<◌}
-use mathlib.Core.Path.{◌≡◌}
+use mathlib.Core.Path.{◌≡◌, sym, ◌∙◌}
 use mathlib.Core.Bool.{true}
 use native.Mathlib.Omega.{arith}
 use lib.Count.{trailing_le}
@@ -38,7 +38,7 @@ loop-b-smaller c = let l = c.loop-b in falls l.b (omega arith) l.invariant.small
 pub loop-b-preserved : goal.loop-b-preserved
 loop-b-preserved c =
     let l = c.loop-b in
-    walk_more _ _ l.b (omega arith) l.invariant (λ h. passed c.empty_slot.ensures c.if-not-empty_slot.false)
+    walk_more _ _ l.b (omega arith) l.invariant (λ h. (sym c.empty_slot.ensures ∙ c.if-not-empty_slot.false))
 
 pub returns : goal.returns
 returns c e = walk_end _ _ c.loop-b.b (omega arith) c.loop-b.invariant

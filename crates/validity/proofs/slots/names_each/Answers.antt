@@ -19,7 +19,7 @@ returns-then-not-name_at c e = refused e
 pub loop-s-preserved : goal.loop-s-preserved
 loop-s-preserved c =
     let l = c.loop-s in
-    (omega arith, up_more _ l.s l.invariant.1 (c.name_at.ensures (passed refl c.if-not-name_at.false)))
+    (omega arith, up_more _ l.s l.invariant.1 (c.name_at.ensures c.if-not-name_at.false))
 
 pub returns : goal.returns
 returns c e k h = c.loop-s.invariant.1 k (omega arith)

@@ -16,8 +16,8 @@ returns-then-not-retains_right c e = refused e
 pub returns : goal.returns
 returns c e =
     record {
-      groups = c.groups_right.ensures (passed refl c.if-not-groups_right.false);
-      names = c.names_right.ensures (passed refl c.if-not-names_right.false);
-      retains = c.retains_right.ensures (passed refl c.if-not-retains_right.false);
+      groups = c.groups_right.ensures c.if-not-groups_right.false;
+      names = c.names_right.ensures c.if-not-names_right.false;
+      retains = c.retains_right.ensures c.if-not-retains_right.false;
       holes = c.holes_right.ensures e;
     }

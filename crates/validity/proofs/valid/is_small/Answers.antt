@@ -1,5 +1,5 @@
 use Prim.Native.Nat.{ℕ, ◌≤◌, ◌-◌}
-use mathlib.Core.Path.{◌≡◌, ap}
+use mathlib.Core.Path.{◌≡◌, ap, sym, ◌∙◌}
 use native.Mathlib.Omega.{arith}
 use borrow.Author.Rules.{rules}
 use Rattle.index.proofs.Flags.{passed}
@@ -28,5 +28,5 @@ loop-t-preserved c =
 pub returns : goal.returns
 returns c e =
     let l = c.loop-t in
-    small_all _ _ _ _ _ _ (omega arith) (omega arith) (passed c.ends_near.ensures c.if-not-ends_near.false)
+    small_all _ _ _ _ _ _ (omega arith) (omega arith) (sym c.ends_near.ensures ∙ c.if-not-ends_near.false)
     l.invariant.1 l.invariant.2 l.invariant.3 e

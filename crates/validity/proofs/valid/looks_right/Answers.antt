@@ -19,7 +19,7 @@ returns-then-not-joined_ok c e = refused e
 pub returns : goal.returns
 returns c e =
     valid_told _ _ (subst (λ (n : ℕ). n ≤ max_time) c.load_clock.ensures c.if-load_clock-gt-MAX_TIME.false)
-    (c.accepted.ensures (passed refl c.if-not-accepted.false))
+    (c.accepted.ensures c.if-not-accepted.false)
     c.joined_ok.ensures
-    (passed refl c.if-not-joined_ok.false)
+    c.if-not-joined_ok.false
     (c.records_right.ensures e)

@@ -1,5 +1,5 @@
 use Prim.Native.Nat.{◌≤◌, ◌-◌}
-use mathlib.Core.Path.{◌≡◌, sym}
+use mathlib.Core.Path.{◌≡◌, sym, ◌∙◌}
 use mathlib.Core.Bool.{true}
 use native.Mathlib.Omega.{arith}
 use borrow.Author.Rules.{rules}
@@ -24,7 +24,7 @@ pub returns-then-not-slot_ok : goal.returns-then-not-slot_ok
 returns-then-not-slot_ok c =
     let b = c.requires.0.low in
     let t = c.loop-slot-test.true in
-    every_out _ slot_count c.loop-slot.slot (omega arith) (failed c.slot_ok.ensures c.if-not-slot_ok.true)
+    every_out _ slot_count c.loop-slot.slot (omega arith) (sym c.slot_ok.ensures ∙ c.if-not-slot_ok.true)
 
 pub overflow_add-slot : goal.overflow_add-slot
 overflow_add-slot c = let b = c.requires.0.low in omega arith
@@ -32,7 +32,7 @@ overflow_add-slot c = let b = c.requires.0.low in omega arith
 pub loop-slot-preserved : goal.loop-slot-preserved
 loop-slot-preserved c =
     let l = c.loop-slot in
-    (omega arith, every_more _ _ l.invariant.1 (passed c.slot_ok.ensures c.if-not-slot_ok.false))
+    (omega arith, every_more _ _ l.invariant.1 (sym c.slot_ok.ensures ∙ c.if-not-slot_ok.false))
 
 pub returns : goal.returns
 returns c =

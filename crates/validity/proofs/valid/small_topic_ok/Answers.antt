@@ -16,8 +16,8 @@ returns-then-t-eq0 c =
     outside_is _ _ _ _ _ _ c.requires.0 c.if-cap2-t.false c.if-cap3-t.false c.if-t-eq0.true
 
 pub returns-then-not-t-explicit : goal.returns-then-not-t-explicit
-returns-then-not-t-explicit c = neither _ _ _ _ _ _ c.if-t-eq0.false (failed refl c.if-not-t-explicit.true)
+returns-then-not-t-explicit c = neither _ _ _ _ _ _ c.if-t-eq0.false c.if-not-t-explicit.true
 
 pub returns : goal.returns
 returns c =
-    inside_is _ _ _ _ _ _ c.requires.0 c.if-cap2-t.false c.if-cap3-t.false c.requires.1 (passed refl c.if-not-t-explicit.false) _ c.sum_at_most.ensures
+    inside_is _ _ _ _ _ _ c.requires.0 c.if-cap2-t.false c.if-cap3-t.false c.requires.1 c.if-not-t-explicit.false _ c.sum_at_most.ensures
