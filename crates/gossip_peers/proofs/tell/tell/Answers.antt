@@ -34,7 +34,7 @@ tell_slot-requires c =
     let w = l.invariant.2 in
     let f = told_few (state_of a.table.now) a.kind (bits_of a.set.now) l.slot in
     let z = tells_size w in
-    (record { standing = p.standing; slot = t }, omega (arith, p.room, w.many))
+    record { slot_standing = record { standing = p.standing; slot = t }; n_in_bounds = omega (arith, p.room, w.many) }
 
 pub overflow_add-n : goal.overflow_add-n
 overflow_add-n c =

@@ -48,7 +48,10 @@ tell_slot-requires c =
     let q : length a.set.now ≡ word_count = search rules in
     let m = bits_of_length a.set.now in
     let h = at_below (bits_of a.set.now) (get_or a.order.now l.i 0) (sym c.at.ensures ∙ c.if-at.true) in
-    (record { standing = p.0.standing; slot = omega arith }, omega (arith, p.0.room, p.1, w.many, l.invariant.1))
+    record {
+      slot_standing = record { standing = p.0.standing; slot = omega arith };
+      n_in_bounds = omega (arith, p.0.room, p.1, w.many, l.invariant.1);
+    }
 
 pub overflow_add-n : goal.overflow_add-n
 overflow_add-n c =

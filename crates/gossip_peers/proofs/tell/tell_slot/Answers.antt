@@ -10,8 +10,8 @@ use Rattle.gossip_peers.proofs.tell.tell_slot.Goals as goal
 pub put-requires : goal.put-requires
 put-requires c =
     let p = c.requires in
-    let f = ((valid_facts _ p.0.standing.router).peer _ p.0.slot).id in
-    (omega (arith, p.1), (rw c.load_id.ensures f, omega arith))
+    let f = ((valid_facts _ p.slot_standing.standing.router).peer _ p.slot_standing.slot).id in
+    record { n_in_bounds = p.n_in_bounds; id_bound = rw c.load_id.ensures f; seconds_bound = omega arith }
 
 pub returns : goal.returns
 unfolding numbers_of
