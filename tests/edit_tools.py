@@ -79,5 +79,5 @@ def is_refused(said, checked):
 
 def first_error(said):
     """The first error of a check, short."""
-    first = re.search(r"^(?:\./)?(\S+:\d+:\d+: error.*)$", said, re.M) or re.search(r"^(fn \S+: not proved)", said, re.M)
+    first = re.search(r"^(?:\./)?(\S+:\d+:\d+: error.*)$", said, re.M) or re.search(r"^(fn \S+: (?:not proved|no proof).*)$", said, re.M)
     return first[1][:160] if first else "no error of a proof: " + " ".join(said.split("\n")[-3:])[:160]
