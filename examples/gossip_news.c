@@ -8,7 +8,7 @@
  * The host keeps the messages and carries what is sent. A message is its number here, and a cable is a copy into the other's inbox; in a
  * product all of this is RPCs, as in examples/three_hubs.c.
  *
- *     gcc -Iinclude examples/gossip_news.c target/staticlib/libhost.a -o gossip_news && ./gossip_news
+ *     gcc -Iinclude examples/gossip_news.c crates/host/out/libhost.a -o gossip_news && ./gossip_news
  */
 #include <inttypes.h>
 #include <stdbool.h>

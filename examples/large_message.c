@@ -9,7 +9,7 @@
  * is told IDONTWANT, and to whom the message goes. examples/three_hubs.c shows how a mesh forms and how an RPC is written; here the
  * hubs take each other's GRAFT at once.
  *
- *     gcc -Iinclude examples/large_message.c target/staticlib/libhost.a -o large_message && ./large_message
+ *     gcc -Iinclude examples/large_message.c crates/host/out/libhost.a -o large_message && ./large_message
  */
 #include <inttypes.h>
 #include <stdbool.h>

@@ -4,7 +4,7 @@
  * The lobby's host saves what its router remembers before the power goes, and loads it when the power comes back, at a clock that
  * begins anew. All peers have to connect again; what they did is not forgotten.
  *
- *     gcc -Iinclude examples/power_cycle.c target/staticlib/libhost.a -o power_cycle && ./power_cycle
+ *     gcc -Iinclude examples/power_cycle.c crates/host/out/libhost.a -o power_cycle && ./power_cycle
  */
 #include <inttypes.h>
 #include <stdio.h>

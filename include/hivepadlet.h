@@ -3,7 +3,7 @@
  *
  * The router keeps the score of every peer, its backoffs, and who is in the mesh of each topic. It opens no socket, reads no
  * clock, makes no random number and allocates nothing: you tell it what happened and when, it tells you what to send. Link
- * libhost.a (x86-64, written by `rt staticlib host`); it needs memcpy and memset, and nothing else.
+ * libhost.a (x86-64, written by `rt lib` in crates/host); it needs memcpy and memset, and nothing else.
  *
  *     static uint64_t table[HIVEPADLET_CELLS];
  *     static uint32_t actions[HIVEPADLET_ACTION_NUMBERS];

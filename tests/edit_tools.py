@@ -49,14 +49,11 @@ def edited(folder, pairs):
 
 
 def copied(copy):
-    """The crates, and what is proved of them, in an empty folder."""
-    for name in ("crates", "crates.txt"):
-        source = os.path.join(top, name)
-        (shutil.copytree if os.path.isdir(source) else shutil.copy)(source, os.path.join(copy, name))
-    for name in ("rlib", "stamp"):
-        source = os.path.join(top, "target", name)
-        if os.path.isdir(source):
-            shutil.copytree(source, os.path.join(copy, "target", name))
+    """The crates in an empty folder. What earlier checks kept of them, rt finds itself."""
+    shutil.copytree(os.path.join(top, "crates"), os.path.join(copy, "crates"), ignore=shutil.ignore_patterns("out"))
+    for name in ("crates.txt", "HANDLES"):
+        if os.path.isfile(os.path.join(top, name)):
+            shutil.copy(os.path.join(top, name), os.path.join(copy, name))
 
 
 def tried(copy, crate, pairs, checked):
@@ -67,13 +64,20 @@ def tried(copy, crate, pairs, checked):
     before = {path: open(path, encoding="utf-8").read() for path in texts}
     for path, text in texts.items():
         open(path, "w", encoding="utf-8").write(text)
-    run = subprocess.run(["rt", "check", checked], cwd=copy, capture_output=True, text=True)
+    run = subprocess.run(["rt", "check"], cwd=os.path.join(copy, "crates", checked), stdout=subprocess.PIPE, stderr=subprocess.STDOUT, text=True)
     for path, text in before.items():
         open(path, "w", encoding="utf-8").write(text)
-    return run.stdout + run.stderr, ""
+    return run.stdout, ""
+
+
+def is_refused(said, checked):
+    """Whether a check read the crate, and the libraries below it proved, and could not prove it."""
+    verdicts = re.findall(r"^(?:rt: chose --jobs \d+ for (\w+)|crate (\w+): modules loaded=.*|(logic=\S+).*)$", said, re.M)
+    names = [first or second for first, second, _ in verdicts if first or second]
+    return bool(names) and names[-1] == checked and verdicts[-1][2] == "logic=not-proved"
 
 
 def first_error(said):
-    """Where the first error of a check is."""
-    first = re.search(r"^\S+/(\S+:\d+:\d+): error", said, re.M)
-    return first.group(1) if first else "no error of a proof"
+    """The first error of a check, short."""
+    first = re.search(r"^(?:\./)?(\S+:\d+:\d+: error.*)$", said, re.M) or re.search(r"^(fn \S+: (?:not proved|no proof).*)$", said, re.M)
+    return first[1][:160] if first else "no error of a proof: " + " ".join(said.split("\n")[-3:])[:160]

@@ -7,7 +7,7 @@ use mathlib.Core.List.{List, [], ◌∷◌, ◌++◌, append_assoc, append-nil}
 use native.Mathlib.Omega.{arith}
 use native.Mathlib.Nat.{zero-add}
 use native.Mathlib.Numerals.{add-one}
-use borrow.Author.Tests.{lt-ltb, le-ltb}
+use borrow.Author.Tests.{lt-ltb, le-ltb, not-true, not-false}
 use lib.Dec.{eqb}
 use lib.ListN.{length, take, set, get_or, get_or-eq_default}
 use lib.Seq.{take-suc-set, take_all}
@@ -125,18 +125,18 @@ module _
   unfolding parse_at
   all = ap (parse_from param_count s) (start ∙ ap (λ (c : Edition). at + length (front_bytes c)) told)
 
-  bad : p.ok ≡ false → malformed p.place ≡ parse_at s at
-  bad t = (rw t at e) ∙ all
+  bad : not p.ok ≡ true → malformed p.place ≡ parse_at s at
+  bad t = (rw (not-true p.ok t) at e) ∙ all
 
-  good : p.ok ≡ true → numbers p.numbers p.place ≡ parse_at s at
-  good t = (rw t at e) ∙ all
+  good : not p.ok ≡ false → numbers p.numbers p.place ≡ parse_at s at
+  good t = (rw (not-false p.ok t) at e) ∙ all
 
-  pub front_bad : (r : Reading) → p.ok ≡ false → r ≡ refusal (Malformed p.place) → r ≡ front_at s at
+  pub front_bad : (r : Reading) → not p.ok ≡ true → r ≡ refusal (Malformed p.place) → r ≡ front_at s at
   unfolding front_at
   front_bad r t q = q ∙ rw (← bad t)
 
   pub front_good :
-      (r : Reading) → p.ok ≡ true → r ≡ judged_by (first_broken (sheet d p.numbers)) (sheet d p.numbers) p.place → r
+      (r : Reading) → not p.ok ≡ false → r ≡ judged_by (first_broken (sheet d p.numbers)) (sheet d p.numbers) p.place → r
       ≡ front_at s at
   unfolding front_at
   front_good r t q = q ∙ rw (← good t, told)
@@ -153,17 +153,17 @@ module _
   behind : from ≡ 0 + length (front_bytes d)
   behind = start ∙ sym (zero-add (length (front_bytes d)))
 
-  pub read_bad : (r : Reading) → p.ok ≡ false → r ≡ refusal (Malformed p.place) → r ≡ read_of s
+  pub read_bad : (r : Reading) → not p.ok ≡ true → r ≡ refusal (Malformed p.place) → r ≡ read_of s
   unfolding read_of
   read_bad r t q = q ∙ rw (← bad s 0 d told from behind p e t)
 
-  pub read_left : (r : Reading) → p.ok ≡ true → p.place < length s → r ≡ refusal (Malformed p.place) → r ≡ read_of s
+  pub read_left : (r : Reading) → not p.ok ≡ false → p.place < length s → r ≡ refusal (Malformed p.place) → r ≡ read_of s
   unfolding read_of
   read_left r t h q = q ∙ rw (← good s 0 d told from behind p e t, lt-ltb p.place (length s) h)
 
   pub read_good :
       (r : Reading) →
-      p.ok ≡ true →
+      not p.ok ≡ false →
       length s ≤ p.place →
       r ≡ judged_by (first_broken (sheet d p.numbers)) (sheet d p.numbers) p.place →
       r ≡ read_of s

@@ -5,7 +5,7 @@ use Rattle.index.proofs.Kit.{first_hit, first_done}
 use mathlib.Core.Bool.{cond}
 use mathlib.Core.List.{List, ◌++◌}
 use native.Mathlib.Numerals.{add-one}
-use borrow.Author.Tests.{eq-eqb, ne_eqb}
+use borrow.Author.Tests.{eq-eqb, ne_eqb, not-true, not-false}
 use lib.IntN.{ℤ}
 use lib.ListN.{length, get_or, set, take, drop, length-set}
 use lib.Seq.{take-suc-set, take_all}
@@ -89,10 +89,10 @@ module _ (s : List ℕ) (r : Reading) where
     unfolding import_of
     taken = ap judged e ∙ rw (eq-eqb (length s) supplier_bytes l)
 
-    pub import_broken : p.ok ≡ false → r ≡ refusal (verdict.Broken p.place) → r ≡ import_of s
-    import_broken t q = q ∙ ap (λ (b : Bool). judged (cond b (numbers p.numbers) (broken p.place))) (sym t) ∙ taken
+    pub import_broken : not p.ok ≡ true → r ≡ refusal (verdict.Broken p.place) → r ≡ import_of s
+    import_broken t q = q ∙ ap (λ (b : Bool). judged (cond b (numbers p.numbers) (broken p.place))) (sym (not-true p.ok t)) ∙ taken
 
-    pub import_judged : p.ok ≡ true → r
+    pub import_judged : not p.ok ≡ false → r
         ≡ judged_by (first_broken (sheet First p.numbers)) (sheet First p.numbers) supplier_bytes → r ≡ import_of s
     import_judged t q =
-        q ∙ ap (λ (b : Bool). judged (cond b (numbers p.numbers) (broken p.place))) (sym t) ∙ taken
+        q ∙ ap (λ (b : Bool). judged (cond b (numbers p.numbers) (broken p.place))) (sym (not-false p.ok t)) ∙ taken

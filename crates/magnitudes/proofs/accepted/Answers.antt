@@ -1,4 +1,3 @@
-use borrow.Author.Rules.{rules}
 use mathlib.Core.Path.{ap, ◌∙◌}
 use Rattle.records.specs.declared.Setup.{Setup}
 use Rattle.params.specs.Editions.{edition_of}

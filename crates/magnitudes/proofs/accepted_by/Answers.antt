@@ -1,6 +1,3 @@
-use borrow.Author.Rules.{rules}
-use mathlib.Core.Path.{refl}
-use Rattle.index.proofs.Flags.{passed}
 use Rattle.magnitudes.proofs.SizeLaws.{never, accepted_told}
 use Rattle.magnitudes.proofs.accepted_by.Goals as goal
 

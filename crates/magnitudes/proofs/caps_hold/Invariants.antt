@@ -1,16 +1,12 @@
 use Prim.Native.Nat.{◌-◌, ◌≤◌}
-use native.Mathlib.Omega.{arith}
-use mathlib.Core.Path.{◌≡◌, refl}
+use mathlib.Core.Path.{◌≡◌}
 use mathlib.Core.Bool.{true}
 use mathlib.Core.List.{map}
-use Rattle.index.proofs.Flags.{passed}
 use Rattle.index.specs.Index.{every}
-use Rattle.index.proofs.Index.{every_none, every_more, every_done}
 use Rattle.varint.specs.Codes.{number_of}
 use Rattle.layout.specs.View.{state_of}
 use Rattle.records.specs.Records.{topic_count}
 use Rattle.params.specs.Joint.{cap_rule}
-use Rattle.magnitudes.proofs.SizeLaws.{never}
 use Rattle.magnitudes.proofs.caps_hold.Given as goal
 
 abbrev pub invariant-loop-t : goal.invariant-loop-t

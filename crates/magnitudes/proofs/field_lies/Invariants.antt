@@ -1,18 +1,13 @@
 -- `magnitudes::field_lies`: after t turns the numbers of t topics lie between the two.
 use Prim.Native.Nat.{◌-◌, ◌≤◌}
-use native.Mathlib.Omega.{arith}
-use mathlib.Core.Path.{◌≡◌, refl}
+use mathlib.Core.Path.{◌≡◌}
 use mathlib.Core.Bool.{true}
 use mathlib.Core.List.{map}
-use Rattle.index.proofs.Flags.{passed}
 use Rattle.index.specs.Index.{every}
-use Rattle.index.proofs.Index.{every_none, every_more, every_done}
 use Rattle.varint.specs.Codes.{number_of}
 use Rattle.layout.specs.View.{state_of}
 use Rattle.records.specs.Records.{topic_count}
 use Rattle.limits.specs.Limits.{place, in_limits}
-use Rattle.magnitudes.specs.Sizes.{least, most}
-use Rattle.magnitudes.proofs.SizeLaws.{never, topic_row}
 use Rattle.magnitudes.proofs.field_lies.Given as goal
 
 abbrev pub invariant-loop-t : goal.invariant-loop-t

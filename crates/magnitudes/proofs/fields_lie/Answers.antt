@@ -1,20 +1,11 @@
-use Prim.Native.Nat.{ℕ, ◌-◌, ◌≤◌}
-use borrow.Author.Rules.{rules}
+use Prim.Native.Nat.{ℕ}
 use native.Mathlib.Omega.{arith}
-use mathlib.Core.Path.{◌≡◌, refl}
-use mathlib.Core.Bool.{true}
-use mathlib.Core.List.{map}
-use Rattle.index.proofs.Flags.{passed}
-use Rattle.index.specs.Index.{every}
 use Rattle.index.proofs.Index.{every_none, every_more, every_done}
-use Rattle.varint.specs.Codes.{number_of}
-use Rattle.layout.specs.View.{state_of}
 use lib.ListN.{get_or}
 use mathlib.Core.Path.{ap}
 use mathlib.Core.List.{List}
 use Prim.Native.Nat.{◌+◌}
-use Rattle.records.specs.Records.{topic_count}
-use Rattle.limits.specs.Limits.{of_topic, place, in_limits}
+use Rattle.limits.specs.Limits.{of_topic}
 use Rattle.magnitudes.proofs.SizeLaws.{never}
 use Rattle.magnitudes.proofs.fields_lie.Goals as goal
 

@@ -1,15 +1,6 @@
-use Prim.Native.Nat.{◌-◌, ◌≤◌}
-use borrow.Author.Rules.{rules}
 use native.Mathlib.Omega.{arith}
-use mathlib.Core.Path.{◌≡◌, refl}
-use mathlib.Core.Bool.{true}
-use mathlib.Core.List.{map}
-use Rattle.index.proofs.Flags.{passed}
-use Rattle.index.specs.Index.{every}
 use Rattle.index.proofs.Index.{every_none, every_more, every_done}
-use Rattle.varint.specs.Codes.{number_of}
-use Rattle.layout.specs.View.{state_of}
-use Rattle.limits.specs.Limits.{general_count, in_limits}
+use Rattle.limits.specs.Limits.{general_count}
 use Rattle.magnitudes.proofs.SizeLaws.{never, general_row}
 use Rattle.magnitudes.proofs.generals_lie.Goals as goal
 

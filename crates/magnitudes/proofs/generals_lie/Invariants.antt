@@ -1,17 +1,12 @@
 -- `magnitudes::generals_lie`: after i turns the first i general numbers lie in their ranges.
 use Prim.Native.Nat.{◌-◌, ◌≤◌}
-use borrow.Author.Rules.{rules}
-use native.Mathlib.Omega.{arith}
-use mathlib.Core.Path.{◌≡◌, refl}
+use mathlib.Core.Path.{◌≡◌}
 use mathlib.Core.Bool.{true}
 use mathlib.Core.List.{map}
-use Rattle.index.proofs.Flags.{passed}
 use Rattle.index.specs.Index.{every}
-use Rattle.index.proofs.Index.{every_none, every_more, every_done}
 use Rattle.varint.specs.Codes.{number_of}
 use Rattle.layout.specs.View.{state_of}
 use Rattle.limits.specs.Limits.{general_count, in_limits}
-use Rattle.magnitudes.proofs.SizeLaws.{never, general_row}
 use Rattle.magnitudes.proofs.generals_lie.Given as goal
 
 abbrev pub invariant-loop-i : goal.invariant-loop-i

@@ -1,4 +1,3 @@
-use borrow.Author.Rules.{rules}
 use Rattle.magnitudes.proofs.SizeLaws.{lies_told}
 use Rattle.magnitudes.proofs.lies.Goals as goal
 

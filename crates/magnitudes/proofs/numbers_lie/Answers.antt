@@ -1,7 +1,4 @@
-use borrow.Author.Rules.{rules}
 use Rattle.layout.specs.View.{state_of}
-use mathlib.Core.Path.{refl}
-use Rattle.index.proofs.Flags.{passed}
 use Rattle.magnitudes.proofs.SizeLaws.{never, numbers_told}
 use Rattle.magnitudes.proofs.numbers_lie.Goals as goal
 

@@ -1,6 +1,3 @@
-use borrow.Author.Rules.{rules}
-use mathlib.Core.Path.{refl}
-use Rattle.index.proofs.Flags.{passed}
 use Rattle.magnitudes.proofs.SizeLaws.{never, rules_told}
 use Rattle.magnitudes.proofs.rules_hold.Goals as goal
 

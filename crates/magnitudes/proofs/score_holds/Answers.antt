@@ -1,5 +1,4 @@
 -- `magnitudes::score_holds`: the rule of either edition, on magnitudes.
-use borrow.Author.Rules.{rules}
 use native.Mathlib.Omega.{arith}
 use Rattle.layout.specs.View.{state_of}
 use Rattle.magnitudes.proofs.SizeLaws.{sum_few, first_read, second_read, score_told}

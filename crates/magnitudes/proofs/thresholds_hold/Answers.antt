@@ -1,4 +1,3 @@
-use borrow.Author.Rules.{rules}
 use Rattle.magnitudes.proofs.SizeLaws.{size_of, thresholds_told}
 use Rattle.magnitudes.proofs.thresholds_hold.Goals as goal
 

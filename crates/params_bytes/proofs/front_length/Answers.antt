@@ -1,5 +1,4 @@
 -- `params_bytes::front_length` meets its contract. Assumes nothing.
-use borrow.Author.Rules.{rules}
 use mathlib.Core.Path.{refl}
 use Rattle.params_bytes.proofs.WriteLaws.{length_in}
 use Rattle.params_bytes.proofs.front_length.Goals as goal

@@ -1,5 +1,4 @@
 -- `params_bytes::judged` meets its contract. Assumes nothing.
-use borrow.Author.Rules.{rules}
 use Rattle.params_bytes.proofs.ReadLaws.{judged_broken, judged_kept}
 use Rattle.params_bytes.proofs.judged.Goals as goal
 

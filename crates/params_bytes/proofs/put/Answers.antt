@@ -1,10 +1,9 @@
-use Prim.Native.Nat.{◌≤◌, ◌-◌}
 use mathlib.Core.Path.{◌≡◌, ◌∙◌}
 use native.Mathlib.Omega.{arith}
-use borrow.Author.Rules.{rules, sfits_of}
+use borrow.Author.Rules.{rules}
 use lib.ListN.{length}
 use Rattle.records.specs.Records.{param_count}
-use Rattle.params_bytes.proofs.WriteLaws.{Stands, stands_none, stands_more, stands_full, stands_all}
+use Rattle.params_bytes.proofs.WriteLaws.{stands_none, stands_more, stands_full, stands_all}
 use Rattle.params_bytes.proofs.put.Goals as goal
 
 pub loop-i-init : goal.loop-i-init

@@ -1,12 +1,8 @@
 -- `params_bytes::put`: after i numbers the buffer holds their bytes from the place on (`Stands`), and the next one has room. Assumes
 -- nothing.
 use Prim.Native.Nat.{◌≤◌, ◌-◌}
-use mathlib.Core.Path.{◌≡◌, ◌∙◌}
-use native.Mathlib.Omega.{arith}
-use borrow.Author.Rules.{rules, sfits_of}
-use lib.ListN.{length}
 use Rattle.records.specs.Records.{param_count}
-use Rattle.params_bytes.proofs.WriteLaws.{Stands, stands_none, stands_more, stands_full, stands_all}
+use Rattle.params_bytes.proofs.WriteLaws.{Stands}
 use Rattle.params_bytes.proofs.put.Given as goal
 
 abbrev pub invariant-loop-i : goal.invariant-loop-i

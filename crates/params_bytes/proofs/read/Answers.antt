@@ -1,5 +1,4 @@
 -- `params_bytes::read` meets its contract. Assumes nothing.
-use native.Mathlib.Omega.{arith}
 use Rattle.params_bytes.proofs.ReadLaws.{read_bad, read_left, read_good}
 use Rattle.params_bytes.proofs.read.Goals as goal
 

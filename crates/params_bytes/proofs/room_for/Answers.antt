@@ -1,5 +1,4 @@
 -- `params_bytes::room_for` meets its contract. Assumes nothing.
-use borrow.Author.Rules.{rules}
 use mathlib.Core.Path.{refl}
 use Rattle.params_bytes.proofs.WriteLaws.{room_in}
 use Rattle.params_bytes.proofs.room_for.Goals as goal

@@ -13,13 +13,12 @@ put_front-from-requires c =
     omega (arith, c.if-buf-room_for.false, c.room_for.ensures)
 
 pub put-requires : goal.put-requires
-put-requires c =
-    (
-      search rules,
-      write_room _ c.args.buf.now _ c.room_for.ensures _ c.if-buf-room_for.false
-          c.first_broken.ensures _ c.put_front-from.new.buf c.put_front-from.ensures.0 c.put_front-from.auto.buf,
-      accepted_few _ (sym c.first_broken.ensures ∙ c.in-Nothing.is),
-    )
+put-requires c = (
+  search rules,
+  write_room _ c.args.buf.now _ c.room_for.ensures _ c.if-buf-room_for.false
+      c.first_broken.ensures _ c.put_front-from.new.buf c.put_front-from.ensures.0 c.put_front-from.auto.buf,
+  accepted_few _ (sym c.first_broken.ensures ∙ c.in-Nothing.is),
+)
 
 pub returns-in-At : goal.returns-in-At
 returns-in-At c =

@@ -14,7 +14,7 @@ returns-then-id-eq0 c =
 pub returns : goal.returns
 returns c =
     let p = c.requires.marks in
-    let at = c.bucket-b.ensures.0 ∙ ap (λ (id : ℕ). id % bucket_count) c.load-id.ensures in (
+    let at = c.bucket-b.ensures.0 ∙ ap (λ (id : ℕ). id % bucket_count) c.load_id-id.ensures in (
       c.new_where.ensures ∙ new_told _ _ _ p _ (c.is_marked-known.ensures ∙ ap (is_marked _) at),
       rw c.mark.ensures (seen_more _ _ _ p _ at),
     )
