@@ -22,7 +22,6 @@ use Rattle.params.specs.declared.Edition.TheVariants.{First}
 use Rattle.params.specs.Check.{first_broken}
 use Rattle.params_bytes.specs.Read.{judged_by}
 use Rattle.params_bytes.specs.declared.Verdict.TheVariants.{Accepted, Malformed}
-use Rattle.params_bytes.specs.declared.Verdict.TheVariants as verdict
 use Rattle.params_bytes.specs.declared.Written.TheVariants.{Done, Short}
 use Rattle.params.proofs.CheckLaws.{accepted_in_lem}
 use Rattle.supplier_entry.specs.declared.Number.{Number}

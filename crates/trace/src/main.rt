@@ -9,18 +9,22 @@ ghost use Rattle.std.specs.Prelude.{◌≤◌, length};
 ghost use Rattle.trace_feed.specs.Turns.{Inside, Refills};
 
 use layout::CELLS;
-use libc::{STDIN_FILENO, STDOUT_FILENO};
+use std::io;
+use std::io::Read;
 use trace_feed::{Stage, Window};
 
+// The bytes of the window's buffer, and of the page.
+const ROOM: usize = 65536;
+
 // Writes the first n bytes.
-fn say(page: &[u8], n: usize)
+fn say(rt: &impl Print, page: &[u8], n: usize) -> io::Result<()>
     requires { n ≤ length page.now }
 {
-    io::write_all(STDOUT_FILENO, &page[..n]);
+    rt.write_all(&page[..n])
 }
 
 // Where more bytes are wanted, reads what is there, behind the window's end. Where nothing is, or the reading fails, the input has ended.
-fn refill(buf: &mut [u8], w: Window) -> Window
+fn refill(input: &mut impl Read, buf: &mut [u8], w: Window) -> Window
     requires { Inside w buf.old }
     ensures { Refills w result buf.old buf.new }
 {
@@ -29,26 +33,25 @@ fn refill(buf: &mut [u8], w: Window) -> Window
     }
     let end = w.end;
     let part = &mut buf[end..];
-    let got = libc::read(STDIN_FILENO, part);
-    let n = io::count(got, part);
+    let n = input.read(part).unwrap_or(0);
     w.filled(n)
 }
 
-// A proved loop has to end, and nothing says that the input does: the turns count down from a number that no run uses up.
-fn main() {
-    let mut buf = io::large_buffer();
-    let mut page = io::large_buffer();
+// A proved loop has to end, and nothing says that the input does: the turns are counted up to a number that no run reaches.
+fn main(rt: HostRuntime) -> io::Result<()> {
+    let mut input = rt.stdin();
+    let mut buf = [0u8; ROOM];
+    let mut page = [0u8; ROOM];
     let mut table = [0u64; CELLS];
     let mut w = Window::start();
-    let mut turns = u64::MAX;
-    while 0 < turns {
+    for _ in 0..u64::MAX {
         w = trace_feed::turn(&mut table, &mut buf, w, &mut page);
-        say(&page, w.written);
+        say(&rt, &page, w.written)?;
         let stage = w.stage;
         if let Stage::Over = stage {
             break;
         }
-        w = refill(&mut buf, w);
-        turns -= 1;
+        w = refill(&mut input, &mut buf, w);
     }
+    Ok(())
 }

@@ -139,10 +139,10 @@ module _ (d : Edition) (params : Params) (s list₀ told₀ : List ℕ) (at call
 -- no event stands there
 no_event :
     (st : State) (room : ℕ) (x : Event) (r : Performed) →
-    OneOf (1 ∷ 2 ∷ 3 ∷ []) (tag_of the_type r) →
+    ((next : ℕ) (a : Answer) → r ≡ Answered next a → ⊥) →
     Told st room x r →
     is_event x ≡ false
-no_event st room x (Answered next a) h t = absurd (miss (1 ∷ 2 ∷ 3 ∷ []) 0 tt h)
+no_event st room x (Answered next a) h t = absurd (h next a refl)
 no_event st room x Unknown h t = ap is_event t
 no_event st room x Malformed h t = ap is_event t
 no_event st room x CutShort h t = ap is_event t
@@ -204,7 +204,7 @@ module _ (d : Edition) (params : Params) (s list₀ told₀ : List ℕ) (l : len
         (table' list' : List ℕ) (r : Performed) →
         calls < length told₀ →
         Performs (perform_event (state_of table) (length list) (event_at d s at)) r table' list list' →
-        OneOf (1 ∷ 2 ∷ 3 ∷ []) (tag_of the_type r) →
+        ((next : ℕ) (a : Answer) → r ≡ Answered next a → ⊥) →
         Runs d params s (Ran at calls) start table' list₀ list' told₀ told
     unfolding numbers_of
     ran_stopped table' list' r h p o =

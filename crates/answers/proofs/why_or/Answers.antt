@@ -8,4 +8,4 @@ pub returns-in-Scored : goal.returns-in-Scored
 returns-in-Scored c = c.why_numbers.ensures ∙ score_is _ _ _ c.in-Scored.is
 
 pub returns-in_default : goal.returns-in_default
-returns-in_default c = no_score c.args.a _ c.in_default.in_default-own.keys2
+returns-in_default c = no_score c.args.a _ c.in_default.not-Scored

@@ -1,7 +1,5 @@
 -- `param_text::put_head` meets its contract. Assumes nothing.
-use Rattle.index.proofs.Kit.{◌≤◌, rules, arith}
-use lib.ListN.{length}
-use Rattle.text.specs.Text.{decimal}
+use Rattle.index.proofs.Kit.{rules, arith}
 use Rattle.text.proofs.TextLaws.{decimal_length}
 use Rattle.param_text.proofs.LineLaws.{head_stored}
 use Rattle.param_text.proofs.put_head.Goals as goal
@@ -21,9 +19,10 @@ put_byte-requires c = omega
 
 pub returns : goal.returns
 returns c = (
-      search (head_stored, rules),
-      omega (
-        arith,
-        decimal_length c.args.number c.ranges.number.fits, decimal_length c.args.value c.ranges.value.fits,
-      ),
-    )
+  search (head_stored, rules),
+  omega (
+    arith,
+    decimal_length c.args.number c.ranges.number.fits,
+    decimal_length c.args.value c.ranges.value.fits,
+  ),
+)

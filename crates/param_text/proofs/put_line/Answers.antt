@@ -1,5 +1,5 @@
 -- `param_text::put_line` meets its contract. Assumes nothing.
-use Rattle.index.proofs.Kit.{rules, arith}
+use Rattle.index.proofs.Kit.{arith}
 use mir.Facts.{to_z-of_z}
 use Rattle.param_text.proofs.LineLaws.{fits_length, line_stored}
 use Rattle.param_text.proofs.put_line.Goals as goal

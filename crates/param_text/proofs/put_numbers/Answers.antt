@@ -1,12 +1,9 @@
-use Rattle.index.proofs.Kit.{◌+◌, ◌*◌, ◌-◌, ◌≤◌, ◌≡◌, refl, ◌∙◌, rules, arith, gather}
-use borrow.Author.Rules.{sfits_of}
-use lib.ListN.{length, get_or}
+use Rattle.index.proofs.Kit.{refl, ◌∙◌, rules, arith}
+use lib.ListN.{get_or}
 use lib.IntN.{pos}
 use mir.Syntax.{w64}
 use mir.Val.{SFits}
 use mir.Facts.{to_z-of_z}
-use Rattle.records.specs.Records.{param_count}
-use Rattle.text.specs.Text.{Stored}
 use Rattle.param_text.specs.Lines.{line_at}
 use Rattle.param_text.proofs.LineLaws.{lines_none, lines_more, lines_all}
 use Rattle.param_text.proofs.put_numbers.Goals as goal

@@ -1,5 +1,5 @@
 -- `supplier_entry::low_first` meets its contract: each byte in front of the number of the rest. Assumes nothing.
-use Rattle.index.proofs.Kit.{ℕ, ◌<◌, rules, arith}
+use Rattle.index.proofs.Kit.{arith}
 use Rattle.supplier_entry.proofs.ByteLaws.{low_end, low_more, low_room}
 use Rattle.supplier_entry.proofs.+low_first.Goals as goal
 

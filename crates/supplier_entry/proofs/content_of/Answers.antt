@@ -1,5 +1,5 @@
 -- `supplier_entry::content_of` meets its contract. Assumes nothing.
-use Rattle.index.proofs.Kit.{ℕ, ◌*◌, ap, arith, rules}
+use Rattle.index.proofs.Kit.{ℕ, ◌*◌, ap, arith}
 use mir.Facts.{to_z-of_z}
 use Rattle.supplier_entry.proofs.EntryLaws.{content_factor, content_whole, content_span}
 use Rattle.supplier_entry.proofs.content_of.Goals as goal

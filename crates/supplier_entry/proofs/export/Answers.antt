@@ -1,5 +1,5 @@
 -- `supplier_entry::export` meets its contract. Assumes nothing.
-use Rattle.index.proofs.Kit.{ap, ◌∙◌, arith, rules, ℕ}
+use Rattle.index.proofs.Kit.{ap, ◌∙◌, arith, ℕ}
 use mathlib.Core.List.{◌∷◌}
 use lib.ListN.{length-set}
 use lib.Seq.{sets}

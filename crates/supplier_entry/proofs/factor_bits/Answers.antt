@@ -1,5 +1,5 @@
 -- `supplier_entry::factor_bits` meets its contract. Assumes nothing.
-use Rattle.index.proofs.Kit.{rules, ap}
+use Rattle.index.proofs.Kit.{ap}
 use lib.Ieee.{to_bits, binary64}
 use Rattle.supplier_entry.specs.Factor.{factor_bits}
 use Rattle.supplier_entry.proofs.factor_bits.Goals as goal

@@ -1,5 +1,4 @@
 -- `supplier_entry::import` meets its contract. Assumes nothing.
-use borrow.Author.Rules.{rules}
 use Rattle.supplier_entry.proofs.EntryLaws.{import_other, import_bad, import_good, read_sound}
 use Rattle.supplier_entry.proofs.import.Goals as goal
 

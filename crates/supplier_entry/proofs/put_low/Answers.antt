@@ -1,5 +1,5 @@
-use Rattle.index.proofs.Kit.{ℕ, ◌+◌, ◌-◌, ◌≤◌, ◌≡◌, refl, sym, ap, ◌∙◌, arith}
-use lib.ListN.{length, length-set}
+use Rattle.index.proofs.Kit.{ℕ, ◌+◌, ◌≡◌, refl, sym, ap, ◌∙◌, arith}
+use lib.ListN.{length-set}
 use lib.Seq.{sets}
 use Rattle.supplier_entry.specs.Bytes.{low_bytes}
 use Rattle.supplier_entry.proofs.ByteLaws.{low_put, low_done}

@@ -1,9 +1,8 @@
 -- `supplier_entry::put_low` meets its contract. Assumes nothing.
-use Rattle.index.proofs.Kit.{ℕ, ◌+◌, ◌-◌, ◌≤◌, ◌≡◌, refl, sym, ap, ◌∙◌, arith}
-use lib.ListN.{length, length-set}
+use Rattle.index.proofs.Kit.{◌+◌, ◌-◌, ◌≤◌, ◌≡◌}
+use lib.ListN.{length}
 use lib.Seq.{sets}
 use Rattle.supplier_entry.specs.Bytes.{low_bytes}
-use Rattle.supplier_entry.proofs.ByteLaws.{low_put, low_done}
 use Rattle.supplier_entry.proofs.put_low.Given as goal
 
 abbrev pub invariant-loop-k : goal.invariant-loop-k

@@ -1,9 +1,9 @@
-use Rattle.index.proofs.Kit.{ℕ, ◌+◌, ◌-◌, ◌≡◌, ap, ◌∙◌, Bool, arith, rules}
+use Rattle.index.proofs.Kit.{ℕ, ◌+◌, ◌-◌, ◌≡◌, ap, ◌∙◌, Bool, arith}
 use Prim.Native.Nat.{◌/◌}
 use lib.Dec.{eqb}
 use lib.Ieee.{Float, to_bits, binary64}
 use Rattle.supplier_entry.specs.Factor.{factor_of, factor_bits}
-use Rattle.supplier_entry.proofs.FactorLaws.{Halved, halved_none, halved_up, halved_down, search_past, search_hit, search_miss}
+use Rattle.supplier_entry.proofs.FactorLaws.{halved_none, halved_up, halved_down, search_past, search_hit, search_miss}
 use Rattle.supplier_entry.proofs.search.Goals as goal
 
 -- what the comparison of floats says of the bits

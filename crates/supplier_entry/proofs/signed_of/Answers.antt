@@ -1,5 +1,5 @@
 -- `supplier_entry::signed_of` meets its contract. Assumes nothing.
-use Rattle.index.proofs.Kit.{◌∙◌, ◌-◌, arith, rules}
+use Rattle.index.proofs.Kit.{◌∙◌, ◌-◌, arith}
 use mir.Syntax.{w64}
 use mir.Facts.{to_z_pos}
 use Rattle.varint.proofs.Bits.{back_fits, back_is}

@@ -1,5 +1,4 @@
 -- `supplier_entry::units` meets its contract. Assumes nothing.
-use borrow.Author.Rules.{rules}
 use mir.Syntax.{w64}
 use mir.Facts.{to_z_pos}
 use Rattle.supplier_entry.proofs.EntryLaws.{units_part, units_whole, units_lt}

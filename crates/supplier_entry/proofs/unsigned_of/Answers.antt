@@ -1,5 +1,5 @@
 -- `supplier_entry::unsigned_of` meets its contract. Assumes nothing.
-use Rattle.index.proofs.Kit.{sym, ◌∙◌, rules}
+use Rattle.index.proofs.Kit.{sym, ◌∙◌}
 use mir.Facts.{to_z-of_z}
 use Rattle.supplier_entry.proofs.EntryLaws.{minus_one, bits_minus, bits_plus}
 use Rattle.supplier_entry.proofs.unsigned_of.Goals as goal

@@ -1,10 +1,8 @@
-use Rattle.index.proofs.Kit.{◌-◌, refl, arith, rules}
-use borrow.Author.Rules.{sfits_of}
+use Rattle.index.proofs.Kit.{refl, arith, rules}
 use mir.Syntax.{w64}
 use mir.Val.{SFits}
 use mir.Facts.{to_z-of_z}
-use Rattle.records.specs.Records.{param_count}
-use Rattle.supplier_params.proofs.ImportLaws.{Taken, taken_none, taken_more, taken_broken, taken_all}
+use Rattle.supplier_params.proofs.ImportLaws.{taken_none, taken_more, taken_broken, taken_all}
 use Rattle.supplier_params.proofs.entries.Goals as goal
 
 pub loop-i-init : goal.loop-i-init

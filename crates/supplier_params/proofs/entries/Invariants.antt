@@ -1,12 +1,9 @@
 -- `supplier_params::entries` meets its contract.
 -- The loop keeps the first i numbers taken, and that none of their entries is broken.
 -- Assumes nothing.
-use Rattle.index.proofs.Kit.{◌-◌, refl, arith, rules}
-use borrow.Author.Rules.{sfits_of}
-use mir.Syntax.{w64}
-use mir.Facts.{to_z-of_z}
+use Rattle.index.proofs.Kit.{◌-◌}
 use Rattle.records.specs.Records.{param_count}
-use Rattle.supplier_params.proofs.ImportLaws.{Taken, taken_none, taken_more, taken_broken, taken_all}
+use Rattle.supplier_params.proofs.ImportLaws.{Taken}
 use Rattle.supplier_params.proofs.entries.Given as goal
 
 abbrev pub invariant-loop-i : goal.invariant-loop-i

@@ -1,5 +1,5 @@
 -- `supplier_params::form_of` meets its contract. Assumes nothing.
-use Rattle.index.proofs.Kit.{sym, ap, rules}
+use Rattle.index.proofs.Kit.{sym, ap}
 use borrow.Author.Tests.{le-ltb}
 use Rattle.limits.proofs.LimitLaws.{general_field}
 use Rattle.supplier_params.specs.Forms.{forms, form_at}

@@ -1,5 +1,4 @@
 -- `supplier_params::import` meets its contract. Assumes nothing.
-use borrow.Author.Rules.{rules}
 use Rattle.supplier_params.proofs.ImportLaws.{import_length, import_broken, import_judged}
 use Rattle.supplier_params.proofs.import.Goals as goal
 

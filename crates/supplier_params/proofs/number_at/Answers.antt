@@ -1,5 +1,5 @@
 -- `supplier_params::number_at` meets its contract. Assumes nothing.
-use Rattle.index.proofs.Kit.{arith, rules}
+use Rattle.index.proofs.Kit.{arith}
 use Rattle.supplier_params.proofs.FormLaws.{field_at}
 use Rattle.supplier_params.proofs.ImportLaws.{number_is}
 use Rattle.supplier_params.proofs.number_at.Goals as goal

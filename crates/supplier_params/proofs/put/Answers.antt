@@ -1,12 +1,10 @@
-use Rattle.index.proofs.Kit.{◌-◌, arith, rules}
-use borrow.Author.Rules.{sfits_of}
+use Rattle.index.proofs.Kit.{arith, rules}
 use lib.ListN.{get_or}
 use lib.IntN.{pos}
 use mir.Syntax.{w64}
 use mir.Val.{SFits}
 use mir.Facts.{to_z-of_z}
-use Rattle.records.specs.Records.{param_count}
-use Rattle.supplier_params.proofs.ExportLaws.{asks, Put, put_none, put_more, put_all}
+use Rattle.supplier_params.proofs.ExportLaws.{asks, put_none, put_more, put_all}
 use Rattle.supplier_params.proofs.put.Goals as goal
 
 pub loop-i-init : goal.loop-i-init

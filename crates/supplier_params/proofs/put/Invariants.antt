@@ -1,14 +1,9 @@
 -- `supplier_params::put` meets its contract.
 -- The loop keeps the first i entries written, and the rest of the buffer as it was.
 -- Assumes nothing.
-use Rattle.index.proofs.Kit.{◌-◌, arith, rules}
-use borrow.Author.Rules.{sfits_of}
-use lib.ListN.{get_or}
-use lib.IntN.{pos}
-use mir.Syntax.{w64}
-use mir.Facts.{to_z-of_z}
+use Rattle.index.proofs.Kit.{◌-◌}
 use Rattle.records.specs.Records.{param_count}
-use Rattle.supplier_params.proofs.ExportLaws.{asks, Put, put_none, put_more, put_all}
+use Rattle.supplier_params.proofs.ExportLaws.{Put}
 use Rattle.supplier_params.proofs.put.Given as goal
 
 abbrev pub invariant-loop-i : goal.invariant-loop-i

@@ -9,4 +9,4 @@ pub returns-in-3 : goal.returns-in-3
 returns-in-3 c = third_third _ c.in-3.is
 
 pub returns-in_default : goal.returns-in_default
-returns-in_default c = third_other _ c.in_default.in_default-own.rest.0.1 c.in_default.in_default-own.rest.1
+returns-in_default c = third_other _ (search rules) (search rules)

@@ -19,7 +19,7 @@ returns-then-not-us c =
     c.unread.ensures
 
 pub call-requires : goal.call-requires
-call-requires c = let r = c.in_default.in_default-own.rest in (r.0.1, r.1)
+call-requires c = ((search rules), (search rules))
 
 pub returns-in-1 : goal.returns-in-1
 returns-in-1 c =
@@ -38,7 +38,6 @@ returns-in-11 c =
 pub returns-in_default : goal.returns-in_default
 returns-in_default c =
     let u = c.read_numbers-us in
-    let r = c.in_default.in_default-own.rest in
     kind_other c.args.edition _ c.args.kind _ _ u.result _ u.ensures.0 (λ k h. u.ensures.1 k h ∙ zeros number_most k)
     (passed refl c.if-not-us.false)
-    _ _ _ _ _ r.0.1 r.1 c.call.ensures
+    _ _ _ _ _ (search rules) (search rules) c.call.ensures

@@ -28,7 +28,7 @@ pub finish-requires : goal.finish-requires
 finish-requires c =
     let a = c.args in
     let g = gossip_of a.gossip.now in
-    let m = c.announce.ensures.1 in
+    let m = c.announce-count.ensures.1 in
     record {
       size = search rules;
       few =
@@ -41,7 +41,7 @@ finish-requires c =
 pub returns : goal.returns
 returns c =
     let a = c.args in
-    let told = c.tell_any-told.ensures (announced (store_in (gossip_of a.gossip.now) a.topic)) c.announce.ensures.1 in
+    let told = c.tell_any-told.ensures (announced (store_in (gossip_of a.gossip.now) a.topic)) c.announce-count.ensures.1 in
     announce_told _ _ _ _ _ _ _ _ c.is_permutation.ensures (not_no c.if-not-is_permutation.false) _
     c.is_joined.ensures
     _
@@ -52,5 +52,5 @@ returns c =
     _
     _
     told
-    c.announce.ensures
+    c.announce-count.ensures
     c.finish.ensures

@@ -7,7 +7,7 @@ use Rattle.heartbeat.proofs.GraftLaws.{scored_same, fifth_unasked, fifth_few, fi
 use Rattle.heartbeat.proofs.grafts.fifth.Goals as goal
 
 pub returns-then-not-asked : goal.returns-then-not-asked
-returns-then-not-asked c = (scored_same _ _ _, fifth_unasked _ _ _ _ _ _ (not-true _ c.if-not-asked.true))
+returns-then-not-asked c = (scored_same _ _ _, fifth_unasked _ _ _ _ _ _ c.if-not-asked.true)
 
 pub returns-then-n-lt2 : goal.returns-then-n-lt2
 returns-then-n-lt2 c = (scored_same _ _ _, fifth_few _ _ _ _ _ _ refl _ _ c.size-n.ensures c.if-n-lt2.true)

@@ -16,7 +16,7 @@ below c =
     (sym c.before.before.takes.ensures ∙ not-false _ c.before.if1.false)
 
 pub returns-then-not-takes : goal.returns-then-not-takes
-returns-then-not-takes c = asked_not _ _ _ _ _ _ _ (sym c.takes.ensures ∙ not-true _ c.if-not-takes.true)
+returns-then-not-takes c = asked_not _ _ _ _ _ _ _ (sym c.takes.ensures ∙ c.if-not-takes.true)
 
 pub height-score-requires : goal.height-score-requires
 height-score-requires c =
@@ -26,7 +26,7 @@ height-score-requires c =
       at = record {
         standing = p.0.taking.standing;
         slot = taken_slot a.p.now a.room a.s (bits_of a.m.now) p.1
-            (sym c.takes.ensures ∙ not-false _ c.if-not-takes.false);
+            (sym c.takes.ensures ∙ c.if-not-takes.false);
       };
       buckets = p.0.taking.buckets;
       weights = p.0.weights;
@@ -48,5 +48,5 @@ returns c =
     let l = c.requires.0.taking.size in
     let h = below c in
     asked_is _ _ _ _ c.args.s _ _ _ _
-    (sym c.takes.ensures ∙ not-false _ c.if-not-takes.false) (omega arith)
+    (sym c.takes.ensures ∙ c.if-not-takes.false) (omega arith)
     c.height-score.ensures c.is_free.ensures
