@@ -18,4 +18,5 @@ returns-then-is_heard c =
     search (leaves_then, leaves_done)
 
 pub returns : goal.returns
+unfolding prune_reply
 returns c = search (leaves_else, leaves_ignored, heard_is)
