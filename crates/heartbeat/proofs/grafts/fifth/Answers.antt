@@ -53,8 +53,7 @@ returns c =
       fifth_low _ _ _ _ _ _ c.degrees-t.ensures _ _
           c.size-n.ensures _ p.0.taking.size
           p.1 _ c.middle-median.ensures
-          _ _ _ _ (not-false _
-          c.if-not-asked.false)
+          _ _ _ _ c.if-not-asked.false
           c.if-n-lt2.false
           c.if-t-median.false c.eligible-p.ensures g,
     )
