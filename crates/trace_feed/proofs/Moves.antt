@@ -1,49 +1,16 @@
 -- For a program that makes turns and readings: the window, the table and the buffer that it holds are where some run of them stands.
 -- Assumes nothing.
-use Prim.Native.Nat.{ℕ, suc, ◌-◌, ◌≤◌}
-use mathlib.Core.Path.{◌≡◌, refl, sym, ◌∙◌}
+use Prim.Native.Nat.{ℕ, suc, ◌≤◌}
+use mathlib.Core.Path.{◌≡◌, refl}
 use mathlib.Core.Logic.{inl, inr}
-use mathlib.Core.Bool.{true, false, false≢true}
 use mathlib.Core.List.{List, [], ◌++◌}
-use native.Mathlib.Omega.{arith}
-use borrow.Rule.Slice.PartMut.{mid_of, put_mid, same_len_mid, take_put}
-use lib.ListN.{length, take, drop, length-drop}
-use lib.Seq.{length-take-le}
+use lib.ListN.{length, take, drop}
 use Rattle.index.proofs.Flags.{by_test}
 use Rattle.trace_events.specs.Lines.{line_room}
 use Rattle.trace_feed.specs.declared.Window.{Window}
-use Rattle.trace_feed.specs.Turns.{Inside, Refills, filled_by, start_window, front_room, Turns}
+use Rattle.trace_feed.specs.Turns.{Inside, Refills, start_window, front_room, Turns}
 use Rattle.trace_feed.specs.Cuts.{Ran}
 use Rattle.trace_feed.proofs.Cuts.{every_cut}
-
--- ---- what a reading into the part behind the window's end leaves
-pub refill_idle : (w : Window) (buf : List ℕ) → w.wants ≡ false → Refills w w buf buf
-refill_idle w buf f = record { wanted = λ e. absurd (false≢true (sym f ∙ e)); idle = λ e. (refl, refl) }
-
-module _ (w w' : Window) (buf : List ℕ) (i : Inside w buf) where
-  pub refill_done :
-      (part : List ℕ) (n : ℕ) →
-      length part ≡ length buf - w.end →
-      n ≤ length part →
-      w' ≡ filled_by w n →
-      w.wants ≡ true →
-      Refills w w' buf (put_mid w.end (length buf - w.end) buf part)
-  refill_done part n l h e t =
-      let g = i.high in
-      let m : length (mid_of w.end (length buf - w.end) buf) ≡ length buf - w.end =
-      length-take-le (length buf - w.end) (drop w.end buf) (omega (arith, length-drop w.end buf)) in
-      record {
-        wanted =
-            λ q.
-            record {
-              n = n;
-              fits = omega arith;
-              size = same_len_mid w.end (length buf - w.end) buf part (l ∙ sym m);
-              front = take_put w.end (length buf - w.end) buf part g;
-              window = e;
-            };
-        idle = λ q. absurd (false≢true (sym q ∙ t));
-      }
 
 pub record Moves (w : Window) (table buf : List ℕ) : Type 0 where
   turns : ℕ

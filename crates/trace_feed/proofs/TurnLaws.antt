@@ -7,7 +7,7 @@ use mathlib.Core.Bool.{Bool, true, false, not, cond, ◌&&◌}
 use mathlib.Core.List.{List, [], ◌∷◌}
 use native.Mathlib.Omega.{arith}
 use native.Mathlib.Nat.{zero-add}
-use borrow.Author.Tests.{le-ltb, ne_eqb, not-true, not-false}
+use borrow.Author.Tests.{le-ltb, ne_eqb}
 use lib.Dec.{eqb}
 use lib.ListN.{length, get_or}
 use Rattle.index.specs.declared.Found.{Found}
@@ -123,31 +123,31 @@ front_few [] h = refl
 front_few (a ∷ []) h = refl
 front_few (a ∷ (b ∷ s)) h = absurd (omega arith)
 
-pub front_first : (s : List ℕ) → 2 ≤ length s → not (eqb (get_or s 0 0) 0 && eqb (get_or s 1 0) 0) ≡ true → Begins First 0 ≡ front_in s
+pub front_first : (s : List ℕ) → 2 ≤ length s → (eqb (get_or s 0 0) 0 && eqb (get_or s 1 0) 0) ≡ false → Begins First 0 ≡ front_in s
 unfolding front_in
 front_first [] l h = refl
 front_first (a ∷ []) l h = refl
-front_first (a ∷ (b ∷ s)) l h = let k = not-true (eqb a 0 && eqb b 0) h in rw k
+front_first (a ∷ (b ∷ s)) l h = rw h
 
-pub front_cut : (s : List ℕ) → length s ≡ 2 → not (eqb (get_or s 0 0) 0 && eqb (get_or s 1 0) 0) ≡ false → Cut ≡ front_in s
+pub front_cut : (s : List ℕ) → length s ≡ 2 → (eqb (get_or s 0 0) 0 && eqb (get_or s 1 0) 0) ≡ true → Cut ≡ front_in s
 unfolding front_in
 front_cut [] l h = absurd (omega arith)
 front_cut (a ∷ []) l h = absurd (omega arith)
-front_cut (a ∷ (b ∷ [])) l h = let k = not-false (eqb a 0 && eqb b 0) h in rw k
+front_cut (a ∷ (b ∷ [])) l h = rw h
 front_cut (a ∷ (b ∷ (c ∷ s))) l h = absurd (omega arith)
 
 pub front_third :
     (s : List ℕ) (r : Front) →
     2 ≤ length s →
     (length s ≡ 2 → ⊥) →
-    not (eqb (get_or s 0 0) 0 && eqb (get_or s 1 0) 0) ≡ false →
+    (eqb (get_or s 0 0) 0 && eqb (get_or s 1 0) 0) ≡ true →
     r ≡ of_third (get_or s 2 0) →
     r ≡ front_in s
 unfolding front_in
 front_third [] r l n h e = absurd (omega arith)
 front_third (a ∷ []) r l n h e = absurd (omega arith)
 front_third (a ∷ (b ∷ [])) r l n h e = absurd (n refl)
-front_third (a ∷ (b ∷ (c ∷ s))) r l n h e = let k = not-false (eqb a 0 && eqb b 0) h in rw k e
+front_third (a ∷ (b ∷ (c ∷ s))) r l n h e = rw h e
 
 -- where it says that the parameters begin
 module _ (s : List ℕ) (x : Front) (told : x ≡ front_in s) where

@@ -11,7 +11,7 @@ use borrow.Author.Tests.{le-leb, leb-true, eq-eqb, ne_eqb, eqb-true, eqb-false, 
 use Rattle.index.specs.Index.{every}
 use Rattle.index.proofs.Index.{both, every_at, every_by}
 use Rattle.index.proofs.Flags.{all5, by_test}
-use Rattle.params.proofs.ParamLaws.{Accepts, topic}
+use Rattle.params.proofs.ParamLaws.{Accepts}
 use Rattle.records.specs.declared.Groups.{Groups}
 use Rattle.records.specs.declared.Peer.{Peer}
 use Rattle.records.specs.declared.TopicRecord.{TopicRecord}

@@ -6,10 +6,12 @@ use Rattle.rules.proofs.StepLaws.{found_below, peer_none_gives, peer_at_gives}
 use Rattle.control.proofs.graft_from.Goals as goal
 
 pub returns-in_default : goal.returns-in_default
+unfolding effect
 returns-in_default c = search peer_none_gives
 
 pub graft_reply-requires : goal.graft_reply-requires
 graft_reply-requires c = search (found_below, rules)
 
 pub returns : goal.returns
+unfolding effect
 returns c = search peer_at_gives

@@ -5,4 +5,5 @@ use Rattle.rules.specs.Step.{is_crowded}
 use Rattle.control.proofs.is_crowded.Goals as goal
 
 pub returns : goal.returns
+unfolding is_crowded
 returns c = cc

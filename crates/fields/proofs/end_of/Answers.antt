@@ -1,5 +1,5 @@
-use Rattle.index.proofs.Kit.{rules, arith}
-use Rattle.fields.proofs.NumberLaws.{Scanning, scanning_start, scanning_none, scanning_out, scanning_last, scanning_more}
+use Rattle.index.proofs.Kit.{rules}
+use Rattle.fields.proofs.NumberLaws.{scanning_start, scanning_none, scanning_out, scanning_last, scanning_more}
 use Rattle.fields.proofs.end_of.Goals as goal
 
 pub loop-left-init : goal.loop-left-init

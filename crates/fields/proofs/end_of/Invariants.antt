@@ -1,6 +1,5 @@
 -- `fields::end_of` meets its contract: the bytes that are passed have their top bit set. Assumes nothing.
-use Rattle.index.proofs.Kit.{rules, arith}
-use Rattle.fields.proofs.NumberLaws.{Scanning, scanning_start, scanning_none, scanning_out, scanning_last, scanning_more}
+use Rattle.fields.proofs.NumberLaws.{Scanning}
 use Rattle.fields.proofs.end_of.Given as goal
 
 abbrev pub invariant-loop-left : goal.invariant-loop-left

@@ -4,4 +4,5 @@ use Rattle.fields.specs.Fields.{is_short}
 use Rattle.fields.proofs.is_short.Goals as goal
 
 pub returns : goal.returns
+unfolding is_short
 returns c = refl

@@ -1,5 +1,5 @@
 use Rattle.index.proofs.Kit.{◌-◌, arith}
-use Rattle.fields.proofs.NumberLaws.{without_end, Joining, joining_start, joining_byte, joining_more, joining_far, joining_all}
+use Rattle.fields.proofs.NumberLaws.{without_end, joining_start, joining_byte, joining_more, joining_far, joining_all}
 use Rattle.fields.proofs.long_number.Goals as goal
 
 pub returns-then-end-eq0 : goal.returns-then-end-eq0

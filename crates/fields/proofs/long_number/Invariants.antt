@@ -1,7 +1,6 @@
 -- `fields::long_number` meets its contract: going back from the last byte, what was read is the number from the place on.
 -- Assumes nothing.
-use Rattle.index.proofs.Kit.{◌-◌, arith}
-use Rattle.fields.proofs.NumberLaws.{without_end, Joining, joining_start, joining_byte, joining_more, joining_far, joining_all}
+use Rattle.fields.proofs.NumberLaws.{Joining}
 use Rattle.fields.proofs.long_number.Given as goal
 
 abbrev pub invariant-loop-place : goal.invariant-loop-place

@@ -1,5 +1,5 @@
 -- `fields::short_field` meets its contract. Assumes nothing.
-use Rattle.index.proofs.Kit.{rules, arith}
+use Rattle.index.proofs.Kit.{rules}
 use Rattle.fields.proofs.FieldLaws.{short_in, short_out}
 use Rattle.fields.proofs.short_field.Goals as goal
 

@@ -1,5 +1,5 @@
 -- `fields::sized` meets its contract. Assumes nothing.
-use Rattle.index.proofs.Kit.{rules, arith}
+use Rattle.index.proofs.Kit.{arith}
 use Rattle.fields.proofs.FieldLaws.{sized_in, sized_out}
 use Rattle.fields.proofs.sized.Goals as goal
 

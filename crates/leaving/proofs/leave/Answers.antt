@@ -11,4 +11,5 @@ pub returns-in-Refuse : goal.returns-in-Refuse
 returns-in-Refuse c = search call_ends
 
 pub returns-in-Pass : goal.returns-in-Pass
+unfolding effect
 returns-in-Pass c = search call_ends

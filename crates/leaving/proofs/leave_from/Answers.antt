@@ -10,6 +10,7 @@ use Rattle.leaving.proofs.LeaveLaws.{gives_left}
 use Rattle.leaving.proofs.leave_from.Goals as goal
 
 pub returns-then-not-is_joined : goal.returns-then-not-is_joined
+unfolding leave_reply
 returns-then-not-is_joined c = search (gives_else, gives_ignored, failed)
 
 pub end_after-requires : goal.end_after-requires
@@ -18,4 +19,5 @@ end_after-requires c =
     record { latest = c.requires.ready.latest; seconds = omega (arith, c.load_magnitude-seconds.ensures, g.leave) }
 
 pub returns : goal.returns
+unfolding leave_reply
 returns c = search (gives_then, gives_left, passed)

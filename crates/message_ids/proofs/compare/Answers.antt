@@ -1,5 +1,4 @@
-use Rattle.index.proofs.Kit.{◌+◌, ◌-◌, ◌≤◌, ◌≡◌, true, arith, every, every_none}
-use Rattle.message_ids.specs.Ids.{same_at}
+use Rattle.index.proofs.Kit.{◌+◌, arith, every_none}
 use Rattle.message_ids.proofs.CodeLaws.{compared_short, compared_long, compared_less, compared_more, compared_same, same_next}
 use Rattle.message_ids.proofs.compare.Goals as goal
 

@@ -1,7 +1,6 @@
 -- `message_ids::compare` meets its contract: the loop's invariant: the first k bytes are the same. Assumes nothing.
-use Rattle.index.proofs.Kit.{◌+◌, ◌-◌, ◌≤◌, ◌≡◌, true, arith, every, every_none}
+use Rattle.index.proofs.Kit.{◌-◌, ◌≤◌, ◌≡◌, true, every}
 use Rattle.message_ids.specs.Ids.{same_at}
-use Rattle.message_ids.proofs.CodeLaws.{compared_short, compared_long, compared_less, compared_more, compared_same, same_next}
 use Rattle.message_ids.proofs.compare.Given as goal
 
 abbrev pub invariant-loop-k : goal.invariant-loop-k

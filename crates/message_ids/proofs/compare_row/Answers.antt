@@ -1,5 +1,5 @@
 -- `message_ids::compare_row` meets its contract. Assumes nothing.
-use Rattle.index.proofs.Kit.{rules, arith}
+use Rattle.index.proofs.Kit.{arith}
 use Rattle.message_ids.proofs.compare_row.Goals as goal
 
 pub compare-requires : goal.compare-requires

@@ -1,5 +1,5 @@
 -- `message_ids::id_ok` meets its contract. Assumes nothing.
-use Rattle.index.proofs.Kit.{rules, arith}
+use Rattle.index.proofs.Kit.{arith}
 use Rattle.message_ids.proofs.TableLaws.{id_empty, id_long, id_first, id_rises, id_same, id_falls, last_short}
 use Rattle.message_ids.proofs.id_ok.Goals as goal
 

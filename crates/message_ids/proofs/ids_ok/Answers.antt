@@ -1,6 +1,5 @@
 use mathlib.Core.Path.{sym, ◌∙◌}
-use Rattle.index.proofs.Kit.{◌-◌, ◌≤◌, ◌≡◌, true, rules, arith, every, every_none, every_more}
-use Rattle.message_ids.specs.Ids.{id_ok}
+use Rattle.index.proofs.Kit.{arith, every_none, every_more}
 use Rattle.message_ids.proofs.TableLaws.{ids_ragged, ids_other, ids_bad, ids_good}
 use Rattle.message_ids.proofs.ids_ok.Goals as goal
 

@@ -1,6 +1,6 @@
-use Rattle.index.proofs.Kit.{◌-◌, rules, arith}
+use Rattle.index.proofs.Kit.{rules, arith}
 use Rattle.message_ids.proofs.TableLaws.{good_numbers, order_long}
-use Rattle.message_ids.proofs.FindLaws.{Parted, parted_none, parted_up, parted_down, parted_found, parted_all, mid_low}
+use Rattle.message_ids.proofs.FindLaws.{parted_none, parted_up, parted_down, parted_found, parted_all, mid_low}
 use Rattle.message_ids.proofs.number_row.Goals as goal
 
 pub loop-low-init : goal.loop-low-init

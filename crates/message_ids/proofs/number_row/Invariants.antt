@@ -1,8 +1,7 @@
 -- `message_ids::number_row` meets its contract: the loop's invariant is `Parted`: places below `low` have smaller numbers, those from
 -- `high` on greater ones. Assumes nothing.
-use Rattle.index.proofs.Kit.{◌-◌, rules, arith}
-use Rattle.message_ids.proofs.TableLaws.{good_numbers, order_long}
-use Rattle.message_ids.proofs.FindLaws.{Parted, parted_none, parted_up, parted_down, parted_found, parted_all, mid_low}
+use Rattle.index.proofs.Kit.{◌-◌}
+use Rattle.message_ids.proofs.FindLaws.{Parted}
 use Rattle.message_ids.proofs.number_row.Given as goal
 
 abbrev pub invariant-loop-low : goal.invariant-loop-low

@@ -1,7 +1,5 @@
 use mathlib.Core.Path.{sym, ◌∙◌}
-use Rattle.index.proofs.Kit.{◌-◌, ◌≤◌, ◌≡◌, true, rules, arith, every, every_none, every_more}
-use lib.ListN.{length}
-use Rattle.message_ids.specs.Ids.{place_ok}
+use Rattle.index.proofs.Kit.{arith, every_none, every_more}
 use Rattle.message_ids.proofs.TableLaws.{numbers_other, numbers_bad, numbers_good}
 use Rattle.message_ids.proofs.numbers_ok.Goals as goal
 

@@ -1,6 +1,6 @@
-use Rattle.index.proofs.Kit.{◌-◌, rules, arith}
+use Rattle.index.proofs.Kit.{arith}
 use Rattle.message_ids.proofs.TableLaws.{good_ids}
-use Rattle.message_ids.proofs.FindLaws.{Halved, halved_none, halved_up, halved_down, halved_found, halved_all}
+use Rattle.message_ids.proofs.FindLaws.{halved_none, halved_up, halved_down, halved_found, halved_all}
 use Rattle.message_ids.proofs.row_of.Goals as goal
 
 pub loop-low-init : goal.loop-low-init

@@ -1,8 +1,7 @@
 -- `message_ids::row_of` meets its contract: the loop's invariant is `Halved`: rows below `low` come before the id, those from `high` on
 -- after it. Assumes nothing.
-use Rattle.index.proofs.Kit.{◌-◌, rules, arith}
-use Rattle.message_ids.proofs.TableLaws.{good_ids}
-use Rattle.message_ids.proofs.FindLaws.{Halved, halved_none, halved_up, halved_down, halved_found, halved_all}
+use Rattle.index.proofs.Kit.{◌-◌}
+use Rattle.message_ids.proofs.FindLaws.{Halved}
 use Rattle.message_ids.proofs.row_of.Given as goal
 
 abbrev pub invariant-loop-low : goal.invariant-loop-low

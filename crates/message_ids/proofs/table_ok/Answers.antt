@@ -1,6 +1,5 @@
 -- `message_ids::table_ok` meets its contract. Assumes nothing.
 use mathlib.Core.Path.{sym, ◌∙◌}
-use Rattle.index.proofs.Kit.{rules}
 use Rattle.message_ids.proofs.TableLaws.{table_no, table_as}
 use Rattle.message_ids.proofs.table_ok.Goals as goal
 

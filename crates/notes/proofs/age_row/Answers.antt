@@ -38,12 +38,13 @@ loop-i-preserved c =
     let l = c.loop-i in
     let a = c.args in
     elim c.if-age-lt2.branch [
-    | then-age-lt2 w ↦ aging_in a.cells.now l.cells c.if-age-lt2.cells a.at _ a.n l.i l.m c.if-age-lt2.m l.left c.if-age-lt2.left
-    c.digit-age.result (omega arith) (let p = c.requires in omega arith) l.invariant c.digit-age.ensures.0 w.if-age-lt2.true w.cells-is
-    (w.left-is ∙ w.with_top-left.ensures.0) w.m-is
-    | else-age-lt2 w ↦ aging_out a.cells.now l.cells c.if-age-lt2.cells a.at _ a.n l.i l.m c.if-age-lt2.m l.left c.if-age-lt2.left
-    c.digit-age.result (omega arith) (let p = c.requires in omega arith) l.invariant c.digit-age.ensures.0 w.if-age-lt2.false w.cells-is w.left-is
-    w.m-is ]
+      | then-age-lt2 w ↦ aging_in a.cells.now l.cells c.if-age-lt2.cells a.at _ a.n l.i l.m c.if-age-lt2.m l.left c.if-age-lt2.left
+          c.digit-age.result (omega arith) (let p = c.requires in omega arith) l.invariant c.digit-age.ensures.0 w.if-age-lt2.true w.cells-is
+          (w.left-is ∙ w.with_top-left.ensures.0) w.m-is
+      | else-age-lt2 w ↦ aging_out a.cells.now l.cells c.if-age-lt2.cells a.at _ a.n l.i l.m c.if-age-lt2.m l.left c.if-age-lt2.left
+          c.digit-age.result (omega arith) (let p = c.requires in omega arith) l.invariant c.digit-age.ensures.0 w.if-age-lt2.false w.cells-is w.left-is
+          w.m-is
+    ]
 
 pub bounds-cells-at-2 : goal.bounds-cells-at-2
 bounds-cells-at-2 c = let e = c.loop-i.invariant.size in omega arith

@@ -9,8 +9,7 @@ loop-k-init c = (omega arith, (omega arith, move_start c.args.cells.now c.args.e
 
 pub loop-k-preserved : goal.loop-k-preserved
 loop-k-preserved c =
-    let l = c.loop-k in
-    (
+    let l = c.loop-k in (
       omega arith,
       (
         omega arith,

@@ -22,5 +22,5 @@ connect_known-requires c =
 
 pub returns : goal.returns
 returns c =
-    connect_new _ _ _ _ _ _ _ c.version_of.ensures _ c.version.given.1 _ (search) _ _ _
+    connect_new _ _ _ _ _ _ _ c.version_of.ensures _ c.in-Version.is _ (search) _ _ _
     c.in_default-find_connected.is c.groups_of.ensures c.connect_known.ensures

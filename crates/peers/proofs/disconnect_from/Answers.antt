@@ -9,6 +9,7 @@ use Rattle.peers.proofs.PeerLaws.{departed_done}
 use Rattle.peers.proofs.disconnect_from.Goals as goal
 
 pub returns-in_default : goal.returns-in_default
+unfolding effect
 returns-in_default c = search peer_none
 
 pub end_after-requires : goal.end_after-requires
@@ -21,4 +22,5 @@ pub retain_slot-requires : goal.retain_slot-requires
 retain_slot-requires c = search (found_below, rules)
 
 pub returns : goal.returns
+unfolding effect
 returns c = search (peer_at, departed_done)

@@ -7,6 +7,7 @@ use Rattle.peers.proofs.PeerLaws.{rated_done, rated_fits}
 use Rattle.peers.proofs.rate_from.Goals as goal
 
 pub returns-in_default : goal.returns-in_default
+unfolding effect
 returns-in_default c = search peer_none
 
 pub rate_slot-requires : goal.rate_slot-requires

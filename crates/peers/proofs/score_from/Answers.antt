@@ -9,6 +9,7 @@ use Rattle.rules.proofs.StepLaws.{found_below, peer_none, peer_at}
 use Rattle.peers.proofs.score_from.Goals as goal
 
 pub returns-in_default : goal.returns-in_default
+unfolding effect
 returns-in_default c = search peer_none
 
 pub load_peer-requires : goal.load_peer-requires

@@ -38,8 +38,7 @@ returns-then-not-row_ok c =
 pub loop-r-preserved : goal.loop-r-preserved
 loop-r-preserved c =
     let a = c.args in
-    let l = c.loop-r in
-    (
+    let l = c.loop-r in (
       omega arith,
       l.invariant.1,
       tested_more (on_bits a.connected.now) a.most a.cells.now l.r (yes c.rises_at.ensures c.if-not-rises_at.false)

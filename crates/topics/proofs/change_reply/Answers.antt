@@ -7,7 +7,9 @@ use Rattle.topics.proofs.ReplyLaws.{else_ignored, else_done}
 use Rattle.topics.proofs.change_reply.Goals as goal
 
 pub returns-then-sender : goal.returns-then-sender
+unfolding change_reply
 returns-then-sender c = search (else_ignored, gray_is)
 
 pub returns : goal.returns
+unfolding change_reply
 returns c = search (else_done, gray_is)

@@ -3,7 +3,6 @@
 use Rattle.effects.proofs.ActionLaws.{sets_three}
 use lib.ListN.{length-set}
 use native.Mathlib.Omega.{arith}
-use borrow.Author.Rules.{rules}
 use Rattle.effects.proofs.actions.put_numbers.Goals as goal
 
 pub bounds-actions-at-2 : goal.bounds-actions-at-2

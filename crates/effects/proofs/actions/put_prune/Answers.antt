@@ -2,7 +2,6 @@
 -- Assumes nothing.
 use mathlib.Core.Path.{refl}
 use Rattle.effects.specs.Actions.{numbers_of}
-use borrow.Author.Rules.{rules}
 use Rattle.effects.proofs.actions.put_prune.Goals as goal
 
 pub returns : goal.returns

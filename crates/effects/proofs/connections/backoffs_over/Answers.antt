@@ -1,4 +1,4 @@
-use Rattle.index.proofs.Kit.{ℕ, ◌≤◌, ◌-◌, ◌≡◌, true, not, ap, arith, rules, every}
+use Rattle.index.proofs.Kit.{ℕ, not, ap, arith}
 use Rattle.index.proofs.Index.{every_none, every_more, every_out, every_in}
 use borrow.Author.Tests.{lt-ltb, le-ltb}
 use lib.ListN.{get_or}

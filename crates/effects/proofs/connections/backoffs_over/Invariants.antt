@@ -1,11 +1,7 @@
 -- `effects::connections::backoffs_over`: the backoffs below t are over.
-use Rattle.index.proofs.Kit.{ℕ, ◌≤◌, ◌-◌, ◌≡◌, true, not, ap, arith, rules, every}
-use Rattle.index.proofs.Index.{every_none, every_more, every_out, every_in}
-use borrow.Author.Tests.{lt-ltb, le-ltb}
+use Rattle.index.proofs.Kit.{◌≤◌, ◌-◌, ◌≡◌, true, not, every}
 use lib.ListN.{get_or}
 use lib.Dec.{ltb}
-use mathlib.Core.Bool.{Bool}
-use mathlib.Core.List.{List}
 use Rattle.effects.proofs.connections.backoffs_over.Given as goal
 
 abbrev pub invariant-loop-t : goal.invariant-loop-t

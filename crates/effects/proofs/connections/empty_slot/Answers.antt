@@ -4,7 +4,6 @@ use mathlib.Core.Path.{ap, ◌∙◌}
 use Rattle.records.specs.Records.{State, no_peer, set_peer}
 use Rattle.effects.specs.Effects.{emptied}
 use Rattle.effects.proofs.EffectLaws.{none_fits}
-use borrow.Author.Rules.{rules}
 use Rattle.effects.proofs.connections.empty_slot.Goals as goal
 
 pub store_peer-requires : goal.store_peer-requires

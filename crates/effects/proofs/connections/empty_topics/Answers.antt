@@ -1,7 +1,6 @@
-use Rattle.index.proofs.Kit.{ℕ, ◌≤◌, ◌-◌, ◌≡◌, sym, ap, ◌∙◌, arith, rules, iter}
+use Rattle.index.proofs.Kit.{ℕ, sym, ap, ◌∙◌, arith}
 use Rattle.index.proofs.Index.{iter_none, iter_more, iter_done}
-use lib.ListN.{length}
-use Rattle.layout.specs.View.{cell_count, state_of}
+use Rattle.layout.specs.View.{state_of}
 use Rattle.records.specs.Records.{State, set_topic, place, no_topic}
 use Rattle.effects.proofs.EffectLaws.{no_topic_fits}
 use Rattle.effects.proofs.connections.empty_topics.Goals as goal

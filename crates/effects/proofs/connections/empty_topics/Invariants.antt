@@ -1,10 +1,8 @@
 -- `effects::connections::empty_topics`: after t turns the records of the topics below t are empty.
-use Rattle.index.proofs.Kit.{ℕ, ◌≤◌, ◌-◌, ◌≡◌, sym, ap, ◌∙◌, arith, rules, iter}
-use Rattle.index.proofs.Index.{iter_none, iter_more, iter_done}
+use Rattle.index.proofs.Kit.{◌≤◌, ◌-◌, ◌≡◌, iter}
 use lib.ListN.{length}
 use Rattle.layout.specs.View.{cell_count, state_of}
-use Rattle.records.specs.Records.{State, set_topic, place, no_topic}
-use Rattle.effects.proofs.EffectLaws.{no_topic_fits}
+use Rattle.records.specs.Records.{set_topic, place, no_topic}
 use Rattle.effects.proofs.connections.empty_topics.Given as goal
 
 abbrev pub invariant-loop-t : goal.invariant-loop-t

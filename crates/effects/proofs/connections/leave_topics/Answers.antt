@@ -1,7 +1,6 @@
-use Rattle.index.proofs.Kit.{ℕ, ◌≤◌, ◌-◌, ◌≡◌, sym, ◌∙◌, arith, rules, iter}
+use Rattle.index.proofs.Kit.{ℕ, sym, ◌∙◌, arith}
 use Rattle.index.proofs.Index.{iter_none, iter_more, iter_done}
-use lib.ListN.{length}
-use Rattle.layout.specs.View.{cell_count, state_of}
+use Rattle.layout.specs.View.{state_of}
 use Rattle.records.specs.Records.{State}
 use Rattle.effects.specs.Effects.{left_topic}
 use Rattle.effects.proofs.connections.leave_topics.Goals as goal

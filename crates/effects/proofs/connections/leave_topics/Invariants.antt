@@ -1,9 +1,7 @@
 -- `effects::connections::leave_topics`: after t turns the state has left the topics below t.
-use Rattle.index.proofs.Kit.{ℕ, ◌≤◌, ◌-◌, ◌≡◌, sym, ◌∙◌, arith, rules, iter}
-use Rattle.index.proofs.Index.{iter_none, iter_more, iter_done}
+use Rattle.index.proofs.Kit.{◌≤◌, ◌-◌, ◌≡◌, iter}
 use lib.ListN.{length}
 use Rattle.layout.specs.View.{cell_count, state_of}
-use Rattle.records.specs.Records.{State}
 use Rattle.effects.specs.Effects.{left_topic}
 use Rattle.effects.proofs.connections.leave_topics.Given as goal
 

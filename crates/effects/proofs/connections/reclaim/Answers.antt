@@ -1,9 +1,8 @@
 use Rattle.records.specs.Records.{slot_count, peer_in}
-use Rattle.index.proofs.Kit.{◌≤◌, ◌-◌, ◌≡◌, refl, sym, ap, ◌∙◌, arith, rules, iter}
+use Rattle.index.proofs.Kit.{refl, sym, ap, ◌∙◌, arith}
 use Rattle.index.proofs.Index.{iter_none, iter_more, iter_done}
-use lib.ListN.{length}
-use Rattle.layout.specs.View.{cell_count, state_of}
-use Rattle.effects.specs.Effects.{reclaimable, reclaim_slot, reclaimed, NoneReclaimable}
+use Rattle.layout.specs.View.{state_of}
+use Rattle.effects.specs.Effects.{reclaimable, reclaim_slot, reclaimed}
 use Rattle.effects.proofs.connections.reclaim.Goals as goal
 
 pub loop-slot-init : goal.loop-slot-init

@@ -1,10 +1,9 @@
 -- `effects::connections::reclaim`: after `slot` turns the slots below it are reclaimed.
-use Rattle.records.specs.Records.{slot_count, peer_in}
-use Rattle.index.proofs.Kit.{◌≤◌, ◌-◌, ◌≡◌, refl, sym, ap, ◌∙◌, arith, rules, iter}
-use Rattle.index.proofs.Index.{iter_none, iter_more, iter_done}
+use Rattle.records.specs.Records.{slot_count}
+use Rattle.index.proofs.Kit.{◌≤◌, ◌-◌, ◌≡◌, iter}
 use lib.ListN.{length}
 use Rattle.layout.specs.View.{cell_count, state_of}
-use Rattle.effects.specs.Effects.{reclaimable, reclaim_slot, reclaimed, NoneReclaimable}
+use Rattle.effects.specs.Effects.{reclaim_slot, NoneReclaimable}
 use Rattle.effects.proofs.connections.reclaim.Given as goal
 
 abbrev pub invariant-loop-slot : goal.invariant-loop-slot

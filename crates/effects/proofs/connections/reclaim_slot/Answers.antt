@@ -1,7 +1,6 @@
 -- `effects::connections::reclaim_slot`: the record goes if it may be reclaimed.
 use mathlib.Core.Path.{refl, sym, ap, ◌∙◌}
 use mathlib.Core.Bool.{true≢false}
-use borrow.Author.Rules.{rules}
 use Rattle.index.proofs.Flags.{yes, no}
 use Rattle.records.specs.declared.Peer.{Peer}
 use Rattle.effects.specs.Effects.{reclaimable}

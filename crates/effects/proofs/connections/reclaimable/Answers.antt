@@ -1,6 +1,5 @@
 -- `effects::connections::reclaimable`: the same tests, bracketed alike.
 -- Assumes nothing.
-use borrow.Author.Rules.{rules}
 use Rattle.effects.specs.Effects.{reclaimable}
 use Rattle.effects.proofs.connections.reclaimable.Goals as goal
 

@@ -1,6 +1,5 @@
 -- `effects::connections::retain_slot`: the record loaded, changed and stored.
 use mathlib.Core.Path.{◌∙◌}
-use borrow.Author.Rules.{rules}
 use Rattle.effects.proofs.EffectLaws.{retained_fits}
 use Rattle.effects.proofs.connections.retain_slot.Goals as goal
 

@@ -6,7 +6,6 @@ use lib.ListN.{length}
 use Rattle.records.specs.declared.Peer.{Peer}
 use Rattle.layout.proofs.StateLaws.{sized_of}
 use Rattle.effects.proofs.EffectLaws.{stored_end}
-use borrow.Author.Rules.{rules}
 use Rattle.effects.proofs.slots.delay.Goals as goal
 
 pub returns : goal.returns

@@ -1,5 +1,4 @@
 -- `effects::slots::graft_slot`: the times and the bit.
-use borrow.Author.Rules.{rules}
 use Rattle.effects.proofs.EffectLaws.{into_stored}
 use Rattle.effects.proofs.slots.graft_slot.Goals as goal
 

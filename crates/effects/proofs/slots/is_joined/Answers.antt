@@ -1,6 +1,5 @@
 -- `effects::slots::is_joined`: the flag as loaded.
 -- Assumes nothing.
-use borrow.Author.Rules.{rules}
 use Rattle.effects.proofs.slots.is_joined.Goals as goal
 
 pub returns : goal.returns

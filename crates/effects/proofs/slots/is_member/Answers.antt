@@ -1,7 +1,6 @@
 -- `effects::slots::is_member`: the flag as loaded.
 -- Assumes nothing.
 use Rattle.effects.specs.Effects.{is_member}
-use borrow.Author.Rules.{rules}
 use Rattle.effects.proofs.slots.is_member.Goals as goal
 
 pub returns : goal.returns

@@ -1,5 +1,4 @@
 -- `effects::slots::load_magnitude`: as loaded.
-use borrow.Author.Rules.{rules}
 use Rattle.effects.proofs.slots.load_magnitude.Goals as goal
 
 pub returns : goal.returns

@@ -1,5 +1,5 @@
 use Rattle.records.specs.Records.{slot_count}
-use Rattle.index.proofs.Kit.{ℕ, ◌≤◌, ◌-◌, ◌≡◌, sym, ap, ◌∙◌, arith, rules, count, one}
+use Rattle.index.proofs.Kit.{ℕ, sym, ap, ◌∙◌, arith, one}
 use Rattle.index.proofs.Index.{count_none, count_more, count_done}
 use Prim.Native.Nat.{◌+◌}
 use Rattle.layout.specs.View.{state_of}

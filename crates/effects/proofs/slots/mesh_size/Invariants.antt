@@ -1,10 +1,8 @@
 -- `effects::slots::mesh_size`: after `slot` turns n is the count below `slot`.
 use Rattle.records.specs.Records.{slot_count}
-use Rattle.index.proofs.Kit.{ℕ, ◌≤◌, ◌-◌, ◌≡◌, sym, ap, ◌∙◌, arith, rules, count, one}
-use Rattle.index.proofs.Index.{count_none, count_more, count_done}
-use Prim.Native.Nat.{◌+◌}
+use Rattle.index.proofs.Kit.{◌≤◌, ◌-◌, ◌≡◌, count}
 use Rattle.layout.specs.View.{state_of}
-use Rattle.effects.specs.Effects.{is_member, mesh_size}
+use Rattle.effects.specs.Effects.{is_member}
 use Rattle.effects.proofs.slots.mesh_size.Given as goal
 
 abbrev pub invariant-loop-slot : goal.invariant-loop-slot

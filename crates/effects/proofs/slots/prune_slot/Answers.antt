@@ -1,5 +1,4 @@
 -- `effects::slots::prune_slot`: out of the mesh, then the end.
-use borrow.Author.Rules.{rules}
 use Rattle.effects.specs.Effects.{pruned}
 use Rattle.effects.proofs.slots.prune_slot.Goals as goal
 

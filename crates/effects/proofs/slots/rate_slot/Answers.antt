@@ -1,5 +1,4 @@
 -- `effects::slots::rate_slot`: the record loaded, changed and stored.
-use borrow.Author.Rules.{rules}
 use Rattle.effects.proofs.EffectLaws.{p5_fits}
 use Rattle.effects.proofs.slots.rate_slot.Goals as goal
 

@@ -1,5 +1,4 @@
 -- `effects::slots::subscribe_slot`: the bit.
-use borrow.Author.Rules.{rules}
 use Rattle.effects.proofs.EffectLaws.{subscribed_stored}
 use Rattle.effects.proofs.slots.subscribe_slot.Goals as goal
 

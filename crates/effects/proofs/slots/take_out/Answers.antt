@@ -1,5 +1,4 @@
 -- `effects::slots::take_out`: the bit goes.
-use borrow.Author.Rules.{rules}
 use Rattle.effects.proofs.EffectLaws.{out_stored}
 use Rattle.effects.proofs.slots.take_out.Goals as goal
 

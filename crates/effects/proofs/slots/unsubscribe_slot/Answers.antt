@@ -3,7 +3,6 @@ use native.Mathlib.Omega.{arith}
 use Rattle.records.specs.Records.{place}
 use Rattle.layout.specs.View.{state_of}
 use Rattle.layout.proofs.StateLaws.{sized_of}
-use borrow.Author.Rules.{rules}
 use Rattle.effects.proofs.EffectLaws.{gone_stored}
 use Rattle.effects.proofs.slots.unsubscribe_slot.Goals as goal
 

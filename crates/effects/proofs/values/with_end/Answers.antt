@@ -1,7 +1,6 @@
 -- `effects::values::with_end`: the record with one end replaced.
 -- Assumes nothing.
 use Rattle.effects.specs.Effects.{with_end}
-use borrow.Author.Rules.{rules}
 use Rattle.effects.proofs.values.with_end.Goals as goal
 
 pub returns : goal.returns

@@ -19,9 +19,9 @@ count_groups-requires c = (c.requires.standing, tells_none)
 
 pub without_low-requires : goal.without_low-requires
 without_low-requires c = record {
-      standing = c.requires.standing;
-      buckets = c.count_groups.ensures;
-    }
+  standing = c.requires.standing;
+  buckets = c.count_groups.ensures;
+}
 
 pub returns : goal.returns
 returns c = let o = c.outsiders-all in targets_are _ _ (bits_of

@@ -71,20 +71,21 @@ loop-i-preserved c =
     let st = state_of a.table.now in
     let p = bits_of a.set.now in
     elim c.if-at.branch [
-    | then-at w ↦ (
-      omega arith,
-      refl,
-      omega (arith, w.n-is),
-      tells_as (picked_in st p a.order.now l.i lt (sym c.at.ensures ∙ w.if-at.true))
-          (rw w.n-is (tells_more _ _ a.actions.now l.actions _ l.n l.invariant.3 (w.actions-is ∙ w.tell_slot.ensures))),
-    )
-    | else-at w ↦ (
-      omega arith,
-      refl,
-      omega (arith, w.n-is, l.invariant.2),
-      tells_as (picked_out st p a.order.now l.i lt (sym c.at.ensures ∙ w.if-at.false))
-          (rw (w.actions-is, w.n-is) l.invariant.3),
-    ) ]
+      | then-at w ↦ (
+        omega arith,
+        refl,
+        omega (arith, w.n-is),
+        tells_as (picked_in st p a.order.now l.i lt (sym c.at.ensures ∙ w.if-at.true))
+            (rw w.n-is (tells_more _ _ a.actions.now l.actions _ l.n l.invariant.3 (w.actions-is ∙ w.tell_slot.ensures))),
+      )
+      | else-at w ↦ (
+        omega arith,
+        refl,
+        omega (arith, w.n-is, l.invariant.2),
+        tells_as (picked_out st p a.order.now l.i lt (sym c.at.ensures ∙ w.if-at.false))
+            (rw (w.actions-is, w.n-is) l.invariant.3),
+      )
+    ]
 
 pub shape_of-actions : goal.shape_of-actions
 shape_of-actions c = tells_size c.loop-i.invariant.3

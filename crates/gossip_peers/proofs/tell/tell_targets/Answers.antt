@@ -27,9 +27,9 @@ share-most-requires c =
 
 pub tell_first-requires : goal.tell_first-requires
 tell_first-requires c = let p = c.requires in (
-      p.lent,
-      order_length _ p.permutation,
-    )
+  p.lent,
+  order_length _ p.permutation,
+)
 
 pub returns : goal.returns
 returns c p el ef =

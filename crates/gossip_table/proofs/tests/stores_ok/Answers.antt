@@ -32,12 +32,11 @@ returns-then-not-store_ok c =
     (no (store_judged c.args.gossip.now _ c.is_joined-joined.ensures c.store_ok.ensures) c.if-not-store_ok.true)
 
 pub loop-t-preserved : goal.loop-t-preserved
-loop-t-preserved c =
-    (
-      let t = c.loop-t-test.true in omega (arith, t),
-      every_more _ _ c.loop-t.invariant.1
-          (yes (store_judged c.args.gossip.now _ c.is_joined-joined.ensures c.store_ok.ensures) c.if-not-store_ok.false),
-    )
+loop-t-preserved c = (
+  let t = c.loop-t-test.true in omega (arith, t),
+  every_more _ _ c.loop-t.invariant.1
+      (yes (store_judged c.args.gossip.now _ c.is_joined-joined.ensures c.store_ok.ensures) c.if-not-store_ok.false),
+)
 
 pub returns : goal.returns
 returns c =

@@ -1,9 +1,4 @@
-use Rattle.index.proofs.Kit.{◌≤◌, ◌-◌, ◌≡◌, first}
 use Rattle.index.proofs.Auto.{auto}
-use Rattle.index.specs.declared.Found.TheVariants.{Nothing}
-use Rattle.layout.specs.View.{state_of}
-use Rattle.lookup.specs.Find.{holds}
-use Rattle.records.specs.Records.{slot_count}
 use Rattle.lookup.proofs.find.find.Goals as goal
 
 pub loop-slot-init : goal.loop-slot-init

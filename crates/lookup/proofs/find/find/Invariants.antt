@@ -1,5 +1,4 @@
 use Rattle.index.proofs.Kit.{◌≤◌, ◌-◌, ◌≡◌, first}
-use Rattle.index.proofs.Auto.{auto}
 use Rattle.index.specs.declared.Found.TheVariants.{Nothing}
 use Rattle.layout.specs.View.{state_of}
 use Rattle.lookup.specs.Find.{holds}

@@ -1,4 +1,3 @@
-use borrow.Author.Rules.{rules}
 use Rattle.lookup.specs.Find.{holds}
 use Rattle.lookup.proofs.find.holds.Goals as goal
 

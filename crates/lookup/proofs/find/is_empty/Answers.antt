@@ -1,4 +1,3 @@
-use borrow.Author.Rules.{rules}
 use Rattle.lookup.proofs.find.is_empty.Goals as goal
 
 pub returns : goal.returns

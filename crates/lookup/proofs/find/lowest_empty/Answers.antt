@@ -1,8 +1,4 @@
-use Rattle.index.proofs.Kit.{◌≤◌, ◌-◌, ◌≡◌, first}
 use Rattle.index.proofs.Auto.{auto}
-use Rattle.index.specs.declared.Found.TheVariants.{Nothing}
-use Rattle.records.specs.Records.{peer_in, is_empty, slot_count}
-use Rattle.layout.specs.View.{state_of}
 use Rattle.lookup.specs.Find.{lowest_empty}
 use Rattle.lookup.proofs.find.lowest_empty.Goals as goal
 

@@ -1,9 +1,7 @@
 use Rattle.index.proofs.Kit.{◌≤◌, ◌-◌, ◌≡◌, first}
-use Rattle.index.proofs.Auto.{auto}
 use Rattle.index.specs.declared.Found.TheVariants.{Nothing}
 use Rattle.records.specs.Records.{peer_in, is_empty, slot_count}
 use Rattle.layout.specs.View.{state_of}
-use Rattle.lookup.specs.Find.{lowest_empty}
 use Rattle.lookup.proofs.find.lowest_empty.Given as goal
 
 abbrev pub invariant-loop-lowest : goal.invariant-loop-lowest

@@ -1,13 +1,12 @@
 use mathlib.Core.Path.{sym, ◌∙◌}
-use borrow.Author.Rules.{rules}
 use Rattle.lookup.proofs.FreshLaws.{fresh_broken, fresh_made}
 use Rattle.lookup.proofs.fresh.fresh.Goals as goal
 
 pub fill-requires : goal.fill-requires
 fill-requires c = (
-      c.requires,
-      sym c.first_broken.ensures ∙ c.in-Nothing.is,
-    )
+  c.requires,
+  sym c.first_broken.ensures ∙ c.in-Nothing.is,
+)
 
 pub returns-in-At : goal.returns-in-At
 returns-in-At c =

@@ -1,7 +1,4 @@
-use Rattle.index.proofs.Kit.{◌≤◌, ◌-◌, ◌≡◌, true, every, rules}
 use Rattle.index.proofs.Auto.{auto}
-use lib.ListN.{length}
-use Rattle.lookup.specs.Name.{same_at}
 use Rattle.lookup.proofs.NameLaws.{other_length, other_byte, same_byte, all_bytes}
 use Rattle.lookup.proofs.name.same_bytes.Goals as goal
 

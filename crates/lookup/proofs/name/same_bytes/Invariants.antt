@@ -1,8 +1,6 @@
-use Rattle.index.proofs.Kit.{◌≤◌, ◌-◌, ◌≡◌, true, every, rules}
-use Rattle.index.proofs.Auto.{auto}
+use Rattle.index.proofs.Kit.{◌≤◌, ◌-◌, ◌≡◌, true, every}
 use lib.ListN.{length}
 use Rattle.lookup.specs.Name.{same_at}
-use Rattle.lookup.proofs.NameLaws.{other_length, other_byte, same_byte, all_bytes}
 use Rattle.lookup.proofs.name.same_bytes.Given as goal
 
 abbrev pub invariant-loop-k : goal.invariant-loop-k

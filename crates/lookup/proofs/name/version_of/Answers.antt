@@ -1,4 +1,3 @@
-use borrow.Author.Rules.{rules}
 use Rattle.index.proofs.Flags.{flags}
 use Rattle.lookup.proofs.NameLaws.{first_name, second_name, third_name, no_name}
 use Rattle.lookup.proofs.name.version_of.Goals as goal

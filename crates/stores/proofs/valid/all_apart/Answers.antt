@@ -19,12 +19,11 @@ returns-then-not-window_apart c =
     all_out _ _ c.loop-w.w (omega arith) (no c.window_apart.ensures.0 c.if-not-window_apart.true)
 
 pub loop-w-preserved : goal.loop-w-preserved
-loop-w-preserved c =
-    (
-      omega arith,
-      yes c.window_apart.ensures.0 c.if-not-window_apart.false,
-      c.window_apart.ensures.1 c.if-not-window_apart.false,
-    )
+loop-w-preserved c = (
+  omega arith,
+  yes c.window_apart.ensures.0 c.if-not-window_apart.false,
+  c.window_apart.ensures.1 c.if-not-window_apart.false,
+)
 
 pub returns : goal.returns
 returns c =

@@ -18,8 +18,7 @@ loop-p-init c = (omega arith, stores_none _ _ _)
 
 pub flag_window-requires : goal.flag_window-requires
 flag_window-requires c =
-    let l = c.loop-p in
-    (
+    let l = c.loop-p in (
       window_of _ _ c.requires.0 (omega arith),
       (given_kept _ _ _ _ c.requires.1 l.invariant.1, c.mark_all.ensures),
     )

@@ -1,13 +1,8 @@
 -- `validity::ids::ids_distinct`: after s turns the ids below s are apart, and have marked their buckets. Assumes nothing.
-use Rattle.index.proofs.Kit.{◌≤◌, ◌-◌, ◌≡◌, refl, sym, arith, rules, every, true}
-use Rattle.index.proofs.Index.{every-loop, every_more, every_out, every_done}
-use Rattle.index.proofs.Flags.{failed, passed}
-use Rattle.records.specs.Records.{slot_count}
+use Rattle.index.proofs.Kit.{◌≤◌, ◌-◌, ◌≡◌, every, true}
 use Rattle.layout.specs.View.{state_of}
 use Rattle.validity.specs.Valid.{new_id}
 use Rattle.validity.specs.Order.{Seen}
-use Rattle.validity.proofs.IdLaws.{seen_none}
-use Rattle.validity.proofs.RestLaws.{ids_rest}
 use Rattle.validity.proofs.ids.ids_distinct.Given as goal
 
 abbrev pub invariant-loop-slot : goal.invariant-loop-slot

@@ -1,9 +1,6 @@
-use Rattle.index.proofs.Kit.{◌≤◌, ◌-◌, ◌≡◌, arith, rules, every, true}
+use Rattle.index.proofs.Kit.{arith, rules}
 use mathlib.Core.Path.{ap₂, ◌∙◌, sym}
 use Rattle.index.proofs.Index.{every-loop, every_more, every_out}
-use Rattle.index.proofs.Flags.{failed, passed}
-use Rattle.records.specs.Records.{peer_in}
-use Rattle.layout.specs.View.{state_of}
 use Rattle.validity.specs.Valid.{apart, new_id}
 use Rattle.validity.proofs.ids.new_id.Goals as goal
 
@@ -17,12 +14,11 @@ returns-then-not-apart c =
     (sym (c.apart.ensures ∙ ap₂ apart c.load_id-id.ensures c.load_id.ensures) ∙ c.if-not-apart.true)
 
 pub loop-k-preserved : goal.loop-k-preserved
-loop-k-preserved c =
-    (
-      omega arith,
-      every_more _ _ c.loop-k.invariant.1
-          (sym (c.apart.ensures ∙ ap₂ apart c.load_id-id.ensures c.load_id.ensures) ∙ c.if-not-apart.false),
-    )
+loop-k-preserved c = (
+  omega arith,
+  every_more _ _ c.loop-k.invariant.1
+      (sym (c.apart.ensures ∙ ap₂ apart c.load_id-id.ensures c.load_id.ensures) ∙ c.if-not-apart.false),
+)
 
 pub returns : goal.returns
 unfolding new_id

@@ -1,5 +1,4 @@
 use mathlib.Core.Path.{◌∙◌}
-use borrow.Author.Rules.{rules}
 use Rattle.validity.proofs.ids.new_where.Goals as goal
 
 pub returns-then-not-known : goal.returns-then-not-known

@@ -1,5 +1,4 @@
 -- `validity::ids::next_new`: an unmarked bucket tells that the id is new, and the id's own is marked then.
-use borrow.Author.Rules.{rules}
 use Prim.Native.Nat.{ℕ, ◌%◌}
 use mathlib.Core.Path.{sym, ap, ◌∙◌}
 use Rattle.marks.specs.Marks.{bucket_count, is_marked}

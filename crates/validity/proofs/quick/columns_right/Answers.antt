@@ -1,7 +1,4 @@
-use borrow.Author.Rules.{rules}
 use native.Mathlib.Omega.{arith}
-use mathlib.Core.Path.{refl}
-use Rattle.index.proofs.Flags.{passed}
 use Rattle.validity.proofs.LookLaws.{columns_told}
 use Rattle.slot_words.proofs.WalkLaws.{refused}
 use Rattle.validity.proofs.quick.columns_right.Goals as goal

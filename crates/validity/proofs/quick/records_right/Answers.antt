@@ -1,8 +1,6 @@
 -- `validity::quick::records_right`: the mark, words, columns, single slots, ids. Assumes nothing.
-use borrow.Author.Rules.{rules}
 use native.Mathlib.Omega.{arith}
-use mathlib.Core.Path.{refl, sym, ◌∙◌}
-use Rattle.index.proofs.Flags.{passed}
+use mathlib.Core.Path.{sym, ◌∙◌}
 use Rattle.validity.proofs.LookLaws.{up_to, slots_told, ends_near, retains_near}
 use Rattle.slot_words.proofs.WalkLaws.{refused}
 use Rattle.validity.proofs.quick.records_right.Goals as goal

@@ -1,6 +1,3 @@
-use borrow.Author.Rules.{rules}
-use mathlib.Core.Path.{refl}
-use Rattle.index.proofs.Flags.{passed}
 use Rattle.validity.proofs.LookLaws.{words_told}
 use Rattle.slot_words.proofs.WalkLaws.{refused}
 use Rattle.validity.proofs.quick.words_right.Goals as goal

@@ -1,12 +1,6 @@
 use Prim.Native.Nat.{ℕ, ◌-◌, ◌≤◌, ◌<◌}
-use borrow.Author.Rules.{rules}
-use native.Mathlib.Omega.{arith}
-use mathlib.Core.Path.{refl}
-use Rattle.index.proofs.Flags.{passed}
 use Rattle.layout.specs.View.{state_of}
 use Rattle.validity.specs.Looks.{GroupsAt}
-use Rattle.slot_words.proofs.WalkLaws.{up_none, up_more, refused}
-use Rattle.validity.proofs.LookLaws.{rising_told}
 use Rattle.validity.proofs.slots.groups_each.Given as goal
 
 abbrev pub invariant-loop-s : goal.invariant-loop-s

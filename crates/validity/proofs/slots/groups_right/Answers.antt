@@ -1,4 +1,3 @@
-use borrow.Author.Rules.{rules}
 use Rattle.validity.proofs.LookLaws.{one_group_told}
 use Rattle.validity.proofs.slots.groups_right.Goals as goal
 

@@ -1,4 +1,3 @@
-use borrow.Author.Rules.{rules}
 use native.Mathlib.Omega.{arith}
 use Rattle.validity.proofs.LookLaws.{free_in, holes_told}
 use Rattle.validity.proofs.slots.holes_right.Goals as goal

@@ -1,12 +1,7 @@
-use Prim.Native.Nat.{◌+◌, ◌*◌, ◌<◌}
-use mathlib.Core.Path.{◌≡◌, sym, ◌∙◌}
-use mathlib.Core.Bool.{true}
+use mathlib.Core.Path.{sym, ◌∙◌}
 use native.Mathlib.Omega.{arith}
 use lib.Count.{trailing_le}
-use Rattle.index.proofs.Flags.{passed}
-use Rattle.layout.specs.View.{state_of}
-use Rattle.validity.specs.Valid.{slot_ok}
-use Rattle.slot_words.proofs.WalkLaws.{Walked, walk_start, walk_bit, walk_more, walk_stop, walk_end, lowest_low, falls, refused}
+use Rattle.slot_words.proofs.WalkLaws.{walk_start, walk_bit, walk_more, walk_stop, walk_end, lowest_low, falls, refused}
 use Rattle.validity.proofs.slots.holes_word.Goals as goal
 
 pub loop-b-init : goal.loop-b-init

@@ -2,12 +2,9 @@
 use Prim.Native.Nat.{◌+◌, ◌*◌, ◌<◌}
 use mathlib.Core.Path.{◌≡◌}
 use mathlib.Core.Bool.{true}
-use native.Mathlib.Omega.{arith}
-use lib.Count.{trailing_le}
-use Rattle.index.proofs.Flags.{passed}
 use Rattle.layout.specs.View.{state_of}
 use Rattle.validity.specs.Valid.{slot_ok}
-use Rattle.slot_words.proofs.WalkLaws.{Walked, walk_start, walk_bit, walk_more, walk_stop, walk_end, lowest_low, falls, refused}
+use Rattle.slot_words.proofs.WalkLaws.{Walked}
 use Rattle.validity.proofs.slots.holes_word.Given as goal
 
 abbrev pub invariant-loop-b : goal.invariant-loop-b

@@ -1,4 +1,3 @@
-use borrow.Author.Rules.{rules}
 use mathlib.Core.Path.{ap}
 use Rattle.records.specs.declared.Groups.{Groups}
 use Rattle.validity.proofs.LookLaws.{name_told}

@@ -1,4 +1,3 @@
-use borrow.Author.Rules.{rules}
 use Rattle.validity.proofs.LookLaws.{named_told}
 use Rattle.validity.proofs.slots.names_right.Goals as goal
 

@@ -1,4 +1,3 @@
-use borrow.Author.Rules.{rules}
 use Rattle.validity.proofs.LookLaws.{retain_told}
 use Rattle.validity.proofs.slots.retain_at.Goals as goal
 

@@ -1,10 +1,6 @@
 use Prim.Native.Nat.{ℕ, ◌-◌, ◌≤◌, ◌<◌}
-use native.Mathlib.Omega.{arith}
-use mathlib.Core.Path.{refl}
-use Rattle.index.proofs.Flags.{passed}
 use Rattle.layout.specs.View.{state_of}
 use Rattle.validity.specs.Looks.{RetainAt}
-use Rattle.slot_words.proofs.WalkLaws.{up_none, up_more, refused}
 use Rattle.validity.proofs.slots.retains_each.Given as goal
 
 abbrev pub invariant-loop-s : goal.invariant-loop-s

@@ -1,4 +1,3 @@
-use borrow.Author.Rules.{rules}
 use Rattle.validity.proofs.LookLaws.{no_retain_told}
 use Rattle.validity.proofs.slots.retains_right.Goals as goal
 

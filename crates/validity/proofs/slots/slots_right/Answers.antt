@@ -1,6 +1,3 @@
-use borrow.Author.Rules.{rules}
-use mathlib.Core.Path.{refl}
-use Rattle.index.proofs.Flags.{passed}
 use Rattle.slot_words.proofs.WalkLaws.{refused}
 use Rattle.validity.proofs.slots.slots_right.Goals as goal
 

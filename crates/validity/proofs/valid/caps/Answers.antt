@@ -1,10 +1,7 @@
-use Prim.Native.Nat.{ℕ, ◌≤◌, ◌<◌, ◌-◌}
-use mathlib.Core.Path.{◌≡◌, refl}
+use mathlib.Core.Path.{refl}
 use native.Mathlib.Nat.{not-suc-le-zero}
 use native.Mathlib.Omega.{arith}
-use borrow.Author.Rules.{rules}
-use lib.ListN.{length, get_or, length-set}
-use Rattle.records.specs.Records.{topic_count}
+use lib.ListN.{length-set}
 use Rattle.layout.specs.View.{state_of}
 use Rattle.validity.specs.Valid.{topic_param}
 use Rattle.validity.proofs.Loops.{fill_more}
@@ -15,8 +12,7 @@ loop-t-init c = (omega arith, refl, λ k h. absurd (not-suc-le-zero h))
 
 pub loop-t-preserved : goal.loop-t-preserved
 loop-t-preserved c =
-    let l = c.loop-t in
-    (
+    let l = c.loop-t in (
       omega arith,
       simp length-set l.invariant.1,
       fill_more (λ k. topic_param (state_of c.args.table.now) k c.args.j) l.r l.t c.topic_param.result (omega arith)

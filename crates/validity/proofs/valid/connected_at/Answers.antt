@@ -1,7 +1,6 @@
--- `table::valid::connected_at`: the clock and the record, and their test. Assumes nothing.
+-- `validity::valid::connected_at`: the clock and the record, and their test. Assumes nothing.
 use native.Mathlib.Omega.{arith}
 use mathlib.Core.Path.{ap, ap₂, ◌∙◌}
-use borrow.Author.Rules.{rules}
 use Prim.Native.Nat.{ℕ}
 use Rattle.records.specs.declared.Peer.{Peer}
 use Rattle.validity.specs.Valid.{max_end, ends_up_to, peer_ok}

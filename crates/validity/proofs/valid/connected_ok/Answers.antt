@@ -1,7 +1,4 @@
 -- `validity::valid::connected_ok`: the id and the retain end, then the ranges. Assumes nothing.
-use mathlib.Core.Path.{refl}
-use borrow.Author.Rules.{rules}
-use Rattle.index.proofs.Flags.{failed, passed}
 use Rattle.validity.proofs.OrderLaws.{id_fails, ranges_are}
 use Rattle.validity.proofs.valid.connected_ok.Goals as goal
 

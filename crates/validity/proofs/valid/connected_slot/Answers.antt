@@ -1,13 +1,10 @@
 -- `validity::valid::connected_slot`: as any slot, or the peer's record and its topics. Assumes nothing.
-use mathlib.Core.Path.{refl, ap, ◌∙◌, sym}
-use borrow.Author.Rules.{rules}
+use mathlib.Core.Path.{ap, ◌∙◌, sym}
 use Rattle.index.specs.Index.{every}
-use Rattle.index.proofs.Flags.{failed, passed}
 use Rattle.records.specs.declared.Peer.{Peer}
 use Rattle.records.specs.Records.{topic_count}
 use Rattle.layout.specs.View.{state_of}
 use Rattle.validity.specs.Valid.{topic_ok_at}
-use Rattle.validity.specs.Order.{Small}
 use Rattle.validity.proofs.OrderLaws.{peer_fails, topics_are}
 use Rattle.validity.proofs.valid.connected_slot.Goals as goal
 

@@ -1,7 +1,6 @@
 -- `validity::valid::each_right`: the clock, then the rest. Assumes nothing.
 use Prim.Native.Nat.{ℕ, ◌<◌, ◌≤◌}
 use mathlib.Core.Path.{subst}
-use borrow.Author.Rules.{rules}
 use Rattle.validity.specs.Valid.{max_time}
 use Rattle.validity.proofs.OrderLaws.{clock_fails, clock_passes}
 use Rattle.validity.proofs.valid.each_right.Goals as goal
@@ -10,11 +9,10 @@ pub returns-then-load_clock-gt-MAX_TIME : goal.returns-then-load_clock-gt-MAX_TI
 returns-then-load_clock-gt-MAX_TIME c = clock_fails _ (subst (λ (n : ℕ). max_time < n) c.load_clock.ensures c.if-load_clock-gt-MAX_TIME.true)
 
 pub slots_ok-slots-requires : goal.slots_ok-slots-requires
-slots_ok-slots-requires c =
-    (
-      record { size = c.requires; low = c.records_end-end.ensures.0; empty = c.records_end-end.ensures.1 },
-      subst (λ (n : ℕ). n ≤ max_time) c.load_clock.ensures c.if-load_clock-gt-MAX_TIME.false,
-    )
+slots_ok-slots-requires c = (
+  record { size = c.requires; low = c.records_end-end.ensures.0; empty = c.records_end-end.ensures.1 },
+  subst (λ (n : ℕ). n ≤ max_time) c.load_clock.ensures c.if-load_clock-gt-MAX_TIME.false,
+)
 
 pub ids_distinct-ids-requires : goal.ids_distinct-ids-requires
 ids_distinct-ids-requires c =

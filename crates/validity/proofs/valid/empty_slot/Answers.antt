@@ -1,7 +1,5 @@
 -- `validity::valid::empty_slot`: the peer's record, then its topics. Assumes nothing.
 use mathlib.Core.Path.{ap, ◌∙◌, sym}
-use borrow.Author.Rules.{rules}
-use Rattle.index.proofs.Flags.{failed, passed}
 use Rattle.validity.specs.Valid.{zero_peer}
 use Rattle.validity.proofs.OrderLaws.{zeros_are, zero_fails}
 use Rattle.validity.proofs.valid.empty_slot.Goals as goal

@@ -1,7 +1,6 @@
--- `table::valid::ends_near`: the clock and the record, and the test of its ends. Assumes nothing.
+-- `validity::valid::ends_near`: the clock and the record, and the test of its ends. Assumes nothing.
 use native.Mathlib.Omega.{arith}
 use mathlib.Core.Path.{ap₂, ◌∙◌}
-use borrow.Author.Rules.{rules}
 use Prim.Native.Nat.{ℕ}
 use Rattle.records.specs.declared.Peer.{Peer}
 use Rattle.validity.specs.Valid.{max_end, ends_up_to}

@@ -1,5 +1,4 @@
 use mathlib.Core.Path.{refl}
-use borrow.Author.Rules.{rules}
 use Rattle.index.specs.Index.{every}
 use Rattle.validity.specs.Valid.{ends_up_to}
 use Rattle.validity.proofs.valid.ends_up_to.Goals as goal

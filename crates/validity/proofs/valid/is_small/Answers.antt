@@ -1,12 +1,8 @@
-use Prim.Native.Nat.{ℕ, ◌≤◌, ◌-◌}
+use Prim.Native.Nat.{ℕ}
 use mathlib.Core.Path.{◌≡◌, ap, sym, ◌∙◌}
 use native.Mathlib.Omega.{arith}
-use borrow.Author.Rules.{rules}
-use Rattle.index.proofs.Flags.{passed}
 use Rattle.records.specs.declared.TopicRecord.{TopicRecord}
-use Rattle.records.specs.Records.{topic_count, place, topic_in}
-use Rattle.layout.specs.View.{state_of}
-use Rattle.validity.proofs.OrderLaws.{union, union_none, union_more, small_all}
+use Rattle.validity.proofs.OrderLaws.{union_none, union_more, small_all}
 use Rattle.validity.proofs.valid.is_small.Goals as goal
 
 pub returns-then-not-ends_near : goal.returns-then-not-ends_near

@@ -1,13 +1,9 @@
 -- `validity::valid::is_small`: the backoff ends; then, after t turns, the unions have the bits of the topics below t. Assumes nothing.
-use Prim.Native.Nat.{ℕ, ◌≤◌, ◌-◌}
-use mathlib.Core.Path.{◌≡◌, ap}
-use native.Mathlib.Omega.{arith}
-use borrow.Author.Rules.{rules}
-use Rattle.index.proofs.Flags.{passed}
-use Rattle.records.specs.declared.TopicRecord.{TopicRecord}
+use Prim.Native.Nat.{◌≤◌, ◌-◌}
+use mathlib.Core.Path.{◌≡◌}
 use Rattle.records.specs.Records.{topic_count, place, topic_in}
 use Rattle.layout.specs.View.{state_of}
-use Rattle.validity.proofs.OrderLaws.{union, union_none, union_more, small_all}
+use Rattle.validity.proofs.OrderLaws.{union}
 use Rattle.validity.proofs.valid.is_small.Given as goal
 
 abbrev pub invariant-loop-t : goal.invariant-loop-t

@@ -1,7 +1,5 @@
 use Prim.Native.Nat.{ℕ, ◌≤◌}
-use borrow.Author.Rules.{rules}
-use mathlib.Core.Path.{refl, subst}
-use Rattle.index.proofs.Flags.{passed}
+use mathlib.Core.Path.{subst}
 use Rattle.validity.specs.Valid.{max_time}
 use Rattle.validity.proofs.LookLaws.{valid_told}
 use Rattle.slot_words.proofs.WalkLaws.{refused}

@@ -1,5 +1,4 @@
 use native.Mathlib.Omega.{arith}
-use borrow.Author.Rules.{rules}
 use Rattle.validity.specs.Valid.{slot_ok}
 use Rattle.validity.proofs.valid.other_slot.Goals as goal
 

@@ -1,13 +1,10 @@
-use Prim.Native.Nat.{ℕ, ◌-◌, ◌<◌}
+use Prim.Native.Nat.{ℕ, ◌<◌}
 use mathlib.Core.Path.{refl, ap₂, ◌∙◌, subst}
 use mathlib.Core.List.{List}
 use native.Mathlib.Omega.{arith}
-use borrow.Author.Rules.{rules}
-use Rattle.index.proofs.Lists.{Built, built_none, built_more}
+use Rattle.index.proofs.Lists.{built_none, built_more}
 use Rattle.records.specs.declared.Setup.{Setup}
-use Rattle.records.specs.Records.{code_in, param_count}
 use Rattle.params.specs.Check.{accepted_codes}
-use Rattle.layout.specs.View.{state_of}
 use Rattle.validity.proofs.SignLaws.{size_fails, codes_built}
 use Rattle.validity.proofs.valid.params_ok.Goals as goal
 

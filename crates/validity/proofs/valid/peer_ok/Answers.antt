@@ -1,4 +1,3 @@
-use borrow.Author.Rules.{rules}
 use Rattle.validity.specs.Valid.{used_ok, empty_ok, retain_ok, peer_ok}
 use Rattle.validity.proofs.valid.peer_ok.Goals as goal
 

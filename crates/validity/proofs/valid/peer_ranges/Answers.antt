@@ -1,5 +1,3 @@
-use borrow.Author.Rules.{rules}
-use borrow.Author.Rules.{rules}
 use Rattle.validity.specs.Valid.{peer_ranges}
 use Rattle.validity.proofs.valid.peer_ranges.Goals as goal
 

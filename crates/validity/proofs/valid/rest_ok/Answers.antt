@@ -1,4 +1,3 @@
-use borrow.Author.Rules.{rules}
 use Rattle.validity.specs.Valid.{empty_topic_ok, outside_ok, retained_ok, times_ok}
 use Rattle.validity.specs.Order.{rest_ok}
 use Rattle.validity.proofs.valid.rest_ok.Goals as goal

@@ -1,5 +1,4 @@
 use mathlib.Core.Path.{sym, ◌∙◌}
-use borrow.Author.Rules.{rules}
 use Rattle.validity.proofs.valid.slot_ok.Goals as goal
 
 pub connected_slot-requires : goal.connected_slot-requires

@@ -1,16 +1,10 @@
 -- `validity::valid::slots_ok`: after s turns the slots below s are right, and those from the end on are empty. Assumes nothing.
 use Prim.Native.Nat.{◌≤◌, ◌-◌}
-use mathlib.Core.Path.{◌≡◌, sym}
+use mathlib.Core.Path.{◌≡◌}
 use mathlib.Core.Bool.{true}
-use native.Mathlib.Omega.{arith}
-use borrow.Author.Rules.{rules}
 use Rattle.index.specs.Index.{every}
-use Rattle.index.proofs.Index.{every_none, every_more, every_out, every_done}
-use Rattle.index.proofs.Flags.{failed, passed}
-use Rattle.records.specs.Records.{slot_count}
 use Rattle.layout.specs.View.{state_of}
 use Rattle.validity.specs.Valid.{slot_ok}
-use Rattle.validity.proofs.RestLaws.{slots_rest}
 use Rattle.validity.proofs.valid.slots_ok.Given as goal
 
 abbrev pub invariant-loop-slot : goal.invariant-loop-slot

@@ -1,7 +1,4 @@
 -- `validity::valid::small_topic_ok`: the caps, then outside the mesh, in it, or neither. Assumes nothing.
-use mathlib.Core.Path.{refl}
-use borrow.Author.Rules.{rules}
-use Rattle.index.proofs.Flags.{failed, passed}
 use Rattle.validity.proofs.OrderLaws.{p2_fails, p3_fails, outside_is, inside_is, neither}
 use Rattle.validity.proofs.valid.small_topic_ok.Goals as goal
 

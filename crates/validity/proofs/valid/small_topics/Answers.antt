@@ -1,12 +1,8 @@
-use Prim.Native.Nat.{ℕ, ◌≤◌, ◌-◌}
+use Prim.Native.Nat.{ℕ, ◌≤◌}
 use mathlib.Core.Path.{◌≡◌, sym, ap, subst, ◌∙◌}
-use mathlib.Core.Bool.{true}
 use native.Mathlib.Omega.{arith}
 use borrow.Author.Rules.{rules}
-use Rattle.index.specs.Index.{every}
 use Rattle.index.proofs.Index.{every-loop, every_more, every_out}
-use Rattle.index.proofs.Flags.{failed, passed}
-use Rattle.records.specs.Records.{topic_count}
 use Rattle.layout.specs.View.{state_of}
 use Rattle.validity.specs.Valid.{max_time, topic_ok_at}
 use Rattle.validity.specs.Order.{small_ok}
@@ -28,11 +24,10 @@ pub loop-t-init : goal.loop-t-init
 loop-t-init c = search (every-loop, rules)
 
 pub small_topic_ok-requires : goal.small_topic_ok-requires
-small_topic_ok-requires c =
-    (
-      ap small_ok c.load_topic-r.ensures.0 ∙ c.requires.1.1.1.0.topics _ (omega arith),
-      subst (λ (n : ℕ). n ≤ max_time) (sym c.load_clock-clock.ensures) c.requires.1.1.1.1,
-    )
+small_topic_ok-requires c = (
+  ap small_ok c.load_topic-r.ensures.0 ∙ c.requires.1.1.1.0.topics _ (omega arith),
+  subst (λ (n : ℕ). n ≤ max_time) (sym c.load_clock-clock.ensures) c.requires.1.1.1.1,
+)
 
 pub returns-then-not-small_topic_ok : goal.returns-then-not-small_topic_ok
 returns-then-not-small_topic_ok c = every_out _ _ _ (omega arith) (sym (told (goal.at.returns-then-not-small_topic_ok c).After-small_topic_ok) ∙ c.if-not-small_topic_ok.true)

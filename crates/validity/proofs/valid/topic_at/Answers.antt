@@ -1,4 +1,3 @@
-use borrow.Author.Rules.{rules}
 use Rattle.validity.specs.Valid.{topic_ok_at}
 use Rattle.validity.proofs.valid.topic_at.Goals as goal
 

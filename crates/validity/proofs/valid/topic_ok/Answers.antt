@@ -1,7 +1,5 @@
 -- `validity::valid::topic_ok`: the ranges, then the rest. Assumes nothing.
 use mathlib.Core.Path.{sym, ◌∙◌}
-use borrow.Author.Rules.{rules}
-use Rattle.index.proofs.Flags.{failed, passed}
 use Rattle.validity.proofs.OrderLaws.{counters_fail, flags_fail, rest_is}
 use Rattle.validity.proofs.valid.topic_ok.Goals as goal
 

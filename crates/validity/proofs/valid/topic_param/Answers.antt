@@ -1,4 +1,3 @@
-use borrow.Author.Rules.{rules}
 use Rattle.validity.specs.Valid.{topic_param}
 use Rattle.validity.proofs.valid.topic_param.Goals as goal
 

@@ -1,4 +1,3 @@
-use borrow.Author.Rules.{rules}
 use Rattle.validity.specs.Valid.{zero_peer}
 use Rattle.validity.proofs.valid.zero_peer.Goals as goal
 

@@ -1,12 +1,7 @@
-use Prim.Native.Nat.{◌≤◌, ◌-◌}
 use mathlib.Core.Path.{◌≡◌, sym, ◌∙◌}
-use mathlib.Core.Bool.{true}
 use native.Mathlib.Omega.{arith}
 use borrow.Author.Rules.{rules}
-use Rattle.index.specs.Index.{every}
 use Rattle.index.proofs.Index.{every-loop, every_more, every_out}
-use Rattle.index.proofs.Flags.{failed, passed}
-use Rattle.records.specs.Records.{topic_count}
 use Rattle.layout.specs.View.{state_of}
 use Rattle.validity.specs.Order.{zero_topic_at}
 use Rattle.validity.proofs.OrderLaws.{zero_told}
