@@ -13,8 +13,6 @@ use Rattle.effects.specs.Effects.{is_joined}
 use Rattle.gossip.specs.Notes.{Setup, Note, Row, Gossip, no_store, note_in, store_in, has, stored_in}
 use Rattle.gossip.specs.Notes.{stored, set_note, set_store, set_replies, added, count_in, replied, ended, keep, forget}
 use Rattle.gossip.specs.Valid.{SizedGossip, setup_ok, note_ok, store_ok, replies_ok}
-use Rattle.gossip.specs.Calls.{store}
-use Rattle.gossip.specs.Step.{at}
 use Rattle.gossip.specs.Step.{beat_of}
 use Rattle.gossip.proofs.NoteLaws.{note_same, note_other, store_after_note, stored_after_note, setup_after_note, replies_after_note}
 use Rattle.gossip.proofs.NoteLaws.{note_after_store, store_same, store_other, setup_after_store, replies_after_store}
