@@ -33,11 +33,11 @@ slice_bounds-is_grafted-end-in-loop-i c = sym c.loop-i.invariant.3
 
 pub is_grafted-requires : goal.is_grafted-requires
 is_grafted-requires c =
-    let l = c.loop-i in (
-      grafting_on _ _ _ _ _ _ _ _ _ _ l.invariant.4.scores.size
-          c.requires,
-      l.invariant.2,
-    )
+    let l = c.loop-i in
+    record {
+      grafting = grafting_on _ _ _ _ _ _ _ _ _ _ l.invariant.4.scores.size c.requires;
+      p_len = l.invariant.2;
+    }
 
 pub overflow_sub-room : goal.overflow_sub-room
 overflow_sub-room c =

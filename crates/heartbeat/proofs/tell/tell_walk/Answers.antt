@@ -28,14 +28,15 @@ tell-requires c =
     let w = c.requires.writable in
     let q : length a.p ≡ word_count = search rules in
     let m = bits_of_length a.p in
-    let z = at_below (bits_of a.p) (get_or a.order.now l.i 0) hit in (
-      record {
+    let z = at_below (bits_of a.p) (get_or a.order.now l.i 0) hit in
+    record {
+      tells = record {
         size = c.requires.size;
         writable =
             record { room = omega (arith, w.room, l.invariant.2, l.invariant.3); narrow_ids = w.narrow_ids; narrow_seconds = w.narrow_seconds };
-      },
-      omega arith,
-    )
+      };
+      slot_lt_slot_count = omega arith;
+    }
 
 pub overflow_add-k : goal.overflow_add-k
 overflow_add-k c =
