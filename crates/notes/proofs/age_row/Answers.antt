@@ -1,8 +1,8 @@
-use Prim.Native.Nat.{◌+◌, ◌-◌}
+use Prim.Native.Nat.{◌+◌}
 use mathlib.Core.Path.{◌∙◌}
 use native.Mathlib.Omega.{arith}
 use lib.ListN.{length-set}
-use Rattle.notes.proofs.HeldLaws.{Aging, aging_start, aging_in, aging_out, aging_done}
+use Rattle.notes.proofs.HeldLaws.{aging_start, aging_in, aging_out, aging_done}
 use Rattle.notes.proofs.age_row.Goals.{then-age-lt2, else-age-lt2}
 use Rattle.notes.proofs.age_row.Goals as goal
 

@@ -1,10 +1,6 @@
 -- `notes::age_row`: the first i entries are gone through, m are left.
-use Prim.Native.Nat.{◌+◌, ◌-◌}
-use mathlib.Core.Path.{◌∙◌}
-use mathlib.Core.Logic.{⊎_elim}
-use native.Mathlib.Omega.{arith}
-use lib.ListN.{length-set}
-use Rattle.notes.proofs.HeldLaws.{Aging, aging_start, aging_in, aging_out, aging_done}
+use Prim.Native.Nat.{◌-◌}
+use Rattle.notes.proofs.HeldLaws.{Aging}
 use Rattle.notes.proofs.age_row.Given as goal
 
 abbrev pub invariant-loop-i : goal.invariant-loop-i

@@ -1,9 +1,4 @@
-use Prim.Native.Nat.{◌≤◌, ◌-◌}
-use mathlib.Core.Path.{◌≡◌}
 use native.Mathlib.Omega.{arith}
-use lib.Dec.{leb}
-use Rattle.index.specs.Index.{every}
-use Rattle.notes.specs.View.{digit}
 use Rattle.notes.proofs.SetLaws.{every_start, ages_more, ages_done}
 use Rattle.notes.proofs.ages_ok.Goals as goal
 

@@ -1,8 +1,6 @@
-use Prim.Native.Nat.{◌-◌}
 use mathlib.Core.Path.{sym, ◌∙◌}
 use native.Mathlib.Omega.{arith}
-use Rattle.records.specs.Records.{slot_count}
-use Rattle.notes.proofs.NoteLaws.{Beating, beating_start, beating_in, beating_out, beating_fits, beating_done}
+use Rattle.notes.proofs.NoteLaws.{beating_start, beating_in, beating_out, beating_fits, beating_done}
 use Rattle.notes.proofs.beat.Goals.{then-cells-s-ne0, else-cells-s-ne0}
 use Rattle.notes.proofs.beat.Goals as goal
 

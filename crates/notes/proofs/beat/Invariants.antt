@@ -1,10 +1,7 @@
 -- `notes::beat`: the notes of the first s slots are beaten.
 use Prim.Native.Nat.{◌-◌}
-use mathlib.Core.Path.{sym, ◌∙◌}
-use mathlib.Core.Logic.{⊎_elim}
-use native.Mathlib.Omega.{arith}
 use Rattle.records.specs.Records.{slot_count}
-use Rattle.notes.proofs.NoteLaws.{Beating, beating_start, beating_in, beating_out, beating_fits, beating_done}
+use Rattle.notes.proofs.NoteLaws.{Beating}
 use Rattle.notes.proofs.beat.Given as goal
 
 abbrev pub invariant-loop-s : goal.invariant-loop-s

@@ -1,6 +1,5 @@
 -- `notes::beat_slot`: the row is aged in place, and the column cell keeps its new length alone.
 use native.Mathlib.Omega.{arith}
-use borrow.Author.Rules.{rules}
 use Rattle.notes.proofs.NoteLaws.{size_at, notes_beaten}
 use Rattle.notes.proofs.beat_slot.Goals as goal
 

@@ -1,4 +1,3 @@
-use borrow.Author.Rules.{rules}
 use Rattle.notes.proofs.NoteLaws.{notes_cleared}
 use Rattle.notes.proofs.clear.Goals as goal
 

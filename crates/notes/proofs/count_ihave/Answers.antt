@@ -1,5 +1,4 @@
 use Prim.Native.Nat.{◌<◌, ◌/◌, ◌%◌}
-use borrow.Author.Rules.{rules}
 use native.Mathlib.Omega.{arith}
 use Rattle.notes.specs.View.{head_of}
 use Rattle.notes.proofs.NoteLaws.{ihaves_at, ihave_fits, notes_counted}

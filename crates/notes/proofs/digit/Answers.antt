@@ -1,4 +1,3 @@
-use borrow.Author.Rules.{rules}
 use Rattle.notes.proofs.DigitLaws.{shifted}
 use native.Mathlib.Omega.{arith}
 use Rattle.notes.proofs.digit.Goals as goal

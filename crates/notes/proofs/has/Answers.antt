@@ -1,9 +1,7 @@
-use Prim.Native.Nat.{◌≤◌, ◌+◌, ◌-◌}
-use mathlib.Core.Path.{◌≡◌}
+use Prim.Native.Nat.{◌+◌}
 use native.Mathlib.Omega.{arith}
 use lib.Dec.{eqb}
 use lib.ListN.{get_or}
-use Rattle.gossip.specs.Notes.{some}
 use Rattle.notes.proofs.SetLaws.{some_start, some_step, has_done}
 use Rattle.notes.proofs.has.Goals as goal
 

@@ -1,11 +1,9 @@
 -- `notes::has`: after k turns the first k numbers are looked at.
 use Prim.Native.Nat.{◌≤◌, ◌+◌, ◌-◌}
 use mathlib.Core.Path.{◌≡◌}
-use native.Mathlib.Omega.{arith}
 use lib.Dec.{eqb}
 use lib.ListN.{get_or}
 use Rattle.gossip.specs.Notes.{some}
-use Rattle.notes.proofs.SetLaws.{some_start, some_step, has_done}
 use Rattle.notes.proofs.has.Given as goal
 
 abbrev pub invariant-loop-k : goal.invariant-loop-k

@@ -1,4 +1,3 @@
-use borrow.Author.Rules.{rules}
 use Rattle.notes.proofs.NoteLaws.{room_at}
 use Rattle.notes.proofs.has_room.Goals as goal
 

@@ -1,5 +1,4 @@
 use native.Mathlib.Omega.{arith}
-use borrow.Author.Rules.{rules}
 use Rattle.notes.proofs.NoteLaws.{size_at, holds_at}
 use Rattle.notes.proofs.holds.Goals as goal
 

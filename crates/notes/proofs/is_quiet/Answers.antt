@@ -1,9 +1,6 @@
-use Prim.Native.Nat.{◌≤◌, ◌-◌}
-use mathlib.Core.Path.{◌≡◌}
 use native.Mathlib.Omega.{arith}
 use borrow.Author.Tests.{eqb-true}
-use Rattle.records.specs.Records.{slot_count}
-use Rattle.notes.proofs.NoteLaws.{Zeros, union_more, still_at}
+use Rattle.notes.proofs.NoteLaws.{union_more, still_at}
 use Rattle.notes.proofs.is_quiet.Goals as goal
 
 pub loop-s-init : goal.loop-s-init

@@ -1,10 +1,8 @@
 -- `notes::is_quiet`: the union of the first s cells is 0 only where each is. Assumes nothing.
 use Prim.Native.Nat.{◌≤◌, ◌-◌}
 use mathlib.Core.Path.{◌≡◌}
-use native.Mathlib.Omega.{arith}
-use borrow.Author.Tests.{eqb-true}
 use Rattle.records.specs.Records.{slot_count}
-use Rattle.notes.proofs.NoteLaws.{Zeros, union_more, still_at}
+use Rattle.notes.proofs.NoteLaws.{Zeros}
 use Rattle.notes.proofs.is_quiet.Given as goal
 
 abbrev pub invariant-loop-s : goal.invariant-loop-s

@@ -1,4 +1,3 @@
-use borrow.Author.Rules.{rules}
 use borrow.Author.Tests.{eqb-true}
 use Rattle.notes.proofs.NoteLaws.{still_at}
 use Rattle.notes.proofs.is_still.Goals as goal

@@ -1,4 +1,3 @@
-use borrow.Author.Rules.{rules}
 use mathlib.Core.Path.{sym}
 use Rattle.notes.proofs.NoteLaws.{ihaves_at}
 use Rattle.notes.proofs.load_ihaves.Goals as goal

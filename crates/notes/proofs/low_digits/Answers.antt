@@ -1,4 +1,3 @@
-use borrow.Author.Rules.{rules}
 use Rattle.notes.proofs.DigitLaws.{one_there, masked, low_bounds}
 use Rattle.notes.proofs.low_digits.Goals as goal
 

@@ -1,9 +1,7 @@
-use Prim.Native.Nat.{◌≤◌, ◌-◌}
-use mathlib.Core.Path.{◌≡◌, refl, ◌∙◌}
+use mathlib.Core.Path.{refl, ◌∙◌}
 use native.Mathlib.Omega.{arith}
-use lib.ListN.{length, length-set}
-use Rattle.records.specs.Records.{slot_count}
-use Rattle.notes.proofs.NoteLaws.{Zeros, zeros_more, notes_made}
+use lib.ListN.{length-set}
+use Rattle.notes.proofs.NoteLaws.{zeros_more, notes_made}
 use Rattle.notes.proofs.make.Goals as goal
 
 pub loop-s-init : goal.loop-s-init

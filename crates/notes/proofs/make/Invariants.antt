@@ -1,10 +1,9 @@
 -- `notes::make`: the first s cells of the column are 0.
 use Prim.Native.Nat.{◌≤◌, ◌-◌}
-use mathlib.Core.Path.{◌≡◌, refl, ◌∙◌}
-use native.Mathlib.Omega.{arith}
-use lib.ListN.{length, length-set}
+use mathlib.Core.Path.{◌≡◌}
+use lib.ListN.{length}
 use Rattle.records.specs.Records.{slot_count}
-use Rattle.notes.proofs.NoteLaws.{Zeros, zeros_more, notes_made}
+use Rattle.notes.proofs.NoteLaws.{Zeros}
 use Rattle.notes.proofs.make.Given as goal
 
 abbrev pub invariant-loop-s : goal.invariant-loop-s

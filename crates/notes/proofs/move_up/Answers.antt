@@ -1,6 +1,4 @@
-use Prim.Native.Nat.{◌≤◌}
 use native.Mathlib.Omega.{arith}
-use Rattle.notes.specs.Moves.{MovedUp}
 use Rattle.notes.proofs.MoveLaws.{move_start, move_more, move_done}
 use Rattle.notes.proofs.move_up.Goals as goal
 

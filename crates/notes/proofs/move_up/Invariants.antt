@@ -1,8 +1,6 @@
 -- `notes::move_up`: the cells from k on are moved.
 use Prim.Native.Nat.{◌≤◌}
-use native.Mathlib.Omega.{arith}
 use Rattle.notes.specs.Moves.{MovedUp}
-use Rattle.notes.proofs.MoveLaws.{move_start, move_more, move_done}
 use Rattle.notes.proofs.move_up.Given as goal
 
 abbrev pub invariant-loop-k : goal.invariant-loop-k

@@ -1,4 +1,3 @@
-use borrow.Author.Rules.{rules}
 use Rattle.notes.proofs.NoteLaws.{note_tested}
 use Rattle.notes.proofs.note_ok.Goals as goal
 

@@ -1,4 +1,3 @@
-use borrow.Author.Rules.{rules}
 use Rattle.notes.proofs.NoteLaws.{notes_parted}
 use Rattle.notes.proofs.part.Goals as goal
 

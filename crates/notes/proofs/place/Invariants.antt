@@ -1,8 +1,6 @@
 -- `notes::place`: the numbers passed are at most the one to be put in.
 use Prim.Native.Nat.{ℕ, ◌≤◌, ◌<◌, ◌+◌, ◌-◌}
-use native.Mathlib.Omega.{arith}
 use lib.ListN.{get_or}
-use borrow.Author.Count.{below_none, below_more}
 use Rattle.notes.proofs.place.Given as goal
 
 abbrev pub invariant-loop-p : goal.invariant-loop-p

@@ -1,5 +1,4 @@
 use native.Mathlib.Omega.{arith}
-use borrow.Author.Rules.{rules}
 use Rattle.notes.proofs.NoteLaws.{size_under, notes_put}
 use Rattle.notes.proofs.put.Goals as goal
 

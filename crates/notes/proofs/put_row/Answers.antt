@@ -1,6 +1,5 @@
 -- `notes::put_row`: the cells from the place on move up by one, numbers and ages alike, and the number stands there with age 0.
 use native.Mathlib.Omega.{arith}
-use borrow.Author.Rules.{rules}
 use lib.ListN.{length-set}
 use Rattle.notes.proofs.HeldLaws.{row_put}
 use Rattle.notes.proofs.put_row.Goals as goal

@@ -1,8 +1,5 @@
-use Prim.Native.Nat.{◌≤◌, ◌-◌}
-use mathlib.Core.Path.{◌≡◌}
 use native.Mathlib.Omega.{arith}
-use Rattle.index.specs.Index.{every}
-use Rattle.notes.proofs.SetLaws.{every_start, next_above, cells_from, rises_step, rises_done}
+use Rattle.notes.proofs.SetLaws.{every_start, rises_step, rises_done}
 use Rattle.notes.proofs.rises.Goals as goal
 
 pub loop-k-init : goal.loop-k-init

@@ -1,9 +1,8 @@
 -- `notes::rises`: after k turns the first k numbers are below the one after each.
 use Prim.Native.Nat.{◌≤◌, ◌-◌}
 use mathlib.Core.Path.{◌≡◌}
-use native.Mathlib.Omega.{arith}
 use Rattle.index.specs.Index.{every}
-use Rattle.notes.proofs.SetLaws.{every_start, next_above, cells_from, rises_step, rises_done}
+use Rattle.notes.proofs.SetLaws.{next_above, cells_from}
 use Rattle.notes.proofs.rises.Given as goal
 
 abbrev pub invariant-loop-k : goal.invariant-loop-k

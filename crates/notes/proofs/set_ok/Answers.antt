@@ -1,4 +1,3 @@
-use borrow.Author.Rules.{rules}
 use Rattle.notes.proofs.NoteLaws.{set_over, set_tested}
 use Rattle.notes.proofs.set_ok.Goals as goal
 

@@ -1,4 +1,3 @@
-use borrow.Author.Rules.{rules}
 use Rattle.notes.proofs.with_gap.Goals as goal
 
 pub returns : goal.returns

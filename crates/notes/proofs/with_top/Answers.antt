@@ -1,5 +1,4 @@
 use native.Mathlib.Omega.{arith}
-use borrow.Author.Rules.{rules}
 use Rattle.notes.proofs.DigitLaws.{top_fits, top_added}
 use Rattle.notes.proofs.with_top.Goals as goal
 
