@@ -1,6 +1,5 @@
 use native.Mathlib.Omega.{arith}
 use lib.ListN.{length-set}
-use borrow.Author.Rules.{rules}
 use Rattle.stores.proofs.ChangeLaws.{window_of, added_cells}
 use Rattle.stores.proofs.ViewLaws.{changed_stores}
 use Rattle.stores.proofs.add.Goals as goal

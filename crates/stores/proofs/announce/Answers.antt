@@ -1,7 +1,6 @@
 -- `stores::announce`: the three windows are copied one behind the other, the oldest first.
 use native.Mathlib.Omega.{arith}
 use mathlib.Core.Path.{refl}
-use borrow.Author.Rules.{rules}
 use Rattle.stores.proofs.ChangeLaws.{window_in, window_first}
 use Rattle.stores.proofs.ListLaws.{announced_lists}
 use Rattle.stores.proofs.announce.Goals as goal

@@ -1,8 +1,5 @@
-use Prim.Native.Nat.{◌-◌, ◌≤◌}
 use native.Mathlib.Omega.{arith}
 use mathlib.Core.Path.{◌≡◌}
-use borrow.Author.Rules.{rules}
-use Rattle.stores.specs.View.{CopiedOn}
 use Rattle.stores.proofs.ChangeLaws.{copied_more}
 use Rattle.stores.proofs.copy_on.Goals as goal
 

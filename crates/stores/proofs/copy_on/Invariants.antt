@@ -1,10 +1,6 @@
 -- `stores::copy_on`: after k turns the first k cells are copied. The target lies behind the source. Assumes nothing.
 use Prim.Native.Nat.{◌-◌, ◌≤◌}
-use native.Mathlib.Omega.{arith}
-use mathlib.Core.Path.{◌≡◌}
-use borrow.Author.Rules.{rules}
 use Rattle.stores.specs.View.{CopiedOn}
-use Rattle.stores.proofs.ChangeLaws.{copied_more}
 use Rattle.stores.proofs.copy_on.Given as goal
 
 abbrev pub invariant-loop-k : goal.invariant-loop-k

@@ -1,9 +1,7 @@
-use Prim.Native.Nat.{◌-◌, ◌≤◌}
 use native.Mathlib.Omega.{arith}
 use mathlib.Core.Path.{◌≡◌, ap, ◌∙◌}
-use lib.ListN.{length, take}
+use lib.ListN.{length}
 use lib.Seq.{length-sets, take_all, sets}
-use borrow.Author.Rules.{rules}
 use Rattle.stores.proofs.ListLaws.{sets_more}
 use Rattle.stores.proofs.copy_to.Goals as goal
 

@@ -1,11 +1,8 @@
 -- `stores::copy_to`: after k turns the first k numbers are in the list. Assumes nothing.
 use Prim.Native.Nat.{◌-◌, ◌≤◌}
-use native.Mathlib.Omega.{arith}
-use mathlib.Core.Path.{◌≡◌, ap, ◌∙◌}
+use mathlib.Core.Path.{◌≡◌}
 use lib.ListN.{length, take}
-use lib.Seq.{length-sets, take_all, sets}
-use borrow.Author.Rules.{rules}
-use Rattle.stores.proofs.ListLaws.{sets_more}
+use lib.Seq.{sets}
 use Rattle.stores.proofs.copy_to.Given as goal
 
 abbrev pub invariant-loop-k : goal.invariant-loop-k

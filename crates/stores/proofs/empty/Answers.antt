@@ -1,9 +1,6 @@
-use Prim.Native.Nat.{◌-◌, ◌≤◌}
 use native.Mathlib.Omega.{arith}
 use mathlib.Core.Path.{◌≡◌}
-use borrow.Author.Rules.{rules}
 use Rattle.gossip.specs.Notes.{window_count}
-use Rattle.stores.specs.View.{Emptied}
 use Rattle.stores.proofs.ChangeLaws.{emptied_more, emptied_cells}
 use Rattle.stores.proofs.ViewLaws.{changed_stores}
 use Rattle.stores.proofs.empty.Goals as goal

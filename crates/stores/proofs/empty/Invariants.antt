@@ -1,12 +1,7 @@
 -- `stores::empty`: after w turns the topic's first w windows are empty, and no other cell has changed. Assumes nothing.
 use Prim.Native.Nat.{◌-◌, ◌≤◌}
-use native.Mathlib.Omega.{arith}
-use mathlib.Core.Path.{◌≡◌}
-use borrow.Author.Rules.{rules}
 use Rattle.gossip.specs.Notes.{window_count}
 use Rattle.stores.specs.View.{Emptied}
-use Rattle.stores.proofs.ChangeLaws.{emptied_more, emptied_cells}
-use Rattle.stores.proofs.ViewLaws.{changed_stores}
 use Rattle.stores.proofs.empty.Given as goal
 
 abbrev pub invariant-loop-w : goal.invariant-loop-w

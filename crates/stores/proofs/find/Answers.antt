@@ -1,12 +1,7 @@
-use Prim.Native.Nat.{◌-◌, ◌≤◌}
 use native.Mathlib.Omega.{arith}
-use mathlib.Core.Bool.{false}
-use mathlib.Core.Path.{◌≡◌, sym, ◌∙◌}
-use borrow.Author.Rules.{rules}
+use mathlib.Core.Path.{sym, ◌∙◌}
 use borrow.Author.Tests.{lt-ltb}
 use Rattle.index.proofs.Flags.{yes, no}
-use Rattle.gossip.specs.Notes.{has, some}
-use Rattle.stores.specs.View.{all_windows, window_at}
 use Rattle.stores.proofs.ChangeLaws.{window_of}
 use Rattle.stores.proofs.HasLaws.{some_none, some_more, some_out, some_in}
 use Rattle.stores.proofs.ViewLaws.{stored_all}

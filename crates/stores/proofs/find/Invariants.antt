@@ -1,16 +1,9 @@
 -- `stores::find`: the first p windows of all lack it. Assumes nothing.
 use Prim.Native.Nat.{◌-◌, ◌≤◌}
-use native.Mathlib.Omega.{arith}
 use mathlib.Core.Bool.{false}
-use mathlib.Core.Path.{◌≡◌, sym, ◌∙◌}
-use borrow.Author.Rules.{rules}
-use borrow.Author.Tests.{lt-ltb}
-use Rattle.index.proofs.Flags.{yes, no}
+use mathlib.Core.Path.{◌≡◌}
 use Rattle.gossip.specs.Notes.{has, some}
 use Rattle.stores.specs.View.{all_windows, window_at}
-use Rattle.stores.proofs.ChangeLaws.{window_of}
-use Rattle.stores.proofs.HasLaws.{some_none, some_more, some_out, some_in}
-use Rattle.stores.proofs.ViewLaws.{stored_all}
 use Rattle.stores.proofs.find.Given as goal
 
 abbrev pub invariant-loop-p : goal.invariant-loop-p

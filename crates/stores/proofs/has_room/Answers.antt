@@ -1,7 +1,6 @@
 use Prim.Native.Nat.{ℕ}
 use mathlib.Core.Path.{sym, ap}
 use lib.Dec.{ltb}
-use borrow.Author.Rules.{rules}
 use Rattle.gossip.specs.Notes.{window_most}
 use Rattle.stores.proofs.ChangeLaws.{running_is}
 use Rattle.stores.proofs.has_room.Goals as goal

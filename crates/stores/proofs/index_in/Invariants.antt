@@ -1,12 +1,9 @@
 -- `stores::index_in`: the first k numbers lack it. Assumes nothing.
 use Prim.Native.Nat.{◌-◌, ◌≤◌}
-use native.Mathlib.Omega.{arith}
 use mathlib.Core.Bool.{false}
 use mathlib.Core.Path.{◌≡◌}
 use lib.ListN.{length, take}
-use borrow.Author.Rules.{rules}
 use Rattle.gossip.specs.Notes.{has}
-use Rattle.stores.proofs.HasLaws.{miss_none, miss_more, miss_done, found_at}
 use Rattle.stores.proofs.index_in.Given as goal
 
 abbrev pub invariant-loop-k : goal.invariant-loop-k

@@ -1,7 +1,6 @@
 use Prim.Native.Nat.{ℕ}
 use native.Mathlib.Omega.{arith}
 use mathlib.Core.Path.{◌≡◌}
-use borrow.Author.Rules.{rules}
 use Rattle.stores.proofs.ChangeLaws.{window_of}
 use Rattle.stores.proofs.ListLaws.{stored_here}
 use Rattle.stores.proofs.is_at.Goals as goal

@@ -1,9 +1,5 @@
-use Prim.Native.Nat.{◌≤◌, ◌-◌}
 use native.Mathlib.Omega.{arith}
-use mathlib.Core.Path.{◌≡◌}
-use lib.ListN.{length, take}
 use borrow.Author.Rules.{rules}
-use Rattle.gossip.specs.Notes.{has}
 use Rattle.stores.proofs.HasLaws.{has_none, has_more, has_done}
 use Rattle.stores.proofs.is_in.Goals as goal
 

@@ -1,11 +1,8 @@
 -- `stores::is_in`: after k turns, whether the first k numbers have it. Assumes nothing.
 use Prim.Native.Nat.{◌≤◌, ◌-◌}
-use native.Mathlib.Omega.{arith}
 use mathlib.Core.Path.{◌≡◌}
 use lib.ListN.{length, take}
-use borrow.Author.Rules.{rules}
 use Rattle.gossip.specs.Notes.{has}
-use Rattle.stores.proofs.HasLaws.{has_none, has_more, has_done}
 use Rattle.stores.proofs.is_in.Given as goal
 
 abbrev pub invariant-loop-k : goal.invariant-loop-k

@@ -1,5 +1,4 @@
 use mathlib.Core.Path.{ap, ◌∙◌}
-use borrow.Author.Rules.{rules}
 use Rattle.gossip.specs.Notes.{has}
 use Rattle.stores.proofs.ViewLaws.{window_part}
 use Rattle.stores.proofs.is_in_window.Goals as goal

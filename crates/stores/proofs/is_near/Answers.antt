@@ -1,6 +1,4 @@
-use Rattle.index.proofs.Kit.{◌≤◌, ◌-◌, arith, rules}
 use mathlib.Core.Bool.{false≢true}
-use Rattle.gossip.specs.Notes.{window_count}
 use Rattle.stores.proofs.is_near.Goals as goal
 
 pub returns-then-place : goal.returns-then-place

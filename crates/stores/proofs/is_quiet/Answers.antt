@@ -1,9 +1,5 @@
-use Prim.Native.Nat.{ℕ, ◌-◌, ◌≤◌, ◌<◌}
 use native.Mathlib.Omega.{arith}
-use mathlib.Core.Path.{◌≡◌}
-use borrow.Author.Rules.{rules}
 use borrow.Author.Tests.{eqb-true}
-use Rattle.stores.specs.View.{all_windows, count_at}
 use Rattle.stores.proofs.ListLaws.{quiet_more}
 use Rattle.stores.proofs.ViewLaws.{stores_none}
 use Rattle.stores.proofs.is_quiet.Goals as goal

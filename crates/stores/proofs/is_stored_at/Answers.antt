@@ -1,6 +1,5 @@
 -- `stores::is_stored_at`: near the hint, or anywhere.
 use mathlib.Core.Path.{sym}
-use borrow.Author.Rules.{rules}
 use Rattle.stores.proofs.is_stored_at.Goals as goal
 
 pub returns-then-is_near : goal.returns-then-is_near

@@ -1,11 +1,6 @@
-use Prim.Native.Nat.{◌+◌, ◌*◌, ◌-◌, ◌≤◌}
 use native.Mathlib.Omega.{arith}
-use mathlib.Core.Bool.{false}
-use mathlib.Core.Path.{◌≡◌, sym, ◌∙◌}
-use borrow.Author.Rules.{rules}
+use mathlib.Core.Path.{sym, ◌∙◌}
 use Rattle.index.proofs.Flags.{yes, no}
-use Rattle.gossip.specs.Notes.{window_count, has, some}
-use Rattle.stores.specs.View.{window_at}
 use Rattle.stores.proofs.ChangeLaws.{window_in}
 use Rattle.stores.proofs.HasLaws.{some_none, some_more, some_out, some_in}
 use Rattle.stores.proofs.ViewLaws.{stored_store}

@@ -1,15 +1,9 @@
 -- `stores::is_stored_in`: the first w windows lack it. Assumes nothing.
 use Prim.Native.Nat.{◌+◌, ◌*◌, ◌-◌, ◌≤◌}
-use native.Mathlib.Omega.{arith}
 use mathlib.Core.Bool.{false}
-use mathlib.Core.Path.{◌≡◌, sym, ◌∙◌}
-use borrow.Author.Rules.{rules}
-use Rattle.index.proofs.Flags.{yes, no}
+use mathlib.Core.Path.{◌≡◌}
 use Rattle.gossip.specs.Notes.{window_count, has, some}
 use Rattle.stores.specs.View.{window_at}
-use Rattle.stores.proofs.ChangeLaws.{window_in}
-use Rattle.stores.proofs.HasLaws.{some_none, some_more, some_out, some_in}
-use Rattle.stores.proofs.ViewLaws.{stored_store}
 use Rattle.stores.proofs.is_stored_in.Given as goal
 
 abbrev pub invariant-loop-w : goal.invariant-loop-w

@@ -1,11 +1,11 @@
-use Prim.Native.Nat.{ℕ, ◌≤◌, ◌<◌, ◌-◌}
+use Prim.Native.Nat.{ℕ, ◌<◌}
 use native.Mathlib.Omega.{arith}
 use mathlib.Core.Path.{◌≡◌, sym, ◌∙◌}
-use lib.ListN.{length, length-set}
+use lib.ListN.{length-set}
 use lib.Seq.{get_or-set_same, get_or-set_other}
 use borrow.Author.Count.{below_none, below_more}
 use borrow.Author.Rules.{rules}
-use Rattle.stores.specs.View.{stores_cells, all_windows, count_at}
+use Rattle.stores.specs.View.{all_windows, count_at}
 use Rattle.stores.proofs.ViewLaws.{stores_none, windows_none}
 use Rattle.stores.proofs.make.Goals as goal
 

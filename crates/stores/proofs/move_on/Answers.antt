@@ -1,8 +1,4 @@
-use Prim.Native.Nat.{◌-◌, ◌≤◌}
 use native.Mathlib.Omega.{arith}
-use borrow.Author.Rules.{rules}
-use Rattle.records.specs.Records.{topic_count}
-use Rattle.stores.specs.View.{MovedTo}
 use Rattle.stores.proofs.ChangeLaws.{moved_none, moved_more, moved_done}
 use Rattle.stores.proofs.move_on.Goals as goal
 

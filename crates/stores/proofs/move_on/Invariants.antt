@@ -1,10 +1,7 @@
 -- `stores::move_on`: after t turns the first t topics have a new heartbeat, and the others none. Assumes nothing.
 use Prim.Native.Nat.{◌-◌, ◌≤◌}
-use native.Mathlib.Omega.{arith}
-use borrow.Author.Rules.{rules}
 use Rattle.records.specs.Records.{topic_count}
 use Rattle.stores.specs.View.{MovedTo}
-use Rattle.stores.proofs.ChangeLaws.{moved_none, moved_more, moved_done}
 use Rattle.stores.proofs.move_on.Given as goal
 
 abbrev pub invariant-loop-t : goal.invariant-loop-t

@@ -1,6 +1,5 @@
 use native.Mathlib.Omega.{arith}
 use lib.ListN.{length-set}
-use borrow.Author.Rules.{rules}
 use Rattle.stores.proofs.ChangeLaws.{moved_cells}
 use Rattle.stores.proofs.move_topic.Goals as goal
 

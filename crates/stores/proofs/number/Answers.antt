@@ -1,5 +1,4 @@
 use mathlib.Core.Path.{sym}
-use borrow.Author.Rules.{rules}
 use Rattle.stores.proofs.ViewLaws.{window_get_or}
 use Rattle.stores.proofs.number.Goals as goal
 

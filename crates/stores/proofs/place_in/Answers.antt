@@ -1,4 +1,3 @@
-use borrow.Author.Rules.{rules}
 use Rattle.stores.proofs.ListLaws.{place_below}
 use Rattle.stores.proofs.ViewLaws.{window_part}
 use Rattle.stores.proofs.place_in.Goals as goal

@@ -1,5 +1,4 @@
 use native.Mathlib.Omega.{arith}
-use borrow.Author.Rules.{rules}
 use Rattle.stores.proofs.ChangeLaws.{window_of, shifted_cells}
 use Rattle.stores.proofs.shift.Goals as goal
 

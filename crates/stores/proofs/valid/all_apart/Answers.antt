@@ -1,13 +1,6 @@
 use Rattle.index.proofs.Flags.{yes, no}
-use Prim.Native.Nat.{◌-◌, ◌≤◌}
 use native.Mathlib.Omega.{arith}
-use mathlib.Core.Bool.{true}
-use mathlib.Core.Path.{◌≡◌, refl}
-use borrow.Author.Rules.{rules}
-use borrow.Author.Tests.{not-false}
-use Rattle.gossip.specs.Notes.{window_count}
-use Rattle.gossip.specs.Valid.{apart}
-use Rattle.stores.specs.Marks.{before, Seen}
+use mathlib.Core.Path.{refl}
 use Rattle.stores.proofs.ApartLaws.{none_apart, none_seen, all_out, all_in}
 use Rattle.stores.proofs.valid.all_apart.Goals as goal
 

@@ -1,16 +1,11 @@
 -- `stores::valid::all_apart`: after w turns the numbers of the first w windows are apart, each with its bucket marked.
 -- Assumes nothing.
 use Prim.Native.Nat.{◌-◌, ◌≤◌}
-use native.Mathlib.Omega.{arith}
 use mathlib.Core.Bool.{true}
-use mathlib.Core.Path.{◌≡◌, refl}
-use borrow.Author.Rules.{rules}
-use borrow.Author.Tests.{not-false}
-use Rattle.index.proofs.Flags.{failed, passed}
+use mathlib.Core.Path.{◌≡◌}
 use Rattle.gossip.specs.Notes.{window_count}
 use Rattle.gossip.specs.Valid.{apart}
 use Rattle.stores.specs.Marks.{before, Seen}
-use Rattle.stores.proofs.ApartLaws.{none_apart, none_seen, all_out, all_in}
 use Rattle.stores.proofs.valid.all_apart.Given as goal
 
 abbrev pub invariant-loop-w : goal.invariant-loop-w

@@ -1,11 +1,7 @@
-use Prim.Native.Nat.{◌-◌, ◌≤◌}
 use native.Mathlib.Omega.{arith}
-use mathlib.Core.Bool.{false}
-use mathlib.Core.Path.{◌≡◌, ap, ◌∙◌}
-use borrow.Author.Rules.{rules}
+use mathlib.Core.Path.{ap, ◌∙◌}
 use Rattle.index.proofs.Flags.{yes, no}
 use Rattle.gossip.specs.Notes.{has}
-use Rattle.stores.specs.Marks.{before}
 use Rattle.stores.proofs.ApartLaws.{earlier_none, earlier_out, earlier_more, earlier_in}
 use Rattle.stores.proofs.ChangeLaws.{window_in}
 use Rattle.stores.proofs.ViewLaws.{window_front}

@@ -1,4 +1,3 @@
-use borrow.Author.Rules.{rules}
 use Rattle.stores.proofs.valid.is_new.Goals as goal
 
 pub returns : goal.returns

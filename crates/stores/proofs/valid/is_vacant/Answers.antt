@@ -1,5 +1,4 @@
 use mathlib.Core.Path.{refl}
-use borrow.Author.Rules.{rules}
 use Rattle.stores.proofs.ApartLaws.{vacant_five}
 use Rattle.stores.proofs.valid.is_vacant.Goals as goal
 

@@ -1,5 +1,4 @@
 use mathlib.Core.Path.{refl}
-use borrow.Author.Rules.{rules}
 use Rattle.stores.proofs.ApartLaws.{within_five}
 use Rattle.stores.proofs.valid.is_within.Goals as goal
 

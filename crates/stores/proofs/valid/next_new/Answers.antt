@@ -1,5 +1,4 @@
 -- `stores::valid::next_new`: an unmarked bucket tells that the number is new, and the number's own is marked then.
-use borrow.Author.Rules.{rules}
 use Rattle.stores.proofs.ApartLaws.{next_told}
 use Rattle.stores.proofs.ChangeLaws.{window_in}
 use Rattle.stores.proofs.valid.next_new.Goals as goal

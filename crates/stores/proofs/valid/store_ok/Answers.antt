@@ -1,8 +1,6 @@
 -- `stores::valid::store_ok`: each exit is a case of the test's definition.
 use Rattle.index.proofs.Flags.{yes, no}
 use mathlib.Core.Path.{◌∙◌}
-use borrow.Author.Rules.{rules}
-use borrow.Author.Tests.{not-true, not-false}
 use Rattle.stores.proofs.ApartLaws.{store_vacant, store_away, store_over, store_apart, store_within}
 use Rattle.stores.proofs.valid.store_ok.Goals as goal
 

@@ -1,11 +1,7 @@
 use Rattle.index.proofs.Flags.{yes, no}
-use Prim.Native.Nat.{◌-◌, ◌≤◌}
 use native.Mathlib.Omega.{arith}
-use mathlib.Core.Bool.{true}
-use mathlib.Core.Path.{◌≡◌, ap, ◌∙◌}
-use borrow.Author.Rules.{rules}
+use mathlib.Core.Path.{ap, ◌∙◌}
 use Rattle.gossip.specs.Valid.{apart}
-use Rattle.stores.specs.Marks.{before, up_to, Seen}
 use Rattle.stores.proofs.ApartLaws.{up_none, window_seen, apart_out, apart_more, window_apart, clash}
 use Rattle.stores.proofs.ChangeLaws.{window_in}
 use Rattle.stores.proofs.valid.window_apart.Goals as goal

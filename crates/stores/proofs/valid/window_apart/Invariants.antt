@@ -1,15 +1,10 @@
 -- `stores::valid::window_apart`: after k turns the numbers up to the window's first k are apart, each with its bucket marked.
 -- Assumes nothing.
 use Prim.Native.Nat.{◌-◌, ◌≤◌}
-use native.Mathlib.Omega.{arith}
 use mathlib.Core.Bool.{true}
-use mathlib.Core.Path.{◌≡◌, ap, ◌∙◌}
-use borrow.Author.Rules.{rules}
-use Rattle.index.proofs.Flags.{failed, passed}
+use mathlib.Core.Path.{◌≡◌}
 use Rattle.gossip.specs.Valid.{apart}
-use Rattle.stores.specs.Marks.{before, up_to, Seen}
-use Rattle.stores.proofs.ApartLaws.{up_none, window_seen, apart_out, apart_more, window_apart, clash}
-use Rattle.stores.proofs.ChangeLaws.{window_in}
+use Rattle.stores.specs.Marks.{up_to, Seen}
 use Rattle.stores.proofs.valid.window_apart.Given as goal
 
 abbrev pub invariant-loop-k : goal.invariant-loop-k

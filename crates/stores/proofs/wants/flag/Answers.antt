@@ -1,6 +1,5 @@
 -- `stores::wants::flag`: the flag at the place of m is up then, if m stands there. Assumes nothing.
 use native.Mathlib.Omega.{arith}
-use borrow.Author.Rules.{rules}
 use Rattle.stores.proofs.WantLaws.{flag_none, flag_one}
 use Rattle.stores.proofs.wants.flag.Goals as goal
 

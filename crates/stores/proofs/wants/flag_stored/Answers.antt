@@ -1,10 +1,5 @@
-use Prim.Native.Nat.{◌-◌, ◌≤◌}
 use native.Mathlib.Omega.{arith}
 use mathlib.Core.Path.{refl}
-use borrow.Author.Rules.{rules}
-use Rattle.gossip.specs.Notes.{has, some}
-use Rattle.stores.specs.Marks.{before, Flags}
-use Rattle.stores.specs.View.{all_windows, window_at}
 use Rattle.stores.proofs.ChangeLaws.{window_of}
 use Rattle.stores.proofs.MarkLaws.{seen_none}
 use Rattle.stores.proofs.WantLaws.{stores_none, stores_more, stores_done, given_kept}

@@ -1,5 +1,4 @@
 use Rattle.index.proofs.Flags.{no}
-use borrow.Author.Rules.{rules}
 use Rattle.stores.proofs.WantLaws.{flags_miss}
 use Rattle.stores.proofs.wants.flag_where.Goals as goal
 

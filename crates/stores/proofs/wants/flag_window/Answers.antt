@@ -1,10 +1,4 @@
-use Prim.Native.Nat.{◌-◌, ◌≤◌}
 use native.Mathlib.Omega.{arith}
-use lib.ListN.{take}
-use borrow.Author.Rules.{rules}
-use Rattle.gossip.specs.Notes.{has}
-use Rattle.stores.specs.Marks.{before, Flags}
-use Rattle.stores.specs.View.{window_at}
 use Rattle.stores.proofs.ViewLaws.{length_window}
 use Rattle.stores.proofs.WantLaws.{given_kept, window_none, window_more, window_done}
 use Rattle.stores.proofs.wants.flag_window.Goals as goal

@@ -1,13 +1,9 @@
 -- `stores::wants::flag_window`: after k turns the given numbers among the window's first k are flagged. Assumes nothing.
 use Prim.Native.Nat.{◌-◌, ◌≤◌}
-use native.Mathlib.Omega.{arith}
 use lib.ListN.{take}
-use borrow.Author.Rules.{rules}
 use Rattle.gossip.specs.Notes.{has}
-use Rattle.stores.specs.Marks.{before, Flags}
+use Rattle.stores.specs.Marks.{Flags}
 use Rattle.stores.specs.View.{window_at}
-use Rattle.stores.proofs.ViewLaws.{length_window}
-use Rattle.stores.proofs.WantLaws.{given_kept, window_none, window_more, window_done}
 use Rattle.stores.proofs.wants.flag_window.Given as goal
 
 abbrev pub invariant-loop-k : goal.invariant-loop-k

@@ -1,8 +1,4 @@
-use Prim.Native.Nat.{◌-◌, ◌≤◌}
 use native.Mathlib.Omega.{arith}
-use lib.ListN.{length, take}
-use borrow.Author.Rules.{rules}
-use Rattle.stores.specs.Marks.{before, Seen}
 use Rattle.stores.proofs.WantLaws.{seen_next, seen_done}
 use Rattle.stores.proofs.wants.mark_all.Goals as goal
 

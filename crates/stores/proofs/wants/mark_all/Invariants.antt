@@ -1,10 +1,7 @@
 -- `stores::wants::mark_all`: after k turns the first k numbers have marked their buckets. Assumes nothing.
 use Prim.Native.Nat.{◌-◌, ◌≤◌}
-use native.Mathlib.Omega.{arith}
 use lib.ListN.{length, take}
-use borrow.Author.Rules.{rules}
-use Rattle.stores.specs.Marks.{before, Seen}
-use Rattle.stores.proofs.WantLaws.{seen_next, seen_done}
+use Rattle.stores.specs.Marks.{Seen}
 use Rattle.stores.proofs.wants.mark_all.Given as goal
 
 abbrev pub invariant-loop-k : goal.invariant-loop-k

@@ -1,6 +1,5 @@
 -- `stores::wants::next_want`: a number whose flag is up is left out; another is put behind those so far, and flagged. Assumes nothing.
 use native.Mathlib.Omega.{arith}
-use borrow.Author.Rules.{rules}
 use Rattle.stores.proofs.WantLaws.{place_low, next_known, next_new}
 use Rattle.stores.proofs.wants.next_want.Goals as goal
 

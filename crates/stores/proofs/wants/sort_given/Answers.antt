@@ -1,7 +1,6 @@
 -- `stores::wants::sort_given`: the copy is the numbers, and is sorted. Assumes nothing.
 use mathlib.Core.Path.{ap, ◌∙◌}
 use native.Mathlib.Omega.{arith}
-use borrow.Author.Rules.{rules}
 use lib.ListN.{length}
 use lib.Seq.{take_all}
 use Rattle.sorting.specs.Sorting.{sorted}

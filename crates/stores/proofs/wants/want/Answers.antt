@@ -1,6 +1,5 @@
 -- `stores::wants::want`: `want_by` with as many cells as numbers. Assumes nothing.
 use mathlib.Core.Path.{sym}
-use borrow.Author.Rules.{rules}
 use lib.Seq.{length-take-le}
 use Rattle.stores.proofs.wants.want.Goals as goal
 

@@ -1,11 +1,4 @@
-use Prim.Native.Nat.{◌-◌, ◌≤◌}
 use native.Mathlib.Omega.{arith}
-use mathlib.Core.List.{[]}
-use lib.ListN.{length, take}
-use borrow.Author.Rules.{rules}
-use Rattle.gossip.specs.Step.{wanted}
-use Rattle.stores.specs.Marks.{Listed}
-use Rattle.stores.specs.View.{stored_at}
 use Rattle.stores.proofs.WantLaws.{given_first, given_kept, given_has, listed_none, listed_length, next_most, want_next, want_done}
 use Rattle.stores.proofs.wants.want_by.Goals as goal
 

@@ -1,14 +1,11 @@
 -- `stores::wants::want_by`: after i turns the list has those wanted of the first i numbers, and the flags are up for these and for those
 -- that are stored. Assumes nothing.
 use Prim.Native.Nat.{◌-◌, ◌≤◌}
-use native.Mathlib.Omega.{arith}
 use mathlib.Core.List.{[]}
 use lib.ListN.{length, take}
-use borrow.Author.Rules.{rules}
 use Rattle.gossip.specs.Step.{wanted}
 use Rattle.stores.specs.Marks.{Listed}
 use Rattle.stores.specs.View.{stored_at}
-use Rattle.stores.proofs.WantLaws.{given_first, given_kept, given_has, listed_none, listed_length, next_most, want_next, want_done}
 use Rattle.stores.proofs.wants.want_by.Given as goal
 
 abbrev pub invariant-loop-i : goal.invariant-loop-i
