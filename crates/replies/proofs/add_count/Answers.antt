@@ -1,6 +1,5 @@
 -- `replies::add_count`: one cell is written, with one lane of it one more.
 use native.Mathlib.Omega.{arith}
-use borrow.Author.Rules.{rules}
 use Rattle.replies.proofs.RowLaws.{count_lane, more_count}
 use Rattle.replies.proofs.add_count.Goals as goal
 

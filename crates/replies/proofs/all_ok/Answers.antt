@@ -1,12 +1,9 @@
 use Rattle.index.proofs.Flags.{yes, no}
-use Prim.Native.Nat.{◌-◌, ◌≤◌}
-use mathlib.Core.Path.{◌≡◌, sym}
+use mathlib.Core.Path.{sym}
 use native.Mathlib.Omega.{arith}
-use lib.ListN.{length}
-use Rattle.replies.specs.View.{rows_in, replies_of}
 use Rattle.replies.specs.Asked.{on_bits}
 use Rattle.replies.proofs.RowLaws.{rows_length}
-use Rattle.replies.proofs.TestLaws.{Tested, tested_none, tested_more, not_rising, not_fitting, all_tested}
+use Rattle.replies.proofs.TestLaws.{tested_none, tested_more, not_rising, not_fitting, all_tested}
 use Rattle.replies.proofs.all_ok.Goals as goal
 
 pub loop-r-init : goal.loop-r-init

@@ -1,13 +1,10 @@
 -- `replies::all_ok`: after r turns the first r rows rise and are within their bounds.
 use Prim.Native.Nat.{◌-◌, ◌≤◌}
-use mathlib.Core.Path.{◌≡◌, sym}
-use native.Mathlib.Omega.{arith}
+use mathlib.Core.Path.{◌≡◌}
 use lib.ListN.{length}
-use Rattle.index.proofs.Flags.{failed, passed}
 use Rattle.replies.specs.View.{rows_in, replies_of}
 use Rattle.replies.specs.Asked.{on_bits}
-use Rattle.replies.proofs.RowLaws.{rows_length}
-use Rattle.replies.proofs.TestLaws.{Tested, tested_none, tested_more, not_rising, not_fitting, all_tested}
+use Rattle.replies.proofs.TestLaws.{Tested}
 use Rattle.replies.proofs.all_ok.Given as goal
 
 abbrev pub invariant-loop-r : goal.invariant-loop-r

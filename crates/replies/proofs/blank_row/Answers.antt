@@ -1,8 +1,7 @@
-use Prim.Native.Nat.{◌-◌, ◌≤◌}
 use mathlib.Core.Path.{refl}
 use native.Mathlib.Omega.{arith}
 use lib.ListN.{length-set}
-use Rattle.replies.specs.View.{start_of, Run}
+use Rattle.replies.specs.View.{start_of}
 use Rattle.replies.proofs.RowLaws.{run_none, run_more, run_done, blank_set}
 use Rattle.replies.proofs.blank_row.Goals as goal
 

@@ -1,10 +1,6 @@
 -- `replies::blank_row`: after k turns the first k cells of the row are 0.
 use Prim.Native.Nat.{◌-◌, ◌≤◌}
-use mathlib.Core.Path.{refl}
-use native.Mathlib.Omega.{arith}
-use lib.ListN.{length-set}
 use Rattle.replies.specs.View.{start_of, Run}
-use Rattle.replies.proofs.RowLaws.{run_none, run_more, run_done, blank_set}
 use Rattle.replies.proofs.blank_row.Given as goal
 
 abbrev pub invariant-loop-k : goal.invariant-loop-k

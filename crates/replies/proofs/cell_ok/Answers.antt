@@ -1,6 +1,5 @@
 -- `replies::cell_ok`: a cell of 0, and one under its limits, pass the test.
 use mathlib.Core.Path.{sym}
-use borrow.Author.Rules.{rules}
 use Rattle.replies.specs.Asked.{on_bits}
 use Rattle.replies.proofs.TestLaws.{cell_zero}
 use Rattle.replies.proofs.LimitLaws.{under_fits}

@@ -1,7 +1,7 @@
-use Prim.Native.Nat.{◌+◌, ◌-◌, ◌≤◌}
+use Prim.Native.Nat.{◌+◌}
 use native.Mathlib.Omega.{arith}
 use lib.ListN.{get_or}
-use Rattle.replies.specs.View.{start_of, Run}
+use Rattle.replies.specs.View.{start_of}
 use Rattle.replies.proofs.RowLaws.{run_none, run_done, copy_set}
 use Rattle.replies.proofs.CallLaws.{copy_more}
 use Rattle.replies.proofs.copy_row.Goals as goal

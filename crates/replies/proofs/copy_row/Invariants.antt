@@ -1,10 +1,7 @@
 -- `replies::copy_row`: after k turns the first k cells of the row are those of the other.
 use Prim.Native.Nat.{◌+◌, ◌-◌, ◌≤◌}
-use native.Mathlib.Omega.{arith}
 use lib.ListN.{get_or}
 use Rattle.replies.specs.View.{start_of, Run}
-use Rattle.replies.proofs.RowLaws.{run_none, run_done, copy_set}
-use Rattle.replies.proofs.CallLaws.{copy_more}
 use Rattle.replies.proofs.copy_row.Given as goal
 
 abbrev pub invariant-loop-k : goal.invariant-loop-k

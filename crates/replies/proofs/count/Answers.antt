@@ -1,7 +1,6 @@
 -- `replies::count`: the first row from which on no number is smaller is the only one that can be that of n.
 use mathlib.Core.Path.{sym, ◌∙◌}
 use native.Mathlib.Omega.{arith}
-use borrow.Author.Rules.{rules}
 use Rattle.replies.proofs.RowLaws.{rows_length}
 use Rattle.replies.proofs.CallLaws.{found_here, not_found}
 use Rattle.replies.proofs.count.Goals as goal

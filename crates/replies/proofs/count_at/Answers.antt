@@ -1,6 +1,5 @@
 -- `replies::count_at`: the lane of a slot is its count.
 use mathlib.Core.Path.{◌∙◌}
-use borrow.Author.Rules.{rules}
 use Rattle.replies.proofs.RowLaws.{count_lane}
 use Rattle.replies.proofs.count_at.Goals as goal
 

@@ -1,10 +1,7 @@
-use Prim.Native.Nat.{◌-◌, ◌≤◌}
-use mathlib.Core.Path.{◌≡◌, ◌∙◌}
+use mathlib.Core.Path.{◌∙◌}
 use native.Mathlib.Omega.{arith}
-use lib.ListN.{length}
-use Rattle.replies.specs.View.{rows_in, replies_of}
 use Rattle.replies.proofs.RowLaws.{rows_length}
-use Rattle.replies.proofs.CallLaws.{Ending, ending_none, ending_more, ending_done}
+use Rattle.replies.proofs.CallLaws.{ending_none, ending_more, ending_done}
 use Rattle.replies.proofs.end.Goals as goal
 
 pub loop-r-init : goal.loop-r-init

@@ -1,11 +1,9 @@
 -- `replies::end`: after r turns the slot has no count in the first r rows.
 use Prim.Native.Nat.{◌-◌, ◌≤◌}
-use mathlib.Core.Path.{◌≡◌, ◌∙◌}
-use native.Mathlib.Omega.{arith}
+use mathlib.Core.Path.{◌≡◌}
 use lib.ListN.{length}
 use Rattle.replies.specs.View.{rows_in, replies_of}
-use Rattle.replies.proofs.RowLaws.{rows_length}
-use Rattle.replies.proofs.CallLaws.{Ending, ending_none, ending_more, ending_done}
+use Rattle.replies.proofs.CallLaws.{Ending}
 use Rattle.replies.proofs.end.Given as goal
 
 abbrev pub invariant-loop-r : goal.invariant-loop-r

@@ -1,5 +1,4 @@
 -- `replies::end_count`: one cell is written, with one lane of it 0.
-use borrow.Author.Rules.{rules}
 use Rattle.replies.proofs.RowLaws.{count_set}
 use Rattle.replies.proofs.end_count.Goals as goal
 

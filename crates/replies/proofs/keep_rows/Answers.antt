@@ -1,10 +1,8 @@
-use Prim.Native.Nat.{◌-◌, ◌≤◌}
-use mathlib.Core.Path.{◌≡◌, ◌∙◌}
+use mathlib.Core.Path.{◌∙◌}
 use native.Mathlib.Omega.{arith}
-use lib.ListN.{length, length-set}
-use Rattle.replies.specs.View.{rows_in, replies_of}
+use lib.ListN.{length-set}
 use Rattle.replies.proofs.RowLaws.{rows_length}
-use Rattle.replies.proofs.CallLaws.{Keeping, keeping_none, keeping_more, keeping_done}
+use Rattle.replies.proofs.CallLaws.{keeping_none, keeping_more, keeping_done}
 use Rattle.replies.proofs.keep_rows.Goals as goal
 
 pub loop-r-init : goal.loop-r-init

@@ -1,11 +1,9 @@
 -- `replies::keep_rows`: after r turns the rows below w are those of the first r that are kept.
 use Prim.Native.Nat.{◌-◌, ◌≤◌}
-use mathlib.Core.Path.{◌≡◌, ◌∙◌}
-use native.Mathlib.Omega.{arith}
-use lib.ListN.{length, length-set}
+use mathlib.Core.Path.{◌≡◌}
+use lib.ListN.{length}
 use Rattle.replies.specs.View.{rows_in, replies_of}
-use Rattle.replies.proofs.RowLaws.{rows_length}
-use Rattle.replies.proofs.CallLaws.{Keeping, keeping_none, keeping_more, keeping_done}
+use Rattle.replies.proofs.CallLaws.{Keeping}
 use Rattle.replies.proofs.keep_rows.Given as goal
 
 abbrev pub invariant-loop-r : goal.invariant-loop-r

@@ -1,6 +1,5 @@
 -- `replies::lane` is its definition.
 use mathlib.Core.Path.{refl}
-use borrow.Author.Rules.{rules}
 use Rattle.replies.specs.View.{lane_in}
 use Rattle.replies.proofs.lane.Goals as goal
 

@@ -1,11 +1,9 @@
 use Rattle.index.proofs.Flags.{yes, no}
-use Prim.Native.Nat.{ℕ, ◌+◌, ◌*◌, ◌-◌, ◌≤◌}
-use mathlib.Core.Path.{◌≡◌, sym, ap, ◌∙◌}
-use mathlib.Core.Bool.{Bool, true}
+use Prim.Native.Nat.{ℕ, ◌+◌, ◌*◌}
+use mathlib.Core.Path.{sym, ap, ◌∙◌}
+use mathlib.Core.Bool.{Bool}
 use mathlib.Core.List.{List}
 use native.Mathlib.Omega.{arith}
-use borrow.Author.Rules.{rules}
-use Rattle.index.specs.Index.{every}
 use Rattle.index.proofs.Index.{every_none, every_more, every_out, every_in}
 use Rattle.replies.specs.View.{lane_count, lane_in}
 use Rattle.replies.specs.Asked.{on_bits, lane_fits, cell_fits}

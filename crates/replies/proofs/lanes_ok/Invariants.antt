@@ -1,15 +1,10 @@
 -- `replies::lanes_ok`: after j turns the first j lanes are within their bounds.
-use Prim.Native.Nat.{ℕ, ◌+◌, ◌*◌, ◌-◌, ◌≤◌}
-use mathlib.Core.Path.{◌≡◌, sym, ap, ◌∙◌}
-use mathlib.Core.Bool.{Bool, true}
-use mathlib.Core.List.{List}
-use native.Mathlib.Omega.{arith}
-use borrow.Author.Rules.{rules}
+use Prim.Native.Nat.{◌+◌, ◌*◌, ◌-◌, ◌≤◌}
+use mathlib.Core.Path.{◌≡◌}
+use mathlib.Core.Bool.{true}
 use Rattle.index.specs.Index.{every}
-use Rattle.index.proofs.Index.{every_none, every_more, every_out, every_in}
-use Rattle.index.proofs.Flags.{failed, passed}
 use Rattle.replies.specs.View.{lane_count, lane_in}
-use Rattle.replies.specs.Asked.{on_bits, lane_fits, cell_fits}
+use Rattle.replies.specs.Asked.{on_bits, lane_fits}
 use Rattle.replies.proofs.lanes_ok.Given as goal
 
 abbrev pub invariant-loop-j : goal.invariant-loop-j

@@ -1,5 +1,5 @@
 -- `replies::limit`: a lane holds less than 64, so that no larger limit is wanted.
-use Rattle.index.proofs.Flags.{yes, no}
+use Rattle.index.proofs.Flags.{yes}
 use native.Mathlib.Omega.{arith}
 use Rattle.replies.specs.Asked.{on_bits}
 use Rattle.replies.proofs.LimitLaws.{limit_past, limit_none, limit_most}

@@ -1,11 +1,9 @@
-use Prim.Native.Nat.{◌-◌, ◌≤◌}
-use mathlib.Core.Path.{◌≡◌, refl, ◌∙◌}
+use mathlib.Core.Path.{refl, ◌∙◌}
 use native.Mathlib.Omega.{arith}
 use native.Mathlib.Nat.{not-suc-le-zero}
-use lib.ListN.{length, length-set}
-use Rattle.replies.specs.View.{lane_cells}
+use lib.ListN.{length-set}
 use Rattle.replies.specs.Asked.{on_bits}
-use Rattle.replies.proofs.LimitLaws.{AllowTo, allow_more}
+use Rattle.replies.proofs.LimitLaws.{allow_more}
 use Rattle.replies.proofs.limits.Goals as goal
 
 pub loop-k-init : goal.loop-k-init

@@ -1,12 +1,10 @@
 -- `replies::limits`: after k turns the first k cells of limits are there.
 use Prim.Native.Nat.{◌-◌, ◌≤◌}
-use mathlib.Core.Path.{◌≡◌, refl, ◌∙◌}
-use native.Mathlib.Omega.{arith}
-use native.Mathlib.Nat.{not-suc-le-zero}
-use lib.ListN.{length, length-set}
+use mathlib.Core.Path.{◌≡◌}
+use lib.ListN.{length}
 use Rattle.replies.specs.View.{lane_cells}
 use Rattle.replies.specs.Asked.{on_bits}
-use Rattle.replies.proofs.LimitLaws.{AllowTo, allow_more}
+use Rattle.replies.proofs.LimitLaws.{AllowTo}
 use Rattle.replies.proofs.limits.Given as goal
 
 abbrev pub invariant-loop-k : goal.invariant-loop-k

@@ -1,7 +1,6 @@
 use native.Mathlib.Omega.{arith}
-use borrow.Author.Rules.{rules}
 use Rattle.replies.specs.Asked.{on_bits}
-use Rattle.replies.proofs.LimitLaws.{Joined, joined_none, joined_fits, joined_more, joined_done}
+use Rattle.replies.proofs.LimitLaws.{joined_none, joined_fits, joined_more, joined_done}
 use Rattle.replies.proofs.limits_of.Goals as goal
 
 pub loop-j-init : goal.loop-j-init

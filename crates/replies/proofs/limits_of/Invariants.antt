@@ -1,8 +1,6 @@
 -- `replies::limits_of`: when j lanes are left, those from j on are put together.
-use native.Mathlib.Omega.{arith}
-use borrow.Author.Rules.{rules}
 use Rattle.replies.specs.Asked.{on_bits}
-use Rattle.replies.proofs.LimitLaws.{Joined, joined_none, joined_fits, joined_more, joined_done}
+use Rattle.replies.proofs.LimitLaws.{Joined}
 use Rattle.replies.proofs.limits_of.Given as goal
 
 abbrev pub invariant-loop-j : goal.invariant-loop-j

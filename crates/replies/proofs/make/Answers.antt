@@ -1,5 +1,4 @@
 -- `replies::make`: no row is in use.
-use borrow.Author.Rules.{rules}
 use Rattle.replies.proofs.CallLaws.{no_rows}
 use Rattle.replies.proofs.make.Goals as goal
 

@@ -1,6 +1,5 @@
 -- `replies::more`: a lane that is not full has room for one more.
 use native.Mathlib.Omega.{arith}
-use borrow.Author.Rules.{rules}
 use Rattle.replies.proofs.LaneLaws.{more_in, more_of}
 use Rattle.replies.proofs.more.Goals as goal
 

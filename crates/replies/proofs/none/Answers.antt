@@ -1,7 +1,6 @@
 -- `replies::none`: what a lane holds is taken from the cell.
 use Prim.Native.Nat.{◌*◌, ◌≤◌}
 use native.Mathlib.Omega.{arith}
-use borrow.Author.Rules.{rules}
 use Rattle.replies.proofs.LaneLaws.{none_in, none_of}
 use Rattle.replies.proofs.none.Goals as goal
 

@@ -1,7 +1,5 @@
-use Prim.Native.Nat.{◌-◌, ◌≤◌}
 use mathlib.Core.Path.{◌∙◌}
 use native.Mathlib.Omega.{arith}
-use Rattle.replies.specs.View.{Opened}
 use Rattle.replies.proofs.CallLaws.{open_none, open_more, open_done}
 use Rattle.replies.proofs.open_rows.Goals as goal
 

@@ -1,9 +1,6 @@
 -- `replies::open_rows`: when k rows are left to look at, those from k on below u are one place higher.
 use Prim.Native.Nat.{◌-◌, ◌≤◌}
-use mathlib.Core.Path.{◌∙◌}
-use native.Mathlib.Omega.{arith}
 use Rattle.replies.specs.View.{Opened}
-use Rattle.replies.proofs.CallLaws.{open_none, open_more, open_done}
 use Rattle.replies.proofs.open_rows.Given as goal
 
 abbrev pub invariant-loop-k : goal.invariant-loop-k

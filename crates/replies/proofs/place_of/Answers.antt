@@ -1,10 +1,9 @@
-use Prim.Native.Nat.{◌-◌, ◌+◌, ◌/◌}
-use mathlib.Core.Path.{◌≡◌, sym}
+use Prim.Native.Nat.{◌+◌, ◌/◌}
+use mathlib.Core.Path.{sym}
 use native.Mathlib.Omega.{arith}
-use lib.ListN.{length}
-use Rattle.replies.specs.View.{rows_in, replies_of}
+use Rattle.replies.specs.View.{replies_of}
 use Rattle.replies.proofs.RowLaws.{rows_length, number_load}
-use Rattle.replies.proofs.CallLaws.{Halved, halve_none, halve_up, halve_down, halve_done}
+use Rattle.replies.proofs.CallLaws.{halve_none, halve_up, halve_down, halve_done}
 use Rattle.replies.proofs.place_of.Goals as goal
 
 pub loop-low-init : goal.loop-low-init

@@ -1,11 +1,9 @@
 -- `replies::place_of`: below `low` every number is smaller, and from `high` on none is.
-use Prim.Native.Nat.{◌-◌, ◌+◌, ◌/◌}
-use mathlib.Core.Path.{◌≡◌, sym}
-use native.Mathlib.Omega.{arith}
+use Prim.Native.Nat.{◌-◌}
+use mathlib.Core.Path.{◌≡◌}
 use lib.ListN.{length}
 use Rattle.replies.specs.View.{rows_in, replies_of}
-use Rattle.replies.proofs.RowLaws.{rows_length, number_load}
-use Rattle.replies.proofs.CallLaws.{Halved, halve_none, halve_up, halve_down, halve_done}
+use Rattle.replies.proofs.CallLaws.{Halved}
 use Rattle.replies.proofs.place_of.Given as goal
 
 abbrev pub invariant-loop-low : goal.invariant-loop-low

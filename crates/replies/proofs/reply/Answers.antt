@@ -1,7 +1,6 @@
 -- `replies::reply`: the row of n is there, or is put at its place in order; then its count is one more.
 use mathlib.Core.Path.{sym, ◌∙◌}
 use native.Mathlib.Omega.{arith}
-use borrow.Author.Rules.{rules}
 use Rattle.replies.proofs.RowLaws.{rows_length}
 use Rattle.replies.proofs.CallLaws.{found_here, reply_here, new_room, new_small, reply_new}
 use Rattle.replies.proofs.reply.Goals as goal

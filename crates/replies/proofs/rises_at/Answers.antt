@@ -1,5 +1,4 @@
 -- `replies::rises_at`: the first row has none before it, and any other is compared.
-use native.Mathlib.Omega.{arith}
 use Rattle.replies.proofs.TestLaws.{step_first, step_later}
 use Rattle.replies.proofs.rises_at.Goals as goal
 

@@ -1,7 +1,6 @@
 -- `replies::row_number`: the first cell of a row is its number.
 use mathlib.Core.Path.{sym}
 use native.Mathlib.Omega.{arith}
-use borrow.Author.Rules.{rules}
 use Rattle.replies.proofs.RowLaws.{rows_length, number_load}
 use Rattle.replies.proofs.row_number.Goals as goal
 

@@ -1,10 +1,7 @@
 use Rattle.index.proofs.Flags.{yes, no}
-use Prim.Native.Nat.{◌+◌, ◌-◌, ◌≤◌}
-use mathlib.Core.Path.{◌≡◌}
-use mathlib.Core.Bool.{true}
+use Prim.Native.Nat.{◌+◌}
 use native.Mathlib.Omega.{arith}
 use lib.ListN.{get_or}
-use Rattle.index.specs.Index.{every}
 use Rattle.index.proofs.Index.{every_none, every_more, every_out, every_in}
 use Rattle.replies.specs.View.{lane_cells, start_of}
 use Rattle.replies.specs.Asked.{on_bits, cell_fits, lanes_fit}

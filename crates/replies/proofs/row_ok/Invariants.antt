@@ -2,13 +2,10 @@
 use Prim.Native.Nat.{◌+◌, ◌-◌, ◌≤◌}
 use mathlib.Core.Path.{◌≡◌}
 use mathlib.Core.Bool.{true}
-use native.Mathlib.Omega.{arith}
 use lib.ListN.{get_or}
 use Rattle.index.specs.Index.{every}
-use Rattle.index.proofs.Index.{every_none, every_more, every_out, every_in}
-use Rattle.index.proofs.Flags.{failed, passed}
 use Rattle.replies.specs.View.{lane_cells, start_of}
-use Rattle.replies.specs.Asked.{on_bits, cell_fits, lanes_fit}
+use Rattle.replies.specs.Asked.{on_bits, cell_fits}
 use Rattle.replies.proofs.row_ok.Given as goal
 
 abbrev pub invariant-loop-k : goal.invariant-loop-k

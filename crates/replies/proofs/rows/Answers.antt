@@ -1,6 +1,5 @@
 -- `replies::rows`: the first cell is the length of the rows.
 use mathlib.Core.Path.{sym}
-use borrow.Author.Rules.{rules}
 use Rattle.replies.proofs.RowLaws.{rows_length}
 use Rattle.replies.proofs.rows.Goals as goal
 

@@ -1,6 +1,5 @@
 -- `replies::under`: the lanes are every second one, and those between.
 use Rattle.index.proofs.Index.{both}
-use borrow.Author.Rules.{rules}
 use Rattle.replies.proofs.LimitLaws.{under_both}
 use Rattle.replies.proofs.under.Goals as goal
 
