@@ -1,5 +1,4 @@
 -- `gossip_table::made::make`: the parts, one after the other, and the head.
-use borrow.Author.Rules.{rules}
 use Rattle.gossip_table.specs.View.{gossip_of}
 use Rattle.gossip_table.proofs.MadeLaws.{all_made}
 use Rattle.gossip_table.proofs.made.make.Goals as goal

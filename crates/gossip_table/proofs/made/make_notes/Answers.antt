@@ -1,5 +1,4 @@
 -- `gossip_table::made::make_notes`: one part, made.
-use borrow.Author.Rules.{rules}
 use mathlib.Core.Path.{◌∙◌}
 use Rattle.gossip_table.proofs.NoteParts.{notes_size}
 use Rattle.gossip_table.proofs.MadeLaws.{notes_made}

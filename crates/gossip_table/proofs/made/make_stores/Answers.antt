@@ -1,5 +1,4 @@
 -- `gossip_table::made::make_stores`: one part, made.
-use borrow.Author.Rules.{rules}
 use mathlib.Core.Path.{◌∙◌}
 use Rattle.gossip_table.proofs.StoreParts.{stores_size}
 use Rattle.gossip_table.proofs.MadeLaws.{stores_made}

@@ -1,5 +1,4 @@
 -- `gossip_table::stored::add`: one number more, in its part of the array.
-use borrow.Author.Rules.{rules}
 use mathlib.Core.Path.{◌∙◌}
 use Rattle.gossip.specs.Notes.{added}
 use Rattle.gossip_table.proofs.StoreParts.{stores_size, add_fits, store_back}

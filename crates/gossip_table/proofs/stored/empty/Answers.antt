@@ -1,5 +1,5 @@
 -- `gossip_table::stored::empty`: the store, and then the replies with what only it had.
-use Rattle.index.proofs.Kit.{ap, ◌∙◌, rules}
+use Rattle.index.proofs.Kit.{ap, ◌∙◌}
 use Rattle.gossip.specs.Notes.{forget}
 use Rattle.gossip_table.proofs.stored.empty.Goals as goal
 

@@ -1,5 +1,4 @@
 -- `gossip_table::stored::empty_store`: a store emptied, in its part of the array.
-use borrow.Author.Rules.{rules}
 use mathlib.Core.Path.{◌∙◌}
 use Rattle.gossip.specs.Notes.{no_store}
 use Rattle.gossip_table.proofs.StoreParts.{stores_size, empty_fits, fine_kept, store_back, kept_stores}

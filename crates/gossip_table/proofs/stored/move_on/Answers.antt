@@ -1,5 +1,4 @@
 -- `gossip_table::stored::move_on`: every store moved on, in its part of the array.
-use borrow.Author.Rules.{rules}
 use mathlib.Core.Path.{◌∙◌}
 use Rattle.gossip_table.proofs.StoreParts.{stores_size, moved_back, kept_stores}
 use Rattle.gossip_table.proofs.stored.move_on.Goals as goal

@@ -1,5 +1,5 @@
 -- `gossip_table::stored::row_stays`: the number of the row, looked for in the stores.
-use Rattle.index.proofs.Kit.{arith, rules}
+use Rattle.index.proofs.Kit.{arith}
 use Rattle.gossip_table.proofs.StoreParts.{row_kept, stays_by}
 use Rattle.gossip_table.proofs.stored.row_stays.Goals as goal
 

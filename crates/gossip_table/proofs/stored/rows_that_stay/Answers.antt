@@ -1,8 +1,8 @@
-use Rattle.index.proofs.Kit.{ℕ, ◌≤◌, ◌-◌, Bool, false, arith, rules}
-use Rattle.index.proofs.Lists.{Built, built_none, built_more}
+use Rattle.index.proofs.Kit.{ℕ, Bool, arith}
+use Rattle.index.proofs.Lists.{built_none, built_more}
 use mathlib.Core.List.{List, map}
 use lib.ListN.{get_or}
-use Rattle.gossip.specs.Notes.{rows_most, stored}
+use Rattle.gossip.specs.Notes.{stored}
 use Rattle.gossip.specs.Valid.{row_number}
 use Rattle.gossip_table.specs.View.{gossip_of}
 use Rattle.gossip_table.proofs.StoreParts.{replies_size, replies_count}

@@ -1,12 +1,11 @@
 -- `gossip_table::stored::rows_that_stay`: the loop builds the flags from the front.
-use Rattle.index.proofs.Kit.{ℕ, ◌≤◌, ◌-◌, Bool, false, arith, rules}
-use Rattle.index.proofs.Lists.{Built, built_none, built_more}
-use mathlib.Core.List.{List, map}
+use Rattle.index.proofs.Kit.{◌≤◌, ◌-◌, false}
+use Rattle.index.proofs.Lists.{Built}
+use mathlib.Core.List.{map}
 use lib.ListN.{get_or}
 use Rattle.gossip.specs.Notes.{rows_most, stored}
 use Rattle.gossip.specs.Valid.{row_number}
 use Rattle.gossip_table.specs.View.{gossip_of}
-use Rattle.gossip_table.proofs.StoreParts.{replies_size, replies_count}
 use Rattle.gossip_table.proofs.stored.rows_that_stay.Given as goal
 
 abbrev pub invariant-loop-row : goal.invariant-loop-row

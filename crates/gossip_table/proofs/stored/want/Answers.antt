@@ -1,5 +1,4 @@
 -- `gossip_table::stored::want`: the stores are those in their part.
-use borrow.Author.Rules.{rules}
 use Rattle.gossip_table.proofs.StoreParts.{want_fits, want_by}
 use Rattle.gossip_table.proofs.stored.want.Goals as goal
 

@@ -1,6 +1,5 @@
 -- `gossip_table::tests::is_gossip`: the four tests in the order of the definition.
 use Rattle.index.proofs.Flags.{yes, no}
-use Rattle.index.proofs.Kit.{rules}
 use Rattle.gossip_table.proofs.StoreParts.{stores_size}
 use Rattle.gossip_table.proofs.TestLaws.{stores_judged, gossip_broken1, gossip_broken2, gossip_broken3, gossip_judged}
 use Rattle.gossip_table.proofs.tests.is_gossip.Goals as goal

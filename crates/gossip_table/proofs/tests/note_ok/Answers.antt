@@ -1,5 +1,4 @@
 -- `gossip_table::tests::note_ok`: a slot of which nothing is held passes, another is judged by its status.
-use Rattle.index.proofs.Kit.{rules}
 use Rattle.gossip_table.proofs.NoteParts.{notes_size}
 use Rattle.gossip_table.proofs.TestLaws.{still_passes, judged_passes}
 use Rattle.gossip_table.proofs.tests.note_ok.Goals as goal

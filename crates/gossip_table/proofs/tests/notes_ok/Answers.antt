@@ -1,11 +1,7 @@
 use Rattle.index.proofs.Flags.{yes, no}
-use Rattle.index.proofs.Kit.{◌≤◌, ◌-◌, ◌≡◌, sym, arith, rules, every, true}
+use Rattle.index.proofs.Kit.{sym, arith}
 use Rattle.index.proofs.Index.{every_none, every_more, every_out, every_done}
-use Rattle.records.specs.Records.{slot_count, peer_in}
-use Rattle.layout.specs.View.{state_of}
-use Rattle.gossip.specs.Notes.{note_in}
-use Rattle.gossip.specs.Valid.{note_ok}
-use Rattle.gossip_table.specs.View.{gossip_of}
+use Rattle.records.specs.Records.{slot_count}
 use Rattle.gossip_table.proofs.NoteParts.{notes_size}
 use Rattle.gossip_table.proofs.TestLaws.{quiet_passes}
 use Rattle.gossip_table.proofs.tests.notes_ok.Goals as goal

@@ -1,14 +1,10 @@
 -- `gossip_table::tests::notes_ok`: where nothing is held all pass; else the loop asks slot by slot.
-use Rattle.index.proofs.Kit.{◌≤◌, ◌-◌, ◌≡◌, sym, arith, rules, every, true}
-use Rattle.index.proofs.Index.{every_none, every_more, every_out, every_done}
-use Rattle.index.proofs.Flags.{failed, passed}
+use Rattle.index.proofs.Kit.{◌≤◌, ◌-◌, ◌≡◌, every, true}
 use Rattle.records.specs.Records.{slot_count, peer_in}
 use Rattle.layout.specs.View.{state_of}
 use Rattle.gossip.specs.Notes.{note_in}
 use Rattle.gossip.specs.Valid.{note_ok}
 use Rattle.gossip_table.specs.View.{gossip_of}
-use Rattle.gossip_table.proofs.NoteParts.{notes_size}
-use Rattle.gossip_table.proofs.TestLaws.{quiet_passes}
 use Rattle.gossip_table.proofs.tests.notes_ok.Given as goal
 
 abbrev pub invariant-loop-slot : goal.invariant-loop-slot

@@ -1,6 +1,6 @@
 -- `gossip_table::tests::replies_ok`: the rows, and then whether their numbers are stored.
 use Rattle.index.proofs.Flags.{yes, no}
-use Rattle.index.proofs.Kit.{arith, rules}
+use Rattle.index.proofs.Kit.{arith}
 use Rattle.gossip_table.proofs.StoreParts.{replies_size}
 use Rattle.gossip_table.proofs.TestLaws.{connected_is, rows_broken, rows_judged, rows_few}
 use Rattle.gossip_table.proofs.tests.replies_ok.Goals as goal

@@ -1,8 +1,6 @@
 use Rattle.index.proofs.Flags.{yes, no}
-use Rattle.index.proofs.Kit.{◌≤◌, ◌-◌, ◌≡◌, sym, arith, rules, every, true}
+use Rattle.index.proofs.Kit.{sym, arith}
 use Rattle.index.proofs.Index.{every_none, every_more, every_out, every_done}
-use Rattle.gossip_table.specs.View.{gossip_of}
-use Rattle.gossip_table.specs.Fine.{is_kept}
 use Rattle.gossip_table.proofs.StoreParts.{replies_size, replies_count}
 use Rattle.gossip_table.proofs.tests.rows_stored.Goals as goal
 

@@ -1,10 +1,7 @@
 -- `gossip_table::tests::rows_stored`: the loop asks row by row.
-use Rattle.index.proofs.Kit.{◌≤◌, ◌-◌, ◌≡◌, sym, arith, rules, every, true}
-use Rattle.index.proofs.Index.{every_none, every_more, every_out, every_done}
-use Rattle.index.proofs.Flags.{failed, passed}
+use Rattle.index.proofs.Kit.{◌≤◌, ◌-◌, ◌≡◌, every, true}
 use Rattle.gossip_table.specs.View.{gossip_of}
 use Rattle.gossip_table.specs.Fine.{is_kept}
-use Rattle.gossip_table.proofs.StoreParts.{replies_size, replies_count}
 use Rattle.gossip_table.proofs.tests.rows_stored.Given as goal
 
 abbrev pub invariant-loop-row : goal.invariant-loop-row

@@ -1,12 +1,7 @@
 use Rattle.index.proofs.Flags.{yes, no}
-use Rattle.index.proofs.Kit.{◌≤◌, ◌-◌, ◌≡◌, sym, arith, rules, every, true}
+use Rattle.index.proofs.Kit.{sym, arith}
 use Rattle.index.proofs.Index.{every_none, every_more, every_out, every_done}
 use Rattle.records.specs.Records.{topic_count}
-use Rattle.layout.specs.View.{state_of}
-use Rattle.effects.specs.Effects.{is_joined}
-use Rattle.gossip.specs.Notes.{store_in}
-use Rattle.gossip.specs.Valid.{store_ok}
-use Rattle.gossip_table.specs.View.{gossip_of}
 use Rattle.gossip_table.proofs.StoreParts.{stores_size}
 use Rattle.gossip_table.proofs.TestLaws.{quiet_stores, store_judged}
 use Rattle.gossip_table.proofs.tests.stores_ok.Goals as goal
