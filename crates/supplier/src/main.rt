@@ -268,7 +268,12 @@ fn count_rest(input: &mut impl Read, page: &mut [u8]) -> io::Result<usize>
 }
 
 // What the front of the input comes to, and what may follow it.
-fn reply(rest_of: &mut impl Read, buf: &mut [u8], page: &mut [u8], input: &[u8]) -> io::Result<usize>
+fn reply(
+    rest_of: &mut impl Read,
+    buf: &mut [u8],
+    page: &mut [u8],
+    input: &[u8],
+) -> io::Result<usize>
     requires { (4096 ≤ length buf.old) × (supplier_bytes ≤ length page.old) × (length input.now ≤ 65536) }
     ensures { IfOk result (λ n. n ≤ 4096) }
 {

@@ -10,9 +10,9 @@ returns-in-105 c = let e = c.put_import.ensures in
 
 pub returns-in-101 : goal.returns-in-101
 returns-in-101 c = let e = c.put_export.ensures in (
-      stored_same _ _ _ _ _ _ (sym (mode_export _ _ c.in-101.is)) e.0,
-      e.1,
-    )
+  stored_same _ _ _ _ _ _ (sym (mode_export _ _ c.in-101.is)) e.0,
+  e.1,
+)
 
 pub returns-in-73 : goal.returns-in-73
 returns-in-73 c = let e = c.write_import.ensures in

@@ -1,5 +1,4 @@
 -- `supplier::digit` meets its contract. Assumes nothing.
-use borrow.Author.Rules.{rules}
 use borrow.Author.Tests.{lt-ltb, le-ltb}
 use Rattle.supplier.proofs.digit.Goals as goal
 

@@ -1,5 +1,4 @@
 -- `supplier::put_done` meets its contract. Assumes nothing.
-use borrow.Author.Rules.{rules}
 use Rattle.supplier.proofs.TextLaws.{done_stored}
 use Rattle.supplier.proofs.put_done.Goals as goal
 

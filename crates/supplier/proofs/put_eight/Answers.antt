@@ -1,8 +1,6 @@
-use Rattle.index.proofs.Kit.{◌+◌, ◌-◌, ◌*◌, ◌≤◌, ◌≡◌, refl, ◌∙◌, arith}
+use Rattle.index.proofs.Kit.{◌+◌, refl, ◌∙◌, arith}
 use mathlib.Core.List.{[], ◌∷◌}
-use lib.ListN.{length, get_or, take, drop}
-use Rattle.text.specs.Text.{Stored}
-use Rattle.supplier.specs.Output.{hex_text}
+use lib.ListN.{get_or}
 use Rattle.supplier.proofs.TextLaws.{hex_length, eight_none, eight_more, eight_all}
 use Rattle.supplier.proofs.put_eight.Goals as goal
 

@@ -1,10 +1,8 @@
 -- `supplier::put_eight` meets its contract. The loop keeps the digits of the first k bytes stored, two for each. Assumes nothing.
-use Rattle.index.proofs.Kit.{◌+◌, ◌-◌, ◌*◌, ◌≤◌, ◌≡◌, refl, ◌∙◌, arith}
-use mathlib.Core.List.{[], ◌∷◌}
-use lib.ListN.{length, get_or, take, drop}
+use Rattle.index.proofs.Kit.{◌+◌, ◌-◌, ◌*◌, ◌≤◌, ◌≡◌}
+use lib.ListN.{length, take, drop}
 use Rattle.text.specs.Text.{Stored}
 use Rattle.supplier.specs.Output.{hex_text}
-use Rattle.supplier.proofs.TextLaws.{hex_length, eight_none, eight_more, eight_all}
 use Rattle.supplier.proofs.put_eight.Given as goal
 
 abbrev pub invariant-loop-k : goal.invariant-loop-k

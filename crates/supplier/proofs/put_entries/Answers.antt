@@ -1,7 +1,4 @@
-use Rattle.index.proofs.Kit.{◌+◌, ◌-◌, ◌*◌, ◌≤◌, ◌≡◌, refl, ◌∙◌, arith, gather}
-use lib.ListN.{length}
-use Rattle.records.specs.Records.{param_count}
-use Rattle.text.specs.Text.{Stored}
+use Rattle.index.proofs.Kit.{refl, ◌∙◌, arith}
 use Rattle.param_text.proofs.LineLaws.{lines_none, lines_more}
 use Rattle.supplier.specs.Output.{entry_text_at}
 use Rattle.supplier.proofs.TextLaws.{entries_all}

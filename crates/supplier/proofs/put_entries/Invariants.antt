@@ -1,13 +1,11 @@
 -- `supplier::put_entries` meets its contract.
 -- The loop keeps the lines of the first i entries stored, none longer than 21 bytes.
 -- Assumes nothing.
-use Rattle.index.proofs.Kit.{◌+◌, ◌-◌, ◌*◌, ◌≤◌, ◌≡◌, refl, ◌∙◌, arith, gather}
+use Rattle.index.proofs.Kit.{◌+◌, ◌-◌, ◌*◌, ◌≤◌, ◌≡◌, gather}
 use lib.ListN.{length}
 use Rattle.records.specs.Records.{param_count}
 use Rattle.text.specs.Text.{Stored}
-use Rattle.param_text.proofs.LineLaws.{lines_none, lines_more}
 use Rattle.supplier.specs.Output.{entry_text_at}
-use Rattle.supplier.proofs.TextLaws.{entries_all}
 use Rattle.supplier.proofs.put_entries.Given as goal
 
 abbrev pub invariant-loop-i : goal.invariant-loop-i

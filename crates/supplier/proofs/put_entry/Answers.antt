@@ -1,7 +1,7 @@
 -- `supplier::put_entry` meets its contract.
 -- The kind has one to three digits, so the space, the sixteen digits and the end of the line have room.
 -- Assumes nothing.
-use Rattle.index.proofs.Kit.{arith, rules}
+use Rattle.index.proofs.Kit.{arith}
 use Rattle.supplier.proofs.TextLaws.{kind_length, entry_stored}
 use Rattle.supplier.proofs.put_entry.Goals as goal
 
@@ -10,28 +10,28 @@ put_decimal-space-requires c = omega (arith, kind_length c.wide-kind.result c.wi
 
 pub put_byte-first-requires : goal.put_byte-first-requires
 put_byte-first-requires c = omega (
-      arith,
-      kind_length c.wide-kind.result
-          c.wide-kind.ensures.1,
-    )
+  arith,
+  kind_length c.wide-kind.result
+      c.wide-kind.ensures.1,
+)
 
 pub put_eight-end-requires : goal.put_eight-end-requires
 put_eight-end-requires c = (
-      omega (
-        arith,
-        kind_length c.wide-kind.result
-            c.wide-kind.ensures.1,
-      ),
-      omega arith,
-    )
+  omega (
+    arith,
+    kind_length c.wide-kind.result
+        c.wide-kind.ensures.1,
+  ),
+  omega arith,
+)
 
 pub put_byte-requires : goal.put_byte-requires
 put_byte-requires c = omega (
-      arith,
-      kind_length
-          c.wide-kind.result
-          c.wide-kind.ensures.1,
-    )
+  arith,
+  kind_length
+      c.wide-kind.result
+      c.wide-kind.ensures.1,
+)
 
 pub returns : goal.returns
 returns c =

@@ -1,26 +1,26 @@
 -- `supplier::put_export` meets its contract. Assumes nothing.
-use Rattle.index.proofs.Kit.{arith, rules}
+use Rattle.index.proofs.Kit.{arith}
 use Rattle.supplier.proofs.OutputLaws.{export_as}
 use Rattle.supplier.proofs.put_export.Goals as goal
 
 pub returns-in-Accepted : goal.returns-in-Accepted
 returns-in-Accepted c = (
-      export_as _ _ _ c.read-reading.ensures
-          c.in-Accepted.is _ _ _
-          c.put_exported.ensures.0,
-      c.put_exported.ensures.1,
-    )
+  export_as _ _ _ c.read-reading.ensures
+      c.in-Accepted.is _ _ _
+      c.put_exported.ensures.0,
+  c.put_exported.ensures.1,
+)
 
 pub returns-in-Malformed : goal.returns-in-Malformed
 returns-in-Malformed c = (
-      export_as _ _ _ c.read-reading.ensures
-          c.in-Malformed.is _ _ _ c.put_head.ensures.0,
-      omega arith,
-    )
+  export_as _ _ _ c.read-reading.ensures
+      c.in-Malformed.is _ _ _ c.put_head.ensures.0,
+  omega arith,
+)
 
 pub returns-in-Broken : goal.returns-in-Broken
 returns-in-Broken c = (
-      export_as _ _ _ c.read-reading.ensures
-          c.in-Broken.is _ _ _ c.put_head-in-Broken.ensures.0,
-      omega arith,
-    )
+  export_as _ _ _ c.read-reading.ensures
+      c.in-Broken.is _ _ _ c.put_head-in-Broken.ensures.0,
+  omega arith,
+)

@@ -1,7 +1,7 @@
 -- `supplier::put_exported` meets its contract.
 -- An export that is done has written all its bytes into the page, so that the lines are those of the page's front.
 -- Assumes nothing.
-use Rattle.index.proofs.Kit.{sym, ◌∙◌, arith, rules}
+use Rattle.index.proofs.Kit.{sym, ◌∙◌, arith}
 use lib.Seq.{length-take-le}
 use Rattle.supplier.proofs.OutputLaws.{done_length, exported_done, exported_outside, exported_short}
 use Rattle.supplier.proofs.put_exported.Goals as goal
@@ -46,17 +46,16 @@ pub shape_of-page-in-Done : goal.shape_of-page-in-Done
 shape_of-page-in-Done c = c.export.auto.buf
 
 pub returns-in-Done : goal.returns-in-Done
-returns-in-Done c =
-    (
-      exported_done c.args.all.numbers c.args.page.now _ _ c.requires.1
-          c.export.ensures _ c.in-Done.is _ _ _ _ _
-          c.put_done-at.ensures.0 c.put_entries.ensures.0,
-      omega (
-        arith,
-        c.put_done-at.ensures.1,
-        c.put_entries.ensures.1,
-      ),
-    )
+returns-in-Done c = (
+  exported_done c.args.all.numbers c.args.page.now _ _ c.requires.1
+      c.export.ensures _ c.in-Done.is _ _ _ _ _
+      c.put_done-at.ensures.0 c.put_entries.ensures.0,
+  omega (
+    arith,
+    c.put_done-at.ensures.1,
+    c.put_entries.ensures.1,
+  ),
+)
 
 pub shape_of-buf-in-Outside : goal.shape_of-buf-in-Outside
 shape_of-buf-in-Outside c = c.put_head.auto.buf
@@ -66,14 +65,14 @@ shape_of-page-in-Outside c = c.export.auto.buf
 
 pub returns-in-Outside : goal.returns-in-Outside
 returns-in-Outside c = (
-      exported_outside
-          c.args.all.numbers
-          c.args.page.now _ _
-          c.requires.1
-          c.export.ensures _ _ _ _
-          c.in-Outside.is c.put_head.ensures.0,
-      omega arith,
-    )
+  exported_outside
+      c.args.all.numbers
+      c.args.page.now _ _
+      c.requires.1
+      c.export.ensures _ _ _ _
+      c.in-Outside.is c.put_head.ensures.0,
+  omega arith,
+)
 
 pub shape_of-page-in-Short : goal.shape_of-page-in-Short
 shape_of-page-in-Short c = c.export.auto.buf

@@ -1,25 +1,25 @@
 -- `supplier::write_export` meets its contract. Assumes nothing.
-use Rattle.index.proofs.Kit.{arith, rules}
+use Rattle.index.proofs.Kit.{arith}
 use Rattle.supplier.proofs.OutputLaws.{export_bytes_as, nothing_stored}
 use Rattle.supplier.proofs.write_export.Goals as goal
 
 pub returns-in-Accepted : goal.returns-in-Accepted
 returns-in-Accepted c = (
-      export_bytes_as _ _ _ c.read-reading.ensures
-          c.in-Accepted.is _ _ _ c.write_theirs.ensures.0,
-      c.write_theirs.ensures.1,
-    )
+  export_bytes_as _ _ _ c.read-reading.ensures
+      c.in-Accepted.is _ _ _ c.write_theirs.ensures.0,
+  c.write_theirs.ensures.1,
+)
 
 pub returns-in-Malformed : goal.returns-in-Malformed
 returns-in-Malformed c = (
-      export_bytes_as _ _ _ c.read-reading.ensures c.in-Malformed.is _ _ _
-          (nothing_stored _),
-      omega arith,
-    )
+  export_bytes_as _ _ _ c.read-reading.ensures c.in-Malformed.is _ _ _
+      (nothing_stored _),
+  omega arith,
+)
 
 pub returns-in-Broken : goal.returns-in-Broken
 returns-in-Broken c = (
-      export_bytes_as _ _ _ c.read-reading.ensures c.in-Broken.is _ _ _
-          (nothing_stored _),
-      omega arith,
-    )
+  export_bytes_as _ _ _ c.read-reading.ensures c.in-Broken.is _ _ _
+      (nothing_stored _),
+  omega arith,
+)

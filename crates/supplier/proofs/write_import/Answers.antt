@@ -1,25 +1,25 @@
 -- `supplier::write_import` meets its contract. Assumes nothing.
-use Rattle.index.proofs.Kit.{arith, rules}
+use Rattle.index.proofs.Kit.{arith}
 use Rattle.supplier.proofs.OutputLaws.{import_bytes_as, nothing_stored}
 use Rattle.supplier.proofs.write_import.Goals as goal
 
 pub returns-in-Accepted : goal.returns-in-Accepted
 returns-in-Accepted c = (
-      import_bytes_as _ _ _ c.import-reading.ensures
-          c.in-Accepted.is _ _ _ c.write_own.ensures.0,
-      c.write_own.ensures.1,
-    )
+  import_bytes_as _ _ _ c.import-reading.ensures
+      c.in-Accepted.is _ _ _ c.write_own.ensures.0,
+  c.write_own.ensures.1,
+)
 
 pub returns-in-Malformed : goal.returns-in-Malformed
 returns-in-Malformed c = (
-      import_bytes_as _ _ _ c.import-reading.ensures c.in-Malformed.is _ _ _
-          (nothing_stored _),
-      omega arith,
-    )
+  import_bytes_as _ _ _ c.import-reading.ensures c.in-Malformed.is _ _ _
+      (nothing_stored _),
+  omega arith,
+)
 
 pub returns-in-Broken : goal.returns-in-Broken
 returns-in-Broken c = (
-      import_bytes_as _ _ _ c.import-reading.ensures c.in-Broken.is _ _ _
-          (nothing_stored _),
-      omega arith,
-    )
+  import_bytes_as _ _ _ c.import-reading.ensures c.in-Broken.is _ _ _
+      (nothing_stored _),
+  omega arith,
+)

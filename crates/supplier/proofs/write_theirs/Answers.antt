@@ -1,5 +1,4 @@
 -- `supplier::write_theirs` meets its contract. Assumes nothing.
-use borrow.Author.Rules.{rules}
 use Rattle.supplier.proofs.OutputLaws.{theirs_stored}
 use Rattle.supplier.proofs.write_theirs.Goals as goal
 

@@ -1,5 +1,5 @@
--- `text::put_signed` meets its contract: the sign decides which of two texts it is (`below`, `above`); each is stored by the calls made.
--- Assumes nothing.
+-- `text::put_signed` meets its contract: the sign decides which of two texts it is (`text_neg`, `text_pos`); each is stored by the calls
+-- made. Assumes nothing.
 use Rattle.index.proofs.Kit.{arith, ap, ◌∙◌}
 use lib.ListN.{length, length-set}
 use Rattle.text.proofs.TextLaws.{text_neg, text_pos, stored_first, stored_same}
