@@ -2,7 +2,7 @@
 use Rattle.std.specs.Prelude.{ℕ, ◌≡◌, Bool, cond, List}
 use Rattle.answers.specs.Answers.{packed}
 use Rattle.rpc.specs.Reading.{Reading, known, read_of, answer_number, answer_value}
-use Rattle.rpc_write.specs.Writing.{Lent}
+use Rattle.rpc_write.specs.Writing.{Lent, Shown}
 
 -- "Topic names .. or 2"
 abbrev pub names_number : Bool → ℕ
@@ -13,7 +13,7 @@ pub record HostsMessage (w : Reading) (r : ℕ) (list' : List ℕ) : Type 0 wher
   pub answer : r ≡ packed (answer_number w.answer) (answer_value w.answer)
   pub entries : list' ≡ w.list
 
-abbrev pub HostsReadMessage : Lent → Lent → Lent → Lent → Lent → ℕ → Lent → Type 0
+abbrev pub HostsReadMessage : Shown → Shown → Shown → Shown → Shown → ℕ → Lent → Type 0
 HostsReadMessage names ids numbers order message r entries =
     HostsMessage
     (read_of (known names.entry.now ids.entry.now numbers.entry.now) order.entry.now message.entry.now

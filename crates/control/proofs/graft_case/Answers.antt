@@ -1,6 +1,5 @@
 -- `control::graft_case`: at each return the tests before it failed.
 -- Assumes nothing.
-use borrow.Author.Rules.{rules}
 use Rattle.rules.specs.Step.{graft_case}
 use Rattle.rules.proofs.FirstLaws.{first_holds}
 use Rattle.control.proofs.graft_case.Goals as goal

@@ -1,6 +1,5 @@
 -- `control::graft_reply`: each arm of the match is a case of the rules, and gives what the rules do then.
 -- Assumes nothing.
-use borrow.Author.Rules.{rules}
 use Rattle.rules.specs.declared.GraftCase.TheVariants.{NotJoined, Graylisted, AlreadyMember, Explicit, InBackoff, Negative, NotSubscribed}
 use Rattle.rules.specs.declared.GraftCase.TheVariants.{Full, Enters}
 use Rattle.rules.proofs.EndLaws.{gives_ignored, gives_still, gives_done}

@@ -1,6 +1,5 @@
 -- `control::is_crowded`: D_hi and the size of the mesh, as they were read.
 -- Assumes nothing.
-use borrow.Author.Rules.{rules}
 use Rattle.rules.specs.Step.{is_crowded}
 use Rattle.control.proofs.is_crowded.Goals as goal
 

@@ -1,6 +1,5 @@
 -- `control::prune_reply`: heard by what was seen, out of the mesh until the end that was computed; else 11.
 -- Assumes nothing.
-use borrow.Author.Rules.{rules}
 use Rattle.rules.specs.Step.{prune_reply}
 use Rattle.rules.proofs.StepLaws.{leaves_then, leaves_else}
 use Rattle.rules.proofs.EndLaws.{leaves_ignored, leaves_done}

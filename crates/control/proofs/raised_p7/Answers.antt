@@ -1,6 +1,5 @@
 -- `control::raised_p7`: the record with the counter that `raised` gives.
 -- Assumes nothing.
-use borrow.Author.Rules.{rules}
 use Rattle.rules.specs.Step.{raised_p7}
 use Rattle.control.proofs.raised_p7.Goals as goal
 

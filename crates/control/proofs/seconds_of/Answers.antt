@@ -1,6 +1,5 @@
 -- `control::seconds_of`: by the three cases of the seconds.
 -- Assumes nothing.
-use borrow.Author.Rules.{rules}
 use Rattle.control.proofs.PruneLaws.{seconds_none, seconds_given, seconds_many}
 use Rattle.control.proofs.seconds_of.Goals as goal
 

@@ -1,7 +1,4 @@
-use Rattle.index.proofs.Kit.{◌≤◌, ◌-◌, arith}
-use borrow.Author.Rules.{rules}
-use Rattle.layout.specs.View.{state_of}
-use Rattle.deliveries.specs.Decays.{IdleBelow}
+use Rattle.index.proofs.Kit.{arith}
 use Rattle.deliveries.proofs.DecayLaws.{idle_more}
 use Rattle.deliveries.proofs.busy.Goals as goal
 

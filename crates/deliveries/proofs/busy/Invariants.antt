@@ -1,10 +1,8 @@
 -- `deliveries::busy`: after `topic` turns the topics below it are asked.
 -- Assumes nothing.
-use Rattle.index.proofs.Kit.{◌≤◌, ◌-◌, arith}
-use borrow.Author.Rules.{rules}
+use Rattle.index.proofs.Kit.{◌≤◌, ◌-◌}
 use Rattle.layout.specs.View.{state_of}
 use Rattle.deliveries.specs.Decays.{IdleBelow}
-use Rattle.deliveries.proofs.DecayLaws.{idle_more}
 use Rattle.deliveries.proofs.busy.Given as goal
 
 abbrev pub invariant-loop-topic : goal.invariant-loop-topic

@@ -1,8 +1,7 @@
 use Rattle.records.specs.Records.{slot_count}
-use Rattle.index.proofs.Kit.{◌≤◌, ◌-◌, ◌≡◌, sym, ◌∙◌, arith, iter}
+use Rattle.index.proofs.Kit.{sym, ◌∙◌, arith}
 use Rattle.index.proofs.Index.{iter_none, iter_more, iter_done}
-use lib.ListN.{length}
-use Rattle.layout.specs.View.{cell_count, state_of}
+use Rattle.layout.specs.View.{state_of}
 use Rattle.rules.specs.Step.{decay_slot}
 use Rattle.deliveries.proofs.DecayLaws.{decays_of, at_slot, decay_done}
 use Rattle.deliveries.proofs.decay_from.Goals as goal

@@ -1,12 +1,10 @@
 -- `deliveries::decay_from`: after `slot` turns the slots below it are decayed.
 -- Assumes nothing.
 use Rattle.records.specs.Records.{slot_count}
-use Rattle.index.proofs.Kit.{◌≤◌, ◌-◌, ◌≡◌, sym, ◌∙◌, arith, iter}
-use Rattle.index.proofs.Index.{iter_none, iter_more, iter_done}
+use Rattle.index.proofs.Kit.{◌≤◌, ◌-◌, ◌≡◌, iter}
 use lib.ListN.{length}
 use Rattle.layout.specs.View.{cell_count, state_of}
 use Rattle.rules.specs.Step.{decay_slot}
-use Rattle.deliveries.proofs.DecayLaws.{decays_of, at_slot, decay_done}
 use Rattle.deliveries.proofs.decay_from.Given as goal
 
 abbrev pub invariant-loop-slot : goal.invariant-loop-slot

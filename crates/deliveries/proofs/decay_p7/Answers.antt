@@ -1,6 +1,5 @@
 -- `deliveries::decay_p7`: a counter of 0 stays; else the record with the counter that `faded` gives.
 -- Assumes nothing.
-use borrow.Author.Rules.{rules}
 use Rattle.deliveries.proofs.DecayLaws.{p7_idle, p7_ready, p7_decayed, p7_fits}
 use Rattle.deliveries.proofs.decay_p7.Goals as goal
 

@@ -2,7 +2,6 @@
 -- Assumes nothing.
 use mathlib.Core.Path.{◌∙◌}
 use native.Mathlib.Omega.{arith}
-use borrow.Author.Rules.{rules}
 use borrow.Author.Tests.{eq-eqb, ne_eqb}
 use Rattle.deliveries.proofs.DecayLaws.{at_topic, slot_connected, slot_other}
 use Rattle.deliveries.proofs.decay_slot.Goals as goal

@@ -1,7 +1,6 @@
 -- `deliveries::decay_topic`: the record that is loaded is faded and stored.
 -- Assumes nothing.
 use native.Mathlib.Omega.{arith}
-use borrow.Author.Rules.{rules}
 use Rattle.deliveries.proofs.DecayLaws.{topic_ready, topic_decayed, decayed_fits}
 use Rattle.deliveries.proofs.decay_topic.Goals as goal
 

@@ -1,7 +1,6 @@
-use Rattle.index.proofs.Kit.{◌+◌, ◌≤◌, ◌-◌, ◌≡◌, sym, ◌∙◌, arith, iter}
+use Rattle.index.proofs.Kit.{◌+◌, sym, ◌∙◌, arith}
 use Rattle.index.proofs.Index.{iter_none, iter_more, iter_done}
-use lib.ListN.{length}
-use Rattle.layout.specs.View.{cell_count, state_of}
+use Rattle.layout.specs.View.{state_of}
 use Rattle.rules.specs.Step.{decay_topic}
 use Rattle.deliveries.proofs.DecayLaws.{at_topic, idle_on}
 use Rattle.deliveries.proofs.decay_topics.Goals as goal

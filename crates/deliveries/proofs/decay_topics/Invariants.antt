@@ -1,11 +1,9 @@
 -- `deliveries::decay_topics`: before the turn of a topic those below it are decayed; a topic that has no turn is idle.
 -- Assumes nothing.
-use Rattle.index.proofs.Kit.{◌+◌, ◌≤◌, ◌-◌, ◌≡◌, sym, ◌∙◌, arith, iter}
-use Rattle.index.proofs.Index.{iter_none, iter_more, iter_done}
+use Rattle.index.proofs.Kit.{◌≤◌, ◌-◌, ◌≡◌, iter}
 use lib.ListN.{length}
 use Rattle.layout.specs.View.{cell_count, state_of}
 use Rattle.rules.specs.Step.{decay_topic}
-use Rattle.deliveries.proofs.DecayLaws.{at_topic, idle_on}
 use Rattle.deliveries.proofs.decay_topics.Given as goal
 
 abbrev pub invariant-loop-topic : goal.invariant-loop-topic

@@ -2,7 +2,6 @@
 -- Assumes nothing.
 use mathlib.Core.Path.{ap, ◌∙◌}
 use native.Mathlib.Omega.{arith}
-use borrow.Author.Rules.{rules}
 use Rattle.rules.specs.declared.Seen.{Seen}
 use Rattle.rules.specs.Step.{deliver_reply}
 use Rattle.rules.proofs.StepLaws.{leaves_then, leaves_else}

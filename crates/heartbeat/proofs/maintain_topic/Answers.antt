@@ -30,25 +30,25 @@ members-members-requires c = let p = c.requires in
 
 pub load_magnitude-seconds-requires : goal.load_magnitude-seconds-requires
 load_magnitude-seconds-requires c = record {
-      size = c.requires.ready.standing.size;
-      param = omega arith;
-    }
+  size = c.requires.ready.standing.size;
+  param = omega arith;
+}
 
 pub tell_all-n-requires : goal.tell_all-n-requires
 tell_all-n-requires c =
     let computed :
-        Computed
-        (state_of c.args.table.now)
-        c.args.time
-        c.args.topic
-        c.args.ask
-        c.args.order.now
-        (bits_of c.members-members.result)
-        (meshes_of c.stages-m.result)
-        (changes_in c.changes.result)
-        (ids_in (state_of c.args.table.now))
-        (told_by (state_of c.args.table.now) c.load_magnitude-seconds.result)
-        c.load_magnitude-seconds.result =
+    Computed
+    (state_of c.args.table.now)
+    c.args.time
+    c.args.topic
+    c.args.ask
+    c.args.order.now
+    (bits_of c.members-members.result)
+    (meshes_of c.stages-m.result)
+    (changes_in c.changes.result)
+    (ids_in (state_of c.args.table.now))
+    (told_by (state_of c.args.table.now) c.load_magnitude-seconds.result)
+    c.load_magnitude-seconds.result =
     record {
       was = c.members-members.ensures;
       steps = c.stages-m.ensures.0;
@@ -72,18 +72,18 @@ end_after-end-requires c =
 pub settle-requires : goal.settle-requires
 settle-requires c =
     let computed :
-        Computed
-        (state_of c.args.table.now)
-        c.args.time
-        c.args.topic
-        c.args.ask
-        c.args.order.now
-        (bits_of c.members-members.result)
-        (meshes_of c.stages-m.result)
-        (changes_in c.changes.result)
-        (ids_in (state_of c.args.table.now))
-        (told_by (state_of c.args.table.now) c.load_magnitude-seconds.result)
-        c.load_magnitude-seconds.result =
+    Computed
+    (state_of c.args.table.now)
+    c.args.time
+    c.args.topic
+    c.args.ask
+    c.args.order.now
+    (bits_of c.members-members.result)
+    (meshes_of c.stages-m.result)
+    (changes_in c.changes.result)
+    (ids_in (state_of c.args.table.now))
+    (told_by (state_of c.args.table.now) c.load_magnitude-seconds.result)
+    c.load_magnitude-seconds.result =
     record {
       was = c.members-members.ensures;
       steps = c.stages-m.ensures.0;
@@ -110,18 +110,18 @@ shape_of-actions c = c.tell_all-n.auto.actions
 pub returns : goal.returns
 returns c =
     let computed :
-        Computed
-        (state_of c.args.table.now)
-        c.args.time
-        c.args.topic
-        c.args.ask
-        c.args.order.now
-        (bits_of c.members-members.result)
-        (meshes_of c.stages-m.result)
-        (changes_in c.changes.result)
-        (ids_in (state_of c.args.table.now))
-        (told_by (state_of c.args.table.now) c.load_magnitude-seconds.result)
-        c.load_magnitude-seconds.result =
+    Computed
+    (state_of c.args.table.now)
+    c.args.time
+    c.args.topic
+    c.args.ask
+    c.args.order.now
+    (bits_of c.members-members.result)
+    (meshes_of c.stages-m.result)
+    (changes_in c.changes.result)
+    (ids_in (state_of c.args.table.now))
+    (told_by (state_of c.args.table.now) c.load_magnitude-seconds.result)
+    c.load_magnitude-seconds.result =
     record {
       was = c.members-members.ensures;
       steps = c.stages-m.ensures.0;

@@ -1,5 +1,4 @@
 -- `leaving::is_negative_member`: the score is taken of a member alone.
-use borrow.Author.Rules.{rules}
 use Rattle.index.proofs.Flags.{failed, passed}
 use Rattle.gate.proofs.StandingLaws.{negative_of_lem}
 use Rattle.leaving.proofs.LeaveLaws.{no_member, of_member}

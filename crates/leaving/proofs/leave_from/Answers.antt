@@ -1,6 +1,5 @@
 -- `leaving::leave_from`: 11 of a topic that is not joined, else the walk, the flag and the clock.
 use native.Mathlib.Omega.{arith}
-use borrow.Author.Rules.{rules}
 use Rattle.index.proofs.Flags.{failed, passed}
 use Rattle.rules.specs.Step.{leave_reply}
 use Rattle.rules.proofs.StepLaws.{gives_then, gives_else}

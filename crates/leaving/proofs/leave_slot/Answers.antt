@@ -1,6 +1,5 @@
 -- `leaving::leave_slot`: nothing at a slot that is no member, else its counter, its PRUNE and its action.
 use native.Mathlib.Omega.{arith}
-use borrow.Author.Rules.{rules}
 use Rattle.index.proofs.Flags.{failed, passed}
 use Rattle.leaving.proofs.LeaveLaws.{grown_id, turned_past, turned_out}
 use Rattle.leaving.proofs.leave_slot.Goals as goal

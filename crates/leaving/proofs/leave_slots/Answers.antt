@@ -1,7 +1,5 @@
-use Rattle.records.specs.Records.{slot_count}
-use Rattle.index.proofs.Kit.{◌≤◌, ◌-◌, refl, sym, ◌∙◌, arith}
-use Rattle.layout.specs.View.{state_of}
-use Rattle.leaving.proofs.LeaveLaws.{Walking, walking_length, walking_none, walking_ready, walking_more, walking_done}
+use Rattle.index.proofs.Kit.{refl, sym, ◌∙◌, arith}
+use Rattle.leaving.proofs.LeaveLaws.{walking_length, walking_none, walking_ready, walking_more, walking_done}
 use Rattle.leaving.proofs.leave_slots.Goals as goal
 
 pub loop-slot-init : goal.loop-slot-init
@@ -15,8 +13,7 @@ leave_slot-at-requires c =
 
 pub loop-slot-preserved : goal.loop-slot-preserved
 loop-slot-preserved c =
-    let l = c.loop-slot in
-    (
+    let l = c.loop-slot in (
       omega arith,
       walking_more c.args.table.now c.args.actions.now _ _ _ _ c.requires l.slot c.loop-slot-test.true l.table l.actions
           l.at l.invariant.1 _ _ _ _ refl c.leave_slot-at.auto.table c.leave_slot-at.ensures,

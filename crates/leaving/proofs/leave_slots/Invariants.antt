@@ -1,8 +1,8 @@
 -- `leaving::leave_slots`: before each turn the walk stands where the rules' walk does (`Walking`).
 use Rattle.records.specs.Records.{slot_count}
-use Rattle.index.proofs.Kit.{◌≤◌, ◌-◌, refl, sym, ◌∙◌, arith}
+use Rattle.index.proofs.Kit.{◌≤◌, ◌-◌}
 use Rattle.layout.specs.View.{state_of}
-use Rattle.leaving.proofs.LeaveLaws.{Walking, walking_length, walking_none, walking_ready, walking_more, walking_done}
+use Rattle.leaving.proofs.LeaveLaws.{Walking}
 use Rattle.leaving.proofs.leave_slots.Given as goal
 
 abbrev pub invariant-loop-slot : goal.invariant-loop-slot

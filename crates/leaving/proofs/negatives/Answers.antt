@@ -1,10 +1,7 @@
-use Rattle.records.specs.Records.{slot_count}
-use Rattle.index.proofs.Kit.{◌-◌, refl, arith, false}
-use Rattle.index.proofs.Lists.{Built, built_none, built_more}
-use Rattle.layout.specs.View.{state_of}
+use Rattle.index.proofs.Kit.{refl, arith}
+use Rattle.index.proofs.Lists.{built_none, built_more}
 use Rattle.peer_score.proofs.WeightLaws.{weighing_p2, weighing_p3b, weighing_p4}
 use Rattle.peer_score.proofs.BucketLaws.{tells_none}
-use Rattle.leaving.specs.Slots.{is_negative_member}
 use Rattle.leaving.proofs.negatives.Goals as goal
 
 pub count_groups-requires : goal.count_groups-requires

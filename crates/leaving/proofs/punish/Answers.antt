@@ -1,5 +1,4 @@
 -- `leaving::punish`: the counter grows where the flag says so.
-use native.Mathlib.Omega.{arith}
 use borrow.Author.Rules.{rules}
 use Rattle.leaving.proofs.LeaveLaws.{grown_then, grown_else, grown_fits}
 use Rattle.leaving.proofs.punish.Goals as goal

@@ -1,12 +1,10 @@
-use Prim.Native.Nat.{◌-◌, ◌≤◌, ◌<◌}
+use Prim.Native.Nat.{◌<◌}
 use native.Mathlib.Omega.{arith}
 use borrow.Author.Rules.{rules}
 use mathlib.Core.Path.{◌≡◌, refl, sym, ap, ◌∙◌}
-use mathlib.Core.Logic.{⊎_elim}
 use lib.ListN.{length}
-use Rattle.layout.specs.View.{state_of}
 use Rattle.words.specs.Words.{word_count, bits_of}
-use Rattle.heartbeat.proofs.GraftLaws.{Walk, walk_none, walk_out, walk_in, walk_full, walk_end, asked_room, grafting_on}
+use Rattle.heartbeat.proofs.GraftLaws.{walk_none, walk_out, walk_in, walk_full, walk_end, asked_room, grafting_on}
 use Rattle.heartbeat.proofs.grafts.graft.Goals.{then-is_grafted, else-is_grafted}
 use Rattle.heartbeat.proofs.grafts.graft.Goals as goal
 
@@ -47,9 +45,9 @@ overflow_sub-room c =
 
 pub overflow_step-i : goal.overflow_step-i
 overflow_step-i c = omega (
-      arith,
-      c.well_formed.1.1.1.1.1.1.1.1.1.1.1.1.0,
-    )
+  arith,
+  c.well_formed.1.1.1.1.1.1.1.1.1.1.1.1.0,
+)
 
 pub loop-i-preserved : goal.loop-i-preserved
 loop-i-preserved c =
@@ -58,7 +56,7 @@ loop-i-preserved c =
     let lt : l.i < length
     c.args.order.now = omega arith in
     elim c.if-is_grafted.branch [
-      then-is_grafted w ↦ (
+      | then-is_grafted w ↦ (
         omega arith,
         refl,
         l.invariant.2,

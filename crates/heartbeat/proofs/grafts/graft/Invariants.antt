@@ -1,13 +1,10 @@
 -- `heartbeat::grafts::graft`: before each turn the rest of the walk gives the whole, whatever set has the wanted.
-use Prim.Native.Nat.{◌-◌, ◌≤◌, ◌<◌}
-use native.Mathlib.Omega.{arith}
-use borrow.Author.Rules.{rules}
-use mathlib.Core.Path.{◌≡◌, refl, sym, ap, ◌∙◌}
-use mathlib.Core.Logic.{⊎_elim}
+use Prim.Native.Nat.{◌≤◌}
+use mathlib.Core.Path.{◌≡◌}
 use lib.ListN.{length}
 use Rattle.layout.specs.View.{state_of}
 use Rattle.words.specs.Words.{word_count, bits_of}
-use Rattle.heartbeat.proofs.GraftLaws.{Walk, walk_none, walk_out, walk_in, walk_full, walk_end, asked_room, grafting_on}
+use Rattle.heartbeat.proofs.GraftLaws.{Walk}
 use Rattle.heartbeat.proofs.grafts.graft.Given as goal
 
 abbrev pub invariant-loop-i : goal.invariant-loop-i

@@ -1,9 +1,6 @@
 -- `heartbeat::grafts::is_grafted`: a slot that is not to be asked leaves all as it was; the score of another is taken and tested.
 use native.Mathlib.Omega.{arith}
-use borrow.Author.Rules.{rules}
 use mathlib.Core.Path.{sym, ◌∙◌}
-use Prim.Native.Nat.{◌<◌}
-use Rattle.records.specs.Records.{slot_count}
 use Rattle.words.specs.Words.{bits_of}
 use Rattle.heartbeat.proofs.GraftLaws.{asked_not, taken_slot, asked_is}
 use Rattle.heartbeat.proofs.grafts.is_grafted.Goals as goal

@@ -1,12 +1,7 @@
-use Rattle.index.proofs.Kit.{◌≡◌, ◌-◌, ◌≤◌, ◌<◌, arith}
+use Rattle.index.proofs.Kit.{arith}
 use borrow.Author.Rules.{rules}
-use mathlib.Core.Bool.{false, true}
-use lib.ListN.{get_or}
-use Rattle.records.specs.Records.{slot_count}
-use Rattle.layout.specs.View.{state_of}
-use Rattle.words.specs.Words.{bits_of}
 use Rattle.peer_score.proofs.WeightLaws.{weighing_p2, weighing_p3b, weighing_p4}
-use Rattle.heartbeat.proofs.HeightLaws.{Walked, walked_none, walked_next, walked_more, walked_done}
+use Rattle.heartbeat.proofs.HeightLaws.{walked_none, walked_next, walked_more, walked_done}
 use Rattle.heartbeat.proofs.scores.score_slots.Goals as goal
 
 pub weights-w2-requires : goal.weights-w2-requires

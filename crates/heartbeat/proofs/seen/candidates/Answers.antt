@@ -1,11 +1,8 @@
-use Rattle.index.proofs.Kit.{◌≡◌, ◌-◌, ◌≤◌, ◌<◌, sym, ◌∙◌, arith}
+use Rattle.index.proofs.Kit.{◌≡◌, sym, ◌∙◌, arith}
 use borrow.Author.Rules.{rules}
-use mathlib.Core.Bool.{false, true}
-use lib.ListN.{length, get_or}
-use Rattle.records.specs.Records.{slot_count}
-use Rattle.layout.specs.View.{state_of}
-use Rattle.words.specs.Words.{word_count, bits_of}
-use Rattle.heartbeat.proofs.SeenLaws.{score_at, scores_length, flags_length, Sifted, sifted_none, sifted_next, sifted_more}
+use lib.ListN.{length}
+use Rattle.words.specs.Words.{word_count}
+use Rattle.heartbeat.proofs.SeenLaws.{score_at, scores_length, flags_length, sifted_none, sifted_next, sifted_more}
 use Rattle.heartbeat.proofs.SeenLaws.{sifted_done}
 use Rattle.heartbeat.proofs.seen.candidates.Goals as goal
 

@@ -1,13 +1,11 @@
 -- `heartbeat::seen::candidates`: before the turn of an eligible slot those below it are sifted.
-use Rattle.index.proofs.Kit.{◌≡◌, ◌-◌, ◌≤◌, ◌<◌, sym, ◌∙◌, arith}
-use borrow.Author.Rules.{rules}
+use Rattle.index.proofs.Kit.{◌≡◌, ◌-◌, ◌≤◌, ◌<◌}
 use mathlib.Core.Bool.{false, true}
-use lib.ListN.{length, get_or}
+use lib.ListN.{get_or}
 use Rattle.records.specs.Records.{slot_count}
 use Rattle.layout.specs.View.{state_of}
-use Rattle.words.specs.Words.{word_count, bits_of}
-use Rattle.heartbeat.proofs.SeenLaws.{score_at, scores_length, flags_length, Sifted, sifted_none, sifted_next, sifted_more}
-use Rattle.heartbeat.proofs.SeenLaws.{sifted_done}
+use Rattle.words.specs.Words.{bits_of}
+use Rattle.heartbeat.proofs.SeenLaws.{Sifted}
 use Rattle.heartbeat.proofs.seen.candidates.Given as goal
 
 abbrev pub invariant-loop-slot : goal.invariant-loop-slot

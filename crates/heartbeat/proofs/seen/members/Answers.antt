@@ -1,5 +1,5 @@
 -- `heartbeat::seen::members`: the words as they stand in the table.
-use Rattle.index.proofs.Kit.{ℕ, ap, rules}
+use Rattle.index.proofs.Kit.{ℕ, ap}
 use lib.Dec.{eqb}
 use Rattle.effects.specs.Effects.{is_member}
 use Rattle.heartbeat.proofs.SeenLaws.{words_are}

@@ -1,5 +1,5 @@
 -- `heartbeat::seen::outbound`: the words as they stand in the table.
-use Rattle.index.proofs.Kit.{ℕ, ap, rules}
+use Rattle.index.proofs.Kit.{ℕ, ap}
 use lib.Dec.{eqb}
 use Rattle.heartbeat.proofs.SeenLaws.{words_are}
 use Rattle.heartbeat.proofs.seen.outbound.Goals as goal

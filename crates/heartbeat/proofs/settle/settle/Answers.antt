@@ -1,12 +1,10 @@
 use borrow.Author.Rules.{rules}
 use lib.ListN.{length}
 use lib.Dec.{ltb}
-use Rattle.records.specs.Records.{slot_count}
-use Rattle.index.proofs.Kit.{ℕ, ◌≡◌, ◌-◌, sym, ap, ◌∙◌, arith}
-use Rattle.words.specs.Words.{word_count, bits_of}
+use Rattle.index.proofs.Kit.{ℕ, ◌≡◌, sym, ap, ◌∙◌, arith}
+use Rattle.words.specs.Words.{word_count}
 use Rattle.mesh.specs.Maintenance.{zero_score}
-use Rattle.heartbeat.specs.Settle.{Settle}
-use Rattle.heartbeat.proofs.SettleLaws.{Rest, rest_none, rest_later, rest_more, settling_ready, settling_more, settling_done}
+use Rattle.heartbeat.proofs.SettleLaws.{rest_none, rest_later, rest_more, settling_ready, settling_more, settling_done}
 use Rattle.heartbeat.proofs.settle.settle.Goals as goal
 
 pub loop-slot-init : goal.loop-slot-init

@@ -1,5 +1,4 @@
 -- `heartbeat::tell::tell_all`: the five runs, one after the other.
-use borrow.Author.Rules.{rules}
 use Rattle.index.proofs.Kit.{refl}
 use Rattle.records.specs.Records.{slot_count}
 use Rattle.sets.specs.Sets.{ascending}

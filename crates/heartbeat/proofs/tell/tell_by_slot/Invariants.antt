@@ -1,16 +1,12 @@
 -- `heartbeat::tell::tell_by_slot`: the walk has the actions on the slots that are left still to write (`Telling`).
-use native.Mathlib.Omega.{arith}
-use borrow.Author.Rules.{rules}
 use Prim.Native.Nat.{◌-◌}
-use mathlib.Core.Path.{◌≡◌}
-use lib.ListN.{length}
 use Rattle.records.specs.Records.{slot_count}
 use Rattle.layout.specs.View.{state_of}
-use Rattle.words.specs.Words.{word_count, bits_of}
+use Rattle.words.specs.Words.{bits_of}
 use Rattle.sets.specs.Sets.{ascending}
 use Rattle.mesh.specs.Maintenance.{actions_on}
 use Rattle.heartbeat.specs.Tell.{ids_in, told_by}
-use Rattle.heartbeat.proofs.TellLaws.{Telling, telling_none, telling_room, telling_next, telling_more, telling_done}
+use Rattle.heartbeat.proofs.TellLaws.{Telling}
 use Rattle.heartbeat.proofs.tell.tell_by_slot.Given as goal
 
 abbrev pub invariant-loop-slot : goal.invariant-loop-slot

@@ -1,5 +1,4 @@
 -- `heartbeat::tell::tell_in_order`: an empty set, or the walk.
-use borrow.Author.Rules.{rules}
 use mathlib.Core.Path.{sym, ◌∙◌}
 use Rattle.mesh.proofs.ActionLaws.{written_none}
 use Rattle.heartbeat.proofs.tell.tell_in_order.Goals as goal

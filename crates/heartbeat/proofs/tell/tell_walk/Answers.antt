@@ -1,9 +1,8 @@
-use Prim.Native.Nat.{ℕ, ◌+◌, ◌*◌, ◌-◌, ◌≤◌, ◌<◌}
+use Prim.Native.Nat.{ℕ, ◌+◌, ◌*◌, ◌<◌}
 use native.Mathlib.Omega.{arith}
 use borrow.Author.Rules.{rules}
 use mathlib.Core.Path.{◌≡◌, refl, sym, ap, ap₂, ◌∙◌}
 use mathlib.Core.List.{List, [], ◌∷◌}
-use mathlib.Core.Logic.{⊎_elim}
 use lib.ListN.{length, drop, get_or}
 use lib.Seq.{sets, length-sets}
 use Rattle.layout.specs.View.{state_of}
@@ -61,31 +60,31 @@ loop-i-preserved c =
     let more : List ℕ → ℕ → List ℕ = λ x k. sets x (3 * k) (numbers_of ids told rest) in
     let whole : List Action → List ℕ = λ x. sets l.actions (3 * l.k) (numbers_of ids told x) in
     elim c.if-at.branch [
-      then-at w ↦ (
-        let e = acts_in a.kind p order l.i lt (sym c.at.ensures ∙ w.if-at.true) in
-        let n = ap length e in
-        let put = w.actions-is ∙ w.tell.ensures in (
-          omega arith,
-          refl,
-          ap length put
-              ∙ length-sets l.actions (3 * l.k) (a.kind ∷ get_or ids s 0 ∷ seconds_of a.kind told s ∷ [])
-              ∙ l.invariant.2,
-          omega arith,
-          ap₂ more put w.k-is
-              ∙ sym (ap whole e ∙ numbers_cons ids told l.actions l.k a.kind s rest)
-              ∙ l.invariant.4,
-        )
-      )
+      | then-at w ↦ (
+          let e = acts_in a.kind p order l.i lt (sym c.at.ensures ∙ w.if-at.true) in
+          let n = ap length e in
+          let put = w.actions-is ∙ w.tell.ensures in (
+            omega arith,
+            refl,
+            ap length put
+                ∙ length-sets l.actions (3 * l.k) (a.kind ∷ get_or ids s 0 ∷ seconds_of a.kind told s ∷ [])
+                ∙ l.invariant.2,
+            omega arith,
+            ap₂ more put w.k-is
+                ∙ sym (ap whole e ∙ numbers_cons ids told l.actions l.k a.kind s rest)
+                ∙ l.invariant.4,
+          )
+          )
       | else-at w ↦ (
-        let e = acts_out a.kind p order l.i lt (sym c.at.ensures ∙ w.if-at.false) in
-        let n = ap length e in (
-          omega arith,
-          refl,
-          ap length w.actions-is ∙ l.invariant.2,
-          omega arith,
-          ap₂ more w.actions-is w.k-is ∙ sym (ap whole e) ∙ l.invariant.4,
-        )
-      )
+          let e = acts_out a.kind p order l.i lt (sym c.at.ensures ∙ w.if-at.false) in
+          let n = ap length e in (
+            omega arith,
+            refl,
+            ap length w.actions-is ∙ l.invariant.2,
+            omega arith,
+            ap₂ more w.actions-is w.k-is ∙ sym (ap whole e) ∙ l.invariant.4,
+          )
+          )
     ]
 
 pub shape_of-actions : goal.shape_of-actions

@@ -1,18 +1,11 @@
 -- `heartbeat::tell::tell_walk`: the loop has the rest of the walk still to write.
-use Prim.Native.Nat.{ℕ, ◌+◌, ◌*◌, ◌-◌, ◌≤◌, ◌<◌}
-use native.Mathlib.Omega.{arith}
-use borrow.Author.Rules.{rules}
-use mathlib.Core.Path.{◌≡◌, refl, sym, ap, ap₂, ◌∙◌}
-use mathlib.Core.List.{List, [], ◌∷◌}
-use mathlib.Core.Logic.{⊎_elim}
-use lib.ListN.{length, drop, get_or}
-use lib.Seq.{sets, length-sets}
+use Prim.Native.Nat.{◌+◌, ◌*◌, ◌≤◌}
+use mathlib.Core.Path.{◌≡◌}
+use lib.ListN.{length, drop}
+use lib.Seq.{sets}
 use Rattle.layout.specs.View.{state_of}
-use Rattle.words.specs.Words.{word_count, bits_of}
-use Rattle.words.proofs.WideLaws.{bits_of_length}
-use Rattle.sets.proofs.WalkLaws.{at_below}
-use Rattle.mesh.specs.Maintenance.{Action, actions_on, seconds_of, numbers_of}
-use Rattle.mesh.proofs.ActionLaws.{numbers_none, numbers_cons, acts_in, acts_out, acts_end}
+use Rattle.words.specs.Words.{bits_of}
+use Rattle.mesh.specs.Maintenance.{actions_on, numbers_of}
 use Rattle.heartbeat.specs.Tell.{ids_in, told_by}
 use Rattle.heartbeat.proofs.tell.tell_walk.Given as goal
 
