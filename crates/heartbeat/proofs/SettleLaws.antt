@@ -8,7 +8,7 @@ use mathlib.Core.List.{List}
 use lib.ListN.{length, get_or, set}
 use lib.Seq.{get_or-set_other}
 use lib.Dec.{leb, ltb}
-use borrow.Author.Tests.{lt-ltb, le-ltb, leb-true, leb-false, not-true, not-false}
+use borrow.Author.Tests.{lt-ltb, le-ltb, leb-true, leb-false}
 use Rattle.index.specs.Index.{iter}
 use Rattle.index.proofs.Index.{iter_more}
 use Rattle.records.specs.declared.Peer.{Peer}
@@ -38,16 +38,16 @@ module _ (was stays negative : Bool) (t time end s : ℕ) (u : State) where
   pub settled_out :
       (v w : State) →
       was ≡ true →
-      not stays ≡ true →
+      stays ≡ false →
       v ≡ grown_if negative t s u →
       w ≡ pruned v s t end →
       w ≡ settled_if was stays negative t time end s u
   unfolding settled_if
-  settled_out v w a b ev ew = rw (a, not-true stays b) (ew ∙ ap (λ (x : State). pruned x s t end) ev)
+  settled_out v w a b ev ew = rw (a, b) (ew ∙ ap (λ (x : State). pruned x s t end) ev)
 
-  pub settled_stays : was ≡ true → not stays ≡ false → u ≡ settled_if was stays negative t time end s u
+  pub settled_stays : was ≡ true → stays ≡ true → u ≡ settled_if was stays negative t time end s u
   unfolding settled_if
-  settled_stays a b = rw (a, not-false stays b)
+  settled_stays a b = rw (a, b)
 
   pub settled_in :
       (w : State) →

@@ -3,7 +3,7 @@
 -- zero."
 use Rattle.std.specs.Prelude.{ℕ, ◌+◌, ◌-◌, ◌*◌, ◌≤◌, ◌<◌, ◌≡◌, Bool, true, false, ◌&&◌, ◌||◌, cond, List, [], ◌∷◌, ◌++◌, eqb, leb, ltb, length, get_or}
 use Rattle.std.proofs.lemmas.List.Edits.{sets}
-use Rattle.std.specs.Borrow.{Bor}
+use Rattle.std.specs.Borrow.{Bor, MutBor}
 use denote.Triple.Both.{Both}
 use Rattle.index.specs.Index.{every, gather}
 use Rattle.varint.specs.Groups.{encode}
@@ -155,7 +155,11 @@ Stored buf at bytes next out = (next ≡ at + length bytes) × (out ≡ sets buf
 
 -- the same of a buffer lent by `&mut`, which has a content at the call's entry and one at its exit; they are at most so many
 abbrev pub Lent : Type 0
-Lent = Both (Bor (List ℕ)) (Bor (List ℕ))
+Lent = Both (MutBor (List ℕ)) (MutBor (List ℕ))
+
+-- and of memory that is lent by `&`, to be read
+abbrev pub Shown : Type 0
+Shown = Both (Bor (List ℕ)) (Bor (List ℕ))
 
 abbrev pub Puts : Lent → ℕ → List ℕ → ℕ → ℕ → Type 0
 Puts buf at bytes most next = Stored buf.entry.now at bytes next buf.exit.now × (next ≤ at + most)

@@ -1,6 +1,5 @@
 -- Laws of a reply's text: how its parts are stored one after the other, and that the numbers of the lent list print what the reply has.
 -- Assumes nothing.
-use Prim.{tt}
 use Prim.Native.Nat.{ℕ, suc, ◌+◌, ◌*◌, ◌<◌, ◌≤◌}
 use mathlib.Core.Bool.{true, false}
 use mathlib.Core.Path.{◌≡◌, refl, ap, ◌∙◌}
@@ -12,8 +11,6 @@ use lib.ListN.{length, drop}
 use lib.Seq.{sets, sets-eq}
 use lib.IntN.{ℤ}
 use lib.Signed.{nat_abs-le}
-use denote.Enum.Declared.{tag_of}
-use types.Run.{OneOf, miss}
 use mir.Syntax.{w64}
 use mir.Val.{SFits, to_z, of_z}
 use mir.Facts.{to_z-of_z}
@@ -23,7 +20,6 @@ use Rattle.text.specs.Text.{decimal, signed_text, Stored}
 use Rattle.text.proofs.TextLaws.{decimal_length, signed_length, stored_then}
 use Rattle.effects.specs.Actions.{Action, numbers_of}
 use Rattle.score.specs.declared.Why.{Why}
-use Rattle.rules.specs.contracts.Answer.{the_type}
 use Rattle.rules.specs.declared.Answer.{Answer}
 use Rattle.rules.specs.declared.Answer.TheVariants.{Done, Scored, Early, OutOfRange, NotConnected, AlreadyConnected, NoSlot}
 use Rattle.rules.specs.declared.Answer.TheVariants.{UnknownProtocol, NotPermutation, ListShort, Ignored, NotRouter}

@@ -1,6 +1,5 @@
 -- `answers::code` meets its contract. Assumes nothing.
 use native.Mathlib.Omega.{arith}
-use borrow.Author.Rules.{rules}
 use mathlib.Core.Path.{◌∙◌, ap₂}
 use Rattle.answers.specs.Answers.{packed}
 use Rattle.answers.proofs.AnswerLaws.{number_most}

@@ -1,6 +1,5 @@
 -- `answers::packed` meets its contract. Assumes nothing.
 use mathlib.Core.Path.{refl}
-use native.Mathlib.Omega.{arith}
 use Rattle.answers.proofs.packed.Goals as goal
 
 pub returns : goal.returns

@@ -1,5 +1,4 @@
 -- `answers::why_or` meets its contract. Assumes nothing.
-use borrow.Author.Rules.{rules}
 use mathlib.Core.Path.{◌∙◌}
 use Rattle.answers.proofs.AnswerLaws.{score_is, no_score}
 use Rattle.answers.proofs.why_or.Goals as goal

@@ -12,7 +12,7 @@ use Rattle.control.proofs.prune_reply.Goals as goal
 pub returns-then-is_heard : goal.returns-then-is_heard
 unfolding prune_reply
 returns-then-is_heard c =
-    let heard = heard_is _ _ _ _ _ _ c.see.ensures c.is_heard.ensures c.if1.true in
+    let heard = heard_is _ _ _ _ _ _ c.see-v.ensures c.is_heard.ensures c.if-is_heard.true in
     let left =
     pruned_is _ _ _ _ _ _ _ _ c.seconds_of.ensures.0 c.end_after-end.ensures.0 c.prune_slot.ensures in
     search (leaves_then, leaves_done)

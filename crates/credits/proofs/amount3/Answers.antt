@@ -1,6 +1,6 @@
 -- `credits::amount3` meets its contract.
 -- Assumes nothing.
-use Rattle.index.proofs.Kit.{arith, rules}
+use Rattle.index.proofs.Kit.{arith}
 use borrow.Author.Tests.{eq-eqb, ne_eqb}
 use Rattle.credits.proofs.CreditLaws.{member_amount, other_amount}
 use Rattle.credits.proofs.amount3.Goals as goal

@@ -1,5 +1,5 @@
 -- `credits::amounts` meets its contract: a way for each kind of delivery, and each amount leaves room in its counter. Assumes nothing.
-use Rattle.index.proofs.Kit.{arith, rules}
+use Rattle.index.proofs.Kit.{arith}
 use borrow.Author.Tests.{eq-eqb, ne_eqb}
 use Rattle.credits.proofs.CreditLaws.{first_amounts_lem, near_first_amounts_lem, invalid_amounts_lem}
 use Rattle.credits.proofs.amounts.Goals as goal

@@ -15,12 +15,12 @@ faded-requires c =
 
 pub store_peer-requires : goal.store_peer-requires
 store_peer-requires c =
-    let ready = p7_ready _ _ _ _ c.requires.decays c.requires.slot c.load-peer.ensures.0
+    let ready = p7_ready _ _ _ _ c.requires.decays c.requires.slot c.load_peer-p.ensures.0
     c.load_magnitude-2.ensures in (
       c.requires.size,
       (
         c.requires.slot,
-        p7_fits _ _ _ _ _ ready.0 c.load-peer.ensures.1 c.faded.ensures c.with_p7.ensures,
+        p7_fits _ _ _ _ _ ready.0 c.load_peer-p.ensures.1 c.faded.ensures c.with_p7.ensures,
       ),
     )
 

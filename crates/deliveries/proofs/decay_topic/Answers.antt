@@ -18,10 +18,10 @@ store_topic-requires c =
       c.requires.size,
       (
         omega arith,
-        decayed_fits _ c.args.time _ _ _ _ _ c.load-topic.ensures.0
+        decayed_fits _ c.args.time _ _ _ _ _ c.load_topic-r.ensures.0
             c.load_params-t.ensures
             c.load_magnitude.ensures _ c.requires.decays c.requires.slot c.requires.topic
-            c.load-topic.ensures.1 c.decayed.ensures,
+            c.load_topic-r.ensures.1 c.decayed.ensures,
       ),
     )
 

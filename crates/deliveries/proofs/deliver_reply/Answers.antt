@@ -45,4 +45,5 @@ returns-then-is_heard c =
     search (leaves_then, leaves_done)
 
 pub returns : goal.returns
+unfolding deliver_reply
 returns c = search (leaves_else, leaves_ignored, heard_is)

@@ -10,10 +10,10 @@ returns-then-not-is_router c = from_none _ _ _ c.is_router.ensures (ap not c.if-
 
 pub fill_table-requires : goal.fill_table-requires
 fill_table-requires c = record {
-      from = search rules;
-      to = search rules;
-      router = passed c.is_router.ensures (ap not c.if-not-is_router.false);
-    }
+  from = search rules;
+  to = search rules;
+  router = passed c.is_router.ensures (ap not c.if-not-is_router.false);
+}
 
 pub returns : goal.returns
 returns c = from_done _ _ _ c.is_router.ensures _ (ap not c.if-not-is_router.false)

@@ -10,10 +10,10 @@ returns-then-not-is_router c = to_none _ _ _ c.is_router.ensures (ap not c.if-no
 
 pub fill_rows-requires : goal.fill_rows-requires
 fill_rows-requires c = record {
-      from = search rules;
-      to = search rules;
-      router = passed c.is_router.ensures (ap not c.if-not-is_router.false);
-    }
+  from = search rules;
+  to = search rules;
+  router = passed c.is_router.ensures (ap not c.if-not-is_router.false);
+}
 
 pub returns : goal.returns
 returns c = to_done _ _ _ c.is_router.ensures _ (ap not c.if-not-is_router.false)

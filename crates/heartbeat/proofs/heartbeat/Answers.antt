@@ -12,4 +12,5 @@ pub returns-in-Refuse : goal.returns-in-Refuse
 returns-in-Refuse c = search (call_ends, heartbeat_range)
 
 pub returns-in-Pass : goal.returns-in-Pass
+unfolding effect
 returns-in-Pass c = search (call_ends, heartbeat_range)

@@ -11,34 +11,6 @@ use Rattle.heartbeat.proofs.HeightLaws.{empty_filled}
 use Rattle.heartbeat.proofs.ReplyLaws.{Computed, writable, settles, maintained_gives}
 use Rattle.heartbeat.proofs.maintain_topic.Goals as goal
 
--- what the call began with
-abbrev begun : tie.After-changes → tie.Start
-begun k = k.before.before.before.before.before.before.before.before.before.before.before.before.before.before.before.before.before
-
-computed :
-    (k : tie.After-changes) →
-    Computed
-    (state_of (begun k).args.table.now)
-    (begun k).args.time
-    (begun k).args.topic
-    (begun k).args.ask
-    (begun k).args.order.now
-    (bits_of k.before.before.before.before.before.before.members.result)
-    (meshes_of k.before.before.before.before.before.before.before.before.before.stages.result)
-    (changes_in k.changes.result)
-    (ids_in (state_of (begun k).args.table.now))
-    (told_by (state_of (begun k).args.table.now) k.before.before.before.load-magnitude.result)
-    k.before.before.before.load-magnitude.result
-computed k =
-    record {
-      was = k.before.before.before.before.before.before.members.ensures;
-      steps = k.before.before.before.before.before.before.before.before.before.stages.ensures.0;
-      changes = k.changes.ensures;
-      backoff = k.before.before.before.load-magnitude.ensures;
-      id = refl;
-      wait = refl;
-    }
-
 pub empty_height-heights-requires : goal.empty_height-heights-requires
 empty_height-heights-requires c = c.requires.ready.standing
 
@@ -64,22 +36,64 @@ load_magnitude-seconds-requires c = record {
 
 pub tell_all-n-requires : goal.tell_all-n-requires
 tell_all-n-requires c =
-    let s = (begun c).requires in
+    let computed :
+        Computed
+        (state_of c.args.table.now)
+        c.args.time
+        c.args.topic
+        c.args.ask
+        c.args.order.now
+        (bits_of c.members-members.result)
+        (meshes_of c.stages-m.result)
+        (changes_in c.changes.result)
+        (ids_in (state_of c.args.table.now))
+        (told_by (state_of c.args.table.now) c.load_magnitude-seconds.result)
+        c.load_magnitude-seconds.result =
+    record {
+      was = c.members-members.ensures;
+      steps = c.stages-m.ensures.0;
+      changes = c.changes.ensures;
+      backoff = c.load_magnitude-seconds.ensures;
+      id = refl;
+      wait = refl;
+    } in
+    let s = c.requires in
     record {
       size = s.ready.standing.size;
-      writable = writable _ _ _ _ _ _ _ _ _ _ _ (computed c) _ s.ready.standing.router s.permutation s.room;
+      writable = writable _ _ _ _ _ _ _ _ _ _ _ computed _ s.ready.standing.router s.permutation s.room;
     }
 
 pub end_after-end-requires : goal.end_after-end-requires
 end_after-end-requires c =
-    let s = (begun k).requires in
+    let s = c.requires in
     let g = sizes _ s.ready.standing.router in
     record { latest = s.ready.latest; seconds = omega (arith, c.load_magnitude-seconds.ensures, g.prune) }
 
 pub settle-requires : goal.settle-requires
 settle-requires c =
-    let s = (begun k).requires in
-    settles _ _ _ _ _ _ _ _ _ _ _ (computed k) _ _ refl s.ready.standing s.topic c.end_after-end.ensures.0 _
+    let computed :
+        Computed
+        (state_of c.args.table.now)
+        c.args.time
+        c.args.topic
+        c.args.ask
+        c.args.order.now
+        (bits_of c.members-members.result)
+        (meshes_of c.stages-m.result)
+        (changes_in c.changes.result)
+        (ids_in (state_of c.args.table.now))
+        (told_by (state_of c.args.table.now) c.load_magnitude-seconds.result)
+        c.load_magnitude-seconds.result =
+    record {
+      was = c.members-members.ensures;
+      steps = c.stages-m.ensures.0;
+      changes = c.changes.ensures;
+      backoff = c.load_magnitude-seconds.ensures;
+      id = refl;
+      wait = refl;
+    } in
+    let s = c.requires in
+    settles _ _ _ _ _ _ _ _ _ _ _ computed _ _ refl s.ready.standing s.topic c.end_after-end.ensures.0 _
     c.stages-m.ensures.1
 
 pub store_clock-requires : goal.store_clock-requires
@@ -95,8 +109,29 @@ shape_of-actions c = c.tell_all-n.auto.actions
 
 pub returns : goal.returns
 returns c =
+    let computed :
+        Computed
+        (state_of c.args.table.now)
+        c.args.time
+        c.args.topic
+        c.args.ask
+        c.args.order.now
+        (bits_of c.members-members.result)
+        (meshes_of c.stages-m.result)
+        (changes_in c.changes.result)
+        (ids_in (state_of c.args.table.now))
+        (told_by (state_of c.args.table.now) c.load_magnitude-seconds.result)
+        c.load_magnitude-seconds.result =
+    record {
+      was = c.members-members.ensures;
+      steps = c.stages-m.ensures.0;
+      changes = c.changes.ensures;
+      backoff = c.load_magnitude-seconds.ensures;
+      id = refl;
+      wait = refl;
+    } in
     maintained_gives _ _ _ _ _ _ _ _ _ _ _
-    (computed c) _ _ _ _ _ _
+    computed _ _ _ _ _ _
     (sized_of _) c.tell_all-n.ensures
     c.settle.ensures
     c.store_clock.ensures.0

@@ -1,5 +1,4 @@
 -- `host_forms::from_old` meets its contract. Assumes nothing.
-use Rattle.index.proofs.Kit.{rules}
 use Rattle.host_forms.proofs.TurningLaws.{hosts_from_old}
 use Rattle.host_forms.proofs.from_old.Goals as goal
 

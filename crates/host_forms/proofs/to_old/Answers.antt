@@ -1,5 +1,4 @@
 -- `host_forms::to_old` meets its contract. Assumes nothing.
-use Rattle.index.proofs.Kit.{rules}
 use Rattle.host_forms.proofs.TurningLaws.{hosts_to_old}
 use Rattle.host_forms.proofs.to_old.Goals as goal
 

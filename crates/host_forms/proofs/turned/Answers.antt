@@ -1,5 +1,5 @@
 -- `host_forms::turned` meets its contract. Assumes nothing.
-use Rattle.index.proofs.Kit.{rules, sym, ap, ◌∙◌}
+use Rattle.index.proofs.Kit.{sym, ap, ◌∙◌}
 use Rattle.answers.specs.Answers.{packed}
 use Rattle.forms.specs.declared.Turned.{Turned}
 use Rattle.forms.specs.Turns.{turned_number}

@@ -1,5 +1,5 @@
 -- `host_parameters::ordinary` meets its contract. Assumes nothing.
-use Rattle.index.proofs.Kit.{ap, rules}
+use Rattle.index.proofs.Kit.{ap}
 use Rattle.params.specs.declared.Params.{Params}
 use Rattle.host_parameters.proofs.ordinary.Goals as goal
 

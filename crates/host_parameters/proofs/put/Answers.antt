@@ -5,18 +5,18 @@ use Rattle.host_parameters.proofs.put.Goals as goal
 
 pub packed-requires : goal.packed-requires
 packed-requires c = (
-      omega arith,
-      write_fits _ _ _ _ _ c.write.ensures c.in-Done.is (search rules),
-    )
+  omega arith,
+  write_fits _ _ _ _ _ c.write.ensures c.in-Done.is (search rules),
+)
 
 pub packed-requires-in-Short : goal.packed-requires-in-Short
 packed-requires-in-Short c = (omega arith, omega arith)
 
 pub packed-requires-in-Outside : goal.packed-requires-in-Outside
 packed-requires-in-Outside c = (
-      omega arith,
-      write_fits _ _ _ _ _ c.write.ensures c.in-Outside.is (search rules),
-    )
+  omega arith,
+  write_fits _ _ _ _ _ c.write.ensures c.in-Outside.is (search rules),
+)
 
 pub returns-in-Done : goal.returns-in-Done
 returns-in-Done c = hosts_write _ _ _ _ _ c.write.ensures c.in-Done.is _

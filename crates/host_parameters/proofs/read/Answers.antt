@@ -1,13 +1,13 @@
 -- `host_parameters::read` meets its contract. Assumes nothing.
-use Rattle.index.proofs.Kit.{arith, rules, refl}
+use Rattle.index.proofs.Kit.{arith, refl}
 use Rattle.host_parameters.proofs.ParameterLaws.{read_fits, hosts_read}
 use Rattle.host_parameters.proofs.read.Goals as goal
 
 pub packed-requires : goal.packed-requires
 packed-requires c = (
-      omega arith,
-      read_fits _ _ _ c.read-reading.ensures c.in-Accepted.is,
-    )
+  omega arith,
+  read_fits _ _ _ c.read-reading.ensures c.in-Accepted.is,
+)
 
 pub packed-requires-in-Malformed : goal.packed-requires-in-Malformed
 packed-requires-in-Malformed c = (omega arith, read_fits _ _ _ c.read-reading.ensures c.in-Malformed.is)

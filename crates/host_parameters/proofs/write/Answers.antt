@@ -1,5 +1,5 @@
 -- `host_parameters::write` meets its contract. Assumes nothing.
-use Rattle.index.proofs.Kit.{arith, rules}
+use Rattle.index.proofs.Kit.{arith}
 use Rattle.host_parameters.proofs.ParameterLaws.{write_known, write_unknown}
 use Rattle.host_parameters.proofs.write.Goals as goal
 

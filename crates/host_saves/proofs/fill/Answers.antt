@@ -1,5 +1,5 @@
 -- `host_saves::fill` meets its contract. Assumes nothing.
-use Rattle.index.proofs.Kit.{arith, rules}
+use Rattle.index.proofs.Kit.{arith}
 use Rattle.host_saves.proofs.SavingLaws.{load_fits, hosts_load}
 use Rattle.host_saves.proofs.fill.Goals as goal
 

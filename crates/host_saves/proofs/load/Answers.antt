@@ -1,5 +1,5 @@
 -- `host_saves::load` meets its contract. Assumes nothing.
-use Rattle.index.proofs.Kit.{arith, rules}
+use Rattle.index.proofs.Kit.{arith}
 use Rattle.host_saves.proofs.SavingLaws.{load_known, load_unknown}
 use Rattle.host_saves.proofs.load.Goals as goal
 

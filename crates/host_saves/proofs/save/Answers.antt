@@ -1,13 +1,13 @@
 -- `host_saves::save` meets its contract. Assumes nothing.
-use Rattle.index.proofs.Kit.{arith, rules, refl}
+use Rattle.index.proofs.Kit.{arith, refl}
 use Rattle.host_saves.proofs.SavingLaws.{save_fits, hosts_save}
 use Rattle.host_saves.proofs.save.Goals as goal
 
 pub packed-requires : goal.packed-requires
 packed-requires c = (
-      omega arith,
-      save_fits _ _ _ _ _ _ c.save.ensures c.in-Done.is _ refl,
-    )
+  omega arith,
+  save_fits _ _ _ _ _ _ c.save.ensures c.in-Done.is _ refl,
+)
 
 pub packed-requires-in-Early : goal.packed-requires-in-Early
 packed-requires-in-Early c = (omega arith, omega arith)

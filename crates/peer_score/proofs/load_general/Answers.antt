@@ -1,6 +1,5 @@
 -- `peer_score::load_general`: five loaded numbers are the record of the rules.
 -- Assumes nothing.
-use native.Mathlib.Omega.{arith}
 use Rattle.score.specs.Score.{score_params_in}
 use Rattle.peer_score.proofs.load_general.Goals as goal
 

@@ -1,7 +1,5 @@
 -- `peer_score::load_param`: a topic's parameters are sixteen, behind the general nineteen.
 -- Assumes nothing.
-use native.Mathlib.Omega.{arith}
-use borrow.Author.Rules.{rules}
 use Rattle.peer_score.proofs.load_param.Goals as goal
 
 pub returns : goal.returns

@@ -1,6 +1,5 @@
 -- `peer_score::score_of`: the total of the parts is worth the score.
 -- Assumes nothing.
-use borrow.Author.Rules.{rules}
 use Rattle.score.proofs.InputLaws.{slot_in}
 use Rattle.score.proofs.ScoreLaws.{scores}
 use Rattle.peer_score.proofs.score_of.Goals as goal

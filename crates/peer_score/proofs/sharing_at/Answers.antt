@@ -1,6 +1,5 @@
 -- `peer_score::sharing_at`: nothing for no group, else what is counted.
 -- Assumes nothing.
-use borrow.Author.Rules.{rules}
 use Rattle.peer_score.proofs.SharingLaws.{none_at, some_at}
 use Rattle.peer_score.proofs.sharing_at.Goals as goal
 

@@ -1,10 +1,4 @@
-use Prim.Native.Nat.{◌≤◌, ◌-◌}
-use mathlib.Core.Path.{◌≡◌}
 use native.Mathlib.Omega.{arith}
-use borrow.Author.Rules.{rules}
-use Rattle.index.specs.Index.{count}
-use Rattle.layout.specs.View.{state_of}
-use Rattle.score.specs.Score.{shares_group}
 use Rattle.score.proofs.SlotLaws.{sharing_none, sharing_more}
 use Rattle.peer_score.proofs.SharingLaws.{sharing_rest}
 use Rattle.peer_score.proofs.sharing_of.Goals as goal

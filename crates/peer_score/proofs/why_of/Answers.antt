@@ -1,6 +1,5 @@
 -- `peer_score::why_of`: what the parts tell is what the rules tell.
 -- Assumes nothing.
-use borrow.Author.Rules.{rules}
 use mathlib.Core.Path.{ap, ◌∙◌}
 use Rattle.score.specs.Sums.{told_of}
 use Rattle.score.proofs.InputLaws.{slot_in}

@@ -1,6 +1,5 @@
 -- `peers::connect_at`: the record in the slot, and the clock.
 -- Assumes nothing.
-use borrow.Author.Rules.{rules}
 use Rattle.rules.specs.Step.{connect_at}
 use Rattle.rules.proofs.EndLaws.{leaves_done}
 use Rattle.peers.proofs.connect_at.Goals as goal

@@ -1,6 +1,5 @@
 -- `peers::connect_from`: 6, 4, or what `connect_known` leaves.
 -- Assumes nothing.
-use borrow.Author.Rules.{rules}
 use Rattle.peers.proofs.PeerLaws.{connect_unknown, connect_already, connect_new, version_fits}
 use Rattle.peers.proofs.connect_from.Goals as goal
 
@@ -13,12 +12,11 @@ returns-in-At c =
     c.in-Version.is _ (search) _ c.in-At.is
 
 pub connect_known-requires : goal.connect_known-requires
-connect_known-requires c =
-    (
-      c.requires.0,
-      version_fits _ _ _ _ c.version_of.ensures
-          c.in-Version.is c.requires.2,
-    )
+connect_known-requires c = (
+  c.requires.0,
+  version_fits _ _ _ _ c.version_of.ensures
+      c.in-Version.is c.requires.2,
+)
 
 pub returns : goal.returns
 returns c =

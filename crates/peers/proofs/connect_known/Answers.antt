@@ -1,19 +1,17 @@
 -- `peers::connect_known`: the retained record's slot, or an empty one, or 5.
 -- Assumes nothing.
 use mathlib.Core.Path.{◌∙◌}
-use borrow.Author.Rules.{rules}
 use Rattle.peers.proofs.PeerLaws.{retained_below, empty_below, connect_retained, connect_empty, connect_full}
 use Rattle.peers.proofs.connect_known.Goals as goal
 
 pub connect_at-requires : goal.connect_at-requires
-connect_at-requires c =
-    (
-      record {
-        size = c.reclaim.auto.table ∙ c.requires.0.standing.size;
-        slot = search retained_below;
-      },
-      c.requires.1,
-    )
+connect_at-requires c = (
+  record {
+    size = c.reclaim.auto.table ∙ c.requires.0.standing.size;
+    slot = search retained_below;
+  },
+  c.requires.1,
+)
 
 pub returns-in-At : goal.returns-in-At
 returns-in-At c = search connect_retained
@@ -26,15 +24,14 @@ returns-in_default-lowest_empty c =
     _ c.lowest_empty.ensures k.ensures.1 c.in_default-lowest_empty.is
 
 pub connect_at-requires-2 : goal.connect_at-requires-2
-connect_at-requires-2 c =
-    (
-      record {
-        size = c.reclaim.auto.table
-            ∙ c.requires.0.standing.size;
-        slot = search empty_below;
-      },
-      c.requires.1,
-    )
+connect_at-requires-2 c = (
+  record {
+    size = c.reclaim.auto.table
+        ∙ c.requires.0.standing.size;
+    slot = search empty_below;
+  },
+  c.requires.1,
+)
 
 pub returns : goal.returns
 returns c = search connect_empty

@@ -3,9 +3,7 @@
 use Prim.Native.Nat.{◌≤◌, ◌-◌}
 use mathlib.Core.Path.{◌≡◌}
 use lib.ListN.{length}
-use borrow.Author.Rules.{rules}
 use Rattle.index.specs.Index.{every}
-use Rattle.validity.proofs.Loops.{flag-loop}
 use Rattle.rules.specs.Calls.{group_ok}
 use Rattle.peers.proofs.each_ok.Given as goal
 

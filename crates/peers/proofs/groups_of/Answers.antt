@@ -1,6 +1,5 @@
 -- `peers::groups_of`: one group for each place.
 -- Assumes nothing.
-use borrow.Author.Rules.{rules}
 use Rattle.rules.specs.Calls.{groups_of}
 use Rattle.peers.proofs.groups_of.Goals as goal
 

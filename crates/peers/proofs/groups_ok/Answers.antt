@@ -1,6 +1,5 @@
 -- `peers::groups_ok`: how many there are, then each.
 -- Assumes nothing.
-use borrow.Author.Rules.{rules}
 use Rattle.peers.proofs.GroupLaws.{count_fails, each_are}
 use Rattle.peers.proofs.groups_ok.Goals as goal
 

@@ -1,10 +1,9 @@
 -- `rpc::check_control` meets its contract: the loop's invariant is `Counting`: up to `place` no field is broken, and `m` counts the entries
 -- there. Assumes nothing.
-use Rattle.index.proofs.Kit.{◌-◌, rules, arith}
+use Rattle.index.proofs.Kit.{◌-◌}
 use lib.ListN.{length}
-use Rattle.fields.proofs.FieldLaws.{read_placed, read_falls}
 use Rattle.rpc.specs.Messages.{control, inside}
-use Rattle.rpc.proofs.CheckLaws.{Counting, counting_none, counting_more, counting_inner, counting_bad, counting_all, inside_each}
+use Rattle.rpc.proofs.CheckLaws.{Counting}
 use Rattle.rpc.proofs.check_control.Given as goal
 
 abbrev pub invariant-loop-place : goal.invariant-loop-place

@@ -1,5 +1,4 @@
 -- `rpc::check_entry` meets its contract. Assumes nothing.
-use Rattle.index.proofs.Kit.{rules, arith}
 use Rattle.rpc.proofs.CheckLaws.{entry_whole, entry_torn}
 use Rattle.rpc.proofs.check_entry.Goals as goal
 

@@ -1,8 +1,6 @@
-use Rattle.index.proofs.Kit.{◌-◌, refl, rules}
-use lib.ListN.{length}
-use Rattle.fields.specs.Walk.{itself}
+use Rattle.index.proofs.Kit.{refl, rules}
 use Rattle.fields.proofs.FieldLaws.{read_falls}
-use Rattle.rpc.proofs.CheckLaws.{Passing, passing_none, passing_more, passing_bad, passing_all}
+use Rattle.rpc.proofs.CheckLaws.{passing_none, passing_more, passing_bad, passing_all}
 use Rattle.rpc.proofs.check_fields.Goals as goal
 
 pub loop-place-init : goal.loop-place-init

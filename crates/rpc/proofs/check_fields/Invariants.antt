@@ -1,9 +1,8 @@
 -- `rpc::check_fields` meets its contract. Assumes nothing.
-use Rattle.index.proofs.Kit.{◌-◌, refl, rules}
+use Rattle.index.proofs.Kit.{◌-◌}
 use lib.ListN.{length}
 use Rattle.fields.specs.Walk.{itself}
-use Rattle.fields.proofs.FieldLaws.{read_falls}
-use Rattle.rpc.proofs.CheckLaws.{Passing, passing_none, passing_more, passing_bad, passing_all}
+use Rattle.rpc.proofs.CheckLaws.{Passing}
 use Rattle.rpc.proofs.check_fields.Given as goal
 
 abbrev pub invariant-loop-place : goal.invariant-loop-place

@@ -1,8 +1,7 @@
-use Rattle.index.proofs.Kit.{◌-◌, refl, rules, arith}
-use lib.ListN.{length}
+use Rattle.index.proofs.Kit.{refl, rules, arith}
 use Rattle.fields.proofs.FieldLaws.{read_falls}
 use Rattle.rpc.specs.Messages.{idontwant, inside}
-use Rattle.rpc.proofs.CheckLaws.{Counting, counting_none, counting_next, counting_bad, counting_all, inside_each}
+use Rattle.rpc.proofs.CheckLaws.{counting_none, counting_next, counting_bad, counting_all, inside_each}
 use Rattle.rpc.proofs.check_ids.Goals as goal
 
 pub loop-place-init : goal.loop-place-init

@@ -1,10 +1,9 @@
 -- `rpc::check_ids` meets its contract: the loop's invariant is `Counting`: up to `place` no field is broken, and `m` counts the ids there.
 -- Assumes nothing.
-use Rattle.index.proofs.Kit.{◌-◌, refl, rules, arith}
+use Rattle.index.proofs.Kit.{◌-◌}
 use lib.ListN.{length}
-use Rattle.fields.proofs.FieldLaws.{read_falls}
 use Rattle.rpc.specs.Messages.{idontwant, inside}
-use Rattle.rpc.proofs.CheckLaws.{Counting, counting_none, counting_next, counting_bad, counting_all, inside_each}
+use Rattle.rpc.proofs.CheckLaws.{Counting}
 use Rattle.rpc.proofs.check_ids.Given as goal
 
 abbrev pub invariant-loop-place : goal.invariant-loop-place

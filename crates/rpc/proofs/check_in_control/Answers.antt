@@ -1,5 +1,5 @@
 -- `rpc::check_in_control` meets its contract. Assumes nothing.
-use Rattle.index.proofs.Kit.{rules, arith}
+use Rattle.index.proofs.Kit.{rules}
 use Rattle.rpc.proofs.CheckLaws.{take_count, take_from, take_room, inside_entry, inside_ids, no_id_in_control, inside_skipped}
 use Rattle.rpc.proofs.CheckLaws.{inside_name, inside_value}
 use Rattle.rpc.proofs.check_in_control.Goals as goal

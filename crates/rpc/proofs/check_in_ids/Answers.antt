@@ -1,5 +1,4 @@
 -- `rpc::check_in_ids` meets its contract. Assumes nothing.
-use Rattle.index.proofs.Kit.{rules, arith}
 use Rattle.rpc.proofs.CheckLaws.{counts_id, counts_none}
 use Rattle.rpc.proofs.check_in_ids.Goals as goal
 

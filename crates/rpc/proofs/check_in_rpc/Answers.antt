@@ -1,5 +1,5 @@
 -- `rpc::check_in_rpc` meets its contract. Assumes nothing.
-use Rattle.index.proofs.Kit.{rules, arith}
+use Rattle.index.proofs.Kit.{rules}
 use Rattle.rpc.proofs.CheckLaws.{take_count, take_from, take_room, inside_entry, inside_control, no_id_in_rpc, inside_skipped}
 use Rattle.rpc.proofs.CheckLaws.{inside_name, inside_value}
 use Rattle.rpc.proofs.check_in_rpc.Goals as goal

@@ -1,8 +1,6 @@
-use Rattle.index.proofs.Kit.{◌-◌, rules, arith}
-use lib.ListN.{length}
+use Rattle.index.proofs.Kit.{rules, arith}
 use Rattle.fields.proofs.FieldLaws.{read_placed, read_falls}
-use Rattle.rpc.specs.Messages.{rpc, inside}
-use Rattle.rpc.proofs.CheckLaws.{Counting, counting_none, counting_more, counting_inner, counting_bad, counting_all, inside_each}
+use Rattle.rpc.proofs.CheckLaws.{counting_none, counting_more, counting_inner, counting_bad, counting_all, inside_each}
 use Rattle.rpc.proofs.check_rpc.Goals as goal
 
 pub loop-place-init : goal.loop-place-init

@@ -1,5 +1,5 @@
 -- `rpc::fill` meets its contract. Assumes nothing.
-use Rattle.index.proofs.Kit.{refl, rules, arith}
+use Rattle.index.proofs.Kit.{refl, arith}
 use Rattle.rpc.proofs.ReadLaws.{fills_none, fills_all}
 use Rattle.rpc.proofs.fill.Goals as goal
 

@@ -1,7 +1,6 @@
-use Rattle.index.proofs.Kit.{◌-◌, rules}
-use lib.ListN.{length}
+use Rattle.index.proofs.Kit.{rules}
 use Rattle.fields.proofs.FieldLaws.{read_falls}
-use Rattle.rpc.proofs.HeldLaws.{Holding, holding_none, holding_more, holding_bad, holding_all}
+use Rattle.rpc.proofs.HeldLaws.{holding_none, holding_more, holding_bad, holding_all}
 use Rattle.rpc.proofs.held_in.Goals as goal
 
 pub loop-place-init : goal.loop-place-init

@@ -1,8 +1,7 @@
 -- `rpc::held_in` meets its contract. Assumes nothing.
-use Rattle.index.proofs.Kit.{◌-◌, rules}
+use Rattle.index.proofs.Kit.{◌-◌}
 use lib.ListN.{length}
-use Rattle.fields.proofs.FieldLaws.{read_falls}
-use Rattle.rpc.proofs.HeldLaws.{Holding, holding_none, holding_more, holding_bad, holding_all}
+use Rattle.rpc.proofs.HeldLaws.{Holding}
 use Rattle.rpc.proofs.held_in.Given as goal
 
 abbrev pub invariant-loop-place : goal.invariant-loop-place

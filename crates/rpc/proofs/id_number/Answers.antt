@@ -1,5 +1,4 @@
 -- `rpc::id_number` meets its contract. Assumes nothing.
-use Rattle.index.proofs.Kit.{rules}
 use Rattle.rpc.proofs.ListLaws.{number_here, number_past}
 use Rattle.rpc.proofs.id_number.Goals as goal
 

@@ -1,6 +1,6 @@
-use Rattle.index.proofs.Kit.{◌-◌, ◌*◌, ◌≤◌, ◌≡◌, refl, true, rules, arith, every, every_none, every_more}
+use Rattle.index.proofs.Kit.{◌*◌, refl, arith, every_none, every_more}
 use borrow.Author.Tests.{eq-eqb}
-use Rattle.rpc.proofs.TopicLaws.{same_byte, named_size, named_long, named_byte, named_all}
+use Rattle.rpc.proofs.TopicLaws.{named_size, named_long, named_byte, named_all}
 use Rattle.rpc.specs.Reading.{row_bytes}
 use Rattle.rpc.proofs.is_named.Goals as goal
 

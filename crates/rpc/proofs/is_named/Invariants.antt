@@ -1,9 +1,7 @@
 -- `rpc::is_named` meets its contract: the loop's invariant: the first `i` bytes are the same. A way out for another length, a length that
 -- is too long, and another byte. Assumes nothing.
-use Rattle.index.proofs.Kit.{◌-◌, ◌*◌, ◌≤◌, ◌≡◌, refl, true, rules, arith, every, every_none, every_more}
-use borrow.Author.Tests.{eq-eqb}
-use Rattle.rpc.proofs.TopicLaws.{same_byte, named_size, named_long, named_byte, named_all}
-use Rattle.rpc.specs.Reading.{row_bytes}
+use Rattle.index.proofs.Kit.{◌-◌, ◌≤◌, ◌≡◌, true, every}
+use Rattle.rpc.proofs.TopicLaws.{same_byte}
 use Rattle.rpc.proofs.is_named.Given as goal
 
 abbrev pub invariant-loop-i : goal.invariant-loop-i

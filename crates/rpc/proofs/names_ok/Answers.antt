@@ -1,6 +1,5 @@
 use mathlib.Core.Path.{sym, ◌∙◌}
-use Rattle.index.proofs.Kit.{◌-◌, ◌≤◌, ◌≡◌, true, rules, arith, every, every_none, every_more}
-use Rattle.rpc.specs.Names.{row_ok}
+use Rattle.index.proofs.Kit.{arith, every_none, every_more}
 use Rattle.rpc.proofs.TopicLaws.{names_bad, names_good}
 use Rattle.rpc.proofs.names_ok.Goals as goal
 

@@ -1,7 +1,6 @@
 -- `rpc::names_ok` meets its contract. Assumes nothing.
-use Rattle.index.proofs.Kit.{◌-◌, ◌≤◌, ◌≡◌, true, rules, arith, every, every_none, every_more, failed, passed}
+use Rattle.index.proofs.Kit.{◌-◌, ◌≤◌, ◌≡◌, true, every}
 use Rattle.rpc.specs.Names.{row_ok}
-use Rattle.rpc.proofs.TopicLaws.{names_bad, names_good}
 use Rattle.rpc.proofs.names_ok.Given as goal
 
 abbrev pub invariant-loop-k : goal.invariant-loop-k

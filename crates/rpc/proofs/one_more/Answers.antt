@@ -1,5 +1,4 @@
 -- `rpc::one_more` meets its contract. Assumes nothing.
-use native.Mathlib.Omega.{arith}
 use Rattle.rpc.proofs.one_more.Goals as goal
 
 pub returns : goal.returns

@@ -1,5 +1,4 @@
 -- `rpc::plus` meets its contract. Assumes nothing.
-use native.Mathlib.Omega.{arith}
 use Rattle.rpc.proofs.KindLaws.{plus_yes, plus_no}
 use Rattle.rpc.proofs.plus.Goals as goal
 

@@ -1,5 +1,5 @@
 -- `rpc::put` meets its contract. Assumes nothing.
-use Rattle.index.proofs.Kit.{rules, sym}
+use Rattle.index.proofs.Kit.{sym}
 use lib.Seq.{set_out}
 use Rattle.rpc.proofs.put.Goals as goal
 

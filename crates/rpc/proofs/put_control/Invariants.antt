@@ -1,12 +1,11 @@
 -- `rpc::put_control` meets its contract: the loop's invariant is `Gathering`: the entries up to `place` are in the list, each kind at its
 -- own place; and they are no more than the bytes. Assumes nothing.
-use Rattle.index.proofs.Kit.{◌-◌, ◌+◌, ◌≤◌, ◌≡◌, refl, ◌∙◌, rules, arith}
+use Rattle.index.proofs.Kit.{◌-◌, ◌+◌, ◌≤◌, ◌≡◌}
 use lib.ListN.{length}
-use Rattle.fields.proofs.FieldLaws.{read_placed, read_falls}
 use Rattle.rpc.specs.Messages.{control, inside}
 use Rattle.rpc.specs.Passes.{total}
 use Rattle.rpc.specs.Reading.{known}
-use Rattle.rpc.proofs.ListLaws.{Gathering, gathering_none, gathering_more, gathering_bad, gathering_all}
+use Rattle.rpc.proofs.ListLaws.{Gathering}
 use Rattle.rpc.proofs.put_control.Given as goal
 
 abbrev pub invariant-loop-place : goal.invariant-loop-place

@@ -1,5 +1,5 @@
 -- `rpc::put_id` meets its contract. Assumes nothing.
-use Rattle.index.proofs.Kit.{rules, arith}
+use Rattle.index.proofs.Kit.{arith}
 use Rattle.rpc.proofs.ListLaws.{id_puts}
 use Rattle.rpc.proofs.put_id.Goals as goal
 

@@ -1,11 +1,6 @@
-use Rattle.index.proofs.Kit.{ℕ, ◌-◌, ◌+◌, ◌≤◌, ◌≡◌, refl, ◌∙◌, rules, arith}
-use mathlib.Core.List.{List}
-use lib.ListN.{length}
+use Rattle.index.proofs.Kit.{refl, ◌∙◌, arith}
 use Rattle.fields.proofs.FieldLaws.{read_placed, read_falls}
-use Rattle.rpc.specs.Messages.{idontwant, inside}
-use Rattle.rpc.specs.Passes.{total}
-use Rattle.rpc.specs.Reading.{known}
-use Rattle.rpc.proofs.ListLaws.{Gathering, gathering_none, gathering_more, gathering_bad, gathering_all}
+use Rattle.rpc.proofs.ListLaws.{gathering_none, gathering_more, gathering_bad, gathering_all}
 use Rattle.rpc.proofs.put_ids.Goals as goal
 
 pub loop-place-init : goal.loop-place-init

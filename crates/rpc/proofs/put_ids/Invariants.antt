@@ -1,13 +1,12 @@
 -- `rpc::put_ids` meets its contract: the loop's invariant is `Gathering`: the ids up to `place` are in the list, at the place of their
 -- kind; and they are no more than the bytes. Assumes nothing.
-use Rattle.index.proofs.Kit.{ℕ, ◌-◌, ◌+◌, ◌≤◌, ◌≡◌, refl, ◌∙◌, rules, arith}
+use Rattle.index.proofs.Kit.{ℕ, ◌-◌, ◌+◌, ◌≤◌, ◌≡◌}
 use mathlib.Core.List.{List}
 use lib.ListN.{length}
-use Rattle.fields.proofs.FieldLaws.{read_placed, read_falls}
 use Rattle.rpc.specs.Messages.{idontwant, inside}
 use Rattle.rpc.specs.Passes.{total}
 use Rattle.rpc.specs.Reading.{known}
-use Rattle.rpc.proofs.ListLaws.{Gathering, gathering_none, gathering_more, gathering_bad, gathering_all}
+use Rattle.rpc.proofs.ListLaws.{Gathering}
 use Rattle.rpc.proofs.put_ids.Given as goal
 
 abbrev pub invariant-loop-place : goal.invariant-loop-place

@@ -1,5 +1,4 @@
 -- `rpc::put_in_ids` meets its contract. Assumes nothing.
-use Rattle.index.proofs.Kit.{rules, arith}
 use Rattle.rpc.proofs.KindLaws.{place_below}
 use Rattle.rpc.proofs.ListLaws.{puts_id, puts_none}
 use Rattle.rpc.proofs.put_in_ids.Goals as goal

@@ -1,5 +1,4 @@
 -- `rpc::put_one` meets its contract. Assumes nothing.
-use borrow.Author.Rules.{rules}
 use Rattle.rpc.proofs.ListLaws.{entry_puts}
 use Rattle.rpc.proofs.put_one.Goals as goal
 

@@ -1,6 +1,5 @@
 -- `rpc::read`: 8, then 2 of the table, then the length; what is read is what the two passes find and write. Assumes nothing.
 use mathlib.Core.Path.{sym, ◌∙◌}
-use Rattle.index.proofs.Kit.{rules, arith}
 use Rattle.message_ids.proofs.TableLaws.{table_parts}
 use Rattle.rpc.proofs.ReadLaws.{reads_short, reads_table, reads_long, count_few, reads_torn, reads_done}
 use Rattle.rpc.proofs.read.Goals as goal

@@ -1,6 +1,5 @@
-use Rattle.index.proofs.Kit.{◌-◌, ◌*◌, ◌≤◌, ◌≡◌, sym, ap, ◌∙◌, true, not, rules, arith, every, every_none, every_more}
-use lib.ListN.{get_or}
-use Rattle.rpc.proofs.TopicLaws.{free_of, row_long, row_none, row_taken, row_free}
+use Rattle.index.proofs.Kit.{◌*◌, sym, ap, ◌∙◌, not, arith, every_none, every_more}
+use Rattle.rpc.proofs.TopicLaws.{row_long, row_none, row_taken, row_free}
 use Rattle.rpc.specs.Reading.{row_bytes}
 use Rattle.rpc.proofs.row_ok.Goals as goal
 

@@ -1,8 +1,8 @@
 -- `rpc::row_ok` meets its contract: the loop's invariant: no row before `j` has the same name. A way out for a length that is too long and
 -- for none. Assumes nothing.
-use Rattle.index.proofs.Kit.{◌-◌, ◌*◌, ◌≤◌, ◌≡◌, sym, ap, ◌∙◌, true, not, rules, arith, every, every_none, every_more}
+use Rattle.index.proofs.Kit.{◌-◌, ◌*◌, ◌≤◌, ◌≡◌, true, every}
 use lib.ListN.{get_or}
-use Rattle.rpc.proofs.TopicLaws.{free_of, row_long, row_none, row_taken, row_free}
+use Rattle.rpc.proofs.TopicLaws.{free_of}
 use Rattle.rpc.specs.Reading.{row_bytes}
 use Rattle.rpc.proofs.row_ok.Given as goal
 

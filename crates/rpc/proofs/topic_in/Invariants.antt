@@ -1,8 +1,7 @@
 -- `rpc::topic_in` meets its contract. Assumes nothing.
-use Rattle.index.proofs.Kit.{◌-◌, ◌≤◌, ◌≡◌, sym, ◌∙◌, rules, arith, first, first_none, first_more}
-use Rattle.index.proofs.Flags.{flags}
+use Rattle.index.proofs.Kit.{◌-◌, ◌≤◌, ◌≡◌, first}
 use Rattle.index.specs.declared.Found.TheVariants.{Nothing}
-use Rattle.rpc.proofs.TopicLaws.{here, topic_none, topic_hit, topic_unknown}
+use Rattle.rpc.proofs.TopicLaws.{here}
 use Rattle.rpc.proofs.topic_in.Given as goal
 
 abbrev pub invariant-loop-k : goal.invariant-loop-k

@@ -1,5 +1,4 @@
 -- `rpc_actions::action_ok` meets its contract. Assumes nothing.
-use borrow.Author.Rules.{rules}
 use Rattle.rpc_actions.proofs.ActionLaws.{one_is}
 use Rattle.rpc_actions.proofs.action_ok.Goals as goal
 

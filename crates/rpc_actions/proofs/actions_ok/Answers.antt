@@ -1,6 +1,6 @@
-use Rattle.index.proofs.Kit.{rules, arith, ◌-◌, ◌≤◌, ◌≡◌, true, every, every_none, every_more}
+use Rattle.index.proofs.Kit.{arith, every_none, every_more}
 use Rattle.index.proofs.Flags.{flags}
-use Rattle.rpc_actions.proofs.ActionLaws.{ok_at, many, uneven, bad, fine}
+use Rattle.rpc_actions.proofs.ActionLaws.{many, uneven, bad, fine}
 use Rattle.rpc_actions.proofs.actions_ok.Goals as goal
 
 pub returns-then-n-gt-MOST_ACTIONS : goal.returns-then-n-gt-MOST_ACTIONS

@@ -1,6 +1,5 @@
-use Rattle.index.proofs.Kit.{rules, arith, ◌-◌, ◌*◌, ◌≤◌, ◌≡◌, refl, gather}
+use Rattle.index.proofs.Kit.{arith, refl}
 use Rattle.rpc_actions.proofs.ActionLaws.{run_none, action_more, run_all}
-use lib.Seq.{sets}
 use Rattle.rpc_actions.specs.Actions.{action_at}
 use Rattle.rpc_actions.proofs.put_actions.Goals as goal
 

@@ -1,7 +1,6 @@
 -- `rpc_actions::put_actions` meets its contract: the loop's invariant: the first `i` actions are in the list as entries, from entry `c` on.
 -- Assumes nothing.
-use Rattle.index.proofs.Kit.{rules, arith, ◌-◌, ◌*◌, ◌≤◌, ◌≡◌, refl, gather}
-use Rattle.rpc_actions.proofs.ActionLaws.{run_none, action_more, run_all}
+use Rattle.index.proofs.Kit.{◌-◌, ◌*◌, ◌≤◌, ◌≡◌, gather}
 use lib.Seq.{sets}
 use Rattle.rpc_actions.specs.Actions.{action_at}
 use Rattle.rpc_actions.proofs.put_actions.Given as goal

@@ -1,6 +1,5 @@
 -- `rpc_actions::put_changes` meets its contract. Assumes nothing.
-use Rattle.index.proofs.Kit.{arith, ◌-◌, ◌*◌, ◌≤◌, ◌≡◌, refl, gather}
-use Rattle.rpc_actions.proofs.ActionLaws.{run_none, change_more, run_all}
+use Rattle.index.proofs.Kit.{◌-◌, ◌*◌, ◌≤◌, ◌≡◌, gather}
 use lib.Seq.{sets}
 use Rattle.rpc_actions.specs.Actions.{change_at}
 use Rattle.rpc_actions.proofs.put_changes.Given as goal

@@ -1,5 +1,5 @@
 -- `rpc_actions::put_triple` meets its contract. Assumes nothing.
-use Rattle.index.proofs.Kit.{arith, ◌*◌, refl}
+use Rattle.index.proofs.Kit.{◌*◌, refl}
 use Rattle.rpc_actions.proofs.ActionLaws.{three}
 use Rattle.rpc_actions.proofs.put_triple.Goals as goal
 

@@ -1,7 +1,7 @@
 -- `rpc_actions::write` meets its contract: a way out for each refusal; else changes and actions fill the list one after the other, and what
 -- is written of it is what the writer of entries writes. Assumes nothing.
 use mathlib.Core.Path.{◌∙◌}
-use Rattle.index.proofs.Kit.{rules, arith, refl, sym}
+use Rattle.index.proofs.Kit.{arith, refl, sym}
 use Rattle.rpc_actions.proofs.ActionLaws.{sizes, lasting, not_actions, many_changes, odd_changes, front, written}
 use lib.Seq.{length-take-le}
 use Rattle.rpc.specs.Reading.{known}

@@ -1,5 +1,4 @@
 -- `rpc_write::entry_ok` meets its contract. Assumes nothing.
-use Rattle.index.proofs.Kit.{rules}
 use Rattle.rpc_write.proofs.WriteLaws.{entry_is}
 use Rattle.rpc_write.proofs.entry_ok.Goals as goal
 

@@ -1,5 +1,4 @@
 -- `rpc_write::fitting` meets its contract. Assumes nothing.
-use borrow.Author.Rules.{rules}
 use Rattle.rpc_write.proofs.WriteLaws.{fits_none, fits_all, fits_some}
 use Rattle.rpc_write.proofs.fitting.Goals as goal
 

@@ -1,5 +1,5 @@
 -- `rpc_write::id_size` meets its contract. Assumes nothing.
-use Rattle.index.proofs.Kit.{rules, arith}
+use Rattle.index.proofs.Kit.{arith}
 use Rattle.message_ids.proofs.TableLaws.{table_parts}
 use Rattle.rpc_write.proofs.WriteLaws.{id_row, id_size_is, no_id}
 use Rattle.rpc_write.proofs.id_size.Goals as goal

@@ -1,7 +1,6 @@
-use Rattle.index.proofs.Kit.{arith, ◌-◌, ◌*◌, ◌≤◌, ◌≡◌, gather}
-use lib.ListN.{length}
+use Rattle.index.proofs.Kit.{arith}
 use Rattle.rpc.specs.Reading.{known}
-use Rattle.rpc_write.proofs.WriteLaws.{good, bytes_at, length_none, length_more, length_all}
+use Rattle.rpc_write.proofs.WriteLaws.{good, length_none, length_more, length_all}
 use Rattle.rpc_write.proofs.kind_size.Goals as goal
 
 pub loop-i-init : goal.loop-i-init

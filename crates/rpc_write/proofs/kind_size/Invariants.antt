@@ -1,9 +1,9 @@
 -- `rpc_write::kind_size` meets its contract: the loop's invariant: the sum so far is the length of the first i entries' bytes, at most 80
 -- each. Assumes nothing.
-use Rattle.index.proofs.Kit.{arith, ◌-◌, ◌*◌, ◌≤◌, ◌≡◌, gather}
+use Rattle.index.proofs.Kit.{◌-◌, ◌*◌, ◌≤◌, ◌≡◌, gather}
 use lib.ListN.{length}
 use Rattle.rpc.specs.Reading.{known}
-use Rattle.rpc_write.proofs.WriteLaws.{good, bytes_at, length_none, length_more, length_all}
+use Rattle.rpc_write.proofs.WriteLaws.{bytes_at}
 use Rattle.rpc_write.proofs.kind_size.Given as goal
 
 abbrev pub invariant-loop-i : goal.invariant-loop-i

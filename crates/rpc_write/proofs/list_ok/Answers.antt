@@ -1,7 +1,6 @@
 use mathlib.Core.Path.{sym, ◌∙◌}
-use Rattle.index.proofs.Kit.{◌-◌, ◌≤◌, true, every, every_none, every_more, ◌≡◌, arith}
-use Rattle.rpc.specs.Reading.{known}
-use Rattle.rpc_write.proofs.WriteLaws.{ok_at, list_many, list_short, list_bad, list_good}
+use Rattle.index.proofs.Kit.{every_none, every_more, arith}
+use Rattle.rpc_write.proofs.WriteLaws.{list_many, list_short, list_bad, list_good}
 use Rattle.rpc_write.proofs.list_ok.Goals as goal
 
 pub returns-then-n-gt-MOST_ENTRIES : goal.returns-then-n-gt-MOST_ENTRIES
@@ -25,10 +24,10 @@ returns-then-not-entry_ok c =
 
 pub loop-i-preserved : goal.loop-i-preserved
 loop-i-preserved c = (
-      omega arith,
-      every_more _ _ c.loop-i.invariant.1
-          (sym (c.entry_ok.ensures _) ∙ c.if-not-entry_ok.false),
-    )
+  omega arith,
+  every_more _ _ c.loop-i.invariant.1
+      (sym (c.entry_ok.ensures _) ∙ c.if-not-entry_ok.false),
+)
 
 pub returns : goal.returns
 returns c = list_good _ _ _ c.if-n-gt-MOST_ENTRIES.false c.if-list-n.false _ (omega arith) (omega arith)

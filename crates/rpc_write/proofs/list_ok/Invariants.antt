@@ -1,7 +1,7 @@
 -- `rpc_write::list_ok` meets its contract: the loop's invariant: the first i entries are accepted. Assumes nothing.
-use Rattle.index.proofs.Kit.{◌-◌, ◌≤◌, true, every, every_none, every_more, ◌≡◌, arith, failed, passed}
+use Rattle.index.proofs.Kit.{◌-◌, ◌≤◌, true, every, ◌≡◌}
 use Rattle.rpc.specs.Reading.{known}
-use Rattle.rpc_write.proofs.WriteLaws.{ok_at, list_many, list_short, list_bad, list_good}
+use Rattle.rpc_write.proofs.WriteLaws.{ok_at}
 use Rattle.rpc_write.proofs.list_ok.Given as goal
 
 abbrev pub invariant-loop-i : goal.invariant-loop-i

@@ -15,11 +15,11 @@ part_size-requires c = (omega arith, omega (arith, c.requires.1.1))
 
 pub overflow_add-result : goal.overflow_add-result
 overflow_add-result c = omega (
-      arith,
-      c.kind_size-a.ensures.1,
-      c.part_size.ensures.1,
-      c.requires.1.1,
-    )
+  arith,
+  c.kind_size-a.ensures.1,
+  c.part_size.ensures.1,
+  c.requires.1.1,
+)
 
 pub returns : goal.returns
 returns c = with_control _ _ _ _ _ c.requires.1.0

@@ -1,5 +1,4 @@
 -- `rpc_write::name_size` meets its contract. Assumes nothing.
-use borrow.Author.Rules.{rules}
 use Rattle.rpc_write.proofs.WriteLaws.{size_is, size_long, size_far}
 use Rattle.rpc_write.proofs.name_size.Goals as goal
 

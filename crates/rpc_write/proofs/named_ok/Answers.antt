@@ -1,5 +1,4 @@
 -- `rpc_write::named_ok` meets its contract. Assumes nothing.
-use borrow.Author.Rules.{rules}
 use Rattle.rpc_write.proofs.WriteLaws.{named_is}
 use Rattle.rpc_write.proofs.named_ok.Goals as goal
 

@@ -1,5 +1,4 @@
 -- `rpc_write::named_size` meets its contract. Assumes nothing.
-use borrow.Author.Rules.{rules}
 use Rattle.rpc_write.proofs.WriteLaws.{named_length}
 use Rattle.rpc_write.proofs.named_size.Goals as goal
 

@@ -1,5 +1,4 @@
 -- `rpc_write::notice_ok` meets its contract. Assumes nothing.
-use Rattle.index.proofs.Kit.{rules}
 use Rattle.rpc_write.proofs.WriteLaws.{notice_other, notice_topic, notice_found, notice_none}
 use Rattle.rpc_write.proofs.notice_ok.Goals as goal
 

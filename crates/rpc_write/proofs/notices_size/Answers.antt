@@ -14,6 +14,6 @@ part_size-requires c = (omega arith, omega (arith, c.kind_size-size.ensures.1))
 
 pub returns : goal.returns
 returns c = (
-      inner_length 5 _ _ _ c.kind_size-size.ensures.0 c.if-size-eq0.false c.part_size.ensures.0,
-      omega (arith, c.kind_size-size.ensures.1, c.part_size.ensures.1),
-    )
+  inner_length 5 _ _ _ c.kind_size-size.ensures.0 c.if-size-eq0.false c.part_size.ensures.0,
+  omega (arith, c.kind_size-size.ensures.1, c.part_size.ensures.1),
+)

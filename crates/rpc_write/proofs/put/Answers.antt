@@ -1,5 +1,5 @@
 -- `rpc_write::put` meets its contract. Assumes nothing.
-use Rattle.index.proofs.Kit.{rules, sym}
+use Rattle.index.proofs.Kit.{sym}
 use lib.Seq.{set_out}
 use Rattle.rpc_write.proofs.put.Goals as goal
 

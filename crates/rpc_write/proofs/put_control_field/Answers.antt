@@ -1,5 +1,5 @@
 -- `rpc_write::put_control_field` meets its contract. Assumes nothing.
-use Rattle.index.proofs.Kit.{rules, arith}
+use Rattle.index.proofs.Kit.{arith}
 use Rattle.rpc_write.proofs.WriteLaws.{inner_none, inner_some}
 use Rattle.rpc_write.proofs.put_control_field.Goals as goal
 

@@ -1,5 +1,4 @@
 -- `rpc_write::put_fields` meets its contract. Assumes nothing.
-use borrow.Author.Rules.{rules}
 use Rattle.rpc_write.proofs.WriteLaws.{named_stored}
 use Rattle.rpc_write.proofs.put_fields.Goals as goal
 

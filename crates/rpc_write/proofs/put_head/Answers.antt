@@ -1,5 +1,4 @@
 -- `rpc_write::put_head` meets its contract. Assumes nothing.
-use borrow.Author.Rules.{rules}
 use Rattle.rpc_write.proofs.WriteLaws.{head_stored}
 use Rattle.rpc_write.proofs.put_head.Goals as goal
 

@@ -1,5 +1,5 @@
 -- `rpc_write::put_id`: the row of the number is found, as the list was accepted, and its bytes are those that are written. Assumes nothing.
-use Rattle.index.proofs.Kit.{rules, arith}
+use Rattle.index.proofs.Kit.{arith}
 use Rattle.message_ids.proofs.TableLaws.{table_parts}
 use Rattle.rpc_write.proofs.WriteLaws.{id_row, id_stored, no_id_stored}
 use Rattle.rpc_write.proofs.put_id.Goals as goal

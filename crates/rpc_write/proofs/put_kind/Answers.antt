@@ -1,8 +1,6 @@
-use Rattle.index.proofs.Kit.{◌+◌, ◌-◌, ◌*◌, ◌≤◌, gather, ◌≡◌, refl, ◌∙◌, arith}
-use lib.ListN.{length}
+use Rattle.index.proofs.Kit.{refl, ◌∙◌, arith}
 use Rattle.rpc.specs.Reading.{known}
-use Rattle.rpc_write.specs.Writing.{Stored}
-use Rattle.rpc_write.proofs.WriteLaws.{good, bytes_at, kind_none, kind_more, kind_all}
+use Rattle.rpc_write.proofs.WriteLaws.{good, kind_none, kind_more, kind_all}
 use Rattle.rpc_write.proofs.put_kind.Goals as goal
 
 pub loop-i-init : goal.loop-i-init

@@ -1,10 +1,10 @@
 -- `rpc_write::put_kind` meets its contract: the loop's invariant: the first i entries' bytes stand one after the other, at most 80 each.
 -- Assumes nothing.
-use Rattle.index.proofs.Kit.{◌+◌, ◌-◌, ◌*◌, ◌≤◌, gather, ◌≡◌, refl, ◌∙◌, arith}
+use Rattle.index.proofs.Kit.{◌+◌, ◌-◌, ◌*◌, ◌≤◌, gather, ◌≡◌}
 use lib.ListN.{length}
 use Rattle.rpc.specs.Reading.{known}
 use Rattle.rpc_write.specs.Writing.{Stored}
-use Rattle.rpc_write.proofs.WriteLaws.{good, bytes_at, kind_none, kind_more, kind_all}
+use Rattle.rpc_write.proofs.WriteLaws.{bytes_at}
 use Rattle.rpc_write.proofs.put_kind.Given as goal
 
 abbrev pub invariant-loop-i : goal.invariant-loop-i

@@ -1,5 +1,5 @@
 -- `rpc_write::put_message` meets its contract. Assumes nothing.
-use Rattle.index.proofs.Kit.{rules, arith}
+use Rattle.index.proofs.Kit.{arith}
 use Rattle.rpc_write.proofs.WriteLaws.{message_stored}
 use Rattle.rpc_write.proofs.put_message.Goals as goal
 

@@ -1,5 +1,5 @@
 -- `rpc_write::put_name` meets its contract; a topic without a name writes nothing. Assumes nothing.
-use Rattle.index.proofs.Kit.{rules, arith}
+use Rattle.index.proofs.Kit.{arith}
 use Rattle.rpc_write.proofs.WriteLaws.{name_far, name_run}
 use Rattle.rpc_write.proofs.put_name.Goals as goal
 

@@ -1,5 +1,5 @@
 -- `rpc_write::put_notices` meets its contract. Assumes nothing.
-use Rattle.index.proofs.Kit.{rules, arith}
+use Rattle.index.proofs.Kit.{arith}
 use Rattle.rpc_write.proofs.WriteLaws.{inner_none, inner_some}
 use Rattle.rpc_write.proofs.put_notices.Goals as goal
 
@@ -11,13 +11,13 @@ returns-then-size-eq0 c = inner_none _ _ 5 _ 5760 _ c.kind_size-size.ensures.0 c
 
 pub put_head-a-requires : goal.put_head-a-requires
 put_head-a-requires c = (
-      omega arith,
-      (
-        omega (arith, c.kind_size-size.ensures.1),
-        omega
-            (arith, c.requires.1),
-      ),
-    )
+  omega arith,
+  (
+    omega (arith, c.kind_size-size.ensures.1),
+    omega
+        (arith, c.requires.1),
+  ),
+)
 
 pub put_kind-requires : goal.put_kind-requires
 put_kind-requires c = let p = c.requires in

@@ -1,5 +1,4 @@
 -- `rpc_write::put_number` meets its contract. Assumes nothing.
-use borrow.Author.Rules.{rules}
 use Rattle.rpc_write.proofs.WriteLaws.{number_one, number_two}
 use Rattle.rpc_write.proofs.put_number.Goals as goal
 

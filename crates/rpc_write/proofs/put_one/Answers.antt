@@ -1,5 +1,5 @@
 -- `rpc_write::put_one` meets its contract. Assumes nothing.
-use Rattle.index.proofs.Kit.{rules, arith}
+use Rattle.index.proofs.Kit.{arith}
 use Rattle.rpc_write.proofs.WriteLaws.{one_other, one_stored}
 use Rattle.rpc_write.proofs.put_one.Goals as goal
 

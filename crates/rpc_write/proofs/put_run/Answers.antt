@@ -1,5 +1,5 @@
-use Rattle.index.proofs.Kit.{rules, arith, ◌-◌, ◌≤◌}
-use Rattle.rpc_write.proofs.WriteLaws.{Copied, copy_none, copy_more, copy_all}
+use Rattle.index.proofs.Kit.{arith}
+use Rattle.rpc_write.proofs.WriteLaws.{copy_none, copy_more, copy_all}
 use Rattle.rpc_write.proofs.put_run.Goals as goal
 
 pub loop-i-init : goal.loop-i-init

@@ -1,5 +1,4 @@
 -- `rpc_write::put_value` meets its contract. Assumes nothing.
-use borrow.Author.Rules.{rules}
 use Rattle.rpc_write.proofs.WriteLaws.{value_none, value_some}
 use Rattle.rpc_write.proofs.put_value.Goals as goal
 

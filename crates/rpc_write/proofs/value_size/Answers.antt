@@ -1,5 +1,4 @@
 -- `rpc_write::value_size` meets its contract. Assumes nothing.
-use borrow.Author.Rules.{rules}
 use Rattle.rpc_write.proofs.WriteLaws.{value_zero, value_size}
 use Rattle.rpc_write.proofs.value_size.Goals as goal
 

@@ -1,5 +1,4 @@
 -- `save_load::check_all`: each end by its case. Assumes nothing.
-use Prim.{tt}
 use mathlib.Core.Path.{◌≡◌, sym, ◌∙◌}
 use borrow.Author.Rules.{rules}
 use lib.ListN.{length}

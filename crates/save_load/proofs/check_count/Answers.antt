@@ -1,7 +1,5 @@
 -- `save_load::check_count`: each end by its case. Assumes nothing.
-use Prim.{tt}
 use native.Mathlib.Omega.{arith}
-use borrow.Author.Rules.{rules}
 use Rattle.save_load.proofs.CheckLaws.{count_bad, count_over, count_fine}
 use Rattle.save_load.proofs.check_count.Goals as goal
 

@@ -1,16 +1,14 @@
 -- `save_load::check_edition`: each end by its case. Assumes nothing.
-use Prim.{tt}
 use mathlib.Core.Path.{sym, ◌∙◌}
-use borrow.Author.Rules.{rules}
 use Rattle.saves.proofs.Opened.{slots_most}
 use Rattle.save_load.proofs.CheckLaws.{edition_bad, edition_none, edition_fine}
 use Rattle.save_load.proofs.check_edition.Goals as goal
 
 pub check_count-requires : goal.check_count-requires
 check_count-requires c = (
-      c.requires,
-      slots_most _ _ (sym c.slots_of.ensures ∙ c.in-At.is),
-    )
+  c.requires,
+  slots_most _ _ (sym c.slots_of.ensures ∙ c.in-At.is),
+)
 
 pub returns-in-At : goal.returns-in-At
 returns-in-At c p clock d =

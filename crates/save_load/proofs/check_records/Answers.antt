@@ -1,7 +1,4 @@
 -- `save_load::check_records`: each end by its case. Assumes nothing.
-use Prim.{tt}
-use native.Mathlib.Omega.{arith}
-use borrow.Author.Rules.{rules}
 use Rattle.lookup.specs.Fresh.{fresh_state}
 use Rattle.save_load.proofs.CheckLaws.{fresh_coded, skim_read, records_broken, records_over, records_outside, records_fine}
 use Rattle.save_load.proofs.check_records.Goals as goal
@@ -16,10 +13,10 @@ returns-then-next-s c p clock d = records_over p clock c.args.s.now
 
 pub judge-requires : goal.judge-requires
 judge-requires c = (
-      c.requires.0,
-      skim_read _ _ _ _ c.skim_numbers.result
-          c.skim_numbers.ensures c.in-End.is,
-    )
+  c.requires.0,
+  skim_read _ _ _ _ c.skim_numbers.result
+      c.skim_numbers.ensures c.in-End.is,
+)
 
 pub returns-in-Broken : goal.returns-in-Broken
 returns-in-Broken c p clock d = records_broken p clock c.args.s.now

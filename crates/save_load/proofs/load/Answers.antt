@@ -1,15 +1,14 @@
 -- `save_load::load`: refused, or made. Assumes nothing.
-use Prim.{tt}
 use borrow.Author.Rules.{rules}
 use Rattle.save_load.proofs.CheckLaws.{fine_parts, load_refused, load_made}
 use Rattle.save_load.proofs.load.Goals as goal
 
 pub make-requires : goal.make-requires
 make-requires c = (
-      search rules,
-      fine_parts _ _ _ c.check_all.result _ _
-          c.check_all.ensures c.in-Fine.is,
-    )
+  search rules,
+  fine_parts _ _ _ c.check_all.result _ _
+      c.check_all.ensures c.in-Fine.is,
+)
 
 pub returns-in-Refuse : goal.returns-in-Refuse
 returns-in-Refuse c = load_refused _ _ _ _ c.check_all.result _ c.check_all.ensures

@@ -10,12 +10,11 @@ pub store_clock-requires : goal.store_clock-requires
 store_clock-requires c = c.fresh.auto.table ∙ c.requires.0
 
 pub store_rows-requires : goal.store_rows-requires
-store_rows-requires c =
-    (
-      c.store_clock.auto.cells ∙ c.fresh.auto.table
-          ∙ c.requires.0,
-      (c.requires.1.0, (c.requires.1.1.0, c.requires.1.1.1.1)),
-    )
+store_rows-requires c = (
+  c.store_clock.auto.cells ∙ c.fresh.auto.table
+      ∙ c.requires.0,
+  (c.requires.1.0, (c.requires.1.1.0, c.requires.1.1.1.1)),
+)
 
 pub shape_of-table : goal.shape_of-table
 shape_of-table c = c.store_rows.auto.table ∙ c.store_clock.auto.cells

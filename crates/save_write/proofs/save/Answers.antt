@@ -21,16 +21,16 @@ returns-then-time-load_clock c =
 
 pub save_records-requires : goal.save_records-requires
 save_records-requires c = (
-      search rules,
-      (
-        passed c.is_router.ensures
-            (ap not c.if-not-is_router.false),
-        (
-          c.if-time-gt-MAX_TIME.false,
-          omega (arith, c.load_clock.ensures, c.if-time-load_clock.false),
-        ),
-      ),
-    )
+  search rules,
+  (
+    passed c.is_router.ensures
+        (ap not c.if-not-is_router.false),
+    (
+      c.if-time-gt-MAX_TIME.false,
+      omega (arith, c.load_clock.ensures, c.if-time-load_clock.false),
+    ),
+  ),
+)
 
 pub shape_of-buf : goal.shape_of-buf
 shape_of-buf c = c.save_records.auto.buf

@@ -23,18 +23,17 @@ pub slice_bounds-save_sorted-end-2 : goal.slice_bounds-save_sorted-end-2
 slice_bounds-save_sorted-end-2 c = refl
 
 pub save_sorted-requires : goal.save_sorted-requires
-save_sorted-requires c =
-    (
-      record {
-        size = c.requires.0;
-        router = c.requires.1.0;
-        early = c.requires.1.1.0;
-        late = c.requires.1.1.1;
-        retain = c.end_after-end.ensures.0
-            ∙ ap (end_after c.args.time) c.load_magnitude.ensures;
-      },
-      (refl, refl),
-    )
+save_sorted-requires c = (
+  record {
+    size = c.requires.0;
+    router = c.requires.1.0;
+    early = c.requires.1.1.0;
+    late = c.requires.1.1.1;
+    retain = c.end_after-end.ensures.0
+        ∙ ap (end_after c.args.time) c.load_magnitude.ensures;
+  },
+  (refl, refl),
+)
 
 pub shape_of-buf : goal.shape_of-buf
 shape_of-buf c = c.save_sorted.auto.buf

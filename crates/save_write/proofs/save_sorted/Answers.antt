@@ -55,20 +55,19 @@ slice_bounds-write_save-end-2 c =
     sym (length-take-le n _ (omega arith))
 
 pub write_save-requires : goal.write_save-requires
-write_save-requires c =
-    (
-      c.requires.0,
-      sorted_front (state_of c.args.table.now) c.args.time
-          c.collect_keys-n.result
-          c.collect_keys-n.new.keys
-          c.sort.new.keys
-          (few_fit c.collect_keys-n.ensures.0
-          c.collect_keys-n.auto.keys
-          c.requires.1.0)
-          c.collect_keys-n.ensures.1
-          c.sort.auto.keys
-          c.sort.ensures,
-    )
+write_save-requires c = (
+  c.requires.0,
+  sorted_front (state_of c.args.table.now) c.args.time
+      c.collect_keys-n.result
+      c.collect_keys-n.new.keys
+      c.sort.new.keys
+      (few_fit c.collect_keys-n.ensures.0
+      c.collect_keys-n.auto.keys
+      c.requires.1.0)
+      c.collect_keys-n.ensures.1
+      c.sort.auto.keys
+      c.sort.ensures,
+)
 
 pub shape_of-list : goal.shape_of-list
 shape_of-list c =

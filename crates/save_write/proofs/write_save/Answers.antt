@@ -1,6 +1,5 @@
 -- `save_write::write_save`: the sizes first; then the front and the rows. Assumes nothing.
 use mathlib.Core.Path.{refl, ◌∙◌}
-use native.Mathlib.Omega.{arith}
 use Rattle.layout.specs.View.{state_of}
 use Rattle.save_write.proofs.SaveLaws.{keys_few, write_short, write_room, write_rest, write_done}
 use Rattle.save_write.proofs.write_save.Goals as goal

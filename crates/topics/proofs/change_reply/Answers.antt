@@ -1,6 +1,5 @@
 -- `topics::change_reply`: 11 of a graylisted peer, else the record and the clock.
 -- Assumes nothing.
-use borrow.Author.Rules.{rules}
 use Rattle.gate.proofs.StandingLaws.{gray_is}
 use Rattle.topics.specs.Change.{change_reply}
 use Rattle.topics.proofs.ReplyLaws.{else_ignored, else_done}

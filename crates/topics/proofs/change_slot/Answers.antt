@@ -1,5 +1,4 @@
 -- `topics::change_slot`: the one store or the other.
-use borrow.Author.Rules.{rules}
 use Rattle.topics.proofs.ReplyLaws.{changed_on, changed_off}
 use Rattle.topics.proofs.change_slot.Goals as goal
 

@@ -1,5 +1,4 @@
 -- `topics::join_from`: 11 of a joined topic, else the flag and the clock.
-use borrow.Author.Rules.{rules}
 use Rattle.rules.specs.Step.{join_reply}
 use Rattle.topics.proofs.ReplyLaws.{else_ignored, else_done}
 use Rattle.topics.proofs.join_from.Goals as goal

@@ -1,10 +1,6 @@
-use Prim.Native.Nat.{◌-◌}
 use mathlib.Core.Path.{refl}
 use native.Mathlib.Omega.{arith}
-use borrow.Author.Rules.{rules}
-use Rattle.index.proofs.Lists.{Built, built_none, built_more}
-use Rattle.records.specs.Records.{code_in, param_count}
-use Rattle.layout.specs.View.{state_of}
+use Rattle.index.proofs.Lists.{built_none, built_more}
 use Rattle.validity.proofs.SignLaws.{codes_built}
 use Rattle.forms.proofs.CopyLaws.{code_small}
 use Rattle.forms.proofs.copy.codes.Goals as goal

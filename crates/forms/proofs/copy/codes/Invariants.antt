@@ -1,13 +1,8 @@
 -- `forms::copy::codes`: the loop builds the codes from the front; a router's magnitudes are small.
 use Prim.Native.Nat.{◌-◌}
-use mathlib.Core.Path.{refl}
-use native.Mathlib.Omega.{arith}
-use borrow.Author.Rules.{rules}
-use Rattle.index.proofs.Lists.{Built, built_none, built_more}
+use Rattle.index.proofs.Lists.{Built}
 use Rattle.records.specs.Records.{code_in, param_count}
 use Rattle.layout.specs.View.{state_of}
-use Rattle.validity.proofs.SignLaws.{codes_built}
-use Rattle.forms.proofs.CopyLaws.{code_small}
 use Rattle.forms.proofs.copy.codes.Given as goal
 
 abbrev pub invariant-loop-i : goal.invariant-loop-i

@@ -1,6 +1,5 @@
 -- `forms::copy::fill_rows`: part by part, each as its callee ensures it.
 use mathlib.Core.Path.{ap, ◌∙◌}
-use borrow.Author.Rules.{rules}
 use Rattle.records.specs.Records.{set_clock}
 use Rattle.layout.specs.View.{set_codes, set_setup, state_of}
 use Rattle.layout.proofs.StateLaws.{sized_of}

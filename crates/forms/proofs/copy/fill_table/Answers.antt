@@ -1,6 +1,5 @@
 -- `forms::copy::fill_table`: part by part, each as its callee ensures it.
 use mathlib.Core.Path.{ap, ◌∙◌}
-use borrow.Author.Rules.{rules}
 use Rattle.records.specs.Records.{set_clock}
 use Rattle.layout.specs.View.{set_codes, set_setup}
 use Rattle.layout.proofs.StateLaws.{sized_of}
@@ -11,40 +10,37 @@ use Rattle.forms.proofs.copy.fill_table.Goals as goal
 
 -- the steps, from the last
 pub store_codes-requires : goal.store_codes-requires
-store_codes-requires c =
-    (
-      c.joined_from.auto.table ∙ c.store_clock.auto.cells ∙ c.clear.auto.cells ∙ c.requires.to,
-      codes_fit_in _ c.requires.router _ (Sized-rows _) c.codes.ensures,
-    )
+store_codes-requires c = (
+  c.joined_from.auto.table ∙ c.store_clock.auto.cells ∙ c.clear.auto.cells ∙ c.requires.to,
+  codes_fit_in _ c.requires.router _ (Sized-rows _) c.codes.ensures,
+)
 
 pub peers_from-requires : goal.peers_from-requires
-peers_from-requires c =
-    (
-      record {
-        from = c.requires.from;
-        to =
-            c.store_setup.auto.cells ∙ c.store_codes.auto.cells ∙ c.joined_from.auto.table ∙ c.store_clock.auto.cells
-            ∙ c.clear.auto.cells
-            ∙ c.requires.to;
-        router = c.requires.router;
-      },
-      c.records_end-n.ensures.0,
-    )
+peers_from-requires c = (
+  record {
+    from = c.requires.from;
+    to =
+        c.store_setup.auto.cells ∙ c.store_codes.auto.cells ∙ c.joined_from.auto.table ∙ c.store_clock.auto.cells
+        ∙ c.clear.auto.cells
+        ∙ c.requires.to;
+    router = c.requires.router;
+  },
+  c.records_end-n.ensures.0,
+)
 
 pub topics_from-requires : goal.topics_from-requires
-topics_from-requires c =
-    (
-      record {
-        from = c.requires.from;
-        to =
-            c.peers_from.auto.table ∙ c.store_setup.auto.cells ∙ c.store_codes.auto.cells ∙ c.joined_from.auto.table
-            ∙ c.store_clock.auto.cells
-            ∙ c.clear.auto.cells
-            ∙ c.requires.to;
-        router = c.requires.router;
-      },
-      c.records_end-n.ensures.0,
-    )
+topics_from-requires c = (
+  record {
+    from = c.requires.from;
+    to =
+        c.peers_from.auto.table ∙ c.store_setup.auto.cells ∙ c.store_codes.auto.cells ∙ c.joined_from.auto.table
+        ∙ c.store_clock.auto.cells
+        ∙ c.clear.auto.cells
+        ∙ c.requires.to;
+    router = c.requires.router;
+  },
+  c.records_end-n.ensures.0,
+)
 
 pub returns : goal.returns
 returns c =

@@ -1,12 +1,6 @@
-use Prim.Native.Nat.{◌≤◌, ◌-◌}
-use mathlib.Core.Path.{◌≡◌, sym, ◌∙◌}
+use mathlib.Core.Path.{sym, ◌∙◌}
 use native.Mathlib.Omega.{arith}
-use borrow.Author.Rules.{rules}
-use lib.ListN.{length}
 use Rattle.records.specs.Records.{topic_count}
-use Rattle.layout.specs.View.{state_of}
-use Rattle.rows.specs.View.{rows_count, state_of_rows}
-use Rattle.forms.specs.Turns.{copy_joined}
 use Rattle.forms.proofs.CopyLaws.{joined_start, joined_more, joined_end}
 use Rattle.forms.proofs.copy.joined_to.Goals as goal
 

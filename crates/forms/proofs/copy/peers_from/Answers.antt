@@ -1,12 +1,7 @@
-use Prim.Native.Nat.{◌≤◌, ◌<◌, ◌-◌}
-use mathlib.Core.Path.{◌≡◌, sym, ◌∙◌}
+use Prim.Native.Nat.{◌<◌}
+use mathlib.Core.Path.{sym, ◌∙◌}
 use native.Mathlib.Omega.{arith}
-use borrow.Author.Rules.{rules}
-use lib.ListN.{length}
 use Rattle.records.specs.Records.{slot_count}
-use Rattle.layout.specs.View.{cell_count, state_of}
-use Rattle.rows.specs.View.{state_of_rows}
-use Rattle.forms.specs.Turns.{copy_peers}
 use Rattle.forms.proofs.CopyLaws.{peers_start, peers_more, peers_end, peer_fit}
 use Rattle.forms.proofs.copy.peers_from.Goals as goal
 

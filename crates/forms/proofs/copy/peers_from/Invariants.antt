@@ -1,14 +1,10 @@
 -- `forms::copy::peers_from`: after s turns the first s are copied.
-use Prim.Native.Nat.{◌≤◌, ◌<◌, ◌-◌}
-use mathlib.Core.Path.{◌≡◌, sym, ◌∙◌}
-use native.Mathlib.Omega.{arith}
-use borrow.Author.Rules.{rules}
+use Prim.Native.Nat.{◌≤◌, ◌-◌}
+use mathlib.Core.Path.{◌≡◌}
 use lib.ListN.{length}
-use Rattle.records.specs.Records.{slot_count}
 use Rattle.layout.specs.View.{cell_count, state_of}
 use Rattle.rows.specs.View.{state_of_rows}
 use Rattle.forms.specs.Turns.{copy_peers}
-use Rattle.forms.proofs.CopyLaws.{peers_start, peers_more, peers_end, peer_fit}
 use Rattle.forms.proofs.copy.peers_from.Given as goal
 
 abbrev pub invariant-loop-s : goal.invariant-loop-s

@@ -1,14 +1,11 @@
 -- `forms::copy::peers_to`: after s turns the first s are copied.
 use Prim.Native.Nat.{◌≤◌, ◌-◌}
-use mathlib.Core.Path.{◌≡◌, sym, ◌∙◌}
-use native.Mathlib.Omega.{arith}
-use borrow.Author.Rules.{rules}
+use mathlib.Core.Path.{◌≡◌}
 use lib.ListN.{length}
 use Rattle.records.specs.Records.{slot_count}
 use Rattle.layout.specs.View.{state_of}
 use Rattle.rows.specs.View.{rows_count, state_of_rows}
 use Rattle.forms.specs.Turns.{copy_peers}
-use Rattle.forms.proofs.CopyLaws.{peers_start, peers_more, peers_end}
 use Rattle.forms.proofs.copy.peers_to.Given as goal
 
 abbrev pub invariant-loop-s : goal.invariant-loop-s

@@ -1,12 +1,7 @@
-use Prim.Native.Nat.{◌≤◌, ◌<◌, ◌-◌, ◌*◌}
-use mathlib.Core.Path.{◌≡◌, sym, ◌∙◌}
+use Prim.Native.Nat.{◌<◌}
+use mathlib.Core.Path.{sym, ◌∙◌}
 use native.Mathlib.Omega.{arith}
-use borrow.Author.Rules.{rules}
-use lib.ListN.{length}
-use Rattle.records.specs.Records.{topic_count}
-use Rattle.layout.specs.View.{place_count, cell_count, state_of}
-use Rattle.rows.specs.View.{state_of_rows}
-use Rattle.forms.specs.Turns.{copy_topics}
+use Rattle.layout.specs.View.{place_count}
 use Rattle.forms.proofs.CopyLaws.{topics_start, topics_more, topics_end, topic_fit}
 use Rattle.forms.proofs.copy.topics_from.Goals as goal
 

@@ -1,11 +1,6 @@
-use Prim.Native.Nat.{◌≤◌, ◌-◌}
-use mathlib.Core.Path.{◌≡◌, sym, ◌∙◌}
+use mathlib.Core.Path.{sym, ◌∙◌}
 use native.Mathlib.Omega.{arith}
-use borrow.Author.Rules.{rules}
-use lib.ListN.{length}
-use Rattle.layout.specs.View.{place_count, state_of}
-use Rattle.rows.specs.View.{rows_count, state_of_rows}
-use Rattle.forms.specs.Turns.{copy_topics}
+use Rattle.layout.specs.View.{place_count}
 use Rattle.forms.proofs.CopyLaws.{topics_start, topics_more, topics_end}
 use Rattle.forms.proofs.copy.topics_to.Goals as goal
 

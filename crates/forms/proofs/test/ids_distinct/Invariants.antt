@@ -1,10 +1,8 @@
 use Prim.Native.Nat.{◌≤◌, ◌-◌}
 use mathlib.Core.Path.{◌≡◌}
-use borrow.Author.Rules.{rules}
 use Rattle.index.specs.Index.{every}
 use Rattle.rows.specs.View.{state_of_rows}
 use Rattle.validity.specs.Valid.{new_id}
-use Rattle.validity.proofs.Loops.{flag-loop}
 use Rattle.records.specs.Records.{slot_count}
 use Rattle.forms.proofs.test.ids_distinct.Given as goal
 

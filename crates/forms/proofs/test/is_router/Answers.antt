@@ -1,7 +1,6 @@
 -- `forms::test::is_router`: the clock, then the rest. Assumes nothing.
 use Prim.Native.Nat.{ℕ, ◌<◌, ◌≤◌}
 use mathlib.Core.Path.{subst}
-use borrow.Author.Rules.{rules}
 use Rattle.validity.specs.Valid.{max_time}
 use Rattle.validity.proofs.OrderLaws.{clock_fails, clock_passes}
 use Rattle.forms.proofs.test.is_router.Goals as goal
@@ -11,9 +10,9 @@ returns-then-load_clock-gt-MAX_TIME c = clock_fails _ (subst (λ (n : ℕ). max_
 
 pub slots_ok-slots-requires : goal.slots_ok-slots-requires
 slots_ok-slots-requires c = (
-      c.requires,
-      subst (λ (n : ℕ). n ≤ max_time) c.load_clock.ensures c.if-load_clock-gt-MAX_TIME.false,
-    )
+  c.requires,
+  subst (λ (n : ℕ). n ≤ max_time) c.load_clock.ensures c.if-load_clock-gt-MAX_TIME.false,
+)
 
 pub returns : goal.returns
 returns c =

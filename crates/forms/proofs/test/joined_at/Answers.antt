@@ -1,4 +1,3 @@
-use borrow.Author.Rules.{rules}
 use Rattle.validity.specs.Valid.{joined_ok}
 use Rattle.forms.proofs.test.joined_at.Goals as goal
 

@@ -1,11 +1,5 @@
-use Prim.Native.Nat.{◌≤◌, ◌-◌}
-use mathlib.Core.Path.{◌≡◌}
 use borrow.Author.Rules.{rules}
-use Rattle.index.specs.Index.{every}
-use Rattle.rows.specs.View.{state_of_rows}
-use Rattle.validity.specs.Valid.{joined_ok}
 use Rattle.validity.proofs.Loops.{flag-loop}
-use Rattle.records.specs.Records.{topic_count}
 use Rattle.forms.proofs.test.joined_ok.Goals as goal
 
 pub loop-t-init : goal.loop-t-init

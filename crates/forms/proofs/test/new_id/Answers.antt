@@ -1,9 +1,7 @@
-use Rattle.index.proofs.Kit.{◌≤◌, ◌-◌, ◌≡◌, arith, rules, every, true, ap, not}
+use Rattle.index.proofs.Kit.{arith, rules, ap, not}
 use mathlib.Core.Path.{ap₂, ◌∙◌}
 use Rattle.index.proofs.Index.{every-loop, every_more, every_out}
 use Rattle.index.proofs.Flags.{failed, passed}
-use Rattle.records.specs.Records.{peer_in}
-use Rattle.rows.specs.View.{state_of_rows}
 use Rattle.validity.specs.Valid.{apart, new_id}
 use Rattle.forms.proofs.test.new_id.Goals as goal
 
@@ -18,13 +16,12 @@ returns-then-not-apart c =
     (ap not c.if-not-apart.true))
 
 pub loop-k-preserved : goal.loop-k-preserved
-loop-k-preserved c =
-    (
-      omega arith,
-      every_more _ _ c.loop-k.invariant.1
-          (passed (c.apart.ensures ∙ ap₂ apart c.load_id-id.ensures c.load_id.ensures)
-          (ap not c.if-not-apart.false)),
-    )
+loop-k-preserved c = (
+  omega arith,
+  every_more _ _ c.loop-k.invariant.1
+      (passed (c.apart.ensures ∙ ap₂ apart c.load_id-id.ensures c.load_id.ensures)
+      (ap not c.if-not-apart.false)),
+)
 
 pub returns : goal.returns
 unfolding new_id

@@ -1,11 +1,8 @@
 -- `forms::test::new_id`: after k turns the ids below k are apart from this one. Assumes nothing.
-use Rattle.index.proofs.Kit.{◌≤◌, ◌-◌, ◌≡◌, arith, rules, every, true}
-use mathlib.Core.Path.{ap₂, ◌∙◌}
-use Rattle.index.proofs.Index.{every-loop, every_more, every_out}
-use Rattle.index.proofs.Flags.{failed, passed}
+use Rattle.index.proofs.Kit.{◌≤◌, ◌-◌, ◌≡◌, every, true}
 use Rattle.records.specs.Records.{peer_in}
 use Rattle.rows.specs.View.{state_of_rows}
-use Rattle.validity.specs.Valid.{apart, new_id}
+use Rattle.validity.specs.Valid.{apart}
 use Rattle.forms.proofs.test.new_id.Given as goal
 
 abbrev pub invariant-loop-k : goal.invariant-loop-k

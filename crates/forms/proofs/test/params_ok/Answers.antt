@@ -1,7 +1,6 @@
 use Prim.Native.Nat.{ℕ}
 use mathlib.Core.Path.{◌∙◌, ap₂}
 use mathlib.Core.List.{List}
-use borrow.Author.Rules.{rules}
 use Rattle.records.specs.declared.Setup.{Setup}
 use Rattle.params.specs.Check.{accepted_codes}
 use Rattle.forms.proofs.test.params_ok.Goals as goal

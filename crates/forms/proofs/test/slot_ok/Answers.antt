@@ -1,5 +1,4 @@
 use native.Mathlib.Omega.{arith}
-use borrow.Author.Rules.{rules}
 use Rattle.validity.specs.Valid.{slot_ok}
 use Rattle.forms.proofs.test.slot_ok.Goals as goal
 

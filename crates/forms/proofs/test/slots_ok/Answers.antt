@@ -1,11 +1,5 @@
-use Prim.Native.Nat.{◌≤◌, ◌-◌}
-use mathlib.Core.Path.{◌≡◌}
 use borrow.Author.Rules.{rules}
-use Rattle.index.specs.Index.{every}
-use Rattle.rows.specs.View.{state_of_rows}
-use Rattle.validity.specs.Valid.{slot_ok}
 use Rattle.validity.proofs.Loops.{flag-loop}
-use Rattle.records.specs.Records.{slot_count}
 use Rattle.forms.proofs.test.slots_ok.Goals as goal
 
 pub loop-slot-init : goal.loop-slot-init

@@ -1,4 +1,3 @@
-use borrow.Author.Rules.{rules}
 use Rattle.validity.specs.Valid.{topic_ok_at}
 use Rattle.forms.proofs.test.topic_at.Goals as goal
 

@@ -1,4 +1,3 @@
-use borrow.Author.Rules.{rules}
 use Rattle.validity.specs.Valid.{topic_param}
 use Rattle.forms.proofs.test.topic_param.Goals as goal
 

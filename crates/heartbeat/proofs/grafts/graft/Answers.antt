@@ -7,6 +7,7 @@ use lib.ListN.{length}
 use Rattle.layout.specs.View.{state_of}
 use Rattle.words.specs.Words.{word_count, bits_of}
 use Rattle.heartbeat.proofs.GraftLaws.{Walk, walk_none, walk_out, walk_in, walk_full, walk_end, asked_room, grafting_on}
+use Rattle.heartbeat.proofs.grafts.graft.Goals.{then-is_grafted, else-is_grafted}
 use Rattle.heartbeat.proofs.grafts.graft.Goals as goal
 
 pub loop-i-init : goal.loop-i-init
@@ -32,11 +33,11 @@ slice_bounds-is_grafted-end-in-loop-i c = sym c.loop-i.invariant.3
 
 pub is_grafted-requires : goal.is_grafted-requires
 is_grafted-requires c =
-    let l = c.loop-i in (
-      grafting_on _ _ _ _ _ _ _ _ _ _ l.invariant.4.scores.size
-          c.requires,
-      l.invariant.2,
-    )
+    let l = c.loop-i in
+    record {
+      grafting = grafting_on _ _ _ _ _ _ _ _ _ _ l.invariant.4.scores.size c.requires;
+      p_len = l.invariant.2;
+    }
 
 pub overflow_sub-room : goal.overflow_sub-room
 overflow_sub-room c =
@@ -56,28 +57,24 @@ loop-i-preserved c =
     let k = c.is_grafted in
     let lt : l.i < length
     c.args.order.now = omega arith in
-    ⊎_elim
-    (λ w. (
-      omega arith,
-      refl,
-      l.invariant.2,
-      (let q : length w.1.result ≡ word_count = search rules in ap length w.2 ∙ q),
-      walk_in _ _ _ _
-          c.args.p _ _
-          _ _ l.invariant.2 l.i l.room (bits_of l.r) _ _ _ lt l.invariant.4 k.ensures
-          w.0.taken _ _ w.3 (ap bits_of w.2 ∙ w.1.ensures),
-    ))
-    (λ w. (
-      omega arith,
-      refl,
-      l.invariant.2,
-      ap length w.1 ∙ l.invariant.3,
-      walk_out _ _ _ _
-          c.args.p _ _
-          _ _ l.invariant.2 l.i l.room (bits_of l.r) _ _ _ lt l.invariant.4 k.ensures
-          w.0.left _ _ w.2 (ap bits_of w.1),
-    ))
-    c.if-is_grafted.branch
+    elim c.if-is_grafted.branch [
+      then-is_grafted w ↦ (
+        omega arith,
+        refl,
+        l.invariant.2,
+        (let q : length w.put-r.result ≡ word_count = search rules in ap length w.r-is ∙ q),
+        walk_in _ _ _ _ c.args.p _ _ _ _ l.invariant.2 l.i l.room (bits_of l.r) _ _ _ lt l.invariant.4 k.ensures
+            w.if-is_grafted.true _ _ w.room-is (ap bits_of w.r-is ∙ w.put-r.ensures),
+      )
+      | else-is_grafted w ↦ (
+        omega arith,
+        refl,
+        l.invariant.2,
+        ap length w.r-is ∙ l.invariant.3,
+        walk_out _ _ _ _ c.args.p _ _ _ _ l.invariant.2 l.i l.room (bits_of l.r) _ _ _ lt l.invariant.4 k.ensures
+            w.if-is_grafted.false _ _ w.room-is (ap bits_of w.r-is),
+      )
+    ]
 
 pub shape_of-heights : goal.shape_of-heights
 shape_of-heights c = c.loop-i.invariant.4.scores.size

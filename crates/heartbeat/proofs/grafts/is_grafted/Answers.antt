@@ -1,19 +1,12 @@
 -- `heartbeat::grafts::is_grafted`: a slot that is not to be asked leaves all as it was; the score of another is taken and tested.
 use native.Mathlib.Omega.{arith}
 use borrow.Author.Rules.{rules}
-use borrow.Author.Tests.{not-true, not-false}
 use mathlib.Core.Path.{sym, ◌∙◌}
 use Prim.Native.Nat.{◌<◌}
 use Rattle.records.specs.Records.{slot_count}
 use Rattle.words.specs.Words.{bits_of}
 use Rattle.heartbeat.proofs.GraftLaws.{asked_not, taken_slot, asked_is}
 use Rattle.heartbeat.proofs.grafts.is_grafted.Goals as goal
-
-below : (c : tie.After-height) → c.before.before.before.before.before.before.before.args.s < slot_count
-below c =
-    let a = c.before.before.before.before.before.before.before.args in
-    taken_slot a.p.now a.room a.s (bits_of a.m.now) c.before.before.before.before.before.before.before.requires.1
-    (sym c.before.before.takes.ensures ∙ not-false _ c.before.if1.false)
 
 pub returns-then-not-takes : goal.returns-then-not-takes
 returns-then-not-takes c = asked_not _ _ _ _ _ _ _ (sym c.takes.ensures ∙ c.if-not-takes.true)
@@ -24,29 +17,29 @@ height-score-requires c =
     let p = c.requires in
     record {
       at = record {
-        standing = p.0.taking.standing;
-        slot = taken_slot a.p.now a.room a.s (bits_of a.m.now) p.1
+        standing = p.grafting.taking.standing;
+        slot = taken_slot a.p.now a.room a.s (bits_of a.m.now) p.p_len
             (sym c.takes.ensures ∙ c.if-not-takes.false);
       };
-      buckets = p.0.taking.buckets;
-      weights = p.0.weights;
+      buckets = p.grafting.taking.buckets;
+      weights = p.grafting.weights;
     }
 
 pub offset_bounds-heights-s : goal.offset_bounds-heights-s
-offset_bounds-heights-s c = omega (arith, below c)
+offset_bounds-heights-s c = omega (arith, taken_slot c.args.p.now c.args.room c.args.s (bits_of c.args.m.now) c.requires.p_len (sym c.takes.ensures ∙ c.if-not-takes.false))
 
 pub bounds-heights-s : goal.bounds-heights-s
-bounds-heights-s c = omega (arith, below c, c.requires.0.taking.size)
+bounds-heights-s c = omega (arith, taken_slot c.args.p.now c.args.room c.args.s (bits_of c.args.m.now) c.requires.p_len (sym c.takes.ensures ∙ c.if-not-takes.false), c.requires.grafting.taking.size)
 
 pub is_free-requires : goal.is_free-requires
 is_free-requires c =
     let p = c.requires in
-    record { standing = p.0.taking.standing; topic = p.0.topic; slot = below c; score = c.height-score.ensures }
+    record { standing = p.grafting.taking.standing; topic = p.grafting.topic; slot = taken_slot c.args.p.now c.args.room c.args.s (bits_of c.args.m.now) c.requires.p_len (sym c.takes.ensures ∙ c.if-not-takes.false); score = c.height-score.ensures }
 
 pub returns : goal.returns
 returns c =
-    let l = c.requires.0.taking.size in
-    let h = below c in
+    let l = c.requires.grafting.taking.size in
+    let h = taken_slot c.args.p.now c.args.room c.args.s (bits_of c.args.m.now) c.requires.p_len (sym c.takes.ensures ∙ c.if-not-takes.false) in
     asked_is _ _ _ _ c.args.s _ _ _ _
     (sym c.takes.ensures ∙ c.if-not-takes.false) (omega arith)
     c.height-score.ensures c.is_free.ensures

@@ -46,8 +46,9 @@ pub last_stages-requires : goal.last_stages-requires
 last_stages-requires c =
     let b = c.requires in
     let p = b.partial in
-    let s = c.second-m2.ensures in (
-      grafting_on _ _ _ _ _ _ _ _ _ _ s.0.size
+    let s = c.second-m2.ensures in
+    record {
+      grafting = grafting_on _ _ _ _ _ _ _ _ _ _ s.0.size
           (record {
             taking = p.taking;
             weights = record {
@@ -58,16 +59,16 @@ last_stages-requires c =
                   c.weights-w4.ensures;
             };
             topic = p.topic;
-          }),
-      record {
+          });
+      halfway = record {
         first = b.mesh;
         second = s.1
             c.args.ask;
         few = few_of _ _ _ _ c.degrees-t.ensures
             c.size.ensures c.if-t-size.false;
         scores = s.0.scored b.scores;
-      },
-    )
+      };
+    }
 
 pub shape_of-heights : goal.shape_of-heights
 shape_of-heights c = c.last_stages.auto.heights

@@ -7,10 +7,6 @@ use Rattle.mesh.specs.Words.{changes_in}
 use Rattle.mesh.proofs.ActionLaws.{room_first, room_second, room_third, room_fourth, room_fifth, written_all}
 use Rattle.heartbeat.proofs.tell.tell_all.Goals as goal
 
--- what the function began with, from the first run on
-abbrev start : tie.After-tell-by-slot → tie.Start
-start w = w.before.before.before.before.before.before.before.before.before.before
-
 pub tell_by_slot-n1-requires : goal.tell_by_slot-n1-requires
 tell_by_slot-n1-requires c =
     let a = c.args in
@@ -21,35 +17,32 @@ tell_by_slot-n1-requires c =
 
 pub tell_in_order-n2-requires : goal.tell_in_order-n2-requires
 tell_in_order-n2-requires c =
-    let b = start w₁ in
-    let a = b.args in
+    let a = c.args in
     record {
-      size = b.pre.size;
+      size = c.requires.size;
       writable =
-          room_second slot_count a.permutation.now (ascending 0 slot_count) (changes_in a.c) refl b.pre.writable
+          room_second slot_count a.permutation.now (ascending 0 slot_count) (changes_in a.c) refl c.requires.writable
           c.tell_by_slot-n1.ensures;
     }
 
 pub tell_by_slot-n3-requires : goal.tell_by_slot-n3-requires
 tell_by_slot-n3-requires c =
-    let b = start w₁ in
-    let a = b.args in
+    let a = c.args in
     record {
-      size = b.pre.size;
+      size = c.requires.size;
       writable =
-          room_third slot_count a.permutation.now (ascending 0 slot_count) (changes_in a.c) refl b.pre.writable
+          room_third slot_count a.permutation.now (ascending 0 slot_count) (changes_in a.c) refl c.requires.writable
           c.tell_by_slot-n1.ensures
           c.tell_in_order-n2.ensures;
     }
 
 pub tell_in_order-n4-requires : goal.tell_in_order-n4-requires
 tell_in_order-n4-requires c =
-    let b = start w₁ in
-    let a = b.args in
+    let a = c.args in
     record {
-      size = b.pre.size;
+      size = c.requires.size;
       writable =
-          room_fourth slot_count a.permutation.now (ascending 0 slot_count) (changes_in a.c) refl b.pre.writable
+          room_fourth slot_count a.permutation.now (ascending 0 slot_count) (changes_in a.c) refl c.requires.writable
           c.tell_by_slot-n1.ensures
           c.tell_in_order-n2.ensures
           c.tell_by_slot-n3.ensures;
@@ -57,12 +50,11 @@ tell_in_order-n4-requires c =
 
 pub tell_in_order-requires : goal.tell_in_order-requires
 tell_in_order-requires c =
-    let b = start w₁ in
-    let a = b.args in
+    let a = c.args in
     record {
-      size = b.pre.size;
+      size = c.requires.size;
       writable =
-          room_fifth slot_count a.permutation.now (ascending 0 slot_count) (changes_in a.c) refl b.pre.writable
+          room_fifth slot_count a.permutation.now (ascending 0 slot_count) (changes_in a.c) refl c.requires.writable
           c.tell_by_slot-n1.ensures
           c.tell_in_order-n2.ensures
           c.tell_by_slot-n3.ensures
@@ -71,9 +63,8 @@ tell_in_order-requires c =
 
 pub returns : goal.returns
 returns c =
-    let b = start w₁ in
-    let a = b.args in
-    written_all slot_count a.permutation.now (ascending 0 slot_count) (changes_in a.c) refl b.pre.writable
+    let a = c.args in
+    written_all slot_count a.permutation.now (ascending 0 slot_count) (changes_in a.c) refl c.requires.writable
     c.tell_by_slot-n1.ensures
     c.tell_in_order-n2.ensures
     c.tell_by_slot-n3.ensures

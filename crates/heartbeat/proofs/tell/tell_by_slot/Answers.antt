@@ -21,13 +21,14 @@ loop-slot-init c =
 pub tell-requires : goal.tell-requires
 tell-requires c =
     let l = c.loop-slot in
-    let lt = c.loop-slot-test.true in (
-      record {
+    let lt = c.loop-slot-test.true in
+    record {
+      tells = record {
         size = c.requires.size;
         writable = telling_room _ _ _ _ _ _ l.actions l.k l.left l.slot l.invariant lt c.requires.writable;
-      },
-      lt,
-    )
+      };
+      slot_lt_slot_count = lt;
+    }
 
 pub overflow_add-k : goal.overflow_add-k
 overflow_add-k c =

@@ -13,6 +13,7 @@ use Rattle.sets.proofs.WalkLaws.{at_below}
 use Rattle.mesh.specs.Maintenance.{Action, actions_on, seconds_of, numbers_of}
 use Rattle.mesh.proofs.ActionLaws.{numbers_none, numbers_cons, acts_in, acts_out, acts_end}
 use Rattle.heartbeat.specs.Tell.{ids_in, told_by}
+use Rattle.heartbeat.proofs.tell.tell_walk.Goals.{then-at, else-at}
 use Rattle.heartbeat.proofs.tell.tell_walk.Goals as goal
 
 pub loop-i-init : goal.loop-i-init
@@ -27,14 +28,15 @@ tell-requires c =
     let w = c.requires.writable in
     let q : length a.p ≡ word_count = search rules in
     let m = bits_of_length a.p in
-    let z = at_below (bits_of a.p) (get_or a.order.now l.i 0) hit in (
-      record {
+    let z = at_below (bits_of a.p) (get_or a.order.now l.i 0) hit in
+    record {
+      tells = record {
         size = c.requires.size;
         writable =
             record { room = omega (arith, w.room, l.invariant.2, l.invariant.3); narrow_ids = w.narrow_ids; narrow_seconds = w.narrow_seconds };
-      },
-      omega arith,
-    )
+      };
+      slot_lt_slot_count = omega arith;
+    }
 
 pub overflow_add-k : goal.overflow_add-k
 overflow_add-k c =
@@ -58,31 +60,33 @@ loop-i-preserved c =
     let rest = actions_on a.kind p (drop (l.i + 1) order) in
     let more : List ℕ → ℕ → List ℕ = λ x k. sets x (3 * k) (numbers_of ids told rest) in
     let whole : List Action → List ℕ = λ x. sets l.actions (3 * l.k) (numbers_of ids told x) in
-    ⊎_elim
-    (λ w.
-    let e = acts_in a.kind p order l.i lt (sym c.at.ensures ∙ w.0.taken) in
-    let n = ap length e in
-    let put = w.5 ∙ w.2.ensures in (
-      omega arith,
-      refl,
-      ap length put
-          ∙ length-sets l.actions (3 * l.k) (a.kind ∷ get_or ids s 0 ∷ seconds_of a.kind told s ∷ [])
-          ∙ l.invariant.2,
-      omega arith,
-      ap₂ more put w.6
-          ∙ sym (ap whole e ∙ numbers_cons ids told l.actions l.k a.kind s rest)
-          ∙ l.invariant.4,
-    ))
-    (λ w.
-    let e = acts_out a.kind p order l.i lt (sym c.at.ensures ∙ w.0.left) in
-    let n = ap length e in (
-      omega arith,
-      refl,
-      ap length w.1 ∙ l.invariant.2,
-      omega arith,
-      ap₂ more w.1 w.2 ∙ sym (ap whole e) ∙ l.invariant.4,
-    ))
-    c.if-at.branch
+    elim c.if-at.branch [
+      then-at w ↦ (
+        let e = acts_in a.kind p order l.i lt (sym c.at.ensures ∙ w.if-at.true) in
+        let n = ap length e in
+        let put = w.actions-is ∙ w.tell.ensures in (
+          omega arith,
+          refl,
+          ap length put
+              ∙ length-sets l.actions (3 * l.k) (a.kind ∷ get_or ids s 0 ∷ seconds_of a.kind told s ∷ [])
+              ∙ l.invariant.2,
+          omega arith,
+          ap₂ more put w.k-is
+              ∙ sym (ap whole e ∙ numbers_cons ids told l.actions l.k a.kind s rest)
+              ∙ l.invariant.4,
+        )
+      )
+      | else-at w ↦ (
+        let e = acts_out a.kind p order l.i lt (sym c.at.ensures ∙ w.if-at.false) in
+        let n = ap length e in (
+          omega arith,
+          refl,
+          ap length w.actions-is ∙ l.invariant.2,
+          omega arith,
+          ap₂ more w.actions-is w.k-is ∙ sym (ap whole e) ∙ l.invariant.4,
+        )
+      )
+    ]
 
 pub shape_of-actions : goal.shape_of-actions
 shape_of-actions c = c.loop-i.invariant.2

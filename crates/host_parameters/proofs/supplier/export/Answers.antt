@@ -1,5 +1,4 @@
 -- `host_parameters::export` meets its contract. Assumes nothing.
-use borrow.Author.Rules.{rules}
 use Rattle.host_parameters.proofs.supplier.export.Goals as goal
 
 pub returns : goal.returns

@@ -1,5 +1,5 @@
 -- `host_parameters::import` meets its contract. Assumes nothing.
-use Rattle.index.proofs.Kit.{arith, refl, rules}
+use Rattle.index.proofs.Kit.{arith, refl}
 use Rattle.host_parameters.proofs.SupplierLaws.{hosts_import}
 use Rattle.host_parameters.proofs.supplier.import.Goals as goal
 

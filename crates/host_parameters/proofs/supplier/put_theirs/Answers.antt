@@ -1,5 +1,5 @@
 -- `host_parameters::put_theirs` meets its contract. Assumes nothing.
-use Rattle.index.proofs.Kit.{arith, rules}
+use Rattle.index.proofs.Kit.{arith}
 use Rattle.host_parameters.proofs.SupplierLaws.{export_fits, hosts_export}
 use Rattle.host_parameters.proofs.supplier.put_theirs.Goals as goal
 

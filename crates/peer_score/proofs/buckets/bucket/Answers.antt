@@ -1,4 +1,4 @@
--- `peer_score::buckets::bucket` meets its contract. Assumes nothing.
+-- `peer_score::buckets::bucket`: the product of two numbers below 2^32. Assumes nothing.
 use native.Mathlib.Omega.{arith}
 use mathlib.Core.Path.{refl}
 use Rattle.peer_score.specs.Buckets.{bucket_of}

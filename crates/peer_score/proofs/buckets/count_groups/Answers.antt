@@ -1,11 +1,4 @@
-use Rattle.index.proofs.Kit.{◌≡◌, ◌-◌, ◌≤◌, ◌<◌, arith}
-use borrow.Author.Rules.{rules}
-use mathlib.Core.Bool.{false, true}
-use lib.ListN.{get_or}
-use Rattle.records.specs.Records.{slot_count}
-use Rattle.layout.specs.View.{state_of}
-use Rattle.words.specs.Words.{bits_of}
-use Rattle.peer_score.specs.Buckets.{Tells, below, pairs}
+use Rattle.index.proofs.Kit.{arith}
 use Rattle.peer_score.proofs.BucketLaws.{below_none, below_all}
 use Rattle.peer_score.proofs.ConnectedLaws.{connected_on, below_next}
 use Rattle.peer_score.proofs.buckets.count_groups.Goals as goal
@@ -38,9 +31,9 @@ note_slot-requires c =
 
 pub next-slot-requires-in-loop-slot : goal.next-slot-requires-in-loop-slot
 next-slot-requires-in-loop-slot c = (
-      c.load_connected-left.ensures.0,
-      omega (arith, c.loop-slot-test.true),
-    )
+  c.load_connected-left.ensures.0,
+  omega (arith, c.loop-slot-test.true),
+)
 
 pub loop-slot-smaller : goal.loop-slot-smaller
 loop-slot-smaller c =

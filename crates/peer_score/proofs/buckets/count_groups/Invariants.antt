@@ -1,14 +1,11 @@
 -- `peer_score::buckets::count_groups`: before the turn of a connected slot those below it are counted.
-use Rattle.index.proofs.Kit.{◌≡◌, ◌-◌, ◌≤◌, ◌<◌, arith}
-use borrow.Author.Rules.{rules}
+use Rattle.index.proofs.Kit.{◌≡◌, ◌-◌, ◌≤◌, ◌<◌}
 use mathlib.Core.Bool.{false, true}
 use lib.ListN.{get_or}
 use Rattle.records.specs.Records.{slot_count}
 use Rattle.layout.specs.View.{state_of}
 use Rattle.words.specs.Words.{bits_of}
 use Rattle.peer_score.specs.Buckets.{Tells, below, pairs}
-use Rattle.peer_score.proofs.BucketLaws.{below_none, below_all}
-use Rattle.peer_score.proofs.ConnectedLaws.{connected_on, below_next}
 use Rattle.peer_score.proofs.buckets.count_groups.Given as goal
 
 abbrev pub invariant-loop-slot : goal.invariant-loop-slot

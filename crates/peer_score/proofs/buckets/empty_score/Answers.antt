@@ -1,5 +1,4 @@
 -- `peer_score::buckets::empty_score`: the parts of a record of zeros, which every empty slot's is (`empty_scores`).
-use borrow.Author.Rules.{rules}
 use Rattle.peer_score.proofs.BucketLaws.{empty_ready, empty_scores}
 use Rattle.peer_score.proofs.buckets.empty_score.Goals as goal
 

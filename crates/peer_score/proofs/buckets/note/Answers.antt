@@ -1,5 +1,4 @@
 -- `peer_score::buckets::note`: three stores into the group's bucket (`noted`).
-use borrow.Author.Rules.{rules}
 use native.Mathlib.Omega.{arith}
 use Rattle.peer_score.proofs.BucketLaws.{noted}
 use Rattle.peer_score.proofs.buckets.note.Goals as goal

@@ -1,5 +1,4 @@
 -- `peer_score::buckets::note_slot`: one more of each of a connected peer's groups.
-use borrow.Author.Rules.{rules}
 use native.Mathlib.Omega.{arith}
 use mathlib.Core.Path.{refl}
 use Rattle.peer_score.proofs.BucketLaws.{below_on, groups_fit, loaded_rise}

@@ -1,5 +1,4 @@
 -- `peer_score::buckets::score_among`: the parts with a number of peers that has the same surplus are the parts (`parts_among`).
-use borrow.Author.Rules.{rules}
 use mathlib.Core.Path.{ap}
 use Rattle.records.specs.declared.Peer.{Peer}
 use Rattle.score.proofs.InputLaws.{slot_in}

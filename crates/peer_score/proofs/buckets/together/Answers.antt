@@ -1,5 +1,4 @@
 -- `peer_score::buckets::together`: none, the head's count, none where there is no surplus, or the exact one.
-use borrow.Author.Rules.{rules}
 use native.Mathlib.Omega.{arith}
 use Rattle.peer_score.proofs.BucketLaws.{told_none, told_head, told_few, told_exact}
 use Rattle.peer_score.proofs.buckets.together.Goals as goal

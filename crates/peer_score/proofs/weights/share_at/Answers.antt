@@ -1,5 +1,4 @@
 -- `peer_score::weights::share_at`: a member's share of what is loaded, another's of the weights.
-use borrow.Author.Rules.{rules}
 use native.Mathlib.Omega.{arith}
 use Rattle.score.proofs.InputLaws.{slot_in}
 use Rattle.score.proofs.SlotLaws.{share_ready, share_is_at}
@@ -21,11 +20,10 @@ share-requires c =
     share_ready _ _ _ _ _ (slot_in _ p.standing.router _ p.slot) p.topic c.load_params.ensures c.load_topic-r.ensures.0
 
 pub returns-then-r-eq1 : goal.returns-then-r-eq1
-returns-then-r-eq1 c =
-    (
-      share_is_at _ _ _ _ _ _ c.share.ensures.0 c.load_params.ensures c.load_topic-r.ensures.0,
-      c.share.ensures.1,
-    )
+returns-then-r-eq1 c = (
+  share_is_at _ _ _ _ _ _ c.share.ensures.0 c.load_params.ensures c.load_topic-r.ensures.0,
+  c.share.ensures.1,
+)
 
 pub bounds-w2-t : goal.bounds-w2-t
 bounds-w2-t c = let p = c.requires.place in omega (arith, p.topic)

@@ -1,10 +1,6 @@
-use Prim.Native.Nat.{◌≤◌, ◌-◌}
-use mathlib.Core.Path.{◌≡◌, ◌∙◌}
+use mathlib.Core.Path.{◌∙◌}
 use native.Mathlib.Omega.{arith}
 use borrow.Author.Rules.{rules}
-use Rattle.layout.specs.View.{state_of}
-use Rattle.score.specs.Sums.{sum_of}
-use Rattle.score.specs.Score.{share_at}
 use Rattle.score.proofs.ShareLaws.{sum_none, sum_more}
 use Rattle.score.proofs.InputLaws.{slot_in}
 use Rattle.score.proofs.ScoreLaws.{add_ready, topics_done}
@@ -32,10 +28,10 @@ add-sum-requires c =
 
 pub loop-t-preserved : goal.loop-t-preserved
 loop-t-preserved c = (
-      omega arith,
-      c.add-sum.ensures
-          ∙ sum_more _ _ _ _ c.loop-t.invariant.1 c.share_at.ensures.0,
-    )
+  omega arith,
+  c.add-sum.ensures
+      ∙ sum_more _ _ _ _ c.loop-t.invariant.1 c.share_at.ensures.0,
+)
 
 pub returns : goal.returns
 returns c =

@@ -1,16 +1,10 @@
 -- `peer_score::weights::topics_at`. The invariant: the sum is that of the topics passed.
 -- Assumes nothing.
 use Prim.Native.Nat.{◌≤◌, ◌-◌}
-use mathlib.Core.Path.{◌≡◌, ◌∙◌}
-use native.Mathlib.Omega.{arith}
-use borrow.Author.Rules.{rules}
+use mathlib.Core.Path.{◌≡◌}
 use Rattle.layout.specs.View.{state_of}
 use Rattle.score.specs.Sums.{sum_of}
 use Rattle.score.specs.Score.{share_at}
-use Rattle.score.proofs.ShareLaws.{sum_none, sum_more}
-use Rattle.score.proofs.InputLaws.{slot_in}
-use Rattle.score.proofs.ScoreLaws.{add_ready, topics_done}
-use Rattle.peer_score.proofs.ConnectedLaws.{bare_topics}
 use Rattle.peer_score.proofs.weights.topics_at.Given as goal
 
 abbrev pub invariant-loop-t : goal.invariant-loop-t

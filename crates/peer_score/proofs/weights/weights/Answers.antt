@@ -1,13 +1,9 @@
-use Rattle.index.proofs.Kit.{◌*◌, ◌-◌, ◌<◌, refl, ◌∙◌, arith}
+use Rattle.index.proofs.Kit.{◌*◌, ◌<◌, refl, ◌∙◌, arith}
 use mathlib.Core.Path.{ap₂}
 use Prim.Native.Nat.{ℕ}
 use lib.Dec.{lit<}
-use Rattle.index.proofs.Lists.{Built, built_none, built_more}
-use Rattle.limits.specs.Limits.{place as topicPlace}
+use Rattle.index.proofs.Lists.{built_none, built_more}
 use Rattle.records.specs.Records.{topic_count}
-use Rattle.records.specs.Parameters.{weight_at}
-use Rattle.layout.specs.View.{state_of}
-use Rattle.score.specs.Score.{magnitude_in}
 use Rattle.peer_score.proofs.WeightLaws.{weight_most}
 use Rattle.peer_score.proofs.weights.weights.Goals as goal
 

@@ -1,15 +1,11 @@
 -- `peer_score::weights::weights`: the loop builds the array from the front.
-use Rattle.index.proofs.Kit.{◌*◌, ◌-◌, ◌<◌, refl, ◌∙◌, arith}
-use mathlib.Core.Path.{ap₂}
-use Prim.Native.Nat.{ℕ}
-use lib.Dec.{lit<}
-use Rattle.index.proofs.Lists.{Built, built_none, built_more}
+use Rattle.index.proofs.Kit.{◌*◌, ◌-◌}
+use Rattle.index.proofs.Lists.{Built}
 use Rattle.limits.specs.Limits.{place as topicPlace}
 use Rattle.records.specs.Records.{topic_count}
 use Rattle.records.specs.Parameters.{weight_at}
 use Rattle.layout.specs.View.{state_of}
 use Rattle.score.specs.Score.{magnitude_in}
-use Rattle.peer_score.proofs.WeightLaws.{weight_most}
 use Rattle.peer_score.proofs.weights.weights.Given as goal
 
 abbrev pub invariant-loop-t : goal.invariant-loop-t

@@ -1,7 +1,4 @@
-use Prim.{tt}
-use Prim.Native.Nat.{◌-◌}
 use native.Mathlib.Omega.{arith}
-use Rattle.save_load.specs.Numbers.{Reaches}
 use Rattle.save_load.proofs.NumberLaws.{reach_start, reach_more}
 use Rattle.save_load.proofs.numbers.last_of.Goals as goal
 

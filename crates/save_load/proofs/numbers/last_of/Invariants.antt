@@ -1,9 +1,6 @@
 -- `save_load::numbers::last_of`: every byte that was passed has its top bit set. Assumes nothing.
-use Prim.{tt}
 use Prim.Native.Nat.{◌-◌}
-use native.Mathlib.Omega.{arith}
 use Rattle.save_load.specs.Numbers.{Reaches}
-use Rattle.save_load.proofs.NumberLaws.{reach_start, reach_more}
 use Rattle.save_load.proofs.numbers.last_of.Given as goal
 
 abbrev pub invariant-loop-place : goal.invariant-loop-place

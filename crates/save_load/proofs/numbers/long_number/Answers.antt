@@ -1,8 +1,7 @@
-use Prim.{tt}
 use Rattle.index.proofs.Kit.{ap, not}
 use Prim.Native.Nat.{◌-◌}
 use native.Mathlib.Omega.{arith}
-use Rattle.save_load.proofs.NumberLaws.{Joining, joining_start, joining_byte, joining_more, joining_all}
+use Rattle.save_load.proofs.NumberLaws.{joining_start, joining_byte, joining_more, joining_all}
 use Rattle.save_load.proofs.numbers.long_number.Goals as goal
 
 pub last_of-last-requires : goal.last_of-last-requires

@@ -1,9 +1,6 @@
 -- `save_load::numbers::long_number`: going back, what was read is the number from the place on (`Joining`); what is no such number is read
 -- by the call. Assumes nothing.
-use Prim.{tt}
-use Prim.Native.Nat.{◌-◌}
-use native.Mathlib.Omega.{arith}
-use Rattle.save_load.proofs.NumberLaws.{Joining, joining_start, joining_byte, joining_more, joining_all}
+use Rattle.save_load.proofs.NumberLaws.{Joining}
 use Rattle.save_load.proofs.numbers.long_number.Given as goal
 
 abbrev pub invariant-loop-place : goal.invariant-loop-place

@@ -1,5 +1,4 @@
 -- `save_load::numbers::read_number` meets its contract. Assumes nothing.
-use Prim.{tt}
 use mathlib.Core.Path.{sym}
 use native.Mathlib.Omega.{arith}
 use Rattle.varint.proofs.GroupLaws.{read_at_end}

@@ -1,9 +1,6 @@
-use Prim.{tt}
-use Prim.Native.Nat.{◌-◌}
 use mathlib.Core.Path.{sym, ◌∙◌}
 use native.Mathlib.Omega.{arith}
-use borrow.Author.Rules.{rules}
-use Rattle.save_load.proofs.JudgeLaws.{Going, going_none, going_done, going_read, going_out, going_more}
+use Rattle.save_load.proofs.JudgeLaws.{going_none, going_done, going_read, going_out, going_more}
 use Rattle.save_load.proofs.passes.first_outside.Goals as goal
 
 pub loop-i-init : goal.loop-i-init

@@ -1,10 +1,6 @@
 -- `save_load::passes::first_outside`: the numbers before i are inside (JudgeLaws). Assumes nothing.
-use Prim.{tt}
 use Prim.Native.Nat.{◌-◌}
-use mathlib.Core.Path.{sym, ◌∙◌}
-use native.Mathlib.Omega.{arith}
-use borrow.Author.Rules.{rules}
-use Rattle.save_load.proofs.JudgeLaws.{Going, going_none, going_done, going_read, going_out, going_more}
+use Rattle.save_load.proofs.JudgeLaws.{Going}
 use Rattle.save_load.proofs.passes.first_outside.Given as goal
 
 abbrev pub invariant-loop-i : goal.invariant-loop-i

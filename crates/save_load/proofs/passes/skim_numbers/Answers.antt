@@ -1,9 +1,5 @@
-use Prim.{tt}
-use mathlib.Core.Path.{◌≡◌, refl, ◌∙◌}
+use mathlib.Core.Path.{refl, ◌∙◌}
 use native.Mathlib.Omega.{arith}
-use borrow.Author.Rules.{rules}
-use Rattle.saves.specs.Load.{parse_from}
-use Rattle.save_load.specs.Skim.{skim_of}
 use Rattle.save_load.proofs.SkimLaws.{skim_more, skim_bad, skim_done}
 use Rattle.save_load.proofs.passes.skim_numbers.Goals as goal
 

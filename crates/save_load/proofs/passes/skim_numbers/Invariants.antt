@@ -1,11 +1,7 @@
 -- `save_load::passes::skim_numbers`: what is left to read ends where the whole does. Assumes nothing.
-use Prim.{tt}
-use mathlib.Core.Path.{◌≡◌, refl, ◌∙◌}
-use native.Mathlib.Omega.{arith}
-use borrow.Author.Rules.{rules}
+use mathlib.Core.Path.{◌≡◌}
 use Rattle.saves.specs.Load.{parse_from}
 use Rattle.save_load.specs.Skim.{skim_of}
-use Rattle.save_load.proofs.SkimLaws.{skim_more, skim_bad, skim_done}
 use Rattle.save_load.proofs.passes.skim_numbers.Given as goal
 
 abbrev pub invariant-loop-left : goal.invariant-loop-left

@@ -1,9 +1,6 @@
-use Prim.{tt}
-use Prim.Native.Nat.{◌-◌}
 use mathlib.Core.Path.{◌∙◌}
 use native.Mathlib.Omega.{arith}
-use borrow.Author.Rules.{rules}
-use Rattle.save_load.proofs.RangeLaws.{Filled, fill_none, fill_more, fill_done}
+use Rattle.save_load.proofs.RangeLaws.{fill_none, fill_more, fill_done}
 use Rattle.save_load.proofs.ranges.fill_most.Goals as goal
 
 pub loop-t-init : goal.loop-t-init

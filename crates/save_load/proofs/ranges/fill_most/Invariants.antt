@@ -1,10 +1,6 @@
 -- `save_load::ranges::fill_most`: after t topics the ranges are filled so far (`Filled`). Assumes nothing.
-use Prim.{tt}
 use Prim.Native.Nat.{◌-◌}
-use mathlib.Core.Path.{◌∙◌}
-use native.Mathlib.Omega.{arith}
-use borrow.Author.Rules.{rules}
-use Rattle.save_load.proofs.RangeLaws.{Filled, fill_none, fill_more, fill_done}
+use Rattle.save_load.proofs.RangeLaws.{Filled}
 use Rattle.save_load.proofs.ranges.fill_most.Given as goal
 
 abbrev pub invariant-loop-t : goal.invariant-loop-t

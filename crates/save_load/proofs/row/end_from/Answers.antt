@@ -1,5 +1,4 @@
 -- `save_load::row::end_from` meets its contract. Assumes nothing.
-use native.Mathlib.Omega.{arith}
 use Rattle.save_load.proofs.StoreLaws.{end_none, end_some}
 use Rattle.save_load.proofs.row.end_from.Goals as goal
 

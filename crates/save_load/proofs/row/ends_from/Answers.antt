@@ -1,9 +1,9 @@
-use Prim.Native.Nat.{ℕ, ◌+◌, ◌*◌, ◌-◌}
+use Prim.Native.Nat.{ℕ, ◌+◌, ◌*◌}
 use mathlib.Core.Path.{refl}
 use native.Mathlib.Omega.{arith}
 use Rattle.layout.specs.Rows.{tab}
 use lib.ListN.{get_or}
-use Rattle.index.proofs.Lists.{Built, built_none, built_more, built_done}
+use Rattle.index.proofs.Lists.{built_none, built_more, built_done}
 use Rattle.layout.proofs.RowLaws.{length_tab, get_or_tab}
 use Rattle.saves.specs.Load.{end_from}
 use Rattle.save_load.proofs.StoreLaws.{end_fits}

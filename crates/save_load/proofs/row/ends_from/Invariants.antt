@@ -1,13 +1,8 @@
 -- `save_load::row::ends_from`: below t the ends are those of the row. Assumes nothing.
-use Prim.Native.Nat.{ℕ, ◌+◌, ◌*◌, ◌-◌}
-use mathlib.Core.Path.{refl}
-use native.Mathlib.Omega.{arith}
-use Rattle.layout.specs.Rows.{tab}
+use Prim.Native.Nat.{◌+◌, ◌*◌, ◌-◌}
 use lib.ListN.{get_or}
-use Rattle.index.proofs.Lists.{Built, built_none, built_more, built_done}
-use Rattle.layout.proofs.RowLaws.{length_tab, get_or_tab}
+use Rattle.index.proofs.Lists.{Built}
 use Rattle.saves.specs.Load.{end_from}
-use Rattle.save_load.proofs.StoreLaws.{end_fits}
 use Rattle.save_load.proofs.row.ends_from.Given as goal
 
 abbrev pub invariant-loop-t : goal.invariant-loop-t

@@ -1,6 +1,5 @@
 -- `save_load::row::loaded_topic` meets its contract. Assumes nothing.
 use mathlib.Core.Path.{refl}
-use native.Mathlib.Omega.{arith}
 use Rattle.saves.specs.Load.{loaded_topic}
 use Rattle.save_load.proofs.row.loaded_topic.Goals as goal
 

@@ -1,9 +1,6 @@
-use Prim.{tt}
-use Prim.Native.Nat.{◌-◌}
 use mathlib.Core.Path.{sym, ◌∙◌}
 use native.Mathlib.Omega.{arith}
-use borrow.Author.Rules.{rules}
-use Rattle.save_load.proofs.StoreLaws.{Reading, reading_none, reading_read, reading_more, reading_done}
+use Rattle.save_load.proofs.StoreLaws.{reading_none, reading_read, reading_more, reading_done}
 use Rattle.save_load.proofs.row.read_row.Goals as goal
 
 pub loop-i-init : goal.loop-i-init

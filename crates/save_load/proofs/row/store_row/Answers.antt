@@ -14,9 +14,9 @@ loaded_peer-requires c = (c.requires.1.1.0, c.requires.1.1.1)
 
 pub store_peer-requires : goal.store_peer-requires
 store_peer-requires c = (
-      c.store_topics.auto.table ∙ c.requires.0,
-      (c.requires.1.0, peer_fits _ c.requires.1.1.1 _ _ c.loaded_peer.ensures),
-    )
+  c.store_topics.auto.table ∙ c.requires.0,
+  (c.requires.1.0, peer_fits _ c.requires.1.1.1 _ _ c.loaded_peer.ensures),
+)
 
 pub shape_of-table : goal.shape_of-table
 shape_of-table c = c.store_peer.auto.cells ∙ c.store_topics.auto.table

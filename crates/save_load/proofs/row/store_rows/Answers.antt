@@ -1,12 +1,9 @@
-use Prim.Native.Nat.{ℕ, ◌*◌, ◌-◌, ◌≤◌}
-use mathlib.Core.Path.{◌≡◌, refl, sym, ◌∙◌}
+use mathlib.Core.Path.{refl, sym, ◌∙◌}
 use native.Mathlib.Omega.{arith}
-use lib.ListN.{length, take}
-use mathlib.Core.List.{List}
 use Rattle.index.proofs.Index.{iter_none, iter_done}
-use Rattle.layout.specs.View.{cell_count, state_of}
-use Rattle.saves.specs.Load.{numbers, parse_from, row_at}
-use Rattle.save_load.specs.Store.{stored, stored_all}
+use Rattle.layout.specs.View.{state_of}
+use Rattle.saves.specs.Load.{row_at}
+use Rattle.save_load.specs.Store.{stored}
 use Rattle.save_load.proofs.StoreLaws.{record_at, record_read, record_row, row_fits_lem, store_none, store_more}
 use Rattle.save_load.proofs.row.store_rows.Goals as goal
 

@@ -1,11 +1,8 @@
-use Prim.Native.Nat.{◌-◌, ◌≤◌}
-use mathlib.Core.Path.{◌≡◌, sym, ap, ◌∙◌}
+use mathlib.Core.Path.{sym, ap, ◌∙◌}
 use native.Mathlib.Omega.{arith}
-use lib.ListN.{length}
-use Rattle.index.specs.Index.{iter}
 use Rattle.index.proofs.Index.{iter_none, iter_more, iter_done}
 use Rattle.records.specs.Records.{set_topic, place}
-use Rattle.layout.specs.View.{cell_count, state_of}
+use Rattle.layout.specs.View.{state_of}
 use Rattle.save_load.specs.Store.{stored_topic}
 use Rattle.save_load.proofs.StoreLaws.{topic_fits}
 use Rattle.save_load.proofs.row.store_topics.Goals as goal
@@ -18,12 +15,12 @@ loaded_topic-requires c = (c.requires.1.1.long, c.loop-t-test.true)
 
 pub store_topic-requires : goal.store_topic-requires
 store_topic-requires c = (
-      c.loop-t.invariant.1.0,
-      (
-        omega arith,
-        topic_fits _ c.requires.1.1 _ _ (omega arith) c.loaded_topic.ensures,
-      ),
-    )
+  c.loop-t.invariant.1.0,
+  (
+    omega arith,
+    topic_fits _ c.requires.1.1 _ _ (omega arith) c.loaded_topic.ensures,
+  ),
+)
 
 pub loop-t-preserved : goal.loop-t-preserved
 unfolding stored_topic

@@ -1,14 +1,10 @@
 -- `save_load::row::store_topics`: after t turns the topics below t are stored. Assumes nothing.
 use Prim.Native.Nat.{◌-◌, ◌≤◌}
-use mathlib.Core.Path.{◌≡◌, sym, ap, ◌∙◌}
-use native.Mathlib.Omega.{arith}
+use mathlib.Core.Path.{◌≡◌}
 use lib.ListN.{length}
 use Rattle.index.specs.Index.{iter}
-use Rattle.index.proofs.Index.{iter_none, iter_more, iter_done}
-use Rattle.records.specs.Records.{set_topic, place}
 use Rattle.layout.specs.View.{cell_count, state_of}
 use Rattle.save_load.specs.Store.{stored_topic}
-use Rattle.save_load.proofs.StoreLaws.{topic_fits}
 use Rattle.save_load.proofs.row.store_topics.Given as goal
 
 abbrev pub invariant-loop-t : goal.invariant-loop-t

@@ -1,6 +1,5 @@
 -- `save_write::bytes::size_of` meets its contract. The measure is the number that is left. Assumes nothing.
 use Prim.{tt}
-use Prim.Native.Nat.{ℕ, ◌<◌}
 use native.Mathlib.Omega.{arith}
 use Rattle.save_write.proofs.WriteLaws.{size_none, size_more}
 use Rattle.save_write.proofs.bytes.+size_of.Goals as goal

@@ -1,11 +1,5 @@
-use Prim.{tt}
-use Prim.Native.Nat.{◌-◌, ◌≤◌}
-use mathlib.Core.Path.{◌≡◌, refl, ◌∙◌}
+use mathlib.Core.Path.{refl, ◌∙◌}
 use native.Mathlib.Omega.{arith}
-use borrow.Author.Rules.{rules}
-use lib.ListN.{length, take}
-use Rattle.saves.specs.Save.{bytes_of}
-use Rattle.save_write.specs.Stands.{Stands}
 use Rattle.save_write.proofs.WriteLaws.{row_none, row_full, row_more, row_all}
 use Rattle.save_write.proofs.bytes.put_row.Goals as goal
 

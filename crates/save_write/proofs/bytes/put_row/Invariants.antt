@@ -1,13 +1,9 @@
 -- `save_write::bytes::put_row`: after i numbers their bytes stand in the buffer (`Stands`), and the next one has room. Assumes nothing.
-use Prim.{tt}
 use Prim.Native.Nat.{◌-◌, ◌≤◌}
-use mathlib.Core.Path.{◌≡◌, refl, ◌∙◌}
-use native.Mathlib.Omega.{arith}
-use borrow.Author.Rules.{rules}
+use mathlib.Core.Path.{◌≡◌}
 use lib.ListN.{length, take}
 use Rattle.saves.specs.Save.{bytes_of}
 use Rattle.save_write.specs.Stands.{Stands}
-use Rattle.save_write.proofs.WriteLaws.{row_none, row_full, row_more, row_all}
 use Rattle.save_write.proofs.bytes.put_row.Given as goal
 
 abbrev pub invariant-loop-i : goal.invariant-loop-i

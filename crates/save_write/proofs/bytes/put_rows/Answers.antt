@@ -1,32 +1,26 @@
-use Prim.{tt}
-use Prim.Native.Nat.{◌-◌, ◌≤◌}
-use mathlib.Core.Path.{◌≡◌, refl, sym, ◌∙◌}
+use mathlib.Core.Path.{refl, sym, ◌∙◌}
 use native.Mathlib.Omega.{arith}
 use Rattle.save_write.proofs.WriteLaws.{rows_begin, rows_room, rows_put, rows_written}
-use lib.ListN.{length, take}
 use Rattle.layout.specs.View.{state_of}
-use Rattle.saves.specs.Save.{bytes_of}
-use Rattle.save_write.specs.Stands.{rows_of, Stands}
 use Rattle.save_write.proofs.bytes.put_rows.Goals as goal
 
 pub loop-k-init : goal.loop-k-init
-loop-k-init c =
-    (
-      omega arith,
-      (
-        refl,
-        (refl, rows_begin (state_of c.args.table.now) c.args.time c.args.keys.now c.args.at c.args.buf.now),
-      ),
-    )
+loop-k-init c = (
+  omega arith,
+  (
+    refl,
+    (refl, rows_begin (state_of c.args.table.now) c.args.time c.args.keys.now c.args.at c.args.buf.now),
+  ),
+)
 
 pub slice_bounds-fill_row-end : goal.slice_bounds-fill_row-end
 slice_bounds-fill_row-end c = sym c.loop-k.invariant.1.0
 
 pub fill_row-requires : goal.fill_row-requires
 fill_row-requires c = (
-      c.requires.0,
-      (c.slot_of.ensures.1, c.loop-k.invariant.1.0),
-    )
+  c.requires.0,
+  (c.slot_of.ensures.1, c.loop-k.invariant.1.0),
+)
 
 pub slice_bounds-put_row-end : goal.slice_bounds-put_row-end
 slice_bounds-put_row-end c = sym

@@ -1,9 +1,6 @@
 -- `save_write::bytes::put_rows`: after k keys the bytes of their rows stand in the buffer. Assumes nothing.
-use Prim.{tt}
 use Prim.Native.Nat.{◌-◌, ◌≤◌}
-use mathlib.Core.Path.{◌≡◌, refl, sym, ◌∙◌}
-use native.Mathlib.Omega.{arith}
-use Rattle.save_write.proofs.WriteLaws.{rows_begin, rows_room, rows_put, rows_written}
+use mathlib.Core.Path.{◌≡◌}
 use lib.ListN.{length, take}
 use Rattle.layout.specs.View.{state_of}
 use Rattle.saves.specs.Save.{bytes_of}

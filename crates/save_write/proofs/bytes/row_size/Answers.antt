@@ -1,9 +1,4 @@
-use Prim.{tt}
-use Prim.Native.Nat.{◌*◌, ◌-◌, ◌≤◌}
-use mathlib.Core.Path.{◌≡◌}
 use native.Mathlib.Omega.{arith}
-use lib.ListN.{length, take}
-use Rattle.saves.specs.Save.{bytes_of}
 use Rattle.save_write.proofs.WriteLaws.{sum_none, sum_more, sum_all}
 use Rattle.save_write.proofs.bytes.row_size.Goals as goal
 

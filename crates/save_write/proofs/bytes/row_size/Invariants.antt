@@ -1,11 +1,8 @@
 -- `save_write::bytes::row_size`: after i numbers, the sum of their sizes. Assumes nothing.
-use Prim.{tt}
 use Prim.Native.Nat.{◌*◌, ◌-◌, ◌≤◌}
 use mathlib.Core.Path.{◌≡◌}
-use native.Mathlib.Omega.{arith}
 use lib.ListN.{length, take}
 use Rattle.saves.specs.Save.{bytes_of}
-use Rattle.save_write.proofs.WriteLaws.{sum_none, sum_more, sum_all}
 use Rattle.save_write.proofs.bytes.row_size.Given as goal
 
 abbrev pub invariant-loop-i : goal.invariant-loop-i

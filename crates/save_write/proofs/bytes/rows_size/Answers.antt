@@ -1,11 +1,6 @@
-use Prim.{tt}
-use Prim.Native.Nat.{◌*◌, ◌-◌, ◌≤◌}
-use mathlib.Core.Path.{◌≡◌, refl, sym, ◌∙◌}
+use mathlib.Core.Path.{refl, sym, ◌∙◌}
 use native.Mathlib.Omega.{arith}
-use lib.ListN.{length, take}
 use Rattle.layout.specs.View.{state_of}
-use Rattle.saves.specs.Save.{bytes_of}
-use Rattle.save_write.specs.Stands.{rows_of}
 use Rattle.save_write.proofs.WriteLaws.{rows_start, rows_sum, rows_total}
 use Rattle.save_write.proofs.bytes.rows_size.Goals as goal
 
@@ -18,9 +13,9 @@ slice_bounds-fill_row-end c = sym c.loop-k.invariant.1.0
 
 pub fill_row-requires : goal.fill_row-requires
 fill_row-requires c = (
-      c.requires.0,
-      (c.slot_of.ensures.1, c.loop-k.invariant.1.0),
-    )
+  c.requires.0,
+  (c.slot_of.ensures.1, c.loop-k.invariant.1.0),
+)
 
 pub slice_bounds-row_size-end : goal.slice_bounds-row_size-end
 slice_bounds-row_size-end c = sym
@@ -54,8 +49,7 @@ loop-k-preserved c =
 
 pub returns : goal.returns
 returns c =
-    let l = c.loop-k in
-    (
+    let l = c.loop-k in (
       rows_total (state_of c.args.table.now) c.args.time c.args.keys.now l.k l.sum c.loop-k-test.false
           l.invariant.1.1.0,
       omega arith,

@@ -1,13 +1,10 @@
 -- `save_write::bytes::rows_size`: after k keys, the sum of their rows' sizes. Assumes nothing.
-use Prim.{tt}
 use Prim.Native.Nat.{◌*◌, ◌-◌, ◌≤◌}
-use mathlib.Core.Path.{◌≡◌, refl, sym, ◌∙◌}
-use native.Mathlib.Omega.{arith}
+use mathlib.Core.Path.{◌≡◌}
 use lib.ListN.{length, take}
 use Rattle.layout.specs.View.{state_of}
 use Rattle.saves.specs.Save.{bytes_of}
 use Rattle.save_write.specs.Stands.{rows_of}
-use Rattle.save_write.proofs.WriteLaws.{rows_start, rows_sum, rows_total}
 use Rattle.save_write.proofs.bytes.rows_size.Given as goal
 
 abbrev pub invariant-loop-k : goal.invariant-loop-k

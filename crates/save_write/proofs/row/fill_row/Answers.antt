@@ -1,16 +1,11 @@
-use Prim.{tt}
 use Prim.Native.Nat.{◌-◌}
 use mathlib.Core.Path.{ap, ◌∙◌}
 use native.Mathlib.Omega.{arith}
-use borrow.Author.Rules.{rules}
 use lib.ListN.{get_or}
 use mathlib.Core.List.{[], ◌∷◌}
 use lib.Seq.{sets}
 use Rattle.records.specs.declared.Peer.{Peer}
-use Rattle.records.specs.Records.{place, peer_in, topic_in}
-use Rattle.saves.specs.Save.{as_left}
-use Rattle.layout.specs.View.{state_of}
-use Rattle.save_write.proofs.FillLaws.{Filled, fill_none, fill_more, fill_done, saved_is}
+use Rattle.save_write.proofs.FillLaws.{fill_none, fill_more, fill_done, saved_is}
 use Rattle.save_write.proofs.row.fill_row.Goals as goal
 
 pub loop-t-init : goal.loop-t-init

@@ -1,17 +1,9 @@
 -- `save_write::row::fill_row`: after t topics the row is filled so far (`Filled`). Assumes nothing.
-use Prim.{tt}
 use Prim.Native.Nat.{◌-◌}
-use mathlib.Core.Path.{ap, ◌∙◌}
-use native.Mathlib.Omega.{arith}
-use borrow.Author.Rules.{rules}
-use lib.ListN.{get_or}
-use mathlib.Core.List.{[], ◌∷◌}
-use lib.Seq.{sets}
-use Rattle.records.specs.declared.Peer.{Peer}
 use Rattle.records.specs.Records.{place, peer_in, topic_in}
 use Rattle.saves.specs.Save.{as_left}
 use Rattle.layout.specs.View.{state_of}
-use Rattle.save_write.proofs.FillLaws.{Filled, fill_none, fill_more, fill_done, saved_is}
+use Rattle.save_write.proofs.FillLaws.{Filled}
 use Rattle.save_write.proofs.row.fill_row.Given as goal
 
 abbrev pub invariant-loop-t : goal.invariant-loop-t

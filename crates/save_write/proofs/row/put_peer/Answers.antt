@@ -1,5 +1,4 @@
 -- `save_write::row::put_peer` meets its contract. Assumes nothing.
-use Prim.{tt}
 use Prim.Native.Nat.{ℕ}
 use mathlib.Core.Path.{ap}
 use native.Mathlib.Omega.{arith}

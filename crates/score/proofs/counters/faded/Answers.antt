@@ -1,5 +1,4 @@
 -- `score::counters::faded` meets its contract. Assumes nothing.
-use borrow.Author.Rules.{rules}
 use borrow.Author.Tests.{lt-ltb, le-ltb}
 use mathlib.Core.Path.{sym, ap, ◌∙◌}
 use Rattle.score.specs.Counters.{faded_of}

@@ -1,5 +1,4 @@
 -- `score::counters::grown` meets its contract. Assumes nothing.
-use borrow.Author.Rules.{rules}
 use Rattle.score.specs.Counters.{grown_of}
 use Rattle.score.proofs.counters.grown.Goals as goal
 

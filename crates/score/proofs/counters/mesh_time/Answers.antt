@@ -1,5 +1,4 @@
 -- `score::counters::mesh_time` meets its contract. Assumes nothing.
-use borrow.Author.Rules.{rules}
 use borrow.Author.Tests.{eq-eqb, ne_eqb}
 use Rattle.score.specs.Counters.{mesh_of}
 use Rattle.score.proofs.counters.mesh_time.Goals as goal

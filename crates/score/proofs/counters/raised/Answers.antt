@@ -1,5 +1,4 @@
 -- `score::counters::raised` meets its contract. Assumes nothing.
-use borrow.Author.Rules.{rules}
 use Rattle.score.proofs.counters.raised.Goals as goal
 
 pub returns : goal.returns

@@ -1,6 +1,5 @@
 -- `score::counters::scaled` meets its contract. Assumes nothing.
 use native.Mathlib.Omega.{arith}
-use borrow.Author.Rules.{rules}
 use native.Mathlib.Nat.{mul-le-mul}
 use Rattle.score.proofs.counters.scaled.Goals as goal
 

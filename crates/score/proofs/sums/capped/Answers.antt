@@ -1,6 +1,5 @@
 -- `score::sums::capped` meets its contract. Assumes nothing.
 use native.Mathlib.Omega.{arith}
-use borrow.Author.Rules.{rules}
 use borrow.Author.Tests.{eq-eqb, ne_eqb}
 use Rattle.score.specs.Sums.{capped_of}
 use Rattle.score.proofs.sums.capped.Goals as goal

@@ -1,5 +1,4 @@
 -- `score::sums::code` meets its contract. Assumes nothing.
-use native.Mathlib.Omega.{arith}
 use Rattle.score.proofs.SumLaws.{lost_code, gained_code}
 use Rattle.score.proofs.sums.code.Goals as goal
 

@@ -1,6 +1,5 @@
 -- `score::sums::crowd` meets its contract. Assumes nothing.
 use native.Mathlib.Omega.{arith}
-use borrow.Author.Rules.{rules}
 use Rattle.score.specs.Parts.{crowd_of}
 use Rattle.score.proofs.sums.crowd.Goals as goal
 

@@ -1,5 +1,4 @@
 -- `score::sums::is_below` meets its contract. Assumes nothing.
-use native.Mathlib.Omega.{arith}
 use mathlib.Core.Path.{refl}
 use Rattle.score.proofs.sums.is_below.Goals as goal
 

@@ -1,5 +1,4 @@
 -- `score::sums::offset` meets its contract. Assumes nothing.
-use native.Mathlib.Omega.{arith}
 use mathlib.Core.Path.{refl}
 use Rattle.score.proofs.sums.offset.Goals as goal
 

@@ -1,5 +1,4 @@
 -- `score::sums::p5_part` meets its contract. Assumes nothing.
-use native.Mathlib.Omega.{arith}
 use borrow.Author.Rules.{rules}
 use borrow.Author.Tests.{eq-eqb, ne_eqb}
 use Rattle.score.specs.Sums.{p5_of}

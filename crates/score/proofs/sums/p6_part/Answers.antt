@@ -1,5 +1,4 @@
 -- `score::sums::p6_part` meets its contract. Assumes nothing.
-use borrow.Author.Rules.{rules}
 use Rattle.score.proofs.sums.p6_part.Goals as goal
 
 pub returns : goal.returns

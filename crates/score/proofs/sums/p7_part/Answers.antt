@@ -1,6 +1,5 @@
 -- `score::sums::p7_part` meets its contract. Assumes nothing.
 use native.Mathlib.Omega.{arith}
-use borrow.Author.Rules.{rules}
 use Rattle.score.proofs.sums.p7_part.Goals as goal
 
 pub returns : goal.returns

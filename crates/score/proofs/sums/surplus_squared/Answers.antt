@@ -1,6 +1,5 @@
 -- `score::sums::surplus_squared` meets its contract. Assumes nothing.
 use native.Mathlib.Omega.{arith}
-use borrow.Author.Rules.{rules}
 use Rattle.score.proofs.BoundLaws.{squared_is}
 use Rattle.score.proofs.sums.surplus_squared.Goals as goal
 

@@ -1,5 +1,4 @@
 -- `score::topic::member_share` meets its contract. Assumes nothing.
-use native.Mathlib.Omega.{arith}
 use Rattle.score.specs.Sums.{share_of}
 use Rattle.score.proofs.topic.member_share.Goals as goal
 

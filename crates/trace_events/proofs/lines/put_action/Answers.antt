@@ -1,10 +1,6 @@
 -- `trace_events::lines::put_action` meets its contract. Assumes nothing.
-use Prim.Native.Nat.{◌≤◌}
-use borrow.Author.Rules.{rules}
 use borrow.Author.Tests.{eq-eqb, ne_eqb}
 use native.Mathlib.Omega.{arith}
-use lib.ListN.{length}
-use Rattle.text.specs.Text.{decimal}
 use Rattle.text.proofs.TextLaws.{decimal_length}
 use Rattle.trace_events.proofs.LineLaws.{graft_stored, prune_stored}
 use Rattle.trace_events.proofs.lines.put_action.Goals as goal

@@ -1,10 +1,5 @@
-use Prim.Native.Nat.{◌+◌, ◌*◌, ◌-◌, ◌≤◌}
-use mathlib.Core.Path.{◌≡◌, refl, ◌∙◌}
-use borrow.Author.Rules.{rules}
+use mathlib.Core.Path.{refl, ◌∙◌}
 use native.Mathlib.Omega.{arith}
-use lib.ListN.{length}
-use Rattle.text.specs.Text.{Stored}
-use Rattle.trace_events.specs.Lines.{actions_text}
 use Rattle.trace_events.proofs.LineLaws.{actions_none, actions_more, actions_all}
 use Rattle.trace_events.proofs.lines.put_actions.Goals as goal
 

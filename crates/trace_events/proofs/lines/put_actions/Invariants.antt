@@ -1,13 +1,10 @@
 -- `trace_events::lines::put_actions` meets its contract. The loop's invariant: the first `i` lines are stored, in at most 44 bytes each.
 -- Assumes nothing.
 use Prim.Native.Nat.{◌+◌, ◌*◌, ◌-◌, ◌≤◌}
-use mathlib.Core.Path.{◌≡◌, refl, ◌∙◌}
-use borrow.Author.Rules.{rules}
-use native.Mathlib.Omega.{arith}
+use mathlib.Core.Path.{◌≡◌}
 use lib.ListN.{length}
 use Rattle.text.specs.Text.{Stored}
 use Rattle.trace_events.specs.Lines.{actions_text}
-use Rattle.trace_events.proofs.LineLaws.{actions_none, actions_more, actions_all}
 use Rattle.trace_events.proofs.lines.put_actions.Given as goal
 
 abbrev pub invariant-loop-i : goal.invariant-loop-i

@@ -1,6 +1,5 @@
 -- `trace_events::lines::put_letter` meets its contract. Assumes nothing.
 use mathlib.Core.List.{[], ◌∷◌}
-use borrow.Author.Rules.{rules}
 use Rattle.text.proofs.TextLaws.{stored_then}
 use Rattle.trace_events.proofs.lines.put_letter.Goals as goal
 

@@ -1,9 +1,5 @@
 -- `trace_events::lines::put_pair` meets its contract. Assumes nothing.
-use Prim.Native.Nat.{◌≤◌}
-use borrow.Author.Rules.{rules}
 use native.Mathlib.Omega.{arith}
-use lib.ListN.{length}
-use Rattle.text.specs.Text.{decimal}
 use Rattle.text.proofs.TextLaws.{decimal_length}
 use Rattle.trace_events.proofs.LineLaws.{pair_stored}
 use Rattle.trace_events.proofs.lines.put_pair.Goals as goal

@@ -1,5 +1,4 @@
 -- `trace_events::lines::put_part` meets its contract. Assumes nothing.
-use borrow.Author.Rules.{rules}
 use native.Mathlib.Omega.{arith}
 use mir.Facts.{to_z-of_z}
 use Rattle.trace_events.proofs.LineLaws.{fits_length, part_stored}

@@ -1,5 +1,4 @@
 -- `trace_events::lines::put_score` meets its contract. Assumes nothing.
-use borrow.Author.Rules.{rules}
 use native.Mathlib.Omega.{arith}
 use Rattle.trace_events.proofs.LineLaws.{no_score, stored_none, score_stored}
 use Rattle.trace_events.proofs.lines.put_score.Goals as goal

@@ -1,5 +1,4 @@
 -- `trace_events::lines::put_three` meets its contract. Assumes nothing.
-use borrow.Author.Rules.{rules}
 use Rattle.trace_events.proofs.LineLaws.{three_stored}
 use Rattle.trace_events.proofs.lines.put_three.Goals as goal
 

@@ -1,5 +1,4 @@
 -- `trace_events::reading::arity` meets its contract. Assumes nothing.
-use borrow.Author.Rules.{rules}
 use Rattle.trace_events.specs.Reading.{arities}
 use Rattle.trace_events.proofs.ReadingLaws.{arity_connect, arity_other, arity_past, as_arity}
 use Rattle.trace_events.proofs.reading.arity.Goals as goal

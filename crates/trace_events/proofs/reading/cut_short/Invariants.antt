@@ -2,12 +2,9 @@
 use Prim.Native.Nat.{◌≤◌, ◌<◌, ◌-◌}
 use mathlib.Core.Path.{◌≡◌}
 use mathlib.Core.Bool.{true}
-use native.Mathlib.Omega.{arith}
 use lib.ListN.{length}
-use borrow.Author.Tests.{le-leb}
 use Rattle.index.specs.Index.{every}
-use Rattle.index.proofs.Index.{every_none, every_more, every_done}
-use Rattle.trace_events.proofs.ReadingLaws.{tail, short_end, short_ten, short_last, short_all}
+use Rattle.trace_events.proofs.ReadingLaws.{tail}
 use Rattle.trace_events.proofs.reading.cut_short.Given as goal
 
 abbrev pub invariant-loop-k : goal.invariant-loop-k

@@ -1,12 +1,9 @@
 -- `trace_events::reading::read_numbers` meets its contract: the loop's invariant is `After`: the first `i` numbers are read, `place` is
 -- past them, and the values from `i` on stay. Assumes nothing.
 use Prim.Native.Nat.{ℕ, ◌≤◌, ◌-◌}
-use mathlib.Core.Path.{◌≡◌, refl}
-use native.Mathlib.Omega.{arith}
-use borrow.Author.Rules.{rules}
-use lib.ListN.{length, length-set, get_or}
-use mathlib.Core.List.{[]}
-use Rattle.trace_events.proofs.ReadingLaws.{After, after_none, after_more, after_bad, after_all, past_more}
+use mathlib.Core.Path.{◌≡◌}
+use lib.ListN.{length, get_or}
+use Rattle.trace_events.proofs.ReadingLaws.{After}
 use Rattle.trace_events.proofs.reading.read_numbers.Given as goal
 
 abbrev pub invariant-loop-i : goal.invariant-loop-i

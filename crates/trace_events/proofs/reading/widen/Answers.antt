@@ -1,10 +1,7 @@
-use Prim.Native.Nat.{◌≤◌, ◌-◌}
-use mathlib.Core.Path.{◌≡◌}
 use native.Mathlib.Omega.{arith}
 use borrow.Author.Rules.{rules}
-use lib.ListN.{length, length-set}
-use Rattle.records.specs.Records.{slot_count}
-use Rattle.trace_events.proofs.ReadingLaws.{Widened, widened_none, widened_more, widened_all}
+use lib.ListN.{length-set}
+use Rattle.trace_events.proofs.ReadingLaws.{widened_none, widened_more, widened_all}
 use Rattle.trace_events.proofs.reading.widen.Goals as goal
 
 pub loop-k-init : goal.loop-k-init

@@ -1,11 +1,9 @@
 -- `trace_events::reading::widen`: behind the order stand the slots up to `k` (`Widened`). Assumes nothing.
 use Prim.Native.Nat.{◌≤◌, ◌-◌}
 use mathlib.Core.Path.{◌≡◌}
-use native.Mathlib.Omega.{arith}
-use borrow.Author.Rules.{rules}
-use lib.ListN.{length, length-set}
+use lib.ListN.{length}
 use Rattle.records.specs.Records.{slot_count}
-use Rattle.trace_events.proofs.ReadingLaws.{Widened, widened_none, widened_more, widened_all}
+use Rattle.trace_events.proofs.ReadingLaws.{Widened}
 use Rattle.trace_events.proofs.reading.widen.Given as goal
 
 abbrev pub invariant-loop-k : goal.invariant-loop-k
