@@ -21,7 +21,7 @@ use Rattle.call_lists.proofs.Standing.{Standing}
 use Rattle.call_lists.proofs.Replies.{after_fewer}
 use Rattle.gossip.specs.Notes.{Extended, window_most, note_in, store_in, holds, stored_in}
 use Rattle.gossip.specs.Calls.{New, ask_all, idontwant, relay, beat, store, announce, ihave, iwant, time_of_new, new_arguments_ok, new_in_range}
-use Rattle.gossip.specs.Step.{FullReply, refused_all, at, ignored_all, done_all, has_room, is_heeded, ask_reply, idontwant_reply, relay_reply}
+use Rattle.gossip.specs.Step.{FullReply, refused_all, ignored_all, done_all, has_room, is_heeded, ask_reply, idontwant_reply, relay_reply}
 use Rattle.gossip.specs.Step.{running, store_reply, announce_reply, is_answered, ihave_reply, is_served, iwant_reply, new_effect, new_step}
 use Rattle.gossip_lists.specs.Frame.{NewTouchesNothing}
 use Rattle.gossip.proofs.Cases.{by_first, by_slot_lem, by_sender, by_joined}
