@@ -1,12 +1,19 @@
 -- `supplier::answer` meets its contract. Assumes nothing.
-use Rattle.index.proofs.Kit.{sym, arith, rules}
+use Rattle.index.proofs.Kit.{ℕ, ◌≤◌, ◌≡◌, sym, arith, rules}
+use mathlib.Core.List.{List}
+use Rattle.text.specs.Text.{Stored}
 use Rattle.text.proofs.TextLaws.{stored_same}
 use Rattle.supplier.proofs.OutputLaws.{mode_import, mode_export, mode_import_bytes, mode_export_bytes, mode_none}
 use Rattle.supplier.proofs.answer.Goals as goal
 
+-- the same by another name of the text
+told :
+    (buf out : List ℕ) (r : ℕ) (all bytes : List ℕ) → all ≡ bytes → Stored buf 0 bytes r out × (r ≤ 4096) →
+    Stored buf 0 all r out × (r ≤ 4096)
+told buf out r all bytes e s = (stored_same buf 0 r all bytes out e s.0, s.1)
+
 pub returns-in-105 : goal.returns-in-105
-returns-in-105 c = let e = c.put_import.ensures in
-    (stored_same _ _ _ _ _ _ (sym (mode_import _ _ c.in-105.is)) e.0, e.1)
+returns-in-105 c = told _ _ _ _ _ (sym (mode_import c.args.mode c.args.bytes.now c.in-105.is)) (search rules)
 
 pub returns-in-101 : goal.returns-in-101
 returns-in-101 c = let e = c.put_export.ensures in (
