@@ -1,5 +1,4 @@
 -- `host_calls::join` meets its contract. Assumes nothing.
-use borrow.Author.Rules.{rules}
 use Rattle.rules.proofs.CountLaws.{few_actions}
 use Rattle.host_calls.proofs.HostLaws.{hosts}
 use Rattle.host_calls.proofs.join.Goals as goal

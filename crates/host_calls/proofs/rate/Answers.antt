@@ -1,5 +1,4 @@
 -- `host_calls::rate` meets its contract. Assumes nothing.
-use borrow.Author.Rules.{rules}
 use mir.Facts.{to_z-of_z}
 use Rattle.rules.proofs.CountLaws.{few_actions}
 use Rattle.host_calls.proofs.HostLaws.{hosts}

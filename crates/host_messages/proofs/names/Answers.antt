@@ -1,5 +1,4 @@
 -- `host_messages::names` meets its contract. Assumes nothing.
-use borrow.Author.Rules.{rules}
 use Rattle.host_messages.proofs.MessageLaws.{names_told}
 use Rattle.host_messages.proofs.names.Goals as goal
 

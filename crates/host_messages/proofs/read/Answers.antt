@@ -1,5 +1,5 @@
 -- `host_messages::read` meets its contract. Assumes nothing.
-use Rattle.index.proofs.Kit.{rules, arith}
+use Rattle.index.proofs.Kit.{arith}
 use Rattle.host_messages.proofs.MessageLaws.{message_fits, hosts_message}
 use Rattle.host_messages.proofs.read.Goals as goal
 

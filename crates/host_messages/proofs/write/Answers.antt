@@ -1,13 +1,13 @@
 -- `host_messages::write` meets its contract. Assumes nothing.
-use Rattle.index.proofs.Kit.{rules, arith}
+use Rattle.index.proofs.Kit.{arith}
 use Rattle.host_messages.proofs.WritingLaws.{write_fits, hosts_written}
 use Rattle.host_messages.proofs.write.Goals as goal
 
 pub packed-requires : goal.packed-requires
 packed-requires c = (
-      omega arith,
-      write_fits _ _ _ _ _ _ _ _ _ c.write.ensures c.in-Done.is,
-    )
+  omega arith,
+  write_fits _ _ _ _ _ _ _ _ _ c.write.ensures c.in-Done.is,
+)
 
 pub returns-in-Done : goal.returns-in-Done
 returns-in-Done c = hosts_written _ _ _ _ _ _ _ _ _ c.write.ensures

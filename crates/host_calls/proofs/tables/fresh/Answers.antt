@@ -1,5 +1,5 @@
 -- `host_calls::fresh` meets its contract. Assumes nothing.
-use Rattle.index.proofs.Kit.{arith, rules}
+use Rattle.index.proofs.Kit.{arith}
 use Rattle.host_calls.proofs.HostLaws.{fresh_known, fresh_unknown}
 use Rattle.host_calls.proofs.tables.fresh.Goals as goal
 

@@ -1,5 +1,5 @@
 -- `host_calls::is_router` meets its contract. Assumes nothing.
-use Rattle.index.proofs.Kit.{rules, ap, ◌∙◌, one}
+use Rattle.index.proofs.Kit.{ap, ◌∙◌, one}
 use Rattle.host_calls.proofs.tables.is_router.Goals as goal
 
 pub returns : goal.returns

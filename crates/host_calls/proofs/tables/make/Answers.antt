@@ -1,5 +1,5 @@
 -- `host_calls::make` meets its contract. Assumes nothing.
-use Rattle.index.proofs.Kit.{arith, rules}
+use Rattle.index.proofs.Kit.{arith}
 use Rattle.host_calls.proofs.HostLaws.{fresh_fits, hosts_fresh}
 use Rattle.host_calls.proofs.tables.make.Goals as goal
 
