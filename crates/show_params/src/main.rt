@@ -2,7 +2,7 @@
 // 147 numbers, one to a line. The text is fixed in specs/Show.antt; the room for it is at most 64 bytes and 22 for each number.
 #![tactic(auto)]
 
-ghost use Rattle.std.specs.Prelude.{◌≤◌, length, IfOk};
+ghost use Rattle.std.specs.Prelude.{◌≤◌, length};
 ghost use Rattle.params_bytes.specs.Read.{read_of};
 ghost use Rattle.text.specs.Text.{Stored};
 ghost use Rattle.show_params.specs.Show.{shown_text};
@@ -30,19 +30,19 @@ fn show(buf: &mut [u8], bytes: &[u8]) -> usize
     }
 }
 
-// Reads until the buffer is full or the input ends, and answers how many bytes it put at the start.
-fn read_full(input: &mut impl Read, buf: &mut [u8]) -> io::Result<usize>
-    ensures { IfOk result (λ n. n ≤ length buf.new) }
+// Reads until the buffer is full or the input ends, and answers how many bytes it put at the start. A failed reading ends the input.
+fn read_full(input: &mut impl Read, buf: &mut [u8]) -> usize
+    ensures { result ≤ length buf.new }
 {
     let mut done: usize = 0;
     while done < buf.len() {
-        let n = input.read(&mut buf[done..])?;
+        let n = input.read(&mut buf[done..]).unwrap_or(0);
         if n == 0 {
             break;
         }
         done += n;
     }
-    Ok(done)
+    done
 }
 
 // The 4,096 bytes that are read are enough of any input (`enough` of param_text/proofs/Enough.antt): a front of two bytes and 147 numbers
@@ -50,7 +50,7 @@ fn read_full(input: &mut impl Read, buf: &mut [u8]) -> io::Result<usize>
 // over.
 fn main(rt: HostRuntime) -> io::Result<()> {
     let mut bytes = [0u8; 4096];
-    let n = read_full(&mut rt.reader(), &mut bytes)?;
+    let n = read_full(&mut rt.reader(), &mut bytes);
     let mut out = [0u8; 4096];
     let end = show(&mut out, &bytes[..n]);
     io::writer(&rt).write_all(&out[..end])

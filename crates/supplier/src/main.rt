@@ -7,7 +7,7 @@
 // Any other mode, and none, is answered by `2 0`.
 #![tactic(auto)]
 
-ghost use Rattle.std.specs.Prelude.{◌≡◌, List, [], ◌∷◌, ◌++◌, ℕ, ◌+◌, ◌≤◌, ◌<◌, length, take, drop, IfOk};
+ghost use Rattle.std.specs.Prelude.{◌≡◌, List, [], ◌∷◌, ◌++◌, ℕ, ◌+◌, ◌≤◌, ◌<◌, length, take, drop};
 ghost use Rattle.records.specs.Records.{param_count};
 ghost use Rattle.text.specs.Text.{Stored};
 ghost use Rattle.params.specs.Check.{first_broken};
@@ -231,30 +231,30 @@ fn answer_all(buf: &mut [u8], page: &mut [u8], mode: u8, bytes: &[u8], rest: usi
     answer(buf, page, mode, bytes)
 }
 
-// Reads until the buffer is full or the input ends, and answers how many bytes it put at the start.
-fn read_full(input: &mut impl Read, buf: &mut [u8]) -> io::Result<usize>
-    ensures { IfOk result (λ n. n ≤ length buf.new) }
+// Reads until the buffer is full or the input ends, and answers how many bytes it put at the start. A failed reading ends the input.
+fn read_full(input: &mut impl Read, buf: &mut [u8]) -> usize
+    ensures { result ≤ length buf.new }
 {
     let mut done: usize = 0;
     while done < buf.len() {
-        let n = input.read(&mut buf[done..])?;
+        let n = input.read(&mut buf[done..]).unwrap_or(0);
         if n == 0 {
             break;
         }
         done += n;
     }
-    Ok(done)
+    done
 }
 
 // Counts what is left of the input. A proved loop has to end, and nothing says that the input does: the turns count down from a number
 // that no run uses up.
-fn count_rest(input: &mut impl Read, page: &mut [u8]) -> io::Result<usize>
-    ensures { IfOk result (λ n. n ≤ 18014398509481984) }
+fn count_rest(input: &mut impl Read, page: &mut [u8]) -> usize
+    ensures { result ≤ 18014398509481984 }
 {
     let mut turns: usize = 4398046511104;
     let mut total: usize = 0;
     while 0 < turns {
-        let n = read_full(input, page)?;
+        let n = read_full(input, page);
         if n == 0 {
             break;
         }
@@ -264,29 +264,24 @@ fn count_rest(input: &mut impl Read, page: &mut [u8]) -> io::Result<usize>
         total += n;
         turns -= 1;
     }
-    Ok(total)
+    total
 }
 
 // What the front of the input comes to, and what may follow it.
-fn reply(
-    rest_of: &mut impl Read,
-    buf: &mut [u8],
-    page: &mut [u8],
-    input: &[u8],
-) -> io::Result<usize>
+fn reply(rest_of: &mut impl Read, buf: &mut [u8], page: &mut [u8], input: &[u8]) -> usize
     requires { (4096 ≤ length buf.old) × (supplier_bytes ≤ length page.old) × (length input.now ≤ 65536) }
-    ensures { IfOk result (λ n. n ≤ 4096) }
+    ensures { result ≤ 4096 }
 {
     let n = input.len();
     if n == 0 {
-        return Ok(param_text::put_head(buf, 2, 0));
+        return param_text::put_head(buf, 2, 0);
     }
     let mode = input[0];
     if n < 65536 {
-        return Ok(answer_all(buf, page, mode, &input[1..], 0));
+        return answer_all(buf, page, mode, &input[1..], 0);
     }
-    let rest = count_rest(rest_of, page)?;
-    Ok(answer_all(buf, page, mode, &input[1..], rest))
+    let rest = count_rest(rest_of, page);
+    answer_all(buf, page, mode, &input[1..], rest)
 }
 
 fn main(rt: HostRuntime) -> io::Result<()> {
@@ -294,7 +289,7 @@ fn main(rt: HostRuntime) -> io::Result<()> {
     let mut out = [0u8; 4096];
     let mut page = [0u8; 4096];
     let mut reader = rt.reader();
-    let n = read_full(&mut reader, &mut input)?;
-    let end = reply(&mut reader, &mut out, &mut page, &input[..n])?;
+    let n = read_full(&mut reader, &mut input);
+    let end = reply(&mut reader, &mut out, &mut page, &input[..n]);
     io::writer(&rt).write_all(&out[..end])
 }

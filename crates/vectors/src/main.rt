@@ -5,6 +5,10 @@
 use std::io;
 use varint::{Put, Read};
 
+fn end_line(rt: &impl Print) -> io::Result<()> {
+    println!(rt;)
+}
+
 // The first n bytes in hexadecimal digits, on a line.
 fn print_bytes(rt: &impl Print, buf: [u8; 10], n: usize) -> io::Result<()> {
     let mut i: usize = 0;
@@ -15,7 +19,7 @@ fn print_bytes(rt: &impl Print, buf: [u8; 10], n: usize) -> io::Result<()> {
         }
         i += 1;
     }
-    println!(rt;)
+    end_line(rt)
 }
 
 // A number's groups.
@@ -25,7 +29,7 @@ fn print_groups(rt: &impl Print, n: u64) -> io::Result<()> {
     let put = varint::write_u64(part, 0, n);
     match put {
         Put::Next(k) => print_bytes(rt, buf, k),
-        Put::Full => println!(rt;),
+        Put::Full => end_line(rt),
     }
 }
 

@@ -12,16 +12,16 @@ returns-then-n-lt65536 g c = c.answer_all.ensures.1
 pub answer_all-requires-2 : goal.answer_all-requires-2
 answer_all-requires-2 g c =
     room_after _ _ c.args.input.now _ c.requires.0
-    (omega (arith, c.count_rest.auto.page, c.requires.1)) c.requires.2
+    (omega (arith, c.count_rest-rest.auto.page, c.requires.1)) c.requires.2
     (λ h. c.if-n-lt65536.false)
-    c.in_ok-rest.ensures
+    c.count_rest-rest.ensures
 
 pub shape_of-buf : goal.shape_of-buf
 shape_of-buf g c = c.answer_all-2.auto.buf
 
 pub shape_of-page : goal.shape_of-page
 shape_of-page g c = c.answer_all-2.auto.page
-    ∙ c.count_rest.auto.page
+    ∙ c.count_rest-rest.auto.page
 
 pub returns : goal.returns
 returns g c = c.answer_all-2.ensures.1
