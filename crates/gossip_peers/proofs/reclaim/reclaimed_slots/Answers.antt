@@ -1,14 +1,9 @@
-use Rattle.index.proofs.Kit.{◌≡◌, ◌-◌, ◌≤◌, ◌<◌, ap, ◌∙◌, arith}
+use Rattle.index.proofs.Kit.{ap, ◌∙◌, arith}
 use borrow.Author.Rules.{rules}
-use mathlib.Core.Bool.{false, true}
-use lib.ListN.{get_or}
-use Rattle.records.specs.Records.{slot_count, peer_in}
-use Rattle.layout.specs.View.{state_of}
-use Rattle.words.specs.Words.{bits_of}
 use Rattle.records.specs.declared.Peer.{Peer}
 use Rattle.effects.specs.Effects.{reclaimable}
 use Rattle.heartbeat.proofs.SeenLaws.{flags_length}
-use Rattle.gossip_peers.proofs.SiftLaws.{Sifted, sifted_none, sifted_next, sifted_more, sifted_done}
+use Rattle.gossip_peers.proofs.SiftLaws.{sifted_none, sifted_next, sifted_more, sifted_done}
 use Rattle.gossip_peers.proofs.PeerLaws.{reclaimed_are}
 use Rattle.gossip_peers.proofs.reclaim.reclaimed_slots.Goals as goal
 

@@ -1,5 +1,4 @@
 -- `gossip_peers::relays::asked`: the set by words, and the sender taken out.
-use borrow.Author.Rules.{rules}
 use Rattle.gossip_peers.proofs.PeerLaws.{asked_are}
 use Rattle.gossip_peers.proofs.relays.asked.Goals as goal
 

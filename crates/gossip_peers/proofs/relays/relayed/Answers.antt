@@ -1,5 +1,4 @@
 -- `gossip_peers::relays::relayed`: the set by words, and the sender taken out.
-use borrow.Author.Rules.{rules}
 use Rattle.gossip_peers.proofs.PeerLaws.{reached_are}
 use Rattle.gossip_peers.proofs.relays.relayed.Goals as goal
 

@@ -1,13 +1,10 @@
-use Rattle.index.proofs.Kit.{◌≡◌, ◌-◌, ◌≤◌, ◌<◌, ℕ, not, ap, arith}
+use Rattle.index.proofs.Kit.{◌≡◌, ℕ, not, ap, arith}
 use borrow.Author.Rules.{rules}
-use mathlib.Core.Bool.{false, true}
 use lib.Dec.{eqb}
-use lib.ListN.{length, get_or}
-use Rattle.records.specs.Records.{slot_count, peer_in}
-use Rattle.layout.specs.View.{state_of}
-use Rattle.words.specs.Words.{word_count, bits_of}
+use lib.ListN.{length}
+use Rattle.words.specs.Words.{word_count}
 use Rattle.heartbeat.proofs.SeenLaws.{flags_length}
-use Rattle.gossip_peers.proofs.SiftLaws.{Sifted, sifted_none, sifted_next, sifted_more, sifted_done}
+use Rattle.gossip_peers.proofs.SiftLaws.{sifted_none, sifted_next, sifted_more, sifted_done}
 use Rattle.gossip_peers.proofs.relays.without.Goals as goal
 
 pub next-slot-requires : goal.next-slot-requires

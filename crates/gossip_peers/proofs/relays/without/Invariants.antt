@@ -1,14 +1,12 @@
 -- `gossip_peers::relays::without`: before the turn of a slot of the set those below it are asked for their ids.
-use Rattle.index.proofs.Kit.{◌≡◌, ◌-◌, ◌≤◌, ◌<◌, ℕ, not, ap, arith}
-use borrow.Author.Rules.{rules}
+use Rattle.index.proofs.Kit.{◌≡◌, ◌-◌, ◌≤◌, ◌<◌, not}
 use mathlib.Core.Bool.{false, true}
 use lib.Dec.{eqb}
-use lib.ListN.{length, get_or}
+use lib.ListN.{get_or}
 use Rattle.records.specs.Records.{slot_count, peer_in}
 use Rattle.layout.specs.View.{state_of}
-use Rattle.words.specs.Words.{word_count, bits_of}
-use Rattle.heartbeat.proofs.SeenLaws.{flags_length}
-use Rattle.gossip_peers.proofs.SiftLaws.{Sifted, sifted_none, sifted_next, sifted_more, sifted_done}
+use Rattle.words.specs.Words.{bits_of}
+use Rattle.gossip_peers.proofs.SiftLaws.{Sifted}
 use Rattle.gossip_peers.proofs.relays.without.Given as goal
 
 abbrev pub invariant-loop-slot : goal.invariant-loop-slot

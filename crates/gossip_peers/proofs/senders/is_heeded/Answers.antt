@@ -1,5 +1,4 @@
 -- `gossip_peers::senders::is_heeded`: an older peer is not, another by the graylist.
-use borrow.Author.Rules.{rules}
 use Rattle.gossip_peers.proofs.PeerLaws.{heeded_not, heeded_is}
 use Rattle.gossip_peers.proofs.senders.is_heeded.Goals as goal
 

@@ -1,5 +1,4 @@
 -- `gossip_peers::senders::sender_known`: ourselves, or what the search finds.
-use borrow.Author.Rules.{rules}
 use Rattle.gossip_peers.proofs.PeerLaws.{known_self, known_at, known_none}
 use Rattle.gossip_peers.proofs.senders.sender_known.Goals as goal
 

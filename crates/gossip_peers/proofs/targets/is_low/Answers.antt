@@ -1,5 +1,4 @@
 -- `gossip_peers::targets::is_low`: the score held to the threshold.
-use borrow.Author.Rules.{rules}
 use Rattle.gossip_peers.proofs.PeerLaws.{gossip_most, low_of}
 use Rattle.gossip_peers.proofs.targets.is_low.Goals as goal
 

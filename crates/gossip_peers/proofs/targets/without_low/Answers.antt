@@ -1,14 +1,10 @@
-use Rattle.index.proofs.Kit.{◌≡◌, ◌-◌, ◌≤◌, ◌<◌, not, ap, arith}
+use Rattle.index.proofs.Kit.{◌≡◌, not, ap, arith}
 use borrow.Author.Rules.{rules}
-use mathlib.Core.Bool.{false, true}
-use lib.ListN.{length, get_or}
-use Rattle.records.specs.Records.{slot_count}
-use Rattle.layout.specs.View.{state_of}
-use Rattle.words.specs.Words.{word_count, bits_of}
+use lib.ListN.{length}
+use Rattle.words.specs.Words.{word_count}
 use Rattle.peer_score.proofs.WeightLaws.{weighing_p2, weighing_p3b, weighing_p4}
 use Rattle.heartbeat.proofs.SeenLaws.{flags_length}
-use Rattle.gossip_peers.specs.Peers.{is_low}
-use Rattle.gossip_peers.proofs.SiftLaws.{Sifted, sifted_none, sifted_next, sifted_more, sifted_done}
+use Rattle.gossip_peers.proofs.SiftLaws.{sifted_none, sifted_next, sifted_more, sifted_done}
 use Rattle.gossip_peers.proofs.targets.without_low.Goals as goal
 
 pub weights-w2-requires : goal.weights-w2-requires

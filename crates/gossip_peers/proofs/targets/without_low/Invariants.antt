@@ -1,15 +1,12 @@
 -- `gossip_peers::targets::without_low`: before the turn of a slot of the set the scores of those below it are taken.
-use Rattle.index.proofs.Kit.{◌≡◌, ◌-◌, ◌≤◌, ◌<◌, not, ap, arith}
-use borrow.Author.Rules.{rules}
+use Rattle.index.proofs.Kit.{◌≡◌, ◌-◌, ◌≤◌, ◌<◌, not}
 use mathlib.Core.Bool.{false, true}
-use lib.ListN.{length, get_or}
+use lib.ListN.{get_or}
 use Rattle.records.specs.Records.{slot_count}
 use Rattle.layout.specs.View.{state_of}
-use Rattle.words.specs.Words.{word_count, bits_of}
-use Rattle.peer_score.proofs.WeightLaws.{weighing_p2, weighing_p3b, weighing_p4}
-use Rattle.heartbeat.proofs.SeenLaws.{flags_length}
+use Rattle.words.specs.Words.{bits_of}
 use Rattle.gossip_peers.specs.Peers.{is_low}
-use Rattle.gossip_peers.proofs.SiftLaws.{Sifted, sifted_none, sifted_next, sifted_more, sifted_done}
+use Rattle.gossip_peers.proofs.SiftLaws.{Sifted}
 use Rattle.gossip_peers.proofs.targets.without_low.Given as goal
 
 abbrev pub invariant-loop-slot : goal.invariant-loop-slot

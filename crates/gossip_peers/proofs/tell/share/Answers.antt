@@ -1,5 +1,4 @@
 -- `gossip_peers::tell::share`: the product of a count of slots and a thousandth fits.
-use borrow.Author.Rules.{rules}
 use Rattle.index.proofs.Kit.{◌*◌, ◌≤◌, arith}
 use native.Mathlib.Nat.{mul-le-mul}
 use Rattle.records.specs.Records.{slot_count}

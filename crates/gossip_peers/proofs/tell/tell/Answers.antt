@@ -1,11 +1,8 @@
 use borrow.Author.Rules.{rules}
-use Rattle.index.proofs.Kit.{◌≡◌, ◌-◌, ◌≤◌, ◌<◌, ap, ◌∙◌, arith}
-use mathlib.Core.Bool.{false, true}
-use lib.ListN.{get_or}
+use Rattle.index.proofs.Kit.{◌≡◌, ap, ◌∙◌, arith}
 use Rattle.records.specs.Records.{slot_count}
 use Rattle.layout.specs.View.{state_of}
 use Rattle.words.specs.Words.{bits_of}
-use Rattle.gossip_peers.specs.Peers.{Tells}
 use Rattle.gossip_peers.proofs.TellLaws.{tell_to, told_few, told_none, told_more, told_skip, told_all, tells_none}
 use Rattle.gossip_peers.proofs.TellLaws.{tells_size, tells_as, tells_more}
 use Rattle.gossip_peers.proofs.tell.tell.Goals as goal

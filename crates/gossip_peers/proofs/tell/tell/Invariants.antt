@@ -1,14 +1,12 @@
 -- `gossip_peers::tell::tell`: before the turn of a slot of the set the actions on those below it are written.
-use borrow.Author.Rules.{rules}
-use Rattle.index.proofs.Kit.{◌≡◌, ◌-◌, ◌≤◌, ◌<◌, ap, ◌∙◌, arith}
+use Rattle.index.proofs.Kit.{◌≡◌, ◌-◌, ◌≤◌, ◌<◌}
 use mathlib.Core.Bool.{false, true}
 use lib.ListN.{get_or}
 use Rattle.records.specs.Records.{slot_count}
 use Rattle.layout.specs.View.{state_of}
 use Rattle.words.specs.Words.{bits_of}
 use Rattle.gossip_peers.specs.Peers.{Tells}
-use Rattle.gossip_peers.proofs.TellLaws.{tell_to, told_few, told_none, told_more, told_skip, told_all, tells_none}
-use Rattle.gossip_peers.proofs.TellLaws.{tells_size, tells_as, tells_more}
+use Rattle.gossip_peers.proofs.TellLaws.{tell_to}
 use Rattle.gossip_peers.proofs.tell.tell.Given as goal
 
 abbrev pub invariant-loop-slot : goal.invariant-loop-slot

@@ -1,12 +1,11 @@
 use borrow.Author.Rules.{rules}
-use Rattle.index.proofs.Kit.{◌≡◌, ◌-◌, ◌≤◌, ◌<◌, refl, sym, ◌∙◌, arith}
+use Rattle.index.proofs.Kit.{◌≡◌, ◌<◌, refl, sym, ◌∙◌, arith}
 use lib.ListN.{length, get_or}
 use Rattle.layout.specs.View.{state_of}
 use Rattle.words.specs.Words.{word_count, bits_of}
 use Rattle.words.proofs.WideLaws.{bits_of_length}
 use Rattle.sets.proofs.WalkLaws.{at_below}
-use Rattle.gossip_peers.specs.Peers.{Tells}
-use Rattle.gossip_peers.proofs.TellLaws.{picked_to, picked_none, picked_few, picked_in, picked_out, picked_full, picked_all}
+use Rattle.gossip_peers.proofs.TellLaws.{picked_none, picked_few, picked_in, picked_out, picked_full, picked_all}
 use Rattle.gossip_peers.proofs.TellLaws.{tells_none, tells_size, tells_as, tells_more}
 use Rattle.gossip_peers.proofs.tell.tell_first.Goals.{then-at, else-at}
 use Rattle.gossip_peers.proofs.tell.tell_first.Goals as goal

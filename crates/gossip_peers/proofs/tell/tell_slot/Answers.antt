@@ -1,5 +1,4 @@
 -- `gossip_peers::tell::tell_slot`: the id of a router's peer fits, and the three numbers are the action's.
-use borrow.Author.Rules.{rules}
 use Rattle.index.proofs.Kit.{ℕ, ◌*◌, ap, ◌∙◌, arith}
 use mathlib.Core.List.{[], ◌∷◌}
 use lib.Seq.{sets}
