@@ -1,12 +1,8 @@
 use borrow.Author.Rules.{rules}
-use Rattle.index.proofs.Kit.{◌≡◌, ◌-◌, ◌≤◌, ◌<◌, not, ap, arith}
-use mathlib.Core.Bool.{false, true}
-use lib.ListN.{length, get_or}
-use Rattle.records.specs.Records.{slot_count}
-use Rattle.words.specs.Words.{word_count, bits_of}
-use Rattle.gossip.specs.Notes.{note_in, holds}
-use Rattle.gossip_table.specs.View.{gossip_of}
-use Rattle.gossip_peers.proofs.SiftLaws.{Sifted, sifted_none, sifted_next, sifted_more, sifted_done}
+use Rattle.index.proofs.Kit.{◌≡◌, not, ap, arith}
+use lib.ListN.{length}
+use Rattle.words.specs.Words.{word_count}
+use Rattle.gossip_peers.proofs.SiftLaws.{sifted_none, sifted_next, sifted_more, sifted_done}
 use Rattle.notice_calls.proofs.NoticeLaws.{flags_length}
 use Rattle.notice_calls.proofs.without_holders.Goals as goal
 

@@ -1,14 +1,12 @@
 -- `notice_calls::without_holders`: before the turn of a slot of the set those below it are asked for the number.
-use borrow.Author.Rules.{rules}
-use Rattle.index.proofs.Kit.{◌≡◌, ◌-◌, ◌≤◌, ◌<◌, not, ap, arith}
+use Rattle.index.proofs.Kit.{◌≡◌, ◌-◌, ◌≤◌, ◌<◌, not}
 use mathlib.Core.Bool.{false, true}
-use lib.ListN.{length, get_or}
+use lib.ListN.{get_or}
 use Rattle.records.specs.Records.{slot_count}
-use Rattle.words.specs.Words.{word_count, bits_of}
+use Rattle.words.specs.Words.{bits_of}
 use Rattle.gossip.specs.Notes.{note_in, holds}
 use Rattle.gossip_table.specs.View.{gossip_of}
-use Rattle.gossip_peers.proofs.SiftLaws.{Sifted, sifted_none, sifted_next, sifted_more, sifted_done}
-use Rattle.notice_calls.proofs.NoticeLaws.{flags_length}
+use Rattle.gossip_peers.proofs.SiftLaws.{Sifted}
 use Rattle.notice_calls.proofs.without_holders.Given as goal
 
 abbrev pub invariant-loop-slot : goal.invariant-loop-slot
