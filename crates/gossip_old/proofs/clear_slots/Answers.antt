@@ -1,12 +1,9 @@
 use borrow.Author.Rules.{rules}
-use Rattle.index.proofs.Kit.{◌≡◌, refl, ◌-◌, ◌≤◌, ◌<◌, ◌∙◌, arith}
-use mathlib.Core.Bool.{false, true}
-use lib.ListN.{length, get_or}
+use Rattle.index.proofs.Kit.{◌≡◌, refl, ◌∙◌, arith}
 use Rattle.records.specs.Records.{slot_count}
-use Rattle.words.specs.Words.{bits_of}
 use Rattle.gossip_table.specs.View.{gossip_of}
 use Rattle.gossip_table.proofs.StoreParts.{gossip_sized}
-use Rattle.gossip_old.proofs.ClearLaws.{Cleared, cleared_none, cleared_next, cleared_more, cleared_all}
+use Rattle.gossip_old.proofs.ClearLaws.{cleared_none, cleared_next, cleared_more, cleared_all}
 use Rattle.gossip_old.proofs.clear_slots.Goals as goal
 
 pub next-slot-requires : goal.next-slot-requires

@@ -1,13 +1,11 @@
 -- `gossip_old::clear_slots`: before the turn of a slot of the set the notes of those below it are emptied.
-use borrow.Author.Rules.{rules}
-use Rattle.index.proofs.Kit.{◌≡◌, refl, ◌-◌, ◌≤◌, ◌<◌, ◌∙◌, arith}
+use Rattle.index.proofs.Kit.{◌≡◌, ◌-◌, ◌≤◌, ◌<◌}
 use mathlib.Core.Bool.{false, true}
 use lib.ListN.{length, get_or}
 use Rattle.records.specs.Records.{slot_count}
 use Rattle.words.specs.Words.{bits_of}
 use Rattle.gossip_table.specs.View.{gossip_of}
-use Rattle.gossip_table.proofs.StoreParts.{gossip_sized}
-use Rattle.gossip_old.proofs.ClearLaws.{Cleared, cleared_none, cleared_next, cleared_more, cleared_all}
+use Rattle.gossip_old.proofs.ClearLaws.{Cleared}
 use Rattle.gossip_old.proofs.clear_slots.Given as goal
 
 abbrev pub invariant-loop-slot : goal.invariant-loop-slot

@@ -1,6 +1,6 @@
 -- `gossip_old::connect`: test 12, or what `connect_from` gives.
 use Rattle.index.proofs.Flags.{yes, no}
-use Rattle.index.proofs.Kit.{refl, rules}
+use Rattle.index.proofs.Kit.{refl}
 use Rattle.gossip_old.proofs.OldLaws.{tested, old_passes, old_refused}
 use Rattle.gossip_old.proofs.connect.Goals as goal
 

@@ -1,6 +1,6 @@
 -- `gossip_old::disconnect`: test 12, or what `disconnect_from` gives.
 use Rattle.index.proofs.Flags.{yes, no}
-use Rattle.index.proofs.Kit.{refl, rules}
+use Rattle.index.proofs.Kit.{refl}
 use Rattle.gossip_old.proofs.OldLaws.{tested, old_passes, old_refused}
 use Rattle.gossip_old.proofs.disconnect.Goals as goal
 

@@ -1,5 +1,5 @@
 -- `host_gossip::fresh` meets its contract. Assumes nothing.
-use Rattle.index.proofs.Kit.{arith, rules}
+use Rattle.index.proofs.Kit.{arith}
 use Rattle.host_gossip.proofs.RouterLaws.{made_known, made_unknown}
 use Rattle.host_gossip.proofs.fresh.Goals as goal
 

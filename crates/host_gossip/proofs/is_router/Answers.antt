@@ -1,5 +1,5 @@
 -- `host_gossip::is_router` meets its contract. Assumes nothing.
-use Rattle.index.proofs.Kit.{rules, sym, ap, one, ◌∙◌}
+use Rattle.index.proofs.Kit.{sym, ap, one, ◌∙◌}
 use Rattle.host_gossip.proofs.is_router.Goals as goal
 
 pub returns-then-is_router : goal.returns-then-is_router

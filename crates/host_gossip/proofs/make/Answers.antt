@@ -1,5 +1,5 @@
 -- `host_gossip::make` meets its contract. Assumes nothing.
-use Rattle.index.proofs.Kit.{arith, rules}
+use Rattle.index.proofs.Kit.{arith}
 use Rattle.host_gossip.proofs.RouterLaws.{making_fits, hosts_made}
 use Rattle.host_gossip.proofs.make.Goals as goal
 

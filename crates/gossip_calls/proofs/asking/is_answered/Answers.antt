@@ -1,5 +1,4 @@
 -- `gossip_calls::asking::is_answered`: the tests in another order.
-use borrow.Author.Rules.{rules}
 use Rattle.gossip_calls.proofs.AskLaws.{answered_not, answered_is}
 use Rattle.gossip_calls.proofs.asking.is_answered.Goals as goal
 

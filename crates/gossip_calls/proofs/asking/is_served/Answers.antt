@@ -1,5 +1,4 @@
 -- `gossip_calls::asking::is_served`: the tests in another order.
-use borrow.Author.Rules.{rules}
 use Rattle.gossip_calls.proofs.AskLaws.{served_not, served_is}
 use Rattle.gossip_calls.proofs.asking.is_served.Goals as goal
 

@@ -1,5 +1,4 @@
 -- `gossip_calls::storing::beat_from`: the array, then the clock.
-use borrow.Author.Rules.{rules}
 use Rattle.gossip_gate.proofs.AdmittedLaws.{admitted_fine}
 use Rattle.gossip_calls.proofs.StoreLaws.{beat_done}
 use Rattle.gossip_calls.proofs.storing.beat_from.Goals as goal

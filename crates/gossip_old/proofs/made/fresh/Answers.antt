@@ -1,6 +1,5 @@
 -- `gossip_old::made::fresh`: 2 of the set-up numbers, or what making the table answers.
 use Rattle.index.proofs.Flags.{yes, no}
-use Rattle.index.proofs.Kit.{rules}
 use Rattle.gossip_old.proofs.MadeLaws.{fresh_range, fresh_broken, fresh_done}
 use Rattle.gossip_old.proofs.made.fresh.Goals as goal
 

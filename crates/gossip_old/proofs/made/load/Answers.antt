@@ -1,6 +1,6 @@
 -- `gossip_old::made::load`: 2 of the set-up numbers, or what loading the table answers.
 use Rattle.index.proofs.Flags.{yes, no}
-use Rattle.index.proofs.Kit.{refl, rules}
+use Rattle.index.proofs.Kit.{refl}
 use Rattle.gossip_old.proofs.MadeLaws.{load_range, load_refused, load_done}
 use Rattle.gossip_old.proofs.made.load.Goals as goal
 

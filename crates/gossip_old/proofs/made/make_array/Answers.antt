@@ -1,5 +1,4 @@
 -- `gossip_old::made::make_array`: the five numbers, one after the other.
-use Rattle.index.proofs.Kit.{rules}
 use Rattle.gossip_table.specs.View.{setup_of}
 use Rattle.gossip_old.proofs.made.make_array.Goals as goal
 

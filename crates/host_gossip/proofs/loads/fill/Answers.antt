@@ -1,5 +1,5 @@
 -- `host_gossip::loads::fill` meets its contract. Assumes nothing.
-use Rattle.index.proofs.Kit.{arith, rules}
+use Rattle.index.proofs.Kit.{arith}
 use Rattle.host_gossip.proofs.RouterLaws.{load_fits, hosts_load_all}
 use Rattle.host_gossip.proofs.loads.fill.Goals as goal
 

@@ -1,5 +1,5 @@
 -- `host_gossip::loads::load` meets its contract. Assumes nothing.
-use Rattle.index.proofs.Kit.{arith, rules}
+use Rattle.index.proofs.Kit.{arith}
 use Rattle.host_gossip.proofs.RouterLaws.{load_known, load_unknown}
 use Rattle.host_gossip.proofs.loads.load.Goals as goal
 
