@@ -1,5 +1,4 @@
 -- `trace_feed::feed`: the turn of the stage.
-use borrow.Author.Rules.{rules}
 use Rattle.trace_feed.proofs.TurnLaws.{feeds_stage, feeds_over}
 use Rattle.trace_feed.proofs.feed.Goals as goal
 

@@ -1,5 +1,4 @@
 -- `trace_feed::feed_params`: the verdict on the parameters, and what it prints.
-use borrow.Author.Rules.{rules}
 use Rattle.trace_feed.proofs.TurnLaws.{params_accepted, params_broken, params_want, params_malformed}
 use Rattle.trace_feed.proofs.feed_params.Goals as goal
 

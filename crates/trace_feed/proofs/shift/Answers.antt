@@ -1,9 +1,7 @@
-use borrow.Author.Rules.{rules}
 use native.Mathlib.Omega.{arith}
-use Prim.Native.Nat.{◌+◌, ◌-◌, ◌≤◌}
-use mathlib.Core.Path.{◌≡◌, refl}
-use lib.ListN.{length, length-set}
-use Rattle.trace_feed.proofs.WindowLaws.{Shifted, shifted_none, shifted_more, shifted_all}
+use mathlib.Core.Path.{refl}
+use lib.ListN.{length-set}
+use Rattle.trace_feed.proofs.WindowLaws.{shifted_none, shifted_more, shifted_all}
 use Rattle.trace_feed.proofs.shift.Goals as goal
 
 pub loop-k-init : goal.loop-k-init

@@ -1,10 +1,8 @@
 -- `trace_feed::shift`: turn by turn one byte more stands at the front; the one that is read next has not been written over.
-use borrow.Author.Rules.{rules}
-use native.Mathlib.Omega.{arith}
 use Prim.Native.Nat.{◌+◌, ◌-◌, ◌≤◌}
-use mathlib.Core.Path.{◌≡◌, refl}
-use lib.ListN.{length, length-set}
-use Rattle.trace_feed.proofs.WindowLaws.{Shifted, shifted_none, shifted_more, shifted_all}
+use mathlib.Core.Path.{◌≡◌}
+use lib.ListN.{length}
+use Rattle.trace_feed.proofs.WindowLaws.{Shifted}
 use Rattle.trace_feed.proofs.shift.Given as goal
 
 abbrev pub invariant-loop-k : goal.invariant-loop-k

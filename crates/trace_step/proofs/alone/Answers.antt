@@ -1,5 +1,4 @@
 -- `trace_step::alone`: a connect whose list of groups has the one.
-use borrow.Author.Rules.{rules}
 use Rattle.trace_step.proofs.alone.Goals as goal
 
 pub returns : goal.returns

@@ -1,6 +1,5 @@
 -- `trace_step::call`: each arm is the call of its kind.
 use Rattle.trace_events.specs.Reading.{call_of}
-use borrow.Author.Rules.{rules}
 use Rattle.trace_step.proofs.ReplayLaws.{follows_kind}
 use Rattle.trace_step.proofs.call.Goals as goal
 

@@ -1,5 +1,4 @@
 -- `trace_step::connect`: too long a name, two ways of being short, or the call.
-use borrow.Author.Rules.{rules}
 use native.Mathlib.Omega.{arith}
 use Rattle.trace_step.proofs.ReplayLaws.{connect_long, connect_short, connect_called}
 use Rattle.trace_step.proofs.connect.Goals as goal

@@ -1,5 +1,4 @@
 -- `trace_step::connecting`: the connect of the edition.
-use borrow.Author.Rules.{rules}
 use Rattle.trace_step.proofs.ReplayLaws.{connecting_as}
 use Rattle.trace_step.proofs.connecting.Goals as goal
 

@@ -1,5 +1,4 @@
 -- `trace_step::heartbeat`: a number of the permutation that cannot be read, or the call.
-use borrow.Author.Rules.{rules}
 use mathlib.Core.Path.{refl}
 use Rattle.index.proofs.Flags.{failed, passed}
 use Rattle.trace_step.proofs.ReplayLaws.{heartbeat_unread, heartbeat_called}

@@ -1,5 +1,4 @@
 -- `trace_step::perform`: no kind, an unknown one, or the event.
-use borrow.Author.Rules.{rules}
 use Rattle.trace_step.proofs.ReplayLaws.{perform_bad, perform_unknown, perform_known}
 use Rattle.trace_step.proofs.perform.Goals as goal
 
