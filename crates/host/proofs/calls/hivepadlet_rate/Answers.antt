@@ -1,5 +1,4 @@
 -- `host::hivepadlet_rate` meets its contract. Assumes nothing.
-use borrow.Author.Rules.{rules}
 use mir.Facts.{to_z-of_z}
 use Rattle.host.proofs.calls.hivepadlet_rate.Goals as goal
 
