@@ -1,7 +1,6 @@
 -- A recorded list: the calls made so far and the rest of the events, turn by turn; the ends of a run; and that the list is all that stands
 -- in the bytes.
 -- Assumes nothing.
-use Prim.{tt}
 use Prim.Native.Nat.{ℕ, zero, suc, ◌+◌, ◌-◌, ◌<◌, ◌≤◌}
 use mathlib.Core.Path.{◌≡◌, refl, sym, ap, ap₂, ◌∙◌}
 use mathlib.Core.Bool.{false, false≢true}
@@ -16,8 +15,6 @@ use Rattle.index.proofs.Lists.{sets_append}
 use Rattle.effects.specs.Actions.{Action, numbers_of}
 use Rattle.rules.specs.Reply.{Reply}
 use Rattle.answers.specs.Answers.{answer_code}
-use denote.Enum.Declared.{tag_of}
-use types.Run.{OneOf, miss}
 use Rattle.index.specs.declared.Found.{Found}
 use Rattle.index.specs.declared.Found.TheVariants.{At, Nothing}
 use Rattle.index.proofs.Flags.{cond_case}
@@ -39,7 +36,6 @@ use Rattle.call_lists.proofs.Demand3.{demand3}
 use Rattle.trace_step.specs.declared.Performed.{Performed}
 use Rattle.trace_step.specs.declared.Performed.TheVariants.{Answered, Unknown, Malformed, CutShort}
 use Rattle.trace_step.specs.Replay.{perform_event, Performs}
-use Rattle.trace_step.specs.contracts.Performed.{the_type}
 use Rattle.trace_step.proofs.ReplayLaws.{Told, told as told-event}
 use Rattle.trace_run.specs.declared.Recorded.TheVariants.{Refused, Ran}
 use Rattle.trace_run.specs.Recorded.{Recording, joins, calls_from, recording_of, is_event, All, reply_to, answers_to, actions_after, Runs}

@@ -1,7 +1,6 @@
 use borrow.Author.Rules.{rules}
-use mathlib.Core.Path.{◌≡◌, refl}
-use lib.ListN.{length}
-use Rattle.trace_feed.proofs.Moves.{Moves, moves_start, moves_inside, moves_turn, moves_fill}
+use mathlib.Core.Path.{refl}
+use Rattle.trace_feed.proofs.Moves.{moves_start, moves_inside, moves_turn, moves_fill}
 use Rattle.trace.proofs.main.Goals as goal
 
 pub loop-init : goal.loop-init

@@ -1,13 +1,9 @@
-use Prim.Native.Nat.{◌-◌}
-use mathlib.Core.Path.{◌≡◌, refl}
+use mathlib.Core.Path.{refl}
 use borrow.Author.Rules.{rules}
 use native.Mathlib.Omega.{arith}
-use lib.ListN.{length, length-set}
-use Rattle.params.specs.declared.Params.{Params}
-use Rattle.layout.specs.View.{state_of}
-use Rattle.lookup.specs.Fresh.{fresh_state}
+use lib.ListN.{length-set}
 use Rattle.trace_step.proofs.ReplayLaws.{few_actions}
-use Rattle.trace_run.proofs.RecordedLaws.{Going, going_none, going_more, ran_all, ran_stopped, accepted, begins, run_refused}
+use Rattle.trace_run.proofs.RecordedLaws.{going_none, going_more, ran_all, ran_stopped, accepted, begins, run_refused}
 use Rattle.trace_run.proofs.run.Goals as goal
 
 pub returns-in-Broken : goal.returns-in-Broken

@@ -1,15 +1,12 @@
 -- `trace_run::run`: refused parameters, or the calls made so far, their answers and their actions, turn by turn, up to the first event that
 -- is not whole. Assumes nothing.
 use Prim.Native.Nat.{◌-◌}
-use mathlib.Core.Path.{◌≡◌, refl}
-use borrow.Author.Rules.{rules}
-use native.Mathlib.Omega.{arith}
-use lib.ListN.{length, length-set}
+use mathlib.Core.Path.{◌≡◌}
+use lib.ListN.{length}
 use Rattle.params.specs.declared.Params.{Params}
 use Rattle.layout.specs.View.{state_of}
 use Rattle.lookup.specs.Fresh.{fresh_state}
-use Rattle.trace_step.proofs.ReplayLaws.{few_actions}
-use Rattle.trace_run.proofs.RecordedLaws.{Going, going_none, going_more, ran_all, ran_stopped, accepted, begins, run_refused}
+use Rattle.trace_run.proofs.RecordedLaws.{Going}
 use Rattle.trace_run.proofs.run.Given as goal
 
 -- the table that the loop starts from is a fresh router's
