@@ -1,4 +1,4 @@
--- `host_saves::save` meets its contract. Assumes nothing.
+-- `host_saves::save`: each answer is packed into one number, and what a save comes to fits beside it, since no save is that long.
 use Rattle.index.proofs.Kit.{arith, refl}
 use Rattle.host_saves.proofs.SavingLaws.{save_fits, hosts_save}
 use Rattle.host_saves.proofs.save.Goals as goal

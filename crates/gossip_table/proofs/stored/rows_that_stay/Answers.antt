@@ -1,15 +1,7 @@
-use Rattle.index.proofs.Kit.{ℕ, Bool, arith}
+use Rattle.index.proofs.Kit.{arith}
 use Rattle.index.proofs.Lists.{built_none, built_more}
-use mathlib.Core.List.{List, map}
-use lib.ListN.{get_or}
-use Rattle.gossip.specs.Notes.{stored}
-use Rattle.gossip.specs.Valid.{row_number}
-use Rattle.gossip_table.specs.View.{gossip_of}
 use Rattle.gossip_table.proofs.StoreParts.{replies_size, replies_count}
 use Rattle.gossip_table.proofs.stored.rows_that_stay.Goals as goal
-
-abbrev stays : List ℕ → ℕ → Bool
-stays g k = stored (gossip_of g) (get_or (map row_number (gossip_of g).replies) k 0)
 
 pub rows-end-requires : goal.rows-end-requires
 rows-end-requires c = replies_size c.args.gossip.now c.requires.0.size
