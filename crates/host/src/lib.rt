@@ -6,8 +6,8 @@
 
 pub mod array;
 pub mod calls;
-pub mod forms;
 pub mod messages;
+pub mod old_forms;
 pub mod parameters;
-pub mod saves;
+pub mod power_cycle;
 pub mod tables;

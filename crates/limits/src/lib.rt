@@ -172,17 +172,26 @@ pub fn limit_of(i: usize) -> Limit
     LIMITS[f]
 }
 
+// The codes of numbers, where they are wanted: an array that is returned is copied more than once on the stack.
+pub fn write_codes(numbers: &[i64; NUMBERS], codes: &mut [u64])
+    requires numbers_len { length numbers.now ≡ param_count }
+    requires codes_len { length codes.old ≡ param_count }
+    ensures { codes.new ≡ map code_of numbers.now }
+{
+    let mut i: usize = 0;
+    while i < NUMBERS {
+        codes[i] = varint::code_of(numbers[i]);
+        i += 1;
+    }
+}
+
 // The codes of numbers.
 pub fn codes_of(numbers: &[i64; NUMBERS]) -> [u64; NUMBERS]
     requires { length numbers.now ≡ param_count }
     ensures { result ≡ map code_of numbers.now }
 {
     let mut codes = [0u64; NUMBERS];
-    let mut i: usize = 0;
-    while i < NUMBERS {
-        codes[i] = varint::code_of(numbers[i]);
-        i += 1;
-    }
+    write_codes(numbers, &mut codes);
     codes
 }
 

@@ -124,9 +124,8 @@ impl Params {
     pub fn first_broken(self) -> Found
         ensures { result ≡ first_broken self }
     {
-        let edition = self.edition;
-        let numbers = self.numbers;
-        let codes = limits::codes_of(&numbers);
-        first_broken_code(edition, &codes)
+        let mut codes = [0u64; NUMBERS];
+        limits::write_codes(&self.numbers, &mut codes);
+        first_broken_code(self.edition, &codes)
     }
 }

@@ -8,4 +8,4 @@ use Rattle.params.proofs.Params.first_broken.Goals as goal
 pub returns : goal.returns
 returns c =
     let p = c.args.self in
-    c.first_broken_code.ensures ∙ ap first_broken (ap (coded p.edition) c.codes_of-codes.ensures ∙ coded_back p)
+    c.first_broken_code.ensures ∙ ap first_broken (ap (coded p.edition) c.write_codes.ensures ∙ coded_back p)

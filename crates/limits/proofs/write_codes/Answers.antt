@@ -6,10 +6,10 @@ use Rattle.index.proofs.Lists.{built_none, built_more, built_done}
 use Rattle.varint.specs.Codes.{code_of}
 use Rattle.records.specs.Records.{param_count}
 use Rattle.limits.proofs.LimitLaws.{code_of_given}
-use Rattle.limits.proofs.codes_of.Goals as goal
+use Rattle.limits.proofs.write_codes.Goals as goal
 
 pub loop-i-init : goal.loop-i-init
-loop-i-init c = built_none _ _ _ _ refl
+loop-i-init c = built_none _ _ _ _ c.requires.codes_len
 
 pub loop-i-preserved : goal.loop-i-preserved
 loop-i-preserved c =
@@ -21,7 +21,7 @@ loop-i-preserved c =
 pub returns : goal.returns
 returns c =
     let numbers = c.args.numbers.now in
-    let n : length numbers ≡ param_count = search rules in
+    let n : length numbers ≡ param_count = c.requires.numbers_len in
     built_done _ _ _ c.loop-i.i c.loop-i.codes (map code_of numbers) (omega arith) c.loop-i.invariant
     (length-map numbers code_of ∙ n)
     (λ k h. get_or-map code_of numbers k (pos 0))
