@@ -1,4 +1,4 @@
-use Rattle.index.proofs.Kit.{◌≡◌, refl, ◌∙◌, arith, rules}
+use Rattle.index.proofs.Kit.{◌≡◌, ◌∙◌, arith, rules}
 use mathlib.Core.List.{map}
 use lib.ListN.{length, get_or, length-map, get_or-map}
 use lib.IntN.{pos}
