@@ -1,5 +1,6 @@
 -- Connect: a slot that was empty or retained, and so in no mesh, gets the direction that the call said; no other connected peer has its id.
 -- Assumes nothing.
+use Rattle.std.proofs.Common.{None}
 use Rattle.rules.proofs.ConnectLaws.{by_connect}
 use Prim.Native.Nat.{ℕ, ◌%◌, ◌<◌}
 use native.Mathlib.Omega.{arith}
@@ -8,7 +9,6 @@ use mathlib.Core.Bool.{Bool, true, false, cond, ◌&&◌}
 use mathlib.Core.List.{List}
 use lib.Dec.{eqb}
 use borrow.Author.Tests.{eq-eqb, ne_eqb}
-use Rattle.index.specs.declared.Found.TheVariants.{Nothing}
 use Rattle.params.specs.declared.Params.{Params}
 use Rattle.records.specs.declared.Peer.{Peer}
 use Rattle.records.specs.Records.{State, peer_in, set_clock, set_peer, slot_count}
@@ -55,7 +55,7 @@ module _
     abbrev after : ℕ → Bool
     after peer = cond (eqb id peer && true) (eqb (flags % 2) 1) (dir peer)
 
-    module _ (none : find_connected st id ≡ Nothing) (version : ℕ) where
+    module _ (none : find_connected st id ≡ None) (version : ℕ) where
       -- who was connected has another id
       other :
           (i : ℕ) →

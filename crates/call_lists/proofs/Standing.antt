@@ -1,6 +1,7 @@
 -- The invariant of demand 3: what stands after every list of calls, for the parameters and for the directions that the list's connects
 -- said. It holds of a fresh or loaded router, and stays where nobody comes (Fewer).
 -- Assumes nothing.
+use Rattle.std.proofs.Common.{None}
 use Prim.Native.Nat.{ℕ, zero, suc, ◌+◌, ◌<◌, ◌≤◌}
 use native.Mathlib.Omega.{arith}
 use mathlib.Core.Path.{◌≡◌, refl, sym, ap, ◌∙◌}
@@ -14,7 +15,6 @@ use Rattle.index.specs.Index.{count}
 use Rattle.index.proofs.Index.{both, count_less}
 use Rattle.index.proofs.Flags.{by_order}
 use Rattle.varint.specs.Codes.{code_of, magnitude}
-use Rattle.index.specs.declared.Found.TheVariants.{Nothing}
 use Rattle.params.specs.declared.Params.{Params}
 use Rattle.params.specs.Check.{first_broken}
 use Rattle.limits.specs.Limits.{at}
@@ -175,7 +175,7 @@ module _ (params : Params) where
   unfolding fresh_state
   fresh_made = (refl, refl)
 
-  stands_fresh : length params.numbers ≡ param_count → first_broken params ≡ Nothing → (dir : ℕ → Bool) →
+  stands_fresh : length params.numbers ≡ param_count → first_broken params ≡ None → (dir : ℕ → Bool) →
       Standing params dir (fresh_state params)
   stands_fresh l e = stands_off params (fresh_state params) (fresh_valid params l e) fresh_off (fresh_sized l) fresh_made.0
       fresh_made.1

@@ -1,7 +1,7 @@
 -- Demand 3 of the mission, over every list of calls. docs/ARCHITECTURE.md has the mission's words beside each line.
+use Rattle.std.specs.Prelude.{None}
 use Rattle.std.specs.Prelude.{ℕ, ◌+◌, ◌≤◌, ◌<◌, ◌≡◌, ◌⊎◌, Bool, true, false, not, ◌&&◌, List, ◌∷◌, nat_abs, length}
 use Rattle.index.specs.Index.{count}
-use Rattle.index.specs.declared.Found.TheVariants.{Nothing}
 use Rattle.params.specs.declared.Params.{Params}
 use Rattle.limits.specs.Limits.{at}
 use Rattle.params.specs.Check.{first_broken}
@@ -15,7 +15,7 @@ use Rattle.call_lists.specs.Lists.{Start, Begins, Made, after, answered, outboun
 -- router is made with them
 pub record Accepted (start : Start) : Type 0 where
   pub size : length start.params.numbers ≡ param_count
-  pub passes : first_broken start.params ≡ Nothing
+  pub passes : first_broken start.params ≡ None
   pub begins : Begins start
 
 abbrev pub d_lo : Params → ℕ

@@ -1,9 +1,10 @@
 -- The program's calls, one after the other on one table: what they answer and leave is what the rules give (01: "the program's calls give
 -- the same answers, and the tables they leave hold the same joined topics and meshes"). Of the program only its promises are taken.
+use Rattle.std.specs.Prelude.{Ok}
+use Rattle.std.specs.Prelude.{tt}
 use Rattle.std.specs.Prelude.{ℕ, ◌≡◌, List, [], ◌∷◌, map, length}
 use Rattle.std.proofs.lemmas.List.Edits.{sets}
 use Rattle.layout.specs.View.{state_of}
-use Rattle.lookup.specs.declared.Made.TheVariants.{Done}
 use Rattle.lookup.specs.Fresh.{fresh_state, Makes}
 use Rattle.effects.specs.Actions.{numbers_of}
 use Rattle.rules.specs.declared.Answer.{Answer}
@@ -33,7 +34,7 @@ Reads {start} l was table = Loads (load_of l.fine start.params l.clock l.bytes) 
 
 -- the table is a fresh router's as `fresh` promises it, or a loaded one's as `load` does
 pub data Opened (start : Start) (table : List ℕ) : Type 0 where
-  made_fresh : (was : List ℕ) → start.state ≡ fresh_state start.params → Makes start.params Done was table → Opened start table
+  made_fresh : (was : List ℕ) → start.state ≡ fresh_state start.params → Makes start.params (Ok tt) was table → Opened start table
   read_back : (l : Loaded start) (was : List ℕ) → Reads l was table → Opened start table
 
 -- the table is one that a list of the program's calls leaves, the last call first: "Each call gets the tables and the clock that the last

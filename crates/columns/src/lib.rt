@@ -32,11 +32,9 @@ fn gathered(cells: &[u64], at: usize, n: usize, k: u64) -> u64
     ensures { result ≡ gathered cells.now at k n }
 {
     let mut acc: u64 = 0;
-    let mut i: usize = 0;
-    while i < n {
+    for i in 0..n {
         let x = cells[at + i];
         acc = acc | x | std::num::wrapping_add_u64(x, k);
-        i += 1;
     }
     acc
 }
@@ -57,15 +55,13 @@ fn three(cells: &[u64], a: usize, b: usize, e: usize, n: usize, ka: u64, kb: u64
     let mut u: u64 = 0;
     let mut v: u64 = 0;
     let mut w: u64 = 0;
-    let mut i: usize = 0;
-    while i < n {
+    for i in 0..n {
         let x = cells[a + i];
         let y = cells[b + i];
         let z = cells[e + i];
         u = u | x | std::num::wrapping_add_u64(x, ka);
         v = v | y | std::num::wrapping_add_u64(y, kb);
         w = w | z | std::num::wrapping_add_u64(z, ke);
-        i += 1;
     }
     Unions { a: u, b: v, e: w }
 }
@@ -97,11 +93,9 @@ fn above(cells: &[u64], at: usize, n: usize) -> u64
     ensures { RunWithin cells.now at (4 * n) result }
 {
     let mut acc: u64 = 0;
-    let mut i: usize = 0;
-    while i < n {
+    for i in 0..n {
         acc = acc
             | (cells[at + i] | cells[at + n + i] | (cells[at + 2 * n + i] | cells[at + 3 * n + i]));
-        i += 1;
     }
     acc
 }
@@ -202,8 +196,7 @@ fn counters(cells: &[u64], n: usize, caps2: &[u64; 8], caps3: &[u64; 8], p4: u64
         → Lanes (counters_gathered cells.now n caps2.now caps3.now p4 t) }
 {
     let mut acc: u64 = 0;
-    let mut t: usize = 0;
-    while t < TOPICS {
+    for t in 0..TOPICS {
         acc = acc
             | gathered(
                 cells,
@@ -211,7 +204,6 @@ fn counters(cells: &[u64], n: usize, caps2: &[u64; 8], caps3: &[u64; 8], p4: u64
                 n,
                 lanes_room(caps2[t], caps3[t], p4),
             );
-        t += 1;
     }
     acc
 }

@@ -16,11 +16,10 @@ use effects::actions::put_prune;
 use effects::slots::{graft_slot, load_magnitude, mesh_size, prune_slot};
 use effects::values::{end_after, with_end, with_p7};
 use gate::{admit, finish, id_ok, ignore, is_heard, see, time_ok, topic_ok};
-use index::Found;
 use layout::CELLS;
 use lookup::find::find_connected;
 use records::{Peer, param};
-use rules::{Answer, Gate, GraftCase, Seen};
+use rules::{Answer, GraftCase, Seen};
 
 // Which of 01's nine cases a GRAFT is, from what was seen.
 fn graft_case(v: Seen, crowded: bool, time: u64, topic: usize) -> GraftCase
@@ -127,7 +126,7 @@ fn graft_from(table: &mut [u64], time: u64, id: u64, topic: usize, actions: &mut
     ensures { Gives (effect (state_of table.old) (Calls·graft time id topic)) result
         table.old table.new actions.old actions.new }
 {
-    let Found::At(slot) = find_connected(table, id) else {
+    let Some(slot) = find_connected(table, id) else {
         return Answer::NotConnected;
     };
     graft_reply(table, time, topic, slot, actions)
@@ -146,8 +145,8 @@ pub fn graft(
 {
     let fine = time_ok(time) & (id_ok(id) & topic_ok(topic));
     match admit(table, fine, actions.len(), time) {
-        Gate::Refuse(a) => a,
-        Gate::Pass => graft_from(table, time, id, topic as usize, actions),
+        Err(a) => a,
+        Ok(()) => graft_from(table, time, id, topic as usize, actions),
     }
 }
 
@@ -181,7 +180,7 @@ fn prune_from(table: &mut [u64], time: u64, id: u64, topic: usize, seconds: u64)
     ensures { Leaves (effect (state_of table.old) (Calls·prune time id topic seconds)) result
         table.old table.new }
 {
-    let Found::At(slot) = find_connected(table, id) else {
+    let Some(slot) = find_connected(table, id) else {
         return Answer::NotConnected;
     };
     prune_reply(table, time, topic, slot, seconds)
@@ -201,7 +200,7 @@ pub fn prune(
 {
     let fine = time_ok(time) & (id_ok(id) & topic_ok(topic));
     match admit(table, fine, actions.len(), time) {
-        Gate::Refuse(a) => a,
-        Gate::Pass => prune_from(table, time, id, topic as usize, seconds),
+        Err(a) => a,
+        Ok(()) => prune_from(table, time, id, topic as usize, seconds),
     }
 }

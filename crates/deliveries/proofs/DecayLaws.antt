@@ -1,5 +1,7 @@
 -- A decay, record by record: what it relies on is kept from each record to the next, and its steps are the rules'.
 -- Assumes nothing.
+use Rattle.std.proofs.Common.{Result, Ok, Err}
+use Rattle.std.proofs.Common.{Unit, tt}
 use Prim.Native.Nat.{ℕ, zero, suc, ◌+◌, ◌-◌, ◌*◌, ◌/◌, ◌^◌, ◌<◌, ◌≤◌}
 use mathlib.Core.Path.{◌≡◌, refl, sym, ap, ◌∙◌}
 use mathlib.Core.Bool.{Bool, true, false, not, ◌&&◌}
@@ -38,8 +40,6 @@ use Rattle.gate.proofs.StandingLaws.{sizes}
 use Rattle.gate.proofs.CallLaws.{gate_refusal, gate_ready, gate_quiet}
 use Rattle.rules.specs.declared.Answer.{Answer}
 use Rattle.rules.specs.declared.Answer.TheVariants.{Done}
-use Rattle.rules.specs.declared.Gate.{Gate}
-use Rattle.rules.specs.declared.Gate.TheVariants.{Pass, Refuse}
 use Rattle.rules.specs.Calls.{decay, time_ok}
 use Rattle.rules.specs.Step.{gate_of, effect, decay_floor, decay_topic, decay_p7, decay_slot, decay_reply}
 use Rattle.rules.specs.Promise.{Leaves, Follows}
@@ -345,7 +345,7 @@ module _ (st : State) (time s status : ℕ) (e : status ≡ (peer_in st s).statu
 -- ---- the call: its one argument is the time
 
 time_alone :
-    (st : State) (a : Bool) (room time : ℕ) (g : Gate) → g ≡ gate_of st a room time → g ≡ gate_of st (a && true) room time
+    (st : State) (a : Bool) (room time : ℕ) (g : Result (Unit {0}) Answer) → g ≡ gate_of st a room time → g ≡ gate_of st (a && true) room time
 time_alone st true room time g e = e
 time_alone st false room time g e = e
 
@@ -353,18 +353,18 @@ module _
     (table list : List ℕ)
     (a : Bool)
     (time : ℕ)
-    (g : Gate)
+    (g : Result (Unit {0}) Answer)
     (ea : a ≡ time_ok time)
     (eg : g ≡ gate_of (state_of table) a (length list) time)
   where
-    pub decay_refuses : (x : Answer) → g ≡ Refuse x → Follows (decay time) x table table list list
+    pub decay_refuses : (x : Answer) → g ≡ Err x → Follows (decay time) x table table list list
     decay_refuses = gate_refusal (decay time) table list a true g ea refl (time_alone _ a _ time g eg)
 
-    pub decay_ready : g ≡ Pass → length table ≡ cell_count → Ready table time
+    pub decay_ready : g ≡ Ok tt → length table ≡ cell_count → Ready table time
     decay_ready e = gate_ready table a true (length list) time g (time_alone _ a _ time g eg) e ea
 
     pub decay_quiet :
-        g ≡ Pass →
+        g ≡ Ok tt →
         (r : Answer) (table' : List ℕ) →
         Leaves (decay_reply (state_of table) time) r table table' →
         Follows (decay time) r table table' list list

@@ -1,5 +1,8 @@
 -- What a delivery comes to at each of its ends.
 -- Assumes nothing.
+use Rattle.std.proofs.Common.{Result, Ok}
+use Rattle.std.proofs.Common.{Unit, tt}
+use Rattle.rules.specs.declared.Answer.{Answer}
 use Prim.Native.Nat.{ℕ, ◌<◌, ◌≤◌}
 use mathlib.Core.Path.{◌≡◌, refl, sym, ap₂, ◌∙◌}
 use mathlib.Core.Bool.{Bool, true, cond, ◌&&◌}
@@ -24,8 +27,6 @@ use Rattle.credits.proofs.CreditLaws.{credited_is}
 use Rattle.effects.specs.Effects.{on_topic}
 use Rattle.rules.specs.Reply.{Reply}
 use Rattle.rules.specs.Calls.{deliver, id_ok, topic_ok}
-use Rattle.rules.specs.declared.Gate.{Gate}
-use Rattle.rules.specs.declared.Gate.TheVariants.{Pass}
 use Rattle.rules.specs.Step.{gate_of, effect, is_heard, delivered_of, deliver_reply}
 use Rattle.rules.proofs.EndLaws.{quiet_peer}
 use Rattle.rules.proofs.CaseLaws.{topic_in_lem}
@@ -142,9 +143,9 @@ pub deliver_range :
 deliver_range id t kind a b p q = ap₂ (λ (x y : Bool). x && y && (leb 1 kind && leb kind 3)) p q
 
 pub deliver_topic :
-    (table : List ℕ) (a b d k : Bool) (room time : ℕ) (g : Gate) →
+    (table : List ℕ) (a b d k : Bool) (room time : ℕ) (g : Result (Unit {0}) Answer) →
     g ≡ gate_of (state_of table) (a && (b && d && k)) room time →
-    g ≡ Pass →
+    g ≡ Ok tt →
     (t : ℕ) →
     d ≡ topic_ok t →
     t < 8

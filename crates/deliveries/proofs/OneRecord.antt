@@ -1,12 +1,11 @@
 -- "A delivery alters the counters of one record and no other record."
 -- Assumes nothing.
+use Rattle.std.proofs.Common.{Option, Some, None}
 use Prim.Native.Nat.{ℕ}
 use mathlib.Core.Path.{◌≡◌, refl}
 use mathlib.Core.Bool.{cond}
 use lib.Dec.{eqb}
 use lib.ListN.{length-set}
-use Rattle.index.specs.declared.Found.{Found}
-use Rattle.index.specs.declared.Found.TheVariants.{At, Nothing}
 use Rattle.index.proofs.Flags.{cond_case}
 use Rattle.records.specs.declared.TopicRecord.{TopicRecord}
 use Rattle.records.specs.Records.{State, place, topic_in, set_clock, set_topic}
@@ -49,7 +48,7 @@ module _ (st : State) (time id t : ℕ) where
 
   altered :
       (s : ℕ) (f : TopicRecord → TopicRecord) →
-      find_connected st id ≡ At s →
+      find_connected st id ≡ Some s →
       ((r : TopicRecord) → Counted r (f r)) →
       OneRecord st (set_clock (on_topic st s t f) time) id t
   unfolding set_clock set_topic topic_in
@@ -68,7 +67,7 @@ module _ (st : State) (time id t : ℕ) where
       }
 
   delivered :
-      (kind s : ℕ) → find_connected st id ≡ At s → OneRecord st (deliver_reply st time t kind s).state id t
+      (kind s : ℕ) → find_connected st id ≡ Some s → OneRecord st (deliver_reply st time t kind s).state id t
   unfolding deliver_reply
   delivered kind s e =
       cond_case (λ (o : Reply). OneRecord st o.state id t) (is_heard st t s) _ (ignored st time)
@@ -80,11 +79,11 @@ module _ (st : State) (time id t : ℕ) where
   effected kind = go (find_connected st id) refl
     where
       go :
-          (r : Found) →
+          (r : Option ℕ) →
           find_connected st id ≡ r →
           OneRecord st (on_found r (deliver_reply st time t kind) (refused NotConnected st)).state id t
-      go (At s) e = delivered kind s e
-      go Nothing e = same
+      go (Some s) e = delivered kind s e
+      go None e = same
 
 -- ---- the call
 

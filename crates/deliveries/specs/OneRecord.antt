@@ -1,6 +1,6 @@
 -- 01: "A delivery alters the counters of one record and no other record."
+use Rattle.std.specs.Prelude.{Some}
 use Rattle.std.specs.Prelude.{ℕ, ◌≡◌, ◌≢◌, List, length}
-use Rattle.index.specs.declared.Found.TheVariants.{At}
 use Rattle.records.specs.Records.{State, place, topic_in}
 use Rattle.layout.specs.View.{state_of}
 use Rattle.lookup.specs.Find.{find_connected}
@@ -18,7 +18,7 @@ pub record OneRecord (st u : State) (id t : ℕ) : Type 0 where
   pub peers : u.peers ≡ st.peers
   pub size : length u.topics ≡ length st.topics
   -- "no other record": the topic record at any other place is as it was
-  pub others : (k : ℕ) → ((s : ℕ) → find_connected st id ≡ At s → k ≢ place s t) → topic_in u k ≡ topic_in st k
+  pub others : (k : ℕ) → ((s : ℕ) → find_connected st id ≡ Some s → k ≢ place s t) → topic_in u k ≡ topic_in st k
   -- "the counters": of every record all stands but P2, P3 and P4
   pub rest :
       (k : ℕ) →

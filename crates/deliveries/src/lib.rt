@@ -17,12 +17,11 @@ use credits::credited;
 use effects::slots::load_magnitude;
 use effects::values::with_p7;
 use gate::{admit, finish, id_ok, ignore, is_heard, see, time_ok, topic_ok};
-use index::Found;
 use layout::CELLS;
 use lookup::find::find_connected;
 use peer_score::is_idle;
 use records::{SLOTS, TOPICS, param};
-use rules::{Answer, Gate};
+use rules::Answer;
 use words::with_bit;
 
 // The counters of the peer's record in the topic grow, if it is heard. Kinds: 1 first, 2 near-first, 3 invalid.
@@ -45,7 +44,7 @@ fn deliver_from(table: &mut [u64], time: u64, id: u64, topic: usize, kind: u64) 
     ensures { Leaves (effect (state_of table.old) (Calls·deliver time id topic kind)) result
         table.old table.new }
 {
-    let Found::At(slot) = find_connected(table, id) else {
+    let Some(slot) = find_connected(table, id) else {
         return Answer::NotConnected;
     };
     deliver_reply(table, time, topic, slot, kind)
@@ -65,8 +64,8 @@ pub fn deliver(
 {
     let fine = time_ok(time) & ((id_ok(id) & topic_ok(topic)) & ((1 <= kind) & (kind <= 3)));
     match admit(table, fine, actions.len(), time) {
-        Gate::Refuse(a) => a,
-        Gate::Pass => deliver_from(table, time, id, topic as usize, kind),
+        Err(a) => a,
+        Ok(()) => deliver_from(table, time, id, topic as usize, kind),
     }
 }
 
@@ -90,11 +89,9 @@ fn busy(table: &[u64], slot: usize) -> u64
     ensures { IdleBelow (state_of table.now) slot topic_count result }
 {
     let mut w: u64 = 0;
-    let mut topic: usize = 0;
-    while topic < TOPICS {
+    for topic in 0..TOPICS {
         let r = layout::load_topic(table, slot * 8 + topic);
         w = with_bit(w, topic as u64, !is_idle(r));
-        topic += 1;
     }
     w
 }
@@ -160,10 +157,8 @@ fn decay_from(table: &mut [u64], time: u64) -> Answer
     requires { Ready table.old time }
     ensures { Leaves (decay_reply (state_of table.old) time) result table.old table.new }
 {
-    let mut slot: usize = 0;
-    while slot < SLOTS {
+    for slot in 0..SLOTS {
         decay_slot(table, time, slot);
-        slot += 1;
     }
     finish(table, time)
 }
@@ -175,7 +170,7 @@ pub fn decay(table: &mut [u64; CELLS], time: u64, actions: &mut [u32]) -> Answer
 {
     let fine = time_ok(time);
     match admit(table, fine, actions.len(), time) {
-        Gate::Refuse(a) => a,
-        Gate::Pass => decay_from(table, time),
+        Err(a) => a,
+        Ok(()) => decay_from(table, time),
     }
 }

@@ -1,5 +1,6 @@
 -- Laws of the effects: what each leaves alone, and what stands in each slot after it.
 -- Assumes nothing.
+use Rattle.std.proofs.Common.{None}
 use Prim.Native.Nat.{ℕ, ◌≤◌, ◌<◌, max}
 use native.Mathlib.Omega.{arith}
 use mathlib.Core.Path.{◌≡◌, refl, sym, ap, ◌∙◌}
@@ -11,7 +12,6 @@ use lib.Seq.{get_or-set_same, get_or-set_other, set-set}
 use lib.Dec.{eqb, leb}
 use borrow.Author.Tests.{leb-true, ltb-false, eqb-true, not-true, ne_eqb}
 use Rattle.index.specs.Index.{every, first, iter}
-use Rattle.index.specs.declared.Found.TheVariants.{Nothing}
 use Rattle.index.proofs.Index.{both, every_at, iter_keeps, first_passed}
 use Rattle.index.proofs.Flags.{by_test, cond_case}
 use Rattle.index.proofs.Lists.{set_case}
@@ -512,7 +512,7 @@ none_reclaimed st time h = iter_still (reclaim_slot time) slot_count st (λ s k.
 pub full_none :
     (st : State) (time : ℕ) →
     Sized st →
-    first slot_count (λ s. is_empty (peer_in (reclaimed st time) s)) ≡ Nothing →
+    first slot_count (λ s. is_empty (peer_in (reclaimed st time) s)) ≡ None →
     NoneReclaimable st time
 full_none st time size e = record { each = not_one }
   where
@@ -533,7 +533,7 @@ full_none st time size e = record { each = not_one }
 pub full_stays :
     (st : State) (time : ℕ) →
     Sized st →
-    first slot_count (λ s. is_empty (peer_in (reclaimed st time) s)) ≡ Nothing →
+    first slot_count (λ s. is_empty (peer_in (reclaimed st time) s)) ≡ None →
     reclaimed st time ≡ st
 full_stays st time size e = none_reclaimed st time (full_none st time size e).each
 

@@ -33,10 +33,8 @@ fn leave_topics(table: &mut [u64], slot: usize)
     requires { AtSlot table.old slot }
     ensures { state_of table.new ≡ iter 8 (λ t u. left_topic u slot t) (state_of table.old) }
 {
-    let mut t: usize = 0;
-    while t < TOPICS {
+    for t in 0..TOPICS {
         unsubscribe_slot(table, t, slot);
-        t += 1;
     }
 }
 
@@ -56,12 +54,10 @@ fn backoffs_over(p: Peer, time: u64) -> bool
     ensures { result ≡ every 8 (λ t. not (backoff_runs p t time)) }
 {
     let ends = p.backoff;
-    let mut t: usize = 0;
-    while t < TOPICS {
+    for t in 0..TOPICS {
         if time < ends[t] {
             return false;
         }
-        t += 1;
     }
     true
 }
@@ -116,10 +112,8 @@ fn empty_topics(table: &mut [u64], slot: usize)
     ensures { state_of table.new
         ≡ iter 8 (λ t u. set_topic u (place slot t) no_topic) (state_of table.old) }
 {
-    let mut t: usize = 0;
-    while t < TOPICS {
+    for t in 0..TOPICS {
         layout::store_topic(table, slot * 8 + t, empty_topic());
-        t += 1;
     }
 }
 
@@ -150,9 +144,7 @@ pub fn reclaim(table: &mut [u64], time: u64)
     ensures { (state_of table.new ≡ reclaimed (state_of table.old) time)
         × (NoneReclaimable (state_of table.old) time → table.new ≡ table.old) }
 {
-    let mut slot: usize = 0;
-    while slot < SLOTS {
+    for slot in 0..SLOTS {
         reclaim_slot(table, slot, time);
-        slot += 1;
     }
 }

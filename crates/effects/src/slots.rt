@@ -45,10 +45,8 @@ pub fn mesh_size(table: &[u64], topic: usize) -> usize
     ensures { (result ≡ mesh_size (state_of table.now) topic) × (result ≤ slot_count) }
 {
     let mut n: usize = 0;
-    let mut slot: usize = 0;
-    while slot < SLOTS {
+    for slot in 0..SLOTS {
         n += one_if(is_member(table, topic, slot));
-        slot += 1;
     }
     n
 }

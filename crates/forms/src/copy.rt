@@ -17,10 +17,8 @@ fn joined_from(rows: &[u64], table: &mut [u64])
     ensures { state_of table.new
         ≡ copy_joined topic_count (state_of_rows rows.now) (state_of table.old) }
 {
-    let mut t: usize = 0;
-    while t < TOPICS {
+    for t in 0..TOPICS {
         layout::store_joined(table, t, rows::load_joined(rows, t));
-        t += 1;
     }
 }
 
@@ -44,10 +42,8 @@ fn peers_from(rows: &[u64], table: &mut [u64], n: usize)
     requires { Between rows.now table.old × (n ≤ slot_count) }
     ensures { state_of table.new ≡ copy_peers n (state_of_rows rows.now) (state_of table.old) }
 {
-    let mut s: usize = 0;
-    while s < n {
+    for s in 0..n {
         layout::store_peer(table, s, rows::load_peer(rows, s));
-        s += 1;
     }
 }
 
@@ -56,10 +52,8 @@ fn topics_from(rows: &[u64], table: &mut [u64], n: usize)
     ensures { state_of table.new
         ≡ copy_topics (n * topic_count) (state_of_rows rows.now) (state_of table.old) }
 {
-    let mut k: usize = 0;
-    while k < n * TOPICS {
+    for k in 0..n * TOPICS {
         layout::store_topic(table, k, rows::load_topic(rows, k));
-        k += 1;
     }
 }
 
@@ -83,10 +77,8 @@ fn joined_to(table: &[u64], rows: &mut [u64])
     ensures { state_of_rows rows.new
         ≡ copy_joined topic_count (state_of table.now) (state_of_rows rows.old) }
 {
-    let mut t: usize = 0;
-    while t < TOPICS {
+    for t in 0..TOPICS {
         rows::store_joined(rows, t, layout::load_joined(table, t));
-        t += 1;
     }
 }
 
@@ -95,10 +87,8 @@ fn peers_to(table: &[u64], rows: &mut [u64])
     ensures { state_of_rows rows.new
         ≡ copy_peers slot_count (state_of table.now) (state_of_rows rows.old) }
 {
-    let mut s: usize = 0;
-    while s < SLOTS {
+    for s in 0..SLOTS {
         rows::store_peer(rows, s, layout::load_peer(table, s));
-        s += 1;
     }
 }
 
@@ -107,10 +97,8 @@ fn topics_to(table: &[u64], rows: &mut [u64])
     ensures { state_of_rows rows.new
         ≡ copy_topics place_count (state_of table.now) (state_of_rows rows.old) }
 {
-    let mut k: usize = 0;
-    while k < PLACES {
+    for k in 0..PLACES {
         rows::store_topic(rows, k, layout::load_topic(table, k));
-        k += 1;
     }
 }
 
@@ -120,10 +108,8 @@ fn codes(table: &[u64]) -> [u64; PARAMS]
     ensures { result ≡ (state_of table.now).codes }
 {
     let mut r = [0u64; PARAMS];
-    let mut i: usize = 0;
-    while i < PARAMS {
+    for i in 0..PARAMS {
         r[i] = layout::load_code(table, i);
-        i += 1;
     }
     r
 }

@@ -40,10 +40,8 @@ fn topics_ok(rows: &[u64], slot: usize, status: u64, explicit: u64) -> bool
     ensures { result ≡ every topic_count (topic_ok_at (state_of_rows rows.now) slot status explicit) }
 {
     let mut ok = true;
-    let mut t: usize = 0;
-    while t < TOPICS {
+    for t in 0..TOPICS {
         ok = ok & topic_at(rows, slot, status, explicit, t);
-        t += 1;
     }
     ok
 }
@@ -64,10 +62,8 @@ fn slots_ok(rows: &[u64]) -> bool
     ensures { result ≡ every slot_count (slot_ok (state_of_rows rows.now)) }
 {
     let mut ok = true;
-    let mut slot: usize = 0;
-    while slot < SLOTS {
+    for slot in 0..SLOTS {
         ok = ok & slot_ok(rows, slot);
-        slot += 1;
     }
     ok
 }
@@ -78,12 +74,10 @@ fn new_id(rows: &[u64], slot: usize) -> bool
     ensures { result ≡ new_id (state_of_rows rows.now) slot }
 {
     let id = rows::load_id(rows, slot);
-    let mut k: usize = 0;
-    while k < slot {
+    for k in 0..slot {
         if !apart(id, rows::load_id(rows, k)) {
             return false;
         }
-        k += 1;
     }
     true
 }
@@ -93,10 +87,8 @@ fn ids_distinct(rows: &[u64]) -> bool
     ensures { result ≡ every slot_count (new_id (state_of_rows rows.now)) }
 {
     let mut ok = true;
-    let mut slot: usize = 0;
-    while slot < SLOTS {
+    for slot in 0..SLOTS {
         ok = ok & new_id(rows, slot);
-        slot += 1;
     }
     ok
 }
@@ -113,10 +105,8 @@ fn joined_ok(rows: &[u64]) -> bool
     ensures { result ≡ every topic_count (joined_ok (state_of_rows rows.now)) }
 {
     let mut ok = true;
-    let mut t: usize = 0;
-    while t < TOPICS {
+    for t in 0..TOPICS {
         ok = ok & joined_at(rows, t);
-        t += 1;
     }
     ok
 }

@@ -1,5 +1,7 @@
 -- From the gate's word to what a public call promises and what its inner function may rely on: one law for every call.
 -- Assumes nothing.
+use Rattle.std.proofs.Common.{Result, Ok, Err}
+use Rattle.std.proofs.Common.{Unit, tt}
 use Prim.Native.Nat.{ℕ, ◌≤◌, ◌<◌}
 use mathlib.Core.Path.{◌≡◌, sym, ap, ap₂, ◌∙◌}
 use mathlib.Core.Bool.{Bool, true, ◌&&◌}
@@ -10,8 +12,6 @@ use Rattle.index.proofs.Index.{both}
 use Rattle.layout.specs.View.{cell_count, state_of}
 use Rattle.validity.specs.Valid.{max_time}
 use Rattle.rules.specs.declared.Answer.{Answer}
-use Rattle.rules.specs.declared.Gate.{Gate}
-use Rattle.rules.specs.declared.Gate.TheVariants.{Pass, Refuse}
 use Rattle.rules.specs.Calls.{Call, time_of, time_ok, id_ok, topic_ok, arguments_ok, in_range}
 use Rattle.rules.specs.Step.{gate_of, effect, action_room}
 use Rattle.rules.specs.Promise.{Leaves, Gives, Follows}
@@ -26,7 +26,7 @@ module _
     (c : Call)
     (table list : List ℕ)
     (a b : Bool)
-    (g : Gate)
+    (g : Result (Unit {0}) Answer)
     (ea : a ≡ time_ok (time_of c))
     (eb : b ≡ arguments_ok c)
     (eg : g ≡ gate_of (state_of table) (a && b) (length list) (time_of c))
@@ -36,10 +36,10 @@ module _
     unfolding in_range
     word = eg ∙ ap (λ (f : Bool). gate_of (state_of table) f (length list) (time_of c)) (ap₂ ◌&&◌ ea eb)
 
-    pub gate_refusal : (x : Answer) → g ≡ Refuse x → Follows c x table table list list
+    pub gate_refusal : (x : Answer) → g ≡ Err x → Follows c x table table list list
     gate_refusal x e = follows_refused c table list x (sym word ∙ e)
 
-    module _ (e : g ≡ Pass) (r : Answer) (table' : List ℕ) where
+    module _ (e : g ≡ Ok tt) (r : Answer) (table' : List ℕ) where
       pub gate_gives : (list' : List ℕ) → Gives (effect (state_of table) c) r table table' list list' → Follows c r table table' list list'
       gate_gives list' h = follows_passed c table list r table' list' (sym word ∙ e) h
 
@@ -53,9 +53,9 @@ module _
     (table : List ℕ)
     (a b : Bool)
     (room time : ℕ)
-    (g : Gate)
+    (g : Result (Unit {0}) Answer)
     (eg : g ≡ gate_of (state_of table) (a && b) room time)
-    (e : g ≡ Pass)
+    (e : g ≡ Ok tt)
   where
     behind : Passed (state_of table) (a && b) room time
     behind = gate_passed (state_of table) (a && b) room time (sym eg ∙ e)
@@ -79,7 +79,7 @@ module _
 
 -- a topic behind another argument
 pub gate_topic_2 :
-    (table : List ℕ) (a b d : Bool) (room time : ℕ) (g : Gate) → g ≡ gate_of (state_of table) (a && (b && d)) room time → g ≡ Pass → (t : ℕ) →
+    (table : List ℕ) (a b d : Bool) (room time : ℕ) (g : Result (Unit {0}) Answer) → g ≡ gate_of (state_of table) (a && (b && d)) room time → g ≡ Ok tt → (t : ℕ) →
     d ≡ topic_ok t → t < 8
 gate_topic_2 table a b d room time g eg e t ed = topic_in_lem t (sym ed ∙ (both b d (gate_fine table a (b && d) room time g eg e)).1)
 

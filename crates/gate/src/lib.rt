@@ -10,7 +10,7 @@ ghost use Rattle.peer_score.specs.Standing.{SlotStanding, PlaceStanding};
 
 use effects::slots::{is_joined, load_magnitude};
 use records::{ACTION_ROOM, param};
-use rules::{Answer, Gate, Seen, Sender};
+use rules::{Answer, Seen, Sender};
 use score::sums::is_below;
 use validity::valid::{MAX_ID, MAX_TIME};
 
@@ -33,23 +33,23 @@ pub fn topic_ok(topic: u64) -> bool
 }
 
 // `fine` says that each argument is in its range, and `room` how long the action list is.
-pub fn admit(table: &[u64], fine: bool, room: usize, time: u64) -> Gate
+pub fn admit(table: &[u64], fine: bool, room: usize, time: u64) -> Result<(), Answer>
     requires { length table.now ≡ cell_count }
     ensures { result ≡ gate_of (state_of table.now) fine room time }
 {
     if !validity::valid::is_router(table) {
-        return Gate::Refuse(Answer::NotRouter);
+        return Err(Answer::NotRouter);
     }
     if !fine {
-        return Gate::Refuse(Answer::OutOfRange);
+        return Err(Answer::OutOfRange);
     }
     if room < ACTION_ROOM {
-        return Gate::Refuse(Answer::ListShort);
+        return Err(Answer::ListShort);
     }
     if time < layout::load_clock(table) {
-        return Gate::Refuse(Answer::Early);
+        return Err(Answer::Early);
     }
-    Gate::Pass
+    Ok(())
 }
 
 // 0 with no action.

@@ -1,12 +1,11 @@
 -- A reply by the tests that come first, in the form of rules/CaseLaws.
 -- Assumes nothing.
+use Rattle.std.proofs.Common.{Option, Some, None}
 use Prim.Native.Nat.{ℕ, ◌<◌, ◌≤◌}
 use mathlib.Core.Path.{◌≡◌, refl}
 use mathlib.Core.Bool.{true, false, ◌&&◌}
 use lib.Dec.{eqb, leb}
 use borrow.Author.Tests.{leb-true}
-use Rattle.index.specs.declared.Found.{Found}
-use Rattle.index.specs.declared.Found.TheVariants.{At, Nothing}
 use Rattle.index.proofs.Index.{both}
 use Rattle.index.proofs.Flags.{cond_case}
 use Rattle.records.specs.Records.{slot_count, peer_in}
@@ -51,9 +50,9 @@ module _ (P : FullReply → Type 0) (x : Extended) (refuses : (a : ℕ) → eqb 
       P (of_peer_all x id f)
   by_slot_lem id f some = go (find_connected x.base id) refl
     where
-      go : (r : Found) → find_connected x.base id ≡ r → P (on_slot r f (refused_all 3 x))
-      go (At s) e = let q = connected_at x.base id s e in some s q.0 q.1 q.2
-      go Nothing e = refuses 3 refl
+      go : (r : Option ℕ) → find_connected x.base id ≡ r → P (on_slot r f (refused_all 3 x))
+      go (Some s) e = let q = connected_at x.base id s e in some s q.0 q.1 q.2
+      go None e = refuses 3 refl
 
   pub by_sender : (id : ℕ) (r : FullReply) → P r → P (of_sender x id r)
   by_sender id r h = cond_case P (eqb id 0) r (of_peer_all x id (λ s. r)) (λ e. h) (λ e. by_slot_lem id (λ s. r) (λ s l on i. h))

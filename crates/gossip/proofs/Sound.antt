@@ -1,6 +1,7 @@
 -- What each call leaves of the new parts is within test 12's bounds, if what it was given was: the new calls whatever they answer, and what
 -- 01's calls do besides.
 -- Assumes nothing.
+use Rattle.std.proofs.Common.{Some}
 use Prim.Native.Nat.{ℕ, ◌<◌}
 use mathlib.Core.Path.{◌≡◌, refl, ap, ◌∙◌}
 use mathlib.Core.Bool.{Bool, true, false, cond, not, ◌&&◌}
@@ -8,7 +9,6 @@ use mathlib.Core.List.{List, []}
 use lib.Dec.{eqb, ltb}
 use lib.ListN.{length}
 use borrow.Author.Tests.{eqb-true, eqb-false, eq-eqb, ltb-true}
-use Rattle.index.specs.declared.Found.TheVariants.{At}
 use Rattle.index.proofs.Index.{both}
 use Rattle.index.proofs.Flags.{by_test, cond_case}
 use Rattle.records.specs.Records.{State, slot_count, topic_count, no_peer, peer_in}
@@ -159,7 +159,7 @@ module _ (st u : State) (g : Gossip) (w : Sound st g) where
       ((t : ℕ) → is_joined u t ≡ is_joined st t) →
       ((i : ℕ) → i < slot_count → (i ≡ s → ⊥) → (peer_in u i).status ≡ (peer_in st i).status) →
       (peer_in u s).status ≡ 2 →
-      Sound u (on_found_note (At s) g)
+      Sound u (on_found_note (Some s) g)
   sound_parted s l j same off =
       let n = parted (note_in g s) in
       record {

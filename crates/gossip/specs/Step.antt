@@ -1,9 +1,8 @@
 -- What the calls of orders 6 and 7 answer and leave, and what 01's calls do besides: 01's order of tests (12, 2, 8, 1, then 7, 3, 11, 13).
+use Rattle.std.specs.Prelude.{Option, Some, None}
 use Rattle.std.specs.Prelude.{ℕ, ◌+◌, ◌*◌, ◌/◌, max, Bool, true, false, cond, not, ◌&&◌, ◌||◌, List, [], ◌∷◌, ◌++◌, map, eqb, leb, ltb, pos, ◌*ℤ◌, length, take}
 use Rattle.std.specs.Int.Signed.{lt_z}
 use Rattle.index.specs.Index.{gather}
-use Rattle.index.specs.declared.Found.{Found}
-use Rattle.index.specs.declared.Found.TheVariants.{At, Nothing}
 use Rattle.varint.specs.Codes.{number_of}
 use Rattle.records.specs.Records.{State, slot_count, code_in, peer_in, set_clock, is_connected}
 use Rattle.lookup.specs.Find.{find_connected}
@@ -54,9 +53,9 @@ gated x fine fits time r =
     (refused_all 12 x)
 
 -- 3
-abbrev pub on_slot : Found → (ℕ → FullReply) → FullReply → FullReply
-on_slot (At s) f r = f s
-on_slot Nothing f r = r
+abbrev pub on_slot : Option ℕ → (ℕ → FullReply) → FullReply → FullReply
+on_slot (Some s) f r = f s
+on_slot None f r = r
 
 abbrev pub of_peer_all : Extended → ℕ → (ℕ → FullReply) → FullReply
 of_peer_all x id f = on_slot (find_connected x.base id) f (refused_all 3 x)
@@ -239,9 +238,9 @@ parted p = record { held = []; puts = p.puts; ihaves = p.ihaves }
 unfoldable pub kept : State → ℕ → Gossip → ℕ → Note
 kept st time g s = cond (reclaimable (peer_in st s) time) no_note (note_in g s)
 
-abbrev pub on_found_note : Found → Gossip → Gossip
-on_found_note (At s) g = set_replies (set_note g s (parted (note_in g s))) (ended s g.replies)
-on_found_note Nothing g = g
+abbrev pub on_found_note : Option ℕ → Gossip → Gossip
+on_found_note (Some s) g = set_replies (set_note g s (parted (note_in g s))) (ended s g.replies)
+on_found_note None g = g
 
 unfoldable pub besides : State → Call → Gossip → Gossip
 besides st (connect time id group flags name) g =

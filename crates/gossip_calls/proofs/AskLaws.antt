@@ -1,5 +1,6 @@
 -- What an IHAVE and an IWANT come to at each of their ends.
 -- Assumes nothing.
+use Rattle.std.proofs.Common.{Option, Some, None}
 use Rattle.index.proofs.Kit.{ℕ, ◌+◌, ◌*◌, ◌≤◌, ◌≡◌, refl, sym, ap, ◌∙◌, Bool, true, false, not, arith}
 use mathlib.Core.Bool.{cond, ◌&&◌, ◌||◌}
 use mathlib.Core.List.{List, [], ◌∷◌, ◌++◌}
@@ -9,8 +10,6 @@ use lib.Seq.{sets}
 use borrow.Author.Tests.{ltb-true}
 use Rattle.index.proofs.Index.{both}
 use Rattle.index.proofs.Flags.{failed, passed, cond_case}
-use Rattle.index.specs.declared.Found.{Found}
-use Rattle.index.specs.declared.Found.TheVariants.{At, Nothing}
 use Rattle.records.specs.Records.{set_clock}
 use Rattle.layout.specs.View.{clock_at, state_of}
 use Rattle.lookup.specs.Find.{find_connected}
@@ -154,14 +153,14 @@ module _
     (table gossip numbers : List ℕ)
     (id : ℕ)
     (f : ℕ → FullReply)
-    (k : Found)
+    (k : Option ℕ)
     (e : k ≡ find_connected (state_of table) id)
   where
     abbrev reply : FullReply
     reply = of_peer_all (extended_of table gossip) id f
 
     pub asks_missing :
-        k ≡ Nothing → LeavesAll reply 3 table table gossip gossip × (numbers ≡ sets numbers 0 reply.numbers)
+        k ≡ None → LeavesAll reply 3 table table gossip gossip × (numbers ≡ sets numbers 0 reply.numbers)
     asks_missing g = (
       ends_missing table gossip id f k e g,
       no_numbers numbers reply _ (peer_missing (extended_of table gossip) id f (sym e ∙ g)) refl,
@@ -169,7 +168,7 @@ module _
 
     pub asks_found :
         (s r : ℕ) (table' gossip' numbers' : List ℕ) →
-        k ≡ At s →
+        k ≡ Some s →
         LeavesAll (f s) r table table' gossip gossip' × (numbers' ≡ sets numbers 0 (f s).numbers) →
         LeavesAll reply r table table' gossip gossip' × (numbers' ≡ sets numbers 0 reply.numbers)
     asks_found s r table' gossip' numbers' g h = (

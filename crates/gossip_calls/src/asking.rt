@@ -15,7 +15,6 @@ use gossip_gate::{NOT_CONNECTED, admit, finish, ignore};
 use gossip_peers::senders::under_gossip;
 use gossip_table::noted::{count_ihave, may_ihave};
 use gossip_table::{GOSSIP_CELLS, load_reply_bound, stored};
-use index::Found;
 use layout::CELLS;
 use lookup::find::find_connected;
 use records::ACTION_ROOM;
@@ -76,7 +75,7 @@ fn ihave_from(
         (of_peer_all (extended_of table.old gossip.old) id
         (ihave_reply (extended_of table.old gossip.old) time topic given.now)).numbers) }
 {
-    let Found::At(slot) = find_connected(table, id) else {
+    let Some(slot) = find_connected(table, id) else {
         return NOT_CONNECTED;
     };
     answer(table, gossip, time, topic, slot, given, numbers)
@@ -139,7 +138,7 @@ fn iwant_from(table: &mut [u64], gossip: &mut [u64], time: u64, id: u64, number:
         (iwant_reply (extended_of table.old gossip.old) time number)) result
         table.old table.new gossip.old gossip.new }
 {
-    let Found::At(slot) = find_connected(table, id) else {
+    let Some(slot) = find_connected(table, id) else {
         return NOT_CONNECTED;
     };
     serve(table, gossip, time, number, slot)

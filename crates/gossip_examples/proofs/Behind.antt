@@ -1,6 +1,9 @@
 -- What a list of calls answers, computed without test 12: every call keeps the tables a router's (crate gossip_lists). One of 01's calls
 -- that is in range and not early passes 2, 8 and 1 too, and its reply is its effect; a new call is computed with these.
 -- Assumes nothing.
+use Rattle.std.proofs.Common.{Result}
+use Rattle.std.proofs.Common.{Unit}
+use Rattle.rules.specs.declared.Answer.{Answer}
 use Prim.Native.Nat.{ℕ}
 use native.Mathlib.Omega.{arith}
 use mathlib.Core.Path.{◌≡◌, refl, sym, ap, ap₂, ◌∙◌}
@@ -11,7 +14,6 @@ use borrow.Author.Tests.{leb-true}
 use Rattle.index.proofs.Index.{both}
 use Rattle.params.specs.Ordinary.{ordinary_params}
 use Rattle.params.proofs.OrdinaryLaws.{ordinary_accepted, ordinary_length}
-use Rattle.rules.specs.declared.Gate.{Gate}
 use Rattle.rules.specs.Calls.{Call, time_of, in_range}
 use Rattle.rules.specs.Step.{action_room, through, effect, step}
 use Rattle.rules.proofs.GateLaws.{gate_0}
@@ -64,7 +66,7 @@ module _ (x : Extended) (w : Whole x) where
   old_effect c e =
       let q = both (in_range c) (leb x.base.clock (time_of c)) e in
       rw (parts.1, or_true (not (handed c)))
-      (ap (λ (g : Gate). extended x c (through g x.base (effect x.base c)))
+      (ap (λ (g : Result (Unit {0}) Answer). extended x c (through g x.base (effect x.base c)))
       (sym
       (gate_0 x.base (in_range c) action_room (time_of c) x.base.clock parts.0 q.0 (omega arith) refl
       (leb-true x.base.clock (time_of c) q.1))))

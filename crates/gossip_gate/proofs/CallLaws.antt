@@ -1,6 +1,7 @@
 -- From the number of `admit` to what a public call promises and what its inner function may rely on, for a call that is lent an action list
 -- and no list of numbers: its code tests that list's length alone.
 -- Assumes nothing.
+use Rattle.std.proofs.Common.{Option, Some, None}
 use Rattle.index.proofs.Kit.{ℕ, ◌≤◌, ◌<◌, ◌≡◌, refl, sym, ◌∙◌, Bool, true, false}
 use mathlib.Core.Bool.{◌&&◌}
 use mathlib.Core.List.{List, []}
@@ -8,8 +9,6 @@ use lib.Dec.{leb}
 use lib.ListN.{length}
 use borrow.Author.Tests.{leb-true}
 use Rattle.index.proofs.Index.{both}
-use Rattle.index.specs.declared.Found.{Found}
-use Rattle.index.specs.declared.Found.TheVariants.{At, Nothing}
 use Rattle.lookup.specs.Find.{find_connected}
 use Rattle.rules.specs.Calls.{time_ok, topic_ok}
 use Rattle.rules.specs.Step.{action_room}
@@ -60,9 +59,9 @@ module _
 pub quiet_peer : (x : Extended) (id : ℕ) (f : ℕ → FullReply) → ((s : ℕ) → (f s).actions ≡ []) → (of_peer_all x id f).actions ≡ []
 quiet_peer x id f q = go (find_connected x.base id)
   where
-    go : (k : Found) → (on_slot k f (refused_all 3 x)).actions ≡ []
-    go (At s) = q s
-    go Nothing = refl
+    go : (k : Option ℕ) → (on_slot k f (refused_all 3 x)).actions ≡ []
+    go (Some s) = q s
+    go None = refl
 
 -- ---- what the inner function may rely on, beside `gate_admitted`
 pub call_room :

@@ -1,11 +1,10 @@
 -- The ends of a call in the form in which its code reaches them: by what the rules' reply is there, and by what the last call left.
 -- Assumes nothing.
+use Rattle.std.proofs.Common.{Option, Some, None}
 use Rattle.index.proofs.Kit.{ℕ, ◌+◌, ◌*◌, ◌≡◌, sym, ap, ◌∙◌}
 use mathlib.Core.List.{List}
 use lib.ListN.{length, set}
 use lib.Seq.{sets}
-use Rattle.index.specs.declared.Found.{Found}
-use Rattle.index.specs.declared.Found.TheVariants.{At, Nothing}
 use Rattle.records.specs.Records.{set_clock}
 use Rattle.layout.specs.View.{clock_at, state_of}
 use Rattle.lookup.specs.Find.{find_connected}
@@ -58,14 +57,14 @@ module _ (o : FullReply) (time r : ℕ) (table table' gossip : List ℕ) where
       gives_actions list list' l = rw e (gives_done time r g acts numbers table table' gossip gossip' list list' word h.1 eg l)
 
 -- a call of a peer: 3, or the slot's own reply
-module _ (table gossip : List ℕ) (id : ℕ) (f : ℕ → FullReply) (k : Found) (e : k ≡ find_connected (state_of table) id) where
-  pub ends_missing : k ≡ Nothing → LeavesAll (of_peer_all (extended_of table gossip) id f) 3 table table gossip gossip
+module _ (table gossip : List ℕ) (id : ℕ) (f : ℕ → FullReply) (k : Option ℕ) (e : k ≡ find_connected (state_of table) id) where
+  pub ends_missing : k ≡ None → LeavesAll (of_peer_all (extended_of table gossip) id f) 3 table table gossip gossip
   ends_missing g =
       ends_refused _ 0 3 table table gossip (peer_missing (extended_of table gossip) id f (sym e ∙ g))
 
   pub ends_found :
       (s r : ℕ) (table' gossip' : List ℕ) →
-      k ≡ At s →
+      k ≡ Some s →
       LeavesAll (f s) r table table' gossip gossip' →
       LeavesAll (of_peer_all (extended_of table gossip) id f) r table table' gossip gossip'
   ends_found s r table' gossip' g h = rw (peer_found (extended_of table gossip) id f s (sym e ∙ g)) h

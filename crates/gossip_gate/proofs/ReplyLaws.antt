@@ -1,11 +1,10 @@
 -- The replies of the calls, case by case, in the form in which a search finds them.
 -- Assumes nothing.
+use Rattle.std.proofs.Common.{Option, Some, None}
 use Rattle.index.proofs.Kit.{ℕ, ◌≡◌, ap, ◌∙◌, Bool, true, false}
 use mathlib.Core.Bool.{cond}
 use mathlib.Core.List.{List, []}
 use lib.Dec.{ltb}
-use Rattle.index.specs.declared.Found.{Found}
-use Rattle.index.specs.declared.Found.TheVariants.{At, Nothing}
 use Rattle.lookup.specs.Find.{find_connected}
 use Rattle.sets.specs.Sets.{is_permutation}
 use Rattle.records.specs.Records.{slot_count}
@@ -26,11 +25,11 @@ left b x y e = ap (λ (k : Bool). cond k x y) e
 
 -- ---- a call of a peer
 module _ (x : Extended) (id : ℕ) (f : ℕ → FullReply) where
-  pub peer_found : (s : ℕ) → find_connected x.base id ≡ At s → of_peer_all x id f ≡ f s
-  peer_found s e = ap (λ (k : Found). on_slot k f (refused_all 3 x)) e
+  pub peer_found : (s : ℕ) → find_connected x.base id ≡ Some s → of_peer_all x id f ≡ f s
+  peer_found s e = ap (λ (k : Option ℕ). on_slot k f (refused_all 3 x)) e
 
-  pub peer_missing : find_connected x.base id ≡ Nothing → of_peer_all x id f ≡ refused_all 3 x
-  peer_missing e = ap (λ (k : Found). on_slot k f (refused_all 3 x)) e
+  pub peer_missing : find_connected x.base id ≡ None → of_peer_all x id f ≡ refused_all 3 x
+  peer_missing e = ap (λ (k : Option ℕ). on_slot k f (refused_all 3 x)) e
 
 -- ---- IDONTWANT came in
 module _ (x : Extended) (time n s : ℕ) where

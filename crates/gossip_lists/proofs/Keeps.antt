@@ -1,5 +1,6 @@
 -- Every call keeps the tables a router's: 01's state as crate rules shows it, the new parts as crate gossip does (Sound).
 -- Assumes nothing.
+use Rattle.std.proofs.Common.{Option, Some, None}
 use Prim.Native.Nat.{ℕ, ◌<◌, ◌≤◌}
 use native.Mathlib.Omega.{arith}
 use mathlib.Core.Path.{◌≡◌, refl, sym, ap, ◌∙◌}
@@ -9,8 +10,6 @@ use lib.Dec.{eqb}
 use lib.ListN.{get_or}
 use lib.Seq.{get_or-set_other}
 use borrow.Author.Tests.{eqb-true, eqb-false, eq-eqb, leb-true}
-use Rattle.index.specs.declared.Found.{Found}
-use Rattle.index.specs.declared.Found.TheVariants.{At, Nothing}
 use Rattle.index.proofs.Index.{both}
 use Rattle.index.proofs.Flags.{by_test, cond_case}
 use Rattle.index.proofs.Lists.{set_case}
@@ -169,7 +168,7 @@ module _ (x : Extended) (w : Whole x) where
 
   -- disconnect
   module _ (time id : ℕ) where
-    parts_with : (s : ℕ) → s < slot_count → Sound (set_clock (departed st s time) time) (on_found_note (At s) g)
+    parts_with : (s : ℕ) → s < slot_count → Sound (set_clock (departed st s time) time) (on_found_note (Some s) g)
     parts_with s l =
         let u = set_clock (departed st s time) time in
         sound_parted st u g sound s l
@@ -178,12 +177,12 @@ module _ (x : Extended) (w : Whole x) where
         (ap (λ (q : Peer). q.status) (peer_after_clock (departed st s time) time s) ∙ departed_status st s time w.size l)
 
     found :
-        (r : Found) →
+        (r : Option ℕ) →
         find_connected st id ≡ r →
         Left (disconnect time id) (on_found r (λ s. done (departed st s time) time []) (refused NotConnected st))
     unfolding besides
-    found (At s) e = let q = connected_at st id s e in rw e (parts_with s q.0)
-    found Nothing e = refused_rest (disconnect time id) NotConnected refl
+    found (Some s) e = let q = connected_at st id s e in rw e (parts_with s q.0)
+    found None e = refused_rest (disconnect time id) NotConnected refl
 
   -- connect
   module _ (time id : ℕ) (groups : List ℕ) (flags : ℕ) (name : List ℕ) where

@@ -1,5 +1,6 @@
 -- 01's calls keep the invariant of the reply bound.
 -- Assumes nothing.
+use Rattle.std.proofs.Common.{Option, Some, None}
 use Prim.Native.Nat.{ℕ, ◌<◌, ◌≤◌}
 use native.Mathlib.Omega.{arith}
 use mathlib.Core.Path.{◌≡◌, refl, sym, ap, ◌∙◌}
@@ -8,8 +9,6 @@ use mathlib.Core.List.{List, []}
 use lib.Dec.{eqb}
 use lib.ListN.{length}
 use borrow.Author.Tests.{eqb-true, eqb-false, eq-eqb, ne_eqb}
-use Rattle.index.specs.declared.Found.{Found}
-use Rattle.index.specs.declared.Found.TheVariants.{At, Nothing}
 use Rattle.index.proofs.Flags.{by_test, cond_case}
 use Rattle.records.specs.declared.Peer.{Peer}
 use Rattle.rules.specs.Calls.{groups_of}
@@ -159,10 +158,10 @@ module _ (most : ℕ) (alive gave : ℕ → ℕ → ℕ) (x : Extended) (h : Tie
           ∙ shown most alive gave x h (stored parting n) _ n (λ e. sym (stored_as g parting n store_left) ∙ e)))
           h.few
 
-    found : (r : Found) → find_connected st id ≡ r → Here dis (on_found r (λ s. done (departed st s time) time []) (refused NotConnected st))
+    found : (r : Option ℕ) → find_connected st id ≡ r → Here dis (on_found r (λ s. done (departed st s time) time []) (refused NotConnected st))
     unfolding besides
-    found (At s) e = let q = connected_at st id s e in λ size. rw e (left s q.0 size)
-    found Nothing e = refuses dis NotConnected refl
+    found (Some s) e = let q = connected_at st id s e in λ size. rw e (left s q.0 size)
+    found None e = refuses dis NotConnected refl
 
     tied_disconnect : Here dis (of_peer st id (λ s. done (departed st s time) time []))
     tied_disconnect = found (find_connected st id) refl
@@ -246,7 +245,7 @@ module _ (most : ℕ) (alive gave : ℕ → ℕ → ℕ) (x : Extended) (h : Tie
         off (ap (λ (p : Peer). p.status) same ∙ on))
         n
 
-    module _ (none : find_connected st id ≡ Nothing) (version s : ℕ) (l : s < slot_count) (off : (peer_in base s).status ≡ 1 → ⊥) where
+    module _ (none : find_connected st id ≡ None) (version s : ℕ) (l : s < slot_count) (off : (peer_in base s).status ≡ 1 → ⊥) where
       abbrev p : Peer
       p = connected_as (peer_in base s) id (groups_of groups) flags version
 

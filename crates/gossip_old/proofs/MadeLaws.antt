@@ -1,16 +1,16 @@
 -- Making a router with an array: from what making the table promises, and the array made behind it.
 -- Assumes nothing.
+use Rattle.std.proofs.Common.{Option, Some, None, Result, Ok, Err}
+use Rattle.std.proofs.Common.{Unit, tt}
+use Rattle.lookup.specs.declared.FreshError.{FreshError}
+use Rattle.lookup.specs.declared.FreshError.TheVariants.{Broken as MadeBroken}
 use Rattle.index.proofs.Kit.{ℕ, ◌≡◌, refl, sym, ap, ◌∙◌, Bool, true, false, arith}
 use mathlib.Core.Bool.{cond, false≢true}
 use mathlib.Core.List.{List}
-use Rattle.index.specs.declared.Found.{Found}
-use Rattle.index.specs.declared.Found.TheVariants.{At, Nothing}
 use Rattle.records.specs.Records.{State}
 use Rattle.layout.specs.View.{state_of}
 use Rattle.params.specs.declared.Params.{Params}
 use Rattle.params.specs.Check.{first_broken}
-use Rattle.lookup.specs.declared.Made.{Made}
-use Rattle.lookup.specs.declared.Made.TheVariants.{Done as MadeDone, Broken as MadeBroken}
 use Rattle.lookup.specs.Fresh.{made_of, left_by as fresh_left, Makes}
 use Rattle.saves.specs.declared.Loaded.{Loaded}
 use Rattle.saves.specs.declared.Loaded.TheVariants.{Done as LoadedDone, OutOfRange as LoadedOutOfRange}
@@ -42,37 +42,37 @@ module _ (p : Setup) (all : Params) (table gossip : List ℕ) where
   unfolding making_of
   making e = ap (λ (b : Bool). cond b (sheeted (first_broken all)) OutOfRange) e
 
-  module _ (table' : List ℕ) (r : Made) (fine : setup_ok p ≡ true) (m : Makes all r table table') where
-    pub fresh_broken : (i : ℕ) → r ≡ MadeBroken i → MakesAll p all (Broken i) table table' gossip gossip
+  module _ (table' : List ℕ) (r : Result (Unit {0}) FreshError) (fine : setup_ok p ≡ true) (m : Makes all r table table') where
+    pub fresh_broken : (i : ℕ) → r ≡ Err (MadeBroken i) → MakesAll p all (Broken i) table table' gossip gossip
     fresh_broken i e = go (first_broken all) refl
       where
-        go : (f : Found) → first_broken all ≡ f → MakesAll p all (Broken i) table table' gossip gossip
-        go (At k) z =
-            let a : MadeBroken i ≡ MadeBroken k = sym e ∙ m.answer ∙ ap made_of z in
+        go : (f : Option ℕ) → first_broken all ≡ f → MakesAll p all (Broken i) table table' gossip gossip
+        go (Some k) z =
+            let a : Err (MadeBroken i) ≡ Err (MadeBroken k) = sym e ∙ m.answer ∙ ap made_of z in
             let n : i ≡ k = cc in
             record {
               answer = ap Broken n ∙ sym (making fine ∙ ap sheeted z);
               state = both_are (ap state_of (m.kept i e)) refl;
               kept = λ w. (m.kept i e, refl);
             }
-        go Nothing z =
-            let a : MadeBroken i ≡ MadeDone = sym e ∙ m.answer ∙ ap made_of z in
+        go None z =
+            let a : Err (MadeBroken i) ≡ (Ok tt) = sym e ∙ m.answer ∙ ap made_of z in
             let n : ◌≡◌ {A = ℕ} 0 1 = cc in
             absurd (omega arith)
 
     pub fresh_done :
-        (gossip' : List ℕ) → r ≡ MadeDone → gossip_of gossip' ≡ fresh_gossip p → MakesAll p all Done table table' gossip gossip'
+        (gossip' : List ℕ) → r ≡ Ok tt → gossip_of gossip' ≡ fresh_gossip p → MakesAll p all Done table table' gossip gossip'
     fresh_done gossip' e g = go (first_broken all) refl
       where
-        go : (f : Found) → first_broken all ≡ f → MakesAll p all Done table table' gossip gossip'
-        go (At k) z =
-            let a : MadeDone ≡ MadeBroken k = sym e ∙ m.answer ∙ ap made_of z in
+        go : (f : Option ℕ) → first_broken all ≡ f → MakesAll p all Done table table' gossip gossip'
+        go (Some k) z =
+            let a : Ok tt ≡ Err (MadeBroken k) = sym e ∙ m.answer ∙ ap made_of z in
             let n : ◌≡◌ {A = ℕ} 0 1 = cc in
             absurd (omega arith)
-        go Nothing z =
+        go None z =
             record {
               answer = sym (making fine ∙ ap sheeted z);
-              state = both_are (m.state ∙ ap (λ (f : Found). fresh_left f all (state_of table)) z) g;
+              state = both_are (m.state ∙ ap (λ (f : Option ℕ). fresh_left f all (state_of table)) z) g;
               kept = λ w. absurd (false≢true (sym w));
             }
 

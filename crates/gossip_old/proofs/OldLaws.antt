@@ -1,13 +1,12 @@
 -- From what 01's call promises, and what is done to the array besides, to what the call with the array promises.
 -- Assumes nothing.
+use Rattle.std.proofs.Common.{Option, Some, None}
 use Rattle.index.proofs.Kit.{ℕ, ◌<◌, ◌≡◌, refl, sym, ap, ◌∙◌, Bool, true, false, arith}
 use mathlib.Core.Bool.{cond, false≢true, ◌&&◌}
 use mathlib.Core.List.{List}
 use lib.Dec.{eqb}
 use lib.ListN.{length}
 use borrow.Author.Tests.{ne_eqb}
-use Rattle.index.specs.declared.Found.{Found}
-use Rattle.index.specs.declared.Found.TheVariants.{At, Nothing}
 use Rattle.index.proofs.Index.{both}
 use Rattle.index.proofs.Flags.{by_test}
 use Rattle.records.specs.Records.{State, topic_count, peer_in}
@@ -172,7 +171,7 @@ tested_fine : (table gossip : List ℕ) → length gossip ≡ gossip_cells → T
 tested_fine table gossip l t = record { size = l; base = state_of table; ok = t }
 
 pub tested_found :
-    (table gossip : List ℕ) (id : ℕ) (r : Found) →
+    (table gossip : List ℕ) (id : ℕ) (r : Option ℕ) →
     length gossip ≡ gossip_cells →
     Tested table gossip →
     r ≡ find_connected (state_of table) id →
@@ -180,26 +179,26 @@ pub tested_found :
 tested_found table gossip id r l t e =
     record { fine = tested_fine table gossip l t; slot = λ s z. (connected_at (state_of table) id s (sym e ∙ z)).0 }
 
-pub found_kept : {gossip : List ℕ} {r : Found} (s : ℕ) → FineFound gossip r → r ≡ At s → KeptSlot gossip s
+pub found_kept : {gossip : List ℕ} {r : Option ℕ} (s : ℕ) → FineFound gossip r → r ≡ Some s → KeptSlot gossip s
 found_kept s f e = record { kept = fine_kept f.fine; slot = f.slot s e }
 
 pub found_lent :
-    {gossip : List ℕ} {r : Found} (u : List ℕ) (s : ℕ) → FineFound gossip r → r ≡ At s → length u ≡ length gossip → Lent u s
+    {gossip : List ℕ} {r : Option ℕ} (u : List ℕ) (s : ℕ) → FineFound gossip r → r ≡ Some s → length u ≡ length gossip → Lent u s
 found_lent u s f e l = record { size = l ∙ f.fine.size; slot = f.slot s e }
 
-pub parted_none : (r : Found) (g : Gossip) → r ≡ Nothing → g ≡ on_found_note r g
-parted_none r g e = sym (ap (λ (k : Found). on_found_note k g) e)
+pub parted_none : (r : Option ℕ) (g : Gossip) → r ≡ None → g ≡ on_found_note r g
+parted_none r g e = sym (ap (λ (k : Option ℕ). on_found_note k g) e)
 
 -- the connection's replies first, then its set
 pub parted_both :
-    (g h u : Gossip) (r : Found) (s : ℕ) →
-    r ≡ At s →
+    (g h u : Gossip) (r : Option ℕ) (s : ℕ) →
+    r ≡ Some s →
     h ≡ set_replies g (ended s g.replies) →
     u ≡ set_note h s (parted (note_in h s)) →
     u ≡ on_found_note r g
 unfolding set_replies set_note note_in
 parted_both g h u r s z e d =
-    d ∙ ap (λ (k : Gossip). set_note k s (parted (note_in k s))) e ∙ sym (ap (λ (k : Found). on_found_note k g) z)
+    d ∙ ap (λ (k : Gossip). set_note k s (parted (note_in k s))) e ∙ sym (ap (λ (k : Option ℕ). on_found_note k g) z)
 
 pub besides_connect :
     (st : State) (time id : ℕ) (groups : List ℕ) (flags : ℕ) (name : List ℕ) (g : Gossip) →
@@ -208,12 +207,12 @@ unfolding besides kept
 besides_connect st time id groups flags name g = refl
 
 pub besides_disconnect :
-    (st : State) (time id : ℕ) (r : Found) (g u : Gossip) →
+    (st : State) (time id : ℕ) (r : Option ℕ) (g u : Gossip) →
     r ≡ find_connected st id →
     u ≡ on_found_note r g →
     u ≡ besides st (disconnect time id) g
 unfolding besides
-besides_disconnect st time id r g u e d = d ∙ ap (λ (k : Found). on_found_note k g) e
+besides_disconnect st time id r g u e d = d ∙ ap (λ (k : Option ℕ). on_found_note k g) e
 
 pub besides_leave :
     (st : State) (time t : ℕ) (g u : Gossip) → u ≡ forget (set_store g t no_store) → u ≡ besides st (leave time t) g

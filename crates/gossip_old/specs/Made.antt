@@ -1,7 +1,6 @@
 -- Making a router with an array, fresh or of a save: what is answered, and what table and array are left.
+use Rattle.std.specs.Prelude.{Option, Some, None}
 use Rattle.std.specs.Prelude.{ℕ, ◌≡◌, Bool, true, false, cond, List}
-use Rattle.index.specs.declared.Found.{Found}
-use Rattle.index.specs.declared.Found.TheVariants.{At, Nothing}
 use Rattle.params.specs.declared.Params.{Params}
 use Rattle.params.specs.Check.{first_broken}
 use Rattle.lookup.specs.Fresh.{fresh_state}
@@ -14,9 +13,9 @@ use Rattle.gossip_old.specs.declared.Making.{Making}
 use Rattle.gossip_old.specs.declared.Making.TheVariants.{Done, OutOfRange, Broken}
 
 -- ---- a fresh router: the set-up numbers are "given at set-up beside the sheet (else 2, tested before the sheet)"
-abbrev pub sheeted : Found → Making
-sheeted (At i) = Broken i
-sheeted Nothing = Done
+abbrev pub sheeted : Option ℕ → Making
+sheeted (Some i) = Broken i
+sheeted None = Done
 
 abbrev pub is_made : Making → Bool
 is_made Done = true

@@ -1,8 +1,7 @@
 -- What the inner functions of the three calls may rely on once test 12 is passed, of the table and of the array. No public call asks it of
 -- its caller.
+use Rattle.std.specs.Prelude.{Option, Some}
 use Rattle.std.specs.Prelude.{ℕ, ◌<◌, ◌≡◌, Bool, true, cond, List, length}
-use Rattle.index.specs.declared.Found.{Found}
-use Rattle.index.specs.declared.Found.TheVariants.{At}
 use Rattle.records.specs.Records.{slot_count}
 use Rattle.layout.specs.View.{state_of}
 use Rattle.sets.specs.Sets.{by_slot}
@@ -25,10 +24,10 @@ GivesOld c r table table' gossip gossip' list list' =
     GivesAll (extended (extended_of table gossip) c (step (state_of table) c (length list))) r table table' gossip gossip' list list'
 
 -- an array that was found right, and where a connected record was found
-abbrev pub in_slots : Found → Type 0
-in_slots f = (s : ℕ) → f ≡ At s → s < slot_count
+abbrev pub in_slots : Option ℕ → Type 0
+in_slots f = (s : ℕ) → f ≡ Some s → s < slot_count
 
-pub record FineFound (gossip : List ℕ) (f : Found) : Type 0 where
+pub record FineFound (gossip : List ℕ) (f : Option ℕ) : Type 0 where
   pub fine : Fine gossip
   pub slot : in_slots f
 

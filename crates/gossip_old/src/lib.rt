@@ -19,7 +19,6 @@ ghost use Rattle.gossip_old.specs.Tested.{Tested, GivesOld, FineFound, emptied};
 use gossip_gate::NOT_ROUTER;
 use gossip_peers::reclaim::reclaimed_slots;
 use gossip_table::GOSSIP_CELLS;
-use index::Found;
 use layout::CELLS;
 use lookup::find::find_connected;
 use records::SLOTS;
@@ -58,11 +57,11 @@ fn clear_slots(gossip: &mut [u64], set: &[u64; WORDS])
 }
 
 // The connection of a slot ends: its replies, and then its set. The counts of the heartbeat stay with the record.
-fn part_found(gossip: &mut [u64], found: Found)
+fn part_found(gossip: &mut [u64], found: Option<usize>)
     requires { FineFound gossip.old found }
     ensures { gossip_of gossip.new ≡ on_found_note found (gossip_of gossip.old) }
 {
-    let Found::At(slot) = found else {
+    let Some(slot) = found else {
         return;
     };
     gossip_table::stored::end(gossip, slot);

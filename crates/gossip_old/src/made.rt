@@ -10,7 +10,7 @@ ghost use Rattle.gossip_old.specs.Made.{MakesAll, LoadsAll};
 use crate::Making;
 use gossip_table::{GOSSIP_CELLS, SETUP};
 use layout::CELLS;
-use lookup::Made;
+use lookup::FreshError;
 use params::Params;
 use saves::Loaded;
 
@@ -43,8 +43,8 @@ pub fn fresh(
         return Making::OutOfRange;
     }
     match lookup::fresh::fresh(all, table) {
-        Made::Broken(i) => Making::Broken(i),
-        Made::Done => {
+        Err(FreshError::Broken(i)) => Making::Broken(i),
+        Ok(()) => {
             make_array(setup, gossip);
             Making::Done
         }

@@ -1,5 +1,6 @@
 -- What words by slot and a peer's score say of the rules' tests; and what the calls above make of these halves.
 -- Assumes nothing.
+use Rattle.std.proofs.Common.{Option, Some, None}
 use Rattle.index.proofs.Kit.{ℕ, ◌*◌, ◌≤◌, ◌<◌, ◌≡◌, refl, sym, ap, ◌∙◌, Bool, true, false, not, arith, by_test}
 use Prim.Native.Nat.{zero, suc, ◌/◌, ◌%◌}
 use mathlib.Core.Path.{ap₂}
@@ -10,8 +11,6 @@ use lib.IntN.{ℤ, pos, neg_ℤ, ◌*ℤ◌}
 use lib.ListN.{length}
 use lib.Signed.{lt_z}
 use borrow.Author.Tests.{eq-eqb, ne_eqb}
-use Rattle.index.specs.declared.Found.{Found}
-use Rattle.index.specs.declared.Found.TheVariants.{At, Nothing}
 use Rattle.varint.specs.Codes.{number_of, magnitude}
 use Rattle.records.specs.declared.Peer.{Peer}
 use Rattle.records.specs.Records.{State, slot_count, place, code_in, peer_in, topic_in, is_connected}
@@ -61,11 +60,11 @@ pub known_self : (st : State) (id : ℕ) → id ≡ 0 → true ≡ is_known st i
 unfolding is_known
 known_self st id e = sym (rw (eq-eqb id 0 e))
 
-pub known_at : (st : State) (id s : ℕ) (f : Found) → (id ≡ 0 → ⊥) → f ≡ find_connected st id → f ≡ At s → true ≡ is_known st id
+pub known_at : (st : State) (id s : ℕ) (f : Option ℕ) → (id ≡ 0 → ⊥) → f ≡ find_connected st id → f ≡ Some s → true ≡ is_known st id
 unfolding is_known
 known_at st id s f n e a = sym (rw (ne_eqb id 0 n, ← e, a))
 
-pub known_none : (st : State) (id : ℕ) (f : Found) → (id ≡ 0 → ⊥) → f ≡ find_connected st id → f ≡ Nothing → false ≡ is_known st id
+pub known_none : (st : State) (id : ℕ) (f : Option ℕ) → (id ≡ 0 → ⊥) → f ≡ find_connected st id → f ≡ None → false ≡ is_known st id
 unfolding is_known
 known_none st id f n e a = sym (rw (ne_eqb id 0 n, ← e, a))
 
@@ -75,10 +74,10 @@ pub sender_is :
 unfolding is_known
 sender_is x id r = go (eqb id 0) (find_connected x.base id)
   where
-    go : (b : Bool) (f : Found) → cond b r (on_slot f (λ s. r) (refused_all 3 x)) ≡ cond (b || is_found f) r (refused_all 3 x)
+    go : (b : Bool) (f : Option ℕ) → cond b r (on_slot f (λ s. r) (refused_all 3 x)) ≡ cond (b || is_found f) r (refused_all 3 x)
     go true f = refl
-    go false (At s) = refl
-    go false Nothing = refl
+    go false (Some s) = refl
+    go false None = refl
 
 -- ---- scores: the gossip threshold and its magnitude
 abbrev gossip_size : State → ℕ

@@ -1,10 +1,9 @@
 -- What the calls of orders 6 and 7 read of 01's table alone, in halves that words by slot, or another region, answer; and what the
 -- functions on it rely on. No public call asks that of its caller.
+use Rattle.std.specs.Prelude.{Option, Some, None}
 use Rattle.std.specs.Prelude.{ℕ, ◌≤◌, ◌≡◌, Bool, true, false, not, ◌&&◌, ◌||◌, List, eqb, pos, ◌*ℤ◌, length}
 use Rattle.std.proofs.lemmas.List.Edits.{sets}
 use Rattle.std.specs.Int.Signed.{lt_z}
-use Rattle.index.specs.declared.Found.{Found}
-use Rattle.index.specs.declared.Found.TheVariants.{At, Nothing}
 use Rattle.varint.specs.Codes.{number_of}
 use Rattle.records.specs.Records.{State, slot_count, code_in, peer_in, is_connected}
 use Rattle.records.specs.Parameters.{gossip_threshold_at}
@@ -19,9 +18,9 @@ use Rattle.peer_score.specs.Standing.{Standing}
 use Rattle.peer_score.specs.Buckets.{Counted}
 
 -- ---- senders
-abbrev pub is_found : Found → Bool
-is_found (At s) = true
-is_found Nothing = false
+abbrev pub is_found : Option ℕ → Bool
+is_found (Some s) = true
+is_found None = false
 
 -- a sender is ourselves (0) or connected
 unfoldable pub is_known : State → ℕ → Bool

@@ -7,7 +7,6 @@ ghost use Rattle.gossip_peers.specs.Peers.{is_known};
 
 use effects::slots::load_magnitude;
 use gate::see_sender;
-use index::Found;
 use lookup::find::find_connected;
 use records::param;
 use score::sums::is_below;
@@ -47,7 +46,7 @@ pub fn sender_known(table: &[u64], sender: u64) -> bool
         return true;
     }
     match find_connected(table, sender) {
-        Found::At(slot) => true,
-        Found::Nothing => false,
+        Some(slot) => true,
+        None => false,
     }
 }

@@ -110,10 +110,8 @@ fn rows_that_stay(gossip: &[u64], flags: &mut [bool])
         ≡ stored (gossip_of gossip.now) (get_or (map row_number (gossip_of gossip.now).replies) k 0) }
 {
     let end = replies::rows(&gossip[REPLIES_AT..GOSSIP_CELLS]);
-    let mut row: usize = 0;
-    while row < end {
+    for row in 0..end {
         flags[row] = row_stays(gossip, row);
-        row += 1;
     }
 }
 

@@ -73,12 +73,10 @@ fn notes_ok(table: &[u64], gossip: &[u64]) -> bool
     }
     let limit = load_limit(gossip);
     let ihaves = load_ihave_bound(gossip);
-    let mut slot: usize = 0;
-    while slot < SLOTS {
+    for slot in 0..SLOTS {
         if !note_ok(table, gossip, slot, limit, ihaves) {
             return false;
         }
-        slot += 1;
     }
     true
 }
@@ -92,13 +90,11 @@ fn stores_ok(table: &[u64], gossip: &[u64]) -> bool
     if stores::is_quiet(&gossip[STORES_AT..REPLIES_AT]) {
         return true;
     }
-    let mut t: usize = 0;
-    while t < TOPICS {
+    for t in 0..TOPICS {
         let joined = is_joined(table, t);
         if !stores::valid::store_ok(&gossip[STORES_AT..REPLIES_AT], t, joined) {
             return false;
         }
-        t += 1;
     }
     true
 }
@@ -110,12 +106,10 @@ fn rows_stored(gossip: &[u64]) -> bool
         ≡ every (length (gossip_of gossip.now).replies) (is_kept (gossip_of gossip.now)) }
 {
     let end = replies::rows(&gossip[REPLIES_AT..GOSSIP_CELLS]);
-    let mut row: usize = 0;
-    while row < end {
+    for row in 0..end {
         if !row_stays(gossip, row) {
             return false;
         }
-        row += 1;
     }
     true
 }

@@ -1,5 +1,7 @@
 -- The reply of a heartbeat: the maintained mesh and its actions as the rules have them, and the call's three ends.
 -- Assumes nothing.
+use Rattle.std.proofs.Common.{Result, Ok}
+use Rattle.std.proofs.Common.{Unit, tt}
 use Prim.Native.Nat.{ℕ, ◌≤◌, ◌<◌}
 use native.Mathlib.Omega.{arith}
 use mathlib.Core.Path.{◌≡◌, refl, sym, ap, ap₂, ◌∙◌}
@@ -31,8 +33,6 @@ use Rattle.mesh.specs.Maintenance.{
 use Rattle.effects.specs.Actions.{numbers_of}
 use Rattle.effects.specs.Effects.{is_member, end_after, prune_backoff}
 use Rattle.rules.specs.declared.Answer.TheVariants.{Done}
-use Rattle.rules.specs.declared.Gate.{Gate}
-use Rattle.rules.specs.declared.Gate.TheVariants.{Pass}
 use Rattle.rules.specs.Calls.{topic_ok}
 use Rattle.rules.specs.Reply.{done}
 use Rattle.rules.specs.Step.{gate_of, view_in, meshes_in, settle_slot, told_in, action_in, heartbeat_actions, maintained_reply}
@@ -197,9 +197,9 @@ pub heartbeat_range : (t ask : ℕ) (b d : Bool) → b ≡ topic_ok t → d ≡ 
 heartbeat_range t ask b d eb ed = ap₂ ◌&&◌ eb ed
 
 pub heartbeat_topic :
-    (table : List ℕ) (a b d : Bool) (room time : ℕ) (g : Gate) →
+    (table : List ℕ) (a b d : Bool) (room time : ℕ) (g : Result (Unit {0}) Answer) →
     g ≡ gate_of (state_of table) (a && (b && d)) room time →
-    g ≡ Pass →
+    g ≡ Ok tt →
     (t : ℕ) →
     b ≡ topic_ok t →
     t < 8

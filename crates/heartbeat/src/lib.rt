@@ -29,7 +29,7 @@ use gate::{admit, ignore, time_ok, topic_ok};
 use layout::CELLS;
 use mesh::steps::changes;
 use records::{SLOTS, param};
-use rules::{Answer, Gate};
+use rules::Answer;
 use sets::permutation::is_permutation;
 
 // A joined topic's mesh, maintained.
@@ -99,7 +99,7 @@ pub fn heartbeat(
 {
     let fine = time_ok(time) & (topic_ok(topic) & ask_ok(ask));
     match admit(table, fine, actions.len(), time) {
-        Gate::Refuse(a) => a,
-        Gate::Pass => heartbeat_from(table, time, topic as usize, ask, permutation, actions),
+        Err(a) => a,
+        Ok(()) => heartbeat_from(table, time, topic as usize, ask, permutation, actions),
     }
 }

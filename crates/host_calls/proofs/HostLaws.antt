@@ -1,20 +1,18 @@
 -- From what the crates below promise to what a host gets: the answer as one number.
 -- Assumes nothing.
+use Rattle.std.proofs.Common.{Option, Some, None, Result}
+use Rattle.std.proofs.Common.{Unit}
+use Rattle.lookup.specs.declared.FreshError.{FreshError}
 use Rattle.index.proofs.Kit.{ℕ, ◌≤◌, ◌≡◌, refl, sym, ap, ◌∙◌, false, arith}
 use mathlib.Core.List.{List}
 use lib.ListN.{length}
 use lib.IntN.{ℤ}
 use Rattle.layout.specs.View.{state_of}
-use Rattle.index.specs.declared.Found.{Found}
-use Rattle.index.specs.declared.Found.TheVariants.{At, Nothing}
 use Rattle.params.specs.declared.Edition.{Edition}
-use Rattle.params.specs.declared.Numbered.{Numbered}
-use Rattle.params.specs.declared.Numbered.TheVariants.{Known, Unknown}
 use Rattle.params.specs.declared.Params.{Params}
 use Rattle.params.specs.Editions.{edition_of}
 use Rattle.params.specs.Check.{first_broken, is_nothing}
 use Rattle.params.proofs.CheckLaws.{broken_most}
-use Rattle.lookup.specs.declared.Made.{Made}
 use Rattle.lookup.specs.Fresh.{made_of, made_number, made_value, Makes}
 use Rattle.rules.specs.declared.Answer.{Answer}
 use Rattle.rules.specs.Reply.{refuses}
@@ -39,34 +37,34 @@ module _ (c : Call) {a : Answer} {table table' list list' : List ℕ} (f : Follo
   scored l l' e = e ∙ ap (λ (b : Answer). why_or b l) f.leaves.answer
 
 -- ---- a fresh router
-module _ (p : Params) (m v : Made) (table table' : List ℕ) (k : Makes p m table table') (t : m ≡ v) where
+module _ (p : Params) (m v : Result (Unit {0}) FreshError) (table table' : List ℕ) (k : Makes p m table table') (t : m ≡ v) where
   made_is : v ≡ made_of (first_broken p)
   made_is = sym t ∙ k.answer
 
   pub fresh_fits : made_value v ≤ 4294967295
   fresh_fits = omega (arith, ap made_value made_is, small (first_broken p) refl)
     where
-      small : (f : Found) → first_broken p ≡ f → made_value (made_of f) ≤ 207
-      small (At i) e = broken_most p i e
-      small Nothing e = omega arith
+      small : (f : Option ℕ) → first_broken p ≡ f → made_value (made_of f) ≤ 207
+      small (Some i) e = broken_most p i e
+      small None e = omega arith
 
-  pub hosts_fresh : (r : ℕ) → r ≡ packed (made_number v) (made_value v) → HostsFresh (Known p.edition) p.numbers r table table'
+  pub hosts_fresh : (r : ℕ) → r ≡ packed (made_number v) (made_value v) → HostsFresh (Some p.edition) p.numbers r table table'
   hosts_fresh r q =
       record {
-        answer = q ∙ ap (λ (x : Made). packed (made_number x) (made_value x)) made_is;
+        answer = q ∙ ap (λ (x : Result (Unit {0}) FreshError). packed (made_number x) (made_value x)) made_is;
         state = k.state;
         kept = λ f. stood (first_broken p) f refl;
       }
     where
-      stood : (f : Found) → is_nothing f ≡ false → first_broken p ≡ f → table' ≡ table
-      stood (At i) h e = k.kept i (k.answer ∙ ap made_of e)
-      stood Nothing h e = let z : ◌≡◌ {A = ℕ} 0 1 = cc in absurd (omega arith)
+      stood : (f : Option ℕ) → is_nothing f ≡ false → first_broken p ≡ f → table' ≡ table
+      stood (Some i) h e = k.kept i (k.answer ∙ ap made_of e)
+      stood None h e = let z : ◌≡◌ {A = ℕ} 0 1 = cc in absurd (omega arith)
 
 -- of the edition that a number told, or of none
-module _ (n : ℕ) (m : Numbered) (e : m ≡ edition_of n) (xs : List ℤ) where
-  pub fresh_known : (d : Edition) (r : ℕ) (table table' : List ℕ) → m ≡ Known d → HostsFresh (Known d) xs r table table' →
+module _ (n : ℕ) (m : Option Edition) (e : m ≡ edition_of n) (xs : List ℤ) where
+  pub fresh_known : (d : Edition) (r : ℕ) (table table' : List ℕ) → m ≡ Some d → HostsFresh (Some d) xs r table table' →
       HostsFresh (edition_of n) xs r table table'
   fresh_known d r table table' t h = rw (← e, t) h
 
-  pub fresh_unknown : (r : ℕ) (table : List ℕ) → m ≡ Unknown → r ≡ packed 2 0 → HostsFresh (edition_of n) xs r table table
+  pub fresh_unknown : (r : ℕ) (table : List ℕ) → m ≡ None → r ≡ packed 2 0 → HostsFresh (edition_of n) xs r table table
   fresh_unknown r table t q = rw (← e, t) (record { answer = q; state = refl; kept = λ f. refl })

@@ -1,12 +1,12 @@
 -- What a host gets of each function of the C ABI: the promise of the call below, with the answer as one number.
+use Rattle.std.specs.Prelude.{Option, Some, None}
+use Rattle.params.specs.declared.Edition.{Edition}
 use Rattle.std.specs.Prelude.{ℕ, ◌≡◌, Bool, true, false, List, length, ℤ}
 use Rattle.std.proofs.lemmas.List.Edits.{sets}
 use Rattle.std.specs.Borrow.{MutBor}
 use denote.Triple.Both.{Both}
 use Rattle.records.specs.Records.{State}
 use Rattle.layout.specs.View.{state_of}
-use Rattle.params.specs.declared.Numbered.{Numbered}
-use Rattle.params.specs.declared.Numbered.TheVariants.{Known, Unknown}
 use Rattle.params.specs.Editions.{sheet}
 use Rattle.params.specs.Check.{first_broken, is_nothing}
 use Rattle.lookup.specs.Fresh.{made_of, left_by, made_number, made_value}
@@ -32,19 +32,19 @@ HostsLent c r table list = Hosts c r table.entry.now table.exit.now list.entry.n
 
 -- ---- a fresh router, of numbers and the number of their edition: every cell written, or none; a number that is no edition's is out of
 -- range (2)
-abbrev pub fresh_code : Numbered → List ℤ → ℕ
-fresh_code (Known e) xs = packed (made_number (made_of (first_broken (sheet e xs)))) (made_value (made_of (first_broken (sheet e xs))))
-fresh_code Unknown xs = packed 2 0
+abbrev pub fresh_code : Option Edition → List ℤ → ℕ
+fresh_code (Some e) xs = packed (made_number (made_of (first_broken (sheet e xs)))) (made_value (made_of (first_broken (sheet e xs))))
+fresh_code None xs = packed 2 0
 
-abbrev pub fresh_left : Numbered → List ℤ → State → State
-fresh_left (Known e) xs st = left_by (first_broken (sheet e xs)) (sheet e xs) st
-fresh_left Unknown xs st = st
+abbrev pub fresh_left : Option Edition → List ℤ → State → State
+fresh_left (Some e) xs st = left_by (first_broken (sheet e xs)) (sheet e xs) st
+fresh_left None xs st = st
 
-abbrev pub is_made : Numbered → List ℤ → Bool
-is_made (Known e) xs = is_nothing (first_broken (sheet e xs))
-is_made Unknown xs = false
+abbrev pub is_made : Option Edition → List ℤ → Bool
+is_made (Some e) xs = is_nothing (first_broken (sheet e xs))
+is_made None xs = false
 
-pub record HostsFresh (edition : Numbered) (xs : List ℤ) (r : ℕ) (table table' : List ℕ) : Type 0 where
+pub record HostsFresh (edition : Option Edition) (xs : List ℤ) (r : ℕ) (table table' : List ℕ) : Type 0 where
   pub answer : r ≡ fresh_code edition xs
   pub state : state_of table' ≡ fresh_left edition xs (state_of table)
   pub kept : is_made edition xs ≡ false → table' ≡ table

@@ -1,4 +1,5 @@
 // A fresh router, made of the parameters as an array of 147 numbers and the number of their edition; and test 12.
+ghost use Rattle.std.specs.Prelude.{Some};
 ghost use Rattle.std.specs.Prelude.{◌≡◌};
 ghost use Rattle.layout.specs.View.{state_of};
 ghost use Rattle.index.specs.Index.{one};
@@ -9,16 +10,16 @@ ghost use Rattle.host_calls.specs.Host.{HostsFresh};
 use answers::packed;
 use layout::CELLS;
 use limits::NUMBERS;
-use lookup::Made;
-use params::{Numbered, Params};
+use lookup::FreshError;
+use params::Params;
 
 // Makes a fresh router of parameters given by value.
 fn make(all: Params, table: &mut [u64; CELLS]) -> u64
-    ensures { HostsFresh (Numbered.Known all.edition) all.numbers result table.old table.new }
+    ensures { HostsFresh (Some all.edition) all.numbers result table.old table.new }
 {
     match router::fresh(all, table) {
-        Made::Done => packed(0, 0),
-        Made::Broken(i) => packed(9, i as u64),
+        Ok(()) => packed(0, 0),
+        Err(FreshError::Broken(i)) => packed(9, i as u64),
     }
 }
 
@@ -26,7 +27,7 @@ fn make(all: Params, table: &mut [u64; CELLS]) -> u64
 pub fn fresh(numbers: &[i64; NUMBERS], edition: u64, table: &mut [u64; CELLS]) -> u64
     ensures { HostsFresh (edition_of edition) numbers.now result table.old table.new }
 {
-    let Numbered::Known(e) = params::edition_of(edition) else {
+    let Some(e) = params::edition_of(edition) else {
         return packed(2, 0);
     };
     let all = Params {

@@ -1,13 +1,10 @@
 -- From what making a router with its array promises to what a host gets: the answer as one number.
 -- Assumes nothing.
+use Rattle.std.proofs.Common.{Option, Some, None}
 use Rattle.index.proofs.Kit.{ℕ, ◌≤◌, ◌≡◌, refl, sym, ap, ◌∙◌, by_test, arith}
 use mathlib.Core.List.{List}
 use lib.IntN.{ℤ}
-use Rattle.index.specs.declared.Found.{Found}
-use Rattle.index.specs.declared.Found.TheVariants.{At, Nothing}
 use Rattle.params.specs.declared.Edition.{Edition}
-use Rattle.params.specs.declared.Numbered.{Numbered}
-use Rattle.params.specs.declared.Numbered.TheVariants.{Known, Unknown}
 use Rattle.params.specs.declared.Params.{Params}
 use Rattle.params.specs.Editions.{edition_of}
 use Rattle.params.specs.Check.{first_broken}
@@ -28,9 +25,9 @@ unfolding setup_ok setup_of
 ordinary_passes = refl
 
 -- ---- a fresh router
-sheeted_most : (p : Params) (f : Found) → first_broken p ≡ f → making_value (sheeted f) ≤ 207
-sheeted_most p (At i) e = broken_most p i e
-sheeted_most p Nothing e = omega arith
+sheeted_most : (p : Params) (f : Option ℕ) → first_broken p ≡ f → making_value (sheeted f) ≤ 207
+sheeted_most p (Some i) e = broken_most p i e
+sheeted_most p None e = omega arith
 
 making_most : (q : Setup) (p : Params) → making_value (making_of q p) ≤ 207
 unfolding making_of
@@ -54,7 +51,7 @@ module _
     making_fits = omega (arith, ap making_value making_is, making_most q p)
 
     pub hosts_made : (r : ℕ) → r ≡ packed (making_number v) (making_value v) →
-        HostsMade q (Known p.edition) p.numbers r table table' gossip gossip'
+        HostsMade q (Some p.edition) p.numbers r table table' gossip gossip'
     hosts_made r e =
         record {
           answer = e ∙ ap making_code making_is;
@@ -63,12 +60,12 @@ module _
         }
 
 -- of the edition that a number told, or of none
-module _ (n : ℕ) (m : Numbered) (e : m ≡ edition_of n) (q : Setup) (xs : List ℤ) where
-  pub made_known : (d : Edition) (r : ℕ) (table table' gossip gossip' : List ℕ) → m ≡ Known d →
-      HostsMade q (Known d) xs r table table' gossip gossip' → HostsMade q (edition_of n) xs r table table' gossip gossip'
+module _ (n : ℕ) (m : Option Edition) (e : m ≡ edition_of n) (q : Setup) (xs : List ℤ) where
+  pub made_known : (d : Edition) (r : ℕ) (table table' gossip gossip' : List ℕ) → m ≡ Some d →
+      HostsMade q (Some d) xs r table table' gossip gossip' → HostsMade q (edition_of n) xs r table table' gossip gossip'
   made_known d r table table' gossip gossip' t h = rw (← e, t) h
 
-  pub made_unknown : (r : ℕ) (table gossip : List ℕ) → m ≡ Unknown → r ≡ packed 2 0 →
+  pub made_unknown : (r : ℕ) (table gossip : List ℕ) → m ≡ None → r ≡ packed 2 0 →
       HostsMade q (edition_of n) xs r table table gossip gossip
   made_unknown r table gossip t h = rw (← e, t) (record { answer = h; state = refl; kept = λ f. (refl, refl) })
 
@@ -96,7 +93,7 @@ module _
     load_fits = omega (arith, ap loaded_value loaded_is, load_all_most q p clock s)
 
     pub hosts_load_all : (r : ℕ) → r ≡ packed (loaded_number v) (loaded_value v) →
-        HostsLoadAll q (Known p.edition) p.numbers clock s r table table' gossip gossip'
+        HostsLoadAll q (Some p.edition) p.numbers clock s r table table' gossip gossip'
     hosts_load_all r e =
         record {
           answer = e ∙ ap (λ (x : Loaded). packed (loaded_number x) (loaded_value x)) loaded_is;
@@ -104,12 +101,12 @@ module _
           kept = λ f. k.kept (ap refuses k.answer ∙ f);
         }
 
-module _ (n : ℕ) (m : Numbered) (e : m ≡ edition_of n) (q : Setup) (xs : List ℤ) (clock : ℕ) (s : List ℕ) where
-  pub load_known : (d : Edition) (r : ℕ) (table table' gossip gossip' : List ℕ) → m ≡ Known d →
-      HostsLoadAll q (Known d) xs clock s r table table' gossip gossip' →
+module _ (n : ℕ) (m : Option Edition) (e : m ≡ edition_of n) (q : Setup) (xs : List ℤ) (clock : ℕ) (s : List ℕ) where
+  pub load_known : (d : Edition) (r : ℕ) (table table' gossip gossip' : List ℕ) → m ≡ Some d →
+      HostsLoadAll q (Some d) xs clock s r table table' gossip gossip' →
       HostsLoadAll q (edition_of n) xs clock s r table table' gossip gossip'
   load_known d r table table' gossip gossip' t h = rw (← e, t) h
 
-  pub load_unknown : (r : ℕ) (table gossip : List ℕ) → m ≡ Unknown → r ≡ packed 2 0 →
+  pub load_unknown : (r : ℕ) (table gossip : List ℕ) → m ≡ None → r ≡ packed 2 0 →
       HostsLoadAll q (edition_of n) xs clock s r table table gossip gossip
   load_unknown r table gossip t h = rw (← e, t) (record { answer = h; state = refl; kept = λ f. (refl, refl) })

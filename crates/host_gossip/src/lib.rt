@@ -4,6 +4,7 @@
 
 pub mod loads;
 
+ghost use Rattle.std.specs.Prelude.{Some};
 ghost use Rattle.std.specs.Prelude.{◌≡◌};
 ghost use Rattle.index.specs.Index.{one};
 ghost use Rattle.params.specs.Editions.{edition_of};
@@ -17,7 +18,7 @@ use gossip_old::Making;
 use gossip_table::{GOSSIP_CELLS, SETUP};
 use layout::CELLS;
 use limits::NUMBERS;
-use params::{Numbered, Params};
+use params::Params;
 
 // The ordinary set-up numbers: the limit of order 6, D_lazy, the factor in thousandths, and the bounds of IHAVEs and of replies.
 pub fn ordinary_setup(setup: &mut [u64; SETUP])
@@ -33,7 +34,7 @@ fn make(
     table: &mut [u64; CELLS],
     gossip: &mut [u64; GOSSIP_CELLS],
 ) -> u64
-    ensures { HostsMade (setup_of setup.now) (Numbered.Known all.edition) all.numbers result
+    ensures { HostsMade (setup_of setup.now) (Some all.edition) all.numbers result
         table.old table.new gossip.old gossip.new }
 {
     match gossip_old::made::fresh(all, setup, table, gossip) {
@@ -54,7 +55,7 @@ pub fn fresh(
     ensures { HostsMade (setup_of setup.now) (edition_of edition) numbers.now result
         table.old table.new gossip.old gossip.new }
 {
-    let Numbered::Known(e) = params::edition_of(edition) else {
+    let Some(e) = params::edition_of(edition) else {
         return packed(2, 0);
     };
     let all = Params {

@@ -1,4 +1,5 @@
 // A router of a save, with the array of orders 6 and 7.
+ghost use Rattle.std.specs.Prelude.{Some};
 ghost use Rattle.params.specs.Editions.{edition_of};
 ghost use Rattle.gossip_table.specs.View.{setup_of};
 ghost use Rattle.host_gossip.specs.Routers.{HostsLoadAll};
@@ -7,7 +8,7 @@ use answers::packed;
 use gossip_table::{GOSSIP_CELLS, SETUP};
 use layout::CELLS;
 use limits::NUMBERS;
-use params::{Numbered, Params};
+use params::Params;
 use saves::Loaded;
 
 // Loads with parameters given by value.
@@ -19,7 +20,7 @@ fn fill(
     table: &mut [u64; CELLS],
     gossip: &mut [u64; GOSSIP_CELLS],
 ) -> u64
-    ensures { HostsLoadAll (setup_of setup.now) (Numbered.Known all.edition) all.numbers clock bytes.now result
+    ensures { HostsLoadAll (setup_of setup.now) (Some all.edition) all.numbers clock bytes.now result
         table.old table.new gossip.old gossip.new }
 {
     match gossip_old::made::load(all, setup, clock, bytes, table, gossip) {
@@ -44,7 +45,7 @@ pub fn load(
     ensures { HostsLoadAll (setup_of setup.now) (edition_of edition) numbers.now clock bytes.now result
         table.old table.new gossip.old gossip.new }
 {
-    let Numbered::Known(e) = params::edition_of(edition) else {
+    let Some(e) = params::edition_of(edition) else {
         return packed(2, 0);
     };
     let all = Params {

@@ -1,17 +1,15 @@
 -- A host's calls on one table and one array: by induction on their list, each from its own promise (Ran); that set-up numbers and
 -- parameters are accepted is in the 0 that the first of all answered.
 -- Assumes nothing.
+use Rattle.std.proofs.Common.{Option, Some, None}
 use Prim.{tt}
 use Rattle.index.proofs.Kit.{ℕ, arith, ◌≡◌, refl, sym, ap, ◌∙◌}
 use mathlib.Core.Bool.{Bool, true, false, cond}
 use mathlib.Core.List.{List, [], ◌∷◌, map}
 use lib.ListN.{length}
 use lib.Seq.{sets}
-use Rattle.index.specs.declared.Found.{Found}
-use Rattle.index.specs.declared.Found.TheVariants.{At, Nothing}
 use Rattle.records.specs.Records.{State, param_count}
 use Rattle.params.specs.declared.Params.{Params}
-use Rattle.params.specs.declared.Numbered.TheVariants.{Known}
 use Rattle.params.specs.Check.{first_broken}
 use Rattle.params.proofs.CheckLaws.{edition_back}
 use Rattle.lookup.specs.Fresh.{fresh_state}
@@ -40,9 +38,9 @@ use Rattle.host_gossip_lists.specs.Hosted.{reply_to, EveryHostAgreesAll, EverySc
 use Rattle.host_gossip_lists.proofs.Ran.{ran}
 
 -- ---- what a 0 says: neither 2 nor 9 was answered
-made_fine : (b : Bool) (f : Found) → 0 ≡ making_code (cond b (freshBy f) OutOfRange) → (b ≡ true) × (f ≡ Nothing)
-made_fine true (At i) e = absurd (omega (arith, e))
-made_fine true Nothing e = (refl, refl)
+made_fine : (b : Bool) (f : Option ℕ) → 0 ≡ making_code (cond b (freshBy f) OutOfRange) → (b ≡ true) × (f ≡ None)
+made_fine true (Some i) e = absurd (omega (arith, e))
+made_fine true None e = (refl, refl)
 made_fine false f e = absurd (omega (arith, e))
 
 abbrev both : State → Gossip → Extended
@@ -63,7 +61,7 @@ module _ (start : Start) (size : length (sheet start).numbers ≡ param_count) (
   opens_fresh : OpenedFresh start table gossip → Opens start table gossip
   unfolding making_of
   opens_fresh p =
-      let m : HostsMade start.setup (Known all.edition) all.numbers 0 p.was table p.others gossip =
+      let m : HostsMade start.setup (Some all.edition) all.numbers 0 p.was table p.others gossip =
       rw (edition_back all.edition) at p.makes in
       let q = made_fine fine (first_broken all) m.answer in
       let s : extended_of table gossip ≡ both (fresh_state all) (fresh_gossip start.setup) = rw (q.0, q.1) at m.state in
@@ -77,7 +75,7 @@ module _ (start : Start) (size : length (sheet start).numbers ≡ param_count) (
 
   opens_load : OpenedLoad start table gossip → Opens start table gossip
   opens_load p =
-      let m : HostsLoadAll start.setup (Known all.edition) all.numbers p.clock p.bytes 0 p.was table p.others gossip =
+      let m : HostsLoadAll start.setup (Some all.edition) all.numbers p.clock p.bytes 0 p.was table p.others gossip =
       rw (edition_back all.edition) at p.loads in
       let o = load_of fine all p.clock p.bytes in
       let q = load_passes all p.clock p.bytes fine m.answer in

@@ -1,10 +1,11 @@
 -- The C ABI's functions with the array of orders 6 and 7, one after the other on one table and one array: what comes back and what is left
 -- is what the rules give (01: "the program's calls give the same answers, and the tables they leave hold the same joined topics and
 -- meshes"). Of the functions only their promises are taken (crate host, src/array.rt and src/calls.rt).
+use Rattle.std.specs.Prelude.{Option}
+use Rattle.params.specs.declared.Edition.{Edition}
 use Rattle.std.specs.Prelude.{ℕ, ◌≤◌, ◌<◌, ◌≡◌, Bool, true, false, List, [], ◌∷◌, ◌++◌, map, ℤ, length, get_or}
 use Rattle.std.proofs.lemmas.List.Edits.{sets}
 use Rattle.records.specs.Records.{param_count}
-use Rattle.params.specs.declared.Numbered.{Numbered}
 use Rattle.params.specs.Editions.{edition_number, edition_of}
 use Rattle.layout.specs.View.{state_of}
 use Rattle.lookup.specs.Fresh.{fresh_state}
@@ -79,7 +80,7 @@ module _ (c : HostCall) (table table' gossip gossip' : List ℕ) where
 
 -- ---- what the list starts from: the 0 that `hivepadlet_gossip_fresh` or `hivepadlet_gossip_load` answered says that set-up numbers and
 -- parameters were accepted
-abbrev pub edition_in : Start → Numbered
+abbrev pub edition_in : Start → Option Edition
 edition_in start = edition_of (edition_number (sheet start).edition)
 
 pub record OpenedFresh (start : Start) (table gossip : List ℕ) : Type 0 where

@@ -1,16 +1,14 @@
 -- A host's calls on one table: by induction on their list, each from its own promise; that the parameters are accepted is in the 0 that the
 -- first of all answered.
 -- Assumes nothing.
+use Rattle.std.proofs.Common.{Option, Some, None}
 use Prim.{tt}
 use Rattle.index.proofs.Kit.{ℕ, arith, ◌≡◌, refl, sym, ap, ◌∙◌}
 use mathlib.Core.Bool.{true}
 use mathlib.Core.List.{List, [], ◌∷◌, map}
 use lib.ListN.{length}
 use lib.Seq.{sets}
-use Rattle.index.specs.declared.Found.{Found}
-use Rattle.index.specs.declared.Found.TheVariants.{At, Nothing}
 use Rattle.params.specs.declared.Params.{Params}
-use Rattle.params.specs.declared.Numbered.TheVariants.{Known}
 use Rattle.params.specs.Check.{first_broken}
 use Rattle.params.proofs.CheckLaws.{edition_back}
 use Rattle.records.specs.Records.{State, param_count}
@@ -31,9 +29,9 @@ use Rattle.host_lists.specs.Hosted.{EveryHostAgrees, EveryScoreAgrees}
 use Rattle.host_lists.proofs.Loads.{which, load_passes}
 
 -- 9 is not 0
-passes : (f : Found) → 0 ≡ packed (made_number (made_of f)) (made_value (made_of f)) → f ≡ Nothing
-passes (At i) e = absurd (omega (arith, e))
-passes Nothing e = refl
+passes : (f : Option ℕ) → 0 ≡ packed (made_number (made_of f)) (made_value (made_of f)) → f ≡ None
+passes (Some i) e = absurd (omega (arith, e))
+passes None e = refl
 
 -- ---- what the list starts from
 record Opens (start : Start) (table : List ℕ) : Type 0 where
@@ -47,16 +45,16 @@ module _ (start : Start) (size : length start.params.numbers ≡ param_count) (t
   -- the edition of the number that was called is the parameters'
   opens_fresh : OpenedFresh start table → Opens start table
   opens_fresh p =
-      let m : HostsFresh (Known all.edition) all.numbers 0 p.was table = rw (edition_back all.edition) at p.makes in
+      let m : HostsFresh (Some all.edition) all.numbers 0 p.was table = rw (edition_back all.edition) at p.makes in
       let q = passes (first_broken all) m.answer in
       record {
         accepted = record { size = size; passes = q; begins = from_fresh p.begins };
-        state = m.state ∙ ap (λ (f : Found). fresh_left f all (state_of p.was)) q ∙ sym p.begins;
+        state = m.state ∙ ap (λ (f : Option ℕ). fresh_left f all (state_of p.was)) q ∙ sym p.begins;
       }
 
   opens_load : OpenedLoad start table → Opens start table
   opens_load p =
-      let m : HostsLoad (Known all.edition) all.numbers p.clock p.bytes 0 p.was table =
+      let m : HostsLoad (Some all.edition) all.numbers p.clock p.bytes 0 p.was table =
       rw (edition_back all.edition) at p.loads in
       let o = load_of true all p.clock p.bytes in
       let w = which o m.answer in

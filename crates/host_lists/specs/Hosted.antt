@@ -1,9 +1,10 @@
 -- The C ABI's functions, one after the other on one table: what comes back and what is left is what the rules give (01: "the program's
 -- calls give the same answers, and the tables they leave hold the same joined topics and meshes"). Of the functions only their promises are
 -- taken (crate host, specs/Host.antt).
+use Rattle.std.specs.Prelude.{Option}
+use Rattle.params.specs.declared.Edition.{Edition}
 use Rattle.std.specs.Prelude.{ℕ, ◌<◌, ◌≡◌, List, [], ◌∷◌, map, ℤ, length, get_or}
 use Rattle.std.proofs.lemmas.List.Edits.{sets}
-use Rattle.params.specs.declared.Numbered.{Numbered}
 use Rattle.params.specs.Editions.{edition_number, edition_of}
 use Rattle.records.specs.Records.{param_count}
 use Rattle.layout.specs.View.{state_of}
@@ -30,7 +31,7 @@ abbrev pub made : HostCall → Made
 made c = record { call = c.call; room = length c.list }
 
 -- ---- what the list starts from: the 0 that `hivepadlet_fresh` or `hivepadlet_load` answered says that the parameters were accepted
-abbrev pub edition_in : Start → Numbered
+abbrev pub edition_in : Start → Option Edition
 edition_in start = edition_of (edition_number start.params.edition)
 
 pub record OpenedFresh (start : Start) (table : List ℕ) : Type 0 where

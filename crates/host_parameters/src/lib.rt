@@ -5,6 +5,7 @@
 
 pub mod supplier;
 
+ghost use Rattle.std.specs.Prelude.{Some};
 ghost use Rattle.std.specs.Prelude.{◌≡◌};
 ghost use Rattle.params.specs.Editions.{edition_of};
 ghost use Rattle.params.specs.Ordinary.{ordinary_numbers};
@@ -13,8 +14,8 @@ ghost use Rattle.host_parameters.specs.Parameters.{HostsRead, HostsWrite};
 pub use crate::supplier::{export, import};
 use answers::packed;
 use limits::NUMBERS;
-use params::{Numbered, Params};
-use params_bytes::{Verdict, Written};
+use params::Params;
+use params_bytes::{ReadError, WriteError};
 
 // The ordinary parameters.
 pub fn ordinary(numbers: &mut [i64; NUMBERS])
@@ -35,24 +36,24 @@ pub fn read(bytes: &[u8], numbers: &mut [i64; NUMBERS], edition: &mut u64) -> u6
     let told = all.edition;
     let verdict = reading.verdict;
     match verdict {
-        Verdict::Accepted(n) => {
+        Ok(n) => {
             *numbers = values;
             *edition = params::edition_number(told);
             packed(0, n as u64)
         }
-        Verdict::Malformed(place) => packed(10, place as u64),
-        Verdict::Broken(i) => packed(9, i as u64),
+        Err(ReadError::Malformed(place)) => packed(10, place as u64),
+        Err(ReadError::Broken(i)) => packed(9, i as u64),
     }
 }
 
 // Writes parameters given by value, of which it is known that they are 147.
 fn put(all: Params, buffer: &mut [u8]) -> u64
-    ensures { HostsWrite (Numbered.Known all.edition) all.numbers result buffer.old buffer.new }
+    ensures { HostsWrite (Some all.edition) all.numbers result buffer.old buffer.new }
 {
     match params_bytes::write(all, buffer) {
-        Written::Done(n) => packed(0, n as u64),
-        Written::Short => packed(8, 0),
-        Written::Outside(i) => packed(9, i as u64),
+        Ok(n) => packed(0, n as u64),
+        Err(WriteError::Short) => packed(8, 0),
+        Err(WriteError::Outside(i)) => packed(9, i as u64),
     }
 }
 
@@ -60,7 +61,7 @@ fn put(all: Params, buffer: &mut [u8]) -> u64
 pub fn write(numbers: &[i64; NUMBERS], edition: u64, buffer: &mut [u8]) -> u64
     ensures { HostsWrite (edition_of edition) numbers.now result buffer.old buffer.new }
 {
-    let Numbered::Known(e) = params::edition_of(edition) else {
+    let Some(e) = params::edition_of(edition) else {
         return packed(2, 0);
     };
     let all = Params {

@@ -5,7 +5,7 @@ ghost use Rattle.host_parameters.specs.Supplier.{greatest_value, HostsImport, Ho
 use answers::packed;
 use limits::NUMBERS;
 use params::{Edition, Params};
-use params_bytes::{Verdict, Written};
+use params_bytes::{ReadError, WriteError};
 
 // A place or a length as the value of an answer, which has 32 bits.
 fn told(n: usize) -> u64
@@ -23,12 +23,12 @@ pub fn import(bytes: &[u8], numbers: &mut [i64; NUMBERS]) -> u64
     let values = all.numbers;
     let verdict = reading.verdict;
     match verdict {
-        Verdict::Accepted(n) => {
+        Ok(n) => {
             *numbers = values;
             packed(0, told(n))
         }
-        Verdict::Malformed(place) => packed(10, told(place)),
-        Verdict::Broken(i) => packed(9, told(i)),
+        Err(ReadError::Malformed(place)) => packed(10, told(place)),
+        Err(ReadError::Broken(i)) => packed(9, told(i)),
     }
 }
 
@@ -37,9 +37,9 @@ fn put_theirs(all: Params, buffer: &mut [u8]) -> u64
     ensures { HostsExport all.numbers result buffer.old buffer.new }
 {
     match supplier_params::export(all, buffer) {
-        Written::Done(n) => packed(0, n as u64),
-        Written::Short => packed(13, 0),
-        Written::Outside(i) => packed(9, i as u64),
+        Ok(n) => packed(0, n as u64),
+        Err(WriteError::Short) => packed(13, 0),
+        Err(WriteError::Outside(i)) => packed(9, i as u64),
     }
 }
 

@@ -1,5 +1,6 @@
 -- From what save and load promise to what a host gets: the answer as one number; and over a power cycle.
 -- Assumes nothing.
+use Rattle.std.proofs.Common.{Option, Some, None}
 use Prim.Native.Nat.{ℕ, ◌+◌, ◌≤◌}
 use native.Mathlib.Omega.{arith}
 use mathlib.Core.Path.{◌≡◌, refl, sym, ap, ◌∙◌}
@@ -14,8 +15,6 @@ use Rattle.index.proofs.Flags.{by_test}
 use Rattle.answers.specs.Answers.{packed}
 use Rattle.layout.specs.View.{state_of}
 use Rattle.params.specs.declared.Edition.{Edition}
-use Rattle.params.specs.declared.Numbered.{Numbered}
-use Rattle.params.specs.declared.Numbered.TheVariants.{Known, Unknown}
 use Rattle.params.specs.declared.Params.{Params}
 use Rattle.params.specs.Editions.{edition_of, sheet}
 use Rattle.records.specs.Records.{State}
@@ -115,7 +114,7 @@ module _
     load_fits = omega (arith, ap loaded_value loaded_is, load_most p clock s)
 
     pub hosts_load : (r : ℕ) → r ≡ packed (loaded_number v) (loaded_value v) →
-        HostsLoad (Known p.edition) p.numbers clock s r table table'
+        HostsLoad (Some p.edition) p.numbers clock s r table table'
     hosts_load r e =
         record {
           answer = e ∙ ap (λ (x : Loaded). packed (loaded_number x) (loaded_value x)) loaded_is;
@@ -124,12 +123,12 @@ module _
         }
 
 -- the edition that a number told, or none
-module _ (n : ℕ) (m : Numbered) (e : m ≡ edition_of n) (xs : List ℤ) (clock : ℕ) (s : List ℕ) where
-  pub load_known : (d : Edition) (r : ℕ) (table table' : List ℕ) → m ≡ Known d → HostsLoad (Known d) xs clock s r table table' →
+module _ (n : ℕ) (m : Option Edition) (e : m ≡ edition_of n) (xs : List ℤ) (clock : ℕ) (s : List ℕ) where
+  pub load_known : (d : Edition) (r : ℕ) (table table' : List ℕ) → m ≡ Some d → HostsLoad (Some d) xs clock s r table table' →
       HostsLoad (edition_of n) xs clock s r table table'
   load_known d r table table' t h = rw (← e, t) h
 
-  pub load_unknown : (r : ℕ) (table : List ℕ) → m ≡ Unknown → r ≡ packed 2 0 → HostsLoad (edition_of n) xs clock s r table table
+  pub load_unknown : (r : ℕ) (table : List ℕ) → m ≡ None → r ≡ packed 2 0 → HostsLoad (edition_of n) xs clock s r table table
   load_unknown r table t q = rw (← e, t) (record { answer = q; state = refl; kept = λ f. refl })
 
 -- ---- over a power cycle

@@ -1,10 +1,9 @@
 -- What a host gets of saving and loading (02, order 8): the promise of the crates below, with the answer as one number.
+use Rattle.std.specs.Prelude.{Option, Some, None}
 use Rattle.std.specs.Prelude.{ℕ, ◌≤◌, ◌≡◌, true, List, ℤ, take}
 use Rattle.answers.specs.Answers.{packed}
 use Rattle.layout.specs.View.{state_of}
 use Rattle.params.specs.declared.Edition.{Edition}
-use Rattle.params.specs.declared.Numbered.{Numbered}
-use Rattle.params.specs.declared.Numbered.TheVariants.{Known, Unknown}
 use Rattle.params.specs.Editions.{sheet}
 use Rattle.validity.specs.Valid.{max_time}
 use Rattle.saves.specs.Save.{saving_of, saved_number, saved_value}
@@ -24,15 +23,15 @@ pub record HostsSave (table : List ℕ) (time r : ℕ) (buf buf' : List ℕ) : T
   pub bytes : buf' ≡ (saving_of (state_of table) time buf).bytes
 
 -- a number that is no edition's is out of range (2)
-abbrev pub loading_by : Numbered → List ℤ → ℕ → List ℕ → Loading
-loading_by (Known e) xs clock s = load_of true (sheet e xs) clock s
-loading_by Unknown xs clock s = out_of_range
+abbrev pub loading_by : Option Edition → List ℤ → ℕ → List ℕ → Loading
+loading_by (Some e) xs clock s = load_of true (sheet e xs) clock s
+loading_by None xs clock s = out_of_range
 
 abbrev pub load_code : Loading → ℕ
 load_code o = packed (loaded_number (answer_of o)) (loaded_value (answer_of o))
 
 -- the lent table is written where the bytes are loaded, and stands where they are refused
-pub record HostsLoad (edition : Numbered) (xs : List ℤ) (clock : ℕ) (s : List ℕ) (r : ℕ) (table table' : List ℕ) : Type 0 where
+pub record HostsLoad (edition : Option Edition) (xs : List ℤ) (clock : ℕ) (s : List ℕ) (r : ℕ) (table table' : List ℕ) : Type 0 where
   pub answer : r ≡ load_code (loading_by edition xs clock s)
   pub state : state_of table' ≡ left_by (loading_by edition xs clock s) (state_of table)
   pub kept : refuses (answer_of (loading_by edition xs clock s)) ≡ true → table' ≡ table
@@ -45,5 +44,5 @@ CyclesRemember =
     Sheet (state_of table) (sheet e xs) →
     HostsSave table time (packed 0 n) buf buf' →
     clock ≤ max_time →
-    HostsLoad (Known e) xs clock (take n buf') r fresh fresh' →
+    HostsLoad (Some e) xs clock (take n buf') r fresh fresh' →
     (r ≡ 0) × Remembered (state_of table) time (state_of fresh') clock

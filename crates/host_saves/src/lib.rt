@@ -2,13 +2,14 @@
 // the one below does, with the answer as one number (specs/Saving.antt); none asks anything of its caller.
 #![tactic(auto)]
 
+ghost use Rattle.std.specs.Prelude.{Some};
 ghost use Rattle.params.specs.Editions.{edition_of};
 ghost use Rattle.host_saves.specs.Saving.{HostsSave, HostsLoad};
 
 use answers::packed;
 use layout::CELLS;
 use limits::NUMBERS;
-use params::{Numbered, Params};
+use params::Params;
 use saves::{Loaded, Saved};
 
 // Saves the records at a time, to the start of a buffer: 0 with the length, 12, 2, 1 or 13.
@@ -26,7 +27,7 @@ pub fn save(table: &[u64; CELLS], time: u64, buffer: &mut [u8]) -> u64
 
 // Loads with parameters given by value.
 fn fill(all: Params, clock: u64, bytes: &[u8], table: &mut [u64; CELLS]) -> u64
-    ensures { HostsLoad (Numbered.Known all.edition) all.numbers clock bytes.now result table.old table.new }
+    ensures { HostsLoad (Some all.edition) all.numbers clock bytes.now result table.old table.new }
 {
     match save_load::load(all, clock, bytes, table) {
         Loaded::Done => packed(0, 0),
@@ -46,7 +47,7 @@ pub fn load(
 ) -> u64
     ensures { HostsLoad (edition_of edition) numbers.now clock bytes.now result table.old table.new }
 {
-    let Numbered::Known(e) = params::edition_of(edition) else {
+    let Some(e) = params::edition_of(edition) else {
         return packed(2, 0);
     };
     let all = Params {

@@ -1,5 +1,6 @@
 -- Laws of `every`, `first`, `count`, `iter` and `gather`: how a loop that counts up computes them, and what they say.
 -- Assumes nothing.
+use Rattle.std.proofs.Common.{Option, Some, None}
 use Prim.Native.Nat.{ℕ, zero, suc, ◌+◌, ◌<◌, ◌≤◌}
 use native.Mathlib.Nat.{le_antisymm, not-suc-le-zero, eq-or-lt_of_le, le_of_suc-le-suc}
 use native.Mathlib.Numerals.{add-one}
@@ -7,8 +8,6 @@ use native.Mathlib.Omega.{arith}
 use mathlib.Core.Path.{◌≡◌, refl, sym, ap, ◌∙◌}
 use mathlib.Core.Logic.{⊎_elim}
 use mathlib.Core.Bool.{Bool, true, false, ◌&&◌, and-false}
-use Rattle.index.specs.declared.Found.{Found}
-use Rattle.index.specs.declared.Found.TheVariants.{At, Nothing}
 use mathlib.Core.List.{List, [], ◌++◌, append_assoc, append-nil}
 use lib.ListN.{length, length-append}
 use Rattle.index.specs.Index.{every, first, one, count, iter, gather}
@@ -62,18 +61,18 @@ module _ (f : ℕ → Bool) where
   pub every_in : (n i : ℕ) → i ≤ n → n ≤ i → every i f ≡ true → true ≡ every n f
   every_in n i l h p = sym (every_done n i l h p)
 
-  pub first_none : first 0 f ≡ Nothing
+  pub first_none : first 0 f ≡ None
   unfolding first
   first_none = refl
 
-  pub first_more : (i : ℕ) → first i f ≡ Nothing → f i ≡ false → first (i + 1) f ≡ Nothing
+  pub first_more : (i : ℕ) → first i f ≡ None → f i ≡ false → first (i + 1) f ≡ None
   unfolding first
   first_more i p q = rw (add-one, p, q)
 
-  pub first_done : (n i : ℕ) → i ≤ n → n ≤ i → first i f ≡ Nothing → first n f ≡ Nothing
+  pub first_done : (n i : ℕ) → i ≤ n → n ≤ i → first i f ≡ None → first n f ≡ None
   first_done n i l h p = rw (le_antisymm h l) p
 
-  pub first_hit : (n i : ℕ) → i < n → first i f ≡ Nothing → f i ≡ true → first n f ≡ At i
+  pub first_hit : (n i : ℕ) → i < n → first i f ≡ None → f i ≡ true → first n f ≡ Some i
   unfolding first
   first_hit zero i h p q = absurd (not-suc-le-zero h)
   first_hit (suc n) i h p q =
@@ -82,34 +81,34 @@ module _ (f : ℕ → Bool) where
       (λ l. rw (first_hit n i l p q))
       (eq-or-lt_of_le (le_of_suc-le-suc h))
 
-  pub first_out : (n i : ℕ) → i < n → first i f ≡ Nothing → f i ≡ true → At i ≡ first n f
+  pub first_out : (n i : ℕ) → i < n → first i f ≡ None → f i ≡ true → Some i ≡ first n f
   first_out n i h p q = sym (first_hit n i h p q)
 
-  pub first_in : (n i : ℕ) → i ≤ n → n ≤ i → first i f ≡ Nothing → Nothing ≡ first n f
+  pub first_in : (n i : ℕ) → i ≤ n → n ≤ i → first i f ≡ None → None ≡ first n f
   first_in n i l h p = sym (first_done n i l h p)
 
-  pub first_is : (n i : ℕ) → first n f ≡ At i → (i < n) × (f i ≡ true)
+  pub first_is : (n i : ℕ) → first n f ≡ Some i → (i < n) × (f i ≡ true)
   unfolding first
   first_is zero i e = let z : ◌≡◌ {A = ℕ} 0 1 = cc in absurd (omega arith)
   first_is (suc n) i e = go (first_is n i) (first n f) refl (f n) refl
     where
       go :
-          (first n f ≡ At i → (i < n) × (f i ≡ true)) →
-          (g : Found) →
+          (first n f ≡ Some i → (i < n) × (f i ≡ true)) →
+          (g : Option ℕ) →
           first n f ≡ g →
           (b : Bool) →
           f n ≡ b →
           (i < suc n) × (f i ≡ true)
-      go ih (At j) p b q =
-          let e' : At j ≡ At i = rw p at e in
+      go ih (Some j) p b q =
+          let e' : Some j ≡ Some i = rw p at e in
           let r : (i < n) × (f i ≡ true) = ih (p ∙ e') in
           (omega arith, r.1)
-      go ih Nothing p true q =
-          let e' : At n ≡ At i = rw (p, q) at e in
+      go ih None p true q =
+          let e' : Some n ≡ Some i = rw (p, q) at e in
           let z : n ≡ i = cc in
           (omega arith, ap f (sym z) ∙ q)
-      go ih Nothing p false q =
-          let e' : Nothing ≡ At i = rw (p, q) at e in
+      go ih None p false q =
+          let e' : None ≡ Some i = rw (p, q) at e in
           let z : ◌≡◌ {A = ℕ} 0 1 = cc in
           absurd (omega arith)
 
@@ -219,27 +218,27 @@ first_same f g zero h = refl
 first_same f g (suc n) h = rw (first_same f g n (λ i l. h i (omega arith)), h n (omega arith))
 
 -- a search that found nothing passed every index, and one that found i passed all before it
-pub first_passed : (f : ℕ → Bool) (n : ℕ) → first n f ≡ Nothing → (i : ℕ) → i < n → f i ≡ false
+pub first_passed : (f : ℕ → Bool) (n : ℕ) → first n f ≡ None → (i : ℕ) → i < n → f i ≡ false
 unfolding first
 first_passed f zero e i h = absurd (not-suc-le-zero h)
 first_passed f (suc n) e i h = go (first_passed f n) (first n f) refl (f n) refl
   where
     go :
-        (first n f ≡ Nothing → (i : ℕ) → i < n → f i ≡ false) →
-        (g : Found) →
+        (first n f ≡ None → (i : ℕ) → i < n → f i ≡ false) →
+        (g : Option ℕ) →
         first n f ≡ g →
         (b : Bool) →
         f n ≡ b →
         f i ≡ false
-    go ih (At j) p b q =
-        let e' : At j ≡ Nothing = rw p at e in
+    go ih (Some j) p b q =
+        let e' : Some j ≡ None = rw p at e in
         let z : ◌≡◌ {A = ℕ} 0 1 = cc in
         absurd (omega arith)
-    go ih Nothing p true q =
-        let e' : At n ≡ Nothing = rw (p, q) at e in
+    go ih None p true q =
+        let e' : Some n ≡ None = rw (p, q) at e in
         let z : ◌≡◌ {A = ℕ} 0 1 = cc in
         absurd (omega arith)
-    go ih Nothing p false q =
+    go ih None p false q =
         ⊎_elim
         (λ k. ap f k ∙ q)
         (λ l. ih p i l)

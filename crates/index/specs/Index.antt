@@ -1,22 +1,21 @@
 -- Tests, searches, counts and walks over the indices below a number, as definitions that compute.
 -- Everything above goes by these and by their laws (proofs/Index.antt), so a change here is a change of every statement.
+use Rattle.std.specs.Prelude.{Option, Some, None}
 use Rattle.std.specs.Prelude.{ℕ, zero, suc, ◌+◌, Bool, true, false, ◌&&◌, cond, List, [], ◌++◌}
-use Rattle.index.specs.declared.Found.{Found}
-use Rattle.index.specs.declared.Found.TheVariants.{At, Nothing}
 
 -- f holds at every index below n
 unfoldable pub every : ℕ → (ℕ → Bool) → Bool
 every zero f = true
 every (suc n) f = every n f && f n
 
-abbrev pub or_else : Found → Found → Found
-or_else (At i) g = At i
-or_else Nothing g = g
+abbrev pub or_else : Option ℕ → Option ℕ → Option ℕ
+or_else (Some i) g = Some i
+or_else None g = g
 
 -- the first index below n at which f holds
-unfoldable pub first : ℕ → (ℕ → Bool) → Found
-first zero f = Nothing
-first (suc n) f = or_else (first n f) (cond (f n) (At n) Nothing)
+unfoldable pub first : ℕ → (ℕ → Bool) → Option ℕ
+first zero f = None
+first (suc n) f = or_else (first n f) (cond (f n) (Some n) None)
 
 abbrev pub one : Bool → ℕ
 one true = 1

@@ -172,10 +172,8 @@ pub fn write_row(cells: &mut [u64], at: usize, row: &[u64])
     requires { at + length row.now ≤ length cells.old }
     ensures { cells.new ≡ put cells.old at row.now }
 {
-    let mut k: usize = 0;
-    while k < row.len() {
+    for k in 0..row.len() {
         cells[at + k] = row[k];
-        k += 1;
     }
 }
 
@@ -304,10 +302,8 @@ pub fn store_codes(cells: &mut [u64], codes: &[u64])
     requires { (length cells.old ≡ cell_count) × CodesFit codes.now }
     ensures { state_of cells.new ≡ set_codes (state_of cells.old) codes.now }
 {
-    let mut i: usize = 0;
-    while i < PARAMS {
+    for i in 0..PARAMS {
         store_magnitude(cells, i, varint::magnitude(codes[i]));
-        i += 1;
     }
 }
 
@@ -315,10 +311,8 @@ pub fn store_codes(cells: &mut [u64], codes: &[u64])
 pub fn clear(cells: &mut [u64])
     ensures { state_of cells.new ≡ zero_state }
 {
-    let mut k: usize = 0;
-    while k < cells.len() {
+    for k in 0..cells.len() {
         cells[k] = 0;
-        k += 1;
     }
 }
 
@@ -527,12 +521,10 @@ fn clear_slot(cells: &mut [u64], s: usize)
         0,
         0,
     );
-    let mut t: usize = 0;
-    while t < 8 {
+    for t in 0..8 {
         cells[COUNTERS_AT + t * STRIDE + s] = 0;
         cells[P3B_AT + (s * 8 + t)] = 0;
         cells[ENDS_AT + s * 8 + t] = 0;
-        t += 1;
     }
 }
 
@@ -663,10 +655,8 @@ fn counted(cells: &[u64], slot: usize) -> u64
     ensures { result ≡ 0 → (t : ℕ) → t < topic_count → Uncounted cells.now slot t }
 {
     let mut acc: u64 = 0;
-    let mut t: usize = 0;
-    while t < TOPICS {
+    for t in 0..TOPICS {
         acc = acc | cells[COUNTERS_AT + t * STRIDE + slot] | cells[P3B_AT + (slot * 8 + t)];
-        t += 1;
     }
     keep((slot as u64) < cells[USED_AT], acc)
 }
@@ -678,10 +668,8 @@ fn meshed(cells: &[u64], i: usize) -> u64
         (t : ℕ) → t < topic_count → get_or cells.now (member_at + t * 4 + i) 0 / 2 ^ j % 2 ≡ 0 }
 {
     let mut acc: u64 = 0;
-    let mut t: usize = 0;
-    while t < TOPICS {
+    for t in 0..TOPICS {
         acc = acc | cells[MEMBER_AT + t * WORDS + i];
-        t += 1;
     }
     acc
 }
@@ -794,10 +782,8 @@ fn all_past(cells: &[u64], o: usize, n: usize, used: u64) -> u64
     ensures { result ≡ 0 → (p s : ℕ) → p < n → s < slot_count → used ≤ s → bit_at cells.now (o + p * 4) s ≡ 0 }
 {
     let mut acc: u64 = 0;
-    let mut p: usize = 0;
-    while p < n {
+    for p in 0..n {
         acc = acc | past(cells, o + p * WORDS, used);
-        p += 1;
     }
     acc
 }

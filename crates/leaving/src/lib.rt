@@ -20,7 +20,7 @@ use layout::CELLS;
 use peer_score::buckets::{BUCKETS, count_groups, score_among};
 use peer_score::weights::weights;
 use records::{SLOTS, TOPICS, param};
-use rules::{Answer, Gate};
+use rules::Answer;
 use score::sums::is_negative;
 
 // Whether a slot is a member that scores below zero: nobody else's score is taken.
@@ -58,12 +58,10 @@ fn negatives(table: &[u64], topic: usize) -> [bool; SLOTS]
     let w3b = weights(table, param::W3B);
     let w4 = weights(table, param::W4);
     let mut flags = [false; SLOTS];
-    let mut slot: usize = 0;
-    while slot < SLOTS {
+    for slot in 0..SLOTS {
         flags[slot] = is_negative_member(
             table, &heads, &same, &others, &w2, &w3b, &w4, topic, slot,
         );
-        slot += 1;
     }
     flags
 }
@@ -118,11 +116,9 @@ fn leave_slots(
         table.new actions.old actions.new result }
 {
     let mut at: usize = 0;
-    let mut slot: usize = 0;
-    while slot < SLOTS {
+    for slot in 0..SLOTS {
         let flag = negative[slot];
         at = leave_slot(table, actions, at, topic, slot, end, seconds, flag);
-        slot += 1;
     }
     at
 }
@@ -157,7 +153,7 @@ pub fn leave(table: &mut [u64; CELLS], time: u64, topic: u64, actions: &mut [u32
 {
     let fine = time_ok(time) & topic_ok(topic);
     match admit(table, fine, actions.len(), time) {
-        Gate::Refuse(a) => a,
-        Gate::Pass => leave_from(table, time, topic as usize, actions),
+        Err(a) => a,
+        Ok(()) => leave_from(table, time, topic as usize, actions),
     }
 }

@@ -11,7 +11,6 @@ ghost use Rattle.records.specs.Records.{topic_count, param_count};
 ghost use Rattle.limits.specs.Limits.{general_count, of_topic, field_count, to, limits, field_of, limit_at, lies, in_limits, outside};
 ghost use Rattle.limits.specs.Limits.{place};
 
-use index::Found;
 use records::TOPICS;
 
 // How many numbers the parameters are: the general ones, then as many for each topic.
@@ -178,10 +177,8 @@ pub fn write_codes(numbers: &[i64; NUMBERS], codes: &mut [u64])
     requires codes_len { length codes.old ≡ param_count }
     ensures { codes.new ≡ map code_of numbers.now }
 {
-    let mut i: usize = 0;
-    while i < NUMBERS {
+    for i in 0..NUMBERS {
         codes[i] = varint::code_of(numbers[i]);
-        i += 1;
     }
 }
 
@@ -219,18 +216,16 @@ fn code_in(codes: &[u64], i: usize) -> bool
 }
 
 // The first number that is not between its limits.
-pub fn first_outside(codes: &[u64]) -> Found
+pub fn first_outside(codes: &[u64]) -> Option<usize>
     requires { length codes.now ≡ param_count }
     ensures { result ≡ first param_count (outside (map number_of codes.now)) }
 {
-    let mut i: usize = 0;
-    while i < NUMBERS {
+    for i in 0..NUMBERS {
         if !code_in(codes, i) {
-            return Found::At(i);
+            return Some(i);
         }
-        i += 1;
     }
-    Found::Nothing
+    None
 }
 
 // Whether the codes of the general numbers lie between their limits.
@@ -239,13 +234,11 @@ fn general_lie(codes: &[u64]) -> bool
     ensures { result ≡ every general_count (in_limits (map number_of codes.now)) }
 {
     let table = limits();
-    let mut i: usize = 0;
-    while i < GENERAL {
+    for i in 0..GENERAL {
         let l = table[i];
         if !code_lies(codes[i], l.low, l.high) {
             return false;
         }
-        i += 1;
     }
     true
 }
@@ -255,12 +248,10 @@ fn field_lies(codes: &[u64], j: usize, low: i64, high: i64) -> bool
     requires { (length codes.now ≡ param_count) × (j < of_topic) }
     ensures { result ≡ every topic_count (λ k. lies (number_of (get_or codes.now (place k j) 0)) (to low high)) }
 {
-    let mut k: usize = 0;
-    while k < TOPICS {
+    for k in 0..TOPICS {
         if !code_lies(codes[GENERAL + OF_TOPIC * k + j], low, high) {
             return false;
         }
-        k += 1;
     }
     true
 }
@@ -271,13 +262,11 @@ fn fields_lie(codes: &[u64]) -> bool
     ensures { result ≡ every of_topic (λ j. every topic_count (λ k. in_limits (map number_of codes.now) (place k j))) }
 {
     let table = limits();
-    let mut j: usize = 0;
-    while j < OF_TOPIC {
+    for j in 0..OF_TOPIC {
         let l = table[GENERAL + j];
         if !field_lies(codes, j, l.low, l.high) {
             return false;
         }
-        j += 1;
     }
     true
 }

@@ -1,10 +1,9 @@
 -- Laws of the searches: where they end.
 -- Assumes nothing.
+use Rattle.std.proofs.Common.{Option, Some, None}
 use Rattle.index.proofs.Kit.{ℕ, ◌<◌, ◌≤◌, ◌≡◌, refl, ap, ◌∙◌, true, false, arith, first, by_test}
 use borrow.Author.Tests.{eqb-true, eqb-false, eq-eqb}
 use lib.Dec.{eqb}
-use Rattle.index.specs.declared.Found.{Found}
-use Rattle.index.specs.declared.Found.TheVariants.{At, Nothing}
 use Rattle.index.proofs.Index.{both, first_is, first_passed}
 use Rattle.records.specs.Records.{State, peer_in, is_empty, slot_count}
 use Rattle.lookup.specs.Find.{holds, find_connected, find_retained, lowest_empty}
@@ -20,22 +19,22 @@ module _ (st : State) where
       (eqb-true (peer_in st s).status status q.0, eqb-true (peer_in st s).id id q.1)
 
   found_at :
-      (status id s : ℕ) → first slot_count (holds st status id) ≡ At s →
+      (status id s : ℕ) → first slot_count (holds st status id) ≡ Some s →
       (s < slot_count) × ((peer_in st s).status ≡ status) × ((peer_in st s).id ≡ id)
   found_at status id s e =
       let q = first_is (holds st status id) slot_count s e in
       let r = holds_parts status id s q.1 in
       (q.0, r.0, r.1)
 
-  pub connected_at : (id s : ℕ) → find_connected st id ≡ At s → (s < slot_count) × ((peer_in st s).status ≡ 1) × ((peer_in st s).id ≡ id)
+  pub connected_at : (id s : ℕ) → find_connected st id ≡ Some s → (s < slot_count) × ((peer_in st s).status ≡ 1) × ((peer_in st s).id ≡ id)
   unfolding find_connected
   connected_at id s e = found_at 1 id s e
 
-  pub retained_at : (id s : ℕ) → find_retained st id ≡ At s → (s < slot_count) × ((peer_in st s).status ≡ 2) × ((peer_in st s).id ≡ id)
+  pub retained_at : (id s : ℕ) → find_retained st id ≡ Some s → (s < slot_count) × ((peer_in st s).status ≡ 2) × ((peer_in st s).id ≡ id)
   unfolding find_retained
   retained_at id s e = found_at 2 id s e
 
-  pub empty_at : (s : ℕ) → lowest_empty st ≡ At s → (s < slot_count) × ((peer_in st s).status ≡ 0)
+  pub empty_at : (s : ℕ) → lowest_empty st ≡ Some s → (s < slot_count) × ((peer_in st s).status ≡ 0)
   unfolding lowest_empty
   empty_at s e =
       let q = first_is (λ k. is_empty (peer_in st k)) slot_count s e in
@@ -43,7 +42,7 @@ module _ (st : State) where
 
   -- what holds of every slot where nothing was found
   none_holds :
-      (status id : ℕ) → first slot_count (holds st status id) ≡ Nothing → (s : ℕ) → s < slot_count → (peer_in st s).status ≡ status →
+      (status id : ℕ) → first slot_count (holds st status id) ≡ None → (s : ℕ) → s < slot_count → (peer_in st s).status ≡ status →
       (peer_in st s).id ≡ id → ⊥
   unfolding holds
   none_holds status id e s h p q =
@@ -53,30 +52,30 @@ module _ (st : State) where
       omega arith
 
   pub none_connected :
-      (id : ℕ) → find_connected st id ≡ Nothing → (s : ℕ) → s < slot_count → (peer_in st s).status ≡ 1 → (peer_in st s).id ≡ id → ⊥
+      (id : ℕ) → find_connected st id ≡ None → (s : ℕ) → s < slot_count → (peer_in st s).status ≡ 1 → (peer_in st s).id ≡ id → ⊥
   unfolding find_connected
   none_connected id e = none_holds 1 id e
 
-  pub none_retained : (id : ℕ) → find_retained st id ≡ Nothing → (s : ℕ) → s < slot_count → (peer_in st s).status ≡ 2 → (peer_in st s).id ≡ id → ⊥
+  pub none_retained : (id : ℕ) → find_retained st id ≡ None → (s : ℕ) → s < slot_count → (peer_in st s).status ≡ 2 → (peer_in st s).id ≡ id → ⊥
   unfolding find_retained
   none_retained id e = none_holds 2 id e
 
-  pub none_empty : lowest_empty st ≡ Nothing → (s : ℕ) → s < slot_count → (peer_in st s).status ≡ 0 → ⊥
+  pub none_empty : lowest_empty st ≡ None → (s : ℕ) → s < slot_count → (peer_in st s).status ≡ 0 → ⊥
   unfolding lowest_empty
   none_empty e s h = eqb-false (peer_in st s).status 0 (first_passed (λ k. is_empty (peer_in st k)) slot_count e s h)
 
 -- in a router's tables the search for a connected record's id finds its slot
-pub connected_is : (st : State) → Facts st → (s : ℕ) → s < slot_count → (peer_in st s).status ≡ 1 → find_connected st (peer_in st s).id ≡ At s
+pub connected_is : (st : State) → Facts st → (s : ℕ) → s < slot_count → (peer_in st s).status ≡ 1 → find_connected st (peer_in st s).id ≡ Some s
 connected_is st f s h c = go (find_connected st (peer_in st s).id) refl
   where
     used : 1 ≤ (peer_in st s).id
     used = (f.peer s h).used (λ z. omega arith)
 
-    same : (k : ℕ) → find_connected st (peer_in st s).id ≡ At k → k ≡ s
+    same : (k : ℕ) → find_connected st (peer_in st s).id ≡ Some k → k ≡ s
     same k e =
         let q = connected_at st (peer_in st s).id k e in
         by_test (k ≡ s) (eqb k s) (eqb-true k s) (λ n. absurd (omega (arith, used, ids_apart st f s k h q.0 (eqb-false k s n) q.2)))
 
-    go : (g : Found) → find_connected st (peer_in st s).id ≡ g → find_connected st (peer_in st s).id ≡ At s
-    go (At k) e = e ∙ ap At (same k e)
-    go Nothing e = absurd (none_connected st (peer_in st s).id e s h c refl)
+    go : (g : Option ℕ) → find_connected st (peer_in st s).id ≡ g → find_connected st (peer_in st s).id ≡ Some s
+    go (Some k) e = e ∙ ap Some (same k e)
+    go None e = absurd (none_connected st (peer_in st s).id e s h c refl)

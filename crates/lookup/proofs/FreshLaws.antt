@@ -1,10 +1,11 @@
 -- Laws of a fresh router: its codes, the ends of `fresh`, and that it is a router's.
 -- Assumes nothing.
+use Rattle.std.proofs.Common.{Option, Some, None, Ok, Err}
+use Rattle.std.proofs.Common.{tt}
+use Rattle.lookup.specs.declared.FreshError.TheVariants.{Broken}
 use Rattle.index.proofs.Kit.{ℕ, ◌<◌, ◌≤◌, ◌≡◌, refl, ap, ◌∙◌, true, arith, by_order}
 use mathlib.Core.List.{List, map}
 use lib.ListN.{length, get_or, replicate, length-map, length-replicate, get_or-replicate, get_or-eq_default}
-use Rattle.index.specs.declared.Found.{Found}
-use Rattle.index.specs.declared.Found.TheVariants.{At, Nothing}
 use Rattle.varint.specs.Codes.{code_of}
 use Rattle.params.specs.declared.Params.{Params}
 use Rattle.params.specs.Editions.{edition_number}
@@ -12,7 +13,6 @@ use Rattle.params.specs.Check.{first_broken}
 use Rattle.params.proofs.CheckLaws.{accepted_back, codes_pass}
 use Rattle.records.specs.Records.{State, place, no_peer, no_topic, joined_in, peer_in, topic_in, slot_count, topic_count, param_count}
 use Rattle.layout.specs.View.{place_count, zero_state, set_codes, set_setup, state_of, CodesFit}
-use Rattle.lookup.specs.declared.Made.TheVariants.{Done, Broken}
 use Rattle.lookup.specs.Fresh.{setup_of, fresh_state, Makes}
 use Rattle.validity.specs.Valid.{valid}
 use Rattle.validity.proofs.SignLaws.{codes_fit}
@@ -37,7 +37,7 @@ pub fresh_fit :
     (p : Params) (codes : List ℕ) →
     codes ≡ map code_of p.numbers →
     length p.numbers ≡ param_count →
-    first_broken p ≡ Nothing →
+    first_broken p ≡ None →
     CodesFit codes
 fresh_fit p codes q l e =
     let z : length (map code_of p.numbers) ≡ param_count = length-map p.numbers code_of ∙ l in
@@ -45,11 +45,11 @@ fresh_fit p codes q l e =
     rw q (codes_fit (map code_of p.numbers) z w)
 
 -- ---- the ends of `fresh`
-module _ (p : Params) (table : List ℕ) (f : Found) (e : f ≡ first_broken p) where
-  pub fresh_broken : (i : ℕ) → f ≡ At i → Makes p (Broken i) table table
+module _ (p : Params) (table : List ℕ) (f : Option ℕ) (e : f ≡ first_broken p) where
+  pub fresh_broken : (i : ℕ) → f ≡ Some i → Makes p (Err (Broken i)) table table
   fresh_broken i t = record { answer = rw (← e, t); state = rw (← e, t); kept = λ j q. refl }
 
-  pub fresh_made : (table' : List ℕ) → f ≡ Nothing → state_of table' ≡ fresh_state p → Makes p Done table table'
+  pub fresh_made : (table' : List ℕ) → f ≡ None → state_of table' ≡ fresh_state p → Makes p (Ok tt) table table'
   fresh_made table' t s =
       record { answer = rw (← e, t); state = rw (← e, t) s; kept = λ j q. let z : ◌≡◌ {A = ℕ} 0 1 = cc in absurd (omega arith) }
 
@@ -69,7 +69,7 @@ module _ (p : Params) where
   unfolding topic_in fresh_state
   fresh_topic s t h l = get_or-replicate place_count (place s t) no_topic no_topic (omega arith)
 
-  fresh_facts : length p.numbers ≡ param_count → first_broken p ≡ Nothing → Facts (fresh_state p)
+  fresh_facts : length p.numbers ≡ param_count → first_broken p ≡ None → Facts (fresh_state p)
   unfolding fresh_state
   fresh_facts l e =
       record {
@@ -82,5 +82,5 @@ module _ (p : Params) where
       }
 
   -- the fresh state of parameters that pass the check is a router's
-  pub fresh_valid : length p.numbers ≡ param_count → first_broken p ≡ Nothing → valid (fresh_state p) ≡ true
+  pub fresh_valid : length p.numbers ≡ param_count → first_broken p ≡ None → valid (fresh_state p) ≡ true
   fresh_valid l e = facts_valid (fresh_state p) (fresh_facts l e)

@@ -1,5 +1,6 @@
 -- Laws of protocol names: the ends of the comparison, that it is one of lists, and the three names.
 -- Assumes nothing.
+use Rattle.std.proofs.Common.{Some, None}
 use Rattle.index.proofs.Kit.{ℕ, ◌<◌, ◌≤◌, ◌≡◌, refl, sym, arith, Bool, true, false, every, every_done, every_fails}
 use mathlib.Core.Bool.{cond, and-false}
 use mathlib.Core.List.{List}
@@ -8,7 +9,6 @@ use lib.Seq.{ext_get_or}
 use lib.Dec.{eqb}
 use borrow.Author.Tests.{eq-eqb, ne_eqb, eqb-true}
 use Rattle.index.proofs.Index.{both, every_at, every_by}
-use Rattle.lookup.specs.declared.Named.TheVariants.{Version, Unknown}
 use Rattle.lookup.specs.Name.{meshsub, same_at, same_bytes, version_of}
 
 module _ (a b : List ℕ) where
@@ -42,32 +42,32 @@ same_self a = rw (eq-eqb (length a) (length a) refl, every_by (same_at a a) (len
 
 -- the ends of the choice
 module _ (name : List ℕ) where
-  pub first_name : same_bytes name (meshsub 48) ≡ true → Version 0 ≡ version_of name
+  pub first_name : same_bytes name (meshsub 48) ≡ true → Some 0 ≡ version_of name
   unfolding version_of
   first_name e = rw e
 
-  pub second_name : same_bytes name (meshsub 48) ≡ false → same_bytes name (meshsub 49) ≡ true → Version 1 ≡ version_of name
+  pub second_name : same_bytes name (meshsub 48) ≡ false → same_bytes name (meshsub 49) ≡ true → Some 1 ≡ version_of name
   unfolding version_of
   second_name e f = rw (e, f)
 
   pub third_name :
       same_bytes name (meshsub 48) ≡ false → same_bytes name (meshsub 49) ≡ false → same_bytes name (meshsub 50) ≡ true →
-      Version 2 ≡ version_of name
+      Some 2 ≡ version_of name
   unfolding version_of
   third_name e f g = rw (e, f, g)
 
   pub no_name :
       same_bytes name (meshsub 48) ≡ false → same_bytes name (meshsub 49) ≡ false → same_bytes name (meshsub 50) ≡ false →
-      Unknown ≡ version_of name
+      None ≡ version_of name
   unfolding version_of
   no_name e f g = rw (e, f, g)
 
   -- a version is 0, 1 or 2
-  pub version_small : (v : ℕ) → version_of name ≡ Version v → v ≤ 2
+  pub version_small : (v : ℕ) → version_of name ≡ Some v → v ≤ 2
   unfolding version_of
   version_small v e = go (same_bytes name (meshsub 48)) (same_bytes name (meshsub 49)) (same_bytes name (meshsub 50)) e
     where
-      go : (p q r : Bool) → cond p (Version 0) (cond q (Version 1) (cond r (Version 2) Unknown)) ≡ Version v → v ≤ 2
+      go : (p q r : Bool) → cond p (Some 0) (cond q (Some 1) (cond r (Some 2) None)) ≡ Some v → v ≤ 2
       go true q r e = let z : 0 ≡ v = cc in omega arith
       go false true r e = let z : 1 ≡ v = cc in omega arith
       go false false true e = let z : 2 ≡ v = cc in omega arith

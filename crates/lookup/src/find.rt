@@ -5,7 +5,6 @@ ghost use Rattle.records.specs.Records.{peer_in, is_empty, slot_count};
 ghost use Rattle.layout.specs.View.{state_of, cell_count};
 ghost use Rattle.lookup.specs.Find.{holds, find_connected, find_retained, lowest_empty};
 
-use index::Found;
 use records::SLOTS;
 
 // Whether the record in a slot has this status and holds the id.
@@ -18,22 +17,20 @@ fn holds(table: &[u64], status: u64, id: u64, slot: usize) -> bool
     (own == status) & (held == id)
 }
 
-fn find(table: &[u64], status: u64, id: u64) -> Found
+fn find(table: &[u64], status: u64, id: u64) -> Option<usize>
     requires { length table.now ≡ cell_count }
     ensures { result ≡ first slot_count (holds (state_of table.now) status id) }
 {
-    let mut slot: usize = 0;
-    while slot < SLOTS {
+    for slot in 0..SLOTS {
         if holds(table, status, id, slot) {
-            return Found::At(slot);
+            return Some(slot);
         }
-        slot += 1;
     }
-    Found::Nothing
+    None
 }
 
 // The slot of the connected record that holds the id.
-pub fn find_connected(table: &[u64], id: u64) -> Found
+pub fn find_connected(table: &[u64], id: u64) -> Option<usize>
     requires { length table.now ≡ cell_count }
     ensures { result ≡ find_connected (state_of table.now) id }
 {
@@ -41,7 +38,7 @@ pub fn find_connected(table: &[u64], id: u64) -> Found
 }
 
 // The slot of the retained record that holds the id.
-pub fn find_retained(table: &[u64], id: u64) -> Found
+pub fn find_retained(table: &[u64], id: u64) -> Option<usize>
     requires { length table.now ≡ cell_count }
     ensures { result ≡ find_retained (state_of table.now) id }
 {
@@ -56,17 +53,17 @@ fn is_empty(table: &[u64], slot: usize) -> bool
 }
 
 // The lowest empty slot.
-pub fn lowest_empty(table: &[u64]) -> Found
+pub fn lowest_empty(table: &[u64]) -> Option<usize>
     requires { length table.now ≡ cell_count }
     ensures { result ≡ lowest_empty (state_of table.now) }
 {
     let mut lowest: usize = 0;
     loop {
         if SLOTS <= lowest {
-            break Found::Nothing;
+            break None;
         }
         if is_empty(table, lowest) {
-            break Found::At(lowest);
+            break Some(lowest);
         }
         lowest += 1;
     }

@@ -2,8 +2,6 @@
 ghost use Rattle.std.specs.Prelude.{◌≡◌};
 ghost use Rattle.lookup.specs.Name.{same_bytes, meshsub, version_of};
 
-use crate::Named;
-
 // Whether two lists of bytes are the same.
 fn same_bytes(a: &[u8], b: &[u8]) -> bool
     ensures { result ≡ same_bytes a.now b.now }
@@ -11,12 +9,10 @@ fn same_bytes(a: &[u8], b: &[u8]) -> bool
     if a.len() != b.len() {
         return false;
     }
-    let mut k: usize = 0;
-    while k < a.len() {
+    for k in 0..a.len() {
         if a[k] != b[k] {
             return false;
         }
-        k += 1;
     }
     true
 }
@@ -40,17 +36,17 @@ fn is_third(name: &[u8]) -> bool
 }
 
 // The version that a protocol name stands for.
-pub fn version_of(name: &[u8]) -> Named
+pub fn version_of(name: &[u8]) -> Option<u64>
     ensures { result ≡ version_of name.now }
 {
     if is_first(name) {
-        return Named::Version(0);
+        return Some(0);
     }
     if is_second(name) {
-        return Named::Version(1);
+        return Some(1);
     }
     if is_third(name) {
-        return Named::Version(2);
+        return Some(2);
     }
-    Named::Unknown
+    None
 }

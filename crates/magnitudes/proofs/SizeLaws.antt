@@ -1,6 +1,7 @@
 -- The check of the parameters by their magnitudes: a magnitude between those of its field's limits, with its field's sign, is a number
 -- between the limits; and the joint rules compare numbers of one sign.
 -- Assumes nothing.
+use Rattle.std.proofs.Common.{Option, Some}
 use Prim.Native.Nat.{ℕ, zero, suc, ◌+◌, ◌*◌, ◌-◌, ◌≤◌, ◌<◌}
 use mathlib.Core.Path.{◌≡◌, refl, sym, ap, ◌∙◌}
 use mathlib.Core.Bool.{Bool, true, false, cond, ◌&&◌}
@@ -27,8 +28,6 @@ use Rattle.params.specs.declared.Edition.{Edition}
 use Rattle.params.specs.declared.Edition.TheVariants.{First, Second}
 use Rattle.params.specs.Joint.{rule_count, cap_rule, score_rule, rule}
 use Rattle.params.specs.Editions.{edition_of, coded}
-use Rattle.params.specs.declared.Numbered.{Numbered}
-use Rattle.params.specs.declared.Numbered.TheVariants.{Known}
 use Rattle.params.specs.Check.{accepted_by, accepted_codes}
 use Rattle.params.proofs.CheckLaws.{accepted_is, edition_known}
 use Rattle.params.proofs.CodeRules.{le_lo, le_hi, lt_lo, twice_out, sum_out, le_score, score_is, le_gossip, lt_publish, cap_of, caps_are}
@@ -273,9 +272,9 @@ unfolding code_in
 size_of st i m e = e
 
 pub accepted_in_lem :
-    (n : ℕ) (codes : List ℕ) (m : Numbered) (e : Edition) →
+    (n : ℕ) (codes : List ℕ) (m : Option Edition) (e : Edition) →
     m ≡ edition_of n →
-    m ≡ Known e →
+    m ≡ Some e →
     accepted_by e codes ≡ true →
     accepted_codes n codes ≡ true
 accepted_in_lem n codes m e q t a = sym (edition_known n codes m q e true t (sym a))

@@ -13,7 +13,7 @@ ghost use Rattle.layout.specs.View.{state_of, cell_count};
 ghost use Rattle.magnitudes.specs.Sizes.{least, most, Degrees, Thresholds};
 
 use limits::{FIELDS, GENERAL, OF_TOPIC};
-use params::{Edition, Numbered};
+use params::Edition;
 use records::TOPICS;
 use records::param::{
     D, D_HI, D_LO, D_OUT, D_SCORE, GOSSIP_THRESHOLD, GRAYLIST_THRESHOLD, P3_CAP, P3_THRESHOLD,
@@ -58,12 +58,10 @@ fn generals_lie(table: &[u64], low: &[u64; FIELDS], high: &[u64; FIELDS]) -> boo
     requires { (length table.now ≡ cell_count) × ((low.now ≡ least) × (high.now ≡ most)) }
     ensures { result ≡ true → every general_count (in_limits (map number_of (state_of table.now).codes)) ≡ true }
 {
-    let mut i: usize = 0;
-    while i < GENERAL {
+    for i in 0..GENERAL {
         if !lies(table, i, low[i], high[i]) {
             return false;
         }
-        i += 1;
     }
     true
 }
@@ -75,12 +73,10 @@ fn field_lies(table: &[u64], j: usize, low: u64, high: u64) -> bool
     ensures { result ≡ true
         → every topic_count (λ k. in_limits (map number_of (state_of table.now).codes) (place k j)) ≡ true }
 {
-    let mut t: usize = 0;
-    while t < TOPICS {
+    for t in 0..TOPICS {
         if !lies(table, GENERAL + OF_TOPIC * t + j, low, high) {
             return false;
         }
-        t += 1;
     }
     true
 }
@@ -90,12 +86,10 @@ fn fields_lie(table: &[u64], low: &[u64; FIELDS], high: &[u64; FIELDS]) -> bool
     ensures { result ≡ true
         → every of_topic (λ j. every topic_count (λ k. in_limits (map number_of (state_of table.now).codes) (place k j))) ≡ true }
 {
-    let mut j: usize = 0;
-    while j < OF_TOPIC {
+    for j in 0..OF_TOPIC {
         if !field_lies(table, j, low[GENERAL + j], high[GENERAL + j]) {
             return false;
         }
-        j += 1;
     }
     true
 }
@@ -169,12 +163,10 @@ fn caps_hold(table: &[u64]) -> bool
         × (every param_count (in_limits (map number_of (state_of table.now).codes)) ≡ true) }
     ensures { result ≡ true → every topic_count (cap_rule (map number_of (state_of table.now).codes)) ≡ true }
 {
-    let mut t: usize = 0;
-    while t < TOPICS {
+    for t in 0..TOPICS {
         if !cap_holds(table, t) {
             return false;
         }
-        t += 1;
     }
     true
 }
@@ -216,7 +208,7 @@ pub fn accepted(table: &[u64]) -> bool
 {
     let setup = layout::load_setup(table);
     match params::edition_of(setup.edition) {
-        Numbered::Known(e) => accepted_by(table, e),
-        Numbered::Unknown => false,
+        Some(e) => accepted_by(table, e),
+        None => false,
     }
 }

@@ -1,6 +1,7 @@
 -- A search by halves finds what a search from the front finds: rows below `low` come before what is looked for, rows from `high` on after
 -- it, and no id or number stands in two rows.
 -- Assumes nothing.
+use Rattle.std.proofs.Common.{Some, None}
 use Rattle.index.proofs.Kit.{ℕ, ◌+◌, ◌-◌, ◌<◌, ◌≤◌, ◌≡◌, refl, sym, ap, ◌∙◌, Bool, true, false, arith, first_hit, by_order, by_test}
 use Rattle.index.specs.Index.{every, first}
 use Prim.Native.Nat.{zero, suc, ◌/◌}
@@ -8,7 +9,6 @@ use mathlib.Core.List.{List}
 use borrow.Author.Tests.{eq-eqb, ne_eqb, eqb-true}
 use lib.Dec.{eqb}
 use lib.ListN.{length, get_or}
-use Rattle.index.specs.declared.Found.TheVariants.{At, Nothing}
 use Rattle.index.proofs.Index.{both, first_is}
 use Rattle.message_ids.specs.Ids.{id_size, id_start, same_at, is_id, row_of, number_row, code_of, row_code, number_by, numbers_ok}
 use Rattle.message_ids.specs.Ids.{Compared}
@@ -19,7 +19,7 @@ use Rattle.message_ids.proofs.CodeLaws.{digits_same}
 use Rattle.message_ids.proofs.RoomLaws.{Named, all_named}
 use Rattle.message_ids.proofs.TableLaws.{GoodIds, good_ids, ids_rise, GoodNumbers, good_numbers, row_low, numbers_rise}
 
-pub none_below : (f : ℕ → Bool) (k : ℕ) → ((j : ℕ) → j < k → f j ≡ false) → first k f ≡ Nothing
+pub none_below : (f : ℕ → Bool) (k : ℕ) → ((j : ℕ) → j < k → f j ≡ false) → first k f ≡ None
 unfolding first
 none_below f zero h = refl
 none_below f (suc k) h = rw (none_below f k (λ j l. h j (omega arith)), h k (omega arith))
@@ -84,7 +84,7 @@ module _ (ids s : List ℕ) (start size : ℕ) where
                 (λ m. let z : k ≡ mid = omega arith in rw z (c.after e));
           }
 
-      pub halved_found : r ≡ Same → At mid ≡ row_of ids rows s start size
+      pub halved_found : r ≡ Same → Some mid ≡ row_of ids rows s start size
       unfolding row_of is_id
       halved_found e =
           let o = w.high_low in
@@ -96,7 +96,7 @@ module _ (ids s : List ℕ) (start size : ℕ) where
           sym (first_hit (λ k. is_id ids k s start size) rows mid (omega arith)
           (none_below (λ k. is_id ids k s start size) mid free) t)
 
-    pub halved_all : (low high : ℕ) → Halved rows low high → high ≤ low → Nothing ≡ row_of ids rows s start size
+    pub halved_all : (low high : ℕ) → Halved rows low high → high ≤ low → None ≡ row_of ids rows s start size
     unfolding row_of
     halved_all low high w h =
         sym (none_below (λ k. is_id ids k s start size) rows
@@ -181,7 +181,7 @@ module _ (numbers order : List ℕ) (g : GoodNumbers numbers order) where
                 (λ m. let z : k ≡ mid = omega arith in rw z f);
           }
 
-      pub parted_found : number_by numbers order mid ≡ v → At (get_or order mid 0) ≡ number_row numbers v
+      pub parted_found : number_by numbers order mid ≡ v → Some (get_or order mid 0) ≡ number_row numbers v
       unfolding number_row
       parted_found e =
           let o = w.high_low in
@@ -192,7 +192,7 @@ module _ (numbers order : List ℕ) (g : GoodNumbers numbers order) where
           sym (first_hit (λ k. eqb (get_or numbers k 0) v) (length numbers) row l
           (none_below (λ k. eqb (get_or numbers k 0) v) row free) (eq-eqb (get_or numbers row 0) v e))
 
-    pub parted_all : (low high : ℕ) → Parted numbers order v low high → high ≤ low → Nothing ≡ number_row numbers v
+    pub parted_all : (low high : ℕ) → Parted numbers order v low high → high ≤ low → None ≡ number_row numbers v
     unfolding number_row
     parted_all low high w h =
         sym (none_below (λ k. eqb (get_or numbers k 0) v) (length numbers)
@@ -213,11 +213,11 @@ pub mid_low :
 mid_low numbers order v low high e w h = let o = w.high_low in row_low numbers order e (low + (high - low) / 2) (omega arith)
 
 -- a number's row is one of the table, and has it
-pub row_below : (numbers : List ℕ) (v k : ℕ) → number_row numbers v ≡ At k → k < length numbers
+pub row_below : (numbers : List ℕ) (v k : ℕ) → number_row numbers v ≡ Some k → k < length numbers
 unfolding number_row
 row_below numbers v k e = (first_is (λ i. eqb (get_or numbers i 0) v) (length numbers) k e).0
 
-pub row_number : (numbers : List ℕ) (v k : ℕ) → number_row numbers v ≡ At k → get_or numbers k 0 ≡ v
+pub row_number : (numbers : List ℕ) (v k : ℕ) → number_row numbers v ≡ Some k → get_or numbers k 0 ≡ v
 unfolding number_row
 row_number numbers v k e =
     eqb-true (get_or numbers k 0) v (first_is (λ i. eqb (get_or numbers i 0) v) (length numbers) k e).1

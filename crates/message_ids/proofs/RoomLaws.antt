@@ -1,13 +1,12 @@
 -- Where n different numbers below n are named, every number below n is: without a number v, they would be n different ones below n - 1.
 -- Assumes nothing.
+use Rattle.std.proofs.Common.{Option, Some, None}
 use Rattle.index.proofs.Kit.{ℕ, ◌-◌, ◌<◌, ◌≤◌, ◌≡◌, refl, arith, first, by_test, by_order}
 use Prim.Native.Nat.{zero, suc}
 use mathlib.Core.Bool.{cond}
 use borrow.Author.Tests.{ltb-true, ltb-false, eqb-true, eqb-false}
 use lib.Dec.{ltb, eqb}
 use Rattle.index.proofs.Index.{first_is, first_passed}
-use Rattle.index.specs.declared.Found.{Found}
-use Rattle.index.specs.declared.Found.TheVariants.{At, Nothing}
 
 -- v taken out: what is above it moves down by one
 abbrev without : ℕ → ℕ → ℕ
@@ -53,11 +52,11 @@ pub all_named : (n : ℕ) (f : ℕ → ℕ) → ((i : ℕ) → i < n → f i < n
 all_named zero f b d v h = absurd (omega arith)
 all_named (suc n) f b d v h = go (first (suc n) (λ i. eqb (f i) v)) refl
   where
-    go : (r : Found) → first (suc n) (λ i. eqb (f i) v) ≡ r → Named (suc n) f v
-    go (At i) e =
+    go : (r : Option ℕ) → first (suc n) (λ i. eqb (f i) v) ≡ r → Named (suc n) f v
+    go (Some i) e =
         let q = first_is (λ i. eqb (f i) v) (suc n) i e in
         record { at = i; low = q.0; is = eqb-true (f i) v q.1 }
-    go Nothing e =
+    go None e =
         let other : (i : ℕ) → i < suc n → f i ≡ v → ⊥ = λ i l. eqb-false (f i) v (first_passed (λ i. eqb (f i) v) (suc n) e i l) in
         let l = few (suc n) n (λ i. without v (f i))
         (λ i k. without_below v (f i) n (other i k) (b i k) h)

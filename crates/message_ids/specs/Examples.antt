@@ -1,6 +1,6 @@
 -- Worked examples of the table (02, order 6): the ids "b" and "aa" (the shorter first), with the numbers 9 and 0.
+use Rattle.std.specs.Prelude.{Some, None}
 use Rattle.std.specs.Prelude.{ℕ, ◌≡◌, true, false, List, [], ◌∷◌, ◌++◌, replicate}
-use Rattle.index.specs.declared.Found.TheVariants.{At, Nothing}
 use Rattle.message_ids.specs.Ids.{row_of, number_row, table_ok}
 
 abbrev pub some_ids : List ℕ
@@ -26,9 +26,9 @@ pub record Examples : Type 0 where
   pub bytes_65 : table_ok (65 ∷ replicate 64 1) (0 ∷ []) (0 ∷ []) ≡ false
   pub row_cut : table_ok (replicate 64 1) (0 ∷ []) (0 ∷ []) ≡ false
   -- ---- rows of ids and numbers; a part of an id, and an id with more bytes, are others
-  pub second : row_of some_ids 2 (0x61 ∷ 0x61 ∷ []) 0 2 ≡ At 1
-  pub prefix : row_of some_ids 2 (0x61 ∷ 0x61 ∷ []) 0 1 ≡ Nothing
-  pub longer : row_of some_ids 2 (0x61 ∷ 0x61 ∷ 0x00 ∷ []) 0 3 ≡ Nothing
-  pub none : row_of some_ids 2 (0x61 ∷ 0x61 ∷ []) 0 0 ≡ Nothing
-  pub nine : number_row some_numbers 9 ≡ At 0
-  pub one : number_row some_numbers 1 ≡ Nothing
+  pub second : row_of some_ids 2 (0x61 ∷ 0x61 ∷ []) 0 2 ≡ Some 1
+  pub prefix : row_of some_ids 2 (0x61 ∷ 0x61 ∷ []) 0 1 ≡ None
+  pub longer : row_of some_ids 2 (0x61 ∷ 0x61 ∷ 0x00 ∷ []) 0 3 ≡ None
+  pub none : row_of some_ids 2 (0x61 ∷ 0x61 ∷ []) 0 0 ≡ None
+  pub nine : number_row some_numbers 9 ≡ Some 0
+  pub one : number_row some_numbers 1 ≡ None

@@ -2,9 +2,9 @@
 -- id or number twice (else 2, after 8)". The table is lent sorted, so that it is tested by neighbours and searched by halves: row k has an
 -- id and a number; the ids rise from row to row, and a further list names the rows so that their numbers rise. A table in another order
 -- is 2 too.
+use Rattle.std.specs.Prelude.{Option}
 use Rattle.std.specs.Prelude.{ℕ, zero, suc, ◌+◌, ◌-◌, ◌*◌, ◌%◌, ◌<◌, ◌≡◌, Bool, true, ◌&&◌, ◌||◌, List, eqb, leb, ltb, length, get_or}
 use Rattle.index.specs.Index.{every, first}
-use Rattle.index.specs.declared.Found.{Found}
 use Rattle.message_ids.specs.declared.Order.{Order}
 use Rattle.message_ids.specs.declared.Order.TheVariants.{Before, Same, After}
 
@@ -30,10 +30,10 @@ unfoldable pub is_id : List ℕ → ℕ → List ℕ → ℕ → ℕ → Bool
 is_id ids k s start size = eqb (id_size ids k) size && every size (same_at ids (id_start k) s start)
 
 -- the row of an id, and the row of a number
-unfoldable pub row_of : List ℕ → ℕ → List ℕ → ℕ → ℕ → Found
+unfoldable pub row_of : List ℕ → ℕ → List ℕ → ℕ → ℕ → Option ℕ
 row_of ids rows s start size = first rows (λ k. is_id ids k s start size)
 
-unfoldable pub number_row : List ℕ → ℕ → Found
+unfoldable pub number_row : List ℕ → ℕ → Option ℕ
 number_row numbers v = first (length numbers) (λ k. eqb (get_or numbers k 0) v)
 
 -- ---- the order of ids: the shorter first; of one length by the first byte that differs. The length and the bytes, first to last, are read

@@ -7,8 +7,6 @@ ghost use Rattle.index.specs.Index.{every};
 ghost use Rattle.message_ids.specs.Ids.{row_bytes, id_size, id_start, row_of, number_row, id_ok, ids_ok, place_ok, numbers_ok, table_ok};
 ghost use Rattle.message_ids.specs.Ids.{Compared};
 
-use index::Found;
-
 pub const ID_BYTES: usize = 64;
 
 pub const ROW_BYTES: usize = 65;
@@ -38,8 +36,7 @@ fn compare(a: &[u8], i: usize, n: usize, b: &[u8], j: usize, m: usize) -> Order
     if m < n {
         return Order::After;
     }
-    let mut k: usize = 0;
-    while k < n {
+    for k in 0..n {
         let x = a[i + k];
         let y = b[j + k];
         if x < y {
@@ -48,7 +45,6 @@ fn compare(a: &[u8], i: usize, n: usize, b: &[u8], j: usize, m: usize) -> Order
         if y < x {
             return Order::After;
         }
-        k += 1;
     }
     Order::Same
 }
@@ -95,12 +91,10 @@ fn ids_ok(ids: &[u8], rows: usize) -> bool
     if ids.len() / ROW_BYTES != rows {
         return false;
     }
-    let mut k: usize = 0;
-    while k < rows {
+    for k in 0..rows {
         if !id_ok(ids, rows, k) {
             return false;
         }
-        k += 1;
     }
     true
 }
@@ -128,12 +122,10 @@ fn numbers_ok(numbers: &[u64], order: &[u64]) -> bool
     if order.len() != numbers.len() {
         return false;
     }
-    let mut k: usize = 0;
-    while k < numbers.len() {
+    for k in 0..numbers.len() {
         if !place_ok(numbers, order, k) {
             return false;
         }
-        k += 1;
     }
     true
 }
@@ -149,7 +141,7 @@ pub fn table_ok(ids: &[u8], numbers: &[u64], order: &[u64]) -> bool
 }
 
 // The row whose id stands in s, found by halves.
-pub fn row_of(ids: &[u8], rows: usize, s: &[u8], start: usize, size: usize) -> Found
+pub fn row_of(ids: &[u8], rows: usize, s: &[u8], start: usize, size: usize) -> Option<usize>
     requires { (ids_ok ids.now rows ≡ true) × (start + size ≤ length s.now) }
     ensures { result ≡ row_of ids.now rows s.now start size }
 {
@@ -159,7 +151,7 @@ pub fn row_of(ids: &[u8], rows: usize, s: &[u8], start: usize, size: usize) -> F
         let mid = low + (high - low) / 2;
         match compare_row(ids, rows, mid, s, start, size) {
             Order::Same => {
-                return Found::At(mid);
+                return Some(mid);
             }
             Order::Before => {
                 low = mid + 1;
@@ -169,11 +161,11 @@ pub fn row_of(ids: &[u8], rows: usize, s: &[u8], start: usize, size: usize) -> F
             }
         }
     }
-    Found::Nothing
+    None
 }
 
 // The row that has a number, found by halves.
-pub fn number_row(numbers: &[u64], order: &[u64], v: u64) -> Found
+pub fn number_row(numbers: &[u64], order: &[u64], v: u64) -> Option<usize>
     requires { numbers_ok numbers.now order.now ≡ true }
     ensures { result ≡ number_row numbers.now v }
 {
@@ -184,7 +176,7 @@ pub fn number_row(numbers: &[u64], order: &[u64], v: u64) -> Found
         let row = order[mid] as usize;
         let number = numbers[row];
         if number == v {
-            return Found::At(row);
+            return Some(row);
         }
         if number < v {
             low = mid + 1;
@@ -192,5 +184,5 @@ pub fn number_row(numbers: &[u64], order: &[u64], v: u64) -> Found
             high = mid;
         }
     }
-    Found::Nothing
+    None
 }

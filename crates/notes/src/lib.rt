@@ -120,10 +120,8 @@ fn ages_ok(ages: u64, n: usize) -> bool
     ensures { result ≡ every n (λ k. leb (digit ages k) last_age) }
 {
     let mut ok = true;
-    let mut k: usize = 0;
-    while k < n {
+    for k in 0..n {
         ok = ok & (digit(ages, k) <= 2);
-        k += 1;
     }
     ok
 }
@@ -133,10 +131,8 @@ fn has(cells: &[u64], at: usize, n: usize, number: u64) -> bool
     ensures { result ≡ has number (numbers_in cells.now at n) }
 {
     let mut found = false;
-    let mut k: usize = 0;
-    while k < n {
+    for k in 0..n {
         found = found | (cells[at + k] == number);
-        k += 1;
     }
     found
 }
@@ -160,16 +156,14 @@ fn age_row(cells: &mut [u64], at: usize, n: usize) -> usize
 {
     let ages = cells[at + SET_MOST];
     let mut left: u64 = 0;
-    let mut i: usize = 0;
     let mut m: usize = 0;
-    while i < n {
+    for i in 0..n {
         let age = digit(ages, i);
         if age < 2 {
             cells[at + m] = cells[at + i];
             left = with_top(left, m, age + 1);
             m += 1;
         }
-        i += 1;
     }
     cells[at + SET_MOST] = left;
     m
@@ -182,10 +176,8 @@ pub fn make(cells: &mut [u64])
     requires { length cells.old ≡ notes_cells }
     ensures { notes_of cells.new ≡ replicate slot_count no_note }
 {
-    let mut s: usize = 0;
-    while s < SLOTS {
+    for s in 0..SLOTS {
         cells[s] = 0;
-        s += 1;
     }
 }
 
@@ -195,10 +187,8 @@ pub fn is_quiet(cells: &[u64]) -> bool
     ensures { result ≡ true → (s : ℕ) → s < slot_count → note_at cells.now s ≡ no_note }
 {
     let mut acc: u64 = 0;
-    let mut s: usize = 0;
-    while s < SLOTS {
+    for s in 0..SLOTS {
         acc = acc | cells[s];
-        s += 1;
     }
     acc == 0
 }
@@ -208,12 +198,10 @@ pub fn beat(cells: &mut [u64])
     requires { AllFit cells.old }
     ensures { notes_of cells.new ≡ map beaten (notes_of cells.old) }
 {
-    let mut s: usize = 0;
-    while s < SLOTS {
+    for s in 0..SLOTS {
         if cells[s] != 0 {
             beat_slot(cells, s);
         }
-        s += 1;
     }
 }
 

@@ -21,7 +21,6 @@ use gossip_peers::senders::{is_heeded, sender_known};
 use gossip_peers::tell::{ASK, SEND, tell};
 use gossip_table::GOSSIP_CELLS;
 use gossip_table::noted::{has_room, holds, put};
-use index::Found;
 use layout::CELLS;
 use lookup::find::find_connected;
 use records::{ACTION_ROOM, SLOTS};
@@ -98,7 +97,7 @@ fn idontwant_from(table: &mut [u64], gossip: &mut [u64], time: u64, id: u64, num
         (idontwant_reply (extended_of table.old gossip.old) time number)) result
         table.old table.new gossip.old gossip.new }
 {
-    let Found::At(slot) = find_connected(table, id) else {
+    let Some(slot) = find_connected(table, id) else {
         return NOT_CONNECTED;
     };
     put_from(table, gossip, time, number, slot)

@@ -1,5 +1,6 @@
 -- The first 4,096 bytes decide what reading the parameters comes to, however many follow: no number that is read takes more than ten bytes.
 -- Assumes nothing.
+use Rattle.std.proofs.Common.{Option, Some, None}
 use Rattle.index.proofs.Kit.{ℕ, ◌+◌, ◌*◌, ◌<◌, ◌≤◌, ◌≡◌, refl, sym, ap, ◌∙◌, Bool, arith, by_order}
 use Prim.Native.Nat.{zero, suc, ◌/◌, ◌^◌}
 use mathlib.Core.Path.{ap₂}
@@ -12,8 +13,6 @@ use lib.ListN.{length, take, get_or, length-take}
 use lib.Seq.{get_or-take}
 use Rattle.varint.specs.Groups.{read_at, after_more}
 use Rattle.varint.specs.Codes.{number_of}
-use Rattle.varint.specs.declared.Read.{Read}
-use Rattle.varint.specs.declared.Read.TheVariants.{Number, Bad}
 use Rattle.varint.proofs.GroupLaws.{read_at_end, after_small}
 use Rattle.params.specs.declared.Edition.{Edition}
 use Rattle.records.specs.Records.{param_count}
@@ -59,13 +58,13 @@ module _ (s : List ℕ) (m : ℕ) where
       (omega arith)
       (λ i b.
       ap
-      (λ (q : Read). after_more top (get_or s at 0) q)
+      (λ (q : Option (ℕ × ℕ)). after_more top (get_or s at 0) q)
       (near k (top / 128) (at + 1) (omega (arith, pow-suc 128 (suc k))) (omega arith)))
 
 -- ---- n numbers
-step_same : (f g : ℕ → Parse) (at : ℕ) (r : Read) → ((u next : ℕ) → r ≡ Number u next → f next ≡ g next) → step f at r ≡ step g at r
-step_same f g at Bad h = refl
-step_same f g at (Number u next) h = ap (λ (p : Parse). then (number_of u ∷ []) p) (h u next refl)
+step_same : (f g : ℕ → Parse) (at : ℕ) (r : Option (ℕ × ℕ)) → ((u next : ℕ) → r ≡ Some (u, next) → f next ≡ g next) → step f at r ≡ step g at r
+step_same f g at None h = refl
+step_same f g at (Some (u, next)) h = ap (λ (p : Parse). then (number_of u ∷ []) p) (h u next refl)
 
 parse_near : (s : List ℕ) (m n at : ℕ) → at + 10 * n ≤ m → parse_from n (take m s) at ≡ parse_from n s at
 unfolding parse_from

@@ -34,10 +34,8 @@ pub fn put_numbers(buf: &mut [u8], at: usize, numbers: [i64; NUMBERS]) -> usize
     ensures { Stored buf.old at (numbers_text numbers) result buf.new × (result ≤ at + 3234) }
 {
     let mut next = at;
-    let mut i: usize = 0;
-    while i < NUMBERS {
+    for i in 0..NUMBERS {
         next = put_line(buf, next, numbers[i]);
-        i += 1;
     }
     next
 }

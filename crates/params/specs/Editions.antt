@@ -1,10 +1,9 @@
 -- The editions of the parameters: 1 is 01's sheet, 2 comes with 02, order 14. A router's tables and a host say an edition by its number.
+use Rattle.std.specs.Prelude.{Option, Some, None}
 use Rattle.std.specs.Prelude.{ℕ, cond, List, map, eqb, ℤ}
 use Rattle.varint.specs.Codes.{number_of}
 use Rattle.params.specs.declared.Edition.{Edition}
 use Rattle.params.specs.declared.Edition.TheVariants.{First, Second}
-use Rattle.params.specs.declared.Numbered.{Numbered}
-use Rattle.params.specs.declared.Numbered.TheVariants.{Known, Unknown}
 use Rattle.params.specs.declared.Params.{Params}
 
 abbrev pub edition_number : Edition → ℕ
@@ -12,8 +11,8 @@ edition_number First = 1
 edition_number Second = 2
 
 -- the edition of a number, if it is one's
-unfoldable pub edition_of : ℕ → Numbered
-edition_of n = cond (eqb n 1) (Known First) (cond (eqb n 2) (Known Second) Unknown)
+unfoldable pub edition_of : ℕ → Option Edition
+edition_of n = cond (eqb n 1) (Some First) (cond (eqb n 2) (Some Second) None)
 
 -- the parameters of an edition by their numbers, and by the codes of these
 abbrev pub sheet : Edition → List ℤ → Params

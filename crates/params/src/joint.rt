@@ -9,7 +9,6 @@ ghost use Rattle.params.specs.Joint.{rule_count, cap_rule, score_rule, rule};
 ghost use Rattle.params.specs.Check.{broken};
 
 use crate::Edition;
-use index::Found;
 use limits::{GENERAL, OF_TOPIC};
 use records::TOPICS;
 use records::param::{
@@ -26,12 +25,10 @@ fn caps(codes: &[u64]) -> bool
     ensures { result ≡ every topic_count (cap_rule (map number_of codes.now)) }
 {
     let mut ok = true;
-    let mut k: usize = 0;
-    while k < TOPICS {
+    for k in 0..TOPICS {
         let at = GENERAL + OF_TOPIC * k;
         let b = codes[at + P3_THRESHOLD] <= codes[at + P3_CAP];
         ok = ok & b;
-        k += 1;
     }
     ok
 }
@@ -75,16 +72,14 @@ fn keeps(edition: Edition, codes: &[u64], k: usize) -> bool
 }
 
 // The first joint rule that is broken.
-pub fn first_rule(edition: Edition, codes: &[u64]) -> Found
+pub fn first_rule(edition: Edition, codes: &[u64]) -> Option<usize>
     requires { (length codes.now ≡ param_count) × (every param_count (in_limits (map number_of codes.now)) ≡ true) }
     ensures { result ≡ first rule_count (broken (map number_of codes.now) edition) }
 {
-    let mut k: usize = 0;
-    while k < RULES {
+    for k in 0..RULES {
         if !keeps(edition, codes, k) {
-            return Found::At(k);
+            return Some(k);
         }
-        k += 1;
     }
-    Found::Nothing
+    None
 }

@@ -11,7 +11,6 @@ ghost use Rattle.params.specs.Editions.{edition_number, edition_of, coded};
 ghost use Rattle.params.specs.Check.{first_broken, accepted_by, accepted_codes};
 ghost use Rattle.params.specs.Ordinary.{ordinary_params};
 
-use index::Found;
 use limits::NUMBERS;
 
 // The number of the first joint rule among the places of 9.
@@ -22,13 +21,6 @@ const FIRST_RULE: usize = 200;
 pub enum Edition {
     First,
     Second,
-}
-
-// The edition of a number, if it is one's.
-#[derive(Clone, Copy)]
-pub enum Numbered {
-    Known(Edition),
-    Unknown,
 }
 
 // The parameters, in 01's order: 19 general numbers, then 16 for each of the 8 topics.
@@ -48,26 +40,26 @@ pub fn edition_number(edition: Edition) -> u64
     }
 }
 
-pub fn edition_of(n: u64) -> Numbered
+pub fn edition_of(n: u64) -> Option<Edition>
     ensures { result ≡ edition_of n }
 {
     match n {
-        1 => Numbered::Known(Edition::First),
-        2 => Numbered::Known(Edition::Second),
-        _ => Numbered::Unknown,
+        1 => Some(Edition::First),
+        2 => Some(Edition::Second),
+        _ => None,
     }
 }
 
 // The first number that is not between its limits; if there is none, 200 and the first joint rule that is broken.
-fn first_broken_code(edition: Edition, codes: &[u64]) -> Found
+fn first_broken_code(edition: Edition, codes: &[u64]) -> Option<usize>
     requires { length codes.now ≡ param_count }
     ensures { result ≡ first_broken (coded edition codes.now) }
 {
     match limits::first_outside(codes) {
-        Found::At(i) => Found::At(i),
-        Found::Nothing => match joint::first_rule(edition, codes) {
-            Found::At(k) => Found::At(FIRST_RULE + k),
-            Found::Nothing => Found::Nothing,
+        Some(i) => Some(i),
+        None => match joint::first_rule(edition, codes) {
+            Some(k) => Some(FIRST_RULE + k),
+            None => None,
         },
     }
 }
@@ -83,8 +75,8 @@ fn accepts(edition: Edition, codes: &[u64]) -> bool
         return false;
     }
     match joint::first_rule(edition, codes) {
-        Found::At(k) => false,
-        Found::Nothing => true,
+        Some(k) => false,
+        None => true,
     }
 }
 
@@ -93,8 +85,8 @@ pub fn accepts_codes(edition: u64, codes: &[u64]) -> bool
     ensures { result ≡ accepted_codes edition codes.now }
 {
     match edition_of(edition) {
-        Numbered::Known(e) => accepts(e, codes),
-        Numbered::Unknown => false,
+        Some(e) => accepts(e, codes),
+        None => false,
     }
 }
 
@@ -121,7 +113,7 @@ impl Params {
     }
 
     // The first number that is not between its limits; if there is none, 200 and the first joint rule that is broken.
-    pub fn first_broken(self) -> Found
+    pub fn first_broken(self) -> Option<usize>
         ensures { result ≡ first_broken self }
     {
         let mut codes = [0u64; NUMBERS];

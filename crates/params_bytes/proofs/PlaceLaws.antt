@@ -1,6 +1,7 @@
 -- How far reading and writing the parameters can go: no number that is read takes more than ten bytes, none that is written more than five,
 -- and so the value that goes with an answer (a length, a place, an index) is small.
 -- Assumes nothing.
+use Rattle.std.proofs.Common.{Option, Some, None}
 use Prim.Native.Nat.{ℕ, zero, suc, ◌+◌, ◌-◌, ◌*◌, ◌/◌, ◌^◌, ◌<◌, ◌≤◌}
 use mathlib.Core.Path.{◌≡◌, refl, sym, ◌∙◌}
 use mathlib.Core.List.{List, [], ◌∷◌}
@@ -9,13 +10,9 @@ use native.Mathlib.Nat.{pow-suc}
 use lib.Dec.{ltb, leb, eqb}
 use lib.ListN.{length, get_or}
 use lib.IntN.{ℤ}
-use Rattle.index.specs.declared.Found.{Found}
-use Rattle.index.specs.declared.Found.TheVariants.{At, Nothing}
 use Rattle.index.proofs.Flags.{by_test, by_order, cond_case}
 use Rattle.varint.specs.Groups.{read_at, after_more, last_group}
 use Rattle.varint.specs.Codes.{number_of}
-use Rattle.varint.specs.declared.Read.{Read}
-use Rattle.varint.specs.declared.Read.TheVariants.{Number, Bad}
 use Rattle.varint.proofs.GroupLaws.{read_at_end, last_is, more_is, after_small}
 use Rattle.params.specs.declared.Edition.{Edition}
 use Rattle.params.specs.declared.Params.{Params}
@@ -31,7 +28,7 @@ use Rattle.params_bytes.proofs.WriteLaws.{room_is, front_short}
 use Rattle.params_bytes.proofs.RoundTrip.{form_most}
 
 -- nothing is both
-no : {P : Type 0} (u next : ℕ) → Bad ≡ Number u next → P
+no : {P : Type 0} (u next : ℕ) → None ≡ Some (u, next) → P
 no u next e = let z : ◌≡◌ {A = ℕ} 0 1 = cc in absurd (omega arith)
 
 -- the three ways in which a number begins
@@ -51,42 +48,42 @@ module _ (s : List ℕ) (top at : ℕ) (i : at < length s) where
 
   pub read_more : 128 ≤ get_or s at 0 → read_at top s at ≡ after_more top (get_or s at 0) (read_at (top / 128) s (at + 1))
   read_more b =
-      let q : Read = read_at (top / 128) s (at + 1) in
+      let q : (Option (ℕ × ℕ)) = read_at (top / 128) s (at + 1) in
       sym (more_is top at (get_or s at 0) s (after_more top (get_or s at 0) q) q refl refl refl i b)
 
 -- ---- where a number ends: one below 128 ^ suc k takes at most suc k bytes
-last_next : (top b at u next : ℕ) → last_group top b at ≡ Number u next → next ≡ at
+last_next : (top b at u next : ℕ) → last_group top b at ≡ Some (u, next) → next ≡ at
 last_next top b at u next e =
     by_test
     (next ≡ at)
     (leb b top)
-    (λ t. let f : Number b at ≡ Number u next = rw t at e in cc)
-    (λ t. let f : Bad ≡ Number u next = rw t at e in no u next f)
+    (λ t. let f : Number b at ≡ Some (u, next) = rw t at e in cc)
+    (λ t. let f : None ≡ Some (u, next) = rw t at e in no u next f)
 
 after_next :
-    (top b to : ℕ) (r : Read) (u next : ℕ) →
-    ((v n : ℕ) → r ≡ Number v n → n ≤ to) →
-    after_more top b r ≡ Number u next →
+    (top b to : ℕ) (r : Option (ℕ × ℕ)) (u next : ℕ) →
+    ((v n : ℕ) → r ≡ Some (v, n) → n ≤ to) →
+    after_more top b r ≡ Some (u, next) →
     next ≤ to
-after_next top b to Bad u next h e = no u next e
-after_next top b to (Number v n) u next h e =
+after_next top b to None u next h e = no u next e
+after_next top b to (Some (v, n)) u next h e =
     by_test
     (next ≤ to)
     (eqb v 0)
-    (λ t. let f : Bad ≡ Number u next = rw t at e in no u next f)
+    (λ t. let f : None ≡ Some (u, next) = rw t at e in no u next f)
     (λ t. by_test
     (next ≤ to)
     (leb (v * 128 + (b - 128)) top)
     (λ w.
-    let f : Number (v * 128 + (b - 128)) n ≡ Number u next = rw (t, w) at e in
+    let f : Some (v * 128 + (b - 128), n) ≡ Some (u, next) = rw (t, w) at e in
     let g : n ≡ next = cc in
     omega (arith, h v n refl))
-    (λ w. let f : Bad ≡ Number u next = rw (t, w) at e in no u next f))
+    (λ w. let f : None ≡ Some (u, next) = rw (t, w) at e in no u next f))
 
 module _ (s : List ℕ) where
   next_by :
       (k top at u next : ℕ) →
-      read_at top s at ≡ Number u next →
+      read_at top s at ≡ Some (u, next) →
       (at < length s → 128 ≤ get_or s at 0 → next ≤ at + suc k) →
       next ≤ at + suc k
   next_by k top at u next e more =
@@ -100,7 +97,7 @@ module _ (s : List ℕ) where
       omega arith)
       more
 
-  pub next_near : (k top at u next : ℕ) → top < 128 ^ suc k → read_at top s at ≡ Number u next → next ≤ at + suc k
+  pub next_near : (k top at u next : ℕ) → top < 128 ^ suc k → read_at top s at ≡ Some (u, next) → next ≤ at + suc k
   next_near zero top at u next h e =
       next_by
       zero
@@ -145,12 +142,12 @@ then_place xs (numbers ys next) = refl
 then_place xs (malformed p) = refl
 
 step_place :
-    (f : ℕ → Parse) (at : ℕ) (r : Read) (to : ℕ) →
+    (f : ℕ → Parse) (at : ℕ) (r : Option (ℕ × ℕ)) (to : ℕ) →
     at ≤ to →
-    ((u next : ℕ) → r ≡ Number u next → place_of (f next) ≤ to) →
+    ((u next : ℕ) → r ≡ Some (u, next) → place_of (f next) ≤ to) →
     place_of (step f at r) ≤ to
-step_place f at Bad to l h = l
-step_place f at (Number u next) to l h = omega (arith, then_place (number_of u ∷ []) (f next), h u next refl)
+step_place f at None to l h = l
+step_place f at (Some (u, next)) to l h = omega (arith, then_place (number_of u ∷ []) (f next), h u next refl)
 
 pub parse_place : (s : List ℕ) (n at : ℕ) → place_of (parse_from n s at) ≤ at + 10 * n
 unfolding parse_from
@@ -171,9 +168,9 @@ ending_place s (numbers xs next) =
     cond_case (λ (q : Parse). place_of q ≡ next) (ltb next (length s)) (malformed next) (numbers xs next) (λ t. refl) (λ t. refl)
 
 -- ---- the values of the answers
-judged_value : (p : Params) (next : ℕ) (f : Found) → first_broken p ≡ f → next ≤ 1472 → verdict_value (judged_by f p next).verdict ≤ 1472
-judged_value p next (At i) e h = omega (arith, broken_most p i e)
-judged_value p next Nothing e h = h
+judged_value : (p : Params) (next : ℕ) (f : Option ℕ) → first_broken p ≡ f → next ≤ 1472 → verdict_value (judged_by f p next).verdict ≤ 1472
+judged_value p next (Some i) e h = omega (arith, broken_most p i e)
+judged_value p next None e h = h
 
 parse_value : (e : Edition) (p : Parse) → place_of p ≤ 1472 → verdict_value (judged e p).verdict ≤ 1472
 parse_value e (numbers xs next) h = judged_value (sheet e xs) next (first_broken (sheet e xs)) refl h
@@ -197,6 +194,6 @@ write_most p buf l =
     (λ t. rw t (omega arith))
     (λ t. rw t (go (first_broken p) refl))
   where
-    go : (f : Found) → first_broken p ≡ f → written_value (write_by f p buf).answer ≤ 737
-    go (At i) e = omega (arith, broken_most p i e)
-    go Nothing e = omega (arith, form_most p l e, room_is p.edition, front_short p.edition)
+    go : (f : Option ℕ) → first_broken p ≡ f → written_value (write_by f p buf).answer ≤ 737
+    go (Some i) e = omega (arith, broken_most p i e)
+    go None e = omega (arith, form_most p l e, room_is p.edition, front_short p.edition)

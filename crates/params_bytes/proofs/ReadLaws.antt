@@ -1,5 +1,7 @@
 -- Laws of reading: what is known after i of N numbers, and the ends of `parse`, `read` and `read_front`.
 -- Assumes nothing.
+use Rattle.std.proofs.Common.{Option, Some, None, Ok, Err}
+use Rattle.params_bytes.specs.declared.ReadError.TheVariants.{Broken, Malformed}
 use Prim.Native.Nat.{ℕ, zero, suc, ◌+◌, ◌-◌, ◌<◌, ◌≤◌}
 use mathlib.Core.Path.{◌≡◌, refl, sym, ap, ◌∙◌}
 use mathlib.Core.Bool.{Bool, true, false, not, ◌&&◌}
@@ -12,12 +14,8 @@ use lib.Dec.{eqb}
 use lib.ListN.{length, take, set, get_or, get_or-eq_default}
 use lib.Seq.{take-suc-set, take_all}
 use lib.IntN.{ℤ}
-use Rattle.index.specs.declared.Found.{Found}
-use Rattle.index.specs.declared.Found.TheVariants.{At, Nothing}
 use Rattle.varint.specs.Groups.{read_at}
 use Rattle.varint.specs.Codes.{number_of}
-use Rattle.varint.specs.declared.Read.{Read}
-use Rattle.varint.specs.declared.Read.TheVariants.{Number, Bad}
 use Rattle.params.specs.declared.Edition.{Edition}
 use Rattle.params.specs.declared.Edition.TheVariants.{First, Second}
 use Rattle.params.specs.declared.Params.{Params}
@@ -26,7 +24,6 @@ use Rattle.params.specs.Check.{first_broken}
 use Rattle.records.specs.Records.{param_count}
 use Rattle.params_bytes.specs.Read.{Parse, numbers, malformed, then, step, parse_from, edition_at, front_bytes, parse_at, outcome}
 use Rattle.params_bytes.specs.Read.{refusal, judged_by, read_of, front_at}
-use Rattle.params_bytes.specs.declared.Verdict.TheVariants.{Accepted, Malformed, Broken}
 use Rattle.params_bytes.specs.declared.Reading.{Reading}
 use Rattle.params_bytes.specs.declared.Parsed.{Parsed}
 
@@ -34,7 +31,7 @@ then_then : (xs ys : List ℤ) (p : Parse) → then xs (then ys p) ≡ then (xs 
 then_then xs ys (numbers zs next) = ap (λ (l : List ℤ). numbers l next) (sym (append_assoc xs ys zs))
 then_then xs ys (malformed p) = refl
 
-at_least_one : (m : ℕ) (s : List ℕ) (at : ℕ) (r : Read) → 0 < m → r ≡ read_at 18446744073709551615 s at → parse_from m s at
+at_least_one : (m : ℕ) (s : List ℕ) (at : ℕ) (r : Option (ℕ × ℕ)) → 0 < m → r ≡ read_at 18446744073709551615 s at → parse_from m s at
     ≡ step (λ next. parse_from (m - 1) s next) at r
 unfolding parse_from
 at_least_one zero s at r h e = absurd (omega arith)
@@ -52,12 +49,12 @@ after_none N s from xs = let e : N - 0 ≡ N = omega arith in rw e (nothing (par
     nothing (malformed p) = refl
 
 pub after_more :
-    (N : ℕ) (s : List ℕ) (from i : ℕ) (xs : List ℤ) (at u next : ℕ) (r : Read) (v : ℤ) →
+    (N : ℕ) (s : List ℕ) (from i : ℕ) (xs : List ℤ) (at u next : ℕ) (r : Option (ℕ × ℕ)) (v : ℤ) →
     i < N →
     i < length xs →
     After N s from i xs at →
     r ≡ read_at 18446744073709551615 s at →
-    r ≡ Number u next →
+    r ≡ Some (u, next) →
     v ≡ number_of u →
     After N s from (i + 1) (set xs i v) next
 after_more N s from i xs at u next r v h l inv e f g =
@@ -68,11 +65,11 @@ after_more N s from i xs at u next r v h l inv e f g =
     back = let k : N - i - 1 ≡ N - suc i = omega arith in rw (f, k, g)
 
 pub after_bad :
-    (N : ℕ) (s : List ℕ) (from i : ℕ) (xs : List ℤ) (at : ℕ) (r : Read) →
+    (N : ℕ) (s : List ℕ) (from i : ℕ) (xs : List ℤ) (at : ℕ) (r : Option (ℕ × ℕ)) →
     i < N →
     After N s from i xs at →
     r ≡ read_at 18446744073709551615 s at →
-    r ≡ Bad →
+    r ≡ None →
     malformed at ≡ parse_from N s from
 after_bad N s from i xs at r h inv e f = rw (at_least_one (N - i) s at r (omega arith) e, f) at inv
 
@@ -109,11 +106,11 @@ module _ (s : List ℕ) (at : ℕ) where
   edition_first t = rw t
 
 -- ---- the ends of `judged`
-pub judged_broken : (p : Params) (next i : ℕ) (f : Found) (r : Reading) → f ≡ first_broken p → f ≡ At i → r ≡ refusal (Broken i) → r
+pub judged_broken : (p : Params) (next i : ℕ) (f : Option ℕ) (r : Reading) → f ≡ first_broken p → f ≡ Some i → r ≡ refusal (Err (Broken i)) → r
     ≡ judged_by (first_broken p) p next
 judged_broken p next i f r e t q = q ∙ rw (← e, t)
 
-pub judged_kept : (p : Params) (next : ℕ) (f : Found) → f ≡ first_broken p → f ≡ Nothing → record { verdict = Accepted next; params = p }
+pub judged_kept : (p : Params) (next : ℕ) (f : Option ℕ) → f ≡ first_broken p → f ≡ None → record { verdict = Ok next; params = p }
     ≡ judged_by (first_broken p) p next
 judged_kept p next f e t = rw (← e, t)
 
@@ -131,7 +128,7 @@ module _
   good : not p.ok ≡ false → numbers p.numbers p.place ≡ parse_at s at
   good t = (rw (not-false p.ok t) at e) ∙ all
 
-  pub front_bad : (r : Reading) → not p.ok ≡ true → r ≡ refusal (Malformed p.place) → r ≡ front_at s at
+  pub front_bad : (r : Reading) → not p.ok ≡ true → r ≡ refusal (Err (Malformed p.place)) → r ≡ front_at s at
   unfolding front_at
   front_bad r t q = q ∙ rw (← bad t)
 
@@ -153,11 +150,11 @@ module _
   behind : from ≡ 0 + length (front_bytes d)
   behind = start ∙ sym (zero-add (length (front_bytes d)))
 
-  pub read_bad : (r : Reading) → not p.ok ≡ true → r ≡ refusal (Malformed p.place) → r ≡ read_of s
+  pub read_bad : (r : Reading) → not p.ok ≡ true → r ≡ refusal (Err (Malformed p.place)) → r ≡ read_of s
   unfolding read_of
   read_bad r t q = q ∙ rw (← bad s 0 d told from behind p e t)
 
-  pub read_left : (r : Reading) → not p.ok ≡ false → p.place < length s → r ≡ refusal (Malformed p.place) → r ≡ read_of s
+  pub read_left : (r : Reading) → not p.ok ≡ false → p.place < length s → r ≡ refusal (Err (Malformed p.place)) → r ≡ read_of s
   unfolding read_of
   read_left r t h q = q ∙ rw (← good s 0 d told from behind p e t, lt-ltb p.place (length s) h)
 

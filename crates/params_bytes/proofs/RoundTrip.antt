@@ -1,5 +1,8 @@
 -- Reading what was written, and writing what was read (specs/RoundTrip.antt).
 -- Assumes nothing.
+use Rattle.std.proofs.Common.{Option, Some, None, Ok, Err}
+use Rattle.params_bytes.specs.declared.ReadError.TheVariants.{Malformed}
+use Rattle.params_bytes.specs.declared.WriteError.TheVariants.{Short}
 use Prim.Native.Nat.{ℕ, zero, suc, ◌+◌, ◌*◌, ◌<◌, ◌≤◌, suc-le-suc}
 use mathlib.Core.Path.{◌≡◌, refl, sym, ap, ◌∙◌}
 use mathlib.Core.Bool.{true, false, ◌&&◌}
@@ -12,14 +15,10 @@ use lib.ListN.{length, drop, get_or, length-append, drop_of_length-le}
 use lib.Seq.{sets-eq, take-append_seam}
 use lib.IntN.{ℤ, pos, negsuc}
 use lib.Signed.{le_z}
-use Rattle.index.specs.declared.Found.{Found}
-use Rattle.index.specs.declared.Found.TheVariants.{At, Nothing}
 use Rattle.index.proofs.Index.{both}
 use Rattle.index.proofs.Flags.{by_test}
 use Rattle.varint.specs.Groups.{read_at, encode}
 use Rattle.varint.specs.Codes.{code_of, number_of}
-use Rattle.varint.specs.declared.Read.{Read}
-use Rattle.varint.specs.declared.Read.TheVariants.{Number, Bad}
 use Rattle.varint.proofs.GroupLaws.{encode_last, read_at_encode, read_at_written, Front, length_le}
 use Rattle.varint.proofs.CodeLaws.{number_code, code_number}
 use Rattle.limits.specs.Limits.{at}
@@ -37,8 +36,6 @@ use Rattle.params_bytes.specs.Write.{room_for, bytes_of, form_of, Writing, write
 use Rattle.params_bytes.specs.RoundTrip.{ReadsBack, WritesBack}
 use Rattle.params.specs.declared.Params.{Params}
 use Rattle.params_bytes.proofs.ReadLaws.{parse_start}
-use Rattle.params_bytes.specs.declared.Verdict.TheVariants.{Accepted, Malformed}
-use Rattle.params_bytes.specs.declared.Written.TheVariants.{Done, Short}
 use Rattle.params_bytes.proofs.WriteLaws.{accepted_few, room_is}
 
 -- ---- numbers whose codes take at most five groups
@@ -83,15 +80,15 @@ record Rest (s : List ℕ) (at : ℕ) (xs : List ℤ) (next n : ℕ) : Type 0 wh
   count : length xs ≡ n
 
 step_written :
-    (s : List ℕ) (at : ℕ) (rest : ℕ → Parse) (xs : List ℤ) (end n : ℕ) (r : Read) →
+    (s : List ℕ) (at : ℕ) (rest : ℕ → Parse) (xs : List ℤ) (end n : ℕ) (r : Option (ℕ × ℕ)) →
     ((k : ℕ) → get_or s k 0 < 256) →
     read_at 18446744073709551615 s at ≡ r →
     ((next : ℕ) (ys : List ℤ) → rest next ≡ numbers ys end → Rest s next ys end n) →
     step rest at r ≡ numbers xs end →
     Rest s at xs end (suc n)
 unfolding bytes_of
-step_written s at rest xs end n Bad h e ih f = let z : ◌≡◌ {A = ℕ} 0 1 = cc in absurd (omega arith)
-step_written s at rest xs end n (Number u next) h e ih f =
+step_written s at rest xs end n None h e ih f = let z : ◌≡◌ {A = ℕ} 0 1 = cc in absurd (omega arith)
+step_written s at rest xs end n (Some (u, next)) h e ih f =
     let t = then_numbers (number_of u) (rest next) xs end f in
     let w : Front 18446744073709551615 s at u next = read_at_written 18446744073709551615 s at u next h e in
     let i = ih next t.0 t.1.0 in
@@ -163,7 +160,7 @@ front_is s =
     (λ t. rw t refl)
 
 -- ---- accepted parameters
-module _ (p : Params) (n147 : length p.numbers ≡ param_count) (ok : first_broken p ≡ Nothing) where
+module _ (p : Params) (n147 : length p.numbers ≡ param_count) (ok : first_broken p ≡ None) where
   small : Small p.numbers
   small i h = accepted_few p ok i (omega arith)
 
@@ -187,7 +184,7 @@ module _ (p : Params) (n147 : length p.numbers ≡ param_count) (ok : first_brok
   edition_written : (rest : List ℕ) → edition_in (form_of p ++ rest) ≡ p.edition
   edition_written rest = form_front p rest n147 (accepted_in_lem p ok 0 (lit< tt))
 
-  pub read_written : read_of (form_of p) ≡ record { verdict = Accepted (length (form_of p)); params = p }
+  pub read_written : read_of (form_of p) ≡ record { verdict = Ok (length (form_of p)); params = p }
   unfolding read_of
   read_written =
       let f = form_of p in
@@ -197,33 +194,33 @@ module _ (p : Params) (n147 : length p.numbers ≡ param_count) (ok : first_brok
       rw (d, q, le-ltb (length f) (length f) (le_refl (length f)), ok)
 
   -- the same where other bytes follow
-  pub front_written : (rest : List ℕ) → front_at (form_of p ++ rest) 0 ≡ record { verdict = Accepted (length (form_of p)); params = p }
+  pub front_written : (rest : List ℕ) → front_at (form_of p ++ rest) 0 ≡ record { verdict = Ok (length (form_of p)); params = p }
   unfolding front_at
   front_written rest = rw (edition_written rest, parse_written rest, ok)
 
   -- the buffer holds the bytes, and past them what it held
   pub written_is : (buf : List ℕ) → room_for p.edition ≤ length buf → write_of p buf
-      ≡ record { answer = Done (length (form_of p)); bytes = form_of p ++ drop (length (form_of p)) buf }
+      ≡ record { answer = Ok (length (form_of p)); bytes = form_of p ++ drop (length (form_of p)) buf }
   unfolding write_of
   written_is buf h =
       rw (le-ltb (length buf) (room_for p.edition) h, ok)
-      (ap (λ (l : List ℕ). record { answer = Done (length (form_of p)); bytes = l })
+      (ap (λ (l : List ℕ). record { answer = Ok (length (form_of p)); bytes = l })
       (sets-eq (form_of p) buf 0 (omega (arith, form_most)) ∙ rw (zero-add (length (form_of p)))))
 
 -- what a write that was done had before it
-done_is : (p : Params) (buf : List ℕ) (n : ℕ) → (write_of p buf).answer ≡ Done n → (room_for p.edition ≤ length buf)
-    × (first_broken p ≡ Nothing)
+done_is : (p : Params) (buf : List ℕ) (n : ℕ) → (write_of p buf).answer ≡ Ok n → (room_for p.edition ≤ length buf)
+    × (first_broken p ≡ None)
 unfolding write_of
 done_is p buf n e =
-    by_test ((room_for p.edition ≤ length buf) × (first_broken p ≡ Nothing)) (ltb (length buf) (room_for p.edition))
-    (λ t. let e' : Short ≡ Done n = rw t at e in
+    by_test ((room_for p.edition ≤ length buf) × (first_broken p ≡ None)) (ltb (length buf) (room_for p.edition))
+    (λ t. let e' : Err Short ≡ Ok n = rw t at e in
     let z : ◌≡◌ {A = ℕ} 0 1 = cc in absurd (omega arith))
-    (λ t. let e' : (write_by (first_broken p) p buf).answer ≡ Done n = rw t at e in
+    (λ t. let e' : (write_by (first_broken p) p buf).answer ≡ Ok n = rw t at e in
     (ltb-false (length buf) (room_for p.edition) t, nothing (first_broken p) e'))
   where
-    nothing : (f : Found) → (write_by f p buf).answer ≡ Done n → f ≡ Nothing
-    nothing (At i) q = let z : ◌≡◌ {A = ℕ} 0 1 = cc in absurd (omega arith)
-    nothing Nothing q = refl
+    nothing : (f : Option ℕ) → (write_by f p buf).answer ≡ Ok n → f ≡ None
+    nothing (Some i) q = let z : ◌≡◌ {A = ℕ} 0 1 = cc in absurd (omega arith)
+    nothing None q = refl
 
 pub reads_back : ReadsBack
 reads_back p buf n h e =
@@ -232,7 +229,7 @@ reads_back p buf n h e =
     let m : n ≡ length (form_of p) = count (sym e ∙ ap (λ (x : Writing). x.answer) w) in
     rw (w, m, take-append_seam (form_of p) (drop (length (form_of p)) buf)) (read_written p h d.1)
   where
-    count : {a b : ℕ} → Done a ≡ Done b → a ≡ b
+    count : {a b : ℕ} → Ok a ≡ Ok b → a ≡ b
     count q = cc
 
 -- what a reading that was accepted had before it
@@ -240,26 +237,26 @@ record Took (s : List ℕ) (n : ℕ) : Type 0 where
   edition : (read_of s).params.edition ≡ edition_in s
   parsed : parse_all s ≡ numbers (read_of s).params.numbers n
   ended : length s ≤ n
-  passed : first_broken (read_of s).params ≡ Nothing
+  passed : first_broken (read_of s).params ≡ None
 
-took : (s : List ℕ) (n : ℕ) → (read_of s).verdict ≡ Accepted n → Took s n
+took : (s : List ℕ) (n : ℕ) → (read_of s).verdict ≡ Ok n → Took s n
 unfolding read_of
 took s n e = go (parse_all s) refl
   where
-    kept : (p : Params) (m : ℕ) (f : Found) → (judged_by f p m).verdict ≡ Accepted n → (f ≡ Nothing) × (m ≡ n)
-    kept p m (At i) q = let z : ◌≡◌ {A = ℕ} 0 1 = cc in absurd (omega arith)
-    kept p m Nothing q = (refl, cc)
+    kept : (p : Params) (m : ℕ) (f : Option ℕ) → (judged_by f p m).verdict ≡ Ok n → (f ≡ None) × (m ≡ n)
+    kept p m (Some i) q = let z : ◌≡◌ {A = ℕ} 0 1 = cc in absurd (omega arith)
+    kept p m None q = (refl, cc)
 
     go : (q : Parse) → parse_all s ≡ q → Took s n
     go (malformed m) q =
-        let e' : Malformed m ≡ Accepted n = rw q at e in
+        let e' : Err (Malformed m) ≡ Ok n = rw q at e in
         let z : ◌≡◌ {A = ℕ} 0 1 = cc in absurd (omega arith)
     go (numbers xs m) q =
         let p = sheet (edition_in s) xs in
         by_test (Took s n) (ltb m (length s))
-        (λ t. let e' : Malformed m ≡ Accepted n = rw (q, t) at e in
+        (λ t. let e' : Err (Malformed m) ≡ Ok n = rw (q, t) at e in
         let z : ◌≡◌ {A = ℕ} 0 1 = cc in absurd (omega arith))
-        (λ t. let e' : (judged_by (first_broken p) p m).verdict ≡ Accepted n = rw (q, t) at e in
+        (λ t. let e' : (judged_by (first_broken p) p m).verdict ≡ Ok n = rw (q, t) at e in
         let k = kept p m (first_broken p) e' in
         record {
           edition = rw (q, t, k.0);
@@ -271,11 +268,11 @@ took s n e = go (parse_all s) refl
 written_back :
     (s buf : List ℕ) (p : Params) (n : ℕ) →
     length p.numbers ≡ param_count →
-    first_broken p ≡ Nothing →
+    first_broken p ≡ None →
     room_for p.edition ≤ length buf →
     s ≡ form_of p →
     parse_all s ≡ numbers p.numbers n →
-    (n ≡ length s) × (write_of p buf ≡ record { answer = Done n; bytes = s ++ drop n buf })
+    (n ≡ length s) × (write_of p buf ≡ record { answer = Ok n; bytes = s ++ drop n buf })
 written_back s buf p n c ok l b q =
     let r : parse_all (form_of p) ≡ numbers p.numbers (length (form_of p)) = rw (append-nil (form_of p)) at (parse_written p c ok []) in
     let t : numbers p.numbers n ≡ numbers p.numbers (length (form_of p)) = sym q ∙ ap parse_all b ∙ r in

@@ -1,5 +1,8 @@
 -- Laws of writing: the front, what is known after i numbers, and the ends of `put` and `write`.
 -- Assumes nothing.
+use Rattle.std.proofs.Common.{Option, Some, None, Result, Ok, Err}
+use Rattle.params_bytes.specs.declared.WriteError.{WriteError}
+use Rattle.params_bytes.specs.declared.WriteError.TheVariants.{Outside, Short}
 use Prim.Native.Nat.{ℕ, ◌+◌, ◌*◌, ◌<◌, ◌≤◌}
 use mathlib.Core.Path.{◌≡◌, refl, sym, ap, ◌∙◌}
 use mathlib.Core.Bool.{false}
@@ -14,13 +17,9 @@ use lib.Seq.{sets, take-suc, take_all}
 use lib.IntN.{ℤ, pos}
 use mir.Syntax.{w64}
 use mir.Val.{SFits, to_z, of_z}
-use Rattle.index.specs.declared.Found.{Found}
-use Rattle.index.specs.declared.Found.TheVariants.{At, Nothing}
 use Rattle.index.proofs.Lists.{sets_append}
 use Rattle.varint.specs.Groups.{encode}
 use Rattle.varint.specs.Codes.{code_of}
-use Rattle.varint.specs.declared.Put.{Put}
-use Rattle.varint.specs.declared.Put.TheVariants.{Next, Full}
 use Rattle.varint.proofs.GroupLaws.{length_le, Left, put_fits, put_next, put_full}
 use Rattle.limits.specs.Limits.{at}
 use Rattle.params.specs.declared.Edition.{Edition}
@@ -30,8 +29,6 @@ use Rattle.params.specs.Check.{first_broken}
 use Rattle.records.specs.Records.{param_count}
 use Rattle.params_bytes.specs.Read.{front_bytes}
 use Rattle.params_bytes.specs.Write.{room_for, bytes_of, form_of, write_of}
-use Rattle.params_bytes.specs.declared.Written.{Written}
-use Rattle.params_bytes.specs.declared.Written.TheVariants.{Done, Short, Outside}
 use Rattle.limits.proofs.LimitLaws.{code_of_given, code_few}
 use Rattle.params.proofs.CheckLaws.{accepted_in_lem}
 
@@ -50,7 +47,7 @@ bytes_more xs i h =
 abbrev pub Few : List ℤ → Type 0
 Few xs = (i : ℕ) → i < param_count → code_of (at xs i) < 34359738368
 
-pub accepted_few : (p : Params) → first_broken p ≡ Nothing → Few p.numbers
+pub accepted_few : (p : Params) → first_broken p ≡ None → Few p.numbers
 accepted_few p ok i h = code_few p.numbers i (accepted_in_lem p ok i h)
 
 -- the room is the front's and five bytes for each number
@@ -91,7 +88,7 @@ unfolding bytes_of
 stands_none xs from buf = record { place_is = omega arith; bytes_are = refl; few = omega arith; same = refl }
 
 module _
-    (xs : List ℤ) (from i : ℕ) (buf : List ℕ) (place : ℕ) (out : List ℕ) (u : ℕ) (r : Put) (out' : List ℕ)
+    (xs : List ℤ) (from i : ℕ) (buf : List ℕ) (place : ℕ) (out : List ℕ) (u : ℕ) (r : Option ℕ) (out' : List ℕ)
     (h : i < param_count) (few : Few xs) (s : Stands xs from i buf place out) (fits : SFits w64 (at xs i))
     (code : u ≡ code_of (to_z w64 (of_z w64 (at xs i)))) (w : Left out place u r out') where
   u_is : u ≡ code_of (at xs i)
@@ -101,10 +98,10 @@ module _
   short = length_le 4 u (omega (arith, u_is, few i h))
 
   -- the next number never lacks room
-  pub stands_full : {A : Type 0} → from + 5 * param_count ≤ length buf → r ≡ Full → A
+  pub stands_full : {A : Type 0} → from + 5 * param_count ≤ length buf → r ≡ None → A
   stands_full l e = absurd (omega (arith, short, s.few, s.same, put_full out place u (sym e ∙ w.0)))
 
-  pub stands_more : (next : ℕ) → i < length xs → length out' ≡ length out → r ≡ Next next → Stands xs from (i + 1) buf next out'
+  pub stands_more : (next : ℕ) → i < length xs → length out' ≡ length out → r ≡ Some next → Stands xs from (i + 1) buf next out'
   stands_more next l k e =
       let n = put_next out place u next (sym e ∙ w.0) in
       let b : out' ≡ sets out place (encode u) = w.1 ∙ sym (put_fits out place u (omega arith)).1 in
@@ -134,19 +131,19 @@ stands_all xs from i buf place out h s =
     (rw e at s.place_is, rw e at s.bytes_are)
 
 -- ---- the ends of `write`
-abbrev pub Wrote : Params → List ℕ → Written → List ℕ → Type 0
+abbrev pub Wrote : Params → List ℕ → Result ℕ WriteError → List ℕ → Type 0
 Wrote p buf r out = (r ≡ (write_of p buf).answer) × (out ≡ (write_of p buf).bytes)
 
 module _ (p : Params) (buf : List ℕ) (room : ℕ) (q : room ≡ room_for p.edition) where
-  pub write_short : length buf < room → Wrote p buf Short buf
+  pub write_short : length buf < room → Wrote p buf (Err Short) buf
   unfolding write_of
   write_short h = let t = lt-ltb (length buf) (room_for p.edition) (rw q at h) in (rw t, rw t)
 
-  module _ (f : Found) (h : room ≤ length buf) (e : f ≡ first_broken p) where
+  module _ (f : Option ℕ) (h : room ≤ length buf) (e : f ≡ first_broken p) where
     wide : ltb (length buf) (room_for p.edition) ≡ false
     wide = le-ltb (length buf) (room_for p.edition) (rw q at h)
 
-    pub write_outside : (i : ℕ) → f ≡ At i → Wrote p buf (Outside i) buf
+    pub write_outside : (i : ℕ) → f ≡ Some i → Wrote p buf (Err (Outside i)) buf
     unfolding write_of
     write_outside i g = (rw (wide, ← e, g), rw (wide, ← e, g))
 
@@ -158,10 +155,10 @@ module _ (p : Params) (buf : List ℕ) (room : ℕ) (q : room ≡ room_for p.edi
     -- the front, then the numbers
     pub write_done :
         (from : ℕ) (mid : List ℕ) (n : ℕ) (out : List ℕ) →
-        f ≡ Nothing →
+        f ≡ None →
         (from ≡ length (front_bytes p.edition)) × (mid ≡ sets buf 0 (front_bytes p.edition)) →
         (n ≡ from + length (bytes_of p.numbers)) × (out ≡ sets mid from (bytes_of p.numbers)) →
-        Wrote p buf (Done n) out
+        Wrote p buf (Ok n) out
     unfolding write_of
     write_done from mid n out g a w =
         let l : n ≡ length (form_of p) = omega (arith, w.0, a.0, length-append (front_bytes p.edition) (bytes_of p.numbers)) in

@@ -1,20 +1,17 @@
 -- Reading the parameters from bytes (01, numbers 10 and 9, in that order): 147 numbers, each by its code in seven-bit groups, behind the
 -- front that tells their edition.
+use Rattle.std.specs.Prelude.{Option, Some, None, Result, Ok, Err}
+use Rattle.params_bytes.specs.declared.ReadError.{ReadError}
+use Rattle.params_bytes.specs.declared.ReadError.TheVariants.{Broken, Malformed}
 use Rattle.std.specs.Prelude.{ℕ, zero, suc, ◌+◌, cond, ◌&&◌, List, [], ◌∷◌, ◌++◌, eqb, ltb, length, get_or, replicate, ℤ, pos}
-use Rattle.index.specs.declared.Found.{Found}
-use Rattle.index.specs.declared.Found.TheVariants.{At, Nothing}
 use Rattle.varint.specs.Groups.{read_at}
 use Rattle.varint.specs.Codes.{number_of}
-use Rattle.varint.specs.declared.Read.{Read}
-use Rattle.varint.specs.declared.Read.TheVariants.{Number, Bad}
 use Rattle.params.specs.declared.Edition.{Edition}
 use Rattle.params.specs.declared.Edition.TheVariants.{First, Second}
 use Rattle.params.specs.declared.Params.{Params}
 use Rattle.params.specs.Editions.{sheet}
 use Rattle.params.specs.Check.{first_broken}
 use Rattle.records.specs.Records.{param_count}
-use Rattle.params_bytes.specs.declared.Verdict.{Verdict}
-use Rattle.params_bytes.specs.declared.Verdict.TheVariants.{Accepted, Malformed, Broken}
 use Rattle.params_bytes.specs.declared.Reading.{Reading}
 use Rattle.params_bytes.specs.declared.Parsed.{Parsed}
 
@@ -28,9 +25,9 @@ then xs (numbers ys next) = numbers (xs ++ ys) next
 then xs (malformed p) = malformed p
 
 -- "place of the first bad number's first byte"; "the length if bytes end between numbers" is such a place too
-abbrev pub step : (ℕ → Parse) → ℕ → Read → Parse
-step rest at Bad = malformed at
-step rest at (Number u next) = then (number_of u ∷ []) (rest next)
+abbrev pub step : (ℕ → Parse) → ℕ → Option (ℕ × ℕ) → Parse
+step rest at None = malformed at
+step rest at (Some (u, next)) = then (number_of u ∷ []) (rest next)
 
 -- n numbers from a place on
 unfoldable pub parse_from : ℕ → List ℕ → ℕ → Parse
@@ -68,16 +65,16 @@ ending s (malformed p) = malformed p
 
 -- ---- what is answered
 -- a refusal holds 147 zeros for the parameters
-abbrev pub refusal : Verdict → Reading
+abbrev pub refusal : Result ℕ ReadError → Reading
 refusal v = record { verdict = v; params = record { numbers = replicate param_count (pos 0); edition = First } }
 
-abbrev pub judged_by : Found → Params → ℕ → Reading
-judged_by (At i) p next = refusal (Broken i)
-judged_by Nothing p next = record { verdict = Accepted next; params = p }
+abbrev pub judged_by : Option ℕ → Params → ℕ → Reading
+judged_by (Some i) p next = refusal (Err (Broken i))
+judged_by None p next = record { verdict = Ok next; params = p }
 
 abbrev pub judged : Edition → Parse → Reading
 judged e (numbers xs next) = judged_by (first_broken (sheet e xs)) (sheet e xs) next
-judged e (malformed p) = refusal (Malformed p)
+judged e (malformed p) = refusal (Err (Malformed p))
 
 -- all the bytes are the parameters
 unfoldable pub read_of : List ℕ → Reading
@@ -88,12 +85,12 @@ unfoldable pub front_at : List ℕ → ℕ → Reading
 front_at s at = judged (edition_at s at) (parse_at s at)
 
 -- 01's number of each verdict, and the value that goes with it
-abbrev pub verdict_number : Verdict → ℕ
-verdict_number (Accepted n) = 0
-verdict_number (Malformed place) = 10
-verdict_number (Broken i) = 9
+abbrev pub verdict_number : Result ℕ ReadError → ℕ
+verdict_number (Ok n) = 0
+verdict_number (Err (Malformed place)) = 10
+verdict_number (Err (Broken i)) = 9
 
-abbrev pub verdict_value : Verdict → ℕ
-verdict_value (Accepted n) = n
-verdict_value (Malformed place) = place
-verdict_value (Broken i) = i
+abbrev pub verdict_value : Result ℕ ReadError → ℕ
+verdict_value (Ok n) = n
+verdict_value (Err (Malformed place)) = place
+verdict_value (Err (Broken i)) = i

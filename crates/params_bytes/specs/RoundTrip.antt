@@ -1,19 +1,18 @@
 -- What reading and writing are to each other, in both editions. Proved in proofs/RoundTrip.antt.
+use Rattle.std.specs.Prelude.{Ok}
 use Rattle.std.specs.Prelude.{ℕ, ◌<◌, ◌≤◌, ◌≡◌, List, ◌++◌, length, take, drop, get_or}
 use Rattle.records.specs.Records.{param_count}
 use Rattle.params_bytes.specs.Read.{read_of}
 use Rattle.params_bytes.specs.Write.{room_for, write_of}
 use Rattle.params.specs.declared.Params.{Params}
-use Rattle.params_bytes.specs.declared.Verdict.TheVariants.{Accepted}
-use Rattle.params_bytes.specs.declared.Written.TheVariants.{Done}
 
 -- reading what was written gives the same parameters, and the length
 abbrev pub ReadsBack : Type 0
 ReadsBack =
     (p : Params) (buf : List ℕ) (n : ℕ) →
     length p.numbers ≡ param_count →
-    (write_of p buf).answer ≡ Done n →
-    read_of (take n (write_of p buf).bytes) ≡ record { verdict = Accepted n; params = p }
+    (write_of p buf).answer ≡ Ok n →
+    read_of (take n (write_of p buf).bytes) ≡ record { verdict = Ok n; params = p }
 
 -- writing what was read gives the same bytes, and past them the buffer as it was
 abbrev pub WritesBack : Type 0
@@ -21,5 +20,5 @@ WritesBack =
     (s buf : List ℕ) (n : ℕ) →
     ((k : ℕ) → get_or s k 0 < 256) →
     room_for (read_of s).params.edition ≤ length buf →
-    (read_of s).verdict ≡ Accepted n →
-    (n ≡ length s) × (write_of (read_of s).params buf ≡ record { answer = Done n; bytes = s ++ drop n buf })
+    (read_of s).verdict ≡ Ok n →
+    (n ≡ length s) × (write_of (read_of s).params buf ≡ record { answer = Ok n; bytes = s ++ drop n buf })

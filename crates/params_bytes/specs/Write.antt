@@ -1,8 +1,9 @@
 -- Writing the parameters into a lent buffer (01, numbers 8 and 9, in that order); "bytes past a written sheet are unchanged".
+use Rattle.std.specs.Prelude.{Option, Some, None, Result, Ok, Err}
+use Rattle.params_bytes.specs.declared.WriteError.{WriteError}
+use Rattle.params_bytes.specs.declared.WriteError.TheVariants.{Outside, Short}
 use Rattle.std.specs.Prelude.{ℕ, cond, List, [], ◌∷◌, ◌++◌, ltb, length, ℤ}
 use Rattle.std.proofs.lemmas.List.Edits.{sets}
-use Rattle.index.specs.declared.Found.{Found}
-use Rattle.index.specs.declared.Found.TheVariants.{At, Nothing}
 use Rattle.varint.specs.Groups.{encode}
 use Rattle.varint.specs.Codes.{code_of}
 use Rattle.params.specs.declared.Edition.{Edition}
@@ -10,8 +11,6 @@ use Rattle.params.specs.declared.Edition.TheVariants.{First, Second}
 use Rattle.params.specs.declared.Params.{Params}
 use Rattle.params.specs.Check.{first_broken}
 use Rattle.params_bytes.specs.Read.{front_bytes}
-use Rattle.params_bytes.specs.declared.Written.{Written}
-use Rattle.params_bytes.specs.declared.Written.TheVariants.{Done, Short, Outside}
 
 -- "in writing a sheet, buffer under 735 bytes"; edition 2 "needs 737 bytes to write": five for each number, and the front
 abbrev pub room_for : Edition → ℕ
@@ -29,24 +28,24 @@ form_of p = front_bytes p.edition ++ bytes_of p.numbers
 
 -- the answer, and the buffer's bytes after it
 pub record Writing : Type 0 where
-  pub answer : Written
+  pub answer : Result ℕ WriteError
   pub bytes : List ℕ
 
-abbrev pub write_by : Found → Params → List ℕ → Writing
-write_by (At i) p buf = record { answer = Outside i; bytes = buf }
-write_by Nothing p buf = record { answer = Done (length (form_of p)); bytes = sets buf 0 (form_of p) }
+abbrev pub write_by : Option ℕ → Params → List ℕ → Writing
+write_by (Some i) p buf = record { answer = Err (Outside i); bytes = buf }
+write_by None p buf = record { answer = Ok (length (form_of p)); bytes = sets buf 0 (form_of p) }
 
 unfoldable pub write_of : Params → List ℕ → Writing
 write_of p buf =
-    cond (ltb (length buf) (room_for p.edition)) (record { answer = Short; bytes = buf }) (write_by (first_broken p) p buf)
+    cond (ltb (length buf) (room_for p.edition)) (record { answer = Err Short; bytes = buf }) (write_by (first_broken p) p buf)
 
 -- 01's number of each answer, and the value that goes with it (8 has none)
-abbrev pub written_number : Written → ℕ
-written_number (Done n) = 0
-written_number Short = 8
-written_number (Outside i) = 9
+abbrev pub written_number : Result ℕ WriteError → ℕ
+written_number (Ok n) = 0
+written_number (Err Short) = 8
+written_number (Err (Outside i)) = 9
 
-abbrev pub written_value : Written → ℕ
-written_value (Done n) = n
-written_value Short = 0
-written_value (Outside i) = i
+abbrev pub written_value : Result ℕ WriteError → ℕ
+written_value (Ok n) = n
+written_value (Err Short) = 0
+written_value (Err (Outside i)) = i

@@ -11,15 +11,12 @@ ghost use Rattle.params.specs.Check.{first_broken};
 ghost use Rattle.params_bytes.specs.Read.{edition_at, front_bytes, parse_from, outcome, refusal, judged_by, read_of, front_at};
 ghost use Rattle.params_bytes.specs.Write.{room_for, bytes_of, write_of};
 
-use index::Found;
 use limits::NUMBERS;
 use params::{Edition, Params};
-use varint::{Put, Read};
 
-// What reading came to: all read, and the place after them; malformed at a place; or the first number or rule that is broken.
+// Why the bytes are no parameters: they are malformed at a place, or the first number or rule that is broken.
 #[derive(Clone, Copy)]
-pub enum Verdict {
-    Accepted(usize),
+pub enum ReadError {
     Malformed(usize),
     Broken(usize),
 }
@@ -27,14 +24,13 @@ pub enum Verdict {
 // A verdict with the parameters, which are zeros where they were refused.
 #[derive(Clone, Copy)]
 pub struct Reading {
-    pub verdict: Verdict,
+    pub verdict: Result<usize, ReadError>,
     pub params: Params,
 }
 
-// What writing came to: the length; a buffer too short for any parameters; or the first number or rule that is broken.
+// Why no parameters were written: the buffer is too short for any, or the first number or rule that is broken.
 #[derive(Clone, Copy)]
-pub enum Written {
-    Done(usize),
+pub enum WriteError {
     Short,
     Outside(usize),
 }
@@ -87,9 +83,8 @@ fn parse(s: &[u8], from: usize) -> Parsed
 {
     let mut numbers = [0i64; NUMBERS];
     let mut at = from;
-    let mut i: usize = 0;
-    while i < NUMBERS {
-        let Read::Number(u, next) = varint::read_u64(s, at) else {
+    for i in 0..NUMBERS {
+        let Some((u, next)) = varint::read_u64(s, at) else {
             return Parsed {
                 ok: false,
                 place: at,
@@ -99,7 +94,6 @@ fn parse(s: &[u8], from: usize) -> Parsed
         let v = varint::number_of(u);
         numbers[i] = v;
         at = next;
-        i += 1;
     }
     Parsed {
         ok: true,
@@ -109,7 +103,7 @@ fn parse(s: &[u8], from: usize) -> Parsed
 }
 
 // A refusal, with zeros for the parameters.
-pub fn refused(verdict: Verdict) -> Reading
+pub fn refused(verdict: Result<usize, ReadError>) -> Reading
     ensures { result ≡ refusal verdict }
 {
     let numbers = [0i64; NUMBERS];
@@ -127,9 +121,9 @@ pub fn judged(params: Params, next: usize) -> Reading
     ensures { result ≡ judged_by (first_broken params) params next }
 {
     match params.first_broken() {
-        Found::At(i) => refused(Verdict::Broken(i)),
-        Found::Nothing => Reading {
-            verdict: Verdict::Accepted(next),
+        Some(i) => refused(Err(ReadError::Broken(i))),
+        None => Reading {
+            verdict: Ok(next),
             params,
         },
     }
@@ -144,7 +138,7 @@ pub fn read_front(s: &[u8], at: usize) -> Reading
     let p = parse(s, at + front_length(edition));
     let place = p.place;
     if !p.ok {
-        return refused(Verdict::Malformed(place));
+        return refused(Err(ReadError::Malformed(place)));
     }
     let numbers = p.numbers;
     judged(Params { numbers, edition }, place)
@@ -158,10 +152,10 @@ pub fn read(s: &[u8]) -> Reading
     let p = parse(s, front_length(edition));
     let place = p.place;
     if !p.ok {
-        return refused(Verdict::Malformed(place));
+        return refused(Err(ReadError::Malformed(place)));
     }
     if place < s.len() {
-        return refused(Verdict::Malformed(place));
+        return refused(Err(ReadError::Malformed(place)));
     }
     let numbers = p.numbers;
     judged(Params { numbers, edition }, place)
@@ -191,32 +185,30 @@ fn put(numbers: &[i64; NUMBERS], buf: &mut [u8], from: usize) -> usize
         × (buf.new ≡ sets buf.old from (bytes_of numbers.now)) }
 {
     let mut at = from;
-    let mut i: usize = 0;
-    while i < NUMBERS {
+    for i in 0..NUMBERS {
         let u = varint::code_of(numbers[i]);
-        let Put::Next(next) = varint::write_u64(buf, at, u) else {
+        let Some(next) = varint::write_u64(buf, at, u) else {
             return at;
         };
         at = next;
-        i += 1;
     }
     at
 }
 
 // Write the parameters from the start of the buffer, or say why not and leave the buffer.
-pub fn write(params: Params, buf: &mut [u8]) -> Written
+pub fn write(params: Params, buf: &mut [u8]) -> Result<usize, WriteError>
     ensures { (result ≡ (write_of params buf.old).answer) × (buf.new ≡ (write_of params buf.old).bytes) }
 {
     let edition = params.edition;
     if buf.len() < room_for(edition) {
-        return Written::Short;
+        return Err(WriteError::Short);
     }
     match params.first_broken() {
-        Found::At(i) => Written::Outside(i),
-        Found::Nothing => {
+        Some(i) => Err(WriteError::Outside(i)),
+        None => {
             let numbers = params.numbers;
             let from = put_front(edition, buf);
-            Written::Done(put(&numbers, buf, from))
+            Ok(put(&numbers, buf, from))
         }
     }
 }

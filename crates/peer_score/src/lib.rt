@@ -95,10 +95,8 @@ fn sharing_of(table: &[u64], group: u64) -> u64
 {
     let end = layout::records_end(table);
     let mut n: u64 = 0;
-    let mut slot: usize = 0;
-    while slot < end {
+    for slot in 0..end {
         n += shares(table, group, slot);
-        slot += 1;
     }
     n
 }

@@ -26,10 +26,8 @@ pub fn weights(table: &[u64], j: usize) -> [u64; TOPICS]
     ensures { Weighed (state_of table.now) j result }
 {
     let mut r = [0u64; TOPICS];
-    let mut t: usize = 0;
-    while t < TOPICS {
+    for t in 0..TOPICS {
         r[t] = times(load_param(table, t, param::WEIGHT), load_param(table, t, j));
-        t += 1;
     }
     r
 }
@@ -88,10 +86,8 @@ pub fn topics_at(
     if layout::is_bare(table, slot) {
         return sum;
     }
-    let mut t: usize = 0;
-    while t < TOPICS {
+    for t in 0..TOPICS {
         sum = sums::add(sum, share_at(table, w2, w3b, w4, t, slot));
-        t += 1;
     }
     sum
 }

@@ -1,5 +1,8 @@
 -- The groups of a connect, as the code tests them and makes them a record's.
 -- Assumes nothing.
+use Rattle.std.proofs.Common.{Result, Ok}
+use Rattle.std.proofs.Common.{Unit, tt}
+use Rattle.rules.specs.declared.Answer.{Answer}
 use Prim.Native.Nat.{ℕ, ◌+◌, ◌-◌, ◌<◌, ◌≤◌}
 use native.Mathlib.Omega.{arith}
 use mathlib.Core.Path.{◌≡◌, refl, sym, ◌∙◌}
@@ -12,8 +15,6 @@ use Rattle.index.specs.Index.{every}
 use Rattle.index.proofs.Index.{both}
 use Rattle.validity.specs.Valid.{max_id}
 use Rattle.layout.specs.View.{state_of}
-use Rattle.rules.specs.declared.Gate.{Gate}
-use Rattle.rules.specs.declared.Gate.TheVariants.{Pass}
 use Rattle.rules.specs.Calls.{group_ok, groups_ok, group_at}
 use Rattle.rules.specs.Step.{gate_of}
 use Rattle.rules.proofs.GroupLaws.{group_most}
@@ -57,9 +58,9 @@ module _ (groups : List ℕ) where
 
 -- behind the gate: what is asked of the groups stands between the id and the flags
 pub gate_groups :
-    (table : List ℕ) (a b d f : Bool) (room time : ℕ) (g : Gate) →
+    (table : List ℕ) (a b d f : Bool) (room time : ℕ) (g : Result (Unit {0}) Answer) →
     g ≡ gate_of (state_of table) (a && (b && (d && f))) room time →
-    g ≡ Pass →
+    g ≡ Ok tt →
     (groups : List ℕ) →
     d ≡ groups_ok groups →
     groups_ok groups ≡ true

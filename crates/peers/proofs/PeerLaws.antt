@@ -1,5 +1,7 @@
 -- What the four calls come to at each of their ends.
 -- Assumes nothing.
+use Rattle.std.proofs.Common.{Option, Some, None, Result, Ok}
+use Rattle.std.proofs.Common.{Unit, tt}
 use Rattle.rules.proofs.ConnectLaws.{by_connect}
 use Prim.Native.Nat.{ℕ, ◌<◌, ◌≤◌}
 use mathlib.Core.Path.{◌≡◌, refl, sym, ap, ap₂, ◌∙◌}
@@ -13,8 +15,6 @@ use mir.Val.{SFits, to_z, of_z}
 use mir.Syntax.{w64}
 use mir.Facts.{to_z-of_z}
 use Rattle.varint.specs.Codes.{code_of}
-use Rattle.index.specs.declared.Found.{Found}
-use Rattle.index.specs.declared.Found.TheVariants.{At, Nothing}
 use Rattle.index.specs.Index.{iter}
 use Rattle.index.proofs.Index.{both, first_is}
 use Rattle.records.specs.declared.Groups.{Groups}
@@ -22,16 +22,12 @@ use Rattle.records.specs.Records.{State, peer_in, is_empty, set_clock, slot_coun
 use Rattle.layout.specs.View.{state_of, Sized}
 use Rattle.layout.proofs.StateLaws.{sized_of}
 use Rattle.lookup.specs.Find.{holds, find_connected, find_retained, lowest_empty}
-use Rattle.lookup.specs.declared.Named.{Named}
-use Rattle.lookup.specs.declared.Named.TheVariants.{Version, Unknown}
 use Rattle.lookup.specs.Name.{version_of}
 use Rattle.lookup.proofs.NameLaws.{version_small}
 use Rattle.effects.specs.Effects.{on_peer, with_p5, retain_seconds, retained_to, end_after, left_topic, departed, reclaimed, NoneReclaimable}
 use Rattle.effects.proofs.EffectLaws.{full_none}
 use Rattle.effects.specs.Lent.{ConnectFits}
 use Rattle.gate.proofs.CallLaws.{gate_fine}
-use Rattle.rules.specs.declared.Gate.{Gate}
-use Rattle.rules.specs.declared.Gate.TheVariants.{Pass}
 use Rattle.rules.specs.declared.Answer.{Answer}
 use Rattle.rules.specs.declared.Answer.TheVariants.{Done, NoSlot, UnknownProtocol, AlreadyConnected}
 use Rattle.rules.specs.Reply.{Reply, done}
@@ -114,21 +110,21 @@ module _
 
 -- ---- connect, once the name and the id are tested: `mid` is the table after reclaiming
 
-pub retained_below : (st : State) (id s : ℕ) (r : Found) → r ≡ find_retained st id → r ≡ At s → s < slot_count
+pub retained_below : (st : State) (id s : ℕ) (r : Option ℕ) → r ≡ find_retained st id → r ≡ Some s → s < slot_count
 unfolding find_retained
 retained_below st id s r e g = (first_is (holds st 2 id) slot_count s (sym e ∙ g)).0
 
-pub empty_below : (st : State) (s : ℕ) (r : Found) → r ≡ lowest_empty st → r ≡ At s → s < slot_count
+pub empty_below : (st : State) (s : ℕ) (r : Option ℕ) → r ≡ lowest_empty st → r ≡ Some s → s < slot_count
 unfolding lowest_empty
 empty_below st s r e g = (first_is (λ i. is_empty (peer_in st i)) slot_count s (sym e ∙ g)).0
 
-full_as : (st : State) (time : ℕ) → Sized st → lowest_empty (reclaimed st time) ≡ Nothing → NoneReclaimable st time
+full_as : (st : State) (time : ℕ) → Sized st → lowest_empty (reclaimed st time) ≡ None → NoneReclaimable st time
 unfolding lowest_empty
 full_as st time size e = full_none st time size e
 
 module _ (table mid : List ℕ) (time id : ℕ) (groups : Groups) (flags version : ℕ) (e : state_of mid ≡ reclaimed (state_of table) time) where
   abbrev known : Reply
-  known = connect_in (state_of table) (reclaimed (state_of table) time) time id groups flags (Version version) Nothing
+  known = connect_in (state_of table) (reclaimed (state_of table) time) time id groups flags (Some version) None
 
   -- what the record's slot leaves is no refusal, so it is the same from either table
   pub connect_moved :
@@ -138,19 +134,19 @@ module _ (table mid : List ℕ) (time id : ℕ) (groups : Groups) (flags version
   unfolding connect_at
   connect_moved s a table' l = leaves_moved _ a table table' l.answer refl l.state
 
-  module _ (r : Found) (p : r ≡ find_retained (state_of mid) id) where
+  module _ (r : Option ℕ) (p : r ≡ find_retained (state_of mid) id) where
     pub connect_retained :
         (s : ℕ) (a : Answer) (table' : List ℕ) →
-        r ≡ At s →
+        r ≡ Some s →
         Leaves (connect_at (state_of mid) time id groups flags version s) a mid table' →
         Leaves known a table table'
     unfolding connect_in
     connect_retained s a table' g l = rw (← e, ← p, g) (connect_moved s a table' l)
 
-    module _ (n : r ≡ Nothing) (f : Found) (q : f ≡ lowest_empty (state_of mid)) where
+    module _ (n : r ≡ None) (f : Option ℕ) (q : f ≡ lowest_empty (state_of mid)) where
       pub connect_empty :
           (s : ℕ) (a : Answer) (table' : List ℕ) →
-          f ≡ At s →
+          f ≡ Some s →
           Leaves (connect_at (state_of mid) time id groups flags version s) a mid table' →
           Leaves known a table table'
       unfolding connect_in
@@ -159,7 +155,7 @@ module _ (table mid : List ℕ) (time id : ℕ) (groups : Groups) (flags version
       -- nothing empty after reclaiming: nothing was reclaimed, and no cell changed
       pub connect_full :
           (NoneReclaimable (state_of table) time → mid ≡ table) →
-          f ≡ Nothing →
+          f ≡ None →
           Leaves known NoSlot table mid
       unfolding connect_in
       connect_full still g =
@@ -173,24 +169,24 @@ module _ (table mid : List ℕ) (time id : ℕ) (groups : Groups) (flags version
 
 -- ---- connect: tests 6 and 4
 
-module _ (table name : List ℕ) (time id : ℕ) (groups : Groups) (flags : ℕ) (n : Named) (e : n ≡ version_of name) where
+module _ (table name : List ℕ) (time id : ℕ) (groups : Groups) (flags : ℕ) (n : Option ℕ) (e : n ≡ version_of name) where
   abbrev reply : Reply
   reply = connect_reply (state_of table) time id groups flags name
 
-  pub connect_unknown : n ≡ Unknown → Leaves reply UnknownProtocol table table
+  pub connect_unknown : n ≡ None → Leaves reply UnknownProtocol table table
   unfolding connect_reply connect_in
   connect_unknown g = rw (← e, g) (leaves_refused UnknownProtocol table)
 
-  module _ (version : ℕ) (g : n ≡ Version version) (f : Found) (p : f ≡ find_connected (state_of table) id) where
-    pub connect_already : (s : ℕ) → f ≡ At s → Leaves reply AlreadyConnected table table
+  module _ (version : ℕ) (g : n ≡ Some version) (f : Option ℕ) (p : f ≡ find_connected (state_of table) id) where
+    pub connect_already : (s : ℕ) → f ≡ Some s → Leaves reply AlreadyConnected table table
     unfolding connect_reply connect_in
     connect_already s h = rw (← e, g, ← p, h) (leaves_refused AlreadyConnected table)
 
     pub connect_new :
         (a : Answer) (table' : List ℕ) (held : Groups) →
-        f ≡ Nothing →
+        f ≡ None →
         held ≡ groups →
-        Leaves (connect_in (state_of table) (reclaimed (state_of table) time) time id held flags (Version version) Nothing) a table table' →
+        Leaves (connect_in (state_of table) (reclaimed (state_of table) time) time id held flags (Some version) None) a table table' →
         Leaves reply a table table'
     unfolding connect_reply
     connect_new a table' held h k l = rw (← e, g, ← p, h, ← k) l
@@ -198,23 +194,23 @@ module _ (table name : List ℕ) (time id : ℕ) (groups : Groups) (flags : ℕ)
 -- ---- what test 2 leaves of the arguments
 
 pub version_fits :
-    (name : List ℕ) (n : Named) (flags version : ℕ) → n ≡ version_of name → n ≡ Version version → flags ≤ 3 → ConnectFits flags version
+    (name : List ℕ) (n : Option ℕ) (flags version : ℕ) → n ≡ version_of name → n ≡ Some version → flags ≤ 3 → ConnectFits flags version
 version_fits name n flags version e g f =
     record { flags = f; version = let l = version_small name version (sym e ∙ g) in omega arith }
 
 pub tested_flags :
-    (table : List ℕ) (a b d : Bool) (room time : ℕ) (g : Gate) (flags : ℕ) →
+    (table : List ℕ) (a b d : Bool) (room time : ℕ) (g : Result (Unit {0}) Answer) (flags : ℕ) →
     g ≡ gate_of (state_of table) (a && (b && (d && leb flags 3))) room time →
-    g ≡ Pass →
+    g ≡ Ok tt →
     flags ≤ 3
 tested_flags table a b d room time g flags eg e =
     let t = both b (d && leb flags 3) (gate_fine table a _ room time g eg e) in
     leb-true flags 3 (both d (leb flags 3) t.1).1
 
 pub tested_p5 :
-    (table : List ℕ) (a b d : Bool) (room time : ℕ) (g : Gate) (x : ℕ) →
+    (table : List ℕ) (a b d : Bool) (room time : ℕ) (g : Result (Unit {0}) Answer) (x : ℕ) →
     g ≡ gate_of (state_of table) (a && (b && d)) room time →
-    g ≡ Pass →
+    g ≡ Ok tt →
     d ≡ leb x 1000000000 →
     x ≤ 1000000000
 tested_p5 table a b d room time g x eg e q =

@@ -18,12 +18,10 @@ use effects::connections::{connect_slot, reclaim, retain_slot};
 use effects::slots::{load_magnitude, rate_slot};
 use effects::values::end_after;
 use gate::{admit, finish, id_ok, time_ok};
-use index::Found;
 use layout::CELLS;
-use lookup::Named;
 use lookup::find::find_connected;
 use records::{Groups, param};
-use rules::{Answer, Gate};
+use rules::Answer;
 use validity::valid::MAX_ID;
 
 // The greatest number of groups.
@@ -45,10 +43,8 @@ fn each_ok(groups: &[u64]) -> bool
     ensures { result ≡ every (length groups.now) (group_ok groups.now) }
 {
     let mut ok = true;
-    let mut k: usize = 0;
-    while k < groups.len() {
+    for k in 0..groups.len() {
         ok = ok & group_ok(groups, k);
-        k += 1;
     }
     ok
 }
@@ -114,14 +110,14 @@ fn connect_known(
     requires { Ready table.old time × ConnectFits flags version }
     ensures { Leaves
         (connect_in (state_of table.old) (reclaimed (state_of table.old) time) time id groups flags
-        (Named.Version version) Found.Nothing) result
+        (Some version) None) result
         table.old table.new }
 {
     reclaim(table, time);
-    if let Found::At(slot) = lookup::find::find_retained(table, id) {
+    if let Some(slot) = lookup::find::find_retained(table, id) {
         return connect_at(table, time, id, groups, flags, version, slot);
     }
-    let Found::At(slot) = lookup::find::lowest_empty(table) else {
+    let Some(slot) = lookup::find::lowest_empty(table) else {
         return Answer::NoSlot;
     };
     connect_at(table, time, id, groups, flags, version, slot)
@@ -141,10 +137,10 @@ fn connect_from(
         (connect_reply (state_of table.old) time id (groups_of groups.now) flags name.now) result
         table.old table.new }
 {
-    let Named::Version(version) = lookup::name::version_of(name) else {
+    let Some(version) = lookup::name::version_of(name) else {
         return Answer::UnknownProtocol;
     };
-    if let Found::At(_) = find_connected(table, id) {
+    if let Some(_) = find_connected(table, id) {
         return Answer::AlreadyConnected;
     }
     connect_known(table, time, id, groups_of(groups), flags, version)
@@ -165,8 +161,8 @@ pub fn connect(
 {
     let fine = time_ok(time) & (id_ok(id) & (groups_ok(groups) & (flags <= 3)));
     match admit(table, fine, actions.len(), time) {
-        Gate::Refuse(a) => a,
-        Gate::Pass => connect_from(table, time, id, groups, flags, name),
+        Err(a) => a,
+        Ok(()) => connect_from(table, time, id, groups, flags, name),
     }
 }
 
@@ -175,7 +171,7 @@ fn disconnect_from(table: &mut [u64], time: u64, id: u64) -> Answer
     ensures { Leaves (effect (state_of table.old) (Calls·disconnect time id)) result
         table.old table.new }
 {
-    let Found::At(slot) = find_connected(table, id) else {
+    let Some(slot) = find_connected(table, id) else {
         return Answer::NotConnected;
     };
     retain_slot(
@@ -193,8 +189,8 @@ pub fn disconnect(table: &mut [u64; CELLS], time: u64, id: u64, actions: &mut [u
 {
     let fine = time_ok(time) & id_ok(id);
     match admit(table, fine, actions.len(), time) {
-        Gate::Refuse(a) => a,
-        Gate::Pass => disconnect_from(table, time, id),
+        Err(a) => a,
+        Ok(()) => disconnect_from(table, time, id),
     }
 }
 
@@ -210,7 +206,7 @@ fn rate_from(table: &mut [u64], time: u64, id: u64, p5: i64) -> Answer
     ensures { Leaves (effect (state_of table.old) (Calls·rate time id p5)) result
         table.old table.new }
 {
-    let Found::At(slot) = find_connected(table, id) else {
+    let Some(slot) = find_connected(table, id) else {
         return Answer::NotConnected;
     };
     rate_slot(table, slot, varint::code_of(p5));
@@ -224,8 +220,8 @@ pub fn rate(table: &mut [u64; CELLS], time: u64, id: u64, p5: i64, actions: &mut
 {
     let fine = time_ok(time) & (id_ok(id) & p5_ok(p5));
     match admit(table, fine, actions.len(), time) {
-        Gate::Refuse(a) => a,
-        Gate::Pass => rate_from(table, time, id, p5),
+        Err(a) => a,
+        Ok(()) => rate_from(table, time, id, p5),
     }
 }
 
@@ -233,7 +229,7 @@ fn score_from(table: &mut [u64], time: u64, id: u64) -> Answer
     requires { Ready table.old time }
     ensures { Leaves (effect (state_of table.old) (Calls·score time id)) result table.old table.new }
 {
-    let Found::At(slot) = find_connected(table, id) else {
+    let Some(slot) = find_connected(table, id) else {
         return Answer::NotConnected;
     };
     let w = peer_score::why_of(table, slot, layout::load_peer(table, slot));
@@ -248,7 +244,7 @@ pub fn score(table: &mut [u64; CELLS], time: u64, id: u64, actions: &mut [u32]) 
 {
     let fine = time_ok(time) & id_ok(id);
     match admit(table, fine, actions.len(), time) {
-        Gate::Refuse(a) => a,
-        Gate::Pass => score_from(table, time, id),
+        Err(a) => a,
+        Ok(()) => score_from(table, time, id),
     }
 }

@@ -1,6 +1,8 @@
 -- A better score never loses the place, of the calls (02, order 13): two states alike but for one P5 give two views alike but for one
 -- score, so what holds of the five steps holds of the mesh that a heartbeat writes back.
 -- Assumes nothing.
+use Rattle.std.proofs.Common.{Result, Ok, Err}
+use Rattle.std.proofs.Common.{Unit, tt}
 use Prim.Native.Nat.{ℕ, ◌<◌}
 use native.Mathlib.Omega.{arith}
 use mathlib.Core.Path.{◌≡◌, refl, sym, ap, ◌∙◌, subst}
@@ -24,8 +26,6 @@ use Rattle.sets.proofs.SlotLaws.{slots_at, slots_past}
 use Rattle.mesh.specs.Maintenance.{meshes}
 use Rattle.monotone.specs.Better.{Better}
 use Rattle.monotone.proofs.Place.{better_stays}
-use Rattle.rules.specs.declared.Gate.{Gate}
-use Rattle.rules.specs.declared.Gate.TheVariants.{Pass, Refuse}
 use Rattle.rules.specs.declared.Answer.TheVariants.{NotPermutation}
 use Rattle.rules.specs.Reply.{refused, ignored}
 use Rattle.rules.specs.Calls.{heartbeat, in_range, topic_ok}
@@ -176,7 +176,7 @@ module _
   unfolding step effect
   step_stays time t ask order room =
       subst
-      (λ (g : Gate). is_member (step st (heartbeat time t ask order) room).state t x ≡ true →
+      (λ (g : Result (Unit {0}) Answer). is_member (step st (heartbeat time t ask order) room).state t x ≡ true →
       is_member (through g u (heartbeat_reply u time t ask order)).state t x ≡ true)
       (sym same_gate)
       (go (gate_of st fine room time) refl)
@@ -188,14 +188,14 @@ module _
       same_gate = gates fine room time
 
       go :
-          (g : Gate) →
+          (g : Result (Unit {0}) Answer) →
           gate_of st fine room time ≡ g →
           is_member (through g st (heartbeat_reply st time t ask order)).state t x ≡ true →
           is_member (through g u (heartbeat_reply u time t ask order)).state t x ≡ true
-      go Pass e a =
+      go (Ok tt) e a =
           let p = gate_passed st fine room time e in
           reply_stays time t ask order (topic_in_lem t (both (topic_ok t) (leb ask 1) (arguments (heartbeat time t ask order) p.ranges)).0) a
-      go (Refuse r) e a = member_same st x code t x ∙ a
+      go (Err r) e a = member_same st x code t x ∙ a
 
 pub never_loses : NeverLoses
 never_loses st v x time t ask order room size ok ok' r a =

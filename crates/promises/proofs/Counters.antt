@@ -1,6 +1,7 @@
 -- Deliveries: one store, read at its place and elsewhere. Decay: only the turns of a slot touch its records, and each sees the record of
 -- the start.
 -- Assumes nothing.
+use Rattle.std.proofs.Common.{Some}
 use Prim.Native.Nat.{ℕ, ◌+◌, ◌*◌, ◌≤◌, ◌<◌, min}
 use native.Mathlib.Omega.{arith}
 use mathlib.Core.Path.{◌≡◌, refl, sym, ap, ap₂, ◌∙◌}
@@ -11,7 +12,6 @@ use lib.Dec.{eqb, leb}
 use lib.IntN.{nat_abs}
 use borrow.Author.Tests.{eqb-true, eqb-false, eq-eqb, ne_eqb, leb-true}
 use Rattle.index.specs.Index.{iter}
-use Rattle.index.specs.declared.Found.TheVariants.{At}
 use Rattle.index.proofs.Index.{both, iter_keeps}
 use Rattle.index.proofs.Flags.{by_test, cond_case}
 use Rattle.varint.specs.Codes.{code_of, magnitude}
@@ -131,7 +131,7 @@ deliveries start calls fine time t kind s room h on =
     let st = after start calls in
     let w = standing start fine calls in
     let id = (peer_in st s).id in
-    let at_slot : find_connected st id ≡ At s = connected_is st (valid_facts st w.router) s h on in
+    let at_slot : find_connected st id ≡ Some s = connected_is st (valid_facts st w.router) s h on in
     by_gate (λ (r : Reply). number_of r.answer ≡ 0 → Delivered start.params t kind s st r.state) st (deliver time id t kind) room
     (λ a e z. absurd (eqb-false (number_of a) 0 e z))
     (λ p.

@@ -1,6 +1,7 @@
 -- P3b, the other calls: a relation between two states that composes, `Lower`, kept by every store but that of a member's PRUNE; and a
 -- connect, whose slot is its id's own, or was emptied, or is empty.
 -- Assumes nothing.
+use Rattle.std.proofs.Common.{Option, Some, None}
 use Rattle.rules.proofs.ConnectLaws.{by_connect}
 use Prim.Native.Nat.{ℕ, ◌+◌, ◌*◌, ◌≤◌, ◌<◌}
 use native.Mathlib.Omega.{arith}
@@ -12,8 +13,6 @@ use lib.Dec.{eqb}
 use lib.ListN.{get_or}
 use borrow.Author.Tests.{eqb-true, eqb-false}
 use Rattle.index.specs.Index.{iter}
-use Rattle.index.specs.declared.Found.{Found}
-use Rattle.index.specs.declared.Found.TheVariants.{At, Nothing}
 use Rattle.index.proofs.Index.{iter_keeps}
 use Rattle.index.proofs.Flags.{by_test, cond_case}
 use Rattle.varint.specs.Codes.{code_of, magnitude}
@@ -156,9 +155,9 @@ module _ (st : State) (time : ℕ) where
   low_if : (b : Bool) (r q : Reply) → Low r → Low q → Low (cond b r q)
   low_if b r q f g = cond_case Low b r q (λ e. f) (λ e. g)
 
-  low_found : (r : Found) (f : ℕ → Reply) (q : Reply) → ((s : ℕ) → Low (f s)) → Low q → Low (on_found r f q)
-  low_found (At s) f q h k = h s
-  low_found Nothing f q h k = k
+  low_found : (r : Option ℕ) (f : ℕ → Reply) (q : Reply) → ((s : ℕ) → Low (f s)) → Low q → Low (on_found r f q)
+  low_found (Some s) f q h k = h s
+  low_found None f q h k = k
 
   low_peer : (id : ℕ) (f : ℕ → Reply) → ((s : ℕ) → Low (f s)) → Low (of_peer st id f)
   low_peer id f h = low_found (find_connected st id) f _ h (lower_self st)

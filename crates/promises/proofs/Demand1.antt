@@ -1,6 +1,8 @@
 -- Demand 1: every reply behind the gate is a refusal, an `ignored` or a `done`, and each of the three is so by its definition; of the
 -- program, a promise says it of every cell.
 -- Assumes nothing.
+use Rattle.std.proofs.Common.{Option, Some, None, Ok, Err}
+use Rattle.std.proofs.Common.{tt}
 use Rattle.rules.proofs.ConnectLaws.{by_connect}
 use Rattle.records.specs.declared.Peer.{Peer}
 use Prim.Native.Nat.{ℕ}
@@ -12,8 +14,6 @@ use mathlib.Core.List.{List, []}
 use lib.Dec.{leb}
 use lib.ListN.{length, set}
 use lib.Seq.{sets}
-use Rattle.index.specs.declared.Found.{Found}
-use Rattle.index.specs.declared.Found.TheVariants.{At, Nothing}
 use Rattle.index.proofs.Flags.{cond_case}
 use Rattle.records.specs.declared.Groups.{Groups}
 use Rattle.records.specs.Records.{State, slot_count, set_clock}
@@ -26,7 +26,6 @@ use Rattle.effects.specs.Effects.{is_joined}
 use Rattle.rules.specs.declared.Answer.{Answer}
 use Rattle.rules.specs.declared.Answer.TheVariants.{Done, Scored, Early, OutOfRange, NotConnected, AlreadyConnected, NoSlot}
 use Rattle.rules.specs.declared.Answer.TheVariants.{UnknownProtocol, NotPermutation, ListShort, Ignored, NotRouter}
-use Rattle.rules.specs.declared.Gate.TheVariants.{Pass, Refuse}
 use Rattle.rules.specs.Reply.{Reply, number_of, refuses, refused, ignored, done}
 use Rattle.rules.specs.Calls.{Call, connect, disconnect, join, leave, subscribe, unsubscribe, graft, prune, deliver, rate, heartbeat, decay}
 use Rattle.rules.specs.Calls.{groups_of, score, time_of, in_range}
@@ -54,9 +53,9 @@ module _ (st : State) (time : ℕ) where
   un_cond : (b : Bool) (o q : Reply) → Un o → Un q → Un (cond b o q)
   un_cond b o q h k = cond_case Un b o q (λ e. h) (λ e. k)
 
-  un_found : (r : Found) (f : ℕ → Reply) (q : Reply) → ((s : ℕ) → Un (f s)) → Un q → Un (on_found r f q)
-  un_found (At s) f q h k = h s
-  un_found Nothing f q h k = k
+  un_found : (r : Option ℕ) (f : ℕ → Reply) (q : Reply) → ((s : ℕ) → Un (f s)) → Un q → Un (on_found r f q)
+  un_found (Some s) f q h k = h s
+  un_found None f q h k = k
 
   un_peer : (id : ℕ) (f : ℕ → Reply) → ((s : ℕ) → Un (f s)) → Un (of_peer st id f)
   un_peer id f h = un_found (find_connected st id) f _ h (un_refused NotConnected (λ e. omega arith))
@@ -116,7 +115,7 @@ un_effect st (score time id) =
 un_gate :
     (v f r k : Bool) (st : State) (time : ℕ) (o : Reply) → Untouched st time o →
     Untouched st time
-    (through (cond v (cond f (cond r (cond k Pass (Refuse Early)) (Refuse ListShort)) (Refuse OutOfRange)) (Refuse NotRouter)) st o)
+    (through (cond v (cond f (cond r (cond k (Ok tt) (Err Early)) (Err ListShort)) (Err OutOfRange)) (Err NotRouter)) st o)
 un_gate false f r k st time o h = un_refused st time NotRouter (λ e. omega arith)
 un_gate true false r k st time o h = un_refused st time OutOfRange (λ e. omega arith)
 un_gate true true false k st time o h = un_refused st time ListShort (λ e. omega arith)

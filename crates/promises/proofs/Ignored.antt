@@ -1,6 +1,7 @@
 -- The rows of 11 and 0. 11: each reply by its own tests, then through the search, which finds the one slot that holds the id. 0: what is
 -- answered behind the gate is one of seven numbers, and each of the six others is shut out by its row.
 -- Assumes nothing.
+use Rattle.std.proofs.Common.{Option, Some, None}
 use Prim.Native.Nat.{ℕ, ◌<◌}
 use native.Mathlib.Omega.{arith}
 use mathlib.Core.Path.{◌≡◌, refl, sym, ap, ◌∙◌, subst}
@@ -11,8 +12,6 @@ use lib.Dec.{eqb}
 use lib.IntN.{pos}
 use lib.ListN.{get_or, get_or-map}
 use borrow.Author.Tests.{eqb-true, eqb-false, eq-eqb}
-use Rattle.index.specs.declared.Found.{Found}
-use Rattle.index.specs.declared.Found.TheVariants.{At, Nothing}
 use Rattle.rules.specs.declared.Answer.TheVariants.{NotConnected}
 use Rattle.validity.specs.Valid.{valid}
 use Rattle.rules.proofs.CaseLaws.{by_peer}
@@ -131,21 +130,21 @@ module _ (st : State) (ok : valid st ≡ true) (id : ℕ) (f : ℕ → Reply) (Q
       ((s : ℕ) → (number_of (f s).answer ≡ 11) ↔ Q s) → (number_of (of_peer st id f).answer ≡ 11) ↔ Sender st id Q
   peer_11 h = go (find_connected st id) refl
     where
-      slot : (s : ℕ) → s < slot_count → (peer_in st s).status ≡ 1 → (peer_in st s).id ≡ id → find_connected st id ≡ At s
+      slot : (s : ℕ) → s < slot_count → (peer_in st s).status ≡ 1 → (peer_in st s).id ≡ id → find_connected st id ≡ Some s
       slot s l on e = ap (find_connected st) (sym e) ∙ connected_is st (valid_facts st ok) s l on
 
-      same : (s k : ℕ) → At s ≡ At k → s ≡ k
+      same : (s k : ℕ) → Some s ≡ Some k → s ≡ k
       same s k e = cc
 
-      go : (r : Found) → find_connected st id ≡ r → (number_of (on_found r f (refused NotConnected st)).answer ≡ 11) ↔ Sender st id Q
-      go (At s) e =
+      go : (r : Option ℕ) → find_connected st id ≡ r → (number_of (on_found r f (refused NotConnected st)).answer ≡ 11) ↔ Sender st id Q
+      go (Some s) e =
           let q = connected_at st id s e in (
             λ n. (s, q.0, q.1, q.2, (h s).0 n),
             λ w.
                 let z : w.0 ≡ s = same w.0 s (sym (slot w.0 w.1 w.2 w.3) ∙ e) in
                 (h s).1 (subst Q z w.4),
           )
-      go Nothing e =
+      go None e =
           iff_no (λ n. omega (arith, n)) (λ w. none_connected st id e w.0 w.1 w.2 w.3)
 
 -- where the peer's reply is 0 it is not 11

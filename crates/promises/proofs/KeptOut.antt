@@ -1,6 +1,7 @@
 -- Kept out, over every list of calls: what a call shuts is held in the state it leaves, every later call keeps it held, and of a member it
 -- is over, since its own backoff ended when it came in.
 -- Assumes nothing.
+use Rattle.std.proofs.Common.{Option, Some, None}
 use Prim.Native.Nat.{ℕ, ◌+◌, ◌≤◌, ◌<◌}
 use native.Mathlib.Omega.{arith}
 use mathlib.Core.Path.{◌≡◌, refl, sym, ap, ◌∙◌}
@@ -10,8 +11,6 @@ use mathlib.Core.List.{List, [], ◌∷◌, map}
 use lib.Dec.{eqb, leb}
 use borrow.Author.Tests.{eqb-true}
 use Rattle.index.specs.Index.{one}
-use Rattle.index.specs.declared.Found.{Found}
-use Rattle.index.specs.declared.Found.TheVariants.{At, Nothing}
 use Rattle.index.proofs.Index.{both}
 use Rattle.index.proofs.Flags.{cond_case}
 use Rattle.varint.specs.Codes.{code_of}
@@ -76,9 +75,9 @@ pub by_id :
     P (of_peer st id f)
 by_id st P id f none some = go (find_connected st id) refl
   where
-    go : (r : Found) → find_connected st id ≡ r → P (on_found r f (refused NotConnected st))
-    go (At s) e = let q = connected_at st id s e in some s q.0 q.1 q.2
-    go Nothing e = none
+    go : (r : Option ℕ) → find_connected st id ≡ r → P (on_found r f (refused NotConnected st))
+    go (Some s) e = let q = connected_at st id s e in some s q.0 q.1 q.2
+    go None e = none
 
 module _ (params : Params) (st : State) (size : Sized st) (ok : valid st ≡ true) (codes : st.codes ≡ map code_of params.numbers) where
   effect_shuts : (c : Call) → arguments_ok c ≡ true → Shuts params c (effect st c)
@@ -144,11 +143,11 @@ module _ (params : Params) (st : State) (size : Sized st) (ok : valid st ≡ tru
       (λ wrong n. absurd (n refl)))
 
 -- what a retained record holds at the start
-held_start : (st : State) (id t : ℕ) (f : Found) → find_retained st id ≡ f → Held (shut_at_start st t f) st id t
-held_start st id t (At s) e =
+held_start : (st : State) (id t : ℕ) (f : Option ℕ) → find_retained st id ≡ f → Held (shut_at_start st t f) st id t
+held_start st id t (Some s) e =
     let q = retained_at st id s e in
     inr (s, q.0, (λ z. omega (arith, z, q.1)), q.2, omega arith)
-held_start st id t Nothing e = held_zero st id t
+held_start st id t None e = held_zero st id t
 
 -- ---- every list of calls
 module _ (start : Start) (fine : Accepted start) where

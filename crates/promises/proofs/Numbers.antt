@@ -1,6 +1,7 @@
 -- The rows of the table of numbers, each call by its ends: the five of the gate, the four of a connect, the three of a heartbeat, and a
 -- peer's call, which is 3 or what its reply is.
 -- Assumes nothing.
+use Rattle.std.proofs.Common.{Option, Some, None}
 use Rattle.rules.proofs.ConnectLaws.{by_connect}
 use Prim.Native.Nat.{ℕ, ◌≤◌, ◌<◌}
 use native.Mathlib.Omega.{arith}
@@ -18,15 +19,12 @@ use Rattle.layout.specs.View.{Sized}
 use Rattle.validity.proofs.ValidLaws.{valid_facts}
 use Rattle.lookup.proofs.NameLaws.{same_bytes_lem, same_self}
 use Rattle.effects.proofs.EffectLaws.{reclaimed_peer, reclaimable_retained, reclaimable_end, reclaimable_over, none_reclaimed, full_stays}
-use Rattle.index.specs.declared.Found.{Found}
-use Rattle.index.specs.declared.Found.TheVariants.{At, Nothing}
 use Rattle.index.proofs.Flags.{by_test, cond_case}
 use Rattle.records.specs.declared.Groups.{Groups}
 use Rattle.records.specs.Records.{State, no_peer, slot_count, peer_in, joined_in}
 use Rattle.validity.specs.Valid.{valid}
 use Rattle.lookup.specs.Find.{find_connected, find_retained, lowest_empty}
 use Rattle.lookup.proofs.FindLaws.{connected_at, retained_at, empty_at, none_connected, none_retained, none_empty}
-use Rattle.lookup.specs.declared.Named.TheVariants.{Version, Unknown}
 use Rattle.lookup.specs.Name.{meshsub, same_bytes, version_of}
 use Rattle.sets.specs.Sets.{is_permutation}
 use Rattle.effects.specs.Effects.{is_joined, backoff_runs, reclaimable, reclaimed}
@@ -136,30 +134,30 @@ module _ (st : State) (id : ℕ) (f : ℕ → Reply) (h : (s : ℕ) → Fine (f 
   peer_late : late (of_peer st id f).answer ≡ true
   peer_late = go (find_connected st id)
     where
-      go : (r : Found) → late (on_found r f (refused NotConnected st)).answer ≡ true
-      go (At s) = late_fine (f s).answer (h s)
-      go Nothing = refl
+      go : (r : Option ℕ) → late (on_found r f (refused NotConnected st)).answer ≡ true
+      go (Some s) = late_fine (f s).answer (h s)
+      go None = refl
 
   peer_3 : (number_of (of_peer st id f).answer ≡ 3) ↔ Missing st id
   peer_3 = go (find_connected st id) refl
     where
-      go : (r : Found) → find_connected st id ≡ r → (number_of (on_found r f (refused NotConnected st)).answer ≡ 3) ↔ Missing st id
-      go (At s) e =
+      go : (r : Option ℕ) → find_connected st id ≡ r → (number_of (on_found r f (refused NotConnected st)).answer ≡ 3) ↔ Missing st id
+      go (Some s) e =
           let q = connected_at st id s e in
           iff_no (λ n. fine_number (f s).answer (h s) 3 n (λ z. omega (arith, z)) (λ z. omega (arith, z)))
           (λ m. m s q.0 q.1 q.2)
-      go Nothing e = iff_yes refl (none_connected st id e)
+      go None e = iff_yes refl (none_connected st id e)
 
   peer_not : (n : ℕ) → n ≢ 0 → n ≢ 11 → n ≢ 3 → number_of (of_peer st id f).answer ≡ n → ⊥
   peer_not n x y z = go (find_connected st id)
     where
-      go : (r : Found) → number_of (on_found r f (refused NotConnected st)).answer ≡ n → ⊥
-      go (At s) q = fine_number (f s).answer (h s) n q x y
-      go Nothing q = z (sym q)
+      go : (r : Option ℕ) → number_of (on_found r f (refused NotConnected st)).answer ≡ n → ⊥
+      go (Some s) q = fine_number (f s).answer (h s) n q x y
+      go None q = z (sym q)
 
 -- ---- connect
 -- the name, byte for byte
-known_of : (name : List ℕ) (v : ℕ) → version_of name ≡ Version v → Known name
+known_of : (name : List ℕ) (v : ℕ) → version_of name ≡ Some v → Known name
 unfolding version_of
 known_of name v e =
     by_test _ (same_bytes name (meshsub 48))
@@ -170,9 +168,9 @@ known_of name v e =
     (λ b.
     by_test _ (same_bytes name (meshsub 50))
     (λ d. inr (inr (same_bytes_lem name (meshsub 50) d)))
-    (λ d. let w : Unknown ≡ Version v = rw (a, b, d) at e in let z : ◌≡◌ {A = ℕ} 0 1 = cc in absurd (omega (arith, z)))))
+    (λ d. let w : None ≡ Some v = rw (a, b, d) at e in let z : ◌≡◌ {A = ℕ} 0 1 = cc in absurd (omega (arith, z)))))
 
-strange_of : (name : List ℕ) → version_of name ≡ Unknown → Strange name
+strange_of : (name : List ℕ) → version_of name ≡ None → Strange name
 unfolding version_of
 strange_of name e = none (same_bytes name (meshsub 48)) (same_bytes name (meshsub 49)) (same_bytes name (meshsub 50)) e (other 48) (other 49)
     (other 50)
@@ -180,7 +178,7 @@ strange_of name e = none (same_bytes name (meshsub 48)) (same_bytes name (meshsu
     other : (m : ℕ) → same_bytes name (meshsub m) ≡ false → name ≢ meshsub m
     other m f q = false≢true (sym f ∙ ap (λ (l : List ℕ). same_bytes l (meshsub m)) q ∙ same_self (meshsub m))
 
-    none : {A B C : Type 0} (p q r : Bool) → cond p (Version 0) (cond q (Version 1) (cond r (Version 2) Unknown)) ≡ Unknown →
+    none : {A B C : Type 0} (p q r : Bool) → cond p (Some 0) (cond q (Some 1) (cond r (Some 2) None)) ≡ None →
         (p ≡ false → A) → (q ≡ false → B) → (r ≡ false → C) → A × B × C
     none true q r e f g h = let z : ◌≡◌ {A = ℕ} 0 1 = cc in absurd (omega (arith, z))
     none false true r e f g h = let z : ◌≡◌ {A = ℕ} 0 1 = cc in absurd (omega (arith, z))
@@ -196,16 +194,16 @@ module _ (st : State) (time id : ℕ) (groups : Groups) (flags : ℕ) (name : Li
 
   -- a slot that is given: the id's own, or the lowest empty one
   abbrev Given : Type 0
-  Given = ((s : ℕ) × (find_retained u id ≡ At s)) ⊎ ((s : ℕ) × (lowest_empty u ≡ At s))
+  Given = ((s : ℕ) × (find_retained u id ≡ Some s)) ⊎ ((s : ℕ) × (lowest_empty u ≡ Some s))
 
   -- the four answers of a connect
   by_answer :
       (P : Answer → Type 0) →
-      (version_of name ≡ Unknown → P UnknownProtocol) →
-      ((v s : ℕ) → version_of name ≡ Version v → find_connected st id ≡ At s → P AlreadyConnected) →
-      ((v : ℕ) → version_of name ≡ Version v → find_connected st id ≡ Nothing → find_retained u id ≡ Nothing → lowest_empty u ≡ Nothing →
+      (version_of name ≡ None → P UnknownProtocol) →
+      ((v s : ℕ) → version_of name ≡ Some v → find_connected st id ≡ Some s → P AlreadyConnected) →
+      ((v : ℕ) → version_of name ≡ Some v → find_connected st id ≡ None → find_retained u id ≡ None → lowest_empty u ≡ None →
       P NoSlot) →
-      ((v : ℕ) → version_of name ≡ Version v → find_connected st id ≡ Nothing → Given → P (Done 0)) →
+      ((v : ℕ) → version_of name ≡ Some v → find_connected st id ≡ None → Given → P (Done 0)) →
       P (connect_reply st time id groups flags name).answer
   unfolding connect_at
   by_answer P p6 p4 p5 p0 =
@@ -275,7 +273,7 @@ module _ (st : State) (time id : ℕ) (groups : Groups) (flags : ℕ) (name : Li
       g
 
   all_held :
-      Sized st → valid st ≡ true → find_connected st id ≡ Nothing → find_retained u id ≡ Nothing → lowest_empty u ≡ Nothing → AllHeld
+      Sized st → valid st ≡ true → find_connected st id ≡ None → find_retained u id ≡ None → lowest_empty u ≡ None → AllHeld
   unfolding lowest_empty
   all_held size ok e f g s l =
       let same : u ≡ st = full_stays st time size g in

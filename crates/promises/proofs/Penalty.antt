@@ -1,5 +1,6 @@
 -- P7: a relation between two states that composes, `Milder`, kept by every store but the one of a GRAFT in during a backoff.
 -- Assumes nothing.
+use Rattle.std.proofs.Common.{Some}
 use Rattle.rules.proofs.ConnectLaws.{by_connect}
 use Prim.Native.Nat.{ℕ, ◌+◌, ◌≤◌, ◌<◌, min}
 use native.Mathlib.Omega.{arith}
@@ -10,7 +11,6 @@ use mathlib.Core.List.{List, [], map}
 use lib.Dec.{eqb}
 use borrow.Author.Tests.{eqb-true, eqb-false, ne_eqb, ltb-true, lt-ltb, eq-eqb}
 use Rattle.index.specs.Index.{iter}
-use Rattle.index.specs.declared.Found.TheVariants.{At}
 use Rattle.index.proofs.Index.{iter_keeps}
 use Rattle.index.proofs.Flags.{by_test, cond_case}
 use Rattle.varint.specs.Codes.{code_of, magnitude}
@@ -328,7 +328,7 @@ module _ (params : Params) (st : State) (ok : valid st ≡ true) (codes : st.cod
       let id = (peer_in st s).id in
       let c = graft time id t in
       let g = gate_0 st (in_range c) room (time_of c) st.clock a.router a.ranges a.list refl a.time in
-      let at_slot : find_connected st id ≡ At s = connected_is st (valid_facts st ok) s h w.connected in
+      let at_slot : find_connected st id ≡ Some s = connected_is st (valid_facts st ok) s h w.connected in
       let low : is_graylisted st s ≡ false =
       by_test _ (is_graylisted st s) (λ e. absurd (w.heard (gray_yes params st codes s e))) (λ e. e) in
       rw

@@ -1,5 +1,6 @@
 -- Who was told PRUNE, or told it us, stays out: the end of each such backoff is in the peer's record, or over. Call by call.
 -- Assumes nothing.
+use Rattle.std.proofs.Common.{Option, Some, None}
 use Rattle.rules.proofs.ConnectLaws.{by_connect}
 use lib.ListN.{length, get_or}
 use Prim.Native.Nat.{ℕ, ◌≤◌, ◌<◌, max, min}
@@ -11,8 +12,6 @@ use mathlib.Core.List.{List, [], map}
 use lib.Dec.{eqb, ltb}
 use borrow.Author.Tests.{eqb-true, ltb-true}
 use Rattle.index.specs.Index.{iter, one}
-use Rattle.index.specs.declared.Found.{Found}
-use Rattle.index.specs.declared.Found.TheVariants.{At, Nothing}
 use Rattle.index.proofs.Index.{both}
 use Rattle.index.proofs.Flags.{by_test, by_order, cond_case}
 use Rattle.varint.specs.Codes.{code_of}
@@ -98,9 +97,9 @@ module _ (st : State) (time : ℕ) (c : st.clock ≤ time) where
   either : (b : Bool) (o q : Reply) → Kept o → Kept q → Kept (cond b o q)
   either b o q h k = cond_case Kept b o q (λ e. h) (λ e. k)
 
-  found : (r : Found) (f : ℕ → Reply) (q : Reply) → ((s : ℕ) → r ≡ At s → Kept (f s)) → Kept q → Kept (on_found r f q)
-  found (At s) f q h k = h s refl
-  found Nothing f q h k = k
+  found : (r : Option ℕ) (f : ℕ → Reply) (q : Reply) → ((s : ℕ) → r ≡ Some s → Kept (f s)) → Kept q → Kept (on_found r f q)
+  found (Some s) f q h k = h s refl
+  found None f q h k = k
 
   peered : (id : ℕ) (f : ℕ → Reply) → ((s : ℕ) → Kept (f s)) → Kept (of_peer st id f)
   peered id f h = found (find_connected st id) f _ (λ s e. h s) (hold_self st)

@@ -1,5 +1,6 @@
 -- GRAFT in, test by test: who may return passes each of them, and who fails one of the later ones is told by its PRUNE.
 -- Assumes nothing.
+use Rattle.std.proofs.Common.{Some}
 use Prim.Native.Nat.{ℕ, zero, suc, ◌*◌, ◌≤◌, ◌<◌}
 use native.Mathlib.Omega.{arith}
 use mathlib.Core.Path.{◌≡◌, refl, sym, ap, ◌∙◌}
@@ -13,7 +14,6 @@ use Rattle.varint.specs.Codes.{number_of as signed, magnitude}
 use Rattle.params.proofs.ParamLaws.{general}
 use Rattle.score.specs.Score.{score_in}
 use borrow.Author.Tests.{eqb-false, eq-eqb, ne_eqb, le-leb, lt-leb, le-ltb}
-use Rattle.index.specs.declared.Found.TheVariants.{At}
 use Rattle.index.proofs.Flags.{cond_case}
 use Rattle.records.specs.declared.Peer.{Peer}
 use Rattle.records.specs.Records.{State, code_in, peer_in, topic_in, set_clock, set_peer, slot_count}
@@ -102,7 +102,7 @@ taken_back st time t s room size ok c top l m =
     let fine : in_range (graft time id t) ≡ true =
     rw (le-leb time max_time top, le-leb 1 id used, le-leb id 4294967295 p.id, le-leb t 7 (omega (arith, m.topic))) in
     let g = gate_0 st (in_range (graft time id t)) room time st.clock ok fine l refl c in
-    let at_slot : find_connected st id ≡ At s = connected_is st f s m.slot m.connected in
+    let at_slot : find_connected st id ≡ Some s = connected_is st f s m.slot m.connected in
     rw (← g, at_slot) (returned st time t s size ok m)
 
 -- ---- in, or told
@@ -135,5 +135,5 @@ graft_answered st time t s room size h on =
     by_gate (InOrTold st t s) st (graft time id t) room
     (λ a e. record { either = λ z. absurd (eqb-false (number_of a) 0 e z) })
     (λ p.
-    let at_slot : find_connected st id ≡ At s = connected_is st (valid_facts st p.router) s h on in
+    let at_slot : find_connected st id ≡ Some s = connected_is st (valid_facts st p.router) s h on in
     rw at_slot (answered st time t s size h (topic_of_both id t (arguments (graft time id t) p.ranges))))

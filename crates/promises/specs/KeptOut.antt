@@ -1,9 +1,8 @@
 -- "thrown out at once and kept out": over every list of calls, whom a backoff keeps out of a mesh. No member's backoff runs, nobody is told
 -- GRAFT before a second after his backoff, and who was told PRUNE, or told it us, is no member before that PRUNE's time is over, though he
 -- disconnect and return in between.
+use Rattle.std.specs.Prelude.{Option, Some, None}
 use Rattle.std.specs.Prelude.{ℕ, ◌+◌, ◌≤◌, ◌<◌, max, min, ◌≡◌, ◌≢◌, ◌⊎◌, true, cond, ◌&&◌, List, [], ◌∷◌, map, eqb, ltb, nat_abs}
-use Rattle.index.specs.declared.Found.{Found}
-use Rattle.index.specs.declared.Found.TheVariants.{At, Nothing}
 use Rattle.params.specs.declared.Params.{Params}
 use Rattle.limits.specs.Limits.{at}
 use Rattle.records.specs.Records.{State, slot_count, topic_count, place, peer_in, topic_in}
@@ -52,9 +51,9 @@ shut_by params (decay time) r id t = 0
 shut_by params (score time p) r id t = 0
 
 -- what a loaded router remembers of a peer, and a fresh one of nobody: its record's end (02, order 8)
-abbrev pub shut_at_start : State → ℕ → Found → ℕ
-shut_at_start st t (At s) = end_in st s t
-shut_at_start st t Nothing = 0
+abbrev pub shut_at_start : State → ℕ → Option ℕ → ℕ
+shut_at_start st t (Some s) = end_in st s t
+shut_at_start st t None = 0
 
 -- the latest of these ends in a list of calls, and of what the router began with
 unfoldable pub shut_until : Start → List Made → ℕ → ℕ → ℕ

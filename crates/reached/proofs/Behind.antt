@@ -1,6 +1,9 @@
 -- What a list of calls reaches, computed without the first tests: after every list the tables are a router's (crate call_lists), so a call
 -- that is in range and not early passes them, and its reply is its effect.
 -- Assumes nothing.
+use Rattle.std.proofs.Common.{Result}
+use Rattle.std.proofs.Common.{Unit}
+use Rattle.rules.specs.declared.Answer.{Answer}
 use native.Mathlib.Omega.{arith}
 use mathlib.Core.Path.{◌≡◌, refl, sym, ap, ap₂, ◌∙◌}
 use mathlib.Core.Bool.{Bool, true, ◌&&◌}
@@ -12,7 +15,6 @@ use Rattle.params.specs.Ordinary.{ordinary_params}
 use Rattle.params.proofs.OrdinaryLaws.{ordinary_accepted, ordinary_length}
 use Rattle.records.specs.Records.{State}
 use Rattle.lookup.specs.Fresh.{fresh_state}
-use Rattle.rules.specs.declared.Gate.{Gate}
 use Rattle.rules.specs.Reply.{Reply}
 use Rattle.rules.specs.Calls.{Call, time_of, in_range}
 use Rattle.rules.specs.Step.{action_room, through, effect, step}
@@ -49,7 +51,7 @@ reply_effect : (before : List Made) (c : Call) → passes_one (at before) c ≡ 
 unfolding reply step
 reply_effect before c e =
     let q = both (in_range c) (leb (at before).clock (time_of c)) e in
-    ap (λ (g : Gate). through g (at before) (effect (at before) c))
+    ap (λ (g : Result (Unit {0}) Answer). through g (at before) (effect (at before) c))
     (sym
     (gate_0 (at before) (in_range c) action_room (time_of c) (at before).clock
     (standing (fresh ordinary_params) accepted before).router

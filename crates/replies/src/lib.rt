@@ -102,10 +102,8 @@ fn copy_row(cells: &mut [u64], from: usize, to: usize)
 {
     let a = 1 + from * ROW_CELLS;
     let b = 1 + to * ROW_CELLS;
-    let mut k: usize = 0;
-    while k < ROW_CELLS {
+    for k in 0..ROW_CELLS {
         cells[b + k] = cells[a + k];
-        k += 1;
     }
 }
 
@@ -115,10 +113,8 @@ fn blank_row(cells: &mut [u64], r: usize, n: u64, place: u64)
     ensures { RowSet cells.old cells.new r (blank n) }
 {
     let b = 1 + r * ROW_CELLS;
-    let mut k: usize = 0;
-    while k < ROW_CELLS {
+    for k in 0..ROW_CELLS {
         cells[b + k] = 0;
-        k += 1;
     }
     cells[b] = n;
     cells[b + 1] = place;
@@ -244,10 +240,8 @@ pub fn end(cells: &mut [u64], slot: usize)
     ensures { replies_of cells.new ≡ ended slot (replies_of cells.old) }
 {
     let u = cells[0] as usize;
-    let mut r: usize = 0;
-    while r < u {
+    for r in 0..u {
         end_count(cells, r, slot);
-        r += 1;
     }
 }
 
@@ -273,11 +267,9 @@ pub fn keep_rows(cells: &mut [u64], flags: &[bool])
         → replies_of cells.new ≡ keep f (replies_of cells.old) }
 {
     let u = cells[0] as usize;
-    let mut r: usize = 0;
     let mut w: usize = 0;
-    while r < u {
+    for r in 0..u {
         w = keep_row(cells, flags[r], r, w);
-        r += 1;
     }
     cells[0] = w as u64;
 }
@@ -351,12 +343,10 @@ fn lanes_ok(x: u64, k: usize, connected: &[u64; WORDS], most: u64) -> bool
     requires { k < lane_cells }
     ensures { result ≡ cell_fits (on_bits connected.now) most k x }
 {
-    let mut j: usize = 0;
-    while j < LANES {
+    for j in 0..LANES {
         if !lane_ok(lane(x, j), LANES * k + j, connected, most) {
             return false;
         }
-        j += 1;
     }
     true
 }
@@ -385,12 +375,10 @@ fn row_ok(
     requires { RowLimits (on_bits connected.now) most cells.now l.now r }
     ensures { result ≡ lanes_fit (on_bits connected.now) most cells.now r }
 {
-    let mut k: usize = 0;
-    while k < LANE_CELLS {
+    for k in 0..LANE_CELLS {
         if !cell_ok(cells[1 + r * ROW_CELLS + (2 + k)], k, l[k], connected, most) {
             return false;
         }
-        k += 1;
     }
     true
 }
@@ -412,15 +400,13 @@ fn all_ok(cells: &[u64], l: &[u64; LANE_CELLS], connected: &[u64; WORDS], most: 
     ensures { result ≡ rows_ok (on_bits connected.now) most (replies_of cells.now) }
 {
     let u = cells[0] as usize;
-    let mut r: usize = 0;
-    while r < u {
+    for r in 0..u {
         if !rises_at(cells, r) {
             return false;
         }
         if !row_ok(cells, r, l, connected, most) {
             return false;
         }
-        r += 1;
     }
     true
 }

@@ -1,12 +1,11 @@
 -- An id that stands in a message is found as its row, and its number is that of the entry.
 -- Assumes nothing.
+use Rattle.std.proofs.Common.{Option, Some, None}
 use Rattle.index.proofs.Kit.{ℕ, ◌+◌, ◌-◌, ◌<◌, ◌≡◌, refl, sym, ap, ◌∙◌, true, false, arith, first_hit, by_test}
 use mathlib.Core.List.{List, ◌++◌}
 use borrow.Author.Tests.{eq-eqb}
 use lib.ListN.{length, get_or, length-append, get_or-append}
 use lib.Seq.{get_or-append-add}
-use Rattle.index.specs.declared.Found.{Found}
-use Rattle.index.specs.declared.Found.TheVariants.{At, Nothing}
 use Rattle.index.proofs.Index.{every_by}
 use Rattle.message_ids.specs.Ids.{id_size, id_start, same_at, is_id, row_of, number_row}
 use Rattle.message_ids.proofs.TableLaws.{GoodIds, ids_rise}
@@ -18,7 +17,7 @@ use Rattle.round_trip.proofs.Topics.{single}
 -- the row of a number that is in the table
 pub record Row (ids numbers : List ℕ) (v : ℕ) : Type 0 where
   pub row : ℕ
-  pub is : number_row numbers v ≡ At row
+  pub is : number_row numbers v ≡ Some row
   pub low : row < length numbers
   pub number : get_or numbers row 0 ≡ v
   pub bytes : id_of ids numbers v ≡ run ids (id_start row) (id_size ids row)
@@ -27,10 +26,10 @@ pub row_is : (ids numbers : List ℕ) (v : ℕ) → is_found (number_row numbers
 unfolding id_of
 row_is ids numbers v e = go (number_row numbers v) refl e
   where
-    go : (r : Found) → number_row numbers v ≡ r → is_found r ≡ true → Row ids numbers v
-    go (At k) f g =
+    go : (r : Option ℕ) → number_row numbers v ≡ r → is_found r ≡ true → Row ids numbers v
+    go (Some k) f g =
         record { row = k; is = f; low = row_below numbers v k f; number = row_number numbers v k f; bytes = rw f }
-    go Nothing f g = let z : ◌≡◌ {A = ℕ} 0 1 = cc in absurd (omega arith)
+    go None f g = let z : ◌≡◌ {A = ℕ} 0 1 = cc in absurd (omega arith)
 
 module _ (ids : List ℕ) (rows : ℕ) (g : GoodIds ids rows) (row : ℕ) (low : row < rows) (s before after : List ℕ)
     (e : s ≡ before ++ (run ids (id_start row) (id_size ids row) ++ after)) where
@@ -67,7 +66,7 @@ module _ (ids : List ℕ) (rows : ℕ) (g : GoodIds ids rows) (row : ℕ) (low :
       absurd (omega arith))
       (λ t. t)
 
-  pub row_found : row_of ids rows s (length before) (length (before ++ run ids (id_start row) (id_size ids row)) - length before) ≡ At row
+  pub row_found : row_of ids rows s (length before) (length (before ++ run ids (id_start row) (id_size ids row)) - length before) ≡ Some row
   unfolding row_of
   row_found =
       let k = singles (λ i. get_or ids (id_start row + i) 0) size in

@@ -13,13 +13,13 @@ pub use deliveries::{decay, deliver};
 pub use heartbeat::heartbeat;
 use layout::CELLS;
 pub use leaving::leave;
-use lookup::Made;
+use lookup::FreshError;
 use params::Params;
 pub use peers::{connect, disconnect, rate, score};
 pub use topics::{join, subscribe, unsubscribe};
 
 // Makes a fresh router: 9 with its place and the table unchanged, or every cell written.
-pub fn fresh(all: Params, table: &mut [u64; CELLS]) -> Made
+pub fn fresh(all: Params, table: &mut [u64; CELLS]) -> Result<(), FreshError>
     ensures { Makes all result table.old table.new }
 {
     lookup::fresh::fresh(all, table)

@@ -1,5 +1,6 @@
 -- The place of a broken field lies in the message, at every level; so what the reader answers is small.
 -- Assumes nothing.
+use Rattle.std.proofs.Common.{Some}
 use Rattle.index.proofs.Kit.{ℕ, ◌<◌, ◌≤◌, ◌≡◌, refl, ap, arith, by_test}
 use Prim.Native.Nat.{zero, suc}
 use mathlib.Core.List.{List, []}
@@ -10,7 +11,6 @@ use lib.Seq.{length-take-le}
 use Rattle.fields.specs.Fields.{field_at}
 use Rattle.fields.specs.Walk.{Items, items, broken, over, fields_of, itself}
 use Rattle.fields.specs.declared.Part.{Part}
-use Rattle.fields.specs.declared.Field.TheVariants.{Whole}
 use Rattle.fields.proofs.FieldLaws.{field_placed}
 use Rattle.fields.proofs.WalkLaws.{over_place}
 use Rattle.message_ids.specs.Ids.{table_ok}
@@ -49,7 +49,7 @@ role_place Skipped inner one own n q f g o e = nowhere q n e
 role_place Name inner one own n q f g o e = nowhere q n e
 role_place Value inner one own n q f g o e = nowhere q n e
 
-inside_place : (d kind : ℕ) (s : List ℕ) (at : ℕ) (p : Part) (q : ℕ) → field_at s at ≡ Whole p → inside d kind s p ≡ broken q → q < length s
+inside_place : (d kind : ℕ) (s : List ℕ) (at : ℕ) (p : Part) (q : ℕ) → field_at s at ≡ Some p → inside d kind s p ≡ broken q → q < length s
 unfolding inside
 inside_place zero kind s at p q f e = nowhere q (length s) e
 inside_place (suc d) kind s at p q f e =

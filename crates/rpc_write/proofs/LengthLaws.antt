@@ -1,6 +1,7 @@
 -- How long a message is: a subscription takes at most 70 bytes, a GRAFT or PRUNE at most 71, an id with its part of the head of all at most
 -- 71 too, and the control field three more.
 -- Assumes nothing.
+use Rattle.std.proofs.Common.{Option, Some, None}
 use Rattle.index.proofs.Kit.{ℕ, ◌+◌, ◌*◌, ◌<◌, ◌≤◌, ◌≡◌, refl, Bool, true, arith, one, by_test, by_order}
 use Rattle.index.specs.Index.{gather, count}
 use Prim.Native.Nat.{zero, suc}
@@ -8,8 +9,6 @@ use mathlib.Core.List.{List, ◌++◌, append-nil}
 use lib.Dec.{eqb, ltb, leb}
 use lib.ListN.{length, get_or, length-append}
 use Rattle.varint.specs.Groups.{encode}
-use Rattle.index.specs.declared.Found.{Found}
-use Rattle.index.specs.declared.Found.TheVariants.{At, Nothing}
 use Rattle.index.proofs.Index.{count_bound}
 use Rattle.message_ids.specs.Ids.{id_size, number_row, table_ok}
 use Rattle.rpc.specs.Reading.{row_bytes, name_bytes, Known}
@@ -85,12 +84,12 @@ ShortIds lent = (v : ℕ) → length (id_of lent.ids lent.numbers v) ≤ name_by
 pub short_ids : (lent : Known) (order : List ℕ) → table_ok lent.ids lent.numbers order ≡ true → ShortIds lent
 short_ids lent order ok v = go (number_row lent.numbers v) refl
   where
-    go : (r : Found) → r ≡ number_row lent.numbers v → length (id_of lent.ids lent.numbers v) ≤ name_bytes
-    go (At k) e =
-        let z = id_size_is lent.ids lent.numbers order ok v (At k) e k refl (id_size lent.ids k) refl in
+    go : (r : Option ℕ) → r ≡ number_row lent.numbers v → length (id_of lent.ids lent.numbers v) ≤ name_bytes
+    go (Some k) e =
+        let z = id_size_is lent.ids lent.numbers order ok v (Some k) e k refl (id_size lent.ids k) refl in
         let l = z.1 in
         omega (arith, z.0)
-    go Nothing e = let z = no_id lent.ids lent.numbers order ok v Nothing e refl in omega (arith, z.0)
+    go None e = let z = no_id lent.ids lent.numbers order ok v None e refl in omega (arith, z.0)
 
 module _ (lent : Known) (short : ShortIds lent) where
   -- ---- as a field: an entry is of one kind only, and an id's is five bytes shorter than the longest

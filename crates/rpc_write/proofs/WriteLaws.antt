@@ -1,5 +1,6 @@
 -- Laws of writing: bytes stored one after the other, and the ends of the functions that store them.
 -- Assumes nothing.
+use Rattle.std.proofs.Common.{Option, Some, None}
 use Rattle.index.proofs.Kit.{ℕ, ◌+◌, ◌-◌, ◌*◌, ◌<◌, ◌≤◌, ◌≡◌, refl, sym, ap, ◌∙◌, Bool, true, false, arith, every, every_fails}
 use Rattle.index.specs.Index.{gather}
 use Rattle.index.proofs.Kit.{every_done, by_order}
@@ -15,8 +16,6 @@ use Rattle.index.proofs.Index.{both, every_at, gather_none, gather_more}
 use Rattle.index.proofs.Lists.{sets_append}
 use Rattle.varint.specs.Groups.{encode}
 use Rattle.varint.proofs.GroupLaws.{encode_last, encode_more}
-use Rattle.index.specs.declared.Found.{Found}
-use Rattle.index.specs.declared.Found.TheVariants.{At, Nothing}
 use Rattle.message_ids.specs.Ids.{id_size, id_start, number_row, table_ok}
 use Rattle.message_ids.proofs.TableLaws.{table_parts, good_ids}
 use Rattle.message_ids.proofs.FindLaws.{row_below}
@@ -159,8 +158,8 @@ module _ (src : List ℕ) (start : ℕ) (b : List ℕ) (at : ℕ) where
       ((k, e), omega arith)
 
 -- ---- ids
-module _ (ids numbers order : List ℕ) (ok : table_ok ids numbers order ≡ true) (v : ℕ) (row : Found) (r : row ≡ number_row numbers v) where
-  module _ (k : ℕ) (e : row ≡ At k) where
+module _ (ids numbers order : List ℕ) (ok : table_ok ids numbers order ≡ true) (v : ℕ) (row : Option ℕ) (r : row ≡ number_row numbers v) where
+  module _ (k : ℕ) (e : row ≡ Some k) where
     -- the row is in the table
     pub record Row : Type 0 where
       pub low : k < length numbers
@@ -186,11 +185,11 @@ module _ (ids numbers order : List ℕ) (ok : table_ok ids numbers order ≡ tru
         Stored b at (run ids (id_start k) size) q out × (q ≤ at + name_bytes) → Stored b at (id_of ids numbers v) q out × (q ≤ at + name_bytes)
     id_stored b at size q out z s = rw (id_row.is, ← z) s
 
-  pub no_id : row ≡ Nothing → (0 ≡ length (id_of ids numbers v)) × (0 ≤ name_bytes)
+  pub no_id : row ≡ None → (0 ≡ length (id_of ids numbers v)) × (0 ≤ name_bytes)
   unfolding id_of
   no_id e = (rw (← r, e), omega arith)
 
-  pub no_id_stored : (b : List ℕ) (at : ℕ) → row ≡ Nothing → Stored b at (id_of ids numbers v) at b × (at ≤ at + name_bytes)
+  pub no_id_stored : (b : List ℕ) (at : ℕ) → row ≡ None → Stored b at (id_of ids numbers v) at b × (at ≤ at + name_bytes)
   unfolding id_of
   no_id_stored b at e = rw (← r, e) (stored_none b at, omega arith)
 
@@ -584,12 +583,12 @@ module _ (numbers : List ℕ) (kind topic v : ℕ) where
     unfolding notice_ok
     notice_topic n = rw (eq-eqb kind 3 e, ne_eqb topic 0 n)
 
-    module _ (f : topic ≡ 0) (row : Found) (r : row ≡ number_row numbers v) where
-      pub notice_found : (k : ℕ) → row ≡ At k → true ≡ notice_ok numbers kind topic v
+    module _ (f : topic ≡ 0) (row : Option ℕ) (r : row ≡ number_row numbers v) where
+      pub notice_found : (k : ℕ) → row ≡ Some k → true ≡ notice_ok numbers kind topic v
       unfolding notice_ok
       notice_found k h = rw (eq-eqb kind 3 e, eq-eqb topic 0 f, ← r, h)
 
-      pub notice_none : row ≡ Nothing → false ≡ notice_ok numbers kind topic v
+      pub notice_none : row ≡ None → false ≡ notice_ok numbers kind topic v
       unfolding notice_ok
       notice_none h = rw (eq-eqb kind 3 e, eq-eqb topic 0 f, ← r, h)
 

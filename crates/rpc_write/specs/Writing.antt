@@ -1,14 +1,13 @@
 -- An RPC written from a list of entries (02, orders 4 and 6), three numbers each, as the reader lists them: kind, topic, value; of an
 -- IDONTWANT entry 0 and the message's number. "fields in ascending order, one control field or none, shortest numbers, absent rather than
 -- zero."
+use Rattle.std.specs.Prelude.{Option, Some, None}
 use Rattle.std.specs.Prelude.{ℕ, ◌+◌, ◌-◌, ◌*◌, ◌≤◌, ◌<◌, ◌≡◌, Bool, true, false, ◌&&◌, ◌||◌, cond, List, [], ◌∷◌, ◌++◌, eqb, leb, ltb, length, get_or}
 use Rattle.std.proofs.lemmas.List.Edits.{sets}
 use Rattle.std.specs.Borrow.{Bor, MutBor}
 use denote.Triple.Both.{Both}
 use Rattle.index.specs.Index.{every, gather}
 use Rattle.varint.specs.Groups.{encode}
-use Rattle.index.specs.declared.Found.{Found}
-use Rattle.index.specs.declared.Found.TheVariants.{At, Nothing}
 use Rattle.message_ids.specs.Ids.{id_size, id_start, number_row, table_ok}
 use Rattle.rpc.specs.Messages.{subscription, graft, prune, idontwant}
 use Rattle.rpc.specs.Reading.{topics, name_bytes, row_bytes, Known, known}
@@ -52,9 +51,9 @@ unfoldable pub name_of : List ℕ → ℕ → List ℕ
 name_of names topic = run names (row_bytes * topic + 1) (name_size names topic)
 
 -- ---- message ids: the id of a number's row
-abbrev pub id_at : List ℕ → Found → List ℕ
-id_at ids (At k) = run ids (id_start k) (id_size ids k)
-id_at ids Nothing = []
+abbrev pub id_at : List ℕ → Option ℕ → List ℕ
+id_at ids (Some k) = run ids (id_start k) (id_size ids k)
+id_at ids None = []
 
 unfoldable pub id_of : List ℕ → List ℕ → ℕ → List ℕ
 id_of ids numbers v = id_at ids (number_row numbers v)
@@ -108,9 +107,9 @@ named_ok names kind topic v =
     && ((eqb kind subscription && leb v 1) || (eqb kind graft && eqb v 0) || (eqb kind prune && leb v most_seconds))
 
 -- an IDONTWANT: 0 in the topic's place, and a number of the table ("a number not in it 2")
-abbrev pub is_found : Found → Bool
-is_found (At k) = true
-is_found Nothing = false
+abbrev pub is_found : Option ℕ → Bool
+is_found (Some k) = true
+is_found None = false
 
 unfoldable pub notice_ok : List ℕ → ℕ → ℕ → ℕ → Bool
 notice_ok numbers kind topic v = eqb kind idontwant && (eqb topic 0 && is_found (number_row numbers v))

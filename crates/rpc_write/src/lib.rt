@@ -14,7 +14,6 @@ ghost use Rattle.message_ids.specs.Ids.{numbers_ok, table_ok};
 ghost use Rattle.rpc.specs.Messages.{idontwant};
 ghost use Rattle.rpc.specs.Reading.{name_bytes, known};
 
-use index::Found;
 use message_ids::{number_row, table_ok};
 use rpc::{GRAFT, IDONTWANT, NAME_BYTES, NAMES_BYTES, PRUNE, ROW_BYTES, SUBSCRIPTION};
 
@@ -168,10 +167,8 @@ fn put_run(buf: &mut [u8], at: usize, src: &[u8], start: usize, size: usize) -> 
     ensures { Puts buf at (run src.now start size) name_bytes result }
 {
     let n = fitting(buf.len(), at, size);
-    let mut i: usize = 0;
-    while i < n {
+    for i in 0..n {
         buf[at + i] = src[start + i];
-        i += 1;
     }
     at + size
 }
@@ -202,8 +199,8 @@ fn id_size(ids: &[u8], numbers: &[u64], order: &[u64], v: u64) -> usize
     ensures { (result ≡ length (id_of ids.now numbers.now v)) × (result ≤ name_bytes) }
 {
     match number_row(numbers, order, v) {
-        Found::At(k) => wide(ids[ROW_BYTES * k]),
-        Found::Nothing => 0,
+        Some(k) => wide(ids[ROW_BYTES * k]),
+        None => 0,
     }
 }
 
@@ -212,11 +209,11 @@ fn put_id(buf: &mut [u8], at: usize, ids: &[u8], numbers: &[u64], order: &[u64],
     ensures { Puts buf at (id_of ids.now numbers.now v) name_bytes result }
 {
     match number_row(numbers, order, v) {
-        Found::At(k) => {
+        Some(k) => {
             let row = ROW_BYTES * k;
             put_run(buf, at, ids, row + 1, wide(ids[row]))
         }
-        Found::Nothing => at,
+        None => at,
     }
 }
 
@@ -384,8 +381,7 @@ fn kind_size(
         kind number)) × (result ≤ 5760) }
 {
     let mut size: usize = 0;
-    let mut i: usize = 0;
-    while i < n {
+    for i in 0..n {
         let j = 3 * i;
         size += one_size(
             names,
@@ -398,7 +394,6 @@ fn kind_size(
             kind,
             number,
         );
-        i += 1;
     }
     size
 }
@@ -420,8 +415,7 @@ fn put_kind(
         kind number) 5760 result }
 {
     let mut place = at;
-    let mut i: usize = 0;
-    while i < n {
+    for i in 0..n {
         let j = 3 * i;
         place = put_one(
             buf,
@@ -436,7 +430,6 @@ fn put_kind(
             kind,
             number,
         );
-        i += 1;
     }
     place
 }
@@ -630,8 +623,8 @@ fn notice_ok(numbers: &[u64], order: &[u64], kind: u64, topic: u64, v: u64) -> b
         return false;
     }
     match number_row(numbers, order, v) {
-        Found::At(_) => true,
-        Found::Nothing => false,
+        Some(_) => true,
+        None => false,
     }
 }
 
@@ -666,13 +659,11 @@ fn list_ok(
     if list.len() < 3 * n {
         return false;
     }
-    let mut i: usize = 0;
-    while i < n {
+    for i in 0..n {
         let j = 3 * i;
         if !entry_ok(names, numbers, order, list[j], list[j + 1], list[j + 2]) {
             return false;
         }
-        i += 1;
     }
     true
 }

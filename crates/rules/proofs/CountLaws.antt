@@ -1,5 +1,7 @@
 -- Every reply counts its actions, and gives at most one for each slot; so they fit the lent list.
 -- Assumes nothing.
+use Rattle.std.proofs.Common.{Option, Some, None, Ok, Err}
+use Rattle.std.proofs.Common.{tt}
 use Rattle.rules.proofs.ConnectLaws.{by_connect}
 use Prim.Native.Nat.{ℕ, ◌+◌, ◌*◌, ◌≤◌}
 use mathlib.Core.Path.{◌≡◌, refl, ap, ◌∙◌}
@@ -9,8 +11,6 @@ use native.Mathlib.Omega.{arith}
 use lib.Dec.{leb}
 use lib.ListN.{length, length-map, drop}
 use lib.Seq.{sets-eq}
-use Rattle.index.specs.declared.Found.{Found}
-use Rattle.index.specs.declared.Found.TheVariants.{At, Nothing}
 use Rattle.index.proofs.Index.{gather_short}
 use Rattle.index.proofs.Flags.{cond_case}
 use Rattle.layout.specs.View.{state_of}
@@ -25,7 +25,6 @@ use Rattle.effects.specs.Actions.{Action, numbers_of}
 use Rattle.effects.proofs.ActionLaws.{numbers_length}
 use Rattle.effects.specs.Effects.{is_joined, is_member}
 use Rattle.rules.specs.declared.Answer.{Answer}
-use Rattle.rules.specs.declared.Gate.TheVariants.{Pass, Refuse}
 use Rattle.rules.specs.declared.Answer.TheVariants.{Early, OutOfRange, NotConnected, AlreadyConnected, NoSlot, UnknownProtocol}
 use Rattle.rules.specs.declared.Answer.TheVariants.{NotPermutation, ListShort, NotRouter}
 use Rattle.rules.specs.Reply.{Reply, actions_of, refused, ignored, done}
@@ -62,9 +61,9 @@ counted_cond : (b : Bool) (o q : Reply) → Counted o → Counted q → Counted 
 counted_cond b o q h k = cond_case Counted b o q (λ e. h) (λ e. k)
 
 counted_found :
-    (r : Found) (f : ℕ → Reply) (q : Reply) → ((s : ℕ) → Counted (f s)) → Counted q → Counted (on_found r f q)
-counted_found (At s) f q h k = h s
-counted_found Nothing f q h k = k
+    (r : Option ℕ) (f : ℕ → Reply) (q : Reply) → ((s : ℕ) → Counted (f s)) → Counted q → Counted (on_found r f q)
+counted_found (Some s) f q h k = h s
+counted_found None f q h k = k
 
 counted_peer : (st : State) (id : ℕ) (f : ℕ → Reply) → ((s : ℕ) → Counted (f s)) → Counted (of_peer st id f)
 counted_peer st id f h = counted_found (find_connected st id) f _ h (counted_refused NotConnected st refl)
@@ -158,7 +157,7 @@ counted_gate :
     (v ≡ true → Counted o) →
     Counted
     (through
-    (cond v (cond f (cond r (cond t Pass (Refuse Early)) (Refuse ListShort)) (Refuse OutOfRange)) (Refuse NotRouter))
+    (cond v (cond f (cond r (cond t (Ok tt) (Err Early)) (Err ListShort)) (Err OutOfRange)) (Err NotRouter))
     st
     o)
 counted_gate false f r t st o h = counted_refused NotRouter st refl

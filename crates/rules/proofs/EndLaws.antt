@@ -1,11 +1,10 @@
 -- The ends of a call in which only the clock moves, or which are 0 with no action; and which replies have no action.
 -- Assumes nothing.
+use Rattle.std.proofs.Common.{Option, Some, None}
 use Prim.Native.Nat.{ℕ}
 use mathlib.Core.Path.{◌≡◌, refl, sym, ap, ◌∙◌}
 use mathlib.Core.Bool.{Bool, cond, false≢true}
 use mathlib.Core.List.{List, []}
-use Rattle.index.specs.declared.Found.{Found}
-use Rattle.index.specs.declared.Found.TheVariants.{At, Nothing}
 use Rattle.index.proofs.Flags.{cond_case}
 use Rattle.records.specs.Records.{State, set_clock}
 use lib.ListN.{set}
@@ -68,12 +67,12 @@ quiet_cond t o q h k = cond_case (λ (r : Reply). r.actions ≡ []) t o q (λ e.
 
 -- a reply that goes by a search has no action if neither way has
 pub quiet_found :
-    (r : Found) (f : ℕ → Reply) (o : Reply) →
+    (r : Option ℕ) (f : ℕ → Reply) (o : Reply) →
     ((s : ℕ) → (f s).actions ≡ []) →
     o.actions ≡ [] →
     (on_found r f o).actions ≡ []
-quiet_found (At s) f o h k = h s
-quiet_found Nothing f o h k = k
+quiet_found (Some s) f o h k = h s
+quiet_found None f o h k = k
 
 pub quiet_peer : (st : State) (id : ℕ) (f : ℕ → Reply) → ((s : ℕ) → (f s).actions ≡ []) → (of_peer st id f).actions ≡ []
 quiet_peer st id f h = quiet_found (find_connected st id) f _ h refl

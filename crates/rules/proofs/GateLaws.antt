@@ -1,5 +1,7 @@
 -- The tests 12, 2, 8, 1: what each end of the gate says, and what is known behind it.
 -- Assumes nothing.
+use Rattle.std.proofs.Common.{Ok, Err}
+use Rattle.std.proofs.Common.{tt}
 use Prim.Native.Nat.{ℕ, ◌≤◌, ◌<◌}
 use mathlib.Core.Path.{◌≡◌}
 use mathlib.Core.Bool.{Bool, true, false}
@@ -11,7 +13,6 @@ use Rattle.records.specs.Records.{State}
 use Rattle.validity.specs.Valid.{valid}
 use Rattle.rules.specs.declared.Answer.{Answer}
 use Rattle.rules.specs.declared.Answer.TheVariants.{Early, OutOfRange, ListShort, NotRouter}
-use Rattle.rules.specs.declared.Gate.TheVariants.{Pass, Refuse}
 use Rattle.rules.specs.Step.{gate_of, action_room}
 
 -- what holds behind the gate
@@ -22,15 +23,15 @@ pub record Passed (st : State) (fine : Bool) (room time : ℕ) : Type 0 where
   pub clock : st.clock ≤ time
 
 module _ (st : State) (fine : Bool) (room time : ℕ) where
-  pub gate_12 : valid st ≡ false → Refuse NotRouter ≡ gate_of st fine room time
+  pub gate_12 : valid st ≡ false → Err NotRouter ≡ gate_of st fine room time
   unfolding gate_of
   gate_12 v = rw v
 
-  pub gate_2 : valid st ≡ true → fine ≡ false → Refuse OutOfRange ≡ gate_of st fine room time
+  pub gate_2 : valid st ≡ true → fine ≡ false → Err OutOfRange ≡ gate_of st fine room time
   unfolding gate_of
   gate_2 v f = rw (v, f)
 
-  pub gate_8 : valid st ≡ true → fine ≡ true → room < action_room → Refuse ListShort ≡ gate_of st fine room time
+  pub gate_8 : valid st ≡ true → fine ≡ true → room < action_room → Err ListShort ≡ gate_of st fine room time
   unfolding gate_of
   gate_8 v f l = rw (v, f, lt-leb action_room room l)
 
@@ -42,7 +43,7 @@ module _ (st : State) (fine : Bool) (room time : ℕ) where
       action_room ≤ room →
       k ≡ st.clock →
       time < k →
-      Refuse Early ≡ gate_of st fine room time
+      Err Early ≡ gate_of st fine room time
   unfolding gate_of
   gate_1 k v f l e t = rw (v, f, le-leb action_room room l, lt-leb st.clock time (omega arith))
 
@@ -53,14 +54,14 @@ module _ (st : State) (fine : Bool) (room time : ℕ) where
       action_room ≤ room →
       k ≡ st.clock →
       k ≤ time →
-      Pass ≡ gate_of st fine room time
+      (Ok tt) ≡ gate_of st fine room time
   unfolding gate_of
   gate_0 k v f l e t = rw (v, f, le-leb action_room room l, le-leb st.clock time (omega arith))
 
-  no_pass : {A : Type 0} (a : Answer) → Refuse a ≡ Pass → A
+  no_pass : {A : Type 0} (a : Answer) → Err a ≡ Ok tt → A
   no_pass a e = let z : ◌≡◌ {A = ℕ} 0 1 = cc in absurd (omega arith)
 
-  pub gate_passed : gate_of st fine room time ≡ Pass → Passed st fine room time
+  pub gate_passed : gate_of st fine room time ≡ Ok tt → Passed st fine room time
   unfolding gate_of
   gate_passed e =
       by_test (Passed st fine room time) (valid st)

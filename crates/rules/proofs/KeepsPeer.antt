@@ -1,5 +1,6 @@
 -- "Each call keeps this so": connect, disconnect, rate, score.
 -- Assumes nothing.
+use Rattle.std.proofs.Common.{Some, None}
 use Rattle.rules.proofs.ConnectLaws.{by_connect}
 use Prim.Native.Nat.{ℕ, ◌/◌, ◌<◌, ◌≤◌}
 use native.Mathlib.Omega.{arith}
@@ -9,7 +10,6 @@ use mathlib.Core.Logic.{◌≢◌}
 use mathlib.Core.List.{List, []}
 use lib.IntN.{ℤ, nat_abs}
 use Rattle.index.specs.Index.{iter}
-use Rattle.index.specs.declared.Found.TheVariants.{At, Nothing}
 use Rattle.index.proofs.Index.{iter_keeps}
 use Rattle.index.proofs.Flags.{by_test, cond_case}
 use Rattle.varint.specs.Codes.{code_of}
@@ -152,7 +152,7 @@ module _
 
       -- a retained id resumes its record
       connect_retained :
-          (s : ℕ) → find_retained u id ≡ At s → Router (connect_at u time id groups flags version s).state
+          (s : ℕ) → find_retained u id ≡ Some s → Router (connect_at u time id groups flags version s).state
       connect_retained s e =
           let q = retained_at u id s e in
           connect_at_lem s q.0 (λ z. omega arith) (λ k l n i. sym q.2 ∙ ids_of time u g s k q.0 l n (i ∙ sym q.2))
@@ -165,8 +165,8 @@ module _
       -- an id that no record holds
       connect_new :
           (s : ℕ) →
-          lowest_empty u ≡ At s →
-          find_retained u id ≡ Nothing →
+          lowest_empty u ≡ Some s →
+          find_retained u id ≡ None →
           ((k : ℕ) → k < slot_count → (peer_in u k).status ≡ 1 → (peer_in u k).id ≡ id → ⊥) →
           Router (connect_at u time id groups flags version s).state
       connect_new s e n c =
@@ -180,7 +180,7 @@ module _
               let kept : (peer_in u k).status ≡ 2 → ⊥ = λ z. none_retained u id n k l z i in
               omega (arith, (peer_of time u g k l).status, none, on, kept)
 
-    module _ (st : State) (router : Router st) (g : RouterAt time st) (none : find_connected st id ≡ Nothing) where
+    module _ (st : State) (router : Router st) (g : RouterAt time st) (none : find_connected st id ≡ None) where
       -- reclaiming connects nobody
       still_none :
           (k : ℕ) → k < slot_count → (peer_in (reclaimed st time) k).status ≡ 1 → (peer_in (reclaimed st time) k).id ≡ id → ⊥

@@ -1,5 +1,6 @@
 -- The order of a reply's actions: those of leave are gathered by slot; those of a heartbeat are the five steps' sets, each walked in its
 -- order, and what each set holds follows from what its step does. Assumes nothing.
+use Rattle.std.proofs.Common.{Option, Some, None}
 use Prim.Native.Nat.{ℕ, zero, suc, ◌+◌, ◌<◌, ◌≤◌}
 use native.Mathlib.Omega.{arith}
 use mathlib.Core.Path.{◌≡◌, refl, sym, ap, ap₂, ◌∙◌}
@@ -9,8 +10,6 @@ use mathlib.Core.List.{List, [], ◌∷◌, ◌++◌, map}
 use borrow.Author.Tests.{eqb-true, not-true}
 use lib.Dec.{eqb}
 use lib.ListN.{length}
-use Rattle.index.specs.declared.Found.{Found}
-use Rattle.index.specs.declared.Found.TheVariants.{At, Nothing}
 use Rattle.index.specs.Index.{gather}
 use Rattle.index.proofs.Index.{both as halves, gather_first, gather_same}
 use Rattle.index.proofs.Flags.{by_test, cond_case}
@@ -205,9 +204,9 @@ module _ (st : State) (ok : valid st ≡ true) (time t ask : ℕ) (order : List 
 abbrev Quiet : Reply → Type 0
 Quiet r = r.actions ≡ []
 
-quiet_found : (r : Found) (f : ℕ → Reply) (q : Reply) → ((s : ℕ) → Quiet (f s)) → Quiet q → Quiet (on_found r f q)
-quiet_found (At s) f q h k = h s
-quiet_found Nothing f q h k = k
+quiet_found : (r : Option ℕ) (f : ℕ → Reply) (q : Reply) → ((s : ℕ) → Quiet (f s)) → Quiet q → Quiet (on_found r f q)
+quiet_found (Some s) f q h k = h s
+quiet_found None f q h k = k
 
 quiet_peer : (st : State) (id : ℕ) (f : ℕ → Reply) → ((s : ℕ) → Quiet (f s)) → Quiet (of_peer st id f)
 quiet_peer st id f h = quiet_found (find_connected st id) f _ h refl

@@ -1,5 +1,7 @@
 -- From what an inner function leaves to what a public call promises.
 -- Assumes nothing.
+use Rattle.std.proofs.Common.{Ok, Err}
+use Rattle.std.proofs.Common.{tt}
 use Prim.Native.Nat.{ℕ}
 use mathlib.Core.Path.{◌≡◌, refl, sym, ap, ◌∙◌}
 use mathlib.Core.Bool.{true, false≢true}
@@ -11,7 +13,6 @@ use Rattle.effects.specs.Actions.{numbers_of}
 use Rattle.rules.specs.declared.Answer.{Answer}
 use Rattle.rules.specs.declared.Answer.TheVariants.{Done, Scored, Early, OutOfRange, NotConnected, AlreadyConnected, NoSlot}
 use Rattle.rules.specs.declared.Answer.TheVariants.{UnknownProtocol, NotPermutation, ListShort, Ignored, NotRouter}
-use Rattle.rules.specs.declared.Gate.TheVariants.{Pass, Refuse}
 use Rattle.rules.specs.Reply.{Reply, refuses, changes, refused}
 use Rattle.rules.specs.Calls.{Call, time_of, in_range}
 use Rattle.rules.specs.Step.{gate_of, effect, step}
@@ -65,14 +66,14 @@ gives_refused a table list = gives_quiet (refused a (state_of table)) a table ta
 module _ (c : Call) (table list : List ℕ) where
   pub follows_refused :
       (a : Answer) →
-      gate_of (state_of table) (in_range c) (length list) (time_of c) ≡ Refuse a →
+      gate_of (state_of table) (in_range c) (length list) (time_of c) ≡ Err a →
       Follows c a table table list list
   unfolding step
   follows_refused a g = rw g (gives_refused a table list)
 
   pub follows_passed :
       (r : Answer) (table' list' : List ℕ) →
-      gate_of (state_of table) (in_range c) (length list) (time_of c) ≡ Pass →
+      gate_of (state_of table) (in_range c) (length list) (time_of c) ≡ Ok tt →
       Gives (effect (state_of table) c) r table table' list list' →
       Follows c r table table' list list'
   unfolding step

@@ -1,11 +1,10 @@
 -- What the rules come to once a test is known, in the form in which the returns of the calls ask it.
 -- Assumes nothing.
+use Rattle.std.proofs.Common.{Option, Some, None}
 use Prim.Native.Nat.{ℕ, ◌<◌}
 use mathlib.Core.Path.{◌≡◌, sym, ◌∙◌}
 use mathlib.Core.Bool.{Bool, true, false, cond}
 use mathlib.Core.List.{List}
-use Rattle.index.specs.declared.Found.{Found}
-use Rattle.index.specs.declared.Found.TheVariants.{At, Nothing}
 use Rattle.index.proofs.Index.{first_is}
 use Rattle.records.specs.Records.{State, slot_count}
 use Rattle.layout.specs.View.{state_of}
@@ -18,28 +17,28 @@ use Rattle.rules.specs.Promise.{Leaves, Gives}
 use Rattle.rules.proofs.PromiseLaws.{leaves_refused, gives_refused}
 
 -- a found slot is one of the table's
-pub found_below : (st : State) (id s : ℕ) (r : Found) → r ≡ find_connected st id → r ≡ At s → s < slot_count
+pub found_below : (st : State) (id s : ℕ) (r : Option ℕ) → r ≡ find_connected st id → r ≡ Some s → s < slot_count
 unfolding find_connected
 found_below st id s r e g = (first_is (holds st 1 id) slot_count s (sym e ∙ g)).0
 
 -- 3, or the slot's own reply
-module _ (table : List ℕ) (id : ℕ) (f : ℕ → Reply) (r : Found) (e : r ≡ find_connected (state_of table) id) where
-  pub peer_none : r ≡ Nothing → Leaves (of_peer (state_of table) id f) NotConnected table table
+module _ (table : List ℕ) (id : ℕ) (f : ℕ → Reply) (r : Option ℕ) (e : r ≡ find_connected (state_of table) id) where
+  pub peer_none : r ≡ None → Leaves (of_peer (state_of table) id f) NotConnected table table
   peer_none g = rw (← e, g) (leaves_refused NotConnected table)
 
-  pub peer_none_gives : (list : List ℕ) → r ≡ Nothing → Gives (of_peer (state_of table) id f) NotConnected table table list list
+  pub peer_none_gives : (list : List ℕ) → r ≡ None → Gives (of_peer (state_of table) id f) NotConnected table table list list
   peer_none_gives list g = rw (← e, g) (gives_refused NotConnected table list)
 
   pub peer_at :
       (s : ℕ) (a : Answer) (table' : List ℕ) →
-      r ≡ At s →
+      r ≡ Some s →
       Leaves (f s) a table table' →
       Leaves (of_peer (state_of table) id f) a table table'
   peer_at s a table' g l = rw (← e, g) l
 
   pub peer_at_gives :
       (s : ℕ) (a : Answer) (table' list list' : List ℕ) →
-      r ≡ At s →
+      r ≡ Some s →
       Gives (f s) a table table' list list' →
       Gives (of_peer (state_of table) id f) a table table' list list'
   peer_at_gives s a table' list list' g l = rw (← e, g) l

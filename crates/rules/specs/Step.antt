@@ -1,9 +1,9 @@
 -- What each call answers and leaves: 01's order of tests once (12, 2, 8, 1, then 6, 7, 3, 4, 5, 11), then the effects case by case.
+use Rattle.std.specs.Prelude.{Option, Some, None, Result, Ok, Err}
+use Rattle.std.specs.Prelude.{Unit, tt}
 use Rattle.std.specs.Prelude.{ℕ, ◌+◌, ◌*◌, min, Bool, cond, not, ◌&&◌, ◌||◌, List, [], ◌∷◌, map, get_or, eqb, leb, pos, nat_abs, ◌+ℤ◌, ◌*ℤ◌}
 use Rattle.std.specs.Int.Signed.{lt_z}
 use Rattle.index.specs.Index.{iter, gather}
-use Rattle.index.specs.declared.Found.{Found}
-use Rattle.index.specs.declared.Found.TheVariants.{At, Nothing}
 use Rattle.varint.specs.Codes.{number_of, code_of, magnitude}
 use Rattle.records.specs.declared.Groups.{Groups}
 use Rattle.records.specs.declared.Peer.{Peer}
@@ -12,8 +12,6 @@ use Rattle.records.specs.Records.{State, slot_count, topic_count, code_in, peer_
 use Rattle.records.specs.Parameters.{d_lo_at, d_at, d_out_at, d_score_at, opportunistic_threshold_at, graylist_threshold_at, p7_decay_at, decay_to_zero_at}
 use Rattle.validity.specs.Valid.{valid}
 use Rattle.lookup.specs.Find.{find_connected, find_retained, lowest_empty}
-use Rattle.lookup.specs.declared.Named.{Named}
-use Rattle.lookup.specs.declared.Named.TheVariants.{Version, Unknown}
 use Rattle.lookup.specs.Name.{version_of}
 use Rattle.score.specs.declared.TopicParams.{TopicParams}
 use Rattle.score.specs.Score.{why_in, score_in, topic_params_in}
@@ -30,8 +28,6 @@ use Rattle.rules.specs.declared.Seen.{Seen}
 use Rattle.rules.specs.declared.GraftCase.{GraftCase}
 use Rattle.rules.specs.declared.GraftCase.TheVariants.{NotJoined, Graylisted, AlreadyMember, Explicit, InBackoff, Negative}
 use Rattle.rules.specs.declared.GraftCase.TheVariants.{NotSubscribed, Full, Enters}
-use Rattle.rules.specs.declared.Gate.{Gate}
-use Rattle.rules.specs.declared.Gate.TheVariants.{Pass, Refuse}
 use Rattle.effects.specs.Actions.{Action, prune_of}
 use Rattle.rules.specs.Reply.{Reply, refused, ignored, done}
 use Rattle.effects.specs.Effects.{high_degree, prune_backoff, unsubscribe_backoff, with_end, with_p5, with_p7, connected_as, out_of_mesh}
@@ -45,22 +41,22 @@ use Rattle.rules.specs.Calls.{decay, score, time_of, in_range, groups_of}
 abbrev pub action_room : ℕ
 action_room = 3 * slot_count
 
-unfoldable pub gate_of : State → Bool → ℕ → ℕ → Gate
+unfoldable pub gate_of : State → Bool → ℕ → ℕ → Result (Unit {0}) Answer
 gate_of st fine room time =
     cond (valid st)
     (cond fine
-    (cond (leb action_room room) (cond (leb st.clock time) Pass (Refuse Early)) (Refuse ListShort))
-    (Refuse OutOfRange))
-    (Refuse NotRouter)
+    (cond (leb action_room room) (cond (leb st.clock time) (Ok tt) (Err Early)) (Err ListShort))
+    (Err OutOfRange))
+    (Err NotRouter)
 
-abbrev pub through : Gate → State → Reply → Reply
-through Pass st r = r
-through (Refuse a) st r = refused a st
+abbrev pub through : Result (Unit {0}) Answer → State → Reply → Reply
+through (Ok tt) st r = r
+through (Err a) st r = refused a st
 
 -- 3: "no connected record holds the id"
-abbrev pub on_found : Found → (ℕ → Reply) → Reply → Reply
-on_found (At s) f r = f s
-on_found Nothing f r = r
+abbrev pub on_found : Option ℕ → (ℕ → Reply) → Reply → Reply
+on_found (Some s) f r = f s
+on_found None f r = r
 
 abbrev pub of_peer : State → ℕ → (ℕ → Reply) → Reply
 of_peer st id f = on_found (find_connected st id) f (refused NotConnected st)
@@ -98,12 +94,12 @@ pub data ConnectCase : Type 0 where
   NoneEmpty : ConnectCase
 
 -- which it is, from the name's version, and from where the id is connected, where it is retained, and what the lowest empty slot is
-abbrev pub connect_case : Named → Found → Found → Found → ConnectCase
-connect_case Unknown connected retained empty = NameUnknown
-connect_case (Version v) (At s) retained empty = IdConnected
-connect_case (Version v) Nothing (At s) empty = Resumes v s
-connect_case (Version v) Nothing Nothing (At s) = Takes v s
-connect_case (Version v) Nothing Nothing Nothing = NoneEmpty
+abbrev pub connect_case : Option ℕ → Option ℕ → Option ℕ → Option ℕ → ConnectCase
+connect_case None connected retained empty = NameUnknown
+connect_case (Some v) (Some s) retained empty = IdConnected
+connect_case (Some v) None (Some s) empty = Resumes v s
+connect_case (Some v) None None (Some s) = Takes v s
+connect_case (Some v) None None None = NoneEmpty
 
 unfoldable pub connect_at : State → ℕ → ℕ → Groups → ℕ → ℕ → ℕ → Reply
 connect_at st time id groups flags version s =
@@ -117,7 +113,7 @@ connect_done (Resumes v s) st u time id groups flags = connect_at u time id grou
 connect_done (Takes v s) st u time id groups flags = connect_at u time id groups flags v s
 connect_done NoneEmpty st u time id groups flags = refused NoSlot st
 
-unfoldable pub connect_in : State → State → ℕ → ℕ → Groups → ℕ → Named → Found → Reply
+unfoldable pub connect_in : State → State → ℕ → ℕ → Groups → ℕ → Option ℕ → Option ℕ → Reply
 connect_in st u time id groups flags version connected =
     connect_done (connect_case version connected (find_retained u id) (lowest_empty u)) st u time id groups flags
 

@@ -34,13 +34,6 @@ pub enum Answer {
     NotRouter,
 }
 
-// What the tests that every call begins with (12, 2, 8, 1) say.
-#[derive(Clone, Copy)]
-pub enum Gate {
-    Pass,
-    Refuse(Answer),
-}
-
 // What a call sees of the peer that sent it, at the call's start: its record, and what its score says of it.
 #[derive(Clone, Copy)]
 pub struct Sender {

@@ -1,5 +1,8 @@
 -- The ends of the tests of a load.
 -- Assumes nothing.
+use Rattle.std.proofs.Common.{Option, Some, None, Result}
+use Rattle.std.proofs.Common.{Unit}
+use Rattle.lookup.specs.declared.FreshError.{FreshError}
 use Prim.Native.Nat.{ℕ, ◌*◌, ◌%◌, ◌<◌, ◌≤◌}
 use native.Mathlib.Omega.{arith}
 use mathlib.Core.Path.{◌≡◌, refl, sym, ap, ◌∙◌}
@@ -9,18 +12,13 @@ use borrow.Author.Tests.{lt-ltb, le-ltb, le-leb, lt-leb, ne_eqb, leb-true, not-f
 use lib.Dec.{leb}
 use lib.ListN.{length, get_or}
 use Rattle.index.specs.Index.{first}
-use Rattle.index.specs.declared.Found.{Found}
-use Rattle.index.specs.declared.Found.TheVariants.{At, Nothing}
 use Rattle.index.proofs.Index.{both, first_passed}
 use Rattle.varint.specs.Groups.{read_at}
-use Rattle.varint.specs.declared.Read.{Read}
-use Rattle.varint.specs.declared.Read.TheVariants.{Number, Bad}
 use Rattle.params.specs.declared.Params.{Params}
 use Rattle.params.specs.Check.{first_broken}
 use Rattle.records.specs.Records.{State, slot_count, set_clock}
 use Rattle.layout.specs.View.{state_of}
 use Rattle.validity.specs.Valid.{max_time}
-use Rattle.lookup.specs.declared.Made.{Made}
 use Rattle.lookup.specs.Fresh.{fresh_state, Makes}
 use Rattle.lookup.proofs.FreshLaws.{fresh_valid}
 use Rattle.saves.specs.Load.{Parse, numbers, malformed, parse_from, most_of, ascends, outside, loaded_state, Loading, loaded}
@@ -42,15 +40,15 @@ use Rattle.save_load.proofs.RangeLaws.{most_wide}
 use Rattle.save_load.proofs.LoadLaws.{all_stored}
 
 -- ---- the ends of `slots_of`
-pub slots_one : (e : ℕ) → e ≡ 1 → At 64 ≡ slots_of e
+pub slots_one : (e : ℕ) → e ≡ 1 → Some 64 ≡ slots_of e
 unfolding slots_of
 slots_one e q = rw q refl
 
-pub slots_two : (e : ℕ) → e ≡ 2 → At 256 ≡ slots_of e
+pub slots_two : (e : ℕ) → e ≡ 2 → Some 256 ≡ slots_of e
 unfolding slots_of
 slots_two e q = rw q refl
 
-pub slots_none : (e : ℕ) → (e ≡ 1 → ⊥) → (e ≡ 2 → ⊥) → Nothing ≡ slots_of e
+pub slots_none : (e : ℕ) → (e ≡ 1 → ⊥) → (e ≡ 2 → ⊥) → None ≡ slots_of e
 unfolding slots_of
 slots_none e a b = rw (ne_eqb e 1 a, ne_eqb e 2 b)
 
@@ -82,17 +80,17 @@ module _ (p : Params) (clock : ℕ) (s codes : List ℕ) (n at : ℕ) (c : Coded
     unfolding records
     records_over h = (rw (read.1, lt-ltb next (length s) h), refl)
 
-    module _ (h : length s ≤ next) (f : Found) (j : f ≡ judge_of (most_of (fresh_state p)) s at (n * 44) (parse_from (n * 44) s at)) where
+    module _ (h : length s ≤ next) (f : Option ℕ) (j : f ≡ judge_of (most_of (fresh_state p)) s at (n * 44) (parse_from (n * 44) s at)) where
       abbrev l : List ℕ
       l = read.0
 
-      place_found : (g : Found) (place : ℕ) → place_by s at g ≡ At place → judged_by p clock s g n at l ≡ broken place
-      place_found (At i) place t = let z : Rattle.saves.specs.Load.place_of s at i ≡ place = cc in ap broken z
-      place_found Nothing place t = let z : ◌≡◌ {A = ℕ} 0 1 = cc in absurd (omega arith)
+      place_found : (g : Option ℕ) (place : ℕ) → place_by s at g ≡ Some place → judged_by p clock s g n at l ≡ broken place
+      place_found (Some i) place t = let z : Rattle.saves.specs.Load.place_of s at i ≡ place = cc in ap broken z
+      place_found None place t = let z : ◌≡◌ {A = ℕ} 0 1 = cc in absurd (omega arith)
 
-      none_found : (g : Found) → place_by s at g ≡ Nothing → g ≡ Nothing
-      none_found (At i) t = let z : ◌≡◌ {A = ℕ} 0 1 = cc in absurd (omega arith)
-      none_found Nothing t = refl
+      none_found : (g : Option ℕ) → place_by s at g ≡ None → g ≡ None
+      none_found (Some i) t = let z : ◌≡◌ {A = ℕ} 0 1 = cc in absurd (omega arith)
+      none_found None t = refl
 
       judge_is : f ≡ place_by s at (first (n * 44) (outside (most_of (fresh_state p)) l))
       judge_is = j ∙ ap (judge_of (most_of (fresh_state p)) s at (n * 44)) read.1
@@ -101,12 +99,12 @@ module _ (p : Params) (clock : ℕ) (s codes : List ℕ) (n at : ℕ) (c : Coded
       unfolding records
       record_is = rw (read.1, le-ltb next (length s) h)
 
-      pub records_outside : (place : ℕ) → f ≡ At place → Says p clock s (records p clock s n at) (Refuse (Broken place))
+      pub records_outside : (place : ℕ) → f ≡ Some place → Says p clock s (records p clock s n at) (Refuse (Broken place))
       records_outside place t =
           let b = place_found (first (n * 44) (outside (most_of (fresh_state p)) l)) place (sym judge_is ∙ t) in
           (sym (ap answer_of (record_is ∙ b)), refl)
 
-      pub records_fine : f ≡ Nothing → Says p clock s (records p clock s n at) (Fine n at)
+      pub records_fine : f ≡ None → Says p clock s (records p clock s n at) (Fine n at)
       unfolding outside
       records_fine t =
           let none = none_found (first (n * 44) (outside (most_of (fresh_state p)) l)) (sym judge_is ∙ t) in
@@ -128,15 +126,15 @@ module _ (p : Params) (clock : ℕ) (s codes : List ℕ) (n at : ℕ) (c : Coded
             gives = λ m end w.
                 let q : numbers l next ≡ numbers m end = sym read.1 ∙ w in
                 let z : l ≡ m = cc in
-                record_is ∙ ap (λ (g : Found). judged_by p clock s g n at l) none ∙ ap (λ (x : List ℕ). loaded (loaded_state p clock n x)) z;
+                record_is ∙ ap (λ (g : Option ℕ). judged_by p clock s g n at l) none ∙ ap (λ (x : List ℕ). loaded (loaded_state p clock n x)) z;
           }
 
 -- ---- the ends of `check_count`
-module _ (p : Params) (clock : ℕ) (s : List ℕ) (most at : ℕ) (r : Read) (e : r ≡ read_at top s at) where
-  pub count_bad : r ≡ Bad → Says p clock s (counted p clock s most at (read_at top s at)) (Refuse (Malformed at))
+module _ (p : Params) (clock : ℕ) (s : List ℕ) (most at : ℕ) (r : Option (ℕ × ℕ)) (e : r ≡ read_at top s at) where
+  pub count_bad : r ≡ None → Says p clock s (counted p clock s most at (read_at top s at)) (Refuse (Malformed at))
   count_bad q = (rw (sym e ∙ q), refl)
 
-  module _ (n next : ℕ) (q : r ≡ Number n next) where
+  module _ (n next : ℕ) (q : r ≡ Some (n, next)) where
     pub count_over : most < n → Says p clock s (counted p clock s most at (read_at top s at)) (Refuse (Broken at))
     count_over h = (rw (sym e ∙ q, lt-leb n most h), refl)
 
@@ -147,27 +145,27 @@ module _ (p : Params) (clock : ℕ) (s : List ℕ) (most at : ℕ) (r : Read) (e
         rw z g
 
 -- ---- the ends of `check_edition`
-module _ (p : Params) (clock : ℕ) (s : List ℕ) (r : Read) (e : r ≡ read_at top s 0) where
-  pub edition_bad : r ≡ Bad → Says p clock s (opened p clock s (read_at top s 0)) (Refuse (Malformed 0))
+module _ (p : Params) (clock : ℕ) (s : List ℕ) (r : Option (ℕ × ℕ)) (e : r ≡ read_at top s 0) where
+  pub edition_bad : r ≡ None → Says p clock s (opened p clock s (read_at top s 0)) (Refuse (Malformed 0))
   edition_bad q = (rw (sym e ∙ q), refl)
 
-  module _ (v next : ℕ) (q : r ≡ Number v next) (f : Found) (d : f ≡ slots_of v) where
-    pub edition_none : f ≡ Nothing → Says p clock s (opened p clock s (read_at top s 0)) (Refuse (Broken 0))
+  module _ (v next : ℕ) (q : r ≡ Some (v, next)) (f : Option ℕ) (d : f ≡ slots_of v) where
+    pub edition_none : f ≡ None → Says p clock s (opened p clock s (read_at top s 0)) (Refuse (Broken 0))
     edition_none t = (rw (sym e ∙ q, sym d ∙ t), refl)
 
-    pub edition_fine : (most : ℕ) → f ≡ At most → (a : Check) → Says p clock s (counted p clock s most next (read_at top s next)) a →
+    pub edition_fine : (most : ℕ) → f ≡ Some most → (a : Check) → Says p clock s (counted p clock s most next (read_at top s next)) a →
         Says p clock s (opened p clock s (read_at top s 0)) a
     edition_fine most t a g =
         let z : opened p clock s (read_at top s 0) ≡ counted p clock s most next (read_at top s next) = rw (sym e ∙ q, sym d ∙ t) in
         rw z g
 
 -- ---- the ends of `check_all`
-module _ (p : Params) (clock : ℕ) (s : List ℕ) (f : Found) (e : f ≡ first_broken p) where
-  pub check_sheet : (i : ℕ) → f ≡ At i → Checks p clock s (load_of true p clock s) (Refuse (Broken i))
+module _ (p : Params) (clock : ℕ) (s : List ℕ) (f : Option ℕ) (e : f ≡ first_broken p) where
+  pub check_sheet : (i : ℕ) → f ≡ Some i → Checks p clock s (load_of true p clock s) (Refuse (Broken i))
   unfolding load_of
   check_sheet i q = (rw (sym e ∙ q), refl)
 
-  module _ (q : f ≡ Nothing) where
+  module _ (q : f ≡ None) where
     pub check_clock : max_time < clock → Checks p clock s (load_of true p clock s) (Refuse OutOfRange)
     unfolding load_of
     check_clock h = (rw (sym e ∙ q, lt-leb clock max_time h), refl)
@@ -204,7 +202,7 @@ load_refused p clock s table (Fine n at) a g q = let z : ◌≡◌ {A = ℕ} 0 1
 
 -- ---- the end of `make`
 pub make_is :
-    (p : Params) (clock n : ℕ) (l : List ℕ) → n ≤ slot_count → first_broken p ≡ Nothing → (r : Made) (t₀ t₁ t₂ t₃ : List ℕ) →
+    (p : Params) (clock n : ℕ) (l : List ℕ) → n ≤ slot_count → first_broken p ≡ None → (r : Result (Unit {0}) FreshError) (t₀ t₁ t₂ t₃ : List ℕ) →
     Makes p r t₀ t₁ →
     state_of t₂ ≡ set_clock (state_of t₁) clock → state_of t₃ ≡ stored_all clock n l (state_of t₂) → state_of t₃ ≡ loaded_state p clock n l
 make_is p clock n l few ok r t₀ t₁ t₂ t₃ m b c =
@@ -232,7 +230,7 @@ load_made p clock s table table' (Fine m b) n at g q f =
 
 pub fine_parts :
     (p : Params) (clock : ℕ) (s : List ℕ) (k : Check) (n at : ℕ) → Checks p clock s (load_of true p clock s) k → k ≡ Fine n at →
-    (n ≤ slot_count) × ((clock ≤ max_time) × ((first_broken p ≡ Nothing) × Loadable s at n))
+    (n ≤ slot_count) × ((clock ≤ max_time) × ((first_broken p ≡ None) × Loadable s at n))
 fine_parts p clock s (Refuse a) n at g q = let z : ◌≡◌ {A = ℕ} 0 1 = cc in absurd (omega arith)
 fine_parts p clock s (Fine m b) n at g q =
     let x : m ≡ n = cc in

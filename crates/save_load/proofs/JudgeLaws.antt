@@ -1,5 +1,6 @@
 -- The second pass of a load, number by number.
 -- Assumes nothing.
+use Rattle.std.proofs.Common.{Option, Some, None}
 use Prim.Native.Nat.{ℕ, ◌+◌, ◌*◌, ◌-◌, ◌/◌, ◌%◌, ◌<◌, ◌≤◌}
 use native.Mathlib.Omega.{arith}
 use native.Mathlib.Numerals.{add-one}
@@ -10,12 +11,9 @@ use borrow.Author.Tests.{eq-eqb, ne_eqb, eqb-true, eqb-false, lt-ltb, le-ltb}
 use lib.Dec.{eqb}
 use lib.ListN.{get_or, take}
 use Rattle.index.specs.Index.{first}
-use Rattle.index.specs.declared.Found.TheVariants.{At, Nothing}
 use Rattle.index.proofs.Index.{first_none, first_more, first_done, first_hit}
 use Rattle.index.proofs.Flags.{by_test}
 use Rattle.varint.specs.Groups.{read_at}
-use Rattle.varint.specs.declared.Read.{Read}
-use Rattle.varint.specs.declared.Read.TheVariants.{Number, Bad}
 use Rattle.saves.specs.Load.{Parse, numbers, malformed, parse_from, place_of, prior, ascends, outside}
 use Rattle.save_load.specs.Judge.{is_read, judge_of, outside_now}
 use Rattle.saves.proofs.Parsing.{top, Next, next_is}
@@ -31,7 +29,7 @@ pub record Going (most s : List ℕ) (at n i place last j : ℕ) : Type 0 where
   pub whole : parse_from n s at ≡ numbers l end
   pub low : i ≤ n
   pub front : parse_from i s at ≡ numbers (take i l) place
-  pub none : first i (outside most l) ≡ Nothing
+  pub none : first i (outside most l) ≡ None
   pub column : j ≡ i % 44
   pub id : last ≡ last_at l i
 
@@ -58,24 +56,24 @@ going_none most s at n e = go (parse_from n s at) refl e
 
 module _ (most s : List ℕ) (at n i place last j : ℕ) (g : Going most s at n i place last j) where
   -- the end
-  pub going_done : n ≤ i → Nothing ≡ judge_of most s at n (parse_from n s at)
+  pub going_done : n ≤ i → None ≡ judge_of most s at n (parse_from n s at)
   going_done h =
-      let f : first n (outside most g.l) ≡ Nothing = first_done (outside most g.l) n i g.low h g.none in
+      let f : first n (outside most g.l) ≡ None = first_done (outside most g.l) n i g.low h g.none in
       rw (g.whole, f)
 
-  module _ (below : i < n) (r : Read) (e : r ≡ read_at top s place) where
+  module _ (below : i < n) (r : Option (ℕ × ℕ)) (e : r ≡ read_at top s place) where
     here : Next n i s at g.l place
     here = next_is n i s at g.l g.end place g.whole below g.front
 
     -- a number stands there
-    pub going_read : r ≡ Bad → ⊥
+    pub going_read : r ≡ None → ⊥
     going_read q =
-        let f : Number (get_or g.l i 0) here.next ≡ Bad = sym here.read ∙ sym e ∙ q in
+        let f : Some (get_or g.l i 0, here.next) ≡ None = sym here.read ∙ sym e ∙ q in
         let z : ◌≡◌ {A = ℕ} 0 1 = cc in
         omega arith
 
-    module _ (v next : ℕ) (q : r ≡ Number v next) where
-      same : Number (get_or g.l i 0) here.next ≡ Number v next
+    module _ (v next : ℕ) (q : r ≡ Some (v, next)) where
+      same : Some (get_or g.l i 0, here.next) ≡ Some (v, next)
       same = sym here.read ∙ sym e ∙ q
 
       value : get_or g.l i 0 ≡ v
@@ -105,10 +103,10 @@ module _ (most s : List ℕ) (at n i place last j : ℕ) (g : Going most s at n 
           (λ t. rw (t, ← last_prior (eqb-true (i % 44) 0 t)))
           (λ t. rw t))
 
-      pub going_out : outside_now (get_or most j 0) last j v ≡ true → At place ≡ judge_of most s at n (parse_from n s at)
+      pub going_out : outside_now (get_or most j 0) last j v ≡ true → Some place ≡ judge_of most s at n (parse_from n s at)
       unfolding place_of
       going_out t =
-          let f : first n (outside most g.l) ≡ At i =
+          let f : first n (outside most g.l) ≡ Some i =
           first_hit (outside most g.l) n i below g.none (sym told ∙ t) in
           rw (g.whole, f, g.front)
 

@@ -1,5 +1,6 @@
 -- The reader of a save's numbers: going back from a number's last byte, what was read is the number from the place on.
 -- Assumes nothing.
+use Rattle.std.proofs.Common.{Some, None}
 use Prim.Native.Nat.{ℕ, ◌+◌, ◌-◌, ◌*◌, ◌/◌, ◌<◌, ◌≤◌}
 use native.Mathlib.Omega.{arith}
 use mathlib.Core.Path.{◌≡◌, sym, ap, ◌∙◌}
@@ -11,30 +12,29 @@ use lib.ListN.{length, get_or, drop}
 use Rattle.index.proofs.Index.{both}
 use Rattle.index.proofs.Flags.{by_test, by_order}
 use Rattle.varint.specs.Groups.{Got, got, none, decode, up_to, as_read, read_at}
-use Rattle.varint.specs.declared.Read.TheVariants.{Number, Bad}
 use Rattle.varint.proofs.GroupLaws.{read_at_last, read_at_more, after_more_near}
 use Rattle.save_load.specs.Numbers.{Reaches}
 use Rattle.saves.proofs.Parsing.{top}
 
 -- ---- the reader by its bytes
 -- a byte with its top bit clear is itself
-pub one_byte : (s : List ℕ) (at low : ℕ) → low ≡ get_or s at 0 → at < length s → low < 128 → Number low (at + 1) ≡ read_at top s at
+pub one_byte : (s : List ℕ) (at low : ℕ) → low ≡ get_or s at 0 → at < length s → low < 128 → Some (low, at + 1) ≡ read_at top s at
 one_byte s at low e h l =
     let b : get_or s at 0 < 128 = omega arith in
     rw e (sym (read_at_last top s at h b ∙ rw (le-leb (get_or s at 0) top (omega arith))))
 
 -- a number that a smaller limit has room for is read up to that limit too
-narrow_got : (top' at v next : ℕ) (g : Got) → v ≤ top' → as_read at (up_to top g) ≡ Number v next → as_read at (up_to top' g) ≡ Number v next
+narrow_got : (top' at v next : ℕ) (g : Got) → v ≤ top' → as_read at (up_to top g) ≡ Some (v, next) → as_read at (up_to top' g) ≡ Some (v, next)
 narrow_got top' at v next none h e = let z : ◌≡◌ {A = ℕ} 0 1 = cc in absurd (omega arith)
 narrow_got top' at v next (got u n) h e =
-    by_test (as_read at (up_to top' (got u n)) ≡ Number v next) (leb u top)
+    by_test (as_read at (up_to top' (got u n)) ≡ Some (v, next)) (leb u top)
     (λ t.
-    let f : Number u (at + n) ≡ Number v next = rw t at e in
+    let f : Some (u, at + n) ≡ Some (v, next) = rw t at e in
     let q : u ≡ v = cc in
     rw (le-leb u top' (omega arith)) f)
-    (λ t. let f : Bad ≡ Number v next = rw t at e in let z : ◌≡◌ {A = ℕ} 0 1 = cc in absurd (omega arith))
+    (λ t. let f : None ≡ Some (v, next) = rw t at e in let z : ◌≡◌ {A = ℕ} 0 1 = cc in absurd (omega arith))
 
-narrow : (top' : ℕ) (s : List ℕ) (at v next : ℕ) → v ≤ top' → read_at top s at ≡ Number v next → read_at top' s at ≡ Number v next
+narrow : (top' : ℕ) (s : List ℕ) (at v next : ℕ) → v ≤ top' → read_at top s at ≡ Some (v, next) → read_at top' s at ≡ Some (v, next)
 unfolding read_at
 narrow top' s at v next h e = narrow_got top' at v next (decode (drop at s)) h e
 
@@ -44,7 +44,7 @@ pub record Joining (s : List ℕ) (at last place value : ℕ) : Type 0 where
   pub low : at ≤ place
   pub high : place ≤ last
   pub some : 0 < value
-  pub read : read_at top s place ≡ Number value (last + 1)
+  pub read : read_at top s place ≡ Some (value, last + 1)
 
 pub joining_start :
     (s : List ℕ) (at last value : ℕ) → Reaches s at last → value ≡ get_or s last 0 → not (ltb 0 value && ltb value 128) ≡ false →
@@ -86,7 +86,7 @@ module _ (s : List ℕ) (at last place value : ℕ) (w : Joining s at last place
             ∙ rw e;
       }
 
-  pub joining_all : place ≤ at → Number value (last + 1) ≡ read_at top s at
+  pub joining_all : place ≤ at → Some (value, last + 1) ≡ read_at top s at
   joining_all h = let l = w.low in let z : place ≡ at = omega arith in sym (ap (read_at top s) (sym z) ∙ w.read)
 
 -- ---- the walk to the last byte

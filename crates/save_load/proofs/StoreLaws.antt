@@ -1,5 +1,6 @@
 -- The third pass of a load: the numbers that stand in each record, and what storing all records leaves.
 -- Assumes nothing.
+use Rattle.std.proofs.Common.{Option, Some, None}
 use Prim.Native.Nat.{ℕ, zero, suc, ◌+◌, ◌*◌, ◌%◌, ◌<◌, ◌≤◌}
 use native.Mathlib.Omega.{arith}
 use native.Mathlib.Numerals.{add-one}
@@ -12,8 +13,6 @@ use lib.Seq.{get_or-append-add, take-suc, take-suc-set, take_all, take-add, leng
 use Rattle.index.specs.Index.{gather}
 use Rattle.index.proofs.Index.{iter_more}
 use Rattle.varint.specs.Groups.{read_at}
-use Rattle.varint.specs.declared.Read.{Read}
-use Rattle.varint.specs.declared.Read.TheVariants.{Number, Bad}
 use Rattle.records.specs.Records.{State}
 use Rattle.layout.specs.Rows.{tab}
 use Rattle.rows.specs.Rows.{span}
@@ -131,19 +130,19 @@ module _ (s : List ℕ) (at i place : ℕ) (row : List ℕ) (g : Reading s at i 
       let b : parse_from 44 s at ≡ numbers (take 44 g.l) place = rw e at g.front in
       b ∙ ap (λ (m : List ℕ). numbers m place) (sym a ∙ take_all 44 row (let n = g.long in omega arith))
 
-  module _ (below : i < 44) (r : Read) (e : r ≡ read_at top s place) where
+  module _ (below : i < 44) (r : Option (ℕ × ℕ)) (e : r ≡ read_at top s place) where
     here : Next 44 i s at g.l place
     here = next_is 44 i s at g.l g.end place g.whole below g.front
 
-    pub reading_read : {A : Type 0} → r ≡ Bad → A
+    pub reading_read : {A : Type 0} → r ≡ None → A
     reading_read q =
-        let f : Number (get_or g.l i 0) here.next ≡ Bad = sym here.read ∙ sym e ∙ q in
+        let f : Some (get_or g.l i 0, here.next) ≡ None = sym here.read ∙ sym e ∙ q in
         let z : ◌≡◌ {A = ℕ} 0 1 = cc in
         absurd (omega arith)
 
-    pub reading_more : (v next : ℕ) → r ≡ Number v next → Reading s at (i + 1) next (set row i v)
+    pub reading_more : (v next : ℕ) → r ≡ Some (v, next) → Reading s at (i + 1) next (set row i v)
     reading_more v next q =
-        let f : Number (get_or g.l i 0) here.next ≡ Number v next = sym here.read ∙ sym e ∙ q in
+        let f : Some (get_or g.l i 0, here.next) ≡ Some (v, next) = sym here.read ∙ sym e ∙ q in
         let value : get_or g.l i 0 ≡ v = cc in
         let place_is : here.next ≡ next = cc in
         let n = g.long in

@@ -1,6 +1,6 @@
 -- What the tests of a load come to: a refusal, or how many records stand where, all fit to be stored.
+use Rattle.std.specs.Prelude.{None}
 use Rattle.std.specs.Prelude.{ℕ, ◌*◌, ◌≤◌, ◌≡◌, true, List, map, length}
-use Rattle.index.specs.declared.Found.TheVariants.{Nothing}
 use Rattle.varint.specs.Codes.{code_of}
 use Rattle.params.specs.declared.Params.{Params}
 use Rattle.params.specs.Check.{first_broken}
@@ -15,7 +15,7 @@ use Rattle.save_load.specs.Store.{Loadable}
 -- parameters that pass their check, by their codes
 pub record Coded (p : Params) (codes : List ℕ) : Type 0 where
   pub size : length p.numbers ≡ param_count
-  pub passes : first_broken p ≡ Nothing
+  pub passes : first_broken p ≡ None
   pub same : codes ≡ map code_of p.numbers
 
 pub record Good (p : Params) (clock : ℕ) (s : List ℕ) (o : Loading) (n at : ℕ) : Type 0 where
@@ -29,7 +29,7 @@ Says p clock s o (Fine n at) = Good p clock s o n at
 
 -- the same with the parameters' own test and the clock's
 pub record Admits (p : Params) (clock : ℕ) : Type 0 where
-  pub passes : first_broken p ≡ Nothing
+  pub passes : first_broken p ≡ None
   pub early : clock ≤ max_time
 
 abbrev pub Checks : Params → ℕ → List ℕ → Loading → Check → Type 0

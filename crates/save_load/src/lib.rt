@@ -8,8 +8,8 @@ pub mod passes;
 pub mod ranges;
 pub mod row;
 
+ghost use Rattle.std.specs.Prelude.{None};
 ghost use Rattle.std.specs.Prelude.{◌≡◌, ℕ, ◌*◌, ◌≤◌, true, List, length};
-ghost use Rattle.index.specs.declared.Found.TheVariants.{Nothing};
 ghost use Rattle.varint.specs.Groups.{read_at};
 ghost use Rattle.params.specs.declared.Params.{Params as Parameters};
 ghost use Rattle.params.specs.Check.{first_broken};
@@ -22,13 +22,11 @@ ghost use Rattle.save_load.specs.Store.{Loadable};
 ghost use Rattle.save_load.specs.Checked.{Coded, Says, Checks};
 
 use crate::row::ROW;
-use index::Found;
 use layout::CELLS;
 use params::Params;
 use records::SLOTS;
 use saves::Loaded;
 use validity::valid::MAX_TIME;
-use varint::Read;
 
 // The place after the numbers, or the place at which they cannot go on.
 #[derive(Clone, Copy)]
@@ -45,20 +43,20 @@ pub enum Check {
 }
 
 // How many records an edition may have, if it is one.
-fn slots_of(edition: u64) -> Found
+fn slots_of(edition: u64) -> Option<usize>
     ensures { result ≡ slots_of edition }
 {
     if edition == 1 {
-        return Found::At(64);
+        return Some(64);
     }
     if edition == 2 {
-        return Found::At(SLOTS);
+        return Some(SLOTS);
     }
-    Found::Nothing
+    None
 }
 
 // The place of the first of n numbers that is outside its range.
-fn judge(codes: &[u64], s: &[u8], at: usize, n: usize) -> Found
+fn judge(codes: &[u64], s: &[u8], at: usize, n: usize) -> Option<usize>
     requires { (length codes.now ≡ param_count) × (is_read (parse_from n s.now at) ≡ true) }
     ensures { (st : State) → st.codes ≡ codes.now →
         result ≡ judge_of (most_of st) s.now at n (parse_from n s.now at) }
@@ -81,8 +79,8 @@ fn check_records(codes: &[u64], s: &[u8], n: usize, at: usize) -> Check
                 return Check::Refuse(Loaded::Malformed(next));
             }
             match judge(codes, s, at, n * ROW) {
-                Found::At(place) => Check::Refuse(Loaded::Broken(place)),
-                Found::Nothing => Check::Fine(n, at),
+                Some(place) => Check::Refuse(Loaded::Broken(place)),
+                None => Check::Fine(n, at),
             }
         }
     }
@@ -95,13 +93,13 @@ fn check_count(codes: &[u64], s: &[u8], most: usize, at: usize) -> Check
         Says p clock s.now (counted p clock s.now most at (read_at 18446744073709551615 s.now at)) result }
 {
     match varint::read_u64(s, at) {
-        Read::Number(n, next) => {
+        Some((n, next)) => {
             if (most as u64) < n {
                 return Check::Refuse(Loaded::Broken(at));
             }
             check_records(codes, s, n as usize, next)
         }
-        Read::Bad => Check::Refuse(Loaded::Malformed(at)),
+        None => Check::Refuse(Loaded::Malformed(at)),
     }
 }
 
@@ -112,11 +110,11 @@ fn check_edition(codes: &[u64], s: &[u8]) -> Check
         Says p clock s.now (opened p clock s.now (read_at 18446744073709551615 s.now 0)) result }
 {
     match varint::read_u64(s, 0) {
-        Read::Number(e, next) => match slots_of(e) {
-            Found::At(most) => check_count(codes, s, most, next),
-            Found::Nothing => Check::Refuse(Loaded::Broken(0)),
+        Some((e, next)) => match slots_of(e) {
+            Some(most) => check_count(codes, s, most, next),
+            None => Check::Refuse(Loaded::Broken(0)),
         },
-        Read::Bad => Check::Refuse(Loaded::Malformed(0)),
+        None => Check::Refuse(Loaded::Malformed(0)),
     }
 }
 
@@ -125,8 +123,8 @@ fn check_all(params: Params, clock: u64, s: &[u8]) -> Check
     ensures { Checks params clock s.now (load_of true params clock s.now) result }
 {
     match params.first_broken() {
-        Found::At(i) => Check::Refuse(Loaded::Broken(i)),
-        Found::Nothing => {
+        Some(i) => Check::Refuse(Loaded::Broken(i)),
+        None => {
             if MAX_TIME < clock {
                 return Check::Refuse(Loaded::OutOfRange);
             }
@@ -140,11 +138,11 @@ fn check_all(params: Params, clock: u64, s: &[u8]) -> Check
 // Makes the router of n records that passed all tests.
 fn make(params: Params, clock: u64, s: &[u8], n: usize, at: usize, table: &mut [u64])
     requires { (length table.old ≡ cell_count)
-        × ((n ≤ slot_count) × ((clock ≤ max_time) × ((first_broken params ≡ Nothing) × Loadable s.now at n))) }
+        × ((n ≤ slot_count) × ((clock ≤ max_time) × ((first_broken params ≡ None) × Loadable s.now at n))) }
     ensures { (l : List ℕ) (end : ℕ) → parse_from (n * 44) s.now at ≡ numbers l end →
         state_of table.new ≡ loaded_state params clock n l }
 {
-    lookup::fresh::fresh(params, table);
+    let _ = lookup::fresh::fresh(params, table);
     layout::store_clock(table, clock);
     row::store_rows(table, s, at, n, clock);
 }

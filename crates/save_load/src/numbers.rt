@@ -4,8 +4,6 @@ ghost use Rattle.std.specs.Prelude.{◌≡◌, ◌<◌, length};
 ghost use Rattle.varint.specs.Groups.{read_at};
 ghost use Rattle.save_load.specs.Numbers.{Reaches};
 
-use varint::Read;
-
 // A byte of a number has seven of its bits, and its top bit set on all but the last.
 const GROUP: u64 = 128;
 
@@ -49,7 +47,7 @@ fn last_of(s: &[u8], at: usize) -> usize
 }
 
 // The number at `at`, from its last byte to its first.
-fn long_number(s: &[u8], at: usize) -> Read
+fn long_number(s: &[u8], at: usize) -> Option<(u64, usize)>
     requires { at < length s.now }
     ensures { result ≡ read_at 18446744073709551615 s.now at }
 {
@@ -66,19 +64,19 @@ fn long_number(s: &[u8], at: usize) -> Read
         place -= 1;
         value = value * GROUP + (wide(s[place]) - GROUP);
     }
-    Read::Number(value, last + 1)
+    Some((value, last + 1))
 }
 
 // The number at `at`.
-pub fn read_number(s: &[u8], at: usize) -> Read
+pub fn read_number(s: &[u8], at: usize) -> Option<(u64, usize)>
     ensures { result ≡ read_at 18446744073709551615 s.now at }
 {
     if s.len() <= at {
-        return Read::Bad;
+        return None;
     }
     let low = wide(s[at]);
     if low < GROUP {
-        return Read::Number(low, at + 1);
+        return Some((low, at + 1));
     }
     long_number(s, at)
 }

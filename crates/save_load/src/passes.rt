@@ -5,8 +5,6 @@ ghost use Rattle.save_load.specs.Skim.{skim_of};
 ghost use Rattle.save_load.specs.Judge.{is_read, judge_of, outside_now};
 
 use crate::{Skim, numbers};
-use index::Found;
-use varint::Read;
 
 // The first pass of a load: n numbers from `at` on.
 pub fn skim_numbers(s: &[u8], at: usize, n: usize) -> Skim
@@ -15,7 +13,7 @@ pub fn skim_numbers(s: &[u8], at: usize, n: usize) -> Skim
     let mut place = at;
     let mut left = n;
     while 0 < left {
-        let Read::Number(_, next) = numbers::read_number(s, place) else {
+        let Some((_, next)) = numbers::read_number(s, place) else {
             return Skim::Broken(place);
         };
         place = next;
@@ -47,7 +45,7 @@ fn column_after(j: usize) -> usize
 }
 
 // The second pass of a load: the place of the first number outside its range.
-pub fn first_outside(s: &[u8], at: usize, n: usize, most: &[u64; 44]) -> Found
+pub fn first_outside(s: &[u8], at: usize, n: usize, most: &[u64; 44]) -> Option<usize>
     requires { is_read (parse_from n s.now at) ≡ true }
     ensures { result ≡ judge_of most.now s.now at n (parse_from n s.now at) }
 {
@@ -56,16 +54,16 @@ pub fn first_outside(s: &[u8], at: usize, n: usize, most: &[u64; 44]) -> Found
     let mut j: usize = 0;
     let mut last: u64 = 0;
     while i < n {
-        let Read::Number(v, next) = numbers::read_number(s, place) else {
-            return Found::Nothing;
+        let Some((v, next)) = numbers::read_number(s, place) else {
+            return None;
         };
         if is_outside(most[j], last, j, v) {
-            return Found::At(place);
+            return Some(place);
         }
         last = id_after(last, j, v);
         place = next;
         i += 1;
         j = column_after(j);
     }
-    Found::Nothing
+    None
 }

@@ -43,12 +43,10 @@ pub fn fill_most(codes: &[u64], most: &mut [u64])
     ensures { (st : State) → st.codes ≡ codes.now → most.new ≡ most_of st }
 {
     put_peer(most);
-    let mut t: usize = 0;
-    while t < TOPICS {
+    for t in 0..TOPICS {
         let at = TOPIC_PARAMS + PER_TOPIC * t;
         let cap2 = varint::magnitude(codes[at + param::P2_CAP]);
         let cap3 = varint::magnitude(codes[at + param::P3_CAP]);
         put_topic(most, 4 + t * 5, cap2, cap3);
-        t += 1;
     }
 }

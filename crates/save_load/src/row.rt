@@ -12,7 +12,6 @@ ghost use Rattle.save_load.specs.Store.{RowFits, stored_topic, stored, Loadable,
 
 use crate::numbers;
 use records::{Groups, Peer, TOPICS, TopicRecord};
-use varint::Read;
 
 // How many numbers a record is: four, and five for each topic.
 pub const ROW: usize = 44;
@@ -33,10 +32,8 @@ fn ends_from(clock: u64, row: &[u64]) -> [u64; TOPICS]
     ensures { result ≡ tab topic_count (λ t. end_from clock (get_or row.now (8 + t * 5) 0)) }
 {
     let mut ends = [0u64; TOPICS];
-    let mut t: usize = 0;
-    while t < TOPICS {
+    for t in 0..TOPICS {
         ends[t] = end_from(clock, row[8 + t * 5]);
-        t += 1;
     }
     ends
 }
@@ -87,10 +84,8 @@ fn store_topics(table: &mut [u64], slot: usize, row: &[u64])
     requires { (length table.old ≡ cell_count) × ((slot < slot_count) × RowFits row.now) }
     ensures { state_of table.new ≡ iter topic_count (stored_topic row.now slot) (state_of table.old) }
 {
-    let mut t: usize = 0;
-    while t < TOPICS {
+    for t in 0..TOPICS {
         layout::store_topic(table, slot * TOPICS + t, loaded_topic(row, t));
-        t += 1;
     }
 }
 
@@ -108,14 +103,12 @@ fn read_row(s: &[u8], at: usize, row: &mut [u64]) -> usize
     ensures { parse_from row_size s.now at ≡ numbers row.new result }
 {
     let mut place = at;
-    let mut i: usize = 0;
-    while i < ROW {
-        let Read::Number(v, next) = numbers::read_number(s, place) else {
+    for i in 0..ROW {
+        let Some((v, next)) = numbers::read_number(s, place) else {
             return place;
         };
         row[i] = v;
         place = next;
-        i += 1;
     }
     place
 }
@@ -128,10 +121,8 @@ pub fn store_rows(table: &mut [u64], s: &[u8], at: usize, n: usize, clock: u64)
 {
     let mut row = [0u64; ROW];
     let mut place = at;
-    let mut k: usize = 0;
-    while k < n {
+    for k in 0..n {
         place = read_row(s, place, &mut row);
         store_row(table, k, clock, &row);
-        k += 1;
     }
 }

@@ -1,5 +1,6 @@
 -- Numbers written one after the other: after each, the bytes of those before it and its own stand in the buffer.
 -- Assumes nothing.
+use Rattle.std.proofs.Common.{Option, Some, None}
 use Prim.Native.Nat.{ℕ, suc, ◌+◌, ◌/◌, ◌<◌, ◌≤◌}
 use native.Mathlib.Omega.{arith}
 use native.Mathlib.Numerals.{add-one}
@@ -9,8 +10,6 @@ use lib.ListN.{length, get_or, take, drop, length-append, take-append-drop}
 use lib.Seq.{take-suc, take_all, length-sets}
 use Rattle.index.proofs.Lists.{sets_append}
 use Rattle.varint.specs.Groups.{encode, put_of}
-use Rattle.varint.specs.declared.Put.{Put}
-use Rattle.varint.specs.declared.Put.TheVariants.{Next, Full}
 use Rattle.varint.proofs.GroupLaws.{put_fits, put_next, put_full, length_last, length_more, length_le}
 use Rattle.records.specs.Records.{State, place}
 use Rattle.rows.specs.Rows.{joins}
@@ -83,11 +82,11 @@ module _ (l : List ℕ) (from : ℕ) (buf : List ℕ) (place : ℕ) (out : List 
         left = t.left ∙ rw (s.left, s.end) (sym (sets_append buf from l m));
       }
 
-  module _ (n : ℕ) (r : Put) (out' : List ℕ) (w : (r ≡ (put_of out place n).answer) × (out' ≡ (put_of out place n).bytes)) where
-    pub never_full : {A : Type 0} → from + (length l + length (encode n)) ≤ length buf → r ≡ Full → A
+  module _ (n : ℕ) (r : Option ℕ) (out' : List ℕ) (w : (r ≡ (put_of out place n).answer) × (out' ≡ (put_of out place n).bytes)) where
+    pub never_full : {A : Type 0} → from + (length l + length (encode n)) ≤ length buf → r ≡ None → A
     never_full h e = absurd (omega (arith, s.end, same_long, put_full out place n (sym e ∙ w.0)))
 
-    pub stands_number : (next : ℕ) → r ≡ Next next → Stands (l ++ encode n) from buf next out'
+    pub stands_number : (next : ℕ) → r ≡ Some next → Stands (l ++ encode n) from buf next out'
     stands_number next e =
         let q = put_next out place n next (sym e ∙ w.0) in
         let f = put_fits out place n (omega arith) in
@@ -95,17 +94,17 @@ module _ (l : List ℕ) (from : ℕ) (buf : List ℕ) (place : ℕ) (out : List 
 
 module _ (l : List ℕ) (from : ℕ) (buf : List ℕ) (i place : ℕ) (out : List ℕ) (s : Stands (bytes_of (take i l)) from buf place out)
     (h : i < length l) (room : from + length (bytes_of l) ≤ length buf)
-    (r : Put) (out' : List ℕ) (w : (r ≡ (put_of out place (get_or l i 0)).answer) × (out' ≡ (put_of out place (get_or l i 0)).bytes)) where
+    (r : Option ℕ) (out' : List ℕ) (w : (r ≡ (put_of out place (get_or l i 0)).answer) × (out' ≡ (put_of out place (get_or l i 0)).bytes)) where
   fits : from + (length (bytes_of (take i l)) + length (encode (get_or l i 0))) ≤ length buf
   fits =
       let e = ap length (bytes_more l i h) ∙ length-append (bytes_of (take i l)) (encode (get_or l i 0)) in
       let b = bytes_front l (i + 1) in
       omega arith
 
-  pub row_full : {A : Type 0} → r ≡ Full → A
+  pub row_full : {A : Type 0} → r ≡ None → A
   row_full = never_full (bytes_of (take i l)) from buf place out s (get_or l i 0) r out' w fits
 
-  pub row_more : (next : ℕ) → r ≡ Next next → Stands (bytes_of (take (i + 1) l)) from buf next out'
+  pub row_more : (next : ℕ) → r ≡ Some next → Stands (bytes_of (take (i + 1) l)) from buf next out'
   row_more next e =
       rw (bytes_more l i h) (stands_number (bytes_of (take i l)) from buf place out s (get_or l i 0) r out' w next e)
 

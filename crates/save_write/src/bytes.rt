@@ -8,7 +8,6 @@ ghost use Rattle.save_write.specs.Keys.{slot_of, Saves};
 ghost use Rattle.save_write.specs.Stands.{rows_of, Stands};
 
 use crate::row::{ROW, fill_row};
-use varint::Put;
 
 // How many bytes a number takes.
 fn size_of(n: u64) -> usize
@@ -26,10 +25,8 @@ pub fn row_size(row: &[u64]) -> usize
     ensures { (result ≡ length (bytes_of row.now)) × (result ≤ 440) }
 {
     let mut sum: usize = 0;
-    let mut i: usize = 0;
-    while i < row.len() {
+    for i in 0..row.len() {
         sum += size_of(row[i]);
-        i += 1;
     }
     sum
 }
@@ -48,11 +45,9 @@ pub fn rows_size(table: &[u64], keys: &[u64], time: u64, end: u64) -> usize
 {
     let mut row = [0u64; ROW];
     let mut sum: usize = 0;
-    let mut k: usize = 0;
-    while k < keys.len() {
+    for k in 0..keys.len() {
         fill_row(table, slot_of(keys[k]), time, end, &mut row);
         sum += row_size(&row);
-        k += 1;
     }
     sum
 }
@@ -63,13 +58,11 @@ pub fn put_row(buf: &mut [u8], at: usize, row: &[u64]) -> usize
     ensures { Stands (bytes_of row.now) at buf.old result buf.new }
 {
     let mut place = at;
-    let mut i: usize = 0;
-    while i < row.len() {
-        let Put::Next(next) = varint::write_u64(buf, place, row[i]) else {
+    for i in 0..row.len() {
+        let Some(next) = varint::write_u64(buf, place, row[i]) else {
             return place;
         };
         place = next;
-        i += 1;
     }
     place
 }
@@ -91,11 +84,9 @@ pub fn put_rows(
 {
     let mut row = [0u64; ROW];
     let mut place = at;
-    let mut k: usize = 0;
-    while k < keys.len() {
+    for k in 0..keys.len() {
         fill_row(table, slot_of(keys[k]), time, end, &mut row);
         place = put_row(buf, place, &row);
-        k += 1;
     }
     place
 }

@@ -50,10 +50,8 @@ pub fn fill_row(table: &[u64], slot: usize, time: u64, end: u64, row: &mut [u64]
     let p = left_at(table, slot, time, end);
     let ends = p.backoff;
     put_peer(row, p, time);
-    let mut t: usize = 0;
-    while t < TOPICS {
+    for t in 0..TOPICS {
         let r = layout::load_topic(table, slot * TOPICS + t);
         put_topic(row, 4 + t * 5, r, left_of(ends[t], time));
-        t += 1;
     }
 }

@@ -1,5 +1,6 @@
 -- Laws of lists in parts of one width, and of lists by element.
 -- Assumes nothing.
+use Rattle.std.proofs.Common.{None}
 use Prim.{tt}
 use Prim.Native.Nat.{ℕ, zero, suc, ◌+◌, ◌*◌, ◌<◌, ◌≤◌, suc-le-suc}
 use mathlib.Core.Path.{◌≡◌, refl, sym, ap, ◌∙◌}
@@ -10,7 +11,6 @@ use lib.ListN.{length, get_or, length-append, get_or-append}
 use lib.Seq.{get_or-append-add}
 use mathlib.Core.Bool.{Bool, false}
 use Rattle.index.specs.Index.{first, gather}
-use Rattle.index.specs.declared.Found.TheVariants.{Nothing}
 use Rattle.index.proofs.Flags.{by_order}
 use Rattle.layout.specs.Rows.{tab}
 use Rattle.rows.specs.Rows.{span, joins}
@@ -110,7 +110,7 @@ each_gather P f (suc n) h =
     each_append P (gather n f) (f n) (each_gather P f n (λ t l. h t (omega arith))) (h n (omega arith))
 
 -- a search of a test that never holds
-pub first_by : (f : ℕ → Bool) (n : ℕ) → ((i : ℕ) → i < n → f i ≡ false) → first n f ≡ Nothing
+pub first_by : (f : ℕ → Bool) (n : ℕ) → ((i : ℕ) → i < n → f i ≡ false) → first n f ≡ None
 unfolding first
 first_by f zero h = refl
 first_by f (suc n) h = rw (first_by f n (λ i l. h i (omega arith)), h n (omega arith))

@@ -1,5 +1,6 @@
 -- "Saving what was loaded, at the load's time, gives the same bytes if no record was reclaimable then."
 -- Assumes nothing.
+use Rattle.std.proofs.Common.{Some, None}
 use Prim.{tt}
 use Prim.Native.Nat.{ℕ, zero, suc, ◌+◌, ◌*◌, ◌-◌, ◌<◌, ◌≤◌}
 use native.Mathlib.Omega.{arith}
@@ -12,10 +13,8 @@ use lib.Dec.{eqb}
 use Rattle.params.specs.declared.Params.{Params}
 use lib.ListN.{length, get_or}
 use Rattle.index.specs.Index.{first, iter, gather}
-use Rattle.index.specs.declared.Found.TheVariants.{Nothing}
 use Rattle.index.proofs.Flags.{by_test, by_order}
 use Rattle.varint.specs.Groups.{encode}
-use Rattle.varint.specs.declared.Read.TheVariants.{Number}
 use Rattle.params.specs.Check.{first_broken}
 use Rattle.records.specs.declared.Peer.{Peer}
 use Rattle.records.specs.declared.TopicRecord.{TopicRecord}
@@ -92,14 +91,14 @@ each_tab P (suc n) f h = (h zero (omega arith), each_tab P n (λ k. f (suc k)) (
 module _
     (params : Params)
     (size : length params.numbers ≡ param_count)
-    (ok : first_broken params ≡ Nothing)
+    (ok : first_broken params ≡ None)
     (clock : ℕ)
     (early : clock ≤ max_time)
     (n : ℕ)
     (few : n ≤ slot_count)
     (l : List ℕ)
     (count : length l ≡ n * row_size)
-    (pass : first (n * row_size) (outside (most_of (fresh_state params)) l) ≡ Nothing)
+    (pass : first (n * row_size) (outside (most_of (fresh_state params)) l) ≡ None)
     (none : (s : ℕ) → s < slot_count → reclaimable (peer_in (loaded_state params clock n l) s) clock ≡ false)
   where
     abbrev st : State
@@ -180,7 +179,7 @@ pub saves_back : SavesBack
 unfolding bytes_of
 saves_back fine params clock s st next size byte read e none =
     let o = opened_is params clock s byte st fine e in
-    let q : Number o.edition o.next ≡ Number edition next = sym o.read ∙ read in
+    let q : Some (o.edition, o.next) ≡ Some (edition, next) = sym o.read ∙ read in
     let z : o.edition ≡ edition = cc in
     ap (λ (u : State). save_of u clock) o.state
     ∙ same_bytes_lem params size o.ok clock o.early o.n o.few o.numbers o.count o.pass (λ k h.

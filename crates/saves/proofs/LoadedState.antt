@@ -1,5 +1,6 @@
 -- A loaded router: what stands in each slot, and that it is a router's.
 -- Assumes nothing.
+use Rattle.std.proofs.Common.{None}
 use Prim.Native.Nat.{ℕ, zero, suc, ◌+◌, ◌*◌, ◌-◌, ◌/◌, ◌%◌, ◌<◌, ◌≤◌}
 use native.Mathlib.Omega.{arith}
 use mathlib.Core.Path.{◌≡◌, refl, ap, ◌∙◌}
@@ -11,7 +12,6 @@ use Rattle.params.specs.declared.Params.{Params}
 use lib.ListN.{length, get_or, replicate, length-map, length-replicate, get_or-replicate, get_or-eq_default}
 use lib.Seq.{get_or-append-add}
 use Rattle.index.specs.Index.{first, gather}
-use Rattle.index.specs.declared.Found.TheVariants.{Nothing}
 use Rattle.index.proofs.Index.{both, first_passed}
 use Rattle.index.proofs.Flags.{by_order, cond_case}
 use Rattle.varint.specs.Codes.{code_of}
@@ -105,13 +105,13 @@ most_topic st t i h b =
 module _
     (params : Params)
     (size : length params.numbers ≡ param_count)
-    (ok : first_broken params ≡ Nothing)
+    (ok : first_broken params ≡ None)
     (clock : ℕ)
     (early : clock ≤ max_time)
     (n : ℕ)
     (few : n ≤ slot_count)
     (l : List ℕ)
-    (pass : first (n * row_size) (outside (most_of (fresh_state params)) l) ≡ Nothing)
+    (pass : first (n * row_size) (outside (most_of (fresh_state params)) l) ≡ None)
   where
     abbrev fresh : State
     fresh = fresh_state params

@@ -1,5 +1,6 @@
 -- What stood in bytes that a load accepted.
 -- Assumes nothing.
+use Rattle.std.proofs.Common.{Option, Some, None}
 use Prim.Native.Nat.{ℕ, ◌*◌, ◌<◌, ◌≤◌}
 use native.Mathlib.Omega.{arith}
 use mathlib.Core.Path.{◌≡◌, refl, sym, ap, ◌∙◌}
@@ -10,12 +11,8 @@ use lib.Dec.{leb, ltb, eqb}
 use Rattle.params.specs.declared.Params.{Params}
 use lib.ListN.{length, get_or, drop, drop_of_length-le}
 use Rattle.index.specs.Index.{first}
-use Rattle.index.specs.declared.Found.{Found}
-use Rattle.index.specs.declared.Found.TheVariants.{At, Nothing}
 use Rattle.index.proofs.Flags.{by_test}
 use Rattle.varint.specs.Groups.{encode, read_at}
-use Rattle.varint.specs.declared.Read.{Read}
-use Rattle.varint.specs.declared.Read.TheVariants.{Number, Bad}
 use Rattle.varint.proofs.GroupLaws.{read_at_written}
 use Rattle.params.specs.Check.{first_broken}
 use Rattle.records.specs.Records.{State, slot_count}
@@ -28,27 +25,27 @@ use Rattle.saves.specs.Load.{sheeted, load_of}
 use Rattle.saves.proofs.Parsing.{top, Rest, written_from}
 
 -- no edition has more records than there are slots
-pub slots_most : (v most : ℕ) → slots_of v ≡ At most → most ≤ slot_count
+pub slots_most : (v most : ℕ) → slots_of v ≡ Some most → most ≤ slot_count
 unfolding slots_of
 slots_most v most h =
     by_test (most ≤ slot_count) (eqb v 1)
-    (λ t. let q : At 64 ≡ At most = rw t at h in let z : 64 ≡ most = cc in omega arith)
+    (λ t. let q : Some 64 ≡ Some most = rw t at h in let z : 64 ≡ most = cc in omega arith)
     (λ t.
-    let q : cond (eqb v edition) (At slot_count) Nothing ≡ At most = rw t at h in
+    let q : cond (eqb v edition) (Some slot_count) None ≡ Some most = rw t at h in
     by_test (most ≤ slot_count) (eqb v edition)
-    (λ u. let w : At slot_count ≡ At most = rw u at q in let z : slot_count ≡ most = cc in omega arith)
-    (λ u. let w : Nothing ≡ At most = rw u at q in let z : ◌≡◌ {A = ℕ} 0 1 = cc in absurd (omega arith)))
+    (λ u. let w : Some slot_count ≡ Some most = rw u at q in let z : slot_count ≡ most = cc in omega arith)
+    (λ u. let w : None ≡ Some most = rw u at q in let z : ◌≡◌ {A = ℕ} 0 1 = cc in absurd (omega arith)))
 
 pub record Opened (params : Params) (clock : ℕ) (s : List ℕ) (st : State) : Type 0 where
   pub edition : ℕ
   pub next : ℕ
-  pub read : read_at top s 0 ≡ Number edition next
+  pub read : read_at top s 0 ≡ Some (edition, next)
   pub n : ℕ
   pub numbers : List ℕ
-  pub ok : first_broken params ≡ Nothing
+  pub ok : first_broken params ≡ None
   pub early : clock ≤ max_time
   pub few : n ≤ slot_count
-  pub pass : first (n * row_size) (outside (most_of (fresh_state params)) numbers) ≡ Nothing
+  pub pass : first (n * row_size) (outside (most_of (fresh_state params)) numbers) ≡ None
   pub count : length numbers ≡ n * row_size
   pub bytes : s ≡ encode edition ++ (encode n ++ bytes_of numbers)
   pub state : st ≡ loaded_state params clock n numbers
@@ -56,7 +53,7 @@ pub record Opened (params : Params) (clock : ℕ) (s : List ℕ) (st : State) : 
 module _ (params : Params) (clock : ℕ) (s : List ℕ) (byte : (k : ℕ) → get_or s k 0 < 256) (st : State) where
   record Body (n at : ℕ) : Type 0 where
     numbers : List ℕ
-    pass : first (n * row_size) (outside (most_of (fresh_state params)) numbers) ≡ Nothing
+    pass : first (n * row_size) (outside (most_of (fresh_state params)) numbers) ≡ None
     count : length numbers ≡ n * row_size
     bytes : drop at s ≡ bytes_of numbers
     state : st ≡ loaded_state params clock n numbers
@@ -65,12 +62,12 @@ module _ (params : Params) (clock : ℕ) (s : List ℕ) (byte : (k : ℕ) → ge
       (n at : ℕ) (l : List ℕ) →
       length l ≡ n * row_size →
       drop at s ≡ bytes_of l →
-      (r : Found) →
+      (r : Option ℕ) →
       first (n * row_size) (outside (most_of (fresh_state params)) l) ≡ r →
       judged_by params clock s r n at l ≡ loaded st →
       Body n at
-  body_judged n at l c b (At i) f e = let z : ◌≡◌ {A = ℕ} 0 1 = cc in absurd (omega arith)
-  body_judged n at l c b Nothing f e =
+  body_judged n at l c b (Some i) f e = let z : ◌≡◌ {A = ℕ} 0 1 = cc in absurd (omega arith)
+  body_judged n at l c b None f e =
       let q : loaded_state params clock n l ≡ st = cc in
       record { numbers = l; pass = f; count = c; bytes = b; state = sym q }
 
@@ -101,10 +98,10 @@ module _ (params : Params) (clock : ℕ) (s : List ℕ) (byte : (k : ℕ) → ge
     body : Body n next
 
   counted_is :
-      (most at : ℕ) (r : Read) → most ≤ slot_count → read_at top s at ≡ r → counted params clock s most at r ≡ loaded st → Counted at
+      (most at : ℕ) (r : Option (ℕ × ℕ)) → most ≤ slot_count → read_at top s at ≡ r → counted params clock s most at r ≡ loaded st → Counted at
   unfolding records
-  counted_is most at Bad h f e = let z : ◌≡◌ {A = ℕ} 0 1 = cc in absurd (omega arith)
-  counted_is most at (Number n next) h f e =
+  counted_is most at None h f e = let z : ◌≡◌ {A = ℕ} 0 1 = cc in absurd (omega arith)
+  counted_is most at (Some (n, next)) h f e =
       by_test (Counted at) (leb n most)
       (λ t.
       let e' : records params clock s n next ≡ loaded st = rw t at e in
@@ -123,14 +120,14 @@ module _ (params : Params) (clock : ℕ) (s : List ℕ) (byte : (k : ℕ) → ge
   record Begun : Type 0 where
     edition : ℕ
     next : ℕ
-    read : read_at top s 0 ≡ Number edition next
+    read : read_at top s 0 ≡ Some (edition, next)
     bytes : s ≡ encode edition ++ drop next s
     rest : Counted next
 
   begun_known :
-      (v next : ℕ) (r : Found) → read_at top s 0 ≡ Number v next → slots_of v ≡ r → of_edition params clock s r next ≡ loaded st → Begun
-  begun_known v next Nothing f h e = let z : ◌≡◌ {A = ℕ} 0 1 = cc in absurd (omega arith)
-  begun_known v next (At most) f h e =
+      (v next : ℕ) (r : Option ℕ) → read_at top s 0 ≡ Some (v, next) → slots_of v ≡ r → of_edition params clock s r next ≡ loaded st → Begun
+  begun_known v next None f h e = let z : ◌≡◌ {A = ℕ} 0 1 = cc in absurd (omega arith)
+  begun_known v next (Some most) f h e =
       record {
         edition = v;
         next = next;
@@ -139,11 +136,11 @@ module _ (params : Params) (clock : ℕ) (s : List ℕ) (byte : (k : ℕ) → ge
         rest = counted_is most next (read_at top s next) (slots_most v most h) refl e;
       }
 
-  begun_is : (r : Read) → read_at top s 0 ≡ r → opened params clock s r ≡ loaded st → Begun
-  begun_is Bad f e = let z : ◌≡◌ {A = ℕ} 0 1 = cc in absurd (omega arith)
-  begun_is (Number v next) f e = begun_known v next (slots_of v) f refl e
+  begun_is : (r : Option (ℕ × ℕ)) → read_at top s 0 ≡ r → opened params clock s r ≡ loaded st → Begun
+  begun_is None f e = let z : ◌≡◌ {A = ℕ} 0 1 = cc in absurd (omega arith)
+  begun_is (Some (v, next)) f e = begun_known v next (slots_of v) f refl e
 
-  opened_timed : first_broken params ≡ Nothing → timed params clock s (leb clock max_time) ≡ loaded st → Opened params clock s st
+  opened_timed : first_broken params ≡ None → timed params clock s (leb clock max_time) ≡ loaded st → Opened params clock s st
   opened_timed ok e =
       by_test (Opened params clock s st) (leb clock max_time)
       (λ t.
@@ -172,9 +169,9 @@ module _ (params : Params) (clock : ℕ) (s : List ℕ) (byte : (k : ℕ) → ge
       let z : ◌≡◌ {A = ℕ} 0 1 = cc in
       absurd (omega arith))
 
-  opened_sheet : (r : Found) → first_broken params ≡ r → sheeted params clock s r ≡ loaded st → Opened params clock s st
-  opened_sheet (At i) f e = let z : ◌≡◌ {A = ℕ} 0 1 = cc in absurd (omega arith)
-  opened_sheet Nothing f e = opened_timed f e
+  opened_sheet : (r : Option ℕ) → first_broken params ≡ r → sheeted params clock s r ≡ loaded st → Opened params clock s st
+  opened_sheet (Some i) f e = let z : ◌≡◌ {A = ℕ} 0 1 = cc in absurd (omega arith)
+  opened_sheet None f e = opened_timed f e
 
   pub opened_is : (fine : Bool) → load_of fine params clock s ≡ loaded st → Opened params clock s st
   unfolding load_of

@@ -1,5 +1,6 @@
 -- Numbers to bytes and back, whatever stands before and after them.
 -- Assumes nothing.
+use Rattle.std.proofs.Common.{Option, Some, None}
 use Prim.Native.Nat.{ℕ, zero, suc, ◌+◌, ◌-◌, ◌<◌, ◌≤◌, suc-le-suc}
 use mathlib.Core.Path.{◌≡◌, refl, sym, ap, ◌∙◌}
 use mathlib.Core.List.{List, [], ◌∷◌, ◌++◌, append_assoc}
@@ -8,8 +9,6 @@ use native.Mathlib.Numerals.{add-one}
 use lib.Seq.{get_or_at, take-suc}
 use lib.ListN.{length, get_or, take, drop, length-append}
 use Rattle.varint.specs.Groups.{read_at, encode}
-use Rattle.varint.specs.declared.Read.{Read}
-use Rattle.varint.specs.declared.Read.TheVariants.{Number, Bad}
 use Rattle.varint.proofs.GroupLaws.{read_at_encode, read_at_written, Front}
 use Rattle.saves.specs.Save.{bytes_of}
 use Rattle.saves.specs.Load.{Parse, numbers, malformed, then, step, parse_from}
@@ -52,15 +51,15 @@ pub record Rest (s : List ℕ) (at : ℕ) (l : List ℕ) (next n : ℕ) : Type 0
   pub count : length l ≡ n
 
 step_written :
-    (s : List ℕ) (at : ℕ) (rest : ℕ → Parse) (l : List ℕ) (end n : ℕ) (r : Read) →
+    (s : List ℕ) (at : ℕ) (rest : ℕ → Parse) (l : List ℕ) (end n : ℕ) (r : Option (ℕ × ℕ)) →
     ((k : ℕ) → get_or s k 0 < 256) →
     read_at top s at ≡ r →
     ((next : ℕ) (m : List ℕ) → rest next ≡ numbers m end → Rest s next m end n) →
     step rest at r ≡ numbers l end →
     Rest s at l end (suc n)
 unfolding bytes_of
-step_written s at rest l end n Bad h e ih f = let z : ◌≡◌ {A = ℕ} 0 1 = cc in absurd (omega arith)
-step_written s at rest l end n (Number u next) h e ih f =
+step_written s at rest l end n None h e ih f = let z : ◌≡◌ {A = ℕ} 0 1 = cc in absurd (omega arith)
+step_written s at rest l end n (Some (u, next)) h e ih f =
     let t = then_numbers u (rest next) l end f in
     let w : Front top s at u next = read_at_written top s at u next h e in
     let i = ih next t.0 t.1.0 in
@@ -114,11 +113,11 @@ parse_split (suc i) k s at a place e =
   where
     go :
         ((next : ℕ) (b : List ℕ) → parse_from i s next ≡ numbers b place → parse_from (i + k) s next ≡ after b (parse_from k s place)) →
-        (r : Read) →
+        (r : Option (ℕ × ℕ)) →
         step (λ next. parse_from i s next) at r ≡ numbers a place →
         step (λ next. parse_from (i + k) s next) at r ≡ after a (parse_from k s place)
-    go ih Bad f = let z : ◌≡◌ {A = ℕ} 0 1 = cc in absurd (omega arith)
-    go ih (Number u next) f =
+    go ih None f = let z : ◌≡◌ {A = ℕ} 0 1 = cc in absurd (omega arith)
+    go ih (Some (u, next)) f =
         let t = then_numbers u (parse_from i s next) a place f in
         ap (then u) (ih next t.0 t.1.0)
         ∙ after_then u t.0 (parse_from k s place)
@@ -132,18 +131,18 @@ parse_count (suc n) s at l end e = go (λ next m f. parse_count n s next m end f
   where
     go :
         ((next : ℕ) (m : List ℕ) → parse_from n s next ≡ numbers m end → length m ≡ n) →
-        (r : Read) →
+        (r : Option (ℕ × ℕ)) →
         step (λ next. parse_from n s next) at r ≡ numbers l end →
         length l ≡ suc n
-    go ih Bad f = let z : ◌≡◌ {A = ℕ} 0 1 = cc in absurd (omega arith)
-    go ih (Number u next) f =
+    go ih None f = let z : ◌≡◌ {A = ℕ} 0 1 = cc in absurd (omega arith)
+    go ih (Some (u, next)) f =
         let t = then_numbers u (parse_from n s next) l end f in
         rw (← t.1.1) (ap suc (ih next t.0 t.1.0))
 
 -- the number that stands where i of m numbers end is the i-th of them
 pub record Next (m i : ℕ) (s : List ℕ) (at : ℕ) (l : List ℕ) (place : ℕ) : Type 0 where
   pub next : ℕ
-  pub read : read_at top s place ≡ Number (get_or l i 0) next
+  pub read : read_at top s place ≡ Some (get_or l i 0, next)
   pub more : parse_from (suc i) s at ≡ numbers (take (suc i) l) next
 
 module _
@@ -169,11 +168,11 @@ module _
     one : parse_from (i + 1) s at ≡ after (take i l) (parse_from 1 s place)
     one = parse_split i 1 s at (take i l) place front
 
-    go : (r : Read) → read_at top s place ≡ r → after (take i l) (step (λ next. parse_from (m - i - 1) s next) place r) ≡ numbers l end →
+    go : (r : Option (ℕ × ℕ)) → read_at top s place ≡ r → after (take i l) (step (λ next. parse_from (m - i - 1) s next) place r) ≡ numbers l end →
         Next m i s at l place
     unfolding parse_from
-    go Bad e f = let z : ◌≡◌ {A = ℕ} 0 1 = cc in absurd (omega arith)
-    go (Number u next) e f =
+    go None e f = let z : ◌≡◌ {A = ℕ} 0 1 = cc in absurd (omega arith)
+    go (Some (u, next)) e f =
         let q : get_or l i 0 ≡ u = then_rest u (parse_from (m - i - 1) s next) f in
         let c = parse_count m s at l end whole in
         record {
@@ -182,7 +181,7 @@ module _
           more =
               ap (λ (n : ℕ). parse_from n s at) (sym (add-one i))
               ∙ one
-              ∙ ap (λ (r : Read). after (take i l) (step (λ k. numbers [] k) place r)) e
+              ∙ ap (λ (r : Option (ℕ × ℕ)). after (take i l) (step (λ k. numbers [] k) place r)) e
               ∙ ap (λ (k : List ℕ). numbers k next) (ap (λ (v : ℕ). take i l ++ (v ∷ [])) (sym q) ∙ sym (take-suc l i 0 (omega arith)));
         }
 

@@ -1,5 +1,6 @@
 -- "Every save loads with its sheet."
 -- Assumes nothing.
+use Rattle.std.proofs.Common.{Some, None}
 use Prim.Native.Nat.{ℕ, zero, suc, ◌+◌, ◌*◌, ◌-◌, ◌/◌, ◌%◌, ◌<◌, ◌≤◌}
 use native.Mathlib.Omega.{arith}
 use mathlib.Core.Path.{◌≡◌, ap, ◌∙◌}
@@ -9,11 +10,9 @@ use borrow.Author.Tests.{le-leb, lt-ltb, le-ltb, eqb-true}
 use lib.Dec.{eqb, ltb}
 use Rattle.params.specs.declared.Params.{Params}
 use lib.ListN.{length, get_or, length-append}
-use Rattle.index.specs.declared.Found.TheVariants.{Nothing}
 use Rattle.index.proofs.Flags.{by_test}
 use Rattle.varint.specs.Codes.{code_of}
 use Rattle.varint.specs.Groups.{encode, read_at}
-use Rattle.varint.specs.declared.Read.TheVariants.{Number}
 use Rattle.varint.proofs.GroupLaws.{read_at_encode}
 use Rattle.params.specs.Check.{first_broken}
 use Rattle.records.specs.Records.{State, slot_count, peer_in, param_count}
@@ -37,7 +36,7 @@ module _
     (v : valid st ≡ true)
     (params : Params)
     (size : length params.numbers ≡ param_count)
-    (ok : first_broken params ≡ Nothing)
+    (ok : first_broken params ≡ None)
     (same : st.codes ≡ map code_of params.numbers)
     (time : ℕ)
     (late : st.clock ≤ time)
@@ -139,10 +138,10 @@ module _
       abbrev second_place : ℕ
       second_place = first_place + length (encode count)
 
-      read_edition : read_at top bytes 0 ≡ Number edition first_place
+      read_edition : read_at top bytes 0 ≡ Some (edition, first_place)
       read_edition = read_at_encode top edition [] (encode count ++ bytes_of body) (omega arith) ∙ ap (Number edition) (omega arith)
 
-      read_count : read_at top bytes first_place ≡ Number count second_place
+      read_count : read_at top bytes first_place ≡ Some (count, second_place)
       read_count = read_at_encode top count (encode edition) (bytes_of body) (let f = in_order.few in omega arith)
 
       read_body : parse_from (count * 44) bytes second_place ≡ numbers body (second_place + length (bytes_of body))

@@ -1,6 +1,6 @@
 -- Worked examples of save and load.
+use Rattle.std.specs.Prelude.{None}
 use Rattle.std.specs.Prelude.{ℕ, ◌≡◌, false, cond, List, [], ◌∷◌, ◌++◌, map, eqb, replicate}
-use Rattle.index.specs.declared.Found.TheVariants.{Nothing}
 use Rattle.varint.specs.Codes.{code_of}
 use Rattle.params.specs.declared.Params.{Params}
 use Rattle.params.specs.Ordinary.{ordinary_numbers, ordinary_params}
@@ -59,7 +59,7 @@ numbers = 3 ∷ 1000 ∷ 0 ∷ 1000 ∷ 0 ∷ 0 ∷ 0 ∷ 0 ∷ 500 ∷ replicat
 
 -- a load behind the test of the sheet
 abbrev pub behind : Params → ℕ → List ℕ → Loading
-behind p clock s = sheeted p clock s Nothing
+behind p clock s = sheeted p clock s None
 
 pub record Examples : Type 0 where
   pub saves : save_of evening 5000 ≡ written

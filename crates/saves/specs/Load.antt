@@ -1,13 +1,10 @@
 -- What a load makes of bytes (02, order 8), test by test: "A load tests the set-up numbers (2), the sheet (9 as in 01), the clock (2), then
 -- edition and count as they are read, another edition or a count above the slots being 9 at its place; after them 10 comes before 9."
+use Rattle.std.specs.Prelude.{Option, Some, None}
 use Rattle.std.specs.Prelude.{ℕ, zero, suc, ◌+◌, ◌-◌, ◌*◌, ◌/◌, ◌%◌, ◌≡◌, Bool, true, false, cond, not, ◌&&◌, List, [], ◌∷◌, map, eqb, leb, ltb, length, get_or, replicate}
 use Rattle.index.specs.Index.{first, gather}
-use Rattle.index.specs.declared.Found.{Found}
-use Rattle.index.specs.declared.Found.TheVariants.{At, Nothing}
 use Rattle.varint.specs.Groups.{read_at}
 use Rattle.varint.specs.Codes.{code_of}
-use Rattle.varint.specs.declared.Read.{Read}
-use Rattle.varint.specs.declared.Read.TheVariants.{Number, Bad}
 use Rattle.params.specs.declared.Params.{Params}
 use Rattle.params.specs.Check.{first_broken}
 use Rattle.records.specs.declared.Groups.{Groups}
@@ -33,9 +30,9 @@ abbrev pub then : ℕ → Parse → Parse
 then n (numbers l next) = numbers (n ∷ l) next
 then n (malformed p) = malformed p
 
-abbrev pub step : (ℕ → Parse) → ℕ → Read → Parse
-step rest at Bad = malformed at
-step rest at (Number n next) = then n (rest next)
+abbrev pub step : (ℕ → Parse) → ℕ → Option (ℕ × ℕ) → Parse
+step rest at None = malformed at
+step rest at (Some (n, next)) = then n (rest next)
 
 unfoldable pub parse_from : ℕ → List ℕ → ℕ → Parse
 parse_from zero s at = numbers [] at
@@ -146,13 +143,13 @@ pub data Loading : Type 0 where
   bad : ℕ → Loading
 
 -- how many records an edition may have, if it is one; "Edition 1 saves load by order 8's rules, with 64 for the slots" (order 9)
-unfoldable pub slots_of : ℕ → Found
-slots_of e = cond (eqb e 1) (At 64) (cond (eqb e edition) (At slot_count) Nothing)
+unfoldable pub slots_of : ℕ → Option ℕ
+slots_of e = cond (eqb e 1) (Some 64) (cond (eqb e edition) (Some slot_count) None)
 
 module _ (p : Params) (clock : ℕ) (s : List ℕ) where
-  abbrev pub judged_by : Found → ℕ → ℕ → List ℕ → Loading
-  judged_by (At i) n at l = broken (place_of s at i)
-  judged_by Nothing n at l = loaded (loaded_state p clock n l)
+  abbrev pub judged_by : Option ℕ → ℕ → ℕ → List ℕ → Loading
+  judged_by (Some i) n at l = broken (place_of s at i)
+  judged_by None n at l = loaded (loaded_state p clock n l)
 
   abbrev pub judged : ℕ → ℕ → Parse → Loading
   judged n at (numbers l next) = judged_by (first (n * row_size) (outside (most_of (fresh_state p)) l)) n at l
@@ -161,24 +158,24 @@ module _ (p : Params) (clock : ℕ) (s : List ℕ) where
   unfoldable pub records : ℕ → ℕ → Loading
   records n at = judged n at (ending s (parse_from (n * row_size) s at))
 
-  abbrev pub counted : ℕ → ℕ → Read → Loading
-  counted most at Bad = bad at
-  counted most at (Number n next) = cond (leb n most) (records n next) (broken at)
+  abbrev pub counted : ℕ → ℕ → Option (ℕ × ℕ) → Loading
+  counted most at None = bad at
+  counted most at (Some (n, next)) = cond (leb n most) (records n next) (broken at)
 
-  abbrev pub of_edition : Found → ℕ → Loading
-  of_edition (At most) at = counted most at (read_at 18446744073709551615 s at)
-  of_edition Nothing at = broken 0
+  abbrev pub of_edition : Option ℕ → ℕ → Loading
+  of_edition (Some most) at = counted most at (read_at 18446744073709551615 s at)
+  of_edition None at = broken 0
 
-  abbrev pub opened : Read → Loading
-  opened Bad = bad 0
-  opened (Number e next) = of_edition (slots_of e) next
+  abbrev pub opened : Option (ℕ × ℕ) → Loading
+  opened None = bad 0
+  opened (Some (e, next)) = of_edition (slots_of e) next
 
   abbrev pub timed : Bool → Loading
   timed ok = cond ok (opened (read_at 18446744073709551615 s 0)) out_of_range
 
-  abbrev pub sheeted : Found → Loading
-  sheeted (At i) = broken i
-  sheeted Nothing = timed (leb clock max_time)
+  abbrev pub sheeted : Option ℕ → Loading
+  sheeted (Some i) = broken i
+  sheeted None = timed (leb clock max_time)
 
 -- `fine` says that the set-up numbers beside the sheet are in their ranges
 unfoldable pub load_of : Bool → Params → ℕ → List ℕ → Loading

@@ -1,8 +1,8 @@
 -- What save and load promise (02, order 8). Proved in proofs/Promised.antt.
+use Rattle.std.specs.Prelude.{Some}
 use Rattle.std.specs.Prelude.{ℕ, ◌-◌, ◌<◌, ◌≤◌, ◌≡◌, Bool, true, false, List, map, ◌⊎◌, length, get_or}
 use Rattle.varint.specs.Groups.{read_at}
 use Rattle.varint.specs.Codes.{code_of}
-use Rattle.varint.specs.declared.Read.TheVariants.{Number}
 use Rattle.params.specs.declared.Params.{Params}
 use Rattle.records.specs.Records.{State, slot_count, topic_count, param_count, place, no_peer, joined_in, peer_in, topic_in}
 use Rattle.layout.specs.View.{Sized}
@@ -65,7 +65,7 @@ SavesBack =
     (fine : Bool) (p : Params) (clock : ℕ) (s : List ℕ) (st : State) (next : ℕ) →
     length p.numbers ≡ param_count →
     ((k : ℕ) → get_or s k 0 < 256) →
-    read_at 18446744073709551615 s 0 ≡ Number edition next →
+    read_at 18446744073709551615 s 0 ≡ Some (edition, next) →
     load_of fine p clock s ≡ loaded st →
     ((k : ℕ) → k < slot_count → reclaimable (peer_in st k) clock ≡ false) →
     save_of st clock ≡ s

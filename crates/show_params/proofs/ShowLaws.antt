@@ -1,5 +1,7 @@
 -- Laws of the printed text: how its parts are stored one after the other.
 -- Assumes nothing.
+use Rattle.std.proofs.Common.{Result}
+use Rattle.params_bytes.specs.declared.ReadError.{ReadError}
 use Prim.Native.Nat.{ℕ}
 use mathlib.Core.Path.{◌≡◌, refl}
 use mathlib.Core.List.{List, []}
@@ -8,12 +10,11 @@ use Rattle.text.specs.Text.{Stored}
 use Rattle.text.proofs.TextLaws.{stored_then}
 use Rattle.param_text.specs.Lines.{head_text}
 use Rattle.params_bytes.specs.Read.{read_of, verdict_number, verdict_value}
-use Rattle.params_bytes.specs.declared.Verdict.{Verdict}
 use Rattle.params_bytes.specs.declared.Reading.{Reading}
 use Rattle.show_params.specs.Show.{rest_text, shown_text}
 
 -- ---- the whole text, by the verdict of the reading
-module _ (s : List ℕ) (r : Reading) (v : Verdict) (is : r ≡ read_of s) (told : r.verdict ≡ v) where
+module _ (s : List ℕ) (r : Reading) (v : Result ℕ ReadError) (is : r ≡ read_of s) (told : r.verdict ≡ v) where
   pub shown_stored :
       (b₀ b₁ b₂ : List ℕ) (p₁ p₂ : ℕ) →
       Stored b₀ 0 (head_text (verdict_number v) (verdict_value v)) p₁ b₁ →

@@ -1,17 +1,18 @@
 -- What the program prints of a reading: 01's number and the value that goes with it, and where the parameters were accepted their 147
 -- numbers, one to a line. The comparison with the second program goes by this form.
+use Rattle.std.specs.Prelude.{Result, Ok, Err}
+use Rattle.params_bytes.specs.declared.ReadError.{ReadError}
+use Rattle.params_bytes.specs.declared.ReadError.TheVariants.{Broken, Malformed}
 use Rattle.std.specs.Prelude.{ℕ, List, [], ◌++◌, ℤ}
 use Rattle.param_text.specs.Lines.{head_text, numbers_text}
 use Rattle.params_bytes.specs.Read.{verdict_number, verdict_value}
-use Rattle.params_bytes.specs.declared.Verdict.{Verdict}
-use Rattle.params_bytes.specs.declared.Verdict.TheVariants.{Accepted, Malformed, Broken}
 use Rattle.params_bytes.specs.declared.Reading.{Reading}
 
 -- the lines after the first
-abbrev pub rest_text : Verdict → List ℤ → List ℕ
-rest_text (Accepted n) xs = numbers_text xs
-rest_text (Malformed place) xs = []
-rest_text (Broken i) xs = []
+abbrev pub rest_text : Result ℕ ReadError → List ℤ → List ℕ
+rest_text (Ok n) xs = numbers_text xs
+rest_text (Err (Malformed place)) xs = []
+rest_text (Err (Broken i)) xs = []
 
 unfoldable pub shown_text : Reading → List ℕ
 shown_text r =

@@ -7,7 +7,7 @@ ghost use Rattle.params_bytes.specs.Read.{read_of};
 ghost use Rattle.text.specs.Text.{Stored};
 ghost use Rattle.show_params.specs.Show.{shown_text};
 
-use params_bytes::Verdict;
+use params_bytes::ReadError;
 use std::io;
 use std::io::{Read, Write};
 
@@ -19,14 +19,14 @@ fn show(buf: &mut [u8], bytes: &[u8]) -> usize
     let reading = params_bytes::read(bytes);
     let verdict = reading.verdict;
     match verdict {
-        Verdict::Accepted(n) => {
+        Ok(n) => {
             let at = param_text::put_head(buf, 0, n);
             let all = reading.params;
             let numbers = all.numbers;
             param_text::put_numbers(buf, at, numbers)
         }
-        Verdict::Malformed(place) => param_text::put_head(buf, 10, place),
-        Verdict::Broken(i) => param_text::put_head(buf, 9, i),
+        Err(ReadError::Malformed(place)) => param_text::put_head(buf, 10, place),
+        Err(ReadError::Broken(i)) => param_text::put_head(buf, 9, i),
     }
 }
 

@@ -79,12 +79,10 @@ pub fn topics_flags(table: &[u64]) -> bool
     requires { length table.now ≡ cell_count }
     ensures { result ≡ true → (t : ℕ) → t < topic_count → TopicFlags (state_of table.now) t }
 {
-    let mut t: usize = 0;
-    while t < TOPICS {
+    for t in 0..TOPICS {
         if !topic_flags(table, t) {
             return false;
         }
-        t += 1;
     }
     true
 }

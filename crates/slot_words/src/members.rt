@@ -61,12 +61,10 @@ pub fn times_within(table: &[u64], clock: u64) -> bool
     requires { length table.now ≡ cell_count }
     ensures { result ≡ true → (t : ℕ) → t < topic_count → TimesWithin (state_of table.now) t clock }
 {
-    let mut t: usize = 0;
-    while t < TOPICS {
+    for t in 0..TOPICS {
         if !topic_in_time(table, t, clock) {
             return false;
         }
-        t += 1;
     }
     true
 }

@@ -56,10 +56,8 @@ fn is_in(list: &[u64], n: u64) -> bool
     ensures { result ≡ has n list.now }
 {
     let mut found = false;
-    let mut k: usize = 0;
-    while k < list.len() {
+    for k in 0..list.len() {
         found = found | (list[k] == n);
-        k += 1;
     }
     found
 }
@@ -103,10 +101,8 @@ pub fn make(cells: &mut [u64])
     requires { length cells.old ≡ stores_cells }
     ensures { (stores_of cells.new ≡ replicate topic_count no_store) × Windows cells.new }
 {
-    let mut p: usize = 0;
-    while p < ALL_WINDOWS {
+    for p in 0..ALL_WINDOWS {
         cells[p] = 0;
-        p += 1;
     }
 }
 
@@ -116,10 +112,8 @@ pub fn is_quiet(cells: &[u64]) -> bool
     ensures { result ≡ true → stores_of cells.now ≡ replicate topic_count no_store }
 {
     let mut bits: u64 = 0;
-    let mut p: usize = 0;
-    while p < ALL_WINDOWS {
+    for p in 0..ALL_WINDOWS {
         bits = bits | cells[p];
-        p += 1;
     }
     bits == 0
 }
@@ -129,12 +123,10 @@ pub fn is_stored_in(cells: &[u64], t: usize, n: u64) -> bool
     requires { Store cells.now t }
     ensures { result ≡ stored_in (store_at cells.now t) n }
 {
-    let mut w: usize = 0;
-    while w < WINDOWS {
+    for w in 0..WINDOWS {
         if is_in_window(cells, t * WINDOWS + w, n) {
             return true;
         }
-        w += 1;
     }
     false
 }
@@ -144,12 +136,10 @@ pub fn find(cells: &[u64], n: u64) -> usize
     requires { Windows cells.now }
     ensures { (result ≤ place_count) × (ltb result place_count ≡ stored_at cells.now n) }
 {
-    let mut p: usize = 0;
-    while p < ALL_WINDOWS {
+    for p in 0..ALL_WINDOWS {
         if is_in_window(cells, p, n) {
             return place_in(cells, p, n);
         }
-        p += 1;
     }
     PLACES
 }
@@ -175,12 +165,10 @@ fn is_near(cells: &[u64], place: u64, n: u64) -> bool
     if place >= PLACES as u64 {
         return false;
     }
-    let mut moved: u64 = 0;
-    while moved < WINDOWS as u64 {
+    for moved in 0..(WINDOWS as u64) {
         if is_at(cells, place + moved * WINDOW_MOST as u64, n) {
             return true;
         }
-        moved += 1;
     }
     false
 }
@@ -223,10 +211,8 @@ pub fn empty(cells: &mut [u64], t: usize)
     ensures { (stores_of cells.new ≡ set (stores_of cells.old) t no_store) × Windows cells.new }
 {
     let p = t * WINDOWS;
-    let mut w: usize = 0;
-    while w < WINDOWS {
+    for w in 0..WINDOWS {
         cells[p + w] = 0;
-        w += 1;
     }
 }
 
@@ -235,10 +221,8 @@ fn copy_on(cells: &mut [u64], at: usize, n: usize)
     requires { (n ≤ window_most) × (at + window_most + n ≤ length cells.old) }
     ensures { CopiedOn cells.old cells.new at n }
 {
-    let mut k: usize = 0;
-    while k < n {
+    for k in 0..n {
         cells[at + WINDOW_MOST + k] = cells[at + k];
-        k += 1;
     }
 }
 
@@ -270,10 +254,8 @@ pub fn move_on(cells: &mut [u64])
     requires { Windows cells.old }
     ensures { (stores_of cells.new ≡ map moved (stores_of cells.old)) × Windows cells.new }
 {
-    let mut t: usize = 0;
-    while t < TOPICS {
+    for t in 0..TOPICS {
         move_topic(cells, t);
-        t += 1;
     }
 }
 
@@ -282,10 +264,8 @@ fn copy_to(list: &mut [u64], at: usize, from: &[u64])
     requires { at + length from.now ≤ length list.old }
     ensures { list.new ≡ sets list.old at from.now }
 {
-    let mut k: usize = 0;
-    while k < from.len() {
+    for k in 0..from.len() {
         list[at + k] = from[k];
-        k += 1;
     }
 }
 

@@ -38,12 +38,10 @@ fn is_earlier(cells: &[u64], t: usize, w: usize, k: usize, n: u64) -> bool
     requires { Store cells.now t × ((w < window_count) × (k ≤ count_at cells.now (t * window_count + w))) }
     ensures { result ≡ has n (up_to cells.now t w k) }
 {
-    let mut v: usize = 0;
-    while v < w {
+    for v in 0..w {
         if is_in_window(cells, t * WINDOWS + v, n) {
             return true;
         }
-        v += 1;
     }
     let at = start(t * WINDOWS + w);
     let end = at + k;
@@ -81,12 +79,10 @@ fn window_apart(cells: &[u64], seen: &mut [u64; WORDS], t: usize, w: usize) -> b
         × (result ≡ true → Seen (before cells.now t (w + 1)) seen.new) }
 {
     let n = size(cells, t * WINDOWS + w);
-    let mut k: usize = 0;
-    while k < n {
+    for k in 0..n {
         if !next_new(cells, seen, t, w, k) {
             return false;
         }
-        k += 1;
     }
     true
 }
@@ -97,12 +93,10 @@ fn all_apart(cells: &[u64], t: usize) -> bool
     ensures { result ≡ apart (flat (five_at cells.now t)) }
 {
     let mut seen: [u64; WORDS] = [0; WORDS];
-    let mut w: usize = 0;
-    while w < WINDOWS {
+    for w in 0..WINDOWS {
         if !window_apart(cells, &mut seen, t, w) {
             return false;
         }
-        w += 1;
     }
     true
 }

@@ -31,10 +31,8 @@ fn mark_all(numbers: &[u64], seen: &mut [u64; WORDS])
     requires { Seen [] seen.old }
     ensures { Seen numbers.now seen.new }
 {
-    let mut k: usize = 0;
-    while k < numbers.len() {
+    for k in 0..numbers.len() {
         mark(seen, bucket(numbers[k]));
-        k += 1;
     }
 }
 
@@ -73,10 +71,8 @@ fn flag_window(
     ensures { Flags (λ n. has n (window_at cells.now p)) rising.now known.old known.new }
 {
     let n = size(cells, p);
-    let mut k: usize = 0;
-    while k < n {
+    for k in 0..n {
         flag_where(rising, given, number(cells, p, k), known);
-        k += 1;
     }
 }
 
@@ -87,10 +83,8 @@ fn flag_stored(cells: &[u64], rising: &[u64], known: &mut [bool; GIVEN])
 {
     let mut given: [u64; WORDS] = [0; WORDS];
     mark_all(rising, &mut given);
-    let mut p: usize = 0;
-    while p < ALL_WINDOWS {
+    for p in 0..ALL_WINDOWS {
         flag_window(cells, p, rising, &given, known);
-        p += 1;
     }
 }
 
@@ -125,10 +119,8 @@ fn want_by(cells: &[u64], numbers: &[u64], rising: &mut [u64], list: &mut [u64])
     let mut known = [false; GIVEN];
     flag_stored(cells, rising, &mut known);
     let mut size: usize = 0;
-    let mut i: usize = 0;
-    while i < numbers.len() {
+    for i in 0..numbers.len() {
         size = next_want(rising, numbers[i], &mut known, list, size);
-        i += 1;
     }
     size
 }

@@ -1,5 +1,10 @@
 -- Laws of the answer: what is stored in each case is what the definition says.
 -- Assumes nothing.
+use Rattle.std.proofs.Common.{Option, Some, None, Result, Ok, Err}
+use Rattle.params_bytes.specs.declared.ReadError.{ReadError}
+use Rattle.params_bytes.specs.declared.ReadError.TheVariants.{Malformed}
+use Rattle.params_bytes.specs.declared.WriteError.{WriteError}
+use Rattle.params_bytes.specs.declared.WriteError.TheVariants.{Outside, Short}
 use Rattle.index.proofs.Kit.{ℕ, ◌+◌, ◌-◌, ◌<◌, ◌≤◌, ◌≡◌, refl, sym, ap, ◌∙◌, arith, true, false, by_order}
 use mathlib.Core.List.{List, [], ◌∷◌, ◌++◌, append-nil}
 use native.Mathlib.Nat.{zero-add}
@@ -9,8 +14,6 @@ use lib.Dec.{eqb, ltb}
 use lib.IntN.{ℤ}
 use lib.ListN.{length, take, drop, length-append, length-drop}
 use lib.Seq.{sets, take-append-le, sets-eq, take_at, length-take-le}
-use Rattle.index.specs.declared.Found.{Found}
-use Rattle.index.specs.declared.Found.TheVariants.{At, Nothing}
 use Rattle.index.proofs.Index.{both}
 use Rattle.records.specs.Records.{param_count}
 use Rattle.text.specs.Text.{Stored}
@@ -23,11 +26,7 @@ use Rattle.params.specs.declared.Edition.TheVariants.{First, Second}
 use Rattle.params.specs.declared.Params.{Params}
 use Rattle.params_bytes.specs.Read.{read_of, refusal}
 use Rattle.params_bytes.specs.Write.{room_for, form_of, write_by, write_of}
-use Rattle.params_bytes.specs.declared.Verdict.{Verdict}
-use Rattle.params_bytes.specs.declared.Verdict.TheVariants.{Malformed}
 use Rattle.params_bytes.specs.declared.Reading.{Reading}
-use Rattle.params_bytes.specs.declared.Written.{Written}
-use Rattle.params_bytes.specs.declared.Written.TheVariants.{Done, Short, Outside}
 use Rattle.params_bytes.proofs.RoundTrip.{form_most}
 use Rattle.supplier_params.specs.Forms.{supplier_bytes}
 use Rattle.supplier_params.specs.Import.{import_of}
@@ -37,9 +36,9 @@ use Rattle.supplier.specs.Output.{done_text, numbers_output, import_text, entrie
 use Rattle.supplier.specs.Output.{allowed, import_bytes, export_bytes, output_of, Room}
 
 -- ---- a reading, by its verdict
-module _ (q r : Reading) (v : Verdict) (is : q ≡ r) (told : q.verdict ≡ v) where
-  by_verdict : (F : Verdict → Params → List ℕ) → F v q.params ≡ F r.verdict r.params
-  by_verdict F = ap (λ (w : Verdict). F w q.params) (sym told) ∙ ap (λ (x : Reading). F x.verdict x.params) is
+module _ (q r : Reading) (v : Result ℕ ReadError) (is : q ≡ r) (told : q.verdict ≡ v) where
+  by_verdict : (F : Result ℕ ReadError → Params → List ℕ) → F v q.params ≡ F r.verdict r.params
+  by_verdict F = ap (λ (w : Result ℕ ReadError). F w q.params) (sym told) ∙ ap (λ (x : Reading). F x.verdict x.params) is
 
   module _ (b₀ b₁ : List ℕ) (n : ℕ) where
     pub import_as : Stored b₀ 0 (numbers_output v q.params.numbers) n b₁ → Stored b₀ 0 (import_text r) n b₁
@@ -63,51 +62,51 @@ pub nothing_stored : (b : List ℕ) → Stored b 0 [] 0 b
 nothing_stored b = (omega arith, refl)
 
 -- ---- what a writer of n bytes answers and leaves, by what the check of the parameters found
-abbrev pub answer_by : Found → ℕ → Written
-answer_by (At i) n = Outside i
-answer_by Nothing n = Done n
+abbrev pub answer_by : Option ℕ → ℕ → Result ℕ WriteError
+answer_by (Some i) n = Err (Outside i)
+answer_by None n = Ok n
 
-abbrev pub bytes_by : Found → List ℕ → List ℕ → List ℕ
-bytes_by (At i) bytes buf = buf
-bytes_by Nothing bytes buf = sets buf 0 bytes
+abbrev pub bytes_by : Option ℕ → List ℕ → List ℕ → List ℕ
+bytes_by (Some i) bytes buf = buf
+bytes_by None bytes buf = sets buf 0 bytes
 
-abbrev pub length_of : Written → ℕ
-length_of (Done n) = n
-length_of Short = 0
-length_of (Outside i) = 0
+abbrev pub length_of : Result ℕ WriteError → ℕ
+length_of (Ok n) = n
+length_of (Err Short) = 0
+length_of (Err (Outside i)) = 0
 
 pub written_stored :
-    (f : Found) (bytes buf out : List ℕ) (r v : Written) → r ≡ answer_by f (length bytes) → out ≡ bytes_by f bytes buf → r ≡ v →
+    (f : Option ℕ) (bytes buf out : List ℕ) (r v : Result ℕ WriteError) → r ≡ answer_by f (length bytes) → out ≡ bytes_by f bytes buf → r ≡ v →
     Stored buf 0 (unless f bytes) (length_of v) out
-written_stored (At i) bytes buf out r v e o t = (ap length_of (sym t ∙ e), o)
-written_stored Nothing bytes buf out r v e o t = (ap length_of (sym t ∙ e) ∙ sym (zero-add (length bytes)), o)
+written_stored (Some i) bytes buf out r v e o t = (ap length_of (sym t ∙ e), o)
+written_stored None bytes buf out r v e o t = (ap length_of (sym t ∙ e) ∙ sym (zero-add (length bytes)), o)
 
 -- no more than the bytes are
-pub written_length : (f : Found) (n most : ℕ) (r v : Written) → (f ≡ Nothing → n ≤ most) → r ≡ answer_by f n → r ≡ v → length_of v ≤ most
-written_length (At i) n most r v h e t = omega (arith, ap length_of (sym t ∙ e))
-written_length Nothing n most r v h e t = omega (arith, ap length_of (sym t ∙ e), h refl)
+pub written_length : (f : Option ℕ) (n most : ℕ) (r v : Result ℕ WriteError) → (f ≡ None → n ≤ most) → r ≡ answer_by f n → r ≡ v → length_of v ≤ most
+written_length (Some i) n most r v h e t = omega (arith, ap length_of (sym t ∙ e))
+written_length None n most r v h e t = omega (arith, ap length_of (sym t ∙ e), h refl)
 
-module _ (f : Found) (n : ℕ) (r : Written) (e : r ≡ answer_by f n) where
-  pub is_done : (m : ℕ) → r ≡ Done m → (f ≡ Nothing) × (m ≡ n)
+module _ (f : Option ℕ) (n : ℕ) (r : Result ℕ WriteError) (e : r ≡ answer_by f n) where
+  pub is_done : (m : ℕ) → r ≡ Ok m → (f ≡ None) × (m ≡ n)
   is_done m t = go f (sym e ∙ t)
     where
-      go : (g : Found) → answer_by g n ≡ Done m → (g ≡ Nothing) × (m ≡ n)
-      go (At i) q = let z : ◌≡◌ {A = ℕ} 0 1 = cc in absurd (omega arith)
-      go Nothing q = let s : n ≡ m = cc in (refl, sym s)
+      go : (g : Option ℕ) → answer_by g n ≡ Ok m → (g ≡ None) × (m ≡ n)
+      go (Some i) q = let z : ◌≡◌ {A = ℕ} 0 1 = cc in absurd (omega arith)
+      go None q = let s : n ≡ m = cc in (refl, sym s)
 
-  pub is_outside : (i : ℕ) → r ≡ Outside i → f ≡ At i
+  pub is_outside : (i : ℕ) → r ≡ Err (Outside i) → f ≡ Some i
   is_outside i t = go f (sym e ∙ t)
     where
-      go : (g : Found) → answer_by g n ≡ Outside i → g ≡ At i
-      go (At j) q = let s : j ≡ i = cc in ap At s
-      go Nothing q = let z : ◌≡◌ {A = ℕ} 0 1 = cc in absurd (omega arith)
+      go : (g : Option ℕ) → answer_by g n ≡ Err (Outside i) → g ≡ Some i
+      go (Some j) q = let s : j ≡ i = cc in ap Some s
+      go None q = let z : ◌≡◌ {A = ℕ} 0 1 = cc in absurd (omega arith)
 
-  pub not_short : {A : Type 0} → r ≡ Short → A
+  pub not_short : {A : Type 0} → r ≡ Err Short → A
   not_short {A} t = go f (sym e ∙ t)
     where
-      go : (g : Found) → answer_by g n ≡ Short → A
-      go (At j) q = let z : ◌≡◌ {A = ℕ} 0 1 = cc in absurd (omega arith)
-      go Nothing q = let z : ◌≡◌ {A = ℕ} 0 1 = cc in absurd (omega arith)
+      go : (g : Option ℕ) → answer_by g n ≡ Err Short → A
+      go (Some j) q = let z : ◌≡◌ {A = ℕ} 0 1 = cc in absurd (omega arith)
+      go None q = let z : ◌≡◌ {A = ℕ} 0 1 = cc in absurd (omega arith)
 
 -- ---- our own writer
 room_most : (e : Edition) → room_for e ≤ 4096
@@ -122,12 +121,12 @@ module _ (p : Params) (buf : List ℕ) where
   unfolding write_of
   own_by h = rw (le-ltb (length buf) (room_for p.edition) h) (go (first_broken p))
     where
-      go : (f : Found) → ((write_by f p buf).answer ≡ answer_by f (length (form_of p))) × ((write_by f p buf).bytes ≡ bytes_by f (form_of p) buf)
-      go (At i) = (refl, refl)
-      go Nothing = (refl, refl)
+      go : (f : Option ℕ) → ((write_by f p buf).answer ≡ answer_by f (length (form_of p))) × ((write_by f p buf).bytes ≡ bytes_by f (form_of p) buf)
+      go (Some i) = (refl, refl)
+      go None = (refl, refl)
 
   pub own_stored :
-      (r v : Written) (out : List ℕ) → r ≡ v → 4096 ≤ length buf → length p.numbers ≡ param_count →
+      (r v : Result ℕ WriteError) (out : List ℕ) → r ≡ v → 4096 ≤ length buf → length p.numbers ≡ param_count →
       (r ≡ (write_of p buf).answer) × (out ≡ (write_of p buf).bytes) →
       Stored buf 0 (unless (first_broken p) (form_of p)) (length_of v) out × (length_of v ≤ 4096)
   own_stored r v out t h l w =
@@ -150,12 +149,12 @@ module _ (xs : List ℤ) (buf : List ℕ) where
   unfolding export_of
   theirs_by h = rw (le-ltb (length buf) supplier_bytes h, length_theirs) (go (broken_first xs))
     where
-      go : (f : Found) → ((export_by f xs buf).answer ≡ answer_by f supplier_bytes) × ((export_by f xs buf).bytes ≡ bytes_by f (bytes_of xs) buf)
-      go (At i) = (refl, refl)
-      go Nothing = (refl, refl)
+      go : (f : Option ℕ) → ((export_by f xs buf).answer ≡ answer_by f supplier_bytes) × ((export_by f xs buf).bytes ≡ bytes_by f (bytes_of xs) buf)
+      go (Some i) = (refl, refl)
+      go None = (refl, refl)
 
   pub theirs_stored :
-      (r v : Written) (out : List ℕ) → r ≡ v → 4096 ≤ length buf → (r ≡ (export_of xs buf).answer) × (out ≡ (export_of xs buf).bytes) →
+      (r v : Result ℕ WriteError) (out : List ℕ) → r ≡ v → 4096 ≤ length buf → (r ≡ (export_of xs buf).answer) × (out ≡ (export_of xs buf).bytes) →
       Stored buf 0 (unless (broken_first xs) (bytes_of xs)) (length_of v) out × (length_of v ≤ 4096)
   theirs_stored r v out t h w =
       let b = theirs_by (omega arith) in (
@@ -165,13 +164,13 @@ module _ (xs : List ℤ) (buf : List ℕ) where
 
 -- ---- the ends of `put_exported`: what was exported to the page
 module _
-    (xs : List ℤ) (page : List ℕ) (r : Written) (out : List ℕ) (room : supplier_bytes ≤ length page)
+    (xs : List ℤ) (page : List ℕ) (r : Result ℕ WriteError) (out : List ℕ) (room : supplier_bytes ≤ length page)
     (w : (r ≡ (export_of xs page).answer) × (out ≡ (export_of xs page).bytes))
   where
     by : (r ≡ answer_by (broken_first xs) (length (bytes_of xs))) × (out ≡ bytes_by (broken_first xs) (bytes_of xs) page)
     by = let b = theirs_by xs page room in (w.0 ∙ b.0, w.1 ∙ b.1)
 
-    module _ (n : ℕ) (t : r ≡ Done n) where
+    module _ (n : ℕ) (t : r ≡ Ok n) where
       pub done_length : n ≡ supplier_bytes
       done_length = (is_done (broken_first xs) (length (bytes_of xs)) r by.0 n t).1 ∙ length_theirs xs page
 
@@ -189,11 +188,11 @@ module _
           rw (is_done (broken_first xs) (length (bytes_of xs)) r by.0 n t).0
           (stored_then b₀ 0 p₁ done_text b₁ p₂ (entries_text (bytes_of xs)) b₂ s (rw done_page at u))
 
-    pub exported_outside : (i : ℕ) (b₀ b₁ : List ℕ) (p : ℕ) → r ≡ Outside i → Stored b₀ 0 (head_text 9 i) p b₁ →
+    pub exported_outside : (i : ℕ) (b₀ b₁ : List ℕ) (p : ℕ) → r ≡ Err (Outside i) → Stored b₀ 0 (head_text 9 i) p b₁ →
         Stored b₀ 0 (entries_output (broken_first xs) xs) p b₁
     exported_outside i b₀ b₁ p t s = rw (is_outside (broken_first xs) (length (bytes_of xs)) r by.0 i t) s
 
-    pub exported_short : {A : Type 0} → r ≡ Short → A
+    pub exported_short : {A : Type 0} → r ≡ Err Short → A
     exported_short t = not_short (broken_first xs) (length (bytes_of xs)) r by.0 t
 
 -- ---- by the mode
@@ -222,7 +221,7 @@ module _ (mode : ℕ) (s : List ℕ) where
 front_read : (s more : List ℕ) → 4096 ≤ length s → read_of (s ++ more) ≡ read_of s
 front_read s more h = sym (enough (s ++ more)) ∙ ap read_of (take-append-le 4096 s more h) ∙ enough s
 
-long_import : (s : List ℕ) → 4096 ≤ length s → import_of s ≡ refusal (Malformed (length s))
+long_import : (s : List ℕ) → 4096 ≤ length s → import_of s ≡ refusal (Err (Malformed (length s)))
 unfolding import_of
 long_import s h = rw (ne_eqb (length s) supplier_bytes (λ e. omega arith))
 

@@ -1,16 +1,15 @@
 -- What the program answers to its input: a mode and the bytes after it. The comparison with the second program goes by this form.
+use Rattle.std.specs.Prelude.{Option, Some, None, Result, Ok, Err}
+use Rattle.params_bytes.specs.declared.ReadError.{ReadError}
+use Rattle.params_bytes.specs.declared.ReadError.TheVariants.{Broken, Malformed}
 use Rattle.std.specs.Prelude.{ℕ, ◌+◌, ◌/◌, ◌%◌, ◌^◌, ◌<◌, ◌≤◌, cond, List, [], ◌∷◌, ◌++◌, ltb, eqb, ℤ, length}
 use Rattle.records.specs.Records.{param_count}
 use Rattle.index.specs.Index.{gather}
-use Rattle.index.specs.declared.Found.{Found}
-use Rattle.index.specs.declared.Found.TheVariants.{At, Nothing}
 use Rattle.text.specs.Text.{decimal}
 use Rattle.param_text.specs.Lines.{head_text, numbers_text}
 use Rattle.params.specs.Check.{first_broken}
 use Rattle.params_bytes.specs.Read.{read_of}
 use Rattle.params_bytes.specs.Write.{form_of}
-use Rattle.params_bytes.specs.declared.Verdict.{Verdict}
-use Rattle.params_bytes.specs.declared.Verdict.TheVariants.{Accepted, Malformed, Broken}
 use Rattle.params_bytes.specs.declared.Reading.{Reading}
 use Rattle.supplier_params.specs.Forms.{supplier_bytes}
 use Rattle.supplier_params.specs.Import.{import_of, entry_at}
@@ -21,10 +20,10 @@ abbrev pub done_text : List ℕ
 done_text = 48 ∷ 10 ∷ []
 
 -- ---- `i`: 01's number and the value that goes with it, or `0` and the numbers
-abbrev pub numbers_output : Verdict → List ℤ → List ℕ
-numbers_output (Accepted n) xs = done_text ++ numbers_text xs
-numbers_output (Malformed place) xs = head_text 10 place
-numbers_output (Broken i) xs = head_text 9 i
+abbrev pub numbers_output : Result ℕ ReadError → List ℤ → List ℕ
+numbers_output (Ok n) xs = done_text ++ numbers_text xs
+numbers_output (Err (Malformed place)) xs = head_text 10 place
+numbers_output (Err (Broken i)) xs = head_text 9 i
 
 unfoldable pub import_text : Reading → List ℕ
 import_text r = numbers_output r.verdict r.params.numbers
@@ -48,27 +47,27 @@ entry_text_at s i = entry_text (entry_at s i)
 unfoldable pub entries_text : List ℕ → List ℕ
 entries_text s = gather param_count (entry_text_at s)
 
-abbrev pub entries_output : Found → List ℤ → List ℕ
-entries_output (At i) xs = head_text 9 i
-entries_output Nothing xs = done_text ++ entries_text (bytes_of xs)
+abbrev pub entries_output : Option ℕ → List ℤ → List ℕ
+entries_output (Some i) xs = head_text 9 i
+entries_output None xs = done_text ++ entries_text (bytes_of xs)
 
-abbrev pub export_output : Verdict → List ℤ → List ℕ
-export_output (Accepted n) xs = entries_output (broken_first xs) xs
-export_output (Malformed place) xs = head_text 10 place
-export_output (Broken i) xs = head_text 9 i
+abbrev pub export_output : Result ℕ ReadError → List ℤ → List ℕ
+export_output (Ok n) xs = entries_output (broken_first xs) xs
+export_output (Err (Malformed place)) xs = head_text 10 place
+export_output (Err (Broken i)) xs = head_text 9 i
 
 unfoldable pub export_text : Reading → List ℕ
 export_text r = export_output r.verdict r.params.numbers
 
 -- ---- `I` and `E`: the bytes of parameters that are not broken, `E` by 01's rules, or nothing
-abbrev pub unless : Found → List ℕ → List ℕ
-unless (At i) bytes = []
-unless Nothing bytes = bytes
+abbrev pub unless : Option ℕ → List ℕ → List ℕ
+unless (Some i) bytes = []
+unless None bytes = bytes
 
-abbrev pub allowed : Verdict → Found → List ℕ → List ℕ
-allowed (Accepted n) f bytes = unless f bytes
-allowed (Malformed place) f bytes = []
-allowed (Broken i) f bytes = []
+abbrev pub allowed : Result ℕ ReadError → Option ℕ → List ℕ → List ℕ
+allowed (Ok n) f bytes = unless f bytes
+allowed (Err (Malformed place)) f bytes = []
+allowed (Err (Broken i)) f bytes = []
 
 unfoldable pub import_bytes : Reading → List ℕ
 import_bytes r = allowed r.verdict (first_broken r.params) (form_of r.params)

@@ -21,7 +21,7 @@ ghost use Rattle.supplier_params.specs.Export.{broken_first, bytes_of};
 
 use limits::NUMBERS;
 use params::Params;
-use params_bytes::{Verdict, Written};
+use params_bytes::{ReadError, WriteError};
 use std::io;
 use std::io::{Read, Write};
 
@@ -50,10 +50,8 @@ fn put_eight(buf: &mut [u8], at: usize, s: &[u8], from: usize) -> usize
     ensures { Stored buf.old at (hex_text (take 8 (drop from s.now))) result buf.new × (result ≡ at + 16) }
 {
     let mut next = at;
-    let mut k: usize = 0;
-    while k < 8 {
+    for k in 0..8 {
         next = put_hex(buf, next, s[from + k]);
-        k += 1;
     }
     next
 }
@@ -82,10 +80,8 @@ fn put_entries(buf: &mut [u8], at: usize, s: &[u8]) -> usize
     ensures { Stored buf.old at (entries_text s.now) result buf.new × (result ≤ at + 3087) }
 {
     let mut next = at;
-    let mut i: usize = 0;
-    while i < NUMBERS {
+    for i in 0..NUMBERS {
         next = put_entry(buf, next, s, i);
-        i += 1;
     }
     next
 }
@@ -107,14 +103,14 @@ fn put_import(buf: &mut [u8], bytes: &[u8]) -> usize
     let reading = supplier_params::import(bytes);
     let verdict = reading.verdict;
     match verdict {
-        Verdict::Accepted(n) => {
+        Ok(n) => {
             let at = put_done(buf);
             let all = reading.params;
             let numbers = all.numbers;
             param_text::put_numbers(buf, at, numbers)
         }
-        Verdict::Malformed(place) => param_text::put_head(buf, 10, place),
-        Verdict::Broken(i) => param_text::put_head(buf, 9, i),
+        Err(ReadError::Malformed(place)) => param_text::put_head(buf, 10, place),
+        Err(ReadError::Broken(i)) => param_text::put_head(buf, 9, i),
     }
 }
 
@@ -125,12 +121,12 @@ fn put_exported(buf: &mut [u8], page: &mut [u8], all: Params) -> usize
         × (result ≤ 4096) }
 {
     match supplier_params::export(all, page) {
-        Written::Done(n) => {
+        Ok(n) => {
             let at = put_done(buf);
             put_entries(buf, at, &page[..n])
         }
-        Written::Outside(i) => param_text::put_head(buf, 9, i),
-        Written::Short => 0,
+        Err(WriteError::Outside(i)) => param_text::put_head(buf, 9, i),
+        Err(WriteError::Short) => 0,
     }
 }
 
@@ -143,9 +139,9 @@ fn put_export(buf: &mut [u8], page: &mut [u8], bytes: &[u8]) -> usize
     let all = reading.params;
     let verdict = reading.verdict;
     match verdict {
-        Verdict::Accepted(n) => put_exported(buf, page, all),
-        Verdict::Malformed(place) => param_text::put_head(buf, 10, place),
-        Verdict::Broken(i) => param_text::put_head(buf, 9, i),
+        Ok(n) => put_exported(buf, page, all),
+        Err(ReadError::Malformed(place)) => param_text::put_head(buf, 10, place),
+        Err(ReadError::Broken(i)) => param_text::put_head(buf, 9, i),
     }
 }
 
@@ -156,9 +152,9 @@ fn write_own(buf: &mut [u8], all: Params) -> usize
         × (result ≤ 4096) }
 {
     match params_bytes::write(all, buf) {
-        Written::Done(n) => n,
-        Written::Short => 0,
-        Written::Outside(i) => 0,
+        Ok(n) => n,
+        Err(WriteError::Short) => 0,
+        Err(WriteError::Outside(i)) => 0,
     }
 }
 
@@ -169,9 +165,9 @@ fn write_theirs(buf: &mut [u8], all: Params) -> usize
         × (result ≤ 4096) }
 {
     match supplier_params::export(all, buf) {
-        Written::Done(n) => n,
-        Written::Short => 0,
-        Written::Outside(i) => 0,
+        Ok(n) => n,
+        Err(WriteError::Short) => 0,
+        Err(WriteError::Outside(i)) => 0,
     }
 }
 
@@ -184,9 +180,9 @@ fn write_import(buf: &mut [u8], bytes: &[u8]) -> usize
     let all = reading.params;
     let verdict = reading.verdict;
     match verdict {
-        Verdict::Accepted(n) => write_own(buf, all),
-        Verdict::Malformed(place) => 0,
-        Verdict::Broken(i) => 0,
+        Ok(n) => write_own(buf, all),
+        Err(ReadError::Malformed(place)) => 0,
+        Err(ReadError::Broken(i)) => 0,
     }
 }
 
@@ -199,9 +195,9 @@ fn write_export(buf: &mut [u8], bytes: &[u8]) -> usize
     let all = reading.params;
     let verdict = reading.verdict;
     match verdict {
-        Verdict::Accepted(n) => write_theirs(buf, all),
-        Verdict::Malformed(place) => 0,
-        Verdict::Broken(i) => 0,
+        Ok(n) => write_theirs(buf, all),
+        Err(ReadError::Malformed(place)) => 0,
+        Err(ReadError::Broken(i)) => 0,
     }
 }
 

@@ -1,5 +1,6 @@
 -- Laws of entries: the ends of the functions that read, convert and write one.
 -- Assumes nothing.
+use Rattle.std.proofs.Common.{Option, Some, None}
 use Prim.Native.Nat.{ℕ, ◌-◌, ◌*◌, ◌/◌, ◌%◌, ◌^◌, ◌<◌, ◌≤◌}
 use mathlib.Core.Path.{◌≡◌, refl, sym, ◌∙◌, subst}
 use mathlib.Core.Bool.{Bool, true, false, not, cond}
@@ -10,8 +11,6 @@ use lib.Dec.{T, ltb, eqb}
 use lib.IntN.{ℤ, pos, negsuc, nat_abs}
 use lib.Ieee.{Float, binary64, nan_bits, is_nan, of_bits, to_bits}
 use lib.Ieee.Bits.{nan_bits_above, nan_bits_is}
-use Rattle.index.specs.declared.Found.{Found}
-use Rattle.index.specs.declared.Found.TheVariants.{At, Nothing}
 use Rattle.varint.specs.Codes.{negative}
 use Rattle.limits.specs.declared.Limit.{Limit}
 use Rattle.limits.specs.Limits.{lies}
@@ -107,18 +106,18 @@ units_lt unit t h l =
     omega arith
 
 -- ---- the ends of `number_of`
-pub small_at : (f : Found) (n : ℕ) → f ≡ At n → Small f → n < 2 ^ 63
+pub small_at : (f : Option ℕ) (n : ℕ) → f ≡ Some n → Small f → n < 2 ^ 63
 small_at f n e s = subst Small e s
 
-pub number_at : (f : Found) (n : ℕ) (z : ℤ) → f ≡ At n → z ≡ pos n → Is z ≡ as_number f
+pub number_at : (f : Option ℕ) (n : ℕ) (z : ℤ) → f ≡ Some n → z ≡ pos n → Is z ≡ as_number f
 number_at f n z e p = rw (e, p)
 
-pub number_none : (f : Found) → f ≡ Nothing → Broken ≡ as_number f
+pub number_none : (f : Option ℕ) → f ≡ None → Broken ≡ as_number f
 number_none f e = rw e
 
-pub small_factor : (l : Limit) (u : ℕ) (r : Found) → Among l → r ≡ thousandths_of l u → Small r
-small_factor l u (At n) g e = omega (arith, g.most, (thousandths_found l u n (sym e)).0)
-small_factor l u Nothing g e = tt
+pub small_factor : (l : Limit) (u : ℕ) (r : Option ℕ) → Among l → r ≡ thousandths_of l u → Small r
+small_factor l u (Some n) g e = omega (arith, g.most, (thousandths_found l u n (sym e)).0)
+small_factor l u None g e = tt
 
 -- ---- the ends of `convert`
 module _ (e : Entry) (unit : ℕ) (l : Limit) where
@@ -129,7 +128,7 @@ module _ (e : Entry) (unit : ℕ) (l : Limit) where
   sound_span t p s = subst (λ (y : Entry). Sound y unit l) p s
 
   pub convert_factor :
-      (x : Float) (f : Found) (r : Number) → e ≡ Factor x → f ≡ thousandths_of l (to_bits binary64 x) → r ≡ as_number f → r
+      (x : Float) (f : Option ℕ) (r : Number) → e ≡ Factor x → f ≡ thousandths_of l (to_bits binary64 x) → r ≡ as_number f → r
       ≡ convert_of l unit e
   unfolding convert_of
   convert_factor x f r p t v = rw (p, v, t)

@@ -1,6 +1,7 @@
 -- The factors of 0 to 1000: their bits rise, and none is a NaN. Both are tests that are computed, and nothing is said of rounding. So there
 -- is never a second n, and a search by halves finds the first.
 -- Assumes nothing.
+use Rattle.std.proofs.Common.{Option, Some, None}
 use Rattle.index.proofs.Kit.{ℕ, ◌+◌, ◌<◌, ◌≤◌, ◌≡◌, refl, sym, ap, ◌∙◌, Bool, true, false, not, arith, first_hit, by_test, by_order}
 use Rattle.index.specs.Index.{every, first}
 use Prim.Native.Nat.{zero, suc}
@@ -12,8 +13,6 @@ use lib.Dec.{T, leb, ltb, eqb}
 use lib.IntN.{ℤ, pos, negsuc, nat_abs}
 use lib.Ieee.{is_nan, to_bits, div, of_int, of_bits}
 use lib.Signed.{le_z}
-use Rattle.index.specs.declared.Found.{Found}
-use Rattle.index.specs.declared.Found.TheVariants.{At, Nothing}
 use Rattle.index.proofs.Index.{both, every_at, first_is, first_same}
 use Rattle.limits.specs.declared.Limit.{Limit}
 use Rattle.limits.specs.Limits.{lies}
@@ -64,7 +63,7 @@ only_one m n a b e =
     (λ g. ⊎_elim (λ q. sym q) (λ l. let r = factor_lt m n l a in absurd (omega arith)) (eq-or-lt_of_le g))
 
 -- a search that fails at every index
-absent : (f : ℕ → Bool) (n : ℕ) → ((i : ℕ) → i < n → f i ≡ false) → first n f ≡ Nothing
+absent : (f : ℕ → Bool) (n : ℕ) → ((i : ℕ) → i < n → f i ≡ false) → first n f ≡ None
 unfolding first
 absent f zero h = refl
 absent f (suc n) h = rw (absent f n (λ i l. h i (omega arith)), h n (omega arith))
@@ -111,17 +110,17 @@ module _ (low high u : ℕ) where
     passed : (k : ℕ) → k < from → factor_from low u k ≡ false
     passed k l = not_from k (λ a q. let b = h.below k a l in omega arith)
 
-    pub search_past : high < from → Nothing ≡ first (suc high) (factor_from low u)
+    pub search_past : high < from → None ≡ first (suc high) (factor_from low u)
     search_past l = sym (absent (factor_from low u) (suc high) (λ k q. passed k (omega arith)))
 
     module _ (l : from ≤ high) (b : Bool) (d : b ≡ eqb (factor_bits from) u) where
-      pub search_hit : b ≡ true → At from ≡ first (suc high) (factor_from low u)
+      pub search_hit : b ≡ true → Some from ≡ first (suc high) (factor_from low u)
       unfolding factor_from
       search_hit t =
           sym (first_hit (factor_from low u) (suc high) from (omega arith) (absent (factor_from low u) from passed)
           (rw (le-leb low from h.start, ← d, t)))
 
-      pub search_miss : b ≡ false → Nothing ≡ first (suc high) (factor_from low u)
+      pub search_miss : b ≡ false → None ≡ first (suc high) (factor_from low u)
       search_miss t =
           sym (absent (factor_from low u) (suc high) (λ k q.
           by_order (factor_from low u k ≡ false) k from
@@ -149,7 +148,7 @@ lie_from (pos a) (negsuc b) n p q h = let z : ◌≡◌ {A = ℕ} 0 1 = cc in ab
 lie_from (negsuc a) hi n p q h = let z : ◌≡◌ {A = ℕ} 0 1 = cc in absurd (omega arith)
 
 pub thousandths_are :
-    (l : Limit) (u a b : ℕ) (r : Found) → Among l → a ≡ nat_abs l.low → b ≡ nat_abs l.high → r ≡ first (suc b) (factor_from a u) →
+    (l : Limit) (u a b : ℕ) (r : Option ℕ) → Among l → a ≡ nat_abs l.low → b ≡ nat_abs l.high → r ≡ first (suc b) (factor_from a u) →
     r ≡ thousandths_of l u
 unfolding thousandths_of is_factor factor_from
 thousandths_are l u a b r g p q e =
@@ -159,7 +158,7 @@ thousandths_are l u a b r g p q e =
     (λ n h. ap (λ (t : Bool). t && eqb (factor_bits n) u) (lie_from l.low l.high n g.low g.high (omega arith))))
 
 -- what is accepted is the factor of the answer, bit for bit, and lies within the limits
-pub thousandths_found : (l : Limit) (u n : ℕ) → thousandths_of l u ≡ At n → (n ≤ nat_abs l.high) × (lies (pos n) l ≡ true)
+pub thousandths_found : (l : Limit) (u n : ℕ) → thousandths_of l u ≡ Some n → (n ≤ nat_abs l.high) × (lies (pos n) l ≡ true)
     × (factor_bits n ≡ u)
 unfolding thousandths_of is_factor
 thousandths_found l u n e =
@@ -168,7 +167,7 @@ thousandths_found l u n e =
     (omega (arith, f.0), t.0, eqb-true (factor_bits n) u t.1)
 
 -- n's factor is found, as n
-pub thousandths_back : (l : Limit) (n : ℕ) → Among l → n ≤ nat_abs l.high → lies (pos n) l ≡ true → thousandths_of l (factor_bits n) ≡ At n
+pub thousandths_back : (l : Limit) (n : ℕ) → Among l → n ≤ nat_abs l.high → lies (pos n) l ≡ true → thousandths_of l (factor_bits n) ≡ Some n
 unfolding thousandths_of is_factor
 thousandths_back l n g h t =
     first_hit (is_factor l (factor_bits n)) (suc (nat_abs l.high)) n (omega arith)

@@ -1,5 +1,6 @@
 -- What is written is imported again, what is imported is written again, and a factor is accepted exactly if some n's is it: by cases on the
 -- kind. Assumes nothing.
+use Rattle.std.proofs.Common.{Option, Some, None}
 use Rattle.index.proofs.Kit.{ℕ, ◌+◌, ◌-◌, ◌*◌, ◌<◌, ◌≤◌, ◌≡◌, refl, sym, ap, ◌∙◌, Bool, true, false, not, arith, by_test, by_order}
 use Prim.Native.Nat.{zero, suc, ◌/◌, ◌%◌, ◌^◌}
 use mathlib.Core.Path.{ap₂}
@@ -11,8 +12,6 @@ use lib.Signed.{le_z}
 use lib.Ieee.{binary64, nan_bits, is_nan, of_int, of_bits, to_bits, fits}
 use lib.Ieee.Bits.{nan_bits_is, to_bits-of_bits, of_bits-to_bits, to_bits-lt}
 use lib.Ieee.Fits.{div-fits}
-use Rattle.index.specs.declared.Found.{Found}
-use Rattle.index.specs.declared.Found.TheVariants.{At, Nothing}
 use Rattle.index.proofs.Index.{both}
 use Rattle.limits.specs.declared.Limit.{Limit}
 use Rattle.limits.specs.Limits.{lies}
@@ -57,13 +56,13 @@ factor_clean n h =
     ∙ ap is_nan (of_bits-to_bits binary64 (factor_of n) (factor_fits n))
     ∙ is_false (is_nan (factor_of n)) (factor_no_nan n h)
 
-nan_none : (l : Limit) (u : ℕ) → Among l → nan_bits binary64 u ≡ true → (r : Found) → thousandths_of l u ≡ r → Broken ≡ as_number r
-nan_none l u g t (At n) e =
+nan_none : (l : Limit) (u : ℕ) → Among l → nan_bits binary64 u ≡ true → (r : Option ℕ) → thousandths_of l u ≡ r → Broken ≡ as_number r
+nan_none l u g t (Some n) e =
     let f = thousandths_found l u n e in
     let c : nan_bits binary64 u ≡ false = rw f.2 at (factor_clean n (omega (arith, g.most, f.0))) in
     let z : ◌≡◌ {A = ℕ} 0 1 = cc in
     absurd (omega arith)
-nan_none l u g t Nothing e = refl
+nan_none l u g t None e = refl
 
 same_bits : (u : ℕ) → u < 2 ^ 64 → nan_bits binary64 u ≡ false → to_bits binary64 (of_bits binary64 u) ≡ u
 same_bits u room t = to_bits-of_bits binary64 u room (rw (sym (nan_bits_is binary64 u) ∙ t) tt)
@@ -180,9 +179,9 @@ not_broken : {A : Type 0} (z : ℤ) → Broken ≡ Is z → A
 not_broken z e = let y : ◌≡◌ {A = ℕ} 0 1 = cc in absurd (omega arith)
 
 module _ (form : Form) (l : Limit) (u : ℕ) (z : ℤ) (room : u < 2 ^ 64) where
-  again_factor : (f : Found) → thousandths_of l u ≡ f → as_number f ≡ Is z → factor_bits (nat_abs z) ≡ u
-  again_factor (At n) e d = rw (sym (is_same (pos n) z d)) (thousandths_found l u n e).2
-  again_factor Nothing e d = not_broken z d
+  again_factor : (f : Option ℕ) → thousandths_of l u ≡ f → as_number f ≡ Is z → factor_bits (nat_abs z) ≡ u
+  again_factor (Some n) e d = rw (sym (is_same (pos n) z d)) (thousandths_found l u n e).2
+  again_factor None e d = not_broken z d
 
   again_whole : (y : ℤ) → whole_of l y ≡ Is z → y ≡ z
   unfolding whole_of

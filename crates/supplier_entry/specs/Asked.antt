@@ -1,8 +1,7 @@
 -- What the functions ask of their callers; the table of fields (crate supplier_params) meets it.
+use Rattle.std.specs.Prelude.{Option, Some, None}
 use Rattle.std.specs.Prelude.{ℕ, ◌+◌, ◌*◌, ◌^◌, ◌<◌, ◌≤◌, ◌≡◌, not, T, ℤ, pos, nat_abs}
 use Rattle.std.specs.Float.Ieee.{is_nan}
-use Rattle.index.specs.declared.Found.{Found}
-use Rattle.index.specs.declared.Found.TheVariants.{At, Nothing}
 use Rattle.limits.specs.declared.Limit.{Limit}
 use Rattle.supplier_entry.specs.declared.Entry.{Entry}
 use Rattle.supplier_entry.specs.declared.Entry.TheVariants.{Factor, Whole, Span}
@@ -15,9 +14,9 @@ pub record Among (l : Limit) : Type 0 where
   pub high : pos (nat_abs l.high) ≡ l.high
   pub most : nat_abs l.high ≤ 1000
 
-abbrev pub Small : Found → Type 0
-Small (At n) = n < 2 ^ 63
-Small Nothing = Unit
+abbrev pub Small : Option ℕ → Type 0
+Small (Some n) = n < 2 ^ 63
+Small None = Unit
 
 -- a factor is no NaN, and its limits are those of factors; a span's unit divides
 abbrev pub Sound : Entry → ℕ → Limit → Type 0

@@ -1,10 +1,9 @@
 -- An entry of the other supplier's parameters (02, order 12), and the number of ours that it stands for: "nine bytes each: a kind, then
 -- eight bytes, low first". Here the eight bytes are one number u.
+use Rattle.std.specs.Prelude.{Option, Some, None}
 use Rattle.std.specs.Prelude.{ℕ, ◌-◌, ◌*◌, ◌/◌, ◌%◌, ◌^◌, cond, ltb, eqb, ℤ, pos, negsuc, nat_abs}
 use Rattle.std.specs.Float.{binary64}
 use Rattle.std.specs.Float.Ieee.{nan_bits, of_bits, to_bits}
-use Rattle.index.specs.declared.Found.{Found}
-use Rattle.index.specs.declared.Found.TheVariants.{At, Nothing}
 use Rattle.limits.specs.declared.Limit.{Limit}
 use Rattle.limits.specs.Limits.{lies}
 use Rattle.supplier_entry.specs.declared.Entry.{Entry}
@@ -42,9 +41,9 @@ entry_of kind u =
     (cond (eqb kind whole_kind) (Good (Whole (twos u)))
     (cond (eqb kind span_kind) (Good (Span u)) Bad))
 
-abbrev pub as_number : Found → Number
-as_number (At n) = Is (pos n)
-as_number Nothing = Broken
+abbrev pub as_number : Option ℕ → Number
+as_number (Some n) = Is (pos n)
+as_number None = Broken
 
 -- "A whole entry [..] must lie in its limits"
 unfoldable pub whole_of : Limit → ℤ → Number

@@ -13,7 +13,6 @@ ghost use Rattle.supplier_entry.specs.Factor.{factor_of, factor_bits, factor_fro
 ghost use Rattle.supplier_entry.specs.Entries.{twos, twos_of, entry_of, whole_of, units_of, as_number, convert_of, import_of, content_of};
 ghost use Rattle.supplier_entry.specs.Asked.{Among, Small, Sound, Fit, Writable};
 
-use index::Found;
 use limits::Limit;
 
 // One entry: a factor, a whole number or a span.
@@ -70,7 +69,7 @@ fn same(x: f64, y: f64) -> bool
 
 // The first n from `low` to `high` whose factor is x bit for bit. The factors' bits rise, so the search goes by halves: below `from` they
 // are less than x's, and from `to` on they are not.
-fn search(x: f64, low: usize, high: usize) -> Found
+fn search(x: f64, low: usize, high: usize) -> Option<usize>
     requires { (high ≤ 1000) × T (not (is_nan x)) }
     ensures { result ≡ first (suc high) (factor_from low (to_bits binary64 x)) }
 {
@@ -86,16 +85,16 @@ fn search(x: f64, low: usize, high: usize) -> Found
         }
     }
     if high < from {
-        return Found::Nothing;
+        return None;
     }
     if same(factor(from), x) {
-        return Found::At(from);
+        return Some(from);
     }
-    Found::Nothing
+    None
 }
 
 // The first n within the limits whose factor is x bit for bit.
-fn thousandths(x: f64, limit: Limit) -> Found
+fn thousandths(x: f64, limit: Limit) -> Option<usize>
     requires { Among limit × T (not (is_nan x)) }
     ensures { result ≡ thousandths_of limit (to_bits binary64 x) }
 {
@@ -181,13 +180,13 @@ fn units(t: u64, unit: u64, limit: Limit) -> Number
     whole(n as i64, limit)
 }
 
-fn number_of(f: Found) -> Number
+fn number_of(f: Option<usize>) -> Number
     requires { Small f }
     ensures { result ≡ as_number f }
 {
     match f {
-        Found::At(n) => Number::Is(n as i64),
-        Found::Nothing => Number::Broken,
+        Some(n) => Number::Is(n as i64),
+        None => Number::Broken,
     }
 }
 
@@ -250,11 +249,9 @@ fn put_low(buf: &mut [u8], at: usize, u: u64)
     ensures { buf.new ≡ sets buf.old at (low_bytes 8 u) }
 {
     let mut rest = u;
-    let mut k: usize = 0;
-    while k < 8 {
+    for k in 0..8 {
         buf[at + k] = (rest % 256) as u8;
         rest = rest / 256;
-        k += 1;
     }
 }
 

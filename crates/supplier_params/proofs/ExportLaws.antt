@@ -1,5 +1,8 @@
 -- Laws of the export: what is known after i entries, and the ends of `put` and `export`.
 -- Assumes nothing.
+use Rattle.std.proofs.Common.{Option, Some, None, Result, Ok, Err}
+use Rattle.params_bytes.specs.declared.WriteError.{WriteError}
+use Rattle.params_bytes.specs.declared.WriteError.TheVariants.{Outside, Short}
 use Rattle.index.proofs.Kit.{ℕ, ◌+◌, ◌*◌, ◌<◌, ◌≤◌, ◌≡◌, refl, sym, ap, ◌∙◌, true, arith}
 use Rattle.index.specs.Index.{gather}
 use Prim.Native.Nat.{zero, suc}
@@ -10,16 +13,12 @@ use lib.IntN.{ℤ}
 use lib.ListN.{length, length-append}
 use lib.Seq.{sets}
 use Rattle.records.specs.Records.{param_count}
-use Rattle.index.specs.declared.Found.{Found}
-use Rattle.index.specs.declared.Found.TheVariants.{At, Nothing}
 use Rattle.index.proofs.Index.{gather_none, gather_more}
 use Rattle.index.proofs.Lists.{sets_append}
 use Rattle.limits.specs.Limits.{field_of, limit_at, at, in_limits}
 use Rattle.params.specs.Editions.{sheet}
 use Rattle.params.specs.declared.Edition.TheVariants.{First}
 use Rattle.params.specs.Check.{first_broken}
-use Rattle.params_bytes.specs.declared.Written.{Written}
-use Rattle.params_bytes.specs.declared.Written.TheVariants.{Done, Short, Outside}
 use Rattle.supplier_entry.specs.declared.Form.{Form}
 use Rattle.supplier_entry.specs.Bytes.{low_bytes}
 use Rattle.supplier_entry.specs.Entries.{content_of}
@@ -76,18 +75,18 @@ unfolding bytes_of
 put_all xs i buf out h p = let e : i ≡ param_count = omega (arith, p.most) in rw e at p.bytes
 
 -- ---- the ends of `export`
-abbrev pub Exported : List ℤ → List ℕ → Written → List ℕ → Type 0
+abbrev pub Exported : List ℤ → List ℕ → Result ℕ WriteError → List ℕ → Type 0
 Exported xs buf r out = (r ≡ (export_of xs buf).answer) × (out ≡ (export_of xs buf).bytes)
 
-pub export_short : (xs : List ℤ) (buf : List ℕ) → length buf < supplier_bytes → Exported xs buf Short buf
+pub export_short : (xs : List ℤ) (buf : List ℕ) → length buf < supplier_bytes → Exported xs buf (Err Short) buf
 unfolding export_of
 export_short xs buf h = let t = lt-ltb (length buf) supplier_bytes h in (rw t, rw t)
 
-module _ (xs : List ℤ) (buf : List ℕ) (f : Found) (h : supplier_bytes ≤ length buf) (e : f ≡ first_broken (sheet First xs)) where
-  pub export_outside : (i : ℕ) → f ≡ At i → Exported xs buf (Outside i) buf
+module _ (xs : List ℤ) (buf : List ℕ) (f : Option ℕ) (h : supplier_bytes ≤ length buf) (e : f ≡ first_broken (sheet First xs)) where
+  pub export_outside : (i : ℕ) → f ≡ Some i → Exported xs buf (Err (Outside i)) buf
   unfolding export_of
   export_outside i g = let t = le-ltb (length buf) supplier_bytes h in (rw (t, ← e, g), rw (t, ← e, g))
 
-  pub export_done : (out : List ℕ) → f ≡ Nothing → out ≡ sets buf 0 (bytes_of xs) → Exported xs buf (Done supplier_bytes) out
+  pub export_done : (out : List ℕ) → f ≡ None → out ≡ sets buf 0 (bytes_of xs) → Exported xs buf (Ok supplier_bytes) out
   unfolding export_of
   export_done out g w = let t = le-ltb (length buf) supplier_bytes h in (rw (t, ← e, g), w ∙ rw (t, ← e, g))

@@ -1,5 +1,7 @@
 -- Laws of the import: what is known after i entries, and the ends of `number_at`, `entries` and `import`.
 -- Assumes nothing.
+use Rattle.std.proofs.Common.{Option, None, Err}
+use Rattle.params_bytes.specs.declared.ReadError.TheVariants.{Malformed}
 use Rattle.index.proofs.Kit.{ℕ, ◌+◌, ◌*◌, ◌<◌, ◌≤◌, ◌≡◌, sym, ap, ◌∙◌, Bool, true, false, not, arith, first, gather, first_none, first_more}
 use Rattle.index.proofs.Kit.{first_hit, first_done}
 use mathlib.Core.Bool.{cond}
@@ -10,8 +12,6 @@ use lib.IntN.{ℤ}
 use lib.ListN.{length, get_or, set, take, drop, length-set}
 use lib.Seq.{take-suc-set, take_all}
 use Rattle.records.specs.Records.{param_count}
-use Rattle.index.specs.declared.Found.{Found}
-use Rattle.index.specs.declared.Found.TheVariants.{Nothing}
 use Rattle.index.proofs.Index.{gather_none, gather_more}
 use Rattle.limits.specs.Limits.{field_of, limit_at}
 use Rattle.params.specs.Editions.{sheet}
@@ -20,7 +20,6 @@ use Rattle.params.specs.Check.{first_broken}
 use Rattle.params_bytes.specs.Read.{refusal, judged_by}
 use Rattle.limits.specs.declared.Limit.{Limit}
 use Rattle.params_bytes.specs.declared.Reading.{Reading}
-use Rattle.params_bytes.specs.declared.Verdict.TheVariants.{Malformed}
 use Rattle.params_bytes.specs.declared.Verdict.TheVariants as verdict
 use Rattle.supplier_entry.specs.declared.Form.{Form}
 use Rattle.supplier_entry.specs.declared.Number.{Number}
@@ -44,7 +43,7 @@ number_is s i u form l r h e f g d = d ∙ rw (e, f, g, take_one 8 s (9 * i) h)
 pub record Taken (s : List ℕ) (i : ℕ) (xs : List ℤ) : Type 0 where
   pub most : i ≤ param_count
   pub len : length xs ≡ param_count
-  pub whole : first i (broken_at s) ≡ Nothing
+  pub whole : first i (broken_at s) ≡ None
   pub front : take i xs ≡ gather i (value_at s)
 
 pub taken_none : (s : List ℕ) (xs : List ℤ) → length xs ≡ param_count → Taken s 0 xs
@@ -68,7 +67,7 @@ module _ (s : List ℕ) (i : ℕ) (xs : List ℤ) (r : Number) (t : Taken s i xs
   pub taken_broken : r ≡ Broken → broken i ≡ entries_of s
   unfolding broken_at entries_of
   taken_broken q =
-      ap (λ (f : Found). outcome_by f (gather param_count (value_at s)))
+      ap (λ (f : Option ℕ). outcome_by f (gather param_count (value_at s)))
       (sym (first_hit (broken_at s) param_count i h t.whole (ap is_broken (sym e ∙ q))))
 
 pub taken_all : (s : List ℕ) (i : ℕ) (xs : List ℤ) → param_count ≤ i → Taken s i xs → numbers xs ≡ entries_of s
@@ -80,7 +79,7 @@ taken_all s i xs h t =
 
 -- ---- the ends of `import`
 module _ (s : List ℕ) (r : Reading) where
-  pub import_length : (length s ≡ supplier_bytes → ⊥) → r ≡ refusal (Malformed (length s)) → r ≡ import_of s
+  pub import_length : (length s ≡ supplier_bytes → ⊥) → r ≡ refusal (Err (Malformed (length s))) → r ≡ import_of s
   unfolding import_of
   import_length n q = q ∙ rw (ne_eqb (length s) supplier_bytes n)
 

@@ -1,5 +1,8 @@
 -- What was exported is imported again, and what was imported is exported again: entry by entry, in blocks of nine bytes.
 -- Assumes nothing.
+use Rattle.std.proofs.Common.{Option, Some, None, Ok, Err}
+use Rattle.params_bytes.specs.declared.ReadError.TheVariants.{Malformed}
+use Rattle.params_bytes.specs.declared.WriteError.TheVariants.{Short}
 use Rattle.index.proofs.Kit.{ℕ, ◌+◌, ◌*◌, ◌<◌, ◌≤◌, ◌≡◌, refl, sym, ap, ◌∙◌, Bool, true, false, arith, by_order}
 use Rattle.index.specs.Index.{first, gather}
 use Prim.Native.Nat.{zero, suc, ◌^◌}
@@ -13,16 +16,12 @@ use lib.ListN.{length, get_or, take, drop, length-append, length-take, length-dr
 use lib.Seq.{sets, sets-eq, take_all, take-suc, take-add, take_at, drop_at, take-append-le, drop-append-le, length-take-le, get_or-take}
 use lib.Seq.{get_or-drop, get_or_at}
 use Rattle.records.specs.Records.{param_count}
-use Rattle.index.specs.declared.Found.{Found}
-use Rattle.index.specs.declared.Found.TheVariants.{At, Nothing}
 use Rattle.index.proofs.Index.{first_passed}
 use Rattle.limits.specs.Limits.{field_of, limit_at, at, in_limits}
 use Rattle.params.specs.Editions.{sheet}
 use Rattle.params.specs.declared.Edition.TheVariants.{First}
 use Rattle.params.specs.Check.{first_broken}
 use Rattle.params_bytes.specs.Read.{judged_by}
-use Rattle.params_bytes.specs.declared.Verdict.TheVariants.{Accepted, Malformed}
-use Rattle.params_bytes.specs.declared.Written.TheVariants.{Done, Short}
 use Rattle.params.proofs.CheckLaws.{accepted_in_lem}
 use Rattle.supplier_entry.specs.declared.Number.{Number}
 use Rattle.supplier_entry.specs.declared.Number.TheVariants.{Is, Broken}
@@ -64,7 +63,7 @@ blocks s (suc n) =
     rw (blocks s n, e) (sym (take-add (9 * n) 9 s))
 
 -- ---- what was exported, imported
-module _ (xs : List ℤ) (ok : first_broken (sheet First xs) ≡ Nothing) (len : length xs ≡ param_count) where
+module _ (xs : List ℤ) (ok : first_broken (sheet First xs) ≡ None) (len : length xs ≡ param_count) where
   number_back : (i : ℕ) → i < param_count → number_at (bytes_of xs) i ≡ Is (at xs i)
   unfolding number_at bytes_of bytes_at entry_bytes in_limits
   number_back i h =
@@ -76,7 +75,7 @@ module _ (xs : List ℤ) (ok : first_broken (sheet First xs) ≡ Nothing) (len :
       ∙ ap (entry.import_of form l form.kind) (first_bytes 8 (content_of form (at xs i)) (content_lt form l (at xs i) row t))
       ∙ imports form l (at xs i) row t
 
-  none_broken : (n : ℕ) → n ≤ param_count → first n (broken_at (bytes_of xs)) ≡ Nothing
+  none_broken : (n : ℕ) → n ≤ param_count → first n (broken_at (bytes_of xs)) ≡ None
   unfolding first broken_at
   none_broken zero h = refl
   none_broken (suc n) h = rw (none_broken n (omega arith), number_back n (omega arith))
@@ -95,36 +94,36 @@ module _ (xs : List ℤ) (ok : first_broken (sheet First xs) ≡ Nothing) (len :
   unfolding bytes_of
   length_back = length_entries xs param_count
 
-  import_back : import_of (bytes_of xs) ≡ record { verdict = Accepted supplier_bytes; params = sheet First xs }
+  import_back : import_of (bytes_of xs) ≡ record { verdict = Ok supplier_bytes; params = sheet First xs }
   unfolding import_of
   import_back =
       rw (eq-eqb (length (bytes_of xs)) supplier_bytes length_back, entries_back)
-      (ap (λ (f : Found). judged_by f (sheet First xs) supplier_bytes) ok)
+      (ap (λ (f : Option ℕ). judged_by f (sheet First xs) supplier_bytes) ok)
 
 -- what a buffer begins with after a run of stores at its start
 front_set : (buf bytes : List ℕ) → length bytes ≤ length buf → take (length bytes) (sets buf 0 bytes) ≡ bytes
 front_set buf bytes h = rw (sets-eq bytes buf 0 (omega arith)) (take_at bytes (drop (0 + length bytes) buf) (length bytes) refl)
 
 export_is_done :
-    (xs : List ℤ) (buf : List ℕ) (n : ℕ) → (export_of xs buf).answer ≡ Done n →
-    (first_broken (sheet First xs) ≡ Nothing) × (n ≡ supplier_bytes) × ((export_of xs buf).bytes ≡ sets buf 0 (bytes_of xs))
+    (xs : List ℤ) (buf : List ℕ) (n : ℕ) → (export_of xs buf).answer ≡ Ok n →
+    (first_broken (sheet First xs) ≡ None) × (n ≡ supplier_bytes) × ((export_of xs buf).bytes ≡ sets buf 0 (bytes_of xs))
     × (supplier_bytes ≤ length buf)
 unfolding export_of
 export_is_done xs buf n e = room (ltb (length buf) supplier_bytes) refl
   where
     Goal : Type 0
-    Goal = (first_broken (sheet First xs) ≡ Nothing) × (n ≡ supplier_bytes) × ((export_of xs buf).bytes ≡ sets buf 0 (bytes_of xs))
+    Goal = (first_broken (sheet First xs) ≡ None) × (n ≡ supplier_bytes) × ((export_of xs buf).bytes ≡ sets buf 0 (bytes_of xs))
         × (supplier_bytes ≤ length buf)
 
-    found : ltb (length buf) supplier_bytes ≡ false → (f : Found) → first_broken (sheet First xs) ≡ f → (export_by f xs buf).answer ≡ Done n →
+    found : ltb (length buf) supplier_bytes ≡ false → (f : Option ℕ) → first_broken (sheet First xs) ≡ f → (export_by f xs buf).answer ≡ Ok n →
         Goal
-    found t (At i) q d = let z : ◌≡◌ {A = ℕ} 0 1 = cc in absurd (omega arith)
-    found t Nothing q d =
+    found t (Some i) q d = let z : ◌≡◌ {A = ℕ} 0 1 = cc in absurd (omega arith)
+    found t None q d =
         let s : supplier_bytes ≡ n = cc in
         (q, sym s, rw (t, q), ltb-false (length buf) supplier_bytes t)
 
     room : (b : Bool) → ltb (length buf) supplier_bytes ≡ b → Goal
-    room true t = let d : Short ≡ Done n = rw t at e in let z : ◌≡◌ {A = ℕ} 0 1 = cc in absurd (omega arith)
+    room true t = let d : Err Short ≡ Ok n = rw t at e in let z : ◌≡◌ {A = ℕ} 0 1 = cc in absurd (omega arith)
     room false t = found t (first_broken (sheet First xs)) refl (rw t at e)
 
 pub imports_back : ImportsBack
@@ -172,7 +171,7 @@ whole_number : (x : Number) → is_broken x ≡ false → x ≡ Is (found x)
 whole_number (Is z) e = refl
 whole_number Broken e = let z : ◌≡◌ {A = ℕ} 0 1 = cc in absurd (omega arith)
 
-module _ (s : List ℕ) (bytes : (k : ℕ) → get_or s k 0 < 256) (len : length s ≡ supplier_bytes) (ok : first param_count (broken_at s) ≡ Nothing)
+module _ (s : List ℕ) (bytes : (k : ℕ) → get_or s k 0 < 256) (len : length s ≡ supplier_bytes) (ok : first param_count (broken_at s) ≡ None)
   where
     number_found : (i : ℕ) → i < param_count → number_at s i ≡ Is (found (number_at s i))
     unfolding broken_at
@@ -226,10 +225,10 @@ module _ (s : List ℕ) (bytes : (k : ℕ) → get_or s k 0 < 256) (len : length
 
 -- what an accepted import says
 pub import_is_accepted :
-    (s : List ℕ) (n : ℕ) → (import_of s).verdict ≡ Accepted n →
+    (s : List ℕ) (n : ℕ) → (import_of s).verdict ≡ Ok n →
     (length s ≡ supplier_bytes)
-    × (first param_count (broken_at s) ≡ Nothing)
-    × (first_broken (sheet First (gather param_count (value_at s))) ≡ Nothing)
+    × (first param_count (broken_at s) ≡ None)
+    × (first_broken (sheet First (gather param_count (value_at s))) ≡ None)
     × (n ≡ supplier_bytes)
     × ((import_of s).params.numbers ≡ gather param_count (value_at s))
 unfolding import_of entries_of
@@ -241,26 +240,26 @@ import_is_accepted s n e = sized (eqb (length s) supplier_bytes) refl
     Goal : Type 0
     Goal =
         (length s ≡ supplier_bytes)
-        × (first param_count (broken_at s) ≡ Nothing)
-        × (first_broken (sheet First xs) ≡ Nothing)
+        × (first param_count (broken_at s) ≡ None)
+        × (first_broken (sheet First xs) ≡ None)
         × (n ≡ supplier_bytes)
         × ((import_of s).params.numbers ≡ xs)
 
-    kept : eqb (length s) supplier_bytes ≡ true → first param_count (broken_at s) ≡ Nothing → (f : Found) → first_broken (sheet First xs) ≡ f →
-        (judged_by f (sheet First xs) supplier_bytes).verdict ≡ Accepted n → Goal
-    kept t q (At i) p d = let z : ◌≡◌ {A = ℕ} 0 1 = cc in absurd (omega arith)
-    kept t q Nothing p d =
+    kept : eqb (length s) supplier_bytes ≡ true → first param_count (broken_at s) ≡ None → (f : Option ℕ) → first_broken (sheet First xs) ≡ f →
+        (judged_by f (sheet First xs) supplier_bytes).verdict ≡ Ok n → Goal
+    kept t q (Some i) p d = let z : ◌≡◌ {A = ℕ} 0 1 = cc in absurd (omega arith)
+    kept t q None p d =
         let w : supplier_bytes ≡ n = cc in
         (eqb-true (length s) supplier_bytes t, q, p, sym w, rw (t, q, p))
 
-    passed : eqb (length s) supplier_bytes ≡ true → (f : Found) → first param_count (broken_at s) ≡ f → (judged (outcome_by f xs)).verdict
-        ≡ Accepted n → Goal
-    passed t (At i) q d = let z : ◌≡◌ {A = ℕ} 0 1 = cc in absurd (omega arith)
-    passed t Nothing q d = kept t q (first_broken (sheet First xs)) refl d
+    passed : eqb (length s) supplier_bytes ≡ true → (f : Option ℕ) → first param_count (broken_at s) ≡ f → (judged (outcome_by f xs)).verdict
+        ≡ Ok n → Goal
+    passed t (Some i) q d = let z : ◌≡◌ {A = ℕ} 0 1 = cc in absurd (omega arith)
+    passed t None q d = kept t q (first_broken (sheet First xs)) refl d
 
     sized : (b : Bool) → eqb (length s) supplier_bytes ≡ b → Goal
     sized true t = passed t (first param_count (broken_at s)) refl (rw t at e)
-    sized false t = let d : Malformed (length s) ≡ Accepted n = rw t at e in let z : ◌≡◌ {A = ℕ} 0 1 = cc in absurd (omega arith)
+    sized false t = let d : Err (Malformed (length s)) ≡ Ok n = rw t at e in let z : ◌≡◌ {A = ℕ} 0 1 = cc in absurd (omega arith)
 
 pub exports_back : ExportsBack
 unfolding export_of
@@ -270,6 +269,6 @@ exports_back s buf n bytes room e =
     let b = bytes_again s bytes a.0 a.1 in (
       a.3 ∙ sym a.0,
       rw (a.4, le-ltb (length buf) supplier_bytes room, a.2, b, a.3)
-          (ap (λ (o : List ℕ). record { answer = Done supplier_bytes; bytes = o })
+          (ap (λ (o : List ℕ). record { answer = Ok supplier_bytes; bytes = o })
           (sets-eq s buf 0 (omega (arith, a.0)) ∙ rw (zero-add (length s), a.0))),
     )

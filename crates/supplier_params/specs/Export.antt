@@ -1,18 +1,17 @@
 -- Exporting parameters as the other supplier's (02, order 12): "Writing one, a buffer under 1323 bytes is 13, then a broken sheet 9; each
 -- factor is n divided by 1000, and importing that gives n." 01's rules are asked of parameters of either edition.
+use Rattle.std.specs.Prelude.{Option, Some, None, Result, Ok, Err}
+use Rattle.params_bytes.specs.declared.WriteError.{WriteError}
+use Rattle.params_bytes.specs.declared.WriteError.TheVariants.{Outside, Short}
 use Rattle.std.specs.Prelude.{ℕ, cond, List, ◌∷◌, ltb, length, ℤ}
 use Rattle.std.proofs.lemmas.List.Edits.{sets}
 use Rattle.index.specs.Index.{gather}
-use Rattle.index.specs.declared.Found.{Found}
-use Rattle.index.specs.declared.Found.TheVariants.{At, Nothing}
 use Rattle.records.specs.Records.{param_count}
 use Rattle.limits.specs.Limits.{field_of, at}
 use Rattle.params.specs.Editions.{sheet}
 use Rattle.params.specs.declared.Edition.TheVariants.{First}
 use Rattle.params.specs.Check.{first_broken}
 use Rattle.params_bytes.specs.Write.{Writing}
-use Rattle.params_bytes.specs.declared.Written.{Written}
-use Rattle.params_bytes.specs.declared.Written.TheVariants.{Done, Short, Outside}
 use Rattle.supplier_entry.specs.declared.Form.{Form}
 use Rattle.supplier_entry.specs.Bytes.{low_bytes}
 use Rattle.supplier_entry.specs.Entries.{content_of}
@@ -29,24 +28,24 @@ unfoldable pub bytes_of : List ℤ → List ℕ
 bytes_of xs = gather param_count (bytes_at xs)
 
 -- "testing any sheet it writes by 01's rules" (order 14)
-abbrev pub broken_first : List ℤ → Found
+abbrev pub broken_first : List ℤ → Option ℕ
 broken_first xs = first_broken (sheet First xs)
 
-abbrev pub export_by : Found → List ℤ → List ℕ → Writing
-export_by (At i) xs buf = record { answer = Outside i; bytes = buf }
-export_by Nothing xs buf = record { answer = Done supplier_bytes; bytes = sets buf 0 (bytes_of xs) }
+abbrev pub export_by : Option ℕ → List ℤ → List ℕ → Writing
+export_by (Some i) xs buf = record { answer = Err (Outside i); bytes = buf }
+export_by None xs buf = record { answer = Ok supplier_bytes; bytes = sets buf 0 (bytes_of xs) }
 
 unfoldable pub export_of : List ℤ → List ℕ → Writing
 export_of xs buf =
-    cond (ltb (length buf) supplier_bytes) (record { answer = Short; bytes = buf }) (export_by (broken_first xs) xs buf)
+    cond (ltb (length buf) supplier_bytes) (record { answer = Err Short; bytes = buf }) (export_by (broken_first xs) xs buf)
 
 -- the number of each answer, and the value that goes with it (13 has none)
-abbrev pub export_number : Written → ℕ
-export_number (Done n) = 0
-export_number Short = 13
-export_number (Outside i) = 9
+abbrev pub export_number : Result ℕ WriteError → ℕ
+export_number (Ok n) = 0
+export_number (Err Short) = 13
+export_number (Err (Outside i)) = 9
 
-abbrev pub export_value : Written → ℕ
-export_value (Done n) = n
-export_value Short = 0
-export_value (Outside i) = i
+abbrev pub export_value : Result ℕ WriteError → ℕ
+export_value (Ok n) = n
+export_value (Err Short) = 0
+export_value (Err (Outside i)) = i

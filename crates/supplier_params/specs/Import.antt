@@ -1,9 +1,9 @@
 -- Importing the other supplier's parameters (02, order 12): "A length other than 1323 bytes is 10 at the length; then a wrong kind or
 -- broken entry is 9 with the first such index; then 01's tests apply."
+use Rattle.std.specs.Prelude.{Option, Some, None, Err}
+use Rattle.params_bytes.specs.declared.ReadError.TheVariants.{Malformed}
 use Rattle.std.specs.Prelude.{ℕ, ◌*◌, Bool, true, false, cond, List, [], ◌∷◌, eqb, length, take, drop, ℤ}
 use Rattle.index.specs.Index.{first, gather}
-use Rattle.index.specs.declared.Found.{Found}
-use Rattle.index.specs.declared.Found.TheVariants.{At, Nothing}
 use Rattle.records.specs.Records.{param_count}
 use Rattle.limits.specs.Limits.{field_of, limit_at}
 use Rattle.params.specs.Editions.{sheet}
@@ -12,7 +12,6 @@ use Rattle.params.specs.Check.{first_broken}
 use Rattle.params_bytes.specs.Read.{refusal, judged_by}
 use Rattle.limits.specs.declared.Limit.{Limit}
 use Rattle.params_bytes.specs.declared.Reading.{Reading}
-use Rattle.params_bytes.specs.declared.Verdict.TheVariants.{Malformed}
 use Rattle.params_bytes.specs.declared.Verdict.TheVariants as verdict
 use Rattle.supplier_entry.specs.declared.Form.{Form}
 use Rattle.supplier_entry.specs.declared.Number.{Number}
@@ -54,9 +53,9 @@ pub data Outcome : Type 0 where
   numbers : List ℤ → Outcome
   broken : ℕ → Outcome
 
-abbrev pub outcome_by : Found → List ℤ → Outcome
-outcome_by (At i) xs = broken i
-outcome_by Nothing xs = numbers xs
+abbrev pub outcome_by : Option ℕ → List ℤ → Outcome
+outcome_by (Some i) xs = broken i
+outcome_by None xs = numbers xs
 
 unfoldable pub entries_of : List ℕ → Outcome
 entries_of s = outcome_by (first param_count (broken_at s)) (gather param_count (value_at s))
@@ -71,4 +70,4 @@ judged (broken i) = refusal (verdict.Broken i)
 
 -- "A length other than 1323 bytes is 10 at the length"
 unfoldable pub import_of : List ℕ → Reading
-import_of s = cond (eqb (length s) supplier_bytes) (judged (entries_of s)) (refusal (Malformed (length s)))
+import_of s = cond (eqb (length s) supplier_bytes) (judged (entries_of s)) (refusal (Err (Malformed (length s))))

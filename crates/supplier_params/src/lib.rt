@@ -11,10 +11,9 @@ ghost use Rattle.supplier_params.specs.Forms.{supplier_bytes, form_at};
 ghost use Rattle.supplier_params.specs.Import.{number_at, entries_of, outcome, import_of};
 ghost use Rattle.supplier_params.specs.Export.{bytes_of, export_of};
 
-use index::Found;
 use limits::{FIELDS, GENERAL, NUMBERS, OF_TOPIC};
 use params::{Edition, Params};
-use params_bytes::{Reading, Verdict, Written};
+use params_bytes::{ReadError, Reading, WriteError};
 use supplier_entry::{Form, Number};
 
 // How many bytes the parameters take: 147 entries of nine.
@@ -145,12 +144,12 @@ pub fn import(s: &[u8]) -> Reading
 {
     let n = s.len();
     if n != BYTES {
-        return params_bytes::refused(Verdict::Malformed(n));
+        return params_bytes::refused(Err(ReadError::Malformed(n)));
     }
     let all = entries(s);
     let place = all.place;
     if !all.ok {
-        return params_bytes::refused(Verdict::Broken(place));
+        return params_bytes::refused(Err(ReadError::Broken(place)));
     }
     let numbers = all.numbers;
     params_bytes::judged(
@@ -167,21 +166,19 @@ fn put(all: Params, buf: &mut [u8])
     requires { (supplier_bytes ≤ length buf.old) × ((i : ℕ) → i < param_count → in_limits all.numbers i ≡ true) }
     ensures { buf.new ≡ sets buf.old 0 (bytes_of all.numbers) }
 {
-    let mut i: usize = 0;
-    while i < NUMBERS {
+    for i in 0..NUMBERS {
         supplier_entry::export(all.numbers[i], form_of(i), buf, 9 * i);
-        i += 1;
     }
 }
 
 // Write parameters of either edition, tested by 01's rules, as the supplier's from the start of the buffer, or say why not and leave the
 // buffer.
-pub fn export(all: Params, buf: &mut [u8]) -> Written
+pub fn export(all: Params, buf: &mut [u8]) -> Result<usize, WriteError>
     ensures { (result ≡ (export_of all.numbers buf.old).answer)
         × (buf.new ≡ (export_of all.numbers buf.old).bytes) }
 {
     if buf.len() < BYTES {
-        return Written::Short;
+        return Err(WriteError::Short);
     }
     let numbers = all.numbers;
     let first = Params {
@@ -189,10 +186,10 @@ pub fn export(all: Params, buf: &mut [u8]) -> Written
         edition: Edition::First,
     };
     match first.first_broken() {
-        Found::At(i) => Written::Outside(i),
-        Found::Nothing => {
+        Some(i) => Err(WriteError::Outside(i)),
+        None => {
             put(first, buf);
-            Written::Done(BYTES)
+            Ok(BYTES)
         }
     }
 }

@@ -1,5 +1,7 @@
 -- The two ends of a call that gives no action: 11, and 0.
 -- Assumes nothing.
+use Rattle.std.proofs.Common.{Result, Ok, Err}
+use Rattle.std.proofs.Common.{Unit, tt}
 use Prim.Native.Nat.{ℕ}
 use mathlib.Core.Path.{◌≡◌, refl, ap, ap₂, ◌∙◌}
 use mathlib.Core.Bool.{Bool, true, false, cond, ◌&&◌}
@@ -11,8 +13,6 @@ use Rattle.layout.specs.View.{clock_at, state_of}
 use Rattle.effects.specs.Effects.{is_joined, on_topic, with_subscribed, out_of_mesh}
 use Rattle.rules.specs.declared.Answer.{Answer}
 use Rattle.rules.specs.declared.Answer.TheVariants.{Done, Ignored}
-use Rattle.rules.specs.declared.Gate.{Gate}
-use Rattle.rules.specs.declared.Gate.TheVariants.{Pass, Refuse}
 use Rattle.rules.specs.Reply.{Reply, ignored, done}
 use Rattle.rules.specs.Calls.{join, time_of, time_ok, id_ok, topic_ok, arguments_ok}
 use Rattle.rules.specs.Step.{gate_of, effect, of_peer, is_graylisted, join_reply, subscribe_reply, unsubscribe_reply}
@@ -61,20 +61,20 @@ module _ (time id t : ℕ) where
       (on : Bool)
       (table list : List ℕ)
       (a b d : Bool)
-      (g : Gate)
+      (g : Result (Unit {0}) Answer)
       (ea : a ≡ time_ok time)
       (eb : b ≡ id_ok id)
       (ed : d ≡ topic_ok t)
       (eg : g ≡ gate_of (state_of table) (a && (b && d)) (length list) time)
     where
-      pub change_refusal : (x : Answer) → g ≡ Refuse x → Follows (change on time id t) x table table list list
+      pub change_refusal : (x : Answer) → g ≡ Err x → Follows (change on time id t) x table table list list
       change_refusal =
           gate_refusal (change on time id t) table list a (b && d) g (ea ∙ ap time_ok (change_time on))
           (ap₂ ◌&&◌ eb ed ∙ change_range on)
           (eg ∙ ap (gate_of (state_of table) (a && (b && d)) (length list)) (change_time on))
 
       pub change_follows :
-          g ≡ Pass → (r : Answer) (table' : List ℕ) →
+          g ≡ Ok tt → (r : Answer) (table' : List ℕ) →
           Leaves (of_peer (state_of table) id (change_reply on (state_of table) time t)) r table table' →
           Follows (change on time id t) r table table' list list
       unfolding change_reply

@@ -13,10 +13,9 @@ ghost use Rattle.topics.specs.Change.{change as Calls·change, changed, change_r
 
 use effects::slots::{is_joined, subscribe_slot, unsubscribe_slot};
 use gate::{admit, finish, id_ok, ignore, see_sender, time_ok, topic_ok};
-use index::Found;
 use layout::CELLS;
 use lookup::find::find_connected;
-use rules::{Answer, Gate};
+use rules::Answer;
 
 fn join_from(table: &mut [u64], time: u64, topic: usize) -> Answer
     requires { TopicReady table.old time topic }
@@ -36,8 +35,8 @@ pub fn join(table: &mut [u64; CELLS], time: u64, topic: u64, actions: &mut [u32]
 {
     let fine = time_ok(time) & topic_ok(topic);
     match admit(table, fine, actions.len(), time) {
-        Gate::Refuse(a) => a,
-        Gate::Pass => join_from(table, time, topic as usize),
+        Err(a) => a,
+        Ok(()) => join_from(table, time, topic as usize),
     }
 }
 
@@ -71,7 +70,7 @@ fn change_from(table: &mut [u64], time: u64, id: u64, topic: usize, on: bool) ->
     ensures { Leaves (of_peer (state_of table.old) id (change_reply on (state_of table.old) time topic)) result
         table.old table.new }
 {
-    let Found::At(slot) = find_connected(table, id) else {
+    let Some(slot) = find_connected(table, id) else {
         return Answer::NotConnected;
     };
     change_reply(table, time, topic, slot, on)
@@ -90,8 +89,8 @@ fn change(
 {
     let fine = time_ok(time) & (id_ok(id) & topic_ok(topic));
     match admit(table, fine, actions.len(), time) {
-        Gate::Refuse(a) => a,
-        Gate::Pass => change_from(table, time, id, topic as usize, on),
+        Err(a) => a,
+        Ok(()) => change_from(table, time, id, topic as usize, on),
     }
 }
 

@@ -1,5 +1,6 @@
 -- An event takes a byte at least: a whole one ends behind its place.
 -- Assumes nothing.
+use Rattle.std.proofs.Common.{Option, Some, None}
 use Prim.{Unit, tt}
 use Prim.Native.Nat.{ℕ, zero, suc, ◌+◌, ◌≤◌, ◌<◌}
 use mathlib.Core.List.{List, [], ◌∷◌}
@@ -8,8 +9,6 @@ use lib.Dec.{eqb, leb, ltb}
 use lib.ListN.{length, get_or, drop}
 use Rattle.index.proofs.Flags.{cond_case}
 use Rattle.varint.specs.Groups.{Got, got, none, before, decode, up_to, as_read, read_at}
-use Rattle.varint.specs.declared.Read.{Read}
-use Rattle.varint.specs.declared.Read.TheVariants.{Number, Bad}
 use Rattle.trace_events.specs.Reading.{Numbers, numbers, broken, more, number_then, numbers_from, cut_short, arity, call_of, Event, event}
 use Rattle.trace_events.specs.Reading.{name_most, group_most, order_size}
 use Rattle.trace_events.specs.Reading.{unknown, malformed, short, unread, named, grouped, connecting, ordered, of_numbers, of_kind}
@@ -33,9 +32,9 @@ decode_takes [] = tt
 decode_takes (b ∷ s) =
     cond_case Takes (ltb b 128) (got b 1) (before b (decode s)) (λ e. omega arith) (λ e. before_takes b (decode s))
 
-abbrev Ahead : ℕ → Read → Type 0
-Ahead at Bad = Unit {0}
-Ahead at (Number u next) = at < next
+abbrev Ahead : ℕ → Option (ℕ × ℕ) → Type 0
+Ahead at None = Unit {0}
+Ahead at (Some (u, next)) = at < next
 
 got_ahead : (top at : ℕ) (g : Got) → Takes g → Ahead at (as_read at (up_to top g))
 got_ahead top at none t = tt
@@ -56,9 +55,9 @@ more_not_back at next u (numbers us m) h n = omega arith
 more_not_back at next u (broken p) h n = tt
 
 then_not_back :
-    (rest : ℕ → Numbers) (at : ℕ) (r : Read) → ((next : ℕ) → NotBack next (rest next)) → Ahead at r → NotBack at (number_then rest at r)
-then_not_back rest at Bad f a = tt
-then_not_back rest at (Number u next) f a = more_not_back at next u (rest next) a (f next)
+    (rest : ℕ → Numbers) (at : ℕ) (r : Option (ℕ × ℕ)) → ((next : ℕ) → NotBack next (rest next)) → Ahead at r → NotBack at (number_then rest at r)
+then_not_back rest at None f a = tt
+then_not_back rest at (Some (u, next)) f a = more_not_back at next u (rest next) a (f next)
 
 numbers_not_back : (n : ℕ) (s : List ℕ) (at : ℕ) → NotBack at (numbers_from n s at)
 unfolding numbers_from
@@ -113,9 +112,9 @@ module _ (g : Edition) where
       (λ f. omega arith))
   numbers_behind at next s kind (broken p) h n = unread_behind at s p
 
-  kind_behind : (s : List ℕ) (at : ℕ) (r : Read) → Ahead at r → Behind at (of_kind g s at r)
-  kind_behind s at Bad a = unread_behind at s at
-  kind_behind s at (Number kind next) a =
+  kind_behind : (s : List ℕ) (at : ℕ) (r : Option (ℕ × ℕ)) → Ahead at r → Behind at (of_kind g s at r)
+  kind_behind s at None a = unread_behind at s at
+  kind_behind s at (Some (kind, next)) a =
       cond_case (Behind at) (eqb (arity g kind) 0) unknown (of_numbers g s kind (numbers_from (arity g kind) s next))
       (λ e. tt)
       (λ e. numbers_behind at next s kind (numbers_from (arity g kind) s next) a (numbers_not_back (arity g kind) s next))

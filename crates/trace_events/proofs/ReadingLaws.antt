@@ -1,5 +1,6 @@
 -- Laws of reading an event's numbers: what is known after i of N, and the ends of `read_numbers` and `cut_short`.
 -- Assumes nothing.
+use Rattle.std.proofs.Common.{Option, Some, None}
 use Prim.Native.Nat.{ℕ, zero, suc, ◌+◌, ◌-◌, ◌<◌, ◌≤◌}
 use mathlib.Core.Path.{◌≡◌, refl, sym, ap, ◌∙◌}
 use mathlib.Core.Bool.{Bool, true, false, ◌&&◌}
@@ -13,8 +14,6 @@ use lib.Seq.{take-suc-set, take_all, length-take-le, get_or-set_other}
 use Rattle.index.specs.Index.{every}
 use Rattle.index.proofs.Index.{every_none, every_fails}
 use Rattle.varint.specs.Groups.{read_at}
-use Rattle.varint.specs.declared.Read.{Read}
-use Rattle.varint.specs.declared.Read.TheVariants.{Number, Bad}
 use Rattle.records.specs.Records.{slot_count}
 use Rattle.sets.specs.Sets.{ascending}
 use Rattle.trace_events.proofs.WidenedLaws.{ascending_more}
@@ -39,7 +38,7 @@ then_then us vs (numbers ws next) = ap (λ (l : List ℕ). numbers l next) (sym 
 then_then us vs (broken p) = refl
 
 at_least_one :
-    (m : ℕ) (s : List ℕ) (at : ℕ) (r : Read) →
+    (m : ℕ) (s : List ℕ) (at : ℕ) (r : Option (ℕ × ℕ)) →
     0 < m →
     r ≡ read_at 18446744073709551615 s at →
     numbers_from m s at ≡ number_then (λ next. numbers_from (m - 1) s next) at r
@@ -59,12 +58,12 @@ after_none N s from us = let e : N - 0 ≡ N = omega arith in rw e (nothing (num
     nothing (broken p) = refl
 
 pub after_more :
-    (N : ℕ) (s : List ℕ) (from i : ℕ) (us : List ℕ) (at u next : ℕ) (r : Read) →
+    (N : ℕ) (s : List ℕ) (from i : ℕ) (us : List ℕ) (at u next : ℕ) (r : Option (ℕ × ℕ)) →
     i < N →
     i < length us →
     After N s from i us at →
     r ≡ read_at 18446744073709551615 s at →
-    r ≡ Number u next →
+    r ≡ Some (u, next) →
     After N s from (i + 1) (set us i u) next
 after_more N s from i us at u next r h l inv e f =
     rw (add-one i, take-suc-set us i u l, ← then_then (take i us) (u ∷ []) (numbers_from (N - suc i) s next))
@@ -74,11 +73,11 @@ after_more N s from i us at u next r h l inv e f =
     back = let k : N - i - 1 ≡ N - suc i = omega arith in rw (f, k) (sym (more_is u (numbers_from (N - suc i) s next)))
 
 pub after_bad :
-    (N : ℕ) (s : List ℕ) (from i : ℕ) (us : List ℕ) (at : ℕ) (r : Read) →
+    (N : ℕ) (s : List ℕ) (from i : ℕ) (us : List ℕ) (at : ℕ) (r : Option (ℕ × ℕ)) →
     i < N →
     After N s from i us at →
     r ≡ read_at 18446744073709551615 s at →
-    r ≡ Bad →
+    r ≡ None →
     broken at ≡ numbers_from N s from
 after_bad N s from i us at r h inv e f = rw (at_least_one (N - i) s at r (omega arith) e, f) at inv
 

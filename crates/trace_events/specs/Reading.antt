@@ -1,10 +1,9 @@
 -- Events of a trace (01, "The trace program"): "events as unsigned groups (P5 signed): kind, now, arguments", in the editions of 02.
+use Rattle.std.specs.Prelude.{Option, Some, None}
 use Rattle.std.specs.Prelude.{ℕ, zero, suc, ◌+◌, ◌-◌, ◌≡◌, Bool, cond, ◌&&◌, List, [], ◌∷◌, ◌++◌, eqb, leb, ltb, length, get_or, take, drop}
 use Rattle.index.specs.Index.{every}
 use Rattle.varint.specs.Groups.{read_at}
 use Rattle.varint.specs.Codes.{number_of}
-use Rattle.varint.specs.declared.Read.{Read}
-use Rattle.varint.specs.declared.Read.TheVariants.{Number, Bad}
 use Rattle.records.specs.Records.{slot_count}
 use Rattle.sets.specs.Sets.{ascending, is_permutation}
 use Rattle.trace_events.specs.declared.Edition.{Edition}
@@ -52,9 +51,9 @@ abbrev pub more : ℕ → Numbers → Numbers
 more u (numbers us next) = numbers (u ∷ us) next
 more u (broken p) = broken p
 
-abbrev pub number_then : (ℕ → Numbers) → ℕ → Read → Numbers
-number_then rest at Bad = broken at
-number_then rest at (Number u next) = more u (rest next)
+abbrev pub number_then : (ℕ → Numbers) → ℕ → Option (ℕ × ℕ) → Numbers
+number_then rest at None = broken at
+number_then rest at (Some (u, next)) = more u (rest next)
 
 unfoldable pub numbers_from : ℕ → List ℕ → ℕ → Numbers
 numbers_from zero s at = numbers [] at
@@ -162,9 +161,9 @@ of_numbers e s kind (numbers us next) =
     (cond (eqb kind 11) (ordered s us (numbers_from (order_size e) s next)) (event (call_of kind us []) next))
 of_numbers e s kind (broken p) = unread s p
 
-abbrev pub of_kind : Edition → List ℕ → ℕ → Read → Event
-of_kind e s at Bad = unread s at
-of_kind e s at (Number kind next) =
+abbrev pub of_kind : Edition → List ℕ → ℕ → Option (ℕ × ℕ) → Event
+of_kind e s at None = unread s at
+of_kind e s at (Some (kind, next)) =
     cond (eqb (arity e kind) 0) unknown (of_numbers e s kind (numbers_from (arity e kind) s next))
 
 unfoldable pub event_at : Edition → List ℕ → ℕ → Event

@@ -54,8 +54,7 @@ pub fn put_actions(out: &mut [u8], at: usize, actions: &[u32], n: usize) -> usiz
     ensures { Stored out.old at (actions_text n actions.now) result out.new × (result ≤ at + 44 * n) }
 {
     let mut k = at;
-    let mut i: usize = 0;
-    while i < n {
+    for i in 0..n {
         k = put_action(
             out,
             k,
@@ -63,7 +62,6 @@ pub fn put_actions(out: &mut [u8], at: usize, actions: &[u32], n: usize) -> usiz
             actions[3 * i + 1],
             actions[3 * i + 2],
         );
-        i += 1;
     }
     k
 }

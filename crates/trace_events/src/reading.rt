@@ -6,7 +6,6 @@ ghost use Rattle.trace_events.specs.Reading.{arity as arityOf};
 
 use crate::{Edition, Readings};
 use records::SLOTS;
-use varint::Read;
 
 // The most numbers that follow a kind, the time counted; and those of each kind, 0 for an unknown one.
 pub const NUMBERS: usize = 5;
@@ -58,14 +57,12 @@ pub fn read_numbers(s: &[u8], at: usize, n: usize, values: &mut [u64]) -> Readin
         × ((k : ℕ) → n ≤ k → get_or values.new k 0 ≡ get_or values.old k 0) }
 {
     let mut place = at;
-    let mut i: usize = 0;
-    while i < n {
-        let Read::Number(u, next) = varint::read_u64(s, place) else {
+    for i in 0..n {
+        let Some((u, next)) = varint::read_u64(s, place) else {
             return Readings { ok: false, place };
         };
         values[i] = u;
         place = next;
-        i += 1;
     }
     Readings { ok: true, place }
 }
@@ -75,10 +72,8 @@ pub fn widen(order: &mut [u64], n: usize)
     requires { (n ≤ slot_count) × (length order.old ≡ slot_count) }
     ensures { order.new ≡ widened (take n order.old) }
 {
-    let mut k = n;
-    while k < SLOTS {
+    for k in n..SLOTS {
         order[k] = k as u64;
-        k += 1;
     }
 }
 
@@ -93,12 +88,10 @@ pub fn cut_short(s: &[u8], at: usize) -> bool
         return false;
     }
     let n = s.len() - at;
-    let mut k: usize = 0;
-    while k < n {
+    for k in 0..n {
         if s[at + k] < 128 {
             return false;
         }
-        k += 1;
     }
     true
 }

@@ -1,5 +1,8 @@
 -- However the input is cut: by induction on the turns and readings, from what one turn prints (`one_turn`) and where the window's bytes
 -- stand. Assumes nothing.
+use Rattle.std.proofs.Common.{Result, Ok, Err}
+use Rattle.params_bytes.specs.declared.ReadError.{ReadError}
+use Rattle.params_bytes.specs.declared.ReadError.TheVariants.{Broken, Malformed}
 use Prim.Native.Nat.{ℕ, zero, suc, ◌<◌, ◌≤◌}
 use mathlib.Core.Path.{◌≡◌, refl, sym, ap, ap₂, ◌∙◌}
 use mathlib.Core.Logic.{◌⊎◌, inl, inr}
@@ -16,8 +19,6 @@ use Rattle.layout.specs.View.{state_of}
 use Rattle.trace_events.specs.declared.Edition.{Edition}
 use Rattle.trace_events.specs.Reading.{Event, event, unknown, malformed, short, event_at}
 use Rattle.params_bytes.specs.Read.{front_at}
-use Rattle.params_bytes.specs.declared.Verdict.{Verdict}
-use Rattle.params_bytes.specs.declared.Verdict.TheVariants.{Accepted, Malformed, Broken}
 use Rattle.trace_feed.specs.declared.Stage.{Stage}
 use Rattle.trace_feed.specs.declared.Stage.TheVariants.{Params, Events, Over}
 use Rattle.trace_feed.specs.declared.Window.{Window}
@@ -44,10 +45,10 @@ event_asks g st unknown = refl
 event_asks g st malformed = refl
 event_asks g st short = refl
 
-params_ask : (g : Edition) (at : ℕ) (s : List ℕ) (v : Verdict) → asks (params_by g true s (front_at s at).params v) ≡ false
-params_ask g at s (Accepted next) = refl
-params_ask g at s (Malformed place) = refl
-params_ask g at s (Broken i) = refl
+params_ask : (g : Edition) (at : ℕ) (s : List ℕ) (v : Result ℕ ReadError) → asks (params_by g true s (front_at s at).params v) ≡ false
+params_ask g at s (Ok next) = refl
+params_ask g at s (Err (Malformed place)) = refl
+params_ask g at s (Err (Broken i)) = refl
 
 front_asks : (s : List ℕ) (x : Front) → asks (front_by true s x) ≡ false
 unfolding params_turn

@@ -1,6 +1,7 @@
 -- An event stays the same with any bytes behind those that are there, unless these end inside it; where it ends, and how many bytes can be
 -- there of one that is not whole.
 -- Assumes nothing.
+use Rattle.std.proofs.Common.{Option, Some, None}
 use Prim.{Unit, tt}
 use Prim.Native.Nat.{ℕ, zero, suc, ◌+◌, ◌*◌, ◌<◌, ◌≤◌}
 use mathlib.Core.Path.{◌≡◌, refl, sym, ap, ◌∙◌}
@@ -13,8 +14,6 @@ use lib.ListN.{length, get_or, take, drop, length-append, length-drop}
 use lib.Seq.{take-append-le, drop-append-le}
 use Rattle.index.proofs.Flags.{by_test, cond_case}
 use Rattle.varint.specs.Groups.{read_at}
-use Rattle.varint.specs.declared.Read.{Read}
-use Rattle.varint.specs.declared.Read.TheVariants.{Number, Bad}
 use Rattle.records.specs.Records.{slot_count}
 use Rattle.trace_events.specs.declared.Edition.{Edition}
 use Rattle.trace_events.specs.declared.Edition.TheVariants.{First, Second, Third}
@@ -35,12 +34,12 @@ more_whole w u (numbers us next) h = tt
 more_whole w u (broken p) h = h
 
 then_stay :
-    (w : List ℕ) (at : ℕ) (f g : ℕ → Numbers) (q : Read) →
+    (w : List ℕ) (at : ℕ) (f g : ℕ → Numbers) (q : Option (ℕ × ℕ)) →
     ((next : ℕ) → Whole w (g next) → f next ≡ g next) →
     Whole w (number_then g at q) →
     number_then f at q ≡ number_then g at q
-then_stay w at f g Bad same h = refl
-then_stay w at f g (Number u next) same h = ap (more u) (same next (more_whole w u (g next) h))
+then_stay w at f g None same h = refl
+then_stay w at f g (Some (u, next)) same h = ap (more u) (same next (more_whole w u (g next) h))
 
 module _ (w r : List ℕ) where
   numbers_stay : (n at : ℕ) → Whole w (numbers_from n w at) → numbers_from n (w ++ r) at ≡ numbers_from n w at
@@ -67,12 +66,12 @@ ends_later len to more (numbers us next) l h = (h.0, omega (arith, h.1))
 ends_later len to more (broken p) l h = omega arith
 
 then_ends :
-    (s : List ℕ) (n at : ℕ) (f : ℕ → Numbers) (q : Read) →
+    (s : List ℕ) (n at : ℕ) (f : ℕ → Numbers) (q : Option (ℕ × ℕ)) →
     read_at most s at ≡ q →
     ((next : ℕ) → next ≤ length s → Ends (length s) (next + 10 * n) (f next)) →
     Ends (length s) (at + 10 * suc n) (number_then f at q)
-then_ends s n at f Bad e g = omega arith
-then_ends s n at f (Number u next) e g =
+then_ends s n at f None e g = omega arith
+then_ends s n at f (Some (u, next)) e g =
     let i = read_within s at u next e in
     let j = read_near s at u next e in
     more_ends (length s) (at + 10 * suc n) u (f next)
@@ -177,10 +176,10 @@ module _ (g : Edition) (w r : List ℕ) where
       (λ k. rw (t, k)))
   numbers_of kind (broken p) h = unread_stays w r p h
 
-  kind_stays : (at : ℕ) (q : Read) → is_short (of_kind g w at q) ≡ false → of_kind g (w ++ r) at q ≡ of_kind g w at q
-  kind_stays at Bad h = unread_stays w r at h
-  kind_stays at (Number kind next) h =
-      by_test (of_kind g (w ++ r) at (Number kind next) ≡ of_kind g w at (Number kind next)) (eqb (arity g kind) 0)
+  kind_stays : (at : ℕ) (q : Option (ℕ × ℕ)) → is_short (of_kind g w at q) ≡ false → of_kind g (w ++ r) at q ≡ of_kind g w at q
+  kind_stays at None h = unread_stays w r at h
+  kind_stays at (Some (kind, next)) h =
+      by_test (of_kind g (w ++ r) at (Some (kind, next)) ≡ of_kind g w at (Some (kind, next))) (eqb (arity g kind) 0)
       (λ t. rw t)
       (λ t.
       let n : Numbers = numbers_from (arity g kind) w next in
@@ -274,10 +273,10 @@ module _ (g : Edition) (s : List ℕ) (at : ℕ) where
       (λ f. h.0))
   numbers_close kind to (broken p) four all h = unread_closes p (omega arith)
 
-  kind_closes : (q : Read) → read_at most s at ≡ q → Closes (length s) at (of_kind g s at q)
+  kind_closes : (q : Option (ℕ × ℕ)) → read_at most s at ≡ q → Closes (length s) at (of_kind g s at q)
   unfolding arity arities
-  kind_closes Bad e = unread_closes at (omega arith)
-  kind_closes (Number kind next) e =
+  kind_closes None e = unread_closes at (omega arith)
+  kind_closes (Some (kind, next)) e =
       let i = read_within s at kind next e in
       let j = read_near s at kind next e in
       let k = arity_most g kind in

@@ -1,6 +1,9 @@
 -- The parameters stay the same with any bytes behind those that are there, unless these end inside a number; where they end, and how many
 -- bytes can be there of parameters that are not whole; and the front before them.
 -- Assumes nothing.
+use Rattle.std.proofs.Common.{Option, Some, None, Result, Ok, Err}
+use Rattle.params_bytes.specs.declared.ReadError.{ReadError}
+use Rattle.params_bytes.specs.declared.ReadError.TheVariants.{Broken, Malformed}
 use Prim.{Unit, tt}
 use Prim.Native.Nat.{ℕ, zero, suc, ◌+◌, ◌-◌, ◌<◌, ◌≤◌}
 use mathlib.Core.Path.{◌≡◌, refl, sym, ap, ap₂, ◌∙◌}
@@ -11,23 +14,17 @@ use lib.IntN.{ℤ}
 use borrow.Author.Tests.{le-leb}
 use lib.Dec.{eqb}
 use lib.ListN.{length, get_or, get_or-append}
-use Rattle.index.specs.declared.Found.{Found}
-use Rattle.index.specs.declared.Found.TheVariants.{At, Nothing}
 use Rattle.index.specs.Index.{every}
 use Rattle.index.proofs.Flags.{by_test, by_order, cond_case}
 use Rattle.varint.specs.Groups.{read_at}
 use Rattle.varint.proofs.GroupLaws.{read_at_last}
 use Rattle.varint.specs.Codes.{number_of}
-use Rattle.varint.specs.declared.Read.{Read}
-use Rattle.varint.specs.declared.Read.TheVariants.{Number, Bad}
 use Rattle.params.specs.Check.{first_broken}
 use Rattle.params.specs.declared.Edition.{Edition}
 use Rattle.params.specs.declared.Params.{Params}
 use Rattle.params.specs.Editions.{sheet}
 use Rattle.params_bytes.specs.Read.{Parse, numbers, malformed, then, step, parse_from, judged_by, judged, front_at}
 use Rattle.params_bytes.specs.Read.{edition_at, front_bytes, parse_at}
-use Rattle.params_bytes.specs.declared.Verdict.{Verdict}
-use Rattle.params_bytes.specs.declared.Verdict.TheVariants.{Accepted, Malformed, Broken}
 use Rattle.params_bytes.proofs.ReadLaws.{edition_short}
 use Rattle.params_bytes.proofs.WriteLaws.{front_short}
 use Rattle.params_bytes.proofs.PlaceLaws.{place_of, all_place}
@@ -49,12 +46,12 @@ then_whole w xs (numbers ys next) h = tt
 then_whole w xs (malformed p) h = h
 
 step_stays :
-    (w : List ℕ) (at : ℕ) (f g : ℕ → Parse) (q : Read) →
+    (w : List ℕ) (at : ℕ) (f g : ℕ → Parse) (q : Option (ℕ × ℕ)) →
     ((next : ℕ) → Whole w (g next) → f next ≡ g next) →
     Whole w (step g at q) →
     step f at q ≡ step g at q
-step_stays w at f g Bad same h = refl
-step_stays w at f g (Number u next) same h =
+step_stays w at f g None same h = refl
+step_stays w at f g (Some (u, next)) same h =
     ap (then (number_of u ∷ [])) (same next (then_whole w (number_of u ∷ []) (g next) h))
 
 parse_stays : (w r : List ℕ) (n at : ℕ) → Whole w (parse_from n w at) → parse_from n (w ++ r) at ≡ parse_from n w at
@@ -78,12 +75,12 @@ then_ends len xs (numbers ys next) h = h
 then_ends len xs (malformed p) h = tt
 
 step_ends :
-    (s : List ℕ) (at : ℕ) (f : ℕ → Parse) (q : Read) →
+    (s : List ℕ) (at : ℕ) (f : ℕ → Parse) (q : Option (ℕ × ℕ)) →
     read_at most s at ≡ q →
     ((next : ℕ) → next ≤ length s → Ends (length s) (f next)) →
     Ends (length s) (step f at q)
-step_ends s at f Bad e g = tt
-step_ends s at f (Number u next) e g = then_ends (length s) (number_of u ∷ []) (f next) (g next (read_within s at u next e))
+step_ends s at f None e g = tt
+step_ends s at f (Some (u, next)) e g = then_ends (length s) (number_of u ∷ []) (f next) (g next (read_within s at u next e))
 
 parse_ends : (s : List ℕ) (n at : ℕ) → at ≤ length s → Ends (length s) (parse_from n s at)
 unfolding parse_from
@@ -118,7 +115,7 @@ one_byte w n at l h =
   where
     after : get_or w at 0 < 128 → Whole w (parse_from (suc n) w (at + 1))
     after b =
-        let q : read_at most w at ≡ Number (get_or w at 0) (at + 1) =
+        let q : read_at most w at ≡ Some (get_or w at 0, at + 1) =
         read_at_last most w at (omega arith) b ∙ rw (le-leb (get_or w at 0) most (omega arith)) in
         then_whole w (number_of (get_or w at 0) ∷ []) (parse_from (suc n) w (at + 1)) (rw q at h)
 
@@ -152,10 +149,10 @@ module _ (w r : List ℕ) (at : ℕ) (m : at ≤ length w) where
       ∙ parse_stays w r param_count (at + length (front_bytes (edition_at w at))) h
 
 -- ---- the verdict
-abbrev pub Kept : List ℕ → Verdict → Type 0
-Kept w (Accepted next) = Unit {0}
-Kept w (Malformed p) = cut_short w p ≡ false
-Kept w (Broken i) = Unit {0}
+abbrev pub Kept : List ℕ → Result ℕ ReadError → Type 0
+Kept w (Ok next) = Unit {0}
+Kept w (Err (Malformed p)) = cut_short w p ≡ false
+Kept w (Err (Broken i)) = Unit {0}
 
 judged_whole : (w : List ℕ) (e : Edition) (p : Parse) → Kept w (judged e p).verdict → Whole w p
 judged_whole w e (numbers xs next) h = tt
@@ -172,18 +169,18 @@ front_stays w r at m h =
     ap₂ judged (edition_stays w r at m g) (all_stays w r at m g)
 
 -- what is accepted passes, and ends within the bytes; what is malformed is so within 1,472 bytes
-abbrev pub Verdicts : ℕ → ℕ → Found → Verdict → Type 0
-Verdicts at len f (Accepted next) = (f ≡ Nothing) × (next ≤ len)
-Verdicts at len f (Malformed p) = p ≤ at + 1472
-Verdicts at len f (Broken i) = Unit {0}
+abbrev pub Verdicts : ℕ → ℕ → Option ℕ → Result ℕ ReadError → Type 0
+Verdicts at len f (Ok next) = (f ≡ None) × (next ≤ len)
+Verdicts at len f (Err (Malformed p)) = p ≤ at + 1472
+Verdicts at len f (Err (Broken i)) = Unit {0}
 
 judged_by_lem :
-    (at len : ℕ) (p : Params) (next : ℕ) (f : Found) →
+    (at len : ℕ) (p : Params) (next : ℕ) (f : Option ℕ) →
     first_broken p ≡ f →
     next ≤ len →
     Verdicts at len (first_broken (judged_by f p next).params) (judged_by f p next).verdict
-judged_by_lem at len p next (At i) e h = tt
-judged_by_lem at len p next Nothing e h = (e, h)
+judged_by_lem at len p next (Some i) e h = tt
+judged_by_lem at len p next None e h = (e, h)
 
 judged_is :
     (at len : ℕ) (e : Edition) (p : Parse) →

@@ -1,6 +1,7 @@
 -- A number stays the same with any bytes behind those that are there, unless these end inside it: its last byte is there, or ten bytes that
 -- say that more follow, and none of 64 bits has more. And where a number ends.
 -- Assumes nothing.
+use Rattle.std.proofs.Common.{Option, Some, None}
 use Prim.{Unit, tt}
 use Prim.Native.Nat.{ℕ, zero, suc, ◌+◌, ◌-◌, ◌/◌, ◌<◌, ◌≤◌}
 use mathlib.Core.Path.{◌≡◌, refl, sym, ap, ap₂, ◌∙◌}
@@ -14,8 +15,6 @@ use Rattle.index.specs.Index.{every}
 use Rattle.index.proofs.Index.{both, every_at, every_fails}
 use Rattle.index.proofs.Flags.{by_test, by_order, cond_case}
 use Rattle.varint.specs.Groups.{Got, got, none, before, decode, up_to, as_read, read_at, after_more}
-use Rattle.varint.specs.declared.Read.{Read}
-use Rattle.varint.specs.declared.Read.TheVariants.{Number, Bad}
 use Rattle.varint.proofs.GroupLaws.{read_at_end, read_at_last, read_at_more, after_small}
 use Rattle.params_bytes.proofs.PlaceLaws.{next_near}
 use Rattle.trace_events.specs.Reading.{cut_short}
@@ -37,7 +36,7 @@ module _ (w r : List ℕ) where
       let g = byte_same at h in
       let l = longer in
       read_at_last top (w ++ r) at (omega arith) (omega arith)
-      ∙ ap (λ (x : ℕ). cond (leb x top) (Number x (at + 1)) Bad) g
+      ∙ ap (λ (x : ℕ). cond (leb x top) (Some (x, at + 1)) None) g
       ∙ sym (read_at_last top w at h b)
 
   more_same :
@@ -68,10 +67,10 @@ module _ (s : List ℕ) where
       (m top at : ℕ) →
       length s ≤ at + m →
       ((k : ℕ) → at + k < length s → 128 ≤ get_or s (at + k) 0) →
-      read_at top s at ≡ Bad
+      read_at top s at ≡ None
   runs_out zero top at h f = read_at_end top s at (omega arith)
   runs_out (suc m) top at h f =
-      by_order (read_at top s at ≡ Bad) at (length s)
+      by_order (read_at top s at ≡ None) at (length s)
       (λ i.
       let e : at + 0 ≡ at = omega arith in
       let b : 128 ≤ get_or s at 0 = rw e at (f 0 (omega arith)) in
@@ -92,7 +91,7 @@ module _ (s : List ℕ) where
       at + k < length s →
       ((i : ℕ) → i ≤ k → 128 ≤ get_or s (at + i) 0) →
       left k top < 128 →
-      read_at top s at ≡ Bad
+      read_at top s at ≡ None
   too_long zero top at h f l =
       let e : at + 0 ≡ at = omega arith in
       read_at_more top s at (omega arith) (rw e at (f 0 (omega arith))) ∙ after_small top (get_or s at 0) (read_at (top / 128) s (at + 1)) l
@@ -104,7 +103,7 @@ module _ (s : List ℕ) where
       (λ i j. let q : at + suc i ≡ at + 1 + i = omega arith in rw q at (f (suc i) (omega arith)))
       l)
 
-  pub ten_bad : (at : ℕ) → at + 9 < length s → ((i : ℕ) → i ≤ 9 → 128 ≤ get_or s (at + i) 0) → read_at most s at ≡ Bad
+  pub ten_bad : (at : ℕ) → at + 9 < length s → ((i : ℕ) → i ≤ 9 → 128 ≤ get_or s (at + i) 0) → read_at most s at ≡ None
   ten_bad at h f = let q : left 9 most ≡ 1 = refl in too_long 9 most at h f (omega arith)
 
 -- a test that fails somewhere
@@ -157,7 +156,7 @@ module _ (w : List ℕ) (at : ℕ) where
         let h = ltb-true (length w - at) 10 (both (ltb (length w - at) 10) (every (length w - at) (goes_on w at)) e).0 in
         omega arith
 
-    pub cut_bad : (top : ℕ) → read_at top w at ≡ Bad
+    pub cut_bad : (top : ℕ) → read_at top w at ≡ None
     unfolding cut_short
     cut_bad top =
         let a = (both (ltb (length w - at) 10) (every (length w - at) (goes_on w at)) e).1 in
@@ -205,9 +204,9 @@ decode_fits (b ∷ s) =
     cond_case (Fits (b ∷ s)) (ltb b 128) (got b 1) (before b (decode s)) (λ e. omega arith)
     (λ e. before_fits b s (decode s) (decode_fits s))
 
-abbrev Within : ℕ → Read → Type 0
-Within n Bad = Unit {0}
-Within n (Number u next) = next ≤ n
+abbrev Within : ℕ → Option (ℕ × ℕ) → Type 0
+Within n None = Unit {0}
+Within n (Some (u, next)) = next ≤ n
 
 got_within : (top at : ℕ) (s : List ℕ) (g : Got) → at < length s → Fits (drop at s) g → Within (length s) (as_read at (up_to top g))
 got_within top at s none h f = tt
@@ -221,7 +220,7 @@ read_fits top s at =
     (λ h. got_within top at s (decode (drop at s)) h (decode_fits (drop at s)))
     (λ h. rw (read_at_end top s at h) tt)
 
-module _ (s : List ℕ) (at u next : ℕ) (e : read_at most s at ≡ Number u next) where
+module _ (s : List ℕ) (at u next : ℕ) (e : read_at most s at ≡ Some (u, next)) where
   pub read_within : next ≤ length s
   read_within = rw e at (read_fits most s at)
 

@@ -1,6 +1,9 @@
 -- One turn prints what the whole prints of the bytes that it takes, whatever comes behind them: what is whole stays the same (EventFront,
 -- ParamsFront), and what is not is done only at the end of the input.
 -- Assumes nothing.
+use Rattle.std.proofs.Common.{Result, Ok, Err}
+use Rattle.params_bytes.specs.declared.ReadError.{ReadError}
+use Rattle.params_bytes.specs.declared.ReadError.TheVariants.{Broken, Malformed}
 use Prim.{tt}
 use Prim.Native.Nat.{ℕ, zero, suc, ◌<◌, ◌≤◌}
 use mathlib.Core.Path.{◌≡◌, refl, sym, ap, ◌∙◌}
@@ -16,8 +19,6 @@ use Rattle.index.proofs.Flags.{by_test}
 use Rattle.records.specs.Records.{State}
 use Rattle.varint.proofs.GroupLaws.{read_at_end}
 use Rattle.params_bytes.specs.Read.{front_at}
-use Rattle.params_bytes.specs.declared.Verdict.{Verdict}
-use Rattle.params_bytes.specs.declared.Verdict.TheVariants.{Accepted, Malformed, Broken}
 use Rattle.params.specs.Check.{first_broken}
 use Rattle.lookup.specs.Fresh.{fresh_state}
 use Rattle.rules.specs.Step.{step, action_room}
@@ -150,23 +151,23 @@ module _ (last : Bool) (st : State) (w rest : List ℕ) (e : last ≡ true → r
     front_same k = trace_stays w rest (rw begins k) ∙ begins
 
     params_by_lem :
-        (v : Verdict) →
+        (v : Result ℕ ReadError) →
         (front_at w at).verdict ≡ v →
         Verdicts at (length w) (first_broken (front_at w at).params) v →
         Goes Params (params_by g last w (front_at w at).params v)
     unfolding printed_of
-    params_by_lem (Accepted next) f h =
+    params_by_lem (Ok next) f h =
         let k : Kept w (front_at w at).verdict = rw f tt in
         rw (front_same k, front_stays w rest at near k, f)
         (ap (events_text g (fresh_state (front_at w at).params)) (drop-append-le next w rest h.1))
-    params_by_lem (Broken i) f h =
+    params_by_lem (Err (Broken i)) f h =
         let k : Kept w (front_at w at).verdict = rw f tt in
         rw (front_same k, front_stays w rest at near k, f) (sym (append-nil (pair_line 9 i)))
-    params_by_lem (Malformed p) f h =
-        by_test (Goes Params (params_by g last w (front_at w at).params (Malformed p))) last
+    params_by_lem (Err (Malformed p)) f h =
+        by_test (Goes Params (params_by g last w (front_at w at).params (Err (Malformed p)))) last
         (λ t. rw (t, all_there t, begins, f) (sym (append-nil (pair_line 10 p))))
         (λ t.
-        by_test (Goes Params (params_by g last w (front_at w at).params (Malformed p))) (cut_short w p)
+        by_test (Goes Params (params_by g last w (front_at w at).params (Err (Malformed p)))) (cut_short w p)
         (λ c. rw (t, c))
         (λ c.
         let k : Kept w (front_at w at).verdict = rw f c in

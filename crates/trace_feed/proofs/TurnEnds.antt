@@ -1,6 +1,9 @@
 -- The ends of `turn`: it takes no more bytes than there are, more are wanted only where there are few, and so the window stays in the
 -- buffer and has room to read.
 -- Assumes nothing.
+use Rattle.std.proofs.Common.{Option, Result, Ok, Err}
+use Rattle.params_bytes.specs.declared.ReadError.{ReadError}
+use Rattle.params_bytes.specs.declared.ReadError.TheVariants.{Broken, Malformed}
 use Prim.{Unit, tt}
 use Prim.Native.Nat.{ℕ, ◌+◌, ◌-◌, ◌<◌, ◌≤◌}
 use mathlib.Core.Path.{◌≡◌, sym, ap, ◌∙◌}
@@ -10,14 +13,11 @@ use native.Mathlib.Omega.{arith}
 use lib.Dec.{eqb}
 use lib.ListN.{length}
 use lib.Seq.{length-sets}
-use Rattle.index.specs.declared.Found.{Found}
 use Rattle.index.proofs.Index.{both}
 use Rattle.index.proofs.Flags.{cond_case}
 use Rattle.records.specs.Records.{State}
 use Rattle.params.specs.Check.{first_broken}
 use Rattle.params_bytes.specs.Read.{front_at}
-use Rattle.params_bytes.specs.declared.Verdict.{Verdict}
-use Rattle.params_bytes.specs.declared.Verdict.TheVariants.{Accepted, Malformed, Broken}
 use Rattle.layout.specs.View.{state_of}
 use Rattle.trace_events.specs.declared.Edition.{Edition}
 use Rattle.trace_events.specs.Reading.{Event, event, unknown, malformed, short, cut_short, event_at}
@@ -49,16 +49,16 @@ event_most g len last st malformed h = tt
 event_most g len last st short h = cond_case (Most len) last (ended (pair_line 10 0)) wants (λ e. tt) (λ e. omega arith)
 
 params_most :
-    (g : Edition) (at : ℕ) (last : Bool) (s : List ℕ) (f : Found) (v : Verdict) →
+    (g : Edition) (at : ℕ) (last : Bool) (s : List ℕ) (f : Option ℕ) (v : Result ℕ ReadError) →
     Verdicts at (length s) f v →
     at ≤ 3 →
     Most (length s) (params_by g last s (front_at s at).params v)
-params_most g at last s f (Accepted next) h l = h.1
-params_most g at last s f (Malformed p) h l =
+params_most g at last s f (Ok next) h l = h.1
+params_most g at last s f (Err (Malformed p)) h l =
     cond_case (Most (length s)) (not last && cut_short s p) wants (ended (pair_line 10 p))
     (λ e. let c = cut_few s p (both (not last) (cut_short s p) e).1 in omega arith)
     (λ e. tt)
-params_most g at last s f (Broken i) h l = tt
+params_most g at last s f (Err (Broken i)) h l = tt
 
 front_most : (last : Bool) (s : List ℕ) (x : Front) → Near s x → Most (length s) (front_by last s x)
 unfolding params_turn

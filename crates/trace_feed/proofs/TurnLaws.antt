@@ -1,5 +1,10 @@
 -- The ends of `feed`: what each way through the code comes to.
 -- Assumes nothing.
+use Rattle.std.proofs.Common.{Option, Result, Ok, Err}
+use Rattle.std.proofs.Common.{Unit}
+use Rattle.params_bytes.specs.declared.ReadError.{ReadError}
+use Rattle.params_bytes.specs.declared.ReadError.TheVariants.{Broken, Malformed}
+use Rattle.lookup.specs.declared.FreshError.{FreshError}
 use Prim.Native.Nat.{ℕ, ◌+◌, ◌<◌, ◌≤◌}
 use mathlib.Core.Path.{◌≡◌, refl, sym, ap, ap₂, ◌∙◌}
 use mathlib.Core.Logic.{◌≢◌}
@@ -10,16 +15,12 @@ use native.Mathlib.Nat.{zero-add}
 use borrow.Author.Tests.{le-ltb, ne_eqb}
 use lib.Dec.{eqb}
 use lib.ListN.{length, get_or}
-use Rattle.index.specs.declared.Found.{Found}
 use Rattle.text.specs.Text.{Stored}
 use Rattle.records.specs.Records.{State}
 use Rattle.params.specs.Check.{first_broken}
 use Rattle.params_bytes.specs.Read.{front_at}
 use Rattle.params_bytes.specs.declared.Reading.{Reading}
-use Rattle.params_bytes.specs.declared.Verdict.{Verdict}
-use Rattle.params_bytes.specs.declared.Verdict.TheVariants.{Accepted, Malformed, Broken}
 use Rattle.layout.specs.View.{state_of}
-use Rattle.lookup.specs.declared.Made.{Made}
 use Rattle.lookup.specs.Fresh.{left_by as freshBy, Makes}
 use Rattle.rules.specs.Step.{step, action_room}
 use Rattle.trace_events.specs.declared.Edition.{Edition}
@@ -56,43 +57,43 @@ as_turn t u r table table' out out' e f = rw e f
 
 -- ---- the parameters
 module _ (g : Edition) (at : ℕ) (last : Bool) (s : List ℕ) (l : at ≤ length s) (q : Reading) (e : q ≡ front_at s at) where
-  by_verdict : (v : Verdict) → q.verdict ≡ v → params_turn g at last s ≡ params_by g last s q.params v
+  by_verdict : (v : Result ℕ ReadError) → q.verdict ≡ v → params_turn g at last s ≡ params_by g last s q.params v
   unfolding params_turn
   by_verdict v f = rw (← e, f)
 
-  verdict_is : (v : Verdict) → q.verdict ≡ v → Verdicts at (length s) (first_broken q.params) v
+  verdict_is : (v : Result ℕ ReadError) → q.verdict ≡ v → Verdicts at (length s) (first_broken q.params) v
   verdict_is v f = let k = front_is s at l in rw (← e, f) at k
 
   pub params_accepted :
-      (next : ℕ) (r : Made) (table table' out : List ℕ) →
-      q.verdict ≡ Accepted next →
+      (next : ℕ) (r : Result (Unit {0}) FreshError) (table table' out : List ℕ) →
+      q.verdict ≡ Ok next →
       Makes q.params r table table' →
       Feeds (params_turn g at last s) (Took g next 0) table table' out out
   params_accepted next r table table' out f k =
-      as_turn (params_turn g at last s) (params_by g last s q.params (Accepted next)) (Took g next 0) table table' out out
-      (by_verdict (Accepted next) f)
+      as_turn (params_turn g at last s) (params_by g last s q.params (Ok next)) (Took g next 0) table table' out out
+      (by_verdict (Ok next) f)
       (record {
         answer = refl;
-        state = k.state ∙ ap (λ (x : Found). freshBy x q.params (state_of table)) (verdict_is (Accepted next) f).0;
+        state = k.state ∙ ap (λ (x : Option ℕ). freshBy x q.params (state_of table)) (verdict_is (Ok next) f).0;
         bytes = refl;
         room = omega arith;
       })
 
   pub params_broken :
       (i n : ℕ) (table out out' : List ℕ) →
-      q.verdict ≡ Broken i →
+      q.verdict ≡ Err (Broken i) →
       Stored out 0 (pair_line 9 i) n out' × (n ≤ 0 + 42) →
       Feeds (params_turn g at last s) (Ended n) table table out out'
   params_broken i n table out out' f w =
-      as_turn (params_turn g at last s) (ended (pair_line 9 i)) (Ended n) table table out out' (by_verdict (Broken i) f)
+      as_turn (params_turn g at last s) (ended (pair_line 9 i)) (Ended n) table table out out' (by_verdict (Err (Broken i)) f)
       (line_ends 9 i n table out out' w)
 
-  module _ (p : ℕ) (c : Bool) (f : q.verdict ≡ Malformed p) (k : c ≡ cut_short s p) where
+  module _ (p : ℕ) (c : Bool) (f : q.verdict ≡ Err (Malformed p)) (k : c ≡ cut_short s p) where
     pub params_want :
         (table out : List ℕ) → (not last && c) ≡ true → Feeds (params_turn g at last s) Wants table table out out
     params_want table out h =
         as_turn (params_turn g at last s) wants Wants table table out out
-        (by_verdict (Malformed p) f
+        (by_verdict (Err (Malformed p)) f
         ∙ ap (λ (b : Bool). cond b wants (ended (pair_line 10 p))) (ap (λ (b : Bool). not last && b) (sym k) ∙ h))
         (record { answer = refl; state = refl; bytes = refl; room = omega arith })
 
@@ -103,7 +104,7 @@ module _ (g : Edition) (at : ℕ) (last : Bool) (s : List ℕ) (l : at ≤ lengt
         Feeds (params_turn g at last s) (Ended n) table table out out'
     params_malformed n table out out' h w =
         as_turn (params_turn g at last s) (ended (pair_line 10 p)) (Ended n) table table out out'
-        (by_verdict (Malformed p) f
+        (by_verdict (Err (Malformed p)) f
         ∙ ap (λ (b : Bool). cond b wants (ended (pair_line 10 p))) (ap (λ (b : Bool). not last && b) (sym k) ∙ h))
         (line_ends 10 p n table out out' w)
 

@@ -1,10 +1,11 @@
 -- What the trace program prints for a whole input (01, "The trace program"): "sheet (147 numbers), then events", behind the front of its
 -- edition.
+use Rattle.std.specs.Prelude.{Result, Ok, Err}
+use Rattle.params_bytes.specs.declared.ReadError.{ReadError}
+use Rattle.params_bytes.specs.declared.ReadError.TheVariants.{Broken, Malformed}
 use Rattle.std.specs.Prelude.{ℕ, zero, suc, List, [], ◌∷◌, ◌++◌, length, drop}
 use Rattle.records.specs.Records.{State}
 use Rattle.params.specs.declared.Params.{Params}
-use Rattle.params_bytes.specs.declared.Verdict.{Verdict}
-use Rattle.params_bytes.specs.declared.Verdict.TheVariants.{Accepted, Malformed, Broken}
 use Rattle.params_bytes.specs.Read.{front_at}
 use Rattle.lookup.specs.Fresh.{fresh_state}
 use Rattle.rules.specs.Step.{step, action_room}
@@ -41,10 +42,10 @@ events_text e st s = text_from e (length s) st s
 
 -- ---- the parameters before them
 -- "A bad sheet prints its number and place and stops"
-abbrev pub text_by : Edition → List ℕ → Params → Verdict → List ℕ
-text_by e s params (Accepted next) = events_text e (fresh_state params) (drop next s)
-text_by e s params (Malformed place) = pair_line 10 place
-text_by e s params (Broken i) = pair_line 9 i
+abbrev pub text_by : Edition → List ℕ → Params → Result ℕ ReadError → List ℕ
+text_by e s params (Ok next) = events_text e (fresh_state params) (drop next s)
+text_by e s params (Err (Malformed place)) = pair_line 10 place
+text_by e s params (Err (Broken i)) = pair_line 9 i
 
 -- ---- the front before these
 -- "another third byte: 9 2, and stop"; an input that ends with the two zero bytes is cut short there

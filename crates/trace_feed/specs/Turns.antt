@@ -1,11 +1,12 @@
 -- One turn of the trace program: what it makes of the bytes that are there, at the front of what is left of the input. `last`: no others
 -- come.
+use Rattle.std.specs.Prelude.{Result, Ok, Err}
+use Rattle.params_bytes.specs.declared.ReadError.{ReadError}
+use Rattle.params_bytes.specs.declared.ReadError.TheVariants.{Broken, Malformed}
 use Rattle.std.specs.Prelude.{ℕ, ◌+◌, ◌-◌, ◌<◌, ◌≤◌, ◌≡◌, Bool, true, false, not, cond, ◌&&◌, List, [], eqb, ltb, length, take, drop}
 use Rattle.std.proofs.lemmas.List.Edits.{sets}
 use Rattle.records.specs.Records.{State}
 use Rattle.params.specs.declared.Params.{Params as Parameters}
-use Rattle.params_bytes.specs.declared.Verdict.{Verdict}
-use Rattle.params_bytes.specs.declared.Verdict.TheVariants.{Accepted, Malformed, Broken}
 use Rattle.params_bytes.specs.Read.{front_at}
 use Rattle.layout.specs.View.{state_of}
 use Rattle.lookup.specs.Fresh.{fresh_state}
@@ -44,10 +45,10 @@ event_turn e last st short = cut_turn last (pair_line 10 0)
 unfoldable pub events_turn : Edition → Bool → State → List ℕ → Turn
 events_turn e last st s = cond (last && eqb (length s) 0) (ended []) (event_turn e last st (event_at e s 0))
 
-abbrev pub params_by : Edition → Bool → List ℕ → Parameters → Verdict → Turn
-params_by e last s params (Accepted next) = took e next [] (fresh_state params)
-params_by e last s params (Malformed place) = cond (not last && cut_short s place) wants (ended (pair_line 10 place))
-params_by e last s params (Broken i) = ended (pair_line 9 i)
+abbrev pub params_by : Edition → Bool → List ℕ → Parameters → Result ℕ ReadError → Turn
+params_by e last s params (Ok next) = took e next [] (fresh_state params)
+params_by e last s params (Err (Malformed place)) = cond (not last && cut_short s place) wants (ended (pair_line 10 place))
+params_by e last s params (Err (Broken i)) = ended (pair_line 9 i)
 
 -- the parameters at a place
 unfoldable pub params_turn : Edition → ℕ → Bool → List ℕ → Turn

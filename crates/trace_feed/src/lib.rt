@@ -11,7 +11,7 @@ ghost use Rattle.trace_feed.specs.Front.{of_third, front_in};
 ghost use Rattle.trace_feed.specs.Turns.{params_turn, front_turn, events_turn, turn_of, Feeds, Inside, filled_by, start_window, Turns};
 
 use layout::CELLS;
-use params_bytes::Verdict;
+use params_bytes::ReadError;
 use trace_events::Edition;
 use trace_events::lines::put_pair;
 use trace_events::reading::cut_short;
@@ -105,17 +105,17 @@ fn feed_params(
     let reading = params_bytes::read_front(s, at);
     let verdict = reading.verdict;
     match verdict {
-        Verdict::Accepted(next) => {
-            router::fresh(reading.params, table);
+        Ok(next) => {
+            let _ = router::fresh(reading.params, table);
             Fed::Took(edition, next, 0)
         }
-        Verdict::Malformed(place) => {
+        Err(ReadError::Malformed(place)) => {
             if !last & cut_short(s, place) {
                 return Fed::Wants;
             }
             Fed::Ended(put_pair(out, 0, 10, place as u64))
         }
-        Verdict::Broken(i) => Fed::Ended(put_pair(out, 0, 9, i as u64)),
+        Err(ReadError::Broken(i)) => Fed::Ended(put_pair(out, 0, 9, i as u64)),
     }
 }
 
@@ -217,10 +217,8 @@ fn shift(buf: &mut [u8], at: usize, end: usize)
     ensures { buf.new ≡ sets buf.old 0 (take (end - at) (drop at buf.old)) }
 {
     let n = end - at;
-    let mut k: usize = 0;
-    while k < n {
+    for k in 0..n {
         buf[k] = buf[at + k];
-        k += 1;
     }
 }
 

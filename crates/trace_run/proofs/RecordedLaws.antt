@@ -1,6 +1,10 @@
 -- A recorded list: the calls made so far and the rest of the events, turn by turn; the ends of a run; and that the list is all that stands
 -- in the bytes.
 -- Assumes nothing.
+use Rattle.std.proofs.Common.{Option, Some, None, Result, Ok, Err}
+use Rattle.std.proofs.Common.{Unit, tt}
+use Rattle.lookup.specs.declared.FreshError.{FreshError}
+use Rattle.lookup.specs.declared.FreshError.TheVariants.{Broken}
 use Prim.Native.Nat.{ℕ, zero, suc, ◌+◌, ◌-◌, ◌<◌, ◌≤◌}
 use mathlib.Core.Path.{◌≡◌, refl, sym, ap, ap₂, ◌∙◌}
 use mathlib.Core.Bool.{false, false≢true}
@@ -15,15 +19,11 @@ use Rattle.index.proofs.Lists.{sets_append}
 use Rattle.effects.specs.Actions.{Action, numbers_of}
 use Rattle.rules.specs.Reply.{Reply}
 use Rattle.answers.specs.Answers.{answer_code}
-use Rattle.index.specs.declared.Found.{Found}
-use Rattle.index.specs.declared.Found.TheVariants.{At, Nothing}
 use Rattle.index.proofs.Flags.{cond_case}
 use Rattle.varint.proofs.GroupLaws.{read_at_end}
 use Rattle.params.specs.Check.{first_broken}
 use Rattle.records.specs.Records.{State, param_count}
 use Rattle.layout.specs.View.{state_of}
-use Rattle.lookup.specs.declared.Made.{Made as Fresh}
-use Rattle.lookup.specs.declared.Made.TheVariants.{Done, Broken}
 use Rattle.lookup.specs.Fresh.{fresh_state, made_of, left_by, Makes}
 use Rattle.rules.specs.declared.Answer.{Answer}
 use Rattle.rules.specs.Step.{step}
@@ -168,11 +168,11 @@ module _ (d : Edition) (params : Params) (s list₀ told₀ : List ℕ) (l : len
   whole = recording_of d (length list₀) (length told₀) s
 
   -- demand 3 of the list, for parameters that pass the check
-  holds : first_broken params ≡ Nothing → Holds (fresh params) whole.calls
+  holds : first_broken params ≡ None → Holds (fresh params) whole.calls
   holds e = demand3 (fresh params) whole.calls (record { size = l; passes = e; begins = from_fresh refl })
 
   -- the calls made are all
-  module _ (at calls : ℕ) (start table list told : List ℕ) (n : first_broken params ≡ Nothing)
+  module _ (at calls : ℕ) (start table list told : List ℕ) (n : first_broken params ≡ None)
       (g : Going d params s list₀ told₀ at calls table list told) where
     ran :
         (table' list' : List ℕ) →
@@ -215,26 +215,26 @@ module _ (d : Edition) (params : Params) (s list₀ told₀ : List ℕ) (l : len
         (p.actions ∙ ap (λ (m : List Action). sets list 0 (numbers_of m)) x.1)
 
 -- the answer of `fresh` tells whether the parameters pass
-passes : (f : Found) (r : Fresh) → r ≡ made_of f → r ≡ Done → f ≡ Nothing
-passes (At i) r e g = let z : ◌≡◌ {A = ℕ} 0 1 = cc in absurd (omega arith)
-passes Nothing r e g = refl
+passes : (f : Option ℕ) (r : Result (Unit {0}) FreshError) → r ≡ made_of f → r ≡ Ok tt → f ≡ None
+passes (Some i) r e g = let z : ◌≡◌ {A = ℕ} 0 1 = cc in absurd (omega arith)
+passes None r e g = refl
 
-breaks : (f : Found) (r : Fresh) (i : ℕ) → r ≡ made_of f → r ≡ Broken i → f ≡ At i
-breaks (At j) r i e g = cc
-breaks Nothing r i e g = let z : ◌≡◌ {A = ℕ} 0 1 = cc in absurd (omega arith)
+breaks : (f : Option ℕ) (r : Result (Unit {0}) FreshError) (i : ℕ) → r ≡ made_of f → r ≡ Err (Broken i) → f ≡ Some i
+breaks (Some j) r i e g = cc
+breaks None r i e g = let z : ◌≡◌ {A = ℕ} 0 1 = cc in absurd (omega arith)
 
-no_both : {P : Type 0} (i : ℕ) → At i ≡ Nothing → P
+no_both : {P : Type 0} (i : ℕ) → Some i ≡ None → P
 no_both i e = let z : ◌≡◌ {A = ℕ} 0 1 = cc in absurd (omega arith)
 
-module _ (params : Params) (r : Fresh) (table table' : List ℕ) (m : Makes params r table table') where
-  pub accepted : r ≡ Done → first_broken params ≡ Nothing
+module _ (params : Params) (r : Result (Unit {0}) FreshError) (table table' : List ℕ) (m : Makes params r table table') where
+  pub accepted : r ≡ Ok tt → first_broken params ≡ None
   accepted e = passes (first_broken params) r m.answer e
 
-  pub begins : r ≡ Done → state_of table' ≡ fresh_state params
-  begins e = m.state ∙ ap (λ (f : Found). left_by f params (state_of table)) (accepted e)
+  pub begins : r ≡ Ok tt → state_of table' ≡ fresh_state params
+  begins e = m.state ∙ ap (λ (f : Option ℕ). left_by f params (state_of table)) (accepted e)
 
   pub run_refused :
-      (d : Edition) (s list told : List ℕ) (i : ℕ) → length params.numbers ≡ param_count → r ≡ Broken i →
+      (d : Edition) (s list told : List ℕ) (i : ℕ) → length params.numbers ≡ param_count → r ≡ Err (Broken i) →
       Runs d params s (Refused i) table table' list list told told
   run_refused d s list told i l e =
       let f = breaks (first_broken params) r i m.answer e in

@@ -1,10 +1,9 @@
 -- A recorded list of calls: the events that stand in a trace's bytes, behind its parameters. Lists have the last call first, as in crate
 -- history.
+use Rattle.std.specs.Prelude.{Option, Some, None}
 use Rattle.std.specs.Prelude.{ℕ, zero, suc, ◌≤◌, ◌≡◌, Bool, true, false, List, [], ◌∷◌, ◌++◌, length}
 use Rattle.std.proofs.lemmas.List.Edits.{sets}
 use Rattle.params.specs.declared.Params.{Params}
-use Rattle.index.specs.declared.Found.{Found}
-use Rattle.index.specs.declared.Found.TheVariants.{At, Nothing}
 use Rattle.params.specs.Check.{first_broken}
 use Rattle.records.specs.Records.{State}
 use Rattle.layout.specs.View.{state_of}
@@ -67,13 +66,13 @@ actions_after params [] list = list
 actions_after params (c ∷ before) list = sets (actions_after params before list) 0 (numbers_of (reply_to params before c).actions)
 
 -- refused parameters with their place, or the whole list
-abbrev pub answer_of : Found → Recording → Recorded
-answer_of (At i) q = Refused i
-answer_of Nothing q = Ran q.place (length q.calls)
+abbrev pub answer_of : Option ℕ → Recording → Recorded
+answer_of (Some i) q = Refused i
+answer_of None q = Ran q.place (length q.calls)
 
-abbrev pub left_of : Found → Params → Recording → State → State
-left_of (At i) params q st = st
-left_of Nothing params q st = after (fresh params) q.calls
+abbrev pub left_of : Option ℕ → Params → Recording → State → State
+left_of (Some i) params q st = st
+left_of None params q st = after (fresh params) q.calls
 
 -- 01's number of an answer, and the values that go with it: 9 with the first index or 200 + the first rule; 0 with the place after the last
 -- event and how many calls were made
@@ -92,9 +91,9 @@ pub record Runs (e : Edition) (params : Params) (s : List ℕ) (r : Recorded) (t
   -- the table holds the rules' state after the whole list
   pub state : state_of table' ≡ left_of (first_broken params) params (recording_of e (length list) (length told) s) (state_of table)
   -- the answers, and the actions of the last calls
-  pub answers : first_broken params ≡ Nothing → told' ≡ sets told 0 (answers_to params (recording_of e (length list) (length told) s).calls)
-  pub actions : first_broken params ≡ Nothing → list' ≡ actions_after params (recording_of e (length list) (length told) s).calls list
+  pub answers : first_broken params ≡ None → told' ≡ sets told 0 (answers_to params (recording_of e (length list) (length told) s).calls)
+  pub actions : first_broken params ≡ None → list' ≡ actions_after params (recording_of e (length list) (length told) s).calls list
   -- refused parameters change nothing
   pub kept : recorded_number r ≡ 9 → (table' ≡ table) × (list' ≡ list) × (told' ≡ told)
   -- and demand 3 holds of the list
-  pub demand3 : first_broken params ≡ Nothing → Holds (fresh params) (recording_of e (length list) (length told) s).calls
+  pub demand3 : first_broken params ≡ None → Holds (fresh params) (recording_of e (length list) (length told) s).calls

@@ -5,7 +5,7 @@
 ghost use Rattle.trace_run.specs.Recorded.{Runs};
 
 use layout::CELLS;
-use lookup::Made;
+use lookup::FreshError;
 use params::Params;
 use trace_events::Edition;
 use trace_step::Performed;
@@ -33,7 +33,7 @@ pub fn run(
     ensures { Runs edition params s.now result table.old table.new actions.old
         actions.new told.old told.new }
 {
-    if let Made::Broken(i) = router::fresh(params, table) {
+    if let Err(FreshError::Broken(i)) = router::fresh(params, table) {
         return Recorded::Refused(i);
     }
     let mut at: usize = 0;

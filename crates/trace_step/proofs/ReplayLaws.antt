@@ -1,5 +1,6 @@
 -- The ends of one event's functions: which call a kind is, how the numbers become an event, and what is printed of a reply.
 -- Assumes nothing.
+use Rattle.std.proofs.Common.{Option, Some, None}
 use Prim.Native.Nat.{ℕ, zero, suc, ◌+◌, ◌-◌, ◌≤◌, ◌<◌}
 use mathlib.Core.Path.{◌≡◌, refl, sym, ap, ap₂, ◌∙◌}
 use mathlib.Core.Logic.{◌≢◌}
@@ -18,8 +19,6 @@ use lib.Seq.{sets, get_or-take}
 use Rattle.index.proofs.Flags.{by_order, by_test}
 use Rattle.varint.specs.Groups.{read_at}
 use Rattle.varint.specs.Codes.{number_of}
-use Rattle.varint.specs.declared.Read.{Read}
-use Rattle.varint.specs.declared.Read.TheVariants.{Number, Bad}
 use Rattle.text.specs.Text.{Stored}
 use Rattle.records.specs.Records.{State, slot_count}
 use Rattle.layout.specs.View.{state_of}
@@ -356,7 +355,7 @@ module _ (g : Edition) (s : List ℕ) (kind at n : ℕ) (us : Readings) (v : Lis
         (performed (call_of kind v []) a table table' list list' us.place p)
 
 -- ---- the ends of `perform`
-module _ (g : Edition) (s : List ℕ) (at : ℕ) (q : Read) (e : q ≡ read_at 18446744073709551615 s at) where
+module _ (g : Edition) (s : List ℕ) (at : ℕ) (q : Option (ℕ × ℕ)) (e : q ≡ read_at 18446744073709551615 s at) where
   at_kind :
       (x : Event) (table table' list list' : List ℕ) (r : Performed) →
       of_kind g s at q ≡ x →
@@ -368,7 +367,7 @@ module _ (g : Edition) (s : List ℕ) (at : ℕ) (q : Read) (e : q ≡ read_at 1
 
   pub perform_bad :
       (table list : List ℕ) (r : Performed) →
-      q ≡ Bad →
+      q ≡ None →
       r ≡ cond (cut_short s at) CutShort Malformed →
       Performs (perform_event (state_of table) (length list) (event_at g s at)) r table list list
   perform_bad table list r f h =
@@ -376,7 +375,7 @@ module _ (g : Edition) (s : List ℕ) (at : ℕ) (q : Read) (e : q ≡ read_at 1
 
   pub perform_unknown :
       (table list : List ℕ) (kind next n : ℕ) →
-      q ≡ Number kind next →
+      q ≡ Some (kind, next) →
       n ≡ arity g kind →
       n ≡ 0 →
       Performs (perform_event (state_of table) (length list) (event_at g s at)) Unknown table list list
@@ -388,7 +387,7 @@ module _ (g : Edition) (s : List ℕ) (at : ℕ) (q : Read) (e : q ≡ read_at 1
 
   pub perform_known :
       (table table' list list' : List ℕ) (r : Performed) (kind next n : ℕ) →
-      q ≡ Number kind next →
+      q ≡ Some (kind, next) →
       n ≡ arity g kind →
       n ≢ 0 →
       Performs (perform_event (state_of table) (length list) (of_numbers g s kind (numbers_from n s next))) r table' list list' →

@@ -15,7 +15,6 @@ use rules::Answer;
 use trace_events::Edition;
 use trace_events::lines::{LINE_ROOM, put_pair, put_reply};
 use trace_events::reading::{NUMBERS, arity, cut_short, order_size, read_numbers, widen};
-use varint::Read;
 
 // The longest protocol name that is read.
 const NAME_MOST: u64 = 64;
@@ -256,7 +255,7 @@ pub fn perform(
     ensures { Performs (perform_event (state_of table.old) (length actions.old) (event_at edition s.now at)) result
         table.new actions.old actions.new }
 {
-    let Read::Number(kind, next) = varint::read_u64(s, at) else {
+    let Some((kind, next)) = varint::read_u64(s, at) else {
         return unread(s, at);
     };
     let n = arity(edition, kind);

@@ -22,12 +22,10 @@ fn new_id(table: &[u64], slot: usize) -> bool
     ensures { result ≡ new_id (state_of table.now) slot }
 {
     let id = layout::load_id(table, slot);
-    let mut k: usize = 0;
-    while k < slot {
+    for k in 0..slot {
         if !apart(id, layout::load_id(table, k)) {
             return false;
         }
-        k += 1;
     }
     true
 }
@@ -64,12 +62,10 @@ pub fn ids_distinct(table: &[u64], end: usize) -> bool
     ensures { result ≡ every slot_count (new_id (state_of table.now)) }
 {
     let mut seen: [u64; WORDS] = [0; WORDS];
-    let mut slot: usize = 0;
-    while slot < end {
+    for slot in 0..end {
         if !next_new(table, &mut seen, slot) {
             return false;
         }
-        slot += 1;
     }
     true
 }

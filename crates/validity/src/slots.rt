@@ -13,12 +13,10 @@ fn groups_each(table: &[u64], n: usize) -> bool
     requires { InUse table.now n }
     ensures { result ≡ true → (s : ℕ) → s < n → GroupsAt (state_of table.now) s }
 {
-    let mut s: usize = 0;
-    while s < n {
+    for s in 0..n {
         if !rising_ok(layout::load_groups(table, s)) {
             return false;
         }
-        s += 1;
     }
     true
 }
@@ -48,12 +46,10 @@ fn names_each(table: &[u64], n: usize) -> bool
     requires { InUse table.now n }
     ensures { result ≡ true → (s : ℕ) → s < n → NameAt (state_of table.now) s }
 {
-    let mut s: usize = 0;
-    while s < n {
+    for s in 0..n {
         if !name_at(table, s) {
             return false;
         }
-        s += 1;
     }
     true
 }
@@ -82,12 +78,10 @@ fn retains_each(table: &[u64], n: usize, m: u64) -> bool
     requires { InUse table.now n }
     ensures { result ≡ true → (s : ℕ) → s < n → RetainAt (state_of table.now) m s }
 {
-    let mut s: usize = 0;
-    while s < n {
+    for s in 0..n {
         if !retain_at(table, s, m) {
             return false;
         }
-        s += 1;
     }
     true
 }

@@ -276,10 +276,8 @@ fn topics_ok(table: &[u64], slot: usize, status: u64, explicit: u64) -> bool
     ensures { result ≡ every topic_count (topic_ok_at (state_of table.now) slot status explicit) }
 {
     let mut ok = true;
-    let mut t: usize = 0;
-    while t < TOPICS {
+    for t in 0..TOPICS {
         ok = ok & topic_at(table, slot, status, explicit, t);
-        t += 1;
     }
     ok
 }
@@ -290,10 +288,8 @@ pub fn caps(table: &[u64], j: usize) -> [u64; TOPICS]
     ensures { (t : ℕ) → t < topic_count → get_or result t 0 ≡ topic_param (state_of table.now) t j }
 {
     let mut r = [0u64; TOPICS];
-    let mut t: usize = 0;
-    while t < TOPICS {
+    for t in 0..TOPICS {
         r[t] = topic_param(table, t, j);
-        t += 1;
     }
     r
 }
@@ -321,13 +317,11 @@ fn is_small(table: &[u64], slot: usize) -> bool
     let mut p4: u64 = 0;
     let mut p3b: u64 = 0;
     let mut subscribed: u64 = 0;
-    let mut t: usize = 0;
-    while t < TOPICS {
+    for t in 0..TOPICS {
         let r = layout::load_topic(table, slot * TOPICS + t);
         p4 = p4 | r.p4;
         p3b = p3b | r.p3b;
         subscribed = subscribed | r.subscribed;
-        t += 1;
     }
     (p4 <= 1000000) & (p3b <= 1000000000000) & (subscribed <= 1)
 }
@@ -346,14 +340,12 @@ fn small_topics(
     ensures { result ≡ every topic_count (topic_ok_at (state_of table.now) slot 1 explicit) }
 {
     let clock = layout::load_clock(table);
-    let mut t: usize = 0;
-    while t < TOPICS {
+    for t in 0..TOPICS {
         let joined = layout::load_joined(table, t);
         let r = layout::load_topic(table, slot * TOPICS + t);
         if !small_topic_ok(explicit, joined, clock, caps2[t], caps3[t], r) {
             return false;
         }
-        t += 1;
     }
     true
 }
@@ -405,12 +397,10 @@ fn zero_topics(table: &[u64], slot: usize) -> bool
     requires { (length table.now ≡ cell_count) × (slot < slot_count) }
     ensures { result ≡ every topic_count (zero_topic_at (state_of table.now) slot) }
 {
-    let mut t: usize = 0;
-    while t < TOPICS {
+    for t in 0..TOPICS {
         if !zero_topic(layout::load_topic(table, slot * TOPICS + t)) {
             return false;
         }
-        t += 1;
     }
     true
 }
@@ -448,12 +438,10 @@ fn slots_ok(table: &[u64], end: usize) -> bool
 {
     let caps2 = caps(table, param::P2_CAP);
     let caps3 = caps(table, param::P3_CAP);
-    let mut slot: usize = 0;
-    while slot < end {
+    for slot in 0..end {
         if !slot_ok(table, &caps2, &caps3, slot) {
             return false;
         }
-        slot += 1;
     }
     true
 }
@@ -470,10 +458,8 @@ fn joined_ok(table: &[u64]) -> bool
     ensures { result ≡ every topic_count (joined_ok (state_of table.now)) }
 {
     let mut ok = true;
-    let mut t: usize = 0;
-    while t < TOPICS {
+    for t in 0..TOPICS {
         ok = ok & joined_at(table, t);
-        t += 1;
     }
     ok
 }
@@ -485,13 +471,11 @@ fn params_ok(table: &[u64]) -> bool
 {
     let setup = layout::load_setup(table);
     let mut codes = [0u64; PARAMS];
-    let mut i: usize = 0;
-    while i < PARAMS {
+    for i in 0..PARAMS {
         if MAX_SIZE < layout::load_magnitude(table, i) {
             return false;
         }
         codes[i] = layout::load_code(table, i);
-        i += 1;
     }
     params::accepts_codes(setup.edition, &codes)
 }

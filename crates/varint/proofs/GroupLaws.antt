@@ -1,6 +1,7 @@
 -- The laws of seven-bit groups, once for every width: what was written is read back with any bytes after it (`read_at_encode`), and what is
 -- read was written exactly so (`read_at_written`).
 -- Assumes nothing.
+use Rattle.std.proofs.Common.{Option, Some, None}
 use Rattle.index.proofs.Kit.{ℕ, ◌+◌, ◌-◌, ◌*◌, ◌<◌, ◌≤◌, ◌≡◌, refl, sym, ap, ◌∙◌, arith, by_test}
 use Prim.Native.Nat.{zero, suc, ◌/◌, ◌%◌, ◌^◌, zero-le}
 use mathlib.Core.Bool.{cond}
@@ -12,10 +13,6 @@ use borrow.Author.Tests.{lt-ltb, le-ltb, ltb-true, ltb-false, le-leb, lt-leb, le
 use lib.Dec.{ltb, leb, eqb, eqb-suc-zero}
 use lib.ListN.{length, set, drop, get_or, drop_of_length-le}
 use lib.Seq.{drop-cons, sets, set_comm, drop-append_seam, get_or-drop, drop-drop}
-use Rattle.varint.specs.declared.Read.{Read}
-use Rattle.varint.specs.declared.Read.TheVariants.{Number, Bad}
-use Rattle.varint.specs.declared.Put.{Put}
-use Rattle.varint.specs.declared.Put.TheVariants.{Next, Full}
 use Rattle.varint.specs.Groups.{groups, encode, Got, got, none, before, decode, up_to, as_read, read_at, after_more, last_group, put_of}
 
 -- more room changes nothing
@@ -110,16 +107,16 @@ written (b ∷ s) v n h e =
     written_by b s (decode s) v n big (h 0) (λ v n q. written s v n (λ k. h (suc k)) q) (sym (decode_more b s big) ∙ e))
 
 -- ---- the reader's answer at a place, by the byte that stands there
-pub read_at_end : (top : ℕ) (s : List ℕ) (at : ℕ) → length s ≤ at → read_at top s at ≡ Bad
+pub read_at_end : (top : ℕ) (s : List ℕ) (at : ℕ) → length s ≤ at → read_at top s at ≡ None
 unfolding read_at decode
 read_at_end top s at h = rw (drop_of_length-le s h)
 
 pub read_at_last : (top : ℕ) (s : List ℕ) (at : ℕ) → at < length s → get_or s at 0 < 128 → read_at top s at
-    ≡ cond (leb (get_or s at 0) top) (Number (get_or s at 0) (at + 1)) Bad
+    ≡ cond (leb (get_or s at 0) top) (Some (get_or s at 0, at + 1)) None
 unfolding read_at
 read_at_last top s at h l =
     rw (drop-cons s at 0 h, decode_last (get_or s at 0) (drop (suc at) s) l)
-    (by_test (as_read at (up_to top (got (get_or s at 0) 1)) ≡ cond (leb (get_or s at 0) top) (Number (get_or s at 0) (at + 1)) Bad)
+    (by_test (as_read at (up_to top (got (get_or s at 0) 1)) ≡ cond (leb (get_or s at 0) top) (Some (get_or s at 0, at + 1)) None)
     (leb (get_or s at 0) top) (λ t. rw t) (λ t. rw t))
 
 more_by : (top at b : ℕ) (g : Got) → 128 ≤ b → as_read at (up_to top (before b g)) ≡ after_more top b (as_read (suc at) (up_to (top / 128) g))
@@ -130,8 +127,8 @@ more_by top at b (got (suc v) n) h =
     (leb (suc v) (top / 128))
     (λ t. rw (t, eqb-suc-zero v)
     (by_test (as_read at (cond (leb (suc v * 128 + (b - 128)) top) (got (suc v * 128 + (b - 128)) (suc n)) none)
-    ≡ cond (leb (suc v * 128 + (b - 128)) top) (Number (suc v * 128 + (b - 128)) (suc at + n)) Bad) (leb (suc v * 128 + (b - 128)) top)
-    (λ u. rw u (ap (λ (k : ℕ). Number (suc v * 128 + (b - 128)) k) (omega arith)))
+    ≡ cond (leb (suc v * 128 + (b - 128)) top) (Some (suc v * 128 + (b - 128), suc at + n)) None) (leb (suc v * 128 + (b - 128)) top)
+    (λ u. rw u (ap (λ (k : ℕ). Some (suc v * 128 + (b - 128), k)) (omega arith)))
     (λ u. rw u)))
     (λ t. let far : top / 128 < suc v = leb-false (suc v) (top / 128) t in rw (t, lt-leb (suc v * 128 + (b - 128)) top (omega arith)))
 
@@ -143,34 +140,34 @@ read_at_more top s at h l =
     (more_by top at (get_or s at 0) (decode (drop (suc at) s)) l)
 
 -- the two ends of `after_more`, by the tests that lead there
-pub after_more_far : (top b v next : ℕ) (r : Read) → r ≡ Number v next → (v ≡ 0 → ⊥) → top < v * 128 + (b - 128) → Bad ≡ after_more top b r
+pub after_more_far : (top b v next : ℕ) (r : Option (ℕ × ℕ)) → r ≡ Some (v, next) → (v ≡ 0 → ⊥) → top < v * 128 + (b - 128) → None ≡ after_more top b r
 after_more_far top b v next r e z h = rw (e, ne_eqb v 0 z, lt-leb (v * 128 + (b - 128)) top h)
 
-pub after_more_near : (top b v next : ℕ) (r : Read) → r ≡ Number v next → (v ≡ 0 → ⊥) → v * 128 + (b - 128) ≤ top →
-    Number (v * 128 + (b - 128)) next ≡ after_more top b r
+pub after_more_near : (top b v next : ℕ) (r : Option (ℕ × ℕ)) → r ≡ Some (v, next) → (v ≡ 0 → ⊥) → v * 128 + (b - 128) ≤ top →
+    Some (v * 128 + (b - 128), next) ≡ after_more top b r
 after_more_near top b v next r e z h = rw (e, ne_eqb v 0 z, le-leb (v * 128 + (b - 128)) top h)
 
 -- the two ends of `read_up_to`
 -- a byte with its top bit set begins no number below 128
-pub after_small : (top b : ℕ) (r : Read) → top < 128 → after_more top b r ≡ Bad
-after_small top b Bad h = refl
-after_small top b (Number v next) h =
-    by_test (after_more top b (Number v next) ≡ Bad) (eqb v 0)
+pub after_small : (top b : ℕ) (r : Option (ℕ × ℕ)) → top < 128 → after_more top b r ≡ None
+after_small top b None h = refl
+after_small top b (Some (v, next)) h =
+    by_test (after_more top b (Some (v, next)) ≡ None) (eqb v 0)
     (λ t. rw t)
-    (λ t. let n : v ≡ 0 → ⊥ = eqb-false v 0 t in sym (after_more_far top b v next (Number v next) refl n (omega arith)))
+    (λ t. let n : v ≡ 0 → ⊥ = eqb-false v 0 t in sym (after_more_far top b v next (Some (v, next)) refl n (omega arith)))
 
-pub small_is : (top at low : ℕ) (s : List ℕ) → low ≡ get_or s at 0 → at < length s → 128 ≤ low → top < 128 → Bad ≡ read_at top s at
+pub small_is : (top at low : ℕ) (s : List ℕ) → low ≡ get_or s at 0 → at < length s → 128 ≤ low → top < 128 → None ≡ read_at top s at
 small_is top at low s e i h k =
     let b : 128 ≤ get_or s at 0 = omega arith in
     sym (read_at_more top s at i b ∙ after_small top (get_or s at 0) (read_at (top / 128) s (at + 1)) k)
 
-pub last_is : (top at low : ℕ) (s : List ℕ) (r : Read) → r ≡ last_group top low (at + 1) → low ≡ get_or s at 0 → at < length s → low < 128 → r
+pub last_is : (top at low : ℕ) (s : List ℕ) (r : Option (ℕ × ℕ)) → r ≡ last_group top low (at + 1) → low ≡ get_or s at 0 → at < length s → low < 128 → r
     ≡ read_at top s at
 last_is top at low s r e b h l = e ∙ ap (λ (x : ℕ). last_group top x (at + 1)) b ∙ sym (read_at_last top s at h (omega arith))
 
-pub more_is : (top at low : ℕ) (s : List ℕ) (r q : Read) → r ≡ after_more top low q → q ≡ read_at (top / 128) s (at + 1) → low ≡ get_or s at 0 →
+pub more_is : (top at low : ℕ) (s : List ℕ) (r q : Option (ℕ × ℕ)) → r ≡ after_more top low q → q ≡ read_at (top / 128) s (at + 1) → low ≡ get_or s at 0 →
     at < length s → 128 ≤ low → r ≡ read_at top s at
-more_is top at low s r q e f b h l = e ∙ ap₂ (λ (x : ℕ) (y : Read). after_more top x y) b f ∙ sym (read_at_more top s at h (omega arith))
+more_is top at low s r q e f b h l = e ∙ ap₂ (λ (x : ℕ) (y : Option (ℕ × ℕ)). after_more top x y) b f ∙ sym (read_at_more top s at h (omega arith))
 
 -- ---- the two ends of the writer
 pub length_last : (n : ℕ) → n < 128 → length (encode n) ≡ 1
@@ -192,56 +189,56 @@ sets_set (v ∷ vs) l i j a h =
     ∙ sets_set vs (set l j v) i (suc j) a (omega arith)
 
 -- what a call of the writer leaves: its answer and the buffer
-abbrev pub Left : List ℕ → ℕ → ℕ → Put → List ℕ → Type 0
+abbrev pub Left : List ℕ → ℕ → ℕ → Option ℕ → List ℕ → Type 0
 Left buf at n r out = (r ≡ (put_of buf at n).answer) × (out ≡ (put_of buf at n).bytes)
 
 module _ (buf : List ℕ) (at n : ℕ) where
-  pub put_fits : at + length (encode n) ≤ length buf → Left buf at n (Next (at + length (encode n))) (sets buf at (encode n))
+  pub put_fits : at + length (encode n) ≤ length buf → Left buf at n (Some (at + length (encode n))) (sets buf at (encode n))
   unfolding put_of
   put_fits h = let t = le-leb (at + length (encode n)) (length buf) h in (rw t, rw t)
 
-  pub put_over : length buf < at + length (encode n) → Left buf at n Full buf
+  pub put_over : length buf < at + length (encode n) → Left buf at n None buf
   unfolding put_of
   put_over h = let t = lt-leb (at + length (encode n)) (length buf) h in (rw t, rw t)
 
   -- which of the two it was, from the answer
-  pub put_next : (next : ℕ) → Next next ≡ (put_of buf at n).answer → (next ≡ at + length (encode n)) × (next ≤ length buf)
+  pub put_next : (next : ℕ) → Some next ≡ (put_of buf at n).answer → (next ≡ at + length (encode n)) × (next ≤ length buf)
   unfolding put_of
   put_next next e =
       by_test ((next ≡ at + length (encode n)) × (next ≤ length buf)) (leb (at + length (encode n)) (length buf))
       (λ t. let h = leb-true (at + length (encode n)) (length buf) t in
-      let e' : Next next ≡ Next (at + length (encode n)) = rw t at e in
+      let e' : Some next ≡ Some (at + length (encode n)) = rw t at e in
       let q : next ≡ at + length (encode n) = cc in
       (q, omega arith))
-      (λ t. let e' : Next next ≡ Full = rw t at e in let z : ◌≡◌ {A = ℕ} 0 1 = cc in absurd (omega arith))
+      (λ t. let e' : Some next ≡ None = rw t at e in let z : ◌≡◌ {A = ℕ} 0 1 = cc in absurd (omega arith))
 
-  pub put_full : Full ≡ (put_of buf at n).answer → length buf < at + length (encode n)
+  pub put_full : None ≡ (put_of buf at n).answer → length buf < at + length (encode n)
   unfolding put_of
   put_full e =
       by_test (length buf < at + length (encode n)) (leb (at + length (encode n)) (length buf))
-      (λ t. let e' : Full ≡ Next (at + length (encode n)) = rw t at e in let z : ◌≡◌ {A = ℕ} 0 1 = cc in absurd (omega arith))
+      (λ t. let e' : None ≡ Some (at + length (encode n)) = rw t at e in let z : ◌≡◌ {A = ℕ} 0 1 = cc in absurd (omega arith))
       (λ t. leb-false (at + length (encode n)) (length buf) t)
 
 -- the four ends of `write_u64`
 module _ (buf : List ℕ) (at n : ℕ) where
-  pub left_end : length buf ≤ at → Left buf at n Full buf
+  pub left_end : length buf ≤ at → Left buf at n None buf
   left_end h = put_over buf at n (omega (arith, length_pos n))
 
-  pub left_last : at < length buf → n < 128 → Left buf at n (Next (at + 1)) (set buf at n)
+  pub left_last : at < length buf → n < 128 → Left buf at n (Some (at + 1)) (set buf at n)
   left_last h l =
       let e = encode_last n l in
       let p : at + 1 ≤ length buf = omega arith in
       rw e at (put_fits buf at n (rw e p))
 
-  pub left_full : (r : Put) (out : List ℕ) → 128 ≤ n → Left buf (at + 1) (n / 128) r out → r ≡ Full → Left buf at n Full out
+  pub left_full : (r : Option ℕ) (out : List ℕ) → 128 ≤ n → Left buf (at + 1) (n / 128) r out → r ≡ None → Left buf at n None out
   left_full r out h w e =
       let o : length buf < at + 1 + length (encode (n / 128)) = put_full buf (at + 1) (n / 128) (sym e ∙ w.0) in
       let q : out ≡ buf = w.1 ∙ sym (put_over buf (at + 1) (n / 128) o).1 in
       rw q (put_over buf at n (omega (arith, length_more n h)))
 
   pub left_more :
-      (r : Put) (out : List ℕ) (next : ℕ) → 128 ≤ n → Left buf (at + 1) (n / 128) r out → r ≡ Next next →
-      Left buf at n (Next next) (set out at (n % 128 + 128))
+      (r : Option ℕ) (out : List ℕ) (next : ℕ) → 128 ≤ n → Left buf (at + 1) (n / 128) r out → r ≡ Some next →
+      Left buf at n (Some next) (set out at (n % 128 + 128))
   left_more r out next h w e =
       let o = put_next buf (at + 1) (n / 128) next (sym e ∙ w.0) in
       let f : at + length (encode n) ≤ length buf = omega (arith, length_more n h) in
@@ -268,7 +265,7 @@ vector_overlong = refl
 
 -- ---- a number among other bytes
 pub read_at_encode : (top n : ℕ) (front rest : List ℕ) → n ≤ top → read_at top (front ++ (encode n ++ rest)) (length front)
-    ≡ Number n (length front + length (encode n))
+    ≡ Some (n, length front + length (encode n))
 unfolding read_at
 read_at_encode top n front rest h = rw (drop-append_seam front (encode n ++ rest), decode_encode n rest, le-leb n top h)
 
@@ -279,15 +276,15 @@ record Accepted (top at u next : ℕ) (g : Got) : Type 0 where
   ends : next ≡ at + n
   small : u ≤ top
 
-accepted : (top at u next : ℕ) (g : Got) → as_read at (up_to top g) ≡ Number u next → Accepted top at u next g
+accepted : (top at u next : ℕ) (g : Got) → as_read at (up_to top g) ≡ Some (u, next) → Accepted top at u next g
 accepted top at u next none e = let z : ◌≡◌ {A = ℕ} 0 1 = cc in absurd (omega arith)
 accepted top at u next (got v n) e =
     by_test (Accepted top at u next (got v n)) (leb v top)
-    (λ t. let e' : Number v (at + n) ≡ Number u next = rw t at e in
+    (λ t. let e' : Some (v, at + n) ≡ Some (u, next) = rw t at e in
     let ev : v ≡ u = cc in
     let en : at + n ≡ next = cc in
     record { n = n; is = rw ev; ends = sym en; small = omega (arith, leb-true v top t) })
-    (λ t. let e' : Bad ≡ Number u next = rw t at e in let z : ◌≡◌ {A = ℕ} 0 1 = cc in absurd (omega arith))
+    (λ t. let e' : None ≡ Some (u, next) = rw t at e in let z : ◌≡◌ {A = ℕ} 0 1 = cc in absurd (omega arith))
 
 pub record Front (top : ℕ) (s : List ℕ) (at u next : ℕ) : Type 0 where
   pub bytes : drop at s ≡ encode u ++ drop next s
@@ -296,7 +293,7 @@ pub record Front (top : ℕ) (s : List ℕ) (at u next : ℕ) : Type 0 where
 bytes_drop : (s : List ℕ) (at : ℕ) → ((k : ℕ) → get_or s k 0 < 256) → (k : ℕ) → get_or (drop at s) k 0 < 256
 bytes_drop s at h k = rw (get_or-drop at s k 0) (h (at + k))
 
-pub read_at_written : (top : ℕ) (s : List ℕ) (at u next : ℕ) → ((k : ℕ) → get_or s k 0 < 256) → read_at top s at ≡ Number u next →
+pub read_at_written : (top : ℕ) (s : List ℕ) (at u next : ℕ) → ((k : ℕ) → get_or s k 0 < 256) → read_at top s at ≡ Some (u, next) →
     Front top s at u next
 unfolding read_at
 read_at_written top s at u next h e =

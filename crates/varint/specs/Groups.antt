@@ -1,11 +1,8 @@
 -- Unsigned numbers as bytes (01, "In bytes"): "groups of seven bits, low first, top bit set on all but the last. Only the shortest form is
 -- read." Nothing here depends on a width: a reader accepts what `decode` gives up to its own largest number (`up_to`).
+use Rattle.std.specs.Prelude.{Option, Some, None}
 use Rattle.std.specs.Prelude.{ℕ, zero, suc, ◌+◌, ◌-◌, ◌*◌, ◌/◌, ◌%◌, cond, List, [], ◌∷◌, ltb, leb, eqb, length, drop}
 use Rattle.std.proofs.lemmas.List.Edits.{sets}
-use Rattle.varint.specs.declared.Read.{Read}
-use Rattle.varint.specs.declared.Read.TheVariants.{Number, Bad}
-use Rattle.varint.specs.declared.Put.{Put}
-use Rattle.varint.specs.declared.Put.TheVariants.{Next, Full}
 
 -- the groups of n; the first argument bounds how many follow the first (n itself is enough)
 unfoldable pub groups : ℕ → ℕ → List ℕ
@@ -35,27 +32,27 @@ abbrev pub up_to : ℕ → Got → Got
 up_to top none = none
 up_to top (got v n) = cond (leb v top) (got v n) none
 
-abbrev pub as_read : ℕ → Got → Read
-as_read at none = Bad
-as_read at (got v n) = Number v (at + n)
+abbrev pub as_read : ℕ → Got → Option (ℕ × ℕ)
+as_read at none = None
+as_read at (got v n) = Some (v, at + n)
 
 -- what a reader of numbers up to `top` answers at a place
-unfoldable pub read_at : ℕ → List ℕ → ℕ → Read
+unfoldable pub read_at : ℕ → List ℕ → ℕ → Option (ℕ × ℕ)
 read_at top s at = as_read at (up_to top (decode (drop at s)))
 
 -- the answer at a byte b with its top bit set, from the answer at the next place for numbers 128 times smaller
-abbrev pub after_more : ℕ → ℕ → Read → Read
-after_more top b Bad = Bad
-after_more top b (Number v next) =
-    cond (eqb v 0) Bad (cond (leb (v * 128 + (b - 128)) top) (Number (v * 128 + (b - 128)) next) Bad)
+abbrev pub after_more : ℕ → ℕ → Option (ℕ × ℕ) → Option (ℕ × ℕ)
+after_more top b None = None
+after_more top b (Some (v, next)) =
+    cond (eqb v 0) None (cond (leb (v * 128 + (b - 128)) top) (Some (v * 128 + (b - 128), next)) None)
 
 -- the answer at a byte b with its top bit clear
-abbrev pub last_group : ℕ → ℕ → ℕ → Read
-last_group top b next = cond (leb b top) (Number b next) Bad
+abbrev pub last_group : ℕ → ℕ → ℕ → Option (ℕ × ℕ)
+last_group top b next = cond (leb b top) (Some (b, next)) None
 
 -- what came of writing, and the buffer's bytes after it
 pub record Stored : Type 0 where
-  pub answer : Put
+  pub answer : Option ℕ
   pub bytes : List ℕ
 
 -- the groups of n written from `at` on where they fit; else the buffer as it was
@@ -63,5 +60,5 @@ unfoldable pub put_of : List ℕ → ℕ → ℕ → Stored
 put_of buf at n =
     cond
     (leb (at + length (encode n)) (length buf))
-    (record { answer = Next (at + length (encode n)); bytes = sets buf at (encode n) })
-    (record { answer = Full; bytes = buf })
+    (record { answer = Some (at + length (encode n)); bytes = sets buf at (encode n) })
+    (record { answer = None; bytes = buf })

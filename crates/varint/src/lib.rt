@@ -8,20 +8,6 @@ ghost use Rattle.std.specs.Int.Signed.{mag};
 ghost use Rattle.varint.specs.Groups.{read_at, after_more, last_group, put_of};
 ghost use Rattle.varint.specs.Codes.{code_of, number_of, negative, signed_of, magnitude as magnitudeOf};
 
-// What stands at a place: a number and the place after it, or no number in its shortest form.
-#[derive(Clone, Copy)]
-pub enum Read {
-    Number(u64, usize),
-    Bad,
-}
-
-// What came of writing a number: the place after it, or no room for it.
-#[derive(Clone, Copy)]
-pub enum Put {
-    Next(usize),
-    Full,
-}
-
 fn wide(x: u8) -> u64
     ensures { result ≡ x }
 {
@@ -29,59 +15,55 @@ fn wide(x: u8) -> u64
 }
 
 // The answer at a byte `low` with its top bit clear.
-fn last_group(low: u64, next: usize, top: u64) -> Read
+fn last_group(low: u64, next: usize, top: u64) -> Option<(u64, usize)>
     ensures { result ≡ last_group top low next }
 {
-    if low <= top {
-        Read::Number(low, next)
-    } else {
-        Read::Bad
-    }
+    if low <= top { Some((low, next)) } else { None }
 }
 
 // The answer at a byte `low` with its top bit set, from the answer at the next place.
-fn after_more(rest: Read, low: u64, top: u64) -> Read
+fn after_more(rest: Option<(u64, usize)>, low: u64, top: u64) -> Option<(u64, usize)>
     requires { (128 ≤ low) × (low < 256) }
     ensures { result ≡ after_more top low rest }
 {
     match rest {
-        Read::Number(v, next) => {
+        Some((v, next)) => {
             if v == 0 {
-                return Read::Bad;
+                return None;
             }
             if top / 128 < v {
-                return Read::Bad;
+                return None;
             }
             let high = v * 128;
             if low - 128 <= top - high {
-                return Read::Number(high + (low - 128), next);
+                return Some((high + (low - 128), next));
             }
-            Read::Bad
+            None
         }
-        Read::Bad => Read::Bad,
+        None => None,
     }
 }
 
 // The number up to `top` that stands at `at`. It ends where no further group can be within `top`, so its depth is that of the width,
 // however many bytes follow.
-fn read_up_to(s: &[u8], at: usize, top: u64) -> Read
+fn read_up_to(s: &[u8], at: usize, top: u64) -> Option<(u64, usize)>
     ensures { result ≡ read_at top s.now at }
 {
     if s.len() <= at {
-        return Read::Bad;
+        return None;
     }
     let low = wide(s[at]);
     if low < 128 {
         return last_group(low, at + 1, top);
     }
     if top < 128 {
-        return Read::Bad;
+        return None;
     }
     after_more(read_up_to(s, at + 1, top / 128), low, top)
 }
 
 // The number of 64 bits that stands at `at`.
-pub fn read_u64(s: &[u8], at: usize) -> Read
+pub fn read_u64(s: &[u8], at: usize) -> Option<(u64, usize)>
     ensures { result ≡ read_at 18446744073709551615 s.now at }
 {
     read_up_to(s, at, 18446744073709551615)
@@ -89,21 +71,21 @@ pub fn read_u64(s: &[u8], at: usize) -> Read
 
 // Write the groups of `n` from `at` on where they fit, and otherwise leave the buffer. The last group is written first, so that nothing is
 // touched before the room is known.
-pub fn write_u64(buf: &mut [u8], at: usize, n: u64) -> Put
+pub fn write_u64(buf: &mut [u8], at: usize, n: u64) -> Option<usize>
     ensures { (result ≡ (put_of buf.old at n).answer) × (buf.new ≡ (put_of buf.old at n).bytes) }
 {
     if buf.len() <= at {
-        return Put::Full;
+        return None;
     }
     if n < 128 {
         buf[at] = n as u8;
-        return Put::Next(at + 1);
+        return Some(at + 1);
     }
-    let Put::Next(next) = write_u64(buf, at + 1, n / 128) else {
-        return Put::Full;
+    let Some(next) = write_u64(buf, at + 1, n / 128) else {
+        return None;
     };
     buf[at] = (n % 128 + 128) as u8;
-    Put::Next(next)
+    Some(next)
 }
 
 // Whether n is below 0.

@@ -3,7 +3,6 @@
 #![tactic(auto)]
 
 use std::io;
-use varint::{Put, Read};
 
 fn end_line(rt: &impl Print) -> io::Result<()> {
     println!(rt;)
@@ -11,13 +10,11 @@ fn end_line(rt: &impl Print) -> io::Result<()> {
 
 // The first n bytes in hexadecimal digits, on a line.
 fn print_bytes(rt: &impl Print, buf: [u8; 10], n: usize) -> io::Result<()> {
-    let mut i: usize = 0;
-    while i < 10 {
+    for i in 0..10 {
         if i < n {
             let b = buf[i];
             print!(rt; "{b:02x}")?;
         }
-        i += 1;
     }
     end_line(rt)
 }
@@ -28,8 +25,8 @@ fn print_groups(rt: &impl Print, n: u64) -> io::Result<()> {
     let part: &mut [u8] = &mut buf;
     let put = varint::write_u64(part, 0, n);
     match put {
-        Put::Next(k) => print_bytes(rt, buf, k),
-        Put::Full => end_line(rt),
+        Some(k) => print_bytes(rt, buf, k),
+        None => end_line(rt),
     }
 }
 
@@ -37,8 +34,8 @@ fn print_groups(rt: &impl Print, n: u64) -> io::Result<()> {
 fn print_reading(rt: &impl Print, s: &[u8]) -> io::Result<()> {
     let read = varint::read_u64(s, 0);
     match read {
-        Read::Number(n, next) => println!(rt; "{n} {next}"),
-        Read::Bad => println!(rt; "bad"),
+        Some((n, next)) => println!(rt; "{n} {next}"),
+        None => println!(rt; "bad"),
     }
 }
 

@@ -18,8 +18,8 @@ graft_refused-requires-in-Negative c = search refusable
 pub graft_refused-requires-in-NotSubscribed : goal.graft_refused-requires-in-NotSubscribed
 graft_refused-requires-in-NotSubscribed c = search refusable
 
-pub graft_refused-requires-in-Full : goal.graft_refused-requires-in-Full
-graft_refused-requires-in-Full c = search refusable
+pub graft_refused-requires-in-None : goal.graft_refused-requires-in-None
+graft_refused-requires-in-None c = search refusable
 
 pub returns-in-NotJoined : goal.returns-in-NotJoined
 returns-in-NotJoined c = search (graft_at NotJoined, gives_ignored)
@@ -42,8 +42,8 @@ returns-in-Negative c = search (graft_at Negative, refused_seen)
 pub returns-in-NotSubscribed : goal.returns-in-NotSubscribed
 returns-in-NotSubscribed c = search (graft_at NotSubscribed, refused_seen)
 
-pub returns-in-Full : goal.returns-in-Full
-returns-in-Full c = search (graft_at Full, refused_seen)
+pub returns-in-None : goal.returns-in-None
+returns-in-None c = search (graft_at Full, refused_seen)
 
 pub returns-in-Enters : goal.returns-in-Enters
 returns-in-Enters c = search (graft_at Enters, gives_done)

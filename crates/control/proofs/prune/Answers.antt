@@ -8,8 +8,8 @@ use Rattle.control.proofs.prune.Goals as goal
 pub prune_from-requires : goal.prune_from-requires
 prune_from-requires c = record { ready = search (call_ends, rules); topic = search call_ends }
 
-pub returns-in-Refuse : goal.returns-in-Refuse
-returns-in-Refuse c = search call_ends
+pub returns-in-Err : goal.returns-in-Err
+returns-in-Err c = search call_ends
 
-pub returns-in-Pass : goal.returns-in-Pass
-returns-in-Pass c = search (call_ends, quiet_prune)
+pub returns-in-Ok : goal.returns-in-Ok
+returns-in-Ok c = search (call_ends, quiet_prune)

@@ -7,8 +7,8 @@ use Rattle.deliveries.proofs.decay.Goals as goal
 pub decay_from-requires : goal.decay_from-requires
 decay_from-requires c = search (decay_ready, rules)
 
-pub returns-in-Refuse : goal.returns-in-Refuse
-returns-in-Refuse c = search decay_refuses
+pub returns-in-Err : goal.returns-in-Err
+returns-in-Err c = search decay_refuses
 
-pub returns-in-Pass : goal.returns-in-Pass
-returns-in-Pass c = search decay_quiet
+pub returns-in-Ok : goal.returns-in-Ok
+returns-in-Ok c = search decay_quiet

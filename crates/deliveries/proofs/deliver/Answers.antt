@@ -8,12 +8,12 @@ use Rattle.deliveries.proofs.deliver.Goals as goal
 pub deliver_from-requires : goal.deliver_from-requires
 deliver_from-requires c =
     record {
-      ready = gate_ready _ _ _ _ _ _ c.admit.ensures c.in-Pass.is c.time_ok.ensures (search rules);
+      ready = gate_ready _ _ _ _ _ _ c.admit.ensures c.in-Ok.is c.time_ok.ensures (search rules);
       topic = search deliver_topic;
     }
 
-pub returns-in-Refuse : goal.returns-in-Refuse
-returns-in-Refuse c = search (call_ends, deliver_range)
+pub returns-in-Err : goal.returns-in-Err
+returns-in-Err c = search (call_ends, deliver_range)
 
-pub returns-in-Pass : goal.returns-in-Pass
-returns-in-Pass c = search (call_ends, deliver_range, quiet_deliver)
+pub returns-in-Ok : goal.returns-in-Ok
+returns-in-Ok c = search (call_ends, deliver_range, quiet_deliver)

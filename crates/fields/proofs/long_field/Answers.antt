@@ -10,7 +10,7 @@ pub returns-then-tag-lt-FIRST_TAG : goal.returns-then-tag-lt-FIRST_TAG
 returns-then-tag-lt-FIRST_TAG c = search (tag_zero, rules)
 
 pub payload-requires : goal.payload-requires
-payload-requires c = (tag_place _ _ _ c.number_at.ensures _ _ c.in-Number.is).1
+payload-requires c = (tag_place _ _ _ c.number_at.ensures _ _ c.in-Some.is).1
 
 pub returns : goal.returns
 returns c = search (tag_whole, rules)

@@ -13,7 +13,7 @@ pub returns-in_default-number_at : goal.returns-in_default-number_at
 returns-in_default-number_at c = search (part_bad, rules)
 
 pub sized-requires : goal.sized-requires
-sized-requires c = (tag_place _ _ _ c.number_at-then-wire-eq-DELIMITED.ensures _ _ c.in-Number-number_at.is).1
+sized-requires c = (tag_place _ _ _ c.number_at-then-wire-eq-DELIMITED.ensures _ _ c.in-Some-number_at.is).1
 
 pub returns-then-wire-eq-DELIMITED : goal.returns-then-wire-eq-DELIMITED
 returns-then-wire-eq-DELIMITED c = search (part_sized, rules)

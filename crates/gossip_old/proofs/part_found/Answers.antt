@@ -7,7 +7,7 @@ pub returns-in_default : goal.returns-in_default
 returns-in_default c = parted_none _ _ c.in_default.is
 
 pub end-requires : goal.end-requires
-end-requires c = found_kept _ c.requires c.in-At.is
+end-requires c = found_kept _ c.requires c.in-Some.is
 
 pub part-requires : goal.part-requires
 part-requires c = search (found_kept, found_lent, rules)

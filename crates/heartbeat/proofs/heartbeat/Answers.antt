@@ -8,9 +8,9 @@ use Rattle.heartbeat.proofs.heartbeat.Goals as goal
 pub heartbeat_from-requires : goal.heartbeat_from-requires
 heartbeat_from-requires c = record { ready = search (call_ends, rules); topic = search heartbeat_topic; room = search call_ends }
 
-pub returns-in-Refuse : goal.returns-in-Refuse
-returns-in-Refuse c = search (call_ends, heartbeat_range)
+pub returns-in-Err : goal.returns-in-Err
+returns-in-Err c = search (call_ends, heartbeat_range)
 
-pub returns-in-Pass : goal.returns-in-Pass
+pub returns-in-Ok : goal.returns-in-Ok
 unfolding effect
-returns-in-Pass c = search (call_ends, heartbeat_range)
+returns-in-Ok c = search (call_ends, heartbeat_range)

@@ -11,4 +11,4 @@ returns-in_default c = made_unknown _ _ c.edition_of.ensures _ _ _ _ _ c.in_defa
 
 pub returns : goal.returns
 returns c = made_known _ _ c.edition_of.ensures _ _ _ _ _ _ _ _
-    c.in-Known.is c.make.ensures
+    c.in-Some.is c.make.ensures

@@ -4,7 +4,7 @@ use Rattle.host_messages.proofs.MessageLaws.{message_fits, hosts_message}
 use Rattle.host_messages.proofs.read.Goals as goal
 
 pub packed-requires : goal.packed-requires
-packed-requires c = (omega arith, message_fits _ _ _ _ _ _ _ c.read.ensures c.in-Done.is)
+packed-requires c = (omega arith, message_fits _ _ _ _ _ _ _ c.read.ensures c.in-Ok.is)
 
 pub packed-requires-in-Malformed : goal.packed-requires-in-Malformed
 packed-requires-in-Malformed c =
@@ -12,10 +12,10 @@ packed-requires-in-Malformed c =
     let p = c.in-Malformed.is in
     (omega arith, message_fits _ _ _ _ _ _ _ e p)
 
-pub returns-in-Done : goal.returns-in-Done
-returns-in-Done c =
+pub returns-in-Ok : goal.returns-in-Ok
+returns-in-Ok c =
     let e = c.read.ensures in
-    let n = c.in-Done.is in
+    let n = c.in-Ok.is in
     hosts_message _ _ _ _ _ _ _ e n _ c.packed.ensures
 
 pub returns-in-ListShort : goal.returns-in-ListShort

@@ -6,12 +6,12 @@ use Rattle.host_messages.proofs.write.Goals as goal
 pub packed-requires : goal.packed-requires
 packed-requires c = (
   omega arith,
-  write_fits _ _ _ _ _ _ _ _ _ c.write.ensures c.in-Done.is,
+  write_fits _ _ _ _ _ _ _ _ _ c.write.ensures c.in-Ok.is,
 )
 
-pub returns-in-Done : goal.returns-in-Done
-returns-in-Done c = hosts_written _ _ _ _ _ _ _ _ _ c.write.ensures
-    c.in-Done.is _ c.packed.ensures
+pub returns-in-Ok : goal.returns-in-Ok
+returns-in-Ok c = hosts_written _ _ _ _ _ _ _ _ _ c.write.ensures
+    c.in-Ok.is _ c.packed.ensures
 
 pub returns-in-NotList : goal.returns-in-NotList
 returns-in-NotList c = hosts_written _ _ _ _ _ _ _ _ _ c.write.ensures

@@ -6,7 +6,7 @@ use Rattle.host_parameters.proofs.put.Goals as goal
 pub packed-requires : goal.packed-requires
 packed-requires c = (
   omega arith,
-  write_fits _ _ _ _ _ c.write.ensures c.in-Done.is (search rules),
+  write_fits _ _ _ _ _ c.write.ensures c.in-Ok.is (search rules),
 )
 
 pub packed-requires-in-Short : goal.packed-requires-in-Short
@@ -18,8 +18,8 @@ packed-requires-in-Outside c = (
   write_fits _ _ _ _ _ c.write.ensures c.in-Outside.is (search rules),
 )
 
-pub returns-in-Done : goal.returns-in-Done
-returns-in-Done c = hosts_write _ _ _ _ _ c.write.ensures c.in-Done.is _
+pub returns-in-Ok : goal.returns-in-Ok
+returns-in-Ok c = hosts_write _ _ _ _ _ c.write.ensures c.in-Ok.is _
     c.packed.ensures
 
 pub returns-in-Short : goal.returns-in-Short

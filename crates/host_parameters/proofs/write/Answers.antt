@@ -11,4 +11,4 @@ returns-in_default c = write_unknown _ _ c.edition_of.ensures _ _ _ c.in_default
 
 pub returns : goal.returns
 returns c = write_known _ _ c.edition_of.ensures _ _ _ _ _
-    c.in-Known.is c.put.ensures
+    c.in-Some.is c.put.ensures

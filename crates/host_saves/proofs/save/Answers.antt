@@ -6,7 +6,7 @@ use Rattle.host_saves.proofs.save.Goals as goal
 pub packed-requires : goal.packed-requires
 packed-requires c = (
   omega arith,
-  save_fits _ _ _ _ _ _ c.save.ensures c.in-Done.is _ refl,
+  save_fits _ _ _ _ _ _ c.save.ensures c.in-Ok.is _ refl,
 )
 
 pub packed-requires-in-Early : goal.packed-requires-in-Early
@@ -21,8 +21,8 @@ packed-requires-in-NotRouter c = (omega arith, omega arith)
 pub packed-requires-in-Short : goal.packed-requires-in-Short
 packed-requires-in-Short c = (omega arith, omega arith)
 
-pub returns-in-Done : goal.returns-in-Done
-returns-in-Done c = hosts_save _ _ _ _ _ _ c.save.ensures c.in-Done.is _
+pub returns-in-Ok : goal.returns-in-Ok
+returns-in-Ok c = hosts_save _ _ _ _ _ _ c.save.ensures c.in-Ok.is _
     c.packed.ensures
 
 pub returns-in-Early : goal.returns-in-Early

@@ -7,9 +7,9 @@ use Rattle.leaving.proofs.leave.Goals as goal
 pub leave_from-requires : goal.leave_from-requires
 leave_from-requires c = record { ready = search (call_ends, rules); topic = search call_ends; room = search call_ends }
 
-pub returns-in-Refuse : goal.returns-in-Refuse
-returns-in-Refuse c = search call_ends
+pub returns-in-Err : goal.returns-in-Err
+returns-in-Err c = search call_ends
 
-pub returns-in-Pass : goal.returns-in-Pass
+pub returns-in-Ok : goal.returns-in-Ok
 unfolding effect
-returns-in-Pass c = search call_ends
+returns-in-Ok c = search call_ends

@@ -4,12 +4,12 @@ use Rattle.params.specs.Editions.{edition_of}
 use Rattle.magnitudes.proofs.SizeLaws.{never, accepted_in_lem}
 use Rattle.magnitudes.proofs.accepted.Goals as goal
 
-pub returns-in-Known : goal.returns-in-Known
-returns-in-Known c e =
+pub returns-in-Some : goal.returns-in-Some
+returns-in-Some c e =
     accepted_in_lem _ _ _ _
     (c.edition_of.ensures ∙ ap (λ (u : Setup). edition_of u.edition) c.load_setup-setup.ensures)
-    c.in-Known.is
+    c.in-Some.is
     (c.accepted_by.ensures e)
 
-pub returns-in-Unknown : goal.returns-in-Unknown
-returns-in-Unknown c e = never e
+pub returns-in-None : goal.returns-in-None
+returns-in-None c e = never e

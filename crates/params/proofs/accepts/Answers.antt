@@ -15,12 +15,12 @@ first_rule-requires c = (
       c.if-codes-ne-NUMBERS.false _ c.codes_lie.ensures c.if-not-codes_lie.false,
 )
 
-pub returns-in-At : goal.returns-in-At
-returns-in-At c =
+pub returns-in-Some : goal.returns-in-Some
+returns-in-Some c =
     codes_broken _ _ c.if-codes-ne-NUMBERS.false _ c.codes_lie.ensures _ _ c.if-not-codes_lie.false
-    c.first_rule.ensures c.in-At.is
+    c.first_rule.ensures c.in-Some.is
 
-pub returns-in-Nothing : goal.returns-in-Nothing
-returns-in-Nothing c =
+pub returns-in-None : goal.returns-in-None
+returns-in-None c =
     codes_kept _ _ c.if-codes-ne-NUMBERS.false _ c.codes_lie.ensures _ c.if-not-codes_lie.false
-    c.first_rule.ensures c.in-Nothing.is
+    c.first_rule.ensures c.in-None.is

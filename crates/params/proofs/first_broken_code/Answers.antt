@@ -7,27 +7,27 @@ use Rattle.params.proofs.first_broken_code.Goals as goal
 pub first_rule-requires : goal.first_rule-requires
 first_rule-requires c = (
   c.requires,
-  found_within _ _ c.first_outside.ensures c.in-Nothing.is,
+  found_within _ _ c.first_outside.ensures c.in-None.is,
 )
 
 pub overflow_add-result : goal.overflow_add-result
-overflow_add-result c = omega (arith, rule_small _ _ _ _ c.first_rule.ensures c.in-At-first_rule.is)
+overflow_add-result c = omega (arith, rule_small _ _ _ _ c.first_rule.ensures c.in-Some-first_rule.is)
 
-pub returns-in-At : goal.returns-in-At
-returns-in-At c = number_broken
+pub returns-in-Some : goal.returns-in-Some
+returns-in-Some c = number_broken
     (coded c.args.edition c.args.codes.now) _
-    c.first_outside.ensures _ c.in-At.is
+    c.first_outside.ensures _ c.in-Some.is
 
-pub returns-in-At-first_rule : goal.returns-in-At-first_rule
-returns-in-At-first_rule c = rule_broken
+pub returns-in-Some-first_rule : goal.returns-in-Some-first_rule
+returns-in-Some-first_rule c = rule_broken
     (coded c.args.edition
     c.args.codes.now) _
-    c.first_outside.ensures c.in-Nothing.is
-    _ c.first_rule.ensures _ c.in-At-first_rule.is
+    c.first_outside.ensures c.in-None.is
+    _ c.first_rule.ensures _ c.in-Some-first_rule.is
 
-pub returns-in-Nothing-first_rule : goal.returns-in-Nothing-first_rule
-returns-in-Nothing-first_rule c = none_broken
+pub returns-in-None-first_rule : goal.returns-in-None-first_rule
+returns-in-None-first_rule c = none_broken
     (coded c.args.edition
     c.args.codes.now) _
-    c.first_outside.ensures c.in-Nothing.is _
-    c.first_rule.ensures c.in-Nothing-first_rule.is
+    c.first_outside.ensures c.in-None.is _
+    c.first_rule.ensures c.in-None-first_rule.is

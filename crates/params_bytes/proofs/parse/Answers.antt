@@ -23,7 +23,7 @@ loop-i-preserved c = let l = c.loop-i in (
   (
     simp length-set l.invariant.1.0,
     after_more param_count _ _ l.i l.numbers _ _ _ _ _ (omega arith) (omega arith) l.invariant.1.1
-        c.read_u64.ensures c.in-Number.is
+        c.read_u64.ensures c.in-Some.is
         (to_z-of_z {w = w64} (sfits_of c.number_of-v.type_inv) ∙ c.number_of-v.ensures),
   ),
 )

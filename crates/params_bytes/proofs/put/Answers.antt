@@ -31,7 +31,7 @@ loop-i-preserved c = let l = c.loop-i in
           (search rules)
           c.code_of-u.ensures
           c.write_u64.ensures
-          _ (omega arith) c.write_u64.auto.buf c.in-Next.is,
+          _ (omega arith) c.write_u64.auto.buf c.in-Some.is,
     )
 
 pub shape_of-buf : goal.shape_of-buf

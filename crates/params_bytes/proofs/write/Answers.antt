@@ -17,15 +17,15 @@ put-requires c = (
   search rules,
   write_room _ c.args.buf.now _ c.room_for.ensures _ c.if-buf-room_for.false
       c.first_broken.ensures _ c.put_front-from.new.buf c.put_front-from.ensures.0 c.put_front-from.auto.buf,
-  accepted_few _ (sym c.first_broken.ensures ∙ c.in-Nothing.is),
+  accepted_few _ (sym c.first_broken.ensures ∙ c.in-None.is),
 )
 
-pub returns-in-At : goal.returns-in-At
-returns-in-At c =
+pub returns-in-Some : goal.returns-in-Some
+returns-in-Some c =
     write_outside _ _ _ c.room_for.ensures _ c.if-buf-room_for.false c.first_broken.ensures _
-    c.in-At.is
+    c.in-Some.is
 
-pub returns-in-Nothing : goal.returns-in-Nothing
-returns-in-Nothing c =
+pub returns-in-None : goal.returns-in-None
+returns-in-None c =
     write_done _ _ _ c.room_for.ensures _ c.if-buf-room_for.false c.first_broken.ensures _ _ _ _
-    c.in-Nothing.is c.put_front-from.ensures c.put.ensures
+    c.in-None.is c.put_front-from.ensures c.put.ensures

@@ -9,7 +9,7 @@ use Rattle.peers.proofs.connect.Goals as goal
 
 pub connect_from-requires : goal.connect_from-requires
 connect_from-requires c =
-    let told = c.in-Pass.is in (
+    let told = c.in-Ok.is in (
       gate_ready _ _ _ _ _ _ c.admit.ensures told c.time_ok.ensures (search rules),
       gate_groups _ c.time_ok.result c.id_ok.result c.groups_ok.result _ _ _ _ c.admit.ensures told
           _ c.groups_ok.ensures,
@@ -17,9 +17,9 @@ connect_from-requires c =
           told,
     )
 
-pub returns-in-Refuse : goal.returns-in-Refuse
-returns-in-Refuse c = search (call_ends, connect_range)
+pub returns-in-Err : goal.returns-in-Err
+returns-in-Err c = search (call_ends, connect_range)
 
-pub returns-in-Pass : goal.returns-in-Pass
+pub returns-in-Ok : goal.returns-in-Ok
 unfolding effect
-returns-in-Pass c = search (call_ends, connect_range, quiet_connect)
+returns-in-Ok c = search (call_ends, connect_range, quiet_connect)

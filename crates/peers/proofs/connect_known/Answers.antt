@@ -13,8 +13,8 @@ connect_at-requires c = (
   c.requires.1,
 )
 
-pub returns-in-At : goal.returns-in-At
-returns-in-At c = search connect_retained
+pub returns-in-Some : goal.returns-in-Some
+returns-in-Some c = search connect_retained
 
 pub returns-in_default-lowest_empty : goal.returns-in_default-lowest_empty
 returns-in_default-lowest_empty c =

@@ -8,8 +8,8 @@ use Rattle.peers.proofs.rate.Goals as goal
 pub rate_from-requires : goal.rate_from-requires
 rate_from-requires c = (search (call_ends, rules), search tested_p5)
 
-pub returns-in-Refuse : goal.returns-in-Refuse
-returns-in-Refuse c = search (call_ends, p5_range)
+pub returns-in-Err : goal.returns-in-Err
+returns-in-Err c = search (call_ends, p5_range)
 
-pub returns-in-Pass : goal.returns-in-Pass
-returns-in-Pass c = search (call_ends, p5_range, quiet_rate, rate_leaves)
+pub returns-in-Ok : goal.returns-in-Ok
+returns-in-Ok c = search (call_ends, p5_range, quiet_rate, rate_leaves)

@@ -8,8 +8,8 @@ use Rattle.peers.proofs.score.Goals as goal
 pub score_from-requires : goal.score_from-requires
 score_from-requires c = search (call_ends, rules)
 
-pub returns-in-Refuse : goal.returns-in-Refuse
-returns-in-Refuse c = search call_ends
+pub returns-in-Err : goal.returns-in-Err
+returns-in-Err c = search call_ends
 
-pub returns-in-Pass : goal.returns-in-Pass
-returns-in-Pass c = search (call_ends, quiet_score)
+pub returns-in-Ok : goal.returns-in-Ok
+returns-in-Ok c = search (call_ends, quiet_score)

@@ -21,6 +21,6 @@ why_of-w-requires c = search (found_below, rules)
 pub returns : goal.returns
 unfolding effect
 returns c =
-    peer_at _ _ _ _ (search) _ _ _ c.in-At.is
+    peer_at _ _ _ _ (search) _ _ _ c.in-Some.is
     (leaves_moved _ _ _ _ (ap Scored c.why_of-w.ensures) refl
     c.store_clock.ensures.0)

@@ -11,7 +11,7 @@ returns-in_default c = search (counting_bad, rules)
 
 pub check_in_control-requires : goal.check_in_control-requires
 check_in_control-requires c =
-    let q = read_placed _ _ _ _ c.field_at.ensures c.in-Whole.is in
+    let q = read_placed _ _ _ _ c.field_at.ensures c.in-Some.is in
     let i = c.loop-place.invariant in
     let l = i.low in
     (q.order, (q.high, omega arith))

@@ -2,10 +2,10 @@
 use Rattle.rpc.proofs.CheckLaws.{entry_whole, entry_torn}
 use Rattle.rpc.proofs.check_entry.Goals as goal
 
-pub returns-in-Whole : goal.returns-in-Whole
-returns-in-Whole c =
+pub returns-in-Some : goal.returns-in-Some
+returns-in-Some c =
     let e = c.check_fields.ensures in
-    let u = c.in-Whole.is in
+    let u = c.in-Some.is in
     entry_whole _ _ _ _ _ e _ u c.one_more.ensures
 
 pub returns-in-Torn : goal.returns-in-Torn

@@ -17,7 +17,7 @@ loop-place-preserved c =
     let w = c.loop-place.invariant in
     let t = c.loop-place-test.true in
     let f = c.field_at.ensures in
-    let g = c.in-Whole.is in
+    let g = c.in-Some.is in
     passing_more _ _ _ _ w t _ f _ g _ refl refl
 
 pub returns : goal.returns

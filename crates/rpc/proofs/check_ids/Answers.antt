@@ -21,7 +21,7 @@ loop-place-preserved c =
     let w = c.loop-place.invariant in
     let t = c.loop-place-test.true in
     let f = c.field_at.ensures in
-    let g = c.in-Whole.is in
+    let g = c.in-Some.is in
     let s = c.args.s.now in
     counting_next (inside 1 idontwant s) s _ _ _ _ w t _ f _ g _ refl (inside_each 1 idontwant s) _ (c.check_in_ids-m.ensures s)
 

@@ -14,7 +14,7 @@ returns-in_default c = (λ names. let w = c.loop-place.invariant.1.1.1 names in 
 
 pub put_in_ids-m-requires : goal.put_in_ids-m-requires
 put_in_ids-m-requires c =
-    let i = read_placed _ _ _ _ c.field_at.ensures c.in-Whole.is in
+    let i = read_placed _ _ _ _ c.field_at.ensures c.in-Some.is in
     let q = c.requires in
     let h = i.high in
     let d = i.two in
@@ -27,7 +27,7 @@ pub loop-place-preserved : goal.loop-place-preserved
 loop-place-preserved c =
     let w = c.loop-place.invariant in
     let f = c.field_at.ensures in
-    let g = c.in-Whole.is in
+    let g = c.in-Some.is in
     let o = c.put_in_ids-m in
     let e = o.ensures in
     let s = c.args.s.now in

@@ -14,7 +14,7 @@ returns-in_default c = search gathering_bad
 
 pub put_in_rpc-m-requires : goal.put_in_rpc-m-requires
 put_in_rpc-m-requires c =
-    let i = read_placed _ _ _ _ c.field_at.ensures c.in-Whole.is in
+    let i = read_placed _ _ _ _ c.field_at.ensures c.in-Some.is in
     let q = c.requires in
     (q.0, (i.order, (i.high, omega arith)))
 
@@ -25,7 +25,7 @@ pub loop-place-preserved : goal.loop-place-preserved
 loop-place-preserved c =
     let w = c.loop-place.invariant in
     let f = c.field_at.ensures in
-    let g = c.in-Whole.is in
+    let g = c.in-Some.is in
     let o = c.put_in_rpc-m in
     let e = o.ensures in
     let q = read_placed _ _ _ _ f g in

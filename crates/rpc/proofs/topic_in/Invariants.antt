@@ -1,11 +1,11 @@
 -- `rpc::topic_in` meets its contract. Assumes nothing.
+use Rattle.std.proofs.Common.{None}
 use Rattle.index.proofs.Kit.{◌-◌, ◌≤◌, ◌≡◌, first}
-use Rattle.index.specs.declared.Found.TheVariants.{Nothing}
 use Rattle.rpc.proofs.TopicLaws.{here}
 use Rattle.rpc.proofs.topic_in.Given as goal
 
 abbrev pub invariant-loop-k : goal.invariant-loop-k
-invariant-loop-k l = (l.k ≤ 8) × (first l.k (here l.names l.s l.start l.stop) ≡ Nothing)
+invariant-loop-k l = (l.k ≤ 8) × (first l.k (here l.names l.s l.start l.stop) ≡ None)
 
 abbrev pub decreases-loop-k : goal.decreases-loop-k
 decreases-loop-k l = 8 - l.k

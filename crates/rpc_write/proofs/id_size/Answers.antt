@@ -10,7 +10,7 @@ number_row-requires c = (table_parts _ _ _ c.requires).1
 pub overflow_mul-k : goal.overflow_mul-k
 overflow_mul-k c =
     let q = id_row _ _ _ c.requires _ _
-    c.number_row.ensures _ c.in-At.is in
+    c.number_row.ensures _ c.in-Some.is in
     let l = q.low in
     let g = q.long in
     omega arith
@@ -18,15 +18,15 @@ overflow_mul-k c =
 pub bounds-ids-k : goal.bounds-ids-k
 bounds-ids-k c =
     let q = id_row _ _ _ c.requires _ _
-    c.number_row.ensures _ c.in-At.is in
+    c.number_row.ensures _ c.in-Some.is in
     let l = q.low in
     let g = q.long in
     omega arith
 
-pub returns-in-At : goal.returns-in-At
-returns-in-At c = id_size_is _ _ _ c.requires _ _
-    c.number_row.ensures _ c.in-At.is _ c.wide.ensures
+pub returns-in-Some : goal.returns-in-Some
+returns-in-Some c = id_size_is _ _ _ c.requires _ _
+    c.number_row.ensures _ c.in-Some.is _ c.wide.ensures
 
-pub returns-in-Nothing : goal.returns-in-Nothing
-returns-in-Nothing c = no_id _ _ _ c.requires _ _ c.number_row.ensures
-    c.in-Nothing.is
+pub returns-in-None : goal.returns-in-None
+returns-in-None c = no_id _ _ _ c.requires _ _ c.number_row.ensures
+    c.in-None.is

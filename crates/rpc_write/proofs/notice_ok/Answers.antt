@@ -11,10 +11,10 @@ returns-then-topic-ne0 c = notice_topic _ _ _ _ c.if-kind-ne-IDONTWANT.false c.i
 pub number_row-requires : goal.number_row-requires
 number_row-requires c = c.requires
 
-pub returns-in-At : goal.returns-in-At
-returns-in-At c = notice_found _ _ _ _ c.if-kind-ne-IDONTWANT.false c.if-topic-ne0.false _
-    c.number_row.ensures _ c.in-At.is
+pub returns-in-Some : goal.returns-in-Some
+returns-in-Some c = notice_found _ _ _ _ c.if-kind-ne-IDONTWANT.false c.if-topic-ne0.false _
+    c.number_row.ensures _ c.in-Some.is
 
-pub returns-in-Nothing : goal.returns-in-Nothing
-returns-in-Nothing c = notice_none _ _ _ _ c.if-kind-ne-IDONTWANT.false c.if-topic-ne0.false _
-    c.number_row.ensures c.in-Nothing.is
+pub returns-in-None : goal.returns-in-None
+returns-in-None c = notice_none _ _ _ _ c.if-kind-ne-IDONTWANT.false c.if-topic-ne0.false _
+    c.number_row.ensures c.in-None.is

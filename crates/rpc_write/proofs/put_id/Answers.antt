@@ -10,7 +10,7 @@ number_row-requires c = (table_parts _ _ _ c.requires.0).1
 pub overflow_mul-row : goal.overflow_mul-row
 overflow_mul-row c =
     let q = id_row _ _ _ c.requires.0 _ _
-    c.number_row.ensures _ c.in-At.is in
+    c.number_row.ensures _ c.in-Some.is in
     let l = q.low in
     let g = q.long in
     omega arith
@@ -18,7 +18,7 @@ overflow_mul-row c =
 pub overflow_add-row : goal.overflow_add-row
 overflow_add-row c =
     let q = id_row _ _ _ c.requires.0 _ _
-    c.number_row.ensures _ c.in-At.is in
+    c.number_row.ensures _ c.in-Some.is in
     let l = q.low in
     let g = q.long in
     omega arith
@@ -26,7 +26,7 @@ overflow_add-row c =
 pub bounds-ids-row : goal.bounds-ids-row
 bounds-ids-row c =
     let q = id_row _ _ _ c.requires.0 _ _
-    c.number_row.ensures _ c.in-At.is in
+    c.number_row.ensures _ c.in-Some.is in
     let l = q.low in
     let g = q.long in
     omega arith
@@ -34,7 +34,7 @@ bounds-ids-row c =
 pub put_run-requires : goal.put_run-requires
 put_run-requires c =
     let q = id_row _ _ _ c.requires.0 _ _
-    c.number_row.ensures _ c.in-At.is in
+    c.number_row.ensures _ c.in-Some.is in
     let l = q.low in
     let g = q.long in
     let s = q.short in
@@ -49,12 +49,12 @@ put_run-requires c =
       ),
     )
 
-pub returns-in-At : goal.returns-in-At
-returns-in-At c =
+pub returns-in-Some : goal.returns-in-Some
+returns-in-Some c =
     let w = c.wide.ensures in
     id_stored _ _ _ c.requires.0 _ _ c.number_row.ensures _
-    c.in-At.is _ _ _ _ _ w c.put_run.ensures
+    c.in-Some.is _ _ _ _ _ w c.put_run.ensures
 
-pub returns-in-Nothing : goal.returns-in-Nothing
-returns-in-Nothing c = no_id_stored _ _ _ c.requires.0 _ _
-    c.number_row.ensures _ _ c.in-Nothing.is
+pub returns-in-None : goal.returns-in-None
+returns-in-None c = no_id_stored _ _ _ c.requires.0 _ _
+    c.number_row.ensures _ _ c.in-None.is

@@ -5,7 +5,7 @@ use Rattle.save_load.proofs.check_count.Goals as goal
 
 pub returns-then-most-n : goal.returns-then-most-n
 returns-then-most-n c p clock d = count_over p clock c.args.s.now _ _ _
-    c.read_u64.ensures _ _ c.in-Number.is c.if-most-n.true
+    c.read_u64.ensures _ _ c.in-Some.is c.if-most-n.true
 
 pub check_records-requires : goal.check_records-requires
 check_records-requires c = let h = c.if-most-n.false in let p = c.requires.1 in
@@ -14,10 +14,10 @@ check_records-requires c = let h = c.if-most-n.false in let p = c.requires.1 in
 pub returns-else-most-n : goal.returns-else-most-n
 returns-else-most-n c p clock d =
     count_fine p clock c.args.s.now _ _ _
-    c.read_u64.ensures _ _ c.in-Number.is c.if-most-n.false
+    c.read_u64.ensures _ _ c.in-Some.is c.if-most-n.false
     c.check_records.result
     (c.check_records.ensures p clock d)
 
-pub returns-in-Bad : goal.returns-in-Bad
-returns-in-Bad c p clock d = count_bad p clock c.args.s.now _ _ _
-    c.read_u64.ensures c.in-Bad.is
+pub returns-in-None : goal.returns-in-None
+returns-in-None c p clock d = count_bad p clock c.args.s.now _ _ _
+    c.read_u64.ensures c.in-None.is

@@ -18,15 +18,15 @@ judge-requires c = (
       c.skim_numbers.ensures c.in-End.is,
 )
 
-pub returns-in-Broken : goal.returns-in-Broken
-returns-in-Broken c p clock d = records_broken p clock c.args.s.now
+pub returns-in-None : goal.returns-in-None
+returns-in-None c p clock d = records_broken p clock c.args.s.now
     c.args.codes.now
     c.args.n c.args.at d
     c.requires.1 c.skim_numbers.result
-    c.skim_numbers.ensures _ c.in-Broken.is
+    c.skim_numbers.ensures _ c.in-None.is
 
-pub returns-in-At : goal.returns-in-At
-returns-in-At c p clock d =
+pub returns-in-Some : goal.returns-in-Some
+returns-in-Some c p clock d =
     records_outside p clock c.args.s.now
     c.args.codes.now
     c.args.n
@@ -38,10 +38,10 @@ returns-in-At c p clock d =
     c.judge.result
     (c.judge.ensures (fresh_state p) (fresh_coded p _ d))
     _
-    c.in-At.is
+    c.in-Some.is
 
-pub returns-in-Nothing : goal.returns-in-Nothing
-returns-in-Nothing c p clock d =
+pub returns-in-None : goal.returns-in-None
+returns-in-None c p clock d =
     records_fine p clock c.args.s.now
     c.args.codes.now
     c.args.n
@@ -52,4 +52,4 @@ returns-in-Nothing c p clock d =
     c.in-End.is c.if-next-s.false
     c.judge.result
     (c.judge.ensures (fresh_state p) (fresh_coded p _ d))
-    c.in-Nothing.is
+    c.in-None.is

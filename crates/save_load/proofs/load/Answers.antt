@@ -10,9 +10,9 @@ make-requires c = (
       c.check_all.ensures c.in-Fine.is,
 )
 
-pub returns-in-Refuse : goal.returns-in-Refuse
-returns-in-Refuse c = load_refused _ _ _ _ c.check_all.result _ c.check_all.ensures
-    c.in-Refuse.is
+pub returns-in-Err : goal.returns-in-Err
+returns-in-Err c = load_refused _ _ _ _ c.check_all.result _ c.check_all.ensures
+    c.in-Err.is
 
 pub returns-in-Fine : goal.returns-in-Fine
 returns-in-Fine c = load_made _ _ _ _ _ c.check_all.result _ _

@@ -3,10 +3,10 @@ use Rattle.index.proofs.Kit.{arith}
 use Rattle.supplier.proofs.OutputLaws.{export_as}
 use Rattle.supplier.proofs.put_export.Goals as goal
 
-pub returns-in-Accepted : goal.returns-in-Accepted
-returns-in-Accepted c = (
+pub returns-in-Ok : goal.returns-in-Ok
+returns-in-Ok c = (
   export_as _ _ _ c.read-reading.ensures
-      c.in-Accepted.is _ _ _
+      c.in-Ok.is _ _ _
       c.put_exported.ensures.0,
   c.put_exported.ensures.1,
 )
@@ -18,9 +18,9 @@ returns-in-Malformed c = (
   omega arith,
 )
 
-pub returns-in-Broken : goal.returns-in-Broken
-returns-in-Broken c = (
+pub returns-in-None : goal.returns-in-None
+returns-in-None c = (
   export_as _ _ _ c.read-reading.ensures
-      c.in-Broken.is _ _ _ c.put_head-in-Broken.ensures.0,
+      c.in-None.is _ _ _ c.put_head-in-None.ensures.0,
   omega arith,
 )

@@ -10,14 +10,14 @@ pub slice_bounds-put_entries-end : goal.slice_bounds-put_entries-end
 slice_bounds-put_entries-end c =
     let n = done_length c.args.all.numbers c.args.page.now _ _ c.requires.1
     c.export.ensures _
-    c.in-Done.is in
+    c.in-Ok.is in
     omega (arith, c.export.auto.buf, c.requires.1)
 
-pub slice_bounds-put_entries-end-in-Done : goal.slice_bounds-put_entries-end-in-Done
-slice_bounds-put_entries-end-in-Done c =
+pub slice_bounds-put_entries-end-in-Ok : goal.slice_bounds-put_entries-end-in-Ok
+slice_bounds-put_entries-end-in-Ok c =
     let n = done_length c.args.all.numbers c.args.page.now _ _ c.requires.1
     c.export.ensures _
-    c.in-Done.is in
+    c.in-Ok.is in
     sym (length-take-le _ _
     (omega (
       arith,
@@ -29,7 +29,7 @@ pub put_entries-requires : goal.put_entries-requires
 put_entries-requires c =
     let n = done_length c.args.all.numbers c.args.page.now _ _ c.requires.1
     c.export.ensures _
-    c.in-Done.is in (
+    c.in-Ok.is in (
       omega (arith, c.put_done-at.auto.buf, c.put_done-at.ensures.1),
       length-take-le _ _
           (omega (
@@ -39,16 +39,16 @@ put_entries-requires c =
           )) ∙ n,
     )
 
-pub shape_of-buf-in-Done : goal.shape_of-buf-in-Done
-shape_of-buf-in-Done c = c.put_entries.auto.buf ∙ c.put_done-at.auto.buf
+pub shape_of-buf-in-Ok : goal.shape_of-buf-in-Ok
+shape_of-buf-in-Ok c = c.put_entries.auto.buf ∙ c.put_done-at.auto.buf
 
-pub shape_of-page-in-Done : goal.shape_of-page-in-Done
-shape_of-page-in-Done c = c.export.auto.buf
+pub shape_of-page-in-Ok : goal.shape_of-page-in-Ok
+shape_of-page-in-Ok c = c.export.auto.buf
 
-pub returns-in-Done : goal.returns-in-Done
-returns-in-Done c = (
+pub returns-in-Ok : goal.returns-in-Ok
+returns-in-Ok c = (
   exported_done c.args.all.numbers c.args.page.now _ _ c.requires.1
-      c.export.ensures _ c.in-Done.is _ _ _ _ _
+      c.export.ensures _ c.in-Ok.is _ _ _ _ _
       c.put_done-at.ensures.0 c.put_entries.ensures.0,
   omega (
     arith,

@@ -8,11 +8,11 @@ use Rattle.supplier.specs.Output.{done_text}
 use Rattle.supplier.proofs.OutputLaws.{import_as}
 use Rattle.supplier.proofs.put_import.Goals as goal
 
-pub returns-in-Accepted : goal.returns-in-Accepted
-returns-in-Accepted c = (
+pub returns-in-Ok : goal.returns-in-Ok
+returns-in-Ok c = (
   import_as _ _ _
       c.import-reading.ensures
-      c.in-Accepted.is _ _ _
+      c.in-Ok.is _ _ _
       (stored_then
       c.args.buf.now 0 _ done_text _ _
       (numbers_text
@@ -32,9 +32,9 @@ returns-in-Malformed c = (
   omega arith,
 )
 
-pub returns-in-Broken : goal.returns-in-Broken
-returns-in-Broken c = (
+pub returns-in-None : goal.returns-in-None
+returns-in-None c = (
   import_as _ _ _ c.import-reading.ensures
-      c.in-Broken.is _ _ _ c.put_head-in-Broken.ensures.0,
+      c.in-None.is _ _ _ c.put_head-in-None.ensures.0,
   omega arith,
 )

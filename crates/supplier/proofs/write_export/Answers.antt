@@ -3,10 +3,10 @@ use Rattle.index.proofs.Kit.{arith}
 use Rattle.supplier.proofs.OutputLaws.{export_bytes_as, nothing_stored}
 use Rattle.supplier.proofs.write_export.Goals as goal
 
-pub returns-in-Accepted : goal.returns-in-Accepted
-returns-in-Accepted c = (
+pub returns-in-Ok : goal.returns-in-Ok
+returns-in-Ok c = (
   export_bytes_as _ _ _ c.read-reading.ensures
-      c.in-Accepted.is _ _ _ c.write_theirs.ensures.0,
+      c.in-Ok.is _ _ _ c.write_theirs.ensures.0,
   c.write_theirs.ensures.1,
 )
 
@@ -17,9 +17,9 @@ returns-in-Malformed c = (
   omega arith,
 )
 
-pub returns-in-Broken : goal.returns-in-Broken
-returns-in-Broken c = (
-  export_bytes_as _ _ _ c.read-reading.ensures c.in-Broken.is _ _ _
+pub returns-in-None : goal.returns-in-None
+returns-in-None c = (
+  export_bytes_as _ _ _ c.read-reading.ensures c.in-None.is _ _ _
       (nothing_stored _),
   omega arith,
 )

@@ -3,9 +3,9 @@ use borrow.Author.Rules.{rules}
 use Rattle.supplier.proofs.OutputLaws.{own_stored}
 use Rattle.supplier.proofs.write_own.Goals as goal
 
-pub returns-in-Done : goal.returns-in-Done
-returns-in-Done c = own_stored c.args.all _ _ _ _
-    c.in-Done.is c.requires (search rules)
+pub returns-in-Ok : goal.returns-in-Ok
+returns-in-Ok c = own_stored c.args.all _ _ _ _
+    c.in-Ok.is c.requires (search rules)
     c.write.ensures
 
 pub returns-in-Short : goal.returns-in-Short

@@ -2,9 +2,9 @@
 use Rattle.supplier.proofs.OutputLaws.{theirs_stored}
 use Rattle.supplier.proofs.write_theirs.Goals as goal
 
-pub returns-in-Done : goal.returns-in-Done
-returns-in-Done c = theirs_stored c.args.all.numbers _ _ _ _
-    c.in-Done.is c.requires
+pub returns-in-Ok : goal.returns-in-Ok
+returns-in-Ok c = theirs_stored c.args.all.numbers _ _ _ _
+    c.in-Ok.is c.requires
     c.export.ensures
 
 pub returns-in-Short : goal.returns-in-Short

@@ -10,14 +10,14 @@ returns-then-buf-lt-BYTES c = export_short _ _ c.if-buf-lt-BYTES.true
 pub put-requires : goal.put-requires
 put-requires c = (
   c.if-buf-lt-BYTES.false,
-  accepted_in_lem _ (sym c.first_broken.ensures ∙ c.in-Nothing.is),
+  accepted_in_lem _ (sym c.first_broken.ensures ∙ c.in-None.is),
 )
 
-pub returns-in-At : goal.returns-in-At
-returns-in-At c = export_outside _ _ _ c.if-buf-lt-BYTES.false c.first_broken.ensures _
-    c.in-At.is
+pub returns-in-Some : goal.returns-in-Some
+returns-in-Some c = export_outside _ _ _ c.if-buf-lt-BYTES.false c.first_broken.ensures _
+    c.in-Some.is
 
-pub returns-in-Nothing : goal.returns-in-Nothing
-returns-in-Nothing c = export_done _ _ _ c.if-buf-lt-BYTES.false
+pub returns-in-None : goal.returns-in-None
+returns-in-None c = export_done _ _ _ c.if-buf-lt-BYTES.false
     c.first_broken.ensures _
-    c.in-Nothing.is c.put.ensures
+    c.in-None.is c.put.ensures

@@ -7,8 +7,8 @@ use Rattle.topics.proofs.change.Goals as goal
 pub change_from-requires : goal.change_from-requires
 change_from-requires c = record { ready = search (call_ends, rules); topic = search call_ends }
 
-pub returns-in-Refuse : goal.returns-in-Refuse
-returns-in-Refuse c = search change_refusal
+pub returns-in-Err : goal.returns-in-Err
+returns-in-Err c = search change_refusal
 
-pub returns-in-Pass : goal.returns-in-Pass
-returns-in-Pass c = search change_follows
+pub returns-in-Ok : goal.returns-in-Ok
+returns-in-Ok c = search change_follows

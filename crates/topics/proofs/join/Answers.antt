@@ -8,9 +8,9 @@ use Rattle.topics.proofs.join.Goals as goal
 pub join_from-requires : goal.join_from-requires
 join_from-requires c = record { ready = search (call_ends, rules); topic = search call_ends }
 
-pub returns-in-Refuse : goal.returns-in-Refuse
-returns-in-Refuse c = search call_ends
+pub returns-in-Err : goal.returns-in-Err
+returns-in-Err c = search call_ends
 
-pub returns-in-Pass : goal.returns-in-Pass
+pub returns-in-Ok : goal.returns-in-Ok
 unfolding effect
-returns-in-Pass c = search (call_ends, quiet_join)
+returns-in-Ok c = search (call_ends, quiet_join)

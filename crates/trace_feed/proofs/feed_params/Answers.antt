@@ -9,10 +9,10 @@ returns-then-last-cut_short c =
     c.cut_short.ensures _ _
     c.if-last-cut_short.true
 
-pub returns-in-Accepted : goal.returns-in-Accepted
-returns-in-Accepted c =
+pub returns-in-Ok : goal.returns-in-Ok
+returns-in-Ok c =
     params_accepted _ _ _ _ c.requires.1 _
-    c.read_front-reading.ensures _ _ _ _ _ c.in-Accepted.is
+    c.read_front-reading.ensures _ _ _ _ _ c.in-Ok.is
     c.fresh.ensures
 
 pub returns-else-last-cut_short : goal.returns-else-last-cut_short
@@ -23,8 +23,8 @@ returns-else-last-cut_short c =
     c.cut_short.ensures
     _ _ _ _ c.if-last-cut_short.false c.put_pair.ensures
 
-pub returns-in-Broken : goal.returns-in-Broken
-returns-in-Broken c =
+pub returns-in-None : goal.returns-in-None
+returns-in-None c =
     params_broken _ _ _ _ c.requires.1 _
     c.read_front-reading.ensures _ _ _ _ _
-    c.in-Broken.is c.put_pair-in-Broken.ensures
+    c.in-None.is c.put_pair-in-None.ensures

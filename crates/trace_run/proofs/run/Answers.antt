@@ -6,9 +6,9 @@ use Rattle.trace_step.proofs.ReplayLaws.{few_actions}
 use Rattle.trace_run.proofs.RecordedLaws.{going_none, going_more, ran_all, ran_stopped, accepted, begins, run_refused}
 use Rattle.trace_run.proofs.run.Goals as goal
 
-pub returns-in-Broken : goal.returns-in-Broken
-returns-in-Broken c =
-    run_refused _ _ _ _ c.fresh.ensures _ _ _ _ _ (search rules) c.in-Broken.is
+pub returns-in-None : goal.returns-in-None
+returns-in-None c =
+    run_refused _ _ _ _ c.fresh.ensures _ _ _ _ _ (search rules) c.in-None.is
 
 pub loop-calls-init : goal.loop-calls-init
 loop-calls-init c = (refl, (refl, λ params e. going_none _ params _ _ _ _ e))

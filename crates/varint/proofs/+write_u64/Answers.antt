@@ -29,4 +29,4 @@ pub shape_of-buf : goal.shape_of-buf
 shape_of-buf t c = simp length-set c.write_u64.auto.buf
 
 pub returns : goal.returns
-returns t c = left_more _ _ _ _ _ _ (omega arith) c.write_u64.ensures c.in-Next.is
+returns t c = left_more _ _ _ _ _ _ (omega arith) c.write_u64.ensures c.in-Some.is

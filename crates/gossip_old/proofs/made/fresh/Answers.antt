@@ -6,13 +6,13 @@ use Rattle.gossip_old.proofs.made.fresh.Goals as goal
 pub returns-then-not-setup_ok : goal.returns-then-not-setup_ok
 returns-then-not-setup_ok c = fresh_range _ _ _ _ (no c.setup_ok.ensures c.if-not-setup_ok.true)
 
-pub returns-in-Broken : goal.returns-in-Broken
-returns-in-Broken c =
+pub returns-in-None : goal.returns-in-None
+returns-in-None c =
     let fine = yes c.setup_ok.ensures c.if-not-setup_ok.false in
-    fresh_broken _ _ _ _ _ _ fine c.fresh.ensures _ c.in-Broken.is
+    fresh_broken _ _ _ _ _ _ fine c.fresh.ensures _ c.in-None.is
 
-pub returns-in-Done : goal.returns-in-Done
-returns-in-Done c =
+pub returns-in-Ok : goal.returns-in-Ok
+returns-in-Ok c =
     let fine = yes c.setup_ok.ensures c.if-not-setup_ok.false in
     fresh_done _ _ _ _ _ _ fine c.fresh.ensures _
-    c.in-Done.is c.make_array.ensures
+    c.in-Ok.is c.make_array.ensures

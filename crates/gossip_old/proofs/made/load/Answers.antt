@@ -7,21 +7,21 @@ use Rattle.gossip_old.proofs.made.load.Goals as goal
 pub returns-then-not-setup_ok : goal.returns-then-not-setup_ok
 returns-then-not-setup_ok c = load_range _ _ _ _ _ _ (no c.setup_ok.ensures c.if-not-setup_ok.true)
 
-pub returns-in-Done : goal.returns-in-Done
-returns-in-Done c =
+pub returns-in-Ok : goal.returns-in-Ok
+returns-in-Ok c =
     let fine = yes c.setup_ok.ensures c.if-not-setup_ok.false in
     load_done _ _ _ _ _ _ _ _ fine c.load.ensures _
-    c.in-Done.is c.make_array.ensures
+    c.in-Ok.is c.make_array.ensures
 
 pub returns-in-OutOfRange : goal.returns-in-OutOfRange
 returns-in-OutOfRange c =
     let fine = yes c.setup_ok.ensures c.if-not-setup_ok.false in
     load_refused _ _ _ _ _ _ _ _ fine c.load.ensures _ c.in-OutOfRange.is refl
 
-pub returns-in-Broken : goal.returns-in-Broken
-returns-in-Broken c =
+pub returns-in-None : goal.returns-in-None
+returns-in-None c =
     let fine = yes c.setup_ok.ensures c.if-not-setup_ok.false in
-    load_refused _ _ _ _ _ _ _ _ fine c.load.ensures _ c.in-Broken.is refl
+    load_refused _ _ _ _ _ _ _ _ fine c.load.ensures _ c.in-None.is refl
 
 pub returns-in-Malformed : goal.returns-in-Malformed
 returns-in-Malformed c =

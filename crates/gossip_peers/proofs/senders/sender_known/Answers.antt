@@ -5,8 +5,8 @@ use Rattle.gossip_peers.proofs.senders.sender_known.Goals as goal
 pub returns-then-sender-eq0 : goal.returns-then-sender-eq0
 returns-then-sender-eq0 c = search known_self
 
-pub returns-in-At : goal.returns-in-At
-returns-in-At c = search known_at
+pub returns-in-Some : goal.returns-in-Some
+returns-in-Some c = search known_at
 
-pub returns-in-Nothing : goal.returns-in-Nothing
-returns-in-Nothing c = search known_none
+pub returns-in-None : goal.returns-in-None
+returns-in-None c = search known_none

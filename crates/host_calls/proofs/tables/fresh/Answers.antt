@@ -11,4 +11,4 @@ returns-in_default c = fresh_unknown _ _ c.edition_of.ensures _ _ _ c.in_default
 
 pub returns : goal.returns
 returns c = fresh_known _ _ c.edition_of.ensures _ _ _ _ _
-    c.in-Known.is c.make.ensures
+    c.in-Some.is c.make.ensures

@@ -5,16 +5,16 @@ use Rattle.lookup.proofs.fresh.fresh.Goals as goal
 pub fill-requires : goal.fill-requires
 fill-requires c = (
   c.requires,
-  sym c.first_broken.ensures ∙ c.in-Nothing.is,
+  sym c.first_broken.ensures ∙ c.in-None.is,
 )
 
-pub returns-in-At : goal.returns-in-At
-returns-in-At c =
+pub returns-in-Some : goal.returns-in-Some
+returns-in-Some c =
     let b = c.first_broken in
-    fresh_broken c.args.params c.args.table.now b.result b.ensures c.in-At.i c.in-At.is
+    fresh_broken c.args.params c.args.table.now b.result b.ensures c.in-Some.i c.in-Some.is
 
-pub returns-in-Nothing : goal.returns-in-Nothing
-returns-in-Nothing c =
+pub returns-in-None : goal.returns-in-None
+returns-in-None c =
     let b = c.first_broken in
     fresh_made c.args.params c.args.table.now b.result b.ensures c.fill.new.table
-    c.in-Nothing.is c.fill.ensures
+    c.in-None.is c.fill.ensures

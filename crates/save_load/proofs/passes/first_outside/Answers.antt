@@ -20,7 +20,7 @@ pub returns-then-is_outside : goal.returns-then-is_outside
 returns-then-is_outside c =
     let l = c.loop-i in
     going_out _ _ _ _ _ _ _ _ l.invariant c.loop-i-test.true _ c.read_number.ensures _ _
-    c.in-Number.is
+    c.in-Some.is
     (sym c.is_outside.ensures ∙ c.if-is_outside.true)
 
 pub column_after-j-requires : goal.column_after-j-requires
@@ -30,7 +30,7 @@ pub loop-i-preserved : goal.loop-i-preserved
 loop-i-preserved c =
     let l = c.loop-i in
     going_more _ _ _ _ _ _ _ _ l.invariant c.loop-i-test.true _ c.read_number.ensures _ _
-    c.in-Number.is
+    c.in-Some.is
     (sym c.is_outside.ensures ∙ c.if-is_outside.false) _ _ c.id_after-last.ensures c.column_after-j.ensures
 
 pub returns : goal.returns

@@ -16,7 +16,7 @@ pub loop-left-preserved : goal.loop-left-preserved
 loop-left-preserved c =
     let l = c.loop-left in
     skim_more _ _ _ c.read_number.ensures l.left _ _ c.loop-left-test.true
-    c.in-Number.is ∙ l.invariant
+    c.in-Some.is ∙ l.invariant
 
 pub returns : goal.returns
 returns c =

@@ -22,7 +22,7 @@ pub loop-i-preserved : goal.loop-i-preserved
 loop-i-preserved c =
     let l = c.loop-i in
     reading_more _ _ _ _ _ l.invariant c.loop-i-test.true _
-    c.read_number.ensures _ _ c.in-Number.is
+    c.read_number.ensures _ _ c.in-Some.is
 
 pub shape_of-row : goal.shape_of-row
 shape_of-row c = c.loop-i.invariant.long ∙ sym c.requires.1

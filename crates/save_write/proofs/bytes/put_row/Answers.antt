@@ -34,7 +34,7 @@ loop-i-preserved c =
             w.new.buf
             w.ensures
             _
-            c.in-Next.is,
+            c.in-Some.is,
       ),
     )
 

@@ -24,7 +24,7 @@ loop-i-preserved c = let l = c.loop-i in (
       simp length-set l.invariant.1.1.0,
       (
         after_more _ _ _ l.i l.values _ _ _ _ c.loop-i-test.true (omega arith)
-            l.invariant.1.1.1.0 c.read_u64.ensures c.in-Number.is,
+            l.invariant.1.1.1.0 c.read_u64.ensures c.in-Some.is,
         λ k h. past_more l.values l.i _ k _ (l.invariant.1.1.1.1 k) h,
       ),
     ),
