@@ -12,7 +12,6 @@ use Rattle.rules.specs.Reply.{Reply}
 use Rattle.rules.specs.Calls.{Call}
 use Rattle.rules.specs.Step.{step}
 use Rattle.rules.specs.Promise.{Follows}
-use Rattle.saves.specs.declared.Loaded.TheVariants.{Done as Read}
 use Rattle.saves.specs.Load.{load_of, Loads}
 use Rattle.call_lists.specs.Lists.{Start, Loaded, Made, after}
 use Rattle.call_lists.specs.Demand3.{Accepted, Holds}
@@ -30,7 +29,7 @@ made c = record { call = c.call; room = length c.list }
 
 -- what `load` promises where it answers 0
 abbrev pub Reads : {start : Start} → Loaded start → (was table : List ℕ) → Type 0
-Reads {start} l was table = Loads (load_of l.fine start.params l.clock l.bytes) Read was table
+Reads {start} l was table = Loads (load_of l.fine start.params l.clock l.bytes) (Ok tt) was table
 
 -- the table is a fresh router's as `fresh` promises it, or a loaded one's as `load` does
 pub data Opened (start : Start) (table : List ℕ) : Type 0 where

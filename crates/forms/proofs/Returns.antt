@@ -1,5 +1,8 @@
 -- Each form turned into the other and back; and the calls, from their promise alone.
 -- Assumes nothing.
+use Rattle.std.proofs.Common.{Ok, Err}
+use Rattle.std.proofs.Common.{tt}
+use Rattle.forms.specs.declared.TurnError.TheVariants.{NotRouter}
 use Prim.Native.Nat.{ℕ}
 use mathlib.Core.Path.{◌≡◌, refl, sym, ap, ◌∙◌}
 use mathlib.Core.Bool.{Bool, true, false, not}
@@ -16,30 +19,29 @@ use Rattle.layout.proofs.StateLaws.{sized_of}
 use Rattle.rows.proofs.Whole.{determined, back, cells_length}
 use Rattle.validity.specs.Valid.{valid}
 use Rattle.rules.specs.Step.{step}
-use Rattle.forms.specs.declared.Turned.TheVariants.{Done, NotRouter}
 use Rattle.forms.specs.Turns.{turned_of, FromRows, ToRows, RowsReturn, TableReturns}
 use Rattle.forms.specs.Same.{SameCalls, HasRows, SameBetween}
 use Rattle.rules.proofs.Keeps.{keeps}
 use Rattle.forms.proofs.CellLaws.{same_cells}
 
 -- ---- the ends of the two functions
-other : (P : Type 0) → Done ≡ NotRouter → P
+other : (P : Type 0) → Ok tt ≡ Err NotRouter → P
 other P e = let z : ◌≡◌ {A = ℕ} 0 1 = cc in absurd (omega arith)
 
 module _ (rows table : List ℕ) (b : Bool) (e : b ≡ valid (state_of_rows rows)) where
-  pub from_none : not b ≡ true → FromRows NotRouter rows table table
+  pub from_none : not b ≡ true → FromRows (Err NotRouter) rows table table
   from_none t =
       record { answer = rw (failed e t); state = λ z. other (state_of table ≡ state_of_rows rows) (sym z); kept = λ z. refl }
 
-  pub from_done : (table' : List ℕ) → not b ≡ false → state_of table' ≡ state_of_rows rows → FromRows Done rows table table'
+  pub from_done : (table' : List ℕ) → not b ≡ false → state_of table' ≡ state_of_rows rows → FromRows (Ok tt) rows table table'
   from_done table' t s = record { answer = rw (passed e t); state = λ z. s; kept = λ z. other (table' ≡ table) z }
 
 module _ (table rows : List ℕ) (b : Bool) (e : b ≡ valid (state_of table)) where
-  pub to_none : not b ≡ true → ToRows NotRouter table rows rows
+  pub to_none : not b ≡ true → ToRows (Err NotRouter) table rows rows
   to_none t =
       record { answer = rw (failed e t); state = λ z. other (state_of_rows rows ≡ state_of table) (sym z); kept = λ z. refl }
 
-  pub to_done : (rows' : List ℕ) → not b ≡ false → state_of_rows rows' ≡ state_of table → ToRows Done table rows rows'
+  pub to_done : (rows' : List ℕ) → not b ≡ false → state_of_rows rows' ≡ state_of table → ToRows (Ok tt) table rows rows'
   to_done rows' t s = record { answer = rw (passed e t); state = λ z. s; kept = λ z. other (rows' ≡ rows) z }
 
 -- ---- there and back

@@ -1,4 +1,7 @@
 -- "Every call is proved to answer and act as in the old form" (02, order 10).
+use Rattle.std.specs.Prelude.{Result}
+use Rattle.std.specs.Prelude.{Unit}
+use Rattle.forms.specs.declared.TurnError.{TurnError}
 use Rattle.std.specs.Prelude.{ℕ, ◌≡◌, true, List, length}
 use Rattle.std.proofs.lemmas.List.Edits.{sets}
 use Rattle.effects.specs.Actions.{numbers_of}
@@ -10,7 +13,6 @@ use Rattle.rules.specs.Reply.{refuses}
 use Rattle.rules.specs.Calls.{Call}
 use Rattle.rules.specs.Step.{step}
 use Rattle.rules.specs.Promise.{Follows}
-use Rattle.forms.specs.declared.Turned.{Turned}
 use Rattle.forms.specs.Turns.{FromRows, ToRows}
 
 -- the promise of a call on a table of the old form, as it was: rows stood there, and rows' stands there after it
@@ -38,7 +40,7 @@ HasRows = (table : List ℕ) → (length (cells_of (state_of table)) ≡ rows_co
 -- a call between two turns: a router's table of the old form is turned, the call is made, and what it leaves is turned back
 abbrev pub SameBetween : Type 0
 SameBetween =
-    (c : Call) (r : Answer) (p q : Turned) (rows rows' table table₁ table₂ out list list' : List ℕ) →
+    (c : Call) (r : Answer) (p q : Result (Unit {0}) TurnError) (rows rows' table table₁ table₂ out list list' : List ℕ) →
     length rows ≡ rows_count →
     length rows' ≡ rows_count →
     valid (state_of_rows rows) ≡ true →

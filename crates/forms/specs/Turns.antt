@@ -1,5 +1,9 @@
 -- The two forms of a table, each turned into the other (02, order 10: "a router's tables turn from each form into the other without
 -- loss").
+use Rattle.std.specs.Prelude.{Result, Ok, Err}
+use Rattle.std.specs.Prelude.{Unit, tt}
+use Rattle.forms.specs.declared.TurnError.{TurnError}
+use Rattle.forms.specs.declared.TurnError.TheVariants.{NotRouter}
 use Rattle.std.specs.Prelude.{ℕ, ◌+◌, ◌*◌, ◌/◌, ◌<◌, ◌≡◌, Bool, true, false, List, length, get_or}
 use Rattle.index.specs.Index.{iter}
 use Rattle.records.specs.Records.{State, slot_count, topic_count, param_count, joined_in, peer_in, topic_in, set_joined, set_peer, set_topic}
@@ -7,8 +11,6 @@ use Rattle.layout.specs.View.{place_count, word_cells, column_count, clock_at, j
 use Rattle.layout.specs.View.{bit_at, live_at, counter_of, graft_of, mesh_of, subscribed_word, member_word, column_of, param_place, state_of}
 use Rattle.rows.specs.View.{rows_count, state_of_rows}
 use Rattle.validity.specs.Valid.{valid}
-use Rattle.forms.specs.declared.Turned.{Turned}
-use Rattle.forms.specs.declared.Turned.TheVariants.{Done, NotRouter}
 
 -- the first n entries of st, put into u one after the other
 abbrev pub copy_joined : ℕ → State → State → State
@@ -32,30 +34,30 @@ pub record Back (table rows : List ℕ) : Type 0 where
   pub router : valid (state_of table) ≡ true
 
 -- the answer by test 12
-abbrev pub turned_of : Bool → Turned
-turned_of true = Done
-turned_of false = NotRouter
+abbrev pub turned_of : Bool → Result (Unit {0}) TurnError
+turned_of true = Ok tt
+turned_of false = Err NotRouter
 
 -- 01's number of an answer
-abbrev pub turned_number : Turned → ℕ
-turned_number Done = 0
-turned_number NotRouter = 12
+abbrev pub turned_number : Result (Unit {0}) TurnError → ℕ
+turned_number (Ok tt) = 0
+turned_number (Err NotRouter) = 12
 
 -- `table` stood there, and table' stands there after it: the same state, or, if it is no router's, what stood there
-pub record FromRows (r : Turned) (rows table table' : List ℕ) : Type 0 where
+pub record FromRows (r : Result (Unit {0}) TurnError) (rows table table' : List ℕ) : Type 0 where
   pub answer : r ≡ turned_of (valid (state_of_rows rows))
-  pub state : r ≡ Done → state_of table' ≡ state_of_rows rows
-  pub kept : r ≡ NotRouter → table' ≡ table
+  pub state : r ≡ Ok tt → state_of table' ≡ state_of_rows rows
+  pub kept : r ≡ Err NotRouter → table' ≡ table
 
-pub record ToRows (r : Turned) (table rows rows' : List ℕ) : Type 0 where
+pub record ToRows (r : Result (Unit {0}) TurnError) (table rows rows' : List ℕ) : Type 0 where
   pub answer : r ≡ turned_of (valid (state_of table))
-  pub state : r ≡ Done → state_of_rows rows' ≡ state_of table
-  pub kept : r ≡ NotRouter → rows' ≡ rows
+  pub state : r ≡ Ok tt → state_of_rows rows' ≡ state_of table
+  pub kept : r ≡ Err NotRouter → rows' ≡ rows
 
 -- "without loss", from the old form and back: every cell comes back
 abbrev pub RowsReturn : Type 0
 RowsReturn =
-    (r q : Turned) (rows table table' out rows' : List ℕ) →
+    (r q : Result (Unit {0}) TurnError) (rows table table' out rows' : List ℕ) →
     length rows ≡ rows_count →
     length rows' ≡ rows_count →
     valid (state_of_rows rows) ≡ true →
@@ -86,7 +88,7 @@ pub record SameCells (c d : List ℕ) : Type 0 where
 -- and to the old form and back: the state comes back, and so does every cell in use
 abbrev pub TableReturns : Type 0
 TableReturns =
-    (r q : Turned) (table rows rows' out table' : List ℕ) →
+    (r q : Result (Unit {0}) TurnError) (table rows rows' out table' : List ℕ) →
     valid (state_of table) ≡ true →
     ToRows r table rows rows' →
     FromRows q rows' out table' →

@@ -7,31 +7,33 @@ pub mod test;
 
 ghost use Rattle.forms.specs.Turns.{FromRows, ToRows};
 
-// Whether a table was turned: test 12 is made first, and a table that is no router's leaves the other memory as it was.
+// Why a table was not turned: it is no router's (test 12), and the other memory is as it was.
 #[derive(Clone, Copy)]
-pub enum Turned {
-    Done,
+pub enum TurnError {
     NotRouter,
 }
 
 // Fills `table` from a table of the old form.
-pub fn from_rows(rows: &[u64; rows::CELLS], table: &mut [u64; layout::CELLS]) -> Turned
+pub fn from_rows(
+    rows: &[u64; rows::CELLS],
+    table: &mut [u64; layout::CELLS],
+) -> Result<(), TurnError>
     ensures { FromRows result rows.now table.old table.new }
 {
     if !test::is_router(rows) {
-        return Turned::NotRouter;
+        return Err(TurnError::NotRouter);
     }
     copy::fill_table(rows, table);
-    Turned::Done
+    Ok(())
 }
 
 // Fills `rows`, a table of the old form.
-pub fn to_rows(table: &[u64; layout::CELLS], rows: &mut [u64; rows::CELLS]) -> Turned
+pub fn to_rows(table: &[u64; layout::CELLS], rows: &mut [u64; rows::CELLS]) -> Result<(), TurnError>
     ensures { ToRows result table.now rows.old rows.new }
 {
     if !validity::valid::is_router(table) {
-        return Turned::NotRouter;
+        return Err(TurnError::NotRouter);
     }
     copy::fill_rows(table, rows);
-    Turned::Done
+    Ok(())
 }

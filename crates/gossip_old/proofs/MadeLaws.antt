@@ -1,5 +1,8 @@
 -- Making a router with an array: from what making the table promises, and the array made behind it.
 -- Assumes nothing.
+use Rattle.saves.specs.declared.LoadError.{LoadError}
+use Rattle.saves.specs.declared.LoadError.TheVariants.{OutOfRange as LoadedOutOfRange}
+use Rattle.gossip_old.specs.declared.MakeError.TheVariants.{OutOfRange}
 use Rattle.std.proofs.Common.{Option, Some, None, Result, Ok, Err}
 use Rattle.std.proofs.Common.{Unit, tt}
 use Rattle.lookup.specs.declared.FreshError.{FreshError}
@@ -12,13 +15,10 @@ use Rattle.layout.specs.View.{state_of}
 use Rattle.params.specs.declared.Params.{Params}
 use Rattle.params.specs.Check.{first_broken}
 use Rattle.lookup.specs.Fresh.{made_of, left_by as fresh_left, Makes}
-use Rattle.saves.specs.declared.Loaded.{Loaded}
-use Rattle.saves.specs.declared.Loaded.TheVariants.{Done as LoadedDone, OutOfRange as LoadedOutOfRange}
 use Rattle.saves.specs.Load.{Loading, loaded, out_of_range, broken, bad, load_of, answer_of, left_by, refuses, Loads}
 use Rattle.gossip.specs.Notes.{Setup, Gossip, Extended, fresh_gossip}
 use Rattle.gossip.specs.Valid.{setup_ok}
 use Rattle.gossip_table.specs.View.{gossip_of, extended_of}
-use Rattle.gossip_old.specs.declared.Making.TheVariants.{Done, OutOfRange, Broken}
 use Rattle.gossip_old.specs.Made.{sheeted, making_of, MakesAll, loaded_by, LoadsAll}
 
 -- both are made
@@ -29,29 +29,29 @@ both_are : {s st : State} {g h : Gossip} → s ≡ st → g ≡ h → pair s g �
 both_are e f = cc
 
 module _ (p : Setup) (all : Params) (table gossip : List ℕ) where
-  pub fresh_range : setup_ok p ≡ false → MakesAll p all OutOfRange table table gossip gossip
+  pub fresh_range : setup_ok p ≡ false → MakesAll p all (Err OutOfRange) table table gossip gossip
   unfolding making_of
   fresh_range e =
       record {
-        answer = sym (ap (λ (b : Bool). cond b (sheeted (first_broken all)) OutOfRange) e);
+        answer = sym (ap (λ (b : Bool). cond b (sheeted (first_broken all)) (Err OutOfRange)) e);
         state = refl;
         kept = λ z. (refl, refl);
       }
 
   making : setup_ok p ≡ true → making_of p all ≡ sheeted (first_broken all)
   unfolding making_of
-  making e = ap (λ (b : Bool). cond b (sheeted (first_broken all)) OutOfRange) e
+  making e = ap (λ (b : Bool). cond b (sheeted (first_broken all)) (Err OutOfRange)) e
 
   module _ (table' : List ℕ) (r : Result (Unit {0}) FreshError) (fine : setup_ok p ≡ true) (m : Makes all r table table') where
-    pub fresh_broken : (i : ℕ) → r ≡ Err (MadeBroken i) → MakesAll p all (Broken i) table table' gossip gossip
+    pub fresh_broken : (i : ℕ) → r ≡ Err (MadeBroken i) → MakesAll p all (Err (Broken i)) table table' gossip gossip
     fresh_broken i e = go (first_broken all) refl
       where
-        go : (f : Option ℕ) → first_broken all ≡ f → MakesAll p all (Broken i) table table' gossip gossip
+        go : (f : Option ℕ) → first_broken all ≡ f → MakesAll p all (Err (Broken i)) table table' gossip gossip
         go (Some k) z =
             let a : Err (MadeBroken i) ≡ Err (MadeBroken k) = sym e ∙ m.answer ∙ ap made_of z in
             let n : i ≡ k = cc in
             record {
-              answer = ap Broken n ∙ sym (making fine ∙ ap sheeted z);
+              answer = ap Err (Broken n) ∙ sym (making fine ∙ ap sheeted z);
               state = both_are (ap state_of (m.kept i e)) refl;
               kept = λ w. (m.kept i e, refl);
             }
@@ -61,10 +61,10 @@ module _ (p : Setup) (all : Params) (table gossip : List ℕ) where
             absurd (omega arith)
 
     pub fresh_done :
-        (gossip' : List ℕ) → r ≡ Ok tt → gossip_of gossip' ≡ fresh_gossip p → MakesAll p all Done table table' gossip gossip'
+        (gossip' : List ℕ) → r ≡ Ok tt → gossip_of gossip' ≡ fresh_gossip p → MakesAll p all (Ok tt) table table' gossip gossip'
     fresh_done gossip' e g = go (first_broken all) refl
       where
-        go : (f : Option ℕ) → first_broken all ≡ f → MakesAll p all Done table table' gossip gossip'
+        go : (f : Option ℕ) → first_broken all ≡ f → MakesAll p all (Ok tt) table table' gossip gossip'
         go (Some k) z =
             let a : Ok tt ≡ Err (MadeBroken k) = sym e ∙ m.answer ∙ ap made_of z in
             let n : ◌≡◌ {A = ℕ} 0 1 = cc in
@@ -81,11 +81,11 @@ module _ (p : Setup) (all : Params) (clock : ℕ) (s : List ℕ) (table gossip :
   abbrev o : Loading
   o = load_of (setup_ok p) all clock s
 
-  pub load_range : setup_ok p ≡ false → LoadsAll o p LoadedOutOfRange table table gossip gossip
+  pub load_range : setup_ok p ≡ false → LoadsAll o p (Err LoadedOutOfRange) table table gossip gossip
   unfolding load_of
   load_range e = rw e (record { answer = refl; state = refl; kept = λ z. (refl, refl) })
 
-  module _ (table' : List ℕ) (r : Loaded) (fine : setup_ok p ≡ true) (m : Loads (load_of true all clock s) r table table') where
+  module _ (table' : List ℕ) (r : Result (Unit {0}) LoadError) (fine : setup_ok p ≡ true) (m : Loads (load_of true all clock s) r table table') where
     same : load_of true all clock s ≡ o
     same = ap (λ (b : Bool). load_of b all clock s) (sym fine)
 
@@ -103,7 +103,7 @@ module _ (p : Setup) (all : Params) (clock : ℕ) (s : List ℕ) (table gossip :
     left (bad i) e g f = absurd (false≢true (sym e))
 
     -- a refusal of the table's load is one of both
-    pub load_refused : (a : Loaded) → r ≡ a → refuses a ≡ true → LoadsAll o p a table table' gossip gossip
+    pub load_refused : (a : Result (Unit {0}) LoadError) → r ≡ a → refuses a ≡ true → LoadsAll o p a table table' gossip gossip
     load_refused a e f =
         let t : table' ≡ table = m.kept (ap refuses e ∙ f) in
         let w : a ≡ answer_of (load_of true all clock s) = sym e ∙ m.answer in
@@ -115,9 +115,9 @@ module _ (p : Setup) (all : Params) (clock : ℕ) (s : List ℕ) (table gossip :
         })
 
     pub load_done :
-        (gossip' : List ℕ) → r ≡ LoadedDone → gossip_of gossip' ≡ fresh_gossip p → LoadsAll o p LoadedDone table table' gossip gossip'
+        (gossip' : List ℕ) → r ≡ Ok tt → gossip_of gossip' ≡ fresh_gossip p → LoadsAll o p (Ok tt) table table' gossip gossip'
     load_done gossip' e g =
-        let w : LoadedDone ≡ answer_of (load_of true all clock s) = sym e ∙ m.answer in
+        let w : Ok tt ≡ answer_of (load_of true all clock s) = sym e ∙ m.answer in
         rw (sym same)
         (record {
           answer = w;

@@ -24,11 +24,9 @@ use lookup::find::find_connected;
 use records::SLOTS;
 use words::{WORDS, next};
 
-// What came of making a fresh router with an array: both are made, or a set-up number is out of its range, or the first number or rule of
-// the parameters that is broken.
+// Why no router with an array was made: a set-up number is out of its range, or the first number or rule of the parameters that is broken.
 #[derive(Clone, Copy)]
-pub enum Making {
-    Done,
+pub enum MakeError {
     OutOfRange,
     Broken(usize),
 }

@@ -7,12 +7,12 @@ ghost use Rattle.gossip.specs.Valid.{setup_ok};
 ghost use Rattle.gossip_table.specs.View.{gossip_cells, gossip_of, setup_of};
 ghost use Rattle.gossip_old.specs.Made.{MakesAll, LoadsAll};
 
-use crate::Making;
+use crate::MakeError;
 use gossip_table::{GOSSIP_CELLS, SETUP};
 use layout::CELLS;
 use lookup::FreshError;
 use params::Params;
-use saves::Loaded;
+use saves::LoadError;
 
 // Whether the set-up numbers are in their ranges: the limit, D_lazy, the factor, and the bounds of IHAVEs and of replies.
 fn setup_ok(setup: &[u64; SETUP]) -> bool
@@ -35,18 +35,18 @@ pub fn fresh(
     setup: &[u64; SETUP],
     table: &mut [u64; CELLS],
     gossip: &mut [u64; GOSSIP_CELLS],
-) -> Making
+) -> Result<(), MakeError>
     ensures { MakesAll (setup_of setup.now) all result
         table.old table.new gossip.old gossip.new }
 {
     if !setup_ok(setup) {
-        return Making::OutOfRange;
+        return Err(MakeError::OutOfRange);
     }
     match lookup::fresh::fresh(all, table) {
-        Err(FreshError::Broken(i)) => Making::Broken(i),
+        Err(FreshError::Broken(i)) => Err(MakeError::Broken(i)),
         Ok(()) => {
             make_array(setup, gossip);
-            Making::Done
+            Ok(())
         }
     }
 }
@@ -59,21 +59,21 @@ pub fn load(
     bytes: &[u8],
     table: &mut [u64; CELLS],
     gossip: &mut [u64; GOSSIP_CELLS],
-) -> Loaded
+) -> Result<(), LoadError>
     ensures { LoadsAll (load_of (setup_ok (setup_of setup.now)) all clock bytes.now)
         (setup_of setup.now) result
         table.old table.new gossip.old gossip.new }
 {
     if !setup_ok(setup) {
-        return Loaded::OutOfRange;
+        return Err(LoadError::OutOfRange);
     }
     match save_load::load(all, clock, bytes, table) {
-        Loaded::Done => {
+        Ok(()) => {
             make_array(setup, gossip);
-            Loaded::Done
+            Ok(())
         }
-        Loaded::OutOfRange => Loaded::OutOfRange,
-        Loaded::Broken(i) => Loaded::Broken(i),
-        Loaded::Malformed(i) => Loaded::Malformed(i),
+        Err(LoadError::OutOfRange) => Err(LoadError::OutOfRange),
+        Err(LoadError::Broken(i)) => Err(LoadError::Broken(i)),
+        Err(LoadError::Malformed(i)) => Err(LoadError::Malformed(i)),
     }
 }

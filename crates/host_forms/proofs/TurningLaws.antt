@@ -1,5 +1,8 @@
 -- From what the turning of a table promises to what a host gets: the answer as one number; and there and back again.
 -- Assumes nothing.
+use Rattle.std.proofs.Common.{Result}
+use Rattle.std.proofs.Common.{Unit}
+use Rattle.forms.specs.declared.TurnError.{TurnError}
 use Prim.Native.Nat.{ℕ}
 use mathlib.Core.Path.{◌≡◌, refl, sym, ap, ◌∙◌}
 use mathlib.Core.Bool.{Bool, true, false}
@@ -10,31 +13,30 @@ use Rattle.layout.specs.View.{state_of}
 use Rattle.rows.specs.View.{state_of_rows}
 use Rattle.rows.proofs.Whole.{determined}
 use Rattle.validity.specs.Valid.{valid}
-use Rattle.forms.specs.declared.Turned.{Turned}
 use Rattle.forms.specs.Turns.{turned_of, turned_number, FromRows, ToRows}
 use Rattle.forms.proofs.CellLaws.{same_cells}
 use Rattle.host_forms.specs.Turning.{turned_code, HostsFromOld, HostsToOld, OldReturns, TodayReturns}
 
 pub hosts_from_old :
-    (old table table' : List ℕ) (t : Turned) (r : ℕ) →
+    (old table table' : List ℕ) (t : Result (Unit {0}) TurnError) (r : ℕ) →
     FromRows t old table table' →
     r ≡ packed (turned_number t) 0 →
     HostsFromOld old r table table'
 hosts_from_old old table table' t r f e =
     record {
-      answer = e ∙ ap (λ (x : Turned). packed (turned_number x) 0) f.answer;
+      answer = e ∙ ap (λ (x : Result (Unit {0}) TurnError). packed (turned_number x) 0) f.answer;
       state = λ v. f.state (f.answer ∙ ap turned_of v);
       kept = λ v. f.kept (f.answer ∙ ap turned_of v);
     }
 
 pub hosts_to_old :
-    (table old old' : List ℕ) (t : Turned) (r : ℕ) →
+    (table old old' : List ℕ) (t : Result (Unit {0}) TurnError) (r : ℕ) →
     ToRows t table old old' →
     r ≡ packed (turned_number t) 0 →
     HostsToOld table r old old'
 hosts_to_old table old old' t r f e =
     record {
-      answer = e ∙ ap (λ (x : Turned). packed (turned_number x) 0) f.answer;
+      answer = e ∙ ap (λ (x : Result (Unit {0}) TurnError). packed (turned_number x) 0) f.answer;
       state = λ v. f.state (f.answer ∙ ap turned_of v);
       kept = λ v. f.kept (f.answer ∙ ap turned_of v);
     }

@@ -8,14 +8,14 @@ ghost use Rattle.answers.specs.Answers.{packed as packedOf};
 ghost use Rattle.host_forms.specs.Turning.{HostsFromOld, HostsToOld};
 
 use answers::packed;
-use forms::Turned;
+use forms::TurnError;
 
-fn turned(t: Turned) -> u64
+fn turned(t: Result<(), TurnError>) -> u64
     ensures { result ≡ packedOf (turned_number t) 0 }
 {
     match t {
-        Turned::Done => packed(0, 0),
-        Turned::NotRouter => packed(12, 0),
+        Ok(()) => packed(0, 0),
+        Err(TurnError::NotRouter) => packed(12, 0),
     }
 }
 

@@ -1,5 +1,9 @@
 -- From what making a router with its array promises to what a host gets: the answer as one number.
 -- Assumes nothing.
+use Rattle.std.proofs.Common.{Result}
+use Rattle.std.proofs.Common.{Unit}
+use Rattle.saves.specs.declared.LoadError.{LoadError}
+use Rattle.gossip_old.specs.declared.MakeError.{MakeError}
 use Rattle.std.proofs.Common.{Option, Some, None}
 use Rattle.index.proofs.Kit.{ℕ, ◌≤◌, ◌≡◌, refl, sym, ap, ◌∙◌, by_test, arith}
 use mathlib.Core.List.{List}
@@ -9,14 +13,12 @@ use Rattle.params.specs.declared.Params.{Params}
 use Rattle.params.specs.Editions.{edition_of}
 use Rattle.params.specs.Check.{first_broken}
 use Rattle.params.proofs.CheckLaws.{broken_most}
-use Rattle.saves.specs.declared.Loaded.{Loaded}
 use Rattle.saves.specs.Load.{load_of, answer_of, refuses, loaded_number, loaded_value}
 use Rattle.host_saves.proofs.LoadPlaces.{farthest, load_most}
 use Rattle.answers.specs.Answers.{packed}
 use Rattle.gossip.specs.Notes.{Setup}
 use Rattle.gossip.specs.Valid.{setup_ok}
 use Rattle.gossip_table.specs.View.{setup_of, extended_of}
-use Rattle.gossip_old.specs.declared.Making.{Making}
 use Rattle.gossip_old.specs.Made.{sheeted, making_of, made_by, is_made, making_number, making_value, MakesAll, LoadsAll}
 use Rattle.host_gossip.specs.Routers.{OrdinaryPasses, making_code, HostsMade, HostsLoadAll}
 
@@ -39,7 +41,7 @@ making_most q p =
 module _
     (q : Setup)
     (p : Params)
-    (m v : Making)
+    (m v : Result (Unit {0}) MakeError)
     (table table' gossip gossip' : List ℕ)
     (k : MakesAll q p m table table' gossip gossip')
     (t : m ≡ v)
@@ -55,7 +57,7 @@ module _
     hosts_made r e =
         record {
           answer = e ∙ ap making_code making_is;
-          state = k.state ∙ ap (λ (x : Making). made_by x q p (extended_of table gossip)) k.answer;
+          state = k.state ∙ ap (λ (x : Result (Unit {0}) MakeError). made_by x q p (extended_of table gossip)) k.answer;
           kept = λ f. k.kept (ap is_made k.answer ∙ f);
         }
 
@@ -82,7 +84,7 @@ module _
     (p : Params)
     (clock : ℕ)
     (s table table' gossip gossip' : List ℕ)
-    (w v : Loaded)
+    (w v : Result (Unit {0}) LoadError)
     (k : LoadsAll (load_of (setup_ok q) p clock s) q w table table' gossip gossip')
     (t : w ≡ v)
   where
@@ -96,7 +98,7 @@ module _
         HostsLoadAll q (Some p.edition) p.numbers clock s r table table' gossip gossip'
     hosts_load_all r e =
         record {
-          answer = e ∙ ap (λ (x : Loaded). packed (loaded_number x) (loaded_value x)) loaded_is;
+          answer = e ∙ ap (λ (x : Result (Unit {0}) LoadError). packed (loaded_number x) (loaded_value x)) loaded_is;
           state = k.state;
           kept = λ f. k.kept (ap refuses k.answer ∙ f);
         }

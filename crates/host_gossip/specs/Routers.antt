@@ -1,5 +1,9 @@
 -- What a host gets of making a router with the array of orders 6 and 7, fresh or of a save: the promise of the crate below, with the answer
 -- as one number.
+use Rattle.std.specs.Prelude.{Result, Err}
+use Rattle.std.specs.Prelude.{Unit}
+use Rattle.gossip_old.specs.declared.MakeError.{MakeError}
+use Rattle.gossip_old.specs.declared.MakeError.TheVariants.{OutOfRange}
 use Rattle.std.specs.Prelude.{Option, Some, None}
 use Rattle.params.specs.declared.Edition.{Edition}
 use Rattle.std.specs.Prelude.{ℕ, ◌≡◌, true, false, List, [], ◌∷◌, ℤ}
@@ -10,8 +14,6 @@ use Rattle.host_saves.specs.Saving.{load_code}
 use Rattle.gossip.specs.Notes.{Setup, Extended}
 use Rattle.gossip.specs.Valid.{setup_ok}
 use Rattle.gossip_table.specs.View.{setup_of, extended_of}
-use Rattle.gossip_old.specs.declared.Making.{Making}
-use Rattle.gossip_old.specs.declared.Making.TheVariants.{OutOfRange}
 use Rattle.gossip_old.specs.Made.{making_of, made_by, is_made, making_number, making_value, loaded_by}
 
 -- ---- the ordinary set-up numbers, gossipsub's usual defaults: 10 IDONTWANT numbers per record and heartbeat, D_lazy 6, a gossip factor of
@@ -24,11 +26,11 @@ abbrev pub OrdinaryPasses : Type 0
 OrdinaryPasses = setup_ok (setup_of ordinary_setup) ≡ true
 
 -- ---- a fresh router: a number that is no edition's is out of range (2), as a set-up number is
-abbrev pub making_by : Setup → Option Edition → List ℤ → Making
+abbrev pub making_by : Setup → Option Edition → List ℤ → Result (Unit {0}) MakeError
 making_by p (Some e) xs = making_of p (sheet e xs)
-making_by p None xs = OutOfRange
+making_by p None xs = Err OutOfRange
 
-abbrev pub making_code : Making → ℕ
+abbrev pub making_code : Result (Unit {0}) MakeError → ℕ
 making_code m = packed (making_number m) (making_value m)
 
 abbrev pub making_left : Setup → Option Edition → List ℤ → Extended → Extended

@@ -14,7 +14,7 @@ ghost use Rattle.host_gossip.specs.Routers.{HostsMade, ordinary_setup};
 
 pub use crate::loads::load;
 use answers::packed;
-use gossip_old::Making;
+use gossip_old::MakeError;
 use gossip_table::{GOSSIP_CELLS, SETUP};
 use layout::CELLS;
 use limits::NUMBERS;
@@ -38,9 +38,9 @@ fn make(
         table.old table.new gossip.old gossip.new }
 {
     match gossip_old::made::fresh(all, setup, table, gossip) {
-        Making::Done => packed(0, 0),
-        Making::OutOfRange => packed(2, 0),
-        Making::Broken(i) => packed(9, i as u64),
+        Ok(()) => packed(0, 0),
+        Err(MakeError::OutOfRange) => packed(2, 0),
+        Err(MakeError::Broken(i)) => packed(9, i as u64),
     }
 }
 

@@ -9,7 +9,7 @@ use gossip_table::{GOSSIP_CELLS, SETUP};
 use layout::CELLS;
 use limits::NUMBERS;
 use params::Params;
-use saves::Loaded;
+use saves::LoadError;
 
 // Loads with parameters given by value.
 fn fill(
@@ -24,10 +24,10 @@ fn fill(
         table.old table.new gossip.old gossip.new }
 {
     match gossip_old::made::load(all, setup, clock, bytes, table, gossip) {
-        Loaded::Done => packed(0, 0),
-        Loaded::OutOfRange => packed(2, 0),
-        Loaded::Broken(i) => packed(9, i as u64),
-        Loaded::Malformed(place) => packed(10, place as u64),
+        Ok(()) => packed(0, 0),
+        Err(LoadError::OutOfRange) => packed(2, 0),
+        Err(LoadError::Broken(i)) => packed(9, i as u64),
+        Err(LoadError::Malformed(place)) => packed(10, place as u64),
     }
 }
 

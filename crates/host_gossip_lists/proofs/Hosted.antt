@@ -1,6 +1,8 @@
 -- A host's calls on one table and one array: by induction on their list, each from its own promise (Ran); that set-up numbers and
 -- parameters are accepted is in the 0 that the first of all answered.
 -- Assumes nothing.
+use Rattle.std.proofs.Common.{Err}
+use Rattle.gossip_old.specs.declared.MakeError.TheVariants.{OutOfRange}
 use Rattle.std.proofs.Common.{Option, Some, None}
 use Prim.{tt}
 use Rattle.index.proofs.Kit.{ℕ, arith, ◌≡◌, refl, sym, ap, ◌∙◌}
@@ -25,7 +27,6 @@ use Rattle.gossip.specs.Valid.{setup_ok}
 use Rattle.gossip.specs.Step.{FullReply, step_all}
 use Rattle.gossip_table.specs.View.{extended_of}
 use Rattle.gossip_gate.specs.Promise.{reply_code}
-use Rattle.gossip_old.specs.declared.Making.TheVariants.{OutOfRange}
 use Rattle.gossip_old.specs.Made.{sheeted as freshBy, making_of, loaded_by}
 use Rattle.host_gossip.specs.Routers.{HostsMade, HostsLoadAll, making_code}
 use Rattle.gossip_lists.specs.Lists.{Start, AcceptedAll, after_all}
@@ -38,7 +39,7 @@ use Rattle.host_gossip_lists.specs.Hosted.{reply_to, EveryHostAgreesAll, EverySc
 use Rattle.host_gossip_lists.proofs.Ran.{ran}
 
 -- ---- what a 0 says: neither 2 nor 9 was answered
-made_fine : (b : Bool) (f : Option ℕ) → 0 ≡ making_code (cond b (freshBy f) OutOfRange) → (b ≡ true) × (f ≡ None)
+made_fine : (b : Bool) (f : Option ℕ) → 0 ≡ making_code (cond b (freshBy f) (Err OutOfRange)) → (b ≡ true) × (f ≡ None)
 made_fine true (Some i) e = absurd (omega (arith, e))
 made_fine true None e = (refl, refl)
 made_fine false f e = absurd (omega (arith, e))

@@ -1,17 +1,18 @@
 -- From what the writer of messages promises to what a host gets: the answer as one number.
 -- Assumes nothing.
+use Rattle.std.proofs.Common.{Result}
+use Rattle.rpc_write.specs.declared.WriteError.{WriteError}
 use Rattle.index.proofs.Kit.{ℕ, ◌≤◌, ◌≡◌, sym, ap, ◌∙◌, arith}
 use mathlib.Core.List.{List}
 use Rattle.answers.specs.Answers.{packed}
 use Rattle.rpc.specs.Reading.{Known}
 use Rattle.rpc_write.specs.Writing.{wrote_number, wrote_value}
-use Rattle.rpc_write.specs.declared.Wrote.{Wrote}
 use Rattle.rpc_actions.specs.Actions.{write_actions_of}
 use Rattle.rpc_actions.proofs.LongestLaws.{write_most}
 use Rattle.host_messages.specs.Writing.{HostsWritten}
 
 module _
-    (k : Known) (order actions topics changes buf out : List ℕ) (a v : Wrote)
+    (k : Known) (order actions topics changes buf out : List ℕ) (a v : Result ℕ WriteError)
     (e : (a ≡ (write_actions_of k order actions topics changes buf).answer)
     × (out ≡ (write_actions_of k order actions topics changes buf).bytes))
     (t : a ≡ v)
@@ -24,4 +25,4 @@ module _
 
     pub hosts_written :
         (r : ℕ) → r ≡ packed (wrote_number v) (wrote_value v) → HostsWritten (write_actions_of k order actions topics changes buf) r out
-    hosts_written r p = record { answer = p ∙ ap (λ (x : Wrote). packed (wrote_number x) (wrote_value x)) answer_is; bytes = e.1 }
+    hosts_written r p = record { answer = p ∙ ap (λ (x : Result ℕ WriteError). packed (wrote_number x) (wrote_value x)) answer_is; bytes = e.1 }

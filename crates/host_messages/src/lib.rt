@@ -10,8 +10,8 @@ ghost use Rattle.host_messages.specs.Writing.{HostsWriteMessage};
 ghost use Rattle.rpc.specs.Names.{names_ok};
 
 use answers::packed;
-use rpc::{Answer, NAMES_BYTES};
-use rpc_write::Wrote;
+use rpc::{NAMES_BYTES, ReadError};
+use rpc_write::WriteError;
 
 // Tests the names of topics, eight rows of a length and 64 bytes: 0, or 2.
 pub fn names(names: &[u8; NAMES_BYTES]) -> u64
@@ -36,10 +36,10 @@ pub fn read(
     ensures { HostsReadMessage names ids numbers order message result entries }
 {
     match rpc::read(names, ids, numbers, order, message, entries) {
-        Answer::Done(n) => packed(0, n as u64),
-        Answer::ListShort => packed(8, 0),
-        Answer::NotTable => packed(2, 0),
-        Answer::Malformed(place) => packed(10, place as u64),
+        Ok(n) => packed(0, n as u64),
+        Err(ReadError::ListShort) => packed(8, 0),
+        Err(ReadError::NotTable) => packed(2, 0),
+        Err(ReadError::Malformed(place)) => packed(10, place as u64),
     }
 }
 
@@ -58,8 +58,8 @@ pub fn write(
     ensures { HostsWriteMessage names ids numbers order actions topics changes result buffer }
 {
     match rpc_actions::write(names, ids, numbers, order, actions, topics, changes, buffer) {
-        Wrote::Done(n) => packed(0, n as u64),
-        Wrote::NotList => packed(2, 0),
-        Wrote::Short => packed(13, 0),
+        Ok(n) => packed(0, n as u64),
+        Err(WriteError::NotList) => packed(2, 0),
+        Err(WriteError::Short) => packed(13, 0),
     }
 }

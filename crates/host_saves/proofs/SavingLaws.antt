@@ -1,5 +1,10 @@
 -- From what save and load promise to what a host gets: the answer as one number; and over a power cycle.
 -- Assumes nothing.
+use Rattle.std.proofs.Common.{Result, Ok, Err}
+use Rattle.std.proofs.Common.{Unit}
+use Rattle.saves.specs.declared.SaveError.{SaveError}
+use Rattle.saves.specs.declared.SaveError.TheVariants.{Early, NotRouter, OutOfRange, Short}
+use Rattle.saves.specs.declared.LoadError.{LoadError}
 use Rattle.std.proofs.Common.{Option, Some, None}
 use Prim.Native.Nat.{ℕ, ◌+◌, ◌≤◌}
 use native.Mathlib.Omega.{arith}
@@ -19,9 +24,6 @@ use Rattle.params.specs.declared.Params.{Params}
 use Rattle.params.specs.Editions.{edition_of, sheet}
 use Rattle.records.specs.Records.{State}
 use Rattle.validity.specs.Valid.{max_time, valid}
-use Rattle.saves.specs.declared.Saved.{Saved}
-use Rattle.saves.specs.declared.Saved.TheVariants.{Done, Early, OutOfRange, NotRouter, Short}
-use Rattle.saves.specs.declared.Loaded.{Loaded}
 use Rattle.saves.specs.Save.{order, body_of, save_of, Saving, kept, storing, saving_of, saved_number, saved_value}
 use Rattle.saves.specs.Load.{Loading, loaded, loaded_state, load_of, answer_of, left_by, refuses, Loads, loaded_number, loaded_value}
 use Rattle.saves.proofs.Promised.{every_save_loads, remember}
@@ -39,14 +41,14 @@ pub record Told (st : State) (time n : ℕ) (buf buf' : List ℕ) : Type 0 where
 
 module _ (st : State) (time : ℕ) (buf buf' : List ℕ) (n : ℕ) where
   abbrev Says : Saving → Type 0
-  Says w = (w.answer ≡ Done n) × (buf' ≡ w.bytes)
+  Says w = (w.answer ≡ Ok n) × (buf' ≡ w.bytes)
 
   told_stored : valid st ≡ true → st.clock ≤ time → Says (storing (save_of st time) buf) → Told st time n buf buf'
   told_stored v late e =
       by_test (Told st time n buf buf') (ltb (length buf) (length (save_of st time)))
-      (λ t. let q : Says (kept Short buf) = rw t at e in let z : ◌≡◌ {A = ℕ} 13 0 = ap saved_number q.0 in absurd (omega arith))
+      (λ t. let q : Says (kept (Err Short) buf) = rw t at e in let z : ◌≡◌ {A = ℕ} 13 0 = ap saved_number q.0 in absurd (omega arith))
       (λ t.
-      let q : Says (record { answer = Done (length (save_of st time)); bytes = sets buf 0 (save_of st time) }) = rw t at e in
+      let q : Says (record { answer = Ok (length (save_of st time)); bytes = sets buf 0 (save_of st time) }) = rw t at e in
       let z : length (save_of st time) ≡ n = ap saved_value q.0 in
       record {
         router = v;
@@ -62,19 +64,19 @@ module _ (st : State) (time : ℕ) (buf buf' : List ℕ) (n : ℕ) where
       by_test (Told st time n buf buf') (valid st)
       (λ v. by_test (Told st time n buf buf') (ltb max_time time)
       (λ t.
-      let q : Says (kept OutOfRange buf) = rw (v, t) at e in
+      let q : Says (kept (Err OutOfRange) buf) = rw (v, t) at e in
       let z : ◌≡◌ {A = ℕ} 2 0 = ap saved_number q.0 in
       absurd (omega arith))
       (λ t. by_test (Told st time n buf buf') (ltb time st.clock)
       (λ u.
-      let q : Says (kept Early buf) = rw (v, t, u) at e in
+      let q : Says (kept (Err Early) buf) = rw (v, t, u) at e in
       let z : ◌≡◌ {A = ℕ} 1 0 = ap saved_number q.0 in
       absurd (omega arith))
       (λ u.
       let q : Says (storing (save_of st time) buf) = rw (v, t, u) at e in
       told_stored v (ltb-false time st.clock u) q)))
       (λ v.
-      let q : Says (kept NotRouter buf) = rw v at e in
+      let q : Says (kept (Err NotRouter) buf) = rw v at e in
       let z : ◌≡◌ {A = ℕ} 12 0 = ap saved_number q.0 in
       absurd (omega arith))
 
@@ -82,28 +84,28 @@ module _
     (table : List ℕ)
     (time : ℕ)
     (buf buf' : List ℕ)
-    (w v : Saved)
+    (w v : Result ℕ SaveError)
     (g : (w ≡ (saving_of (state_of table) time buf).answer) × (buf' ≡ (saving_of (state_of table) time buf).bytes))
     (t : w ≡ v)
   where
     saved_is : v ≡ (saving_of (state_of table) time buf).answer
     saved_is = sym t ∙ g.0
 
-    pub save_fits : (n : ℕ) → v ≡ Done n → n ≤ 4294967295
+    pub save_fits : (n : ℕ) → v ≡ Ok n → n ≤ 4294967295
     save_fits n e =
         let k = told (state_of table) time buf buf' n (sym saved_is ∙ e, g.1) in
         omega (arith, k.size, save_most (state_of table) k.router time k.late)
 
     pub hosts_save : (r : ℕ) → r ≡ packed (saved_number v) (saved_value v) → HostsSave table time r buf buf'
     hosts_save r e =
-        record { answer = e ∙ ap (λ (x : Saved). packed (saved_number x) (saved_value x)) saved_is; bytes = g.1 }
+        record { answer = e ∙ ap (λ (x : Result ℕ SaveError). packed (saved_number x) (saved_value x)) saved_is; bytes = g.1 }
 
 -- ---- loading
 module _
     (p : Params)
     (clock : ℕ)
     (s table table' : List ℕ)
-    (w v : Loaded)
+    (w v : Result (Unit {0}) LoadError)
     (k : Loads (load_of true p clock s) w table table')
     (t : w ≡ v)
   where
@@ -117,7 +119,7 @@ module _
         HostsLoad (Some p.edition) p.numbers clock s r table table'
     hosts_load r e =
         record {
-          answer = e ∙ ap (λ (x : Loaded). packed (loaded_number x) (loaded_value x)) loaded_is;
+          answer = e ∙ ap (λ (x : Result (Unit {0}) LoadError). packed (loaded_number x) (loaded_value x)) loaded_is;
           state = k.state;
           kept = λ f. k.kept (ap refuses k.answer ∙ f);
         }
@@ -133,12 +135,12 @@ module _ (n : ℕ) (m : Option Edition) (e : m ≡ edition_of n) (xs : List ℤ)
 
 -- ---- over a power cycle
 -- an answer 0 is told of a save that was done
-done_by : (a : Saved) (n : ℕ) → packed 0 n ≡ packed (saved_number a) (saved_value a) → a ≡ Done n
-done_by (Done m) n e = let q : m ≡ n = omega arith in ap Done q
-done_by Early n e = absurd (omega arith)
-done_by OutOfRange n e = absurd (omega arith)
-done_by NotRouter n e = absurd (omega arith)
-done_by Short n e = absurd (omega arith)
+done_by : (a : Result ℕ SaveError) (n : ℕ) → packed 0 n ≡ packed (saved_number a) (saved_value a) → a ≡ Ok n
+done_by (Ok m) n e = let q : m ≡ n = omega arith in ap Ok q
+done_by (Err Early) n e = absurd (omega arith)
+done_by (Err OutOfRange) n e = absurd (omega arith)
+done_by (Err NotRouter) n e = absurd (omega arith)
+done_by (Err Short) n e = absurd (omega arith)
 
 front_back : (n : ℕ) (save buf : List ℕ) → length save ≡ n → n ≤ length buf → take n (sets buf 0 save) ≡ save
 front_back n save buf e h =

@@ -10,18 +10,18 @@ use answers::packed;
 use layout::CELLS;
 use limits::NUMBERS;
 use params::Params;
-use saves::{Loaded, Saved};
+use saves::{LoadError, SaveError};
 
 // Saves the records at a time, to the start of a buffer: 0 with the length, 12, 2, 1 or 13.
 pub fn save(table: &[u64; CELLS], time: u64, buffer: &mut [u8]) -> u64
     ensures { HostsSave table.now time result buffer.old buffer.new }
 {
     match save_write::save(table, time, buffer) {
-        Saved::Done(n) => packed(0, n as u64),
-        Saved::Early => packed(1, 0),
-        Saved::OutOfRange => packed(2, 0),
-        Saved::NotRouter => packed(12, 0),
-        Saved::Short => packed(13, 0),
+        Ok(n) => packed(0, n as u64),
+        Err(SaveError::Early) => packed(1, 0),
+        Err(SaveError::OutOfRange) => packed(2, 0),
+        Err(SaveError::NotRouter) => packed(12, 0),
+        Err(SaveError::Short) => packed(13, 0),
     }
 }
 
@@ -30,10 +30,10 @@ fn fill(all: Params, clock: u64, bytes: &[u8], table: &mut [u64; CELLS]) -> u64
     ensures { HostsLoad (Some all.edition) all.numbers clock bytes.now result table.old table.new }
 {
     match save_load::load(all, clock, bytes, table) {
-        Loaded::Done => packed(0, 0),
-        Loaded::OutOfRange => packed(2, 0),
-        Loaded::Broken(i) => packed(9, i as u64),
-        Loaded::Malformed(place) => packed(10, place as u64),
+        Ok(()) => packed(0, 0),
+        Err(LoadError::OutOfRange) => packed(2, 0),
+        Err(LoadError::Broken(i)) => packed(9, i as u64),
+        Err(LoadError::Malformed(place)) => packed(10, place as u64),
     }
 }
 

@@ -1,6 +1,9 @@
 -- What the call leaves in the buffer is read back, and written again gives the same: where it answers 0 its list was accepted and there was
 -- room, so the buffer begins with the message.
 -- Assumes nothing.
+use Rattle.std.proofs.Common.{Result, Ok, Err}
+use Rattle.rpc_write.specs.declared.WriteError.{WriteError}
+use Rattle.rpc_write.specs.declared.WriteError.TheVariants.{NotList, Short}
 use Rattle.index.proofs.Kit.{ℕ, ◌+◌, ◌≤◌, ◌≡◌, sym, ap, ◌∙◌, true, arith, by_test}
 use mathlib.Core.Bool.{◌&&◌}
 use mathlib.Core.List.{List}
@@ -11,8 +14,6 @@ use lib.Seq.{sets, sets-eq, take-append_seam}
 use Rattle.index.proofs.Index.{both}
 use Rattle.message_ids.specs.Ids.{table_ok}
 use Rattle.rpc.specs.Reading.{Known, read_of}
-use Rattle.rpc_write.specs.declared.Wrote.{Wrote}
-use Rattle.rpc_write.specs.declared.Wrote.TheVariants.{Done, NotList, Short}
 use Rattle.rpc_write.specs.Writing.{Writing, list_ok, message_of, write_of, wrote_number, wrote_value}
 use Rattle.rpc_actions.specs.Actions.{actions_ok, changes_ok, entries_of, entry_count, write_actions_of}
 use Rattle.round_trip.specs.RoundTrip.{in_order, CallReadsBack}
@@ -24,7 +25,7 @@ front : (buf m : List ℕ) → length m ≤ length buf → take (length m) (sets
 front buf m h = ap (take (length m)) (sets-eq m buf 0 (omega arith)) ∙ take-append_seam m (drop (0 + length m) buf)
 
 module _ (k : Known) (order actions topics changes buf : List ℕ) (size : ℕ)
-    (e : (write_actions_of k order actions topics changes buf).answer ≡ Done size) where
+    (e : (write_actions_of k order actions topics changes buf).answer ≡ Ok size) where
   abbrev L : List ℕ
   L = entries_of actions topics changes
 
@@ -38,7 +39,7 @@ module _ (k : Known) (order actions topics changes buf : List ℕ) (size : ℕ)
     pub room : length (message_of k L n) ≤ length buf
     pub size_is : size ≡ length (message_of k L n)
 
-  not_done : (a : Wrote) → (write_actions_of k order actions topics changes buf).answer ≡ a → (wrote_number a ≡ 0 → ⊥) → Accepted
+  not_done : (a : Result ℕ WriteError) → (write_actions_of k order actions topics changes buf).answer ≡ a → (wrote_number a ≡ 0 → ⊥) → Accepted
   not_done a f h = absurd (h (ap wrote_number (sym f ∙ e)))
 
   pub accepted : Accepted
@@ -50,9 +51,9 @@ module _ (k : Known) (order actions topics changes buf : List ℕ) (size : ℕ)
       by_test Accepted (T && list_ok k L n)
       (λ u.
       by_test Accepted (ltb (length buf) (length (message_of k L n)))
-      (λ v. not_done Short (rw (t, u, v)) (λ q. omega arith))
+      (λ v. not_done (Err Short) (rw (t, u, v)) (λ q. omega arith))
       (λ v.
-      let d : (write_actions_of k order actions topics changes buf).answer ≡ Done (length (message_of k L n)) = rw (t, u, v) in
+      let d : (write_actions_of k order actions topics changes buf).answer ≡ Ok (length (message_of k L n)) = rw (t, u, v) in
       let p = both T (list_ok k L n) u in
       record {
         call = rw t;
@@ -61,8 +62,8 @@ module _ (k : Known) (order actions topics changes buf : List ℕ) (size : ℕ)
         room = ltb-false (length buf) (length (message_of k L n)) v;
         size_is = ap wrote_value (sym e ∙ d);
       }))
-      (λ u. not_done NotList (rw (t, u)) (λ q. omega arith)))
-      (λ t. not_done NotList (rw t) (λ q. omega arith))
+      (λ u. not_done (Err NotList) (rw (t, u)) (λ q. omega arith)))
+      (λ t. not_done (Err NotList) (rw t) (λ q. omega arith))
 
   left : take size (write_actions_of k order actions topics changes buf).bytes ≡ message_of k L n
   unfolding write_of
@@ -82,7 +83,7 @@ call_reads_back k order actions topics changes buf lent size set e h =
 -- the entries in order 1's order, written again
 pub order_again :
     (k : Known) (order actions topics changes buf : List ℕ) (size : ℕ) →
-    (write_actions_of k order actions topics changes buf).answer ≡ Done size →
+    (write_actions_of k order actions topics changes buf).answer ≡ Ok size →
     write_of k order (in_order (entries_of actions topics changes) (entry_count topics changes)) (entry_count topics changes) buf
     ≡ write_actions_of k order actions topics changes buf
 unfolding write_of

@@ -1,5 +1,7 @@
 -- What the functions of the reader promise to each other. Who believes the promise of `read` needs none of it. The first pass finds whether
 -- the message is whole and counts the entries of each kind; the second puts each entry at the next place of its kind.
+use Rattle.std.specs.Prelude.{Result}
+use Rattle.rpc.specs.declared.ReadError.{ReadError}
 use Rattle.std.specs.Prelude.{ℕ, ◌+◌, ◌*◌, ◌≤◌, ◌≡◌, Bool, true, ◌&&◌, cond, List, eqb, length}
 use Rattle.std.proofs.lemmas.List.Edits.{sets}
 use Rattle.index.specs.Index.{one}
@@ -9,7 +11,6 @@ use Rattle.fields.specs.declared.Part.{Part}
 use Rattle.message_ids.specs.Ids.{ids_ok}
 use Rattle.rpc.specs.Messages.{Item, subscription, graft, prune, idontwant, id_item, inside, rpc_at, held_of, none_held}
 use Rattle.rpc.specs.Reading.{names_bytes, Known, known, numbers_of, only, ordered, Reading}
-use Rattle.rpc.specs.declared.Answer.{Answer}
 use Rattle.rpc.specs.declared.Held.{Held}
 use Rattle.rpc.specs.declared.Check.{Check}
 use Rattle.rpc.specs.declared.Check.TheVariants.{Whole, Torn}
@@ -138,5 +139,5 @@ Fills k s n list r out =
     (r ≡ length xs) × (out ≡ sets list 0 (numbers_of k s (ordered xs)))
 
 -- what `read` gives
-abbrev pub Reads : Reading → Answer → List ℕ → Type 0
+abbrev pub Reads : Reading → Result ℕ ReadError → List ℕ → Type 0
 Reads w r out = (r ≡ w.answer) × (out ≡ w.list)

@@ -1,5 +1,8 @@
 -- Laws of writing: bytes stored one after the other, and the ends of the functions that store them.
 -- Assumes nothing.
+use Rattle.std.proofs.Common.{Result, Ok, Err}
+use Rattle.rpc_write.specs.declared.WriteError.{WriteError}
+use Rattle.rpc_write.specs.declared.WriteError.TheVariants.{NotList, Short}
 use Rattle.std.proofs.Common.{Option, Some, None}
 use Rattle.index.proofs.Kit.{ℕ, ◌+◌, ◌-◌, ◌*◌, ◌<◌, ◌≤◌, ◌≡◌, refl, sym, ap, ◌∙◌, Bool, true, false, arith, every, every_fails}
 use Rattle.index.specs.Index.{gather}
@@ -23,8 +26,6 @@ use Rattle.rpc.specs.Reading.{row_bytes, name_bytes, Known}
 use Rattle.rpc_write.specs.Writing.{Stored, Fitting, part_size, value_field, head_bytes, part_field, name_size, run, name_of, id_of, early}
 use Rattle.rpc_write.specs.Writing.{late, name_number, named_bytes, entry_bytes, one_bytes, kind_bytes, control_bytes, inner_field}
 use Rattle.rpc_write.specs.Writing.{message_of, named_ok, is_found, notice_ok, entry_ok, list_ok, write_of}
-use Rattle.rpc_write.specs.declared.Wrote.{Wrote}
-use Rattle.rpc_write.specs.declared.Wrote.TheVariants.{Done, NotList, Short}
 
 -- ---- one after the other
 pub stored_none : (b : List ℕ) (at : ℕ) → Stored b at [] at b
@@ -540,27 +541,27 @@ module _ (lent : Known) (list : List ℕ) (n : ℕ) where
       list_good i j k e = rw (le-leb n 72 h, le-leb (3 * n) (length list) l, every_done (ok_at lent list) n i j k e)
 
 -- ---- the ends of `write`
-abbrev pub Writes : Known → List ℕ → List ℕ → ℕ → List ℕ → Wrote → List ℕ → Type 0
+abbrev pub Writes : Known → List ℕ → List ℕ → ℕ → List ℕ → Result ℕ WriteError → List ℕ → Type 0
 Writes lent order list n buf r out = (r ≡ (write_of lent order list n buf).answer) × (out ≡ (write_of lent order list n buf).bytes)
 
 module _ (lent : Known) (order list : List ℕ) (n : ℕ) (buf : List ℕ) where
-  pub writes_no_table : table_ok lent.ids lent.numbers order ≡ false → Writes lent order list n buf NotList buf
+  pub writes_no_table : table_ok lent.ids lent.numbers order ≡ false → Writes lent order list n buf (Err NotList) buf
   unfolding write_of
   writes_no_table e = (rw e, rw e)
 
   module _ (k : table_ok lent.ids lent.numbers order ≡ true) where
-    pub writes_not : list_ok lent list n ≡ false → Writes lent order list n buf NotList buf
+    pub writes_not : list_ok lent list n ≡ false → Writes lent order list n buf (Err NotList) buf
     unfolding write_of
     writes_not e = (rw (k, e), rw (k, e))
 
     module _ (e : list_ok lent list n ≡ true) where
-      pub writes_short : length buf < length (message_of lent list n) → Writes lent order list n buf Short buf
+      pub writes_short : length buf < length (message_of lent list n) → Writes lent order list n buf (Err Short) buf
       unfolding write_of
       writes_short h = let t = lt-ltb (length buf) (length (message_of lent list n)) h in (rw (k, e, t), rw (k, e, t))
 
       pub writes_done :
           (size : ℕ) (out : List ℕ) → length (message_of lent list n) ≤ length buf → Stored buf 0 (message_of lent list n) size out →
-          Writes lent order list n buf (Done size) out
+          Writes lent order list n buf (Ok size) out
       unfolding write_of
       writes_done size out h s =
           let t = le-ltb (length buf) (length (message_of lent list n)) h in

@@ -1,6 +1,9 @@
 -- An RPC written from a list of entries (02, orders 4 and 6), three numbers each, as the reader lists them: kind, topic, value; of an
 -- IDONTWANT entry 0 and the message's number. "fields in ascending order, one control field or none, shortest numbers, absent rather than
 -- zero."
+use Rattle.std.specs.Prelude.{Result, Ok, Err}
+use Rattle.rpc_write.specs.declared.WriteError.{WriteError}
+use Rattle.rpc_write.specs.declared.WriteError.TheVariants.{NotList, Short}
 use Rattle.std.specs.Prelude.{Option, Some, None}
 use Rattle.std.specs.Prelude.{ℕ, ◌+◌, ◌-◌, ◌*◌, ◌≤◌, ◌<◌, ◌≡◌, Bool, true, false, ◌&&◌, ◌||◌, cond, List, [], ◌∷◌, ◌++◌, eqb, leb, ltb, length, get_or}
 use Rattle.std.proofs.lemmas.List.Edits.{sets}
@@ -11,8 +14,6 @@ use Rattle.varint.specs.Groups.{encode}
 use Rattle.message_ids.specs.Ids.{id_size, id_start, number_row, table_ok}
 use Rattle.rpc.specs.Messages.{subscription, graft, prune, idontwant}
 use Rattle.rpc.specs.Reading.{topics, name_bytes, row_bytes, Known, known}
-use Rattle.rpc_write.specs.declared.Wrote.{Wrote}
-use Rattle.rpc_write.specs.declared.Wrote.TheVariants.{Done, NotList, Short}
 
 -- ---- numbers by name
 -- "PRUNE [..] backoff [..] in seconds", of 01's form: 1..3600 in the parameters, 0 where there is none
@@ -124,7 +125,7 @@ list_ok k list n =
     && every n (λ i. entry_ok k (get_or list (3 * i) 0) (get_or list (3 * i + 1) 0) (get_or list (3 * i + 2) 0)))
 
 pub record Writing : Type 0 where
-  pub answer : Wrote
+  pub answer : Result ℕ WriteError
   pub bytes : List ℕ
 
 -- "a buffer shorter than the message, and here only that, a new number 13. The buffer is unchanged by either, and past the message." Order
@@ -132,20 +133,20 @@ pub record Writing : Type 0 where
 unfoldable pub write_of : Known → List ℕ → List ℕ → ℕ → List ℕ → Writing
 write_of k order list n buf =
     cond (table_ok k.ids k.numbers order && list_ok k list n)
-    (cond (ltb (length buf) (length (message_of k list n))) (record { answer = Short; bytes = buf })
-    (record { answer = Done (length (message_of k list n)); bytes = sets buf 0 (message_of k list n) }))
-    (record { answer = NotList; bytes = buf })
+    (cond (ltb (length buf) (length (message_of k list n))) (record { answer = Err Short; bytes = buf })
+    (record { answer = Ok (length (message_of k list n)); bytes = sets buf 0 (message_of k list n) }))
+    (record { answer = Err NotList; bytes = buf })
 
 -- ---- the answer's number, and the value that goes with it
-abbrev pub wrote_number : Wrote → ℕ
-wrote_number (Done n) = 0
-wrote_number NotList = 2
-wrote_number Short = 13
+abbrev pub wrote_number : Result ℕ WriteError → ℕ
+wrote_number (Ok n) = 0
+wrote_number (Err NotList) = 2
+wrote_number (Err Short) = 13
 
-abbrev pub wrote_value : Wrote → ℕ
-wrote_value (Done n) = n
-wrote_value NotList = 0
-wrote_value Short = 0
+abbrev pub wrote_value : Result ℕ WriteError → ℕ
+wrote_value (Ok n) = n
+wrote_value (Err NotList) = 0
+wrote_value (Err Short) = 0
 
 -- ---- what the code's parts promise
 -- `bytes` stand in the buffer from `at` on, as far as it goes, all else is as it was, and `next` is the place after them
@@ -163,7 +164,7 @@ Shown = Both (Bor (List ℕ)) (Bor (List ℕ))
 abbrev pub Puts : Lent → ℕ → List ℕ → ℕ → ℕ → Type 0
 Puts buf at bytes most next = Stored buf.entry.now at bytes next buf.exit.now × (next ≤ at + most)
 
-abbrev pub Writes : Writing → Wrote → Lent → Type 0
+abbrev pub Writes : Writing → Result ℕ WriteError → Lent → Type 0
 Writes w r buf = (r ≡ w.answer) × (buf.exit.now ≡ w.bytes)
 
 abbrev pub ControlSize : Known → List ℕ → ℕ → ℕ → Type 0

@@ -17,10 +17,9 @@ ghost use Rattle.rpc.specs.Reading.{name_bytes, known};
 use message_ids::{number_row, table_ok};
 use rpc::{GRAFT, IDONTWANT, NAME_BYTES, NAMES_BYTES, PRUNE, ROW_BYTES, SUBSCRIPTION};
 
+// Why no message is written; the buffer is as it was.
 #[derive(Clone, Copy)]
-pub enum Wrote {
-    // How many bytes were written.
-    Done(usize),
+pub enum WriteError {
     // 2
     NotList,
     // 13
@@ -678,19 +677,19 @@ pub fn write(
     list: &[u64],
     n: usize,
     buf: &mut [u8],
-) -> Wrote
+) -> Result<usize, WriteError>
     ensures { Writes (write_of (known names.now ids.now numbers.now) order.now
         list.now n buf.old) result buf }
 {
     if !table_ok(ids, numbers, order) {
-        return Wrote::NotList;
+        return Err(WriteError::NotList);
     }
     if !list_ok(names, ids, numbers, order, list, n) {
-        return Wrote::NotList;
+        return Err(WriteError::NotList);
     }
     let control = control_size(names, ids, numbers, order, list, n);
     if buf.len() < message_size(names, ids, numbers, order, list, n, control) {
-        return Wrote::Short;
+        return Err(WriteError::Short);
     }
-    Wrote::Done(put_message(buf, names, ids, numbers, order, list, n, control))
+    Ok(put_message(buf, names, ids, numbers, order, list, n, control))
 }

@@ -1,5 +1,9 @@
 -- The ends of the tests of a load.
 -- Assumes nothing.
+use Rattle.std.proofs.Common.{Ok, Err}
+use Rattle.std.proofs.Common.{tt}
+use Rattle.saves.specs.declared.LoadError.{LoadError}
+use Rattle.saves.specs.declared.LoadError.TheVariants.{Malformed, OutOfRange}
 use Rattle.std.proofs.Common.{Option, Some, None, Result}
 use Rattle.std.proofs.Common.{Unit}
 use Rattle.lookup.specs.declared.FreshError.{FreshError}
@@ -25,8 +29,6 @@ use Rattle.saves.specs.Load.{Parse, numbers, malformed, parse_from, most_of, asc
 use Rattle.saves.specs.Load.{out_of_range}
 use Rattle.saves.specs.Load.{broken, bad, slots_of, judged_by, records, counted, opened, sheeted, load_of, answer_of}
 use Rattle.saves.specs.Load.{refuses, Loads}
-use Rattle.saves.specs.declared.Loaded.{Loaded}
-use Rattle.saves.specs.declared.Loaded.TheVariants.{Done, OutOfRange, Broken, Malformed}
 use Rattle.saves.proofs.Parsing.{top}
 use Rattle.save_load.specs.declared.Skim.{Skim}
 use Rattle.save_load.specs.declared.Skim.TheVariants.{End, Broken as Cut}
@@ -66,7 +68,7 @@ skim_read s at n next k e q = let r = skim_end (parse_from n s at) next (sym e �
 
 module _ (p : Params) (clock : ℕ) (s codes : List ℕ) (n at : ℕ) (c : Coded p codes) (few : n ≤ slot_count) (k : Skim)
     (e : k ≡ skim_of (parse_from (n * 44) s at)) where
-  pub records_broken : (place : ℕ) → k ≡ Cut place → Says p clock s (records p clock s n at) (Refuse (Malformed place))
+  pub records_broken : (place : ℕ) → k ≡ Cut place → Says p clock s (records p clock s n at) (Refuse (Err (Malformed place)))
   unfolding records
   records_broken place q =
       let r = skim_broken (parse_from (n * 44) s at) place (sym e ∙ q) in
@@ -76,7 +78,7 @@ module _ (p : Params) (clock : ℕ) (s codes : List ℕ) (n at : ℕ) (c : Coded
     read : (l : List ℕ) × (parse_from (n * 44) s at ≡ numbers l next)
     read = skim_end (parse_from (n * 44) s at) next (sym e ∙ q)
 
-    pub records_over : next < length s → Says p clock s (records p clock s n at) (Refuse (Malformed next))
+    pub records_over : next < length s → Says p clock s (records p clock s n at) (Refuse (Err (Malformed next)))
     unfolding records
     records_over h = (rw (read.1, lt-ltb next (length s) h), refl)
 
@@ -99,7 +101,7 @@ module _ (p : Params) (clock : ℕ) (s codes : List ℕ) (n at : ℕ) (c : Coded
       unfolding records
       record_is = rw (read.1, le-ltb next (length s) h)
 
-      pub records_outside : (place : ℕ) → f ≡ Some place → Says p clock s (records p clock s n at) (Refuse (Broken place))
+      pub records_outside : (place : ℕ) → f ≡ Some place → Says p clock s (records p clock s n at) (Refuse (Err (Broken place)))
       records_outside place t =
           let b = place_found (first (n * 44) (outside (most_of (fresh_state p)) l)) place (sym judge_is ∙ t) in
           (sym (ap answer_of (record_is ∙ b)), refl)
@@ -146,11 +148,11 @@ module _ (p : Params) (clock : ℕ) (s : List ℕ) (most at : ℕ) (r : Option (
 
 -- ---- the ends of `check_edition`
 module _ (p : Params) (clock : ℕ) (s : List ℕ) (r : Option (ℕ × ℕ)) (e : r ≡ read_at top s 0) where
-  pub edition_bad : r ≡ None → Says p clock s (opened p clock s (read_at top s 0)) (Refuse (Malformed 0))
+  pub edition_bad : r ≡ None → Says p clock s (opened p clock s (read_at top s 0)) (Refuse (Err (Malformed 0)))
   edition_bad q = (rw (sym e ∙ q), refl)
 
   module _ (v next : ℕ) (q : r ≡ Some (v, next)) (f : Option ℕ) (d : f ≡ slots_of v) where
-    pub edition_none : f ≡ None → Says p clock s (opened p clock s (read_at top s 0)) (Refuse (Broken 0))
+    pub edition_none : f ≡ None → Says p clock s (opened p clock s (read_at top s 0)) (Refuse (Err (Broken 0)))
     edition_none t = (rw (sym e ∙ q, sym d ∙ t), refl)
 
     pub edition_fine : (most : ℕ) → f ≡ Some most → (a : Check) → Says p clock s (counted p clock s most next (read_at top s next)) a →
@@ -161,12 +163,12 @@ module _ (p : Params) (clock : ℕ) (s : List ℕ) (r : Option (ℕ × ℕ)) (e 
 
 -- ---- the ends of `check_all`
 module _ (p : Params) (clock : ℕ) (s : List ℕ) (f : Option ℕ) (e : f ≡ first_broken p) where
-  pub check_sheet : (i : ℕ) → f ≡ Some i → Checks p clock s (load_of true p clock s) (Refuse (Broken i))
+  pub check_sheet : (i : ℕ) → f ≡ Some i → Checks p clock s (load_of true p clock s) (Refuse (Err (Broken i)))
   unfolding load_of
   check_sheet i q = (rw (sym e ∙ q), refl)
 
   module _ (q : f ≡ None) where
-    pub check_clock : max_time < clock → Checks p clock s (load_of true p clock s) (Refuse OutOfRange)
+    pub check_clock : max_time < clock → Checks p clock s (load_of true p clock s) (Refuse (Err OutOfRange))
     unfolding load_of
     check_clock h = (rw (sym e ∙ q, lt-leb clock max_time h), refl)
 
@@ -184,7 +186,7 @@ module _ (p : Params) (clock : ℕ) (s : List ℕ) (f : Option ℕ) (e : f ≡ f
 
 -- ---- the ends of `load`
 pub load_refused :
-    (p : Params) (clock : ℕ) (s table : List ℕ) (k : Check) (a : Loaded) → Checks p clock s (load_of true p clock s) k → k ≡ Refuse a →
+    (p : Params) (clock : ℕ) (s table : List ℕ) (k : Check) (a : Result (Unit {0}) LoadError) → Checks p clock s (load_of true p clock s) k → k ≡ Refuse a →
     Loads (load_of true p clock s) a table table
 load_refused p clock s table (Refuse b) a g q =
     let z : b ≡ a = cc in
@@ -192,7 +194,7 @@ load_refused p clock s table (Refuse b) a g q =
   where
     go : (o : Loading) → answer_of o ≡ b → refuses b ≡ true → state_of table ≡ Rattle.saves.specs.Load.left_by o (state_of table)
     go (loaded st) e r =
-        let y : refuses Done ≡ true = rw (← e) at r in
+        let y : refuses (Ok tt) ≡ true = rw (← e) at r in
         let x : ◌≡◌ {A = ℕ} 0 1 = cc in
         absurd (omega arith)
     go out_of_range e r = refl
@@ -214,7 +216,7 @@ make_is p clock n l few ok r t₀ t₁ t₂ t₃ m b c =
 pub load_made :
     (p : Params) (clock : ℕ) (s table table' : List ℕ) (k : Check) (n at : ℕ) → Checks p clock s (load_of true p clock s) k → k ≡ Fine n at →
     ((l : List ℕ) (end : ℕ) → parse_from (n * 44) s at ≡ numbers l end → state_of table' ≡ loaded_state p clock n l) →
-    Loads (load_of true p clock s) Done table table'
+    Loads (load_of true p clock s) (Ok tt) table table'
 load_made p clock s table table' (Refuse a) n at g q f = let z : ◌≡◌ {A = ℕ} 0 1 = cc in absurd (omega arith)
 load_made p clock s table table' (Fine m b) n at g q f =
     let x : m ≡ n = cc in

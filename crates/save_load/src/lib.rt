@@ -25,7 +25,7 @@ use crate::row::ROW;
 use layout::CELLS;
 use params::Params;
 use records::SLOTS;
-use saves::Loaded;
+use saves::LoadError;
 use validity::valid::MAX_TIME;
 
 // The place after the numbers, or the place at which they cannot go on.
@@ -73,13 +73,13 @@ fn check_records(codes: &[u64], s: &[u8], n: usize, at: usize) -> Check
         Says p clock s.now (recordsOf p clock s.now n at) result }
 {
     match passes::skim_numbers(s, at, n * ROW) {
-        Skim::Broken(place) => Check::Refuse(Loaded::Malformed(place)),
+        Skim::Broken(place) => Check::Refuse(Err(LoadError::Malformed(place))),
         Skim::End(next) => {
             if next < s.len() {
-                return Check::Refuse(Loaded::Malformed(next));
+                return Check::Refuse(Err(LoadError::Malformed(next)));
             }
             match judge(codes, s, at, n * ROW) {
-                Some(place) => Check::Refuse(Loaded::Broken(place)),
+                Some(place) => Check::Refuse(Err(LoadError::Broken(place))),
                 None => Check::Fine(n, at),
             }
         }
@@ -95,11 +95,11 @@ fn check_count(codes: &[u64], s: &[u8], most: usize, at: usize) -> Check
     match varint::read_u64(s, at) {
         Some((n, next)) => {
             if (most as u64) < n {
-                return Check::Refuse(Loaded::Broken(at));
+                return Check::Refuse(Err(LoadError::Broken(at)));
             }
             check_records(codes, s, n as usize, next)
         }
-        None => Check::Refuse(Loaded::Malformed(at)),
+        None => Check::Refuse(Err(LoadError::Malformed(at))),
     }
 }
 
@@ -112,9 +112,9 @@ fn check_edition(codes: &[u64], s: &[u8]) -> Check
     match varint::read_u64(s, 0) {
         Some((e, next)) => match slots_of(e) {
             Some(most) => check_count(codes, s, most, next),
-            None => Check::Refuse(Loaded::Broken(0)),
+            None => Check::Refuse(Err(LoadError::Broken(0))),
         },
-        None => Check::Refuse(Loaded::Malformed(0)),
+        None => Check::Refuse(Err(LoadError::Malformed(0))),
     }
 }
 
@@ -123,10 +123,10 @@ fn check_all(params: Params, clock: u64, s: &[u8]) -> Check
     ensures { Checks params clock s.now (load_of true params clock s.now) result }
 {
     match params.first_broken() {
-        Some(i) => Check::Refuse(Loaded::Broken(i)),
+        Some(i) => Check::Refuse(Err(LoadError::Broken(i))),
         None => {
             if MAX_TIME < clock {
-                return Check::Refuse(Loaded::OutOfRange);
+                return Check::Refuse(Err(LoadError::OutOfRange));
             }
             let numbers = params.numbers;
             let codes = limits::codes_of(&numbers);
@@ -148,14 +148,14 @@ fn make(params: Params, clock: u64, s: &[u8], n: usize, at: usize, table: &mut [
 }
 
 // Loads a save with parameters, at a clock: 9 and 2, then edition and count, then 10 before 9; a refusal leaves the table as it was.
-pub fn load(params: Params, clock: u64, s: &[u8], table: &mut [u64; CELLS]) -> Loaded
+pub fn load(params: Params, clock: u64, s: &[u8], table: &mut [u64; CELLS]) -> Result<(), LoadError>
     ensures { Loads (load_of true params clock s.now) result table.old table.new }
 {
     match check_all(params, clock, s) {
         Check::Refuse(a) => a,
         Check::Fine(n, at) => {
             make(params, clock, s, n, at, table);
-            Loaded::Done
+            Ok(())
         }
     }
 }

@@ -1,5 +1,8 @@
 -- The ends of `save` and of what it calls.
 -- Assumes nothing.
+use Rattle.std.proofs.Common.{Result, Ok, Err}
+use Rattle.saves.specs.declared.SaveError.{SaveError}
+use Rattle.saves.specs.declared.SaveError.TheVariants.{Early, NotRouter, OutOfRange, Short}
 use Prim.Native.Nat.{ℕ, zero, suc, ◌+◌, ◌<◌, ◌≤◌}
 use native.Mathlib.Omega.{arith}
 use mathlib.Core.Path.{◌≡◌, sym, ap, ◌∙◌}
@@ -17,8 +20,6 @@ use Rattle.effects.specs.Effects.{retain_seconds}
 use Rattle.validity.specs.Valid.{max_time, valid}
 use Rattle.validity.proofs.ValidLaws.{valid_facts}
 use Rattle.saves.specs.Save.{is_saved, edition, bytes_of, save_of, Saving, storing, saving_of}
-use Rattle.saves.specs.declared.Saved.{Saved}
-use Rattle.saves.specs.declared.Saved.TheVariants.{Done, Early, OutOfRange, NotRouter, Short}
 use Rattle.sorting.specs.Sorting.{sorted}
 use Rattle.sorting.proofs.SortLaws.{length_sorted}
 use Rattle.save_write.specs.Keys.{key_of, keys_below, keys_of}
@@ -26,7 +27,7 @@ use Rattle.save_write.specs.Stands.{rows_of, Stands}
 use Rattle.save_write.proofs.KeyLaws.{slots_are}
 use Rattle.save_write.proofs.WriteLaws.{save_is}
 
-abbrev pub Gives : Saving → Saved → List ℕ → Type 0
+abbrev pub Gives : Saving → Result ℕ SaveError → List ℕ → Type 0
 Gives o r out = (r ≡ o.answer) × (out ≡ o.bytes)
 
 -- ---- how many keys there are
@@ -56,7 +57,7 @@ module _ (st : State) (v : valid st ≡ true) (time : ℕ) (keys : List ℕ) (e 
     size : a + b ≡ length (save_of st time)
     size = omega (arith, ap length whole, length-append front rest)
 
-    pub write_short : length buf < a + b → Gives (storing (save_of st time) buf) Short buf
+    pub write_short : length buf < a + b → Gives (storing (save_of st time) buf) (Err Short) buf
     write_short h =
         let t : ltb (length buf) (length (save_of st time)) ≡ true = lt-ltb (length buf) (length (save_of st time)) (omega (arith, size)) in
         (rw t, rw t)
@@ -70,7 +71,7 @@ module _ (st : State) (v : valid st ≡ true) (time : ℕ) (keys : List ℕ) (e 
       write_rest h n = omega (arith, s.end)
 
       pub write_done : a + b ≤ length buf → (place : ℕ) (out : List ℕ) → Stands rest at mid place out →
-          Gives (storing (save_of st time) buf) (Done (a + b)) out
+          Gives (storing (save_of st time) buf) (Ok (a + b)) out
       write_done h place out t =
           let f : ltb (length buf) (length (save_of st time))
           ≡ false = le-ltb (length buf) (length (save_of st time)) (omega (arith, size)) in
@@ -96,21 +97,21 @@ sorted_front st time n keys k h e l s =
 
 -- ---- the ends of `save`
 module _ (st : State) (time : ℕ) (buf : List ℕ) where
-  pub save_not : valid st ≡ false → Gives (saving_of st time buf) NotRouter buf
+  pub save_not : valid st ≡ false → Gives (saving_of st time buf) (Err NotRouter) buf
   unfolding saving_of
   save_not v = (rw v, rw v)
 
   module _ (v : valid st ≡ true) where
-    pub save_out : max_time < time → Gives (saving_of st time buf) OutOfRange buf
+    pub save_out : max_time < time → Gives (saving_of st time buf) (Err OutOfRange) buf
     unfolding saving_of
     save_out h = let t = lt-ltb max_time time h in (rw (v, t), rw (v, t))
 
     module _ (h : time ≤ max_time) where
-      pub save_early : time < st.clock → Gives (saving_of st time buf) Early buf
+      pub save_early : time < st.clock → Gives (saving_of st time buf) (Err Early) buf
       unfolding saving_of
       save_early l = let t = le-ltb max_time time h in let u = lt-ltb time st.clock l in (rw (v, t, u), rw (v, t, u))
 
-      pub save_done : st.clock ≤ time → (r : Saved) (out : List ℕ) → Gives (storing (save_of st time) buf) r out →
+      pub save_done : st.clock ≤ time → (r : Result ℕ SaveError) (out : List ℕ) → Gives (storing (save_of st time) buf) r out →
           Gives (saving_of st time buf) r out
       unfolding saving_of
       save_done l r out g = let t = le-ltb max_time time h in let u = le-ltb time st.clock l in (rw (v, t, u) g.0, rw (v, t, u) g.1)

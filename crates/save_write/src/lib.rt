@@ -17,14 +17,20 @@ use effects::slots::load_magnitude;
 use effects::values::end_after;
 use layout::CELLS;
 use records::{SLOTS, param};
-use saves::Saved;
+use saves::SaveError;
 use validity::valid::MAX_TIME;
 
 // The edition that is written.
 pub const EDITION: u64 = 2;
 
 // Writes the records of the sorted keys, if the buffer has room for all: the sizes are added first, so that a short buffer is not touched.
-fn write_save(table: &[u64], keys: &[u64], time: u64, end: u64, buf: &mut [u8]) -> Saved
+fn write_save(
+    table: &[u64],
+    keys: &[u64],
+    time: u64,
+    end: u64,
+    buf: &mut [u8],
+) -> Result<usize, SaveError>
     requires { Saves table.now time end × (keys.now ≡ sorted (keys_of (state_of table.now) time)) }
     ensures { (result ≡ (storing (save_of (state_of table.now) time) buf.old).answer)
         × (buf.new ≡ (storing (save_of (state_of table.now) time) buf.old).bytes) }
@@ -32,11 +38,11 @@ fn write_save(table: &[u64], keys: &[u64], time: u64, end: u64, buf: &mut [u8]) 
     let front = [EDITION, keys.len() as u64];
     let size = bytes::row_size(&front) + bytes::rows_size(table, keys, time, end);
     if buf.len() < size {
-        return Saved::Short;
+        return Err(SaveError::Short);
     }
     let at = bytes::put_row(buf, 0, &front);
     bytes::put_rows(table, keys, time, end, buf, at);
-    Saved::Done(size)
+    Ok(size)
 }
 
 // Collects the keys of the saved records, sorts them, and writes their records; the two lists are lent to do it.
@@ -47,7 +53,7 @@ fn save_sorted(
     time: u64,
     end: u64,
     buf: &mut [u8],
-) -> Saved
+) -> Result<usize, SaveError>
     requires { Saves table.now time end × ((length list.old ≡ slot_count) × (length spare.old ≡ slot_count)) }
     ensures { (result ≡ (storing (save_of (state_of table.now) time) buf.old).answer)
         × (buf.new ≡ (storing (save_of (state_of table.now) time) buf.old).bytes) }
@@ -57,7 +63,7 @@ fn save_sorted(
     write_save(table, &list[..n], time, end, buf)
 }
 
-fn save_records(table: &[u64], time: u64, buf: &mut [u8]) -> Saved
+fn save_records(table: &[u64], time: u64, buf: &mut [u8]) -> Result<usize, SaveError>
     requires { (length table.now ≡ cell_count)
         × ((valid (state_of table.now) ≡ true) × ((time ≤ max_time) × ((state_of table.now).clock ≤ time))) }
     ensures { (result ≡ (storing (save_of (state_of table.now) time) buf.old).answer)
@@ -70,18 +76,18 @@ fn save_records(table: &[u64], time: u64, buf: &mut [u8]) -> Saved
 }
 
 // Saves the records at a time: 12, 2, 1, then 13 with the buffer unchanged. The table is read only, so no clock moves.
-pub fn save(table: &[u64; CELLS], time: u64, buf: &mut [u8]) -> Saved
+pub fn save(table: &[u64; CELLS], time: u64, buf: &mut [u8]) -> Result<usize, SaveError>
     ensures { (result ≡ (saving_of (state_of table.now) time buf.old).answer)
         × (buf.new ≡ (saving_of (state_of table.now) time buf.old).bytes) }
 {
     if !validity::valid::is_router(table) {
-        return Saved::NotRouter;
+        return Err(SaveError::NotRouter);
     }
     if MAX_TIME < time {
-        return Saved::OutOfRange;
+        return Err(SaveError::OutOfRange);
     }
     if time < layout::load_clock(table) {
-        return Saved::Early;
+        return Err(SaveError::Early);
     }
     save_records(table, time, buf)
 }

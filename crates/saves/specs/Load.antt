@@ -1,5 +1,9 @@
 -- What a load makes of bytes (02, order 8), test by test: "A load tests the set-up numbers (2), the sheet (9 as in 01), the clock (2), then
 -- edition and count as they are read, another edition or a count above the slots being 9 at its place; after them 10 comes before 9."
+use Rattle.std.specs.Prelude.{Result, Ok, Err}
+use Rattle.std.specs.Prelude.{Unit, tt}
+use Rattle.saves.specs.declared.LoadError.{LoadError}
+use Rattle.saves.specs.declared.LoadError.TheVariants.{Broken, Malformed, OutOfRange}
 use Rattle.std.specs.Prelude.{Option, Some, None}
 use Rattle.std.specs.Prelude.{ℕ, zero, suc, ◌+◌, ◌-◌, ◌*◌, ◌/◌, ◌%◌, ◌≡◌, Bool, true, false, cond, not, ◌&&◌, List, [], ◌∷◌, map, eqb, leb, ltb, length, get_or, replicate}
 use Rattle.index.specs.Index.{first, gather}
@@ -17,8 +21,6 @@ use Rattle.layout.specs.View.{place_count, state_of}
 use Rattle.validity.specs.Valid.{max_time, max_id, cap2, cap3}
 use Rattle.lookup.specs.Fresh.{setup_of, fresh_state}
 use Rattle.saves.specs.Save.{edition, row_size}
-use Rattle.saves.specs.declared.Loaded.{Loaded}
-use Rattle.saves.specs.declared.Loaded.TheVariants.{Done, OutOfRange, Broken, Malformed}
 
 -- ---- numbers from bytes
 -- the numbers and the place after them, or the place at which they cannot go on
@@ -182,11 +184,11 @@ unfoldable pub load_of : Bool → Params → ℕ → List ℕ → Loading
 load_of fine p clock s = cond fine (sheeted p clock s (first_broken p)) out_of_range
 
 -- ---- what a load promises: r is the answer, table what stood there and table' what stands there after it
-abbrev pub answer_of : Loading → Loaded
-answer_of (loaded st) = Done
-answer_of out_of_range = OutOfRange
-answer_of (broken i) = Broken i
-answer_of (bad i) = Malformed i
+abbrev pub answer_of : Loading → Result (Unit {0}) LoadError
+answer_of (loaded st) = Ok tt
+answer_of out_of_range = Err OutOfRange
+answer_of (broken i) = Err (Broken i)
+answer_of (bad i) = Err (Malformed i)
 
 abbrev pub left_by : Loading → State → State
 left_by (loaded st) u = st
@@ -194,26 +196,26 @@ left_by out_of_range u = u
 left_by (broken i) u = u
 left_by (bad i) u = u
 
-abbrev pub refuses : Loaded → Bool
-refuses Done = false
-refuses OutOfRange = true
-refuses (Broken i) = true
-refuses (Malformed i) = true
+abbrev pub refuses : Result (Unit {0}) LoadError → Bool
+refuses (Ok tt) = false
+refuses (Err OutOfRange) = true
+refuses (Err (Broken i)) = true
+refuses (Err (Malformed i)) = true
 
-pub record Loads (o : Loading) (r : Loaded) (table table' : List ℕ) : Type 0 where
+pub record Loads (o : Loading) (r : Result (Unit {0}) LoadError) (table table' : List ℕ) : Type 0 where
   pub answer : r ≡ answer_of o
   pub state : state_of table' ≡ left_by o (state_of table)
   pub kept : refuses r ≡ true → table' ≡ table
 
 -- 01's number of each answer, and the value that goes with it
-abbrev pub loaded_number : Loaded → ℕ
-loaded_number Done = 0
-loaded_number OutOfRange = 2
-loaded_number (Broken i) = 9
-loaded_number (Malformed i) = 10
+abbrev pub loaded_number : Result (Unit {0}) LoadError → ℕ
+loaded_number (Ok tt) = 0
+loaded_number (Err OutOfRange) = 2
+loaded_number (Err (Broken i)) = 9
+loaded_number (Err (Malformed i)) = 10
 
-abbrev pub loaded_value : Loaded → ℕ
-loaded_value Done = 0
-loaded_value OutOfRange = 0
-loaded_value (Broken i) = i
-loaded_value (Malformed i) = i
+abbrev pub loaded_value : Result (Unit {0}) LoadError → ℕ
+loaded_value (Ok tt) = 0
+loaded_value (Err OutOfRange) = 0
+loaded_value (Err (Broken i)) = i
+loaded_value (Err (Malformed i)) = i

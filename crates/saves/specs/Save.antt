@@ -1,5 +1,8 @@
 -- What a save holds (02, order 8): "Save the records in seven-bit groups: an edition number 1, a count, then records by ascending id."
 -- Order 9: "Trace and saved forms get edition 2"; order 11: "The saved form stays edition 2."
+use Rattle.std.specs.Prelude.{Result, Ok, Err}
+use Rattle.saves.specs.declared.SaveError.{SaveError}
+use Rattle.saves.specs.declared.SaveError.TheVariants.{Early, NotRouter, OutOfRange, Short}
 use Rattle.std.specs.Prelude.{ℕ, ◌-◌, Bool, cond, not, ◌&&◌, List, [], ◌∷◌, ◌++◌, ltb, length, get_or}
 use Rattle.std.proofs.lemmas.List.Edits.{sets}
 use Rattle.index.specs.Index.{iter, gather}
@@ -10,8 +13,6 @@ use Rattle.records.specs.Records.{State, slot_count, topic_count, place, peer_in
 use Rattle.rows.specs.Rows.{joins}
 use Rattle.effects.specs.Effects.{retained_to, end_after, retain_seconds, reclaimable}
 use Rattle.validity.specs.Valid.{max_time, valid}
-use Rattle.saves.specs.declared.Saved.{Saved}
-use Rattle.saves.specs.declared.Saved.TheVariants.{Done, Early, OutOfRange, NotRouter, Short}
 
 abbrev pub edition : ℕ
 edition = 2
@@ -75,36 +76,36 @@ save_of st time = bytes_of (numbers_of st time)
 
 -- ---- the answer, and the buffer's bytes after it
 pub record Saving : Type 0 where
-  pub answer : Saved
+  pub answer : Result ℕ SaveError
   pub bytes : List ℕ
 
-abbrev pub kept : Saved → List ℕ → Saving
+abbrev pub kept : Result ℕ SaveError → List ℕ → Saving
 kept a buf = record { answer = a; bytes = buf }
 
 -- "a buffer shorter than the save is 13 and unchanged"
 abbrev pub storing : (save buf : List ℕ) → Saving
 storing save buf =
-    cond (ltb (length buf) (length save)) (kept Short buf) (record { answer = Done (length save); bytes = sets buf 0 save })
+    cond (ltb (length buf) (length save)) (kept (Err Short) buf) (record { answer = Ok (length save); bytes = sets buf 0 save })
 
 -- "A save tests 12, 2, 1, and [13]; it moves no clock."
 unfoldable pub saving_of : State → ℕ → List ℕ → Saving
 saving_of st time buf =
-    cond (not (valid st)) (kept NotRouter buf)
-    (cond (ltb max_time time) (kept OutOfRange buf)
-    (cond (ltb time st.clock) (kept Early buf)
+    cond (not (valid st)) (kept (Err NotRouter) buf)
+    (cond (ltb max_time time) (kept (Err OutOfRange) buf)
+    (cond (ltb time st.clock) (kept (Err Early) buf)
     (storing (save_of st time) buf)))
 
 -- 01's number of each answer, and the value that goes with it
-abbrev pub saved_number : Saved → ℕ
-saved_number (Done n) = 0
-saved_number Early = 1
-saved_number OutOfRange = 2
-saved_number NotRouter = 12
-saved_number Short = 13
+abbrev pub saved_number : Result ℕ SaveError → ℕ
+saved_number (Ok n) = 0
+saved_number (Err Early) = 1
+saved_number (Err OutOfRange) = 2
+saved_number (Err NotRouter) = 12
+saved_number (Err Short) = 13
 
-abbrev pub saved_value : Saved → ℕ
-saved_value (Done n) = n
-saved_value Early = 0
-saved_value OutOfRange = 0
-saved_value NotRouter = 0
-saved_value Short = 0
+abbrev pub saved_value : Result ℕ SaveError → ℕ
+saved_value (Ok n) = n
+saved_value (Err Early) = 0
+saved_value (Err OutOfRange) = 0
+saved_value (Err NotRouter) = 0
+saved_value (Err Short) = 0

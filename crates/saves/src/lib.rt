@@ -2,11 +2,9 @@
 // specs/Promises.antt; the code is in crates save_write and save_load. Here stand only the answers that both speak of.
 #![tactic(auto)]
 
-// What a save answers.
+// Why no save is written.
 #[derive(Clone, Copy)]
-pub enum Saved {
-    // 0: done, with the number of bytes
-    Done(usize),
+pub enum SaveError {
     // 1: the time is earlier than the router's clock
     Early,
     // 2: the time is outside its range
@@ -17,11 +15,9 @@ pub enum Saved {
     Short,
 }
 
-// What a load answers.
+// Why no save is loaded.
 #[derive(Clone, Copy)]
-pub enum Loaded {
-    // 0: the table is a router's with the records
-    Done,
+pub enum LoadError {
     // 2: the clock, or a number of the set-up beside the parameters, is outside its range
     OutOfRange,
     // 9: the index or the rule of the parameters, or the place in the save

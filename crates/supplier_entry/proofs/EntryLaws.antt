@@ -16,10 +16,6 @@ use Rattle.limits.specs.declared.Limit.{Limit}
 use Rattle.limits.specs.Limits.{lies}
 use Rattle.supplier_entry.specs.declared.Entry.{Entry}
 use Rattle.supplier_entry.specs.declared.Entry.TheVariants.{Factor, Whole, Span}
-use Rattle.supplier_entry.specs.declared.Read.{Read}
-use Rattle.supplier_entry.specs.declared.Read.TheVariants.{Good, Bad}
-use Rattle.supplier_entry.specs.declared.Number.{Number}
-use Rattle.supplier_entry.specs.declared.Number.TheVariants.{Is, Broken}
 use Rattle.supplier_entry.specs.declared.Form.{Form}
 use Rattle.supplier_entry.specs.Factor.{factor_bits, thousandths_of}
 use Rattle.supplier_entry.specs.Entries.{twos, twos_of, entry_of, as_number, whole_of, units_of, convert_of, import_of, content_of}
@@ -56,23 +52,23 @@ bits_plus (negsuc n) m e p = let z : ◌≡◌ {A = ℕ} 0 1 = cc in absurd (ome
 
 -- ---- the ends of `read_entry`
 module _ (kind u : ℕ) where
-  pub entry_nan : (t : Bool) → kind ≡ 0 → t ≡ nan_bits binary64 u → t ≡ true → Bad ≡ entry_of kind u
+  pub entry_nan : (t : Bool) → kind ≡ 0 → t ≡ nan_bits binary64 u → t ≡ true → None ≡ entry_of kind u
   unfolding entry_of
   entry_nan t e n y = rw (e, ← n, y)
 
-  pub entry_factor : (t : Bool) → kind ≡ 0 → t ≡ nan_bits binary64 u → t ≡ false → Good (Factor (of_bits binary64 u)) ≡ entry_of kind u
+  pub entry_factor : (t : Bool) → kind ≡ 0 → t ≡ nan_bits binary64 u → t ≡ false → Some (Factor (of_bits binary64 u)) ≡ entry_of kind u
   unfolding entry_of
   entry_factor t e n y = rw (e, ← n, y)
 
-  pub entry_whole : (z : ℤ) → kind ≡ 1 → z ≡ twos u → Good (Whole z) ≡ entry_of kind u
+  pub entry_whole : (z : ℤ) → kind ≡ 1 → z ≡ twos u → Some (Whole z) ≡ entry_of kind u
   unfolding entry_of
   entry_whole z e t = rw (e, t)
 
-  pub entry_span : kind ≡ 2 → Good (Span u) ≡ entry_of kind u
+  pub entry_span : kind ≡ 2 → Some (Span u) ≡ entry_of kind u
   unfolding entry_of
   entry_span e = rw e
 
-  pub entry_none : (kind ≡ 0 → ⊥) → (kind ≡ 1 → ⊥) → (kind ≡ 2 → ⊥) → Bad ≡ entry_of kind u
+  pub entry_none : (kind ≡ 0 → ⊥) → (kind ≡ 1 → ⊥) → (kind ≡ 2 → ⊥) → None ≡ entry_of kind u
   unfolding entry_of
   entry_none a b c = rw (ne_eqb kind 0 a, ne_eqb kind 1 b, ne_eqb kind 2 c)
 
@@ -81,20 +77,20 @@ not_nan t b e y = rw (← e, y) tt
 
 -- ---- whole numbers and spans
 module _ (l : Limit) (z : ℤ) where
-  pub whole_in : (t : Bool) → t ≡ lies z l → t ≡ true → Is z ≡ whole_of l z
+  pub whole_in : (t : Bool) → t ≡ lies z l → t ≡ true → Some z ≡ whole_of l z
   unfolding whole_of
   whole_in t e y = rw (← e, y)
 
-  pub whole_out : (t : Bool) → t ≡ lies z l → t ≡ false → Broken ≡ whole_of l z
+  pub whole_out : (t : Bool) → t ≡ lies z l → t ≡ false → None ≡ whole_of l z
   unfolding whole_of
   whole_out t e y = rw (← e, y)
 
 module _ (l : Limit) (unit t : ℕ) where
-  pub units_part : (t % unit ≡ 0 → ⊥) → Broken ≡ units_of l unit t
+  pub units_part : (t % unit ≡ 0 → ⊥) → None ≡ units_of l unit t
   unfolding units_of
   units_part n = rw (ne_eqb (t % unit) 0 n)
 
-  pub units_whole : (r : Number) → t % unit ≡ 0 → r ≡ whole_of l (pos (t / unit)) → r ≡ units_of l unit t
+  pub units_whole : (r : Option ℤ) → t % unit ≡ 0 → r ≡ whole_of l (pos (t / unit)) → r ≡ units_of l unit t
   unfolding units_of
   units_whole r e p = p ∙ rw e
 
@@ -109,10 +105,10 @@ units_lt unit t h l =
 pub small_at : (f : Option ℕ) (n : ℕ) → f ≡ Some n → Small f → n < 2 ^ 63
 small_at f n e s = subst Small e s
 
-pub number_at : (f : Option ℕ) (n : ℕ) (z : ℤ) → f ≡ Some n → z ≡ pos n → Is z ≡ as_number f
+pub number_at : (f : Option ℕ) (n : ℕ) (z : ℤ) → f ≡ Some n → z ≡ pos n → Some z ≡ as_number f
 number_at f n z e p = rw (e, p)
 
-pub number_none : (f : Option ℕ) → f ≡ None → Broken ≡ as_number f
+pub number_none : (f : Option ℕ) → f ≡ None → None ≡ as_number f
 number_none f e = rw e
 
 pub small_factor : (l : Limit) (u : ℕ) (r : Option ℕ) → Among l → r ≡ thousandths_of l u → Small r
@@ -128,23 +124,23 @@ module _ (e : Entry) (unit : ℕ) (l : Limit) where
   sound_span t p s = subst (λ (y : Entry). Sound y unit l) p s
 
   pub convert_factor :
-      (x : Float) (f : Option ℕ) (r : Number) → e ≡ Factor x → f ≡ thousandths_of l (to_bits binary64 x) → r ≡ as_number f → r
+      (x : Float) (f : Option ℕ) (r : Option ℤ) → e ≡ Factor x → f ≡ thousandths_of l (to_bits binary64 x) → r ≡ as_number f → r
       ≡ convert_of l unit e
   unfolding convert_of
   convert_factor x f r p t v = rw (p, v, t)
 
-  pub convert_whole : (z : ℤ) (r : Number) → e ≡ Whole z → r ≡ whole_of l z → r ≡ convert_of l unit e
+  pub convert_whole : (z : ℤ) (r : Option ℤ) → e ≡ Whole z → r ≡ whole_of l z → r ≡ convert_of l unit e
   unfolding convert_of
   convert_whole z r p v = rw (p, v)
 
-  pub convert_span : (t : ℕ) (r : Number) → e ≡ Span t → r ≡ units_of l unit t → r ≡ convert_of l unit e
+  pub convert_span : (t : ℕ) (r : Option ℤ) → e ≡ Span t → r ≡ units_of l unit t → r ≡ convert_of l unit e
   unfolding convert_of
   convert_span t r p v = rw (p, v)
 
 -- ---- the ends of `import`
 sound_if :
     (l : Limit) (unit u : ℕ) (t : Bool) (e : Entry) → nan_bits binary64 u ≡ t → Among l →
-    cond t Bad (Good (Factor (of_bits binary64 u))) ≡ Good e → Sound e unit l
+    cond t None (Some (Factor (of_bits binary64 u))) ≡ Some e → Sound e unit l
 sound_if l unit u true e n h p = let z : ◌≡◌ {A = ℕ} 0 1 = cc in absurd (omega arith)
 sound_if l unit u false e n h p =
     let q : Factor (of_bits binary64 u) ≡ e = cc in
@@ -152,37 +148,37 @@ sound_if l unit u false e n h p =
 
 -- what is read is fit to be converted
 pub read_sound :
-    (kind u : ℕ) (form : Form) (l : Limit) (r : Read) (e : Entry) → kind ≡ form.kind → Fit form l → r ≡ entry_of kind u → r ≡ Good e →
+    (kind u : ℕ) (form : Form) (l : Limit) (r : Option Entry) (e : Entry) → kind ≡ form.kind → Fit form l → r ≡ entry_of kind u → r ≡ Some e →
     Sound e form.unit l
 unfolding entry_of
 read_sound kind u form l r e same fit d g = zeroth (eqb kind 0) refl (eqb kind 1) (eqb kind 2) refl (sym d ∙ g)
   where
-    last : (c : Bool) → eqb kind 2 ≡ c → cond c (Good (Span u)) Bad ≡ Good e → Sound e form.unit l
+    last : (c : Bool) → eqb kind 2 ≡ c → cond c (Some (Span u)) None ≡ Some e → Sound e form.unit l
     last true t q = let s : Span u ≡ e = cc in subst (λ (y : Entry). Sound y form.unit l) s (fit.spans (sym same ∙ eqb-true kind 2 t))
     last false t q = let z : ◌≡◌ {A = ℕ} 0 1 = cc in absurd (omega arith)
 
-    second : (b c : Bool) → eqb kind 2 ≡ c → cond b (Good (Whole (twos u))) (cond c (Good (Span u)) Bad) ≡ Good e → Sound e form.unit l
+    second : (b c : Bool) → eqb kind 2 ≡ c → cond b (Some (Whole (twos u))) (cond c (Some (Span u)) None) ≡ Some e → Sound e form.unit l
     second true c t q = let s : Whole (twos u) ≡ e = cc in subst (λ (y : Entry). Sound y form.unit l) s tt
     second false c t q = last c t q
 
     zeroth :
         (a : Bool) → eqb kind 0 ≡ a → (b c : Bool) → eqb kind 2 ≡ c →
-        cond a (cond (nan_bits binary64 u) Bad (Good (Factor (of_bits binary64 u))))
-        (cond b (Good (Whole (twos u))) (cond c (Good (Span u)) Bad)) ≡ Good e → Sound e form.unit l
+        cond a (cond (nan_bits binary64 u) None (Some (Factor (of_bits binary64 u))))
+        (cond b (Some (Whole (twos u))) (cond c (Some (Span u)) None)) ≡ Some e → Sound e form.unit l
     zeroth true s b c t q = sound_if l form.unit u (nan_bits binary64 u) e refl (fit.factors (sym same ∙ eqb-true kind 0 s)) q
     zeroth false s b c t q = second b c t q
 
 module _ (form : Form) (l : Limit) (kind u : ℕ) where
-  pub import_other : (kind ≡ form.kind → ⊥) → Broken ≡ import_of form l kind u
+  pub import_other : (kind ≡ form.kind → ⊥) → None ≡ import_of form l kind u
   unfolding import_of
   import_other n = rw (ne_eqb kind form.kind n)
 
-  module _ (r : Read) (same : kind ≡ form.kind) (d : r ≡ entry_of kind u) where
-    pub import_bad : r ≡ Bad → Broken ≡ import_of form l kind u
+  module _ (r : Option Entry) (same : kind ≡ form.kind) (d : r ≡ entry_of kind u) where
+    pub import_bad : r ≡ None → None ≡ import_of form l kind u
     unfolding import_of
     import_bad q = rw (eq-eqb kind form.kind same, ← d, q)
 
-    pub import_good : (e : Entry) (n : Number) → r ≡ Good e → n ≡ convert_of l form.unit e → n ≡ import_of form l kind u
+    pub import_good : (e : Entry) (n : Option ℤ) → r ≡ Some e → n ≡ convert_of l form.unit e → n ≡ import_of form l kind u
     unfolding import_of
     import_good e n q t = t ∙ rw (eq-eqb kind form.kind same, ← d, q)
 

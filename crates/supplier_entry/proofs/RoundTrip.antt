@@ -16,7 +16,6 @@ use Rattle.index.proofs.Index.{both}
 use Rattle.limits.specs.declared.Limit.{Limit}
 use Rattle.limits.specs.Limits.{lies}
 use Rattle.limits.proofs.LimitLaws.{yes, size_most}
-use Rattle.supplier_entry.specs.declared.Number.TheVariants.{Is, Broken}
 use Rattle.supplier_entry.specs.declared.Form.{Form}
 use Rattle.supplier_entry.specs.Factor.{thousand, factor_of, factor_bits, thousandths_of}
 use Rattle.supplier_entry.specs.Entries.{factor_kind, whole_kind, span_kind, twos, twos_of, entry_of, as_number, whole_of, units_of}
@@ -56,7 +55,7 @@ factor_clean n h =
     ∙ ap is_nan (of_bits-to_bits binary64 (factor_of n) (factor_fits n))
     ∙ is_false (is_nan (factor_of n)) (factor_no_nan n h)
 
-nan_none : (l : Limit) (u : ℕ) → Among l → nan_bits binary64 u ≡ true → (r : Option ℕ) → thousandths_of l u ≡ r → Broken ≡ as_number r
+nan_none : (l : Limit) (u : ℕ) → Among l → nan_bits binary64 u ≡ true → (r : Option ℕ) → thousandths_of l u ≡ r → None ≡ as_number r
 nan_none l u g t (Some n) e =
     let f = thousandths_found l u n e in
     let c : nan_bits binary64 u ≡ false = rw f.2 at (factor_clean n (omega (arith, g.most, f.0))) in
@@ -127,19 +126,19 @@ module _ (form : Form) (l : Limit) (z : ℤ) (row : Field form l) (h : lies z l 
       (λ s. rw (t, s) (twos_lt z (omega (arith, size_sum, row.size.0, row.size.1))))
       (λ s. rw (t, s) (omega (arith, units_room))))
 
-  imports_factor : form.kind ≡ factor_kind → import_of form l factor_kind (factor_bits (nat_abs z)) ≡ Is z
+  imports_factor : form.kind ≡ factor_kind → import_of form l factor_kind (factor_bits (nat_abs z)) ≡ Some z
   imports_factor e =
       let g = row.fit.factors e in
       let p = factor_most e in
       accepted_exactly form l (factor_bits (nat_abs z)) e g (factor_lt_64 (nat_abs z))
       ∙ ap as_number (thousandths_back l (nat_abs z) g p.1 (rw p.0 h))
-      ∙ ap Is p.0
+      ∙ ap Some p.0
 
-  imports_whole : form.kind ≡ whole_kind → import_of form l whole_kind (twos_of z) ≡ Is z
+  imports_whole : form.kind ≡ whole_kind → import_of form l whole_kind (twos_of z) ≡ Some z
   unfolding import_of entry_of convert_of whole_of
   imports_whole e = rw (eq-eqb whole_kind form.kind (sym e), twos_back z (omega (arith, size_sum, row.size.0, row.size.1)), h)
 
-  imports_span : form.kind ≡ span_kind → import_of form l span_kind (nat_abs z * form.unit) ≡ Is z
+  imports_span : form.kind ≡ span_kind → import_of form l span_kind (nat_abs z * form.unit) ≡ Some z
   unfolding import_of entry_of convert_of units_of whole_of
   imports_span e =
       let n = row.natural e in
@@ -154,14 +153,14 @@ module _ (form : Form) (l : Limit) (z : ℤ) (row : Field form l) (h : lies z l 
       )
 
   -- by the kind, and what is written with it
-  pub imports : import_of form l form.kind (content_of form z) ≡ Is z
+  pub imports : import_of form l form.kind (content_of form z) ≡ Some z
   imports = go form.kind refl
     where
-      with_kind : (k u : ℕ) → form.kind ≡ k → u ≡ content_of form z → import_of form l k u ≡ Is z →
-          import_of form l form.kind (content_of form z) ≡ Is z
+      with_kind : (k u : ℕ) → form.kind ≡ k → u ≡ content_of form z → import_of form l k u ≡ Some z →
+          import_of form l form.kind (content_of form z) ≡ Some z
       with_kind k u e c d = ap₂ (import_of form l) e (sym c) ∙ d
 
-      go : (k : ℕ) → form.kind ≡ k → import_of form l form.kind (content_of form z) ≡ Is z
+      go : (k : ℕ) → form.kind ≡ k → import_of form l form.kind (content_of form z) ≡ Some z
       go zero e = with_kind 0 (factor_bits (nat_abs z)) e (content_factor form z (nat_abs z) _ e refl refl) (imports_factor e)
       go (suc zero) e = with_kind 1 (twos_of z) e (content_whole form z _ e refl) (imports_whole e)
       go (suc (suc zero)) e =
@@ -172,22 +171,22 @@ pub imports_back : ImportsBack
 imports_back = imports
 
 -- ---- what is imported, written again
-is_same : (a b : ℤ) → Is a ≡ Is b → a ≡ b
+is_same : (a b : ℤ) → Some a ≡ Some b → a ≡ b
 is_same a b e = cc
 
-not_broken : {A : Type 0} (z : ℤ) → Broken ≡ Is z → A
+not_broken : {A : Type 0} (z : ℤ) → None ≡ Some z → A
 not_broken z e = let y : ◌≡◌ {A = ℕ} 0 1 = cc in absurd (omega arith)
 
 module _ (form : Form) (l : Limit) (u : ℕ) (z : ℤ) (room : u < 2 ^ 64) where
-  again_factor : (f : Option ℕ) → thousandths_of l u ≡ f → as_number f ≡ Is z → factor_bits (nat_abs z) ≡ u
+  again_factor : (f : Option ℕ) → thousandths_of l u ≡ f → as_number f ≡ Some z → factor_bits (nat_abs z) ≡ u
   again_factor (Some n) e d = rw (sym (is_same (pos n) z d)) (thousandths_found l u n e).2
   again_factor None e d = not_broken z d
 
-  again_whole : (y : ℤ) → whole_of l y ≡ Is z → y ≡ z
+  again_whole : (y : ℤ) → whole_of l y ≡ Some z → y ≡ z
   unfolding whole_of
   again_whole y d = by_test (y ≡ z) (lies y l) (λ t. is_same y z (rw t at d)) (λ t. not_broken z (rw t at d))
 
-  again_span : units_of l form.unit u ≡ Is z → nat_abs z * form.unit ≡ u
+  again_span : units_of l form.unit u ≡ Some z → nat_abs z * form.unit ≡ u
   unfolding units_of
   again_span d =
       by_test (nat_abs z * form.unit ≡ u) (eqb (u % form.unit) 0)
@@ -198,7 +197,7 @@ module _ (form : Form) (l : Limit) (u : ℕ) (z : ℤ) (room : u < 2 ^ 64) where
       ∙ div-add-mod' u form.unit))
       (λ t. not_broken z (rw t at d))
 
-  again_kind : (k : ℕ) → form.kind ≡ k → read_number l form.unit (entry_of k u) ≡ Is z → content_of form z ≡ u
+  again_kind : (k : ℕ) → form.kind ≡ k → read_number l form.unit (entry_of k u) ≡ Some z → content_of form z ≡ u
   unfolding entry_of convert_of content_of
   again_kind zero e d =
       rw e

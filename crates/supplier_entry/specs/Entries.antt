@@ -8,10 +8,6 @@ use Rattle.limits.specs.declared.Limit.{Limit}
 use Rattle.limits.specs.Limits.{lies}
 use Rattle.supplier_entry.specs.declared.Entry.{Entry}
 use Rattle.supplier_entry.specs.declared.Entry.TheVariants.{Factor, Whole, Span}
-use Rattle.supplier_entry.specs.declared.Read.{Read}
-use Rattle.supplier_entry.specs.declared.Read.TheVariants.{Good, Bad}
-use Rattle.supplier_entry.specs.declared.Number.{Number}
-use Rattle.supplier_entry.specs.declared.Number.TheVariants.{Is, Broken}
 use Rattle.supplier_entry.specs.declared.Form.{Form}
 use Rattle.supplier_entry.specs.Factor.{factor_bits, thousandths_of}
 
@@ -35,36 +31,36 @@ twos_of (negsuc n) = 2 ^ 64 - 1 - n
 
 -- "Kind 0 is a factor as a 64-bit float [..], 2 a span in nanoseconds, unsigned [..], 1 a signed whole number [..]. Each entry is one of
 -- these kinds." The patterns of a NaN are no float that n divided by 1000 could be.
-unfoldable pub entry_of : ℕ → ℕ → Read
+unfoldable pub entry_of : ℕ → ℕ → Option Entry
 entry_of kind u =
-    cond (eqb kind factor_kind) (cond (nan_bits binary64 u) Bad (Good (Factor (of_bits binary64 u))))
-    (cond (eqb kind whole_kind) (Good (Whole (twos u)))
-    (cond (eqb kind span_kind) (Good (Span u)) Bad))
+    cond (eqb kind factor_kind) (cond (nan_bits binary64 u) None (Some (Factor (of_bits binary64 u))))
+    (cond (eqb kind whole_kind) (Some (Whole (twos u)))
+    (cond (eqb kind span_kind) (Some (Span u)) None))
 
-abbrev pub as_number : Option ℕ → Number
-as_number (Some n) = Is (pos n)
-as_number None = Broken
+abbrev pub as_number : Option ℕ → Option ℤ
+as_number (Some n) = Some (pos n)
+as_number None = None
 
 -- "A whole entry [..] must lie in its limits"
-unfoldable pub whole_of : Limit → ℤ → Number
-whole_of l z = cond (lies z l) (Is z) Broken
+unfoldable pub whole_of : Limit → ℤ → Option ℤ
+whole_of l z = cond (lies z l) (Some z) None
 
 -- "and a span as a whole number of our field's seconds or milliseconds": one of them has `unit` nanoseconds
-unfoldable pub units_of : Limit → ℕ → ℕ → Number
-units_of l unit t = cond (eqb (t % unit) 0) (whole_of l (pos (t / unit))) Broken
+unfoldable pub units_of : Limit → ℕ → ℕ → Option ℤ
+units_of l unit t = cond (eqb (t % unit) 0) (whole_of l (pos (t / unit))) None
 
-unfoldable pub convert_of : Limit → ℕ → Entry → Number
+unfoldable pub convert_of : Limit → ℕ → Entry → Option ℤ
 convert_of l unit (Factor x) = as_number (thousandths_of l (to_bits binary64 x))
 convert_of l unit (Whole z) = whole_of l z
 convert_of l unit (Span t) = units_of l unit t
 
-abbrev pub read_number : Limit → ℕ → Read → Number
-read_number l unit (Good e) = convert_of l unit e
-read_number l unit Bad = Broken
+abbrev pub read_number : Limit → ℕ → Option Entry → Option ℤ
+read_number l unit (Some e) = convert_of l unit e
+read_number l unit None = None
 
 -- "a wrong kind or broken entry" has no number, whatever its eight bytes are
-unfoldable pub import_of : Form → Limit → ℕ → ℕ → Number
-import_of form l kind u = cond (eqb kind form.kind) (read_number l form.unit (entry_of kind u)) Broken
+unfoldable pub import_of : Form → Limit → ℕ → ℕ → Option ℤ
+import_of form l kind u = cond (eqb kind form.kind) (read_number l form.unit (entry_of kind u)) None
 
 -- what is written: "each factor is n divided by 1000"
 unfoldable pub content_of : Form → ℤ → ℕ

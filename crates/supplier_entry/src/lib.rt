@@ -23,20 +23,6 @@ pub enum Entry {
     Span(u64),
 }
 
-// The entry that a kind and eight bytes make, or none.
-#[derive(Clone, Copy)]
-pub enum Read {
-    Good(Entry),
-    Bad,
-}
-
-// The number of ours that an entry stands for, or none.
-#[derive(Clone, Copy)]
-pub enum Number {
-    Is(i64),
-    Broken,
-}
-
 // How the entries of a field are given: their kind, and of spans the nanoseconds of one of our units.
 #[derive(Clone, Copy)]
 pub struct Form {
@@ -139,59 +125,59 @@ fn signed_of(u: u64) -> i64
 }
 
 // What a kind and eight bytes make.
-fn read_entry(kind: u8, u: u64) -> Read
+fn read_entry(kind: u8, u: u64) -> Option<Entry>
     ensures { result ≡ entry_of kind u }
 {
     if kind == 0 {
         if is_nan(u) {
-            return Read::Bad;
+            return None;
         }
-        return Read::Good(Entry::Factor(f64::from_bits(u)));
+        return Some(Entry::Factor(f64::from_bits(u)));
     }
     if kind == 1 {
-        return Read::Good(Entry::Whole(signed_of(u)));
+        return Some(Entry::Whole(signed_of(u)));
     }
     if kind == 2 {
-        return Read::Good(Entry::Span(u));
+        return Some(Entry::Span(u));
     }
-    Read::Bad
+    None
 }
 
 // A whole number, if it lies between the limits.
-fn whole(z: i64, limit: Limit) -> Number
+fn whole(z: i64, limit: Limit) -> Option<i64>
     ensures { result ≡ whole_of limit z }
 {
     if (limit.low <= z) & (z <= limit.high) {
-        Number::Is(z)
+        Some(z)
     } else {
-        Number::Broken
+        None
     }
 }
 
 // A span as a whole number of units.
-fn units(t: u64, unit: u64, limit: Limit) -> Number
+fn units(t: u64, unit: u64, limit: Limit) -> Option<i64>
     requires { 1 < unit }
     ensures { result ≡ units_of limit unit t }
 {
     if t % unit != 0 {
-        return Number::Broken;
+        return None;
     }
     let n = t / unit;
     whole(n as i64, limit)
 }
 
-fn number_of(f: Option<usize>) -> Number
+fn number_of(f: Option<usize>) -> Option<i64>
     requires { Small f }
     ensures { result ≡ as_number f }
 {
     match f {
-        Some(n) => Number::Is(n as i64),
-        None => Number::Broken,
+        Some(n) => Some(n as i64),
+        None => None,
     }
 }
 
 // An entry as a number within the limits.
-fn convert(e: Entry, unit: u64, limit: Limit) -> Number
+fn convert(e: Entry, unit: u64, limit: Limit) -> Option<i64>
     requires { Sound e unit limit }
     ensures { result ≡ convert_of limit unit e }
 {
@@ -203,15 +189,15 @@ fn convert(e: Entry, unit: u64, limit: Limit) -> Number
 }
 
 // The number of ours that a kind and eight bytes stand for in a field of this form.
-pub fn import(kind: u8, u: u64, form: Form, limit: Limit) -> Number
+pub fn import(kind: u8, u: u64, form: Form, limit: Limit) -> Option<i64>
     requires { Fit form limit }
     ensures { result ≡ import_of form limit kind u }
 {
     if kind != form.kind {
-        return Number::Broken;
+        return None;
     }
-    let Read::Good(e) = read_entry(kind, u) else {
-        return Number::Broken;
+    let Some(e) = read_entry(kind, u) else {
+        return None;
     };
     convert(e, form.unit, limit)
 }

@@ -1,5 +1,6 @@
 -- Laws of the import: what is known after i entries, and the ends of `number_at`, `entries` and `import`.
 -- Assumes nothing.
+use Rattle.std.proofs.Common.{Some}
 use Rattle.std.proofs.Common.{Option, None, Err}
 use Rattle.params_bytes.specs.declared.ReadError.TheVariants.{Malformed}
 use Rattle.index.proofs.Kit.{ℕ, ◌+◌, ◌*◌, ◌<◌, ◌≤◌, ◌≡◌, sym, ap, ◌∙◌, Bool, true, false, not, arith, first, gather, first_none, first_more}
@@ -22,8 +23,6 @@ use Rattle.limits.specs.declared.Limit.{Limit}
 use Rattle.params_bytes.specs.declared.Reading.{Reading}
 use Rattle.params_bytes.specs.declared.Verdict.TheVariants as verdict
 use Rattle.supplier_entry.specs.declared.Form.{Form}
-use Rattle.supplier_entry.specs.declared.Number.{Number}
-use Rattle.supplier_entry.specs.declared.Number.TheVariants.{Is, Broken}
 use Rattle.supplier_entry.specs.Bytes.{low_first}
 use Rattle.supplier_entry.specs.Entries as entry
 use Rattle.supplier_entry.proofs.ByteLaws.{take_one}
@@ -34,7 +33,7 @@ use Rattle.supplier_params.specs.declared.Parsed.{Parsed}
 
 -- ---- one entry
 pub number_is :
-    (s : List ℕ) (i u : ℕ) (form : Form) (l : Limit) (r : Number) → 9 * i < length s → u ≡ low_first (take 8 (drop (9 * i + 1) s)) →
+    (s : List ℕ) (i u : ℕ) (form : Form) (l : Limit) (r : Option ℤ) → 9 * i < length s → u ≡ low_first (take 8 (drop (9 * i + 1) s)) →
     form ≡ form_at (field_of i) → l ≡ limit_at (field_of i) → r ≡ entry.import_of form l (get_or s (9 * i) 0) u → r ≡ number_at s i
 unfolding number_at entry_at
 number_is s i u form l r h e f g d = d ∙ rw (e, f, g, take_one 8 s (9 * i) h)
@@ -49,11 +48,11 @@ pub record Taken (s : List ℕ) (i : ℕ) (xs : List ℤ) : Type 0 where
 pub taken_none : (s : List ℕ) (xs : List ℤ) → length xs ≡ param_count → Taken s 0 xs
 taken_none s xs l = record { most = omega arith; len = l; whole = first_none (broken_at s); front = sym (gather_none (value_at s)) }
 
-module _ (s : List ℕ) (i : ℕ) (xs : List ℤ) (r : Number) (t : Taken s i xs) (h : i < param_count) (e : r ≡ number_at s i) where
-  pub taken_more : (z : ℤ) → r ≡ Is z → Taken s (i + 1) (set xs i z)
+module _ (s : List ℕ) (i : ℕ) (xs : List ℤ) (r : Option ℤ) (t : Taken s i xs) (h : i < param_count) (e : r ≡ number_at s i) where
+  pub taken_more : (z : ℤ) → r ≡ Some z → Taken s (i + 1) (set xs i z)
   unfolding broken_at value_at
   taken_more z q =
-      let n : number_at s i ≡ Is z = sym e ∙ q in
+      let n : number_at s i ≡ Some z = sym e ∙ q in
       record {
         most = omega arith;
         len = length-set xs i z ∙ t.len;
@@ -64,7 +63,7 @@ module _ (s : List ℕ) (i : ℕ) (xs : List ℤ) (r : Number) (t : Taken s i xs
             ∙ ap (λ (k : ℕ). gather k (value_at s)) (add-one i));
       }
 
-  pub taken_broken : r ≡ Broken → broken i ≡ entries_of s
+  pub taken_broken : r ≡ None → broken i ≡ entries_of s
   unfolding broken_at entries_of
   taken_broken q =
       ap (λ (f : Option ℕ). outcome_by f (gather param_count (value_at s)))

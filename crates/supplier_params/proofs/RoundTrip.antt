@@ -23,8 +23,6 @@ use Rattle.params.specs.declared.Edition.TheVariants.{First}
 use Rattle.params.specs.Check.{first_broken}
 use Rattle.params_bytes.specs.Read.{judged_by}
 use Rattle.params.proofs.CheckLaws.{accepted_in_lem}
-use Rattle.supplier_entry.specs.declared.Number.{Number}
-use Rattle.supplier_entry.specs.declared.Number.TheVariants.{Is, Broken}
 use Rattle.supplier_entry.specs.Bytes.{low_first, low_bytes}
 use Rattle.supplier_entry.specs.Entries.{content_of}
 use Rattle.supplier_entry.specs.Entries as entry
@@ -64,7 +62,7 @@ blocks s (suc n) =
 
 -- ---- what was exported, imported
 module _ (xs : List ℤ) (ok : first_broken (sheet First xs) ≡ None) (len : length xs ≡ param_count) where
-  number_back : (i : ℕ) → i < param_count → number_at (bytes_of xs) i ≡ Is (at xs i)
+  number_back : (i : ℕ) → i < param_count → number_at (bytes_of xs) i ≡ Some (at xs i)
   unfolding number_at bytes_of bytes_at entry_bytes in_limits
   number_back i h =
       let form = form_at (field_of i) in
@@ -163,17 +161,17 @@ module _ (f : ℕ → List ℤ) (g : ℕ → ℤ) where
           ∙ ap (λ (t : List ℤ). at t i) (take_at (gather n f) (f n) n (singles n (λ i l. h i (omega arith))))
 
 -- the number of an entry that is not broken
-abbrev found : Number → ℤ
-found (Is z) = z
-found Broken = pos 0
+abbrev found : Option ℤ → ℤ
+found (Some z) = z
+found None = pos 0
 
-whole_number : (x : Number) → is_broken x ≡ false → x ≡ Is (found x)
-whole_number (Is z) e = refl
-whole_number Broken e = let z : ◌≡◌ {A = ℕ} 0 1 = cc in absurd (omega arith)
+whole_number : (x : Option ℤ) → is_broken x ≡ false → x ≡ Some (found x)
+whole_number (Some z) e = refl
+whole_number None e = let z : ◌≡◌ {A = ℕ} 0 1 = cc in absurd (omega arith)
 
 module _ (s : List ℕ) (bytes : (k : ℕ) → get_or s k 0 < 256) (len : length s ≡ supplier_bytes) (ok : first param_count (broken_at s) ≡ None)
   where
-    number_found : (i : ℕ) → i < param_count → number_at s i ≡ Is (found (number_at s i))
+    number_found : (i : ℕ) → i < param_count → number_at s i ≡ Some (found (number_at s i))
     unfolding broken_at
     number_found i h = whole_number (number_at s i) (first_passed (broken_at s) param_count ok i h)
 
@@ -209,7 +207,7 @@ module _ (s : List ℕ) (bytes : (k : ℕ) → get_or s k 0 < 256) (len : length
         let small : (k : ℕ) → get_or rest k 0 < 256 = λ k. rw q at (entry_bytes_lem i h (suc k)) in
         let eight : length rest ≡ 8 = (let l = sym (entry_length i h) ∙ ap length q in omega arith) in
         let lt : low_first rest < 2 ^ 64 = rw eight at (first_lt rest small) in
-        let n : entry.import_of form (limit_at (field_of i)) kind (low_first rest) ≡ Is z =
+        let n : entry.import_of form (limit_at (field_of i)) kind (low_first rest) ≡ Some z =
         sym (ap (entry_number form (limit_at (field_of i))) q) ∙ number_found i h in
         let b = one.exports_back form (limit_at (field_of i)) kind (low_first rest) z lt n in
         ap (entry_bytes form) (at_found i h)

@@ -14,8 +14,6 @@ use Rattle.limits.specs.declared.Limit.{Limit}
 use Rattle.params_bytes.specs.declared.Reading.{Reading}
 use Rattle.params_bytes.specs.declared.Verdict.TheVariants as verdict
 use Rattle.supplier_entry.specs.declared.Form.{Form}
-use Rattle.supplier_entry.specs.declared.Number.{Number}
-use Rattle.supplier_entry.specs.declared.Number.TheVariants.{Is, Broken}
 use Rattle.supplier_entry.specs.Bytes.{low_first}
 use Rattle.supplier_entry.specs.Entries as entries
 use Rattle.supplier_params.specs.Forms.{supplier_bytes, form_at}
@@ -26,21 +24,21 @@ unfoldable pub entry_at : List ℕ → ℕ → List ℕ
 entry_at s i = take 9 (drop (9 * i) s)
 
 -- "a kind, then eight bytes, low first"
-abbrev pub entry_number : Form → Limit → List ℕ → Number
-entry_number form l [] = Broken
+abbrev pub entry_number : Form → Limit → List ℕ → Option ℤ
+entry_number form l [] = None
 entry_number form l (kind ∷ bytes) = entries.import_of form l kind (low_first bytes)
 
 -- the number of entry i, with the form and the limits of its field
-unfoldable pub number_at : List ℕ → ℕ → Number
+unfoldable pub number_at : List ℕ → ℕ → Option ℤ
 number_at s i = entry_number (form_at (field_of i)) (limit_at (field_of i)) (entry_at s i)
 
-abbrev pub is_broken : Number → Bool
-is_broken (Is z) = false
-is_broken Broken = true
+abbrev pub is_broken : Option ℤ → Bool
+is_broken (Some z) = false
+is_broken None = true
 
-abbrev pub value : Number → List ℤ
-value (Is z) = z ∷ []
-value Broken = []
+abbrev pub value : Option ℤ → List ℤ
+value (Some z) = z ∷ []
+value None = []
 
 unfoldable pub broken_at : List ℕ → ℕ → Bool
 broken_at s i = is_broken (number_at s i)

@@ -14,7 +14,7 @@ ghost use Rattle.supplier_params.specs.Export.{bytes_of, export_of};
 use limits::{FIELDS, GENERAL, NUMBERS, OF_TOPIC};
 use params::{Edition, Params};
 use params_bytes::{ReadError, Reading, WriteError};
-use supplier_entry::{Form, Number};
+use supplier_entry::Form;
 
 // How many bytes the parameters take: 147 entries of nine.
 pub const BYTES: usize = 1323;
@@ -103,7 +103,7 @@ fn form_of(i: usize) -> Form
 }
 
 // The number of entry i.
-fn number_at(s: &[u8], i: usize) -> Number
+fn number_at(s: &[u8], i: usize) -> Option<i64>
     requires { (length s.now ≡ supplier_bytes) × (i < param_count) }
     ensures { result ≡ number_at s.now i }
 {
@@ -121,7 +121,7 @@ fn entries(s: &[u8]) -> Parsed
     let mut numbers = [0i64; NUMBERS];
     let mut i: usize = 0;
     while i < NUMBERS {
-        let Number::Is(n) = number_at(s, i) else {
+        let Some(n) = number_at(s, i) else {
             return Parsed {
                 ok: false,
                 place: i,

@@ -1,6 +1,9 @@
 -- A recorded list: the calls made so far and the rest of the events, turn by turn; the ends of a run; and that the list is all that stands
 -- in the bytes.
 -- Assumes nothing.
+use Rattle.trace_step.specs.declared.EventError.{EventError}
+use Rattle.trace_step.specs.declared.EventError.TheVariants.{CutShort, Malformed, Unknown}
+use Rattle.trace_run.specs.declared.RecordError.TheVariants.{Refused}
 use Rattle.std.proofs.Common.{Option, Some, None, Result, Ok, Err}
 use Rattle.std.proofs.Common.{Unit, tt}
 use Rattle.lookup.specs.declared.FreshError.{FreshError}
@@ -33,11 +36,8 @@ use Rattle.trace_events.proofs.EventLaws.{Behind, event_behind}
 use Rattle.call_lists.specs.Lists.{Made, fresh, from_fresh, after}
 use Rattle.call_lists.specs.Demand3.{Holds}
 use Rattle.call_lists.proofs.Demand3.{demand3}
-use Rattle.trace_step.specs.declared.Performed.{Performed}
-use Rattle.trace_step.specs.declared.Performed.TheVariants.{Answered, Unknown, Malformed, CutShort}
 use Rattle.trace_step.specs.Replay.{perform_event, Performs}
 use Rattle.trace_step.proofs.ReplayLaws.{Told, told as told-event}
-use Rattle.trace_run.specs.declared.Recorded.TheVariants.{Refused, Ran}
 use Rattle.trace_run.specs.Recorded.{Recording, joins, calls_from, recording_of, is_event, All, reply_to, answers_to, actions_after, Runs}
 
 -- ---- the answers: one for each call
@@ -95,17 +95,17 @@ unfolding calls_from
 one_event d room zero s at before x h e = absurd (omega arith)
 one_event d room (suc m) s at before x h e = let f : suc m - 1 ≡ m = omega arith in rw (f, e)
 
-module _ (d : Edition) (params : Params) (s list₀ told₀ : List ℕ) (at calls : ℕ) (table table' list list' told : List ℕ) (r : Performed)
+module _ (d : Edition) (params : Params) (s list₀ told₀ : List ℕ) (at calls : ℕ) (table table' list list' told : List ℕ) (r : Result (ℕ × Answer) EventError)
     (g : Going d params s list₀ told₀ at calls table list told) (h : calls < length told₀)
     (p : Performs (perform_event (state_of table) (length list) (event_at d s at)) r table' list list') where
   room_is : length list ≡ length list₀
   room_is = ap length g.actions ∙ actions_length params g.before list₀
 
-  module _ (next : ℕ) (a : Answer) (e : r ≡ Answered next a) where
+  module _ (next : ℕ) (a : Answer) (e : r ≡ Ok (next, a)) where
     pub going_more : (code : ℕ) → code ≡ answer_code a → Going d params s list₀ told₀ next (calls + 1) table' list' (set told calls code)
     unfolding perform_event after actions_after
     going_more code f =
-        let t = told-event (state_of table) (length list) (event_at d s at) (Answered next a) (sym e ∙ p.answer) in
+        let t = told-event (state_of table) (length list) (event_at d s at) (Ok (next, a)) (sym e ∙ p.answer) in
         let made : Made = record { call = t.0; room = length list₀ } in
         let o : step (state_of table) t.0 (length list) ≡ reply_to params g.before made =
         ap₂ (λ (st : State) (room : ℕ). step st t.0 room) g.state room_is in
@@ -134,14 +134,14 @@ module _ (d : Edition) (params : Params) (s list₀ told₀ : List ℕ) (at call
 -- ---- the ends of `run`
 -- no event stands there
 no_event :
-    (st : State) (room : ℕ) (x : Event) (r : Performed) →
-    ((next : ℕ) (a : Answer) → r ≡ Answered next a → ⊥) →
+    (st : State) (room : ℕ) (x : Event) (r : Result (ℕ × Answer) EventError) →
+    ((next : ℕ) (a : Answer) → r ≡ Ok (next, a) → ⊥) →
     Told st room x r →
     is_event x ≡ false
-no_event st room x (Answered next a) h t = absurd (h next a refl)
-no_event st room x Unknown h t = ap is_event t
-no_event st room x Malformed h t = ap is_event t
-no_event st room x CutShort h t = ap is_event t
+no_event st room x (Ok (next, a)) h t = absurd (h next a refl)
+no_event st room x (Err Unknown) h t = ap is_event t
+no_event st room x (Err Malformed) h t = ap is_event t
+no_event st room x (Err CutShort) h t = ap is_event t
 
 ends_there :
     (room : ℕ) (rest : ℕ → List Made → Recording) (at : ℕ) (before : List Made) (x : Event) →
@@ -197,10 +197,10 @@ module _ (d : Edition) (params : Params) (s list₀ told₀ : List ℕ) (l : len
     ran_all h = let z : length told₀ - calls ≡ 0 = omega arith in ran table list (rw z) refl refl
 
     pub ran_stopped :
-        (table' list' : List ℕ) (r : Performed) →
+        (table' list' : List ℕ) (r : Result (ℕ × Answer) EventError) →
         calls < length told₀ →
         Performs (perform_event (state_of table) (length list) (event_at d s at)) r table' list list' →
-        ((next : ℕ) (a : Answer) → r ≡ Answered next a → ⊥) →
+        ((next : ℕ) (a : Answer) → r ≡ Ok (next, a) → ⊥) →
         Runs d params s (Ran at calls) start table' list₀ list' told₀ told
     unfolding numbers_of
     ran_stopped table' list' r h p o =
@@ -235,7 +235,7 @@ module _ (params : Params) (r : Result (Unit {0}) FreshError) (table table' : Li
 
   pub run_refused :
       (d : Edition) (s list told : List ℕ) (i : ℕ) → length params.numbers ≡ param_count → r ≡ Err (Broken i) →
-      Runs d params s (Refused i) table table' list list told told
+      Runs d params s (Err (Refused i)) table table' list list told told
   run_refused d s list told i l e =
       let f = breaks (first_broken params) r i m.answer e in
       let k = m.kept i e in

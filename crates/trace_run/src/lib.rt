@@ -8,15 +8,12 @@ use layout::CELLS;
 use lookup::FreshError;
 use params::Params;
 use trace_events::Edition;
-use trace_step::Performed;
+use trace_step::EventError;
 
-// What came of a recorded list.
+// Why a recorded list was not played: the parameters are refused, at the first index, or 200 + the first rule.
 #[derive(Clone, Copy)]
-pub enum Recorded {
-    // the parameters are refused: the first index, or 200 + the first rule
+pub enum RecordError {
     Refused(usize),
-    // the place after the last event, and how many calls were made
-    Ran(usize, usize),
 }
 
 // Makes a fresh router with these parameters, and calls the events of the bytes, in an edition, up to the first that is unknown, malformed
@@ -29,23 +26,22 @@ pub fn run(
     table: &mut [u64; CELLS],
     actions: &mut [u32],
     told: &mut [u64],
-) -> Recorded
+) -> Result<(usize, usize), RecordError>
     ensures { Runs edition params s.now result table.old table.new actions.old
         actions.new told.old told.new }
 {
     if let Err(FreshError::Broken(i)) = router::fresh(params, table) {
-        return Recorded::Refused(i);
+        return Err(RecordError::Refused(i));
     }
     let mut at: usize = 0;
     let mut calls: usize = 0;
     while calls < told.len() {
-        let Performed::Answered(next, a) = trace_step::perform(table, edition, s, at, actions)
-        else {
-            return Recorded::Ran(at, calls);
+        let Ok((next, a)) = trace_step::perform(table, edition, s, at, actions) else {
+            return Ok((at, calls));
         };
         told[calls] = answers::code(a);
         at = next;
         calls += 1;
     }
-    Recorded::Ran(at, calls)
+    Ok((at, calls))
 }

@@ -1,5 +1,8 @@
 -- The ends of one event's functions: which call a kind is, how the numbers become an event, and what is printed of a reply.
 -- Assumes nothing.
+use Rattle.std.proofs.Common.{Result, Ok, Err}
+use Rattle.trace_step.specs.declared.EventError.{EventError}
+use Rattle.trace_step.specs.declared.EventError.TheVariants.{CutShort, Malformed, Unknown}
 use Rattle.std.proofs.Common.{Option, Some, None}
 use Prim.Native.Nat.{ℕ, zero, suc, ◌+◌, ◌-◌, ◌≤◌, ◌<◌}
 use mathlib.Core.Path.{◌≡◌, refl, sym, ap, ap₂, ◌∙◌}
@@ -38,8 +41,6 @@ use Rattle.trace_events.specs.Reading.{unknown, malformed, short, cut_short, unr
 use Rattle.trace_events.specs.Reading.{connecting, ordered, of_numbers, of_kind, event_at}
 use Rattle.trace_events.specs.Lines.{pair_line, lines_of, reply_text, line_room}
 use Rattle.trace_events.proofs.LineLaws.{lines_are}
-use Rattle.trace_step.specs.declared.Performed.{Performed}
-use Rattle.trace_step.specs.declared.Performed.TheVariants.{Answered, Unknown, Malformed, CutShort}
 use Rattle.trace_step.specs.declared.Replayed.{Replayed}
 use Rattle.trace_step.specs.declared.Replayed.TheVariants.{Called, Stopped, Short, Full}
 use Rattle.trace_step.specs.Replay.{idle, perform_event, Performs, stopped, replay_event, replay_of, Replays}
@@ -136,18 +137,18 @@ follows_kind kind n v r table table' list list' e f = rw e f
 performed :
     (c : Call) (a : Answer) (table table' list list' : List ℕ) (next : ℕ) →
     Follows c a table table' list list' →
-    Performs (perform_event (state_of table) (length list) (event c next)) (Answered next a) table' list list'
+    Performs (perform_event (state_of table) (length list) (event c next)) (Ok (next, a)) table' list list'
 unfolding perform_event
 performed c a table table' list list' next f =
     record { answer = ap (Answered next) f.leaves.answer; state = f.leaves.state; actions = f.actions }
 
 -- nothing was done
-idles : (table list : List ℕ) (r : Performed) → Performs (idle (state_of table) r) r table list list
+idles : (table list : List ℕ) (r : Result (ℕ × Answer) EventError) → Performs (idle (state_of table) r) r table list list
 unfolding numbers_of
 idles table list r = record { answer = refl; state = refl; actions = refl }
 
 as_event :
-    (st : State) (room : ℕ) (x y : Event) (r : Performed) (table' list list' : List ℕ) →
+    (st : State) (room : ℕ) (x y : Event) (r : Result (ℕ × Answer) EventError) (table' list list' : List ℕ) →
     x ≡ y →
     Performs (perform_event st room y) r table' list list' →
     Performs (perform_event st room x) r table' list list'
@@ -155,16 +156,16 @@ as_event st room x y r table' list list' e h = rw e h
 
 -- a number that cannot be read
 unread_is :
-    (s : List ℕ) (at : ℕ) (r : Performed) (table list : List ℕ) →
-    r ≡ cond (cut_short s at) CutShort Malformed →
+    (s : List ℕ) (at : ℕ) (r : Result (ℕ × Answer) EventError) (table list : List ℕ) →
+    r ≡ cond (cut_short s at) (Err CutShort) (Err Malformed) →
     Performs (perform_event (state_of table) (length list) (unread s at)) r table list list
 unfolding perform_event
 unread_is s at r table list e =
     by_test
     (Performs (perform_event (state_of table) (length list) (unread s at)) r table list list)
     (cut_short s at)
-    (λ k. rw (e, k) (idles table list CutShort))
-    (λ k. rw (e, k) (idles table list Malformed))
+    (λ k. rw (e, k) (idles table list (Err CutShort)))
+    (λ k. rw (e, k) (idles table list (Err Malformed)))
 
 -- ---- the ends of `connect`
 module _ (s : List ℕ) (time id : ℕ) (groups : List ℕ) (flags size at : ℕ) where
@@ -187,26 +188,26 @@ module _ (s : List ℕ) (time id : ℕ) (groups : List ℕ) (flags size at : ℕ
   named_whole h l = rw (le-leb size name_most h, le-leb (at + size) (length s) l)
 
   pub connect_long :
-      (table list : List ℕ) → name_most < size → Performs (perform_event (state_of table) (length list) here) Malformed table list list
+      (table list : List ℕ) → name_most < size → Performs (perform_event (state_of table) (length list) here) (Err Malformed) table list list
   unfolding perform_event
   connect_long table list h =
-      as_event (state_of table) (length list) here malformed Malformed table list list (named_long h) (idles table list Malformed)
+      as_event (state_of table) (length list) here malformed (Err Malformed) table list list (named_long h) (idles table list (Err Malformed))
 
   pub connect_short :
       (table list : List ℕ) →
       size ≤ name_most →
       length s < at + size →
-      Performs (perform_event (state_of table) (length list) here) CutShort table list list
+      Performs (perform_event (state_of table) (length list) here) (Err CutShort) table list list
   unfolding perform_event
   connect_short table list h l =
-      as_event (state_of table) (length list) here short CutShort table list list (named_short h l) (idles table list CutShort)
+      as_event (state_of table) (length list) here short (Err CutShort) table list list (named_short h l) (idles table list (Err CutShort))
 
   pub connect_called :
       (a : Answer) (table table' list list' : List ℕ) →
       size ≤ name_most →
       at + size ≤ length s →
       Follows (connect time id groups flags (take (at + size - at) (drop at s))) a table table' list list' →
-      Performs (perform_event (state_of table) (length list) here) (Answered (at + size) a) table' list list'
+      Performs (perform_event (state_of table) (length list) here) (Ok (at + size, a)) table' list list'
   connect_called a table table' list list' h l f =
       let e : at + size - at ≡ size = omega arith in
       as_event (state_of table) (length list) here _ _ table' list list' (named_whole h l)
@@ -223,17 +224,17 @@ module _ (s : List ℕ) (at n : ℕ) (us : Readings) (v : List ℕ) (e : outcome
 -- ---- the ends of `counted`
 module _ (s v : List ℕ) (at : ℕ) where
   pub counted_many : (table list : List ℕ) → group_most < get_or v 2 0 →
-      Performs (perform_event (state_of table) (length list) (many s v at)) Malformed table list list
+      Performs (perform_event (state_of table) (length list) (many s v at)) (Err Malformed) table list list
   unfolding perform_event
   counted_many table list h =
-      as_event (state_of table) (length list) (many s v at) malformed Malformed table list list
+      as_event (state_of table) (length list) (many s v at) malformed (Err Malformed) table list list
       (ap (λ (b : Bool). cond b (grouped s v (numbers_from (get_or v 2 0 + 2) s at)) malformed) (lt-leb (get_or v 2 0) group_most h))
-      (idles table list Malformed)
+      (idles table list (Err Malformed))
 
   module _ (few : get_or v 2 0 ≤ group_most) (us : Readings) (w : List ℕ)
       (e : outcome (get_or v 2 0 + 2) us w ≡ numbers_from (get_or v 2 0 + 2) s at) where
     at_groups :
-        (q : Numbers) (table table' list list' : List ℕ) (r : Performed) →
+        (q : Numbers) (table table' list list' : List ℕ) (r : Result (ℕ × Answer) EventError) →
         numbers_from (get_or v 2 0 + 2) s at ≡ q →
         Performs (perform_event (state_of table) (length list) (grouped s v q)) r table' list list' →
         Performs (perform_event (state_of table) (length list) (many s v at)) r table' list list'
@@ -242,9 +243,9 @@ module _ (s v : List ℕ) (at : ℕ) where
         (ap₂ (λ (b : Bool) (x : Numbers). cond b (grouped s v x) malformed) (le-leb (get_or v 2 0) group_most few) f) p
 
     pub counted_unread :
-        (table list : List ℕ) (r : Performed) →
+        (table list : List ℕ) (r : Result (ℕ × Answer) EventError) →
         us.ok ≡ false →
-        r ≡ cond (cut_short s us.place) CutShort Malformed →
+        r ≡ cond (cut_short s us.place) (Err CutShort) (Err Malformed) →
         Performs (perform_event (state_of table) (length list) (many s v at)) r table list list
     counted_unread table list r f h =
         at_groups (broken us.place) table table list list r (read_broken s at (get_or v 2 0 + 2) us w e f)
@@ -252,7 +253,7 @@ module _ (s v : List ℕ) (at : ℕ) where
 
     -- what was read behind the count
     pub counted_called :
-        (table table' list list' : List ℕ) (r : Performed) →
+        (table table' list list' : List ℕ) (r : Result (ℕ × Answer) EventError) →
         us.ok ≡ true →
         Performs (perform_event (state_of table) (length list)
         (named s (get_or v 0 0) (get_or v 1 0) (take (get_or v 2 0) w) (get_or w (get_or v 2 0) 0) (get_or w (get_or v 2 0 + 1) 0) us.place)) r table'
@@ -265,7 +266,7 @@ module _ (s v : List ℕ) (at : ℕ) where
 
 -- ---- the ends of `connecting`
 pub connecting_as :
-    (g h : Edition) (s v : List ℕ) (at : ℕ) (table table' list list' : List ℕ) (r : Performed) →
+    (g h : Edition) (s v : List ℕ) (at : ℕ) (table table' list list' : List ℕ) (r : Result (ℕ × Answer) EventError) →
     g ≡ h →
     Performs (perform_event (state_of table) (length list) (connecting h s v at)) r table' list list' →
     Performs (perform_event (state_of table) (length list) (connecting g s v at)) r table' list list'
@@ -275,7 +276,7 @@ connecting_as g h s v at table table' list list' r e p = rw e p
 module _ (s v : List ℕ) (at n : ℕ) (g : Edition) (told : n ≡ order_size g) (us : Readings) (order : List ℕ)
     (e : outcome n us order ≡ numbers_from n s at) where
   at_order :
-      (q : Numbers) (table table' list list' : List ℕ) (r : Performed) →
+      (q : Numbers) (table table' list list' : List ℕ) (r : Result (ℕ × Answer) EventError) →
       numbers_from n s at ≡ q →
       Performs (perform_event (state_of table) (length list) (ordered s v q)) r table' list list' →
       Performs (perform_event (state_of table) (length list) (ordered s v (numbers_from (order_size g) s at))) r table' list list'
@@ -284,9 +285,9 @@ module _ (s v : List ℕ) (at n : ℕ) (g : Edition) (told : n ≡ order_size g)
       (ap (ordered s v) (ap (λ (k : ℕ). numbers_from k s at) (sym told) ∙ f)) p
 
   pub heartbeat_unread :
-      (table list : List ℕ) (r : Performed) →
+      (table list : List ℕ) (r : Result (ℕ × Answer) EventError) →
       us.ok ≡ false →
-      r ≡ cond (cut_short s us.place) CutShort Malformed →
+      r ≡ cond (cut_short s us.place) (Err CutShort) (Err Malformed) →
       Performs (perform_event (state_of table) (length list) (ordered s v (numbers_from (order_size g) s at))) r table list list
   heartbeat_unread table list r f h =
       at_order (broken us.place) table table list list r (read_broken s at n us order e f) (unread_is s us.place r table list h)
@@ -296,19 +297,19 @@ module _ (s v : List ℕ) (at n : ℕ) (g : Edition) (told : n ≡ order_size g)
       us.ok ≡ true →
       wide ≡ widened (take n order) →
       Follows (heartbeat (get_or v 0 0) (get_or v 1 0) (get_or v 2 0) wide) a table table' list list' →
-      Performs (perform_event (state_of table) (length list) (ordered s v (numbers_from (order_size g) s at))) (Answered us.place a) table'
+      Performs (perform_event (state_of table) (length list) (ordered s v (numbers_from (order_size g) s at))) (Ok (us.place, a)) table'
       list list'
   unfolding call_of
   heartbeat_called wide a table table' list list' f w p =
-      at_order (numbers (take n order) us.place) table table' list list' (Answered us.place a) (read_whole s at n us order e f)
+      at_order (numbers (take n order) us.place) table table' list list' (Ok (us.place, a)) (read_whole s at n us order e f)
       (performed _ a table table' list list' us.place (rw w at p))
 
 -- ---- the ends of `perform_kind`
 module _ (g : Edition) (s : List ℕ) (kind at n : ℕ) (us : Readings) (v : List ℕ) (e : outcome n us v ≡ numbers_from n s at) where
   pub kind_unread :
-      (table list : List ℕ) (r : Performed) →
+      (table list : List ℕ) (r : Result (ℕ × Answer) EventError) →
       us.ok ≡ false →
-      r ≡ cond (cut_short s us.place) CutShort Malformed →
+      r ≡ cond (cut_short s us.place) (Err CutShort) (Err Malformed) →
       Performs (perform_event (state_of table) (length list) (of_numbers g s kind (numbers_from n s at))) r table list list
   kind_unread table list r f h =
       as_event (state_of table) (length list) (of_numbers g s kind (numbers_from n s at)) (unread s us.place) r table list list
@@ -320,7 +321,7 @@ module _ (g : Edition) (s : List ℕ) (kind at n : ℕ) (us : Readings) (v : Lis
     whole = read_whole s at n us v e f
 
     pub kind_connect :
-        (table table' list list' : List ℕ) (r : Performed) →
+        (table table' list list' : List ℕ) (r : Result (ℕ × Answer) EventError) →
         kind ≡ 1 →
         Performs (perform_event (state_of table) (length list) (connecting g s v us.place)) r table' list list' →
         Performs (perform_event (state_of table) (length list) (of_numbers g s kind (numbers_from n s at))) r table' list list'
@@ -330,7 +331,7 @@ module _ (g : Edition) (s : List ℕ) (kind at n : ℕ) (us : Readings) (v : Lis
         h
 
     pub kind_heartbeat :
-        (table table' list list' : List ℕ) (r : Performed) →
+        (table table' list list' : List ℕ) (r : Result (ℕ × Answer) EventError) →
         kind ≡ 11 →
         Performs (perform_event (state_of table) (length list) (ordered s v (numbers_from (order_size g) s us.place))) r table' list list' →
         Performs (perform_event (state_of table) (length list) (of_numbers g s kind (numbers_from n s at))) r table' list list'
@@ -345,7 +346,7 @@ module _ (g : Edition) (s : List ℕ) (kind at n : ℕ) (us : Readings) (v : Lis
         kind ≢ 1 →
         kind ≢ 11 →
         Follows (call_of kind v []) a table table' list list' →
-        Performs (perform_event (state_of table) (length list) (of_numbers g s kind (numbers_from n s at))) (Answered us.place a) table' list
+        Performs (perform_event (state_of table) (length list) (of_numbers g s kind (numbers_from n s at))) (Ok (us.place, a)) table' list
         list'
     kind_other table table' list list' a k m p =
         as_event (state_of table) (length list) (of_numbers g s kind (numbers_from n s at)) (event (call_of kind v []) us.place) _ table'
@@ -357,7 +358,7 @@ module _ (g : Edition) (s : List ℕ) (kind at n : ℕ) (us : Readings) (v : Lis
 -- ---- the ends of `perform`
 module _ (g : Edition) (s : List ℕ) (at : ℕ) (q : Option (ℕ × ℕ)) (e : q ≡ read_at 18446744073709551615 s at) where
   at_kind :
-      (x : Event) (table table' list list' : List ℕ) (r : Performed) →
+      (x : Event) (table table' list list' : List ℕ) (r : Result (ℕ × Answer) EventError) →
       of_kind g s at q ≡ x →
       Performs (perform_event (state_of table) (length list) x) r table' list list' →
       Performs (perform_event (state_of table) (length list) (event_at g s at)) r table' list list'
@@ -366,9 +367,9 @@ module _ (g : Edition) (s : List ℕ) (at : ℕ) (q : Option (ℕ × ℕ)) (e : 
       as_event (state_of table) (length list) (event_at g s at) x r table' list list' (ap (of_kind g s at) (sym e) ∙ f) p
 
   pub perform_bad :
-      (table list : List ℕ) (r : Performed) →
+      (table list : List ℕ) (r : Result (ℕ × Answer) EventError) →
       q ≡ None →
-      r ≡ cond (cut_short s at) CutShort Malformed →
+      r ≡ cond (cut_short s at) (Err CutShort) (Err Malformed) →
       Performs (perform_event (state_of table) (length list) (event_at g s at)) r table list list
   perform_bad table list r f h =
       at_kind (unread s at) table table list list r (ap (of_kind g s at) f) (unread_is s at r table list h)
@@ -378,15 +379,15 @@ module _ (g : Edition) (s : List ℕ) (at : ℕ) (q : Option (ℕ × ℕ)) (e : 
       q ≡ Some (kind, next) →
       n ≡ arity g kind →
       n ≡ 0 →
-      Performs (perform_event (state_of table) (length list) (event_at g s at)) Unknown table list list
+      Performs (perform_event (state_of table) (length list) (event_at g s at)) (Err Unknown) table list list
   unfolding perform_event
   perform_unknown table list kind next n f a z =
-      at_kind unknown table table list list Unknown
+      at_kind unknown table table list list (Err Unknown)
       (ap (of_kind g s at) f ∙ ap (λ (k : ℕ). cond (eqb k 0) unknown (of_numbers g s kind (numbers_from (arity g kind) s next))) (sym a ∙ z))
-      (idles table list Unknown)
+      (idles table list (Err Unknown))
 
   pub perform_known :
-      (table table' list list' : List ℕ) (r : Performed) (kind next n : ℕ) →
+      (table table' list list' : List ℕ) (r : Result (ℕ × Answer) EventError) (kind next n : ℕ) →
       q ≡ Some (kind, next) →
       n ≡ arity g kind →
       n ≢ 0 →
@@ -419,11 +420,11 @@ text_is o a list list' h k e f =
 
 -- the answer tells which event it was
 module _ (st : State) (room : ℕ) where
-  abbrev pub Told : Event → Performed → Type 0
-  Told x (Answered next a) = (c : Call) × (x ≡ event c next) × (a ≡ (step st c room).answer)
-  Told x Unknown = x ≡ unknown
-  Told x Malformed = x ≡ malformed
-  Told x CutShort = x ≡ short
+  abbrev pub Told : Event → Result (ℕ × Answer) EventError → Type 0
+  Told x (Ok (next, a)) = (c : Call) × (x ≡ event c next) × (a ≡ (step st c room).answer)
+  Told x (Err Unknown) = x ≡ unknown
+  Told x (Err Malformed) = x ≡ malformed
+  Told x (Err CutShort) = x ≡ short
 
   told_self : (x : Event) → Told x (perform_event st room x).answer
   unfolding perform_event
@@ -432,17 +433,17 @@ module _ (st : State) (room : ℕ) where
   told_self malformed = refl
   told_self short = refl
 
-  pub told : (x : Event) (r : Performed) → r ≡ (perform_event st room x).answer → Told x r
+  pub told : (x : Event) (r : Result (ℕ × Answer) EventError) → r ≡ (perform_event st room x).answer → Told x r
   told x r e = rw e (told_self x)
 
-module _ (st : State) (table' list list' : List ℕ) (x : Event) (r : Performed)
+module _ (st : State) (table' list list' : List ℕ) (x : Event) (r : Result (ℕ × Answer) EventError)
     (p : Performs (perform_event st (length list) x) r table' list list') where
-  told_as : (q : Performed) → r ≡ q → Told st (length list) x q
+  told_as : (q : Result (ℕ × Answer) EventError) → r ≡ q → Told st (length list) x q
   told_as q e = told st (length list) x q (sym e ∙ p.answer)
 
-  pub few_actions : (next : ℕ) (a : Answer) → r ≡ Answered next a → actions_of a ≤ slot_count
+  pub few_actions : (next : ℕ) (a : Answer) → r ≡ Ok (next, a) → actions_of a ≤ slot_count
   few_actions next a e =
-      let t = told_as (Answered next a) e in
+      let t = told_as (Ok (next, a)) e in
       let k = counted st t.0 (length list) in
       omega (arith, ap actions_of t.2, k.counts, k.few)
 
@@ -450,12 +451,12 @@ module _ (st : State) (table' list list' : List ℕ) (x : Event) (r : Performed)
     pub event_called :
         (next n : ℕ) (a : Answer) →
         length list ≡ action_room →
-        r ≡ Answered next a →
+        r ≡ Ok (next, a) →
         Stored out 0 (reply_text a list') n out' × (n ≤ line_room) →
         Replays (replay_event st out x) (Called next n) table' out'
     unfolding perform_event
     event_called next n a l e s =
-        let t = told_as (Answered next a) e in
+        let t = told_as (Ok (next, a)) e in
         let o : Reply = step st t.0 action_room in
         let p' : Performs (perform_event st action_room (event t.0 next)) r table' list list' = rw (l, t.1) at p in
         let b : a ≡ o.answer = rw l at t.2 in
@@ -488,19 +489,19 @@ module _ (st : State) (table' list list' : List ℕ) (x : Event) (r : Performed)
         })
 
     pub event_unknown :
-        (m : ℕ) → r ≡ Unknown → Stored out 0 (pair_line 2 0) m out' × (m ≤ 42) → Replays (replay_event st out x) (Stopped m) table' out'
+        (m : ℕ) → r ≡ Err Unknown → Stored out 0 (pair_line 2 0) m out' × (m ≤ 42) → Replays (replay_event st out x) (Stopped m) table' out'
     unfolding perform_event
-    event_unknown m e s = event_stopped unknown 2 m (told_as Unknown e) refl refl s
+    event_unknown m e s = event_stopped unknown 2 m (told_as (Err Unknown) e) refl refl s
 
     pub event_malformed :
-        (m : ℕ) → r ≡ Malformed → Stored out 0 (pair_line 10 0) m out' × (m ≤ 42) → Replays (replay_event st out x) (Stopped m) table' out'
+        (m : ℕ) → r ≡ Err Malformed → Stored out 0 (pair_line 10 0) m out' × (m ≤ 42) → Replays (replay_event st out x) (Stopped m) table' out'
     unfolding perform_event
-    event_malformed m e s = event_stopped malformed 10 m (told_as Malformed e) refl refl s
+    event_malformed m e s = event_stopped malformed 10 m (told_as (Err Malformed) e) refl refl s
 
-  pub event_short : (out : List ℕ) → r ≡ CutShort → Replays (replay_event st out x) Short table' out
+  pub event_short : (out : List ℕ) → r ≡ Err CutShort → Replays (replay_event st out x) Short table' out
   unfolding perform_event
   event_short out e =
-      let t = told_as CutShort e in
+      let t = told_as (Err CutShort) e in
       rw t
       (record {
         answer = refl;

@@ -1,4 +1,8 @@
 -- What one event of a trace does to the table, to the lent action list and to the lent buffer.
+use Rattle.std.specs.Prelude.{Result, Ok, Err}
+use Rattle.trace_step.specs.declared.EventError.{EventError}
+use Rattle.rules.specs.declared.Answer.{Answer}
+use Rattle.trace_step.specs.declared.EventError.TheVariants.{CutShort, Malformed, Unknown}
 use Rattle.std.specs.Prelude.{ℕ, ◌≤◌, ◌≡◌, cond, List, [], ltb, length}
 use Rattle.std.proofs.lemmas.List.Edits.{sets}
 use Rattle.records.specs.Records.{State}
@@ -6,8 +10,6 @@ use Rattle.layout.specs.View.{state_of}
 use Rattle.effects.specs.Actions.{Action, numbers_of}
 use Rattle.rules.specs.Reply.{Reply, number_of}
 use Rattle.rules.specs.Step.{step, action_room}
-use Rattle.trace_step.specs.declared.Performed.{Performed}
-use Rattle.trace_step.specs.declared.Performed.TheVariants.{Answered, Unknown, Malformed, CutShort}
 use Rattle.trace_step.specs.declared.Replayed.{Replayed}
 use Rattle.trace_step.specs.declared.Replayed.TheVariants.{Called, Stopped, Short, Full}
 use Rattle.trace_events.specs.declared.Edition.{Edition}
@@ -17,35 +19,35 @@ use Rattle.trace_events.specs.Lines.{pair_line, lines_of, line_room}
 -- ---- the event's call
 -- the answer, the state that is left, and the actions for the lent list
 pub record Performance : Type 0 where
-  pub answer : Performed
+  pub answer : Result (ℕ × Answer) EventError
   pub state : State
   pub actions : List Action
 
 -- the rules' reply to the event's call
 abbrev pub of_reply : Reply → ℕ → Performance
-of_reply o next = record { answer = Answered next o.answer; state = o.state; actions = o.actions }
+of_reply o next = record { answer = Ok (next, o.answer); state = o.state; actions = o.actions }
 
 -- no call is made
-abbrev pub idle : State → Performed → Performance
+abbrev pub idle : State → Result (ℕ × Answer) EventError → Performance
 idle st r = record { answer = r; state = st; actions = [] }
 
 unfoldable pub perform_event : State → ℕ → Event → Performance
 perform_event st room (event c next) = of_reply (step st c room) next
-perform_event st room unknown = idle st Unknown
-perform_event st room malformed = idle st Malformed
-perform_event st room short = idle st CutShort
+perform_event st room unknown = idle st (Err Unknown)
+perform_event st room malformed = idle st (Err Malformed)
+perform_event st room short = idle st (Err CutShort)
 
 -- 01's number of an answer: "bad bytes or a name-length over 64 print 10 0, an unknown kind 2 0"; an event that is cut short is bad where
 -- no bytes follow
-abbrev pub performed_number : Performed → ℕ
-performed_number (Answered next a) = number_of a
-performed_number Unknown = 2
-performed_number Malformed = 10
-performed_number CutShort = 10
+abbrev pub performed_number : Result (ℕ × Answer) EventError → ℕ
+performed_number (Ok (next, a)) = number_of a
+performed_number (Err Unknown) = 2
+performed_number (Err Malformed) = 10
+performed_number (Err CutShort) = 10
 
 -- what is promised: r is the answer, list is what stood in the lent list, table' and list' are what stands in the table and in the list
 -- after it
-pub record Performs (o : Performance) (r : Performed) (table' list list' : List ℕ) : Type 0 where
+pub record Performs (o : Performance) (r : Result (ℕ × Answer) EventError) (table' list list' : List ℕ) : Type 0 where
   pub answer : r ≡ o.answer
   pub state : state_of table' ≡ o.state
   pub actions : list' ≡ sets list 0 (numbers_of o.actions)
@@ -69,8 +71,8 @@ stopped st n out =
 
 abbrev pub replay_event : State → List ℕ → Event → Outcome
 replay_event st out (event c next) = printed (step st c action_room) next out
-replay_event st out unknown = stopped st (performed_number Unknown) out
-replay_event st out malformed = stopped st (performed_number Malformed) out
+replay_event st out unknown = stopped st (performed_number (Err Unknown)) out
+replay_event st out malformed = stopped st (performed_number (Err Malformed)) out
 replay_event st out short = record { answer = Short; state = st; bytes = out }
 
 unfoldable pub replay_of : Edition → State → List ℕ → ℕ → List ℕ → Outcome

@@ -1,12 +1,13 @@
 // One event of a trace: read from a window of bytes, called on the lent table, and answered in text in a lent buffer.
 #![tactic(auto)]
 
+ghost use Rattle.std.specs.Prelude.{Err};
+ghost use Rattle.trace_step.specs.declared.EventError.TheVariants.{CutShort, Malformed};
 ghost use Rattle.std.specs.Prelude.{◌≡◌, ◌≢◌, cond, [], length};
 ghost use Rattle.layout.specs.View.{state_of};
 ghost use Rattle.rules.specs.Promise.{Follows};
 ghost use Rattle.trace_events.specs.Reading.{order_size, numbers_from, cut_short, arity as arityOf, call_of, named, alone as one};
 ghost use Rattle.trace_events.specs.Reading.{counted as many, connecting as connectingOf, ordered, of_numbers, event_at};
-ghost use Rattle.trace_step.specs.declared.Performed.TheVariants.{Malformed, CutShort};
 ghost use Rattle.trace_step.specs.Replay.{perform_event, Performs, Replays, replay_of};
 
 use layout::CELLS;
@@ -24,11 +25,9 @@ const GROUP_MOST: u64 = 4;
 
 const COUNTED: usize = 6;
 
-// What became of one event's call.
+// Why an event's call was not made.
 #[derive(Clone, Copy)]
-pub enum Performed {
-    // it was made: the place after the event, and the answer
-    Answered(usize, Answer),
+pub enum EventError {
     // the kind is not known
     Unknown,
     // no further bytes make it an event
@@ -90,13 +89,13 @@ fn call(table: &mut [u64; CELLS], kind: u64, v: &[u64; NUMBERS], actions: &mut [
 }
 
 // A number that cannot be read: with more bytes it may be whole, or it is malformed.
-fn unread(s: &[u8], at: usize) -> Performed
-    ensures { result ≡ cond (cut_short s.now at) CutShort Malformed }
+fn unread(s: &[u8], at: usize) -> Result<(usize, Answer), EventError>
+    ensures { result ≡ cond (cut_short s.now at) (Err CutShort) (Err Malformed) }
 {
     if cut_short(s, at) {
-        return Performed::CutShort;
+        return Err(EventError::CutShort);
     }
-    Performed::Malformed
+    Err(EventError::Malformed)
 }
 
 // A connect, whose name of `size` bytes begins at a place.
@@ -110,24 +109,24 @@ fn connect(
     size: u64,
     at: usize,
     actions: &mut [u32],
-) -> Performed
+) -> Result<(usize, Answer), EventError>
     ensures { Performs (perform_event (state_of table.old) (length actions.old)
         (named s.now time id groups.now flags size at)) result table.new actions.old
         actions.new }
 {
     if NAME_MOST < size {
-        return Performed::Malformed;
+        return Err(EventError::Malformed);
     }
     let n = size as usize;
     if s.len() < at {
-        return Performed::CutShort;
+        return Err(EventError::CutShort);
     }
     if s.len() - at < n {
-        return Performed::CutShort;
+        return Err(EventError::CutShort);
     }
     let next = at + n;
     let a = router::connect(table, time, id, groups, flags, &s[at..next], actions);
-    Performed::Answered(next, a)
+    Ok((next, a))
 }
 
 // A connect with one group.
@@ -137,7 +136,7 @@ fn alone(
     v: &[u64; NUMBERS],
     at: usize,
     actions: &mut [u32],
-) -> Performed
+) -> Result<(usize, Answer), EventError>
     ensures { Performs (perform_event (state_of table.old) (length actions.old) (one s.now v.now at)) result
         table.new actions.old actions.new }
 {
@@ -152,13 +151,13 @@ fn counted(
     v: &[u64; NUMBERS],
     at: usize,
     actions: &mut [u32],
-) -> Performed
+) -> Result<(usize, Answer), EventError>
     ensures { Performs (perform_event (state_of table.old) (length actions.old) (many s.now v.now at)) result
         table.new actions.old actions.new }
 {
     let count = v[2];
     if GROUP_MOST < count {
-        return Performed::Malformed;
+        return Err(EventError::Malformed);
     }
     let n = count as usize;
     let mut w = [0u64; COUNTED];
@@ -180,7 +179,7 @@ fn connecting(
     v: &[u64; NUMBERS],
     at: usize,
     actions: &mut [u32],
-) -> Performed
+) -> Result<(usize, Answer), EventError>
     ensures { Performs (perform_event (state_of table.old) (length actions.old)
         (connectingOf edition s.now v.now at)) result table.new actions.old actions.new }
 {
@@ -199,7 +198,7 @@ fn heartbeat(
     v: &[u64; NUMBERS],
     at: usize,
     actions: &mut [u32],
-) -> Performed
+) -> Result<(usize, Answer), EventError>
     ensures { Performs (perform_event (state_of table.old) (length actions.old)
         (ordered s.now v.now (numbers_from (order_size edition) s.now at))) result table.new
         actions.old actions.new }
@@ -213,7 +212,7 @@ fn heartbeat(
     }
     widen(&mut order, n);
     let a = router::heartbeat(table, v[0], v[1], v[2], &order, actions);
-    Performed::Answered(place, a)
+    Ok((place, a))
 }
 
 // The event of a known kind whose n numbers start at a place.
@@ -225,7 +224,7 @@ fn perform_kind(
     at: usize,
     n: usize,
     actions: &mut [u32],
-) -> Performed
+) -> Result<(usize, Answer), EventError>
     requires { n ≡ arityOf edition kind }
     ensures { Performs (perform_event (state_of table.old) (length actions.old)
         (of_numbers edition s.now kind (numbers_from n s.now at))) result table.new actions.old
@@ -240,7 +239,7 @@ fn perform_kind(
     match kind {
         1 => connecting(table, edition, s, &v, place, actions),
         11 => heartbeat(table, edition, s, &v, place, actions),
-        _ => Performed::Answered(place, call(table, kind, &v, actions)),
+        _ => Ok((place, call(table, kind, &v, actions))),
     }
 }
 
@@ -251,7 +250,7 @@ pub fn perform(
     s: &[u8],
     at: usize,
     actions: &mut [u32],
-) -> Performed
+) -> Result<(usize, Answer), EventError>
     ensures { Performs (perform_event (state_of table.old) (length actions.old) (event_at edition s.now at)) result
         table.new actions.old actions.new }
 {
@@ -260,7 +259,7 @@ pub fn perform(
     };
     let n = arity(edition, kind);
     if n == 0 {
-        return Performed::Unknown;
+        return Err(EventError::Unknown);
     }
     perform_kind(table, edition, s, kind, next, n, actions)
 }
@@ -282,9 +281,9 @@ pub fn replay(
     let mut actions = [0u32; ACTION_ROOM];
     let done = perform(table, edition, s, at, &mut actions);
     match done {
-        Performed::Answered(next, a) => Replayed::Called(next, put_reply(out, a, &actions)),
-        Performed::Unknown => Replayed::Stopped(put_pair(out, 0, 2, 0)),
-        Performed::Malformed => Replayed::Stopped(put_pair(out, 0, 10, 0)),
-        Performed::CutShort => Replayed::Short,
+        Ok((next, a)) => Replayed::Called(next, put_reply(out, a, &actions)),
+        Err(EventError::Unknown) => Replayed::Stopped(put_pair(out, 0, 2, 0)),
+        Err(EventError::Malformed) => Replayed::Stopped(put_pair(out, 0, 10, 0)),
+        Err(EventError::CutShort) => Replayed::Short,
     }
 }

@@ -11,8 +11,8 @@ returns-in_default c = import_bad _ _ _ _ _ c.if-kind-form.false c.read_entry.en
 pub convert-requires : goal.convert-requires
 convert-requires c =
     read_sound _ _ c.args.form _ _ _ c.if-kind-form.false c.requires
-    c.read_entry.ensures c.in-Good.is
+    c.read_entry.ensures c.in-Some.is
 
 pub returns : goal.returns
 returns c = import_good _ _ _ _ _ c.if-kind-form.false
-    c.read_entry.ensures _ _ c.in-Good.is c.convert.ensures
+    c.read_entry.ensures _ _ c.in-Some.is c.convert.ensures

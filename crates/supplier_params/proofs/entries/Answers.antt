@@ -19,10 +19,10 @@ bounds-numbers-i c = let l = c.loop-i in omega (arith, l.invariant.len)
 pub loop-i-preserved : goal.loop-i-preserved
 loop-i-preserved c =
     let l = c.loop-i in
-    let f : SFits w64 c.in-Is.n = search rules in
+    let f : SFits w64 c.in-Some.n = search rules in
     rw (to_z-of_z f)
     (taken_more _ l.i l.numbers _ l.invariant c.loop-i-test.true
-    c.number_at.ensures _ c.in-Is.is)
+    c.number_at.ensures _ c.in-Some.is)
 
 pub returns : goal.returns
 returns c = let l = c.loop-i in taken_all _ l.i l.numbers c.loop-i-test.false l.invariant

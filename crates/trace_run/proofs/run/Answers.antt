@@ -24,7 +24,7 @@ returns-in_default-perform c =
     (omega arith) c.perform.ensures c.in_default-perform.not-Answered
 
 pub code-requires : goal.code-requires
-code-requires c = few_actions _ _ _ _ _ _ c.perform.ensures _ _ c.in-Answered.is
+code-requires c = few_actions _ _ _ _ _ _ c.perform.ensures _ _ c.in-Ok.is
 
 pub loop-calls-preserved : goal.loop-calls-preserved
 loop-calls-preserved c =
@@ -36,7 +36,7 @@ loop-calls-preserved c =
         simp length-set k,
         λ params e.
             going_more _ params _ _ _ _ _ _ _ _ _ _ _ (l.invariant.1.1 params e) (omega arith)
-            c.perform.ensures _ _ c.in-Answered.is _
+            c.perform.ensures _ _ c.in-Ok.is _
             c.code.ensures,
       ),
     )

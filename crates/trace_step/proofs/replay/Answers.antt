@@ -12,16 +12,16 @@ pub put_reply-requires : goal.put_reply-requires
 put_reply-requires c = (
   search rules,
   few_actions _ _ _ _ _ _ c.perform-done.ensures _ _
-      c.in-Answered.is,
+      c.in-Ok.is,
   search rules,
 )
 
-pub returns-in-Answered : goal.returns-in-Answered
-returns-in-Answered c =
+pub returns-in-Ok : goal.returns-in-Ok
+returns-in-Ok c =
     let p = c.perform-done in
     replay_event_lem _ _ _ _ _ _ _ _
     c.if-out-lt-LINE_ROOM.false
-    (event_called _ _ _ _ _ _ p.ensures _ _ _ _ _ refl c.in-Answered.is
+    (event_called _ _ _ _ _ _ p.ensures _ _ _ _ _ refl c.in-Ok.is
     c.put_reply.ensures)
 
 pub returns-in-None : goal.returns-in-None
