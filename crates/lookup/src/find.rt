@@ -57,14 +57,10 @@ pub fn lowest_empty(table: &[u64]) -> Option<usize>
     requires { length table.now ≡ cell_count }
     ensures { result ≡ lowest_empty (state_of table.now) }
 {
-    let mut lowest: usize = 0;
-    loop {
-        if SLOTS <= lowest {
-            break None;
+    for slot in 0..SLOTS {
+        if is_empty(table, slot) {
+            return Some(slot);
         }
-        if is_empty(table, lowest) {
-            break Some(lowest);
-        }
-        lowest += 1;
     }
+    None
 }

@@ -6,6 +6,3 @@ use Rattle.effects.proofs.connections.backoffs_over.Given as goal
 
 abbrev pub invariant-loop-t : goal.invariant-loop-t
 invariant-loop-t l = (l.t ≤ 8) × (every l.t (λ t. not (ltb l.time (get_or l.ends t 0))) ≡ true)
-
-abbrev pub decreases-loop-t : goal.decreases-loop-t
-decreases-loop-t l = 8 - l.t

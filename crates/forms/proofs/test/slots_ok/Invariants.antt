@@ -8,6 +8,3 @@ use Rattle.forms.proofs.test.slots_ok.Given as goal
 
 abbrev pub invariant-loop-slot : goal.invariant-loop-slot
 invariant-loop-slot l = (l.slot ≤ slot_count) × (l.ok ≡ every l.slot (slot_ok (state_of_rows l.rows)))
-
-abbrev pub decreases-loop-slot : goal.decreases-loop-slot
-decreases-loop-slot l = slot_count - l.slot

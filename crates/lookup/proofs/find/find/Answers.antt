@@ -10,12 +10,6 @@ holds-requires c = search auto
 pub returns-then-holds : goal.returns-then-holds
 returns-then-holds c = search auto
 
-pub overflow_add-slot : goal.overflow_add-slot
-overflow_add-slot c = search auto
-
-pub loop-slot-smaller : goal.loop-slot-smaller
-loop-slot-smaller c = search auto
-
 pub loop-slot-preserved : goal.loop-slot-preserved
 loop-slot-preserved c = search auto
 

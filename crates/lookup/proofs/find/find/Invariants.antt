@@ -7,6 +7,3 @@ use Rattle.lookup.proofs.find.find.Given as goal
 
 abbrev pub invariant-loop-slot : goal.invariant-loop-slot
 invariant-loop-slot l = (l.slot ≤ slot_count) × (first l.slot (holds (state_of l.table) l.status l.id) ≡ None)
-
-abbrev pub decreases-loop-slot : goal.decreases-loop-slot
-decreases-loop-slot l = slot_count - l.slot

@@ -5,6 +5,3 @@ use Rattle.validity.proofs.slots.names_each.Given as goal
 
 abbrev pub invariant-loop-s : goal.invariant-loop-s
 invariant-loop-s l = (l.s ≤ l.n) × ((k : ℕ) → k < l.s → NameAt (state_of l.table) k)
-
-abbrev pub decreases-loop-s : goal.decreases-loop-s
-decreases-loop-s l = l.n - l.s

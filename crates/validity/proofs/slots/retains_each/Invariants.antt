@@ -5,6 +5,3 @@ use Rattle.validity.proofs.slots.retains_each.Given as goal
 
 abbrev pub invariant-loop-s : goal.invariant-loop-s
 invariant-loop-s l = (l.s ≤ l.n) × ((k : ℕ) → k < l.s → RetainAt (state_of l.table) l.m k)
-
-abbrev pub decreases-loop-s : goal.decreases-loop-s
-decreases-loop-s l = l.n - l.s
