@@ -9,7 +9,7 @@ use records::{Groups, Peer};
 pub fn later(a: u64, b: u64) -> u64
     ensures { result ≡ max a b }
 {
-    if a <= b { b } else { a }
+    a.max(b)
 }
 
 // When a time of so many seconds ends.
