@@ -1,8 +1,8 @@
 -- What `all` answers over a range or over a slice, in the words of crate index.
 -- Assumes nothing.
 use Prim.Native.Nat.{ℕ, ◌+◌, ◌<◌}
-use mathlib.Core.Path.{◌≡◌, ◌∙◌, subst}
-use mathlib.Core.Bool.{Bool, true, false}
+use mathlib.Core.Path.{◌≡◌, sym, ◌∙◌, subst}
+use mathlib.Core.Bool.{Bool, true, false, true≢false}
 use mathlib.Core.List.{List}
 use native.Mathlib.Omega.{arith}
 use lib.ListN.{length, get_or}
@@ -24,6 +24,17 @@ pub each_number :
 each_number P n h k l =
     let z = length-range_with_len 0 n in
     numbers_at P n k l (λ d. h k d (omega arith) (omega arith))
+
+pub each_if :
+    (P Q : ℕ → Type 0) (n : ℕ) (r : Bool) →
+    MatchBool r (AllWithin P (range_with_len 0 n) 0 (length (range_with_len 0 n)))
+    ((k : ℕ) × (k < length (range_with_len 0 n)) × HoldsAt Q (range_with_len 0 n) k) →
+    r ≡ true →
+    (k : ℕ) →
+    k < n →
+    P k
+each_if P Q n true h e = each_number P n h
+each_if P Q n false h e = absurd (true≢false (sym e))
 
 pub every_number :
     (f : ℕ → Bool) (n : ℕ) (r : Bool) →
