@@ -53,7 +53,7 @@ struct Unions {
     e: u64,
 }
 
-// The same of three columns, side by side, in one walk.
+// The same of three columns in one walk: three calls of `gathered` would take three times its turns.
 fn three(cells: &[u64], n: usize, a: Column, b: Column, e: Column) -> Unions
     requires { (a.at + n ≤ length cells.now) × ((b.at + n ≤ length cells.now) × (e.at + n ≤ length cells.now)) }
     ensures { (result.a ≡ gathered cells.now a.at a.room n)
