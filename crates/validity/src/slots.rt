@@ -96,14 +96,8 @@ pub fn slots_right(table: &[u64], n: usize, m: u64) -> bool
     requires { InUse table.now n }
     ensures { result ≡ true → SlotsRight (state_of table.now) n m }
 {
-    if !groups_right(table, n) {
-        return false;
-    }
-    if !names_right(table, n) {
-        return false;
-    }
-    if !retains_right(table, n, m) {
-        return false;
-    }
-    holes_right(table, n)
+    groups_right(table, n)
+        && names_right(table, n)
+        && retains_right(table, n, m)
+        && holes_right(table, n)
 }
