@@ -1,5 +1,5 @@
 -- `columns::above`: after i turns no cell of the four runs, up to i, is above the union. Assumes nothing.
-use Rattle.std.proofs.Common.{◌+◌, ◌-◌, ◌*◌, ◌≤◌}
+use Rattle.std.proofs.Common.{◌+◌, ◌*◌, ◌≤◌}
 use Rattle.columns.specs.Gather.{RunWithin}
 use Rattle.columns.proofs.above.Given as goal
 

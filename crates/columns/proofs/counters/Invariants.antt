@@ -1,5 +1,5 @@
 -- `columns::counters`: after t turns the union's lanes tell of the unions of t topics. Assumes nothing.
-use Rattle.std.proofs.Common.{ℕ, ◌-◌, ◌<◌, ◌≤◌}
+use Rattle.std.proofs.Common.{ℕ, ◌<◌, ◌≤◌}
 use Rattle.records.specs.Records.{topic_count}
 use Rattle.columns.specs.Gather.{Lanes, counters_gathered}
 use Rattle.columns.proofs.counters.Given as goal

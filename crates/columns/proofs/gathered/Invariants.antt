@@ -1,5 +1,5 @@
 -- `columns::gathered`: after i turns the union is that of i cells. Assumes nothing.
-use Rattle.std.proofs.Common.{◌≡◌, ◌-◌, ◌≤◌}
+use Rattle.std.proofs.Common.{◌≡◌, ◌≤◌}
 use Rattle.columns.specs.Gather.{gathered}
 use Rattle.columns.proofs.gathered.Given as goal
 

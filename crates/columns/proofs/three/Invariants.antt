@@ -1,5 +1,5 @@
 -- `columns::three`: after i turns each union is that of i cells. Assumes nothing.
-use Rattle.std.proofs.Common.{◌≡◌, ◌-◌, ◌≤◌}
+use Rattle.std.proofs.Common.{◌≡◌, ◌≤◌}
 use Rattle.columns.specs.Gather.{gathered}
 use Rattle.columns.proofs.three.Given as goal
 

@@ -1,5 +1,5 @@
 -- `layout::all_past`: after p turns the first p words are looked at.
-use Prim.Native.Nat.{◌≤◌, ◌-◌}
+use Prim.Native.Nat.{◌≤◌}
 use mathlib.Core.Path.{◌≡◌}
 use Rattle.layout.proofs.EndLaws.{Past}
 use Rattle.layout.proofs.all_past.Given as goal

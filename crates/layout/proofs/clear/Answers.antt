@@ -1,5 +1,3 @@
-use mathlib.Core.Path.{◌∙◌}
-use lib.ListN.{length, get_or-replicate, length-replicate}
 use Rattle.layout.proofs.FreshLaws.{zeros}
 use Rattle.layout.proofs.clear.Goals as goal
 

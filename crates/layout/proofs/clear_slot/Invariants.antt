@@ -1,6 +1,6 @@
 -- `layout::clear_slot`: a slot past the mark is no part of the state, so making its cells 0 changes nothing; after t turns those of t
 -- topics are 0.
-use Prim.Native.Nat.{◌-◌, ◌≤◌}
+use Prim.Native.Nat.{◌≤◌}
 use mathlib.Core.Path.{◌≡◌}
 use lib.ListN.{length}
 use Rattle.layout.specs.View.{cell_count, used_of, Idle, ZeroUpTo}

@@ -1,5 +1,5 @@
 -- `layout::counted`: after t turns the counters of the first t topics are looked at.
-use Prim.Native.Nat.{◌≤◌, ◌-◌}
+use Prim.Native.Nat.{◌≤◌}
 use mathlib.Core.Path.{◌≡◌}
 use Rattle.layout.proofs.BareLaws.{Counts}
 use Rattle.layout.proofs.counted.Given as goal

@@ -1,5 +1,5 @@
 -- `layout::meshed`: after t turns the words of the first t topics are looked at.
-use Prim.Native.Nat.{◌≤◌, ◌-◌}
+use Prim.Native.Nat.{◌≤◌}
 use Rattle.layout.proofs.BareLaws.{Meshed}
 use Rattle.layout.proofs.meshed.Given as goal
 

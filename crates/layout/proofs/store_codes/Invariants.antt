@@ -1,5 +1,5 @@
 -- `layout::store_codes`: after i turns the first i codes are stored.
-use Prim.Native.Nat.{◌≤◌, ◌-◌}
+use Prim.Native.Nat.{◌≤◌}
 use mathlib.Core.Path.{◌≡◌}
 use lib.ListN.{length}
 use Rattle.records.specs.Records.{param_count}

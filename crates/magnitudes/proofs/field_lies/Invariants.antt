@@ -1,5 +1,5 @@
 -- `magnitudes::field_lies`: after t turns the numbers of t topics lie between the two.
-use Prim.Native.Nat.{◌-◌, ◌≤◌}
+use Prim.Native.Nat.{◌≤◌}
 use mathlib.Core.Path.{◌≡◌}
 use mathlib.Core.Bool.{true}
 use mathlib.Core.List.{map}

@@ -1,5 +1,5 @@
 -- `magnitudes::fields_lie`: after j turns the first j numbers of every topic lie in their ranges.
-use Prim.Native.Nat.{◌-◌, ◌≤◌}
+use Prim.Native.Nat.{◌≤◌}
 use mathlib.Core.Path.{◌≡◌}
 use mathlib.Core.Bool.{true}
 use mathlib.Core.List.{map}

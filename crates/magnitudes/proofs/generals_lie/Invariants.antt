@@ -1,5 +1,5 @@
 -- `magnitudes::generals_lie`: after i turns the first i general numbers lie in their ranges.
-use Prim.Native.Nat.{◌-◌, ◌≤◌}
+use Prim.Native.Nat.{◌≤◌}
 use mathlib.Core.Path.{◌≡◌}
 use mathlib.Core.Bool.{true}
 use mathlib.Core.List.{map}

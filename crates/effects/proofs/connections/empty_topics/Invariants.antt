@@ -1,5 +1,5 @@
 -- `effects::connections::empty_topics`: after t turns the records of the topics below t are empty.
-use Rattle.index.proofs.Kit.{◌≤◌, ◌-◌, ◌≡◌, iter}
+use Rattle.index.proofs.Kit.{◌≤◌, ◌≡◌, iter}
 use lib.ListN.{length}
 use Rattle.layout.specs.View.{cell_count, state_of}
 use Rattle.records.specs.Records.{set_topic, place, no_topic}

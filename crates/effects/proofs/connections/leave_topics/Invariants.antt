@@ -1,5 +1,5 @@
 -- `effects::connections::leave_topics`: after t turns the state has left the topics below t.
-use Rattle.index.proofs.Kit.{◌≤◌, ◌-◌, ◌≡◌, iter}
+use Rattle.index.proofs.Kit.{◌≤◌, ◌≡◌, iter}
 use lib.ListN.{length}
 use Rattle.layout.specs.View.{cell_count, state_of}
 use Rattle.effects.specs.Effects.{left_topic}

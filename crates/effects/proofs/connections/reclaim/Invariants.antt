@@ -1,6 +1,6 @@
 -- `effects::connections::reclaim`: after `slot` turns the slots below it are reclaimed.
 use Rattle.records.specs.Records.{slot_count}
-use Rattle.index.proofs.Kit.{◌≤◌, ◌-◌, ◌≡◌, iter}
+use Rattle.index.proofs.Kit.{◌≤◌, ◌≡◌, iter}
 use lib.ListN.{length}
 use Rattle.layout.specs.View.{cell_count, state_of}
 use Rattle.effects.specs.Effects.{reclaim_slot, NoneReclaimable}

@@ -1,5 +1,4 @@
 -- `forms::copy::codes`: the loop builds the codes from the front; a router's magnitudes are small.
-use Prim.Native.Nat.{◌-◌}
 use Rattle.index.proofs.Lists.{Built}
 use Rattle.records.specs.Records.{code_in, param_count}
 use Rattle.layout.specs.View.{state_of}

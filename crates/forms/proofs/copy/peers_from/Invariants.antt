@@ -1,5 +1,5 @@
 -- `forms::copy::peers_from`: after s turns the first s are copied.
-use Prim.Native.Nat.{◌≤◌, ◌-◌}
+use Prim.Native.Nat.{◌≤◌}
 use mathlib.Core.Path.{◌≡◌}
 use lib.ListN.{length}
 use Rattle.layout.specs.View.{cell_count, state_of}

@@ -1,5 +1,5 @@
 -- `forms::copy::peers_to`: after s turns the first s are copied.
-use Prim.Native.Nat.{◌≤◌, ◌-◌}
+use Prim.Native.Nat.{◌≤◌}
 use mathlib.Core.Path.{◌≡◌}
 use lib.ListN.{length}
 use Rattle.records.specs.Records.{slot_count}

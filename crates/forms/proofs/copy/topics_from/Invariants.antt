@@ -1,5 +1,5 @@
 -- `forms::copy::topics_from`: after k turns the first k are copied.
-use Prim.Native.Nat.{◌≤◌, ◌-◌, ◌*◌}
+use Prim.Native.Nat.{◌≤◌, ◌*◌}
 use mathlib.Core.Path.{◌≡◌}
 use lib.ListN.{length}
 use Rattle.records.specs.Records.{topic_count}

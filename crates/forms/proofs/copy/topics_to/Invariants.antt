@@ -1,5 +1,5 @@
 -- `forms::copy::topics_to`: after k turns the first k are copied.
-use Prim.Native.Nat.{◌≤◌, ◌-◌}
+use Prim.Native.Nat.{◌≤◌}
 use mathlib.Core.Path.{◌≡◌}
 use lib.ListN.{length}
 use Rattle.layout.specs.View.{place_count, state_of}

@@ -1,5 +1,5 @@
 -- `forms::test::new_id`: after k turns the ids below k are apart from this one. Assumes nothing.
-use Rattle.index.proofs.Kit.{◌≤◌, ◌-◌, ◌≡◌, every, true}
+use Rattle.index.proofs.Kit.{◌≤◌, ◌≡◌, every, true}
 use Rattle.records.specs.Records.{peer_in}
 use Rattle.rows.specs.View.{state_of_rows}
 use Rattle.validity.specs.Valid.{apart}

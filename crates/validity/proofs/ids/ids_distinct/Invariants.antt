@@ -1,5 +1,5 @@
 -- `validity::ids::ids_distinct`: after s turns the ids below s are apart, and have marked their buckets. Assumes nothing.
-use Rattle.index.proofs.Kit.{◌≤◌, ◌-◌, ◌≡◌, every, true}
+use Rattle.index.proofs.Kit.{◌≤◌, ◌≡◌, every, true}
 use Rattle.layout.specs.View.{state_of}
 use Rattle.validity.specs.Valid.{new_id}
 use Rattle.validity.specs.Order.{Seen}

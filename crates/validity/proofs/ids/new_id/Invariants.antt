@@ -1,5 +1,5 @@
 -- `validity::ids::new_id`: after k turns the ids below k are apart from this one. Assumes nothing.
-use Rattle.index.proofs.Kit.{◌≤◌, ◌-◌, ◌≡◌, every, true}
+use Rattle.index.proofs.Kit.{◌≤◌, ◌≡◌, every, true}
 use Rattle.records.specs.Records.{peer_in}
 use Rattle.layout.specs.View.{state_of}
 use Rattle.validity.specs.Valid.{apart}

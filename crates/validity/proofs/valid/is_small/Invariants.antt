@@ -1,5 +1,5 @@
 -- `validity::valid::is_small`: the backoff ends; then, after t turns, the unions have the bits of the topics below t. Assumes nothing.
-use Prim.Native.Nat.{◌≤◌, ◌-◌}
+use Prim.Native.Nat.{◌≤◌}
 use mathlib.Core.Path.{◌≡◌}
 use Rattle.records.specs.Records.{topic_count, place, topic_in}
 use Rattle.layout.specs.View.{state_of}

@@ -1,5 +1,4 @@
 -- `validity::valid::params_ok`: the loop builds the codes from the front; a magnitude above every limit is no parameter's.
-use Prim.Native.Nat.{◌-◌}
 use Rattle.index.proofs.Lists.{Built}
 use Rattle.records.specs.Records.{code_in, param_count}
 use Rattle.layout.specs.View.{state_of}

@@ -1,5 +1,5 @@
 -- `validity::valid::slots_ok`: after s turns the slots below s are right, and those from the end on are empty. Assumes nothing.
-use Prim.Native.Nat.{◌≤◌, ◌-◌}
+use Prim.Native.Nat.{◌≤◌}
 use mathlib.Core.Path.{◌≡◌}
 use mathlib.Core.Bool.{true}
 use Rattle.index.specs.Index.{every}

@@ -1,5 +1,5 @@
 -- `validity::valid::zero_topics`: after t turns the records of the topics below t are zero. Assumes nothing.
-use Prim.Native.Nat.{◌≤◌, ◌-◌}
+use Prim.Native.Nat.{◌≤◌}
 use mathlib.Core.Path.{◌≡◌}
 use mathlib.Core.Bool.{true}
 use Rattle.index.specs.Index.{every}
