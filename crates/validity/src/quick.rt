@@ -16,13 +16,9 @@ fn words_right(table: &[u64], used: u64) -> bool
     ensures { result ≡ true → WordsRight (state_of table.now) used }
 {
     let clock = layout::load_clock(table);
-    if !slot_words::flags::peer_flags(table, used) {
-        return false;
-    }
-    if !slot_words::flags::topics_flags(table) {
-        return false;
-    }
-    slot_words::members::times_within(table, clock)
+    slot_words::flags::peer_flags(table, used)
+        && slot_words::flags::topics_flags(table)
+        && slot_words::members::times_within(table, clock)
 }
 
 // The numbers of n slots that have a limit, backoff ends up to m.
@@ -32,13 +28,9 @@ fn columns_right(table: &[u64], n: usize, m: u64) -> bool
 {
     let caps2 = caps(table, param::P2_CAP);
     let caps3 = caps(table, param::P3_CAP);
-    if !columns::peers_within(table, n, MAX_ID, MAX_GROUP, 2000000000, 1000000) {
-        return false;
-    }
-    if !columns::ends_within(table, n, m) {
-        return false;
-    }
-    columns::counters_within(table, n, &caps2, &caps3, 1000000, 1000000000000)
+    columns::peers_within(table, n, MAX_ID, MAX_GROUP, 2000000000, 1000000)
+        && columns::ends_within(table, n, m)
+        && columns::counters_within(table, n, &caps2, &caps3, 1000000, 1000000000000)
 }
 
 // Whether every record is surely a router's, and no id stands twice.

@@ -1,5 +1,5 @@
 -- `columns::above`: after i turns no cell of the four runs, up to i, is above the union. Assumes nothing.
-use Rattle.std.proofs.Common.{◌+◌, ◌-◌, ◌*◌, ◌≤◌}
+use Rattle.std.proofs.Common.{◌+◌, ◌*◌, ◌≤◌}
 use Rattle.columns.specs.Gather.{RunWithin}
 use Rattle.columns.proofs.above.Given as goal
 
@@ -8,6 +8,3 @@ invariant-loop-i l =
     (l.i ≤ l.n)
     × (RunWithin l.cells l.at l.i l.acc
     × (RunWithin l.cells (l.at + l.n) l.i l.acc × (RunWithin l.cells (l.at + 2 * l.n) l.i l.acc × RunWithin l.cells (l.at + 3 * l.n) l.i l.acc)))
-
-abbrev pub decreases-loop-i : goal.decreases-loop-i
-decreases-loop-i l = l.n - l.i

@@ -1,11 +1,8 @@
 -- `layout::counted`: after t turns the counters of the first t topics are looked at.
-use Prim.Native.Nat.{◌≤◌, ◌-◌}
+use Prim.Native.Nat.{◌≤◌}
 use mathlib.Core.Path.{◌≡◌}
 use Rattle.layout.proofs.BareLaws.{Counts}
 use Rattle.layout.proofs.counted.Given as goal
 
 abbrev pub invariant-loop-t : goal.invariant-loop-t
 invariant-loop-t l = (l.t ≤ 8) × (l.acc ≡ 0 → Counts l.cells l.slot l.t)
-
-abbrev pub decreases-loop-t : goal.decreases-loop-t
-decreases-loop-t l = 8 - l.t

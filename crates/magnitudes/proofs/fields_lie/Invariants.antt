@@ -1,5 +1,5 @@
 -- `magnitudes::fields_lie`: after j turns the first j numbers of every topic lie in their ranges.
-use Prim.Native.Nat.{◌-◌, ◌≤◌}
+use Prim.Native.Nat.{◌≤◌}
 use mathlib.Core.Path.{◌≡◌}
 use mathlib.Core.Bool.{true}
 use mathlib.Core.List.{map}
@@ -14,6 +14,3 @@ abbrev pub invariant-loop-j : goal.invariant-loop-j
 invariant-loop-j l =
     (l.j ≤ of_topic)
     × (every l.j (λ j. every topic_count (λ k. in_limits (map number_of (state_of l.table).codes) (place k j))) ≡ true)
-
-abbrev pub decreases-loop-j : goal.decreases-loop-j
-decreases-loop-j l = of_topic - l.j

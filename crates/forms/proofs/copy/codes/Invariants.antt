@@ -1,5 +1,4 @@
 -- `forms::copy::codes`: the loop builds the codes from the front; a router's magnitudes are small.
-use Prim.Native.Nat.{◌-◌}
 use Rattle.index.proofs.Lists.{Built}
 use Rattle.records.specs.Records.{code_in, param_count}
 use Rattle.layout.specs.View.{state_of}
@@ -7,6 +6,3 @@ use Rattle.forms.proofs.copy.codes.Given as goal
 
 abbrev pub invariant-loop-i : goal.invariant-loop-i
 invariant-loop-i l = Built 0 (code_in (state_of l.table)) param_count l.i l.r
-
-abbrev pub decreases-loop-i : goal.decreases-loop-i
-decreases-loop-i l = param_count - l.i

@@ -1,5 +1,5 @@
 -- `forms::copy::joined_to`: after t turns the first t are copied.
-use Prim.Native.Nat.{◌≤◌, ◌-◌}
+use Prim.Native.Nat.{◌≤◌}
 use mathlib.Core.Path.{◌≡◌}
 use lib.ListN.{length}
 use Rattle.records.specs.Records.{topic_count}
@@ -11,6 +11,3 @@ use Rattle.forms.proofs.copy.joined_to.Given as goal
 abbrev pub invariant-loop-t : goal.invariant-loop-t
 invariant-loop-t l =
     (l.t ≤ topic_count) × (length l.rows ≡ rows_count) × (state_of_rows l.rows ≡ copy_joined l.t (state_of l.table) (state_of_rows l.initial.rows))
-
-abbrev pub decreases-loop-t : goal.decreases-loop-t
-decreases-loop-t l = topic_count - l.t

