@@ -11,18 +11,21 @@ pub const ID_BYTES: usize = 64;
 
 pub const ROW_BYTES: usize = 65;
 
+// A table that is accepted.
+#[derive(Clone, Copy)]
+pub struct Table<'a> {
+    pub ids: &'a [u8],
+    pub numbers: &'a [u64],
+    pub order: &'a [u64],
+    ghost accepted: { table_ok ids.now numbers.now order.now ≡ true },
+}
+
 // How one id stands to another.
 #[derive(Clone, Copy)]
 pub enum Order {
     Before,
     Same,
     After,
-}
-
-fn wide(x: u8) -> usize
-    ensures { result ≡ x }
-{
-    x as usize
 }
 
 // The n bytes of a from i on, and the m bytes of b from j on, as ids: the shorter is before the longer.
@@ -55,7 +58,7 @@ fn compare_row(ids: &[u8], rows: usize, k: usize, s: &[u8], start: usize, size: 
     ensures { Compared ids.now (id_start k) (id_size ids.now k) s.now start size result }
 {
     let at = ROW_BYTES * k;
-    let n = wide(ids[at]);
+    let n = usize::from(ids[at]);
     compare(ids, at + 1, n, s, start, size)
 }
 
@@ -65,7 +68,7 @@ fn id_ok(ids: &[u8], rows: usize, k: usize) -> bool
     ensures { result ≡ id_ok ids.now k }
 {
     let at = ROW_BYTES * k;
-    let size = wide(ids[at]);
+    let size = usize::from(ids[at]);
     if size == 0 {
         return false;
     }
