@@ -9,7 +9,7 @@ use lib.Dec.{eqb}
 use lib.ListN.{get_or}
 use Rattle.index.proofs.Index.{both}
 use Rattle.message_ids.specs.Ids.{same_at, digits, code_of, Compared}
-use Rattle.message_ids.specs.declared.Order.TheVariants.{Before, Same, After}
+use Rattle.std.specs.declared.cmp.Ordering.TheVariants.{Less, Equal, Greater}
 
 -- further digits keep the order of two runs
 digits_on : (a b : List ℕ) (i j t p q n : ℕ) → t ≤ n → digits a i t p < digits b j t q → digits a i n p < digits b j n q
@@ -68,7 +68,7 @@ turned a b i j (suc n) e =
 
 -- ---- the ends of `compare`
 module _ (a : List ℕ) (i n : ℕ) (b : List ℕ) (j m : ℕ) where
-  is_before : code_of a i n < code_of b j m → Compared a i n b j m Before
+  is_before : code_of a i n < code_of b j m → Compared a i n b j m Less
   is_before h =
       record {
         before = λ e. h;
@@ -76,7 +76,7 @@ module _ (a : List ℕ) (i n : ℕ) (b : List ℕ) (j m : ℕ) where
         same = λ e. let z : ◌≡◌ {A = ℕ} 0 1 = cc in absurd (omega arith);
       }
 
-  is_after : code_of b j m < code_of a i n → Compared a i n b j m After
+  is_after : code_of b j m < code_of a i n → Compared a i n b j m Greater
   is_after h =
       record {
         before = λ e. let z : ◌≡◌ {A = ℕ} 0 1 = cc in absurd (omega arith);
@@ -84,24 +84,24 @@ module _ (a : List ℕ) (i n : ℕ) (b : List ℕ) (j m : ℕ) where
         same = λ e. let z : ◌≡◌ {A = ℕ} 0 1 = cc in absurd (omega arith);
       }
 
-  pub compared_short : n < m → Compared a i n b j m Before
+  pub compared_short : n < m → Compared a i n b j m Less
   compared_short h = is_before (shorter a b i j n m h)
 
-  pub compared_long : m < n → Compared a i n b j m After
+  pub compared_long : m < n → Compared a i n b j m Greater
   compared_long h = is_after (shorter b a j i m n h)
 
   module _ (p : n ≤ m) (q : m ≤ n) (k : ℕ) (e : every k (same_at a i b j) ≡ true) where
-    pub compared_less : k < n → get_or b (j + k) 0 < 256 → get_or a (i + k) 0 < get_or b (j + k) 0 → Compared a i n b j m Before
+    pub compared_less : k < n → get_or b (j + k) 0 < 256 → get_or a (i + k) 0 < get_or b (j + k) 0 → Compared a i n b j m Less
     compared_less h y l =
         let z : m ≡ n = omega arith in
         is_before (rw z (first_byte a b i j n k h e y l))
 
-    pub compared_more : k < n → get_or a (i + k) 0 < 256 → get_or b (j + k) 0 < get_or a (i + k) 0 → Compared a i n b j m After
+    pub compared_more : k < n → get_or a (i + k) 0 < 256 → get_or b (j + k) 0 < get_or a (i + k) 0 → Compared a i n b j m Greater
     compared_more h y l =
         let z : m ≡ n = omega arith in
         is_after (rw z (first_byte b a j i n k h (turned a b i j k e) y l))
 
-    pub compared_same : k ≤ n → n ≤ k → Compared a i n b j m Same
+    pub compared_same : k ≤ n → n ≤ k → Compared a i n b j m Equal
     compared_same h l =
         let z : k ≡ m = omega arith in
         record {

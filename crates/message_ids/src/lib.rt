@@ -7,6 +7,8 @@ ghost use Rattle.index.specs.Index.{every};
 ghost use Rattle.message_ids.specs.Ids.{row_bytes, id_size, id_start, row_of, number_row, id_ok, ids_ok, place_ok, numbers_ok, table_ok};
 ghost use Rattle.message_ids.specs.Ids.{Compared};
 
+use std::cmp::Ordering;
+
 pub const ID_BYTES: usize = 64;
 
 pub const ROW_BYTES: usize = 65;
@@ -20,40 +22,32 @@ pub struct Table<'a> {
     ghost accepted: { table_ok ids.now numbers.now order.now ≡ true },
 }
 
-// How one id stands to another.
-#[derive(Clone, Copy)]
-pub enum Order {
-    Before,
-    Same,
-    After,
-}
-
 // The n bytes of a from i on, and the m bytes of b from j on, as ids: the shorter is before the longer.
-fn compare(a: &[u8], i: usize, n: usize, b: &[u8], j: usize, m: usize) -> Order
+fn compare(a: &[u8], i: usize, n: usize, b: &[u8], j: usize, m: usize) -> Ordering
     requires { (i + n ≤ length a.now) × (j + m ≤ length b.now) }
     ensures { Compared a.now i n b.now j m result }
 {
     if n < m {
-        return Order::Before;
+        return Ordering::Less;
     }
     if m < n {
-        return Order::After;
+        return Ordering::Greater;
     }
     for k in 0..n {
         let x = a[i + k];
         let y = b[j + k];
         if x < y {
-            return Order::Before;
+            return Ordering::Less;
         }
         if y < x {
-            return Order::After;
+            return Ordering::Greater;
         }
     }
-    Order::Same
+    Ordering::Equal
 }
 
 // The id of row k, and `size` bytes of s.
-fn compare_row(ids: &[u8], rows: usize, k: usize, s: &[u8], start: usize, size: usize) -> Order
+fn compare_row(ids: &[u8], rows: usize, k: usize, s: &[u8], start: usize, size: usize) -> Ordering
     requires { (length ids.now ≡ row_bytes * rows) × ((k < rows) × ((id_size ids.now k ≤ 64) × (start + size ≤ length s.now))) }
     ensures { Compared ids.now (id_start k) (id_size ids.now k) s.now start size result }
 {
@@ -78,11 +72,7 @@ fn id_ok(ids: &[u8], rows: usize, k: usize) -> bool
     if k == 0 {
         return true;
     }
-    match compare_row(ids, rows, k - 1, ids, at + 1, size) {
-        Order::Before => true,
-        Order::Same => false,
-        Order::After => false,
-    }
+    compare_row(ids, rows, k - 1, ids, at + 1, size).is_lt()
 }
 
 fn ids_ok(ids: &[u8], rows: usize) -> bool
@@ -153,13 +143,13 @@ pub fn row_of(ids: &[u8], rows: usize, s: &[u8], start: usize, size: usize) -> O
     while low < high {
         let mid = low + (high - low) / 2;
         match compare_row(ids, rows, mid, s, start, size) {
-            Order::Same => {
+            Ordering::Equal => {
                 return Some(mid);
             }
-            Order::Before => {
+            Ordering::Less => {
                 low = mid + 1;
             }
-            Order::After => {
+            Ordering::Greater => {
                 high = mid;
             }
         }

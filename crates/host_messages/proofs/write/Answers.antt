@@ -15,8 +15,8 @@ returns-in-Ok c = hosts_written _ _ _ _ _ _ _ _ _ c.write.ensures
 
 pub returns-in-Err-NotList : goal.returns-in-Err-NotList
 returns-in-Err-NotList c = hosts_written _ _ _ _ _ _ _ _ _ c.write.ensures
-    c.in-Err-NotList.is _ c.packed-in-Err-NotList.ensures
+    (rw c.in-Err-NotList.field-0-is at c.in-Err-NotList.is) _ c.packed-in-Err-NotList.ensures
 
 pub returns-in-Err-Short : goal.returns-in-Err-Short
 returns-in-Err-Short c = hosts_written _ _ _ _ _ _ _ _ _ c.write.ensures
-    c.in-Err-Short.is _ c.packed-in-Err-Short.ensures
+    (rw c.in-Err-Short.field-0-is at c.in-Err-Short.is) _ c.packed-in-Err-Short.ensures
