@@ -3,6 +3,8 @@
 #![tactic(auto)]
 
 ghost use Rattle.std.specs.Prelude.{◌≡◌, true, ◌+◌, ◌*◌, ◌≤◌, ◌<◌, length};
+ghost use Rattle.std.specs.Ordering.{nat_cmp, ordering_then};
+ghost use Rattle.core.specs.Cmp.Lexicographic.{slice_cmp};
 ghost use Rattle.index.specs.Index.{every};
 ghost use Rattle.message_ids.specs.Ids.{row_bytes, id_size, id_start, row_of, number_row, id_ok, ids_ok, place_ok, numbers_ok, table_ok};
 ghost use Rattle.message_ids.specs.Ids.{Compared};
@@ -22,28 +24,11 @@ pub struct Table<'a> {
     ghost accepted: { table_ok ids.now numbers.now order.now ≡ true },
 }
 
-// The n bytes of a from i on, and the m bytes of b from j on, as ids: the shorter is before the longer.
-fn compare(a: &[u8], i: usize, n: usize, b: &[u8], j: usize, m: usize) -> Ordering
-    requires { (i + n ≤ length a.now) × (j + m ≤ length b.now) }
-    ensures { Compared a.now i n b.now j m result }
+// Two ids: the shorter is before the longer, and of one length the bytes decide.
+fn compare(a: &[u8], b: &[u8]) -> Ordering
+    ensures { result ≡ ordering_then (nat_cmp (length a.now) (length b.now)) (slice_cmp nat_cmp a.now b.now) }
 {
-    if n < m {
-        return Ordering::Less;
-    }
-    if m < n {
-        return Ordering::Greater;
-    }
-    for k in 0..n {
-        let x = a[i + k];
-        let y = b[j + k];
-        if x < y {
-            return Ordering::Less;
-        }
-        if y < x {
-            return Ordering::Greater;
-        }
-    }
-    Ordering::Equal
+    a.len().cmp(&b.len()).then_with(|| a.cmp(&b))
 }
 
 // The id of row k, and `size` bytes of s.
@@ -51,9 +36,9 @@ fn compare_row(ids: &[u8], rows: usize, k: usize, s: &[u8], start: usize, size: 
     requires { (length ids.now ≡ row_bytes * rows) × ((k < rows) × ((id_size ids.now k ≤ 64) × (start + size ≤ length s.now))) }
     ensures { Compared ids.now (id_start k) (id_size ids.now k) s.now start size result }
 {
-    let at = ROW_BYTES * k;
-    let n = usize::from(ids[at]);
-    compare(ids, at + 1, n, s, start, size)
+    let row = ROW_BYTES * k;
+    let n = usize::from(ids[row]);
+    compare(&ids[row + 1..row + 1 + n], &s[start..start + size])
 }
 
 // Whether row k is an id after the one before it.

@@ -170,10 +170,6 @@ Writes w r buf = (r ≡ w.answer) × (buf.exit.now ≡ w.bytes)
 abbrev pub ControlSize : Known → List ℕ → ℕ → ℕ → Type 0
 ControlSize k list n size = (size ≡ length (control_bytes k list n)) × (size ≤ 11520)
 
--- a table and a list that are accepted
-abbrev pub Given : List ℕ → List ℕ → List ℕ → List ℕ → List ℕ → ℕ → Type 0
-Given names ids numbers order list n = (table_ok ids numbers order ≡ true) × (list_ok (known names ids numbers) list n ≡ true)
-
 -- how many bytes a field of wire type 2 has
 abbrev pub part_size : ℕ → ℕ → ℕ
 part_size number size = length (encode (8 * number + 2)) + length (encode size) + size

@@ -7,15 +7,15 @@ pub returns-then-own-kind : goal.returns-then-own-kind
 returns-then-own-kind c = one_other _ _ _ _ _ _ _ _ c.if-own-kind.true
 
 pub entry_size-requires : goal.entry_size-requires
-entry_size-requires c = (c.requires.0, c.requires.1.0)
+entry_size-requires c = c.requires.0
 
 pub put_head-a-requires : goal.put_head-a-requires
-put_head-a-requires c = let q = c.requires.1.1 in
+put_head-a-requires c = let q = c.requires.1 in
     (q.0, (omega (arith, c.entry_size.ensures.1), omega (arith, q.1)))
 
 pub put_entry-requires : goal.put_entry-requires
 put_entry-requires c = let q = c.requires in
-    (q.0, (q.1.0, omega (arith, q.1.1.1, c.put_head-a.ensures.1)))
+    (q.0, omega (arith, q.1.1, c.put_head-a.ensures.1))
 
 pub returns : goal.returns
 returns c = one_stored _ _ _ _ _ _ _ _ _ _ _ _ _ c.if-own-kind.false
