@@ -5,8 +5,15 @@ use Rattle.fields.proofs.long_number.Goals as goal
 pub returns-in_err-end : goal.returns-in_err-end
 returns-in_err-end c = c.from_residual.ensures ∙ without_end _ _ _ c.end_of.ensures c.in_err-end.was
 
+pub overflow_sub-place : goal.overflow_sub-place
+overflow_sub-place c = let l = (c.end_of.ensures.with_last _ c.in_ok-end.was).low in omega arith
+
 pub bounds-s-place : goal.bounds-s-place
-bounds-s-place c = let l = (c.end_of.ensures.with_last _ c.in_ok-end.was).high in omega arith
+bounds-s-place c =
+    let l = c.end_of.ensures.with_last _ c.in_ok-end.was in
+    let i = l.low in
+    let h = l.high in
+    omega arith
 
 pub loop-place-init : goal.loop-place-init
 loop-place-init c = joining_start _ _ _ (c.end_of.ensures.with_last _ c.in_ok-end.was) _ c.from-value.ensures
