@@ -1,7 +1,7 @@
 use Rattle.index.proofs.Kit.{sym, ◌∙◌, rules, arith, first_none, first_more}
 use Rattle.index.proofs.Flags.{flags}
 use Rattle.rpc.proofs.TopicLaws.{topic_none, topic_hit, topic_unknown}
-use Rattle.rpc.proofs.topic_in.Goals as goal
+use Rattle.rpc.proofs.topic_named.Goals as goal
 
 pub returns-then-size-eq0 : goal.returns-then-size-eq0
 returns-then-size-eq0 c = search topic_none
