@@ -118,7 +118,8 @@ pub fn table_ok(ids: &[u8], numbers: &[u64], order: &[u64]) -> bool
     numbers_ok(numbers, order)
 }
 
-// The row whose id stands in s, found by halves.
+// The row whose id stands in s, found by halves. Not by the library's search: its closure may be called at any row, so each step would test
+// the row's length again.
 pub fn row_of(ids: &[u8], rows: usize, s: &[u8], start: usize, size: usize) -> Option<usize>
     requires { (ids_ok ids.now rows ≡ true) × (start + size ≤ length s.now) }
     ensures { result ≡ row_of ids.now rows s.now start size }
@@ -142,7 +143,8 @@ pub fn row_of(ids: &[u8], rows: usize, s: &[u8], start: usize, size: usize) -> O
     None
 }
 
-// The row that has a number, found by halves.
+// The row that has a number, found by halves. Not by the library's search: its closure may be called at any row of `order`, so each step
+// would test the row's bound again.
 pub fn number_row(numbers: &[u64], order: &[u64], v: u64) -> Option<usize>
     requires { numbers_ok numbers.now order.now ≡ true }
     ensures { result ≡ number_row numbers.now v }

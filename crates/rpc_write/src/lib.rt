@@ -4,13 +4,13 @@
 // enough.
 #![tactic(auto)]
 
-ghost use Rattle.std.specs.Prelude.{◌≡◌, ◌+◌, ◌≤◌, ◌<◌, length, set};
+ghost use Rattle.std.specs.Prelude.{◌≡◌, ◌+◌, ◌*◌, ◌≤◌, ◌<◌, length, set};
 ghost use Rattle.varint.specs.Groups.{encode};
 ghost use Rattle.rpc_write.specs.Writing.{Stored, Fitting, part_size, name_size, name_of, value_field, part_field, head_bytes};
 ghost use Rattle.rpc_write.specs.Writing.{early, late, name_number, run, id_of, named_bytes, entry_bytes, one_bytes, kind_bytes};
 ghost use Rattle.rpc_write.specs.Writing.{control_bytes, inner_field, message_of, named_ok, notice_ok, entry_ok, list_ok, write_of};
 ghost use Rattle.rpc_write.specs.Writing.{Puts, ControlSize, Writes};
-ghost use Rattle.rpc_write.specs.Tables.{known_by, Given};
+ghost use Rattle.rpc_write.specs.Tables.{known_by, Given, entry_at};
 ghost use Rattle.rpc.specs.Messages.{idontwant};
 ghost use Rattle.rpc.specs.Reading.{name_bytes, known};
 
@@ -31,6 +31,14 @@ pub enum WriteError {
 struct Tables<'n, 't> {
     names: &'n [u8; NAMES_BYTES],
     table: Table<'t>,
+}
+
+// An entry of a list: its three numbers. The kind stays a number, as the list has it: `list_ok` is what tests it.
+#[derive(Clone, Copy)]
+struct Entry {
+    kind: u64,
+    topic: u64,
+    value: u64,
 }
 
 const TOPICS: u64 = rpc::TOPICS as u64;
@@ -161,7 +169,8 @@ fn fitting(end: usize, at: usize, size: usize) -> usize
     if size <= end - at { size } else { end - at }
 }
 
-// Bytes of a list, from a place on.
+// Bytes of a list, from a place on, as far as the buffer goes. A loop: `buf[at..at + n]` is out of range where `at` is past the end, though
+// n is 0 there.
 fn put_run(buf: &mut [u8], at: usize, src: &[u8], start: usize, size: usize) -> usize
     requires { (start + size ≤ length src.now) × ((size ≤ name_bytes) × (at < 1000000)) }
     ensures { Puts buf at (run src.now start size) name_bytes result }
@@ -240,114 +249,88 @@ fn name_number(kind: u64) -> u64
     }
 }
 
-fn named_size(names: &[u8; NAMES_BYTES], kind: u64, topic: u64, v: u64) -> usize
-    requires { v < 16384 }
-    ensures { (result ≡ length (named_bytes names.now kind topic v)) × (result ≤ 76) }
+fn named_size(names: &[u8; NAMES_BYTES], e: Entry) -> usize
+    requires { e.value < 16384 }
+    ensures { (result ≡ length (named_bytes names.now e.kind e.topic e.value)) × (result ≤ 76) }
 {
-    let a = value_size(SUBSCRIBE, early_value(kind, v));
-    let b = part_size(name_number(kind), name_size(names, topic));
-    let c = value_size(BACKOFF, late_value(kind, v));
+    let a = value_size(SUBSCRIBE, early_value(e.kind, e.value));
+    let b = part_size(name_number(e.kind), name_size(names, e.topic));
+    let c = value_size(BACKOFF, late_value(e.kind, e.value));
     a + b + c
 }
 
-fn put_fields(
-    buf: &mut [u8],
-    at: usize,
-    names: &[u8; NAMES_BYTES],
-    kind: u64,
-    topic: u64,
-    v: u64,
-) -> usize
-    requires { (v < 16384) × (at < 900000) }
-    ensures { Puts buf at (named_bytes names.now kind topic v) 76 result }
+fn put_fields(buf: &mut [u8], at: usize, names: &[u8; NAMES_BYTES], e: Entry) -> usize
+    requires { (e.value < 16384) × (at < 900000) }
+    ensures { Puts buf at (named_bytes names.now e.kind e.topic e.value) 76 result }
 {
-    let a = put_value(buf, at, SUBSCRIBE, early_value(kind, v));
-    let b = put_named(buf, a, name_number(kind), names, topic);
-    put_value(buf, b, BACKOFF, late_value(kind, v))
+    let a = put_value(buf, at, SUBSCRIBE, early_value(e.kind, e.value));
+    let b = put_named(buf, a, name_number(e.kind), names, e.topic);
+    put_value(buf, b, BACKOFF, late_value(e.kind, e.value))
 }
 
 // ---- an entry's content: of an IDONTWANT the id itself
 
-fn entry_size(
-    t: &Tables<'_, '_>,
-    kind: u64,
-    topic: u64,
-    v: u64,
-) -> usize
-    requires { (kind ≡ idontwant → ⊥) → v < 16384 }
-    ensures { (result ≡ length (entry_bytes (known_by t.now) kind topic v))
-        × (result ≤ 76) }
+fn entry_size(t: &Tables<'_, '_>, e: Entry) -> usize
+    requires { (e.kind ≡ idontwant → ⊥) → e.value < 16384 }
+    ensures { (result ≡ length (entry_bytes (known_by t.now) e.kind e.topic e.value)) × (result ≤ 76) }
 {
-    if kind == IDONTWANT {
-        return id_size(&t.table, v);
+    if e.kind == IDONTWANT {
+        return id_size(&t.table, e.value);
     }
-    named_size(t.names, kind, topic, v)
+    named_size(t.names, e)
 }
 
-fn put_entry(
-    buf: &mut [u8],
-    at: usize,
-    t: &Tables<'_, '_>,
-    kind: u64,
-    topic: u64,
-    v: u64,
-) -> usize
-    requires { ((kind ≡ idontwant → ⊥) → v < 16384) × (at < 900000) }
-    ensures { Puts buf at (entry_bytes (known_by t.now) kind topic v) 76 result }
+fn put_entry(buf: &mut [u8], at: usize, t: &Tables<'_, '_>, e: Entry) -> usize
+    requires { ((e.kind ≡ idontwant → ⊥) → e.value < 16384) × (at < 900000) }
+    ensures { Puts buf at (entry_bytes (known_by t.now) e.kind e.topic e.value) 76 result }
 {
-    if kind == IDONTWANT {
-        return put_id(buf, at, &t.table, v);
+    if e.kind == IDONTWANT {
+        return put_id(buf, at, &t.table, e.value);
     }
-    put_fields(buf, at, t.names, kind, topic, v)
+    put_fields(buf, at, t.names, e)
 }
 
 // ---- an entry as a field, if it is of the kind
 
-fn one_size(
-    t: &Tables<'_, '_>,
-    own: u64,
-    topic: u64,
-    v: u64,
-    kind: u64,
-    number: u64,
-) -> usize
-    requires { ((own ≡ idontwant → ⊥) → v < 16384) × (number < 16) }
-    ensures { (result ≡ length (one_bytes (known_by t.now) own topic v kind number))
-        × (result ≤ 80) }
+fn one_size(t: &Tables<'_, '_>, e: Entry, kind: u64, number: u64) -> usize
+    requires { ((e.kind ≡ idontwant → ⊥) → e.value < 16384) × (number < 16) }
+    ensures { (result ≡ length (one_bytes (known_by t.now) e.kind e.topic e.value kind number)) × (result ≤ 80) }
 {
-    if own != kind {
+    if e.kind != kind {
         return 0;
     }
-    part_size(
-        number,
-        entry_size(t, own, topic, v),
-    )
+    part_size(number, entry_size(t, e))
 }
 
 fn put_one(
     buf: &mut [u8],
     at: usize,
     t: &Tables<'_, '_>,
-    own: u64,
-    topic: u64,
-    v: u64,
+    e: Entry,
     kind: u64,
     number: u64,
 ) -> usize
-    requires { ((own ≡ idontwant → ⊥) → v < 16384) × ((number < 16) × (at < 800000)) }
-    ensures { Puts buf at (one_bytes (known_by t.now) own topic v kind number)
-        80 result }
+    requires { ((e.kind ≡ idontwant → ⊥) → e.value < 16384) × ((number < 16) × (at < 800000)) }
+    ensures { Puts buf at (one_bytes (known_by t.now) e.kind e.topic e.value kind number) 80 result }
 {
-    if own != kind {
+    if e.kind != kind {
         return at;
     }
-    let a = put_head(
-        buf,
-        at,
-        number,
-        entry_size(t, own, topic, v),
-    );
-    put_entry(buf, a, t, own, topic, v)
+    let a = put_head(buf, at, number, entry_size(t, e));
+    put_entry(buf, a, t, e)
+}
+
+// The i-th entry of a list.
+fn entry_at(list: &[u64], i: usize) -> Entry
+    requires { 3 * i + 2 < length list.now }
+    ensures { result ≡ entry_at list.now i }
+{
+    let j = 3 * i;
+    Entry {
+        kind: list[j],
+        topic: list[j + 1],
+        value: list[j + 2],
+    }
 }
 
 // ---- the entries of a kind, one after the other
@@ -365,15 +348,7 @@ fn kind_size(
 {
     let mut size: usize = 0;
     for i in 0..n {
-        let j = 3 * i;
-        size += one_size(
-            t,
-            list[j],
-            list[j + 1],
-            list[j + 2],
-            kind,
-            number,
-        );
+        size += one_size(t, entry_at(list, i), kind, number);
     }
     size
 }
@@ -393,17 +368,7 @@ fn put_kind(
 {
     let mut place = at;
     for i in 0..n {
-        let j = 3 * i;
-        place = put_one(
-            buf,
-            place,
-            t,
-            list[j],
-            list[j + 1],
-            list[j + 2],
-            kind,
-            number,
-        );
+        place = put_one(buf, place, t, entry_at(list, i), kind, number);
     }
     place
 }
@@ -549,37 +514,32 @@ fn put_message(
 
 // ---- what is written
 
-fn named_ok(names: &[u8; NAMES_BYTES], kind: u64, topic: u64, v: u64) -> bool
-    ensures { result ≡ named_ok names.now kind topic v }
+fn named_ok(names: &[u8; NAMES_BYTES], e: Entry) -> bool
+    ensures { result ≡ named_ok names.now e.kind e.topic e.value }
 {
-    let size = name_size(names, topic);
+    let size = name_size(names, e.topic);
     (0 < size)
-        & (((kind == SUBSCRIPTION) & (v <= 1))
-            | ((kind == GRAFT) & (v == 0))
-            | ((kind == PRUNE) & (v <= MOST_SECONDS)))
+        & (((e.kind == SUBSCRIPTION) & (e.value <= 1))
+            | ((e.kind == GRAFT) & (e.value == 0))
+            | ((e.kind == PRUNE) & (e.value <= MOST_SECONDS)))
 }
 
-fn notice_ok(table: &Table<'_>, kind: u64, topic: u64, v: u64) -> bool
-    ensures { result ≡ notice_ok table.now.numbers.now kind topic v }
+fn notice_ok(table: &Table<'_>, e: Entry) -> bool
+    ensures { result ≡ notice_ok table.now.numbers.now e.kind e.topic e.value }
 {
-    if kind != IDONTWANT {
+    if e.kind != IDONTWANT {
         return false;
     }
-    if topic != 0 {
+    if e.topic != 0 {
         return false;
     }
-    number_row(table.numbers, table.order, v).is_some()
+    number_row(table.numbers, table.order, e.value).is_some()
 }
 
-fn entry_ok(
-    t: &Tables<'_, '_>,
-    kind: u64,
-    topic: u64,
-    v: u64,
-) -> bool
-    ensures { result ≡ entry_ok (known_by t.now) kind topic v }
+fn entry_ok(t: &Tables<'_, '_>, e: Entry) -> bool
+    ensures { result ≡ entry_ok (known_by t.now) e.kind e.topic e.value }
 {
-    named_ok(t.names, kind, topic, v) | notice_ok(&t.table, kind, topic, v)
+    named_ok(t.names, e) | notice_ok(&t.table, e)
 }
 
 fn list_ok(
@@ -596,8 +556,7 @@ fn list_ok(
         return false;
     }
     for i in 0..n {
-        let j = 3 * i;
-        if !entry_ok(t, list[j], list[j + 1], list[j + 2]) {
+        if !entry_ok(t, entry_at(list, i)) {
             return false;
         }
     }
@@ -605,7 +564,7 @@ fn list_ok(
 }
 
 // Writes the first n entries of a list, or says why not and leaves the buffer. `ids`, `numbers` and `order` are the table of message ids
-// (crate message_ids).
+// (crate message_ids), each on its own as C hands them. The list may be longer than n entries: `CallWritesAgain` writes from the reader's.
 pub fn write(
     names: &[u8; NAMES_BYTES],
     ids: &[u8],

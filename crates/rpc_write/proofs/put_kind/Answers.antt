@@ -7,39 +7,14 @@ pub loop-i-init : goal.loop-i-init
 loop-i-init c = let a = c.args in let k = known_by a.t.now in
     (omega arith, (refl, (omega arith, kind_none k a.list.now a.kind a.number a.buf.now a.at)))
 
-pub overflow_mul-j : goal.overflow_mul-j
-overflow_mul-j c = let g = good _ _ _ c.requires.0 in omega arith
-
-pub offset_bounds-list-j : goal.offset_bounds-list-j
-offset_bounds-list-j c = let g = good _ _ _ c.requires.0 in omega arith
-
-pub bounds-list-j : goal.bounds-list-j
-bounds-list-j c = let g = good _ _ _ c.requires.0 in omega arith
-
-pub overflow_add-j : goal.overflow_add-j
-overflow_add-j c = let g = good _ _ _ c.requires.0 in omega arith
-
-pub offset_bounds-list-j-in-loop-i : goal.offset_bounds-list-j-in-loop-i
-offset_bounds-list-j-in-loop-i c = let g = good _ _ _ c.requires.0 in omega arith
-
-pub bounds-list-j-in-loop-i : goal.bounds-list-j-in-loop-i
-bounds-list-j-in-loop-i c = let g = good _ _ _ c.requires.0 in omega arith
-
-pub overflow_add-j-in-loop-i : goal.overflow_add-j-in-loop-i
-overflow_add-j-in-loop-i c = let g = good _ _ _ c.requires.0 in omega arith
-
-pub offset_bounds-list-j-in-loop-i-2 : goal.offset_bounds-list-j-in-loop-i-2
-offset_bounds-list-j-in-loop-i-2 c = let g = good _ _ _ c.requires.0 in omega arith
-
-pub bounds-list-j-in-loop-i-2 : goal.bounds-list-j-in-loop-i-2
-bounds-list-j-in-loop-i-2 c = let g = good _ _ _ c.requires.0 in omega
-    arith
+pub entry_at-requires : goal.entry_at-requires
+entry_at-requires c = let g = good _ _ _ c.requires.0 in let r = g.room in omega arith
 
 pub put_one-place-requires : goal.put_one-place-requires
 put_one-place-requires c =
     let q = c.requires in
     let g = good _ _ _ q.0 in
-    (g.little _ c.loop-i-test.true, (q.1.0, omega arith))
+    (rw c.entry_at.ensures (g.little _ c.loop-i-test.true), (q.1.0, omega arith))
 
 pub loop-i-preserved : goal.loop-i-preserved
 loop-i-preserved c =
@@ -52,7 +27,7 @@ loop-i-preserved c =
         (
           omega (arith, c.put_one-place.ensures.1),
           kind_more k a.list.now a.kind a.number
-              a.buf.now a.at l.i _ _ _ _ l.invariant.1.1.1 c.put_one-place.ensures.0,
+              a.buf.now a.at l.i _ _ _ _ l.invariant.1.1.1 (rw c.entry_at.ensures at c.put_one-place.ensures.0),
         ),
       ),
     )

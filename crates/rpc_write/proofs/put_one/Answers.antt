@@ -3,8 +3,8 @@ use Rattle.index.proofs.Kit.{arith}
 use Rattle.rpc_write.proofs.WriteLaws.{one_other, one_stored}
 use Rattle.rpc_write.proofs.put_one.Goals as goal
 
-pub returns-then-own-kind : goal.returns-then-own-kind
-returns-then-own-kind c = one_other _ _ _ _ _ _ _ _ c.if-own-kind.true
+pub returns-then-e-kind : goal.returns-then-e-kind
+returns-then-e-kind c = one_other _ _ _ _ _ _ _ _ c.if-e-kind.true
 
 pub entry_size-requires : goal.entry_size-requires
 entry_size-requires c = c.requires.0
@@ -18,7 +18,7 @@ put_entry-requires c = let q = c.requires in
     (q.0, omega (arith, q.1.1, c.put_head-a.ensures.1))
 
 pub returns : goal.returns
-returns c = one_stored _ _ _ _ _ _ _ _ _ _ _ _ _ c.if-own-kind.false
+returns c = one_stored _ _ _ _ _ _ _ _ _ _ _ _ _ c.if-e-kind.false
     c.entry_size.ensures
     c.put_head-a.ensures
     c.put_entry.ensures
