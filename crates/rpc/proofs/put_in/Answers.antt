@@ -8,7 +8,7 @@ use Rattle.rpc.proofs.put_in.Goals as goal
 pub put_one-requires : goal.put_one-requires
 put_one-requires g c =
     let q = c.requires.within in
-    (c.requires.names, (take_below _ _ _ q.1.0 c.requires.part, place_below _ _ _ _ c.place_of.ensures (omega arith)))
+    (c.args.t.now.eight, (take_below _ _ _ q.1.0 c.requires.part, place_below _ _ _ _ c.place_of.ensures (omega arith)))
 
 pub put_id-requires : goal.put_id-requires
 put_id-requires g c =

@@ -5,7 +5,7 @@ use Prim.Native.Nat.{suc}
 use lib.ListN.{length}
 use Rattle.rpc.specs.Messages.{inside}
 use Rattle.rpc.specs.Passes.{total}
-use Rattle.rpc.specs.Reading.{known}
+use Rattle.rpc.specs.Tables.{known_by}
 use Rattle.rpc.proofs.ListLaws.{Gathering}
 use Rattle.rpc.proofs.put_message.Given as goal
 
@@ -17,6 +17,6 @@ invariant-loop-p g l =
       high : l.p-iterator.at ≤ length l.s;
       few : total l.m + l.at ≤ total l.initial.m + l.p-iterator.at;
       gathering :
-          Gathering (known l.names l.table.ids.now l.table.numbers.now) l.all (inside (suc g.L.Level.depth) g.L.Level.KIND l.s) l.s l.at
+          Gathering (known_by l.t) l.all (inside (suc g.L.Level.depth) g.L.Level.KIND l.s) l.s l.at
           l.p-iterator.at l.initial.m l.m l.initial.list l.list;
     }

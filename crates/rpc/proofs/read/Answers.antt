@@ -23,8 +23,11 @@ returns-in_err-n c =
 pub invariant_of-table : goal.invariant_of-table
 invariant_of-table c = record { accepted = sym c.table_ok.ensures ∙ c.if-not-table_ok.false }
 
-pub fill-requires-clause-few : goal.fill-requires-clause-few
-fill-requires-clause-few c =
+pub invariant_of-t : goal.invariant_of-t
+invariant_of-t c = record { eight = c.requires }
+
+pub fill-requires : goal.fill-requires
+fill-requires c =
     let j = c.if-s-gt-MESSAGE_BYTES.false in
     (j, count_few _ _ _ j c.check_message.ensures c.in_ok-n.was)
 
