@@ -1,7 +1,7 @@
 -- What an iterator over a message's fields does: where its place is past the end, nothing is left; else it gives the field there and goes on
 -- behind it, or says that it is broken.
 use Rattle.std.specs.Prelude.{Option, Some, None, Result, Ok, Err}
-use Rattle.std.specs.Prelude.{◌-◌, ◌≤◌, ◌<◌, ◌≡◌, length}
+use Rattle.std.specs.Prelude.{◌≤◌, ◌<◌, ◌≡◌, length}
 use Rattle.fields.specs.Fields.{field_at}
 use Rattle.fields.specs.declared.Fields.{Fields}
 use Rattle.fields.specs.declared.Part.{Part}

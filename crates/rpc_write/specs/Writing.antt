@@ -13,7 +13,7 @@ use Rattle.index.specs.Index.{every, gather}
 use Rattle.varint.specs.Groups.{encode}
 use Rattle.message_ids.specs.Ids.{id_size, id_start, number_row, table_ok}
 use Rattle.rpc.specs.Messages.{subscription, graft, prune, idontwant}
-use Rattle.rpc.specs.Reading.{topics, name_bytes, row_bytes, Known, known}
+use Rattle.rpc.specs.Reading.{topics, name_bytes, row_bytes, Known}
 
 -- ---- numbers by name
 -- "PRUNE [..] backoff [..] in seconds", of 01's form: 1..3600 in the parameters, 0 where there is none

@@ -302,14 +302,7 @@ fn one_size(t: &Tables<'_, '_>, e: Entry, kind: u64, number: u64) -> usize
     part_size(number, entry_size(t, e))
 }
 
-fn put_one(
-    buf: &mut [u8],
-    at: usize,
-    t: &Tables<'_, '_>,
-    e: Entry,
-    kind: u64,
-    number: u64,
-) -> usize
+fn put_one(buf: &mut [u8], at: usize, t: &Tables<'_, '_>, e: Entry, kind: u64, number: u64) -> usize
     requires { ((e.kind ≡ idontwant → ⊥) → e.value < 16384) × ((number < 16) × (at < 800000)) }
     ensures { Puts buf at (one_bytes (known_by t.now) e.kind e.topic e.value kind number) 80 result }
 {
@@ -335,13 +328,7 @@ fn entry_at(list: &[u64], i: usize) -> Entry
 
 // ---- the entries of a kind, one after the other
 
-fn kind_size(
-    t: &Tables<'_, '_>,
-    list: &[u64],
-    n: usize,
-    kind: u64,
-    number: u64,
-) -> usize
+fn kind_size(t: &Tables<'_, '_>, list: &[u64], n: usize, kind: u64, number: u64) -> usize
     requires { (Given t.now list.now n) × (number < 16) }
     ensures { (result ≡ length (kind_bytes (known_by t.now) list.now n
         kind number)) × (result ≤ 5760) }
@@ -375,11 +362,7 @@ fn put_kind(
 
 // ---- the control message, and one field that holds it or none
 
-fn notices_size(
-    t: &Tables<'_, '_>,
-    list: &[u64],
-    n: usize,
-) -> usize
+fn notices_size(t: &Tables<'_, '_>, list: &[u64], n: usize) -> usize
     requires { Given t.now list.now n }
     ensures { (result ≡ length (inner_field 5 (kind_bytes (known_by t.now)
         list.now n idontwant 1)))
@@ -392,13 +375,7 @@ fn notices_size(
     part_size(NOTICES, size)
 }
 
-fn put_notices(
-    buf: &mut [u8],
-    at: usize,
-    t: &Tables<'_, '_>,
-    list: &[u64],
-    n: usize,
-) -> usize
+fn put_notices(buf: &mut [u8], at: usize, t: &Tables<'_, '_>, list: &[u64], n: usize) -> usize
     requires { Given t.now list.now n × (at < 650000) }
     ensures { Puts buf at (inner_field 5 (kind_bytes (known_by t.now)
         list.now n idontwant 1))
@@ -409,16 +386,10 @@ fn put_notices(
         return at;
     }
     let a = put_head(buf, at, NOTICES, size);
-    put_kind(
-        buf, a, t, list, n, IDONTWANT, MESSAGE_ID,
-    )
+    put_kind(buf, a, t, list, n, IDONTWANT, MESSAGE_ID)
 }
 
-fn control_size(
-    t: &Tables<'_, '_>,
-    list: &[u64],
-    n: usize,
-) -> usize
+fn control_size(t: &Tables<'_, '_>, list: &[u64], n: usize) -> usize
     requires { Given t.now list.now n }
     ensures { ControlSize (known_by t.now) list.now n result }
 {
@@ -427,13 +398,7 @@ fn control_size(
     a + b + notices_size(t, list, n)
 }
 
-fn put_control(
-    buf: &mut [u8],
-    at: usize,
-    t: &Tables<'_, '_>,
-    list: &[u64],
-    n: usize,
-) -> usize
+fn put_control(buf: &mut [u8], at: usize, t: &Tables<'_, '_>, list: &[u64], n: usize) -> usize
     requires { Given t.now list.now n × (at < 600000) }
     ensures { Puts buf at (control_bytes (known_by t.now) list.now n)
         17284 result }
@@ -465,50 +430,25 @@ fn put_control_field(
 
 // ---- the message, given the length of its control message
 
-fn message_size(
-    t: &Tables<'_, '_>,
-    list: &[u64],
-    n: usize,
-    control: usize,
-) -> usize
+fn message_size(t: &Tables<'_, '_>, list: &[u64], n: usize, control: usize) -> usize
     requires { (Given t.now list.now n) × ControlSize
         (known_by t.now) list.now n control }
     ensures { result ≡ length (message_of (known_by t.now) list.now n) }
 {
-    let a = kind_size(
-        t,
-        list,
-        n,
-        SUBSCRIPTION,
-        SUBSCRIPTIONS,
-    );
+    let a = kind_size(t, list, n, SUBSCRIPTION, SUBSCRIPTIONS);
     if control == 0 {
         return a;
     }
     a + part_size(CONTROL, control)
 }
 
-fn put_message(
-    buf: &mut [u8],
-    t: &Tables<'_, '_>,
-    list: &[u64],
-    n: usize,
-    control: usize,
-) -> usize
+fn put_message(buf: &mut [u8], t: &Tables<'_, '_>, list: &[u64], n: usize, control: usize) -> usize
     requires { (Given t.now list.now n) × ControlSize
         (known_by t.now) list.now n control }
     ensures { Stored buf.old 0 (message_of (known_by t.now)
         list.now n) result buf.new }
 {
-    let a = put_kind(
-        buf,
-        0,
-        t,
-        list,
-        n,
-        SUBSCRIPTION,
-        SUBSCRIPTIONS,
-    );
+    let a = put_kind(buf, 0, t, list, n, SUBSCRIPTION, SUBSCRIPTIONS);
     put_control_field(buf, a, t, list, n, control)
 }
 
@@ -542,11 +482,7 @@ fn entry_ok(t: &Tables<'_, '_>, e: Entry) -> bool
     named_ok(t.names, e) | notice_ok(&t.table, e)
 }
 
-fn list_ok(
-    t: &Tables<'_, '_>,
-    list: &[u64],
-    n: usize,
-) -> bool
+fn list_ok(t: &Tables<'_, '_>, list: &[u64], n: usize) -> bool
     ensures { result ≡ list_ok (known_by t.now) list.now n }
 {
     if MOST_ENTRIES < n {

@@ -1,6 +1,6 @@
 -- `rpc::read`: 8, then 2 of the table, then the length; what is read is what the two passes find and write. Assumes nothing.
 use mathlib.Core.Path.{sym, ◌∙◌}
-use Rattle.rpc.proofs.ReadLaws.{reads_short, reads_table, reads_long, count_few, reads_torn, reads_done, refused}
+use Rattle.rpc.proofs.ReadLaws.{reads_short, reads_table, reads_long, count_few, reads_done, refused}
 use Rattle.rpc.proofs.read.Goals as goal
 
 pub returns-then-list-lt-LIST_NUMBERS : goal.returns-then-list-lt-LIST_NUMBERS
