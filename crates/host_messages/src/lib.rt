@@ -36,7 +36,7 @@ pub fn read(
     ensures { HostsReadMessage names ids numbers order message result entries }
 {
     match rpc::read(names, ids, numbers, order, message, entries) {
-        Ok(n) => packed(0, n as u64),
+        Ok(count) => packed(0, count as u64),
         Err(ReadError::ListShort) => packed(8, 0),
         Err(ReadError::NotTable) => packed(2, 0),
         Err(ReadError::Malformed(place)) => packed(10, place as u64),
@@ -58,7 +58,7 @@ pub fn write(
     ensures { HostsWriteMessage names ids numbers order actions topics changes result buffer }
 {
     match rpc_actions::write(names, ids, numbers, order, actions, topics, changes, buffer) {
-        Ok(n) => packed(0, n as u64),
+        Ok(size) => packed(0, size as u64),
         Err(WriteError::NotList) => packed(2, 0),
         Err(WriteError::Short) => packed(13, 0),
     }

@@ -1,15 +1,20 @@
 -- The order of ids: of two runs of digits the first that differs decides, and more digits make a number no smaller.
 -- Assumes nothing.
-use Rattle.index.proofs.Kit.{ℕ, ◌+◌, ◌<◌, ◌≤◌, ◌≡◌, refl, true, arith, by_order, every_more}
+use Rattle.index.proofs.Kit.{ℕ, ◌+◌, ◌<◌, ◌≤◌, ◌≡◌, refl, sym, true, arith, by_order, by_test, every_none, every_more}
 use Rattle.index.specs.Index.{every}
 use Prim.Native.Nat.{zero, suc}
 use mathlib.Core.List.{List}
-use borrow.Author.Tests.{eqb-true, eq-eqb}
+use borrow.Author.Tests.{eqb-true, eqb-false, eq-eqb, ltb-true, ltb-false}
 use lib.Dec.{eqb}
-use lib.ListN.{get_or}
+use lib.ListN.{get_or, length, take, drop, length-drop}
+use lib.Seq.{drop-cons, length-take-le}
+use Rattle.std.specs.Prelude.{nat_lt}
+use Rattle.std.specs.Ordering.{nat_cmp, ordering_then}
+use Rattle.core.specs.Cmp.Lexicographic.{slice_cmp}
 use Rattle.index.proofs.Index.{both}
 use Rattle.message_ids.specs.Ids.{same_at, digits, code_of, Compared}
-use Rattle.message_ids.specs.declared.Order.TheVariants.{Before, Same, After}
+use Rattle.std.specs.declared.cmp.Ordering.{Ordering}
+use Rattle.std.specs.declared.cmp.Ordering.TheVariants.{Less, Equal, Greater}
 
 -- further digits keep the order of two runs
 digits_on : (a b : List ℕ) (i j t p q n : ℕ) → t ≤ n → digits a i t p < digits b j t q → digits a i n p < digits b j n q
@@ -68,7 +73,7 @@ turned a b i j (suc n) e =
 
 -- ---- the ends of `compare`
 module _ (a : List ℕ) (i n : ℕ) (b : List ℕ) (j m : ℕ) where
-  is_before : code_of a i n < code_of b j m → Compared a i n b j m Before
+  is_before : code_of a i n < code_of b j m → Compared a i n b j m Less
   is_before h =
       record {
         before = λ e. h;
@@ -76,7 +81,7 @@ module _ (a : List ℕ) (i n : ℕ) (b : List ℕ) (j m : ℕ) where
         same = λ e. let z : ◌≡◌ {A = ℕ} 0 1 = cc in absurd (omega arith);
       }
 
-  is_after : code_of b j m < code_of a i n → Compared a i n b j m After
+  is_after : code_of b j m < code_of a i n → Compared a i n b j m Greater
   is_after h =
       record {
         before = λ e. let z : ◌≡◌ {A = ℕ} 0 1 = cc in absurd (omega arith);
@@ -84,24 +89,24 @@ module _ (a : List ℕ) (i n : ℕ) (b : List ℕ) (j m : ℕ) where
         same = λ e. let z : ◌≡◌ {A = ℕ} 0 1 = cc in absurd (omega arith);
       }
 
-  pub compared_short : n < m → Compared a i n b j m Before
+  compared_short : n < m → Compared a i n b j m Less
   compared_short h = is_before (shorter a b i j n m h)
 
-  pub compared_long : m < n → Compared a i n b j m After
+  compared_long : m < n → Compared a i n b j m Greater
   compared_long h = is_after (shorter b a j i m n h)
 
   module _ (p : n ≤ m) (q : m ≤ n) (k : ℕ) (e : every k (same_at a i b j) ≡ true) where
-    pub compared_less : k < n → get_or b (j + k) 0 < 256 → get_or a (i + k) 0 < get_or b (j + k) 0 → Compared a i n b j m Before
+    compared_less : k < n → get_or b (j + k) 0 < 256 → get_or a (i + k) 0 < get_or b (j + k) 0 → Compared a i n b j m Less
     compared_less h y l =
         let z : m ≡ n = omega arith in
         is_before (rw z (first_byte a b i j n k h e y l))
 
-    pub compared_more : k < n → get_or a (i + k) 0 < 256 → get_or b (j + k) 0 < get_or a (i + k) 0 → Compared a i n b j m After
+    compared_more : k < n → get_or a (i + k) 0 < 256 → get_or b (j + k) 0 < get_or a (i + k) 0 → Compared a i n b j m Greater
     compared_more h y l =
         let z : m ≡ n = omega arith in
         is_after (rw z (first_byte b a j i n k h (turned a b i j k e) y l))
 
-    pub compared_same : k ≤ n → n ≤ k → Compared a i n b j m Same
+    compared_same : k ≤ n → n ≤ k → Compared a i n b j m Equal
     compared_same h l =
         let z : k ≡ m = omega arith in
         record {
@@ -111,8 +116,67 @@ module _ (a : List ℕ) (i n : ℕ) (b : List ℕ) (j m : ℕ) where
         }
 
 -- one byte more
-pub same_next :
+same_next :
     (a : List ℕ) (i : ℕ) (b : List ℕ) (j k : ℕ) → every k (same_at a i b j) ≡ true → get_or b (j + k) 0 ≤ get_or a (i + k) 0 →
     get_or a (i + k) 0 ≤ get_or b (j + k) 0 → every (k + 1) (same_at a i b j) ≡ true
 same_next a i b j k e h l =
     every_more (same_at a i b j) k e (eq-eqb (get_or a (i + k) 0) (get_or b (j + k) 0) (omega arith))
+
+-- ---- the end of `compare_row`: what the library's order of the two runs says
+module _ (a : List ℕ) (i : ℕ) (b : List ℕ) (j n : ℕ) (h : i + n ≤ length a) (l : j + n ≤ length b)
+    (low_a : (k : ℕ) → get_or a k 0 < 256) (low_b : (k : ℕ) → get_or b k 0 < 256) where
+  walked :
+      (m k : ℕ) → k + m ≡ n → every k (same_at a i b j) ≡ true →
+      Compared a i n b j n (slice_cmp nat_cmp (take m (drop (i + k) a)) (take m (drop (j + k) b)))
+  walked zero k e same = compared_same a i n b j n (omega arith) (omega arith) k same (omega arith) (omega arith)
+  walked (suc m) k e same =
+      let x = get_or a (i + k) 0 in
+      let y = get_or b (j + k) 0 in
+      rw (drop-cons a (i + k) 0 (omega arith), drop-cons b (j + k) 0 (omega arith))
+      (by_test
+      (Compared a i n b j n (ordering_then (nat_cmp x y) (slice_cmp nat_cmp (take m (drop (suc (i + k)) a)) (take m (drop (suc (j + k)) b)))))
+      (nat_lt x y)
+      (λ t. rw t (compared_less a i n b j n (omega arith) (omega arith) k same (omega arith) (low_b (j + k)) (ltb-true x y t)))
+      (λ t.
+      by_test
+      (Compared a i n b j n (ordering_then (nat_cmp x y) (slice_cmp nat_cmp (take m (drop (suc (i + k)) a)) (take m (drop (suc (j + k)) b)))))
+      (eqb x y)
+      (λ u.
+      let z : x ≡ y = eqb-true x y u in
+      let c : i + (k + 1) ≡ suc (i + k) = omega arith in
+      let d : j + (k + 1) ≡ suc (j + k) = omega arith in
+      rw (t, u) (rw (c, d) at (walked m (k + 1) (omega arith) (same_next a i b j k same (omega (arith, z)) (omega (arith, z))))))
+      (λ u. rw (t, u) (compared_more a i n b j n (omega arith) (omega arith) k same (omega arith) (low_a (i + k))
+      (omega (arith, ltb-false x y t, eqb-false x y u))))))
+
+  same_length : Compared a i n b j n (slice_cmp nat_cmp (take n (drop i a)) (take n (drop j b)))
+  same_length =
+      let c : i + 0 ≡ i = omega arith in
+      let d : j + 0 ≡ j = omega arith in
+      rw (c, d) at (walked n 0 (omega arith) (every_none (same_at a i b j)))
+
+pub compared_runs :
+    (a : List ℕ) (i n : ℕ) (b : List ℕ) (j m : ℕ) → i + n ≤ length a → j + m ≤ length b → ((k : ℕ) → get_or a k 0 < 256) →
+    ((k : ℕ) → get_or b k 0 < 256) →
+    Compared a i n b j m (ordering_then (nat_cmp n m) (slice_cmp nat_cmp (take n (drop i a)) (take m (drop j b))))
+compared_runs a i n b j m h l p q =
+    by_test (Compared a i n b j m (ordering_then (nat_cmp n m) (slice_cmp nat_cmp (take n (drop i a)) (take m (drop j b))))) (nat_lt n m)
+    (λ t. rw t (compared_short a i n b j m (ltb-true n m t)))
+    (λ t.
+    by_test (Compared a i n b j m (ordering_then (nat_cmp n m) (slice_cmp nat_cmp (take n (drop i a)) (take m (drop j b))))) (eqb n m)
+    (λ u. let z : n ≡ m = eqb-true n m u in rw (t, u) (rw (sym z) (same_length a i b j n h (omega (arith, z)) p q)))
+    (λ u. rw (t, u) (compared_long a i n b j m (omega (arith, ltb-false n m t, eqb-false n m u)))))
+
+-- the same of two slices
+pub compared_slices :
+    (a : List ℕ) (i n : ℕ) (b : List ℕ) (j m : ℕ) → i + n ≤ length a → j + m ≤ length b → ((k : ℕ) → get_or a k 0 < 256) →
+    ((k : ℕ) → get_or b k 0 < 256) → (x y : ℕ) (r : Ordering) →
+    r
+    ≡ ordering_then (nat_cmp (length (take x (drop i a))) (length (take y (drop j b))))
+    (slice_cmp nat_cmp (take x (drop i a)) (take y (drop j b))) →
+    x ≡ n → y ≡ m → Compared a i n b j m r
+compared_slices a i n b j m h l p q x y r g e f =
+    let u : length (take n (drop i a)) ≡ n = length-take-le n (drop i a) (omega (arith, length-drop i a)) in
+    let v : length (take m (drop j b)) ≡ m = length-take-le m (drop j b) (omega (arith, length-drop j b)) in
+    let w : r ≡ ordering_then (nat_cmp n m) (slice_cmp nat_cmp (take n (drop i a)) (take m (drop j b))) = rw (e, f, u, v) at g in
+    rw w (compared_runs a i n b j m h l p q)

@@ -13,8 +13,8 @@ use Rattle.index.proofs.Index.{both, first_is}
 use Rattle.message_ids.specs.Ids.{id_size, id_start, same_at, is_id, row_of, number_row, code_of, row_code, number_by, numbers_ok}
 use Rattle.message_ids.specs.Ids.{Compared}
 use Rattle.message_ids.specs.Once.{NoIdTwice, NoNumberTwice}
-use Rattle.message_ids.specs.declared.Order.{Order}
-use Rattle.message_ids.specs.declared.Order.TheVariants.{Before, Same, After}
+use Rattle.std.specs.declared.cmp.Ordering.{Ordering}
+use Rattle.std.specs.declared.cmp.Ordering.TheVariants.{Less, Equal, Greater}
 use Rattle.message_ids.proofs.CodeLaws.{digits_same}
 use Rattle.message_ids.proofs.RoomLaws.{Named, all_named}
 use Rattle.message_ids.proofs.TableLaws.{GoodIds, good_ids, ids_rise, GoodNumbers, good_numbers, row_low, numbers_rise}
@@ -54,9 +54,9 @@ module _ (ids s : List ℕ) (start size : ℕ) where
       }
 
   module _ (rows : ℕ) (g : GoodIds ids rows) where
-    module _ (low high mid : ℕ) (w : Halved rows low high) (a : low ≤ mid) (b : mid < high) (r : Order)
+    module _ (low high mid : ℕ) (w : Halved rows low high) (a : low ≤ mid) (b : mid < high) (r : Ordering)
         (c : Compared ids (id_start mid) (id_size ids mid) s start size r) where
-      pub halved_up : r ≡ Before → Halved rows (mid + 1) high
+      pub halved_up : r ≡ Less → Halved rows (mid + 1) high
       halved_up e =
           let o = w.high_low in
           record {
@@ -70,7 +70,7 @@ module _ (ids s : List ℕ) (start size : ℕ) where
             above = w.above;
           }
 
-      pub halved_down : r ≡ After → Halved rows low mid
+      pub halved_down : r ≡ Greater → Halved rows low mid
       halved_down e =
           let o = w.high_low in
           record {
@@ -84,7 +84,7 @@ module _ (ids s : List ℕ) (start size : ℕ) where
                 (λ m. let z : k ≡ mid = omega arith in rw z (c.after e));
           }
 
-      pub halved_found : r ≡ Same → Some mid ≡ row_of ids rows s start size
+      pub halved_found : r ≡ Equal → Some mid ≡ row_of ids rows s start size
       unfolding row_of is_id
       halved_found e =
           let o = w.high_low in

@@ -13,8 +13,9 @@ use Rattle.index.proofs.Index.{both, every_at}
 use Rattle.message_ids.specs.Ids.{id_bytes, row_bytes, id_size, id_start, row_code, code_of, id_ok, ids_ok, number_by, place_ok, numbers_ok}
 use Rattle.message_ids.specs.Ids.{table_ok}
 use Rattle.message_ids.specs.Ids.{Compared}
-use Rattle.message_ids.specs.declared.Order.{Order}
-use Rattle.message_ids.specs.declared.Order.TheVariants.{Before, Same, After}
+use Rattle.std.specs.declared.cmp.Ordering.{Ordering}
+use Rattle.std.specs.declared.cmp.Ordering.TheVariants.{Less, Equal, Greater}
+use Rattle.std.specs.Ordering.{is_lt}
 use Rattle.message_ids.proofs.CodeLaws.{digits_same}
 
 -- ---- the ends of `id_ok`
@@ -36,26 +37,31 @@ module _ (ids : List ℕ) (k size : ℕ) (z : size ≡ id_size ids k) where
       unfolding id_ok
       id_first e = rw (← z, some, le-leb size id_bytes h, eq-eqb k 0 e)
 
-      module _ (m : k ≡ 0 → ⊥) (r : Order)
+      module _ (m : k ≡ 0 → ⊥) (r : Ordering)
           (c : Compared ids (id_start (k - 1)) (id_size ids (k - 1)) ids (id_start k) size r) where
         decides : ltb (row_code ids (k - 1)) (code_of ids (id_start k) size) ≡ id_ok ids k
         unfolding id_ok
         decides = rw (← z, some, le-leb size id_bytes h, ne_eqb k 0 m)
 
-        pub id_rises : r ≡ Before → true ≡ id_ok ids k
+        id_rises : r ≡ Less → true ≡ id_ok ids k
         id_rises e = sym (lt-ltb (row_code ids (k - 1)) (code_of ids (id_start k) size) (c.before e)) ∙ decides
 
-        pub id_same : r ≡ Same → false ≡ id_ok ids k
+        id_same : r ≡ Equal → false ≡ id_ok ids k
         id_same e =
             let s = c.same e in
             let y : row_code ids (k - 1) ≡ code_of ids (id_start k) size =
             rw s.0 (digits_same ids ids (id_start (k - 1)) (id_start k) size size s.1) in
             sym (le-ltb (row_code ids (k - 1)) (code_of ids (id_start k) size) (omega arith)) ∙ decides
 
-        pub id_falls : r ≡ After → false ≡ id_ok ids k
+        id_falls : r ≡ Greater → false ≡ id_ok ids k
         id_falls e =
             let l = c.after e in
             sym (le-ltb (row_code ids (k - 1)) (code_of ids (id_start k) size) (omega arith)) ∙ decides
+
+        pub id_compared : (q : Ordering) → r ≡ q → is_lt q ≡ id_ok ids k
+        id_compared Less e = id_rises e
+        id_compared Equal e = id_same e
+        id_compared Greater e = id_falls e
 
 either : {P : Type 0} (a b : Bool) → (a ≡ true → P) → (b ≡ true → P) → (a || b) ≡ true → P
 either true b f g e = f refl

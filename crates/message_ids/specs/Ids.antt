@@ -5,8 +5,8 @@
 use Rattle.std.specs.Prelude.{Option}
 use Rattle.std.specs.Prelude.{ℕ, zero, suc, ◌+◌, ◌-◌, ◌*◌, ◌%◌, ◌<◌, ◌≡◌, Bool, true, ◌&&◌, ◌||◌, List, eqb, leb, ltb, length, get_or}
 use Rattle.index.specs.Index.{every, first}
-use Rattle.message_ids.specs.declared.Order.{Order}
-use Rattle.message_ids.specs.declared.Order.TheVariants.{Before, Same, After}
+use Rattle.std.specs.declared.cmp.Ordering.{Ordering}
+use Rattle.std.specs.declared.cmp.Ordering.TheVariants.{Less, Equal, Greater}
 
 -- ---- ids: rows of a length and 64 bytes, as the topics' names
 abbrev pub id_bytes : ℕ
@@ -71,7 +71,7 @@ unfoldable pub table_ok : List ℕ → List ℕ → List ℕ → Bool
 table_ok ids numbers order = ids_ok ids (length numbers) && numbers_ok numbers order
 
 -- ---- what `compare` promises of two ids
-pub record Compared (a : List ℕ) (i n : ℕ) (b : List ℕ) (j m : ℕ) (r : Order) : Type 0 where
-  pub before : r ≡ Before → code_of a i n < code_of b j m
-  pub after : r ≡ After → code_of b j m < code_of a i n
-  pub same : r ≡ Same → (n ≡ m) × (every m (same_at a i b j) ≡ true)
+pub record Compared (a : List ℕ) (i n : ℕ) (b : List ℕ) (j m : ℕ) (r : Ordering) : Type 0 where
+  pub before : r ≡ Less → code_of a i n < code_of b j m
+  pub after : r ≡ Greater → code_of b j m < code_of a i n
+  pub same : r ≡ Equal → (n ≡ m) × (every m (same_at a i b j) ≡ true)

@@ -3,60 +3,42 @@
 #![tactic(auto)]
 
 ghost use Rattle.std.specs.Prelude.{◌≡◌, true, ◌+◌, ◌*◌, ◌≤◌, ◌<◌, length};
+ghost use Rattle.std.specs.Ordering.{nat_cmp, ordering_then};
+ghost use Rattle.core.specs.Cmp.Lexicographic.{slice_cmp};
 ghost use Rattle.index.specs.Index.{every};
 ghost use Rattle.message_ids.specs.Ids.{row_bytes, id_size, id_start, row_of, number_row, id_ok, ids_ok, place_ok, numbers_ok, table_ok};
 ghost use Rattle.message_ids.specs.Ids.{Compared};
+
+use std::cmp::Ordering;
 
 pub const ID_BYTES: usize = 64;
 
 pub const ROW_BYTES: usize = 65;
 
-// How one id stands to another.
+// A table that is accepted.
 #[derive(Clone, Copy)]
-pub enum Order {
-    Before,
-    Same,
-    After,
+pub struct Table<'a> {
+    pub ids: &'a [u8],
+    pub numbers: &'a [u64],
+    pub order: &'a [u64],
+    ghost accepted: { table_ok ids.now numbers.now order.now ≡ true },
 }
 
-fn wide(x: u8) -> usize
-    ensures { result ≡ x }
+// Two ids: the shorter is before the longer, and of one length the bytes decide.
+fn compare(a: &[u8], b: &[u8]) -> Ordering
+    ensures { result ≡ ordering_then (nat_cmp (length a.now) (length b.now)) (slice_cmp nat_cmp a.now b.now) }
 {
-    x as usize
-}
-
-// The n bytes of a from i on, and the m bytes of b from j on, as ids: the shorter is before the longer.
-fn compare(a: &[u8], i: usize, n: usize, b: &[u8], j: usize, m: usize) -> Order
-    requires { (i + n ≤ length a.now) × (j + m ≤ length b.now) }
-    ensures { Compared a.now i n b.now j m result }
-{
-    if n < m {
-        return Order::Before;
-    }
-    if m < n {
-        return Order::After;
-    }
-    for k in 0..n {
-        let x = a[i + k];
-        let y = b[j + k];
-        if x < y {
-            return Order::Before;
-        }
-        if y < x {
-            return Order::After;
-        }
-    }
-    Order::Same
+    a.len().cmp(&b.len()).then_with(|| a.cmp(&b))
 }
 
 // The id of row k, and `size` bytes of s.
-fn compare_row(ids: &[u8], rows: usize, k: usize, s: &[u8], start: usize, size: usize) -> Order
+fn compare_row(ids: &[u8], rows: usize, k: usize, s: &[u8], start: usize, size: usize) -> Ordering
     requires { (length ids.now ≡ row_bytes * rows) × ((k < rows) × ((id_size ids.now k ≤ 64) × (start + size ≤ length s.now))) }
     ensures { Compared ids.now (id_start k) (id_size ids.now k) s.now start size result }
 {
-    let at = ROW_BYTES * k;
-    let n = wide(ids[at]);
-    compare(ids, at + 1, n, s, start, size)
+    let row = ROW_BYTES * k;
+    let n = usize::from(ids[row]);
+    compare(&ids[row + 1..row + 1 + n], &s[start..start + size])
 }
 
 // Whether row k is an id after the one before it.
@@ -65,7 +47,7 @@ fn id_ok(ids: &[u8], rows: usize, k: usize) -> bool
     ensures { result ≡ id_ok ids.now k }
 {
     let at = ROW_BYTES * k;
-    let size = wide(ids[at]);
+    let size = usize::from(ids[at]);
     if size == 0 {
         return false;
     }
@@ -75,11 +57,7 @@ fn id_ok(ids: &[u8], rows: usize, k: usize) -> bool
     if k == 0 {
         return true;
     }
-    match compare_row(ids, rows, k - 1, ids, at + 1, size) {
-        Order::Before => true,
-        Order::Same => false,
-        Order::After => false,
-    }
+    compare_row(ids, rows, k - 1, ids, at + 1, size).is_lt()
 }
 
 fn ids_ok(ids: &[u8], rows: usize) -> bool
@@ -140,7 +118,8 @@ pub fn table_ok(ids: &[u8], numbers: &[u64], order: &[u64]) -> bool
     numbers_ok(numbers, order)
 }
 
-// The row whose id stands in s, found by halves.
+// The row whose id stands in s, found by halves. Not by the library's search: its closure may be called at any row, so each step would test
+// the row's length again.
 pub fn row_of(ids: &[u8], rows: usize, s: &[u8], start: usize, size: usize) -> Option<usize>
     requires { (ids_ok ids.now rows ≡ true) × (start + size ≤ length s.now) }
     ensures { result ≡ row_of ids.now rows s.now start size }
@@ -150,13 +129,13 @@ pub fn row_of(ids: &[u8], rows: usize, s: &[u8], start: usize, size: usize) -> O
     while low < high {
         let mid = low + (high - low) / 2;
         match compare_row(ids, rows, mid, s, start, size) {
-            Order::Same => {
+            Ordering::Equal => {
                 return Some(mid);
             }
-            Order::Before => {
+            Ordering::Less => {
                 low = mid + 1;
             }
-            Order::After => {
+            Ordering::Greater => {
                 high = mid;
             }
         }
@@ -164,7 +143,8 @@ pub fn row_of(ids: &[u8], rows: usize, s: &[u8], start: usize, size: usize) -> O
     None
 }
 
-// The row that has a number, found by halves.
+// The row that has a number, found by halves. Not by the library's search: its closure may be called at any row of `order`, so each step
+// would test the row's bound again.
 pub fn number_row(numbers: &[u64], order: &[u64], v: u64) -> Option<usize>
     requires { numbers_ok numbers.now order.now ≡ true }
     ensures { result ≡ number_row numbers.now v }

@@ -8,11 +8,11 @@ use lib.Dec.{eqb}
 use lib.ListN.{length, length-append}
 use Rattle.fields.specs.Fields.{varint, delimited}
 use Prim.Native.Nat.{zero, suc}
-use Rattle.rpc.specs.Messages.{Item, subscription, graft, prune, idontwant, rpc, control, id_item, role_of, inside}
+use Rattle.rpc.specs.Messages.{Item, subscription, graft, prune, idontwant, rpc, control, by_role, role_of}
+use Rattle.fields.specs.Walk.{Items, items}
+use mathlib.Core.Logic.{◌⊎◌, inl, inr}
 use Rattle.rpc.specs.Reading.{only}
-use Rattle.fields.specs.Walk.{items}
-use Rattle.fields.specs.declared.Part.{Part}
-use Rattle.rpc.specs.Passes.{total, one_more, tally, place_of, is_id_field}
+use Rattle.rpc.specs.Passes.{total, one_more, tally, place_of}
 use Rattle.rpc.specs.declared.Counts.{Counts}
 use Rattle.rpc.specs.declared.Role.{Role}
 use Rattle.rpc.specs.declared.Role.TheVariants.{Skipped, Name, Value, Inner, Entry, Id}
@@ -137,38 +137,7 @@ pub place_below : (n : Counts) (kind r m : ℕ) → r ≡ place_of n kind → to
 place_below n kind r m e h = omega (arith, e, place_total n kind)
 
 -- ---- the table by the message that a field stands in
-abbrev id_in : Role → ℕ
-id_in Id = 1
-id_in (Inner k) = 0
-id_in (Entry k) = 0
-id_in Skipped = 0
-id_in Name = 0
-id_in Value = 0
-
-id_row : (b : Bool) (r others : Role) → id_in r ≡ 0 → id_in others ≡ 0 → id_in (cond b r others) ≡ 0
-id_row true r others h l = h
-id_row false r others h l = l
-
 module _ (number wire : ℕ) where
-  -- an id stands neither in a control message nor in an RPC
-  pub control_id : role_of control number wire ≡ Id → ⊥
-  unfolding role_of
-  control_id e =
-      let c = cond (eqb number 5 && eqb wire 2) (Inner idontwant) Skipped in
-      let b = cond (eqb number 4 && eqb wire 2) (Entry prune) c in
-      let z = id_row (eqb number 3 && eqb wire 2) (Entry graft) b refl
-      (id_row (eqb number 4 && eqb wire 2) (Entry prune) c refl (id_row (eqb number 5 && eqb wire 2) (Inner idontwant) Skipped refl refl))
-      in
-      omega (arith, sym z ∙ ap id_in e)
-
-  pub rpc_id : role_of rpc number wire ≡ Id → ⊥
-  unfolding role_of
-  rpc_id e =
-      let b = cond (eqb number 3 && eqb wire 2) (Inner control) Skipped in
-      let z = id_row (eqb number 1 && eqb wire 2) (Entry subscription) b refl
-      (id_row (eqb number 3 && eqb wire 2) (Inner control) Skipped refl refl) in
-      omega (arith, sym z ∙ ap id_in e)
-
   pub rpc_inner : (k : ℕ) → role_of rpc number wire ≡ Inner k → k ≡ control
   unfolding role_of
   rpc_inner k e =
@@ -192,15 +161,12 @@ module _ (number wire : ℕ) where
       (λ v. let f : Inner 3 ≡ Inner k = rw (t, u, v) at e in let z : 3 ≡ k = cc in sym z)
       (λ v. let f : Skipped ≡ Inner k = rw (t, u, v) at e in let z : ◌≡◌ {A = ℕ} 0 1 = cc in absurd (omega arith))))
 
--- ---- a field of an IDONTWANT
-module _ (s : List ℕ) (p : Part) where
-  pub ids_yes : is_id_field p ≡ true → inside 1 idontwant s p ≡ id_item p
-  unfolding inside role_of
-  ids_yes e = rw e
-
-  pub ids_no : is_id_field p ≡ false → inside 1 idontwant s p ≡ items []
-  unfolding inside role_of
-  ids_no e = rw e
+  pub ids_inner : (k : ℕ) → role_of idontwant number wire ≡ Inner k → ⊥
+  unfolding role_of
+  ids_inner k e =
+      by_test ⊥ (eqb number 1 && eqb wire 2)
+      (λ t. let f : Id ≡ Inner k = rw t at e in let z : ◌≡◌ {A = ℕ} 0 1 = cc in omega arith)
+      (λ t. let f : Skipped ≡ Inner k = rw t at e in let z : ◌≡◌ {A = ℕ} 0 1 = cc in omega arith)
 
 -- ---- every entry with a message is of one of the first three kinds
 abbrev kind_in : Role → ℕ
@@ -249,3 +215,12 @@ all_listed kind number wire =
 
 pub entry_kind : (kind number wire k : ℕ) → role_of kind number wire ≡ Entry k → k ≤ 2
 entry_kind kind number wire k e = omega (arith, all_listed kind number wire, ap kind_in e)
+
+-- ---- a field that holds no entry
+abbrev pub Quiet : Role → Type 0
+Quiet ρ = ρ ≡ Skipped ⊎ (ρ ≡ Name ⊎ ρ ≡ Value)
+
+pub by_quiet : (ρ : Role) (inner one : ℕ → Items Item) (own : Items Item) → Quiet ρ → by_role ρ inner one own ≡ items []
+by_quiet ρ inner one own (inl e) = rw e
+by_quiet ρ inner one own (inr (inl e)) = rw e
+by_quiet ρ inner one own (inr (inr e)) = rw e

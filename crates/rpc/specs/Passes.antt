@@ -1,31 +1,30 @@
 -- What the functions of the reader promise to each other. Who believes the promise of `read` needs none of it. The first pass finds whether
 -- the message is whole and counts the entries of each kind; the second puts each entry at the next place of its kind.
-use Rattle.std.specs.Prelude.{Result}
+use Rattle.std.specs.Prelude.{Result, Ok, Err}
+use Rattle.fields.specs.declared.Torn.{Torn}
 use Rattle.rpc.specs.declared.ReadError.{ReadError}
-use Rattle.std.specs.Prelude.{ℕ, ◌+◌, ◌*◌, ◌≤◌, ◌≡◌, Bool, true, ◌&&◌, cond, List, eqb, length}
+use Rattle.std.specs.Prelude.{ℕ, ◌+◌, ◌-◌, ◌*◌, ◌≤◌, ◌<◌, ◌≡◌, ⊤, cond, List, eqb, length}
 use Rattle.std.proofs.lemmas.List.Edits.{sets}
 use Rattle.index.specs.Index.{one}
-use Rattle.fields.specs.Fields.{delimited}
 use Rattle.fields.specs.Walk.{Items, items, broken, fields_of}
 use Rattle.fields.specs.declared.Part.{Part}
-use Rattle.message_ids.specs.Ids.{ids_ok}
-use Rattle.rpc.specs.Messages.{Item, subscription, graft, prune, idontwant, id_item, inside, rpc_at, held_of, none_held}
-use Rattle.rpc.specs.Reading.{names_bytes, Known, known, numbers_of, only, ordered, Reading}
+use Rattle.rpc.specs.Messages.{Item, subscription, graft, prune, idontwant, id_item, role_of, message_at, rpc_at, held_of, none_held}
+use Rattle.rpc.specs.Reading.{Known, known, numbers_of, only, ordered, Reading}
 use Rattle.rpc.specs.declared.Held.{Held}
-use Rattle.rpc.specs.declared.Check.{Check}
-use Rattle.rpc.specs.declared.Check.TheVariants.{Whole, Torn}
 use Rattle.rpc.specs.declared.Counts.{Counts}
-use Rattle.rpc.specs.declared.Count.{Count}
-use Rattle.rpc.specs.declared.Count.TheVariants.{Entries, Cut}
+use Rattle.rpc.specs.declared.Role.TheVariants.{Inner}
 
 -- counts stay below it; nothing depends on its size but that no sum overflows
 abbrev pub count_limit : ℕ
 count_limit = 900000
 
 -- ---- the first pass
-abbrev pub checked : {A : Type 0} → Items A → Check
-checked (items xs) = Whole
-checked (broken q) = Torn q
+abbrev pub torn_at : ℕ → Torn
+torn_at q = record { at = q }
+
+abbrev pub checked : {A : Type 0} → Items A → Result ⊤ Torn
+checked (items xs) = Ok tt
+checked (broken q) = Err (torn_at q)
 
 abbrev pub total : Counts → ℕ
 total n = n.subscriptions + n.grafts + n.prunes + n.notices
@@ -49,16 +48,20 @@ tally n xs =
       notices = n.notices + length (only idontwant xs);
     }
 
-abbrev pub counted : Counts → Items Item → Count
-counted n (items xs) = Entries (tally n xs)
-counted n (broken q) = Cut q
+abbrev pub counted : Counts → Items Item → Result Counts Torn
+counted n (items xs) = Ok (tally n xs)
+counted n (broken q) = Err (torn_at q)
 
--- a field of an IDONTWANT, an id or not, whatever bytes it stands in
-abbrev pub is_id_field : Part → Bool
-is_id_field p = eqb p.number 1 && eqb p.wire delimited
+-- a message from a place on, and a field, after n entries: no count reaches the limit, whatever they hold
+abbrev pub Within : List ℕ → ℕ → Counts → Type 0
+Within s at n = (at ≤ length s) × (total n + (length s - at) ≤ count_limit)
 
-abbrev pub CountsId : Counts → Part → Counts → Type 0
-CountsId n p r = (s : List ℕ) → Entries r ≡ counted n (inside 1 idontwant s p)
+abbrev pub FieldWithin : List ℕ → Part → Counts → Type 0
+FieldWithin s p n = (p.start ≤ p.next) × ((p.next ≤ length s) × (total n + (p.next - p.start) < count_limit))
+
+-- an inner message of a message of a kind, with so many levels left
+abbrev pub CountsInner : ℕ → ℕ → List ℕ → ℕ → Counts → Result Counts Torn → Type 0
+CountsInner kind d s at n r = (number wire k : ℕ) → role_of kind number wire ≡ Inner k → r ≡ counted n (message_at d k s at)
 
 abbrev pub none_counted : Counts
 none_counted = record { subscriptions = 0; grafts = 0; prunes = 0; notices = 0 }
@@ -74,10 +77,6 @@ pub record Holds (kind : ℕ) (s : List ℕ) (at : ℕ) (h : Held) : Type 0 wher
 unfoldable pub place_of : Counts → ℕ → ℕ
 place_of n kind =
     cond (eqb kind subscription) n.subscriptions (cond (eqb kind graft) n.grafts (cond (eqb kind prune) n.prunes n.notices))
-
--- eight names, and ids that are accepted
-abbrev pub Ready : List ℕ → List ℕ → List ℕ → Type 0
-Ready names ids numbers = (length names ≡ names_bytes) × (ids_ok ids (length numbers) ≡ true)
 
 -- an entry is put at a place
 abbrev pub Puts : Known → List ℕ → Items Item → ℕ → List ℕ → List ℕ → Type 0
@@ -121,14 +120,14 @@ starts n =
 abbrev pub Collects : Known → List ℕ → Items Item → Counts → List ℕ → Counts → List ℕ → Type 0
 Collects k s x n list r out = (xs : List Item) → x ≡ items xs → Apart n xs → (r ≡ tally n xs) × (out ≡ filed k s n xs list)
 
--- a part that holds ids alone, whatever the names are
-abbrev pub CollectsIds : List ℕ → List ℕ → List ℕ → Items Item → Counts → List ℕ → Counts → List ℕ → Type 0
-CollectsIds ids numbers s x n list r out = (names : List ℕ) → Collects (known names ids numbers) s x n list r out
+-- the same of a part that has so many bytes, and no more entries
+abbrev pub Adds : Known → List ℕ → Items Item → ℕ → Counts → List ℕ → Counts → List ℕ → Type 0
+Adds k s x bytes n list r out = Collects k s x n list r out × (total r ≤ total n + bytes)
 
--- one field of an IDONTWANT
-abbrev pub PutsIds : List ℕ → List ℕ → List ℕ → Part → Counts → List ℕ → Counts → List ℕ → Type 0
-PutsIds ids numbers all p n list r out =
-    ((s : List ℕ) → CollectsIds ids numbers all (inside 1 idontwant s p) n list r out) × (total r ≤ total n + 1)
+-- an inner message of a message of a kind, with so many levels left
+abbrev pub CollectsInner : ℕ → ℕ → Known → List ℕ → List ℕ → ℕ → Counts → List ℕ → Counts → List ℕ → Type 0
+CollectsInner kind d lent all s at n list r out =
+    (number wire k : ℕ) → role_of kind number wire ≡ Inner k → Adds lent all (message_at d k s at) (length s - at) n list r out
 
 -- what the whole pass leaves, if the first one counted n
 abbrev pub Fills : Known → List ℕ → Counts → List ℕ → ℕ → List ℕ → Type 0

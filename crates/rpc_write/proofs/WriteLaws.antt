@@ -4,6 +4,7 @@ use Rattle.std.proofs.Common.{Result, Ok, Err}
 use Rattle.rpc_write.specs.declared.WriteError.{WriteError}
 use Rattle.rpc_write.specs.declared.WriteError.TheVariants.{NotList, Short}
 use Rattle.std.proofs.Common.{Option, Some, None}
+use Rattle.std.specs.Prelude.{is_some}
 use Rattle.index.proofs.Kit.{ℕ, ◌+◌, ◌-◌, ◌*◌, ◌<◌, ◌≤◌, ◌≡◌, refl, sym, ap, ◌∙◌, Bool, true, false, arith, every, every_fails}
 use Rattle.index.specs.Index.{gather}
 use Rattle.index.proofs.Kit.{every_done, by_order}
@@ -585,13 +586,20 @@ module _ (numbers : List ℕ) (kind topic v : ℕ) where
     notice_topic n = rw (eq-eqb kind 3 e, ne_eqb topic 0 n)
 
     module _ (f : topic ≡ 0) (row : Option ℕ) (r : row ≡ number_row numbers v) where
-      pub notice_found : (k : ℕ) → row ≡ Some k → true ≡ notice_ok numbers kind topic v
+      notice_found : (k : ℕ) → row ≡ Some k → true ≡ notice_ok numbers kind topic v
       unfolding notice_ok
       notice_found k h = rw (eq-eqb kind 3 e, eq-eqb topic 0 f, ← r, h)
 
-      pub notice_none : row ≡ None → false ≡ notice_ok numbers kind topic v
+      notice_none : row ≡ None → false ≡ notice_ok numbers kind topic v
       unfolding notice_ok
       notice_none h = rw (eq-eqb kind 3 e, eq-eqb topic 0 f, ← r, h)
+
+      pub notice_is : (b : Bool) → b ≡ is_some row → b ≡ notice_ok numbers kind topic v
+      notice_is b q = q ∙ go row refl
+        where
+          go : (o : Option ℕ) → row ≡ o → is_some o ≡ notice_ok numbers kind topic v
+          go (Some k) h = notice_found k h
+          go None h = notice_none h
 
 pub entry_is :
     (names numbers : List ℕ) (kind topic v : ℕ) (a b : Bool) → a ≡ named_ok names kind topic v → b ≡ notice_ok numbers kind topic v →

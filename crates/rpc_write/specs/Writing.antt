@@ -13,7 +13,7 @@ use Rattle.index.specs.Index.{every, gather}
 use Rattle.varint.specs.Groups.{encode}
 use Rattle.message_ids.specs.Ids.{id_size, id_start, number_row, table_ok}
 use Rattle.rpc.specs.Messages.{subscription, graft, prune, idontwant}
-use Rattle.rpc.specs.Reading.{topics, name_bytes, row_bytes, Known, known}
+use Rattle.rpc.specs.Reading.{topics, name_bytes, row_bytes, Known}
 
 -- ---- numbers by name
 -- "PRUNE [..] backoff [..] in seconds", of 01's form: 1..3600 in the parameters, 0 where there is none
@@ -169,10 +169,6 @@ Writes w r buf = (r ≡ w.answer) × (buf.exit.now ≡ w.bytes)
 
 abbrev pub ControlSize : Known → List ℕ → ℕ → ℕ → Type 0
 ControlSize k list n size = (size ≡ length (control_bytes k list n)) × (size ≤ 11520)
-
--- a table and a list that are accepted
-abbrev pub Given : List ℕ → List ℕ → List ℕ → List ℕ → List ℕ → ℕ → Type 0
-Given names ids numbers order list n = (table_ok ids numbers order ≡ true) × (list_ok (known names ids numbers) list n ≡ true)
 
 -- how many bytes a field of wire type 2 has
 abbrev pub part_size : ℕ → ℕ → ℕ

@@ -4,17 +4,17 @@
 // enough.
 #![tactic(auto)]
 
-ghost use Rattle.std.specs.Prelude.{◌≡◌, true, List, ℕ, ◌+◌, ◌≤◌, ◌<◌, length, set};
+ghost use Rattle.std.specs.Prelude.{◌≡◌, ◌+◌, ◌*◌, ◌≤◌, ◌<◌, length, set};
 ghost use Rattle.varint.specs.Groups.{encode};
 ghost use Rattle.rpc_write.specs.Writing.{Stored, Fitting, part_size, name_size, name_of, value_field, part_field, head_bytes};
 ghost use Rattle.rpc_write.specs.Writing.{early, late, name_number, run, id_of, named_bytes, entry_bytes, one_bytes, kind_bytes};
 ghost use Rattle.rpc_write.specs.Writing.{control_bytes, inner_field, message_of, named_ok, notice_ok, entry_ok, list_ok, write_of};
-ghost use Rattle.rpc_write.specs.Writing.{Puts, ControlSize, Given, Writes};
-ghost use Rattle.message_ids.specs.Ids.{numbers_ok, table_ok};
+ghost use Rattle.rpc_write.specs.Writing.{Puts, ControlSize, Writes};
+ghost use Rattle.rpc_write.specs.Tables.{known_by, Given, entry_at};
 ghost use Rattle.rpc.specs.Messages.{idontwant};
 ghost use Rattle.rpc.specs.Reading.{name_bytes, known};
 
-use message_ids::{number_row, table_ok};
+use message_ids::{Table, number_row, table_ok};
 use rpc::{GRAFT, IDONTWANT, NAME_BYTES, NAMES_BYTES, PRUNE, ROW_BYTES, SUBSCRIPTION};
 
 // Why no message is written; the buffer is as it was.
@@ -24,6 +24,21 @@ pub enum WriteError {
     NotList,
     // 13
     Short,
+}
+
+// What the writer is lent: the topics' names, and the message ids with their numbers.
+#[derive(Clone, Copy)]
+struct Tables<'n, 't> {
+    names: &'n [u8; NAMES_BYTES],
+    table: Table<'t>,
+}
+
+// An entry of a list: its three numbers. The kind stays a number, as the list has it: `list_ok` is what tests it.
+#[derive(Clone, Copy)]
+struct Entry {
+    kind: u64,
+    topic: u64,
+    value: u64,
 }
 
 const TOPICS: u64 = rpc::TOPICS as u64;
@@ -131,18 +146,12 @@ fn put_head(buf: &mut [u8], at: usize, number: u64, size: usize) -> usize
 
 // ---- topics' names
 
-fn wide(x: u8) -> usize
-    ensures { result ≡ x }
-{
-    x as usize
-}
-
 fn name_size(names: &[u8; NAMES_BYTES], topic: u64) -> usize
     ensures { (result ≡ name_size names.now topic) × (result ≤ name_bytes) }
 {
     if topic < TOPICS {
         let row = ROW_BYTES * topic as usize;
-        let size = wide(names[row]);
+        let size = usize::from(names[row]);
         if size <= NAME_BYTES {
             return size;
         }
@@ -160,7 +169,8 @@ fn fitting(end: usize, at: usize, size: usize) -> usize
     if size <= end - at { size } else { end - at }
 }
 
-// Bytes of a list, from a place on.
+// Bytes of a list, from a place on, as far as the buffer goes. A loop: `buf[at..at + n]` is out of range where `at` is past the end, though
+// n is 0 there.
 fn put_run(buf: &mut [u8], at: usize, src: &[u8], start: usize, size: usize) -> usize
     requires { (start + size ≤ length src.now) × ((size ≤ name_bytes) × (at < 1000000)) }
     ensures { Puts buf at (run src.now start size) name_bytes result }
@@ -193,24 +203,23 @@ fn put_named(buf: &mut [u8], at: usize, number: u64, names: &[u8; NAMES_BYTES], 
 
 // ---- message ids
 
-fn id_size(ids: &[u8], numbers: &[u64], order: &[u64], v: u64) -> usize
-    requires { table_ok ids.now numbers.now order.now ≡ true }
-    ensures { (result ≡ length (id_of ids.now numbers.now v)) × (result ≤ name_bytes) }
+fn id_size(table: &Table<'_>, v: u64) -> usize
+    ensures { (result ≡ length (id_of table.now.ids.now table.now.numbers.now v)) × (result ≤ name_bytes) }
 {
-    match number_row(numbers, order, v) {
-        Some(k) => wide(ids[ROW_BYTES * k]),
+    match number_row(table.numbers, table.order, v) {
+        Some(k) => usize::from(table.ids[ROW_BYTES * k]),
         None => 0,
     }
 }
 
-fn put_id(buf: &mut [u8], at: usize, ids: &[u8], numbers: &[u64], order: &[u64], v: u64) -> usize
-    requires { (table_ok ids.now numbers.now order.now ≡ true) × (at < 1000000) }
-    ensures { Puts buf at (id_of ids.now numbers.now v) name_bytes result }
+fn put_id(buf: &mut [u8], at: usize, table: &Table<'_>, v: u64) -> usize
+    requires { at < 1000000 }
+    ensures { Puts buf at (id_of table.now.ids.now table.now.numbers.now v) name_bytes result }
 {
-    match number_row(numbers, order, v) {
+    match number_row(table.numbers, table.order, v) {
         Some(k) => {
             let row = ROW_BYTES * k;
-            put_run(buf, at, ids, row + 1, wide(ids[row]))
+            put_run(buf, at, table.ids, row + 1, usize::from(table.ids[row]))
         }
         None => at,
     }
@@ -240,159 +249,93 @@ fn name_number(kind: u64) -> u64
     }
 }
 
-fn named_size(names: &[u8; NAMES_BYTES], kind: u64, topic: u64, v: u64) -> usize
-    requires { v < 16384 }
-    ensures { (result ≡ length (named_bytes names.now kind topic v)) × (result ≤ 76) }
+fn named_size(names: &[u8; NAMES_BYTES], e: Entry) -> usize
+    requires { e.value < 16384 }
+    ensures { (result ≡ length (named_bytes names.now e.kind e.topic e.value)) × (result ≤ 76) }
 {
-    let a = value_size(SUBSCRIBE, early_value(kind, v));
-    let b = part_size(name_number(kind), name_size(names, topic));
-    let c = value_size(BACKOFF, late_value(kind, v));
+    let a = value_size(SUBSCRIBE, early_value(e.kind, e.value));
+    let b = part_size(name_number(e.kind), name_size(names, e.topic));
+    let c = value_size(BACKOFF, late_value(e.kind, e.value));
     a + b + c
 }
 
-fn put_fields(
-    buf: &mut [u8],
-    at: usize,
-    names: &[u8; NAMES_BYTES],
-    kind: u64,
-    topic: u64,
-    v: u64,
-) -> usize
-    requires { (v < 16384) × (at < 900000) }
-    ensures { Puts buf at (named_bytes names.now kind topic v) 76 result }
+fn put_fields(buf: &mut [u8], at: usize, names: &[u8; NAMES_BYTES], e: Entry) -> usize
+    requires { (e.value < 16384) × (at < 900000) }
+    ensures { Puts buf at (named_bytes names.now e.kind e.topic e.value) 76 result }
 {
-    let a = put_value(buf, at, SUBSCRIBE, early_value(kind, v));
-    let b = put_named(buf, a, name_number(kind), names, topic);
-    put_value(buf, b, BACKOFF, late_value(kind, v))
+    let a = put_value(buf, at, SUBSCRIBE, early_value(e.kind, e.value));
+    let b = put_named(buf, a, name_number(e.kind), names, e.topic);
+    put_value(buf, b, BACKOFF, late_value(e.kind, e.value))
 }
 
 // ---- an entry's content: of an IDONTWANT the id itself
 
-fn entry_size(
-    names: &[u8; NAMES_BYTES],
-    ids: &[u8],
-    numbers: &[u64],
-    order: &[u64],
-    kind: u64,
-    topic: u64,
-    v: u64,
-) -> usize
-    requires { (table_ok ids.now numbers.now order.now ≡ true) × ((kind ≡ idontwant → ⊥) → v < 16384) }
-    ensures { (result ≡ length (entry_bytes (known names.now ids.now numbers.now) kind topic v))
-        × (result ≤ 76) }
+fn entry_size(t: &Tables<'_, '_>, e: Entry) -> usize
+    requires { (e.kind ≡ idontwant → ⊥) → e.value < 16384 }
+    ensures { (result ≡ length (entry_bytes (known_by t.now) e.kind e.topic e.value)) × (result ≤ 76) }
 {
-    if kind == IDONTWANT {
-        return id_size(ids, numbers, order, v);
+    if e.kind == IDONTWANT {
+        return id_size(&t.table, e.value);
     }
-    named_size(names, kind, topic, v)
+    named_size(t.names, e)
 }
 
-fn put_entry(
-    buf: &mut [u8],
-    at: usize,
-    names: &[u8; NAMES_BYTES],
-    ids: &[u8],
-    numbers: &[u64],
-    order: &[u64],
-    kind: u64,
-    topic: u64,
-    v: u64,
-) -> usize
-    requires { (table_ok ids.now numbers.now order.now ≡ true) × (((kind ≡ idontwant → ⊥) → v < 16384) × (at < 900000)) }
-    ensures { Puts buf at (entry_bytes (known names.now ids.now numbers.now) kind topic v) 76 result }
+fn put_entry(buf: &mut [u8], at: usize, t: &Tables<'_, '_>, e: Entry) -> usize
+    requires { ((e.kind ≡ idontwant → ⊥) → e.value < 16384) × (at < 900000) }
+    ensures { Puts buf at (entry_bytes (known_by t.now) e.kind e.topic e.value) 76 result }
 {
-    if kind == IDONTWANT {
-        return put_id(buf, at, ids, numbers, order, v);
+    if e.kind == IDONTWANT {
+        return put_id(buf, at, &t.table, e.value);
     }
-    put_fields(buf, at, names, kind, topic, v)
+    put_fields(buf, at, t.names, e)
 }
 
 // ---- an entry as a field, if it is of the kind
 
-fn one_size(
-    names: &[u8; NAMES_BYTES],
-    ids: &[u8],
-    numbers: &[u64],
-    order: &[u64],
-    own: u64,
-    topic: u64,
-    v: u64,
-    kind: u64,
-    number: u64,
-) -> usize
-    requires { (table_ok ids.now numbers.now order.now ≡ true) × (((own ≡ idontwant → ⊥) → v < 16384) × (number < 16)) }
-    ensures { (result ≡ length (one_bytes (known names.now ids.now numbers.now) own topic v kind number))
-        × (result ≤ 80) }
+fn one_size(t: &Tables<'_, '_>, e: Entry, kind: u64, number: u64) -> usize
+    requires { ((e.kind ≡ idontwant → ⊥) → e.value < 16384) × (number < 16) }
+    ensures { (result ≡ length (one_bytes (known_by t.now) e.kind e.topic e.value kind number)) × (result ≤ 80) }
 {
-    if own != kind {
+    if e.kind != kind {
         return 0;
     }
-    part_size(
-        number,
-        entry_size(names, ids, numbers, order, own, topic, v),
-    )
+    part_size(number, entry_size(t, e))
 }
 
-fn put_one(
-    buf: &mut [u8],
-    at: usize,
-    names: &[u8; NAMES_BYTES],
-    ids: &[u8],
-    numbers: &[u64],
-    order: &[u64],
-    own: u64,
-    topic: u64,
-    v: u64,
-    kind: u64,
-    number: u64,
-) -> usize
-    requires { (table_ok ids.now numbers.now order.now ≡ true) ×
-        (((own ≡ idontwant → ⊥) → v < 16384) × ((number < 16) × (at < 800000))) }
-    ensures { Puts buf at (one_bytes (known names.now ids.now numbers.now) own topic v kind number)
-        80 result }
+fn put_one(buf: &mut [u8], at: usize, t: &Tables<'_, '_>, e: Entry, kind: u64, number: u64) -> usize
+    requires { ((e.kind ≡ idontwant → ⊥) → e.value < 16384) × ((number < 16) × (at < 800000)) }
+    ensures { Puts buf at (one_bytes (known_by t.now) e.kind e.topic e.value kind number) 80 result }
 {
-    if own != kind {
+    if e.kind != kind {
         return at;
     }
-    let a = put_head(
-        buf,
-        at,
-        number,
-        entry_size(names, ids, numbers, order, own, topic, v),
-    );
-    put_entry(buf, a, names, ids, numbers, order, own, topic, v)
+    let a = put_head(buf, at, number, entry_size(t, e));
+    put_entry(buf, a, t, e)
+}
+
+// The i-th entry of a list.
+fn entry_at(list: &[u64], i: usize) -> Entry
+    requires { 3 * i + 2 < length list.now }
+    ensures { result ≡ entry_at list.now i }
+{
+    let j = 3 * i;
+    Entry {
+        kind: list[j],
+        topic: list[j + 1],
+        value: list[j + 2],
+    }
 }
 
 // ---- the entries of a kind, one after the other
 
-fn kind_size(
-    names: &[u8; NAMES_BYTES],
-    ids: &[u8],
-    numbers: &[u64],
-    order: &[u64],
-    list: &[u64],
-    n: usize,
-    kind: u64,
-    number: u64,
-) -> usize
-    requires { (Given names.now ids.now numbers.now order.now list.now n) × (number < 16) }
-    ensures { (result ≡ length (kind_bytes (known names.now ids.now numbers.now) list.now n
+fn kind_size(t: &Tables<'_, '_>, list: &[u64], n: usize, kind: u64, number: u64) -> usize
+    requires { (Given t.now list.now n) × (number < 16) }
+    ensures { (result ≡ length (kind_bytes (known_by t.now) list.now n
         kind number)) × (result ≤ 5760) }
 {
     let mut size: usize = 0;
     for i in 0..n {
-        let j = 3 * i;
-        size += one_size(
-            names,
-            ids,
-            numbers,
-            order,
-            list[j],
-            list[j + 1],
-            list[j + 2],
-            kind,
-            number,
-        );
+        size += one_size(t, entry_at(list, i), kind, number);
     }
     size
 }
@@ -400,257 +343,147 @@ fn kind_size(
 fn put_kind(
     buf: &mut [u8],
     at: usize,
-    names: &[u8; NAMES_BYTES],
-    ids: &[u8],
-    numbers: &[u64],
-    order: &[u64],
+    t: &Tables<'_, '_>,
     list: &[u64],
     n: usize,
     kind: u64,
     number: u64,
 ) -> usize
-    requires { (Given names.now ids.now numbers.now order.now list.now n) × ((number < 16) × (at < 700000)) }
-    ensures { Puts buf at (kind_bytes (known names.now ids.now numbers.now) list.now n
+    requires { (Given t.now list.now n) × ((number < 16) × (at < 700000)) }
+    ensures { Puts buf at (kind_bytes (known_by t.now) list.now n
         kind number) 5760 result }
 {
     let mut place = at;
     for i in 0..n {
-        let j = 3 * i;
-        place = put_one(
-            buf,
-            place,
-            names,
-            ids,
-            numbers,
-            order,
-            list[j],
-            list[j + 1],
-            list[j + 2],
-            kind,
-            number,
-        );
+        place = put_one(buf, place, t, entry_at(list, i), kind, number);
     }
     place
 }
 
 // ---- the control message, and one field that holds it or none
 
-fn notices_size(
-    names: &[u8; NAMES_BYTES],
-    ids: &[u8],
-    numbers: &[u64],
-    order: &[u64],
-    list: &[u64],
-    n: usize,
-) -> usize
-    requires { Given names.now ids.now numbers.now order.now list.now n }
-    ensures { (result ≡ length (inner_field 5 (kind_bytes (known names.now ids.now numbers.now)
+fn notices_size(t: &Tables<'_, '_>, list: &[u64], n: usize) -> usize
+    requires { Given t.now list.now n }
+    ensures { (result ≡ length (inner_field 5 (kind_bytes (known_by t.now)
         list.now n idontwant 1)))
         × (result ≤ 5764) }
 {
-    let size = kind_size(names, ids, numbers, order, list, n, IDONTWANT, MESSAGE_ID);
+    let size = kind_size(t, list, n, IDONTWANT, MESSAGE_ID);
     if size == 0 {
         return 0;
     }
     part_size(NOTICES, size)
 }
 
-fn put_notices(
-    buf: &mut [u8],
-    at: usize,
-    names: &[u8; NAMES_BYTES],
-    ids: &[u8],
-    numbers: &[u64],
-    order: &[u64],
-    list: &[u64],
-    n: usize,
-) -> usize
-    requires { Given names.now ids.now numbers.now order.now list.now n × (at < 650000) }
-    ensures { Puts buf at (inner_field 5 (kind_bytes (known names.now ids.now numbers.now)
+fn put_notices(buf: &mut [u8], at: usize, t: &Tables<'_, '_>, list: &[u64], n: usize) -> usize
+    requires { Given t.now list.now n × (at < 650000) }
+    ensures { Puts buf at (inner_field 5 (kind_bytes (known_by t.now)
         list.now n idontwant 1))
         5764 result }
 {
-    let size = kind_size(names, ids, numbers, order, list, n, IDONTWANT, MESSAGE_ID);
+    let size = kind_size(t, list, n, IDONTWANT, MESSAGE_ID);
     if size == 0 {
         return at;
     }
     let a = put_head(buf, at, NOTICES, size);
-    put_kind(
-        buf, a, names, ids, numbers, order, list, n, IDONTWANT, MESSAGE_ID,
-    )
+    put_kind(buf, a, t, list, n, IDONTWANT, MESSAGE_ID)
 }
 
-fn control_size(
-    names: &[u8; NAMES_BYTES],
-    ids: &[u8],
-    numbers: &[u64],
-    order: &[u64],
-    list: &[u64],
-    n: usize,
-) -> usize
-    requires { Given names.now ids.now numbers.now order.now list.now n }
-    ensures { ControlSize (known names.now ids.now numbers.now) list.now n result }
+fn control_size(t: &Tables<'_, '_>, list: &[u64], n: usize) -> usize
+    requires { Given t.now list.now n }
+    ensures { ControlSize (known_by t.now) list.now n result }
 {
-    let a = kind_size(names, ids, numbers, order, list, n, GRAFT, GRAFTS);
-    let b = kind_size(names, ids, numbers, order, list, n, PRUNE, PRUNES);
-    a + b + notices_size(names, ids, numbers, order, list, n)
+    let a = kind_size(t, list, n, GRAFT, GRAFTS);
+    let b = kind_size(t, list, n, PRUNE, PRUNES);
+    a + b + notices_size(t, list, n)
 }
 
-fn put_control(
-    buf: &mut [u8],
-    at: usize,
-    names: &[u8; NAMES_BYTES],
-    ids: &[u8],
-    numbers: &[u64],
-    order: &[u64],
-    list: &[u64],
-    n: usize,
-) -> usize
-    requires { Given names.now ids.now numbers.now order.now list.now n × (at < 600000) }
-    ensures { Puts buf at (control_bytes (known names.now ids.now numbers.now) list.now n)
+fn put_control(buf: &mut [u8], at: usize, t: &Tables<'_, '_>, list: &[u64], n: usize) -> usize
+    requires { Given t.now list.now n × (at < 600000) }
+    ensures { Puts buf at (control_bytes (known_by t.now) list.now n)
         17284 result }
 {
-    let a = put_kind(buf, at, names, ids, numbers, order, list, n, GRAFT, GRAFTS);
-    let b = put_kind(buf, a, names, ids, numbers, order, list, n, PRUNE, PRUNES);
-    put_notices(buf, b, names, ids, numbers, order, list, n)
+    let a = put_kind(buf, at, t, list, n, GRAFT, GRAFTS);
+    let b = put_kind(buf, a, t, list, n, PRUNE, PRUNES);
+    put_notices(buf, b, t, list, n)
 }
 
 fn put_control_field(
     buf: &mut [u8],
     at: usize,
-    names: &[u8; NAMES_BYTES],
-    ids: &[u8],
-    numbers: &[u64],
-    order: &[u64],
+    t: &Tables<'_, '_>,
     list: &[u64],
     n: usize,
     size: usize,
 ) -> usize
-    requires { (Given names.now ids.now numbers.now order.now list.now n) ×
-        (ControlSize (known names.now ids.now numbers.now) list.now n size × (at < 500000)) }
-    ensures { Puts buf at (inner_field 3 (control_bytes (known names.now ids.now numbers.now)
+    requires { (Given t.now list.now n) ×
+        (ControlSize (known_by t.now) list.now n size × (at < 500000)) }
+    ensures { Puts buf at (inner_field 3 (control_bytes (known_by t.now)
         list.now n)) 17288 result }
 {
     if size == 0 {
         return at;
     }
     let a = put_head(buf, at, CONTROL, size);
-    put_control(buf, a, names, ids, numbers, order, list, n)
+    put_control(buf, a, t, list, n)
 }
 
 // ---- the message, given the length of its control message
 
-fn message_size(
-    names: &[u8; NAMES_BYTES],
-    ids: &[u8],
-    numbers: &[u64],
-    order: &[u64],
-    list: &[u64],
-    n: usize,
-    control: usize,
-) -> usize
-    requires { (Given names.now ids.now numbers.now order.now list.now n) × ControlSize
-        (known names.now ids.now numbers.now) list.now n control }
-    ensures { result ≡ length (message_of (known names.now ids.now numbers.now) list.now n) }
+fn message_size(t: &Tables<'_, '_>, list: &[u64], n: usize, control: usize) -> usize
+    requires { (Given t.now list.now n) × ControlSize
+        (known_by t.now) list.now n control }
+    ensures { result ≡ length (message_of (known_by t.now) list.now n) }
 {
-    let a = kind_size(
-        names,
-        ids,
-        numbers,
-        order,
-        list,
-        n,
-        SUBSCRIPTION,
-        SUBSCRIPTIONS,
-    );
+    let a = kind_size(t, list, n, SUBSCRIPTION, SUBSCRIPTIONS);
     if control == 0 {
         return a;
     }
     a + part_size(CONTROL, control)
 }
 
-fn put_message(
-    buf: &mut [u8],
-    names: &[u8; NAMES_BYTES],
-    ids: &[u8],
-    numbers: &[u64],
-    order: &[u64],
-    list: &[u64],
-    n: usize,
-    control: usize,
-) -> usize
-    requires { (Given names.now ids.now numbers.now order.now list.now n) × ControlSize
-        (known names.now ids.now numbers.now) list.now n control }
-    ensures { Stored buf.old 0 (message_of (known names.now ids.now numbers.now)
+fn put_message(buf: &mut [u8], t: &Tables<'_, '_>, list: &[u64], n: usize, control: usize) -> usize
+    requires { (Given t.now list.now n) × ControlSize
+        (known_by t.now) list.now n control }
+    ensures { Stored buf.old 0 (message_of (known_by t.now)
         list.now n) result buf.new }
 {
-    let a = put_kind(
-        buf,
-        0,
-        names,
-        ids,
-        numbers,
-        order,
-        list,
-        n,
-        SUBSCRIPTION,
-        SUBSCRIPTIONS,
-    );
-    put_control_field(buf, a, names, ids, numbers, order, list, n, control)
+    let a = put_kind(buf, 0, t, list, n, SUBSCRIPTION, SUBSCRIPTIONS);
+    put_control_field(buf, a, t, list, n, control)
 }
 
 // ---- what is written
 
-fn named_ok(names: &[u8; NAMES_BYTES], kind: u64, topic: u64, v: u64) -> bool
-    ensures { result ≡ named_ok names.now kind topic v }
+fn named_ok(names: &[u8; NAMES_BYTES], e: Entry) -> bool
+    ensures { result ≡ named_ok names.now e.kind e.topic e.value }
 {
-    let size = name_size(names, topic);
+    let size = name_size(names, e.topic);
     (0 < size)
-        & (((kind == SUBSCRIPTION) & (v <= 1))
-            | ((kind == GRAFT) & (v == 0))
-            | ((kind == PRUNE) & (v <= MOST_SECONDS)))
+        & (((e.kind == SUBSCRIPTION) & (e.value <= 1))
+            | ((e.kind == GRAFT) & (e.value == 0))
+            | ((e.kind == PRUNE) & (e.value <= MOST_SECONDS)))
 }
 
-fn notice_ok(numbers: &[u64], order: &[u64], kind: u64, topic: u64, v: u64) -> bool
-    requires { numbers_ok numbers.now order.now ≡ true }
-    ensures { result ≡ notice_ok numbers.now kind topic v }
+fn notice_ok(table: &Table<'_>, e: Entry) -> bool
+    ensures { result ≡ notice_ok table.now.numbers.now e.kind e.topic e.value }
 {
-    if kind != IDONTWANT {
+    if e.kind != IDONTWANT {
         return false;
     }
-    if topic != 0 {
+    if e.topic != 0 {
         return false;
     }
-    match number_row(numbers, order, v) {
-        Some(_) => true,
-        None => false,
-    }
+    number_row(table.numbers, table.order, e.value).is_some()
 }
 
-fn entry_ok(
-    names: &[u8; NAMES_BYTES],
-    numbers: &[u64],
-    order: &[u64],
-    kind: u64,
-    topic: u64,
-    v: u64,
-) -> bool
-    requires { numbers_ok numbers.now order.now ≡ true }
-    ensures { (ids : List ℕ) → result ≡ entry_ok (known names.now ids numbers.now) kind topic v }
+fn entry_ok(t: &Tables<'_, '_>, e: Entry) -> bool
+    ensures { result ≡ entry_ok (known_by t.now) e.kind e.topic e.value }
 {
-    named_ok(names, kind, topic, v) | notice_ok(numbers, order, kind, topic, v)
+    named_ok(t.names, e) | notice_ok(&t.table, e)
 }
 
-fn list_ok(
-    names: &[u8; NAMES_BYTES],
-    ids: &[u8],
-    numbers: &[u64],
-    order: &[u64],
-    list: &[u64],
-    n: usize,
-) -> bool
-    requires { numbers_ok numbers.now order.now ≡ true }
-    ensures { result ≡ list_ok (known names.now ids.now numbers.now) list.now n }
+fn list_ok(t: &Tables<'_, '_>, list: &[u64], n: usize) -> bool
+    ensures { result ≡ list_ok (known_by t.now) list.now n }
 {
     if MOST_ENTRIES < n {
         return false;
@@ -659,8 +492,7 @@ fn list_ok(
         return false;
     }
     for i in 0..n {
-        let j = 3 * i;
-        if !entry_ok(names, numbers, order, list[j], list[j + 1], list[j + 2]) {
+        if !entry_ok(t, entry_at(list, i)) {
             return false;
         }
     }
@@ -668,7 +500,7 @@ fn list_ok(
 }
 
 // Writes the first n entries of a list, or says why not and leaves the buffer. `ids`, `numbers` and `order` are the table of message ids
-// (crate message_ids).
+// (crate message_ids), each on its own as C hands them. The list may be longer than n entries: `CallWritesAgain` writes from the reader's.
 pub fn write(
     names: &[u8; NAMES_BYTES],
     ids: &[u8],
@@ -684,12 +516,18 @@ pub fn write(
     if !table_ok(ids, numbers, order) {
         return Err(WriteError::NotList);
     }
-    if !list_ok(names, ids, numbers, order, list, n) {
+    let table = Table {
+        ids,
+        numbers,
+        order,
+    };
+    let t = Tables { names, table };
+    if !list_ok(&t, list, n) {
         return Err(WriteError::NotList);
     }
-    let control = control_size(names, ids, numbers, order, list, n);
-    if buf.len() < message_size(names, ids, numbers, order, list, n, control) {
+    let control = control_size(&t, list, n);
+    if buf.len() < message_size(&t, list, n, control) {
         return Err(WriteError::Short);
     }
-    Ok(put_message(buf, names, ids, numbers, order, list, n, control))
+    Ok(put_message(buf, &t, list, n, control))
 }

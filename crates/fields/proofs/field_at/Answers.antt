@@ -12,8 +12,8 @@ returns-then-left-lt2 c = c.long_field.ensures
 
 pub returns-then-is_short : goal.returns-then-is_short
 returns-then-is_short c =
-    let x = c.wide-tag.ensures in
-    let y = c.wide-value.ensures in
+    let x = c.from-tag.ensures in
+    let y = c.from-value.ensures in
     let s = c.is_short.ensures in
     let z = c.if-is_short.true in
     short_is _ _ _ _ (omega arith) x y _ _ s z c.short_field.ensures

@@ -1,15 +1,22 @@
-use Rattle.index.proofs.Kit.{◌-◌, arith}
+use Rattle.index.proofs.Kit.{◌-◌, ◌∙◌, arith}
 use Rattle.fields.proofs.NumberLaws.{without_end, joining_start, joining_byte, joining_more, joining_far, joining_all}
 use Rattle.fields.proofs.long_number.Goals as goal
 
-pub returns-then-end-eq0 : goal.returns-then-end-eq0
-returns-then-end-eq0 c = without_end _ _ _ c.end_of-end.ensures c.if-end-eq0.true
+pub returns-in_err-end : goal.returns-in_err-end
+returns-in_err-end c = c.from_residual.ensures ∙ without_end _ _ _ c.end_of.ensures c.in_err-end.was
+
+pub overflow_sub-place : goal.overflow_sub-place
+overflow_sub-place c = let l = (c.end_of.ensures.with_last _ c.in_ok-end.was).low in omega arith
 
 pub bounds-s-place : goal.bounds-s-place
-bounds-s-place c = let l = (c.end_of-end.ensures.with_last c.if-end-eq0.false).high in omega arith
+bounds-s-place c =
+    let l = c.end_of.ensures.with_last _ c.in_ok-end.was in
+    let i = l.low in
+    let h = l.high in
+    omega arith
 
 pub loop-place-init : goal.loop-place-init
-loop-place-init c = joining_start _ _ _ c.end_of-end.ensures c.if-end-eq0.false _ c.wide-value.ensures
+loop-place-init c = joining_start _ _ _ (c.end_of.ensures.with_last _ c.in_ok-end.was) _ c.from-value.ensures
 
 pub returns-then-value : goal.returns-then-value
 returns-then-value c = joining_far _ _ _ _ _ c.loop-place.invariant c.loop-place-test.true (omega arith)
@@ -21,7 +28,7 @@ pub joined-value-requires : goal.joined-value-requires
 joined-value-requires c =
     let k = joining_byte _ _ _ _ _ c.loop-place.invariant c.loop-place-test.true in
     let u = c.type_inv.s (c.loop-place.place - 1) in
-    let e = c.wide.ensures in
+    let e = c.from.ensures in
     (omega arith, (omega arith, omega arith))
 
 pub loop-place-preserved : goal.loop-place-preserved

@@ -7,7 +7,7 @@ pub returns-then-s-at : goal.returns-then-s-at
 returns-then-s-at c = number_end _ _ c.if-s-at.true
 
 pub returns-then-low-lt-GROUP : goal.returns-then-low-lt-GROUP
-returns-then-low-lt-GROUP c = number_one _ _ _ c.wide-low.ensures (omega arith) (omega arith)
+returns-then-low-lt-GROUP c = number_one _ _ _ c.from-low.ensures (omega arith) (omega arith)
 
 pub returns : goal.returns
 returns c = c.long_number.ensures

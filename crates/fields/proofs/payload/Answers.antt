@@ -3,17 +3,17 @@ use borrow.Author.Rules.{rules}
 use Rattle.fields.proofs.FieldLaws.{value_bad, value_whole, part_bad, part_sized, eight, four, other, tag_place}
 use Rattle.fields.proofs.payload.Goals as goal
 
-pub returns-in_default : goal.returns-in_default
-returns-in_default c = search (value_bad, rules)
+pub returns-in_err-value : goal.returns-in_err-value
+returns-in_err-value c = rw c.from_residual.ensures (search (value_bad, rules))
 
 pub returns-then-wire-eq-VARINT : goal.returns-then-wire-eq-VARINT
 returns-then-wire-eq-VARINT c = search (value_whole, rules)
 
-pub returns-in_default-number_at : goal.returns-in_default-number_at
-returns-in_default-number_at c = search (part_bad, rules)
+pub returns-in_err-size : goal.returns-in_err-size
+returns-in_err-size c = rw c.from_residual-in_err-size.ensures (search (part_bad, rules))
 
 pub sized-requires : goal.sized-requires
-sized-requires c = (tag_place _ _ _ c.number_at-then-wire-eq-DELIMITED.ensures _ _ c.in-Some-number_at.is).1
+sized-requires c = (tag_place _ _ _ c.number_at-then-wire-eq-DELIMITED.ensures _ _ c.in_ok-size.was).1
 
 pub returns-then-wire-eq-DELIMITED : goal.returns-then-wire-eq-DELIMITED
 returns-then-wire-eq-DELIMITED c = search (part_sized, rules)

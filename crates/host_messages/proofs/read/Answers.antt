@@ -6,10 +6,10 @@ use Rattle.host_messages.proofs.read.Goals as goal
 pub packed-requires : goal.packed-requires
 packed-requires c = (omega arith, message_fits _ _ _ _ _ _ _ c.read.ensures c.in-Ok.is)
 
-pub packed-requires-in-Malformed : goal.packed-requires-in-Malformed
-packed-requires-in-Malformed c =
+pub packed-requires-in-Err-Malformed : goal.packed-requires-in-Err-Malformed
+packed-requires-in-Err-Malformed c =
     let e = c.read.ensures in
-    let p = c.in-Malformed.is in
+    let p = (rw c.in-Err-Malformed.field-0-is at c.in-Err-Malformed.is) in
     (omega arith, message_fits _ _ _ _ _ _ _ e p)
 
 pub returns-in-Ok : goal.returns-in-Ok
@@ -18,20 +18,20 @@ returns-in-Ok c =
     let n = c.in-Ok.is in
     hosts_message _ _ _ _ _ _ _ e n _ c.packed.ensures
 
-pub returns-in-ListShort : goal.returns-in-ListShort
-returns-in-ListShort c =
+pub returns-in-Err-ListShort : goal.returns-in-Err-ListShort
+returns-in-Err-ListShort c =
     let e = c.read.ensures in
-    let u = c.in-ListShort.is in
-    hosts_message _ _ _ _ _ _ _ e u _ c.packed-in-ListShort.ensures
+    let u = (rw c.in-Err-ListShort.field-0-is at c.in-Err-ListShort.is) in
+    hosts_message _ _ _ _ _ _ _ e u _ c.packed-in-Err-ListShort.ensures
 
-pub returns-in-NotTable : goal.returns-in-NotTable
-returns-in-NotTable c =
+pub returns-in-Err-NotTable : goal.returns-in-Err-NotTable
+returns-in-Err-NotTable c =
     let e = c.read.ensures in
-    let u = c.in-NotTable.is in
-    hosts_message _ _ _ _ _ _ _ e u _ c.packed-in-NotTable.ensures
+    let u = (rw c.in-Err-NotTable.field-0-is at c.in-Err-NotTable.is) in
+    hosts_message _ _ _ _ _ _ _ e u _ c.packed-in-Err-NotTable.ensures
 
-pub returns-in-Malformed : goal.returns-in-Malformed
-returns-in-Malformed c =
+pub returns-in-Err-Malformed : goal.returns-in-Err-Malformed
+returns-in-Err-Malformed c =
     let e = c.read.ensures in
-    let p = c.in-Malformed.is in
-    hosts_message _ _ _ _ _ _ _ e p _ c.packed-in-Malformed.ensures
+    let p = (rw c.in-Err-Malformed.field-0-is at c.in-Err-Malformed.is) in
+    hosts_message _ _ _ _ _ _ _ e p _ c.packed-in-Err-Malformed.ensures

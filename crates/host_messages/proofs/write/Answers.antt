@@ -13,10 +13,10 @@ pub returns-in-Ok : goal.returns-in-Ok
 returns-in-Ok c = hosts_written _ _ _ _ _ _ _ _ _ c.write.ensures
     c.in-Ok.is _ c.packed.ensures
 
-pub returns-in-NotList : goal.returns-in-NotList
-returns-in-NotList c = hosts_written _ _ _ _ _ _ _ _ _ c.write.ensures
-    c.in-NotList.is _ c.packed-in-NotList.ensures
+pub returns-in-Err-NotList : goal.returns-in-Err-NotList
+returns-in-Err-NotList c = hosts_written _ _ _ _ _ _ _ _ _ c.write.ensures
+    (rw c.in-Err-NotList.field-0-is at c.in-Err-NotList.is) _ c.packed-in-Err-NotList.ensures
 
-pub returns-in-Short : goal.returns-in-Short
-returns-in-Short c = hosts_written _ _ _ _ _ _ _ _ _ c.write.ensures
-    c.in-Short.is _ c.packed-in-Short.ensures
+pub returns-in-Err-Short : goal.returns-in-Err-Short
+returns-in-Err-Short c = hosts_written _ _ _ _ _ _ _ _ _ c.write.ensures
+    (rw c.in-Err-Short.field-0-is at c.in-Err-Short.is) _ c.packed-in-Err-Short.ensures

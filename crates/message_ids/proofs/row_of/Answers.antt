@@ -13,23 +13,23 @@ compare_row-requires c =
     let g = good_ids _ _ q.0 in
     (g.long, (omega arith, ((g.each _ (omega arith)).short, q.1)))
 
-pub returns-in-Same : goal.returns-in-Same
-returns-in-Same c =
+pub returns-in-Equal : goal.returns-in-Equal
+returns-in-Equal c =
     let g = good_ids _ _ c.requires.0 in
     let r = c.compare_row.ensures in
-    halved_found _ _ _ _ _ g _ _ _ c.loop-low.invariant (omega arith) (omega arith) _ r c.in-Same.is
+    halved_found _ _ _ _ _ g _ _ _ c.loop-low.invariant (omega arith) (omega arith) _ r c.in-Equal.is
 
-pub loop-low-preserved-in-Before : goal.loop-low-preserved-in-Before
-loop-low-preserved-in-Before c =
+pub loop-low-preserved-in-Less : goal.loop-low-preserved-in-Less
+loop-low-preserved-in-Less c =
     let g = good_ids _ _ c.requires.0 in
     let r = c.compare_row.ensures in
-    halved_up _ _ _ _ _ g _ _ _ c.loop-low.invariant (omega arith) (omega arith) _ r c.in-Before.is
+    halved_up _ _ _ _ _ g _ _ _ c.loop-low.invariant (omega arith) (omega arith) _ r c.in-Less.is
 
 pub loop-low-preserved : goal.loop-low-preserved
 loop-low-preserved c =
     let g = good_ids _ _ c.requires.0 in
     let r = c.compare_row.ensures in
-    halved_down _ _ _ _ _ g _ _ _ c.loop-low.invariant (omega arith) (omega arith) _ r c.in-After.is
+    halved_down _ _ _ _ _ g _ _ _ c.loop-low.invariant (omega arith) (omega arith) _ r c.in-Greater.is
 
 pub returns : goal.returns
 returns c = halved_all _ _ _ _ _ (good_ids _ _ c.requires.0) _ _ c.loop-low.invariant c.loop-low-test.false

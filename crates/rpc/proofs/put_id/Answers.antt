@@ -1,10 +1,11 @@
 -- `rpc::put_id` meets its contract. Assumes nothing.
 use Rattle.index.proofs.Kit.{arith}
+use Rattle.message_ids.proofs.TableLaws.{table_parts}
 use Rattle.rpc.proofs.ListLaws.{id_puts}
 use Rattle.rpc.proofs.put_id.Goals as goal
 
 pub row_of-row-requires : goal.row_of-row-requires
-row_of-row-requires c = (c.requires.0, omega arith)
+row_of-row-requires c = ((table_parts _ _ _ c.args.table.now.accepted).0, omega arith)
 
 pub returns : goal.returns
 returns c =

@@ -1,7 +1,6 @@
 -- `rpc::read`: 8, then 2 of the table, then the length; what is read is what the two passes find and write. Assumes nothing.
 use mathlib.Core.Path.{sym, ◌∙◌}
-use Rattle.message_ids.proofs.TableLaws.{table_parts}
-use Rattle.rpc.proofs.ReadLaws.{reads_short, reads_table, reads_long, count_few, reads_torn, reads_done}
+use Rattle.rpc.proofs.ReadLaws.{reads_short, reads_table, reads_long, count_few, reads_done, refused}
 use Rattle.rpc.proofs.read.Goals as goal
 
 pub returns-then-list-lt-LIST_NUMBERS : goal.returns-then-list-lt-LIST_NUMBERS
@@ -14,31 +13,27 @@ pub returns-then-s-gt-MESSAGE_BYTES : goal.returns-then-s-gt-MESSAGE_BYTES
 returns-then-s-gt-MESSAGE_BYTES c = reads_long _ _ _ _ c.if-list-lt-LIST_NUMBERS.false (sym c.table_ok.ensures ∙ c.if-not-table_ok.false)
     c.if-s-gt-MESSAGE_BYTES.true
 
+pub returns-in_err-n : goal.returns-in_err-n
+returns-in_err-n c =
+    let i = c.if-list-lt-LIST_NUMBERS.false in
+    let k = sym c.table_ok.ensures ∙ c.if-not-table_ok.false in
+    let j = c.if-s-gt-MESSAGE_BYTES.false in
+    refused _ _ _ _ i k j _ _ c.check_message.ensures c.in_err-n.was _ c.from_residual.ensures.1
+
+pub invariant_of-table : goal.invariant_of-table
+invariant_of-table c = record { accepted = sym c.table_ok.ensures ∙ c.if-not-table_ok.false }
+
+pub invariant_of-t : goal.invariant_of-t
+invariant_of-t c = record { eight = c.requires }
+
 pub fill-requires : goal.fill-requires
 fill-requires c =
-    let q = c.requires
-    in
-    let k = sym c.table_ok.ensures ∙ c.if-not-table_ok.false in
     let j = c.if-s-gt-MESSAGE_BYTES.false in
-    let e = c.check_rpc.ensures in
-    let n = c.in-Entries.is in
-    ((q, (table_parts _ _ _ k).0), (j, count_few _ _ _ j e n))
+    (j, count_few _ _ _ j c.check_message.ensures c.in_ok-n.was)
 
-pub returns-in-Cut : goal.returns-in-Cut
-returns-in-Cut c =
+pub returns : goal.returns
+returns c =
     let i = c.if-list-lt-LIST_NUMBERS.false in
     let k = sym c.table_ok.ensures ∙ c.if-not-table_ok.false in
     let j = c.if-s-gt-MESSAGE_BYTES.false in
-    let e = c.check_rpc.ensures in
-    let q = c.in-Cut.is in
-    reads_torn _ _ _ _ i k j _ _ e q
-
-pub returns-in-Entries : goal.returns-in-Entries
-returns-in-Entries c =
-    let i = c.if-list-lt-LIST_NUMBERS.false in
-    let k = sym c.table_ok.ensures ∙ c.if-not-table_ok.false in
-    let j = c.if-s-gt-MESSAGE_BYTES.false in
-    let e = c.check_rpc.ensures in
-    let n = c.in-Entries.is in
-    let r = c.fill.ensures in
-    reads_done _ _ _ _ i k j _ _ _ _ e n r
+    reads_done _ _ _ _ i k j _ _ _ _ c.check_message.ensures c.in_ok-n.was c.fill.ensures

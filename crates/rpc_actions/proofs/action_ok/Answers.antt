@@ -3,4 +3,4 @@ use Rattle.rpc_actions.proofs.ActionLaws.{one_is}
 use Rattle.rpc_actions.proofs.action_ok.Goals as goal
 
 pub returns : goal.returns
-returns c = one_is _ _ _ _ c.wide-k.ensures
+returns c = one_is _ _ _ _ c.from-k.ensures

@@ -10,8 +10,8 @@ pub loop-i-preserved : goal.loop-i-preserved
 loop-i-preserved c =
     let l = c.loop-i in
     let a = c.args in
-    let k = c.wide-kind.ensures in
-    let t = c.wide-third.ensures in
+    let k = c.from-kind.ensures in
+    let t = c.from-third.ensures in
     let x = c.if_notice.ensures in
     let y = c.if_notice-in-loop-i.ensures in
     (omega arith, action_more a.actions.now a.topics.now _ a.c l.i _ _ _ _ _ _ l.invariant.1 k t x y c.put_triple.ensures)

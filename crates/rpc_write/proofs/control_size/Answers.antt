@@ -21,7 +21,6 @@ overflow_add-result-2 c = omega (arith, c.kind_size-a.ensures.1, c.kind_size-b.e
 
 pub returns : goal.returns
 returns c =
-    let q = c.requires in
     let e = control_length _ _ _ _ _ _ c.kind_size-a.ensures.0 c.kind_size-b.ensures.0
     c.notices_size.ensures.0 in
-    (e, control_long _ _ _ _ _ q.0 q.1 e)
+    (e, control_long _ _ _ _ _ c.args.t.now.table.accepted c.requires e)

@@ -2,8 +2,5 @@
 use Rattle.rpc_write.proofs.WriteLaws.{entry_is}
 use Rattle.rpc_write.proofs.entry_ok.Goals as goal
 
-pub notice_ok-requires : goal.notice_ok-requires
-notice_ok-requires c = c.requires
-
 pub returns : goal.returns
-returns c = entry_is _ _ _ _ _ _ _ c.named_ok.ensures c.notice_ok.ensures
+returns c = entry_is _ _ _ _ _ _ _ c.named_ok.ensures c.notice_ok.ensures _

@@ -1,45 +1,21 @@
 use Rattle.index.proofs.Kit.{arith}
-use Rattle.rpc.specs.Reading.{known}
+use Rattle.rpc_write.specs.Tables.{known_by}
 use Rattle.rpc_write.proofs.WriteLaws.{good, length_none, length_more, length_all}
 use Rattle.rpc_write.proofs.kind_size.Goals as goal
 
 pub loop-i-init : goal.loop-i-init
 loop-i-init c = let a = c.args in
-    (omega arith, (omega arith, length_none (known a.names.now a.ids.now a.numbers.now) a.list.now a.kind a.number))
+    (omega arith, (omega arith, length_none (known_by a.t.now) a.list.now a.kind a.number))
 
-pub overflow_mul-j : goal.overflow_mul-j
-overflow_mul-j c = let g = good _ _ _ c.requires.0.1 in omega arith
-
-pub offset_bounds-list-j : goal.offset_bounds-list-j
-offset_bounds-list-j c = let g = good _ _ _ c.requires.0.1 in omega arith
-
-pub bounds-list-j : goal.bounds-list-j
-bounds-list-j c = let g = good _ _ _ c.requires.0.1 in omega arith
-
-pub overflow_add-j : goal.overflow_add-j
-overflow_add-j c = let g = good _ _ _ c.requires.0.1 in omega arith
-
-pub offset_bounds-list-j-in-loop-i : goal.offset_bounds-list-j-in-loop-i
-offset_bounds-list-j-in-loop-i c = let g = good _ _ _ c.requires.0.1 in omega arith
-
-pub bounds-list-j-in-loop-i : goal.bounds-list-j-in-loop-i
-bounds-list-j-in-loop-i c = let g = good _ _ _ c.requires.0.1 in omega arith
-
-pub overflow_add-j-in-loop-i : goal.overflow_add-j-in-loop-i
-overflow_add-j-in-loop-i c = let g = good _ _ _ c.requires.0.1 in omega arith
-
-pub offset_bounds-list-j-in-loop-i-2 : goal.offset_bounds-list-j-in-loop-i-2
-offset_bounds-list-j-in-loop-i-2 c = let g = good _ _ _ c.requires.0.1 in omega arith
-
-pub bounds-list-j-in-loop-i-2 : goal.bounds-list-j-in-loop-i-2
-bounds-list-j-in-loop-i-2 c = let g = good _ _ _ c.requires.0.1 in omega arith
+pub entry_at-requires : goal.entry_at-requires
+entry_at-requires c = let g = good _ _ _ c.requires.0 in let r = g.room in omega arith
 
 pub one_size-size-requires : goal.one_size-size-requires
-one_size-size-requires c = let q = c.requires in let g = good _ _ _ q.0.1 in
-    (q.0.0, (g.little _ c.loop-i-test.true, q.1))
+one_size-size-requires c = let q = c.requires in let g = good _ _ _ q.0 in
+    rw c.entry_at.ensures (g.little _ c.loop-i-test.true, q.1)
 
 pub overflow_add-size : goal.overflow_add-size
-overflow_add-size c = let g = good _ _ _ c.requires.0.1 in omega
+overflow_add-size c = let g = good _ _ _ c.requires.0 in omega
     (arith, c.one_size-size.ensures.1, c.loop-i.invariant.1.0)
 
 pub loop-i-preserved : goal.loop-i-preserved
@@ -48,13 +24,13 @@ loop-i-preserved c = let l = c.loop-i in let a =
       omega arith,
       (
         omega (arith, c.one_size-size.ensures.1, l.invariant.1.0),
-        length_more (known a.names.now a.ids.now a.numbers.now) a.list.now a.kind
-            a.number _ _ _ l.invariant.1.1 c.one_size-size.ensures.0,
+        length_more (known_by a.t.now) a.list.now a.kind
+            a.number _ _ _ l.invariant.1.1 (rw c.entry_at.ensures at c.one_size-size.ensures.0),
       ),
     )
 
 pub returns : goal.returns
-returns c = let g = good _ _ _ c.requires.0.1 in let l = c.loop-i in let a =
+returns c = let g = good _ _ _ c.requires.0 in let l = c.loop-i in let a =
     c.args in
-    length_all (known a.names.now a.ids.now a.numbers.now) a.list.now a.kind a.number _ _ _ l.invariant.0
+    length_all (known_by a.t.now) a.list.now a.kind a.number _ _ _ l.invariant.0
     c.loop-i-test.false g.few l.invariant.1.0 l.invariant.1.1

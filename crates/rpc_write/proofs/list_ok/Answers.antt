@@ -12,12 +12,9 @@ returns-then-list-n c = list_short _ _ _ c.if-n-gt-MOST_ENTRIES.false c.if-list-
 pub loop-i-init : goal.loop-i-init
 loop-i-init c = (omega arith, every_none _)
 
-pub entry_ok-requires : goal.entry_ok-requires
-entry_ok-requires c = c.requires
-
 pub returns-then-not-entry_ok : goal.returns-then-not-entry_ok
 returns-then-not-entry_ok c =
-    let e = sym (c.entry_ok.ensures _) ∙ c.if-not-entry_ok.true in
+    let e = sym (rw c.entry_at.ensures at c.entry_ok.ensures) ∙ c.if-not-entry_ok.true in
     list_bad _ _ _ c.if-n-gt-MOST_ENTRIES.false
     c.if-list-n.false _ c.loop-i-test.true
     e
@@ -26,7 +23,7 @@ pub loop-i-preserved : goal.loop-i-preserved
 loop-i-preserved c = (
   omega arith,
   every_more _ _ c.loop-i.invariant.1
-      (sym (c.entry_ok.ensures _) ∙ c.if-not-entry_ok.false),
+      (sym (rw c.entry_at.ensures at c.entry_ok.ensures) ∙ c.if-not-entry_ok.false),
 )
 
 pub returns : goal.returns
