@@ -1,6 +1,6 @@
 -- `gossip_peers::tell::tell_first`: before turn i the actions on the slots of the set among the first i of the order are written, no more
 -- of them than are asked for.
-use Rattle.index.proofs.Kit.{◌≡◌, ◌-◌, ◌≤◌}
+use Rattle.index.proofs.Kit.{◌≡◌, ◌≤◌}
 use lib.ListN.{length}
 use Rattle.layout.specs.View.{state_of}
 use Rattle.words.specs.Words.{bits_of}
@@ -14,6 +14,3 @@ invariant-loop-i l =
     × (l.i-end ≡ length l.order)
     × (l.n ≤ l.most)
     × Tells (picked_to (state_of l.table) (bits_of l.set) l.order l.i) l.initial.actions l.actions l.n
-
-abbrev pub decreases-loop-i : goal.decreases-loop-i
-decreases-loop-i l = length l.order - l.i
