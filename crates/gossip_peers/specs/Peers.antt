@@ -1,7 +1,7 @@
 -- What the calls of orders 6 and 7 read of 01's table alone, in halves that words by slot, or another region, answer; and what the
 -- functions on it rely on. No public call asks that of its caller.
 use Rattle.std.specs.Prelude.{Option, Some, None}
-use Rattle.std.specs.Prelude.{ℕ, ◌≤◌, ◌≡◌, Bool, true, false, not, ◌&&◌, ◌||◌, List, eqb, pos, ◌*ℤ◌, length}
+use Rattle.std.specs.Prelude.{ℕ, ◌≤◌, ◌<◌, ◌≡◌, Bool, true, false, not, ◌&&◌, ◌||◌, List, eqb, pos, ◌*ℤ◌, length}
 use Rattle.std.proofs.lemmas.List.Edits.{sets}
 use Rattle.std.specs.Int.Signed.{lt_z}
 use Rattle.varint.specs.Codes.{number_of}
@@ -16,6 +16,11 @@ use Rattle.rules.specs.Step.{action_room}
 use Rattle.gossip.specs.Step.{notice_version}
 use Rattle.peer_score.specs.Standing.{Standing}
 use Rattle.peer_score.specs.Buckets.{Counted}
+
+-- ---- a test of slots
+-- post, what a test may answer at a slot, is what f says
+abbrev pub Tests : (ℕ → Bool → Type 0) → (ℕ → Bool) → Type 0
+Tests post f = (s : ℕ) (b : Bool) → s < slot_count → post s b → b ≡ f s
 
 -- ---- senders
 abbrev pub is_found : Option ℕ → Bool

@@ -5,5 +5,6 @@
 pub mod reclaim;
 pub mod relays;
 pub mod senders;
+pub mod sift;
 pub mod targets;
 pub mod tell;

@@ -10,13 +10,14 @@ ghost use Rattle.peer_score.specs.Buckets.{Among};
 ghost use Rattle.gossip.specs.Step.{is_target};
 ghost use Rattle.gossip_peers.specs.Peers.{is_low, Grouped};
 
+use crate::sift::sift;
 use effects::slots::load_magnitude;
 use peer_score::buckets::{BUCKETS, count_groups, score_among};
 use peer_score::weights::weights;
-use records::{SLOTS, TOPICS, param};
+use records::{TOPICS, param};
 use score::sums::is_below;
 use sets::{both, except, size};
-use words::{WORDS, next, put};
+use words::WORDS;
 
 // Who may be a target but for the score: connected, subscribed, not explicit and no member.
 fn outsiders(table: &[u64], topic: usize) -> [u64; WORDS]
@@ -62,15 +63,7 @@ fn without_low(
     let w2 = weights(table, param::W2);
     let w3b = weights(table, param::W3B);
     let w4 = weights(table, param::W4);
-    let mut r = all;
-    let mut slot = next(&all, 0);
-    while slot < SLOTS as u64 {
-        let low = is_low(table, heads, same, others, &w2, &w3b, &w4, slot as usize);
-        let more = put(r, slot, !low);
-        r = more;
-        slot = next(&all, slot + 1);
-    }
-    r
+    sift(all, |slot| !is_low(table, heads, same, others, &w2, &w3b, &w4, slot))
 }
 
 // The targets of a topic: the outsiders, each asked for its score. The connected peers are counted by group once, and where there is no
