@@ -16,6 +16,8 @@ use Rattle.rules.specs.Step.{action_room}
 use Rattle.gossip.specs.Step.{notice_version}
 use Rattle.peer_score.specs.Standing.{Standing}
 use Rattle.peer_score.specs.Buckets.{Counted}
+use Rattle.gossip_peers.specs.declared.tell.Kind.{Kind}
+use Rattle.gossip_peers.specs.declared.tell.Kind.TheVariants.{Ask, Send, Ihave}
 
 -- ---- a test of slots
 -- post, what a test may answer at a slot, is what f says
@@ -55,7 +57,14 @@ pub record Grouped (table heads same others : List ℕ) : Type 0 where
   pub standing : Standing table
   pub buckets : Counted table heads same others
 
--- ---- actions in the lent list: l' is l with them from its start on, and n is how many they are
+-- ---- actions
+-- an action's number of what it tells
+abbrev pub kind_number : Kind → ℕ
+kind_number Ask = 3
+kind_number Send = 4
+kind_number Ihave = 5
+
+-- in the lent list: l' is l with them from its start on, and n is how many they are
 pub record Tells (acts : List Action) (l l' : List ℕ) (n : ℕ) : Type 0 where
   pub list : l' ≡ sets l 0 (numbers_of acts)
   pub many : n ≡ length acts

@@ -1,10 +1,9 @@
 // Who is announced to: the targets of a topic's IHAVEs.
-ghost use Rattle.std.specs.Prelude.{◌≡◌, not, ◌&&◌, ℕ, ◌<◌};
+ghost use Rattle.std.specs.Prelude.{◌≡◌, not, ◌&&◌};
 ghost use Rattle.records.specs.Records.{slot_count};
 ghost use Rattle.layout.specs.View.{state_of};
 ghost use Rattle.words.specs.Words.{bits_of};
 ghost use Rattle.sets.specs.Sets.{at, by_slot};
-ghost use Rattle.heartbeat.specs.Ready.{is_eligible};
 ghost use Rattle.peer_score.specs.Standing.{TopicStanding};
 ghost use Rattle.peer_score.specs.Buckets.{Among};
 ghost use Rattle.gossip.specs.Step.{is_target};
@@ -12,24 +11,13 @@ ghost use Rattle.gossip_peers.specs.Peers.{is_low, Grouped};
 
 use crate::sift::sift;
 use effects::slots::load_magnitude;
+use heartbeat::seen::eligible;
 use peer_score::buckets::{BUCKETS, count_groups, score_among};
 use peer_score::weights::weights;
 use records::{TOPICS, param};
 use score::sums::is_below;
-use sets::{both, except, size};
+use sets::size;
 use words::WORDS;
-
-// Who may be a target but for the score: connected, subscribed, not explicit and no member.
-fn outsiders(table: &[u64], topic: usize) -> [u64; WORDS]
-    requires { TopicStanding table.now topic }
-    ensures { (s : ℕ) → s < slot_count → at (bits_of result) s ≡ is_eligible (state_of table.now) topic s }
-{
-    let connected = layout::load_connected(table);
-    let subscribed = layout::load_subscribed(table, topic);
-    let explicit = layout::load_explicit(table);
-    let members = layout::load_members(table, topic);
-    except(except(both(connected, subscribed), explicit), members)
-}
 
 // Whether the score of the peer in a slot is below the gossip threshold.
 fn is_low(
@@ -66,13 +54,13 @@ fn without_low(
     sift(all, |slot| !is_low(table, heads, same, others, &w2, &w3b, &w4, slot))
 }
 
-// The targets of a topic: the outsiders, each asked for its score. The connected peers are counted by group once, and where there is no
-// outsider not at all.
+// The targets of a topic: those that the heartbeat might graft, each asked for its score. The connected peers are counted by group once,
+// and where nobody is eligible not at all.
 pub fn targets(table: &[u64], topic: usize) -> [u64; WORDS]
     requires { TopicStanding table.now topic }
     ensures { bits_of result ≡ by_slot slot_count (is_target (state_of table.now) topic) }
 {
-    let all = outsiders(table, topic);
+    let all = eligible(table, topic);
     if size(all) == 0 {
         return all;
     }

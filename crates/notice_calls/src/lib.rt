@@ -18,12 +18,13 @@ use gate::{id_ok, time_ok, topic_ok};
 use gossip_gate::{NOT_CONNECTED, admit, finish, ignore, sender_ok};
 use gossip_peers::relays::{asked, relayed};
 use gossip_peers::senders::{is_heeded, sender_known};
-use gossip_peers::tell::{ASK, SEND, tell};
+use gossip_peers::sift::sift;
+use gossip_peers::tell::{Kind, tell};
 use gossip_table::GOSSIP_CELLS;
 use gossip_table::noted::{has_room, holds, put};
 use layout::CELLS;
 use lookup::find::find_connected;
-use records::{ACTION_ROOM, SLOTS};
+use records::ACTION_ROOM;
 use words::WORDS;
 
 // 3 for an unknown sender, 11 outside a joined topic, or the notices.
@@ -46,7 +47,7 @@ fn ask_from(
         return ignore(table, time);
     }
     let set = asked(table, topic, sender);
-    let n = tell(table, ASK, &set, actions);
+    let n = tell(table, Kind::Ask, &set, actions);
     finish(table, time, n, 0)
 }
 
@@ -129,14 +130,7 @@ fn without_holders(gossip: &[u64], all: [u64; WORDS], number: u64) -> [u64; WORD
     ensures { bits_of result
         ≡ by_slot slot_count (λ s. at (bits_of all) s && not (holds_of (note_in (gossip_of gossip.now) s) number)) }
 {
-    let mut r = all;
-    let mut slot = words::next(&all, 0);
-    while slot < SLOTS as u64 {
-        let more = words::put(r, slot, !holds(gossip, slot as usize, number));
-        r = more;
-        slot = words::next(&all, slot + 1);
-    }
-    r
+    sift(all, |slot| !holds(gossip, slot, number))
 }
 
 // The same tests, and the message to whom it is passed on.
@@ -162,7 +156,7 @@ fn relay_from(
     }
     let all = relayed(table, topic, sender);
     let set = without_holders(gossip, all, number);
-    let n = tell(table, SEND, &set, actions);
+    let n = tell(table, Kind::Send, &set, actions);
     finish(table, time, n, 0)
 }
 

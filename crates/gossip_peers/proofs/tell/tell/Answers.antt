@@ -3,6 +3,7 @@ use Rattle.index.proofs.Kit.{◌≡◌, ap, ◌∙◌, arith}
 use Rattle.records.specs.Records.{slot_count}
 use Rattle.layout.specs.View.{state_of}
 use Rattle.words.specs.Words.{bits_of}
+use Rattle.gossip_peers.specs.Peers.{kind_number}
 use Rattle.gossip_peers.proofs.TellLaws.{tell_to, told_few, told_none, told_more, told_skip, told_all, tells_none}
 use Rattle.gossip_peers.proofs.TellLaws.{tells_size, tells_as, tells_more}
 use Rattle.gossip_peers.proofs.tell.tell.Goals as goal
@@ -17,8 +18,8 @@ loop-slot-init c =
       n.most,
       n.here,
       tells_as
-          (told_none (state_of a.table.now) a.kind (bits_of a.set.now)
-          ∙ told_skip (state_of a.table.now) a.kind (bits_of a.set.now) 0 _ n.later n.none)
+          (told_none (state_of a.table.now) (kind_number a.kind) (bits_of a.set.now)
+          ∙ told_skip (state_of a.table.now) (kind_number a.kind) (bits_of a.set.now) 0 _ n.later n.none)
           (tells_none a.actions.now),
     )
 
@@ -29,7 +30,7 @@ tell_slot-requires c =
     let l = c.loop-slot in
     let t = c.loop-slot-test.true in
     let w = l.invariant.2 in
-    let f = told_few (state_of a.table.now) a.kind (bits_of a.set.now) l.slot in
+    let f = told_few (state_of a.table.now) (kind_number a.kind) (bits_of a.set.now) l.slot in
     let z = tells_size w in
     record { slot_standing = record { standing = p.standing; slot = t }; n_in_bounds = omega (arith, p.room, w.many) }
 
@@ -39,7 +40,7 @@ overflow_add-n c =
     let l = c.loop-slot in
     let t = c.loop-slot-test.true in
     let w = l.invariant.2 in
-    let f = told_few (state_of a.table.now) a.kind (bits_of a.set.now) l.slot in
+    let f = told_few (state_of a.table.now) (kind_number a.kind) (bits_of a.set.now) l.slot in
     omega (arith, w.many)
 
 pub next-slot-requires-in-loop-slot : goal.next-slot-requires-in-loop-slot
@@ -62,7 +63,7 @@ loop-slot-preserved c =
       n.most,
       n.here,
       tells_as
-          (told_more st a.kind m l.slot (l.invariant.1 t) ∙ told_skip st a.kind m _ _ n.later n.none)
+          (told_more st (kind_number a.kind) m l.slot (l.invariant.1 t) ∙ told_skip st (kind_number a.kind) m _ _ n.later n.none)
           (tells_more _ _ a.actions.now l.actions _ l.n l.invariant.2 c.tell_slot.ensures),
     )
 
@@ -77,5 +78,5 @@ returns c f e =
     let z : l.slot ≡ slot_count = omega (arith, l.invariant.0) in
     let st = state_of a.table.now in
     let m = bits_of a.set.now in
-    tells_as (ap (tell_to st a.kind m) z ∙ told_all st a.kind m f e)
+    tells_as (ap (tell_to st (kind_number a.kind) m) z ∙ told_all st (kind_number a.kind) m f e)
     l.invariant.2
