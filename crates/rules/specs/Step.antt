@@ -1,6 +1,5 @@
 -- What each call answers and leaves: 01's order of tests once (12, 2, 8, 1, then 6, 7, 3, 4, 5, 11), then the effects case by case.
 use Rattle.std.specs.Prelude.{Option, Some, None, Result, Ok, Err}
-use Rattle.std.specs.Prelude.{Unit, tt}
 use Rattle.std.specs.Prelude.{ℕ, ◌+◌, ◌*◌, min, Bool, cond, not, ◌&&◌, ◌||◌, List, [], ◌∷◌, map, get_or, eqb, leb, pos, nat_abs, ◌+ℤ◌, ◌*ℤ◌}
 use Rattle.std.specs.Int.Signed.{lt_z}
 use Rattle.index.specs.Index.{iter, gather}
@@ -21,6 +20,7 @@ use Rattle.mesh.specs.declared.Degrees.{Degrees}
 use Rattle.mesh.specs.Maintenance.{View}
 use Rattle.mesh.specs.Maintenance.{Meshes}
 use Rattle.mesh.specs.Maintenance.{Action as Told, zero_score, meshes, changes_of, actions_of}
+use Rattle.rules.specs.declared.Answer.{Answer}
 use Rattle.rules.specs.declared.Answer.TheVariants.{Scored, Early, OutOfRange, NotConnected, AlreadyConnected, NoSlot}
 use Rattle.rules.specs.declared.Answer.TheVariants.{UnknownProtocol, NotPermutation, ListShort, NotRouter}
 use Rattle.rules.specs.declared.Sender.{Sender}
