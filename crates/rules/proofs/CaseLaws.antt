@@ -1,7 +1,6 @@
 -- A reply by the tests that come first: the gate, and the search for the peer; and what the ranges say of the arguments.
 -- Assumes nothing.
 use Rattle.std.proofs.Common.{Option, Some, None, Result, Ok, Err}
-use Rattle.std.proofs.Common.{Unit, tt}
 use Prim.Native.Nat.{ℕ, ◌<◌}
 use native.Mathlib.Omega.{arith}
 use mathlib.Core.Path.{◌≡◌, refl}

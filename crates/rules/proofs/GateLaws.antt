@@ -1,7 +1,6 @@
 -- The tests 12, 2, 8, 1: what each end of the gate says, and what is known behind it.
 -- Assumes nothing.
 use Rattle.std.proofs.Common.{Ok, Err}
-use Rattle.std.proofs.Common.{tt}
 use Prim.Native.Nat.{ℕ, ◌≤◌, ◌<◌}
 use mathlib.Core.Path.{◌≡◌}
 use mathlib.Core.Bool.{Bool, true, false}
