@@ -1,7 +1,6 @@
 -- What a delivery comes to at each of its ends.
 -- Assumes nothing.
 use Rattle.std.proofs.Common.{Result, Ok}
-use Rattle.std.proofs.Common.{Unit, tt}
 use Rattle.rules.specs.declared.Answer.{Answer}
 use Prim.Native.Nat.{ℕ, ◌<◌, ◌≤◌}
 use mathlib.Core.Path.{◌≡◌, refl, sym, ap₂, ◌∙◌}

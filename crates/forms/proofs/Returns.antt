@@ -1,7 +1,6 @@
 -- Each form turned into the other and back; and the calls, from their promise alone.
 -- Assumes nothing.
 use Rattle.std.proofs.Common.{Ok, Err}
-use Rattle.std.proofs.Common.{tt}
 use Rattle.forms.specs.declared.TurnError.TheVariants.{NotRouter}
 use Prim.Native.Nat.{ℕ}
 use mathlib.Core.Path.{◌≡◌, refl, sym, ap, ◌∙◌}

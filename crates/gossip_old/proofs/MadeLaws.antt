@@ -4,7 +4,6 @@ use Rattle.saves.specs.declared.LoadError.{LoadError}
 use Rattle.saves.specs.declared.LoadError.TheVariants.{OutOfRange as LoadedOutOfRange}
 use Rattle.gossip_old.specs.declared.MakeError.TheVariants.{OutOfRange}
 use Rattle.std.proofs.Common.{Option, Some, None, Result, Ok, Err}
-use Rattle.std.proofs.Common.{Unit, tt}
 use Rattle.lookup.specs.declared.FreshError.{FreshError}
 use Rattle.lookup.specs.declared.FreshError.TheVariants.{Broken as MadeBroken}
 use Rattle.index.proofs.Kit.{ℕ, ◌≡◌, refl, sym, ap, ◌∙◌, Bool, true, false, arith}

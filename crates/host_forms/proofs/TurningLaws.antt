@@ -1,7 +1,6 @@
 -- From what the turning of a table promises to what a host gets: the answer as one number; and there and back again.
 -- Assumes nothing.
 use Rattle.std.proofs.Common.{Result}
-use Rattle.std.proofs.Common.{Unit}
 use Rattle.forms.specs.declared.TurnError.{TurnError}
 use Prim.Native.Nat.{ℕ}
 use mathlib.Core.Path.{◌≡◌, refl, sym, ap, ◌∙◌}

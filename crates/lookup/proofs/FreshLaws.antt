@@ -1,7 +1,6 @@
 -- Laws of a fresh router: its codes, the ends of `fresh`, and that it is a router's.
 -- Assumes nothing.
 use Rattle.std.proofs.Common.{Option, Some, None, Ok, Err}
-use Rattle.std.proofs.Common.{tt}
 use Rattle.lookup.specs.declared.FreshError.TheVariants.{Broken}
 use Rattle.index.proofs.Kit.{ℕ, ◌<◌, ◌≤◌, ◌≡◌, refl, ap, ◌∙◌, true, arith, by_order}
 use mathlib.Core.List.{List, map}

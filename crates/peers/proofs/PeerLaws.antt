@@ -1,7 +1,6 @@
 -- What the four calls come to at each of their ends.
 -- Assumes nothing.
 use Rattle.std.proofs.Common.{Option, Some, None, Result, Ok}
-use Rattle.std.proofs.Common.{Unit, tt}
 use Rattle.rules.proofs.ConnectLaws.{by_connect}
 use Prim.Native.Nat.{ℕ, ◌<◌, ◌≤◌}
 use mathlib.Core.Path.{◌≡◌, refl, sym, ap, ap₂, ◌∙◌}

@@ -1,11 +1,9 @@
 -- The ends of the tests of a load.
 -- Assumes nothing.
 use Rattle.std.proofs.Common.{Ok, Err}
-use Rattle.std.proofs.Common.{tt}
 use Rattle.saves.specs.declared.LoadError.{LoadError}
 use Rattle.saves.specs.declared.LoadError.TheVariants.{Malformed, OutOfRange}
 use Rattle.std.proofs.Common.{Option, Some, None, Result}
-use Rattle.std.proofs.Common.{Unit}
 use Rattle.lookup.specs.declared.FreshError.{FreshError}
 use Prim.Native.Nat.{ℕ, ◌*◌, ◌%◌, ◌<◌, ◌≤◌}
 use native.Mathlib.Omega.{arith}

@@ -1,7 +1,6 @@
 -- The ends of `feed`: what each way through the code comes to.
 -- Assumes nothing.
 use Rattle.std.proofs.Common.{Option, Result, Ok, Err}
-use Rattle.std.proofs.Common.{Unit}
 use Rattle.params_bytes.specs.declared.ReadError.{ReadError}
 use Rattle.params_bytes.specs.declared.ReadError.TheVariants.{Broken, Malformed}
 use Rattle.lookup.specs.declared.FreshError.{FreshError}

@@ -5,7 +5,6 @@ use Rattle.trace_step.specs.declared.EventError.{EventError}
 use Rattle.trace_step.specs.declared.EventError.TheVariants.{CutShort, Malformed, Unknown}
 use Rattle.trace_run.specs.declared.RecordError.TheVariants.{Refused}
 use Rattle.std.proofs.Common.{Option, Some, None, Result, Ok, Err}
-use Rattle.std.proofs.Common.{Unit, tt}
 use Rattle.lookup.specs.declared.FreshError.{FreshError}
 use Rattle.lookup.specs.declared.FreshError.TheVariants.{Broken}
 use Prim.Native.Nat.{ℕ, zero, suc, ◌+◌, ◌-◌, ◌<◌, ◌≤◌}

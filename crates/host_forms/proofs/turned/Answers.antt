@@ -1,6 +1,5 @@
 -- `host_forms::turned` meets its contract. Assumes nothing.
 use Rattle.std.proofs.Common.{Result}
-use Rattle.std.proofs.Common.{Unit}
 use Rattle.forms.specs.declared.TurnError.{TurnError}
 use Rattle.index.proofs.Kit.{sym, ap, ◌∙◌}
 use Rattle.answers.specs.Answers.{packed}
