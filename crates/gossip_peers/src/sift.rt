@@ -5,8 +5,8 @@ ghost use Rattle.words.specs.Words.{bits_of};
 ghost use Rattle.sets.specs.Sets.{at, by_slot};
 ghost use Rattle.gossip_peers.specs.Peers.{Tests};
 
-use records::SLOTS;
-use words::{WORDS, next, put};
+use words::slots::Slots;
+use words::{WORDS, put};
 
 // The slots of a set that pass a test. No other slot is tested.
 pub fn sift<F: Fn(usize) -> bool>(all: [u64; WORDS], passes: F) -> [u64; WORDS]
@@ -15,11 +15,9 @@ pub fn sift<F: Fn(usize) -> bool>(all: [u64; WORDS], passes: F) -> [u64; WORDS]
         bits_of result ≡ by_slot slot_count (λ s. at (bits_of all) s && f s) }
 {
     let mut r = all;
-    let mut slot = next(&all, 0);
-    while slot < SLOTS as u64 {
-        let more = put(r, slot, passes(slot as usize));
+    for slot in Slots::of(all) {
+        let more = put(r, slot as u64, passes(slot));
         r = more;
-        slot = next(&all, slot + 1);
     }
     r
 }

@@ -14,6 +14,7 @@ ghost use Rattle.gossip_peers.specs.Peers.{kind_number, Tells, Lent, Picking};
 use effects::values::later;
 use records::SLOTS;
 use sets::size;
+use words::slots::Slots;
 use words::{WORDS, at, next};
 
 // What these actions tell a peer; as a number, the kind in the list.
@@ -41,11 +42,9 @@ pub fn tell(table: &[u64], kind: Kind, set: &[u64; WORDS], actions: &mut [u32]) 
         Tells (tell_by_slot (state_of table.now) (kind_number kind) f) actions.old actions.new result }
 {
     let mut n: usize = 0;
-    let mut slot = next(set, 0);
-    while slot < SLOTS as u64 {
-        tell_slot(table, actions, n, kind, slot as usize);
+    for slot in Slots::of(*set) {
+        tell_slot(table, actions, n, kind, slot);
         n += 1;
-        slot = next(set, slot + 1);
     }
     n
 }
