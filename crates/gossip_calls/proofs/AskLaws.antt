@@ -1,6 +1,5 @@
 -- What an IHAVE and an IWANT come to at each of their ends.
 -- Assumes nothing.
-use Rattle.std.proofs.Common.{Option, Some, None}
 use Rattle.index.proofs.Kit.{ℕ, ◌+◌, ◌*◌, ◌≤◌, ◌≡◌, refl, sym, ap, ◌∙◌, Bool, true, false, not, arith}
 use mathlib.Core.Bool.{cond, ◌&&◌, ◌||◌}
 use mathlib.Core.List.{List, [], ◌∷◌, ◌++◌}
@@ -12,11 +11,9 @@ use Rattle.index.proofs.Index.{both}
 use Rattle.index.proofs.Flags.{failed, passed, cond_case}
 use Rattle.records.specs.Records.{set_clock}
 use Rattle.layout.specs.View.{clock_at, state_of}
-use Rattle.lookup.specs.Find.{find_connected}
 use Rattle.effects.specs.Effects.{is_joined}
 use Rattle.gossip.specs.Notes.{Extended, note_in, has, stored, set_note, set_replies, count_in, replied, rows_most, numbers_most}
-use Rattle.gossip.specs.Calls.{ihave, iwant}
-use Rattle.gossip.specs.Step.{FullReply, ignored_all, done_all, of_peer_all, new_effect, under_gossip, wanted, with_ihave, is_answered, ihave_reply}
+use Rattle.gossip.specs.Step.{FullReply, ignored_all, done_all, under_gossip, wanted, with_ihave, is_answered, ihave_reply}
 use Rattle.gossip.specs.Step.{is_served, iwant_reply}
 use Rattle.gossip.proofs.ListLaws.{clash}
 use Rattle.gossip_table.specs.View.{gossip_of, extended_of}
@@ -25,9 +22,8 @@ use Rattle.gossip_table.proofs.FineLaws.{fine_bounds}
 use Rattle.gossip_gate.specs.Promise.{LeavesAll}
 use Rattle.gossip_gate.specs.Admitted.{SlotAdmitted}
 use Rattle.gossip_gate.proofs.AdmittedLaws.{admitted_fine}
-use Rattle.gossip_gate.proofs.ReplyLaws.{peer_found, peer_missing, ihave_ignored, ihave_answers, iwant_ignored, iwant_serves}
-use Rattle.gossip_gate.proofs.EndLaws.{ends_ignored, ends_done, ends_missing, ends_found}
-use Rattle.gossip_gate.proofs.CallLaws.{quiet_peer}
+use Rattle.gossip_gate.proofs.ReplyLaws.{ihave_ignored, ihave_answers, iwant_ignored, iwant_serves}
+use Rattle.gossip_gate.proofs.EndLaws.{ends_ignored, ends_done}
 use Rattle.gossip_calls.specs.Asked.{Wanting, HavingAt}
 use Rattle.gossip_calls.proofs.NumberLaws.{no_numbers}
 
@@ -148,36 +144,7 @@ module _
           k.0 ∙ sym (ap (λ (o : FullReply). sets numbers 0 o.numbers) q),
         )
 
--- of a peer: 3, or its slot's reply
-module _
-    (table gossip numbers : List ℕ)
-    (id : ℕ)
-    (f : ℕ → FullReply)
-    (k : Option ℕ)
-    (e : k ≡ find_connected (state_of table) id)
-  where
-    abbrev reply : FullReply
-    reply = of_peer_all (extended_of table gossip) id f
-
-    pub asks_missing :
-        k ≡ None → LeavesAll reply 3 table table gossip gossip × (numbers ≡ sets numbers 0 reply.numbers)
-    asks_missing g = (
-      ends_missing table gossip id f k e g,
-      no_numbers numbers reply _ (peer_missing (extended_of table gossip) id f (sym e ∙ g)) refl,
-    )
-
-    pub asks_found :
-        (s r : ℕ) (table' gossip' numbers' : List ℕ) →
-        k ≡ Some s →
-        LeavesAll (f s) r table table' gossip gossip' × (numbers' ≡ sets numbers 0 (f s).numbers) →
-        LeavesAll reply r table table' gossip gossip' × (numbers' ≡ sets numbers 0 reply.numbers)
-    asks_found s r table' gossip' numbers' g h = (
-      ends_found table gossip id f k e s r table' gossip' g h.0,
-      h.1
-          ∙ sym (ap (λ (o : FullReply). sets numbers 0 o.numbers) (peer_found (extended_of table gossip) id f s (sym e ∙ g))),
-    )
-
-answer_silent : (x : Extended) (time t : ℕ) (given : List ℕ) (s : ℕ) → (ihave_reply x time t given s).actions ≡ []
+pub answer_silent : (x : Extended) (time t : ℕ) (given : List ℕ) (s : ℕ) → (ihave_reply x time t given s).actions ≡ []
 unfolding ihave_reply
 answer_silent x time t given s = go (is_answered x t s)
   where
@@ -186,10 +153,6 @@ answer_silent x time t given s = go (is_answered x t s)
         (ignored_all x time)).actions ≡ []
     go true = refl
     go false = refl
-
-pub quiet_ihave : (x : Extended) (time id t : ℕ) (given : List ℕ) (k : ℕ) → (new_effect x (ihave time id t given k)).actions ≡ []
-unfolding new_effect
-quiet_ihave x time id t given k = quiet_peer x id (ihave_reply x time t given) (answer_silent x time t given)
 
 -- ---- an IWANT
 module _
@@ -234,7 +197,7 @@ serve_fits {table} {gossip} {time} {s} a n b eb e =
     let m = (fine_bounds f.base g f.ok).1 in
     record { fine = f; slot = a.slot; kept = q.0; few = omega (arith, l, m) }
 
-serve_silent : (x : Extended) (time n s : ℕ) → (iwant_reply x time n s).actions ≡ []
+pub serve_silent : (x : Extended) (time n s : ℕ) → (iwant_reply x time n s).actions ≡ []
 unfolding iwant_reply
 serve_silent x time n s = go (is_served x n s)
   where
@@ -242,7 +205,3 @@ serve_silent x time n s = go (is_served x n s)
         ≡ []
     go true = refl
     go false = refl
-
-pub quiet_iwant : (x : Extended) (time id n : ℕ) → (new_effect x (iwant time id n)).actions ≡ []
-unfolding new_effect
-quiet_iwant x time id n = quiet_peer x id (iwant_reply x time n) (serve_silent x time n)

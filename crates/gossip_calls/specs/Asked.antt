@@ -25,13 +25,7 @@ pub record Telling (table gossip : List ℕ) (t : ℕ) (order list : List ℕ) :
   pub permutation : is_permutation slot_count order ≡ true
   pub room : action_room ≤ length list
 
--- ihave: of a peer that is not looked up yet, and of one that is
-pub record Having (table gossip : List ℕ) (time t : ℕ) (given numbers : List ℕ) : Type 0 where
-  pub admitted : Admitted table gossip time
-  pub topic : t < topic_count
-  pub few : length given ≤ numbers_most
-  pub fits : numbers_most ≤ length numbers
-
+-- ihave: of a connected peer
 pub record HavingAt (table gossip : List ℕ) (time t s : ℕ) (given numbers : List ℕ) : Type 0 where
   pub admitted : Admitted table gossip time
   pub topic : t < topic_count
