@@ -1,21 +1,23 @@
 -- What an IHAVE and an IWANT come to at each of their ends.
 -- Assumes nothing.
+use Rattle.std.proofs.Common.{Option, Some, None}
 use Rattle.index.proofs.Kit.{ℕ, ◌+◌, ◌*◌, ◌≤◌, ◌≡◌, refl, sym, ap, ◌∙◌, Bool, true, false, not, arith}
 use mathlib.Core.Bool.{cond, ◌&&◌, ◌||◌}
 use mathlib.Core.List.{List, [], ◌∷◌, ◌++◌}
 use lib.Dec.{ltb}
 use lib.ListN.{length, length-append, set}
 use lib.Seq.{sets}
-use borrow.Author.Tests.{ltb-true}
+use borrow.Author.Tests.{ltb-true, ltb-false}
 use Rattle.index.proofs.Index.{both}
-use Rattle.index.proofs.Flags.{failed, passed, cond_case}
+use Rattle.index.proofs.Flags.{by_test, failed, passed, cond_case}
 use Rattle.records.specs.Records.{set_clock}
 use Rattle.layout.specs.View.{clock_at, state_of}
 use Rattle.effects.specs.Effects.{is_joined}
-use Rattle.gossip.specs.Notes.{Extended, note_in, has, stored, set_note, set_replies, count_in, replied, rows_most, numbers_most}
+use Rattle.gossip.specs.Notes.{Extended, note_in, has, stored, set_note, set_replies, count_in, replied, numbers_most}
 use Rattle.gossip.specs.Step.{FullReply, ignored_all, done_all, under_gossip, wanted, with_ihave, is_answered, ihave_reply}
 use Rattle.gossip.specs.Step.{is_served, iwant_reply}
 use Rattle.gossip.proofs.ListLaws.{clash}
+use Rattle.stores.specs.View.{PlaceOf}
 use Rattle.gossip_table.specs.View.{gossip_of, extended_of}
 use Rattle.gossip_table.specs.Fine.{ReplyFits}
 use Rattle.gossip_table.proofs.FineLaws.{fine_bounds}
@@ -56,31 +58,50 @@ module _
     unfolding is_answered
     answered_is u eu e = rw (← ea, ← eb, ← eu) (late a u b e)
 
-served_as : (u a b : Bool) → (a && (not u && b)) ≡ (not u && (a && b))
-served_as true true b = refl
-served_as true false b = refl
-served_as false a b = refl
+with_false : (b : Bool) → (b && false) ≡ false
+with_false true = refl
+with_false false = refl
+
+with_true : (b : Bool) → b ≡ (b && true)
+with_true true = refl
+with_true false = refl
 
 module _
     (table gossip : List ℕ)
-    (n s place k m : ℕ)
-    (w : Wanting table gossip n s place)
+    (n s k m : ℕ)
+    (w : Wanting table gossip n s)
     (ek : k ≡ count_in (gossip_of gossip).replies n s)
     (em : m ≡ (gossip_of gossip).setup.replies)
   where
     abbrev x : Extended
     x = extended_of table gossip
 
-    tests : is_served x n s ≡ (ltb place rows_most && (not (under_gossip (state_of table) s) && ltb k m))
+    -- of a stored number two tests are left
+    tests : (b : Bool) → ltb k m ≡ b → is_served x n s ≡ (not (under_gossip (state_of table) s) && b)
     unfolding is_served
-    tests = rw (w.found, ek, em) (sym (served_as (under_gossip (state_of table) s) (stored (gossip_of gossip) n) _))
+    tests b e = rw (w.kept, ← ek, ← em, e)
 
-    pub served_not : not (ltb place rows_most && ltb k m) ≡ true → false ≡ is_served x n s
-    served_not e = early (ltb place rows_most) (under_gossip (state_of table) s) (ltb k m) e ∙ sym tests
+    pub served_not : m ≤ k → false ≡ is_served x n s
+    served_not l =
+        by_test _ (ltb k m)
+        (λ t. let q = ltb-true k m t in absurd (omega arith))
+        (λ f. sym (tests false f ∙ with_false (not (under_gossip (state_of table) s))))
 
-    pub served_is : (u : Bool) → u ≡ under_gossip (state_of table) s → not (ltb place rows_most && ltb k m) ≡ false → not u ≡ is_served x n s
-    served_is u eu e =
-        ap not eu ∙ late (ltb place rows_most) (under_gossip (state_of table) s) (ltb k m) e ∙ sym tests
+    pub served_is : (u : Bool) → u ≡ under_gossip (state_of table) s → (m ≤ k → ⊥) → not u ≡ is_served x n s
+    served_is u eu l =
+        by_test _ (ltb k m)
+        (λ t. ap not eu ∙ with_true (not (under_gossip (state_of table) s)) ∙ sym (tests true t))
+        (λ f. absurd (l (ltb-false k m f)))
+
+-- a number that is not stored is not answered
+pub unserved : (x : Extended) (n s : ℕ) (r : Option ℕ) → PlaceOf (stored x.gossip n) r → r ≡ None → false ≡ is_served x n s
+unfolding is_served
+unserved x n s r h e =
+    let z : stored x.gossip n ≡ false = rw e at h in
+    sym (rw z (with_false (not (under_gossip x.base s))))
+
+pub place_stored : (b : Bool) (r : Option ℕ) (p : ℕ) → PlaceOf b r → r ≡ Some p → b ≡ true
+place_stored b r p h e = let z : PlaceOf b (Some p) = rw e at h in z.0
 
 -- ---- an IHAVE
 wanted_length : (f : ℕ → Bool) (l r : List ℕ) → length (wanted f l r) ≤ length l + length r

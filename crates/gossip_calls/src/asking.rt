@@ -19,9 +19,6 @@ use gossip_table::{GOSSIP_CELLS, load_reply_bound, stored};
 use layout::CELLS;
 use records::ACTION_ROOM;
 
-// The places of the stores of all topics.
-const PLACES: usize = 2560;
-
 // Whether an IHAVE of the peer in a slot is answered. A score costs more than the other tests, and comes last.
 fn is_answered(table: &[u64], gossip: &[u64], topic: usize, slot: usize) -> bool
     requires { Answering table.now gossip.now topic slot }
@@ -90,13 +87,12 @@ pub fn ihave(
     }
 }
 
-// Whether an IWANT of the peer in a slot is answered, with a number that was found at a place. A score costs more than the other tests, and
-// comes last.
-fn is_served(table: &[u64], gossip: &[u64], number: u64, slot: usize, place: usize) -> bool
-    requires { Wanting table.now gossip.now number slot place }
+// Whether an IWANT of the peer in a slot for a stored number is answered. A score costs more than the count, and comes last.
+fn is_served(table: &[u64], gossip: &[u64], number: u64, slot: usize) -> bool
+    requires { Wanting table.now gossip.now number slot }
     ensures { result ≡ is_served (extended_of table.now gossip.now) number slot }
 {
-    if !((place < PLACES) & (stored::count(gossip, number, slot) < load_reply_bound(gossip))) {
+    if load_reply_bound(gossip) <= stored::count(gossip, number, slot) {
         return false;
     }
     !under_gossip(table, slot)
@@ -108,8 +104,10 @@ fn serve(table: &mut [u64], gossip: &mut [u64], time: u64, number: u64, slot: us
     ensures { LeavesAll (iwant_reply (extended_of table.old gossip.old) time number slot) result
         table.old table.new gossip.old gossip.new }
 {
-    let place = stored::find(gossip, number);
-    if !is_served(table, gossip, number, slot, place) {
+    let Some(place) = stored::find(gossip, number) else {
+        return ignore(table, time);
+    };
+    if !is_served(table, gossip, number, slot) {
         return ignore(table, time);
     }
     stored::reply(gossip, number, slot, place as u64);

@@ -10,7 +10,6 @@ ghost use Rattle.gossip_old.specs.Made.{MakesAll, LoadsAll};
 use crate::MakeError;
 use gossip_table::{GOSSIP_CELLS, SETUP};
 use layout::CELLS;
-use lookup::FreshError;
 use params::Params;
 use saves::LoadError;
 
@@ -42,13 +41,9 @@ pub fn fresh(
     if !setup_ok(setup) {
         return Err(MakeError::OutOfRange);
     }
-    match lookup::fresh::fresh(all, table) {
-        Err(FreshError::Broken(i)) => Err(MakeError::Broken(i)),
-        Ok(()) => {
-            make_array(setup, gossip);
-            Ok(())
-        }
-    }
+    lookup::fresh::fresh(all, table)?;
+    make_array(setup, gossip);
+    Ok(())
 }
 
 // A router of a save with parameters and set-up numbers, at a clock.
@@ -67,13 +62,7 @@ pub fn load(
     if !setup_ok(setup) {
         return Err(LoadError::OutOfRange);
     }
-    match save_load::load(all, clock, bytes, table) {
-        Ok(()) => {
-            make_array(setup, gossip);
-            Ok(())
-        }
-        Err(LoadError::OutOfRange) => Err(LoadError::OutOfRange),
-        Err(LoadError::Broken(i)) => Err(LoadError::Broken(i)),
-        Err(LoadError::Malformed(i)) => Err(LoadError::Malformed(i)),
-    }
+    save_load::load(all, clock, bytes, table)?;
+    make_array(setup, gossip);
+    Ok(())
 }

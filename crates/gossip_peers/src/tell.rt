@@ -11,7 +11,6 @@ ghost use Rattle.gossip.specs.Notes.{Setup};
 ghost use Rattle.gossip.specs.Step.{tell_one, tell_by_slot, chosen};
 ghost use Rattle.gossip_peers.specs.Peers.{kind_number, Tells, Lent, Picking};
 
-use effects::values::later;
 use records::SLOTS;
 use sets::size;
 use words::slots::Slots;
@@ -54,7 +53,7 @@ fn share(count: u64, lazy: u64, factor: u64) -> u64
     requires { (count ≤ slot_count) × (factor ≤ 1000) }
     ensures { result ≡ max lazy (count * factor / 1000) }
 {
-    later(lazy, count * factor / 1000)
+    lazy.max(count * factor / 1000)
 }
 
 // An action for each of the first `most` slots of a set in an order, or all if they are fewer.
