@@ -5,6 +5,3 @@ use Rattle.replies.proofs.blank_row.Given as goal
 
 abbrev pub invariant-loop-k : goal.invariant-loop-k
 invariant-loop-k l = (l.k ≤ 28) × Run l.initial.cells l.cells (start_of l.r) l.k (λ i. 0)
-
-abbrev pub decreases-loop-k : goal.decreases-loop-k
-decreases-loop-k l = 28 - l.k

@@ -6,6 +6,3 @@ use Rattle.replies.proofs.copy_row.Given as goal
 
 abbrev pub invariant-loop-k : goal.invariant-loop-k
 invariant-loop-k l = (l.k ≤ 28) × Run l.initial.cells l.cells (start_of l.to) l.k (λ i. get_or l.initial.cells (start_of l.from + i) 0)
-
-abbrev pub decreases-loop-k : goal.decreases-loop-k
-decreases-loop-k l = 28 - l.k

@@ -5,6 +5,3 @@ use Rattle.replies.proofs.open_rows.Given as goal
 
 abbrev pub invariant-loop-k : goal.invariant-loop-k
 invariant-loop-k l = (l.p ≤ l.k) × (l.k ≤ l.u) × Opened l.initial.cells l.cells l.k l.u
-
-abbrev pub decreases-loop-k : goal.decreases-loop-k
-decreases-loop-k l = l.k - l.p

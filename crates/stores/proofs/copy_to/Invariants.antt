@@ -7,6 +7,3 @@ use Rattle.stores.proofs.copy_to.Given as goal
 
 abbrev pub invariant-loop-k : goal.invariant-loop-k
 invariant-loop-k l = (l.k ≤ length l.from) × (l.list ≡ sets l.initial.list l.at (take l.k l.from))
-
-abbrev pub decreases-loop-k : goal.decreases-loop-k
-decreases-loop-k l = length l.from - l.k

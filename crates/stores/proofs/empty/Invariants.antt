@@ -6,6 +6,3 @@ use Rattle.stores.proofs.empty.Given as goal
 
 abbrev pub invariant-loop-w : goal.invariant-loop-w
 invariant-loop-w l = (l.w ≤ window_count) × Emptied l.initial.cells l.cells l.p l.w
-
-abbrev pub decreases-loop-w : goal.decreases-loop-w
-decreases-loop-w l = window_count - l.w

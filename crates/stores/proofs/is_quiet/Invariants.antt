@@ -6,6 +6,3 @@ use Rattle.stores.proofs.is_quiet.Given as goal
 
 abbrev pub invariant-loop-p : goal.invariant-loop-p
 invariant-loop-p l = (l.p ≤ all_windows) × (l.bits ≡ 0 → (q : ℕ) → q < l.p → count_at l.cells q ≡ 0)
-
-abbrev pub decreases-loop-p : goal.decreases-loop-p
-decreases-loop-p l = all_windows - l.p

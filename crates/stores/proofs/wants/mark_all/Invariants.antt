@@ -6,6 +6,3 @@ use Rattle.stores.proofs.wants.mark_all.Given as goal
 
 abbrev pub invariant-loop-k : goal.invariant-loop-k
 invariant-loop-k l = (l.k ≤ length l.numbers) × Seen (take l.k l.numbers) l.seen
-
-abbrev pub decreases-loop-k : goal.decreases-loop-k
-decreases-loop-k l = length l.numbers - l.k

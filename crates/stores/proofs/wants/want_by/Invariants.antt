@@ -11,6 +11,3 @@ use Rattle.stores.proofs.wants.want_by.Given as goal
 abbrev pub invariant-loop-i : goal.invariant-loop-i
 invariant-loop-i l =
     (l.i ≤ length l.numbers) × (l.size ≤ l.i) × Listed (stored_at l.cells) l.rising (wanted (stored_at l.cells) [] (take l.i l.numbers)) l.known l.initial.list l.list l.size
-
-abbrev pub decreases-loop-i : goal.decreases-loop-i
-decreases-loop-i l = length l.numbers - l.i
