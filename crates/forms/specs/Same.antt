@@ -1,6 +1,5 @@
 -- "Every call is proved to answer and act as in the old form" (02, order 10).
 use Rattle.std.specs.Prelude.{Result}
-use Rattle.std.specs.Prelude.{Unit}
 use Rattle.forms.specs.declared.TurnError.{TurnError}
 use Rattle.std.specs.Prelude.{ℕ, ◌≡◌, true, List, length}
 use Rattle.std.proofs.lemmas.List.Edits.{sets}

@@ -1,7 +1,6 @@
 -- The two forms of a table, each turned into the other (02, order 10: "a router's tables turn from each form into the other without
 -- loss").
 use Rattle.std.specs.Prelude.{Result, Ok, Err}
-use Rattle.std.specs.Prelude.{Unit, tt}
 use Rattle.forms.specs.declared.TurnError.{TurnError}
 use Rattle.forms.specs.declared.TurnError.TheVariants.{NotRouter}
 use Rattle.std.specs.Prelude.{ℕ, ◌+◌, ◌*◌, ◌/◌, ◌<◌, ◌≡◌, Bool, true, false, List, length, get_or}

@@ -1,6 +1,5 @@
 -- Making a router with an array, fresh or of a save: what is answered, and what table and array are left.
 use Rattle.std.specs.Prelude.{Result, Ok, Err}
-use Rattle.std.specs.Prelude.{Unit, tt}
 use Rattle.saves.specs.declared.LoadError.{LoadError}
 use Rattle.gossip_old.specs.declared.MakeError.{MakeError}
 use Rattle.gossip_old.specs.declared.MakeError.TheVariants.{Broken, OutOfRange}

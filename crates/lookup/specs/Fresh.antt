@@ -1,7 +1,6 @@
 -- Making a fresh router (01: "making a fresh router 9"; "The clock of a fresh router is 0."): no topic is joined and every record is empty.
 -- What stood in the lent table does not matter.
 use Rattle.std.specs.Prelude.{Option, Some, None, Result, Ok, Err}
-use Rattle.std.specs.Prelude.{Unit, tt}
 use Rattle.lookup.specs.declared.FreshError.{FreshError}
 use Rattle.lookup.specs.declared.FreshError.TheVariants.{Broken}
 use Rattle.std.specs.Prelude.{ℕ, ◌≡◌, List, map, replicate}
