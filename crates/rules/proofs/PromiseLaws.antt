@@ -1,7 +1,6 @@
 -- From what an inner function leaves to what a public call promises.
 -- Assumes nothing.
 use Rattle.std.proofs.Common.{Ok, Err}
-use Rattle.std.proofs.Common.{tt}
 use Prim.Native.Nat.{ℕ}
 use mathlib.Core.Path.{◌≡◌, refl, sym, ap, ◌∙◌}
 use mathlib.Core.Bool.{true, false≢true}
