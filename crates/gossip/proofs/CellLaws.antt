@@ -3,13 +3,15 @@
 use Prim.Native.Nat.{ℕ, zero, suc, ◌+◌, ◌-◌, ◌≤◌, ◌<◌}
 use mathlib.Core.Path.{◌≡◌, refl, sym, ap, subst, ◌∙◌}
 use mathlib.Core.Bool.{Bool, true, false, ◌&&◌, ◌||◌}
-use mathlib.Core.List.{List, [], ◌∷◌, ◌++◌}
+use mathlib.Core.List.{List, [], ◌∷◌, ◌++◌, append_assoc}
+use native.Mathlib.Nat.{zero-add}
 use native.Mathlib.Numerals.{add-one}
 use native.Mathlib.Omega.{arith}
 use lib.Bits.{bit_or, bit_and, or_add_and, and_le_l, and_le_r}
 use lib.Dec.{eqb}
 use lib.ListN.{length, get_or, set, take, drop, replicate, length-set, length-append, length-drop, get_or-append, get_or-replicate, length-replicate}
-use lib.Seq.{get_or-set_same, get_or-set_other, get_or-take, get_or-drop, get_or-append-add, length-take-le}
+use lib.Seq.{get_or-set_same, get_or-set_other, get_or-take, get_or-drop, get_or-append-add, length-take-le, drop-drop, sets}
+use Rattle.std.proofs.lemmas.List.Edits.{sets-eq}
 use borrow.Author.Tests.{eqb-true, eqb-false, eq-eqb}
 use borrow.Rule.Slice.PartMut.{put_mid, post_of}
 use Rattle.index.specs.Index.{every}
@@ -72,6 +74,17 @@ filled c ys a m n e fits is =
 -- the same of the first n cells
 pub front_filled : (c ys : List ℕ) (n : ℕ) → n ≤ length c → ys ≡ replicate (length (take n c)) 0 → Run c (ys ++ drop n c) 0 n (λ k. 0)
 front_filled c ys n fits is = filled c ys 0 n n refl (omega arith) is
+
+pub zero_run : {c d : List ℕ} {n : ℕ} → Run c d 0 n (λ k. 0) → (k : ℕ) → k < n → get_or d k 0 ≡ 0
+zero_run {d = d} f k h = ap (λ (m : ℕ). get_or d m 0) (sym (zero-add k)) ∙ f.within k h
+
+-- after a `copy_from_slice` into the part
+pub put_sets : (l ys vs : List ℕ) (a n : ℕ) → ys ≡ vs → n ≡ length vs → a + length vs ≤ length l → put_mid a n l ys ≡ sets l a vs
+put_sets l ys vs a n e f h =
+    (λ i. take a l ++ (e i ++ drop (f i) (drop a l)))
+    ∙ ap (λ (d : List ℕ). take a l ++ (vs ++ d)) (drop-drop (length vs) a l)
+    ∙ sym (append_assoc (take a l) vs (drop (a + length vs) l))
+    ∙ sym (sets-eq vs l a h)
 
 -- ---- a copy
 

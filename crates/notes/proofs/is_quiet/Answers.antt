@@ -1,7 +1,12 @@
+use mathlib.Core.Path.{sym}
 use native.Mathlib.Omega.{arith}
+use lib.Seq.{length-take-le}
 use Rattle.gossip.proofs.CellLaws.{zero_front}
 use Rattle.notes.proofs.NoteLaws.{still_at}
 use Rattle.notes.proofs.is_quiet.Goals as goal
+
+pub slice_bounds-are_zero-end : goal.slice_bounds-are_zero-end
+slice_bounds-are_zero-end c = let p = c.requires in sym (length-take-le 256 _ (omega arith))
 
 pub returns : goal.returns
 returns c e s h =
