@@ -1,11 +1,11 @@
 -- The steps of the calls: what each turn of a loop keeps, and how the rows that are left are those that the definitions say.
 -- Assumes nothing.
-use Prim.Native.Nat.{ℕ, suc, ◌+◌, ◌-◌, ◌≤◌, ◌<◌}
+use Prim.Native.Nat.{ℕ, suc, ◌+◌, ◌*◌, ◌-◌, ◌≤◌, ◌<◌}
 use mathlib.Core.Path.{◌≡◌, refl, sym, ap, ◌∙◌}
 use mathlib.Core.Logic.{◌≢◌}
 use mathlib.Core.Bool.{Bool, true, false, not}
 use mathlib.Core.List.{List, [], ◌∷◌, ◌++◌, map, append-nil}
-use native.Mathlib.Nat.{not-suc-le-zero, le_antisymm}
+use native.Mathlib.Nat.{not-suc-le-zero, le_antisymm, add-zero}
 use native.Mathlib.Numerals.{add-one}
 use native.Mathlib.Omega.{arith}
 use lib.Dec.{eqb, leb}
@@ -20,12 +20,13 @@ use Rattle.layout.specs.Rows.{tab}
 use Rattle.layout.proofs.RowLaws.{tab_same}
 use Rattle.layout.proofs.BitLaws.{by_same}
 use Rattle.gossip.specs.Notes.{Row, rows_most, count_in, first_reply, one_more, replied, ended_row, ended, also, keep}
+use Rattle.gossip.specs.Cells.{Run}
 use Rattle.gossip.specs.Valid.{rises, row_number}
-use Rattle.replies.specs.View.{replies_cells, rows_in, start_of, row_at, replies_of, Run, RowSet, Opened, blank, inserted}
+use Rattle.replies.specs.View.{replies_cells, rows_in, start_of, row_at, replies_of, RowSet, Opened, blank, inserted}
 use Rattle.replies.specs.Asked.{FlagsSay, Passed, Placed, is_row}
 use Rattle.replies.proofs.ListLaws.{number_at, replied_here, replied_new, count_here, count_none, set_inserted, get_or_inserted}
 use Rattle.replies.proofs.ListLaws.{length_inserted, tab_inserted, ended_tab, kept_of, keep_tab, gather_below, tab_end, rises_at}
-use Rattle.replies.proofs.RowLaws.{rows_length, row_load, number_load, number_is, run_more, row_set_rows, used_same}
+use Rattle.replies.proofs.RowLaws.{rows_length, row_load, number_load, number_is, row_cong, row_set_rows, used_same}
 use Rattle.replies.proofs.RowLaws.{used_is}
 
 -- ---- no row
@@ -34,47 +35,30 @@ pub no_rows : (c : List ℕ) → length c ≡ replies_cells → replies_of (set 
 unfolding replies_of
 no_rows c e = ap (λ (u : ℕ). tab u (row_at (set c 0 0))) (used_is c 0 e)
 
--- ---- a row copied, cell by cell
-
-pub copy_more :
-    (c d : List ℕ) (from to k : ℕ) →
-    length c ≡ replies_cells →
-    to < 2560 →
-    from ≢ to →
-    k < 28 →
-    Run c d (start_of to) k (λ i. get_or c (start_of from + i) 0) →
-    Run c (set d (start_of to + k) (get_or d (start_of from + k) 0)) (start_of to) (k + 1) (λ i. get_or c (start_of from + i) 0)
-copy_more c d from to k e h n b r =
-    run_more c (start_of to) (λ i. get_or c (start_of from + i) 0) d k (get_or d (start_of from + k) 0) (omega arith)
-    (by_order (get_or d (start_of from + k) 0 ≡ get_or c (start_of from + k) 0) from to
-    (λ l. r.before (start_of from + k) (omega arith))
-    (λ l. let m : to < from = omega arith in r.after (start_of from + k) (omega arith)))
-    r
-
 -- ---- a place opened
 
-pub open_none : (c : List ℕ) (u : ℕ) → Opened c c u u
-open_none c u = record { size = refl; rows = refl; low = λ k h. refl; high = λ k h l. absurd (omega arith) }
-
-pub open_more :
-    (c d e : List ℕ) (k u : ℕ) → 0 < k → Opened c d k u → RowSet d e k (row_at d (k - 1)) → Opened c e (k - 1) u
-open_more c d e k u h o r =
+pub opened_run :
+    (c d : List ℕ) (p u : ℕ) → p ≤ u → Run c d (start_of p + 28) ((u - p) * 28) (λ k. get_or c (start_of p + k) 0) → Opened c d p u
+unfolding row_at
+opened_run c d p u h r =
     record {
-      size = r.size ∙ o.size;
-      rows = r.rows ∙ o.rows;
-      low = λ j l. r.others j (λ q. omega arith) ∙ o.low j (omega arith);
-      high =
-          λ j l m.
-          by_order (row_at e (j + 1) ≡ row_at c j) j k
-          (λ b.
-          let q : j + 1 ≡ k = omega arith in
-          let p : k - 1 ≡ j = omega arith in
-          ap (row_at e) q ∙ r.here ∙ ap (row_at d) p ∙ o.low j b)
-          (λ b. r.others (j + 1) (λ q. omega arith) ∙ o.high j b m);
+      size = r.size;
+      rows = r.before 0 (omega arith);
+      low = λ k l.
+          row_cong c d (start_of k) (start_of k) (r.before (start_of k) (omega arith))
+          (λ j b. r.before (start_of k + (2 + j)) (omega arith));
+      high = λ k l m.
+          let moved : (j : ℕ) → j < 28 → get_or d (start_of (k + 1) + j) 0 ≡ get_or c (start_of k + j) 0 =
+          λ j b.
+          let x = (k - p) * 28 + j in
+          let e : start_of (k + 1) + j ≡ start_of p + 28 + x = omega arith in
+          let f : start_of p + x ≡ start_of k + j = omega arith in
+          ap (λ (i : ℕ). get_or d i 0) e ∙ r.within x (omega arith) ∙ ap (λ (i : ℕ). get_or c i 0) f in
+          row_cong c d (start_of k) (start_of (k + 1))
+          (ap (λ (i : ℕ). get_or d i 0) (sym (add-zero (start_of (k + 1)))) ∙ moved 0 (omega arith)
+          ∙ ap (λ (i : ℕ). get_or c i 0) (add-zero (start_of k)))
+          (λ j b. moved (2 + j) (omega arith));
     }
-
-pub open_done : (c d : List ℕ) (k p u : ℕ) → k ≤ p → p ≤ k → Opened c d k u → Opened c d p u
-open_done c d k p u h l o = rw (le_antisymm l h) o
 
 pub insert_rows :
     (c d e : List ℕ) (p u n : ℕ) →
