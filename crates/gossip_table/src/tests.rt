@@ -122,10 +122,7 @@ fn replies_ok(table: &[u64], gossip: &[u64]) -> bool
 {
     let connected = layout::load_connected(table);
     let most = load_reply_bound(gossip);
-    if !replies::rows_ok(&gossip[REPLIES_AT..GOSSIP_CELLS], &connected, most) {
-        return false;
-    }
-    rows_stored(gossip)
+    replies::rows_ok(&gossip[REPLIES_AT..GOSSIP_CELLS], &connected, most) && rows_stored(gossip)
 }
 
 // Whether the array is a router's, beside a router's table.
