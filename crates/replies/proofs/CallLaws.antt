@@ -1,16 +1,19 @@
 -- The steps of the calls: what each turn of a loop keeps, and how the rows that are left are those that the definitions say.
 -- Assumes nothing.
-use Prim.Native.Nat.{ℕ, suc, ◌+◌, ◌*◌, ◌-◌, ◌≤◌, ◌<◌}
+use Prim.Native.Nat.{ℕ, zero, suc, ◌+◌, ◌*◌, ◌-◌, ◌/◌, ◌≤◌, ◌<◌}
 use mathlib.Core.Path.{◌≡◌, refl, sym, ap, ◌∙◌}
 use mathlib.Core.Logic.{◌≢◌}
 use mathlib.Core.Bool.{Bool, true, false, not}
 use mathlib.Core.List.{List, [], ◌∷◌, ◌++◌, map, append-nil}
-use native.Mathlib.Nat.{not-suc-le-zero, le_antisymm, add-zero}
+use native.Mathlib.Nat.{not-suc-le-zero, le_antisymm, add-zero, zero-mul, suc-mul, le_of_suc-le-suc}
 use native.Mathlib.Numerals.{add-one}
 use native.Mathlib.Omega.{arith}
-use lib.Dec.{eqb, leb}
-use lib.ListN.{length, get_or, set, replicate, get_or-replicate, length-map}
-use borrow.Author.Tests.{lt-ltb, le-ltb, eqb-true, eqb-false, leb-true}
+use lib.Dec.{eqb, leb, ltb}
+use lib.ListN.{length, get_or, set, take, drop, replicate, get_or-replicate, length-map, length-drop}
+use lib.Seq.{get_or-take, get_or-drop, drop-drop, length-take-le}
+use Rattle.std.specs.Simd.{first_chunks}
+use Rattle.std.specs.List.Sorted.{IsPartitionedBy, IsPartitionPoint}
+use borrow.Author.Tests.{lt-ltb, le-ltb, ltb-true, ltb-false, eqb-true, eqb-false, leb-true}
 use borrow.Author.Count.{below_more}
 use Rattle.index.specs.Index.{gather}
 use Rattle.index.proofs.Index.{gather_none, gather_more}
@@ -23,7 +26,7 @@ use Rattle.gossip.specs.Notes.{Row, rows_most, count_in, first_reply, one_more, 
 use Rattle.gossip.specs.Cells.{Run}
 use Rattle.gossip.specs.Valid.{rises, row_number}
 use Rattle.replies.specs.View.{replies_cells, rows_in, start_of, row_at, replies_of, RowSet, Opened, blank, inserted}
-use Rattle.replies.specs.Asked.{FlagsSay, Passed, Placed, is_row}
+use Rattle.replies.specs.Asked.{FlagsSay, Passed, Placed, Searched, is_row}
 use Rattle.replies.proofs.ListLaws.{number_at, replied_here, replied_new, count_here, count_none, set_inserted, get_or_inserted}
 use Rattle.replies.proofs.ListLaws.{length_inserted, tab_inserted, ended_tab, kept_of, keep_tab, gather_below, tab_end, rises_at}
 use Rattle.replies.proofs.RowLaws.{rows_length, row_load, number_load, number_is, row_cong, row_set_rows, used_same}
@@ -79,65 +82,87 @@ insert_rows c d e p u n size h l o r =
     used_same e (u + 1) (suc k) ∙ r.others (suc k) (λ q. omega arith) ∙ ap (row_at d) (sym (add-one k)) ∙ o.high k b m)
     ∙ ap (λ (k : ℕ). inserted p (blank n) (tab k (row_at c))) h
 
--- ---- a search by halves
+-- ---- a search among the rows
 
-pub record Halved (l : List Row) (n low high : ℕ) : Type 0 where
-  pub order : low ≤ high
-  pub most : high ≤ length l
-  pub less : (k : ℕ) → k < low → number_at l k < n
-  pub more : (k : ℕ) → high ≤ k → k < length l → n ≤ number_at l k
+-- chunk j of n numbers each
+chunk_at : (n k j : ℕ) (xs d : List ℕ) → j < k → get_or (first_chunks n k xs) j d ≡ take n (drop (j * n) xs)
+chunk_at n zero j xs d h = absurd (not-suc-le-zero h)
+chunk_at n (suc k) zero xs d h = ap (λ (m : ℕ). take n (drop m xs)) (sym (zero-mul n))
+chunk_at n (suc k) (suc j) xs d h =
+    let m = suc-mul j n in
+    let e : n + j * n ≡ suc j * n = omega arith in
+    chunk_at n k j (drop n xs) d (le_of_suc-le-suc h)
+    ∙ ap (take n) (drop-drop (j * n) n xs ∙ ap (λ (i : ℕ). drop i xs) e)
 
-module _ (l : List Row) (n : ℕ) where
-  pub halve_none : (u : ℕ) → u ≡ length l → Halved l n 0 u
-  halve_none u e =
-      record {
-        order = omega arith;
-        most = omega arith;
-        less = λ k h. absurd (not-suc-le-zero h);
-        more = λ k h b. absurd (omega arith);
-      }
+-- the cells behind the first
+abbrev behind : List ℕ → List ℕ
+behind c = take (length c - 1) (drop 1 c)
 
-  module _ (rise : rises (map row_number l) ≡ true) (low high mid : ℕ) (a : low ≤ mid) (b : mid < high) (h : Halved l n low high) where
-    sorted : (i j : ℕ) → i < j → j < length l → number_at l i < number_at l j
-    sorted i j q m = rises_at (map row_number l) i j rise q (rw (length-map l row_number) m)
+length_behind : (c : List ℕ) → length (behind c) ≡ length c - 1
+length_behind c = length-take-le (length c - 1) (drop 1 c) (let l = length-drop 1 c in omega arith)
 
-    pub halve_up : number_at l mid < n → Halved l n (mid + 1) high
-    halve_up t =
+pub rows_fit :
+    (c : List ℕ) (rows : List (List ℕ)) → Searched c → length rows ≡ length (behind c) / 28 → rows_in c ≡ length (take (rows_in c) rows)
+rows_fit c rows s e =
+    let z = s.size in
+    let f = s.few in
+    let u = rows_length c in
+    let l = length_behind c in
+    sym (length-take-le (rows_in c) rows (omega arith))
+
+-- the rows in use, as arrays: what a search by halves looks at, and what it tells
+module _ (c : List ℕ) (rows : List (List ℕ)) (n : ℕ) (s : Searched c) (is : rows ≡ first_chunks 28 (length (behind c) / 28) (behind c)) where
+  number_chunk : (k : ℕ) (d : List ℕ) → k < rows_in c → get_or (get_or (take (rows_in c) rows) k d) 0 0 ≡ number_at (replies_of c) k
+  number_chunk k d h =
+      let z = s.size in
+      let f = s.few in
+      let u = rows_length c in
+      let l = length_behind c in
+      let xs = behind c in
+      let m = length (behind c) / 28 in
+      let e : 1 + (k * 28 + 0) ≡ start_of k = omega arith in
+      ap (λ (x : List ℕ). get_or x 0 0)
+      (get_or-take (rows_in c) rows k d h
+      ∙ ap (λ (x : List (List ℕ)). get_or x k d) is
+      ∙ chunk_at 28 m k xs d (omega arith))
+      ∙ get_or-take 28 (drop (k * 28) xs) 0 0 (omega arith)
+      ∙ get_or-drop (k * 28) xs 0 0
+      ∙ get_or-take (length c - 1) (drop 1 c) (k * 28 + 0) 0 (omega arith)
+      ∙ get_or-drop 1 c (k * 28 + 0) 0
+      ∙ ap (λ (i : ℕ). get_or c i 0) e
+      ∙ sym (number_load c k h)
+
+  module _ (size : length (take (rows_in c) rows) ≡ rows_in c) where
+    pub parted_rows : IsPartitionedBy (λ y. ltb (get_or y 0 0) n) (take (rows_in c) rows)
+    parted_rows i j d a b t =
+        let u = rows_length c in
+        let x = number_chunk i d (omega arith) in
+        let y = number_chunk j d (omega arith) in
+        let q : get_or (get_or (take (rows_in c) rows) j d) 0 0 < n = ltb-true (get_or (get_or (take (rows_in c) rows) j d) 0 0) n t in
+        by_order (ltb (get_or (get_or (take (rows_in c) rows) i d) 0 0) n ≡ true) i j
+        (λ l.
+        let o = rises_at (map row_number (replies_of c)) i j s.rise l (rw (length-map (replies_of c) row_number) (omega arith)) in
+        lt-ltb (get_or (get_or (take (rows_in c) rows) i d) 0 0) n (omega arith))
+        (λ l. let e : i ≡ j = omega arith in rw e t)
+
+    pub placed_point :
+        (p : ℕ) → p ≤ length (take (rows_in c) rows)
+        → IsPartitionPoint (λ y. ltb (get_or y 0 0) n ≡ true) (λ y. ltb (get_or y 0 0) n ≡ false) (take (rows_in c) rows) p
+        → Placed (replies_of c) n p
+    placed_point p b t =
+        let u = rows_length c in
+        let d : List ℕ = [] in
         record {
-          order = omega arith;
-          most = h.most;
-          less =
-              λ k q.
-              by_same (number_at l k < n) k mid
-              (λ e. rw e t)
-              (λ m.
-              let s : number_at l k < number_at l mid = sorted k mid (omega arith) (let z = h.most in omega arith) in
-              omega arith);
-          more = h.more;
+          low = omega arith;
+          less = λ k h.
+              let e = number_chunk k d (omega arith) in
+              let q = ltb-true (get_or (get_or (take (rows_in c) rows) k d) 0 0) n (t.0 k d (omega arith) h) in
+              omega arith;
+          more = λ k h l.
+              let e = number_chunk k d (omega arith) in
+              let q = ltb-false (get_or (get_or (take (rows_in c) rows) k d) 0 0) n (t.1 k d h (omega arith)) in
+              omega arith;
         }
-
-    pub halve_down : n ≤ number_at l mid → Halved l n low mid
-    halve_down t =
-        record {
-          order = a;
-          most = let z = h.most in omega arith;
-          less = h.less;
-          more =
-              λ k q m.
-              by_same (n ≤ number_at l k) k mid
-              (λ e. rw e t)
-              (λ o.
-              let s : number_at l mid < number_at l k = sorted mid k (omega arith) m in
-              omega arith);
-        }
-
-  pub halve_done : (low high : ℕ) → high ≤ low → Halved l n low high → Placed l n low
-  halve_done low high q h =
-      record {
-        low = let z = h.most in let y = h.order in omega arith;
-        less = h.less;
-        more = λ k a b. h.more k (omega arith) b;
-      }
 
 -- ---- the row of a number
 

@@ -142,17 +142,8 @@ fn place_of(cells: &[u64], n: u64) -> usize
     requires { Searched cells.now }
     ensures { Placed (replies_of cells.now) n result }
 {
-    let mut low: usize = 0;
-    let mut high = cells[0] as usize;
-    while low < high {
-        let mid = (low + high) / 2;
-        if cells[1 + mid * ROW_CELLS] < n {
-            low = mid + 1;
-        } else {
-            high = mid;
-        }
-    }
-    low
+    let rows = cells[1..].as_chunks::<ROW_CELLS>().0;
+    rows[..cells[0] as usize].partition_point(|row| row[0] < n)
 }
 
 // ---- the calls
