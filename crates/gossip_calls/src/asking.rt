@@ -124,7 +124,7 @@ fn serve(table: &mut [u64], gossip: &mut [u64], time: u64, number: u64, slot: us
     ensures { LeavesAll (iwant_reply (extended_of table.old gossip.old) time number slot) result
         table.old table.new gossip.old gossip.new }
 {
-    let place = stored::find(gossip, number);
+    let place = stored::find(gossip, number).unwrap_or(PLACES);
     if !is_served(table, gossip, number, slot, place) {
         return ignore(table, time);
     }
