@@ -17,7 +17,7 @@ use saves::LoadError;
 fn setup_ok(setup: &[u64; SETUP]) -> bool
     ensures { result ≡ setup_ok (setup_of setup.now) }
 {
-    gossip_table::tests::setup_ok(setup[0], setup[1], setup[2], setup[3], setup[4])
+    gossip_table::tests::setup_ok(setup)
 }
 
 // The array of these numbers.
@@ -25,7 +25,7 @@ fn make_array(setup: &[u64; SETUP], gossip: &mut [u64])
     requires { length gossip.old ≡ gossip_cells }
     ensures { gossip_of gossip.new ≡ fresh_gossip (setup_of setup.now) }
 {
-    gossip_table::made::make(gossip, setup[0], setup[1], setup[2], setup[3], setup[4]);
+    gossip_table::made::make(gossip, setup);
 }
 
 // A fresh router with these parameters and set-up numbers.

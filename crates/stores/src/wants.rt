@@ -31,8 +31,8 @@ fn mark_all(numbers: &[u64], seen: &mut [u64; WORDS])
     requires { Seen [] seen.old }
     ensures { Seen numbers.now seen.new }
 {
-    for k in 0..numbers.len() {
-        mark(seen, bucket(numbers[k]));
+    for &n in numbers {
+        mark(seen, bucket(n));
     }
 }
 
@@ -45,7 +45,7 @@ fn flag(rising: &[u64], m: u64, known: &mut [bool; GIVEN])
     if at == rising.len() {
         return;
     }
-    known[at] = known[at] | (m == rising[at]);
+    known[at] |= m == rising[at];
 }
 
 // The same, where m's bucket is one of theirs: else it is none of them.
@@ -119,8 +119,8 @@ fn want_by(cells: &[u64], numbers: &[u64], rising: &mut [u64], list: &mut [u64])
     let mut known = [false; GIVEN];
     flag_stored(cells, rising, &mut known);
     let mut size: usize = 0;
-    for i in 0..numbers.len() {
-        size = next_want(rising, numbers[i], &mut known, list, size);
+    for &n in numbers {
+        size = next_want(rising, n, &mut known, list, size);
     }
     size
 }
