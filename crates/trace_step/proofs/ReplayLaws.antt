@@ -140,7 +140,7 @@ performed :
     Performs (perform_event (state_of table) (length list) (event c next)) (Ok (next, a)) table' list list'
 unfolding perform_event
 performed c a table table' list list' next f =
-    record { answer = ap (Answered next) f.leaves.answer; state = f.leaves.state; actions = f.actions }
+    record { answer = ap (λ (b : Answer). Ok (next, b)) f.leaves.answer; state = f.leaves.state; actions = f.actions }
 
 -- nothing was done
 idles : (table list : List ℕ) (r : Result (ℕ × Answer) EventError) → Performs (idle (state_of table) r) r table list list
