@@ -281,8 +281,9 @@ accepted top at u next none e = let z : ◌≡◌ {A = ℕ} 0 1 = cc in absurd (
 accepted top at u next (got v n) e =
     by_test (Accepted top at u next (got v n)) (leb v top)
     (λ t. let e' : Some (v, at + n) ≡ Some (u, next) = rw t at e in
-    let ev : v ≡ u = cc in
-    let en : at + n ≡ next = cc in
+    let p : (v, at + n) ≡ (u, next) = cc in
+    let ev : v ≡ u = ap (λ (q : ℕ × ℕ). q.0) p in
+    let en : at + n ≡ next = ap (λ (q : ℕ × ℕ). q.1) p in
     record { n = n; is = rw ev; ends = sym en; small = omega (arith, leb-true v top t) })
     (λ t. let e' : None ≡ Some (u, next) = rw t at e in let z : ◌≡◌ {A = ℕ} 0 1 = cc in absurd (omega arith))
 
