@@ -102,11 +102,9 @@ fn feed_params(
     ensures { Feeds (params_turn edition at last s.now) result table.old table.new out.old
         out.new }
 {
-    let reading = params_bytes::read_front(s, at);
-    let verdict = reading.verdict;
-    match verdict {
-        Ok(next) => {
-            let _ = router::fresh(reading.params, table);
+    match params_bytes::read_front(s, at) {
+        Ok((params, next)) => {
+            let _ = router::fresh(params, table);
             Fed::Took(edition, next, 0)
         }
         Err(ReadError::Malformed(place)) => {
