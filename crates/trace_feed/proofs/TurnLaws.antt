@@ -17,8 +17,7 @@ use lib.ListN.{length, get_or}
 use Rattle.text.specs.Text.{Stored}
 use Rattle.records.specs.Records.{State}
 use Rattle.params.specs.Check.{first_broken}
-use Rattle.params_bytes.specs.Read.{front_at}
-use Rattle.params_bytes.specs.declared.Reading.{Reading}
+use Rattle.params_bytes.specs.Read.{Reading, front_at}
 use Rattle.layout.specs.View.{state_of}
 use Rattle.lookup.specs.Fresh.{left_by as freshBy, Makes}
 use Rattle.rules.specs.Step.{step, action_room}

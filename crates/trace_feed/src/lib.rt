@@ -100,12 +100,10 @@ fn feed_params(
     ensures { Feeds (params_turn edition at last s.now) result table.old table.new out.old
         out.new }
 {
-    let reading = params_bytes::read_front(s, at);
-    let verdict = reading.verdict;
-    match verdict {
-        Ok(next) => {
+    match params_bytes::read_front(s, at) {
+        Ok((params, next)) => {
             // the parameters were found good as they were read, so a router is made of them
-            let _ = router::fresh(reading.params, table);
+            let _ = router::fresh(params, table);
             Fed::Took(edition, next, 0)
         }
         Err(ReadError::Malformed(place)) => {
