@@ -13,10 +13,11 @@ ghost use Rattle.heartbeat.specs.Heights.{Taken, Taking, Partial};
 use crate::seen::members;
 use peer_score::buckets::{BUCKETS, empty_score, score_among};
 use peer_score::weights::weights;
-use records::{SLOTS, TOPICS, param};
+use records::{TOPICS, param};
 use score::sums::offset;
 use sets::except;
-use words::{WORDS, next};
+use words::WORDS;
+use words::slots::Slots;
 
 // The score of the peer in a slot, moved up so that none is negative.
 pub fn height(
@@ -59,11 +60,8 @@ pub fn score_slots(
     let w2 = weights(table, param::W2);
     let w3b = weights(table, param::W3B);
     let w4 = weights(table, param::W4);
-    let mut slot = next(&set, 0);
-    while slot < SLOTS as u64 {
-        let s = slot as usize;
-        heights[s] = height(table, heads, same, others, &w2, &w3b, &w4, s);
-        slot = next(&set, slot + 1);
+    for slot in Slots::of(set) {
+        heights[slot] = height(table, heads, same, others, &w2, &w3b, &w4, slot);
     }
 }
 

@@ -13,7 +13,7 @@ use crate::weights::topics_at;
 use crate::{load_general, sharing_of};
 use records::{Groups, SLOTS, TOPICS};
 use score::{Balance, Sharers, sums};
-use words::next;
+use words::slots::Slots;
 
 // How many buckets there are: as many as slots, so that few groups share one.
 pub const BUCKETS: usize = SLOTS;
@@ -112,11 +112,9 @@ pub fn count_groups(
     requires { Standing table.now × Unused heads.old same.old others.old }
     ensures { Counted table.now heads.new same.new others.new }
 {
-    let left = layout::load_connected(table);
-    let mut slot = next(&left, 0);
-    while slot < SLOTS as u64 {
-        note_slot(table, heads, same, others, slot as usize);
-        slot = next(&left, slot + 1);
+    let connected = layout::load_connected(table);
+    for slot in Slots::of(connected) {
+        note_slot(table, heads, same, others, slot);
     }
 }
 
