@@ -1,17 +1,10 @@
 use Rattle.index.proofs.Kit.{arith}
 use Rattle.words.proofs.SlotWalk.{begun, took, ended}
-use Rattle.peer_score.proofs.WeightLaws.{weighing_p2, weighing_p3b, weighing_p4}
 use Rattle.heartbeat.proofs.HeightLaws.{walked_none, walked_turn, walked_end}
 use Rattle.heartbeat.proofs.scores.score_slots.Goals as goal
 
-pub weights-w2-requires : goal.weights-w2-requires
-weights-w2-requires c = weighing_p2 _ c.requires.standing
-
-pub weights-w3b-requires : goal.weights-w3b-requires
-weights-w3b-requires c = weighing_p3b _ c.requires.standing
-
-pub weights-w4-requires : goal.weights-w4-requires
-weights-w4-requires c = weighing_p4 _ c.requires.standing
+pub topic_weights-weights-requires : goal.topic_weights-weights-requires
+topic_weights-weights-requires c = c.requires.standing
 
 pub loop-slot-init : goal.loop-slot-init
 loop-slot-init c =
@@ -35,7 +28,7 @@ height-requires c =
         slot = (took _ _ _ _ _ c.loop-slot.invariant.0 c.in-Some.is c.next.ensures.steps).slot_lt;
       };
       buckets = p.buckets;
-      weights = record { p2 = c.weights-w2.ensures; p3b = c.weights-w3b.ensures; p4 = c.weights-w4.ensures };
+      weights = c.topic_weights-weights.ensures;
     }
 
 pub loop-slot-preserved : goal.loop-slot-preserved

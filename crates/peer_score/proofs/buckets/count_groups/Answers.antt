@@ -1,6 +1,7 @@
-use Rattle.index.proofs.Kit.{refl, sym, ◌∙◌}
+use Rattle.index.proofs.Kit.{refl, sym, ◌∙◌, arith}
+use Rattle.records.specs.Records.{slot_count}
 use Rattle.words.proofs.SlotWalk.{begun, took, ended}
-use Rattle.peer_score.proofs.BucketLaws.{below_none}
+use Rattle.peer_score.proofs.BucketLaws.{below_none, below_all}
 use Rattle.peer_score.proofs.ConnectedLaws.{connected_on, below_next}
 use Rattle.peer_score.proofs.buckets.count_groups.Goals as goal
 
@@ -38,4 +39,4 @@ returns c =
     let i = c.loop-slot.invariant in
     let n = ended _ _ _ _ (i.0 ∙ b.0) c.in-None.is c.next.ensures.steps in
     let l = c.load_connected-connected.ensures in
-    below_next _ _ _ _ c.requires.0.router _ l.0 l.1 _ _ n i.1
+    below_all _ slot_count _ _ _ (omega arith) (omega arith) (below_next _ _ _ _ c.requires.0.router _ l.0 l.1 _ _ n i.1)

@@ -7,4 +7,4 @@ use Rattle.peer_score.proofs.buckets.count_groups.Given as goal
 abbrev pub invariant-loop-slot : goal.invariant-loop-slot
 invariant-loop-slot l =
     (l.slot-iterator.set ≡ l.initial.slot-iterator.set)
-    × Tells (below (state_of l.table) l.slot-iterator.from) (pairs l.slot-iterator.from) l.heads l.same l.others
+    × Tells (below (state_of l.table) l.slot-iterator.from) (pairs l.slot-iterator.from) l.buckets
