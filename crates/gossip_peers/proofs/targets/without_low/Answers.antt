@@ -2,19 +2,12 @@ use Rattle.index.proofs.Kit.{◌≡◌, not, ap, arith}
 use borrow.Author.Rules.{rules}
 use lib.ListN.{length}
 use Rattle.words.specs.Words.{word_count}
-use Rattle.peer_score.proofs.WeightLaws.{weighing_p2, weighing_p3b, weighing_p4}
 use Rattle.heartbeat.proofs.SeenLaws.{flags_length}
 use Rattle.gossip_peers.proofs.SiftLaws.{sifted_none, sifted_next, sifted_more, sifted_done}
 use Rattle.gossip_peers.proofs.targets.without_low.Goals as goal
 
-pub weights-w2-requires : goal.weights-w2-requires
-weights-w2-requires c = weighing_p2 _ c.requires.standing
-
-pub weights-w3b-requires : goal.weights-w3b-requires
-weights-w3b-requires c = weighing_p3b _ c.requires.standing
-
-pub weights-w4-requires : goal.weights-w4-requires
-weights-w4-requires c = weighing_p4 _ c.requires.standing
+pub topic_weights-weights-requires : goal.topic_weights-weights-requires
+topic_weights-weights-requires c = c.requires.standing
 
 pub next-slot-requires : goal.next-slot-requires
 next-slot-requires c = (search rules, omega arith)
@@ -31,11 +24,7 @@ is_low-low-requires c =
     record {
       at = record { standing = p.standing; slot = c.loop-slot-test.true };
       buckets = p.buckets;
-      weights = record {
-        p2 = c.weights-w2.ensures;
-        p3b = c.weights-w3b.ensures;
-        p4 = c.weights-w4.ensures;
-      };
+      weights = c.topic_weights-weights.ensures;
     }
 
 pub next-slot-requires-in-loop-slot : goal.next-slot-requires-in-loop-slot
