@@ -7,16 +7,20 @@ use mathlib.Core.Bool.{Bool, true, ◌&&◌}
 use mathlib.Core.List.{List, []}
 use native.Mathlib.Omega.{arith}
 use lib.ListN.{length}
+use lib.IntN.{ℤ}
 use Rattle.core.specs.Option.{ok_or}
 use Rattle.index.proofs.Index.{both}
-use Rattle.records.specs.Records.{State, slot_count}
+use Rattle.varint.specs.Codes.{code_of}
+use Rattle.records.specs.Records.{State, slot_count, set_clock}
+use Rattle.score.specs.Score.{why_in}
+use Rattle.effects.specs.Effects.{on_peer, with_p5, departed}
 use Rattle.layout.specs.View.{cell_count, state_of}
 use Rattle.lookup.specs.Find.{find_connected}
 use Rattle.rules.specs.declared.Answer.{Answer}
-use Rattle.rules.specs.declared.Answer.TheVariants.{NotConnected}
-use Rattle.rules.specs.Reply.{Reply, refused}
-use Rattle.rules.specs.Calls.{Call, time_of, time_ok, topic_ok, arguments_ok, in_range}
-use Rattle.rules.specs.Step.{gate_of, through, on_found, of_peer, effect, step, action_room}
+use Rattle.rules.specs.declared.Answer.TheVariants.{Scored, NotConnected}
+use Rattle.rules.specs.Reply.{Reply, refused, done}
+use Rattle.rules.specs.Calls.{Call, disconnect, graft, prune, deliver, rate, score, time_of, time_ok, topic_ok, arguments_ok, in_range}
+use Rattle.rules.specs.Step.{gate_of, through, on_found, of_peer, graft_reply, prune_reply, deliver_reply, effect, step, action_room}
 use Rattle.rules.specs.Promise.{Leaves, Gives, Follows}
 use Rattle.rules.proofs.CaseLaws.{topic_in_lem}
 use Rattle.rules.proofs.PromiseLaws.{gives_quiet, gives_refused}
@@ -132,5 +136,32 @@ pub peer_topic :
     (s : ℕ) → g ≡ Ok s → (t : ℕ) → d ≡ topic_ok t → t < 8
 peer_topic table a b d room time id g eg s e t ed =
     topic_in_lem t (sym ed ∙ (both b d (peer_fine table a (b && d) room time id g eg s e)).1)
+
+-- ---- the calls of a peer, each with the reply of its slot
+module _ (st : State) (time id : ℕ) where
+  pub of_disconnect : effect st (disconnect time id) ≡ of_peer st id (λ s. done (departed st s time) time [])
+  unfolding effect
+  of_disconnect = refl
+
+  pub of_graft : (t : ℕ) → effect st (graft time id t) ≡ of_peer st id (graft_reply st time t)
+  unfolding effect
+  of_graft t = refl
+
+  pub of_prune : (t seconds : ℕ) → effect st (prune time id t seconds) ≡ of_peer st id (prune_reply st time t seconds)
+  unfolding effect
+  of_prune t seconds = refl
+
+  pub of_deliver : (t kind : ℕ) → effect st (deliver time id t kind) ≡ of_peer st id (deliver_reply st time t kind)
+  unfolding effect
+  of_deliver t kind = refl
+
+  pub of_rate : (p5 : ℤ) → effect st (rate time id p5) ≡ of_peer st id (λ s. done (on_peer st s (λ p. with_p5 p (code_of p5))) time [])
+  unfolding effect
+  of_rate p5 = refl
+
+  pub of_score :
+      effect st (score time id) ≡ of_peer st id (λ s. record { answer = Scored (why_in st s); state = set_clock st time; actions = [] })
+  unfolding effect
+  of_score = refl
 
 pub ruleset peer_ends = (peer_refusal, peer_gives, peer_quiet, peer_slot, peer_room, peer_ready, peer_topic, ids_topics)
