@@ -55,13 +55,13 @@ gate_refuses st fine room time a e =
     (λ v. by_test _ fine
     (λ f. by_test _ (leb action_room room)
     (λ l. by_test _ (leb st.clock time)
-    (λ t. let e' : Ok tt ≡ Err a = rw (v, f, l, t) at e in let z : ◌≡◌ {A = ℕ} 0 1 = cc in absurd (omega arith))
+    (λ t. let e' : ◌≡◌ {A = Result (Unit {0}) Answer} (Ok tt) (Err a) = rw (v, f, l, t) at e in let z : ◌≡◌ {A = ℕ} 0 1 = cc in absurd (omega arith))
     (λ t. is Early refl (rw (v, f, l, t) at e)))
     (λ l. is ListShort refl (rw (v, f, l) at e)))
     (λ f. is OutOfRange refl (rw (v, f) at e)))
     (λ v. is NotRouter refl (rw v at e))
   where
-    is : (b : Answer) → eqb (number_of b) 0 ≡ false → Err b ≡ Err a → eqb (number_of a) 0 ≡ false
+    is : (b : Answer) → eqb (number_of b) 0 ≡ false → ◌≡◌ {A = Result (Unit {0}) Answer} (Err b) (Err a) → eqb (number_of a) 0 ≡ false
     is b n q = let z : b ≡ a = cc in rw z at n
 
 pub by_gate :

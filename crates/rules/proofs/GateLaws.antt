@@ -1,6 +1,6 @@
 -- The tests 12, 2, 8, 1: what each end of the gate says, and what is known behind it.
 -- Assumes nothing.
-use Rattle.std.proofs.Common.{Ok, Err}
+use Rattle.std.proofs.Common.{Result, Ok, Err}
 use Prim.Native.Nat.{ℕ, ◌≤◌, ◌<◌}
 use mathlib.Core.Path.{◌≡◌}
 use mathlib.Core.Bool.{Bool, true, false}
@@ -57,7 +57,7 @@ module _ (st : State) (fine : Bool) (room time : ℕ) where
   unfolding gate_of
   gate_0 k v f l e t = rw (v, f, le-leb action_room room l, le-leb st.clock time (omega arith))
 
-  no_pass : {A : Type 0} (a : Answer) → Err a ≡ Ok tt → A
+  no_pass : {A : Type 0} (a : Answer) → ◌≡◌ {A = Result (Unit {0}) Answer} (Err a) (Ok tt) → A
   no_pass a e = let z : ◌≡◌ {A = ℕ} 0 1 = cc in absurd (omega arith)
 
   pub gate_passed : gate_of st fine room time ≡ Ok tt → Passed st fine room time

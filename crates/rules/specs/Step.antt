@@ -20,6 +20,7 @@ use Rattle.mesh.specs.declared.Degrees.{Degrees}
 use Rattle.mesh.specs.Maintenance.{View}
 use Rattle.mesh.specs.Maintenance.{Meshes}
 use Rattle.mesh.specs.Maintenance.{Action as Told, zero_score, meshes, changes_of, actions_of}
+use Rattle.rules.specs.declared.Answer.{Answer}
 use Rattle.rules.specs.declared.Answer.TheVariants.{Scored, Early, OutOfRange, NotConnected, AlreadyConnected, NoSlot}
 use Rattle.rules.specs.declared.Answer.TheVariants.{UnknownProtocol, NotPermutation, ListShort, NotRouter}
 use Rattle.rules.specs.declared.Sender.{Sender}
