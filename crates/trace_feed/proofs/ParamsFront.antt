@@ -30,6 +30,7 @@ use Rattle.params_bytes.proofs.WriteLaws.{front_short}
 use Rattle.params_bytes.proofs.PlaceLaws.{place_of, all_place}
 use Rattle.trace_events.specs.Reading.{cut_short}
 use Rattle.records.specs.Records.{param_count}
+use Rattle.trace_events.specs.declared.Edition.{Edition as TraceEdition}
 use Rattle.trace_events.specs.declared.Edition.TheVariants.{First, Second, Third}
 use Rattle.trace_feed.specs.declared.FrontError.{FrontError}
 use Rattle.trace_feed.specs.declared.FrontError.TheVariants.{Other, Cut}
@@ -209,7 +210,7 @@ front_is s at m =
 
 -- ---- the front of a trace
 -- it lies within the bytes
-abbrev pub Near : List ℕ → Result (Edition × ℕ) FrontError → Type 0
+abbrev pub Near : List ℕ → Result (TraceEdition × ℕ) FrontError → Type 0
 Near s (Ok (e, at)) = (at ≤ 3) × (at ≤ length s)
 Near s (Err Other) = Unit {0}
 Near s (Err Cut) = length s ≤ 2
@@ -232,7 +233,7 @@ front_near (a ∷ (b ∷ s)) =
     (λ e. (omega arith, omega arith))
 
 -- whether it stays the same with any bytes behind those that are there
-abbrev pub Told : List ℕ → Result (Edition × ℕ) FrontError → Type 0
+abbrev pub Told : List ℕ → Result (TraceEdition × ℕ) FrontError → Type 0
 Told w (Ok (e, at)) = Kept w (front_at w at).verdict
 Told w (Err Other) = Unit {0}
 Told w (Err Cut) = ⊥
