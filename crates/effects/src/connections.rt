@@ -53,13 +53,7 @@ pub fn retain_slot(table: &mut [u64], slot: usize, end: u64)
 fn backoffs_over(p: Peer, time: u64) -> bool
     ensures { result ≡ every 8 (λ t. not (backoff_runs p t time)) }
 {
-    let ends = p.backoff;
-    for t in 0..TOPICS {
-        if time < ends[t] {
-            return false;
-        }
-    }
-    true
+    p.backoff.iter().all(|end| *end <= time)
 }
 
 // Whether a record is retained, its retain period over, and all its backoffs too.

@@ -6,7 +6,6 @@ ghost use Rattle.varint.specs.Codes.{magnitude as magnitudeOf};
 ghost use Rattle.effects.specs.Effects.{with_end, with_p5, out_of_mesh, into_mesh, with_subscribed};
 ghost use Rattle.effects.specs.Effects.{on_peer, on_topic, is_joined, is_member, mesh_size, pruned};
 ghost use Rattle.effects.specs.Lent.{AtParam, AtTopic, AtSlot, AtPlace};
-ghost use Rattle.index.specs.Index.{one};
 
 use crate::values::{with_end, with_p5};
 use records::SLOTS;
@@ -33,12 +32,6 @@ pub fn is_member(table: &[u64], topic: usize, slot: usize) -> bool
     layout::load_member(table, slot * 8 + topic) == 1
 }
 
-fn one_if(flag: bool) -> usize
-    ensures { (result ≡ one flag) × (result ≤ 1) }
-{
-    if flag { 1 } else { 0 }
-}
-
 // How many members the mesh of a topic has.
 pub fn mesh_size(table: &[u64], topic: usize) -> usize
     requires { AtTopic table.now topic }
@@ -46,7 +39,7 @@ pub fn mesh_size(table: &[u64], topic: usize) -> usize
 {
     let mut n: usize = 0;
     for slot in 0..SLOTS {
-        n += one_if(is_member(table, topic, slot));
+        n += usize::from(is_member(table, topic, slot));
     }
     n
 }

@@ -9,7 +9,7 @@ use records::{Groups, Peer};
 pub fn later(a: u64, b: u64) -> u64
     ensures { result ≡ max a b }
 {
-    if a <= b { b } else { a }
+    a.max(b)
 }
 
 // When a time of so many seconds ends.
@@ -33,39 +33,37 @@ pub fn with_end(p: Peer, topic: usize, end: u64) -> Peer
 pub fn with_p5(p: Peer, code: u64) -> Peer
     ensures { result ≡ with_p5 p code }
 {
-    let mut q = p;
-    q.p5 = code;
-    q
+    Peer { p5: code, ..p }
 }
 
 pub fn with_p7(p: Peer, count: u64) -> Peer
     ensures { result ≡ with_p7 p count }
 {
-    let mut q = p;
-    q.p7 = count;
-    q
+    Peer { p7: count, ..p }
 }
 
 // Flags: 1 outbound + 2 explicit.
 pub fn connected_as(p: Peer, id: u64, groups: Groups, flags: u64, version: u64) -> Peer
     ensures { result ≡ connected_as p id groups flags version }
 {
-    let mut q = p;
-    q.status = 1;
-    q.id = id;
-    q.groups = groups;
-    q.outbound = flags % 2;
-    q.explicit = flags / 2;
-    q.version = version;
-    q.retain = 0;
-    q
+    Peer {
+        status: 1,
+        id,
+        groups,
+        outbound: flags % 2,
+        explicit: flags / 2,
+        version,
+        retain: 0,
+        ..p
+    }
 }
 
 pub fn retained_to(p: Peer, end: u64) -> Peer
     ensures { result ≡ retained_to p end }
 {
-    let mut q = p;
-    q.status = 2;
-    q.retain = end;
-    q
+    Peer {
+        status: 2,
+        retain: end,
+        ..p
+    }
 }

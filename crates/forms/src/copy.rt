@@ -27,12 +27,10 @@ fn records_end(rows: &[u64]) -> usize
     requires { (length rows.now ≡ rows_count) × (valid (state_of_rows rows.now) ≡ true) }
     ensures { (result ≤ slot_count) × EmptyFrom (state_of_rows rows.now) result }
 {
-    let mut n: usize = SLOTS;
-    while 0 < n {
-        if rows::load_id(rows, n - 1) != 0 {
-            return n;
+    for s in (0..SLOTS).rev() {
+        if rows::load_id(rows, s) != 0 {
+            return s + 1;
         }
-        n -= 1;
     }
     0
 }

@@ -39,11 +39,7 @@ fn topics_ok(rows: &[u64], slot: usize, status: u64, explicit: u64) -> bool
     requires { (length rows.now ≡ rows_count) × (slot < slot_count) }
     ensures { result ≡ every topic_count (topic_ok_at (state_of_rows rows.now) slot status explicit) }
 {
-    let mut ok = true;
-    for t in 0..TOPICS {
-        ok = ok & topic_at(rows, slot, status, explicit, t);
-    }
-    ok
+    (0..TOPICS).all(|t| topic_at(rows, slot, status, explicit, t))
 }
 
 fn slot_ok(rows: &[u64], slot: usize) -> bool
@@ -61,11 +57,7 @@ fn slots_ok(rows: &[u64]) -> bool
     requires { (length rows.now ≡ rows_count) × ((state_of_rows rows.now).clock ≤ max_time) }
     ensures { result ≡ every slot_count (slot_ok (state_of_rows rows.now)) }
 {
-    let mut ok = true;
-    for slot in 0..SLOTS {
-        ok = ok & slot_ok(rows, slot);
-    }
-    ok
+    (0..SLOTS).all(|slot| slot_ok(rows, slot))
 }
 
 // Whether the id in a slot stands in no lower slot.
@@ -86,11 +78,7 @@ fn ids_distinct(rows: &[u64]) -> bool
     requires { length rows.now ≡ rows_count }
     ensures { result ≡ every slot_count (new_id (state_of_rows rows.now)) }
 {
-    let mut ok = true;
-    for slot in 0..SLOTS {
-        ok = ok & new_id(rows, slot);
-    }
-    ok
+    (0..SLOTS).all(|slot| new_id(rows, slot))
 }
 
 fn joined_at(rows: &[u64], t: usize) -> bool
@@ -104,11 +92,7 @@ fn joined_ok(rows: &[u64]) -> bool
     requires { length rows.now ≡ rows_count }
     ensures { result ≡ every topic_count (joined_ok (state_of_rows rows.now)) }
 {
-    let mut ok = true;
-    for t in 0..TOPICS {
-        ok = ok & joined_at(rows, t);
-    }
-    ok
+    (0..TOPICS).all(|t| joined_at(rows, t))
 }
 
 fn params_ok(rows: &[u64]) -> bool

@@ -15,6 +15,7 @@ use Rattle.effects.specs.Effects.{is_member, is_subscribed}
 use Rattle.rules.specs.Step.{action_room}
 use Rattle.gossip.specs.Step.{notice_version}
 use Rattle.peer_score.specs.Standing.{Standing}
+use Rattle.peer_score.specs.declared.buckets.Buckets.{Buckets}
 use Rattle.peer_score.specs.Buckets.{Counted}
 use Rattle.gossip_peers.specs.declared.tell.Kind.{Kind}
 use Rattle.gossip_peers.specs.declared.tell.Kind.TheVariants.{Ask, Send, Ihave}
@@ -53,9 +54,9 @@ unfoldable pub is_low : State → ℕ → Bool
 is_low st s = lt_z (score_in st s) (number_of (code_in st gossip_threshold_at) *ℤ pos 1000000)
 
 -- a router's table, whose connected peers are counted by group
-pub record Grouped (table heads same others : List ℕ) : Type 0 where
+pub record Grouped (table : List ℕ) (b : Buckets) : Type 0 where
   pub standing : Standing table
-  pub buckets : Counted table heads same others
+  pub buckets : Counted table b
 
 -- ---- actions
 -- an action's number of what it tells

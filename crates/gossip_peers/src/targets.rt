@@ -12,9 +12,9 @@ ghost use Rattle.gossip_peers.specs.Peers.{is_low, Grouped};
 use crate::sift::sift;
 use effects::slots::load_magnitude;
 use heartbeat::seen::eligible;
-use peer_score::buckets::{BUCKETS, count_groups, score_among};
-use peer_score::weights::weights;
-use records::{TOPICS, param};
+use peer_score::buckets::{BUCKETS, Buckets, count_groups, score_among};
+use peer_score::weights::{TopicWeights, topic_weights};
+use records::param;
 use score::sums::is_below;
 use sets::size;
 use words::WORDS;
@@ -22,36 +22,28 @@ use words::WORDS;
 // Whether the score of the peer in a slot is below the gossip threshold.
 fn is_low(
     table: &[u64],
-    heads: &[u32; BUCKETS],
-    same: &[u16; BUCKETS],
-    others: &[u16; BUCKETS],
-    w2: &[u64; TOPICS],
-    w3b: &[u64; TOPICS],
-    w4: &[u64; TOPICS],
+    buckets: &Buckets,
+    weights: &TopicWeights,
     slot: usize,
 ) -> bool
-    requires { Among table.now heads.now same.now others.now w2.now w3b.now w4.now slot }
+    requires { Among table.now buckets.now weights.now slot }
     ensures { result ≡ is_low (state_of table.now) slot }
 {
-    let b = score_among(table, heads, same, others, w2, w3b, w4, slot);
+    let b = score_among(table, buckets, weights, slot);
     is_below(b, load_magnitude(table, param::GOSSIP_THRESHOLD))
 }
 
 // The set without the slots that score below the gossip threshold. The weights are multiplied out once, for all of them.
 fn without_low(
     table: &[u64],
-    heads: &[u32; BUCKETS],
-    same: &[u16; BUCKETS],
-    others: &[u16; BUCKETS],
+    buckets: &Buckets,
     all: [u64; WORDS],
 ) -> [u64; WORDS]
-    requires { Grouped table.now heads.now same.now others.now }
+    requires { Grouped table.now buckets.now }
     ensures { bits_of result ≡ by_slot slot_count (λ s. at (bits_of all) s && not (is_low (state_of table.now) s)) }
 {
-    let w2 = weights(table, param::W2);
-    let w3b = weights(table, param::W3B);
-    let w4 = weights(table, param::W4);
-    sift(all, |slot| !is_low(table, heads, same, others, &w2, &w3b, &w4, slot))
+    let weights = topic_weights(table);
+    sift(all, |slot| !is_low(table, buckets, &weights, slot))
 }
 
 // The targets of a topic: those that the heartbeat might graft, each asked for its score. The connected peers are counted by group once,
@@ -64,9 +56,11 @@ pub fn targets(table: &[u64], topic: usize) -> [u64; WORDS]
     if size(all) == 0 {
         return all;
     }
-    let mut heads: [u32; BUCKETS] = [0; BUCKETS];
-    let mut same: [u16; BUCKETS] = [0; BUCKETS];
-    let mut others: [u16; BUCKETS] = [0; BUCKETS];
-    count_groups(table, &mut heads, &mut same, &mut others);
-    without_low(table, &heads, &same, &others, all)
+    let mut buckets = Buckets {
+        heads: [0; BUCKETS],
+        same: [0; BUCKETS],
+        others: [0; BUCKETS],
+    };
+    count_groups(table, &mut buckets);
+    without_low(table, &buckets, all)
 }

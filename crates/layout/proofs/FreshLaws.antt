@@ -6,8 +6,7 @@ use mathlib.Core.Bool.{Bool, true, false}
 use mathlib.Core.List.{List}
 use native.Mathlib.Omega.{arith}
 use native.Mathlib.Nat.{zero-div}
-use lib.ListN.{length, get_or, set, replicate, get_or-eq_default}
-use lib.Seq.{get_or-set_same, get_or-set_other}
+use lib.ListN.{get_or, replicate, length-replicate, get_or-replicate, get_or-eq_default}
 use Rattle.index.proofs.Flags.{by_order}
 use Rattle.records.specs.Records.{no_peer, no_topic}
 use Rattle.records.specs.Records.{param_count}
@@ -78,27 +77,10 @@ module _ (c : List ℕ) (low : (x : ℕ) → x < id_at → get_or c x 0 ≡ 0) (
       let u : setup_of c ≡ record { edition = 0 } = setup_zero in
       λ i. record { clock = a i; joined = j i; codes = k i; setup = u i; peers = p i; topics = t i }
 
--- ---- every cell is 0: zeros up to k, and one more; zeros up to the end
-pub zero_more :
-    (cells : List ℕ) (k : ℕ) →
-    k < length cells →
-    ((j : ℕ) → j < k → get_or cells j 0 ≡ 0) →
-    (j : ℕ) →
-    j < k + 1 →
-    get_or (set cells k 0) j 0 ≡ 0
-zero_more cells k b z j h =
-    by_order
-    (get_or (set cells k 0) j 0 ≡ 0)
-    j
-    k
-    (λ (l : j < k). get_or-set_other cells k j 0 0 (λ e. omega arith) ∙ z j l)
-    (λ (l : k ≤ j).
-    let e : j ≡ k = omega arith in
-    rw e (get_or-set_same cells k 0 0 b))
-
-pub zero_all :
-    (cells : List ℕ) (k : ℕ) → length cells ≤ k → ((j : ℕ) → j < k → get_or cells j 0 ≡ 0) → state_of cells ≡ zero_state
-zero_all cells k b z =
+-- ---- every cell is 0
+pub zeros : (cells : List ℕ) (n : ℕ) → cells ≡ replicate n 0 → state_of cells ≡ zero_state
+zeros cells n e =
     let a : (j : ℕ) → get_or cells j 0 ≡ 0 = λ j.
-    by_order (get_or cells j 0 ≡ 0) j k (λ (l : j < k). z j l) (λ (l : k ≤ j). get_or-eq_default cells 0 {n = j} (omega arith)) in
+    by_order (get_or cells j 0 ≡ 0) j n (λ (l : j < n). rw e (get_or-replicate n j 0 0 l))
+    (λ (l : n ≤ j). rw e (get_or-eq_default (replicate n 0) 0 {n = j} (rw length-replicate l))) in
     fresh_form cells (λ x l. a x) (λ x l m. a x)

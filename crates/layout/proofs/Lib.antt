@@ -14,3 +14,4 @@ pub mod ReadLaws
 pub mod CopyLaws
 pub mod EndLaws
 pub mod BareLaws
+pub mod RangeLaws

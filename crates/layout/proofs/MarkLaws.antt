@@ -330,15 +330,16 @@ clear_end c d e s t z h l q m n i r =
 
 -- ---- the end of `open_slot`
 pub open_end :
-    (c d : List ℕ) →
-    used_of c < slot_count →
+    (c d : List ℕ) (s : ℕ) →
+    used_of c ≡ s →
+    s < slot_count →
     Idle c d →
-    ZeroUpTo d (used_of c) 8 →
-    (state_of (set d used_at (used_of c + 1)) ≡ state_of c)
-    × ((used_of (set d used_at (used_of c + 1)) ≡ used_of c + 1) × (length (set d used_at (used_of c + 1)) ≡ cell_count))
-open_end c d h i r =
-    let m = mark_risen d (used_of c) i.size h i.used r in
-    (m.0 ∙ i.form, (m.1, length-set d used_at (used_of c + 1) ∙ i.size))
+    ZeroUpTo d s 8 →
+    (state_of (set d used_at (s + 1)) ≡ state_of c)
+    × ((used_of (set d used_at (s + 1)) ≡ s + 1) × (length (set d used_at (s + 1)) ≡ cell_count))
+open_end c d s u h i r =
+    let m = mark_risen d s i.size h (i.used ∙ u) r in
+    (m.0 ∙ i.form, (m.1, length-set d used_at (s + 1) ∙ i.size))
 
 -- ---- and it may fall over one
 pub zero_kept : (c : List ℕ) (s n v : ℕ) → s < slot_count → n ≤ 8 → ZeroUpTo c s n → ZeroUpTo (set c used_at v) s n

@@ -172,9 +172,7 @@ pub fn write_row(cells: &mut [u64], at: usize, row: &[u64])
     requires { at + length row.now ≤ length cells.old }
     ensures { cells.new ≡ put cells.old at row.now }
 {
-    for k in 0..row.len() {
-        cells[at + k] = row[k];
-    }
+    cells[at..at + row.len()].copy_from_slice(row);
 }
 
 // ---- the head
@@ -311,9 +309,7 @@ pub fn store_codes(cells: &mut [u64], codes: &[u64])
 pub fn clear(cells: &mut [u64])
     ensures { state_of cells.new ≡ zero_state }
 {
-    for k in 0..cells.len() {
-        cells[k] = 0;
-    }
+    cells.fill(0);
 }
 
 // ---- topic records
@@ -333,9 +329,9 @@ fn raw_topic(
         p2: counters % LANE,
         p3: counters / LANE % LANE,
         p4: counters / LANES,
-        p3b: p3b,
-        subscribed: subscribed,
-        member: member,
+        p3b,
+        subscribed,
+        member,
         graft: keep(member == 1, graft),
         mesh: keep(member == 1, mesh),
     }
@@ -444,18 +440,19 @@ pub fn load_peer(cells: &[u64], slot: usize) -> Peer
     }
 }
 
-// The six words of slot s.
-fn set_flags(cells: &mut [u64], s: usize, a: u64, b: u64, e: u64, f: u64, g: u64, h: u64)
+// The six words of slot s, by a record's flags.
+fn set_flags(cells: &mut [u64], s: usize, p: Peer)
     requires { (length cells.old ≡ cell_count) × (s < slot_count) }
-    ensures { (cells.new ≡ set_flags cells.old s a b e f g h)
-        × (length cells.new ≡ length cells.old) }
+    ensures written { cells.new
+        ≡ set_flags cells.old s (p.status % 2) (p.status / 2) p.explicit p.outbound (p.version % 2) (p.version / 2) }
+    ensures size { length cells.new ≡ length cells.old }
 {
-    set_bit(cells, CONNECTED_AT, s, a);
-    set_bit(cells, RETAINED_AT, s, b);
-    set_bit(cells, EXPLICIT_AT, s, e);
-    set_bit(cells, OUTBOUND_AT, s, f);
-    set_bit(cells, VERSION_AT, s, g);
-    set_bit(cells, VERSION_HIGH_AT, s, h);
+    set_bit(cells, CONNECTED_AT, s, p.status % 2);
+    set_bit(cells, RETAINED_AT, s, p.status / 2);
+    set_bit(cells, EXPLICIT_AT, s, p.explicit);
+    set_bit(cells, OUTBOUND_AT, s, p.outbound);
+    set_bit(cells, VERSION_AT, s, p.version % 2);
+    set_bit(cells, VERSION_HIGH_AT, s, p.version / 2);
 }
 
 // Its seven columns.
@@ -479,16 +476,7 @@ fn write_peer(cells: &mut [u64], slot: usize, p: Peer)
 {
     let row = p.backoff;
     let p57 = halves(p.p5, p.p7);
-    set_flags(
-        cells,
-        slot,
-        p.status % 2,
-        p.status / 2,
-        p.explicit,
-        p.outbound,
-        p.version % 2,
-        p.version / 2,
-    );
+    set_flags(cells, slot, p);
     set_columns(cells, slot, p.id, p.groups, p57, p.retain);
     write_row(cells, ENDS_AT + slot * 8, &row);
 }
@@ -528,13 +516,12 @@ fn clear_slot(cells: &mut [u64], s: usize)
     }
 }
 
-// Raises the mark by one: the state stays.
-fn open_slot(cells: &mut [u64])
-    requires { (length cells.old ≡ cell_count) × (used_of cells.old < slot_count) }
+// Raises the mark past slot s, at which it is: the state stays.
+fn open_slot(cells: &mut [u64], s: u64)
+    requires { (length cells.old ≡ cell_count) × ((used_of cells.old ≡ s) × (s < slot_count)) }
     ensures { (state_of cells.new ≡ state_of cells.old)
-        × ((used_of cells.new ≡ used_of cells.old + 1) × (length cells.new ≡ cell_count)) }
+        × ((used_of cells.new ≡ s + 1) × (length cells.new ≡ cell_count)) }
 {
-    let s = cells[USED_AT];
     clear_slot(cells, s as usize);
     cells[USED_AT] = s + 1;
 }
@@ -545,8 +532,8 @@ fn need_slot(cells: &mut [u64], slot: usize)
     ensures { (state_of cells.new ≡ state_of cells.old)
         × ((slot < used_of cells.new) × (length cells.new ≡ cell_count)) }
 {
-    while cells[USED_AT] <= slot as u64 {
-        open_slot(cells);
+    for s in cells[USED_AT]..slot as u64 + 1 {
+        open_slot(cells, s);
     }
 }
 
@@ -656,7 +643,8 @@ fn counted(cells: &[u64], slot: usize) -> u64
 {
     let mut acc: u64 = 0;
     for t in 0..TOPICS {
-        acc = acc | cells[COUNTERS_AT + t * STRIDE + slot] | cells[P3B_AT + (slot * 8 + t)];
+        acc |= cells[COUNTERS_AT + t * STRIDE + slot];
+        acc |= cells[P3B_AT + (slot * 8 + t)];
     }
     keep((slot as u64) < cells[USED_AT], acc)
 }
@@ -669,7 +657,7 @@ fn meshed(cells: &[u64], i: usize) -> u64
 {
     let mut acc: u64 = 0;
     for t in 0..TOPICS {
-        acc = acc | cells[MEMBER_AT + t * WORDS + i];
+        acc |= cells[MEMBER_AT + t * WORDS + i];
     }
     acc
 }
@@ -783,7 +771,7 @@ fn all_past(cells: &[u64], o: usize, n: usize, used: u64) -> u64
 {
     let mut acc: u64 = 0;
     for p in 0..n {
-        acc = acc | past(cells, o + p * WORDS, used);
+        acc |= past(cells, o + p * WORDS, used);
     }
     acc
 }

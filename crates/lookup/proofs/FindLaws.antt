@@ -1,14 +1,31 @@
 -- Laws of the searches: where they end.
 -- Assumes nothing.
 use Rattle.std.proofs.Common.{Option, Some, None}
-use Rattle.index.proofs.Kit.{ℕ, ◌<◌, ◌≤◌, ◌≡◌, refl, ap, ◌∙◌, true, false, arith, first, by_test}
+use Rattle.std.specs.Option.{MatchOption}
+use Prim.Native.Nat.{zero, suc}
+use native.Mathlib.Numerals.{add-one}
+use Rattle.index.proofs.Kit.{ℕ, ◌<◌, ◌≤◌, ◌+◌, ◌≡◌, refl, sym, ap, ◌∙◌, Bool, true, false, arith, first, by_test}
 use borrow.Author.Tests.{eqb-true, eqb-false, eq-eqb}
 use lib.Dec.{eqb}
-use Rattle.index.proofs.Index.{both, first_is, first_passed}
+use Rattle.index.proofs.Index.{both, first_none, first_more, first_out, first_is, first_passed}
 use Rattle.records.specs.Records.{State, peer_in, is_empty, slot_count}
 use Rattle.lookup.specs.Find.{holds, find_connected, find_retained, lowest_empty}
 use Rattle.validity.proofs.ValidLaws.{Facts}
 use Rattle.validity.proofs.Keeps.{ids_apart}
+
+-- what `find` says of the numbers below n is the first of them
+module _ (f : ℕ → Bool) where
+  first_clear : (n : ℕ) → ((k : ℕ) → k < n → f k ≡ false) → first n f ≡ None
+  first_clear zero h = first_none f
+  first_clear (suc n) h = rw (← add-one n) (first_more f n (first_clear n (λ k l. h k (omega arith))) (h n (omega arith)))
+
+  pub first_found :
+      (n : ℕ) (r : Option ℕ) →
+      MatchOption r ((k : ℕ) → 0 ≤ k → k < n → f k ≡ false)
+      (λ i. (0 ≤ i) × (i < n) × (f i ≡ true) × ((k : ℕ) → 0 ≤ k → k < i → f k ≡ false)) →
+      r ≡ first n f
+  first_found n None h = sym (first_clear n (λ k l. h k (omega arith) l))
+  first_found n (Some i) h = first_out f n i h.1 (first_clear i (λ k l. h.3 k (omega arith) l)) h.2
 
 module _ (st : State) where
   -- what a found slot holds

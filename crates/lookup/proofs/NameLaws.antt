@@ -1,33 +1,19 @@
--- Laws of protocol names: the ends of the comparison, that it is one of lists, and the three names.
+-- Laws of protocol names: that the comparison is one of lists, and the three names.
 -- Assumes nothing.
 use Rattle.std.proofs.Common.{Some, None}
-use Rattle.index.proofs.Kit.{ℕ, ◌<◌, ◌≤◌, ◌≡◌, refl, sym, arith, Bool, true, false, every, every_done, every_fails}
-use mathlib.Core.Bool.{cond, and-false}
+use Rattle.std.specs.Bool.{Decides}
+use Rattle.index.proofs.Kit.{ℕ, ◌≤◌, ◌≡◌, refl, sym, ◌∙◌, arith, Bool, true, false, every, by_test}
+use mathlib.Core.Bool.{cond}
+use mathlib.Core.Path.{subst}
 use mathlib.Core.List.{List}
 use lib.ListN.{length, get_or}
 use lib.Seq.{ext_get_or}
 use lib.Dec.{eqb}
-use borrow.Author.Tests.{eq-eqb, ne_eqb, eqb-true}
+use borrow.Author.Tests.{eq-eqb, eqb-true}
 use Rattle.index.proofs.Index.{both, every_at, every_by}
 use Rattle.lookup.specs.Name.{meshsub, same_at, same_bytes, version_of}
 
 module _ (a b : List ℕ) where
-  pub other_length : (length a ≡ length b → ⊥) → false ≡ same_bytes a b
-  unfolding same_bytes
-  other_length n = rw (ne_eqb (length a) (length b) n)
-
-  pub other_byte : (k : ℕ) → length a ≡ length b → k < length a → (get_or a k 0 ≡ get_or b k 0 → ⊥) → false ≡ same_bytes a b
-  unfolding same_bytes
-  other_byte k e h n =
-      rw (every_fails (same_at a b) (length a) k h (ne_eqb (get_or a k 0) (get_or b k 0) n)) (sym (and-false (eqb (length a) (length b))))
-
-  pub same_byte : (k : ℕ) → get_or a k 0 ≡ get_or b k 0 → same_at a b k ≡ true
-  same_byte k e = eq-eqb (get_or a k 0) (get_or b k 0) e
-
-  pub all_bytes : (k : ℕ) → length a ≡ length b → k ≤ length a → length a ≤ k → every k (same_at a b) ≡ true → true ≡ same_bytes a b
-  unfolding same_bytes
-  all_bytes k e l h p = rw (eq-eqb (length a) (length b) e, every_done (same_at a b) (length a) k l h p)
-
   -- the comparison is one of lists
   pub same_bytes_lem : same_bytes a b ≡ true → a ≡ b
   unfolding same_bytes
@@ -39,6 +25,12 @@ module _ (a b : List ℕ) where
 pub same_self : (a : List ℕ) → same_bytes a a ≡ true
 unfolding same_bytes
 same_self a = rw (eq-eqb (length a) (length a) refl, every_by (same_at a a) (length a) (λ k h. eq-eqb (get_or a k 0) (get_or a k 0) refl))
+
+-- what `==` says is that
+pub compared : (a b : List ℕ) (r : Bool) → Decides r (a ≡ b) → r ≡ same_bytes a b
+compared a b true d = subst (λ (l : List ℕ). true ≡ same_bytes a l) (d.0 refl) (sym (same_self a))
+compared a b false d =
+    by_test (false ≡ same_bytes a b) (same_bytes a b) (λ e. d.1 (same_bytes_lem a b e) ∙ sym e) (λ e. sym e)
 
 -- the ends of the choice
 module _ (name : List ℕ) where

@@ -21,12 +21,7 @@ fn find(table: &[u64], status: u64, id: u64) -> Option<usize>
     requires { length table.now ≡ cell_count }
     ensures { result ≡ first slot_count (holds (state_of table.now) status id) }
 {
-    for slot in 0..SLOTS {
-        if holds(table, status, id, slot) {
-            return Some(slot);
-        }
-    }
-    None
+    (0..SLOTS).find(|slot| holds(table, status, id, *slot))
 }
 
 // The slot of the connected record that holds the id.
@@ -57,14 +52,5 @@ pub fn lowest_empty(table: &[u64]) -> Option<usize>
     requires { length table.now ≡ cell_count }
     ensures { result ≡ lowest_empty (state_of table.now) }
 {
-    let mut lowest: usize = 0;
-    loop {
-        if SLOTS <= lowest {
-            break None;
-        }
-        if is_empty(table, lowest) {
-            break Some(lowest);
-        }
-        lowest += 1;
-    }
+    (0..SLOTS).find(|slot| is_empty(table, *slot))
 }

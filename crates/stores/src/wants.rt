@@ -11,7 +11,7 @@ ghost use Rattle.stores.specs.Marks.{Seen, Given, Flags, Next};
 
 use crate::{ALL_WINDOWS, number, size};
 use marks::{WORDS, bucket, is_marked, mark};
-use sorting::{copy, place_of, sort};
+use sorting::{place_of, sort};
 
 // How many numbers are given at most.
 const GIVEN: usize = 192;
@@ -21,9 +21,8 @@ fn sort_given(numbers: &[u64], rising: &mut [u64])
     requires { (length numbers.now ≤ numbers_most) × (length rising.old ≡ length numbers.now) }
     ensures { rising.new ≡ sorted numbers.now }
 {
-    let mut spare = [0u64; GIVEN];
-    copy(numbers, rising);
-    sort(rising, &mut spare);
+    rising.copy_from_slice(numbers);
+    sort(rising);
 }
 
 // Marks the buckets of a list's numbers.

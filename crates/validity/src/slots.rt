@@ -9,18 +9,6 @@ ghost use Rattle.validity.specs.Looks.{GroupsAt, NameAt, RetainAt, HoleAt, Slots
 
 use crate::valid::{empty_slot, rising_ok};
 
-fn groups_each(table: &[u64], n: usize) -> bool
-    requires { InUse table.now n }
-    ensures { result ≡ true → (s : ℕ) → s < n → GroupsAt (state_of table.now) s }
-{
-    for s in 0..n {
-        if !rising_ok(layout::load_groups(table, s)) {
-            return false;
-        }
-    }
-    true
-}
-
 fn groups_right(table: &[u64], n: usize) -> bool
     requires { InUse table.now n }
     ensures { result ≡ true → (s : ℕ) → s < n → GroupsAt (state_of table.now) s }
@@ -28,7 +16,7 @@ fn groups_right(table: &[u64], n: usize) -> bool
     if columns::one_group(table, n) {
         return true;
     }
-    groups_each(table, n)
+    (0..n).all(|s| rising_ok(layout::load_groups(table, s)))
 }
 
 // Whether the record in a slot is empty, or has an id and a group.
@@ -42,18 +30,6 @@ fn name_at(table: &[u64], s: usize) -> bool
     (status == 0) | ((1 <= id) & (1 <= g.first))
 }
 
-fn names_each(table: &[u64], n: usize) -> bool
-    requires { InUse table.now n }
-    ensures { result ≡ true → (s : ℕ) → s < n → NameAt (state_of table.now) s }
-{
-    for s in 0..n {
-        if !name_at(table, s) {
-            return false;
-        }
-    }
-    true
-}
-
 fn names_right(table: &[u64], n: usize) -> bool
     requires { InUse table.now n }
     ensures { result ≡ true → (s : ℕ) → s < n → NameAt (state_of table.now) s }
@@ -61,7 +37,7 @@ fn names_right(table: &[u64], n: usize) -> bool
     if columns::named(table, n) {
         return true;
     }
-    names_each(table, n)
+    (0..n).all(|s| name_at(table, s))
 }
 
 // Whether the retain end in a slot is at most m, and 0 unless the record is retained.
@@ -74,18 +50,6 @@ fn retain_at(table: &[u64], s: usize, m: u64) -> bool
     (retain <= m) & ((status == 2) | (retain == 0))
 }
 
-fn retains_each(table: &[u64], n: usize, m: u64) -> bool
-    requires { InUse table.now n }
-    ensures { result ≡ true → (s : ℕ) → s < n → RetainAt (state_of table.now) m s }
-{
-    for s in 0..n {
-        if !retain_at(table, s, m) {
-            return false;
-        }
-    }
-    true
-}
-
 fn retains_right(table: &[u64], n: usize, m: u64) -> bool
     requires { InUse table.now n }
     ensures { result ≡ true → (s : ℕ) → s < n → RetainAt (state_of table.now) m s }
@@ -93,7 +57,7 @@ fn retains_right(table: &[u64], n: usize, m: u64) -> bool
     if columns::no_retain(table, n) {
         return true;
     }
-    retains_each(table, n, m)
+    (0..n).all(|s| retain_at(table, s, m))
 }
 
 // The empty slots below n among those of word i.

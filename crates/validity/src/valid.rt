@@ -275,11 +275,7 @@ fn topics_ok(table: &[u64], slot: usize, status: u64, explicit: u64) -> bool
     requires { (length table.now ≡ cell_count) × (slot < slot_count) }
     ensures { result ≡ every topic_count (topic_ok_at (state_of table.now) slot status explicit) }
 {
-    let mut ok = true;
-    for t in 0..TOPICS {
-        ok = ok & topic_at(table, slot, status, explicit, t);
-    }
-    ok
+    (0..TOPICS).all(|t| topic_at(table, slot, status, explicit, t))
 }
 
 // One of the caps of each topic, taken once for all slots.

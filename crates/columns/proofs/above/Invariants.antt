@@ -8,6 +8,3 @@ invariant-loop-i l =
     (l.i ≤ l.n)
     × (RunWithin l.cells l.at l.i l.acc
     × (RunWithin l.cells (l.at + l.n) l.i l.acc × (RunWithin l.cells (l.at + 2 * l.n) l.i l.acc × RunWithin l.cells (l.at + 3 * l.n) l.i l.acc)))
-
-abbrev pub decreases-loop-i : goal.decreases-loop-i
-decreases-loop-i l = l.n - l.i

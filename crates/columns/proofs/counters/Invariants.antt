@@ -7,6 +7,3 @@ use Rattle.columns.proofs.counters.Given as goal
 abbrev pub invariant-loop-t : goal.invariant-loop-t
 invariant-loop-t l =
     (l.t ≤ topic_count) × (Lanes l.acc → (j : ℕ) → j < l.t → Lanes (counters_gathered l.cells l.n l.caps2 l.caps3 l.p4 j))
-
-abbrev pub decreases-loop-t : goal.decreases-loop-t
-decreases-loop-t l = topic_count - l.t

@@ -6,6 +6,3 @@ use Rattle.layout.proofs.all_past.Given as goal
 
 abbrev pub invariant-loop-p : goal.invariant-loop-p
 invariant-loop-p l = (l.p ≤ l.n) × (l.acc ≡ 0 → Past l.cells l.o l.used l.p)
-
-abbrev pub decreases-loop-p : goal.decreases-loop-p
-decreases-loop-p l = l.n - l.p

@@ -8,6 +8,3 @@ use Rattle.layout.proofs.clear_slot.Given as goal
 
 abbrev pub invariant-loop-t : goal.invariant-loop-t
 invariant-loop-t l = (l.t ≤ 8) × (length l.cells ≡ cell_count) × (used_of l.cells ≤ l.s) × Idle l.initial.cells l.cells × ZeroUpTo l.cells l.s l.t
-
-abbrev pub decreases-loop-t : goal.decreases-loop-t
-decreases-loop-t l = 8 - l.t

@@ -6,6 +6,3 @@ use Rattle.layout.proofs.counted.Given as goal
 
 abbrev pub invariant-loop-t : goal.invariant-loop-t
 invariant-loop-t l = (l.t ≤ 8) × (l.acc ≡ 0 → Counts l.cells l.slot l.t)
-
-abbrev pub decreases-loop-t : goal.decreases-loop-t
-decreases-loop-t l = 8 - l.t

@@ -5,6 +5,3 @@ use Rattle.layout.proofs.meshed.Given as goal
 
 abbrev pub invariant-loop-t : goal.invariant-loop-t
 invariant-loop-t l = (l.t ≤ 8) × Meshed l.cells l.i l.t l.acc
-
-abbrev pub decreases-loop-t : goal.decreases-loop-t
-decreases-loop-t l = 8 - l.t

@@ -9,6 +9,3 @@ use Rattle.layout.proofs.store_codes.Given as goal
 
 abbrev pub invariant-loop-i : goal.invariant-loop-i
 invariant-loop-i l = (l.i ≤ param_count) × (length l.cells ≡ cell_count) × (state_of l.cells ≡ codes_up_to l.i l.codes (state_of l.initial.cells))
-
-abbrev pub decreases-loop-i : goal.decreases-loop-i
-decreases-loop-i l = param_count - l.i

@@ -19,7 +19,7 @@ overflow_add-slot c = let h =
 pub write_row-requires : goal.write_row-requires
 write_row-requires c =
     let n : length c.args.p.backoff ≡ 8 = search rules in
-    let l = c.set_flags.ensures.1 in
+    let l = c.set_flags.ensures.size in
     let m = c.set_columns.ensures.1 in
     let z = c.requires.0 in
     let h = c.requires.1.0 in
@@ -30,7 +30,7 @@ returns c =
     let g = c.args.p.groups in
     let f = c.set_flags in
     peer_written c.args.cells.now c.args.slot c.args.p c.requires.0 c.requires.1.0 c.requires.1.1.0 c.requires.1.1.1
-    (search rules) _ _ _ f.ensures.0
+    (search rules) _ _ _ f.ensures.written
     (c.set_columns.ensures.0
     ∙ λ i. set_columns f.new.cells c.args.slot c.args.p.id g.first g.second g.third g.fourth
     (c.halves-p57.ensures i) c.args.p.retain)

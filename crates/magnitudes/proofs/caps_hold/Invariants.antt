@@ -11,6 +11,3 @@ use Rattle.magnitudes.proofs.caps_hold.Given as goal
 
 abbrev pub invariant-loop-t : goal.invariant-loop-t
 invariant-loop-t l = (l.t ≤ topic_count) × (every l.t (cap_rule (map number_of (state_of l.table).codes)) ≡ true)
-
-abbrev pub decreases-loop-t : goal.decreases-loop-t
-decreases-loop-t l = topic_count - l.t

@@ -12,6 +12,3 @@ use Rattle.magnitudes.proofs.field_lies.Given as goal
 
 abbrev pub invariant-loop-t : goal.invariant-loop-t
 invariant-loop-t l = (l.t ≤ topic_count) × (every l.t (λ k. in_limits (map number_of (state_of l.table).codes) (place k l.j)) ≡ true)
-
-abbrev pub decreases-loop-t : goal.decreases-loop-t
-decreases-loop-t l = topic_count - l.t

@@ -14,6 +14,3 @@ abbrev pub invariant-loop-j : goal.invariant-loop-j
 invariant-loop-j l =
     (l.j ≤ of_topic)
     × (every l.j (λ j. every topic_count (λ k. in_limits (map number_of (state_of l.table).codes) (place k j))) ≡ true)
-
-abbrev pub decreases-loop-j : goal.decreases-loop-j
-decreases-loop-j l = of_topic - l.j

@@ -1,32 +1,18 @@
-use Rattle.index.proofs.Kit.{ℕ, not, ap, arith}
-use Rattle.index.proofs.Index.{every_none, every_more, every_out, every_in}
-use borrow.Author.Tests.{lt-ltb, le-ltb}
-use lib.ListN.{get_or}
+-- `effects::connections::backoffs_over`: each end is asked.
+use mathlib.Core.Path.{◌≡◌}
+use mathlib.Core.Bool.{true, false, not}
+use borrow.Author.Rules.{rules}
+use borrow.Author.Tests.{tests}
 use lib.Dec.{ltb}
-use mathlib.Core.Bool.{Bool}
-use mathlib.Core.List.{List}
+use lib.ListN.{length}
+use Rattle.std.proofs.lemmas.Iterator.{YieldsList-from_slice, cases_from_all}
+use Rattle.layout.proofs.RangeLaws.{every_item}
 use Rattle.effects.proofs.connections.backoffs_over.Goals as goal
-
-abbrev over : List ℕ → ℕ → ℕ → Bool
-over ends time t = not (ltb time (get_or ends t 0))
-
-pub loop-t-init : goal.loop-t-init
-loop-t-init c = (omega arith, every_none _)
-
-pub returns-then-time-ends : goal.returns-then-time-ends
-returns-then-time-ends c =
-    let a = c.args in
-    let l = c.loop-t in
-    every_out (over a.p.backoff a.time) 8 l.t c.loop-t-test.true (ap not (lt-ltb _ _ c.if-time-ends.true))
-
-pub loop-t-preserved : goal.loop-t-preserved
-loop-t-preserved c =
-    let a = c.args in
-    let l = c.loop-t in
-    (omega arith, every_more (over a.p.backoff a.time) l.t l.invariant.1 (ap not (le-ltb _ _ c.if-time-ends.false)))
 
 pub returns : goal.returns
 returns c =
     let a = c.args in
-    let l = c.loop-t in
-    every_in (over a.p.backoff a.time) 8 l.t (omega arith) (omega arith) l.invariant.1
+    let n : length a.p.backoff ≡ 8 = search rules in
+    every_item (λ e. not (ltb a.time e)) 0 a.p.backoff 8 c.all.result n
+    (cases_from_all _ _ c.all.result (λ e. not (ltb a.time e) ≡ true) (λ e. not (ltb a.time e) ≡ false) c.all.ensures.ran
+    (YieldsList-from_slice a.p.backoff cc) (λ x q k. search (rules, tests)) (λ x q k. search (rules, tests)))

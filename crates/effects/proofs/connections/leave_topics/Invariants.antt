@@ -7,6 +7,3 @@ use Rattle.effects.proofs.connections.leave_topics.Given as goal
 
 abbrev pub invariant-loop-t : goal.invariant-loop-t
 invariant-loop-t l = (l.t ≤ 8) × (length l.table ≡ cell_count) × (state_of l.table ≡ iter l.t (λ t u. left_topic u l.slot t) (state_of l.initial.table))
-
-abbrev pub decreases-loop-t : goal.decreases-loop-t
-decreases-loop-t l = 8 - l.t

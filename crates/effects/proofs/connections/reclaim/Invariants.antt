@@ -10,6 +10,3 @@ abbrev pub invariant-loop-slot : goal.invariant-loop-slot
 invariant-loop-slot l =
     (l.slot ≤ slot_count) × (length l.table ≡ cell_count) × (state_of l.table ≡ iter l.slot (reclaim_slot l.time) (state_of l.initial.table))
     × (NoneReclaimable (state_of l.initial.table) l.time → l.table ≡ l.initial.table)
-
-abbrev pub decreases-loop-slot : goal.decreases-loop-slot
-decreases-loop-slot l = slot_count - l.slot

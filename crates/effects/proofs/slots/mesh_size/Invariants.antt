@@ -7,6 +7,3 @@ use Rattle.effects.proofs.slots.mesh_size.Given as goal
 
 abbrev pub invariant-loop-slot : goal.invariant-loop-slot
 invariant-loop-slot l = (l.slot ≤ slot_count) × (l.n ≡ count l.slot (is_member (state_of l.table) l.topic)) × (l.n ≤ l.slot)
-
-abbrev pub decreases-loop-slot : goal.decreases-loop-slot
-decreases-loop-slot l = slot_count - l.slot

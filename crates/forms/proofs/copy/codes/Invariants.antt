@@ -7,6 +7,3 @@ use Rattle.forms.proofs.copy.codes.Given as goal
 
 abbrev pub invariant-loop-i : goal.invariant-loop-i
 invariant-loop-i l = Built 0 (code_in (state_of l.table)) param_count l.i l.r
-
-abbrev pub decreases-loop-i : goal.decreases-loop-i
-decreases-loop-i l = param_count - l.i

@@ -11,6 +11,3 @@ use Rattle.forms.proofs.copy.joined_from.Given as goal
 abbrev pub invariant-loop-t : goal.invariant-loop-t
 invariant-loop-t l =
     (l.t ≤ topic_count) × (length l.table ≡ cell_count) × (state_of l.table ≡ copy_joined l.t (state_of_rows l.rows) (state_of l.initial.table))
-
-abbrev pub decreases-loop-t : goal.decreases-loop-t
-decreases-loop-t l = topic_count - l.t

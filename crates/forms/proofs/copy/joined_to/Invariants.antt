@@ -11,6 +11,3 @@ use Rattle.forms.proofs.copy.joined_to.Given as goal
 abbrev pub invariant-loop-t : goal.invariant-loop-t
 invariant-loop-t l =
     (l.t ≤ topic_count) × (length l.rows ≡ rows_count) × (state_of_rows l.rows ≡ copy_joined l.t (state_of l.table) (state_of_rows l.initial.rows))
-
-abbrev pub decreases-loop-t : goal.decreases-loop-t
-decreases-loop-t l = topic_count - l.t

@@ -10,6 +10,3 @@ use Rattle.forms.proofs.copy.peers_from.Given as goal
 abbrev pub invariant-loop-s : goal.invariant-loop-s
 invariant-loop-s l =
     (l.s ≤ l.n) × (length l.table ≡ cell_count) × (state_of l.table ≡ copy_peers l.s (state_of_rows l.rows) (state_of l.initial.table))
-
-abbrev pub decreases-loop-s : goal.decreases-loop-s
-decreases-loop-s l = l.n - l.s

@@ -11,6 +11,3 @@ use Rattle.forms.proofs.copy.peers_to.Given as goal
 abbrev pub invariant-loop-s : goal.invariant-loop-s
 invariant-loop-s l =
     (l.s ≤ slot_count) × (length l.rows ≡ rows_count) × (state_of_rows l.rows ≡ copy_peers l.s (state_of l.table) (state_of_rows l.initial.rows))
-
-abbrev pub decreases-loop-s : goal.decreases-loop-s
-decreases-loop-s l = slot_count - l.s

@@ -5,8 +5,5 @@ use Rattle.layout.specs.View.{EmptyFrom}
 use Rattle.rows.specs.View.{state_of_rows}
 use Rattle.forms.proofs.copy.records_end.Given as goal
 
-abbrev pub invariant-loop-n : goal.invariant-loop-n
-invariant-loop-n l = (l.n ≤ slot_count) × EmptyFrom (state_of_rows l.rows) l.n
-
-abbrev pub decreases-loop-n : goal.decreases-loop-n
-decreases-loop-n l = l.n
+abbrev pub invariant-loop-s : goal.invariant-loop-s
+invariant-loop-s l = (l.s ≤ slot_count) × EmptyFrom (state_of_rows l.rows) l.s

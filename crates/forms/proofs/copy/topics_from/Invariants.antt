@@ -11,6 +11,3 @@ use Rattle.forms.proofs.copy.topics_from.Given as goal
 abbrev pub invariant-loop-k : goal.invariant-loop-k
 invariant-loop-k l =
     (l.k ≤ l.n * topic_count) × (length l.table ≡ cell_count) × (state_of l.table ≡ copy_topics l.k (state_of_rows l.rows) (state_of l.initial.table))
-
-abbrev pub decreases-loop-k : goal.decreases-loop-k
-decreases-loop-k l = l.n * topic_count - l.k

@@ -10,6 +10,3 @@ use Rattle.forms.proofs.copy.topics_to.Given as goal
 abbrev pub invariant-loop-k : goal.invariant-loop-k
 invariant-loop-k l =
     (l.k ≤ place_count) × (length l.rows ≡ rows_count) × (state_of_rows l.rows ≡ copy_topics l.k (state_of l.table) (state_of_rows l.initial.rows))
-
-abbrev pub decreases-loop-k : goal.decreases-loop-k
-decreases-loop-k l = place_count - l.k

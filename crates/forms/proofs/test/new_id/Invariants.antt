@@ -8,6 +8,3 @@ use Rattle.forms.proofs.test.new_id.Given as goal
 abbrev pub invariant-loop-k : goal.invariant-loop-k
 invariant-loop-k l =
     (l.k ≤ l.slot) × (every l.k (λ j. apart (peer_in (state_of_rows l.rows) l.slot).id (peer_in (state_of_rows l.rows) j).id) ≡ true)
-
-abbrev pub decreases-loop-k : goal.decreases-loop-k
-decreases-loop-k l = l.slot - l.k

@@ -1,15 +1,23 @@
+use mathlib.Core.Path.{◌≡◌, refl}
+use mathlib.Core.Bool.{true, false}
+use native.Mathlib.Omega.{arith}
 use borrow.Author.Rules.{rules}
-use Rattle.validity.proofs.Loops.{flag-loop}
+use borrow.Author.Tests.{tests}
+use Rattle.std.proofs.lemmas.Iterator.{YieldsList-from_range, cases_from_all, serves_from_Range}
+use Rattle.records.specs.Records.{slot_count}
+use Rattle.layout.proofs.RangeLaws.{every_number}
+use Rattle.rows.specs.View.{state_of_rows}
+use Rattle.validity.specs.Valid.{slot_ok}
 use Rattle.forms.proofs.test.slots_ok.Goals as goal
 
-pub loop-slot-init : goal.loop-slot-init
-loop-slot-init c = search (flag-loop, rules)
-
-pub slot_ok-ok-requires : goal.slot_ok-ok-requires
-slot_ok-ok-requires c = (c.requires.0, c.loop-slot-test.true, c.requires.1)
-
-pub loop-slot-preserved : goal.loop-slot-preserved
-loop-slot-preserved c = search (flag-loop, rules)
+pub all-requires : goal.all-requires
+all-requires c =
+    let r = c.requires in
+    record { can = tt; finite = tt; callable = serves_from_Range (λ x q k. search (rules, tests)) (λ x low high. search rules) }
 
 pub returns : goal.returns
-returns c = search (flag-loop, rules)
+returns c =
+    let f = slot_ok (state_of_rows c.args.rows.now) in
+    every_number f slot_count c.all.result
+    (cases_from_all _ _ c.all.result (λ k. f k ≡ true) (λ k. f k ≡ false) c.all.ensures.ran
+    (YieldsList-from_range 0 slot_count slot_count refl (omega arith)) (λ x q k. search (rules, tests)) (λ x q k. search (rules, tests)))

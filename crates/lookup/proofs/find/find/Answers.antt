@@ -1,23 +1,18 @@
-use Rattle.index.proofs.Auto.{auto}
+use mathlib.Core.Path.{◌≡◌}
+use mathlib.Core.Bool.{true, false}
+use borrow.Author.Rules.{rules}
+use borrow.Author.Tests.{tests}
+use Rattle.std.proofs.lemmas.Iterator.{first_from_Range}
+use Rattle.records.specs.Records.{slot_count}
+use Rattle.layout.specs.View.{state_of}
+use Rattle.lookup.specs.Find.{holds}
+use Rattle.lookup.proofs.FindLaws.{first_found}
 use Rattle.lookup.proofs.find.find.Goals as goal
 
-pub loop-slot-init : goal.loop-slot-init
-loop-slot-init c = search auto
-
-pub holds-requires : goal.holds-requires
-holds-requires c = search auto
-
-pub returns-then-holds : goal.returns-then-holds
-returns-then-holds c = search auto
-
-pub overflow_add-slot : goal.overflow_add-slot
-overflow_add-slot c = search auto
-
-pub loop-slot-smaller : goal.loop-slot-smaller
-loop-slot-smaller c = search auto
-
-pub loop-slot-preserved : goal.loop-slot-preserved
-loop-slot-preserved c = search auto
-
 pub returns : goal.returns
-returns c = search auto
+returns c =
+    let a = c.args in
+    let f = holds (state_of a.table.now) a.status a.id in
+    first_found f slot_count _
+    (first_from_Range _ _ _ c.find.result (λ s. f s ≡ true) (λ s. f s ≡ false) c.find.ensures.ran
+    (λ x q k. search (rules, tests)) (λ x q k. search (rules, tests)))

@@ -1,26 +1,18 @@
-use Rattle.index.proofs.Auto.{auto}
+use mathlib.Core.Path.{◌≡◌}
+use mathlib.Core.Bool.{true, false}
+use borrow.Author.Rules.{rules}
+use borrow.Author.Tests.{tests}
+use Rattle.std.proofs.lemmas.Iterator.{first_from_Range}
+use Rattle.records.specs.Records.{peer_in, is_empty, slot_count}
+use Rattle.layout.specs.View.{state_of}
 use Rattle.lookup.specs.Find.{lowest_empty}
+use Rattle.lookup.proofs.FindLaws.{first_found}
 use Rattle.lookup.proofs.find.lowest_empty.Goals as goal
 
-pub loop-lowest-init : goal.loop-lowest-init
-loop-lowest-init c = search auto
-
-pub is_empty-requires : goal.is_empty-requires
-is_empty-requires c = search auto
-
-pub overflow_add-lowest : goal.overflow_add-lowest
-overflow_add-lowest c = search auto
-
-pub loop-lowest-smaller : goal.loop-lowest-smaller
-loop-lowest-smaller c = search auto
-
-pub loop-lowest-preserved : goal.loop-lowest-preserved
-loop-lowest-preserved c = search auto
-
-pub returns-then-lowest-ge-SLOTS : goal.returns-then-lowest-ge-SLOTS
+pub returns : goal.returns
 unfolding lowest_empty
-returns-then-lowest-ge-SLOTS c = search auto
-
-pub returns-then-is_empty : goal.returns-then-is_empty
-unfolding lowest_empty
-returns-then-is_empty c = search auto
+returns c =
+    let st = state_of c.args.table.now in
+    first_found (λ s. is_empty (peer_in st s)) slot_count _
+    (first_from_Range _ _ _ c.find.result (λ s. is_empty (peer_in st s) ≡ true) (λ s. is_empty (peer_in st s) ≡ false) c.find.ensures.ran
+    (λ x q k. search (rules, tests)) (λ x q k. search (rules, tests)))

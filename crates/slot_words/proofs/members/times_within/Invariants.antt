@@ -6,6 +6,3 @@ use Rattle.slot_words.proofs.members.times_within.Given as goal
 
 abbrev pub invariant-loop-t : goal.invariant-loop-t
 invariant-loop-t l = (l.t ≤ topic_count) × ((k : ℕ) → k < l.t → TimesWithin (state_of l.table) k l.clock)
-
-abbrev pub decreases-loop-t : goal.decreases-loop-t
-decreases-loop-t l = topic_count - l.t

@@ -8,6 +8,3 @@ use Rattle.validity.proofs.ids.ids_distinct.Given as goal
 abbrev pub invariant-loop-slot : goal.invariant-loop-slot
 invariant-loop-slot l =
     (l.slot ≤ l.end) × (every l.slot (new_id (state_of l.table)) ≡ true) × Seen (state_of l.table) l.seen l.slot
-
-abbrev pub decreases-loop-slot : goal.decreases-loop-slot
-decreases-loop-slot l = l.end - l.slot

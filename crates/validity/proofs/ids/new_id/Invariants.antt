@@ -7,6 +7,3 @@ use Rattle.validity.proofs.ids.new_id.Given as goal
 
 abbrev pub invariant-loop-k : goal.invariant-loop-k
 invariant-loop-k l = (l.k ≤ l.slot) × (every l.k (λ j. apart (peer_in (state_of l.table) l.slot).id (peer_in (state_of l.table) j).id) ≡ true)
-
-abbrev pub decreases-loop-k : goal.decreases-loop-k
-decreases-loop-k l = l.slot - l.k

@@ -8,6 +8,3 @@ use Rattle.validity.proofs.valid.caps.Given as goal
 
 abbrev pub invariant-loop-t : goal.invariant-loop-t
 invariant-loop-t l = (l.t ≤ topic_count) × (length l.r ≡ topic_count) × ((k : ℕ) → k < l.t → get_or l.r k 0 ≡ topic_param (state_of l.table) k l.j)
-
-abbrev pub decreases-loop-t : goal.decreases-loop-t
-decreases-loop-t l = topic_count - l.t

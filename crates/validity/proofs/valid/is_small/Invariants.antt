@@ -12,6 +12,3 @@ invariant-loop-t l =
     × (l.p4 ≡ union (λ k. (topic_in (state_of l.table) (place l.slot k)).p4) l.t)
     × (l.p3b ≡ union (λ k. (topic_in (state_of l.table) (place l.slot k)).p3b) l.t)
     × (l.subscribed ≡ union (λ k. (topic_in (state_of l.table) (place l.slot k)).subscribed) l.t)
-
-abbrev pub decreases-loop-t : goal.decreases-loop-t
-decreases-loop-t l = topic_count - l.t

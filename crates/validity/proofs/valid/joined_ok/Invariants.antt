@@ -8,6 +8,3 @@ use Rattle.validity.proofs.valid.joined_ok.Given as goal
 
 abbrev pub invariant-loop-t : goal.invariant-loop-t
 invariant-loop-t l = (l.t ≤ topic_count) × (l.ok ≡ every l.t (joined_ok (state_of l.table)))
-
-abbrev pub decreases-loop-t : goal.decreases-loop-t
-decreases-loop-t l = 8 - l.t

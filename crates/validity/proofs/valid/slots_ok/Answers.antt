@@ -19,9 +19,6 @@ returns-then-not-slot_ok c =
     let t = c.loop-slot-test.true in
     every_out _ slot_count c.loop-slot.slot (omega arith) (sym c.slot_ok.ensures ∙ c.if-not-slot_ok.true)
 
-pub overflow_add-slot : goal.overflow_add-slot
-overflow_add-slot c = let b = c.requires.0.low in omega arith
-
 pub loop-slot-preserved : goal.loop-slot-preserved
 loop-slot-preserved c =
     let l = c.loop-slot in

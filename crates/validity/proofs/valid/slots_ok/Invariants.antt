@@ -9,6 +9,3 @@ use Rattle.validity.proofs.valid.slots_ok.Given as goal
 
 abbrev pub invariant-loop-slot : goal.invariant-loop-slot
 invariant-loop-slot l = (l.slot ≤ l.end) × (every l.slot (slot_ok (state_of l.table)) ≡ true)
-
-abbrev pub decreases-loop-slot : goal.decreases-loop-slot
-decreases-loop-slot l = l.end - l.slot

@@ -1,12 +1,19 @@
+use mathlib.Core.Path.{◌≡◌, refl}
+use mathlib.Core.Bool.{true, false}
+use native.Mathlib.Omega.{arith}
 use borrow.Author.Rules.{rules}
-use Rattle.validity.proofs.Loops.{flag-loop}
+use borrow.Author.Tests.{tests}
+use Rattle.std.proofs.lemmas.Iterator.{YieldsList-from_range, cases_from_all}
+use Rattle.records.specs.Records.{topic_count}
+use Rattle.layout.specs.View.{state_of}
+use Rattle.layout.proofs.RangeLaws.{every_number}
+use Rattle.validity.specs.Valid.{topic_ok_at}
 use Rattle.validity.proofs.valid.topics_ok.Goals as goal
 
-pub loop-t-init : goal.loop-t-init
-loop-t-init c = search (flag-loop, rules)
-
-pub loop-t-preserved : goal.loop-t-preserved
-loop-t-preserved c = search (flag-loop, rules)
-
 pub returns : goal.returns
-returns c = search (flag-loop, rules)
+returns c =
+    let a = c.args in
+    let f = topic_ok_at (state_of a.table.now) a.slot a.status a.explicit in
+    every_number f topic_count c.all.result
+    (cases_from_all _ _ c.all.result (λ k. f k ≡ true) (λ k. f k ≡ false) c.all.ensures.ran
+    (YieldsList-from_range 0 topic_count topic_count refl (omega arith)) (λ x q k. search (rules, tests)) (λ x q k. search (rules, tests)))

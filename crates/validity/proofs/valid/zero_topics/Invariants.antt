@@ -10,6 +10,3 @@ use Rattle.validity.proofs.valid.zero_topics.Given as goal
 
 abbrev pub invariant-loop-t : goal.invariant-loop-t
 invariant-loop-t l = (l.t ≤ topic_count) × (every l.t (zero_topic_at (state_of l.table) l.slot) ≡ true)
-
-abbrev pub decreases-loop-t : goal.decreases-loop-t
-decreases-loop-t l = topic_count - l.t
