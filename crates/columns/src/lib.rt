@@ -39,6 +39,13 @@ fn gathered(cells: &[u64], at: usize, n: usize, k: u64) -> u64
     acc
 }
 
+// Where a column begins, and what is added to each of its cells.
+#[derive(Clone, Copy)]
+struct Column {
+    at: usize,
+    room: u64,
+}
+
 #[derive(Clone, Copy)]
 struct Unions {
     a: u64,
@@ -46,22 +53,22 @@ struct Unions {
     e: u64,
 }
 
-// The same of three columns, side by side.
-fn three(cells: &[u64], a: usize, b: usize, e: usize, n: usize, ka: u64, kb: u64, ke: u64) -> Unions
-    requires { (a + n ≤ length cells.now) × ((b + n ≤ length cells.now) × (e + n ≤ length cells.now)) }
-    ensures { (result.a ≡ gathered cells.now a ka n)
-        × ((result.b ≡ gathered cells.now b kb n) × (result.e ≡ gathered cells.now e ke n)) }
+// The same of three columns in one walk: three calls of `gathered` would take three times its turns.
+fn three(cells: &[u64], n: usize, a: Column, b: Column, e: Column) -> Unions
+    requires { (a.at + n ≤ length cells.now) × ((b.at + n ≤ length cells.now) × (e.at + n ≤ length cells.now)) }
+    ensures { (result.a ≡ gathered cells.now a.at a.room n)
+        × ((result.b ≡ gathered cells.now b.at b.room n) × (result.e ≡ gathered cells.now e.at e.room n)) }
 {
     let mut u: u64 = 0;
     let mut v: u64 = 0;
     let mut w: u64 = 0;
     for i in 0..n {
-        let x = cells[a + i];
-        let y = cells[b + i];
-        let z = cells[e + i];
-        u = u | x | std::num::wrapping_add_u64(x, ka);
-        v = v | y | std::num::wrapping_add_u64(y, kb);
-        w = w | z | std::num::wrapping_add_u64(z, ke);
+        let x = cells[a.at + i];
+        let y = cells[b.at + i];
+        let z = cells[e.at + i];
+        u = u | x | std::num::wrapping_add_u64(x, a.room);
+        v = v | y | std::num::wrapping_add_u64(y, b.room);
+        w = w | z | std::num::wrapping_add_u64(z, e.room);
     }
     Unions { a: u, b: v, e: w }
 }
@@ -131,16 +138,19 @@ pub fn peers_within(cells: &[u64], n: usize, id: u64, group: u64, p5: u64, p7: u
     requires { InUse cells.now n }
     ensures { result ≡ true → PeersWithin (state_of cells.now) n id group p5 p7 }
 {
-    let u = three(
-        cells,
-        ID_AT,
-        GROUPS_AT,
-        P57_AT,
-        n,
-        room(CELL_TOP, id),
-        room(CELL_TOP, group),
-        halves_room(p5, p7),
-    );
+    let ids = Column {
+        at: ID_AT,
+        room: room(CELL_TOP, id),
+    };
+    let groups = Column {
+        at: GROUPS_AT,
+        room: room(CELL_TOP, group),
+    };
+    let p57 = Column {
+        at: P57_AT,
+        room: halves_room(p5, p7),
+    };
+    let u = three(cells, n, ids, groups, p57);
     (u.a < CELL_TOP) & (u.b < CELL_TOP) & halves(u.e)
 }
 
@@ -158,16 +168,19 @@ pub fn one_group(cells: &[u64], n: usize) -> bool
     requires { InUse cells.now n }
     ensures { result ≡ true → OneGroup (state_of cells.now) n }
 {
-    let u = three(
-        cells,
-        GROUPS_AT + STRIDE,
-        GROUPS_AT + 2 * STRIDE,
-        GROUPS_AT + 3 * STRIDE,
-        n,
-        0,
-        0,
-        0,
-    );
+    let second = Column {
+        at: GROUPS_AT + STRIDE,
+        room: 0,
+    };
+    let third = Column {
+        at: GROUPS_AT + 2 * STRIDE,
+        room: 0,
+    };
+    let fourth = Column {
+        at: GROUPS_AT + 3 * STRIDE,
+        room: 0,
+    };
+    let u = three(cells, n, second, third, fourth);
     (u.a == 0) & (u.b == 0) & (u.e == 0)
 }
 

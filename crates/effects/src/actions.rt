@@ -6,6 +6,9 @@ ghost use Rattle.effects.specs.Lent.{PruneFits};
 
 use records::Peer;
 
+// The number of a PRUNE in the list that C reads.
+const PRUNE: u32 = 2;
+
 // The seconds that a peer is told: none at version 1.0.0.
 fn told(version: u64, seconds: u32) -> u32
     ensures { result ≡ cond (eqb version 0) 0 seconds }
@@ -30,6 +33,6 @@ pub fn put_prune(actions: &mut [u32], at: usize, p: Peer, seconds: u64) -> usize
 {
     let id = p.id as u32;
     let length = told(p.version, seconds as u32);
-    put_numbers(actions, at, 2, id, length);
+    put_numbers(actions, at, PRUNE, id, length);
     at + 3
 }

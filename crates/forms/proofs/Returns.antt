@@ -1,6 +1,7 @@
 -- Each form turned into the other and back; and the calls, from their promise alone.
 -- Assumes nothing.
-use Rattle.std.proofs.Common.{Ok, Err}
+use Rattle.std.proofs.Common.{Result, Ok, Err}
+use Rattle.forms.specs.declared.TurnError.{TurnError}
 use Rattle.forms.specs.declared.TurnError.TheVariants.{NotRouter}
 use Prim.Native.Nat.{ℕ}
 use mathlib.Core.Path.{◌≡◌, refl, sym, ap, ◌∙◌}
@@ -24,7 +25,7 @@ use Rattle.rules.proofs.Keeps.{keeps}
 use Rattle.forms.proofs.CellLaws.{same_cells}
 
 -- ---- the ends of the two functions
-other : (P : Type 0) → Ok tt ≡ Err NotRouter → P
+other : (P : Type 0) → ◌≡◌ {A = Result (Unit {0}) TurnError} (Ok tt) (Err NotRouter) → P
 other P e = let z : ◌≡◌ {A = ℕ} 0 1 = cc in absurd (omega arith)
 
 module _ (rows table : List ℕ) (b : Bool) (e : b ≡ valid (state_of_rows rows)) where

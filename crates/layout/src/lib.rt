@@ -1,5 +1,7 @@
 // How one lent table of numbers holds the router's state: the only code that computes an offset. A change of the layout is made here
 // and in specs/View.antt. Everything above goes by the contracts, which speak of the state that the table holds.
+// A table is any slice of CELLS numbers, as each contract asks: the type [u64; CELLS] would ask more of the crates above, which hold slices.
+// A flag is a number, 0 or 1, as in the records: a damaged one can be any number, and test 12 refuses it.
 #![tactic(auto)]
 
 ghost use Rattle.std.specs.Prelude.{◌≡◌, true, ℕ, ◌+◌, ◌*◌, ◌/◌, ◌%◌, ◌^◌, ◌≤◌, ◌<◌, length, get_or, set};
@@ -673,7 +675,7 @@ pub fn is_bare(cells: &[u64], slot: usize) -> bool
     counted(cells, slot) == 0
 }
 
-// ---- a flag of all slots, as a word
+// ---- a flag of all slots, as a word: one line each, since each promises its own field of the record
 
 pub fn load_members(cells: &[u64], t: usize) -> [u64; WORDS]
     requires { (length cells.now ≡ cell_count) × (t < topic_count) }
@@ -753,7 +755,7 @@ fn past_word(w: u64, i: usize, used: u64) -> u64
     w >> (used - first)
 }
 
-// Whether no slot from `used` on has its bit in the word that starts at cell o.
+// 0 where no slot from `used` on has its bit in the word that starts at cell o: callers join several such by `|`, with no branch.
 pub fn past(cells: &[u64], o: usize, used: u64) -> u64
     requires { o + 4 ≤ length cells.now }
     ensures { result ≡ 0 → (s : ℕ) → s < slot_count → used ≤ s → bit_at cells.now o s ≡ 0 }

@@ -20,7 +20,7 @@ use records::param::{
     PUBLISH_THRESHOLD,
 };
 
-// The least and the greatest magnitude by field: 19 general fields, then the 16 that every topic has.
+// The least and the greatest magnitude by field: 19 general fields, then the 16 that every topic has. Two lists, as specs/Sizes.antt.
 const LEAST: [u64; FIELDS] = [
     1, 1, 1, 0, 0, 1, 1, 0, 0, 1, 1, 1, 0, 1, 1, 1, 1, 1, 0, 0, 0, 1, 0, 0, 1, 0, 0, 1, 1, 1, 0, 0,
     1, 0, 1,

@@ -22,7 +22,7 @@ fn in_time(table: &[u64], slot: usize, t: usize, clock: u64) -> bool
     mesh <= clock - graft
 }
 
-// The members among the slots of word i.
+// The members among the slots of word i. Each turn clears the lowest set bit: as many turns as members, which no range counts.
 fn word_in_time(table: &[u64], t: usize, i: usize, w: u64, clock: u64) -> bool
     requires { (length table.now ≡ cell_count)
         × ((t < topic_count) × ((i < 4) × MembersIn (state_of table.now) t i w)) }

@@ -1,4 +1,5 @@
-// Two flags of all slots, compared word by word. Each test is 0 where it passes, so that several can be gathered.
+// Two flags of all slots, compared word by word. Each test is 0 where it passes, so that several can be gathered. The four cells of a word
+// are written out: a loop over them would be longer.
 ghost use Rattle.std.specs.Prelude.{◌≡◌, ℕ, ◌-◌, ◌/◌, ◌%◌, ◌^◌, ◌<◌, max, length};
 ghost use Rattle.records.specs.Records.{slot_count};
 ghost use Rattle.layout.specs.View.{bit_at};

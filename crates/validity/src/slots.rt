@@ -60,7 +60,7 @@ fn retains_right(table: &[u64], n: usize, m: u64) -> bool
     (0..n).all(|s| retain_at(table, s, m))
 }
 
-// The empty slots below n among those of word i.
+// The empty slots below n among those of word i. Each turn clears the lowest set bit, and the walk ends at slot n: no range counts that.
 fn holes_word(table: &[u64], i: usize, w: u64, n: usize) -> bool
     requires { (length table.now ≡ cell_count) × ((i < 4) × FreeIn (state_of table.now) i w) }
     ensures { result ≡ true

@@ -178,7 +178,7 @@ fn zero_topic(t: TopicRecord) -> bool
 fn sum_at_most(a: u64, b: u64, c: u64) -> bool
     ensures { result ≡ leb (a + b) c }
 {
-    if a <= c { b <= c - a } else { false }
+    a <= c && b <= c - a
 }
 
 // Whether a member is connected, subscribed, not explicit, in a joined topic.

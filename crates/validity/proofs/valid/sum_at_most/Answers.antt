@@ -1,7 +1,5 @@
 use Prim.Native.Nat.{◌+◌, ◌-◌}
 use native.Mathlib.Omega.{arith}
-use mathlib.Core.Path.{sym}
-use borrow.Author.Tests.{lt-leb}
 use Rattle.index.proofs.Flags.{leb_same}
 use Rattle.validity.proofs.valid.sum_at_most.Goals as goal
 
@@ -10,4 +8,4 @@ returns-then-a-c c = leb_same c.args.b (c.args.c - c.args.a) (c.args.a + c.args.
     c.args.c (λ h. omega arith) (λ h. omega arith)
 
 pub returns-else-a-c : goal.returns-else-a-c
-returns-else-a-c c = sym (lt-leb (c.args.a + c.args.b) c.args.c (omega arith))
+returns-else-a-c c = leb_same c.args.a c.args.c (c.args.a + c.args.b) c.args.c (λ h. omega arith) (λ h. omega arith)
