@@ -1,6 +1,8 @@
 -- `gossip_old::made::load`: 2 of the set-up numbers, or what loading the table answers.
+use Rattle.std.proofs.Common.{Ok, Err}
 use Rattle.std.proofs.lemmas.Result.{err_from_is_err_and}
 use Rattle.index.proofs.Flags.{yes, no}
+use Rattle.index.proofs.Kit.{refl}
 use Rattle.gossip_old.proofs.MadeLaws.{load_range, load_fails, load_done}
 use Rattle.gossip_old.proofs.made.load.Goals as goal
 
@@ -11,8 +13,8 @@ pub returns-in_err-load : goal.returns-in_err-load
 returns-in_err-load c =
     let e = err_from_is_err_and c.from_residual.result c.from_residual.ensures.1 in
     rw (e.1, e.2)
-    (load_fails _ _ _ _ _ _ _ _ (yes c.setup_ok.ensures c.if-not-setup_ok.false) c.load.ensures _ c.in_err-load.ensures)
+    (load_fails _ _ _ _ _ _ _ (Err _) (yes c.setup_ok.ensures c.if-not-setup_ok.false) c.in_err-load.ensures _ refl)
 
 pub returns : goal.returns
 returns c =
-    load_done _ _ _ _ _ _ _ _ (yes c.setup_ok.ensures c.if-not-setup_ok.false) c.load.ensures _ c.in_ok-load.ensures c.make_array.ensures
+    load_done _ _ _ _ _ _ _ (Ok _) (yes c.setup_ok.ensures c.if-not-setup_ok.false) c.in_ok-load.ensures _ refl c.make.ensures
