@@ -1,7 +1,7 @@
 -- What an IHAVE and an IWANT come to at each of their ends.
 -- Assumes nothing.
 use Rattle.std.proofs.Common.{Option, Some, None}
-use Rattle.index.proofs.Kit.{ℕ, ◌+◌, ◌*◌, ◌≤◌, ◌≡◌, refl, sym, ap, ◌∙◌, Bool, true, false, not, arith}
+use Rattle.index.proofs.Kit.{ℕ, ◌+◌, ◌*◌, ◌≤◌, ◌<◌, ◌≡◌, refl, sym, ap, ◌∙◌, Bool, true, false, not, arith}
 use mathlib.Core.Bool.{cond, ◌&&◌, ◌||◌}
 use mathlib.Core.List.{List, [], ◌∷◌, ◌++◌}
 use lib.Dec.{ltb}
@@ -87,11 +87,11 @@ module _
         (λ t. let q = ltb-true k m t in absurd (omega arith))
         (λ f. sym (tests false f ∙ with_false (not (under_gossip (state_of table) s))))
 
-    pub served_is : (u : Bool) → u ≡ under_gossip (state_of table) s → (m ≤ k → ⊥) → not u ≡ is_served x n s
+    pub served_is : (u : Bool) → u ≡ under_gossip (state_of table) s → k < m → not u ≡ is_served x n s
     served_is u eu l =
         by_test _ (ltb k m)
         (λ t. ap not eu ∙ with_true (not (under_gossip (state_of table) s)) ∙ sym (tests true t))
-        (λ f. absurd (l (ltb-false k m f)))
+        (λ f. let q = ltb-false k m f in absurd (omega arith))
 
 -- a number that is not stored is not answered
 pub unserved : (x : Extended) (n s : ℕ) (r : Option ℕ) → PlaceOf (stored x.gossip n) r → r ≡ None → false ≡ is_served x n s

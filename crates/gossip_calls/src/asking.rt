@@ -74,15 +74,7 @@ pub fn ihave(
     let fine = time_ok(time) & (id_ok(id) & (topic_ok(topic) & (given.len() <= NUMBERS)));
     let fits = (ACTION_ROOM <= actions.len()) & (NUMBERS <= numbers.len());
     match admit_peer(table, gossip, fine, fits, time, id) {
-        Ok(slot) => answer(
-            table,
-            gossip,
-            time,
-            topic as usize,
-            slot,
-            given,
-            numbers,
-        ),
+        Ok(slot) => answer(table, gossip, time, topic as usize, slot, given, numbers),
         Err(refusal) => refusal,
     }
 }

@@ -76,6 +76,8 @@ fn part_found(gossip: &mut [u64], found: Option<usize>)
     gossip_table::noted::part(gossip, slot);
 }
 
+// The three calls keep their frame: each looks up something else before 01's call, and a function over two closures would be no shorter.
+
 // A connection is there, as crate peers has it. A record that is given up takes its note with it.
 pub fn connect(
     table: &mut [u64; CELLS],

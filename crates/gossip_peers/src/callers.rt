@@ -8,6 +8,7 @@ use gossip_gate::{NOT_CONNECTED, admit};
 use lookup::find::find_connected;
 
 // The slot of the peer with the id behind the tests 12, 2, 8, 1 and 3, or the number of the test that is not passed.
+// That number is what C reads, and a call hands it on as it is.
 pub fn admit_peer(
     table: &[u64],
     gossip: &[u64],

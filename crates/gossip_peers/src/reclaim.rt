@@ -16,5 +16,8 @@ pub fn reclaimed_slots(table: &[u64], time: u64) -> [u64; WORDS]
     ensures { bits_of result ≡ by_slot slot_count (λ s. reclaimableOf (peer_in (state_of table.now) s) time) }
 {
     let retained = layout::load_retained(table);
-    sift(retained, |slot| reclaimable(layout::load_peer(table, slot), time))
+    sift(
+        retained,
+        |slot| reclaimable(layout::load_peer(table, slot), time),
+    )
 }

@@ -78,7 +78,15 @@ pub fn send_idontwant(
         return gate;
     }
     let set = asked(table, topic as usize, sender);
-    tell_set(table, time, topic as usize, sender, Kind::Ask, &set, actions)
+    tell_set(
+        table,
+        time,
+        topic as usize,
+        sender,
+        Kind::Ask,
+        &set,
+        actions,
+    )
 }
 
 // The number goes into the peer's set, unless it is there already.
@@ -149,5 +157,13 @@ pub fn relay(
     }
     let all = relayed(table, topic as usize, sender);
     let set = without_holders(gossip, all, number);
-    tell_set(table, time, topic as usize, sender, Kind::Send, &set, actions)
+    tell_set(
+        table,
+        time,
+        topic as usize,
+        sender,
+        Kind::Send,
+        &set,
+        actions,
+    )
 }

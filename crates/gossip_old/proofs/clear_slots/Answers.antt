@@ -21,13 +21,12 @@ clear-requires c =
 pub loop-slot-preserved : goal.loop-slot-preserved
 loop-slot-preserved c =
     let l = c.loop-slot in
-    let t = took _ _ _ _ _ l.invariant.0 c.in-Some.is c.next.ensures.steps in
-    (
+    let t = took _ _ _ _ _ l.invariant.0 c.in-Some.is c.next.ensures.steps in (
       t.set_is,
       search rules ∙ l.invariant.1,
       rw t.from_is
-      (cleared_more _ _ _ (gossip_of l.gossip) t.slot_lt (t.next.here t.slot_lt) (cleared_next _ _ _ _ _ t.next l.invariant.2) _
-      (search rules)),
+          (cleared_more _ _ _ (gossip_of l.gossip) t.slot_lt (t.next.here t.slot_lt) (cleared_next _ _ _ _ _ t.next l.invariant.2) _
+          (search rules)),
     )
 
 pub shape_of-gossip : goal.shape_of-gossip

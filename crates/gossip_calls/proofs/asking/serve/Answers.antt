@@ -16,9 +16,9 @@ returns-in_default c =
 pub is_served-requires : goal.is_served-requires
 is_served-requires c =
     record {
-      standing = search (admitted_valid, admitted_fine, rules);
-      fine = search (admitted_valid, admitted_fine, rules);
-      slot = search (admitted_valid, admitted_fine, rules);
+      standing = search (admitted_valid, rules);
+      fine = search admitted_fine;
+      slot = search rules;
       kept = place_stored _ _ _ c.find.ensures c.in-Some.is;
     }
 

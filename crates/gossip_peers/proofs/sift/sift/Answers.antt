@@ -21,13 +21,12 @@ passes-requires g c =
 pub loop-slot-preserved : goal.loop-slot-preserved
 loop-slot-preserved g c =
     let l = c.loop-slot in
-    let t = took _ _ _ _ _ l.invariant.0 c.in-Some.is c.next.ensures.steps in
-    (
+    let t = took _ _ _ _ _ l.invariant.0 c.in-Some.is c.next.ensures.steps in (
       t.set_is,
       rw t.from_is
-      (λ f h.
-      sifted_more _ _ _ _ _ _ t.slot_lt (t.next.here t.slot_lt) (h _ _ t.slot_lt c.passes.ensures) c.put-more.ensures
-      (sifted_next _ _ _ _ _ t.next (l.invariant.1 f h))),
+          (λ f h.
+          sifted_more _ _ _ _ _ _ t.slot_lt (t.next.here t.slot_lt) (h _ _ t.slot_lt c.passes.ensures) c.put-more.ensures
+          (sifted_next _ _ _ _ _ t.next (l.invariant.1 f h))),
     )
 
 pub returns : goal.returns

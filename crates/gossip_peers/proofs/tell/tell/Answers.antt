@@ -45,12 +45,11 @@ loop-slot-preserved c =
     let st = state_of a.table.now in
     let m = bits_of a.set.now in
     let n = t.next in
-    let before = tells_as (told_skip st (kind_number a.kind) m _ _ n.later n.none) l.invariant.1 in
-    (
+    let before = tells_as (told_skip st (kind_number a.kind) m _ _ n.later n.none) l.invariant.1 in (
       t.set_is,
       rw t.from_is
-      (tells_as (told_more st (kind_number a.kind) m _ (n.here t.slot_lt))
-      (tells_more _ _ a.actions.now l.actions _ l.n before c.tell_slot.ensures)),
+          (tells_as (told_more st (kind_number a.kind) m _ (n.here t.slot_lt))
+          (tells_more _ _ a.actions.now l.actions _ l.n before c.tell_slot.ensures)),
     )
 
 pub shape_of-actions : goal.shape_of-actions
