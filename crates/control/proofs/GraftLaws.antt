@@ -2,6 +2,7 @@
 -- Assumes nothing.
 use Rattle.index.proofs.Kit.{ℕ, ◌≡◌, refl, Bool, arith}
 use mathlib.Core.List.{List, [], ◌∷◌}
+use mathlib.Core.Logic.{◌⊎◌, inl, inr}
 use lib.Seq.{sets}
 use Rattle.records.specs.declared.Peer.{Peer}
 use Rattle.records.specs.Records.{peer_in, set_clock, set_peer}
@@ -14,6 +15,8 @@ use Rattle.rules.specs.declared.Answer.{Answer}
 use Rattle.rules.specs.declared.Answer.TheVariants.{Done}
 use Rattle.rules.specs.declared.Seen.{Seen}
 use Rattle.rules.specs.declared.GraftCase.{GraftCase}
+use Rattle.rules.specs.declared.GraftCase.TheVariants.{NotJoined, Graylisted, Explicit, Negative, NotSubscribed, Full}
+use Rattle.rules.specs.Reply.{ignored}
 use Rattle.rules.specs.Step.{seen_in, raised_p7, is_crowded, graft_case, graft_refused, graft_done, graft_reply}
 use Rattle.rules.specs.Promise.{Gives}
 use Rattle.rules.proofs.PromiseLaws.{leaves_moved}
@@ -100,6 +103,33 @@ module _ (c : GraftCase) (table table' list list' : List ℕ) (time t s : ℕ) (
       Gives (graft_reply (state_of table) time t s) a table table' list list'
   unfolding graft_reply
   graft_at v w k ev ew ek ec h = rw (← ev, ← ew, ← ek, ec) h
+
+-- the cases that are answered alike
+module _
+    (table table' list list' : List ℕ)
+    (time t s : ℕ)
+    (a : Answer)
+    (v : Seen)
+    (w : Bool)
+    (k : GraftCase)
+    (ev : v ≡ seen_in (state_of table) t s)
+    (ew : w ≡ is_crowded (state_of table) t)
+    (ek : k ≡ graft_case v w time t)
+  where
+    pub graft_ignored :
+        (k ≡ NotJoined) ⊎ (k ≡ Graylisted) → Gives (ignored (state_of table) time) a table table' list list' →
+        Gives (graft_reply (state_of table) time t s) a table table' list list'
+    graft_ignored (inl e) h = graft_at NotJoined table table' list list' time t s a v w k ev ew ek e h
+    graft_ignored (inr e) h = graft_at Graylisted table table' list list' time t s a v w k ev ew ek e h
+
+    pub graft_pruned :
+        (k ≡ Explicit) ⊎ ((k ≡ Negative) ⊎ ((k ≡ NotSubscribed) ⊎ (k ≡ Full))) →
+        Gives (graft_refused (state_of table) time t s (peer_in (state_of table) s)) a table table' list list' →
+        Gives (graft_reply (state_of table) time t s) a table table' list list'
+    graft_pruned (inl e) h = graft_at Explicit table table' list list' time t s a v w k ev ew ek e h
+    graft_pruned (inr (inl e)) h = graft_at Negative table table' list list' time t s a v w k ev ew ek e h
+    graft_pruned (inr (inr (inl e))) h = graft_at NotSubscribed table table' list list' time t s a v w k ev ew ek e h
+    graft_pruned (inr (inr (inr e))) h = graft_at Full table table' list list' time t s a v w k ev ew ek e h
 
 module _ (table table' list list' : List ℕ) (time t s : ℕ) (a : Answer) (v : Seen) (e : v ≡ seen_in (state_of table) t s) where
   pub refused_seen :

@@ -1,5 +1,6 @@
 -- A PRUNE that comes in: its seconds, and what it leaves.
 -- Assumes nothing.
+use Rattle.std.proofs.Common.{min}
 use Rattle.index.proofs.Kit.{ℕ, ◌≤◌, ◌<◌, ◌≡◌, refl, ap, ◌∙◌, true, arith}
 use mathlib.Core.List.{[]}
 use borrow.Author.Tests.{ne_eqb}
@@ -18,13 +19,9 @@ module _ (st : State) (seconds : ℕ) where
   unfolding seconds_of
   seconds_none n v z e = (rw z e, omega (arith, e, (sizes st v).prune))
 
-  pub seconds_given : (seconds ≡ 0 → ⊥) → seconds ≤ 3600 → (seconds ≡ seconds_of st seconds) × (seconds ≤ 3600)
+  pub seconds_cut : (n : ℕ) → (seconds ≡ 0 → ⊥) → n ≡ min seconds 3600 → (n ≡ seconds_of st seconds) × (n ≤ 3600)
   unfolding seconds_of
-  seconds_given n h = (rw (ne_eqb seconds 0 n) (omega arith), h)
-
-  pub seconds_many : (seconds ≡ 0 → ⊥) → 3600 < seconds → (3600 ≡ seconds_of st seconds) × (3600 ≤ 3600)
-  unfolding seconds_of
-  seconds_many n h = (rw (ne_eqb seconds 0 n) (omega arith), omega arith)
+  seconds_cut n z e = (rw (ne_eqb seconds 0 z) e, omega (arith, e))
 
 -- the end of the backoff, as it is computed
 pub pruned_is :

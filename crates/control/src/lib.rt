@@ -6,18 +6,17 @@ ghost use Rattle.records.specs.Records.{topic_count};
 ghost use Rattle.layout.specs.View.{state_of};
 ghost use Rattle.effects.specs.Lent.{AtTopic};
 ghost use Rattle.rules.specs.Calls.{graft as Calls·graft, prune as Calls·prune};
-ghost use Rattle.rules.specs.Step.{effect, raised_p7, is_crowded, graft_case, graft_refused, graft_reply, seconds_of, prune_reply};
+ghost use Rattle.rules.specs.Step.{raised_p7, is_crowded, graft_case, graft_refused, graft_reply, seconds_of, prune_reply};
 ghost use Rattle.rules.specs.Promise.{Leaves, Gives, Follows};
 ghost use Rattle.peer_score.specs.Standing.{Standing};
-ghost use Rattle.gate.specs.Ready.{TopicReady, PlaceReady, TopicLent, PlaceLent};
+ghost use Rattle.gate.specs.Ready.{PlaceReady, PlaceLent};
 ghost use Rattle.control.specs.Refusable.{Refusable};
 
 use effects::actions::put_prune;
 use effects::slots::{graft_slot, load_magnitude, mesh_size, prune_slot};
 use effects::values::{end_after, with_end, with_p7};
-use gate::{admit, finish, id_ok, ignore, is_heard, see, time_ok, topic_ok};
+use gate::{admit_peer, finish, id_ok, ignore, is_heard, see, time_ok, topic_ok};
 use layout::CELLS;
-use lookup::find::find_connected;
 use records::{Peer, param};
 use rules::{Answer, GraftCase, Seen};
 
@@ -106,30 +105,18 @@ fn graft_reply(
     let sender = v.sender;
     let p = sender.peer;
     match graft_case(v, is_crowded(table, topic), time, topic) {
-        GraftCase::NotJoined => ignore(table, time),
-        GraftCase::Graylisted => ignore(table, time),
+        GraftCase::NotJoined | GraftCase::Graylisted => ignore(table, time),
         GraftCase::AlreadyMember => finish(table, time),
-        GraftCase::Explicit => graft_refused(table, time, topic, slot, p, actions),
         GraftCase::InBackoff => graft_refused(table, time, topic, slot, raised_p7(p), actions),
-        GraftCase::Negative => graft_refused(table, time, topic, slot, p, actions),
-        GraftCase::NotSubscribed => graft_refused(table, time, topic, slot, p, actions),
-        GraftCase::Full => graft_refused(table, time, topic, slot, p, actions),
+        GraftCase::Explicit
+        | GraftCase::Negative
+        | GraftCase::NotSubscribed
+        | GraftCase::Full => graft_refused(table, time, topic, slot, p, actions),
         GraftCase::Enters => {
             graft_slot(table, topic, slot, time);
             finish(table, time)
         }
     }
-}
-
-fn graft_from(table: &mut [u64], time: u64, id: u64, topic: usize, actions: &mut [u32]) -> Answer
-    requires { TopicLent table.old actions.old time topic }
-    ensures { Gives (effect (state_of table.old) (Calls·graft time id topic)) result
-        table.old table.new actions.old actions.new }
-{
-    let Some(slot) = find_connected(table, id) else {
-        return Answer::NotConnected;
-    };
-    graft_reply(table, time, topic, slot, actions)
 }
 
 // A GRAFT comes in.
@@ -144,9 +131,9 @@ pub fn graft(
         table.old table.new actions.old actions.new }
 {
     let fine = time_ok(time) & (id_ok(id) & topic_ok(topic));
-    match admit(table, fine, actions.len(), time) {
-        Err(a) => a,
-        Ok(()) => graft_from(table, time, id, topic as usize, actions),
+    match admit_peer(table, fine, actions.len(), time, id) {
+        Err(refusal) => refusal,
+        Ok(slot) => graft_reply(table, time, topic as usize, slot, actions),
     }
 }
 
@@ -158,7 +145,7 @@ fn seconds_of(table: &[u64], seconds: u64) -> u64
     if seconds == 0 {
         return load_magnitude(table, param::PRUNE_BACKOFF);
     }
-    if seconds <= 3600 { seconds } else { 3600 }
+    seconds.min(3600)
 }
 
 fn prune_reply(table: &mut [u64], time: u64, topic: usize, slot: usize, seconds: u64) -> Answer
@@ -175,17 +162,6 @@ fn prune_reply(table: &mut [u64], time: u64, topic: usize, slot: usize, seconds:
     ignore(table, time)
 }
 
-fn prune_from(table: &mut [u64], time: u64, id: u64, topic: usize, seconds: u64) -> Answer
-    requires { TopicReady table.old time topic }
-    ensures { Leaves (effect (state_of table.old) (Calls·prune time id topic seconds)) result
-        table.old table.new }
-{
-    let Some(slot) = find_connected(table, id) else {
-        return Answer::NotConnected;
-    };
-    prune_reply(table, time, topic, slot, seconds)
-}
-
 // A PRUNE comes in.
 pub fn prune(
     table: &mut [u64; CELLS],
@@ -199,8 +175,8 @@ pub fn prune(
         table.old table.new actions.old actions.new }
 {
     let fine = time_ok(time) & (id_ok(id) & topic_ok(topic));
-    match admit(table, fine, actions.len(), time) {
-        Err(a) => a,
-        Ok(()) => prune_from(table, time, id, topic as usize, seconds),
+    match admit_peer(table, fine, actions.len(), time, id) {
+        Err(refusal) => refusal,
+        Ok(slot) => prune_reply(table, time, topic as usize, slot, seconds),
     }
 }

@@ -1,7 +1,6 @@
 -- What a delivery comes to at each of its ends.
 -- Assumes nothing.
 use Rattle.std.proofs.Common.{Result, Ok}
-use Rattle.std.proofs.Common.{Unit, tt}
 use Rattle.rules.specs.declared.Answer.{Answer}
 use Prim.Native.Nat.{ℕ, ◌<◌, ◌≤◌}
 use mathlib.Core.Path.{◌≡◌, refl, sym, ap₂, ◌∙◌}
@@ -27,10 +26,11 @@ use Rattle.credits.proofs.CreditLaws.{credited_is}
 use Rattle.effects.specs.Effects.{on_topic}
 use Rattle.rules.specs.Reply.{Reply}
 use Rattle.rules.specs.Calls.{deliver, id_ok, topic_ok}
-use Rattle.rules.specs.Step.{gate_of, effect, is_heard, delivered_of, deliver_reply}
+use Rattle.rules.specs.Step.{effect, is_heard, delivered_of, deliver_reply}
 use Rattle.rules.proofs.EndLaws.{quiet_peer}
 use Rattle.rules.proofs.CaseLaws.{topic_in_lem}
-use Rattle.gate.proofs.CallLaws.{gate_fine}
+use Rattle.gate.specs.PeerGate.{peer_gate}
+use Rattle.gate.proofs.PeerGateLaws.{peer_fine}
 
 -- ---- what is credited is what the rules deliver
 
@@ -143,11 +143,12 @@ pub deliver_range :
 deliver_range id t kind a b p q = ap₂ (λ (x y : Bool). x && y && (leb 1 kind && leb kind 3)) p q
 
 pub deliver_topic :
-    (table : List ℕ) (a b d k : Bool) (room time : ℕ) (g : Result (Unit {0}) Answer) →
-    g ≡ gate_of (state_of table) (a && (b && d && k)) room time →
-    g ≡ Ok tt →
+    (table : List ℕ) (a b d k : Bool) (room time id : ℕ) (g : Result ℕ Answer) →
+    g ≡ peer_gate (state_of table) (a && (b && d && k)) room time id →
+    (s : ℕ) →
+    g ≡ Ok s →
     (t : ℕ) →
     d ≡ topic_ok t →
     t < 8
-deliver_topic table a b d k room time g eg e t ed =
-    topic_in_lem t (sym ed ∙ (both b d (both (b && d) k (gate_fine table a (b && d && k) room time g eg e)).0).1)
+deliver_topic table a b d k room time id g eg s e t ed =
+    topic_in_lem t (sym ed ∙ (both b d (both (b && d) k (peer_fine table a (b && d && k) room time id g eg s e)).0).1)

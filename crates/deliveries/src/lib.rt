@@ -8,17 +8,16 @@ ghost use Rattle.records.specs.Records.{topic_count};
 ghost use Rattle.layout.specs.View.{state_of};
 ghost use Rattle.effects.specs.Lent.{AtSlot};
 ghost use Rattle.rules.specs.Calls.{deliver as Calls·deliver, decay as Calls·decay};
-ghost use Rattle.rules.specs.Step.{effect, deliver_reply, decay_topic, decay_p7, decay_slot, decay_reply};
+ghost use Rattle.rules.specs.Step.{deliver_reply, decay_topic, decay_p7, decay_slot, decay_reply};
 ghost use Rattle.rules.specs.Promise.{Leaves, Follows};
-ghost use Rattle.gate.specs.Ready.{Ready, TopicReady, PlaceReady};
+ghost use Rattle.gate.specs.Ready.{Ready, PlaceReady};
 ghost use Rattle.deliveries.specs.Decays.{DecaysIn, DecaysAt, IdleBelow, NextTopic};
 
 use credits::credited;
 use effects::slots::load_magnitude;
 use effects::values::with_p7;
-use gate::{admit, finish, id_ok, ignore, is_heard, see, time_ok, topic_ok};
+use gate::{admit, admit_peer, finish, id_ok, ignore, is_heard, see, time_ok, topic_ok};
 use layout::CELLS;
-use lookup::find::find_connected;
 use peer_score::is_idle;
 use records::{SLOTS, TOPICS, param};
 use rules::Answer;
@@ -39,17 +38,6 @@ fn deliver_reply(table: &mut [u64], time: u64, topic: usize, slot: usize, kind: 
     ignore(table, time)
 }
 
-fn deliver_from(table: &mut [u64], time: u64, id: u64, topic: usize, kind: u64) -> Answer
-    requires { TopicReady table.old time topic }
-    ensures { Leaves (effect (state_of table.old) (Calls·deliver time id topic kind)) result
-        table.old table.new }
-{
-    let Some(slot) = find_connected(table, id) else {
-        return Answer::NotConnected;
-    };
-    deliver_reply(table, time, topic, slot, kind)
-}
-
 // A peer delivers a message.
 pub fn deliver(
     table: &mut [u64; CELLS],
@@ -63,9 +51,9 @@ pub fn deliver(
         table.old table.new actions.old actions.new }
 {
     let fine = time_ok(time) & ((id_ok(id) & topic_ok(topic)) & ((1 <= kind) & (kind <= 3)));
-    match admit(table, fine, actions.len(), time) {
-        Err(a) => a,
-        Ok(()) => deliver_from(table, time, id, topic as usize, kind),
+    match admit_peer(table, fine, actions.len(), time, id) {
+        Err(refusal) => refusal,
+        Ok(slot) => deliver_reply(table, time, topic as usize, slot, kind),
     }
 }
 
@@ -170,7 +158,7 @@ pub fn decay(table: &mut [u64; CELLS], time: u64, actions: &mut [u32]) -> Answer
 {
     let fine = time_ok(time);
     match admit(table, fine, actions.len(), time) {
-        Err(a) => a,
+        Err(refusal) => refusal,
         Ok(()) => decay_from(table, time),
     }
 }

@@ -7,8 +7,10 @@ ghost use Rattle.layout.specs.View.{clock_at, cell_count, state_of};
 ghost use Rattle.rules.specs.Calls.{id_ok, topic_ok, time_ok};
 ghost use Rattle.rules.specs.Step.{gate_of, sender_in, seen_in, heard};
 ghost use Rattle.peer_score.specs.Standing.{SlotStanding, PlaceStanding};
+ghost use Rattle.gate.specs.PeerGate.{peer_gate};
 
 use effects::slots::{is_joined, load_magnitude};
+use lookup::find::find_connected;
 use records::{ACTION_ROOM, param};
 use rules::{Answer, Seen, Sender};
 use score::sums::is_below;
@@ -50,6 +52,21 @@ pub fn admit(table: &[u64], fine: bool, room: usize, time: u64) -> Result<(), An
         return Err(Answer::Early);
     }
     Ok(())
+}
+
+// The same tests, and then 3: the slot of the connected record that holds the id.
+pub fn admit_peer(
+    table: &[u64],
+    fine: bool,
+    room: usize,
+    time: u64,
+    id: u64,
+) -> Result<usize, Answer>
+    requires { length table.now ≡ cell_count }
+    ensures { result ≡ peer_gate (state_of table.now) fine room time id }
+{
+    admit(table, fine, room, time)?;
+    find_connected(table, id).ok_or(Answer::NotConnected)
 }
 
 // 0 with no action.

@@ -1,3 +1,4 @@
+pub mod CellLaws
 pub mod ListLaws
 pub mod NoteLaws
 pub mod StoredLaws

@@ -1,33 +1,31 @@
 -- What an IHAVE and an IWANT come to at each of their ends.
 -- Assumes nothing.
 use Rattle.std.proofs.Common.{Option, Some, None}
-use Rattle.index.proofs.Kit.{ℕ, ◌+◌, ◌*◌, ◌≤◌, ◌≡◌, refl, sym, ap, ◌∙◌, Bool, true, false, not, arith}
+use Rattle.index.proofs.Kit.{ℕ, ◌+◌, ◌*◌, ◌≤◌, ◌<◌, ◌≡◌, refl, sym, ap, ◌∙◌, Bool, true, false, not, arith}
 use mathlib.Core.Bool.{cond, ◌&&◌, ◌||◌}
 use mathlib.Core.List.{List, [], ◌∷◌, ◌++◌}
 use lib.Dec.{ltb}
 use lib.ListN.{length, length-append, set}
 use lib.Seq.{sets}
-use borrow.Author.Tests.{ltb-true}
+use borrow.Author.Tests.{ltb-true, ltb-false}
 use Rattle.index.proofs.Index.{both}
-use Rattle.index.proofs.Flags.{failed, passed, cond_case}
+use Rattle.index.proofs.Flags.{by_test, failed, passed, cond_case}
 use Rattle.records.specs.Records.{set_clock}
 use Rattle.layout.specs.View.{clock_at, state_of}
-use Rattle.lookup.specs.Find.{find_connected}
 use Rattle.effects.specs.Effects.{is_joined}
-use Rattle.gossip.specs.Notes.{Extended, note_in, has, stored, set_note, set_replies, count_in, replied, rows_most, numbers_most}
-use Rattle.gossip.specs.Calls.{ihave, iwant}
-use Rattle.gossip.specs.Step.{FullReply, ignored_all, done_all, of_peer_all, new_effect, under_gossip, wanted, with_ihave, is_answered, ihave_reply}
+use Rattle.gossip.specs.Notes.{Extended, note_in, has, stored, set_note, set_replies, count_in, replied, numbers_most}
+use Rattle.gossip.specs.Step.{FullReply, ignored_all, done_all, under_gossip, wanted, with_ihave, is_answered, ihave_reply}
 use Rattle.gossip.specs.Step.{is_served, iwant_reply}
 use Rattle.gossip.proofs.ListLaws.{clash}
+use Rattle.stores.specs.View.{PlaceOf}
 use Rattle.gossip_table.specs.View.{gossip_of, extended_of}
 use Rattle.gossip_table.specs.Fine.{ReplyFits}
 use Rattle.gossip_table.proofs.FineLaws.{fine_bounds}
 use Rattle.gossip_gate.specs.Promise.{LeavesAll}
 use Rattle.gossip_gate.specs.Admitted.{SlotAdmitted}
 use Rattle.gossip_gate.proofs.AdmittedLaws.{admitted_fine}
-use Rattle.gossip_gate.proofs.ReplyLaws.{peer_found, peer_missing, ihave_ignored, ihave_answers, iwant_ignored, iwant_serves}
-use Rattle.gossip_gate.proofs.EndLaws.{ends_ignored, ends_done, ends_missing, ends_found}
-use Rattle.gossip_gate.proofs.CallLaws.{quiet_peer}
+use Rattle.gossip_gate.proofs.ReplyLaws.{ihave_ignored, ihave_answers, iwant_ignored, iwant_serves}
+use Rattle.gossip_gate.proofs.EndLaws.{ends_ignored, ends_done}
 use Rattle.gossip_calls.specs.Asked.{Wanting, HavingAt}
 use Rattle.gossip_calls.proofs.NumberLaws.{no_numbers}
 
@@ -60,31 +58,50 @@ module _
     unfolding is_answered
     answered_is u eu e = rw (← ea, ← eb, ← eu) (late a u b e)
 
-served_as : (u a b : Bool) → (a && (not u && b)) ≡ (not u && (a && b))
-served_as true true b = refl
-served_as true false b = refl
-served_as false a b = refl
+with_false : (b : Bool) → (b && false) ≡ false
+with_false true = refl
+with_false false = refl
+
+with_true : (b : Bool) → b ≡ (b && true)
+with_true true = refl
+with_true false = refl
 
 module _
     (table gossip : List ℕ)
-    (n s place k m : ℕ)
-    (w : Wanting table gossip n s place)
+    (n s k m : ℕ)
+    (w : Wanting table gossip n s)
     (ek : k ≡ count_in (gossip_of gossip).replies n s)
     (em : m ≡ (gossip_of gossip).setup.replies)
   where
     abbrev x : Extended
     x = extended_of table gossip
 
-    tests : is_served x n s ≡ (ltb place rows_most && (not (under_gossip (state_of table) s) && ltb k m))
+    -- of a stored number two tests are left
+    tests : (b : Bool) → ltb k m ≡ b → is_served x n s ≡ (not (under_gossip (state_of table) s) && b)
     unfolding is_served
-    tests = rw (w.found, ek, em) (sym (served_as (under_gossip (state_of table) s) (stored (gossip_of gossip) n) _))
+    tests b e = rw (w.kept, ← ek, ← em, e)
 
-    pub served_not : not (ltb place rows_most && ltb k m) ≡ true → false ≡ is_served x n s
-    served_not e = early (ltb place rows_most) (under_gossip (state_of table) s) (ltb k m) e ∙ sym tests
+    pub served_not : m ≤ k → false ≡ is_served x n s
+    served_not l =
+        by_test _ (ltb k m)
+        (λ t. let q = ltb-true k m t in absurd (omega arith))
+        (λ f. sym (tests false f ∙ with_false (not (under_gossip (state_of table) s))))
 
-    pub served_is : (u : Bool) → u ≡ under_gossip (state_of table) s → not (ltb place rows_most && ltb k m) ≡ false → not u ≡ is_served x n s
-    served_is u eu e =
-        ap not eu ∙ late (ltb place rows_most) (under_gossip (state_of table) s) (ltb k m) e ∙ sym tests
+    pub served_is : (u : Bool) → u ≡ under_gossip (state_of table) s → k < m → not u ≡ is_served x n s
+    served_is u eu l =
+        by_test _ (ltb k m)
+        (λ t. ap not eu ∙ with_true (not (under_gossip (state_of table) s)) ∙ sym (tests true t))
+        (λ f. let q = ltb-false k m f in absurd (omega arith))
+
+-- a number that is not stored is not answered
+pub unserved : (x : Extended) (n s : ℕ) (r : Option ℕ) → PlaceOf (stored x.gossip n) r → r ≡ None → false ≡ is_served x n s
+unfolding is_served
+unserved x n s r h e =
+    let z : stored x.gossip n ≡ false = rw e at h in
+    sym (rw z (with_false (not (under_gossip x.base s))))
+
+pub place_stored : (b : Bool) (r : Option ℕ) (p : ℕ) → PlaceOf b r → r ≡ Some p → b ≡ true
+place_stored b r p h e = let z : PlaceOf b (Some p) = rw e at h in z.0
 
 -- ---- an IHAVE
 wanted_length : (f : ℕ → Bool) (l r : List ℕ) → length (wanted f l r) ≤ length l + length r
@@ -148,36 +165,7 @@ module _
           k.0 ∙ sym (ap (λ (o : FullReply). sets numbers 0 o.numbers) q),
         )
 
--- of a peer: 3, or its slot's reply
-module _
-    (table gossip numbers : List ℕ)
-    (id : ℕ)
-    (f : ℕ → FullReply)
-    (k : Option ℕ)
-    (e : k ≡ find_connected (state_of table) id)
-  where
-    abbrev reply : FullReply
-    reply = of_peer_all (extended_of table gossip) id f
-
-    pub asks_missing :
-        k ≡ None → LeavesAll reply 3 table table gossip gossip × (numbers ≡ sets numbers 0 reply.numbers)
-    asks_missing g = (
-      ends_missing table gossip id f k e g,
-      no_numbers numbers reply _ (peer_missing (extended_of table gossip) id f (sym e ∙ g)) refl,
-    )
-
-    pub asks_found :
-        (s r : ℕ) (table' gossip' numbers' : List ℕ) →
-        k ≡ Some s →
-        LeavesAll (f s) r table table' gossip gossip' × (numbers' ≡ sets numbers 0 (f s).numbers) →
-        LeavesAll reply r table table' gossip gossip' × (numbers' ≡ sets numbers 0 reply.numbers)
-    asks_found s r table' gossip' numbers' g h = (
-      ends_found table gossip id f k e s r table' gossip' g h.0,
-      h.1
-          ∙ sym (ap (λ (o : FullReply). sets numbers 0 o.numbers) (peer_found (extended_of table gossip) id f s (sym e ∙ g))),
-    )
-
-answer_silent : (x : Extended) (time t : ℕ) (given : List ℕ) (s : ℕ) → (ihave_reply x time t given s).actions ≡ []
+pub answer_silent : (x : Extended) (time t : ℕ) (given : List ℕ) (s : ℕ) → (ihave_reply x time t given s).actions ≡ []
 unfolding ihave_reply
 answer_silent x time t given s = go (is_answered x t s)
   where
@@ -186,10 +174,6 @@ answer_silent x time t given s = go (is_answered x t s)
         (ignored_all x time)).actions ≡ []
     go true = refl
     go false = refl
-
-pub quiet_ihave : (x : Extended) (time id t : ℕ) (given : List ℕ) (k : ℕ) → (new_effect x (ihave time id t given k)).actions ≡ []
-unfolding new_effect
-quiet_ihave x time id t given k = quiet_peer x id (ihave_reply x time t given) (answer_silent x time t given)
 
 -- ---- an IWANT
 module _
@@ -234,7 +218,7 @@ serve_fits {table} {gossip} {time} {s} a n b eb e =
     let m = (fine_bounds f.base g f.ok).1 in
     record { fine = f; slot = a.slot; kept = q.0; few = omega (arith, l, m) }
 
-serve_silent : (x : Extended) (time n s : ℕ) → (iwant_reply x time n s).actions ≡ []
+pub serve_silent : (x : Extended) (time n s : ℕ) → (iwant_reply x time n s).actions ≡ []
 unfolding iwant_reply
 serve_silent x time n s = go (is_served x n s)
   where
@@ -242,7 +226,3 @@ serve_silent x time n s = go (is_served x n s)
         ≡ []
     go true = refl
     go false = refl
-
-pub quiet_iwant : (x : Extended) (time id n : ℕ) → (new_effect x (iwant time id n)).actions ≡ []
-unfolding new_effect
-quiet_iwant x time id n = quiet_peer x id (iwant_reply x time n) (serve_silent x time n)

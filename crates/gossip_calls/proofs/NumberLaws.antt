@@ -18,11 +18,10 @@ use Rattle.gossip.specs.Notes.{numbers_most}
 use Rattle.gossip.specs.Calls.{New, new, time_of_new, new_arguments_ok, list_ok}
 use Rattle.gossip.specs.Step.{FullReply, new_effect}
 use Rattle.gossip_table.specs.View.{gossip_cells, extended_of}
-use Rattle.gossip_gate.specs.Promise.{LeavesAll, GivesAll, FollowsAll, Tells, gate_all}
-use Rattle.gossip_gate.specs.Admitted.{TopicAdmitted}
-use Rattle.gossip_gate.proofs.PromiseLaws.{gives_quiet}
+use Rattle.gossip_gate.specs.Promise.{GivesAll, FollowsAll, Tells, gate_all}
+use Rattle.gossip_gate.specs.Admitted.{SlotAdmitted, TopicAdmitted}
 use Rattle.gossip_gate.proofs.GateLaws.{gate_refusal, gate_silent, gate_gives, gate_numbers, gate_fine, gate_lists, gate_admitted}
-use Rattle.gossip_calls.specs.Asked.{Announcing, Having}
+use Rattle.gossip_calls.specs.Asked.{Announcing, HavingAt}
 
 -- a reply without numbers leaves the lent list as it was
 pub no_numbers : (numbers : List ℕ) (o p : FullReply) → o ≡ p → p.numbers ≡ [] → numbers ≡ sets numbers 0 o.numbers
@@ -56,16 +55,6 @@ module _
         gate_gives c table gossip list a b d n ea eb ed en e r table' gossip' list' h.0,
         h.1 ∙ sym (ap (sets numbers 0) (gate_numbers c table gossip list a b d n ea eb ed en e)),
       )
-
-      -- a call that gives no action
-      pub lists_quiet :
-          (new_effect (extended_of table gossip) c).actions ≡ [] →
-          LeavesAll (new_effect (extended_of table gossip) c) r table table' gossip gossip'
-          × (numbers' ≡ sets numbers 0 (new_effect (extended_of table gossip) c).numbers) →
-          FollowsAll (new c) r table table' gossip gossip' list list × Tells (new c) table gossip list numbers numbers'
-      lists_quiet q h =
-          lists_given list
-          (gives_quiet (new_effect (extended_of table gossip) c) r table table' gossip gossip' list q h.0, h.1)
 
 -- ---- what the inner function may rely on
 pub topic_admitted :
@@ -110,20 +99,22 @@ module _
           fits = leb-true numbers_most (length numbers) rooms.1;
         }
 
-    pub having :
-        (given : List ℕ) (p q : Bool) →
-        b ≡ (p && (q && leb (length given) numbers_most)) →
-        q ≡ topic_ok t →
-        Having table gossip time t given numbers
-    having given p q eb eq =
-        let f = (both p (q && leb (length given) numbers_most) (sym eb ∙ gate_fine table gossip a b fits time n en e)).1 in
-        let g = both q (leb (length given) numbers_most) f in
-        record {
-          admitted = gate_admitted table gossip a b fits time n en e ea l m;
-          topic = topic_in_lem t (sym eq ∙ g.0);
-          few = leb-true (length given) numbers_most g.1;
-          fits = leb-true numbers_most (length numbers) rooms.1;
-        }
+pub having :
+    {table gossip : List ℕ} (list numbers given : List ℕ) {time s : ℕ} (t : ℕ) (p q : Bool) →
+    SlotAdmitted table gossip time s →
+    (p && (q && leb (length given) numbers_most)) ≡ true →
+    q ≡ topic_ok t →
+    (leb action_room (length list) && leb numbers_most (length numbers)) ≡ true →
+    HavingAt table gossip time t s given numbers
+having list numbers given t p q a fine eq lists =
+    let g = both q (leb (length given) numbers_most) (both p (q && leb (length given) numbers_most) fine).1 in
+    record {
+      admitted = a.admitted;
+      topic = topic_in_lem t (sym eq ∙ g.0);
+      slot = a.slot;
+      few = leb-true (length given) numbers_most g.1;
+      fits = leb-true numbers_most (length numbers) (both (leb action_room (length list)) (leb numbers_most (length numbers)) lists).1;
+    }
 
 -- an id, a topic, and not too many numbers
 pub arguments_are :

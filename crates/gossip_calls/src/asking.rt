@@ -2,25 +2,22 @@
 ghost use Rattle.std.specs.Prelude.{◌≡◌, length};
 ghost use Rattle.std.proofs.lemmas.List.Edits.{sets};
 ghost use Rattle.gossip.specs.Calls.{new, ihave as Calls·ihave, iwant as Calls·iwant};
-ghost use Rattle.gossip.specs.Step.{of_peer_all, is_served, iwant_reply, is_answered, ihave_reply};
+ghost use Rattle.gossip.specs.Step.{is_served, iwant_reply, is_answered, ihave_reply};
 ghost use Rattle.gossip_table.specs.View.{extended_of};
 ghost use Rattle.gossip_gate.specs.Promise.{LeavesAll, FollowsAll, Tells};
-ghost use Rattle.gossip_gate.specs.Admitted.{Admitted, SlotAdmitted};
-ghost use Rattle.gossip_calls.specs.Asked.{Having, HavingAt, Answering, Wanting};
+ghost use Rattle.gossip_gate.specs.Admitted.{SlotAdmitted};
+ghost use Rattle.gossip_calls.specs.Asked.{HavingAt, Answering, Wanting};
 
 use crate::NUMBERS;
 use effects::slots::is_joined;
 use gate::{id_ok, time_ok, topic_ok};
-use gossip_gate::{NOT_CONNECTED, admit, finish, ignore};
+use gossip_gate::{finish, ignore};
+use gossip_peers::callers::admit_peer;
 use gossip_peers::senders::under_gossip;
 use gossip_table::noted::{count_ihave, may_ihave};
 use gossip_table::{GOSSIP_CELLS, load_reply_bound, stored};
 use layout::CELLS;
-use lookup::find::find_connected;
 use records::ACTION_ROOM;
-
-// The places of the stores of all topics.
-const PLACES: usize = 2560;
 
 // Whether an IHAVE of the peer in a slot is answered. A score costs more than the other tests, and comes last.
 fn is_answered(table: &[u64], gossip: &[u64], topic: usize, slot: usize) -> bool
@@ -58,29 +55,6 @@ fn answer(
     finish(table, time, 0, count)
 }
 
-fn ihave_from(
-    table: &mut [u64],
-    gossip: &mut [u64],
-    time: u64,
-    id: u64,
-    topic: usize,
-    given: &[u64],
-    numbers: &mut [u64],
-) -> u64
-    requires { Having table.old gossip.old time topic given.now numbers.old }
-    ensures { LeavesAll (of_peer_all (extended_of table.old gossip.old) id
-        (ihave_reply (extended_of table.old gossip.old) time topic given.now)) result
-        table.old table.new gossip.old gossip.new
-        × (numbers.new ≡ sets numbers.old 0
-        (of_peer_all (extended_of table.old gossip.old) id
-        (ihave_reply (extended_of table.old gossip.old) time topic given.now)).numbers) }
-{
-    let Some(slot) = find_connected(table, id) else {
-        return NOT_CONNECTED;
-    };
-    answer(table, gossip, time, topic, slot, given, numbers)
-}
-
 // A peer has messages of a topic.
 pub fn ihave(
     table: &mut [u64; CELLS],
@@ -99,20 +73,18 @@ pub fn ihave(
 {
     let fine = time_ok(time) & (id_ok(id) & (topic_ok(topic) & (given.len() <= NUMBERS)));
     let fits = (ACTION_ROOM <= actions.len()) & (NUMBERS <= numbers.len());
-    let gate = admit(table, gossip, fine, fits, time);
-    if gate != 0 {
-        return gate;
+    match admit_peer(table, gossip, fine, fits, time, id) {
+        Ok(slot) => answer(table, gossip, time, topic as usize, slot, given, numbers),
+        Err(refusal) => refusal,
     }
-    ihave_from(table, gossip, time, id, topic as usize, given, numbers)
 }
 
-// Whether an IWANT of the peer in a slot is answered, with a number that was found at a place. A score costs more than the other tests, and
-// comes last.
-fn is_served(table: &[u64], gossip: &[u64], number: u64, slot: usize, place: usize) -> bool
-    requires { Wanting table.now gossip.now number slot place }
+// Whether an IWANT of the peer in a slot for a stored number is answered. A score costs more than the count, and comes last.
+fn is_served(table: &[u64], gossip: &[u64], number: u64, slot: usize) -> bool
+    requires { Wanting table.now gossip.now number slot }
     ensures { result ≡ is_served (extended_of table.now gossip.now) number slot }
 {
-    if !((place < PLACES) & (stored::count(gossip, number, slot) < load_reply_bound(gossip))) {
+    if load_reply_bound(gossip) <= stored::count(gossip, number, slot) {
         return false;
     }
     !under_gossip(table, slot)
@@ -124,24 +96,14 @@ fn serve(table: &mut [u64], gossip: &mut [u64], time: u64, number: u64, slot: us
     ensures { LeavesAll (iwant_reply (extended_of table.old gossip.old) time number slot) result
         table.old table.new gossip.old gossip.new }
 {
-    let place = stored::find(gossip, number);
-    if !is_served(table, gossip, number, slot, place) {
+    let Some(place) = stored::find(gossip, number) else {
+        return ignore(table, time);
+    };
+    if !is_served(table, gossip, number, slot) {
         return ignore(table, time);
     }
     stored::reply(gossip, number, slot, place as u64);
     finish(table, time, 0, 0)
-}
-
-fn iwant_from(table: &mut [u64], gossip: &mut [u64], time: u64, id: u64, number: u64) -> u64
-    requires { Admitted table.old gossip.old time }
-    ensures { LeavesAll (of_peer_all (extended_of table.old gossip.old) id
-        (iwant_reply (extended_of table.old gossip.old) time number)) result
-        table.old table.new gossip.old gossip.new }
-{
-    let Some(slot) = find_connected(table, id) else {
-        return NOT_CONNECTED;
-    };
-    serve(table, gossip, time, number, slot)
 }
 
 // A peer wants a message.
@@ -157,9 +119,9 @@ pub fn iwant(
         gossip.old gossip.new actions.old actions.new }
 {
     let fine = time_ok(time) & id_ok(id);
-    let gate = admit(table, gossip, fine, ACTION_ROOM <= actions.len(), time);
-    if gate != 0 {
-        return gate;
+    let fits = ACTION_ROOM <= actions.len();
+    match admit_peer(table, gossip, fine, fits, time, id) {
+        Ok(slot) => serve(table, gossip, time, number, slot),
+        Err(refusal) => refusal,
     }
-    iwant_from(table, gossip, time, id, number)
 }

@@ -2,7 +2,6 @@
 -- that is in range and not early passes 2, 8 and 1 too, and its reply is its effect; a new call is computed with these.
 -- Assumes nothing.
 use Rattle.std.proofs.Common.{Result}
-use Rattle.std.proofs.Common.{Unit}
 use Rattle.rules.specs.declared.Answer.{Answer}
 use Prim.Native.Nat.{ℕ}
 use native.Mathlib.Omega.{arith}

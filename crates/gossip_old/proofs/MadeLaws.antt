@@ -1,10 +1,9 @@
 -- Making a router with an array: from what making the table promises, and the array made behind it.
 -- Assumes nothing.
 use Rattle.saves.specs.declared.LoadError.{LoadError}
-use Rattle.saves.specs.declared.LoadError.TheVariants.{OutOfRange as LoadedOutOfRange}
-use Rattle.gossip_old.specs.declared.MakeError.TheVariants.{OutOfRange}
+use Rattle.saves.specs.declared.LoadError.TheVariants.{OutOfRange as LoadedOutOfRange, Broken as LoadedBroken, Malformed as LoadedMalformed}
+use Rattle.gossip_old.specs.declared.MakeError.TheVariants.{OutOfRange, Broken}
 use Rattle.std.proofs.Common.{Option, Some, None, Result, Ok, Err}
-use Rattle.std.proofs.Common.{Unit, tt}
 use Rattle.lookup.specs.declared.FreshError.{FreshError}
 use Rattle.lookup.specs.declared.FreshError.TheVariants.{Broken as MadeBroken}
 use Rattle.index.proofs.Kit.{ℕ, ◌≡◌, refl, sym, ap, ◌∙◌, Bool, true, false, arith}
@@ -19,7 +18,7 @@ use Rattle.saves.specs.Load.{Loading, loaded, out_of_range, broken, bad, load_of
 use Rattle.gossip.specs.Notes.{Setup, Gossip, Extended, fresh_gossip}
 use Rattle.gossip.specs.Valid.{setup_ok}
 use Rattle.gossip_table.specs.View.{gossip_of, extended_of}
-use Rattle.gossip_old.specs.Made.{sheeted, making_of, MakesAll, loaded_by, LoadsAll}
+use Rattle.gossip_old.specs.Made.{of_fresh, sheeted, making_of, MakesAll, loaded_by, LoadsAll}
 
 -- both are made
 abbrev pair : State → Gossip → Extended
@@ -43,7 +42,7 @@ module _ (p : Setup) (all : Params) (table gossip : List ℕ) where
   making e = ap (λ (b : Bool). cond b (sheeted (first_broken all)) (Err OutOfRange)) e
 
   module _ (table' : List ℕ) (r : Result (Unit {0}) FreshError) (fine : setup_ok p ≡ true) (m : Makes all r table table') where
-    pub fresh_broken : (i : ℕ) → r ≡ Err (MadeBroken i) → MakesAll p all (Err (Broken i)) table table' gossip gossip
+    fresh_broken : (i : ℕ) → r ≡ Err (MadeBroken i) → MakesAll p all (Err (Broken i)) table table' gossip gossip
     fresh_broken i e = go (first_broken all) refl
       where
         go : (f : Option ℕ) → first_broken all ≡ f → MakesAll p all (Err (Broken i)) table table' gossip gossip
@@ -51,7 +50,7 @@ module _ (p : Setup) (all : Params) (table gossip : List ℕ) where
             let a : Err (MadeBroken i) ≡ Err (MadeBroken k) = sym e ∙ m.answer ∙ ap made_of z in
             let n : i ≡ k = cc in
             record {
-              answer = ap Err (Broken n) ∙ sym (making fine ∙ ap sheeted z);
+              answer = ap (λ (j : ℕ). Err (Broken j)) n ∙ sym (making fine ∙ ap sheeted z);
               state = both_are (ap state_of (m.kept i e)) refl;
               kept = λ w. (m.kept i e, refl);
             }
@@ -59,6 +58,11 @@ module _ (p : Setup) (all : Params) (table gossip : List ℕ) where
             let a : Err (MadeBroken i) ≡ (Ok tt) = sym e ∙ m.answer ∙ ap made_of z in
             let n : ◌≡◌ {A = ℕ} 0 1 = cc in
             absurd (omega arith)
+
+    -- what broke the table is handed on
+    pub fresh_fails :
+        (e : FreshError) → r ≡ Err e → MakesAll p all (Err (of_fresh e)) table table' gossip gossip
+    fresh_fails (MadeBroken i) er = fresh_broken i er
 
     pub fresh_done :
         (gossip' : List ℕ) → r ≡ Ok tt → gossip_of gossip' ≡ fresh_gossip p → MakesAll p all (Ok tt) table table' gossip gossip'
@@ -103,7 +107,7 @@ module _ (p : Setup) (all : Params) (clock : ℕ) (s : List ℕ) (table gossip :
     left (bad i) e g f = absurd (false≢true (sym e))
 
     -- a refusal of the table's load is one of both
-    pub load_refused : (a : Result (Unit {0}) LoadError) → r ≡ a → refuses a ≡ true → LoadsAll o p a table table' gossip gossip
+    load_refused : (a : Result (Unit {0}) LoadError) → r ≡ a → refuses a ≡ true → LoadsAll o p a table table' gossip gossip
     load_refused a e f =
         let t : table' ≡ table = m.kept (ap refuses e ∙ f) in
         let w : a ≡ answer_of (load_of true all clock s) = sym e ∙ m.answer in
@@ -113,6 +117,14 @@ module _ (p : Setup) (all : Params) (clock : ℕ) (s : List ℕ) (table gossip :
           state = both_are (ap state_of t) refl ∙ sym (stands (load_of true all clock s) (sym (ap refuses w) ∙ f));
           kept = λ z. (t, refl);
         })
+
+    pub load_fails : (e : LoadError) → r ≡ Err e → LoadsAll o p (Err e) table table' gossip gossip
+    load_fails e er = load_refused (Err e) er (refused e)
+      where
+        refused : (e : LoadError) → refuses (Err e) ≡ true
+        refused LoadedOutOfRange = refl
+        refused (LoadedBroken i) = refl
+        refused (LoadedMalformed i) = refl
 
     pub load_done :
         (gossip' : List ℕ) → r ≡ Ok tt → gossip_of gossip' ≡ fresh_gossip p → LoadsAll o p (Ok tt) table table' gossip gossip'

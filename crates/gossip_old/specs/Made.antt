@@ -1,7 +1,8 @@
 -- Making a router with an array, fresh or of a save: what is answered, and what table and array are left.
 use Rattle.std.specs.Prelude.{Result, Ok, Err}
-use Rattle.std.specs.Prelude.{Unit, tt}
 use Rattle.saves.specs.declared.LoadError.{LoadError}
+use Rattle.lookup.specs.declared.FreshError.{FreshError}
+use Rattle.lookup.specs.declared.FreshError.TheVariants.{Broken as FreshBroken}
 use Rattle.gossip_old.specs.declared.MakeError.{MakeError}
 use Rattle.gossip_old.specs.declared.MakeError.TheVariants.{Broken, OutOfRange}
 use Rattle.std.specs.Prelude.{Option, Some, None}
@@ -13,6 +14,10 @@ use Rattle.saves.specs.Load.{Loading, loaded, out_of_range, broken, bad, answer_
 use Rattle.gossip.specs.Notes.{Setup, Extended, fresh_gossip}
 use Rattle.gossip.specs.Valid.{setup_ok}
 use Rattle.gossip_table.specs.View.{extended_of}
+
+-- ---- what broke a fresh table broke the router
+abbrev pub of_fresh : FreshError → MakeError
+of_fresh (FreshBroken i) = Broken i
 
 -- ---- a fresh router: the set-up numbers are "given at set-up beside the sheet (else 2, tested before the sheet)"
 abbrev pub sheeted : Option ℕ → Result (Unit {0}) MakeError

@@ -14,21 +14,33 @@ ghost use Rattle.gossip.specs.Step.{on_found_note};
 ghost use Rattle.gossip.specs.Valid.{valid_all};
 ghost use Rattle.gossip_table.specs.View.{gossip_cells, gossip_of, extended_of};
 ghost use Rattle.gossip_gate.specs.Promise.{FollowsAll};
-ghost use Rattle.gossip_old.specs.Tested.{Tested, GivesOld, FineFound, emptied};
+ghost use Rattle.gossip_old.specs.Made.{of_fresh};
+ghost use Rattle.gossip_old.specs.Tested.{FineFound, emptied};
 
 use gossip_gate::NOT_ROUTER;
 use gossip_peers::reclaim::reclaimed_slots;
 use gossip_table::GOSSIP_CELLS;
 use layout::CELLS;
+use lookup::FreshError;
 use lookup::find::find_connected;
-use records::SLOTS;
-use words::{WORDS, next};
+use words::WORDS;
+use words::slots::Slots;
 
 // Why no router with an array was made: a set-up number is out of its range, or the first number or rule of the parameters that is broken.
 #[derive(Clone, Copy)]
 pub enum MakeError {
     OutOfRange,
     Broken(usize),
+}
+
+impl From<FreshError> for MakeError {
+    ghost from_gives = { λ fresh result. result ≡ of_fresh fresh };
+
+    fn from(fresh: FreshError) -> MakeError {
+        match fresh {
+            FreshError::Broken(i) => MakeError::Broken(i),
+        }
+    }
 }
 
 // Test 12: the table is a router's, and the array is beside it.
@@ -47,10 +59,8 @@ fn clear_slots(gossip: &mut [u64], set: &[u64; WORDS])
     ensures { (f : ℕ → Bool) → bits_of set.now ≡ by_slot slot_count f →
         gossip_of gossip.new ≡ emptied f (gossip_of gossip.old) }
 {
-    let mut slot = next(set, 0);
-    while slot < SLOTS as u64 {
-        gossip_table::noted::clear(gossip, slot as usize);
-        slot = next(set, slot + 1);
+    for slot in Slots::of(*set) {
+        gossip_table::noted::clear(gossip, slot);
     }
 }
 
@@ -66,72 +76,7 @@ fn part_found(gossip: &mut [u64], found: Option<usize>)
     gossip_table::noted::part(gossip, slot);
 }
 
-// Which records are reclaimed is known before the call only.
-fn connect_from(
-    table: &mut [u64; CELLS],
-    gossip: &mut [u64; GOSSIP_CELLS],
-    time: u64,
-    id: u64,
-    groups: &[u64],
-    flags: u64,
-    name: &[u8],
-    actions: &mut [u32],
-) -> u64
-    requires { Tested table.old gossip.old }
-    ensures { GivesOld (Calls·connect time id groups.now flags name.now) result
-        table.old table.new gossip.old gossip.new
-        actions.old actions.new }
-{
-    let set = reclaimed_slots(table, time);
-    let a = peers::connect(table, time, id, groups, flags, name, actions);
-    if answers::number_of(a) != 0 {
-        return answers::code(a);
-    }
-    clear_slots(gossip, &set);
-    answers::code(a)
-}
-
-// So is where the connection was.
-fn disconnect_from(
-    table: &mut [u64; CELLS],
-    gossip: &mut [u64; GOSSIP_CELLS],
-    time: u64,
-    id: u64,
-    actions: &mut [u32],
-) -> u64
-    requires { Tested table.old gossip.old }
-    ensures { GivesOld (Calls·disconnect time id) result
-        table.old table.new gossip.old gossip.new
-        actions.old actions.new }
-{
-    let found = find_connected(table, id);
-    let a = peers::disconnect(table, time, id, actions);
-    if answers::number_of(a) != 0 {
-        return answers::code(a);
-    }
-    part_found(gossip, found);
-    answers::code(a)
-}
-
-fn leave_from(
-    table: &mut [u64; CELLS],
-    gossip: &mut [u64; GOSSIP_CELLS],
-    time: u64,
-    topic: u64,
-    actions: &mut [u32],
-) -> u64
-    requires { Tested table.old gossip.old }
-    ensures { GivesOld (Calls·leave time topic) result
-        table.old table.new gossip.old gossip.new
-        actions.old actions.new }
-{
-    let a = leaving::leave(table, time, topic, actions);
-    if answers::number_of(a) != 0 {
-        return answers::code(a);
-    }
-    gossip_table::stored::empty(gossip, topic as usize);
-    answers::code(a)
-}
+// The three calls keep their frame: each looks up something else before 01's call, and a function over two closures would be no shorter.
 
 // A connection is there, as crate peers has it. A record that is given up takes its note with it.
 pub fn connect(
@@ -151,7 +96,14 @@ pub fn connect(
     if !is_router(table, gossip) {
         return NOT_ROUTER;
     }
-    connect_from(table, gossip, time, id, groups, flags, name, actions)
+    // which records are reclaimed is known before the call only
+    let set = reclaimed_slots(table, time);
+    let a = peers::connect(table, time, id, groups, flags, name, actions);
+    if answers::number_of(a) != 0 {
+        return answers::code(a);
+    }
+    clear_slots(gossip, &set);
+    answers::code(a)
 }
 
 // A connection is gone, and with it its set and its replies.
@@ -169,7 +121,13 @@ pub fn disconnect(
     if !is_router(table, gossip) {
         return NOT_ROUTER;
     }
-    disconnect_from(table, gossip, time, id, actions)
+    let found = find_connected(table, id);
+    let a = peers::disconnect(table, time, id, actions);
+    if answers::number_of(a) != 0 {
+        return answers::code(a);
+    }
+    part_found(gossip, found);
+    answers::code(a)
 }
 
 // We leave a topic: its store is emptied, and the replies with what only it had.
@@ -187,5 +145,10 @@ pub fn leave(
     if !is_router(table, gossip) {
         return NOT_ROUTER;
     }
-    leave_from(table, gossip, time, topic, actions)
+    let a = leaving::leave(table, time, topic, actions);
+    if answers::number_of(a) != 0 {
+        return answers::code(a);
+    }
+    gossip_table::stored::empty(gossip, topic as usize);
+    answers::code(a)
 }

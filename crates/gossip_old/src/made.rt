@@ -1,33 +1,15 @@
 // Making a router with an array in which nothing is held: fresh, or of a save. The set-up numbers are tested first; what is not answered 0
 // writes nothing.
-ghost use Rattle.std.specs.Prelude.{◌≡◌, length};
 ghost use Rattle.saves.specs.Load.{load_of};
-ghost use Rattle.gossip.specs.Notes.{fresh_gossip};
 ghost use Rattle.gossip.specs.Valid.{setup_ok};
-ghost use Rattle.gossip_table.specs.View.{gossip_cells, gossip_of, setup_of};
+ghost use Rattle.gossip_table.specs.View.{setup_of};
 ghost use Rattle.gossip_old.specs.Made.{MakesAll, LoadsAll};
 
 use crate::MakeError;
 use gossip_table::{GOSSIP_CELLS, SETUP};
 use layout::CELLS;
-use lookup::FreshError;
 use params::Params;
 use saves::LoadError;
-
-// Whether the set-up numbers are in their ranges: the limit, D_lazy, the factor, and the bounds of IHAVEs and of replies.
-fn setup_ok(setup: &[u64; SETUP]) -> bool
-    ensures { result ≡ setup_ok (setup_of setup.now) }
-{
-    gossip_table::tests::setup_ok(setup[0], setup[1], setup[2], setup[3], setup[4])
-}
-
-// The array of these numbers.
-fn make_array(setup: &[u64; SETUP], gossip: &mut [u64])
-    requires { length gossip.old ≡ gossip_cells }
-    ensures { gossip_of gossip.new ≡ fresh_gossip (setup_of setup.now) }
-{
-    gossip_table::made::make(gossip, setup[0], setup[1], setup[2], setup[3], setup[4]);
-}
 
 // A fresh router with these parameters and set-up numbers.
 pub fn fresh(
@@ -39,16 +21,12 @@ pub fn fresh(
     ensures { MakesAll (setup_of setup.now) all result
         table.old table.new gossip.old gossip.new }
 {
-    if !setup_ok(setup) {
+    if !gossip_table::tests::setup_ok(setup) {
         return Err(MakeError::OutOfRange);
     }
-    match lookup::fresh::fresh(all, table) {
-        Err(FreshError::Broken(i)) => Err(MakeError::Broken(i)),
-        Ok(()) => {
-            make_array(setup, gossip);
-            Ok(())
-        }
-    }
+    lookup::fresh::fresh(all, table)?;
+    gossip_table::made::make(gossip, setup);
+    Ok(())
 }
 
 // A router of a save with parameters and set-up numbers, at a clock.
@@ -64,16 +42,10 @@ pub fn load(
         (setup_of setup.now) result
         table.old table.new gossip.old gossip.new }
 {
-    if !setup_ok(setup) {
+    if !gossip_table::tests::setup_ok(setup) {
         return Err(LoadError::OutOfRange);
     }
-    match save_load::load(all, clock, bytes, table) {
-        Ok(()) => {
-            make_array(setup, gossip);
-            Ok(())
-        }
-        Err(LoadError::OutOfRange) => Err(LoadError::OutOfRange),
-        Err(LoadError::Broken(i)) => Err(LoadError::Broken(i)),
-        Err(LoadError::Malformed(i)) => Err(LoadError::Malformed(i)),
-    }
+    save_load::load(all, clock, bytes, table)?;
+    gossip_table::made::make(gossip, setup);
+    Ok(())
 }

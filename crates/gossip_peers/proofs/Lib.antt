@@ -1,3 +1,4 @@
 pub mod SiftLaws
 pub mod PeerLaws
 pub mod TellLaws
+pub mod CallerLaws

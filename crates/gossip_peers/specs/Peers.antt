@@ -1,7 +1,7 @@
 -- What the calls of orders 6 and 7 read of 01's table alone, in halves that words by slot, or another region, answer; and what the
 -- functions on it rely on. No public call asks that of its caller.
 use Rattle.std.specs.Prelude.{Option, Some, None}
-use Rattle.std.specs.Prelude.{ℕ, ◌≤◌, ◌≡◌, Bool, true, false, not, ◌&&◌, ◌||◌, List, eqb, pos, ◌*ℤ◌, length}
+use Rattle.std.specs.Prelude.{ℕ, ◌≤◌, ◌<◌, ◌≡◌, Bool, true, false, not, ◌&&◌, ◌||◌, List, eqb, pos, ◌*ℤ◌, length}
 use Rattle.std.proofs.lemmas.List.Edits.{sets}
 use Rattle.std.specs.Int.Signed.{lt_z}
 use Rattle.varint.specs.Codes.{number_of}
@@ -15,7 +15,15 @@ use Rattle.effects.specs.Effects.{is_member, is_subscribed}
 use Rattle.rules.specs.Step.{action_room}
 use Rattle.gossip.specs.Step.{notice_version}
 use Rattle.peer_score.specs.Standing.{Standing}
+use Rattle.peer_score.specs.declared.buckets.Buckets.{Buckets}
 use Rattle.peer_score.specs.Buckets.{Counted}
+use Rattle.gossip_peers.specs.declared.tell.Kind.{Kind}
+use Rattle.gossip_peers.specs.declared.tell.Kind.TheVariants.{Ask, Send, Ihave}
+
+-- ---- a test of slots
+-- post, what a test may answer at a slot, is what f says
+abbrev pub Tests : (ℕ → Bool → Type 0) → (ℕ → Bool) → Type 0
+Tests post f = (s : ℕ) (b : Bool) → s < slot_count → post s b → b ≡ f s
 
 -- ---- senders
 abbrev pub is_found : Option ℕ → Bool
@@ -46,11 +54,18 @@ unfoldable pub is_low : State → ℕ → Bool
 is_low st s = lt_z (score_in st s) (number_of (code_in st gossip_threshold_at) *ℤ pos 1000000)
 
 -- a router's table, whose connected peers are counted by group
-pub record Grouped (table heads same others : List ℕ) : Type 0 where
+pub record Grouped (table : List ℕ) (b : Buckets) : Type 0 where
   pub standing : Standing table
-  pub buckets : Counted table heads same others
+  pub buckets : Counted table b
 
--- ---- actions in the lent list: l' is l with them from its start on, and n is how many they are
+-- ---- actions
+-- an action's number of what it tells
+abbrev pub kind_number : Kind → ℕ
+kind_number Ask = 3
+kind_number Send = 4
+kind_number Ihave = 5
+
+-- in the lent list: l' is l with them from its start on, and n is how many they are
 pub record Tells (acts : List Action) (l l' : List ℕ) (n : ℕ) : Type 0 where
   pub list : l' ≡ sets l 0 (numbers_of acts)
   pub many : n ≡ length acts

@@ -2,8 +2,10 @@
 // empties. Sets of slots are words; scores are taken only of the slots that the words leave.
 #![tactic(auto)]
 
+pub mod callers;
 pub mod reclaim;
 pub mod relays;
 pub mod senders;
+pub mod sift;
 pub mod targets;
 pub mod tell;

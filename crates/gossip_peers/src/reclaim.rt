@@ -6,26 +6,18 @@ ghost use Rattle.words.specs.Words.{bits_of};
 ghost use Rattle.sets.specs.Sets.{by_slot};
 ghost use Rattle.effects.specs.Effects.{reclaimable as reclaimableOf};
 
+use crate::sift::sift;
 use effects::connections::reclaimable;
-use records::SLOTS;
-use words::{WORDS, next, put};
+use words::WORDS;
 
 // The slots whose record is reclaimable: of the retained ones, those whose retain period and backoffs are over.
 pub fn reclaimed_slots(table: &[u64], time: u64) -> [u64; WORDS]
     requires { length table.now ≡ cell_count }
     ensures { bits_of result ≡ by_slot slot_count (λ s. reclaimableOf (peer_in (state_of table.now) s) time) }
 {
-    let all = layout::load_retained(table);
-    let mut r = all;
-    let mut slot = next(&all, 0);
-    while slot < SLOTS as u64 {
-        let more = put(
-            r,
-            slot,
-            reclaimable(layout::load_peer(table, slot as usize), time),
-        );
-        r = more;
-        slot = next(&all, slot + 1);
-    }
-    r
+    let retained = layout::load_retained(table);
+    sift(
+        retained,
+        |slot| reclaimable(layout::load_peer(table, slot), time),
+    )
 }

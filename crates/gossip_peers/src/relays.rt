@@ -8,9 +8,9 @@ ghost use Rattle.peer_score.specs.Standing.{TopicStanding};
 ghost use Rattle.gossip.specs.Step.{is_asked};
 ghost use Rattle.gossip_peers.specs.Peers.{is_noticed, is_listener, is_reached};
 
-use records::SLOTS;
+use crate::sift::sift;
 use sets::{both, except};
-use words::{WORDS, differ, next, put};
+use words::{WORDS, differ};
 
 // In a or in b.
 fn either(a: [u64; WORDS], b: [u64; WORDS]) -> [u64; WORDS]
@@ -25,14 +25,7 @@ fn without(table: &[u64], all: [u64; WORDS], id: u64) -> [u64; WORDS]
     ensures { bits_of result
         ≡ by_slot slot_count (λ s. at (bits_of all) s && not (eqb (peer_in (state_of table.now) s).id id)) }
 {
-    let mut r = all;
-    let mut slot = next(&all, 0);
-    while slot < SLOTS as u64 {
-        let more = put(r, slot, layout::load_id(table, slot as usize) != id);
-        r = more;
-        slot = next(&all, slot + 1);
-    }
-    r
+    sift(all, |slot| layout::load_id(table, slot) != id)
 }
 
 // The 1.2.0 members of a topic. Of the two bits of a version the high one alone is set.

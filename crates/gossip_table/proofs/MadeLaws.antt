@@ -1,9 +1,10 @@
 -- An array in which nothing is held, part by part.
 -- Assumes nothing.
-use Rattle.index.proofs.Kit.{ℕ, ◌≤◌, ◌<◌, ◌≡◌, refl, ap, ◌∙◌, arith}
-use mathlib.Core.List.{List, [], ◌∷◌}
-use lib.ListN.{length, set, take, replicate}
-use lib.Seq.{drop-set-lt}
+use Rattle.index.proofs.Kit.{ℕ, ◌≤◌, ◌<◌, ◌≡◌, refl, sym, ap, ◌∙◌, arith}
+use mathlib.Core.List.{List, [], ◌∷◌, ◌++◌}
+use lib.ListN.{length, get_or, set, take, drop, replicate}
+use lib.Seq.{drop-set-lt, sets}
+use Rattle.gossip.proofs.CellLaws.{put_sets}
 use borrow.Rule.Slice.PartMut.{put_mid}
 use Rattle.records.specs.Records.{slot_count, topic_count}
 use Rattle.notes.specs.View.{notes_cells, notes_of}
@@ -67,6 +68,24 @@ head_made c a b d e f size =
     (ap notes_of (part_five notes_at notes_cells c a b d e f (omega arith)))
     (ap stores_of (part_five stores_at stores_cells c a b d e f (omega arith)))
     (ap replies_of (part_five replies_at replies_cells c a b d e f (omega arith)))
+
+-- five numbers are those that stand there
+five_of : (v : List ℕ) → length v ≡ 5 → v ≡ get_or v 0 0 ∷ get_or v 1 0 ∷ get_or v 2 0 ∷ get_or v 3 0 ∷ get_or v 4 0 ∷ []
+five_of [] e = absurd (omega arith)
+five_of (a ∷ []) e = absurd (omega arith)
+five_of (a ∷ b ∷ []) e = absurd (omega arith)
+five_of (a ∷ b ∷ d ∷ []) e = absurd (omega arith)
+five_of (a ∷ b ∷ d ∷ f ∷ []) e = absurd (omega arith)
+five_of (a ∷ b ∷ d ∷ f ∷ g ∷ []) e = refl
+five_of (a ∷ b ∷ d ∷ f ∷ g ∷ h ∷ l) e = absurd (omega arith)
+
+-- the head, copied
+pub head_copied :
+    (c ys v : List ℕ) → length c ≡ gossip_cells → length v ≡ 5 → ys ≡ v → gossip_of (ys ++ drop 5 c) ≡ set_setup (gossip_of c) (setup_of v)
+unfolding setup_of
+head_copied c ys v size five e =
+    ap gossip_of (put_sets c ys v 0 5 e (sym five) (omega arith) ∙ ap (sets c 0) (five_of v five))
+    ∙ head_made c (get_or v 0 0) (get_or v 1 0) (get_or v 2 0) (get_or v 3 0) (get_or v 4 0) size
 
 -- all four, one after the other
 pub all_made :

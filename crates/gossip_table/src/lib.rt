@@ -24,7 +24,7 @@ pub const REPLIES_AT: usize = STORES_AT + STORES_CELLS;
 // How many numbers the array has.
 pub const GOSSIP_CELLS: usize = REPLIES_AT + REPLIES_CELLS;
 
-// The set-up numbers.
+// The set-up numbers: the limit, D_lazy, the factor, the bounds of IHAVEs and of replies.
 pub const SETUP: usize = 5;
 
 pub fn load_limit(gossip: &[u64]) -> u64

@@ -2,9 +2,9 @@
 ghost use Rattle.std.specs.Prelude.{◌≡◌, [], length, replicate};
 ghost use Rattle.records.specs.Records.{slot_count, topic_count};
 ghost use Rattle.gossip.specs.Notes.{no_note, no_store, set_replies, fresh_gossip};
-ghost use Rattle.gossip_table.specs.View.{gossip_cells, gossip_of, setup_by, set_notes, set_stores, set_setup};
+ghost use Rattle.gossip_table.specs.View.{gossip_cells, gossip_of, setup_of, set_notes, set_stores, set_setup};
 
-use crate::{GOSSIP_CELLS, NOTES_AT, REPLIES_AT, STORES_AT};
+use crate::{GOSSIP_CELLS, NOTES_AT, REPLIES_AT, SETUP, STORES_AT};
 
 fn make_notes(gossip: &mut [u64])
     requires { length gossip.old ≡ gossip_cells }
@@ -28,25 +28,20 @@ fn make_replies(gossip: &mut [u64])
 }
 
 // The set-up numbers into the head.
-fn make_head(gossip: &mut [u64], limit: u64, lazy: u64, factor: u64, ihaves: u64, replies: u64)
+fn make_head(gossip: &mut [u64], setup: &[u64; SETUP])
     requires { length gossip.old ≡ gossip_cells }
-    ensures { gossip_of gossip.new
-        ≡ set_setup (gossip_of gossip.old) (setup_by limit lazy factor ihaves replies) }
+    ensures { gossip_of gossip.new ≡ set_setup (gossip_of gossip.old) (setup_of setup.now) }
 {
-    gossip[0] = limit;
-    gossip[1] = lazy;
-    gossip[2] = factor;
-    gossip[3] = ihaves;
-    gossip[4] = replies;
+    gossip[..SETUP].copy_from_slice(setup);
 }
 
 // Whatever stood there.
-pub fn make(gossip: &mut [u64], limit: u64, lazy: u64, factor: u64, ihaves: u64, replies: u64)
+pub fn make(gossip: &mut [u64], setup: &[u64; SETUP])
     requires { length gossip.old ≡ gossip_cells }
-    ensures { gossip_of gossip.new ≡ fresh_gossip (setup_by limit lazy factor ihaves replies) }
+    ensures { gossip_of gossip.new ≡ fresh_gossip (setup_of setup.now) }
 {
     make_notes(gossip);
     make_stores(gossip);
     make_replies(gossip);
-    make_head(gossip, limit, lazy, factor, ihaves, replies);
+    make_head(gossip, setup);
 }

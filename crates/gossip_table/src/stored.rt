@@ -5,13 +5,12 @@ ghost use Rattle.gossip.specs.Notes.{no_store, store_in, set_store, set_replies,
 ghost use Rattle.gossip.specs.Notes.{window_most, rows_most, forget as forgetOf};
 ghost use Rattle.gossip.specs.Step.{running, announced, wanted};
 ghost use Rattle.gossip.specs.Valid.{row_number};
+ghost use Rattle.stores.specs.View.{PlaceOf};
 ghost use Rattle.gossip_table.specs.View.{gossip_of, set_stores};
 ghost use Rattle.gossip_table.specs.Fine.{Fine, FineSlot, FineTopic, Kept, KeptRow, KeptSlot, ReplyFits, StoreFits, Announces, Wants};
 
 use crate::{GOSSIP_CELLS, REPLIES_AT, STORES_AT};
-
-// As many rows as there can be.
-const ROWS: usize = 2560;
+use replies::ROWS;
 
 // Whether a topic stores a number.
 pub fn is_stored_in(gossip: &[u64], topic: usize, number: u64) -> bool
@@ -58,10 +57,10 @@ pub fn want(gossip: &[u64], given: &[u64], list: &mut [u64]) -> usize
     stores::wants::want(&gossip[STORES_AT..REPLIES_AT], given, list)
 }
 
-// The place of a stored number; PLACES where no topic stores it.
-pub fn find(gossip: &[u64], number: u64) -> usize
+// The place of a stored number.
+pub fn find(gossip: &[u64], number: u64) -> Option<usize>
     requires { Fine gossip.now }
-    ensures { ltb result rows_most ≡ stored (gossip_of gossip.now) number }
+    ensures { PlaceOf (stored (gossip_of gossip.now) number) result }
 {
     stores::find(&gossip[STORES_AT..REPLIES_AT], number)
 }

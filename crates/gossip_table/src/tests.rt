@@ -6,21 +6,22 @@ ghost use Rattle.layout.specs.View.{state_of};
 ghost use Rattle.effects.specs.Effects.{is_joined};
 ghost use Rattle.gossip.specs.Notes.{note_in, store_in, stored};
 ghost use Rattle.gossip.specs.Valid.{setup_ok, note_ok, store_ok, replies_ok, gossip_ok};
-ghost use Rattle.gossip_table.specs.View.{gossip_cells, gossip_of, setup_by};
+ghost use Rattle.gossip_table.specs.View.{gossip_cells, gossip_of, setup_of};
 ghost use Rattle.gossip_table.specs.Fine.{is_kept, Beside, Noted, Stored, Kept};
 
 use crate::stored::row_stays;
 use crate::{
-    GOSSIP_CELLS, NOTES_AT, REPLIES_AT, STORES_AT, load_factor, load_ihave_bound, load_lazy,
+    GOSSIP_CELLS, NOTES_AT, REPLIES_AT, SETUP, STORES_AT, load_factor, load_ihave_bound, load_lazy,
     load_limit, load_reply_bound,
 };
 use effects::slots::is_joined;
 use records::{SLOTS, TOPICS};
 
-// Five set-up numbers are in their ranges.
-pub fn setup_ok(limit: u64, lazy: u64, factor: u64, ihaves: u64, replies: u64) -> bool
-    ensures { result ≡ setup_ok (setup_by limit lazy factor ihaves replies) }
+// Whether the set-up numbers are in their ranges.
+pub fn setup_ok(setup: &[u64; SETUP]) -> bool
+    ensures { result ≡ setup_ok (setup_of setup.now) }
 {
+    let &[limit, lazy, factor, ihaves, replies] = setup;
     (1 <= limit)
         & (limit <= 32)
         & (lazy <= 48)
@@ -33,13 +34,13 @@ fn numbers_ok(gossip: &[u64]) -> bool
     requires { length gossip.now ≡ gossip_cells }
     ensures { result ≡ setup_ok (gossip_of gossip.now).setup }
 {
-    setup_ok(
+    setup_ok(&[
         load_limit(gossip),
         load_lazy(gossip),
         load_factor(gossip),
         load_ihave_bound(gossip),
         load_reply_bound(gossip),
-    )
+    ])
 }
 
 // The note of a slot.
@@ -122,10 +123,7 @@ fn replies_ok(table: &[u64], gossip: &[u64]) -> bool
 {
     let connected = layout::load_connected(table);
     let most = load_reply_bound(gossip);
-    if !replies::rows_ok(&gossip[REPLIES_AT..GOSSIP_CELLS], &connected, most) {
-        return false;
-    }
-    rows_stored(gossip)
+    replies::rows_ok(&gossip[REPLIES_AT..GOSSIP_CELLS], &connected, most) && rows_stored(gossip)
 }
 
 // Whether the array is a router's, beside a router's table.

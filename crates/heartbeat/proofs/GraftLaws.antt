@@ -29,6 +29,8 @@ use Rattle.mesh.proofs.StillLaws.{goods_same}
 use Rattle.effects.specs.Effects.{is_member}
 use Rattle.rules.specs.Step.{is_candidate, height_in, degrees_in, view_in, meshes_in}
 use Rattle.heartbeat.specs.Ready.{is_eligible, is_free}
+use Rattle.peer_score.specs.declared.buckets.Buckets.{Buckets}
+use Rattle.peer_score.specs.declared.weights.TopicWeights.{TopicWeights}
 use Rattle.heartbeat.specs.Heights.{HeightsOn, Taken, Partial}
 use Rattle.heartbeat.specs.Grafts.{is_wanted, WantedOf, Grafting, Kept, Asked, Scored, Grafted, Halfway}
 use Rattle.heartbeat.proofs.SeenLaws.{candidate_is}
@@ -349,11 +351,11 @@ fifth_unasked st time t ask order m e = mesh5_unasked (degrees_in st) (view_in s
 
 -- ---- what is relied on stands when more scores are taken
 pub grafting_on :
-    (table heads same others w2 w3b w4 : List ℕ) (t : ℕ) (before after : List ℕ) →
+    (table : List ℕ) (b : Buckets) (w : TopicWeights) (t : ℕ) (before after : List ℕ) →
     length after ≡ length before →
-    Grafting table heads same others w2 w3b w4 t before →
-    Grafting table heads same others w2 w3b w4 t after
-grafting_on table heads same others w2 w3b w4 t before after l g =
+    Grafting table b w t before →
+    Grafting table b w t after
+grafting_on table b w t before after l g =
     let k = g.taking in
     record {
       taking = record { standing = k.standing; buckets = k.buckets; size = l ∙ k.size };
@@ -362,12 +364,12 @@ grafting_on table heads same others w2 w3b w4 t before after l g =
     }
 
 pub partial_on :
-    (table heads same others : List ℕ) (t : ℕ) (before after : List ℕ) →
+    (table : List ℕ) (b : Buckets) (t : ℕ) (before after : List ℕ) →
     length after ≡ length before →
     Kept (state_of table) before after →
-    Partial table heads same others t before →
-    Partial table heads same others t after
-partial_on table heads same others t before after l kept g =
+    Partial table b t before →
+    Partial table b t after
+partial_on table b t before after l kept g =
     let k = g.taking in
     record {
       taking = record { standing = k.standing; buckets = k.buckets; size = l ∙ k.size };

@@ -12,7 +12,9 @@ use borrow.Author.Tests.{eq-eqb}
 use Rattle.index.proofs.Flags.{by_order}
 use Rattle.records.specs.Records.{State, slot_count, peer_in}
 use Rattle.layout.specs.View.{bit_at}
+use Rattle.words.specs.declared.slots.Slots.{Slots}
 use Rattle.words.specs.Words.{bits_of, Next}
+use Rattle.words.proofs.SlotWalk.{Took}
 use Rattle.sets.specs.Sets.{at, by_slot, except, from, both}
 use Rattle.sets.proofs.WalkLaws.{except_at}
 use Rattle.sets.proofs.SlotLaws.{slots_length, slots_at, slots_built, slots_in}
@@ -39,7 +41,7 @@ module _ (st : State) (m : List Bool) (before : List ℕ) where
   pub walked_none : Walked st m before 0 before
   walked_none = record { size = refl; taken = λ s h e. absurd (omega arith); kept = λ s e. refl }
 
-  pub walked_next : (i j : ℕ) (after : List ℕ) → Next m i j → Walked st m before i after → Walked st m before j after
+  walked_next : (i j : ℕ) (after : List ℕ) → Next m i j → Walked st m before i after → Walked st m before j after
   walked_next i j after n w =
       record {
         size = w.size;
@@ -50,7 +52,7 @@ module _ (st : State) (m : List Bool) (before : List ℕ) where
         kept = w.kept;
       }
 
-  pub walked_more :
+  walked_more :
       (i x : ℕ) (after : List ℕ) →
       i < length after →
       at m i ≡ true →
@@ -72,9 +74,25 @@ module _ (st : State) (m : List Bool) (before : List ℕ) where
             ∙ w.kept s q;
       }
 
-  pub walked_done : (i : ℕ) (after : List ℕ) → slot_count ≤ i → Walked st m before i after → Taken st m before after
-  walked_done i after h w =
-      record { size = w.size; taken = λ s l e. w.taken s (omega arith) e; kept = w.kept }
+-- a turn of the walk, and its end
+module _ (st : State) (set₀ before : List ℕ) where
+  pub walked_turn :
+      (i x v : ℕ) (t : Slots) (after : List ℕ) →
+      Took set₀ i x t →
+      x < length after →
+      v ≡ height_in st x →
+      Walked st (bits_of set₀) before i after →
+      Walked st (bits_of set₀) before t.from (set after x v)
+  walked_turn i x v t after o l e w =
+      rw o.from_is
+      (walked_more st (bits_of set₀) before x v after l (o.next.here o.slot_lt) e
+      (walked_next st (bits_of set₀) before i x after o.next w))
+
+  pub walked_end :
+      (i : ℕ) (after : List ℕ) → Next (bits_of set₀) i slot_count → Walked st (bits_of set₀) before i after → Taken st (bits_of set₀) before after
+  walked_end i after n w =
+      let d = walked_next st (bits_of set₀) before i slot_count after n w in
+      record { size = d.size; taken = λ s l e. d.taken s l e; kept = d.kept }
 
 -- ---- all of them
 module _ (st : State) (c r : List ℕ) (m : List Bool) (zc : length c ≡ 4) (zr : length r ≡ 4)

@@ -1,7 +1,6 @@
 -- The reply of a heartbeat: the maintained mesh and its actions as the rules have them, and the call's three ends.
 -- Assumes nothing.
 use Rattle.std.proofs.Common.{Result, Ok}
-use Rattle.std.proofs.Common.{Unit, tt}
 use Prim.Native.Nat.{ℕ, ◌≤◌, ◌<◌}
 use native.Mathlib.Omega.{arith}
 use mathlib.Core.Path.{◌≡◌, refl, sym, ap, ap₂, ◌∙◌}

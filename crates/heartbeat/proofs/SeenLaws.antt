@@ -18,7 +18,9 @@ use Rattle.sets.specs.Sets.{at, by_slot, both, except}
 use Rattle.sets.proofs.WalkLaws.{both_at, except_at}
 use Rattle.sets.proofs.SlotLaws.{slots_length, slots_at, slots_built}
 use Rattle.layout.specs.View.{bit_at}
+use Rattle.words.specs.declared.slots.Slots.{Slots}
 use Rattle.words.specs.Words.{word_bits, bits_of, Next}
+use Rattle.words.proofs.SlotWalk.{Took}
 use Rattle.words.proofs.WideLaws.{bits_of_length}
 use Rattle.mesh.specs.declared.Degrees.{Degrees}
 use Rattle.mesh.specs.Maintenance.{View}
@@ -136,7 +138,7 @@ module _ (st : State) (time t : ℕ) where
   sifted_none r l h = record { len = l; done = λ s a b. absurd (omega arith); left = λ s a b. h s b }
 
   -- a slot that is not eligible is no candidate
-  pub sifted_next :
+  sifted_next :
       (all : List Bool) →
       ((s : ℕ) → s < slot_count → at all s ≡ is_eligible st t s) →
       (i j : ℕ) (r : List Bool) →
@@ -156,7 +158,7 @@ module _ (st : State) (time t : ℕ) where
         left = λ s a b. w.left s (omega arith) b;
       }
 
-  pub sifted_more :
+  sifted_more :
       (i : ℕ) (r r' : List Bool) (free : Bool) →
       i < slot_count →
       is_eligible st t i ≡ true →
@@ -183,10 +185,30 @@ module _ (st : State) (time t : ℕ) where
             at_set s ∙ get_or-set_other r i s free false (λ z. omega arith) ∙ w.left s (omega arith) b;
       }
 
-  pub sifted_done : (i : ℕ) (r : List Bool) → slot_count ≤ i → Sifted st time t i r → r ≡ by_slot slot_count (is_candidate st time t)
+  sifted_done : (i : ℕ) (r : List Bool) → slot_count ≤ i → Sifted st time t i r → r ≡ by_slot slot_count (is_candidate st time t)
   sifted_done i r h w =
       slots_built false (is_candidate st time t) slot_count slot_count r (omega arith)
       (record { low = omega arith; len = w.len; below = λ s l. w.done s (omega arith) l })
+
+-- a turn of the walk, and its end
+module _ (st : State) (time t : ℕ) (all : List ℕ) (h : (s : ℕ) → s < slot_count → at (bits_of all) s ≡ is_eligible st t s) where
+  pub sifted_turn :
+      (i x : ℕ) (r r' : List Bool) (free : Bool) (w : Slots) →
+      Took all i x w →
+      free ≡ is_free st time t x →
+      r' ≡ set r x free →
+      Sifted st time t i r →
+      Sifted st time t w.from r'
+  sifted_turn i x r r' free w o ef er d =
+      let l = o.slot_lt in
+      rw o.from_is
+      (sifted_more st time t x r r' free l (sym (h x l) ∙ o.next.here l) ef er
+      (sifted_next st time t (bits_of all) h i x r o.next d))
+
+  pub sifted_end :
+      (i : ℕ) (r : List Bool) → Next (bits_of all) i slot_count → Sifted st time t i r → r ≡ by_slot slot_count (is_candidate st time t)
+  sifted_end i r n d =
+      sifted_done st time t slot_count r (omega arith) (sifted_next st time t (bits_of all) h i slot_count r n d)
 
 -- the score of a slot, in the array of the scores
 pub score_at :

@@ -5,8 +5,7 @@ use native.Mathlib.Omega.{arith}
 use mathlib.Core.Path.{◌≡◌, refl, sym, ap, ◌∙◌}
 use mathlib.Core.Bool.{Bool, true, false, not, cond, false≢true}
 use mathlib.Core.List.{List}
-use lib.ListN.{length, get_or, set}
-use lib.Seq.{get_or-set_other}
+use lib.ListN.{length, get_or}
 use lib.Dec.{leb, ltb}
 use borrow.Author.Tests.{lt-ltb, le-ltb, leb-true, leb-false}
 use Rattle.index.specs.Index.{iter}
@@ -19,9 +18,8 @@ use Rattle.score.specs.declared.TopicParams.{TopicParams}
 use Rattle.score.specs.Score.{topic_params_in}
 use Rattle.score.specs.Counters.{grown_of}
 use Rattle.score.proofs.InputLaws.{params_in}
-use Rattle.words.specs.Words.{word_count, bits_of, differs, lowest}
-use Rattle.words.proofs.WideLaws.{bits_of_length}
-use Rattle.words.proofs.SlotWalk.{lowest_below, lowest_most, lowest_next, iter_sparse}
+use Rattle.words.specs.Words.{bits_of, differs, Next}
+use Rattle.words.proofs.SlotWalk.{iter_sparse}
 use Rattle.sets.specs.Sets.{at}
 use Rattle.sets.proofs.SlotLaws.{slots_at}
 use Rattle.mesh.specs.Maintenance.{zero_score}
@@ -224,76 +222,19 @@ module _
               ∙ same s a b));
         }
 
-    -- before the turn of the lowest slot left: the turns up to it are made, and from it on the slots that are not left stay as they are
-    pub record Rest (table left : List ℕ) (slot : ℕ) : Type 0 where
-      pub walked : Settling (state_of table₀) time t mesh slot table
-      pub len : length left ≡ word_count
-      pub here : slot ≡ lowest (bits_of left)
-      pub same : (s : ℕ) → slot ≤ s → at (bits_of left) s ≡ false → at members s ≡ at mesh s
-
-    most : (left : List ℕ) → length left ≡ word_count → lowest (bits_of left) ≤ slot_count
-    most left l = let a = lowest_most (bits_of left) in let b = bits_of_length left in omega arith
-
-    pub rest_none :
-        (left : List ℕ) (slot : ℕ) →
-        length left ≡ word_count →
-        slot ≡ lowest (bits_of left) →
-        ((s : ℕ) → at (bits_of left) s ≡ differs (at members s) (at mesh s)) →
-        Rest table₀ left slot
-    rest_none left slot l e d =
-        let same : (s : ℕ) → at (bits_of left) s ≡ false → at members s ≡ at mesh s =
-        λ s q. same_flags (at members s) (at mesh s) (sym (d s) ∙ q) in
-        let m = most left l in
-        record {
-          walked =
-              skip table₀ 0 slot (omega arith) (omega arith) (settling_none table₀ time t mesh walk.standing.size)
-              (λ s a b. same s (lowest_below (bits_of left) s (omega arith)));
-          len = l;
-          here = e;
-          same = λ s a q. same s q;
-        }
-
-    module _ (table left : List ℕ) (slot : ℕ) (r : Rest table left slot) (h : slot < slot_count) where
-      module _ (rest : List ℕ) (slot' : ℕ) (er : bits_of rest ≡ set (bits_of left) (lowest (bits_of left)) false)
-          (es : slot' ≡ lowest (bits_of rest)) where
-        pub rest_later : slot < slot'
-        rest_later =
-            let b = bits_of_length left in
-            let l = r.len in
-            let a = lowest_next (bits_of left) (let c = r.here in omega arith) in
-            let c = r.here in
-            let d = es ∙ ap lowest er in
-            omega arith
-
-        pub rest_more :
-            (table' : List ℕ) →
-            length rest ≡ word_count →
-            Settling (state_of table₀) time t mesh (slot + 1) table' →
-            Rest table' rest slot'
-        rest_more table' l now =
-            let later = rest_later in
-            let m = most rest l in
-            let kept : (s : ℕ) → slot < s → at (bits_of rest) s ≡ at (bits_of left) s =
-            λ s k.
-            ap (λ (x : List Bool). at x s) er
-            ∙ get_or-set_other (bits_of left) (lowest (bits_of left)) s false false (λ z. let c = r.here in omega arith) in
-            record {
-              walked =
-                  skip table' (slot + 1) slot' (omega arith) (omega arith) now
-                  (λ s a b.
-                  r.same s (omega arith) (sym (kept s (omega arith)) ∙ lowest_below (bits_of rest) s (omega arith)));
-              len = l;
-              here = es;
-              same = λ s a q. r.same s (omega arith) (sym (kept s (omega arith)) ∙ q);
-            }
+    -- the slots up to the next that changed stay as they are
+    pub settling_next :
+        (changed : List ℕ) →
+        ((s : ℕ) → at (bits_of changed) s ≡ differs (at members s) (at mesh s)) →
+        (i j : ℕ) (table : List ℕ) →
+        Next (bits_of changed) i j →
+        Settling (state_of table₀) time t mesh i table →
+        Settling (state_of table₀) time t mesh j table
+    settling_next changed d i j table n now =
+        skip table i j n.later n.most now (λ s a b. same_flags (at members s) (at mesh s) (sym (d s) ∙ n.none s a b))
 
 pub settling_done :
-    (st : State) (time t : ℕ) (mesh : List Bool) (i : ℕ) (table : List ℕ) →
-    slot_count ≤ i →
-    Settling st time t mesh i table →
+    (st : State) (time t : ℕ) (mesh : List Bool) (table : List ℕ) →
+    Settling st time t mesh slot_count table →
     state_of table ≡ iter slot_count (settle_slot st time t mesh) st
-settling_done st time t mesh i table h now =
-    let l = now.low in
-    let e : i ≡ slot_count = omega arith in
-    let n : Settling st time t mesh slot_count table = rw e at now in
-    n.state
+settling_done st time t mesh table now = now.state

@@ -5,15 +5,15 @@ use native.Mathlib.Omega.{arith}
 use mathlib.Core.Path.{◌≡◌, refl, sym, ap, ◌∙◌}
 use mathlib.Core.Bool.{Bool, false, cond}
 use mathlib.Core.List.{List, [], ◌∷◌, map}
-use lib.ListN.{length, get_or, set}
+use lib.ListN.{length, get_or}
 use lib.Seq.{sets, length-sets}
 use lib.Dec.{eqb}
 use borrow.Author.Tests.{eq-eqb, ne_eqb}
 use Rattle.records.specs.declared.Peer.{Peer}
 use Rattle.records.specs.Records.{State, slot_count, peer_in}
-use Rattle.words.specs.Words.{word_count, bits_of, lowest, slots}
+use Rattle.words.specs.Words.{word_count, bits_of, Next}
 use Rattle.words.proofs.WideLaws.{bits_of_length}
-use Rattle.words.proofs.SlotWalk.{slots_step, slots_end, lowest_next}
+use Rattle.words.proofs.SlotWalk.{slots_from, slots_next, slots_last}
 use Rattle.sets.specs.Sets.{ascending}
 use Rattle.sets.proofs.SlotLaws.{slots_at, by_slot_lem}
 use Rattle.mesh.specs.Maintenance.{Action, action, actions_on, seconds_of, numbers_of, Narrow, Writable, Written}
@@ -47,54 +47,42 @@ module _ (st : State) (kind s seconds : ℕ) (h : s < slot_count) (k : kind ≡ 
   seconds_some n = sym (ap (λ (b : Bool). cond b 0 seconds) (ne_eqb p.version 0 n)) ∙ seconds_told
 
 -- ---- the walk over the slots of a set
-unfoldable pub on_slots : ℕ → List ℕ → List Action
-on_slots kind m = map (action kind) (slots 0 (bits_of m))
+-- the actions on its slots from i on
+unfoldable pub on_slots : ℕ → List Bool → ℕ → List Action
+on_slots kind m i = map (action kind) (slots_from m i)
 
-flags_length : (m : List ℕ) → length m ≡ word_count → length (bits_of m) ≡ slot_count
-flags_length m l = let e = bits_of_length m in omega arith
-
--- before the action on the lowest slot left: k actions are written, and the list is then l
+-- before the slots from i on: k actions are written, and the list is then l
 pub record Telling
-    (ids told : List ℕ) (kind n : ℕ) (all : List Action) (l₀ l : List ℕ) (k : ℕ) (left : List ℕ) (slot : ℕ)
+    (ids told : List ℕ) (kind n : ℕ) (all : List Action) (m : List Bool) (l₀ l : List ℕ) (k i : ℕ)
     : Type 0 where
-  pub len : length left ≡ word_count
-  pub here : slot ≡ lowest (bits_of left)
+  pub len : length m ≡ slot_count
   pub size : length l ≡ length l₀
-  pub many : k + length (on_slots kind left) ≡ n + length all
-  pub rest : sets l (3 * k) (numbers_of ids told (on_slots kind left)) ≡ sets l₀ (3 * n) (numbers_of ids told all)
+  pub many : k + length (on_slots kind m i) ≡ n + length all
+  pub rest : sets l (3 * k) (numbers_of ids told (on_slots kind m i)) ≡ sets l₀ (3 * n) (numbers_of ids told all)
 
 module _ (ids told : List ℕ) (kind n : ℕ) where
   pub telling_none :
-      (p l : List ℕ) (slot : ℕ) →
+      (p l : List ℕ) →
       length p ≡ word_count →
-      slot ≡ lowest (bits_of p) →
-      Telling ids told kind n (actions_on kind (bits_of p) (ascending 0 slot_count)) l l n p slot
+      Telling ids told kind n (actions_on kind (bits_of p) (ascending 0 slot_count)) (bits_of p) l l n 0
   unfolding on_slots actions_on
-  telling_none p l slot e h =
-      let q = ap (map (action kind)) (by_slot_lem (bits_of p) slot_count (flags_length p e)) in
+  telling_none p l e =
+      let f : length (bits_of p) ≡ slot_count = let b = bits_of_length p in omega arith in
+      let q = ap (map (action kind)) (by_slot_lem (bits_of p) slot_count f) in
       record {
-        len = e;
-        here = h;
+        len = f;
         size = refl;
         many = ap (λ (x : List Action). n + length x) (sym q);
         rest = ap (λ (x : List Action). sets l (3 * n) (numbers_of ids told x)) (sym q);
       }
 
   module _
-      (all : List Action) (l₀ l : List ℕ) (k : ℕ) (left : List ℕ) (slot : ℕ)
-      (t : Telling ids told kind n all l₀ l k left slot)
+      (all : List Action) (m : List Bool) (l₀ l : List ℕ) (k i : ℕ)
     where
-      module _ (h : slot < slot_count) where
-        below : lowest (bits_of left) < length (bits_of left)
-        below = let a = t.here in let b = flags_length left t.len in omega arith
-
-        next : on_slots kind left ≡ action kind slot ∷ map (action kind) (slots 0 (set (bits_of left) (lowest (bits_of left)) false))
+      module _ (slot : ℕ) (t : Telling ids told kind n all m l₀ l k i) (here : Next m i slot) (h : slot < slot_count) where
+        next : on_slots kind m i ≡ action kind slot ∷ on_slots kind m (slot + 1)
         unfolding on_slots
-        next =
-            ap (map (action kind)) (slots_step 0 (bits_of left) below)
-            ∙ ap
-            (λ (s : ℕ). action kind s ∷ map (action kind) (slots 0 (set (bits_of left) (lowest (bits_of left)) false)))
-            (let e : 0 + lowest (bits_of left) ≡ slot = let a = t.here in omega arith in e)
+        next = ap (map (action kind)) (slots_next m i slot t.len here h)
 
         pub telling_room : Writable l₀ ids told (n + length all) → Writable l ids told (k + 1)
         telling_room w =
@@ -104,44 +92,27 @@ module _ (ids told : List ℕ) (kind n : ℕ) where
               narrow_seconds = w.narrow_seconds;
             }
 
-        module _ (rest : List ℕ) (er : bits_of rest ≡ set (bits_of left) (lowest (bits_of left)) false) where
-          pub telling_next : (slot' : ℕ) → slot' ≡ lowest (bits_of rest) → slot < slot'
-          telling_next slot' e =
-              let a = lowest_next (bits_of left) below in
-              let b = t.here in
-              let c = e ∙ ap lowest er in
-              omega arith
+        pub telling_more :
+            (l' : List ℕ) →
+            l' ≡ sets l (3 * k) (kind ∷ get_or ids slot 0 ∷ seconds_of kind told slot ∷ []) →
+            Telling ids told kind n all m l₀ l' (k + 1) (slot + 1)
+        telling_more l' el =
+            record {
+              len = t.len;
+              size =
+                  ap length el ∙ length-sets l (3 * k) (kind ∷ get_or ids slot 0 ∷ seconds_of kind told slot ∷ []) ∙ t.size;
+              many = let a = t.many in let b = ap length next in omega arith;
+              rest =
+                  ap (λ (x : List ℕ). sets x (3 * (k + 1)) (numbers_of ids told (on_slots kind m (slot + 1)))) el
+                  ∙ sym (numbers_cons ids told l k kind slot (on_slots kind m (slot + 1)))
+                  ∙ ap (λ (x : List Action). sets l (3 * k) (numbers_of ids told x)) (sym next)
+                  ∙ t.rest;
+            }
 
-          follows : on_slots kind left ≡ action kind slot ∷ on_slots kind rest
-          unfolding on_slots
-          follows = next ∙ ap (λ (m : List Bool). action kind slot ∷ map (action kind) (slots 0 m)) (sym er)
-
-          pub telling_more :
-              (l' : List ℕ) (slot' : ℕ) →
-              length rest ≡ word_count →
-              slot' ≡ lowest (bits_of rest) →
-              l' ≡ sets l (3 * k) (kind ∷ get_or ids slot 0 ∷ seconds_of kind told slot ∷ []) →
-              Telling ids told kind n all l₀ l' (k + 1) rest slot'
-          telling_more l' slot' len e el =
-              record {
-                len = len;
-                here = e;
-                size =
-                    ap length el ∙ length-sets l (3 * k) (kind ∷ get_or ids slot 0 ∷ seconds_of kind told slot ∷ []) ∙ t.size;
-                many = let a = t.many in let b = ap length follows in omega arith;
-                rest =
-                    ap (λ (x : List ℕ). sets x (3 * (k + 1)) (numbers_of ids told (on_slots kind rest))) el
-                    ∙ sym (numbers_cons ids told l k kind slot (on_slots kind rest))
-                    ∙ ap (λ (x : List Action). sets l (3 * k) (numbers_of ids told x)) (sym follows)
-                    ∙ t.rest;
-              }
-
-      pub telling_done : slot_count ≤ slot → Written ids told all l₀ n l k
+      pub telling_done : Telling ids told kind n all m l₀ l k i → Next m i slot_count → Written ids told all l₀ n l k
       unfolding on_slots
-      telling_done h =
-          let a = t.here in
-          let b = flags_length left t.len in
-          let e : on_slots kind left ≡ [] = ap (map (action kind)) (slots_end 0 (bits_of left) (omega arith)) in
+      telling_done t h =
+          let e : on_slots kind m i ≡ [] = ap (map (action kind)) (slots_last m i t.len h) in
           record {
             many = let c = t.many in let d = ap length e in omega arith;
             list =

@@ -5,6 +5,8 @@ use Rattle.layout.specs.View.{state_of}
 use Rattle.sets.specs.Sets.{at, size, fill}
 use Rattle.mesh.specs.Maintenance.{mesh1, mesh2}
 use Rattle.rules.specs.Step.{height_in, degrees_in, view_in}
+use Rattle.peer_score.specs.declared.buckets.Buckets.{Buckets}
+use Rattle.peer_score.specs.declared.weights.TopicWeights.{TopicWeights}
 use Rattle.peer_score.specs.Weights.{Weights}
 use Rattle.heartbeat.specs.Ready.{is_free}
 use Rattle.heartbeat.specs.Heights.{HeightsOn, Taking, Partial}
@@ -19,9 +21,9 @@ pub record WantedOf (st : State) (time t least : ℕ) (p c : List Bool) : Type 0
   pub past : (s : ℕ) → slot_count ≤ s → at c s ≡ false
 
 -- what is relied on: the connected peers counted by group, the weights, a topic
-pub record Grafting (table heads same others w2 w3b w4 : List ℕ) (t : ℕ) (heights : List ℕ) : Type 0 where
-  pub taking : Taking table heads same others heights
-  pub weights : Weights (state_of table) w2 w3b w4
+pub record Grafting (table : List ℕ) (b : Buckets) (w : TopicWeights) (t : ℕ) (heights : List ℕ) : Type 0 where
+  pub taking : Taking table b heights
+  pub weights : Weights (state_of table) w
   pub topic : t < topic_count
 
 -- a score that was right stays so
@@ -48,9 +50,9 @@ pub record Grafted (st : State) (time t least : ℕ) (p : List Bool) (k : ℕ) (
   pub scores : Scored st m r before after
 
 -- what the steps after the first rely on: what taking all scores does, and that first step's mesh
-pub record Begun (table heads same others : List ℕ) (t : ℕ) (heights : List ℕ) (time ask : ℕ) (order : List ℕ) (first : List Bool)
+pub record Begun (table : List ℕ) (b : Buckets) (t : ℕ) (heights : List ℕ) (time ask : ℕ) (order : List ℕ) (first : List Bool)
     : Type 0 where
-  pub partial : Partial table heads same others t heights
+  pub partial : Partial table b t heights
   pub mesh : first ≡ mesh1 (view_in (state_of table) time t ask order)
   pub scores : HeightsOn (state_of table) first heights
 

@@ -6,6 +6,7 @@ use Rattle.sets.specs.Sets.{at, by_slot}
 use Rattle.effects.specs.Effects.{is_member}
 use Rattle.rules.specs.Step.{height_in}
 use Rattle.peer_score.specs.Standing.{Standing}
+use Rattle.peer_score.specs.declared.buckets.Buckets.{Buckets}
 use Rattle.peer_score.specs.Buckets.{Counted}
 
 -- of a set's slots, and of the empty ones
@@ -22,14 +23,14 @@ pub record Taken (st : State) (set : List Bool) (before after : List ℕ) : Type
   pub kept : (s : ℕ) → at set s ≡ false → get_or after s 0 ≡ get_or before s 0
 
 -- what taking them relies on: the connected peers counted by group, and a number for each slot
-pub record Taking (table heads same others heights : List ℕ) : Type 0 where
+pub record Taking (table : List ℕ) (b : Buckets) (heights : List ℕ) : Type 0 where
   pub standing : Standing table
-  pub buckets : Counted table heads same others
+  pub buckets : Counted table b
   pub size : length heights ≡ slot_count
 
 -- what taking the others' relies on: the members' are there, and those of empty slots
-pub record Partial (table heads same others : List ℕ) (t : ℕ) (heights : List ℕ) : Type 0 where
-  pub taking : Taking table heads same others heights
+pub record Partial (table : List ℕ) (b : Buckets) (t : ℕ) (heights : List ℕ) : Type 0 where
+  pub taking : Taking table b heights
   pub topic : t < topic_count
   pub members : HeightsOn (state_of table) (by_slot slot_count (is_member (state_of table) t)) heights
   pub empty : EmptyHeights (state_of table) heights

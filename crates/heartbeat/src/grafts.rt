@@ -11,8 +11,9 @@ ghost use Rattle.heartbeat.specs.Grafts.{Grafting, Asked, Grafted, Scored};
 
 use crate::scores::height;
 use crate::seen::{degrees, eligible, is_free, outbound};
-use peer_score::buckets::BUCKETS;
-use records::TOPICS;
+use peer_score::buckets::Buckets;
+use peer_score::weights::TopicWeights;
+
 use sets::median::middle;
 use sets::walks::takes;
 use sets::{both, minus, size};
@@ -22,12 +23,8 @@ use words::{WORDS, put};
 // is left in `heights`.
 fn is_grafted(
     table: &[u64],
-    heads: &[u32; BUCKETS],
-    same: &[u16; BUCKETS],
-    others: &[u16; BUCKETS],
-    w2: &[u64; TOPICS],
-    w3b: &[u64; TOPICS],
-    w4: &[u64; TOPICS],
+    buckets: &Buckets,
+    weights: &TopicWeights,
     time: u64,
     topic: usize,
     p: &[u64],
@@ -37,7 +34,7 @@ fn is_grafted(
     s: u64,
     heights: &mut [u64],
 ) -> bool
-    requires grafting { Grafting table.now heads.now same.now others.now w2.now w3b.now w4.now topic heights.old }
+    requires grafting { Grafting table.now buckets.now weights.now topic heights.old }
     requires p_len { length p.now ≡ word_count }
     ensures { Asked (state_of table.now) time topic least s
         (takes (bits_of p.now) room (bits_of m.now) s) result heights.old heights.new }
@@ -45,7 +42,7 @@ fn is_grafted(
     if !takes(p, room, m, s) {
         return false;
     }
-    let score = height(table, heads, same, others, w2, w3b, w4, s as usize);
+    let score = height(table, buckets, weights, s as usize);
     heights[s as usize] = score;
     is_free(table, time, topic, s as usize, score) & (least <= score)
 }
@@ -53,12 +50,8 @@ fn is_grafted(
 // Puts in, in the order, the first k eligible peers of p that are candidates with at least this score and not in m.
 fn graft(
     table: &[u64],
-    heads: &[u32; BUCKETS],
-    same: &[u16; BUCKETS],
-    others: &[u16; BUCKETS],
-    w2: &[u64; TOPICS],
-    w3b: &[u64; TOPICS],
-    w4: &[u64; TOPICS],
+    buckets: &Buckets,
+    weights: &TopicWeights,
     time: u64,
     topic: usize,
     p: [u64; WORDS],
@@ -68,7 +61,7 @@ fn graft(
     m: [u64; WORDS],
     heights: &mut [u64],
 ) -> [u64; WORDS]
-    requires { Grafting table.now heads.now same.now others.now w2.now w3b.now w4.now topic heights.old }
+    requires { Grafting table.now buckets.now weights.now topic heights.old }
     ensures { Grafted (state_of table.now) time topic least (bits_of p) k order.now (bits_of m) (bits_of result)
         heights.old heights.new }
 {
@@ -80,7 +73,7 @@ fn graft(
         }
         let s = order[i];
         if is_grafted(
-            table, heads, same, others, w2, w3b, w4, time, topic, &p, least, room, &r, s, heights,
+            table, buckets, weights, time, topic, &p, least, room, &r, s, heights,
         ) {
             r = put(r, s, true);
             room -= 1;
@@ -92,19 +85,15 @@ fn graft(
 // 2. Under lo: candidates up to d.
 pub fn second(
     table: &[u64],
-    heads: &[u32; BUCKETS],
-    same: &[u16; BUCKETS],
-    others: &[u16; BUCKETS],
-    w2: &[u64; TOPICS],
-    w3b: &[u64; TOPICS],
-    w4: &[u64; TOPICS],
+    buckets: &Buckets,
+    weights: &TopicWeights,
     time: u64,
     topic: usize,
     order: &[u64],
     m: [u64; WORDS],
     heights: &mut [u64],
 ) -> [u64; WORDS]
-    requires { Grafting table.now heads.now same.now others.now w2.now w3b.now w4.now topic heights.old }
+    requires { Grafting table.now buckets.now weights.now topic heights.old }
     ensures { Scored (state_of table.now) (bits_of m) (bits_of result) heights.old heights.new
         × ((ask : ℕ) → bits_of result ≡ mesh2 (degrees_in (state_of table.now))
         (view_in (state_of table.now) time topic ask order.now) (bits_of m)) }
@@ -117,26 +106,22 @@ pub fn second(
     let p = eligible(table, topic);
     let k = minus(t.d, n);
     graft(
-        table, heads, same, others, w2, w3b, w4, time, topic, p, 0, k, order, m, heights,
+        table, buckets, weights, time, topic, p, 0, k, order, m, heights,
     )
 }
 
 // 4. Under out outbound: outbound candidates.
 pub fn fourth(
     table: &[u64],
-    heads: &[u32; BUCKETS],
-    same: &[u16; BUCKETS],
-    others: &[u16; BUCKETS],
-    w2: &[u64; TOPICS],
-    w3b: &[u64; TOPICS],
-    w4: &[u64; TOPICS],
+    buckets: &Buckets,
+    weights: &TopicWeights,
     time: u64,
     topic: usize,
     order: &[u64],
     m: [u64; WORDS],
     heights: &mut [u64],
 ) -> [u64; WORDS]
-    requires { Grafting table.now heads.now same.now others.now w2.now w3b.now w4.now topic heights.old }
+    requires { Grafting table.now buckets.now weights.now topic heights.old }
     ensures { Scored (state_of table.now) (bits_of m) (bits_of result) heights.old heights.new
         × ((ask : ℕ) → bits_of result ≡ mesh4 (degrees_in (state_of table.now))
         (view_in (state_of table.now) time topic ask order.now) (bits_of m)) }
@@ -146,19 +131,15 @@ pub fn fourth(
     let k = minus(t.out, size(both(m, outs)));
     let p = both(eligible(table, topic), outs);
     graft(
-        table, heads, same, others, w2, w3b, w4, time, topic, p, 0, k, order, m, heights,
+        table, buckets, weights, time, topic, p, 0, k, order, m, heights,
     )
 }
 
 // 5. If asked, and the median is under the threshold: up to two candidates above the median.
 pub fn fifth(
     table: &[u64],
-    heads: &[u32; BUCKETS],
-    same: &[u16; BUCKETS],
-    others: &[u16; BUCKETS],
-    w2: &[u64; TOPICS],
-    w3b: &[u64; TOPICS],
-    w4: &[u64; TOPICS],
+    buckets: &Buckets,
+    weights: &TopicWeights,
     time: u64,
     topic: usize,
     ask: u64,
@@ -166,7 +147,7 @@ pub fn fifth(
     m: [u64; WORDS],
     heights: &mut [u64],
 ) -> [u64; WORDS]
-    requires grafting { Grafting table.now heads.now same.now others.now w2.now w3b.now w4.now topic heights.old }
+    requires grafting { Grafting table.now buckets.now weights.now topic heights.old }
     requires heights_on { HeightsOn (state_of table.now) (bits_of m) heights.old }
     ensures { Scored (state_of table.now) (bits_of m) (bits_of result) heights.old heights.new
         × (bits_of result ≡ mesh5 (degrees_in (state_of table.now))
@@ -188,12 +169,8 @@ pub fn fifth(
     let p = eligible(table, topic);
     graft(
         table,
-        heads,
-        same,
-        others,
-        w2,
-        w3b,
-        w4,
+        buckets,
+        weights,
         time,
         topic,
         p,

@@ -11,28 +11,25 @@ ghost use Rattle.peer_score.specs.Buckets.{Among};
 ghost use Rattle.heartbeat.specs.Heights.{Taken, Taking, Partial};
 
 use crate::seen::members;
-use peer_score::buckets::{BUCKETS, empty_score, score_among};
-use peer_score::weights::weights;
-use records::{SLOTS, TOPICS, param};
+use peer_score::buckets::{Buckets, empty_score, score_among};
+use peer_score::weights::{TopicWeights, topic_weights};
+
 use score::sums::offset;
 use sets::except;
-use words::{WORDS, next};
+use words::WORDS;
+use words::slots::Slots;
 
 // The score of the peer in a slot, moved up so that none is negative.
 pub fn height(
     table: &[u64],
-    heads: &[u32; BUCKETS],
-    same: &[u16; BUCKETS],
-    others: &[u16; BUCKETS],
-    w2: &[u64; TOPICS],
-    w3b: &[u64; TOPICS],
-    w4: &[u64; TOPICS],
+    buckets: &Buckets,
+    weights: &TopicWeights,
     slot: usize,
 ) -> u64
-    requires { Among table.now heads.now same.now others.now w2.now w3b.now w4.now slot }
+    requires { Among table.now buckets.now weights.now slot }
     ensures { result ≡ height_in (state_of table.now) slot }
 {
-    offset(score_among(table, heads, same, others, w2, w3b, w4, slot))
+    offset(score_among(table, buckets, weights, slot))
 }
 
 // The same of an empty slot.
@@ -47,40 +44,31 @@ pub fn empty_height(table: &[u64]) -> u64
 // Takes the scores of a set's slots; the others' stand.
 pub fn score_slots(
     table: &[u64],
-    heads: &[u32; BUCKETS],
-    same: &[u16; BUCKETS],
-    others: &[u16; BUCKETS],
+    buckets: &Buckets,
     set: [u64; WORDS],
     heights: &mut [u64],
 )
-    requires { Taking table.now heads.now same.now others.now heights.old }
+    requires { Taking table.now buckets.now heights.old }
     ensures { Taken (state_of table.now) (bits_of set) heights.old heights.new }
 {
-    let w2 = weights(table, param::W2);
-    let w3b = weights(table, param::W3B);
-    let w4 = weights(table, param::W4);
-    let mut slot = next(&set, 0);
-    while slot < SLOTS as u64 {
-        let s = slot as usize;
-        heights[s] = height(table, heads, same, others, &w2, &w3b, &w4, s);
-        slot = next(&set, slot + 1);
+    let weights = topic_weights(table);
+    for slot in Slots::of(set) {
+        heights[slot] = height(table, buckets, &weights, slot);
     }
 }
 
 // Takes the scores of all others than a topic's members.
 pub fn score_others(
     table: &[u64],
-    heads: &[u32; BUCKETS],
-    same: &[u16; BUCKETS],
-    others: &[u16; BUCKETS],
+    buckets: &Buckets,
     topic: usize,
     heights: &mut [u64],
 )
-    requires { Partial table.now heads.now same.now others.now topic heights.old }
+    requires { Partial table.now buckets.now topic heights.old }
     ensures { heights.new ≡ by_slot slot_count (height_in (state_of table.now)) }
 {
     let connected = except(layout::load_connected(table), members(table, topic));
-    score_slots(table, heads, same, others, connected, heights);
+    score_slots(table, buckets, connected, heights);
     let retained = layout::load_retained(table);
-    score_slots(table, heads, same, others, retained, heights);
+    score_slots(table, buckets, retained, heights);
 }

@@ -13,9 +13,10 @@ ghost use Rattle.heartbeat.specs.Ready.{is_eligible, is_free, ScoredAt, ScoredAl
 
 use effects::slots::load_magnitude;
 use mesh::{Degrees, Seen, ZERO_SCORE};
-use records::{SLOTS, param};
+use records::param;
 use sets::{both, except};
-use words::{WORDS, next, put};
+use words::slots::Slots;
+use words::{WORDS, put};
 
 // The members of a topic's mesh.
 pub fn members(table: &[u64], topic: usize) -> [u64; WORDS]
@@ -77,12 +78,10 @@ pub fn candidates(table: &[u64], time: u64, topic: usize, scores: &[u64]) -> [u6
 {
     let all = eligible(table, topic);
     let mut r = all;
-    let mut slot = next(&all, 0);
-    while slot < SLOTS as u64 {
-        let s = slot as usize;
-        let more = put(r, slot, is_free(table, time, topic, s, scores[s]));
+    for slot in Slots::of(all) {
+        let free = is_free(table, time, topic, slot, scores[slot]);
+        let more = put(r, slot as u64, free);
         r = more;
-        slot = next(&all, slot + 1);
     }
     r
 }

@@ -11,9 +11,9 @@ ghost use Rattle.heartbeat.specs.Settle.{settled_if, Settle};
 use effects::slots::{graft_slot, prune_slot};
 use leaving::punish;
 use mesh::ZERO_SCORE;
-use records::SLOTS;
 use sets::number_at;
-use words::{WORDS, at, differ, lowest, without_lowest};
+use words::slots::Slots;
+use words::{WORDS, at, differ};
 
 // One slot: whether it was a member, whether it is one now, and whether its score was negative at the start.
 fn settle_slot(
@@ -55,15 +55,12 @@ pub fn settle(
     ensures { state_of table.new
         ≡ iter slot_count (settle_slot (state_of table.old) time topic (bits_of mesh)) (state_of table.old) }
 {
-    let mut left = differ(members, mesh);
-    let mut slot = lowest(left);
-    while slot < SLOTS as u64 {
-        let negative = number_at(scores, slot) < ZERO_SCORE;
-        let was = at(&members, slot);
-        let stays = at(&mesh, slot);
-        settle_slot(table, topic, slot as usize, time, end, was, stays, negative);
-        let rest = without_lowest(left);
-        left = rest;
-        slot = lowest(left);
+    let changed = differ(members, mesh);
+    for slot in Slots::of(changed) {
+        let s = slot as u64;
+        let negative = number_at(scores, s) < ZERO_SCORE;
+        let was = at(&members, s);
+        let stays = at(&mesh, s);
+        settle_slot(table, topic, slot, time, end, was, stays, negative);
     }
 }

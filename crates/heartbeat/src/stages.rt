@@ -17,30 +17,28 @@ use crate::seen::{degrees, members, outbound, view};
 use mesh::steps::meshes;
 use mesh::still::{is_still, still};
 use mesh::{Stages, ZERO_SCORE};
-use peer_score::buckets::{BUCKETS, count_groups};
-use peer_score::weights::weights;
-use records::{TOPICS, param};
+use peer_score::buckets::{BUCKETS, Buckets, count_groups};
+use peer_score::weights::{TopicWeights, topic_weights};
+
 use sets::{at_least, both, size};
 use words::WORDS;
 
 // From the scores of all slots.
 fn all_stages(
     table: &[u64],
-    heads: &[u32; BUCKETS],
-    same: &[u16; BUCKETS],
-    others: &[u16; BUCKETS],
+    buckets: &Buckets,
     time: u64,
     topic: usize,
     ask: u64,
     order: &[u64],
     heights: &mut [u64],
 ) -> Stages
-    requires { Partial table.now heads.now same.now others.now topic heights.old }
+    requires { Partial table.now buckets.now topic heights.old }
     ensures { (meshes_of result ≡ meshes_in (state_of table.now) time topic ask order.now)
         × HeightsOn (state_of table.now) (by_slot slot_count (is_member (state_of table.now) topic))
         heights.new }
 {
-    score_others(table, heads, same, others, topic, heights);
+    score_others(table, buckets, topic, heights);
     let v = view(table, time, topic, ask, heights);
     meshes(degrees(table), v, heights, order)
 }
@@ -48,12 +46,8 @@ fn all_stages(
 // The last three steps, where the third leaves the mesh of the second.
 fn last_stages(
     table: &[u64],
-    heads: &[u32; BUCKETS],
-    same: &[u16; BUCKETS],
-    others: &[u16; BUCKETS],
-    w2: &[u64; TOPICS],
-    w3b: &[u64; TOPICS],
-    w4: &[u64; TOPICS],
+    buckets: &Buckets,
+    weights: &TopicWeights,
     time: u64,
     topic: usize,
     ask: u64,
@@ -62,16 +56,16 @@ fn last_stages(
     second: [u64; WORDS],
     heights: &mut [u64],
 ) -> Stages
-    requires grafting { Grafting table.now heads.now same.now others.now w2.now w3b.now w4.now topic heights.old }
+    requires grafting { Grafting table.now buckets.now weights.now topic heights.old }
     requires halfway { Halfway (state_of table.now) time topic ask order.now (bits_of first) (bits_of second) heights.old }
     ensures { (meshes_of result ≡ meshes_in (state_of table.now) time topic ask order.now)
         × Kept (state_of table.now) heights.old heights.new }
 {
     let m4 = fourth(
-        table, heads, same, others, w2, w3b, w4, time, topic, order, second, heights,
+        table, buckets, weights, time, topic, order, second, heights,
     );
     let m5 = fifth(
-        table, heads, same, others, w2, w3b, w4, time, topic, ask, order, m4, heights,
+        table, buckets, weights, time, topic, ask, order, m4, heights,
     );
     Stages {
         first: first,
@@ -85,9 +79,7 @@ fn last_stages(
 // From the scores that the grafts ask for; where step 3 has to choose, from those of all slots.
 fn few_stages(
     table: &[u64],
-    heads: &[u32; BUCKETS],
-    same: &[u16; BUCKETS],
-    others: &[u16; BUCKETS],
+    buckets: &Buckets,
     time: u64,
     topic: usize,
     ask: u64,
@@ -95,23 +87,21 @@ fn few_stages(
     first: [u64; WORDS],
     heights: &mut [u64],
 ) -> Stages
-    requires { Begun table.now heads.now same.now others.now topic heights.old time ask order.now (bits_of first) }
+    requires { Begun table.now buckets.now topic heights.old time ask order.now (bits_of first) }
     ensures { (meshes_of result ≡ meshes_in (state_of table.now) time topic ask order.now)
         × HeightsOn (state_of table.now) (by_slot slot_count (is_member (state_of table.now) topic))
         heights.new }
 {
-    let w2 = weights(table, param::W2);
-    let w3b = weights(table, param::W3B);
-    let w4 = weights(table, param::W4);
+    let weights = topic_weights(table);
     let m2 = second(
-        table, heads, same, others, &w2, &w3b, &w4, time, topic, order, first, heights,
+        table, buckets, &weights, time, topic, order, first, heights,
     );
     let t = degrees(table);
     if t.hi < size(m2) {
-        return all_stages(table, heads, same, others, time, topic, ask, order, heights);
+        return all_stages(table, buckets, time, topic, ask, order, heights);
     }
     last_stages(
-        table, heads, same, others, &w2, &w3b, &w4, time, topic, ask, order, first, m2, heights,
+        table, buckets, &weights, time, topic, ask, order, first, m2, heights,
     )
 }
 
@@ -129,17 +119,19 @@ pub fn stages(
         × HeightsOn (state_of table.now) (by_slot slot_count (is_member (state_of table.now) topic))
         heights.new }
 {
-    let mut heads: [u32; BUCKETS] = [0; BUCKETS];
-    let mut same: [u16; BUCKETS] = [0; BUCKETS];
-    let mut others: [u16; BUCKETS] = [0; BUCKETS];
-    count_groups(table, &mut heads, &mut same, &mut others);
+    let mut buckets = Buckets {
+        heads: [0; BUCKETS],
+        same: [0; BUCKETS],
+        others: [0; BUCKETS],
+    };
+    count_groups(table, &mut buckets);
     let all = members(table, topic);
-    score_slots(table, &heads, &same, &others, all, heights);
+    score_slots(table, &buckets, all, heights);
     let first = both(all, at_least(ZERO_SCORE, heights));
     if is_still(degrees(table), outbound(table), ask == 1, heights, first) {
         return still(first);
     }
     few_stages(
-        table, &heads, &same, &others, time, topic, ask, order, first, heights,
+        table, &buckets, time, topic, ask, order, first, heights,
     )
 }

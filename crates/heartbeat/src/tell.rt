@@ -13,9 +13,9 @@ ghost use Rattle.heartbeat.specs.Tell.{ids_in, told_by, Tells};
 
 use mesh::Moves;
 use mesh::actions::{GRAFT, PRUNE, put};
-use records::SLOTS;
 use sets::size;
-use words::{WORDS, at, lowest, without_lowest};
+use words::slots::Slots;
+use words::{WORDS, at};
 
 // An action's seconds: what the peer in a slot is told of a backoff for a PRUNE, 0 for a GRAFT.
 fn seconds_of(table: &[u64], kind: u32, slot: usize, seconds: u64) -> u64
@@ -59,14 +59,9 @@ fn tell_by_slot(
         (actions_on kind (bits_of p) (ascending 0 slot_count)) actions.old n actions.new result }
 {
     let mut k = n;
-    let mut left = p;
-    let mut slot = lowest(left);
-    while slot < SLOTS as u64 {
-        tell(table, actions, k, kind, slot, seconds);
+    for slot in Slots::of(p) {
+        tell(table, actions, k, kind, slot as u64, seconds);
         k += 1;
-        let rest = without_lowest(left);
-        left = rest;
-        slot = lowest(left);
     }
     k
 }

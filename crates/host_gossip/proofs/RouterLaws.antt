@@ -1,7 +1,6 @@
 -- From what making a router with its array promises to what a host gets: the answer as one number.
 -- Assumes nothing.
 use Rattle.std.proofs.Common.{Result}
-use Rattle.std.proofs.Common.{Unit}
 use Rattle.saves.specs.declared.LoadError.{LoadError}
 use Rattle.gossip_old.specs.declared.MakeError.{MakeError}
 use Rattle.std.proofs.Common.{Option, Some, None}

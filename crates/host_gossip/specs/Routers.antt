@@ -1,7 +1,6 @@
 -- What a host gets of making a router with the array of orders 6 and 7, fresh or of a save: the promise of the crate below, with the answer
 -- as one number.
 use Rattle.std.specs.Prelude.{Result, Err}
-use Rattle.std.specs.Prelude.{Unit}
 use Rattle.gossip_old.specs.declared.MakeError.{MakeError}
 use Rattle.gossip_old.specs.declared.MakeError.TheVariants.{OutOfRange}
 use Rattle.std.specs.Prelude.{Option, Some, None}

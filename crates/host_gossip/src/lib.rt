@@ -69,9 +69,5 @@ pub fn fresh(
 pub fn is_router(table: &[u64; CELLS], gossip: &[u64; GOSSIP_CELLS]) -> u32
     ensures { result ≡ one (valid_all (extended_of table.now gossip.now)) }
 {
-    if gossip_old::is_router(table, gossip) {
-        1
-    } else {
-        0
-    }
+    u32::from(gossip_old::is_router(table, gossip))
 }

@@ -8,11 +8,10 @@ use mathlib.Core.List.{List}
 use lib.ListN.{length}
 use lib.IntN.{ℤ}
 use Rattle.records.specs.Records.{param_count}
-use Rattle.params_bytes.specs.declared.Reading.{Reading}
 use Rattle.params.specs.declared.Edition.{Edition}
 use Rattle.params.specs.declared.Params.{Params}
 use Rattle.params.specs.Editions.{edition_number, edition_of}
-use Rattle.params_bytes.specs.Read.{read_of, verdict_number, verdict_value}
+use Rattle.params_bytes.specs.Read.{Reading, read_of, verdict_number, verdict_value}
 use Rattle.params_bytes.specs.Write.{write_of, written_number, written_value}
 use Rattle.params_bytes.proofs.PlaceLaws.{read_most, write_most}
 use Rattle.params_bytes.proofs.WriteLaws.{Wrote}

@@ -13,8 +13,7 @@ use Rattle.answers.specs.Answers.{packed}
 use Rattle.params.specs.Editions.{sheet}
 use Rattle.params.specs.declared.Edition.TheVariants.{First}
 use Rattle.params.proofs.CheckLaws.{broken_most}
-use Rattle.params_bytes.specs.Read.{verdict_number, verdict_value}
-use Rattle.params_bytes.specs.declared.Reading.{Reading}
+use Rattle.params_bytes.specs.Read.{Reading, verdict_number, verdict_value}
 use Rattle.supplier_params.specs.Forms.{supplier_bytes}
 use Rattle.supplier_params.specs.Import.{import_of}
 use Rattle.supplier_params.specs.Export.{broken_first, export_by, export_of, export_number, export_value}

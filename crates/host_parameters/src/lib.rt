@@ -30,15 +30,11 @@ pub fn ordinary(numbers: &mut [i64; NUMBERS])
 pub fn read(bytes: &[u8], numbers: &mut [i64; NUMBERS], edition: &mut u64) -> u64
     ensures { HostsRead bytes.now result numbers.old numbers.new edition.old edition.new }
 {
-    let reading = params_bytes::read(bytes);
-    let all = reading.params;
-    let values = all.numbers;
-    let told = all.edition;
-    let verdict = reading.verdict;
-    match verdict {
-        Ok(n) => {
+    match params_bytes::read(bytes) {
+        Ok((all, n)) => {
+            let values = all.numbers;
             *numbers = values;
-            *edition = params::edition_number(told);
+            *edition = params::edition_number(all.edition);
             packed(0, n as u64)
         }
         Err(ReadError::Malformed(place)) => packed(10, place as u64),

@@ -18,12 +18,9 @@ fn told(n: usize) -> u64
 pub fn import(bytes: &[u8], numbers: &mut [i64; NUMBERS]) -> u64
     ensures { HostsImport bytes.now result numbers.old numbers.new }
 {
-    let reading = supplier_params::import(bytes);
-    let all = reading.params;
-    let values = all.numbers;
-    let verdict = reading.verdict;
-    match verdict {
-        Ok(n) => {
+    match supplier_params::import(bytes) {
+        Ok((all, n)) => {
+            let values = all.numbers;
             *numbers = values;
             packed(0, told(n))
         }

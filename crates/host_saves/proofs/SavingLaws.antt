@@ -1,7 +1,6 @@
 -- From what save and load promise to what a host gets: the answer as one number; and over a power cycle.
 -- Assumes nothing.
 use Rattle.std.proofs.Common.{Result, Ok, Err}
-use Rattle.std.proofs.Common.{Unit}
 use Rattle.saves.specs.declared.SaveError.{SaveError}
 use Rattle.saves.specs.declared.SaveError.TheVariants.{Early, NotRouter, OutOfRange, Short}
 use Rattle.saves.specs.declared.LoadError.{LoadError}

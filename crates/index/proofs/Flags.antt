@@ -1,5 +1,6 @@
 -- Laws of computed tests.
 -- Assumes nothing.
+use Rattle.std.proofs.Common.{Option, Some}
 use Prim.Native.Nat.{ℕ, ◌<◌, ◌≤◌}
 use mathlib.Core.Path.{◌≡◌, refl, sym, ap, ◌∙◌}
 use mathlib.Core.Bool.{Bool, true, false, not, ◌&&◌, cond}
@@ -51,6 +52,12 @@ pub cond_case :
     P (cond b x y)
 cond_case P true x y f g = f refl
 cond_case P false x y f g = g refl
+
+-- the halves of a pair that two answers hold
+pub pair_of : {A B : Type 0} {a c : A} {b d : B} → ◌≡◌ {A = Option (A × B)} (Some (a, b)) (Some (c, d)) → (a ≡ c) × (b ≡ d)
+pair_of {A} {B} {a} {c} {b} {d} e =
+    let p : (a, b) ≡ (c, d) = cc in
+    (ap (λ (q : A × B). q.0) p, ap (λ (q : A × B). q.1) p)
 
 -- `if f(x) { .. }` of a call that ensures `r ≡ spec`
 pub yes : {a b : Bool} → a ≡ b → a ≡ true → b ≡ true

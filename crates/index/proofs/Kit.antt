@@ -6,4 +6,4 @@ pub use mathlib.Core.Path.{◌≡◌, refl, sym, ap, ◌∙◌}
 pub use mathlib.Core.Bool.{Bool, true, false, not}
 pub use Rattle.index.specs.Index.{every, first, count, one, iter, gather}
 pub use Rattle.index.proofs.Index.{every_none, every_more, every_done, every_fails, first_none, first_more, first_done, first_hit}
-pub use Rattle.index.proofs.Flags.{failed, passed, by_test, by_order}
+pub use Rattle.index.proofs.Flags.{failed, passed, by_test, by_order, pair_of}

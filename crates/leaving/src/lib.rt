@@ -17,31 +17,27 @@ use effects::slots::{is_joined, is_member, load_magnitude, prune_slot};
 use effects::values::end_after;
 use gate::{admit, ignore, time_ok, topic_ok};
 use layout::CELLS;
-use peer_score::buckets::{BUCKETS, count_groups, score_among};
-use peer_score::weights::weights;
-use records::{SLOTS, TOPICS, param};
+use peer_score::buckets::{BUCKETS, Buckets, count_groups, score_among};
+use peer_score::weights::{TopicWeights, topic_weights};
+use records::{SLOTS, param};
 use rules::Answer;
 use score::sums::is_negative;
 
 // Whether a slot is a member that scores below zero: nobody else's score is taken.
 fn is_negative_member(
     table: &[u64],
-    heads: &[u32; BUCKETS],
-    same: &[u16; BUCKETS],
-    others: &[u16; BUCKETS],
-    w2: &[u64; TOPICS],
-    w3b: &[u64; TOPICS],
-    w4: &[u64; TOPICS],
+    buckets: &Buckets,
+    weights: &TopicWeights,
     topic: usize,
     slot: usize,
 ) -> bool
-    requires { (topic < topic_count) × Among table.now heads.now same.now others.now w2.now w3b.now w4.now slot }
+    requires { (topic < topic_count) × Among table.now buckets.now weights.now slot }
     ensures { result ≡ is_negative_member (state_of table.now) topic slot }
 {
     if !is_member(table, topic, slot) {
         return false;
     }
-    is_negative(score_among(table, heads, same, others, w2, w3b, w4, slot))
+    is_negative(score_among(table, buckets, weights, slot))
 }
 
 // Which members score below zero; taken before anything changes, since the rule speaks of the call's start. The connected peers are
@@ -50,17 +46,17 @@ fn negatives(table: &[u64], topic: usize) -> [bool; SLOTS]
     requires { TopicStanding table.now topic }
     ensures { (s : ℕ) → s < slot_count → get_or result s false ≡ is_negative_member (state_of table.now) topic s }
 {
-    let mut heads: [u32; BUCKETS] = [0; BUCKETS];
-    let mut same: [u16; BUCKETS] = [0; BUCKETS];
-    let mut others: [u16; BUCKETS] = [0; BUCKETS];
-    count_groups(table, &mut heads, &mut same, &mut others);
-    let w2 = weights(table, param::W2);
-    let w3b = weights(table, param::W3B);
-    let w4 = weights(table, param::W4);
+    let mut buckets = Buckets {
+        heads: [0; BUCKETS],
+        same: [0; BUCKETS],
+        others: [0; BUCKETS],
+    };
+    count_groups(table, &mut buckets);
+    let weights = topic_weights(table);
     let mut flags = [false; SLOTS];
     for slot in 0..SLOTS {
         flags[slot] = is_negative_member(
-            table, &heads, &same, &others, &w2, &w3b, &w4, topic, slot,
+            table, &buckets, &weights, topic, slot,
         );
     }
     flags

@@ -323,12 +323,6 @@ beating_done c d s h b =
 abbrev pub Zeros : List ℕ → ℕ → Type 0
 Zeros c n = (k : ℕ) → k < n → head_of c k ≡ 0
 
-pub zeros_more : (c : List ℕ) (n : ℕ) → n < length c → Zeros c n → Zeros (set c n 0) (n + 1)
-zeros_more c n h z k l =
-    by_order (head_of (set c n 0) k ≡ 0) k n
-    (λ lt. get_or-set_other c n k 0 0 (λ e. omega arith) ∙ z k lt)
-    (λ ge. let e : k ≡ n = omega arith in ap (λ (j : ℕ). head_of (set c n 0) j) e ∙ get_or-set_same c n 0 0 h)
-
 table_const : {A : Type 0} (n : ℕ) (x : A) → table n (λ k. x) ≡ replicate n x
 unfolding table
 table_const n x = tab_const n x
@@ -338,11 +332,6 @@ unfolding notes_of
 notes_made c n h z =
     table_same slot_count (note_of c) (λ k. no_note) (λ k l. sym (note_at_lem c k l) ∙ still_at c k l (z k (omega arith)))
     ∙ table_const slot_count no_note
-
-pub union_more : (c : List ℕ) (n acc : ℕ) → (acc ≡ 0 → Zeros c n) → bit_or acc (head_of c n) ≡ 0 → Zeros c (n + 1)
-union_more c n acc f e k l =
-    let o = or_none acc (head_of c n) e in
-    by_order (head_of c k ≡ 0) k n (λ lt. f o.0 k lt) (λ ge. let q : k ≡ n = omega arith in ap (λ (j : ℕ). head_of c j) q ∙ o.1)
 
 -- ---- the tests
 

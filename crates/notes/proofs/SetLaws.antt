@@ -9,13 +9,14 @@ use native.Mathlib.Nat.{le_antisymm, not-suc-le-zero, le_of_suc-le-suc, zero-lt-
 use native.Mathlib.Numerals.{add-one}
 use native.Mathlib.Omega.{arith}
 use lib.Dec.{eqb, leb, ltb, eqb-suc-zero}
-use lib.ListN.{get_or}
+use lib.ListN.{length, get_or, take, drop, length-take, length-drop}
+use lib.Seq.{ext_get_or, get_or-take, get_or-drop}
 use borrow.Author.Tests.{ltb-true, lt-ltb, le-ltb}
 use Rattle.index.specs.Index.{every}
 use Rattle.index.proofs.Index.{every_at, every_by, every_fails}
 use Rattle.index.proofs.Flags.{by_test}
 use Rattle.layout.specs.Rows.{tab}
-use Rattle.layout.proofs.RowLaws.{tab_same}
+use Rattle.layout.proofs.RowLaws.{length_tab, get_or_tab, tab_same}
 use Rattle.gossip.specs.Notes.{Entry, has, some, put_in, older, aged}
 use Rattle.gossip.specs.Valid.{all, none, rises}
 use Rattle.notes.specs.View.{digit, numbers_in}
@@ -189,21 +190,16 @@ every_step : (f : ℕ → Bool) (i : ℕ) (b : Bool) → b ≡ every i f → (b 
 unfolding every
 every_step f i b e = rw (add-one i) (ap (λ t. t && f i) e)
 
-pub some_start : (f : ℕ → Bool) → false ≡ some 0 f
-unfolding some
-some_start f = refl
-
-pub some_step : (f : ℕ → Bool) (i : ℕ) (b : Bool) → b ≡ some i f → (b || f i) ≡ some (i + 1) f
-unfolding some
-some_step f i b e = rw (add-one i) (ap (λ t. t || f i) e)
-
-pub has_done :
-    (c : List ℕ) (at n x k : ℕ) (b : Bool) → k ≤ n → n ≤ k → b ≡ some k (λ j. eqb (get_or c (at + j) 0) x)
-    → b ≡ has x (numbers_in c at n)
+pub numbers_part : (c : List ℕ) (at n : ℕ) → at + n ≤ length c → take (at + n - at) (drop at c) ≡ numbers_in c at n
 unfolding numbers_in
-has_done c at n x k b l h e =
-    let q : k ≡ n = le_antisymm l h in
-    e ∙ ap (λ (m : ℕ). some m (λ j. eqb (get_or c (at + j) 0) x)) q ∙ sym (has_tab x n (λ j. get_or c (at + j) 0))
+numbers_part c at n h =
+    let z : at + n - at ≡ n = omega arith in
+    let e : length (take n (drop at c)) ≡ n = simp (length-take, length-drop) (omega arith) in
+    ap (λ (m : ℕ). take m (drop at c)) z
+    ∙ ext_get_or 0 (take n (drop at c)) (tab n (λ k. get_or c (at + k) 0)) (e ∙ sym (length_tab n (λ k. get_or c (at + k) 0)))
+    (λ k b.
+    let l : k < n = rw e at b in
+    get_or-take n (drop at c) k 0 l ∙ get_or-drop at c k 0 ∙ sym (get_or_tab n (λ j. get_or c (at + j) 0) k 0 l))
 
 pub ages_more : (ages k r : ℕ) (b : Bool) → b ≡ every k (λ j. leb (digit ages j) 2) → r ≡ digit ages k
     → (b && leb r 2) ≡ every (k + 1) (λ j. leb (digit ages j) 2)
@@ -217,12 +213,16 @@ ages_done ages n k b l h e = e ∙ ap (λ (m : ℕ). every m (λ j. leb (digit a
 abbrev pub cells_from : List ℕ → ℕ → ℕ → ℕ
 cells_from c at k = get_or c (at + k) 0
 
-pub rises_step : (c : List ℕ) (at k : ℕ) (b : Bool) → b ≡ every k (next_above (cells_from c at))
-    → (b && ltb (get_or c (at + k) 0) (get_or c (at + k + 1) 0)) ≡ every (k + 1) (next_above (cells_from c at))
+pub rises_step : (c : List ℕ) (at k : ℕ) (b : Bool) → 1 ≤ k → b ≡ every (k - 1) (next_above (cells_from c at))
+    → (b && ltb (get_or c (at + k - 1) 0) (get_or c (at + k) 0)) ≡ every (k + 1 - 1) (next_above (cells_from c at))
 unfolding next_above
-rises_step c at k b e =
-    let q : at + k + 1 ≡ at + suc k = omega arith in
-    ap (λ (m : ℕ). b && ltb (get_or c (at + k) 0) (get_or c m 0)) q ∙ every_step (next_above (cells_from c at)) k b e
+rises_step c at k b h e =
+    let p : at + k - 1 ≡ at + (k - 1) = omega arith in
+    let q : at + k ≡ at + suc (k - 1) = omega arith in
+    let r : k - 1 + 1 ≡ k + 1 - 1 = omega arith in
+    (λ i. b && ltb (get_or c (p i) 0) (get_or c (q i) 0))
+    ∙ every_step (next_above (cells_from c at)) (k - 1) b e
+    ∙ ap (λ (m : ℕ). every m (next_above (cells_from c at))) r
 
 pub rises_done : (c : List ℕ) (at n k : ℕ) (b : Bool) → k ≤ n - 1 → n ≤ k + 1 → b ≡ every k (next_above (cells_from c at))
     → b ≡ rises (numbers_in c at n)

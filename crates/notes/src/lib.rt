@@ -12,6 +12,7 @@ ghost use Rattle.notes.specs.View.{notes_cells, row_cells, row_at, digit, number
 ghost use Rattle.notes.specs.Moves.{MovedUp, Placed};
 ghost use Rattle.notes.specs.Lent.{AtSlot, SetFits, PutFits, IhaveFits, AllFit, RowFits, AgedRow, PutRow};
 
+use gossip::cells::{are_zero, copy_within};
 use records::SLOTS;
 
 // The numbers of a set at most, and the cells of a row: these and their ages.
@@ -42,26 +43,21 @@ pub fn move_up(cells: &mut [u64], at: usize, end: usize, w: usize)
     requires { (at ≤ end) × (end + w ≤ length cells.old) }
     ensures { MovedUp cells.old cells.new at end w }
 {
-    let mut k = end;
-    while at < k {
-        k -= 1;
-        cells[k + w] = cells[k];
-    }
+    copy_within(cells, at, at + w, end - at);
 }
 
-// Where a number belongs among the n from `at` on.
+// Where a number belongs among the n from `at` on. A walk: a `partition_point` says its answer only of a row that rises, which none of the
+// functions asks for; and no map, since the router has no heap.
 fn place(cells: &[u64], at: usize, n: usize, number: u64) -> usize
     requires { at + n ≤ length cells.now }
     ensures { Placed cells.now at n number result }
 {
-    let mut p: usize = 0;
-    while p < n {
+    for p in 0..n {
         if number < cells[at + p] {
             return p;
         }
-        p += 1;
     }
-    p
+    n
 }
 
 // ---- ages
@@ -107,10 +103,8 @@ fn rises(cells: &[u64], at: usize, n: usize) -> bool
     ensures { result ≡ rises (numbers_in cells.now at n) }
 {
     let mut ok = true;
-    let mut k: usize = 0;
-    while k + 1 < n {
-        ok = ok & (cells[at + k] < cells[at + k + 1]);
-        k += 1;
+    for k in 1..n {
+        ok &= cells[at + k - 1] < cells[at + k];
     }
     ok
 }
@@ -121,20 +115,17 @@ fn ages_ok(ages: u64, n: usize) -> bool
 {
     let mut ok = true;
     for k in 0..n {
-        ok = ok & (digit(ages, k) <= 2);
+        ok &= digit(ages, k) <= 2;
     }
     ok
 }
 
+// The row need not rise, so it is not halved.
 fn has(cells: &[u64], at: usize, n: usize, number: u64) -> bool
     requires { at + n ≤ length cells.now }
     ensures { result ≡ has number (numbers_in cells.now at n) }
 {
-    let mut found = false;
-    for k in 0..n {
-        found = found | (cells[at + k] == number);
-    }
-    found
+    cells[at..at + n].contains(&number)
 }
 
 // One number more.
@@ -176,21 +167,15 @@ pub fn make(cells: &mut [u64])
     requires { length cells.old ≡ notes_cells }
     ensures { notes_of cells.new ≡ replicate slot_count no_note }
 {
-    for s in 0..SLOTS {
-        cells[s] = 0;
-    }
+    cells[..SLOTS].fill(0);
 }
 
-// Whether nothing is held at all: the union of the column.
+// Whether nothing is held at all: the column is 0.
 pub fn is_quiet(cells: &[u64]) -> bool
     requires { length cells.now ≡ notes_cells }
     ensures { result ≡ true → (s : ℕ) → s < slot_count → note_at cells.now s ≡ no_note }
 {
-    let mut acc: u64 = 0;
-    for s in 0..SLOTS {
-        acc = acc | cells[s];
-    }
-    acc == 0
+    are_zero(&cells[..SLOTS])
 }
 
 // A heartbeat: counts to 0, entries older or gone.
@@ -296,7 +281,7 @@ pub fn count_ihave(cells: &mut [u64], slot: usize)
     ensures { notes_of cells.new
         ≡ set (notes_of cells.old) slot (with_ihave (note_at cells.old slot)) }
 {
-    cells[slot] = cells[slot] + IHAVES;
+    cells[slot] += IHAVES;
 }
 
 // The set goes, the counts stay.
@@ -305,7 +290,7 @@ pub fn part(cells: &mut [u64], slot: usize)
     ensures { notes_of cells.new
         ≡ set (notes_of cells.old) slot (parted (note_at cells.old slot)) }
 {
-    cells[slot] = cells[slot] % LENGTH;
+    cells[slot] %= LENGTH;
 }
 
 pub fn clear(cells: &mut [u64], slot: usize)

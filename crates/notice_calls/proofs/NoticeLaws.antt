@@ -20,21 +20,23 @@ use Rattle.effects.specs.Effects.{is_joined}
 use Rattle.rules.specs.Calls.{time_ok, topic_ok}
 use Rattle.rules.specs.Step.{action_room}
 use Rattle.gossip.specs.Notes.{Note, Extended, note_in, holds, set_note}
-use Rattle.gossip.specs.Calls.{idontwant, sender_ok}
+use Rattle.gossip.specs.Calls.{sender_ok}
+use Rattle.peer_score.specs.Standing.{TopicStanding}
 use Rattle.gossip.specs.Step.{FullReply, refused_all, ignored_all, done_all, of_sender, if_joined, tell_one, tell_by_slot, is_relayed}
-use Rattle.gossip.specs.Step.{is_heeded, has_room, with_put, idontwant_reply, new_effect}
+use Rattle.gossip.specs.Step.{is_heeded, has_room, with_put, idontwant_reply}
 use Rattle.gossip_table.specs.View.{gossip_cells, gossip_of, extended_of}
 use Rattle.gossip_table.specs.Fine.{HasRoom}
 use Rattle.gossip_gate.specs.Promise.{LeavesAll, GivesAll, gate_all}
 use Rattle.gossip_gate.specs.Admitted.{SlotAdmitted, TopicLent}
-use Rattle.gossip_gate.proofs.AdmittedLaws.{admitted_fine}
+use Rattle.gossip_gate.proofs.AdmittedLaws.{admitted_valid, admitted_fine}
 use Rattle.gossip_gate.proofs.ReplyLaws.{heeds_not, holds_it, no_room, puts_in}
 use Rattle.gossip_gate.proofs.GateLaws.{gate_admitted}
-use Rattle.gossip_gate.proofs.CallLaws.{quiet_peer, call_topic, call_room}
+use Rattle.gossip_gate.proofs.CallLaws.{call_topic, call_room}
 use Rattle.gossip_gate.proofs.EndLaws.{ends_ignored, ends_done, gives_refusal, gives_nothing, gives_actions}
 use Rattle.gossip_peers.specs.Peers.{is_known, is_reached, Tells}
 use Rattle.gossip_peers.proofs.PeerLaws.{sender_is, relayed_is}
 use Rattle.gossip_peers.proofs.SiftLaws.{flags_are, flags_same}
+use Rattle.notice_calls.specs.Told.{told_reply}
 
 -- the words of a set
 pub flags_length : (w : List ℕ) → length w ≡ word_count → length (bits_of w) ≡ slot_count
@@ -64,7 +66,7 @@ module _
     told = done_all (extended_of table gossip) time (gossip_of gossip) acts []
 
     abbrev reply : FullReply
-    reply = sent (extended_of table gossip) time t sender told
+    reply = told_reply (extended_of table gossip) time t sender acts
 
     pub sent_refused : not known ≡ true → GivesAll reply 3 table table gossip gossip list list
     sent_refused e =
@@ -210,8 +212,13 @@ topic_lent table gossip list a b d time n t en e ea eb l m =
       room = call_room table gossip list a (b && d) time n en e;
     }
 
+-- a topic of a router's table
+pub topic_standing : {table gossip list : List ℕ} {time t : ℕ} → TopicLent table gossip time t list → TopicStanding table t
+topic_standing a =
+    record { standing = record { size = a.admitted.size; router = admitted_valid a.admitted }; topic = a.topic }
+
 -- an IDONTWANT that came in gives no action
-put_silent : (x : Extended) (time n s : ℕ) → (idontwant_reply x time n s).actions ≡ []
+pub put_silent : (x : Extended) (time n s : ℕ) → (idontwant_reply x time n s).actions ≡ []
 unfolding idontwant_reply
 put_silent x time n s =
     go (is_heeded x.base s) (holds (note_in x.gossip s) n) (has_room x.gossip.setup (note_in x.gossip s))
@@ -223,7 +230,3 @@ put_silent x time n s =
     go true false true = refl
     go true false false = refl
     go false b d = refl
-
-pub quiet_put : (x : Extended) (time id n : ℕ) → (new_effect x (idontwant time id n)).actions ≡ []
-unfolding new_effect
-quiet_put x time id n = quiet_peer x id (idontwant_reply x time n) (put_silent x time n)

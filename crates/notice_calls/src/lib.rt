@@ -1,43 +1,53 @@
 // Version 1.2 notices (02, order 6): whom we tell IDONTWANT, an IDONTWANT that came in, and to whom a message is passed on.
 #![tactic(auto)]
 
-ghost use Rattle.std.specs.Prelude.{◌≡◌, not, ◌&&◌};
+ghost use Rattle.std.specs.Prelude.{◌≡◌, ◌≤◌, not, ◌&&◌, ℕ, Bool, List, length};
 ghost use Rattle.records.specs.Records.{slot_count};
 ghost use Rattle.sets.specs.Sets.{at, by_slot};
 ghost use Rattle.words.specs.Words.{bits_of};
 ghost use Rattle.gossip.specs.Notes.{note_in, holds as holds_of};
 ghost use Rattle.gossip.specs.Calls.{new, ask_all, idontwant as Calls·idontwant, relay as Calls·relay};
-ghost use Rattle.gossip.specs.Step.{of_peer_all, ask_reply, idontwant_reply, relay_reply};
+ghost use Rattle.gossip.specs.Step.{idontwant_reply, tell_by_slot};
+ghost use Rattle.layout.specs.View.{state_of};
+ghost use Rattle.peer_score.specs.Standing.{TopicStanding};
+ghost use Rattle.rules.specs.Step.{action_room};
+ghost use Rattle.gossip_peers.specs.Peers.{kind_number};
+ghost use Rattle.notice_calls.specs.Told.{told_reply};
 ghost use Rattle.gossip_table.specs.View.{gossip_of, extended_of};
 ghost use Rattle.gossip_table.specs.Fine.{Fine};
 ghost use Rattle.gossip_gate.specs.Promise.{LeavesAll, GivesAll, FollowsAll};
-ghost use Rattle.gossip_gate.specs.Admitted.{Admitted, SlotAdmitted, TopicLent};
+ghost use Rattle.gossip_gate.specs.Admitted.{SlotAdmitted};
 
 use effects::slots::is_joined;
 use gate::{id_ok, time_ok, topic_ok};
 use gossip_gate::{NOT_CONNECTED, admit, finish, ignore, sender_ok};
+use gossip_peers::callers::admit_peer;
 use gossip_peers::relays::{asked, relayed};
 use gossip_peers::senders::{is_heeded, sender_known};
-use gossip_peers::tell::{ASK, SEND, tell};
+use gossip_peers::sift::sift;
+use gossip_peers::tell::{Kind, tell};
 use gossip_table::GOSSIP_CELLS;
 use gossip_table::noted::{has_room, holds, put};
 use layout::CELLS;
-use lookup::find::find_connected;
-use records::{ACTION_ROOM, SLOTS};
+use records::ACTION_ROOM;
 use words::WORDS;
 
-// 3 for an unknown sender, 11 outside a joined topic, or the notices.
-fn ask_from(
+// 3 for an unknown sender, 11 outside a joined topic, or an action for each slot of the set.
+fn tell_set(
     table: &mut [u64],
-    gossip: &[u64],
     time: u64,
     topic: usize,
     sender: u64,
+    kind: Kind,
+    set: &[u64; WORDS],
     actions: &mut [u32],
 ) -> u64
-    requires { TopicLent table.old gossip.now time topic actions.old }
-    ensures { GivesAll (ask_reply (extended_of table.old gossip.now) time topic sender) result table.old
-        table.new gossip.now gossip.now actions.old actions.new }
+    requires standing { TopicStanding table.old topic }
+    requires room { action_room ≤ length actions.old }
+    ensures { (gossip : List ℕ) (f : ℕ → Bool) → bits_of set.now ≡ by_slot slot_count f →
+        GivesAll (told_reply (extended_of table.old gossip) time topic sender
+        (tell_by_slot (state_of table.old) (kind_number kind) f)) result
+        table.old table.new gossip gossip actions.old actions.new }
 {
     if !sender_known(table, sender) {
         return NOT_CONNECTED;
@@ -45,8 +55,7 @@ fn ask_from(
     if !is_joined(table, topic) {
         return ignore(table, time);
     }
-    let set = asked(table, topic, sender);
-    let n = tell(table, ASK, &set, actions);
+    let n = tell(table, kind, set, actions);
     finish(table, time, n, 0)
 }
 
@@ -68,7 +77,16 @@ pub fn send_idontwant(
     if gate != 0 {
         return gate;
     }
-    ask_from(table, gossip, time, topic as usize, sender, actions)
+    let set = asked(table, topic as usize, sender);
+    tell_set(
+        table,
+        time,
+        topic as usize,
+        sender,
+        Kind::Ask,
+        &set,
+        actions,
+    )
 }
 
 // The number goes into the peer's set, unless it is there already.
@@ -90,19 +108,6 @@ fn put_from(table: &mut [u64], gossip: &mut [u64], time: u64, number: u64, slot:
     finish(table, time, 0, 0)
 }
 
-// 3 for a peer that is not connected.
-fn idontwant_from(table: &mut [u64], gossip: &mut [u64], time: u64, id: u64, number: u64) -> u64
-    requires { Admitted table.old gossip.old time }
-    ensures { LeavesAll (of_peer_all (extended_of table.old gossip.old) id
-        (idontwant_reply (extended_of table.old gossip.old) time number)) result
-        table.old table.new gossip.old gossip.new }
-{
-    let Some(slot) = find_connected(table, id) else {
-        return NOT_CONNECTED;
-    };
-    put_from(table, gossip, time, number, slot)
-}
-
 // A peer does not want a message.
 pub fn idontwant(
     table: &mut [u64; CELLS],
@@ -116,11 +121,11 @@ pub fn idontwant(
         gossip.old gossip.new actions.old actions.new }
 {
     let fine = time_ok(time) & id_ok(id);
-    let gate = admit(table, gossip, fine, ACTION_ROOM <= actions.len(), time);
-    if gate != 0 {
-        return gate;
+    let fits = ACTION_ROOM <= actions.len();
+    match admit_peer(table, gossip, fine, fits, time, id) {
+        Ok(slot) => put_from(table, gossip, time, number, slot),
+        Err(refusal) => refusal,
     }
-    idontwant_from(table, gossip, time, id, number)
 }
 
 // Those of a set whose own set does not hold the number.
@@ -129,41 +134,7 @@ fn without_holders(gossip: &[u64], all: [u64; WORDS], number: u64) -> [u64; WORD
     ensures { bits_of result
         ≡ by_slot slot_count (λ s. at (bits_of all) s && not (holds_of (note_in (gossip_of gossip.now) s) number)) }
 {
-    let mut r = all;
-    let mut slot = words::next(&all, 0);
-    while slot < SLOTS as u64 {
-        let more = words::put(r, slot, !holds(gossip, slot as usize, number));
-        r = more;
-        slot = words::next(&all, slot + 1);
-    }
-    r
-}
-
-// The same tests, and the message to whom it is passed on.
-fn relay_from(
-    table: &mut [u64],
-    gossip: &[u64],
-    time: u64,
-    topic: usize,
-    sender: u64,
-    number: u64,
-    actions: &mut [u32],
-) -> u64
-    requires { TopicLent table.old gossip.now time topic actions.old }
-    ensures { GivesAll (relay_reply (extended_of table.old gossip.now) time topic sender number) result
-        table.old table.new gossip.now gossip.now
-        actions.old actions.new }
-{
-    if !sender_known(table, sender) {
-        return NOT_CONNECTED;
-    }
-    if !is_joined(table, topic) {
-        return ignore(table, time);
-    }
-    let all = relayed(table, topic, sender);
-    let set = without_holders(gossip, all, number);
-    let n = tell(table, SEND, &set, actions);
-    finish(table, time, n, 0)
+    sift(all, |slot| !holds(gossip, slot, number))
 }
 
 // To whom a message from a sender (0: ourselves) is passed on.
@@ -184,5 +155,15 @@ pub fn relay(
     if gate != 0 {
         return gate;
     }
-    relay_from(table, gossip, time, topic as usize, sender, number, actions)
+    let all = relayed(table, topic as usize, sender);
+    let set = without_holders(gossip, all, number);
+    tell_set(
+        table,
+        time,
+        topic as usize,
+        sender,
+        Kind::Send,
+        &set,
+        actions,
+    )
 }

@@ -10,7 +10,7 @@ use native.Mathlib.Nat.{pow-suc}
 use lib.Dec.{ltb, leb, eqb}
 use lib.ListN.{length, get_or}
 use lib.IntN.{ℤ}
-use Rattle.index.proofs.Flags.{by_test, by_order, cond_case}
+use Rattle.index.proofs.Flags.{by_test, by_order, cond_case, pair_of}
 use Rattle.varint.specs.Groups.{read_at, after_more, last_group}
 use Rattle.varint.specs.Codes.{number_of}
 use Rattle.varint.proofs.GroupLaws.{read_at_end, last_is, more_is, after_small}
@@ -28,7 +28,7 @@ use Rattle.params_bytes.proofs.WriteLaws.{room_is, front_short}
 use Rattle.params_bytes.proofs.RoundTrip.{form_most}
 
 -- nothing is both
-no : {P : Type 0} (u next : ℕ) → None ≡ Some (u, next) → P
+no : {P : Type 0} (u next : ℕ) → ◌≡◌ {A = Option (ℕ × ℕ)} None (Some (u, next)) → P
 no u next e = let z : ◌≡◌ {A = ℕ} 0 1 = cc in absurd (omega arith)
 
 -- the three ways in which a number begins
@@ -57,7 +57,7 @@ last_next top b at u next e =
     by_test
     (next ≡ at)
     (leb b top)
-    (λ t. let f : Number b at ≡ Some (u, next) = rw t at e in cc)
+    (λ t. let f : Some (b, at) ≡ Some (u, next) = rw t at e in sym (pair_of f).1)
     (λ t. let f : None ≡ Some (u, next) = rw t at e in no u next f)
 
 after_next :
@@ -76,7 +76,7 @@ after_next top b to (Some (v, n)) u next h e =
     (leb (v * 128 + (b - 128)) top)
     (λ w.
     let f : Some (v * 128 + (b - 128), n) ≡ Some (u, next) = rw (t, w) at e in
-    let g : n ≡ next = cc in
+    let g : n ≡ next = (pair_of f).1 in
     omega (arith, h v n refl))
     (λ w. let f : None ≡ Some (u, next) = rw (t, w) at e in no u next f))
 

@@ -1,15 +1,16 @@
 -- Laws of reading: what is known after i of N numbers, and the ends of `parse`, `read` and `read_front`.
 -- Assumes nothing.
-use Rattle.std.proofs.Common.{Option, Some, None, Ok, Err}
+use Rattle.std.proofs.Common.{Option, Some, None, Result, Ok, Err}
+use Rattle.params_bytes.specs.declared.ReadError.{ReadError}
 use Rattle.params_bytes.specs.declared.ReadError.TheVariants.{Broken, Malformed}
 use Prim.Native.Nat.{ℕ, zero, suc, ◌+◌, ◌-◌, ◌<◌, ◌≤◌}
 use mathlib.Core.Path.{◌≡◌, refl, sym, ap, ◌∙◌}
-use mathlib.Core.Bool.{Bool, true, false, not, ◌&&◌}
+use mathlib.Core.Bool.{Bool, true, false, ◌&&◌}
 use mathlib.Core.List.{List, [], ◌∷◌, ◌++◌, append_assoc, append-nil}
 use native.Mathlib.Omega.{arith}
 use native.Mathlib.Nat.{zero-add}
 use native.Mathlib.Numerals.{add-one}
-use borrow.Author.Tests.{lt-ltb, le-ltb, not-true, not-false}
+use borrow.Author.Tests.{lt-ltb, le-ltb}
 use lib.Dec.{eqb}
 use lib.ListN.{length, take, set, get_or, get_or-eq_default}
 use lib.Seq.{take-suc-set, take_all}
@@ -22,10 +23,8 @@ use Rattle.params.specs.declared.Params.{Params}
 use Rattle.params.specs.Editions.{sheet}
 use Rattle.params.specs.Check.{first_broken}
 use Rattle.records.specs.Records.{param_count}
-use Rattle.params_bytes.specs.Read.{Parse, numbers, malformed, then, step, parse_from, edition_at, front_bytes, parse_at, outcome}
-use Rattle.params_bytes.specs.Read.{refusal, judged_by, read_of, front_at}
-use Rattle.params_bytes.specs.declared.Reading.{Reading}
-use Rattle.params_bytes.specs.declared.Parsed.{Parsed}
+use Rattle.params_bytes.specs.Read.{Parse, numbers, malformed, then, step, parse_from, edition_at, front_bytes, parse_at, Parses}
+use Rattle.params_bytes.specs.Read.{Reading, told_with, told, refusal, judged_by, judged, read_of, front_at}
 
 then_then : (xs ys : List ℤ) (p : Parse) → then xs (then ys p) ≡ then (xs ++ ys) p
 then_then xs ys (numbers zs next) = ap (λ (l : List ℤ). numbers l next) (sym (append_assoc xs ys zs))
@@ -105,38 +104,53 @@ module _ (s : List ℕ) (at : ℕ) where
   unfolding edition_at
   edition_first t = rw t
 
--- ---- the ends of `judged`
-pub judged_broken : (p : Params) (next i : ℕ) (f : Option ℕ) (r : Reading) → f ≡ first_broken p → f ≡ Some i → r ≡ refusal (Err (Broken i)) → r
-    ≡ judged_by (first_broken p) p next
-judged_broken p next i f r e t q = q ∙ rw (← e, t)
+-- ---- a reading by what was answered
+pub as_taken : (q : Reading) (p : Params) (n : ℕ) → ◌≡◌ {A = Result (Params × ℕ) ReadError} (Ok (p, n)) (told q) → record { verdict = Ok n; params = p } ≡ q
+as_taken q p n e = go q.verdict e
+  where
+    go : (v : Result ℕ ReadError) → ◌≡◌ {A = Result (Params × ℕ) ReadError} (Ok (p, n)) (told_with q.params v) → ◌≡◌ {A = Reading} (record { verdict = Ok n; params = p }) (record { verdict = v; params = q.params })
+    go (Ok m) e =
+        let d : ◌≡◌ {A = Params × ℕ} (p, n) (q.params, m) = cc in
+        λ i. record { verdict = Ok (d i).1; params = (d i).0 }
+    go (Err f) e = let z : ◌≡◌ {A = ℕ} 0 1 = cc in absurd (omega arith)
 
-pub judged_kept : (p : Params) (next : ℕ) (f : Option ℕ) → f ≡ first_broken p → f ≡ None → record { verdict = Ok next; params = p }
-    ≡ judged_by (first_broken p) p next
+pub as_refused : (q : Reading) (f : ReadError) → Err f ≡ told q → q.verdict ≡ Err f
+as_refused q f e = go q.verdict e
+  where
+    go : (v : Result ℕ ReadError) → Err f ≡ told_with q.params v → v ≡ Err f
+    go (Ok m) e = let z : ◌≡◌ {A = ℕ} 0 1 = cc in absurd (omega arith)
+    go (Err g) e = let d : f ≡ g = cc in ap Err (sym d)
+
+-- ---- the ends of `judged`
+pub judged_broken : (p : Params) (next i : ℕ) (f : Option ℕ) → f ≡ first_broken p → f ≡ Some i → Err (Broken i)
+    ≡ told (judged_by (first_broken p) p next)
+judged_broken p next i f e t = rw (← e, t)
+
+pub judged_kept : (p : Params) (next : ℕ) (f : Option ℕ) → f ≡ first_broken p → f ≡ None →
+    ◌≡◌ {A = Result (Params × ℕ) ReadError} (Ok (p, next)) (told (judged_by (first_broken p) p next))
 judged_kept p next f e t = rw (← e, t)
 
 -- ---- the ends of `read_front`, from the edition and what was parsed
 module _
-    (s : List ℕ) (at : ℕ) (d : Edition) (told : d ≡ edition_at s at) (from : ℕ) (start : from ≡ at + length (front_bytes d)) (p : Parsed)
-    (e : outcome p ≡ parse_from param_count s from) where
+    (s : List ℕ) (at : ℕ) (d : Edition) (is : d ≡ edition_at s at) (from : ℕ) (start : from ≡ at + length (front_bytes d))
+    (xs : List ℤ) where
   all : parse_from param_count s from ≡ parse_at s at
   unfolding parse_at
-  all = ap (parse_from param_count s) (start ∙ ap (λ (c : Edition). at + length (front_bytes c)) told)
+  all = ap (parse_from param_count s) (start ∙ ap (λ (c : Edition). at + length (front_bytes c)) is)
 
-  bad : not p.ok ≡ true → malformed p.place ≡ parse_at s at
-  bad t = (rw (not-true p.ok t) at e) ∙ all
-
-  good : not p.ok ≡ false → numbers p.numbers p.place ≡ parse_at s at
-  good t = (rw (not-false p.ok t) at e) ∙ all
-
-  pub front_bad : (r : Reading) → not p.ok ≡ true → r ≡ refusal (Err (Malformed p.place)) → r ≡ front_at s at
+  pub front_bad : (e : ReadError) → Parses (Err e) xs (parse_from param_count s from) → Err e ≡ told (front_at s at)
   unfolding front_at
-  front_bad r t q = q ∙ rw (← bad t)
+  front_bad e p =
+      let q : malformed p.0 ≡ parse_at s at = p.1.1 ∙ all in
+      rw (← q, p.1.0)
 
   pub front_good :
-      (r : Reading) → not p.ok ≡ false → r ≡ judged_by (first_broken (sheet d p.numbers)) (sheet d p.numbers) p.place → r
-      ≡ front_at s at
+      (place : ℕ) → Parses (Ok place) xs (parse_from param_count s from) → (r : Result (Params × ℕ) ReadError) →
+      r ≡ told (judged_by (first_broken (sheet d xs)) (sheet d xs) place) → r ≡ told (front_at s at)
   unfolding front_at
-  front_good r t q = q ∙ rw (← good t, told)
+  front_good place p r q =
+      let n : numbers xs place ≡ parse_at s at = p ∙ all in
+      q ∙ rw (← n, is)
 
 -- parameters at the start of the bytes
 pub parse_start : (s : List ℕ) → parse_at s 0 ≡ parse_from param_count s (length (front_bytes (edition_at s 0)))
@@ -145,24 +159,28 @@ parse_start s = ap (parse_from param_count s) (zero-add (length (front_bytes (ed
 
 -- ---- the ends of `read`, from the start of the bytes
 module _
-    (s : List ℕ) (d : Edition) (told : d ≡ edition_at s 0) (from : ℕ) (start : from ≡ length (front_bytes d)) (p : Parsed)
-    (e : outcome p ≡ parse_from param_count s from) where
-  behind : from ≡ 0 + length (front_bytes d)
-  behind = start ∙ sym (zero-add (length (front_bytes d)))
+    (s : List ℕ) (d : Edition) (is : d ≡ edition_at s 0) (from : ℕ) (start : from ≡ length (front_bytes d)) (xs : List ℤ) where
+  whole : parse_from param_count s from ≡ parse_at s 0
+  whole = all s 0 d is from (start ∙ sym (zero-add (length (front_bytes d)))) xs
 
-  pub read_bad : (r : Reading) → not p.ok ≡ true → r ≡ refusal (Err (Malformed p.place)) → r ≡ read_of s
+  pub read_bad : (e : ReadError) → Parses (Err e) xs (parse_from param_count s from) → Err e ≡ told (read_of s)
   unfolding read_of
-  read_bad r t q = q ∙ rw (← bad s 0 d told from behind p e t)
+  read_bad e p =
+      let q : malformed p.0 ≡ parse_at s 0 = p.1.1 ∙ whole in
+      rw (← q, p.1.0)
 
-  pub read_left : (r : Reading) → not p.ok ≡ false → p.place < length s → r ≡ refusal (Err (Malformed p.place)) → r ≡ read_of s
-  unfolding read_of
-  read_left r t h q = q ∙ rw (← good s 0 d told from behind p e t, lt-ltb p.place (length s) h)
+  module _ (place : ℕ) (p : Parses (Ok place) xs (parse_from param_count s from)) where
+    parsed : numbers xs place ≡ parse_at s 0
+    parsed = p ∙ whole
 
-  pub read_good :
-      (r : Reading) →
-      not p.ok ≡ false →
-      length s ≤ p.place →
-      r ≡ judged_by (first_broken (sheet d p.numbers)) (sheet d p.numbers) p.place →
-      r ≡ read_of s
-  unfolding read_of
-  read_good r t h q = q ∙ rw (← good s 0 d told from behind p e t, le-ltb p.place (length s) h, told)
+    pub read_left : place < length s → Err (Malformed place) ≡ told (read_of s)
+    unfolding read_of
+    read_left h = rw (← parsed, lt-ltb place (length s) h)
+
+    pub read_good :
+        (r : Result (Params × ℕ) ReadError) →
+        length s ≤ place →
+        r ≡ told (judged_by (first_broken (sheet d xs)) (sheet d xs) place) →
+        r ≡ told (read_of s)
+    unfolding read_of
+    read_good r h q = q ∙ rw (← parsed, le-ltb place (length s) h, is)

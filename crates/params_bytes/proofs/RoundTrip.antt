@@ -1,7 +1,8 @@
 -- Reading what was written, and writing what was read (specs/RoundTrip.antt).
 -- Assumes nothing.
-use Rattle.std.proofs.Common.{Option, Some, None, Ok, Err}
+use Rattle.std.proofs.Common.{Option, Some, None, Result, Ok, Err}
 use Rattle.params_bytes.specs.declared.ReadError.TheVariants.{Malformed}
+use Rattle.params_bytes.specs.declared.WriteError.{WriteError}
 use Rattle.params_bytes.specs.declared.WriteError.TheVariants.{Short}
 use Prim.Native.Nat.{ℕ, zero, suc, ◌+◌, ◌*◌, ◌<◌, ◌≤◌, suc-le-suc}
 use mathlib.Core.Path.{◌≡◌, refl, sym, ap, ◌∙◌}
@@ -229,7 +230,7 @@ reads_back p buf n h e =
     let m : n ≡ length (form_of p) = count (sym e ∙ ap (λ (x : Writing). x.answer) w) in
     rw (w, m, take-append_seam (form_of p) (drop (length (form_of p)) buf)) (read_written p h d.1)
   where
-    count : {a b : ℕ} → Ok a ≡ Ok b → a ≡ b
+    count : {a b : ℕ} → ◌≡◌ {A = Result ℕ WriteError} (Ok a) (Ok b) → a ≡ b
     count q = cc
 
 -- what a reading that was accepted had before it

@@ -3,7 +3,7 @@
 use Rattle.std.specs.Prelude.{Option, Some, None, Result, Ok, Err}
 use Rattle.params_bytes.specs.declared.ReadError.{ReadError}
 use Rattle.params_bytes.specs.declared.ReadError.TheVariants.{Broken, Malformed}
-use Rattle.std.specs.Prelude.{ℕ, zero, suc, ◌+◌, cond, ◌&&◌, List, [], ◌∷◌, ◌++◌, eqb, ltb, length, get_or, replicate, ℤ, pos}
+use Rattle.std.specs.Prelude.{◌≡◌, ℕ, zero, suc, ◌+◌, cond, ◌&&◌, List, [], ◌∷◌, ◌++◌, eqb, ltb, length, get_or, replicate, ℤ, pos}
 use Rattle.varint.specs.Groups.{read_at}
 use Rattle.varint.specs.Codes.{number_of}
 use Rattle.params.specs.declared.Edition.{Edition}
@@ -12,8 +12,6 @@ use Rattle.params.specs.declared.Params.{Params}
 use Rattle.params.specs.Editions.{sheet}
 use Rattle.params.specs.Check.{first_broken}
 use Rattle.records.specs.Records.{param_count}
-use Rattle.params_bytes.specs.declared.Reading.{Reading}
-use Rattle.params_bytes.specs.declared.Parsed.{Parsed}
 
 -- the numbers and the place after them, or the place at which they cannot go on
 pub data Parse : Type 0 where
@@ -54,9 +52,10 @@ parse_at s at = parse_from param_count s (at + length (front_bytes (edition_at s
 abbrev pub parse_all : List ℕ → Parse
 parse_all s = parse_at s 0
 
--- the numbers of a reading that is not yet checked
-abbrev pub outcome : Parsed → Parse
-outcome p = cond p.ok (numbers p.numbers p.place) (malformed p.place)
+-- what a reader of numbers that are not yet checked answers, where they stand in xs
+abbrev pub Parses : Result ℕ ReadError → List ℤ → Parse → Type 0
+Parses (Ok next) xs p = numbers xs next ≡ p
+Parses (Err e) xs p = (place : ℕ) × ((e ≡ Malformed place) × (malformed place ≡ p))
 
 -- "bytes left over": "place of the first byte left over"
 abbrev pub ending : List ℕ → Parse → Parse
@@ -64,6 +63,19 @@ ending s (numbers xs next) = cond (ltb next (length s)) (malformed next) (number
 ending s (malformed p) = malformed p
 
 -- ---- what is answered
+-- the verdict, and the parameters
+pub record Reading : Type 0 where
+  pub verdict : Result ℕ ReadError
+  pub params : Params
+
+abbrev pub told_with : Params → Result ℕ ReadError → Result (Params × ℕ) ReadError
+told_with p (Ok n) = Ok (p, n)
+told_with p (Err e) = Err e
+
+-- as a function answers it: a refusal has no parameters
+abbrev pub told : Reading → Result (Params × ℕ) ReadError
+told r = told_with r.params r.verdict
+
 -- a refusal holds 147 zeros for the parameters
 abbrev pub refusal : Result ℕ ReadError → Reading
 refusal v = record { verdict = v; params = record { numbers = replicate param_count (pos 0); edition = First } }

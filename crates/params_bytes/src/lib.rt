@@ -8,7 +8,7 @@ ghost use Rattle.varint.specs.Codes.{code_of};
 ghost use Rattle.records.specs.Records.{param_count};
 ghost use Rattle.limits.specs.Limits.{at};
 ghost use Rattle.params.specs.Check.{first_broken};
-ghost use Rattle.params_bytes.specs.Read.{edition_at, front_bytes, parse_from, outcome, refusal, judged_by, read_of, front_at};
+ghost use Rattle.params_bytes.specs.Read.{edition_at, front_bytes, parse_from, Parses, judged_by, told, read_of, front_at};
 ghost use Rattle.params_bytes.specs.Write.{room_for, bytes_of, write_of};
 
 use limits::NUMBERS;
@@ -21,26 +21,11 @@ pub enum ReadError {
     Broken(usize),
 }
 
-// A verdict with the parameters, which are zeros where they were refused.
-#[derive(Clone, Copy)]
-pub struct Reading {
-    pub verdict: Result<usize, ReadError>,
-    pub params: Params,
-}
-
 // Why no parameters were written: the buffer is too short for any, or the first number or rule that is broken.
 #[derive(Clone, Copy)]
 pub enum WriteError {
     Short,
     Outside(usize),
-}
-
-// Numbers as they were read, before they are checked: all of them and the place after them, or the place of the first that is malformed.
-#[derive(Clone, Copy)]
-struct Parsed {
-    ok: bool,
-    place: usize,
-    numbers: [i64; NUMBERS],
 }
 
 // The edition of parameters that begin at a place.
@@ -77,87 +62,52 @@ fn room_for(edition: Edition) -> usize
     }
 }
 
-// Read 147 numbers from a place on.
-fn parse(s: &[u8], from: usize) -> Parsed
-    ensures { outcome result ≡ parse_from param_count s.now from }
+// Read 147 numbers from a place on, into a lent array, and answer the place after them.
+fn parse(s: &[u8], from: usize, numbers: &mut [i64; NUMBERS]) -> Result<usize, ReadError>
+    ensures { Parses result numbers.new (parse_from param_count s.now from) }
 {
-    let mut numbers = [0i64; NUMBERS];
     let mut at = from;
     for i in 0..NUMBERS {
         let Some((u, next)) = varint::read_u64(s, at) else {
-            return Parsed {
-                ok: false,
-                place: at,
-                numbers,
-            };
+            return Err(ReadError::Malformed(at));
         };
-        let v = varint::number_of(u);
-        numbers[i] = v;
+        numbers[i] = varint::number_of(u);
         at = next;
     }
-    Parsed {
-        ok: true,
-        place: at,
-        numbers,
-    }
-}
-
-// A refusal, with zeros for the parameters.
-pub fn refused(verdict: Result<usize, ReadError>) -> Reading
-    ensures { result ≡ refusal verdict }
-{
-    let numbers = [0i64; NUMBERS];
-    Reading {
-        verdict,
-        params: Params {
-            numbers,
-            edition: Edition::First,
-        },
-    }
+    Ok(at)
 }
 
 // What is answered where the parameters are read and `next` is the place after them.
-pub fn judged(params: Params, next: usize) -> Reading
-    ensures { result ≡ judged_by (first_broken params) params next }
+pub fn judged(params: Params, next: usize) -> Result<(Params, usize), ReadError>
+    ensures { result ≡ told (judged_by (first_broken params) params next) }
 {
     match params.first_broken() {
-        Some(i) => refused(Err(ReadError::Broken(i))),
-        None => Reading {
-            verdict: Ok(next),
-            params,
-        },
+        Some(i) => Err(ReadError::Broken(i)),
+        None => Ok((params, next)),
     }
 }
 
-// Read the parameters that begin at a place, where others may follow them.
-pub fn read_front(s: &[u8], at: usize) -> Reading
+// Read the parameters that begin at a place, where others may follow them: the parameters and the place after them.
+pub fn read_front(s: &[u8], at: usize) -> Result<(Params, usize), ReadError>
     requires { at ≤ length s.now }
-    ensures { result ≡ front_at s.now at }
+    ensures { result ≡ told (front_at s.now at) }
 {
     let edition = edition_at(s, at);
-    let p = parse(s, at + front_length(edition));
-    let place = p.place;
-    if !p.ok {
-        return refused(Err(ReadError::Malformed(place)));
-    }
-    let numbers = p.numbers;
+    let mut numbers = [0i64; NUMBERS];
+    let place = parse(s, at + front_length(edition), &mut numbers)?;
     judged(Params { numbers, edition }, place)
 }
 
-// Read the parameters, which the bytes are to hold and nothing else.
-pub fn read(s: &[u8]) -> Reading
-    ensures { result ≡ read_of s.now }
+// Read the parameters, which the bytes are to hold and nothing else: the parameters and the bytes' length.
+pub fn read(s: &[u8]) -> Result<(Params, usize), ReadError>
+    ensures { result ≡ told (read_of s.now) }
 {
     let edition = edition_at(s, 0);
-    let p = parse(s, front_length(edition));
-    let place = p.place;
-    if !p.ok {
-        return refused(Err(ReadError::Malformed(place)));
-    }
+    let mut numbers = [0i64; NUMBERS];
+    let place = parse(s, front_length(edition), &mut numbers)?;
     if place < s.len() {
-        return refused(Err(ReadError::Malformed(place)));
+        return Err(ReadError::Malformed(place));
     }
-    let numbers = p.numbers;
     judged(Params { numbers, edition }, place)
 }
 

@@ -31,7 +31,7 @@ use Rattle.score.specs.Score.{topic_params_in, shares_group, sharing, sharing_at
 use Rattle.score.proofs.InputLaws.{SlotIn, slot_in, general_in}
 use Rattle.score.proofs.ScoreLaws.{sharing_most, parts_done, scores}
 use Rattle.peer_score.proofs.IdleLaws.{none_idle, idle_share}
-use Rattle.peer_score.specs.Buckets.{bucket_count, bucket_of, with_one, with_held, Tells, below, pairs, Together, Gathered}
+use Rattle.peer_score.specs.Buckets.{bucket_count, bucket_of, with_one, with_held, TellsOf, below, pairs, Together, Gathered}
 
 pub bucket_in : (group : ℕ) → bucket_of group < bucket_count
 unfolding bucket_of
@@ -44,7 +44,7 @@ zeros zero i = refl
 zeros (suc n) zero = refl
 zeros (suc n) (suc i) = zeros n i
 
-pub tells_none : Tells (λ g. 0) 0 (replicate bucket_count 0) (replicate bucket_count 0) (replicate bucket_count 0)
+pub tells_none : TellsOf (λ g. 0) 0 (replicate bucket_count 0) (replicate bucket_count 0) (replicate bucket_count 0)
 tells_none =
     let l = length-replicate {A = ℕ} bucket_count 0 in
     record {
@@ -110,7 +110,7 @@ most_way n o m false l = omega (arith, l)
 
 -- ---- one more peer
 
-module _ (c : ℕ → ℕ) (m : ℕ) (heads same others : List ℕ) (k : Tells c m heads same others) (p : ℕ) where
+module _ (c : ℕ → ℕ) (m : ℕ) (heads same others : List ℕ) (k : TellsOf c m heads same others) (p : ℕ) where
   -- the group is the head of its bucket then
   abbrev is_head : Bool
   is_head = eqb (cond (eqb (get_or same (bucket_of p) 0) 0) p (get_or heads (bucket_of p) 0)) p
@@ -167,7 +167,7 @@ module _ (c : ℕ → ℕ) (m : ℕ) (heads same others : List ℕ) (k : Tells c
         let x = one_there (c g) p g (λ z. d (ap bucket_of z)) in
         rw (head_there (bucket_of g) d, same_there (bucket_of g) d, others_there (bucket_of g) d, x) old)
 
-    pub tells_more : Tells (with_one c p) (m + 1) heads' same' others'
+    pub tells_more : TellsOf (with_one c p) (m + 1) heads' same' others'
     tells_more =
         record {
           sizes = (
@@ -202,7 +202,7 @@ module _ (c : ℕ → ℕ) (m : ℕ) (heads same others : List ℕ) (k : Tells c
       h ≡ cond (eqb (get_or same b 0) 0) p (get_or heads b 0) →
       x ≡ one (eqb h p) →
       y ≡ one (not (eqb h p)) →
-      Tells (with_one c p) (m + 1) (set heads b h) (set same b (get_or same b 0 + x)) (set others b (get_or others b 0 + y))
+      TellsOf (with_one c p) (m + 1) (set heads b h) (set same b (get_or same b 0 + x)) (set others b (get_or others b 0 + y))
   noted b h x y eb eh ex ey = rw (ey, ex, eh, eb) (tells_more _ _ _ refl refl refl)
 
 -- ---- the slots, one after the other
@@ -211,8 +211,8 @@ tells_same :
     (c d : ℕ → ℕ) (n m : ℕ) (heads same others : List ℕ) →
     ((g : ℕ) → c g ≡ d g) →
     n ≤ m →
-    Tells c n heads same others →
-    Tells d m heads same others
+    TellsOf c n heads same others →
+    TellsOf d m heads same others
 tells_same c d n m heads same others e l k =
     record {
       sizes = k.sizes;
@@ -227,8 +227,8 @@ tells_same c d n m heads same others e l k =
 pub held_some :
     (c : ℕ → ℕ) (n held : ℕ) (heads same others : List ℕ) →
     1 ≤ held →
-    Tells (with_one c (held - 1)) (n + 1) heads same others →
-    Tells (with_held c held) (n + 1) heads same others
+    TellsOf (with_one c (held - 1)) (n + 1) heads same others →
+    TellsOf (with_held c held) (n + 1) heads same others
 held_some c n held heads same others h =
     tells_same _ _ (n + 1) (n + 1) heads same others (λ g. ap (λ (v : Bool). c g + one v) (same_test g)) (omega arith)
   where
@@ -241,8 +241,8 @@ held_some c n held heads same others h =
 pub held_none :
     (c : ℕ → ℕ) (n held : ℕ) (heads same others : List ℕ) →
     held < 1 →
-    Tells c n heads same others →
-    Tells (with_held c held) (n + 1) heads same others
+    TellsOf c n heads same others →
+    TellsOf (with_held c held) (n + 1) heads same others
 held_none c n held heads same others h =
     tells_same _ _ n (n + 1) heads same others (λ g.
     let z : eqb held (g + 1) ≡ false = ne_eqb held (g + 1) (λ e. omega (arith, e, h)) in
@@ -332,7 +332,7 @@ module _ (g : Groups) (ok : rising_ok g ≡ true) where
         omega (arith, p, q, r)
 
 module _ (st : State) (s : ℕ) (heads same others : List ℕ) where
-  pub below_none : Tells (λ g. 0) 0 heads same others → Tells (below st 0) 0 heads same others
+  pub below_none : TellsOf (λ g. 0) 0 heads same others → TellsOf (below st 0) 0 heads same others
   below_none = tells_same _ _ 0 0 heads same others (λ g. sym (count_none (shares_group st (g + 1)))) (omega arith)
 
   pub below_on :
@@ -341,9 +341,9 @@ module _ (st : State) (s : ℕ) (heads same others : List ℕ) where
       o ≡ (peer_in st s).groups →
       status ≡ 1 →
       rising_ok o ≡ true →
-      Tells (with_held (with_held (with_held (with_held (below st s) o.first) o.second) o.third) o.fourth) (pairs s + 1 + 1 + 1 + 1)
+      TellsOf (with_held (with_held (with_held (with_held (below st s) o.first) o.second) o.third) o.fourth) (pairs s + 1 + 1 + 1 + 1)
       heads same others →
-      Tells (below st (s + 1)) (pairs (s + 1)) heads same others
+      TellsOf (below st (s + 1)) (pairs (s + 1)) heads same others
   unfolding shares_group
   below_on status o es eo on ok =
       tells_same _ _ (pairs s + 1 + 1 + 1 + 1) (pairs (s + 1)) heads same others
@@ -364,8 +364,8 @@ module _ (st : State) (s : ℕ) (heads same others : List ℕ) where
       (status : ℕ) →
       status ≡ (peer_in st s).status →
       (status ≡ 1 → ⊥) →
-      Tells (below st s) (pairs s) heads same others →
-      Tells (below st (s + 1)) (pairs (s + 1)) heads same others
+      TellsOf (below st s) (pairs s) heads same others →
+      TellsOf (below st (s + 1)) (pairs (s + 1)) heads same others
   unfolding shares_group
   below_off status es off =
       tells_same _ _ (pairs s) (pairs (s + 1)) heads same others
@@ -378,8 +378,8 @@ module _ (st : State) (s : ℕ) (heads same others : List ℕ) where
   pub below_all :
       s ≤ slot_count →
       slot_count ≤ s →
-      Tells (below st s) (pairs s) heads same others →
-      Tells (λ g. sharing st (g + 1)) (pairs slot_count) heads same others
+      TellsOf (below st s) (pairs s) heads same others →
+      TellsOf (λ g. sharing st (g + 1)) (pairs slot_count) heads same others
   unfolding sharing
   below_all l u =
       tells_same _ _ (pairs s) (pairs slot_count) heads same others (λ g. count_done (shares_group st (g + 1)) slot_count s l u) (omega arith)
@@ -398,7 +398,7 @@ told_exact st threshold held n o e =
       most = omega (arith, e, sharing_most st held);
     }
 
-module _ (st : State) (heads same others : List ℕ) (k : Tells (λ g. sharing st (g + 1)) (pairs slot_count) heads same others)
+module _ (st : State) (heads same others : List ℕ) (k : TellsOf (λ g. sharing st (g + 1)) (pairs slot_count) heads same others)
     (threshold held b : ℕ) (o : held ≡ 0 → ⊥) (e : b ≡ bucket_of (held - 1)) where
   here : held - 1 + 1 ≡ held
   here = omega (arith, o)

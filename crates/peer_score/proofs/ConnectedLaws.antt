@@ -17,7 +17,7 @@ use Rattle.validity.proofs.ValidLaws.{valid_facts}
 use Rattle.words.specs.Words.{word_bits, bits_of, Next}
 use Rattle.words.proofs.BitLaws.{bits_at}
 use Rattle.words.proofs.WideLaws.{at_slot}
-use Rattle.peer_score.specs.Buckets.{Tells, below, pairs}
+use Rattle.peer_score.specs.Buckets.{TellsOf, below, pairs}
 use Rattle.peer_score.proofs.BucketLaws.{below_off, sum_nothing}
 use Rattle.peer_score.proofs.IdleLaws.{Idle, idle_share}
 use Rattle.score.specs.Sums.{no_balance, sum_of}
@@ -54,11 +54,11 @@ module _ (st : State) (heads same others : List ℕ) where
       (i j : ℕ) →
       i ≤ j →
       ((s : ℕ) → i ≤ s → s < j → (peer_in st s).status ≡ 1 → ⊥) →
-      Tells (below st i) (pairs i) heads same others →
-      Tells (below st j) (pairs j) heads same others
+      TellsOf (below st i) (pairs i) heads same others →
+      TellsOf (below st j) (pairs j) heads same others
   below_skip i zero l off t = let e : i ≡ 0 = omega arith in rw e at t
   below_skip i (suc j) l off t =
-      by_order (Tells (below st (suc j)) (pairs (suc j)) heads same others) j i
+      by_order (TellsOf (below st (suc j)) (pairs (suc j)) heads same others) j i
       (λ (k : j < i). let e : i ≡ suc j = omega arith in rw e at t)
       (λ (k : i ≤ j).
       let u = below_skip i j k (λ s a b. off s a (omega arith)) t in
@@ -71,8 +71,8 @@ module _ (st : State) (heads same others : List ℕ) where
       ((s : ℕ) → s < slot_count → bit_at r 0 s ≡ (peer_in st s).status % 2) →
       (i j : ℕ) →
       Next (bits_of r) i j →
-      Tells (below st i) (pairs i) heads same others →
-      Tells (below st j) (pairs j) heads same others
+      TellsOf (below st i) (pairs i) heads same others →
+      TellsOf (below st j) (pairs j) heads same others
   below_next ok r z bits i j n t =
       let m = n.most in
       below_skip i j n.later (λ s a b. connected_off st ok r z bits s (omega arith) (n.none s a b)) t

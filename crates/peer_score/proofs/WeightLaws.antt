@@ -20,6 +20,7 @@ use Rattle.score.specs.Sums.{share_of}
 use Rattle.score.specs.Score.{magnitude_in, topic_params_in, share_at}
 use Rattle.score.proofs.InputLaws.{SlotIn, params_in}
 use Rattle.peer_score.specs.Standing.{Standing}
+use Rattle.peer_score.specs.declared.weights.TopicWeights.{TopicWeights}
 use Rattle.peer_score.specs.Weights.{Weights, outside_of, Weighing, OutsideIn}
 
 -- ---- what is multiplied out
@@ -76,21 +77,21 @@ module _ (t : TopicParams) (r : TopicRecord) (m : eqb r.member 1 ≡ false) wher
   unfolding share_of
   outside_share = ap₂ (λ (g l : ℕ). record { gain = g; loss = l }) gain_is loss_is
 
-module _ (st : State) (s t : ℕ) (k : SlotIn st s) (l : t < topic_count) (w2 w3b w4 : List ℕ) (w : Weights st w2 w3b w4)
+module _ (st : State) (s t : ℕ) (k : SlotIn st s) (l : t < topic_count) (v : TopicWeights) (w : Weights st v)
     (r : TopicRecord) (e : r ≡ topic_in st (place s t)) where
-  is2 : get_or w2 t 0 ≡ (topic_params_in st t).weight * (topic_params_in st t).w2
+  is2 : get_or v.w2 t 0 ≡ (topic_params_in st t).weight * (topic_params_in st t).w2
   unfolding topic_params_in
   is2 = w.p2 t l
 
-  is3b : get_or w3b t 0 ≡ (topic_params_in st t).weight * (topic_params_in st t).w3b
+  is3b : get_or v.w3b t 0 ≡ (topic_params_in st t).weight * (topic_params_in st t).w3b
   unfolding topic_params_in
   is3b = w.p3b t l
 
-  is4 : get_or w4 t 0 ≡ (topic_params_in st t).weight * (topic_params_in st t).w4
+  is4 : get_or v.w4 t 0 ≡ (topic_params_in st t).weight * (topic_params_in st t).w4
   unfolding topic_params_in
   is4 = w.p4 t l
 
-  pub outside_ready : OutsideIn (get_or w2 t 0) (get_or w3b t 0) (get_or w4 t 0) r
+  pub outside_ready : OutsideIn (get_or v.w2 t 0) (get_or v.w3b t 0) (get_or v.w4 t 0) r
   outside_ready =
       let i = k.params t l in
       record {
@@ -103,7 +104,7 @@ module _ (st : State) (s t : ℕ) (k : SlotIn st s) (l : t < topic_count) (w2 w3
   pub outside_is :
       (b : Balance) →
       (r.member ≡ 1 → ⊥) →
-      b ≡ outside_of (get_or w2 t 0) (get_or w3b t 0) (get_or w4 t 0) r →
+      b ≡ outside_of (get_or v.w2 t 0) (get_or v.w3b t 0) (get_or v.w4 t 0) r →
       b ≡ share_at st s t
   unfolding share_at
   outside_is b n q =

@@ -10,6 +10,7 @@ use Rattle.score.specs.declared.Balance.{Balance}
 use Rattle.score.specs.Ranges.{CountersIn}
 use Rattle.score.specs.Parts.{part2_of, part3b_of, part4_of}
 use Rattle.score.specs.Score.{magnitude_in}
+use Rattle.peer_score.specs.declared.weights.TopicWeights.{TopicWeights}
 use Rattle.peer_score.specs.Standing.{Standing, SlotStanding, PlaceStanding}
 
 -- w has each topic's weight times its j-th parameter
@@ -18,10 +19,10 @@ Weighed st j w =
     (t : ℕ) → t < topic_count → get_or w t 0 ≡ magnitude_in st (topicPlace t weight_at) * magnitude_in st (topicPlace t j)
 
 -- the weights of P2, P3b and P4
-pub record Weights (st : State) (w2 w3b w4 : List ℕ) : Type 0 where
-  pub p2 : Weighed st w2_at w2
-  pub p3b : Weighed st w3b_at w3b
-  pub p4 : Weighed st w4_at w4
+pub record Weights (st : State) (w : TopicWeights) : Type 0 where
+  pub p2 : Weighed st w2_at w.w2
+  pub p3b : Weighed st w3b_at w.w3b
+  pub p4 : Weighed st w4_at w.w4
 
 -- the share of a record outside the mesh
 abbrev pub outside_of : (w2 w3b w4 : ℕ) → TopicRecord → Balance
@@ -40,10 +41,10 @@ pub record OutsideIn (w2 w3b w4 : ℕ) (r : TopicRecord) : Type 0 where
   pub counters : CountersIn r
 
 -- the weights, and a topic of a slot, or all of a slot's
-pub record PlaceWeighed (table w2 w3b w4 : List ℕ) (t s : ℕ) : Type 0 where
+pub record PlaceWeighed (table : List ℕ) (w : TopicWeights) (t s : ℕ) : Type 0 where
   pub place : PlaceStanding table t s
-  pub weights : Weights (state_of table) w2 w3b w4
+  pub weights : Weights (state_of table) w
 
-pub record SlotWeighed (table w2 w3b w4 : List ℕ) (s : ℕ) : Type 0 where
+pub record SlotWeighed (table : List ℕ) (w : TopicWeights) (s : ℕ) : Type 0 where
   pub at : SlotStanding table s
-  pub weights : Weights (state_of table) w2 w3b w4
+  pub weights : Weights (state_of table) w

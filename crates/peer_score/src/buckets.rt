@@ -1,5 +1,5 @@
 // How many connected peers hold a group, where the scores of many slots are taken: by buckets, so that not every two peers are compared.
-// What the three arrays tell is specs/Buckets.antt.
+// What they tell is specs/Buckets.antt.
 ghost use Rattle.std.specs.Prelude.{◌≡◌, cond, ℕ, ◌+◌, ◌≤◌, ◌<◌, eqb};
 ghost use Rattle.index.specs.Index.{one as Index·one};
 ghost use Rattle.layout.specs.View.{state_of};
@@ -9,14 +9,22 @@ ghost use Rattle.peer_score.specs.Buckets.{bucket_count, bucket_of, with_one, wi
 ghost use Rattle.peer_score.specs.Buckets.{Counting, Together, Gathered, Asking, AskingAll, Among, EmptyScore};
 ghost use Rattle.score.specs.Score.{Scores};
 
-use crate::weights::topics_at;
+use crate::weights::{TopicWeights, topics_at};
 use crate::{load_general, sharing_of};
-use records::{Groups, SLOTS, TOPICS};
+use records::{Groups, SLOTS};
 use score::{Balance, Sharers, sums};
-use words::next;
+use words::slots::Slots;
 
 // How many buckets there are: as many as slots, so that few groups share one.
 pub const BUCKETS: usize = SLOTS;
+
+// The groups in the buckets. Of each bucket: the group that came first, how many peers came for it, and how many for all others.
+#[derive(Clone, Copy)]
+pub struct Buckets {
+    pub heads: [u32; BUCKETS],
+    pub same: [u16; BUCKETS],
+    pub others: [u16; BUCKETS],
+}
 
 // The bucket of a group.
 fn bucket(group: u64) -> usize
@@ -47,76 +55,66 @@ fn head_of(same: u16, head: u32, group: u32) -> u32
 
 // Counts a peer of the group.
 fn note(
-    heads: &mut [u32; BUCKETS],
-    same: &mut [u16; BUCKETS],
-    others: &mut [u16; BUCKETS],
+    buckets: &mut Buckets,
     group: u64,
 )
-    requires { Noting same.old others.old group max_id }
-    ensures { (c : ℕ → ℕ) (n : ℕ) → Tells c n heads.old same.old others.old
-        → Tells (with_one c group) (n + 1) heads.new same.new others.new }
+    requires { Noting buckets.old group max_id }
+    ensures { (c : ℕ → ℕ) (n : ℕ) → Tells c n buckets.old
+        → Tells (with_one c group) (n + 1) buckets.new }
 {
     let b = bucket(group);
     let name = group as u32;
-    let n = same[b];
-    let m = others[b];
-    let head = head_of(n, heads[b], name);
+    let n = buckets.same[b];
+    let m = buckets.others[b];
+    let head = head_of(n, buckets.heads[b], name);
     let is_head = head == name;
-    heads[b] = head;
-    same[b] = n + one(is_head);
-    others[b] = m + one(!is_head);
+    buckets.heads[b] = head;
+    buckets.same[b] = n + one(is_head);
+    buckets.others[b] = m + one(!is_head);
 }
 
 // Counts a peer of a group that its record holds as the group + 1; 0 is none.
 fn note_held(
-    heads: &mut [u32; BUCKETS],
-    same: &mut [u16; BUCKETS],
-    others: &mut [u16; BUCKETS],
+    buckets: &mut Buckets,
     held: u64,
 )
-    requires { Noting same.old others.old held max_group }
-    ensures { (c : ℕ → ℕ) (n : ℕ) → Tells c n heads.old same.old others.old
-        → Tells (with_held c held) (n + 1) heads.new same.new others.new }
+    requires { Noting buckets.old held max_group }
+    ensures { (c : ℕ → ℕ) (n : ℕ) → Tells c n buckets.old
+        → Tells (with_held c held) (n + 1) buckets.new }
 {
     if 1 <= held {
-        note(heads, same, others, held - 1);
+        note(buckets, held - 1);
     }
 }
 
 // Counts the connected peer in a slot, once for each of its groups.
 fn note_slot(
     table: &[u64],
-    heads: &mut [u32; BUCKETS],
-    same: &mut [u16; BUCKETS],
-    others: &mut [u16; BUCKETS],
+    buckets: &mut Buckets,
     slot: usize,
 )
-    requires { Counting table.now slot heads.old same.old others.old }
+    requires { Counting table.now slot buckets.old }
     ensures { Tells (below (state_of table.now) (slot + 1)) (pairs (slot + 1))
-        heads.new same.new others.new }
+        buckets.new }
 {
     let g = layout::load_groups(table, slot);
-    note_held(heads, same, others, g.first);
-    note_held(heads, same, others, g.second);
-    note_held(heads, same, others, g.third);
-    note_held(heads, same, others, g.fourth);
+    note_held(buckets, g.first);
+    note_held(buckets, g.second);
+    note_held(buckets, g.third);
+    note_held(buckets, g.fourth);
 }
 
 // Counts the connected peers by group.
 pub fn count_groups(
     table: &[u64],
-    heads: &mut [u32; BUCKETS],
-    same: &mut [u16; BUCKETS],
-    others: &mut [u16; BUCKETS],
+    buckets: &mut Buckets,
 )
-    requires { Standing table.now × Unused heads.old same.old others.old }
-    ensures { Counted table.now heads.new same.new others.new }
+    requires { Standing table.now × Unused buckets.old }
+    ensures { Counted table.now buckets.new }
 {
-    let left = layout::load_connected(table);
-    let mut slot = next(&left, 0);
-    while slot < SLOTS as u64 {
-        note_slot(table, heads, same, others, slot as usize);
-        slot = next(&left, slot + 1);
+    let connected = layout::load_connected(table);
+    for slot in Slots::of(connected) {
+        note_slot(table, buckets, slot);
     }
 }
 
@@ -124,23 +122,21 @@ pub fn count_groups(
 // that is not above it has no surplus either.
 fn together(
     table: &[u64],
-    heads: &[u32; BUCKETS],
-    same: &[u16; BUCKETS],
-    others: &[u16; BUCKETS],
+    buckets: &Buckets,
     threshold: u64,
     held: u64,
 ) -> u64
-    requires { Asking table.now heads.now same.now others.now held }
+    requires { Asking table.now buckets.now held }
     ensures { Together (state_of table.now) threshold held result }
 {
     if held == 0 {
         return 0;
     }
     let b = bucket(held - 1);
-    if heads[b] == (held - 1) as u32 {
-        return wide(same[b]);
+    if buckets.heads[b] == (held - 1) as u32 {
+        return wide(buckets.same[b]);
     }
-    let n = wide(others[b]);
+    let n = wide(buckets.others[b]);
     if n <= threshold {
         return 0;
     }
@@ -150,41 +146,35 @@ fn together(
 // The same of each of a record's groups.
 fn gather(
     table: &[u64],
-    heads: &[u32; BUCKETS],
-    same: &[u16; BUCKETS],
-    others: &[u16; BUCKETS],
+    buckets: &Buckets,
     threshold: u64,
     g: Groups,
 ) -> Sharers
-    requires { AskingAll table.now heads.now same.now others.now g }
+    requires { AskingAll table.now buckets.now g }
     ensures { Gathered (state_of table.now) threshold g result }
 {
     Sharers {
-        first: together(table, heads, same, others, threshold, g.first),
-        second: together(table, heads, same, others, threshold, g.second),
-        third: together(table, heads, same, others, threshold, g.third),
-        fourth: together(table, heads, same, others, threshold, g.fourth),
+        first: together(table, buckets, threshold, g.first),
+        second: together(table, buckets, threshold, g.second),
+        third: together(table, buckets, threshold, g.third),
+        fourth: together(table, buckets, threshold, g.fourth),
     }
 }
 
 // The score of the peer in a slot.
 pub fn score_among(
     table: &[u64],
-    heads: &[u32; BUCKETS],
-    same: &[u16; BUCKETS],
-    others: &[u16; BUCKETS],
-    w2: &[u64; TOPICS],
-    w3b: &[u64; TOPICS],
-    w4: &[u64; TOPICS],
+    buckets: &Buckets,
+    weights: &TopicWeights,
     slot: usize,
 ) -> Balance
-    requires { Among table.now heads.now same.now others.now w2.now w3b.now w4.now slot }
+    requires { Among table.now buckets.now weights.now slot }
     ensures { Scores (state_of table.now) slot result }
 {
     let p = layout::load_peer(table, slot);
     let g = load_general(table);
-    let n = gather(table, heads, same, others, g.threshold, p.groups);
-    sums::total(sums::parts(g, topics_at(table, w2, w3b, w4, slot), p.p5, n, p.p7))
+    let n = gather(table, buckets, g.threshold, p.groups);
+    sums::total(sums::parts(g, topics_at(table, weights, slot), p.p5, n, p.p7))
 }
 
 // The score of an empty slot: it is the same in all of them, and most slots are empty in a small network.

@@ -18,7 +18,7 @@ ghost use Rattle.score.specs.Score.{parts_at, why_in, Scores};
 ghost use Rattle.peer_score.specs.Standing.{PeerStanding, AtTopicParam};
 ghost use Rattle.peer_score.specs.Idle.{is_idle};
 
-use crate::weights::{topics_at, weights};
+use crate::weights::{topic_weights, topics_at};
 use effects::slots::load_magnitude;
 use records::{Groups, Peer, TopicRecord, param};
 use score::{Balance, Parts, ScoreParams, Sharers, TopicParams, Why, sums};
@@ -137,11 +137,9 @@ pub fn score_parts(table: &[u64], slot: usize, p: Peer) -> Parts
     requires { PeerStanding table.now slot p }
     ensures { (result ≡ parts_at (state_of table.now) slot) × PartsIn result }
 {
-    let w2 = weights(table, param::W2);
-    let w3b = weights(table, param::W3B);
-    let w4 = weights(table, param::W4);
+    let weights = topic_weights(table);
     let sharers = sharers_of(table, p.groups);
-    let topics = topics_at(table, &w2, &w3b, &w4, slot);
+    let topics = topics_at(table, &weights, slot);
     sums::parts(load_general(table), topics, p.p5, sharers, p.p7)
 }
 

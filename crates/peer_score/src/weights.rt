@@ -6,11 +6,20 @@ ghost use Rattle.records.specs.Records.{topic_count};
 ghost use Rattle.score.specs.Ranges.{ShareIn, TopicsIn};
 ghost use Rattle.score.specs.Sums.{sum_of};
 ghost use Rattle.score.specs.Score.{share_at};
-ghost use Rattle.peer_score.specs.Weights.{Weighed, Weighing, outside_of, OutsideIn, PlaceWeighed, SlotWeighed};
+ghost use Rattle.peer_score.specs.Standing.{Standing};
+ghost use Rattle.peer_score.specs.Weights.{Weighed, Weights, Weighing, outside_of, OutsideIn, PlaceWeighed, SlotWeighed};
 
 use crate::{load_param, load_params};
 use records::{TOPICS, TopicRecord, param};
 use score::{Balance, sums, topic};
+
+// Each topic's weight times its weights of P2, P3b and P4.
+#[derive(Clone, Copy)]
+pub struct TopicWeights {
+    pub w2: [u64; TOPICS],
+    pub w3b: [u64; TOPICS],
+    pub w4: [u64; TOPICS],
+}
 
 // A topic's weight times a weight of its own.
 fn times(weight: u64, w: u64) -> u64
@@ -30,6 +39,18 @@ pub fn weights(table: &[u64], j: usize) -> [u64; TOPICS]
         r[t] = times(load_param(table, t, param::WEIGHT), load_param(table, t, j));
     }
     r
+}
+
+// All that a sum over the topics takes.
+pub fn topic_weights(table: &[u64]) -> TopicWeights
+    requires { Standing table.now }
+    ensures { Weights (state_of table.now) result }
+{
+    TopicWeights {
+        w2: weights(table, param::W2),
+        w3b: weights(table, param::W3B),
+        w4: weights(table, param::W4),
+    }
 }
 
 fn product(w: u64, p: u64) -> u64
@@ -55,31 +76,27 @@ fn outside(w2: u64, w3b: u64, w4: u64, r: TopicRecord) -> Balance
 // One topic's share of the score of the peer in a slot.
 fn share_at(
     table: &[u64],
-    w2: &[u64; TOPICS],
-    w3b: &[u64; TOPICS],
-    w4: &[u64; TOPICS],
+    weights: &TopicWeights,
     t: usize,
     slot: usize,
 ) -> Balance
-    requires { PlaceWeighed table.now w2.now w3b.now w4.now t slot }
+    requires { PlaceWeighed table.now weights.now t slot }
     ensures { (result ≡ share_at (state_of table.now) slot t) × ShareIn result }
 {
     let r = layout::load_topic(table, slot * 8 + t);
     if r.member == 1 {
         return topic::share(load_params(table, t), r);
     }
-    outside(w2[t], w3b[t], w4[t], r)
+    outside(weights.w2[t], weights.w3b[t], weights.w4[t], r)
 }
 
 // The shares of all topics, added.
 pub fn topics_at(
     table: &[u64],
-    w2: &[u64; TOPICS],
-    w3b: &[u64; TOPICS],
-    w4: &[u64; TOPICS],
+    weights: &TopicWeights,
     slot: usize,
 ) -> Balance
-    requires { SlotWeighed table.now w2.now w3b.now w4.now slot }
+    requires { SlotWeighed table.now weights.now slot }
     ensures { (result ≡ sum_of topic_count (share_at (state_of table.now) slot)) × TopicsIn result }
 {
     let mut sum = Balance { gain: 0, loss: 0 };
@@ -87,7 +104,7 @@ pub fn topics_at(
         return sum;
     }
     for t in 0..TOPICS {
-        sum = sums::add(sum, share_at(table, w2, w3b, w4, t, slot));
+        sum = sums::add(sum, share_at(table, weights, t, slot));
     }
     sum
 }

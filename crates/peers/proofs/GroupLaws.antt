@@ -1,7 +1,6 @@
 -- The groups of a connect, as the code tests them and makes them a record's.
 -- Assumes nothing.
 use Rattle.std.proofs.Common.{Result, Ok}
-use Rattle.std.proofs.Common.{Unit, tt}
 use Rattle.rules.specs.declared.Answer.{Answer}
 use Prim.Native.Nat.{ℕ, ◌+◌, ◌-◌, ◌<◌, ◌≤◌}
 use native.Mathlib.Omega.{arith}

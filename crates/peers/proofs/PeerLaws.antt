@@ -1,7 +1,6 @@
 -- What the four calls come to at each of their ends.
 -- Assumes nothing.
 use Rattle.std.proofs.Common.{Option, Some, None, Result, Ok}
-use Rattle.std.proofs.Common.{Unit, tt}
 use Rattle.rules.proofs.ConnectLaws.{by_connect}
 use Prim.Native.Nat.{ℕ, ◌<◌, ◌≤◌}
 use mathlib.Core.Path.{◌≡◌, refl, sym, ap, ap₂, ◌∙◌}
@@ -27,7 +26,9 @@ use Rattle.lookup.proofs.NameLaws.{version_small}
 use Rattle.effects.specs.Effects.{on_peer, with_p5, retain_seconds, retained_to, end_after, left_topic, departed, reclaimed, NoneReclaimable}
 use Rattle.effects.proofs.EffectLaws.{full_none}
 use Rattle.effects.specs.Lent.{ConnectFits}
+use Rattle.gate.specs.PeerGate.{peer_gate}
 use Rattle.gate.proofs.CallLaws.{gate_fine}
+use Rattle.gate.proofs.PeerGateLaws.{peer_fine}
 use Rattle.rules.specs.declared.Answer.{Answer}
 use Rattle.rules.specs.declared.Answer.TheVariants.{Done, NoSlot, UnknownProtocol, AlreadyConnected}
 use Rattle.rules.specs.Reply.{Reply, done}
@@ -208,13 +209,14 @@ tested_flags table a b d room time g flags eg e =
     leb-true flags 3 (both d (leb flags 3) t.1).1
 
 pub tested_p5 :
-    (table : List ℕ) (a b d : Bool) (room time : ℕ) (g : Result (Unit {0}) Answer) (x : ℕ) →
-    g ≡ gate_of (state_of table) (a && (b && d)) room time →
-    g ≡ Ok tt →
+    (table : List ℕ) (a b d : Bool) (room time id : ℕ) (g : Result ℕ Answer) (x : ℕ) →
+    g ≡ peer_gate (state_of table) (a && (b && d)) room time id →
+    (s : ℕ) →
+    g ≡ Ok s →
     d ≡ leb x 1000000000 →
     x ≤ 1000000000
-tested_p5 table a b d room time g x eg e q =
-    leb-true x 1000000000 (sym q ∙ (both b d (gate_fine table a (b && d) room time g eg e)).1)
+tested_p5 table a b d room time id g x eg s e q =
+    leb-true x 1000000000 (sym q ∙ (both b d (peer_fine table a (b && d) room time id g eg s e)).1)
 
 code_most : (x : ℤ) → nat_abs x ≤ 1000000000 → code_of x < 4294967296
 code_most (pos n) h = omega arith

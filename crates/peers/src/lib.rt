@@ -8,7 +8,7 @@ ghost use Rattle.layout.specs.View.{state_of};
 ghost use Rattle.rules.specs.Calls.{connect as Calls·connect, disconnect as Calls·disconnect};
 ghost use Rattle.rules.specs.Calls.{group_ok, groups_ok, group_at, groups_of};
 ghost use Rattle.rules.specs.Calls.{rate as Calls·rate, score as Calls·score};
-ghost use Rattle.rules.specs.Step.{effect, connect_in, connect_at, connect_reply};
+ghost use Rattle.rules.specs.Step.{connect_in, connect_at, connect_reply};
 ghost use Rattle.effects.specs.Effects.{reclaimed};
 ghost use Rattle.effects.specs.Lent.{AtSlot, ConnectFits};
 ghost use Rattle.rules.specs.Promise.{Leaves, Follows};
@@ -17,7 +17,7 @@ ghost use Rattle.gate.specs.Ready.{Ready};
 use effects::connections::{connect_slot, reclaim, retain_slot};
 use effects::slots::{load_magnitude, rate_slot};
 use effects::values::end_after;
-use gate::{admit, finish, id_ok, time_ok};
+use gate::{admit, admit_peer, finish, id_ok, time_ok};
 use layout::CELLS;
 use lookup::find::find_connected;
 use records::{Groups, param};
@@ -161,25 +161,9 @@ pub fn connect(
 {
     let fine = time_ok(time) & (id_ok(id) & (groups_ok(groups) & (flags <= 3)));
     match admit(table, fine, actions.len(), time) {
-        Err(a) => a,
+        Err(refusal) => refusal,
         Ok(()) => connect_from(table, time, id, groups, flags, name),
     }
-}
-
-fn disconnect_from(table: &mut [u64], time: u64, id: u64) -> Answer
-    requires { Ready table.old time }
-    ensures { Leaves (effect (state_of table.old) (Calls·disconnect time id)) result
-        table.old table.new }
-{
-    let Some(slot) = find_connected(table, id) else {
-        return Answer::NotConnected;
-    };
-    retain_slot(
-        table,
-        slot,
-        end_after(time, load_magnitude(table, param::RETAIN)),
-    );
-    finish(table, time)
 }
 
 // A connection is gone.
@@ -188,9 +172,13 @@ pub fn disconnect(table: &mut [u64; CELLS], time: u64, id: u64, actions: &mut [u
         table.old table.new actions.old actions.new }
 {
     let fine = time_ok(time) & id_ok(id);
-    match admit(table, fine, actions.len(), time) {
-        Err(a) => a,
-        Ok(()) => disconnect_from(table, time, id),
+    match admit_peer(table, fine, actions.len(), time, id) {
+        Err(refusal) => refusal,
+        Ok(slot) => {
+            let end = end_after(time, load_magnitude(table, param::RETAIN));
+            retain_slot(table, slot, end);
+            finish(table, time)
+        }
     }
 }
 
@@ -201,40 +189,19 @@ fn p5_ok(p5: i64) -> bool
     varint::nat_abs(p5) <= 1000000000
 }
 
-fn rate_from(table: &mut [u64], time: u64, id: u64, p5: i64) -> Answer
-    requires { Ready table.old time × (nat_abs p5 ≤ 1000000000) }
-    ensures { Leaves (effect (state_of table.old) (Calls·rate time id p5)) result
-        table.old table.new }
-{
-    let Some(slot) = find_connected(table, id) else {
-        return Answer::NotConnected;
-    };
-    rate_slot(table, slot, varint::code_of(p5));
-    finish(table, time)
-}
-
 // The host sets a peer's P5.
 pub fn rate(table: &mut [u64; CELLS], time: u64, id: u64, p5: i64, actions: &mut [u32]) -> Answer
     ensures { Follows (Calls·rate time id p5) result
         table.old table.new actions.old actions.new }
 {
     let fine = time_ok(time) & (id_ok(id) & p5_ok(p5));
-    match admit(table, fine, actions.len(), time) {
-        Err(a) => a,
-        Ok(()) => rate_from(table, time, id, p5),
+    match admit_peer(table, fine, actions.len(), time, id) {
+        Err(refusal) => refusal,
+        Ok(slot) => {
+            rate_slot(table, slot, varint::code_of(p5));
+            finish(table, time)
+        }
     }
-}
-
-fn score_from(table: &mut [u64], time: u64, id: u64) -> Answer
-    requires { Ready table.old time }
-    ensures { Leaves (effect (state_of table.old) (Calls·score time id)) result table.old table.new }
-{
-    let Some(slot) = find_connected(table, id) else {
-        return Answer::NotConnected;
-    };
-    let w = peer_score::why_of(table, slot, layout::load_peer(table, slot));
-    layout::store_clock(table, time);
-    Answer::Scored(w)
 }
 
 // A peer's score and its parts, in 10^-9 points.
@@ -243,8 +210,13 @@ pub fn score(table: &mut [u64; CELLS], time: u64, id: u64, actions: &mut [u32]) 
         table.old table.new actions.old actions.new }
 {
     let fine = time_ok(time) & id_ok(id);
-    match admit(table, fine, actions.len(), time) {
-        Err(a) => a,
-        Ok(()) => score_from(table, time, id),
+    match admit_peer(table, fine, actions.len(), time, id) {
+        Err(refusal) => refusal,
+        Ok(slot) => {
+            let peer = layout::load_peer(table, slot);
+            let why = peer_score::why_of(table, slot, peer);
+            layout::store_clock(table, time);
+            Answer::Scored(why)
+        }
     }
 }

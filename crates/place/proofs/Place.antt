@@ -2,7 +2,6 @@
 -- score, so what holds of the five steps holds of the mesh that a heartbeat writes back.
 -- Assumes nothing.
 use Rattle.std.proofs.Common.{Result, Ok, Err}
-use Rattle.std.proofs.Common.{Unit, tt}
 use Prim.Native.Nat.{ℕ, ◌<◌}
 use native.Mathlib.Omega.{arith}
 use mathlib.Core.Path.{◌≡◌, refl, sym, ap, ◌∙◌, subst}

@@ -1,16 +1,19 @@
 -- The steps of the calls: what each turn of a loop keeps, and how the rows that are left are those that the definitions say.
 -- Assumes nothing.
-use Prim.Native.Nat.{ℕ, suc, ◌+◌, ◌-◌, ◌≤◌, ◌<◌}
+use Prim.Native.Nat.{ℕ, zero, suc, ◌+◌, ◌*◌, ◌-◌, ◌/◌, ◌≤◌, ◌<◌}
 use mathlib.Core.Path.{◌≡◌, refl, sym, ap, ◌∙◌}
 use mathlib.Core.Logic.{◌≢◌}
 use mathlib.Core.Bool.{Bool, true, false, not}
 use mathlib.Core.List.{List, [], ◌∷◌, ◌++◌, map, append-nil}
-use native.Mathlib.Nat.{not-suc-le-zero, le_antisymm}
+use native.Mathlib.Nat.{not-suc-le-zero, le_antisymm, add-zero, zero-mul, suc-mul, le_of_suc-le-suc}
 use native.Mathlib.Numerals.{add-one}
 use native.Mathlib.Omega.{arith}
-use lib.Dec.{eqb, leb}
-use lib.ListN.{length, get_or, set, replicate, get_or-replicate, length-map}
-use borrow.Author.Tests.{lt-ltb, le-ltb, eqb-true, eqb-false, leb-true}
+use lib.Dec.{eqb, leb, ltb}
+use lib.ListN.{length, get_or, set, take, drop, replicate, get_or-replicate, length-map, length-drop}
+use lib.Seq.{get_or-take, get_or-drop, drop-drop, length-take-le}
+use Rattle.std.specs.Simd.{first_chunks}
+use Rattle.std.specs.List.Sorted.{IsPartitionedBy, IsPartitionPoint}
+use borrow.Author.Tests.{lt-ltb, le-ltb, ltb-true, ltb-false, eqb-true, eqb-false, leb-true}
 use borrow.Author.Count.{below_more}
 use Rattle.index.specs.Index.{gather}
 use Rattle.index.proofs.Index.{gather_none, gather_more}
@@ -20,12 +23,13 @@ use Rattle.layout.specs.Rows.{tab}
 use Rattle.layout.proofs.RowLaws.{tab_same}
 use Rattle.layout.proofs.BitLaws.{by_same}
 use Rattle.gossip.specs.Notes.{Row, rows_most, count_in, first_reply, one_more, replied, ended_row, ended, also, keep}
+use Rattle.gossip.specs.Cells.{Run}
 use Rattle.gossip.specs.Valid.{rises, row_number}
-use Rattle.replies.specs.View.{replies_cells, rows_in, start_of, row_at, replies_of, Run, RowSet, Opened, blank, inserted}
-use Rattle.replies.specs.Asked.{FlagsSay, Passed, Placed, is_row}
+use Rattle.replies.specs.View.{replies_cells, rows_in, start_of, row_at, replies_of, RowSet, Opened, blank, inserted}
+use Rattle.replies.specs.Asked.{FlagsSay, Passed, Placed, Searched, is_row}
 use Rattle.replies.proofs.ListLaws.{number_at, replied_here, replied_new, count_here, count_none, set_inserted, get_or_inserted}
 use Rattle.replies.proofs.ListLaws.{length_inserted, tab_inserted, ended_tab, kept_of, keep_tab, gather_below, tab_end, rises_at}
-use Rattle.replies.proofs.RowLaws.{rows_length, row_load, number_load, number_is, run_more, row_set_rows, used_same}
+use Rattle.replies.proofs.RowLaws.{rows_length, row_load, number_load, number_is, row_cong, row_set_rows, used_same}
 use Rattle.replies.proofs.RowLaws.{used_is}
 
 -- ---- no row
@@ -34,47 +38,30 @@ pub no_rows : (c : List ℕ) → length c ≡ replies_cells → replies_of (set 
 unfolding replies_of
 no_rows c e = ap (λ (u : ℕ). tab u (row_at (set c 0 0))) (used_is c 0 e)
 
--- ---- a row copied, cell by cell
-
-pub copy_more :
-    (c d : List ℕ) (from to k : ℕ) →
-    length c ≡ replies_cells →
-    to < 2560 →
-    from ≢ to →
-    k < 28 →
-    Run c d (start_of to) k (λ i. get_or c (start_of from + i) 0) →
-    Run c (set d (start_of to + k) (get_or d (start_of from + k) 0)) (start_of to) (k + 1) (λ i. get_or c (start_of from + i) 0)
-copy_more c d from to k e h n b r =
-    run_more c (start_of to) (λ i. get_or c (start_of from + i) 0) d k (get_or d (start_of from + k) 0) (omega arith)
-    (by_order (get_or d (start_of from + k) 0 ≡ get_or c (start_of from + k) 0) from to
-    (λ l. r.before (start_of from + k) (omega arith))
-    (λ l. let m : to < from = omega arith in r.after (start_of from + k) (omega arith)))
-    r
-
 -- ---- a place opened
 
-pub open_none : (c : List ℕ) (u : ℕ) → Opened c c u u
-open_none c u = record { size = refl; rows = refl; low = λ k h. refl; high = λ k h l. absurd (omega arith) }
-
-pub open_more :
-    (c d e : List ℕ) (k u : ℕ) → 0 < k → Opened c d k u → RowSet d e k (row_at d (k - 1)) → Opened c e (k - 1) u
-open_more c d e k u h o r =
+pub opened_run :
+    (c d : List ℕ) (p u : ℕ) → p ≤ u → Run c d (start_of p + 28) ((u - p) * 28) (λ k. get_or c (start_of p + k) 0) → Opened c d p u
+unfolding row_at
+opened_run c d p u h r =
     record {
-      size = r.size ∙ o.size;
-      rows = r.rows ∙ o.rows;
-      low = λ j l. r.others j (λ q. omega arith) ∙ o.low j (omega arith);
-      high =
-          λ j l m.
-          by_order (row_at e (j + 1) ≡ row_at c j) j k
-          (λ b.
-          let q : j + 1 ≡ k = omega arith in
-          let p : k - 1 ≡ j = omega arith in
-          ap (row_at e) q ∙ r.here ∙ ap (row_at d) p ∙ o.low j b)
-          (λ b. r.others (j + 1) (λ q. omega arith) ∙ o.high j b m);
+      size = r.size;
+      rows = r.before 0 (omega arith);
+      low = λ k l.
+          row_cong c d (start_of k) (start_of k) (r.before (start_of k) (omega arith))
+          (λ j b. r.before (start_of k + (2 + j)) (omega arith));
+      high = λ k l m.
+          let moved : (j : ℕ) → j < 28 → get_or d (start_of (k + 1) + j) 0 ≡ get_or c (start_of k + j) 0 =
+          λ j b.
+          let x = (k - p) * 28 + j in
+          let e : start_of (k + 1) + j ≡ start_of p + 28 + x = omega arith in
+          let f : start_of p + x ≡ start_of k + j = omega arith in
+          ap (λ (i : ℕ). get_or d i 0) e ∙ r.within x (omega arith) ∙ ap (λ (i : ℕ). get_or c i 0) f in
+          row_cong c d (start_of k) (start_of (k + 1))
+          (ap (λ (i : ℕ). get_or d i 0) (sym (add-zero (start_of (k + 1)))) ∙ moved 0 (omega arith)
+          ∙ ap (λ (i : ℕ). get_or c i 0) (add-zero (start_of k)))
+          (λ j b. moved (2 + j) (omega arith));
     }
-
-pub open_done : (c d : List ℕ) (k p u : ℕ) → k ≤ p → p ≤ k → Opened c d k u → Opened c d p u
-open_done c d k p u h l o = rw (le_antisymm l h) o
 
 pub insert_rows :
     (c d e : List ℕ) (p u n : ℕ) →
@@ -95,65 +82,87 @@ insert_rows c d e p u n size h l o r =
     used_same e (u + 1) (suc k) ∙ r.others (suc k) (λ q. omega arith) ∙ ap (row_at d) (sym (add-one k)) ∙ o.high k b m)
     ∙ ap (λ (k : ℕ). inserted p (blank n) (tab k (row_at c))) h
 
--- ---- a search by halves
+-- ---- a search among the rows
 
-pub record Halved (l : List Row) (n low high : ℕ) : Type 0 where
-  pub order : low ≤ high
-  pub most : high ≤ length l
-  pub less : (k : ℕ) → k < low → number_at l k < n
-  pub more : (k : ℕ) → high ≤ k → k < length l → n ≤ number_at l k
+-- chunk j of n numbers each
+chunk_at : (n k j : ℕ) (xs d : List ℕ) → j < k → get_or (first_chunks n k xs) j d ≡ take n (drop (j * n) xs)
+chunk_at n zero j xs d h = absurd (not-suc-le-zero h)
+chunk_at n (suc k) zero xs d h = ap (λ (m : ℕ). take n (drop m xs)) (sym (zero-mul n))
+chunk_at n (suc k) (suc j) xs d h =
+    let m = suc-mul j n in
+    let e : n + j * n ≡ suc j * n = omega arith in
+    chunk_at n k j (drop n xs) d (le_of_suc-le-suc h)
+    ∙ ap (take n) (drop-drop (j * n) n xs ∙ ap (λ (i : ℕ). drop i xs) e)
 
-module _ (l : List Row) (n : ℕ) where
-  pub halve_none : (u : ℕ) → u ≡ length l → Halved l n 0 u
-  halve_none u e =
-      record {
-        order = omega arith;
-        most = omega arith;
-        less = λ k h. absurd (not-suc-le-zero h);
-        more = λ k h b. absurd (omega arith);
-      }
+-- the cells behind the first
+abbrev behind : List ℕ → List ℕ
+behind c = take (length c - 1) (drop 1 c)
 
-  module _ (rise : rises (map row_number l) ≡ true) (low high mid : ℕ) (a : low ≤ mid) (b : mid < high) (h : Halved l n low high) where
-    sorted : (i j : ℕ) → i < j → j < length l → number_at l i < number_at l j
-    sorted i j q m = rises_at (map row_number l) i j rise q (rw (length-map l row_number) m)
+length_behind : (c : List ℕ) → length (behind c) ≡ length c - 1
+length_behind c = length-take-le (length c - 1) (drop 1 c) (let l = length-drop 1 c in omega arith)
 
-    pub halve_up : number_at l mid < n → Halved l n (mid + 1) high
-    halve_up t =
+pub rows_fit :
+    (c : List ℕ) (rows : List (List ℕ)) → Searched c → length rows ≡ length (behind c) / 28 → rows_in c ≡ length (take (rows_in c) rows)
+rows_fit c rows s e =
+    let z = s.size in
+    let f = s.few in
+    let u = rows_length c in
+    let l = length_behind c in
+    sym (length-take-le (rows_in c) rows (omega arith))
+
+-- the rows in use, as arrays: what a search by halves looks at, and what it tells
+module _ (c : List ℕ) (rows : List (List ℕ)) (n : ℕ) (s : Searched c) (is : rows ≡ first_chunks 28 (length (behind c) / 28) (behind c)) where
+  number_chunk : (k : ℕ) (d : List ℕ) → k < rows_in c → get_or (get_or (take (rows_in c) rows) k d) 0 0 ≡ number_at (replies_of c) k
+  number_chunk k d h =
+      let z = s.size in
+      let f = s.few in
+      let u = rows_length c in
+      let l = length_behind c in
+      let xs = behind c in
+      let m = length (behind c) / 28 in
+      let e : 1 + (k * 28 + 0) ≡ start_of k = omega arith in
+      ap (λ (x : List ℕ). get_or x 0 0)
+      (get_or-take (rows_in c) rows k d h
+      ∙ ap (λ (x : List (List ℕ)). get_or x k d) is
+      ∙ chunk_at 28 m k xs d (omega arith))
+      ∙ get_or-take 28 (drop (k * 28) xs) 0 0 (omega arith)
+      ∙ get_or-drop (k * 28) xs 0 0
+      ∙ get_or-take (length c - 1) (drop 1 c) (k * 28 + 0) 0 (omega arith)
+      ∙ get_or-drop 1 c (k * 28 + 0) 0
+      ∙ ap (λ (i : ℕ). get_or c i 0) e
+      ∙ sym (number_load c k h)
+
+  module _ (size : length (take (rows_in c) rows) ≡ rows_in c) where
+    pub parted_rows : IsPartitionedBy (λ y. ltb (get_or y 0 0) n) (take (rows_in c) rows)
+    parted_rows i j d a b t =
+        let u = rows_length c in
+        let x = number_chunk i d (omega arith) in
+        let y = number_chunk j d (omega arith) in
+        let q : get_or (get_or (take (rows_in c) rows) j d) 0 0 < n = ltb-true (get_or (get_or (take (rows_in c) rows) j d) 0 0) n t in
+        by_order (ltb (get_or (get_or (take (rows_in c) rows) i d) 0 0) n ≡ true) i j
+        (λ l.
+        let o = rises_at (map row_number (replies_of c)) i j s.rise l (rw (length-map (replies_of c) row_number) (omega arith)) in
+        lt-ltb (get_or (get_or (take (rows_in c) rows) i d) 0 0) n (omega arith))
+        (λ l. let e : i ≡ j = omega arith in rw e t)
+
+    pub placed_point :
+        (p : ℕ) → p ≤ length (take (rows_in c) rows)
+        → IsPartitionPoint (λ y. ltb (get_or y 0 0) n ≡ true) (λ y. ltb (get_or y 0 0) n ≡ false) (take (rows_in c) rows) p
+        → Placed (replies_of c) n p
+    placed_point p b t =
+        let u = rows_length c in
+        let d : List ℕ = [] in
         record {
-          order = omega arith;
-          most = h.most;
-          less =
-              λ k q.
-              by_same (number_at l k < n) k mid
-              (λ e. rw e t)
-              (λ m.
-              let s : number_at l k < number_at l mid = sorted k mid (omega arith) (let z = h.most in omega arith) in
-              omega arith);
-          more = h.more;
+          low = omega arith;
+          less = λ k h.
+              let e = number_chunk k d (omega arith) in
+              let q = ltb-true (get_or (get_or (take (rows_in c) rows) k d) 0 0) n (t.0 k d (omega arith) h) in
+              omega arith;
+          more = λ k h l.
+              let e = number_chunk k d (omega arith) in
+              let q = ltb-false (get_or (get_or (take (rows_in c) rows) k d) 0 0) n (t.1 k d h (omega arith)) in
+              omega arith;
         }
-
-    pub halve_down : n ≤ number_at l mid → Halved l n low mid
-    halve_down t =
-        record {
-          order = a;
-          most = let z = h.most in omega arith;
-          less = h.less;
-          more =
-              λ k q m.
-              by_same (n ≤ number_at l k) k mid
-              (λ e. rw e t)
-              (λ o.
-              let s : number_at l mid < number_at l k = sorted mid k (omega arith) m in
-              omega arith);
-        }
-
-  pub halve_done : (low high : ℕ) → high ≤ low → Halved l n low high → Placed l n low
-  halve_done low high q h =
-      record {
-        low = let z = h.most in let y = h.order in omega arith;
-        less = h.less;
-        more = λ k a b. h.more k (omega arith) b;
-      }
 
 -- ---- the row of a number
 

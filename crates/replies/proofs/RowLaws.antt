@@ -17,8 +17,9 @@ use Rattle.layout.proofs.RowLaws.{length_tab, get_or_tab, tab_same, tab_set, tab
 use Rattle.layout.proofs.BitLaws.{by_same}
 use Rattle.layout.proofs.ViewLaws.{table_same, table_set, get_or_table}
 use Rattle.gossip.specs.Notes.{Row, one_more}
+use Rattle.gossip.specs.Cells.{Run}
 use Rattle.gossip.specs.Valid.{row_number}
-use Rattle.replies.specs.View.{replies_cells, rows_in, start_of, lane_in, lane_at, row_from, row_at, replies_of, LaneSet, Run, RowSet}
+use Rattle.replies.specs.View.{replies_cells, rows_in, start_of, lane_in, lane_at, row_from, row_at, replies_of, LaneSet, RowSet}
 use Rattle.replies.proofs.LaneLaws.{lane_zero}
 use Rattle.replies.proofs.ListLaws.{number_at}
 
@@ -87,29 +88,7 @@ row_set_rows c d r row t =
     ap (λ (u : ℕ). tab u (row_at d)) t.rows
     ∙ tab_set (rows_in c) (row_at c) (row_at d) r row t.here (λ k l n. t.others k n)
 
--- ---- a run of stores
-
-module _ (c : List ℕ) (b : ℕ) (f : ℕ → ℕ) where
-  pub run_none : Run c c b 0 f
-  run_none =
-      record { size = refl; within = λ k h. absurd (not-suc-le-zero h); before = λ x h. refl; after = λ x h. refl }
-
-  pub run_more :
-      (d : List ℕ) (n v : ℕ) → b + n < length c → v ≡ f n → Run c d b n f → Run c (set d (b + n) v) b (n + 1) f
-  run_more d n v h e r =
-      record {
-        size = length-set d (b + n) v ∙ r.size;
-        within =
-            below_more (λ (k : ℕ). get_or (set d (b + n) v) (b + k) 0 ≡ f k) n
-            (λ k l.
-            get_or-set_other d (b + n) (b + k) v 0 (λ q. omega arith) ∙ r.within k l)
-            (get_or-set_same d (b + n) v 0 (let s = r.size in omega arith) ∙ e);
-        before = λ x l. get_or-set_other d (b + n) x v 0 (λ q. omega arith) ∙ r.before x l;
-        after = λ x l. get_or-set_other d (b + n) x v 0 (λ q. omega arith) ∙ r.after x (omega arith);
-      }
-
-  pub run_done : (d : List ℕ) (n m : ℕ) → n ≤ m → m ≤ n → Run c d b n f → Run c d b m f
-  run_done d n m h l r = rw (le_antisymm l h) r
+-- ---- a run of cells written
 
 -- cells outside row r alone are left as they are
 pub others_stay :

@@ -63,13 +63,6 @@ pub record LaneSet (x y j v : ℕ) : Type 0 where
   pub here : lane_in y j ≡ v
   pub others : (i : ℕ) → i ≢ j → lane_in y i ≡ lane_in x i
 
--- the n cells from b on are what f says, and no other changed
-pub record Run (c d : List ℕ) (b n : ℕ) (f : ℕ → ℕ) : Type 0 where
-  pub size : length d ≡ length c
-  pub within : (k : ℕ) → k < n → get_or d (b + k) 0 ≡ f k
-  pub before : (x : ℕ) → x < b → get_or d x 0 ≡ get_or c x 0
-  pub after : (x : ℕ) → b + n ≤ x → get_or d x 0 ≡ get_or c x 0
-
 -- row r is `row`, and no other changed
 pub record RowSet (c d : List ℕ) (r : ℕ) (row : Row) : Type 0 where
   pub size : length d ≡ length c

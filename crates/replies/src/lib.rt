@@ -11,6 +11,7 @@ ghost use Rattle.replies.specs.Asked.{Rows, RowOf, SlotOf, Ordered, Room, Flagge
 ghost use Rattle.replies.specs.Asked.{Inserted, Passes, Passed, Searched, Placed, is_row, on_bits, rows_ok, lane_fits, cell_fits};
 ghost use Rattle.replies.specs.Asked.{lanes_fit, step_at, Limit, Allows, AllAllow, Under, EvenUnder, RowLimits, RowsLimits};
 
+use gossip::cells::copy_within;
 use records::SLOTS;
 use words::WORDS;
 
@@ -100,11 +101,7 @@ fn copy_row(cells: &mut [u64], from: usize, to: usize)
     requires { Copies cells.old from to }
     ensures { RowSet cells.old cells.new to (row_at cells.old from) }
 {
-    let a = 1 + from * ROW_CELLS;
-    let b = 1 + to * ROW_CELLS;
-    for k in 0..ROW_CELLS {
-        cells[b + k] = cells[a + k];
-    }
+    copy_within(cells, 1 + from * ROW_CELLS, 1 + to * ROW_CELLS, ROW_CELLS);
 }
 
 // Row r is that of n, with no count.
@@ -113,9 +110,7 @@ fn blank_row(cells: &mut [u64], r: usize, n: u64, place: u64)
     ensures { RowSet cells.old cells.new r (blank n) }
 {
     let b = 1 + r * ROW_CELLS;
-    for k in 0..ROW_CELLS {
-        cells[b + k] = 0;
-    }
+    cells[b..b + ROW_CELLS].fill(0);
     cells[b] = n;
     cells[b + 1] = place;
 }
@@ -127,11 +122,8 @@ fn open_rows(cells: &mut [u64], p: usize, u: usize)
     requires { Opens cells.old p u }
     ensures { Opened cells.old cells.new p u }
 {
-    let mut k = u;
-    while p < k {
-        copy_row(cells, k - 1, k);
-        k -= 1;
-    }
+    let from = 1 + p * ROW_CELLS;
+    copy_within(cells, from, from + ROW_CELLS, (u - p) * ROW_CELLS);
 }
 
 // Puts a row of n with no count at place p.
@@ -150,17 +142,8 @@ fn place_of(cells: &[u64], n: u64) -> usize
     requires { Searched cells.now }
     ensures { Placed (replies_of cells.now) n result }
 {
-    let mut low: usize = 0;
-    let mut high = cells[0] as usize;
-    while low < high {
-        let mid = (low + high) / 2;
-        if cells[1 + mid * ROW_CELLS] < n {
-            low = mid + 1;
-        } else {
-            high = mid;
-        }
-    }
-    low
+    let rows = cells[1..].as_chunks::<ROW_CELLS>().0;
+    rows[..cells[0] as usize].partition_point(|row| row[0] < n)
 }
 
 // ---- the calls
@@ -255,7 +238,6 @@ fn keep_row(cells: &mut [u64], kept: bool, from: usize, to: usize) -> usize
     }
     if to < from {
         copy_row(cells, from, to);
-        return to + 1;
     }
     to + 1
 }
@@ -305,9 +287,7 @@ fn limits_of(k: usize, connected: &[u64; WORDS], most: u64) -> u64
     ensures { Allows (on_bits connected.now) most k result }
 {
     let mut w: u64 = 0;
-    let mut j: usize = LANES;
-    while 0 < j {
-        j -= 1;
+    for j in (0..LANES).rev() {
         w = w * LANE + limit(LANES * k + j, connected, most);
     }
     w

@@ -1,11 +1,9 @@
 -- The ends of the tests of a load.
 -- Assumes nothing.
 use Rattle.std.proofs.Common.{Ok, Err}
-use Rattle.std.proofs.Common.{tt}
 use Rattle.saves.specs.declared.LoadError.{LoadError}
-use Rattle.saves.specs.declared.LoadError.TheVariants.{Malformed, OutOfRange}
+use Rattle.saves.specs.declared.LoadError.TheVariants.{Broken, Malformed, OutOfRange}
 use Rattle.std.proofs.Common.{Option, Some, None, Result}
-use Rattle.std.proofs.Common.{Unit}
 use Rattle.lookup.specs.declared.FreshError.{FreshError}
 use Prim.Native.Nat.{ℕ, ◌*◌, ◌%◌, ◌<◌, ◌≤◌}
 use native.Mathlib.Omega.{arith}
@@ -23,20 +21,16 @@ use Rattle.params.specs.Check.{first_broken}
 use Rattle.records.specs.Records.{State, slot_count, set_clock}
 use Rattle.layout.specs.View.{state_of}
 use Rattle.validity.specs.Valid.{max_time}
-use Rattle.lookup.specs.Fresh.{fresh_state, Makes}
+use Rattle.lookup.specs.Fresh.{fresh_state, made_of, Makes}
 use Rattle.lookup.proofs.FreshLaws.{fresh_valid}
 use Rattle.saves.specs.Load.{Parse, numbers, malformed, parse_from, most_of, ascends, outside, loaded_state, Loading, loaded}
 use Rattle.saves.specs.Load.{out_of_range}
 use Rattle.saves.specs.Load.{broken, bad, slots_of, judged_by, records, counted, opened, sheeted, load_of, answer_of}
-use Rattle.saves.specs.Load.{refuses, Loads}
+use Rattle.saves.specs.Load.{Loads}
 use Rattle.saves.proofs.Parsing.{top}
-use Rattle.save_load.specs.declared.Skim.{Skim}
-use Rattle.save_load.specs.declared.Skim.TheVariants.{End, Broken as Cut}
 use Rattle.save_load.specs.Skim.{skim_of}
 use Rattle.save_load.specs.Judge.{is_read, place_by, judge_of}
 use Rattle.save_load.specs.Store.{Loadable, stored_all}
-use Rattle.save_load.specs.declared.Check.{Check}
-use Rattle.save_load.specs.declared.Check.TheVariants.{Fine, Refuse}
 use Rattle.save_load.specs.Checked.{Coded, Good, Says, Checks}
 use Rattle.save_load.proofs.RangeLaws.{most_wide}
 use Rattle.save_load.proofs.LoadLaws.{all_stored}
@@ -55,32 +49,32 @@ unfolding slots_of
 slots_none e a b = rw (ne_eqb e 1 a, ne_eqb e 2 b)
 
 -- ---- the ends of `check_records`
-skim_broken : (q : Parse) (place : ℕ) → skim_of q ≡ Cut place → q ≡ malformed place
-skim_broken (numbers l next) place e = let z : ◌≡◌ {A = ℕ} 0 1 = cc in absurd (omega arith)
-skim_broken (malformed p) place e = let z : p ≡ place = cc in ap malformed z
+skim_broken : (q : Parse) (x : LoadError) → skim_of q ≡ Err x → (place : ℕ) × ((q ≡ malformed place) × (Malformed place ≡ x))
+skim_broken (numbers l next) x e = let z : ◌≡◌ {A = ℕ} 0 1 = cc in absurd (omega arith)
+skim_broken (malformed p) x e = let z : Malformed p ≡ x = cc in (p, (refl, z))
 
-skim_end : (q : Parse) (next : ℕ) → skim_of q ≡ End next → (l : List ℕ) × (q ≡ numbers l next)
+skim_end : (q : Parse) (next : ℕ) → skim_of q ≡ Ok next → (l : List ℕ) × (q ≡ numbers l next)
 skim_end (numbers l n) next e = let z : n ≡ next = cc in (l, ap (numbers l) z)
 skim_end (malformed p) next e = let z : ◌≡◌ {A = ℕ} 0 1 = cc in absurd (omega arith)
 
-pub skim_read : (s : List ℕ) (at n next : ℕ) (k : Skim) → k ≡ skim_of (parse_from n s at) → k ≡ End next → is_read (parse_from n s at) ≡ true
+pub skim_read : (s : List ℕ) (at n next : ℕ) (k : Result ℕ LoadError) → k ≡ skim_of (parse_from n s at) → k ≡ Ok next → is_read (parse_from n s at) ≡ true
 skim_read s at n next k e q = let r = skim_end (parse_from n s at) next (sym e ∙ q) in ap is_read r.1
 
-module _ (p : Params) (clock : ℕ) (s codes : List ℕ) (n at : ℕ) (c : Coded p codes) (few : n ≤ slot_count) (k : Skim)
+module _ (p : Params) (clock : ℕ) (s codes : List ℕ) (n at : ℕ) (c : Coded p codes) (few : n ≤ slot_count) (k : Result ℕ LoadError)
     (e : k ≡ skim_of (parse_from (n * 44) s at)) where
-  pub records_broken : (place : ℕ) → k ≡ Cut place → Says p clock s (records p clock s n at) (Refuse (Err (Malformed place)))
+  pub records_broken : (x : LoadError) → k ≡ Err x → Says p clock s (records p clock s n at) (Err x)
   unfolding records
-  records_broken place q =
-      let r = skim_broken (parse_from (n * 44) s at) place (sym e ∙ q) in
-      (rw r, refl)
+  records_broken x q =
+      let r = skim_broken (parse_from (n * 44) s at) x (sym e ∙ q) in
+      rw (r.1.0) (ap Err (sym r.1.1))
 
-  module _ (next : ℕ) (q : k ≡ End next) where
+  module _ (next : ℕ) (q : k ≡ Ok next) where
     read : (l : List ℕ) × (parse_from (n * 44) s at ≡ numbers l next)
     read = skim_end (parse_from (n * 44) s at) next (sym e ∙ q)
 
-    pub records_over : next < length s → Says p clock s (records p clock s n at) (Refuse (Err (Malformed next)))
+    pub records_over : next < length s → Says p clock s (records p clock s n at) (Err (Malformed next))
     unfolding records
-    records_over h = (rw (read.1, lt-ltb next (length s) h), refl)
+    records_over h = rw (read.1, lt-ltb next (length s) h)
 
     module _ (h : length s ≤ next) (f : Option ℕ) (j : f ≡ judge_of (most_of (fresh_state p)) s at (n * 44) (parse_from (n * 44) s at)) where
       abbrev l : List ℕ
@@ -101,12 +95,12 @@ module _ (p : Params) (clock : ℕ) (s codes : List ℕ) (n at : ℕ) (c : Coded
       unfolding records
       record_is = rw (read.1, le-ltb next (length s) h)
 
-      pub records_outside : (place : ℕ) → f ≡ Some place → Says p clock s (records p clock s n at) (Refuse (Err (Broken place)))
+      pub records_outside : (place : ℕ) → f ≡ Some place → Says p clock s (records p clock s n at) (Err (Broken place))
       records_outside place t =
           let b = place_found (first (n * 44) (outside (most_of (fresh_state p)) l)) place (sym judge_is ∙ t) in
-          (sym (ap answer_of (record_is ∙ b)), refl)
+          sym (ap answer_of (record_is ∙ b))
 
-      pub records_fine : f ≡ None → Says p clock s (records p clock s n at) (Fine n at)
+      pub records_fine : f ≡ None → Says p clock s (records p clock s n at) (Ok (n, at))
       unfolding outside
       records_fine t =
           let none = none_found (first (n * 44) (outside (most_of (fresh_state p)) l)) (sym judge_is ∙ t) in
@@ -133,14 +127,14 @@ module _ (p : Params) (clock : ℕ) (s codes : List ℕ) (n at : ℕ) (c : Coded
 
 -- ---- the ends of `check_count`
 module _ (p : Params) (clock : ℕ) (s : List ℕ) (most at : ℕ) (r : Option (ℕ × ℕ)) (e : r ≡ read_at top s at) where
-  pub count_bad : r ≡ None → Says p clock s (counted p clock s most at (read_at top s at)) (Refuse (Malformed at))
-  count_bad q = (rw (sym e ∙ q), refl)
+  pub count_bad : r ≡ None → Says p clock s (counted p clock s most at (read_at top s at)) (Err (Malformed at))
+  count_bad q = rw (sym e ∙ q)
 
   module _ (n next : ℕ) (q : r ≡ Some (n, next)) where
-    pub count_over : most < n → Says p clock s (counted p clock s most at (read_at top s at)) (Refuse (Broken at))
-    count_over h = (rw (sym e ∙ q, lt-leb n most h), refl)
+    pub count_over : most < n → Says p clock s (counted p clock s most at (read_at top s at)) (Err (Broken at))
+    count_over h = rw (sym e ∙ q, lt-leb n most h)
 
-    pub count_fine : n ≤ most → (a : Check) → Says p clock s (records p clock s n next) a →
+    pub count_fine : n ≤ most → (a : Result (ℕ × ℕ) LoadError) → Says p clock s (records p clock s n next) a →
         Says p clock s (counted p clock s most at (read_at top s at)) a
     count_fine h a g =
         let z : counted p clock s most at (read_at top s at) ≡ records p clock s n next = rw (sym e ∙ q, le-leb n most h) in
@@ -148,14 +142,14 @@ module _ (p : Params) (clock : ℕ) (s : List ℕ) (most at : ℕ) (r : Option (
 
 -- ---- the ends of `check_edition`
 module _ (p : Params) (clock : ℕ) (s : List ℕ) (r : Option (ℕ × ℕ)) (e : r ≡ read_at top s 0) where
-  pub edition_bad : r ≡ None → Says p clock s (opened p clock s (read_at top s 0)) (Refuse (Err (Malformed 0)))
-  edition_bad q = (rw (sym e ∙ q), refl)
+  pub edition_bad : r ≡ None → Says p clock s (opened p clock s (read_at top s 0)) (Err (Malformed 0))
+  edition_bad q = rw (sym e ∙ q)
 
   module _ (v next : ℕ) (q : r ≡ Some (v, next)) (f : Option ℕ) (d : f ≡ slots_of v) where
-    pub edition_none : f ≡ None → Says p clock s (opened p clock s (read_at top s 0)) (Refuse (Err (Broken 0)))
-    edition_none t = (rw (sym e ∙ q, sym d ∙ t), refl)
+    pub edition_none : f ≡ None → Says p clock s (opened p clock s (read_at top s 0)) (Err (Broken 0))
+    edition_none t = rw (sym e ∙ q, sym d ∙ t)
 
-    pub edition_fine : (most : ℕ) → f ≡ Some most → (a : Check) → Says p clock s (counted p clock s most next (read_at top s next)) a →
+    pub edition_fine : (most : ℕ) → f ≡ Some most → (a : Result (ℕ × ℕ) LoadError) → Says p clock s (counted p clock s most next (read_at top s next)) a →
         Says p clock s (opened p clock s (read_at top s 0)) a
     edition_fine most t a g =
         let z : opened p clock s (read_at top s 0) ≡ counted p clock s most next (read_at top s next) = rw (sym e ∙ q, sym d ∙ t) in
@@ -163,16 +157,16 @@ module _ (p : Params) (clock : ℕ) (s : List ℕ) (r : Option (ℕ × ℕ)) (e 
 
 -- ---- the ends of `check_all`
 module _ (p : Params) (clock : ℕ) (s : List ℕ) (f : Option ℕ) (e : f ≡ first_broken p) where
-  pub check_sheet : (i : ℕ) → f ≡ Some i → Checks p clock s (load_of true p clock s) (Refuse (Err (Broken i)))
+  pub check_sheet : (i : ℕ) → f ≡ Some i → Checks p clock s (load_of true p clock s) (Err (Broken i))
   unfolding load_of
-  check_sheet i q = (rw (sym e ∙ q), refl)
+  check_sheet i q = rw (sym e ∙ q)
 
   module _ (q : f ≡ None) where
-    pub check_clock : max_time < clock → Checks p clock s (load_of true p clock s) (Refuse (Err OutOfRange))
+    pub check_clock : max_time < clock → Checks p clock s (load_of true p clock s) (Err OutOfRange)
     unfolding load_of
-    check_clock h = (rw (sym e ∙ q, lt-leb clock max_time h), refl)
+    check_clock h = rw (sym e ∙ q, lt-leb clock max_time h)
 
-    pub check_fine : clock ≤ max_time → (a : Check) → Says p clock s (opened p clock s (read_at top s 0)) a →
+    pub check_fine : clock ≤ max_time → (a : Result (ℕ × ℕ) LoadError) → Says p clock s (opened p clock s (read_at top s 0)) a →
         Checks p clock s (load_of true p clock s) a
     unfolding load_of
     check_fine h a g = go a g
@@ -180,29 +174,31 @@ module _ (p : Params) (clock : ℕ) (s : List ℕ) (f : Option ℕ) (e : f ≡ f
         z : sheeted p clock s (first_broken p) ≡ opened p clock s (read_at top s 0)
         z = rw (sym e ∙ q, le-leb clock max_time h)
 
-        go : (a : Check) → Says p clock s (opened p clock s (read_at top s 0)) a → Checks p clock s (sheeted p clock s (first_broken p)) a
-        go (Refuse b) g = rw z g
-        go (Fine n at) g = (rw z g, record { passes = sym e ∙ q; early = h })
+        go : (a : Result (ℕ × ℕ) LoadError) → Says p clock s (opened p clock s (read_at top s 0)) a → Checks p clock s (sheeted p clock s (first_broken p)) a
+        go (Err b) g = rw z g
+        go (Ok (n, at)) g = (rw z g, record { passes = sym e ∙ q; early = h })
 
 -- ---- the ends of `load`
 pub load_refused :
-    (p : Params) (clock : ℕ) (s table : List ℕ) (k : Check) (a : Result (Unit {0}) LoadError) → Checks p clock s (load_of true p clock s) k → k ≡ Refuse a →
-    Loads (load_of true p clock s) a table table
-load_refused p clock s table (Refuse b) a g q =
-    let z : b ≡ a = cc in
-    record { answer = sym z ∙ g.0; state = go (load_of true p clock s) (sym g.0) g.1; kept = λ e. refl }
+    (p : Params) (clock : ℕ) (s table : List ℕ) (k : Result (ℕ × ℕ) LoadError) (x : LoadError) → Checks p clock s (load_of true p clock s) k → k ≡ Err x →
+    Loads (load_of true p clock s) (Err x) table table
+load_refused p clock s table (Err y) x g q =
+    let z : y ≡ x = cc in
+    let e : answer_of (load_of true p clock s) ≡ Err x = sym g ∙ ap Err z in
+    record { answer = sym e; state = go (load_of true p clock s) e; kept = λ e. refl }
   where
-    go : (o : Loading) → answer_of o ≡ b → refuses b ≡ true → state_of table ≡ Rattle.saves.specs.Load.left_by o (state_of table)
-    go (loaded st) e r =
-        let y : refuses (Ok tt) ≡ true = rw (← e) at r in
-        let x : ◌≡◌ {A = ℕ} 0 1 = cc in
-        absurd (omega arith)
-    go out_of_range e r = refl
-    go (broken i) e r = refl
-    go (bad i) e r = refl
-load_refused p clock s table (Fine n at) a g q = let z : ◌≡◌ {A = ℕ} 0 1 = cc in absurd (omega arith)
+    go : (o : Loading) → answer_of o ≡ Err x → state_of table ≡ Rattle.saves.specs.Load.left_by o (state_of table)
+    go (loaded st) e = let z : ◌≡◌ {A = ℕ} 0 1 = cc in absurd (omega arith)
+    go out_of_range e = refl
+    go (broken i) e = refl
+    go (bad i) e = refl
+load_refused p clock s table (Ok a) x g q = let z : ◌≡◌ {A = ℕ} 0 1 = cc in absurd (omega arith)
 
--- ---- the end of `make`
+-- ---- the ends of `make`
+-- parameters that pass are not refused
+pub make_ok : (p : Params) (r : Result (Unit {0}) FreshError) (t₀ t₁ : List ℕ) → first_broken p ≡ None → Makes p r t₀ t₁ → r ≡ Ok tt
+make_ok p r t₀ t₁ ok m = m.answer ∙ ap made_of ok
+
 pub make_is :
     (p : Params) (clock n : ℕ) (l : List ℕ) → n ≤ slot_count → first_broken p ≡ None → (r : Result (Unit {0}) FreshError) (t₀ t₁ t₂ t₃ : List ℕ) →
     Makes p r t₀ t₁ →
@@ -213,32 +209,32 @@ make_is p clock n l few ok r t₀ t₁ t₂ t₃ m b c =
     ∙ ap (stored_all clock n l) (b ∙ ap (λ (v : State). set_clock v clock) a)
     ∙ all_stored p clock l n few
 
+-- what was found fit to be stored
+fine : (p : Params) (clock : ℕ) (s : List ℕ) (k : Result (ℕ × ℕ) LoadError) (n at : ℕ) → Checks p clock s (load_of true p clock s) k →
+    k ≡ Ok (n, at) → Checks p clock s (load_of true p clock s) (Ok (n, at))
+fine p clock s k n at g q = rw q at g
+
 pub load_made :
-    (p : Params) (clock : ℕ) (s table table' : List ℕ) (k : Check) (n at : ℕ) → Checks p clock s (load_of true p clock s) k → k ≡ Fine n at →
+    (p : Params) (clock : ℕ) (s table table' : List ℕ) (k : Result (ℕ × ℕ) LoadError) (n at : ℕ) (r : Result (Unit {0}) LoadError) →
+    Checks p clock s (load_of true p clock s) k → k ≡ Ok (n, at) → r ≡ Ok tt →
     ((l : List ℕ) (end : ℕ) → parse_from (n * 44) s at ≡ numbers l end → state_of table' ≡ loaded_state p clock n l) →
-    Loads (load_of true p clock s) (Ok tt) table table'
-load_made p clock s table table' (Refuse a) n at g q f = let z : ◌≡◌ {A = ℕ} 0 1 = cc in absurd (omega arith)
-load_made p clock s table table' (Fine m b) n at g q f =
-    let x : m ≡ n = cc in
-    let y : b ≡ at = cc in
-    let h : Good p clock s (load_of true p clock s) n at = rw (x, y) at g.0 in
+    Loads (load_of true p clock s) r table table'
+load_made p clock s table table' k n at r g q o f =
+    let h = (fine p clock s k n at g q).0 in
     let d = h.fits in
     let e = h.gives d.l d.end d.whole in
     record {
-      answer = sym (ap answer_of e);
+      answer = o ∙ sym (ap answer_of e);
       state = f d.l d.end d.whole ∙ sym (ap (λ (o : Loading). Rattle.saves.specs.Load.left_by o (state_of table)) e);
-      kept = λ r. let z : ◌≡◌ {A = ℕ} 0 1 = cc in absurd (omega arith);
+      kept = λ t. let z : ◌≡◌ {A = ℕ} 0 1 = cc in absurd (omega arith);
     }
 
 pub fine_parts :
-    (p : Params) (clock : ℕ) (s : List ℕ) (k : Check) (n at : ℕ) → Checks p clock s (load_of true p clock s) k → k ≡ Fine n at →
+    (p : Params) (clock : ℕ) (s : List ℕ) (k : Result (ℕ × ℕ) LoadError) (n at : ℕ) → Checks p clock s (load_of true p clock s) k → k ≡ Ok (n, at) →
     (n ≤ slot_count) × ((clock ≤ max_time) × ((first_broken p ≡ None) × Loadable s at n))
-fine_parts p clock s (Refuse a) n at g q = let z : ◌≡◌ {A = ℕ} 0 1 = cc in absurd (omega arith)
-fine_parts p clock s (Fine m b) n at g q =
-    let x : m ≡ n = cc in
-    let y : b ≡ at = cc in
-    let h : Good p clock s (load_of true p clock s) n at = rw (x, y) at g.0 in
-    (h.few, (g.1.early, (g.1.passes, h.fits)))
+fine_parts p clock s k n at g q =
+    let h = fine p clock s k n at g q in
+    (h.0.few, (h.1.early, (h.1.passes, h.0.fits)))
 
 -- the fresh router of the parameters has their codes
 pub fresh_coded : (p : Params) (codes : List ℕ) → Coded p codes → (fresh_state p).codes ≡ codes

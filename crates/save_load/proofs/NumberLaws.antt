@@ -30,7 +30,8 @@ narrow_got top' at v next (got u n) h e =
     by_test (as_read at (up_to top' (got u n)) ≡ Some (v, next)) (leb u top)
     (λ t.
     let f : Some (u, at + n) ≡ Some (v, next) = rw t at e in
-    let q : u ≡ v = cc in
+    let p : (u, at + n) ≡ (v, next) = cc in
+    let q : u ≡ v = ap (λ (w : ℕ × ℕ). w.0) p in
     rw (le-leb u top' (omega arith)) f)
     (λ t. let f : None ≡ Some (v, next) = rw t at e in let z : ◌≡◌ {A = ℕ} 0 1 = cc in absurd (omega arith))
 

@@ -136,15 +136,16 @@ module _ (s : List ℕ) (at i place : ℕ) (row : List ℕ) (g : Reading s at i 
 
     pub reading_read : {A : Type 0} → r ≡ None → A
     reading_read q =
-        let f : Some (get_or g.l i 0, here.next) ≡ None = sym here.read ∙ sym e ∙ q in
+        let f : ◌≡◌ {A = Option (ℕ × ℕ)} (Some (get_or g.l i 0, here.next)) None = sym here.read ∙ sym e ∙ q in
         let z : ◌≡◌ {A = ℕ} 0 1 = cc in
         absurd (omega arith)
 
     pub reading_more : (v next : ℕ) → r ≡ Some (v, next) → Reading s at (i + 1) next (set row i v)
     reading_more v next q =
-        let f : Some (get_or g.l i 0, here.next) ≡ Some (v, next) = sym here.read ∙ sym e ∙ q in
-        let value : get_or g.l i 0 ≡ v = cc in
-        let place_is : here.next ≡ next = cc in
+        let f : ◌≡◌ {A = Option (ℕ × ℕ)} (Some (get_or g.l i 0, here.next)) (Some (v, next)) = sym here.read ∙ sym e ∙ q in
+        let p : ◌≡◌ {A = ℕ × ℕ} (get_or g.l i 0, here.next) (v, next) = cc in
+        let value : get_or g.l i 0 ≡ v = ap (λ (w : ℕ × ℕ). w.0) p in
+        let place_is : here.next ≡ next = ap (λ (w : ℕ × ℕ). w.1) p in
         let n = g.long in
         let c = parse_count 44 s at g.l g.end g.whole in
         record {

@@ -8,7 +8,7 @@ pub mod passes;
 pub mod ranges;
 pub mod row;
 
-ghost use Rattle.std.specs.Prelude.{None};
+ghost use Rattle.std.specs.Prelude.{None, Ok};
 ghost use Rattle.std.specs.Prelude.{◌≡◌, ℕ, ◌*◌, ◌≤◌, true, List, length};
 ghost use Rattle.varint.specs.Groups.{read_at};
 ghost use Rattle.params.specs.declared.Params.{Params as Parameters};
@@ -28,31 +28,15 @@ use records::SLOTS;
 use saves::LoadError;
 use validity::valid::MAX_TIME;
 
-// The place after the numbers, or the place at which they cannot go on.
-#[derive(Clone, Copy)]
-pub enum Skim {
-    End(usize),
-    Broken(usize),
-}
-
-// What the tests of a load come to: a refusal, or how many records stand where.
-#[derive(Clone, Copy)]
-pub enum Check {
-    Fine(usize, usize),
-    Refuse(Loaded),
-}
-
 // How many records an edition may have, if it is one.
 fn slots_of(edition: u64) -> Option<usize>
     ensures { result ≡ slots_of edition }
 {
-    if edition == 1 {
-        return Some(64);
+    match edition {
+        1 => Some(64),
+        2 => Some(SLOTS),
+        _ => None,
     }
-    if edition == 2 {
-        return Some(SLOTS);
-    }
-    None
 }
 
 // The place of the first of n numbers that is outside its range.
@@ -66,96 +50,92 @@ fn judge(codes: &[u64], s: &[u8], at: usize, n: usize) -> Option<usize>
     passes::first_outside(s, at, n, &most)
 }
 
-// The n records that stand from `at` on.
-fn check_records(codes: &[u64], s: &[u8], n: usize, at: usize) -> Check
+// The n records that stand from `at` on: how many, and where, if none is malformed or outside its range.
+fn check_records(codes: &[u64], s: &[u8], n: usize, at: usize) -> Result<(usize, usize), LoadError>
     requires { (length codes.now ≡ param_count) × (n ≤ slot_count) }
     ensures { (p : Parameters) (clock : ℕ) → Coded p codes.now →
         Says p clock s.now (recordsOf p clock s.now n at) result }
 {
-    match passes::skim_numbers(s, at, n * ROW) {
-        Skim::Broken(place) => Check::Refuse(Err(LoadError::Malformed(place))),
-        Skim::End(next) => {
-            if next < s.len() {
-                return Check::Refuse(Err(LoadError::Malformed(next)));
-            }
-            match judge(codes, s, at, n * ROW) {
-                Some(place) => Check::Refuse(Err(LoadError::Broken(place))),
-                None => Check::Fine(n, at),
-            }
-        }
+    let next = passes::skim_numbers(s, at, n * ROW)?;
+    if next < s.len() {
+        return Err(LoadError::Malformed(next));
     }
+    if let Some(place) = judge(codes, s, at, n * ROW) {
+        return Err(LoadError::Broken(place));
+    }
+    Ok((n, at))
 }
 
 // The count at `at`, of an edition with at most so many records.
-fn check_count(codes: &[u64], s: &[u8], most: usize, at: usize) -> Check
+fn check_count(codes: &[u64], s: &[u8], most: usize, at: usize) -> Result<(usize, usize), LoadError>
     requires { (length codes.now ≡ param_count) × (most ≤ slot_count) }
     ensures { (p : Parameters) (clock : ℕ) → Coded p codes.now →
         Says p clock s.now (counted p clock s.now most at (read_at 18446744073709551615 s.now at)) result }
 {
-    match varint::read_u64(s, at) {
-        Some((n, next)) => {
-            if (most as u64) < n {
-                return Check::Refuse(Err(LoadError::Broken(at)));
-            }
-            check_records(codes, s, n as usize, next)
-        }
-        None => Check::Refuse(Err(LoadError::Malformed(at))),
+    let Some((n, next)) = varint::read_u64(s, at) else {
+        return Err(LoadError::Malformed(at));
+    };
+    if (most as u64) < n {
+        return Err(LoadError::Broken(at));
     }
+    check_records(codes, s, n as usize, next)
 }
 
 // The edition at the front.
-fn check_edition(codes: &[u64], s: &[u8]) -> Check
+fn check_edition(codes: &[u64], s: &[u8]) -> Result<(usize, usize), LoadError>
     requires { length codes.now ≡ param_count }
     ensures { (p : Parameters) (clock : ℕ) → Coded p codes.now →
         Says p clock s.now (opened p clock s.now (read_at 18446744073709551615 s.now 0)) result }
 {
-    match varint::read_u64(s, 0) {
-        Some((e, next)) => match slots_of(e) {
-            Some(most) => check_count(codes, s, most, next),
-            None => Check::Refuse(Err(LoadError::Broken(0))),
-        },
-        None => Check::Refuse(Err(LoadError::Malformed(0))),
-    }
+    let Some((e, next)) = varint::read_u64(s, 0) else {
+        return Err(LoadError::Malformed(0));
+    };
+    let Some(most) = slots_of(e) else {
+        return Err(LoadError::Broken(0));
+    };
+    check_count(codes, s, most, next)
 }
 
 // All tests.
-fn check_all(params: Params, clock: u64, s: &[u8]) -> Check
+fn check_all(params: Params, clock: u64, s: &[u8]) -> Result<(usize, usize), LoadError>
     ensures { Checks params clock s.now (load_of true params clock s.now) result }
 {
-    match params.first_broken() {
-        Some(i) => Check::Refuse(Err(LoadError::Broken(i))),
-        None => {
-            if MAX_TIME < clock {
-                return Check::Refuse(Err(LoadError::OutOfRange));
-            }
-            let numbers = params.numbers;
-            let codes = limits::codes_of(&numbers);
-            check_edition(&codes, s)
-        }
+    if let Some(i) = params.first_broken() {
+        return Err(LoadError::Broken(i));
     }
+    if MAX_TIME < clock {
+        return Err(LoadError::OutOfRange);
+    }
+    let numbers = params.numbers;
+    let codes = limits::codes_of(&numbers);
+    check_edition(&codes, s)
 }
 
-// Makes the router of n records that passed all tests.
-fn make(params: Params, clock: u64, s: &[u8], n: usize, at: usize, table: &mut [u64])
+// Makes the router of n records that passed all tests, as did the parameters.
+fn make(
+    params: Params,
+    clock: u64,
+    s: &[u8],
+    n: usize,
+    at: usize,
+    table: &mut [u64],
+) -> Result<(), LoadError>
     requires { (length table.old ≡ cell_count)
         × ((n ≤ slot_count) × ((clock ≤ max_time) × ((first_broken params ≡ None) × Loadable s.now at n))) }
-    ensures { (l : List ℕ) (end : ℕ) → parse_from (n * 44) s.now at ≡ numbers l end →
+    ensures made { result ≡ Ok tt }
+    ensures state { (l : List ℕ) (end : ℕ) → parse_from (n * 44) s.now at ≡ numbers l end →
         state_of table.new ≡ loaded_state params clock n l }
 {
-    let _ = lookup::fresh::fresh(params, table);
+    lookup::fresh::fresh(params, table)?;
     layout::store_clock(table, clock);
     row::store_rows(table, s, at, n, clock);
+    Ok(())
 }
 
 // Loads a save with parameters, at a clock: 9 and 2, then edition and count, then 10 before 9; a refusal leaves the table as it was.
 pub fn load(params: Params, clock: u64, s: &[u8], table: &mut [u64; CELLS]) -> Result<(), LoadError>
     ensures { Loads (load_of true params clock s.now) result table.old table.new }
 {
-    match check_all(params, clock, s) {
-        Check::Refuse(a) => a,
-        Check::Fine(n, at) => {
-            make(params, clock, s, n, at, table);
-            Ok(())
-        }
-    }
+    let (n, at) = check_all(params, clock, s)?;
+    make(params, clock, s, n, at, table)
 }

@@ -1,25 +1,25 @@
 // The first two passes of a load over the numbers of the records: do they stand there, and are they in their ranges?
-ghost use Rattle.std.specs.Prelude.{◌≡◌, ◌+◌, ◌%◌, ◌<◌, true, cond, eqb};
+ghost use Rattle.std.specs.Prelude.{◌≡◌, true, cond, eqb};
 ghost use Rattle.saves.specs.Load.{parse_from};
 ghost use Rattle.save_load.specs.Skim.{skim_of};
 ghost use Rattle.save_load.specs.Judge.{is_read, judge_of, outside_now};
 
-use crate::{Skim, numbers};
+use crate::numbers;
+use crate::row::ROW;
+use saves::LoadError;
 
-// The first pass of a load: n numbers from `at` on.
-pub fn skim_numbers(s: &[u8], at: usize, n: usize) -> Skim
+// The first pass of a load: the place after n numbers from `at` on, unless one is malformed.
+pub fn skim_numbers(s: &[u8], at: usize, n: usize) -> Result<usize, LoadError>
     ensures { result ≡ skim_of (parse_from n s.now at) }
 {
     let mut place = at;
-    let mut left = n;
-    while 0 < left {
+    for _i in 0..n {
         let Some((_, next)) = numbers::read_number(s, place) else {
-            return Skim::Broken(place);
+            return Err(LoadError::Malformed(place));
         };
         place = next;
-        left -= 1;
     }
-    Skim::End(place)
+    Ok(place)
 }
 
 // Whether number v in column j of its record is outside its range; the id has to pass the id before it.
@@ -36,24 +36,15 @@ fn id_after(last: u64, j: usize, v: u64) -> u64
     if j == 0 { v } else { last }
 }
 
-// The next column.
-fn column_after(j: usize) -> usize
-    requires { j < 44 }
-    ensures { result ≡ (j + 1) % 44 }
-{
-    if j == 43 { 0 } else { j + 1 }
-}
-
 // The second pass of a load: the place of the first number outside its range.
-pub fn first_outside(s: &[u8], at: usize, n: usize, most: &[u64; 44]) -> Option<usize>
+pub fn first_outside(s: &[u8], at: usize, n: usize, most: &[u64; ROW]) -> Option<usize>
     requires { is_read (parse_from n s.now at) ≡ true }
     ensures { result ≡ judge_of most.now s.now at n (parse_from n s.now at) }
 {
     let mut place = at;
-    let mut i: usize = 0;
-    let mut j: usize = 0;
     let mut last: u64 = 0;
-    while i < n {
+    for i in 0..n {
+        let j = i % ROW;
         let Some((v, next)) = numbers::read_number(s, place) else {
             return None;
         };
@@ -62,8 +53,6 @@ pub fn first_outside(s: &[u8], at: usize, n: usize, most: &[u64; 44]) -> Option<
         }
         last = id_after(last, j, v);
         place = next;
-        i += 1;
-        j = column_after(j);
     }
     None
 }

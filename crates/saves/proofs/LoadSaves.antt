@@ -180,7 +180,8 @@ unfolding bytes_of
 saves_back fine params clock s st next size byte read e none =
     let o = opened_is params clock s byte st fine e in
     let q : Some (o.edition, o.next) ≡ Some (edition, next) = sym o.read ∙ read in
-    let z : o.edition ≡ edition = cc in
+    let p : (o.edition, o.next) ≡ (edition, next) = cc in
+    let z : o.edition ≡ edition = ap (λ (w : ℕ × ℕ). w.0) p in
     ap (λ (u : State). save_of u clock) o.state
     ∙ same_bytes_lem params size o.ok clock o.early o.n o.few o.numbers o.count o.pass (λ k h.
     sym (ap (λ (u : State). reclaimable (peer_in u k) clock) o.state) ∙ none k h)

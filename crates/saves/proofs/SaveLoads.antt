@@ -139,7 +139,7 @@ module _
       second_place = first_place + length (encode count)
 
       read_edition : read_at top bytes 0 ≡ Some (edition, first_place)
-      read_edition = read_at_encode top edition [] (encode count ++ bytes_of body) (omega arith) ∙ ap (Number edition) (omega arith)
+      read_edition = read_at_encode top edition [] (encode count ++ bytes_of body) (omega arith) ∙ ap (λ (k : ℕ). Some (edition, k)) (omega arith)
 
       read_count : read_at top bytes first_place ≡ Some (count, second_place)
       read_count = read_at_encode top count (encode edition) (bytes_of body) (let f = in_order.few in omega arith)

@@ -1,7 +1,6 @@
 -- What a load makes of bytes (02, order 8), test by test: "A load tests the set-up numbers (2), the sheet (9 as in 01), the clock (2), then
 -- edition and count as they are read, another edition or a count above the slots being 9 at its place; after them 10 comes before 9."
 use Rattle.std.specs.Prelude.{Result, Ok, Err}
-use Rattle.std.specs.Prelude.{Unit, tt}
 use Rattle.saves.specs.declared.LoadError.{LoadError}
 use Rattle.saves.specs.declared.LoadError.TheVariants.{Broken, Malformed, OutOfRange}
 use Rattle.std.specs.Prelude.{Option, Some, None}

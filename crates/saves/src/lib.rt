@@ -2,6 +2,8 @@
 // specs/Promises.antt; the code is in crates save_write and save_load. Here stand only the answers that both speak of.
 #![tactic(auto)]
 
+use lookup::FreshError;
+
 // Why no save is written.
 #[derive(Clone, Copy)]
 pub enum SaveError {
@@ -24,4 +26,13 @@ pub enum LoadError {
     Broken(usize),
     // 10: the place in the save
     Malformed(usize),
+}
+
+// Parameters that are refused are the load's first test.
+impl From<FreshError> for LoadError {
+    fn from(e: FreshError) -> LoadError {
+        match e {
+            FreshError::Broken(i) => LoadError::Broken(i),
+        }
+    }
 }

@@ -9,8 +9,7 @@ use native.Mathlib.Omega.{arith}
 use Rattle.text.specs.Text.{Stored}
 use Rattle.text.proofs.TextLaws.{stored_then}
 use Rattle.param_text.specs.Lines.{head_text}
-use Rattle.params_bytes.specs.Read.{read_of, verdict_number, verdict_value}
-use Rattle.params_bytes.specs.declared.Reading.{Reading}
+use Rattle.params_bytes.specs.Read.{Reading, read_of, verdict_number, verdict_value}
 use Rattle.show_params.specs.Show.{rest_text, shown_text}
 
 -- ---- the whole text, by the verdict of the reading

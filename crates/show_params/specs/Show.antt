@@ -5,8 +5,7 @@ use Rattle.params_bytes.specs.declared.ReadError.{ReadError}
 use Rattle.params_bytes.specs.declared.ReadError.TheVariants.{Broken, Malformed}
 use Rattle.std.specs.Prelude.{ℕ, List, [], ◌++◌, ℤ}
 use Rattle.param_text.specs.Lines.{head_text, numbers_text}
-use Rattle.params_bytes.specs.Read.{verdict_number, verdict_value}
-use Rattle.params_bytes.specs.declared.Reading.{Reading}
+use Rattle.params_bytes.specs.Read.{Reading, verdict_number, verdict_value}
 
 -- the lines after the first
 abbrev pub rest_text : Result ℕ ReadError → List ℤ → List ℕ

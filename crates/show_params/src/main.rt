@@ -16,14 +16,10 @@ fn show(buf: &mut [u8], bytes: &[u8]) -> usize
     requires { 3298 ≤ length buf.old }
     ensures { Stored buf.old 0 (shown_text (read_of bytes.now)) result buf.new × (result ≤ 3298) }
 {
-    let reading = params_bytes::read(bytes);
-    let verdict = reading.verdict;
-    match verdict {
-        Ok(n) => {
+    match params_bytes::read(bytes) {
+        Ok((all, n)) => {
             let at = param_text::put_head(buf, 0, n);
-            let all = reading.params;
-            let numbers = all.numbers;
-            param_text::put_numbers(buf, at, numbers)
+            param_text::put_numbers(buf, at, all.numbers)
         }
         Err(ReadError::Malformed(place)) => param_text::put_head(buf, 10, place),
         Err(ReadError::Broken(i)) => param_text::put_head(buf, 9, i),

@@ -1,25 +1,26 @@
 -- Test 12 of a store, window by window and number by number: each number is looked for among those before it.
 -- Assumes nothing.
 use Prim.Native.Nat.{ℕ, zero, suc, ◌+◌, ◌*◌, ◌/◌, ◌%◌, ◌≤◌, ◌<◌}
-use native.Mathlib.Nat.{not-suc-le-zero, le_of_suc-le-suc, eq-or-lt_of_le}
+use native.Mathlib.Nat.{not-suc-le-zero, le_of_suc-le-suc, eq-or-lt_of_le, add-zero}
 use native.Mathlib.Numerals.{add-one}
 use native.Mathlib.Omega.{arith}
 use mathlib.Core.Bool.{Bool, true, false, not, ◌&&◌, ◌||◌, and-false}
 use mathlib.Core.List.{List, [], ◌∷◌, ◌++◌, append_assoc, append-nil}
 use mathlib.Core.Logic.{⊎_elim}
-use mathlib.Core.Path.{◌≡◌, refl, sym, ap, ◌∙◌}
+use mathlib.Core.Path.{◌≡◌, refl, sym, ap, subst, ◌∙◌}
 use lib.Dec.{eqb, leb}
-use lib.ListN.{length, get_or, take, drop, take-append-drop}
-use lib.Seq.{take-suc, take_all}
+use lib.ListN.{length, get_or, take, drop, take-append-drop, length-take, length-drop}
+use lib.Seq.{take-suc, take_all, get_or-take, get_or-drop}
 use borrow.Author.Tests.{eqb-true, eqb-false, eq-eqb, ne_eqb, leb-true}
 use Rattle.index.proofs.Flags.{by_test}
-use Rattle.index.proofs.Index.{every_at, both, gather_more}
+use Rattle.index.proofs.Index.{every_at, every_same, both, gather_more}
 use Rattle.index.specs.Index.{every, gather}
 use Rattle.records.specs.Records.{topic_count}
 use Rattle.layout.proofs.RowLaws.{get_or_tab}
 use Rattle.marks.specs.Marks.{bucket_count, word_count, is_marked, marked}
 use Rattle.gossip.specs.Notes.{window_count, window_most, has}
 use Rattle.gossip.specs.Valid.{all, none, flat, apart, window_ok, store_ok}
+use Rattle.gossip.proofs.CellLaws.{zeros}
 use Rattle.stores.specs.Marks.{windows_of, before, up_to, Seen, Looking}
 use Rattle.stores.specs.View.{stores_cells, count_at, window_at, five_at, store_at, Store, Windows}
 use Rattle.stores.proofs.ChangeLaws.{five_is}
@@ -134,6 +135,13 @@ pub none_seen : (c seen : List ℕ) (t : ℕ) → length seen ≡ word_count →
 none_seen c seen t l = rw (before_none c t 0) (seen_none seen l)
 
 -- number k, looked for by its bucket
+-- `!known || t`, by its two ways
+pub told_out : (known t : Bool) → known ≡ false → not known ≡ (not known || t)
+told_out known t e = subst (λ (k : Bool). not k ≡ (not k || t)) (sym e) refl
+
+pub told_in : (known r t : Bool) → known ≡ true → r ≡ t → r ≡ (not known || t)
+told_in known r t e h = subst (λ (k : Bool). r ≡ (not k || t)) (sym e) h
+
 pub next_told :
     (c seen : List ℕ) (t w k n b : ℕ) (known r : Bool) →
     Looking c seen t w k →
@@ -242,6 +250,37 @@ pub vacant_five :
     ≡ none (flat (five_at c t))
 unfolding flat
 vacant_five c t p e = rw (five_is c t p e) (sym (simp (none_append, none_window, and_true)))
+
+-- the same, as code looks at the five counts
+pub vacant_part :
+    (c : List ℕ) (t p n : ℕ) →
+    p ≡ t * window_count →
+    n ≡ window_count →
+    p + window_count ≤ length c →
+    zeros (take n (drop p c)) (length (take n (drop p c))) ≡ none (flat (five_at c t))
+unfolding every
+vacant_part c t p n e f h =
+    let l : length (take n (drop p c)) ≡ 5 = simp (length-take, length-drop) (omega arith) in
+    let at : (k : ℕ) → k < 5 → get_or (take n (drop p c)) k 0 ≡ get_or c (p + k) 0 =
+    λ k b. get_or-take n (drop p c) k 0 (omega arith) ∙ get_or-drop p c k 0 in
+    ap (λ (m : ℕ). zeros (take n (drop p c)) m) l
+    ∙ every_same (λ k. eqb (get_or (take n (drop p c)) k 0) 0) (λ k. eqb (count_at c (p + k)) 0) 5
+    (λ k b. ap (λ (m : ℕ). eqb m 0) (at k b))
+    ∙ ap (λ (m : ℕ). every 5 (λ k. eqb (count_at c (m + k)) 0)) e
+    ∙ five_zero (eqb (count_at c (t * window_count + 0)) 0) (eqb (count_at c (t * window_count + 1)) 0)
+    (eqb (count_at c (t * window_count + 2)) 0) (eqb (count_at c (t * window_count + 3)) 0) (eqb (count_at c (t * window_count + 4)) 0)
+    ∙ ap (λ (m : ℕ). eqb (count_at c m) 0
+    && (eqb (count_at c (t * window_count + 1)) 0
+    && (eqb (count_at c (t * window_count + 2)) 0 && (eqb (count_at c (t * window_count + 3)) 0 && eqb (count_at c (t * window_count + 4)) 0))))
+    (add-zero (t * window_count))
+    ∙ vacant_five c t (t * window_count) refl
+  where
+    five_zero : (a b d e f : Bool) → ((((true && a) && b) && d) && e) && f ≡ (a && (b && (d && (e && f))))
+    five_zero true true true true f = refl
+    five_zero true true true false f = refl
+    five_zero true true false e f = refl
+    five_zero true false d e f = refl
+    five_zero false b d e f = refl
 
 pub within_five :
     (c : List ℕ) (t p : ℕ) →

@@ -17,8 +17,9 @@ use Rattle.layout.proofs.RowLaws.{tab_same}
 use Rattle.layout.specs.Rows.{tab}
 use Rattle.gossip.specs.Notes.{window_count, window_most, no_store, added, moved}
 use Rattle.gossip.specs.Step.{running}
+use Rattle.gossip.specs.Cells.{Run}
 use Rattle.stores.specs.View.{all_windows, stores_cells, start_of, count_at, window_at, five_at, stores_of, store_at, Window, Store}
-use Rattle.stores.specs.View.{Windows, CopiedOn, Emptied, Changed, Shifted, MovedTo}
+use Rattle.stores.specs.View.{Windows, Changed, Shifted, MovedTo}
 use Rattle.stores.proofs.ViewLaws.{length_window, window_like, window_none, five_none, five_same, store_five}
 
 ≢-above : (p q : ℕ) → p ≤ q → q ≢ p → p + 1 ≤ q
@@ -134,24 +135,11 @@ added_cells c t n h l r =
 
 -- ---- no number
 
-pub emptied_more :
-    (c d : List ℕ) (p w : ℕ) → Emptied c d p w → p + w < length d → Emptied c (set d (p + w) 0) p (w + 1)
-emptied_more c d p w h l =
-    record {
-      size = length-set d (p + w) 0 ∙ h.size;
-      gone =
-          below_more (λ (v : ℕ). count_at (set d (p + w) 0) (p + v) ≡ 0) w
-          (λ v b. get_or-set_other d (p + w) (p + v) 0 0 (λ e. omega arith) ∙ h.gone v b)
-          (get_or-set_same d (p + w) 0 0 l);
-      before = λ i b. get_or-set_other d (p + w) i 0 0 (λ e. omega arith) ∙ h.before i b;
-      behind = λ i b. get_or-set_other d (p + w) i 0 0 (λ e. omega arith) ∙ h.behind i (omega arith);
-    }
-
 pub emptied_cells :
-    (c d : List ℕ) (t : ℕ) → Windows c → t < topic_count → Emptied c d (t * window_count) window_count → Changed c d t no_store
+    (c d : List ℕ) (t : ℕ) → Windows c → t < topic_count → Run c d (t * window_count) window_count (λ k. 0) → Changed c d t no_store
 emptied_cells c d t h l m =
     let p = t * window_count in
-    let cell : (i : ℕ) → all_windows ≤ i → get_or d i 0 ≡ get_or c i 0 = λ i b. m.behind i (omega arith) in
+    let cell : (i : ℕ) → all_windows ≤ i → get_or d i 0 ≡ get_or c i 0 = λ i b. m.after i (omega arith) in
     record {
       windows = record {
         cells = m.size ∙ h.cells;
@@ -162,11 +150,11 @@ emptied_cells c d t h l m =
             by_order (count_at d q ≤ window_most) q (p + window_count)
             (λ z.
             let e : q ≡ p + (q - p) = omega arith in
-            let n : count_at d q ≡ 0 = ap (count_at d) e ∙ m.gone (q - p) (omega arith) in
+            let n : count_at d q ≡ 0 = ap (count_at d) e ∙ m.within (q - p) (omega arith) in
             omega arith)
-            (λ z. rw (m.behind q z) (h.most q b)));
+            (λ z. rw (m.after q z) (h.most q b)));
       };
-      here = five_none d t m.gone;
+      here = five_none d t m.within;
       others = λ u b y.
           five_same c d u
           (λ w v.
@@ -175,36 +163,17 @@ emptied_cells c d t h l m =
           λ i e.
           by_order (get_or d i 0 ≡ get_or c i 0) u t
           (λ a. m.before i (omega arith))
-          (λ a. m.behind i (let a' : t + 1 ≤ u = ≢-above t u a y in omega arith)) in
+          (λ a. m.after i (let a' : t + 1 ≤ u = ≢-above t u a y in omega arith)) in
           window_like c d q q (same q refl) (λ k z. cell (start_of q + k) (omega arith)));
     }
 
 -- ---- a window in place of the one behind it
 
-pub copied_more :
-    (c d : List ℕ) (at k : ℕ) →
-    k < window_most →
-    at + window_most + k < length c →
-    CopiedOn c d at k →
-    CopiedOn c (set d (at + window_most + k) (get_or d (at + k) 0)) at (k + 1)
-copied_more c d at k l b h =
-    let v = get_or d (at + k) 0 in
-    let len : length d ≡ length c = h.size in
-    record {
-      size = length-set d (at + window_most + k) v ∙ h.size;
-      inside =
-          below_more (λ (j : ℕ). get_or (set d (at + window_most + k) v) (at + window_most + j) 0 ≡ get_or c (at + j) 0) k
-          (λ j z. get_or-set_other d (at + window_most + k) (at + window_most + j) v 0 (λ e. omega arith) ∙ h.inside j z)
-          (get_or-set_same d (at + window_most + k) v 0 (omega arith) ∙ h.before (at + k) (omega arith));
-      before = λ i z. get_or-set_other d (at + window_most + k) i v 0 (λ e. omega arith) ∙ h.before i z;
-      behind = λ i z. get_or-set_other d (at + window_most + k) i v 0 (λ e. omega arith) ∙ h.behind i (omega arith);
-    }
-
 pub shifted_cells :
     (c d : List ℕ) (p : ℕ) →
     Windows c →
     p + 1 < all_windows →
-    CopiedOn c d (start_of p) (count_at c p) →
+    Run c d (start_of p + window_most) (count_at c p) (λ k. get_or c (start_of p + k) 0) →
     Shifted c (set d (p + 1) (count_at c p)) p
 shifted_cells c d p h low m =
     let most : count_at c p ≤ window_most = h.most p (omega arith) in
@@ -229,7 +198,7 @@ shifted_cells c d p h low m =
           (window_like c e p (p + 1) count
           (λ k b.
           let z : start_of (p + 1) + k ≡ start_of p + window_most + k = omega arith in
-          cell (start_of (p + 1) + k) (λ x. omega arith) ∙ rw z (m.inside k b)));
+          cell (start_of (p + 1) + k) (λ x. omega arith) ∙ rw z (m.within k b)));
       others = λ q l y.
           let few : count_at c q ≤ window_most = h.most q l in
           window_like c e q q
@@ -238,7 +207,7 @@ shifted_cells c d p h low m =
           cell (start_of q + k) (λ z. omega arith)
           ∙ by_order (get_or d (start_of q + k) 0 ≡ get_or c (start_of q + k) 0) q (p + 1)
           (λ a. m.before (start_of q + k) (omega arith))
-          (λ a. m.behind (start_of q + k) (let a' : p + 1 + 1 ≤ q = ≢-above (p + 1) q a y in omega arith)));
+          (λ a. m.after (start_of q + k) (let a' : p + 1 + 1 ≤ q = ≢-above (p + 1) q a y in omega arith)));
     }
 
 -- ---- a new heartbeat

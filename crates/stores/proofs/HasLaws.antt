@@ -73,20 +73,6 @@ has_index n (m ∷ l) e =
     (λ t. (0, (omega arith, eqb-true m n t)))
     (λ t. let r = has_index n l (rw t at e) in let b = r.1.0 in (suc r.0, (omega arith, r.1.1)))
 
--- a search for the first index: until then the first k lack it
-pub miss_none : (n : ℕ) → has n [] ≡ false
-miss_none n = sym (has_none n)
-
-pub miss_more : (n : ℕ) (l : List ℕ) (k : ℕ)
-    → k < length l → has n (take k l) ≡ false → (get_or l k 0 ≡ n → ⊥) → has n (take (k + 1) l) ≡ false
-miss_more n l k h e d = sym (has_more n l k false h (sym e)) ∙ ne_eqb (get_or l k 0) n d
-
-pub miss_done : (n : ℕ) (l : List ℕ) (k : ℕ) → k ≤ length l → length l ≤ k → has n (take k l) ≡ false → ltb k (length l) ≡ has n l
-miss_done n l k a b e = le-ltb k (length l) b ∙ has_done n l k false b (sym e)
-
-pub found_at : (n : ℕ) (l : List ℕ) (k : ℕ) → k < length l → get_or l k 0 ≡ n → ltb k (length l) ≡ has n l
-found_at n l k h e = lt-ltb k (length l) h ∙ sym (has_at n l k h e)
-
 -- ---- some
 
 module _ (f : ℕ → Bool) where

@@ -4,40 +4,72 @@ use Prim.Native.Nat.{ℕ, ◌+◌, ◌*◌, ◌/◌, ◌%◌, ◌≤◌, ◌<◌
 use native.Mathlib.Nat.{zero-add}
 use native.Mathlib.Numerals.{add-one}
 use native.Mathlib.Omega.{arith}
-use mathlib.Core.Bool.{true, ◌&&◌}
+use Rattle.std.proofs.Common.{Option, Some, None, is_some, position}
+use Rattle.std.specs.List.{position_or_len}
+use Rattle.std.proofs.lemmas.List.Quantifiers.{position-Some}
+use Rattle.std.proofs.lemmas.List.Sums.{fails_before_first}
+use mathlib.Core.Bool.{Bool, true, false, cond, ◌&&◌, false≢true}
+use Rattle.index.proofs.Flags.{by_test, by_order}
 use mathlib.Core.List.{List, [], ◌∷◌, ◌++◌}
-use mathlib.Core.Path.{◌≡◌, sym, ap, ◌∙◌}
+use mathlib.Core.Path.{◌≡◌, sym, ap, subst, ◌∙◌}
 use lib.Bits.{bit_or, bit_and, or_add_and, and_le_l, and_le_r}
 use lib.Dec.{eqb, ltb}
 use lib.ListN.{length, get_or, set, take, length-append}
 use lib.Seq.{sets, take-suc, length-take-le}
 use borrow.Author.Count.{below_more}
-use borrow.Author.Tests.{eqb-true, ltb-true}
+use borrow.Author.Tests.{eqb-true, eqb-false, ltb-true, lt-ltb}
 use Rattle.index.proofs.Index.{both}
 use Rattle.index.proofs.Lists.{sets_append}
 use Rattle.records.specs.Records.{topic_count}
 use Rattle.gossip.specs.Notes.{window_count, window_most, has}
 use Rattle.gossip.specs.Step.{oldest_first, announced}
-use Rattle.stores.specs.View.{all_windows, place_count, start_of, count_at, window_at, store_at, stored_at, Window}
+use Rattle.stores.specs.View.{all_windows, place_count, start_of, count_at, window_at, store_at, stored_at, Window, PlaceOf}
 use Rattle.stores.proofs.ChangeLaws.{five_is}
-use Rattle.stores.proofs.HasLaws.{has_at, some_hit}
+use Rattle.stores.proofs.HasLaws.{has_at, has_index, some_hit}
 use Rattle.stores.proofs.ViewLaws.{length_window, window_get_or, store_five, stored_all}
 
 -- ---- places
 
-pub place_below :
-    {c l : List ℕ} {p : ℕ} (n r : ℕ) →
-    Window c p →
-    l ≡ window_at c p →
-    ltb r (length l) ≡ has n l →
-    has n (window_at c p) ≡ true →
-    p * window_most + r < place_count
-place_below {c} {l} {p} n r h e f g =
-    let b : r < length l = ltb-true r (length l) (f ∙ ap (has n) e ∙ g) in
-    let s : length l ≡ count_at c p = ap length e ∙ length_window c p in
+-- the place of a window's number is one of all
+pub place_below : {c : List ℕ} {p : ℕ} (r : ℕ) → Window c p → r < count_at c p → p * window_most + r < place_count
+place_below {c} {p} r h b =
     let m : count_at c p ≤ window_most = h.most in
     let w : p < all_windows = h.low in
     omega arith
+
+pub index_some : (n k : ℕ) (l : List ℕ) → position (λ m. eqb m n) l ≡ Some k → (k < length l) × (has n l ≡ true)
+index_some n k l e =
+    let q = position-Some (λ m. eqb m n) l k 0 e in
+    (q.0, has_at n l k q.0 (eqb-true (get_or l k 0) n q.1))
+
+pub index_none : (n : ℕ) (l : List ℕ) → position (λ m. eqb m n) l ≡ None → has n l ≡ false
+index_none n l e =
+    let p : ℕ → Bool = λ m. eqb m n in
+    by_test (has n l ≡ false) (has n l)
+    (λ t.
+    let h = has_index n l t in
+    by_order (has n l ≡ false) (position_or_len p l) (length l)
+    (λ a.
+    let s : is_some (position p l) ≡ true =
+    ap (λ (b : Bool). is_some (cond b (Some (position_or_len p l)) None)) (lt-ltb (position_or_len p l) (length l) a) in
+    absurd (false≢true (sym (ap (λ (r : Option ℕ). is_some r) e) ∙ s)))
+    (λ a.
+    let b = h.1.0 in
+    absurd (eqb-false (get_or l h.0 0) n (fails_before_first p l h.0 0 (omega arith)) h.1.1)))
+    (λ t. t)
+
+pub place_no : (stored : Bool) (r : Option ℕ) → r ≡ None → stored ≡ false → PlaceOf stored r
+place_no stored r e h = subst (λ (x : Option ℕ). PlaceOf stored x) (sym e) h
+
+-- whether there is a place
+pub place_is : (stored : Bool) (r : Option ℕ) → PlaceOf stored r → is_some r ≡ stored
+place_is stored (Some p) h = sym h.0
+place_is stored None h = sym h
+
+-- what a search of a part of all tells, where the part has the number
+pub place_out : (here all : Bool) (r : Option ℕ) → here ≡ true → all ≡ true → PlaceOf here r → PlaceOf all r
+place_out here all (Some p) e f h = (f, h.1)
+place_out here all None e f h = let z : false ≡ true = sym h ∙ e in absurd (false≢true z)
 
 -- a number at a place in use
 pub stored_here :
@@ -57,33 +89,7 @@ stored_here c place n count l e t =
     (has_at n (window_at c p) k (rw length_window b)
     (window_get_or c p k b ∙ ap (λ (i : ℕ). get_or c i 0) z ∙ eqb-true (get_or c (all_windows + place) 0) n q.1))
 
--- ---- a quiet region
-
-pub quiet_more :
-    (c : List ℕ) (bits p : ℕ) →
-    (bits ≡ 0 → (q : ℕ) → q < p → count_at c q ≡ 0) →
-    bit_or bits (count_at c p) ≡ 0 →
-    (q : ℕ) →
-    q < p + 1 →
-    count_at c q ≡ 0
-quiet_more c bits p h e =
-    let x = count_at c p in
-    let s : bit_or bits x + bit_and bits x ≡ bits + x = or_add_and bits x in
-    let a : bit_and bits x ≤ bits = and_le_l bits x in
-    let b : bit_and bits x ≤ x = and_le_r bits x in
-    below_more (λ (q : ℕ). count_at c q ≡ 0) p (h (omega arith)) (omega arith)
-
--- ---- a list that another goes into
-
-pub sets_more :
-    (l m from : List ℕ) (at k : ℕ) →
-    k < length from →
-    k ≤ length from →
-    m ≡ sets l at (take k from) →
-    set m (at + k) (get_or from k 0) ≡ sets l at (take (k + 1) from)
-sets_more l m from at k h b e =
-    let s : length (take k from) ≡ k = length-take-le k from b in
-    rw (e, add-one, take-suc from k 0 h, sets_append l at (take k from) (get_or from k 0 ∷ []), s)
+-- ---- a list that others go into
 
 pub announced_lists :
     (c : List ℕ) (t p : ℕ) (l l₁ l₂ l₃ : List ℕ) (a b r : ℕ) →

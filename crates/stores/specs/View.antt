@@ -1,6 +1,6 @@
 -- How cells hold the stores of the topics: a count for each window, then 64 cells for its numbers. Window w of topic t, a heartbeat's
 -- numbers, is window t * 5 + w of all. Cells from a window's count on are read by no view.
-use Rattle.std.specs.Prelude.{ℕ, ◌+◌, ◌*◌, ◌≤◌, ◌<◌, ◌≡◌, ◌≢◌, Bool, List, length, get_or}
+use Rattle.std.specs.Prelude.{ℕ, ◌+◌, ◌*◌, ◌≤◌, ◌<◌, ◌≡◌, ◌≢◌, Bool, true, false, Option, Some, None, List, length, get_or}
 use Rattle.records.specs.Records.{topic_count}
 use Rattle.layout.specs.Rows.{tab}
 use Rattle.gossip.specs.Notes.{window_count, window_most, no_store, stored_in, some, moved}
@@ -60,25 +60,16 @@ pub record Windows (c : List ℕ) : Type 0 where
 
 -- ---- what they do
 
+-- the place of a number, where it is stored
+abbrev pub PlaceOf : Bool → Option ℕ → Type 0
+PlaceOf stored None = stored ≡ false
+PlaceOf stored (Some place) = (stored ≡ true) × (place < place_count)
+
 -- d is c with the windows of topic t replaced by s
 pub record Changed (c d : List ℕ) (t : ℕ) (s : List (List ℕ)) : Type 0 where
   pub windows : Windows d
   pub here : five_at d t ≡ s
   pub others : (u : ℕ) → u < topic_count → u ≢ t → five_at d u ≡ five_at c u
-
--- d is c with the n cells from `at` on copied, so far on as a window goes
-pub record CopiedOn (c d : List ℕ) (at n : ℕ) : Type 0 where
-  pub size : length d ≡ length c
-  pub inside : (k : ℕ) → k < n → get_or d (at + window_most + k) 0 ≡ get_or c (at + k) 0
-  pub before : (i : ℕ) → i < at + window_most → get_or d i 0 ≡ get_or c i 0
-  pub behind : (i : ℕ) → at + window_most + n ≤ i → get_or d i 0 ≡ get_or c i 0
-
--- d is c with w counts from p on gone
-pub record Emptied (c d : List ℕ) (p w : ℕ) : Type 0 where
-  pub size : length d ≡ length c
-  pub gone : (v : ℕ) → v < w → count_at d (p + v) ≡ 0
-  pub before : (i : ℕ) → i < p → get_or d i 0 ≡ get_or c i 0
-  pub behind : (i : ℕ) → p + w ≤ i → get_or d i 0 ≡ get_or c i 0
 
 -- d is c with window p in place of the one behind it
 pub record Shifted (c d : List ℕ) (p : ℕ) : Type 0 where

@@ -2,14 +2,15 @@
 // last five heartbeats, the running one first, a window: a count, and cells for at most 64 numbers in the order of storing.
 #![tactic(auto)]
 
-ghost use Rattle.std.specs.Prelude.{◌≡◌, true, map, ◌+◌, ◌≤◌, ◌<◌, ltb, length, get_or, set, replicate};
+ghost use Rattle.std.specs.Prelude.{◌≡◌, true, map, ◌+◌, ◌≤◌, ◌<◌, eqb, ltb, length, get_or, set, replicate, position};
 ghost use Rattle.std.proofs.lemmas.List.Edits.{sets};
 ghost use Rattle.records.specs.Records.{topic_count};
 ghost use Rattle.gossip.specs.Notes.{no_store, has, stored_in, moved, added, window_most, numbers_most};
 ghost use Rattle.gossip.specs.Step.{running, announced};
 ghost use Rattle.stores.specs.View.{all_windows, place_count, stores_cells, start_of, count_at, window_at, five_at, stores_of, store_at};
-ghost use Rattle.stores.specs.View.{stored_at, Window, Store, Windows, CopiedOn, Changed, Shifted};
+ghost use Rattle.stores.specs.View.{stored_at, Window, Store, Windows, PlaceOf, Changed, Shifted};
 
+use gossip::cells::{are_zero, copy_within};
 use records::TOPICS;
 
 pub mod valid;
@@ -51,17 +52,6 @@ fn number(cells: &[u64], p: usize, k: usize) -> u64
     cells[start(p) + k]
 }
 
-// Whether a list has a number. It goes to the end, so that no look waits for the one before.
-fn is_in(list: &[u64], n: u64) -> bool
-    ensures { result ≡ has n list.now }
-{
-    let mut found = false;
-    for k in 0..list.len() {
-        found = found | (list[k] == n);
-    }
-    found
-}
-
 // Whether a window has it.
 fn is_in_window(cells: &[u64], p: usize, n: u64) -> bool
     requires { Window cells.now p }
@@ -69,31 +59,25 @@ fn is_in_window(cells: &[u64], p: usize, n: u64) -> bool
 {
     let at = start(p);
     let end = at + size(cells, p);
-    is_in(&cells[at..end], n)
+    cells[at..end].contains(&n)
 }
 
-// Where a list has a number first; its length, if it has it not.
-fn index_in(list: &[u64], n: u64) -> usize
-    ensures { (result ≤ length list.now) × (ltb result (length list.now) ≡ has n list.now) }
+// Where a list has a number first.
+fn index_in(list: &[u64], n: u64) -> Option<usize>
+    ensures { result ≡ position (λ m. eqb m n) list.now }
 {
-    let mut k: usize = 0;
-    while k < list.len() {
-        if list[k] == n {
-            return k;
-        }
-        k += 1;
-    }
-    k
+    list.iter().position(|&m| m == n)
 }
 
-// The place of a number that a window has.
-fn place_in(cells: &[u64], p: usize, n: u64) -> usize
-    requires { Window cells.now p × (has n (window_at cells.now p) ≡ true) }
-    ensures { result < place_count }
+// The place of a number in a window.
+fn place_in(cells: &[u64], p: usize, n: u64) -> Option<usize>
+    requires { Window cells.now p }
+    ensures { PlaceOf (has n (window_at cells.now p)) result }
 {
     let at = start(p);
     let end = at + size(cells, p);
-    p * WINDOW_MOST + index_in(&cells[at..end], n)
+    let k = index_in(&cells[at..end], n)?;
+    Some(p * WINDOW_MOST + k)
 }
 
 // No number in any topic.
@@ -101,21 +85,15 @@ pub fn make(cells: &mut [u64])
     requires { length cells.old ≡ stores_cells }
     ensures { (stores_of cells.new ≡ replicate topic_count no_store) × Windows cells.new }
 {
-    for p in 0..ALL_WINDOWS {
-        cells[p] = 0;
-    }
+    cells[..ALL_WINDOWS].fill(0);
 }
 
-// Whether no topic stores a number: no count has a bit.
+// Whether no topic stores a number: each count is 0.
 pub fn is_quiet(cells: &[u64]) -> bool
     requires { length cells.now ≡ stores_cells }
     ensures { result ≡ true → stores_of cells.now ≡ replicate topic_count no_store }
 {
-    let mut bits: u64 = 0;
-    for p in 0..ALL_WINDOWS {
-        bits = bits | cells[p];
-    }
-    bits == 0
+    are_zero(&cells[..ALL_WINDOWS])
 }
 
 // Whether a topic stores a number.
@@ -131,17 +109,17 @@ pub fn is_stored_in(cells: &[u64], t: usize, n: u64) -> bool
     false
 }
 
-// The place of a number that some topic stores; else PLACES.
-pub fn find(cells: &[u64], n: u64) -> usize
+// The place of a number that some topic stores. No map finds it, since the router has no heap.
+pub fn find(cells: &[u64], n: u64) -> Option<usize>
     requires { Windows cells.now }
-    ensures { (result ≤ place_count) × (ltb result place_count ≡ stored_at cells.now n) }
+    ensures { PlaceOf (stored_at cells.now n) result }
 {
     for p in 0..ALL_WINDOWS {
         if is_in_window(cells, p, n) {
             return place_in(cells, p, n);
         }
     }
-    PLACES
+    None
 }
 
 // Whether a number stands at a place that is in use.
@@ -178,10 +156,7 @@ pub fn is_stored_at(cells: &[u64], place: u64, n: u64) -> bool
     requires { Windows cells.now }
     ensures { result ≡ stored_at cells.now n }
 {
-    if is_near(cells, place, n) {
-        return true;
-    }
-    find(cells, n) < PLACES
+    is_near(cells, place, n) || find(cells, n).is_some()
 }
 
 // Whether the running heartbeat's window has room.
@@ -211,19 +186,7 @@ pub fn empty(cells: &mut [u64], t: usize)
     ensures { (stores_of cells.new ≡ set (stores_of cells.old) t no_store) × Windows cells.new }
 {
     let p = t * WINDOWS;
-    for w in 0..WINDOWS {
-        cells[p + w] = 0;
-    }
-}
-
-// The n cells from `at` on are copied as far on as a window goes.
-fn copy_on(cells: &mut [u64], at: usize, n: usize)
-    requires { (n ≤ window_most) × (at + window_most + n ≤ length cells.old) }
-    ensures { CopiedOn cells.old cells.new at n }
-{
-    for k in 0..n {
-        cells[at + WINDOW_MOST + k] = cells[at + k];
-    }
+    cells[p..p + WINDOWS].fill(0);
 }
 
 // A window takes the place of the one behind it.
@@ -232,7 +195,8 @@ fn shift(cells: &mut [u64], p: usize)
     ensures { Shifted cells.old cells.new p }
 {
     let n = size(cells, p);
-    copy_on(cells, start(p), n);
+    let at = start(p);
+    copy_within(cells, at, at + WINDOW_MOST, n);
     cells[p + 1] = n as u64;
 }
 
@@ -259,17 +223,7 @@ pub fn move_on(cells: &mut [u64])
     }
 }
 
-// A list's numbers go into another from `at` on.
-fn copy_to(list: &mut [u64], at: usize, from: &[u64])
-    requires { at + length from.now ≤ length list.old }
-    ensures { list.new ≡ sets list.old at from.now }
-{
-    for k in 0..from.len() {
-        list[at + k] = from[k];
-    }
-}
-
-// So do a window's; where the list ends then.
+// A window's numbers go into a list from `at` on; where they end there.
 fn append(cells: &[u64], p: usize, list: &mut [u64], at: usize) -> usize
     requires { Window cells.now p × (at + window_most ≤ length list.old) }
     ensures { (list.new ≡ sets list.old at (window_at cells.now p))
@@ -278,7 +232,7 @@ fn append(cells: &[u64], p: usize, list: &mut [u64], at: usize) -> usize
     let from = start(p);
     let n = size(cells, p);
     let end = from + n;
-    copy_to(list, at, &cells[from..end]);
+    list[at..at + n].copy_from_slice(&cells[from..end]);
     at + n
 }
 

@@ -1,13 +1,14 @@
 // Test 12 of a topic's store: at most 64 numbers a heartbeat, none twice, none at all in a topic that is not joined. A number is compared
 // with those before it only where one of them fell into the same bucket.
-ghost use Rattle.std.specs.Prelude.{◌≡◌, true, not, ◌||◌, ◌+◌, ◌*◌, ◌≤◌, ◌<◌, length, get_or};
+ghost use Rattle.std.specs.Prelude.{◌≡◌, true, not, ◌+◌, ◌*◌, ◌≤◌, ◌<◌, length, get_or};
 ghost use Rattle.records.specs.Records.{topic_count};
 ghost use Rattle.gossip.specs.Notes.{has, window_count};
 ghost use Rattle.gossip.specs.Valid.{all, none, flat, apart, window_ok, store_ok};
 ghost use Rattle.stores.specs.View.{stores_cells, count_at, five_at, store_at, Store};
 ghost use Rattle.stores.specs.Marks.{windows_of, before, up_to, Seen, Looking, Walking};
 
-use crate::{WINDOW_MOST, WINDOWS, is_in, is_in_window, number, size, start};
+use crate::{WINDOW_MOST, WINDOWS, is_in_window, number, size, start};
+use gossip::cells::are_zero;
 use marks::{WORDS, bucket, is_marked, mark};
 
 // Whether no window of a topic has a number.
@@ -16,9 +17,7 @@ fn is_vacant(cells: &[u64], t: usize) -> bool
     ensures { result ≡ none (flat (five_at cells.now t)) }
 {
     let p = t * WINDOWS;
-    (cells[p] == 0)
-        & ((cells[p + 1] == 0)
-            & ((cells[p + 2] == 0) & ((cells[p + 3] == 0) & (cells[p + 4] == 0))))
+    are_zero(&cells[p..p + WINDOWS])
 }
 
 // Whether none has too many.
@@ -45,18 +44,7 @@ fn is_earlier(cells: &[u64], t: usize, w: usize, k: usize, n: u64) -> bool
     }
     let at = start(t * WINDOWS + w);
     let end = at + k;
-    is_in(&cells[at..end], n)
-}
-
-// Whether it is not, asked only where its bucket is known.
-fn is_new(known: bool, cells: &[u64], t: usize, w: usize, k: usize, n: u64) -> bool
-    requires { Store cells.now t × ((w < window_count) × (k ≤ count_at cells.now (t * window_count + w))) }
-    ensures { result ≡ (not known || not (has n (up_to cells.now t w k))) }
-{
-    if !known {
-        return true;
-    }
-    !is_earlier(cells, t, w, k, n)
+    cells[at..end].contains(&n)
 }
 
 // Whether number k of window w is not among those before it, which have marked their buckets; then it has marked its own.
@@ -69,7 +57,7 @@ fn next_new(cells: &[u64], seen: &mut [u64; WORDS], t: usize, w: usize, k: usize
     let b = bucket(n);
     let known = is_marked(seen, b);
     mark(seen, b);
-    is_new(known, cells, t, w, k, n)
+    !known || !is_earlier(cells, t, w, k, n)
 }
 
 // Whether a window's numbers are apart from each other and from those of the windows before it.

@@ -11,7 +11,7 @@ ghost use Rattle.stores.specs.Marks.{Seen, Given, Flags, Next};
 
 use crate::{ALL_WINDOWS, number, size};
 use marks::{WORDS, bucket, is_marked, mark};
-use sorting::{copy, place_of, sort};
+use sorting::{place_of, sort};
 
 // How many numbers are given at most.
 const GIVEN: usize = 192;
@@ -21,9 +21,8 @@ fn sort_given(numbers: &[u64], rising: &mut [u64])
     requires { (length numbers.now ≤ numbers_most) × (length rising.old ≡ length numbers.now) }
     ensures { rising.new ≡ sorted numbers.now }
 {
-    let mut spare = [0u64; GIVEN];
-    copy(numbers, rising);
-    sort(rising, &mut spare);
+    rising.copy_from_slice(numbers);
+    sort(rising);
 }
 
 // Marks the buckets of a list's numbers.
@@ -31,8 +30,8 @@ fn mark_all(numbers: &[u64], seen: &mut [u64; WORDS])
     requires { Seen [] seen.old }
     ensures { Seen numbers.now seen.new }
 {
-    for k in 0..numbers.len() {
-        mark(seen, bucket(numbers[k]));
+    for &n in numbers {
+        mark(seen, bucket(n));
     }
 }
 
@@ -45,7 +44,7 @@ fn flag(rising: &[u64], m: u64, known: &mut [bool; GIVEN])
     if at == rising.len() {
         return;
     }
-    known[at] = known[at] | (m == rising[at]);
+    known[at] |= m == rising[at];
 }
 
 // The same, where m's bucket is one of theirs: else it is none of them.
@@ -119,8 +118,8 @@ fn want_by(cells: &[u64], numbers: &[u64], rising: &mut [u64], list: &mut [u64])
     let mut known = [false; GIVEN];
     flag_stored(cells, rising, &mut known);
     let mut size: usize = 0;
-    for i in 0..numbers.len() {
-        size = next_want(rising, numbers[i], &mut known, list, size);
+    for &n in numbers {
+        size = next_want(rising, n, &mut known, list, size);
     }
     size
 }

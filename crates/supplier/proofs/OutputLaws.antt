@@ -24,9 +24,8 @@ use Rattle.params.specs.Check.{first_broken}
 use Rattle.params.specs.declared.Edition.{Edition}
 use Rattle.params.specs.declared.Edition.TheVariants.{First, Second}
 use Rattle.params.specs.declared.Params.{Params}
-use Rattle.params_bytes.specs.Read.{read_of, refusal}
+use Rattle.params_bytes.specs.Read.{Reading, read_of, refusal}
 use Rattle.params_bytes.specs.Write.{room_for, form_of, write_by, write_of}
-use Rattle.params_bytes.specs.declared.Reading.{Reading}
 use Rattle.params_bytes.proofs.RoundTrip.{form_most}
 use Rattle.supplier_params.specs.Forms.{supplier_bytes}
 use Rattle.supplier_params.specs.Import.{import_of}
@@ -72,8 +71,7 @@ bytes_by None bytes buf = sets buf 0 bytes
 
 abbrev pub length_of : Result ℕ WriteError → ℕ
 length_of (Ok n) = n
-length_of (Err Short) = 0
-length_of (Err (Outside i)) = 0
+length_of (Err e) = 0
 
 pub written_stored :
     (f : Option ℕ) (bytes buf out : List ℕ) (r v : Result ℕ WriteError) → r ≡ answer_by f (length bytes) → out ≡ bytes_by f bytes buf → r ≡ v →

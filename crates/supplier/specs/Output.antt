@@ -8,9 +8,8 @@ use Rattle.index.specs.Index.{gather}
 use Rattle.text.specs.Text.{decimal}
 use Rattle.param_text.specs.Lines.{head_text, numbers_text}
 use Rattle.params.specs.Check.{first_broken}
-use Rattle.params_bytes.specs.Read.{read_of}
+use Rattle.params_bytes.specs.Read.{Reading, read_of}
 use Rattle.params_bytes.specs.Write.{form_of}
-use Rattle.params_bytes.specs.declared.Reading.{Reading}
 use Rattle.supplier_params.specs.Forms.{supplier_bytes}
 use Rattle.supplier_params.specs.Import.{import_of, entry_at}
 use Rattle.supplier_params.specs.Export.{broken_first, bytes_of}
@@ -66,8 +65,7 @@ unless None bytes = bytes
 
 abbrev pub allowed : Result ℕ ReadError → Option ℕ → List ℕ → List ℕ
 allowed (Ok n) f bytes = unless f bytes
-allowed (Err (Malformed place)) f bytes = []
-allowed (Err (Broken i)) f bytes = []
+allowed (Err e) f bytes = []
 
 unfoldable pub import_bytes : Reading → List ℕ
 import_bytes r = allowed r.verdict (first_broken r.params) (form_of r.params)

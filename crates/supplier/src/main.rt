@@ -100,14 +100,10 @@ fn put_import(buf: &mut [u8], bytes: &[u8]) -> usize
     requires { 4096 ≤ length buf.old }
     ensures { Stored buf.old 0 (import_text (import_of bytes.now)) result buf.new × (result ≤ 4096) }
 {
-    let reading = supplier_params::import(bytes);
-    let verdict = reading.verdict;
-    match verdict {
-        Ok(n) => {
+    match supplier_params::import(bytes) {
+        Ok((all, _)) => {
             let at = put_done(buf);
-            let all = reading.params;
-            let numbers = all.numbers;
-            param_text::put_numbers(buf, at, numbers)
+            param_text::put_numbers(buf, at, all.numbers)
         }
         Err(ReadError::Malformed(place)) => param_text::put_head(buf, 10, place),
         Err(ReadError::Broken(i)) => param_text::put_head(buf, 9, i),
@@ -135,11 +131,8 @@ fn put_export(buf: &mut [u8], page: &mut [u8], bytes: &[u8]) -> usize
     requires { (4096 ≤ length buf.old) × (supplier_bytes ≤ length page.old) }
     ensures { Stored buf.old 0 (export_text (read_of bytes.now)) result buf.new × (result ≤ 4096) }
 {
-    let reading = params_bytes::read(bytes);
-    let all = reading.params;
-    let verdict = reading.verdict;
-    match verdict {
-        Ok(n) => put_exported(buf, page, all),
+    match params_bytes::read(bytes) {
+        Ok((all, _)) => put_exported(buf, page, all),
         Err(ReadError::Malformed(place)) => param_text::put_head(buf, 10, place),
         Err(ReadError::Broken(i)) => param_text::put_head(buf, 9, i),
     }
@@ -153,8 +146,7 @@ fn write_own(buf: &mut [u8], all: Params) -> usize
 {
     match params_bytes::write(all, buf) {
         Ok(n) => n,
-        Err(WriteError::Short) => 0,
-        Err(WriteError::Outside(i)) => 0,
+        Err(_) => 0,
     }
 }
 
@@ -166,8 +158,7 @@ fn write_theirs(buf: &mut [u8], all: Params) -> usize
 {
     match supplier_params::export(all, buf) {
         Ok(n) => n,
-        Err(WriteError::Short) => 0,
-        Err(WriteError::Outside(i)) => 0,
+        Err(_) => 0,
     }
 }
 
@@ -176,13 +167,9 @@ fn write_import(buf: &mut [u8], bytes: &[u8]) -> usize
     requires { 4096 ≤ length buf.old }
     ensures { Stored buf.old 0 (import_bytes (import_of bytes.now)) result buf.new × (result ≤ 4096) }
 {
-    let reading = supplier_params::import(bytes);
-    let all = reading.params;
-    let verdict = reading.verdict;
-    match verdict {
-        Ok(n) => write_own(buf, all),
-        Err(ReadError::Malformed(place)) => 0,
-        Err(ReadError::Broken(i)) => 0,
+    match supplier_params::import(bytes) {
+        Ok((all, _)) => write_own(buf, all),
+        Err(_) => 0,
     }
 }
 
@@ -191,13 +178,9 @@ fn write_export(buf: &mut [u8], bytes: &[u8]) -> usize
     requires { 4096 ≤ length buf.old }
     ensures { Stored buf.old 0 (export_bytes (read_of bytes.now)) result buf.new × (result ≤ 4096) }
 {
-    let reading = params_bytes::read(bytes);
-    let all = reading.params;
-    let verdict = reading.verdict;
-    match verdict {
-        Ok(n) => write_theirs(buf, all),
-        Err(ReadError::Malformed(place)) => 0,
-        Err(ReadError::Broken(i)) => 0,
+    match params_bytes::read(bytes) {
+        Ok((all, _)) => write_theirs(buf, all),
+        Err(_) => 0,
     }
 }
 

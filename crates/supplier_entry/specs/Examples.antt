@@ -1,6 +1,6 @@
 -- Worked examples of 02, order 12: what the definitions give for some entries. To be changed with 02's text alone.
 use Rattle.std.specs.Prelude.{Option, Some, None}
-use Rattle.std.specs.Prelude.{ℕ, ◌≡◌, pos}
+use Rattle.std.specs.Prelude.{ℕ, ◌≡◌, ℤ, pos}
 use Rattle.limits.specs.Limits.{to, minus}
 use Rattle.supplier_entry.specs.Factor.{factor_bits}
 use Rattle.supplier_entry.specs.Entries.{factor_kind, whole_kind, span_kind, import_of, content_of}

@@ -1,14 +1,13 @@
 -- Laws of the import: what is known after i entries, and the ends of `number_at`, `entries` and `import`.
 -- Assumes nothing.
-use Rattle.std.proofs.Common.{Some}
-use Rattle.std.proofs.Common.{Option, None, Err}
+use Rattle.std.proofs.Common.{Option, Some, None, Result, Ok, Err}
+use Rattle.params_bytes.specs.declared.ReadError.{ReadError}
 use Rattle.params_bytes.specs.declared.ReadError.TheVariants.{Malformed}
-use Rattle.index.proofs.Kit.{ℕ, ◌+◌, ◌*◌, ◌<◌, ◌≤◌, ◌≡◌, sym, ap, ◌∙◌, Bool, true, false, not, arith, first, gather, first_none, first_more}
+use Rattle.index.proofs.Kit.{ℕ, ◌+◌, ◌*◌, ◌<◌, ◌≤◌, ◌≡◌, sym, ap, ◌∙◌, Bool, true, false, arith, first, gather, first_none, first_more}
 use Rattle.index.proofs.Kit.{first_hit, first_done}
-use mathlib.Core.Bool.{cond}
 use mathlib.Core.List.{List, ◌++◌}
 use native.Mathlib.Numerals.{add-one}
-use borrow.Author.Tests.{eq-eqb, ne_eqb, not-true, not-false}
+use borrow.Author.Tests.{eq-eqb, ne_eqb}
 use lib.IntN.{ℤ}
 use lib.ListN.{length, get_or, set, take, drop, length-set}
 use lib.Seq.{take-suc-set, take_all}
@@ -16,20 +15,18 @@ use Rattle.records.specs.Records.{param_count}
 use Rattle.index.proofs.Index.{gather_none, gather_more}
 use Rattle.limits.specs.Limits.{field_of, limit_at}
 use Rattle.params.specs.Editions.{sheet}
+use Rattle.params.specs.declared.Params.{Params}
 use Rattle.params.specs.declared.Edition.TheVariants.{First}
 use Rattle.params.specs.Check.{first_broken}
-use Rattle.params_bytes.specs.Read.{refusal, judged_by}
+use Rattle.params_bytes.specs.Read.{told, judged_by}
 use Rattle.limits.specs.declared.Limit.{Limit}
-use Rattle.params_bytes.specs.declared.Reading.{Reading}
-use Rattle.params_bytes.specs.declared.Verdict.TheVariants as verdict
 use Rattle.supplier_entry.specs.declared.Form.{Form}
 use Rattle.supplier_entry.specs.Bytes.{low_first}
 use Rattle.supplier_entry.specs.Entries as entry
 use Rattle.supplier_entry.proofs.ByteLaws.{take_one}
 use Rattle.supplier_params.specs.Forms.{supplier_bytes, form_at}
 use Rattle.supplier_params.specs.Import.{entry_at, number_at, is_broken, value, broken_at, value_at, numbers, broken, outcome_by, entries_of}
-use Rattle.supplier_params.specs.Import.{outcome, judged, import_of}
-use Rattle.supplier_params.specs.declared.Parsed.{Parsed}
+use Rattle.supplier_params.specs.Import.{Outcome, Gives, judged, import_of}
 
 -- ---- one entry
 pub number_is :
@@ -77,20 +74,20 @@ taken_all s i xs h t =
     rw (first_done (broken_at s) param_count i t.most h t.whole) (ap numbers (sym (take_all param_count xs (omega (arith, t.len))) ∙ f))
 
 -- ---- the ends of `import`
-module _ (s : List ℕ) (r : Reading) where
-  pub import_length : (length s ≡ supplier_bytes → ⊥) → r ≡ refusal (Err (Malformed (length s))) → r ≡ import_of s
+module _ (s : List ℕ) where
+  pub import_length : (length s ≡ supplier_bytes → ⊥) → Err (Malformed (length s)) ≡ told (import_of s)
   unfolding import_of
-  import_length n q = q ∙ rw (ne_eqb (length s) supplier_bytes n)
+  import_length n = rw (ne_eqb (length s) supplier_bytes n)
 
-  module _ (p : Parsed) (l : length s ≡ supplier_bytes) (e : outcome p ≡ entries_of s) where
-    taken : judged (outcome p) ≡ import_of s
+  module _ (xs : List ℤ) (l : length s ≡ supplier_bytes) where
+    taken : judged (entries_of s) ≡ import_of s
     unfolding import_of
-    taken = ap judged e ∙ rw (eq-eqb (length s) supplier_bytes l)
+    taken = rw (eq-eqb (length s) supplier_bytes l)
 
-    pub import_broken : not p.ok ≡ true → r ≡ refusal (verdict.Broken p.place) → r ≡ import_of s
-    import_broken t q = q ∙ ap (λ (b : Bool). judged (cond b (numbers p.numbers) (broken p.place))) (sym (not-true p.ok t)) ∙ taken
+    pub import_broken : (e : ReadError) → Gives (Err e) xs (entries_of s) → Err e ≡ told (import_of s)
+    import_broken e g = rw g.1.0 (ap (λ (o : Outcome). told (judged o)) g.1.1 ∙ ap told taken)
 
-    pub import_judged : not p.ok ≡ false → r
-        ≡ judged_by (first_broken (sheet First p.numbers)) (sheet First p.numbers) supplier_bytes → r ≡ import_of s
-    import_judged t q =
-        q ∙ ap (λ (b : Bool). judged (cond b (numbers p.numbers) (broken p.place))) (sym (not-false p.ok t)) ∙ taken
+    pub import_judged :
+        (r : Result (Params × ℕ) ReadError) → numbers xs ≡ entries_of s →
+        r ≡ told (judged_by (first_broken (sheet First xs)) (sheet First xs) supplier_bytes) → r ≡ told (import_of s)
+    import_judged r g q = q ∙ ap (λ (o : Outcome). told (judged o)) g ∙ ap told taken

@@ -1,23 +1,21 @@
 -- Importing the other supplier's parameters (02, order 12): "A length other than 1323 bytes is 10 at the length; then a wrong kind or
 -- broken entry is 9 with the first such index; then 01's tests apply."
-use Rattle.std.specs.Prelude.{Option, Some, None, Err}
-use Rattle.params_bytes.specs.declared.ReadError.TheVariants.{Malformed}
-use Rattle.std.specs.Prelude.{ℕ, ◌*◌, Bool, true, false, cond, List, [], ◌∷◌, eqb, length, take, drop, ℤ}
+use Rattle.std.specs.Prelude.{Option, Some, None, Result, Ok, Err}
+use Rattle.params_bytes.specs.declared.ReadError.{ReadError}
+use Rattle.params_bytes.specs.declared.ReadError.TheVariants.{Broken, Malformed}
+use Rattle.std.specs.Prelude.{◌≡◌, ℕ, ◌*◌, Bool, true, false, cond, List, [], ◌∷◌, eqb, length, take, drop, ℤ}
 use Rattle.index.specs.Index.{first, gather}
 use Rattle.records.specs.Records.{param_count}
 use Rattle.limits.specs.Limits.{field_of, limit_at}
 use Rattle.params.specs.Editions.{sheet}
 use Rattle.params.specs.declared.Edition.TheVariants.{First}
 use Rattle.params.specs.Check.{first_broken}
-use Rattle.params_bytes.specs.Read.{refusal, judged_by}
+use Rattle.params_bytes.specs.Read.{Reading, refusal, judged_by}
 use Rattle.limits.specs.declared.Limit.{Limit}
-use Rattle.params_bytes.specs.declared.Reading.{Reading}
-use Rattle.params_bytes.specs.declared.Verdict.TheVariants as verdict
 use Rattle.supplier_entry.specs.declared.Form.{Form}
 use Rattle.supplier_entry.specs.Bytes.{low_first}
 use Rattle.supplier_entry.specs.Entries as entries
 use Rattle.supplier_params.specs.Forms.{supplier_bytes, form_at}
-use Rattle.supplier_params.specs.declared.Parsed.{Parsed}
 
 -- "nine bytes each"
 unfoldable pub entry_at : List ℕ → ℕ → List ℕ
@@ -58,13 +56,15 @@ outcome_by None xs = numbers xs
 unfoldable pub entries_of : List ℕ → Outcome
 entries_of s = outcome_by (first param_count (broken_at s)) (gather param_count (value_at s))
 
-abbrev pub outcome : Parsed → Outcome
-outcome r = cond r.ok (numbers r.numbers) (broken r.place)
+-- what a reader of the entries answers, where their numbers stand in xs
+abbrev pub Gives : Result (Unit {0}) ReadError → List ℤ → Outcome → Type 0
+Gives (Ok t) xs o = numbers xs ≡ o
+Gives (Err e) xs o = (i : ℕ) × ((e ≡ Broken i) × (broken i ≡ o))
 
 -- "then 01's tests apply"; by 02, order 14, "order 12 stays edition 1"
 abbrev pub judged : Outcome → Reading
 judged (numbers xs) = judged_by (first_broken (sheet First xs)) (sheet First xs) supplier_bytes
-judged (broken i) = refusal (verdict.Broken i)
+judged (broken i) = refusal (Err (Broken i))
 
 -- "A length other than 1323 bytes is 10 at the length"
 unfoldable pub import_of : List ℕ → Reading

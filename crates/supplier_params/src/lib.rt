@@ -8,12 +8,13 @@ ghost use Rattle.std.proofs.lemmas.List.Edits.{sets};
 ghost use Rattle.records.specs.Records.{param_count};
 ghost use Rattle.limits.specs.Limits.{field_of, in_limits};
 ghost use Rattle.supplier_params.specs.Forms.{supplier_bytes, form_at};
-ghost use Rattle.supplier_params.specs.Import.{number_at, entries_of, outcome, import_of};
+ghost use Rattle.supplier_params.specs.Import.{number_at, entries_of, Gives, import_of};
+ghost use Rattle.params_bytes.specs.Read.{told};
 ghost use Rattle.supplier_params.specs.Export.{bytes_of, export_of};
 
 use limits::{FIELDS, GENERAL, NUMBERS, OF_TOPIC};
 use params::{Edition, Params};
-use params_bytes::{ReadError, Reading, WriteError};
+use params_bytes::{ReadError, WriteError};
 use supplier_entry::Form;
 
 // How many bytes the parameters take: 147 entries of nine.
@@ -82,14 +83,6 @@ const FORMS: [Form; FIELDS] = [
     FACTOR,
 ];
 
-// Numbers as the entries give them, before they are checked together: all of them, or the index of the first broken entry.
-#[derive(Clone, Copy)]
-struct Parsed {
-    ok: bool,
-    place: usize,
-    numbers: [i64; NUMBERS],
-}
-
 // The form of number i.
 fn form_of(i: usize) -> Form
     requires { i < param_count }
@@ -113,45 +106,30 @@ fn number_at(s: &[u8], i: usize) -> Option<i64>
     supplier_entry::import(kind, u, form_of(i), limits::limit_of(i))
 }
 
-// The numbers of all entries.
-fn entries(s: &[u8]) -> Parsed
+// The numbers of all entries, in a lent array.
+fn entries(s: &[u8], numbers: &mut [i64; NUMBERS]) -> Result<(), ReadError>
     requires { length s.now ≡ supplier_bytes }
-    ensures { outcome result ≡ entries_of s.now }
+    ensures { Gives result numbers.new (entries_of s.now) }
 {
-    let mut numbers = [0i64; NUMBERS];
-    let mut i: usize = 0;
-    while i < NUMBERS {
+    for i in 0..NUMBERS {
         let Some(n) = number_at(s, i) else {
-            return Parsed {
-                ok: false,
-                place: i,
-                numbers,
-            };
+            return Err(ReadError::Broken(i));
         };
         numbers[i] = n;
-        i += 1;
     }
-    Parsed {
-        ok: true,
-        place: i,
-        numbers,
-    }
+    Ok(())
 }
 
-// The parameters that the supplier's bytes stand for, or why there are none.
-pub fn import(s: &[u8]) -> Reading
-    ensures { result ≡ import_of s.now }
+// The parameters that the supplier's bytes stand for and the bytes' length, or why there are none.
+pub fn import(s: &[u8]) -> Result<(Params, usize), ReadError>
+    ensures { result ≡ told (import_of s.now) }
 {
     let n = s.len();
     if n != BYTES {
-        return params_bytes::refused(Err(ReadError::Malformed(n)));
+        return Err(ReadError::Malformed(n));
     }
-    let all = entries(s);
-    let place = all.place;
-    if !all.ok {
-        return params_bytes::refused(Err(ReadError::Broken(place)));
-    }
-    let numbers = all.numbers;
+    let mut numbers = [0i64; NUMBERS];
+    entries(s, &mut numbers)?;
     params_bytes::judged(
         Params {
             numbers,

@@ -1,7 +1,6 @@
 -- The two ends of a call that gives no action: 11, and 0.
 -- Assumes nothing.
 use Rattle.std.proofs.Common.{Result, Ok, Err}
-use Rattle.std.proofs.Common.{Unit, tt}
 use Prim.Native.Nat.{ℕ}
 use mathlib.Core.Path.{◌≡◌, refl, ap, ap₂, ◌∙◌}
 use mathlib.Core.Bool.{Bool, true, false, cond, ◌&&◌}
@@ -15,10 +14,11 @@ use Rattle.rules.specs.declared.Answer.{Answer}
 use Rattle.rules.specs.declared.Answer.TheVariants.{Done, Ignored}
 use Rattle.rules.specs.Reply.{Reply, ignored, done}
 use Rattle.rules.specs.Calls.{join, time_of, time_ok, id_ok, topic_ok, arguments_ok}
-use Rattle.rules.specs.Step.{gate_of, effect, of_peer, is_graylisted, join_reply, subscribe_reply, unsubscribe_reply}
+use Rattle.rules.specs.Step.{effect, of_peer, is_graylisted, join_reply, subscribe_reply, unsubscribe_reply}
 use Rattle.rules.specs.Promise.{Leaves, Follows}
 use Rattle.rules.proofs.EndLaws.{leaves_ignored, leaves_done, quiet_cond, quiet_peer}
-use Rattle.gate.proofs.CallLaws.{gate_refusal, gate_quiet}
+use Rattle.gate.specs.PeerGate.{peer_gate}
+use Rattle.gate.proofs.PeerGateLaws.{peer_refusal, peer_quiet}
 use Rattle.topics.specs.Change.{change, changed, change_reply}
 
 -- "11 if t, else 0": t is the rule's test, and f what the code computed of it
@@ -61,34 +61,35 @@ module _ (time id t : ℕ) where
       (on : Bool)
       (table list : List ℕ)
       (a b d : Bool)
-      (g : Result (Unit {0}) Answer)
+      (g : Result ℕ Answer)
       (ea : a ≡ time_ok time)
       (eb : b ≡ id_ok id)
       (ed : d ≡ topic_ok t)
-      (eg : g ≡ gate_of (state_of table) (a && (b && d)) (length list) time)
+      (eg : g ≡ peer_gate (state_of table) (a && (b && d)) (length list) time id)
     where
       pub change_refusal : (x : Answer) → g ≡ Err x → Follows (change on time id t) x table table list list
       change_refusal =
-          gate_refusal (change on time id t) table list a (b && d) g (ea ∙ ap time_ok (change_time on))
+          peer_refusal (change on time id t) id (change_reply on (state_of table) time t) table list a (b && d) g (change_effect on (state_of table))
+          (ea ∙ ap time_ok (change_time on))
           (ap₂ ◌&&◌ eb ed ∙ change_range on)
-          (eg ∙ ap (gate_of (state_of table) (a && (b && d)) (length list)) (change_time on))
+          (eg ∙ ap (λ (n : ℕ). peer_gate (state_of table) (a && (b && d)) (length list) n id) (change_time on))
 
       pub change_follows :
-          g ≡ Ok tt → (r : Answer) (table' : List ℕ) →
-          Leaves (of_peer (state_of table) id (change_reply on (state_of table) time t)) r table table' →
+          (s : ℕ) → g ≡ Ok s → (r : Answer) (table' : List ℕ) → Leaves (change_reply on (state_of table) time t s) r table table' →
           Follows (change on time id t) r table table' list list
       unfolding change_reply
-      change_follows p r table' l =
+      change_follows s p r table' l =
           let e = change_effect on (state_of table) in
           let q =
           quiet_peer (state_of table) id (change_reply on (state_of table) time t)
           (λ s. quiet_test (is_graylisted (state_of table) s) (state_of table) (on_topic (state_of table) s t (changed on)) time) in
-          gate_quiet (change on time id t) table list a (b && d) g (ea ∙ ap time_ok (change_time on))
+          peer_quiet (change on time id t) id (change_reply on (state_of table) time t) table list a (b && d) g e
+          (ea ∙ ap time_ok (change_time on))
           (ap₂ ◌&&◌ eb ed ∙ change_range on)
-          (eg ∙ ap (gate_of (state_of table) (a && (b && d)) (length list)) (change_time on))
-          p r table'
+          (eg ∙ ap (λ (n : ℕ). peer_gate (state_of table) (a && (b && d)) (length list) n id) (change_time on))
+          s p r table'
           (ap (λ (o : Reply). o.actions) e ∙ q)
-          (rw e l)
+          l
 
 -- what the store of either flag leaves
 module _ (st u : State) (s t : ℕ) (on : Bool) where

@@ -6,15 +6,14 @@ ghost use Rattle.layout.specs.View.{state_of};
 ghost use Rattle.effects.specs.Effects.{on_topic};
 ghost use Rattle.effects.specs.Lent.{AtPlace};
 ghost use Rattle.rules.specs.Calls.{join as Calls·join, subscribe as Calls·subscribe, unsubscribe as Calls·unsubscribe};
-ghost use Rattle.rules.specs.Step.{join_reply, of_peer};
+ghost use Rattle.rules.specs.Step.{join_reply};
 ghost use Rattle.rules.specs.Promise.{Leaves, Follows};
 ghost use Rattle.gate.specs.Ready.{TopicReady, PlaceReady};
 ghost use Rattle.topics.specs.Change.{change as Calls·change, changed, change_reply};
 
 use effects::slots::{is_joined, subscribe_slot, unsubscribe_slot};
-use gate::{admit, finish, id_ok, ignore, see_sender, time_ok, topic_ok};
+use gate::{admit, admit_peer, finish, id_ok, ignore, see_sender, time_ok, topic_ok};
 use layout::CELLS;
-use lookup::find::find_connected;
 use rules::Answer;
 
 fn join_from(table: &mut [u64], time: u64, topic: usize) -> Answer
@@ -35,7 +34,7 @@ pub fn join(table: &mut [u64; CELLS], time: u64, topic: u64, actions: &mut [u32]
 {
     let fine = time_ok(time) & topic_ok(topic);
     match admit(table, fine, actions.len(), time) {
-        Err(a) => a,
+        Err(refusal) => refusal,
         Ok(()) => join_from(table, time, topic as usize),
     }
 }
@@ -65,17 +64,6 @@ fn change_reply(table: &mut [u64], time: u64, topic: usize, slot: usize, on: boo
     finish(table, time)
 }
 
-fn change_from(table: &mut [u64], time: u64, id: u64, topic: usize, on: bool) -> Answer
-    requires { TopicReady table.old time topic }
-    ensures { Leaves (of_peer (state_of table.old) id (change_reply on (state_of table.old) time topic)) result
-        table.old table.new }
-{
-    let Some(slot) = find_connected(table, id) else {
-        return Answer::NotConnected;
-    };
-    change_reply(table, time, topic, slot, on)
-}
-
 fn change(
     table: &mut [u64; CELLS],
     time: u64,
@@ -88,9 +76,9 @@ fn change(
         table.old table.new actions.old actions.new }
 {
     let fine = time_ok(time) & (id_ok(id) & topic_ok(topic));
-    match admit(table, fine, actions.len(), time) {
-        Err(a) => a,
-        Ok(()) => change_from(table, time, id, topic as usize, on),
+    match admit_peer(table, fine, actions.len(), time, id) {
+        Err(refusal) => refusal,
+        Ok(slot) => change_reply(table, time, topic as usize, slot, on),
     }
 }
 

@@ -1,5 +1,5 @@
 -- Events of a trace (01, "The trace program"): "events as unsigned groups (P5 signed): kind, now, arguments", in the editions of 02.
-use Rattle.std.specs.Prelude.{Option, Some, None}
+use Rattle.std.specs.Prelude.{Option, Some, None, Result, Ok, Err}
 use Rattle.std.specs.Prelude.{ℕ, zero, suc, ◌+◌, ◌-◌, ◌≡◌, Bool, cond, ◌&&◌, List, [], ◌∷◌, ◌++◌, eqb, leb, ltb, length, get_or, take, drop}
 use Rattle.index.specs.Index.{every}
 use Rattle.varint.specs.Groups.{read_at}
@@ -8,7 +8,8 @@ use Rattle.records.specs.Records.{slot_count}
 use Rattle.sets.specs.Sets.{ascending, is_permutation}
 use Rattle.trace_events.specs.declared.Edition.{Edition}
 use Rattle.trace_events.specs.declared.Edition.TheVariants.{First, Second, Third}
-use Rattle.trace_events.specs.declared.Readings.{Readings}
+use Rattle.trace_events.specs.declared.NumberError.{NumberError}
+use Rattle.trace_events.specs.declared.NumberError.TheVariants.{Unread}
 use Rattle.rules.specs.Calls.{Call, connect, disconnect, join, leave, subscribe, unsubscribe, graft, prune, deliver, rate, heartbeat, decay}
 use Rattle.rules.specs.Calls.{score}
 
@@ -60,8 +61,9 @@ numbers_from zero s at = numbers [] at
 numbers_from (suc n) s at = number_then (λ next. numbers_from n s next) at (read_at 18446744073709551615 s at)
 
 -- what a reading of n comes to, from the list that they were put into
-abbrev pub outcome : ℕ → Readings → List ℕ → Numbers
-outcome n r values = cond r.ok (numbers (take n values) r.place) (broken r.place)
+abbrev pub outcome : ℕ → Result ℕ NumberError → List ℕ → Numbers
+outcome n (Ok next) values = numbers (take n values) next
+outcome n (Err (Unread p)) values = broken p
 
 -- a number that cannot be read at a place may yet be completed by further bytes: all that are there say that more follow, and ten would
 -- be above 64 bits

@@ -14,9 +14,9 @@ pub enum Edition {
     Third,
 }
 
-// Where the numbers end, or the place of the first that cannot be read.
+// Why numbers were not read.
 #[derive(Clone, Copy)]
-pub struct Readings {
-    pub ok: bool,
-    pub place: usize,
+pub enum NumberError {
+    // the place of the first that cannot be read
+    Unread(usize),
 }

@@ -4,7 +4,7 @@ ghost use Rattle.records.specs.Records.{slot_count};
 ghost use Rattle.trace_events.specs.Reading.{order_size, connect_size, widened, outcome, numbers_from, cut_short, number_most};
 ghost use Rattle.trace_events.specs.Reading.{arity as arityOf};
 
-use crate::{Edition, Readings};
+use crate::{Edition, NumberError};
 use records::SLOTS;
 
 // The most numbers that follow a kind, the time counted; and those of each kind, 0 for an unknown one.
@@ -50,8 +50,13 @@ pub fn order_size(edition: Edition) -> usize
     }
 }
 
-// Puts the first n numbers from a place on into a lent list.
-pub fn read_numbers(s: &[u8], at: usize, n: usize, values: &mut [u64]) -> Readings
+// Puts the first n numbers from a place on into a lent list; the place after them.
+pub fn read_numbers(
+    s: &[u8],
+    at: usize,
+    n: usize,
+    values: &mut [u64],
+) -> Result<usize, NumberError>
     requires { n ≤ length values.old }
     ensures { (outcome n result values.new ≡ numbers_from n s.now at)
         × ((k : ℕ) → n ≤ k → get_or values.new k 0 ≡ get_or values.old k 0) }
@@ -59,12 +64,12 @@ pub fn read_numbers(s: &[u8], at: usize, n: usize, values: &mut [u64]) -> Readin
     let mut place = at;
     for i in 0..n {
         let Some((u, next)) = varint::read_u64(s, place) else {
-            return Readings { ok: false, place };
+            return Err(NumberError::Unread(place));
         };
         values[i] = u;
         place = next;
     }
-    Readings { ok: true, place }
+    Ok(place)
 }
 
 // The slots that a permutation of the first n does not order, behind it by slot.

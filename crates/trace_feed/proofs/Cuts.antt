@@ -22,8 +22,8 @@ use Rattle.params_bytes.specs.Read.{front_at}
 use Rattle.trace_feed.specs.declared.Stage.{Stage}
 use Rattle.trace_feed.specs.declared.Stage.TheVariants.{Params, Events, Over}
 use Rattle.trace_feed.specs.declared.Window.{Window}
-use Rattle.trace_feed.specs.declared.Front.{Front}
-use Rattle.trace_feed.specs.declared.Front.TheVariants.{Begins, Other, Cut}
+use Rattle.trace_feed.specs.declared.FrontError.{FrontError}
+use Rattle.trace_feed.specs.declared.FrontError.TheVariants.{Other, Cut}
 use Rattle.trace_feed.specs.Front.{front_in}
 use Rattle.trace_feed.specs.Printed.{printed_of}
 use Rattle.trace_feed.specs.Turns.{Turn, took, ended, wants, event_turn, events_turn, params_by, params_turn, front_by, front_turn}
@@ -50,11 +50,11 @@ params_ask g at s (Ok next) = refl
 params_ask g at s (Err (Malformed place)) = refl
 params_ask g at s (Err (Broken i)) = refl
 
-front_asks : (s : List ℕ) (x : Front) → asks (front_by true s x) ≡ false
+front_asks : (s : List ℕ) (x : Result (Edition × ℕ) FrontError) → asks (front_by true s x) ≡ false
 unfolding params_turn
-front_asks s (Begins g at) = params_ask g at s (front_at s at).verdict
-front_asks s Other = refl
-front_asks s Cut = refl
+front_asks s (Ok (g, at)) = params_ask g at s (front_at s at).verdict
+front_asks s (Err Other) = refl
+front_asks s (Err Cut) = refl
 
 asks_not : (stage : Stage) (st : State) (s : List ℕ) → asks (turn_of stage true st s) ≡ false
 unfolding front_turn events_turn

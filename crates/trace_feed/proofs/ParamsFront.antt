@@ -30,9 +30,10 @@ use Rattle.params_bytes.proofs.WriteLaws.{front_short}
 use Rattle.params_bytes.proofs.PlaceLaws.{place_of, all_place}
 use Rattle.trace_events.specs.Reading.{cut_short}
 use Rattle.records.specs.Records.{param_count}
+use Rattle.trace_events.specs.declared.Edition.{Edition as TraceEdition}
 use Rattle.trace_events.specs.declared.Edition.TheVariants.{First, Second, Third}
-use Rattle.trace_feed.specs.declared.Front.{Front}
-use Rattle.trace_feed.specs.declared.Front.TheVariants.{Begins, Other, Cut}
+use Rattle.trace_feed.specs.declared.FrontError.{FrontError}
+use Rattle.trace_feed.specs.declared.FrontError.TheVariants.{Other, Cut}
 use Rattle.trace_feed.specs.Front.{third_in, front_in}
 use Rattle.trace_feed.proofs.ReadFront.{most, cut_bad, read_stays, read_within}
 
@@ -209,33 +210,33 @@ front_is s at m =
 
 -- ---- the front of a trace
 -- it lies within the bytes
-abbrev pub Near : List ℕ → Front → Type 0
-Near s (Begins e at) = (at ≤ 3) × (at ≤ length s)
-Near s Other = Unit {0}
-Near s Cut = length s ≤ 2
+abbrev pub Near : List ℕ → Result (TraceEdition × ℕ) FrontError → Type 0
+Near s (Ok (e, at)) = (at ≤ 3) × (at ≤ length s)
+Near s (Err Other) = Unit {0}
+Near s (Err Cut) = length s ≤ 2
 
 third_near : (a b : ℕ) (s : List ℕ) → Near (a ∷ (b ∷ s)) (third_in s)
 third_near a b [] = omega arith
 third_near a b (c ∷ s) =
-    cond_case (Near (a ∷ (b ∷ (c ∷ s)))) (eqb c 2) (Begins Second 3) _
+    cond_case (Near (a ∷ (b ∷ (c ∷ s)))) (eqb c 2) (Ok (Second, 3)) _
     (λ e. (omega arith, omega arith))
     (λ e.
-    cond_case (Near (a ∷ (b ∷ (c ∷ s)))) (eqb c 3) (Begins Third 3) Other (λ f. (omega arith, omega arith)) (λ f. tt))
+    cond_case (Near (a ∷ (b ∷ (c ∷ s)))) (eqb c 3) (Ok (Third, 3)) (Err Other) (λ f. (omega arith, omega arith)) (λ f. tt))
 
 pub front_near : (s : List ℕ) → Near s (front_in s)
 unfolding front_in
 front_near [] = (omega arith, omega arith)
 front_near (a ∷ []) = (omega arith, omega arith)
 front_near (a ∷ (b ∷ s)) =
-    cond_case (Near (a ∷ (b ∷ s))) (eqb a 0 && eqb b 0) (third_in s) (Begins First 0)
+    cond_case (Near (a ∷ (b ∷ s))) (eqb a 0 && eqb b 0) (third_in s) (Ok (First, 0))
     (λ e. third_near a b s)
     (λ e. (omega arith, omega arith))
 
 -- whether it stays the same with any bytes behind those that are there
-abbrev pub Told : List ℕ → Front → Type 0
-Told w (Begins e at) = Kept w (front_at w at).verdict
-Told w Other = Unit {0}
-Told w Cut = ⊥
+abbrev pub Told : List ℕ → Result (TraceEdition × ℕ) FrontError → Type 0
+Told w (Ok (e, at)) = Kept w (front_at w at).verdict
+Told w (Err Other) = Unit {0}
+Told w (Err Cut) = ⊥
 
 third_stays : (w r s : List ℕ) → Told w (third_in s) → third_in (s ++ r) ≡ third_in s
 third_stays w r [] h = absurd h

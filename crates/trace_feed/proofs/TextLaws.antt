@@ -29,8 +29,8 @@ use Rattle.trace_events.proofs.EventLaws.{Behind, event_behind}
 use Rattle.trace_feed.specs.declared.Stage.{Stage}
 use Rattle.trace_feed.specs.declared.Stage.TheVariants.{Params, Events, Over}
 use Rattle.trace_feed.specs.Printed.{event_text, unless_end, text_from, events_text, printed_of}
-use Rattle.trace_feed.specs.declared.Front.{Front}
-use Rattle.trace_feed.specs.declared.Front.TheVariants.{Begins, Other, Cut}
+use Rattle.trace_feed.specs.declared.FrontError.{FrontError}
+use Rattle.trace_feed.specs.declared.FrontError.TheVariants.{Other, Cut}
 use Rattle.trace_feed.specs.Front.{front_in}
 use Rattle.trace_feed.specs.Turns.{Turn, event_turn, events_turn, params_by, params_turn, front_by, front_turn, turn_of, taken, text_of}
 use Rattle.trace_feed.specs.Turns.{left_by, stage_by}
@@ -146,8 +146,8 @@ module _ (last : Bool) (st : State) (w rest : List ℕ) (e : last ≡ true → r
       (λ t. rw t (rw t at q)))
 
   -- ---- a turn of the parameters, behind a front that is there
-  module _ (g : Edition) (at : ℕ) (begins : front_in w ≡ Begins g at) (near : at ≤ length w) where
-    front_same : Kept w (front_at w at).verdict → front_in (w ++ rest) ≡ Begins g at
+  module _ (g : Edition) (at : ℕ) (begins : front_in w ≡ Ok (g, at)) (near : at ≤ length w) where
+    front_same : Kept w (front_at w at).verdict → front_in (w ++ rest) ≡ Ok (g, at)
     front_same k = trace_stays w rest (rw begins k) ∙ begins
 
     params_by_lem :
@@ -178,12 +178,12 @@ module _ (last : Bool) (st : State) (w rest : List ℕ) (e : last ≡ true → r
     params_go = params_by_lem (front_at w at).verdict refl (front_is w at near)
 
   -- ---- and of the front
-  front_by_lem : (x : Front) → front_in w ≡ x → Near w x → Goes Params (front_by last w x)
+  front_by_lem : (x : Result (Edition × ℕ) FrontError) → front_in w ≡ x → Near w x → Goes Params (front_by last w x)
   unfolding printed_of
-  front_by_lem (Begins g at) f n = params_go g at f n.1
-  front_by_lem Other f n = rw (trace_stays w rest (rw f tt), f) (sym (append-nil (pair_line 9 2)))
-  front_by_lem Cut f n =
-      by_test (Goes Params (front_by last w Cut)) last
+  front_by_lem (Ok (g, at)) f n = params_go g at f n.1
+  front_by_lem (Err Other) f n = rw (trace_stays w rest (rw f tt), f) (sym (append-nil (pair_line 9 2)))
+  front_by_lem (Err Cut) f n =
+      by_test (Goes Params (front_by last w (Err Cut))) last
       (λ t. rw (t, all_there t, f) (sym (append-nil (pair_line 10 2))))
       (λ t. rw t)
 

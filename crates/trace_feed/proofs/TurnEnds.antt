@@ -22,8 +22,8 @@ use Rattle.layout.specs.View.{state_of}
 use Rattle.trace_events.specs.declared.Edition.{Edition}
 use Rattle.trace_events.specs.Reading.{Event, event, unknown, malformed, short, cut_short, event_at}
 use Rattle.trace_events.specs.Lines.{pair_line, line_room}
-use Rattle.trace_feed.specs.declared.Front.{Front}
-use Rattle.trace_feed.specs.declared.Front.TheVariants.{Begins, Other, Cut}
+use Rattle.trace_feed.specs.declared.FrontError.{FrontError}
+use Rattle.trace_feed.specs.declared.FrontError.TheVariants.{Other, Cut}
 use Rattle.trace_feed.specs.Front.{front_in}
 use Rattle.trace_feed.specs.declared.Stage.{Stage}
 use Rattle.trace_feed.specs.declared.Stage.TheVariants.{Params, Events, Over}
@@ -60,12 +60,12 @@ params_most g at last s f (Err (Malformed p)) h l =
     (λ e. tt)
 params_most g at last s f (Err (Broken i)) h l = tt
 
-front_most : (last : Bool) (s : List ℕ) (x : Front) → Near s x → Most (length s) (front_by last s x)
+front_most : (last : Bool) (s : List ℕ) (x : Result (Edition × ℕ) FrontError) → Near s x → Most (length s) (front_by last s x)
 unfolding params_turn
-front_most last s (Begins g at) n =
+front_most last s (Ok (g, at)) n =
     params_most g at last s (first_broken (front_at s at).params) (front_at s at).verdict (front_is s at n.1) n.0
-front_most last s Other n = tt
-front_most last s Cut n = cond_case (Most (length s)) last (ended (pair_line 10 2)) wants (λ e. tt) (λ e. omega arith)
+front_most last s (Err Other) n = tt
+front_most last s (Err Cut) n = cond_case (Most (length s)) last (ended (pair_line 10 2)) wants (λ e. tt) (λ e. omega arith)
 
 turn_most : (stage : Stage) (last : Bool) (st : State) (s : List ℕ) → Most (length s) (turn_of stage last st s)
 unfolding front_turn events_turn

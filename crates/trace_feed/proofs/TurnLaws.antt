@@ -1,7 +1,6 @@
 -- The ends of `feed`: what each way through the code comes to.
 -- Assumes nothing.
 use Rattle.std.proofs.Common.{Option, Result, Ok, Err}
-use Rattle.std.proofs.Common.{Unit}
 use Rattle.params_bytes.specs.declared.ReadError.{ReadError}
 use Rattle.params_bytes.specs.declared.ReadError.TheVariants.{Broken, Malformed}
 use Rattle.lookup.specs.declared.FreshError.{FreshError}
@@ -18,8 +17,7 @@ use lib.ListN.{length, get_or}
 use Rattle.text.specs.Text.{Stored}
 use Rattle.records.specs.Records.{State}
 use Rattle.params.specs.Check.{first_broken}
-use Rattle.params_bytes.specs.Read.{front_at}
-use Rattle.params_bytes.specs.declared.Reading.{Reading}
+use Rattle.params_bytes.specs.Read.{Reading, front_at}
 use Rattle.layout.specs.View.{state_of}
 use Rattle.lookup.specs.Fresh.{left_by as freshBy, Makes}
 use Rattle.rules.specs.Step.{step, action_room}
@@ -34,8 +32,8 @@ use Rattle.trace_feed.specs.declared.Stage.{Stage}
 use Rattle.trace_feed.specs.declared.Stage.TheVariants.{Over}
 use Rattle.trace_feed.specs.declared.Fed.{Fed}
 use Rattle.trace_feed.specs.declared.Fed.TheVariants.{Took, Ended, Wants}
-use Rattle.trace_feed.specs.declared.Front.{Front}
-use Rattle.trace_feed.specs.declared.Front.TheVariants.{Begins, Other, Cut}
+use Rattle.trace_feed.specs.declared.FrontError.{FrontError}
+use Rattle.trace_feed.specs.declared.FrontError.TheVariants.{Other, Cut}
 use Rattle.trace_feed.specs.Front.{of_third, front_in}
 use Rattle.trace_feed.specs.Turns.{Turn, ended, wants, cut_turn, event_turn, events_turn, params_by, params_turn, front_by, front_turn}
 use Rattle.trace_feed.specs.Turns.{turn_of}
@@ -109,28 +107,28 @@ module _ (g : Edition) (at : ℕ) (last : Bool) (s : List ℕ) (l : at ≤ lengt
         (line_ends 10 p n table out out' w)
 
 -- ---- the front
-pub third_second : (b : ℕ) → b ≡ 2 → Begins Second 3 ≡ of_third b
+pub third_second : (b : ℕ) → b ≡ 2 → Ok (Second, 3) ≡ of_third b
 third_second b e = rw e
 
-pub third_third : (b : ℕ) → b ≡ 3 → Begins Third 3 ≡ of_third b
+pub third_third : (b : ℕ) → b ≡ 3 → Ok (Third, 3) ≡ of_third b
 third_third b e = rw e
 
-pub third_other : (b : ℕ) → b ≢ 2 → b ≢ 3 → Other ≡ of_third b
+pub third_other : (b : ℕ) → b ≢ 2 → b ≢ 3 → Err Other ≡ of_third b
 third_other b e f = rw (ne_eqb b 2 e, ne_eqb b 3 f)
 
-pub front_few : (s : List ℕ) → length s < 2 → Begins First 0 ≡ front_in s
+pub front_few : (s : List ℕ) → length s < 2 → Ok (First, 0) ≡ front_in s
 unfolding front_in
 front_few [] h = refl
 front_few (a ∷ []) h = refl
 front_few (a ∷ (b ∷ s)) h = absurd (omega arith)
 
-pub front_first : (s : List ℕ) → 2 ≤ length s → (eqb (get_or s 0 0) 0 && eqb (get_or s 1 0) 0) ≡ false → Begins First 0 ≡ front_in s
+pub front_first : (s : List ℕ) → 2 ≤ length s → (eqb (get_or s 0 0) 0 && eqb (get_or s 1 0) 0) ≡ false → Ok (First, 0) ≡ front_in s
 unfolding front_in
 front_first [] l h = refl
 front_first (a ∷ []) l h = refl
 front_first (a ∷ (b ∷ s)) l h = rw h
 
-pub front_cut : (s : List ℕ) → length s ≡ 2 → (eqb (get_or s 0 0) 0 && eqb (get_or s 1 0) 0) ≡ true → Cut ≡ front_in s
+pub front_cut : (s : List ℕ) → length s ≡ 2 → (eqb (get_or s 0 0) 0 && eqb (get_or s 1 0) 0) ≡ true → Err Cut ≡ front_in s
 unfolding front_in
 front_cut [] l h = absurd (omega arith)
 front_cut (a ∷ []) l h = absurd (omega arith)
@@ -138,7 +136,7 @@ front_cut (a ∷ (b ∷ [])) l h = rw h
 front_cut (a ∷ (b ∷ (c ∷ s))) l h = absurd (omega arith)
 
 pub front_third :
-    (s : List ℕ) (r : Front) →
+    (s : List ℕ) (r : Result (Edition × ℕ) FrontError) →
     2 ≤ length s →
     (length s ≡ 2 → ⊥) →
     (eqb (get_or s 0 0) 0 && eqb (get_or s 1 0) 0) ≡ true →
@@ -151,40 +149,40 @@ front_third (a ∷ (b ∷ [])) r l n h e = absurd (n refl)
 front_third (a ∷ (b ∷ (c ∷ s))) r l n h e = rw h e
 
 -- where it says that the parameters begin
-module _ (s : List ℕ) (x : Front) (told : x ≡ front_in s) where
-  near_as : (y : Front) → x ≡ y → Near s y
+module _ (s : List ℕ) (x : Result (Edition × ℕ) FrontError) (told : x ≡ front_in s) where
+  near_as : (y : Result (Edition × ℕ) FrontError) → x ≡ y → Near s y
   near_as y e = let n = front_near s in rw (← told, e) at n
 
-  pub begins_within : (g : Edition) (at : ℕ) → x ≡ Begins g at → at ≤ length s
-  begins_within g at e = (near_as (Begins g at) e).1
+  pub begins_within : (g : Edition) (at : ℕ) → x ≡ Ok (g, at) → at ≤ length s
+  begins_within g at e = (near_as (Ok (g, at)) e).1
 
   module _ (last : Bool) where
-    by_front : (y : Front) → x ≡ y → front_turn last s ≡ front_by last s y
+    by_front : (y : Result (Edition × ℕ) FrontError) → x ≡ y → front_turn last s ≡ front_by last s y
     unfolding front_turn
     by_front y e = ap (front_by last s) (sym told ∙ e)
 
     pub front_begins :
         (g : Edition) (at : ℕ) (r : Fed) (table table' out out' : List ℕ) →
-        x ≡ Begins g at →
+        x ≡ Ok (g, at) →
         Feeds (params_turn g at last s) r table table' out out' →
         Feeds (front_turn last s) r table table' out out'
     front_begins g at r table table' out out' e f =
-        as_turn (front_turn last s) (params_turn g at last s) r table table' out out' (by_front (Begins g at) e) f
+        as_turn (front_turn last s) (params_turn g at last s) r table table' out out' (by_front (Ok (g, at)) e) f
 
     pub front_other :
         (n : ℕ) (table out out' : List ℕ) →
-        x ≡ Other →
+        x ≡ Err Other →
         Stored out 0 (pair_line 9 2) n out' × (n ≤ 0 + 42) →
         Feeds (front_turn last s) (Ended n) table table out out'
     front_other n table out out' e w =
-        as_turn (front_turn last s) (ended (pair_line 9 2)) (Ended n) table table out out' (by_front Other e)
+        as_turn (front_turn last s) (ended (pair_line 9 2)) (Ended n) table table out out' (by_front (Err Other) e)
         (line_ends 9 2 n table out out' w)
 
-    module _ (e : x ≡ Cut) where
+    module _ (e : x ≡ Err Cut) where
       pub front_want : (table out : List ℕ) → last ≡ false → Feeds (front_turn last s) Wants table table out out
       front_want table out l =
           as_turn (front_turn last s) wants Wants table table out out
-          (by_front Cut e ∙ ap (λ (b : Bool). cut_turn b (pair_line 10 2)) l)
+          (by_front (Err Cut) e ∙ ap (λ (b : Bool). cut_turn b (pair_line 10 2)) l)
           (record { answer = refl; state = refl; bytes = refl; room = omega arith })
 
       pub front_ends :
@@ -194,7 +192,7 @@ module _ (s : List ℕ) (x : Front) (told : x ≡ front_in s) where
           Feeds (front_turn last s) (Ended n) table table out out'
       front_ends n table out out' l w =
           as_turn (front_turn last s) (ended (pair_line 10 2)) (Ended n) table table out out'
-          (by_front Cut e ∙ ap (λ (b : Bool). cut_turn b (pair_line 10 2)) l)
+          (by_front (Err Cut) e ∙ ap (λ (b : Bool). cut_turn b (pair_line 10 2)) l)
           (line_ends 10 2 n table out out' w)
 
 -- ---- the events

@@ -12,8 +12,8 @@ use Rattle.rules.specs.Step.{step, action_room}
 use Rattle.trace_events.specs.declared.Edition.{Edition}
 use Rattle.trace_events.specs.Reading.{Event, event, unknown, malformed, short, event_at}
 use Rattle.trace_events.specs.Lines.{pair_line, lines_of}
-use Rattle.trace_feed.specs.declared.Front.{Front}
-use Rattle.trace_feed.specs.declared.Front.TheVariants.{Begins, Other, Cut}
+use Rattle.trace_feed.specs.declared.FrontError.{FrontError}
+use Rattle.trace_feed.specs.declared.FrontError.TheVariants.{Other, Cut}
 use Rattle.trace_feed.specs.Front.{front_in}
 
 -- ---- the events
@@ -49,10 +49,10 @@ text_by e s params (Err (Broken i)) = pair_line 9 i
 
 -- ---- the front before these
 -- "another third byte: 9 2, and stop"; an input that ends with the two zero bytes is cut short there
-abbrev pub text_behind : List ℕ → Front → List ℕ
-text_behind s (Begins e at) = text_by e s (front_at s at).params (front_at s at).verdict
-text_behind s Other = pair_line 9 2
-text_behind s Cut = pair_line 10 2
+abbrev pub text_behind : List ℕ → Result (Edition × ℕ) FrontError → List ℕ
+text_behind s (Ok (e, at)) = text_by e s (front_at s at).params (front_at s at).verdict
+text_behind s (Err Other) = pair_line 9 2
+text_behind s (Err Cut) = pair_line 10 2
 
 unfoldable pub printed_of : List ℕ → List ℕ
 printed_of s = text_behind s (front_in s)

@@ -14,8 +14,8 @@ use Rattle.rules.specs.Step.{step, action_room}
 use Rattle.trace_events.specs.declared.Edition.{Edition}
 use Rattle.trace_events.specs.Reading.{Event, event, unknown, malformed, short, cut_short, event_at}
 use Rattle.trace_events.specs.Lines.{pair_line, lines_of, line_room}
-use Rattle.trace_feed.specs.declared.Front.{Front}
-use Rattle.trace_feed.specs.declared.Front.TheVariants.{Begins, Other, Cut}
+use Rattle.trace_feed.specs.declared.FrontError.{FrontError}
+use Rattle.trace_feed.specs.declared.FrontError.TheVariants.{Other, Cut}
 use Rattle.trace_feed.specs.Front.{front_in}
 use Rattle.trace_feed.specs.declared.Stage.{Stage}
 use Rattle.trace_feed.specs.declared.Stage.TheVariants.{Params, Events, Over}
@@ -54,10 +54,10 @@ params_by e last s params (Err (Broken i)) = ended (pair_line 9 i)
 unfoldable pub params_turn : Edition → ℕ → Bool → List ℕ → Turn
 params_turn e at last s = params_by e last s (front_at s at).params (front_at s at).verdict
 
-abbrev pub front_by : Bool → List ℕ → Front → Turn
-front_by last s (Begins e at) = params_turn e at last s
-front_by last s Other = ended (pair_line 9 2)
-front_by last s Cut = cut_turn last (pair_line 10 2)
+abbrev pub front_by : Bool → List ℕ → Result (Edition × ℕ) FrontError → Turn
+front_by last s (Ok (e, at)) = params_turn e at last s
+front_by last s (Err Other) = ended (pair_line 9 2)
+front_by last s (Err Cut) = cut_turn last (pair_line 10 2)
 
 -- the front of the trace, and the parameters behind it
 unfoldable pub front_turn : Bool → List ℕ → Turn

@@ -17,11 +17,9 @@ use trace_events::lines::put_pair;
 use trace_events::reading::cut_short;
 use trace_step::Replayed;
 
-// The front of a trace.
+// Why the front of a trace tells no edition.
 #[derive(Clone, Copy)]
-enum Front {
-    // its edition, and where its parameters begin
-    Begins(Edition, usize),
+enum FrontError {
     // the third byte is no edition's number
     Other,
     // there is no third byte
@@ -62,29 +60,29 @@ pub struct Window {
     pub written: usize,
 }
 
-// The edition that a third byte says.
-fn of_third(b: u8) -> Front
+// The edition that a third byte says, and where the parameters begin.
+fn of_third(b: u8) -> Result<(Edition, usize), FrontError>
     ensures { result ≡ of_third b }
 {
     match b {
-        2 => Front::Begins(Edition::Second, 3),
-        3 => Front::Begins(Edition::Third, 3),
-        _ => Front::Other,
+        2 => Ok((Edition::Second, 3)),
+        3 => Ok((Edition::Third, 3)),
+        _ => Err(FrontError::Other),
     }
 }
 
 // The edition of the bytes, and where the parameters begin.
-fn front_in(s: &[u8]) -> Front
+fn front_in(s: &[u8]) -> Result<(Edition, usize), FrontError>
     ensures { result ≡ front_in s.now }
 {
     if s.len() < 2 {
-        return Front::Begins(Edition::First, 0);
+        return Ok((Edition::First, 0));
     }
     if !((s[0] == 0) & (s[1] == 0)) {
-        return Front::Begins(Edition::First, 0);
+        return Ok((Edition::First, 0));
     }
     if s.len() == 2 {
-        return Front::Cut;
+        return Err(FrontError::Cut);
     }
     of_third(s[2])
 }
@@ -102,11 +100,10 @@ fn feed_params(
     ensures { Feeds (params_turn edition at last s.now) result table.old table.new out.old
         out.new }
 {
-    let reading = params_bytes::read_front(s, at);
-    let verdict = reading.verdict;
-    match verdict {
-        Ok(next) => {
-            let _ = router::fresh(reading.params, table);
+    match params_bytes::read_front(s, at) {
+        Ok((params, next)) => {
+            // the parameters were found good as they were read, so a router is made of them
+            let _ = router::fresh(params, table);
             Fed::Took(edition, next, 0)
         }
         Err(ReadError::Malformed(place)) => {
@@ -124,11 +121,10 @@ fn feed_front(table: &mut [u64; CELLS], s: &[u8], last: bool, out: &mut [u8]) ->
     requires { line_room ≤ length out.old }
     ensures { Feeds (front_turn last s.now) result table.old table.new out.old out.new }
 {
-    let front = front_in(s);
-    match front {
-        Front::Begins(edition, at) => feed_params(table, edition, s, at, last, out),
-        Front::Other => Fed::Ended(put_pair(out, 0, 9, 2)),
-        Front::Cut => {
+    match front_in(s) {
+        Ok((edition, at)) => feed_params(table, edition, s, at, last, out),
+        Err(FrontError::Other) => Fed::Ended(put_pair(out, 0, 9, 2)),
+        Err(FrontError::Cut) => {
             if last {
                 return Fed::Ended(put_pair(out, 0, 10, 2));
             }

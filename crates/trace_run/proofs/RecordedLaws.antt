@@ -5,7 +5,6 @@ use Rattle.trace_step.specs.declared.EventError.{EventError}
 use Rattle.trace_step.specs.declared.EventError.TheVariants.{CutShort, Malformed, Unknown}
 use Rattle.trace_run.specs.declared.RecordError.TheVariants.{Refused}
 use Rattle.std.proofs.Common.{Option, Some, None, Result, Ok, Err}
-use Rattle.std.proofs.Common.{Unit, tt}
 use Rattle.lookup.specs.declared.FreshError.{FreshError}
 use Rattle.lookup.specs.declared.FreshError.TheVariants.{Broken}
 use Prim.Native.Nat.{ℕ, zero, suc, ◌+◌, ◌-◌, ◌<◌, ◌≤◌}
@@ -179,11 +178,11 @@ module _ (d : Edition) (params : Params) (s list₀ told₀ : List ℕ) (l : len
         calls_from d (length list₀) (length told₀ - calls) s at g.before ≡ record { calls = g.before; place = at } →
         state_of table' ≡ state_of table →
         list' ≡ list →
-        Runs d params s (Ran at calls) start table' list₀ list' told₀ told
+        Runs d params s (Ok (at, calls)) start table' list₀ list' told₀ told
     ran table' list' e k same =
         let q : whole ≡ record { calls = g.before; place = at } = sym g.rest ∙ e in
         record {
-          answer = rw (n, q) (ap (Ran at) (sym g.many));
+          answer = rw (n, q) (ap (λ (k : ℕ). Ok (at, k)) (sym g.many));
           state = rw (n, q) (k ∙ g.state);
           answers = λ f. g.answers ∙ ap (λ (w : Recording). sets told₀ 0 (answers_to params w.calls)) (sym q);
           actions = λ f. same ∙ g.actions ∙ ap (λ (w : Recording). actions_after params w.calls list₀) (sym q);
@@ -192,7 +191,7 @@ module _ (d : Edition) (params : Params) (s list₀ told₀ : List ℕ) (l : len
         }
 
     -- as many calls as there is room for
-    pub ran_all : length told₀ ≤ calls → Runs d params s (Ran at calls) start table list₀ list told₀ told
+    pub ran_all : length told₀ ≤ calls → Runs d params s (Ok (at, calls)) start table list₀ list told₀ told
     unfolding calls_from
     ran_all h = let z : length told₀ - calls ≡ 0 = omega arith in ran table list (rw z) refl refl
 
@@ -201,7 +200,7 @@ module _ (d : Edition) (params : Params) (s list₀ told₀ : List ℕ) (l : len
         calls < length told₀ →
         Performs (perform_event (state_of table) (length list) (event_at d s at)) r table' list list' →
         ((next : ℕ) (a : Answer) → r ≡ Ok (next, a) → ⊥) →
-        Runs d params s (Ran at calls) start table' list₀ list' told₀ told
+        Runs d params s (Ok (at, calls)) start table' list₀ list' told₀ told
     unfolding numbers_of
     ran_stopped table' list' r h p o =
         let t = told-event (state_of table) (length list) (event_at d s at) r p.answer in

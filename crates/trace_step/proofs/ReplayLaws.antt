@@ -33,7 +33,8 @@ use Rattle.rules.specs.Calls.{Call, connect, rate, heartbeat, score}
 use Rattle.rules.specs.Step.{step, action_room}
 use Rattle.rules.specs.Promise.{Follows}
 use Rattle.rules.proofs.CountLaws.{Counted, counted}
-use Rattle.trace_events.specs.declared.Readings.{Readings}
+use Rattle.trace_events.specs.declared.NumberError.{NumberError}
+use Rattle.trace_events.specs.declared.NumberError.TheVariants.{Unread}
 use Rattle.trace_events.specs.declared.Edition.{Edition}
 use Rattle.trace_events.specs.declared.Edition.TheVariants.{First, Second, Third}
 use Rattle.trace_events.specs.Reading.{order_size, widened, Numbers, numbers, broken, numbers_from, outcome, arity, call_of, Event, event}
@@ -140,7 +141,7 @@ performed :
     Performs (perform_event (state_of table) (length list) (event c next)) (Ok (next, a)) table' list list'
 unfolding perform_event
 performed c a table table' list list' next f =
-    record { answer = ap (Answered next) f.leaves.answer; state = f.leaves.state; actions = f.actions }
+    record { answer = ap (λ (b : Answer). Ok (next, b)) f.leaves.answer; state = f.leaves.state; actions = f.actions }
 
 -- nothing was done
 idles : (table list : List ℕ) (r : Result (ℕ × Answer) EventError) → Performs (idle (state_of table) r) r table list list
@@ -156,13 +157,13 @@ as_event st room x y r table' list list' e h = rw e h
 
 -- a number that cannot be read
 unread_is :
-    (s : List ℕ) (at : ℕ) (r : Result (ℕ × Answer) EventError) (table list : List ℕ) →
-    r ≡ cond (cut_short s at) (Err CutShort) (Err Malformed) →
-    Performs (perform_event (state_of table) (length list) (unread s at)) r table list list
+    (s : List ℕ) (at : ℕ) (x : EventError) (table list : List ℕ) →
+    x ≡ cond (cut_short s at) CutShort Malformed →
+    Performs (perform_event (state_of table) (length list) (unread s at)) (Err x) table list list
 unfolding perform_event
-unread_is s at r table list e =
+unread_is s at x table list e =
     by_test
-    (Performs (perform_event (state_of table) (length list) (unread s at)) r table list list)
+    (Performs (perform_event (state_of table) (length list) (unread s at)) (Err x) table list list)
     (cut_short s at)
     (λ k. rw (e, k) (idles table list (Err CutShort)))
     (λ k. rw (e, k) (idles table list (Err Malformed)))
@@ -214,12 +215,12 @@ module _ (s : List ℕ) (time id : ℕ) (groups : List ℕ) (flags size at : ℕ
       (performed _ a table table' list list' (at + size) (rw e at f))
 
 -- ---- numbers that were read into a lent list
-module _ (s : List ℕ) (at n : ℕ) (us : Readings) (v : List ℕ) (e : outcome n us v ≡ numbers_from n s at) where
-  read_whole : us.ok ≡ true → numbers_from n s at ≡ numbers (take n v) us.place
-  read_whole g = sym e ∙ ap (λ (b : Bool). cond b (numbers (take n v) us.place) (broken us.place)) g
+module _ (s : List ℕ) (at n : ℕ) (us : Result ℕ NumberError) (v : List ℕ) (e : outcome n us v ≡ numbers_from n s at) where
+  read_whole : (next : ℕ) → us ≡ Ok next → numbers_from n s at ≡ numbers (take n v) next
+  read_whole next g = sym e ∙ ap (λ (r : Result ℕ NumberError). outcome n r v) g
 
-  read_broken : us.ok ≡ false → numbers_from n s at ≡ broken us.place
-  read_broken g = sym e ∙ ap (λ (b : Bool). cond b (numbers (take n v) us.place) (broken us.place)) g
+  read_broken : (place : ℕ) → us ≡ Err (Unread place) → numbers_from n s at ≡ broken place
+  read_broken place g = sym e ∙ ap (λ (r : Result ℕ NumberError). outcome n r v) g
 
 -- ---- the ends of `counted`
 module _ (s v : List ℕ) (at : ℕ) where
@@ -231,7 +232,7 @@ module _ (s v : List ℕ) (at : ℕ) where
       (ap (λ (b : Bool). cond b (grouped s v (numbers_from (get_or v 2 0 + 2) s at)) malformed) (lt-leb (get_or v 2 0) group_most h))
       (idles table list (Err Malformed))
 
-  module _ (few : get_or v 2 0 ≤ group_most) (us : Readings) (w : List ℕ)
+  module _ (few : get_or v 2 0 ≤ group_most) (us : Result ℕ NumberError) (w : List ℕ)
       (e : outcome (get_or v 2 0 + 2) us w ≡ numbers_from (get_or v 2 0 + 2) s at) where
     at_groups :
         (q : Numbers) (table table' list list' : List ℕ) (r : Result (ℕ × Answer) EventError) →
@@ -243,25 +244,25 @@ module _ (s v : List ℕ) (at : ℕ) where
         (ap₂ (λ (b : Bool) (x : Numbers). cond b (grouped s v x) malformed) (le-leb (get_or v 2 0) group_most few) f) p
 
     pub counted_unread :
-        (table list : List ℕ) (r : Result (ℕ × Answer) EventError) →
-        us.ok ≡ false →
-        r ≡ cond (cut_short s us.place) (Err CutShort) (Err Malformed) →
-        Performs (perform_event (state_of table) (length list) (many s v at)) r table list list
-    counted_unread table list r f h =
-        at_groups (broken us.place) table table list list r (read_broken s at (get_or v 2 0 + 2) us w e f)
-        (unread_is s us.place r table list h)
+        (table list : List ℕ) (place : ℕ) (x : EventError) →
+        us ≡ Err (Unread place) →
+        x ≡ cond (cut_short s place) CutShort Malformed →
+        Performs (perform_event (state_of table) (length list) (many s v at)) (Err x) table list list
+    counted_unread table list place x f h =
+        at_groups (broken place) table table list list (Err x) (read_broken s at (get_or v 2 0 + 2) us w e place f)
+        (unread_is s place x table list h)
 
     -- what was read behind the count
     pub counted_called :
-        (table table' list list' : List ℕ) (r : Result (ℕ × Answer) EventError) →
-        us.ok ≡ true →
+        (table table' list list' : List ℕ) (r : Result (ℕ × Answer) EventError) (next : ℕ) →
+        us ≡ Ok next →
         Performs (perform_event (state_of table) (length list)
-        (named s (get_or v 0 0) (get_or v 1 0) (take (get_or v 2 0) w) (get_or w (get_or v 2 0) 0) (get_or w (get_or v 2 0 + 1) 0) us.place)) r table'
+        (named s (get_or v 0 0) (get_or v 1 0) (take (get_or v 2 0) w) (get_or w (get_or v 2 0) 0) (get_or w (get_or v 2 0 + 1) 0) next)) r table'
         list list' →
         Performs (perform_event (state_of table) (length list) (many s v at)) r table' list list'
-    counted_called table table' list list' r f p =
+    counted_called table table' list list' r next f p =
         let n : ℕ = get_or v 2 0 in
-        at_groups (numbers (take (n + 2) w) us.place) table table' list list' r (read_whole s at (n + 2) us w e f)
+        at_groups (numbers (take (n + 2) w) next) table table' list list' r (read_whole s at (n + 2) us w e next f)
         (rw (take_front n (n + 2) w (omega arith), get_or-take (n + 2) w n 0 (omega arith), get_or-take (n + 2) w (n + 1) 0 (omega arith)) p)
 
 -- ---- the ends of `connecting`
@@ -273,7 +274,7 @@ pub connecting_as :
 connecting_as g h s v at table table' list list' r e p = rw e p
 
 -- ---- the ends of `heartbeat`
-module _ (s v : List ℕ) (at n : ℕ) (g : Edition) (told : n ≡ order_size g) (us : Readings) (order : List ℕ)
+module _ (s v : List ℕ) (at n : ℕ) (g : Edition) (told : n ≡ order_size g) (us : Result ℕ NumberError) (order : List ℕ)
     (e : outcome n us order ≡ numbers_from n s at) where
   at_order :
       (q : Numbers) (table table' list list' : List ℕ) (r : Result (ℕ × Answer) EventError) →
@@ -285,60 +286,60 @@ module _ (s v : List ℕ) (at n : ℕ) (g : Edition) (told : n ≡ order_size g)
       (ap (ordered s v) (ap (λ (k : ℕ). numbers_from k s at) (sym told) ∙ f)) p
 
   pub heartbeat_unread :
-      (table list : List ℕ) (r : Result (ℕ × Answer) EventError) →
-      us.ok ≡ false →
-      r ≡ cond (cut_short s us.place) (Err CutShort) (Err Malformed) →
-      Performs (perform_event (state_of table) (length list) (ordered s v (numbers_from (order_size g) s at))) r table list list
-  heartbeat_unread table list r f h =
-      at_order (broken us.place) table table list list r (read_broken s at n us order e f) (unread_is s us.place r table list h)
+      (table list : List ℕ) (place : ℕ) (x : EventError) →
+      us ≡ Err (Unread place) →
+      x ≡ cond (cut_short s place) CutShort Malformed →
+      Performs (perform_event (state_of table) (length list) (ordered s v (numbers_from (order_size g) s at))) (Err x) table list list
+  heartbeat_unread table list place x f h =
+      at_order (broken place) table table list list (Err x) (read_broken s at n us order e place f) (unread_is s place x table list h)
 
   pub heartbeat_called :
-      (wide : List ℕ) (a : Answer) (table table' list list' : List ℕ) →
-      us.ok ≡ true →
+      (wide : List ℕ) (a : Answer) (table table' list list' : List ℕ) (next : ℕ) →
+      us ≡ Ok next →
       wide ≡ widened (take n order) →
       Follows (heartbeat (get_or v 0 0) (get_or v 1 0) (get_or v 2 0) wide) a table table' list list' →
-      Performs (perform_event (state_of table) (length list) (ordered s v (numbers_from (order_size g) s at))) (Ok (us.place, a)) table'
+      Performs (perform_event (state_of table) (length list) (ordered s v (numbers_from (order_size g) s at))) (Ok (next, a)) table'
       list list'
   unfolding call_of
-  heartbeat_called wide a table table' list list' f w p =
-      at_order (numbers (take n order) us.place) table table' list list' (Ok (us.place, a)) (read_whole s at n us order e f)
-      (performed _ a table table' list list' us.place (rw w at p))
+  heartbeat_called wide a table table' list list' next f w p =
+      at_order (numbers (take n order) next) table table' list list' (Ok (next, a)) (read_whole s at n us order e next f)
+      (performed _ a table table' list list' next (rw w at p))
 
 -- ---- the ends of `perform_kind`
-module _ (g : Edition) (s : List ℕ) (kind at n : ℕ) (us : Readings) (v : List ℕ) (e : outcome n us v ≡ numbers_from n s at) where
+module _ (g : Edition) (s : List ℕ) (kind at n : ℕ) (us : Result ℕ NumberError) (v : List ℕ) (e : outcome n us v ≡ numbers_from n s at) where
   pub kind_unread :
-      (table list : List ℕ) (r : Result (ℕ × Answer) EventError) →
-      us.ok ≡ false →
-      r ≡ cond (cut_short s us.place) (Err CutShort) (Err Malformed) →
-      Performs (perform_event (state_of table) (length list) (of_numbers g s kind (numbers_from n s at))) r table list list
-  kind_unread table list r f h =
-      as_event (state_of table) (length list) (of_numbers g s kind (numbers_from n s at)) (unread s us.place) r table list list
-      (ap (of_numbers g s kind) (read_broken s at n us v e f))
-      (unread_is s us.place r table list h)
+      (table list : List ℕ) (place : ℕ) (x : EventError) →
+      us ≡ Err (Unread place) →
+      x ≡ cond (cut_short s place) CutShort Malformed →
+      Performs (perform_event (state_of table) (length list) (of_numbers g s kind (numbers_from n s at))) (Err x) table list list
+  kind_unread table list place x f h =
+      as_event (state_of table) (length list) (of_numbers g s kind (numbers_from n s at)) (unread s place) (Err x) table list list
+      (ap (of_numbers g s kind) (read_broken s at n us v e place f))
+      (unread_is s place x table list h)
 
-  module _ (z : (k : ℕ) → n ≤ k → get_or v k 0 ≡ 0) (f : us.ok ≡ true) where
-    whole : numbers_from n s at ≡ numbers (take n v) us.place
-    whole = read_whole s at n us v e f
+  module _ (z : (k : ℕ) → n ≤ k → get_or v k 0 ≡ 0) (after : ℕ) (f : us ≡ Ok after) where
+    whole : numbers_from n s at ≡ numbers (take n v) after
+    whole = read_whole s at n us v e after f
 
     pub kind_connect :
         (table table' list list' : List ℕ) (r : Result (ℕ × Answer) EventError) →
         kind ≡ 1 →
-        Performs (perform_event (state_of table) (length list) (connecting g s v us.place)) r table' list list' →
+        Performs (perform_event (state_of table) (length list) (connecting g s v after)) r table' list list' →
         Performs (perform_event (state_of table) (length list) (of_numbers g s kind (numbers_from n s at))) r table' list list'
     kind_connect table table' list list' r k h =
-        as_event (state_of table) (length list) (of_numbers g s kind (numbers_from n s at)) (connecting g s v us.place) r table' list list'
-        (ap₂ (of_numbers g s) k whole ∙ connect_take n v z g s us.place)
+        as_event (state_of table) (length list) (of_numbers g s kind (numbers_from n s at)) (connecting g s v after) r table' list list'
+        (ap₂ (of_numbers g s) k whole ∙ connect_take n v z g s after)
         h
 
     pub kind_heartbeat :
         (table table' list list' : List ℕ) (r : Result (ℕ × Answer) EventError) →
         kind ≡ 11 →
-        Performs (perform_event (state_of table) (length list) (ordered s v (numbers_from (order_size g) s us.place))) r table' list list' →
+        Performs (perform_event (state_of table) (length list) (ordered s v (numbers_from (order_size g) s after))) r table' list list' →
         Performs (perform_event (state_of table) (length list) (of_numbers g s kind (numbers_from n s at))) r table' list list'
     kind_heartbeat table table' list list' r k h =
         as_event (state_of table) (length list) (of_numbers g s kind (numbers_from n s at))
-        (ordered s v (numbers_from (order_size g) s us.place)) r table' list list'
-        (ap₂ (of_numbers g s) k whole ∙ order_take n v z s (numbers_from (order_size g) s us.place))
+        (ordered s v (numbers_from (order_size g) s after)) r table' list list'
+        (ap₂ (of_numbers g s) k whole ∙ order_take n v z s (numbers_from (order_size g) s after))
         h
 
     pub kind_other :
@@ -346,14 +347,14 @@ module _ (g : Edition) (s : List ℕ) (kind at n : ℕ) (us : Readings) (v : Lis
         kind ≢ 1 →
         kind ≢ 11 →
         Follows (call_of kind v []) a table table' list list' →
-        Performs (perform_event (state_of table) (length list) (of_numbers g s kind (numbers_from n s at))) (Ok (us.place, a)) table' list
+        Performs (perform_event (state_of table) (length list) (of_numbers g s kind (numbers_from n s at))) (Ok (after, a)) table' list
         list'
     kind_other table table' list list' a k m p =
-        as_event (state_of table) (length list) (of_numbers g s kind (numbers_from n s at)) (event (call_of kind v []) us.place) _ table'
+        as_event (state_of table) (length list) (of_numbers g s kind (numbers_from n s at)) (event (call_of kind v []) after) _ table'
         list list'
         (ap (of_numbers g s kind) whole
-        ∙ rw (ne_eqb kind 1 k, ne_eqb kind 11 m) (ap (λ (c : Call). event c us.place) (call_of_take n v z kind)))
-        (performed (call_of kind v []) a table table' list list' us.place p)
+        ∙ rw (ne_eqb kind 1 k, ne_eqb kind 11 m) (ap (λ (c : Call). event c after) (call_of_take n v z kind)))
+        (performed (call_of kind v []) a table table' list list' after p)
 
 -- ---- the ends of `perform`
 module _ (g : Edition) (s : List ℕ) (at : ℕ) (q : Option (ℕ × ℕ)) (e : q ≡ read_at 18446744073709551615 s at) where
@@ -367,12 +368,12 @@ module _ (g : Edition) (s : List ℕ) (at : ℕ) (q : Option (ℕ × ℕ)) (e : 
       as_event (state_of table) (length list) (event_at g s at) x r table' list list' (ap (of_kind g s at) (sym e) ∙ f) p
 
   pub perform_bad :
-      (table list : List ℕ) (r : Result (ℕ × Answer) EventError) →
+      (table list : List ℕ) (x : EventError) →
       q ≡ None →
-      r ≡ cond (cut_short s at) (Err CutShort) (Err Malformed) →
-      Performs (perform_event (state_of table) (length list) (event_at g s at)) r table list list
-  perform_bad table list r f h =
-      at_kind (unread s at) table table list list r (ap (of_kind g s at) f) (unread_is s at r table list h)
+      x ≡ cond (cut_short s at) CutShort Malformed →
+      Performs (perform_event (state_of table) (length list) (event_at g s at)) (Err x) table list list
+  perform_bad table list x f h =
+      at_kind (unread s at) table table list list (Err x) (ap (of_kind g s at) f) (unread_is s at x table list h)
 
   pub perform_unknown :
       (table list : List ℕ) (kind next n : ℕ) →

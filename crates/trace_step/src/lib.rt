@@ -1,7 +1,6 @@
 // One event of a trace: read from a window of bytes, called on the lent table, and answered in text in a lent buffer.
 #![tactic(auto)]
 
-ghost use Rattle.std.specs.Prelude.{Err};
 ghost use Rattle.trace_step.specs.declared.EventError.TheVariants.{CutShort, Malformed};
 ghost use Rattle.std.specs.Prelude.{◌≡◌, ◌≢◌, cond, [], length};
 ghost use Rattle.layout.specs.View.{state_of};
@@ -13,9 +12,9 @@ ghost use Rattle.trace_step.specs.Replay.{perform_event, Performs, Replays, repl
 use layout::CELLS;
 use records::{ACTION_ROOM, SLOTS};
 use rules::Answer;
-use trace_events::Edition;
 use trace_events::lines::{LINE_ROOM, put_pair, put_reply};
 use trace_events::reading::{NUMBERS, arity, cut_short, order_size, read_numbers, widen};
+use trace_events::{Edition, NumberError};
 
 // The longest protocol name that is read.
 const NAME_MOST: u64 = 64;
@@ -89,13 +88,13 @@ fn call(table: &mut [u64; CELLS], kind: u64, v: &[u64; NUMBERS], actions: &mut [
 }
 
 // A number that cannot be read: with more bytes it may be whole, or it is malformed.
-fn unread(s: &[u8], at: usize) -> Result<(usize, Answer), EventError>
-    ensures { result ≡ cond (cut_short s.now at) (Err CutShort) (Err Malformed) }
+fn unread(s: &[u8], at: usize) -> EventError
+    ensures { result ≡ cond (cut_short s.now at) CutShort Malformed }
 {
     if cut_short(s, at) {
-        return Err(EventError::CutShort);
+        return EventError::CutShort;
     }
-    Err(EventError::Malformed)
+    EventError::Malformed
 }
 
 // A connect, whose name of `size` bytes begins at a place.
@@ -161,14 +160,13 @@ fn counted(
     }
     let n = count as usize;
     let mut w = [0u64; COUNTED];
-    let us = read_numbers(s, at, n + 2, &mut w);
-    let place = us.place;
-    if !us.ok {
-        return unread(s, place);
-    }
+    let next = match read_numbers(s, at, n + 2, &mut w) {
+        Ok(next) => next,
+        Err(NumberError::Unread(place)) => return Err(unread(s, place)),
+    };
     let flags = w[n];
     let size = w[n + 1];
-    connect(table, s, v[0], v[1], &w[..n], flags, size, place, actions)
+    connect(table, s, v[0], v[1], &w[..n], flags, size, next, actions)
 }
 
 // A connect of an edition.
@@ -205,14 +203,13 @@ fn heartbeat(
 {
     let mut order = [0u64; SLOTS];
     let n = order_size(edition);
-    let us = read_numbers(s, at, n, &mut order);
-    let place = us.place;
-    if !us.ok {
-        return unread(s, place);
-    }
+    let next = match read_numbers(s, at, n, &mut order) {
+        Ok(next) => next,
+        Err(NumberError::Unread(place)) => return Err(unread(s, place)),
+    };
     widen(&mut order, n);
     let a = router::heartbeat(table, v[0], v[1], v[2], &order, actions);
-    Ok((place, a))
+    Ok((next, a))
 }
 
 // The event of a known kind whose n numbers start at a place.
@@ -231,15 +228,14 @@ fn perform_kind(
         actions.new }
 {
     let mut v = [0u64; NUMBERS];
-    let us = read_numbers(s, at, n, &mut v);
-    let place = us.place;
-    if !us.ok {
-        return unread(s, place);
-    }
+    let next = match read_numbers(s, at, n, &mut v) {
+        Ok(next) => next,
+        Err(NumberError::Unread(place)) => return Err(unread(s, place)),
+    };
     match kind {
-        1 => connecting(table, edition, s, &v, place, actions),
-        11 => heartbeat(table, edition, s, &v, place, actions),
-        _ => Ok((place, call(table, kind, &v, actions))),
+        1 => connecting(table, edition, s, &v, next, actions),
+        11 => heartbeat(table, edition, s, &v, next, actions),
+        _ => Ok((next, call(table, kind, &v, actions))),
     }
 }
 
@@ -255,7 +251,7 @@ pub fn perform(
         table.new actions.old actions.new }
 {
     let Some((kind, next)) = varint::read_u64(s, at) else {
-        return unread(s, at);
+        return Err(unread(s, at));
     };
     let n = arity(edition, kind);
     if n == 0 {

@@ -11,6 +11,8 @@ use records::SLOTS;
 
 pub mod flags;
 
+pub mod slots;
+
 // The bits of a word, and the words of a set.
 pub const WORD_BITS: usize = 64;
 

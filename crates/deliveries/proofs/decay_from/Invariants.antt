@@ -1,7 +1,7 @@
 -- `deliveries::decay_from`: after `slot` turns the slots below it are decayed.
 -- Assumes nothing.
 use Rattle.records.specs.Records.{slot_count}
-use Rattle.index.proofs.Kit.{◌≤◌, ◌-◌, ◌≡◌, iter}
+use Rattle.index.proofs.Kit.{◌≤◌, ◌≡◌, iter}
 use lib.ListN.{length}
 use Rattle.layout.specs.View.{cell_count, state_of}
 use Rattle.rules.specs.Step.{decay_slot}
@@ -11,5 +11,3 @@ abbrev pub invariant-loop-slot : goal.invariant-loop-slot
 invariant-loop-slot l =
     (l.slot ≤ slot_count) × (length l.table ≡ cell_count) × (state_of l.table ≡ iter l.slot (decay_slot l.time) (state_of l.initial.table))
 
-abbrev pub decreases-loop-slot : goal.decreases-loop-slot
-decreases-loop-slot l = slot_count - l.slot

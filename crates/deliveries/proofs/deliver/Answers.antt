@@ -1,19 +1,20 @@
--- `deliveries::deliver`: the gate's refusals, or what `deliver_from` leaves.
+-- `deliveries::deliver`: the gate's refusals, or what `deliver_reply` leaves.
 -- Assumes nothing.
 use borrow.Author.Rules.{rules}
-use Rattle.gate.proofs.CallLaws.{gate_ready, call_ends}
-use Rattle.deliveries.proofs.DeliverLaws.{deliver_range, deliver_topic, quiet_deliver}
+use Rattle.gate.proofs.PeerGateLaws.{of_deliver, peer_ends, peer_refusal, peer_quiet}
+use Rattle.deliveries.proofs.DeliverLaws.{quiet_deliver, deliver_range, deliver_topic}
 use Rattle.deliveries.proofs.deliver.Goals as goal
 
-pub deliver_from-requires : goal.deliver_from-requires
-deliver_from-requires c =
-    record {
-      ready = gate_ready _ _ _ _ _ _ c.admit.ensures c.in-Ok.is c.time_ok.ensures (search rules);
-      topic = search deliver_topic;
-    }
+pub deliver_reply-requires : goal.deliver_reply-requires
+deliver_reply-requires c = record { ready = search (peer_ends, rules); topic = search deliver_topic; slot = search peer_ends }
 
 pub returns-in-Err : goal.returns-in-Err
-returns-in-Err c = search (call_ends, deliver_range)
+returns-in-Err c =
+    peer_refusal _ _ _ _ _ _ _ _ (of_deliver _ _ _ _ _) c.time_ok.ensures
+    (deliver_range c.args.id c.args.topic c.args.kind _ _ c.id_ok.ensures c.topic_ok.ensures) c.admit_peer.ensures _ c.in-Err.is
 
 pub returns-in-Ok : goal.returns-in-Ok
-returns-in-Ok c = search (call_ends, deliver_range, quiet_deliver)
+returns-in-Ok c =
+    peer_quiet _ _ _ _ _ _ _ _ (of_deliver _ _ _ _ _) c.time_ok.ensures
+    (deliver_range c.args.id c.args.topic c.args.kind _ _ c.id_ok.ensures c.topic_ok.ensures) c.admit_peer.ensures _ c.in-Ok.is _ _
+    (quiet_deliver _ _ _ _ _) c.deliver_reply.ensures

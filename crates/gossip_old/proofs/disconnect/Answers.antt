@@ -1,16 +1,36 @@
--- `gossip_old::disconnect`: test 12, or what `disconnect_from` gives.
+-- `gossip_old::disconnect`: test 12, or what 01's disconnect answers, and with 0 the connection ended.
 use Rattle.index.proofs.Flags.{yes, no}
-use Rattle.index.proofs.Kit.{refl}
-use Rattle.gossip_old.proofs.OldLaws.{tested, old_passes, old_refused}
+use Rattle.index.proofs.Kit.{refl, rules}
+use Rattle.rules.proofs.CountLaws.{few_actions}
+use Rattle.gossip_old.proofs.OldLaws.{tested, old_refused, old_passes, old_done, old_else, tested_found, besides_disconnect}
 use Rattle.gossip_old.proofs.disconnect.Goals as goal
 
 pub returns-then-not-is_router : goal.returns-then-not-is_router
 returns-then-not-is_router c = old_refused _ _ _ _ refl (no c.is_router.ensures c.if-not-is_router.true)
 
-pub disconnect_from-requires : goal.disconnect_from-requires
-disconnect_from-requires c = tested _ _ (yes c.is_router.ensures c.if-not-is_router.false)
+pub code-requires : goal.code-requires
+code-requires c = few_actions _ _ _ _ _ _ c.disconnect-a.ensures
+
+pub returns-then-number_of-ne0 : goal.returns-then-number_of-ne0
+returns-then-number_of-ne0 c =
+    let t = tested _ _ (yes c.is_router.ensures c.if-not-is_router.false) in
+    let a = c.number_of.ensures in
+    old_passes _ _ _ _ refl _ _ _ _ t (old_else _ _ _ _ _ _ _ c.disconnect-a.ensures _ _ a (search rules) c.code.ensures)
+
+pub part_found-requires : goal.part_found-requires
+part_found-requires c =
+    let t = tested _ _ (yes c.is_router.ensures c.if-not-is_router.false) in
+    let f = c.find_connected-found.ensures in
+    tested_found _ _ _ _ (search rules) t f
+
+pub code-requires-2 : goal.code-requires-2
+code-requires-2 c = few_actions _ _ _ _ _ _ c.disconnect-a.ensures
 
 pub returns : goal.returns
 returns c =
-    old_passes _ _ _ _ refl _ _ _ _ (tested _ _ (yes c.is_router.ensures c.if-not-is_router.false))
-    c.disconnect_from.ensures
+    let t = tested _ _ (yes c.is_router.ensures c.if-not-is_router.false) in
+    let a = c.number_of.ensures in
+    let f = c.find_connected-found.ensures in
+    old_passes _ _ _ _ refl _ _ _ _ t
+    (old_done _ _ _ _ _ _ _ c.disconnect-a.ensures _ _ _ a (search rules) c.code-2.ensures
+    (besides_disconnect _ _ _ _ _ _ f c.part_found.ensures))

@@ -8,6 +8,3 @@ use Rattle.leaving.proofs.leave_slots.Given as goal
 abbrev pub invariant-loop-slot : goal.invariant-loop-slot
 invariant-loop-slot l =
     (l.slot ≤ slot_count) × Walking (state_of l.initial.table) l.initial.actions l.topic l.end l.slot l.table l.actions l.at
-
-abbrev pub decreases-loop-slot : goal.decreases-loop-slot
-decreases-loop-slot l = slot_count - l.slot

@@ -9,6 +9,3 @@ use Rattle.leaving.proofs.negatives.Given as goal
 abbrev pub invariant-loop-slot : goal.invariant-loop-slot
 invariant-loop-slot l =
     Built false (is_negative_member (state_of l.table) l.topic) slot_count l.slot l.flags
-
-abbrev pub decreases-loop-slot : goal.decreases-loop-slot
-decreases-loop-slot l = slot_count - l.slot

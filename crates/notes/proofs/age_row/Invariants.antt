@@ -5,6 +5,3 @@ use Rattle.notes.proofs.age_row.Given as goal
 
 abbrev pub invariant-loop-i : goal.invariant-loop-i
 invariant-loop-i l = Aging l.initial.cells l.cells l.at l.ages l.n l.i l.m l.left
-
-abbrev pub decreases-loop-i : goal.decreases-loop-i
-decreases-loop-i l = l.n - l.i

@@ -8,6 +8,3 @@ use Rattle.notes.proofs.ages_ok.Given as goal
 
 abbrev pub invariant-loop-k : goal.invariant-loop-k
 invariant-loop-k l = (l.k ≤ l.n) × (l.ok ≡ every l.k (λ j. leb (digit l.ages j) 2))
-
-abbrev pub decreases-loop-k : goal.decreases-loop-k
-decreases-loop-k l = l.n - l.k

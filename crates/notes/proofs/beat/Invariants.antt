@@ -6,6 +6,3 @@ use Rattle.notes.proofs.beat.Given as goal
 
 abbrev pub invariant-loop-s : goal.invariant-loop-s
 invariant-loop-s l = Beating l.initial.cells l.cells l.s
-
-abbrev pub decreases-loop-s : goal.decreases-loop-s
-decreases-loop-s l = slot_count - l.s

@@ -1,17 +1,14 @@
+use mathlib.Core.Path.{sym}
 use native.Mathlib.Omega.{arith}
-use borrow.Author.Tests.{eqb-true}
-use Rattle.notes.proofs.NoteLaws.{union_more, still_at}
+use lib.Seq.{length-take-le}
+use Rattle.gossip.proofs.CellLaws.{zero_front}
+use Rattle.notes.proofs.NoteLaws.{still_at}
 use Rattle.notes.proofs.is_quiet.Goals as goal
 
-pub loop-s-init : goal.loop-s-init
-loop-s-init c = (omega arith, λ e k h. absurd (omega arith))
-
-pub loop-s-preserved : goal.loop-s-preserved
-loop-s-preserved c =
-    let l = c.loop-s in
-    (omega arith, union_more c.args.cells.now l.s l.acc l.invariant.1)
+pub slice_bounds-are_zero-end : goal.slice_bounds-are_zero-end
+slice_bounds-are_zero-end c = let p = c.requires in sym (length-take-le 256 _ (omega arith))
 
 pub returns : goal.returns
 returns c e s h =
-    let l = c.loop-s in
-    still_at c.args.cells.now s h (l.invariant.1 (eqb-true _ 0 e) s (omega arith))
+    let p = c.requires in
+    still_at c.args.cells.now s h (zero_front c.args.cells.now 256 _ (omega arith) c.are_zero.ensures e s h)

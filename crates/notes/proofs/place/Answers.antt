@@ -18,4 +18,4 @@ loop-p-preserved c =
 pub returns : goal.returns
 returns c =
     let l = c.loop-p in
-    record { within = omega arith; before = l.invariant.1; after = λ h. absurd (omega arith) }
+    record { within = omega arith; before = λ k h. l.invariant.1 k (omega arith); after = λ h. absurd (omega arith) }

@@ -5,6 +5,3 @@ use Rattle.notes.proofs.place.Given as goal
 
 abbrev pub invariant-loop-p : goal.invariant-loop-p
 invariant-loop-p l = (l.p ≤ l.n) × ((k : ℕ) → k < l.p → get_or l.cells (l.at + k) 0 ≤ l.number)
-
-abbrev pub decreases-loop-p : goal.decreases-loop-p
-decreases-loop-p l = l.n - l.p

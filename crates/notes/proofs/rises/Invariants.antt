@@ -1,4 +1,4 @@
--- `notes::rises`: after k turns the first k numbers are below the one after each.
+-- `notes::rises`: up to k, each number is above the one before it.
 use Prim.Native.Nat.{◌≤◌, ◌-◌}
 use mathlib.Core.Path.{◌≡◌}
 use Rattle.index.specs.Index.{every}
@@ -6,7 +6,4 @@ use Rattle.notes.proofs.SetLaws.{next_above, cells_from}
 use Rattle.notes.proofs.rises.Given as goal
 
 abbrev pub invariant-loop-k : goal.invariant-loop-k
-invariant-loop-k l = (l.k ≤ l.n - 1) × (l.ok ≡ every l.k (next_above (cells_from l.cells l.at)))
-
-abbrev pub decreases-loop-k : goal.decreases-loop-k
-decreases-loop-k l = l.n - l.k
+invariant-loop-k l = (l.k - 1 ≤ l.n - 1) × (l.ok ≡ every (l.k - 1) (next_above (cells_from l.cells l.at)))

@@ -1,43 +1,11 @@
+-- `notice_calls::without_holders`: each slot of the set is asked for the number.
 use borrow.Author.Rules.{rules}
-use Rattle.index.proofs.Kit.{◌≡◌, not, ap, arith}
-use lib.ListN.{length}
-use Rattle.words.specs.Words.{word_count}
-use Rattle.gossip_peers.proofs.SiftLaws.{sifted_none, sifted_next, sifted_more, sifted_done}
-use Rattle.notice_calls.proofs.NoticeLaws.{flags_length}
+use Rattle.index.proofs.Kit.{not}
+use Rattle.gossip.specs.Notes.{note_in, holds}
+use Rattle.gossip_table.specs.View.{gossip_of}
 use Rattle.notice_calls.proofs.without_holders.Goals as goal
 
-pub next-slot-requires : goal.next-slot-requires
-next-slot-requires c = (search rules, omega arith)
-
-pub loop-slot-init : goal.loop-slot-init
-loop-slot-init c =
-    let n = c.next-slot.ensures in
-    let z : length c.args.all ≡ word_count = search rules in
-    (n.most, n.here, sifted_next _ _ _ _ _ n (sifted_none _ _ (flags_length _ z)))
-
-pub holds-requires : goal.holds-requires
-holds-requires c = record { fine = c.requires; slot = c.loop-slot-test.true }
-
-pub next-slot-requires-in-loop-slot : goal.next-slot-requires-in-loop-slot
-next-slot-requires-in-loop-slot c = (search rules, omega (arith, c.loop-slot-test.true))
-
-pub loop-slot-smaller : goal.loop-slot-smaller
-loop-slot-smaller c =
-    let t = c.loop-slot-test.true in
-    let n = c.next-slot-in-loop-slot.ensures.later in
-    omega arith
-
-pub loop-slot-preserved : goal.loop-slot-preserved
-loop-slot-preserved c =
-    let n = c.next-slot-in-loop-slot.ensures in
-    let t = c.loop-slot-test.true in
-    let l = c.loop-slot in (
-      n.most,
-      n.here,
-      sifted_next _ _ _ _ _ n
-          (sifted_more _ _ l.slot _ _ _ t (l.invariant.1 t) (ap not c.holds.ensures)
-          c.put-more.ensures l.invariant.2),
-    )
-
 pub returns : goal.returns
-returns c = let l = c.loop-slot in sifted_done _ _ l.slot _ c.loop-slot-test.false l.invariant.2
+returns c =
+    let a = c.args in
+    c.sift.ensures (λ s. not (holds (note_in (gossip_of a.gossip.now) s) a.number)) (λ s b l e. search rules)

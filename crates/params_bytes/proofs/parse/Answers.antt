@@ -10,12 +10,17 @@ use Rattle.params_bytes.proofs.ReadLaws.{after_none, after_more, after_bad, afte
 use Rattle.params_bytes.proofs.parse.Goals as goal
 
 pub loop-i-init : goal.loop-i-init
-loop-i-init c = (search rules, (refl, after_none param_count _ _ []))
+loop-i-init c = (search rules, (search rules, after_none param_count _ _ c.args.numbers.now))
 
 pub returns-in_default : goal.returns-in_default
-returns-in_default c = let l = c.loop-i in
+returns-in_default c = let l = c.loop-i in (
+  _,
+  (
+    refl,
     after_bad param_count _ _ l.i l.numbers _ _ c.loop-i-test.true l.invariant.1.1
-    c.read_u64.ensures c.in_default.is
+        c.read_u64.ensures c.in_default.is,
+  ),
+)
 
 pub loop-i-preserved : goal.loop-i-preserved
 loop-i-preserved c = let l = c.loop-i in (
@@ -24,7 +29,7 @@ loop-i-preserved c = let l = c.loop-i in (
     simp length-set l.invariant.1.0,
     after_more param_count _ _ l.i l.numbers _ _ _ _ _ (omega arith) (omega arith) l.invariant.1.1
         c.read_u64.ensures c.in-Some.is
-        (to_z-of_z {w = w64} (sfits_of c.number_of-v.type_inv) ∙ c.number_of-v.ensures),
+        (to_z-of_z {w = w64} (sfits_of c.number_of.type_inv) ∙ c.number_of.ensures),
   ),
 )
 

@@ -9,6 +9,3 @@ use Rattle.params_bytes.proofs.parse.Given as goal
 
 abbrev pub invariant-loop-i : goal.invariant-loop-i
 invariant-loop-i l = (l.i ≤ param_count) × ((length l.numbers ≡ param_count) × After param_count l.s l.from l.i l.numbers l.at)
-
-abbrev pub decreases-loop-i : goal.decreases-loop-i
-decreases-loop-i l = param_count - l.i

@@ -2,6 +2,7 @@
 use Prim.Native.Nat.{◌+◌}
 use mathlib.Core.Path.{ap}
 use native.Mathlib.Omega.{arith}
+use Rattle.std.proofs.lemmas.Result.{err_from_is_err_and}
 use Rattle.params_bytes.proofs.WriteLaws.{front_short}
 use Rattle.params_bytes.proofs.ReadLaws.{front_bad, front_good}
 use Rattle.params_bytes.proofs.read_front.Goals as goal
@@ -15,14 +16,13 @@ overflow_add-at c =
     let g = c.well_formed.0.1 in
     record { fits = omega (arith, front_short c.edition_at-edition.result, c.requires) }
 
-pub returns-then-not-p : goal.returns-then-not-p
-returns-then-not-p c =
+pub returns-in_err-place : goal.returns-in_err-place
+returns-in_err-place c =
     let d = c.edition_at-edition in
-    front_bad _ _ d.result d.ensures _ (ap (◌+◌ _) c.front_length.ensures) c.parse-p.result c.parse-p.ensures _
-    c.if-not-p.true c.refused.ensures
+    let p = err_from_is_err_and c.from_residual.result c.from_residual.ensures.1 in
+    rw (p.1, p.2) (front_bad _ _ d.result d.ensures _ (ap (◌+◌ _) c.front_length.ensures) c.parse.new.numbers _ c.in_err-place.ensures)
 
 pub returns : goal.returns
 returns c =
     let d = c.edition_at-edition in
-    front_good _ _ d.result d.ensures _ (ap (◌+◌ _) c.front_length.ensures) c.parse-p.result c.parse-p.ensures _
-    c.if-not-p.false c.judged.ensures
+    front_good _ _ d.result d.ensures _ (ap (◌+◌ _) c.front_length.ensures) _ _ c.in_ok-place.ensures _ c.judged.ensures

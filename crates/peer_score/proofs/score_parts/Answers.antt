@@ -2,17 +2,10 @@
 -- Assumes nothing.
 use Rattle.score.proofs.InputLaws.{slot_in}
 use Rattle.score.proofs.ScoreLaws.{sharers_most, parts_ready, parts_done}
-use Rattle.peer_score.proofs.WeightLaws.{weighing_p2, weighing_p3b, weighing_p4}
 use Rattle.peer_score.proofs.score_parts.Goals as goal
 
-pub weights-w2-requires : goal.weights-w2-requires
-weights-w2-requires c = weighing_p2 _ c.requires.standing
-
-pub weights-w3b-requires : goal.weights-w3b-requires
-weights-w3b-requires c = weighing_p3b _ c.requires.standing
-
-pub weights-w4-requires : goal.weights-w4-requires
-weights-w4-requires c = weighing_p4 _ c.requires.standing
+pub topic_weights-weights-requires : goal.topic_weights-weights-requires
+topic_weights-weights-requires c = c.requires.standing
 
 pub sharers_of-sharers-requires : goal.sharers_of-sharers-requires
 sharers_of-sharers-requires c = c.requires.standing.size
@@ -22,7 +15,7 @@ topics_at-topics-requires c =
     let p = c.requires in
     record {
       at = record { standing = p.standing; slot = p.slot };
-      weights = record { p2 = c.weights-w2.ensures; p3b = c.weights-w3b.ensures; p4 = c.weights-w4.ensures };
+      weights = c.topic_weights-weights.ensures;
     }
 
 pub load_general-requires : goal.load_general-requires

@@ -14,9 +14,6 @@ shares-n-requires c =
 pub overflow_add-n : goal.overflow_add-n
 overflow_add-n c = let b = c.records_end-end.ensures.0 in let d = c.shares-n.ensures.1 in omega arith
 
-pub overflow_add-slot : goal.overflow_add-slot
-overflow_add-slot c = let b = c.records_end-end.ensures.0 in omega arith
-
 pub loop-slot-preserved : goal.loop-slot-preserved
 loop-slot-preserved c =
     let d = c.shares-n.ensures.1 in

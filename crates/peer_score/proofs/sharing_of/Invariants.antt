@@ -9,6 +9,3 @@ use Rattle.peer_score.proofs.sharing_of.Given as goal
 
 abbrev pub invariant-loop-slot : goal.invariant-loop-slot
 invariant-loop-slot l = (l.slot ≤ l.end) × ((l.n ≤ l.slot) × (l.n ≡ count l.slot (shares_group (state_of l.table) l.group)))
-
-abbrev pub decreases-loop-slot : goal.decreases-loop-slot
-decreases-loop-slot l = l.end - l.slot

@@ -6,10 +6,10 @@ use Rattle.peers.proofs.connect_from.Goals as goal
 pub returns-in_default : goal.returns-in_default
 returns-in_default c = connect_unknown _ _ _ _ _ _ _ c.version_of.ensures c.in_default.is
 
-pub returns-in-Some : goal.returns-in-Some
-returns-in-Some c =
+pub returns-in-Some-find_connected : goal.returns-in-Some-find_connected
+returns-in-Some-find_connected c =
     connect_already _ _ _ _ _ _ _ c.version_of.ensures _
-    c.in-Some.is _ (search) _ c.in-Some.is
+    c.in-Some.is _ (search) _ c.in-Some-find_connected.is
 
 pub connect_known-requires : goal.connect_known-requires
 connect_known-requires c = (

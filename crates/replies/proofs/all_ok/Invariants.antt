@@ -9,6 +9,3 @@ use Rattle.replies.proofs.all_ok.Given as goal
 
 abbrev pub invariant-loop-r : goal.invariant-loop-r
 invariant-loop-r l = (l.r ≤ l.u) × (length (replies_of l.cells) ≡ rows_in l.cells) × Tested (on_bits l.connected) l.most l.cells l.r
-
-abbrev pub decreases-loop-r : goal.decreases-loop-r
-decreases-loop-r l = l.u - l.r

@@ -8,6 +8,3 @@ use Rattle.replies.proofs.keep_rows.Given as goal
 
 abbrev pub invariant-loop-r : goal.invariant-loop-r
 invariant-loop-r l = (l.r ≤ l.u) × (length (replies_of l.initial.cells) ≡ rows_in l.initial.cells) × Keeping l.initial.cells l.cells l.flags l.r l.w
-
-abbrev pub decreases-loop-r : goal.decreases-loop-r
-decreases-loop-r l = l.u - l.r

@@ -9,6 +9,3 @@ use Rattle.replies.proofs.lanes_ok.Given as goal
 
 abbrev pub invariant-loop-j : goal.invariant-loop-j
 invariant-loop-j l = (l.j ≤ lane_count) × (every l.j (λ i. lane_fits (on_bits l.connected) l.most (lane_count * l.k + i) (lane_in l.x i)) ≡ true)
-
-abbrev pub decreases-loop-j : goal.decreases-loop-j
-decreases-loop-j l = lane_count - l.j

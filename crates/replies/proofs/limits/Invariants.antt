@@ -9,6 +9,3 @@ use Rattle.replies.proofs.limits.Given as goal
 
 abbrev pub invariant-loop-k : goal.invariant-loop-k
 invariant-loop-k l = (l.k ≤ lane_cells) × (length l.l ≡ lane_cells) × AllowTo (on_bits l.connected) l.most l.k l.l
-
-abbrev pub decreases-loop-k : goal.decreases-loop-k
-decreases-loop-k l = lane_cells - l.k

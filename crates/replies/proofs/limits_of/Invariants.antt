@@ -5,6 +5,3 @@ use Rattle.replies.proofs.limits_of.Given as goal
 
 abbrev pub invariant-loop-j : goal.invariant-loop-j
 invariant-loop-j l = Joined (on_bits l.connected) l.most l.k l.j l.w
-
-abbrev pub decreases-loop-j : goal.decreases-loop-j
-decreases-loop-j l = l.j

@@ -1,36 +1,25 @@
-use Prim.Native.Nat.{◌+◌, ◌/◌}
+-- `replies::place_of`: the rows rise, so those below the place that is found have smaller numbers, and the others do not.
+use Prim.Native.Nat.{ℕ}
+use mathlib.Core.List.{List}
 use mathlib.Core.Path.{sym}
-use native.Mathlib.Omega.{arith}
-use Rattle.replies.specs.View.{replies_of}
-use Rattle.replies.proofs.RowLaws.{rows_length, number_load}
-use Rattle.replies.proofs.CallLaws.{halve_none, halve_up, halve_down, halve_done}
+use lib.Dec.{ltb}
+use lib.ListN.{get_or}
+use Rattle.std.proofs.Common.{rules}
+use Rattle.std.proofs.lemmas.List.Sorted.{IsPartitionPoint-from_clause}
+use Rattle.replies.proofs.CallLaws.{rows_fit, parted_rows, placed_point}
 use Rattle.replies.proofs.place_of.Goals as goal
 
-pub loop-low-init : goal.loop-low-init
-loop-low-init c =
-    let a = c.args in
-    let e = rows_length a.cells.now in
-    (e, halve_none (replies_of a.cells.now) a.n _ (sym e))
-
-pub loop-low-preserved-then-cells-mid : goal.loop-low-preserved-then-cells-mid
-loop-low-preserved-then-cells-mid c =
-    let l = c.loop-low in
-    let e = number_load c.args.cells.now ((l.low + l.high) / 2) (omega arith) in (
-      l.invariant.0,
-      halve_up (replies_of c.args.cells.now) c.args.n c.requires.rise l.low l.high _ (omega arith) (omega arith) l.invariant.1
-          (rw e c.if-cells-mid.true),
-    )
-
-pub loop-low-preserved : goal.loop-low-preserved
-loop-low-preserved c =
-    let l = c.loop-low in
-    let e = number_load c.args.cells.now ((l.low + l.high) / 2) (omega arith) in (
-      l.invariant.0,
-      halve_down (replies_of c.args.cells.now) c.args.n c.requires.rise l.low l.high _ (omega arith) (omega arith) l.invariant.1
-          (rw e c.if-cells-mid.false),
-    )
+pub slice_bounds-partition_point-end : goal.slice_bounds-partition_point-end
+slice_bounds-partition_point-end c = rows_fit _ _ c.requires c.as_chunks.ensures.front_len
 
 pub returns : goal.returns
 returns c =
-    let l = c.loop-low in
-    halve_done (replies_of c.args.cells.now) c.args.n l.low l.high (omega arith) l.invariant.1
+    let a = c.args in
+    let s = c.requires in
+    let rows = c.as_chunks.result.0.now in
+    let f = c.as_chunks.ensures.front in
+    let e = sym (rows_fit a.cells.now rows s c.as_chunks.ensures.front_len) in
+    let p = parted_rows a.cells.now rows a.n s f e in
+    placed_point a.cells.now rows a.n s f e _ c.partition_point.ensures.bound
+    (IsPartitionPoint-from_clause (λ (y : List ℕ). ltb (get_or y 0 0) a.n) _ _ c.partition_point.ensures.partitioned p
+    (λ x r q k. search rules))

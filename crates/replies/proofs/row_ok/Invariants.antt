@@ -11,6 +11,3 @@ use Rattle.replies.proofs.row_ok.Given as goal
 abbrev pub invariant-loop-k : goal.invariant-loop-k
 invariant-loop-k l =
     (l.k ≤ lane_cells) × (every l.k (λ i. cell_fits (on_bits l.connected) l.most i (get_or l.cells (start_of l.r + (2 + i)) 0)) ≡ true)
-
-abbrev pub decreases-loop-k : goal.decreases-loop-k
-decreases-loop-k l = lane_cells - l.k

@@ -1,16 +1,14 @@
+use Prim.Native.Nat.{◌*◌}
 use native.Mathlib.Omega.{arith}
-use mathlib.Core.Path.{◌≡◌}
-use Rattle.gossip.specs.Notes.{window_count}
-use Rattle.stores.proofs.ChangeLaws.{emptied_more, emptied_cells}
+use Rattle.gossip.proofs.CellLaws.{filled}
+use Rattle.stores.proofs.ChangeLaws.{emptied_cells}
 use Rattle.stores.proofs.ViewLaws.{changed_stores}
 use Rattle.stores.proofs.empty.Goals as goal
 
-pub loop-w-preserved : goal.loop-w-preserved
-loop-w-preserved c = (omega arith, emptied_more _ _ _ _ c.loop-w.invariant.1 (omega arith))
-
 pub returns : goal.returns
 returns c =
-    let l = c.loop-w in
-    let w : l.w ≡ window_count = omega arith in
-    let m = emptied_cells _ _ _ c.requires.0 c.requires.1 (rw w at l.invariant.1) in
+    let a = c.args in
+    let s = c.requires.0.cells in
+    let f = filled a.cells.now _ (a.t * 5) _ 5 (omega arith) (omega arith) (c.fill.ensures.after (λ y e. e)) in
+    let m = emptied_cells _ _ a.t c.requires.0 c.requires.1 f in
     (changed_stores _ _ _ _ m, m.windows)

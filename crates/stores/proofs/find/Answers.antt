@@ -1,9 +1,9 @@
 use native.Mathlib.Omega.{arith}
 use mathlib.Core.Path.{sym, ◌∙◌}
-use borrow.Author.Tests.{lt-ltb}
 use Rattle.index.proofs.Flags.{yes, no}
 use Rattle.stores.proofs.ChangeLaws.{window_of}
 use Rattle.stores.proofs.HasLaws.{some_none, some_more, some_out, some_in}
+use Rattle.stores.proofs.ListLaws.{place_out}
 use Rattle.stores.proofs.ViewLaws.{stored_all}
 use Rattle.stores.proofs.find.Goals as goal
 
@@ -14,17 +14,12 @@ pub is_in_window-requires : goal.is_in_window-requires
 is_in_window-requires c = window_of _ _ c.requires (omega arith)
 
 pub place_in-requires : goal.place_in-requires
-place_in-requires c =
-    (window_of _ _ c.requires (omega arith), yes c.is_in_window.ensures c.if-is_in_window.true)
+place_in-requires c = window_of _ _ c.requires (omega arith)
 
 pub returns-then-is_in_window : goal.returns-then-is_in_window
 returns-then-is_in_window c =
-    let b = c.place_in.ensures in (
-      omega arith,
-      lt-ltb _ _ b
-          ∙ some_out _ _ c.loop-p.p (omega arith) (yes c.is_in_window.ensures c.if-is_in_window.true)
-          ∙ sym (stored_all _ _),
-    )
+    let h = yes c.is_in_window.ensures c.if-is_in_window.true in
+    place_out _ _ _ h (stored_all _ _ ∙ sym (some_out _ _ c.loop-p.p (omega arith) h)) c.place_in.ensures
 
 pub loop-p-preserved : goal.loop-p-preserved
 loop-p-preserved c =
@@ -33,4 +28,4 @@ loop-p-preserved c =
 pub returns : goal.returns
 returns c =
     let l = c.loop-p in
-    (omega arith, some_in _ _ l.p l.invariant.0 (omega arith) l.invariant.1 ∙ sym (stored_all _ _))
+    stored_all _ _ ∙ sym (some_in _ _ l.p l.invariant.0 (omega arith) l.invariant.1)

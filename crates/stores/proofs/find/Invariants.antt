@@ -8,6 +8,3 @@ use Rattle.stores.proofs.find.Given as goal
 
 abbrev pub invariant-loop-p : goal.invariant-loop-p
 invariant-loop-p l = (l.p ≤ all_windows) × (some l.p (λ q. has l.n (window_at l.cells q)) ≡ false)
-
-abbrev pub decreases-loop-p : goal.decreases-loop-p
-decreases-loop-p l = all_windows - l.p

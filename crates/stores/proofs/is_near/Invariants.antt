@@ -5,6 +5,3 @@ use Rattle.stores.proofs.is_near.Given as goal
 
 abbrev pub invariant-loop-moved : goal.invariant-loop-moved
 invariant-loop-moved l = l.moved ≤ window_count
-
-abbrev pub decreases-loop-moved : goal.decreases-loop-moved
-decreases-loop-moved l = window_count - l.moved

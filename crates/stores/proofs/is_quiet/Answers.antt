@@ -1,13 +1,14 @@
+use mathlib.Core.Path.{sym}
 use native.Mathlib.Omega.{arith}
-use borrow.Author.Tests.{eqb-true}
-use Rattle.stores.proofs.ListLaws.{quiet_more}
+use lib.Seq.{length-take-le}
+use Rattle.gossip.proofs.CellLaws.{zero_front}
 use Rattle.stores.proofs.ViewLaws.{stores_none}
 use Rattle.stores.proofs.is_quiet.Goals as goal
 
-pub loop-p-preserved : goal.loop-p-preserved
-loop-p-preserved c = (omega arith, quiet_more c.args.cells.now _ _ c.loop-p.invariant.1)
+pub slice_bounds-are_zero-end : goal.slice_bounds-are_zero-end
+slice_bounds-are_zero-end c = let p = c.requires in sym (length-take-le 40 _ (omega arith))
 
 pub returns : goal.returns
-returns c = λ e.
-    let l = c.loop-p in
-    stores_none _ (λ q b. l.invariant.1 (eqb-true _ 0 e) q (omega arith))
+returns c e =
+    let p = c.requires in
+    stores_none c.args.cells.now (zero_front c.args.cells.now 40 _ (omega arith) c.are_zero.ensures e)

@@ -8,6 +8,3 @@ use Rattle.stores.proofs.is_stored_in.Given as goal
 
 abbrev pub invariant-loop-w : goal.invariant-loop-w
 invariant-loop-w l = (l.w ≤ window_count) × (some l.w (λ v. has l.n (window_at l.cells (l.t * window_count + v))) ≡ false)
-
-abbrev pub decreases-loop-w : goal.decreases-loop-w
-decreases-loop-w l = window_count - l.w

@@ -57,28 +57,28 @@ returns-in-Ok c = (
   ),
 )
 
-pub shape_of-buf-in-Outside : goal.shape_of-buf-in-Outside
-shape_of-buf-in-Outside c = c.put_head.auto.buf
+pub shape_of-buf-in-Err-Outside : goal.shape_of-buf-in-Err-Outside
+shape_of-buf-in-Err-Outside c = c.put_head.auto.buf
 
-pub shape_of-page-in-Outside : goal.shape_of-page-in-Outside
-shape_of-page-in-Outside c = c.export.auto.buf
+pub shape_of-page-in-Err-Outside : goal.shape_of-page-in-Err-Outside
+shape_of-page-in-Err-Outside c = c.export.auto.buf
 
-pub returns-in-Outside : goal.returns-in-Outside
-returns-in-Outside c = (
+pub returns-in-Err-Outside : goal.returns-in-Err-Outside
+returns-in-Err-Outside c = (
   exported_outside
       c.args.all.numbers
       c.args.page.now _ _
       c.requires.1
       c.export.ensures _ _ _ _
-      c.in-Outside.is c.put_head.ensures.0,
+      (rw c.in-Err-Outside.field-0-is at c.in-Err-Outside.is) c.put_head.ensures.0,
   omega arith,
 )
 
-pub shape_of-page-in-Short : goal.shape_of-page-in-Short
-shape_of-page-in-Short c = c.export.auto.buf
+pub shape_of-page-in-Err-Short : goal.shape_of-page-in-Err-Short
+shape_of-page-in-Err-Short c = c.export.auto.buf
 
-pub returns-in-Short : goal.returns-in-Short
-returns-in-Short c = exported_short c.args.all.numbers
+pub returns-in-Err-Short : goal.returns-in-Err-Short
+returns-in-Err-Short c = exported_short c.args.all.numbers
     c.args.page.now _ _
     c.requires.1 c.export.ensures
-    c.in-Short.is
+    (rw c.in-Err-Short.field-0-is at c.in-Err-Short.is)

@@ -4,15 +4,7 @@ use Rattle.supplier.proofs.OutputLaws.{own_stored}
 use Rattle.supplier.proofs.write_own.Goals as goal
 
 pub returns-in-Ok : goal.returns-in-Ok
-returns-in-Ok c = own_stored c.args.all _ _ _ _
-    c.in-Ok.is c.requires (search rules)
-    c.write.ensures
+returns-in-Ok c = own_stored c.args.all _ _ _ _ c.in-Ok.is c.requires (search rules) c.write.ensures
 
-pub returns-in-Short : goal.returns-in-Short
-returns-in-Short c = own_stored c.args.all _ _ _ _ c.in-Short.is
-    c.requires (search rules) c.write.ensures
-
-pub returns-in-Outside : goal.returns-in-Outside
-returns-in-Outside c = own_stored c.args.all _ _ _ _
-    c.in-Outside.is c.requires (search rules)
-    c.write.ensures
+pub returns-in-Err : goal.returns-in-Err
+returns-in-Err c = own_stored c.args.all _ _ _ _ c.in-Err.is c.requires (search rules) c.write.ensures

@@ -19,10 +19,10 @@ units-requires c = sound_span _ _ _ _ c.in-Span.is c.requires
 pub returns-in-Factor : goal.returns-in-Factor
 returns-in-Factor c = convert_factor _ _ _ _ _ _ c.in-Factor.is c.thousandths.ensures c.number_of.ensures
 
-pub returns-in-Some : goal.returns-in-Some
-returns-in-Some c =
-    let f : SFits w64 c.in-Some.z = search rules in
-    convert_whole _ _ _ _ _ c.in-Some.is (rw (to_z-of_z f) at c.whole.ensures)
+pub returns-in-Whole : goal.returns-in-Whole
+returns-in-Whole c =
+    let f : SFits w64 c.in-Whole.z = search rules in
+    convert_whole _ _ _ _ _ c.in-Whole.is (rw (to_z-of_z f) at c.whole.ensures)
 
 pub returns-in-Span : goal.returns-in-Span
 returns-in-Span c = convert_span _ _ _ _ _ c.in-Span.is c.units.ensures

@@ -6,12 +6,13 @@ use Rattle.supplier_params.proofs.ImportLaws.{taken_none, taken_more, taken_brok
 use Rattle.supplier_params.proofs.entries.Goals as goal
 
 pub loop-i-init : goal.loop-i-init
-loop-i-init c = taken_none _ _ refl
+loop-i-init c = taken_none _ _ (search rules)
 
 pub returns-in_default : goal.returns-in_default
-returns-in_default c = let l = c.loop-i in
-    taken_broken _ l.i l.numbers _ l.invariant c.loop-i-test.true c.number_at.ensures
-    c.in_default.is
+returns-in_default c = let l = c.loop-i in (
+  _,
+  (refl, taken_broken _ l.i l.numbers _ l.invariant c.loop-i-test.true c.number_at.ensures c.in_default.is),
+)
 
 pub bounds-numbers-i : goal.bounds-numbers-i
 bounds-numbers-i c = let l = c.loop-i in omega (arith, l.invariant.len)

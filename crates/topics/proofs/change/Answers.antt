@@ -1,11 +1,11 @@
--- `topics::change`: the gate's refusals, or what `change_from` leaves.
+-- `topics::change`: the gate's refusals, or what `change_reply` leaves.
 use borrow.Author.Rules.{rules}
-use Rattle.gate.proofs.CallLaws.{call_ends}
+use Rattle.gate.proofs.PeerGateLaws.{peer_ends}
 use Rattle.topics.proofs.ReplyLaws.{change_refusal, change_follows}
 use Rattle.topics.proofs.change.Goals as goal
 
-pub change_from-requires : goal.change_from-requires
-change_from-requires c = record { ready = search (call_ends, rules); topic = search call_ends }
+pub change_reply-requires : goal.change_reply-requires
+change_reply-requires c = record { ready = search (peer_ends, rules); topic = search peer_ends; slot = search peer_ends }
 
 pub returns-in-Err : goal.returns-in-Err
 returns-in-Err c = search change_refusal

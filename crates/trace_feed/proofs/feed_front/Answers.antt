@@ -6,24 +6,24 @@ use Rattle.trace_feed.proofs.feed_front.Goals as goal
 pub feed_params-requires : goal.feed_params-requires
 feed_params-requires c = (
   search rules,
-  begins_within _ _ c.front_in-front.ensures _ _ c.in-Begins.is,
+  begins_within _ _ c.front_in.ensures _ _ c.in-Ok.is,
 )
 
 pub returns-then-last : goal.returns-then-last
 returns-then-last c =
-    front_ends _ _ c.front_in-front.ensures _
+    front_ends _ _ c.front_in.ensures _
     c.in-Cut.is _ _ _ _ c.if-last.true
     c.put_pair-then-last.ensures
 
-pub returns-in-Begins : goal.returns-in-Begins
-returns-in-Begins c =
-    front_begins _ _ c.front_in-front.ensures _ _ _ _ _ _ _ _
-    c.in-Begins.is c.feed_params.ensures
+pub returns-in-Ok : goal.returns-in-Ok
+returns-in-Ok c =
+    front_begins _ _ c.front_in.ensures _ _ _ _ _ _ _ _
+    c.in-Ok.is c.feed_params.ensures
 
 pub returns-in-Other : goal.returns-in-Other
 returns-in-Other c =
-    front_other _ _ c.front_in-front.ensures _ _ _ _ _
+    front_other _ _ c.front_in.ensures _ _ _ _ _
     c.in-Other.is c.put_pair.ensures
 
 pub returns-else-last : goal.returns-else-last
-returns-else-last c = front_want _ _ c.front_in-front.ensures _ c.in-Cut.is _ _ c.if-last.false
+returns-else-last c = front_want _ _ c.front_in.ensures _ c.in-Cut.is _ _ c.if-last.false

@@ -21,7 +21,7 @@ returns-in_default-perform c =
     let t = c.loop-calls-test.true in
     let k = l.invariant.1.0 in
     ran_stopped _ _ _ _ _ (search rules) l.at l.calls _ _ _ _ (accepted _ _ _ _ m d) (l.invariant.1.1 _ (begins _ _ _ _ m d)) _ _ _
-    (omega arith) c.perform.ensures c.in_default-perform.not-Answered
+    (omega arith) c.perform.ensures (λ next a e. c.in_default-perform.not-Ok (next, a) e)
 
 pub code-requires : goal.code-requires
 code-requires c = few_actions _ _ _ _ _ _ c.perform.ensures _ _ c.in-Ok.is

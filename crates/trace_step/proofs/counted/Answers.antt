@@ -3,21 +3,20 @@ use borrow.Author.Rules.{rules}
 use native.Mathlib.Omega.{arith}
 use mathlib.Core.Path.{refl, sym}
 use lib.Seq.{length-take-le}
-use Rattle.index.proofs.Flags.{failed, passed}
 use Rattle.trace_step.proofs.ReplayLaws.{counted_many, counted_unread, counted_called}
 use Rattle.trace_step.proofs.counted.Goals as goal
 
 pub returns-then-count-gt-GROUP_MOST : goal.returns-then-count-gt-GROUP_MOST
 returns-then-count-gt-GROUP_MOST c = counted_many c.args.s.now c.args.v.now c.args.at _ _ c.if-count-gt-GROUP_MOST.true
 
-pub read_numbers-us-requires : goal.read_numbers-us-requires
-read_numbers-us-requires c = let h = c.if-count-gt-GROUP_MOST.false in omega arith
+pub read_numbers-requires : goal.read_numbers-requires
+read_numbers-requires c = let h = c.if-count-gt-GROUP_MOST.false in omega arith
 
-pub returns-then-not-us : goal.returns-then-not-us
-returns-then-not-us c =
-    let u = c.read_numbers-us in
+pub returns-in-Unread : goal.returns-in-Unread
+returns-in-Unread c =
+    let u = c.read_numbers in
     counted_unread c.args.s.now c.args.v.now c.args.at c.if-count-gt-GROUP_MOST.false
-    u.result _ u.ensures.0 _ _ _ (failed refl c.if-not-us.true) c.unread.ensures
+    u.result _ u.ensures.0 _ _ _ _ c.in-Unread.is c.unread.ensures
 
 pub offset_bounds-w-n : goal.offset_bounds-w-n
 offset_bounds-w-n c = let h = c.if-count-gt-GROUP_MOST.false in search rules
@@ -43,8 +42,8 @@ slice_bounds-connect-end c = let h = c.if-count-gt-GROUP_MOST.false in
 
 pub returns : goal.returns
 returns c =
-    let u = c.read_numbers-us in
+    let u = c.read_numbers in
     counted_called c.args.s.now c.args.v.now c.args.at
     c.if-count-gt-GROUP_MOST.false u.result _
-    u.ensures.0 _ _ _ _ _ (passed refl c.if-not-us.false)
+    u.ensures.0 _ _ _ _ _ _ c.in-Ok.is
     c.connect.ensures

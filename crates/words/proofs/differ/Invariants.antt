@@ -11,6 +11,3 @@ use Rattle.words.proofs.differ.Given as goal
 abbrev pub invariant-loop-i : goal.invariant-loop-i
 invariant-loop-i l =
     (length l.a ≡ word_count) × (length l.b ≡ word_count) × Built 0 (λ k. bit_xor (get_or l.a k 0) (get_or l.b k 0)) word_count l.i l.r
-
-abbrev pub decreases-loop-i : goal.decreases-loop-i
-decreases-loop-i l = word_count - l.i

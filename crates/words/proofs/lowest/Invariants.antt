@@ -9,6 +9,3 @@ use Rattle.words.proofs.lowest.Given as goal
 
 abbrev pub invariant-loop-i : goal.invariant-loop-i
 invariant-loop-i l = (l.i ≤ word_count) × (length l.m ≡ word_count) × Passed l.m l.i
-
-abbrev pub decreases-loop-i : goal.decreases-loop-i
-decreases-loop-i l = word_count - l.i

@@ -8,6 +8,3 @@ use Rattle.words.proofs.lowest_from.Given as goal
 
 abbrev pub invariant-loop-k : goal.invariant-loop-k
 invariant-loop-k l = (l.i ≤ l.k) × (l.k ≤ word_count) × (length l.m ≡ word_count) × Clear (bits_of l.m) (word_bits * l.i) (word_bits * l.k)
-
-abbrev pub decreases-loop-k : goal.decreases-loop-k
-decreases-loop-k l = word_count - l.k

@@ -11,6 +11,3 @@ use Rattle.words.proofs.size.Given as goal
 abbrev pub invariant-loop-i : goal.invariant-loop-i
 invariant-loop-i l =
     (l.i ≤ word_count) × (length l.m ≡ word_count) × (l.n ≤ word_bits * l.i) × (l.n ≡ count (word_bits * l.i) (λ s. get_or (bits_of l.m) s false))
-
-abbrev pub decreases-loop-i : goal.decreases-loop-i
-decreases-loop-i l = word_count - l.i

@@ -1,45 +1,12 @@
-use Rattle.index.proofs.Kit.{◌≡◌, ℕ, not, ap, arith}
+-- `gossip_peers::relays::without`: each slot of the set is asked for its id.
 use borrow.Author.Rules.{rules}
+use Rattle.index.proofs.Kit.{not}
 use lib.Dec.{eqb}
-use lib.ListN.{length}
-use Rattle.words.specs.Words.{word_count}
-use Rattle.heartbeat.proofs.SeenLaws.{flags_length}
-use Rattle.gossip_peers.proofs.SiftLaws.{sifted_none, sifted_next, sifted_more, sifted_done}
+use Rattle.records.specs.Records.{peer_in}
+use Rattle.layout.specs.View.{state_of}
 use Rattle.gossip_peers.proofs.relays.without.Goals as goal
 
-pub next-slot-requires : goal.next-slot-requires
-next-slot-requires c = (search rules, omega arith)
-
-pub loop-slot-init : goal.loop-slot-init
-loop-slot-init c =
-    let n = c.next-slot.ensures in
-    let z : length c.args.all ≡ word_count = search rules in
-    (n.most, n.here, sifted_next _ _ _ _ _ n (sifted_none _ _ (flags_length _ z)))
-
-pub load_id-requires : goal.load_id-requires
-load_id-requires c = (c.requires, c.loop-slot-test.true)
-
-pub next-slot-requires-in-loop-slot : goal.next-slot-requires-in-loop-slot
-next-slot-requires-in-loop-slot c = (search rules, omega (arith, c.loop-slot-test.true))
-
-pub loop-slot-smaller : goal.loop-slot-smaller
-loop-slot-smaller c =
-    let t = c.loop-slot-test.true in
-    let n = c.next-slot-in-loop-slot.ensures.later in
-    omega arith
-
-pub loop-slot-preserved : goal.loop-slot-preserved
-loop-slot-preserved c =
-    let n = c.next-slot-in-loop-slot.ensures in
-    let t = c.loop-slot-test.true in
-    let l = c.loop-slot in
-    let id = c.args.id in (
-      n.most,
-      n.here,
-      sifted_next _ _ _ _ _ n
-          (sifted_more _ _ l.slot _ _ _ t (l.invariant.1 t) (ap (λ (k : ℕ). not (eqb k id)) c.load_id.ensures)
-          c.put-more.ensures l.invariant.2),
-    )
-
 pub returns : goal.returns
-returns c = let l = c.loop-slot in sifted_done _ _ l.slot _ c.loop-slot-test.false l.invariant.2
+returns c =
+    let a = c.args in
+    c.sift.ensures (λ s. not (eqb (peer_in (state_of a.table.now) s).id a.id)) (λ s b l e. search rules)

@@ -10,7 +10,7 @@ use Rattle.gossip_peers.proofs.targets.targets.Goals as goal
 
 pub returns-then-size-eq0 : goal.returns-then-size-eq0
 returns-then-size-eq0 c =
-    let o = c.outsiders-all in
+    let o = c.eligible-all in
     let z : length o.result ≡ word_count = search rules in
     targets_none _ _ _ (flags_length _ z) o.ensures (sym c.size.ensures ∙ c.if-size-eq0.true)
 
@@ -24,5 +24,5 @@ without_low-requires c = record {
 }
 
 pub returns : goal.returns
-returns c = let o = c.outsiders-all in targets_are _ _ (bits_of
+returns c = let o = c.eligible-all in targets_are _ _ (bits_of
     o.result) _ o.ensures c.without_low.ensures

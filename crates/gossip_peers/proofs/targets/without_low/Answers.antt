@@ -1,62 +1,12 @@
-use Rattle.index.proofs.Kit.{◌≡◌, not, ap, arith}
+-- `gossip_peers::targets::without_low`: each slot of the set is asked for its score.
 use borrow.Author.Rules.{rules}
-use lib.ListN.{length}
-use Rattle.words.specs.Words.{word_count}
-use Rattle.peer_score.proofs.WeightLaws.{weighing_p2, weighing_p3b, weighing_p4}
-use Rattle.heartbeat.proofs.SeenLaws.{flags_length}
-use Rattle.gossip_peers.proofs.SiftLaws.{sifted_none, sifted_next, sifted_more, sifted_done}
+use Rattle.index.proofs.Kit.{not}
+use Rattle.layout.specs.View.{state_of}
+use Rattle.gossip_peers.specs.Peers.{is_low}
 use Rattle.gossip_peers.proofs.targets.without_low.Goals as goal
 
-pub weights-w2-requires : goal.weights-w2-requires
-weights-w2-requires c = weighing_p2 _ c.requires.standing
-
-pub weights-w3b-requires : goal.weights-w3b-requires
-weights-w3b-requires c = weighing_p3b _ c.requires.standing
-
-pub weights-w4-requires : goal.weights-w4-requires
-weights-w4-requires c = weighing_p4 _ c.requires.standing
-
-pub next-slot-requires : goal.next-slot-requires
-next-slot-requires c = (search rules, omega arith)
-
-pub loop-slot-init : goal.loop-slot-init
-loop-slot-init c =
-    let n = c.next-slot.ensures in
-    let z : length c.args.all ≡ word_count = search rules in
-    (n.most, n.here, sifted_next _ _ _ _ _ n (sifted_none _ _ (flags_length _ z)))
-
-pub is_low-low-requires : goal.is_low-low-requires
-is_low-low-requires c =
-    let p = c.requires in
-    record {
-      at = record { standing = p.standing; slot = c.loop-slot-test.true };
-      buckets = p.buckets;
-      weights = record {
-        p2 = c.weights-w2.ensures;
-        p3b = c.weights-w3b.ensures;
-        p4 = c.weights-w4.ensures;
-      };
-    }
-
-pub next-slot-requires-in-loop-slot : goal.next-slot-requires-in-loop-slot
-next-slot-requires-in-loop-slot c = (search rules, omega (arith, c.loop-slot-test.true))
-
-pub loop-slot-smaller : goal.loop-slot-smaller
-loop-slot-smaller c =
-    let t = c.loop-slot-test.true in
-    let n = c.next-slot-in-loop-slot.ensures.later in
-    omega arith
-
-pub loop-slot-preserved : goal.loop-slot-preserved
-loop-slot-preserved c =
-    let n = c.next-slot-in-loop-slot.ensures in
-    let t = c.loop-slot-test.true in
-    let l = c.loop-slot in (
-      n.most,
-      n.here,
-      sifted_next _ _ _ _ _ n
-          (sifted_more _ _ l.slot _ _ _ t (l.invariant.1 t) (ap not c.is_low-low.ensures) c.put-more.ensures l.invariant.2),
-    )
+pub topic_weights-weights-requires : goal.topic_weights-weights-requires
+topic_weights-weights-requires c = c.requires.standing
 
 pub returns : goal.returns
-returns c = let l = c.loop-slot in sifted_done _ _ l.slot _ c.loop-slot-test.false l.invariant.2
+returns c = c.sift.ensures (λ s. not (is_low (state_of c.args.table.now) s)) (λ s b l e. search rules)

@@ -10,11 +10,10 @@ use Rattle.gossip_peers.proofs.TellLaws.{tells_none, tells_size, tells_as, tells
 use Rattle.gossip_peers.proofs.tell.tell_first.Goals.{then-at, else-at}
 use Rattle.gossip_peers.proofs.tell.tell_first.Goals as goal
 
-pub loop-i-init : goal.loop-i-init
-loop-i-init c =
+pub loop-s-init : goal.loop-s-init
+loop-s-init c =
     let a = c.args in (
       omega arith,
-      refl,
       omega arith,
       tells_as
           (picked_none (state_of a.table.now) (bits_of a.set.now) a.order.now)
@@ -22,31 +21,31 @@ loop-i-init c =
     )
 
 pub shape_of-actions-then-most-n : goal.shape_of-actions-then-most-n
-shape_of-actions-then-most-n c = tells_size c.loop-i.invariant.3
+shape_of-actions-then-most-n c = tells_size c.loop-s.invariant.2
 
 pub returns-then-most-n : goal.returns-then-most-n
 returns-then-most-n c =
     let a = c.args in
-    let l = c.loop-i in
+    let l = c.loop-s in
     let t = c.if-most-n.true in
-    let w = l.invariant.3 in
+    let w = l.invariant.2 in
     let n = w.many in
     tells_as
-    (picked_full (state_of a.table.now) (bits_of a.set.now) a.order.now l.i a.most l.invariant.0 (omega (arith, l.invariant.2)))
+    (picked_full (state_of a.table.now) (bits_of a.set.now) a.order.now l.s-index a.most l.invariant.0 (omega (arith, l.invariant.1)))
     w
 
 pub tell_slot-requires : goal.tell_slot-requires
 tell_slot-requires c =
     let p = c.requires in
     let a = c.args in
-    let l = c.loop-i in
-    let t = c.loop-i-test.true in
-    let w = l.invariant.3 in
+    let l = c.loop-s in
+    let t = c.loop-s-test.true in
+    let w = l.invariant.2 in
     let z = tells_size w in
-    let f = picked_few (state_of a.table.now) (bits_of a.set.now) a.order.now l.i in
+    let f = picked_few (state_of a.table.now) (bits_of a.set.now) a.order.now l.s-index in
     let q : length a.set.now ≡ word_count = search rules in
     let m = bits_of_length a.set.now in
-    let h = at_below (bits_of a.set.now) (get_or a.order.now l.i 0) (sym c.at.ensures ∙ c.if-at.true) in
+    let h = at_below (bits_of a.set.now) (get_or a.order.now l.s-index 0) (sym c.at.ensures ∙ c.if-at.true) in
     record {
       slot_standing = record { standing = p.0.standing; slot = omega arith };
       n_in_bounds = omega (arith, p.0.room, p.1, w.many, l.invariant.1);
@@ -55,46 +54,44 @@ tell_slot-requires c =
 pub overflow_add-n : goal.overflow_add-n
 overflow_add-n c =
     let a = c.args in
-    let l = c.loop-i in
-    let t = c.loop-i-test.true in
-    let w = l.invariant.3 in
-    let f = picked_few (state_of a.table.now) (bits_of a.set.now) a.order.now l.i in
+    let l = c.loop-s in
+    let t = c.loop-s-test.true in
+    let w = l.invariant.2 in
+    let f = picked_few (state_of a.table.now) (bits_of a.set.now) a.order.now l.s-index in
     omega (arith, w.many)
 
-pub loop-i-preserved : goal.loop-i-preserved
-loop-i-preserved c =
+pub loop-s-preserved : goal.loop-s-preserved
+loop-s-preserved c =
     let a = c.args in
-    let l = c.loop-i in
-    let lt : l.i < length a.order.now = omega arith in
+    let l = c.loop-s in
+    let lt : l.s-index < length a.order.now = omega arith in
     let room = c.if-most-n.false in
     let st = state_of a.table.now in
     let p = bits_of a.set.now in
     elim c.if-at.branch [
       | then-at w ↦ (
         omega arith,
-        refl,
         omega (arith, w.n-is),
-        tells_as (picked_in st p a.order.now l.i lt (sym c.at.ensures ∙ w.if-at.true))
-            (rw w.n-is (tells_more _ _ a.actions.now l.actions _ l.n l.invariant.3 (w.actions-is ∙ w.tell_slot.ensures))),
+        tells_as (picked_in st p a.order.now l.s-index lt (sym c.at.ensures ∙ w.if-at.true))
+            (rw w.n-is (tells_more _ _ a.actions.now l.actions _ l.n l.invariant.2 (w.actions-is ∙ w.tell_slot.ensures))),
       )
       | else-at w ↦ (
         omega arith,
-        refl,
-        omega (arith, w.n-is, l.invariant.2),
-        tells_as (picked_out st p a.order.now l.i lt (sym c.at.ensures ∙ w.if-at.false))
-            (rw (w.actions-is, w.n-is) l.invariant.3),
+        omega (arith, w.n-is, l.invariant.1),
+        tells_as (picked_out st p a.order.now l.s-index lt (sym c.at.ensures ∙ w.if-at.false))
+            (rw (w.actions-is, w.n-is) l.invariant.2),
       )
     ]
 
 pub shape_of-actions : goal.shape_of-actions
-shape_of-actions c = tells_size c.loop-i.invariant.3
+shape_of-actions c = tells_size c.loop-s.invariant.2
 
 pub returns : goal.returns
 returns c =
     let a = c.args in
-    let l = c.loop-i in
-    let w = l.invariant.3 in
+    let l = c.loop-s in
+    let w = l.invariant.2 in
     tells_as
-    (picked_all (state_of a.table.now) (bits_of a.set.now) a.order.now l.i a.most (omega arith)
-    (omega (arith, w.many, l.invariant.2)))
+    (picked_all (state_of a.table.now) (bits_of a.set.now) a.order.now l.s-index a.most (omega arith)
+    (omega (arith, w.many, l.invariant.1)))
     w

@@ -1,10 +1,7 @@
--- `gossip_table::made::make_head`: five stores in front of all parts.
+-- `gossip_table::made::make_head`: five cells in front of all parts.
 use Rattle.index.proofs.Kit.{rules}
-use Rattle.gossip_table.proofs.MadeLaws.{head_made}
+use Rattle.gossip_table.proofs.MadeLaws.{head_copied}
 use Rattle.gossip_table.proofs.made.make_head.Goals as goal
 
-pub bounds-gossip-4 : goal.bounds-gossip-4
-bounds-gossip-4 c = search rules depth 8
-
 pub returns : goal.returns
-returns c = head_made c.args.gossip.now _ _ _ _ _ c.requires
+returns c = head_copied c.args.gossip.now _ c.args.setup.now c.requires (search rules) c.copy_from_slice.ensures.after

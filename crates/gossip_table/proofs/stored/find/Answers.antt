@@ -1,5 +1,4 @@
 -- `gossip_table::stored::find`: the stores are those in their part.
-use borrow.Author.Rules.{rules}
 use Rattle.gossip_table.proofs.StoreParts.{fine_stores, find_by}
 use Rattle.gossip_table.proofs.stored.find.Goals as goal
 
@@ -7,4 +6,4 @@ pub find-requires : goal.find-requires
 find-requires c = search fine_stores
 
 pub returns : goal.returns
-returns c = search (find_by, rules)
+returns c = find_by c.args.gossip.now c.args.number _ c.find.ensures

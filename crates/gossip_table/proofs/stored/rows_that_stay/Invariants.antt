@@ -10,6 +10,3 @@ use Rattle.gossip_table.proofs.stored.rows_that_stay.Given as goal
 
 abbrev pub invariant-loop-row : goal.invariant-loop-row
 invariant-loop-row l = Built false (λ k. stored (gossip_of l.gossip) (get_or (map row_number (gossip_of l.gossip).replies) k 0)) rows_most l.row l.flags × (l.row ≤ l.end)
-
-abbrev pub decreases-loop-row : goal.decreases-loop-row
-decreases-loop-row l = l.end - l.row

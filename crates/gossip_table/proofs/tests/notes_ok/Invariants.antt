@@ -11,6 +11,3 @@ abbrev pub invariant-loop-slot : goal.invariant-loop-slot
 invariant-loop-slot l =
     (l.slot ≤ slot_count)
     × (every l.slot (λ s. note_ok (gossip_of l.gossip).setup (peer_in (state_of l.table) s) (note_in (gossip_of l.gossip) s)) ≡ true)
-
-abbrev pub decreases-loop-slot : goal.decreases-loop-slot
-decreases-loop-slot l = slot_count - l.slot

@@ -6,6 +6,3 @@ use Rattle.gossip_table.proofs.tests.rows_stored.Given as goal
 
 abbrev pub invariant-loop-row : goal.invariant-loop-row
 invariant-loop-row l = (l.row ≤ l.end) × (every l.row (is_kept (gossip_of l.gossip)) ≡ true)
-
-abbrev pub decreases-loop-row : goal.decreases-loop-row
-decreases-loop-row l = l.end - l.row

@@ -11,6 +11,3 @@ use Rattle.gossip_table.proofs.tests.stores_ok.Given as goal
 abbrev pub invariant-loop-t : goal.invariant-loop-t
 invariant-loop-t l =
     (l.t ≤ topic_count) × (every l.t (λ k. store_ok (is_joined (state_of l.table) k) (store_in (gossip_of l.gossip) k)) ≡ true)
-
-abbrev pub decreases-loop-t : goal.decreases-loop-t
-decreases-loop-t l = topic_count - l.t

@@ -33,7 +33,7 @@ pub is_grafted-requires : goal.is_grafted-requires
 is_grafted-requires c =
     let l = c.loop-i in
     record {
-      grafting = grafting_on _ _ _ _ _ _ _ _ _ _ l.invariant.4.scores.size c.requires;
+      grafting = grafting_on _ _ _ _ _ _ l.invariant.4.scores.size c.requires;
       p_len = l.invariant.2;
     }
 

@@ -1,60 +1,52 @@
-use Rattle.index.proofs.Kit.{◌≡◌, sym, ◌∙◌, arith}
+use Rattle.index.proofs.Kit.{refl, sym, ◌∙◌, arith}
 use borrow.Author.Rules.{rules}
+use mathlib.Core.Path.{◌≡◌}
 use lib.ListN.{length}
 use Rattle.words.specs.Words.{word_count}
-use Rattle.heartbeat.proofs.SeenLaws.{score_at, scores_length, flags_length, sifted_none, sifted_next, sifted_more}
-use Rattle.heartbeat.proofs.SeenLaws.{sifted_done}
+use Rattle.words.proofs.SlotWalk.{begun, took, ended}
+use Rattle.heartbeat.proofs.SeenLaws.{score_at, scores_length, flags_length, sifted_none, sifted_turn, sifted_end}
 use Rattle.heartbeat.proofs.seen.candidates.Goals as goal
 
 pub eligible-all-requires : goal.eligible-all-requires
 eligible-all-requires c = let p = c.requires in record { standing = p.standing; topic = p.topic }
 
-pub next-slot-requires : goal.next-slot-requires
-next-slot-requires c = (search rules, omega arith)
-
 pub loop-slot-init : goal.loop-slot-init
 loop-slot-init c =
-    let n = c.next-slot.ensures in
     let e = c.eligible-all in
     let z : length e.result ≡ word_count = search rules in
-    (n.most, n.here, sifted_next _ _ _ _ e.ensures _ _ _ n (sifted_none _ _ _ _ (flags_length _ z) e.ensures))
+    let b = begun _ _ _ c.into_iter-slot-iterator.ensures.into_iter_gives c.of-slot-items.ensures.set_is c.of-slot-items.ensures.from_is in
+    (refl, rw b.1 (sifted_none _ _ _ _ (flags_length _ z) e.ensures))
 
-pub bounds-scores-s : goal.bounds-scores-s
-bounds-scores-s c = let n = scores_length _ _ c.requires.scores in
-    let t = c.loop-slot-test.true in omega arith
+pub bounds-scores-slot : goal.bounds-scores-slot
+bounds-scores-slot c =
+    let b = begun _ _ _ c.into_iter-slot-iterator.ensures.into_iter_gives c.of-slot-items.ensures.set_is c.of-slot-items.ensures.from_is in
+    let n = scores_length _ _ c.requires.scores in
+    let t = (took _ _ _ _ _ (c.loop-slot.invariant.0 ∙ b.0) c.in-Some.is c.next.ensures.steps).slot_lt in
+    omega arith
 
-pub is_free-requires : goal.is_free-requires
-is_free-requires c =
-    let t = c.loop-slot-test.true in
+pub is_free-free-requires : goal.is_free-free-requires
+is_free-free-requires c =
+    let b = begun _ _ _ c.into_iter-slot-iterator.ensures.into_iter_gives c.of-slot-items.ensures.set_is c.of-slot-items.ensures.from_is in
+    let t = (took _ _ _ _ _ (c.loop-slot.invariant.0 ∙ b.0) c.in-Some.is c.next.ensures.steps).slot_lt in
     let p = c.requires in
     record {
       standing = p.standing;
       topic = p.topic;
       slot = t;
-      score = score_at _ _ c.loop-slot.slot t p.scores;
+      score = score_at _ _ _ t p.scores;
     }
-
-pub next-slot-requires-in-loop-slot : goal.next-slot-requires-in-loop-slot
-next-slot-requires-in-loop-slot c = (search rules, omega (arith, c.loop-slot-test.true))
-
-pub loop-slot-smaller : goal.loop-slot-smaller
-loop-slot-smaller c =
-    let t = c.loop-slot-test.true in
-    let n = c.next-slot-in-loop-slot.ensures.later in
-    omega arith
 
 pub loop-slot-preserved : goal.loop-slot-preserved
 loop-slot-preserved c =
-    let n = c.next-slot-in-loop-slot.ensures in
-    let t = c.loop-slot-test.true in
-    let l = c.loop-slot in
-    let e = c.eligible-all.ensures in (
-      n.most,
-      n.here,
-      sifted_next _ _ _ _ e _ _ _ n
-          (sifted_more _ _ _ l.slot _ _ _ t (sym (e l.slot t) ∙ l.invariant.1 t) c.is_free.ensures
-          c.put-more.ensures l.invariant.2),
+    let b = begun _ _ _ c.into_iter-slot-iterator.ensures.into_iter_gives c.of-slot-items.ensures.set_is c.of-slot-items.ensures.from_is in
+    let t = took _ _ _ _ _ (c.loop-slot.invariant.0 ∙ b.0) c.in-Some.is c.next.ensures.steps in
+    (
+      t.set_is ∙ sym b.0,
+      sifted_turn _ _ _ _ c.eligible-all.ensures _ _ _ _ _ _ t c.is_free-free.ensures c.put-more.ensures c.loop-slot.invariant.1,
     )
 
 pub returns : goal.returns
-returns c = let l = c.loop-slot in sifted_done _ _ _ l.slot _ c.loop-slot-test.false l.invariant.2
+returns c =
+    let b = begun _ _ _ c.into_iter-slot-iterator.ensures.into_iter_gives c.of-slot-items.ensures.set_is c.of-slot-items.ensures.from_is in
+    let n = ended _ _ _ _ (c.loop-slot.invariant.0 ∙ b.0) c.in-None.is c.next.ensures.steps in
+    sifted_end _ _ _ _ c.eligible-all.ensures _ _ n c.loop-slot.invariant.1

@@ -1,28 +1,17 @@
 -- `heartbeat::stages::few_stages`: step 2 keeps the members' scores, so that all scores can still be taken where step 3 has to choose.
 use mathlib.Core.Path.{◌∙◌}
-use Rattle.peer_score.proofs.WeightLaws.{weighing_p2, weighing_p3b, weighing_p4}
 use Rattle.heartbeat.proofs.GraftLaws.{grafting_on, partial_on, few_of}
 use Rattle.heartbeat.proofs.stages.few_stages.Goals as goal
 
-pub weights-w2-requires : goal.weights-w2-requires
-weights-w2-requires c = weighing_p2 _ c.requires.partial.taking.standing
-
-pub weights-w3b-requires : goal.weights-w3b-requires
-weights-w3b-requires c = weighing_p3b _ c.requires.partial.taking.standing
-
-pub weights-w4-requires : goal.weights-w4-requires
-weights-w4-requires c = weighing_p4 _ c.requires.partial.taking.standing
+pub topic_weights-weights-requires : goal.topic_weights-weights-requires
+topic_weights-weights-requires c = c.requires.partial.taking.standing
 
 pub second-m2-requires : goal.second-m2-requires
 second-m2-requires c =
     let p = c.requires.partial in
     record {
       taking = p.taking;
-      weights = record {
-        p2 = c.weights-w2.ensures;
-        p3b = c.weights-w3b.ensures;
-        p4 = c.weights-w4.ensures;
-      };
+      weights = c.topic_weights-weights.ensures;
       topic = p.topic;
     }
 
@@ -32,7 +21,7 @@ degrees-t-requires c = c.requires.partial.taking.standing
 pub all_stages-requires : goal.all_stages-requires
 all_stages-requires c =
     let s = c.second-m2.ensures.0 in
-    partial_on _ _ _ _ _ _ _ s.size s.kept
+    partial_on _ _ _ _ _ s.size s.kept
     c.requires.partial
 
 pub shape_of-heights-then-t-size : goal.shape_of-heights-then-t-size
@@ -48,16 +37,10 @@ last_stages-requires c =
     let p = b.partial in
     let s = c.second-m2.ensures in
     record {
-      grafting = grafting_on _ _ _ _ _ _ _ _ _ _ s.0.size
+      grafting = grafting_on _ _ _ _ _ _ s.0.size
           (record {
             taking = p.taking;
-            weights = record {
-              p2 = c.weights-w2.ensures;
-              p3b =
-                  c.weights-w3b.ensures;
-              p4 =
-                  c.weights-w4.ensures;
-            };
+            weights = c.topic_weights-weights.ensures;
             topic = p.topic;
           });
       halfway = record {

@@ -10,7 +10,7 @@ pub fifth-m5-requires : goal.fifth-m5-requires
 fifth-m5-requires c =
     let p = c.requires in
     let f = c.fourth-m4.ensures.0 in
-    record { grafting = grafting_on _ _ _ _ _ _ _ _ _ _ f.size p.grafting; heights_on = f.scored p.halfway.scores }
+    record { grafting = grafting_on _ _ _ _ _ _ f.size p.grafting; heights_on = f.scored p.halfway.scores }
 
 pub shape_of-heights : goal.shape_of-heights
 shape_of-heights c = c.fifth-m5.ensures.0.size ∙ c.fourth-m4.ensures.0.size

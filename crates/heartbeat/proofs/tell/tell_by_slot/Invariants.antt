@@ -1,5 +1,6 @@
 -- `heartbeat::tell::tell_by_slot`: the walk has the actions on the slots that are left still to write (`Telling`).
-use Prim.Native.Nat.{◌-◌}
+use Prim.Native.Nat.{ℕ}
+use mathlib.Core.Path.{◌≡◌}
 use Rattle.records.specs.Records.{slot_count}
 use Rattle.layout.specs.View.{state_of}
 use Rattle.words.specs.Words.{bits_of}
@@ -11,8 +12,6 @@ use Rattle.heartbeat.proofs.tell.tell_by_slot.Given as goal
 
 abbrev pub invariant-loop-slot : goal.invariant-loop-slot
 invariant-loop-slot l =
-    Telling (ids_in (state_of l.table)) (told_by (state_of l.table) l.seconds) l.kind l.n (actions_on l.kind (bits_of l.initial.left) (ascending 0 slot_count)) l.initial.actions
-    l.actions l.k l.left l.slot
-
-abbrev pub decreases-loop-slot : goal.decreases-loop-slot
-decreases-loop-slot l = slot_count - l.slot
+    (l.slot-iterator.set ≡ l.fn.p)
+    × Telling (ids_in (state_of l.table)) (told_by (state_of l.table) l.seconds) l.kind l.n (actions_on l.kind (bits_of l.fn.p) (ascending 0 slot_count))
+    (bits_of l.fn.p) l.initial.actions l.actions l.k l.slot-iterator.from

@@ -3,12 +3,12 @@ use native.Mathlib.Omega.{arith}
 use Rattle.peer_score.proofs.BucketLaws.{noted}
 use Rattle.peer_score.proofs.buckets.note.Goals as goal
 
-pub overflow_add-same : goal.overflow_add-same
-overflow_add-same c =
+pub overflow_add-buckets : goal.overflow_add-buckets
+overflow_add-buckets c =
     omega (arith, c.one.ensures.1, c.requires.room c.bucket-b.result)
 
-pub overflow_add-others : goal.overflow_add-others
-overflow_add-others c =
+pub overflow_add-buckets-2 : goal.overflow_add-buckets-2
+overflow_add-buckets-2 c =
     omega (arith, c.one-2.ensures.1, c.requires.room c.bucket-b.result)
 
 pub returns : goal.returns

@@ -12,16 +12,16 @@ bucket-b-requires c = omega (arith, c.requires.fits)
 pub overflow_cast-held : goal.overflow_cast-held
 overflow_cast-held c = omega (arith, c.requires.fits)
 
-pub returns-then-heads-b : goal.returns-then-heads-b
-returns-then-heads-b c =
+pub returns-then-buckets-b : goal.returns-then-buckets-b
+returns-then-buckets-b c =
     let p = c.requires in
-    let t = told_head _ _ _ _ p.buckets _ _ _ c.if-held-eq0.false c.bucket-b.ensures.0 c.if-heads-b.true in
+    let t = told_head _ _ _ _ p.buckets _ _ _ c.if-held-eq0.false c.bucket-b.ensures.0 c.if-buckets-b.true in
     rw c.wide.ensures t
 
 pub returns-then-n-threshold : goal.returns-then-n-threshold
 returns-then-n-threshold c =
     let p = c.requires in
-    told_few _ _ _ _ p.buckets _ _ _ c.if-held-eq0.false c.bucket-b.ensures.0 c.if-heads-b.false
+    told_few _ _ _ _ p.buckets _ _ _ c.if-held-eq0.false c.bucket-b.ensures.0 c.if-buckets-b.false
     (rw (← c.wide-n.ensures) c.if-n-threshold.true)
 
 pub returns : goal.returns

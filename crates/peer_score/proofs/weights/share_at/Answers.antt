@@ -25,26 +25,26 @@ returns-then-r-eq1 c = (
   c.share.ensures.1,
 )
 
-pub bounds-w2-t : goal.bounds-w2-t
-bounds-w2-t c = let p = c.requires.place in omega (arith, p.topic)
+pub bounds-weights-t : goal.bounds-weights-t
+bounds-weights-t c = let p = c.requires.place in omega (arith, p.topic)
 
-pub bounds-w3b-t : goal.bounds-w3b-t
-bounds-w3b-t c = let p = c.requires.place in omega (arith, p.topic)
+pub bounds-weights-t-2 : goal.bounds-weights-t-2
+bounds-weights-t-2 c = let p = c.requires.place in omega (arith, p.topic)
 
-pub bounds-w4-t : goal.bounds-w4-t
-bounds-w4-t c = let p = c.requires.place in omega (arith, p.topic)
+pub bounds-weights-t-3 : goal.bounds-weights-t-3
+bounds-weights-t-3 c = let p = c.requires.place in omega (arith, p.topic)
 
 pub outside-requires : goal.outside-requires
 outside-requires c =
     let q = c.requires in
     let p = q.place in
-    outside_ready _ _ _ (slot_in _ p.standing.router _ p.slot) p.topic _ _ _ q.weights _ c.load_topic-r.ensures.0
+    outside_ready _ _ _ (slot_in _ p.standing.router _ p.slot) p.topic _ q.weights _ c.load_topic-r.ensures.0
 
 pub returns : goal.returns
 returns c =
     let q = c.requires in
     let p = q.place in (
-      outside_is _ _ _ (slot_in _ p.standing.router _ p.slot) p.topic _ _ _ q.weights _ c.load_topic-r.ensures.0 _
+      outside_is _ _ _ (slot_in _ p.standing.router _ p.slot) p.topic _ q.weights _ c.load_topic-r.ensures.0 _
           c.if-r-eq1.false c.outside.ensures.0,
       c.outside.ensures.1,
     )

@@ -9,6 +9,3 @@ use Rattle.peer_score.proofs.weights.topics_at.Given as goal
 
 abbrev pub invariant-loop-t : goal.invariant-loop-t
 invariant-loop-t l = (l.t ≤ 8) × (l.sum ≡ sum_of l.t (share_at (state_of l.table) l.slot))
-
-abbrev pub decreases-loop-t : goal.decreases-loop-t
-decreases-loop-t l = 8 - l.t

@@ -11,6 +11,3 @@ use Rattle.peer_score.proofs.weights.weights.Given as goal
 abbrev pub invariant-loop-t : goal.invariant-loop-t
 invariant-loop-t l =
     Built 0 (λ k. magnitude_in (state_of l.table) (topicPlace k weight_at) * magnitude_in (state_of l.table) (topicPlace k l.j)) topic_count l.t l.r
-
-abbrev pub decreases-loop-t : goal.decreases-loop-t
-decreases-loop-t l = topic_count - l.t

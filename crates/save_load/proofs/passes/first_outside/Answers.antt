@@ -9,29 +9,21 @@ loop-i-init c = going_none _ _ _ _ c.requires
 pub returns-in_default : goal.returns-in_default
 returns-in_default c =
     let l = c.loop-i in
-    absurd
-    (going_read _ _ _ _ _ _ _ _ l.invariant c.loop-i-test.true _ c.read_number.ensures
-    c.in_default.is)
-
-pub bounds-most-j : goal.bounds-most-j
-bounds-most-j c = let e = c.loop-i.invariant.column in omega arith
+    absurd (going_read _ _ _ _ _ _ _ l.invariant (omega arith) _ c.read_number.ensures c.in_default.is)
 
 pub returns-then-is_outside : goal.returns-then-is_outside
 returns-then-is_outside c =
     let l = c.loop-i in
-    going_out _ _ _ _ _ _ _ _ l.invariant c.loop-i-test.true _ c.read_number.ensures _ _
+    going_out _ _ _ _ _ _ _ l.invariant (omega arith) _ c.read_number.ensures _ _
     c.in-Some.is
     (sym c.is_outside.ensures ∙ c.if-is_outside.true)
-
-pub column_after-j-requires : goal.column_after-j-requires
-column_after-j-requires c = let e = c.loop-i.invariant.column in omega arith
 
 pub loop-i-preserved : goal.loop-i-preserved
 loop-i-preserved c =
     let l = c.loop-i in
-    going_more _ _ _ _ _ _ _ _ l.invariant c.loop-i-test.true _ c.read_number.ensures _ _
+    going_more _ _ _ _ _ _ _ l.invariant (omega arith) _ c.read_number.ensures _ _
     c.in-Some.is
-    (sym c.is_outside.ensures ∙ c.if-is_outside.false) _ _ c.id_after-last.ensures c.column_after-j.ensures
+    (sym c.is_outside.ensures ∙ c.if-is_outside.false) _ c.id_after-last.ensures
 
 pub returns : goal.returns
-returns c = let l = c.loop-i in going_done _ _ _ _ _ _ _ _ l.invariant (omega arith)
+returns c = let l = c.loop-i in going_done _ _ _ _ _ _ _ l.invariant (omega arith)

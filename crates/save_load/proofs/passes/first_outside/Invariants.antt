@@ -1,10 +1,6 @@
 -- `save_load::passes::first_outside`: the numbers before i are inside (JudgeLaws). Assumes nothing.
-use Prim.Native.Nat.{◌-◌}
 use Rattle.save_load.proofs.JudgeLaws.{Going}
 use Rattle.save_load.proofs.passes.first_outside.Given as goal
 
 abbrev pub invariant-loop-i : goal.invariant-loop-i
-invariant-loop-i l = Going l.most l.s l.at l.n l.i l.place l.last l.j
-
-abbrev pub decreases-loop-i : goal.decreases-loop-i
-decreases-loop-i l = l.n - l.i
+invariant-loop-i l = Going l.most l.s l.at l.n l.i l.place l.last

@@ -10,6 +10,3 @@ use Rattle.stores.proofs.valid.all_apart.Given as goal
 
 abbrev pub invariant-loop-w : goal.invariant-loop-w
 invariant-loop-w l = (l.w ≤ window_count) × (apart (before l.cells l.t l.w) ≡ true) × Seen (before l.cells l.t l.w) l.seen
-
-abbrev pub decreases-loop-w : goal.decreases-loop-w
-decreases-loop-w l = window_count - l.w

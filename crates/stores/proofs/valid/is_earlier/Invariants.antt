@@ -8,6 +8,3 @@ use Rattle.stores.proofs.valid.is_earlier.Given as goal
 
 abbrev pub invariant-loop-v : goal.invariant-loop-v
 invariant-loop-v l = (l.v ≤ l.w) × (has l.n (before l.cells l.t l.v) ≡ false)
-
-abbrev pub decreases-loop-v : goal.decreases-loop-v
-decreases-loop-v l = l.w - l.v

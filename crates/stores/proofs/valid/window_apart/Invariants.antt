@@ -9,6 +9,3 @@ use Rattle.stores.proofs.valid.window_apart.Given as goal
 
 abbrev pub invariant-loop-k : goal.invariant-loop-k
 invariant-loop-k l = (l.k ≤ l.n) × (apart (up_to l.cells l.t l.w l.k) ≡ true) × Seen (up_to l.cells l.t l.w l.k) l.seen
-
-abbrev pub decreases-loop-k : goal.decreases-loop-k
-decreases-loop-k l = l.n - l.k

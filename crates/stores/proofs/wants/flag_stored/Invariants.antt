@@ -7,6 +7,3 @@ use Rattle.stores.proofs.wants.flag_stored.Given as goal
 
 abbrev pub invariant-loop-p : goal.invariant-loop-p
 invariant-loop-p l = (l.p ≤ all_windows) × Flags (λ x. some l.p (λ q. has x (window_at l.cells q))) l.rising l.initial.known l.known
-
-abbrev pub decreases-loop-p : goal.decreases-loop-p
-decreases-loop-p l = all_windows - l.p

@@ -8,6 +8,3 @@ use Rattle.stores.proofs.wants.flag_window.Given as goal
 
 abbrev pub invariant-loop-k : goal.invariant-loop-k
 invariant-loop-k l = (l.k ≤ l.n) × Flags (λ x. has x (take l.k (window_at l.cells l.p))) l.rising l.initial.known l.known
-
-abbrev pub decreases-loop-k : goal.decreases-loop-k
-decreases-loop-k l = l.n - l.k

@@ -1,11 +1,7 @@
--- `stores::wants::mark_all`: after k turns the first k numbers have marked their buckets. Assumes nothing.
-use Prim.Native.Nat.{◌-◌, ◌≤◌}
-use lib.ListN.{length, take}
+-- `stores::wants::mark_all`: the numbers so far have marked their buckets. Assumes nothing.
+use lib.ListN.{take}
 use Rattle.stores.specs.Marks.{Seen}
 use Rattle.stores.proofs.wants.mark_all.Given as goal
 
-abbrev pub invariant-loop-k : goal.invariant-loop-k
-invariant-loop-k l = (l.k ≤ length l.numbers) × Seen (take l.k l.numbers) l.seen
-
-abbrev pub decreases-loop-k : goal.decreases-loop-k
-decreases-loop-k l = length l.numbers - l.k
+abbrev pub invariant-loop-n : goal.invariant-loop-n
+invariant-loop-n l = Seen (take l.n-index l.numbers) l.seen

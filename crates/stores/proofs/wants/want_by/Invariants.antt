@@ -1,4 +1,4 @@
--- `stores::wants::want_by`: after i turns the list has those wanted of the first i numbers, and the flags are up for these and for those
+-- `stores::wants::want_by`: the list has those wanted of the numbers so far, and the flags are up for these and for those
 -- that are stored. Assumes nothing.
 use Prim.Native.Nat.{◌-◌, ◌≤◌}
 use mathlib.Core.List.{[]}
@@ -8,9 +8,6 @@ use Rattle.stores.specs.Marks.{Listed}
 use Rattle.stores.specs.View.{stored_at}
 use Rattle.stores.proofs.wants.want_by.Given as goal
 
-abbrev pub invariant-loop-i : goal.invariant-loop-i
-invariant-loop-i l =
-    (l.i ≤ length l.numbers) × (l.size ≤ l.i) × Listed (stored_at l.cells) l.rising (wanted (stored_at l.cells) [] (take l.i l.numbers)) l.known l.initial.list l.list l.size
-
-abbrev pub decreases-loop-i : goal.decreases-loop-i
-decreases-loop-i l = length l.numbers - l.i
+abbrev pub invariant-loop-n : goal.invariant-loop-n
+invariant-loop-n l =
+    (l.n-index ≤ length l.numbers) × (l.size ≤ l.n-index) × Listed (stored_at l.cells) l.rising (wanted (stored_at l.cells) [] (take l.n-index l.numbers)) l.known l.initial.list l.list l.size

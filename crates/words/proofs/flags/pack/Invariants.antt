@@ -10,6 +10,3 @@ use Rattle.words.proofs.flags.pack.Given as goal
 
 abbrev pub invariant-loop-i : goal.invariant-loop-i
 invariant-loop-i l = (length l.flags ≡ slot_count) × PackedBelow l.flags word_count l.i l.r
-
-abbrev pub decreases-loop-i : goal.decreases-loop-i
-decreases-loop-i l = word_count - l.i

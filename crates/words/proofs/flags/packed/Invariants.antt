@@ -7,6 +7,3 @@ use Rattle.words.proofs.flags.packed.Given as goal
 
 abbrev pub invariant-loop-j : goal.invariant-loop-j
 invariant-loop-j l = Packing l.flags l.i l.j l.w
-
-abbrev pub decreases-loop-j : goal.decreases-loop-j
-decreases-loop-j l = word_bits - l.j

@@ -11,6 +11,3 @@ use Rattle.words.proofs.flags.unpack.Given as goal
 
 abbrev pub invariant-loop-s : goal.invariant-loop-s
 invariant-loop-s l = (length l.m ≡ word_count) × Built false (λ k. get_or (bits_of l.m) k false) slot_count l.s l.r
-
-abbrev pub decreases-loop-s : goal.decreases-loop-s
-decreases-loop-s l = slot_count - l.s
