@@ -1,11 +1,11 @@
 // The joint rules (01, "Joint rules, in order") of both editions, of codes of numbers between their limits. Two codes of one sign stand to
 // each other as the magnitudes do, so nothing is decoded. A rule that changes is changed here and in specs/Joint.antt.
-ghost use Rattle.std.specs.Prelude.{◌≡◌, true, map, ◌<◌, length};
+ghost use Rattle.std.specs.Prelude.{◌≡◌, true, map, length};
 ghost use Rattle.index.specs.Index.{first, every};
 ghost use Rattle.varint.specs.Codes.{number_of};
 ghost use Rattle.records.specs.Records.{topic_count, param_count};
 ghost use Rattle.limits.specs.Limits.{in_limits};
-ghost use Rattle.params.specs.Joint.{rule_count, cap_rule, score_rule, rule};
+ghost use Rattle.params.specs.Joint.{rule_count, cap_rule, score_rule, joint};
 ghost use Rattle.params.specs.Check.{broken};
 
 use crate::Edition;
@@ -46,29 +46,29 @@ fn score_keeps(edition: Edition, codes: &[u64]) -> bool
     }
 }
 
-// Whether joint rule k holds.
-fn keeps(edition: Edition, codes: &[u64], k: usize) -> bool
-    requires { (length codes.now ≡ param_count) × (every param_count (in_limits (map number_of codes.now)) ≡ true) × (k < rule_count) }
-    ensures { result ≡ rule (map number_of codes.now) edition k }
+// Which joint rules hold, in order.
+fn rules(edition: Edition, codes: &[u64]) -> [bool; RULES]
+    requires { (length codes.now ≡ param_count) × (every param_count (in_limits (map number_of codes.now)) ≡ true) }
+    ensures { result ≡ joint (map number_of codes.now) edition }
 {
-    match k {
+    [
         // D_lo ≤ D
-        0 => codes[D_LO] <= codes[D],
+        codes[D_LO] <= codes[D],
         // D ≤ D_hi
-        1 => codes[D] <= codes[D_HI],
+        codes[D] <= codes[D_HI],
         // D_out < D_lo
-        2 => codes[D_OUT] < codes[D_LO],
+        codes[D_OUT] < codes[D_LO],
         // 2·D_out ≤ D
-        3 => 2 * codes[D_OUT] <= codes[D],
+        2 * codes[D_OUT] <= codes[D],
         // D_score + D_out ≤ D, or D_score ≤ D
-        4 => score_keeps(edition, codes),
+        score_keeps(edition, codes),
         // publish ≤ gossip
-        5 => codes[GOSSIP_THRESHOLD] <= codes[PUBLISH_THRESHOLD],
+        codes[GOSSIP_THRESHOLD] <= codes[PUBLISH_THRESHOLD],
         // graylist < publish
-        6 => codes[PUBLISH_THRESHOLD] < codes[GRAYLIST_THRESHOLD],
+        codes[PUBLISH_THRESHOLD] < codes[GRAYLIST_THRESHOLD],
         // P3 cap ≥ P3 threshold
-        _ => caps(codes),
-    }
+        caps(codes),
+    ]
 }
 
 // The first joint rule that is broken.
@@ -76,8 +76,8 @@ pub fn first_rule(edition: Edition, codes: &[u64]) -> Option<usize>
     requires { (length codes.now ≡ param_count) × (every param_count (in_limits (map number_of codes.now)) ≡ true) }
     ensures { result ≡ first rule_count (broken (map number_of codes.now) edition) }
 {
-    for k in 0..RULES {
-        if !keeps(edition, codes, k) {
+    for (k, holds) in rules(edition, codes).iter().enumerate() {
+        if !*holds {
             return Some(k);
         }
     }
