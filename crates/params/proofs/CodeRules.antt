@@ -3,9 +3,7 @@
 use Rattle.index.proofs.Kit.{ℕ, ◌+◌, ◌*◌, ◌<◌, ◌≤◌, ◌≡◌, refl, sym, ap, ◌∙◌, Bool, true, arith}
 use Rattle.index.specs.Index.{every}
 use Prim.Native.Nat.{suc}
-use native.Mathlib.Numerals.{add-one}
 use mathlib.Core.Path.{ap₂}
-use mathlib.Core.Bool.{◌&&◌}
 use mathlib.Core.List.{List, [], ◌∷◌, map}
 use lib.Dec.{T, leb, ltb, lit<}
 use lib.ListN.{get_or}
@@ -20,15 +18,6 @@ use Rattle.params.specs.declared.Edition.{Edition}
 use Rattle.params.specs.declared.Edition.TheVariants.{First, Second}
 use Rattle.params.specs.Joint.{rule_count, cap_rule, score_rule, joint, rule}
 use Rattle.limits.proofs.FieldLaws.{Within, code_at, gain_at, loss_at, most_of}
-
--- ---- tests that are gathered in a flag
-pub every_and : (f : ℕ → Bool) (i : ℕ) (a b : Bool) → a ≡ every i f → b ≡ f i → (a && b) ≡ every (i + 1) f
-unfolding every
-every_and f i a b p q = rw (add-one i, p, q)
-
-pub every_start : (f : ℕ → Bool) → true ≡ every 0 f
-unfolding every
-every_start f = refl
 
 -- ---- numbers of one sign, by their codes
 abbrev Gain : ℤ → Type 0

@@ -1,6 +1,6 @@
 // The joint rules (01, "Joint rules, in order") of both editions, of codes of numbers between their limits. Two codes of one sign stand to
 // each other as the magnitudes do, so nothing is decoded. A rule that changes is changed here and in specs/Joint.antt.
-ghost use Rattle.std.specs.Prelude.{◌≡◌, true, map, length};
+ghost use Rattle.std.specs.Prelude.{◌≡◌, true, map, ◌<◌, length};
 ghost use Rattle.index.specs.Index.{first, every};
 ghost use Rattle.varint.specs.Codes.{number_of};
 ghost use Rattle.records.specs.Records.{topic_count, param_count};
@@ -19,18 +19,26 @@ use records::param::{
 // How many joint rules there are.
 const RULES: usize = 8;
 
-// Whether in every topic P3 cap is at least P3 threshold.
+// Whether in topic k P3 cap is at least P3 threshold.
+fn cap_keeps(codes: &[u64], k: usize) -> bool
+    requires { (length codes.now ≡ param_count) × (every param_count (in_limits (map number_of codes.now)) ≡ true) × (k < topic_count) }
+    ensures { result ≡ cap_rule (map number_of codes.now) k }
+{
+    let at = GENERAL + OF_TOPIC * k;
+    codes[at + P3_THRESHOLD] <= codes[at + P3_CAP]
+}
+
+// Whether it is in every topic.
 fn caps(codes: &[u64]) -> bool
     requires { (length codes.now ≡ param_count) × (every param_count (in_limits (map number_of codes.now)) ≡ true) }
     ensures { result ≡ every topic_count (cap_rule (map number_of codes.now)) }
 {
-    let mut ok = true;
     for k in 0..TOPICS {
-        let at = GENERAL + OF_TOPIC * k;
-        let b = codes[at + P3_THRESHOLD] <= codes[at + P3_CAP];
-        ok = ok & b;
+        if !cap_keeps(codes, k) {
+            return false;
+        }
     }
-    ok
+    true
 }
 
 // The rule on D_score.
