@@ -1,11 +1,10 @@
 // The joint rules (01, "Joint rules, in order") of both editions, of codes of numbers between their limits. Two codes of one sign stand to
 // each other as the magnitudes do, so nothing is decoded. A rule that changes is changed here and in specs/Joint.antt.
-ghost use Rattle.std.specs.Prelude.{◌≡◌, true, map, ◌<◌, length};
+ghost use Rattle.std.specs.Prelude.{◌≡◌, map, ◌<◌};
 ghost use Rattle.index.specs.Index.{first, every};
 ghost use Rattle.varint.specs.Codes.{number_of};
-ghost use Rattle.records.specs.Records.{topic_count, param_count};
-ghost use Rattle.limits.specs.Limits.{in_limits};
-ghost use Rattle.params.specs.Joint.{rule_count, cap_rule, score_rule, joint};
+ghost use Rattle.records.specs.Records.{topic_count};
+ghost use Rattle.params.specs.Joint.{rule_count, cap_rule, score_rule, joint, WithinLimits};
 ghost use Rattle.params.specs.Check.{broken};
 
 use crate::Edition;
@@ -21,7 +20,7 @@ const RULES: usize = 8;
 
 // Whether in topic k P3 cap is at least P3 threshold.
 fn cap_keeps(codes: &[u64], k: usize) -> bool
-    requires { (length codes.now ≡ param_count) × (every param_count (in_limits (map number_of codes.now)) ≡ true) × (k < topic_count) }
+    requires { WithinLimits codes.now × (k < topic_count) }
     ensures { result ≡ cap_rule (map number_of codes.now) k }
 {
     let at = GENERAL + OF_TOPIC * k;
@@ -30,7 +29,7 @@ fn cap_keeps(codes: &[u64], k: usize) -> bool
 
 // Whether it is in every topic.
 fn caps(codes: &[u64]) -> bool
-    requires { (length codes.now ≡ param_count) × (every param_count (in_limits (map number_of codes.now)) ≡ true) }
+    requires { WithinLimits codes.now }
     ensures { result ≡ every topic_count (cap_rule (map number_of codes.now)) }
 {
     for k in 0..TOPICS {
@@ -43,7 +42,7 @@ fn caps(codes: &[u64]) -> bool
 
 // The rule on D_score.
 fn score_keeps(edition: Edition, codes: &[u64]) -> bool
-    requires { (length codes.now ≡ param_count) × (every param_count (in_limits (map number_of codes.now)) ≡ true) }
+    requires { WithinLimits codes.now }
     ensures { result ≡ score_rule (map number_of codes.now) edition }
 {
     match edition {
@@ -56,7 +55,7 @@ fn score_keeps(edition: Edition, codes: &[u64]) -> bool
 
 // Which joint rules hold, in order.
 fn rules(edition: Edition, codes: &[u64]) -> [bool; RULES]
-    requires { (length codes.now ≡ param_count) × (every param_count (in_limits (map number_of codes.now)) ≡ true) }
+    requires { WithinLimits codes.now }
     ensures { result ≡ joint (map number_of codes.now) edition }
 {
     [
@@ -81,7 +80,7 @@ fn rules(edition: Edition, codes: &[u64]) -> [bool; RULES]
 
 // The first joint rule that is broken.
 pub fn first_rule(edition: Edition, codes: &[u64]) -> Option<usize>
-    requires { (length codes.now ≡ param_count) × (every param_count (in_limits (map number_of codes.now)) ≡ true) }
+    requires { WithinLimits codes.now }
     ensures { result ≡ first rule_count (broken (map number_of codes.now) edition) }
 {
     for (k, holds) in rules(edition, codes).iter().enumerate() {

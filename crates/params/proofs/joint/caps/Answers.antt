@@ -5,7 +5,7 @@ pub loop-k-init : goal.loop-k-init
 loop-k-init c = search auto
 
 pub cap_keeps-requires : goal.cap_keeps-requires
-cap_keeps-requires c = (c.requires.0, c.requires.1, c.loop-k-test.true)
+cap_keeps-requires c = (c.requires, c.loop-k-test.true)
 
 pub returns-then-not-cap_keeps : goal.returns-then-not-cap_keeps
 returns-then-not-cap_keeps c = search auto
