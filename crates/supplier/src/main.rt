@@ -25,7 +25,7 @@ use params_bytes::{ReadError, WriteError};
 use std::io;
 use std::io::{Read, Write};
 
-// A digit of base 16.
+// A digit of base 16, by hand as in crate text: the contracts name each byte of the buffer.
 fn digit(n: u8) -> u8
     requires { n < 16 }
     ensures { result ≡ hex_digit n }

@@ -79,7 +79,7 @@ fn same(x: f64, y: f64) -> bool
 }
 
 // The first n from `low` to `high` whose factor is x bit for bit. The factors' bits rise, so the search goes by halves: below `from` they
-// are less than x's, and from `to` on they are not.
+// are less than x's, and from `to` on they are not. They stand in no slice that `partition_point` could search.
 fn search(x: f64, low: usize, high: usize) -> Option<usize>
     requires { (high ≤ 1000) × T (not (is_nan x)) }
     ensures { result ≡ first (suc high) (factor_from low (to_bits binary64 x)) }

@@ -1,5 +1,6 @@
 // Numbers as ASCII text, stored in a lent buffer from a place on. Each function answers the place after what it stored.
-// An inner layer of the programs: the caller shows that there is room. The text itself is fixed in specs/Text.antt. Beside it stands how the
+// An inner layer of the programs: the caller shows that there is room. By hand and not by `write!`, since the contracts name each byte of
+// the lent buffer and the place after the text. The text itself is fixed in specs/Text.antt. Beside it stands how the
 // programs read their input.
 #![tactic(auto)]
 

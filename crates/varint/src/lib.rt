@@ -124,8 +124,7 @@ pub fn number_of(u: u64) -> i64
 pub fn nat_abs(n: i64) -> u64
     ensures { result ≡ nat_abs n }
 {
-    let m = half(n);
-    if is_negative(n) { m + 1 } else { m }
+    n.unsigned_abs()
 }
 
 // The magnitude of the number whose code u is, without a sum that could wrap (`code_size` of proofs/CodeLaws.antt).
