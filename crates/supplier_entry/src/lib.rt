@@ -10,7 +10,8 @@ ghost use Rattle.std.specs.Float.Ieee.{is_nan, nan_bits, to_bits};
 ghost use Rattle.index.specs.Index.{first};
 ghost use Rattle.supplier_entry.specs.Bytes.{low_first, low_bytes};
 ghost use Rattle.supplier_entry.specs.Factor.{factor_of, factor_bits, factor_from, thousandths_of};
-ghost use Rattle.supplier_entry.specs.Entries.{kind_of, unit_of, twos, twos_of, entry_of, whole_of, units_of, as_number, convert_of, import_of, content_of};
+ghost use Rattle.supplier_entry.specs.Entries.{kind_of, unit_of, twos, twos_of, entry_of, whole_of, units_of, as_number, convert_of};
+ghost use Rattle.supplier_entry.specs.Entries.{import_of, content_of};
 ghost use Rattle.supplier_entry.specs.Asked.{Among, Small, Sound, Fit, Writable};
 
 use limits::Limit;
