@@ -11,7 +11,7 @@ use answers::packed;
 use layout::CELLS;
 use limits::NUMBERS;
 use lookup::FreshError;
-use params::Params;
+use params::{Edition, Params};
 
 // Makes a fresh router of parameters given by value.
 fn make(all: Params, table: &mut [u64; CELLS]) -> u64
@@ -27,7 +27,7 @@ fn make(all: Params, table: &mut [u64; CELLS]) -> u64
 pub fn fresh(numbers: &[i64; NUMBERS], edition: u64, table: &mut [u64; CELLS]) -> u64
     ensures { HostsFresh (edition_of edition) numbers.now result table.old table.new }
 {
-    let Some(e) = params::edition_of(edition) else {
+    let Ok(e) = Edition::try_from(edition) else {
         return packed(2, 0);
     };
     let all = Params {

@@ -18,7 +18,7 @@ use gossip_old::MakeError;
 use gossip_table::{GOSSIP_CELLS, SETUP};
 use layout::CELLS;
 use limits::NUMBERS;
-use params::Params;
+use params::{Edition, Params};
 
 // The ordinary set-up numbers: the limit of order 6, D_lazy, the factor in thousandths, and the bounds of IHAVEs and of replies.
 pub fn ordinary_setup(setup: &mut [u64; SETUP])
@@ -55,7 +55,7 @@ pub fn fresh(
     ensures { HostsMade (setup_of setup.now) (edition_of edition) numbers.now result
         table.old table.new gossip.old gossip.new }
 {
-    let Some(e) = params::edition_of(edition) else {
+    let Ok(e) = Edition::try_from(edition) else {
         return packed(2, 0);
     };
     let all = Params {

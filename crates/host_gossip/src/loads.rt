@@ -8,7 +8,7 @@ use answers::packed;
 use gossip_table::{GOSSIP_CELLS, SETUP};
 use layout::CELLS;
 use limits::NUMBERS;
-use params::Params;
+use params::{Edition, Params};
 use saves::LoadError;
 
 // Loads with parameters given by value.
@@ -45,7 +45,7 @@ pub fn load(
     ensures { HostsLoadAll (setup_of setup.now) (edition_of edition) numbers.now clock bytes.now result
         table.old table.new gossip.old gossip.new }
 {
-    let Some(e) = params::edition_of(edition) else {
+    let Ok(e) = Edition::try_from(edition) else {
         return packed(2, 0);
     };
     let all = Params {

@@ -14,7 +14,7 @@ ghost use Rattle.host_parameters.specs.Parameters.{HostsRead, HostsWrite};
 pub use crate::supplier::{export, import};
 use answers::packed;
 use limits::NUMBERS;
-use params::Params;
+use params::{Edition, Params};
 use params_bytes::{ReadError, WriteError};
 
 // The ordinary parameters.
@@ -34,7 +34,7 @@ pub fn read(bytes: &[u8], numbers: &mut [i64; NUMBERS], edition: &mut u64) -> u6
         Ok((all, n)) => {
             let values = all.numbers;
             *numbers = values;
-            *edition = params::edition_number(all.edition);
+            *edition = u64::from(all.edition);
             packed(0, n as u64)
         }
         Err(ReadError::Malformed(place)) => packed(10, place as u64),
@@ -57,7 +57,7 @@ fn put(all: Params, buffer: &mut [u8]) -> u64
 pub fn write(numbers: &[i64; NUMBERS], edition: u64, buffer: &mut [u8]) -> u64
     ensures { HostsWrite (edition_of edition) numbers.now result buffer.old buffer.new }
 {
-    let Some(e) = params::edition_of(edition) else {
+    let Ok(e) = Edition::try_from(edition) else {
         return packed(2, 0);
     };
     let all = Params {

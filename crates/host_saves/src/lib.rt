@@ -9,7 +9,7 @@ ghost use Rattle.host_saves.specs.Saving.{HostsSave, HostsLoad};
 use answers::packed;
 use layout::CELLS;
 use limits::NUMBERS;
-use params::Params;
+use params::{Edition, Params};
 use saves::{LoadError, SaveError};
 
 // Saves the records at a time, to the start of a buffer: 0 with the length, 12, 2, 1 or 13.
@@ -47,7 +47,7 @@ pub fn load(
 ) -> u64
     ensures { HostsLoad (edition_of edition) numbers.now clock bytes.now result table.old table.new }
 {
-    let Some(e) = params::edition_of(edition) else {
+    let Ok(e) = Edition::try_from(edition) else {
         return packed(2, 0);
     };
     let all = Params {

@@ -256,7 +256,8 @@ fn field_lies(codes: &[u64], j: usize, low: i64, high: i64) -> bool
     true
 }
 
-// Whether the numbers of the topics do, field by field: so a field's limits are loaded once.
+// Whether the numbers of the topics do, field by field: so a field's limits are loaded once, which a walk by number with the general ones
+// would not do.
 fn fields_lie(codes: &[u64]) -> bool
     requires { length codes.now ≡ param_count }
     ensures { result ≡ every of_topic (λ j. every topic_count (λ k. in_limits (map number_of codes.now) (place k j))) }

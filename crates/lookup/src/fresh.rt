@@ -17,7 +17,7 @@ fn fill(params: Params, table: &mut [u64])
     let numbers = params.numbers;
     let codes = limits::codes_of(&numbers);
     let edition = params.edition;
-    let number = params::edition_number(edition);
+    let number = u64::from(edition);
     layout::clear(table);
     layout::store_codes(table, &codes);
     layout::store_setup(table, Setup { edition: number });

@@ -207,8 +207,8 @@ pub fn accepted(table: &[u64]) -> bool
         → accepted_codes (state_of table.now).setup.edition (state_of table.now).codes ≡ true }
 {
     let setup = layout::load_setup(table);
-    match params::edition_of(setup.edition) {
-        Some(e) => accepted_by(table, e),
-        None => false,
+    match Edition::try_from(setup.edition) {
+        Ok(e) => accepted_by(table, e),
+        Err(_) => false,
     }
 }

@@ -1,6 +1,7 @@
 -- Laws of the check: the ends of `first_broken`, and what holds of parameters that pass it.
 -- Assumes nothing.
 use Rattle.std.proofs.Common.{Option, Some, None}
+use Rattle.std.specs.Option.{is_some}
 use Rattle.index.proofs.Kit.{ℕ, ◌+◌, ◌<◌, ◌≤◌, ◌≡◌, refl, sym, ap, ◌∙◌, Bool, true, false, not, arith}
 use Rattle.index.specs.Index.{first, every, or_else}
 use Prim.Native.Nat.{zero, suc}
@@ -8,7 +9,7 @@ use mathlib.Core.Bool.{◌&&◌, cond}
 use mathlib.Core.List.{List, [], ◌∷◌, map}
 use borrow.Author.Tests.{not-false, eq-eqb, ne_eqb, eqb-true}
 use lib.Dec.{eqb}
-use lib.ListN.{length, length-map}
+use lib.ListN.{length, get_or, length-map}
 use lib.IntN.{ℤ}
 use Rattle.index.proofs.Index.{both, every_by, first_passed, first_is}
 use Rattle.varint.specs.Codes.{code_of, number_of}
@@ -19,7 +20,7 @@ use Rattle.params.specs.declared.Edition.{Edition}
 use Rattle.params.specs.declared.Edition.TheVariants.{First, Second}
 use Rattle.params.specs.declared.Params.{Params}
 use Rattle.params.specs.Editions.{edition_number, edition_of, coded}
-use Rattle.params.specs.Joint.{rule_count, rule}
+use Rattle.params.specs.Joint.{rule_count, joint, rule}
 use Rattle.params.specs.Check.{first_rule, broken, as_rule, first_broken, is_nothing, accepted_by, accepted_in, accepted_codes}
 
 -- numbers that were all found between their limits
@@ -110,6 +111,12 @@ accepted_is p =
     ∙ rw (nothing_every (in_limits p.numbers) param_count, nothing_every (rule p.numbers p.edition) rule_count)
 
 -- ---- the ends of `accepts`
+pub none_told : (f : Option ℕ) (r : Bool) → is_some f ≡ not r → r ≡ is_nothing f
+none_told (Some k) true e = e
+none_told (Some k) false e = refl
+none_told None true e = refl
+none_told None false e = e
+
 module _ (e : Edition) (codes : List ℕ) where
   pub codes_short : (length codes ≡ param_count → ⊥) → false ≡ accepted_by e codes
   unfolding accepted_by
@@ -127,7 +134,7 @@ module _ (e : Edition) (codes : List ℕ) where
     codes_within t = sym q ∙ t
 
     -- the joint rules decide
-    codes_judged : (f : Option ℕ) → a ≡ true → f ≡ first rule_count (broken (map number_of codes) e) → is_nothing f ≡ accepted_by e codes
+    pub codes_judged : (f : Option ℕ) → a ≡ true → f ≡ first rule_count (broken (map number_of codes) e) → is_nothing f ≡ accepted_by e codes
     unfolding broken
     codes_judged f t d =
         ap is_nothing d
@@ -135,15 +142,20 @@ module _ (e : Edition) (codes : List ℕ) where
         ∙ ap (λ (b : Bool). b && every rule_count (rule (map number_of codes) e)) (sym (codes_within t))
         ∙ tested
 
-    pub codes_broken : (f : Option ℕ) (k : ℕ) → a ≡ true → f ≡ first rule_count (broken (map number_of codes) e) → f ≡ Some k → false
-        ≡ accepted_by e codes
-    codes_broken f k t d g = ap is_nothing (sym g) ∙ codes_judged f t d
+-- ---- a rule that was told
+any_default : (l : List Bool) (k : ℕ) → k < length l → get_or l k false ≡ get_or l k true
+any_default [] k h = absurd (omega arith)
+any_default (x ∷ l) zero h = refl
+any_default (x ∷ l) (suc k) h = any_default l k (omega arith)
 
-    pub codes_kept : (f : Option ℕ) → a ≡ true → f ≡ first rule_count (broken (map number_of codes) e) → f ≡ None → true
-        ≡ accepted_by e codes
-    codes_kept f t d g = ap is_nothing (sym g) ∙ codes_judged f t d
+pub rule_told :
+    (xs : List ℤ) (e : Edition) (k : ℕ) (l : List Bool) (b : Bool) → l ≡ joint xs e → k < rule_count → get_or l k false ≡ b →
+    broken xs e k ≡ not b
+unfolding broken rule joint
+rule_told xs e k l b q h t =
+    ap not (sym (any_default (joint xs e) k h) ∙ ap (λ (m : List Bool). get_or m k false) (sym q) ∙ t)
 
--- ---- the ends of `edition_of`
+-- ---- the ends of `try_from`
 pub is_first : (n : ℕ) → n ≡ 1 → Some First ≡ edition_of n
 unfolding edition_of
 is_first n q = rw q refl

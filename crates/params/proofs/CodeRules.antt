@@ -3,10 +3,8 @@
 use Rattle.index.proofs.Kit.{ℕ, ◌+◌, ◌*◌, ◌<◌, ◌≤◌, ◌≡◌, refl, sym, ap, ◌∙◌, Bool, true, arith}
 use Rattle.index.specs.Index.{every}
 use Prim.Native.Nat.{suc}
-use native.Mathlib.Numerals.{add-one}
 use mathlib.Core.Path.{ap₂}
-use mathlib.Core.Bool.{◌&&◌}
-use mathlib.Core.List.{List, map}
+use mathlib.Core.List.{List, [], ◌∷◌, map}
 use lib.Dec.{T, leb, ltb, lit<}
 use lib.ListN.{get_or}
 use lib.IntN.{ℤ, pos, negsuc, ◌+ℤ◌, ◌*ℤ◌}
@@ -20,15 +18,6 @@ use Rattle.params.specs.declared.Edition.{Edition}
 use Rattle.params.specs.declared.Edition.TheVariants.{First, Second}
 use Rattle.params.specs.Joint.{rule_count, cap_rule, score_rule, joint, rule}
 use Rattle.limits.proofs.FieldLaws.{Within, code_at, gain_at, loss_at, most_of}
-
--- ---- tests that are gathered in a flag
-pub every_and : (f : ℕ → Bool) (i : ℕ) (a b : Bool) → a ≡ every i f → b ≡ f i → (a && b) ≡ every (i + 1) f
-unfolding every
-every_and f i a b p q = rw (add-one i, p, q)
-
-pub every_start : (f : ℕ → Bool) → true ≡ every 0 f
-unfolding every
-every_start f = refl
 
 -- ---- numbers of one sign, by their codes
 abbrev Gain : ℤ → Type 0
@@ -148,7 +137,24 @@ module _ (codes : List ℕ) (ok : Within codes) where
   unfolding rule joint
   caps_are e = refl
 
-  -- the sums of `keeps` are small
+  -- all rules, in order
+  pub rules_are :
+      (e : Edition) (s c : Bool) → s ≡ score_rule (map number_of codes) e → c ≡ every topic_count (cap_rule (map number_of codes)) →
+      leb (get_or codes 0 0) (get_or codes 1 0)
+      ∷ leb (get_or codes 1 0) (get_or codes 2 0)
+      ∷ ltb (get_or codes 3 0) (get_or codes 0 0)
+      ∷ leb (2 * get_or codes 3 0) (get_or codes 1 0)
+      ∷ s
+      ∷ leb (get_or codes 10 0) (get_or codes 11 0)
+      ∷ ltb (get_or codes 11 0) (get_or codes 9 0)
+      ∷ c
+      ∷ []
+      ≡ joint (map number_of codes) e
+  unfolding rule joint
+  rules_are e s c p q i =
+      le_lo e i ∷ le_hi e i ∷ lt_lo e i ∷ twice_out e i ∷ p i ∷ le_gossip e i ∷ lt_publish e i ∷ q i ∷ []
+
+  -- the sums of `rules` are small
   pub out_small : get_or codes 3 0 ≤ 48
   unfolding limit_at limits
   out_small = omega (arith, most_of codes ok 3 (lit< tt) 3 refl 24 tt)
@@ -160,18 +166,3 @@ module _ (codes : List ℕ) (ok : Within codes) where
 -- ---- the ends of `score_keeps`
 pub score_in : {e d : Edition} (xs : List ℤ) → e ≡ d → (b : Bool) → b ≡ score_rule xs d → b ≡ score_rule xs e
 score_in xs q b f = f ∙ ap (score_rule xs) (sym q)
-
--- ---- the ends of `keeps`: rule k, which is the n-th
-pub rule_at : (xs : List ℤ) (e : Edition) (k n : ℕ) (b : Bool) → k ≡ n → b ≡ rule xs e n → b ≡ rule xs e k
-rule_at xs e k n b q f = rw q f
-
-four : (k : ℕ) → (k ≡ 0 → ⊥) → (k ≡ 1 → ⊥) → (k ≡ 2 → ⊥) → (k ≡ 3 → ⊥) → 4 ≤ k
-four k a b c d = omega arith
-
-seven' : (k : ℕ) → 4 ≤ k → k < rule_count → (k ≡ 4 → ⊥) → (k ≡ 5 → ⊥) → (k ≡ 6 → ⊥) → k ≡ 7
-seven' k f h a b c = omega arith
-
--- the last of eight, once the first seven are ruled out (omega takes six such facts at most)
-pub seven : (k : ℕ) → k < rule_count → (k ≡ 0 → ⊥) → (k ≡ 1 → ⊥) → (k ≡ 2 → ⊥) → (k ≡ 3 → ⊥) → (k ≡ 4 → ⊥) → (k ≡ 5 → ⊥) → (k ≡ 6 → ⊥) → k
-    ≡ 7
-seven k h a b c d e f g = seven' k (four k a b c d) h e f g

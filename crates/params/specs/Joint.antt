@@ -1,13 +1,18 @@
 -- The joint rules (01, "Joint rules, in order"), as a list by edition: the second replaces an entry of it (02, order 14).
-use Rattle.std.specs.Prelude.{ℕ, Bool, true, List, [], ◌∷◌, get_or, ℤ, pos, ◌+ℤ◌, ◌*ℤ◌}
+use Rattle.std.specs.Prelude.{◌≡◌, ℕ, Bool, true, List, [], ◌∷◌, map, length, get_or, ℤ, pos, ◌+ℤ◌, ◌*ℤ◌}
 use Rattle.std.specs.Int.Signed.{le_z, lt_z}
 use Rattle.index.specs.Index.{every}
-use Rattle.records.specs.Records.{topic_count}
+use Rattle.records.specs.Records.{topic_count, param_count}
 use Rattle.records.specs.Parameters.{d_lo_at, d_at, d_hi_at, d_out_at, d_score_at, graylist_threshold_at, gossip_threshold_at, publish_threshold_at}
 use Rattle.records.specs.Parameters.{p3_cap_at, p3_threshold_at}
-use Rattle.limits.specs.Limits.{place, at}
+use Rattle.varint.specs.Codes.{number_of}
+use Rattle.limits.specs.Limits.{place, at, in_limits}
 use Rattle.params.specs.declared.Edition.{Edition}
 use Rattle.params.specs.declared.Edition.TheVariants.{First, Second}
+
+-- codes of 147 numbers, each between its limits: the rules are tested of these alone
+abbrev pub WithinLimits : List ℕ → Type 0
+WithinLimits codes = (length codes ≡ param_count) × (every param_count (in_limits (map number_of codes)) ≡ true)
 
 abbrev pub rule_count : ℕ
 rule_count = 8

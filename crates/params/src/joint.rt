@@ -1,11 +1,10 @@
 // The joint rules (01, "Joint rules, in order") of both editions, of codes of numbers between their limits. Two codes of one sign stand to
 // each other as the magnitudes do, so nothing is decoded. A rule that changes is changed here and in specs/Joint.antt.
-ghost use Rattle.std.specs.Prelude.{◌≡◌, true, map, ◌<◌, length};
+ghost use Rattle.std.specs.Prelude.{◌≡◌, map, ◌<◌};
 ghost use Rattle.index.specs.Index.{first, every};
 ghost use Rattle.varint.specs.Codes.{number_of};
-ghost use Rattle.records.specs.Records.{topic_count, param_count};
-ghost use Rattle.limits.specs.Limits.{in_limits};
-ghost use Rattle.params.specs.Joint.{rule_count, cap_rule, score_rule, rule};
+ghost use Rattle.records.specs.Records.{topic_count};
+ghost use Rattle.params.specs.Joint.{rule_count, cap_rule, score_rule, joint, WithinLimits};
 ghost use Rattle.params.specs.Check.{broken};
 
 use crate::Edition;
@@ -19,23 +18,31 @@ use records::param::{
 // How many joint rules there are.
 const RULES: usize = 8;
 
-// Whether in every topic P3 cap is at least P3 threshold.
+// Whether in topic k P3 cap is at least P3 threshold.
+fn cap_keeps(codes: &[u64], k: usize) -> bool
+    requires { WithinLimits codes.now × (k < topic_count) }
+    ensures { result ≡ cap_rule (map number_of codes.now) k }
+{
+    let at = GENERAL + OF_TOPIC * k;
+    codes[at + P3_THRESHOLD] <= codes[at + P3_CAP]
+}
+
+// Whether it is in every topic.
 fn caps(codes: &[u64]) -> bool
-    requires { (length codes.now ≡ param_count) × (every param_count (in_limits (map number_of codes.now)) ≡ true) }
+    requires { WithinLimits codes.now }
     ensures { result ≡ every topic_count (cap_rule (map number_of codes.now)) }
 {
-    let mut ok = true;
     for k in 0..TOPICS {
-        let at = GENERAL + OF_TOPIC * k;
-        let b = codes[at + P3_THRESHOLD] <= codes[at + P3_CAP];
-        ok = ok & b;
+        if !cap_keeps(codes, k) {
+            return false;
+        }
     }
-    ok
+    true
 }
 
 // The rule on D_score.
 fn score_keeps(edition: Edition, codes: &[u64]) -> bool
-    requires { (length codes.now ≡ param_count) × (every param_count (in_limits (map number_of codes.now)) ≡ true) }
+    requires { WithinLimits codes.now }
     ensures { result ≡ score_rule (map number_of codes.now) edition }
 {
     match edition {
@@ -46,38 +53,38 @@ fn score_keeps(edition: Edition, codes: &[u64]) -> bool
     }
 }
 
-// Whether joint rule k holds.
-fn keeps(edition: Edition, codes: &[u64], k: usize) -> bool
-    requires { (length codes.now ≡ param_count) × (every param_count (in_limits (map number_of codes.now)) ≡ true) × (k < rule_count) }
-    ensures { result ≡ rule (map number_of codes.now) edition k }
+// Which joint rules hold, in order.
+fn rules(edition: Edition, codes: &[u64]) -> [bool; RULES]
+    requires { WithinLimits codes.now }
+    ensures { result ≡ joint (map number_of codes.now) edition }
 {
-    match k {
+    [
         // D_lo ≤ D
-        0 => codes[D_LO] <= codes[D],
+        codes[D_LO] <= codes[D],
         // D ≤ D_hi
-        1 => codes[D] <= codes[D_HI],
+        codes[D] <= codes[D_HI],
         // D_out < D_lo
-        2 => codes[D_OUT] < codes[D_LO],
+        codes[D_OUT] < codes[D_LO],
         // 2·D_out ≤ D
-        3 => 2 * codes[D_OUT] <= codes[D],
+        2 * codes[D_OUT] <= codes[D],
         // D_score + D_out ≤ D, or D_score ≤ D
-        4 => score_keeps(edition, codes),
+        score_keeps(edition, codes),
         // publish ≤ gossip
-        5 => codes[GOSSIP_THRESHOLD] <= codes[PUBLISH_THRESHOLD],
+        codes[GOSSIP_THRESHOLD] <= codes[PUBLISH_THRESHOLD],
         // graylist < publish
-        6 => codes[PUBLISH_THRESHOLD] < codes[GRAYLIST_THRESHOLD],
+        codes[PUBLISH_THRESHOLD] < codes[GRAYLIST_THRESHOLD],
         // P3 cap ≥ P3 threshold
-        _ => caps(codes),
-    }
+        caps(codes),
+    ]
 }
 
 // The first joint rule that is broken.
 pub fn first_rule(edition: Edition, codes: &[u64]) -> Option<usize>
-    requires { (length codes.now ≡ param_count) × (every param_count (in_limits (map number_of codes.now)) ≡ true) }
+    requires { WithinLimits codes.now }
     ensures { result ≡ first rule_count (broken (map number_of codes.now) edition) }
 {
-    for k in 0..RULES {
-        if !keeps(edition, codes, k) {
+    for (k, holds) in rules(edition, codes).iter().enumerate() {
+        if !*holds {
             return Some(k);
         }
     }

@@ -7,7 +7,7 @@ mod ordinary;
 
 ghost use Rattle.std.specs.Prelude.{◌≡◌, length};
 ghost use Rattle.records.specs.Records.{param_count};
-ghost use Rattle.params.specs.Editions.{edition_number, edition_of, coded};
+ghost use Rattle.params.specs.Editions.{coded, IsNumberOf, IsEditionOf};
 ghost use Rattle.params.specs.Check.{first_broken, accepted_by, accepted_codes};
 ghost use Rattle.params.specs.Ordinary.{ordinary_params};
 
@@ -31,22 +31,32 @@ pub struct Params {
 }
 
 // The editions by their numbers, as a router's tables and a host say them.
-pub fn edition_number(edition: Edition) -> u64
-    ensures { result ≡ edition_number edition }
-{
-    match edition {
-        Edition::First => 1,
-        Edition::Second => 2,
+impl From<Edition> for u64 {
+    ghost from_gives = { IsNumberOf };
+
+    fn from(edition: Edition) -> u64 {
+        match edition {
+            Edition::First => 1,
+            Edition::Second => 2,
+        }
     }
 }
 
-pub fn edition_of(n: u64) -> Option<Edition>
-    ensures { result ≡ edition_of n }
-{
-    match n {
-        1 => Some(Edition::First),
-        2 => Some(Edition::Second),
-        _ => None,
+// A number that is no edition's.
+#[derive(Clone, Copy)]
+pub struct UnknownEdition(pub u64);
+
+impl TryFrom<u64> for Edition {
+    type Error = UnknownEdition;
+
+    ghost try_from_gives = { IsEditionOf };
+
+    fn try_from(n: u64) -> Result<Edition, UnknownEdition> {
+        match n {
+            1 => Ok(Edition::First),
+            2 => Ok(Edition::Second),
+            _ => Err(UnknownEdition(n)),
+        }
     }
 }
 
@@ -55,13 +65,11 @@ fn first_broken_code(edition: Edition, codes: &[u64]) -> Option<usize>
     requires { length codes.now ≡ param_count }
     ensures { result ≡ first_broken (coded edition codes.now) }
 {
-    match limits::first_outside(codes) {
-        Some(i) => Some(i),
-        None => match joint::first_rule(edition, codes) {
-            Some(k) => Some(FIRST_RULE + k),
-            None => None,
-        },
+    if let Some(i) = limits::first_outside(codes) {
+        return Some(i);
     }
+    let k = joint::first_rule(edition, codes)?;
+    Some(FIRST_RULE + k)
 }
 
 // Whether 147 codes are those of parameters of an edition that pass the check.
@@ -74,19 +82,16 @@ fn accepts(edition: Edition, codes: &[u64]) -> bool
     if !limits::codes_lie(codes) {
         return false;
     }
-    match joint::first_rule(edition, codes) {
-        Some(k) => false,
-        None => true,
-    }
+    joint::first_rule(edition, codes).is_none()
 }
 
 // The same of an edition's number. Every call of a router asks this.
 pub fn accepts_codes(edition: u64, codes: &[u64]) -> bool
     ensures { result ≡ accepted_codes edition codes.now }
 {
-    match edition_of(edition) {
-        Some(e) => accepts(e, codes),
-        None => false,
+    match Edition::try_from(edition) {
+        Ok(e) => accepts(e, codes),
+        Err(_) => false,
     }
 }
 

@@ -105,10 +105,14 @@ module _ (s : List ℕ) (at : ℕ) where
   edition_first t = rw t
 
 -- ---- a reading by what was answered
-pub as_taken : (q : Reading) (p : Params) (n : ℕ) → ◌≡◌ {A = Result (Params × ℕ) ReadError} (Ok (p, n)) (told q) → record { verdict = Ok n; params = p } ≡ q
+pub as_taken :
+    (q : Reading) (p : Params) (n : ℕ) → ◌≡◌ {A = Result (Params × ℕ) ReadError} (Ok (p, n)) (told q) →
+    record { verdict = Ok n; params = p } ≡ q
 as_taken q p n e = go q.verdict e
   where
-    go : (v : Result ℕ ReadError) → ◌≡◌ {A = Result (Params × ℕ) ReadError} (Ok (p, n)) (told_with q.params v) → ◌≡◌ {A = Reading} (record { verdict = Ok n; params = p }) (record { verdict = v; params = q.params })
+    go :
+        (v : Result ℕ ReadError) → ◌≡◌ {A = Result (Params × ℕ) ReadError} (Ok (p, n)) (told_with q.params v) →
+        ◌≡◌ {A = Reading} (record { verdict = Ok n; params = p }) (record { verdict = v; params = q.params })
     go (Ok m) e =
         let d : ◌≡◌ {A = Params × ℕ} (p, n) (q.params, m) = cc in
         λ i. record { verdict = Ok (d i).1; params = (d i).0 }

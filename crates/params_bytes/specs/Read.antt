@@ -1,9 +1,9 @@
 -- Reading the parameters from bytes (01, numbers 10 and 9, in that order): 147 numbers, each by its code in seven-bit groups, behind the
 -- front that tells their edition.
-use Rattle.std.specs.Prelude.{Option, Some, None, Result, Ok, Err}
+use Rattle.std.specs.Prelude.{◌≡◌, Option, Some, None, Result, Ok, Err}
 use Rattle.params_bytes.specs.declared.ReadError.{ReadError}
 use Rattle.params_bytes.specs.declared.ReadError.TheVariants.{Broken, Malformed}
-use Rattle.std.specs.Prelude.{◌≡◌, ℕ, zero, suc, ◌+◌, cond, ◌&&◌, List, [], ◌∷◌, ◌++◌, eqb, ltb, length, get_or, replicate, ℤ, pos}
+use Rattle.std.specs.Prelude.{ℕ, zero, suc, ◌+◌, cond, ◌&&◌, List, [], ◌∷◌, ◌++◌, eqb, ltb, length, get_or, replicate, ℤ, pos}
 use Rattle.varint.specs.Groups.{read_at}
 use Rattle.varint.specs.Codes.{number_of}
 use Rattle.params.specs.declared.Edition.{Edition}

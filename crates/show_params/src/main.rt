@@ -9,7 +9,7 @@ ghost use Rattle.show_params.specs.Show.{shown_text};
 
 use params_bytes::ReadError;
 use std::io;
-use std::io::{Read, Write};
+use std::io::Write;
 
 // What reading `bytes` comes to, at the front.
 fn show(buf: &mut [u8], bytes: &[u8]) -> usize
@@ -26,27 +26,12 @@ fn show(buf: &mut [u8], bytes: &[u8]) -> usize
     }
 }
 
-// Reads until the buffer is full or the input ends, and answers how many bytes it put at the start. A failed reading ends the input.
-fn read_full(input: &mut impl Read, buf: &mut [u8]) -> usize
-    ensures { result ≤ length buf.new }
-{
-    let mut done: usize = 0;
-    while done < buf.len() {
-        let n = input.read(&mut buf[done..]).unwrap_or(0);
-        if n == 0 {
-            break;
-        }
-        done += n;
-    }
-    done
-}
-
 // The 4,096 bytes that are read are enough of any input (`enough` of param_text/proofs/Enough.antt): a front of two bytes and 147 numbers
 // of at most ten do not pass 1,472, so whatever stands beyond is left over, and the place that is printed is that of the first byte left
 // over.
 fn main(rt: HostRuntime) -> io::Result<()> {
     let mut bytes = [0u8; 4096];
-    let n = read_full(&mut rt.reader(), &mut bytes);
+    let n = text::read_full(&mut rt.reader(), &mut bytes);
     let mut out = [0u8; 4096];
     let end = show(&mut out, &bytes[..n]);
     io::writer(&rt).write_all(&out[..end])

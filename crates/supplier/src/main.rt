@@ -25,7 +25,7 @@ use params_bytes::{ReadError, WriteError};
 use std::io;
 use std::io::{Read, Write};
 
-// A digit of base 16.
+// A digit of base 16, by hand as in crate text: the contracts name each byte of the buffer.
 fn digit(n: u8) -> u8
     requires { n < 16 }
     ensures { result ≡ hex_digit n }
@@ -210,21 +210,6 @@ fn answer_all(buf: &mut [u8], page: &mut [u8], mode: u8, bytes: &[u8], rest: usi
     answer(buf, page, mode, bytes)
 }
 
-// Reads until the buffer is full or the input ends, and answers how many bytes it put at the start. A failed reading ends the input.
-fn read_full(input: &mut impl Read, buf: &mut [u8]) -> usize
-    ensures { result ≤ length buf.new }
-{
-    let mut done: usize = 0;
-    while done < buf.len() {
-        let n = input.read(&mut buf[done..]).unwrap_or(0);
-        if n == 0 {
-            break;
-        }
-        done += n;
-    }
-    done
-}
-
 // Counts what is left of the input. A proved loop has to end, and nothing says that the input does: the turns count down from a number
 // that no run uses up.
 fn count_rest(input: &mut impl Read, page: &mut [u8]) -> usize
@@ -233,7 +218,7 @@ fn count_rest(input: &mut impl Read, page: &mut [u8]) -> usize
     let mut turns: usize = 4398046511104;
     let mut total: usize = 0;
     while 0 < turns {
-        let n = read_full(input, page);
+        let n = text::read_full(input, page);
         if n == 0 {
             break;
         }
@@ -268,7 +253,7 @@ fn main(rt: HostRuntime) -> io::Result<()> {
     let mut out = [0u8; 4096];
     let mut page = [0u8; 4096];
     let mut reader = rt.reader();
-    let n = read_full(&mut reader, &mut input);
+    let n = text::read_full(&mut reader, &mut input);
     let end = reply(&mut reader, &mut out, &mut page, &input[..n]);
     io::writer(&rt).write_all(&out[..end])
 }

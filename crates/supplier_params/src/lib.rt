@@ -20,67 +20,57 @@ use supplier_entry::Form;
 // How many bytes the parameters take: 147 entries of nine.
 pub const BYTES: usize = 1323;
 
-const FACTOR: Form = Form { kind: 0, unit: 1 };
+const SECONDS: Form = Form::Spans(1000000000);
 
-const WHOLE: Form = Form { kind: 1, unit: 1 };
-
-const SECONDS: Form = Form {
-    kind: 2,
-    unit: 1000000000,
-};
-
-const MILLISECONDS: Form = Form {
-    kind: 2,
-    unit: 1000000,
-};
+const MILLISECONDS: Form = Form::Spans(1000000);
 
 // The form of each field: 19 general fields, then the 16 that every topic has.
 const FORMS: [Form; FIELDS] = [
     // D_lo, D, D_hi, D_out, D_score
-    WHOLE,
-    WHOLE,
-    WHOLE,
-    WHOLE,
-    WHOLE,
+    Form::Wholes,
+    Form::Wholes,
+    Form::Wholes,
+    Form::Wholes,
+    Form::Wholes,
     // prune backoff, unsubscribe backoff, retain
     SECONDS,
     SECONDS,
     SECONDS,
     // opportunistic, graylist, gossip, publish thresholds, topic cap
-    WHOLE,
-    WHOLE,
-    WHOLE,
-    WHOLE,
-    WHOLE,
+    Form::Wholes,
+    Form::Wholes,
+    Form::Wholes,
+    Form::Wholes,
+    Form::Wholes,
     // w5, w6, P6 threshold, w7
-    WHOLE,
-    WHOLE,
-    WHOLE,
-    WHOLE,
+    Form::Wholes,
+    Form::Wholes,
+    Form::Wholes,
+    Form::Wholes,
     // P7 decay, decay-to-zero
-    FACTOR,
-    FACTOR,
+    Form::Factors,
+    Form::Factors,
     // weight, w1, quantum, P1 cap
-    WHOLE,
-    WHOLE,
+    Form::Wholes,
+    Form::Wholes,
     MILLISECONDS,
-    WHOLE,
+    Form::Wholes,
     // w2, P2 decay, P2 cap
-    WHOLE,
-    FACTOR,
-    WHOLE,
+    Form::Wholes,
+    Form::Factors,
+    Form::Wholes,
     // w3, P3 decay, P3 cap, P3 threshold, activation
-    WHOLE,
-    FACTOR,
-    WHOLE,
-    WHOLE,
+    Form::Wholes,
+    Form::Factors,
+    Form::Wholes,
+    Form::Wholes,
     MILLISECONDS,
     // w3b, P3b decay
-    WHOLE,
-    FACTOR,
+    Form::Wholes,
+    Form::Factors,
     // w4, P4 decay
-    WHOLE,
-    FACTOR,
+    Form::Wholes,
+    Form::Factors,
 ];
 
 // The form of number i.

@@ -1,9 +1,13 @@
 // Numbers as ASCII text, stored in a lent buffer from a place on. Each function answers the place after what it stored.
-// An inner layer of the programs: the caller shows that there is room. The text itself is fixed in specs/Text.antt.
+// An inner layer of the programs: the caller shows that there is room. By hand and not by `write!`, since the contracts name each byte of
+// the lent buffer and the place after the text. The text itself is fixed in specs/Text.antt. Beside it stands how the
+// programs read their input.
 #![tactic(auto)]
 
 ghost use Rattle.std.specs.Prelude.{[], ◌∷◌, ◌+◌, ◌≤◌, length};
 ghost use Rattle.text.specs.Text.{decimal, signed_text, Stored};
+
+use std::io::Read;
 
 // The byte b.
 pub fn put_byte(buf: &mut [u8], at: usize, b: u8) -> usize
@@ -39,4 +43,20 @@ pub fn put_signed(buf: &mut [u8], at: usize, n: i64) -> usize
         return put_decimal(buf, at + 1, size);
     }
     put_decimal(buf, at, size)
+}
+
+// Reads until the buffer is full or the input ends, and answers how many bytes it put at the start. A failed reading ends the input.
+// The library has no reader that stops in a lent buffer where the input does: `read_exact` fails there.
+pub fn read_full(input: &mut impl Read, buf: &mut [u8]) -> usize
+    ensures { result ≤ length buf.new }
+{
+    let mut done: usize = 0;
+    while done < buf.len() {
+        let n = input.read(&mut buf[done..]).unwrap_or(0);
+        if n == 0 {
+            break;
+        }
+        done += n;
+    }
+    done
 }

@@ -36,12 +36,3 @@ code_neg (negsuc n) e = refl
 pub code_pos : (n : ℤ) → false ≡ negative n → code_of n ≡ 2 * mag n
 code_pos (pos n) e = refl
 code_pos (negsuc n) e = let z : ◌≡◌ {A = ℕ} 0 1 = cc in absurd (omega arith)
-
--- the two ends of `magnitude`
-pub size_neg : (n : ℤ) → true ≡ negative n → nat_abs n ≡ mag n + 1
-size_neg (pos n) e = let z : ◌≡◌ {A = ℕ} 0 1 = cc in absurd (omega arith)
-size_neg (negsuc n) e = omega arith
-
-pub size_pos : (n : ℤ) → false ≡ negative n → nat_abs n ≡ mag n
-size_pos (pos n) e = refl
-size_pos (negsuc n) e = let z : ◌≡◌ {A = ℕ} 0 1 = cc in absurd (omega arith)

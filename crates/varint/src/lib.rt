@@ -26,22 +26,18 @@ fn after_more(rest: Option<(u64, usize)>, low: u64, top: u64) -> Option<(u64, us
     requires { (128 ≤ low) × (low < 256) }
     ensures { result ≡ after_more top low rest }
 {
-    match rest {
-        Some((v, next)) => {
-            if v == 0 {
-                return None;
-            }
-            if top / 128 < v {
-                return None;
-            }
-            let high = v * 128;
-            if low - 128 <= top - high {
-                return Some((high + (low - 128), next));
-            }
-            None
-        }
-        None => None,
+    let (v, next) = rest?;
+    if v == 0 {
+        return None;
     }
+    if top / 128 < v {
+        return None;
+    }
+    let high = v * 128;
+    if low - 128 <= top - high {
+        return Some((high + (low - 128), next));
+    }
+    None
 }
 
 // The number up to `top` that stands at `at`. It ends where no further group can be within `top`, so its depth is that of the width,
@@ -81,9 +77,7 @@ pub fn write_u64(buf: &mut [u8], at: usize, n: u64) -> Option<usize>
         buf[at] = n as u8;
         return Some(at + 1);
     }
-    let Some(next) = write_u64(buf, at + 1, n / 128) else {
-        return None;
-    };
+    let next = write_u64(buf, at + 1, n / 128)?;
     buf[at] = (n % 128 + 128) as u8;
     Some(next)
 }
@@ -130,8 +124,7 @@ pub fn number_of(u: u64) -> i64
 pub fn nat_abs(n: i64) -> u64
     ensures { result ≡ nat_abs n }
 {
-    let m = half(n);
-    if is_negative(n) { m + 1 } else { m }
+    n.unsigned_abs()
 }
 
 // The magnitude of the number whose code u is, without a sum that could wrap (`code_size` of proofs/CodeLaws.antt).

@@ -1,4 +1,6 @@
 -- `host_gossip::fresh` meets its contract. Assumes nothing.
+use mathlib.Core.Path.{ap}
+use Rattle.params.specs.Editions.{known}
 use Rattle.index.proofs.Kit.{arith}
 use Rattle.host_gossip.proofs.RouterLaws.{made_known, made_unknown}
 use Rattle.host_gossip.proofs.fresh.Goals as goal
@@ -7,8 +9,8 @@ pub packed-requires : goal.packed-requires
 packed-requires c = (omega arith, omega arith)
 
 pub returns-in_default : goal.returns-in_default
-returns-in_default c = made_unknown _ _ c.edition_of.ensures _ _ _ _ _ c.in_default.is c.packed.ensures
+returns-in_default c = made_unknown _ _ c.try_from.ensures _ _ _ _ _ (ap known c.in_default.is) c.packed.ensures
 
 pub returns : goal.returns
-returns c = made_known _ _ c.edition_of.ensures _ _ _ _ _ _ _ _
-    c.in-Some.is c.make.ensures
+returns c = made_known _ _ c.try_from.ensures _ _ _ _ _ _ _ _
+    (ap known c.in-Ok.is) c.make.ensures

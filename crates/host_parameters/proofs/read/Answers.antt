@@ -18,7 +18,7 @@ packed-requires-in-Err-Broken c = (omega arith, read_fits _ _ _ refl (as_refused
 
 pub returns-in-Ok : goal.returns-in-Ok
 returns-in-Ok c = hosts_read _ _ _ (as_taken _ _ _ (sym c.in-Ok.is ∙ c.read.ensures)) refl
-    _ _ _ _ _ c.packed.ensures refl c.edition_number.ensures
+    _ _ _ _ _ c.packed.ensures refl c.from.ensures
 
 pub returns-in-Err-Malformed : goal.returns-in-Err-Malformed
 returns-in-Err-Malformed c = hosts_read _ _ _ refl (as_refused _ _ (sym (rw c.in-Err-Malformed.field-0-is at c.in-Err-Malformed.is) ∙ c.read.ensures)) _ _ _

@@ -9,6 +9,3 @@ use Rattle.limits.proofs.field_lies.Given as goal
 abbrev pub invariant-loop-k : goal.invariant-loop-k
 invariant-loop-k l =
     (l.k ≤ topic_count) × (every l.k (λ m. lies (number_of (get_or l.codes (place m l.j) 0)) (to l.low l.high)) ≡ true)
-
-abbrev pub decreases-loop-k : goal.decreases-loop-k
-decreases-loop-k l = topic_count - l.k

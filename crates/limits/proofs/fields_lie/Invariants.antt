@@ -8,6 +8,3 @@ use Rattle.limits.proofs.fields_lie.Given as goal
 
 abbrev pub invariant-loop-j : goal.invariant-loop-j
 invariant-loop-j l = (l.j ≤ of_topic) × (every l.j (field (in_limits (map number_of l.codes))) ≡ true)
-
-abbrev pub decreases-loop-j : goal.decreases-loop-j
-decreases-loop-j l = of_topic - l.j

@@ -9,6 +9,3 @@ use Rattle.limits.proofs.first_outside.Given as goal
 
 abbrev pub invariant-loop-i : goal.invariant-loop-i
 invariant-loop-i l = (l.i ≤ param_count) × (first l.i (outside (map number_of l.codes)) ≡ None)
-
-abbrev pub decreases-loop-i : goal.decreases-loop-i
-decreases-loop-i l = param_count - l.i

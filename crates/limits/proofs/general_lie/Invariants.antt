@@ -7,6 +7,3 @@ use Rattle.limits.proofs.general_lie.Given as goal
 
 abbrev pub invariant-loop-i : goal.invariant-loop-i
 invariant-loop-i l = (l.i ≤ general_count) × (every l.i (in_limits (map number_of l.codes)) ≡ true)
-
-abbrev pub decreases-loop-i : goal.decreases-loop-i
-decreases-loop-i l = general_count - l.i

@@ -9,6 +9,3 @@ use Rattle.limits.proofs.write_codes.Given as goal
 
 abbrev pub invariant-loop-i : goal.invariant-loop-i
 invariant-loop-i l = Built 0 (λ k. code_of (get_or l.numbers k (pos 0))) param_count l.i l.codes
-
-abbrev pub decreases-loop-i : goal.decreases-loop-i
-decreases-loop-i l = param_count - l.i

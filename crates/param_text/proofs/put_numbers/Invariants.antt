@@ -10,6 +10,3 @@ use Rattle.param_text.proofs.put_numbers.Given as goal
 abbrev pub invariant-loop-i : goal.invariant-loop-i
 invariant-loop-i l =
     (l.i ≤ param_count) × (length l.buf ≡ length l.initial.buf) × (l.next ≤ l.at + 22 * l.i) × Stored l.initial.buf l.at (gather l.i (line_at l.numbers)) l.next l.buf
-
-abbrev pub decreases-loop-i : goal.decreases-loop-i
-decreases-loop-i l = param_count - l.i

@@ -1,5 +1,6 @@
 -- `params::accepts` meets its contract. Assumes nothing.
-use Rattle.params.proofs.CheckLaws.{codes_short, codes_outside, codes_within, codes_broken, codes_kept}
+use Rattle.index.proofs.Kit.{◌∙◌}
+use Rattle.params.proofs.CheckLaws.{codes_short, codes_outside, codes_within, codes_judged, none_told}
 use Rattle.params.proofs.accepts.Goals as goal
 
 pub returns-then-codes-ne-NUMBERS : goal.returns-then-codes-ne-NUMBERS
@@ -15,12 +16,8 @@ first_rule-requires c = (
       c.if-codes-ne-NUMBERS.false _ c.codes_lie.ensures c.if-not-codes_lie.false,
 )
 
-pub returns-in-Some : goal.returns-in-Some
-returns-in-Some c =
-    codes_broken _ _ c.if-codes-ne-NUMBERS.false _ c.codes_lie.ensures _ _ c.if-not-codes_lie.false
-    c.first_rule.ensures c.in-Some.is
-
-pub returns-in-None : goal.returns-in-None
-returns-in-None c =
-    codes_kept _ _ c.if-codes-ne-NUMBERS.false _ c.codes_lie.ensures _ c.if-not-codes_lie.false
-    c.first_rule.ensures c.in-None.is
+pub returns : goal.returns
+returns c =
+    none_told _ _ c.is_none.ensures
+    ∙ codes_judged c.args.edition c.args.codes.now c.if-codes-ne-NUMBERS.false _ c.codes_lie.ensures _ c.if-not-codes_lie.false
+    c.first_rule.ensures

@@ -1,10 +1,11 @@
 -- `params::accepts_codes` meets its contract. Assumes nothing.
+use mathlib.Core.Path.{ap}
+use Rattle.params.specs.Editions.{known}
 use Rattle.params.proofs.CheckLaws.{edition_known, edition_unknown}
 use Rattle.params.proofs.accepts_codes.Goals as goal
 
-pub returns-in-Some : goal.returns-in-Some
-returns-in-Some c = edition_known _ _ _ c.edition_of.ensures _ _ c.in-Some.is
-    c.accepts.ensures
+pub returns-in-Ok : goal.returns-in-Ok
+returns-in-Ok c = edition_known _ _ _ c.try_from.ensures _ _ (ap known c.in-Ok.is) c.accepts.ensures
 
-pub returns-in-None : goal.returns-in-None
-returns-in-None c = edition_unknown _ _ _ c.edition_of.ensures c.in-None.is
+pub returns-in-Err : goal.returns-in-Err
+returns-in-Err c = edition_unknown _ _ _ c.try_from.ensures (ap known c.in-Err.is)

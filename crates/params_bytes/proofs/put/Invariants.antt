@@ -7,6 +7,3 @@ use Rattle.params_bytes.proofs.put.Given as goal
 
 abbrev pub invariant-loop-i : goal.invariant-loop-i
 invariant-loop-i l = (l.i ≤ param_count) × Stands l.numbers l.from l.i l.initial.buf l.at l.buf
-
-abbrev pub decreases-loop-i : goal.decreases-loop-i
-decreases-loop-i l = param_count - l.i

@@ -8,6 +8,3 @@ use Rattle.supplier.proofs.put_eight.Given as goal
 abbrev pub invariant-loop-k : goal.invariant-loop-k
 invariant-loop-k l =
     (l.k ≤ 8) × (length l.buf ≡ length l.initial.buf) × (l.next ≡ l.at + 2 * l.k) × Stored l.initial.buf l.at (hex_text (take l.k (drop l.from l.s))) l.next l.buf
-
-abbrev pub decreases-loop-k : goal.decreases-loop-k
-decreases-loop-k l = 8 - l.k

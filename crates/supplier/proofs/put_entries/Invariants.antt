@@ -11,6 +11,3 @@ use Rattle.supplier.proofs.put_entries.Given as goal
 abbrev pub invariant-loop-i : goal.invariant-loop-i
 invariant-loop-i l =
     (l.i ≤ param_count) × (length l.buf ≡ length l.initial.buf) × (l.next ≤ l.at + 21 * l.i) × Stored l.initial.buf l.at (gather l.i (entry_text_at l.s)) l.next l.buf
-
-abbrev pub decreases-loop-i : goal.decreases-loop-i
-decreases-loop-i l = param_count - l.i

@@ -8,6 +8,3 @@ use Rattle.supplier_params.proofs.put.Given as goal
 
 abbrev pub invariant-loop-i : goal.invariant-loop-i
 invariant-loop-i l = Put l.all.numbers l.i l.initial.buf l.buf
-
-abbrev pub decreases-loop-i : goal.decreases-loop-i
-decreases-loop-i l = param_count - l.i

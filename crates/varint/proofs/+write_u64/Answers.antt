@@ -16,11 +16,11 @@ returns-then-n-lt128 t c = left_last _ _ _ (omega arith) c.if-n-lt128.true
 pub write_u64-requires : goal.write_u64-requires
 write_u64-requires t c = (omega arith, tt)
 
-pub shape_of-buf-in_default : goal.shape_of-buf-in_default
-shape_of-buf-in_default t c = c.write_u64.auto.buf
+pub shape_of-buf-in_err-next : goal.shape_of-buf-in_err-next
+shape_of-buf-in_err-next t c = c.write_u64.auto.buf
 
-pub returns-in_default : goal.returns-in_default
-returns-in_default t c = left_full _ _ _ _ _ (omega arith) c.write_u64.ensures c.in_default.is
+pub returns-in_err-next : goal.returns-in_err-next
+returns-in_err-next t c = rw c.from_residual.ensures (left_full _ _ _ _ _ (omega arith) c.write_u64.ensures c.in_err-next.was)
 
 pub bounds-buf-at-2 : goal.bounds-buf-at-2
 bounds-buf-at-2 t c = omega (arith, c.write_u64.auto.buf)
@@ -29,4 +29,4 @@ pub shape_of-buf : goal.shape_of-buf
 shape_of-buf t c = simp length-set c.write_u64.auto.buf
 
 pub returns : goal.returns
-returns t c = left_more _ _ _ _ _ _ (omega arith) c.write_u64.ensures c.in-Some.is
+returns t c = left_more _ _ _ _ _ _ (omega arith) c.write_u64.ensures c.in_ok-next.was

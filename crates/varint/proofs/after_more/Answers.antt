@@ -5,10 +5,10 @@ use Rattle.index.proofs.Kit.{arith}
 use Rattle.varint.proofs.after_more.Goals as goal
 
 pub returns-then-top-v : goal.returns-then-top-v
-returns-then-top-v c = after_more_far _ _ _ _ _ c.in-Some.is c.if-v-eq0.false (omega arith)
+returns-then-top-v c = after_more_far _ _ _ _ _ c.in_ok-v.was c.if-v-eq0.false (omega arith)
 
 pub returns-then-low-top : goal.returns-then-low-top
-returns-then-low-top c = after_more_near _ _ _ _ _ c.in-Some.is c.if-v-eq0.false (omega arith)
+returns-then-low-top c = after_more_near _ _ _ _ _ c.in_ok-v.was c.if-v-eq0.false (omega arith)
 
-pub returns-else-low-top : goal.returns-else-low-top
-returns-else-low-top c = after_more_far _ _ _ _ _ c.in-Some.is c.if-v-eq0.false (omega arith)
+pub returns : goal.returns
+returns c = after_more_far _ _ _ _ _ c.in_ok-v.was c.if-v-eq0.false (omega arith)

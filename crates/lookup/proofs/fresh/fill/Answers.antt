@@ -14,4 +14,4 @@ pub returns : goal.returns
 returns c =
     filled c.args.params _ _ _ _ _ c.store_setup.ensures
     c.store_codes.ensures c.clear.ensures c.codes_of-codes.ensures
-    c.edition_number-number.ensures
+    c.from-number.ensures

@@ -1,18 +1,17 @@
-use Rattle.index.proofs.Kit.{◌≡◌, arith, rules}
-use Rattle.records.specs.Records.{topic_count}
-use Rattle.params.proofs.CodeRules.{every_start, every_and, cap_of}
+use Rattle.index.proofs.Auto.{auto}
 use Rattle.params.proofs.joint.caps.Goals as goal
 
 pub loop-k-init : goal.loop-k-init
-loop-k-init c = (search rules, every_start _)
+loop-k-init c = search auto
+
+pub cap_keeps-requires : goal.cap_keeps-requires
+cap_keeps-requires c = (c.requires, c.loop-k-test.true)
+
+pub returns-then-not-cap_keeps : goal.returns-then-not-cap_keeps
+returns-then-not-cap_keeps c = search auto
 
 pub loop-k-preserved : goal.loop-k-preserved
-loop-k-preserved c = let l = c.loop-k in (
-  omega arith,
-  every_and _ _ _ _ l.invariant.1
-      (cap_of c.args.codes.now c.requires.1 l.k
-      c.loop-k-test.true),
-)
+loop-k-preserved c = search auto
 
 pub returns : goal.returns
-returns c = let l = c.loop-k in let e : l.k ≡ topic_count = omega arith in rw e at l.invariant.1
+returns c = search auto

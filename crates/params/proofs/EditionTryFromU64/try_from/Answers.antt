@@ -1,7 +1,7 @@
--- `params::edition_of` meets its contract. Assumes nothing.
+-- `Edition::try_from` meets its contract. Assumes nothing.
 use borrow.Author.Rules.{rules}
 use Rattle.params.proofs.CheckLaws.{is_first, is_second, is_neither}
-use Rattle.params.proofs.edition_of.Goals as goal
+use Rattle.params.proofs.EditionTryFromU64.try_from.Goals as goal
 
 pub returns-in-1 : goal.returns-in-1
 returns-in-1 c = is_first _ c.in-1.is
