@@ -67,15 +67,14 @@ fn graft(
 {
     let mut r = m;
     let mut room = k;
-    for i in 0..order.len() {
+    for s in order {
         if room == 0 {
             return r;
         }
-        let s = order[i];
         if is_grafted(
-            table, buckets, weights, time, topic, &p, least, room, &r, s, heights,
+            table, buckets, weights, time, topic, &p, least, room, &r, *s, heights,
         ) {
-            r = put(r, s, true);
+            r = put(r, *s, true);
             room -= 1;
         }
     }
