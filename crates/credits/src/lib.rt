@@ -20,13 +20,7 @@ pub struct Addition {
 fn amount(x: u64, most: u64) -> u64
     ensures { (result ≡ amount_of x most) × (x + result < 2 ^ 64) }
 {
-    if most <= x {
-        0
-    } else if most - x <= 1000 {
-        most - x
-    } else {
-        1000
-    }
+    most.saturating_sub(x).min(1000)
 }
 
 // Of P3, for a member alone.

@@ -37,13 +37,13 @@ fn bucket(group: u64) -> usize
 fn wide(n: u16) -> u64
     ensures { result ≡ n }
 {
-    n as u64
+    u64::from(n)
 }
 
 fn one(b: bool) -> u16
     ensures { (result ≡ Index·one b) × (result ≤ 1) }
 {
-    if b { 1 } else { 0 }
+    u16::from(b)
 }
 
 // The head of a bucket once a peer of the group has come: that of the first.
