@@ -16,7 +16,7 @@ use peer_score::weights::TopicWeights;
 
 use sets::median::middle;
 use sets::walks::takes;
-use sets::{both, minus, size};
+use sets::{both, size};
 use words::{WORDS, put};
 
 // Whether the slot s is put in: there is room, it is in p and not yet in m, and the peer is a candidate with at least this score. Its score
@@ -103,7 +103,7 @@ pub fn second(
         return m;
     }
     let p = eligible(table, topic);
-    let k = minus(t.d, n);
+    let k = t.d.saturating_sub(n);
     graft(
         table, buckets, weights, time, topic, p, 0, k, order, m, heights,
     )
@@ -127,7 +127,7 @@ pub fn fourth(
 {
     let t = degrees(table);
     let outs = outbound(table);
-    let k = minus(t.out, size(both(m, outs)));
+    let k = t.out.saturating_sub(size(both(m, outs)));
     let p = both(eligible(table, topic), outs);
     graft(
         table, buckets, weights, time, topic, p, 0, k, order, m, heights,

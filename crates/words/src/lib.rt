@@ -96,8 +96,8 @@ pub fn size(m: [u64; WORDS]) -> u64
     ensures { result ≡ count slot_count (λ s. get_or (bits_of m) s false) }
 {
     let mut n: u64 = 0;
-    for i in 0..WORDS {
-        n += ones(m[i]);
+    for w in m {
+        n += ones(w);
     }
     n
 }
@@ -106,13 +106,7 @@ pub fn size(m: [u64; WORDS]) -> u64
 pub fn lowest(m: [u64; WORDS]) -> u64
     ensures { result ≡ lowest (bits_of m) }
 {
-    for i in 0..WORDS {
-        let w = m[i];
-        if w != 0 {
-            return (WORD_BITS * i) as u64 + u64::trailing_zeros(w) as u64;
-        }
-    }
-    SLOTS as u64
+    next(&m, 0)
 }
 
 // The lowest slot from the i-th word on; SLOTS for none.
