@@ -34,7 +34,7 @@ fn amount3(r: TopicRecord, t: TopicParams) -> u64
     }
 }
 
-// The covered core. Kinds: 1 first, 2 near-first, 3 invalid.
+// The covered core. Kinds: 1 first, 2 near-first, 3 invalid: the numbers of the C interface's call, which the definition cites.
 fn amounts(r: TopicRecord, t: TopicParams, kind: u64) -> Addition
     ensures { (result ≡ amounts_of kind t r) × Room r result }
 {

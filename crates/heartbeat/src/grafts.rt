@@ -13,7 +13,6 @@ use crate::scores::height;
 use crate::seen::{degrees, eligible, is_free, outbound};
 use peer_score::buckets::Buckets;
 use peer_score::weights::TopicWeights;
-
 use sets::median::middle;
 use sets::walks::takes;
 use sets::{both, size};

@@ -23,7 +23,7 @@ pub fn size(m: [u64; WORDS]) -> u64
     words::size(m)
 }
 
-// In a and in b.
+// In a and in b. By word, and `except` likewise: one function of both with a closure would be no shorter.
 pub fn both(a: [u64; WORDS], b: [u64; WORDS]) -> [u64; WORDS]
     ensures { bits_of result ≡ both (bits_of a) (bits_of b) }
 {

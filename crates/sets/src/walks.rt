@@ -1,4 +1,5 @@
-// Walks along an order of slots: putting slots in, the first, the last and the best of a set, the swaps of step 3.
+// Walks along an order of slots: putting slots in, the first, the last and the best of a set, the swaps of step 3. SLOTS is no slot, and not
+// None: the clauses cite definitions (specs/Sets.antt) whose walk begins with the number of the slots.
 ghost use Rattle.std.specs.Prelude.{◌≡◌, ◌&&◌, false, replicate};
 ghost use Rattle.records.specs.Records.{slot_count};
 ghost use Rattle.words.specs.Words.{bits_of};
