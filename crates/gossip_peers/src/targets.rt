@@ -31,12 +31,7 @@ fn outsiders(table: &[u64], topic: usize) -> [u64; WORDS]
 }
 
 // Whether the score of the peer in a slot is below the gossip threshold.
-fn is_low(
-    table: &[u64],
-    buckets: &Buckets,
-    weights: &TopicWeights,
-    slot: usize,
-) -> bool
+fn is_low(table: &[u64], buckets: &Buckets, weights: &TopicWeights, slot: usize) -> bool
     requires { Among table.now buckets.now weights.now slot }
     ensures { result ≡ is_low (state_of table.now) slot }
 {
@@ -45,11 +40,7 @@ fn is_low(
 }
 
 // The set without the slots that score below the gossip threshold. The weights are multiplied out once, for all of them.
-fn without_low(
-    table: &[u64],
-    buckets: &Buckets,
-    all: [u64; WORDS],
-) -> [u64; WORDS]
+fn without_low(table: &[u64], buckets: &Buckets, all: [u64; WORDS]) -> [u64; WORDS]
     requires { Grouped table.now buckets.now }
     ensures { bits_of result ≡ by_slot slot_count (λ s. at (bits_of all) s && not (is_low (state_of table.now) s)) }
 {
