@@ -20,13 +20,7 @@ pub struct Addition {
 fn amount(x: u64, most: u64) -> u64
     ensures { (result ≡ amount_of x most) × (x + result < 2 ^ 64) }
 {
-    if most <= x {
-        0
-    } else if most - x <= 1000 {
-        most - x
-    } else {
-        1000
-    }
+    most.saturating_sub(x).min(1000)
 }
 
 // Of P3, for a member alone.
@@ -40,7 +34,7 @@ fn amount3(r: TopicRecord, t: TopicParams) -> u64
     }
 }
 
-// The covered core. Kinds: 1 first, 2 near-first, 3 invalid.
+// The covered core. Kinds: 1 first, 2 near-first, 3 invalid: the numbers of the C interface's call, which the definition cites.
 fn amounts(r: TopicRecord, t: TopicParams, kind: u64) -> Addition
     ensures { (result ≡ amounts_of kind t r) × Room r result }
 {

@@ -13,10 +13,9 @@ use crate::scores::height;
 use crate::seen::{degrees, eligible, is_free, outbound};
 use peer_score::buckets::Buckets;
 use peer_score::weights::TopicWeights;
-
 use sets::median::middle;
 use sets::walks::takes;
-use sets::{both, minus, size};
+use sets::{both, size};
 use words::{WORDS, put};
 
 // Whether the slot s is put in: there is room, it is in p and not yet in m, and the peer is a candidate with at least this score. Its score
@@ -67,15 +66,14 @@ fn graft(
 {
     let mut r = m;
     let mut room = k;
-    for i in 0..order.len() {
+    for s in order {
         if room == 0 {
             return r;
         }
-        let s = order[i];
         if is_grafted(
-            table, buckets, weights, time, topic, &p, least, room, &r, s, heights,
+            table, buckets, weights, time, topic, &p, least, room, &r, *s, heights,
         ) {
-            r = put(r, s, true);
+            r = put(r, *s, true);
             room -= 1;
         }
     }
@@ -104,7 +102,7 @@ pub fn second(
         return m;
     }
     let p = eligible(table, topic);
-    let k = minus(t.d, n);
+    let k = t.d.saturating_sub(n);
     graft(
         table, buckets, weights, time, topic, p, 0, k, order, m, heights,
     )
@@ -128,7 +126,7 @@ pub fn fourth(
 {
     let t = degrees(table);
     let outs = outbound(table);
-    let k = minus(t.out, size(both(m, outs)));
+    let k = t.out.saturating_sub(size(both(m, outs)));
     let p = both(eligible(table, topic), outs);
     graft(
         table, buckets, weights, time, topic, p, 0, k, order, m, heights,

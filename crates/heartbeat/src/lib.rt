@@ -78,7 +78,7 @@ fn heartbeat_from(
     maintain_topic(table, time, topic, ask, permutation, actions)
 }
 
-// Whether opportunism is asked for: 0 or 1.
+// Whether opportunism is asked for: 0 or 1, a number and no bool, since a C host may give any.
 fn ask_ok(ask: u64) -> bool
     ensures { result ≡ leb ask 1 }
 {

@@ -13,19 +13,13 @@ ghost use Rattle.heartbeat.specs.Heights.{Taken, Taking, Partial};
 use crate::seen::members;
 use peer_score::buckets::{Buckets, empty_score, score_among};
 use peer_score::weights::{TopicWeights, topic_weights};
-
 use score::sums::offset;
 use sets::except;
 use words::WORDS;
 use words::slots::Slots;
 
 // The score of the peer in a slot, moved up so that none is negative.
-pub fn height(
-    table: &[u64],
-    buckets: &Buckets,
-    weights: &TopicWeights,
-    slot: usize,
-) -> u64
+pub fn height(table: &[u64], buckets: &Buckets, weights: &TopicWeights, slot: usize) -> u64
     requires { Among table.now buckets.now weights.now slot }
     ensures { result ≡ height_in (state_of table.now) slot }
 {
@@ -42,12 +36,7 @@ pub fn empty_height(table: &[u64]) -> u64
 }
 
 // Takes the scores of a set's slots; the others' stand.
-pub fn score_slots(
-    table: &[u64],
-    buckets: &Buckets,
-    set: [u64; WORDS],
-    heights: &mut [u64],
-)
+pub fn score_slots(table: &[u64], buckets: &Buckets, set: [u64; WORDS], heights: &mut [u64])
     requires { Taking table.now buckets.now heights.old }
     ensures { Taken (state_of table.now) (bits_of set) heights.old heights.new }
 {
@@ -58,12 +47,7 @@ pub fn score_slots(
 }
 
 // Takes the scores of all others than a topic's members.
-pub fn score_others(
-    table: &[u64],
-    buckets: &Buckets,
-    topic: usize,
-    heights: &mut [u64],
-)
+pub fn score_others(table: &[u64], buckets: &Buckets, topic: usize, heights: &mut [u64])
     requires { Partial table.now buckets.now topic heights.old }
     ensures { heights.new ≡ by_slot slot_count (height_in (state_of table.now)) }
 {

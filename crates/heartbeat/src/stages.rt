@@ -19,7 +19,6 @@ use mesh::still::{is_still, still};
 use mesh::{Stages, ZERO_SCORE};
 use peer_score::buckets::{BUCKETS, Buckets, count_groups};
 use peer_score::weights::{TopicWeights, topic_weights};
-
 use sets::{at_least, both, size};
 use words::WORDS;
 
@@ -61,9 +60,7 @@ fn last_stages(
     ensures { (meshes_of result ≡ meshes_in (state_of table.now) time topic ask order.now)
         × Kept (state_of table.now) heights.old heights.new }
 {
-    let m4 = fourth(
-        table, buckets, weights, time, topic, order, second, heights,
-    );
+    let m4 = fourth(table, buckets, weights, time, topic, order, second, heights);
     let m5 = fifth(
         table, buckets, weights, time, topic, ask, order, m4, heights,
     );
@@ -93,9 +90,7 @@ fn few_stages(
         heights.new }
 {
     let weights = topic_weights(table);
-    let m2 = second(
-        table, buckets, &weights, time, topic, order, first, heights,
-    );
+    let m2 = second(table, buckets, &weights, time, topic, order, first, heights);
     let t = degrees(table);
     if t.hi < size(m2) {
         return all_stages(table, buckets, time, topic, ask, order, heights);
@@ -131,7 +126,5 @@ pub fn stages(
     if is_still(degrees(table), outbound(table), ask == 1, heights, first) {
         return still(first);
     }
-    few_stages(
-        table, &buckets, time, topic, ask, order, first, heights,
-    )
+    few_stages(table, &buckets, time, topic, ask, order, first, heights)
 }

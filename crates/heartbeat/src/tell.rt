@@ -81,10 +81,9 @@ fn tell_walk(
         (actions_on kind (bits_of p) order.now) actions.old n actions.new result }
 {
     let mut k = n;
-    for i in 0..order.len() {
-        let s = order[i];
-        if at(&p, s) {
-            tell(table, actions, k, kind, s, seconds);
+    for s in order {
+        if at(&p, *s) {
+            tell(table, actions, k, kind, *s, seconds);
             k += 1;
         }
     }

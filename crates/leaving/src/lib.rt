@@ -55,9 +55,7 @@ fn negatives(table: &[u64], topic: usize) -> [bool; SLOTS]
     let weights = topic_weights(table);
     let mut flags = [false; SLOTS];
     for slot in 0..SLOTS {
-        flags[slot] = is_negative_member(
-            table, &buckets, &weights, topic, slot,
-        );
+        flags[slot] = is_negative_member(table, &buckets, &weights, topic, slot);
     }
     flags
 }

@@ -2,7 +2,7 @@
 ghost use Rattle.std.specs.Prelude.{◌≡◌, ◌∷◌, [], ◌+◌, ◌*◌, ◌≤◌, length};
 ghost use Rattle.std.proofs.lemmas.List.Edits.{sets};
 
-// An action's kinds.
+// An action's kinds: numbers, since the lent list that they are written into is the C interface's.
 pub const GRAFT: u32 = 1;
 
 pub const PRUNE: u32 = 2;

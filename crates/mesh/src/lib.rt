@@ -42,6 +42,7 @@ pub struct Stages {
     pub fifth: [u64; WORDS],
 }
 
+// Of the form of `Stages`, and a type of its own, so that no mesh is taken for a change (specs: Meshes and Changes).
 // What each step changes: the members that steps 1 and 3 PRUNE, and the candidates that steps 2, 4 and 5 graft.
 #[derive(Clone, Copy)]
 pub struct Moves {

@@ -9,7 +9,7 @@ ghost use Rattle.mesh.specs.Words.{view_of, meshes_of, changes_in};
 use crate::{Degrees, Moves, Seen, Stages, ZERO_SCORE};
 use sets::median::middle;
 use sets::walks::{bests, fill, swap_to};
-use sets::{at_least, both, except, minus, size};
+use sets::{at_least, both, except, size};
 use words::WORDS;
 
 // 1. The members that are not negative.
@@ -31,7 +31,7 @@ pub fn mesh2(t: Degrees, v: Seen, order: &[u64], m: [u64; WORDS]) -> [u64; WORDS
         return m;
     }
     let candidates = v.candidates;
-    fill(candidates, minus(t.d, n), order, m)
+    fill(candidates, t.d.saturating_sub(n), order, m)
 }
 
 // 3. Over hi: the best, others to make d, the swaps.
@@ -45,7 +45,7 @@ pub fn mesh3(t: Degrees, v: Seen, scores: &[u64], order: &[u64], m: [u64; WORDS]
     }
     let outbound = v.outbound;
     let best = bests(t.score, scores, m, order);
-    let keepers = fill(m, minus(t.d, size(best)), order, best);
+    let keepers = fill(m, t.d.saturating_sub(size(best)), order, best);
     swap_to(t.out, scores, outbound, order, m, best, keepers)
 }
 
@@ -56,7 +56,7 @@ pub fn mesh4(t: Degrees, v: Seen, order: &[u64], m: [u64; WORDS]) -> [u64; WORDS
     let outbound = v.outbound;
     let candidates = v.candidates;
     let fits = both(candidates, outbound);
-    let room = minus(t.out, size(both(m, outbound)));
+    let room = t.out.saturating_sub(size(both(m, outbound)));
     fill(fits, room, order, m)
 }
 

@@ -14,9 +14,7 @@ pub fn places(order: [u64; SLOTS]) -> [u64; SLOTS]
     ensures { result ≡ by_slot slot_count (place_in order) }
 {
     let mut r = [SLOTS as u64; SLOTS];
-    let mut i = SLOTS;
-    while 0 < i {
-        i -= 1;
+    for i in (0..SLOTS).rev() {
         let s = order[i];
         if s < SLOTS as u64 {
             r[s as usize] = i as u64;

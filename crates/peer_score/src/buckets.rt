@@ -37,13 +37,13 @@ fn bucket(group: u64) -> usize
 fn wide(n: u16) -> u64
     ensures { result ≡ n }
 {
-    n as u64
+    u64::from(n)
 }
 
 fn one(b: bool) -> u16
     ensures { (result ≡ Index·one b) × (result ≤ 1) }
 {
-    if b { 1 } else { 0 }
+    u16::from(b)
 }
 
 // The head of a bucket once a peer of the group has come: that of the first.
@@ -54,10 +54,7 @@ fn head_of(same: u16, head: u32, group: u32) -> u32
 }
 
 // Counts a peer of the group.
-fn note(
-    buckets: &mut Buckets,
-    group: u64,
-)
+fn note(buckets: &mut Buckets, group: u64)
     requires { Noting buckets.old group max_id }
     ensures { (c : ℕ → ℕ) (n : ℕ) → Tells c n buckets.old
         → Tells (with_one c group) (n + 1) buckets.new }
@@ -74,10 +71,7 @@ fn note(
 }
 
 // Counts a peer of a group that its record holds as the group + 1; 0 is none.
-fn note_held(
-    buckets: &mut Buckets,
-    held: u64,
-)
+fn note_held(buckets: &mut Buckets, held: u64)
     requires { Noting buckets.old held max_group }
     ensures { (c : ℕ → ℕ) (n : ℕ) → Tells c n buckets.old
         → Tells (with_held c held) (n + 1) buckets.new }
@@ -88,11 +82,7 @@ fn note_held(
 }
 
 // Counts the connected peer in a slot, once for each of its groups.
-fn note_slot(
-    table: &[u64],
-    buckets: &mut Buckets,
-    slot: usize,
-)
+fn note_slot(table: &[u64], buckets: &mut Buckets, slot: usize)
     requires { Counting table.now slot buckets.old }
     ensures { Tells (below (state_of table.now) (slot + 1)) (pairs (slot + 1))
         buckets.new }
@@ -105,10 +95,7 @@ fn note_slot(
 }
 
 // Counts the connected peers by group.
-pub fn count_groups(
-    table: &[u64],
-    buckets: &mut Buckets,
-)
+pub fn count_groups(table: &[u64], buckets: &mut Buckets)
     requires { Standing table.now × Unused buckets.old }
     ensures { Counted table.now buckets.new }
 {
@@ -120,12 +107,7 @@ pub fn count_groups(
 
 // How many connected peers hold a group of a record: exactly of a head, and where it could be above the threshold. Else none, as a number
 // that is not above it has no surplus either.
-fn together(
-    table: &[u64],
-    buckets: &Buckets,
-    threshold: u64,
-    held: u64,
-) -> u64
+fn together(table: &[u64], buckets: &Buckets, threshold: u64, held: u64) -> u64
     requires { Asking table.now buckets.now held }
     ensures { Together (state_of table.now) threshold held result }
 {
@@ -144,12 +126,7 @@ fn together(
 }
 
 // The same of each of a record's groups.
-fn gather(
-    table: &[u64],
-    buckets: &Buckets,
-    threshold: u64,
-    g: Groups,
-) -> Sharers
+fn gather(table: &[u64], buckets: &Buckets, threshold: u64, g: Groups) -> Sharers
     requires { AskingAll table.now buckets.now g }
     ensures { Gathered (state_of table.now) threshold g result }
 {
@@ -162,12 +139,7 @@ fn gather(
 }
 
 // The score of the peer in a slot.
-pub fn score_among(
-    table: &[u64],
-    buckets: &Buckets,
-    weights: &TopicWeights,
-    slot: usize,
-) -> Balance
+pub fn score_among(table: &[u64], buckets: &Buckets, weights: &TopicWeights, slot: usize) -> Balance
     requires { Among table.now buckets.now weights.now slot }
     ensures { Scores (state_of table.now) slot result }
 {

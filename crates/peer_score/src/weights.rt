@@ -74,12 +74,7 @@ fn outside(w2: u64, w3b: u64, w4: u64, r: TopicRecord) -> Balance
 }
 
 // One topic's share of the score of the peer in a slot.
-fn share_at(
-    table: &[u64],
-    weights: &TopicWeights,
-    t: usize,
-    slot: usize,
-) -> Balance
+fn share_at(table: &[u64], weights: &TopicWeights, t: usize, slot: usize) -> Balance
     requires { PlaceWeighed table.now weights.now t slot }
     ensures { (result ≡ share_at (state_of table.now) slot t) × ShareIn result }
 {
@@ -91,11 +86,7 @@ fn share_at(
 }
 
 // The shares of all topics, added.
-pub fn topics_at(
-    table: &[u64],
-    weights: &TopicWeights,
-    slot: usize,
-) -> Balance
+pub fn topics_at(table: &[u64], weights: &TopicWeights, slot: usize) -> Balance
     requires { SlotWeighed table.now weights.now slot }
     ensures { (result ≡ sum_of topic_count (share_at (state_of table.now) slot)) × TopicsIn result }
 {

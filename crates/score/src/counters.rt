@@ -4,19 +4,14 @@ ghost use Rattle.score.specs.Ranges.{TopicParamsIn, CountersIn};
 ghost use Rattle.score.specs.Counters.{raised_of, grown_of, faded_of, mesh_of, decayed_of};
 
 use crate::TopicParams;
-use crate::topic::{excess, part3};
+use crate::topic::part3;
 use records::TopicRecord;
 
 // x + step, to the most.
 fn sum_to(most: u64, x: u64, step: u64) -> u64
     ensures { result ≡ min (x + step) most }
 {
-    if x <= most {
-        if step <= most - x {
-            return x + step;
-        }
-    }
-    most
+    x.saturating_add(step).min(most)
 }
 
 // A counter after 1000 thousandths more. P7's most is 10^6.
@@ -73,7 +68,7 @@ fn mesh_time(time: u64, r: TopicRecord) -> u64
     ensures { result ≡ mesh_of time r }
 {
     if r.member == 1 {
-        excess(time, r.graft)
+        time.saturating_sub(r.graft)
     } else {
         r.mesh
     }

@@ -38,7 +38,8 @@ pub struct ScoreParams {
     pub w7: u64,
 }
 
-// How many connected peers hold each of a peer's address groups, itself counted; 0 where it holds none.
+// How many connected peers hold each of a peer's address groups, itself counted; 0 where it holds none. By the fields of `Groups`, whose
+// names the definitions of P6 cite; counts of peers are no groups, and so have a type of their own.
 #[derive(Clone, Copy)]
 pub struct Sharers {
     pub first: u64,

@@ -7,7 +7,7 @@ ghost use Rattle.score.specs.Parts.{square, surplus_of, crowd_of};
 ghost use Rattle.score.specs.Sums.{worth, add_of, capped_of, p5_of, p6_of, p7_of, parts_of, total_of, offset_of, negative_of, below_of, told_of};
 ghost use Rattle.records.specs.Records.{slot_count};
 
-use crate::topic::{excess, least, squared, term};
+use crate::topic::{squared, term};
 use crate::{Balance, Parts, ScoreParams, Sharers, Why};
 
 pub fn add(a: Balance, b: Balance) -> Balance
@@ -29,7 +29,7 @@ pub fn capped(cap: u64, b: Balance) -> Balance
         b
     } else {
         Balance {
-            gain: least(b.gain, cap * 1000000 + b.loss),
+            gain: b.gain.min(cap * 1000000 + b.loss),
             loss: b.loss,
         }
     }
@@ -53,7 +53,7 @@ fn surplus_squared(threshold: u64, sharing: u64) -> u64
     requires { (1 ≤ threshold) × (sharing ≤ slot_count) }
     ensures { (result ≡ square (surplus_of threshold sharing)) × (result ≤ 65025) }
 {
-    let n = excess(sharing, threshold);
+    let n = sharing.saturating_sub(threshold);
     n * n
 }
 

@@ -1,25 +1,12 @@
 // One topic's share of a score: the parts in millionths, and their weighted sum. The parts' rules are specs/Parts.antt.
 // Every product is in a function of its own that promises its bound, so that the other proofs are linear arithmetic.
-ghost use Rattle.std.specs.Prelude.{◌≡◌, ◌*◌, ◌-◌, ◌≤◌, min};
+ghost use Rattle.std.specs.Prelude.{◌≡◌, ◌*◌, ◌≤◌};
 ghost use Rattle.score.specs.Ranges.{TopicParamsIn, CountersIn, ShareIn};
 ghost use Rattle.score.specs.Parts.{square, part1_of, part3_of};
 ghost use Rattle.score.specs.Sums.{share_of};
 
 use crate::{Balance, TopicParams};
 use records::TopicRecord;
-
-pub fn least(a: u64, b: u64) -> u64
-    ensures { result ≡ min a b }
-{
-    if a <= b { a } else { b }
-}
-
-// a - b, or 0
-pub fn excess(a: u64, b: u64) -> u64
-    ensures { result ≡ a - b }
-{
-    if b <= a { a - b } else { 0 }
-}
 
 // A product of a weight of at most 100 and a part of at most 10^12.
 pub fn term(w: u64, p: u64) -> u64
@@ -48,7 +35,7 @@ fn part1(t: TopicParams, r: TopicRecord) -> u64
     ensures { (result ≡ part1_of t r) × (result ≤ 1000000000) }
 {
     if r.member == 1 {
-        least(r.mesh / t.quantum, t.cap1) * 1000000
+        (r.mesh / t.quantum).min(t.cap1) * 1000000
     } else {
         0
     }
@@ -59,7 +46,7 @@ pub fn part3(t: TopicParams, r: TopicRecord) -> u64
     ensures { (result ≡ part3_of t r) × (result ≤ 1000000000000) }
 {
     if (r.member == 1) & ((t.activation < r.mesh) & (r.p3 < t.threshold)) {
-        squared(excess(t.threshold, r.p3))
+        squared(t.threshold.saturating_sub(r.p3))
     } else {
         0
     }

@@ -3,7 +3,7 @@
 // each slot are lent.
 #![tactic(auto)]
 
-ghost use Rattle.std.specs.Prelude.{◌≡◌, ◌-◌, get_or, length};
+ghost use Rattle.std.specs.Prelude.{◌≡◌, get_or, length};
 ghost use Rattle.records.specs.Records.{slot_count};
 ghost use Rattle.words.specs.Words.{bits_of};
 ghost use Rattle.sets.specs.Sets.{size, both, except, from};
@@ -23,7 +23,7 @@ pub fn size(m: [u64; WORDS]) -> u64
     words::size(m)
 }
 
-// In a and in b.
+// In a and in b. By word, and `except` likewise: one function of both with a closure would be no shorter.
 pub fn both(a: [u64; WORDS], b: [u64; WORDS]) -> [u64; WORDS]
     ensures { bits_of result ≡ both (bits_of a) (bits_of b) }
 {
@@ -66,11 +66,4 @@ pub fn number_at(numbers: &[u64], s: u64) -> u64
     } else {
         0
     }
-}
-
-// a - b, or 0.
-pub fn minus(a: u64, b: u64) -> u64
-    ensures { result ≡ a - b }
-{
-    if b <= a { a - b } else { 0 }
 }

@@ -10,8 +10,8 @@ fn marks(m: [bool; SLOTS]) -> u64
     ensures { result ≡ size m }
 {
     let mut n: u64 = 0;
-    for i in 0..SLOTS {
-        if m[i] {
+    for mark in m {
+        if mark {
             n += 1;
         }
     }
@@ -27,10 +27,9 @@ pub fn is_permutation(p: &[u64]) -> bool
         return false;
     }
     let mut seen = [false; SLOTS];
-    for i in 0..SLOTS {
-        let s = p[i];
-        if s < SLOTS as u64 {
-            seen[s as usize] = true;
+    for s in p {
+        if *s < SLOTS as u64 {
+            seen[*s as usize] = true;
         }
     }
     marks(seen) == SLOTS as u64

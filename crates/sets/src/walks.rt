@@ -1,4 +1,5 @@
-// Walks along an order of slots: putting slots in, the first, the last and the best of a set, the swaps of step 3.
+// Walks along an order of slots: putting slots in, the first, the last and the best of a set, the swaps of step 3. SLOTS is no slot, and not
+// None: the clauses cite definitions (specs/Sets.antt) whose walk begins with the number of the slots.
 ghost use Rattle.std.specs.Prelude.{◌≡◌, ◌&&◌, false, replicate};
 ghost use Rattle.records.specs.Records.{slot_count};
 ghost use Rattle.words.specs.Words.{bits_of};
@@ -21,13 +22,12 @@ pub fn fill(p: [u64; WORDS], k: u64, order: &[u64], m: [u64; WORDS]) -> [u64; WO
 {
     let mut r = m;
     let mut room = k;
-    for i in 0..order.len() {
+    for s in order {
         if room == 0 {
             return r;
         }
-        let s = order[i];
-        if takes(&p, room, &r, s) {
-            r = put(r, s, true);
+        if takes(&p, room, &r, *s) {
+            r = put(r, *s, true);
             room -= 1;
         }
     }
@@ -38,10 +38,9 @@ pub fn fill(p: [u64; WORDS], k: u64, order: &[u64], m: [u64; WORDS]) -> [u64; WO
 pub fn first_of(p: [u64; WORDS], order: &[u64]) -> u64
     ensures { result ≡ first_of (bits_of p) order.now slot_count }
 {
-    for i in 0..order.len() {
-        let s = order[i];
-        if at(&p, s) {
-            return s;
+    for s in order {
+        if at(&p, *s) {
+            return *s;
         }
     }
     SLOTS as u64
@@ -52,10 +51,9 @@ pub fn last_of(p: [u64; WORDS], order: &[u64]) -> u64
     ensures { result ≡ last_of (bits_of p) order.now slot_count }
 {
     let mut last = SLOTS as u64;
-    for i in 0..order.len() {
-        let next = order[i];
-        if at(&p, next) {
-            last = next;
+    for next in order {
+        if at(&p, *next) {
+            last = *next;
         }
     }
     last
@@ -67,11 +65,10 @@ pub fn top(scores: &[u64], p: &[u64], order: &[u64]) -> u64
 {
     let mut best = SLOTS as u64;
     let mut high = number_at(scores, best);
-    for i in 0..order.len() {
-        let s = order[i];
-        let score = number_at(scores, s);
-        if at(p, s) & ((SLOTS as u64 <= best) | (high < score)) {
-            best = s;
+    for s in order {
+        let score = number_at(scores, *s);
+        if at(p, *s) & ((SLOTS as u64 <= best) | (high < score)) {
+            best = *s;
             high = score;
         }
     }
@@ -93,9 +90,7 @@ pub fn bests(k: u64, scores: &[u64], m: [u64; WORDS], order: &[u64]) -> [u64; WO
         ≡ bests slot_count scores.now (bits_of m) order.now k (replicate slot_count false) }
 {
     let mut b = none();
-    let mut picks = k;
-    while 0 < picks {
-        picks -= 1;
+    for pick in 0..k {
         let more = put(b, next_best(scores, m, b, order), true);
         b = more;
     }
@@ -114,10 +109,9 @@ pub fn bottom(scores: &[u64], p: [u64; WORDS], order: &[u64]) -> u64
     ensures { result ≡ bottom slot_count scores.now (bits_of p) order.now slot_count }
 {
     let mut low = SLOTS as u64;
-    for i in 0..order.len() {
-        let s = order[i];
-        if sinks(scores, &p, low, s) {
-            low = s;
+    for s in order {
+        if sinks(scores, &p, low, *s) {
+            low = *s;
         }
     }
     low
@@ -148,8 +142,7 @@ pub fn swap_to(
         ≡ swap_to slot_count out scores.now (bits_of outbound) order.now (bits_of m) (bits_of b) out (bits_of k) }
 {
     let mut r = k;
-    let mut left = out;
-    while 0 < left {
+    for swap in 0..out {
         let comers = except(both(m, outbound), r);
         if out <= size(both(r, outbound)) {
             return r;
@@ -166,7 +159,6 @@ pub fn swap_to(
             first_of(comers, order),
             true,
         );
-        left -= 1;
     }
     r
 }

@@ -12,7 +12,7 @@ use Rattle.index.proofs.Flags.{by_order}
 use Rattle.records.specs.Records.{slot_count}
 use Rattle.words.specs.Words.{word_bits, word_count, odd, bits, bits_of, lowest, Next}
 use Rattle.words.proofs.BitLaws.{bits_at, bits_length, lowest_lt, none_at}
-use Rattle.words.proofs.SlotWalk.{lowest_below}
+use Rattle.words.proofs.SlotWalk.{lowest_below, lowest_most}
 use Rattle.words.proofs.WideLaws.{at_word, pow_le}
 
 lowest_at : (m : List Bool) → lowest m < length m → get_or m (lowest m) false ≡ true
@@ -120,6 +120,17 @@ next_after m s k r h c n =
       none = λ x l u. by_order (get_or m x false ≡ false) x k (λ y. c x l y) (λ y. n.none x y u);
       here = n.here;
     }
+
+-- from slot 0 on it is the lowest of all
+pub next_lowest : (m : List Bool) (r : ℕ) → length m ≡ slot_count → Next m 0 r → r ≡ lowest m
+next_lowest m r l n =
+    let most = lowest_most m in
+    by_order (r ≡ lowest m) r (lowest m)
+    (λ k. absurd (false≢true (sym (lowest_below m r k) ∙ n.here (omega arith))))
+    (λ k.
+    by_order (r ≡ lowest m) (lowest m) r
+    (λ j. let q = n.most in absurd (false≢true (sym (n.none (lowest m) (omega arith) j) ∙ lowest_at m (omega arith))))
+    (λ j. omega arith))
 
 pub next_end : (m : List Bool) (s : ℕ) → s ≡ slot_count → Next m s slot_count
 next_end m s e = record { later = omega arith; most = omega arith; none = λ k l u. absurd (omega arith); here = λ l. absurd (omega arith) }

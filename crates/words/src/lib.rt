@@ -10,7 +10,6 @@ ghost use Rattle.words.specs.Words.{word_bits, word_count, bits, bits_of, differ
 use records::SLOTS;
 
 pub mod flags;
-
 pub mod slots;
 
 // The bits of a word, and the words of a set.
@@ -73,7 +72,7 @@ pub fn put(m: [u64; WORDS], s: u64, b: bool) -> [u64; WORDS]
     r
 }
 
-// The slots that are in one of the two sets alone.
+// The slots that are in one of the two sets alone. By word and not by a closure, as in sets::both: the loop is as long as its call would be.
 pub fn differ(a: [u64; WORDS], b: [u64; WORDS]) -> [u64; WORDS]
     ensures { (s : ℕ) → get_or (bits_of result) s false ≡ differs (get_or (bits_of a) s false) (get_or (bits_of b) s false) }
 {
@@ -96,26 +95,20 @@ pub fn size(m: [u64; WORDS]) -> u64
     ensures { result ≡ count slot_count (λ s. get_or (bits_of m) s false) }
 {
     let mut n: u64 = 0;
-    for i in 0..WORDS {
-        n += ones(m[i]);
+    for w in m {
+        n += ones(w);
     }
     n
 }
 
-// The lowest slot of the set; SLOTS for none. A walk by slot takes it again and again, with `without_lowest` between.
+// The lowest slot of the set; SLOTS for none, as the definition `lowest` has it (`Slots` gives an Option).
 pub fn lowest(m: [u64; WORDS]) -> u64
     ensures { result ≡ lowest (bits_of m) }
 {
-    for i in 0..WORDS {
-        let w = m[i];
-        if w != 0 {
-            return (WORD_BITS * i) as u64 + u64::trailing_zeros(w) as u64;
-        }
-    }
-    SLOTS as u64
+    next(&m, 0)
 }
 
-// The lowest slot from the i-th word on; SLOTS for none.
+// The lowest slot from the i-th word on; SLOTS for none. By index, since the word's place is a part of the answer.
 fn lowest_from(m: &[u64], i: usize) -> u64
     requires { (length m.now ≡ word_count) × (i ≤ word_count) }
     ensures { Next (bits_of m.now) (word_bits * i) result }
@@ -129,7 +122,7 @@ fn lowest_from(m: &[u64], i: usize) -> u64
     SLOTS as u64
 }
 
-// The lowest slot of the set from s on; SLOTS for none. A walk by slot that changes no set takes it again and again.
+// The lowest slot of the set from s on; SLOTS for none, as `Next` has it. A walk over a set (`Slots`) takes it again and again.
 pub fn next(m: &[u64], s: u64) -> u64
     requires { (length m.now ≡ word_count) × (s ≤ slot_count) }
     ensures { Next (bits_of m.now) s result }

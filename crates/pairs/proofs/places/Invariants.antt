@@ -10,6 +10,3 @@ use Rattle.pairs.proofs.places.Given as goal
 abbrev pub invariant-loop-i : goal.invariant-loop-i
 invariant-loop-i l =
     (l.i ≤ slot_count) × (length l.order ≡ slot_count) × (length l.r ≡ slot_count) × Placed slot_count l.order l.i l.r
-
-abbrev pub decreases-loop-i : goal.decreases-loop-i
-decreases-loop-i l = l.i

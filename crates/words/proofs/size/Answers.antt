@@ -10,27 +10,27 @@ use Rattle.words.specs.Words.{word_bits, word_count, bits, bits_of}
 use Rattle.words.proofs.WideLaws.{count_word}
 use Rattle.words.proofs.size.Goals as goal
 
-pub loop-i-init : goal.loop-i-init
-loop-i-init c = (omega arith, search rules, omega arith, sym (count_none _))
+pub loop-w-init : goal.loop-w-init
+loop-w-init c = (omega arith, search rules, omega arith, sym (count_none _))
 
 pub overflow_add-n : goal.overflow_add-n
 overflow_add-n c =
-    let l = c.loop-i in
-    let b = count_bound (λ s. get_or (bits word_bits (get_or c.args.m l.i 0)) s false) word_bits in
+    let l = c.loop-w in
+    let b = count_bound (λ s. get_or (bits word_bits (get_or c.args.m l.w-index 0)) s false) word_bits in
     let e = c.ones-n.ensures in
     omega arith
 
-pub loop-i-preserved : goal.loop-i-preserved
-loop-i-preserved c =
+pub loop-w-preserved : goal.loop-w-preserved
+loop-w-preserved c =
     let m = c.args.m in
-    let l = c.loop-i in
-    let b = count_bound (λ s. get_or (bits word_bits (get_or m l.i 0)) s false) word_bits in
+    let l = c.loop-w in
+    let b = count_bound (λ s. get_or (bits word_bits (get_or m l.w-index 0)) s false) word_bits in
     let e = c.ones-n.ensures in
-    (omega arith, l.invariant.1, omega arith, count_word m l.i l.n c.ones-n.result (omega arith) l.invariant.3 e)
+    (omega arith, l.invariant.1, omega arith, count_word m l.w-index l.n c.ones-n.result (omega arith) l.invariant.3 e)
 
 pub returns : goal.returns
 returns c =
-    let l = c.loop-i in
+    let l = c.loop-w in
     let m = c.args.m in
-    let e : l.i ≡ word_count = omega arith in
+    let e : l.w-index ≡ word_count = omega arith in
     l.invariant.3 ∙ ap (λ (k : ℕ). count (word_bits * k) (λ s. get_or (bits_of m) s false)) e

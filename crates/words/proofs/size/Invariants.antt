@@ -8,6 +8,6 @@ use Rattle.index.specs.Index.{count}
 use Rattle.words.specs.Words.{word_bits, word_count, bits_of}
 use Rattle.words.proofs.size.Given as goal
 
-abbrev pub invariant-loop-i : goal.invariant-loop-i
-invariant-loop-i l =
-    (l.i ≤ word_count) × (length l.m ≡ word_count) × (l.n ≤ word_bits * l.i) × (l.n ≡ count (word_bits * l.i) (λ s. get_or (bits_of l.m) s false))
+abbrev pub invariant-loop-w : goal.invariant-loop-w
+invariant-loop-w l =
+    (l.w-index ≤ word_count) × (length l.w-items ≡ word_count) × (l.n ≤ word_bits * l.w-index) × (l.n ≡ count (word_bits * l.w-index) (λ s. get_or (bits_of l.w-items) s false))

@@ -29,5 +29,5 @@ returns c =
           c.both-p.ensures
           c.both.ensures
           c.size.ensures
-          c.minus-k.ensures g,
+          c.saturating_sub-k.ensures g,
     )

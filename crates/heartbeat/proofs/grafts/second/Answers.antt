@@ -27,6 +27,6 @@ returns c =
       g.scores,
       λ ask.
           second_some _ _ _ ask _ _ d _ _ c.size-n.ensures _ _ _ _ _
-          c.if-t-n.false c.minus-k.ensures
+          c.if-t-n.false c.saturating_sub-k.ensures
           c.eligible-p.ensures g,
     )

@@ -39,8 +39,7 @@ is_free-free-requires c =
 pub loop-slot-preserved : goal.loop-slot-preserved
 loop-slot-preserved c =
     let b = begun _ _ _ c.into_iter-slot-iterator.ensures.into_iter_gives c.of-slot-items.ensures.set_is c.of-slot-items.ensures.from_is in
-    let t = took _ _ _ _ _ (c.loop-slot.invariant.0 ∙ b.0) c.in-Some.is c.next.ensures.steps in
-    (
+    let t = took _ _ _ _ _ (c.loop-slot.invariant.0 ∙ b.0) c.in-Some.is c.next.ensures.steps in (
       t.set_is ∙ sym b.0,
       sifted_turn _ _ _ _ c.eligible-all.ensures _ _ _ _ _ _ t c.is_free-free.ensures c.put-more.ensures c.loop-slot.invariant.1,
     )

@@ -22,17 +22,16 @@ pub loop-slot-preserved : goal.loop-slot-preserved
 loop-slot-preserved c =
     let b = begun _ _ _ c.into_iter-slot-iterator.ensures.into_iter_gives c.of-slot-items.ensures.set_is c.of-slot-items.ensures.from_is in
     let l = c.loop-slot in
-    let t = took _ _ _ _ _ (l.invariant.0 ∙ b.0) c.in-Some.is c.next.ensures.steps in
-    (
+    let t = took _ _ _ _ _ (l.invariant.0 ∙ b.0) c.in-Some.is c.next.ensures.steps in (
       t.set_is ∙ sym b.0,
       rw t.from_is
-      (settling_more c.args.table.now _ _ _ _ _ c.requires _ _ t.slot_lt l.table
-      (settling_next c.args.table.now _ _ _ _ _ c.requires _ _ c.differ-changed.ensures _ _ _ t.next l.invariant.1) _ _ _ _
-      c.at-was.ensures
-      c.at-stays.ensures
-      (ap (λ (x : ℕ). ltb x zero_score) c.number_at-negative.ensures)
-      c.settle_slot.auto.table
-      c.settle_slot.ensures),
+          (settling_more c.args.table.now _ _ _ _ _ c.requires _ _ t.slot_lt l.table
+          (settling_next c.args.table.now _ _ _ _ _ c.requires _ _ c.differ-changed.ensures _ _ _ t.next l.invariant.1) _ _ _ _
+          c.at-was.ensures
+          c.at-stays.ensures
+          (ap (λ (x : ℕ). ltb x zero_score) c.number_at-negative.ensures)
+          c.settle_slot.auto.table
+          c.settle_slot.ensures),
     )
 
 pub shape_of-table : goal.shape_of-table

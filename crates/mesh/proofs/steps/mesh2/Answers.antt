@@ -14,5 +14,5 @@ pub returns : goal.returns
 returns c scores =
     let s = c.args in
     mesh2_under s.t (view_of s.v scores s.order.now) (bits_of s.m) c.size-n.ensures c.if-lo-n.false
-    c.minus.ensures
+    c.saturating_sub.ensures
     c.fill.ensures

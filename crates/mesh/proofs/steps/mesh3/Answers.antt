@@ -18,6 +18,6 @@ returns c =
     c.if-n-hi.false
     c.bests-best.ensures
     c.size.ensures
-    c.minus.ensures
+    c.saturating_sub.ensures
     c.fill-keepers.ensures
     c.swap_to.ensures

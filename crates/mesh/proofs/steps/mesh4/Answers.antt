@@ -10,5 +10,5 @@ returns c scores =
     let s = c.args in
     mesh4_is s.t (view_of s.v scores s.order.now) (bits_of s.m) c.both-fits.ensures c.both.ensures
     c.size.ensures
-    c.minus-room.ensures
+    c.saturating_sub-room.ensures
     c.fill.ensures

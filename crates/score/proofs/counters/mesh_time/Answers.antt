@@ -5,7 +5,7 @@ use Rattle.score.proofs.counters.mesh_time.Goals as goal
 
 pub returns-then-r-eq1 : goal.returns-then-r-eq1
 unfolding mesh_of
-returns-then-r-eq1 c = rw (eq-eqb _ 1 c.if-r-eq1.true) c.excess.ensures
+returns-then-r-eq1 c = rw (eq-eqb _ 1 c.if-r-eq1.true) c.saturating_sub.ensures
 
 pub returns-else-r-eq1 : goal.returns-else-r-eq1
 unfolding mesh_of

@@ -7,7 +7,7 @@ use Rattle.score.proofs.topic.part3.Goals as goal
 
 pub returns-then-r-t : goal.returns-then-r-t
 returns-then-r-t c = (
-  c.squared.ensures.0 ∙ ap square c.excess.ensures ∙ part3_short _ _ c.if-r-t.true,
+  c.squared.ensures.0 ∙ ap square c.saturating_sub.ensures ∙ part3_short _ _ c.if-r-t.true,
   c.squared.ensures.1,
 )
 

@@ -16,16 +16,16 @@ use Rattle.sets.proofs.permutation.is_permutation.Goals as goal
 pub returns-then-p-ne-SLOTS : goal.returns-then-p-ne-SLOTS
 returns-then-p-ne-SLOTS c = sym (not_long slot_count c.args.p.now c.if-p-ne-SLOTS.true)
 
-pub loop-i-init : goal.loop-i-init
-loop-i-init c = (search rules, search rules, refl, refl)
+pub loop-s-init : goal.loop-s-init
+loop-s-init c = (search rules, search rules, refl, refl)
 
-pub loop-i-preserved : goal.loop-i-preserved
-loop-i-preserved c =
-    let l = c.loop-i in
+pub loop-s-preserved : goal.loop-s-preserved
+loop-s-preserved c =
+    let l = c.loop-s in
     let p = c.args.p.now in
-    let s = get_or p l.i 0 in
-    let rest : List Bool → List Bool = marked (drop (l.i + 1) p) in
-    let step = sym (marked_step p l.i l.seen (omega arith)) ∙ l.invariant.3 in
+    let s = get_or p l.s-index 0 in
+    let rest : List Bool → List Bool = marked (drop (l.s-index + 1) p) in
+    let step = sym (marked_step p l.s-index l.seen (omega arith)) ∙ l.invariant.3 in
     elim c.if-s.branch [
       | then-s w ↦ (omega arith, l.invariant.1, ap length w.seen-is ∙ length-set l.seen s true ∙ l.invariant.2, ap rest w.seen-is ∙ step)
       | else-s w ↦ (
@@ -38,8 +38,8 @@ loop-i-preserved c =
 
 pub returns : goal.returns
 returns c =
-    let l = c.loop-i in
+    let l = c.loop-s in
     let p = c.args.p.now in
     ap (λ (k : ℕ). eqb k slot_count)
-    (c.marks.ensures ∙ ap size (sym (marked_end p l.i l.seen (omega arith)) ∙ l.invariant.3))
+    (c.marks.ensures ∙ ap size (sym (marked_end p l.s-index l.seen (omega arith)) ∙ l.invariant.3))
     ∙ marked_permutation slot_count p l.invariant.1

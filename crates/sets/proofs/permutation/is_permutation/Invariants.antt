@@ -8,9 +8,9 @@ use Rattle.records.specs.Records.{slot_count}
 use Rattle.sets.proofs.PermutationLaws.{marked}
 use Rattle.sets.proofs.permutation.is_permutation.Given as goal
 
-abbrev pub invariant-loop-i : goal.invariant-loop-i
-invariant-loop-i l =
-    (l.i ≤ slot_count)
+abbrev pub invariant-loop-s : goal.invariant-loop-s
+invariant-loop-s l =
+    (l.s-index ≤ slot_count)
     × (length l.p ≡ slot_count)
     × (length l.seen ≡ slot_count)
-    × (marked (drop l.i l.p) l.seen ≡ marked l.p (replicate slot_count false))
+    × (marked (drop l.s-index l.p) l.seen ≡ marked l.p (replicate slot_count false))

@@ -7,5 +7,5 @@ use Rattle.records.specs.Records.{slot_count}
 use Rattle.sets.specs.Sets.{size}
 use Rattle.sets.proofs.permutation.marks.Given as goal
 
-abbrev pub invariant-loop-i : goal.invariant-loop-i
-invariant-loop-i l = (l.i ≤ slot_count) × (length l.m ≡ slot_count) × (l.n + size (drop l.i l.m) ≡ size l.m) × (l.n ≤ l.i)
+abbrev pub invariant-loop-mark : goal.invariant-loop-mark
+invariant-loop-mark l = (l.mark-index ≤ slot_count) × (length l.mark-items ≡ slot_count) × (l.n + size (drop l.mark-index l.mark-items) ≡ size l.mark-items) × (l.n ≤ l.mark-index)

@@ -8,8 +8,7 @@ use Rattle.words.specs.Words.{bits_of}
 use Rattle.sets.specs.Sets.{bottom}
 use Rattle.sets.proofs.walks.bottom.Given as goal
 
-abbrev pub invariant-loop-i : goal.invariant-loop-i
-invariant-loop-i l =
-    (l.i ≤ length l.order)
-    × (l.i-end ≡ length l.order)
-    × (bottom slot_count l.scores (bits_of l.p) (drop l.i l.order) l.low ≡ bottom slot_count l.scores (bits_of l.p) l.order slot_count)
+abbrev pub invariant-loop-s : goal.invariant-loop-s
+invariant-loop-s l =
+    (l.s-index ≤ length l.order)
+    × (bottom slot_count l.scores (bits_of l.p) (drop l.s-index l.order) l.low ≡ bottom slot_count l.scores (bits_of l.p) l.order slot_count)

@@ -7,9 +7,8 @@ use Rattle.words.specs.Words.{word_count, bits_of}
 use Rattle.sets.specs.Sets.{fill}
 use Rattle.sets.proofs.walks.fill.Given as goal
 
-abbrev pub invariant-loop-i : goal.invariant-loop-i
-invariant-loop-i l =
-    (l.i ≤ length l.order)
-    × (l.i-end ≡ length l.order)
-    × (fill (bits_of l.p) l.room (drop l.i l.order) (bits_of l.r) ≡ fill (bits_of l.p) l.initial.room l.order (bits_of l.initial.r))
+abbrev pub invariant-loop-s : goal.invariant-loop-s
+invariant-loop-s l =
+    (l.s-index ≤ length l.order)
+    × (fill (bits_of l.p) l.room (drop l.s-index l.order) (bits_of l.r) ≡ fill (bits_of l.p) l.initial.room l.order (bits_of l.initial.r))
     × (length l.r ≡ word_count)

@@ -8,8 +8,7 @@ use Rattle.words.specs.Words.{bits_of}
 use Rattle.sets.specs.Sets.{last_of}
 use Rattle.sets.proofs.walks.last_of.Given as goal
 
-abbrev pub invariant-loop-i : goal.invariant-loop-i
-invariant-loop-i l =
-    (l.i ≤ length l.order)
-    × (l.i-end ≡ length l.order)
-    × (last_of (bits_of l.p) (drop l.i l.order) l.last ≡ last_of (bits_of l.p) l.order slot_count)
+abbrev pub invariant-loop-next : goal.invariant-loop-next
+invariant-loop-next l =
+    (l.next-index ≤ length l.order)
+    × (last_of (bits_of l.p) (drop l.next-index l.order) l.last ≡ last_of (bits_of l.p) l.order slot_count)

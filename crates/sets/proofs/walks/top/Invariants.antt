@@ -8,9 +8,8 @@ use Rattle.words.specs.Words.{bits_of}
 use Rattle.sets.specs.Sets.{top}
 use Rattle.sets.proofs.walks.top.Given as goal
 
-abbrev pub invariant-loop-i : goal.invariant-loop-i
-invariant-loop-i l =
-    (l.i ≤ length l.order)
-    × (l.i-end ≡ length l.order)
-    × (top slot_count l.scores (bits_of l.p) (drop l.i l.order) l.best ≡ top slot_count l.scores (bits_of l.p) l.order slot_count)
+abbrev pub invariant-loop-s : goal.invariant-loop-s
+invariant-loop-s l =
+    (l.s-index ≤ length l.order)
+    × (top slot_count l.scores (bits_of l.p) (drop l.s-index l.order) l.best ≡ top slot_count l.scores (bits_of l.p) l.order slot_count)
     × (l.high ≡ get_or l.scores l.best 0)
