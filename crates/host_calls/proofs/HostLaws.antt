@@ -1,7 +1,6 @@
 -- From what the crates below promise to what a host gets: the answer as one number.
 -- Assumes nothing.
 use Rattle.std.proofs.Common.{Option, Some, None, Result}
-use Rattle.std.proofs.Common.{Unit}
 use Rattle.lookup.specs.declared.FreshError.{FreshError}
 use Rattle.index.proofs.Kit.{ℕ, ◌≤◌, ◌≡◌, refl, sym, ap, ◌∙◌, false, arith}
 use mathlib.Core.List.{List}
