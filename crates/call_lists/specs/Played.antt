@@ -1,7 +1,6 @@
 -- The program's calls, one after the other on one table: what they answer and leave is what the rules give (01: "the program's calls give
 -- the same answers, and the tables they leave hold the same joined topics and meshes"). Of the program only its promises are taken.
 use Rattle.std.specs.Prelude.{Ok}
-use Rattle.std.specs.Prelude.{tt}
 use Rattle.std.specs.Prelude.{ℕ, ◌≡◌, List, [], ◌∷◌, map, length}
 use Rattle.std.proofs.lemmas.List.Edits.{sets}
 use Rattle.layout.specs.View.{state_of}

@@ -1,4 +1,5 @@
 // The tests that every call begins with (12, 2, 8, 1), the two ends that move the clock, and what a peer's score says of it.
+// Table, time, topic and slot go side by side and in no struct: a host hands them apart, and one would be made only to be taken apart.
 #![tactic(auto)]
 
 ghost use Rattle.std.specs.Prelude.{◌≡◌, length, set};
