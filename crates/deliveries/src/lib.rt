@@ -85,7 +85,7 @@ fn busy(table: &[u64], slot: usize) -> u64
     w
 }
 
-// The lowest topic of the word from t on; TOPICS for none.
+// The lowest topic of the word from t on; TOPICS for none, at which the walk below ends.
 fn next_busy(w: u64, t: usize) -> usize
     requires { t ≤ topic_count }
     ensures { NextTopic w t result }

@@ -55,7 +55,8 @@ pub fn admit(table: &[u64], fine: bool, room: usize, time: u64) -> Result<(), An
     Ok(())
 }
 
-// The same tests, and then 3: the slot of the connected record that holds the id.
+// The same tests, and then 3: the slot of the connected record that holds the id. A call matches on what comes back: one that took what
+// follows as a closure would need a contract at each closure, of the table before and after it, where the match needs none.
 pub fn admit_peer(
     table: &[u64],
     fine: bool,

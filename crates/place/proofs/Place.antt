@@ -2,7 +2,6 @@
 -- score, so what holds of the five steps holds of the mesh that a heartbeat writes back.
 -- Assumes nothing.
 use Rattle.std.proofs.Common.{Result, Ok, Err}
-use Rattle.std.proofs.Common.{Unit, tt}
 use Prim.Native.Nat.{ℕ, ◌<◌}
 use native.Mathlib.Omega.{arith}
 use mathlib.Core.Path.{◌≡◌, refl, sym, ap, ◌∙◌, subst}
@@ -26,6 +25,7 @@ use Rattle.sets.proofs.SlotLaws.{slots_at, slots_past}
 use Rattle.mesh.specs.Maintenance.{meshes}
 use Rattle.monotone.specs.Better.{Better}
 use Rattle.monotone.proofs.Place.{better_stays}
+use Rattle.rules.specs.declared.Answer.{Answer}
 use Rattle.rules.specs.declared.Answer.TheVariants.{NotPermutation}
 use Rattle.rules.specs.Reply.{refused, ignored}
 use Rattle.rules.specs.Calls.{heartbeat, in_range, topic_ok}

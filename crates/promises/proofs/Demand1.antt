@@ -2,7 +2,6 @@
 -- program, a promise says it of every cell.
 -- Assumes nothing.
 use Rattle.std.proofs.Common.{Option, Some, None, Ok, Err}
-use Rattle.std.proofs.Common.{tt}
 use Rattle.rules.proofs.ConnectLaws.{by_connect}
 use Rattle.records.specs.declared.Peer.{Peer}
 use Prim.Native.Nat.{ℕ}

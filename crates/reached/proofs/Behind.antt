@@ -2,7 +2,6 @@
 -- that is in range and not early passes them, and its reply is its effect.
 -- Assumes nothing.
 use Rattle.std.proofs.Common.{Result}
-use Rattle.std.proofs.Common.{Unit}
 use Rattle.rules.specs.declared.Answer.{Answer}
 use native.Mathlib.Omega.{arith}
 use mathlib.Core.Path.{◌≡◌, refl, sym, ap, ap₂, ◌∙◌}
