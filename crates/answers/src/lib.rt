@@ -9,13 +9,12 @@ ghost use Rattle.records.specs.Records.{slot_count};
 use rules::Answer;
 use score::Why;
 
-// 01's number of an answer.
+// 01's number of an answer. A function and no From: `code` below turns an answer into a u64 too, and u64::from would not say which is meant.
 pub fn number_of(a: Answer) -> u64
     ensures { result ≡ number_of a }
 {
     match a {
-        Answer::Done(_) => 0,
-        Answer::Scored(_) => 0,
+        Answer::Done(_) | Answer::Scored(_) => 0,
         Answer::Early => 1,
         Answer::OutOfRange => 2,
         Answer::NotConnected => 3,
@@ -52,17 +51,11 @@ pub fn code(a: Answer) -> u64
     packed(number_of(a), actions_of(a) as u64)
 }
 
-// A score's five parts, then the score.
+// A score's five parts, then the score. Neither type is of this crate, so that no From can stand here.
 fn why_numbers(w: Why) -> [i64; 6]
     ensures { result ≡ why_numbers w }
 {
-    let topics = w.topics;
-    let capped = w.capped;
-    let p5 = w.p5;
-    let p6 = w.p6;
-    let p7 = w.p7;
-    let score = w.score;
-    [topics, capped, p5, p6, p7, score]
+    [w.topics, w.capped, w.p5, w.p6, w.p7, w.score]
 }
 
 // The score's parts and the score in an answer, or what stood there.

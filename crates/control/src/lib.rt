@@ -108,10 +108,8 @@ fn graft_reply(
         GraftCase::NotJoined | GraftCase::Graylisted => ignore(table, time),
         GraftCase::AlreadyMember => finish(table, time),
         GraftCase::InBackoff => graft_refused(table, time, topic, slot, raised_p7(p), actions),
-        GraftCase::Explicit
-        | GraftCase::Negative
-        | GraftCase::NotSubscribed
-        | GraftCase::Full => graft_refused(table, time, topic, slot, p, actions),
+        GraftCase::Explicit | GraftCase::Negative | GraftCase::NotSubscribed | GraftCase::Full =>
+            graft_refused(table, time, topic, slot, p, actions),
         GraftCase::Enters => {
             graft_slot(table, topic, slot, time);
             finish(table, time)

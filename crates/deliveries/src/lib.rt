@@ -24,6 +24,7 @@ use rules::Answer;
 use words::with_bit;
 
 // The counters of the peer's record in the topic grow, if it is heard. Kinds: 1 first, 2 near-first, 3 invalid.
+// The kind stays the host's number: the rules' delivered_of is over it, and an enum would be turned back into it for credits.
 fn deliver_reply(table: &mut [u64], time: u64, topic: usize, slot: usize, kind: u64) -> Answer
     requires { PlaceReady table.old time topic slot }
     ensures { Leaves (deliver_reply (state_of table.old) time topic kind slot) result
@@ -84,7 +85,7 @@ fn busy(table: &[u64], slot: usize) -> u64
     w
 }
 
-// The lowest topic of the word from t on; TOPICS for none.
+// The lowest topic of the word from t on; TOPICS for none, at which the walk below ends.
 fn next_busy(w: u64, t: usize) -> usize
     requires { t ≤ topic_count }
     ensures { NextTopic w t result }
@@ -94,7 +95,7 @@ fn next_busy(w: u64, t: usize) -> usize
 }
 
 // All topics. A decay leaves an idle record as it is, and most are: those that are not are found first, and walked by their bits, since
-// which they are cannot be guessed.
+// which they are cannot be guessed. So a `while` from bit to bit, and no `for` with a test in each turn.
 fn decay_topics(table: &mut [u64], time: u64, slot: usize)
     requires { DecaysIn table.old slot }
     ensures { state_of table.new ≡ iter 8 (decay_topic time slot) (state_of table.old) }

@@ -85,7 +85,7 @@ module _
     unfolding peer_gate
     peer_refusal x e =
         let q = refused_by (gate_of (state_of table) (a && b) (length list) (time_of c)) (find_connected (state_of table) id) (state_of table) f x
-            (sym eg ∙ e) in
+        (sym eg ∙ e) in
         let z : step (state_of table) c (length list) ≡ refused x (state_of table) = asked ∙ q in
         rw z (gives_refused x table list)
 

@@ -1,4 +1,5 @@
 // The tests that every call begins with (12, 2, 8, 1), the two ends that move the clock, and what a peer's score says of it.
+// Table, time, topic and slot go side by side and in no struct: a host hands them apart, and one would be made only to be taken apart.
 #![tactic(auto)]
 
 ghost use Rattle.std.specs.Prelude.{◌≡◌, length, set};
@@ -54,7 +55,8 @@ pub fn admit(table: &[u64], fine: bool, room: usize, time: u64) -> Result<(), An
     Ok(())
 }
 
-// The same tests, and then 3: the slot of the connected record that holds the id.
+// The same tests, and then 3: the slot of the connected record that holds the id. A call matches on what comes back: one that took what
+// follows as a closure would need a contract at each closure, of the table before and after it, where the match needs none.
 pub fn admit_peer(
     table: &[u64],
     fine: bool,

@@ -2,7 +2,8 @@
 -- Assumes nothing.
 use Rattle.std.proofs.Common.{Option, Some, None, Result}
 use Rattle.lookup.specs.declared.FreshError.{FreshError}
-use Rattle.index.proofs.Kit.{ℕ, ◌≤◌, ◌≡◌, refl, sym, ap, ◌∙◌, false, arith}
+use Rattle.core.specs.Int.{from_bool}
+use Rattle.index.proofs.Kit.{ℕ, ◌≤◌, ◌≡◌, refl, sym, ap, ◌∙◌, Bool, true, false, one, arith}
 use mathlib.Core.List.{List}
 use lib.ListN.{length}
 use lib.IntN.{ℤ}
@@ -67,3 +68,8 @@ module _ (n : ℕ) (m : Option Edition) (e : m ≡ edition_of n) (xs : List ℤ)
 
   pub fresh_unknown : (r : ℕ) (table : List ℕ) → m ≡ None → r ≡ packed 2 0 → HostsFresh (edition_of n) xs r table table
   fresh_unknown r table t q = rw (← e, t) (record { answer = q; state = refl; kept = λ f. refl })
+
+-- ---- test 12, as a number
+pub told_flag : (a b : Bool) (n : ℕ) → a ≡ b → n ≡ from_bool a → n ≡ one b
+told_flag true b n e h = h ∙ ap one e
+told_flag false b n e h = h ∙ ap one e

@@ -37,16 +37,9 @@ pub fn fresh(numbers: &[i64; NUMBERS], edition: u64, table: &mut [u64; CELLS]) -
     make(all, table)
 }
 
-fn number(flag: bool) -> u32
-    ensures { result ≡ one flag }
-{
-    if flag { 1 } else { 0 }
-}
-
 // Test 12: 1 if the table is a router's, else 0.
 pub fn is_router(table: &[u64; CELLS]) -> u32
     ensures { result ≡ one (valid (state_of table.now)) }
 {
-    let flag = router::is_router(table);
-    number(flag)
+    u32::from(router::is_router(table))
 }

@@ -38,7 +38,7 @@ fn group_ok(groups: &[u64], k: usize) -> bool
     (groups[k] <= MAX_ID) & (groups[k - 1] < groups[k])
 }
 
-// Whether all do.
+// Whether all do. By their places, since each is held against the one before it.
 fn each_ok(groups: &[u64]) -> bool
     ensures { result ≡ every (length groups.now) (group_ok groups.now) }
 {
@@ -80,7 +80,7 @@ fn groups_of(groups: &[u64]) -> Groups
     }
 }
 
-// A record in a slot becomes a connected one.
+// A record in a slot becomes a connected one. The flags stay the host's number: the rules' connected_as takes its bits apart.
 fn connect_at(
     table: &mut [u64],
     time: u64,

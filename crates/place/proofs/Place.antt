@@ -25,6 +25,7 @@ use Rattle.sets.proofs.SlotLaws.{slots_at, slots_past}
 use Rattle.mesh.specs.Maintenance.{meshes}
 use Rattle.monotone.specs.Better.{Better}
 use Rattle.monotone.proofs.Place.{better_stays}
+use Rattle.rules.specs.declared.Answer.{Answer}
 use Rattle.rules.specs.declared.Answer.TheVariants.{NotPermutation}
 use Rattle.rules.specs.Reply.{refused, ignored}
 use Rattle.rules.specs.Calls.{heartbeat, in_range, topic_ok}

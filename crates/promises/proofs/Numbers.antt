@@ -178,7 +178,7 @@ strange_of name e = none (same_bytes name (meshsub 48)) (same_bytes name (meshsu
     other : (m : ℕ) → same_bytes name (meshsub m) ≡ false → name ≢ meshsub m
     other m f q = false≢true (sym f ∙ ap (λ (l : List ℕ). same_bytes l (meshsub m)) q ∙ same_self (meshsub m))
 
-    none : {A B C : Type 0} (p q r : Bool) → cond p (Some 0) (cond q (Some 1) (cond r (Some 2) None)) ≡ None →
+    none : {A B C : Type 0} (p q r : Bool) → cond {A = Option ℕ} p (Some 0) (cond q (Some 1) (cond r (Some 2) None)) ≡ None →
         (p ≡ false → A) → (q ≡ false → B) → (r ≡ false → C) → A × B × C
     none true q r e f g h = let z : ◌≡◌ {A = ℕ} 0 1 = cc in absurd (omega (arith, z))
     none false true r e f g h = let z : ◌≡◌ {A = ℕ} 0 1 = cc in absurd (omega (arith, z))

@@ -6,6 +6,7 @@ use records::{Peer, TopicRecord};
 use score::Why;
 
 // What a call answers. A definition (specs/Reply.antt) gives 01's number and values of each.
+// One enum and no Result: number_of, refuses and changes (specs/Reply.antt) and the theorems on every call are tables over these twelve.
 #[derive(Clone, Copy)]
 pub enum Answer {
     // 0: done, with the number of actions

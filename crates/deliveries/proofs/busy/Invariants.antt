@@ -7,4 +7,3 @@ use Rattle.deliveries.proofs.busy.Given as goal
 
 abbrev pub invariant-loop-topic : goal.invariant-loop-topic
 invariant-loop-topic l = (l.topic ≤ 8) × IdleBelow (state_of l.table) l.slot l.topic l.w
-

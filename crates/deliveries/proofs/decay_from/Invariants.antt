@@ -10,4 +10,3 @@ use Rattle.deliveries.proofs.decay_from.Given as goal
 abbrev pub invariant-loop-slot : goal.invariant-loop-slot
 invariant-loop-slot l =
     (l.slot ≤ slot_count) × (length l.table ≡ cell_count) × (state_of l.table ≡ iter l.slot (decay_slot l.time) (state_of l.initial.table))
-

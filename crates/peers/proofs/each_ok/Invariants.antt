@@ -9,4 +9,3 @@ use Rattle.peers.proofs.each_ok.Given as goal
 
 abbrev pub invariant-loop-k : goal.invariant-loop-k
 invariant-loop-k l = (l.k ≤ length l.groups) × (l.ok ≡ every l.k (group_ok l.groups))
-
