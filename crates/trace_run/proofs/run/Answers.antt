@@ -7,10 +7,10 @@ use Rattle.trace_step.proofs.ReplayLaws.{few_actions}
 use Rattle.trace_run.proofs.RecordedLaws.{going_none, going_more, ran_all, ran_stopped, accepted, begins, run_refused}
 use Rattle.trace_run.proofs.run.Goals as goal
 
-pub returns-in_err : goal.returns-in_err
-returns-in_err c =
+pub returns-in_err-fresh : goal.returns-in_err-fresh
+returns-in_err-fresh c =
     let e = err_from_is_err_and c.from_residual.result c.from_residual.ensures.1 in
-    rw (e.1, e.2) (run_refused _ _ _ _ c.in_err.ensures _ _ _ _ _ (search rules) refl)
+    rw (e.1, e.2) (run_refused _ _ _ _ c.in_err-fresh.ensures _ _ _ _ _ (search rules) refl)
 
 pub loop-calls-init : goal.loop-calls-init
 loop-calls-init c = (refl, (refl, λ params e. going_none _ params _ _ _ _ e))
@@ -18,7 +18,7 @@ loop-calls-init c = (refl, (refl, λ params e. going_none _ params _ _ _ _ e))
 pub returns-in_default : goal.returns-in_default
 returns-in_default c =
     let l = c.loop-calls in
-    let m = c.in_ok.ensures in
+    let m = c.in_ok-fresh.ensures in
     let k = l.invariant.1.0 in
     ran_stopped _ _ _ _ _ (search rules) l.at l.calls _ _ _ _ (accepted _ _ _ _ m refl) (l.invariant.1.1 _ (begins _ _ _ _ m refl)) _ _ _
     (omega arith) c.perform.ensures (λ next a e. c.in_default.not-Ok (next, a) e)
@@ -43,7 +43,7 @@ loop-calls-preserved c =
 pub returns : goal.returns
 returns c =
     let l = c.loop-calls in
-    let m = c.in_ok.ensures in
+    let m = c.in_ok-fresh.ensures in
     let k = l.invariant.1.0 in
     ran_all _ _ _ _ _ (search rules) l.at l.calls _ _ _ _ (accepted _ _ _ _ m refl) (l.invariant.1.1 _ (begins _ _ _ _ m refl)) _
     (omega arith) (omega arith)
