@@ -52,7 +52,7 @@ pub fn rows_size(table: &[u64], keys: &[u64], time: u64, end: u64) -> usize
     sum
 }
 
-// Writes numbers from `at` on, where there is room; the place after them. A struct of buffer and place would only rename the two in `Stands`.
+// Writes numbers from `at` on, where there is room; the place after them. A struct of both would only rename them in `Stands`.
 pub fn put_row(buf: &mut [u8], at: usize, row: &[u64]) -> usize
     requires { at + length (bytes_of row.now) ≤ length buf.old }
     ensures { Stands (bytes_of row.now) at buf.old result buf.new }
