@@ -106,3 +106,6 @@ reach_more s at place low r h e b =
           (λ k. r.before j x k)
           (λ k. let z : j ≡ place = omega arith in rw z (omega arith));
     }
+
+pub reach_end : (s : List ℕ) (at place limit : ℕ) → Reaches s at place → place ≡ limit → Reaches s at limit
+reach_end s at place limit r e = rw e at r

@@ -1,6 +1,6 @@
 // The numbers of a save, each as `varint::read_u64` reads it, which asks at every byte how much further a number can go. Most numbers of a
 // save are one byte long, and the others short: these are read here, and what is no such number is left to it.
-ghost use Rattle.std.specs.Prelude.{◌≡◌, ◌<◌, length};
+ghost use Rattle.std.specs.Prelude.{◌≡◌, ◌≤◌, ◌<◌, length};
 ghost use Rattle.varint.specs.Groups.{read_at};
 ghost use Rattle.save_load.specs.Numbers.{Reaches};
 
@@ -22,7 +22,7 @@ fn wide(x: u8) -> u64
 // The last place at which a number at `at` can end, of so many bytes.
 fn limit_of(at: usize, size: usize) -> usize
     requires { at < size }
-    ensures { result < size }
+    ensures { (at ≤ result) × (result < size) }
 {
     if size - at <= MOST_BYTES {
         return size - 1;
@@ -36,14 +36,12 @@ fn last_of(s: &[u8], at: usize) -> usize
     ensures { Reaches s.now at result }
 {
     let limit = limit_of(at, s.len());
-    let mut place = at;
-    while place < limit {
+    for place in at..limit {
         if wide(s[place]) < GROUP {
             return place;
         }
-        place += 1;
     }
-    place
+    limit
 }
 
 // The number at `at`, from its last byte to its first.
@@ -56,12 +54,10 @@ fn long_number(s: &[u8], at: usize) -> Option<(u64, usize)>
     if !((0 < value) & (value < GROUP)) {
         return varint::read_u64(s, at);
     }
-    let mut place = last;
-    while at < place {
+    for place in (at..last).rev() {
         if ROOM < value {
             return varint::read_u64(s, at);
         }
-        place -= 1;
         value = value * GROUP + (wide(s[place]) - GROUP);
     }
     Some((value, last + 1))

@@ -8,6 +8,7 @@ use crate::numbers;
 use crate::row::ROW;
 use saves::LoadError;
 
+// The bytes and a place in them stay apart, as in the definitions of crate saves that these contracts cite.
 // The first pass of a load: the place after n numbers from `at` on, unless one is malformed.
 pub fn skim_numbers(s: &[u8], at: usize, n: usize) -> Result<usize, LoadError>
     ensures { result ≡ skim_of (parse_from n s.now at) }

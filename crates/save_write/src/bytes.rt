@@ -25,8 +25,8 @@ pub fn row_size(row: &[u64]) -> usize
     ensures { (result ≡ length (bytes_of row.now)) × (result ≤ 440) }
 {
     let mut sum: usize = 0;
-    for i in 0..row.len() {
-        sum += size_of(row[i]);
+    for n in row {
+        sum += size_of(*n);
     }
     sum
 }
@@ -45,21 +45,21 @@ pub fn rows_size(table: &[u64], keys: &[u64], time: u64, end: u64) -> usize
 {
     let mut row = [0u64; ROW];
     let mut sum: usize = 0;
-    for k in 0..keys.len() {
-        fill_row(table, slot_of(keys[k]), time, end, &mut row);
+    for key in keys {
+        fill_row(table, slot_of(*key), time, end, &mut row);
         sum += row_size(&row);
     }
     sum
 }
 
-// Writes numbers from `at` on, where there is room; the place after them.
+// Writes numbers from `at` on, where there is room; the place after them. A struct of both would only rename them in `Stands`.
 pub fn put_row(buf: &mut [u8], at: usize, row: &[u64]) -> usize
     requires { at + length (bytes_of row.now) ≤ length buf.old }
     ensures { Stands (bytes_of row.now) at buf.old result buf.new }
 {
     let mut place = at;
-    for i in 0..row.len() {
-        let Some(next) = varint::write_u64(buf, place, row[i]) else {
+    for n in row {
+        let Some(next) = varint::write_u64(buf, place, *n) else {
             return place;
         };
         place = next;
@@ -84,8 +84,8 @@ pub fn put_rows(
 {
     let mut row = [0u64; ROW];
     let mut place = at;
-    for k in 0..keys.len() {
-        fill_row(table, slot_of(keys[k]), time, end, &mut row);
+    for key in keys {
+        fill_row(table, slot_of(*key), time, end, &mut row);
         place = put_row(buf, place, &row);
     }
     place

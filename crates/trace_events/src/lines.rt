@@ -16,6 +16,7 @@ use text::{put_byte, put_decimal, put_signed};
 // How many bytes one event may print.
 pub const LINE_ROOM: usize = 16384;
 
+// The lines go to a lent buffer, as nothing is allocated; `write!` would not say how many bytes a line takes, as these contracts do.
 // Two numbers on a line; the place after it.
 pub fn put_pair(out: &mut [u8], at: usize, a: u64, b: u64) -> usize
     requires { at + 42 ≤ length out.old }

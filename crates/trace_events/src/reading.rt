@@ -10,6 +10,7 @@ use records::SLOTS;
 // The most numbers that follow a kind, the time counted; and those of each kind, 0 for an unknown one.
 pub const NUMBERS: usize = 5;
 
+// A kind stays the number that a trace has: an enum of the kinds would be one more table beside this one and the calls of trace_step.
 const ARITY: [usize; 14] = [0, 5, 2, 2, 2, 3, 3, 3, 4, 4, 3, 3, 1, 2];
 
 // How many numbers a connect has before its groups are known: the third edition counts them.
@@ -51,12 +52,7 @@ pub fn order_size(edition: Edition) -> usize
 }
 
 // Puts the first n numbers from a place on into a lent list; the place after them.
-pub fn read_numbers(
-    s: &[u8],
-    at: usize,
-    n: usize,
-    values: &mut [u64],
-) -> Result<usize, NumberError>
+pub fn read_numbers(s: &[u8], at: usize, n: usize, values: &mut [u64]) -> Result<usize, NumberError>
     requires { n ≤ length values.old }
     ensures { (outcome n result values.new ≡ numbers_from n s.now at)
         × ((k : ℕ) → n ≤ k → get_or values.new k 0 ≡ get_or values.old k 0) }

@@ -49,7 +49,7 @@ pub enum Fed {
 }
 
 // The bytes of the buffer from `at` to `end` are not done with. `more` is false once the input has ended; `written` bytes were printed by
-// the last turn, and `wants` is true where the next one needs more bytes.
+// the last turn, and `wants` is true where the next one needs more bytes. Both flags go with every stage, so they stand beside it.
 #[derive(Clone, Copy)]
 pub struct Window {
     pub at: usize,

@@ -3,7 +3,6 @@
 -- Assumes nothing.
 use Rattle.trace_step.specs.declared.EventError.{EventError}
 use Rattle.trace_step.specs.declared.EventError.TheVariants.{CutShort, Malformed, Unknown}
-use Rattle.trace_run.specs.declared.RecordError.TheVariants.{Refused}
 use Rattle.std.proofs.Common.{Option, Some, None, Result, Ok, Err}
 use Rattle.lookup.specs.declared.FreshError.{FreshError}
 use Rattle.lookup.specs.declared.FreshError.TheVariants.{Broken}
@@ -191,9 +190,9 @@ module _ (d : Edition) (params : Params) (s list₀ told₀ : List ℕ) (l : len
         }
 
     -- as many calls as there is room for
-    pub ran_all : length told₀ ≤ calls → Runs d params s (Ok (at, calls)) start table list₀ list told₀ told
+    pub ran_all : (last : ℕ) → calls ≡ last → length told₀ ≤ calls → Runs d params s (Ok (at, last)) start table list₀ list told₀ told
     unfolding calls_from
-    ran_all h = let z : length told₀ - calls ≡ 0 = omega arith in ran table list (rw z) refl refl
+    ran_all last e h = let z : length told₀ - calls ≡ 0 = omega arith in rw (← e) (ran table list (rw z) refl refl)
 
     pub ran_stopped :
         (table' list' : List ℕ) (r : Result (ℕ × Answer) EventError) →
@@ -233,9 +232,9 @@ module _ (params : Params) (r : Result (Unit {0}) FreshError) (table table' : Li
   begins e = m.state ∙ ap (λ (f : Option ℕ). left_by f params (state_of table)) (accepted e)
 
   pub run_refused :
-      (d : Edition) (s list told : List ℕ) (i : ℕ) → length params.numbers ≡ param_count → r ≡ Err (Broken i) →
-      Runs d params s (Err (Refused i)) table table' list list told told
-  run_refused d s list told i l e =
+      (d : Edition) (s list told : List ℕ) (x : FreshError) → length params.numbers ≡ param_count → r ≡ Err x →
+      Runs d params s (Err x) table table' list list told told
+  run_refused d s list told (Broken i) l e =
       let f = breaks (first_broken params) r i m.answer e in
       let k = m.kept i e in
       record {

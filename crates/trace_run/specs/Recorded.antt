@@ -1,8 +1,8 @@
 -- A recorded list of calls: the events that stand in a trace's bytes, behind its parameters. Lists have the last call first, as in crate
 -- history.
 use Rattle.std.specs.Prelude.{Result, Ok, Err}
-use Rattle.trace_run.specs.declared.RecordError.{RecordError}
-use Rattle.trace_run.specs.declared.RecordError.TheVariants.{Refused}
+use Rattle.lookup.specs.declared.FreshError.{FreshError}
+use Rattle.lookup.specs.declared.FreshError.TheVariants.{Broken}
 use Rattle.std.specs.Prelude.{Option, Some, None}
 use Rattle.std.specs.Prelude.{ℕ, zero, suc, ◌≤◌, ◌≡◌, Bool, true, false, List, [], ◌∷◌, ◌++◌, length}
 use Rattle.std.proofs.lemmas.List.Edits.{sets}
@@ -67,8 +67,8 @@ actions_after params [] list = list
 actions_after params (c ∷ before) list = sets (actions_after params before list) 0 (numbers_of (reply_to params before c).actions)
 
 -- refused parameters with their place, or the whole list
-abbrev pub answer_of : Option ℕ → Recording → Result (ℕ × ℕ) RecordError
-answer_of (Some i) q = Err (Refused i)
+abbrev pub answer_of : Option ℕ → Recording → Result (ℕ × ℕ) FreshError
+answer_of (Some i) q = Err (Broken i)
 answer_of None q = Ok (q.place, length q.calls)
 
 abbrev pub left_of : Option ℕ → Params → Recording → State → State
@@ -77,17 +77,17 @@ left_of None params q st = after (fresh params) q.calls
 
 -- 01's number of an answer, and the values that go with it: 9 with the first index or 200 + the first rule; 0 with the place after the last
 -- event and how many calls were made
-abbrev pub recorded_number : Result (ℕ × ℕ) RecordError → ℕ
-recorded_number (Err (Refused i)) = 9
+abbrev pub recorded_number : Result (ℕ × ℕ) FreshError → ℕ
+recorded_number (Err (Broken i)) = 9
 recorded_number (Ok (place, calls)) = 0
 
-abbrev pub recorded_values : Result (ℕ × ℕ) RecordError → List ℕ
-recorded_values (Err (Refused i)) = i ∷ []
+abbrev pub recorded_values : Result (ℕ × ℕ) FreshError → List ℕ
+recorded_values (Err (Broken i)) = i ∷ []
 recorded_values (Ok (place, calls)) = place ∷ calls ∷ []
 
 -- what a run promises: r is the answer; table, list and told are what stood in the table, in the lent action list and in the lent list of
 -- answers, and table', list' and told' are what stands there after it
-pub record Runs (e : Edition) (params : Params) (s : List ℕ) (r : Result (ℕ × ℕ) RecordError) (table table' list list' told told' : List ℕ) : Type 0 where
+pub record Runs (e : Edition) (params : Params) (s : List ℕ) (r : Result (ℕ × ℕ) FreshError) (table table' list list' told told' : List ℕ) : Type 0 where
   pub answer : r ≡ answer_of (first_broken params) (recording_of e (length list) (length told) s)
   -- the table holds the rules' state after the whole list
   pub state : state_of table' ≡ left_of (first_broken params) params (recording_of e (length list) (length told) s) (state_of table)

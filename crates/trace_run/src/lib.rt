@@ -8,13 +8,6 @@ use layout::CELLS;
 use lookup::FreshError;
 use params::Params;
 use trace_events::Edition;
-use trace_step::EventError;
-
-// Why a recorded list was not played: the parameters are refused, at the first index, or 200 + the first rule.
-#[derive(Clone, Copy)]
-pub enum RecordError {
-    Refused(usize),
-}
 
 // Makes a fresh router with these parameters, and calls the events of the bytes, in an edition, up to the first that is unknown, malformed
 // or cut short, or as many as there is room for answers: the lent list `told` takes one number for each. All calls are lent the same action
@@ -26,22 +19,18 @@ pub fn run(
     table: &mut [u64; CELLS],
     actions: &mut [u32],
     told: &mut [u64],
-) -> Result<(usize, usize), RecordError>
+) -> Result<(usize, usize), FreshError>
     ensures { Runs edition params s.now result table.old table.new actions.old
         actions.new told.old told.new }
 {
-    if let Err(FreshError::Broken(i)) = router::fresh(params, table) {
-        return Err(RecordError::Refused(i));
-    }
+    router::fresh(params, table)?;
     let mut at: usize = 0;
-    let mut calls: usize = 0;
-    while calls < told.len() {
+    for calls in 0..told.len() {
         let Ok((next, a)) = trace_step::perform(table, edition, s, at, actions) else {
             return Ok((at, calls));
         };
         told[calls] = answers::code(a);
         at = next;
-        calls += 1;
     }
-    Ok((at, calls))
+    Ok((at, told.len()))
 }

@@ -48,7 +48,7 @@ pub enum Replayed {
     Full,
 }
 
-// The calls that come from peers, and decay and score.
+// The calls that come from peers, and decay and score. Each arm passes numbers of its own, so closures would only repeat the arms.
 fn call_peer(table: &mut [u64; CELLS], kind: u64, v: &[u64; NUMBERS], actions: &mut [u32]) -> Answer
     requires { (kind ≢ 1) × ((kind ≢ 3) × ((kind ≢ 4) × ((kind ≢ 5) × ((kind ≢ 6) × (kind ≢ 11))))) }
     ensures { Follows (call_of kind v.now []) result table.old table.new actions.old

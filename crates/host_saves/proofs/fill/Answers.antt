@@ -9,8 +9,8 @@ packed-requires c = (omega arith, omega arith)
 pub packed-requires-in-OutOfRange : goal.packed-requires-in-OutOfRange
 packed-requires-in-OutOfRange c = (omega arith, omega arith)
 
-pub packed-requires-in-None : goal.packed-requires-in-None
-packed-requires-in-None c = (omega arith, load_fits _ _ _ _ _ _ _ c.load.ensures c.in-None.is)
+pub packed-requires-in-Broken : goal.packed-requires-in-Broken
+packed-requires-in-Broken c = (omega arith, load_fits _ _ _ _ _ _ _ c.load.ensures c.in-Broken.is)
 
 pub packed-requires-in-Malformed : goal.packed-requires-in-Malformed
 packed-requires-in-Malformed c = (omega arith, load_fits _ _ _ _ _ _ _ c.load.ensures c.in-Malformed.is)
@@ -21,9 +21,9 @@ returns-in-Ok c = hosts_load _ _ _ _ _ _ _ c.load.ensures c.in-Ok.is _ c.packed.
 pub returns-in-OutOfRange : goal.returns-in-OutOfRange
 returns-in-OutOfRange c = hosts_load _ _ _ _ _ _ _ c.load.ensures c.in-OutOfRange.is _ c.packed-in-OutOfRange.ensures
 
-pub returns-in-None : goal.returns-in-None
-returns-in-None c = hosts_load _ _ _ _ _ _ _ c.load.ensures c.in-None.is _
-    c.packed-in-None.ensures
+pub returns-in-Broken : goal.returns-in-Broken
+returns-in-Broken c = hosts_load _ _ _ _ _ _ _ c.load.ensures c.in-Broken.is _
+    c.packed-in-Broken.ensures
 
 pub returns-in-Malformed : goal.returns-in-Malformed
 returns-in-Malformed c = hosts_load _ _ _ _ _ _ _ c.load.ensures c.in-Malformed.is _

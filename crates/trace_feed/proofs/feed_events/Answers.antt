@@ -30,7 +30,7 @@ returns-else-last c =
     events_want _ _ _ _ _ _ _ _ c.if-last-s.false (search rules)
     c.replay-done.ensures c.in-Short.is c.if-last.false
 
-pub returns-in-None : goal.returns-in-None
-returns-in-None c =
+pub returns-in-Full : goal.returns-in-Full
+returns-in-Full c =
     events_full _ _ _ _ _ _ _ _ c.if-last-s.false (search rules)
-    c.replay-done.ensures c.in-None.is
+    c.replay-done.ensures c.in-Full.is

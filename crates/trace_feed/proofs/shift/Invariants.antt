@@ -7,6 +7,3 @@ use Rattle.trace_feed.proofs.shift.Given as goal
 
 abbrev pub invariant-loop-k : goal.invariant-loop-k
 invariant-loop-k l = (l.k ≤ l.n) × ((l.at + l.n ≤ length l.initial.buf) × ((length l.buf ≡ length l.initial.buf) × Shifted l.at l.initial.buf l.k l.buf))
-
-abbrev pub decreases-loop-k : goal.decreases-loop-k
-decreases-loop-k l = l.n - l.k

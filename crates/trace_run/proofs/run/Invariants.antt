@@ -1,6 +1,5 @@
 -- `trace_run::run`: refused parameters, or the calls made so far, their answers and their actions, turn by turn, up to the first event that
 -- is not whole. Assumes nothing.
-use Prim.Native.Nat.{◌-◌}
 use mathlib.Core.Path.{◌≡◌}
 use lib.ListN.{length}
 use Rattle.params.specs.declared.Params.{Params}
@@ -15,6 +14,3 @@ invariant-loop-calls l =
     (length l.actions ≡ length l.initial.actions)
     × ((length l.told ≡ length l.initial.told)
     × ((params : Params) → state_of l.initial.table ≡ fresh_state params → Going l.edition params l.s l.initial.actions l.initial.told l.at l.calls l.table l.actions l.told))
-
-abbrev pub decreases-loop-calls : goal.decreases-loop-calls
-decreases-loop-calls l = length l.initial.told - l.calls

@@ -24,11 +24,11 @@ returns-in-Ok c =
     (event_called _ _ _ _ _ _ p.ensures _ _ _ _ _ refl c.in-Ok.is
     c.put_reply.ensures)
 
-pub returns-in-None : goal.returns-in-None
-returns-in-None c =
+pub returns-in-Unknown : goal.returns-in-Unknown
+returns-in-Unknown c =
     let p = c.perform-done in
     replay_event_lem _ _ _ _ _ _ _ _ c.if-out-lt-LINE_ROOM.false
-    (event_unknown _ _ _ _ _ _ p.ensures _ _ _ c.in-None.is
+    (event_unknown _ _ _ _ _ _ p.ensures _ _ _ c.in-Unknown.is
     c.put_pair.ensures)
 
 pub returns-in-Malformed : goal.returns-in-Malformed

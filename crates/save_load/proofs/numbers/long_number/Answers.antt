@@ -24,7 +24,7 @@ bounds-s-place c = let w = c.loop-place.invariant in let l = w.bytes.high in let
 
 pub overflow_sub-value : goal.overflow_sub-value
 overflow_sub-value c =
-    let k = joining_byte _ _ _ _ _ c.loop-place.invariant c.loop-place-test.true in
+    let k = joining_byte _ _ _ _ _ c.loop-place.invariant (omega arith) in
     let e = c.wide.ensures in
     omega arith
 
@@ -38,11 +38,11 @@ pub loop-place-preserved : goal.loop-place-preserved
 loop-place-preserved c =
     let u = c.type_inv.s (c.loop-place.place - 1) in
     let e = c.wide.ensures in
-    joining_more _ _ _ _ _ c.loop-place.invariant c.loop-place-test.true (omega arith) _ e
+    joining_more _ _ _ _ _ c.loop-place.invariant (omega arith) (omega arith) _ e
     (omega arith)
 
 pub overflow_add-result : goal.overflow_add-result
 overflow_add-result c = let w = c.loop-place.invariant in let l = w.bytes.high in omega arith
 
 pub returns : goal.returns
-returns c = joining_all _ _ _ _ _ c.loop-place.invariant c.loop-place-test.false
+returns c = joining_all _ _ _ _ _ c.loop-place.invariant (omega arith)

@@ -5,6 +5,3 @@ use Rattle.save_load.proofs.numbers.long_number.Given as goal
 
 abbrev pub invariant-loop-place : goal.invariant-loop-place
 invariant-loop-place l = Joining l.s l.at l.last l.place l.value
-
-abbrev pub decreases-loop-place : goal.decreases-loop-place
-decreases-loop-place l = l.place

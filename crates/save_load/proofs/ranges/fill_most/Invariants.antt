@@ -5,6 +5,3 @@ use Rattle.save_load.proofs.ranges.fill_most.Given as goal
 
 abbrev pub invariant-loop-t : goal.invariant-loop-t
 invariant-loop-t l = Filled l.codes l.t l.initial.most l.most
-
-abbrev pub decreases-loop-t : goal.decreases-loop-t
-decreases-loop-t l = 8 - l.t

@@ -7,6 +7,3 @@ use Rattle.save_load.proofs.row.ends_from.Given as goal
 
 abbrev pub invariant-loop-t : goal.invariant-loop-t
 invariant-loop-t l = Built 0 (λ k. end_from l.clock (get_or l.row (8 + k * 5) 0)) 8 l.t l.ends
-
-abbrev pub decreases-loop-t : goal.decreases-loop-t
-decreases-loop-t l = 8 - l.t

@@ -15,6 +15,3 @@ invariant-loop-k l =
     × ((length l.row ≡ 44)
     × ((m : List ℕ) (end : ℕ) → parse_from (l.n * 44) l.s l.at ≡ numbers m end →
     (parse_from (l.k * 44) l.s l.at ≡ numbers (take (l.k * 44) m) l.place) × (state_of l.table ≡ stored_all l.clock l.k m (state_of l.initial.table)))))
-
-abbrev pub decreases-loop-k : goal.decreases-loop-k
-decreases-loop-k l = l.n - l.k

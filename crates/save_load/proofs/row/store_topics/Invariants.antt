@@ -10,6 +10,3 @@ use Rattle.save_load.proofs.row.store_topics.Given as goal
 abbrev pub invariant-loop-t : goal.invariant-loop-t
 invariant-loop-t l =
     (l.t ≤ 8) × ((length l.table ≡ cell_count) × (state_of l.table ≡ iter l.t (stored_topic l.row l.slot) (state_of l.initial.table)))
-
-abbrev pub decreases-loop-t : goal.decreases-loop-t
-decreases-loop-t l = 8 - l.t

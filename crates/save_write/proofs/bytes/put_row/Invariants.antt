@@ -6,9 +6,6 @@ use Rattle.saves.specs.Save.{bytes_of}
 use Rattle.save_write.specs.Stands.{Stands}
 use Rattle.save_write.proofs.bytes.put_row.Given as goal
 
-abbrev pub invariant-loop-i : goal.invariant-loop-i
-invariant-loop-i l = (l.i ≤ length l.row)
-    × ((length l.buf ≡ length l.initial.buf) × Stands (bytes_of (take l.i l.row)) l.at l.initial.buf l.place l.buf)
-
-abbrev pub decreases-loop-i : goal.decreases-loop-i
-decreases-loop-i l = length l.row - l.i
+abbrev pub invariant-loop-n : goal.invariant-loop-n
+invariant-loop-n l = (l.n-index ≤ length l.row)
+    × ((length l.buf ≡ length l.initial.buf) × Stands (bytes_of (take l.n-index l.row)) l.at l.initial.buf l.place l.buf)

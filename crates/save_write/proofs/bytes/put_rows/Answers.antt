@@ -4,8 +4,8 @@ use Rattle.save_write.proofs.WriteLaws.{rows_begin, rows_room, rows_put, rows_wr
 use Rattle.layout.specs.View.{state_of}
 use Rattle.save_write.proofs.bytes.put_rows.Goals as goal
 
-pub loop-k-init : goal.loop-k-init
-loop-k-init c = (
+pub loop-key-init : goal.loop-key-init
+loop-key-init c = (
   omega arith,
   (
     refl,
@@ -14,26 +14,26 @@ loop-k-init c = (
 )
 
 pub slice_bounds-fill_row-end : goal.slice_bounds-fill_row-end
-slice_bounds-fill_row-end c = sym c.loop-k.invariant.1.0
+slice_bounds-fill_row-end c = sym c.loop-key.invariant.1.0
 
 pub fill_row-requires : goal.fill_row-requires
 fill_row-requires c = (
   c.requires.0,
-  (c.slot_of.ensures.1, c.loop-k.invariant.1.0),
+  (c.slot_of.ensures.1, c.loop-key.invariant.1.0),
 )
 
 pub slice_bounds-put_row-end : goal.slice_bounds-put_row-end
 slice_bounds-put_row-end c = sym
     (c.fill_row.auto.row
-    ∙ c.loop-k.invariant.1.0)
+    ∙ c.loop-key.invariant.1.0)
 
 pub put_row-place-requires : goal.put_row-place-requires
 put_row-place-requires c =
-    let l = c.loop-k in
+    let l = c.loop-key in
     let f = c.fill_row in
     let n = c.slot_of in
-    rows_room (state_of c.args.table.now) c.args.time c.args.keys.now l.k n.result f.new.row
-    c.loop-k-test.true
+    rows_room (state_of c.args.table.now) c.args.time c.args.keys.now l.key-index n.result f.new.row
+    c.loop-key-test.true
     n.ensures.0
     f.ensures
     c.args.at
@@ -43,19 +43,19 @@ put_row-place-requires c =
     l.invariant.1.1.1
     c.requires.1.1
 
-pub loop-k-preserved : goal.loop-k-preserved
-loop-k-preserved c =
-    let l = c.loop-k in
+pub loop-key-preserved : goal.loop-key-preserved
+loop-key-preserved c =
+    let l = c.loop-key in
     let f = c.fill_row in
     let n = c.slot_of in
     let p = c.put_row-place in
-    let t = c.loop-k-test.true in (
+    let t = c.loop-key-test.true in (
       omega arith,
       (
         f.auto.row ∙ l.invariant.1.0,
         (
           p.auto.buf ∙ l.invariant.1.1.0,
-          rows_put (state_of c.args.table.now) c.args.time c.args.keys.now l.k n.result f.new.row t
+          rows_put (state_of c.args.table.now) c.args.time c.args.keys.now l.key-index n.result f.new.row t
               n.ensures.0
               f.ensures
               c.args.at
@@ -71,12 +71,12 @@ loop-k-preserved c =
     )
 
 pub shape_of-buf : goal.shape_of-buf
-shape_of-buf c = c.loop-k.invariant.1.1.0
+shape_of-buf c = c.loop-key.invariant.1.1.0
 
 pub returns : goal.returns
 returns c =
-    let l = c.loop-k in
-    rows_written (state_of c.args.table.now) c.args.time c.args.keys.now c.args.at c.args.buf.now l.k
+    let l = c.loop-key in
+    rows_written (state_of c.args.table.now) c.args.time c.args.keys.now c.args.at c.args.buf.now l.key-index
     l.place l.buf
-    c.loop-k-test.false
+    c.loop-key-test.false
     l.invariant.1.1.1

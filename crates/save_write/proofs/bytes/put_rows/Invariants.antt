@@ -7,11 +7,8 @@ use Rattle.saves.specs.Save.{bytes_of}
 use Rattle.save_write.specs.Stands.{rows_of, Stands}
 use Rattle.save_write.proofs.bytes.put_rows.Given as goal
 
-abbrev pub invariant-loop-k : goal.invariant-loop-k
-invariant-loop-k l =
-    (l.k ≤ length l.keys)
+abbrev pub invariant-loop-key : goal.invariant-loop-key
+invariant-loop-key l =
+    (l.key-index ≤ length l.keys)
     × ((length l.row ≡ 44)
-    × ((length l.buf ≡ length l.initial.buf) × Stands (bytes_of (rows_of (state_of l.table) l.time (take l.k l.keys))) l.at l.initial.buf l.place l.buf))
-
-abbrev pub decreases-loop-k : goal.decreases-loop-k
-decreases-loop-k l = length l.keys - l.k
+    × ((length l.buf ≡ length l.initial.buf) × Stands (bytes_of (rows_of (state_of l.table) l.time (take l.key-index l.keys))) l.at l.initial.buf l.place l.buf))

@@ -5,8 +5,5 @@ use lib.ListN.{length, take}
 use Rattle.saves.specs.Save.{bytes_of}
 use Rattle.save_write.proofs.bytes.row_size.Given as goal
 
-abbrev pub invariant-loop-i : goal.invariant-loop-i
-invariant-loop-i l = (l.i ≤ length l.row) × ((l.sum ≡ length (bytes_of (take l.i l.row))) × (l.sum ≤ 10 * l.i))
-
-abbrev pub decreases-loop-i : goal.decreases-loop-i
-decreases-loop-i l = length l.row - l.i
+abbrev pub invariant-loop-n : goal.invariant-loop-n
+invariant-loop-n l = (l.n-index ≤ length l.row) × ((l.sum ≡ length (bytes_of (take l.n-index l.row))) × (l.sum ≤ 10 * l.n-index))

@@ -7,9 +7,6 @@ use Rattle.saves.specs.Save.{bytes_of}
 use Rattle.save_write.specs.Stands.{rows_of}
 use Rattle.save_write.proofs.bytes.rows_size.Given as goal
 
-abbrev pub invariant-loop-k : goal.invariant-loop-k
-invariant-loop-k l =
-    (l.k ≤ length l.keys) × ((length l.row ≡ 44) × ((l.sum ≡ length (bytes_of (rows_of (state_of l.table) l.time (take l.k l.keys)))) × (l.sum ≤ 440 * l.k)))
-
-abbrev pub decreases-loop-k : goal.decreases-loop-k
-decreases-loop-k l = length l.keys - l.k
+abbrev pub invariant-loop-key : goal.invariant-loop-key
+invariant-loop-key l =
+    (l.key-index ≤ length l.keys) × ((length l.row ≡ 44) × ((l.sum ≡ length (bytes_of (rows_of (state_of l.table) l.time (take l.key-index l.keys)))) × (l.sum ≤ 440 * l.key-index)))

@@ -9,6 +9,3 @@ use Rattle.save_write.proofs.row.fill_row.Given as goal
 abbrev pub invariant-loop-t : goal.invariant-loop-t
 invariant-loop-t l =
     Filled l.time (as_left (state_of l.table) l.time (peer_in (state_of l.table) l.slot)) (λ k. topic_in (state_of l.table) (place l.slot k)) l.t l.initial.row l.row
-
-abbrev pub decreases-loop-t : goal.decreases-loop-t
-decreases-loop-t l = 8 - l.t

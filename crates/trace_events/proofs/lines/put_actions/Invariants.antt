@@ -13,6 +13,3 @@ invariant-loop-i l =
     × (length l.out ≡ length l.initial.out)
     × (l.k ≤ l.at + 44 * l.i)
     × Stored l.initial.out l.at (actions_text l.i l.actions) l.k l.out
-
-abbrev pub decreases-loop-i : goal.decreases-loop-i
-decreases-loop-i l = l.n - l.i

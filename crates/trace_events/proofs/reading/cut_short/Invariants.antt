@@ -9,6 +9,3 @@ use Rattle.trace_events.proofs.reading.cut_short.Given as goal
 
 abbrev pub invariant-loop-k : goal.invariant-loop-k
 invariant-loop-k l = (l.k ≤ l.n) × ((l.n ≡ length l.s - l.at) × ((l.n < 10) × ((l.at < length l.s) × (every l.k (tail l.s l.at) ≡ true))))
-
-abbrev pub decreases-loop-k : goal.decreases-loop-k
-decreases-loop-k l = l.n - l.k

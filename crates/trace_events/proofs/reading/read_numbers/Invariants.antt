@@ -12,6 +12,3 @@ invariant-loop-i l =
     × ((l.n ≤ length l.values)
     × ((length l.values ≡ length l.initial.values)
     × (After l.n l.s l.at l.i l.values l.place × ((k : ℕ) → l.i ≤ k → get_or l.values k 0 ≡ get_or l.initial.values k 0))))
-
-abbrev pub decreases-loop-i : goal.decreases-loop-i
-decreases-loop-i l = l.n - l.i

@@ -8,6 +8,3 @@ use Rattle.trace_events.proofs.reading.widen.Given as goal
 
 abbrev pub invariant-loop-k : goal.invariant-loop-k
 invariant-loop-k l = (l.n ≤ l.k) × ((l.k ≤ slot_count) × ((length l.order ≡ slot_count) × Widened l.initial.order l.n l.k l.order))
-
-abbrev pub decreases-loop-k : goal.decreases-loop-k
-decreases-loop-k l = slot_count - l.k
