@@ -6,7 +6,6 @@ use mathlib.Core.Bool.{Bool, true, false, not, ◌&&◌, ◌||◌}
 use mathlib.Core.Logic.{◌≢◌}
 use mathlib.Core.List.{List, [], map}
 use native.Mathlib.Omega.{arith}
-use lib.Bits.{bit_or}
 use lib.Dec.{eqb, leb, ltb, leb-zero}
 use lib.ListN.{length, get_or, set, replicate}
 use lib.Seq.{get_or-set_same, get_or-set_other}
@@ -18,7 +17,6 @@ use Rattle.records.specs.Records.{slot_count, is_connected, is_empty}
 use Rattle.layout.specs.View.{table}
 use Rattle.layout.proofs.RowLaws.{tab_same, tab_const, length_tab}
 use Rattle.layout.proofs.ViewLaws.{table_same, table_set, get_or_table}
-use Rattle.layout.proofs.EndLaws.{or_none}
 use Rattle.gossip.specs.Notes.{Entry, Note, Setup, no_note, has, holds, number_of, put_in, aged}
 use Rattle.gossip.specs.Valid.{all, none, rises, entry_ok, set_ok, note_ok}
 use Rattle.gossip.specs.Step.{with_put, with_ihave, beaten, parted}

@@ -140,7 +140,8 @@ fn put_row(cells: &mut [u64], at: usize, n: usize, number: u64)
     cells[at + SET_MOST] = with_gap(ages, n, p);
 }
 
-// A heartbeat: entries that are not yet at the last age move down over those that go. The answer is how many are left.
+// A heartbeat: entries that are not yet at the last age move down over those that go, as a `retain` does, which no lent slice has. The
+// answer is how many are left.
 fn age_row(cells: &mut [u64], at: usize, n: usize) -> usize
     requires { RowFits cells.old at n }
     ensures { AgedRow cells.old cells.new at n result }

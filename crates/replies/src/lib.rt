@@ -242,7 +242,7 @@ fn keep_row(cells: &mut [u64], kept: bool, from: usize, to: usize) -> usize
     to + 1
 }
 
-// Keeps the rows whose flag is set, in order.
+// Keeps the rows whose flag is set, in order, as a `retain` does, which no lent slice has.
 pub fn keep_rows(cells: &mut [u64], flags: &[bool])
     requires { Flagged cells.old flags.now }
     ensures { (f : ℕ → Bool) → FlagsSay f flags.now (replies_of cells.old)

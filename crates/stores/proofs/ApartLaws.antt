@@ -10,7 +10,8 @@ use mathlib.Core.Logic.{⊎_elim}
 use mathlib.Core.Path.{◌≡◌, refl, sym, ap, subst, ◌∙◌}
 use lib.Dec.{eqb, leb}
 use lib.ListN.{length, get_or, take, drop, take-append-drop, length-take, length-drop}
-use lib.Seq.{take-suc, take_all, get_or-take, get_or-drop}
+use lib.Seq.{take-suc, take_all, ext_get_or, get_or-take, get_or-drop}
+use Rattle.std.specs.List.{list_all}
 use borrow.Author.Tests.{eqb-true, eqb-false, eq-eqb, ne_eqb, leb-true}
 use Rattle.index.proofs.Flags.{by_test}
 use Rattle.index.proofs.Index.{every_at, every_same, both, gather_more}
@@ -291,6 +292,47 @@ pub within_five :
     ≡ all window_ok (five_at c t)
 unfolding all
 within_five c t p e = rw (five_is c t p e) (sym (simp (length_window, and_true)))
+
+-- five cells as a list
+five_cells :
+    (c : List ℕ) (p n : ℕ) →
+    n ≡ 5 →
+    p + 5 ≤ length c →
+    take n (drop p c) ≡ get_or c p 0 ∷ get_or c (p + 1) 0 ∷ get_or c (p + 2) 0 ∷ get_or c (p + 3) 0 ∷ get_or c (p + 4) 0 ∷ []
+five_cells c p n f h =
+    ext_get_or 0 (take n (drop p c))
+    (get_or c p 0 ∷ get_or c (p + 1) 0 ∷ get_or c (p + 2) 0 ∷ get_or c (p + 3) 0 ∷ get_or c (p + 4) 0 ∷ []) size
+    (λ i b. go i (rw size at b))
+  where
+    size : length (take n (drop p c)) ≡ 5
+    size = simp (length-take, length-drop) (omega arith)
+
+    at : (k : ℕ) → k < 5 → get_or (take n (drop p c)) k 0 ≡ get_or c (p + k) 0
+    at k b = get_or-take n (drop p c) k 0 (omega arith) ∙ get_or-drop p c k 0
+
+    go :
+        (i : ℕ) →
+        i < 5 →
+        get_or (take n (drop p c)) i 0
+        ≡ get_or (get_or c p 0 ∷ get_or c (p + 1) 0 ∷ get_or c (p + 2) 0 ∷ get_or c (p + 3) 0 ∷ get_or c (p + 4) 0 ∷ []) i 0
+    go zero b = at 0 b ∙ ap (λ (j : ℕ). get_or c j 0) (add-zero p)
+    go (suc zero) b = at 1 b
+    go (suc (suc zero)) b = at 2 b
+    go (suc (suc (suc zero))) b = at 3 b
+    go (suc (suc (suc (suc zero)))) b = at 4 b
+    go (suc (suc (suc (suc (suc i))))) b = absurd (omega arith)
+
+pub within_part :
+    (c : List ℕ) (t p n : ℕ) →
+    p ≡ t * window_count →
+    n ≡ window_count →
+    p + window_count ≤ length c →
+    list_all (λ (m : ℕ). leb m 64) (take n (drop p c)) ≡ all window_ok (five_at c t)
+within_part c t p n e f h =
+    ap (list_all (λ (m : ℕ). leb m 64)) (five_cells c p n f h)
+    ∙ ap (λ (x : Bool). leb (get_or c p 0) 64 && (leb (get_or c (p + 1) 0) 64 && (leb (get_or c (p + 2) 0) 64 && (leb (get_or c (p + 3) 0) 64 && x))))
+    (and_true (leb (get_or c (p + 4) 0) 64))
+    ∙ within_five c t p e
 
 pub clash : {A : Type 0} → false ≡ true → A
 clash e = let z : ◌≡◌ {A = ℕ} 0 1 = cc in absurd (omega arith)

@@ -23,7 +23,7 @@ const ALL_WINDOWS: usize = TOPICS * WINDOWS;
 
 const WINDOW_MOST: usize = 64;
 
-// How many places for numbers there are: no place is this one.
+// How many places for numbers there are.
 pub const PLACES: usize = ALL_WINDOWS * WINDOW_MOST;
 
 pub const STORES_CELLS: usize = ALL_WINDOWS + PLACES;

@@ -26,10 +26,9 @@ fn is_within(cells: &[u64], t: usize) -> bool
     ensures { result ≡ all window_ok (five_at cells.now t) }
 {
     let p = t * WINDOWS;
-    let most = WINDOW_MOST as u64;
-    (cells[p] <= most)
-        & ((cells[p + 1] <= most)
-            & ((cells[p + 2] <= most) & ((cells[p + 3] <= most) & (cells[p + 4] <= most))))
+    cells[p..p + WINDOWS]
+        .iter()
+        .all(|&count| count <= WINDOW_MOST as u64)
 }
 
 // Whether a number is among the first k of window w, or in a window before it.

@@ -87,7 +87,8 @@ fn flag_stored(cells: &[u64], rising: &[u64], known: &mut [bool; GIVEN])
     }
 }
 
-// A number goes behind the others of the list, unless its flag is up, as it is then; how many there are then.
+// A number goes behind the others of the list, unless its flag is up, as it is then; how many there are then. The list is the caller's, of
+// fixed length and with no heap behind it, so how much of it is in use goes beside it.
 fn next_want(
     rising: &[u64],
     n: u64,

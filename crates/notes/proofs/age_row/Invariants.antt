@@ -1,5 +1,4 @@
 -- `notes::age_row`: the first i entries are gone through, m are left.
-use Prim.Native.Nat.{◌-◌}
 use Rattle.notes.proofs.HeldLaws.{Aging}
 use Rattle.notes.proofs.age_row.Given as goal
 

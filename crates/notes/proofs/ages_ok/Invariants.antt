@@ -1,5 +1,5 @@
 -- `notes::ages_ok`: after k turns the first k ages are looked at.
-use Prim.Native.Nat.{◌≤◌, ◌-◌}
+use Prim.Native.Nat.{◌≤◌}
 use mathlib.Core.Path.{◌≡◌}
 use lib.Dec.{leb}
 use Rattle.index.specs.Index.{every}

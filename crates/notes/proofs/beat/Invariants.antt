@@ -1,6 +1,4 @@
 -- `notes::beat`: the notes of the first s slots are beaten.
-use Prim.Native.Nat.{◌-◌}
-use Rattle.records.specs.Records.{slot_count}
 use Rattle.notes.proofs.NoteLaws.{Beating}
 use Rattle.notes.proofs.beat.Given as goal
 

@@ -1,5 +1,5 @@
 -- `notes::place`: the numbers passed are at most the one to be put in.
-use Prim.Native.Nat.{ℕ, ◌≤◌, ◌<◌, ◌+◌, ◌-◌}
+use Prim.Native.Nat.{ℕ, ◌≤◌, ◌<◌, ◌+◌}
 use lib.ListN.{get_or}
 use Rattle.notes.proofs.place.Given as goal
 

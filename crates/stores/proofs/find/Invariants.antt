@@ -1,5 +1,5 @@
 -- `stores::find`: the first p windows of all lack it. Assumes nothing.
-use Prim.Native.Nat.{◌-◌, ◌≤◌}
+use Prim.Native.Nat.{◌≤◌}
 use mathlib.Core.Bool.{false}
 use mathlib.Core.Path.{◌≡◌}
 use Rattle.gossip.specs.Notes.{has, some}

@@ -1,5 +1,5 @@
 -- `stores::is_stored_in`: the first w windows lack it. Assumes nothing.
-use Prim.Native.Nat.{◌+◌, ◌*◌, ◌-◌, ◌≤◌}
+use Prim.Native.Nat.{◌+◌, ◌*◌, ◌≤◌}
 use mathlib.Core.Bool.{false}
 use mathlib.Core.Path.{◌≡◌}
 use Rattle.gossip.specs.Notes.{window_count, has, some}

@@ -1,6 +1,6 @@
 -- `stores::valid::all_apart`: after w turns the numbers of the first w windows are apart, each with its bucket marked.
 -- Assumes nothing.
-use Prim.Native.Nat.{◌-◌, ◌≤◌}
+use Prim.Native.Nat.{◌≤◌}
 use mathlib.Core.Bool.{true}
 use mathlib.Core.Path.{◌≡◌}
 use Rattle.gossip.specs.Notes.{window_count}

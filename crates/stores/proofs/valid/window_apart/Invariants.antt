@@ -1,6 +1,6 @@
 -- `stores::valid::window_apart`: after k turns the numbers up to the window's first k are apart, each with its bucket marked.
 -- Assumes nothing.
-use Prim.Native.Nat.{◌-◌, ◌≤◌}
+use Prim.Native.Nat.{◌≤◌}
 use mathlib.Core.Bool.{true}
 use mathlib.Core.Path.{◌≡◌}
 use Rattle.gossip.specs.Valid.{apart}

@@ -1,5 +1,5 @@
 -- `stores::wants::flag_stored`: after p turns the given numbers of the first p windows are flagged. Assumes nothing.
-use Prim.Native.Nat.{◌-◌, ◌≤◌}
+use Prim.Native.Nat.{◌≤◌}
 use Rattle.gossip.specs.Notes.{has, some}
 use Rattle.stores.specs.Marks.{Flags}
 use Rattle.stores.specs.View.{all_windows, window_at}

@@ -1,5 +1,5 @@
 -- `stores::wants::flag_window`: after k turns the given numbers among the window's first k are flagged. Assumes nothing.
-use Prim.Native.Nat.{◌-◌, ◌≤◌}
+use Prim.Native.Nat.{◌≤◌}
 use lib.ListN.{take}
 use Rattle.gossip.specs.Notes.{has}
 use Rattle.stores.specs.Marks.{Flags}

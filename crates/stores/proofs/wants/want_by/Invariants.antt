@@ -1,6 +1,6 @@
 -- `stores::wants::want_by`: the list has those wanted of the numbers so far, and the flags are up for these and for those
 -- that are stored. Assumes nothing.
-use Prim.Native.Nat.{◌-◌, ◌≤◌}
+use Prim.Native.Nat.{◌≤◌}
 use mathlib.Core.List.{[]}
 use lib.ListN.{length, take}
 use Rattle.gossip.specs.Step.{wanted}
