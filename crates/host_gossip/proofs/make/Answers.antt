@@ -6,18 +6,18 @@ use Rattle.host_gossip.proofs.make.Goals as goal
 pub packed-requires : goal.packed-requires
 packed-requires c = (omega arith, omega arith)
 
-pub packed-requires-in-OutOfRange : goal.packed-requires-in-OutOfRange
-packed-requires-in-OutOfRange c = (omega arith, omega arith)
+pub packed-requires-in-Err-OutOfRange : goal.packed-requires-in-Err-OutOfRange
+packed-requires-in-Err-OutOfRange c = (omega arith, omega arith)
 
-pub packed-requires-in-None : goal.packed-requires-in-None
-packed-requires-in-None c = (omega arith, making_fits _ _ _ _ _ _ _ _ c.fresh.ensures c.in-None.is)
+pub packed-requires-in-Err-Broken : goal.packed-requires-in-Err-Broken
+packed-requires-in-Err-Broken c = (omega arith, making_fits _ _ _ _ _ _ _ _ c.fresh.ensures c.in-Err-Broken.is)
 
 pub returns-in-Ok : goal.returns-in-Ok
 returns-in-Ok c = hosts_made _ _ _ _ _ _ _ _ c.fresh.ensures c.in-Ok.is _ c.packed.ensures
 
-pub returns-in-OutOfRange : goal.returns-in-OutOfRange
-returns-in-OutOfRange c = hosts_made _ _ _ _ _ _ _ _ c.fresh.ensures c.in-OutOfRange.is _ c.packed-in-OutOfRange.ensures
+pub returns-in-Err-OutOfRange : goal.returns-in-Err-OutOfRange
+returns-in-Err-OutOfRange c = hosts_made _ _ _ _ _ _ _ _ c.fresh.ensures c.in-Err-OutOfRange.is _ c.packed-in-Err-OutOfRange.ensures
 
-pub returns-in-None : goal.returns-in-None
-returns-in-None c = hosts_made _ _ _ _ _ _ _ _ c.fresh.ensures c.in-None.is _
-    c.packed-in-None.ensures
+pub returns-in-Err-Broken : goal.returns-in-Err-Broken
+returns-in-Err-Broken c = hosts_made _ _ _ _ _ _ _ _ c.fresh.ensures c.in-Err-Broken.is _
+    c.packed-in-Err-Broken.ensures

@@ -6,27 +6,27 @@ use Rattle.host_gossip.proofs.loads.fill.Goals as goal
 pub packed-requires : goal.packed-requires
 packed-requires c = (omega arith, omega arith)
 
-pub packed-requires-in-OutOfRange : goal.packed-requires-in-OutOfRange
-packed-requires-in-OutOfRange c = (omega arith, omega arith)
+pub packed-requires-in-Err-OutOfRange : goal.packed-requires-in-Err-OutOfRange
+packed-requires-in-Err-OutOfRange c = (omega arith, omega arith)
 
-pub packed-requires-in-None : goal.packed-requires-in-None
-packed-requires-in-None c = (omega arith, load_fits _ _ _ _ _ _ _ _ _ _ c.load.ensures c.in-None.is)
+pub packed-requires-in-Err-Broken : goal.packed-requires-in-Err-Broken
+packed-requires-in-Err-Broken c = (omega arith, load_fits _ _ _ _ _ _ _ _ _ _ c.load.ensures c.in-Err-Broken.is)
 
-pub packed-requires-in-Malformed : goal.packed-requires-in-Malformed
-packed-requires-in-Malformed c = (omega arith, load_fits _ _ _ _ _ _ _ _ _ _ c.load.ensures c.in-Malformed.is)
+pub packed-requires-in-Err-Malformed : goal.packed-requires-in-Err-Malformed
+packed-requires-in-Err-Malformed c = (omega arith, load_fits _ _ _ _ _ _ _ _ _ _ c.load.ensures c.in-Err-Malformed.is)
 
 pub returns-in-Ok : goal.returns-in-Ok
 returns-in-Ok c = hosts_load_all _ _ _ _ _ _ _ _ _ _ c.load.ensures c.in-Ok.is _
     c.packed.ensures
 
-pub returns-in-OutOfRange : goal.returns-in-OutOfRange
-returns-in-OutOfRange c = hosts_load_all _ _ _ _ _ _ _ _ _ _ c.load.ensures c.in-OutOfRange.is _
-    c.packed-in-OutOfRange.ensures
+pub returns-in-Err-OutOfRange : goal.returns-in-Err-OutOfRange
+returns-in-Err-OutOfRange c = hosts_load_all _ _ _ _ _ _ _ _ _ _ c.load.ensures c.in-Err-OutOfRange.is _
+    c.packed-in-Err-OutOfRange.ensures
 
-pub returns-in-None : goal.returns-in-None
-returns-in-None c = hosts_load_all _ _ _ _ _ _ _ _ _ _ c.load.ensures c.in-None.is _
-    c.packed-in-None.ensures
+pub returns-in-Err-Broken : goal.returns-in-Err-Broken
+returns-in-Err-Broken c = hosts_load_all _ _ _ _ _ _ _ _ _ _ c.load.ensures c.in-Err-Broken.is _
+    c.packed-in-Err-Broken.ensures
 
-pub returns-in-Malformed : goal.returns-in-Malformed
-returns-in-Malformed c = hosts_load_all _ _ _ _ _ _ _ _ _ _ c.load.ensures c.in-Malformed.is _
-    c.packed-in-Malformed.ensures
+pub returns-in-Err-Malformed : goal.returns-in-Err-Malformed
+returns-in-Err-Malformed c = hosts_load_all _ _ _ _ _ _ _ _ _ _ c.load.ensures c.in-Err-Malformed.is _
+    c.packed-in-Err-Malformed.ensures
