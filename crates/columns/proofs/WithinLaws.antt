@@ -1,6 +1,7 @@
 -- What the unions of the passes tell of the state: each cell is within its limit, and the cells in use are the records.
 -- Assumes nothing.
-use Rattle.std.proofs.Common.{◌≡◌, ℕ, ◌+◌, ◌-◌, ◌*◌, ◌/◌, ◌%◌, ◌<◌, ◌≤◌, true, ◌&&◌, eqb, ltb, List, get_or, sym, refl, ap, ◌∙◌, subst, not-suc-le-zero, arith, ltb-true, eqb-true}
+use Rattle.std.proofs.Common.{◌≡◌, ℕ, ◌+◌, ◌-◌, ◌*◌, ◌/◌, ◌%◌, ◌<◌, ◌≤◌, true, ◌&&◌, eqb, ltb, List, get_or, sym, refl, ap, ◌∙◌, subst, not-suc-le-zero, arith}
+use Rattle.std.proofs.Common.{ltb-true, eqb-true}
 use lib.Bits.{bit_or}
 use native.Mathlib.Decide.{dec_lt}
 use Rattle.index.proofs.Index.{both}

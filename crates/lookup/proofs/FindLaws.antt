@@ -4,7 +4,7 @@ use Rattle.std.proofs.Common.{Option, Some, None}
 use Rattle.std.specs.Option.{MatchOption}
 use Prim.Native.Nat.{zero, suc}
 use native.Mathlib.Numerals.{add-one}
-use Rattle.index.proofs.Kit.{ℕ, ◌<◌, ◌≤◌, ◌+◌, ◌≡◌, refl, sym, ap, ◌∙◌, Bool, true, false, arith, first, by_test}
+use Rattle.index.proofs.Kit.{ℕ, ◌<◌, ◌≤◌, ◌≡◌, refl, sym, ap, ◌∙◌, Bool, true, false, arith, first, by_test}
 use borrow.Author.Tests.{eqb-true, eqb-false, eq-eqb}
 use lib.Dec.{eqb}
 use Rattle.index.proofs.Index.{both, first_none, first_more, first_out, first_is, first_passed}

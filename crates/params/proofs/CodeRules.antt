@@ -1,6 +1,6 @@
 -- The joint rules, of codes: two codes of one sign stand to each other as the numbers' magnitudes do.
 -- Assumes nothing.
-use Rattle.index.proofs.Kit.{ℕ, ◌+◌, ◌*◌, ◌<◌, ◌≤◌, ◌≡◌, refl, sym, ap, ◌∙◌, Bool, true, arith}
+use Rattle.index.proofs.Kit.{ℕ, ◌+◌, ◌*◌, ◌<◌, ◌≤◌, ◌≡◌, refl, sym, ap, ◌∙◌, Bool, arith}
 use Rattle.index.specs.Index.{every}
 use Prim.Native.Nat.{suc}
 use mathlib.Core.Path.{ap₂}
@@ -16,7 +16,7 @@ use Rattle.limits.specs.Limits.{limits, limit_at, field_of, place, at}
 use Rattle.limits.proofs.LimitLaws.{topic_field}
 use Rattle.params.specs.declared.Edition.{Edition}
 use Rattle.params.specs.declared.Edition.TheVariants.{First, Second}
-use Rattle.params.specs.Joint.{rule_count, cap_rule, score_rule, joint, rule}
+use Rattle.params.specs.Joint.{cap_rule, score_rule, joint, rule}
 use Rattle.limits.proofs.FieldLaws.{Within, code_at, gain_at, loss_at, most_of}
 
 -- ---- numbers of one sign, by their codes

@@ -24,7 +24,7 @@ use Rattle.params.specs.Editions.{sheet}
 use Rattle.params.specs.Check.{first_broken}
 use Rattle.records.specs.Records.{param_count}
 use Rattle.params_bytes.specs.Read.{Parse, numbers, malformed, then, step, parse_from, edition_at, front_bytes, parse_at, Parses}
-use Rattle.params_bytes.specs.Read.{Reading, told_with, told, refusal, judged_by, judged, read_of, front_at}
+use Rattle.params_bytes.specs.Read.{Reading, told_with, told, judged_by, read_of, front_at}
 
 then_then : (xs ys : List ℤ) (p : Parse) → then xs (then ys p) ≡ then (xs ++ ys) p
 then_then xs ys (numbers zs next) = ap (λ (l : List ℤ). numbers l next) (sym (append_assoc xs ys zs))

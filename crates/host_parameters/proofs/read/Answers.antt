@@ -11,10 +11,12 @@ packed-requires c = (
 )
 
 pub packed-requires-in-Err-Malformed : goal.packed-requires-in-Err-Malformed
-packed-requires-in-Err-Malformed c = (omega arith, read_fits _ _ _ refl (as_refused _ _ (sym (rw c.in-Err-Malformed.field-0-is at c.in-Err-Malformed.is) ∙ c.read.ensures)))
+packed-requires-in-Err-Malformed c =
+    (omega arith, read_fits _ _ _ refl (as_refused _ _ (sym (rw c.in-Err-Malformed.field-0-is at c.in-Err-Malformed.is) ∙ c.read.ensures)))
 
 pub packed-requires-in-Err-Broken : goal.packed-requires-in-Err-Broken
-packed-requires-in-Err-Broken c = (omega arith, read_fits _ _ _ refl (as_refused _ _ (sym (rw c.in-Err-Broken.field-0-is at c.in-Err-Broken.is) ∙ c.read.ensures)))
+packed-requires-in-Err-Broken c =
+    (omega arith, read_fits _ _ _ refl (as_refused _ _ (sym (rw c.in-Err-Broken.field-0-is at c.in-Err-Broken.is) ∙ c.read.ensures)))
 
 pub returns-in-Ok : goal.returns-in-Ok
 returns-in-Ok c = hosts_read _ _ _ (as_taken _ _ _ (sym c.in-Ok.is ∙ c.read.ensures)) refl

@@ -1,5 +1,5 @@
 -- `limits::field_lies`: after k turns the topics below k are right. Assumes nothing.
-use Rattle.index.proofs.Kit.{◌≤◌, ◌-◌, ◌≡◌, every, true}
+use Rattle.index.proofs.Kit.{◌≤◌, ◌≡◌, every, true}
 use lib.ListN.{get_or}
 use Rattle.varint.specs.Codes.{number_of}
 use Rattle.records.specs.Records.{topic_count}

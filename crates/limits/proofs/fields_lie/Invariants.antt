@@ -1,5 +1,5 @@
 -- `limits::fields_lie`: after j turns the topics' first j numbers are between their limits. Assumes nothing.
-use Rattle.index.proofs.Kit.{◌≤◌, ◌-◌, ◌≡◌, every, true}
+use Rattle.index.proofs.Kit.{◌≤◌, ◌≡◌, every, true}
 use mathlib.Core.List.{map}
 use Rattle.varint.specs.Codes.{number_of}
 use Rattle.limits.specs.Limits.{of_topic, in_limits}

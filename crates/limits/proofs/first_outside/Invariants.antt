@@ -1,6 +1,6 @@
 -- `limits::first_outside` meets its contract. Assumes nothing.
 use Rattle.std.proofs.Common.{None}
-use Rattle.index.proofs.Kit.{◌≤◌, ◌-◌, ◌≡◌, first}
+use Rattle.index.proofs.Kit.{◌≤◌, ◌≡◌, first}
 use mathlib.Core.List.{map}
 use Rattle.varint.specs.Codes.{number_of}
 use Rattle.records.specs.Records.{param_count}

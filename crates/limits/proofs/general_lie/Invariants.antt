@@ -1,5 +1,5 @@
 -- `limits::general_lie`: after i turns the first i numbers are between their limits. Assumes nothing.
-use Rattle.index.proofs.Kit.{◌≤◌, ◌-◌, ◌≡◌, every, true}
+use Rattle.index.proofs.Kit.{◌≤◌, ◌≡◌, every, true}
 use mathlib.Core.List.{map}
 use Rattle.varint.specs.Codes.{number_of}
 use Rattle.limits.specs.Limits.{general_count, in_limits}

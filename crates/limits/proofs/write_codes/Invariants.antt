@@ -1,5 +1,4 @@
 -- `limits::write_codes`: the loop builds the codes from the front.
-use Rattle.index.proofs.Kit.{◌-◌}
 use lib.ListN.{get_or}
 use lib.IntN.{pos}
 use Rattle.index.proofs.Lists.{Built}

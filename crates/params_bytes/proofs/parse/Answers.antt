@@ -2,7 +2,6 @@ use mathlib.Core.Path.{refl, ◌∙◌}
 use native.Mathlib.Omega.{arith}
 use borrow.Author.Rules.{rules, sfits_of}
 use lib.ListN.{length-set}
-use mathlib.Core.List.{[]}
 use mir.Syntax.{w64}
 use mir.Facts.{to_z-of_z}
 use Rattle.records.specs.Records.{param_count}

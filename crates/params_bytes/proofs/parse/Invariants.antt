@@ -1,6 +1,6 @@
 -- `params_bytes::parse`: after i numbers they are the first i of the array, and the rest of the bytes completes them (`After`). Assumes
 -- nothing.
-use Prim.Native.Nat.{◌≤◌, ◌-◌}
+use Prim.Native.Nat.{◌≤◌}
 use mathlib.Core.Path.{◌≡◌}
 use lib.ListN.{length}
 use Rattle.records.specs.Records.{param_count}

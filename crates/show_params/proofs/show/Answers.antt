@@ -19,6 +19,7 @@ returns-in-Err-Malformed c = (
 
 pub returns-in-Err-Broken : goal.returns-in-Err-Broken
 returns-in-Err-Broken c = (
-  shown_refused _ _ _ refl (as_refused _ _ (sym (rw c.in-Err-Broken.field-0-is at c.in-Err-Broken.is) ∙ c.read.ensures)) refl _ _ _ c.put_head-in-Err-Broken.ensures.0,
+  shown_refused _ _ _ refl (as_refused _ _ (sym (rw c.in-Err-Broken.field-0-is at c.in-Err-Broken.is) ∙ c.read.ensures)) refl _ _ _
+      c.put_head-in-Err-Broken.ensures.0,
   omega arith,
 )

@@ -1,8 +1,6 @@
 -- `supplier_params::put` meets its contract.
 -- The loop keeps the first i entries written, and the rest of the buffer as it was.
 -- Assumes nothing.
-use Rattle.index.proofs.Kit.{◌-◌}
-use Rattle.records.specs.Records.{param_count}
 use Rattle.supplier_params.proofs.ExportLaws.{Put}
 use Rattle.supplier_params.proofs.put.Given as goal
 

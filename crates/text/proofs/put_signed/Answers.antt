@@ -9,13 +9,15 @@ pub bounds-buf-at : goal.bounds-buf-at
 bounds-buf-at c = omega (arith, ap length (text_neg _ _ _ c.ranges.n c.nat_abs-size.ensures c.is_negative.ensures c.if-is_negative.true))
 
 pub put_decimal-requires : goal.put_decimal-requires
-put_decimal-requires c = simp length-set (omega (arith, ap length (text_neg _ _ _ c.ranges.n c.nat_abs-size.ensures c.is_negative.ensures c.if-is_negative.true)))
+put_decimal-requires c =
+    simp length-set (omega (arith, ap length (text_neg _ _ _ c.ranges.n c.nat_abs-size.ensures c.is_negative.ensures c.if-is_negative.true)))
 
 pub shape_of-buf-then-is_negative : goal.shape_of-buf-then-is_negative
 shape_of-buf-then-is_negative c = c.put_decimal.auto.buf ∙ simp length-set
 
 pub returns-then-is_negative : goal.returns-then-is_negative
-returns-then-is_negative c = stored_first _ _ _ _ _ _ _ (text_neg _ _ _ c.ranges.n c.nat_abs-size.ensures c.is_negative.ensures c.if-is_negative.true) c.put_decimal.ensures
+returns-then-is_negative c =
+    stored_first _ _ _ _ _ _ _ (text_neg _ _ _ c.ranges.n c.nat_abs-size.ensures c.is_negative.ensures c.if-is_negative.true) c.put_decimal.ensures
 
 pub put_decimal-requires-2 : goal.put_decimal-requires-2
 put_decimal-requires-2 c = omega (arith, ap length (text_pos _ _ _ c.ranges.n c.nat_abs-size.ensures c.is_negative.ensures c.if-is_negative.false))

@@ -1,6 +1,5 @@
 -- `words::differ` meets its contract. The loop builds the words from the front.
 -- Assumes nothing.
-use Prim.Native.Nat.{◌-◌}
 use mathlib.Core.Path.{◌≡◌}
 use lib.ListN.{length, get_or}
 use lib.Bits.{bit_xor}

@@ -2,7 +2,6 @@ use native.Mathlib.Omega.{arith}
 use borrow.Author.Rules.{rules}
 use mathlib.Core.Path.{◌≡◌}
 use lib.ListN.{length}
-use Rattle.records.specs.Records.{slot_count}
 use Rattle.words.specs.Words.{word_count, bits_of}
 use Rattle.words.proofs.WideLaws.{bits_of_length}
 use Rattle.words.proofs.NextLaws.{next_lowest}

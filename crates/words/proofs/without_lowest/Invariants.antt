@@ -1,6 +1,6 @@
 -- `words::without_lowest` meets its contract. The words passed are 0, and nothing is changed yet.
 -- Assumes nothing.
-use Prim.Native.Nat.{◌-◌, ◌≤◌}
+use Prim.Native.Nat.{◌≤◌}
 use mathlib.Core.Path.{◌≡◌}
 use lib.ListN.{length}
 use Rattle.words.specs.Words.{word_count}

@@ -6,4 +6,5 @@ use Rattle.records.specs.Records.{set_topic, place, no_topic}
 use Rattle.effects.proofs.connections.empty_topics.Given as goal
 
 abbrev pub invariant-loop-t : goal.invariant-loop-t
-invariant-loop-t l = (l.t ≤ 8) × (length l.table ≡ cell_count) × (state_of l.table ≡ iter l.t (λ t u. set_topic u (place l.slot t) no_topic) (state_of l.initial.table))
+invariant-loop-t l =
+    (l.t ≤ 8) × (length l.table ≡ cell_count) × (state_of l.table ≡ iter l.t (λ t u. set_topic u (place l.slot t) no_topic) (state_of l.initial.table))

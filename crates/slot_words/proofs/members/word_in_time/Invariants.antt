@@ -7,7 +7,8 @@ use Rattle.slot_words.proofs.members.word_in_time.Given as goal
 
 abbrev pub invariant-loop-b : goal.invariant-loop-b
 invariant-loop-b l =
-    Walked (λ j. (topic_in (state_of l.table) (place (64 * l.i + j) l.t)).graft + (topic_in (state_of l.table) (place (64 * l.i + j) l.t)).mesh ≤ l.clock) l.w l.b
+    Walked (λ j. (topic_in (state_of l.table) (place (64 * l.i + j) l.t)).graft + (topic_in (state_of l.table) (place (64 * l.i + j) l.t)).mesh ≤ l.clock) l.w
+    l.b
 
 abbrev pub decreases-loop-b : goal.decreases-loop-b
 decreases-loop-b l = l.b

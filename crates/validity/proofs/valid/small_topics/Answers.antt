@@ -30,7 +30,8 @@ small_topic_ok-requires c = (
 )
 
 pub returns-then-not-small_topic_ok : goal.returns-then-not-small_topic_ok
-returns-then-not-small_topic_ok c = every_out _ _ _ (omega arith) (sym (told (goal.at.returns-then-not-small_topic_ok c).After-small_topic_ok) ∙ c.if-not-small_topic_ok.true)
+returns-then-not-small_topic_ok c =
+    every_out _ _ _ (omega arith) (sym (told (goal.at.returns-then-not-small_topic_ok c).After-small_topic_ok) ∙ c.if-not-small_topic_ok.true)
 
 pub loop-t-preserved : goal.loop-t-preserved
 loop-t-preserved c = (

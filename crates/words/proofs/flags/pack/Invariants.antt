@@ -1,6 +1,5 @@
 -- `words::flags::pack` meets its contract. The words made so far have the flags of their slots.
 -- Assumes nothing.
-use Prim.Native.Nat.{◌-◌}
 use mathlib.Core.Path.{◌≡◌}
 use lib.ListN.{length}
 use Rattle.records.specs.Records.{slot_count}

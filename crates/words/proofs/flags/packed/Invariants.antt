@@ -1,7 +1,5 @@
 -- `words::flags::packed` meets its contract. The bits below j are the flags passed, and those above are 0.
 -- Assumes nothing.
-use Prim.Native.Nat.{◌-◌}
-use Rattle.words.specs.Words.{word_bits}
 use Rattle.words.proofs.WideLaws.{Packing}
 use Rattle.words.proofs.flags.packed.Given as goal
 

@@ -1,6 +1,5 @@
 -- `words::flags::unpack` meets its contract. The loop builds the flags from the front.
 -- Assumes nothing.
-use Prim.Native.Nat.{◌-◌}
 use mathlib.Core.Path.{◌≡◌}
 use mathlib.Core.Bool.{false}
 use lib.ListN.{length, get_or}
