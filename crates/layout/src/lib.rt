@@ -1,6 +1,6 @@
 // How one lent table of numbers holds the router's state: the only code that computes an offset. A change of the layout is made here
 // and in specs/View.antt. Everything above goes by the contracts, which speak of the state that the table holds.
-// A table is any slice of CELLS numbers, as each contract asks: the type [u64; CELLS] would ask more of the crates above, which hold slices.
+// A table is any slice of CELLS numbers, as each contract asks: the type [u64; CELLS] would ask more of crates that hold slices.
 // A flag is a number, 0 or 1, as in the records: a damaged one can be any number, and test 12 refuses it.
 #![tactic(auto)]
 
