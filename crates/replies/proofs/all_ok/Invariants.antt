@@ -1,5 +1,5 @@
 -- `replies::all_ok`: after r turns the first r rows rise and are within their bounds.
-use Prim.Native.Nat.{◌-◌, ◌≤◌}
+use Prim.Native.Nat.{◌≤◌}
 use mathlib.Core.Path.{◌≡◌}
 use lib.ListN.{length}
 use Rattle.replies.specs.View.{rows_in, replies_of}

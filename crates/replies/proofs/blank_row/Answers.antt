@@ -1,6 +1,4 @@
-use mathlib.Core.Path.{refl}
 use native.Mathlib.Omega.{arith}
-use lib.ListN.{length-set}
 use Rattle.gossip.proofs.CellLaws.{filled}
 use Rattle.replies.specs.View.{start_of}
 use Rattle.replies.proofs.RowLaws.{blank_set}

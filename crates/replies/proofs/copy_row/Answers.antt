@@ -1,4 +1,3 @@
-use Prim.Native.Nat.{◌+◌}
 use native.Mathlib.Omega.{arith}
 use Rattle.replies.proofs.RowLaws.{copy_set}
 use Rattle.replies.proofs.copy_row.Goals as goal

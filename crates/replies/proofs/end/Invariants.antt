@@ -1,5 +1,5 @@
 -- `replies::end`: after r turns the slot has no count in the first r rows.
-use Prim.Native.Nat.{◌-◌, ◌≤◌}
+use Prim.Native.Nat.{◌≤◌}
 use mathlib.Core.Path.{◌≡◌}
 use lib.ListN.{length}
 use Rattle.replies.specs.View.{rows_in, replies_of}

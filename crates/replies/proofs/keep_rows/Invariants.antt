@@ -1,5 +1,5 @@
 -- `replies::keep_rows`: after r turns the rows below w are those of the first r that are kept.
-use Prim.Native.Nat.{◌-◌, ◌≤◌}
+use Prim.Native.Nat.{◌≤◌}
 use mathlib.Core.Path.{◌≡◌}
 use lib.ListN.{length}
 use Rattle.replies.specs.View.{rows_in, replies_of}

@@ -1,5 +1,5 @@
 -- `replies::lanes_ok`: after j turns the first j lanes are within their bounds.
-use Prim.Native.Nat.{◌+◌, ◌*◌, ◌-◌, ◌≤◌}
+use Prim.Native.Nat.{◌+◌, ◌*◌, ◌≤◌}
 use mathlib.Core.Path.{◌≡◌}
 use mathlib.Core.Bool.{true}
 use Rattle.index.specs.Index.{every}

@@ -1,5 +1,5 @@
 -- `replies::limits`: after k turns the first k cells of limits are there.
-use Prim.Native.Nat.{◌-◌, ◌≤◌}
+use Prim.Native.Nat.{◌≤◌}
 use mathlib.Core.Path.{◌≡◌}
 use lib.ListN.{length}
 use Rattle.replies.specs.View.{lane_cells}
