@@ -85,7 +85,8 @@ fn shares(table: &[u64], group: u64, slot: usize) -> u64
 {
     let status = layout::load_status(table, slot);
     let holds = holds_group(layout::load_groups(table, slot), group);
-    u64::from((status == 1) & holds)
+    // not u64::from: the proof goes by the two cases
+    if (status == 1) & holds { 1 } else { 0 }
 }
 
 // How many connected peers hold the group. No slot from where the records end on has one.
