@@ -7,7 +7,7 @@ returns-in-Err-Unread c =
     let u = c.read_numbers in
     let n = c.order_size-n in
     heartbeat_unread _ c.args.v.now _ _ c.args.edition n.ensures.0 u.result _ u.ensures.0 _ _ _ _
-    (rw c.in-Err-Unread.field-0-is at c.in-Err-Unread.is) c.unread.ensures
+    (rw c.in-Err-Unread.field-0-is at c.in-Err-Unread.is) (rw c.in-Err-Unread.field-0-is at c.unread.ensures)
 
 pub returns : goal.returns
 returns c =

@@ -15,7 +15,7 @@ pub returns-in-Err-Unread : goal.returns-in-Err-Unread
 returns-in-Err-Unread c =
     let u = c.read_numbers in
     kind_unread c.args.edition _ c.args.kind _ _ u.result _ u.ensures.0 _ _ _ _ (rw c.in-Err-Unread.field-0-is at c.in-Err-Unread.is)
-    c.unread.ensures
+    (rw c.in-Err-Unread.field-0-is at c.unread.ensures)
 
 pub call-requires : goal.call-requires
 call-requires c = ((search rules), (search rules))
