@@ -6,25 +6,25 @@ use Rattle.host_saves.proofs.fill.Goals as goal
 pub packed-requires : goal.packed-requires
 packed-requires c = (omega arith, omega arith)
 
-pub packed-requires-in-OutOfRange : goal.packed-requires-in-OutOfRange
-packed-requires-in-OutOfRange c = (omega arith, omega arith)
+pub packed-requires-in-Err-OutOfRange : goal.packed-requires-in-Err-OutOfRange
+packed-requires-in-Err-OutOfRange c = (omega arith, omega arith)
 
-pub packed-requires-in-Broken : goal.packed-requires-in-Broken
-packed-requires-in-Broken c = (omega arith, load_fits _ _ _ _ _ _ _ c.load.ensures c.in-Broken.is)
+pub packed-requires-in-Err-Broken : goal.packed-requires-in-Err-Broken
+packed-requires-in-Err-Broken c = (omega arith, load_fits _ _ _ _ _ _ _ c.load.ensures (rw c.in-Err-Broken.field-0-is at c.in-Err-Broken.is))
 
-pub packed-requires-in-Malformed : goal.packed-requires-in-Malformed
-packed-requires-in-Malformed c = (omega arith, load_fits _ _ _ _ _ _ _ c.load.ensures c.in-Malformed.is)
+pub packed-requires-in-Err-Malformed : goal.packed-requires-in-Err-Malformed
+packed-requires-in-Err-Malformed c = (omega arith, load_fits _ _ _ _ _ _ _ c.load.ensures (rw c.in-Err-Malformed.field-0-is at c.in-Err-Malformed.is))
 
 pub returns-in-Ok : goal.returns-in-Ok
 returns-in-Ok c = hosts_load _ _ _ _ _ _ _ c.load.ensures c.in-Ok.is _ c.packed.ensures
 
-pub returns-in-OutOfRange : goal.returns-in-OutOfRange
-returns-in-OutOfRange c = hosts_load _ _ _ _ _ _ _ c.load.ensures c.in-OutOfRange.is _ c.packed-in-OutOfRange.ensures
+pub returns-in-Err-OutOfRange : goal.returns-in-Err-OutOfRange
+returns-in-Err-OutOfRange c = hosts_load _ _ _ _ _ _ _ c.load.ensures (rw c.in-Err-OutOfRange.field-0-is at c.in-Err-OutOfRange.is) _ c.packed-in-Err-OutOfRange.ensures
 
-pub returns-in-Broken : goal.returns-in-Broken
-returns-in-Broken c = hosts_load _ _ _ _ _ _ _ c.load.ensures c.in-Broken.is _
-    c.packed-in-Broken.ensures
+pub returns-in-Err-Broken : goal.returns-in-Err-Broken
+returns-in-Err-Broken c = hosts_load _ _ _ _ _ _ _ c.load.ensures (rw c.in-Err-Broken.field-0-is at c.in-Err-Broken.is) _
+    c.packed-in-Err-Broken.ensures
 
-pub returns-in-Malformed : goal.returns-in-Malformed
-returns-in-Malformed c = hosts_load _ _ _ _ _ _ _ c.load.ensures c.in-Malformed.is _
-    c.packed-in-Malformed.ensures
+pub returns-in-Err-Malformed : goal.returns-in-Err-Malformed
+returns-in-Err-Malformed c = hosts_load _ _ _ _ _ _ _ c.load.ensures (rw c.in-Err-Malformed.field-0-is at c.in-Err-Malformed.is) _
+    c.packed-in-Err-Malformed.ensures

@@ -9,34 +9,34 @@ packed-requires c = (
   save_fits _ _ _ _ _ _ c.save.ensures c.in-Ok.is _ refl,
 )
 
-pub packed-requires-in-Early : goal.packed-requires-in-Early
-packed-requires-in-Early c = (omega arith, omega arith)
+pub packed-requires-in-Err-Early : goal.packed-requires-in-Err-Early
+packed-requires-in-Err-Early c = (omega arith, omega arith)
 
-pub packed-requires-in-OutOfRange : goal.packed-requires-in-OutOfRange
-packed-requires-in-OutOfRange c = (omega arith, omega arith)
+pub packed-requires-in-Err-OutOfRange : goal.packed-requires-in-Err-OutOfRange
+packed-requires-in-Err-OutOfRange c = (omega arith, omega arith)
 
-pub packed-requires-in-NotRouter : goal.packed-requires-in-NotRouter
-packed-requires-in-NotRouter c = (omega arith, omega arith)
+pub packed-requires-in-Err-NotRouter : goal.packed-requires-in-Err-NotRouter
+packed-requires-in-Err-NotRouter c = (omega arith, omega arith)
 
-pub packed-requires-in-Short : goal.packed-requires-in-Short
-packed-requires-in-Short c = (omega arith, omega arith)
+pub packed-requires-in-Err-Short : goal.packed-requires-in-Err-Short
+packed-requires-in-Err-Short c = (omega arith, omega arith)
 
 pub returns-in-Ok : goal.returns-in-Ok
 returns-in-Ok c = hosts_save _ _ _ _ _ _ c.save.ensures c.in-Ok.is _
     c.packed.ensures
 
-pub returns-in-Early : goal.returns-in-Early
-returns-in-Early c = hosts_save _ _ _ _ _ _ c.save.ensures c.in-Early.is _
-    c.packed-in-Early.ensures
+pub returns-in-Err-Early : goal.returns-in-Err-Early
+returns-in-Err-Early c = hosts_save _ _ _ _ _ _ c.save.ensures (rw c.in-Err-Early.field-0-is at c.in-Err-Early.is) _
+    c.packed-in-Err-Early.ensures
 
-pub returns-in-OutOfRange : goal.returns-in-OutOfRange
-returns-in-OutOfRange c = hosts_save _ _ _ _ _ _ c.save.ensures c.in-OutOfRange.is _
-    c.packed-in-OutOfRange.ensures
+pub returns-in-Err-OutOfRange : goal.returns-in-Err-OutOfRange
+returns-in-Err-OutOfRange c = hosts_save _ _ _ _ _ _ c.save.ensures (rw c.in-Err-OutOfRange.field-0-is at c.in-Err-OutOfRange.is) _
+    c.packed-in-Err-OutOfRange.ensures
 
-pub returns-in-NotRouter : goal.returns-in-NotRouter
-returns-in-NotRouter c = hosts_save _ _ _ _ _ _ c.save.ensures c.in-NotRouter.is _
-    c.packed-in-NotRouter.ensures
+pub returns-in-Err-NotRouter : goal.returns-in-Err-NotRouter
+returns-in-Err-NotRouter c = hosts_save _ _ _ _ _ _ c.save.ensures (rw c.in-Err-NotRouter.field-0-is at c.in-Err-NotRouter.is) _
+    c.packed-in-Err-NotRouter.ensures
 
-pub returns-in-Short : goal.returns-in-Short
-returns-in-Short c = hosts_save _ _ _ _ _ _ c.save.ensures c.in-Short.is _
-    c.packed-in-Short.ensures
+pub returns-in-Err-Short : goal.returns-in-Err-Short
+returns-in-Err-Short c = hosts_save _ _ _ _ _ _ c.save.ensures (rw c.in-Err-Short.field-0-is at c.in-Err-Short.is) _
+    c.packed-in-Err-Short.ensures

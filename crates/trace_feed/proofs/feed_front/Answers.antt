@@ -12,7 +12,7 @@ feed_params-requires c = (
 pub returns-then-last : goal.returns-then-last
 returns-then-last c =
     front_ends _ _ c.front_in.ensures _
-    c.in-Cut.is _ _ _ _ c.if-last.true
+    (rw c.in-Err-Cut.field-0-is at c.in-Err-Cut.is) _ _ _ _ c.if-last.true
     c.put_pair-then-last.ensures
 
 pub returns-in-Ok : goal.returns-in-Ok
@@ -20,10 +20,10 @@ returns-in-Ok c =
     front_begins _ _ c.front_in.ensures _ _ _ _ _ _ _ _
     c.in-Ok.is c.feed_params.ensures
 
-pub returns-in-Other : goal.returns-in-Other
-returns-in-Other c =
+pub returns-in-Err-Other : goal.returns-in-Err-Other
+returns-in-Err-Other c =
     front_other _ _ c.front_in.ensures _ _ _ _ _
-    c.in-Other.is c.put_pair.ensures
+    (rw c.in-Err-Other.field-0-is at c.in-Err-Other.is) c.put_pair.ensures
 
 pub returns-else-last : goal.returns-else-last
-returns-else-last c = front_want _ _ c.front_in.ensures _ c.in-Cut.is _ _ c.if-last.false
+returns-else-last c = front_want _ _ c.front_in.ensures _ (rw c.in-Err-Cut.field-0-is at c.in-Err-Cut.is) _ _ c.if-last.false

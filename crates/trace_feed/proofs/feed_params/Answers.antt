@@ -8,7 +8,7 @@ pub returns-then-last-cut_short : goal.returns-then-last-cut_short
 returns-then-last-cut_short c =
     params_want _ _ _ _ c.requires.1 _
     refl _ _ (as_refused _ _ (sym (rw c.in-Err-Malformed.field-0-is at c.in-Err-Malformed.is) ∙ c.read_front.ensures))
-    c.cut_short.ensures _ _
+    (rw c.in-Err-Malformed.field-0-is at c.cut_short.ensures) _ _
     c.if-last-cut_short.true
 
 pub returns-in-Ok : goal.returns-in-Ok
@@ -21,10 +21,10 @@ pub returns-else-last-cut_short : goal.returns-else-last-cut_short
 returns-else-last-cut_short c =
     params_malformed _ _ _ _ c.requires.1 _
     refl _ _ (as_refused _ _ (sym (rw c.in-Err-Malformed.field-0-is at c.in-Err-Malformed.is) ∙ c.read_front.ensures))
-    c.cut_short.ensures
-    _ _ _ _ c.if-last-cut_short.false c.put_pair.ensures
+    (rw c.in-Err-Malformed.field-0-is at c.cut_short.ensures)
+    _ _ _ _ c.if-last-cut_short.false (rw c.in-Err-Malformed.field-0-is at c.put_pair.ensures)
 
 pub returns-in-Err-Broken : goal.returns-in-Err-Broken
 returns-in-Err-Broken c =
     params_broken _ _ _ _ c.requires.1 _
-    refl _ _ _ _ _ (as_refused _ _ (sym (rw c.in-Err-Broken.field-0-is at c.in-Err-Broken.is) ∙ c.read_front.ensures)) c.put_pair-in-Err-Broken.ensures
+    refl _ _ _ _ _ (as_refused _ _ (sym (rw c.in-Err-Broken.field-0-is at c.in-Err-Broken.is) ∙ c.read_front.ensures)) (rw c.in-Err-Broken.field-0-is at c.put_pair-in-Err-Broken.ensures)

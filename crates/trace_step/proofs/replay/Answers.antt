@@ -24,22 +24,22 @@ returns-in-Ok c =
     (event_called _ _ _ _ _ _ p.ensures _ _ _ _ _ refl c.in-Ok.is
     c.put_reply.ensures)
 
-pub returns-in-Unknown : goal.returns-in-Unknown
-returns-in-Unknown c =
+pub returns-in-Err-Unknown : goal.returns-in-Err-Unknown
+returns-in-Err-Unknown c =
     let p = c.perform-done in
     replay_event_lem _ _ _ _ _ _ _ _ c.if-out-lt-LINE_ROOM.false
-    (event_unknown _ _ _ _ _ _ p.ensures _ _ _ c.in-Unknown.is
+    (event_unknown _ _ _ _ _ _ p.ensures _ _ _ (rw c.in-Err-Unknown.field-0-is at c.in-Err-Unknown.is)
     c.put_pair.ensures)
 
-pub returns-in-Malformed : goal.returns-in-Malformed
-returns-in-Malformed c =
+pub returns-in-Err-Malformed : goal.returns-in-Err-Malformed
+returns-in-Err-Malformed c =
     let p = c.perform-done in
     replay_event_lem _ _ _ _ _ _ _ _ c.if-out-lt-LINE_ROOM.false
-    (event_malformed _ _ _ _ _ _ p.ensures _ _ _ c.in-Malformed.is
-    c.put_pair-in-Malformed.ensures)
+    (event_malformed _ _ _ _ _ _ p.ensures _ _ _ (rw c.in-Err-Malformed.field-0-is at c.in-Err-Malformed.is)
+    c.put_pair-in-Err-Malformed.ensures)
 
-pub returns-in-CutShort : goal.returns-in-CutShort
-returns-in-CutShort c =
+pub returns-in-Err-CutShort : goal.returns-in-Err-CutShort
+returns-in-Err-CutShort c =
     let p = c.perform-done in
     replay_event_lem _ _ _ _ _ _ _ _ c.if-out-lt-LINE_ROOM.false
-    (event_short _ _ _ _ _ _ p.ensures _ c.in-CutShort.is)
+    (event_short _ _ _ _ _ _ p.ensures _ (rw c.in-Err-CutShort.field-0-is at c.in-Err-CutShort.is))
