@@ -8,7 +8,7 @@ use mathlib.Core.List.{List, []}
 use native.Mathlib.Omega.{arith}
 use lib.ListN.{length}
 use lib.IntN.{ℤ}
-use Rattle.core.specs.Option.{ok_or}
+use Rattle.std.specs.Prelude.{ok_or}
 use Rattle.index.proofs.Index.{both}
 use Rattle.varint.specs.Codes.{code_of}
 use Rattle.records.specs.Records.{State, slot_count, set_clock}

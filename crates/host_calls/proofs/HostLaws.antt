@@ -2,7 +2,7 @@
 -- Assumes nothing.
 use Rattle.std.proofs.Common.{Option, Some, None, Result}
 use Rattle.lookup.specs.declared.FreshError.{FreshError}
-use Rattle.core.specs.Int.{from_bool}
+use Rattle.std.specs.Int.{from_bool}
 use Rattle.index.proofs.Kit.{ℕ, ◌≤◌, ◌≡◌, refl, sym, ap, ◌∙◌, Bool, true, false, one, arith}
 use mathlib.Core.List.{List}
 use lib.ListN.{length}

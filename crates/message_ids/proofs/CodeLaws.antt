@@ -10,7 +10,7 @@ use lib.ListN.{get_or, length, take, drop, length-drop}
 use lib.Seq.{drop-cons, length-take-le}
 use Rattle.std.specs.Prelude.{nat_lt}
 use Rattle.std.specs.Ordering.{nat_cmp, ordering_then}
-use Rattle.core.specs.Cmp.Lexicographic.{slice_cmp}
+use Rattle.std.specs.Cmp.Lexicographic.{slice_cmp}
 use Rattle.index.proofs.Index.{both}
 use Rattle.message_ids.specs.Ids.{same_at, digits, code_of, Compared}
 use Rattle.std.specs.declared.cmp.Ordering.{Ordering}
