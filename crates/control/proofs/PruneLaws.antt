@@ -1,7 +1,7 @@
 -- A PRUNE that comes in: its seconds, and what it leaves.
 -- Assumes nothing.
 use Rattle.std.proofs.Common.{min}
-use Rattle.index.proofs.Kit.{ℕ, ◌≤◌, ◌<◌, ◌≡◌, refl, ap, ◌∙◌, true, arith}
+use Rattle.index.proofs.Kit.{ℕ, ◌≤◌, ◌≡◌, refl, ap, ◌∙◌, true, arith}
 use mathlib.Core.List.{[]}
 use borrow.Author.Tests.{ne_eqb}
 use Rattle.records.specs.Records.{State, code_in}

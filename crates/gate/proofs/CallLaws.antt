@@ -78,7 +78,8 @@ module _
 
 -- a topic behind another argument
 pub gate_topic_2 :
-    (table : List ℕ) (a b d : Bool) (room time : ℕ) (g : Result (Unit {0}) Answer) → g ≡ gate_of (state_of table) (a && (b && d)) room time → g ≡ Ok tt → (t : ℕ) →
+    (table : List ℕ) (a b d : Bool) (room time : ℕ) (g : Result (Unit {0}) Answer) → g ≡ gate_of (state_of table) (a && (b && d)) room time → g ≡ Ok tt →
+    (t : ℕ) →
     d ≡ topic_ok t → t < 8
 gate_topic_2 table a b d room time g eg e t ed = topic_in_lem t (sym ed ∙ (both b d (gate_fine table a (b && d) room time g eg e)).1)
 

@@ -1,15 +1,13 @@
 -- From the answer of `admit_peer` to what a call of a peer promises and what its inner function may rely on: one law for every such call.
 -- Assumes nothing.
 use Rattle.std.proofs.Common.{Option, Some, None, Result, Ok, Err, ok_or}
-use Rattle.index.proofs.Kit.{ℕ, ◌<◌, ◌≡◌, refl, sym, ap, ◌∙◌, Bool, true, false, arith}
+use Rattle.index.proofs.Kit.{ℕ, ◌≡◌, refl, sym, ap, ◌∙◌, Bool, true, false, arith}
 use Prim.Native.Nat.{zero, suc}
 use mathlib.Core.Path.{ap₂}
 use mathlib.Core.Bool.{◌&&◌}
 use mathlib.Core.List.{List, []}
 use lib.Dec.{leb}
 use lib.ListN.{length}
-use lib.Seq.{sets}
-use Rattle.records.specs.Records.{slot_count}
 use Rattle.layout.specs.View.{cell_count, state_of}
 use Rattle.lookup.specs.Find.{find_connected}
 use Rattle.lookup.proofs.FindLaws.{connected_at}
@@ -17,13 +15,13 @@ use Rattle.rules.specs.Calls.{time_ok}
 use Rattle.rules.specs.Step.{action_room}
 use Rattle.gossip.specs.Notes.{Extended}
 use Rattle.gossip.specs.Calls.{New, new, time_of_new, new_arguments_ok, list_ok}
-use Rattle.gossip.specs.Step.{FullReply, refused_all, of_peer_all, new_effect, step_all}
+use Rattle.gossip.specs.Step.{FullReply, of_peer_all, new_effect, step_all}
 use Rattle.gossip_table.specs.View.{gossip_cells, extended_of}
-use Rattle.gossip_gate.specs.Promise.{LeavesAll, FollowsAll, Tells, gate_all}
+use Rattle.gossip_gate.specs.Promise.{LeavesAll, FollowsAll, gate_all}
 use Rattle.gossip_gate.specs.Admitted.{SlotAdmitted}
 use Rattle.gossip_gate.proofs.PromiseLaws.{gives_quiet}
 use Rattle.gossip_gate.proofs.ReplyLaws.{peer_found, peer_missing}
-use Rattle.gossip_gate.proofs.EndLaws.{ends_missing, ends_found}
+use Rattle.gossip_gate.proofs.EndLaws.{ends_missing}
 use Rattle.gossip_gate.proofs.GateLaws.{gate_refusal, gate_silent, gate_gives, gate_numbers, gate_fine, gate_lists, gate_admitted}
 use Rattle.gossip_peers.specs.Callers.{found_behind, admitted_peer}
 

@@ -1,6 +1,7 @@
 -- Mesh maintenance, the heartbeat's work for one topic (01's tidy), as 01 has it: "Scores and candidates are those at the start; each step
 -- sees the mesh left by the one before." Definitions only, in 01's words and order; generic in the slot count n.
-use Rattle.std.specs.Prelude.{ℕ, ◌+◌, ◌-◌, ◌*◌, ◌/◌, ◌≤◌, ◌≡◌, ◌⊎◌, Bool, true, false, cond, ◌&&◌, List, [], ◌∷◌, ◌++◌, map, length, get_or, replicate, ltb, leb, eqb}
+use Rattle.std.specs.Prelude.{ℕ, ◌+◌, ◌-◌, ◌*◌, ◌/◌, ◌≤◌, ◌≡◌, ◌⊎◌, Bool, true, false, cond, ◌&&◌, List, [], ◌∷◌, ◌++◌, map, length, get_or, replicate, ltb}
+use Rattle.std.specs.Prelude.{leb, eqb}
 use Rattle.std.proofs.lemmas.List.Edits.{sets}
 use Rattle.sets.specs.Sets.{
   at,

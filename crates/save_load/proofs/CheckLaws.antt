@@ -31,7 +31,7 @@ use Rattle.saves.proofs.Parsing.{top}
 use Rattle.save_load.specs.Skim.{skim_of}
 use Rattle.save_load.specs.Judge.{is_read, place_by, judge_of}
 use Rattle.save_load.specs.Store.{Loadable, stored_all}
-use Rattle.save_load.specs.Checked.{Coded, Good, Says, Checks}
+use Rattle.save_load.specs.Checked.{Coded, Says, Checks}
 use Rattle.save_load.proofs.RangeLaws.{most_wide}
 use Rattle.save_load.proofs.LoadLaws.{all_stored}
 

@@ -1,6 +1,6 @@
 -- What the tests of a load come to: a refusal, or how many records stand where, all fit to be stored.
 use Rattle.std.specs.Prelude.{None, Result, Ok, Err}
-use Rattle.std.specs.Prelude.{ℕ, ◌*◌, ◌≤◌, ◌≡◌, true, List, map, length}
+use Rattle.std.specs.Prelude.{ℕ, ◌*◌, ◌≤◌, ◌≡◌, List, map, length}
 use Rattle.varint.specs.Codes.{code_of}
 use Rattle.params.specs.declared.Params.{Params}
 use Rattle.params.specs.Check.{first_broken}

@@ -7,7 +7,7 @@ ghost use Rattle.std.proofs.lemmas.List.Edits.{sets};
 ghost use Rattle.records.specs.Records.{topic_count};
 ghost use Rattle.gossip.specs.Notes.{no_store, has, stored_in, moved, added, window_most, numbers_most};
 ghost use Rattle.gossip.specs.Step.{running, announced};
-ghost use Rattle.stores.specs.View.{all_windows, place_count, stores_cells, start_of, count_at, window_at, five_at, stores_of, store_at};
+ghost use Rattle.stores.specs.View.{all_windows, stores_cells, start_of, count_at, window_at, five_at, stores_of, store_at};
 ghost use Rattle.stores.specs.View.{stored_at, Window, Store, Windows, PlaceOf, Changed, Shifted};
 
 use gossip::cells::{are_zero, copy_within};

@@ -16,7 +16,8 @@ pub returns-in-Ok : goal.returns-in-Ok
 returns-in-Ok c = hosts_made _ _ _ _ _ _ _ _ c.fresh.ensures c.in-Ok.is _ c.packed.ensures
 
 pub returns-in-Err-OutOfRange : goal.returns-in-Err-OutOfRange
-returns-in-Err-OutOfRange c = hosts_made _ _ _ _ _ _ _ _ c.fresh.ensures (rw c.in-Err-OutOfRange.field-0-is at c.in-Err-OutOfRange.is) _ c.packed-in-Err-OutOfRange.ensures
+returns-in-Err-OutOfRange c =
+    hosts_made _ _ _ _ _ _ _ _ c.fresh.ensures (rw c.in-Err-OutOfRange.field-0-is at c.in-Err-OutOfRange.is) _ c.packed-in-Err-OutOfRange.ensures
 
 pub returns-in-Err-Broken : goal.returns-in-Err-Broken
 returns-in-Err-Broken c = hosts_made _ _ _ _ _ _ _ _ c.fresh.ensures (rw c.in-Err-Broken.field-0-is at c.in-Err-Broken.is) _

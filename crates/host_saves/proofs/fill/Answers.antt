@@ -19,7 +19,8 @@ pub returns-in-Ok : goal.returns-in-Ok
 returns-in-Ok c = hosts_load _ _ _ _ _ _ _ c.load.ensures c.in-Ok.is _ c.packed.ensures
 
 pub returns-in-Err-OutOfRange : goal.returns-in-Err-OutOfRange
-returns-in-Err-OutOfRange c = hosts_load _ _ _ _ _ _ _ c.load.ensures (rw c.in-Err-OutOfRange.field-0-is at c.in-Err-OutOfRange.is) _ c.packed-in-Err-OutOfRange.ensures
+returns-in-Err-OutOfRange c =
+    hosts_load _ _ _ _ _ _ _ c.load.ensures (rw c.in-Err-OutOfRange.field-0-is at c.in-Err-OutOfRange.is) _ c.packed-in-Err-OutOfRange.ensures
 
 pub returns-in-Err-Broken : goal.returns-in-Err-Broken
 returns-in-Err-Broken c = hosts_load _ _ _ _ _ _ _ c.load.ensures (rw c.in-Err-Broken.field-0-is at c.in-Err-Broken.is) _

@@ -1,6 +1,6 @@
 -- `leaving::leave_slots`: before each turn the walk stands where the rules' walk does (`Walking`).
 use Rattle.records.specs.Records.{slot_count}
-use Rattle.index.proofs.Kit.{◌≤◌, ◌-◌}
+use Rattle.index.proofs.Kit.{◌≤◌}
 use Rattle.layout.specs.View.{state_of}
 use Rattle.leaving.proofs.LeaveLaws.{Walking}
 use Rattle.leaving.proofs.leave_slots.Given as goal

@@ -1,6 +1,6 @@
 -- `leaving::negatives`: the loop builds the flags from the front.
 use Rattle.records.specs.Records.{slot_count}
-use Rattle.index.proofs.Kit.{◌-◌, false}
+use Rattle.index.proofs.Kit.{false}
 use Rattle.index.proofs.Lists.{Built}
 use Rattle.layout.specs.View.{state_of}
 use Rattle.leaving.specs.Slots.{is_negative_member}

@@ -19,7 +19,8 @@ loop-s-preserved c =
     let a = c.args in
     let l = c.loop-s in
     elim c.if-cells-s-ne0.branch [
-      | then-cells-s-ne0 w ↦ beating_in a.cells.now l.cells c.if-cells-s-ne0.cells _ l.s (omega arith) l.invariant w.cells-is w.beat_slot.auto.cells w.beat_slot.ensures
+      | then-cells-s-ne0 w ↦ beating_in a.cells.now l.cells c.if-cells-s-ne0.cells _ l.s (omega arith) l.invariant w.cells-is w.beat_slot.auto.cells
+          w.beat_slot.ensures
       | else-cells-s-ne0 w ↦ beating_out a.cells.now l.cells c.if-cells-s-ne0.cells l.s (omega arith) l.invariant w.cells-is w.if-cells-s-ne0.false
     ]
 

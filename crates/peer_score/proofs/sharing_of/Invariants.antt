@@ -1,6 +1,6 @@
 -- `peer_score::sharing_of`. The invariant: n counts the slots passed.
 -- Assumes nothing.
-use Prim.Native.Nat.{◌≤◌, ◌-◌}
+use Prim.Native.Nat.{◌≤◌}
 use mathlib.Core.Path.{◌≡◌}
 use Rattle.index.specs.Index.{count}
 use Rattle.layout.specs.View.{state_of}

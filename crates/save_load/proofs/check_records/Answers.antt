@@ -2,7 +2,7 @@
 use Rattle.std.proofs.Common.{Ok, Err}
 use mathlib.Core.Path.{refl}
 use Rattle.lookup.specs.Fresh.{fresh_state}
-use Rattle.save_load.proofs.CheckLaws.{fresh_coded, skim_read, records_broken, records_over, records_outside, records_fine}
+use Rattle.save_load.proofs.CheckLaws.{fresh_coded, records_broken, records_over, records_outside, records_fine}
 use Rattle.std.proofs.lemmas.Result.{err_from_is_err_and}
 use Rattle.save_load.proofs.check_records.Goals as goal
 

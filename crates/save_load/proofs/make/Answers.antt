@@ -1,5 +1,5 @@
 -- `save_load::make`: a fresh router, the clock, and the records. Assumes nothing.
-use Rattle.save_load.proofs.CheckLaws.{make_ok, make_is}
+use Rattle.save_load.proofs.CheckLaws.{make_is}
 use Rattle.save_load.proofs.make.Goals as goal
 
 pub returns-clause-state : goal.returns-clause-state

@@ -27,4 +27,5 @@ returns-else-last-cut_short c =
 pub returns-in-Err-Broken : goal.returns-in-Err-Broken
 returns-in-Err-Broken c =
     params_broken _ _ _ _ c.requires.1 _
-    refl _ _ _ _ _ (as_refused _ _ (sym (rw c.in-Err-Broken.field-0-is at c.in-Err-Broken.is) ∙ c.read_front.ensures)) (rw c.in-Err-Broken.field-0-is at c.put_pair-in-Err-Broken.ensures)
+    refl _ _ _ _ _ (as_refused _ _ (sym (rw c.in-Err-Broken.field-0-is at c.in-Err-Broken.is) ∙ c.read_front.ensures))
+    (rw c.in-Err-Broken.field-0-is at c.put_pair-in-Err-Broken.ensures)

@@ -1,5 +1,5 @@
 -- `trace_feed::shift`: turn by turn one byte more stands at the front; the one that is read next has not been written over.
-use Prim.Native.Nat.{◌+◌, ◌-◌, ◌≤◌}
+use Prim.Native.Nat.{◌+◌, ◌≤◌}
 use mathlib.Core.Path.{◌≡◌}
 use lib.ListN.{length}
 use Rattle.trace_feed.proofs.WindowLaws.{Shifted}

@@ -13,4 +13,5 @@ abbrev pub invariant-loop-calls : goal.invariant-loop-calls
 invariant-loop-calls l =
     (length l.actions ≡ length l.initial.actions)
     × ((length l.told ≡ length l.initial.told)
-    × ((params : Params) → state_of l.initial.table ≡ fresh_state params → Going l.edition params l.s l.initial.actions l.initial.told l.at l.calls l.table l.actions l.told))
+    × ((params : Params) → state_of l.initial.table ≡ fresh_state params →
+    Going l.edition params l.s l.initial.actions l.initial.told l.at l.calls l.table l.actions l.told))

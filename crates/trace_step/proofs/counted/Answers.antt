@@ -1,7 +1,7 @@
 -- `trace_step::counted`: too many groups, a number that cannot be read, or the connect with what was read behind the count.
 use borrow.Author.Rules.{rules}
 use native.Mathlib.Omega.{arith}
-use mathlib.Core.Path.{refl, sym}
+use mathlib.Core.Path.{sym}
 use lib.Seq.{length-take-le}
 use Rattle.trace_step.proofs.ReplayLaws.{counted_many, counted_unread, counted_called}
 use Rattle.trace_step.proofs.counted.Goals as goal

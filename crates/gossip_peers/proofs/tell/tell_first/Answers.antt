@@ -1,5 +1,5 @@
 use borrow.Author.Rules.{rules}
-use Rattle.index.proofs.Kit.{◌≡◌, ◌<◌, refl, sym, ◌∙◌, arith}
+use Rattle.index.proofs.Kit.{◌≡◌, ◌<◌, sym, ◌∙◌, arith}
 use lib.ListN.{length, get_or}
 use Rattle.layout.specs.View.{state_of}
 use Rattle.words.specs.Words.{word_count, bits_of}

@@ -1,5 +1,5 @@
 -- `gossip_table::tests::notes_ok`: where nothing is held all pass; else the loop asks slot by slot.
-use Rattle.index.proofs.Kit.{◌≤◌, ◌-◌, ◌≡◌, every, true}
+use Rattle.index.proofs.Kit.{◌≤◌, ◌≡◌, every, true}
 use Rattle.records.specs.Records.{slot_count, peer_in}
 use Rattle.layout.specs.View.{state_of}
 use Rattle.gossip.specs.Notes.{note_in}

@@ -1,5 +1,5 @@
 -- `gossip_table::tests::rows_stored`: the loop asks row by row.
-use Rattle.index.proofs.Kit.{◌≤◌, ◌-◌, ◌≡◌, every, true}
+use Rattle.index.proofs.Kit.{◌≤◌, ◌≡◌, every, true}
 use Rattle.gossip_table.specs.View.{gossip_of}
 use Rattle.gossip_table.specs.Fine.{is_kept}
 use Rattle.gossip_table.proofs.tests.rows_stored.Given as goal

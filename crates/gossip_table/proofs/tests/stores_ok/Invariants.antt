@@ -1,5 +1,5 @@
 -- `gossip_table::tests::stores_ok`: where nothing is stored all pass; else the loop asks topic by topic.
-use Rattle.index.proofs.Kit.{◌≤◌, ◌-◌, ◌≡◌, every, true}
+use Rattle.index.proofs.Kit.{◌≤◌, ◌≡◌, every, true}
 use Rattle.records.specs.Records.{topic_count}
 use Rattle.layout.specs.View.{state_of}
 use Rattle.effects.specs.Effects.{is_joined}

@@ -1,7 +1,7 @@
 use Prim.Native.Nat.{◌<◌}
 use native.Mathlib.Omega.{arith}
 use borrow.Author.Rules.{rules}
-use mathlib.Core.Path.{◌≡◌, refl, sym, ap, ◌∙◌}
+use mathlib.Core.Path.{◌≡◌, sym, ap, ◌∙◌}
 use lib.ListN.{length}
 use Rattle.words.specs.Words.{word_count, bits_of}
 use Rattle.heartbeat.proofs.GraftLaws.{walk_none, walk_out, walk_in, walk_full, walk_end, asked_room, grafting_on}

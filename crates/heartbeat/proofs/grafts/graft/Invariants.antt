@@ -12,4 +12,5 @@ invariant-loop-s l =
     (l.s-index ≤ length l.order)
     × (length l.p ≡ word_count)
     × (length l.r ≡ word_count)
-    × Walk (state_of l.table) l.time l.topic l.least (bits_of l.p) l.order l.initial.room (bits_of l.initial.r) l.initial.heights l.s-index l.room (bits_of l.r) l.heights
+    × Walk (state_of l.table) l.time l.topic l.least (bits_of l.p) l.order l.initial.room (bits_of l.initial.r) l.initial.heights l.s-index l.room (bits_of l.r)
+    l.heights

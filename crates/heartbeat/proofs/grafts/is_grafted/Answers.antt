@@ -23,15 +23,27 @@ height-score-requires c =
     }
 
 pub offset_bounds-heights-s : goal.offset_bounds-heights-s
-offset_bounds-heights-s c = omega (arith, taken_slot c.args.p.now c.args.room c.args.s (bits_of c.args.m.now) c.requires.p_len (sym c.takes.ensures ∙ c.if-not-takes.false))
+offset_bounds-heights-s c =
+    omega (arith, taken_slot c.args.p.now c.args.room c.args.s (bits_of c.args.m.now) c.requires.p_len (sym c.takes.ensures ∙ c.if-not-takes.false))
 
 pub bounds-heights-s : goal.bounds-heights-s
-bounds-heights-s c = omega (arith, taken_slot c.args.p.now c.args.room c.args.s (bits_of c.args.m.now) c.requires.p_len (sym c.takes.ensures ∙ c.if-not-takes.false), c.requires.grafting.taking.size)
+bounds-heights-s c =
+    omega (
+      arith,
+      taken_slot c.args.p.now c.args.room c.args.s (bits_of c.args.m.now) c.requires.p_len (sym c.takes.ensures ∙ c.if-not-takes.false),
+      c.requires.grafting.taking.size,
+    )
 
 pub is_free-requires : goal.is_free-requires
 is_free-requires c =
     let p = c.requires in
-    record { standing = p.grafting.taking.standing; topic = p.grafting.topic; slot = taken_slot c.args.p.now c.args.room c.args.s (bits_of c.args.m.now) c.requires.p_len (sym c.takes.ensures ∙ c.if-not-takes.false); score = c.height-score.ensures }
+    record {
+      standing = p.grafting.taking.standing;
+      topic = p.grafting.topic;
+      slot = taken_slot c.args.p.now c.args.room c.args.s (bits_of c.args.m.now) c.requires.p_len (sym c.takes.ensures ∙ c.if-not-takes.false);
+      score =
+          c.height-score.ensures;
+    }
 
 pub returns : goal.returns
 returns c =

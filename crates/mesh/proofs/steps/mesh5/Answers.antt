@@ -20,7 +20,8 @@ middle-median-requires c =
 
 pub returns-then-threshold-median : goal.returns-then-threshold-median
 returns-then-threshold-median c =
-    mesh5_high c.args.t (view_of c.args.v c.args.scores.now c.args.order.now) (bits_of c.args.m) c.size-n.ensures c.middle-median.ensures c.if-threshold-median.true
+    mesh5_high c.args.t (view_of c.args.v c.args.scores.now c.args.order.now) (bits_of c.args.m) c.size-n.ensures c.middle-median.ensures
+    c.if-threshold-median.true
 
 pub at_least-higher-requires : goal.at_least-higher-requires
 at_least-higher-requires c = c.requires

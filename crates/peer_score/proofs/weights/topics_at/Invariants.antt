@@ -1,6 +1,6 @@
 -- `peer_score::weights::topics_at`. The invariant: the sum is that of the topics passed.
 -- Assumes nothing.
-use Prim.Native.Nat.{◌≤◌, ◌-◌}
+use Prim.Native.Nat.{◌≤◌}
 use mathlib.Core.Path.{◌≡◌}
 use Rattle.layout.specs.View.{state_of}
 use Rattle.score.specs.Sums.{sum_of}

@@ -1,5 +1,5 @@
 -- `peer_score::weights::weights`: the loop builds the array from the front.
-use Rattle.index.proofs.Kit.{◌*◌, ◌-◌}
+use Rattle.index.proofs.Kit.{◌*◌}
 use Rattle.index.proofs.Lists.{Built}
 use Rattle.limits.specs.Limits.{place as topicPlace}
 use Rattle.records.specs.Records.{topic_count}

@@ -1,4 +1,4 @@
-use mathlib.Core.Path.{◌≡◌, refl, sym, ◌∙◌}
+use mathlib.Core.Path.{◌∙◌}
 use native.Mathlib.Omega.{arith}
 use Rattle.save_load.proofs.SkimLaws.{skim_none, skim_more, skim_bad, skim_done}
 use Rattle.save_load.proofs.passes.skim_numbers.Goals as goal

@@ -1,5 +1,4 @@
 -- `save_load::ranges::fill_most`: after t topics the ranges are filled so far (`Filled`). Assumes nothing.
-use Prim.Native.Nat.{◌-◌}
 use Rattle.save_load.proofs.RangeLaws.{Filled}
 use Rattle.save_load.proofs.ranges.fill_most.Given as goal
 

@@ -1,5 +1,5 @@
 -- `save_load::row::ends_from`: below t the ends are those of the row. Assumes nothing.
-use Prim.Native.Nat.{◌+◌, ◌*◌, ◌-◌}
+use Prim.Native.Nat.{◌+◌, ◌*◌}
 use lib.ListN.{get_or}
 use Rattle.index.proofs.Lists.{Built}
 use Rattle.saves.specs.Load.{end_from}

@@ -1,5 +1,4 @@
 -- `save_load::row::read_row`: after i numbers the row has them (`Reading`). Assumes nothing.
-use Prim.Native.Nat.{◌-◌}
 use Rattle.save_load.proofs.StoreLaws.{Reading}
 use Rattle.save_load.proofs.row.read_row.Given as goal
 

@@ -1,5 +1,5 @@
 -- `save_load::row::store_rows`: after k records, they are stored, and the next stands at `place`. Assumes nothing.
-use Prim.Native.Nat.{ℕ, ◌*◌, ◌-◌, ◌≤◌}
+use Prim.Native.Nat.{ℕ, ◌*◌, ◌≤◌}
 use mathlib.Core.Path.{◌≡◌}
 use lib.ListN.{length, take}
 use mathlib.Core.List.{List}

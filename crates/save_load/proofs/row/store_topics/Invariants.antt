@@ -1,5 +1,5 @@
 -- `save_load::row::store_topics`: after t turns the topics below t are stored. Assumes nothing.
-use Prim.Native.Nat.{◌-◌, ◌≤◌}
+use Prim.Native.Nat.{◌≤◌}
 use mathlib.Core.Path.{◌≡◌}
 use lib.ListN.{length}
 use Rattle.index.specs.Index.{iter}

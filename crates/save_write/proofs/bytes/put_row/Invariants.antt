@@ -1,5 +1,5 @@
 -- `save_write::bytes::put_row`: after i numbers their bytes stand in the buffer (`Stands`), and the next one has room. Assumes nothing.
-use Prim.Native.Nat.{◌-◌, ◌≤◌}
+use Prim.Native.Nat.{◌≤◌}
 use mathlib.Core.Path.{◌≡◌}
 use lib.ListN.{length, take}
 use Rattle.saves.specs.Save.{bytes_of}

@@ -1,5 +1,5 @@
 -- `save_write::bytes::put_rows`: after k keys the bytes of their rows stand in the buffer. Assumes nothing.
-use Prim.Native.Nat.{◌-◌, ◌≤◌}
+use Prim.Native.Nat.{◌≤◌}
 use mathlib.Core.Path.{◌≡◌}
 use lib.ListN.{length, take}
 use Rattle.layout.specs.View.{state_of}
@@ -11,4 +11,5 @@ abbrev pub invariant-loop-key : goal.invariant-loop-key
 invariant-loop-key l =
     (l.key-index ≤ length l.keys)
     × ((length l.row ≡ 44)
-    × ((length l.buf ≡ length l.initial.buf) × Stands (bytes_of (rows_of (state_of l.table) l.time (take l.key-index l.keys))) l.at l.initial.buf l.place l.buf))
+    × ((length l.buf ≡ length l.initial.buf)
+    × Stands (bytes_of (rows_of (state_of l.table) l.time (take l.key-index l.keys))) l.at l.initial.buf l.place l.buf))

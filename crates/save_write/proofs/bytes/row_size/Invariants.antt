@@ -1,5 +1,5 @@
 -- `save_write::bytes::row_size`: after i numbers, the sum of their sizes. Assumes nothing.
-use Prim.Native.Nat.{◌*◌, ◌-◌, ◌≤◌}
+use Prim.Native.Nat.{◌*◌, ◌≤◌}
 use mathlib.Core.Path.{◌≡◌}
 use lib.ListN.{length, take}
 use Rattle.saves.specs.Save.{bytes_of}

@@ -8,4 +8,5 @@ use Rattle.sets.specs.Sets.{size}
 use Rattle.sets.proofs.permutation.marks.Given as goal
 
 abbrev pub invariant-loop-mark : goal.invariant-loop-mark
-invariant-loop-mark l = (l.mark-index ≤ slot_count) × (length l.mark-items ≡ slot_count) × (l.n + size (drop l.mark-index l.mark-items) ≡ size l.mark-items) × (l.n ≤ l.mark-index)
+invariant-loop-mark l =
+    (l.mark-index ≤ slot_count) × (length l.mark-items ≡ slot_count) × (l.n + size (drop l.mark-index l.mark-items) ≡ size l.mark-items) × (l.n ≤ l.mark-index)

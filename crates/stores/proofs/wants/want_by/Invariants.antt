@@ -10,4 +10,5 @@ use Rattle.stores.proofs.wants.want_by.Given as goal
 
 abbrev pub invariant-loop-n : goal.invariant-loop-n
 invariant-loop-n l =
-    (l.n-index ≤ length l.numbers) × (l.size ≤ l.n-index) × Listed (stored_at l.cells) l.rising (wanted (stored_at l.cells) [] (take l.n-index l.numbers)) l.known l.initial.list l.list l.size
+    (l.n-index ≤ length l.numbers) × (l.size ≤ l.n-index)
+    × Listed (stored_at l.cells) l.rising (wanted (stored_at l.cells) [] (take l.n-index l.numbers)) l.known l.initial.list l.list l.size

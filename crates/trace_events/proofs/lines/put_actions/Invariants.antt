@@ -1,6 +1,6 @@
 -- `trace_events::lines::put_actions` meets its contract. The loop's invariant: the first `i` lines are stored, in at most 44 bytes each.
 -- Assumes nothing.
-use Prim.Native.Nat.{◌+◌, ◌*◌, ◌-◌, ◌≤◌}
+use Prim.Native.Nat.{◌+◌, ◌*◌, ◌≤◌}
 use mathlib.Core.Path.{◌≡◌}
 use lib.ListN.{length}
 use Rattle.text.specs.Text.{Stored}

@@ -1,6 +1,6 @@
 -- `trace_events::reading::read_numbers` meets its contract: the loop's invariant is `After`: the first `i` numbers are read, `place` is
 -- past them, and the values from `i` on stay. Assumes nothing.
-use Prim.Native.Nat.{ℕ, ◌≤◌, ◌-◌}
+use Prim.Native.Nat.{ℕ, ◌≤◌}
 use mathlib.Core.Path.{◌≡◌}
 use lib.ListN.{length, get_or}
 use Rattle.trace_events.proofs.ReadingLaws.{After}

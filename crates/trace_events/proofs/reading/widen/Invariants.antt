@@ -1,5 +1,5 @@
 -- `trace_events::reading::widen`: behind the order stand the slots up to `k` (`Widened`). Assumes nothing.
-use Prim.Native.Nat.{◌≤◌, ◌-◌}
+use Prim.Native.Nat.{◌≤◌}
 use mathlib.Core.Path.{◌≡◌}
 use lib.ListN.{length}
 use Rattle.records.specs.Records.{slot_count}
