@@ -9,15 +9,15 @@ use native.Mathlib.Numerals.{add-one}
 use native.Mathlib.Omega.{arith}
 use lib.Bits.{bit_or, bit_and, or_add_and, and_le_l, and_le_r}
 use lib.Dec.{eqb}
-use lib.ListN.{length, get_or, set, take, drop, replicate, length-set, length-append, length-drop, get_or-append, get_or-replicate, length-replicate}
-use lib.Seq.{get_or-set_same, get_or-set_other, get_or-take, get_or-drop, get_or-append-add, length-take-le, drop-drop, sets}
+use lib.ListN.{length, get_or, take, drop, replicate, length-append, length-drop, get_or-append, get_or-replicate, length-replicate}
+use lib.Seq.{get_or-take, get_or-drop, get_or-append-add, length-take-le, drop-drop, sets}
 use Rattle.std.proofs.lemmas.List.Edits.{sets-eq}
 use borrow.Author.Tests.{eqb-true, eqb-false, eq-eqb}
 use borrow.Rule.Slice.PartMut.{put_mid, post_of}
 use Rattle.index.specs.Index.{every}
 use Rattle.std.specs.List.{list_any}
 use Rattle.index.proofs.Index.{every_none, every_at}
-use Rattle.index.proofs.Flags.{by_test, by_order}
+use Rattle.index.proofs.Flags.{by_test}
 use Rattle.gossip.specs.Cells.{Run}
 use Rattle.gossip.specs.Notes.{has}
 
@@ -26,9 +26,6 @@ use Rattle.gossip.specs.Notes.{has}
 module _ (c ys : List ℕ) (a n : ℕ) (f : ℕ → ℕ) (fits : a + n ≤ length c) (size : length ys ≡ n) (is : (k : ℕ) → k < n → get_or ys k 0 ≡ f k) where
   front : length (take a c) ≡ a
   front = length-take-le a c (omega arith)
-
-  written : List ℕ
-  written = put_mid a n c ys
 
   pub run_put : Run c (put_mid a n c ys) a n f
   run_put =
@@ -94,70 +91,6 @@ pub record Copying (c d : List ℕ) (from to lo hi : ℕ) : Type 0 where
   pub inside : (k : ℕ) → lo ≤ k → k < hi → get_or d (to + k) 0 ≡ get_or c (from + k) 0
   pub low : (x : ℕ) → x < to + lo → get_or d x 0 ≡ get_or c x 0
   pub high : (x : ℕ) → to + hi ≤ x → get_or d x 0 ≡ get_or c x 0
-
-pub copying_none : (c : List ℕ) (from to k : ℕ) → Copying c c from to k k
-copying_none c from to k =
-    record { size = refl; inside = λ j a b. absurd (omega arith); low = λ x h. refl; high = λ x h. refl }
-
--- one cell more, behind the others or before them
-copying_cell :
-    (c d : List ℕ) (from to lo hi k : ℕ) → to + k < length c → get_or d (from + k) 0 ≡ get_or c (from + k) 0
-    → Copying c d from to lo hi → (j : ℕ) → (j ≡ k → ⊥) → lo ≤ j → j < hi
-    → get_or (set d (to + k) (get_or d (from + k) 0)) (to + j) 0 ≡ get_or c (from + j) 0
-copying_cell c d from to lo hi k fits read h j n a b =
-    get_or-set_other d (to + k) (to + j) (get_or d (from + k) 0) 0 (λ e. n (omega arith)) ∙ h.inside j a b
-
-copying_here :
-    (c d : List ℕ) (from to k j : ℕ) → to + k < length d → get_or d (from + k) 0 ≡ get_or c (from + k) 0 → j ≡ k
-    → get_or (set d (to + k) (get_or d (from + k) 0)) (to + j) 0 ≡ get_or c (from + j) 0
-copying_here c d from to k j fits read e =
-    ap (λ (i : ℕ). get_or (set d (to + k) (get_or d (from + k) 0)) (to + i) 0) e
-    ∙ get_or-set_same d (to + k) (get_or d (from + k) 0) 0 fits
-    ∙ read
-    ∙ ap (λ (i : ℕ). get_or c (from + i) 0) (sym e)
-
-pub copying_up :
-    (c d : List ℕ) (from to k : ℕ) → to ≤ from → to + k < length c → Copying c d from to 0 k
-    → Copying c (set d (to + k) (get_or d (from + k) 0)) from to 0 (k + 1)
-copying_up c d from to k order fits h =
-    let s = h.size in
-    let read = h.high (from + k) (omega arith) in
-    record {
-      size = length-set d (to + k) (get_or d (from + k) 0) ∙ h.size;
-      inside = λ j a b.
-          by_order (get_or (set d (to + k) (get_or d (from + k) 0)) (to + j) 0 ≡ get_or c (from + j) 0) j k
-          (λ lt. copying_cell c d from to 0 k k fits read h j (λ e. omega arith) a lt)
-          (λ ge. copying_here c d from to k j (omega arith) read (omega arith));
-      low = λ x l. get_or-set_other d (to + k) x (get_or d (from + k) 0) 0 (λ e. omega arith) ∙ h.low x l;
-      high = λ x l. get_or-set_other d (to + k) x (get_or d (from + k) 0) 0 (λ e. omega arith) ∙ h.high x (omega arith);
-    }
-
-pub copying_down :
-    (c d : List ℕ) (from to k hi : ℕ) → from < to → k < hi → to + hi ≤ length c → Copying c d from to (k + 1) hi
-    → Copying c (set d (to + k) (get_or d (from + k) 0)) from to k hi
-copying_down c d from to k hi order under fits h =
-    let s = h.size in
-    let read = h.low (from + k) (omega arith) in
-    record {
-      size = length-set d (to + k) (get_or d (from + k) 0) ∙ h.size;
-      inside = λ j a b.
-          by_order (get_or (set d (to + k) (get_or d (from + k) 0)) (to + j) 0 ≡ get_or c (from + j) 0) k j
-          (λ lt. copying_cell c d from to (k + 1) hi k (omega arith) read h j (λ e. omega arith) (omega arith) b)
-          (λ ge. copying_here c d from to k j (omega arith) read (omega arith));
-      low = λ x l. get_or-set_other d (to + k) x (get_or d (from + k) 0) 0 (λ e. omega arith) ∙ h.low x (omega arith);
-      high = λ x l. get_or-set_other d (to + k) x (get_or d (from + k) 0) 0 (λ e. omega arith) ∙ h.high x l;
-    }
-
-pub copying_done :
-    (c d : List ℕ) (from to lo hi n : ℕ) → lo ≤ 0 → n ≤ hi → hi ≤ n → Copying c d from to lo hi
-    → Run c d to n (λ k. get_or c (from + k) 0)
-copying_done c d from to lo hi n a b e h =
-    record {
-      size = h.size;
-      within = λ k l. h.inside k (omega arith) (omega arith);
-      before = λ x l. h.low x (omega arith);
-      after = λ x l. h.high x (omega arith);
-    }
 
 -- ---- whether all are 0
 

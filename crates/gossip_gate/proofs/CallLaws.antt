@@ -1,7 +1,6 @@
 -- From the number of `admit` to what a public call promises and what its inner function may rely on, for a call that is lent an action list
 -- and no list of numbers: its code tests that list's length alone.
 -- Assumes nothing.
-use Rattle.std.proofs.Common.{Option, Some, None}
 use Rattle.index.proofs.Kit.{ℕ, ◌≤◌, ◌<◌, ◌≡◌, refl, sym, ◌∙◌, Bool, true, false}
 use mathlib.Core.Bool.{◌&&◌}
 use mathlib.Core.List.{List, []}
@@ -9,13 +8,11 @@ use lib.Dec.{leb}
 use lib.ListN.{length}
 use borrow.Author.Tests.{leb-true}
 use Rattle.index.proofs.Index.{both}
-use Rattle.lookup.specs.Find.{find_connected}
 use Rattle.rules.specs.Calls.{time_ok, topic_ok}
 use Rattle.rules.specs.Step.{action_room}
 use Rattle.rules.proofs.CaseLaws.{topic_in_lem}
-use Rattle.gossip.specs.Notes.{Extended}
 use Rattle.gossip.specs.Calls.{New, new, time_of_new, new_arguments_ok, list_ok}
-use Rattle.gossip.specs.Step.{FullReply, refused_all, on_slot, of_peer_all, new_effect}
+use Rattle.gossip.specs.Step.{new_effect}
 use Rattle.gossip_table.specs.View.{extended_of}
 use Rattle.gossip_gate.specs.Promise.{LeavesAll, GivesAll, FollowsAll, gate_all}
 use Rattle.gossip_gate.proofs.PromiseLaws.{gives_quiet}
@@ -54,14 +51,6 @@ module _
           LeavesAll (new_effect (extended_of table gossip) c) r table table' gossip gossip' →
           FollowsAll (new c) r table table' gossip gossip' list list
       call_quiet q h = call_gives list (gives_quiet (new_effect (extended_of table gossip) c) r table table' gossip gossip' list q h)
-
--- a call of a peer gives no action where no slot's reply does
-pub quiet_peer : (x : Extended) (id : ℕ) (f : ℕ → FullReply) → ((s : ℕ) → (f s).actions ≡ []) → (of_peer_all x id f).actions ≡ []
-quiet_peer x id f q = go (find_connected x.base id)
-  where
-    go : (k : Option ℕ) → (on_slot k f (refused_all 3 x)).actions ≡ []
-    go (Some s) = q s
-    go None = refl
 
 -- ---- what the inner function may rely on, beside `gate_admitted`
 pub call_room :

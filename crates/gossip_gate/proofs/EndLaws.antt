@@ -1,6 +1,6 @@
 -- The ends of a call in the form in which its code reaches them: by what the rules' reply is there, and by what the last call left.
 -- Assumes nothing.
-use Rattle.std.proofs.Common.{Option, Some, None}
+use Rattle.std.proofs.Common.{Option, None}
 use Rattle.index.proofs.Kit.{ℕ, ◌+◌, ◌*◌, ◌≡◌, sym, ap, ◌∙◌}
 use mathlib.Core.List.{List}
 use lib.ListN.{length, set}
@@ -14,7 +14,7 @@ use Rattle.gossip.specs.Step.{FullReply, refused_all, ignored_all, done_all, of_
 use Rattle.gossip_table.specs.View.{gossip_of, extended_of}
 use Rattle.gossip_gate.specs.Promise.{LeavesAll, GivesAll}
 use Rattle.gossip_gate.proofs.PromiseLaws.{leaves_refused, leaves_ignored, leaves_done, gives_quiet, gives_done}
-use Rattle.gossip_gate.proofs.ReplyLaws.{peer_found, peer_missing}
+use Rattle.gossip_gate.proofs.ReplyLaws.{peer_missing}
 
 module _ (o : FullReply) (time r : ℕ) (table table' gossip : List ℕ) where
   -- a refusal
@@ -61,10 +61,3 @@ module _ (table gossip : List ℕ) (id : ℕ) (f : ℕ → FullReply) (k : Optio
   pub ends_missing : k ≡ None → LeavesAll (of_peer_all (extended_of table gossip) id f) 3 table table gossip gossip
   ends_missing g =
       ends_refused _ 0 3 table table gossip (peer_missing (extended_of table gossip) id f (sym e ∙ g))
-
-  pub ends_found :
-      (s r : ℕ) (table' gossip' : List ℕ) →
-      k ≡ Some s →
-      LeavesAll (f s) r table table' gossip gossip' →
-      LeavesAll (of_peer_all (extended_of table gossip) id f) r table table' gossip gossip'
-  ends_found s r table' gossip' g h = rw (peer_found (extended_of table gossip) id f s (sym e ∙ g)) h

@@ -1,13 +1,11 @@
 -- From test 12 of the array to what the crates of the stores and of the replies rely on, and from what they promise to the array's state.
 -- Assumes nothing.
 use Rattle.index.proofs.Kit.{ℕ, ◌≤◌, ◌<◌, ◌+◌, ◌*◌, ◌≡◌, refl, sym, ap, ◌∙◌, Bool, false, arith}
-use Rattle.std.proofs.Common.{Option, Some, None}
-use Rattle.std.specs.Prelude.{unwrap_or}
+use Rattle.std.proofs.Common.{Option}
 use mathlib.Core.Path.{subst}
 use mathlib.Core.List.{List, [], map}
-use lib.Dec.{ltb}
 use lib.ListN.{length, get_or, set}
-use borrow.Author.Tests.{le-leb, ltb-true, lt-ltb}
+use borrow.Author.Tests.{le-leb, ltb-true}
 use borrow.Rule.Slice.PartMut.{put_mid, same_len_mid}
 use Rattle.index.proofs.Index.{every_by}
 use Rattle.records.specs.Records.{topic_count}
@@ -175,11 +173,6 @@ announce_fits h = (fine_topic (record { fine = h.fine; topic = h.topic }), h.roo
 pub find_by :
     (c : List ℕ) (n : ℕ) (r : Option ℕ) → PlaceOf (stored_at (stores_part c) n) r → PlaceOf (stored (gossip_of c) n) r
 find_by c n r e = subst (λ (b : Bool). PlaceOf b r) (stored_part c n) e
-
--- a place that is found is one of all; where there is none, that past them all stands for it
-pub place_or : (b : Bool) (r : Option ℕ) → PlaceOf b r → ltb (unwrap_or r rows_most) rows_most ≡ b
-place_or b (Some p) h = lt-ltb p rows_most h.1 ∙ sym h.0
-place_or b None h = sym h
 
 pub stays_by :
     (c : List ℕ) (k n : ℕ) (r : Bool) →

@@ -3,7 +3,7 @@
 -- Assumes nothing.
 use Prim.Native.Nat.{ℕ, zero, suc, ◌+◌, ◌-◌, ◌≤◌, ◌<◌}
 use mathlib.Core.Path.{◌≡◌, refl, sym, ap, ◌∙◌}
-use mathlib.Core.Bool.{Bool, true, false, cond, ◌&&◌, ◌||◌, and-false}
+use mathlib.Core.Bool.{Bool, true, false, cond, ◌&&◌, and-false}
 use mathlib.Core.List.{List, [], ◌∷◌, ◌++◌, map}
 use native.Mathlib.Nat.{le_antisymm, not-suc-le-zero, le_of_suc-le-suc, zero-lt-suc}
 use native.Mathlib.Numerals.{add-one}
@@ -17,7 +17,7 @@ use Rattle.index.proofs.Index.{every_at, every_by, every_fails}
 use Rattle.index.proofs.Flags.{by_test}
 use Rattle.layout.specs.Rows.{tab}
 use Rattle.layout.proofs.RowLaws.{length_tab, get_or_tab, tab_same}
-use Rattle.gossip.specs.Notes.{Entry, has, some, put_in, older, aged}
+use Rattle.gossip.specs.Notes.{Entry, put_in, older, aged}
 use Rattle.gossip.specs.Valid.{all, none, rises}
 use Rattle.notes.specs.View.{digit, numbers_in}
 
@@ -51,31 +51,11 @@ every_first (suc n) f =
     go true b e = refl
     go false b e = refl
 
-some_first : (n : ℕ) (f : ℕ → Bool) → some (suc n) f ≡ (f 0 || some n (λ k. f (suc k)))
-unfolding some
-some_first zero f = go (f 0)
-  where
-    go : (b : Bool) → (false || b) ≡ (b || false)
-    go true = refl
-    go false = refl
-some_first (suc n) f =
-    ap (λ b. b || f (suc n)) (some_first n f) ∙ go (f 0) (some n (λ k. f (suc k))) (f (suc n))
-  where
-    go : (a b e : Bool) → ((a || b) || e) ≡ (a || (b || e))
-    go true b e = refl
-    go false b e = refl
-
 pub all_tab : {A : Type 0} (p : A → Bool) (n : ℕ) (f : ℕ → A) → all p (tab n f) ≡ every n (λ k. p (f k))
 unfolding all every
 all_tab p zero f = refl
 all_tab p (suc n) f =
     ap (λ b. p (f zero) && b) (all_tab p n (λ k. f (suc k))) ∙ sym (every_first n (λ k. p (f k)))
-
-pub has_tab : (x n : ℕ) (f : ℕ → ℕ) → has x (tab n f) ≡ some n (λ k. eqb (f k) x)
-unfolding has some
-has_tab x zero f = refl
-has_tab x (suc n) f =
-    ap (λ b. eqb (f zero) x || b) (has_tab x n (λ k. f (suc k))) ∙ sym (some_first n (λ k. eqb (f k) x))
 
 -- ---- numbers that rise
 

@@ -64,13 +64,6 @@ pub p5_range :
     a && b ≡ id_ok id && leb (nat_abs p5) 1000000000
 p5_range p5 a b id f p q = ap₂ (λ (x y : Bool). x && y) p (rw (to_z-of_z f) at q)
 
-pub rate_leaves :
-    (table table' : List ℕ) (time id : ℕ) (p5 : ℤ) (a : Answer) →
-    SFits w64 p5 →
-    Leaves (effect (state_of table) (rate time id (to_z w64 (of_z w64 p5)))) a table table' →
-    Leaves (effect (state_of table) (rate time id p5)) a table table'
-rate_leaves table table' time id p5 a f l = rw (to_z-of_z f) at l
-
 pub connect_range :
     (id : ℕ) (groups : List ℕ) (flags : ℕ) (a b : Bool) →
     a ≡ id_ok id →

@@ -1,6 +1,6 @@
 -- What the rules come to once a test is known, in the form in which the returns of the calls ask it.
 -- Assumes nothing.
-use Rattle.std.proofs.Common.{Option, Some, None}
+use Rattle.std.proofs.Common.{Option, Some}
 use Prim.Native.Nat.{ℕ, ◌<◌}
 use mathlib.Core.Path.{◌≡◌, sym, ◌∙◌}
 use mathlib.Core.Bool.{Bool, true, false, cond}
@@ -10,24 +10,14 @@ use Rattle.records.specs.Records.{State, slot_count}
 use Rattle.layout.specs.View.{state_of}
 use Rattle.lookup.specs.Find.{holds, find_connected}
 use Rattle.rules.specs.declared.Answer.{Answer}
-use Rattle.rules.specs.declared.Answer.TheVariants.{NotConnected}
 use Rattle.rules.specs.Reply.{Reply}
 use Rattle.rules.specs.Step.{of_peer}
 use Rattle.rules.specs.Promise.{Leaves, Gives}
-use Rattle.rules.proofs.PromiseLaws.{leaves_refused, gives_refused}
 
 -- a found slot is one of the table's
 pub found_below : (st : State) (id s : ℕ) (r : Option ℕ) → r ≡ find_connected st id → r ≡ Some s → s < slot_count
 unfolding find_connected
 found_below st id s r e g = (first_is (holds st 1 id) slot_count s (sym e ∙ g)).0
-
--- 3, or the slot's own reply
-module _ (table : List ℕ) (id : ℕ) (f : ℕ → Reply) (r : Option ℕ) (e : r ≡ find_connected (state_of table) id) where
-  pub peer_none : r ≡ None → Leaves (of_peer (state_of table) id f) NotConnected table table
-  peer_none g = rw (← e, g) (leaves_refused NotConnected table)
-
-  pub peer_none_gives : (list : List ℕ) → r ≡ None → Gives (of_peer (state_of table) id f) NotConnected table table list list
-  peer_none_gives list g = rw (← e, g) (gives_refused NotConnected table list)
 
   pub peer_at :
       (s : ℕ) (a : Answer) (table' : List ℕ) →
@@ -35,13 +25,6 @@ module _ (table : List ℕ) (id : ℕ) (f : ℕ → Reply) (r : Option ℕ) (e :
       Leaves (f s) a table table' →
       Leaves (of_peer (state_of table) id f) a table table'
   peer_at s a table' g l = rw (← e, g) l
-
-  pub peer_at_gives :
-      (s : ℕ) (a : Answer) (table' list list' : List ℕ) →
-      r ≡ Some s →
-      Gives (f s) a table table' list list' →
-      Gives (of_peer (state_of table) id f) a table table' list list'
-  peer_at_gives s a table' list list' g l = rw (← e, g) l
 
 -- a reply that goes by a test
 pub leaves_then :

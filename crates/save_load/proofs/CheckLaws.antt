@@ -21,7 +21,7 @@ use Rattle.params.specs.Check.{first_broken}
 use Rattle.records.specs.Records.{State, slot_count, set_clock}
 use Rattle.layout.specs.View.{state_of}
 use Rattle.validity.specs.Valid.{max_time}
-use Rattle.lookup.specs.Fresh.{fresh_state, made_of, Makes}
+use Rattle.lookup.specs.Fresh.{fresh_state, Makes}
 use Rattle.lookup.proofs.FreshLaws.{fresh_valid}
 use Rattle.saves.specs.Load.{Parse, numbers, malformed, parse_from, most_of, ascends, outside, loaded_state, Loading, loaded}
 use Rattle.saves.specs.Load.{out_of_range}
@@ -29,7 +29,7 @@ use Rattle.saves.specs.Load.{broken, bad, slots_of, judged_by, records, counted,
 use Rattle.saves.specs.Load.{Loads}
 use Rattle.saves.proofs.Parsing.{top}
 use Rattle.save_load.specs.Skim.{skim_of}
-use Rattle.save_load.specs.Judge.{is_read, place_by, judge_of}
+use Rattle.save_load.specs.Judge.{place_by, judge_of}
 use Rattle.save_load.specs.Store.{Loadable, stored_all}
 use Rattle.save_load.specs.Checked.{Coded, Says, Checks}
 use Rattle.save_load.proofs.RangeLaws.{most_wide}
@@ -56,9 +56,6 @@ skim_broken (malformed p) x e = let z : Malformed p ≡ x = cc in (p, (refl, z))
 skim_end : (q : Parse) (next : ℕ) → skim_of q ≡ Ok next → (l : List ℕ) × (q ≡ numbers l next)
 skim_end (numbers l n) next e = let z : n ≡ next = cc in (l, ap (numbers l) z)
 skim_end (malformed p) next e = let z : ◌≡◌ {A = ℕ} 0 1 = cc in absurd (omega arith)
-
-pub skim_read : (s : List ℕ) (at n next : ℕ) (k : Result ℕ LoadError) → k ≡ skim_of (parse_from n s at) → k ≡ Ok next → is_read (parse_from n s at) ≡ true
-skim_read s at n next k e q = let r = skim_end (parse_from n s at) next (sym e ∙ q) in ap is_read r.1
 
 module _ (p : Params) (clock : ℕ) (s codes : List ℕ) (n at : ℕ) (c : Coded p codes) (few : n ≤ slot_count) (k : Result ℕ LoadError)
     (e : k ≡ skim_of (parse_from (n * 44) s at)) where
@@ -195,9 +192,6 @@ load_refused p clock s table (Err y) x g q =
 load_refused p clock s table (Ok a) x g q = let z : ◌≡◌ {A = ℕ} 0 1 = cc in absurd (omega arith)
 
 -- ---- the ends of `make`
--- parameters that pass are not refused
-pub make_ok : (p : Params) (r : Result (Unit {0}) FreshError) (t₀ t₁ : List ℕ) → first_broken p ≡ None → Makes p r t₀ t₁ → r ≡ Ok tt
-make_ok p r t₀ t₁ ok m = m.answer ∙ ap made_of ok
 
 pub make_is :
     (p : Params) (clock n : ℕ) (l : List ℕ) → n ≤ slot_count → first_broken p ≡ None → (r : Result (Unit {0}) FreshError) (t₀ t₁ t₂ t₃ : List ℕ) →

@@ -327,11 +327,11 @@ pub within_part :
     p ≡ t * window_count →
     n ≡ window_count →
     p + window_count ≤ length c →
-    list_all (λ (m : ℕ). leb m 64) (take n (drop p c)) ≡ all window_ok (five_at c t)
+    list_all (λ (m : ℕ). leb m window_most) (take n (drop p c)) ≡ all window_ok (five_at c t)
 within_part c t p n e f h =
-    ap (list_all (λ (m : ℕ). leb m 64)) (five_cells c p n f h)
-    ∙ ap (λ (x : Bool). leb (get_or c p 0) 64 && (leb (get_or c (p + 1) 0) 64 && (leb (get_or c (p + 2) 0) 64 && (leb (get_or c (p + 3) 0) 64 && x))))
-    (and_true (leb (get_or c (p + 4) 0) 64))
+    ap (list_all (λ (m : ℕ). leb m window_most)) (five_cells c p n f h)
+    ∙ ap (λ (x : Bool). leb (get_or c p 0) window_most && (leb (get_or c (p + 1) 0) window_most && (leb (get_or c (p + 2) 0) window_most && (leb (get_or c (p + 3) 0) window_most && x))))
+    (and_true (leb (get_or c (p + 4) 0) window_most))
     ∙ within_five c t p e
 
 pub clash : {A : Type 0} → false ≡ true → A

@@ -13,15 +13,14 @@ use Rattle.index.specs.Index.{every}
 use Rattle.index.proofs.Index.{both, every_by}
 use Rattle.index.proofs.Flags.{by_test, by_order}
 use Rattle.params.specs.Check.{accepted_codes}
-use Rattle.records.specs.declared.Groups.{Groups}
 use Rattle.records.specs.Records.{State, slot_count, topic_count, place, joined_in, peer_in, topic_in}
 use Rattle.layout.specs.View.{cell_count, state_of, EmptyFrom, FlagsFrom}
 use Rattle.layout.proofs.ReadLaws.{explicit_le, outbound_le, member_le, subscribed_le, no_times}
-use Rattle.slot_words.specs.Flags.{PeerFlags, TopicFlags, TimesWithin, FreeSlots}
+use Rattle.slot_words.specs.Flags.{FreeSlots}
 use Rattle.slot_words.proofs.WordLaws.{at_word, each_word}
-use Rattle.columns.specs.Within.{PeersWithin, EndsWithin, CountersWithin, Named, OneGroup, NoRetain}
+use Rattle.columns.specs.Within.{Named, OneGroup, NoRetain}
 use Rattle.validity.specs.Valid.{max_time, max_end, max_group, max_retain, rising_ok, cap2, cap3, joined_ok, slot_ok, topic_ok_at, valid}
-use Rattle.validity.specs.Order.{Caps, UpTo}
+use Rattle.validity.specs.Order.{UpTo}
 use Rattle.validity.specs.Looks.{WordsRight, ColumnsRight, GroupsAt, NameAt, RetainAt, HoleAt, SlotsRight, FreeIn, RecordsRight}
 use Rattle.validity.proofs.Conditions.{else}
 use Rattle.validity.proofs.ValidLaws.{PeerFacts, FitsAt, peer_holds, topic_holds}
@@ -148,41 +147,10 @@ ends_near st n k e q = subst (λ (x : ℕ). ColumnsRight st n (x + 3600000)) e q
 pub retains_near : (st : State) (n k : ℕ) → k ≡ st.clock → SlotsRight st n (k + 86400000) → SlotsRight st n (max_retain st.clock)
 retains_near st n k e p = subst (λ (x : ℕ). SlotsRight st n (x + 86400000)) e p
 
-pub words_told :
-    (st : State) (n clock : ℕ) →
-    PeerFlags st n →
-    ((t : ℕ) → t < topic_count → TopicFlags st t) →
-    ((t : ℕ) → t < topic_count → TimesWithin st t clock) →
-    clock ≡ st.clock →
-    WordsRight st n
-words_told st n clock p f g e = record { peers = p; topics = f; times = λ t k. subst (TimesWithin st t) e (g t k) }
-
 -- ---- the caps of the topics
-pub columns_told :
-    (st : State) (n m : ℕ) (caps2 caps3 : List ℕ) →
-    Caps st caps2 caps3 →
-    PeersWithin st n 4294967295 4294967296 2000000000 1000000 →
-    EndsWithin st n m →
-    CountersWithin st n caps2 caps3 1000000 1000000000000 →
-    ColumnsRight st n m
-columns_told st n m caps2 caps3 k p e q =
-    record {
-      peers = p;
-      ends = e;
-      p2 = λ s t l h. le_of (q.p2 s t l h) (k.p2 t h);
-      p3 = λ s t l h. le_of (q.p3 s t l h) (k.p3 t h);
-      p4 = q.p4;
-      p3b = q.p3b;
-    }
-  where
-    le_of : {x a b : ℕ} → x ≤ a → a ≡ b → x ≤ b
-    le_of h z = rw z at h
 
 -- ---- slots, one by one
 module _ (st : State) (s : ℕ) where
-  pub rising_told : (g : Groups) (r : Bool) → g ≡ (peer_in st s).groups → r ≡ rising_ok g → r ≡ true → GroupsAt st s
-  rising_told g r e er h = record { rising = λ l. ap rising_ok (sym e) ∙ sym er ∙ h }
-
   pub name_told :
       (status id group : ℕ) →
       status ≡ (peer_in st s).status →

@@ -2,7 +2,7 @@
 -- Assumes nothing.
 use Prim.Native.Nat.{ℕ, zero, suc, ◌+◌, ◌≤◌, ◌<◌}
 use native.Mathlib.Omega.{arith}
-use native.Mathlib.Nat.{not-suc-le-zero, le_of_suc-le-suc, add-zero, add-suc, suc-add}
+use native.Mathlib.Nat.{not-suc-le-zero, le_of_suc-le-suc}
 use mathlib.Core.Path.{◌≡◌, refl, sym, subst, ap, ◌∙◌}
 use mathlib.Core.Bool.{Bool, true, false}
 use mathlib.Core.List.{List, [], ◌∷◌}
@@ -16,21 +16,6 @@ use Rattle.words.specs.declared.slots.Slots.{Slots}
 use Rattle.words.specs.Walk.{GivesSlot, Gives, Ends}
 use Rattle.words.specs.Words.{bits_of, lowest, slots, Next}
 
-pub slots_step :
-    (i : ℕ) (m : List Bool) → lowest m < length m → slots i m ≡ (i + lowest m) ∷ slots i (set m (lowest m) false)
-unfolding slots lowest
-slots_step i [] h = absurd (not-suc-le-zero h)
-slots_step i (true ∷ m) h = rw (add-zero i)
-slots_step i (false ∷ m) h =
-    slots_step (suc i) m (le_of_suc-le-suc h)
-    ∙ ap (λ (x : ℕ). x ∷ slots (suc i) (set m (lowest m) false)) (suc-add i (lowest m) ∙ sym (add-suc i (lowest m)))
-
-pub slots_end : (i : ℕ) (m : List Bool) → length m ≤ lowest m → slots i m ≡ []
-unfolding slots lowest
-slots_end i [] h = refl
-slots_end i (true ∷ m) h = absurd (not-suc-le-zero h)
-slots_end i (false ∷ m) h = slots_end (suc i) m (le_of_suc-le-suc h)
-
 pub lowest_below : (m : List Bool) (s : ℕ) → s < lowest m → get_or m s false ≡ false
 unfolding lowest
 lowest_below [] s h = refl
@@ -43,13 +28,6 @@ unfolding lowest
 lowest_most [] = omega arith
 lowest_most (true ∷ m) = omega arith
 lowest_most (false ∷ m) = let h = lowest_most m in omega arith
-
--- without the lowest, the lowest is a later one
-pub lowest_next : (m : List Bool) → lowest m < length m → lowest m < lowest (set m (lowest m) false)
-unfolding lowest
-lowest_next [] h = absurd (not-suc-le-zero h)
-lowest_next (true ∷ m) h = omega arith
-lowest_next (false ∷ m) h = let l = lowest_next m (le_of_suc-le-suc h) in omega arith
 
 -- a turn that changes nothing is no turn
 pub iter_sparse :
