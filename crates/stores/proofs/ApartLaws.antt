@@ -330,7 +330,8 @@ pub within_part :
     list_all (λ (m : ℕ). leb m window_most) (take n (drop p c)) ≡ all window_ok (five_at c t)
 within_part c t p n e f h =
     ap (list_all (λ (m : ℕ). leb m window_most)) (five_cells c p n f h)
-    ∙ ap (λ (x : Bool). leb (get_or c p 0) window_most && (leb (get_or c (p + 1) 0) window_most && (leb (get_or c (p + 2) 0) window_most && (leb (get_or c (p + 3) 0) window_most && x))))
+    ∙ ap (λ (x : Bool). leb (get_or c p 0) window_most &&
+    (leb (get_or c (p + 1) 0) window_most && (leb (get_or c (p + 2) 0) window_most && (leb (get_or c (p + 3) 0) window_most && x))))
     (and_true (leb (get_or c (p + 4) 0) window_most))
     ∙ within_five c t p e
 
