@@ -9,7 +9,6 @@ use Rattle.sets.specs.Sets.{ascending, is_permutation}
 use Rattle.trace_events.specs.declared.Edition.{Edition}
 use Rattle.trace_events.specs.declared.Edition.TheVariants.{First, Second, Third}
 use Rattle.trace_events.specs.declared.NumberError.{NumberError}
-use Rattle.trace_events.specs.declared.NumberError.TheVariants.{Unread}
 use Rattle.rules.specs.Calls.{Call, connect, disconnect, join, leave, subscribe, unsubscribe, graft, prune, deliver, rate, heartbeat, decay}
 use Rattle.rules.specs.Calls.{score}
 
@@ -63,7 +62,7 @@ numbers_from (suc n) s at = number_then (λ next. numbers_from n s next) at (rea
 -- what a reading of n comes to, from the list that they were put into
 abbrev pub outcome : ℕ → Result ℕ NumberError → List ℕ → Numbers
 outcome n (Ok next) values = numbers (take n values) next
-outcome n (Err (Unread p)) values = broken p
+outcome n (Err e) values = broken e.place
 
 -- a number that cannot be read at a place may yet be completed by further bytes: all that are there say that more follow, and ten would
 -- be above 64 bits

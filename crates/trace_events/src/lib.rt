@@ -14,9 +14,8 @@ pub enum Edition {
     Third,
 }
 
-// Why numbers were not read.
+// Numbers were not read: the place of the first that cannot be.
 #[derive(Clone, Copy)]
-pub enum NumberError {
-    // the place of the first that cannot be read
-    Unread(usize),
+pub struct NumberError {
+    pub place: usize,
 }

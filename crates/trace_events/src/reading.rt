@@ -60,7 +60,7 @@ pub fn read_numbers(s: &[u8], at: usize, n: usize, values: &mut [u64]) -> Result
     let mut place = at;
     for i in 0..n {
         let Some((u, next)) = varint::read_u64(s, place) else {
-            return Err(NumberError::Unread(place));
+            return Err(NumberError { place });
         };
         values[i] = u;
         place = next;

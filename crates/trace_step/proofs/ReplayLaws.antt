@@ -34,7 +34,6 @@ use Rattle.rules.specs.Step.{step, action_room}
 use Rattle.rules.specs.Promise.{Follows}
 use Rattle.rules.proofs.CountLaws.{Counted, counted}
 use Rattle.trace_events.specs.declared.NumberError.{NumberError}
-use Rattle.trace_events.specs.declared.NumberError.TheVariants.{Unread}
 use Rattle.trace_events.specs.declared.Edition.{Edition}
 use Rattle.trace_events.specs.declared.Edition.TheVariants.{First, Second, Third}
 use Rattle.trace_events.specs.Reading.{order_size, widened, Numbers, numbers, broken, numbers_from, outcome, arity, call_of, Event, event}
@@ -219,8 +218,8 @@ module _ (s : List ℕ) (at n : ℕ) (us : Result ℕ NumberError) (v : List ℕ
   read_whole : (next : ℕ) → us ≡ Ok next → numbers_from n s at ≡ numbers (take n v) next
   read_whole next g = sym e ∙ ap (λ (r : Result ℕ NumberError). outcome n r v) g
 
-  read_broken : (place : ℕ) → us ≡ Err (Unread place) → numbers_from n s at ≡ broken place
-  read_broken place g = sym e ∙ ap (λ (r : Result ℕ NumberError). outcome n r v) g
+  read_broken : (y : NumberError) → us ≡ Err y → numbers_from n s at ≡ broken y.place
+  read_broken y g = sym e ∙ ap (λ (r : Result ℕ NumberError). outcome n r v) g
 
 -- ---- the ends of `counted`
 module _ (s v : List ℕ) (at : ℕ) where
@@ -244,13 +243,13 @@ module _ (s v : List ℕ) (at : ℕ) where
         (ap₂ (λ (b : Bool) (x : Numbers). cond b (grouped s v x) malformed) (le-leb (get_or v 2 0) group_most few) f) p
 
     pub counted_unread :
-        (table list : List ℕ) (place : ℕ) (x : EventError) →
-        us ≡ Err (Unread place) →
-        x ≡ cond (cut_short s place) CutShort Malformed →
+        (table list : List ℕ) (y : NumberError) (x : EventError) →
+        us ≡ Err y →
+        x ≡ cond (cut_short s y.place) CutShort Malformed →
         Performs (perform_event (state_of table) (length list) (many s v at)) (Err x) table list list
-    counted_unread table list place x f h =
-        at_groups (broken place) table table list list (Err x) (read_broken s at (get_or v 2 0 + 2) us w e place f)
-        (unread_is s place x table list h)
+    counted_unread table list y x f h =
+        at_groups (broken y.place) table table list list (Err x) (read_broken s at (get_or v 2 0 + 2) us w e y f)
+        (unread_is s y.place x table list h)
 
     -- what was read behind the count
     pub counted_called :
@@ -286,12 +285,12 @@ module _ (s v : List ℕ) (at n : ℕ) (g : Edition) (told : n ≡ order_size g)
       (ap (ordered s v) (ap (λ (k : ℕ). numbers_from k s at) (sym told) ∙ f)) p
 
   pub heartbeat_unread :
-      (table list : List ℕ) (place : ℕ) (x : EventError) →
-      us ≡ Err (Unread place) →
-      x ≡ cond (cut_short s place) CutShort Malformed →
+      (table list : List ℕ) (y : NumberError) (x : EventError) →
+      us ≡ Err y →
+      x ≡ cond (cut_short s y.place) CutShort Malformed →
       Performs (perform_event (state_of table) (length list) (ordered s v (numbers_from (order_size g) s at))) (Err x) table list list
-  heartbeat_unread table list place x f h =
-      at_order (broken place) table table list list (Err x) (read_broken s at n us order e place f) (unread_is s place x table list h)
+  heartbeat_unread table list y x f h =
+      at_order (broken y.place) table table list list (Err x) (read_broken s at n us order e y f) (unread_is s y.place x table list h)
 
   pub heartbeat_called :
       (wide : List ℕ) (a : Answer) (table table' list list' : List ℕ) (next : ℕ) →
@@ -308,14 +307,14 @@ module _ (s v : List ℕ) (at n : ℕ) (g : Edition) (told : n ≡ order_size g)
 -- ---- the ends of `perform_kind`
 module _ (g : Edition) (s : List ℕ) (kind at n : ℕ) (us : Result ℕ NumberError) (v : List ℕ) (e : outcome n us v ≡ numbers_from n s at) where
   pub kind_unread :
-      (table list : List ℕ) (place : ℕ) (x : EventError) →
-      us ≡ Err (Unread place) →
-      x ≡ cond (cut_short s place) CutShort Malformed →
+      (table list : List ℕ) (y : NumberError) (x : EventError) →
+      us ≡ Err y →
+      x ≡ cond (cut_short s y.place) CutShort Malformed →
       Performs (perform_event (state_of table) (length list) (of_numbers g s kind (numbers_from n s at))) (Err x) table list list
-  kind_unread table list place x f h =
-      as_event (state_of table) (length list) (of_numbers g s kind (numbers_from n s at)) (unread s place) (Err x) table list list
-      (ap (of_numbers g s kind) (read_broken s at n us v e place f))
-      (unread_is s place x table list h)
+  kind_unread table list y x f h =
+      as_event (state_of table) (length list) (of_numbers g s kind (numbers_from n s at)) (unread s y.place) (Err x) table list list
+      (ap (of_numbers g s kind) (read_broken s at n us v e y f))
+      (unread_is s y.place x table list h)
 
   module _ (z : (k : ℕ) → n ≤ k → get_or v k 0 ≡ 0) (after : ℕ) (f : us ≡ Ok after) where
     whole : numbers_from n s at ≡ numbers (take n v) after

@@ -12,9 +12,9 @@ ghost use Rattle.trace_step.specs.Replay.{perform_event, Performs, Replays, repl
 use layout::CELLS;
 use records::{ACTION_ROOM, SLOTS};
 use rules::Answer;
+use trace_events::Edition;
 use trace_events::lines::{LINE_ROOM, put_pair, put_reply};
 use trace_events::reading::{NUMBERS, arity, cut_short, order_size, read_numbers, widen};
-use trace_events::{Edition, NumberError};
 
 // The longest protocol name that is read.
 const NAME_MOST: u64 = 64;
@@ -162,7 +162,7 @@ fn counted(
     let mut w = [0u64; COUNTED];
     let next = match read_numbers(s, at, n + 2, &mut w) {
         Ok(next) => next,
-        Err(NumberError::Unread(place)) => return Err(unread(s, place)),
+        Err(e) => return Err(unread(s, e.place)),
     };
     let flags = w[n];
     let size = w[n + 1];
@@ -205,7 +205,7 @@ fn heartbeat(
     let n = order_size(edition);
     let next = match read_numbers(s, at, n, &mut order) {
         Ok(next) => next,
-        Err(NumberError::Unread(place)) => return Err(unread(s, place)),
+        Err(e) => return Err(unread(s, e.place)),
     };
     widen(&mut order, n);
     let a = router::heartbeat(table, v[0], v[1], v[2], &order, actions);
@@ -230,7 +230,7 @@ fn perform_kind(
     let mut v = [0u64; NUMBERS];
     let next = match read_numbers(s, at, n, &mut v) {
         Ok(next) => next,
-        Err(NumberError::Unread(place)) => return Err(unread(s, place)),
+        Err(e) => return Err(unread(s, e.place)),
     };
     match kind {
         1 => connecting(table, edition, s, &v, next, actions),

@@ -12,11 +12,11 @@ returns-then-count-gt-GROUP_MOST c = counted_many c.args.s.now c.args.v.now c.ar
 pub read_numbers-requires : goal.read_numbers-requires
 read_numbers-requires c = let h = c.if-count-gt-GROUP_MOST.false in omega arith
 
-pub returns-in-Err-Unread : goal.returns-in-Err-Unread
-returns-in-Err-Unread c =
+pub returns-in-Err : goal.returns-in-Err
+returns-in-Err c =
     let u = c.read_numbers in
     counted_unread c.args.s.now c.args.v.now c.args.at c.if-count-gt-GROUP_MOST.false
-    u.result _ u.ensures.0 _ _ _ _ (rw c.in-Err-Unread.field-0-is at c.in-Err-Unread.is) (rw c.in-Err-Unread.field-0-is at c.unread.ensures)
+    u.result _ u.ensures.0 _ _ _ _ c.in-Err.is c.unread.ensures
 
 pub offset_bounds-w-n : goal.offset_bounds-w-n
 offset_bounds-w-n c = let h = c.if-count-gt-GROUP_MOST.false in search rules

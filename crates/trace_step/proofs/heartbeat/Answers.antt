@@ -2,12 +2,12 @@
 use Rattle.trace_step.proofs.ReplayLaws.{heartbeat_unread, heartbeat_called}
 use Rattle.trace_step.proofs.heartbeat.Goals as goal
 
-pub returns-in-Err-Unread : goal.returns-in-Err-Unread
-returns-in-Err-Unread c =
+pub returns-in-Err : goal.returns-in-Err
+returns-in-Err c =
     let u = c.read_numbers in
     let n = c.order_size-n in
     heartbeat_unread _ c.args.v.now _ _ c.args.edition n.ensures.0 u.result _ u.ensures.0 _ _ _ _
-    (rw c.in-Err-Unread.field-0-is at c.in-Err-Unread.is) (rw c.in-Err-Unread.field-0-is at c.unread.ensures)
+    c.in-Err.is c.unread.ensures
 
 pub returns : goal.returns
 returns c =

@@ -11,11 +11,11 @@ pub read_numbers-requires : goal.read_numbers-requires
 read_numbers-requires c = let h = c.requires in
     omega (arith, arity_most c.args.edition c.args.kind)
 
-pub returns-in-Err-Unread : goal.returns-in-Err-Unread
-returns-in-Err-Unread c =
+pub returns-in-Err : goal.returns-in-Err
+returns-in-Err c =
     let u = c.read_numbers in
-    kind_unread c.args.edition _ c.args.kind _ _ u.result _ u.ensures.0 _ _ _ _ (rw c.in-Err-Unread.field-0-is at c.in-Err-Unread.is)
-    (rw c.in-Err-Unread.field-0-is at c.unread.ensures)
+    kind_unread c.args.edition _ c.args.kind _ _ u.result _ u.ensures.0 _ _ _ _ c.in-Err.is
+    c.unread.ensures
 
 pub call-requires : goal.call-requires
 call-requires c = ((search rules), (search rules))

@@ -28,18 +28,18 @@ pub returns-in-Err-Unknown : goal.returns-in-Err-Unknown
 returns-in-Err-Unknown c =
     let p = c.perform-done in
     replay_event_lem _ _ _ _ _ _ _ _ c.if-out-lt-LINE_ROOM.false
-    (event_unknown _ _ _ _ _ _ p.ensures _ _ _ (rw c.in-Err-Unknown.field-0-is at c.in-Err-Unknown.is)
+    (event_unknown _ _ _ _ _ _ p.ensures _ _ _ (search (rules, c.in-Err-Unknown.is, c.in-Err-Unknown.field-0-is))
     c.put_pair.ensures)
 
 pub returns-in-Err-Malformed : goal.returns-in-Err-Malformed
 returns-in-Err-Malformed c =
     let p = c.perform-done in
     replay_event_lem _ _ _ _ _ _ _ _ c.if-out-lt-LINE_ROOM.false
-    (event_malformed _ _ _ _ _ _ p.ensures _ _ _ (rw c.in-Err-Malformed.field-0-is at c.in-Err-Malformed.is)
+    (event_malformed _ _ _ _ _ _ p.ensures _ _ _ (search (rules, c.in-Err-Malformed.is, c.in-Err-Malformed.field-0-is))
     c.put_pair-in-Err-Malformed.ensures)
 
 pub returns-in-Err-CutShort : goal.returns-in-Err-CutShort
 returns-in-Err-CutShort c =
     let p = c.perform-done in
     replay_event_lem _ _ _ _ _ _ _ _ c.if-out-lt-LINE_ROOM.false
-    (event_short _ _ _ _ _ _ p.ensures _ (rw c.in-Err-CutShort.field-0-is at c.in-Err-CutShort.is))
+    (event_short _ _ _ _ _ _ p.ensures _ (search (rules, c.in-Err-CutShort.is, c.in-Err-CutShort.field-0-is)))
