@@ -19,6 +19,8 @@ pub found_below : (st : State) (id s : ℕ) (r : Option ℕ) → r ≡ find_conn
 unfolding find_connected
 found_below st id s r e g = (first_is (holds st 1 id) slot_count s (sym e ∙ g)).0
 
+-- the slot's own reply
+module _ (table : List ℕ) (id : ℕ) (f : ℕ → Reply) (r : Option ℕ) (e : r ≡ find_connected (state_of table) id) where
   pub peer_at :
       (s : ℕ) (a : Answer) (table' : List ℕ) →
       r ≡ Some s →

@@ -9,6 +9,7 @@ ghost use Rattle.show_params.specs.Show.{shown_text};
 
 use params_bytes::ReadError;
 use std::io;
+use std::io::Write;
 
 // What reading `bytes` comes to, at the front.
 fn show(buf: &mut [u8], bytes: &[u8]) -> usize
