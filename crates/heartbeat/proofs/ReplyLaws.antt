@@ -31,6 +31,7 @@ use Rattle.mesh.specs.Maintenance.{
 }
 use Rattle.effects.specs.Actions.{numbers_of}
 use Rattle.effects.specs.Effects.{is_member, end_after, prune_backoff}
+use Rattle.rules.specs.declared.Answer.{Answer}
 use Rattle.rules.specs.declared.Answer.TheVariants.{Done}
 use Rattle.rules.specs.Calls.{topic_ok}
 use Rattle.rules.specs.Reply.{done}
