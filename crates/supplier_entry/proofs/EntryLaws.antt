@@ -1,6 +1,5 @@
 -- Laws of entries: the ends of the functions that read, convert and write one.
 -- Assumes nothing.
-use Rattle.supplier_entry.specs.Entries.{kind_of, unit_of}
 use Rattle.std.proofs.Common.{Option, Some, None}
 use Prim.Native.Nat.{ℕ, ◌-◌, ◌*◌, ◌/◌, ◌%◌, ◌^◌, ◌<◌, ◌≤◌}
 use mathlib.Core.Path.{◌≡◌, refl, sym, ◌∙◌, subst}
@@ -149,50 +148,50 @@ sound_if l unit u false e n h p =
 
 -- what is read is fit to be converted
 pub read_sound :
-    (kind u : ℕ) (form : Form) (l : Limit) (r : Option Entry) (e : Entry) → kind ≡ kind_of form → Fit form l → r ≡ entry_of kind u → r ≡ Some e →
-    Sound e (unit_of form) l
+    (kind u : ℕ) (form : Form) (l : Limit) (r : Option Entry) (e : Entry) → kind ≡ form.kind → Fit form l → r ≡ entry_of kind u → r ≡ Some e →
+    Sound e form.unit l
 unfolding entry_of
 read_sound kind u form l r e same fit d g = zeroth (eqb kind 0) refl (eqb kind 1) (eqb kind 2) refl (sym d ∙ g)
   where
-    last : (c : Bool) → eqb kind 2 ≡ c → cond c (Some (Span u)) None ≡ Some e → Sound e (unit_of form) l
-    last true t q = let s : Span u ≡ e = cc in subst (λ (y : Entry). Sound y (unit_of form) l) s (fit.spans (sym same ∙ eqb-true kind 2 t))
+    last : (c : Bool) → eqb kind 2 ≡ c → cond c (Some (Span u)) None ≡ Some e → Sound e form.unit l
+    last true t q = let s : Span u ≡ e = cc in subst (λ (y : Entry). Sound y form.unit l) s (fit.spans (sym same ∙ eqb-true kind 2 t))
     last false t q = let z : ◌≡◌ {A = ℕ} 0 1 = cc in absurd (omega arith)
 
-    second : (b c : Bool) → eqb kind 2 ≡ c → cond b (Some (Whole (twos u))) (cond c (Some (Span u)) None) ≡ Some e → Sound e (unit_of form) l
-    second true c t q = let s : Whole (twos u) ≡ e = cc in subst (λ (y : Entry). Sound y (unit_of form) l) s tt
+    second : (b c : Bool) → eqb kind 2 ≡ c → cond b (Some (Whole (twos u))) (cond c (Some (Span u)) None) ≡ Some e → Sound e form.unit l
+    second true c t q = let s : Whole (twos u) ≡ e = cc in subst (λ (y : Entry). Sound y form.unit l) s tt
     second false c t q = last c t q
 
     zeroth :
         (a : Bool) → eqb kind 0 ≡ a → (b c : Bool) → eqb kind 2 ≡ c →
         cond a (cond (nan_bits binary64 u) None (Some (Factor (of_bits binary64 u))))
-        (cond b (Some (Whole (twos u))) (cond c (Some (Span u)) None)) ≡ Some e → Sound e (unit_of form) l
-    zeroth true s b c t q = sound_if l (unit_of form) u (nan_bits binary64 u) e refl (fit.factors (sym same ∙ eqb-true kind 0 s)) q
+        (cond b (Some (Whole (twos u))) (cond c (Some (Span u)) None)) ≡ Some e → Sound e form.unit l
+    zeroth true s b c t q = sound_if l form.unit u (nan_bits binary64 u) e refl (fit.factors (sym same ∙ eqb-true kind 0 s)) q
     zeroth false s b c t q = second b c t q
 
 module _ (form : Form) (l : Limit) (kind u : ℕ) where
-  pub import_other : (kind ≡ kind_of form → ⊥) → None ≡ import_of form l kind u
+  pub import_other : (kind ≡ form.kind → ⊥) → None ≡ import_of form l kind u
   unfolding import_of
-  import_other n = rw (ne_eqb kind (kind_of form) n)
+  import_other n = rw (ne_eqb kind form.kind n)
 
-  module _ (r : Option Entry) (same : kind ≡ kind_of form) (d : r ≡ entry_of kind u) where
+  module _ (r : Option Entry) (same : kind ≡ form.kind) (d : r ≡ entry_of kind u) where
     pub import_bad : r ≡ None → None ≡ import_of form l kind u
     unfolding import_of
-    import_bad q = rw (eq-eqb kind (kind_of form) same, ← d, q)
+    import_bad q = rw (eq-eqb kind form.kind same, ← d, q)
 
-    pub import_good : (e : Entry) (n : Option ℤ) → r ≡ Some e → n ≡ convert_of l (unit_of form) e → n ≡ import_of form l kind u
+    pub import_good : (e : Entry) (n : Option ℤ) → r ≡ Some e → n ≡ convert_of l form.unit e → n ≡ import_of form l kind u
     unfolding import_of
-    import_good e n q t = t ∙ rw (eq-eqb kind (kind_of form) same, ← d, q)
+    import_good e n q t = t ∙ rw (eq-eqb kind form.kind same, ← d, q)
 
 -- ---- the ends of `content_of`
 module _ (form : Form) (z : ℤ) where
-  pub content_factor : (m r : ℕ) → kind_of form ≡ 0 → m ≡ nat_abs z → r ≡ factor_bits m → r ≡ content_of form z
+  pub content_factor : (m r : ℕ) → form.kind ≡ 0 → m ≡ nat_abs z → r ≡ factor_bits m → r ≡ content_of form z
   unfolding content_of
   content_factor m r e p q = rw (e, q, p)
 
-  pub content_whole : (r : ℕ) → kind_of form ≡ 1 → r ≡ twos_of z → r ≡ content_of form z
+  pub content_whole : (r : ℕ) → form.kind ≡ 1 → r ≡ twos_of z → r ≡ content_of form z
   unfolding content_of
   content_whole r e q = rw (e, q)
 
-  pub content_span : (m : ℕ) → (kind_of form ≡ 0 → ⊥) → (kind_of form ≡ 1 → ⊥) → m ≡ nat_abs z → m * unit_of form ≡ content_of form z
+  pub content_span : (m : ℕ) → (form.kind ≡ 0 → ⊥) → (form.kind ≡ 1 → ⊥) → m ≡ nat_abs z → m * form.unit ≡ content_of form z
   unfolding content_of
-  content_span m a b p = rw (ne_eqb (kind_of form) 0 a, ne_eqb (kind_of form) 1 b, p)
+  content_span m a b p = rw (ne_eqb form.kind 0 a, ne_eqb form.kind 1 b, p)

@@ -1,6 +1,5 @@
 -- What is written is imported again, what is imported is written again, and a factor is accepted exactly if some n's is it: by cases on the
 -- kind. Assumes nothing.
-use Rattle.supplier_entry.specs.Entries.{kind_of, unit_of}
 use Rattle.std.proofs.Common.{Option, Some, None}
 use Rattle.index.proofs.Kit.{ℕ, ◌+◌, ◌-◌, ◌*◌, ◌<◌, ◌≤◌, ◌≡◌, refl, sym, ap, ◌∙◌, Bool, true, false, not, arith, by_test, by_order}
 use Prim.Native.Nat.{zero, suc, ◌/◌, ◌%◌, ◌^◌}
@@ -70,8 +69,8 @@ same_bits u room t = to_bits-of_bits binary64 u room (rw (sym (nan_bits_is binar
 pub accepted_exactly : AcceptedExactly
 unfolding import_of entry_of convert_of
 accepted_exactly form l u k g room =
-    rw (eq-eqb 0 (kind_of form) (sym k))
-    (by_test (read_number l (unit_of form) (entry_of 0 u) ≡ as_number (thousandths_of l u)) (nan_bits binary64 u)
+    rw (eq-eqb 0 form.kind (sym k))
+    (by_test (read_number l form.unit (entry_of 0 u) ≡ as_number (thousandths_of l u)) (nan_bits binary64 u)
     (λ t. rw t (nan_none l u g t (thousandths_of l u) refl))
     (λ t. rw (t, same_bits u room t)))
 
@@ -106,10 +105,10 @@ module _ (form : Form) (l : Limit) (z : ℤ) (row : Field form l) (h : lies z l 
   plain : pos (nat_abs l.low) ≡ l.low → pos (nat_abs l.high) ≡ l.high → (pos (nat_abs z) ≡ z) × (nat_abs z ≤ nat_abs l.high)
   plain a b = natural l.low z l.high a b sides.0 sides.1
 
-  units_room : nat_abs z * unit_of form < 2 ^ 63
-  units_room = let m = mul-le-mul size_sum (le_refl (unit_of form)) in let w = row.room in omega arith
+  units_room : nat_abs z * form.unit < 2 ^ 63
+  units_room = let m = mul-le-mul size_sum (le_refl form.unit) in let w = row.room in omega arith
 
-  factor_most : kind_of form ≡ factor_kind → (pos (nat_abs z) ≡ z) × (nat_abs z ≤ nat_abs l.high)
+  factor_most : form.kind ≡ factor_kind → (pos (nat_abs z) ≡ z) × (nat_abs z ≤ nat_abs l.high)
   factor_most e = let g = row.fit.factors e in plain g.low g.high
 
   -- what the writer asks
@@ -120,14 +119,14 @@ module _ (form : Form) (l : Limit) (z : ℤ) (row : Field form l) (h : lies z l 
   pub content_lt : content_of form z < 2 ^ 64
   unfolding content_of
   content_lt =
-      by_test (content_of form z < 2 ^ 64) (eqb (kind_of form) factor_kind)
+      by_test (content_of form z < 2 ^ 64) (eqb form.kind factor_kind)
       (λ t. rw t (factor_lt_64 (nat_abs z)))
       (λ t.
-      by_test (content_of form z < 2 ^ 64) (eqb (kind_of form) whole_kind)
+      by_test (content_of form z < 2 ^ 64) (eqb form.kind whole_kind)
       (λ s. rw (t, s) (twos_lt z (omega (arith, size_sum, row.size.0, row.size.1))))
       (λ s. rw (t, s) (omega (arith, units_room))))
 
-  imports_factor : kind_of form ≡ factor_kind → import_of form l factor_kind (factor_bits (nat_abs z)) ≡ Some z
+  imports_factor : form.kind ≡ factor_kind → import_of form l factor_kind (factor_bits (nat_abs z)) ≡ Some z
   imports_factor e =
       let g = row.fit.factors e in
       let p = factor_most e in
@@ -135,37 +134,37 @@ module _ (form : Form) (l : Limit) (z : ℤ) (row : Field form l) (h : lies z l 
       ∙ ap as_number (thousandths_back l (nat_abs z) g p.1 (rw p.0 h))
       ∙ ap Some p.0
 
-  imports_whole : kind_of form ≡ whole_kind → import_of form l whole_kind (twos_of z) ≡ Some z
+  imports_whole : form.kind ≡ whole_kind → import_of form l whole_kind (twos_of z) ≡ Some z
   unfolding import_of entry_of convert_of whole_of
-  imports_whole e = rw (eq-eqb whole_kind (kind_of form) (sym e), twos_back z (omega (arith, size_sum, row.size.0, row.size.1)), h)
+  imports_whole e = rw (eq-eqb whole_kind form.kind (sym e), twos_back z (omega (arith, size_sum, row.size.0, row.size.1)), h)
 
-  imports_span : kind_of form ≡ span_kind → import_of form l span_kind (nat_abs z * unit_of form) ≡ Some z
+  imports_span : form.kind ≡ span_kind → import_of form l span_kind (nat_abs z * form.unit) ≡ Some z
   unfolding import_of entry_of convert_of units_of whole_of
   imports_span e =
       let n = row.natural e in
       let p = plain n.0 n.1 in
       let u = row.fit.spans e in
       rw (
-        eq-eqb span_kind (kind_of form) (sym e),
-        mul-mod_left (nat_abs z) (unit_of form),
-        mul-div_cancel (nat_abs z) (let q : 0 < (unit_of form) = omega arith in q),
+        eq-eqb span_kind form.kind (sym e),
+        mul-mod_left (nat_abs z) form.unit,
+        mul-div_cancel (nat_abs z) (let q : 0 < form.unit = omega arith in q),
         p.0,
         h,
       )
 
   -- by the kind, and what is written with it
-  pub imports : import_of form l (kind_of form) (content_of form z) ≡ Some z
-  imports = go (kind_of form) refl
+  pub imports : import_of form l form.kind (content_of form z) ≡ Some z
+  imports = go form.kind refl
     where
-      with_kind : (k u : ℕ) → kind_of form ≡ k → u ≡ content_of form z → import_of form l k u ≡ Some z →
-          import_of form l (kind_of form) (content_of form z) ≡ Some z
+      with_kind : (k u : ℕ) → form.kind ≡ k → u ≡ content_of form z → import_of form l k u ≡ Some z →
+          import_of form l form.kind (content_of form z) ≡ Some z
       with_kind k u e c d = ap₂ (import_of form l) e (sym c) ∙ d
 
-      go : (k : ℕ) → kind_of form ≡ k → import_of form l (kind_of form) (content_of form z) ≡ Some z
+      go : (k : ℕ) → form.kind ≡ k → import_of form l form.kind (content_of form z) ≡ Some z
       go zero e = with_kind 0 (factor_bits (nat_abs z)) e (content_factor form z (nat_abs z) _ e refl refl) (imports_factor e)
       go (suc zero) e = with_kind 1 (twos_of z) e (content_whole form z _ e refl) (imports_whole e)
       go (suc (suc zero)) e =
-          with_kind 2 (nat_abs z * unit_of form) e (content_span form z (nat_abs z) (λ a. omega arith) (λ a. omega arith) refl) (imports_span e)
+          with_kind 2 (nat_abs z * form.unit) e (content_span form z (nat_abs z) (λ a. omega arith) (λ a. omega arith) refl) (imports_span e)
       go (suc (suc (suc k))) e = absurd (omega (arith, row.three))
 
 pub imports_back : ImportsBack
@@ -187,18 +186,18 @@ module _ (form : Form) (l : Limit) (u : ℕ) (z : ℤ) (room : u < 2 ^ 64) where
   unfolding whole_of
   again_whole y d = by_test (y ≡ z) (lies y l) (λ t. is_same y z (rw t at d)) (λ t. not_broken z (rw t at d))
 
-  again_span : units_of l (unit_of form) u ≡ Some z → nat_abs z * unit_of form ≡ u
+  again_span : units_of l form.unit u ≡ Some z → nat_abs z * form.unit ≡ u
   unfolding units_of
   again_span d =
-      by_test (nat_abs z * unit_of form ≡ u) (eqb (u % (unit_of form)) 0)
+      by_test (nat_abs z * form.unit ≡ u) (eqb (u % form.unit) 0)
       (λ t.
-      let e = again_whole (pos (u / (unit_of form))) (rw t at d) in
-      let q = eqb-true (u % (unit_of form)) 0 t in
-      rw (sym e) (sym (add-zero (u / (unit_of form) * unit_of form)) ∙ ap (λ (k : ℕ). u / (unit_of form) * unit_of form + k) (sym q)
-      ∙ div-add-mod' u (unit_of form)))
+      let e = again_whole (pos (u / form.unit)) (rw t at d) in
+      let q = eqb-true (u % form.unit) 0 t in
+      rw (sym e) (sym (add-zero (u / form.unit * form.unit)) ∙ ap (λ (k : ℕ). u / form.unit * form.unit + k) (sym q)
+      ∙ div-add-mod' u form.unit))
       (λ t. not_broken z (rw t at d))
 
-  again_kind : (k : ℕ) → kind_of form ≡ k → read_number l (unit_of form) (entry_of k u) ≡ Some z → content_of form z ≡ u
+  again_kind : (k : ℕ) → form.kind ≡ k → read_number l form.unit (entry_of k u) ≡ Some z → content_of form z ≡ u
   unfolding entry_of convert_of content_of
   again_kind zero e d =
       rw e
@@ -209,11 +208,11 @@ module _ (form : Form) (l : Limit) (u : ℕ) (z : ℤ) (room : u < 2 ^ 64) where
   again_kind (suc (suc zero)) e d = rw e (again_span d)
   again_kind (suc (suc (suc k))) e d =
       let none = entry_none (suc (suc (suc k))) u (λ a. omega arith) (λ a. omega arith) (λ a. omega arith) in
-      not_broken z (ap (read_number l (unit_of form)) none ∙ d)
+      not_broken z (ap (read_number l form.unit) none ∙ d)
 
 pub exports_back : ExportsBack
 unfolding import_of
 exports_back form l kind u z room d =
-    by_test ((kind ≡ kind_of form) × (content_of form z ≡ u)) (eqb kind (kind_of form))
-    (λ t. let k = eqb-true kind (kind_of form) t in (k, again_kind form l u z room kind (sym k) (rw t at d)))
+    by_test ((kind ≡ form.kind) × (content_of form z ≡ u)) (eqb kind form.kind)
+    (λ t. let k = eqb-true kind form.kind t in (k, again_kind form l u z room kind (sym k) (rw t at d)))
     (λ t. not_broken z (rw t at d))

@@ -1,5 +1,4 @@
 -- What the functions ask of their callers; the table of fields (crate supplier_params) meets it.
-use Rattle.supplier_entry.specs.Entries.{kind_of, unit_of}
 use Rattle.std.specs.Prelude.{Option, Some, None}
 use Rattle.std.specs.Prelude.{ℕ, ◌+◌, ◌*◌, ◌^◌, ◌<◌, ◌≤◌, ◌≡◌, not, T, ℤ, pos, nat_abs}
 use Rattle.std.specs.Float.Ieee.{is_nan}
@@ -26,19 +25,19 @@ Sound (Whole z) unit l = Unit
 Sound (Span t) unit l = 1 < unit
 
 pub record Fit (form : Form) (l : Limit) : Type 0 where
-  pub factors : kind_of form ≡ factor_kind → Among l
-  pub spans : kind_of form ≡ span_kind → 1 < (unit_of form)
+  pub factors : form.kind ≡ factor_kind → Among l
+  pub spans : form.kind ≡ span_kind → 1 < form.unit
 
 -- a factor is among the 1001, and a span fits into eight bytes
 pub record Writable (form : Form) (z : ℤ) : Type 0 where
-  pub factors : kind_of form ≡ factor_kind → nat_abs z ≤ 1000
-  pub spans : nat_abs z * unit_of form < 2 ^ 64
+  pub factors : form.kind ≡ factor_kind → nat_abs z ≤ 1000
+  pub spans : nat_abs z * form.unit < 2 ^ 64
 
 -- a row of the table of fields: one of the three kinds; a factor's and a span's limits are natural numbers; every number between the limits
 -- can be written
 pub record Field (form : Form) (l : Limit) : Type 0 where
-  pub three : (kind_of form) ≤ 2
+  pub three : form.kind ≤ 2
   pub fit : Fit form l
-  pub natural : kind_of form ≡ span_kind → (pos (nat_abs l.low) ≡ l.low) × (pos (nat_abs l.high) ≡ l.high)
+  pub natural : form.kind ≡ span_kind → (pos (nat_abs l.low) ≡ l.low) × (pos (nat_abs l.high) ≡ l.high)
   pub size : (nat_abs l.low < 2 ^ 62) × (nat_abs l.high < 2 ^ 62)
-  pub room : (nat_abs l.low + nat_abs l.high) * unit_of form < 2 ^ 63
+  pub room : (nat_abs l.low + nat_abs l.high) * form.unit < 2 ^ 63

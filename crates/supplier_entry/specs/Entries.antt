@@ -9,7 +9,6 @@ use Rattle.limits.specs.Limits.{lies}
 use Rattle.supplier_entry.specs.declared.Entry.{Entry}
 use Rattle.supplier_entry.specs.declared.Entry.TheVariants.{Factor, Whole, Span}
 use Rattle.supplier_entry.specs.declared.Form.{Form}
-use Rattle.supplier_entry.specs.declared.Form.TheVariants.{Factors, Wholes, Spans}
 use Rattle.supplier_entry.specs.Factor.{factor_bits, thousandths_of}
 
 -- the three kinds
@@ -21,17 +20,6 @@ whole_kind = 1
 
 abbrev pub span_kind : ℕ
 span_kind = 2
-
--- a field's kind, and of spans the nanoseconds of one of its units
-abbrev pub kind_of : Form → ℕ
-kind_of Factors = factor_kind
-kind_of Wholes = whole_kind
-kind_of (Spans unit) = span_kind
-
-abbrev pub unit_of : Form → ℕ
-unit_of Factors = 1
-unit_of Wholes = 1
-unit_of (Spans unit) = unit
 
 -- "a signed whole number": two's complement
 unfoldable pub twos : ℕ → ℤ
@@ -72,10 +60,10 @@ read_number l unit None = None
 
 -- "a wrong kind or broken entry" has no number, whatever its eight bytes are
 unfoldable pub import_of : Form → Limit → ℕ → ℕ → Option ℤ
-import_of form l kind u = cond (eqb kind (kind_of form)) (read_number l (unit_of form) (entry_of kind u)) None
+import_of form l kind u = cond (eqb kind form.kind) (read_number l form.unit (entry_of kind u)) None
 
 -- what is written: "each factor is n divided by 1000"
 unfoldable pub content_of : Form → ℤ → ℕ
 content_of form z =
-    cond (eqb (kind_of form) factor_kind) (factor_bits (nat_abs z))
-    (cond (eqb (kind_of form) whole_kind) (twos_of z) (nat_abs z * unit_of form))
+    cond (eqb form.kind factor_kind) (factor_bits (nat_abs z))
+    (cond (eqb form.kind whole_kind) (twos_of z) (nat_abs z * form.unit))

@@ -2,25 +2,24 @@
 use Rattle.std.specs.Prelude.{Option, Some, None}
 use Rattle.std.specs.Prelude.{ℕ, ◌≡◌, ℤ, pos}
 use Rattle.limits.specs.Limits.{to, minus}
-use Rattle.supplier_entry.specs.declared.Form.TheVariants.{Factors, Wholes, Spans}
 use Rattle.supplier_entry.specs.Factor.{factor_bits}
-use Rattle.supplier_entry.specs.Entries.{import_of, content_of}
+use Rattle.supplier_entry.specs.Entries.{factor_kind, whole_kind, span_kind, import_of, content_of}
 
 -- a decay factor 1..999, decay-to-zero 0..1000, a backoff of 1..3600 s, an activation of 0..3600000 ms, and a weight -100..0
 abbrev pub decay : ℕ → ℕ → Option ℤ
-decay = import_of Factors (to (pos 1) (pos 999))
+decay = import_of (record { kind = factor_kind; unit = 1 }) (to (pos 1) (pos 999))
 
 abbrev pub to_zero : ℕ → ℕ → Option ℤ
-to_zero = import_of Factors (to (pos 0) (pos 1000))
+to_zero = import_of (record { kind = factor_kind; unit = 1 }) (to (pos 0) (pos 1000))
 
 abbrev pub backoff : ℕ → ℕ → Option ℤ
-backoff = import_of (Spans 1000000000) (to (pos 1) (pos 3600))
+backoff = import_of (record { kind = span_kind; unit = 1000000000 }) (to (pos 1) (pos 3600))
 
 abbrev pub activation : ℕ → ℕ → Option ℤ
-activation = import_of (Spans 1000000) (to (pos 0) (pos 3600000))
+activation = import_of (record { kind = span_kind; unit = 1000000 }) (to (pos 0) (pos 3600000))
 
 abbrev pub weight : ℕ → ℕ → Option ℤ
-weight = import_of Wholes (to (minus 100) (pos 0))
+weight = import_of (record { kind = whole_kind; unit = 1 }) (to (minus 100) (pos 0))
 
 pub record Examples : Type 0 where
   -- ---- factors: 0.97 is 970 / 1000, and its two neighbours are no factor
@@ -54,5 +53,5 @@ pub record Examples : Type 0 where
   pub fourth_kind : weight 3 0 ≡ None
   -- ---- what is written
   pub tenth : factor_bits 100 ≡ 0x3fb9_9999_9999_999a
-  pub wrote_minute : content_of (Spans 1000000000) (pos 60) ≡ 60000000000
-  pub wrote_minus_one : content_of Wholes (minus 1) ≡ 0xffff_ffff_ffff_ffff
+  pub wrote_minute : content_of (record { kind = span_kind; unit = 1000000000 }) (pos 60) ≡ 60000000000
+  pub wrote_minus_one : content_of (record { kind = whole_kind; unit = 1 }) (minus 1) ≡ 0xffff_ffff_ffff_ffff

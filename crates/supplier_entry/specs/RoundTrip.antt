@@ -1,5 +1,4 @@
 -- What import and export of an entry are to each other, and what is said of factors. Proved in proofs/RoundTrip.antt.
-use Rattle.supplier_entry.specs.Entries.{kind_of}
 use Rattle.std.specs.Prelude.{Some}
 use Rattle.std.specs.Prelude.{ℕ, ◌^◌, ◌<◌, ◌≤◌, ◌≡◌, true, ℤ}
 use Rattle.limits.specs.declared.Limit.{Limit}
@@ -13,7 +12,7 @@ use Rattle.supplier_entry.specs.Asked.{Among, Field}
 abbrev pub AcceptedExactly : Type 0
 AcceptedExactly =
     (form : Form) (l : Limit) (u : ℕ) →
-    kind_of form ≡ factor_kind →
+    form.kind ≡ factor_kind →
     Among l →
     u < 2 ^ 64 →
     import_of form l factor_kind u ≡ as_number (thousandths_of l u)
@@ -28,7 +27,7 @@ ImportsBack =
     (form : Form) (l : Limit) (z : ℤ) →
     Field form l →
     lies z l ≡ true →
-    import_of form l (kind_of form) (content_of form z) ≡ Some z
+    import_of form l form.kind (content_of form z) ≡ Some z
 
 -- what is imported was given with the field's kind, and is written as the same eight bytes
 abbrev pub ExportsBack : Type 0
@@ -36,4 +35,4 @@ ExportsBack =
     (form : Form) (l : Limit) (kind u : ℕ) (z : ℤ) →
     u < 2 ^ 64 →
     import_of form l kind u ≡ Some z →
-    (kind ≡ kind_of form) × (content_of form z ≡ u)
+    (kind ≡ form.kind) × (content_of form z ≡ u)

@@ -10,8 +10,7 @@ ghost use Rattle.std.specs.Float.Ieee.{is_nan, nan_bits, to_bits};
 ghost use Rattle.index.specs.Index.{first};
 ghost use Rattle.supplier_entry.specs.Bytes.{low_first, low_bytes};
 ghost use Rattle.supplier_entry.specs.Factor.{factor_of, factor_bits, factor_from, thousandths_of};
-ghost use Rattle.supplier_entry.specs.Entries.{kind_of, unit_of, twos, twos_of, entry_of, whole_of, units_of, as_number, convert_of};
-ghost use Rattle.supplier_entry.specs.Entries.{import_of, content_of};
+ghost use Rattle.supplier_entry.specs.Entries.{twos, twos_of, entry_of, whole_of, units_of, as_number, convert_of, import_of, content_of};
 ghost use Rattle.supplier_entry.specs.Asked.{Among, Small, Sound, Fit, Writable};
 
 use limits::Limit;
@@ -24,36 +23,11 @@ pub enum Entry {
     Span(u64),
 }
 
-// How the entries of a field are given: as factors, as whole numbers, or as spans of so many nanoseconds for one of our units.
+// How the entries of a field are given: their kind, and of spans the nanoseconds of one of our units.
 #[derive(Clone, Copy)]
-pub enum Form {
-    Factors,
-    Wholes,
-    Spans(u64),
-}
-
-impl Form {
-    // The first byte of the entries.
-    fn kind(self) -> u8
-        ensures { result ≡ kind_of self }
-    {
-        match self {
-            Form::Factors => 0,
-            Form::Wholes => 1,
-            Form::Spans(_) => 2,
-        }
-    }
-
-    // By how much the eight bytes of a span are greater than our number.
-    fn unit(self) -> u64
-        ensures { result ≡ unit_of self }
-    {
-        match self {
-            Form::Factors => 1,
-            Form::Wholes => 1,
-            Form::Spans(unit) => unit,
-        }
-    }
+pub struct Form {
+    pub kind: u8,
+    pub unit: u64,
 }
 
 // n made a float and divided once by 1000.
@@ -154,17 +128,19 @@ fn signed_of(u: u64) -> i64
 fn read_entry(kind: u8, u: u64) -> Option<Entry>
     ensures { result ≡ entry_of kind u }
 {
-    match kind {
-        0 => {
-            if is_nan(u) {
-                return None;
-            }
-            Some(Entry::Factor(f64::from_bits(u)))
+    if kind == 0 {
+        if is_nan(u) {
+            return None;
         }
-        1 => Some(Entry::Whole(signed_of(u))),
-        2 => Some(Entry::Span(u)),
-        _ => None,
+        return Some(Entry::Factor(f64::from_bits(u)));
     }
+    if kind == 1 {
+        return Some(Entry::Whole(signed_of(u)));
+    }
+    if kind == 2 {
+        return Some(Entry::Span(u));
+    }
+    None
 }
 
 // A whole number, if it lies between the limits.
@@ -217,11 +193,13 @@ pub fn import(kind: u8, u: u64, form: Form, limit: Limit) -> Option<i64>
     requires { Fit form limit }
     ensures { result ≡ import_of form limit kind u }
 {
-    if kind != form.kind() {
+    if kind != form.kind {
         return None;
     }
-    let e = read_entry(kind, u)?;
-    convert(e, form.unit(), limit)
+    let Some(e) = read_entry(kind, u) else {
+        return None;
+    };
+    convert(e, form.unit, limit)
 }
 
 // A signed number as eight bytes.
@@ -242,11 +220,13 @@ fn content_of(z: i64, form: Form) -> u64
     ensures { result ≡ content_of form z }
 {
     let size = varint::nat_abs(z);
-    match form {
-        Form::Factors => factor_bits(size as usize),
-        Form::Wholes => unsigned_of(z),
-        Form::Spans(unit) => size * unit,
+    if form.kind == 0 {
+        return factor_bits(size as usize);
     }
+    if form.kind == 1 {
+        return unsigned_of(z);
+    }
+    size * form.unit
 }
 
 // Eight bytes, low first.
@@ -264,9 +244,9 @@ fn put_low(buf: &mut [u8], at: usize, u: u64)
 // The entry of a number of ours: its kind, then its eight bytes.
 pub fn export(z: i64, form: Form, buf: &mut [u8], at: usize)
     requires { Writable form z × (at + 9 ≤ length buf.old) }
-    ensures { buf.new ≡ sets buf.old at (kind_of form ∷ low_bytes 8 (content_of form z)) }
+    ensures { buf.new ≡ sets buf.old at (form.kind ∷ low_bytes 8 (content_of form z)) }
 {
     let u = content_of(z, form);
-    buf[at] = form.kind();
+    buf[at] = form.kind;
     put_low(buf, at + 1, u);
 }

@@ -1,6 +1,5 @@
 -- Laws of the export: what is known after i entries, and the ends of `put` and `export`.
 -- Assumes nothing.
-use Rattle.supplier_entry.specs.Entries.{kind_of}
 use Rattle.std.proofs.Common.{Option, Some, None, Result, Ok, Err}
 use Rattle.params_bytes.specs.declared.WriteError.{WriteError}
 use Rattle.params_bytes.specs.declared.WriteError.TheVariants.{Outside, Short}
@@ -55,7 +54,7 @@ put_none xs buf = record { most = omega arith; same = refl; bytes = rw (gather_n
 
 pub put_more :
     (xs : List ℤ) (i : ℕ) (buf out out' : List ℕ) (form : Form) → i < param_count → Put xs i buf out → form ≡ form_at (field_of i) →
-    length out' ≡ length out → out' ≡ sets out (9 * i) (kind_of form ∷ low_bytes 8 (content_of form (at xs i))) → Put xs (i + 1) buf out'
+    length out' ≡ length out → out' ≡ sets out (9 * i) (form.kind ∷ low_bytes 8 (content_of form (at xs i))) → Put xs (i + 1) buf out'
 unfolding bytes_at entry_bytes
 put_more xs i buf out out' form h p e l w =
     record {
@@ -63,7 +62,7 @@ put_more xs i buf out out' form h p e l w =
       same = l ∙ p.same;
       bytes =
           w
-          ∙ ap (λ (f : Form). sets out (9 * i) (kind_of f ∷ low_bytes 8 (content_of f (at xs i)))) e
+          ∙ ap (λ (f : Form). sets out (9 * i) (f.kind ∷ low_bytes 8 (content_of f (at xs i)))) e
           ∙ ap (λ (o : List ℕ). sets o (9 * i) (bytes_at xs i)) p.bytes
           ∙ ap (λ (k : ℕ). sets (sets buf 0 (gather i (bytes_at xs))) k (bytes_at xs i))
           (sym (length_entries xs i) ∙ sym (zero-add (length (gather i (bytes_at xs)))))

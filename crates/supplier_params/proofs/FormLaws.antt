@@ -1,6 +1,5 @@
 -- Every row of the table of fields is one that entries can be imported and exported by: a test that is computed for each thing asked.
 -- Assumes nothing.
-use Rattle.supplier_entry.specs.Entries.{kind_of, unit_of}
 use Rattle.index.proofs.Kit.{ℕ, ◌+◌, ◌*◌, ◌<◌, ◌≡◌, refl, Bool, true, false, not, arith, by_order}
 use Rattle.index.specs.Index.{every}
 use Prim.Native.Nat.{◌^◌}
@@ -19,7 +18,7 @@ use Rattle.supplier_params.specs.Forms.{forms, form_at}
 
 -- one of the three kinds
 three_test : ℕ → Bool
-three_test f = leb (kind_of (form_at f)) 2
+three_test f = leb (form_at f).kind 2
 
 all_three : every field_count three_test ≡ true
 unfolding every three_test form_at forms
@@ -27,7 +26,7 @@ all_three = refl
 
 -- the limits of a factor and of a span are natural numbers
 natural_test : ℕ → Bool
-natural_test f = eqb (kind_of (form_at f)) whole_kind || (non_neg (limit_at f).low && non_neg (limit_at f).high)
+natural_test f = eqb (form_at f).kind whole_kind || (non_neg (limit_at f).low && non_neg (limit_at f).high)
 
 all_natural : every field_count natural_test ≡ true
 unfolding every natural_test form_at forms limit_at limits
@@ -35,7 +34,7 @@ all_natural = refl
 
 -- a factor is at most 1000 thousandths
 most_test : ℕ → Bool
-most_test f = not (eqb (kind_of (form_at f)) factor_kind) || leb (nat_abs (limit_at f).high) 1000
+most_test f = not (eqb (form_at f).kind factor_kind) || leb (nat_abs (limit_at f).high) 1000
 
 all_most : every field_count most_test ≡ true
 unfolding every most_test form_at forms limit_at limits
@@ -43,7 +42,7 @@ all_most = refl
 
 -- a span's unit is more than a nanosecond
 unit_test : ℕ → Bool
-unit_test f = not (eqb (kind_of (form_at f)) span_kind) || ltb 1 (unit_of (form_at f))
+unit_test f = not (eqb (form_at f).kind span_kind) || ltb 1 (form_at f).unit
 
 all_units : every field_count unit_test ≡ true
 unfolding every unit_test form_at forms
@@ -58,7 +57,7 @@ unfolding every size_test limit_at limits
 all_sizes = refl
 
 room_test : ℕ → Bool
-room_test f = ltb ((nat_abs (limit_at f).low + nat_abs (limit_at f).high) * (unit_of (form_at f))) (2 ^ 63)
+room_test f = ltb ((nat_abs (limit_at f).low + nat_abs (limit_at f).high) * (form_at f).unit) (2 ^ 63)
 
 all_room : every field_count room_test ≡ true
 unfolding every room_test form_at forms limit_at limits
@@ -74,18 +73,18 @@ not_first true b t e = t
 not_first false b t e = let z : ◌≡◌ {A = ℕ} 0 1 = cc in absurd (omega arith)
 
 module _ (f : ℕ) (h : f < field_count) where
-  natural : (kind_of (form_at f) ≡ whole_kind → ⊥) → (pos (nat_abs (limit_at f).low) ≡ (limit_at f).low)
+  natural : ((form_at f).kind ≡ whole_kind → ⊥) → (pos (nat_abs (limit_at f).low) ≡ (limit_at f).low)
       × (pos (nat_abs (limit_at f).high) ≡ (limit_at f).high)
   unfolding natural_test
   natural n =
-      let t = second (eqb (kind_of (form_at f)) whole_kind) (non_neg (limit_at f).low && non_neg (limit_at f).high)
-      (every_at natural_test field_count f all_natural h) (ne_eqb (kind_of (form_at f)) whole_kind n) in
+      let t = second (eqb (form_at f).kind whole_kind) (non_neg (limit_at f).low && non_neg (limit_at f).high)
+      (every_at natural_test field_count f all_natural h) (ne_eqb (form_at f).kind whole_kind n) in
       let s = both (non_neg (limit_at f).low) (non_neg (limit_at f).high) t in (
         pos-nat_abs (limit_at f).low (yes (non_neg (limit_at f).low) s.0),
         pos-nat_abs (limit_at f).high (yes (non_neg (limit_at f).high) s.1),
       )
 
-  among : kind_of (form_at f) ≡ factor_kind → Among (limit_at f)
+  among : (form_at f).kind ≡ factor_kind → Among (limit_at f)
   unfolding most_test
   among e =
       let n = natural (λ w. omega arith) in
@@ -93,15 +92,15 @@ module _ (f : ℕ) (h : f < field_count) where
         low = n.0;
         high = n.1;
         most = leb-true (nat_abs (limit_at f).high) 1000
-            (not_first (eqb (kind_of (form_at f)) factor_kind) (leb (nat_abs (limit_at f).high) 1000) (every_at most_test field_count f all_most h)
-            (eq-eqb (kind_of (form_at f)) factor_kind e));
+            (not_first (eqb (form_at f).kind factor_kind) (leb (nat_abs (limit_at f).high) 1000) (every_at most_test field_count f all_most h)
+            (eq-eqb (form_at f).kind factor_kind e));
       }
 
-  divides : kind_of (form_at f) ≡ span_kind → 1 < (unit_of (form_at f))
+  divides : (form_at f).kind ≡ span_kind → 1 < (form_at f).unit
   unfolding unit_test
-  divides e = ltb-true 1 (unit_of (form_at f))
-      (not_first (eqb (kind_of (form_at f)) span_kind) (ltb 1 (unit_of (form_at f))) (every_at unit_test field_count f all_units h)
-      (eq-eqb (kind_of (form_at f)) span_kind e))
+  divides e = ltb-true 1 (form_at f).unit
+      (not_first (eqb (form_at f).kind span_kind) (ltb 1 (form_at f).unit) (every_at unit_test field_count f all_units h)
+      (eq-eqb (form_at f).kind span_kind e))
 
   sizes : (nat_abs (limit_at f).low < 2 ^ 62) × (nat_abs (limit_at f).high < 2 ^ 62)
   unfolding size_test
@@ -114,11 +113,11 @@ module _ (f : ℕ) (h : f < field_count) where
   unfolding three_test room_test
   field_row =
       record {
-        three = leb-true (kind_of (form_at f)) 2 (every_at three_test field_count f all_three h);
+        three = leb-true (form_at f).kind 2 (every_at three_test field_count f all_three h);
         fit = record { factors = among; spans = divides };
         natural = λ e. natural (λ w. omega arith);
         size = sizes;
-        room = ltb-true ((nat_abs (limit_at f).low + nat_abs (limit_at f).high) * (unit_of (form_at f))) (2 ^ 63)
+        room = ltb-true ((nat_abs (limit_at f).low + nat_abs (limit_at f).high) * (form_at f).unit) (2 ^ 63)
             (every_at room_test field_count f all_room h);
       }
 

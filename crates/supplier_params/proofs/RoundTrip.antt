@@ -1,6 +1,5 @@
 -- What was exported is imported again, and what was imported is exported again: entry by entry, in blocks of nine bytes.
 -- Assumes nothing.
-use Rattle.supplier_entry.specs.Entries.{kind_of}
 use Rattle.std.proofs.Common.{Option, Some, None, Ok, Err}
 use Rattle.params_bytes.specs.declared.ReadError.TheVariants.{Malformed}
 use Rattle.params_bytes.specs.declared.WriteError.TheVariants.{Short}
@@ -71,7 +70,7 @@ module _ (xs : List ℤ) (ok : first_broken (sheet First xs) ≡ None) (len : le
       let row = field_at i h in
       let t = accepted_in_lem (sheet First xs) ok i h in
       ap (entry_number form l) (block_at xs param_count i h)
-      ∙ ap (entry.import_of form l (kind_of form)) (first_bytes 8 (content_of form (at xs i)) (content_lt form l (at xs i) row t))
+      ∙ ap (entry.import_of form l form.kind) (first_bytes 8 (content_of form (at xs i)) (content_lt form l (at xs i) row t))
       ∙ imports form l (at xs i) row t
 
   none_broken : (n : ℕ) → n ≤ param_count → first n (broken_at (bytes_of xs)) ≡ None

@@ -1,6 +1,5 @@
 -- Exporting parameters as the other supplier's (02, order 12): "Writing one, a buffer under 1323 bytes is 13, then a broken sheet 9; each
 -- factor is n divided by 1000, and importing that gives n." 01's rules are asked of parameters of either edition.
-use Rattle.supplier_entry.specs.Entries.{kind_of}
 use Rattle.std.specs.Prelude.{Option, Some, None, Result, Ok, Err}
 use Rattle.params_bytes.specs.declared.WriteError.{WriteError}
 use Rattle.params_bytes.specs.declared.WriteError.TheVariants.{Outside, Short}
@@ -20,7 +19,7 @@ use Rattle.supplier_params.specs.Forms.{supplier_bytes, form_at}
 
 -- "a kind, then eight bytes, low first"
 unfoldable pub entry_bytes : Form → ℤ → List ℕ
-entry_bytes form z = kind_of form ∷ low_bytes 8 (content_of form z)
+entry_bytes form z = form.kind ∷ low_bytes 8 (content_of form z)
 
 unfoldable pub bytes_at : List ℤ → ℕ → List ℕ
 bytes_at xs i = entry_bytes (form_at (field_of i)) (at xs i)

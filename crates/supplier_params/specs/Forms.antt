@@ -2,7 +2,7 @@
 -- units has a row for each field, beside the limits of params/specs/Limits.antt, which hold here too. src/lib.rt has the same rows.
 use Rattle.std.specs.Prelude.{ℕ, List, [], ◌∷◌, get_or}
 use Rattle.supplier_entry.specs.declared.Form.{Form}
-use Rattle.supplier_entry.specs.declared.Form.TheVariants.{Factors, Wholes, Spans}
+use Rattle.supplier_entry.specs.Entries.{factor_kind, whole_kind, span_kind}
 
 -- 147 entries of nine bytes
 abbrev pub supplier_bytes : ℕ
@@ -10,18 +10,18 @@ supplier_bytes = 1323
 
 -- "a factor as a 64-bit float (the decay factors and decay-to-zero)"
 abbrev pub factor : Form
-factor = Factors
+factor = record { kind = factor_kind; unit = 1 }
 
 -- "a signed whole number (the rest)"
 abbrev pub whole : Form
-whole = Wholes
+whole = record { kind = whole_kind; unit = 1 }
 
 -- "a span in nanoseconds, unsigned (backoffs, retain, quantum, activation)", "as a whole number of our field's seconds or milliseconds"
 abbrev pub seconds : Form
-seconds = Spans 1000000000
+seconds = record { kind = span_kind; unit = 1000000000 }
 
 abbrev pub milliseconds : Form
-milliseconds = Spans 1000000
+milliseconds = record { kind = span_kind; unit = 1000000 }
 
 unfoldable pub forms : List Form
 forms =
@@ -73,4 +73,4 @@ forms =
     ∷ []
 
 unfoldable pub form_at : ℕ → Form
-form_at f = get_or forms f Factors
+form_at f = get_or forms f (record { kind = 0; unit = 0 })

@@ -20,57 +20,67 @@ use supplier_entry::Form;
 // How many bytes the parameters take: 147 entries of nine.
 pub const BYTES: usize = 1323;
 
-const SECONDS: Form = Form::Spans(1000000000);
+const FACTOR: Form = Form { kind: 0, unit: 1 };
 
-const MILLISECONDS: Form = Form::Spans(1000000);
+const WHOLE: Form = Form { kind: 1, unit: 1 };
+
+const SECONDS: Form = Form {
+    kind: 2,
+    unit: 1000000000,
+};
+
+const MILLISECONDS: Form = Form {
+    kind: 2,
+    unit: 1000000,
+};
 
 // The form of each field: 19 general fields, then the 16 that every topic has.
 const FORMS: [Form; FIELDS] = [
     // D_lo, D, D_hi, D_out, D_score
-    Form::Wholes,
-    Form::Wholes,
-    Form::Wholes,
-    Form::Wholes,
-    Form::Wholes,
+    WHOLE,
+    WHOLE,
+    WHOLE,
+    WHOLE,
+    WHOLE,
     // prune backoff, unsubscribe backoff, retain
     SECONDS,
     SECONDS,
     SECONDS,
     // opportunistic, graylist, gossip, publish thresholds, topic cap
-    Form::Wholes,
-    Form::Wholes,
-    Form::Wholes,
-    Form::Wholes,
-    Form::Wholes,
+    WHOLE,
+    WHOLE,
+    WHOLE,
+    WHOLE,
+    WHOLE,
     // w5, w6, P6 threshold, w7
-    Form::Wholes,
-    Form::Wholes,
-    Form::Wholes,
-    Form::Wholes,
+    WHOLE,
+    WHOLE,
+    WHOLE,
+    WHOLE,
     // P7 decay, decay-to-zero
-    Form::Factors,
-    Form::Factors,
+    FACTOR,
+    FACTOR,
     // weight, w1, quantum, P1 cap
-    Form::Wholes,
-    Form::Wholes,
+    WHOLE,
+    WHOLE,
     MILLISECONDS,
-    Form::Wholes,
+    WHOLE,
     // w2, P2 decay, P2 cap
-    Form::Wholes,
-    Form::Factors,
-    Form::Wholes,
+    WHOLE,
+    FACTOR,
+    WHOLE,
     // w3, P3 decay, P3 cap, P3 threshold, activation
-    Form::Wholes,
-    Form::Factors,
-    Form::Wholes,
-    Form::Wholes,
+    WHOLE,
+    FACTOR,
+    WHOLE,
+    WHOLE,
     MILLISECONDS,
     // w3b, P3b decay
-    Form::Wholes,
-    Form::Factors,
+    WHOLE,
+    FACTOR,
     // w4, P4 decay
-    Form::Wholes,
-    Form::Factors,
+    WHOLE,
+    FACTOR,
 ];
 
 // The form of number i.

@@ -1,6 +1,5 @@
 -- `supplier_entry::export` meets its contract. Assumes nothing.
-use Rattle.index.proofs.Kit.{◌∙◌, arith, ℕ}
-use mathlib.Core.Path.{ap₂}
+use Rattle.index.proofs.Kit.{ap, ◌∙◌, arith, ℕ}
 use mathlib.Core.List.{◌∷◌}
 use lib.ListN.{length-set}
 use lib.Seq.{sets}
@@ -21,5 +20,5 @@ shape_of-buf c = c.put_low.auto.buf ∙ simp length-set
 pub returns : goal.returns
 returns c =
     let e = rw (to_z-of_z c.ranges.z) at c.content_of-u.ensures in
-    entry_put c.args.buf.now _ c.args.at c.kind.result _ c.put_low.ensures
-    ∙ ap₂ (λ (k u : ℕ). sets c.args.buf.now c.args.at (k ∷ low_bytes 8 u)) c.kind.ensures e
+    entry_put c.args.buf.now _ c.args.at c.args.form.kind _ c.put_low.ensures
+    ∙ ap (λ (u : ℕ). sets c.args.buf.now c.args.at (c.args.form.kind ∷ low_bytes 8 u)) e
