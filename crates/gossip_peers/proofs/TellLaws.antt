@@ -26,17 +26,7 @@ use Rattle.effects.specs.Actions.{Action, numbers_of}
 use Rattle.effects.proofs.ActionLaws.{numbers_append, numbers_length}
 use Rattle.gossip.specs.Notes.{Setup}
 use Rattle.gossip.specs.Step.{tell_one, tell_by_slot, chosen}
-use denote.Enum.Declared.{tag_of}
-use Rattle.gossip_peers.specs.contracts.tell.Kind.{the_type}
-use Rattle.gossip_peers.specs.declared.tell.Kind.{Kind}
-use Rattle.gossip_peers.specs.declared.tell.Kind.TheVariants.{Ask, Send, Ihave}
-use Rattle.gossip_peers.specs.Peers.{kind_number, Tells}
-
--- ---- what an action tells
-pub kind_is : (kind : Kind) → tag_of the_type kind + 3 ≡ kind_number kind
-kind_is Ask = refl
-kind_is Send = refl
-kind_is Ihave = refl
+use Rattle.gossip_peers.specs.Peers.{Tells}
 
 -- ---- one action after others
 pub tells_none : (l : List ℕ) → Tells [] l l 0

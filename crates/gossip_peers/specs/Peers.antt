@@ -17,8 +17,6 @@ use Rattle.gossip.specs.Step.{notice_version}
 use Rattle.peer_score.specs.Standing.{Standing}
 use Rattle.peer_score.specs.declared.buckets.Buckets.{Buckets}
 use Rattle.peer_score.specs.Buckets.{Counted}
-use Rattle.gossip_peers.specs.declared.tell.Kind.{Kind}
-use Rattle.gossip_peers.specs.declared.tell.Kind.TheVariants.{Ask, Send, Ihave}
 
 -- ---- a test of slots
 -- post, what a test may answer at a slot, is what f says
@@ -59,12 +57,6 @@ pub record Grouped (table : List ℕ) (b : Buckets) : Type 0 where
   pub buckets : Counted table b
 
 -- ---- actions
--- an action's number of what it tells
-abbrev pub kind_number : Kind → ℕ
-kind_number Ask = 3
-kind_number Send = 4
-kind_number Ihave = 5
-
 -- in the lent list: l' is l with them from its start on, and n is how many they are
 pub record Tells (acts : List Action) (l l' : List ℕ) (n : ℕ) : Type 0 where
   pub list : l' ≡ sets l 0 (numbers_of acts)

@@ -9,36 +9,35 @@ ghost use Rattle.effects.specs.Actions.{numbers_of};
 ghost use Rattle.peer_score.specs.Standing.{SlotStanding};
 ghost use Rattle.gossip.specs.Notes.{Setup};
 ghost use Rattle.gossip.specs.Step.{tell_one, tell_by_slot, chosen};
-ghost use Rattle.gossip_peers.specs.Peers.{kind_number, Tells, Lent, Picking};
+ghost use Rattle.gossip_peers.specs.Peers.{Tells, Lent, Picking};
 
 use records::SLOTS;
 use sets::size;
 use words::slots::Slots;
 use words::{WORDS, at, next};
 
-// What these actions tell a peer; as a number, the kind in the list.
-#[derive(Clone, Copy)]
-pub enum Kind {
-    Ask = 3,
-    Send = 4,
-    Ihave = 5,
-}
+// Kinds of actions, as the list that C reads has them; what `tell` promises, it promises of any number.
+pub const ASK: u32 = 3;
+
+pub const SEND: u32 = 4;
+
+pub const IHAVE: u32 = 5;
 
 // Writes, after n others, an action on the peer in a slot.
-fn tell_slot(table: &[u64], actions: &mut [u32], n: usize, kind: Kind, slot: usize)
+fn tell_slot(table: &[u64], actions: &mut [u32], n: usize, kind: u32, slot: usize)
     requires slot_standing { SlotStanding table.now slot }
     requires n_in_bounds { 3 * n + 3 ≤ length actions.old }
     ensures { actions.new
-        ≡ sets actions.old (3 * n) (numbers_of (tell_one (state_of table.now) (kind_number kind) slot ∷ [])) }
+        ≡ sets actions.old (3 * n) (numbers_of (tell_one (state_of table.now) kind slot ∷ [])) }
 {
-    mesh::actions::put(actions, n, kind as u32, layout::load_id(table, slot), 0);
+    mesh::actions::put(actions, n, kind, layout::load_id(table, slot), 0);
 }
 
 // An action of the kind for each slot of a set, by slot; and how many they are.
-pub fn tell(table: &[u64], kind: Kind, set: &[u64; WORDS], actions: &mut [u32]) -> usize
+pub fn tell(table: &[u64], kind: u32, set: &[u64; WORDS], actions: &mut [u32]) -> usize
     requires { Lent table.now actions.old }
     ensures { (f : ℕ → Bool) → bits_of set.now ≡ by_slot slot_count f →
-        Tells (tell_by_slot (state_of table.now) (kind_number kind) f) actions.old actions.new result }
+        Tells (tell_by_slot (state_of table.now) kind f) actions.old actions.new result }
 {
     let mut n: usize = 0;
     for slot in Slots::of(*set) {
@@ -75,7 +74,7 @@ fn tell_first(
             return n;
         }
         if at(set, s) {
-            tell_slot(table, actions, n, Kind::Ihave, s as usize);
+            tell_slot(table, actions, n, IHAVE, s as usize);
             n += 1;
         }
     }

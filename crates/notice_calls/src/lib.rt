@@ -11,7 +11,6 @@ ghost use Rattle.gossip.specs.Step.{idontwant_reply, tell_by_slot};
 ghost use Rattle.layout.specs.View.{state_of};
 ghost use Rattle.peer_score.specs.Standing.{TopicStanding};
 ghost use Rattle.rules.specs.Step.{action_room};
-ghost use Rattle.gossip_peers.specs.Peers.{kind_number};
 ghost use Rattle.notice_calls.specs.Told.{told_reply};
 ghost use Rattle.gossip_table.specs.View.{gossip_of, extended_of};
 ghost use Rattle.gossip_table.specs.Fine.{Fine};
@@ -25,7 +24,7 @@ use gossip_peers::callers::admit_peer;
 use gossip_peers::relays::{asked, relayed};
 use gossip_peers::senders::{is_heeded, sender_known};
 use gossip_peers::sift::sift;
-use gossip_peers::tell::{Kind, tell};
+use gossip_peers::tell::{ASK, SEND, tell};
 use gossip_table::GOSSIP_CELLS;
 use gossip_table::noted::{has_room, holds, put};
 use layout::CELLS;
@@ -38,7 +37,7 @@ fn tell_set(
     time: u64,
     topic: usize,
     sender: u64,
-    kind: Kind,
+    kind: u32,
     set: &[u64; WORDS],
     actions: &mut [u32],
 ) -> u64
@@ -46,7 +45,7 @@ fn tell_set(
     requires room { action_room ≤ length actions.old }
     ensures { (gossip : List ℕ) (f : ℕ → Bool) → bits_of set.now ≡ by_slot slot_count f →
         GivesAll (told_reply (extended_of table.old gossip) time topic sender
-        (tell_by_slot (state_of table.old) (kind_number kind) f)) result
+        (tell_by_slot (state_of table.old) kind f)) result
         table.old table.new gossip gossip actions.old actions.new }
 {
     if !sender_known(table, sender) {
@@ -78,15 +77,7 @@ pub fn send_idontwant(
         return gate;
     }
     let set = asked(table, topic as usize, sender);
-    tell_set(
-        table,
-        time,
-        topic as usize,
-        sender,
-        Kind::Ask,
-        &set,
-        actions,
-    )
+    tell_set(table, time, topic as usize, sender, ASK, &set, actions)
 }
 
 // The number goes into the peer's set, unless it is there already.
@@ -157,13 +148,5 @@ pub fn relay(
     }
     let all = relayed(table, topic as usize, sender);
     let set = without_holders(gossip, all, number);
-    tell_set(
-        table,
-        time,
-        topic as usize,
-        sender,
-        Kind::Send,
-        &set,
-        actions,
-    )
+    tell_set(table, time, topic as usize, sender, SEND, &set, actions)
 }

@@ -1,11 +1,10 @@
 -- `gossip_peers::tell::tell_slot`: the id of a router's peer fits, and the three numbers are the action's.
 use Rattle.index.proofs.Kit.{ℕ, ◌*◌, ◌∙◌, arith}
-use mathlib.Core.Path.{ap₂}
+use mathlib.Core.Path.{ap}
 use mathlib.Core.List.{[], ◌∷◌}
 use lib.Seq.{sets}
 use Rattle.effects.specs.Actions.{numbers_of}
 use Rattle.validity.proofs.ValidLaws.{valid_facts}
-use Rattle.gossip_peers.proofs.TellLaws.{kind_is}
 use Rattle.gossip_peers.proofs.tell.tell_slot.Goals as goal
 
 pub put-requires : goal.put-requires
@@ -19,4 +18,4 @@ unfolding numbers_of
 returns c =
     let a = c.args in
     c.put.ensures
-    ∙ ap₂ (λ (k x : ℕ). sets a.actions.now (3 * a.n) (k ∷ x ∷ 0 ∷ [])) (kind_is a.kind) c.load_id.ensures
+    ∙ ap (λ (x : ℕ). sets a.actions.now (3 * a.n) (a.kind ∷ x ∷ 0 ∷ [])) c.load_id.ensures
