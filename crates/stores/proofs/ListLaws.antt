@@ -1,5 +1,9 @@
 -- What the functions that only read tell of the stores: a place, a quiet region, a list that is announced.
 -- Assumes nothing.
+use native.Mathlib.Numerals.{add-one}
+use mathlib.Core.List.{[], ◌∷◌}
+use lib.ListN.{take, set}
+use lib.Seq.{length-take-le, take-suc}
 use Prim.Native.Nat.{ℕ, ◌+◌, ◌*◌, ◌/◌, ◌%◌, ◌≤◌, ◌<◌}
 use native.Mathlib.Nat.{zero-add}
 use native.Mathlib.Omega.{arith}
@@ -115,3 +119,13 @@ announced_lists c t p l l₁ l₂ l₃ a b r h e e₁ f₁ e₂ f₂ e₃ f₃ =
           ∙ rw (sets_append l 0 w₂ w₁, zero-add, zero-add))),
       rw all (omega arith),
     )
+
+pub sets_more :
+    (l m from : List ℕ) (at k : ℕ) →
+    k < length from →
+    k ≤ length from →
+    m ≡ sets l at (take k from) →
+    set m (at + k) (get_or from k 0) ≡ sets l at (take (k + 1) from)
+sets_more l m from at k h b e =
+    let s : length (take k from) ≡ k = length-take-le k from b in
+    rw (e, add-one, take-suc from k 0 h, sets_append l at (take k from) (get_or from k 0 ∷ []), s)

@@ -223,7 +223,18 @@ pub fn move_on(cells: &mut [u64])
     }
 }
 
-// A window's numbers go into a list from `at` on; where they end there.
+// A list's numbers go into another from `at` on. By their places, since the library's copy between two lent slices would need `memmove`,
+// where the static library promises to need `memcpy` and `memset` alone.
+fn copy_to(list: &mut [u64], at: usize, from: &[u64])
+    requires { at + length from.now ≤ length list.old }
+    ensures { list.new ≡ sets list.old at from.now }
+{
+    for k in 0..from.len() {
+        list[at + k] = from[k];
+    }
+}
+
+// So do a window's; where the list ends then.
 fn append(cells: &[u64], p: usize, list: &mut [u64], at: usize) -> usize
     requires { Window cells.now p × (at + window_most ≤ length list.old) }
     ensures { (list.new ≡ sets list.old at (window_at cells.now p))
@@ -232,7 +243,7 @@ fn append(cells: &[u64], p: usize, list: &mut [u64], at: usize) -> usize
     let from = start(p);
     let n = size(cells, p);
     let end = from + n;
-    list[at..at + n].copy_from_slice(&cells[from..end]);
+    copy_to(list, at, &cells[from..end]);
     at + n
 }
 
