@@ -45,20 +45,21 @@ fn write_save(
     Ok(size)
 }
 
-// Collects the keys of the saved records in a lent list, sorts them, and writes their records.
+// Collects the keys of the saved records, sorts them, and writes their records; the two lists are lent to do it.
 fn save_sorted(
     table: &[u64],
     list: &mut [u64],
+    spare: &mut [u64],
     time: u64,
     end: u64,
     buf: &mut [u8],
 ) -> Result<usize, SaveError>
-    requires { Saves table.now time end × (length list.old ≡ slot_count) }
+    requires { Saves table.now time end × ((length list.old ≡ slot_count) × (length spare.old ≡ slot_count)) }
     ensures { (result ≡ (storing (save_of (state_of table.now) time) buf.old).answer)
         × (buf.new ≡ (storing (save_of (state_of table.now) time) buf.old).bytes) }
 {
     let n = keys::collect_keys(table, list, time, end);
-    sorting::sort(&mut list[..n]);
+    sorting::sort(&mut list[..n], spare);
     write_save(table, &list[..n], time, end, buf)
 }
 
@@ -70,7 +71,8 @@ fn save_records(table: &[u64], time: u64, buf: &mut [u8]) -> Result<usize, SaveE
 {
     let end = end_after(time, load_magnitude(table, param::RETAIN));
     let mut list = [0u64; SLOTS];
-    save_sorted(table, &mut list, time, end, buf)
+    let mut spare = [0u64; SLOTS];
+    save_sorted(table, &mut list, &mut spare, time, end, buf)
 }
 
 // Saves the records at a time: 12, 2, 1, then 13 with the buffer unchanged. The table is read only, so no clock moves.

@@ -21,8 +21,9 @@ fn sort_given(numbers: &[u64], rising: &mut [u64])
     requires { (length numbers.now ≤ numbers_most) × (length rising.old ≡ length numbers.now) }
     ensures { rising.new ≡ sorted numbers.now }
 {
+    let mut spare = [0u64; GIVEN];
     rising.copy_from_slice(numbers);
-    sort(rising);
+    sort(rising, &mut spare);
 }
 
 // Marks the buckets of a list's numbers.

@@ -1,4 +1,4 @@
--- `save_write::save_records`: when a retain period ends, and a list to sort in. Assumes nothing.
+-- `save_write::save_records`: when a retain period ends, and two lists to sort in. Assumes nothing.
 use mathlib.Core.Path.{refl, ap, ◌∙◌}
 use native.Mathlib.Omega.{arith}
 use Rattle.layout.specs.View.{state_of}
@@ -19,6 +19,9 @@ end_after-end-requires c =
 pub slice_bounds-save_sorted-end : goal.slice_bounds-save_sorted-end
 slice_bounds-save_sorted-end c = refl
 
+pub slice_bounds-save_sorted-end-2 : goal.slice_bounds-save_sorted-end-2
+slice_bounds-save_sorted-end-2 c = refl
+
 pub save_sorted-requires : goal.save_sorted-requires
 save_sorted-requires c = (
   record {
@@ -29,7 +32,7 @@ save_sorted-requires c = (
     retain = c.end_after-end.ensures.0
         ∙ ap (end_after c.args.time) c.load_magnitude.ensures;
   },
-  refl,
+  (refl, refl),
 )
 
 pub shape_of-buf : goal.shape_of-buf
