@@ -10,7 +10,7 @@ use mathlib.Core.Logic.{⊎_elim}
 use mathlib.Core.Path.{◌≡◌, refl, sym, ap, ◌∙◌}
 use lib.Dec.{eqb}
 use lib.ListN.{length, get_or, take}
-use lib.Seq.{take-suc}
+use lib.Seq.{take-suc, take_all}
 use borrow.Author.Tests.{eqb-true, eq-eqb}
 use Rattle.index.proofs.Flags.{by_test}
 use Rattle.gossip.specs.Notes.{has, some}
@@ -54,6 +54,9 @@ has_more n l k b h e =
     ∙ sym (has_snoc n (get_or l k 0) (take k l))
     ∙ ap (has n) (sym (take-suc l k 0 h))
     ∙ ap (λ (j : ℕ). has n (take j l)) (sym (add-one k))
+
+pub has_done : (n : ℕ) (l : List ℕ) (k : ℕ) (b : Bool) → length l ≤ k → b ≡ has n (take k l) → b ≡ has n l
+has_done n l k b h e = e ∙ ap (has n) (take_all k l h)
 
 -- a list has what stands in it, and lacks what no part of it has
 pub has_at : (n : ℕ) (l : List ℕ) (k : ℕ) → k < length l → get_or l k 0 ≡ n → has n l ≡ true

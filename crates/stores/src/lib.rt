@@ -52,6 +52,18 @@ fn number(cells: &[u64], p: usize, k: usize) -> u64
     cells[start(p) + k]
 }
 
+// Whether a list has a number. It goes to the end, so that no look waits for the one before: the library's `contains` stops, and took half
+// as long again.
+fn is_in(list: &[u64], n: u64) -> bool
+    ensures { result ≡ has n list.now }
+{
+    let mut found = false;
+    for &m in list {
+        found |= m == n;
+    }
+    found
+}
+
 // Whether a window has it.
 fn is_in_window(cells: &[u64], p: usize, n: u64) -> bool
     requires { Window cells.now p }
@@ -59,7 +71,7 @@ fn is_in_window(cells: &[u64], p: usize, n: u64) -> bool
 {
     let at = start(p);
     let end = at + size(cells, p);
-    cells[at..end].contains(&n)
+    is_in(&cells[at..end], n)
 }
 
 // Where a list has a number first.

@@ -7,7 +7,7 @@ ghost use Rattle.gossip.specs.Valid.{all, none, flat, apart, window_ok, store_ok
 ghost use Rattle.stores.specs.View.{stores_cells, count_at, five_at, store_at, Store};
 ghost use Rattle.stores.specs.Marks.{windows_of, before, up_to, Seen, Looking, Walking};
 
-use crate::{WINDOW_MOST, WINDOWS, is_in_window, number, size, start};
+use crate::{WINDOW_MOST, WINDOWS, is_in, is_in_window, number, size, start};
 use gossip::cells::are_zero;
 use marks::{WORDS, bucket, is_marked, mark};
 
@@ -43,7 +43,7 @@ fn is_earlier(cells: &[u64], t: usize, w: usize, k: usize, n: u64) -> bool
     }
     let at = start(t * WINDOWS + w);
     let end = at + k;
-    cells[at..end].contains(&n)
+    is_in(&cells[at..end], n)
 }
 
 // Whether number k of window w is not among those before it, which have marked their buckets; then it has marked its own.

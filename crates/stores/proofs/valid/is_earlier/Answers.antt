@@ -2,7 +2,6 @@ use native.Mathlib.Omega.{arith}
 use mathlib.Core.Path.{ap, ◌∙◌}
 use Rattle.index.proofs.Flags.{yes, no}
 use Rattle.gossip.specs.Notes.{has}
-use Rattle.gossip.proofs.CellLaws.{has_any}
 use Rattle.stores.proofs.ApartLaws.{earlier_none, earlier_out, earlier_more, earlier_in}
 use Rattle.stores.proofs.ChangeLaws.{window_in}
 use Rattle.stores.proofs.ViewLaws.{window_front}
@@ -28,14 +27,13 @@ pub overflow_add-end : goal.overflow_add-end
 overflow_add-end c =
     omega (arith, c.requires.0.most c.args.w c.requires.1.0)
 
-pub slice_bounds-contains-end : goal.slice_bounds-contains-end
-slice_bounds-contains-end c =
+pub slice_bounds-is_in-end : goal.slice_bounds-is_in-end
+slice_bounds-is_in-end c =
     omega (arith, c.requires.0.most c.args.w c.requires.1.0)
 
 pub returns : goal.returns
 returns c =
     let l = c.loop-v in
-    c.contains.ensures.value
-    ∙ has_any c.args.n _
+    c.is_in.ensures
     ∙ ap (has _) (window_front _ (window_in _ _ _ c.requires.0 c.requires.1.0) c.requires.1.1 c.start-at.ensures)
     ∙ earlier_in _ _ _ l.v _ _ l.invariant.0 (omega arith) l.invariant.1
