@@ -3,3 +3,4 @@ pub mod TableLaws
 pub mod RoomLaws
 pub mod FindLaws
 pub mod Examples
+pub mod OrderLaws

@@ -24,11 +24,29 @@ pub struct Table<'a> {
     ghost accepted: { table_ok ids.now numbers.now order.now ≡ true },
 }
 
-// Two ids: the shorter is before the longer, and of one length the bytes decide.
+// Two ids: the shorter is before the longer, and of one length the bytes decide. The first byte by itself, since most ids differ there, and
+// the library's order begins with groups of bytes: without it a table of ids took two thirds as long again to test.
 fn compare(a: &[u8], b: &[u8]) -> Ordering
     ensures { result ≡ ordering_then (nat_cmp (length a.now) (length b.now)) (slice_cmp nat_cmp a.now b.now) }
 {
-    a.len().cmp(&b.len()).then_with(|| a.cmp(&b))
+    if a.len() < b.len() {
+        return Ordering::Less;
+    }
+    if b.len() < a.len() {
+        return Ordering::Greater;
+    }
+    if a.is_empty() {
+        return Ordering::Equal;
+    }
+    let x = a[0];
+    let y = b[0];
+    if x < y {
+        return Ordering::Less;
+    }
+    if y < x {
+        return Ordering::Greater;
+    }
+    a.cmp(&b)
 }
 
 // The id of row k, and `size` bytes of s.
