@@ -21,14 +21,13 @@ use Rattle.rules.specs.Calls.{time_ok, topic_ok}
 use Rattle.rules.specs.Step.{action_room}
 use Rattle.gossip.specs.Notes.{Note, Extended, note_in, holds, set_note}
 use Rattle.gossip.specs.Calls.{sender_ok}
-use Rattle.peer_score.specs.Standing.{TopicStanding}
 use Rattle.gossip.specs.Step.{FullReply, refused_all, ignored_all, done_all, of_sender, if_joined, tell_one, tell_by_slot, is_relayed}
 use Rattle.gossip.specs.Step.{is_heeded, has_room, with_put, idontwant_reply}
 use Rattle.gossip_table.specs.View.{gossip_cells, gossip_of, extended_of}
 use Rattle.gossip_table.specs.Fine.{HasRoom}
 use Rattle.gossip_gate.specs.Promise.{LeavesAll, GivesAll, gate_all}
 use Rattle.gossip_gate.specs.Admitted.{SlotAdmitted, TopicLent}
-use Rattle.gossip_gate.proofs.AdmittedLaws.{admitted_valid, admitted_fine}
+use Rattle.gossip_gate.proofs.AdmittedLaws.{admitted_fine}
 use Rattle.gossip_gate.proofs.ReplyLaws.{heeds_not, holds_it, no_room, puts_in}
 use Rattle.gossip_gate.proofs.GateLaws.{gate_admitted}
 use Rattle.gossip_gate.proofs.CallLaws.{call_topic, call_room}
@@ -36,7 +35,6 @@ use Rattle.gossip_gate.proofs.EndLaws.{ends_ignored, ends_done, gives_refusal, g
 use Rattle.gossip_peers.specs.Peers.{is_known, is_reached, Tells}
 use Rattle.gossip_peers.proofs.PeerLaws.{sender_is, relayed_is}
 use Rattle.gossip_peers.proofs.SiftLaws.{flags_are, flags_same}
-use Rattle.notice_calls.specs.Told.{told_reply}
 
 -- the words of a set
 pub flags_length : (w : List ℕ) → length w ≡ word_count → length (bits_of w) ≡ slot_count
@@ -66,7 +64,7 @@ module _
     told = done_all (extended_of table gossip) time (gossip_of gossip) acts []
 
     abbrev reply : FullReply
-    reply = told_reply (extended_of table gossip) time t sender acts
+    reply = sent (extended_of table gossip) time t sender told
 
     pub sent_refused : not known ≡ true → GivesAll reply 3 table table gossip gossip list list
     sent_refused e =
@@ -211,11 +209,6 @@ topic_lent table gossip list a b d time n t en e ea eb l m =
       topic = call_topic table gossip a b d (leb action_room (length list)) time n t en e eb;
       room = call_room table gossip list a (b && d) time n en e;
     }
-
--- a topic of a router's table
-pub topic_standing : {table gossip list : List ℕ} {time t : ℕ} → TopicLent table gossip time t list → TopicStanding table t
-topic_standing a =
-    record { standing = record { size = a.admitted.size; router = admitted_valid a.admitted }; topic = a.topic }
 
 -- an IDONTWANT that came in gives no action
 pub put_silent : (x : Extended) (time n s : ℕ) → (idontwant_reply x time n s).actions ≡ []

@@ -1,21 +1,17 @@
 // Version 1.2 notices (02, order 6): whom we tell IDONTWANT, an IDONTWANT that came in, and to whom a message is passed on.
 #![tactic(auto)]
 
-ghost use Rattle.std.specs.Prelude.{◌≡◌, ◌≤◌, not, ◌&&◌, ℕ, Bool, List, length};
+ghost use Rattle.std.specs.Prelude.{◌≡◌, not, ◌&&◌};
 ghost use Rattle.records.specs.Records.{slot_count};
 ghost use Rattle.sets.specs.Sets.{at, by_slot};
 ghost use Rattle.words.specs.Words.{bits_of};
 ghost use Rattle.gossip.specs.Notes.{note_in, holds as holds_of};
 ghost use Rattle.gossip.specs.Calls.{new, ask_all, idontwant as Calls·idontwant, relay as Calls·relay};
-ghost use Rattle.gossip.specs.Step.{idontwant_reply, tell_by_slot};
-ghost use Rattle.layout.specs.View.{state_of};
-ghost use Rattle.peer_score.specs.Standing.{TopicStanding};
-ghost use Rattle.rules.specs.Step.{action_room};
-ghost use Rattle.notice_calls.specs.Told.{told_reply};
+ghost use Rattle.gossip.specs.Step.{ask_reply, idontwant_reply, relay_reply};
 ghost use Rattle.gossip_table.specs.View.{gossip_of, extended_of};
 ghost use Rattle.gossip_table.specs.Fine.{Fine};
 ghost use Rattle.gossip_gate.specs.Promise.{LeavesAll, GivesAll, FollowsAll};
-ghost use Rattle.gossip_gate.specs.Admitted.{SlotAdmitted};
+ghost use Rattle.gossip_gate.specs.Admitted.{SlotAdmitted, TopicLent};
 
 use effects::slots::is_joined;
 use gate::{id_ok, time_ok, topic_ok};
@@ -31,22 +27,18 @@ use layout::CELLS;
 use records::ACTION_ROOM;
 use words::WORDS;
 
-// 3 for an unknown sender, 11 outside a joined topic, or an action for each slot of the set.
-fn tell_set(
+// 3 for an unknown sender, 11 outside a joined topic, or the notices. Whom they go to is asked only behind these tests.
+fn ask_from(
     table: &mut [u64],
+    gossip: &[u64],
     time: u64,
     topic: usize,
     sender: u64,
-    kind: u32,
-    set: &[u64; WORDS],
     actions: &mut [u32],
 ) -> u64
-    requires standing { TopicStanding table.old topic }
-    requires room { action_room ≤ length actions.old }
-    ensures { (gossip : List ℕ) (f : ℕ → Bool) → bits_of set.now ≡ by_slot slot_count f →
-        GivesAll (told_reply (extended_of table.old gossip) time topic sender
-        (tell_by_slot (state_of table.old) kind f)) result
-        table.old table.new gossip gossip actions.old actions.new }
+    requires { TopicLent table.old gossip.now time topic actions.old }
+    ensures { GivesAll (ask_reply (extended_of table.old gossip.now) time topic sender) result table.old
+        table.new gossip.now gossip.now actions.old actions.new }
 {
     if !sender_known(table, sender) {
         return NOT_CONNECTED;
@@ -54,7 +46,8 @@ fn tell_set(
     if !is_joined(table, topic) {
         return ignore(table, time);
     }
-    let n = tell(table, kind, set, actions);
+    let set = asked(table, topic, sender);
+    let n = tell(table, ASK, &set, actions);
     finish(table, time, n, 0)
 }
 
@@ -76,8 +69,7 @@ pub fn send_idontwant(
     if gate != 0 {
         return gate;
     }
-    let set = asked(table, topic as usize, sender);
-    tell_set(table, time, topic as usize, sender, ASK, &set, actions)
+    ask_from(table, gossip, time, topic as usize, sender, actions)
 }
 
 // The number goes into the peer's set, unless it is there already.
@@ -128,6 +120,32 @@ fn without_holders(gossip: &[u64], all: [u64; WORDS], number: u64) -> [u64; WORD
     sift(all, |slot| !holds(gossip, slot, number))
 }
 
+// The same tests, and the message to whom it is passed on.
+fn relay_from(
+    table: &mut [u64],
+    gossip: &[u64],
+    time: u64,
+    topic: usize,
+    sender: u64,
+    number: u64,
+    actions: &mut [u32],
+) -> u64
+    requires { TopicLent table.old gossip.now time topic actions.old }
+    ensures { GivesAll (relay_reply (extended_of table.old gossip.now) time topic sender number) result
+        table.old table.new gossip.now gossip.now actions.old actions.new }
+{
+    if !sender_known(table, sender) {
+        return NOT_CONNECTED;
+    }
+    if !is_joined(table, topic) {
+        return ignore(table, time);
+    }
+    let all = relayed(table, topic, sender);
+    let set = without_holders(gossip, all, number);
+    let n = tell(table, SEND, &set, actions);
+    finish(table, time, n, 0)
+}
+
 // To whom a message from a sender (0: ourselves) is passed on.
 pub fn relay(
     table: &mut [u64; CELLS],
@@ -146,7 +164,5 @@ pub fn relay(
     if gate != 0 {
         return gate;
     }
-    let all = relayed(table, topic as usize, sender);
-    let set = without_holders(gossip, all, number);
-    tell_set(table, time, topic as usize, sender, SEND, &set, actions)
+    relay_from(table, gossip, time, topic as usize, sender, number, actions)
 }
