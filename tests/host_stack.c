@@ -1,6 +1,7 @@
 /*
  * How much stack each call takes: it is made on a stack that was filled with a mark, and the bytes that lost it are counted. The
- * proofs do not speak of the stack, so this is measured; a call that takes more than MOST fails the test.
+ * proofs do not speak of the stack, so this is measured; a call that takes more than MOST fails the test, and so does an IHAVE whose
+ * numbers make it take more than others.
  */
 #define _XOPEN_SOURCE 700 /* for ucontext.h */
 #include "hivepadlet.h"
@@ -99,6 +100,28 @@ static void announce(void)
 {
     answer = hivepadlet_announce(BOTH, 1, 0, permutation, HIVEPADLET_SLOTS, told, HIVEPADLET_MESSAGE_NUMBERS, LIST);
 }
+/* numbers in an order in which a sort that calls itself as deep as its numbers make it goes deep; `given` rises */
+static const uint8_t chosen_order[HIVEPADLET_MESSAGE_NUMBERS] = {
+    1, 2, 0, 4, 110, 109, 108, 121, 116, 115, 111, 107, 106, 105, 186, 181, 180, 175, 174, 169, 168, 192, 187, 163,
+    162, 157, 156, 151, 150, 145, 144, 139, 138, 133, 132, 128, 127, 122, 104, 103, 102, 101, 100, 99, 98, 97, 96, 95,
+    94, 93, 92, 91, 90, 89, 88, 87, 86, 85, 84, 83, 82, 81, 80, 79, 78, 77, 76, 75, 74, 73, 72, 71, 70, 69, 68, 67,
+    66, 65, 64, 63, 62, 61, 113, 60, 130, 119, 136, 59, 154, 142, 160, 125, 178, 166, 184, 148, 190, 172, 58, 114,
+    120, 57, 179, 185, 155, 161, 167, 173, 191, 131, 137, 143, 149, 56, 55, 54, 126, 53, 52, 51, 50, 49, 48, 47, 46,
+    45, 44, 43, 42, 41, 40, 39, 38, 37, 36, 35, 34, 33, 32, 31, 30, 29, 28, 27, 26, 25, 24, 23, 22, 21, 20, 19, 129,
+    18, 117, 134, 112, 152, 123, 140, 158, 17, 176, 146, 164, 182, 118, 170, 188, 153, 177, 16, 159, 183, 135, 165,
+    171, 15, 141, 147, 189, 14, 13, 124, 12, 11, 10, 9, 8, 7, 6, 5
+};
+
+static void ihave_chosen(void)
+{
+    static uint64_t chosen[HIVEPADLET_MESSAGE_NUMBERS];
+    size_t k;
+
+    for (k = 0; k < HIVEPADLET_MESSAGE_NUMBERS; k++)
+        chosen[k] = 1000 + chosen_order[k];
+    answer = hivepadlet_ihave(BOTH, 1, 1, 0, chosen, HIVEPADLET_MESSAGE_NUMBERS, told, HIVEPADLET_MESSAGE_NUMBERS, LIST);
+}
+
 static void ihave(void)
 {
     answer = hivepadlet_ihave(BOTH, 1, 1, 0, given, HIVEPADLET_MESSAGE_NUMBERS, told, HIVEPADLET_MESSAGE_NUMBERS, LIST);
@@ -159,6 +182,7 @@ static const struct {
     {"storing a number", store},
     {"announcing", announce},
     {"IHAVE in", ihave},
+    {"IHAVE, chosen", ihave_chosen},
     {"IWANT in", iwant},
     {"heartbeat, array", beat},
     {"test 12, array", is_gossip_router},
@@ -249,7 +273,7 @@ static size_t taken(void (*call)(void))
 
 int main(void)
 {
-    size_t k, used, own = 0, failed = 0;
+    size_t k, used, own = 0, rising = 0, failed = 0;
 
     prepare();
     for (k = 0; k < sizeof calls / sizeof calls[0]; k++) {
@@ -260,6 +284,12 @@ int main(void)
         }
         used -= own;
         printf("%-20s%6zu bytes of stack\n", calls[k].name, used);
+        if (calls[k].call == ihave)
+            rising = used;
+        if (calls[k].call == ihave_chosen && used != rising) {
+            printf("%s: the numbers make the stack grow\n", calls[k].name);
+            failed++;
+        }
         if (hivepadlet_number(answer) != HIVEPADLET_DONE || used > MOST) {
             printf("%s: answer %u, %zu bytes\n", calls[k].name, hivepadlet_number(answer), used);
             failed++;
